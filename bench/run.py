@@ -1,0 +1,64 @@
+#!/usr/bin/env python3
+"""Measures ./hyperball run: records read a second, total time, peak memory.
+
+Usage: bench/run.py [RECORDS ..]      (100000, 1000000 and 5000000 where none is given)
+
+Each line is the best of three runs over one generated edge list (bench/generate.py). Reading is timed by a run that
+ends after it: with --log2m 3, which no plan allows, the edge list is read, numbered and sorted, and the run then
+refuses the plan.
+"""
+import os
+import subprocess
+import sys
+import tempfile
+import time
+
+HERE = os.path.dirname(os.path.abspath(__file__))
+PROGRAM = os.path.join(HERE, "..", "hyperball")
+BINARY = os.path.join(HERE, "..", "crates", "hyperball", "out", "hyperball")
+
+
+def timed(words, path):
+    """Seconds and peak memory (MiB) of one run, whose report is thrown away."""
+    with open(path, "rb") as edges:
+        started = time.monotonic()
+        child = subprocess.Popen([BINARY, "run", *words], stdin=edges, stdout=subprocess.DEVNULL, stderr=subprocess.DEVNULL)
+        _, _, usage = os.wait4(child.pid, 0)
+        child.returncode = 0
+        return time.monotonic() - started, usage.ru_maxrss / 1024
+
+
+def best(words, path):
+    return min(timed(words, path) for _ in range(3))
+
+
+def supersteps(path):
+    """Vertices and the last superstep, read line by line: a large parent would count in the children's peak memory."""
+    vertices, end = 0, ""
+    with tempfile.TemporaryFile() as report:
+        subprocess.run([BINARY, "run", "--log2m", "4"], stdin=open(path, "rb"), stdout=report, check=True)
+        report.seek(0)
+        for line in report:
+            vertices += line.startswith(b"vertex,")
+            if line.startswith(b"end,"):
+                end = line.decode().split(",")[1]
+    return vertices, end
+
+
+def main():
+    subprocess.run([PROGRAM, "--help"], stdout=subprocess.DEVNULL, check=True)
+    sizes = [int(word) for word in sys.argv[1:]] or [100_000, 1_000_000, 5_000_000]
+    print("kind       records    vertices  end  read/s     log2m  total s  peak MiB  MiB beside rows")
+    for kind in ("power-law", "web"):
+        for records in sizes:
+            with tempfile.NamedTemporaryFile() as edges:
+                subprocess.run([sys.executable, os.path.join(HERE, "generate.py"), kind, str(records)], stdout=edges, check=True)
+                vertices, end = supersteps(edges.name)
+                reading, _ = best(["--log2m", "3"], edges.name)
+                for log2m in (4, 8):
+                    total, peak = best(["--log2m", str(log2m)], edges.name)
+                    beside = peak - 2 * vertices * 2**log2m / 2**20
+                    print(f"{kind:<10} {records:<10} {vertices:<9} {end:<4} {records / reading:<10.0f} {log2m:<6} {total:<8.2f} {peak:<9.0f} {beside:.0f}", flush=True)
+
+
+main()

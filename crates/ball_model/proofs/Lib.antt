@@ -1,0 +1,12 @@
+pub mod GreatestLaws
+pub mod HashLaws
+pub mod PathLaws
+pub mod CounterLaws
+pub mod ChangeLaws
+pub mod QuietLaws
+pub mod RankLaws
+pub mod EndLaws
+pub mod EstimateLaws
+pub mod TallyLaws
+pub mod PartLaws
+pub mod StreamLaws

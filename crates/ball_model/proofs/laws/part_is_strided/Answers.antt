@@ -1,0 +1,5 @@
+use Rattle.ball_model.proofs.PartLaws.{vertices_of-strided}
+use Rattle.ball_model.proofs.laws.part_is_strided.Goals as goal
+
+pub returns : goal.returns
+returns c = vertices_of-strided

@@ -1,0 +1,5 @@
+use Rattle.ball_model.proofs.QuietLaws.{quiet_stays}
+use Rattle.ball_model.proofs.laws.quiet_stays.Goals as goal
+
+pub returns : goal.returns
+returns c = quiet_stays

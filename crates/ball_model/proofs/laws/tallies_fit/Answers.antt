@@ -1,0 +1,5 @@
+use Rattle.ball_model.proofs.TallyLaws.{tallies_fit}
+use Rattle.ball_model.proofs.laws.tallies_fit.Goals as goal
+
+pub returns : goal.returns
+returns c = tallies_fit

@@ -1,0 +1,65 @@
+//! Laws of the definitions: the contract of each function is the law, and its body is empty.
+
+ghost use Rattle.ball_model.specs.Laws.{BallIsPaths, RegisterIsBound, RegisterIsLeastBound, UnionIsMaximum, EmptyIsZero, CounterIsWide, RegistersAreRanks, CounterGrows, QuietStays, ChangedSuffice, ChangeComesFromChange, EndIsWithin, EndIsLeast, EndIsReached, EstimateGrows, EstimateFits, TalliesFit, PartIsStrided};
+
+/// The ball of x at t has the vertices with a path of at most t edges to x.
+pub fn ball_is_paths()
+    ensures { BallIsPaths }
+{}
+
+/// A register is the greatest rank of the members that fall into it.
+pub fn register_is_greatest()
+    ensures bound { RegisterIsBound }
+    ensures least { RegisterIsLeastBound }
+{}
+
+/// The counter of a union is the registerwise maximum, and that of the empty set is all 0.
+pub fn union_is_maximum()
+    ensures union { UnionIsMaximum }
+    ensures empty { EmptyIsZero }
+{}
+
+/// A counter has 2^log2m registers from 0 to 33.
+pub fn counter_is_row()
+    ensures width { CounterIsWide }
+    ensures ranks { RegistersAreRanks }
+{}
+
+/// One superstep of HyperBall: the maximum over a vertex and its predecessors (HyperBall 2013).
+pub fn counter_grows()
+    ensures { CounterGrows }
+{}
+
+/// Once no vertex is changed, none is changed later.
+pub fn quiet_stays()
+    ensures { QuietStays }
+{}
+
+/// An unchanged predecessor has nothing new to say.
+pub fn changed_suffice()
+    ensures step { ChangedSuffice }
+    ensures source { ChangeComesFromChange }
+{}
+
+/// The end is the least superstep of at least 1 with no vertex changed, or the limit if that is less.
+pub fn end_is_least()
+    ensures within { EndIsWithin }
+    ensures least { EndIsLeast }
+    ensures reached { EndIsReached }
+{}
+
+/// An estimate does not fall where no register falls, and is below 2^63.
+pub fn estimate_grows()
+    ensures grows { EstimateGrows }
+    ensures fits { EstimateFits }
+{}
+
+/// Figures fit their types, for every superstep up to 4,096.
+pub fn tallies_fit()
+    ensures { TalliesFit }
+{}
+
+/// Vertex i of partition p is i * parts + p.
+pub fn part_is_strided()
+    ensures { PartIsStrided }
+{}

@@ -1,0 +1,163 @@
+//! The plan of a job.
+
+ghost use Rattle.std.specs.Prelude.{◌≡◌, ◌<◌, ◌%◌, ◌^◌};
+
+use std::marker::Model;
+use thiserror::Error;
+
+/// Why there is no such plan, in the order of the checks.
+#[derive(Clone, Copy, Debug, PartialEq, Eq, Error)]
+pub enum PlanError {
+    #[error("log2m is not from 4 to 10")]
+    Log2m,
+    #[error("parts is not from 1 to 64")]
+    Parts,
+    #[error("limit is not from 1 to 4096")]
+    Limit,
+    #[error("too many vertices")]
+    Vertices,
+}
+
+/// The plan of a job, within its limits.
+///
+/// Counters have 2^log2m registers, vertices are hashed under the seed and dealt out among the partitions by their
+/// number modulo `parts`, and a run ends at superstep `limit` at the latest (Pregel 2010). `job` is the digest of
+/// what the job is about; two replicas talk to one another only under equal plans.
+#[derive(Clone, Copy, Debug, PartialEq, Eq)]
+pub struct Plan {
+    log2m: u8,
+    seed: u64,
+    parts: u16,
+    limit: u32,
+    vertices: u32,
+    job: [u8; 32],
+}
+
+impl Model for Plan {
+    ghost use Rattle.ball_model.specs.PlanValue.{PlanValue, IsPlan};
+
+    ghost Value = { PlanValue };
+
+    ghost view = { λ p. record { log2m = p.log2m; seed = p.seed; parts = p.parts; limit = p.limit; vertices = p.vertices; job = p.job } };
+
+    ghost invariant = { λ p. IsPlan (record { log2m = p.log2m; seed = p.seed; parts = p.parts; limit = p.limit; vertices = p.vertices; job = p.job }) };
+
+    ghost inverse = { λ p. record { log2m = p.log2m; seed = p.seed; parts = p.parts; limit = p.limit; vertices = p.vertices; job = p.job } };
+}
+
+impl Plan {
+    ghost use Rattle.ball_model.specs.PlanValue.{PlanValue, IsPlan, plan_of, part_size};
+
+    /// The plan, or the first of its faults: 4 to 10 for log2m, 1 to 64 partitions, a limit of 1 to 4096
+    /// supersteps, and at most 2^24 vertices.
+    pub fn new(
+        log2m: u8,
+        seed: u64,
+        parts: u16,
+        limit: u32,
+        vertices: u32,
+        job: [u8; 32],
+    ) -> Result<Plan, PlanError>
+        ensures { result ≡ plan_of (record { log2m = log2m; seed = seed; parts = parts; limit = limit; vertices = vertices; job = job }) }
+    {
+        if !(4..=10).contains(&log2m) {
+            return Err(PlanError::Log2m);
+        }
+        if !(1..=64).contains(&parts) {
+            return Err(PlanError::Parts);
+        }
+        if !(1..=4096).contains(&limit) {
+            return Err(PlanError::Limit);
+        }
+        if vertices > 1 << 24 {
+            return Err(PlanError::Vertices);
+        }
+        Ok(Plan {
+            log2m,
+            seed,
+            parts,
+            limit,
+            vertices,
+            job,
+        })
+    }
+
+    /// The binary logarithm of the number of registers.
+    pub fn log2m(&self) -> u8
+        ensures value { result ≡ self.now.log2m }
+        ensures plan { IsPlan self.now }
+    {
+        self.log2m
+    }
+
+    /// The seed under which vertices are hashed.
+    pub fn seed(&self) -> u64
+        ensures { result ≡ self.now.seed }
+    {
+        self.seed
+    }
+
+    /// The number of partitions.
+    pub fn parts(&self) -> u16
+        ensures value { result ≡ self.now.parts }
+        ensures plan { IsPlan self.now }
+    {
+        self.parts
+    }
+
+    /// The greatest superstep.
+    pub fn limit(&self) -> u32
+        ensures value { result ≡ self.now.limit }
+        ensures plan { IsPlan self.now }
+    {
+        self.limit
+    }
+
+    /// The number of vertices.
+    pub fn vertices(&self) -> u32
+        ensures value { result ≡ self.now.vertices }
+        ensures plan { IsPlan self.now }
+    {
+        self.vertices
+    }
+
+    /// The job digest.
+    pub fn job(&self) -> [u8; 32]
+        ensures { result ≡ self.now.job }
+    {
+        self.job
+    }
+
+    /// The plan with another job digest.
+    pub fn with_job(self, job: [u8; 32]) -> Plan
+        ensures { result ≡ record self { job = job } }
+    {
+        let mut plan = self;
+        plan.job = job;
+        plan
+    }
+
+    /// The number of registers of a counter, 2^log2m.
+    pub fn width(&self) -> usize
+        ensures value { result ≡ 2 ^ self.now.log2m }
+        ensures plan { IsPlan self.now }
+    {
+        1 << self.log2m
+    }
+
+    /// The partition of vertex `v`.
+    pub fn partition_of(&self, v: u32) -> u16
+        ensures value { result ≡ v % self.now.parts }
+        ensures below { result < self.now.parts }
+    {
+        (v % u32::from(self.parts)) as u16
+    }
+
+    /// The number of vertices of partition `p`.
+    pub fn part_size(&self, p: u16) -> u32
+        requires { p < self.now.parts }
+        ensures { result ≡ part_size self.now.vertices self.now.parts p }
+    {
+        (self.vertices + u32::from(self.parts - 1 - p)) / u32::from(self.parts)
+    }
+}

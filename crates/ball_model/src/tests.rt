@@ -1,0 +1,258 @@
+use super::*;
+use std::io;
+use std::io::{ErrorKind, Read, Write};
+use std::test::Fail;
+
+#[test]
+fn mixer_table(rt: HostRuntime) {
+    let hashes = [
+        0xe220a8397b1dcdaf,
+        0x6e789e6aa1b965f4,
+        0x06c45d188009454f,
+        0xf88bb8a8724c81ec,
+        0x1b39896a51a8749b,
+    ];
+    let places = [(14, 3), (6, 1), (0, 2), (15, 1), (1, 1)];
+    for v in 0..5u32 {
+        assert_eq!(rt; mix(0, v), hashes[v as usize]);
+        assert_eq!(rt; place(4, hashes[v as usize]), places[v as usize]);
+    }
+    assert_eq!(rt; place(7, mix(0, 0)), (113, 4));
+}
+
+#[test]
+fn least_and_greatest_seed_and_vertex(rt: HostRuntime) {
+    assert_eq!(rt; mix(u64::MAX, 0), 0xe4d971771b652c20);
+    assert_eq!(rt; mix(0, u32::MAX), 0xbeeb67eaf1fc5e61);
+    assert_eq!(rt; mix(u64::MAX, u32::MAX), 0xd3c3fc2c2de810ec);
+}
+
+// The 33rd bit behind the index is set in each of these, and does not count.
+#[test]
+fn tail_of_zero(rt: HostRuntime) {
+    assert_eq!(rt; place(4, 0xa000_0000_0fff_ffff), (10, 33));
+    assert_eq!(rt; place(10, 0xffc0_0000_003f_ffff), (1023, 33));
+    assert_eq!(rt; place(4, 0xa000_0000_1000_0000), (10, 32));
+    assert_eq!(rt; place(4, 0xa800_0000_0000_0000), (10, 1));
+    assert_eq!(rt; place(4, 0), (0, 33));
+}
+
+fn plan_with(log2m: u8, parts: u16, limit: u32, vertices: u32) -> Result<Plan, PlanError> {
+    Plan::new(log2m, 7, parts, limit, vertices, [9; 32])
+}
+
+#[test]
+fn plan_checks(rt: HostRuntime) {
+    assert_eq!(rt; plan_with(3, 0, 1, 0), Err(PlanError::Log2m));
+    assert_eq!(rt; plan_with(11, 1, 1, 0), Err(PlanError::Log2m));
+    assert_eq!(rt; plan_with(4, 0, 0, 0), Err(PlanError::Parts));
+    assert_eq!(rt; plan_with(4, 65, 0, 0), Err(PlanError::Parts));
+    assert_eq!(rt; plan_with(4, 1, 0, 16_777_217), Err(PlanError::Limit));
+    assert_eq!(rt; plan_with(4, 1, 4097, 0), Err(PlanError::Limit));
+    assert_eq!(rt; plan_with(4, 1, 1, 16_777_217), Err(PlanError::Vertices));
+    assert!(rt; plan_with(4, 1, 1, 0).is_ok());
+    assert!(rt; plan_with(10, 64, 4096, 16_777_216).is_ok());
+}
+
+#[test]
+fn plan_readers(rt: HostRuntime) -> Result<(), Fail> {
+    let plan = Plan::new(5, 42, 3, 77, 8, [9; 32])?;
+    assert_eq!(rt; plan.log2m(), 5);
+    assert_eq!(rt; plan.seed(), 42);
+    assert_eq!(rt; plan.parts(), 3);
+    assert_eq!(rt; plan.limit(), 77);
+    assert_eq!(rt; plan.vertices(), 8);
+    assert_eq!(rt; plan.job(), [9; 32]);
+    assert_eq!(rt; plan.with_job([8; 32]).job(), [8; 32]);
+    assert_eq!(rt; plan.with_job([8; 32]).seed(), 42);
+    assert_eq!(rt; plan.width(), 32);
+    assert_eq!(rt; plan.partition_of(7), 1);
+    Ok(())
+}
+
+// Eight vertices among three partitions: 0 3 6, 1 4 7 and 2 5.
+#[test]
+fn part_sizes(rt: HostRuntime) -> Result<(), Fail> {
+    let plan = Plan::new(4, 0, 3, 1, 8, [0; 32])?;
+    assert_eq!(rt; plan.parts(), 3);
+    assert_eq!(rt;
+        [plan.part_size(0), plan.part_size(1), plan.part_size(2)],
+        [3, 3, 2]
+    );
+    Ok(())
+}
+
+#[test]
+fn more_parts_than_vertices(rt: HostRuntime) -> Result<(), Fail> {
+    let plan = Plan::new(4, 0, 5, 1, 3, [0; 32])?;
+    assert_eq!(rt; plan.parts(), 5);
+    assert_eq!(rt;
+        [
+            plan.part_size(0),
+            plan.part_size(2),
+            plan.part_size(3),
+            plan.part_size(4)
+        ],
+        [1, 1, 0, 0]
+    );
+    Ok(())
+}
+
+#[test]
+fn plan_texts(rt: HostRuntime) -> Result<(), Fail> {
+    let alloc = rt.alloc();
+    assert_eq!(rt;
+        format!(in alloc; "{}", PlanError::Log2m)?.as_str(),
+        "log2m is not from 4 to 10"
+    );
+    assert_eq!(rt;
+        format!(in alloc; "{}", PlanError::Parts)?.as_str(),
+        "parts is not from 1 to 64"
+    );
+    assert_eq!(rt;
+        format!(in alloc; "{}", PlanError::Limit)?.as_str(),
+        "limit is not from 1 to 4096"
+    );
+    assert_eq!(rt;
+        format!(in alloc; "{}", PlanError::Vertices)?.as_str(),
+        "too many vertices"
+    );
+    Ok(())
+}
+
+#[test]
+fn names_ascend(rt: HostRuntime) {
+    let first = BatchName {
+        superstep: 1,
+        source: 9,
+        target: 9,
+    };
+    let second = BatchName {
+        superstep: 2,
+        source: 0,
+        target: 1,
+    };
+    let third = BatchName {
+        superstep: 2,
+        source: 1,
+        target: 0,
+    };
+    assert!(rt; first < second);
+    assert!(rt; second < third);
+    assert!(rt;
+        NodeId {
+            part: 0,
+            replica: 3
+        } < NodeId {
+            part: 1,
+            replica: 0
+        }
+    );
+}
+
+// A stream that moves one byte a call, whose call `fails_at` and all later ones fail.
+#[derive(Drop)]
+struct Slow {
+    calls: u64,
+    fails_at: u64,
+}
+
+impl Slow {
+    fn is_failing(&mut self) -> bool {
+        self.calls = self.calls.saturating_add(1);
+        self.calls >= self.fails_at
+    }
+}
+
+impl Read for Slow {
+    fn read(&mut self, buf: &mut [u8]) -> io::Result<usize> {
+        if self.is_failing() {
+            return Err(io::Error::from(ErrorKind::Other));
+        }
+        Ok(buf.len().min(1))
+    }
+}
+
+impl Write for Slow {
+    fn write(&mut self, buf: &[u8]) -> io::Result<usize> {
+        if self.is_failing() {
+            return Ok(0);
+        }
+        Ok(buf.len().min(1))
+    }
+
+    fn flush(&mut self) -> io::Result<()> {
+        if self.is_failing() {
+            return Err(io::Error::from(ErrorKind::Other));
+        }
+        Ok(())
+    }
+}
+
+#[test]
+fn failed_reads_are_counted(rt: HostRuntime) {
+    let mut reader = CountingReader::new(Slow {
+        calls: 0,
+        fails_at: 2,
+    });
+    let mut place = [0u8; 4];
+    assert_eq!(rt; reader.failures(), 0);
+    assert!(rt; reader.read(&mut place).is_ok());
+    assert_eq!(rt; reader.failures(), 0);
+    assert!(rt; reader.read(&mut place).is_err());
+    assert!(rt; reader.read(&mut place).is_err());
+    assert_eq!(rt; reader.failures(), 2);
+}
+
+#[test]
+fn failed_writes_are_counted(rt: HostRuntime) {
+    let mut writer = CountingWriter::new(Slow {
+        calls: 0,
+        fails_at: 3,
+    });
+    assert!(rt; writer.flush().is_ok());
+    assert_eq!(rt; writer.put(b"ab"), Some(1));
+    assert_eq!(rt; writer.failures(), 0);
+    assert_eq!(rt; writer.put(b"b"), None);
+    assert_eq!(rt; writer.failures(), 1);
+    assert!(rt; writer.flush().is_err());
+    assert_eq!(rt; writer.failures(), 2);
+}
+
+#[test]
+fn all_is_put_a_byte_at_a_time(rt: HostRuntime) {
+    let mut writer = CountingWriter::new(Slow {
+        calls: 0,
+        fails_at: 5,
+    });
+    assert!(rt; put_all(&mut writer, b"abcd"));
+    assert!(rt; !put_all(&mut writer, b"e"));
+    assert_eq!(rt; writer.failures(), 1);
+}
+
+#[test]
+fn what_is_put_is_held(rt: HostRuntime) {
+    let mut bytes = Vec::new(rt.alloc());
+    {
+        let mut writer = CountingWriter::new(&mut bytes);
+        assert!(rt; put_all(&mut writer, b"ab"));
+        assert!(rt; put_all(&mut writer, b"c"));
+        assert_eq!(rt; writer.failures(), 0);
+    }
+    assert_eq!(rt; bytes.as_slice(), b"abc".as_slice());
+}
+
+#[test]
+fn laws_are_called() {
+    laws::ball_is_paths();
+    laws::register_is_greatest();
+    laws::union_is_maximum();
+    laws::counter_is_row();
+    laws::counter_grows();
+    laws::quiet_stays();
+    laws::changed_suffice();
+    laws::end_is_least();
+    laws::estimate_grows();
+    laws::tallies_fit();
+    laws::part_is_strided();
+}

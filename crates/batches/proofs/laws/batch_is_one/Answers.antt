@@ -1,0 +1,5 @@
+use Rattle.batches.proofs.WholeLaws.{batch_is_one}
+use Rattle.batches.proofs.laws.batch_is_one.Goals as goal
+
+pub returns : goal.returns
+returns c = batch_is_one

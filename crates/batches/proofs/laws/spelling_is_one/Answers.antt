@@ -1,0 +1,5 @@
+use Rattle.batches.proofs.WholeLaws.{spelling_is_one}
+use Rattle.batches.proofs.laws.spelling_is_one.Goals as goal
+
+pub returns : goal.returns
+returns c = spelling_is_one

@@ -1,0 +1,5 @@
+use Rattle.batches.proofs.TrueLaws.{true_is_batch}
+use Rattle.batches.proofs.laws.true_is_batch.Goals as goal
+
+pub returns : goal.returns
+returns c = true_is_batch

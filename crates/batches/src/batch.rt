@@ -1,0 +1,223 @@
+//! Batches.
+
+ghost use Rattle.std.specs.Prelude.{◌≡◌, ◌+◌, ◌*◌, ◌^◌, ◌<◌, ◌≤◌, ◌++◌, ◌∷◌, [], length, option_map, slice_index, slice_index_or, drop, IfOk, IfSome, OnOk, OnErr, Ok};
+ghost use Rattle.std.specs.List.{All};
+ghost use Rattle.ball_model.specs.PlanValue.{part_size};
+ghost use Rattle.ball_model.specs.Batches.{BatchValue, IsRow, IsBatch, ids_of, registers_of, find_row, batch_bytes};
+ghost use Rattle.batches.specs.Kept.{rows_at};
+ghost use Rattle.batches.specs.Reading.{checked_at, made, batch_at, GivesOrMemory, AgreesButJob};
+
+use crate::error::BatchError;
+use crate::header::{HEADER_LEN, Header, MAGIC, VERSION, check_header, put_header, read_header};
+use crate::rows::{ID_LEN, check_body, check_len, push_row, put_rows, read_rows, row_of};
+use ball_model::{BatchName, Plan};
+use std::alloc::{AllocError, Global};
+use std::marker::Model;
+
+/// For how many rows a new batch takes room at once.
+const FIRST_ROWS: u32 = 4;
+
+/// What a partition tells another of a superstep (Pregel 2010).
+///
+/// A batch has the registers of those vertices of its source that are changed at its superstep and have an edge
+/// into its target, ascending, and the number of all vertices of the source that are changed. It is for one plan.
+/// Bytes may spell a batch that is not true: then it keeps the limits that [`Batch::decode`] checks, and no more.
+#[derive(Drop)]
+pub struct Batch {
+    plan: Plan,
+    name: BatchName,
+    changed: u32,
+    ids: Vec<u32>,
+    registers: Vec<u8>,
+}
+
+impl Model for Batch {
+    ghost use Rattle.ball_model.specs.Batches.{BatchValue};
+    ghost use Rattle.batches.specs.Kept.{batch_of, IsKept};
+
+    ghost Value = { BatchValue };
+
+    ghost view = { λ b. batch_of b.plan b.name b.changed b.ids.items b.registers.items };
+
+    ghost invariant = { λ b. IsKept (batch_of b.plan b.name b.changed b.ids.items b.registers.items) b.ids.items b.registers.items };
+}
+
+impl Batch {
+    /// A batch with no rows yet, of a source that has `changed` changed vertices at the superstep.
+    ///
+    /// The rows are added by [`push`](Batch::push).
+    pub fn start(
+        alloc: Global,
+        plan: &Plan,
+        name: BatchName,
+        changed: u32,
+    ) -> Result<Batch, AllocError>
+        requires superstep { name.superstep ≤ plan.now.limit }
+        requires source { name.source < plan.now.parts }
+        requires target { name.target < plan.now.parts }
+        requires changed { changed ≤ part_size plan.now.vertices plan.now.parts name.source }
+        ensures { IfOk result (λ b. b ≡ record { plan = plan.now; name = name; changed = changed; rows = [] }) }
+    {
+        let first = changed.min(FIRST_ROWS) as usize;
+        Ok(Batch {
+            plan: *plan,
+            name,
+            changed,
+            ids: Vec::with_capacity(alloc, first)?,
+            registers: Vec::with_capacity(alloc, first * plan.width())?,
+        })
+    }
+
+    /// Adds the row of a vertex of the source, above those of the rows so far: 2^log2m registers of at most 33.
+    ///
+    /// There may be as many rows as changed vertices. Where memory is refused the batch stays as it was.
+    pub fn push(&mut self, id: u32, registers: &[u8]) -> Result<(), AllocError>
+        requires row { IsRow self.old.plan self.old.name.source (id, registers.now) }
+        requires above { All (λ before. before < id) (ids_of self.old.rows) }
+        requires room { length self.old.rows < self.old.changed }
+        ensures ok { OnOk result (self.new ≡ record self.old { rows = self.old.rows ++ (id, registers.now) ∷ [] }) }
+        ensures err { OnErr result (self.new ≡ self.old) }
+    {
+        push_row(&mut self.ids, &mut self.registers, id, registers)?;
+        Ok(())
+    }
+
+    /// The plan that the batch is for.
+    pub fn plan(&self) -> &Plan
+        ensures value { result.now ≡ self.now.plan }
+        ensures batch { IsBatch self.now }
+    {
+        &self.plan
+    }
+
+    /// The superstep, the source and the target.
+    pub fn name(&self) -> BatchName
+        ensures value { result ≡ self.now.name }
+        ensures batch { IsBatch self.now }
+    {
+        self.name
+    }
+
+    /// How many vertices of the source are changed at the superstep, with a row or without.
+    pub fn changed(&self) -> u32
+        ensures value { result ≡ self.now.changed }
+        ensures batch { IsBatch self.now }
+    {
+        self.changed
+    }
+
+    /// How many rows there are.
+    pub fn count(&self) -> u32
+        ensures value { result ≡ length self.now.rows }
+        ensures batch { IsBatch self.now }
+    {
+        self.ids.len() as u32
+    }
+
+    /// The vertex of row `i`.
+    pub fn id(&self, i: u32) -> u32
+        requires { i < length self.now.rows }
+        ensures value { result ≡ slice_index (ids_of self.now.rows) i }
+        ensures batch { IsBatch self.now }
+    {
+        self.ids[i as usize]
+    }
+
+    /// The 2^log2m registers of row `i`.
+    pub fn registers(&self, i: u32) -> &[u8]
+        requires { i < length self.now.rows }
+        ensures value { result.now ≡ slice_index_or (registers_of self.now.rows) i [] }
+        ensures width { length result.now ≡ 2 ^ self.now.plan.log2m }
+        ensures ranks { All (λ r. r ≤ 33) result.now }
+    {
+        row_of(&self.registers, self.plan.width(), i as usize)
+    }
+
+    /// The 2^log2m registers of a vertex, where it has a row. It takes the logarithm of the number of rows.
+    pub fn find(&self, id: u32) -> Option<&[u8]>
+        ensures value { option_map (λ r. r.now) result ≡ find_row self.now.rows id }
+        ensures width { IfSome result (λ r. length r.now ≡ 2 ^ self.now.plan.log2m) }
+        ensures ranks { IfSome result (λ r. All (λ x. x ≤ 33) r.now) }
+    {
+        match self.ids.binary_search(&id) {
+            Ok(i) => Some(self.registers(i as u32)),
+            Err(_) => None,
+        }
+    }
+
+    /// The bytes of the batch: `HBBT`, the version (1 byte, 1), log2m (1), the superstep (4), the source (2), the
+    /// target (2), the job digest (32), the number of changed vertices (4) and of rows (4), and then each row: its
+    /// vertex (4) and its 2^log2m registers. Numbers are big-endian. Each batch has one spelling.
+    pub fn encode(&self, alloc: Global) -> Result<Vec<u8>, AllocError>
+        ensures { IfOk result (λ v. v.items ≡ batch_bytes self.now) }
+    {
+        let width = self.plan.width();
+        let count = self.count();
+        let mut out = Vec::with_capacity(alloc, HEADER_LEN + count as usize * (ID_LEN + width))?;
+        let header = Header {
+            magic: MAGIC,
+            version: VERSION,
+            log2m: self.plan.log2m(),
+            name: self.name,
+            job: self.plan.job(),
+            changed: self.changed,
+            count,
+        };
+        put_header(&mut out, &header)?;
+        put_rows(&mut out, width, &self.ids, &self.registers)?;
+        Ok(out)
+    }
+
+    /// The batch that the bytes spell under a plan, whose job digest is that of the bytes, or the first check that
+    /// fails.
+    ///
+    /// [`Short`](BatchError::Short) comes first for the fixed fields, and once more, after
+    /// [`Count`](BatchError::Count), for the rows. The rows are checked one after the other, each for
+    /// [`Vertex`](BatchError::Vertex), [`Order`](BatchError::Order) and [`Rank`](BatchError::Rank). Memory is asked
+    /// for last.
+    pub fn decode(alloc: Global, plan: &Plan, bytes: &[u8]) -> Result<Batch, BatchError>
+        // What is read is a batch of the plan with these bytes.
+        ensures spelled { IfOk result (λ b. bytes.now ≡ batch_bytes b) }
+        ensures of_plan { IfOk result (λ b. AgreesButJob plan.now b.plan) }
+        ensures batch { IfOk result (λ b. IsBatch b) }
+        // Each batch of the plan with these bytes is what is read.
+        ensures only { (b : BatchValue) → IsBatch b → AgreesButJob plan.now b.plan → bytes.now ≡ batch_bytes b → GivesOrMemory result (Ok b) }
+        // Which refusal it is.
+        ensures exact { GivesOrMemory result (batch_at plan.now bytes.now) }
+    {
+        let header = check(plan, bytes)?;
+        Ok(read(alloc, plan, &header, bytes)?)
+    }
+}
+
+/// The fixed fields of bytes that pass all checks, or the first that fails.
+#[tactic(auto, unfolding(crate::specs::Reading::checked_at))]
+fn check(plan: &Plan, bytes: &[u8]) -> Result<Header, BatchError>
+    ensures { result ≡ checked_at plan.now bytes.now }
+{
+    if bytes.len() < HEADER_LEN {
+        return Err(BatchError::Short);
+    }
+    let header = read_header(bytes);
+    check_header(plan, &header)?;
+    let (_, body) = bytes.split_at(HEADER_LEN);
+    check_len(header.count as usize * (ID_LEN + plan.width()), body.len())?;
+    check_body(plan, header.name.source, header.count, body)?;
+    Ok(header)
+}
+
+/// The batch of bytes that passed all checks.
+fn read(alloc: Global, plan: &Plan, header: &Header, bytes: &[u8]) -> Result<Batch, AllocError>
+    requires { checked_at plan.now bytes.now ≡ Ok header.now }
+    ensures { IfOk result (λ b. b ≡ made plan.now header.now (rows_at (2 ^ plan.now.log2m) header.now.count (drop 54 bytes.now))) }
+{
+    let (_, body) = bytes.split_at(HEADER_LEN);
+    let (ids, registers) = read_rows(alloc, plan.width(), header.count, body)?;
+    Ok(Batch {
+        plan: plan.with_job(header.job),
+        name: header.name,
+        changed: header.changed,
+        ids,
+        registers,
+    })
+}

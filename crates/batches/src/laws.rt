@@ -1,0 +1,23 @@
+//! Laws of batches and of their bytes: the contract of each function is the law, and its body is empty.
+
+ghost use Rattle.batches.specs.Laws.{SpellingIsRead, SpellingIsOne, BatchIsOne, TrueIsBatch};
+
+/// Reading the bytes of a batch gives that batch back.
+pub fn spelling_is_read()
+    ensures { SpellingIsRead }
+{}
+
+/// No batch has two spellings: bytes that are read as a batch are its bytes.
+pub fn spelling_is_one()
+    ensures { SpellingIsOne }
+{}
+
+/// No bytes spell two batches of a plan.
+pub fn batch_is_one()
+    ensures { BatchIsOne }
+{}
+
+/// A true batch keeps the limits of every batch, so its bytes are read.
+pub fn true_is_batch()
+    ensures { TrueIsBatch }
+{}

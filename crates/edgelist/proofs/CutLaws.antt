@@ -1,0 +1,116 @@
+-- Lists that stand one behind another.
+use Rattle.std.proofs.Common.{◌≡◌, ℕ, zero, suc, ◌+◌, ◌-◌, ◌^◌, ◌<◌, ◌≤◌, List, [], ◌∷◌, ◌++◌, length, get_or, drop, refl, ap, arith, ◌∙◌, length-drop}
+use Rattle.std.specs.Prelude.{slice_range, slice_index}
+use Rattle.std.specs.List.{sum_by}
+use Rattle.std.proofs.lemmas.List.{length-take, take-append-le, drop-append-le, take_all}
+use Rattle.std.proofs.Math.Seq.{drop-append_seam}
+use Rattle.std.proofs.lemmas.List.Sums.{sum_by-cons}
+use Rattle.edgelist.specs.Lists.{cut, Ascend, AreStarts}
+
+-- there is at least one start
+pub some-start : (end : ℕ) (starts : List ℕ) → Ascend end starts → 0 < length starts
+unfolding Ascend
+some-start end [] up = absurd up
+some-start end (a ∷ starts) up = omega arith
+
+-- there is one list fewer than there are starts
+pub length-cut : (items starts : List ℕ) (end : ℕ) → Ascend end starts → length starts ≡ length (cut items starts) + 1
+unfolding cut Ascend
+length-cut items [] end up = absurd up
+length-cut items (a ∷ []) end up = refl
+length-cut items (a ∷ b ∷ starts) end up = let more = length-cut items (b ∷ starts) end up.1 in omega arith
+
+-- no start is past the end
+start-within : (end a : ℕ) (starts : List ℕ) → Ascend end (a ∷ starts) → a ≤ end
+unfolding Ascend
+start-within end a [] up = omega (arith, up)
+start-within end a (b ∷ starts) up = omega (arith, up.0, start-within end b starts up.1)
+
+-- a list lies within the items, and neighbouring starts are in order
+pub starts-at : (end : ℕ) (starts : List ℕ) (i : ℕ) → Ascend end starts → i + 1 < length starts → (get_or starts i 0 ≤ get_or starts (i + 1) 0) × (get_or starts (i + 1) 0 ≤ end)
+unfolding Ascend
+starts-at end [] i up lt = absurd up
+starts-at end (a ∷ []) i up lt = absurd (omega arith)
+starts-at end (a ∷ b ∷ starts) zero up lt = (up.0, start-within end b starts up.1)
+starts-at end (a ∷ b ∷ starts) (suc i) up lt =
+    let moved : suc i + 1 ≡ suc (i + 1) = omega arith in
+    rw moved (starts-at end (b ∷ starts) i up.1 (omega arith))
+
+-- list i is what stands between its start and the next
+pub cut-at : (items starts : List ℕ) (end i : ℕ) → Ascend end starts → i + 1 < length starts → get_or (cut items starts) i [] ≡ slice_range items (get_or starts i 0) (get_or starts (i + 1) 0)
+unfolding cut Ascend
+cut-at items [] end i up lt = absurd up
+cut-at items (a ∷ []) end i up lt = absurd (omega arith)
+cut-at items (a ∷ b ∷ starts) end zero up lt = refl
+cut-at items (a ∷ b ∷ starts) end (suc i) up lt =
+    let moved : suc i + 1 ≡ suc (i + 1) = omega arith in
+    rw moved (cut-at items (b ∷ starts) end i up.1 (omega arith))
+
+length-range : (items : List ℕ) (a b : ℕ) → a ≤ b → b ≤ length items → length (slice_range items a b) ≡ b - a
+length-range items a b low high = omega (arith, length-take (b - a) (drop a items), length-drop a items)
+
+total-from : (items : List ℕ) (a : ℕ) (starts : List ℕ) → Ascend (length items) (a ∷ starts) → a + sum_by length (cut items (a ∷ starts)) ≡ length items
+unfolding cut Ascend
+total-from items a [] up = omega (arith, up)
+total-from items a (b ∷ starts) up =
+    let step : sum_by length (cut items (a ∷ b ∷ starts)) ≡ length (slice_range items a b) + sum_by length (cut items (b ∷ starts)) =
+    sum_by-cons length (slice_range items a b) (cut items (b ∷ starts)) in
+    omega (arith, step, up.0, total-from items b starts up.1, length-range items a b up.0 (start-within (length items) b starts up.1))
+
+-- the lists have all items
+pub total-cut : (items starts : List ℕ) → AreStarts (length items) starts → length items ≡ sum_by length (cut items starts)
+total-cut items [] ok = absurd (omega (arith, some-start (length items) [] ok.ascend))
+total-cut items (a ∷ starts) ok = omega (arith, ok.first, total-from items a starts ok.ascend)
+
+-- more items behind the others change no list
+slice-more : (items more : List ℕ) (a b : ℕ) → a ≤ b → b ≤ length items → slice_range (items ++ more) a b ≡ slice_range items a b
+slice-more items more a b low high =
+    let short : a ≤ length items = omega arith in
+    let fits : b - a ≤ length (drop a items) = omega (arith, length-drop a items) in
+    rw (drop-append-le a items more) (rw take-append-le refl)
+
+cut-more : (items more starts : List ℕ) → Ascend (length items) starts → cut (items ++ more) starts ≡ cut items starts
+unfolding cut Ascend
+cut-more items more [] up = absurd up
+cut-more items more (a ∷ []) up = refl
+cut-more items more (a ∷ b ∷ starts) up = rw (slice-more items more a b up.0 (start-within (length items) b starts up.1), cut-more items more (b ∷ starts) up.1) refl
+
+ascend-push : (end b : ℕ) (starts : List ℕ) → Ascend end starts → end ≤ b → Ascend b (starts ++ b ∷ [])
+unfolding Ascend
+ascend-push end b [] up le = absurd up
+ascend-push end b (a ∷ []) up le = (omega (arith, up), refl)
+ascend-push end b (a ∷ c ∷ starts) up le = (up.0, ascend-push end b (c ∷ starts) up.1 le)
+
+cut-push : (items starts : List ℕ) (end b : ℕ) → Ascend end starts → cut items (starts ++ b ∷ []) ≡ cut items starts ++ slice_range items end b ∷ []
+unfolding cut Ascend
+cut-push items [] end b up = absurd up
+cut-push items (a ∷ []) end b up = ap (λ k. slice_range items k b ∷ []) up
+cut-push items (a ∷ c ∷ starts) end b up = ap (λ (ls : List (List ℕ)). slice_range items a c ∷ ls) (cut-push items (c ∷ starts) end b up.1)
+
+first-kept : (starts : List ℕ) (b end : ℕ) → Ascend end starts → slice_index (starts ++ b ∷ []) 0 ≡ slice_index starts 0
+unfolding Ascend
+first-kept [] b end up = absurd up
+first-kept (a ∷ starts) b end up = refl
+
+-- a list behind the others
+pub starts-push : (items list starts : List ℕ) (end : ℕ) → end ≡ length items + length list → AreStarts (length items) starts → end < 2 ^ 32 → AreStarts end (starts ++ end ∷ [])
+starts-push items list starts end e ok fits = record {
+  first = first-kept starts end (length items) ok.ascend ∙ ok.first;
+  ascend = ascend-push (length items) end starts ok.ascend (omega arith);
+  few = fits;
+}
+
+pub lists-push : (items list starts : List ℕ) (end : ℕ) → end ≡ length items + length list → AreStarts (length items) starts → cut (items ++ list) (starts ++ end ∷ []) ≡ cut items starts ++ list ∷ []
+lists-push items list starts end e ok =
+    let count : end - length items ≡ length list = omega arith in
+    let last : slice_range (items ++ list) (length items) end ≡ list = rw (drop-append_seam, count) (take_all (length list) list (omega arith)) in
+    cut-push (items ++ list) starts (length items) end ok.ascend ∙ rw (cut-more items list starts ok.ascend, last) refl
+
+-- no items yet
+pub starts-none : AreStarts 0 (0 ∷ [])
+unfolding Ascend
+starts-none = record { first = refl; ascend = refl; few = omega arith }
+
+pub cut-none : (items : List ℕ) → cut items (0 ∷ []) ≡ []
+unfolding cut
+cut-none items = refl

@@ -1,0 +1,17 @@
+pub mod BoolLaws
+pub mod CutLaws
+pub mod FormLaws
+pub mod LabelLaws
+pub mod NetworkLaws
+pub mod FaultLaws
+pub mod LineLaws
+pub mod LoopLaws
+pub mod LinksLaws
+pub mod PairLaws
+pub mod SortLaws
+pub mod RangeLaws
+pub mod DigestLaws
+pub mod FeedLaws
+pub mod OwnLaws
+pub mod InputLaws
+pub mod PlanLaws

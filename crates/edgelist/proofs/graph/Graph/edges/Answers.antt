@@ -1,0 +1,7 @@
+use Rattle.std.proofs.Common.{◌∙◌, sym, ap, length}
+use Rattle.ball_model.specs.Input.{Network}
+use Rattle.edgelist.proofs.LinksLaws.{length-edges}
+use Rattle.edgelist.proofs.graph.Graph.edges.Goals as goal
+
+pub returns : goal.returns
+returns c = c.total.ensures ∙ sym (length-edges c.self.inside.lists 0) ∙ ap (λ (net : Network). length net.graph.edges) c.self.view_is

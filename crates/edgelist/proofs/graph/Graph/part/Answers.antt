@@ -1,0 +1,13 @@
+use Rattle.std.proofs.Common.{◌∙◌, refl}
+use Rattle.ball_model.specs.Job.{part_of}
+use Rattle.edgelist.proofs.OwnLaws.{part-is}
+use Rattle.edgelist.proofs.graph.Graph.part.Goals as goal
+
+pub invariant_of-result : goal.invariant_of-result
+invariant_of-result c =
+    part-is c.args.plan.now c.args.self.now.graph c.args.p c.in_ok-lists.lists c.in_ok-feeds.feeds.items c.parts.ensures.plan c.requires.below c.requires.vertices
+    (c.in_ok-lists.ensures ∙ rw (c.from.ensures, c.from-2.ensures, c.parts.ensures.value) refl) c.in_ok-feeds.ensures
+
+pub returns : goal.returns
+unfolding part_of
+returns c = rw (c.in_ok-lists.ensures, c.in_ok-feeds.ensures, c.from.ensures, c.from-2.ensures, c.parts.ensures.value) refl

@@ -1,0 +1,6 @@
+use Rattle.std.proofs.Common.{arith}
+use Rattle.edgelist.proofs.PlanLaws.{plan-job}
+use Rattle.edgelist.proofs.graph.Graph.plan.Goals as goal
+
+pub returns-clause-job : goal.returns-clause-job
+returns-clause-job c = plan-job c.new.result c.args.self.now.graph c.args.log2m c.args.seed c.args.parts c.args.limit c.vertices.ensures.graph (omega arith) (rw (c.vertices.ensures.count, c.digest-job.ensures) at c.new.ensures)

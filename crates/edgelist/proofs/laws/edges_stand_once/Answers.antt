@@ -1,0 +1,5 @@
+use Rattle.edgelist.proofs.InputLaws.{edges_stand_once}
+use Rattle.edgelist.proofs.laws.edges_stand_once.Goals as goal
+
+pub returns : goal.returns
+returns c = edges_stand_once

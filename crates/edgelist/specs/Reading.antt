@@ -1,0 +1,106 @@
+-- What is made of the records that were read so far.
+use Rattle.std.specs.Prelude.{◌≡◌, ⊤, ℕ, ◌+◌, ◌<◌, ◌≤◌, Bool, true, false, List, [], ◌∷◌, ◌++◌, map, length, slice_index_or, if◌then◌else◌, Option, None, Some, Result, Err}
+use Rattle.std.specs.List.{list_any}
+use Rattle.std.specs.Str.{bytes_eq}
+use Rattle.ball_model.specs.Input.{Network, Limits, Refusal, TooManyEdges, Fields, TooManyVertices, fault_at, labels_of}
+use Rattle.edgelist.specs.Pairs.{AllBelow}
+use Rattle.edgelist.specs.declared.read.EdgeError.{EdgeError}
+use Rattle.edgelist.specs.declared.read.EdgeError.TheVariants as refused
+use Rattle.edgelist.specs.declared.read.EdgeLimits.{EdgeLimits}
+use Rattle.edgelist.specs.declared.read.Delimiter.{Delimiter}
+use Rattle.edgelist.specs.declared.read.Delimiter.TheVariants as delimiter
+
+-- the byte between fields
+abbrev pub byte_of : Delimiter → ℕ
+byte_of delimiter.Tab = 9
+byte_of delimiter.Comma = 44
+byte_of delimiter.Space = 32
+
+abbrev pub limits_of : EdgeLimits → Limits
+limits_of limits = record { vertices = limits.vertices; edges = limits.edges }
+
+-- the error is what an edge list says; a failed read and want of memory say nothing of it
+abbrev pub Refuses : Result Network Refusal → EdgeError → Type 0
+Refuses says refused.Read = ⊤
+Refuses says refused.TooManyEdges = says ≡ Err TooManyEdges
+Refuses says (refused.Fields number) = says ≡ Err (Fields number)
+Refuses says refused.TooManyVertices = says ≡ Err TooManyVertices
+Refuses says refused.Memory = ⊤
+
+-- the same of one record
+abbrev pub FaultIs : Option Refusal → EdgeError → Type 0
+FaultIs fault refused.Read = ⊥
+FaultIs fault refused.TooManyEdges = fault ≡ Some TooManyEdges
+FaultIs fault (refused.Fields number) = fault ≡ Some (Fields number)
+FaultIs fault refused.TooManyVertices = fault ≡ Some TooManyVertices
+FaultIs fault refused.Memory = ⊤
+
+-- a row of one empty field: no line that is a record has these fields
+abbrev pub is_blank : List (List ℕ) → Bool
+is_blank [] = false
+is_blank ([] ∷ []) = true
+is_blank ([] ∷ (f ∷ fs)) = false
+is_blank ((c ∷ f) ∷ fs) = false
+
+-- the labels with this one
+abbrev pub with_label : List (List ℕ) → List ℕ → List (List ℕ)
+with_label labels l = if list_any (λ k. bytes_eq k l) labels then labels else labels ++ l ∷ []
+
+-- the labels that a record leads to and from
+abbrev pub pair_in : List (List ℕ) → List (List ℕ × List ℕ)
+pair_in [] = []
+pair_in (a ∷ []) = []
+pair_in (a ∷ b ∷ more) = (b, a) ∷ []
+
+unfoldable pub pairs_in : List (List (List ℕ)) → List (List ℕ × List ℕ)
+pairs_in [] = []
+pairs_in (r ∷ rs) = pair_in r ++ pairs_in rs
+
+-- the labels of a pair of numbers
+abbrev pub named : List (List ℕ) → ℕ × ℕ → List ℕ × List ℕ
+named labels e = (slice_index_or labels e.0 [], slice_index_or labels e.1 [])
+
+-- the labels and the pairs of a target and a source that these records name
+pub record IsReadAs (records : List (List (List ℕ))) (labels : List (List ℕ)) (pairs : List (ℕ × ℕ)) : Type 0 where
+  pub labels_are : labels ≡ labels_of records
+  pub below : AllBelow (length labels) pairs
+  pub pairs_are : map (named labels) pairs ≡ pairs_in records
+
+-- at most so many labels and pairs, and each pair of two of the labels
+pub record AreWithin (vertices number : ℕ) (labels : List (List ℕ)) (pairs : List (ℕ × ℕ)) : Type 0 where
+  pub below : AllBelow (length labels) pairs
+  pub few_labels : length labels ≤ vertices
+  pub few_pairs : length pairs ≤ number
+
+-- a pair of two labels was added: of the place of the second among all labels, and of the first
+pub record AddsPair (source target : List ℕ) (labels : List (List ℕ)) (pairs : List (ℕ × ℕ)) (labels' : List (List ℕ)) (pairs' : List (ℕ × ℕ)) : Type 0 where
+  pub from : ℕ
+  pub to : ℕ
+  pub labels_are : labels' ≡ with_label (with_label labels source) target
+  pub from_within : from < length (with_label labels source)
+  pub from_is : slice_index_or (with_label labels source) from [] ≡ source
+  pub to_within : to < length labels'
+  pub to_is : slice_index_or labels' to [] ≡ target
+  pub pairs_are : pairs' ≡ pairs ++ (to, from) ∷ []
+
+-- there are more labels than the limit, or memory was refused
+abbrev pub Exceeds : ℕ → List (List ℕ) → EdgeError → Type 0
+Exceeds vertices labels refused.Read = ⊥
+Exceeds vertices labels refused.TooManyEdges = ⊥
+Exceeds vertices labels (refused.Fields number) = ⊥
+Exceeds vertices labels refused.TooManyVertices = vertices < length labels
+Exceeds vertices labels refused.Memory = ⊤
+
+-- no check fails at any of these records
+pub record IsClean (limits : Limits) (records : List (List (List ℕ))) : Type 0 where
+  pub none : (i : ℕ) → i < length records → fault_at limits records i ≡ None
+
+-- one more record with these fields made these of those
+pub record Adds (limits : Limits) (number : ℕ) (fields : List (List ℕ)) (labels : List (List ℕ)) (pairs : List (ℕ × ℕ)) (labels' : List (List ℕ)) (pairs' : List (ℕ × ℕ)) : Type 0 where
+  pub reads : (records : List (List (List ℕ))) → IsReadAs records labels pairs → IsReadAs (records ++ fields ∷ []) labels' pairs'
+  pub passes : (records : List (List (List ℕ))) → length records ≡ number → IsReadAs records labels pairs → fault_at limits (records ++ fields ∷ []) number ≡ None
+  pub within : AreWithin limits.vertices number labels pairs → AreWithin limits.vertices (number + 1) labels' pairs'
+
+-- the error is the check that fails at this record
+pub record Stops (limits : Limits) (number : ℕ) (fields : List (List ℕ)) (labels : List (List ℕ)) (pairs : List (ℕ × ℕ)) (error : EdgeError) : Type 0 where
+  pub at : (records more : List (List (List ℕ))) → length records ≡ number → IsReadAs records labels pairs → FaultIs (fault_at limits (records ++ fields ∷ more) number) error

@@ -1,0 +1,205 @@
+//! What a partition is told of its graph.
+
+ghost use Rattle.std.specs.Prelude.{◌≡◌, ◌+◌, ◌*◌, ◌^◌, ◌%◌, ◌<◌, ◌≤◌, ◌++◌, ◌∷◌, [], ℕ, List, length, map, slice_index, slice_index_or, replicate, IfOk, OnOk};
+ghost use Rattle.std.specs.List.{All};
+ghost use Rattle.ball_model.specs.Graph.{preds_of};
+ghost use Rattle.ball_model.specs.PlanValue.{vertices_of, part_size};
+ghost use Rattle.ball_model.specs.Job.{Job, IsPart, digest_of, feed_mask, part_of};
+ghost use Rattle.edgelist.specs.Lists.{cut, AreStarts};
+ghost use Rattle.edgelist.specs.Feeding.{AreMasks};
+
+use crate::graph::Graph;
+use crate::lists::{Lists, Preds};
+use ball_model::Plan;
+use std::alloc::{AllocError, Global};
+use std::marker::Model;
+
+/// What a partition is told of its graph: the predecessors of each of its vertices, and into which partitions the
+/// vertex has edges. It has no other partition's lists.
+#[derive(Drop)]
+pub struct Part {
+    plan: Plan,
+    number: u16,
+    lists: Lists,
+    feeds: Vec<u64>,
+}
+
+impl Model for Part {
+    ghost use Rattle.ball_model.specs.Job.{PartValue, IsPart};
+
+    ghost Value = { PartValue };
+
+    ghost view = { λ p. record { plan = p.plan; number = p.number; preds = p.lists; feeds = p.feeds.items } };
+
+    ghost invariant = { λ p. IsPart (record { plan = p.plan; number = p.number; preds = p.lists; feeds = p.feeds.items }) };
+}
+
+impl Part {
+    /// The plan of the job.
+    pub fn plan(&self) -> &Plan
+        ensures { result.now ≡ self.now.plan }
+    {
+        &self.plan
+    }
+
+    /// The number of the partition.
+    pub fn partition(&self) -> u16
+        ensures value { result ≡ self.now.number }
+        ensures part { IsPart self.now }
+    {
+        self.number
+    }
+
+    /// The number of its vertices.
+    pub fn size(&self) -> u32
+        ensures value { result ≡ part_size self.now.plan.vertices self.now.plan.parts self.now.number }
+        ensures lists { result ≡ length self.now.preds }
+        ensures masks { result ≡ length self.now.feeds }
+    {
+        self.plan.part_size(self.number)
+    }
+
+    /// The vertex with this index in its partition.
+    pub fn vertex(&self, i: u32) -> u32
+        requires { i < length self.now.preds }
+        ensures value { result ≡ i * self.now.plan.parts + self.now.number }
+        ensures below { result < self.now.plan.vertices }
+    {
+        vertex_at(&self.plan, self.number, i)
+    }
+
+    /// The predecessors of the vertex with this index, ascending.
+    pub fn preds(&self, i: u32) -> Preds<'_>
+        requires { i < length self.now.preds }
+        ensures value { result ≡ slice_index_or self.now.preds i [] }
+        ensures below { All (λ z. z < self.now.plan.vertices) result }
+    {
+        self.lists.list(i as usize)
+    }
+
+    /// The feed mask of the vertex with this index: bit r is set where it has an edge into partition r.
+    pub fn feeds(&self, i: u32) -> u64
+        requires { i < length self.now.preds }
+        ensures { result ≡ slice_index self.now.feeds i }
+    {
+        self.feeds[i as usize]
+    }
+}
+
+// The vertex with this index in partition `p`.
+fn vertex_at(plan: &Plan, p: u16, i: u32) -> u32
+    requires part { p < plan.now.parts }
+    requires index { i < part_size plan.now.vertices plan.now.parts p }
+    ensures value { result ≡ i * plan.now.parts + p }
+    ensures below { result < plan.now.vertices }
+{
+    i * u32::from(plan.parts()) + u32::from(p)
+}
+
+// Adds a list behind the others.
+fn push_list(items: &mut Vec<u32>, starts: &mut Vec<u32>, list: Preds<'_>) -> Result<(), AllocError>
+    requires starts { AreStarts (length items.old.items) starts.old.items }
+    requires room { length items.old.items + length list < 2 ^ 32 }
+    ensures starts { OnOk result (AreStarts (length items.new.items) starts.new.items) }
+    ensures lists { OnOk result (cut items.new.items starts.new.items ≡ cut items.old.items starts.old.items ++ list.entry ∷ []) }
+    ensures count { OnOk result (length items.new.items ≡ length items.old.items + length list.entry) }
+{
+    for y in list {
+        items.push(y)?;
+    }
+    starts.push(items.len() as u32)?;
+    Ok(())
+}
+
+// The predecessors of each vertex of partition `p`.
+fn own_lists(alloc: Global, graph: &Graph, parts: u32, p: u32) -> Result<Lists, AllocError>
+    requires { 0 < parts }
+    ensures { IfOk result (λ lists. lists ≡ map (λ x. preds_of graph.now.graph x) (vertices_of graph.now.graph.vertices parts p)) }
+{
+    let mut items = Vec::new(alloc);
+    let mut starts = Vec::new(alloc);
+    starts.push(0)?;
+    for x in 0..graph.vertices() {
+        if x % parts == p {
+            push_list(&mut items, &mut starts, graph.preds(x))?;
+        }
+    }
+    Ok(Lists::of(items, starts))
+}
+
+// Marks that an edge leads from a vertex of partition `p` into the partition of its target.
+fn mark(feeds: &mut [u64], plan: &Plan, p: u16, source: u32, target: u32)
+    requires part { p < plan.now.parts }
+    requires size { length feeds.old ≡ part_size plan.now.vertices plan.now.parts p }
+    requires source { source < plan.now.vertices }
+    ensures { (es : List (ℕ × ℕ)) → AreMasks plan.now.parts p es feeds.old → AreMasks plan.now.parts p (es ++ (source, target) ∷ []) feeds.new }
+{
+    let parts = u32::from(plan.parts());
+    if plan.partition_of(source) == p {
+        let place = (source / parts) as usize;
+        feeds[place] |= 1 << (target % parts);
+    }
+}
+
+// Marks the edges from some sources to a target.
+fn mark_row(feeds: &mut [u64], plan: &Plan, p: u16, sources: Preds<'_>, target: u32)
+    requires part { p < plan.now.parts }
+    requires size { length feeds.old ≡ part_size plan.now.vertices plan.now.parts p }
+    requires sources { All (λ y. y < plan.now.vertices) sources }
+    ensures { (es : List (ℕ × ℕ)) → AreMasks plan.now.parts p es feeds.old → AreMasks plan.now.parts p (es ++ map (λ y. (y, target)) sources.entry) feeds.new }
+{
+    for source in sources {
+        mark(feeds, plan, p, source, target);
+    }
+}
+
+// Marks all edges of a graph.
+fn mark_all(feeds: &mut [u64], plan: &Plan, p: u16, graph: &Graph)
+    requires part { p < plan.now.parts }
+    requires size { length feeds.old ≡ part_size plan.now.vertices plan.now.parts p }
+    requires vertices { plan.now.vertices ≡ graph.now.graph.vertices }
+    ensures { AreMasks plan.now.parts p [] feeds.old → AreMasks plan.now.parts p graph.now.graph.edges feeds.new }
+{
+    for target in 0..graph.vertices() {
+        mark_row(feeds, plan, p, graph.preds(target), target);
+    }
+}
+
+// Masks with no bit set.
+fn no_masks(alloc: Global, count: usize) -> Result<Vec<u64>, AllocError>
+    ensures { IfOk result (λ masks. masks.items ≡ replicate count 0) }
+{
+    vec![in alloc; 0u64; count]
+}
+
+// The feed mask of each vertex of partition `p`.
+fn own_feeds(alloc: Global, graph: &Graph, plan: &Plan, p: u16) -> Result<Vec<u64>, AllocError>
+    requires part { p < plan.now.parts }
+    requires few { plan.now.parts ≤ 64 }
+    requires vertices { plan.now.vertices ≡ graph.now.graph.vertices }
+    ensures { IfOk result (λ feeds. feeds.items ≡ map (λ x. feed_mask graph.now.graph plan.now.parts x) (vertices_of graph.now.graph.vertices plan.now.parts p)) }
+{
+    let mut feeds = no_masks(alloc, plan.part_size(p) as usize)?;
+    mark_all(&mut feeds, plan, p, graph);
+    Ok(feeds)
+}
+
+impl Graph {
+    /// What partition `p` of the plan is told. It takes time in proportion to the vertices and edges, and memory in
+    /// proportion to those of the partition.
+    pub fn part(&self, alloc: Global, plan: &Plan, p: u16) -> Result<Part, AllocError>
+        requires below { p < plan.now.parts }
+        requires vertices { plan.now.vertices ≡ self.now.graph.vertices }
+        requires digest { plan.now.job ≡ digest_of plan.now self.now.graph }
+        ensures { IfOk result (λ part. part ≡ part_of (record { graph = self.now.graph; plan = plan.now }) p) }
+    {
+        let lists = own_lists(alloc, self, u32::from(plan.parts()), u32::from(p))?;
+        let feeds = own_feeds(alloc, self, plan, p)?;
+        Ok(Part {
+            plan: *plan,
+            number: p,
+            lists,
+            feeds,
+        })
+    }
+}

@@ -1,0 +1,405 @@
+//! What no clause says: worked edge lists, digests, and readers that fail.
+
+ghost use Rattle.std.specs.Prelude.{None};
+
+use crate::{Delimiter, EdgeError, EdgeLimits, Graph, Part, laws, read_edges};
+use ball_model::{CountedRead, CountingReader, PlanError};
+use std::alloc::{AllocError, Global};
+use std::hash::RandomState;
+use std::io;
+use std::io::{ErrorKind, Read};
+
+const LIMITS: EdgeLimits = EdgeLimits {
+    vertices: 16_777_216,
+    edges: 67_108_864,
+};
+
+// Reads an edge list from memory.
+fn read(
+    rt: &HostRuntime,
+    text: &[u8],
+    delimiter: Delimiter,
+    limits: EdgeLimits,
+) -> Result<Graph, EdgeError> {
+    match RandomState::new(rt) {
+        Ok(state) => {
+            let mut reader = CountingReader::new(text);
+            read_edges(rt.alloc(), state, &mut reader, delimiter, limits)
+        }
+        Err(_) => Err(EdgeError::Memory),
+    }
+}
+
+// A space and the last digit of a vertex.
+fn push_vertex(text: &mut Vec<u8>, v: u32) -> Result<(), AllocError> {
+    text.push(b' ')?;
+    text.push(b'0' + (v % 10) as u8)?;
+    Ok(())
+}
+
+// A line for a vertex: its label and its predecessors.
+fn push_line(text: &mut Vec<u8>, graph: &Graph, v: u32) -> Result<(), AllocError> {
+    if v < graph.vertices() {
+        text.extend_from_slice(graph.label(v))?;
+        for source in graph.preds(v) {
+            push_vertex(text, source)?;
+        }
+    }
+    text.push(b'\n')?;
+    Ok(())
+}
+
+// A line for each vertex.
+fn show(alloc: Global, graph: &Graph) -> Result<Vec<u8>, AllocError> {
+    let mut text = Vec::new(alloc);
+    for v in 0..graph.vertices() {
+        push_line(&mut text, graph, v)?;
+    }
+    Ok(text)
+}
+
+// Whether a graph is shown so.
+fn is_shown(alloc: Global, graph: &Graph, wanted: &[u8]) -> bool {
+    match show(alloc, graph) {
+        Ok(text) => text.as_slice() == wanted,
+        Err(_) => false,
+    }
+}
+
+// Whether an edge list is read as the graph that is shown so.
+fn reads(rt: &HostRuntime, text: &[u8], delimiter: Delimiter, wanted: &[u8]) -> bool {
+    match read(rt, text, delimiter, LIMITS) {
+        Ok(graph) => is_shown(rt.alloc(), &graph, wanted),
+        Err(_) => false,
+    }
+}
+
+// Whether an edge list with tabs is read as the graph that is shown so.
+fn tabs(rt: &HostRuntime, text: &[u8], wanted: &[u8]) -> bool {
+    reads(rt, text, Delimiter::Tab, wanted)
+}
+
+// The error that an edge list with tabs gives under limits.
+fn error_of(rt: &HostRuntime, text: &[u8], vertices: u32, edges: u64) -> Option<EdgeError> {
+    match read(rt, text, Delimiter::Tab, EdgeLimits { vertices, edges }) {
+        Ok(_) => None,
+        Err(e) => Some(e),
+    }
+}
+
+#[test]
+fn two_edges(rt: HostRuntime) {
+    assert!(rt; tabs(&rt, b"a\tb\nb\tc\n", b"a\nb 0\nc 1\n"));
+}
+
+#[test]
+fn noisy_input(rt: HostRuntime) {
+    assert!(rt;
+        tabs(
+            &rt,
+            b"# c\r\na\tb\r\nb\tc\r\na\tb\r\nb\tb\r\n",
+            b"a\nb 0 1\nc 1\n"
+        )
+    );
+}
+
+#[test]
+fn refused_records(rt: HostRuntime) {
+    assert_eq!(rt;
+        error_of(&rt, b"a\tb\nb\tc\t7\n", 9, 9),
+        Some(EdgeError::Fields { number: 2 })
+    );
+    assert_eq!(rt;
+        error_of(&rt, b"a\tb\nb\tc\n", 2, 9),
+        Some(EdgeError::TooManyVertices)
+    );
+    assert_eq!(rt;
+        error_of(&rt, b"a\tb\nb\tc\n", 9, 1),
+        Some(EdgeError::TooManyEdges)
+    );
+    assert_eq!(rt; error_of(&rt, b"a\tb\nb\tc\n", 3, 2), None);
+}
+
+#[test]
+fn order_of_checks(rt: HostRuntime) {
+    // The number of records is tested before the fields, and the fields before the number of vertices.
+    assert_eq!(rt;
+        error_of(&rt, b"a\tb\nb\tc\t7\n", 9, 1),
+        Some(EdgeError::TooManyEdges)
+    );
+    assert_eq!(rt;
+        error_of(&rt, b"a\tb\nc\td\t7\n", 2, 9),
+        Some(EdgeError::Fields { number: 2 })
+    );
+    // Neither comments nor empty lines are numbered; doubles and single labels are.
+    assert_eq!(rt;
+        error_of(&rt, b"# c\n\na\tb\na\tb\nd\n\n\tc\n", 9, 9),
+        Some(EdgeError::Fields { number: 4 })
+    );
+}
+
+#[test]
+fn empty_fields(rt: HostRuntime) {
+    assert_eq!(rt;
+        error_of(&rt, b"\tb\n", 9, 9),
+        Some(EdgeError::Fields { number: 1 })
+    );
+    assert_eq!(rt;
+        error_of(&rt, b"a\t\n", 9, 9),
+        Some(EdgeError::Fields { number: 1 })
+    );
+    assert_eq!(rt;
+        error_of(&rt, b"\t", 9, 9),
+        Some(EdgeError::Fields { number: 1 })
+    );
+    assert_eq!(rt;
+        error_of(&rt, b"a\tb\t\n", 9, 9),
+        Some(EdgeError::Fields { number: 1 })
+    );
+}
+
+#[test]
+fn other_delimiters(rt: HostRuntime) {
+    assert!(rt; reads(&rt, b"a,b\nb,c\n", Delimiter::Comma, b"a\nb 0\nc 1\n"));
+    assert!(rt; reads(&rt, b"a b\nb c\n", Delimiter::Space, b"a\nb 0\nc 1\n"));
+    assert!(rt; tabs(&rt, b"a,b c\n", b"a,b c\n"));
+}
+
+#[test]
+fn odd_labels(rt: HostRuntime) {
+    assert!(rt;
+        tabs(
+            &rt,
+            b"\"x\tq\"\ny\"\"z\n\xff\xc0\t \n",
+            b"\"x\nq\" 0\ny\"\"z\n\xff\xc0\n  3\n"
+        )
+    );
+}
+
+#[test]
+fn last_lines(rt: HostRuntime) {
+    assert!(rt; tabs(&rt, b"a\tb\nb\tc\n# end", b"a\nb 0\nc 1\n"));
+    assert!(rt; tabs(&rt, b"a\tb\nb\tc", b"a\nb 0\nc 1\n"));
+    assert!(rt; tabs(&rt, b"#", b""));
+    assert_eq!(rt; error_of(&rt, b"a\tb\nb\tc\n# end", 9, 2), None);
+}
+
+#[test]
+fn few_vertices(rt: HostRuntime) {
+    assert!(rt; tabs(&rt, b"", b""));
+    assert!(rt; tabs(&rt, b"x", b"x\n"));
+}
+
+// The number of edges of an edge list with tabs.
+fn count(rt: &HostRuntime, text: &[u8]) -> Option<u64> {
+    match read(rt, text, Delimiter::Tab, LIMITS) {
+        Ok(graph) => Some(graph.edges()),
+        Err(_) => None,
+    }
+}
+
+#[test]
+fn counted_edges(rt: HostRuntime) {
+    assert_eq!(rt; count(&rt, b"a\tb\nb\tc\na\tb\nb\tb\nd\n"), Some(3));
+}
+
+// The job digest of an edge list with 2 partitions, or the fault of its plan.
+fn digest(rt: &HostRuntime, text: &[u8], log2m: u8) -> Option<Result<[u8; 32], PlanError>> {
+    match read(rt, text, Delimiter::Tab, LIMITS) {
+        Ok(graph) => match graph.plan(log2m, 0, 2, 4096) {
+            Ok(plan) => Some(Ok(plan.job())),
+            Err(e) => Some(Err(e)),
+        },
+        Err(_) => None,
+    }
+}
+
+#[test]
+fn job_digest(rt: HostRuntime) {
+    // SHA-256, by another program, of the 47 bytes 48424a31 04 0000000000000000 0002 00001000 00000003
+    // 0000000000000002 00000000 00000001 00000001 00000002.
+    let wanted: [u8; 32] = [
+        0xe4, 0x87, 0x78, 0x82, 0x8d, 0xfe, 0xa5, 0x0f, 0x8c, 0x6f, 0x4c, 0x3f, 0x13, 0xc9, 0x4f,
+        0xf2, 0xeb, 0xd3, 0x33, 0xd7, 0xa4, 0x76, 0x10, 0x77, 0x8d, 0x84, 0xb6, 0xc7, 0xed, 0x7a,
+        0x08, 0xd3,
+    ];
+    assert!(rt; digest(&rt, b"a\tb\nb\tc\na\tb\n", 4) == Some(Ok(wanted)));
+    assert!(rt; digest(&rt, b"a\tb\n", 3) == Some(Err(PlanError::Log2m)));
+}
+
+// A line for a vertex of a part: itself, its predecessors, and the last digit of its feed mask.
+fn push_part_line(text: &mut Vec<u8>, part: &Part, i: u32) -> Result<(), AllocError> {
+    if i < part.size() {
+        push_vertex(text, part.vertex(i))?;
+        text.push(b':')?;
+        for source in part.preds(i) {
+            push_vertex(text, source)?;
+        }
+        text.push(b':')?;
+        push_vertex(text, (part.feeds(i) % 10) as u32)?;
+    }
+    text.push(b'\n')?;
+    Ok(())
+}
+
+// A line for each vertex of a part.
+fn show_part(alloc: Global, part: &Part) -> Result<Vec<u8>, AllocError> {
+    let mut text = Vec::new(alloc);
+    push_vertex(&mut text, u32::from(part.partition()))?;
+    push_vertex(&mut text, u32::from(part.plan().parts()))?;
+    text.push(b'\n')?;
+    for i in 0..part.size() {
+        push_part_line(&mut text, part, i)?;
+    }
+    Ok(text)
+}
+
+// Whether a part of an edge list with 2 partitions is shown so.
+fn part_of(alloc: Global, graph: &Graph, p: u16, wanted: &[u8]) -> bool {
+    let Ok(plan) = graph.plan(4, 0, 2, 4096) else {
+        return false;
+    };
+    if p >= plan.parts() {
+        return false;
+    }
+    let Ok(part) = graph.part(alloc, &plan, p) else {
+        return false;
+    };
+    match show_part(alloc, &part) {
+        Ok(text) => text.as_slice() == wanted,
+        Err(_) => false,
+    }
+}
+
+// Whether a part of an edge list with tabs is shown so.
+fn parts(rt: &HostRuntime, text: &[u8], p: u16, wanted: &[u8]) -> bool {
+    match read(rt, text, Delimiter::Tab, LIMITS) {
+        Ok(graph) => part_of(rt.alloc(), &graph, p, wanted),
+        Err(_) => false,
+    }
+}
+
+#[test]
+fn parts_of_a_path(rt: HostRuntime) {
+    // 0 to 1 to 2 to 3 to 4, and 2 to itself: the even vertices are partition 0, the odd ones partition 1.
+    assert!(rt;
+        parts(
+            &rt,
+            b"a\tb\nb\tc\nc\td\nd\te\nc\tc\n",
+            0,
+            b" 0 2\n 0:: 2\n 2: 1 2: 3\n 4: 3: 0\n"
+        )
+    );
+    assert!(rt;
+        parts(
+            &rt,
+            b"a\tb\nb\tc\nc\td\nd\te\nc\tc\n",
+            1,
+            b" 1 2\n 1: 0: 1\n 3: 2: 1\n"
+        )
+    );
+}
+
+// Whether an error has this text.
+fn says(alloc: Global, error: EdgeError, wanted: &str) -> bool {
+    match format!(in alloc; "{}", error) {
+        Ok(text) => text.as_str() == wanted,
+        Err(_) => false,
+    }
+}
+
+#[test]
+fn error_texts(rt: HostRuntime) {
+    let alloc = rt.alloc();
+    assert!(rt; says(alloc, EdgeError::Read, "the edge list cannot be read"));
+    assert!(rt; says(alloc, EdgeError::TooManyEdges, "too many records"));
+    assert!(rt;
+        says(
+            alloc,
+            EdgeError::Fields { number: 2 },
+            "record 2 has not one or two identifiers"
+        )
+    );
+    assert!(rt; says(alloc, EdgeError::TooManyVertices, "too many vertices"));
+    assert!(rt; says(alloc, EdgeError::Memory, "out of memory"));
+}
+
+// A reader that gives a byte at a time, and whose call `fails_at` and all later ones fail.
+#[derive(Drop)]
+struct Dripping<'a> {
+    bytes: &'a [u8],
+    calls: u64,
+    fails_at: u64,
+    failures: u64,
+}
+
+impl<'a> Read for Dripping<'a> {
+    ghost remaining = { λ r. None };
+
+    fn read(&mut self, buf: &mut [u8]) -> io::Result<usize> {
+        self.calls = self.calls.saturating_add(1);
+        if self.calls >= self.fails_at {
+            self.failures = self.failures.saturating_add(1);
+            return Err(io::Error::from(ErrorKind::Other));
+        }
+        if buf.is_empty() {
+            return Ok(0);
+        }
+        match self.bytes.split_first() {
+            Some((first, rest)) => {
+                buf[0] = *first;
+                self.bytes = rest;
+                Ok(1)
+            }
+            None => Ok(0),
+        }
+    }
+}
+
+impl<'a> CountedRead for Dripping<'a> {
+    ghost failed_calls = { λ r. r.failures };
+
+    fn failures(&self) -> u64 {
+        self.failures
+    }
+}
+
+// Reads the two edges a byte at a time, with a failure at this call: the error, or whether the graph is theirs.
+fn drip(rt: &HostRuntime, fails_at: u64) -> Result<bool, EdgeError> {
+    match RandomState::new(rt) {
+        Ok(state) => {
+            let mut reader = Dripping {
+                bytes: b"a\tb\r\nb\tc\r\n",
+                calls: 0,
+                fails_at,
+                failures: 0,
+            };
+            let graph = read_edges(rt.alloc(), state, &mut reader, Delimiter::Tab, LIMITS)?;
+            Ok(is_shown(rt.alloc(), &graph, b"a\nb 0\nc 1\n"))
+        }
+        Err(_) => Err(EdgeError::Memory),
+    }
+}
+
+#[test]
+fn slow_reader(rt: HostRuntime) {
+    assert_eq!(rt; drip(&rt, 100), Ok(true));
+}
+
+#[test]
+fn failing_reader(rt: HostRuntime) {
+    // Ten bytes and the end take eleven calls.
+    for fails_at in 1..12 {
+        assert_eq!(rt; drip(&rt, fails_at), Err(EdgeError::Read));
+    }
+}
+
+#[test]
+fn laws_hold() {
+    laws::labels_are_distinct();
+    laws::labels_are_in_order();
+    laws::labels_are_fields();
+    laws::edges_are_named();
+    laws::edges_stand_once();
+    laws::declaring_adds_no_edge();
+}

@@ -1,0 +1,11 @@
+use Rattle.std.proofs.Common.{slice_index, ◌∙◌, rules}
+use Rattle.ball_model.specs.Report.{superstep_line}
+use Rattle.hyperball.specs.Rows.{text_in}
+use Rattle.hyperball.proofs.LineLaws.{text_more}
+use Rattle.hyperball.proofs.report.put_supersteps.Goals as goal
+
+pub loop-i-preserved : goal.loop-i-preserved
+loop-i-preserved c = record {
+  row = c.in_ok-put_superstep.ensures.row;
+  text = c.in_ok-put_superstep.ensures.text ∙ text_more (λ i. superstep_line i (slice_index c.args.totals.now i)) c.loop-i.i (text_in c.args.rows.now) (text_in c.loop-i.rows) _ c.loop-i.invariant.text (search rules);
+}

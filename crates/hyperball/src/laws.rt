@@ -1,0 +1,20 @@
+//! What real command lines are read as: the contract of each function is the law, and its body is empty.
+
+ghost use Rattle.std.specs.Prelude.{◌∷◌, [], codes};
+ghost use Rattle.clap.specs.declared.error.kind.ErrorKind.TheVariants.{DisplayHelp, InvalidValue, UnknownArgument, ValueValidation};
+ghost use Rattle.edgelist.specs.declared.read.Delimiter.TheVariants.{Tab, Comma};
+ghost use Rattle.hyperball.specs.Words.{HasFaults, IsRun};
+
+/// These words are read as those of run; an option that is not given has its default.
+pub fn words_of_a_run()
+    ensures log2m { IsRun (codes "hyperball" ∷ codes "run" ∷ codes "--log2m" ∷ codes "4" ∷ []) (record { log2m = 4; seed = 0; limit = 4096; delimiter = Tab }) }
+    ensures delimiter { IsRun (codes "hyperball" ∷ codes "run" ∷ codes "--delimiter" ∷ codes "comma" ∷ []) (record { log2m = 8; seed = 0; limit = 4096; delimiter = Comma }) }
+{}
+
+/// These words ask for help, or are mistaken.
+pub fn words_of_no_run()
+    ensures help { HasFaults (codes "hyperball" ∷ codes "run" ∷ codes "--help" ∷ []) (DisplayHelp ∷ []) }
+    ensures unknown { HasFaults (codes "hyperball" ∷ codes "run" ∷ codes "--parts" ∷ codes "2" ∷ []) (UnknownArgument ∷ []) }
+    ensures number { HasFaults (codes "hyperball" ∷ codes "run" ∷ codes "--log2m" ∷ codes "300" ∷ []) (ValueValidation ∷ []) }
+    ensures name { HasFaults (codes "hyperball" ∷ codes "run" ∷ codes "--delimiter" ∷ codes "semicolon" ∷ []) (InvalidValue ∷ []) }
+{}

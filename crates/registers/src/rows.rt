@@ -1,0 +1,173 @@
+//! Rows of registers in one buffer.
+
+ghost use Rattle.std.specs.Prelude.{◌≡◌, ◌↔◌, length, false, [], IsTrue, IfOk, replicate, slice_index, slice_index_or, slice_set, ◌<◌, ◌≤◌, ◌+◌, ◌*◌, ◌^◌, ◌++◌, take, drop};
+ghost use Rattle.ball_model.specs.Counter.{max_each};
+ghost use Rattle.ball_model.specs.Report.{empty_of};
+ghost use Rattle.registers.specs.Raised.{raised_one};
+
+use super::max_into;
+use std::alloc::{AllocError, Global};
+use std::marker::Model;
+
+/// Rows of registers, one a vertex, all of one width.
+///
+/// The registers of `count` rows stand one after another in a buffer of `count * width` bytes, which is taken once,
+/// by [`Rows::fixed`]. No other call takes memory.
+#[derive(Drop)]
+pub struct Rows {
+    cells: Vec<u8>,
+    width: usize,
+    count: usize,
+}
+
+impl Model for Rows {
+    ghost use Rattle.std.specs.Prelude.{vec_len};
+    ghost use Rattle.ball_model.specs.Table.{Table, pieces};
+    ghost use Rattle.registers.specs.Shape.{IsShape};
+
+    ghost Value = { Table };
+
+    ghost view = { λ r. record { width = r.width; rows = pieces r.width r.count r.cells.items } };
+
+    ghost invariant = { λ r. IsShape (vec_len r.cells) r.count r.width };
+}
+
+impl Rows {
+    ghost use Rattle.ball_model.specs.Table.{Table};
+
+    /// `count` rows of `width` registers that are 0. The error is that their memory was refused.
+    pub fn fixed(alloc: Global, count: u32, width: u16) -> Result<Rows, AllocError>
+        ensures { IfOk result (λ r.
+            r ≡ record { width = width; rows = replicate count (replicate width 0) }) }
+    {
+        let width = usize::from(width);
+        let count = count as usize;
+        let cells = vec![in alloc; 0u8; count * width]?;
+        Ok(Rows {
+            cells,
+            width,
+            count,
+        })
+    }
+
+    /// The number of rows.
+    pub fn len(&self) -> usize
+        ensures value { result ≡ length self.now.rows }
+        ensures few { result < 2 ^ 32 }
+    {
+        self.count
+    }
+
+    /// The number of registers of a row.
+    pub fn width(&self) -> usize
+        ensures value { result ≡ self.now.width }
+        ensures narrow { result < 2 ^ 16 }
+    {
+        self.width
+    }
+
+    /// Row `i`.
+    pub fn row(&self, i: usize) -> &[u8]
+        requires { i < length self.now.rows }
+        ensures value { result.now ≡ slice_index_or self.now.rows i [] }
+        ensures width { length result.now ≡ self.now.width }
+    {
+        piece(&self.cells, self.width, i)
+    }
+
+    /// The number of registers of row `i` that are 0.
+    pub fn empty_count(&self, i: usize) -> u32
+        requires { i < length self.now.rows }
+        ensures { result ≡ empty_of (slice_index_or self.now.rows i []) }
+    {
+        zeros(piece(&self.cells, self.width, i))
+    }
+
+    /// Row `i` becomes the maximum of itself and `src`, register by register; the answer is whether it changed.
+    pub fn raise(&mut self, i: usize, src: &[u8]) -> bool
+        requires row { i < length self.old.rows }
+        requires width { length src.now ≡ self.old.width }
+        ensures raised { self.new ≡ record self.old {
+          rows = slice_set self.old.rows i (max_each (slice_index_or self.old.rows i []) src.now);
+        } }
+        ensures unchanged { (result ≡ false) ↔
+            (max_each (slice_index_or self.old.rows i []) src.now ≡ slice_index_or self.old.rows i []) }
+    {
+        raise_piece(&mut self.cells, self.width, i, src)
+    }
+
+    /// Register `index` of row `i` becomes the maximum of itself and `rank`; the answer is whether it changed.
+    pub fn raise_one(&mut self, i: usize, index: usize, rank: u8) -> bool
+        requires row { i < length self.old.rows }
+        requires place { index < self.old.width }
+        ensures raised { self.new ≡ record self.old {
+          rows = slice_set self.old.rows i (raised_one (slice_index_or self.old.rows i []) index rank);
+        } }
+        ensures changed { IsTrue result ↔ (slice_index (slice_index_or self.old.rows i []) index < rank) }
+    {
+        raise_place(&mut self.cells, self.width, i, index, rank)
+    }
+
+    /// All rows become those of `other`, which are as many and as wide.
+    pub fn copy_from(&mut self, other: &Rows)
+        requires width { self.old.width ≡ other.now.width }
+        requires count { length self.old.rows ≡ length other.now.rows }
+        ensures { self.new ≡ other.now }
+    {
+        self.cells.copy_from_slice(&other.cells);
+    }
+}
+
+// The i-th piece of the cells.
+fn piece(cells: &[u8], width: usize, i: usize) -> &[u8]
+    requires { i * width + width ≤ length cells.now }
+    ensures value { result.now ≡ take width (drop (i * width) cells.now) }
+    ensures width { length result.now ≡ width }
+{
+    let start = i * width;
+    &cells[start..start + width]
+}
+
+// The number of zeros of a row.
+fn zeros(row: &[u8]) -> u32
+    requires { length row.now < 2 ^ 16 }
+    ensures { result ≡ empty_of row.now }
+{
+    row.iter().filter(|register| **register == 0).count() as u32
+}
+
+// The i-th piece of the cells becomes the maximum with `src`; the answer is whether it changed.
+fn raise_piece(cells: &mut [u8], width: usize, i: usize, src: &[u8]) -> bool
+    requires within { i * width + width ≤ length cells.old }
+    requires width { length src.now ≡ width }
+    ensures raised { cells.new ≡ take (i * width) cells.old
+        ++ (max_each (take width (drop (i * width) cells.old)) src.now ++ drop (i * width + width) cells.old) }
+    ensures unchanged { (result ≡ false) ↔
+        (max_each (take width (drop (i * width) cells.old)) src.now ≡ take width (drop (i * width) cells.old)) }
+{
+    let start = i * width;
+    max_into(&mut cells[start..start + width], src)
+}
+
+// One place of the i-th piece of the cells becomes the maximum with the rank; the answer is whether it changed.
+fn raise_place(cells: &mut [u8], width: usize, i: usize, index: usize, rank: u8) -> bool
+    requires within { i * width + width ≤ length cells.old }
+    requires place { index < width }
+    ensures raised { cells.new ≡ take (i * width) cells.old
+        ++ (raised_one (take width (drop (i * width) cells.old)) index rank ++ drop (i * width + width) cells.old) }
+    ensures changed { IsTrue result ↔ (slice_index (take width (drop (i * width) cells.old)) index < rank) }
+{
+    let start = i * width;
+    raise_byte(&mut cells[start..start + width], index, rank)
+}
+
+// One byte becomes the maximum with the rank; the answer is whether it changed.
+fn raise_byte(row: &mut [u8], index: usize, rank: u8) -> bool
+    requires { index < length row.old }
+    ensures raised { row.new ≡ raised_one row.old index rank }
+    ensures changed { IsTrue result ↔ (slice_index row.old index < rank) }
+{
+    let changed = row[index] < rank;
+    row[index] = row[index].max(rank);
+    changed
+}

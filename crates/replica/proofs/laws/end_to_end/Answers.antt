@@ -1,0 +1,14 @@
+use Rattle.replica.proofs.RunLaws.{run_stands, stable_is, stable_reaches}
+use Rattle.replica.proofs.laws.end_to_end.Goals as goal
+
+pub returns-clause-stands : goal.returns-clause-stands
+returns-clause-stands c = run_stands
+
+pub returns-clause-in_time : goal.returns-clause-in_time
+returns-clause-in_time c = λ j p t v h. h.in_time
+
+pub returns-clause-stable : goal.returns-clause-stable
+returns-clause-stable c = stable_is
+
+pub returns-clause-reaches : goal.returns-clause-reaches
+returns-clause-reaches c = stable_reaches

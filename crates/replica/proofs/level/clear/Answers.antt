@@ -1,0 +1,10 @@
+use Rattle.std.proofs.Common.{◌≡◌, ℕ, ◌<◌, slice_index_or, length, arith, sym, ◌∙◌}
+use Rattle.std.specs.Prelude.{Option, None}
+use Rattle.std.specs.Arc.{arc_value}
+use Rattle.std.proofs.lemmas.List.{get_or_default}
+use Rattle.replica.proofs.GrowLaws.{all_none}
+use Rattle.replica.proofs.level.clear.Goals as goal
+
+pub returns : goal.returns
+returns c = all_none arc_value c.loop-i.kept (length c.args.kept.now) c.loop-i.invariant.long
+    (λ k d lt. get_or_default c.loop-i.kept k d None (omega (arith, c.loop-i.invariant.long)) ∙ c.loop-i.invariant.done k (omega (arith, c.loop-i-test.false)))

@@ -1,0 +1,28 @@
+-- What a replica tells another partition of its superstep.
+use Rattle.std.specs.Prelude.{◌≡◌, ℕ, ◌+◌, ◌*◌, ◌/◌, ◌%◌, ◌^◌, Bool, false, ◌==◌, ◌&&◌, List, [], ◌∷◌, length, if◌then◌else◌, slice_index, slice_index_or}
+use Rattle.std.specs.List.{range_with_len, flat_map, count_by}
+use Rattle.ball_model.specs.Batches.{BatchValue}
+use Rattle.ball_model.specs.State.{State}
+
+-- bit r of a mask is set
+abbrev pub has_bit : ℕ → ℕ → Bool
+has_bit mask r = mask / 2 ^ r % 2 == 1
+
+-- vertex i and its registers, where it changed and has an edge into the target
+abbrev pub sent_row : State → ℕ → ℕ → List (ℕ × List ℕ)
+sent_row v target i =
+    if slice_index_or v.marks i false && has_bit (slice_index v.part.feeds i) target then (i * v.part.plan.parts + v.part.number, slice_index_or v.rows i []) ∷ []
+    else []
+
+-- those of the first n vertices
+unfoldable pub sent_rows : State → ℕ → ℕ → List (ℕ × List ℕ)
+sent_rows v target n = flat_map (λ i. sent_row v target i) (range_with_len 0 n)
+
+-- the batch of these rows
+unfoldable pub sent_batch : State → ℕ → ℕ → BatchValue
+sent_batch v target n = record {
+  plan = v.part.plan;
+  name = record { superstep = v.superstep; source = v.part.number; target = target };
+  changed = count_by (λ mark. mark) v.marks;
+  rows = sent_rows v target n;
+}

@@ -1,0 +1,31 @@
+-- What a replica begins with: each vertex has seen itself.
+use Rattle.std.specs.Prelude.{◌≡◌, ℕ, ◌+◌, ◌*◌, ◌^◌, true, Bool, List, [], ◌∷◌, map, length, Option, None, replicate, slice_set}
+use Rattle.std.specs.List.{range_with_len}
+use Rattle.ball_model.specs.Hash.{hash_of, index_of, rank_of}
+use Rattle.ball_model.specs.Figures.{TallyValue, estimate_of}
+use Rattle.ball_model.specs.PlanValue.{PlanValue}
+use Rattle.ball_model.specs.Job.{PartValue}
+use Rattle.ball_model.specs.State.{State}
+use Rattle.replica.specs.Level.{total_of}
+
+-- the registers of a vertex alone: its rank in its register
+unfoldable pub first_row : PlanValue → ℕ → List ℕ
+first_row plan x = slice_set (replicate (2 ^ plan.log2m) 0) (index_of plan.log2m (hash_of plan.seed x)) (rank_of plan.log2m (hash_of plan.seed x))
+
+-- those of the vertices of a part
+unfoldable pub first_rows : PartValue → List (List ℕ)
+first_rows part = map (λ i. first_row part.plan (i * part.plan.parts + part.number)) (range_with_len 0 (length part.preds))
+
+-- figures that begin with an estimate
+abbrev pub started : ℕ → TallyValue
+started e = record { last = e; harm = 0; dist = 0 }
+
+-- a replica of the part at superstep 0 that holds nothing
+pub record Starts (part : PartValue) (v : State) : Type 0 where
+  pub part_is : v.part ≡ part
+  pub superstep : v.superstep ≡ 0
+  pub rows : v.rows ≡ first_rows part
+  pub marks : v.marks ≡ replicate (length part.preds) true
+  pub tallies : v.tallies ≡ map (λ row. started (estimate_of part.plan.log2m row)) (first_rows part)
+  pub sums : v.sums ≡ total_of part.plan.log2m (first_rows part) ∷ []
+  pub kept : v.kept ≡ replicate (4 * part.plan.parts) None

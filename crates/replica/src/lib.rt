@@ -1,0 +1,70 @@
+//! One partition's state, superstep by superstep (Pregel 2010, HyperBall 2013).
+//!
+//! A [`Replica`] has the registers of each vertex of its partition at a superstep t, which of them changed there, the
+//! figures so far, and the batches that it holds, of the supersteps t to t + 3. It holds its level where it has the
+//! batch of superstep t of every other partition, those without rows too. Then [`Replica::verdict`] says whether the
+//! run goes on, and [`Replica::close`] makes the rows of t + 1: each is raised by those of its predecessors that
+//! changed at t, and by no other, since an unchanged row has nothing new to say. [`Replica::out`] is what the
+//! partition tells another one of t, and [`Replica::take`] holds what it is told.
+//!
+//! What a replica stands for is a definition of `ball_model`: all that it has is what the definitions say of its
+//! superstep. Whatever a batch says, true or not, registers stay at most 33 and every figure fits its type.
+//!
+//! ```text
+//!            superstep t                          superstep t + 1
+//!   out  ->  batches of t to the others
+//!   take <-  batches of t, ..., t + 3      close
+//!            level held: GoOn             ------>  rows raised by changed predecessors
+//!                        Stable, Limit             names of t gone, the others stay
+//! ```
+//!
+//! Only [`Replica::new`] and [`Replica::out`] take memory.
+#![tactic(auto)]
+
+mod grow;
+pub mod laws;
+mod level;
+mod out;
+mod read;
+mod start;
+mod step;
+
+use batches::Batch;
+use edgelist::Part;
+use figures::Tally;
+use registers::Rows;
+use std::marker::Model;
+use std::sync::Arc;
+
+#[cfg(test)]
+mod tests;
+
+/// One partition's state at a superstep, and the batches that it holds.
+///
+/// Its memory is taken when it is made: two rows of 2^log2m bytes and a tally for each vertex, a slot for each source
+/// and each of four supersteps, and a sum for each superstep up to the limit.
+#[derive(Drop)]
+pub struct Replica {
+    part: Arc<Part>,
+    superstep: u32,
+    rows: Rows,
+    // the place where `close` makes the next rows
+    next: Rows,
+    marks: Vec<bool>,
+    tallies: Vec<Tally>,
+    sums: Vec<u128>,
+    // at (s - superstep) * parts + source, the batch of superstep s and that source
+    kept: Vec<Option<Arc<Batch>>>,
+}
+
+impl Model for Replica {
+    ghost use Rattle.ball_model.specs.State.{State};
+
+    ghost Value = { State };
+
+    ghost use Rattle.replica.specs.Seen.{state_of, IsReplica};
+
+    ghost view = { state_of };
+
+    ghost invariant = { IsReplica };
+}

@@ -1,0 +1,66 @@
+//! What a replica tells the other partitions.
+
+ghost use Rattle.std.specs.Prelude.{◌≡◌, ◌≢◌, ℕ, ◌<◌, ◌+◌, ◌*◌, ◌%◌, ◌==◌, IfOk, OnOk, IsOk, false, slice_index, slice_index_or, length};
+ghost use Rattle.ball_model.specs.Job.{Job};
+ghost use Rattle.ball_model.specs.Batches.{true_batch};
+ghost use Rattle.ball_model.specs.State.{StandsFor};
+ghost use Rattle.replica.specs.Sent.{has_bit, sent_batch};
+ghost use Rattle.replica.specs.Seen.{IsState};
+
+use crate::Replica;
+use ball_model::BatchName;
+use batches::Batch;
+use std::alloc::{AllocError, Global};
+
+impl Replica {
+    /// What the partition tells another one, `target`, of this superstep.
+    ///
+    /// The batch has the registers of each vertex that changed and has an edge into the target, ascending, and the
+    /// number of all vertices that changed. It is to be sent where it has no rows too: a level is held only with it.
+    pub fn out(&self, alloc: Global, target: u16) -> Result<Batch, AllocError>
+        requires target { target < self.now.part.plan.parts }
+        requires other { target ≢ self.now.part.number }
+        ensures stands { (j : Job) (p t : ℕ) → StandsFor j p t self.now → IfOk result (λ b. b ≡ true_batch j (record { superstep = t; source = p; target = target })) }
+    {
+        self.sent(alloc, target)
+    }
+
+    // The batch, as it is read off what the replica has.
+    fn sent(&self, alloc: Global, target: u16) -> Result<Batch, AllocError>
+        requires target { target < self.now.part.plan.parts }
+        ensures sent { IfOk result (λ b. b ≡ sent_batch self.now target (length self.now.part.preds)) }
+        ensures state { IsState self.now }
+    {
+        let name = BatchName {
+            superstep: self.superstep(),
+            source: self.partition(),
+            target,
+        };
+        let mut batch = Batch::start(alloc, self.plan(), name, self.changed_count())?;
+        for i in 0..self.part.size() {
+            self.send_row(&mut batch, i)?;
+        }
+        Ok(batch)
+    }
+
+    // Adds the row of vertex i, where it changed and has an edge into the batch's target.
+    fn send_row(&self, batch: &mut Batch, i: u32) -> Result<(), AllocError>
+        requires place { i < length self.now.part.preds }
+        requires target { batch.old.name.target < self.now.part.plan.parts }
+        requires so_far { batch.old ≡ sent_batch self.now batch.old.name.target i }
+        ensures { OnOk result (batch.new ≡ sent_batch self.now batch.old.name.target (i + 1)) }
+    {
+        if self.marks[i as usize] && has_edge_into(self.part.feeds(i), batch.name().target) {
+            batch.push(self.part.vertex(i), self.rows.row(i as usize))?;
+        }
+        Ok(())
+    }
+}
+
+// Whether bit `target` of a feed mask is set.
+fn has_edge_into(feeds: u64, target: u16) -> bool
+    requires { target < 64 }
+    ensures { result ≡ has_bit feeds target }
+{
+    (feeds >> target) % 2 == 1
+}
