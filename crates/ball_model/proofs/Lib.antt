@@ -10,3 +10,4 @@ pub mod EstimateLaws
 pub mod TallyLaws
 pub mod PartLaws
 pub mod StreamLaws
+pub mod JoinLaws

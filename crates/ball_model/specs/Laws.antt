@@ -8,6 +8,7 @@ use Rattle.ball_model.specs.Change.{changed_at, any_changed}
 use Rattle.ball_model.specs.Figures.{estimate_of}
 use Rattle.ball_model.specs.Supersteps.{tally_at, end_of}
 use Rattle.ball_model.specs.PlanValue.{vertices_of, part_size}
+use Rattle.ball_model.specs.Join.{Holding, AreAlike, has_name, join_of}
 
 -- y is in the ball of x at t exactly where there is a path from y to x of at most t edges
 abbrev pub BallIsPaths : Type 0
@@ -100,3 +101,20 @@ TalliesFit = (m : Mixing) (g : Graph) (x t : ℕ) → 4 ≤ m.log2m → m.log2m 
 -- vertex i of partition p, from 0 on, is i * parts + p
 abbrev pub PartIsStrided : Type 0
 PartIsStrided = (n parts p : ℕ) → p < parts → vertices_of n parts p ≡ map (λ i. i * parts + p) (range_with_len 0 (part_size n parts p))
+
+-- joining two holdings is the same either way round
+abbrev pub JoinCommutes : Type 0
+JoinCommutes = (a b : Holding) → AreAlike a b → join_of a b ≡ join_of b a
+
+-- joining three holdings is the same whichever two are joined first
+abbrev pub JoinAssociates : Type 0
+JoinAssociates = (a b c : Holding) → AreAlike a b → AreAlike b c → join_of (join_of a b) c ≡ join_of a (join_of b c)
+
+-- joining a holding with itself changes nothing
+abbrev pub JoinRepeats : Type 0
+JoinRepeats = (a : Holding) → AreAlike a a → join_of a a ≡ a
+
+-- a batch is named by the join exactly where one of the two names it and its superstep is at least both supersteps
+abbrev pub JoinIsUnion : Type 0
+JoinIsUnion = (a b : Holding) (s q : ℕ) → AreAlike a b →
+    IsTrue (has_name (join_of a b).names s q) ↔ ((IsTrue (has_name a.names s q) ⊎ IsTrue (has_name b.names s q)) × (a.superstep ≤ s) × (b.superstep ≤ s))

@@ -10,6 +10,7 @@ pub mod PlanValue
 pub mod Job
 pub mod Batches
 pub mod Content
+pub mod Join
 pub mod State
 pub mod Table
 pub mod Streams

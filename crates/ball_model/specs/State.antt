@@ -1,5 +1,5 @@
 -- A replica as plain data, and what it stands for.
-use Rattle.std.specs.Prelude.{◌≡◌, ℕ, ◌+◌, ◌-◌, ◌*◌, ◌<◌, ◌≤◌, Bool, true, ◌==◌, ◌&&◌, List, [], map, Option, None, Some, is_some, IfSome, slice_index_or}
+use Rattle.std.specs.Prelude.{◌≡◌, ℕ, ◌+◌, ◌-◌, ◌*◌, ◌<◌, ◌≤◌, Bool, true, ◌==◌, ◌&&◌, List, [], map, Option, None, Some, is_some, IfSome, slice_index_or, nat_lt, if◌then◌else◌}
 use Rattle.std.specs.List.{range_with_len}
 use Rattle.ball_model.specs.declared.names.BatchName.{BatchName}
 use Rattle.ball_model.specs.Counter.{ball_counter}
@@ -80,3 +80,7 @@ pub record SameShown (a b : State) : Type 0 where
   pub marks : a.marks ≡ b.marks
   pub tallies : a.tallies ≡ b.tallies
   pub sums : a.sums ≡ b.sums
+
+-- the further of two replicas, and the first where they are at one superstep
+abbrev pub further : State → State → State
+further a b = if nat_lt a.superstep b.superstep then b else a

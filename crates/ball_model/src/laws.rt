@@ -1,6 +1,6 @@
 //! Laws of the definitions: the contract of each function is the law, and its body is empty.
 
-ghost use Rattle.ball_model.specs.Laws.{BallIsPaths, RegisterIsBound, RegisterIsLeastBound, UnionIsMaximum, EmptyIsZero, CounterIsWide, RegistersAreRanks, CounterGrows, QuietStays, ChangedSuffice, ChangeComesFromChange, EndIsWithin, EndIsLeast, EndIsReached, EstimateGrows, EstimateFits, TalliesFit, PartIsStrided};
+ghost use Rattle.ball_model.specs.Laws.{BallIsPaths, RegisterIsBound, RegisterIsLeastBound, UnionIsMaximum, EmptyIsZero, CounterIsWide, RegistersAreRanks, CounterGrows, QuietStays, ChangedSuffice, ChangeComesFromChange, EndIsWithin, EndIsLeast, EndIsReached, EstimateGrows, EstimateFits, TalliesFit, PartIsStrided, JoinCommutes, JoinAssociates, JoinRepeats, JoinIsUnion};
 
 /// The ball of x at t has the vertices with a path of at most t edges to x.
 pub fn ball_is_paths()
@@ -62,4 +62,12 @@ pub fn tallies_fit()
 /// Vertex i of partition p is i * parts + p.
 pub fn part_is_strided()
     ensures { PartIsStrided }
+{}
+
+/// What two replicas of a partition hold together does not depend on the order of joins, nor on how often they join.
+pub fn join_is_a_join()
+    ensures commutative { JoinCommutes }
+    ensures associative { JoinAssociates }
+    ensures repeats { JoinRepeats }
+    ensures union { JoinIsUnion }
 {}

@@ -14,7 +14,7 @@ pub mod names;
 pub mod plan;
 pub mod streams;
 
-pub use names::{BatchName, CloseError, NodeId, TakeError, Taken, Verdict};
+pub use names::{BatchName, CloseError, MergeError, NodeId, TakeError, Taken, Verdict};
 pub use plan::{Plan, PlanError};
 pub use streams::{CountedRead, CountedWrite, CountingReader, CountingWriter, put_all};
 

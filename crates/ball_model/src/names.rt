@@ -64,3 +64,14 @@ pub enum CloseError {
     #[error("the run has ended")]
     Finished,
 }
+
+/// Why a snapshot is not merged, in the order of the checks.
+#[derive(Clone, Copy, Debug, PartialEq, Eq, Error)]
+pub enum MergeError {
+    #[error("the snapshot is of another job")]
+    OtherJob,
+    #[error("the snapshot is of another partition")]
+    NotMine,
+    #[error("out of memory")]
+    Memory,
+}

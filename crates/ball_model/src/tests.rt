@@ -255,4 +255,5 @@ fn laws_are_called() {
     laws::estimate_grows();
     laws::tallies_fit();
     laws::part_is_strided();
+    laws::join_is_a_join();
 }

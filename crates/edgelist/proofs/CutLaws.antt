@@ -1,8 +1,8 @@
 -- Lists that stand one behind another.
-use Rattle.std.proofs.Common.{◌≡◌, ℕ, zero, suc, ◌+◌, ◌-◌, ◌^◌, ◌<◌, ◌≤◌, List, [], ◌∷◌, ◌++◌, length, get_or, drop, refl, ap, arith, ◌∙◌, length-drop}
+use Rattle.std.proofs.Common.{subst, sym, map, take, length-append, ◌≡◌, ℕ, zero, suc, ◌+◌, ◌-◌, ◌^◌, ◌<◌, ◌≤◌, List, [], ◌∷◌, ◌++◌, length, get_or, drop, refl, ap, arith, ◌∙◌, length-drop}
 use Rattle.std.specs.Prelude.{slice_range, slice_index}
 use Rattle.std.specs.List.{sum_by}
-use Rattle.std.proofs.lemmas.List.{length-take, take-append-le, drop-append-le, take_all}
+use Rattle.std.proofs.lemmas.List.{length-take, take-append-le, drop-append-le, take_all, take_more, map-append}
 use Rattle.std.proofs.Math.Seq.{drop-append_seam}
 use Rattle.std.proofs.lemmas.List.Sums.{sum_by-cons}
 use Rattle.edgelist.specs.Lists.{cut, Ascend, AreStarts}
@@ -100,11 +100,11 @@ starts-push items list starts end e ok fits = record {
   few = fits;
 }
 
-pub lists-push : (items list starts : List ℕ) (end : ℕ) → end ≡ length items + length list → AreStarts (length items) starts → cut (items ++ list) (starts ++ end ∷ []) ≡ cut items starts ++ list ∷ []
-lists-push items list starts end e ok =
+pub lists-push : (items list starts : List ℕ) (end : ℕ) → end ≡ length items + length list → Ascend (length items) starts → cut (items ++ list) (starts ++ end ∷ []) ≡ cut items starts ++ list ∷ []
+lists-push items list starts end e up =
     let count : end - length items ≡ length list = omega arith in
     let last : slice_range (items ++ list) (length items) end ≡ list = rw (drop-append_seam, count) (take_all (length list) list (omega arith)) in
-    cut-push (items ++ list) starts (length items) end ok.ascend ∙ rw (cut-more items list starts ok.ascend, last) refl
+    cut-push (items ++ list) starts (length items) end up ∙ rw (cut-more items list starts up, last) refl
 
 -- no items yet
 pub starts-none : AreStarts 0 (0 ∷ [])
@@ -114,3 +114,23 @@ starts-none = record { first = refl; ascend = refl; few = omega arith }
 pub cut-none : (items : List ℕ) → cut items (0 ∷ []) ≡ []
 unfolding cut
 cut-none items = refl
+
+-- the same, of places that do not have to fit 32 bits
+pub record AddsText (bytes starts : List ℕ) (texts : List (List ℕ)) : Type 0 where
+  pub starts_are : Ascend (length bytes) starts
+  pub texts_are : cut bytes starts ≡ texts
+
+pub text-push : (bytes text starts new starts' : List ℕ) (end : ℕ) (texts : List (List ℕ)) → new ≡ bytes ++ text → starts' ≡ starts ++ end ∷ [] → end ≡ length new → Ascend (length bytes) starts → cut bytes starts ≡ texts →
+    AddsText new starts' (texts ++ text ∷ [])
+text-push bytes text starts new starts' end texts is is' at up are =
+    let long : length new ≡ length bytes + length text = ap (length {A = ℕ}) is ∙ length-append bytes text in
+    let ends : end ≡ length bytes + length text = at ∙ long in
+    rw (is', is) (record {
+      starts_are = subst (λ (n : ℕ). Ascend n (starts ++ end ∷ [])) (at ∙ ap (length {A = ℕ}) is) (ascend-push (length bytes) end starts up (omega (arith, ends)));
+      texts_are = lists-push bytes text starts end ends up ∙ rw are refl;
+    })
+
+-- the lists of one item more
+pub map-more : {X Y : Type 0} (f : X → Y) (xs : List X) (i : ℕ) (x : X) (y : Y) → i < length xs → x ≡ get_or xs i x → y ≡ f x → map f (take i xs) ++ y ∷ [] ≡ map f (take (i + 1) xs)
+map-more f xs i x y lt at is =
+    sym (ap (map f) (take_more xs i x lt) ∙ map-append f (take i xs) (get_or xs i x ∷ []) ∙ ap (λ z. map f (take i xs) ++ z ∷ []) (ap f (sym at) ∙ sym is))

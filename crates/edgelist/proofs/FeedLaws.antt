@@ -12,9 +12,9 @@ use Rattle.std.proofs.lemmas.List.Folds.{list_any-append}
 use Rattle.std.proofs.lemmas.List.Sums.{sum_by-append, sum_by-cons}
 use Rattle.ball_model.specs.Graph.{Graph}
 use Rattle.ball_model.specs.PlanValue.{vertices_of, part_size}
-use Rattle.ball_model.specs.Job.{feeds_into, feed_mask}
+use Rattle.ball_model.specs.Job.{Job, PartValue, IsPart, part_of, feeds_into, feed_mask}
 use Rattle.ball_model.proofs.PartLaws.{part_size-is, vertices_of-strided}
-use Rattle.edgelist.specs.Feeding.{AreMasks}
+use Rattle.edgelist.specs.Feeding.{AreMasks, has_bit}
 use Rattle.edgelist.proofs.BoolLaws.{by_cases, eq_is, eq_same, or_false, and_false}
 use Rattle.edgelist.proofs.RangeLaws.{range-next}
 
@@ -78,7 +78,7 @@ no-feed (e ∷ es) parts y r some le =
     let off : (e.1 % parts == r) ≡ false = search (tests, arith) in
     rw (off, and_false (e.0 == y), no-feed es parts y r some le) refl
 
-pow-up : (a b : ℕ) → a ≤ b → 2 ^ a ≤ 2 ^ b
+pub pow-up : (a b : ℕ) → a ≤ b → 2 ^ a ≤ 2 ^ b
 pow-up a zero le = let e : a ≡ 0 = omega arith in rw e (omega arith)
 pow-up a (suc b) le =
     elim (cases_lt b a) [
@@ -102,7 +102,7 @@ mask-is g parts y m some few small bits =
 abbrev no_bits : ℕ
 no_bits = 0
 
-zeros-at : (n i : ℕ) → get_or (replicate n no_bits) i no_bits ≡ no_bits
+pub zeros-at : (n i : ℕ) → get_or (replicate n no_bits) i no_bits ≡ no_bits
 zeros-at zero i = refl
 zeros-at (suc n) zero = refl
 zeros-at (suc n) (suc i) = zeros-at n i
@@ -228,3 +228,43 @@ pub refill : (xs ys : List ℕ) (n : ℕ) → n ≡ length ys → length xs ≡ 
 refill xs ys n count same =
     let none : drop (length xs) ys ≡ [] = drop_all (length xs) ys (omega arith) in
     rw (none, append-nil xs) (take_all n xs (omega arith))
+
+bit-test : (b : Bool) → (bit b == 1) ≡ b
+bit-test true = refl
+bit-test false = refl
+
+-- bit r of the feed mask of y is set exactly where y has an edge into partition r
+pub mask-bit : (g : Graph) (parts y r : ℕ) → 0 < parts → has_bit (feed_mask g parts y) r ≡ feeds_into g parts y r
+unfolding feed_mask feeds_into
+mask-bit g parts y r some =
+    let f : ℕ → Bool = λ k. list_any (λ e. (e.0 == y) && (e.1 % parts == k)) g.edges in
+    elim (cases_lt r parts) [
+      | inl less ↦ ap (λ n. n == 1) (powers-bit f parts r less) ∙ bit-test (f r)
+      | inr more ↦ ap (λ n. n == 1) (powers-above f parts r more) ∙ sym (no-feed g.edges parts y r some more)
+    ]
+
+-- the feed mask of vertex i of a part
+part-mask : (j : Job) (p i : ℕ) → p < j.plan.parts → i < length (part_of j p).preds → get_or (part_of j p).feeds i 0 ≡ feed_mask j.graph j.plan.parts (i * j.plan.parts + p)
+unfolding part_of
+part-mask j p i lt low =
+    let n = j.graph.vertices in
+    let parts = j.plan.parts in
+    let inside : i < part_size n parts p = simp length-map at low in
+    let at : get_or (vertices_of n parts p) i 0 ≡ i * parts + p =
+    ap (λ (l : List ℕ). get_or l i 0) (vertices_of-strided n parts p lt) ∙ get_or-map-range_with_len (λ k. k * parts + p) 0 (part_size n parts p) i i 0 inside (omega arith) in
+    get_or-map (λ x. feed_mask j.graph parts x) (vertices_of n parts p) i 0 0 inside ∙ ap (feed_mask j.graph parts) at
+
+number-is : (j : Job) (p : ℕ) (v : PartValue) → v ≡ part_of j p → v.number ≡ p
+unfolding part_of
+number-is j p v is = ap (λ (w : PartValue). w.number) is
+
+plan-is : (j : Job) (p : ℕ) (v : PartValue) → v ≡ part_of j p → v.plan ≡ j.plan
+unfolding part_of
+plan-is j p v is = ap (λ (w : PartValue). w.plan) is
+
+-- the bits of the feed mask of vertex i of a part
+pub feeds-bits : (v : PartValue) (m i : ℕ) → IsPart v → i < length v.preds → m ≡ get_or v.feeds i 0 → (j : Job) (p r : ℕ) → v ≡ part_of j p → has_bit m r ≡ feeds_into j.graph j.plan.parts (i * j.plan.parts + p) r
+feeds-bits v m i part low at j p r is =
+    let lt : p < j.plan.parts = rw (number-is j p v is, plan-is j p v is) at part.number in
+    let inside : i < length (part_of j p).preds = subst (λ (w : PartValue). i < length w.preds) is low in
+    ap (λ k. has_bit k r) (at ∙ ap (λ (w : PartValue). get_or w.feeds i 0) is ∙ part-mask j p i lt inside) ∙ mask-bit j.graph j.plan.parts (i * j.plan.parts + p) r (omega (arith, lt))

@@ -12,6 +12,8 @@ pub mod SortLaws
 pub mod RangeLaws
 pub mod DigestLaws
 pub mod FeedLaws
+pub mod GuessLaws
 pub mod OwnLaws
 pub mod InputLaws
 pub mod PlanLaws
+pub mod Crossing

@@ -6,7 +6,8 @@ use Rattle.ball_model.specs.Graph.{Graph, IsGraph}
 use Rattle.ball_model.specs.PlanValue.{PlanValue, IsPlan, plan_of}
 use Rattle.ball_model.specs.declared.plan.PlanError.{PlanError}
 use Rattle.ball_model.specs.Job.{IsJob, digest_of, digest_bytes}
-use Rattle.edgelist.specs.Planning.{options_of, job_plan}
+use Rattle.ball_model.specs.RunText.{plan_over}
+use Rattle.edgelist.specs.Planning.{options_of, settings}
 use Rattle.edgelist.proofs.BoolLaws.{by_cases}
 
 left-false : (a b : Bool) → (a || b) ≡ false → a ≡ false
@@ -52,7 +53,7 @@ plan_of-good p seed digest =
       refl,
     )))))
 
-job-of : (g : Graph) (log2m seed parts limit : ℕ) (q : PlanValue) → IsGraph g → IsGood (job_plan log2m seed parts limit g) q → IsJob (record { graph = g; plan = q })
+job-of : (g : Graph) (log2m seed parts limit : ℕ) (q : PlanValue) → IsGraph g → IsGood (plan_over (settings log2m seed parts limit 0) g) q → IsJob (record { graph = g; plan = q })
 unfolding digest_of digest_bytes
 job-of g log2m seed parts limit q ok (plan, is) = record {
   graph = ok;
@@ -67,7 +68,7 @@ length-digest p g = length-sha256 (digest_bytes p g)
 
 -- the plan of options is a job's
 pub plan-job : (o : Result PlanValue PlanError) (g : Graph) (log2m seed parts limit : ℕ) → IsGraph g → seed < 2 ^ 64 →
-    o ≡ plan_of (job_plan log2m seed parts limit g) → IfOk o (λ q. IsJob (record { graph = g; plan = q }))
+    o ≡ plan_of (plan_over (settings log2m seed parts limit 0) g) → IfOk o (λ q. IsJob (record { graph = g; plan = q }))
 plan-job (Ok q) g log2m seed parts limit ok fits is =
-    job-of g log2m seed parts limit q ok (rw (← is) at (plan_of-good (job_plan log2m seed parts limit g) fits (length-digest (options_of log2m seed parts limit g []) g)))
+    job-of g log2m seed parts limit q ok (rw (← is) at (plan_of-good (plan_over (settings log2m seed parts limit 0) g) fits (length-digest (options_of log2m seed parts limit g []) g)))
 plan-job (Err e) g log2m seed parts limit ok fits is = tt

@@ -2,6 +2,7 @@ pub mod Lists
 pub mod Links
 pub mod Pairs
 pub mod Labels
+pub mod Guessing
 pub mod Reading
 pub mod Planning
 pub mod Laws

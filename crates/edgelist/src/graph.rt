@@ -1,56 +1,54 @@
 //! Graphs whose vertices have labels.
 
-ghost use Rattle.std.specs.Prelude.{◌≡◌, ◌^◌, ◌<◌, ◌≤◌, length, slice_index_or, IfOk, []};
+ghost use Rattle.std.specs.Prelude.{◌≡◌, ◌^◌, ◌<◌, ◌≤◌, length, slice_index_or, IfOk, [], ℕ};
 ghost use Rattle.std.specs.List.{All};
 ghost use Rattle.ball_model.specs.Graph.{IsGraph, preds_of};
 ghost use Rattle.ball_model.specs.Job.{Job, IsJob};
 ghost use Rattle.ball_model.specs.PlanValue.{plan_of};
-ghost use Rattle.edgelist.specs.Labels.{texts};
-ghost use Rattle.edgelist.specs.Planning.{job_plan};
+ghost use Rattle.ball_model.specs.RunText.{plan_over};
+ghost use Rattle.edgelist.specs.Planning.{settings};
 ghost use Rattle.edgelist.specs.Pairs.{graph_of_pairs, AllBelow};
 
 use crate::build::lists_of;
 use crate::digest::digest;
+use crate::labels::Labels;
 use crate::lists::{Lists, Preds};
 use ball_model::{Plan, PlanError};
-use indexmap::IndexSet;
 use std::alloc::{AllocError, Global};
-use std::hash::RandomState;
 use std::marker::Model;
 
 /// A graph: for each vertex its predecessors, ascending, and its label.
 ///
-/// It takes 4 bytes an edge, and for each vertex 4 bytes and its label in a set.
+/// It takes 4 bytes an edge, and for each vertex 12 bytes and its label.
 #[derive(Drop)]
 pub struct Graph {
     lists: Lists,
-    labels: IndexSet<Vec<u8>, RandomState>,
+    labels: Labels,
 }
 
 impl Model for Graph {
     ghost use Rattle.ball_model.specs.Input.{Network};
     ghost use Rattle.edgelist.specs.Links.{graph_of, AreLinks};
-    ghost use Rattle.edgelist.specs.Labels.{texts};
 
     ghost Value = { Network };
 
-    ghost view = { λ g. record { graph = graph_of g.lists; labels = texts g.labels } };
+    ghost view = { λ g. record { graph = graph_of g.lists; labels = g.labels } };
 
-    ghost invariant = { λ g. AreLinks (texts g.labels) g.lists };
+    ghost invariant = { λ g. AreLinks g.labels g.lists };
 }
 
 impl Graph {
     /// The graph of pairs of a target and a source, with these labels.
     pub(crate) fn of_pairs(
         alloc: Global,
-        labels: IndexSet<Vec<u8>, RandomState>,
+        labels: Labels,
         pairs: Vec<(u32, u32)>,
     ) -> Result<Graph, AllocError>
-        requires below { AllBelow (length (texts labels)) pairs.items }
-        requires few_labels { length (texts labels) ≤ 2 ^ 24 }
+        requires below { AllBelow (length labels) pairs.items }
+        requires few_labels { length labels ≤ 2 ^ 24 }
         requires few_pairs { length pairs.items < 2 ^ 32 }
-        ensures graph { IfOk result (λ g. g.graph ≡ graph_of_pairs (length (texts labels)) pairs.items) }
-        ensures labels { IfOk result (λ g. g.labels ≡ texts labels) }
+        ensures graph { IfOk result (λ g. g.graph ≡ graph_of_pairs (length labels) pairs.items) }
+        ensures labels { IfOk result (λ g. g.labels ≡ labels) }
     {
         let lists = lists_of(alloc, pairs, labels.len() as u32)?;
         Ok(Graph { lists, labels })
@@ -79,10 +77,7 @@ impl Graph {
         requires { v < self.now.graph.vertices }
         ensures { result.now ≡ slice_index_or self.now.labels v [] }
     {
-        match self.labels.get_index(v as usize) {
-            Some(label) => label,
-            None => unreachable!(),
-        }
+        self.labels.label(v as usize)
     }
 
     /// The vertices with an edge to `v`, ascending.
@@ -97,7 +92,7 @@ impl Graph {
     /// The plan of a job over this graph, with its job digest, or the first fault of these options. It takes no
     /// memory, and time in proportion to the edges.
     pub fn plan(&self, log2m: u8, seed: u64, parts: u16, limit: u32) -> Result<Plan, PlanError>
-        ensures value { result ≡ plan_of (job_plan log2m seed parts limit self.now.graph) }
+        ensures value { (delimiter : ℕ) → result ≡ plan_of (plan_over (settings log2m seed parts limit delimiter) self.now.graph) }
         ensures job { IfOk result (λ plan. IsJob (record { graph = self.now.graph; plan = plan })) }
     {
         let job = digest(self, log2m, seed, parts, limit);

@@ -4,8 +4,10 @@
 pub mod build;
 mod digest;
 pub mod graph;
+pub mod labels;
 pub mod laws;
 pub mod lists;
+mod numbering;
 pub mod part;
 pub mod read;
 

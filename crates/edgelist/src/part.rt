@@ -4,9 +4,9 @@ ghost use Rattle.std.specs.Prelude.{◌≡◌, ◌+◌, ◌*◌, ◌^◌, ◌%�
 ghost use Rattle.std.specs.List.{All};
 ghost use Rattle.ball_model.specs.Graph.{preds_of};
 ghost use Rattle.ball_model.specs.PlanValue.{vertices_of, part_size};
-ghost use Rattle.ball_model.specs.Job.{Job, IsPart, digest_of, feed_mask, part_of};
+ghost use Rattle.ball_model.specs.Job.{Job, IsPart, digest_of, feed_mask, feeds_into, part_of};
 ghost use Rattle.edgelist.specs.Lists.{cut, AreStarts};
-ghost use Rattle.edgelist.specs.Feeding.{AreMasks};
+ghost use Rattle.edgelist.specs.Feeding.{AreMasks, has_bit};
 
 use crate::graph::Graph;
 use crate::lists::{Lists, Preds};
@@ -80,7 +80,8 @@ impl Part {
     /// The feed mask of the vertex with this index: bit r is set where it has an edge into partition r.
     pub fn feeds(&self, i: u32) -> u64
         requires { i < length self.now.preds }
-        ensures { result ≡ slice_index self.now.feeds i }
+        ensures value { result ≡ slice_index self.now.feeds i }
+        ensures bits { (j : Job) (p r : ℕ) → self.now ≡ part_of j p → has_bit result r ≡ feeds_into j.graph j.plan.parts (i * j.plan.parts + p) r }
     {
         self.feeds[i as usize]
     }

@@ -4,14 +4,13 @@ ghost use Rattle.std.specs.Prelude.{◌≡◌, ◌⊎◌, ◌≤◌, ◌<◌, �
 ghost use Rattle.csv.specs.Records.{fields_of};
 ghost use Rattle.ball_model.specs.Input.{IsPlain, records, has_form, read_as, input_of};
 ghost use Rattle.ball_model.specs.Streams.{Rises};
-ghost use Rattle.edgelist.specs.Labels.{texts};
 ghost use Rattle.edgelist.specs.Pairs.{graph_of_pairs};
 ghost use Rattle.edgelist.specs.Reading.{byte_of, limits_of, Refuses, is_blank, with_label, AreWithin, AddsPair, Exceeds, Adds, Stops};
 
 use crate::graph::Graph;
+use crate::numbering::Numbering;
 use ball_model::CountedRead;
 use csv::{ByteRecord, ReaderBuilder};
-use indexmap::IndexSet;
 use std::alloc::{AllocError, Global};
 use std::hash::RandomState;
 use std::io::Read;
@@ -60,25 +59,8 @@ const MOST_RECORDS: u64 = 67_108_864;
 // The labels so far, numbered by first appearance, and each edge's target and source.
 #[derive(Drop)]
 struct Reading {
-    labels: IndexSet<Vec<u8>, RandomState>,
+    labels: Numbering,
     pairs: Vec<(u32, u32)>,
-}
-
-// The number of a label, which takes the next one where it is new.
-fn number(
-    alloc: Global,
-    labels: &mut IndexSet<Vec<u8>, RandomState>,
-    label: &[u8],
-) -> Result<usize, AllocError>
-    ensures within { IfOk result (λ i. i < length (texts labels.new)) }
-    ensures place { IfOk result (λ i. slice_index_or (texts labels.new) i [] ≡ label.now) }
-    ensures labels { OnOk result (texts labels.new ≡ with_label (texts labels.old) label.now) }
-{
-    if let Some(place) = labels.get_index_of(label) {
-        return Ok(place);
-    }
-    let (place, _) = labels.insert_full(Vec::from_slice(alloc, label)?)?;
-    Ok(place)
 }
 
 // Whether a record is one or two fields, none of them empty.
@@ -123,12 +105,12 @@ fn byte(delimiter: Delimiter) -> u8
 impl Reading {
     // Adds the label of a record of one field.
     fn add_vertex(&mut self, alloc: Global, label: &[u8], vertices: u32) -> Result<(), EdgeError>
-        ensures labels { OnOk result (texts self.new.labels ≡ with_label (texts self.old.labels) label.now) }
+        ensures labels { OnOk result (self.new.labels ≡ with_label self.old.labels label.now) }
         ensures pairs { OnOk result (self.new.pairs.items ≡ self.old.pairs.items) }
-        ensures few { OnOk result (length (texts self.new.labels) ≤ vertices) }
-        ensures exceeds { IfErr result (Exceeds vertices (with_label (texts self.old.labels) label.now)) }
+        ensures few { OnOk result (length self.new.labels ≤ vertices) }
+        ensures exceeds { IfErr result (Exceeds vertices (with_label self.old.labels label.now)) }
     {
-        if number(alloc, &mut self.labels, label).is_err() {
+        if self.labels.number(alloc, label).is_err() {
             return Err(EdgeError::Memory);
         }
         if self.labels.len() > vertices as usize {
@@ -145,14 +127,14 @@ impl Reading {
         target: &[u8],
         vertices: u32,
     ) -> Result<(), EdgeError>
-        ensures adds { OnOk result (AddsPair source.now target.now (texts self.old.labels) self.old.pairs.items (texts self.new.labels) self.new.pairs.items) }
-        ensures few { OnOk result (length (texts self.new.labels) ≤ vertices) }
-        ensures exceeds { IfErr result (Exceeds vertices (with_label (with_label (texts self.old.labels) source.now) target.now)) }
+        ensures adds { OnOk result (AddsPair source.now target.now self.old.labels self.old.pairs.items self.new.labels self.new.pairs.items) }
+        ensures few { OnOk result (length self.new.labels ≤ vertices) }
+        ensures exceeds { IfErr result (Exceeds vertices (with_label (with_label self.old.labels source.now) target.now)) }
     {
-        let Ok(from) = number(alloc, &mut self.labels, source) else {
+        let Ok(from) = self.labels.number(alloc, source) else {
             return Err(EdgeError::Memory);
         };
-        let Ok(to) = number(alloc, &mut self.labels, target) else {
+        let Ok(to) = self.labels.number(alloc, target) else {
             return Err(EdgeError::Memory);
         };
         if self.labels.len() > vertices as usize {
@@ -172,9 +154,9 @@ impl Reading {
         number: u64,
         limits: EdgeLimits,
     ) -> Result<(), EdgeError>
-        ensures adds { OnOk result (Adds (limits_of limits) number (fields_of row.now) (texts self.old.labels) self.old.pairs.items (texts self.new.labels) self.new.pairs.items) }
+        ensures adds { OnOk result (Adds (limits_of limits) number (fields_of row.now) self.old.labels self.old.pairs.items self.new.labels self.new.pairs.items) }
         ensures fewer { OnOk result (number < limits.edges) }
-        ensures stops { IfErr result (Stops (limits_of limits) number (fields_of row.now) (texts self.old.labels) self.old.pairs.items) }
+        ensures stops { IfErr result (Stops (limits_of limits) number (fields_of row.now) self.old.labels self.old.pairs.items) }
     {
         if number >= limits.edges {
             return Err(EdgeError::TooManyEdges);
@@ -189,6 +171,19 @@ impl Reading {
             None => self.add_vertex(alloc, source, limits.vertices),
             Some(target) => self.add_edge(alloc, source, target, limits.vertices),
         }
+    }
+}
+
+impl Reading {
+    // The graph that was read. The set of labels is gone before the pairs are sorted.
+    fn into_graph(self, alloc: Global) -> Result<Graph, AllocError>
+        requires within { AreWithin 16777216 67108864 self.labels self.pairs.items }
+        ensures graph { IfOk result (λ g. g.graph ≡ graph_of_pairs (length self.labels) self.pairs.items) }
+        ensures labels { IfOk result (λ g. g.labels ≡ self.labels) }
+    {
+        let Reading { labels, pairs } = self;
+        let labels = labels.into_labels(alloc)?;
+        Graph::of_pairs(alloc, labels, pairs)
     }
 }
 
@@ -210,9 +205,9 @@ fn read_records<R: Read + Drop>(
     limits: EdgeLimits,
 ) -> Result<Reading, EdgeError>
     requires { limits.edges ≤ 67108864 }
-    ensures within { IfOk result (λ reading. AreWithin limits.vertices limits.edges (texts reading.labels) reading.pairs.items) }
+    ensures within { IfOk result (λ reading. AreWithin limits.vertices limits.edges reading.labels reading.pairs.items) }
     ensures ok { (text : List ℕ) → R.remaining reader ≡ Some text → IsPlain text → IfOk result (λ reading. read_as (limits_of limits) (records (byte_of delimiter) text)
-        ≡ Ok (record { graph = graph_of_pairs (length (texts reading.labels)) reading.pairs.items; labels = texts reading.labels })) }
+        ≡ Ok (record { graph = graph_of_pairs (length reading.labels) reading.pairs.items; labels = reading.labels })) }
     ensures refused { (text : List ℕ) → R.remaining reader ≡ Some text → IsPlain text → IfErr result (Refuses (read_as (limits_of limits) (records (byte_of delimiter) text))) }
 {
     let mut rdr = ReaderBuilder::new()
@@ -223,8 +218,12 @@ fn read_records<R: Read + Drop>(
         .delimiter(byte(delimiter))
         .from_reader(alloc, reader);
     let mut row = ByteRecord::new(alloc);
+    let labels = match Numbering::new(alloc, state) {
+        Ok(labels) => labels,
+        Err(_) => return Err(EdgeError::Memory),
+    };
     let mut reading = Reading {
-        labels: IndexSet::with_hasher(alloc, state),
+        labels,
         pairs: Vec::new(alloc),
     };
     for number in 0..limits.edges + 1 {
@@ -271,7 +270,7 @@ pub fn read_edges<R: CountedRead>(
         edges: limits.edges.min(MOST_RECORDS),
     };
     match read_records(alloc, state, &mut *reader, delimiter, limits) {
-        Ok(Reading { labels, pairs }) => match Graph::of_pairs(alloc, labels, pairs) {
+        Ok(reading) => match reading.into_graph(alloc) {
             Ok(graph) => Ok(graph),
             Err(_) => Err(EdgeError::Memory),
         },

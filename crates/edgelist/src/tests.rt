@@ -403,3 +403,136 @@ fn laws_hold() {
     laws::edges_stand_once();
     laws::declaring_adds_no_edge();
 }
+
+#[test]
+fn labels_of_one_guess(rt: HostRuntime) {
+    // By a count of all places, `nawpe` and `njabe` have one entry among the first 65,536, and so have the two of 11
+    // bytes. The labels of zero bytes differ in length alone.
+    assert!(rt;
+        tabs(
+            &rt,
+            b"nawpe\tnjabe\nnjabe\tnawpe\nnawpe\tnawpe\nnjabe\tnjabe\n",
+            b"nawpe 0 1\nnjabe 0 1\n"
+        )
+    );
+    assert!(rt;
+        tabs(
+            &rt,
+            b"vertex-0709\tvertex-1002\nvertex-1002\tvertex-0709\nvertex-0709\tvertex-1002\n",
+            b"vertex-0709 1\nvertex-1002 0\n"
+        )
+    );
+    assert!(rt;
+        tabs(
+            &rt,
+            b"\0\t\0\0\n\0\0\t\0\0\0\n\0\0\0\t\0\n",
+            b"\0 2\n\0\0 0\n\0\0\0 1\n"
+        )
+    );
+}
+
+#[test]
+fn labels_of_12_bytes(rt: HostRuntime) {
+    // Labels of more than 11 bytes are not guessed at.
+    assert!(rt;
+        tabs(
+            &rt,
+            b"vertex-0709\tvertex-07090\nvertex-07090\tvertex-07091\nvertex-07091\tvertex-0709\n",
+            b"vertex-0709 2\nvertex-07090 0\nvertex-07091 1\n"
+        )
+    );
+}
+
+// A label of 299 times the one byte and once the other.
+fn push_long(text: &mut Vec<u8>, byte: u8, last: u8) -> Result<(), AllocError> {
+    for _ in 0..299 {
+        text.push(byte)?;
+    }
+    text.push(last)?;
+    Ok(())
+}
+
+// Two labels of 300 bytes with one edge, and how their graph is shown.
+fn long_labels(alloc: Global) -> Result<(Vec<u8>, Vec<u8>), AllocError> {
+    let mut text = Vec::new(alloc);
+    push_long(&mut text, b'x', b'y')?;
+    text.push(b'\t')?;
+    push_long(&mut text, b'x', b'z')?;
+    let mut wanted = Vec::new(alloc);
+    push_long(&mut wanted, b'x', b'y')?;
+    wanted.push(b'\n')?;
+    push_long(&mut wanted, b'x', b'z')?;
+    wanted.extend_from_slice(b" 0\n")?;
+    Ok((text, wanted))
+}
+
+#[test]
+fn labels_of_300_bytes(rt: HostRuntime) {
+    match long_labels(rt.alloc()) {
+        Ok((text, wanted)) => assert!(rt; tabs(&rt, &text, &wanted)),
+        Err(_) => assert!(rt; false),
+    }
+}
+
+fn digit(v: u32) -> u8 {
+    b'0' + (v % 10) as u8
+}
+
+fn five_digits(v: u32) -> [u8; 5] {
+    [
+        digit(v / 10_000),
+        digit(v / 1_000),
+        digit(v / 100),
+        digit(v / 10),
+        digit(v),
+    ]
+}
+
+// The edges from each number below a count to the next, labelled by their digits.
+fn push_path(text: &mut Vec<u8>, count: u32) -> Result<(), AllocError> {
+    for v in 0..count {
+        text.extend_from_slice(&five_digits(v))?;
+        text.push(b'\t')?;
+        text.extend_from_slice(&five_digits(v + 1))?;
+        text.push(b'\n')?;
+    }
+    Ok(())
+}
+
+// Whether the label of a vertex is its number, and its one predecessor the vertex before.
+fn is_next(graph: &Graph, v: u32) -> bool {
+    if v < 1 || v >= graph.vertices() {
+        return false;
+    }
+    let mut preds = graph.preds(v);
+    graph.label(v) == five_digits(v).as_slice()
+        && preds.next() == Some(v - 1)
+        && preds.next() == None
+}
+
+// How many vertices of a path, each of whose edges stands twice, are as they should be.
+fn path(rt: &HostRuntime, count: u32) -> Option<u32> {
+    let mut text = Vec::new(rt.alloc());
+    let Ok(()) = push_path(&mut text, count) else {
+        return None;
+    };
+    let Ok(()) = push_path(&mut text, count) else {
+        return None;
+    };
+    let Ok(graph) = read(rt, &text, Delimiter::Tab, LIMITS) else {
+        return None;
+    };
+    let mut right = 0u32;
+    for v in 0..graph.vertices() {
+        if is_next(&graph, v) {
+            right = right.saturating_add(1);
+        }
+    }
+    Some(right)
+}
+
+#[test]
+fn many_labels(rt: HostRuntime) {
+    // More than the 65,536 entries that there are at first. Vertex 0 has no predecessor.
+    assert_eq!(rt; path(&rt, 70_000), Some(70_000));
+}

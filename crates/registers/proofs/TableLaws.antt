@@ -1,8 +1,11 @@
 -- Rows that are cut from one list.
-use Rattle.std.proofs.Common.{◌≡◌, ℕ, zero, suc, ◌+◌, ◌*◌, ◌<◌, ◌≤◌, List, [], ◌∷◌, ◌++◌, length, take, drop, set, get_or, refl, ap, arith, sym, ◌∙◌, length-take, length-drop, take-take, replicate}
+use Rattle.std.proofs.Common.{◌≡◌, ℕ, zero, suc, ◌+◌, ◌*◌, ◌<◌, ◌≤◌, List, [], ◌∷◌, ◌++◌, length, take, drop, set, get_or, max, map, refl, ap, ap₂, arith, sym, ◌∙◌, length-take, length-drop, take-take, replicate}
 use Rattle.std.proofs.lemmas.List.{take-append-le, drop-append-le, replicate-append-replicate, length-replicate, take_at, drop_at, drop-take, drop-drop}
 use Rattle.std.proofs.Math.Nat.{mul-le-mul_right}
+use Rattle.std.specs.List.{zip}
+use Rattle.ball_model.specs.Counter.{max_each}
 use Rattle.ball_model.specs.Table.{Table, pieces}
+use Rattle.registers.specs.Joined.{AreSameShape, joined_rows}
 
 -- there are n pieces
 length-pieces : (w n : ℕ) (cells : List ℕ) → length (pieces w n cells) ≡ n
@@ -98,3 +101,47 @@ row_edited f w n i xs ys t keeps is lt len e =
     ∙ pieces-put w n xs (f row) i (omega (arith, is.count)) len (keeps row width)
     ∙ ap (λ rows. set rows i (f row)) is.rows
     ∙ ap (λ r. set t.rows i (f r)) (sym (row_shown w n xs t i is lt))
+
+-- a part of a maximum is the maximum of the parts
+take-max_each : (n : ℕ) (xs ys : List ℕ) → take n (max_each xs ys) ≡ max_each (take n xs) (take n ys)
+take-max_each zero xs ys = refl
+take-max_each (suc n) [] [] = refl
+take-max_each (suc n) [] (y ∷ ys) = refl
+take-max_each (suc n) (x ∷ xs) [] = refl
+take-max_each (suc n) (x ∷ xs) (y ∷ ys) = ap (λ rest. max x y ∷ rest) (take-max_each n xs ys)
+
+drop-max_each : (n : ℕ) (xs ys : List ℕ) → length xs ≡ length ys → drop n (max_each xs ys) ≡ max_each (drop n xs) (drop n ys)
+drop-max_each zero xs ys same = refl
+drop-max_each (suc n) [] [] same = refl
+drop-max_each (suc n) [] (y ∷ ys) same = absurd (cc)
+drop-max_each (suc n) (x ∷ xs) [] same = absurd (cc)
+drop-max_each (suc n) (x ∷ xs) (y ∷ ys) same = drop-max_each n xs ys (omega arith)
+
+-- the rows of a maximum are the maxima of the rows
+pieces-max_each : (w n : ℕ) (xs ys : List ℕ) → length xs ≡ length ys →
+    pieces w n (max_each xs ys) ≡ map (λ p. max_each p.0 p.1) (zip (pieces w n xs) (pieces w n ys))
+unfolding pieces
+pieces-max_each w zero xs ys same = refl
+pieces-max_each w (suc n) xs ys same =
+    let rest : length (drop w xs) ≡ length (drop w ys) = omega (arith, length-drop w xs, length-drop w ys) in
+    rw (take-max_each w xs ys, drop-max_each w xs ys same, pieces-max_each w n (drop w xs) (drop w ys) rest) refl
+
+-- tables of one shape are cut from lists of one length
+pub same_room : (w n : ℕ) (xs : List ℕ) (v m : ℕ) (ys : List ℕ) (a b : Table) → record { width = w; rows = pieces w n xs } ≡ a → record { width = v; rows = pieces v m ys } ≡ b → AreSameShape a b → n * w ≡ m * v
+same_room w n xs v m ys a b left right alike =
+    let mine = shown w n xs a left in
+    let theirs = shown v m ys b right in
+    ap₂ (λ (k c : ℕ). k * c) (mine.count ∙ alike.count ∙ sym theirs.count) (mine.width ∙ alike.width ∙ sym theirs.width)
+
+-- the maximum of two lists shows the join of their tables
+pub joined_shown : (w n : ℕ) (xs : List ℕ) (v m : ℕ) (ys : List ℕ) (a b : Table) → record { width = w; rows = pieces w n xs } ≡ a → record { width = v; rows = pieces v m ys } ≡ b → AreSameShape a b → length xs ≡ length ys →
+    record { width = w; rows = pieces w n (max_each xs ys) } ≡ joined_rows a b
+joined_shown w n xs v m ys a b left right alike same =
+    let mine = shown w n xs a left in
+    let theirs = shown v m ys b right in
+    let width : w ≡ v = mine.width ∙ alike.width ∙ sym theirs.width in
+    let count : n ≡ m = mine.count ∙ alike.count ∙ sym theirs.count in
+    let other : pieces w n ys ≡ b.rows = ap₂ (λ (k c : ℕ). pieces k c ys) width count ∙ theirs.rows in
+    let rows : pieces w n (max_each xs ys) ≡ map (λ p. max_each p.0 p.1) (zip a.rows b.rows) =
+    pieces-max_each w n xs ys same ∙ ap₂ (λ (p q : List (List ℕ)). map (λ r. max_each r.0 r.1) (zip p q)) mine.rows other in
+    λ i. record { width = mine.width i; rows = rows i }

@@ -1,2 +1,5 @@
+pub mod Flags
+pub mod Joined
+pub mod Laws
 pub mod Raised
 pub mod Shape

@@ -5,6 +5,9 @@
 //! changed anything, which is how a superstep knows what to send (HyperBall 2013). [`Rows`] has one counter for
 //! each vertex, side by side in one buffer that is taken once.
 //!
+//! [`Join`] is what can be joined in any order and any number of times with the same outcome, as [`Rows`] by their
+//! maximum and a [`SourceMask`] by the sources of both; [`reconcile`] makes two such values equal.
+//!
 //! Nothing here limits a register to the ranks of a hash: what is at most 33 stays so, since a maximum makes no
 //! new numbers.
 #![tactic(auto)]
@@ -12,8 +15,12 @@
 ghost use Rattle.std.specs.Prelude.{◌≡◌, ◌↔◌, length, false};
 ghost use Rattle.ball_model.specs.Counter.{max_each};
 
+pub mod join;
+pub mod mask;
 pub mod rows;
 
+pub use join::{Join, reconcile};
+pub use mask::SourceMask;
 pub use rows::Rows;
 
 #[cfg(test)]

@@ -5,7 +5,7 @@ ghost use Rattle.ball_model.specs.Counter.{max_each};
 ghost use Rattle.ball_model.specs.Report.{empty_of};
 ghost use Rattle.registers.specs.Raised.{raised_one};
 
-use super::max_into;
+use super::{Join, max_into};
 use std::alloc::{AllocError, Global};
 use std::marker::Model;
 
@@ -116,6 +116,48 @@ impl Rows {
     {
         self.cells.copy_from_slice(&other.cells);
     }
+}
+
+/// Rows of one shape are joined to the maximum of the two, register by register, with no memory taken.
+impl Join for Rows {
+    ghost use Rattle.ball_model.specs.Table.{Table};
+    ghost use Rattle.registers.specs.Joined.{AreSameShape, joined_rows};
+    ghost use Rattle.registers.specs.Laws.{rows_commute, rows_associate, rows_repeat, shape_turns, shape_through, shape_stays};
+
+    ghost Content = { Table };
+
+    ghost content = { λ rows. rows };
+
+    ghost are_alike = { AreSameShape };
+
+    ghost joined = { joined_rows };
+
+    ghost GROWS = { false };
+
+    const GROWS: bool = false;
+
+    /// Whether the two have as many rows of one width.
+    fn alike(&self, other: &Rows) -> bool {
+        self.len() == other.len() && self.width() == other.width()
+    }
+
+    /// Every row becomes the maximum of itself and the row of `other`; always Ok.
+    fn join(&mut self, _alloc: Global, other: &Rows) -> Result<(), AllocError> {
+        let _changed = max_into(&mut self.cells, &other.cells);
+        Ok(())
+    }
+
+    ghost commutative = { rows_commute };
+
+    ghost associative = { rows_associate };
+
+    ghost idempotent = { rows_repeat };
+
+    ghost symmetric = { shape_turns };
+
+    ghost transitive = { shape_through };
+
+    ghost stays_alike = { shape_stays };
 }
 
 // The i-th piece of the cells.

@@ -1,6 +1,7 @@
 ghost use Rattle.std.specs.Prelude.{◌≡◌, ◌<◌, length};
 
 use super::*;
+use std::alloc::{AllocError, Global};
 use std::process::Abort;
 use std::test::Fail;
 
@@ -106,4 +107,151 @@ fn rows_are_copied(rt: HostRuntime) -> Result<(), Fail> {
     assert_eq!(rt; to.row(1), [1, 0, 0, 2].as_slice());
     assert_eq!(rt; from.row(1), [1, 0, 0, 2].as_slice());
     Ok(())
+}
+
+// Two rows of four registers.
+fn two_rows(alloc: Global, first: [u8; 4], second: [u8; 4]) -> Result<Rows, AllocError> {
+    let mut rows = Rows::fixed(alloc, 2, 4)?;
+    let _first = rows.raise(0, &first);
+    let _second = rows.raise(1, &second);
+    Ok(rows)
+}
+
+// Whether the rows are these two.
+fn are(rows: &Rows, first: [u8; 4], second: [u8; 4]) -> bool {
+    rows.len() == 2 && rows.row(0) == first.as_slice() && rows.row(1) == second.as_slice()
+}
+
+// Joins what is alike, and answers whether it is.
+fn join_alike<T: Join>(alloc: Global, left: &mut T, right: &T) -> Result<bool, AllocError> {
+    let alike = left.alike(right);
+    if alike {
+        left.join(alloc, right)?;
+    }
+    Ok(alike)
+}
+
+// Reconciles what is alike, and answers whether it is.
+fn reconcile_alike<T: Join>(
+    alloc: Global,
+    left: &mut T,
+    right: &mut T,
+) -> Result<bool, AllocError> {
+    let alike = left.alike(right);
+    if alike {
+        reconcile(alloc, left, right)?;
+    }
+    Ok(alike)
+}
+
+// The first register is greater on the left, the second on the right; the second row has none on the left.
+#[test]
+fn rows_are_joined_either_way_round(rt: HostRuntime) -> Result<(), Fail> {
+    let alloc = rt.alloc();
+    let mut left = two_rows(alloc, [9, 2, 0, 33], [0, 0, 0, 0])?;
+    let mut right = two_rows(alloc, [3, 7, 0, 1], [0, 5, 0, 0])?;
+    let first = two_rows(alloc, [9, 2, 0, 33], [0, 0, 0, 0])?;
+    assert!(rt; join_alike(alloc, &mut left, &right)?);
+    assert!(rt; are(&left, [9, 7, 0, 33], [0, 5, 0, 0]));
+    assert!(rt; are(&right, [3, 7, 0, 1], [0, 5, 0, 0]));
+    assert!(rt; join_alike(alloc, &mut right, &first)?);
+    assert!(rt; are(&right, [9, 7, 0, 33], [0, 5, 0, 0]));
+    assert!(rt; join_alike(alloc, &mut left, &right)?);
+    assert!(rt; are(&left, [9, 7, 0, 33], [0, 5, 0, 0]));
+    Ok(())
+}
+
+#[test]
+fn rows_of_one_shape_are_alike(rt: HostRuntime) -> Result<(), Fail> {
+    let alloc = rt.alloc();
+    let rows = Rows::fixed(alloc, 2, 4)?;
+    let same = Rows::fixed(alloc, 2, 4)?;
+    let wider = Rows::fixed(alloc, 2, 5)?;
+    let more = Rows::fixed(alloc, 3, 4)?;
+    assert!(rt; rows.alike(&same));
+    assert!(rt; !rows.alike(&wider));
+    assert!(rt; !wider.alike(&rows));
+    assert!(rt; !rows.alike(&more));
+    assert!(rt; !more.alike(&rows));
+    Ok(())
+}
+
+#[test]
+fn rows_are_reconciled(rt: HostRuntime) -> Result<(), Fail> {
+    let alloc = rt.alloc();
+    let mut left = two_rows(alloc, [1, 0, 4, 0], [6, 6, 6, 6])?;
+    let mut right = two_rows(alloc, [0, 2, 3, 0], [7, 5, 7, 5])?;
+    assert!(rt; reconcile_alike(alloc, &mut left, &mut right)?);
+    assert!(rt; are(&left, [1, 2, 4, 0], [7, 6, 7, 6]));
+    assert!(rt; are(&right, [1, 2, 4, 0], [7, 6, 7, 6]));
+    Ok(())
+}
+
+// How many of the 64 sources are there.
+fn count(mask: SourceMask) -> usize {
+    (0u16..64).filter(|q| mask.has(*q)).count()
+}
+
+// The mask of some sources below 64.
+fn mask_of(sources: &[u16]) -> SourceMask {
+    let mut mask = SourceMask::empty();
+    for q in sources {
+        if *q < 64 {
+            mask.insert(*q);
+        }
+    }
+    mask
+}
+
+#[test]
+fn sources_are_inserted_one_by_one(rt: HostRuntime) {
+    assert_eq!(rt; count(SourceMask::empty()), 0);
+    let mut mask = SourceMask::empty();
+    mask.insert(63);
+    assert!(rt; mask.has(63));
+    assert_eq!(rt; count(mask), 1);
+    mask.insert(0);
+    mask.insert(63);
+    assert!(rt; mask.has(0));
+    assert!(rt; mask.has(63));
+    assert_eq!(rt; count(mask), 2);
+}
+
+#[test]
+fn masks_are_united_either_way_round(rt: HostRuntime) -> Result<(), Fail> {
+    let alloc = rt.alloc();
+    let mut left = mask_of(&[0, 7]);
+    let mut right = mask_of(&[7, 63]);
+    assert!(rt; join_alike(alloc, &mut left, &right)?);
+    assert!(rt; left == mask_of(&[0, 7, 63]));
+    assert!(rt; right != left);
+    assert!(rt; join_alike(alloc, &mut right, &mask_of(&[0, 7]))?);
+    assert!(rt; right == left);
+    assert!(rt; join_alike(alloc, &mut left, &right)?);
+    assert!(rt; left == mask_of(&[63, 7, 0]));
+    assert_eq!(rt; count(left), 3);
+    Ok(())
+}
+
+#[test]
+fn masks_are_reconciled(rt: HostRuntime) -> Result<(), Fail> {
+    let mut left = mask_of(&[1, 2]);
+    let mut right = mask_of(&[40, 2]);
+    assert!(rt; reconcile_alike(rt.alloc(), &mut left, &mut right)?);
+    assert!(rt; left == mask_of(&[1, 2, 40]));
+    assert!(rt; right == mask_of(&[1, 2, 40]));
+    Ok(())
+}
+
+#[test]
+fn the_least_missing_source(rt: HostRuntime) {
+    let mask = mask_of(&[0, 2]);
+    assert_eq!(rt; mask.least_missing(4, 3), Some(1));
+    assert_eq!(rt; mask.least_missing(4, 1), Some(3));
+    assert_eq!(rt; mask.least_missing(3, 1), None);
+    assert_eq!(rt; mask.least_missing(0, 1), None);
+    let empty = SourceMask::empty();
+    assert_eq!(rt; empty.least_missing(1, 0), None);
+    assert_eq!(rt; empty.least_missing(64, 0), Some(1));
+    assert_eq!(rt; mask_of(&[0, 1]).least_missing(64, 2), Some(3));
 }

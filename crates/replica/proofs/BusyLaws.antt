@@ -1,15 +1,14 @@
 -- Whether a replica that holds its level tells of a changed vertex.
-use Rattle.std.proofs.Common.{◌≡◌, ℕ, zero, suc, ◌+◌, ◌-◌, ◌*◌, ◌<◌, ◌≤◌, nat_le, Bool, true, false, not, ◌&&◌, ◌||◌, ◌==◌, List, [], ◌∷◌, length, map, get_or, if◌then◌else◌, refl, ap, arith, sym, ◌∙◌, is_some, IfSome}
-use Rattle.std.specs.Prelude.{Option, None, Some, Result, Ok, Err}
-use Rattle.std.specs.List.{list_any, range_with_len, count_by, filter}
+use Rattle.std.proofs.Common.{◌≡◌, ℕ, zero, suc, ◌+◌, ◌<◌, ◌≤◌, Bool, true, false, not, ◌||◌, ◌==◌, List, [], ◌∷◌, length, map, get_or, if◌then◌else◌, refl, ap, arith, sym, ◌∙◌, is_some, IfSome}
+use Rattle.std.specs.Prelude.{Option, None, Some, Result}
+use Rattle.std.specs.List.{list_any, range_with_len, filter}
 use Rattle.std.proofs.lemmas.Bool.Decides.{nat_tests}
 use Rattle.std.proofs.lemmas.List.Sums.{length-filter}
 use Rattle.ball_model.specs.declared.names.Verdict.{Verdict}
-use Rattle.ball_model.specs.declared.names.Verdict.TheVariants as verdict
 use Rattle.ball_model.specs.declared.names.CloseError.{CloseError}
 use Rattle.ball_model.specs.Change.{changed_at, any_changed}
 use Rattle.ball_model.specs.PlanValue.{PlanValue, mixing_of, vertices_of}
-use Rattle.ball_model.specs.Job.{Job, IsJob}
+use Rattle.ball_model.specs.Job.{Job}
 use Rattle.ball_model.specs.Content.{missing_of, verdict_unless, verdict_at, verdict_of, close_unless, close_of}
 use Rattle.ball_model.specs.Batches.{BatchValue, true_batch, changed_count}
 use Rattle.ball_model.specs.State.{State, StandsFor, marks_of, content_of}

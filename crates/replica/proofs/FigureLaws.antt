@@ -1,5 +1,5 @@
 -- Figures and sums, one superstep later.
-use Rattle.std.proofs.Common.{◌≡◌, ℕ, zero, suc, ◌+◌, ◌-◌, ◌*◌, ◌/◌, ◌<◌, ◌≤◌, List, [], ◌∷◌, ◌++◌, length, map, get_or, refl, ap, arith, sym, ◌∙◌}
+use Rattle.std.proofs.Common.{◌≡◌, ℕ, ◌+◌, ◌<◌, List, [], ◌∷◌, ◌++◌, length, map, get_or, refl, ap, arith, sym, ◌∙◌}
 use Rattle.std.specs.List.{sum_by, range_with_len}
 use Rattle.std.proofs.lemmas.List.{length-map, same_lists}
 use Rattle.std.proofs.lemmas.List.Sums.{sum_by-cons}
@@ -9,7 +9,7 @@ use Rattle.ball_model.specs.Counter.{ball_counter}
 use Rattle.ball_model.specs.Supersteps.{estimate_at, total_over, tally_at}
 use Rattle.ball_model.specs.PlanValue.{PlanValue, part_size, mixing_of}
 use Rattle.ball_model.specs.Job.{Job}
-use Rattle.ball_model.specs.State.{State, StandsFor, tallies_of, sums_of, rows_of, own_vertices}
+use Rattle.ball_model.specs.State.{State, tallies_of, sums_of, rows_of, own_vertices}
 use Rattle.ball_model.proofs.TallyLaws.{harmonic_more, distance_more}
 use Rattle.replica.specs.Level.{stepped, stepped_all, nothing, total_of, next_rows}
 use Rattle.replica.proofs.OwnLaws.{vertex_of, at_own}

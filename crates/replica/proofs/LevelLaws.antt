@@ -1,23 +1,22 @@
 -- A replica that stands for its content and holds its level has what the next superstep is made of.
-use Rattle.std.proofs.Common.{◌≡◌, ℕ, zero, suc, ◌+◌, ◌-◌, ◌*◌, ◌/◌, ◌%◌, ◌<◌, ◌≤◌, Bool, true, false, not, ◌&&◌, ◌||◌, ◌==◌, List, [], ◌∷◌, length, map, get_or, if◌then◌else◌, refl, ap, arith, sym, ◌∙◌, inl, inr, subst, IfSome, is_some}
+use Rattle.std.proofs.Common.{◌≡◌, ℕ, ◌+◌, ◌-◌, ◌/◌, ◌%◌, ◌<◌, ◌≤◌, Bool, true, false, not, ◌&&◌, ◌||◌, ◌==◌, List, [], ◌∷◌, length, map, get_or, if◌then◌else◌, refl, ap, arith, sym, ◌∙◌, inl, inr, subst, IfSome, is_some}
 use Rattle.std.specs.Prelude.{Option, None, Some}
-use Rattle.std.specs.List.{list_any, range_with_len, filter, find}
+use Rattle.std.specs.List.{list_any, range_with_len, filter}
 use Rattle.std.specs.Str.{bytes_eq}
 use Rattle.std.proofs.lemmas.List.{length-map, same_lists}
 use Rattle.std.proofs.lemmas.List.FromFn.{length-map-range_with_len, get_or-map-range_with_len}
-use Rattle.ball_model.specs.declared.names.BatchName.{BatchName}
-use Rattle.ball_model.specs.Graph.{Graph, IsGraph, is_edge, preds_of}
-use Rattle.ball_model.specs.Counter.{Mixing, ball_counter}
+use Rattle.ball_model.specs.Graph.{is_edge, preds_of}
+use Rattle.ball_model.specs.Counter.{ball_counter}
 use Rattle.ball_model.specs.Change.{changed_at}
-use Rattle.ball_model.specs.PlanValue.{PlanValue, IsPlan, mixing_of, vertices_of, part_size}
+use Rattle.ball_model.specs.PlanValue.{PlanValue, mixing_of, vertices_of, part_size}
 use Rattle.ball_model.specs.Job.{Job, IsJob, PartValue, part_of, feeds_into}
 use Rattle.ball_model.specs.Batches.{BatchValue, true_batch, find_row, sent_vertices}
-use Rattle.ball_model.specs.Content.{Content, missing_of, in_window}
-use Rattle.ball_model.specs.State.{State, StandsFor, KeepsTrue, content_of, rows_of, marks_of, own_vertices, place_of, holds_in}
+use Rattle.ball_model.specs.Content.{missing_of, in_window}
+use Rattle.ball_model.specs.State.{State, StandsFor, content_of, rows_of, marks_of, place_of, holds_in}
 use Rattle.ball_model.proofs.PathLaws.{and_left, and_right, and_both, or_cases, or_left, or_right, eq_true, same_true, edge_below}
 use Rattle.ball_model.proofs.ChangeLaws.{changed_next}
 use Rattle.ball_model.proofs.EndLaws.{find_none}
-use Rattle.replica.specs.Level.{found_at, found_in, raised_by_found, grown_row, grown, next_row_of, next_rows, differing}
+use Rattle.replica.specs.Level.{found_at, found_in, grown_row, grown, next_row_of, next_rows, differing}
 use Rattle.replica.proofs.OwnLaws.{vertex_of, place_below, vertex_at, own_below, own_part, is_vertex, at_own}
 use Rattle.replica.proofs.GatherLaws.{next_row}
 

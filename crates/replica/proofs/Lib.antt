@@ -17,5 +17,10 @@ pub mod StartLaws
 pub mod ReadLaws
 pub mod NextLaws
 pub mod CloseLaws
+pub mod MergeLaws
+pub mod HoldingLaws
 pub mod SentLaws
 pub mod RunLaws
+pub mod Crossing
+pub mod CallLaws
+pub mod SameLaws

@@ -1,11 +1,11 @@
 -- What is missing from the level.
-use Rattle.std.proofs.Common.{◌≡◌, ℕ, zero, suc, ◌+◌, ◌-◌, ◌*◌, ◌<◌, ◌≤◌, ◌==◌, Bool, true, false, not, ◌&&◌, List, [], ◌∷◌, length, map, get_or, cond, refl, ap, arith, sym, ◌∙◌, is_some}
-use Rattle.std.specs.Prelude.{Option, Some, None}
+use Rattle.std.proofs.Common.{◌≡◌, ℕ, zero, suc, ◌+◌, ◌-◌, ◌*◌, ◌<◌, ◌≤◌, ◌==◌, Bool, true, false, not, ◌&&◌, List, get_or, refl, ap, arith, is_some}
+use Rattle.std.specs.Prelude.{Option, None}
 use Rattle.std.specs.List.{range_with_len, find}
 use Rattle.ball_model.specs.PlanValue.{PlanValue}
 use Rattle.ball_model.specs.Batches.{BatchValue}
-use Rattle.ball_model.specs.Content.{missing_of, in_window}
-use Rattle.ball_model.specs.State.{holds_in, place_of}
+use Rattle.ball_model.specs.Content.{missing_of}
+use Rattle.ball_model.specs.State.{holds_in}
 use Rattle.replica.proofs.PlaceLaws.{window_to}
 
 find_same : (p r : ℕ → Bool) (a n bound : ℕ) → a + n ≤ bound → ((k : ℕ) → k < bound → p k ≡ r k) → find p (range_with_len a n) ≡ find r (range_with_len a n)

@@ -1,5 +1,5 @@
 -- A replica one superstep later keeps its limits, whatever the batches say.
-use Rattle.std.proofs.Common.{◌≡◌, ℕ, zero, suc, ◌+◌, ◌-◌, ◌*◌, ◌^◌, ◌<◌, ◌≤◌, Bool, true, false, not, List, [], ◌∷◌, ◌++◌, length, map, get_or, drop, replicate, refl, ap, arith, sym, ◌∙◌, subst, length-drop, length-append}
+use Rattle.std.proofs.Common.{◌≡◌, ℕ, ◌+◌, ◌*◌, ◌<◌, Bool, true, false, not, List, [], ◌∷◌, length, map, get_or, drop, replicate, refl, ap, arith, sym, ◌∙◌, subst, length-drop, length-append}
 use Rattle.std.specs.Prelude.{Option, None}
 use Rattle.std.specs.List.{sum_by, range_with_len}
 use Rattle.std.specs.Str.{bytes_eq}
@@ -9,16 +9,16 @@ use Rattle.std.proofs.lemmas.List.FromFn.{length-map-range_with_len, get_or-map-
 use Rattle.std.proofs.lemmas.Slice.Eq.{bytes_eq-Decides}
 use Rattle.ball_model.specs.Table.{Table}
 use Rattle.ball_model.specs.Figures.{TallyValue, estimate_of}
-use Rattle.ball_model.specs.PlanValue.{PlanValue}
 use Rattle.ball_model.specs.Job.{PartValue, IsPart}
 use Rattle.ball_model.specs.Batches.{BatchValue}
 use Rattle.ball_model.specs.State.{State}
 use Rattle.figures.specs.declared.tally.Tally.{Tally}
 use Rattle.figures.specs.Values.{value_of}
 use Rattle.replica.specs.Level.{Advances, grown, next_rows, differing, stepped, stepped_all, nothing, total_of, shifted}
-use Rattle.replica.specs.Kept.{AreCounters, AreLasts, AreFit}
+use Rattle.replica.specs.Kept.{AreLasts}
 use Rattle.replica.specs.Seen.{IsState}
 use Rattle.replica.proofs.RiseLaws.{AllRise, grown_all, rise_counters, rise_estimate, length-grown}
+use Rattle.replica.proofs.ShiftLaws.{own_shifted}
 use Rattle.replica.proofs.AdvanceLaws.{fit_shifted}
 
 -- what was grown is the next rows
@@ -118,6 +118,11 @@ length-shifted : (parts : ℕ) (kept : List (Option BatchValue)) → length kept
 length-shifted parts kept long =
     omega (arith, length-append (drop parts kept) (replicate parts None), length-drop parts kept, length-replicate {A = Option BatchValue} parts None)
 
+own_next : (parts p : ℕ) (kept : List (Option BatchValue)) → length kept ≡ 4 * parts → ((i : ℕ) → i < 4 → get_or kept (i * parts + p) None ≡ None) → (i : ℕ) → get_or (shifted parts kept) (i * parts + p) None ≡ None
+own_next parts p kept long own i =
+    let one : 1 * parts ≡ parts = omega arith in
+    subst (λ n. get_or (shifted n kept) (i * parts + p) None ≡ None) one (own_shifted parts p 1 kept long own i)
+
 -- the limits one superstep later
 pub state_next : (v w : State) → IsState v → Advances v w → v.superstep < v.part.plan.limit → IsState w
 state_next v w s a lt =
@@ -134,5 +139,6 @@ state_next v w s a lt =
       lasts = rw (log2m, a.rows, a.tallies) (stepped_lasts v.part.plan.log2m (v.superstep + 1) (next_rows v) v.tallies (length v.part.preds) (sym (length-next_rows v)));
       sums = ap length a.sums ∙ omega (arith, length-append v.sums (total_of v.part.plan.log2m (next_rows v) ∷ []), s.sums, a.superstep);
       kept = ap length a.kept ∙ length-shifted v.part.plan.parts v.kept s.kept ∙ ap (λ n. 4 * n) (sym parts);
+      own = rw (part, a.kept) (λ i _. own_next v.part.plan.parts v.part.number v.kept s.kept s.own i);
       fit = rw (log2m, a.kept) (fit_shifted v.part.plan.log2m v.part.plan.parts v.kept s.fit);
     }

@@ -1,5 +1,5 @@
 -- Places of names in the window.
-use Rattle.std.proofs.Common.{◌≡◌, ℕ, zero, suc, ◌+◌, ◌-◌, ◌*◌, ◌<◌, ◌≤◌, ◌==◌, nat_eq, nat_le, nat_lt, Bool, true, false, not, ◌&&◌, ◌||◌, List, [], ◌∷◌, length, map, get_or, set, refl, ap, arith, sym, ◌∙◌, if◌then◌else◌, inl, inr, ◌⊎◌, subst, tests, length-set, is_some, IfSome}
+use Rattle.std.proofs.Common.{◌≡◌, ℕ, ◌+◌, ◌-◌, ◌*◌, ◌<◌, ◌≤◌, ◌==◌, nat_le, nat_lt, Bool, true, false, not, ◌&&◌, ◌||◌, List, length, get_or, set, refl, ap, arith, sym, ◌∙◌, if◌then◌else◌, inl, inr, is_some, IfSome}
 use Rattle.std.specs.Prelude.{Option, Some, None, Result, Ok, Err}
 use Rattle.std.proofs.lemmas.Bool.{cases_lt}
 use Rattle.std.proofs.lemmas.Bool.Decides.{nat_tests}
@@ -13,8 +13,8 @@ use Rattle.ball_model.specs.declared.names.TakeError.TheVariants as refusal
 use Rattle.ball_model.specs.PlanValue.{PlanValue}
 use Rattle.ball_model.specs.Job.{Job}
 use Rattle.ball_model.specs.Batches.{BatchValue, true_batch}
-use Rattle.ball_model.specs.Content.{Content, take_of, after_take, same_plan, in_window}
-use Rattle.ball_model.specs.State.{State, holds_in, place_of, KeepsTrue, content_of}
+use Rattle.ball_model.specs.Content.{Content, take_of, same_plan, in_window}
+use Rattle.ball_model.specs.State.{holds_in, place_of, KeepsTrue}
 
 -- a place in the window is a place of the list
 pub place_fits : (parts t s q : ℕ) → t ≤ s → s < t + 4 → q < parts → place_of parts t s q < 4 * parts
@@ -26,7 +26,7 @@ rows_apart : (parts a b k q : ℕ) → a < b → k < parts → a * parts + k ≡
 rows_apart parts a b k q lt fits e =
     let le : (a + 1) * parts ≤ b * parts = mul-le-mul_right parts (omega arith) in omega (arith, le)
 
-same_place : (parts a b k q : ℕ) → k < parts → q < parts → a * parts + k ≡ b * parts + q → (a ≡ b) × (k ≡ q)
+pub same_place : (parts a b k q : ℕ) → k < parts → q < parts → a * parts + k ≡ b * parts + q → (a ≡ b) × (k ≡ q)
 same_place parts a b k q kf qf e =
     elim (cases_lt a b) [
       | inl below ↦ absurd (rows_apart parts a b k q below kf e)

@@ -1,5 +1,5 @@
 -- What a replica tells of a vertex, where it stands for its content.
-use Rattle.std.proofs.Common.{◌≡◌, ℕ, ◌+◌, ◌^◌, suc, ◌/◌, ◌%◌, ◌<◌, ◌≤◌, Bool, true, false, ◌==◌, List, [], ◌∷◌, length, map, get_or, if◌then◌else◌, refl, ap, arith, sym, ◌∙◌, subst}
+use Rattle.std.proofs.Common.{◌≡◌, ℕ, ◌^◌, suc, ◌/◌, ◌%◌, ◌<◌, ◌≤◌, Bool, true, false, List, [], ◌∷◌, length, map, get_or, if◌then◌else◌, refl, ap, arith, sym, ◌∙◌}
 use Rattle.std.specs.List.{count_by, filter}
 use Rattle.std.proofs.lemmas.List.Sums.{length-filter}
 use Rattle.ball_model.specs.Counter.{ball_counter}
@@ -7,13 +7,13 @@ use Rattle.ball_model.specs.Change.{changed_at}
 use Rattle.std.proofs.lemmas.List.{length-map}
 use Rattle.ball_model.specs.Figures.{TallyValue, estimate_of}
 use Rattle.ball_model.specs.Supersteps.{tally_at}
-use Rattle.ball_model.specs.PlanValue.{PlanValue, mixing_of, vertices_of, part_size}
-use Rattle.ball_model.specs.Job.{Job, IsJob, PartValue}
+use Rattle.ball_model.specs.PlanValue.{PlanValue, mixing_of, part_size}
+use Rattle.ball_model.specs.Job.{Job}
 use Rattle.ball_model.specs.Batches.{changed_count}
 use Rattle.ball_model.specs.State.{State, StandsFor, rows_of, marks_of, tallies_of, own_vertices}
 use Rattle.replica.specs.Level.{nothing}
 use Rattle.replica.specs.Seen.{IsState}
-use Rattle.replica.proofs.OwnLaws.{vertex_of, place_below, vertex_at, at_own, part_size_le}
+use Rattle.replica.proofs.OwnLaws.{vertex_of, place_below, vertex_at, part_size_le}
 use Rattle.replica.proofs.LevelLaws.{plan_is, number_is, row_at, mark_at}
 use Rattle.replica.proofs.FigureLaws.{tally_in}
 

@@ -1,12 +1,12 @@
 -- Whatever the batches say, rows keep their shape, and no register falls.
-use Rattle.std.proofs.Common.{◌≡◌, ℕ, zero, suc, ◌+◌, ◌/◌, ◌%◌, ◌^◌, ◌<◌, ◌≤◌, max, Bool, true, false, ◌==◌, if◌then◌else◌, List, [], ◌∷◌, length, map, get_or, refl, ap, arith, sym, ◌∙◌, subst, IfSome}
+use Rattle.std.proofs.Common.{◌≡◌, ℕ, zero, suc, ◌/◌, ◌%◌, ◌<◌, ◌≤◌, Bool, true, false, ◌==◌, if◌then◌else◌, List, [], ◌∷◌, length, get_or, refl, ap, arith, sym, ◌∙◌, subst, IfSome}
 use Rattle.std.specs.Prelude.{Option, Some, None}
-use Rattle.std.specs.List.{All, fold, range_with_len}
+use Rattle.std.specs.List.{All}
 use Rattle.std.proofs.lemmas.List.FromFn.{length-map-range_with_len, get_or-map-range_with_len}
 use Rattle.ball_model.specs.Counter.{max_each}
 use Rattle.ball_model.specs.Laws.{IsCounterRow}
 use Rattle.ball_model.specs.Figures.{estimate_of}
-use Rattle.ball_model.specs.Batches.{BatchValue, IsBatch, IsRow, find_row}
+use Rattle.ball_model.specs.Batches.{BatchValue, IsRow, find_row}
 use Rattle.ball_model.specs.PlanValue.{PlanValue, IsPlan, part_size}
 use Rattle.ball_model.specs.Job.{PartValue, IsPart}
 use Rattle.ball_model.proofs.EstimateLaws.{estimate_of-grows_wide}

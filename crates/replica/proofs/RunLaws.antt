@@ -1,74 +1,112 @@
 -- Whole runs.
-use Rattle.std.proofs.Common.{◌≡◌, ℕ, zero, suc, ◌+◌, ◌/◌, ◌%◌, ◌<◌, ◌≤◌, nat_le, nat_lt, max, Bool, true, false, not, ◌&&◌, ◌||◌, ◌==◌, if◌then◌else◌, List, [], ◌∷◌, length, get_or, refl, ap, arith, sym, ◌∙◌, subst, inl, inr}
+use Rattle.std.proofs.Common.{◌≡◌, ℕ, zero, suc, ◌+◌, ◌/◌, ◌%◌, ◌<◌, ◌≤◌, nat_le, max, Bool, true, false, not, ◌&&◌, ◌==◌, if◌then◌else◌, List, [], ◌∷◌, length, get_or, refl, ap, arith, sym, ◌∙◌, subst, inl, inr}
 use Rattle.std.specs.Prelude.{Option, None, Some, Result, Ok, Err, OnOk, OnErr, IsTrue}
 use Rattle.std.proofs.lemmas.Bool.{cases_lt}
 use Rattle.std.proofs.lemmas.Bool.Decides.{nat_tests}
 use Rattle.ball_model.specs.declared.names.BatchName.{BatchName}
+use Rattle.ball_model.specs.declared.names.Taken.{Taken}
+use Rattle.ball_model.specs.declared.names.TakeError.{TakeError}
 use Rattle.ball_model.specs.declared.names.CloseError.{CloseError}
-use Rattle.ball_model.specs.declared.names.Verdict.{Verdict}
+use Rattle.ball_model.specs.declared.names.MergeError.{MergeError}
 use Rattle.ball_model.specs.declared.names.Verdict.TheVariants as verdict
 use Rattle.ball_model.specs.Graph.{Graph, IsGraph, is_path, in_ball}
 use Rattle.ball_model.specs.Counter.{Mixing, counter_of, ball_counter}
 use Rattle.ball_model.specs.Change.{changed_at, any_changed}
 use Rattle.ball_model.specs.PlanValue.{PlanValue, mixing_of, part_size}
-use Rattle.ball_model.specs.Job.{Job, IsJob}
-use Rattle.ball_model.specs.Content.{Content, take_of, is_new, after_take, missing_of, verdict_unless, verdict_at, verdict_of, close_of, closed}
+use Rattle.ball_model.specs.Job.{Job}
+use Rattle.ball_model.specs.Content.{Content, take_of, is_new, after_take, missing_of, verdict_unless, verdict_at, verdict_of, close_of, closed, same_plan}
 use Rattle.ball_model.specs.State.{State, StandsFor, content_of}
-use Rattle.ball_model.proofs.PathLaws.{in_ball-found, in_ball-finds, in_ball-grows, same_bool}
+use Rattle.ball_model.proofs.PathLaws.{same_true, in_ball-found, in_ball-finds, in_ball-grows, same_bool}
 use Rattle.ball_model.proofs.CounterLaws.{counter_of-same}
 use Rattle.ball_model.proofs.ChangeLaws.{changed_next}
 use Rattle.ball_model.proofs.QuietLaws.{quiet_stays, none_in}
-use Rattle.replica.specs.Runs.{Call, Take, Close, content_after, content_after_all, content_closed, start_content, HasContent, Takes, Closes, Did, Made, AreAlike}
+use Rattle.ball_model.specs.Join.{joined, merge_of}
+use Rattle.replica.specs.Runs.{Call, Take, Close, Merge, Answer, Took, Closed, Merged, answer_of, answers_of, content_after, content_after_all, content_closed, start_content, HasContent, Takes, Did, Made}
 use Rattle.std.specs.Str.{bytes_eq}
 use Rattle.std.proofs.lemmas.Slice.Eq.{bytes_eq-Decides}
 use Rattle.replica.proofs.OwnLaws.{vertex_of, place_below, vertex_at}
 use Rattle.replica.proofs.LevelLaws.{plan_is, number_is, row_at}
-use Rattle.replica.proofs.BusyLaws.{found_verdict-is, found_close-is}
-use Rattle.replica.proofs.SentLaws.{sent_true}
 
 -- contents with the same names are the same
 same_content : (v : State) (c : Content) → v.superstep ≡ c.superstep → ((s q : ℕ) → (content_of v).holds s q ≡ c.holds s q) → content_of v ≡ c
 same_content v c t names = λ i. record { superstep = t i; holds = λ s q. names s q i }
 
-has_content : (j : Job) (p : ℕ) (c : Content) (v : State) → HasContent j p c v → content_of v ≡ c
+pub has_content : (j : Job) (p : ℕ) (c : Content) (v : State) → HasContent j p c v → content_of v ≡ c
 has_content j p c v h = same_content v c h.stands.superstep h.names
 
-took : (j : Job) (p : ℕ) (name : BatchName) (c : Content) (v w : State) → HasContent j p c v → Takes j p name v w → HasContent j p (content_after j p c (Take name)) w
-took j p name c v w h k = record {
+-- the answer to a batch of the job
+took_answer : (j : Job) (p : ℕ) (name : BatchName) (r : Result Taken TakeError) (c : Content) (v w : State) → HasContent j p c v → Takes j p name r v w → r ≡ take_of j.plan p c j.plan name
+took_answer j p name r c v w h k =
+    k.answer
+    ∙ ap (λ plan. take_of plan v.part.number (content_of v) j.plan name) (plan_is j p c.superstep v h.stands)
+    ∙ ap (λ n. take_of j.plan n (content_of v) j.plan name) (number_is j p c.superstep v h.stands)
+    ∙ ap (λ (d : Content). take_of j.plan p d j.plan name) (has_content j p c v h)
+
+took : (j : Job) (p : ℕ) (name : BatchName) (r : Result Taken TakeError) (c : Content) (v w : State) → HasContent j p c v → Takes j p name r v w → HasContent j p (content_after j p c (Take name)) w
+took j p name r c v w h k = record {
   stands = k.stands c.superstep h.stands;
   names = λ s q.
-      let F : PlanValue → ℕ → Content → Bool = λ plan n d. after_take (is_new (take_of plan n d j.plan name)) d.holds name.superstep name.source s q in
       k.names s q
-      ∙ ap (λ plan. F plan v.part.number (content_of v)) (plan_is j p c.superstep v h.stands)
-      ∙ ap (λ n. F j.plan n (content_of v)) (number_is j p c.superstep v h.stands)
-      ∙ ap (F j.plan p) (has_content j p c v h);
+      ∙ ap (λ (d : Content). after_take (is_new r) d.holds name.superstep name.source s q) (has_content j p c v h)
+      ∙ ap (λ (a : Result Taken TakeError). after_take (is_new a) c.holds name.superstep name.source s q) (took_answer j p name r c v w h k);
 }
 
-shut : (j : Job) (p : ℕ) (r : Result ℕ CloseError) (c : Content) (v w : State) → HasContent j p c v → r ≡ close_of j p c → OnErr r (w ≡ v) → OnOk r ((s q : ℕ) → (content_of w).holds s q ≡ (closed (content_of v)).holds s q) → OnOk r (StandsFor j p (c.superstep + 1) w) →
+shut : (j : Job) (p : ℕ) (r : Result ℕ CloseError) (c : Content) (v w : State) → HasContent j p c v → OnErr r (w ≡ v) → OnOk r ((s q : ℕ) → (content_of w).holds s q ≡ (closed (content_of v)).holds s q) → OnOk r (StandsFor j p (c.superstep + 1) w) →
     HasContent j p (content_closed r c) w
-shut j p (Ok t) c v w h is refused names stands = record {
+shut j p (Ok t) c v w h refused names stands = record {
   stands = stands;
   names = λ s q. names s q ∙ ap (λ (d : Content). (closed d).holds s q) (has_content j p c v h);
 }
-shut j p (Err e) c v w h is refused names stands = subst (λ (u : State). HasContent j p c u) (sym refused) h
+shut j p (Err e) c v w h refused names stands = subst (λ (u : State). HasContent j p c u) (sym refused) h
 
--- one call
-did : (j : Job) (p : ℕ) (call : Call) (c : Content) (v w : State) → HasContent j p c v → Did j p call v w → HasContent j p (content_after j p c call) w
-did j p (Take name) c v w h k = took j p name c v w h k
-did j p Close c v w h k =
-    let r = k.0 in
-    let is : r ≡ close_of j p c = k.1.answer c.superstep h.stands ∙ ap (close_of j p) (has_content j p c v h) in
-    subst (λ (q : Result ℕ CloseError). HasContent j p (content_closed q c) w) is (shut j p r c v w h is k.1.refused k.1.names (k.1.stands c.superstep h.stands))
+merged : (j : Job) (p : ℕ) (d : Content) (r : Result (Unit {0}) MergeError) (c : Content) (v w : State) → HasContent j p c v → r ≡ Ok tt → OnOk r ((s q : ℕ) → (content_of w).holds s q ≡ (joined (content_of v) d).holds s q) → OnOk r (StandsFor j p (max c.superstep d.superstep) w) →
+    HasContent j p (joined c d) w
+merged j p d (Ok u) c v w h is names stands = record {
+  stands = stands;
+  names = λ s q. names s q ∙ ap (λ (e : Content). (joined e d).holds s q) (has_content j p c v h);
+}
+merged j p d (Err e) c v w h is names stands = absurd (cc)
 
--- a list of calls
-made : (j : Job) (p : ℕ) (calls : List Call) (c : Content) (v w : State) → HasContent j p c v → Made j p v calls w → HasContent j p (content_after_all j p c calls) w
-unfolding Made content_after_all
-made j p [] c v w h m = subst (λ (u : State). HasContent j p c u) (sym m) h
-made j p (call ∷ calls) c v w h m = made j p calls (content_after j p c call) m.0 w (did j p call c v m.0 h m.1) m.2
+same_text : (x : List ℕ) → bytes_eq x x ≡ true
+same_text x = grind (arith, bytes_eq-Decides)
+
+-- a plan is the same as itself
+same_plan-self : (a : PlanValue) → same_plan a a ≡ true
+same_plan-self a = rw (same_true a.log2m, same_true a.seed, same_true a.parts, same_true a.limit, same_true a.vertices, same_text a.job) refl
+
+-- a replica and one of the same partition of the job
+pub same_job : (p : ℕ) (plan : PlanValue) → merge_of plan p plan p ≡ Ok tt
+same_job p plan = rw (same_plan-self plan, same_true p) refl
+
+-- one call: its answer, and the content after it
+did : (j : Job) (p : ℕ) (call : Call) (answer : Answer) (c : Content) (v w : State) → HasContent j p c v → Did j p call answer v w → (answer ≡ answer_of j p c call) × HasContent j p (content_after j p c call) w
+did j p (Take name) (Took r) c v w h k = (ap Took (took_answer j p name r c v w h k), took j p name r c v w h k)
+did j p Close (Closed r) c v w h k =
+    let is : r ≡ close_of j p c = k.answer c.superstep h.stands ∙ ap (close_of j p) (has_content j p c v h) in
+    (ap Closed is, subst (λ (q : Result ℕ CloseError). HasContent j p (content_closed q c) w) is (shut j p r c v w h k.refused k.names (k.stands c.superstep h.stands)))
+did j p (Merge d) (Merged r) c v w h k =
+    let is : r ≡ Ok tt = k.1.answer c.superstep h.stands k.0 in
+    (ap Merged (is ∙ sym (same_job p j.plan)), merged j p d r c v w h is k.1.names (k.1.stands c.superstep h.stands))
+did j p call answer c v w h k = absurd k
+
+-- a list of calls: their answers, and the content after them
+pub made : (j : Job) (p : ℕ) (calls : List Call) (answers : List Answer) (c : Content) (v w : State) → HasContent j p c v → Made j p v calls answers w →
+    (answers ≡ answers_of j p c calls) × HasContent j p (content_after_all j p c calls) w
+unfolding Made content_after_all answers_of
+made j p [] [] c v w h m = (refl, subst (λ (u : State). HasContent j p c u) (sym m) h)
+made j p (call ∷ calls) (answer ∷ answers) c v w h m =
+    let first = did j p call answer c v m.0 h m.1 in
+    let rest = made j p calls answers (content_after j p c call) m.0 w first.1 m.2 in
+    (λ i. first.0 i ∷ rest.0 i, rest.1)
+made j p calls answers c v w h m = absurd m
 
 -- THE RUN: from the start, by any list of calls, a replica stands for what the calls make of its content
-pub run_stands : (j : Job) (p : ℕ) (calls : List Call) (v w : State) → HasContent j p start_content v → Made j p v calls w → HasContent j p (content_after_all j p start_content calls) w
-run_stands j p calls v w h m = made j p calls start_content v w h m
+pub run_stands : (j : Job) (p : ℕ) (calls : List Call) (answers : List Answer) (v w : State) → HasContent j p start_content v → Made j p v calls answers w → HasContent j p (content_after_all j p start_content calls) w
+run_stands j p calls answers v w h m = (made j p calls answers start_content v w h m).1
+
+-- and it answers as the contents say
+pub run_answers : (j : Job) (p : ℕ) (calls : List Call) (answers : List Answer) (v w : State) → HasContent j p start_content v → Made j p v calls answers w → answers ≡ answers_of j p start_content calls
+run_answers j p calls answers v w h m = (made j p calls answers start_content v w h m).0
 
 stable_from : (o : Option ℕ) (early changed last : Bool) → verdict_unless o (if early && not changed then verdict.Stable else (if last then verdict.Limit else verdict.GoOn)) ≡ Some verdict.Stable → (o ≡ None) × (early ≡ true) × (changed ≡ false)
 stable_from (Some q) early changed last e = absurd (cc)
@@ -104,25 +142,6 @@ stable_is j p t v h = (
   λ e. stable_at j t (missing_of j.plan.parts p (content_of v)) (sym (verdict_here j p t v h) ∙ e),
   λ r. verdict_here j p t v h ∙ stable_to j t (missing_of j.plan.parts p (content_of v)) r.0 r.1 r.2,
 )
-
--- two replicas with one content are alike
-pub alike : (j : Job) (p : ℕ) (c : Content) (v w : State) → HasContent j p c v → HasContent j p c w → AreAlike v w
-alike j p c v w h k =
-    let t = c.superstep in
-    let part = h.stands.part ∙ sym k.stands.part in
-    let same : content_of v ≡ content_of w = has_content j p c v h ∙ sym (has_content j p c w k) in
-    record {
-      superstep = h.stands.superstep ∙ sym k.stands.superstep;
-      rows = h.stands.rows ∙ sym k.stands.rows;
-      changed = h.stands.marks ∙ sym k.stands.marks;
-      tallies = h.stands.tallies ∙ sym k.stands.tallies;
-      sums = h.stands.sums ∙ sym k.stands.sums;
-      missing = ap (λ a. missing_of a.plan.parts a.number (content_of v)) part ∙ ap (missing_of w.part.plan.parts w.part.number) same;
-      verdict = found_verdict-is j p t v h.stands ∙ ap (verdict_of j p) same ∙ sym (found_verdict-is j p t w k.stands);
-      close = found_close-is j p t v h.stands ∙ ap (close_of j p) same ∙ sym (found_close-is j p t w k.stands);
-      take = λ plan name. ap (λ a. take_of a.plan a.number (content_of v) plan name) part ∙ ap (λ (d : Content). take_of w.part.plan w.part.number d plan name) same;
-      out = λ target lt. sent_true j p t target v h.stands lt ∙ sym (sent_true j p t target w k.stands (subst (λ n. target < n) (ap (λ a. a.plan.parts) part) lt));
-    }
 
 -- a ball keeps its members
 ball_keeps : (g : Graph) (x t k y : ℕ) → IsGraph g → x < g.vertices → in_ball g x t y ≡ true → in_ball g x (t + k) y ≡ true

@@ -1,22 +1,20 @@
 -- What a replica sends is the true batch, where it stands for its content.
-use Rattle.std.proofs.Common.{◌≡◌, ℕ, zero, suc, ◌+◌, ◌-◌, ◌*◌, ◌/◌, ◌%◌, ◌^◌, ◌<◌, ◌≤◌, Bool, true, false, ◌&&◌, ◌==◌, List, [], ◌∷◌, ◌++◌, length, length-append, map, get_or, take, if◌then◌else◌, refl, ap, arith, sym, subst, ◌∙◌, inl, inr, tests}
+use Rattle.std.proofs.Common.{◌≡◌, ℕ, zero, suc, ◌+◌, ◌-◌, ◌*◌, ◌^◌, ◌<◌, ◌≤◌, Bool, true, false, ◌&&◌, ◌==◌, List, [], ◌∷◌, ◌++◌, length, length-append, map, get_or, take, if◌then◌else◌, refl, ap, arith, sym, subst, ◌∙◌, inl, inr}
 use Rattle.std.specs.Int.{bit_at}
-use Rattle.std.specs.List.{list_any, range_with_len, flat_map, filter, sum_by, count_by, AllByRecursion}
+use Rattle.std.specs.List.{range_with_len, flat_map, filter, sum_by, count_by, AllByRecursion}
 use Rattle.std.proofs.Math.Nat.{pow-succ'}
 use Rattle.std.proofs.lemmas.Nat.Bits.{bit_at_cat_low, bit_at_cat_high}
 use Rattle.std.proofs.lemmas.Bool.{cases_lt}
-use Rattle.std.proofs.lemmas.Bool.Decides.{nat_tests}
 use Rattle.std.proofs.lemmas.List.{append-nil, take_more, get_or_default}
 use Rattle.std.proofs.lemmas.List.Elements.{filter-append}
 use Rattle.std.proofs.lemmas.List.Concat.{flat_map-append}
 use Rattle.std.proofs.lemmas.List.Sums.{sum_by-append, sum_by-cons, length-filter}
-use Rattle.ball_model.specs.declared.names.BatchName.{BatchName}
 use Rattle.ball_model.specs.Counter.{ball_counter}
 use Rattle.ball_model.specs.Change.{changed_at}
-use Rattle.ball_model.specs.PlanValue.{PlanValue, IsPlan, mixing_of, vertices_of, part_size}
-use Rattle.ball_model.specs.Job.{Job, PartValue, IsPart, part_of, feeds_into, feed_mask}
+use Rattle.ball_model.specs.PlanValue.{PlanValue, mixing_of, part_size}
+use Rattle.ball_model.specs.Job.{Job, PartValue, part_of, feeds_into, feed_mask}
 use Rattle.ball_model.specs.Laws.{IsCounterRow}
-use Rattle.ball_model.specs.Batches.{BatchValue, IsRow, true_batch, sent_vertices, changed_count, ids_of}
+use Rattle.ball_model.specs.Batches.{BatchValue, IsRow, true_batch, sent_vertices, ids_of}
 use Rattle.ball_model.specs.State.{State, StandsFor}
 use Rattle.ball_model.proofs.PartLaws.{range_more, vertices_of-strided}
 use Rattle.replica.specs.Seen.{IsState}

@@ -1,6 +1,6 @@
 -- The batches kept, one superstep later.
-use Rattle.std.proofs.Common.{◌≡◌, ℕ, zero, suc, ◌+◌, ◌-◌, ◌*◌, ◌<◌, ◌≤◌, ◌==◌, nat_le, nat_lt, Bool, true, false, not, ◌&&◌, ◌||◌, List, [], ◌∷◌, ◌++◌, length, map, get_or, set, take, drop, replicate, refl, ap, arith, sym, ◌∙◌, inl, inr, subst, is_some, IfSome, length-drop}
-use Rattle.std.specs.Prelude.{Option, Some, None}
+use Rattle.std.proofs.Common.{◌≡◌, ℕ, zero, suc, ◌+◌, ◌-◌, ◌*◌, ◌<◌, ◌≤◌, nat_lt, true, false, ◌&&◌, List, [], ◌∷◌, ◌++◌, length, map, get_or, take, drop, replicate, refl, ap, arith, sym, ◌∙◌, inl, inr, subst, is_some, IfSome, length-drop}
+use Rattle.std.specs.Prelude.{Option, None}
 use Rattle.std.proofs.lemmas.Bool.{cases_lt}
 use Rattle.std.proofs.Math.ListN.{get_or-append}
 use Rattle.std.proofs.lemmas.List.{get_or-drop, get_or-append_right, take_at, drop_at, map-append, drop-map}
@@ -11,7 +11,7 @@ use Rattle.ball_model.specs.PlanValue.{PlanValue}
 use Rattle.ball_model.specs.Job.{Job}
 use Rattle.ball_model.specs.Content.{in_window}
 use Rattle.ball_model.specs.Batches.{BatchValue, true_batch}
-use Rattle.ball_model.specs.State.{State, holds_in, place_of, KeepsTrue}
+use Rattle.ball_model.specs.State.{holds_in, place_of, KeepsTrue}
 use Rattle.replica.specs.Level.{shifted}
 use Rattle.replica.proofs.PlaceLaws.{InWindow, window_from, window_to, place_fits}
 
@@ -37,6 +37,37 @@ pub get_none : (n i : ℕ) → get_or (replicate {A = Option BatchValue} n None)
 get_none zero i = refl
 get_none (suc n) zero = refl
 get_none (suc n) (suc i) = get_none n i
+
+-- nothing stands past the end
+pub past_end : (l : List (Option BatchValue)) (k : ℕ) → length l ≤ k → get_or l k None ≡ None
+past_end [] k beyond = refl
+past_end (o ∷ l) zero beyond = absurd (omega arith)
+past_end (o ∷ l) (suc k) beyond = past_end l k (omega arith)
+
+-- what stands at a place after a shift
+pub shifted_at : (n k : ℕ) (kept : List (Option BatchValue)) → get_or (shifted n kept) k None ≡ get_or kept (n + k) None
+shifted_at n k kept =
+    elim (cases_lt k (length (drop n kept))) [
+      | inl before ↦ get_or-append (drop n kept) (replicate n None) None k before ∙ get_or-drop n kept k None
+      | inr after ↦
+          get_or-append_right (drop n kept) (replicate n None) (length (drop n kept)) k None refl after
+          ∙ get_none n (k - length (drop n kept))
+          ∙ sym (past_end kept (n + k) (omega (arith, length-drop n kept)))
+    ]
+
+-- no batch of the own partition is kept, at any place that one would have
+pub own_anywhere : (parts p : ℕ) (kept : List (Option BatchValue)) → length kept ≡ 4 * parts → ((i : ℕ) → i < 4 → get_or kept (i * parts + p) None ≡ None) → (i : ℕ) → get_or kept (i * parts + p) None ≡ None
+own_anywhere parts p kept long own i =
+    elim (cases_lt i 4) [
+      | inl inside ↦ own i inside
+      | inr beyond ↦ let le : 4 * parts ≤ i * parts = mul-le-mul_right parts (omega arith) in past_end kept (i * parts + p) (omega (arith, long, le))
+    ]
+
+-- none is kept some supersteps later
+pub own_shifted : (parts p n : ℕ) (kept : List (Option BatchValue)) → length kept ≡ 4 * parts → ((i : ℕ) → i < 4 → get_or kept (i * parts + p) None ≡ None) → (i : ℕ) → get_or (shifted (n * parts) kept) (i * parts + p) None ≡ None
+own_shifted parts p n kept long own i =
+    let e : n * parts + (i * parts + p) ≡ (n + i) * parts + p = omega arith in
+    shifted_at (n * parts) (i * parts + p) kept ∙ ap (λ k. get_or kept k None) e ∙ own_anywhere parts p kept long own (n + i)
 
 -- what is new is empty
 pub empty_at : (parts t q : ℕ) (kept : List (Option BatchValue)) → length kept ≡ 4 * parts → q < parts →

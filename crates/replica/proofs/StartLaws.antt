@@ -1,7 +1,7 @@
 -- What a replica begins with.
-use Rattle.std.proofs.Common.{◌≡◌, ℕ, zero, suc, ◌+◌, ◌*◌, ◌^◌, ◌/◌, ◌++◌, ◌<◌, ◌≤◌, max, Bool, true, false, not, ◌&&◌, is_some, IfSome, lit<, List, [], ◌∷◌, length, map, get_or, set, replicate, refl, ap, arith, sym, subst, ◌∙◌}
-use Rattle.std.specs.Prelude.{Option, None, Some, Result, Ok, Err, IfOk}
-use Rattle.std.specs.List.{range_with_len, sum_by, All}
+use Rattle.std.proofs.Common.{◌≡◌, ℕ, zero, suc, ◌+◌, ◌*◌, ◌^◌, ◌/◌, ◌++◌, ◌<◌, ◌≤◌, max, Bool, true, false, not, ◌&&◌, is_some, lit<, List, [], ◌∷◌, length, map, get_or, set, replicate, refl, ap, arith, sym, subst, ◌∙◌}
+use Rattle.std.specs.Prelude.{Option, None, Result, Ok, Err, IfOk}
+use Rattle.std.specs.List.{sum_by}
 use Rattle.std.specs.Str.{bytes_eq}
 use Rattle.std.proofs.lemmas.List.{get_or-replicate, length-replicate, length-set, get_or-set_same, same_lists}
 use Rattle.std.proofs.lemmas.List.FromFn.{length-map-range_with_len, get_or-map-range_with_len}
@@ -117,6 +117,7 @@ starts_state part v ok s =
       lasts = rw (s.tallies, same, s.rows) (started_lasts part.plan.log2m (first_rows part));
       sums = rw (s.sums, s.superstep) zero_sum;
       kept = rw (s.kept, same) (length-replicate {A = Option BatchValue} (4 * part.plan.parts) None);
+      own = rw (same, s.kept) (λ i _. get_none (4 * part.plan.parts) (i * part.plan.parts + part.number));
       fit = rw (same, s.kept) (none_fit part.plan.log2m (4 * part.plan.parts));
     }
 

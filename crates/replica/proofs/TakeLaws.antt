@@ -1,20 +1,19 @@
 -- A state that keeps one more batch.
-use Rattle.std.proofs.Common.{◌≡◌, ℕ, zero, suc, [], ◌∷◌, IfSome, ◌+◌, ◌-◌, ◌*◌, ◌<◌, ◌≤◌, ◌==◌, Bool, true, false, not, ◌&&◌, ◌||◌, List, length, get_or, set, refl, ap, arith, sym, ◌∙◌, subst}
-use Rattle.std.specs.Prelude.{Option, Some, None, Result, Ok, Err}
-use Rattle.ball_model.specs.declared.names.Taken.{Taken}
+use Rattle.std.proofs.Common.{◌≡◌, ℕ, zero, suc, [], ◌∷◌, IfSome, ◌+◌, ◌-◌, ◌*◌, ◌<◌, true, List, length, get_or, set, refl, ap, arith, sym, ◌∙◌, subst}
+use Rattle.std.specs.Prelude.{Option, Some, None, Ok}
 use Rattle.ball_model.specs.declared.names.Taken.TheVariants as taken
-use Rattle.ball_model.specs.declared.names.TakeError.{TakeError}
 use Rattle.ball_model.specs.PlanValue.{PlanValue}
-use Rattle.ball_model.specs.Job.{Job, PartValue, part_of}
+use Rattle.ball_model.specs.Job.{Job, PartValue}
 use Rattle.ball_model.specs.Batches.{BatchValue, IsBatch, true_batch}
-use Rattle.ball_model.specs.Content.{Content, take_of, after_take, is_new, same_plan}
-use Rattle.ball_model.specs.State.{State, StandsFor, holds_in, place_of, KeepsTrue, content_of}
+use Rattle.ball_model.specs.Content.{take_of, after_take, same_plan}
+use Rattle.ball_model.specs.State.{State, StandsFor, place_of, content_of}
 use Rattle.replica.specs.Kept.{IsFit, AreFit}
 use Rattle.replica.specs.Seen.{IsState}
 use Rattle.ball_model.specs.Job.{IsPart}
-use Rattle.std.proofs.lemmas.List.{length-set}
+use Rattle.std.proofs.lemmas.Bool.Decides.{nat_tests}
+use Rattle.std.proofs.lemmas.List.{length-set, get_or-set_other}
 use Rattle.replica.proofs.LevelLaws.{plan_is, number_is}
-use Rattle.replica.proofs.PlaceLaws.{InWindow, IsNew, take_of-new, same_parts, same_limit, same_width, holds_in-set, keeps-set}
+use Rattle.replica.proofs.PlaceLaws.{InWindow, take_of-new, same_place, same_parts, same_limit, same_width, holds_in-set, keeps-set}
 
 -- the place that a batch has in a state
 abbrev pub place_in : State → BatchValue → ℕ
@@ -78,6 +77,14 @@ fit_set log2m kept i b fit h = record { fit = λ k. by_place kept i k (h.fit k) 
     by_place (o ∷ l) (suc n) zero old = old
     by_place (o ∷ l) (suc n) (suc k) old = by_place l n k old
 
+-- a batch of another partition has another place than one of the own would have
+pub keeps1_own : (v w : State) (b : BatchValue) → Keeps1 v w b → IsState v → (i : ℕ) → i < 4 → get_or w.kept (i * w.part.plan.parts + w.part.number) None ≡ None
+keeps1_own v w b k s i lt =
+    let parts = v.part.plan.parts in
+    let other = k.window.other in
+    let apart : i * parts + v.part.number ≡ place_in v b → ⊥ = λ e. let same : v.part.number ≡ b.name.source = (same_place parts i (b.name.superstep - v.superstep) v.part.number b.name.source s.part.number k.window.source e).1 in grind (arith, nat_tests) in
+    rw (k.part, k.kept) (get_or-set_other v.kept (place_in v b) (i * parts + v.part.number) (Some b) None apart ∙ s.own i lt)
+
 -- what is kept stays fit
 pub keeps1_fit : (v w : State) (b : BatchValue) → Keeps1 v w b → IsBatch b → same_plan v.part.plan b.plan ≡ true → AreFit v.part.plan.log2m v.kept → AreFit v.part.plan.log2m w.kept
 keeps1_fit v w b k ok job h =
@@ -94,5 +101,6 @@ keeps1_state v w b k ok job s = record {
   lasts = rw (k.tallies, k.part, k.rows) s.lasts;
   sums = rw (k.sums, k.superstep) s.sums;
   kept = ap length k.kept ∙ simp length-set s.kept ∙ ap (λ (p : PartValue). 4 * p.plan.parts) (sym k.part);
+  own = keeps1_own v w b k s;
   fit = subst (λ (n : ℕ). AreFit n w.kept) (ap (λ (p : PartValue). p.plan.log2m) (sym k.part)) (keeps1_fit v w b k ok job s.fit);
 }

@@ -1,21 +1,17 @@
 -- Some vertex is changed exactly where some partition counts one, and then the end is further.
-use Rattle.std.proofs.Common.{◌≡◌, ℕ, zero, suc, ◌+◌, ◌-◌, ◌*◌, ◌%◌, ◌<◌, ◌≤◌, nat_le, Bool, true, false, not, ◌&&◌, ◌||◌, ◌==◌, List, [], ◌∷◌, length, if◌then◌else◌, refl, ap, arith, sym, ◌∙◌, inl, inr, subst}
-use Rattle.std.specs.Prelude.{Option, None, Some}
-use Rattle.std.specs.List.{list_any, range_with_len, count_by, filter, AllByRecursion}
+use Rattle.std.proofs.Common.{◌≡◌, ℕ, zero, suc, ◌+◌, ◌%◌, ◌<◌, ◌≤◌, nat_le, Bool, true, false, not, ◌&&◌, ◌==◌, List, [], ◌∷◌, length, if◌then◌else◌, refl, arith, sym, ◌∙◌, inl, inr, subst}
+use Rattle.std.specs.List.{list_any, range_with_len, filter, AllByRecursion}
 use Rattle.std.proofs.lemmas.Bool.{cases_lt}
 use Rattle.std.proofs.lemmas.Bool.Decides.{nat_tests}
 use Rattle.std.proofs.lemmas.List.Sums.{length-filter}
-use Rattle.ball_model.specs.declared.names.Verdict.{Verdict}
 use Rattle.ball_model.specs.declared.names.Verdict.TheVariants as verdict
-use Rattle.ball_model.specs.Graph.{Graph}
-use Rattle.ball_model.specs.Counter.{Mixing}
 use Rattle.ball_model.specs.Change.{changed_at, any_changed}
 use Rattle.ball_model.specs.Supersteps.{end_of}
 use Rattle.ball_model.specs.PlanValue.{vertices_of, mixing_of}
 use Rattle.ball_model.specs.Job.{Job, IsJob}
 use Rattle.ball_model.specs.Batches.{changed_count}
 use Rattle.ball_model.specs.Content.{verdict_at}
-use Rattle.ball_model.proofs.PathLaws.{any_range, or_cases, eq_true}
+use Rattle.ball_model.proofs.PathLaws.{or_cases, eq_true}
 use Rattle.ball_model.proofs.QuietLaws.{none_in}
 use Rattle.ball_model.proofs.EndLaws.{end_within, end_reached}
 use Rattle.replica.proofs.OwnLaws.{is_vertex, all_own}

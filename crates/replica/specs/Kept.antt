@@ -1,5 +1,5 @@
 -- What a replica's fields keep, whatever the batches say.
-use Rattle.std.specs.Prelude.{◌≡◌, ℕ, ◌+◌, ◌/◌, ◌%◌, ◌^◌, ◌<◌, ◌≤◌, Bool, false, List, [], map, length, Option, None, IfSome, slice_index_or}
+use Rattle.std.specs.Prelude.{◌≡◌, ℕ, ◌/◌, ◌%◌, ◌<◌, ◌≤◌, Bool, false, List, [], length, Option, None, IfSome, slice_index_or}
 use Rattle.ball_model.specs.Batches.{BatchValue, IsBatch}
 use Rattle.ball_model.specs.Laws.{IsCounterRow}
 use Rattle.ball_model.specs.Figures.{TallyValue, estimate_of}

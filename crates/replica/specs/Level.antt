@@ -1,5 +1,5 @@
 -- A superstep over plain data: what a replica that holds its level makes of what it has (HyperBall 2013).
-use Rattle.std.specs.Prelude.{◌≡◌, ℕ, ◌+◌, ◌-◌, ◌*◌, ◌/◌, ◌%◌, ◌<◌, Bool, false, not, ◌==◌, List, [], ◌∷◌, map, length, Option, None, Some, Result, if◌then◌else◌, slice_index_or, drop, ◌++◌, replicate, ◌&&◌, nat_le}
+use Rattle.std.specs.Prelude.{◌≡◌, ℕ, ◌+◌, ◌-◌, ◌*◌, ◌/◌, ◌%◌, Bool, false, not, ◌==◌, List, [], ◌∷◌, map, length, Option, None, Some, Result, if◌then◌else◌, slice_index_or, drop, ◌++◌, replicate, ◌&&◌, nat_le}
 use Rattle.std.specs.List.{range_with_len, list_any, fold, sum_by}
 use Rattle.std.specs.Str.{bytes_eq}
 use Rattle.ball_model.specs.Counter.{max_each}

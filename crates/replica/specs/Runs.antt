@@ -1,26 +1,41 @@
--- What a replica promises over whole runs: lists of calls, and what they make of a replica.
-use Rattle.std.specs.Prelude.{◌≡◌, ◌↔◌, ℕ, ◌+◌, ◌/◌, ◌%◌, ◌<◌, ◌≤◌, Bool, false, List, [], ◌∷◌, IsTrue, Option, None, Some, Result, Ok, Err, OnOk, OnErr, length, slice_index_or}
+-- What a replica promises over whole runs: lists of calls, what each answers, and what they make of a replica.
+use Rattle.std.specs.Prelude.{◌≡◌, ◌≢◌, ◌↔◌, ℕ, ◌+◌, ◌/◌, ◌%◌, ◌<◌, ◌≤◌, Bool, false, List, [], ◌∷◌, IsTrue, None, Some, Result, Ok, Err, OnOk, OnErr, max, slice_index_or}
 use Rattle.ball_model.specs.declared.names.BatchName.{BatchName}
 use Rattle.ball_model.specs.declared.names.Taken.{Taken}
 use Rattle.ball_model.specs.declared.names.TakeError.{TakeError}
 use Rattle.ball_model.specs.declared.names.CloseError.{CloseError}
-use Rattle.ball_model.specs.declared.names.Verdict.{Verdict}
+use Rattle.ball_model.specs.declared.names.MergeError.{MergeError}
+use Rattle.ball_model.specs.declared.names.MergeError.TheVariants as refusal
 use Rattle.ball_model.specs.declared.names.Verdict.TheVariants as verdict
 use Rattle.ball_model.specs.Graph.{is_path}
 use Rattle.ball_model.specs.Counter.{counter_of}
 use Rattle.ball_model.specs.Change.{any_changed}
 use Rattle.ball_model.specs.Supersteps.{end_of}
-use Rattle.ball_model.specs.PlanValue.{PlanValue, mixing_of}
-use Rattle.ball_model.specs.Job.{Job, IsJob}
-use Rattle.ball_model.specs.Content.{Content, take_of, is_new, after_take, missing_of, verdict_of, close_of, closed}
+use Rattle.ball_model.specs.PlanValue.{mixing_of}
+use Rattle.ball_model.specs.Job.{Job}
+use Rattle.ball_model.specs.Content.{Content, IsContent, take_of, is_new, after_take, missing_of, verdict_of, close_of, closed}
+use Rattle.ball_model.specs.Join.{joined, merge_of}
 use Rattle.ball_model.specs.State.{State, StandsFor, content_of}
-use Rattle.replica.specs.Level.{found_verdict, found_close}
-use Rattle.replica.specs.Sent.{sent_batch}
+use Rattle.replica.specs.Seen.{IsState}
 
--- a call: a batch of that name is taken, or the superstep is closed
+-- a call on a replica: the true batch of a name is taken, the superstep is closed, or a snapshot of a replica of the
+-- same partition with that content is merged
 pub data Call : Type 0 where
   Take : BatchName → Call
   Close : Call
+  Merge : Content → Call
+
+-- what a call answers
+pub data Answer : Type 0 where
+  Took : Result Taken TakeError → Answer
+  Closed : Result ℕ CloseError → Answer
+  Merged : Result (Unit {0}) MergeError → Answer
+
+-- the answer to a call, as the content says
+abbrev pub answer_of : Job → ℕ → Content → Call → Answer
+answer_of j p c (Take name) = Took (take_of j.plan p c j.plan name)
+answer_of j p c Close = Closed (close_of j p c)
+answer_of j p c (Merge d) = Merged (merge_of j.plan p j.plan p)
 
 -- the content after a batch of the job was taken
 abbrev pub content_taken : Job → ℕ → Content → BatchName → Content
@@ -29,18 +44,26 @@ content_taken j p c name = record {
   holds = λ s q. after_take (is_new (take_of j.plan p c j.plan name)) c.holds name.superstep name.source s q;
 }
 
+-- the content after a close with that answer
 abbrev pub content_closed : Result ℕ CloseError → Content → Content
 content_closed (Ok t) c = closed c
 content_closed (Err e) c = c
 
--- the content after a call, and after a list of calls
+-- the content after a call
 abbrev pub content_after : Job → ℕ → Content → Call → Content
 content_after j p c (Take name) = content_taken j p c name
 content_after j p c Close = content_closed (close_of j p c) c
+content_after j p c (Merge d) = joined c d
 
+-- the content after a list of calls, one after the other
 unfoldable pub content_after_all : Job → ℕ → Content → List Call → Content
 content_after_all j p c [] = c
 content_after_all j p c (call ∷ calls) = content_after_all j p (content_after j p c call) calls
+
+-- the answers to a list of calls, one after the other
+unfoldable pub answers_of : Job → ℕ → Content → List Call → List Answer
+answers_of j p c [] = []
+answers_of j p c (call ∷ calls) = answer_of j p c call ∷ answers_of j p (content_after j p c call) calls
 
 -- the start: superstep 0, and no batches
 abbrev pub start_content : Content
@@ -51,9 +74,10 @@ pub record HasContent (j : Job) (p : ℕ) (c : Content) (v : State) : Type 0 whe
   pub stands : StandsFor j p c.superstep v
   pub names : (s q : ℕ) → (content_of v).holds s q ≡ c.holds s q
 
--- what a call of `take` with a true batch promises
-pub record Takes (j : Job) (p : ℕ) (name : BatchName) (v w : State) : Type 0 where
-  pub names : (s q : ℕ) → (content_of w).holds s q ≡ after_take (is_new (take_of v.part.plan v.part.number (content_of v) j.plan name)) (content_of v).holds name.superstep name.source s q
+-- what a call of `take` with the true batch of that name promises, of its answer
+pub record Takes (j : Job) (p : ℕ) (name : BatchName) (r : Result Taken TakeError) (v w : State) : Type 0 where
+  pub answer : r ≡ take_of v.part.plan v.part.number (content_of v) j.plan name
+  pub names : (s q : ℕ) → (content_of w).holds s q ≡ after_take (is_new r) (content_of v).holds name.superstep name.source s q
   pub stands : (t : ℕ) → StandsFor j p t v → StandsFor j p t w
 
 -- what a call of `close` promises, of its answer
@@ -63,18 +87,35 @@ pub record Closes (j : Job) (p : ℕ) (r : Result ℕ CloseError) (v w : State) 
   pub answer : (t : ℕ) → StandsFor j p t v → r ≡ close_of j p (content_of v)
   pub stands : (t : ℕ) → StandsFor j p t v → OnOk r (StandsFor j p (t + 1) w)
 
-abbrev pub Did : Job → ℕ → Call → State → State → Type 0
-Did j p (Take name) v w = Takes j p name v w
-Did j p Close v w = (r : Result ℕ CloseError) × Closes j p r v w
+-- what a call of `merge` with a snapshot of a replica of the same partition with content d promises, of its answer
+pub record Merges (j : Job) (p : ℕ) (d : Content) (r : Result (Unit {0}) MergeError) (v w : State) : Type 0 where
+  pub answer : (t : ℕ) → StandsFor j p t v → r ≢ Err refusal.Memory → r ≡ Ok tt
+  pub refused : OnErr r (w ≡ v)
+  pub names : OnOk r ((s q : ℕ) → (content_of w).holds s q ≡ (joined (content_of v) d).holds s q)
+  pub stands : (t : ℕ) → StandsFor j p t v → OnOk r (StandsFor j p (max t d.superstep) w)
 
--- these calls, one after the other, made the one of the other
-unfoldable pub Made : Job → ℕ → State → List Call → State → Type 0
-Made j p v [] w = w ≡ v
-Made j p v (call ∷ calls) w = (u : State) × Did j p call v u × Made j p u calls w
+-- this call, with this answer, made the one of the other; a merge that was refused memory changes nothing and is no call
+abbrev pub Did : Job → ℕ → Call → Answer → State → State → Type 0
+Did j p (Take name) (Took r) v w = Takes j p name r v w
+Did j p Close (Closed r) v w = Closes j p r v w
+Did j p (Merge d) (Merged r) v w = (r ≢ Err refusal.Memory) × Merges j p d r v w
+Did j p call answer v w = ⊥
+
+-- these calls, one after the other, each with its answer, made the one of the other
+unfoldable pub Made : Job → ℕ → State → List Call → List Answer → State → Type 0
+Made j p v [] [] w = w ≡ v
+Made j p v (call ∷ calls) (answer ∷ answers) w = (u : State) × Did j p call answer v u × Made j p u calls answers w
+Made j p v calls answers w = ⊥
 
 -- from the start, by any list of calls, a replica stands for what the calls make of its content
 abbrev pub RunStands : Type 0
-RunStands = (j : Job) (p : ℕ) (calls : List Call) (v w : State) → HasContent j p start_content v → Made j p v calls w → HasContent j p (content_after_all j p start_content calls) w
+RunStands = (j : Job) (p : ℕ) (calls : List Call) (answers : List Answer) (v w : State) → HasContent j p start_content v → Made j p v calls answers w →
+    HasContent j p (content_after_all j p start_content calls) w
+
+-- and each call answers what the content says
+abbrev pub RunAnswers : Type 0
+RunAnswers = (j : Job) (p : ℕ) (calls : List Call) (answers : List Answer) (v w : State) → HasContent j p start_content v → Made j p v calls answers w →
+    answers ≡ answers_of j p start_content calls
 
 -- its superstep is at most the end
 abbrev pub RunIsInTime : Type 0
@@ -92,19 +133,16 @@ StableReaches = (j : Job) (p t x : ℕ) (v : State) (reaches : ℕ → Bool) →
     ((y : ℕ) → y < j.graph.vertices → IsTrue (reaches y) ↔ ((path : List ℕ) × IsTrue (is_path j.graph y x path))) →
     slice_index_or v.rows (x / j.plan.parts) [] ≡ counter_of (mixing_of j.plan) j.graph.vertices reaches
 
--- two replicas answer alike
-pub record AreAlike (v w : State) : Type 0 where
-  pub superstep : v.superstep ≡ w.superstep
-  pub rows : v.rows ≡ w.rows
-  pub changed : v.marks ≡ w.marks
-  pub tallies : v.tallies ≡ w.tallies
-  pub sums : v.sums ≡ w.sums
-  pub missing : missing_of v.part.plan.parts v.part.number (content_of v) ≡ missing_of w.part.plan.parts w.part.number (content_of w)
-  pub verdict : found_verdict v ≡ found_verdict w
-  pub close : found_close v ≡ found_close w
-  pub take : (plan : PlanValue) (name : BatchName) → take_of v.part.plan v.part.number (content_of v) plan name ≡ take_of w.part.plan w.part.number (content_of w) plan name
-  pub out : (target : ℕ) → target < v.part.plan.parts → sent_batch v target (length v.part.preds) ≡ sent_batch w target (length w.part.preds)
+-- replicas that stand for one partition and superstep and hold the same names are equal in all that they have
+abbrev pub SameContentIsSame : Type 0
+SameContentIsSame = (j : Job) (p : ℕ) (c : Content) (v w : State) → HasContent j p c v → HasContent j p c w → IsState v → IsState w → v ≡ w
 
--- replicas that stand for one partition, superstep and names answer alike
-abbrev pub SameContentAlike : Type 0
-SameContentAlike = (j : Job) (p : ℕ) (c : Content) (v w : State) → HasContent j p c v → HasContent j p c w → AreAlike v w
+-- and the same calls on both have the same answers, and leave both with one content
+abbrev pub SameCallsAlike : Type 0
+SameCallsAlike = (j : Job) (p : ℕ) (c : Content) (calls : List Call) (left right : List Answer) (v v2 w w2 : State) → HasContent j p c v → HasContent j p c w →
+    Made j p v calls left v2 → Made j p w calls right w2 →
+    (left ≡ right) × ((e : Content) × HasContent j p e v2 × HasContent j p e w2)
+
+-- whatever its batches say, a replica holds only batches that may be held
+abbrev pub HoldsItsWindow : Type 0
+HoldsItsWindow = (v : State) → IsState v → IsContent v.part.plan v.part.number (content_of v)

@@ -1,11 +1,11 @@
 -- A replica's fields as plain data, and what they keep.
-use Rattle.std.specs.Prelude.{◌≡◌, ℕ, ◌+◌, ◌*◌, ◌^◌, ◌<◌, ◌≤◌, List, map, length, option_map, Option}
+use Rattle.std.specs.Prelude.{◌≡◌, ℕ, ◌+◌, ◌*◌, ◌^◌, ◌<◌, ◌≤◌, map, length, option_map, slice_index_or, None}
 use Rattle.std.specs.Arc.{arc_value}
 use Rattle.std.specs.Vec.{vec_capacity}
 use Rattle.replica.specs.declared.Replica.TheInside.{Inside}
 use Rattle.figures.specs.Values.{value_of}
-use Rattle.ball_model.specs.Figures.{TallyValue, estimate_of}
-use Rattle.ball_model.specs.Job.{PartValue, IsPart}
+use Rattle.ball_model.specs.Figures.{estimate_of}
+use Rattle.ball_model.specs.Job.{IsPart}
 use Rattle.ball_model.specs.State.{State}
 use Rattle.replica.specs.Kept.{AreFit, AreCounters}
 
@@ -30,6 +30,7 @@ pub record IsState (v : State) : Type 0 where
   pub lasts : map (λ tally. tally.last) v.tallies ≡ map (estimate_of v.part.plan.log2m) v.rows
   pub sums : length v.sums ≡ v.superstep + 1
   pub kept : length v.kept ≡ 4 * v.part.plan.parts
+  pub own : (i : ℕ) → i < 4 → slice_index_or v.kept (i * v.part.plan.parts + v.part.number) None ≡ None
   pub fit : AreFit v.part.plan.log2m v.kept
 
 -- and the room that later supersteps take

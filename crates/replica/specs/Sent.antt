@@ -1,5 +1,5 @@
 -- What a replica tells another partition of its superstep.
-use Rattle.std.specs.Prelude.{◌≡◌, ℕ, ◌+◌, ◌*◌, ◌/◌, ◌%◌, ◌^◌, Bool, false, ◌==◌, ◌&&◌, List, [], ◌∷◌, length, if◌then◌else◌, slice_index, slice_index_or}
+use Rattle.std.specs.Prelude.{ℕ, ◌+◌, ◌*◌, ◌/◌, ◌%◌, ◌^◌, Bool, false, ◌==◌, ◌&&◌, List, [], ◌∷◌, if◌then◌else◌, slice_index, slice_index_or}
 use Rattle.std.specs.List.{range_with_len, flat_map, count_by}
 use Rattle.ball_model.specs.Batches.{BatchValue}
 use Rattle.ball_model.specs.State.{State}

@@ -1,5 +1,5 @@
 -- What a replica begins with: each vertex has seen itself.
-use Rattle.std.specs.Prelude.{◌≡◌, ℕ, ◌+◌, ◌*◌, ◌^◌, true, Bool, List, [], ◌∷◌, map, length, Option, None, replicate, slice_set}
+use Rattle.std.specs.Prelude.{◌≡◌, ℕ, ◌+◌, ◌*◌, ◌^◌, true, List, [], ◌∷◌, map, length, None, replicate, slice_set}
 use Rattle.std.specs.List.{range_with_len}
 use Rattle.ball_model.specs.Hash.{hash_of, index_of, rank_of}
 use Rattle.ball_model.specs.Figures.{TallyValue, estimate_of}

@@ -1,21 +1,34 @@
 //! What a replica promises over whole runs: the contract of each function is the law, and its body is empty.
 
-ghost use Rattle.replica.specs.Runs.{RunStands, RunIsInTime, StableIsQuiet, StableReaches, SameContentAlike};
+ghost use Rattle.replica.specs.Runs.{RunStands, RunAnswers, RunIsInTime, StableIsQuiet, StableReaches, HoldsItsWindow, SameContentIsSame, SameCallsAlike};
 
 /// End to end, without faults.
 ///
-/// From superstep 0 and no batches, by any list of calls of `take` with true batches and of `close`, a replica stands
-/// for what the calls make of its content, at a superstep of at most the end. Its verdict is stable exactly where its
+/// From superstep 0 and no batches, by any list of calls of `take` with true batches, of `close` and of `merge` with
+/// snapshots of replicas of the same partition, a replica stands for what the calls make of its content, at a
+/// superstep of at most the end, and each call answers what the content says. Its verdict is stable exactly where its
 /// level is held, the superstep is not 0, and no vertex of the graph is changed; then each of its rows is the counter
 /// of all vertices that can reach its vertex.
 pub fn end_to_end()
     ensures stands { RunStands }
+    ensures answers { RunAnswers }
     ensures in_time { RunIsInTime }
     ensures stable { StableIsQuiet }
     ensures reaches { StableReaches }
 {}
 
-/// Replicas that stand for the same partition, superstep and names answer alike.
+/// Whatever its batches say, a replica holds only batches of other partitions, of its superstep to three further ones,
+/// and of at most the limit.
+pub fn window()
+    ensures { HoldsItsWindow }
+{}
+
+/// Replicas that stand for the same partition and superstep and hold the same names are equal, and stay alike.
+///
+/// They are equal in all that they have: rows, figures, sums, and the batches that they hold. What a replica tells is
+/// a function of that alone, so each reader answers the same for both. The same calls on both have the same answers,
+/// and leave both with the same content, so equal again.
 pub fn same_content()
-    ensures { SameContentAlike }
+    ensures same { SameContentIsSame }
+    ensures later { SameCallsAlike }
 {}

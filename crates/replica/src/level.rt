@@ -1,4 +1,4 @@
-//! What a replica that holds its level does with its marks, its batches and its figures.
+//! What a replica does with its marks, its batches and its figures.
 
 ghost use Rattle.std.specs.Prelude.{◌≡◌, ℕ, ◌<◌, ◌≤◌, ◌+◌, ◌*◌, ◌^◌, not, false, length, slice_index_or, option_map, None, if◌then◌else◌, map, replicate, ◌==◌, ◌&&◌, is_some, count_by};
 ghost use Rattle.std.specs.Arc.{arc_value};
@@ -8,8 +8,11 @@ ghost use Rattle.ball_model.specs.Laws.{IsCounterRow};
 ghost use Rattle.figures.specs.Values.{value_of};
 ghost use Rattle.replica.specs.Level.{is_busy, differing, shifted, stepped, stepped_all};
 ghost use Rattle.replica.specs.Kept.{AreCounters, AreLasts};
+ghost use Rattle.replica.specs.Merged.{either, filled, gathered, shifted_by};
+ghost use Rattle.ball_model.specs.State.{holds_in};
 
 use batches::Batch;
+use edgelist::Part;
 use figures::{Tally, estimate};
 use registers::Rows;
 use std::sync::Arc;
@@ -88,13 +91,13 @@ pub fn mark(old: &Rows, new: &Rows, marks: &mut [bool])
     }
 }
 
-/// The batches move one superstep nearer, and those of the level go.
-pub fn shift(kept: &mut [Option<Arc<Batch>>], parts: u16)
-    requires { parts ≤ length kept.old }
-    ensures { map (option_map arc_value) kept.new ≡ shifted parts (map (option_map arc_value) kept.old) }
+/// The batches move so many places nearer, and the first ones go.
+pub fn shift(kept: &mut [Option<Arc<Batch>>], count: usize)
+    requires { count ≤ length kept.old }
+    ensures { map (option_map arc_value) kept.new ≡ shifted count (map (option_map arc_value) kept.old) }
 {
-    clear(&mut kept[..usize::from(parts)]);
-    kept.rotate_left(usize::from(parts));
+    clear(&mut kept[..count]);
+    kept.rotate_left(count);
 }
 
 // Lets each batch go.
@@ -104,6 +107,84 @@ fn clear(kept: &mut [Option<Arc<Batch>>])
     for i in 0..kept.len() {
         kept[i] = None;
     }
+}
+
+/// Joins what two keep, at supersteps `mine` and `theirs`: `kept` has, at the greater one, what either had.
+pub fn gather(
+    kept: &mut [Option<Arc<Batch>>],
+    mine: u32,
+    others: &mut [Option<Arc<Batch>>],
+    theirs: u32,
+    parts: u16,
+)
+    requires kept { length kept.old ≡ 4 * parts }
+    requires others { length others.old ≡ 4 * parts }
+    ensures { map (option_map arc_value) kept.new ≡ gathered parts mine theirs (map (option_map arc_value) kept.old) (map (option_map arc_value) others.old) }
+{
+    bring(kept, theirs.saturating_sub(mine), parts);
+    bring(others, mine.saturating_sub(theirs), parts);
+    fill(kept, others);
+}
+
+// The batches move so many supersteps nearer.
+fn bring(kept: &mut [Option<Arc<Batch>>], supersteps: u32, parts: u16)
+    requires { length kept.old ≡ 4 * parts }
+    ensures { map (option_map arc_value) kept.new ≡ shifted_by parts supersteps (map (option_map arc_value) kept.old) }
+{
+    shift(kept, supersteps.min(4) as usize * usize::from(parts));
+}
+
+// Each empty slot takes what the other one at its place has.
+fn fill(kept: &mut [Option<Arc<Batch>>], others: &mut [Option<Arc<Batch>>])
+    requires { length others.old ≡ length kept.old }
+    ensures { map (option_map arc_value) kept.new ≡ filled (map (option_map arc_value) kept.old) (map (option_map arc_value) others.old) }
+{
+    for i in 0..kept.len() {
+        fill_one(&mut kept[i], &mut others[i]);
+    }
+}
+
+// A slot that is empty takes what the other one has.
+fn fill_one(slot: &mut Option<Arc<Batch>>, other: &mut Option<Arc<Batch>>)
+    ensures { option_map arc_value slot.new ≡ either (option_map arc_value slot.old) (option_map arc_value other.old) }
+{
+    if slot.is_none() {
+        *slot = other.take();
+    }
+}
+
+/// Whether the batch of a superstep and a source is among those that are kept at superstep `now`.
+pub fn is_held(
+    part: &Part,
+    now: u32,
+    kept: &[Option<Arc<Batch>>],
+    superstep: u32,
+    source: u16,
+) -> bool
+    requires now { now ≤ part.now.plan.limit }
+    requires kept { length kept.now ≡ 4 * part.now.plan.parts }
+    ensures { result ≡ holds_in part.now.plan part.now.number now (map (option_map arc_value) kept.now) superstep source }
+{
+    let plan = part.plan();
+    if plan.limit() < superstep || superstep < now || now + 3 < superstep {
+        return false;
+    }
+    if plan.parts() <= source || source == part.partition() {
+        return false;
+    }
+    let level = (superstep - now) as usize;
+    is_kept(
+        kept,
+        level * usize::from(plan.parts()) + usize::from(source),
+    )
+}
+
+// Whether something is kept at a place.
+fn is_kept(kept: &[Option<Arc<Batch>>], place: usize) -> bool
+    requires { place < length kept.now }
+    ensures { result ≡ is_some (slice_index_or (map (option_map arc_value) kept.now) place None) }
+{
+    kept[place].is_some()
 }
 
 /// The figures at superstep `t` of all rows, whose marks say which of them changed.

@@ -18,14 +18,22 @@
 //!                        Stable, Limit             names of t gone, the others stay
 //! ```
 //!
-//! Only [`Replica::new`] and [`Replica::out`] take memory.
+//! A replica that was lost, restarted or late takes over what another one of its partition knows: it merges a
+//! [`Snapshot`] of it ([`Replica::merge`]), or the two are joined. Then it is at the greater superstep of the two, with
+//! the rows and figures of that one, and holds each batch of its window that either held. What is taken over is true
+//! where both were.
+//!
+//! Only [`Replica::new`], [`Replica::out`], [`Replica::snapshot`], [`Replica::merge`] and a join take memory.
 #![tactic(auto)]
 
 mod grow;
+mod join;
 pub mod laws;
 mod level;
+mod merge;
 mod out;
 mod read;
+mod saved;
 mod start;
 mod step;
 
@@ -67,4 +75,32 @@ impl Model for Replica {
     ghost view = { state_of };
 
     ghost invariant = { IsReplica };
+}
+
+/// What a replica has at a superstep, without the room that later supersteps take.
+///
+/// Another replica of the partition, one that was lost, restarted or late, takes it over by [`Replica::merge`].
+/// Batches are shared with the replica that it is of, the rest is a copy: what the replica does afterwards changes
+/// nothing here.
+#[derive(Drop)]
+pub struct Snapshot {
+    part: Arc<Part>,
+    superstep: u32,
+    rows: Rows,
+    marks: Vec<bool>,
+    tallies: Vec<Tally>,
+    sums: Vec<u128>,
+    kept: Vec<Option<Arc<Batch>>>,
+}
+
+impl Model for Snapshot {
+    ghost use Rattle.ball_model.specs.State.{State};
+
+    ghost Value = { State };
+
+    ghost use Rattle.replica.specs.Saved.{saved_of, IsSnapshot};
+
+    ghost view = { saved_of };
+
+    ghost invariant = { IsSnapshot };
 }

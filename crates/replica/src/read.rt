@@ -123,21 +123,7 @@ impl Replica {
     pub(crate) fn holds_from(&self, superstep: u32, source: u16) -> bool
         ensures { result ≡ (content_of self.now).holds superstep source }
     {
-        let plan = self.part.plan();
-        if superstep < self.superstep
-            || self.superstep + 3 < superstep
-            || plan.limit() < superstep
-        {
-            return false;
-        }
-        if plan.parts() <= source || source == self.part.partition() {
-            return false;
-        }
-        let level = (superstep - self.superstep) as usize;
-        is_kept(
-            &self.kept,
-            level * usize::from(plan.parts()) + usize::from(source),
-        )
+        level::is_held(&self.part, self.superstep, &self.kept, superstep, source)
     }
 
     /// The least source that is missing from the level; the level is held where there is none.
@@ -190,12 +176,4 @@ impl Replica {
     {
         self.found_verdict()
     }
-}
-
-// Whether something is kept at a place.
-fn is_kept(kept: &[Option<Arc<Batch>>], place: usize) -> bool
-    requires { place < length kept.now }
-    ensures { result ≡ is_some (slice_index_or (map (option_map arc_value) kept.now) place None) }
-{
-    kept[place].is_some()
 }

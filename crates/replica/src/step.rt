@@ -10,6 +10,7 @@ ghost use Rattle.ball_model.specs.State.{SameShown, StandsFor, content_of};
 ghost use Rattle.replica.specs.Level.{Advances, found_close};
 ghost use Rattle.replica.specs.Start.{Starts};
 ghost use Rattle.replica.specs.Seen.{IsState};
+ghost use Rattle.replica.specs.Runs.{Takes, Closes};
 
 use crate::{Replica, grow, level, start};
 use ball_model::{CloseError, Plan, TakeError, Taken, Verdict};
@@ -99,6 +100,8 @@ impl Replica {
         ensures shown { SameShown self.new self.old }
         ensures unchanged { is_new result ≡ false → self.new ≡ self.old }
         ensures stands { (j : Job) (p t : ℕ) → StandsFor j p t self.old → arc_value batch ≡ true_batch j (arc_value batch).name → StandsFor j p t self.new }
+        // a step of a run
+        ensures step { (j : Job) (p : ℕ) → arc_value batch ≡ true_batch j (arc_value batch).name → Takes j p (arc_value batch).name result self.old self.new }
     {
         let answer = self.answer(&batch);
         match answer {
@@ -127,6 +130,8 @@ impl Replica {
         ensures names { OnOk result ((s q : ℕ) → (content_of self.new).holds s q ≡ (closed (content_of self.old)).holds s q) }
         ensures answer { (j : Job) (p t : ℕ) → StandsFor j p t self.old → result ≡ close_of j p (content_of self.old) }
         ensures stands { (j : Job) (p t : ℕ) → StandsFor j p t self.old → OnOk result (StandsFor j p (t + 1) self.new) }
+        // a step of a run
+        ensures step { (j : Job) (p : ℕ) → Closes j p result self.old self.new }
     {
         self.found_close()
     }
@@ -166,7 +171,7 @@ impl Replica {
         );
         level::mark(&self.rows, &self.next, &mut self.marks);
         mem::swap(&mut self.rows, &mut self.next);
-        level::shift(&mut self.kept, plan.parts());
+        level::shift(&mut self.kept, usize::from(plan.parts()));
         self.superstep += 1;
         level::step_tallies(
             plan.log2m(),
@@ -180,7 +185,7 @@ impl Replica {
 }
 
 // Whether two plans are the same.
-fn is_same(a: &Plan, b: &Plan) -> bool
+pub(crate) fn is_same(a: &Plan, b: &Plan) -> bool
     ensures { result ≡ same_plan a.now b.now }
 {
     a == b

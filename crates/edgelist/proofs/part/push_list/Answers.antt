@@ -21,4 +21,4 @@ returns-clause-lists c =
     let long : length c.loop-y.items.items ≡ length c.args.items.now.items + length c.args.list = ap length items ∙ length-append c.args.items.now.items c.args.list in
     let end : c.len.result ≡ length c.args.items.now.items + length c.args.list = omega (arith, c.len.ensures, long) in
     rw (c.in_ok-push-2.ensures.items, items)
-    (lists-push c.args.items.now.items c.args.list c.args.starts.now.items c.len.result end c.requires.starts)
+    (lists-push c.args.items.now.items c.args.list c.args.starts.now.items c.len.result end c.requires.starts.ascend)

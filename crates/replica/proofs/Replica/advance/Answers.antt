@@ -1,20 +1,16 @@
-use Rattle.std.proofs.Common.{◌≡◌, ℕ, ◌+◌, ◌*◌, ◌<◌, ◌≤◌, ◌++◌, ◌∷◌, Bool, List, [], length, map, get_or, option_map, drop, replicate, not, refl, ap, sym, ◌∙◌, arith, subst}
-use Rattle.std.specs.Prelude.{Option}
+use Rattle.std.proofs.Common.{◌≡◌, ℕ, ◌+◌, ◌<◌, ◌++◌, ◌∷◌, Bool, List, [], length, map, option_map, refl, ap, sym, ◌∙◌, arith, subst}
 use Rattle.std.specs.Arc.{arc_value}
 use Rattle.std.specs.Vec.{with_items}
 use Rattle.std.specs.List.{sum_by}
 use Rattle.std.proofs.lemmas.List.{with_items_is, length-map}
 use Rattle.ball_model.specs.Table.{Table}
-use Rattle.ball_model.specs.Figures.{TallyValue}
 use Rattle.ball_model.specs.PlanValue.{PlanValue}
 use Rattle.ball_model.specs.Job.{PartValue}
-use Rattle.ball_model.specs.Batches.{BatchValue}
 use Rattle.ball_model.specs.State.{State}
 use Rattle.figures.specs.declared.tally.Tally.{Tally}
 use Rattle.figures.specs.Values.{value_of}
-use Rattle.replica.specs.Level.{Advances, next_rows, differing, stepped_all, shifted, total_of}
-use Rattle.replica.specs.Kept.{AreCounters, AreLasts}
-use Rattle.replica.specs.Seen.{state_of, IsState, IsReplica}
+use Rattle.replica.specs.Level.{Advances, next_rows, differing, stepped_all}
+use Rattle.replica.specs.Seen.{state_of}
 use Rattle.replica.proofs.RiseLaws.{rise_counters}
 use Rattle.replica.proofs.NextLaws.{rows_are, length-next_rows, length-differing, next_rise, next_lasts, next_total, state_next, differing_as, stepped_as, shifted_as}
 use Rattle.replica.proofs.ReadLaws.{length-tallies}
@@ -94,7 +90,7 @@ advances c =
       marks = with_items_is c.self.inside.marks c.mark.new.marks marks_long ∙ c.mark.ensures ∙ differing_as s.rows (ap (λ (t : Table). t.rows) (sym c.swap.ensures.x_after) ∙ rows) size;
       tallies = ap (map value_of) (with_items_is c.self.inside.tallies c.step_tallies.new.tallies tallies_long) ∙ tallies;
       sums = c.push_reserved.ensures.items ∙ ap (λ n. s.sums ++ n ∷ []) (c.sum_of_lasts.ensures ∙ ap (sum_by (λ (tally : Tally). tally.last)) (c.deref-6.ensures.value ∙ with_items_is c.self.inside.tallies c.step_tallies.new.tallies tallies_long) ∙ next_total s c.step_tallies.new.tallies tallies);
-      kept = ap (map (option_map arc_value)) (with_items_is c.self.inside.kept c.shift.new.kept kept_long) ∙ c.shift.ensures ∙ shifted_as parts (ap (map (option_map arc_value)) c.deref_mut-2.ensures.value);
+      kept = ap (map (option_map arc_value)) (with_items_is c.self.inside.kept c.shift.new.kept kept_long) ∙ c.shift.ensures ∙ shifted_as (c.from.ensures ∙ parts) (ap (map (option_map arc_value)) c.deref_mut-2.ensures.value);
     }
 
 pub invariant_of-self : goal.invariant_of-self

@@ -1,4 +1,4 @@
-use Rattle.std.proofs.Common.{◌≡◌, ◌<◌, length, ap, sym, ◌∙◌, arith, subst}
+use Rattle.std.proofs.Common.{length, ap, ◌∙◌, arith, subst}
 use Rattle.std.specs.List.{count_by}
 use Rattle.ball_model.specs.State.{State}
 use Rattle.replica.specs.Seen.{IsState}

@@ -1,4 +1,4 @@
-use Rattle.std.proofs.Common.{◌≡◌, sym, ◌∙◌}
+use Rattle.std.proofs.Common.{sym, ◌∙◌}
 use Rattle.replica.proofs.BusyLaws.{found_close-is}
 use Rattle.replica.proofs.CloseLaws.{waits_for, closes, on_ok, if_ok, close_stands}
 use Rattle.replica.proofs.AdvanceLaws.{advance_holds}
@@ -22,3 +22,11 @@ returns-clause-answer c = λ j p t h. c.found_close.ensures.exact ∙ found_clos
 pub returns-clause-stands : goal.returns-clause-stands
 returns-clause-stands c = λ j p t h.
     on_ok c.found_close.result c.found_close.ensures.advances (λ n ok a. close_stands j p t n c.args.self.now c.found_close.new.self c.found_close.result h c.found_close.ensures.state c.found_close.ensures.exact ok a)
+
+pub returns-clause-step : goal.returns-clause-step
+returns-clause-step c = λ j p. record {
+  refused = c.found_close.ensures.refused;
+  names = returns-clause-names c;
+  answer = returns-clause-answer c j p;
+  stands = returns-clause-stands c j p;
+}

@@ -1,4 +1,4 @@
-use Rattle.std.proofs.Common.{◌≡◌, ◌∙◌, sym}
+use Rattle.std.proofs.Common.{◌∙◌, sym}
 use Rattle.replica.proofs.CloseLaws.{goes_below}
 use Rattle.replica.proofs.Replica.found_close.Goals as goal
 

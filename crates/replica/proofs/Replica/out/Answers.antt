@@ -1,4 +1,4 @@
-use Rattle.std.proofs.Common.{◌≡◌, ◌∙◌}
+use Rattle.std.proofs.Common.{◌∙◌}
 use Rattle.replica.proofs.StartLaws.{if_made}
 use Rattle.replica.proofs.SentLaws.{sent_true}
 use Rattle.replica.proofs.Replica.out.Goals as goal

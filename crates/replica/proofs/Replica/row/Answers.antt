@@ -1,4 +1,4 @@
-use Rattle.std.proofs.Common.{◌≡◌, ◌/◌, ℕ, List, [], get_or, ap, refl, ◌∙◌}
+use Rattle.std.proofs.Common.{◌≡◌, ◌/◌, [], get_or, ap, refl, ◌∙◌}
 use Rattle.ball_model.specs.State.{State}
 use Rattle.replica.proofs.ReadLaws.{row_stands}
 use Rattle.replica.proofs.Replica.row.Goals as goal

@@ -1,11 +1,8 @@
-use Rattle.std.proofs.Common.{◌≡◌, ℕ, ◌+◌, ◌*◌, ◌<◌, ◌&&◌, Bool, true, false, List, [], length, get_or, refl, ap, sym, ◌∙◌, arith, subst}
-use Rattle.std.specs.Arc.{arc_value}
-use Rattle.std.proofs.lemmas.List.{get_or_default}
+use Rattle.std.proofs.Common.{◌≡◌, ◌+◌, ◌*◌, ◌<◌, true, false, [], length, get_or, ap, ◌∙◌, arith, subst}
 use Rattle.ball_model.specs.declared.names.BatchName.{BatchName}
-use Rattle.ball_model.specs.Batches.{BatchValue}
 use Rattle.ball_model.specs.Job.{PartValue}
 use Rattle.ball_model.specs.State.{State}
-use Rattle.replica.specs.Sent.{has_bit, sent_batch}
+use Rattle.replica.specs.Sent.{has_bit}
 use Rattle.replica.specs.Seen.{IsState}
 use Rattle.replica.proofs.SentLaws.{sent_yes, sent_no, sent_fits, sent_above, sent_room, mark_of, bit_of, both_off, mark_off}
 use Rattle.replica.proofs.Replica.send_row.Goals as goal
@@ -48,7 +45,7 @@ returns-in_ok-push c =
     let lt : c.args.i < length v.marks = omega (arith, state.marks, c.requires.place) in
     let mark : get_or v.marks c.args.i false ≡ true = mark_of c.self.inside.marks.items v.marks c.args.i c.index.result.now true marks lt c.index.ensures c.if-index.true in
     let told : c.deref.result.now ≡ v.part = c.deref.ensures ∙ ap (λ (u : State). u.part) c.self.view_is in
-    let bit = bit_of c.deref.result.now v.part c.args.i c.feeds.result c.name.result.target c.args.batch.now.name.target c.has_edge_into.result true told c.feeds.ensures (ap (λ (n : BatchName). n.target) c.name.ensures.value) c.has_edge_into.ensures c.if-has_edge_into.true in
+    let bit = bit_of c.deref.result.now v.part c.args.i c.feeds.result c.name.result.target c.args.batch.now.name.target c.has_edge_into.result true told c.feeds.ensures.value (ap (λ (n : BatchName). n.target) c.name.ensures.value) c.has_edge_into.ensures c.if-has_edge_into.true in
     c.in_ok-push.ensures.ok ∙ sent_yes v c.args.batch.now.name.target c.args.i c.vertex.result c.row.result.now c.args.batch.now c.requires.so_far mark bit vertex row
 
 pub returns-else-index : goal.returns-else-index
@@ -64,7 +61,7 @@ returns-else-index c =
           let told : w.deref.result.now ≡ v.part = w.deref.ensures ∙ ap (λ (u : State). u.part) c.self.view_is in
           sent_no v c.args.batch.now.name.target c.args.i c.args.batch.now c.requires.so_far
           (both_off mark bit (mark_of c.self.inside.marks.items v.marks c.args.i c.index.result.now true marks lt c.index.ensures w.if-index.true)
-          (bit_of w.deref.result.now v.part c.args.i w.feeds.result w.name.result.target c.args.batch.now.name.target w.has_edge_into.result false told w.feeds.ensures (ap (λ (n : BatchName). n.target) w.name.ensures.value) w.has_edge_into.ensures w.if-has_edge_into.false))
+          (bit_of w.deref.result.now v.part c.args.i w.feeds.result w.name.result.target c.args.batch.now.name.target w.has_edge_into.result false told w.feeds.ensures.value (ap (λ (n : BatchName). n.target) w.name.ensures.value) w.has_edge_into.ensures w.if-has_edge_into.false))
       | else-index-via-else-index w ↦
           sent_no v c.args.batch.now.name.target c.args.i c.args.batch.now c.requires.so_far
           (mark_off mark bit (mark_of c.self.inside.marks.items v.marks c.args.i c.index.result.now false marks lt c.index.ensures w.if-index.false))

@@ -1,4 +1,4 @@
-use Rattle.std.proofs.Common.{◌≡◌, ℕ, ◌+◌, ◌<◌, ap, sym, ◌∙◌, arith}
+use Rattle.std.proofs.Common.{◌+◌, ap, sym, ◌∙◌, arith}
 use Rattle.replica.specs.Sent.{sent_batch}
 use Rattle.replica.proofs.SentLaws.{sent_first, sent_target}
 use Rattle.replica.proofs.Replica.sent.Goals as goal

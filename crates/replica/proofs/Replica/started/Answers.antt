@@ -1,19 +1,18 @@
-use Rattle.std.proofs.Common.{◌≡◌, ℕ, ◌+◌, ◌*◌, ◌^◌, ◌<◌, ◌≤◌, ◌++◌, ◌∷◌, Bool, true, List, [], length, map, option_map, replicate, refl, ap, sym, ◌∙◌, arith, subst, rules}
+use Rattle.std.proofs.Common.{◌≡◌, ℕ, ◌*◌, ◌^◌, true, List, length, map, replicate, refl, ap, ◌∙◌, arith, subst, rules}
 use Rattle.std.specs.Prelude.{Option, None}
 use Rattle.std.specs.Arc.{arc_value}
 use Rattle.std.specs.List.{sum_by}
 use Rattle.std.proofs.lemmas.List.{length-replicate}
 use Rattle.ball_model.specs.Table.{Table}
-use Rattle.ball_model.specs.Figures.{TallyValue, estimate_of}
+use Rattle.ball_model.specs.Figures.{estimate_of}
 use Rattle.ball_model.specs.PlanValue.{PlanValue, IsPlan}
 use Rattle.ball_model.specs.Job.{PartValue, IsPart}
 use Rattle.ball_model.specs.Batches.{BatchValue}
 use Rattle.figures.specs.declared.tally.Tally.{Tally}
 use Rattle.figures.specs.Values.{value_of}
-use Rattle.replica.specs.Kept.{AreCounters}
 use Rattle.replica.specs.Level.{total_of}
 use Rattle.replica.specs.Start.{Starts, first_rows, started}
-use Rattle.replica.specs.Seen.{state_of, IsReplica}
+use Rattle.replica.specs.Seen.{state_of}
 use Rattle.replica.proofs.StartLaws.{first_counters, started_total, starts_state}
 use Rattle.replica.proofs.Replica.started.Goals as goal
 use Rattle.replica.proofs.Replica.started.Goals.{In_ok-kept}

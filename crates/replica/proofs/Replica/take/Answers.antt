@@ -1,5 +1,5 @@
-use Rattle.std.proofs.Common.{◌≡◌, ℕ, ◌<◌, ◌≤◌, ◌+◌, ◌*◌, ◌-◌, length, option_map, map, Bool, true, List, arith, refl, ap, sym, ◌∙◌, subst}
-use Rattle.std.specs.Prelude.{Option, Some, None, Result, Ok, Err}
+use Rattle.std.proofs.Common.{◌≡◌, ◌*◌, length, option_map, map, arith, refl, ap, sym, ◌∙◌, subst}
+use Rattle.std.specs.Prelude.{Result, Ok}
 use Rattle.std.specs.Arc.{arc_value}
 use Rattle.std.specs.Vec.{with_items}
 use Rattle.std.proofs.lemmas.List.{with_items_is, length-map}
@@ -8,13 +8,15 @@ use Rattle.ball_model.specs.declared.names.Taken.{Taken}
 use Rattle.ball_model.specs.declared.names.Taken.TheVariants as taken
 use Rattle.ball_model.specs.declared.names.TakeError.{TakeError}
 use Rattle.ball_model.specs.PlanValue.{PlanValue}
-use Rattle.ball_model.specs.Job.{Job, PartValue}
-use Rattle.ball_model.specs.Batches.{BatchValue, IsBatch}
-use Rattle.ball_model.specs.Content.{take_of, same_plan}
+use Rattle.ball_model.specs.Job.{PartValue}
+use Rattle.ball_model.specs.Batches.{IsBatch}
+use Rattle.ball_model.specs.Content.{take_of}
 use Rattle.ball_model.specs.State.{State, content_of}
 use Rattle.replica.specs.Seen.{state_of, IsState}
 use Rattle.replica.proofs.PlaceLaws.{InWindow, take_of-new, place_fits}
 use Rattle.replica.proofs.TakeLaws.{new_window, Keeps1, keeps1_names, keeps1_stands, keeps1_state}
+use Rattle.replica.proofs.CallLaws.{takes}
+use Rattle.std.proofs.lemmas.Grind.{common_steps}
 use Rattle.replica.proofs.Replica.take.Goals as goal
 
 -- what the answer says
@@ -94,3 +96,18 @@ returns-in-Ok-New-clause-names c =
 
 pub returns-in-Ok-New-clause-stands : goal.returns-in-Ok-New-clause-stands
 returns-in-Ok-New-clause-stands c = keeps1_stands c.args.self.now _ (arc_value c.args.batch) (one_more c)
+
+pub returns-in-Ok-New-clause-step : goal.returns-in-Ok-New-clause-step
+returns-in-Ok-New-clause-step c =
+    let v = c.args.self.now in
+    let b = arc_value c.args.batch in
+    let f : c.in-Ok-New.field-0 ≡ taken.New = rw c.in-Ok-New.is at c.in-Ok-New.field-0-is in
+    let e : c.answer-answer.result ≡ take_of v.part.plan v.part.number (content_of v) b.plan b.name = rw (← c.deref.ensures) c.answer-answer.ensures in
+    takes v _ b c.answer-answer.result e (rw (c.in-Ok-New.is, f) (keeps1_names v _ b (one_more c))) (keeps1_stands v _ b (one_more c))
+
+pub returns-in_default-clause-step : goal.returns-in_default-clause-step
+returns-in_default-clause-step c =
+    let v = c.args.self.now in
+    let b = arc_value c.args.batch in
+    let e : c.answer-answer.result ≡ take_of v.part.plan v.part.number (content_of v) b.plan b.name = rw (← c.deref.ensures) c.answer-answer.ensures in
+    takes v v b c.answer-answer.result e (grind (arith, common_steps)) (λ j p t h is. h)

@@ -1,4 +1,4 @@
-use Rattle.std.proofs.Common.{◌≡◌, ◌∙◌}
+use Rattle.std.proofs.Common.{◌∙◌}
 use Rattle.replica.proofs.BusyLaws.{found_verdict-is}
 use Rattle.replica.proofs.Replica.verdict.Goals as goal
 

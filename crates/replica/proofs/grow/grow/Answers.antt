@@ -1,7 +1,7 @@
-use Rattle.std.proofs.Common.{◌≡◌, ℕ, ◌<◌, List, [], length, map, option_map, get_or, set, refl, ap, sym, ◌∙◌, arith, length-set}
+use Rattle.std.proofs.Common.{◌<◌, [], length, map, option_map, get_or, refl, ap, ◌∙◌, arith, length-set}
 use Rattle.std.specs.Arc.{arc_value}
 use Rattle.ball_model.specs.Table.{Table}
-use Rattle.replica.specs.Level.{grown_row, grown}
+use Rattle.replica.specs.Level.{grown_row}
 use Rattle.replica.proofs.GrowLaws.{grown_row-is, grown-is}
 use Rattle.replica.proofs.StepLaws.{step_done, step_rest}
 use Rattle.replica.proofs.grow.grow.Goals as goal

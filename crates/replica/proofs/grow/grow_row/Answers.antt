@@ -1,9 +1,8 @@
-use Rattle.std.proofs.Common.{◌≡◌, ℕ, ◌+◌, ◌^◌, ◌<◌, ◌≤◌, ◌++◌, ◌∷◌, List, [], length, map, option_map, get_or, set, refl, ap, sym, subst, ◌∙◌, arith, length-set}
+use Rattle.std.proofs.Common.{[], length, map, option_map, get_or, ap, sym, ◌∙◌, arith, length-set}
 use Rattle.std.specs.Arc.{arc_value}
 use Rattle.std.proofs.lemmas.Iterator.Consumers.{YieldsList-from_first, YieldsList-turn, YieldsList-end}
 use Rattle.std.proofs.lemmas.List.{map-id}
 use Rattle.ball_model.specs.Table.{Table}
-use Rattle.ball_model.specs.Job.{PartValue, IsPart}
 use Rattle.replica.specs.Level.{raised_by_found, found_in}
 use Rattle.replica.proofs.FoundLaws.{put_back, raised_all}
 use Rattle.replica.proofs.GrowLaws.{found_step}

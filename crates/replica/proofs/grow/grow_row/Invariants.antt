@@ -1,4 +1,4 @@
-use Rattle.std.proofs.Common.{◌≡◌, ◌++◌, slice_index_or, slice_set, [], map, option_map}
+use Rattle.std.proofs.Common.{◌≡◌, slice_index_or, slice_set, [], map, option_map}
 use Rattle.std.specs.Arc.{arc_value}
 use Rattle.replica.specs.Level.{raised_by_found, found_in}
 use Rattle.replica.proofs.grow.grow_row.Given as goal

@@ -1,11 +1,9 @@
-use Rattle.std.proofs.Common.{◌≡◌, ℕ, ◌+◌, ◌/◌, ◌%◌, ◌^◌, ◌<◌, ◌≤◌, List, [], map, length, get_or, option_map, IfSome, Bool, true, false, refl, ap, sym, ◌∙◌, arith, if◌then◌else◌}
-use Rattle.std.specs.Prelude.{Option, Some, None}
+use Rattle.std.proofs.Common.{◌≡◌, ◌/◌, ◌%◌, [], map, length, get_or, option_map, IfSome, true, false, refl, ap, sym, ◌∙◌, arith}
+use Rattle.std.specs.Prelude.{Some, None}
 use Rattle.std.specs.Arc.{arc_value}
 use Rattle.ball_model.specs.PlanValue.{PlanValue}
-use Rattle.ball_model.specs.Job.{IsPart}
-use Rattle.ball_model.specs.Batches.{BatchValue}
 use Rattle.replica.specs.Level.{found_at}
-use Rattle.replica.specs.Kept.{IsOwn, IsFit}
+use Rattle.replica.specs.Kept.{IsFit}
 use Rattle.replica.proofs.FoundLaws.{found_own, found_other, put_back, put_raised, wide_of, kept_at}
 use Rattle.replica.proofs.RiseLaws.{is_own}
 use Rattle.replica.proofs.grow.raise_found.Goals as goal

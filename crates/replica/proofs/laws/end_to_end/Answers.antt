@@ -1,8 +1,11 @@
-use Rattle.replica.proofs.RunLaws.{run_stands, stable_is, stable_reaches}
+use Rattle.replica.proofs.RunLaws.{run_stands, run_answers, stable_is, stable_reaches}
 use Rattle.replica.proofs.laws.end_to_end.Goals as goal
 
 pub returns-clause-stands : goal.returns-clause-stands
 returns-clause-stands c = run_stands
+
+pub returns-clause-answers : goal.returns-clause-answers
+returns-clause-answers c = run_answers
 
 pub returns-clause-in_time : goal.returns-clause-in_time
 returns-clause-in_time c = λ j p t v h. h.in_time

@@ -1,5 +1,5 @@
-use Rattle.std.proofs.Common.{◌≡◌, ℕ, ◌<◌, slice_index_or, length, arith, sym, ◌∙◌}
-use Rattle.std.specs.Prelude.{Option, None}
+use Rattle.std.proofs.Common.{length, arith, ◌∙◌}
+use Rattle.std.specs.Prelude.{None}
 use Rattle.std.specs.Arc.{arc_value}
 use Rattle.std.proofs.lemmas.List.{get_or_default}
 use Rattle.replica.proofs.GrowLaws.{all_none}

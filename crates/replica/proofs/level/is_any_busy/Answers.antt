@@ -1,4 +1,4 @@
-use Rattle.std.proofs.Common.{◌≡◌, ℕ, ◌==◌, if◌then◌else◌, slice_index_or, option_map, map, arith, sym, ◌∙◌}
+use Rattle.std.proofs.Common.{◌==◌, if◌then◌else◌, slice_index_or, option_map, map, arith, sym, ◌∙◌}
 use Rattle.std.specs.Prelude.{None}
 use Rattle.std.specs.Arc.{arc_value}
 use Rattle.std.specs.List.{list_any}

@@ -1,4 +1,4 @@
-use Rattle.std.proofs.Common.{◌≡◌, ℕ, ◌<◌, not, slice_index_or, length, [], false, arith}
+use Rattle.std.proofs.Common.{not, slice_index_or, length, [], arith}
 use Rattle.std.specs.Str.{bytes_eq}
 use Rattle.replica.specs.Level.{differing}
 use Rattle.replica.proofs.GrowLaws.{bools_are}

@@ -1,9 +1,9 @@
-use Rattle.std.proofs.Common.{◌≡◌, ℕ, ◌+◌, ◌<◌, ◌≤◌, List, [], length, map, get_or, set, refl, ap, sym, ◌∙◌, arith, subst}
+use Rattle.std.proofs.Common.{◌≡◌, ℕ, ◌<◌, List, [], length, map, get_or, ap, sym, ◌∙◌, arith}
 use Rattle.std.proofs.lemmas.List.{length-map, map-set, get_or-map}
 use Rattle.figures.specs.declared.tally.Tally.{Tally}
 use Rattle.figures.specs.Values.{value_of}
 use Rattle.ball_model.specs.Figures.{TallyValue, estimate_of}
-use Rattle.replica.specs.Level.{stepped, stepped_all, nothing}
+use Rattle.replica.specs.Level.{stepped, nothing}
 use Rattle.replica.proofs.StepLaws.{step_done, step_rest, stepped_same, all_stepped}
 use Rattle.replica.proofs.level.step_tallies.Goals as goal
 

@@ -1,4 +1,4 @@
-use Rattle.std.proofs.Common.{◌≡◌, ℕ, ◌<◌, ◌≤◌, slice_index_or, length, [], map}
+use Rattle.std.proofs.Common.{◌≡◌, ℕ, ◌<◌, ◌≤◌, slice_index_or, [], map}
 use Rattle.figures.specs.Values.{value_of}
 use Rattle.ball_model.specs.Figures.{estimate_of}
 use Rattle.replica.specs.Level.{stepped, nothing}

@@ -1,9 +1,9 @@
-use Rattle.std.proofs.Common.{◌≡◌, ℕ, ◌+◌, ◌*◌, ◌^◌, ◌<◌, ◌≤◌, List, [], length, map, get_or, set, replicate, refl, ap, sym, ◌∙◌, arith, length-set}
+use Rattle.std.proofs.Common.{◌≡◌, ◌+◌, ◌*◌, ◌^◌, ◌<◌, [], length, get_or, set, replicate, refl, ap, ◌∙◌, arith, length-set}
 use Rattle.ball_model.specs.Table.{Table}
 use Rattle.ball_model.specs.PlanValue.{PlanValue}
 use Rattle.ball_model.specs.Hash.{hash_of, index_of, rank_of}
 use Rattle.registers.specs.Raised.{raised_one}
-use Rattle.replica.specs.Start.{first_row, first_rows}
+use Rattle.replica.specs.Start.{first_row}
 use Rattle.replica.proofs.StartLaws.{first_is, first_rows-is}
 use Rattle.replica.proofs.StepLaws.{step_done, step_rest_to}
 use Rattle.replica.proofs.start.start_rows.Goals as goal

@@ -1,0 +1,15 @@
+use Rattle.std.proofs.Common.{sym, arith}
+use Rattle.edgelist.proofs.CutLaws.{starts-at, cut-at}
+use Rattle.edgelist.proofs.labels.text_at.Goals as goal
+
+pub slice_bounds-result-count : goal.slice_bounds-result-count
+slice_bounds-result-count c = (starts-at _ c.args.starts.now c.args.i c.requires.starts c.requires.below).0
+
+pub slice_bounds-result-start : goal.slice_bounds-result-start
+slice_bounds-result-start c = let at = starts-at _ c.args.starts.now c.args.i c.requires.starts c.requires.below in search (arith, at.0, at.1)
+
+pub slice_bounds-result-end : goal.slice_bounds-result-end
+slice_bounds-result-end c = let at = starts-at _ c.args.starts.now c.args.i c.requires.starts c.requires.below in search (arith, at.0, at.1)
+
+pub returns : goal.returns
+returns c = sym (cut-at c.args.bytes.now c.args.starts.now _ c.args.i c.requires.starts c.requires.below)

@@ -1,0 +1,6 @@
+use Rattle.edgelist.specs.Labels.{texts}
+use Rattle.edgelist.proofs.GuessLaws.{told-blank}
+use Rattle.edgelist.proofs.numbering.Numbering.new.Goals as goal
+
+pub invariant_of-result : goal.invariant_of-result
+invariant_of-result c = rw c.in_ok-entries.ensures (told-blank (texts c.with_hasher-labels.result) 65536)

@@ -1,0 +1,77 @@
+//! Labels in one piece of memory.
+
+ghost use Rattle.std.specs.Prelude.{◌≡◌, ◌+◌, ◌^◌, ◌<◌, ◌≤◌, length, map, slice_index_or, IfOk, []};
+ghost use Rattle.std.specs.List.{sum_by};
+ghost use Rattle.edgelist.specs.Lists.{Ascend, cut};
+
+use std::alloc::{AllocError, Global};
+use std::marker::Model;
+
+/// Labels, one behind another, and the place where each begins. It takes 8 bytes a label beside the labels' own.
+#[derive(Drop)]
+pub struct Labels {
+    bytes: Vec<u8>,
+    starts: Vec<usize>,
+}
+
+impl Model for Labels {
+    ghost use Rattle.std.specs.Prelude.{List, ℕ, length};
+    ghost use Rattle.edgelist.specs.Lists.{Ascend, cut};
+
+    ghost Value = { List (List ℕ) };
+
+    ghost view = { λ labels. cut labels.bytes.items labels.starts.items };
+
+    ghost invariant = { λ labels. Ascend (length labels.bytes.items) labels.starts.items };
+}
+
+// The number of bytes of all texts.
+fn total(texts: &[Vec<u8>]) -> usize
+    ensures { sum_by (λ text. length text.items) texts.now < 2 ^ 64 → result ≡ sum_by (λ text. length text.items) texts.now }
+{
+    let mut sum = 0usize;
+    for text in texts {
+        sum = sum.saturating_add(text.len());
+    }
+    sum
+}
+
+impl Labels {
+    /// A copy of these texts, in their order.
+    pub fn of(alloc: Global, texts: &[Vec<u8>]) -> Result<Labels, AllocError>
+        ensures { IfOk result (λ labels. labels ≡ map (λ text. text.items) texts.now) }
+    {
+        let mut bytes = Vec::with_capacity(alloc, total(texts))?;
+        let mut starts = Vec::with_capacity(alloc, texts.len().saturating_add(1))?;
+        starts.push(0)?;
+        for text in texts {
+            bytes.extend_from_slice(text)?;
+            starts.push(bytes.len())?;
+        }
+        Ok(Labels { bytes, starts })
+    }
+
+    /// The number of labels.
+    pub fn len(&self) -> usize
+        ensures { result ≡ length self.now }
+    {
+        self.starts.len() - 1
+    }
+
+    /// Label i.
+    pub fn label(&self, i: usize) -> &[u8]
+        requires { i < length self.now }
+        ensures { result.now ≡ slice_index_or self.now i [] }
+    {
+        text_at(&self.bytes, &self.starts, i)
+    }
+}
+
+// Text i: the bytes from its start up to the next.
+fn text_at<'a>(bytes: &'a [u8], starts: &[usize], i: usize) -> &'a [u8]
+    requires starts { Ascend (length bytes.now) starts.now }
+    requires below { i + 1 < length starts.now }
+    ensures { result.now ≡ slice_index_or (cut bytes.now starts.now) i [] }
+{
+    &bytes[starts[i]..starts[i + 1]]
+}

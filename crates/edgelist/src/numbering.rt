@@ -1,0 +1,181 @@
+//! Labels that are numbered by first appearance.
+
+ghost use Rattle.std.specs.Prelude.{◌≡◌, ◌+◌, ◌*◌, ◌^◌, ◌<◌, ◌≤◌, ℕ, List, length, map, replicate, slice_index_or, [], IfOk, IfSome, OnOk, OnErr};
+ghost use Rattle.edgelist.specs.Guessing.{AreTold, IsShort, StandsAt, bytes_after, word_of};
+ghost use Rattle.edgelist.specs.Labels.{texts};
+ghost use Rattle.edgelist.specs.Reading.{with_label};
+
+use crate::labels::Labels;
+use indexmap::IndexSet;
+use std::alloc::{AllocError, Global};
+use std::hash::RandomState;
+use std::marker::Model;
+
+// The most bytes of a label that is guessed at.
+const SHORT: usize = 11;
+
+// How many numbers an entry can hold below its word.
+const NUMBERS: u128 = 4_294_967_296;
+
+// The number of entries at first, of 16 bytes each.
+const FIRST_ENTRIES: usize = 65_536;
+
+/// Labels, numbered from 0 by first appearance.
+///
+/// Beside the set of labels is a table of guesses: a short label has one place there, and the entry at that place
+/// holds a short label and its number. Where it holds the same label, that is found by one access to memory in place
+/// of the set's three.
+#[derive(Drop)]
+pub(crate) struct Numbering {
+    labels: IndexSet<Vec<u8>, RandomState>,
+    entries: Vec<u128>,
+}
+
+impl Model for Numbering {
+    ghost use Rattle.std.specs.Prelude.{List, ℕ};
+    ghost use Rattle.edgelist.specs.Guessing.{AreTold};
+    ghost use Rattle.edgelist.specs.Labels.{texts};
+
+    ghost Value = { List (List ℕ) };
+
+    ghost view = { λ n. texts n.labels };
+
+    ghost invariant = { λ n. AreTold (texts n.labels) n.entries.items };
+}
+
+// The bytes of a short label as the digits of one number.
+fn digits(label: &[u8]) -> u128
+    requires { length label.now ≤ 11 }
+    ensures value { result ≡ bytes_after 0 label.now }
+    ensures fits { result < 2 ^ 88 }
+{
+    let mut digits = 0u128;
+    for byte in label {
+        digits = digits * 256 + u128::from(*byte);
+    }
+    digits
+}
+
+// A short label as a number that no other short label has.
+fn word(label: &[u8]) -> u128
+    requires { length label.now ≤ 11 }
+    ensures value { result ≡ word_of label.now }
+    ensures fits { result < 2 ^ 96 }
+{
+    digits(label) * 256 + label.len() as u128 + 1
+}
+
+// The place of a word's entry among 2^k entries: any place will do, and this one spreads them.
+fn place(word: u128, count: usize) -> usize {
+    let low = (word % 18_446_744_073_709_551_616) as u64;
+    let high = (word / 18_446_744_073_709_551_616) as u64;
+    let mixed = (low ^ high.wrapping_mul(0xd6e8_feb8_6659_fd93)).wrapping_mul(
+        0x9e37_79b9_7f4a_7c15,
+    );
+    (mixed >> 32) as usize & count.wrapping_sub(1)
+}
+
+// The number of the short label with this word, where the entry at its place is that label's.
+fn guess(entries: &[u128], word: u128) -> Option<usize>
+    ensures { (labels : List (List ℕ)) (label : List ℕ) → AreTold labels entries.now → IsShort label → word ≡ word_of label → IfSome result (StandsAt labels label) }
+{
+    let entry = *entries.get(place(word, entries.len()))?;
+    if entry / NUMBERS != word {
+        return None;
+    }
+    Some((entry % NUMBERS) as usize)
+}
+
+// Puts a label's word and number into the entry at its place.
+fn remember(entries: &mut [u128], word: u128, number: usize)
+    requires { word < 2 ^ 96 }
+    ensures { (labels : List (List ℕ)) (label : List ℕ) → AreTold labels entries.old → IsShort label → word ≡ word_of label → StandsAt labels label number → AreTold labels entries.new }
+{
+    let place = place(word, entries.len());
+    let Ok(number) = u32::try_from(number) else {
+        return;
+    };
+    if place < entries.len() {
+        entries[place] = word * NUMBERS + u128::from(number);
+    }
+}
+
+// Entries that hold no label.
+fn blank(alloc: Global, count: usize) -> Result<Vec<u128>, AllocError>
+    ensures { IfOk result (λ entries. entries.items ≡ replicate count 0) }
+{
+    vec![in alloc; 0u128; count]
+}
+
+// The number of a label in the set, which takes the next one where it is new.
+fn look_up(
+    alloc: Global,
+    labels: &mut IndexSet<Vec<u8>, RandomState>,
+    label: &[u8],
+) -> Result<usize, AllocError>
+    ensures within { IfOk result (λ i. i < length (texts labels.new)) }
+    ensures place { IfOk result (λ i. slice_index_or (texts labels.new) i [] ≡ label.now) }
+    ensures labels { OnOk result (texts labels.new ≡ with_label (texts labels.old) label.now) }
+    ensures kept { OnErr result (texts labels.new ≡ texts labels.old) }
+{
+    if let Some(place) = labels.get_index_of(label) {
+        return Ok(place);
+    }
+    let (place, _) = labels.insert_full(Vec::from_slice(alloc, label)?)?;
+    Ok(place)
+}
+
+impl Numbering {
+    /// No labels.
+    pub(crate) fn new(alloc: Global, state: RandomState) -> Result<Numbering, AllocError>
+        ensures { IfOk result (λ n. n ≡ []) }
+    {
+        let labels = IndexSet::with_hasher(alloc, state);
+        let entries = blank(alloc, FIRST_ENTRIES)?;
+        Ok(Numbering { labels, entries })
+    }
+
+    /// The number of labels.
+    pub(crate) fn len(&self) -> usize
+        ensures { result ≡ length self.now }
+    {
+        self.labels.len()
+    }
+
+    /// The number of a label, which takes the next one where it is new.
+    pub(crate) fn number(&mut self, alloc: Global, label: &[u8]) -> Result<usize, AllocError>
+        ensures within { IfOk result (λ i. i < length self.new) }
+        ensures place { IfOk result (λ i. slice_index_or self.new i [] ≡ label.now) }
+        ensures labels { OnOk result (self.new ≡ with_label self.old label.now) }
+    {
+        if label.len() > SHORT {
+            return look_up(alloc, &mut self.labels, label);
+        }
+        let word = word(label);
+        if let Some(number) = guess(&self.entries, word) {
+            return Ok(number);
+        }
+        let number = look_up(alloc, &mut self.labels, label)?;
+        self.make_room(alloc)?;
+        remember(&mut self.entries, word, number);
+        Ok(number)
+    }
+
+    // Once there are more labels than entries, blank entries, four times as many.
+    fn make_room(&mut self, alloc: Global) -> Result<(), AllocError>
+        ensures { self.new ≡ self.old }
+    {
+        let count = self.entries.len();
+        if self.len() > count {
+            self.entries = blank(alloc, count.saturating_mul(4))?;
+        }
+        Ok(())
+    }
+
+    /// The labels in one piece of memory.
+    pub(crate) fn into_labels(self, alloc: Global) -> Result<Labels, AllocError>
+        ensures { IfOk result (λ labels. labels ≡ self) }
+    {
+        Labels::of(alloc, self.labels.as_slice())
+    }
+}

@@ -1,0 +1,5 @@
+use Rattle.replica.proofs.SameLaws.{content_is_one}
+use Rattle.replica.proofs.laws.window.Goals as goal
+
+pub returns : goal.returns
+returns c = content_is_one

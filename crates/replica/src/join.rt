@@ -1,0 +1,63 @@
+//! Replicas of one partition, joined.
+
+ghost use Rattle.std.specs.Prelude.{◌≡◌, ℕ, Bool, true, max, OnOk, OnErr};
+ghost use Rattle.ball_model.specs.Job.{Job};
+ghost use Rattle.ball_model.specs.Join.{Holding, AreAlike, join_of, joined as joined_names};
+ghost use Rattle.ball_model.specs.State.{StandsFor, content_of, further};
+ghost use Rattle.ball_model.proofs.JoinLaws.{join_commutes, join_associates, join_repeats, alike_turns, alike_through, join_stays_alike};
+ghost use Rattle.replica.specs.Merged.{ShowsAs, holding};
+
+use crate::{Replica, saved, step};
+use registers::Join;
+use std::alloc::{AllocError, Global};
+
+impl Join for Replica {
+    ghost Content = { Holding };
+
+    ghost content = { holding };
+
+    ghost are_alike = { AreAlike };
+
+    ghost joined = { join_of };
+
+    ghost GROWS = { true };
+
+    const GROWS: bool = true;
+
+    /// Whether the two are of one plan and one partition.
+    fn alike(&self, other: &Replica) -> bool {
+        step::is_same(self.part.plan(), other.part.plan())
+            && self.part.partition() == other.part.partition()
+    }
+
+    /// Takes over what `other` knows, as [`Replica::merge`] does with a snapshot of it.
+    ///
+    /// It takes the memory of that snapshot for as long as it works.
+    fn join(&mut self, alloc: Global, other: &Replica) -> Result<(), AllocError>
+        requires { AreAlike (holding self.old) (holding other.now) }
+        ensures joined { OnOk result (holding self.new ≡ join_of (holding self.old) (holding other.now)) }
+        ensures refused { OnErr result (self.new ≡ self.old) }
+        ensures part { self.new.part ≡ self.old.part }
+        ensures superstep { OnOk result (self.new.superstep ≡ max self.old.superstep other.now.superstep) }
+        ensures names { OnOk result ((s q : ℕ) → (content_of self.new).holds s q ≡ (joined_names (content_of self.old) (content_of other.now)).holds s q) }
+        ensures shown { OnOk result (ShowsAs self.new (further self.old other.now)) }
+        ensures stands { (j : Job) (p t u : ℕ) → StandsFor j p t self.old → StandsFor j p u other.now → OnOk result (StandsFor j p (max t u) self.new) }
+    {
+        let known = other.snapshot(alloc)?;
+        let kept = saved::share(alloc, &known.kept)?;
+        self.absorb(&known, kept);
+        Ok(())
+    }
+
+    ghost commutative = { join_commutes };
+
+    ghost associative = { join_associates };
+
+    ghost idempotent = { join_repeats };
+
+    ghost symmetric = { alike_turns };
+
+    ghost transitive = { alike_through };
+
+    ghost stays_alike = { join_stays_alike };
+}
