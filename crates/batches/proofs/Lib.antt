@@ -1,8 +1,8 @@
-pub mod HeadLaws
-pub mod RowLaws
-pub mod CheckLaws
-pub mod LoopLaws
-pub mod KeptLaws
-pub mod WholeLaws
-pub mod TrueLaws
+pub mod HeadLemmas
+pub mod RowLemmas
+pub mod CheckLemmas
+pub mod LoopLemmas
+pub mod KeptLemmas
+pub mod WholeLemmas
+pub mod TrueLemmas
 pub mod Crossing

@@ -1,1 +1,1 @@
-pub mod FigureLaws
+pub mod FigureLemmas

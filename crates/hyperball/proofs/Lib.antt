@@ -1,7 +1,7 @@
-pub mod NameLaws
-pub mod CsvLaws
-pub mod RowLaws
-pub mod StepLaws
-pub mod GainLaws
-pub mod LineLaws
-pub mod OptionLaws
+pub mod NameLemmas
+pub mod CsvLemmas
+pub mod RowLemmas
+pub mod StepLemmas
+pub mod GainLemmas
+pub mod LineLemmas
+pub mod OptionLemmas

@@ -4,7 +4,7 @@ ghost use Rattle.std.specs.Prelude.{◌≡◌, ℕ, Bool, true, max, OnOk, OnErr
 ghost use Rattle.ball_model.specs.Job.{Job};
 ghost use Rattle.ball_model.specs.Join.{Holding, AreAlike, join_of, joined as joined_names};
 ghost use Rattle.ball_model.specs.State.{StandsFor, content_of, further};
-ghost use Rattle.ball_model.proofs.JoinLaws.{join_commutes, join_associates, join_repeats, alike_turns, alike_through, join_stays_alike};
+ghost use Rattle.ball_model.proofs.JoinLemmas.{join_commutes, join_associates, join_repeats, alike_turns, alike_through, join_stays_alike};
 ghost use Rattle.replica.specs.Merged.{ShowsAs, holding};
 
 use crate::{Replica, saved, step};

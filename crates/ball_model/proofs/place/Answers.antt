@@ -1,7 +1,7 @@
 use Rattle.std.proofs.Common.{◌≤◌, ◌^◌, arith, refl}
 use Rattle.std.proofs.Math.Nat.{pow-le-pow_right}
 use Rattle.ball_model.specs.Hash.{index_of}
-use Rattle.ball_model.proofs.HashLaws.{rank_of-code, index_of-lt}
+use Rattle.ball_model.proofs.HashLemmas.{rank_of-code, index_of-lt}
 use Rattle.ball_model.proofs.place.Goals as goal
 
 pub overflow_cast-index-2 : goal.overflow_cast-index-2

@@ -1,7 +1,7 @@
 use Rattle.std.proofs.Common.{arith, ◌∙◌, sym}
 use Rattle.std.proofs.lemmas.Grind.{same_number_lists}
 use Rattle.ball_model.specs.Counter.{max_each}
-use Rattle.registers.proofs.MaxLaws.{length-max_each, get_or-max_each}
+use Rattle.registers.proofs.MaxLemmas.{length-max_each, get_or-max_each}
 use Rattle.registers.proofs.max_into.Goals as goal
 
 pub returns-clause-maximum : goal.returns-clause-maximum

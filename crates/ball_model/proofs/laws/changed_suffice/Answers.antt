@@ -1,5 +1,5 @@
-use Rattle.ball_model.proofs.ChangeLaws.{changed_suffice}
-use Rattle.ball_model.proofs.QuietLaws.{change_source}
+use Rattle.ball_model.proofs.ChangeLemmas.{changed_suffice}
+use Rattle.ball_model.proofs.QuietLemmas.{change_source}
 use Rattle.ball_model.proofs.laws.changed_suffice.Goals as goal
 
 pub returns-clause-step : goal.returns-clause-step

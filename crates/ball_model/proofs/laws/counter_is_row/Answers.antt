@@ -1,4 +1,4 @@
-use Rattle.ball_model.proofs.RankLaws.{counter_of-length, counter_of-ranks}
+use Rattle.ball_model.proofs.RankLemmas.{counter_of-length, counter_of-ranks}
 use Rattle.ball_model.proofs.laws.counter_is_row.Goals as goal
 
 pub returns-clause-width : goal.returns-clause-width

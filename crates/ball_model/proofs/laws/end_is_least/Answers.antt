@@ -1,4 +1,4 @@
-use Rattle.ball_model.proofs.EndLaws.{end_within, end_least, end_reached}
+use Rattle.ball_model.proofs.EndLemmas.{end_within, end_least, end_reached}
 use Rattle.ball_model.proofs.laws.end_is_least.Goals as goal
 
 pub returns-clause-within : goal.returns-clause-within

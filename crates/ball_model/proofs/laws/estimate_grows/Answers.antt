@@ -1,4 +1,4 @@
-use Rattle.ball_model.proofs.EstimateLaws.{estimate_grows, estimate_fits}
+use Rattle.ball_model.proofs.EstimateLemmas.{estimate_grows, estimate_fits}
 use Rattle.ball_model.proofs.laws.estimate_grows.Goals as goal
 
 pub returns-clause-grows : goal.returns-clause-grows

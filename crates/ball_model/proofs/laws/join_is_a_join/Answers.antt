@@ -1,4 +1,4 @@
-use Rattle.ball_model.proofs.JoinLaws.{join_commutes, join_associates, join_repeats, join_is_union}
+use Rattle.ball_model.proofs.JoinLemmas.{join_commutes, join_associates, join_repeats, join_is_union}
 use Rattle.ball_model.proofs.laws.join_is_a_join.Goals as goal
 
 pub returns-clause-commutative : goal.returns-clause-commutative

@@ -1,4 +1,4 @@
-use Rattle.ball_model.proofs.PartLaws.{vertices_of-strided}
+use Rattle.ball_model.proofs.PartLemmas.{vertices_of-strided}
 use Rattle.ball_model.proofs.laws.part_is_strided.Goals as goal
 
 pub returns : goal.returns

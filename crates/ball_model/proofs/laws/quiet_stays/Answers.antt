@@ -1,4 +1,4 @@
-use Rattle.ball_model.proofs.QuietLaws.{quiet_stays}
+use Rattle.ball_model.proofs.QuietLemmas.{quiet_stays}
 use Rattle.ball_model.proofs.laws.quiet_stays.Goals as goal
 
 pub returns : goal.returns

@@ -1,8 +1,8 @@
 use Rattle.std.proofs.Common.{ℕ, ◌&&◌, ◌==◌, ap, ◌∙◌}
 use Rattle.ball_model.specs.Hash.{hash_of, index_of, rank_of}
 use Rattle.ball_model.specs.Counter.{register_of}
-use Rattle.ball_model.proofs.GreatestLaws.{greatest-bounds, greatest-least}
-use Rattle.ball_model.proofs.PathLaws.{and_both, and_left, and_right, eq_true, same_true}
+use Rattle.ball_model.proofs.GreatestLemmas.{greatest-bounds, greatest-least}
+use Rattle.ball_model.proofs.PathLemmas.{and_both, and_left, and_right, eq_true, same_true}
 use Rattle.ball_model.proofs.laws.register_is_greatest.Goals as goal
 
 pub returns-clause-bound : goal.returns-clause-bound

@@ -1,4 +1,4 @@
-use Rattle.ball_model.proofs.TallyLaws.{tallies_fit}
+use Rattle.ball_model.proofs.TallyLemmas.{tallies_fit}
 use Rattle.ball_model.proofs.laws.tallies_fit.Goals as goal
 
 pub returns : goal.returns

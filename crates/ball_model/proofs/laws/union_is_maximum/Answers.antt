@@ -1,5 +1,5 @@
-use Rattle.ball_model.proofs.CounterLaws.{counter_of-or}
-use Rattle.ball_model.proofs.RankLaws.{counter_of-empty}
+use Rattle.ball_model.proofs.CounterLemmas.{counter_of-or}
+use Rattle.ball_model.proofs.RankLemmas.{counter_of-empty}
 use Rattle.ball_model.proofs.laws.union_is_maximum.Goals as goal
 
 pub returns-clause-union : goal.returns-clause-union

@@ -1,7 +1,7 @@
 use Rattle.std.proofs.Common.{◌≡◌, ℕ, ◌-◌, List, ◌++◌, length, take, drop, sym, ap, ◌∙◌, append_assoc, take-append-drop}
 use Rattle.std.proofs.lemmas.List.{take_rest}
 use Rattle.std.proofs.KnownBytes.{Appends-trans}
-use Rattle.ball_model.proofs.StreamLaws.{rises_from}
+use Rattle.ball_model.proofs.StreamLemmas.{rises_from}
 use Rattle.ball_model.proofs.streams.put_all.Goals as goal
 
 -- what is gone grows by the first n bytes of the rest

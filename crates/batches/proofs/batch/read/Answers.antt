@@ -1,4 +1,4 @@
-use Rattle.batches.proofs.WholeLaws.{checked_takes, width_small, kept_read}
+use Rattle.batches.proofs.WholeLemmas.{checked_takes, width_small, kept_read}
 use Rattle.batches.proofs.batch.read.Goals as goal
 
 pub split_at-requires : goal.split_at-requires

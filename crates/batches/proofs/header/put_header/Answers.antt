@@ -1,4 +1,4 @@
-use Rattle.batches.proofs.HeadLaws.{fields_are}
+use Rattle.batches.proofs.HeadLemmas.{fields_are}
 use Rattle.batches.proofs.header.put_header.Goals as goal
 
 pub returns : goal.returns

@@ -1,4 +1,4 @@
-use Rattle.batches.proofs.WholeLaws.{batch_is_one}
+use Rattle.batches.proofs.WholeLemmas.{batch_is_one}
 use Rattle.batches.proofs.laws.batch_is_one.Goals as goal
 
 pub returns : goal.returns

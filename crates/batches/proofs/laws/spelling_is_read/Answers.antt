@@ -1,4 +1,4 @@
-use Rattle.batches.proofs.WholeLaws.{spelling_is_read}
+use Rattle.batches.proofs.WholeLemmas.{spelling_is_read}
 use Rattle.batches.proofs.laws.spelling_is_read.Goals as goal
 
 pub returns : goal.returns

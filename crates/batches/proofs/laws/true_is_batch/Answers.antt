@@ -1,4 +1,4 @@
-use Rattle.batches.proofs.TrueLaws.{true_is_batch}
+use Rattle.batches.proofs.TrueLemmas.{true_is_batch}
 use Rattle.batches.proofs.laws.true_is_batch.Goals as goal
 
 pub returns : goal.returns

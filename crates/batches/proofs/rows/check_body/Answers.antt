@@ -5,7 +5,7 @@ use Rattle.batches.specs.declared.error.BatchError.{BatchError}
 use Rattle.ball_model.specs.PlanValue.{PlanValue}
 use Rattle.batches.specs.Kept.{rows_at}
 use Rattle.batches.specs.Reading.{check_rows}
-use Rattle.batches.proofs.LoopLaws.{row_goes_on, row_fails, rows_done, room_goes_on}
+use Rattle.batches.proofs.LoopLemmas.{row_goes_on, row_fails, rows_done, room_goes_on}
 use Rattle.batches.proofs.rows.check_body.Goals as goal
 
 next : (plan : PlanValue) (source m left id front : ℕ) (rest after : List ℕ) (total : Result (Unit {0}) BatchError) → id ≡ front → after ≡ drop (4 + m) rest

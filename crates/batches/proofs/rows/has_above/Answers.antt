@@ -1,5 +1,5 @@
 use Rattle.std.proofs.Common.{◌∙◌, ap, ltb, ℕ}
-use Rattle.batches.proofs.CheckLaws.{greatest_above}
+use Rattle.batches.proofs.CheckLemmas.{greatest_above}
 use Rattle.batches.proofs.rows.has_above.Goals as goal
 
 pub returns : goal.returns

@@ -1,4 +1,4 @@
-use Rattle.batches.proofs.LoopLaws.{put_next, put_done}
+use Rattle.batches.proofs.LoopLemmas.{put_next, put_done}
 use Rattle.batches.proofs.rows.put_rows.Goals as goal
 
 pub loop-id-preserved : goal.loop-id-preserved

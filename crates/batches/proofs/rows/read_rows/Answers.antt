@@ -1,5 +1,5 @@
 use Rattle.std.proofs.Common.{arith}
-use Rattle.batches.proofs.LoopLaws.{read_next, read_done, read_none, read_whole}
+use Rattle.batches.proofs.LoopLemmas.{read_next, read_done, read_none, read_whole}
 use Rattle.batches.proofs.rows.read_rows.Goals as goal
 
 pub loop-init : goal.loop-init

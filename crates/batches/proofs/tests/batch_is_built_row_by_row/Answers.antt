@@ -1,6 +1,6 @@
 use Rattle.std.proofs.Common.{◌≡◌, ◌∙◌, ap, arith}
 use Rattle.ball_model.specs.PlanValue.{PlanValue, part_size}
-use Rattle.ball_model.proofs.PartLaws.{part_size-is}
+use Rattle.ball_model.proofs.PartLemmas.{part_size-is}
 use Rattle.batches.proofs.tests.batch_is_built_row_by_row.Goals as goal
 
 pub start-requires-clause-changed : goal.start-requires-clause-changed

@@ -1,6 +1,6 @@
 use Rattle.std.proofs.Common.{◌≡◌, ◌++◌, ℕ, List, sym, subst, arith}
 use Rattle.sha2.specs.Hashers.{Holds256}
-use Rattle.edgelist.proofs.DigestLaws.{bytes_below, bytes-next, bytes-all}
+use Rattle.edgelist.proofs.DigestLemmas.{bytes_below, bytes-next, bytes-all}
 use Rattle.edgelist.proofs.digest.add_edges.Goals as goal
 
 pub loop-target-preserved : goal.loop-target-preserved

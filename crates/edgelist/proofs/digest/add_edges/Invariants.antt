@@ -1,6 +1,6 @@
 use Rattle.std.proofs.Common.{◌++◌, ℕ, List}
 use Rattle.sha2.specs.Hashers.{Holds256}
-use Rattle.edgelist.proofs.DigestLaws.{bytes_below}
+use Rattle.edgelist.proofs.DigestLemmas.{bytes_below}
 use Rattle.edgelist.proofs.digest.add_edges.Given as goal
 
 abbrev pub invariant-loop-target : goal.invariant-loop-target

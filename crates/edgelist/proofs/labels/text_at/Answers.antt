@@ -1,5 +1,5 @@
 use Rattle.std.proofs.Common.{sym, arith}
-use Rattle.edgelist.proofs.CutLaws.{starts-at, cut-at}
+use Rattle.edgelist.proofs.CutLemmas.{starts-at, cut-at}
 use Rattle.edgelist.proofs.labels.text_at.Goals as goal
 
 pub slice_bounds-result-count : goal.slice_bounds-result-count

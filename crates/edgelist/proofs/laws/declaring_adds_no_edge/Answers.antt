@@ -1,4 +1,4 @@
-use Rattle.edgelist.proofs.InputLaws.{declaring_adds_no_edge}
+use Rattle.edgelist.proofs.InputLemmas.{declaring_adds_no_edge}
 use Rattle.edgelist.proofs.laws.declaring_adds_no_edge.Goals as goal
 
 pub returns : goal.returns

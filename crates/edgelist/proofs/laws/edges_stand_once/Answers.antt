@@ -1,4 +1,4 @@
-use Rattle.edgelist.proofs.InputLaws.{edges_stand_once}
+use Rattle.edgelist.proofs.InputLemmas.{edges_stand_once}
 use Rattle.edgelist.proofs.laws.edges_stand_once.Goals as goal
 
 pub returns : goal.returns

@@ -1,5 +1,5 @@
 use Rattle.std.proofs.Common.{sym, arith}
-use Rattle.edgelist.proofs.CutLaws.{starts-at, cut-at}
+use Rattle.edgelist.proofs.CutLemmas.{starts-at, cut-at}
 use Rattle.edgelist.proofs.lists.list_at.Goals as goal
 
 pub slice_bounds-result-count : goal.slice_bounds-result-count

@@ -1,7 +1,7 @@
 use Rattle.std.proofs.Common.{◌≡◌, ◌∙◌, ◌+◌, ◌*◌, ◌<◌, ◌≤◌, ℕ, List, length, get_or, drop, ap, arith, sym}
 use Rattle.std.proofs.lemmas.List.{drop_more, drop_all}
 use Rattle.edgelist.specs.Guessing.{bytes_after}
-use Rattle.edgelist.proofs.GuessLaws.{digits-step, digits-fit}
+use Rattle.edgelist.proofs.GuessLemmas.{digits-step, digits-fit}
 use Rattle.edgelist.proofs.numbering.digits.Goals as goal
 
 pub overflow_mul-digits : goal.overflow_mul-digits

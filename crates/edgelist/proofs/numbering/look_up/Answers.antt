@@ -3,7 +3,7 @@ use Rattle.std.specs.List.{position_or_len}
 use Rattle.std.specs.Str.{bytes_eq}
 use Rattle.edgelist.specs.Labels.{texts}
 use Rattle.edgelist.specs.Reading.{with_label}
-use Rattle.edgelist.proofs.LabelLaws.{place-map, any-map, place-found, texts-insert, with-label, label-at}
+use Rattle.edgelist.proofs.LabelLemmas.{place-map, any-map, place-found, texts-insert, with-label, label-at}
 use Rattle.edgelist.proofs.numbering.look_up.Goals as goal
 
 abbrev text : Vec ℕ Global → List ℕ

@@ -1,6 +1,6 @@
 use Rattle.std.proofs.Common.{◌≡◌, ◌∙◌, ◌+◌, ◌*◌, ◌<◌, ◌^◌}
 use Rattle.edgelist.specs.Guessing.{Tells}
-use Rattle.edgelist.proofs.GuessLaws.{tells-one, told-set}
+use Rattle.edgelist.proofs.GuessLemmas.{tells-one, told-set}
 use Rattle.edgelist.proofs.numbering.remember.Goals as goal
 
 pub returns-then-place-entries : goal.returns-then-place-entries

@@ -1,6 +1,6 @@
 use Rattle.std.proofs.Common.{◌≡◌, ◌∙◌, ◌+◌, ◌*◌, ◌/◌, ◌%◌, ◌<◌, ℕ, length, sym, arith}
 use Rattle.std.proofs.Math.Nat.{div-add-mod}
-use Rattle.edgelist.proofs.FeedLaws.{place-within, masks-own, masks-other}
+use Rattle.edgelist.proofs.FeedLemmas.{place-within, masks-own, masks-other}
 use Rattle.edgelist.proofs.part.mark.Goals as goal
 
 pub bounds-feeds-place : goal.bounds-feeds-place

@@ -1,7 +1,7 @@
 use Rattle.std.proofs.Common.{[]}
 use Rattle.std.specs.List.{flat_map, range_with_len}
 use Rattle.edgelist.specs.Feeding.{AreMasks}
-use Rattle.edgelist.proofs.DigestLaws.{edges_to}
+use Rattle.edgelist.proofs.DigestLemmas.{edges_to}
 use Rattle.edgelist.proofs.part.mark_all.Given as goal
 
 abbrev pub invariant-loop-target : goal.invariant-loop-target

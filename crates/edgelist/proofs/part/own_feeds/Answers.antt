@@ -2,7 +2,7 @@ use Rattle.std.proofs.Common.{◌≡◌, ◌∙◌, ℕ, [], length, ap, arith}
 use Rattle.std.proofs.lemmas.List.{length-replicate}
 use Rattle.ball_model.specs.PlanValue.{part_size}
 use Rattle.edgelist.specs.Feeding.{AreMasks}
-use Rattle.edgelist.proofs.FeedLaws.{masks-none, masks-feeds, refill}
+use Rattle.edgelist.proofs.FeedLemmas.{masks-none, masks-feeds, refill}
 use Rattle.edgelist.proofs.part.own_feeds.Goals as goal
 
 pub returns : goal.returns

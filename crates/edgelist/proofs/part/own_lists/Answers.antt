@@ -2,8 +2,8 @@ use Rattle.std.proofs.Common.{◌∙◌, ◌<◌, ◌∷◌, [], ℕ, length, sy
 use Rattle.std.proofs.lemmas.List.{map-append}
 use Rattle.ball_model.specs.Graph.{preds_of}
 use Rattle.ball_model.specs.PlanValue.{vertices_of}
-use Rattle.edgelist.proofs.CutLaws.{starts-none, cut-none}
-use Rattle.edgelist.proofs.OwnLaws.{own-next, other-next, left-next, left-all}
+use Rattle.edgelist.proofs.CutLemmas.{starts-none, cut-none}
+use Rattle.edgelist.proofs.OwnLemmas.{own-next, other-next, left-next, left-all}
 use Rattle.edgelist.proofs.part.own_lists.Goals as goal
 use Rattle.edgelist.proofs.part.own_lists.Goals.{then-x-parts+in_ok-push_list, else-x-parts}
 

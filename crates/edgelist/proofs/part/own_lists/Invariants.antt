@@ -3,7 +3,7 @@ use Rattle.std.specs.List.{flat_map, range_with_len}
 use Rattle.ball_model.specs.Graph.{preds_of}
 use Rattle.ball_model.specs.PlanValue.{vertices_of}
 use Rattle.edgelist.specs.Lists.{cut, AreStarts}
-use Rattle.edgelist.proofs.DigestLaws.{edges_to}
+use Rattle.edgelist.proofs.DigestLemmas.{edges_to}
 use Rattle.edgelist.proofs.part.own_lists.Given as goal
 
 abbrev pub invariant-loop-x : goal.invariant-loop-x

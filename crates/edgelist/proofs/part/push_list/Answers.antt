@@ -1,6 +1,6 @@
 use Rattle.std.proofs.Common.{◌≡◌, ◌∙◌, ◌+◌, ◌++◌, List, ℕ, length, sym, ap, arith, length-append}
 use Rattle.std.proofs.lemmas.List.{append-nil}
-use Rattle.edgelist.proofs.CutLaws.{starts-push, lists-push}
+use Rattle.edgelist.proofs.CutLemmas.{starts-push, lists-push}
 use Rattle.edgelist.proofs.part.push_list.Goals as goal
 
 pub returns-clause-starts : goal.returns-clause-starts

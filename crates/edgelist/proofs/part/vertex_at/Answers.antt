@@ -1,5 +1,5 @@
 use Rattle.std.proofs.Common.{◌+◌, ◌*◌, ◌<◌, ◌^◌, arith}
-use Rattle.edgelist.proofs.FeedLaws.{vertex-within}
+use Rattle.edgelist.proofs.FeedLemmas.{vertex-within}
 use Rattle.edgelist.proofs.part.vertex_at.Goals as goal
 
 pub overflow_mul-result : goal.overflow_mul-result

@@ -1,6 +1,6 @@
 use Rattle.std.proofs.Common.{◌∙◌, sym, arith}
 use Rattle.csv.specs.Records.{fields_of}
-use Rattle.edgelist.proofs.FormLaws.{form-none, form-empty, form-long, form-one, form-two}
+use Rattle.edgelist.proofs.FormLemmas.{form-none, form-empty, form-long, form-one, form-two}
 use Rattle.edgelist.proofs.read.has_form.Goals as goal
 use Rattle.edgelist.proofs.read.has_form.Goals.{then-is_empty-via-then-is_empty, then-is_empty-via-else-is_empty+then-len-gt2}
 

@@ -1,5 +1,5 @@
 use Rattle.std.proofs.Common.{◌∙◌, arith}
-use Rattle.edgelist.proofs.FormLaws.{blank-one, blank-none}
+use Rattle.edgelist.proofs.FormLemmas.{blank-one, blank-none}
 use Rattle.edgelist.proofs.read.is_blank.Goals as goal
 
 pub returns-in-Some : goal.returns-in-Some

@@ -3,8 +3,8 @@ use Rattle.csv.specs.Records.{fields_of}
 use Rattle.edgelist.specs.Reading.{byte_of, limits_of}
 use Rattle.edgelist.specs.declared.read.Delimiter.{Delimiter}
 use Rattle.edgelist.specs.declared.read.Delimiter.TheVariants as delimiter
-use Rattle.edgelist.proofs.LineLaws.{IsDelimiter}
-use Rattle.edgelist.proofs.LoopLaws.{goes-start, goes-end, goes-blank, goes-more, goes-stop, unmarked-whole}
+use Rattle.edgelist.proofs.LineLemmas.{IsDelimiter}
+use Rattle.edgelist.proofs.LoopLemmas.{goes-start, goes-end, goes-blank, goes-more, goes-stop, unmarked-whole}
 use Rattle.edgelist.proofs.read.read_records.Goals as goal
 
 is_delimiter : (d : Delimiter) → IsDelimiter (byte_of d)

@@ -1,7 +1,7 @@
 use Rattle.std.proofs.Common.{◌≡◌, ◌≤◌, ℕ, List, Some}
 use Rattle.ball_model.specs.Input.{IsPlain}
 use Rattle.edgelist.specs.Reading.{byte_of, limits_of, AreWithin}
-use Rattle.edgelist.proofs.LoopLaws.{Goes, IsSetUp}
+use Rattle.edgelist.proofs.LoopLemmas.{Goes, IsSetUp}
 use Rattle.edgelist.proofs.read.read_records.Given as goal
 
 abbrev pub invariant-loop-number : goal.invariant-loop-number

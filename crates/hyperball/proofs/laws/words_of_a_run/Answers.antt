@@ -5,7 +5,7 @@ use Rattle.edgelist.specs.declared.read.Delimiter.TheVariants.{Tab, Comma}
 use Rattle.hyperball.specs.declared.serial.SerialOptions.{SerialOptions}
 use Rattle.hyperball.specs.CommandLine.{hyperball_app, run_app}
 use Rattle.hyperball.specs.Words.{IsRunOf}
-use Rattle.hyperball.proofs.NameLaws.{of_names}
+use Rattle.hyperball.proofs.NameLemmas.{of_names}
 use Rattle.hyperball.proofs.laws.words_of_a_run.Goals as goal
 
 abbrev log2m_words : List Text

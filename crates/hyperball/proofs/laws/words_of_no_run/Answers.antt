@@ -3,7 +3,7 @@ use Rattle.clap.specs.Words.{fault_of}
 use Rattle.clap.specs.declared.error.kind.ErrorKind.TheVariants.{DisplayHelp, InvalidValue, UnknownArgument, ValueValidation}
 use Rattle.clap.proofs.OnLiterals.{clap_on_literals}
 use Rattle.hyperball.specs.CommandLine.{hyperball_app, run_app}
-use Rattle.hyperball.proofs.NameLaws.{of_names}
+use Rattle.hyperball.proofs.NameLemmas.{of_names}
 use Rattle.hyperball.proofs.laws.words_of_no_run.Goals as goal
 
 pub returns-clause-help : goal.returns-clause-help

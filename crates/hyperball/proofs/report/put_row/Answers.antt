@@ -4,7 +4,7 @@ use Rattle.csv.specs.Writing.{row_text}
 use Rattle.csv.specs.declared.writer.WriterBuilder.{WriterBuilder}
 use Rattle.csv.specs.declared.writer.QuoteStyle.TheVariants as style
 use Rattle.hyperball.specs.Rows.{text_in}
-use Rattle.hyperball.proofs.CsvLaws.{row-of}
+use Rattle.hyperball.proofs.CsvLemmas.{row-of}
 use Rattle.hyperball.proofs.report.put_row.Goals as goal
 
 pub returns-clause-text : goal.returns-clause-text

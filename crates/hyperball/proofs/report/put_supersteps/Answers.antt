@@ -1,7 +1,7 @@
 use Rattle.std.proofs.Common.{slice_index, ◌∙◌, rules}
 use Rattle.ball_model.specs.Report.{superstep_line}
 use Rattle.hyperball.specs.Rows.{text_in}
-use Rattle.hyperball.proofs.LineLaws.{text_more}
+use Rattle.hyperball.proofs.LineLemmas.{text_more}
 use Rattle.hyperball.proofs.report.put_supersteps.Goals as goal
 
 pub loop-i-preserved : goal.loop-i-preserved

@@ -7,9 +7,9 @@ use Rattle.ball_model.specs.PlanValue.{mixing_of}
 use Rattle.ball_model.specs.Report.{vertex_text}
 use Rattle.ball_model.specs.Supersteps.{tally_at}
 use Rattle.hyperball.specs.Rows.{text_in}
-use Rattle.hyperball.proofs.StepLaws.{length-rows_at}
-use Rattle.hyperball.proofs.GainLaws.{row_is}
-use Rattle.hyperball.proofs.LineLaws.{line_is, report_is, text_more}
+use Rattle.hyperball.proofs.StepLemmas.{length-rows_at}
+use Rattle.hyperball.proofs.GainLemmas.{row_is}
+use Rattle.hyperball.proofs.LineLemmas.{line_is, report_is, text_more}
 use Rattle.hyperball.proofs.report.report.Goals as goal
 
 pub empty_count-empty-requires : goal.empty_count-empty-requires

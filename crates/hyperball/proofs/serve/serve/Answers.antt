@@ -7,7 +7,7 @@ use Rattle.ball_model.specs.Input.{IsPlain}
 use Rattle.ball_model.specs.RunText.{AppendsReport, Settings}
 use Rattle.hyperball.specs.Serial.{settings_of}
 use Rattle.hyperball.specs.Words.{IsMistake, IsRunOf}
-use Rattle.hyperball.proofs.OptionLaws.{same_options}
+use Rattle.hyperball.proofs.OptionLemmas.{same_options}
 use Rattle.hyperball.proofs.serve.serve.Goals as goal
 
 -- a kind that is one of some mistakes is a mistake

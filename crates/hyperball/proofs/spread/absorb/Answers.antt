@@ -2,7 +2,7 @@ use Rattle.std.proofs.Common.{◌≡◌, ℕ, List, [], ◌∷◌, ◌++◌, tru
 use Rattle.std.proofs.lemmas.List.{set-get_or}
 use Rattle.ball_model.specs.Table.{Table}
 use Rattle.hyperball.specs.Spread.{is_marked, raised_by}
-use Rattle.hyperball.proofs.RowLaws.{raised_more}
+use Rattle.hyperball.proofs.RowLemmas.{raised_more}
 use Rattle.hyperball.proofs.spread.absorb.Goals as goal
 
 pub loop-z-init : goal.loop-z-init

@@ -1,7 +1,7 @@
 use Rattle.std.proofs.Common.{◌<◌, length, arith, refl, ap, ◌∙◌, length-set}
 use Rattle.ball_model.specs.Table.{Table}
 use Rattle.hyperball.specs.Spread.{moves, spread_row}
-use Rattle.hyperball.proofs.RowLaws.{any_more, behind_still, marks_more, spread_all, spread_done, spread_rest}
+use Rattle.hyperball.proofs.RowLemmas.{any_more, behind_still, marks_more, spread_all, spread_done, spread_rest}
 use Rattle.hyperball.proofs.spread.spread.Goals as goal
 
 pub spread_one-is_changed-requires-clause-behind : goal.spread_one-is_changed-requires-clause-behind

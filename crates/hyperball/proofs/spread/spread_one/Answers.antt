@@ -5,7 +5,7 @@ use Rattle.std.specs.Str.{bytes_eq}
 use Rattle.ball_model.specs.Table.{Table}
 use Rattle.ball_model.specs.Graph.{Graph, preds_of}
 use Rattle.hyperball.specs.Spread.{is_marked, raised_by, spread_row}
-use Rattle.hyperball.proofs.RowLaws.{spread_at, unmoved}
+use Rattle.hyperball.proofs.RowLemmas.{spread_at, unmoved}
 use Rattle.hyperball.proofs.spread.spread_one.Goals as goal
 
 abbrev table : ℕ → List (List ℕ) → Table

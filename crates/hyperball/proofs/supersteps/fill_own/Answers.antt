@@ -3,7 +3,7 @@ use Rattle.ball_model.specs.Table.{Table}
 use Rattle.ball_model.specs.Counter.{Mixing}
 use Rattle.ball_model.specs.Hash.{hash_of, index_of, rank_of}
 use Rattle.ball_model.specs.PlanValue.{mixing_of}
-use Rattle.hyperball.proofs.StepLaws.{fill_more, fill_rest, filled}
+use Rattle.hyperball.proofs.StepLemmas.{fill_more, fill_rest, filled}
 use Rattle.hyperball.proofs.supersteps.fill_own.Goals as goal
 
 pub loop-x-preserved : goal.loop-x-preserved

@@ -9,8 +9,8 @@ use Rattle.ball_model.specs.PlanValue.{mixing_of}
 use Rattle.ball_model.specs.Supersteps.{rows_at, total_at}
 use Rattle.hyperball.specs.Spread.{IsBehind}
 use Rattle.hyperball.specs.Ending.{Covers, TalliesAt, table_at}
-use Rattle.hyperball.proofs.StepLaws.{any_moves, behind_next, behind_start, changed_more, covers_next, covers_start, end_of-limit, end_of-still, length-rows_at, next_table}
-use Rattle.hyperball.proofs.GainLaws.{kept_whole, totals_more}
+use Rattle.hyperball.proofs.StepLemmas.{any_moves, behind_next, behind_start, changed_more, covers_next, covers_start, end_of-limit, end_of-still, length-rows_at, next_table}
+use Rattle.hyperball.proofs.GainLemmas.{kept_whole, totals_more}
 use Rattle.hyperball.proofs.supersteps.run_supersteps.Goals as goal
 
 pub loop-t-init : goal.loop-t-init

@@ -3,8 +3,8 @@ use Rattle.ball_model.specs.Table.{Table}
 use Rattle.ball_model.specs.Counter.{Mixing}
 use Rattle.ball_model.specs.PlanValue.{mixing_of}
 use Rattle.ball_model.specs.Supersteps.{estimate_at, tally_at}
-use Rattle.hyperball.proofs.StepLaws.{length-rows_at}
-use Rattle.hyperball.proofs.GainLaws.{estimate_is, row_is, row_ranks, tallies_push, total_fits, total_more, total_none}
+use Rattle.hyperball.proofs.StepLemmas.{length-rows_at}
+use Rattle.hyperball.proofs.GainLemmas.{estimate_is, row_is, row_ranks, tallies_push, total_fits, total_more, total_none}
 use Rattle.hyperball.proofs.supersteps.start_tallies.Goals as goal
 
 pub loop-x-init : goal.loop-x-init

@@ -8,8 +8,8 @@ use Rattle.ball_model.specs.Counter.{Mixing}
 use Rattle.ball_model.specs.PlanValue.{mixing_of}
 use Rattle.ball_model.specs.Supersteps.{estimate_at, tally_at, total_over}
 use Rattle.hyperball.specs.Spread.{is_marked}
-use Rattle.hyperball.proofs.StepLaws.{length-rows_at}
-use Rattle.hyperball.proofs.GainLaws.{estimate_grows, estimate_is, estimate_still, row_is, row_ranks, tallies_kept, tallies_more, tallies_rest, tally_still, total_first, total_fits, total_more, total_past, total_whole}
+use Rattle.hyperball.proofs.StepLemmas.{length-rows_at}
+use Rattle.hyperball.proofs.GainLemmas.{estimate_grows, estimate_is, estimate_still, row_is, row_ranks, tallies_kept, tallies_more, tallies_rest, tally_still, total_first, total_fits, total_more, total_past, total_whole}
 use Rattle.hyperball.proofs.supersteps.step_tallies.Goals as goal
 use Rattle.hyperball.proofs.supersteps.step_tallies.Goals.{then-marks-x, else-marks-x}
 

@@ -5,7 +5,7 @@ use Rattle.clap.specs.Words.{App, is_simple, is_simple_and_free, subcommand_of, 
 use Rattle.clap.specs.declared.builder.value_parser.ValueParser.{ValueParser}
 use Rattle.clap.proofs.OnLiterals.{clap_on_literals}
 use Rattle.hyperball.specs.CommandLine.{TakesNames, delimiter_names, hyperball_app, run_app}
-use Rattle.hyperball.proofs.NameLaws.{names_at, of_names}
+use Rattle.hyperball.proofs.NameLemmas.{names_at, of_names}
 use Rattle.hyperball.proofs.words.parse.Goals as goal
 
 simple : (p : ValueParser) → TakesNames delimiter_names p → is_simple (hyperball_app p) ≡ true

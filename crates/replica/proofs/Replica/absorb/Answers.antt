@@ -11,7 +11,7 @@ use Rattle.figures.specs.Values.{value_of}
 use Rattle.replica.specs.Merged.{gathered}
 use Rattle.replica.specs.Seen.{state_of}
 use Rattle.replica.specs.Saved.{saved_of}
-use Rattle.replica.proofs.MergeLaws.{merged_state}
+use Rattle.replica.proofs.MergeLemmas.{merged_state}
 use Rattle.replica.proofs.Replica.absorb.Goals as goal
 
 pub invariant_of-self : goal.invariant_of-self

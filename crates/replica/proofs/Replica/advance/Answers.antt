@@ -11,9 +11,9 @@ use Rattle.figures.specs.declared.tally.Tally.{Tally}
 use Rattle.figures.specs.Values.{value_of}
 use Rattle.replica.specs.Level.{Advances, next_rows, differing, stepped_all}
 use Rattle.replica.specs.Seen.{state_of}
-use Rattle.replica.proofs.RiseLaws.{rise_counters}
-use Rattle.replica.proofs.NextLaws.{rows_are, length-next_rows, length-differing, next_rise, next_lasts, next_total, state_next, differing_as, stepped_as, shifted_as}
-use Rattle.replica.proofs.ReadLaws.{length-tallies}
+use Rattle.replica.proofs.RiseLemmas.{rise_counters}
+use Rattle.replica.proofs.NextLemmas.{rows_are, length-next_rows, length-differing, next_rise, next_lasts, next_total, state_next, differing_as, stepped_as, shifted_as}
+use Rattle.replica.proofs.ReadLemmas.{length-tallies}
 use Rattle.replica.proofs.Replica.advance.Goals as goal
 use Rattle.replica.proofs.Replica.advance.Goals.{After-deref_mut-3, After-push_reserved}
 

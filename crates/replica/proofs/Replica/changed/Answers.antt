@@ -1,7 +1,7 @@
 use Rattle.std.proofs.Common.{◌≡◌, ◌/◌, ◌<◌, false, length, get_or, ap, refl, ◌∙◌, arith}
 use Rattle.std.proofs.lemmas.List.{get_or_default}
 use Rattle.ball_model.specs.State.{State}
-use Rattle.replica.proofs.ReadLaws.{mark_stands}
+use Rattle.replica.proofs.ReadLemmas.{mark_stands}
 use Rattle.replica.proofs.Replica.changed.Goals as goal
 
 pub returns-clause-stands : goal.returns-clause-stands

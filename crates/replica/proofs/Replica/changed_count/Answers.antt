@@ -2,7 +2,7 @@ use Rattle.std.proofs.Common.{length, ap, ◌∙◌, arith, subst}
 use Rattle.std.specs.List.{count_by}
 use Rattle.ball_model.specs.State.{State}
 use Rattle.replica.specs.Seen.{IsState}
-use Rattle.replica.proofs.ReadLaws.{count_stands, few}
+use Rattle.replica.proofs.ReadLemmas.{count_stands, few}
 use Rattle.replica.proofs.Replica.changed_count.Goals as goal
 
 pub overflow_cast-result : goal.overflow_cast-result

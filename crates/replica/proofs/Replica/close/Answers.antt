@@ -1,7 +1,7 @@
 use Rattle.std.proofs.Common.{sym, ◌∙◌}
-use Rattle.replica.proofs.BusyLaws.{found_close-is}
-use Rattle.replica.proofs.CloseLaws.{waits_for, closes, on_ok, if_ok, close_stands}
-use Rattle.replica.proofs.AdvanceLaws.{advance_holds}
+use Rattle.replica.proofs.BusyLemmas.{found_close-is}
+use Rattle.replica.proofs.CloseLemmas.{waits_for, closes, on_ok, if_ok, close_stands}
+use Rattle.replica.proofs.AdvanceLemmas.{advance_holds}
 use Rattle.replica.proofs.Replica.close.Goals as goal
 
 pub returns-clause-waits : goal.returns-clause-waits

@@ -1,5 +1,5 @@
 use Rattle.std.proofs.Common.{◌∙◌, sym}
-use Rattle.replica.proofs.CloseLaws.{goes_below}
+use Rattle.replica.proofs.CloseLemmas.{goes_below}
 use Rattle.replica.proofs.Replica.found_close.Goals as goal
 
 pub advance-requires : goal.advance-requires

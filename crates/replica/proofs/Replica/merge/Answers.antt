@@ -1,8 +1,8 @@
 use Rattle.std.proofs.Common.{◌≡◌, true, refl, sym, ◌∙◌}
 use Rattle.std.specs.Prelude.{Ok}
 use Rattle.ball_model.specs.Content.{same_plan}
-use Rattle.replica.proofs.MergeLaws.{merged_names, merged_stands, same_plan_one}
-use Rattle.replica.proofs.CallLaws.{merges, merge_of-same}
+use Rattle.replica.proofs.MergeLemmas.{merged_names, merged_stands, same_plan_one}
+use Rattle.replica.proofs.CallLemmas.{merges, merge_of-same}
 use Rattle.replica.proofs.Replica.merge.Goals as goal
 
 pub returns-clause-names : goal.returns-clause-names

@@ -4,7 +4,7 @@ use Rattle.ball_model.specs.PlanValue.{PlanValue}
 use Rattle.ball_model.specs.Job.{PartValue}
 use Rattle.ball_model.specs.Content.{missing_of}
 use Rattle.ball_model.specs.State.{State, content_of}
-use Rattle.replica.proofs.MissingLaws.{missing_is}
+use Rattle.replica.proofs.MissingLemmas.{missing_is}
 use Rattle.replica.proofs.Replica.missing.Goals as goal
 
 pub returns : goal.returns

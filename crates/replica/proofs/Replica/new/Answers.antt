@@ -1,5 +1,5 @@
 use Rattle.std.specs.Arc.{arc_value}
-use Rattle.replica.proofs.StartLaws.{if_made, starts_empty, starts_stands}
+use Rattle.replica.proofs.StartLemmas.{if_made, starts_empty, starts_stands}
 use Rattle.replica.proofs.Replica.new.Goals as goal
 
 pub returns-clause-part : goal.returns-clause-part

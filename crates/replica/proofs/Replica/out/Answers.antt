@@ -1,6 +1,6 @@
 use Rattle.std.proofs.Common.{◌∙◌}
-use Rattle.replica.proofs.StartLaws.{if_made}
-use Rattle.replica.proofs.SentLaws.{sent_true}
+use Rattle.replica.proofs.StartLemmas.{if_made}
+use Rattle.replica.proofs.SentLemmas.{sent_true}
 use Rattle.replica.proofs.Replica.out.Goals as goal
 
 pub returns : goal.returns

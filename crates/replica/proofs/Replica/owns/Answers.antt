@@ -4,7 +4,7 @@ use Rattle.std.proofs.lemmas.Bool.Decides.{nat_tests}
 use Rattle.ball_model.specs.PlanValue.{PlanValue, vertices_of}
 use Rattle.ball_model.specs.Job.{PartValue}
 use Rattle.ball_model.specs.State.{State}
-use Rattle.replica.proofs.OwnLaws.{owns_is}
+use Rattle.replica.proofs.OwnLemmas.{owns_is}
 use Rattle.replica.proofs.Replica.owns.Goals as goal
 
 lt_to : (a b : ℕ) → a < b → nat_lt a b ≡ true

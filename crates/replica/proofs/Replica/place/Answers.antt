@@ -3,7 +3,7 @@ use Rattle.ball_model.specs.PlanValue.{PlanValue}
 use Rattle.ball_model.specs.Job.{PartValue}
 use Rattle.ball_model.specs.State.{State}
 use Rattle.replica.specs.Seen.{IsState}
-use Rattle.replica.proofs.ReadLaws.{place_in}
+use Rattle.replica.proofs.ReadLemmas.{place_in}
 use Rattle.replica.proofs.Replica.place.Goals as goal
 
 pub returns-clause-below : goal.returns-clause-below

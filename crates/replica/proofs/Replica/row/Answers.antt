@@ -1,6 +1,6 @@
 use Rattle.std.proofs.Common.{◌≡◌, ◌/◌, [], get_or, ap, refl, ◌∙◌}
 use Rattle.ball_model.specs.State.{State}
-use Rattle.replica.proofs.ReadLaws.{row_stands}
+use Rattle.replica.proofs.ReadLemmas.{row_stands}
 use Rattle.replica.proofs.Replica.row.Goals as goal
 
 pub returns-clause-stands : goal.returns-clause-stands

@@ -4,7 +4,7 @@ use Rattle.ball_model.specs.Job.{PartValue}
 use Rattle.ball_model.specs.State.{State}
 use Rattle.replica.specs.Sent.{has_bit}
 use Rattle.replica.specs.Seen.{IsState}
-use Rattle.replica.proofs.SentLaws.{sent_yes, sent_no, sent_fits, sent_above, sent_room, mark_of, bit_of, both_off, mark_off}
+use Rattle.replica.proofs.SentLemmas.{sent_yes, sent_no, sent_fits, sent_above, sent_room, mark_of, bit_of, both_off, mark_off}
 use Rattle.replica.proofs.Replica.send_row.Goals as goal
 use Rattle.replica.proofs.Replica.send_row.Goals.{else-index-via-then-index+else-has_edge_into, else-index-via-else-index}
 

@@ -1,6 +1,6 @@
 use Rattle.std.proofs.Common.{◌+◌, ap, sym, ◌∙◌, arith}
 use Rattle.replica.specs.Sent.{sent_batch}
-use Rattle.replica.proofs.SentLaws.{sent_first, sent_target}
+use Rattle.replica.proofs.SentLemmas.{sent_first, sent_target}
 use Rattle.replica.proofs.Replica.sent.Goals as goal
 
 pub loop-i-init : goal.loop-i-init

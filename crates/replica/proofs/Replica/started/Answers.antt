@@ -13,7 +13,7 @@ use Rattle.figures.specs.Values.{value_of}
 use Rattle.replica.specs.Level.{total_of}
 use Rattle.replica.specs.Start.{Starts, first_rows, started}
 use Rattle.replica.specs.Seen.{state_of}
-use Rattle.replica.proofs.StartLaws.{first_counters, started_total, starts_state}
+use Rattle.replica.proofs.StartLemmas.{first_counters, started_total, starts_state}
 use Rattle.replica.proofs.Replica.started.Goals as goal
 use Rattle.replica.proofs.Replica.started.Goals.{In_ok-kept}
 

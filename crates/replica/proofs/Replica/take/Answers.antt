@@ -13,9 +13,9 @@ use Rattle.ball_model.specs.Batches.{IsBatch}
 use Rattle.ball_model.specs.Content.{take_of}
 use Rattle.ball_model.specs.State.{State, content_of}
 use Rattle.replica.specs.Seen.{state_of, IsState}
-use Rattle.replica.proofs.PlaceLaws.{InWindow, take_of-new, place_fits}
-use Rattle.replica.proofs.TakeLaws.{new_window, Keeps1, keeps1_names, keeps1_stands, keeps1_state}
-use Rattle.replica.proofs.CallLaws.{takes}
+use Rattle.replica.proofs.PlaceLemmas.{InWindow, take_of-new, place_fits}
+use Rattle.replica.proofs.TakeLemmas.{new_window, Keeps1, keeps1_names, keeps1_stands, keeps1_state}
+use Rattle.replica.proofs.CallLemmas.{takes}
 use Rattle.std.proofs.lemmas.Grind.{common_steps}
 use Rattle.replica.proofs.Replica.take.Goals as goal
 

@@ -4,7 +4,7 @@ use Rattle.ball_model.specs.Figures.{TallyValue}
 use Rattle.ball_model.specs.State.{State}
 use Rattle.figures.specs.Values.{value_of}
 use Rattle.replica.specs.Level.{nothing}
-use Rattle.replica.proofs.ReadLaws.{tally_stands, length-tallies}
+use Rattle.replica.proofs.ReadLemmas.{tally_stands, length-tallies}
 use Rattle.replica.proofs.Replica.tally.Goals as goal
 use Rattle.replica.proofs.Replica.tally.Goals.{After-result-1}
 

@@ -1,5 +1,5 @@
 use Rattle.std.proofs.Common.{◌∙◌}
-use Rattle.replica.proofs.BusyLaws.{found_verdict-is}
+use Rattle.replica.proofs.BusyLemmas.{found_verdict-is}
 use Rattle.replica.proofs.Replica.verdict.Goals as goal
 
 pub returns-clause-stands : goal.returns-clause-stands

@@ -2,8 +2,8 @@ use Rattle.std.proofs.Common.{◌<◌, [], length, map, option_map, get_or, refl
 use Rattle.std.specs.Arc.{arc_value}
 use Rattle.ball_model.specs.Table.{Table}
 use Rattle.replica.specs.Level.{grown_row}
-use Rattle.replica.proofs.GrowLaws.{grown_row-is, grown-is}
-use Rattle.replica.proofs.StepLaws.{step_done, step_rest}
+use Rattle.replica.proofs.GrowLemmas.{grown_row-is, grown-is}
+use Rattle.replica.proofs.StepLemmas.{step_done, step_rest}
 use Rattle.replica.proofs.grow.grow.Goals as goal
 
 pub loop-i-preserved : goal.loop-i-preserved

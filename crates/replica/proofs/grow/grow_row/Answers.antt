@@ -4,9 +4,9 @@ use Rattle.std.proofs.lemmas.Iterator.Consumers.{YieldsList-from_first, YieldsLi
 use Rattle.std.proofs.lemmas.List.{map-id}
 use Rattle.ball_model.specs.Table.{Table}
 use Rattle.replica.specs.Level.{raised_by_found, found_in}
-use Rattle.replica.proofs.FoundLaws.{put_back, raised_all}
-use Rattle.replica.proofs.GrowLaws.{found_step}
-use Rattle.replica.proofs.RiseLaws.{is_pred}
+use Rattle.replica.proofs.FoundLemmas.{put_back, raised_all}
+use Rattle.replica.proofs.GrowLemmas.{found_step}
+use Rattle.replica.proofs.RiseLemmas.{is_pred}
 use Rattle.replica.proofs.grow.grow_row.Goals as goal
 
 pub loop-z-init : goal.loop-z-init

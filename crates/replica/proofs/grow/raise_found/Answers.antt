@@ -4,8 +4,8 @@ use Rattle.std.specs.Arc.{arc_value}
 use Rattle.ball_model.specs.PlanValue.{PlanValue}
 use Rattle.replica.specs.Level.{found_at}
 use Rattle.replica.specs.Kept.{IsFit}
-use Rattle.replica.proofs.FoundLaws.{found_own, found_other, put_back, put_raised, wide_of, kept_at}
-use Rattle.replica.proofs.RiseLaws.{is_own}
+use Rattle.replica.proofs.FoundLemmas.{found_own, found_other, put_back, put_raised, wide_of, kept_at}
+use Rattle.replica.proofs.RiseLemmas.{is_own}
 use Rattle.replica.proofs.grow.raise_found.Goals as goal
 
 pub bounds-marks-place : goal.bounds-marks-place

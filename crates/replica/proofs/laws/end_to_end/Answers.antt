@@ -1,4 +1,4 @@
-use Rattle.replica.proofs.RunLaws.{run_stands, run_answers, stable_is, stable_reaches}
+use Rattle.replica.proofs.RunLemmas.{run_stands, run_answers, stable_is, stable_reaches}
 use Rattle.replica.proofs.laws.end_to_end.Goals as goal
 
 pub returns-clause-stands : goal.returns-clause-stands

@@ -1,4 +1,4 @@
-use Rattle.replica.proofs.SameLaws.{same_replica, same_calls}
+use Rattle.replica.proofs.SameLemmas.{same_replica, same_calls}
 use Rattle.replica.proofs.laws.same_content.Goals as goal
 
 pub returns-clause-same : goal.returns-clause-same

@@ -1,4 +1,4 @@
-use Rattle.replica.proofs.SameLaws.{content_is_one}
+use Rattle.replica.proofs.SameLemmas.{content_is_one}
 use Rattle.replica.proofs.laws.window.Goals as goal
 
 pub returns : goal.returns

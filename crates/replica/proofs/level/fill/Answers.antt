@@ -4,7 +4,7 @@ use Rattle.std.specs.Arc.{arc_value}
 use Rattle.std.proofs.lemmas.List.{length-map, map-set, get_or-map}
 use Rattle.ball_model.specs.Batches.{BatchValue}
 use Rattle.replica.specs.Merged.{either, filled}
-use Rattle.replica.proofs.StepLaws.{step_done, step_rest, list_is}
+use Rattle.replica.proofs.StepLemmas.{step_done, step_rest, list_is}
 use Rattle.replica.proofs.level.fill.Goals as goal
 
 -- what a slot has, as it was at first

@@ -1,7 +1,7 @@
 use Rattle.std.proofs.Common.{not, ◌&&◌, ◌==◌, slice_index_or, map, option_map, is_some, arith, sym, ◌∙◌}
 use Rattle.std.specs.Prelude.{None}
 use Rattle.std.specs.Arc.{arc_value}
-use Rattle.replica.proofs.GrowLaws.{find_next}
+use Rattle.replica.proofs.GrowLemmas.{find_next}
 use Rattle.replica.proofs.level.first_missing.Goals as goal
 
 pub loop-q-preserved : goal.loop-q-preserved

@@ -3,7 +3,7 @@ use Rattle.std.specs.Prelude.{None}
 use Rattle.std.specs.Arc.{arc_value}
 use Rattle.std.specs.List.{list_any}
 use Rattle.replica.specs.Level.{is_busy}
-use Rattle.replica.proofs.GrowLaws.{any_next}
+use Rattle.replica.proofs.GrowLemmas.{any_next}
 use Rattle.replica.proofs.level.is_any_busy.Goals as goal
 
 pub loop-q-preserved : goal.loop-q-preserved

@@ -1,7 +1,7 @@
 use Rattle.std.proofs.Common.{not, slice_index_or, length, [], arith}
 use Rattle.std.specs.Str.{bytes_eq}
 use Rattle.replica.specs.Level.{differing}
-use Rattle.replica.proofs.GrowLaws.{bools_are}
+use Rattle.replica.proofs.GrowLemmas.{bools_are}
 use Rattle.replica.proofs.level.mark.Goals as goal
 
 pub returns : goal.returns

@@ -1,7 +1,7 @@
 use Rattle.std.proofs.Common.{◌≡◌, length, take, map, replicate, option_map, arith, ◌∙◌, length-take, ap}
 use Rattle.std.specs.Prelude.{None}
 use Rattle.std.specs.Arc.{arc_value}
-use Rattle.replica.proofs.ShiftLaws.{shifted-is}
+use Rattle.replica.proofs.ShiftLemmas.{shifted-is}
 use Rattle.replica.proofs.level.shift.Goals as goal
 
 pub returns : goal.returns

@@ -4,7 +4,7 @@ use Rattle.figures.specs.declared.tally.Tally.{Tally}
 use Rattle.figures.specs.Values.{value_of}
 use Rattle.ball_model.specs.Figures.{TallyValue, estimate_of}
 use Rattle.replica.specs.Level.{stepped, nothing}
-use Rattle.replica.proofs.StepLaws.{step_done, step_rest, stepped_same, all_stepped}
+use Rattle.replica.proofs.StepLemmas.{step_done, step_rest, stepped_same, all_stepped}
 use Rattle.replica.proofs.level.step_tallies.Goals as goal
 
 -- the figures at a place, as they were at first

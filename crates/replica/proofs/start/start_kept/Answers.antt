@@ -3,7 +3,7 @@ use Rattle.std.specs.Prelude.{Option, None}
 use Rattle.std.specs.Arc.{arc_value}
 use Rattle.std.proofs.lemmas.List.{map-append}
 use Rattle.ball_model.specs.Batches.{BatchValue}
-use Rattle.replica.proofs.StartLaws.{replicate_push}
+use Rattle.replica.proofs.StartLemmas.{replicate_push}
 use Rattle.replica.proofs.start.start_kept.Goals as goal
 
 pub loop-preserved : goal.loop-preserved

@@ -4,8 +4,8 @@ use Rattle.ball_model.specs.PlanValue.{PlanValue}
 use Rattle.ball_model.specs.Hash.{hash_of, index_of, rank_of}
 use Rattle.registers.specs.Raised.{raised_one}
 use Rattle.replica.specs.Start.{first_row}
-use Rattle.replica.proofs.StartLaws.{first_is, first_rows-is}
-use Rattle.replica.proofs.StepLaws.{step_done, step_rest_to}
+use Rattle.replica.proofs.StartLemmas.{first_is, first_rows-is}
+use Rattle.replica.proofs.StepLemmas.{step_done, step_rest_to}
 use Rattle.replica.proofs.start.start_rows.Goals as goal
 
 pub loop-i-preserved : goal.loop-i-preserved

@@ -1,6 +1,6 @@
 use Rattle.std.proofs.Common.{◌≡◌, ◌+◌, ◌-◌, ◌/◌, ◌<◌, sym, subst}
 use Rattle.ball_model.specs.PlanValue.{PlanValue, part_size}
-use Rattle.ball_model.proofs.PartLaws.{part_size-is}
+use Rattle.ball_model.proofs.PartLemmas.{part_size-is}
 use Rattle.ball_model.proofs.plan.Plan.part_size.Goals as goal
 
 pub returns : goal.returns

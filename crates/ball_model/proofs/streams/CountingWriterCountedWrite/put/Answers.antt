@@ -1,4 +1,4 @@
-use Rattle.ball_model.proofs.StreamLaws.{counted}
+use Rattle.ball_model.proofs.StreamLemmas.{counted}
 use Rattle.ball_model.proofs.streams.CountingWriterCountedWrite.put.Goals as goal
 
 pub returns-in-Ok-eq0-clause-failed : goal.returns-in-Ok-eq0-clause-failed

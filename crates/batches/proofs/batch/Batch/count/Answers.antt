@@ -1,5 +1,5 @@
 use Rattle.std.proofs.Common.{arith}
-use Rattle.batches.proofs.KeptLaws.{kept_of, kept-count, batch-few}
+use Rattle.batches.proofs.KeptLemmas.{kept_of, kept-count, batch-few}
 use Rattle.batches.proofs.batch.Batch.count.Goals as goal
 
 pub overflow_cast-result : goal.overflow_cast-result

@@ -1,7 +1,7 @@
 use Rattle.std.proofs.Common.{◌∙◌, ap, arith, sym, Ok}
 use Rattle.std.proofs.lemmas.Result.{err_from_is_err_and}
 use Rattle.ball_model.specs.Batches.{BatchValue, batch_bytes}
-use Rattle.batches.proofs.WholeLaws.{checked_takes, checked_spelled, read_is, only_from, only_refused}
+use Rattle.batches.proofs.WholeLemmas.{checked_takes, checked_spelled, read_is, only_from, only_refused}
 use Rattle.batches.proofs.batch.Batch.decode.Goals as goal
 
 pub returns-in_err-header-clause-only : goal.returns-in_err-header-clause-only

@@ -1,8 +1,8 @@
 use Rattle.std.proofs.Common.{ap, ◌∙◌, refl, ◌^◌}
 use Rattle.ball_model.specs.Batches.{BatchValue}
-use Rattle.batches.proofs.HeadLaws.{same_head}
-use Rattle.batches.proofs.KeptLaws.{kept_of}
-use Rattle.batches.proofs.WholeLaws.{head_of, written_is}
+use Rattle.batches.proofs.HeadLemmas.{same_head}
+use Rattle.batches.proofs.KeptLemmas.{kept_of}
+use Rattle.batches.proofs.WholeLemmas.{head_of, written_is}
 use Rattle.batches.proofs.batch.Batch.encode.Goals as goal
 
 pub returns : goal.returns

@@ -2,7 +2,7 @@ use Rattle.std.proofs.Common.{ℕ, List, Ok, Err, length, arith, ap, ◌∙◌, 
 use Rattle.std.specs.Prelude.{Some}
 use Rattle.std.specs.List.Sorted.{IsStrictlyIncreasing}
 use Rattle.std.proofs.lemmas.List.Sorted.{searched}
-use Rattle.batches.proofs.KeptLaws.{kept_of, kept-count, kept-ids, kept-found, kept-none, batch-few, ids_rise, none_at}
+use Rattle.batches.proofs.KeptLemmas.{kept_of, kept-count, kept-ids, kept-found, kept-none, batch-few, ids_rise, none_at}
 use Rattle.batches.proofs.batch.Batch.find.Goals as goal
 
 pub overflow_cast-i : goal.overflow_cast-i

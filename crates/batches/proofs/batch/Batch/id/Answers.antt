@@ -1,6 +1,6 @@
 use Rattle.std.proofs.Common.{◌<◌, arith, sym, ap, ◌∙◌, get_or, length, ℕ, List}
 use Rattle.std.proofs.lemmas.List.{get_or_default}
-use Rattle.batches.proofs.KeptLaws.{kept_of, kept-count, kept-ids}
+use Rattle.batches.proofs.KeptLemmas.{kept_of, kept-count, kept-ids}
 use Rattle.batches.proofs.batch.Batch.id.Goals as goal
 
 pub index-requires : goal.index-requires

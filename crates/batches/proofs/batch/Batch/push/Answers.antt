@@ -1,4 +1,4 @@
-use Rattle.batches.proofs.KeptLaws.{pushed}
+use Rattle.batches.proofs.KeptLemmas.{pushed}
 use Rattle.batches.proofs.batch.Batch.push.Goals as goal
 
 pub invariant_of-self-2 : goal.invariant_of-self-2

@@ -1,7 +1,7 @@
 use Rattle.std.proofs.Common.{◌≡◌, ◌^◌, ◌≤◌, sym, ap, ◌∙◌, get_or, [], length, ℕ, List, subst}
 use Rattle.std.specs.List.{All}
 use Rattle.ball_model.specs.Batches.{BatchValue, registers_of}
-use Rattle.batches.proofs.KeptLaws.{kept_of, kept-room, kept-registers, kept-width, kept-ranks}
+use Rattle.batches.proofs.KeptLemmas.{kept_of, kept-room, kept-registers, kept-width, kept-ranks}
 use Rattle.batches.proofs.batch.Batch.registers.Goals as goal
 
 pub row_of-requires : goal.row_of-requires

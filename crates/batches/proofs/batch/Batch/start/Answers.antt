@@ -1,6 +1,6 @@
 use Rattle.std.proofs.Common.{◌^◌, ap, List, ℕ}
 use Rattle.ball_model.specs.Batches.{BatchValue}
-use Rattle.batches.proofs.KeptLaws.{kept_start, rows_none}
+use Rattle.batches.proofs.KeptLemmas.{kept_start, rows_none}
 use Rattle.batches.proofs.batch.Batch.start.Goals as goal
 
 pub invariant_of-result : goal.invariant_of-result

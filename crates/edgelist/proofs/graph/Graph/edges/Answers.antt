@@ -1,6 +1,6 @@
 use Rattle.std.proofs.Common.{◌∙◌, sym, ap, length}
 use Rattle.ball_model.specs.Input.{Network}
-use Rattle.edgelist.proofs.LinksLaws.{length-edges}
+use Rattle.edgelist.proofs.LinksLemmas.{length-edges}
 use Rattle.edgelist.proofs.graph.Graph.edges.Goals as goal
 
 pub returns : goal.returns

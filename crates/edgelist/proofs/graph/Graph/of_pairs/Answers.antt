@@ -1,5 +1,5 @@
 use Rattle.std.proofs.Common.{arith}
-use Rattle.edgelist.proofs.PairLaws.{links-pairs, graph-pairs}
+use Rattle.edgelist.proofs.PairLemmas.{links-pairs, graph-pairs}
 use Rattle.edgelist.proofs.graph.Graph.of_pairs.Goals as goal
 
 pub invariant_of-result : goal.invariant_of-result

@@ -1,6 +1,6 @@
 use Rattle.std.proofs.Common.{◌∙◌, refl}
 use Rattle.ball_model.specs.Job.{part_of}
-use Rattle.edgelist.proofs.OwnLaws.{part-is}
+use Rattle.edgelist.proofs.OwnLemmas.{part-is}
 use Rattle.edgelist.proofs.graph.Graph.part.Goals as goal
 
 pub invariant_of-result : goal.invariant_of-result

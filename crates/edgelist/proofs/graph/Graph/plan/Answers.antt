@@ -1,5 +1,5 @@
 use Rattle.std.proofs.Common.{arith}
-use Rattle.edgelist.proofs.PlanLaws.{plan-job}
+use Rattle.edgelist.proofs.PlanLemmas.{plan-job}
 use Rattle.edgelist.proofs.graph.Graph.plan.Goals as goal
 
 pub returns-clause-job : goal.returns-clause-job

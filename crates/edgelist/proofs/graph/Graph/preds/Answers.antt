@@ -1,7 +1,7 @@
 use Rattle.std.proofs.Common.{◌∙◌, length, sym, ap, arith}
 use Rattle.ball_model.specs.Input.{Network}
 use Rattle.ball_model.specs.Graph.{preds_of}
-use Rattle.edgelist.proofs.LinksLaws.{preds_of-graph, below_at}
+use Rattle.edgelist.proofs.LinksLemmas.{preds_of-graph, below_at}
 use Rattle.edgelist.proofs.graph.Graph.preds.Goals as goal
 
 pub returns-clause-value : goal.returns-clause-value

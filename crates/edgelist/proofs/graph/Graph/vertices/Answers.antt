@@ -1,7 +1,7 @@
 use Rattle.std.proofs.Common.{subst, arith, length, ap}
 use Rattle.ball_model.specs.Input.{Network}
 use Rattle.ball_model.specs.Graph.{IsGraph}
-use Rattle.edgelist.proofs.LinksLaws.{graph_of-IsGraph, length-edges}
+use Rattle.edgelist.proofs.LinksLemmas.{graph_of-IsGraph, length-edges}
 use Rattle.edgelist.proofs.graph.Graph.vertices.Goals as goal
 
 pub returns-clause-graph : goal.returns-clause-graph

@@ -1,5 +1,5 @@
 use Rattle.std.proofs.Common.{◌∙◌, List, [], ℕ, length, get_or, ap, arith}
-use Rattle.edgelist.proofs.CutLaws.{length-cut}
+use Rattle.edgelist.proofs.CutLemmas.{length-cut}
 use Rattle.edgelist.proofs.labels.Labels.label.Goals as goal
 
 pub text_at-requires-clause-below : goal.text_at-requires-clause-below

@@ -1,5 +1,5 @@
 use Rattle.std.proofs.Common.{List, ℕ, length, arith, ap}
-use Rattle.edgelist.proofs.CutLaws.{some-start, length-cut}
+use Rattle.edgelist.proofs.CutLemmas.{some-start, length-cut}
 use Rattle.edgelist.proofs.labels.Labels.len.Goals as goal
 
 pub overflow_sub-result : goal.overflow_sub-result

@@ -1,5 +1,5 @@
 use Rattle.std.proofs.Common.{◌∙◌, [], arith}
-use Rattle.edgelist.proofs.CutLaws.{starts-none, cut-none, text-push, map-more}
+use Rattle.edgelist.proofs.CutLemmas.{starts-none, cut-none, text-push, map-more}
 use Rattle.edgelist.proofs.labels.Labels.of.Goals as goal
 
 pub loop-text-init : goal.loop-text-init

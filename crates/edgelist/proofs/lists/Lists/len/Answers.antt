@@ -1,6 +1,6 @@
 use Rattle.std.proofs.Common.{List, ℕ, length, arith, ap}
 use Rattle.std.specs.List.{sum_by}
-use Rattle.edgelist.proofs.CutLaws.{some-start, length-cut, total-cut}
+use Rattle.edgelist.proofs.CutLemmas.{some-start, length-cut, total-cut}
 use Rattle.edgelist.proofs.lists.Lists.len.Goals as goal
 
 pub overflow_sub-result : goal.overflow_sub-result

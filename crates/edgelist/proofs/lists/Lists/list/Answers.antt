@@ -1,5 +1,5 @@
 use Rattle.std.proofs.Common.{◌∙◌, List, [], ℕ, length, get_or, ap, arith}
-use Rattle.edgelist.proofs.CutLaws.{length-cut}
+use Rattle.edgelist.proofs.CutLemmas.{length-cut}
 use Rattle.edgelist.proofs.lists.Lists.list.Goals as goal
 
 pub list_at-requires : goal.list_at-requires

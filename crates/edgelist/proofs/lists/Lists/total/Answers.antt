@@ -1,6 +1,6 @@
 use Rattle.std.proofs.Common.{List, ℕ, length, ap, arith}
 use Rattle.std.specs.List.{sum_by}
-use Rattle.edgelist.proofs.CutLaws.{total-cut}
+use Rattle.edgelist.proofs.CutLemmas.{total-cut}
 use Rattle.edgelist.proofs.lists.Lists.total.Goals as goal
 
 pub returns : goal.returns

@@ -1,5 +1,5 @@
 use Rattle.edgelist.specs.Labels.{texts}
-use Rattle.edgelist.proofs.GuessLaws.{told-blank}
+use Rattle.edgelist.proofs.GuessLemmas.{told-blank}
 use Rattle.edgelist.proofs.numbering.Numbering.new.Goals as goal
 
 pub invariant_of-result : goal.invariant_of-result

@@ -1,6 +1,6 @@
 use Rattle.std.proofs.Common.{ℕ, List, subst, arith}
 use Rattle.edgelist.specs.Guessing.{IsShort, AreTold}
-use Rattle.edgelist.proofs.GuessLaws.{with-label-at}
+use Rattle.edgelist.proofs.GuessLemmas.{with-label-at}
 use Rattle.edgelist.proofs.numbering.Numbering.number.Goals as goal
 
 pub returns-in-Some-clause-labels : goal.returns-in-Some-clause-labels

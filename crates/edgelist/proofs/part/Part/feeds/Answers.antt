@@ -1,7 +1,7 @@
 use Rattle.std.proofs.Common.{◌≡◌, ◌∙◌, ◌<◌, length, get_or, subst, ap, arith}
 use Rattle.std.proofs.lemmas.List.{get_or_default}
 use Rattle.ball_model.specs.Job.{PartValue, IsPart}
-use Rattle.edgelist.proofs.FeedLaws.{feeds-bits}
+use Rattle.edgelist.proofs.FeedLemmas.{feeds-bits}
 use Rattle.edgelist.proofs.part.Part.feeds.Goals as goal
 
 pub returns-clause-bits : goal.returns-clause-bits

@@ -1,6 +1,6 @@
 use Rattle.std.proofs.Common.{◌≡◌, ◌∙◌, sym, arith, true}
-use Rattle.edgelist.proofs.FormLaws.{one-field, two-fields}
-use Rattle.edgelist.proofs.FaultLaws.{answer-one, answer-two, stops-many, stops-form, stop-one, stop-two}
+use Rattle.edgelist.proofs.FormLemmas.{one-field, two-fields}
+use Rattle.edgelist.proofs.FaultLemmas.{answer-one, answer-two, stops-many, stops-form, stop-one, stop-two}
 use Rattle.edgelist.proofs.read.Reading.add.Goals as goal
 
 pub returns-then-number-limits-clause-stops : goal.returns-then-number-limits-clause-stops

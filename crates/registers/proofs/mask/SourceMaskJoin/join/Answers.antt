@@ -1,7 +1,7 @@
 use Rattle.std.proofs.Common.{ap₂, ◌∙◌}
 use Rattle.std.proofs.lemmas.Nat.{or_lt}
 use Rattle.registers.specs.Joined.{joined_flags}
-use Rattle.registers.proofs.FlagLaws.{flags_of-or}
+use Rattle.registers.proofs.FlagLemmas.{flags_of-or}
 use Rattle.registers.proofs.mask.SourceMaskJoin.join.Goals as goal
 
 pub invariant_of-self : goal.invariant_of-self

@@ -1,7 +1,7 @@
 use Rattle.std.proofs.Common.{◌≡◌, ℕ, List, length, slice_index_or, [], refl, arith, ap, sym, ◌∙◌, take, drop, ◌*◌, ◌+◌, ◌++◌, length-set}
 use Rattle.std.proofs.lemmas.List.{with_items_is}
 use Rattle.registers.specs.Raised.{raised_one}
-use Rattle.registers.proofs.TableLaws.{shown, row_shown, row_ends, row_edited}
+use Rattle.registers.proofs.TableLemmas.{shown, row_shown, row_ends, row_edited}
 use Rattle.registers.proofs.rows.Rows.raise_one.Goals as goal
 
 pub raise_place-requires-clause-within : goal.raise_place-requires-clause-within

@@ -4,8 +4,8 @@ use Rattle.ball_model.specs.Job.{PartValue}
 use Rattle.ball_model.specs.Content.{same_plan}
 use Rattle.ball_model.specs.State.{State}
 use Rattle.replica.specs.Seen.{IsState}
-use Rattle.replica.proofs.MergeLaws.{same_plan_one}
-use Rattle.replica.proofs.HoldingLaws.{alike_from}
+use Rattle.replica.proofs.MergeLemmas.{same_plan_one}
+use Rattle.replica.proofs.HoldingLemmas.{alike_from}
 use Rattle.replica.proofs.join.ReplicaJoin.alike.Goals as goal
 
 true_eq : (a b : ℕ) → IsTrue (a == b) → a ≡ b

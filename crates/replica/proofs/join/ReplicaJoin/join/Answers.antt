@@ -2,8 +2,8 @@ use Rattle.std.proofs.Common.{ap, sym, ◌∙◌, subst}
 use Rattle.ball_model.specs.Join.{joined, join_of}
 use Rattle.ball_model.specs.State.{State, StandsFor, content_of}
 use Rattle.replica.specs.Merged.{holding}
-use Rattle.replica.proofs.MergeLaws.{merged_names, merged_stands}
-use Rattle.replica.proofs.HoldingLaws.{joined_holding}
+use Rattle.replica.proofs.MergeLemmas.{merged_names, merged_stands}
+use Rattle.replica.proofs.HoldingLemmas.{joined_holding}
 use Rattle.replica.proofs.join.ReplicaJoin.join.Goals as goal
 
 pub absorb-requires-clause-plan : goal.absorb-requires-clause-plan

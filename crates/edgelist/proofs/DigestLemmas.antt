@@ -1,0 +1,37 @@
+-- The bytes of edges, target by target.
+use Rattle.std.proofs.Common.{◌≡◌, ◌∙◌, ℕ, ◌+◌, List, [], ◌∷◌, ◌++◌, map, refl, ap, sym, append_assoc}
+use Rattle.std.specs.List.{flat_map, range_with_len}
+use Rattle.std.proofs.lemmas.List.{append-nil}
+use Rattle.std.proofs.lemmas.Grind.{flat_map-append}
+use Rattle.ball_model.specs.Graph.{Graph, IsGraph, preds_of, listed_edges}
+use Rattle.ball_model.specs.Job.{edge_bytes}
+use Rattle.edgelist.specs.Planning.{row_bytes}
+use Rattle.edgelist.proofs.RangeLemmas.{range-next}
+
+-- the edges to x
+abbrev pub edges_to : Graph → ℕ → List (ℕ × ℕ)
+edges_to g x = map (λ y. (y, x)) (preds_of g x)
+
+-- the bytes of the edges to the targets below n
+abbrev pub bytes_below : Graph → ℕ → List ℕ
+bytes_below g n = flat_map edge_bytes (flat_map (edges_to g) (range_with_len 0 n))
+
+-- the edges to one target more
+pub edges-next : (g : Graph) (n : ℕ) → flat_map (edges_to g) (range_with_len 0 (n + 1)) ≡ flat_map (edges_to g) (range_with_len 0 n) ++ edges_to g n
+edges-next g n =
+    let one : flat_map (edges_to g) (n ∷ []) ≡ edges_to g n = append-nil (edges_to g n) in
+    ap (flat_map (edges_to g)) (range-next n) ∙ flat_map-append (edges_to g) (range_with_len 0 n) (n ∷ []) ∙ rw one refl
+
+-- the edges to all targets
+pub edges-all : (g : Graph) (n : ℕ) → IsGraph g → n ≡ g.vertices → flat_map (edges_to g) (range_with_len 0 n) ≡ g.edges
+unfolding listed_edges
+edges-all g n ok count = rw count (sym ok.listed)
+
+pub bytes-next : (g : Graph) (m : List ℕ) (n : ℕ) → m ++ bytes_below g (n + 1) ≡ (m ++ bytes_below g n) ++ row_bytes (preds_of g n) n
+bytes-next g m n =
+    ap (λ (es : List (ℕ × ℕ)). m ++ flat_map edge_bytes es) (edges-next g n)
+    ∙ ap (λ (bs : List ℕ). m ++ bs) (flat_map-append edge_bytes (flat_map (edges_to g) (range_with_len 0 n)) (edges_to g n))
+    ∙ sym (append_assoc m (bytes_below g n) (row_bytes (preds_of g n) n))
+
+pub bytes-all : (g : Graph) (n : ℕ) → IsGraph g → n ≡ g.vertices → bytes_below g n ≡ flat_map edge_bytes g.edges
+bytes-all g n ok count = ap (flat_map edge_bytes) (edges-all g n ok count)

@@ -1,0 +1,177 @@
+-- Which check fails first.
+use Rattle.std.proofs.Common.{◌≡◌, ℕ, zero, suc, ◌+◌, ◌<◌, ◌≤◌, true, false, nat_lt, List, [], ◌∷◌, ◌++◌, length, map, get_or, take, refl, ap, arith, sym, subst, ◌∙◌, inl, inr, tests, Ok, Err, OnOk, IfErr}
+use Rattle.std.specs.Prelude.{Option, Some, None, Result, nat_le}
+use Rattle.std.specs.List.{range_with_len}
+use Rattle.std.proofs.lemmas.Bool.{cases_lt}
+use Rattle.std.proofs.lemmas.List.{get_or_append_left, length-append, take-append-le}
+use Rattle.ball_model.specs.Input.{Limits, Refusal, TooManyEdges, Fields, TooManyVertices, has_form, labels_of, fault_at, first_of, read_as}
+use Rattle.edgelist.specs.Pairs.{AllBelow, graph_of_pairs}
+use Rattle.edgelist.specs.Reading.{with_label, IsReadAs, AddsPair, Exceeds, IsClean, Adds, Stops, FaultIs, Refuses}
+use Rattle.edgelist.specs.declared.read.EdgeError.{EdgeError}
+use Rattle.edgelist.specs.declared.read.EdgeError.TheVariants as refused
+use Rattle.edgelist.proofs.NetworkLemmas.{labels_of-one, labels_of-two, with_label-longer, below_more, read-one, read-two, pair-below, network-is}
+
+abbrev Record : Type 0
+Record = List (List ℕ)
+
+-- what follows a record does not count at it
+fault-prefix : (limits : Limits) (records more : List Record) (i : ℕ) → i < length records → fault_at limits (records ++ more) i ≡ fault_at limits records i
+fault-prefix limits records more i lt =
+    let le : i + 1 ≤ length records = omega arith in
+    rw (get_or_append_left records more [] i lt, take-append-le (i + 1) records more) refl
+
+-- the record that follows some
+at-next : (records : List Record) (r : Record) (more : List Record) → get_or (records ++ r ∷ more) (length records) [] ≡ r
+at-next [] r more = refl
+at-next (s ∷ records) r more = at-next records r more
+
+up-to-next : (records : List Record) (r : Record) (more : List Record) → take (length records + 1) (records ++ r ∷ more) ≡ records ++ r ∷ []
+up-to-next [] r more = refl
+up-to-next (s ∷ records) r more = let e : suc (length records) + 1 ≡ suc (length records + 1) = omega arith in rw e (ap (λ (l : List Record). s ∷ l) (up-to-next records r more))
+
+-- the four outcomes at the record that follows some
+fault-many : (limits : Limits) (records : List Record) (n : ℕ) → limits.edges ≤ n → fault_at limits records n ≡ Some TooManyEdges
+fault-many limits records n le = let on : nat_le limits.edges n ≡ true = search (tests, arith) in rw on refl
+
+fault-form : (limits : Limits) (records : List Record) (r : Record) (more : List Record) → length records < limits.edges → has_form r ≡ false →
+    fault_at limits (records ++ r ∷ more) (length records) ≡ Some (Fields (length records + 1))
+fault-form limits records r more lt form =
+    let off : nat_le limits.edges (length records) ≡ false = search (tests, arith) in
+    rw (off, at-next records r more, form) refl
+
+fault-vertices : (limits : Limits) (records : List Record) (r : Record) (more : List Record) → length records < limits.edges → has_form r ≡ true → limits.vertices < length (labels_of (records ++ r ∷ [])) →
+    fault_at limits (records ++ r ∷ more) (length records) ≡ Some TooManyVertices
+fault-vertices limits records r more lt form many =
+    let off : nat_le limits.edges (length records) ≡ false = search (tests, arith) in
+    let over : nat_lt limits.vertices (length (labels_of (records ++ r ∷ []))) ≡ true = search (tests, arith) in
+    rw (off, at-next records r more, form, up-to-next records r more, over) refl
+
+fault-none : (limits : Limits) (records : List Record) (r : Record) (more : List Record) → length records < limits.edges → has_form r ≡ true → length (labels_of (records ++ r ∷ [])) ≤ limits.vertices →
+    fault_at limits (records ++ r ∷ more) (length records) ≡ None
+fault-none limits records r more lt form few =
+    let off : nat_le limits.edges (length records) ≡ false = search (tests, arith) in
+    let within : nat_lt limits.vertices (length (labels_of (records ++ r ∷ []))) ≡ false = search (tests, arith) in
+    rw (off, at-next records r more, form, up-to-next records r more, within) refl
+
+first-none : (f : ℕ → Option Refusal) (a n : ℕ) → ((k : ℕ) → k < a + n → f k ≡ None) → first_of (map f (range_with_len a n)) ≡ None
+first-none f a zero h = refl
+first-none f a (suc n) h = rw (h a (omega arith)) (first-none f (a + 1) n (λ k lt. h k (omega arith)))
+
+first-some : (f : ℕ → Option Refusal) (x : Refusal) (a n k : ℕ) → k < n → ((j : ℕ) → j < a + k → f j ≡ None) → f (a + k) ≡ Some x → first_of (map f (range_with_len a n)) ≡ Some x
+first-some f x a zero k lt h here = absurd (omega arith)
+first-some f x a (suc n) zero lt h here = let e : a + 0 ≡ a = omega arith in let at = rw e at here in rw at refl
+first-some f x a (suc n) (suc k) lt h here =
+    let e : a + suc k ≡ (a + 1) + k = omega arith in
+    let at = rw e at here in
+    rw (h a (omega arith)) (first-some f x (a + 1) n k (omega arith) (λ j less. h j (omega arith)) at)
+
+-- records with no fault are their network
+pub says-network : (limits : Limits) (records : List Record) (labels : List (List ℕ)) (pairs : List (ℕ × ℕ)) → IsClean limits records → IsReadAs records labels pairs →
+    read_as limits records ≡ Ok (record { graph = graph_of_pairs (length labels) pairs; labels = labels })
+unfolding read_as
+says-network limits records labels pairs clean so =
+    let none : first_of (map (fault_at limits records) (range_with_len 0 (length records))) ≡ None = first-none (fault_at limits records) 0 (length records) (λ k lt. clean.none k (omega arith)) in
+    rw none (ap Ok (network-is records labels pairs so))
+
+says-fault : (limits : Limits) (records : List Record) (r : Record) (more : List Record) (x : Refusal) → IsClean limits records → fault_at limits (records ++ r ∷ more) (length records) ≡ Some x →
+    read_as limits (records ++ r ∷ more) ≡ Err x
+unfolding read_as
+says-fault limits records r more x clean fault =
+    let all = records ++ r ∷ more in
+    let long : length records < length all = omega (arith, length-append records (r ∷ more)) in
+    let at : 0 + length records ≡ length records = omega arith in
+    let first : first_of (map (fault_at limits all) (range_with_len 0 (length all))) ≡ Some x =
+    first-some (fault_at limits all) x 0 (length all) (length records) long
+    (λ j lt. let less : j < length records = omega arith in fault-prefix limits records (r ∷ more) j less ∙ clean.none j less) (rw at fault) in
+    rw first refl
+
+-- the first fault is what the edge list says
+pub says-refusal : (limits : Limits) (records : List Record) (r : Record) (more : List Record) (e : EdgeError) → IsClean limits records → FaultIs (fault_at limits (records ++ r ∷ more) (length records)) e →
+    Refuses (read_as limits (records ++ r ∷ more)) e
+says-refusal limits records r more refused.Read clean fault = absurd fault
+says-refusal limits records r more refused.TooManyEdges clean fault = says-fault limits records r more TooManyEdges clean fault
+says-refusal limits records r more (refused.Fields n) clean fault = says-fault limits records r more (Fields n) clean fault
+says-refusal limits records r more refused.TooManyVertices clean fault = says-fault limits records r more TooManyVertices clean fault
+says-refusal limits records r more refused.Memory clean fault = tt
+
+pub clean-none : (limits : Limits) → IsClean limits []
+clean-none limits = record { none = λ i lt. absurd (omega arith) }
+
+-- one more record with no fault
+pub clean-more : (limits : Limits) (records : List Record) (r : Record) → IsClean limits records → fault_at limits (records ++ r ∷ []) (length records) ≡ None → IsClean limits (records ++ r ∷ [])
+clean-more limits records r clean here = record {
+  none = λ i lt. elim (cases_lt i (length records)) [
+    | inl less ↦ fault-prefix limits records (r ∷ []) i less ∙ clean.none i less
+    | inr more ↦
+        let e : i ≡ length records = omega (arith, length-append records (r ∷ [])) in
+        rw e here
+  ];
+}
+
+-- what adding a record of one label gives
+adds-one : (limits : Limits) (n : ℕ) (a : List ℕ) (old new : List (List ℕ)) (pairs pairs' : List (ℕ × ℕ)) → n < limits.edges → has_form (a ∷ []) ≡ true → new ≡ with_label old a → pairs' ≡ pairs → length new ≤ limits.vertices →
+    Adds limits n (a ∷ []) old pairs new pairs'
+adds-one limits n a old new pairs pairs' lt form is same few = record {
+  reads = λ records so. read-one records old new pairs pairs' a so is same;
+  passes = λ records at so.
+      let all : labels_of (records ++ (a ∷ []) ∷ []) ≡ new = labels_of-one records a ∙ ap (λ (ls : List (List ℕ)). with_label ls a) (sym so.labels_are) ∙ sym is in
+      rw (← at) (fault-none limits records (a ∷ []) [] (omega arith) form (omega (arith, ap length all)));
+  within = λ h. record {
+    below = subst (λ (ps : List (ℕ × ℕ)). AllBelow (length new) ps) (sym same) (below_more (length old) (length new) pairs (omega (arith, with_label-longer old a, ap length is)) h.below);
+    few_labels = few;
+    few_pairs = omega (arith, h.few_pairs, ap length same);
+  };
+}
+
+adds-two : (limits : Limits) (n : ℕ) (a b : List ℕ) (old new : List (List ℕ)) (pairs pairs' : List (ℕ × ℕ)) → n < limits.edges → has_form (a ∷ b ∷ []) ≡ true → AddsPair a b old pairs new pairs' → length new ≤ limits.vertices →
+    Adds limits n (a ∷ b ∷ []) old pairs new pairs'
+adds-two limits n a b old new pairs pairs' lt form adds few = record {
+  reads = λ records so. read-two records old new pairs pairs' a b so adds;
+  passes = λ records at so.
+      let all : labels_of (records ++ (a ∷ b ∷ []) ∷ []) ≡ new = labels_of-two records a b ∙ ap (λ (ls : List (List ℕ)). with_label (with_label ls a) b) (sym so.labels_are) ∙ sym adds.labels_are in
+      rw (← at) (fault-none limits records (a ∷ b ∷ []) [] (omega arith) form (omega (arith, ap length all)));
+  within = λ h. record {
+    below = pair-below old new pairs pairs' a b adds h.below;
+    few_labels = few;
+    few_pairs = omega (arith, h.few_pairs, ap length adds.pairs_are, length-append pairs ((adds.to, adds.from) ∷ []));
+  };
+}
+
+-- the same, of an answer
+pub answer-one : {T : Type 0} (o : Result T EdgeError) (limits : Limits) (n : ℕ) (r : Record) (a : List ℕ) (old new : List (List ℕ)) (pairs pairs' : List (ℕ × ℕ)) → n < limits.edges → has_form r ≡ true → r ≡ a ∷ [] →
+    OnOk o (new ≡ with_label old a) → OnOk o (pairs' ≡ pairs) → OnOk o (length new ≤ limits.vertices) → OnOk o (Adds limits n r old pairs new pairs')
+answer-one (Ok t) limits n r a old new pairs pairs' lt form row is same few = rw row (adds-one limits n a old new pairs pairs' lt (rw row at form) is same few)
+answer-one (Err x) limits n r a old new pairs pairs' lt form row is same few = tt
+
+pub answer-two : {T : Type 0} (o : Result T EdgeError) (limits : Limits) (n : ℕ) (r : Record) (a b : List ℕ) (old new : List (List ℕ)) (pairs pairs' : List (ℕ × ℕ)) → n < limits.edges → has_form r ≡ true → r ≡ a ∷ b ∷ [] →
+    OnOk o (AddsPair a b old pairs new pairs') → OnOk o (length new ≤ limits.vertices) → OnOk o (Adds limits n r old pairs new pairs')
+answer-two (Ok t) limits n r a b old new pairs pairs' lt form row adds few = rw row (adds-two limits n a b old new pairs pairs' lt (rw row at form) adds few)
+answer-two (Err x) limits n r a b old new pairs pairs' lt form row adds few = tt
+
+-- the refusals
+pub stops-many : (limits : Limits) (n : ℕ) (r : Record) (old : List (List ℕ)) (pairs : List (ℕ × ℕ)) → limits.edges ≤ n → Stops limits n r old pairs refused.TooManyEdges
+stops-many limits n r old pairs le = record { at = λ records more is so. fault-many limits (records ++ r ∷ more) n le }
+
+pub stops-form : (limits : Limits) (n : ℕ) (r : Record) (old : List (List ℕ)) (pairs : List (ℕ × ℕ)) → n < limits.edges → has_form r ≡ false → Stops limits n r old pairs (refused.Fields (n + 1))
+stops-form limits n r old pairs lt form = record { at = λ records more is so. rw (← is) (fault-form limits records r more (omega arith) form) }
+
+exceeds-stops : (e : EdgeError) (limits : Limits) (n : ℕ) (r : Record) (old with_it : List (List ℕ)) (pairs : List (ℕ × ℕ)) → n < limits.edges → has_form r ≡ true →
+    ((records : List Record) → labels_of records ≡ old → labels_of (records ++ r ∷ []) ≡ with_it) → Exceeds limits.vertices with_it e → Stops limits n r old pairs e
+exceeds-stops refused.Read limits n r old with_it pairs lt form labels many = absurd many
+exceeds-stops refused.TooManyEdges limits n r old with_it pairs lt form labels many = absurd many
+exceeds-stops (refused.Fields k) limits n r old with_it pairs lt form labels many = absurd many
+exceeds-stops refused.TooManyVertices limits n r old with_it pairs lt form labels many =
+    record { at = λ records more is so. rw (← is) (fault-vertices limits records r more (omega arith) form (omega (arith, many, ap length (labels records (sym so.labels_are))))) }
+exceeds-stops refused.Memory limits n r old with_it pairs lt form labels many = record { at = λ records more is so. tt }
+
+pub stop-one : {T : Type 0} (o : Result T EdgeError) (limits : Limits) (n : ℕ) (r : Record) (a : List ℕ) (old : List (List ℕ)) (pairs : List (ℕ × ℕ)) → n < limits.edges → has_form r ≡ true → r ≡ a ∷ [] →
+    IfErr o (Exceeds limits.vertices (with_label old a)) → IfErr o (Stops limits n r old pairs)
+stop-one (Ok t) limits n r a old pairs lt form row many = tt
+stop-one (Err e) limits n r a old pairs lt form row many =
+    exceeds-stops e limits n r old (with_label old a) pairs lt form (λ records is. rw (row, labels_of-one records a, is) refl) many
+
+pub stop-two : {T : Type 0} (o : Result T EdgeError) (limits : Limits) (n : ℕ) (r : Record) (a b : List ℕ) (old : List (List ℕ)) (pairs : List (ℕ × ℕ)) → n < limits.edges → has_form r ≡ true → r ≡ a ∷ b ∷ [] →
+    IfErr o (Exceeds limits.vertices (with_label (with_label old a) b)) → IfErr o (Stops limits n r old pairs)
+stop-two (Ok t) limits n r a b old pairs lt form row many = tt
+stop-two (Err e) limits n r a b old pairs lt form row many =
+    exceeds-stops e limits n r old (with_label (with_label old a) b) pairs lt form (λ records is. rw (row, labels_of-two records a b, is) refl) many

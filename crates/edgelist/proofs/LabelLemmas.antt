@@ -1,0 +1,93 @@
+-- A label's number, by the keys of a set and by their texts.
+use Rattle.std.proofs.Common.{rules, suc, ◌<◌, get_or, arith, subst, ◌≡◌, ◌∙◌, ℕ, ◌+◌, List, [], ◌∷◌, ◌++◌, Bool, true, false, refl, sym, ap, inl, inr, map, Some, None}
+use Rattle.std.specs.Prelude.{if◌then◌else◌, cond, nat_lt, length}
+use Rattle.std.specs.List.{list_any, position, position_or_len}
+use Rattle.std.proofs.lemmas.Bool.{cases_Bool}
+use Rattle.std.proofs.lemmas.List.{map-append}
+use Rattle.std.specs.Str.{bytes_eq}
+use Rattle.std.specs.Cmp.Lexicographic.{same_text}
+use Rattle.std.proofs.lemmas.List.{length-append}
+use Rattle.ball_model.proofs.PathLemmas.{same_bool}
+use Rattle.edgelist.specs.Reading.{with_label}
+use Rattle.edgelist.proofs.BoolLemmas.{by_cases}
+
+pub place-map : {X Y : Type 0} (p : Y → Bool) (g : X → Y) (xs : List X) → position_or_len (λ x. p (g x)) xs ≡ position_or_len p (map g xs)
+place-map p g [] = refl
+place-map p g (x ∷ xs) = elim (cases_Bool (p (g x))) [
+  | inl e ↦ rw e refl
+  | inr e ↦ rw e (ap (λ n. 1 + n) (place-map p g xs))
+]
+
+pub any-map : {X Y : Type 0} (p : Y → Bool) (g : X → Y) (xs : List X) → list_any (λ x. p (g x)) xs ≡ list_any p (map g xs)
+any-map p g [] = refl
+any-map p g (x ∷ xs) = elim (cases_Bool (p (g x))) [
+  | inl e ↦ rw e refl
+  | inr e ↦ rw e (any-map p g xs)
+]
+
+some-place : (b : Bool) (n i : ℕ) → cond b (Some n) None ≡ Some i → i ≡ n
+some-place true n i e = cc e
+some-place false n i e = cc e
+
+-- the place that a search found
+pub place-found : {X : Type 0} (p : X → Bool) (xs : List X) (i : ℕ) → position p xs ≡ Some i → i ≡ position_or_len p xs
+place-found p xs i e = some-place (nat_lt (position_or_len p xs) (length xs)) (position_or_len p xs) i e
+
+pub map-insert : {X Y : Type 0} (b : Bool) (g : X → Y) (xs : List X) (x : X) → map g (if b then xs else xs ++ x ∷ []) ≡ (if b then map g xs else map g xs ++ g x ∷ [])
+map-insert true g xs x = refl
+map-insert false g xs x = map-append g xs (x ∷ [])
+
+-- the texts of a set after an insert
+pub texts-insert : {V : Type 0} (l : List ℕ) (text : V → List ℕ) (ks new : List V) (v : V) → text v ≡ l
+    → new ≡ (if list_any (λ k. bytes_eq (text v) (text k)) ks then ks else ks ++ v ∷ [])
+    → map text new ≡ (if list_any (bytes_eq l) (map text ks) then map text ks else map text ks ++ l ∷ [])
+texts-insert l text ks new v e keys =
+    rw keys (map-insert (list_any (λ k. bytes_eq (text v) (text k)) ks) text ks v ∙ rw (e, any-map (bytes_eq l) text ks) refl)
+
+pub text_same : (x : List ℕ) → bytes_eq x x ≡ true
+text_same x = search rules
+
+pub text-flip : (x y : List ℕ) → bytes_eq x y ≡ bytes_eq y x
+text-flip x y =
+    same_bool (bytes_eq x y) (bytes_eq y x)
+    (λ t. let e : x ≡ y = same_text x y (sym t) in subst (λ (z : List ℕ). bytes_eq z x ≡ true) e (text_same x))
+    (λ t. let e : y ≡ x = same_text y x (sym t) in subst (λ (z : List ℕ). bytes_eq z y ≡ true) e (text_same y))
+
+any-flip : (l : List ℕ) (xs : List (List ℕ)) → list_any (bytes_eq l) xs ≡ list_any (λ k. bytes_eq k l) xs
+any-flip l [] = refl
+any-flip l (x ∷ xs) = rw (text-flip l x, any-flip l xs) refl
+
+-- the labels with this one, by the test of the set
+pub with-label : (l : List ℕ) (xs : List (List ℕ)) → (if list_any (bytes_eq l) xs then xs else xs ++ l ∷ []) ≡ with_label xs l
+with-label l xs = rw (any-flip l xs) refl
+
+present : (l : List ℕ) (xs : List (List ℕ)) → list_any (bytes_eq l) xs ≡ true → (position_or_len (bytes_eq l) xs < length xs) × (get_or xs (position_or_len (bytes_eq l) xs) [] ≡ l)
+present l [] e = absurd (cc)
+present l (x ∷ xs) e =
+    by_cases (bytes_eq l x) _
+    (λ t. let same : l ≡ x = same_text l x (sym t) in rw t (omega arith, sym same))
+    (λ f.
+    let later = present l xs (rw f at e) in
+    let next : 1 + position_or_len (bytes_eq l) xs ≡ suc (position_or_len (bytes_eq l) xs) = omega arith in
+    rw (f, next) (omega (arith, later.0), later.1))
+
+absent : (l : List ℕ) (xs : List (List ℕ)) → list_any (bytes_eq l) xs ≡ false → position_or_len (bytes_eq l) xs ≡ length xs
+absent l [] e = refl
+absent l (x ∷ xs) e =
+    by_cases (bytes_eq l x) _
+    (λ t. absurd (let bad = rw t at e in cc))
+    (λ f. rw f (omega (arith, absent l xs (rw f at e))))
+
+last-label : (l : List ℕ) (xs : List (List ℕ)) → get_or (xs ++ l ∷ []) (length xs) [] ≡ l
+last-label l [] = refl
+last-label l (x ∷ xs) = last-label l xs
+
+-- the place of a label among the labels with it
+pub label-at : (l : List ℕ) (xs : List (List ℕ)) (i : ℕ) → i ≡ position_or_len (bytes_eq l) xs → (i < length (with_label xs l)) × (get_or (with_label xs l) i [] ≡ l)
+label-at l xs i e =
+    by_cases (list_any (bytes_eq l) xs) _
+    (λ t. let flipped : list_any (λ k. bytes_eq k l) xs ≡ true = sym (any-flip l xs) ∙ t in rw (flipped, e) (present l xs t))
+    (λ f.
+    let flipped : list_any (λ k. bytes_eq k l) xs ≡ false = sym (any-flip l xs) ∙ f in
+    let at : i ≡ length xs = e ∙ absent l xs f in
+    rw (flipped, at) (omega (arith, length-append xs (l ∷ [])), last-label l xs))

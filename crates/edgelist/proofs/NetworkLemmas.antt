@@ -1,0 +1,246 @@
+-- One more record, and the network that all of them make.
+use Rattle.std.proofs.Common.{◌≡◌, ℕ, zero, suc, ◌+◌, ◌<◌, ◌≤◌, ◌==◌, ◌&&◌, ◌||◌, Bool, true, false, not, if◌then◌else◌, List, [], ◌∷◌, ◌++◌, length, map, get_or, refl, ap, ap₂, arith, sym, subst, ◌∙◌}
+use Rattle.std.specs.List.{list_any, filter, flat_map, range_with_len}
+use Rattle.std.specs.Str.{bytes_eq}
+use Rattle.std.specs.Cmp.Lexicographic.{same_text}
+use Rattle.std.proofs.lemmas.List.{append-nil, append_assoc, get_or_append_left, length-append, map-append}
+use Rattle.std.proofs.lemmas.List.Elements.{filter-append}
+use Rattle.ball_model.specs.Input.{distinct, labels_of, leads, network_of}
+use Rattle.ball_model.proofs.PathLemmas.{same_bool, eq_true, same_true}
+use Rattle.edgelist.specs.Pairs.{AllBelow, graph_of_pairs}
+use Rattle.edgelist.specs.Reading.{with_label, pair_in, pairs_in, named, IsReadAs, AddsPair}
+use Rattle.edgelist.proofs.BoolLemmas.{by_cases}
+use Rattle.edgelist.proofs.LabelLemmas.{text_same}
+
+-- a label that another one is not is found behind the filter or not, as before it
+any_kept : (x y : List ℕ) (ds : List (List ℕ)) → bytes_eq x y ≡ false → list_any (λ l. bytes_eq l y) (filter (λ z. not (bytes_eq x z)) ds) ≡ list_any (λ l. bytes_eq l y) ds
+any_kept x y [] e = refl
+any_kept x y (d ∷ ds) e =
+    by_cases (bytes_eq x d) _
+    (λ same. let at : x ≡ d = same_text x d (sym same) in
+    let other : bytes_eq d y ≡ false = subst (λ (z : List ℕ). bytes_eq z y ≡ false) at e in
+    rw (same, other) (any_kept x y ds e))
+    (λ apart. rw apart (ap (λ b. bytes_eq d y || b) (any_kept x y ds e)))
+
+put_other : (b : Bool) (x y : List ℕ) (ds : List (List ℕ)) → bytes_eq x y ≡ false → (x ∷ filter (λ z. not (bytes_eq x z)) (if b then ds else ds ++ y ∷ [])) ≡ (if b then (x ∷ filter (λ z. not (bytes_eq x z)) ds) else (x ∷ filter (λ z. not (bytes_eq x z)) ds) ++ y ∷ [])
+put_other true x y ds e = refl
+put_other false x y ds e = rw (filter-append (λ z. not (bytes_eq x z)) ds (y ∷ []), e) refl
+
+put_same : (b : Bool) (x y : List ℕ) (ds : List (List ℕ)) → bytes_eq x y ≡ true → filter (λ z. not (bytes_eq x z)) (if b then ds else ds ++ y ∷ []) ≡ filter (λ z. not (bytes_eq x z)) ds
+put_same true x y ds e = refl
+put_same false x y ds e = rw (filter-append (λ z. not (bytes_eq x z)) ds (y ∷ []), e, append-nil) refl
+
+distinct-push : (xs : List (List ℕ)) (y : List ℕ) → distinct (xs ++ y ∷ []) ≡ with_label (distinct xs) y
+unfolding distinct
+distinct-push [] y = refl
+distinct-push (x ∷ xs) y =
+    by_cases (bytes_eq x y) _
+    (λ same. rw (distinct-push xs y, put_same (list_any (λ l. bytes_eq l y) (distinct xs)) x y (distinct xs) same, same) refl)
+    (λ apart. rw (distinct-push xs y, put_other (list_any (λ l. bytes_eq l y) (distinct xs)) x y (distinct xs) apart, apart, any_kept x y (distinct xs) apart) refl)
+
+concat_push : (rs : List (List (List ℕ))) (r : List (List ℕ)) → flat_map (λ s. s) (rs ++ r ∷ []) ≡ flat_map (λ s. s) rs ++ r
+concat_push [] r = append-nil r
+concat_push (s ∷ rs) r = rw (concat_push rs r) (sym (append_assoc s (flat_map (λ t. t) rs) r))
+
+pub labels_of-one : (rs : List (List (List ℕ))) (a : List ℕ) → labels_of (rs ++ (a ∷ []) ∷ []) ≡ with_label (labels_of rs) a
+unfolding labels_of
+labels_of-one rs a = ap distinct (concat_push rs (a ∷ [])) ∙ distinct-push (flat_map (λ s. s) rs) a
+
+pub labels_of-two : (rs : List (List (List ℕ))) (a b : List ℕ) → labels_of (rs ++ (a ∷ b ∷ []) ∷ []) ≡ with_label (with_label (labels_of rs) a) b
+unfolding labels_of
+labels_of-two rs a b =
+    ap distinct (concat_push rs (a ∷ b ∷ []) ∙ sym (append_assoc (flat_map (λ s. s) rs) (a ∷ []) (b ∷ [])))
+    ∙ distinct-push (flat_map (λ s. s) rs ++ a ∷ []) b ∙ ap (λ (ls : List (List ℕ)). with_label ls b) (distinct-push (flat_map (λ s. s) rs) a)
+
+pairs_push : (rs : List (List (List ℕ))) (r : List (List ℕ)) → pairs_in (rs ++ r ∷ []) ≡ pairs_in rs ++ pair_in r
+unfolding pairs_in
+pairs_push [] r = append-nil (pair_in r)
+pairs_push (s ∷ rs) r = rw (pairs_push rs r) (sym (append_assoc (pair_in s) (pairs_in rs) (pair_in r)))
+
+-- a label more leaves the others in their places
+kept_if : (b : Bool) (labels : List (List ℕ)) (y : List ℕ) (k : ℕ) → k < length labels → get_or (if b then labels else labels ++ y ∷ []) k [] ≡ get_or labels k []
+kept_if true labels y k lt = refl
+kept_if false labels y k lt = get_or_append_left labels (y ∷ []) [] k lt
+
+with_label-at : (labels : List (List ℕ)) (y : List ℕ) (k : ℕ) → k < length labels → get_or (with_label labels y) k [] ≡ get_or labels k []
+with_label-at labels y k lt = kept_if (list_any (λ l. bytes_eq l y) labels) labels y k lt
+
+longer_if : (b : Bool) (labels : List (List ℕ)) (y : List ℕ) → length labels ≤ length (if b then labels else labels ++ y ∷ [])
+longer_if true labels y = omega arith
+longer_if false labels y = omega (arith, length-append labels (y ∷ []))
+
+pub with_label-longer : (labels : List (List ℕ)) (y : List ℕ) → length labels ≤ length (with_label labels y)
+with_label-longer labels y = longer_if (list_any (λ l. bytes_eq l y) labels) labels y
+
+named_same : (old new : List (List ℕ)) (pairs : List (ℕ × ℕ)) → ((k : ℕ) → k < length old → get_or new k [] ≡ get_or old k []) → AllBelow (length old) pairs → map (named new) pairs ≡ map (named old) pairs
+named_same old new [] same below = refl
+named_same old new (e ∷ es) same below = rw (same e.0 below.0.0, same e.1 below.0.1, named_same old new es same below.1) refl
+
+pub below_more : (m n : ℕ) (pairs : List (ℕ × ℕ)) → m ≤ n → AllBelow m pairs → AllBelow n pairs
+below_more m n [] le below = tt
+below_more m n (e ∷ es) le below = ((omega (arith, below.0.0), omega (arith, below.0.1)), below_more m n es le below.1)
+
+pub below_push : (n : ℕ) (pairs : List (ℕ × ℕ)) (i j : ℕ) → i < n → j < n → AllBelow n pairs → AllBelow n (pairs ++ (i, j) ∷ [])
+below_push n [] i j lo hi below = ((lo, hi), tt)
+below_push n (e ∷ es) i j lo hi below = (below.0, below_push n es i j lo hi below.1)
+
+pub read-none : IsReadAs [] [] []
+unfolding labels_of distinct pairs_in
+read-none = record { labels_are = refl; below = tt; pairs_are = refl }
+
+-- a record of one label
+pub read-one : (records : List (List (List ℕ))) (old new : List (List ℕ)) (pairs pairs' : List (ℕ × ℕ)) (a : List ℕ) → IsReadAs records old pairs → new ≡ with_label old a → pairs' ≡ pairs →
+    IsReadAs (records ++ (a ∷ []) ∷ []) new pairs'
+read-one records old new pairs pairs' a so is same =
+    subst (λ (ps : List (ℕ × ℕ)). IsReadAs (records ++ (a ∷ []) ∷ []) new ps) (sym same) (record {
+      labels_are = is ∙ ap (λ (ls : List (List ℕ)). with_label ls a) so.labels_are ∙ sym (labels_of-one records a);
+      below = below_more (length old) (length new) pairs (omega (arith, with_label-longer old a, ap length is)) so.below;
+      pairs_are = named_same old new pairs (λ k lt. ap (λ (ls : List (List ℕ)). get_or ls k []) is ∙ with_label-at old a k lt) so.below ∙ so.pairs_are ∙ sym (append-nil (pairs_in records)) ∙ sym (pairs_push records (a ∷ []));
+    })
+
+-- the ends of an added pair are labels
+pub pair-below : (old new : List (List ℕ)) (pairs pairs' : List (ℕ × ℕ)) (a b : List ℕ) → AddsPair a b old pairs new pairs' → AllBelow (length old) pairs → AllBelow (length new) pairs'
+pair-below old new pairs pairs' a b adds below =
+    let mid = with_label old a in
+    let longer_mid : length old ≤ length mid = with_label-longer old a in
+    let longer_new : length mid ≤ length new = omega (arith, with_label-longer mid b, ap length adds.labels_are) in
+    subst (λ (ps : List (ℕ × ℕ)). AllBelow (length new) ps) (sym adds.pairs_are)
+    (below_push (length new) pairs adds.to adds.from adds.to_within (omega (arith, adds.from_within, longer_new)) (below_more (length old) (length new) pairs (omega arith) below))
+
+-- a record of two labels
+pub read-two : (records : List (List (List ℕ))) (old new : List (List ℕ)) (pairs pairs' : List (ℕ × ℕ)) (a b : List ℕ) → IsReadAs records old pairs → AddsPair a b old pairs new pairs' →
+    IsReadAs (records ++ (a ∷ b ∷ []) ∷ []) new pairs'
+read-two records old new pairs pairs' a b so adds =
+    let mid = with_label old a in
+    let i = adds.from in
+    let j = adds.to in
+    let longer_mid : length old ≤ length mid = with_label-longer old a in
+    let longer_new : length mid ≤ length new = omega (arith, with_label-longer mid b, ap length adds.labels_are) in
+    let keep_new : (k : ℕ) → k < length mid → get_or new k [] ≡ get_or mid k [] = λ k lt. ap (λ (ls : List (List ℕ)). get_or ls k []) adds.labels_are ∙ with_label-at mid b k lt in
+    let keep : (k : ℕ) → k < length old → get_or new k [] ≡ get_or old k [] = λ k lt. keep_new k (omega arith) ∙ with_label-at old a k lt in
+    let all_labels : new ≡ labels_of (records ++ (a ∷ b ∷ []) ∷ []) =
+    adds.labels_are ∙ ap (λ (ls : List (List ℕ)). with_label (with_label ls a) b) so.labels_are ∙ sym (labels_of-two records a b) in
+    let here : named new (j, i) ≡ (b, a) = ap₂ (λ x y. (x, y)) adds.to_is (keep_new i adds.from_within ∙ adds.from_is) in
+    record {
+      labels_are = all_labels;
+      below = pair-below old new pairs pairs' a b adds so.below;
+      pairs_are =
+          ap (map (named new)) adds.pairs_are ∙ map-append (named new) pairs ((j, i) ∷ [])
+          ∙ ap₂ (λ (xs ys : List (List ℕ × List ℕ)). xs ++ ys) (named_same old new pairs keep so.below ∙ so.pairs_are) (ap (λ (p : List ℕ × List ℕ). p ∷ []) here)
+          ∙ sym (pairs_push records (a ∷ b ∷ []));
+    }
+
+-- labels that are all different
+unfoldable pub Apart : List (List ℕ) → Type 0
+Apart [] = Unit {0}
+Apart (x ∷ xs) = (list_any (λ l. bytes_eq x l) xs ≡ false) × Apart xs
+
+none_kept : (p q : List ℕ → Bool) (xs : List (List ℕ)) → list_any p xs ≡ false → list_any p (filter q xs) ≡ false
+none_kept p q [] e = refl
+none_kept p q (x ∷ xs) e =
+    by_cases (p x) _
+    (λ t. absurd (let bad = rw t at e in cc))
+    (λ off.
+    let rest = rw off at e in
+    by_cases (q x) _
+    (λ t. rw (t, off) (none_kept p q xs rest))
+    (λ f. rw f (none_kept p q xs rest)))
+
+apart_kept : (q : List ℕ → Bool) (xs : List (List ℕ)) → Apart xs → Apart (filter q xs)
+unfolding Apart
+apart_kept q [] h = tt
+apart_kept q (x ∷ xs) h =
+    by_cases (q x) _
+    (λ t. rw t (none_kept (λ l. bytes_eq x l) q xs h.0, apart_kept q xs h.1))
+    (λ f. rw f (apart_kept q xs h.1))
+
+others : (p : List ℕ → Bool) (xs : List (List ℕ)) → list_any p (filter (λ y. not (p y)) xs) ≡ false
+others p [] = refl
+others p (x ∷ xs) =
+    by_cases (p x) _
+    (λ t. rw t (others p xs))
+    (λ f. rw (f, f) (others p xs))
+
+pub apart-distinct : (xs : List (List ℕ)) → Apart (distinct xs)
+unfolding distinct Apart
+apart-distinct [] = tt
+apart-distinct (x ∷ xs) = (others (λ y. bytes_eq x y) (distinct xs), apart_kept (λ y. not (bytes_eq x y)) (distinct xs) (apart-distinct xs))
+
+pub apart-labels : (records : List (List (List ℕ))) → Apart (labels_of records)
+unfolding labels_of
+apart-labels records = apart-distinct (flat_map (λ s. s) records)
+
+none_at : (p : List ℕ → Bool) (xs : List (List ℕ)) (i : ℕ) → list_any p xs ≡ false → i < length xs → p (get_or xs i []) ≡ false
+none_at p [] i e lt = absurd (omega arith)
+none_at p (x ∷ xs) zero e lt =
+    by_cases (p x) _
+    (λ t. absurd (let bad = rw t at e in cc))
+    (λ f. f)
+none_at p (x ∷ xs) (suc i) e lt =
+    by_cases (p x) _
+    (λ t. absurd (let bad = rw t at e in cc))
+    (λ f. none_at p xs i (rw f at e) (omega arith))
+
+-- equal labels stand at one place
+pub apart-at : (xs : List (List ℕ)) (i j : ℕ) → Apart xs → i < length xs → j < length xs → get_or xs i [] ≡ get_or xs j [] → i ≡ j
+unfolding Apart
+apart-at [] i j h lo hi e = absurd (omega arith)
+apart-at (x ∷ xs) zero zero h lo hi e = refl
+apart-at (x ∷ xs) zero (suc j) h lo hi e =
+    absurd (let bad : true ≡ false = sym (text_same x) ∙ ap (λ (y : List ℕ). bytes_eq x y) e ∙ none_at (λ l. bytes_eq x l) xs j h.0 (omega arith) in cc)
+apart-at (x ∷ xs) (suc i) zero h lo hi e =
+    absurd (let bad : true ≡ false = sym (text_same x) ∙ ap (λ (y : List ℕ). bytes_eq x y) (sym e) ∙ none_at (λ l. bytes_eq x l) xs i h.0 (omega arith) in cc)
+apart-at (x ∷ xs) (suc i) (suc j) h lo hi e = ap suc (apart-at xs i j h.1 (omega arith) (omega arith) e)
+
+pub label-eq : (labels : List (List ℕ)) (i j : ℕ) → Apart labels → i < length labels → j < length labels → bytes_eq (get_or labels i []) (get_or labels j []) ≡ (i == j)
+label-eq labels i j h lo hi =
+    same_bool _ _
+    (λ t. let e : i ≡ j = apart-at labels i j h lo hi (same_text _ _ (sym t)) in subst (λ (k : ℕ). (i == k) ≡ true) e (same_true i))
+    (λ t. let e : i ≡ j = eq_true i j t in subst (λ (k : ℕ). bytes_eq (get_or labels i []) (get_or labels k []) ≡ true) e (text_same (get_or labels i [])))
+
+and-flip : (a b : Bool) → (a && b) ≡ (b && a)
+and-flip true true = refl
+and-flip true false = refl
+and-flip false true = refl
+and-flip false false = refl
+
+-- the records that lead from one label to another
+leads_one : (r : List (List ℕ)) (from to : List ℕ) (tail : List (List ℕ × List ℕ)) → list_any (λ p. bytes_eq p.0 to && bytes_eq p.1 from) (pair_in r ++ tail) ≡ (leads from to r || list_any (λ p. bytes_eq p.0 to && bytes_eq p.1 from) tail)
+leads_one [] from to tail = refl
+leads_one (a ∷ []) from to tail = refl
+leads_one (a ∷ b ∷ more) from to tail = rw (and-flip (bytes_eq b to) (bytes_eq a from)) refl
+
+leads_pairs : (rs : List (List (List ℕ))) (from to : List ℕ) → list_any (λ p. bytes_eq p.0 to && bytes_eq p.1 from) (pairs_in rs) ≡ list_any (leads from to) rs
+unfolding pairs_in
+leads_pairs [] from to = refl
+leads_pairs (r ∷ rs) from to = leads_one r from to (pairs_in rs) ∙ ap (λ b. leads from to r || b) (leads_pairs rs from to)
+
+numbers_any : (labels : List (List ℕ)) (pairs : List (ℕ × ℕ)) (x y : ℕ) → Apart labels → x < length labels → y < length labels → AllBelow (length labels) pairs →
+    list_any (λ p. bytes_eq p.0 (get_or labels x []) && bytes_eq p.1 (get_or labels y [])) (map (named labels) pairs) ≡ list_any (λ e. (e.0 == x) && (e.1 == y)) pairs
+numbers_any labels [] x y h lo hi below = refl
+numbers_any labels (e ∷ es) x y h lo hi below =
+    rw (label-eq labels e.0 x h below.0.0 lo, label-eq labels e.1 y h below.0.1 hi, numbers_any labels es x y h lo hi below.1) refl
+
+pub filter_range-same : (p q : ℕ → Bool) (a n bound : ℕ) → a + n ≤ bound → ((k : ℕ) → k < bound → p k ≡ q k) → filter p (range_with_len a n) ≡ filter q (range_with_len a n)
+filter_range-same p q a zero bound le h = refl
+filter_range-same p q a (suc n) bound le h = rw (h a (omega arith), filter_range-same p q (a + 1) n bound (omega arith) h) refl
+
+edges_range-same : (f h : ℕ → List (ℕ × ℕ)) (a n bound : ℕ) → a + n ≤ bound → ((k : ℕ) → k < bound → f k ≡ h k) → flat_map f (range_with_len a n) ≡ flat_map h (range_with_len a n)
+edges_range-same f h a zero bound le e = refl
+edges_range-same f h a (suc n) bound le e = rw (e a (omega arith), edges_range-same f h (a + 1) n bound (omega arith) e) refl
+
+-- what is read is the network of the records
+pub network-is : (records : List (List (List ℕ))) (labels : List (List ℕ)) (pairs : List (ℕ × ℕ)) → IsReadAs records labels pairs →
+    network_of records ≡ record { graph = graph_of_pairs (length labels) pairs; labels = labels }
+unfolding network_of
+network-is records labels pairs so =
+    let n = length labels in
+    let h : Apart labels = subst Apart (sym so.labels_are) (apart-labels records) in
+    let one : (x y : ℕ) → x < n → y < n → list_any (leads (get_or labels y []) (get_or labels x [])) records ≡ list_any (λ e. (e.0 == x) && (e.1 == y)) pairs =
+    λ x y hi lo. sym (leads_pairs records (get_or labels y []) (get_or labels x []))
+    ∙ ap (list_any (λ p. bytes_eq p.0 (get_or labels x []) && bytes_eq p.1 (get_or labels y []))) (sym so.pairs_are)
+    ∙ numbers_any labels pairs x y h hi lo so.below in
+    let edges : flat_map (λ x. map (λ y. (y, x)) (filter (λ y. list_any (leads (get_or labels y []) (get_or labels x [])) records) (range_with_len 0 n))) (range_with_len 0 n)
+    ≡ flat_map (λ x. map (λ y. (y, x)) (filter (λ y. list_any (λ e. (e.0 == x) && (e.1 == y)) pairs) (range_with_len 0 n))) (range_with_len 0 n) =
+    edges_range-same _ _ 0 n n (omega arith) (λ x hi. ap (map (λ y. (y, x))) (filter_range-same _ _ 0 n n (omega arith) (λ y lo. one x y hi lo))) in
+    rw (← so.labels_are, edges) refl

@@ -1,0 +1,74 @@
+-- The plan that options give is of the graph.
+use Rattle.std.proofs.Common.{◌≡◌, ◌<◌, ◌≤◌, ◌^◌, ℕ, Bool, true, false, nat_lt, [], length, refl, arith, tests}
+use Rattle.std.specs.Prelude.{Result, Ok, Err, IfOk, ◌||◌}
+use Rattle.sha2.proofs.Facts256.{length-sha256}
+use Rattle.ball_model.specs.Graph.{Graph, IsGraph}
+use Rattle.ball_model.specs.PlanValue.{PlanValue, IsPlan, plan_of}
+use Rattle.ball_model.specs.declared.plan.PlanError.{PlanError}
+use Rattle.ball_model.specs.Job.{IsJob, digest_of, digest_bytes}
+use Rattle.ball_model.specs.RunText.{plan_over}
+use Rattle.edgelist.specs.Planning.{options_of, settings}
+use Rattle.edgelist.proofs.BoolLemmas.{by_cases}
+
+left-false : (a b : Bool) → (a || b) ≡ false → a ≡ false
+left-false true b e = e
+left-false false b e = refl
+
+right-false : (a b : Bool) → (a || b) ≡ false → b ≡ false
+right-false true b e = absurd (cc)
+right-false false b e = e
+
+not-below : (a b : ℕ) → nat_lt a b ≡ false → b ≤ a
+not-below a b e = search (tests, arith)
+
+abbrev IsGood : PlanValue → PlanValue → Type 0
+IsGood p q = IsPlan q × (q ≡ p)
+
+-- a plan within the limits is one
+plan_of-good : (p : PlanValue) → p.seed < 2 ^ 64 → length p.job ≡ 32 → IfOk (plan_of p) (λ q. IsGood p q)
+plan_of-good p seed digest =
+    by_cases (nat_lt p.log2m 4 || nat_lt 10 p.log2m) _ (λ t. rw t tt)
+    (λ a. by_cases (nat_lt p.parts 1 || nat_lt 64 p.parts) _ (λ t. rw (a, t) tt)
+    (λ b. by_cases (nat_lt p.limit 1 || nat_lt 4096 p.limit) _ (λ t. rw (a, b, t) tt)
+    (λ d. by_cases (nat_lt 16777216 p.vertices) _ (λ t. rw (a, b, d, t) tt)
+    (λ e.
+    let a0 = left-false (nat_lt p.log2m 4) (nat_lt 10 p.log2m) a in
+    let a1 = right-false (nat_lt p.log2m 4) (nat_lt 10 p.log2m) a in
+    let b0 = left-false (nat_lt p.parts 1) (nat_lt 64 p.parts) b in
+    let b1 = right-false (nat_lt p.parts 1) (nat_lt 64 p.parts) b in
+    let d0 = left-false (nat_lt p.limit 1) (nat_lt 4096 p.limit) d in
+    let d1 = right-false (nat_lt p.limit 1) (nat_lt 4096 p.limit) d in
+    rw (a, b, d, e) (
+      record {
+        log2m_from = not-below p.log2m 4 a0;
+        log2m_to = not-below 10 p.log2m a1;
+        seed_to = seed;
+        parts_from = not-below p.parts 1 b0;
+        parts_to = not-below 64 p.parts b1;
+        limit_from = not-below p.limit 1 d0;
+        limit_to = not-below 4096 p.limit d1;
+        vertices_to = not-below 16777216 p.vertices e;
+        digest = digest;
+      },
+      refl,
+    )))))
+
+job-of : (g : Graph) (log2m seed parts limit : ℕ) (q : PlanValue) → IsGraph g → IsGood (plan_over (settings log2m seed parts limit 0) g) q → IsJob (record { graph = g; plan = q })
+unfolding digest_of digest_bytes
+job-of g log2m seed parts limit q ok (plan, is) = record {
+  graph = ok;
+  plan = plan;
+  vertices = rw is refl;
+  digest = rw is refl;
+}
+
+length-digest : (p : PlanValue) (g : Graph) → length (digest_of p g) ≡ 32
+unfolding digest_of
+length-digest p g = length-sha256 (digest_bytes p g)
+
+-- the plan of options is a job's
+pub plan-job : (o : Result PlanValue PlanError) (g : Graph) (log2m seed parts limit : ℕ) → IsGraph g → seed < 2 ^ 64 →
+    o ≡ plan_of (plan_over (settings log2m seed parts limit 0) g) → IfOk o (λ q. IsJob (record { graph = g; plan = q }))
+plan-job (Ok q) g log2m seed parts limit ok fits is =
+    job-of g log2m seed parts limit q ok (rw (← is) at (plan_of-good (plan_over (settings log2m seed parts limit 0) g) fits (length-digest (options_of log2m seed parts limit g []) g)))
+plan-job (Err e) g log2m seed parts limit ok fits is = tt

@@ -1,0 +1,276 @@
+-- What a replica sends is the true batch, where it stands for its content.
+use Rattle.std.proofs.Common.{◌≡◌, ℕ, zero, suc, ◌+◌, ◌-◌, ◌*◌, ◌^◌, ◌<◌, ◌≤◌, Bool, true, false, ◌&&◌, ◌==◌, List, [], ◌∷◌, ◌++◌, length, length-append, map, get_or, take, if◌then◌else◌, refl, ap, arith, sym, subst, ◌∙◌, inl, inr}
+use Rattle.std.specs.Int.{bit_at}
+use Rattle.std.specs.List.{range_with_len, flat_map, filter, sum_by, count_by, AllByRecursion}
+use Rattle.std.proofs.Math.Nat.{pow-succ'}
+use Rattle.std.proofs.lemmas.Nat.Bits.{bit_at_cat_low, bit_at_cat_high}
+use Rattle.std.proofs.lemmas.Bool.{cases_lt}
+use Rattle.std.proofs.lemmas.List.{append-nil, take_more, get_or_default}
+use Rattle.std.proofs.lemmas.List.Elements.{filter-append}
+use Rattle.std.proofs.lemmas.List.Concat.{flat_map-append}
+use Rattle.std.proofs.lemmas.List.Sums.{sum_by-append, sum_by-cons, length-filter}
+use Rattle.ball_model.specs.Counter.{ball_counter}
+use Rattle.ball_model.specs.Change.{changed_at}
+use Rattle.ball_model.specs.PlanValue.{PlanValue, mixing_of, part_size}
+use Rattle.ball_model.specs.Job.{Job, PartValue, part_of, feeds_into, feed_mask}
+use Rattle.ball_model.specs.Laws.{IsCounterRow}
+use Rattle.ball_model.specs.Batches.{BatchValue, IsRow, true_batch, sent_vertices, ids_of}
+use Rattle.ball_model.specs.State.{State, StandsFor}
+use Rattle.ball_model.proofs.PartLemmas.{range_more, vertices_of-strided}
+use Rattle.replica.specs.Seen.{IsState}
+use Rattle.replica.specs.Sent.{has_bit, sent_row, sent_rows, sent_batch}
+use Rattle.replica.proofs.OwnLemmas.{vertex_of, own_below, own_part, at_own}
+use Rattle.replica.proofs.LevelLemmas.{plan_is, number_is, size_is, row_at, mark_at}
+use Rattle.replica.proofs.ReadLemmas.{count_stands}
+
+-- the sum of the powers of two whose exponents pass
+abbrev powers : (ℕ → Bool) → ℕ → ℕ
+powers f n = sum_by (λ r. if f r then 2 ^ r else 0) (range_with_len 0 n)
+
+abbrev bit : Bool → ℕ
+bit b = if b then 1 else 0
+
+power_of : (b : Bool) (n : ℕ) → (if b then 2 ^ n else 0) ≡ bit b * 2 ^ n
+power_of true n = omega arith
+power_of false n = omega arith
+
+powers_next : (f : ℕ → Bool) (n : ℕ) → powers f (n + 1) ≡ bit (f n) * 2 ^ n + powers f n
+powers_next f n =
+    ap (sum_by (λ r. if f r then 2 ^ r else 0)) (range_more n) ∙ sum_by-append (λ r. if f r then 2 ^ r else 0) (range_with_len 0 n) (n ∷ [])
+    ∙ omega (arith, sum_by-cons (λ r. if f r then 2 ^ r else 0) n [], power_of (f n) n)
+
+bit_times : (b : Bool) (n : ℕ) → bit b * 2 ^ n ≤ 2 ^ n
+bit_times true n = omega arith
+bit_times false n = omega arith
+
+pow_next : (n : ℕ) → 2 ^ (n + 1) ≡ 2 * 2 ^ n
+pow_next n = let e : n + 1 ≡ suc n = omega arith in ap (λ k. 2 ^ k) e ∙ pow-succ' 2 n
+
+powers_lt : (f : ℕ → Bool) (n : ℕ) → powers f n < 2 ^ n
+powers_lt f zero = omega arith
+powers_lt f (suc n) =
+    let e : n + 1 ≡ suc n = omega arith in
+    let next : powers f (n + 1) < 2 ^ (n + 1) = rw (powers_next f n, pow_next n) (omega (arith, powers_lt f n, bit_times (f n) n)) in
+    subst (λ (k : ℕ). powers f k < 2 ^ k) e next
+
+bit_low : (b : Bool) → bit_at (bit b) 0 ≡ bit b
+bit_low true = refl
+bit_low false = refl
+
+-- bit i of the sum is set where i passes
+powers_bit : (f : ℕ → Bool) (n i : ℕ) → i < n → bit_at (powers f n) i ≡ bit (f i)
+powers_bit f zero i lt = absurd (omega arith)
+powers_bit f (suc n) i lt =
+    let e : n + 1 ≡ suc n = omega arith in
+    subst (λ (k : ℕ). bit_at (powers f k) i ≡ bit (f i)) e (rw (powers_next f n)
+    (elim (cases_lt i n) [
+      | inl less ↦ bit_at_cat_low (bit (f n)) n (powers f n) i less ∙ powers_bit f n i less
+      | inr more ↦
+          let at : n ≡ i = omega arith in
+          let none : n - n ≡ 0 = omega arith in
+          subst (λ (k : ℕ). bit_at (bit (f n) * 2 ^ n + powers f n) k ≡ bit (f k)) at
+          (bit_at_cat_high (bit (f n)) n (powers f n) n (powers_lt f n) (omega arith) ∙ rw none (bit_low (f n)))
+    ]))
+
+bit_test : (b : Bool) → (bit b == 1) ≡ b
+bit_test true = refl
+bit_test false = refl
+
+-- bit r of a feed mask is set where the vertex has an edge into partition r
+feeds_bit : (j : Job) (y r : ℕ) → r < j.plan.parts → has_bit (feed_mask j.graph j.plan.parts y) r ≡ feeds_into j.graph j.plan.parts y r
+unfolding feed_mask
+feeds_bit j y r lt = ap (λ n. n == 1) (powers_bit (λ k. feeds_into j.graph j.plan.parts y k) j.plan.parts r lt) ∙ bit_test (feeds_into j.graph j.plan.parts y r)
+
+sent_if : (b : Bool) (y : ℕ) (row : List ℕ) (ys : List ℕ) (G : ℕ → ℕ × List ℕ) → G y ≡ (y, row) → (if b then (y, row) ∷ [] else []) ++ map G ys ≡ map G (if b then (y ∷ ys) else ys)
+sent_if true y row ys G at = ap (λ (p : ℕ × List ℕ). p ∷ map G ys) (sym at)
+sent_if false y row ys G at = refl
+
+-- rows that are sent one by one are those of the vertices that pass
+sent_all : (F : ℕ → List (ℕ × List ℕ)) (h : ℕ → ℕ) (C : ℕ → List ℕ) (test : ℕ → Bool) (a n bound : ℕ) → a + n ≤ bound → ((i : ℕ) → i < bound → F i ≡ (if test (h i) then (h i, C (h i)) ∷ [] else [])) →
+    flat_map F (range_with_len a n) ≡ map (λ y. (y, C y)) (filter test (map h (range_with_len a n)))
+sent_all F h C test a zero bound le is = refl
+sent_all F h C test a (suc n) bound le is =
+    rw (is a (omega arith), sent_all F h C test (a + 1) n bound (omega arith) is) (sent_if (test (h a)) (h a) (C (h a)) (filter test (map h (range_with_len (a + 1) n))) (λ y. (y, C y)) refl)
+
+part_feeds : (j : Job) (p i : ℕ) → p < j.plan.parts → i < part_size j.graph.vertices j.plan.parts p → get_or (part_of j p).feeds i 0 ≡ feed_mask j.graph j.plan.parts (vertex_of j.plan.parts p i)
+unfolding part_of
+part_feeds j p i below lt = at_own (λ x. feed_mask j.graph j.plan.parts x) j.graph.vertices j.plan.parts p i 0 below lt
+
+abbrev row_pair : ℕ → List ℕ → ℕ × List ℕ
+row_pair x r = (x, r)
+
+if_same : (a b : Bool) (x y : ℕ) (r s : List ℕ) → a ≡ b → x ≡ y → r ≡ s → (if a then row_pair x r ∷ [] else []) ≡ (if b then row_pair y s ∷ [] else [])
+if_same a b x y r s p q e = rw (p, q, e) refl
+
+-- one row
+row_sent : (j : Job) (p t target i : ℕ) (v : State) → StandsFor j p t v → target < j.plan.parts → i < part_size j.graph.vertices j.plan.parts p →
+    sent_row v target i ≡ (if changed_at (mixing_of j.plan) j.graph (vertex_of j.plan.parts p i) t && feeds_into j.graph j.plan.parts (vertex_of j.plan.parts p i) target then (vertex_of j.plan.parts p i, ball_counter (mixing_of j.plan) j.graph (vertex_of j.plan.parts p i) t) ∷ [] else [])
+row_sent j p t target i v h lt inside =
+    let x = vertex_of j.plan.parts p i in
+    let mark : get_or v.marks i false ≡ changed_at (mixing_of j.plan) j.graph x t = ap (λ (l : List Bool). get_or l i false) h.marks ∙ mark_at j p t i false h.partition inside in
+    let feed : get_or v.part.feeds i 0 ≡ feed_mask j.graph j.plan.parts x = ap (λ (a : PartValue). get_or a.feeds i 0) h.part ∙ part_feeds j p i h.partition inside in
+    let fed : has_bit (get_or v.part.feeds i 0) target ≡ feeds_into j.graph j.plan.parts x target = ap (λ n. has_bit n target) feed ∙ feeds_bit j x target lt in
+    let vertex : i * v.part.plan.parts + v.part.number ≡ x = rw (ap (λ (a : PlanValue). a.parts) (plan_is j p t v h), number_is j p t v h) refl in
+    let row : get_or v.rows i [] ≡ ball_counter (mixing_of j.plan) j.graph x t = ap (λ (l : List (List ℕ)). get_or l i []) h.rows ∙ row_at j p t i [] h.partition inside in
+    if_same _ _ _ _ _ _ (rw (mark, fed) refl) vertex row
+
+rows_sent : (j : Job) (p t target : ℕ) (v : State) → StandsFor j p t v → target < j.plan.parts →
+    sent_rows v target (length v.part.preds) ≡ map (λ y. (y, ball_counter (mixing_of j.plan) j.graph y t)) (sent_vertices j t p target)
+unfolding sent_rows sent_vertices
+rows_sent j p t target v h lt =
+    let C : ℕ → List ℕ = λ y. ball_counter (mixing_of j.plan) j.graph y t in
+    let test : ℕ → Bool = λ y. changed_at (mixing_of j.plan) j.graph y t && feeds_into j.graph j.plan.parts y target in
+    ap (λ n. flat_map (λ i. sent_row v target i) (range_with_len 0 n)) (size_is j p t v h)
+    ∙ sent_all (λ i. sent_row v target i) (λ i. vertex_of j.plan.parts p i) C test 0 (part_size j.graph.vertices j.plan.parts p) (part_size j.graph.vertices j.plan.parts p) (omega arith) (λ i inside. row_sent j p t target i v h lt inside)
+    ∙ ap (λ (ys : List ℕ). map (λ y. (y, C y)) (filter test ys)) (sym (vertices_of-strided j.graph.vertices j.plan.parts p h.partition))
+
+-- THE OUT: what is sent is the true batch
+pub sent_true : (j : Job) (p t target : ℕ) (v : State) → StandsFor j p t v → target < v.part.plan.parts → sent_batch v target (length v.part.preds) ≡ true_batch j (record { superstep = t; source = p; target = target })
+unfolding sent_batch true_batch
+sent_true j p t target v h lt =
+    let plan = plan_is j p t v h in
+    let inside : target < j.plan.parts = omega (arith, ap (λ (a : PlanValue). a.parts) plan) in
+    rw (rows_sent j p t target v h inside, count_stands j p t v h, plan, number_is j p t v h, h.superstep) refl
+
+-- one vertex more
+pub sent_more : (v : State) (target n : ℕ) → sent_rows v target (n + 1) ≡ sent_rows v target n ++ sent_row v target n
+unfolding sent_rows
+sent_more v target n =
+    let F : ℕ → List (ℕ × List ℕ) = λ i. sent_row v target i in
+    ap (flat_map F) (range_more n) ∙ flat_map-append F (range_with_len 0 n) (n ∷ []) ∙ ap (λ (l : List (ℕ × List ℕ)). flat_map F (range_with_len 0 n) ++ l) (append-nil (F n))
+
+-- a batch that has gained one vertex's row
+pub sent_yes : (v : State) (target i id : ℕ) (row : List ℕ) (b : BatchValue) → b ≡ sent_batch v target i → get_or v.marks i false ≡ true → has_bit (get_or v.part.feeds i 0) target ≡ true → id ≡ i * v.part.plan.parts + v.part.number → row ≡ get_or v.rows i [] →
+    record b { rows = b.rows ++ (id, row) ∷ [] } ≡ sent_batch v target (i + 1)
+unfolding sent_batch
+sent_yes v target i id row b is mark fed vertex at =
+    let one : sent_row v target i ≡ (id, row) ∷ [] = rw (mark, fed, vertex, at) refl in
+    ap (λ (a : BatchValue). record a { rows = a.rows ++ (id, row) ∷ [] }) is
+    ∙ ap (λ (l : List (ℕ × List ℕ)). record (sent_batch v target i) { rows = l }) (sym (sent_more v target i ∙ ap (λ (l : List (ℕ × List ℕ)). sent_rows v target i ++ l) one))
+
+sent_none : (m f : Bool) (x : ℕ × List ℕ) → (m && f) ≡ false → (if m && f then x ∷ [] else []) ≡ []
+sent_none m f x off = rw off refl
+
+-- or none
+pub sent_no : (v : State) (target i : ℕ) (b : BatchValue) → b ≡ sent_batch v target i → (get_or v.marks i false && has_bit (get_or v.part.feeds i 0) target) ≡ false → b ≡ sent_batch v target (i + 1)
+unfolding sent_batch
+sent_no v target i b is off =
+    is ∙ ap (λ (l : List (ℕ × List ℕ)). record (sent_batch v target i) { rows = l })
+    (sym (sent_more v target i ∙ ap (λ (l : List (ℕ × List ℕ)). sent_rows v target i ++ l) (sent_none (get_or v.marks i false) (has_bit (get_or v.part.feeds i 0) target) (i * v.part.plan.parts + v.part.number, get_or v.rows i []) off) ∙ append-nil (sent_rows v target i)))
+
+-- the row of a vertex of the partition is one that the batch may have
+pub sent_fits : (v : State) (target i id : ℕ) (row : List ℕ) (b : BatchValue) → IsState v → b ≡ sent_batch v target i → i < length v.part.preds → id ≡ i * v.part.plan.parts + v.part.number → row ≡ get_or v.rows i [] → IsRow b.plan b.name.source (id, row)
+unfolding sent_batch
+sent_fits v target i id row b s is lt vertex at =
+    let plan : b.plan ≡ v.part.plan = ap (λ (a : BatchValue). a.plan) is in
+    let source : b.name.source ≡ v.part.number = ap (λ (a : BatchValue). a.name.source) is in
+    let counter : IsCounterRow v.part.plan.log2m (get_or v.rows i []) = s.rows.row i (omega (arith, s.count)) in
+    rw (plan, source, vertex, at) (record {
+      vertex = own_below v.part.plan.vertices v.part.plan.parts v.part.number i s.part.number (omega (arith, s.part.preds));
+      own = own_part v.part.plan.parts v.part.number i s.part.number;
+      width = counter.width;
+      ranks = counter.ranks;
+    })
+
+below_more : (xs : List (ℕ × List ℕ)) (a b : ℕ) → a ≤ b → AllByRecursion (λ row. row.0 < a) xs → AllByRecursion (λ row. row.0 < b) xs
+below_more [] a b le h = tt
+below_more (x ∷ xs) a b le h = (let lt : x.0 < a = h.0 in omega arith, below_more xs a b le h.1)
+
+below_both : (xs ys : List (ℕ × List ℕ)) (b : ℕ) → AllByRecursion (λ row. row.0 < b) xs → AllByRecursion (λ row. row.0 < b) ys → AllByRecursion (λ row. row.0 < b) (xs ++ ys)
+below_both [] ys b p q = q
+below_both (x ∷ xs) ys b p q = (p.0, below_both xs ys b p.1 q)
+
+below_if : (t : Bool) (x : ℕ × List ℕ) (b : ℕ) → x.0 < b → AllByRecursion (λ row. row.0 < b) (if t then x ∷ [] else [])
+below_if true x b lt = (lt, tt)
+below_if false x b lt = tt
+
+sent_below : (v : State) (target n : ℕ) → 1 ≤ v.part.plan.parts → AllByRecursion (λ row. row.0 < n * v.part.plan.parts + v.part.number) (sent_rows v target n)
+unfolding sent_rows
+sent_below v target zero some = tt
+sent_below v target (suc n) some =
+    let e : n + 1 ≡ suc n = omega arith in
+    let p = v.part.plan.parts in
+    let step : (n + 1) * p ≡ n * p + p = omega arith in
+    let bound = (n + 1) * p + v.part.number in
+    let less : n * p + v.part.number ≤ bound = omega arith in
+    let next : n * p + v.part.number < bound = omega arith in
+    let both = below_both (sent_rows v target n) (sent_row v target n) bound (below_more (sent_rows v target n) (n * p + v.part.number) bound less (sent_below v target n some)) (below_if (get_or v.marks n false && has_bit (get_or v.part.feeds n 0) target) (n * p + v.part.number, get_or v.rows n []) bound next) in
+    subst (λ (k : ℕ). AllByRecursion (λ row. row.0 < k * p + v.part.number) (sent_rows v target k)) e
+    (subst (λ (l : List (ℕ × List ℕ)). AllByRecursion (λ row. row.0 < bound) l) (sym (sent_more v target n)) both)
+
+ids_below : (xs : List (ℕ × List ℕ)) (b : ℕ) → AllByRecursion (λ row. row.0 < b) xs → (k d : ℕ) → k < length (ids_of xs) → get_or (ids_of xs) k d < b
+ids_below [] b h k d lt = absurd (omega arith)
+ids_below (x ∷ xs) b h zero d lt = h.0
+ids_below (x ∷ xs) b h (suc k) d lt = ids_below xs b h.1 k d (omega arith)
+
+-- the vertices that the batch has come before
+pub sent_above : (v : State) (target i id : ℕ) (b : BatchValue) → IsState v → b ≡ sent_batch v target i → id ≡ i * v.part.plan.parts + v.part.number → (k d : ℕ) → k < length (ids_of b.rows) → get_or (ids_of b.rows) k d < id
+unfolding sent_batch
+sent_above v target i id b s is vertex =
+    let rows : b.rows ≡ sent_rows v target i = ap (λ (a : BatchValue). a.rows) is in
+    rw (rows, vertex) (ids_below (sent_rows v target i) (i * v.part.plan.parts + v.part.number) (sent_below v target i s.part.plan.parts_from))
+
+abbrev set_count : List Bool → ℕ
+set_count marks = length (filter (λ mark. mark) marks)
+
+one_if : (m f : Bool) (x : ℕ × List ℕ) → length (if m && f then x ∷ [] else []) ≤ set_count (m ∷ [])
+one_if true true x = omega arith
+one_if true false x = omega arith
+one_if false f x = omega arith
+
+count_if : (b : Bool) (rest short : List Bool) → set_count short ≤ set_count rest → length (if b then (b ∷ filter (λ mark. mark) short) else filter (λ mark. mark) short) ≤ length (if b then (b ∷ filter (λ mark. mark) rest) else filter (λ mark. mark) rest)
+count_if true rest short le = omega arith
+count_if false rest short le = le
+
+count_take : (n : ℕ) (marks : List Bool) → set_count (take n marks) ≤ set_count marks
+count_take zero marks = omega arith
+count_take (suc n) [] = omega arith
+count_take (suc n) (m ∷ marks) = count_if m marks (take n marks) (count_take n marks)
+
+count_next : (marks : List Bool) (n : ℕ) → n < length marks → set_count (take (n + 1) marks) ≡ set_count (take n marks) + set_count (get_or marks n false ∷ [])
+count_next marks n lt =
+    ap set_count (take_more marks n false lt) ∙ ap (length {A = Bool}) (filter-append (λ mark. mark) (take n marks) (get_or marks n false ∷ [])) ∙ length-append (filter (λ mark. mark) (take n marks)) (filter (λ mark. mark) (get_or marks n false ∷ []))
+
+sent_short : (v : State) (target n : ℕ) → n ≤ length v.marks → length (sent_rows v target n) ≤ set_count (take n v.marks)
+unfolding sent_rows
+sent_short v target zero le = omega arith
+sent_short v target (suc n) le =
+    let e : n + 1 ≡ suc n = omega arith in
+    let before = sent_short v target n (omega arith) in
+    let one = one_if (get_or v.marks n false) (has_bit (get_or v.part.feeds n 0) target) (n * v.part.plan.parts + v.part.number, get_or v.rows n []) in
+    subst (λ (k : ℕ). length (sent_rows v target k) ≤ set_count (take k v.marks)) e
+    (omega (arith, ap (length {A = ℕ × List ℕ}) (sent_more v target n), length-append (sent_rows v target n) (sent_row v target n), before, one, count_next v.marks n (omega arith)))
+
+-- there is room for the row of a marked vertex
+pub sent_room : (v : State) (target i : ℕ) (b : BatchValue) → b ≡ sent_batch v target i → i < length v.marks → get_or v.marks i false ≡ true → length b.rows < b.changed
+unfolding sent_batch
+sent_room v target i b is lt mark =
+    let rows : length b.rows ≡ length (sent_rows v target i) = ap (λ (a : BatchValue). length a.rows) is in
+    let changed : b.changed ≡ count_by (λ m. m) v.marks = ap (λ (a : BatchValue). a.changed) is in
+    let one : set_count (get_or v.marks i false ∷ []) ≡ 1 = ap (λ m. set_count (m ∷ [])) mark in
+    omega (arith, rows, changed, one, sent_short v target i (omega arith), count_next v.marks i lt, count_take (i + 1) v.marks, length-filter (λ m. m) v.marks)
+
+-- a mark that was read
+pub mark_of : (items marks : List Bool) (i : ℕ) (b r : Bool) → items ≡ marks → i < length marks → b ≡ get_or items i b → b ≡ r → get_or marks i false ≡ r
+mark_of items marks i b r same lt at is = get_or_default marks i false b lt ∙ ap (λ (l : List Bool). get_or l i b) (sym same) ∙ sym at ∙ is
+
+-- a bit that was read
+pub bit_of : (a v : PartValue) (i feeds r target : ℕ) (found test : Bool) → a ≡ v → feeds ≡ get_or a.feeds i 0 → r ≡ target → found ≡ has_bit feeds r → found ≡ test → has_bit (get_or v.feeds i 0) target ≡ test
+bit_of a v i feeds r target found test same at name is told = sym (is ∙ rw (at, same, name) refl) ∙ told
+
+pub both_off : (m f : Bool) → m ≡ true → f ≡ false → (m && f) ≡ false
+both_off m f p q = rw (p, q) refl
+
+pub mark_off : (m f : Bool) → m ≡ false → (m && f) ≡ false
+mark_off m f p = rw p refl
+
+-- the batch without rows
+pub sent_first : (v : State) (target : ℕ) (plan : PlanValue) (superstep source changed : ℕ) → plan ≡ v.part.plan → superstep ≡ v.superstep → source ≡ v.part.number → changed ≡ count_by (λ mark. mark) v.marks →
+    record { plan = plan; name = record { superstep = superstep; source = source; target = target }; changed = changed; rows = [] } ≡ sent_batch v target 0
+unfolding sent_batch sent_rows
+sent_first v target plan superstep source changed p t q n = rw (p, t, q, n) refl
+
+-- its target
+pub sent_target : (v : State) (target n : ℕ) (b : BatchValue) → b ≡ sent_batch v target n → b.name.target ≡ target
+unfolding sent_batch
+sent_target v target n b is = ap (λ (a : BatchValue). a.name.target) is
