@@ -2,7 +2,7 @@
 use Rattle.std.proofs.Common.{◌≡◌, ℕ, zero, suc, ◌+◌, ◌<◌, ◌≤◌, Bool, true, false, not, cond, refl, arith, inl, inr, ◌⊎◌, subst}
 use Rattle.std.specs.Prelude.{Option, None, Some, unwrap_or}
 use Rattle.std.specs.List.{range_with_len, find}
-use Rattle.std.proofs.lemmas.Bool.{cases_lt}
+use Rattle.std.proofs.lemmas.Bool.{cases_lt, not-false, not-true}
 use Rattle.ball_model.specs.Graph.{Graph}
 use Rattle.ball_model.specs.Counter.{Mixing}
 use Rattle.ball_model.specs.Change.{any_changed}
@@ -62,26 +62,18 @@ reached_case : (o : Option ℕ) (p : ℕ → Bool) (limit : ℕ) → find p (ran
 reached_case None p limit is = inr refl
 reached_case (Some e) p limit is = inl (find_found p 1 limit e is).passes
 
-was_not : (b : Bool) → not b ≡ false → b ≡ true
-was_not true e = refl
-was_not false e = absurd (cc)
-
-was_so : (b : Bool) → not b ≡ true → b ≡ false
-was_so true e = absurd (cc)
-was_so false e = refl
-
 pub end_within : (m : Mixing) (g : Graph) (limit : ℕ) → 1 ≤ limit → (1 ≤ end_of m g limit) × (end_of m g limit ≤ limit)
 unfolding end_of
 end_within m g limit some = within_case _ (λ t. not (any_changed m g t)) limit refl some
 
 pub end_least : (m : Mixing) (g : Graph) (limit t : ℕ) → 1 ≤ t → t < end_of m g limit → any_changed m g t ≡ true
 unfolding end_of
-end_least m g limit t low lt = was_not (any_changed m g t) (least_case _ (λ t. not (any_changed m g t)) limit t refl low lt)
+end_least m g limit t low lt = not-false (any_changed m g t) (least_case _ (λ t. not (any_changed m g t)) limit t refl low lt)
 
 pub end_reached : (m : Mixing) (g : Graph) (limit : ℕ) → (any_changed m g (end_of m g limit) ≡ false) ⊎ (end_of m g limit ≡ limit)
 unfolding end_of
 end_reached m g limit =
     elim (reached_case _ (λ t. not (any_changed m g t)) limit refl) [
-      | inl still ↦ inl (was_so _ still)
+      | inl still ↦ inl (not-true _ still)
       | inr at ↦ inr at
     ]

@@ -1,13 +1,14 @@
 -- Joining contents is commutative, associative and idempotent, and so is joining holdings.
 use Rattle.std.proofs.Common.{◌≡◌, ◌↔◌, ◌⊎◌, ℕ, zero, suc, ◌+◌, ◌<◌, ◌≤◌, max, Bool, true, not, ◌==◌, ◌&&◌, ◌||◌, nat_le, nat_lt, IsTrue, List, ◌∷◌, map, refl, ap, sym, ◌∙◌, subst, inl, inr, arith}
+use Rattle.std.specs.Cmp.{both_ways}
 use Rattle.std.specs.List.{filter, flat_map, list_any, range_with_len}
-use Rattle.std.proofs.lemmas.Bool.{leb-true, le-leb, ltb-true, lt-ltb, and_parts, cases_Bool, cases_eq, eq-eqb}
+use Rattle.std.proofs.lemmas.Bool.{leb-true, le-leb, ltb-true, lt-ltb, and_parts, cases_Bool, cases_eq, eq-eqb, or_cases, or_left, or_right}
 use Rattle.std.proofs.lemmas.List.Folds.{list_any-append}
 use Rattle.ball_model.specs.declared.names.BatchName.{BatchName}
 use Rattle.ball_model.specs.PlanValue.{PlanValue}
 use Rattle.ball_model.specs.Content.{Content, IsContent, in_window, names_of}
 use Rattle.ball_model.specs.Join.{Holding, IsHolding, AreAlike, has_name, content_in, holding_of, joined, join_of}
-use Rattle.ball_model.proofs.PathLemmas.{or_cases, or_left, or_right, same_bool, eq_true, same_true}
+use Rattle.ball_model.proofs.PathLemmas.{eq_true, same_true}
 
 -- ---- contents
 -- a content is its superstep and what it holds
@@ -73,7 +74,7 @@ joined_content plan p c d cs ds =
 joined_commutes : (c d : Content) → joined c d ≡ joined d c
 joined_commutes c d =
     let at : max c.superstep d.superstep ≡ max d.superstep c.superstep = omega arith in
-    content_same (joined c d) (joined d c) at (λ s q. same_bool _ _
+    content_same (joined c d) (joined d c) at (λ s q. both_ways _ _
     (λ e. let out = joined_out c d s q e in elim out.1 [
       | inl left ↦ joined_right d c s q (omega (arith, out.0)) left
       | inr right ↦ joined_left d c s q (omega (arith, out.0)) right
@@ -87,7 +88,7 @@ joined_commutes c d =
 joined_associates : (c d e : Content) → joined (joined c d) e ≡ joined c (joined d e)
 joined_associates c d e =
     let at : max (max c.superstep d.superstep) e.superstep ≡ max c.superstep (max d.superstep e.superstep) = omega arith in
-    content_same (joined (joined c d) e) (joined c (joined d e)) at (λ s q. same_bool _ _
+    content_same (joined (joined c d) e) (joined c (joined d e)) at (λ s q. both_ways _ _
     (λ held. let out = joined_out (joined c d) e s q held in elim out.1 [
       | inl left ↦ let more = joined_out c d s q left in elim more.1 [
         | inl first ↦ joined_left c (joined d e) s q (omega (arith, out.0)) first
@@ -107,7 +108,7 @@ joined_associates c d e =
 joined_repeats : (plan : PlanValue) (p : ℕ) (c : Content) → IsContent plan p c → joined c c ≡ c
 joined_repeats plan p c cs =
     let at : max c.superstep c.superstep ≡ c.superstep = omega arith in
-    content_same (joined c c) c at (λ s q. same_bool _ _
+    content_same (joined c c) c at (λ s q. both_ways _ _
     (λ e. elim (joined_out c c s q e).1 [ inl held ↦ held | inr held ↦ held ])
     (λ held. let w = window_parts plan p c.superstep s q (cs.names s q held) in joined_left c c s q (omega arith) held))
 
@@ -205,7 +206,7 @@ names_in p holds parts t (suc n) s q from to part held =
 -- exactly the batches that are held are named
 pub has_name-names_of : (plan : PlanValue) (p : ℕ) (c : Content) → IsContent plan p c → (s q : ℕ) → has_name (names_of plan p c) s q ≡ c.holds s q
 unfolding has_name names_of
-has_name-names_of plan p c cs s q = same_bool _ _
+has_name-names_of plan p c cs s q = both_ways _ _
     (λ named. (names_out p c.holds plan.parts c.superstep 4 s q named).held)
     (λ held. let w = window_parts plan p c.superstep s q (cs.names s q held) in
     names_in p c.holds plan.parts c.superstep 4 s q w.from (omega (arith, w.to)) w.part held)

@@ -5,9 +5,13 @@ pub mod CounterLemmas
 pub mod ChangeLemmas
 pub mod QuietLemmas
 pub mod RankLemmas
+pub mod StartLemmas
 pub mod EndLemmas
 pub mod EstimateLemmas
 pub mod TallyLemmas
 pub mod PartLemmas
-pub mod StreamLemmas
+pub mod MaskLemmas
 pub mod JoinLemmas
+pub mod HistoryLemmas
+pub mod AccumulatedLemmas
+pub mod AccumulatedPartLemmas

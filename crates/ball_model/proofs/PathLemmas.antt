@@ -5,8 +5,10 @@ use Rattle.std.proofs.lemmas.Bool.{cases_lt}
 use Rattle.std.proofs.lemmas.Bool.Decides.{nat_tests}
 use Rattle.std.proofs.Common.{length-append}
 use Rattle.ball_model.specs.Graph.{Graph, IsGraph, is_edge, is_path, some_list, in_ball, preds_of}
+-- tests, by std's lemmas under the names that proofs above use
+pub use Rattle.std.proofs.lemmas.Bool.{and_from as and_both, or_cases, or_left, or_right}
+pub use Rattle.std.specs.Cmp.{both_ways as same_bool}
 
--- tests
 pub and_left : (a b : Bool) → (a && b) ≡ true → a ≡ true
 and_left true b e = refl
 and_left false b e = e
@@ -14,25 +16,6 @@ and_left false b e = e
 pub and_right : (a b : Bool) → (a && b) ≡ true → b ≡ true
 and_right true b e = e
 and_right false b e = absurd (cc)
-
-pub and_both : (a b : Bool) → a ≡ true → b ≡ true → (a && b) ≡ true
-and_both a b p q = rw (p, q) refl
-
-pub or_cases : (a b : Bool) → (a || b) ≡ true → (a ≡ true) ⊎ (b ≡ true)
-or_cases true b e = inl refl
-or_cases false b e = inr e
-
-pub or_left : (a b : Bool) → a ≡ true → (a || b) ≡ true
-or_left a b p = rw p refl
-
-pub or_right : (a b : Bool) → b ≡ true → (a || b) ≡ true
-or_right true b p = refl
-or_right false b p = p
-
-pub same_bool : (a b : Bool) → (a ≡ true → b ≡ true) → (b ≡ true → a ≡ true) → a ≡ b
-same_bool true b f g = sym (f refl)
-same_bool false true f g = g refl
-same_bool false false f g = refl
 
 pub eq_true : (a b : ℕ) → (a == b) ≡ true → a ≡ b
 eq_true a b e = grind (arith, nat_tests)
@@ -124,6 +107,13 @@ path_below g y x (v ∷ []) ok lt e = (omega (arith, (path_one g y x v e).1), tt
 path_below g y x (v ∷ w ∷ rest) ok lt e =
     let parts = path_parts g y x v w rest e in
     ((edge_below g v w ok parts.1).0, path_below g w x (w ∷ rest) ok lt parts.2)
+
+-- and so is the vertex that it leads from
+pub path_from_below : (g : Graph) (y x : ℕ) (p : List ℕ) → IsGraph g → x < g.vertices → is_path g y x p ≡ true → y < g.vertices
+path_from_below g y x [] ok lt e = absurd (no_path g y x e)
+path_from_below g y x (v ∷ []) ok lt e = omega (arith, (path_one g y x v e).0, (path_one g y x v e).1)
+path_from_below g y x (v ∷ w ∷ rest) ok lt e =
+    let parts = path_parts g y x v w rest e in omega (arith, parts.0, (edge_below g v w ok parts.1).0)
 
 -- a path grows by an edge at its end
 pub path-snoc : (g : Graph) (y z x : ℕ) (p : List ℕ) → is_path g y z p ≡ true → is_edge g z x ≡ true → is_path g y x (p ++ x ∷ []) ≡ true

@@ -3,7 +3,7 @@ use Rattle.std.specs.Prelude.{ℕ, ◌^◌, Bool, ◌&&◌, ◌==◌, List, map,
 use Rattle.std.specs.List.{range_with_len, zip}
 use Rattle.ball_model.specs.Greatest.{greatest}
 use Rattle.ball_model.specs.Hash.{hash_of, index_of, rank_of}
-use Rattle.ball_model.specs.Graph.{Graph, in_ball}
+use Rattle.ball_model.specs.Graph.{Graph, in_ball, is_counted}
 
 -- what a counter depends on besides its set: it has 2^log2m registers, and hashes under the seed
 pub record Mixing : Type 0 where
@@ -19,9 +19,9 @@ register_of mixing n member j =
 unfoldable pub counter_of : Mixing → ℕ → (ℕ → Bool) → List ℕ
 counter_of mixing n member = map (λ j. register_of mixing n member j) (range_with_len 0 (2 ^ mixing.log2m))
 
--- the counter of the ball of x at t
+-- the counter of x at t: that of the counted vertices of its ball
 unfoldable pub ball_counter : Mixing → Graph → ℕ → ℕ → List ℕ
-ball_counter mixing g x t = counter_of mixing g.vertices (λ y. in_ball g x t y)
+ball_counter mixing g x t = counter_of mixing g.vertices (λ y. in_ball g x t y && is_counted g y)
 
 -- the maximum in each place
 abbrev pub max_each : List ℕ → List ℕ → List ℕ

@@ -1,5 +1,5 @@
 -- The estimate of a counter (HyperLogLog 2007) and the figures made of estimates (HyperBall 2013), in millionths.
-use Rattle.std.specs.Prelude.{ℕ, ◌+◌, ◌-◌, ◌*◌, ◌/◌, ◌%◌, ◌^◌, List, [], ◌∷◌, ◌++◌, map, if◌then◌else◌, ◌==◌, nat_le}
+use Rattle.std.specs.Prelude.{ℕ, ◌+◌, ◌-◌, ◌*◌, ◌/◌, ◌%◌, ◌^◌, List, [], ◌∷◌, ◌++◌, map, if◌then◌else◌, ◌==◌, nat_le, length, slice_index}
 use Rattle.std.specs.List.{sum_by, range_with_len}
 use Rattle.std.specs.Fmt.{decimal}
 
@@ -39,6 +39,10 @@ closeness_of distance = if distance == 0 then 0 else 10 ^ 12 / distance
 -- Lin's index: the square of the estimate by the sum of distances, and 1 where that is 0
 unfoldable pub lin_of : ℕ → ℕ → ℕ
 lin_of estimate distance = if distance == 0 then 1000000 else estimate * estimate / distance
+
+-- the gain of totals, one a superstep: how much each superstep adds, halved as often as its number says and rounded down
+unfoldable pub gain_of : List ℕ → ℕ
+gain_of totals = sum_by (λ i. (slice_index totals i - slice_index totals (i - 1)) / 2 ^ i) (range_with_len 1 (length totals - 1))
 
 -- a vertex's last estimate, harmonic centrality and sum of distances
 pub record TallyValue : Type 0 where

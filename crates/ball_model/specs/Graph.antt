@@ -1,11 +1,12 @@
 -- Directed graphs, their paths, and the balls of HyperBall (2013), over incoming paths.
-use Rattle.std.specs.Prelude.{◌≡◌, ℕ, zero, suc, ◌+◌, ◌-◌, ◌<◌, Bool, false, not, ◌&&◌, ◌||◌, ◌==◌, List, [], ◌∷◌, map}
+use Rattle.std.specs.Prelude.{◌≡◌, ℕ, zero, suc, ◌+◌, ◌-◌, ◌<◌, Bool, false, not, ◌&&◌, ◌||◌, ◌==◌, List, [], ◌∷◌, map, length}
 use Rattle.std.specs.List.{list_any, range_with_len, filter, flat_map, AllByRecursion}
 
--- a number of vertices, and the edges (y, x), each from y to x
+-- a number of vertices, the edges (y, x), each from y to x, and the vertices that are counted
 pub record Graph : Type 0 where
   pub vertices : ℕ
   pub edges : List (ℕ × ℕ)
+  pub counted : List ℕ
 
 -- there is an edge from y to x
 abbrev pub is_edge : Graph → ℕ → ℕ → Bool
@@ -19,10 +20,24 @@ preds_of g x = filter (λ y. is_edge g y x) (range_with_len 0 g.vertices)
 unfoldable pub listed_edges : Graph → List (ℕ × ℕ)
 listed_edges g = flat_map (λ x. map (λ y. (y, x)) (preds_of g x)) (range_with_len 0 g.vertices)
 
--- the ends of each edge are vertices, and the edges stand once each, ascending by target and then by source
+-- v is a counted vertex: balls count it
+abbrev pub is_counted : Graph → ℕ → Bool
+is_counted g v = list_any (λ k. k == v) g.counted
+
+-- the counted vertices, each once, ascending
+unfoldable pub listed_counted : Graph → List ℕ
+listed_counted g = filter (λ v. is_counted g v) (range_with_len 0 g.vertices)
+
+-- every vertex is counted
+abbrev pub counts_all : Graph → Bool
+counts_all g = length g.counted == g.vertices
+
+-- the ends of each edge are vertices, the edges stand once each, ascending by target and then by source, and so do the
+-- counted vertices, ascending
 pub record IsGraph (g : Graph) : Type 0 where
   pub ends : AllByRecursion (λ e. (e.0 < g.vertices) × (e.1 < g.vertices)) g.edges
   pub listed : g.edges ≡ listed_edges g
+  pub counted : g.counted ≡ listed_counted g
 
 -- the list is a path from y to x: its first vertex is y, its last is x, and each neighbouring pair is an edge
 unfoldable pub is_path : Graph → ℕ → ℕ → List ℕ → Bool

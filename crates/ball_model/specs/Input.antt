@@ -80,7 +80,8 @@ pub record Network : Type 0 where
   pub graph : Graph
   pub labels : List (List ℕ)
 
--- the network of some records: an edge from y to x where some record leads from the label of y to that of x, ascending by target and then by source
+-- the network of some records: an edge from y to x where some record leads from the label of y to that of x, ascending
+-- by target and then by source, and every vertex is counted
 unfoldable pub network_of : List (List (List ℕ)) → Network
 network_of records =
     let labels = labels_of records in
@@ -89,6 +90,7 @@ network_of records =
       graph = record {
         vertices = n;
         edges = flat_map (λ x. map (λ y. (y, x)) (filter (λ y. list_any (leads (slice_index_or labels y []) (slice_index_or labels x [])) records) (range_with_len 0 n))) (range_with_len 0 n);
+        counted = range_with_len 0 n;
       };
       labels = labels;
     }

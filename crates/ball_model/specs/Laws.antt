@@ -1,8 +1,9 @@
 -- What the definitions mean, in the subject's own words. Each is the contract of a function of src/laws.rt.
-use Rattle.std.specs.Prelude.{◌≡◌, ℕ, ◌+◌, ◌*◌, ◌^◌, ◌<◌, ◌≤◌, ◌↔◌, ◌⊎◌, Bool, true, false, ◌||◌, IsTrue, List, map, length, slice_index, replicate}
+use Rattle.std.specs.Prelude.{◌≡◌, ℕ, ◌+◌, ◌*◌, ◌^◌, ◌<◌, ◌≤◌, ◌↔◌, ◌⊎◌, Bool, true, false, ◌||◌, not, IsTrue, List, map, length, slice_index, slice_index_or, replicate}
 use Rattle.std.specs.List.{All, filter, fold, range_with_len}
+use Rattle.std.specs.Str.{bytes_eq}
 use Rattle.ball_model.specs.Hash.{hash_of, index_of, rank_of}
-use Rattle.ball_model.specs.Graph.{Graph, IsGraph, is_edge, is_path, in_ball, preds_of}
+use Rattle.ball_model.specs.Graph.{Graph, IsGraph, is_edge, is_path, in_ball, preds_of, is_counted}
 use Rattle.ball_model.specs.Counter.{Mixing, register_of, counter_of, ball_counter, max_each}
 use Rattle.ball_model.specs.Change.{changed_at, any_changed}
 use Rattle.ball_model.specs.Figures.{estimate_of}
@@ -50,6 +51,26 @@ RegistersAreRanks = (m : Mixing) (n : ℕ) (member : ℕ → Bool) → All (λ r
 abbrev pub CounterGrows : Type 0
 CounterGrows = (m : Mixing) (g : Graph) (x t : ℕ) → IsGraph g → x < g.vertices →
     ball_counter m g x (t + 1) ≡ fold (λ acc z. max_each acc (ball_counter m g z t)) (ball_counter m g x t) (preds_of g x)
+
+-- a register of the counter of x at t is at least the rank of each counted vertex with a path of at most t edges to x
+-- that falls into it
+abbrev pub CounterIsBound : Type 0
+CounterIsBound = (m : Mixing) (g : Graph) (x t j y : ℕ) (path : List ℕ) → IsGraph g → x < g.vertices → j < 2 ^ m.log2m → IsTrue (is_counted g y) →
+    IsTrue (is_path g y x path) → length path ≤ t + 1 → index_of m.log2m (hash_of m.seed y) ≡ j → rank_of m.log2m (hash_of m.seed y) ≤ slice_index_or (ball_counter m g x t) j 0
+
+-- and at most whatever the ranks of all of these are at most
+abbrev pub CounterIsLeastBound : Type 0
+CounterIsLeastBound = (m : Mixing) (g : Graph) (x t j bound : ℕ) → j < 2 ^ m.log2m →
+    ((y : ℕ) (path : List ℕ) → IsTrue (is_counted g y) → IsTrue (is_path g y x path) → length path ≤ t + 1 → index_of m.log2m (hash_of m.seed y) ≡ j → rank_of m.log2m (hash_of m.seed y) ≤ bound) →
+    slice_index_or (ball_counter m g x t) j 0 ≤ bound
+
+-- at superstep 0 a vertex is changed exactly where it is counted
+abbrev pub StartIsCounted : Type 0
+StartIsCounted = (m : Mixing) (g : Graph) (x : ℕ) → m.log2m ≤ 10 → IsGraph g → x < g.vertices → changed_at m g x 0 ≡ is_counted g x
+
+-- and exactly where its counter is not empty
+abbrev pub StartIsNotEmpty : Type 0
+StartIsNotEmpty = (m : Mixing) (g : Graph) (x : ℕ) → changed_at m g x 0 ≡ not (bytes_eq (ball_counter m g x 0) (replicate (2 ^ m.log2m) 0))
 
 -- once no vertex is changed, none is changed later
 abbrev pub QuietStays : Type 0

@@ -1,18 +1,21 @@
 -- A replica as plain data, and what it stands for.
-use Rattle.std.specs.Prelude.{◌≡◌, ℕ, ◌+◌, ◌-◌, ◌*◌, ◌<◌, ◌≤◌, Bool, true, ◌==◌, ◌&&◌, List, [], map, Option, None, Some, is_some, IfSome, slice_index_or, nat_lt, if◌then◌else◌}
-use Rattle.std.specs.List.{range_with_len}
+use Rattle.std.specs.Prelude.{◌≡◌, ℕ, ◌+◌, ◌-◌, ◌%◌, ◌<◌, ◌≤◌, Bool, false, not, ◌==◌, ◌&&◌, List, [], map, Option, None, Some, is_some, IfSome, slice_index_or, nat_lt, if◌then◌else◌}
+use Rattle.std.specs.List.{list_any, range_with_len}
 use Rattle.ball_model.specs.declared.names.BatchName.{BatchName}
 use Rattle.ball_model.specs.Counter.{ball_counter}
 use Rattle.ball_model.specs.Change.{changed_at}
 use Rattle.ball_model.specs.Figures.{TallyValue}
 use Rattle.ball_model.specs.Supersteps.{tally_at, total_over, end_of}
-use Rattle.ball_model.specs.PlanValue.{PlanValue, mixing_of, vertices_of}
+use Rattle.ball_model.specs.PlanValue.{mixing_of, vertices_of}
 use Rattle.ball_model.specs.Job.{Job, IsJob, PartValue, part_of}
-use Rattle.ball_model.specs.Batches.{BatchValue, true_batch}
-use Rattle.ball_model.specs.Content.{Content, in_window}
+use Rattle.ball_model.specs.Batches.{BatchValue, true_batch, changed_count}
+use Rattle.ball_model.specs.Accumulated.{accumulated_of}
+use Rattle.ball_model.specs.Content.{Content}
 
 -- a replica: its part, its superstep, for each of its vertices the registers, whether they changed and the figures,
--- the sums of its estimates at each superstep so far, and the batches that it keeps
+-- the sums of its estimates at each superstep so far; of its superstep which sources it has heard, whether one of them
+-- tells of a changed vertex, and for each of its vertices the registers accumulated so far; and for each of the
+-- supersteps that follow, by source, the batch that it keeps
 pub record State : Type 0 where
   pub part : PartValue
   pub superstep : ℕ
@@ -20,19 +23,22 @@ pub record State : Type 0 where
   pub marks : List Bool
   pub tallies : List TallyValue
   pub sums : List ℕ
-  pub kept : List (Option BatchValue)
+  pub heard : List Bool
+  pub heard_change : Bool
+  pub accumulated : List (List ℕ)
+  pub early : List (List (Option BatchValue))
 
--- where a batch of superstep s and source q is kept at superstep t
-abbrev pub place_of : ℕ → ℕ → ℕ → ℕ → ℕ
-place_of parts t s q = (s - t) * parts + q
+-- the batch of source q that is kept of the superstep after next by i
+abbrev pub early_at : List (List (Option BatchValue)) → ℕ → ℕ → Option BatchValue
+early_at early i q = slice_index_or (slice_index_or early i []) q None
 
--- the batch of superstep s and source q is held
-abbrev pub holds_in : PlanValue → ℕ → ℕ → List (Option BatchValue) → ℕ → ℕ → Bool
-holds_in plan p t kept s q = in_window plan p t s q && is_some (slice_index_or kept (place_of plan.parts t s q) None)
+-- the batch of superstep s and source q is held at superstep t: it is heard, or it is kept
+abbrev pub holds_in : ℕ → List Bool → List (List (Option BatchValue)) → ℕ → ℕ → Bool
+holds_in t heard early s q = if s == t then slice_index_or heard q false else (nat_lt t s && is_some (early_at early (s - (t + 1)) q))
 
 -- the content of a replica
 abbrev pub content_of : State → Content
-content_of v = record { superstep = v.superstep; holds = λ s q. holds_in v.part.plan v.part.number v.superstep v.kept s q }
+content_of v = record { superstep = v.superstep; holds = λ s q. holds_in v.superstep v.heard v.early s q }
 
 -- the vertices of partition p of a job
 abbrev pub own_vertices : Job → ℕ → List ℕ
@@ -54,10 +60,17 @@ tallies_of j p t = map (λ x. tally_at (mixing_of j.plan) j.graph x t) (own_vert
 unfoldable pub sums_of : Job → ℕ → ℕ → List ℕ
 sums_of j p t = map (λ i. total_over (mixing_of j.plan) j.graph (own_vertices j p) i) (range_with_len 0 (t + 1))
 
+-- vertex z is of a partition that is heard
+abbrev pub is_heard : ℕ → List Bool → ℕ → Bool
+is_heard parts heard z = slice_index_or heard (z % parts) false
+
+-- some partition that is heard has a vertex that is changed at t
+unfoldable pub heard_changes : Job → ℕ → List Bool → Bool
+heard_changes j t heard = list_any (λ q. slice_index_or heard q false && not (changed_count j t q == 0)) (range_with_len 0 j.plan.parts)
+
 -- each batch that is kept is the true batch of its superstep and its source
-pub record KeepsTrue (j : Job) (p t : ℕ) (kept : List (Option BatchValue)) : Type 0 where
-  pub true_of : (s q : ℕ) → t ≤ s → s < t + 4 → q < j.plan.parts →
-      IfSome (slice_index_or kept (place_of j.plan.parts t s q) None) (λ b. b ≡ true_batch j (record { superstep = s; source = q; target = p }))
+pub record KeepsTrue (j : Job) (p t : ℕ) (early : List (List (Option BatchValue))) : Type 0 where
+  pub true_of : (i q : ℕ) → IfSome (early_at early i q) (λ b. b ≡ true_batch j (record { superstep = t + 1 + i; source = q; target = p }))
 
 -- the replica stands for partition p of the job at superstep t: all that it has is what the definitions say of t
 pub record StandsFor (j : Job) (p t : ℕ) (v : State) : Type 0 where
@@ -70,9 +83,11 @@ pub record StandsFor (j : Job) (p t : ℕ) (v : State) : Type 0 where
   pub marks : v.marks ≡ marks_of j p t
   pub tallies : v.tallies ≡ tallies_of j p t
   pub sums : v.sums ≡ sums_of j p t
-  pub kept : KeepsTrue j p t v.kept
+  pub heard_change : v.heard_change ≡ heard_changes j t v.heard
+  pub accumulated : v.accumulated ≡ accumulated_of j p t (λ z. is_heard j.plan.parts v.heard z)
+  pub early : KeepsTrue j p t v.early
 
--- all but the batches that are kept is the same
+-- all is the same but what is heard, accumulated and kept
 pub record SameShown (a b : State) : Type 0 where
   pub part : a.part ≡ b.part
   pub superstep : a.superstep ≡ b.superstep

@@ -1,6 +1,7 @@
 //! Laws of the definitions: the contract of each function is the law, and its body is empty.
 
-ghost use Rattle.ball_model.specs.Laws.{BallIsPaths, RegisterIsBound, RegisterIsLeastBound, UnionIsMaximum, EmptyIsZero, CounterIsWide, RegistersAreRanks, CounterGrows, QuietStays, ChangedSuffice, ChangeComesFromChange, EndIsWithin, EndIsLeast, EndIsReached, EstimateGrows, EstimateFits, TalliesFit, PartIsStrided, JoinCommutes, JoinAssociates, JoinRepeats, JoinIsUnion};
+ghost use Rattle.ball_model.specs.Laws.{BallIsPaths, RegisterIsBound, RegisterIsLeastBound, UnionIsMaximum, EmptyIsZero, CounterIsWide, RegistersAreRanks, CounterGrows, CounterIsBound, CounterIsLeastBound, StartIsCounted, StartIsNotEmpty, QuietStays, ChangedSuffice, ChangeComesFromChange, EndIsWithin, EndIsLeast, EndIsReached, EstimateGrows, EstimateFits, TalliesFit, PartIsStrided, JoinCommutes, JoinAssociates, JoinRepeats, JoinIsUnion};
+ghost use Rattle.ball_model.specs.AccumulatedLaws.{AccumulatorStarts, AccumulatorEnds, AccumulatorsJoin, AccumulatorSteps};
 
 /// The ball of x at t has the vertices with a path of at most t edges to x.
 pub fn ball_is_paths()
@@ -30,6 +31,18 @@ pub fn counter_grows()
     ensures { CounterGrows }
 {}
 
+/// The counter of x at t is that of exactly the counted vertices with a path of at most t edges to x.
+pub fn counter_counts_paths()
+    ensures bound { CounterIsBound }
+    ensures least { CounterIsLeastBound }
+{}
+
+/// At superstep 0 a vertex is changed exactly where it is counted, which is where its counter is not empty.
+pub fn start_is_counted()
+    ensures counted { StartIsCounted }
+    ensures filled { StartIsNotEmpty }
+{}
+
 /// Once no vertex is changed, none is changed later.
 pub fn quiet_stays()
     ensures { QuietStays }
@@ -39,6 +52,15 @@ pub fn quiet_stays()
 pub fn changed_suffice()
     ensures step { ChangedSuffice }
     ensures source { ChangeComesFromChange }
+{}
+
+/// An accumulator for which nothing is heard is the counter, and one for which all is heard is the next counter; the
+/// maximum of two is that of what either heard, and the row of a changed predecessor adds it to what is heard.
+pub fn accumulators_gather()
+    ensures starts { AccumulatorStarts }
+    ensures ends { AccumulatorEnds }
+    ensures joins { AccumulatorsJoin }
+    ensures steps { AccumulatorSteps }
 {}
 
 /// The end is the least superstep of at least 1 with no vertex changed, or the limit if that is less.

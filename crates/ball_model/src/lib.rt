@@ -3,17 +3,22 @@
 //! A vertex is hashed by [`mix`], and [`place`] reads a register and a rank off the hash. A [`Plan`] says how
 //! many registers a counter has, under which seed vertices are hashed, among how many partitions they are dealt
 //! out, and after how many supersteps a run stops at the latest. The functions of [`laws`] do nothing: the
-//! contract of each is a law of the definitions.
+//! contract of each is a law of the definitions. [`CountedRead`] and [`CountedWrite`] are streams whose failed calls
+//! a contract sees; [`MemReader`] and [`MemWriter`] are such streams over memory, which fail where one wants them to.
 #![tactic(auto)]
 
 ghost use Rattle.std.specs.Prelude.{◌≡◌, ◌≤◌, ◌<◌, ◌^◌};
 ghost use Rattle.ball_model.specs.Hash.{hash_of, index_of, rank_of};
 
+pub mod history;
 pub mod laws;
+pub mod memory;
 pub mod names;
 pub mod plan;
 pub mod streams;
 
+pub use history::{Kept, Posted};
+pub use memory::{MemReader, MemWriter};
 pub use names::{BatchName, CloseError, MergeError, NodeId, TakeError, Taken, Verdict};
 pub use plan::{Plan, PlanError};
 pub use streams::{CountedRead, CountedWrite, CountingReader, CountingWriter, put_all};

@@ -1,5 +1,8 @@
 //! Names of batches and of nodes, and the answers of a replica.
 
+ghost use Rattle.std.specs.Prelude.{◌≡◌};
+ghost use Rattle.ball_model.specs.Names.{stands_before};
+
 use thiserror::Error;
 
 /// The name of a batch: what partition `source` tells partition `target` of a superstep.
@@ -10,6 +13,15 @@ pub struct BatchName {
     pub superstep: u32,
     pub source: u16,
     pub target: u16,
+}
+
+impl BatchName {
+    /// Whether the name stands before the other: by superstep, then by source, then by target.
+    pub fn is_before(&self, other: &BatchName) -> bool
+        ensures { result ≡ stands_before self.now other.now }
+    {
+        self < other
+    }
 }
 
 /// A replica of a partition.

@@ -3,21 +3,32 @@
 //! No contract can say what a file, a pipe or a terminal gives or takes. But a program can say that it answers
 //! 'cannot be read' only where a call of its reader really failed: by a reader that counts its failed calls.
 
-ghost use Rattle.std.specs.Prelude.{◌≡◌, ℕ, ◌+◌, ◌-◌, ◌^◌, min, OnOk, OnErr, take, ◌<◌, ◌≤◌, IfOk, IfSome, IfNone, length, true, false};
+ghost use Rattle.std.specs.Prelude.{◌≡◌, ℕ, ◌+◌, ◌-◌, ◌^◌, min, OnOk, OnErr, ◌<◌, ◌≤◌, IfOk, IfSome, IfNone, length, true, false};
+ghost use Rattle.std.specs.Borrow.{ftrue};
 ghost use Rattle.std.specs.Io.KnownBytes.{ReadConsumes, WriteAppends, Keeps, Appends};
 ghost use Rattle.std.specs.Io.{ReadsAtMost, WritesAtMost};
-ghost use Rattle.ball_model.specs.Streams.{Rises};
+ghost use Rattle.ball_model.specs.Streams.{Gets, Puts};
 
 use std::io;
 use std::io::{Read, Write};
+use std::marker::Model;
 
 /// A reader whose failed calls a contract sees.
 pub trait CountedRead: Read {
     ghost failed_calls: { Self → ℕ };
 
-    /// How many calls failed.
+    /// How many calls failed, or `u64::MAX` where they are more.
     fn failures(&self) -> u64
-        ensures { result ≡ failed_calls self.now };
+        ensures { result ≡ min (failed_calls self.now) (2 ^ 64 - 1) };
+
+    /// Reads some bytes into the front of `buf`, and tells their number; None where the call failed.
+    ///
+    /// The number is 0 only at the end of the input, or where `buf` is empty.
+    fn get(&mut self, buf: &mut [u8]) -> Option<usize>
+        ensures within { IfSome result (λ n. n ≤ length buf.new) }
+        ensures bytes { Gets (Self.remaining self.old) (Self.remaining self.new) result buf.new }
+        ensures counted { IfSome result (λ _. failed_calls self.new ≡ failed_calls self.old) }
+        ensures failed { IfNone result (failed_calls self.old < failed_calls self.new) };
 }
 
 /// A writer whose failed calls a contract sees.
@@ -26,25 +37,96 @@ pub trait CountedRead: Read {
 pub trait CountedWrite: Write {
     ghost failed_calls: { Self → ℕ };
 
-    /// How many calls failed.
+    /// How many calls failed, or `u64::MAX` where they are more.
     fn failures(&self) -> u64
-        ensures { result ≡ failed_calls self.now };
+        ensures { result ≡ min (failed_calls self.now) (2 ^ 64 - 1) };
 
     /// Writes a first piece of `bytes`, and tells its length, which is not 0; None where the call failed.
     fn put(&mut self, bytes: &[u8]) -> Option<usize>
         requires { 0 < length bytes.now }
         ensures some { IfSome result (λ n. 0 < n) }
         ensures within { IfSome result (λ n. n ≤ length bytes.now) }
-        ensures appends { IfSome result (λ n. Appends (Self.contents self.old) (Self.contents self.new) (take n bytes.now)) }
+        ensures bytes { Puts (Self.contents self.old) (Self.contents self.new) result bytes.now }
         ensures counted { IfSome result (λ _. failed_calls self.new ≡ failed_calls self.old) }
-        ensures failed { IfNone result (Rises (failed_calls self.old) (failed_calls self.new)) };
+        ensures failed { IfNone result (failed_calls self.old < failed_calls self.new) };
 }
 
-/// A reader that counts the failed calls of the one inside. The count stops at `u64::MAX`.
+// A number that only clauses read. It takes no bytes.
+#[derive(Drop)]
+struct Number {
+    ghost value: { ℕ },
+}
+
+impl Model for Number {
+    ghost also_owns = { λ _. ftrue };
+}
+
+// A number owns nothing.
+unsafe impl Send for Number {}
+
+unsafe impl Sync for Number {}
+
+impl Number {
+    fn zero() -> Number
+        ensures { result.value ≡ 0 }
+    {
+        Number {}
+    }
+
+    fn after(_number: &Number) -> Number
+        ensures { result.value ≡ _number.now.value + 1 }
+    {
+        Number {}
+    }
+}
+
+// How many calls failed. A clause sees the exact number; the one that is told stops at the greatest u64.
+#[derive(Drop)]
+pub(crate) struct FailedCalls {
+    told: u64,
+    exact: Number,
+}
+
+impl Model for FailedCalls {
+    ghost Value = { ℕ };
+
+    ghost view = { λ f. f.exact.value };
+
+    ghost invariant = { λ f. f.told ≡ min f.exact.value (2 ^ 64 - 1) };
+}
+
+impl FailedCalls {
+    // No failed call yet.
+    pub(crate) fn none() -> FailedCalls
+        ensures { result ≡ 0 }
+    {
+        FailedCalls {
+            told: 0,
+            exact: Number::zero(),
+        }
+    }
+
+    // Counts one more.
+    pub(crate) fn add_one(&mut self)
+        ensures { self.new ≡ self.old + 1 }
+    {
+        self.told = self.told.saturating_add(1);
+        self.exact = Number::after(&self.exact);
+    }
+
+    // The number, or `u64::MAX` where it is greater.
+    pub(crate) fn told(&self) -> u64
+        ensures { result ≡ min self.now (2 ^ 64 - 1) }
+    {
+        self.told
+    }
+}
+
+/// A reader that counts the failed calls of the one inside.
 #[derive(Drop)]
 pub struct CountingReader<R: Drop> {
     inner: R,
-    failures: u64,
+    failures: FailedCalls,
 }
 
 impl<R: Read + Drop> CountingReader<R> {
@@ -53,7 +135,10 @@ impl<R: Read + Drop> CountingReader<R> {
         ensures inner { result.inner ≡ inner }
         ensures failures { result.failures ≡ 0 }
     {
-        CountingReader { inner, failures: 0 }
+        CountingReader {
+            inner,
+            failures: FailedCalls::none(),
+        }
     }
 }
 
@@ -63,12 +148,12 @@ impl<R: Read + Drop> Read for CountingReader<R> {
     fn read(&mut self, buf: &mut [u8]) -> io::Result<usize>
         ensures bound { ReadsAtMost result buf.new }
         ensures bytes { ReadConsumes (R.remaining self.old.inner) (R.remaining self.new.inner) result buf.new }
-        ensures failed { OnErr result (self.new.failures ≡ min (self.old.failures + 1) (2 ^ 64 - 1)) }
+        ensures failed { OnErr result (self.new.failures ≡ self.old.failures + 1) }
         ensures done { OnOk result (self.new.failures ≡ self.old.failures) }
     {
         let result = self.inner.read(buf);
         if result.is_err() {
-            self.failures = self.failures.saturating_add(1);
+            self.failures.add_one();
         }
         result
     }
@@ -78,15 +163,21 @@ impl<R: Read + Drop> CountedRead for CountingReader<R> {
     ghost failed_calls = { λ r. r.failures };
 
     fn failures(&self) -> u64 {
-        self.failures
+        self.failures.told()
+    }
+
+    fn get(&mut self, buf: &mut [u8]) -> Option<usize> {
+        self.read(buf).ok()
     }
 }
 
-/// A writer that counts the failed calls of the one inside. The count stops at `u64::MAX`.
+/// A writer that counts the failed calls of the one inside.
+///
+/// A write of no bytes is no failed call, and a flush is one only where it answers an error.
 #[derive(Drop)]
 pub struct CountingWriter<W: Drop> {
     inner: W,
-    failures: u64,
+    failures: FailedCalls,
 }
 
 impl<W: Write + Drop> CountingWriter<W> {
@@ -95,7 +186,18 @@ impl<W: Write + Drop> CountingWriter<W> {
         ensures inner { result.inner ≡ inner }
         ensures failures { result.failures ≡ 0 }
     {
-        CountingWriter { inner, failures: 0 }
+        CountingWriter {
+            inner,
+            failures: FailedCalls::none(),
+        }
+    }
+
+    /// The writer inside.
+    pub fn into_inner(self) -> W
+        ensures { result ≡ self.inner }
+    {
+        let CountingWriter { inner, failures: _ } = self;
+        inner
     }
 }
 
@@ -105,9 +207,10 @@ impl<W: Write + Drop> Write for CountingWriter<W> {
     fn write(&mut self, buf: &[u8]) -> io::Result<usize>
         ensures bound { WritesAtMost result buf.now }
         ensures bytes { WriteAppends (W.contents self.old.inner) (W.contents self.new.inner) result buf.now }
-        ensures failed { OnErr result (self.new.failures ≡ min (self.old.failures + 1) (2 ^ 64 - 1)) }
-        ensures none { IfOk result (λ n. n ≡ 0 → 0 < length buf.now → self.new.failures ≡ min (self.old.failures + 1) (2 ^ 64 - 1)) }
+        ensures failed { OnErr result (self.new.failures ≡ self.old.failures + 1) }
+        ensures stuck { IfOk result (λ n. n ≡ 0 → 0 < length buf.now → self.new.failures ≡ self.old.failures + 1) }
         ensures done { IfOk result (λ n. 0 < n → self.new.failures ≡ self.old.failures) }
+        ensures idle { OnOk result (length buf.now ≡ 0 → self.new.failures ≡ self.old.failures) }
     {
         let result = self.inner.write(buf);
         let failed = match &result {
@@ -115,19 +218,19 @@ impl<W: Write + Drop> Write for CountingWriter<W> {
             Err(_) => true,
         };
         if failed {
-            self.failures = self.failures.saturating_add(1);
+            self.failures.add_one();
         }
         result
     }
 
     fn flush(&mut self) -> io::Result<()>
         ensures bytes { Keeps (W.contents self.old.inner) (W.contents self.new.inner) }
-        ensures failed { OnErr result (self.new.failures ≡ min (self.old.failures + 1) (2 ^ 64 - 1)) }
+        ensures failed { OnErr result (self.new.failures ≡ self.old.failures + 1) }
         ensures done { OnOk result (self.new.failures ≡ self.old.failures) }
     {
         let result = self.inner.flush();
         if result.is_err() {
-            self.failures = self.failures.saturating_add(1);
+            self.failures.add_one();
         }
         result
     }
@@ -137,7 +240,7 @@ impl<W: Write + Drop> CountedWrite for CountingWriter<W> {
     ghost failed_calls = { λ w. w.failures };
 
     fn failures(&self) -> u64 {
-        self.failures
+        self.failures.told()
     }
 
     fn put(&mut self, bytes: &[u8]) -> Option<usize> {
@@ -152,7 +255,8 @@ impl<W: Write + Drop> CountedWrite for CountingWriter<W> {
 /// Writes all bytes and answers true, or answers false where a call failed; nothing is tried again.
 pub fn put_all<W: CountedWrite>(writer: &mut W, bytes: &[u8]) -> bool
     ensures done { result ≡ true → Appends (W.contents writer.old) (W.contents writer.new) bytes.now }
-    ensures failed { result ≡ false → Rises (W.failed_calls writer.old) (W.failed_calls writer.new) }
+    ensures counted { result ≡ true → W.failed_calls writer.new ≡ W.failed_calls writer.old }
+    ensures failed { result ≡ false → W.failed_calls writer.old < W.failed_calls writer.new }
 {
     let mut rest = bytes;
     while !rest.is_empty() {

@@ -1,4 +1,5 @@
 use super::*;
+use std::alloc::{AllocError, Global};
 use std::io;
 use std::io::{ErrorKind, Read, Write};
 use std::test::Fail;
@@ -43,30 +44,34 @@ fn plan_with(log2m: u8, parts: u16, limit: u32, vertices: u32) -> Result<Plan, P
 
 #[test]
 fn plan_checks(rt: HostRuntime) {
-    assert_eq!(rt; plan_with(3, 0, 1, 0), Err(PlanError::Log2m));
-    assert_eq!(rt; plan_with(11, 1, 1, 0), Err(PlanError::Log2m));
-    assert_eq!(rt; plan_with(4, 0, 0, 0), Err(PlanError::Parts));
-    assert_eq!(rt; plan_with(4, 65, 0, 0), Err(PlanError::Parts));
-    assert_eq!(rt; plan_with(4, 1, 0, 16_777_217), Err(PlanError::Limit));
-    assert_eq!(rt; plan_with(4, 1, 4097, 0), Err(PlanError::Limit));
-    assert_eq!(rt; plan_with(4, 1, 1, 16_777_217), Err(PlanError::Vertices));
-    assert!(rt; plan_with(4, 1, 1, 0).is_ok());
-    assert!(rt; plan_with(10, 64, 4096, 16_777_216).is_ok());
+    for (log2m, parts, limit, vertices, refusal) in [
+        (3, 0, 1, 0, Some(PlanError::Log2m)),
+        (11, 1, 1, 0, Some(PlanError::Log2m)),
+        (4, 0, 0, 0, Some(PlanError::Parts)),
+        (4, 65, 0, 0, Some(PlanError::Parts)),
+        (4, 1, 0, 16_777_217, Some(PlanError::Limit)),
+        (4, 1, 4097, 0, Some(PlanError::Limit)),
+        (4, 1, 1, 16_777_217, Some(PlanError::Vertices)),
+        (4, 1, 1, 0, None),
+        (10, 64, 4096, 16_777_216, None),
+    ] {
+        assert_eq!(rt; plan_with(log2m, parts, limit, vertices).err(), refusal);
+    }
+}
+
+// What a plan tells: its numbers, and its digest with another one's.
+fn tells_the_plan(plan: &Plan) -> bool {
+    (plan.log2m(), plan.seed(), plan.parts()) == (5, 42, 3)
+        && (plan.limit(), plan.vertices(), plan.width()) == (77, 8, 32)
+        && plan.job() == [9; 32]
+        && plan.with_job([8; 32]).job() == [8; 32]
+        && plan.partition_of(7) == 1
 }
 
 #[test]
 fn plan_readers(rt: HostRuntime) -> Result<(), Fail> {
     let plan = Plan::new(5, 42, 3, 77, 8, [9; 32])?;
-    assert_eq!(rt; plan.log2m(), 5);
-    assert_eq!(rt; plan.seed(), 42);
-    assert_eq!(rt; plan.parts(), 3);
-    assert_eq!(rt; plan.limit(), 77);
-    assert_eq!(rt; plan.vertices(), 8);
-    assert_eq!(rt; plan.job(), [9; 32]);
-    assert_eq!(rt; plan.with_job([8; 32]).job(), [8; 32]);
-    assert_eq!(rt; plan.with_job([8; 32]).seed(), 42);
-    assert_eq!(rt; plan.width(), 32);
-    assert_eq!(rt; plan.partition_of(7), 1);
+    assert!(rt; tells_the_plan(&plan));
     Ok(())
 }
 
@@ -98,25 +103,21 @@ fn more_parts_than_vertices(rt: HostRuntime) -> Result<(), Fail> {
     Ok(())
 }
 
+// The text of a refusal.
+fn text(alloc: Global, error: PlanError) -> Result<String, Fail> {
+    Ok(format!(in alloc; "{error}")?)
+}
+
 #[test]
 fn plan_texts(rt: HostRuntime) -> Result<(), Fail> {
-    let alloc = rt.alloc();
-    assert_eq!(rt;
-        format!(in alloc; "{}", PlanError::Log2m)?.as_str(),
-        "log2m is not from 4 to 10"
-    );
-    assert_eq!(rt;
-        format!(in alloc; "{}", PlanError::Parts)?.as_str(),
-        "parts is not from 1 to 64"
-    );
-    assert_eq!(rt;
-        format!(in alloc; "{}", PlanError::Limit)?.as_str(),
-        "limit is not from 1 to 4096"
-    );
-    assert_eq!(rt;
-        format!(in alloc; "{}", PlanError::Vertices)?.as_str(),
-        "too many vertices"
-    );
+    for (error, wanted) in [
+        (PlanError::Log2m, "log2m is not from 4 to 10"),
+        (PlanError::Parts, "parts is not from 1 to 64"),
+        (PlanError::Limit, "limit is not from 1 to 4096"),
+        (PlanError::Vertices, "too many vertices"),
+    ] {
+        assert_eq!(rt; text(rt.alloc(), error)?.as_str(), wanted);
+    }
     Ok(())
 }
 
@@ -137,8 +138,7 @@ fn names_ascend(rt: HostRuntime) {
         source: 1,
         target: 0,
     };
-    assert!(rt; first < second);
-    assert!(rt; second < third);
+    assert!(rt; first.is_before(&second) && second.is_before(&third));
     assert!(rt;
         NodeId {
             part: 0,
@@ -189,34 +189,42 @@ impl Write for Slow {
     }
 }
 
-#[test]
-fn failed_reads_are_counted(rt: HostRuntime) {
+// Two reads of a reader whose second call fails, the failures then, and after one more.
+fn failed_reads() -> (Option<usize>, Option<usize>, u64, bool, u64) {
     let mut reader = CountingReader::new(Slow {
         calls: 0,
         fails_at: 2,
     });
     let mut place = [0u8; 4];
-    assert_eq!(rt; reader.failures(), 0);
-    assert!(rt; reader.read(&mut place).is_ok());
-    assert_eq!(rt; reader.failures(), 0);
-    assert!(rt; reader.read(&mut place).is_err());
-    assert!(rt; reader.read(&mut place).is_err());
-    assert_eq!(rt; reader.failures(), 2);
+    let first = reader.get(&mut place);
+    let second = reader.get(&mut place);
+    let then = reader.failures();
+    let refused = reader.read(&mut place).is_err();
+    (first, second, then, refused, reader.failures())
 }
 
 #[test]
-fn failed_writes_are_counted(rt: HostRuntime) {
+fn failed_reads_are_counted(rt: HostRuntime) {
+    assert_eq!(rt; failed_reads(), (Some(1), None, 1, true, 2));
+}
+
+// A flush and two writes of a writer whose third call fails, and a flush that fails, with the failures.
+fn failed_writes() -> (bool, Option<usize>, Option<usize>, u64, bool, u64) {
     let mut writer = CountingWriter::new(Slow {
         calls: 0,
         fails_at: 3,
     });
-    assert!(rt; writer.flush().is_ok());
-    assert_eq!(rt; writer.put(b"ab"), Some(1));
-    assert_eq!(rt; writer.failures(), 0);
-    assert_eq!(rt; writer.put(b"b"), None);
-    assert_eq!(rt; writer.failures(), 1);
-    assert!(rt; writer.flush().is_err());
-    assert_eq!(rt; writer.failures(), 2);
+    let flushed = writer.flush().is_ok();
+    let first = writer.put(b"ab");
+    let second = writer.put(b"b");
+    let then = writer.failures();
+    let refused = writer.flush().is_err();
+    (flushed, first, second, then, refused, writer.failures())
+}
+
+#[test]
+fn failed_writes_are_counted(rt: HostRuntime) {
+    assert_eq!(rt; failed_writes(), (true, Some(1), None, 1, true, 2));
 }
 
 #[test]
@@ -240,6 +248,39 @@ fn what_is_put_is_held(rt: HostRuntime) {
         assert_eq!(rt; writer.failures(), 0);
     }
     assert_eq!(rt; bytes.as_slice(), b"abc".as_slice());
+}
+
+// Three bytes are read by twos up to the end, and then the fourth call fails.
+fn reads_by_twos() -> [Option<usize>; 4] {
+    let mut reader = MemReader::new(b"abc", Some(4));
+    let mut place = [0u8; 2];
+    [
+        reader.get(&mut place),
+        reader.get(&mut place),
+        reader.get(&mut place),
+        reader.get(&mut place),
+    ]
+}
+
+#[test]
+fn memory_is_read(rt: HostRuntime) {
+    assert_eq!(rt; reads_by_twos(), [Some(2), Some(1), Some(0), None]);
+}
+
+// What a writer with room for three bytes takes of two, of two more, and of one more, and its bytes.
+fn writes_by_twos(alloc: Global) -> Result<([Option<usize>; 3], u64, Vec<u8>), AllocError> {
+    let mut writer = MemWriter::with_room(alloc, 3, None)?;
+    let calls = [writer.put(b"ab"), writer.put(b"cd"), writer.put(b"d")];
+    let failures = writer.failures();
+    Ok((calls, failures, writer.into_bytes()))
+}
+
+#[test]
+fn memory_is_written(rt: HostRuntime) -> Result<(), Fail> {
+    let (calls, failures, bytes) = writes_by_twos(rt.alloc())?;
+    assert_eq!(rt; (calls, failures), ([Some(2), Some(1), None], 1));
+    assert_eq!(rt; bytes.as_slice(), b"abc".as_slice());
+    Ok(())
 }
 
 #[test]

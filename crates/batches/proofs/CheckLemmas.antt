@@ -1,9 +1,10 @@
 -- What the checks say, both ways.
-use Rattle.std.proofs.Common.{◌≡◌, ℕ, zero, suc, ◌+◌, ◌*◌, ◌%◌, ◌^◌, ◌<◌, ◌≤◌, Bool, true, false, cond, ltb, leb, eqb, not, List, [], ◌∷◌, length, drop, Result, Ok, Err, refl, ap, ◌∙◌, arith, max, ◌||◌}
+use Rattle.std.proofs.Common.{◌≡◌, ℕ, zero, suc, ◌+◌, ◌*◌, ◌%◌, ◌^◌, ◌<◌, ◌≤◌, Bool, true, false, cond, ltb, leb, eqb, not, List, [], ◌∷◌, length, drop, Result, Ok, Err, refl, sym, ap, ◌∙◌, arith, max, ◌||◌}
 use Rattle.std.proofs.lemmas.Bool.Decides.{nat_tests}
 use Rattle.std.specs.Prelude.{slice_index}
 use Rattle.std.specs.List.{list_any, All, fold}
 use Rattle.std.specs.List.Sorted.{IsStrictlyIncreasing}
+use Rattle.std.proofs.Math.Bool.{or_assoc, or-false}
 use Rattle.std.proofs.Math.Nat.{suc-mul}
 use Rattle.std.proofs.lemmas.Bool.{not-false, ltb-false, leb-false, eqb-true, le-ltb, lt-leb, eq-eqb, or_parts}
 use Rattle.std.proofs.lemmas.List.{length-drop, length-take}
@@ -24,6 +25,56 @@ bind_ok (Err d) f y e = absurd cc
 pub guard_ok : {A : Type 0} (b : Bool) (d : BatchError) (r : Result A BatchError) (y : A) → cond b (Err d) r ≡ Ok y → (b ≡ false) × (r ≡ Ok y)
 guard_ok true d r y e = absurd cc
 guard_ok false d r y e = (refl, e)
+
+-- a fault of the bytes
+abbrev pub IsFault : BatchError → Type 0
+IsFault errors.Memory = ⊥
+IsFault e = Unit {0}
+
+-- an answer that is no want of memory
+unfoldable pub AsksNone : {A : Type 0} → Result A BatchError → Type 0
+AsksNone (Ok x) = Unit {0}
+AsksNone (Err e) = IsFault e
+
+pub err_asks-none : (A : Type 0) (e : BatchError) → AsksNone {A = A} (Err e) → IsFault e
+unfolding AsksNone
+err_asks-none A e none = none
+
+pub ok_asks-none : {A : Type 0} (x : A) → AsksNone {A = A} (Ok x)
+unfolding AsksNone
+ok_asks-none x = tt
+
+pub guard_asks-none : {A : Type 0} (b : Bool) (d : BatchError) (r : Result A BatchError) → IsFault d → AsksNone r → AsksNone (cond b (Err d) r)
+unfolding AsksNone
+guard_asks-none true d r fault after = fault
+guard_asks-none false d r fault after = after
+
+pub bind_asks-none : {A B : Type 0} (r : Result A BatchError) (f : A → Result B BatchError) → AsksNone r → ((x : A) → AsksNone (f x)) → AsksNone (r >>= f)
+unfolding AsksNone
+bind_asks-none (Ok x) f one after = after x
+bind_asks-none (Err e) f one after = one
+
+pub head_asks-none : (plan : PlanValue) (h : Header) → AsksNone (check_head plan h)
+unfolding check_head
+head_asks-none plan h =
+    guard_asks-none _ errors.Magic _ tt (guard_asks-none _ errors.Version _ tt (guard_asks-none _ errors.Size _ tt
+    (guard_asks-none (ltb plan.limit h.name.superstep) errors.Name _ tt (guard_asks-none (leb plan.parts h.name.source) errors.Name _ tt
+    (guard_asks-none (leb plan.parts h.name.target) errors.Name _ tt
+    (guard_asks-none (ltb (part_size plan.vertices plan.parts h.name.source) h.changed) errors.Count _ tt
+    (guard_asks-none (ltb h.changed h.count) errors.Count _ tt (ok_asks-none tt))))))))
+
+pub length_asks-none : (wanted len : ℕ) → AsksNone (check_length wanted len)
+unfolding check_length
+length_asks-none wanted len = guard_asks-none _ errors.Short _ tt (guard_asks-none _ errors.Trailing _ tt (ok_asks-none tt))
+
+pub rows_ask-none : (plan : PlanValue) (source least : ℕ) (rows : List (ℕ × List ℕ)) → AsksNone (check_rows plan source least rows)
+unfolding check_rows check_row
+rows_ask-none plan source least [] = ok_asks-none tt
+rows_ask-none plan source least (row ∷ rows) =
+    bind_asks-none (check_row plan source least row) _
+    (guard_asks-none (leb plan.vertices row.0) errors.Vertex _ tt (guard_asks-none (not (eqb (row.0 % plan.parts) source)) errors.Vertex _ tt
+    (guard_asks-none (ltb row.0 least) errors.Order _ tt (guard_asks-none (list_any (ltb 33) row.1) errors.Rank _ tt (ok_asks-none tt)))))
+    (λ fine. rows_ask-none plan source (row.0 + 1) rows)
 
 abbrev done : {A : Type 0} → A → Result A BatchError
 done x = Ok x
@@ -173,14 +224,6 @@ greatest_above rs = greatest_from rs 0
     either : (a b : ℕ) → ltb 33 (max a b) ≡ (ltb 33 a || ltb 33 b)
     either a b = grind (arith, nat_tests)
 
-    or_assoc : (a b c : Bool) → ((a || b) || c) ≡ (a || (b || c))
-    or_assoc true b c = refl
-    or_assoc false b c = refl
-
-    or_false : (a : Bool) → a ≡ (a || false)
-    or_false true = refl
-    or_false false = refl
-
     greatest_from : (rs : List ℕ) (a : ℕ) → ltb 33 (fold max a rs) ≡ (ltb 33 a || list_any (ltb 33) rs)
-    greatest_from [] a = or_false (ltb 33 a)
+    greatest_from [] a = sym (or-false (ltb 33 a))
     greatest_from (r ∷ rs) a = greatest_from rs (max a r) ∙ ap (λ (b : Bool). b || list_any (ltb 33) rs) (either a r) ∙ or_assoc (ltb 33 a) (ltb 33 r) (list_any (ltb 33) rs)

@@ -13,7 +13,7 @@ use Rattle.batches.specs.Kept.{rows_at, rows_of, IsKept}
 use Rattle.batches.specs.Reading.{◌>>=◌, magic, head_at, head_bytes, check_head, check_length, check_rows, checked_at, made, batch_at, GivesOrMemory, AgreesButJob}
 use Rattle.batches.proofs.HeadLemmas.{IsBytes, IsBytes-drop, Fits, head_takes, head_again, head_len, head_after, same_head, job_len}
 use Rattle.batches.proofs.RowLemmas.{rows_take, rows_again, rows_len, flat_len, AreWide}
-use Rattle.batches.proofs.CheckLemmas.{bind_ok, guard_ok, ok_is, IsHead, head_checked, head_passes, length_checked, length_passes, AreRows, rows_all, rows_ascend, rows_are, rows_even, rows_checked, rows_pass}
+use Rattle.batches.proofs.CheckLemmas.{bind_ok, guard_ok, ok_is, IsHead, head_checked, head_passes, length_checked, length_passes, AreRows, rows_all, rows_ascend, rows_are, rows_even, rows_checked, rows_pass, IsFault, AsksNone, err_asks-none, ok_asks-none, guard_asks-none, bind_asks-none, head_asks-none, length_asks-none, rows_ask-none}
 use Rattle.batches.proofs.KeptLemmas.{Kept, batch-changed}
 
 -- the fixed fields of a batch
@@ -149,23 +149,34 @@ batch_takes plan bytes b e =
     let one = bind_ok (checked_at plan bytes) (λ head. Ok (made plan head (rows_at (2 ^ plan.log2m) head.count (drop 54 bytes)))) b e in
     (one.0, checked_takes plan bytes one.0 one.1, ok_is _ b one.2)
 
--- a refusal is due
-pub gives_err : (e : BatchError) (due : Result BatchValue BatchError) → Err e ≡ due → GivesOrMemory (Err e) due
-gives_err errors.Memory due same = tt
-gives_err errors.Short due same = same
-gives_err errors.Magic due same = same
-gives_err errors.Version due same = same
-gives_err errors.Size due same = same
-gives_err errors.Name due same = same
-gives_err errors.Count due same = same
-gives_err errors.Trailing due same = same
-gives_err errors.Vertex due same = same
-gives_err errors.Order due same = same
-gives_err errors.Rank due same = same
+-- a refusal is due, which is no want of memory
+pub gives_err : (e : BatchError) (due : Result BatchValue BatchError) → IsFault e → Err e ≡ due → GivesOrMemory (Err e) due
+gives_err errors.Memory due fault same = absurd fault
+gives_err errors.Short due fault same = same
+gives_err errors.Magic due fault same = same
+gives_err errors.Version due fault same = same
+gives_err errors.Size due fault same = same
+gives_err errors.Name due fault same = same
+gives_err errors.Count due fault same = same
+gives_err errors.Trailing due fault same = same
+gives_err errors.Vertex due fault same = same
+gives_err errors.Order due fault same = same
+gives_err errors.Rank due fault same = same
+
+-- no check of the bytes asks for memory
+checked_asks-none : (plan : PlanValue) (bytes : List ℕ) → AsksNone (checked_at plan bytes)
+unfolding checked_at
+checked_asks-none plan bytes =
+    let g = head_at bytes in
+    let rows = rows_at (2 ^ plan.log2m) g.count (drop 54 bytes) in
+    guard_asks-none (ltb (length bytes) 54) errors.Short _ tt (bind_asks-none (check_head plan g) _ (head_asks-none plan g) (λ head.
+    bind_asks-none (check_length (g.count * (4 + 2 ^ plan.log2m)) (length bytes - 54)) _ (length_asks-none _ _) (λ whole.
+    bind_asks-none (check_rows plan g.name.source 0 rows) _ (rows_ask-none plan g.name.source 0 rows) (λ fine. ok_asks-none g))))
 
 -- what the checks refuse is not read
-pub refused : (plan : PlanValue) (bytes : List ℕ) (e : BatchError) → Err e ≡ checked_at plan bytes → Err e ≡ batch_at plan bytes
-refused plan bytes e same = rw (← same) refl
+pub refused : (plan : PlanValue) (bytes : List ℕ) (e : BatchError) → Err e ≡ checked_at plan bytes → GivesOrMemory (Err e) (batch_at plan bytes)
+refused plan bytes e same =
+    gives_err e (batch_at plan bytes) (err_asks-none Header e (subst (λ (r : Result Header BatchError). AsksNone r) (sym same) (checked_asks-none plan bytes))) (rw (← same) refl)
 
 -- what passes the checks is read
 pub read_is : (plan : PlanValue) (bytes : List ℕ) (h : Header) → checked_at plan bytes ≡ Ok h → batch_at plan bytes ≡ Ok (made plan h (rows_at (2 ^ plan.log2m) h.count (drop 54 bytes)))
@@ -230,4 +241,4 @@ written_is b h m ids registers o0 o1 o2 kept e_h e_m e0 e1 e2 =
 
 -- where the checks refuse, no batch has these bytes
 pub only_refused : (plan : PlanValue) (bytes : List ℕ) (e : BatchError) → Err e ≡ checked_at plan bytes → (b : BatchValue) → IsBatch b → AgreesButJob plan b.plan → bytes ≡ batch_bytes b → GivesOrMemory (Err e) (Ok b)
-only_refused plan bytes e same = only_from plan bytes (Err e) (gives_err e (batch_at plan bytes) (refused plan bytes e same))
+only_refused plan bytes e same = only_from plan bytes (Err e) (refused plan bytes e same)

@@ -1,5 +1,5 @@
 -- Reading a batch: what each field says, and the first check that fails.
-use Rattle.std.specs.Prelude.{◌≡◌, ℕ, ◌+◌, ◌-◌, ◌*◌, ◌%◌, ◌^◌, ◌==◌, not, if◌then◌else◌, nat_lt, nat_le, List, [], ◌∷◌, ◌++◌, length, take, drop, slice_index, Result, Ok, Err}
+use Rattle.std.specs.Prelude.{◌≡◌, ℕ, ◌+◌, ◌-◌, ◌*◌, ◌%◌, ◌^◌, ◌==◌, not, if◌then◌else◌, nat_lt, nat_le, List, [], ◌∷◌, ◌++◌, length, take, drop, slice_index, Result, Ok, Err, IsOk}
 use Rattle.std.specs.List.{list_any}
 use Rattle.std.specs.Int.{w16, w32, to_be_bytes}
 use Rattle.ball_model.specs.PlanValue.{PlanValue, part_size}
@@ -90,10 +90,10 @@ batch_at plan bytes = do
   head ← checked_at plan bytes
   Ok (made plan head (rows_at (2 ^ plan.log2m) head.count (drop 54 bytes)))
 
--- the answer is the one that is due, or memory ran out
+-- the answer is the one that is due, or, where that is a batch, memory ran out
 abbrev pub GivesOrMemory : Result BatchValue BatchError → Result BatchValue BatchError → Type 0
 GivesOrMemory (Ok b) due = Ok b ≡ due
-GivesOrMemory (Err errors.Memory) due = Unit {0}
+GivesOrMemory (Err errors.Memory) due = IsOk due
 GivesOrMemory (Err e) due = Err e ≡ due
 
 -- two plans are the same but for the job digest

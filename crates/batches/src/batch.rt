@@ -174,7 +174,7 @@ impl Batch {
     /// [`Short`](BatchError::Short) comes first for the fixed fields, and once more, after
     /// [`Count`](BatchError::Count), for the rows. The rows are checked one after the other, each for
     /// [`Vertex`](BatchError::Vertex), [`Order`](BatchError::Order) and [`Rank`](BatchError::Rank). Memory is asked
-    /// for last.
+    /// for last: [`Memory`](BatchError::Memory) is answered only where the bytes spell a batch of the plan.
     pub fn decode(alloc: Global, plan: &Plan, bytes: &[u8]) -> Result<Batch, BatchError>
         // What is read is a batch of the plan with these bytes.
         ensures spelled { IfOk result (λ b. bytes.now ≡ batch_bytes b) }
@@ -182,7 +182,7 @@ impl Batch {
         ensures batch { IfOk result (λ b. IsBatch b) }
         // Each batch of the plan with these bytes is what is read.
         ensures only { (b : BatchValue) → IsBatch b → AgreesButJob plan.now b.plan → bytes.now ≡ batch_bytes b → GivesOrMemory result (Ok b) }
-        // Which refusal it is.
+        // Which refusal it is; memory is wanting only where bytes and plan give a batch.
         ensures exact { GivesOrMemory result (batch_at plan.now bytes.now) }
     {
         let header = check(plan, bytes)?;

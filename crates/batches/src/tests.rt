@@ -1,27 +1,36 @@
-ghost use Rattle.std.specs.Prelude.{◌≡◌, ◌<◌, List, length, IfOk};
-ghost use Rattle.std.specs.List.{All};
+ghost use Rattle.std.specs.Prelude.{◌≡◌, ◌∷◌, [], length, IfOk};
+ghost use Rattle.ball_model.specs.Batches.{ids_of};
 
 use super::*;
 use ball_model::{BatchName, Plan, PlanError};
+use std::alloc::{AllocError, Global};
 use std::test::Fail;
 
-/// The digest that the bytes below have.
+/// The job digest of the edges a to b and b to c, with log2m 4, seed 0, two partitions and a limit of 4096.
 const JOB: [u8; 32] = [
-    0, 1, 2, 3, 4, 5, 6, 7, 8, 9, 10, 11, 12, 13, 14, 15, 16, 17, 18, 19, 20, 21, 22, 23, 24, 25,
-    26, 27, 28, 29, 30, 31,
+    0xe4, 0x87, 0x78, 0x82, 0x8d, 0xfe, 0xa5, 0x0f, 0x8c, 0x6f, 0x4c, 0x3f, 0x13, 0xc9, 0x4f, 0xf2,
+    0xeb, 0xd3, 0x33, 0xd7, 0xa4, 0x76, 0x10, 0x77, 0x8d, 0x84, 0xb6, 0xc7, 0xed, 0x7a, 0x08, 0xd3,
 ];
 
-/// The counter of vertex 0 alone, under seed 1.
+/// The counter of vertex 0 alone: register 14 has rank 3.
 const ROW: [u8; 16] = [0, 0, 0, 0, 0, 0, 0, 0, 0, 0, 0, 0, 0, 0, 3, 0];
 
-/// Of the edges a to b and b to c in two partitions: what partition 0 tells partition 1 of superstep 0.
+/// What partition 0 tells partition 1 of superstep 0.
+const NAME: BatchName = BatchName {
+    superstep: 0,
+    source: 0,
+    target: 1,
+};
+
+/// The batch of that name: vertices 0 and 2 are changed, and 0 has an edge into partition 1.
 const BYTES: [u8; 74] = [
     0x48, 0x42, 0x42, 0x54, // HBBT
     1, 4, // version, log2m
     0, 0, 0, 0, // superstep
     0, 0, 0, 1, // source, target
-    0, 1, 2, 3, 4, 5, 6, 7, 8, 9, 10, 11, 12, 13, 14, 15, 16, 17, 18, 19, 20, 21, 22, 23, 24, 25,
-    26, 27, 28, 29, 30, 31, 0, 0, 0, 2, // changed
+    0xe4, 0x87, 0x78, 0x82, 0x8d, 0xfe, 0xa5, 0x0f, 0x8c, 0x6f, 0x4c, 0x3f, 0x13, 0xc9, 0x4f, 0xf2,
+    0xeb, 0xd3, 0x33, 0xd7, 0xa4, 0x76, 0x10, 0x77, 0x8d, 0x84, 0xb6, 0xc7, 0xed, 0x7a, 0x08, 0xd3,
+    0, 0, 0, 2, // changed
     0, 0, 0, 1, // rows
     0, 0, 0, 0, // vertex 0
     0, 0, 0, 0, 0, 0, 0, 0, 0, 0, 0, 0, 0, 0, 3, 0,
@@ -29,9 +38,9 @@ const BYTES: [u8; 74] = [
 
 /// A plan of three vertices in two partitions.
 fn plan(job: [u8; 32]) -> Result<Plan, PlanError>
-    ensures { IfOk result (λ p. p ≡ record { log2m = 4; seed = 1; parts = 2; limit = 4096; vertices = 3; job = job }) }
+    ensures { IfOk result (λ p. p ≡ record { log2m = 4; seed = 0; parts = 2; limit = 4096; vertices = 3; job = job }) }
 {
-    Plan::new(4, 1, 2, 4096, 3, job)
+    Plan::new(4, 0, 2, 4096, 3, job)
 }
 
 /// The bytes with some of them changed.
@@ -45,77 +54,110 @@ fn with(edits: &[(usize, u8)]) -> [u8; 74] {
     bytes
 }
 
-#[test]
-fn batch_is_built_row_by_row(rt: HostRuntime) -> Result<(), Fail> {
-    let name = BatchName {
-        superstep: 0,
-        source: 0,
-        target: 1,
-    };
-    let mut batch = Batch::start(rt.alloc(), &plan(JOB)?, name, 2)?;
-    assert_eq!(rt; batch.count(), 0);
+/// A batch with the row of vertex 0.
+fn one_row(alloc: Global) -> Result<Batch, Fail>
+    ensures plan { IfOk result (λ b. (b.plan.log2m ≡ 4) × (b.plan.parts ≡ 2) × (b.plan.vertices ≡ 3)) }
+    ensures name { IfOk result (λ b. (b.name.source ≡ 0) × (b.changed ≡ 2)) }
+    ensures rows { IfOk result (λ b. ids_of b.rows ≡ 0 ∷ []) }
+{
+    let mut batch = Batch::start(alloc, &plan(JOB)?, NAME, 2)?;
     batch.push(0, &ROW)?;
-    assert_eq!(rt; batch.encode(rt.alloc())?.as_slice(), BYTES.as_slice());
+    Ok(batch)
+}
+
+/// A batch with the rows of vertices 0 and 2.
+fn two_rows(alloc: Global) -> Result<Batch, Fail>
+    ensures { IfOk result (λ b. length b.rows ≡ 2) }
+{
+    let mut batch = one_row(alloc)?;
     batch.push(2, &ROW)?;
-    assert_eq!(rt; batch.count(), 2);
-    assert_eq!(rt; batch.changed(), 2);
-    assert_eq!(rt; batch.name(), name);
-    assert_eq!(rt; batch.plan().job(), JOB);
-    assert_eq!(rt; batch.id(1), 2);
-    assert_eq!(rt; batch.registers(1), ROW.as_slice());
-    assert!(rt; batch.find(2).is_some());
-    assert!(rt; batch.find(1).is_none());
-    Ok(())
+    Ok(batch)
+}
+
+/// The readers tell the two rows.
+fn tells_two_rows(batch: &Batch) -> bool
+    requires { length batch.now.rows ≡ 2 }
+{
+    batch.count() == 2
+        && batch.id(1) == 2
+        && batch.registers(1) == ROW.as_slice()
+        && batch.find(1).is_none()
+        && batch.find(2).is_some()
 }
 
 #[test]
-fn batch_bytes_are_read_and_written(rt: HostRuntime) -> Result<(), Fail> {
-    let batch = Batch::decode(rt.alloc(), &plan([9; 32])?, &BYTES)?;
-    assert_eq!(rt;
-        batch.name(),
-        BatchName {
-            superstep: 0,
-            source: 0,
-            target: 1
-        }
-    );
-    assert_eq!(rt; batch.plan().job(), JOB);
-    assert_eq!(rt; batch.plan().seed(), 1);
-    assert_eq!(rt; batch.changed(), 2);
-    assert_eq!(rt; batch.count(), 1);
-    assert_eq!(rt; batch.find(0).ok_or("a row of vertex 0")?, ROW.as_slice());
-    assert_eq!(rt; batch.encode(rt.alloc())?.as_slice(), BYTES.as_slice());
+fn rows_are_told(rt: HostRuntime) -> Result<(), Fail> {
+    let batch = two_rows(rt.alloc())?;
+    assert!(rt; tells_two_rows(&batch));
     Ok(())
 }
+
+/// The bytes of that batch.
+fn written(alloc: Global) -> Result<Vec<u8>, Fail> {
+    Ok(one_row(alloc)?.encode(alloc)?)
+}
+
+#[test]
+fn batch_is_written(rt: HostRuntime) -> Result<(), Fail> {
+    assert_eq!(rt; written(rt.alloc())?.as_slice(), BYTES.as_slice());
+    Ok(())
+}
+
+/// The readers tell the batch of the bytes.
+fn tells_the_bytes(batch: &Batch) -> bool {
+    batch.name() == NAME
+        && batch.plan().job() == JOB
+        && batch.changed() == 2
+        && batch.count() == 1
+        && matches!(batch.find(0), Some(row) if row == ROW.as_slice())
+}
+
+#[test]
+fn batch_is_read(rt: HostRuntime) -> Result<(), Fail> {
+    let batch = Batch::decode(rt.alloc(), &plan([9; 32])?, &BYTES)?;
+    assert!(rt; tells_the_bytes(&batch));
+    Ok(())
+}
+
+/// How many rows bytes have, or why they are no batch.
+fn rows_of(alloc: Global, plan: &Plan, bytes: &[u8]) -> Result<u32, BatchError> {
+    Ok(Batch::decode(alloc, plan, bytes)?.count())
+}
+
+/// What bytes with some changed are refused for: of two faults, for the one that is checked first.
+const REFUSED: [(&[(usize, u8)], BatchError); 17] = [
+    (&[(0, 0), (4, 2)], BatchError::Magic),
+    (&[(3, 0x55), (5, 5)], BatchError::Magic),
+    (&[(4, 2), (5, 5)], BatchError::Version),
+    (&[(4, 0)], BatchError::Version),
+    (&[(5, 5), (6, 1)], BatchError::Size),
+    (&[(8, 0x10), (9, 1), (49, 3)], BatchError::Name),
+    (&[(11, 2), (49, 3)], BatchError::Name),
+    (&[(13, 2), (49, 3)], BatchError::Name),
+    (&[(11, 1)], BatchError::Count),
+    (&[(49, 3)], BatchError::Count),
+    (&[(53, 3)], BatchError::Count),
+    (&[(53, 2)], BatchError::Short),
+    (&[(53, 0)], BatchError::Trailing),
+    (&[(11, 1), (49, 1)], BatchError::Vertex),
+    (&[(57, 1)], BatchError::Vertex),
+    (&[(57, 4), (72, 34)], BatchError::Vertex),
+    (&[(72, 34)], BatchError::Rank),
+];
 
 #[test]
 fn each_check_refuses(rt: HostRuntime) -> Result<(), Fail> {
     let plan = plan(JOB)?;
-    for (edits, wanted) in [
-        ([(0, 0), (4, 2)].as_slice(), BatchError::Magic),
-        ([(3, 0x55), (5, 5)].as_slice(), BatchError::Magic),
-        ([(4, 2), (5, 5)].as_slice(), BatchError::Version),
-        ([(4, 0)].as_slice(), BatchError::Version),
-        ([(5, 5), (6, 1)].as_slice(), BatchError::Size),
-        ([(8, 0x10), (9, 1), (49, 3)].as_slice(), BatchError::Name),
-        ([(11, 2), (49, 3)].as_slice(), BatchError::Name),
-        ([(13, 2), (49, 3)].as_slice(), BatchError::Name),
-        ([(11, 1)].as_slice(), BatchError::Count),
-        ([(49, 3)].as_slice(), BatchError::Count),
-        ([(53, 3)].as_slice(), BatchError::Count),
-        ([(53, 2)].as_slice(), BatchError::Short),
-        ([(53, 0)].as_slice(), BatchError::Trailing),
-        ([(11, 1), (49, 1)].as_slice(), BatchError::Vertex),
-        ([(57, 1)].as_slice(), BatchError::Vertex),
-        ([(57, 4), (72, 34)].as_slice(), BatchError::Vertex),
-        ([(72, 34)].as_slice(), BatchError::Rank),
-    ] {
-        assert!(rt;
-            matches!(Batch::decode(rt.alloc(), &plan, &with(edits)), Err(found) if found == wanted),
-            "{wanted:?}"
-        );
+    for (edits, wanted) in REFUSED {
+        assert_eq!(rt; rows_of(rt.alloc(), &plan, &with(edits)), Err(wanted));
     }
     Ok(())
+}
+
+/// Bytes are read, and written again as they were.
+fn is_kept(alloc: Global, plan: &Plan, bytes: &[u8]) -> Result<bool, BatchError> {
+    let again = Batch::decode(alloc, plan, bytes)?.encode(alloc)?;
+    Ok(again.as_slice() == bytes)
 }
 
 #[test]
@@ -127,55 +169,55 @@ fn limits_themselves_pass(rt: HostRuntime) -> Result<(), Fail> {
         [(72, 33)].as_slice(),
         [(13, 0)].as_slice(),
     ] {
-        let bytes = with(edits);
-        let batch = Batch::decode(rt.alloc(), &plan, &bytes)?;
-        assert_eq!(rt; batch.encode(rt.alloc())?.as_slice(), bytes.as_slice());
+        assert_eq!(rt; is_kept(rt.alloc(), &plan, &with(edits)), Ok(true));
+    }
+    Ok(())
+}
+
+/// The bytes, and some more.
+fn longer(alloc: Global, bytes: &[u8], more: &[u8]) -> Result<Vec<u8>, AllocError> {
+    let mut all = bytes.to_vec(alloc)?;
+    all.extend_from_slice(more)?;
+    Ok(all)
+}
+
+#[test]
+fn fewer_bytes_are_short(rt: HostRuntime) -> Result<(), Fail> {
+    let plan = plan(JOB)?;
+    for len in 0..74 {
+        assert_eq!(rt;
+            rows_of(rt.alloc(), &plan, &BYTES[..len]),
+            Err(BatchError::Short)
+        );
     }
     Ok(())
 }
 
 #[test]
-fn length_is_exact(rt: HostRuntime) -> Result<(), Fail> {
-    let plan = plan(JOB)?;
-    for len in 0..74 {
-        assert!(rt;
-            matches!(
-                Batch::decode(rt.alloc(), &plan, &BYTES[..len]),
-                Err(BatchError::Short)
-            ),
-            "{len}"
-        );
-    }
-    let mut longer = BYTES.to_vec(rt.alloc())?;
-    longer.push(0)?;
-    assert!(rt;
-        matches!(
-            Batch::decode(rt.alloc(), &plan, &longer),
-            Err(BatchError::Trailing)
-        )
+fn one_byte_more_is_trailing(rt: HostRuntime) -> Result<(), Fail> {
+    let bytes = longer(rt.alloc(), &BYTES, &[0])?;
+    assert_eq!(rt;
+        rows_of(rt.alloc(), &plan(JOB)?, &bytes),
+        Err(BatchError::Trailing)
     );
     Ok(())
 }
 
+/// How many rows are read of bytes with a row of each of two vertices.
+fn rows_of_two(alloc: Global, first: u8, second: u8) -> Result<Result<u32, BatchError>, Fail> {
+    let rest = longer(alloc, &[0, 0, 0, second], &ROW)?;
+    let bytes = longer(alloc, &with(&[(53, 2), (57, first)]), &rest)?;
+    Ok(rows_of(alloc, &plan(JOB)?, &bytes))
+}
+
 #[test]
 fn rows_ascend(rt: HostRuntime) -> Result<(), Fail> {
-    let plan = plan(JOB)?;
-    for (first, second, passes) in [(0, 2, true), (2, 0, false), (2, 2, false)] {
-        let mut bytes = with(&[(53, 2), (57, first)]).to_vec(rt.alloc())?;
-        bytes.extend_from_slice(&[0, 0, 0, second])?;
-        bytes.extend_from_slice(&ROW)?;
-        match Batch::decode(rt.alloc(), &plan, &bytes) {
-            Ok(batch) => {
-                assert!(rt; passes);
-                assert_eq!(rt; batch.count(), 2);
-                assert!(rt; batch.find(2).is_some());
-                assert!(rt; batch.find(3).is_none());
-            }
-            Err(found) => {
-                assert!(rt; !passes);
-                assert_eq!(rt; found, BatchError::Order);
-            }
-        }
+    for (first, second, wanted) in [
+        (0, 2, Ok(2)),
+        (2, 0, Err(BatchError::Order)),
+        (2, 2, Err(BatchError::Order)),
+    ] {
+        assert_eq!(rt; rows_of_two(rt.alloc(), first, second)?, wanted);
     }
     Ok(())
 }
@@ -184,9 +226,7 @@ fn rows_ascend(rt: HostRuntime) -> Result<(), Fail> {
 fn batch_to_its_own_source_is_a_batch(rt: HostRuntime) -> Result<(), Fail> {
     let bytes = with(&[(11, 1), (49, 1), (53, 0)]);
     let (header, _) = bytes.split_at(54);
-    let batch = Batch::decode(rt.alloc(), &plan(JOB)?, header)?;
-    assert_eq!(rt; batch.name().source, batch.name().target);
-    assert_eq!(rt; batch.count(), 0);
+    assert_eq!(rt; rows_of(rt.alloc(), &plan(JOB)?, header), Ok(0));
     Ok(())
 }
 
@@ -198,22 +238,29 @@ fn laws_hold() {
     laws::true_is_batch();
 }
 
+/// The text of an error.
+fn text(alloc: Global, error: BatchError) -> Result<String, Fail> {
+    Ok(format!(in alloc; "{error}")?)
+}
+
+const TEXTS: [(BatchError, &str); 11] = [
+    (BatchError::Short, "too few bytes"),
+    (BatchError::Magic, "not a batch"),
+    (BatchError::Version, "not of version 1"),
+    (BatchError::Size, "another size of counters"),
+    (BatchError::Name, "no batch has this name"),
+    (BatchError::Count, "a count is too great"),
+    (BatchError::Trailing, "bytes after the last row"),
+    (BatchError::Vertex, "not a vertex of the source"),
+    (BatchError::Order, "vertices do not ascend"),
+    (BatchError::Rank, "a register is too great"),
+    (BatchError::Memory, "out of memory"),
+];
+
 #[test]
 fn errors_have_texts(rt: HostRuntime) -> Result<(), Fail> {
-    for (error, text) in [
-        (BatchError::Short, "too few bytes"),
-        (BatchError::Magic, "not a batch"),
-        (BatchError::Version, "not of version 1"),
-        (BatchError::Size, "another size of counters"),
-        (BatchError::Name, "no batch has this name"),
-        (BatchError::Count, "a count is too great"),
-        (BatchError::Trailing, "bytes after the last row"),
-        (BatchError::Vertex, "not a vertex of the source"),
-        (BatchError::Order, "vertices do not ascend"),
-        (BatchError::Rank, "a register is too great"),
-        (BatchError::Memory, "out of memory"),
-    ] {
-        assert_eq!(rt; format!(in rt.alloc(); "{error}")?.as_str(), text);
+    for (error, wanted) in TEXTS {
+        assert_eq!(rt; text(rt.alloc(), error)?.as_str(), wanted);
     }
     Ok(())
 }

@@ -1,12 +1,13 @@
 -- The bytes of edges, target by target.
-use Rattle.std.proofs.Common.{◌≡◌, ◌∙◌, ℕ, ◌+◌, List, [], ◌∷◌, ◌++◌, map, refl, ap, sym, append_assoc}
-use Rattle.std.specs.List.{flat_map, range_with_len}
+use Rattle.std.proofs.Common.{◌≡◌, ◌∙◌, ℕ, ◌+◌, Bool, true, false, if◌then◌else◌, List, [], ◌∷◌, ◌++◌, map, refl, ap, sym, append_assoc}
+use Rattle.std.specs.List.{filter, flat_map, range_with_len}
 use Rattle.std.proofs.lemmas.List.{append-nil}
 use Rattle.std.proofs.lemmas.Grind.{flat_map-append}
-use Rattle.ball_model.specs.Graph.{Graph, IsGraph, preds_of, listed_edges}
+use Rattle.std.proofs.lemmas.List.Elements.{filter-append}
+use Rattle.ball_model.specs.Graph.{Graph, IsGraph, is_counted, preds_of, listed_edges, listed_counted}
 use Rattle.ball_model.specs.Job.{edge_bytes}
-use Rattle.edgelist.specs.Planning.{row_bytes}
-use Rattle.edgelist.proofs.RangeLemmas.{range-next}
+use Rattle.ball_model.proofs.PartLemmas.{range_more}
+use Rattle.edgelist.specs.Planning.{row_bytes, vertex_bytes}
 
 -- the edges to x
 abbrev pub edges_to : Graph → ℕ → List (ℕ × ℕ)
@@ -20,7 +21,7 @@ bytes_below g n = flat_map edge_bytes (flat_map (edges_to g) (range_with_len 0 n
 pub edges-next : (g : Graph) (n : ℕ) → flat_map (edges_to g) (range_with_len 0 (n + 1)) ≡ flat_map (edges_to g) (range_with_len 0 n) ++ edges_to g n
 edges-next g n =
     let one : flat_map (edges_to g) (n ∷ []) ≡ edges_to g n = append-nil (edges_to g n) in
-    ap (flat_map (edges_to g)) (range-next n) ∙ flat_map-append (edges_to g) (range_with_len 0 n) (n ∷ []) ∙ rw one refl
+    ap (flat_map (edges_to g)) (range_more n) ∙ flat_map-append (edges_to g) (range_with_len 0 n) (n ∷ []) ∙ rw one refl
 
 -- the edges to all targets
 pub edges-all : (g : Graph) (n : ℕ) → IsGraph g → n ≡ g.vertices → flat_map (edges_to g) (range_with_len 0 n) ≡ g.edges
@@ -35,3 +36,29 @@ bytes-next g m n =
 
 pub bytes-all : (g : Graph) (n : ℕ) → IsGraph g → n ≡ g.vertices → bytes_below g n ≡ flat_map edge_bytes g.edges
 bytes-all g n ok count = ap (flat_map edge_bytes) (edges-all g n ok count)
+
+-- the bytes of the counted vertices below n
+abbrev pub members_below : Graph → ℕ → List ℕ
+members_below g n = flat_map vertex_bytes (filter (λ v. is_counted g v) (range_with_len 0 n))
+
+member-bytes : (b : Bool) (v : ℕ) → flat_map vertex_bytes (if b then (v ∷ []) else []) ≡ (if b then vertex_bytes v else [])
+member-bytes true v = append-nil (vertex_bytes v)
+member-bytes false v = refl
+
+-- one vertex more
+pub members-next : (g : Graph) (m : List ℕ) (n : ℕ) → m ++ members_below g (n + 1) ≡ (m ++ members_below g n) ++ (if is_counted g n then vertex_bytes n else [])
+members-next g m n =
+    let more : filter (λ v. is_counted g v) (range_with_len 0 (n + 1)) ≡ filter (λ v. is_counted g v) (range_with_len 0 n) ++ (if is_counted g n then (n ∷ []) else []) =
+    ap (filter (λ v. is_counted g v)) (range_more n) ∙ filter-append (λ v. is_counted g v) (range_with_len 0 n) (n ∷ []) in
+    ap (λ (vs : List ℕ). m ++ flat_map vertex_bytes vs) more
+    ∙ ap (λ (bs : List ℕ). m ++ bs) (flat_map-append vertex_bytes (filter (λ v. is_counted g v) (range_with_len 0 n)) (if is_counted g n then (n ∷ []) else []))
+    ∙ ap (λ (bs : List ℕ). m ++ (members_below g n ++ bs)) (member-bytes (is_counted g n) n)
+    ∙ sym (append_assoc m (members_below g n) (if is_counted g n then vertex_bytes n else []))
+
+pub members-all : (g : Graph) (n : ℕ) → IsGraph g → n ≡ g.vertices → members_below g n ≡ flat_map vertex_bytes g.counted
+unfolding listed_counted
+members-all g n ok count = ap (flat_map vertex_bytes) (rw count (sym ok.counted))
+
+-- seven pieces behind some bytes
+pub seven-behind : (m a b c d e f g : List ℕ) → ((((((m ++ a) ++ b) ++ c) ++ d) ++ e) ++ f) ++ g ≡ m ++ ((((((a ++ b) ++ c) ++ d) ++ e) ++ f) ++ g)
+seven-behind m a b c d e f g = simp append_assoc

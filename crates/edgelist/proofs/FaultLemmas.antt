@@ -53,11 +53,11 @@ fault-none limits records r more lt form few =
     let within : nat_lt limits.vertices (length (labels_of (records ++ r ∷ []))) ≡ false = search (tests, arith) in
     rw (off, at-next records r more, form, up-to-next records r more, within) refl
 
-first-none : (f : ℕ → Option Refusal) (a n : ℕ) → ((k : ℕ) → k < a + n → f k ≡ None) → first_of (map f (range_with_len a n)) ≡ None
+pub first-none : {X : Type 0} (f : ℕ → Option X) (a n : ℕ) → ((k : ℕ) → k < a + n → f k ≡ None) → first_of (map f (range_with_len a n)) ≡ None
 first-none f a zero h = refl
 first-none f a (suc n) h = rw (h a (omega arith)) (first-none f (a + 1) n (λ k lt. h k (omega arith)))
 
-first-some : (f : ℕ → Option Refusal) (x : Refusal) (a n k : ℕ) → k < n → ((j : ℕ) → j < a + k → f j ≡ None) → f (a + k) ≡ Some x → first_of (map f (range_with_len a n)) ≡ Some x
+pub first-some : {X : Type 0} (f : ℕ → Option X) (x : X) (a n k : ℕ) → k < n → ((j : ℕ) → j < a + k → f j ≡ None) → f (a + k) ≡ Some x → first_of (map f (range_with_len a n)) ≡ Some x
 first-some f x a zero k lt h here = absurd (omega arith)
 first-some f x a (suc n) zero lt h here = let e : a + 0 ≡ a = omega arith in let at = rw e at here in rw at refl
 first-some f x a (suc n) (suc k) lt h here =

@@ -2,12 +2,15 @@
 use Rattle.std.proofs.Common.{◌≡◌, ◌≢◌, ◌∙◌, ℕ, zero, suc, ◌+◌, ◌*◌, ◌/◌, ◌%◌, ◌^◌, ◌<◌, ◌≤◌, true, false, ◌==◌, List, [], ◌∷◌, length, get_or, set, replicate, refl, ap, arith, sym, subst}
 use Rattle.std.specs.List.{list_any}
 use Rattle.std.specs.Str.{bytes_eq}
-use Rattle.std.proofs.lemmas.Nat.{div-mul-add, mod-mul-add, pow-add}
+use Rattle.std.proofs.Math.Nat.{div-add-mod}
+use Rattle.std.proofs.lemmas.Nat.{pow-add}
 use Rattle.std.proofs.lemmas.List.{length-append, get_or_append_left, get_or-set_same, get_or-set_other}
-use Rattle.edgelist.specs.Guessing.{bytes_after, word_of, IsShort, StandsAt, Tells, AreTold}
+use Rattle.std.proofs.lemmas.Bool.{eqb-true, eq-eqb}
+use Rattle.edgelist.specs.Guessing.{bytes_after, word_of, IsShort, StandsAt, Tells, AreTold, told_word, blank_entry}
+use Rattle.edgelist.specs.declared.numbering.Entry.{Entry}
 use Rattle.edgelist.specs.Reading.{with_label}
-use Rattle.edgelist.proofs.BoolLemmas.{by_cases, eq_is, eq_same}
-use Rattle.edgelist.proofs.FeedLemmas.{zeros-at, pow-up}
+use Rattle.edgelist.proofs.BoolLemmas.{by_cases}
+use Rattle.ball_model.proofs.MaskLemmas.{pow-up}
 use Rattle.edgelist.proofs.LabelLemmas.{text_same}
 
 abbrev AreBytes : List ℕ → Type 0
@@ -39,32 +42,39 @@ digits-step w b i small byte =
 pub digits-fit : (i n : ℕ) → i ≤ n → n ≤ 11 → 2 ^ (8 * i) ≤ 2 ^ 88
 digits-fit i n le few = pow-up (8 * i) 88 (omega (arith, le, few))
 
--- the entry of a label tells its place
-pub tells-one : (labels : List (List ℕ)) (label : List ℕ) (number : ℕ) → IsShort label → StandsAt labels label number → number < 2 ^ 32 → Tells labels (word_of label * 2 ^ 32 + number)
-tells-one labels label number short stands small other shorter is =
-    let same : word_of other ≡ word_of label = is ∙ div-mul-add (word_of label) (2 ^ 32) number small in
-    let at : number ≡ (word_of label * 2 ^ 32 + number) % 2 ^ 32 = sym (mod-mul-add (word_of label) (2 ^ 32) number small) in
-    subst (λ (k : ℕ). StandsAt labels other k) at (subst (λ (l : List ℕ). StandsAt labels l number) (sym (word-same other label shorter short same)) stands)
+-- a word from its two pieces
+pub pieces : (w : ℕ) → w / 2 ^ 64 * 2 ^ 64 + w % 2 ^ 64 ≡ w
+pieces w =
+    let whole : 2 ^ 64 * (w / 2 ^ 64) + w % 2 ^ 64 ≡ w = div-add-mod w (2 ^ 64) in
+    omega (arith, whole)
+
+-- an entry of the word of a label tells its place
+pub tells-one : (labels : List (List ℕ)) (label : List ℕ) (entry : Entry) → IsShort label → StandsAt labels label entry.number → told_word entry ≡ word_of label → Tells labels entry
+tells-one labels label entry short stands told other shorter is =
+    subst (λ (l : List ℕ). StandsAt labels l entry.number) (sym (word-same other label shorter short (is ∙ told))) stands
 
 -- a blank entry tells nothing
-tells-none : (labels : List (List ℕ)) → Tells labels 0
-tells-none labels label short is =
-    let none : 0 / 2 ^ 32 ≡ 0 = refl in
-    absurd (omega (arith, is, none))
+tells-none : (labels : List (List ℕ)) → Tells labels blank_entry
+tells-none labels label short is = absurd (omega (arith, is))
 
-pub told-blank : (labels : List (List ℕ)) (n : ℕ) → AreTold labels (replicate n 0)
-told-blank labels n = record { each = λ i. rw (zeros-at n i) (tells-none labels) }
+blanks-at : (n i : ℕ) → get_or (replicate n blank_entry) i blank_entry ≡ blank_entry
+blanks-at zero i = refl
+blanks-at (suc n) zero = refl
+blanks-at (suc n) (suc i) = blanks-at n i
 
-pub told-set : (labels : List (List ℕ)) (entries : List ℕ) (i e : ℕ) → i < length entries → AreTold labels entries → Tells labels e → AreTold labels (set entries i e)
+pub told-blank : (labels : List (List ℕ)) (n : ℕ) → AreTold labels (replicate n blank_entry)
+told-blank labels n = record { each = λ i. rw (blanks-at n i) (tells-none labels) }
+
+pub told-set : (labels : List (List ℕ)) (entries : List Entry) (i : ℕ) (e : Entry) → i < length entries → AreTold labels entries → Tells labels e → AreTold labels (set entries i e)
 told-set labels entries i e lt told tells = record {
   each = λ k. by_cases (k == i) _
       (λ t.
-      let at : k ≡ i = eq_is k i t in
-      let now : get_or (set entries i e) k 0 ≡ e = rw at (get_or-set_same entries i e 0 lt) in
+      let at : k ≡ i = eqb-true k i t in
+      let now : get_or (set entries i e) k blank_entry ≡ e = rw at (get_or-set_same entries i e blank_entry lt) in
       rw now tells)
       (λ f.
-      let apart : k ≢ i = λ bad. absurd (let no_ : true ≡ false = sym (eq_same i) ∙ ap (λ (j : ℕ). j == i) (sym bad) ∙ f in cc) in
-      let kept : get_or (set entries i e) k 0 ≡ get_or entries k 0 = rw get_or-set_other refl in
+      let apart : k ≢ i = λ bad. absurd (let no_ : true ≡ false = sym (eq-eqb i i refl) ∙ ap (λ (j : ℕ). j == i) (sym bad) ∙ f in cc) in
+      let kept : get_or (set entries i e) k blank_entry ≡ get_or entries k blank_entry = rw get_or-set_other refl in
       rw kept (told.each k));
 }
 
@@ -75,7 +85,7 @@ stands-more labels label more i stands =
     (λ t. rw t stands)
     (λ f. rw f (record { within = omega (arith, stands.within, length-append labels (more ∷ [])); is = get_or_append_left labels (more ∷ []) [] i stands.within ∙ stands.is }))
 
-pub told-more : (labels : List (List ℕ)) (entries : List ℕ) (more : List ℕ) → AreTold labels entries → AreTold (with_label labels more) entries
+pub told-more : (labels : List (List ℕ)) (entries : List Entry) (more : List ℕ) → AreTold labels entries → AreTold (with_label labels more) entries
 told-more labels entries more told = record { each = λ i label short is. stands-more labels label more _ (told.each i label short is) }
 
 -- the label at a place is one of the labels

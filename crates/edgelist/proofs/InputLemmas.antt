@@ -1,15 +1,13 @@
 -- What an edge list's network means.
-use Rattle.std.proofs.Common.{◌≡◌, ◌∙◌, ℕ, zero, suc, ◌+◌, ◌<◌, ◌≤◌, Bool, true, false, not, ◌||◌, ◌==◌, List, [], ◌∷◌, length, map, get_or, refl, ap, arith, sym, subst, inl, inr, tests}
+use Rattle.std.proofs.Common.{◌≡◌, ◌∙◌, ℕ, zero, suc, ◌+◌, ◌<◌, Bool, true, false, not, ◌||◌, ◌==◌, List, [], ◌∷◌, length, map, get_or, refl, ap, arith, sym, subst}
 use Rattle.std.specs.List.{list_any, filter, flat_map, range_with_len, position_or_len, AllByRecursion}
 use Rattle.std.specs.Str.{bytes_eq}
 use Rattle.std.specs.Cmp.Lexicographic.{same_text}
-use Rattle.std.proofs.lemmas.Bool.{cases_lt}
 use Rattle.std.proofs.lemmas.List.{length-map}
 use Rattle.std.proofs.lemmas.List.Folds.{list_any-append}
 use Rattle.std.proofs.lemmas.List.FromFn.{length-range_with_len, get_or-map-range_with_len}
 use Rattle.ball_model.specs.Graph.{Graph, IsGraph, is_edge}
 use Rattle.ball_model.specs.Input.{distinct, labels_of, leads, network_of}
-use Rattle.ball_model.proofs.PathLemmas.{same_true}
 use Rattle.edgelist.specs.Laws.{LabelsAreDistinct, LabelsAreInOrder, LabelsAreFields, EdgesAreNamed, EdgesStandOnce, DeclaringAddsNoEdge, label_at}
 use Rattle.edgelist.specs.Links.{AllAscend, graph_of}
 use Rattle.edgelist.proofs.BoolLemmas.{by_cases}
@@ -17,6 +15,7 @@ use Rattle.edgelist.proofs.LabelLemmas.{text_same, text-flip}
 use Rattle.edgelist.proofs.LinksLemmas.{any_edges, edges_by, graph_of-IsGraph}
 use Rattle.edgelist.proofs.NetworkLemmas.{apart-labels, apart-at}
 use Rattle.edgelist.proofs.PairLemmas.{filter-ascends}
+use Rattle.edgelist.proofs.RangeLemmas.{filter-has, filter-all}
 
 pub labels_are_distinct : LabelsAreDistinct
 labels_are_distinct records v w lo hi same = apart-at (labels_of records) v w (apart-labels records) lo hi same
@@ -124,46 +123,22 @@ unfolding AllAscend
 lists-ascend q n [] = tt
 lists-ascend q n (x ∷ xs) = (filter-ascends (q x) 0 n n (omega arith), lists-ascend q n xs)
 
--- and their graph
-lists-graph : (q : ℕ → ℕ → Bool) (n : ℕ) → graph_of (lists_by q n) ≡ record { vertices = n; edges = flat_map (λ x. map (λ y. (y, x)) (filter (q x) (range_with_len 0 n))) (range_with_len 0 n) }
+-- and their graph, in which every vertex is counted
+abbrev graph_by : (ℕ → ℕ → Bool) → ℕ → Graph
+graph_by q n = record { vertices = n; edges = flat_map (λ x. map (λ y. (y, x)) (filter (q x) (range_with_len 0 n))) (range_with_len 0 n); counted = range_with_len 0 n }
+
+lists-graph : (q : ℕ → ℕ → Bool) (n : ℕ) → graph_of (lists_by q n) [] ≡ graph_by q n
 lists-graph q n =
     let long : length (lists_by q n) ≡ n = simp (length-map, length-range_with_len) in
     let edges = edges_by (lists_by q n) (λ x. filter (q x) (range_with_len 0 n)) 0 (λ k lt. get_or-map-range_with_len (λ x. filter (q x) (range_with_len 0 n)) 0 n k (0 + k) [] (omega arith) refl) in
-    rw (edges, long) refl
+    rw (edges, long, filter-all 0 n) refl
 
-lists-IsGraph : (q : ℕ → ℕ → Bool) (n : ℕ) → IsGraph (record { vertices = n; edges = flat_map (λ x. map (λ y. (y, x)) (filter (q x) (range_with_len 0 n))) (range_with_len 0 n) })
+lists-IsGraph : (q : ℕ → ℕ → Bool) (n : ℕ) → IsGraph (graph_by q n)
 lists-IsGraph q n =
     let long : length (lists_by q n) ≡ n = simp (length-map, length-range_with_len) in
-    subst IsGraph (lists-graph q n) (graph_of-IsGraph (lists_by q n) (subst (λ (m : ℕ). AllAscend m (lists_by q n)) (sym long) (lists-ascend q n (range_with_len 0 n))))
+    subst IsGraph (lists-graph q n) (graph_of-IsGraph (lists_by q n) [] (subst (λ (m : ℕ). AllAscend m (lists_by q n)) (sym long) (lists-ascend q n (range_with_len 0 n))))
 
--- a filter of a range has what passes
-none-early : (q : ℕ → Bool) (a k y : ℕ) → y < a → list_any (λ p. p == y) (filter q (range_with_len a k)) ≡ false
-none-early q a zero y lt = refl
-none-early q a (suc k) y lt =
-    let off : (a == y) ≡ false = search (tests, arith) in
-    by_cases (q a) _
-    (λ t. rw (t, off) (none-early q (a + 1) k y (omega arith)))
-    (λ f. rw f (none-early q (a + 1) k y (omega arith)))
-
-filter-has : (q : ℕ → Bool) (a k y : ℕ) → a ≤ y → y < a + k → list_any (λ p. p == y) (filter q (range_with_len a k)) ≡ q y
-filter-has q a zero y low lt = absurd (omega arith)
-filter-has q a (suc k) y low lt =
-    elim (cases_lt a y) [
-      | inl less ↦
-          let off : (a == y) ≡ false = search (tests, arith) in
-          let rest = filter-has q (a + 1) k y (omega arith) (omega arith) in
-          by_cases (q a) _
-          (λ t. rw (t, off) rest)
-          (λ f. rw f rest)
-      | inr more ↦
-          let at : a ≡ y = omega arith in
-          let on : (y == y) ≡ true = same_true y in
-          by_cases (q a) _
-          (λ t. let pass : q y ≡ true = ap q (sym at) ∙ t in rw (t, pass) (subst (λ (b : ℕ). ((b == y) || list_any (λ p. p == y) (filter q (range_with_len (a + 1) k))) ≡ true) (sym at) (rw on refl)))
-          (λ f. let fail : q y ≡ false = ap q (sym at) ∙ f in rw (f, fail) (none-early q (a + 1) k y (omega arith)))
-    ]
-
-lists-edge : (q : ℕ → ℕ → Bool) (n y x : ℕ) → y < n → x < n → is_edge (record { vertices = n; edges = flat_map (λ x. map (λ y. (y, x)) (filter (q x) (range_with_len 0 n))) (range_with_len 0 n) }) y x ≡ q x y
+lists-edge : (q : ℕ → ℕ → Bool) (n y x : ℕ) → y < n → x < n → is_edge (graph_by q n) y x ≡ q x y
 lists-edge q n y x lo hi =
     let long : length (lists_by q n) ≡ n = simp (length-map, length-range_with_len) in
     let at : 0 + x ≡ x = omega arith in

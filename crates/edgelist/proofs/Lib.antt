@@ -5,7 +5,10 @@ pub mod LabelLemmas
 pub mod NetworkLemmas
 pub mod FaultLemmas
 pub mod LineLemmas
+pub mod RecordLemmas
 pub mod LoopLemmas
+pub mod FindLemmas
+pub mod CountLemmas
 pub mod LinksLemmas
 pub mod PairLemmas
 pub mod SortLemmas

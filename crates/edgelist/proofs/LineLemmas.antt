@@ -1,6 +1,6 @@
 -- What `csv` reads of an edge list's bytes is its records.
 use Rattle.std.proofs.Common.{◌≡◌, ◌∙◌, ℕ, List, [], ◌∷◌, ◌++◌, Bool, true, false, refl, sym, ap, append_assoc, inl, inr, map, Some, None, Option}
-use Rattle.std.specs.Prelude.{◌==◌, not, if◌then◌else◌}
+use Rattle.std.specs.Prelude.{◌==◌, if◌then◌else◌}
 use Rattle.std.proofs.lemmas.List.{append-nil}
 use Rattle.std.proofs.lemmas.Bool.{cases_Bool, eqb-true, false≢true}
 use Rattle.std.specs.List.{filter}
@@ -9,20 +9,8 @@ use Rattle.csv.specs.Reading.{Reached, records_next}
 use Rattle.csv.specs.declared.parser.Config.{Config}
 use Rattle.csv.specs.declared.parser.State.{State}
 use Rattle.csv.specs.declared.parser.State.TheVariants as st
-use Rattle.csv.specs.declared.parser.Terminator.TheVariants as term
-use Rattle.edgelist.specs.Reading.{is_blank}
+use Rattle.edgelist.specs.Records.{config, rows, is_blank, is_row, EndsAtBlank}
 use Rattle.ball_model.specs.Input.{HasLfs, StartsWithLf, fields, is_record, lines, records}
-
--- how the reader is set up
-abbrev pub config : ℕ → Config
-config d = record { delimiter = d; quote = 34; escape = None; double_quote = true; quoting = false; comment = Some 35; terminator = term.CRLF }
-
--- every record that the machine gives, from a state, some fields and the bytes of a field
-unfoldable pub rows : Config → State → List (List ℕ) → List ℕ → List ℕ → List (List (List ℕ))
-rows cfg s fs f [] = if ends_at_end s then (fs ++ (f ∷ [])) ∷ [] else []
-rows cfg s fs f (c ∷ rest) =
-    if is_end (step cfg s c).1 then fields_after (step cfg s c).1 fs f ∷ rows cfg (step cfg s c).0 [] [] rest
-    else rows cfg (step cfg s c).0 (fields_after (step cfg s c).1 fs f) (field_after (step cfg s c).1 c f) rest
 
 rows-end : (b : Bool) (x : List (List ℕ)) (more : State → List ℕ → List (List (List ℕ))) → more st.StartRecord [] ≡ []
     → (if b then x ∷ [] else []) ≡ records_next more (if b then Some (x, st.StartRecord, []) else None)
@@ -192,14 +180,6 @@ read-text d del (c ∷ rest) plain =
         | inr cr ↦ read-other d c rest lf cr ih
       ]
     ]
-
-abbrev pub is_row : List (List ℕ) → Bool
-is_row r = not (is_blank r)
-
--- a blank row comes last
-abbrev pub EndsAtBlank : List (List (List ℕ)) → Type 0
-EndsAtBlank [] = Unit {0}
-EndsAtBlank (r ∷ rs) = (is_blank r ≡ true → rs ≡ []) × EndsAtBlank rs
 
 fields-blank : (d c : ℕ) (l : List ℕ) → is_blank (fields d (c ∷ l)) ≡ false
 unfolding fields

@@ -5,20 +5,21 @@ use Rattle.std.proofs.lemmas.List.{length-map, length-append}
 use Rattle.std.proofs.lemmas.List.Sums.{sum_by-cons}
 use Rattle.std.proofs.lemmas.List.Folds.{list_any-append}
 use Rattle.std.proofs.lemmas.Bool.{cases_lt}
-use Rattle.ball_model.specs.Graph.{IsGraph, is_edge, preds_of, listed_edges}
+use Rattle.ball_model.specs.Graph.{IsGraph, is_edge, is_counted, preds_of, listed_edges, listed_counted}
 use Rattle.edgelist.specs.Links.{Ascends, AllAscend, edges_from, graph_of}
-use Rattle.edgelist.proofs.BoolLemmas.{and_true, and_false, or_false}
+use Rattle.std.proofs.Math.Bool.{and-true, and-false, or-false}
+use Rattle.edgelist.proofs.RangeLemmas.{filter-has, filter_range-same}
 
 -- the edges to one vertex
 any_here : (ps : List ℕ) (y x : ℕ) → list_any (λ (e : ℕ × ℕ). (e.0 == y) && (e.1 == x)) (map (λ p. (p, x)) ps) ≡ list_any (λ p. p == y) ps
 any_here [] y x = refl
 any_here (p ∷ ps) y x =
     let same : nat_eq x x ≡ true = search (tests, arith) in
-    rw (same, and_true (p == y), any_here ps y x) refl
+    rw (same, and-true (p == y), any_here ps y x) refl
 
 any_elsewhere : (ps : List ℕ) (y a x : ℕ) → nat_eq a x ≡ false → list_any (λ (e : ℕ × ℕ). (e.0 == y) && (e.1 == x)) (map (λ p. (p, a)) ps) ≡ false
 any_elsewhere [] y a x e = refl
-any_elsewhere (p ∷ ps) y a x e = rw (e, and_false (p == y), any_elsewhere ps y a x e) refl
+any_elsewhere (p ∷ ps) y a x e = rw (e, and-false (p == y), any_elsewhere ps y a x e) refl
 
 -- no edge leads below the first vertex
 any_before : (lists : List (List ℕ)) (a y x : ℕ) → x < a → list_any (λ (e : ℕ × ℕ). (e.0 == y) && (e.1 == x)) (edges_from a lists) ≡ false
@@ -35,7 +36,7 @@ any_edges [] a y i lt = absurd (omega arith)
 any_edges (ps ∷ rest) a y zero lt =
     let here : a + 0 ≡ a = omega arith in
     rw here (list_any-append (λ (e : ℕ × ℕ). (e.0 == y) && (e.1 == a)) (map (λ p. (p, a)) ps) (edges_from (a + 1) rest)
-    ∙ rw (any_here ps y a, any_before rest (a + 1) y a (omega arith)) (or_false (list_any (λ p. p == y) ps)))
+    ∙ rw (any_here ps y a, any_before rest (a + 1) y a (omega arith)) (or-false (list_any (λ p. p == y) ps)))
 any_edges (ps ∷ rest) a y (suc i) lt =
     let apart : nat_eq a (a + suc i) ≡ false = search (tests, arith) in
     let moved : a + suc i ≡ (a + 1) + i = omega arith in
@@ -83,9 +84,9 @@ all_ascend-at n (ps ∷ rest) zero asc lt = asc.0
 all_ascend-at n (ps ∷ rest) (suc i) asc lt = all_ascend-at n rest i asc.1 (omega arith)
 
 -- the predecessors of x are its list
-pub preds_of-graph : (lists : List (List ℕ)) (x : ℕ) → AllAscend (length lists) lists → x < length lists → preds_of (graph_of lists) x ≡ get_or lists x []
-preds_of-graph lists x asc lt =
-    filter-same (λ y. is_edge (graph_of lists) y x) (λ y. list_any (λ p. p == y) (get_or lists x [])) 0 (length lists) (λ y le. let at : 0 + x ≡ x = omega arith in subst (λ (k : ℕ). list_any (λ (e : ℕ × ℕ). (e.0 == y) && (e.1 == k)) (edges_from 0 lists) ≡ list_any (λ p. p == y) (get_or lists x [])) at (any_edges lists 0 y x lt))
+pub preds_of-graph : (lists : List (List ℕ)) (marks : List Bool) (x : ℕ) → AllAscend (length lists) lists → x < length lists → preds_of (graph_of lists marks) x ≡ get_or lists x []
+preds_of-graph lists marks x asc lt =
+    filter-same (λ y. is_edge (graph_of lists marks) y x) (λ y. list_any (λ p. p == y) (get_or lists x [])) 0 (length lists) (λ y le. let at : 0 + x ≡ x = omega arith in subst (λ (k : ℕ). list_any (λ (e : ℕ × ℕ). (e.0 == y) && (e.1 == k)) (edges_from 0 lists) ≡ list_any (λ p. p == y) (get_or lists x [])) at (any_edges lists 0 y x lt))
     ∙ kept 0 (length lists) (get_or lists x []) (let whole : length lists ≡ 0 + length lists = omega arith in subst (λ (m : ℕ). Ascends 0 m (get_or lists x [])) whole (all_ascend-at (length lists) lists x asc lt))
 
 -- each edge joins two vertices
@@ -111,11 +112,16 @@ edges_by (ps ∷ rest) f a h =
     rw (later, here) refl
 
 -- a graph of ascending lists is one
-pub graph_of-IsGraph : (lists : List (List ℕ)) → AllAscend (length lists) lists → IsGraph (graph_of lists)
-unfolding listed_edges
-graph_of-IsGraph lists asc = record {
+-- a vertex is counted by its mark
+pub counted-by-mark : (lists : List (List ℕ)) (marks : List Bool) (v : ℕ) → v < length lists → is_counted (graph_of lists marks) v ≡ get_or marks v true
+counted-by-mark lists marks v lt = filter-has (λ k. get_or marks k true) 0 (length lists) v (omega arith) (omega arith)
+
+pub graph_of-IsGraph : (lists : List (List ℕ)) (marks : List Bool) → AllAscend (length lists) lists → IsGraph (graph_of lists marks)
+unfolding listed_edges listed_counted
+graph_of-IsGraph lists marks asc = record {
   ends = ends_below lists 0 (length lists) asc (omega arith);
-  listed = edges_by lists (preds_of (graph_of lists)) 0 (λ k lt. let at : 0 + k ≡ k = omega arith in rw at (sym (preds_of-graph lists k asc lt)));
+  listed = edges_by lists (preds_of (graph_of lists marks)) 0 (λ k lt. let at : 0 + k ≡ k = omega arith in rw at (sym (preds_of-graph lists marks k asc lt)));
+  counted = filter_range-same _ _ 0 (length lists) (length lists) (omega arith) (λ k lt. sym (counted-by-mark lists marks k lt));
 }
 
 abbrev edges_here : ℕ → List ℕ → List (ℕ × ℕ)

@@ -11,6 +11,7 @@ use Rattle.edgelist.specs.Pairs.{AllBelow, graph_of_pairs}
 use Rattle.edgelist.specs.Reading.{with_label, pair_in, pairs_in, named, IsReadAs, AddsPair}
 use Rattle.edgelist.proofs.BoolLemmas.{by_cases}
 use Rattle.edgelist.proofs.LabelLemmas.{text_same}
+use Rattle.edgelist.proofs.RangeLemmas.{filter_range-same}
 
 -- a label that another one is not is found behind the filter or not, as before it
 any_kept : (x y : List ℕ) (ds : List (List ℕ)) → bytes_eq x y ≡ false → list_any (λ l. bytes_eq l y) (filter (λ z. not (bytes_eq x z)) ds) ≡ list_any (λ l. bytes_eq l y) ds
@@ -220,10 +221,6 @@ numbers_any : (labels : List (List ℕ)) (pairs : List (ℕ × ℕ)) (x y : ℕ)
 numbers_any labels [] x y h lo hi below = refl
 numbers_any labels (e ∷ es) x y h lo hi below =
     rw (label-eq labels e.0 x h below.0.0 lo, label-eq labels e.1 y h below.0.1 hi, numbers_any labels es x y h lo hi below.1) refl
-
-pub filter_range-same : (p q : ℕ → Bool) (a n bound : ℕ) → a + n ≤ bound → ((k : ℕ) → k < bound → p k ≡ q k) → filter p (range_with_len a n) ≡ filter q (range_with_len a n)
-filter_range-same p q a zero bound le h = refl
-filter_range-same p q a (suc n) bound le h = rw (h a (omega arith), filter_range-same p q (a + 1) n bound (omega arith) h) refl
 
 edges_range-same : (f h : ℕ → List (ℕ × ℕ)) (a n bound : ℕ) → a + n ≤ bound → ((k : ℕ) → k < bound → f k ≡ h k) → flat_map f (range_with_len a n) ≡ flat_map h (range_with_len a n)
 edges_range-same f h a zero bound le e = refl

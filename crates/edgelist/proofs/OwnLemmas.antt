@@ -3,13 +3,15 @@ use Rattle.std.proofs.Common.{◌≡◌, ◌∙◌, ℕ, suc, ◌+◌, ◌-◌, 
 use Rattle.std.specs.List.{filter, flat_map, range_with_len, All}
 use Rattle.std.proofs.lemmas.List.{append-nil, length-append, length-map, get_or-map}
 use Rattle.std.proofs.lemmas.List.Elements.{filter-append}
-use Rattle.ball_model.specs.Graph.{Graph, IsGraph, is_edge, preds_of, listed_edges}
+use Rattle.ball_model.specs.Graph.{Graph, IsGraph, is_edge, is_counted, preds_of, listed_edges}
 use Rattle.ball_model.specs.PlanValue.{PlanValue, IsPlan, vertices_of}
 use Rattle.ball_model.specs.Job.{feed_mask, IsPart}
+use Rattle.std.proofs.lemmas.Bool.{eqb-true}
+use Rattle.ball_model.proofs.PartLemmas.{range_more}
 use Rattle.edgelist.proofs.LinksLemmas.{ascends-below}
-use Rattle.edgelist.proofs.PairLemmas.{filter-ascends}
-use Rattle.edgelist.proofs.BoolLemmas.{by_cases, eq_is}
-use Rattle.edgelist.proofs.RangeLemmas.{range-next}
+use Rattle.gapcode.specs.Lists.{AscendsFrom}
+use Rattle.edgelist.proofs.PairLemmas.{filter-ascends, ascends-from}
+use Rattle.edgelist.proofs.BoolLemmas.{by_cases}
 use Rattle.edgelist.proofs.DigestLemmas.{edges_to}
 
 -- one number more is a vertex of the partition, or none
@@ -17,13 +19,13 @@ pub own-next : (n parts p : ℕ) → n % parts ≡ p → vertices_of (n + 1) par
 unfolding vertices_of
 own-next n parts p at =
     let on : (n % parts == p) ≡ true = search (tests, arith) in
-    ap (filter (λ v. v % parts == p)) (range-next n) ∙ filter-append (λ v. v % parts == p) (range_with_len 0 n) (n ∷ []) ∙ rw on refl
+    ap (filter (λ v. v % parts == p)) (range_more n) ∙ filter-append (λ v. v % parts == p) (range_with_len 0 n) (n ∷ []) ∙ rw on refl
 
 pub other-next : (n parts p : ℕ) → (n % parts ≡ p → ⊥) → vertices_of (n + 1) parts p ≡ vertices_of n parts p
 unfolding vertices_of
 other-next n parts p other =
-    let off : (n % parts == p) ≡ false = by_cases (n % parts == p) _ (λ t. absurd (other (eq_is (n % parts) p t))) (λ f. f) in
-    ap (filter (λ v. v % parts == p)) (range-next n) ∙ filter-append (λ v. v % parts == p) (range_with_len 0 n) (n ∷ []) ∙ rw off (append-nil (filter (λ v. v % parts == p) (range_with_len 0 n)))
+    let off : (n % parts == p) ≡ false = by_cases (n % parts == p) _ (λ t. absurd (other (eqb-true (n % parts) p t))) (λ f. f) in
+    ap (filter (λ v. v % parts == p)) (range_more n) ∙ filter-append (λ v. v % parts == p) (range_with_len 0 n) (n ∷ []) ∙ rw off (append-nil (filter (λ v. v % parts == p) (range_with_len 0 n)))
 
 -- the edges to the targets from x on
 pub left-next : (g : Graph) (n x : ℕ) → x < n → length (flat_map (edges_to g) (range_with_len x (n - x))) ≡ length (preds_of g x) + length (flat_map (edges_to g) (range_with_len (x + 1) (n - (x + 1))))
@@ -48,13 +50,18 @@ own-below g xs = λ k d lt.
     rw (get_or-map (λ x. preds_of g x) xs k 0 d within) (below-filter g.vertices (λ y. is_edge g y (get_or xs k 0)) 0 g.vertices (omega arith))
 
 -- the lists and masks of a partition of a job are within a part's limits
-pub part-is : (plan : PlanValue) (g : Graph) (p : ℕ) (lists : List (List ℕ)) (feeds : List ℕ) → IsPlan plan → p < plan.parts → plan.vertices ≡ g.vertices →
-    lists ≡ map (λ x. preds_of g x) (vertices_of g.vertices plan.parts p) → feeds ≡ map (λ x. feed_mask g plan.parts x) (vertices_of g.vertices plan.parts p) →
-    IsPart (record { plan = plan; number = p; preds = lists; feeds = feeds })
-part-is plan g p lists feeds ok lt count are masks = record {
+pub part-is : (plan : PlanValue) (g : Graph) (p : ℕ) (lists : List (List ℕ)) (feeds : List ℕ) (counted : List Bool) → IsPlan plan → p < plan.parts → plan.vertices ≡ g.vertices →
+    lists ≡ map (λ x. preds_of g x) (vertices_of g.vertices plan.parts p) → feeds ≡ map (λ x. feed_mask g plan.parts x) (vertices_of g.vertices plan.parts p) → counted ≡ map (λ x. is_counted g x) (vertices_of g.vertices plan.parts p) →
+    IsPart (record { plan = plan; number = p; preds = lists; feeds = feeds; counted = counted })
+part-is plan g p lists feeds counted ok lt count are masks marks = record {
   plan = ok;
   number = lt;
   preds = rw (are, count) (simp length-map);
   feeds = rw (masks, count) (simp length-map);
+  counted = rw (marks, count) (simp length-map);
   below = rw (are, count) (own-below g (vertices_of g.vertices plan.parts p));
 }
+
+-- the predecessors of a vertex ascend
+pub preds-from : (g : Graph) (x : ℕ) → AscendsFrom 0 (preds_of g x)
+preds-from g x = ascends-from 0 g.vertices (preds_of g x) (filter-ascends (λ y. is_edge g y x) 0 g.vertices g.vertices (omega arith))

@@ -1,13 +1,13 @@
 -- The plan that options give is of the graph.
-use Rattle.std.proofs.Common.{◌≡◌, ◌<◌, ◌≤◌, ◌^◌, ℕ, Bool, true, false, nat_lt, [], length, refl, arith, tests}
+use Rattle.std.proofs.Common.{◌≡◌, ◌<◌, ◌≤◌, ◌^◌, ℕ, Bool, true, false, nat_lt, length, refl, arith, tests}
 use Rattle.std.specs.Prelude.{Result, Ok, Err, IfOk, ◌||◌}
 use Rattle.sha2.proofs.Facts256.{length-sha256}
 use Rattle.ball_model.specs.Graph.{Graph, IsGraph}
 use Rattle.ball_model.specs.PlanValue.{PlanValue, IsPlan, plan_of}
 use Rattle.ball_model.specs.declared.plan.PlanError.{PlanError}
-use Rattle.ball_model.specs.Job.{IsJob, digest_of, digest_bytes}
-use Rattle.ball_model.specs.RunText.{plan_over}
-use Rattle.edgelist.specs.Planning.{options_of, settings}
+use Rattle.ball_model.specs.Job.{IsJob, digest_of, digest_bytes, job_bytes}
+use Rattle.ball_model.specs.RunText.{Numbers, plan_over}
+use Rattle.edgelist.specs.Planning.{undigested}
 use Rattle.edgelist.proofs.BoolLemmas.{by_cases}
 
 left-false : (a b : Bool) → (a || b) ≡ false → a ≡ false
@@ -53,9 +53,9 @@ plan_of-good p seed digest =
       refl,
     )))))
 
-job-of : (g : Graph) (log2m seed parts limit : ℕ) (q : PlanValue) → IsGraph g → IsGood (plan_over (settings log2m seed parts limit 0) g) q → IsJob (record { graph = g; plan = q })
-unfolding digest_of digest_bytes
-job-of g log2m seed parts limit q ok (plan, is) = record {
+job-of : (g : Graph) (n : Numbers) (q : PlanValue) → IsGraph g → IsGood (plan_over n g) q → IsJob (record { graph = g; plan = q })
+unfolding digest_of digest_bytes job_bytes
+job-of g n q ok (plan, is) = record {
   graph = ok;
   plan = plan;
   vertices = rw is refl;
@@ -67,8 +67,7 @@ unfolding digest_of
 length-digest p g = length-sha256 (digest_bytes p g)
 
 -- the plan of options is a job's
-pub plan-job : (o : Result PlanValue PlanError) (g : Graph) (log2m seed parts limit : ℕ) → IsGraph g → seed < 2 ^ 64 →
-    o ≡ plan_of (plan_over (settings log2m seed parts limit 0) g) → IfOk o (λ q. IsJob (record { graph = g; plan = q }))
-plan-job (Ok q) g log2m seed parts limit ok fits is =
-    job-of g log2m seed parts limit q ok (rw (← is) at (plan_of-good (plan_over (settings log2m seed parts limit 0) g) fits (length-digest (options_of log2m seed parts limit g []) g)))
-plan-job (Err e) g log2m seed parts limit ok fits is = tt
+pub plan-job : (o : Result PlanValue PlanError) (g : Graph) (n : Numbers) → IsGraph g → n.seed < 2 ^ 64 →
+    o ≡ plan_of (plan_over n g) → IfOk o (λ q. IsJob (record { graph = g; plan = q }))
+plan-job (Ok q) g n ok fits is = job-of g n q ok (rw (← is) at (plan_of-good (plan_over n g) fits (length-digest (undigested n g) g)))
+plan-job (Err e) g n ok fits is = tt

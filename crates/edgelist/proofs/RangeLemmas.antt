@@ -1,15 +1,43 @@
 -- Ranges of numbers.
-use Rattle.std.proofs.Common.{◌≡◌, ℕ, zero, suc, ◌+◌, List, [], ◌∷◌, ◌++◌, refl, ap, arith}
-use Rattle.std.specs.List.{range_with_len}
+use Rattle.std.proofs.Common.{◌≡◌, ◌∙◌, ℕ, zero, suc, ◌+◌, ◌<◌, ◌≤◌, Bool, true, false, ◌||◌, ◌==◌, List, ◌∷◌, refl, ap, arith, sym, subst, inl, inr, tests}
+use Rattle.std.specs.List.{list_any, filter, range_with_len}
+use Rattle.std.proofs.lemmas.Bool.{cases_lt}
+use Rattle.ball_model.proofs.PathLemmas.{same_true}
+use Rattle.edgelist.proofs.BoolLemmas.{by_cases}
 
--- one more number of a range
-pub range-more : (a n : ℕ) → range_with_len a (n + 1) ≡ range_with_len a n ++ (a + n) ∷ []
-range-more a zero = let e : a + 0 ≡ a = omega arith in rw e refl
-range-more a (suc n) =
-    let e : suc n + 1 ≡ suc (n + 1) = omega arith in
-    let moved : (a + 1) + n ≡ a + suc n = omega arith in
-    rw e (ap (λ (r : List ℕ). a ∷ r) (rw (← moved) (range-more (a + 1) n)))
+-- tests that agree below a bound keep the same of a range below it
+pub filter_range-same : (p q : ℕ → Bool) (a n bound : ℕ) → a + n ≤ bound → ((k : ℕ) → k < bound → p k ≡ q k) → filter p (range_with_len a n) ≡ filter q (range_with_len a n)
+filter_range-same p q a zero bound le h = refl
+filter_range-same p q a (suc n) bound le h = rw (h a (omega arith), filter_range-same p q (a + 1) n bound (omega arith) h) refl
 
--- one more number of a range from 0 on
-pub range-next : (n : ℕ) → range_with_len 0 (n + 1) ≡ range_with_len 0 n ++ n ∷ []
-range-next n = let zero_plus : 0 + n ≡ n = omega arith in rw zero_plus at (range-more 0 n)
+-- a filter of a range has what passes
+none-early : (q : ℕ → Bool) (a k y : ℕ) → y < a → list_any (λ p. p == y) (filter q (range_with_len a k)) ≡ false
+none-early q a zero y lt = refl
+none-early q a (suc k) y lt =
+    let off : (a == y) ≡ false = search (tests, arith) in
+    by_cases (q a) _
+    (λ t. rw (t, off) (none-early q (a + 1) k y (omega arith)))
+    (λ f. rw f (none-early q (a + 1) k y (omega arith)))
+
+pub filter-has : (q : ℕ → Bool) (a k y : ℕ) → a ≤ y → y < a + k → list_any (λ p. p == y) (filter q (range_with_len a k)) ≡ q y
+filter-has q a zero y low lt = absurd (omega arith)
+filter-has q a (suc k) y low lt =
+    elim (cases_lt a y) [
+      | inl less ↦
+          let off : (a == y) ≡ false = search (tests, arith) in
+          let rest = filter-has q (a + 1) k y (omega arith) (omega arith) in
+          by_cases (q a) _
+          (λ t. rw (t, off) rest)
+          (λ f. rw f rest)
+      | inr more ↦
+          let at : a ≡ y = omega arith in
+          let on : (y == y) ≡ true = same_true y in
+          by_cases (q a) _
+          (λ t. let pass : q y ≡ true = ap q (sym at) ∙ t in rw (t, pass) (subst (λ (b : ℕ). ((b == y) || list_any (λ p. p == y) (filter q (range_with_len (a + 1) k))) ≡ true) (sym at) (rw on refl)))
+          (λ f. let fail : q y ≡ false = ap q (sym at) ∙ f in rw (f, fail) (none-early q (a + 1) k y (omega arith)))
+    ]
+
+-- a test that all numbers pass keeps the range
+pub filter-all : (a n : ℕ) → filter (λ v. true) (range_with_len a n) ≡ range_with_len a n
+filter-all a zero = refl
+filter-all a (suc n) = ap (λ (r : List ℕ). a ∷ r) (filter-all (a + 1) n)

@@ -1,11 +1,7 @@
 -- Feed masks of the vertices of a partition, over some of the edges.
-use Rattle.std.specs.Prelude.{◌≡◌, ℕ, ◌+◌, ◌*◌, ◌%◌, ◌^◌, ◌<◌, Bool, List, ◌==◌, ◌&&◌, length, slice_index, if◌then◌else◌}
+use Rattle.std.specs.Prelude.{◌≡◌, ℕ, ◌+◌, ◌*◌, ◌%◌, ◌^◌, ◌<◌, List, ◌==◌, ◌&&◌, length, slice_index, if◌then◌else◌}
 use Rattle.std.specs.Int.{bit_at}
 use Rattle.std.specs.List.{list_any}
-
--- bit r of a mask is set
-abbrev pub has_bit : ℕ → ℕ → Bool
-has_bit mask r = bit_at mask r == 1
 
 -- bit r of mask i is set where one of these edges leads from vertex i of partition p into partition r
 pub record AreMasks (parts p : ℕ) (edges : List (ℕ × ℕ)) (masks : List ℕ) : Type 0 where

@@ -1,5 +1,6 @@
 -- Guesses at the numbers of short labels.
-use Rattle.std.specs.Prelude.{◌≡◌, ℕ, ◌+◌, ◌*◌, ◌/◌, ◌%◌, ◌^◌, ◌<◌, ◌≤◌, List, [], ◌∷◌, length, slice_index, slice_index_or}
+use Rattle.std.specs.Prelude.{◌≡◌, ℕ, ◌+◌, ◌*◌, ◌^◌, ◌<◌, ◌≤◌, List, [], ◌∷◌, length, slice_index, slice_index_or}
+use Rattle.edgelist.specs.declared.numbering.Entry.{Entry}
 
 -- more bytes behind those of a number, which are its digits to the base 256
 unfoldable pub bytes_after : ℕ → List ℕ → ℕ
@@ -20,10 +21,18 @@ pub record StandsAt (labels : List (List ℕ)) (label : List ℕ) (i : ℕ) : Ty
   pub within : i < length labels
   pub is : slice_index_or labels i [] ≡ label
 
--- an entry is a word above a number of 32 bits, which is the place of the short label with that word
-abbrev pub Tells : List (List ℕ) → ℕ → Type 0
-Tells labels entry = (label : List ℕ) → IsShort label → word_of label ≡ entry / 2 ^ 32 → StandsAt labels label (entry % 2 ^ 32)
+-- the word of an entry, from its two pieces
+abbrev pub told_word : Entry → ℕ
+told_word entry = entry.high * 2 ^ 64 + entry.low
+
+-- an entry of no label: no word is 0
+abbrev pub blank_entry : Entry
+blank_entry = record { low = 0; high = 0; number = 0 }
+
+-- the number of an entry is the place of the short label with its word
+abbrev pub Tells : List (List ℕ) → Entry → Type 0
+Tells labels entry = (label : List ℕ) → IsShort label → word_of label ≡ told_word entry → StandsAt labels label entry.number
 
 -- each entry tells the place of a label, or none
-pub record AreTold (labels : List (List ℕ)) (entries : List ℕ) : Type 0 where
-  pub each : (i : ℕ) → Tells labels (slice_index entries i)
+pub record AreTold (labels : List (List ℕ)) (entries : List Entry) : Type 0 where
+  pub each : (i : ℕ) → Tells labels (slice_index_or entries i blank_entry)

@@ -3,7 +3,10 @@ pub mod Links
 pub mod Pairs
 pub mod Labels
 pub mod Guessing
+pub mod Finding
+pub mod Records
 pub mod Reading
+pub mod Counting
 pub mod Planning
 pub mod Laws
 pub mod Feeding

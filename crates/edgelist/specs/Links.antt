@@ -1,5 +1,7 @@
 -- A graph kept as a list of predecessors for each vertex.
-use Rattle.std.specs.Prelude.{◌≡◌, ℕ, ◌+◌, ◌^◌, ◌<◌, ◌≤◌, List, [], ◌∷◌, ◌++◌, map, length}
+use Rattle.std.specs.Prelude.{◌≡◌, ℕ, ◌+◌, ◌^◌, ◌<◌, ◌≤◌, Bool, true, List, [], ◌∷◌, ◌++◌, map, length, slice_index_or}
+use Rattle.std.specs.List.{filter, range_with_len, IsDistinct}
+use Rattle.std.specs.Str.{bytes_eq}
 use Rattle.ball_model.specs.Graph.{Graph}
 
 -- ascending, from lo on and below n
@@ -16,11 +18,17 @@ unfoldable pub edges_from : ℕ → List (List ℕ) → List (ℕ × ℕ)
 edges_from x [] = []
 edges_from x (ps ∷ rest) = map (λ y. (y, x)) ps ++ edges_from (x + 1) rest
 
-abbrev pub graph_of : List (List ℕ) → Graph
-graph_of lists = record { vertices = length lists; edges = edges_from 0 lists }
+-- the vertices below n that are marked; a vertex that has no mark is counted
+abbrev pub marked : ℕ → List Bool → List ℕ
+marked n marks = filter (λ v. slice_index_or marks v true) (range_with_len 0 n)
 
--- a list of predecessors for each label
-pub record AreLinks (labels : List (List ℕ)) (lists : List (List ℕ)) : Type 0 where
+abbrev pub graph_of : List (List ℕ) → List Bool → Graph
+graph_of lists marks = record { vertices = length lists; edges = edges_from 0 lists; counted = marked (length lists) marks }
+
+-- a list of predecessors for each label, and the number of counted vertices
+pub record AreLinks (labels lists : List (List ℕ)) (marks : List Bool) (number : ℕ) : Type 0 where
   pub count : length lists ≡ length labels
   pub ascend : AllAscend (length lists) lists
   pub few : length labels ≤ 2 ^ 24
+  pub distinct : IsDistinct bytes_eq labels
+  pub counts : number ≡ length (marked (length lists) marks)

@@ -1,18 +1,37 @@
 -- The plan of a job.
-use Rattle.std.specs.Prelude.{ℕ, List, map}
+use Rattle.std.specs.Prelude.{ℕ, List, [], ◌++◌, map}
 use Rattle.std.specs.List.{flat_map}
+use Rattle.std.specs.Int.{w32, to_be_bytes}
+use Rattle.sha2.specs.Hashers.{Holds256}
+use Rattle.sha2.specs.declared.Sha256.{Sha256}
 use Rattle.ball_model.specs.Graph.{Graph}
 use Rattle.ball_model.specs.PlanValue.{PlanValue}
-use Rattle.ball_model.specs.Job.{edge_bytes}
-use Rattle.ball_model.specs.RunText.{Settings}
+use Rattle.ball_model.specs.Job.{edge_bytes, job_bytes, digest_of}
+use Rattle.ball_model.specs.RunText.{Numbers}
 
--- these options with the number of vertices of a graph, and this digest
-abbrev pub options_of : ℕ → ℕ → ℕ → ℕ → Graph → List ℕ → PlanValue
-options_of log2m seed parts limit g job = record { log2m = log2m; seed = seed; parts = parts; limit = limit; vertices = g.vertices; job = job }
+-- the four numbers that a plan is asked for by
+abbrev pub numbers_of : ℕ → ℕ → ℕ → ℕ → Numbers
+numbers_of log2m seed parts limit = record { log2m = log2m; seed = seed; parts = parts; limit = limit }
 
--- what a plan is asked for; the delimiter is the edge list's, and no plan depends on it
-abbrev pub settings : ℕ → ℕ → ℕ → ℕ → ℕ → Settings
-settings log2m seed parts limit delimiter = record { log2m = log2m; seed = seed; parts = parts; limit = limit; delimiter = delimiter }
+-- the plan of these numbers over a graph, but for its digest
+abbrev pub undigested : Numbers → Graph → PlanValue
+undigested n g = record { log2m = n.log2m; seed = n.seed; parts = n.parts; limit = n.limit; vertices = g.vertices; job = [] }
+
+-- what a digest of these four numbers over a graph has in both its forms
+abbrev pub numbered_bytes : ℕ → ℕ → ℕ → ℕ → Graph → List ℕ
+numbered_bytes log2m seed parts limit g = job_bytes (undigested (numbers_of log2m seed parts limit) g) g
+
+-- the digest of the job of these four numbers over a graph
+abbrev pub numbered_digest : ℕ → ℕ → ℕ → ℕ → Graph → List ℕ
+numbered_digest log2m seed parts limit g = digest_of (undigested (numbers_of log2m seed parts limit) g) g
+
+-- the hasher was given these bytes more
+abbrev pub Hashes : Sha256 → Sha256 → List ℕ → Type 0
+Hashes old new bytes = (m : List ℕ) → Holds256 old m → Holds256 new (m ++ bytes)
+
+-- a vertex as bytes
+abbrev pub vertex_bytes : ℕ → List ℕ
+vertex_bytes v = to_be_bytes w32 v
 
 -- the edges from some sources to a target, as bytes
 abbrev pub row_bytes : List ℕ → ℕ → List ℕ

@@ -1,9 +1,9 @@
 -- What is made of the records that were read so far.
-use Rattle.std.specs.Prelude.{◌≡◌, ⊤, ℕ, ◌+◌, ◌<◌, ◌≤◌, Bool, true, false, List, [], ◌∷◌, ◌++◌, map, length, slice_index_or, if◌then◌else◌, Option, None, Some, Result, Err}
+use Rattle.std.specs.Prelude.{◌≡◌, ⊤, ℕ, ◌+◌, ◌-◌, ◌^◌, ◌<◌, ◌≤◌, Bool, true, false, List, [], ◌∷◌, ◌++◌, map, length, slice_index_or, if◌then◌else◌, Option, None, Some, Result, Ok, Err}
 use Rattle.std.specs.List.{list_any}
 use Rattle.std.specs.Str.{bytes_eq}
-use Rattle.ball_model.specs.Input.{Network, Limits, Refusal, TooManyEdges, Fields, TooManyVertices, fault_at, labels_of}
-use Rattle.edgelist.specs.Pairs.{AllBelow}
+use Rattle.ball_model.specs.Input.{Network, Limits, Refusal, TooManyEdges, Fields, TooManyVertices, fault_at, labels_of, records, read_as, input_of}
+use Rattle.edgelist.specs.Pairs.{AllBelow, graph_of_pairs}
 use Rattle.edgelist.specs.declared.read.EdgeError.{EdgeError}
 use Rattle.edgelist.specs.declared.read.EdgeError.TheVariants as refused
 use Rattle.edgelist.specs.declared.read.EdgeLimits.{EdgeLimits}
@@ -19,6 +19,18 @@ byte_of delimiter.Space = 32
 abbrev pub limits_of : EdgeLimits → Limits
 limits_of limits = record { vertices = limits.vertices; edges = limits.edges }
 
+-- what a text says under these limits
+abbrev pub said_within : EdgeLimits → Delimiter → List ℕ → Result Network Refusal
+said_within limits delimiter text = read_as (limits_of limits) (records (byte_of delimiter) text)
+
+-- what a text says under the limits in force
+abbrev pub said : EdgeLimits → Delimiter → List ℕ → Result Network Refusal
+said limits delimiter text = input_of (byte_of delimiter) (limits_of limits) text
+
+-- a count of failed calls rose from a number below the greatest that can be told
+abbrev pub CountsOne : ℕ → ℕ → Type 0
+CountsOne old new = (old < 2 ^ 64 - 1) × (old < new)
+
 -- the error is what an edge list says; a failed read and want of memory say nothing of it
 abbrev pub Refuses : Result Network Refusal → EdgeError → Type 0
 Refuses says refused.Read = ⊤
@@ -27,6 +39,11 @@ Refuses says (refused.Fields number) = says ≡ Err (Fields number)
 Refuses says refused.TooManyVertices = says ≡ Err TooManyVertices
 Refuses says refused.Memory = ⊤
 
+-- what an error of `csv` is told as: one of the reader underneath as a failed read, all others as want of memory
+abbrev pub told_as : Bool → EdgeError
+told_as true = refused.Read
+told_as false = refused.Memory
+
 -- the same of one record
 abbrev pub FaultIs : Option Refusal → EdgeError → Type 0
 FaultIs fault refused.Read = ⊥
@@ -34,13 +51,6 @@ FaultIs fault refused.TooManyEdges = fault ≡ Some TooManyEdges
 FaultIs fault (refused.Fields number) = fault ≡ Some (Fields number)
 FaultIs fault refused.TooManyVertices = fault ≡ Some TooManyVertices
 FaultIs fault refused.Memory = ⊤
-
--- a row of one empty field: no line that is a record has these fields
-abbrev pub is_blank : List (List ℕ) → Bool
-is_blank [] = false
-is_blank ([] ∷ []) = true
-is_blank ([] ∷ (f ∷ fs)) = false
-is_blank ((c ∷ f) ∷ fs) = false
 
 -- the labels with this one
 abbrev pub with_label : List (List ℕ) → List ℕ → List (List ℕ)
@@ -90,6 +100,14 @@ Exceeds vertices labels refused.TooManyEdges = ⊥
 Exceeds vertices labels (refused.Fields number) = ⊥
 Exceeds vertices labels refused.TooManyVertices = vertices < length labels
 Exceeds vertices labels refused.Memory = ⊤
+
+-- the network of these labels and pairs, in which every vertex is counted
+abbrev pub network_by : List (List ℕ) → List (ℕ × ℕ) → Network
+network_by labels pairs = record { graph = graph_of_pairs (length labels) pairs; labels = labels }
+
+-- these records say the network of these labels and pairs
+abbrev pub IsReadBy : EdgeLimits → List (List (List ℕ)) → List (List ℕ) → List (ℕ × ℕ) → Type 0
+IsReadBy limits rs labels pairs = read_as (limits_of limits) rs ≡ Ok (network_by labels pairs)
 
 -- no check fails at any of these records
 pub record IsClean (limits : Limits) (records : List (List (List ℕ))) : Type 0 where

@@ -1,29 +1,39 @@
 //! Graphs whose vertices have labels.
 
-ghost use Rattle.std.specs.Prelude.{◌≡◌, ◌^◌, ◌<◌, ◌≤◌, length, slice_index_or, IfOk, [], ℕ};
-ghost use Rattle.std.specs.List.{All};
-ghost use Rattle.ball_model.specs.Graph.{IsGraph, preds_of};
+ghost use Rattle.std.specs.Prelude.{◌≡◌, ◌^◌, ◌<◌, ◌≤◌, length, slice_index_or, IfOk, IfErr, OnOk, OnErr, Ok, [], ℕ};
+ghost use Rattle.std.specs.List.{All, IsDistinct};
+ghost use Rattle.std.specs.Str.{bytes_eq};
+ghost use Rattle.ball_model.specs.Graph.{IsGraph, is_counted, preds_of};
 ghost use Rattle.ball_model.specs.Job.{Job, IsJob};
 ghost use Rattle.ball_model.specs.PlanValue.{plan_of};
 ghost use Rattle.ball_model.specs.RunText.{plan_over};
-ghost use Rattle.edgelist.specs.Planning.{settings};
+ghost use Rattle.ball_model.specs.Counting.{counted_of};
+ghost use Rattle.ball_model.specs.Input.{IsPlain};
+ghost use Rattle.edgelist.specs.Counting.{RefusesList};
+ghost use Rattle.edgelist.specs.Reading.{byte_of};
+ghost use Rattle.edgelist.specs.Planning.{numbers_of};
 ghost use Rattle.edgelist.specs.Pairs.{graph_of_pairs, AllBelow};
 
 use crate::build::lists_of;
+use crate::counting::{CountedError, count_marks, is_marked, marks_of};
 use crate::digest::digest;
 use crate::labels::Labels;
 use crate::lists::{Lists, Preds};
+use crate::read::Delimiter;
 use ball_model::{Plan, PlanError};
 use std::alloc::{AllocError, Global};
 use std::marker::Model;
 
-/// A graph: for each vertex its predecessors, ascending, and its label.
+/// A graph: for each vertex its predecessors, ascending, its label, and whether it is counted.
 ///
-/// It takes 4 bytes an edge, and for each vertex 12 bytes and its label.
+/// It takes a gap code for each edge, which is one or two bytes where the predecessors of a vertex are near one another,
+/// and for each vertex 12 bytes and its label; and a byte more once only some vertices are counted.
 #[derive(Drop)]
 pub struct Graph {
     lists: Lists,
     labels: Labels,
+    marks: Vec<bool>,
+    number: u32,
 }
 
 impl Model for Graph {
@@ -32,26 +42,33 @@ impl Model for Graph {
 
     ghost Value = { Network };
 
-    ghost view = { λ g. record { graph = graph_of g.lists; labels = g.labels } };
+    ghost view = { λ g. record { graph = graph_of g.lists g.marks.items; labels = g.labels } };
 
-    ghost invariant = { λ g. AreLinks g.labels g.lists };
+    ghost invariant = { λ g. AreLinks g.labels g.lists g.marks.items g.number };
 }
 
 impl Graph {
-    /// The graph of pairs of a target and a source, with these labels.
+    /// The graph of pairs of a target and a source, with these labels. Every vertex is counted.
     pub(crate) fn of_pairs(
         alloc: Global,
         labels: Labels,
         pairs: Vec<(u32, u32)>,
     ) -> Result<Graph, AllocError>
         requires below { AllBelow (length labels) pairs.items }
+        requires distinct { IsDistinct bytes_eq labels }
         requires few_labels { length labels ≤ 2 ^ 24 }
         requires few_pairs { length pairs.items < 2 ^ 32 }
         ensures graph { IfOk result (λ g. g.graph ≡ graph_of_pairs (length labels) pairs.items) }
         ensures labels { IfOk result (λ g. g.labels ≡ labels) }
     {
-        let lists = lists_of(alloc, pairs, labels.len() as u32)?;
-        Ok(Graph { lists, labels })
+        let number = labels.len() as u32;
+        let lists = lists_of(alloc, pairs, number)?;
+        Ok(Graph {
+            lists,
+            labels,
+            marks: Vec::new(alloc),
+            number,
+        })
     }
 
     /// The number of vertices.
@@ -89,10 +106,54 @@ impl Graph {
         self.lists.list(v as usize)
     }
 
+    /// Whether balls count this vertex. All vertices of an edge list are counted until a list names some.
+    pub fn counted(&self, v: u32) -> bool
+        requires { v < self.now.graph.vertices }
+        ensures { result ≡ is_counted self.now.graph v }
+    {
+        is_marked(&self.marks, v as usize)
+    }
+
+    /// Counts only the vertices whose labels a list names, in place of those that were counted before.
+    ///
+    /// The list is read as an edge list is: its lines, comments and the numbers of its records are the same. Each
+    /// record is one identifier, and one that is named twice counts once. An error leaves the graph as it was. It is
+    /// that of the first record where a check fails: `Fields` where the record is not one field, or an empty one, and
+    /// `Unknown` where it names no vertex.
+    ///
+    /// Plans that were made before are of another job. It takes 5 bytes a vertex, of which one stays, and time in
+    /// proportion to n log n of the n vertices, for sorting their numbers by label, and to the list.
+    pub fn count_only(
+        &mut self,
+        alloc: Global,
+        delimiter: Delimiter,
+        list: &[u8],
+    ) -> Result<(), CountedError>
+        ensures ok { IsPlain list.now → OnOk result (counted_of (byte_of delimiter) self.old list.now ≡ Ok self.new) }
+        ensures refused { IsPlain list.now → IfErr result (RefusesList (counted_of (byte_of delimiter) self.old list.now)) }
+        ensures labels { self.new.labels ≡ self.old.labels }
+        ensures kept { OnErr result (self.new ≡ self.old) }
+    {
+        let marks = match marks_of(alloc, &self.labels, delimiter, list) {
+            Ok(marks) => marks,
+            Err(e) => return Err(e),
+        };
+        self.number = count_marks(&marks);
+        self.marks = marks;
+        Ok(())
+    }
+
+    /// The number of counted vertices.
+    pub fn counted_count(&self) -> u32
+        ensures { result ≡ length self.now.graph.counted }
+    {
+        self.number
+    }
+
     /// The plan of a job over this graph, with its job digest, or the first fault of these options. It takes no
     /// memory, and time in proportion to the edges.
     pub fn plan(&self, log2m: u8, seed: u64, parts: u16, limit: u32) -> Result<Plan, PlanError>
-        ensures value { (delimiter : ℕ) → result ≡ plan_of (plan_over (settings log2m seed parts limit delimiter) self.now.graph) }
+        ensures value { result ≡ plan_of (plan_over (numbers_of log2m seed parts limit) self.now.graph) }
         ensures job { IfOk result (λ plan. IsJob (record { graph = self.now.graph; plan = plan })) }
     {
         let job = digest(self, log2m, seed, parts, limit);

@@ -58,6 +58,17 @@ impl Labels {
         self.starts.len() - 1
     }
 
+    /// Label i, or an empty one where there is none.
+    pub fn text(&self, i: u32) -> &[u8]
+        ensures { result.now ≡ slice_index_or self.now i [] }
+    {
+        if (i as usize) < self.len() {
+            self.label(i as usize)
+        } else {
+            &[]
+        }
+    }
+
     /// Label i.
     pub fn label(&self, i: usize) -> &[u8]
         requires { i < length self.now }

@@ -1,16 +1,33 @@
 //! Edge lists, the graphs that they say, and the parts of a graph that partitions work on.
+//!
+//! [`read_edges`] reads a [`Graph`]: labelled vertices with their predecessors. [`Graph::count_only`] says which of
+//! them balls count, [`Graph::plan`] gives the plan of a job over it, and [`Graph::part`] the [`Part`] of one
+//! partition.
+//!
+//! ```text
+//! let mut reader = CountingReader::new(stdin);
+//! let limits = EdgeLimits { vertices: u32::MAX, edges: u64::MAX };
+//! let mut graph = read_edges(alloc, state, &mut reader, Delimiter::Tab, limits)?;
+//! graph.count_only(alloc, Delimiter::Tab, b"alice\nbob\n")?;
+//! let plan = graph.plan(8, 0, 1, 4096)?;
+//! let part = graph.part(alloc, &plan, 0)?;
+//! ```
 #![tactic(auto)]
 
-pub mod build;
+mod build;
+mod counting;
 mod digest;
-pub mod graph;
-pub mod labels;
+mod graph;
+mod index;
+mod labels;
 pub mod laws;
-pub mod lists;
+mod lists;
 mod numbering;
-pub mod part;
-pub mod read;
+mod part;
+mod read;
+mod records;
 
+pub use counting::CountedError;
 pub use graph::Graph;
 pub use lists::Preds;
 pub use part::Part;

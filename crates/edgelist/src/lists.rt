@@ -1,16 +1,16 @@
-//! Lists of numbers in one piece of memory.
+//! Lists of predecessors as gap codes.
 
-ghost use Rattle.std.specs.Prelude.{◌≡◌, ◌+◌, ◌^◌, ◌<◌, length, slice_index_or, [], ◌∷◌};
+ghost use Rattle.std.specs.Prelude.{◌≡◌, ◌^◌, ◌<◌, length, slice_index_or, []};
 ghost use Rattle.std.specs.List.{sum_by};
 ghost use Rattle.std.specs.Iterator.{YieldsFirst, item_count};
-ghost use Rattle.edgelist.specs.Lists.{cut, AreStarts};
 
+use gapcode::Elements;
 use std::marker::Model;
 
 /// The predecessors of a vertex: ascending, each once. It takes no memory.
 #[derive(Drop)]
 pub struct Preds<'a> {
-    rest: &'a [u32],
+    elements: Elements<'a>,
 }
 
 impl<'a> Model for Preds<'a> {
@@ -18,7 +18,16 @@ impl<'a> Model for Preds<'a> {
 
     ghost Value = { List ℕ };
 
-    ghost view = { λ preds. preds.rest.now };
+    ghost view = { λ preds. preds.elements };
+}
+
+impl<'a> Preds<'a> {
+    // The predecessors that a list of codes has.
+    pub(crate) fn of(elements: Elements<'a>) -> Preds<'a>
+        ensures { result ≡ elements.entry }
+    {
+        Preds { elements }
+    }
 }
 
 impl<'a> Iterator for Preds<'a> {
@@ -29,37 +38,36 @@ impl<'a> Iterator for Preds<'a> {
     ghost remaining = { item_count (λ preds. preds) };
 
     fn next(&mut self) -> Option<u32> {
-        let (first, rest) = self.rest.split_first()?;
-        self.rest = rest;
-        Some(*first)
+        self.elements.next()
     }
 }
 
-/// Lists of numbers, one behind another, and the place where each begins.
+/// Lists of predecessors, and how many these are together.
 #[derive(Drop)]
 pub struct Lists {
-    items: Vec<u32>,
-    starts: Vec<u32>,
+    codes: gapcode::Lists,
+    total: usize,
 }
 
 impl Model for Lists {
-    ghost use Rattle.std.specs.Prelude.{List, ℕ, length};
-    ghost use Rattle.edgelist.specs.Lists.{cut, AreStarts};
+    ghost use Rattle.std.specs.Prelude.{◌≡◌, ◌^◌, ◌<◌, List, ℕ, length};
+    ghost use Rattle.std.specs.List.{sum_by};
 
     ghost Value = { List (List ℕ) };
 
-    ghost view = { λ lists. cut lists.items.items lists.starts.items };
+    ghost view = { λ lists. lists.codes };
 
-    ghost invariant = { λ lists. AreStarts (length lists.items.items) lists.starts.items };
+    ghost invariant = { λ lists. (lists.total ≡ sum_by length lists.codes) × (lists.total < 2 ^ 32) };
 }
 
 impl Lists {
-    /// The lists between neighbouring starts.
-    pub fn of(items: Vec<u32>, starts: Vec<u32>) -> Lists
-        requires { AreStarts (length items.items) starts.items }
-        ensures { result ≡ cut items.items starts.items }
+    /// These lists, which have so many elements together.
+    pub fn of(codes: gapcode::Lists, total: usize) -> Lists
+        requires total { total ≡ sum_by length codes }
+        requires few { total < 2 ^ 32 }
+        ensures { result ≡ codes }
     {
-        Lists { items, starts }
+        Lists { codes, total }
     }
 
     /// The number of lists.
@@ -67,14 +75,16 @@ impl Lists {
         ensures count { result ≡ length self.now }
         ensures few { sum_by length self.now < 2 ^ 32 }
     {
-        self.starts.len() - 1
+        let _total = self.total;
+        self.codes.len()
     }
 
     /// The number of elements of all lists.
     pub fn total(&self) -> usize
-        ensures { result ≡ sum_by length self.now }
+        ensures value { result ≡ sum_by length self.now }
+        ensures few { result < 2 ^ 32 }
     {
-        self.items.len()
+        self.total
     }
 
     /// List i.
@@ -82,19 +92,6 @@ impl Lists {
         requires { i < length self.now }
         ensures { result ≡ slice_index_or self.now i [] }
     {
-        Preds {
-            rest: list_at(&self.items, &self.starts, i),
-        }
+        Preds::of(self.codes.list(i))
     }
-}
-
-// List i: the items from its start up to the next.
-fn list_at<'a>(items: &'a [u32], starts: &[u32], i: usize) -> &'a [u32]
-    requires starts { AreStarts (length items.now) starts.now }
-    requires below { i + 1 < length starts.now }
-    ensures { result.now ≡ slice_index_or (cut items.now starts.now) i [] }
-{
-    let start = starts[i] as usize;
-    let end = starts[i + 1] as usize;
-    &items[start..end]
 }

@@ -1,7 +1,9 @@
 //! Labels that are numbered by first appearance.
 
 ghost use Rattle.std.specs.Prelude.{◌≡◌, ◌+◌, ◌*◌, ◌^◌, ◌<◌, ◌≤◌, ℕ, List, length, map, replicate, slice_index_or, [], IfOk, IfSome, OnOk, OnErr};
-ghost use Rattle.edgelist.specs.Guessing.{AreTold, IsShort, StandsAt, bytes_after, word_of};
+ghost use Rattle.std.specs.List.{IsDistinct};
+ghost use Rattle.std.specs.Str.{bytes_eq};
+ghost use Rattle.edgelist.specs.Guessing.{AreTold, IsShort, StandsAt, blank_entry, bytes_after, told_word, word_of};
 ghost use Rattle.edgelist.specs.Labels.{texts};
 ghost use Rattle.edgelist.specs.Reading.{with_label};
 
@@ -14,11 +16,26 @@ use std::marker::Model;
 // The most bytes of a label that is guessed at.
 const SHORT: usize = 11;
 
-// How many numbers an entry can hold below its word.
-const NUMBERS: u128 = 4_294_967_296;
+// 2^64: a word is kept in two pieces, so that an entry takes 16 bytes.
+const PIECE: u128 = 18_446_744_073_709_551_616;
 
 // The number of entries at first, of 16 bytes each.
 const FIRST_ENTRIES: usize = 65_536;
+
+// A short label's word, which has its bytes and its length, and the label's number.
+#[derive(Clone, Copy)]
+struct Entry {
+    low: u64,
+    high: u32,
+    number: u32,
+}
+
+// An entry of no label: no word is 0.
+const BLANK: Entry = Entry {
+    low: 0,
+    high: 0,
+    number: 0,
+};
 
 /// Labels, numbered from 0 by first appearance.
 ///
@@ -28,11 +45,13 @@ const FIRST_ENTRIES: usize = 65_536;
 #[derive(Drop)]
 pub(crate) struct Numbering {
     labels: IndexSet<Vec<u8>, RandomState>,
-    entries: Vec<u128>,
+    entries: Vec<Entry>,
 }
 
 impl Model for Numbering {
     ghost use Rattle.std.specs.Prelude.{List, ℕ};
+    ghost use Rattle.std.specs.List.{IsDistinct};
+    ghost use Rattle.std.specs.Str.{bytes_eq};
     ghost use Rattle.edgelist.specs.Guessing.{AreTold};
     ghost use Rattle.edgelist.specs.Labels.{texts};
 
@@ -65,10 +84,18 @@ fn word(label: &[u8]) -> u128
     digits(label) * 256 + label.len() as u128 + 1
 }
 
+impl Entry {
+    fn word(self) -> u128
+        ensures { result ≡ told_word self }
+    {
+        u128::from(self.high) * PIECE + u128::from(self.low)
+    }
+}
+
 // The place of a word's entry among 2^k entries: any place will do, and this one spreads them.
 fn place(word: u128, count: usize) -> usize {
-    let low = (word % 18_446_744_073_709_551_616) as u64;
-    let high = (word / 18_446_744_073_709_551_616) as u64;
+    let low = (word % PIECE) as u64;
+    let high = (word / PIECE % PIECE) as u64;
     let mixed = (low ^ high.wrapping_mul(0xd6e8_feb8_6659_fd93)).wrapping_mul(
         0x9e37_79b9_7f4a_7c15,
     );
@@ -76,18 +103,20 @@ fn place(word: u128, count: usize) -> usize {
 }
 
 // The number of the short label with this word, where the entry at its place is that label's.
-fn guess(entries: &[u128], word: u128) -> Option<usize>
+fn guess(entries: &[Entry], word: u128) -> Option<usize>
     ensures { (labels : List (List ℕ)) (label : List ℕ) → AreTold labels entries.now → IsShort label → word ≡ word_of label → IfSome result (StandsAt labels label) }
 {
-    let entry = *entries.get(place(word, entries.len()))?;
-    if entry / NUMBERS != word {
+    let Some(entry) = entries.get(place(word, entries.len())) else {
+        return None;
+    };
+    if entry.word() != word {
         return None;
     }
-    Some((entry % NUMBERS) as usize)
+    Some(entry.number as usize)
 }
 
 // Puts a label's word and number into the entry at its place.
-fn remember(entries: &mut [u128], word: u128, number: usize)
+fn remember(entries: &mut [Entry], word: u128, number: usize)
     requires { word < 2 ^ 96 }
     ensures { (labels : List (List ℕ)) (label : List ℕ) → AreTold labels entries.old → IsShort label → word ≡ word_of label → StandsAt labels label number → AreTold labels entries.new }
 {
@@ -96,15 +125,19 @@ fn remember(entries: &mut [u128], word: u128, number: usize)
         return;
     };
     if place < entries.len() {
-        entries[place] = word * NUMBERS + u128::from(number);
+        entries[place] = Entry {
+            low: (word % PIECE) as u64,
+            high: (word / PIECE) as u32,
+            number,
+        };
     }
 }
 
 // Entries that hold no label.
-fn blank(alloc: Global, count: usize) -> Result<Vec<u128>, AllocError>
-    ensures { IfOk result (λ entries. entries.items ≡ replicate count 0) }
+fn blank(alloc: Global, count: usize) -> Result<Vec<Entry>, AllocError>
+    ensures { IfOk result (λ entries. entries.items ≡ replicate count blank_entry) }
 {
-    vec![in alloc; 0u128; count]
+    vec![in alloc; BLANK; count]
 }
 
 // The number of a label in the set, which takes the next one where it is new.
@@ -174,8 +207,10 @@ impl Numbering {
 
     /// The labels in one piece of memory.
     pub(crate) fn into_labels(self, alloc: Global) -> Result<Labels, AllocError>
-        ensures { IfOk result (λ labels. labels ≡ self) }
+        ensures labels { IfOk result (λ labels. labels ≡ self) }
+        ensures distinct { IfOk result (λ labels. IsDistinct bytes_eq labels) }
     {
-        Labels::of(alloc, self.labels.as_slice())
+        let labels = Labels::of(alloc, self.labels.as_slice())?;
+        Ok(labels)
     }
 }

@@ -1,27 +1,29 @@
 //! What a partition is told of its graph.
 
-ghost use Rattle.std.specs.Prelude.{◌≡◌, ◌+◌, ◌*◌, ◌^◌, ◌%◌, ◌<◌, ◌≤◌, ◌++◌, ◌∷◌, [], ℕ, List, length, map, slice_index, slice_index_or, replicate, IfOk, OnOk};
-ghost use Rattle.std.specs.List.{All};
-ghost use Rattle.ball_model.specs.Graph.{preds_of};
+ghost use Rattle.std.specs.Prelude.{◌≡◌, ◌+◌, ◌*◌, ◌^◌, ◌%◌, ◌<◌, ◌≤◌, ◌++◌, ◌∷◌, [], ℕ, List, false, length, map, slice_index, slice_index_or, replicate, IfOk, OnOk};
+ghost use Rattle.std.specs.List.{All, sum_by};
+ghost use Rattle.ball_model.specs.Graph.{preds_of, is_counted};
 ghost use Rattle.ball_model.specs.PlanValue.{vertices_of, part_size};
 ghost use Rattle.ball_model.specs.Job.{Job, IsPart, digest_of, feed_mask, feeds_into, part_of};
-ghost use Rattle.edgelist.specs.Lists.{cut, AreStarts};
-ghost use Rattle.edgelist.specs.Feeding.{AreMasks, has_bit};
+ghost use Rattle.ball_model.specs.Masks.{has_bit};
+ghost use Rattle.edgelist.specs.Feeding.{AreMasks};
 
 use crate::graph::Graph;
 use crate::lists::{Lists, Preds};
 use ball_model::Plan;
+use gapcode::ListsBuilder;
 use std::alloc::{AllocError, Global};
 use std::marker::Model;
 
-/// What a partition is told of its graph: the predecessors of each of its vertices, and into which partitions the
-/// vertex has edges. It has no other partition's lists.
+/// What a partition is told of its graph: the predecessors of each of its vertices, into which partitions the vertex
+/// has edges, and whether it is counted. It has no other partition's lists.
 #[derive(Drop)]
 pub struct Part {
     plan: Plan,
     number: u16,
     lists: Lists,
     feeds: Vec<u64>,
+    counted: Vec<bool>,
 }
 
 impl Model for Part {
@@ -29,9 +31,9 @@ impl Model for Part {
 
     ghost Value = { PartValue };
 
-    ghost view = { λ p. record { plan = p.plan; number = p.number; preds = p.lists; feeds = p.feeds.items } };
+    ghost view = { λ p. record { plan = p.plan; number = p.number; preds = p.lists; feeds = p.feeds.items; counted = p.counted.items } };
 
-    ghost invariant = { λ p. IsPart (record { plan = p.plan; number = p.number; preds = p.lists; feeds = p.feeds.items }) };
+    ghost invariant = { λ p. IsPart (record { plan = p.plan; number = p.number; preds = p.lists; feeds = p.feeds.items; counted = p.counted.items }) };
 }
 
 impl Part {
@@ -55,6 +57,7 @@ impl Part {
         ensures value { result ≡ part_size self.now.plan.vertices self.now.plan.parts self.now.number }
         ensures lists { result ≡ length self.now.preds }
         ensures masks { result ≡ length self.now.feeds }
+        ensures counted { result ≡ length self.now.counted }
     {
         self.plan.part_size(self.number)
     }
@@ -77,6 +80,14 @@ impl Part {
         self.lists.list(i as usize)
     }
 
+    /// The number of edges to its vertices.
+    pub fn edges(&self) -> usize
+        ensures value { result ≡ sum_by length self.now.preds }
+        ensures few { result < 2 ^ 32 }
+    {
+        self.lists.total()
+    }
+
     /// The feed mask of the vertex with this index: bit r is set where it has an edge into partition r.
     pub fn feeds(&self, i: u32) -> u64
         requires { i < length self.now.preds }
@@ -84,6 +95,15 @@ impl Part {
         ensures bits { (j : Job) (p r : ℕ) → self.now ≡ part_of j p → has_bit result r ≡ feeds_into j.graph j.plan.parts (i * j.plan.parts + p) r }
     {
         self.feeds[i as usize]
+    }
+
+    /// Whether balls count the vertex with this index.
+    pub fn counts(&self, i: u32) -> bool
+        requires { i < length self.now.preds }
+        ensures value { result ≡ slice_index_or self.now.counted i false }
+        ensures graph { (j : Job) (p : ℕ) → self.now ≡ part_of j p → result ≡ is_counted j.graph (i * j.plan.parts + p) }
+    {
+        self.counted[i as usize]
     }
 }
 
@@ -97,18 +117,14 @@ fn vertex_at(plan: &Plan, p: u16, i: u32) -> u32
     i * u32::from(plan.parts()) + u32::from(p)
 }
 
-// Adds a list behind the others.
-fn push_list(items: &mut Vec<u32>, starts: &mut Vec<u32>, list: Preds<'_>) -> Result<(), AllocError>
-    requires starts { AreStarts (length items.old.items) starts.old.items }
-    requires room { length items.old.items + length list < 2 ^ 32 }
-    ensures starts { OnOk result (AreStarts (length items.new.items) starts.new.items) }
-    ensures lists { OnOk result (cut items.new.items starts.new.items ≡ cut items.old.items starts.old.items ++ list.entry ∷ []) }
-    ensures count { OnOk result (length items.new.items ≡ length items.old.items + length list.entry) }
+// Puts predecessors in place of what the row had.
+fn put_preds(row: &mut Vec<u32>, preds: Preds<'_>) -> Result<(), AllocError>
+    ensures { OnOk result (row.new.items ≡ preds.entry) }
 {
-    for y in list {
-        items.push(y)?;
+    row.clear();
+    for y in preds {
+        row.push(y)?;
     }
-    starts.push(items.len() as u32)?;
     Ok(())
 }
 
@@ -117,15 +133,17 @@ fn own_lists(alloc: Global, graph: &Graph, parts: u32, p: u32) -> Result<Lists, 
     requires { 0 < parts }
     ensures { IfOk result (λ lists. lists ≡ map (λ x. preds_of graph.now.graph x) (vertices_of graph.now.graph.vertices parts p)) }
 {
-    let mut items = Vec::new(alloc);
-    let mut starts = Vec::new(alloc);
-    starts.push(0)?;
+    let mut builder = ListsBuilder::with_room(alloc, (graph.vertices() / parts) as usize)?;
+    let mut row = Vec::new(alloc);
+    let mut total = 0;
     for x in 0..graph.vertices() {
         if x % parts == p {
-            push_list(&mut items, &mut starts, graph.preds(x))?;
+            put_preds(&mut row, graph.preds(x))?;
+            builder = builder.push(&row)?;
+            total += row.len();
         }
     }
-    Ok(Lists::of(items, starts))
+    Ok(Lists::of(builder.finish(), total))
 }
 
 // Marks that an edge leads from a vertex of partition `p` into the partition of its target.
@@ -185,6 +203,20 @@ fn own_feeds(alloc: Global, graph: &Graph, plan: &Plan, p: u16) -> Result<Vec<u6
     Ok(feeds)
 }
 
+// Whether each vertex of partition `p` is counted.
+fn own_counts(alloc: Global, graph: &Graph, parts: u32, p: u32) -> Result<Vec<bool>, AllocError>
+    requires { 0 < parts }
+    ensures { IfOk result (λ counted. counted.items ≡ map (λ x. is_counted graph.now.graph x) (vertices_of graph.now.graph.vertices parts p)) }
+{
+    let mut counted = Vec::new(alloc);
+    for x in 0..graph.vertices() {
+        if x % parts == p {
+            counted.push(graph.counted(x))?;
+        }
+    }
+    Ok(counted)
+}
+
 impl Graph {
     /// What partition `p` of the plan is told. It takes time in proportion to the vertices and edges, and memory in
     /// proportion to those of the partition.
@@ -196,11 +228,13 @@ impl Graph {
     {
         let lists = own_lists(alloc, self, u32::from(plan.parts()), u32::from(p))?;
         let feeds = own_feeds(alloc, self, plan, p)?;
+        let counted = own_counts(alloc, self, u32::from(plan.parts()), u32::from(p))?;
         Ok(Part {
             plan: *plan,
             number: p,
             lists,
             feeds,
+            counted,
         })
     }
 }

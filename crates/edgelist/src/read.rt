@@ -1,19 +1,25 @@
 //! Reading edge lists.
 
-ghost use Rattle.std.specs.Prelude.{◌≡◌, ◌⊎◌, ◌≤◌, ◌<◌, ℕ, List, Some, Ok, Err, IfOk, IfErr, OnOk, length, slice_index_or, [], ◌∷◌};
+ghost use Rattle.std.specs.Prelude.{◌≡◌, ◌≤◌, ◌<◌, ◌-◌, ◌^◌, ℕ, List, Some, Ok, Err, IfOk, IfErr, OnOk, OnErr, length, slice_index_or, [], ◌∷◌, ◌++◌};
+ghost use Rattle.std.specs.Io.KnownBytes.{ReadConsumes};
+ghost use Rattle.std.specs.Io.{ReadsAtMost};
 ghost use Rattle.csv.specs.Records.{fields_of};
+ghost use Rattle.csv.specs.Reading.{is_io, error_kind};
 ghost use Rattle.ball_model.specs.Input.{IsPlain, records, has_form, read_as, input_of};
-ghost use Rattle.ball_model.specs.Streams.{Rises};
 ghost use Rattle.edgelist.specs.Pairs.{graph_of_pairs};
-ghost use Rattle.edgelist.specs.Reading.{byte_of, limits_of, Refuses, is_blank, with_label, AreWithin, AddsPair, Exceeds, Adds, Stops};
+ghost use Rattle.edgelist.specs.declared.read.EdgeError.TheVariants.{Memory};
+ghost use Rattle.edgelist.specs.Records.{ForPlain, FromStart};
+ghost use Rattle.edgelist.specs.Reading.{byte_of, limits_of, said, said_within, CountsOne, IsReadBy, Refuses, told_as, with_label, AreWithin, AddsPair, Exceeds, Adds, Stops};
 
 use crate::graph::Graph;
 use crate::numbering::Numbering;
+use crate::records::{next_record, reader_of};
 use ball_model::CountedRead;
-use csv::{ByteRecord, ReaderBuilder};
+use csv::{ByteRecord, Reader};
 use std::alloc::{AllocError, Global};
 use std::hash::RandomState;
-use std::io::Read;
+use std::io;
+use std::io::{ErrorKind, Read};
 use thiserror::Error;
 
 /// Why an edge list is refused.
@@ -34,6 +40,25 @@ pub enum EdgeError {
     /// Memory was refused.
     #[error("out of memory")]
     Memory,
+}
+
+impl From<AllocError> for EdgeError {
+    ghost from_gives = { λ _ e. e ≡ Memory };
+
+    fn from(_error: AllocError) -> EdgeError {
+        EdgeError::Memory
+    }
+}
+
+impl From<csv::Error> for EdgeError {
+    ghost from_gives = { λ error e. e ≡ told_as (is_io (error_kind error)) };
+
+    fn from(error: csv::Error) -> EdgeError {
+        match error.kind() {
+            csv::ErrorKind::Io(_) => EdgeError::Read,
+            _ => EdgeError::Memory,
+        }
+    }
 }
 
 /// What stands between the fields of a record.
@@ -79,27 +104,12 @@ fn has_form(row: &ByteRecord) -> bool
     }
 }
 
-// Whether a row is one empty field: what is read of a comment at the end of a text that has no LF.
-fn is_blank(row: &ByteRecord) -> bool
-    ensures { result ≡ is_blank (fields_of row.now) }
+// Adds the edge from a source to a target.
+fn push_pair(pairs: &mut Vec<(u32, u32)>, target: u32, source: u32) -> Result<(), AllocError>
+    ensures { OnOk result (pairs.new.items ≡ pairs.old.items ++ (target, source) ∷ []) }
 {
-    if row.len() != 1 {
-        return false;
-    }
-    match row.get(0) {
-        Some(field) => field.is_empty(),
-        None => false,
-    }
-}
-
-fn byte(delimiter: Delimiter) -> u8
-    ensures { result ≡ byte_of delimiter }
-{
-    match delimiter {
-        Delimiter::Tab => b'\t',
-        Delimiter::Comma => b',',
-        Delimiter::Space => b' ',
-    }
+    pairs.push((target, source))?;
+    Ok(())
 }
 
 impl Reading {
@@ -110,9 +120,7 @@ impl Reading {
         ensures few { OnOk result (length self.new.labels ≤ vertices) }
         ensures exceeds { IfErr result (Exceeds vertices (with_label self.old.labels label.now)) }
     {
-        if self.labels.number(alloc, label).is_err() {
-            return Err(EdgeError::Memory);
-        }
+        self.labels.number(alloc, label)?;
         if self.labels.len() > vertices as usize {
             return Err(EdgeError::TooManyVertices);
         }
@@ -131,18 +139,12 @@ impl Reading {
         ensures few { OnOk result (length self.new.labels ≤ vertices) }
         ensures exceeds { IfErr result (Exceeds vertices (with_label (with_label self.old.labels source.now) target.now)) }
     {
-        let Ok(from) = self.labels.number(alloc, source) else {
-            return Err(EdgeError::Memory);
-        };
-        let Ok(to) = self.labels.number(alloc, target) else {
-            return Err(EdgeError::Memory);
-        };
+        let from = self.labels.number(alloc, source)?;
+        let to = self.labels.number(alloc, target)?;
         if self.labels.len() > vertices as usize {
             return Err(EdgeError::TooManyVertices);
         }
-        if self.pairs.push((to as u32, from as u32)).is_err() {
-            return Err(EdgeError::Memory);
-        }
+        push_pair(&mut self.pairs, to as u32, from as u32)?;
         Ok(())
     }
 
@@ -175,6 +177,54 @@ impl Reading {
 }
 
 impl Reading {
+    // Adds all records that are left, one after another; at most one more than the limit is asked for.
+    fn read_all<R: Read + Drop>(
+        &mut self,
+        alloc: Global,
+        reader: &mut Reader<R>,
+        row: &mut ByteRecord,
+        limits: EdgeLimits,
+    ) -> Result<(), EdgeError>
+        requires few { limits.edges ≤ 67108864 }
+        requires labels { self.old.labels ≡ [] }
+        requires pairs { self.old.pairs.items ≡ [] }
+        ensures within { OnOk result (AreWithin limits.vertices limits.edges self.new.labels self.new.pairs.items) }
+        ensures ok { FromStart R.remaining reader.old (λ rs. OnOk result (IsReadBy limits rs self.new.labels self.new.pairs.items)) }
+        ensures refused { FromStart R.remaining reader.old (λ rs. IfErr result (Refuses (read_as (limits_of limits) rs))) }
+    {
+        for number in 0..limits.edges + 1 {
+            let more = next_record(reader, row)?;
+            if !more {
+                return Ok(());
+            }
+            match self.add(alloc, row, number, limits) {
+                Ok(()) => {}
+                Err(e) => return Err(e),
+            }
+        }
+        Err(EdgeError::TooManyEdges)
+    }
+
+    // Adds all records of a reader.
+    fn read_source<R: Read + Drop>(
+        &mut self,
+        alloc: Global,
+        source: R,
+        delimiter: Delimiter,
+        limits: EdgeLimits,
+    ) -> Result<(), EdgeError>
+        requires few { limits.edges ≤ 67108864 }
+        requires labels { self.old.labels ≡ [] }
+        requires pairs { self.old.pairs.items ≡ [] }
+        ensures within { OnOk result (AreWithin limits.vertices limits.edges self.new.labels self.new.pairs.items) }
+        ensures ok { ForPlain (R.remaining source) (λ text. OnOk result (IsReadBy limits (records (byte_of delimiter) text) self.new.labels self.new.pairs.items)) }
+        ensures refused { ForPlain (R.remaining source) (λ text. IfErr result (Refuses (said_within limits delimiter text))) }
+    {
+        let mut reader = reader_of(alloc, source, delimiter);
+        let mut row = ByteRecord::new(alloc);
+        self.read_all(alloc, &mut reader, &mut row, limits)
+    }
+
     // The graph that was read. The set of labels is gone before the pairs are sorted.
     fn into_graph(self, alloc: Global) -> Result<Graph, AllocError>
         requires within { AreWithin 16777216 67108864 self.labels self.pairs.items }
@@ -187,16 +237,7 @@ impl Reading {
     }
 }
 
-fn fault(error: &csv::Error) -> EdgeError
-    ensures { (result ≡ EdgeError.Memory) ⊎ (result ≡ EdgeError.Read) }
-{
-    match error.kind() {
-        csv::ErrorKind::Io(_) => EdgeError::Read,
-        _ => EdgeError::Memory,
-    }
-}
-
-// Reads all records, and one more than the limit at most.
+// Reads all records.
 fn read_records<R: Read + Drop>(
     alloc: Global,
     state: RandomState,
@@ -206,41 +247,54 @@ fn read_records<R: Read + Drop>(
 ) -> Result<Reading, EdgeError>
     requires { limits.edges ≤ 67108864 }
     ensures within { IfOk result (λ reading. AreWithin limits.vertices limits.edges reading.labels reading.pairs.items) }
-    ensures ok { (text : List ℕ) → R.remaining reader ≡ Some text → IsPlain text → IfOk result (λ reading. read_as (limits_of limits) (records (byte_of delimiter) text)
-        ≡ Ok (record { graph = graph_of_pairs (length reading.labels) reading.pairs.items; labels = reading.labels })) }
-    ensures refused { (text : List ℕ) → R.remaining reader ≡ Some text → IsPlain text → IfErr result (Refuses (read_as (limits_of limits) (records (byte_of delimiter) text))) }
+    ensures ok { ForPlain (R.remaining reader) (λ text. IfOk result (λ r. IsReadBy limits (records (byte_of delimiter) text) r.labels r.pairs.items)) }
+    ensures refused { ForPlain (R.remaining reader) (λ text. IfErr result (Refuses (said_within limits delimiter text))) }
 {
-    let mut rdr = ReaderBuilder::new()
-        .has_headers(false)
-        .flexible(true)
-        .quoting(false)
-        .comment(Some(b'#'))
-        .delimiter(byte(delimiter))
-        .from_reader(alloc, reader);
-    let mut row = ByteRecord::new(alloc);
-    let labels = match Numbering::new(alloc, state) {
-        Ok(labels) => labels,
-        Err(_) => return Err(EdgeError::Memory),
-    };
     let mut reading = Reading {
-        labels,
+        labels: Numbering::new(alloc, state)?,
         pairs: Vec::new(alloc),
     };
-    for number in 0..limits.edges + 1 {
-        match rdr.read_byte_record(&mut row) {
-            Err(e) => return Err(fault(&e)),
-            Ok(false) => return Ok(reading),
-            Ok(true) => {}
-        }
-        if is_blank(&row) {
-            return Ok(reading);
-        }
-        match reading.add(alloc, &row, number, limits) {
-            Err(e) => return Err(e),
-            Ok(()) => {}
+    reading.read_source(alloc, reader, delimiter, limits)?;
+    Ok(reading)
+}
+
+// Reads all records, and makes their graph.
+fn read_graph<R: Read + Drop>(
+    alloc: Global,
+    state: RandomState,
+    reader: R,
+    delimiter: Delimiter,
+    limits: EdgeLimits,
+) -> Result<Graph, EdgeError>
+    requires vertices { limits.vertices ≤ 16777216 }
+    requires edges { limits.edges ≤ 67108864 }
+    ensures ok { ForPlain (R.remaining reader) (λ text. IfOk result (λ g. said_within limits delimiter text ≡ Ok g)) }
+    ensures refused { ForPlain (R.remaining reader) (λ text. IfErr result (Refuses (said_within limits delimiter text))) }
+{
+    let reading = read_records(alloc, state, reader, delimiter, limits)?;
+    let graph = reading.into_graph(alloc)?;
+    Ok(graph)
+}
+
+// A reader as `csv` reads it, each of whose failed calls is counted.
+#[derive(Drop)]
+struct Counted<'a, R: CountedRead> {
+    reader: &'a mut R,
+}
+
+impl<'a, R: CountedRead> Read for Counted<'a, R> {
+    ghost remaining = { λ s. R.remaining s.reader.now };
+
+    fn read(&mut self, buf: &mut [u8]) -> io::Result<usize>
+        ensures bound { ReadsAtMost result buf.new }
+        ensures bytes { ReadConsumes (R.remaining self.old.reader.now) (R.remaining self.new.reader.now) result buf.new }
+        ensures failed { OnErr result (R.failed_calls self.old.reader.now < R.failed_calls self.new.reader.now) }
+    {
+        match self.reader.get(buf) {
+            Some(n) => Ok(n),
+            None => Err(io::Error::from(ErrorKind::Other)),
         }
     }
-    Err(EdgeError::TooManyEdges)
 }
 
 /// Reads an edge list, and numbers its labels from 0 by first appearance, a record's first field first.
@@ -252,7 +306,7 @@ fn read_records<R: Read + Drop>(
 /// no memory is taken for a record whose labels are known.
 ///
 /// The errors are those of the first record where a check fails, in the order `TooManyEdges`, `Fields`,
-/// `TooManyVertices`. `Read` is answered only where a call of the reader failed, and nothing is tried again.
+/// `TooManyVertices`. `Read` is answered where a call of the reader failed and nowhere else, and nothing is tried again.
 pub fn read_edges<R: CountedRead>(
     alloc: Global,
     state: RandomState,
@@ -260,27 +314,32 @@ pub fn read_edges<R: CountedRead>(
     delimiter: Delimiter,
     limits: EdgeLimits,
 ) -> Result<Graph, EdgeError>
-    ensures ok { (text : List ℕ) → R.remaining reader.old ≡ Some text → IsPlain text → IfOk result (λ network. input_of (byte_of delimiter) (limits_of limits) text ≡ Ok network) }
-    ensures refused { (text : List ℕ) → R.remaining reader.old ≡ Some text → IsPlain text → IfErr result (Refuses (input_of (byte_of delimiter) (limits_of limits) text)) }
-    ensures read { result ≡ Err EdgeError.Read → Rises (R.failed_calls reader.old) (R.failed_calls reader.new) }
+    ensures ok { ForPlain (R.remaining reader.old) (λ text. IfOk result (λ g. said limits delimiter text ≡ Ok g)) }
+    ensures refused { ForPlain (R.remaining reader.old) (λ text. IfErr result (Refuses (said limits delimiter text))) }
+    ensures read { result ≡ Err EdgeError.Read → R.failed_calls reader.old < R.failed_calls reader.new }
+    ensures failed { CountsOne (R.failed_calls reader.old) (R.failed_calls reader.new) → result ≡ Err EdgeError.Read }
 {
     let before = reader.failures();
     let limits = EdgeLimits {
         vertices: limits.vertices.min(MOST_VERTICES),
         edges: limits.edges.min(MOST_RECORDS),
     };
-    match read_records(alloc, state, &mut *reader, delimiter, limits) {
-        Ok(reading) => match reading.into_graph(alloc) {
-            Ok(graph) => Ok(graph),
-            Err(_) => Err(EdgeError::Memory),
+    let result = read_graph(
+        alloc,
+        state,
+        Counted {
+            reader: &mut *reader,
         },
-        Err(EdgeError::Read) => {
-            if reader.failures() > before {
-                Err(EdgeError::Read)
-            } else {
-                Err(EdgeError::Memory)
-            }
-        }
+        delimiter,
+        limits,
+    );
+    let failed = reader.failures() > before;
+    if failed {
+        return Err(EdgeError::Read);
+    }
+    match result {
+        Ok(graph) => Ok(graph),
+        Err(EdgeError::Read) => Err(EdgeError::Memory),
         Err(e) => Err(e),
     }
 }

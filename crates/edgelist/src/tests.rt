@@ -2,12 +2,13 @@
 
 ghost use Rattle.std.specs.Prelude.{None};
 
-use crate::{Delimiter, EdgeError, EdgeLimits, Graph, Part, laws, read_edges};
-use ball_model::{CountedRead, CountingReader, PlanError};
+use crate::{CountedError, Delimiter, EdgeError, EdgeLimits, Graph, Part, laws, read_edges};
+use ball_model::{CountingReader, PlanError};
 use std::alloc::{AllocError, Global};
 use std::hash::RandomState;
 use std::io;
 use std::io::{ErrorKind, Read};
+use std::test::Fail;
 
 const LIMITS: EdgeLimits = EdgeLimits {
     vertices: 16_777_216,
@@ -330,7 +331,6 @@ struct Dripping<'a> {
     bytes: &'a [u8],
     calls: u64,
     fails_at: u64,
-    failures: u64,
 }
 
 impl<'a> Read for Dripping<'a> {
@@ -339,7 +339,6 @@ impl<'a> Read for Dripping<'a> {
     fn read(&mut self, buf: &mut [u8]) -> io::Result<usize> {
         self.calls = self.calls.saturating_add(1);
         if self.calls >= self.fails_at {
-            self.failures = self.failures.saturating_add(1);
             return Err(io::Error::from(ErrorKind::Other));
         }
         if buf.is_empty() {
@@ -356,24 +355,15 @@ impl<'a> Read for Dripping<'a> {
     }
 }
 
-impl<'a> CountedRead for Dripping<'a> {
-    ghost failed_calls = { λ r. r.failures };
-
-    fn failures(&self) -> u64 {
-        self.failures
-    }
-}
-
 // Reads the two edges a byte at a time, with a failure at this call: the error, or whether the graph is theirs.
 fn drip(rt: &HostRuntime, fails_at: u64) -> Result<bool, EdgeError> {
     match RandomState::new(rt) {
         Ok(state) => {
-            let mut reader = Dripping {
+            let mut reader = CountingReader::new(Dripping {
                 bytes: b"a\tb\r\nb\tc\r\n",
                 calls: 0,
                 fails_at,
-                failures: 0,
-            };
+            });
             let graph = read_edges(rt.alloc(), state, &mut reader, Delimiter::Tab, LIMITS)?;
             Ok(is_shown(rt.alloc(), &graph, b"a\nb 0\nc 1\n"))
         }
@@ -535,4 +525,178 @@ fn path(rt: &HostRuntime, count: u32) -> Option<u32> {
 fn many_labels(rt: HostRuntime) {
     // More than the 65,536 entries that there are at first. Vertex 0 has no predecessor.
     assert_eq!(rt; path(&rt, 70_000), Some(70_000));
+}
+
+// A line of an edge list with tabs, or of a list: its graph, with just the vertices of the list counted.
+fn counting(
+    rt: &HostRuntime,
+    text: &[u8],
+    list: &[u8],
+) -> Result<(Graph, Result<(), CountedError>), Fail> {
+    let mut graph = read(rt, text, Delimiter::Tab, LIMITS)?;
+    let result = graph.count_only(rt.alloc(), Delimiter::Tab, list);
+    Ok((graph, result))
+}
+
+// Whether just the vertices of these digits are counted, of ten at most, and are told to be so many.
+fn counts(graph: &Graph, wanted: &[u8]) -> bool {
+    let mut right = graph.counted_count() as usize == wanted.len();
+    for v in 0..graph.vertices() {
+        right = right && graph.counted(v) == wanted.contains(&digit(v));
+    }
+    right
+}
+
+// What counting the vertices of a list answers on the two edges, and whether then just these are counted.
+fn counted_list(
+    rt: &HostRuntime,
+    list: &[u8],
+    wanted: &[u8],
+) -> Result<(Result<(), CountedError>, bool), Fail> {
+    let (graph, result) = counting(rt, b"a\tb\nb\tc\n", list)?;
+    Ok((result, counts(&graph, wanted)))
+}
+
+#[test]
+fn counted_lists(rt: HostRuntime) -> Result<(), Fail> {
+    // One vertex; all of them, one twice and in another order; none; comments, empty lines and both ends of lines.
+    let lists: [&[u8]; 5] = [b"a", b"b\nc\na\nb\n", b"", b"# a\n\nc\r\n", b"a\n# b"];
+    let wanted: [&[u8]; 5] = [b"0", b"012", b"", b"2", b"0"];
+    for i in 0..5usize {
+        assert_eq!(rt; counted_list(&rt, lists[i], wanted[i])?, (Ok(()), true));
+    }
+    Ok(())
+}
+
+#[test]
+fn refused_lists(rt: HostRuntime) -> Result<(), Fail> {
+    // Comments and empty lines have no number, and a refused list leaves all vertices counted.
+    let lists: [&[u8]; 6] = [
+        b"# c\nz",
+        b"a\tb",
+        b"a\n\n\t\n",
+        b"a\nz\na\tb",
+        b"c\na\tb\nz",
+        b"a\n \n",
+    ];
+    let wanted = [
+        CountedError::Unknown { number: 1 },
+        CountedError::Fields { number: 1 },
+        CountedError::Fields { number: 2 },
+        CountedError::Unknown { number: 2 },
+        CountedError::Fields { number: 2 },
+        CountedError::Unknown { number: 2 },
+    ];
+    for i in 0..6usize {
+        assert_eq!(rt;
+            counted_list(&rt, lists[i], b"012")?,
+            (Err(wanted[i]), true)
+        );
+    }
+    Ok(())
+}
+
+#[test]
+fn counted_twice(rt: HostRuntime) -> Result<(), Fail> {
+    let (mut graph, first) = counting(&rt, b"a\tb\nb\tc\n", b"a\nb")?;
+    let refused = graph.count_only(rt.alloc(), Delimiter::Tab, b"c\nz");
+    let kept = counts(&graph, b"01");
+    let second = graph.count_only(rt.alloc(), Delimiter::Comma, b"c");
+    assert!(rt;
+        first == Ok(())
+            && refused == Err(CountedError::Unknown { number: 2 })
+            && kept
+            && second == Ok(())
+            && counts(&graph, b"2")
+    );
+    Ok(())
+}
+
+#[test]
+fn lists_of_odd_labels(rt: HostRuntime) -> Result<(), Fail> {
+    // Labels that begin alike, with quotes, of bytes that are no text, and of one space.
+    let text = b"\"x\ty\"\"z\n\xff\xc0\t \nab\tabc\na\tabcdefghijklmn\n";
+    let (some, first) = counting(&rt, text, b"\"x\n\xff\xc0\nab\n")?;
+    let (others, second) = counting(&rt, text, b" \nabcdefghijklmn\ny\"\"z\nabc\na")?;
+    assert!(rt;
+        first == Ok(()) && second == Ok(()) && counts(&some, b"024") && counts(&others, b"13567")
+    );
+    Ok(())
+}
+
+// The job digest of the two edges in two partitions with just the vertices of a list counted.
+fn counted_digest(rt: &HostRuntime, list: &[u8]) -> Result<[u8; 32], Fail> {
+    let (graph, result) = counting(rt, b"a\tb\nb\tc\n", list)?;
+    result?;
+    let plan = graph.plan(4, 0, 2, 4096)?;
+    Ok(plan.job())
+}
+
+#[test]
+fn digests_of_counted_vertices(rt: HostRuntime) -> Result<(), Fail> {
+    // SHA-256, by another program, of the 55 bytes 48424a32 04 0000000000000000 0002 00001000 00000003
+    // 0000000000000002 00000000 00000001 00000001 00000002 00000001 00000000.
+    let one: [u8; 32] = [
+        0x4a, 0xd0, 0xa0, 0xb2, 0x4d, 0xcc, 0xb6, 0x39, 0x31, 0x4c, 0x0e, 0xca, 0x5b, 0x2c, 0xbd,
+        0x21, 0xec, 0x52, 0x0b, 0x6f, 0x4a, 0x74, 0x5c, 0x46, 0x6d, 0x5d, 0x0b, 0x42, 0x93, 0x61,
+        0x61, 0x45,
+    ];
+    let all = digest(&rt, b"a\tb\nb\tc\n", 4);
+    assert_eq!(rt; counted_digest(&rt, b"a")?, one);
+    assert!(rt; Some(Ok(counted_digest(&rt, b"a\nb\nc\na")?)) == all);
+    Ok(())
+}
+
+// Whether the vertices of a part of two are counted just as wanted.
+fn part_counts(alloc: Global, graph: &Graph, p: u16, wanted: &[bool]) -> bool {
+    let Ok(plan) = graph.plan(4, 0, 2, 4096) else {
+        return false;
+    };
+    if p >= plan.parts() {
+        return false;
+    }
+    let Ok(part) = graph.part(alloc, &plan, p) else {
+        return false;
+    };
+    let mut right = part.size() as usize == wanted.len();
+    for i in 0..part.size() {
+        right = right && wanted.get(i as usize) == Some(&part.counts(i));
+    }
+    right
+}
+
+#[test]
+fn parts_know_counted_vertices(rt: HostRuntime) -> Result<(), Fail> {
+    let (graph, _) = counting(&rt, b"a\tb\nb\tc\n", b"a")?;
+    assert!(rt; part_counts(rt.alloc(), &graph, 0, &[true, false]));
+    assert!(rt; part_counts(rt.alloc(), &graph, 1, &[false]));
+    Ok(())
+}
+
+// Whether an error of a list has this text.
+fn says_of_list(alloc: Global, error: CountedError, wanted: &str) -> bool {
+    match format!(in alloc; "{}", error) {
+        Ok(text) => text.as_str() == wanted,
+        Err(_) => false,
+    }
+}
+
+#[test]
+fn counted_error_texts(rt: HostRuntime) {
+    let alloc = rt.alloc();
+    assert!(rt;
+        says_of_list(
+            alloc,
+            CountedError::Fields { number: 2 },
+            "record 2 of the list is not one identifier"
+        )
+    );
+    assert!(rt;
+        says_of_list(
+            alloc,
+            CountedError::Unknown { number: 3 },
+            "record 3 of the list names no vertex"
+        )
+    );
+    assert!(rt; says_of_list(alloc, CountedError::Memory, "out of memory"));
 }

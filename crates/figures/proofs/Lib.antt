@@ -1,1 +1,4 @@
 pub mod FigureLemmas
+pub mod PlaceLemmas
+pub mod TotalLemmas
+pub mod Crossing

@@ -1,5 +1,7 @@
 use super::*;
+use registers::Rows;
 use std::process::Abort;
+use std::test::Fail;
 
 // The estimate of a row whose shape and ranks are looked at first.
 fn estimate_in(rt: &impl Abort, log2m: u8, row: &[u8]) -> u64 {
@@ -119,4 +121,90 @@ fn fixed_point_text(rt: HostRuntime) {
         fixed6(u128::MAX, &mut buffer),
         "340282366920938463463374607431768.211455"
     );
+}
+
+// The figures are these.
+fn are_told(figures: &[Figures], wanted: &[(u64, u64, u64, u128, u32)]) -> bool {
+    figures.len() == wanted.len()
+        && figures.iter().zip(wanted).all(|(f, told)| (
+            f.estimate,
+            f.harmonic,
+            f.closeness,
+            f.lin,
+            f.empty,
+        ) == *told)
+}
+
+// The figures of three vertices whose rows and tallies differ, and of none.
+#[test]
+fn figures_of_vertices(rt: HostRuntime) -> Result<(), Fail> {
+    let mut rows = Rows::fixed(rt.alloc(), 3, 16)?;
+    rows.raise_one(1, 14, 3);
+    rows.raise_one(2, 0, 2);
+    rows.raise_one(2, 6, 1);
+    let mut tally = Tally::start(11_297_573);
+    tally.step(1, 11_680_542);
+    let tallies = [Tally::start(0), Tally::start(5), tally];
+    let all = final_figures(&rt, rt.alloc(), 4, &rows, &tallies)?;
+    let wanted = [
+        (10_768_000, 0, 0, 1_000_000, 16),
+        (11_390_942, 0, 0, 1_000_000, 15),
+        (11_680_542, 382_969, 2_611_177, 356_256_149, 14),
+    ];
+    assert!(rt; are_told(&all, &wanted));
+    let none = final_figures(&rt, rt.alloc(), 4, &Rows::fixed(rt.alloc(), 0, 16)?, &[])?;
+    assert_eq!(rt; none.len(), 0);
+    Ok(())
+}
+
+// Tallies of vertices that gained 0, 1, 2, .. at superstep 1.
+fn gaining<H: AllocGlobal>(rt: &H, count: u32) -> Result<Vec<Tally>, Fail> {
+    let mut tallies = Vec::new(rt.alloc());
+    for k in 0..count {
+        let mut tally = Tally::start(0);
+        tally.step(1, u64::from(k));
+        tallies.push(tally)?;
+    }
+    Ok(tallies)
+}
+
+// As many vertices as several threads are started for come back in order.
+#[test]
+fn figures_of_many_vertices(rt: HostRuntime) -> Result<(), Fail> {
+    let rows = Rows::fixed(rt.alloc(), 5000, 16)?;
+    let tallies = gaining(&rt, 5000)?;
+    if tallies.len() != 5000 {
+        return Err(Fail::new("5000 tallies"));
+    }
+    let all = final_figures(&rt, rt.alloc(), 4, &rows, &tallies)?;
+    let in_order = all.iter().enumerate().all(|(i, f)| f.harmonic == i as u64);
+    assert_eq!(rt; (all.len(), in_order), (5000, true));
+    Ok(())
+}
+
+// 4,097 totals: one that rises at superstep 1, stays, and rises to the greatest number at superstep 4,096.
+fn many_totals<H: AllocGlobal>(rt: &H) -> Result<Vec<u128>, Fail> {
+    let mut totals = Vec::new(rt.alloc());
+    totals.push(0)?;
+    for _ in 1..4096 {
+        totals.push(1 << 20)?;
+    }
+    totals.push(u128::MAX)?;
+    Ok(totals)
+}
+
+// Each term is rounded down, a rise divided by 2^128 or more is 0, and a total that falls adds nothing.
+#[test]
+fn gains(rt: HostRuntime) -> Result<(), Fail> {
+    let small = (
+        gain(&[]),
+        gain(&[7]),
+        gain(&[0, 3, 9, 9, 73]),
+        gain(&[9, 5, 13]),
+        gain(&[0, u128::MAX, u128::MAX]),
+    );
+    assert_eq!(rt; small, (0, 0, 6, 2, u128::MAX / 2));
+    let totals = many_totals(&rt)?;
+    assert_eq!(rt; (totals.len(), gain(&totals)), (4097, 1 << 19));
+    Ok(())
 }

@@ -1,7 +1,6 @@
 pub mod NameLemmas
-pub mod CsvLemmas
-pub mod RowLemmas
-pub mod StepLemmas
-pub mod GainLemmas
-pub mod LineLemmas
 pub mod OptionLemmas
+pub mod PartitionLemmas
+pub mod CommandLemmas
+pub mod WholeLemmas
+pub mod ReportLemmas

@@ -1,48 +1,46 @@
--- The words of a run say one set of options.
-use Rattle.std.proofs.Common.{◌≡◌, ℕ, List, Option, Some, codes, get_or, refl, ap, arith, sym, subst, ◌∙◌}
-use Rattle.std.specs.Str.Parse.{digits_value, without_leading_plus}
-use Rattle.clap.specs.Words.{Row, Text}
-use Rattle.edgelist.specs.Reading.{byte_of}
+-- What `clap` reads of an option is what its words say.
+use Rattle.std.proofs.Common.{◌≡◌, ◌<◌, ◌^◌, ℕ, Bool, true, false, List, Option, Some, None, codes, refl, ap, sym, subst, ◌∙◌}
+use Rattle.std.specs.Prelude.{MatchOption, Result, unwrap_or}
+use Rattle.std.specs.Str.Parse.{ParsesUnsigned}
+use Rattle.clap.specs.Words.{ReadsOne, Text, first_value, one_text, rows_of}
+use Rattle.clap.specs.declared.parser.matches.Found.{Found}
+use Rattle.clap.proofs.WalkLemmas.{first_value-rows, one_text-rows}
 use Rattle.edgelist.specs.declared.read.Delimiter.{Delimiter}
-use Rattle.edgelist.specs.declared.read.Delimiter.TheVariants.{Tab, Comma, Space}
-use Rattle.hyperball.specs.declared.serial.SerialOptions.{SerialOptions}
-use Rattle.hyperball.specs.Serial.{settings_of}
-use Rattle.hyperball.specs.Words.{AreOptionsOf, IsNumberOf, IsRunOf, name_of}
+use Rattle.edgelist.specs.declared.read.Delimiter.TheVariants.{Tab}
+use Rattle.hyperball.specs.declared.words.RunWords.{RunWords}
+use Rattle.hyperball.specs.Words.{IsDelimiter, IsFlag, IsNumber, IsNumberOr, flag_text, name_of}
 
--- a delimiter is known by its name
-same_name : (a b : Delimiter) → name_of a ≡ name_of b → byte_of a ≡ byte_of b
-same_name Tab Tab e = refl
-same_name Comma Comma e = refl
-same_name Space Space e = refl
-same_name Tab Comma e = let bad : ◌≡◌ {A = ℕ} 116 99 = ap (λ (name : Text). get_or name 0 0) e in absurd (omega arith)
-same_name Tab Space e = let bad : ◌≡◌ {A = ℕ} 116 115 = ap (λ (name : Text). get_or name 0 0) e in absurd (omega arith)
-same_name Comma Tab e = let bad : ◌≡◌ {A = ℕ} 99 116 = ap (λ (name : Text). get_or name 0 0) e in absurd (omega arith)
-same_name Comma Space e = let bad : ◌≡◌ {A = ℕ} 99 115 = ap (λ (name : Text). get_or name 0 0) e in absurd (omega arith)
-same_name Space Tab e = let bad : ◌≡◌ {A = ℕ} 115 116 = ap (λ (name : Text). get_or name 0 0) e in absurd (omega arith)
-same_name Space Comma e = let bad : ◌≡◌ {A = ℕ} 115 99 = ap (λ (name : Text). get_or name 0 0) e in absurd (omega arith)
+number_of : {E : Type 0} (A B : List ℕ → Result ℕ E → Type 0) (one : Option Text) (usual bits n : ℕ) (r : Option ℕ) → (one ≡ None → r ≡ None) →
+    ((t : Text) → one ≡ Some t → ReadsOne (λ bs x. ParsesUnsigned bits 10 bs x × A bs x × B bs x) t r) →
+    MatchOption one (n ≡ usual) (λ t. IsNumber bits t n) → unwrap_or r usual ≡ n
+number_of A B None usual bits n r none value is = ap (λ o. unwrap_or o usual) (none refl) ∙ sym is
+number_of A B (Some t) usual bits n None none value is = absurd ((value t refl).1.0 (is.numeral, subst (λ k. k < 2 ^ bits) is.value is.fits))
+number_of A B (Some t) usual bits n (Some v) none value is = (value t refl).0.1 ∙ sym is.value
 
-same_number : (rows : List Row) (id : Text) (a b : ℕ) → IsNumberOf rows id a → IsNumberOf rows id b → a ≡ b
-same_number rows id a b is_a is_b =
-    let texts : Some is_a.0 ≡ Some is_b.0 = sym is_a.1 ∙ is_b.1 in
-    let text : is_a.0 ≡ is_b.0 = cc in
-    is_a.2 ∙ ap (λ (t : Text). digits_value 10 (without_leading_plus t)) text ∙ sym is_b.2
+-- a number that was read, or the usual one
+pub number_is : {E : Type 0} (A B : List ℕ → Result ℕ E → Type 0) (f : Found) (id : Text) (usual bits n : ℕ) (r : Option ℕ) → (one_text f id ≡ None → r ≡ None) →
+    ((t : Text) → one_text f id ≡ Some t → ReadsOne (λ bs x. ParsesUnsigned bits 10 bs x × A bs x × B bs x) t r) →
+    IsNumberOr usual bits (rows_of f) id n → unwrap_or r usual ≡ n
+number_is A B f id usual bits n r none value is =
+    number_of A B (one_text f id) usual bits n r none value (subst (λ o. MatchOption o (n ≡ usual) (λ t. IsNumber bits t n)) (sym (one_text-rows f id)) is)
 
-same_of_rows : (rows : List Row) (a b : SerialOptions) → AreOptionsOf rows a → AreOptionsOf rows b → settings_of a ≡ settings_of b
-same_of_rows rows a b of_a of_b =
-    let names : Some (name_of a.delimiter) ≡ Some (name_of b.delimiter) = sym of_a.delimiter ∙ of_b.delimiter in
-    let name : name_of a.delimiter ≡ name_of b.delimiter = cc in
-    let log2m = same_number rows (codes "log2m") a.log2m b.log2m of_a.log2m of_b.log2m in
-    let seed = same_number rows (codes "seed") a.seed b.seed of_a.seed of_b.seed in
-    let limit = same_number rows (codes "limit") a.limit b.limit of_a.limit of_b.limit in
-    let delimiter = same_name a.delimiter b.delimiter name in
-    rw (log2m, seed, limit, delimiter) refl
+-- a delimiter's name that was read
+pub name_is : (f : Found) (d : Delimiter) (name : Option Text) → name ≡ first_value f (codes "delimiter") → IsDelimiter (rows_of f) d → MatchOption name (d ≡ Tab) (λ n. n ≡ name_of d)
+name_is f d name read is = subst (λ o. MatchOption o (d ≡ Tab) (λ n. n ≡ name_of d)) (sym (read ∙ first_value-rows f (codes "delimiter"))) is
 
-same_pair : (name : Text) (a b : List Row) → ◌≡◌ {A = Option (Text × List Row)} (Some (name, a)) (Some (name, b)) → a ≡ b
-same_pair name a b e =
-    let pair : ◌≡◌ {A = Text × List Row} (name, a) (name, b) = cc in
-    ap (λ (p : Text × List Row). p.1) pair
+flag_of : (one : Option Text) (given b : Bool) → (one ≡ None → given ≡ false) → (one ≡ Some (codes "true") → given ≡ true) → (one ≡ Some (codes "false") → given ≡ false) →
+    MatchOption one (b ≡ false) (λ t. t ≡ flag_text b) → given ≡ b
+flag_of None given b none value other is = none refl ∙ sym is
+flag_of (Some t) given true none value other is = value (ap Some is)
+flag_of (Some t) given false none value other is = other (ap Some is)
 
-pub same_options : (sub : Option (Text × List Row)) (a b : SerialOptions) → IsRunOf sub a → IsRunOf sub b → settings_of a ≡ settings_of b
-same_options sub a b of_a of_b =
-    let rows : of_a.0 ≡ of_b.0 = same_pair (codes "run") of_a.0 of_b.0 (sym of_a.1 ∙ of_b.1) in
-    same_of_rows of_b.0 a b (subst (λ (r : List Row). AreOptionsOf r a) rows of_a.2) of_b.2
+-- a flag that was read
+pub flag_is : (f : Found) (id : Text) (given b : Bool) → (one_text f id ≡ None → given ≡ false) → (one_text f id ≡ Some (codes "true") → given ≡ true) → (one_text f id ≡ Some (codes "false") → given ≡ false) →
+    IsFlag (rows_of f) id b → given ≡ b
+flag_is f id given b none value other is =
+    flag_of (one_text f id) given b none value other (subst (λ o. MatchOption o (b ≡ false) (λ t. t ≡ flag_text b)) (sym (one_text-rows f id)) is)
+
+pub same_words : (log2m seed parts limit : ℕ) (d : Delimiter) (counted : Bool) (w : RunWords) → log2m ≡ w.options.log2m → seed ≡ w.options.seed → parts ≡ w.options.parts → limit ≡ w.options.limit →
+    d ≡ w.options.delimiter → counted ≡ w.counted →
+    ◌≡◌ {A = RunWords} (record { options = record { log2m = log2m; seed = seed; parts = parts; limit = limit; delimiter = d }; counted = counted }) w
+same_words log2m seed parts limit d counted w a b e f g h = λ i. record { options = record { log2m = a i; seed = b i; parts = e i; limit = f i; delimiter = g i }; counted = h i }

@@ -1,6 +1,9 @@
 -- The command line: the subcommand `run` and its options.
-use Rattle.std.specs.Prelude.{◌≡◌, List, [], ◌∷◌, Some, codes, map, pos, true}
-use Rattle.clap.specs.Words.{App, Rule, Text, new_app, new_rule, with_rule, with_subcommand}
+use Rattle.std.specs.Prelude.{◌≡◌, List, [], ◌∷◌, Some, codes, map, pos, true, false}
+use Rattle.clap.specs.Words.{App, Rule, Text, app_of, new_app, new_rule, with_rule, with_subcommand}
+use Rattle.clap.specs.declared.builder.action.ArgAction.TheVariants.{SetTrue}
+use Rattle.clap.specs.declared.builder.command.Command.{Command}
+use Rattle.clap.specs.declared.builder.command.Command.TheViews.{out-Command as fields_of}
 use Rattle.clap.specs.declared.builder.value_parser.ValueParser.{ValueParser}
 use Rattle.clap.specs.declared.builder.value_parser.ValueParser.TheVariants as vp
 
@@ -13,13 +16,20 @@ abbrev pub TakesNames : List Text → ValueParser → Type 0
 TakesNames names (vp.Names given) = map (λ name. name.now) given.now ≡ names
 TakesNames names parser = ⊥
 
--- an option with a default: its long name, what its value has to be, and the value where it is not given
-abbrev pub option_rule : Text → ValueParser → Text → Rule
-option_rule name parser usual = record (new_rule name) { long = Some name; parser = Some parser; defaults = usual ∷ [] }
+-- an option: its long name, and what its value has to be
+abbrev pub option_rule : Text → ValueParser → Rule
+option_rule name parser = record (new_rule name) { long = Some name; parser = Some parser }
 
--- numbers of 8, 32 and 64 bits
+-- a flag: its long name
+abbrev pub flag_rule : Text → Rule
+flag_rule name = record (new_rule name) { long = Some name; action = Some SetTrue }
+
+-- numbers of 8, 16, 32 and 64 bits
 abbrev pub number8 : ValueParser
 number8 = vp.Signed (pos 0) (pos 255)
+
+abbrev pub number16 : ValueParser
+number16 = vp.Signed (pos 0) (pos 65535)
 
 abbrev pub number32 : ValueParser
 number32 = vp.Signed (pos 0) (pos 4294967295)
@@ -27,15 +37,28 @@ number32 = vp.Signed (pos 0) (pos 4294967295)
 abbrev pub number64 : ValueParser
 number64 = vp.Unsigned 0 18446744073709551615
 
--- the subcommand `run`, whose delimiters a parser takes
+-- a command with the options of a plan
+abbrev pub with_numbers : App → App
+with_numbers app = with_rule (with_rule (with_rule (with_rule app
+    (option_rule (codes "log2m") number8))
+    (option_rule (codes "seed") number64))
+    (option_rule (codes "parts") number16))
+    (option_rule (codes "limit") number32)
+
+-- a command with the options of an input, whose delimiters a parser takes
+abbrev pub with_input : ValueParser → App → App
+with_input delimiters app = with_rule (with_rule app (option_rule (codes "delimiter") delimiters)) (flag_rule (codes "counted"))
+
+-- the subcommand `run`
 unfoldable pub run_app : ValueParser → App
-run_app delimiters = with_rule (with_rule (with_rule (with_rule (new_app (codes "run"))
-    (option_rule (codes "log2m") number8 (codes "8")))
-    (option_rule (codes "seed") number64 (codes "0")))
-    (option_rule (codes "limit") number32 (codes "4096")))
-    (option_rule (codes "delimiter") delimiters (codes "tab"))
+run_app delimiters = with_input delimiters (with_numbers (new_app (codes "run")))
 
 -- the program, which wants a subcommand
 unfoldable pub hyperball_app : ValueParser → App
 hyperball_app delimiters =
     with_subcommand (record (new_app (codes "hyperball")) { top = record (new_app (codes "hyperball")).top { subcommand_required = true } }) (run_app delimiters).top
+
+-- a command of this form, with no argument for all subcommands
+pub record IsApp (app : App) (c : Command) : Type 0 where
+  pub form : app_of c ≡ app
+  pub local : (fields_of c).has_globals ≡ false

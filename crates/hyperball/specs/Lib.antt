@@ -1,6 +1,6 @@
 pub mod CommandLine
 pub mod Words
-pub mod Rows
-pub mod Spread
-pub mod Ending
 pub mod Serial
+pub mod Partitions
+pub mod Whole
+pub mod LawWords

@@ -1,32 +1,68 @@
 -- A run in one thread: what is asked of it, and what its refusals say of the input.
-use Rattle.std.specs.Prelude.{◌≡◌, ⊤, ℕ, List, Result, Err, MatchResult, Vec}
+use Rattle.std.specs.Prelude.{◌≡◌, ℕ, List, Option, option_map, Result, Ok, Err, MatchResult, IfSome, Vec}
+use Rattle.std.specs.Borrow.{Bor}
 use Rattle.std.specs.Global.{Global}
 use Rattle.ball_model.specs.PlanValue.{plan_of}
-use Rattle.ball_model.specs.Input.{Network}
-use Rattle.ball_model.specs.RunText.{IsPlanFault, IsReportOf, Settings, network_in, plan_over}
+use Rattle.ball_model.specs.Input.{IsPlain, Network}
+use Rattle.ball_model.specs.RunText.{AreRead, IsPlanFault, IsReportOf, Numbers, Settings, counted_in, network_in, plan_over}
+use Rattle.edgelist.specs.Planning.{numbers_of}
 use Rattle.edgelist.specs.Reading.{Refuses, byte_of}
+use Rattle.edgelist.specs.Counting.{RefusesList}
+use Rattle.edgelist.specs.declared.counting.CountedError.{CountedError}
 use Rattle.hyperball.specs.declared.serial.SerialOptions.{SerialOptions}
 use Rattle.hyperball.specs.declared.serial.SerialError.{SerialError}
 use Rattle.hyperball.specs.declared.serial.SerialError.TheVariants as fault
 
--- a serial run has one partition
-abbrev pub settings_of : SerialOptions → Settings
-settings_of o = record { log2m = o.log2m; seed = o.seed; parts = 1; limit = o.limit; delimiter = byte_of o.delimiter }
+abbrev pub numbers_in : SerialOptions → Numbers
+numbers_in o = numbers_of o.log2m o.seed o.parts o.limit
 
--- what a refusal says of the input; want of memory and a failed stream say nothing
-abbrev pub IsRefusal : Settings → List ℕ → SerialError → Type 0
-IsRefusal s input (fault.Edges e) = Refuses (network_in s input) e
-IsRefusal s input (fault.Plan e) = IsPlanFault s input e
-IsRefusal s input fault.Memory = ⊤
-IsRefusal s input fault.Write = ⊤
+abbrev pub settings_of : SerialOptions → Settings
+settings_of o = record { numbers = numbers_in o; delimiter = byte_of o.delimiter }
+
+-- the bytes of a list of counted vertices, where there is one
+abbrev pub list_in : Option (Bor (List ℕ)) → Option (List ℕ)
+list_in counted = option_map (λ list. list.now) counted
+
+-- the edge list and the list are plain
+abbrev pub ArePlain : List ℕ → Option (List ℕ) → Type 0
+ArePlain input list = IsPlain input × IfSome list IsPlain
+
+-- the edge list says a network, and this error is what the list of counted vertices says of it
+pub record IsListRefusal (s : Settings) (input : List ℕ) (list : Option (List ℕ)) (e : CountedError) : Type 0 where
+  pub all : Network
+  pub read : network_in s input ≡ Ok all
+  pub refused : RefusesList (counted_in s all list) e
+
+-- both say a network, over which there is such a plan
+pub record IsPlanned (s : Settings) (input : List ℕ) (list : Option (List ℕ)) : Type 0 where
+  pub network : Network
+  pub read : AreRead s input list network
+  pub planned : plan_of (plan_over s.numbers network.graph) ≡ Ok (plan_over s.numbers network.graph)
+
+-- what a refusal says of the input: each comes only where all checks before it passed
+abbrev pub IsRefusal : Settings → List ℕ → Option (List ℕ) → SerialError → Type 0
+IsRefusal s input list (fault.Edges e) = Refuses (network_in s input) e
+IsRefusal s input list (fault.Counted e) = IsListRefusal s input list e
+IsRefusal s input list (fault.Plan e) = IsPlanFault s input list e
+IsRefusal s input list fault.Memory = IsPlanned s input list
+IsRefusal s input list fault.Write = IsPlanned s input list
+
+-- what a refusal says of the network, as far as it was read
+abbrev pub RefusesRead : Settings → List ℕ → Option (List ℕ) → SerialError → Type 0
+RefusesRead s input list (fault.Edges e) = Refuses (network_in s input) e
+RefusesRead s input list (fault.Counted e) = IsListRefusal s input list e
+RefusesRead s input list (fault.Plan e) = ⊥
+RefusesRead s input list fault.Memory = ⊥
+RefusesRead s input list fault.Write = ⊥
 
 -- what a refusal says of a network that was read
-abbrev pub RefusesNetwork : Settings → Network → SerialError → Type 0
-RefusesNetwork s network (fault.Edges e) = ⊥
-RefusesNetwork s network (fault.Plan e) = plan_of (plan_over s network.graph) ≡ Err e
-RefusesNetwork s network fault.Memory = ⊤
-RefusesNetwork s network fault.Write = ⊥
+abbrev pub RefusesNetwork : Numbers → Network → SerialError → Type 0
+RefusesNetwork n network (fault.Edges e) = ⊥
+RefusesNetwork n network (fault.Counted e) = ⊥
+RefusesNetwork n network (fault.Plan e) = plan_of (plan_over n network.graph) ≡ Err e
+RefusesNetwork n network fault.Memory = plan_of (plan_over n network.graph) ≡ Ok (plan_over n network.graph)
+RefusesNetwork n network fault.Write = ⊥
 
 -- the report of a network, or why there is none
-abbrev pub AnswersNetwork : Settings → Network → Result (Vec ℕ Global) SerialError → Type 0
-AnswersNetwork s network result = MatchResult result (λ text. IsReportOf s network text.items) (RefusesNetwork s network)
+abbrev pub AnswersNetwork : Numbers → Network → Result (Vec ℕ Global) SerialError → Type 0
+AnswersNetwork n network result = MatchResult result (λ text. IsReportOf n network text.items) (RefusesNetwork n network)

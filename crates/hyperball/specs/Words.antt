@@ -1,19 +1,28 @@
 -- What the words of a command line say.
-use Rattle.std.specs.Prelude.{◌≡◌, ◌≢◌, ℕ, List, [], Option, Some, codes}
+use Rattle.std.specs.Prelude.{◌≡◌, ◌≢◌, ◌<◌, ◌^◌, ℕ, Bool, true, false, List, [], Option, Some, MatchOption, codes}
 use Rattle.std.specs.List.{AllByRecursion}
-use Rattle.std.specs.Str.Parse.{digits_value, without_leading_plus}
+use Rattle.std.specs.Str.Parse.{IsNumeral, digits_value, without_leading_plus}
 use Rattle.clap.specs.Words.{Row, Text, first_of, one_of, subcommand_of, fault_of}
 use Rattle.clap.specs.declared.builder.value_parser.ValueParser.{ValueParser}
 use Rattle.clap.specs.declared.error.kind.ErrorKind.{ErrorKind}
 use Rattle.clap.specs.declared.error.kind.ErrorKind.TheVariants as kind
+use Rattle.ball_model.specs.RunText.{AppendsReport}
 use Rattle.edgelist.specs.declared.read.Delimiter.{Delimiter}
 use Rattle.edgelist.specs.declared.read.Delimiter.TheVariants.{Tab, Comma, Space}
-use Rattle.hyperball.specs.declared.serial.SerialOptions.{SerialOptions}
+use Rattle.hyperball.specs.declared.words.RunWords.{RunWords}
 use Rattle.hyperball.specs.CommandLine.{delimiter_names, TakesNames, hyperball_app}
+use Rattle.hyperball.specs.Serial.{ArePlain, settings_of}
+use Rattle.hyperball.specs.Whole.{found_in}
 
--- the value of an option, or its default, has the digits of the number
-abbrev pub IsNumberOf : List Row → Text → ℕ → Type 0
-IsNumberOf rows id n = (text : Text) × (one_of id rows ≡ Some text) × (n ≡ digits_value 10 (without_leading_plus text))
+-- a text is this number of so many bits
+pub record IsNumber (bits : ℕ) (text : Text) (n : ℕ) : Type 0 where
+  pub numeral : IsNumeral 10 (without_leading_plus text)
+  pub value : n ≡ digits_value 10 (without_leading_plus text)
+  pub fits : n < 2 ^ bits
+
+-- an option's value is this number; where it is not given it is the usual one
+abbrev pub IsNumberOr : ℕ → ℕ → List Row → Text → ℕ → Type 0
+IsNumberOr usual bits rows id n = MatchOption (one_of id rows) (n ≡ usual) (λ text. IsNumber bits text n)
 
 -- the name of a delimiter
 abbrev pub name_of : Delimiter → Text
@@ -21,25 +30,40 @@ name_of Tab = codes "tab"
 name_of Comma = codes "comma"
 name_of Space = codes "space"
 
+-- an option's value is the name of this delimiter; where it is not given it is the tab
+abbrev pub IsDelimiter : List Row → Delimiter → Type 0
+IsDelimiter rows d = MatchOption (first_of (codes "delimiter") rows) (d ≡ Tab) (λ name. name ≡ name_of d)
+
+-- the text of a flag
+abbrev pub flag_text : Bool → Text
+flag_text true = codes "true"
+flag_text false = codes "false"
+
+-- a flag is given or not
+abbrev pub IsFlag : List Row → Text → Bool → Type 0
+IsFlag rows id b = MatchOption (one_of id rows) (b ≡ false) (λ text. text ≡ flag_text b)
+
 -- the options have these values
-pub record AreOptionsOf (rows : List Row) (o : SerialOptions) : Type 0 where
-  pub log2m : IsNumberOf rows (codes "log2m") o.log2m
-  pub seed : IsNumberOf rows (codes "seed") o.seed
-  pub limit : IsNumberOf rows (codes "limit") o.limit
-  pub delimiter : first_of (codes "delimiter") rows ≡ Some (name_of o.delimiter)
+pub record AreOptionsOf (rows : List Row) (w : RunWords) : Type 0 where
+  pub log2m : IsNumberOr 8 8 rows (codes "log2m") w.options.log2m
+  pub seed : IsNumberOr 0 64 rows (codes "seed") w.options.seed
+  pub parts : IsNumberOr 1 16 rows (codes "parts") w.options.parts
+  pub limit : IsNumberOr 4096 32 rows (codes "limit") w.options.limit
+  pub delimiter : IsDelimiter rows w.options.delimiter
+  pub counted : IsFlag rows (codes "counted") w.counted
 
 -- the subcommand is run, with these options or their defaults
-abbrev pub IsRunOf : Option (Text × List Row) → SerialOptions → Type 0
-IsRunOf sub o = (rows : List Row) × (sub ≡ Some (codes "run", rows)) × AreOptionsOf rows o
+abbrev pub IsRunOf : Option (Text × List Row) → RunWords → Type 0
+IsRunOf sub w = (rows : List Row) × (sub ≡ Some (codes "run", rows)) × AreOptionsOf rows w
 
 -- what the program's command finds wrong with the words
 pub record HasFaults (words : List Text) (kinds : List ErrorKind) : Type 0 where
   pub are : (p : ValueParser) → TakesNames delimiter_names p → fault_of (hyperball_app p) words ≡ kinds
 
 -- the words are read as those of run, with these options or their defaults
-pub record IsRun (words : List Text) (o : SerialOptions) : Type 0 where
+pub record IsRun (words : List Text) (w : RunWords) : Type 0 where
   pub accepted : HasFaults words []
-  pub command : (p : ValueParser) → TakesNames delimiter_names p → IsRunOf (subcommand_of (hyperball_app p) words) o
+  pub command : (p : ValueParser) → TakesNames delimiter_names p → IsRunOf (subcommand_of (hyperball_app p) words) w
 
 -- a mistake, and no wish for help
 abbrev pub IsMistake : ErrorKind → Type 0
@@ -48,3 +72,10 @@ IsMistake k = (k ≢ kind.OutOfMemory) × ((k ≢ kind.DisplayHelp) × (k ≢ ki
 -- there is a fault, and each is a mistake
 abbrev pub AreMistakes : List ErrorKind → Type 0
 AreMistakes kinds = (kinds ≢ []) × AllByRecursion IsMistake kinds
+
+-- the report of what the run finds in the input is appended, where that is plain
+pub record Reports (w : RunWords) (input : List ℕ) (old new : Option (List ℕ)) : Type 0 where
+  pub edges : List ℕ
+  pub list : Option (List ℕ)
+  pub found : found_in w.counted input ≡ Some (edges, list)
+  pub appended : ArePlain edges list → AppendsReport (settings_of w.options) edges list old new

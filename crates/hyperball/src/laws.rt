@@ -2,19 +2,20 @@
 
 ghost use Rattle.std.specs.Prelude.{◌∷◌, [], codes};
 ghost use Rattle.clap.specs.declared.error.kind.ErrorKind.TheVariants.{DisplayHelp, InvalidValue, UnknownArgument, ValueValidation};
-ghost use Rattle.edgelist.specs.declared.read.Delimiter.TheVariants.{Tab, Comma};
+ghost use Rattle.hyperball.specs.LawWords.{counted_words, log2m_words, space_words};
 ghost use Rattle.hyperball.specs.Words.{HasFaults, IsRun};
 
 /// These words are read as those of run; an option that is not given has its default.
 pub fn words_of_a_run()
-    ensures log2m { IsRun (codes "hyperball" ∷ codes "run" ∷ codes "--log2m" ∷ codes "4" ∷ []) (record { log2m = 4; seed = 0; limit = 4096; delimiter = Tab }) }
-    ensures delimiter { IsRun (codes "hyperball" ∷ codes "run" ∷ codes "--delimiter" ∷ codes "comma" ∷ []) (record { log2m = 8; seed = 0; limit = 4096; delimiter = Comma }) }
+    ensures log2m { IsRun (codes "hyperball" ∷ codes "run" ∷ codes "--log2m" ∷ codes "4" ∷ []) log2m_words }
+    ensures limit { IsRun (codes "hyperball" ∷ codes "run" ∷ codes "--delimiter=space" ∷ codes "--limit=5000" ∷ []) space_words }
+    ensures counted { IsRun (codes "hyperball" ∷ codes "run" ∷ codes "--counted" ∷ codes "--parts" ∷ codes "2" ∷ []) counted_words }
 {}
 
 /// These words ask for help, or are mistaken.
 pub fn words_of_no_run()
     ensures help { HasFaults (codes "hyperball" ∷ codes "run" ∷ codes "--help" ∷ []) (DisplayHelp ∷ []) }
-    ensures unknown { HasFaults (codes "hyperball" ∷ codes "run" ∷ codes "--parts" ∷ codes "2" ∷ []) (UnknownArgument ∷ []) }
+    ensures unknown { HasFaults (codes "hyperball" ∷ codes "run" ∷ codes "--replicas" ∷ codes "2" ∷ []) (UnknownArgument ∷ []) }
     ensures number { HasFaults (codes "hyperball" ∷ codes "run" ∷ codes "--log2m" ∷ codes "300" ∷ []) (ValueValidation ∷ []) }
     ensures name { HasFaults (codes "hyperball" ∷ codes "run" ∷ codes "--delimiter" ∷ codes "semicolon" ∷ []) (InvalidValue ∷ []) }
 {}

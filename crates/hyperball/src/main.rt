@@ -5,13 +5,12 @@
 #![tactic(auto)]
 
 pub mod laws;
-mod report;
+mod partitions;
 pub mod serial;
 pub mod serve;
-mod spread;
-mod supersteps;
 #[cfg(test)]
 mod tests;
+pub mod whole;
 pub mod words;
 
 use ball_model::{CountingReader, CountingWriter};

@@ -1,17 +1,22 @@
 //! A run in one thread: from bytes to bytes.
 
-ghost use Rattle.std.specs.Prelude.{◌≡◌, ◌≢◌, OnOk, IfErr, IfSome, Err};
-ghost use Rattle.std.specs.Io.KnownBytes.{Keeps};
+ghost use Rattle.std.specs.Prelude.{◌≡◌, ◌≢◌, ◌<◌, Ok, Err, OnOk, OnErr, IfOk, IfErr, IfSome};
+ghost use Rattle.std.specs.Io.KnownBytes.{Appends, Keeps};
+ghost use Rattle.ball_model.specs.Job.{IsJob};
 ghost use Rattle.ball_model.specs.Input.{IsPlain};
-ghost use Rattle.ball_model.specs.RunText.{AppendsReport};
-ghost use Rattle.ball_model.specs.Streams.{Rises};
-ghost use Rattle.hyperball.specs.Serial.{AnswersNetwork, IsRefusal, settings_of};
+ghost use Rattle.ball_model.specs.PlanValue.{mixing_of};
+ghost use Rattle.ball_model.specs.Report.{report_of};
+ghost use Rattle.ball_model.specs.RunText.{AppendsReport, AreRead, IsReport, counted_in};
+ghost use Rattle.edgelist.specs.Counting.{RefusesList};
+ghost use Rattle.hyperball.specs.Serial.{AnswersNetwork, ArePlain, IsRefusal, RefusesRead, list_in, numbers_in, settings_of};
 
-use crate::report::report;
-use ball_model::{CountedRead, CountedWrite, PlanError, put_all};
-use edgelist::{Delimiter, EdgeError, EdgeLimits, Graph, read_edges};
-use std::alloc::Global;
+use crate::partitions::run_to_end;
+use ball_model::{CountedRead, CountedWrite, CountingWriter, Plan, PlanError, put_all};
+use edgelist::{CountedError, Delimiter, EdgeError, EdgeLimits, Graph, read_edges};
+use report::write_report;
+use std::alloc::{AllocError, Global};
 use std::hash::RandomState;
+use std::thread::Threads;
 use thiserror::Error;
 
 /// The most vertices and records that a run reads.
@@ -20,13 +25,19 @@ const LIMITS: EdgeLimits = EdgeLimits {
     edges: 67_108_864,
 };
 
+/// The room for a line of the report that is taken before it is written: enough for most. Room that no line needs is
+/// never touched, and where lines are longer the text grows.
+const LINE_ROOM: usize = 96;
+
 /// What is asked of a run.
-#[derive(Clone, Copy, Debug)]
+#[derive(Clone, Copy, Debug, PartialEq, Eq)]
 pub struct SerialOptions {
     /// The binary logarithm of the number of registers of a counter.
     pub log2m: u8,
     /// The seed under which vertices are hashed.
     pub seed: u64,
+    /// The number of partitions that vertices are dealt out to.
+    pub parts: u16,
     /// The superstep at which the run ends at the latest.
     pub limit: u32,
     /// What stands between the two fields of a line.
@@ -39,6 +50,9 @@ pub enum SerialError {
     /// The edge list is refused.
     #[error("{0}")]
     Edges(EdgeError),
+    /// The list of counted vertices is refused.
+    #[error("{0}")]
+    Counted(CountedError),
     /// There is no such plan.
     #[error("{0}")]
     Plan(PlanError),
@@ -50,50 +64,168 @@ pub enum SerialError {
     Write,
 }
 
-// The report of a graph.
-fn answer(alloc: Global, graph: &Graph, options: &SerialOptions) -> Result<Vec<u8>, SerialError>
-    ensures { AnswersNetwork (settings_of options.now) graph.now result }
-{
-    let plan = match graph.plan(options.log2m, options.seed, 1, options.limit) {
-        Ok(plan) => plan,
-        Err(fault) => return Err(SerialError::Plan(fault)),
-    };
-    match report(alloc, graph, &plan) {
-        Ok(text) => Ok(text),
-        Err(_) => Err(SerialError::Memory),
+impl From<EdgeError> for SerialError {
+    ghost use Rattle.hyperball.specs.declared.serial.SerialError.TheVariants.{Edges};
+
+    ghost from_gives = { λ fault e. e ≡ Edges fault };
+
+    fn from(fault: EdgeError) -> SerialError {
+        SerialError::Edges(fault)
     }
 }
 
-/// Reads an edge list and writes its report, in one thread and one partition.
-///
-/// The report is built in memory and then written, so nothing is written unless the answer is Ok or `Write`. `Read`
-/// and `Write` are answered only where a call of the stream failed, and nothing is tried again. What is said of the
-/// input holds for plain bytes: no byte order mark at the front, and an LF after each CR. Memory is two times 2^log2m
-/// bytes a vertex, the graph, and the report.
-pub fn run_serial<H: AllocGlobal, R: CountedRead, W: CountedWrite>(
-    rt: &H,
+impl From<CountedError> for SerialError {
+    ghost use Rattle.hyperball.specs.declared.serial.SerialError.TheVariants.{Counted};
+
+    ghost from_gives = { λ fault e. e ≡ Counted fault };
+
+    fn from(fault: CountedError) -> SerialError {
+        SerialError::Counted(fault)
+    }
+}
+
+impl From<PlanError> for SerialError {
+    ghost use Rattle.hyperball.specs.declared.serial.SerialError.TheVariants.{Plan};
+
+    ghost from_gives = { λ fault e. e ≡ Plan fault };
+
+    fn from(fault: PlanError) -> SerialError {
+        SerialError::Plan(fault)
+    }
+}
+
+impl From<AllocError> for SerialError {
+    ghost use Rattle.hyperball.specs.declared.serial.SerialError.TheVariants.{Memory};
+
+    ghost from_gives = { λ _ e. e ≡ Memory };
+
+    fn from(_fault: AllocError) -> SerialError {
+        SerialError::Memory
+    }
+}
+
+// Counts only the vertices of a list, where there is one.
+fn count_listed(
+    alloc: Global,
+    graph: &mut Graph,
+    counted: Option<&[u8]>,
+    options: &SerialOptions,
+) -> Result<(), CountedError>
+    ensures ok { IfSome (list_in counted.entry) IsPlain → OnOk result (counted_in (settings_of options.now) graph.old (list_in counted.entry) ≡ Ok graph.new) }
+    ensures refused { IfSome (list_in counted.entry) IsPlain → IfErr result (RefusesList (counted_in (settings_of options.now) graph.old (list_in counted.entry))) }
+{
+    match counted {
+        Some(list) => graph.count_only(alloc, options.delimiter, list),
+        None => Ok(()),
+    }
+}
+
+// The graph that an edge list and a list of counted vertices say.
+fn read_graph<R: CountedRead>(
+    alloc: Global,
     state: RandomState,
     reader: &mut R,
-    writer: &mut W,
+    counted: Option<&[u8]>,
     options: &SerialOptions,
-) -> Result<(), SerialError>
-    ensures ok { OnOk result (IfSome (R.remaining reader.old) (λ input. IsPlain input → AppendsReport (settings_of options.now) input (W.contents writer.old) (W.contents writer.new))) }
-    ensures refused { IfErr result (λ e. IfSome (R.remaining reader.old) (λ input. IsPlain input → IsRefusal (settings_of options.now) input e)) }
-    ensures read { result ≡ Err (SerialError.Edges EdgeError.Read) → Rises (R.failed_calls reader.old) (R.failed_calls reader.new) }
-    ensures write { result ≡ Err SerialError.Write → Rises (W.failed_calls writer.old) (W.failed_calls writer.new) }
-    ensures untouched { IfErr result (λ e. e ≢ SerialError.Write → Keeps (W.contents writer.old) (W.contents writer.new)) }
+) -> Result<Graph, SerialError>
+    ensures ok { IfSome (R.remaining reader.old) (λ input. ArePlain input (list_in counted.entry) → IfOk result (AreRead (settings_of options.now) input (list_in counted.entry))) }
+    ensures refused { IfSome (R.remaining reader.old) (λ input. ArePlain input (list_in counted.entry) → IfErr result (RefusesRead (settings_of options.now) input (list_in counted.entry))) }
+    ensures kind { IfErr result (λ e. e ≢ SerialError.Write) }
+    ensures read { result ≡ Err (SerialError.Edges EdgeError.Read) → R.failed_calls reader.old < R.failed_calls reader.new }
 {
-    let graph = match read_edges(rt.alloc(), state, reader, options.delimiter, LIMITS) {
-        Ok(graph) => graph,
-        Err(fault) => return Err(SerialError::Edges(fault)),
-    };
-    let text = match answer(rt.alloc(), &graph, options) {
-        Ok(text) => text,
-        Err(fault) => return Err(fault),
-    };
-    if put_all(writer, &text) {
+    let mut graph = read_edges(alloc, state, reader, options.delimiter, LIMITS)?;
+    count_listed(alloc, &mut graph, counted, options)?;
+    Ok(graph)
+}
+
+// The text of the report of a graph under a plan. The error is that memory was refused.
+fn planned_text<T: AllocGlobal + Threads + Sync>(
+    rt: &T,
+    graph: &Graph,
+    plan: &Plan,
+) -> Result<Vec<u8>, AllocError>
+    requires { IsJob (record { graph = graph.now.graph; plan = plan.now }) }
+    ensures { IfOk result (λ text. text.items ≡ report_of (mixing_of plan.now) graph.now.graph graph.now.labels plan.now.limit) }
+{
+    let replicas = run_to_end(rt.alloc(), graph, plan)?;
+    let room = graph.vertices() as usize * LINE_ROOM;
+    let buffer = Vec::with_capacity(rt.alloc(), room)?;
+    let mut text = CountingWriter::new(buffer);
+    match write_report(rt, &mut text, graph, &replicas) {
+        Ok(()) => Ok(text.into_inner()),
+        Err(_) => Err(AllocError),
+    }
+}
+
+// The text of the report of a graph.
+fn report_text<T: AllocGlobal + Threads + Sync>(
+    rt: &T,
+    graph: &Graph,
+    options: &SerialOptions,
+) -> Result<Vec<u8>, SerialError>
+    ensures { AnswersNetwork (numbers_in options.now) graph.now result }
+{
+    let plan = graph.plan(options.log2m, options.seed, options.parts, options.limit)?;
+    let text = planned_text(rt, graph, &plan)?;
+    Ok(text)
+}
+
+// The text of the report of what is read.
+fn read_text<T: AllocGlobal + Threads + Sync, R: CountedRead>(
+    rt: &T,
+    state: RandomState,
+    reader: &mut R,
+    counted: Option<&[u8]>,
+    options: &SerialOptions,
+) -> Result<Vec<u8>, SerialError>
+    ensures ok { IfSome (R.remaining reader.old) (λ input. ArePlain input (list_in counted.entry) →
+        IfOk result (λ text. IsReport (settings_of options.now) input (list_in counted.entry) text.items)) }
+    ensures refused { IfSome (R.remaining reader.old) (λ input. ArePlain input (list_in counted.entry) →
+        IfErr result (IsRefusal (settings_of options.now) input (list_in counted.entry))) }
+    ensures kind { IfErr result (λ e. e ≢ SerialError.Write) }
+    ensures read { result ≡ Err (SerialError.Edges EdgeError.Read) → R.failed_calls reader.old < R.failed_calls reader.new }
+{
+    let graph = read_graph(rt.alloc(), state, reader, counted, options)?;
+    report_text(rt, &graph, options)
+}
+
+// Writes a text.
+fn write_text<W: CountedWrite>(writer: &mut W, text: &[u8]) -> Result<(), SerialError>
+    ensures done { OnOk result (Appends (W.contents writer.old) (W.contents writer.new) text.now) }
+    ensures kind { IfErr result (λ e. e ≡ SerialError.Write) }
+    ensures failed { OnErr result (W.failed_calls writer.old < W.failed_calls writer.new) }
+{
+    if put_all(writer, text) {
         Ok(())
     } else {
         Err(SerialError::Write)
     }
+}
+
+/// Reads an edge list and writes its report, in one thread.
+///
+/// With a list of `counted` vertices only those are counted; the list is read after the edge list, and its lines are
+/// as there, one label in each. The report is built in memory and then written, so nothing is written unless the
+/// answer is Ok or `Write`. `Edges(Read)` and `Write` are answered only where a call of the stream failed, and nothing
+/// is tried again; `Memory` and `Write` only where what was read has a report. What is said of the input holds for
+/// plain bytes: no byte order mark at the front, and an LF after each CR. Memory is some two times 2^log2m bytes a
+/// vertex, the graph and its parts, and the report.
+pub fn run_serial<T: AllocGlobal + Threads + Sync, R: CountedRead, W: CountedWrite>(
+    rt: &T,
+    state: RandomState,
+    reader: &mut R,
+    counted: Option<&[u8]>,
+    writer: &mut W,
+    options: &SerialOptions,
+) -> Result<(), SerialError>
+    ensures ok { OnOk result (IfSome (R.remaining reader.old) (λ input. ArePlain input (list_in counted.entry) →
+        AppendsReport (settings_of options.now) input (list_in counted.entry) (W.contents writer.old) (W.contents writer.new))) }
+    ensures refused { IfErr result (λ e. IfSome (R.remaining reader.old) (λ input. ArePlain input (list_in counted.entry) →
+        IsRefusal (settings_of options.now) input (list_in counted.entry) e)) }
+    ensures read { result ≡ Err (SerialError.Edges EdgeError.Read) → R.failed_calls reader.old < R.failed_calls reader.new }
+    ensures write { result ≡ Err SerialError.Write → W.failed_calls writer.old < W.failed_calls writer.new }
+    ensures untouched { IfErr result (λ e. e ≢ SerialError.Write → Keeps (W.contents writer.old) (W.contents writer.new)) }
+{
+    let text = read_text(rt, state, reader, counted, options)?;
+    write_text(writer, &text)
 }

@@ -1,25 +1,27 @@
 //! From words and bytes to bytes and a status.
 
-ghost use Rattle.std.specs.Prelude.{◌≡◌, ◌≢◌, ◌≤◌, ◌⊎◌, ◌∷◌, [], IfSome, map};
+ghost use Rattle.std.specs.Prelude.{◌≡◌, ◌≢◌, ◌<◌, ◌≤◌, ◌+◌, ◌⊎◌, ◌∷◌, [], IfSome, OnErr, OnOk, List, map, true};
+ghost use Rattle.std.specs.Io.KnownBytes.{Keeps};
 ghost use Rattle.std.specs.String.{string_bytes};
 ghost use Rattle.clap.specs.Words.{kind_of};
 ghost use Rattle.clap.specs.declared.error.kind.ErrorKind.TheVariants as kind;
-ghost use Rattle.ball_model.specs.Input.{IsPlain};
-ghost use Rattle.ball_model.specs.RunText.{AppendsReport};
-ghost use Rattle.hyperball.specs.Serial.{settings_of};
-ghost use Rattle.hyperball.specs.Words.{AreMistakes, HasFaults, IsRun};
-ghost use Rattle.hyperball.specs.declared.serial.SerialOptions.{SerialOptions as Options};
 ghost use Rattle.clap.specs.declared.error.kind.ErrorKind.{ErrorKind as Kind};
-ghost use Rattle.std.specs.Prelude.{List};
+ghost use Rattle.hyperball.specs.Whole.{ReadsAtMost, most_bytes};
+ghost use Rattle.hyperball.specs.Words.{AreMistakes, HasFaults, IsRun, Reports};
+ghost use Rattle.hyperball.specs.declared.words.RunWords.{RunWords as Run};
 
-use crate::serial::{SerialOptions, run_serial};
-use crate::words::{parse, run_options};
-use ball_model::{CountedRead, CountedWrite};
+use crate::serial::{SerialError, SerialOptions, run_serial};
+use crate::whole::{WholeError, read_whole, sections};
+use crate::words::{RunWords, parse, run_words};
+use ball_model::{CountedRead, CountedWrite, CountingReader, put_all};
 use clap::error::ErrorKind;
+use std::alloc::Global;
 use std::fmt::Display;
 use std::hash::RandomState;
 use std::io::Write;
 use std::random::RandomSource;
+use std::thread::Threads;
+use thiserror::Error;
 
 /// The status of a run that wrote its report, or of help that was asked for.
 const DONE: u8 = 0;
@@ -30,6 +32,31 @@ const FAULT: u8 = 1;
 /// The status of words that are refused.
 const MISTAKE: u8 = 2;
 
+// Why words of a run give no report, in the order of the checks.
+#[derive(Clone, Copy, Debug, Error)]
+enum RunFault {
+    #[error("the system gives no random words")]
+    Random,
+    #[error("{0}")]
+    Input(WholeError),
+    #[error("no line %% before the list")]
+    NoList,
+    #[error("{0}")]
+    Run(SerialError),
+}
+
+impl From<WholeError> for RunFault {
+    fn from(fault: WholeError) -> RunFault {
+        RunFault::Input(fault)
+    }
+}
+
+impl From<SerialError> for RunFault {
+    fn from(fault: SerialError) -> RunFault {
+        RunFault::Run(fault)
+    }
+}
+
 // Tells a fault in one line, which is dropped where it cannot be written.
 fn tell_fault<F: Write>(faults: &mut F, fault: impl Display + Drop) -> u8
     ensures { result ≡ 1 }
@@ -38,19 +65,47 @@ fn tell_fault<F: Write>(faults: &mut F, fault: impl Display + Drop) -> u8
     FAULT
 }
 
+// Writes help that was asked for.
+fn tell_help<W: CountedWrite, F: Write>(
+    alloc: Global,
+    help: &clap::Error,
+    writer: &mut W,
+    faults: &mut F,
+) -> u8
+    ensures status { (result ≡ 0) ⊎ (result ≡ 1) }
+    ensures kept { result ≡ 1 → Keeps (W.contents writer.old) (W.contents writer.new) ⊎ (W.failed_calls writer.old < W.failed_calls writer.new) }
+    ensures silent { result ≡ 0 → Keeps (F.contents faults.old) (F.contents faults.new) }
+{
+    let Ok(text) = format!(in alloc; "{help}") else {
+        return tell_fault(faults, "out of memory");
+    };
+    if put_all(writer, text.as_bytes()) {
+        DONE
+    } else {
+        tell_fault(faults, "the output cannot be written")
+    }
+}
+
 // Tells why the words are no run: help goes to the writer, and all else to the faults.
-fn tell_words<W: Write, F: Write>(error: &clap::Error, writer: &mut W, faults: &mut F) -> u8
+fn tell_words<W: CountedWrite, F: Write>(
+    alloc: Global,
+    error: &clap::Error,
+    writer: &mut W,
+    faults: &mut F,
+) -> u8
     ensures status { result ≤ 2 }
     ensures memory { kind_of error.now ≡ kind.OutOfMemory → result ≡ 1 }
     ensures help { kind_of error.now ≡ kind.DisplayHelp → (result ≡ 0) ⊎ (result ≡ 1) }
     ensures mistake { kind_of error.now ≢ kind.OutOfMemory → kind_of error.now ≢ kind.DisplayHelp → kind_of error.now ≢ kind.DisplayVersion → result ≡ 2 }
+    ensures kept { result ≡ 1 → Keeps (W.contents writer.old) (W.contents writer.new) ⊎ (W.failed_calls writer.old < W.failed_calls writer.new) }
+    ensures mistaken { result ≡ 2 → Keeps (W.contents writer.old) (W.contents writer.new) }
+    ensures silent { result ≡ 0 → Keeps (F.contents faults.old) (F.contents faults.new) }
 {
     match error.kind() {
         ErrorKind::OutOfMemory => tell_fault(faults, "out of memory"),
-        ErrorKind::DisplayHelp | ErrorKind::DisplayVersion => match write!(writer, "{error}") {
-            Ok(()) => DONE,
-            Err(_) => tell_fault(faults, "the output cannot be written"),
-        },
+        ErrorKind::DisplayHelp | ErrorKind::DisplayVersion => {
+            tell_help(alloc, error, writer, faults)
+        }
         _ => {
             let _ = write!(faults, "{error}");
             MISTAKE
@@ -58,22 +113,63 @@ fn tell_words<W: Write, F: Write>(error: &clap::Error, writer: &mut W, faults: &
     }
 }
 
-// A run with these options.
-fn serve_run<H: AllocGlobal + RandomSource, R: CountedRead, W: CountedWrite, F: Write>(
+// A run over an input that has the list of counted vertices too, after a line of %%.
+fn run_listed<H: AllocGlobal + Threads + Sync, R: CountedRead, W: CountedWrite>(
     rt: &H,
+    state: RandomState,
     options: &SerialOptions,
     reader: &mut R,
     writer: &mut W,
-    faults: &mut F,
-) -> u8
-    ensures status { (result ≡ 0) ⊎ (result ≡ 1) }
-    ensures done { result ≡ 0 → IfSome (R.remaining reader.old) (λ input. IsPlain input → AppendsReport (settings_of options.now) input (W.contents writer.old) (W.contents writer.new)) }
+) -> Result<(), RunFault>
+    ensures done { OnOk result (IfSome (R.remaining reader.old)
+        (λ input. Reports (record { options = options.now; counted = true }) input (W.contents writer.old) (W.contents writer.new))) }
+    ensures few { ReadsAtMost (most_bytes + 1) (R.remaining reader.old) (R.remaining reader.new) }
+    ensures kept { OnErr result (Keeps (W.contents writer.old) (W.contents writer.new) ⊎ (W.failed_calls writer.old < W.failed_calls writer.new)) }
 {
-    let state = match RandomState::new(rt) {
-        Ok(state) => state,
-        Err(_) => return tell_fault(faults, "the system gives no random words"),
+    let input = read_whole(rt.alloc(), reader)?;
+    let Some((edges, list)) = sections(&input) else {
+        return Err(RunFault::NoList);
     };
-    match run_serial(rt, state, reader, writer, options) {
+    let mut edges = CountingReader::new(edges);
+    run_serial(rt, state, &mut edges, Some(list), writer, options)?;
+    Ok(())
+}
+
+// A run of these words.
+fn run<H: AllocGlobal + RandomSource + Threads + Sync, R: CountedRead, W: CountedWrite>(
+    rt: &H,
+    words: &RunWords,
+    reader: &mut R,
+    writer: &mut W,
+) -> Result<(), RunFault>
+    ensures done { OnOk result (IfSome (R.remaining reader.old) (λ input. Reports words.now input (W.contents writer.old) (W.contents writer.new))) }
+    ensures few { words.now.counted ≡ true → ReadsAtMost (most_bytes + 1) (R.remaining reader.old) (R.remaining reader.new) }
+    ensures kept { OnErr result (Keeps (W.contents writer.old) (W.contents writer.new) ⊎ (W.failed_calls writer.old < W.failed_calls writer.new)) }
+{
+    let Ok(state) = RandomState::new(rt) else {
+        return Err(RunFault::Random);
+    };
+    if words.counted {
+        return run_listed(rt, state, &words.options, reader, writer);
+    }
+    run_serial(rt, state, reader, None, writer, &words.options)?;
+    Ok(())
+}
+
+// The status of a run, whose fault is told.
+fn serve_run<
+    H: AllocGlobal + RandomSource + Threads + Sync,
+    R: CountedRead,
+    W: CountedWrite,
+    F: Write,
+>(rt: &H, words: &RunWords, reader: &mut R, writer: &mut W, faults: &mut F) -> u8
+    ensures status { (result ≡ 0) ⊎ (result ≡ 1) }
+    ensures done { result ≡ 0 → IfSome (R.remaining reader.old) (λ input. Reports words.now input (W.contents writer.old) (W.contents writer.new)) }
+    ensures few { words.now.counted ≡ true → ReadsAtMost (most_bytes + 1) (R.remaining reader.old) (R.remaining reader.new) }
+    ensures kept { result ≡ 1 → Keeps (W.contents writer.old) (W.contents writer.new) ⊎ (W.failed_calls writer.old < W.failed_calls writer.new) }
+    ensures silent { result ≡ 0 → Keeps (F.contents faults.old) (F.contents faults.new) }
+{
+    match run(rt, words, reader, writer) {
         Ok(()) => DONE,
         Err(fault) => tell_fault(faults, fault),
     }
@@ -81,29 +177,30 @@ fn serve_run<H: AllocGlobal + RandomSource, R: CountedRead, W: CountedWrite, F: 
 
 /// Does what the words of a command line say, and gives the exit status.
 ///
-/// 0: the report was written, or help was asked for, whose text goes to the writer. 1: a fault, told in one line on
-/// `faults`. 2: words that are refused, as `clap` tells it there. The first word is the program's name.
-pub fn serve<H: AllocGlobal + RandomSource, R: CountedRead, W: CountedWrite, F: Write>(
-    rt: &H,
-    words: &[String],
-    reader: &mut R,
-    writer: &mut W,
-    faults: &mut F,
-) -> u8
-    ensures run { (o : Options) → IsRun (map (λ w. string_bytes w) words.now) o → result ≡ 0 →
-        IfSome (R.remaining reader.old) (λ input. IsPlain input → AppendsReport (settings_of o) input (W.contents writer.old) (W.contents writer.new)) }
+/// 0: the report was written, or help was asked for, whose text goes to the writer; nothing goes to `faults`. 1: a
+/// fault, told in one line on `faults`; nothing was written unless a write failed. 2: words that are refused, as `clap`
+/// tells it there; nothing was written. The first word is the program's name. With `--counted` the input is read whole,
+/// at most 67,108,865 bytes of it, and has the edge list, a line of exactly `%%`, and the list of counted vertices.
+pub fn serve<
+    H: AllocGlobal + RandomSource + Threads + Sync,
+    R: CountedRead,
+    W: CountedWrite,
+    F: Write,
+>(rt: &H, words: &[String], reader: &mut R, writer: &mut W, faults: &mut F) -> u8
+    ensures run { (w : Run) → IsRun (map (λ w. string_bytes w) words.now) w → result ≡ 0 →
+        IfSome (R.remaining reader.old) (λ input. Reports w input (W.contents writer.old) (W.contents writer.new)) }
+    ensures few { (w : Run) → IsRun (map (λ w. string_bytes w) words.now) w → w.counted ≡ true →
+        ReadsAtMost (most_bytes + 1) (R.remaining reader.old) (R.remaining reader.new) }
     ensures mistaken { (kinds : List Kind) → HasFaults (map (λ w. string_bytes w) words.now) kinds → AreMistakes kinds → (result ≡ 2) ⊎ (result ≡ 1) }
     ensures help { HasFaults (map (λ w. string_bytes w) words.now) (kind.DisplayHelp ∷ []) → (result ≡ 0) ⊎ (result ≡ 1) }
     ensures status { result ≤ 2 }
     ensures two { result ≡ 2 → HasFaults (map (λ w. string_bytes w) words.now) [] → ⊥ }
+    ensures two_kept { result ≡ 2 → Keeps (W.contents writer.old) (W.contents writer.new) }
+    ensures one_kept { result ≡ 1 → Keeps (W.contents writer.old) (W.contents writer.new) ⊎ (W.failed_calls writer.old < W.failed_calls writer.new) }
+    ensures silent { result ≡ 0 → Keeps (F.contents faults.old) (F.contents faults.new) }
 {
-    let matches = match parse(rt.alloc(), words) {
-        Ok(matches) => matches,
-        Err(error) => return tell_words(&error, writer, faults),
-    };
-    match run_options(&matches) {
-        Some(options) => serve_run(rt, &options, reader, writer, faults),
-        // the parser has checked every value, so this does not come
-        None => tell_fault(faults, "out of memory"),
+    match parse(rt.alloc(), words) {
+        Ok(matches) => serve_run(rt, &run_words(&matches), reader, writer, faults),
+        Err(error) => tell_words(rt.alloc(), &error, writer, faults),
     }
 }

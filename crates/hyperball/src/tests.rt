@@ -5,21 +5,24 @@ ghost use Rattle.std.specs.Prelude.{None};
 use crate::laws::{words_of_a_run, words_of_no_run};
 use crate::serial::{SerialError, SerialOptions, run_serial};
 use crate::serve::serve;
-use crate::words::{command, parse, run_options};
-use ball_model::{CountedRead, CountedWrite, CountingReader, CountingWriter, PlanError};
-use edgelist::{Delimiter, EdgeError};
+use crate::whole::{WholeError, sections};
+use crate::words::{RunWords, command, parse, run_words};
+use ball_model::{CountedWrite, CountingReader, CountingWriter, PlanError};
+use edgelist::{CountedError, Delimiter, EdgeError};
 use std::hash::RandomState;
 use std::io;
 use std::io::{ErrorKind, Read, Write};
 use std::process::Abort;
 use std::random::RandomSource;
 use std::test::Fail;
+use std::thread::Threads;
 
 const TWO_EDGES: &[u8] = b"superstep,0,33.803869
 superstep,1,34.851860
 superstep,2,35.588471
 superstep,3,35.588471
 end,3,stable
+gain,0.708147
 vertex,a,11.390942,0.000000,0.000000,1.000000,15
 vertex,b,11.780376,0.665022,1.503709,208.680703,14
 vertex,c,12.417153,0.751274,0.538737,83.065637,13
@@ -28,17 +31,20 @@ vertex,c,12.417153,0.751274,0.538737,83.065637,13
 const LONE_VERTEX: &[u8] = b"superstep,0,11.390942
 superstep,1,11.390942
 end,1,stable
+gain,0.000000
 vertex,x,11.390942,0.000000,0.000000,1.000000,15
 ";
 
 const EMPTY_INPUT: &[u8] = b"superstep,0,0.000000
 superstep,1,0.000000
 end,1,stable
+gain,0.000000
 ";
 
 const LIMIT_OF_ONE: &[u8] = b"superstep,0,33.803869
 superstep,1,34.851860
 end,1,limit
+gain,0.523995
 vertex,a,11.390942,0.000000,0.000000,1.000000,15
 vertex,b,11.780376,0.665022,1.503709,208.680703,14
 vertex,c,11.680542,0.382969,2.611177,356.256149,14
@@ -48,6 +54,7 @@ const TWO_CYCLE: &[u8] = b"superstep,0,22.506296
 superstep,1,23.560752
 superstep,2,23.560752
 end,2,stable
+gain,0.527228
 vertex,a,11.780376,0.389434,2.567829,356.356298,14
 vertex,b,11.780376,0.665022,1.503709,208.680703,14
 ";
@@ -56,6 +63,7 @@ const QUOTED_LABELS: &[u8] = b"superstep,0,22.506296
 superstep,1,23.171318
 superstep,2,23.171318
 end,2,stable
+gain,0.332511
 vertex,\"x,y\",11.390942,0.000000,0.000000,1.000000,15
 vertex,\"q\"\"\",11.780376,0.665022,1.503709,208.680703,14
 ";
@@ -72,6 +80,7 @@ superstep,6,106.010779
 superstep,7,107.217096
 superstep,8,107.217096
 end,8,stable
+gain,3.164821
 vertex,a,11.390942,0.000000,0.000000,1.000000,15
 vertex,b,11.780376,0.665022,1.503709,208.680703,14
 vertex,c,12.417153,0.751274,0.538737,83.065637,13
@@ -81,6 +90,35 @@ vertex,f,14.357333,1.146133,0.098473,20.298611,10
 vertex,g,14.981565,1.491561,0.067351,15.116905,9
 vertex,h,16.026790,1.470800,0.046512,11.947143,8
 ";
+
+const PERCENTS: &[u8] = b"superstep,0,11.390942
+superstep,1,11.390942
+end,1,stable
+gain,0.000000
+vertex,%%,11.390942,0.000000,0.000000,1.000000,15
+";
+
+const ONE_COUNTED: &[u8] = b"superstep,0,32.926942
+superstep,1,33.549884
+superstep,2,34.172826
+superstep,3,34.172826
+end,3,stable
+gain,0.467206
+vertex,a,11.390942,0.000000,0.000000,1.000000,15
+vertex,b,11.390942,0.622942,1.605285,208.291557,15
+vertex,c,11.390942,0.311471,0.802642,104.145778,15
+";
+
+const NONE_COUNTED: &[u8] = b"superstep,0,32.304000
+superstep,1,32.304000
+end,1,stable
+gain,0.000000
+vertex,a,10.768000,0.000000,0.000000,1.000000,16
+vertex,b,10.768000,0.000000,0.000000,1.000000,16
+vertex,c,10.768000,0.000000,0.000000,1.000000,16
+";
+
+const COUNTED: [&str; 5] = ["hyperball", "run", "--log2m", "4", "--counted"];
 
 const RUN: [&str; 4] = ["hyperball", "run", "--log2m", "4"];
 
@@ -102,7 +140,7 @@ fn words_of<H: AllocGlobal>(rt: &H, words: &[&str]) -> Result<Vec<String>, Fail>
 }
 
 // Serves words over an input in memory.
-fn serve_input<H: AllocGlobal + RandomSource>(
+fn serve_input<H: AllocGlobal + RandomSource + Threads + Sync>(
     rt: &H,
     words: &[&str],
     input: &[u8],
@@ -125,44 +163,46 @@ fn serve_input<H: AllocGlobal + RandomSource>(
     })
 }
 
+// Just this was told and written.
+fn is_served(served: &Served, status: u8, output: &[u8], faults: &[u8]) -> bool {
+    served.status == status
+        && served.output.as_slice() == output
+        && served.faults.as_slice() == faults
+}
+
 // The words are a run that writes this and nothing else.
-fn reports<H: Abort + AllocGlobal + RandomSource>(
+fn reports<H: Abort + AllocGlobal + RandomSource + Threads + Sync>(
     rt: &H,
     words: &[&str],
     input: &[u8],
     report: &[u8],
 ) -> Result<(), Fail> {
     let served = serve_input(rt, words, input)?;
-    assert_eq!(rt; served.faults.as_slice(), b"".as_slice());
-    assert_eq!(rt; served.status, 0);
-    assert_eq!(rt; served.output.as_slice(), report);
+    assert!(rt; is_served(&served, 0, report, b""));
     Ok(())
 }
 
 // The words are a run that writes nothing, and ends with this fault.
-fn fails<H: Abort + AllocGlobal + RandomSource>(
+fn fails<H: Abort + AllocGlobal + RandomSource + Threads + Sync>(
     rt: &H,
     words: &[&str],
     input: &[u8],
     fault: &[u8],
 ) -> Result<(), Fail> {
     let served = serve_input(rt, words, input)?;
-    assert_eq!(rt; served.output.as_slice(), b"".as_slice());
-    assert_eq!(rt; served.status, 1);
-    assert_eq!(rt; served.faults.as_slice(), fault);
+    assert!(rt; is_served(&served, 1, b"", fault));
     Ok(())
 }
 
 // The words are refused, with this at the front of what is told.
-fn refuses<H: Abort + AllocGlobal + RandomSource>(
+fn refuses<H: Abort + AllocGlobal + RandomSource + Threads + Sync>(
     rt: &H,
     words: &[&str],
     front: &[u8],
 ) -> Result<(), Fail> {
     let served = serve_input(rt, words, b"a\tb\n")?;
-    assert_eq!(rt; served.output.as_slice(), b"".as_slice());
-    assert_eq!(rt; served.status, 2);
-    assert!(rt; served.faults.starts_with(front));
+    let refused = served.output.is_empty() && served.status == 2;
+    assert!(rt; refused && served.faults.starts_with(front));
     Ok(())
 }
 
@@ -186,6 +226,88 @@ fn two_edges(rt: HostRuntime) -> Result<(), Fail> {
         "4096",
     ];
     reports(&rt, &tab, b"a\tb\nb\tc\n", TWO_EDGES)
+}
+
+#[test]
+fn five_partitions(rt: HostRuntime) -> Result<(), Fail> {
+    for parts in ["1", "2", "3", "4", "5", "64"] {
+        let words = ["hyperball", "run", "--log2m", "4", "--parts", parts];
+        reports(&rt, &words, b"a\tb\nb\tc\n", TWO_EDGES)?;
+        reports(&rt, &words, b"a\tb\nb\ta\n", TWO_CYCLE)?;
+        reports(&rt, &words, b"", EMPTY_INPUT)?;
+    }
+    Ok(())
+}
+
+#[test]
+fn one_counted_vertex(rt: HostRuntime) -> Result<(), Fail> {
+    let input = b"a\tb\nb\tc\n%%\na\n";
+    for parts in ["1", "2"] {
+        let words = [
+            "hyperball",
+            "run",
+            "--log2m=4",
+            "--counted",
+            "--parts",
+            parts,
+        ];
+        reports(&rt, &words, input, ONE_COUNTED)?;
+    }
+    Ok(())
+}
+
+#[test]
+fn counted_lists(rt: HostRuntime) -> Result<(), Fail> {
+    reports(&rt, &COUNTED, b"a\tb\nb\tc\n%%\na\nb\nc\na\n", TWO_EDGES)?;
+    reports(&rt, &COUNTED, b"a\tb\nb\tc\n%%", NONE_COUNTED)?;
+    reports(
+        &rt,
+        &COUNTED,
+        b"a\tb\r\nb\tc\r\n%%\r\n# c\r\na",
+        ONE_COUNTED,
+    )?;
+    let unknown = b"hyperball: record 1 of the list names no vertex\n";
+    fails(&rt, &COUNTED, b"a\tb\nb\tc\n%%\n# c\nz\n", unknown)?;
+    // a second line of %% is a record of the list
+    fails(&rt, &COUNTED, b"a\tb\n%%\n%%\n", unknown)?;
+    let fields = b"hyperball: record 1 of the list is not one identifier\n";
+    fails(&rt, &COUNTED, b"a\tb\nb\tc\n%%\na\tb\n", fields)?;
+    // without the flag a line of %% is a record
+    reports(&rt, &RUN, b"%%\n", PERCENTS)
+}
+
+#[test]
+fn no_list(rt: HostRuntime) -> Result<(), Fail> {
+    let no_list = b"hyperball: no line %% before the list\n";
+    for input in [
+        b"a\tb\nb\tc\n".as_slice(),
+        b"",
+        b"a\tb\n%%%\n",
+        b"a\tb\n %%\n",
+        b"a\tb%%\n",
+        b"%% \na\n",
+        b"%%\r",
+    ] {
+        fails(&rt, &COUNTED, input, no_list)?;
+    }
+    // no list comes before the faults of the options and of the edge list
+    let words = ["hyperball", "run", "--log2m", "3", "--counted"];
+    fails(&rt, &words, b"a\tb\tc\n", no_list)?;
+    fails(
+        &rt,
+        &words,
+        b"a\tb\n%%\n",
+        b"hyperball: log2m is not from 4 to 10\n",
+    )
+}
+
+#[test]
+fn sections_of_inputs(rt: HostRuntime) -> Result<(), Fail> {
+    let (edges, list) = sections(b"a\n%%\n%%\nb").ok_or("two sections")?;
+    assert!(rt; edges == b"a\n".as_slice() && list == b"%%\nb".as_slice());
+    let (edges, list) = sections(b"%%").ok_or("two sections")?;
+    assert!(rt; edges.is_empty() && list.is_empty());
+    Ok(())
 }
 
 #[test]
@@ -250,6 +372,15 @@ fn faults_of_a_run(rt: HostRuntime) -> Result<(), Fail> {
             limit,
         )?;
     }
+    let parts = b"hyperball: parts is not from 1 to 64\n";
+    for number in ["0", "65", "65535"] {
+        fails(
+            &rt,
+            &["hyperball", "run", "--parts", number],
+            b"a\tb\n",
+            parts,
+        )?;
+    }
     // the edge list comes before the plan, and log2m before the limit
     let both = ["hyperball", "run", "--log2m", "3", "--limit", "0"];
     fails(&rt, &both, b"a\tb\nb\tc\t7\n", three)?;
@@ -277,6 +408,15 @@ fn texts_of_faults(rt: HostRuntime) -> Result<(), Fail> {
         ),
         (SerialError::Edges(EdgeError::Memory), "out of memory"),
         (
+            SerialError::Counted(CountedError::Fields { number: 7 }),
+            "record 7 of the list is not one identifier",
+        ),
+        (
+            SerialError::Counted(CountedError::Unknown { number: 7 }),
+            "record 7 of the list names no vertex",
+        ),
+        (SerialError::Counted(CountedError::Memory), "out of memory"),
+        (
             SerialError::Plan(PlanError::Log2m),
             "log2m is not from 4 to 10",
         ),
@@ -300,6 +440,50 @@ fn texts_of_faults(rt: HostRuntime) -> Result<(), Fail> {
 }
 
 #[test]
+fn texts_of_whole_inputs(rt: HostRuntime) -> Result<(), Fail> {
+    for (fault, text) in [
+        (WholeError::Read, "the input cannot be read"),
+        (WholeError::Size, "the input is longer than 67108864 bytes"),
+        (WholeError::Memory, "out of memory"),
+    ] {
+        let told = format!(in rt.alloc(); "{fault}")?;
+        assert!(rt; told.as_str() == text);
+    }
+    Ok(())
+}
+
+// The help of an option stands behind its name.
+fn explains(text: &str, name: &str, help: &str) -> bool {
+    match text.split_once(name) {
+        Some((_, after)) => match after.split_once("--") {
+            Some((own, _)) => own.contains(help),
+            None => after.contains(help),
+        },
+        None => false,
+    }
+}
+
+#[test]
+fn help_of_each_option(rt: HostRuntime) -> Result<(), Fail> {
+    let served = serve_input(&rt, &["hyperball", "run", "--help"], b"")?;
+    let text = str::from_utf8(&served.output).map_err(|_| "text")?;
+    let mut all = true;
+    for (name, help) in [
+        ("--log2m <", "Counters of 2^log2m bytes"),
+        ("--seed <", "Seed under which"),
+        ("--parts <", "Partitions that"),
+        ("--limit <", "Greatest superstep"),
+        ("--delimiter <", "What stands between"),
+        ("--counted", "Count only"),
+    ] {
+        all &= explains(text, name, help);
+    }
+    all &= text.contains("hyperball run --log2m 8 < edges.tsv > report.csv");
+    assert!(rt; all);
+    Ok(())
+}
+
+#[test]
 fn help_is_shown(rt: HostRuntime) -> Result<(), Fail> {
     for words in [
         ["hyperball", "--help"].as_slice(),
@@ -316,35 +500,41 @@ fn help_is_shown(rt: HostRuntime) -> Result<(), Fail> {
 
 #[test]
 fn mistaken_words(rt: HostRuntime) -> Result<(), Fail> {
-    refuses(
-        &rt,
-        &["hyperball"],
-        b"error: 'hyperball' requires a subcommand",
-    )?;
-    refuses(
-        &rt,
-        &["hyperball", "replay"],
-        b"error: unrecognized subcommand 'replay'",
-    )?;
-    refuses(
-        &rt,
-        &["hyperball", "run", "--parts", "2"],
-        b"error: unexpected argument '--parts'",
-    )?;
-    refuses(
-        &rt,
-        &["hyperball", "run", "edges.tsv"],
-        b"error: unexpected argument 'edges.tsv'",
-    )?;
-    refuses(
-        &rt,
-        &["hyperball", "run", "--log2m"],
-        b"error: a value is required for '--log2m",
-    )?;
+    for (words, front) in [
+        (
+            ["hyperball"].as_slice(),
+            b"error: 'hyperball' requires a subcommand".as_slice(),
+        ),
+        (
+            &["hyperball", "replay"],
+            b"error: unrecognized subcommand 'replay'",
+        ),
+        (
+            &["hyperball", "run", "--replicas", "2"],
+            b"error: unexpected argument '--replicas'",
+        ),
+        (
+            &["hyperball", "run", "edges.tsv"],
+            b"error: unexpected argument 'edges.tsv'",
+        ),
+        (
+            &["hyperball", "run", "--log2m"],
+            b"error: a value is required for '--log2m",
+        ),
+        (&["hyperball", "run", "--counted=1"], b"error: "),
+    ] {
+        refuses(&rt, words, front)?;
+    }
+    Ok(())
+}
+
+#[test]
+fn mistaken_values(rt: HostRuntime) -> Result<(), Fail> {
     for words in [
         ["hyperball", "run", "--log2m", "256"],
         ["hyperball", "run", "--log2m", "-1"],
         ["hyperball", "run", "--log2m", "four"],
+        ["hyperball", "run", "--parts", "65536"],
         ["hyperball", "run", "--limit", "4294967296"],
         ["hyperball", "run", "--seed", "18446744073709551616"],
         ["hyperball", "run", "--delimiter", "semicolon"],
@@ -357,11 +547,11 @@ fn mistaken_words(rt: HostRuntime) -> Result<(), Fail> {
 }
 
 // A reader that gives a byte a call, and fails from a call on.
+#[derive(Drop)]
 struct Dripping<'a> {
     bytes: &'a [u8],
     calls: u64,
     fails_at: u64,
-    failures: u64,
 }
 
 impl<'a> Read for Dripping<'a> {
@@ -370,7 +560,6 @@ impl<'a> Read for Dripping<'a> {
     fn read(&mut self, buf: &mut [u8]) -> io::Result<usize> {
         self.calls = self.calls.saturating_add(1);
         if self.calls >= self.fails_at {
-            self.failures = self.failures.saturating_add(1);
             return Err(io::Error::from(ErrorKind::Other));
         }
         match self.bytes.split_first() {
@@ -384,23 +573,19 @@ impl<'a> Read for Dripping<'a> {
     }
 }
 
-impl<'a> CountedRead for Dripping<'a> {
-    ghost failed_calls = { λ r. r.failures };
-
-    fn failures(&self) -> u64 {
-        self.failures
-    }
-}
-
-// Serves the two edges, a byte a call, with a failure at this call.
-fn dripped<H: AllocGlobal + RandomSource>(rt: &H, fails_at: u64) -> Result<Served, Fail> {
-    let words = words_of(rt, &RUN)?;
-    let mut reader = Dripping {
-        bytes: b"a\tb\nb\tc\n",
+// Serves words, an input a byte a call, with a failure at this call.
+fn dripped<H: AllocGlobal + RandomSource + Threads + Sync>(
+    rt: &H,
+    words: &[&str],
+    bytes: &[u8],
+    fails_at: u64,
+) -> Result<Served, Fail> {
+    let words = words_of(rt, words)?;
+    let mut reader = CountingReader::new(Dripping {
+        bytes,
         calls: 0,
         fails_at,
-        failures: 0,
-    };
+    });
     let mut output = Vec::new(rt.alloc());
     let mut faults = Vec::new(rt.alloc());
     let status = serve(
@@ -410,12 +595,6 @@ fn dripped<H: AllocGlobal + RandomSource>(rt: &H, fails_at: u64) -> Result<Serve
         &mut CountingWriter::new(&mut output),
         &mut faults,
     );
-    let Dripping {
-        bytes: _,
-        calls: _,
-        fails_at: _,
-        failures: _,
-    } = reader;
     Ok(Served {
         status,
         output,
@@ -423,24 +602,39 @@ fn dripped<H: AllocGlobal + RandomSource>(rt: &H, fails_at: u64) -> Result<Serve
     })
 }
 
-#[test]
-fn a_byte_a_read(rt: HostRuntime) -> Result<(), Fail> {
-    let whole = dripped(&rt, u64::MAX)?;
-    assert_eq!(rt; whole.status, 0);
-    assert_eq!(rt; whole.output.as_slice(), TWO_EDGES);
-    for call in 1..=9 {
-        let cut = dripped(&rt, call)?;
-        assert_eq!(rt; cut.status, 1);
-        assert_eq!(rt; cut.output.as_slice(), b"".as_slice());
-        assert_eq!(rt;
-            cut.faults.as_slice(),
-            b"hyperball: the edge list cannot be read\n".as_slice()
-        );
+// A failure at any call of the reader is told so, and nothing is written.
+fn fails_dripping<H: Abort + AllocGlobal + RandomSource + Threads + Sync>(
+    rt: &H,
+    words: &[&str],
+    bytes: &[u8],
+    fault: &[u8],
+) -> Result<(), Fail> {
+    for call in 1..=bytes.len() as u64 + 1 {
+        let cut = dripped(rt, words, bytes, call)?;
+        assert!(rt; cut.status == 1 && cut.output.is_empty());
+        assert_eq!(rt; cut.faults.as_slice(), fault);
     }
     Ok(())
 }
 
+#[test]
+fn a_byte_a_read(rt: HostRuntime) -> Result<(), Fail> {
+    let whole = dripped(&rt, &RUN, b"a\tb\nb\tc\n", u64::MAX)?;
+    assert_eq!(rt; whole.output.as_slice(), TWO_EDGES);
+    let fault = b"hyperball: the edge list cannot be read\n";
+    fails_dripping(&rt, &RUN, b"a\tb\nb\tc\n", fault)
+}
+
+#[test]
+fn a_byte_a_read_of_a_whole_input(rt: HostRuntime) -> Result<(), Fail> {
+    let whole = dripped(&rt, &COUNTED, b"a\tb\nb\tc\n%%\na", u64::MAX)?;
+    assert_eq!(rt; whole.output.as_slice(), ONE_COUNTED);
+    let fault = b"hyperball: the input cannot be read\n";
+    fails_dripping(&rt, &COUNTED, b"a\tb\nb\tc\n%%\na", fault)
+}
+
 // A writer that takes a byte a call, and fails where it is full.
+#[derive(Drop)]
 struct Narrow {
     taken: Vec<u8>,
     room: usize,
@@ -465,7 +659,7 @@ impl Write for Narrow {
 }
 
 // Serves words over the two edges into a narrow writer.
-fn serve_narrowly<H: AllocGlobal + RandomSource>(
+fn serve_narrowly<H: AllocGlobal + RandomSource + Threads + Sync>(
     rt: &H,
     words: &[&str],
     room: usize,
@@ -492,21 +686,23 @@ fn serve_narrowly<H: AllocGlobal + RandomSource>(
     })
 }
 
+// The writer was full before the text was out.
+fn is_cut(served: &Served, room: usize) -> bool {
+    served.status == 1
+        && served.output.len() == room
+        && served.faults.as_slice() == b"hyperball: the output cannot be written\n".as_slice()
+}
+
 #[test]
 fn a_byte_a_write(rt: HostRuntime) -> Result<(), Fail> {
     let whole = serve_narrowly(&rt, &RUN, TWO_EDGES.len())?;
-    assert_eq!(rt; whole.status, 0);
-    assert_eq!(rt; whole.output.as_slice(), TWO_EDGES);
-    let cannot = b"hyperball: the output cannot be written\n".as_slice();
+    assert!(rt; whole.status == 0 && whole.output.as_slice() == TWO_EDGES);
+    let mut all = true;
     for room in [0, 1, 100, TWO_EDGES.len() - 1] {
-        let cut = serve_narrowly(&rt, &RUN, room)?;
-        assert_eq!(rt; cut.status, 1);
-        assert_eq!(rt; cut.output.len(), room);
-        assert_eq!(rt; cut.faults.as_slice(), cannot);
+        all &= is_cut(&serve_narrowly(&rt, &RUN, room)?, room);
     }
-    let help = serve_narrowly(&rt, &["hyperball", "--help"], 5)?;
-    assert_eq!(rt; help.status, 1);
-    assert_eq!(rt; help.faults.as_slice(), cannot);
+    all &= is_cut(&serve_narrowly(&rt, &["hyperball", "--help"], 5)?, 5);
+    assert!(rt; all);
     Ok(())
 }
 
@@ -542,6 +738,7 @@ fn a_run_by_its_options(rt: HostRuntime) -> Result<(), Fail> {
     let options = SerialOptions {
         log2m: 4,
         seed: 0,
+        parts: 3,
         limit: 1,
         delimiter: Delimiter::Comma,
     };
@@ -550,27 +747,44 @@ fn a_run_by_its_options(rt: HostRuntime) -> Result<(), Fail> {
         &rt,
         RandomState::new(&rt)?,
         &mut CountingReader::new(b"a,b\nb,c\n".as_slice()),
+        None,
         &mut CountingWriter::new(&mut output),
         &options,
     );
-    assert_eq!(rt; answer, Ok(()));
-    assert_eq!(rt; output.as_slice(), LIMIT_OF_ONE);
+    assert!(rt; answer == Ok(()) && output.as_slice() == LIMIT_OF_ONE);
     Ok(())
+}
+
+// What words of a run say.
+fn said<H: AllocGlobal>(rt: &H, words: &[&str]) -> Result<RunWords, Fail> {
+    let words = words_of(rt, words)?;
+    let matches = parse(rt.alloc(), &words)?;
+    Ok(run_words(&matches))
 }
 
 #[test]
 fn words_are_read(rt: HostRuntime) -> Result<(), Fail> {
-    let words = words_of(
-        &rt,
-        &["hyperball", "run", "--seed", "7", "--delimiter", "space"],
-    )?;
+    let words = [
+        "hyperball",
+        "run",
+        "--seed",
+        "7",
+        "--delimiter",
+        "space",
+        "--counted",
+    ];
+    let expected = RunWords {
+        options: SerialOptions {
+            log2m: 8,
+            seed: 7,
+            parts: 1,
+            limit: 4096,
+            delimiter: Delimiter::Space,
+        },
+        counted: true,
+    };
+    assert!(rt; said(&rt, &words)? == expected);
     assert_eq!(rt; command(rt.alloc())?.get_name(), "hyperball");
-    let matches = parse(rt.alloc(), &words)?;
-    let options = run_options(&matches).ok_or("a run")?;
-    assert_eq!(rt; options.log2m, 8);
-    assert_eq!(rt; options.seed, 7);
-    assert_eq!(rt; options.limit, 4096);
-    assert_eq!(rt; options.delimiter, Delimiter::Space);
     words_of_a_run();
     words_of_no_run();
     Ok(())

@@ -1,59 +1,112 @@
 //! The command line, read by `clap`.
 
-ghost use Rattle.std.specs.Prelude.{◌≡◌, IfSome, IfOk, false, map, codes};
+ghost use Rattle.std.specs.Prelude.{◌≡◌, IfOk, MatchOption, false, true, map, option_map};
 ghost use Rattle.std.specs.String.{string_bytes};
-ghost use Rattle.clap.specs.Words.{FailsBy, app_of, fault_of, found_of, rows_of, rule_of, subcommand_of, subcommand_rows_of};
-ghost use Rattle.clap.specs.declared.builder.command.Command.TheViews.{out-Command as fields_of};
+ghost use Rattle.clap.specs.Words.{App, FailsBy, fault_of, found_of, has_subcommand, rows_of, rule_of, subcommand_of, subcommand_rows_of};
 ghost use Rattle.clap.specs.declared.builder.value_parser.ValueParser.{ValueParser as Parser};
-ghost use Rattle.hyperball.specs.CommandLine.{TakesNames, delimiter_names, hyperball_app, option_rule, run_app};
+ghost use Rattle.hyperball.specs.CommandLine.{IsApp, TakesNames, delimiter_names, flag_rule, hyperball_app, option_rule, run_app, with_input, with_numbers};
+ghost use Rattle.hyperball.specs.declared.words.RunWords.{RunWords as Run};
 ghost use Rattle.hyperball.specs.Words.{AreOptionsOf, IsRunOf, name_of};
+ghost use Rattle.edgelist.specs.declared.read.Delimiter.{Delimiter as Between};
+ghost use Rattle.edgelist.specs.declared.read.Delimiter.TheVariants.{Tab};
 
 use crate::serial::SerialOptions;
 use clap::builder::ValueParser;
-use clap::{Arg, ArgMatches, Command, Error, value_parser};
+use clap::{Arg, ArgAction, ArgMatches, Command, Error, value_parser};
 use edgelist::Delimiter;
 use std::alloc::{AllocError, Global};
 
 /// The names that `--delimiter` takes.
 static DELIMITERS: [&str; 3] = ["tab", "comma", "space"];
 
+/// The options that are not given.
+const USUAL: SerialOptions = SerialOptions {
+    log2m: 8,
+    seed: 0,
+    parts: 1,
+    limit: 4096,
+    delimiter: Delimiter::Tab,
+};
+
 const ABOUT: &str = "HyperBall centralities of a directed graph, by HyperLogLog counters";
 
-const RUN_ABOUT: &str =
+const RUN_ABOUT: &str = "Reads an edge list on standard input and writes its centralities as CSV";
+
+const RUN_LONG_ABOUT: &str =
     "Reads an edge list on standard input and writes its report on standard output.
 
 A line with two fields is an edge from the first to the second, and a line with one field
 names a vertex. Empty lines and lines that begin with # are skipped.
 
 The report is comma-separated: the neighbourhood function at each superstep, the superstep at
-which the run ended, and of each vertex its label, the estimated number of vertices that reach
-it, harmonic centrality, closeness, Lin's index, and the number of registers that are empty.";
+which the run ended, how early pairs are reached, and of each vertex its label, the estimated
+number of vertices that reach it, harmonic centrality, closeness, Lin's index, and the number
+of registers that are empty.";
+
+const RUN_AFTER: &str = "Example:
+  hyperball run --log2m 8 < edges.tsv > report.csv
+  The input is always standard input: a file is handed over by the shell, with '<'.
+
+Memory and accuracy:
+  A run takes about 2 * 2^log2m + 320 bytes a vertex and 5 bytes an edge, and while it reads about
+  100 bytes a vertex and 11 bytes an edge. The relative error of a large set is about
+  1.04 / sqrt(2^log2m): 26 % at 4, 6.5 % at 8, 3.3 % at 10. A set of fewer than 2.5 * 2^log2m
+  vertices is estimated too large.
+
+Figures:
+  Harmonic centrality 0.000000 with Lin's index 1.000000: nobody else that counts gets there.
+  Closeness is one by the sum of distances, so it is also 0.000000 where that sum is above a million.
+
+Exit status:
+  0  the report was written, or help was asked for
+  1  a fault, told in one line on standard error; nothing was written, or the output failed
+  2  words that are no command";
 
 const LOG2M_HELP: &str =
-    "Counters of 2^log2m bytes, 4 to 10; the standard error is about 1.04/sqrt(2^log2m)";
+    "Counters of 2^log2m bytes, 4 to 10; error about 1.04/sqrt(2^log2m) [default: 8]";
 
-const SEED_HELP: &str = "Seed under which vertices are hashed";
+const SEED_HELP: &str = "Seed under which vertices are hashed [default: 0]";
 
-const LIMIT_HELP: &str = "Greatest superstep, 1 to 4096; a run ends sooner where nothing changes";
+const PARTS_HELP: &str =
+    "Partitions that vertices are dealt out to, 1 to 64; the report is the same [default: 1]";
 
-const DELIMITER_HELP: &str = "What stands between the two fields of a line";
+const LIMIT_HELP: &str =
+    "Greatest superstep, 1 to 4096; a run ends sooner where nothing changes [default: 4096]";
 
-// An option with a default.
-fn option<'a>(
-    alloc: Global,
-    name: &'a str,
-    help: &'a str,
-    parser: ValueParser<'a>,
-    usual: &'a str,
-) -> Arg<'a>
-    ensures rule { rule_of result ≡ option_rule name.entry.now parser.entry usual.entry.now }
+const DELIMITER_HELP: &str = "What stands between the two fields of a line [default: tab]";
+
+const COUNTED_HELP: &str =
+    "Count only the vertices listed after the edge list and a line %%: how near are they?";
+
+/// What the words of a run say.
+#[derive(Clone, Copy, Debug, PartialEq, Eq)]
+pub struct RunWords {
+    /// The options.
+    pub options: SerialOptions,
+    /// Whether a list of counted vertices follows the edge list.
+    pub counted: bool,
+}
+
+// An option that takes a value.
+fn option<'a>(alloc: Global, name: &'a str, help: &'a str, parser: ValueParser<'a>) -> Arg<'a>
+    ensures rule { rule_of result ≡ option_rule name.entry.now parser.entry }
     ensures local { result.global ≡ false }
 {
     Arg::new(alloc, name)
         .long(name)
         .help(help)
         .value_parser(parser)
-        .default_value(usual)
+}
+
+// An option that takes none.
+fn flag<'a>(alloc: Global, name: &'a str, help: &'a str) -> Arg<'a>
+    ensures rule { rule_of result ≡ flag_rule name.entry.now }
+    ensures local { result.global ≡ false }
+{
+    Arg::new(alloc, name)
+        .long(name)
+        .help(help)
+        .action(ArgAction::SetTrue)
 }
 
 // One of the names of the delimiters.
@@ -63,25 +116,48 @@ fn delimiters<'a>() -> ValueParser<'a>
     ValueParser::Names(DELIMITERS.as_slice())
 }
 
+// Adds the options of a plan.
+fn add_numbers<'a>(alloc: Global, command: Command<'a>) -> Result<Command<'a>, AllocError>
+    ensures { (app : App) → IsApp app command.entry → IfOk result (IsApp (with_numbers app)) }
+{
+    let log2m = option(alloc, "log2m", LOG2M_HELP, value_parser!(u8));
+    let command = command.arg(log2m)?;
+    let seed = option(alloc, "seed", SEED_HELP, value_parser!(u64));
+    let command = command.arg(seed)?;
+    let parts = option(alloc, "parts", PARTS_HELP, value_parser!(u16));
+    let command = command.arg(parts)?;
+    let limit = option(alloc, "limit", LIMIT_HELP, value_parser!(u32));
+    command.arg(limit)
+}
+
+// Adds the options of an input, with a parser of delimiters.
+fn add_input<'a>(
+    alloc: Global,
+    command: Command<'a>,
+    delimiters: ValueParser<'a>,
+) -> Result<Command<'a>, AllocError>
+    ensures { (app : App) → IsApp app command.entry → IfOk result (IsApp (with_input delimiters.entry app)) }
+{
+    let delimiter = option(alloc, "delimiter", DELIMITER_HELP, delimiters);
+    let command = command.arg(delimiter)?;
+    command.arg(flag(alloc, "counted", COUNTED_HELP))
+}
+
 // The subcommand run, with a parser of delimiters.
 fn run_command<'a>(alloc: Global, delimiters: ValueParser<'a>) -> Result<Command<'a>, AllocError>
-    ensures { IfOk result (λ c. (app_of c ≡ run_app delimiters.entry) × ((fields_of c).has_globals ≡ false)) }
+    ensures { IfOk result (IsApp (run_app delimiters.entry)) }
 {
-    let log2m = option(alloc, "log2m", LOG2M_HELP, value_parser!(u8), "8");
-    let seed = option(alloc, "seed", SEED_HELP, value_parser!(u64), "0");
-    let limit = option(alloc, "limit", LIMIT_HELP, value_parser!(u32), "4096");
-    let delimiter = option(alloc, "delimiter", DELIMITER_HELP, delimiters, "tab");
-    Command::new(alloc, "run")
+    let command = Command::new(alloc, "run")
         .about(RUN_ABOUT)
-        .arg(log2m)?
-        .arg(seed)?
-        .arg(limit)?
-        .arg(delimiter)
+        .long_about(RUN_LONG_ABOUT)
+        .after_long_help(RUN_AFTER);
+    let command = add_numbers(alloc, command)?;
+    add_input(alloc, command, delimiters)
 }
 
 /// The program's command.
 pub fn command<'a>(alloc: Global) -> Result<Command<'a>, AllocError>
-    ensures { IfOk result (λ c. (p : Parser) × TakesNames delimiter_names p × (app_of c ≡ hyperball_app p)) }
+    ensures { IfOk result (λ c. (p : Parser) × TakesNames delimiter_names p × IsApp (hyperball_app p) c) }
 {
     let run = run_command(alloc, delimiters())?;
     Command::new(alloc, "hyperball")
@@ -95,44 +171,44 @@ pub fn parse<'a>(alloc: Global, words: &'a [String]) -> Result<ArgMatches<'a>, E
     ensures read { (p : Parser) × TakesNames delimiter_names p
         × IfOk result (λ m. subcommand_rows_of m ≡ subcommand_of (hyperball_app p) (map (λ w. string_bytes w) words.entry.now))
         × FailsBy (fault_of (hyperball_app p) (map (λ w. string_bytes w) words.entry.now)) result }
+    ensures subcommand { IfOk result (λ m. has_subcommand m ≡ true) }
 {
     command(alloc)?.try_get_matches_from(words)
 }
 
-// The delimiter of this name.
-fn delimiter_of(name: &str) -> Option<Delimiter>
-    ensures { IfSome result (λ d. name_of d ≡ name.now) }
+// The delimiter of that name; where none is given it is the usual one.
+fn delimiter_of(name: Option<&str>) -> Delimiter
+    ensures { (d : Between) → MatchOption (option_map (λ name. name.now) name.entry) (d ≡ Tab) (λ name. name ≡ name_of d) → result ≡ d }
 {
     match name {
-        "tab" => Some(Delimiter::Tab),
-        "comma" => Some(Delimiter::Comma),
-        "space" => Some(Delimiter::Space),
-        _ => None,
+        Some("comma") => Delimiter::Comma,
+        Some("space") => Delimiter::Space,
+        _ => USUAL.delimiter,
     }
 }
 
-// The options of run.
-fn options_of(matches: &ArgMatches<'_>) -> Option<SerialOptions>
-    ensures { IfSome result (AreOptionsOf (rows_of (found_of matches.now))) }
+// The options of run. Values are as `clap` has checked them.
+fn options_of(matches: &ArgMatches<'_>) -> RunWords
+    ensures { (w : Run) → AreOptionsOf (rows_of (found_of matches.now)) w → result ≡ w }
 {
-    let log2m = matches.get_one::<u8>("log2m")?;
-    let seed = matches.get_one::<u64>("seed")?;
-    let limit = matches.get_one::<u32>("limit")?;
-    let delimiter = delimiter_of(matches.get_str("delimiter")?)?;
-    Some(SerialOptions {
-        log2m,
-        seed,
-        limit,
-        delimiter,
-    })
+    let options = SerialOptions {
+        log2m: matches.get_one("log2m").unwrap_or(USUAL.log2m),
+        seed: matches.get_one("seed").unwrap_or(USUAL.seed),
+        parts: matches.get_one("parts").unwrap_or(USUAL.parts),
+        limit: matches.get_one("limit").unwrap_or(USUAL.limit),
+        delimiter: delimiter_of(matches.get_str("delimiter")),
+    };
+    RunWords {
+        options,
+        counted: matches.get_flag("counted"),
+    }
 }
 
-/// The options, where the words are those of run.
-pub fn run_options(matches: &ArgMatches<'_>) -> Option<SerialOptions>
-    ensures { IfSome result (IsRunOf (subcommand_rows_of matches.now)) }
+/// What the words of a run say.
+pub fn run_words(matches: &ArgMatches<'_>) -> RunWords
+    requires { has_subcommand matches.now ≡ true }
+    ensures { (w : Run) → IsRunOf (subcommand_rows_of matches.now) w → result ≡ w }
 {
-    match matches.subcommand() {
-        Some(("run", inner)) => options_of(inner),
-        _ => None,
-    }
+    let (_, inner) = matches.subcommand().unwrap();
+    options_of(inner)
 }

@@ -7,7 +7,7 @@ use Rattle.std.proofs.lemmas.Nat.Bits.{bit_at-zero, bit_at-lt, bit_at_or, bit_at
 use Rattle.std.proofs.lemmas.List.FromFn.{length-map-range_with_len, get_or-map-range_with_len}
 use Rattle.registers.specs.Flags.{flags_of, number_of}
 use Rattle.registers.specs.Laws.{number_back}
-use Rattle.registers.specs.Joined.{joined_flags}
+use Rattle.registers.specs.Joined.{union_of_flags}
 
 -- flag q is bit q
 pub flag_at : (n q : ℕ) → q < 64 → get_or (flags_of n) q false ≡ (bit_at n q == 1)
@@ -37,14 +37,14 @@ either_bit (suc (suc a)) b small _ = absurd (omega arith)
 either_bit zero (suc (suc b)) _ small = absurd (omega arith)
 either_bit (suc zero) (suc (suc b)) _ small = absurd (omega arith)
 
-both_bits : (n m a k : ℕ) → map (λ q. bit_at (bit_or n m) q == 1) (range_with_len a k) ≡ joined_flags (map (λ q. bit_at n q == 1) (range_with_len a k)) (map (λ q. bit_at m q == 1) (range_with_len a k))
+both_bits : (n m a k : ℕ) → map (λ q. bit_at (bit_or n m) q == 1) (range_with_len a k) ≡ union_of_flags (map (λ q. bit_at n q == 1) (range_with_len a k)) (map (λ q. bit_at m q == 1) (range_with_len a k))
 both_bits n m a zero = refl
 both_bits n m a (suc k) =
     let here : (bit_at (bit_or n m) a == 1) ≡ ((bit_at n a == 1) || (bit_at m a == 1)) =
     ap (λ b. b == 1) (bit_at_or n m a) ∙ either_bit (bit_at n a) (bit_at m a) (bit_at-lt n a) (bit_at-lt m a) in
     ap₂ (λ flag rest. flag ∷ rest) here (both_bits n m (a + 1) k)
 
-pub flags_of-or : (n m : ℕ) → flags_of (bit_or n m) ≡ joined_flags (flags_of n) (flags_of m)
+pub flags_of-or : (n m : ℕ) → flags_of (bit_or n m) ≡ union_of_flags (flags_of n) (flags_of m)
 unfolding flags_of
 flags_of-or n m = both_bits n m 0 64
 

@@ -10,7 +10,7 @@ use Rattle.std.proofs.lemmas.Slice.Zip.{length-zip}
 use Rattle.ball_model.specs.Counter.{max_each}
 use Rattle.ball_model.specs.Table.{Table}
 use Rattle.registers.specs.Flags.{flags_of, number_of}
-use Rattle.registers.specs.Joined.{AreSameShape, joined_rows, joined_flags}
+use Rattle.registers.specs.Joined.{AreSameShape, maximum_of_rows, union_of_flags}
 
 -- ---- place by place
 -- the results of an operation
@@ -47,13 +47,13 @@ max_each-associates = each_associates max (λ x y z. omega arith)
 max_each-repeats : (xs : List ℕ) → max_each xs xs ≡ xs
 max_each-repeats = each_repeats max (λ x. omega arith)
 
-pub rows_commute : (a b : Table) → AreSameShape a b → joined_rows a b ≡ joined_rows b a
+pub rows_commute : (a b : Table) → AreSameShape a b → maximum_of_rows a b ≡ maximum_of_rows b a
 rows_commute a b alike = λ i. record { width = alike.width i; rows = each_commutes max_each max_each-commutes a.rows b.rows i }
 
-pub rows_associate : (a b c : Table) → AreSameShape a b → AreSameShape b c → joined_rows (joined_rows a b) c ≡ joined_rows a (joined_rows b c)
+pub rows_associate : (a b c : Table) → AreSameShape a b → AreSameShape b c → maximum_of_rows (maximum_of_rows a b) c ≡ maximum_of_rows a (maximum_of_rows b c)
 rows_associate a b c first second = λ i. record { width = a.width; rows = each_associates max_each max_each-associates a.rows b.rows c.rows i }
 
-pub rows_repeat : (a : Table) → AreSameShape a a → joined_rows a a ≡ a
+pub rows_repeat : (a : Table) → AreSameShape a a → maximum_of_rows a a ≡ a
 rows_repeat a alike = λ i. record { width = a.width; rows = each_repeats max_each max_each-repeats a.rows i }
 
 pub shape_turns : (a b : Table) → AreSameShape a b → AreSameShape b a
@@ -62,7 +62,7 @@ shape_turns a b alike = record { width = sym alike.width; count = sym alike.coun
 pub shape_through : (a b c : Table) → AreSameShape a b → AreSameShape b c → AreSameShape a c
 shape_through a b c first second = record { width = first.width ∙ second.width; count = first.count ∙ second.count }
 
-pub shape_stays : (a b : Table) → AreSameShape a b → AreSameShape (joined_rows a b) b
+pub shape_stays : (a b : Table) → AreSameShape a b → AreSameShape (maximum_of_rows a b) b
 shape_stays a b alike = record {
   width = alike.width;
   count = simp (length-map, length-zip) (omega (arith, alike.count));
@@ -83,13 +83,13 @@ or_repeats : (x : Bool) → (x || x) ≡ x
 or_repeats true = refl
 or_repeats false = refl
 
-pub flags_commute : (a b : List Bool) → joined_flags a b ≡ joined_flags b a
+pub flags_commute : (a b : List Bool) → union_of_flags a b ≡ union_of_flags b a
 flags_commute = each_commutes (λ x y. x || y) or_commutes
 
-pub flags_associate : (a b c : List Bool) → joined_flags (joined_flags a b) c ≡ joined_flags a (joined_flags b c)
+pub flags_associate : (a b c : List Bool) → union_of_flags (union_of_flags a b) c ≡ union_of_flags a (union_of_flags b c)
 flags_associate = each_associates (λ x y. x || y) or_associates
 
-pub flags_repeat : (a : List Bool) → joined_flags a a ≡ a
+pub flags_repeat : (a : List Bool) → union_of_flags a a ≡ a
 flags_repeat = each_repeats (λ x y. x || y) or_repeats
 
 -- ---- bits

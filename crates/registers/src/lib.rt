@@ -16,10 +16,12 @@ ghost use Rattle.std.specs.Prelude.{◌≡◌, ◌↔◌, length, false};
 ghost use Rattle.ball_model.specs.Counter.{max_each};
 
 pub mod join;
+mod lanes;
 pub mod mask;
 pub mod rows;
 
 pub use join::{Join, reconcile};
+use lanes::{LANES, raise_lanes};
 pub use mask::SourceMask;
 pub use rows::Rows;
 
@@ -28,14 +30,20 @@ mod tests;
 
 /// Each byte of `dst` becomes the maximum of itself and the byte of `src` there; the answer is whether one changed.
 ///
-/// Both have the same length. The loop has no branch, so that a compiler can take many bytes at a time.
+/// Both have the same length. 32 bytes are taken at once, and the loop over the rest has no branch.
 pub fn max_into(dst: &mut [u8], src: &[u8]) -> bool
     requires { length dst.old ≡ length src.now }
     ensures maximum { dst.new ≡ max_each dst.old src.now }
     ensures unchanged { (result ≡ false) ↔ (dst.new ≡ dst.old) }
 {
+    let len = dst.len();
     let mut changed = false;
-    for i in 0..dst.len() {
+    let mut done = 0;
+    while len - done >= LANES {
+        changed |= raise_lanes(dst, src, done);
+        done += LANES;
+    }
+    for i in done..len {
         changed |= dst[i] < src[i];
         dst[i] = dst[i].max(src[i]);
     }

@@ -65,7 +65,7 @@ impl SourceMask {
 /// Any two masks are joined to the sources that one of the two has, with no memory taken.
 impl Join for SourceMask {
     ghost use Rattle.std.specs.Prelude.{Bool, List, ⊤};
-    ghost use Rattle.registers.specs.Joined.{joined_flags};
+    ghost use Rattle.registers.specs.Joined.{union_of_flags};
     ghost use Rattle.registers.specs.Laws.{flags_commute, flags_associate, flags_repeat};
 
     ghost Content = { List Bool };
@@ -74,7 +74,7 @@ impl Join for SourceMask {
 
     ghost are_alike = { λ _ _. ⊤ };
 
-    ghost joined = { joined_flags };
+    ghost joined = { union_of_flags };
 
     ghost GROWS = { false };
 

@@ -121,7 +121,7 @@ impl Rows {
 /// Rows of one shape are joined to the maximum of the two, register by register, with no memory taken.
 impl Join for Rows {
     ghost use Rattle.ball_model.specs.Table.{Table};
-    ghost use Rattle.registers.specs.Joined.{AreSameShape, joined_rows};
+    ghost use Rattle.registers.specs.Joined.{AreSameShape, maximum_of_rows};
     ghost use Rattle.registers.specs.Laws.{rows_commute, rows_associate, rows_repeat, shape_turns, shape_through, shape_stays};
 
     ghost Content = { Table };
@@ -130,7 +130,7 @@ impl Join for Rows {
 
     ghost are_alike = { AreSameShape };
 
-    ghost joined = { joined_rows };
+    ghost joined = { maximum_of_rows };
 
     ghost GROWS = { false };
 

@@ -31,6 +31,7 @@ fn lane_boundaries(rt: HostRuntime) {
     raises_at(&rt, &mut [0; 32], &mut [0; 32], 31);
     raises_at(&rt, &mut [0; 33], &mut [0; 33], 32);
     raises_at(&rt, &mut [0; 1024], &mut [0; 1024], 1023);
+    raises_at(&rt, &mut [0; 1024], &mut [0; 1024], 500);
     raises_at(&rt, &mut [0; 31], &mut [0; 31], 0);
     raises_at(&rt, &mut [0; 32], &mut [0; 32], 0);
     raises_at(&rt, &mut [0; 33], &mut [0; 33], 0);

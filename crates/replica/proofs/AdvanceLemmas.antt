@@ -1,52 +1,120 @@
 -- One superstep more, over plain data.
-use Rattle.std.proofs.Common.{◌≡◌, ℕ, ◌+◌, ◌-◌, ◌*◌, ◌≤◌, List, length, get_or, drop, replicate, refl, ap, ◌∙◌, inl, inr, IfSome}
-use Rattle.std.specs.Prelude.{Option, None}
-use Rattle.std.proofs.Math.ListN.{get_or-append}
-use Rattle.std.proofs.lemmas.Bool.{cases_lt}
-use Rattle.std.proofs.lemmas.List.{get_or-drop, get_or-append_right}
+use Rattle.std.proofs.Common.{◌≡◌, ℕ, zero, suc, ◌+◌, ◌-◌, ◌<◌, ◌≤◌, ◌==◌, nat_lt, Bool, true, false, not, ◌&&◌, ◌||◌, List, [], get_or, replicate, refl, ap, arith, sym, ◌∙◌, subst, inl, inr, is_some, IfSome}
+use Rattle.std.specs.Prelude.{Option}
+use Rattle.std.specs.List.{range_with_len, find}
+use Rattle.std.proofs.lemmas.Bool.{cases_lt, cases_eq, eq-eqb}
+use Rattle.std.proofs.lemmas.Bool.Decides.{nat_tests}
 use Rattle.ball_model.specs.PlanValue.{PlanValue, mixing_of}
-use Rattle.ball_model.specs.Job.{Job}
-use Rattle.ball_model.specs.Batches.{BatchValue}
+use Rattle.ball_model.specs.Job.{Job, part_of}
+use Rattle.ball_model.specs.Batches.{BatchValue, true_batch}
 use Rattle.ball_model.specs.Supersteps.{end_of}
-use Rattle.ball_model.specs.Content.{closed}
-use Rattle.ball_model.specs.State.{State, StandsFor, content_of}
-use Rattle.replica.specs.Level.{Advances, shifted}
-use Rattle.replica.specs.Kept.{IsFit, AreFit}
-use Rattle.replica.proofs.ShiftLemmas.{get_none, keeps_shifted, holds_shifted}
-use Rattle.replica.proofs.LevelLemmas.{Ready, next_rows_are, next_marks_are, plan_is}
+use Rattle.ball_model.specs.Content.{closed, missing_of}
+use Rattle.ball_model.specs.State.{State, StandsFor, KeepsTrue, content_of, early_at, holds_in, rows_of}
+use Rattle.ball_model.proofs.PathLemmas.{same_true}
+use Rattle.replica.specs.Change.{Advances}
+use Rattle.replica.specs.Hearing.{IsTrueHearing}
+use Rattle.replica.specs.Index.{targets_of}
+use Rattle.replica.proofs.LevelLemmas.{Ready, next_rows_are, differing_is, size_is}
 use Rattle.replica.proofs.FigureLemmas.{next_tallies_are, next_sums_are}
+use Rattle.replica.proofs.HearLemmas.{none_heard, flag_none}
 
-none_fit : (w n i : ℕ) → IfSome (get_or (replicate {A = Option BatchValue} n None) i None) (IsFit w)
-none_fit w n i = rw (get_none n i) tt
+-- ---- what is held
 
--- what is kept later is as wide
-pub fit_shifted : (w parts : ℕ) (kept : List (Option BatchValue)) → AreFit w kept → AreFit w (shifted parts kept)
-fit_shifted w parts kept h = record {
-  fit = λ k.
-      elim (cases_lt k (length (drop parts kept))) [
-        | inl before ↦ rw (get_or-append (drop parts kept) (replicate parts None) None k before, get_or-drop parts kept k None) (h.fit (parts + k))
-        | inr after ↦ rw (get_or-append_right (drop parts kept) (replicate parts None) (length (drop parts kept)) k None refl after) (none_fit w parts (k - length (drop parts kept)))
-      ];
-}
+-- of the superstep: what is heard
+pub holds_now : (t : ℕ) (heard : List Bool) (early : List (List (Option BatchValue))) (q : ℕ) → holds_in t heard early t q ≡ get_or heard q false
+holds_now t heard early q = rw (same_true t) refl
 
--- A replica that is ready and advances stands for the next superstep
-pub advance_stands : (j : Job) (p t : ℕ) (v w : State) → Ready j p t v → Advances v w → length v.kept ≡ 4 * v.part.plan.parts → t + 1 ≤ end_of (mixing_of j.plan) j.graph j.plan.limit → StandsFor j p (t + 1) w
-advance_stands j p t v w r a long time =
+-- of an earlier one: nothing
+pub holds_before : (t : ℕ) (heard : List Bool) (early : List (List (Option BatchValue))) (s q : ℕ) → s < t → holds_in t heard early s q ≡ false
+holds_before t heard early s q lt =
+    let ne : (s == t) ≡ false = grind (arith, nat_tests) in
+    let no : nat_lt t s ≡ false = grind (arith, nat_tests) in
+    rw (ne, no) refl
+
+-- of a later one: what is kept
+pub holds_later : (t : ℕ) (heard : List Bool) (early : List (List (Option BatchValue))) (s q : ℕ) → t < s → holds_in t heard early s q ≡ is_some (early_at early (s - (t + 1)) q)
+holds_later t heard early s q lt =
+    let ne : (s == t) ≡ false = grind (arith, nat_tests) in
+    let yes : nat_lt t s ≡ true = grind (arith, nat_tests) in
+    rw (ne, yes) refl
+
+find_same : (p r : ℕ → Bool) (a n : ℕ) → ((k : ℕ) → p k ≡ r k) → find p (range_with_len a n) ≡ find r (range_with_len a n)
+find_same p r a zero h = refl
+find_same p r a (suc n) h = rw (h a, find_same p r (a + 1) n h) refl
+
+-- what is missing from the level is what is not heard
+pub missing_is : (parts p t : ℕ) (heard : List Bool) (early : List (List (Option BatchValue))) →
+    find (λ q. not (q == p) && not (get_or heard q false)) (range_with_len 0 parts) ≡ missing_of parts p (record { superstep = t; holds = λ s k. holds_in t heard early s k })
+unfolding missing_of
+missing_is parts p t heard early =
+    find_same (λ q. not (q == p) && not (get_or heard q false)) (λ q. not (q == p) && not (holds_in t heard early t q)) 0 parts (λ q. ap (λ b. not (q == p) && not b) (sym (holds_now t heard early q)))
+
+-- what is kept, seen from another place
+pub same_early : (early : List (List (Option BatchValue))) (i k q : ℕ) → i ≡ k → early_at early i q ≡ early_at early k q
+same_early early i k q e = ap (λ n. early_at early n q) e
+
+-- ---- one superstep more
+
+-- what is true of a place is true of the same superstep at another
+pub true_at : (j : Job) (p s r q : ℕ) (o : Option BatchValue) → s ≡ r → IfSome o (λ b. b ≡ true_batch j (record { superstep = s; source = q; target = p })) → IfSome o (λ b. b ≡ true_batch j (record { superstep = r; source = q; target = p }))
+true_at j p s r q o e h = subst (λ n. IfSome o (λ b. b ≡ true_batch j (record { superstep = n; source = q; target = p }))) e h
+
+pub if_same : (P : BatchValue → Type 0) (a b : Option BatchValue) → a ≡ b → IfSome b P → IfSome a P
+if_same P a b e h = rw e h
+
+-- a replica that is ready and advances stands for the next superstep
+pub advance_stands : (j : Job) (p t : ℕ) (v w : State) → Ready j p t v → Advances v w → t + 1 ≤ end_of (mixing_of j.plan) j.graph j.plan.limit → StandsFor j p (t + 1) w
+advance_stands j p t v w r a time =
     let h = r.stands in
-    let parts : v.part.plan.parts ≡ j.plan.parts = ap (λ (b : PlanValue). b.parts) (plan_is j p t v h) in
+    let rows : w.rows ≡ rows_of j p (t + 1) = a.gathers j p t h ∙ next_rows_are j p t v r in
+    let zero_on : t + 1 + 0 ≡ t + 1 = omega arith in
+    let hearing = a.hears.stands j p (t + 1) h.job (ap targets_of h.part)
+    (λ q. true_at j p (t + 1 + 0) (t + 1) q (early_at v.early 0 q) zero_on (h.early.true_of 0 q))
+    (none_heard j p (t + 1) 64 (replicate 64 false) false w.rows h.job refl refl rows) in
     record {
       job = h.job;
       partition = h.partition;
       part = a.part ∙ h.part;
       superstep = a.superstep ∙ ap (λ n. n + 1) h.superstep;
       in_time = time;
-      rows = a.rows ∙ next_rows_are j p t v r;
-      marks = a.marks ∙ next_marks_are j p t v r;
-      tallies = a.tallies ∙ next_tallies_are j p t v r;
-      sums = a.sums ∙ next_sums_are j p t v r;
-      kept = rw (a.kept, parts) (keeps_shifted j p t v.kept (long ∙ ap (λ n. 4 * n) parts) h.kept);
+      rows = rows;
+      marks = a.marks ∙ differing_is j p t _ v.rows w.rows h.partition (size_is j p t v h) h.rows rows;
+      tallies = a.tallies ∙ next_tallies_are j p t v w.rows h rows;
+      sums = a.sums ∙ next_sums_are j p t v w.rows h rows;
+      heard_change = hearing.change;
+      accumulated = hearing.accumulated;
+      early = record {
+        true_of = λ i q.
+            let e : t + 1 + (i + 1) ≡ t + 1 + 1 + i = omega arith in
+            if_same _ (early_at w.early i q) (early_at v.early (i + 1) q) (a.early i q) (true_at j p (t + 1 + (i + 1)) (t + 1 + 1 + i) q (early_at v.early (i + 1) q) e (h.early.true_of (i + 1) q));
+      };
     }
 
 -- the names held after it
-pub advance_holds : (v w : State) → Advances v w → length v.kept ≡ 4 * v.part.plan.parts → (s q : ℕ) → (content_of w).holds s q ≡ (closed (content_of v)).holds s q
-advance_holds v w a long s q = rw (a.part, a.superstep, a.kept) (holds_shifted v.part.plan v.part.number v.superstep s q v.kept long)
+pub advance_holds : (v w : State) → Advances v w → (s q : ℕ) → (content_of w).holds s q ≡ (closed (content_of v)).holds s q
+advance_holds v w a s q =
+    let t = v.superstep in
+    ap (λ n. holds_in n w.heard w.early s q) a.superstep
+    ∙ elim (cases_lt t s) [
+      | inl after ↦ elim (cases_eq s (t + 1)) [
+        | inl here ↦
+            let yes : nat_lt t s ≡ true = grind (arith, nat_tests) in
+            let gap : 0 ≡ s - (t + 1) = omega arith in
+            ap (λ n. holds_in (t + 1) w.heard w.early n q) here
+            ∙ holds_now (t + 1) w.heard w.early q
+            ∙ a.hears.sources q
+            ∙ ap (λ b. b || is_some (early_at v.early 0 q)) (flag_none 64 q)
+            ∙ ap is_some (same_early v.early 0 (s - (t + 1)) q gap)
+            ∙ sym (ap (λ b. b && holds_in t v.heard v.early s q) yes ∙ holds_later t v.heard v.early s q after)
+        | inr other ↦
+            let yes : nat_lt t s ≡ true = grind (arith, nat_tests) in
+            let further : t + 1 < s = omega arith in
+            let gap : s - (t + 1 + 1) + 1 ≡ s - (t + 1) = omega arith in
+            holds_later (t + 1) w.heard w.early s q further
+            ∙ ap is_some (a.early (s - (t + 1 + 1)) q ∙ same_early v.early (s - (t + 1 + 1) + 1) (s - (t + 1)) q gap)
+            ∙ sym (ap (λ b. b && holds_in t v.heard v.early s q) yes ∙ holds_later t v.heard v.early s q after)
+      ]
+      | inr before ↦
+          let no : nat_lt t s ≡ false = grind (arith, nat_tests) in
+          holds_before (t + 1) w.heard w.early s q (omega arith) ∙ sym (ap (λ b. b && holds_in t v.heard v.early s q) no)
+    ]

@@ -9,7 +9,8 @@ use Rattle.ball_model.specs.declared.names.CloseError.TheVariants as waits
 use Rattle.ball_model.specs.Job.{Job}
 use Rattle.ball_model.specs.Content.{close_unless, close_when, missing_of}
 use Rattle.ball_model.specs.State.{State, StandsFor, content_of}
-use Rattle.replica.specs.Level.{level_verdict, found_close, Advances}
+use Rattle.replica.specs.Change.{Advances}
+use Rattle.replica.specs.Level.{level_verdict, found_close}
 use Rattle.replica.specs.Seen.{IsState}
 use Rattle.replica.proofs.LevelLemmas.{Ready}
 use Rattle.replica.proofs.BusyLemmas.{level_is}
@@ -60,7 +61,7 @@ pub close_stands : (j : Job) (p t n : ℕ) (v w : State) (r : Result ℕ CloseEr
 close_stands j p t n v w r h s is ok a =
     let says = closes v r n is ok in
     let ready : Ready j p t v = record { stands = h; none = says.0 } in
-    advance_stands j p t v w ready a s.kept (end_further j t h.job h.in_time (sym (level_is j p t v ready) ∙ says.1))
+    advance_stands j p t v w ready a (end_further j t h.job h.in_time (sym (level_is j p t v ready) ∙ says.1))
 
 -- a run that goes on is below the limit
 go_on_below : (early busy : Bool) (t limit : ℕ) → (if early && not busy then verdict.Stable else (if t == limit then verdict.Limit else verdict.GoOn)) ≡ verdict.GoOn → (t == limit) ≡ false

@@ -2,9 +2,9 @@
 use denote.Param.Send.{IsSend, IsSync, sendable}
 use Rattle.std.proofs.Crossing.{crosses}
 use Rattle.registers.specs.contracts.rows.Rows as rows
-use Rattle.figures.specs.contracts.tally.Tally as tally
 use Rattle.batches.proofs.Crossing.{batch_send, batch_sync}
 use Rattle.edgelist.proofs.Crossing.{part_send, part_sync}
+use Rattle.figures.proofs.Crossing.{tally_send, tally_sync}
 use Rattle.replica.specs.contracts.Replica as replica
 use Rattle.replica.specs.contracts.Snapshot as snapshot
 
@@ -13,12 +13,6 @@ rows_send = search (sendable, crosses) depth 30
 
 rows_sync : IsSync rows.the_row
 rows_sync = search (sendable, crosses) depth 30
-
-tally_send : IsSend tally.the_row
-tally_send = search (sendable, crosses) depth 30
-
-tally_sync : IsSync tally.the_row
-tally_sync = search (sendable, crosses) depth 30
 
 pub snapshot_send : IsSend snapshot.the_row
 snapshot_send = search (part_send, part_sync, rows_send, tally_send, batch_send, batch_sync, sendable, crosses) depth 30 fits 20000

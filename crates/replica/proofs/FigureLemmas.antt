@@ -9,11 +9,11 @@ use Rattle.ball_model.specs.Counter.{ball_counter}
 use Rattle.ball_model.specs.Supersteps.{estimate_at, total_over, tally_at}
 use Rattle.ball_model.specs.PlanValue.{PlanValue, part_size, mixing_of}
 use Rattle.ball_model.specs.Job.{Job}
-use Rattle.ball_model.specs.State.{State, tallies_of, sums_of, rows_of, own_vertices}
+use Rattle.ball_model.specs.State.{State, StandsFor, tallies_of, sums_of, rows_of, own_vertices}
 use Rattle.ball_model.proofs.TallyLemmas.{harmonic_more, distance_more}
-use Rattle.replica.specs.Level.{stepped, stepped_all, nothing, total_of, next_rows}
+use Rattle.replica.specs.Level.{stepped, stepped_all, nothing, total_of}
 use Rattle.replica.proofs.OwnLemmas.{vertex_of, at_own}
-use Rattle.replica.proofs.LevelLemmas.{Ready, row_at, size_is, plan_is, next_rows_are}
+use Rattle.replica.proofs.LevelLemmas.{row_at, size_is, plan_is}
 
 pub tally_in : (j : Job) (p t i : ℕ) (d : TallyValue) → p < j.plan.parts → i < part_size j.graph.vertices j.plan.parts p → get_or (tallies_of j p t) i d ≡ tally_at (mixing_of j.plan) j.graph (vertex_of j.plan.parts p i) t
 unfolding tallies_of
@@ -32,22 +32,21 @@ unfolding estimate_at
 estimate_in j p t i below lt = ap (estimate_of j.plan.log2m) (row_at j p t i [] below lt)
 
 -- all figures
-pub next_tallies_are : (j : Job) (p t : ℕ) (v : State) → Ready j p t v → stepped_all v.part.plan.log2m (v.superstep + 1) (next_rows v) v.tallies (length v.part.preds) ≡ tallies_of j p (t + 1)
+pub next_tallies_are : (j : Job) (p t : ℕ) (v : State) (rows : List (List ℕ)) → StandsFor j p t v → rows ≡ rows_of j p (t + 1) → stepped_all v.part.plan.log2m (v.superstep + 1) rows v.tallies (length v.part.preds) ≡ tallies_of j p (t + 1)
 unfolding stepped_all
-next_tallies_are j p t v r =
-    let h = r.stands in
+next_tallies_are j p t v rows h is =
     let size = size_is j p t v h in
-    let f : ℕ → TallyValue = λ i. stepped (v.superstep + 1) (get_or v.tallies i nothing) (estimate_of v.part.plan.log2m (get_or (next_rows v) i [])) in
+    let f : ℕ → TallyValue = λ i. stepped (v.superstep + 1) (get_or v.tallies i nothing) (estimate_of v.part.plan.log2m (get_or rows i [])) in
     let long : length (map f (range_with_len 0 (length v.part.preds))) ≡ length v.part.preds = length-map-range_with_len f 0 (length v.part.preds) in
     same_lists (map f (range_with_len 0 (length v.part.preds))) (tallies_of j p (t + 1)) (long ∙ size ∙ sym (length-tallies_of j p (t + 1)))
     (λ k d lt. let in_part : k < part_size j.graph.vertices j.plan.parts p = omega (arith, long, size) in
     let e : ℕ → ℕ = λ i. estimate_at (mixing_of j.plan) j.graph (vertex_of j.plan.parts p k) i in
-    let old : get_or v.tallies k nothing ≡ tally_of e t = ap (λ (l : List TallyValue). get_or l k nothing) h.tallies ∙ tally_in j p t k nothing r.stands.partition in_part in
-    let now : estimate_of v.part.plan.log2m (get_or (next_rows v) k []) ≡ e (t + 1) =
-    rw (next_rows_are j p t v r, ap (λ (a : PlanValue). a.log2m) (plan_is j p t v h)) (estimate_in j p (t + 1) k r.stands.partition in_part) in
+    let old : get_or v.tallies k nothing ≡ tally_of e t = ap (λ (l : List TallyValue). get_or l k nothing) h.tallies ∙ tally_in j p t k nothing h.partition in_part in
+    let now : estimate_of v.part.plan.log2m (get_or rows k []) ≡ e (t + 1) =
+    rw (is, ap (λ (a : PlanValue). a.log2m) (plan_is j p t v h)) (estimate_in j p (t + 1) k h.partition in_part) in
     get_or-map-range_with_len f 0 (length v.part.preds) k k d (omega (arith, long)) (omega arith)
     ∙ rw (old, now, h.superstep) (tally_more e t)
-    ∙ sym (tally_in j p (t + 1) k d r.stands.partition in_part))
+    ∙ sym (tally_in j p (t + 1) k d h.partition in_part))
 
 sum_mapped : (g : List ℕ → ℕ) (f : ℕ → List ℕ) (h : ℕ → ℕ) (xs : List ℕ) → ((x : ℕ) → g (f x) ≡ h x) → sum_by g (map f xs) ≡ sum_by h xs
 sum_mapped g f h [] e = refl
@@ -65,6 +64,6 @@ unfolding sums_of
 sums_more j p t = map-range_with_len_more (λ i. total_over (mixing_of j.plan) j.graph (own_vertices j p) i) 0 (t + 1) (t + 1) (omega arith)
 
 -- all sums
-pub next_sums_are : (j : Job) (p t : ℕ) (v : State) → Ready j p t v → v.sums ++ total_of v.part.plan.log2m (next_rows v) ∷ [] ≡ sums_of j p (t + 1)
-next_sums_are j p t v r =
-    rw (next_rows_are j p t v r, r.stands.sums, ap (λ (a : PlanValue). a.log2m) (plan_is j p t v r.stands), total_is j p (t + 1)) (sym (sums_more j p t))
+pub next_sums_are : (j : Job) (p t : ℕ) (v : State) (rows : List (List ℕ)) → StandsFor j p t v → rows ≡ rows_of j p (t + 1) → v.sums ++ total_of v.part.plan.log2m rows ∷ [] ≡ sums_of j p (t + 1)
+next_sums_are j p t v rows h is =
+    rw (is, h.sums, ap (λ (a : PlanValue). a.log2m) (plan_is j p t v h), total_is j p (t + 1)) (sym (sums_more j p t))

@@ -10,23 +10,17 @@ use Rattle.ball_model.specs.State.{State, content_of, further}
 use Rattle.ball_model.proofs.PathLemmas.{and_left, and_both}
 use Rattle.ball_model.proofs.JoinLemmas.{holding_is_one, holding_of_joined}
 use Rattle.replica.specs.Seen.{IsState}
-use Rattle.replica.specs.Merged.{gathered, ShowsAs, holding}
-use Rattle.replica.proofs.MergeLemmas.{further_superstep, merged_names}
-
--- a replica holds only what may be held
-pub content_kept : (v : State) → IsState v → IsContent v.part.plan v.part.number (content_of v)
-content_kept v s = record {
-  superstep = s.superstep;
-  names = λ r q e. and_left (in_window v.part.plan v.part.number v.superstep r q) _ e;
-}
+use Rattle.replica.specs.Merged.{Absorbs, holding}
+use Rattle.replica.proofs.MergeLemmas.{further_superstep}
+use Rattle.replica.proofs.SameLemmas.{content_is_one}
 
 -- two replicas of one plan and one partition may be joined
 pub alike_from : (v o : State) → IsState v → IsState o → v.part.plan ≡ o.part.plan → v.part.number ≡ o.part.number → AreAlike (holding v) (holding o)
 alike_from v o sv so plan number = record {
   plan = plan;
   partition = number;
-  left = holding_is_one v.part.plan v.part.number (content_of v) (content_kept v sv);
-  right = holding_is_one o.part.plan o.part.number (content_of o) (content_kept o so);
+  left = holding_is_one v.part.plan v.part.number (content_of v) (content_is_one v sv);
+  right = holding_is_one o.part.plan o.part.number (content_of o) (content_is_one o so);
 }
 
 eq_to : (a b : ℕ) → a ≡ b → (a == b) ≡ true
@@ -41,11 +35,10 @@ same_plan_to a b e =
     (eq_to a.vertices b.vertices (ap (λ (p : PlanValue). p.vertices) e))) ((bytes_eq-Decides a.job b.job).1 (ap (λ (p : PlanValue). p.job) e))
 
 -- a replica that has taken over another one has the join of both contents
-pub joined_holding : (v o w : State) → IsState v → IsState o → v.part.plan ≡ o.part.plan → v.part.number ≡ o.part.number → w.part ≡ v.part → ShowsAs w (further v o) → w.kept ≡ gathered v.part.plan.parts v.superstep o.superstep v.kept o.kept →
-    holding w ≡ join_of (holding v) (holding o)
-joined_holding v o w sv so plan number part shown kept =
-    let theirs : IsContent v.part.plan v.part.number (content_of o) = rw (plan, number) (content_kept o so) in
-    let is = holding_of_joined v.part.plan v.part.number (content_of v) (content_of o) (content_of w) (content_kept v sv) theirs (shown.superstep ∙ further_superstep v o) (merged_names v o w sv so plan number part shown kept) in
-    let own : holding w ≡ holding_of v.part.plan v.part.number (content_of w) = ap (λ (a : PartValue). holding_of a.plan a.number (content_of w)) part in
+pub joined_holding : (v o w : State) → IsState v → IsState o → v.part.plan ≡ o.part.plan → v.part.number ≡ o.part.number → Absorbs v o w → holding w ≡ join_of (holding v) (holding o)
+joined_holding v o w sv so plan number a =
+    let theirs : IsContent v.part.plan v.part.number (content_of o) = rw (plan, number) (content_is_one o so) in
+    let is = holding_of_joined v.part.plan v.part.number (content_of v) (content_of o) (content_of w) (content_is_one v sv) theirs (a.shown.superstep ∙ further_superstep v o) a.names in
+    let own : holding w ≡ holding_of v.part.plan v.part.number (content_of w) = ap (λ (b : PartValue). holding_of b.plan b.number (content_of w)) a.part in
     let other : holding_of v.part.plan v.part.number (content_of o) ≡ holding o = rw (plan, number) refl in
     own ∙ is ∙ ap (λ h. join_of (holding v) h) other

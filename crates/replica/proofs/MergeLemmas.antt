@@ -1,287 +1,435 @@
--- What two replicas keep, joined, place by place.
-use Rattle.std.proofs.Common.{◌≡◌, ℕ, ◌+◌, ◌-◌, ◌*◌, ◌<◌, ◌≤◌, ◌==◌, max, min, nat_le, nat_lt, Bool, true, false, ◌&&◌, ◌||◌, if◌then◌else◌, List, length, map, get_or, drop, replicate, refl, ap, arith, sym, ◌∙◌, inl, inr, subst, is_some, IfSome, length-drop, length-append}
+-- What two replicas of one partition know, taken together.
+use Rattle.std.proofs.Common.{◌≡◌, ℕ, zero, suc, ◌+◌, ◌-◌, ◌%◌, ◌<◌, ◌≤◌, max, min, ◌==◌, nat_le, nat_lt, not, Bool, true, false, ◌&&◌, ◌||◌, if◌then◌else◌, List, [], ◌∷◌, length, map, get_or, refl, ap, arith, sym, ◌∙◌, inl, inr, subst, is_some, IfSome, ◌⊎◌}
 use Rattle.std.specs.Prelude.{Option, Some, None}
-use Rattle.std.specs.List.{range_with_len}
-use Rattle.std.proofs.lemmas.Bool.{cases_lt}
-use Rattle.std.proofs.lemmas.Bool.Decides.{nat_tests}
-use Rattle.std.proofs.lemmas.List.{length-replicate}
-use Rattle.std.proofs.lemmas.List.FromFn.{length-map-range_with_len, get_or-map-range_with_len}
-use Rattle.std.proofs.Math.Nat.{mul-le-mul_right}
-use Rattle.ball_model.specs.PlanValue.{PlanValue}
-use Rattle.ball_model.specs.Job.{Job, IsPart, PartValue}
-use Rattle.ball_model.specs.Content.{in_window, same_plan}
+use Rattle.std.specs.List.{zip, range_with_len, list_any}
 use Rattle.std.specs.Str.{bytes_eq}
-use Rattle.std.proofs.lemmas.Slice.Eq.{bytes_eq-Decides}
-use Rattle.ball_model.specs.Batches.{BatchValue, true_batch}
-use Rattle.ball_model.specs.State.{State, StandsFor, KeepsTrue, holds_in, place_of, content_of, further}
+use Rattle.std.proofs.lemmas.Bool.{cases_lt, cases_eq}
+use Rattle.std.proofs.lemmas.Bool.Decides.{nat_tests}
+use Rattle.std.proofs.lemmas.List.{length-map}
+use Rattle.std.proofs.lemmas.List.FromFn.{get_or-map-range_with_len, length-map-range_with_len}
+use Rattle.std.proofs.lemmas.Slice.Zip.{length-zip}
+use Rattle.ball_model.specs.declared.names.BatchName.{BatchName}
+use Rattle.ball_model.specs.Accumulated.{accumulated_of}
+use Rattle.ball_model.specs.Counter.{max_each}
+use Rattle.ball_model.specs.PlanValue.{PlanValue}
+use Rattle.ball_model.specs.Job.{Job, IsPart, PartValue, part_of}
+use Rattle.ball_model.specs.Batches.{BatchValue, true_batch, changed_count}
 use Rattle.ball_model.specs.Join.{joined}
-use Rattle.ball_model.proofs.PathLemmas.{same_bool, and_left, and_right, and_both, or_cases, or_left, or_right}
-use Rattle.replica.specs.Kept.{IsFit, AreFit}
+use Rattle.ball_model.specs.State.{State, StandsFor, KeepsTrue, content_of, early_at, holds_in, further, is_heard, heard_changes}
+use Rattle.ball_model.proofs.AccumulatedPartLemmas.{accumulated_of-or, accumulated_of-alike}
+use Rattle.registers.specs.Joined.{union_of_flags}
+use Rattle.replica.specs.Ahead.{IsTable, either}
+use Rattle.replica.specs.Hearing.{Hears}
+use Rattle.replica.specs.Index.{targets_of}
+use Rattle.replica.specs.Kept.{IsOfName, AreEarly, AreSources, AreCounters, Rises, AllRise}
+use Rattle.replica.specs.Level.{differing}
+use Rattle.replica.specs.Merged.{ShowsAs, Absorbs}
 use Rattle.replica.specs.Seen.{IsState}
-use Rattle.replica.specs.Merged.{either, filled, gathered, shifted_by, ShowsAs}
-use Rattle.replica.proofs.ShiftLemmas.{shifted_at, own_anywhere, past_end}
-use Rattle.replica.proofs.LevelLemmas.{plan_is}
-use Rattle.replica.proofs.PlaceLemmas.{InWindow, window_from, window_to}
+use Rattle.replica.specs.Spread.{AreTouched}
+use Rattle.replica.proofs.AdvanceLemmas.{holds_now, holds_before, holds_later, same_early, true_at}
+use Rattle.replica.proofs.EarlyLemmas.{no_level, no_source}
+use Rattle.replica.proofs.HearLemmas.{any_or, any_same}
+use Rattle.replica.proofs.LevelLemmas.{plan_is, number_is}
+use Rattle.replica.proofs.RiseLemmas.{max_rises, all_on, rise_counters}
+use Rattle.replica.proofs.StateLemmas.{sources_more}
 
--- ---- places
+-- ---- one or the other
 
-pub length-shifted_by : (parts n : ℕ) (kept : List (Option BatchValue)) → length kept ≡ 4 * parts → length (shifted_by parts n kept) ≡ 4 * parts
-length-shifted_by parts n kept long =
-    let le : min n 4 * parts ≤ 4 * parts = mul-le-mul_right parts (omega arith) in
-    omega (arith, le, length-append (drop (min n 4 * parts) kept) (replicate (min n 4 * parts) None), length-drop (min n 4 * parts) kept, length-replicate {A = Option BatchValue} (min n 4 * parts) None)
-
--- what stands at a place after some supersteps
-pub shifted_by_at : (parts n k : ℕ) (kept : List (Option BatchValue)) → length kept ≡ 4 * parts → get_or (shifted_by parts n kept) k None ≡ get_or kept (n * parts + k) None
-shifted_by_at parts n k kept long =
-    shifted_at (min n 4 * parts) k kept ∙
-    elim (cases_lt n 4) [
-      | inl few ↦ let e : min n 4 ≡ n = omega arith in ap (λ m. get_or kept (m * parts + k) None) e
-      | inr many ↦
-          let e : min n 4 ≡ 4 = omega arith in
-          let le : 4 * parts ≤ n * parts = mul-le-mul_right parts many in
-          rw e (past_end kept (4 * parts + k) (omega (arith, long))) ∙ sym (past_end kept (n * parts + k) (omega (arith, long, le)))
-    ]
-
-either_none : (a b : Option BatchValue) → a ≡ None → b ≡ None → None ≡ either a b
-either_none a b p q = rw (p, q) refl
-
--- what stands at a place of two that are joined
-pub filled_at : (kept others : List (Option BatchValue)) (k : ℕ) → length others ≡ length kept → get_or (filled kept others) k None ≡ either (get_or kept k None) (get_or others k None)
-unfolding filled
-filled_at kept others k same =
-    let F : ℕ → Option BatchValue = λ i. either (get_or kept i None) (get_or others i None) in
-    elim (cases_lt k (length kept)) [
-      | inl inside ↦ get_or-map-range_with_len F 0 (length kept) k k None inside (omega arith)
-      | inr beyond ↦
-          past_end (map F (range_with_len 0 (length kept))) k (omega (arith, length-map-range_with_len F 0 (length kept)))
-          ∙ either_none (get_or kept k None) (get_or others k None) (past_end kept k beyond) (past_end others k (omega (arith, same)))
-    ]
-
-pub length-filled : (kept others : List (Option BatchValue)) → length (filled kept others) ≡ length kept
-unfolding filled
-length-filled kept others = length-map-range_with_len (λ i. either (get_or kept i None) (get_or others i None)) 0 (length kept)
-
-pub length-gathered : (parts t u : ℕ) (a b : List (Option BatchValue)) → length a ≡ 4 * parts → length (gathered parts t u a b) ≡ 4 * parts
-unfolding gathered
-length-gathered parts t u a b long = length-filled (shifted_by parts (u - t) a) (shifted_by parts (t - u) b) ∙ length-shifted_by parts (u - t) a long
-
-pub gathered_at : (parts t u k : ℕ) (a b : List (Option BatchValue)) → length a ≡ 4 * parts → length b ≡ 4 * parts →
-    get_or (gathered parts t u a b) k None ≡ either (get_or a ((u - t) * parts + k) None) (get_or b ((t - u) * parts + k) None)
-unfolding gathered
-gathered_at parts t u k a b long other =
-    filled_at (shifted_by parts (u - t) a) (shifted_by parts (t - u) b) k (length-shifted_by parts (t - u) b other ∙ sym (length-shifted_by parts (u - t) a long))
-    ∙ rw (shifted_by_at parts (u - t) k a long, shifted_by_at parts (t - u) k b other) refl
-
--- the place of a name, seen from an earlier superstep
-place_from : (parts t u s q : ℕ) → max t u ≤ s → (u - t) * parts + place_of parts (max t u) s q ≡ place_of parts t s q
-place_from parts t u s q low =
-    let e : s - t ≡ (u - t) + (s - max t u) = omega arith in
-    let f : (s - t) * parts ≡ (u - t) * parts + (s - max t u) * parts = ap (λ n. n * parts) e ∙ omega arith in
-    omega (arith, f)
-
-place_from_other : (parts t u s q : ℕ) → max t u ≤ s → (t - u) * parts + place_of parts (max t u) s q ≡ place_of parts u s q
-place_from_other parts t u s q low =
-    let e : s - u ≡ (t - u) + (s - max t u) = omega arith in
-    let f : (s - u) * parts ≡ (t - u) * parts + (s - max t u) * parts = ap (λ n. n * parts) e ∙ omega arith in
-    omega (arith, f)
-
--- what stands at the place of a name
-pub gathered_of : (parts t u s q : ℕ) (a b : List (Option BatchValue)) → length a ≡ 4 * parts → length b ≡ 4 * parts → max t u ≤ s →
-    get_or (gathered parts t u a b) (place_of parts (max t u) s q) None ≡ either (get_or a (place_of parts t s q) None) (get_or b (place_of parts u s q) None)
-gathered_of parts t u s q a b long other low =
-    gathered_at parts t u (place_of parts (max t u) s q) a b long other
-    ∙ rw (place_from parts t u s q low, place_from_other parts t u s q low) refl
-
--- a name past the window has no place
-none_past : (parts t s q : ℕ) (kept : List (Option BatchValue)) → length kept ≡ 4 * parts → t + 4 ≤ s → get_or kept (place_of parts t s q) None ≡ None
-none_past parts t s q kept long far =
-    let le : 4 * parts ≤ (s - t) * parts = mul-le-mul_right parts (omega arith) in
-    past_end kept (place_of parts t s q) (omega (arith, long, le))
-
--- ---- names
-
-leq_from : (a b : ℕ) → nat_le a b ≡ true → a ≤ b
-leq_from a b e = grind (arith, nat_tests)
-
-leq_to : (a b : ℕ) → a ≤ b → nat_le a b ≡ true
-leq_to a b e = grind (arith, nat_tests)
+abbrev pub IsEither : Option BatchValue → Option BatchValue → Option BatchValue → Type 0
+IsEither a b c = (c ≡ either a b) ⊎ (c ≡ either b a)
 
 some_either : (a b : Option BatchValue) → is_some (either a b) ≡ (is_some a || is_some b)
 some_either None b = refl
 some_either (Some a) b = refl
 
-none_is : (o : Option BatchValue) → o ≡ None → is_some o ≡ true → ⊥
-none_is o e f = let g : is_some o ≡ false = ap is_some e in absurd (cc)
+or_turn : (a b : Bool) → (a || b) ≡ (b || a)
+or_turn true true = refl
+or_turn true false = refl
+or_turn false true = refl
+or_turn false false = refl
 
--- a name that has something at its place is in the window
-held_from : (plan : PlanValue) (p t s q : ℕ) (kept : List (Option BatchValue)) → length kept ≡ 4 * plan.parts → t ≤ s → s ≤ plan.limit → q < plan.parts → (q == p) ≡ false → is_some (get_or kept (place_of plan.parts t s q) None) ≡ true → holds_in plan p t kept s q ≡ true
-held_from plan p t s q kept long low within source other here =
-    elim (cases_lt s (t + 4)) [
-      | inl inside ↦ and_both (in_window plan p t s q) _ (window_to plan p t s q (record { low = low; high = omega arith; within = within; source = source; other = other })) here
-      | inr far ↦ absurd (none_is _ (none_past plan.parts t s q kept long far) here)
-    ]
-
-forth : (plan : PlanValue) (p t u s q : ℕ) (a b : List (Option BatchValue)) → length a ≡ 4 * plan.parts → length b ≡ 4 * plan.parts →
-    holds_in plan p (max t u) (gathered plan.parts t u a b) s q ≡ true → (nat_le (max t u) s && (holds_in plan p t a s q || holds_in plan p u b s q)) ≡ true
-forth plan p t u s q a b long other e =
-    let w : InWindow plan p (max t u) s q = window_from plan p (max t u) s q (and_left (in_window plan p (max t u) s q) _ e) in
-    let low = w.low in
-    let here : is_some (get_or (gathered plan.parts t u a b) (place_of plan.parts (max t u) s q) None) ≡ true = and_right (in_window plan p (max t u) s q) _ e in
-    let one = sym (ap is_some (gathered_of plan.parts t u s q a b long other w.low) ∙ some_either (get_or a (place_of plan.parts t s q) None) (get_or b (place_of plan.parts u s q) None)) ∙ here in
-    and_both (nat_le (max t u) s) _ (leq_to (max t u) s w.low) (elim (or_cases (is_some (get_or a (place_of plan.parts t s q) None)) (is_some (get_or b (place_of plan.parts u s q) None)) one) [
-      | inl mine ↦ or_left _ _ (held_from plan p t s q a long (omega arith) w.within w.source w.other mine)
-      | inr theirs ↦ or_right _ _ (held_from plan p u s q b other (omega arith) w.within w.source w.other theirs)
-    ])
-
-back : (plan : PlanValue) (p t u s q : ℕ) (a b : List (Option BatchValue)) → length a ≡ 4 * plan.parts → length b ≡ 4 * plan.parts →
-    (nat_le (max t u) s && (holds_in plan p t a s q || holds_in plan p u b s q)) ≡ true → holds_in plan p (max t u) (gathered plan.parts t u a b) s q ≡ true
-back plan p t u s q a b long other e =
-    let low : max t u ≤ s = leq_from (max t u) s (and_left (nat_le (max t u) s) _ e) in
-    let one = and_right (nat_le (max t u) s) _ e in
-    let at = ap is_some (gathered_of plan.parts t u s q a b long other low) ∙ some_either (get_or a (place_of plan.parts t s q) None) (get_or b (place_of plan.parts u s q) None) in
-    elim (or_cases (holds_in plan p t a s q) (holds_in plan p u b s q) one) [
-      | inl mine ↦
-          let w : InWindow plan p t s q = window_from plan p t s q (and_left (in_window plan p t s q) _ mine) in
-          let high = w.high in
-          and_both (in_window plan p (max t u) s q) _ (window_to plan p (max t u) s q (record { low = low; high = omega arith; within = w.within; source = w.source; other = w.other })) (at ∙ or_left _ _ (and_right (in_window plan p t s q) _ mine))
-      | inr theirs ↦
-          let w : InWindow plan p u s q = window_from plan p u s q (and_left (in_window plan p u s q) _ theirs) in
-          let high = w.high in
-          and_both (in_window plan p (max t u) s q) _ (window_to plan p (max t u) s q (record { low = low; high = omega arith; within = w.within; source = w.source; other = w.other })) (at ∙ or_right _ _ (and_right (in_window plan p u s q) _ theirs))
-    ]
-
--- the names held by two that are joined
-pub holds_gathered : (plan : PlanValue) (p t u s q : ℕ) (a b : List (Option BatchValue)) → length a ≡ 4 * plan.parts → length b ≡ 4 * plan.parts →
-    holds_in plan p (max t u) (gathered plan.parts t u a b) s q ≡ (nat_le (max t u) s && (holds_in plan p t a s q || holds_in plan p u b s q))
-holds_gathered plan p t u s q a b long other = same_bool _ _ (forth plan p t u s q a b long other) (back plan p t u s q a b long other)
-
--- ---- true batches
+some_of : (a b c : Option BatchValue) → IsEither a b c → is_some c ≡ (is_some a || is_some b)
+some_of a b c e = elim e [
+  | inl left ↦ ap is_some left ∙ some_either a b
+  | inr right ↦ ap is_some right ∙ some_either b a ∙ or_turn (is_some b) (is_some a)
+]
 
 either_if : (P : BatchValue → Type 0) (a b : Option BatchValue) → IfSome a P → IfSome b P → IfSome (either a b) P
 either_if P None b p q = q
 either_if P (Some a) b p q = p
 
-true_from : (j : Job) (p t s q : ℕ) (kept : List (Option BatchValue)) → length kept ≡ 4 * j.plan.parts → KeepsTrue j p t kept → t ≤ s → q < j.plan.parts →
-    IfSome (get_or kept (place_of j.plan.parts t s q) None) (λ b. b ≡ true_batch j (record { superstep = s; source = q; target = p }))
-true_from j p t s q kept long h low lt =
-    elim (cases_lt s (t + 4)) [
-      | inl inside ↦ h.true_of s q low inside lt
-      | inr far ↦ rw (none_past j.plan.parts t s q kept long far) tt
+if_of : (P : BatchValue → Type 0) (a b c : Option BatchValue) → IsEither a b c → IfSome a P → IfSome b P → IfSome c P
+if_of P a b c e p q = elim e [
+  | inl left ↦ subst (λ (o : Option BatchValue). IfSome o P) (sym left) (either_if P a b p q)
+  | inr right ↦ subst (λ (o : Option BatchValue). IfSome o P) (sym right) (either_if P b a q p)
+]
+
+none_of : (a b c : Option BatchValue) → IsEither a b c → a ≡ None → b ≡ None → c ≡ None
+none_of a b c e p q = elim e [
+  | inl left ↦ left ∙ rw (p, q) refl
+  | inr right ↦ right ∙ rw (p, q) refl
+]
+
+-- ---- one is further
+
+-- past all that is kept it makes no difference how far
+pub past_gap : (parts : ℕ) (early : List (List (Option BatchValue))) (i a q : ℕ) → IsTable parts early → early_at early (i + min a 3) q ≡ early_at early (i + a) q
+past_gap parts early i a q is =
+    elim (cases_lt a 3) [
+      | inl few ↦ let e : i + min a 3 ≡ i + a = omega arith in same_early early (i + min a 3) (i + a) q e
+      | inr many ↦ no_level early (i + min a 3) q (omega (arith, is.levels)) ∙ sym (no_level early (i + a) q (omega (arith, is.levels)))
     ]
 
--- true batches of both stay true
-pub keeps_gathered : (j : Job) (p t u : ℕ) (a b : List (Option BatchValue)) → length a ≡ 4 * j.plan.parts → length b ≡ 4 * j.plan.parts → KeepsTrue j p t a → KeepsTrue j p u b → KeepsTrue j p (max t u) (gathered j.plan.parts t u a b)
-keeps_gathered j p t u a b long other f g = record {
-  true_of = λ s q low high lt.
-      rw (gathered_of j.plan.parts t u s q a b long other low)
-      (either_if (λ c. c ≡ true_batch j (record { superstep = s; source = q; target = p })) _ _ (true_from j p t s q a long f (omega arith) lt) (true_from j p u s q b other g (omega arith) lt));
-}
+pub shifted_told : (parts : ℕ) (early shifted : List (List (Option BatchValue))) (a gap : ℕ) → IsTable parts early → gap ≡ min a 3 → ((i k : ℕ) → early_at shifted i k ≡ early_at early (i + gap) k) → (i k : ℕ) → early_at shifted i k ≡ early_at early (i + a) k
+shifted_told parts early shifted a gap is at told i k = told i k ∙ ap (λ n. early_at early (i + n) k) at ∙ past_gap parts early i a k is
 
--- ---- the limits
+-- f, the further one, has also heard and kept what l did
+pub record Gathers (log2m : ℕ) (f l w : State) : Type 0 where
+  pub lt : l.superstep < f.superstep
+  pub shown : ShowsAs w f
+  pub hears : Hears log2m (targets_of w.part) (λ q. early_at l.early (f.superstep - l.superstep - 1) q)
+      (record { heard = f.heard; change = f.heard_change; accumulated = f.accumulated }) (record { heard = w.heard; change = w.heard_change; accumulated = w.accumulated })
+  pub early : (i q : ℕ) → IsEither (early_at f.early i q) (early_at l.early (i + 1 + (f.superstep - l.superstep - 1)) q) (early_at w.early i q)
+  pub table : IsTable f.part.plan.parts w.early
 
-pub fit_gathered : (log2m parts t u : ℕ) (a b : List (Option BatchValue)) → length a ≡ 4 * parts → length b ≡ 4 * parts → AreFit log2m a → AreFit log2m b → AreFit log2m (gathered parts t u a b)
-fit_gathered log2m parts t u a b long other f g = record {
-  fit = λ k. rw (gathered_at parts t u k a b long other) (either_if (IsFit log2m) _ _ (f.fit ((u - t) * parts + k)) (g.fit ((t - u) * parts + k)));
-}
+le_no : (a b : ℕ) → b < a → nat_le a b ≡ false
+le_no a b lt = grind (arith, nat_tests)
 
-pub own_gathered : (parts p t u : ℕ) (a b : List (Option BatchValue)) → length a ≡ 4 * parts → length b ≡ 4 * parts →
-    ((i : ℕ) → i < 4 → get_or a (i * parts + p) None ≡ None) → ((i : ℕ) → i < 4 → get_or b (i * parts + p) None ≡ None) → (i : ℕ) → get_or (gathered parts t u a b) (i * parts + p) None ≡ None
-own_gathered parts p t u a b long other f g i =
-    let e : (u - t) * parts + (i * parts + p) ≡ ((u - t) + i) * parts + p = omega arith in
-    let h : (t - u) * parts + (i * parts + p) ≡ ((t - u) + i) * parts + p = omega arith in
-    gathered_at parts t u (i * parts + p) a b long other
-    ∙ sym (either_none _ _ (ap (λ k. get_or a k None) e ∙ own_anywhere parts p a long f ((u - t) + i)) (ap (λ k. get_or b k None) h ∙ own_anywhere parts p b other g ((t - u) + i)))
+le_yes : (a b : ℕ) → a ≤ b → nat_le a b ≡ true
+le_yes a b le = grind (arith, nat_tests)
 
--- the limits are kept, where all but the part and the batches is that of f, one of the two
-pub merged_state : (v o f w : State) → IsState v → IsState o → IsState f → v.part.plan ≡ o.part.plan → v.part.number ≡ o.part.number → f.part.plan ≡ v.part.plan → f.part.number ≡ v.part.number →
-    w.part ≡ v.part → ShowsAs w f → w.kept ≡ gathered v.part.plan.parts v.superstep o.superstep v.kept o.kept → IsState w
-merged_state v o f w sv so sf plan number fplan fnumber part shown kept =
-    let parts : v.part.plan.parts ≡ o.part.plan.parts = ap (λ (a : PlanValue). a.parts) plan in
-    let other : length o.kept ≡ 4 * v.part.plan.parts = so.kept ∙ ap (λ n. 4 * n) (sym parts) in
-    let log2m : f.part.plan.log2m ≡ v.part.plan.log2m = ap (λ (a : PlanValue). a.log2m) fplan in
-    let size : length f.part.preds ≡ length v.part.preds = sf.part.preds ∙ rw (fplan, fnumber) refl ∙ sym sv.part.preds in
-    let own_other : (i : ℕ) → i < 4 → get_or o.kept (i * v.part.plan.parts + v.part.number) None ≡ None = λ i lt. rw (parts, number) (so.own i lt) in
+-- the names
+pub gathers_names : (log2m : ℕ) (f l w : State) → Gathers log2m f l w → (s q : ℕ) → (content_of w).holds s q ≡ (nat_le f.superstep s && ((content_of f).holds s q || (content_of l).holds s q))
+gathers_names log2m f l w g s q =
+    let m = f.superstep in
+    let n = l.superstep in
+    let lt = g.lt in
+    ap (λ k. holds_in k w.heard w.early s q) g.shown.superstep
+    ∙ elim (cases_lt s m) [
+      | inl before ↦ holds_before m w.heard w.early s q before ∙ sym (ap (λ b. b && (holds_in m f.heard f.early s q || holds_in n l.heard l.early s q)) (le_no m s before))
+      | inr from ↦
+          elim (cases_eq s m) [
+            | inl here ↦
+                let gap : m - n - 1 ≡ s - (n + 1) = omega arith in
+                ap (λ k. holds_in m w.heard w.early k q) here ∙ holds_now m w.heard w.early q ∙ g.hears.sources q
+                ∙ ap (λ b. b || is_some (early_at l.early (m - n - 1) q)) (sym (ap (λ k. holds_in m f.heard f.early k q) here ∙ holds_now m f.heard f.early q))
+                ∙ ap (λ b. holds_in m f.heard f.early s q || b) (ap is_some (same_early l.early (m - n - 1) (s - (n + 1)) q gap) ∙ sym (holds_later n l.heard l.early s q (omega arith)))
+            | inr other ↦
+                let more : m < s = omega arith in
+                let gap : s - (m + 1) + 1 + (m - n - 1) ≡ s - (n + 1) = omega arith in
+                holds_later m w.heard w.early s q more
+                ∙ some_of _ _ _ (g.early (s - (m + 1)) q)
+                ∙ ap (λ b. b || is_some (early_at l.early (s - (m + 1) + 1 + (m - n - 1)) q)) (sym (holds_later m f.heard f.early s q more))
+                ∙ ap (λ b. holds_in m f.heard f.early s q || b) (ap is_some (same_early l.early (s - (m + 1) + 1 + (m - n - 1)) (s - (n + 1)) q gap) ∙ sym (holds_later n l.heard l.early s q (omega arith)))
+          ]
+          ∙ sym (ap (λ b. b && (holds_in m f.heard f.early s q || holds_in n l.heard l.early s q)) (le_yes m s from))
+    ]
+
+-- what is true stays true
+pub gathers_stands : (log2m : ℕ) (f l w : State) → Gathers log2m f l w → w.part ≡ l.part ⊎ w.part ≡ f.part → (j : Job) (p t u : ℕ) → StandsFor j p t f → StandsFor j p u l → StandsFor j p t w
+gathers_stands log2m f l w g part j p t u h k =
+    let lt = g.lt in
+    let gap = f.superstep - l.superstep - 1 in
+    let now : u + 1 + gap ≡ t = omega (arith, h.superstep, k.superstep) in
+    let here : w.part ≡ part_of j p = elim part [ inl mine ↦ mine ∙ k.part | inr mine ↦ mine ∙ h.part ] in
+    let hearing = g.hears.stands j p t h.job (ap targets_of here)
+    (λ q. true_at j p (u + 1 + gap) t q (early_at l.early gap q) now (k.early.true_of gap q))
+    (record { change = h.heard_change; accumulated = h.accumulated }) in
     record {
-      part = subst (λ (a : PartValue). IsPart a) (sym part) sv.part;
-      superstep = rw part (omega (arith, shown.superstep, sf.superstep, ap (λ (a : PlanValue). a.limit) fplan));
-      count = ap length shown.rows ∙ sf.count ∙ size ∙ ap (λ (a : PartValue). length a.preds) (sym part);
-      rows = rw (part, shown.rows, ← log2m) sf.rows;
-      marks = ap length shown.marks ∙ sf.marks ∙ size ∙ ap (λ (a : PartValue). length a.preds) (sym part);
-      lasts = rw (part, shown.tallies, shown.rows, ← log2m) sf.lasts;
-      sums = ap length shown.sums ∙ sf.sums ∙ ap (λ n. n + 1) (sym shown.superstep);
-      kept = rw (part, kept) (length-gathered v.part.plan.parts v.superstep o.superstep v.kept o.kept sv.kept);
-      own = rw (part, kept) (λ i _. own_gathered v.part.plan.parts v.part.number v.superstep o.superstep v.kept o.kept sv.kept other sv.own own_other i);
-      fit = rw (part, kept) (fit_gathered v.part.plan.log2m v.part.plan.parts v.superstep o.superstep v.kept o.kept sv.kept other sv.fit (subst (λ n. AreFit n o.kept) (ap (λ (a : PlanValue). a.log2m) (sym plan)) so.fit));
+      job = h.job;
+      partition = h.partition;
+      part = here;
+      superstep = g.shown.superstep ∙ h.superstep;
+      in_time = h.in_time;
+      rows = g.shown.rows ∙ h.rows;
+      marks = g.shown.marks ∙ h.marks;
+      tallies = g.shown.tallies ∙ h.tallies;
+      sums = g.shown.sums ∙ h.sums;
+      heard_change = hearing.change;
+      accumulated = hearing.accumulated;
+      early = record {
+        true_of = λ i q.
+            let later : u + 1 + (i + 1 + gap) ≡ t + 1 + i = omega (arith, h.superstep, k.superstep) in
+            if_of (λ b. b ≡ true_batch j (record { superstep = t + 1 + i; source = q; target = p })) _ _ _ (g.early i q) (h.early.true_of i q)
+            (true_at j p (u + 1 + (i + 1 + gap)) (t + 1 + i) q (early_at l.early (i + 1 + gap) q) later (k.early.true_of (i + 1 + gap) q));
+      };
     }
 
--- ---- two replicas
+-- the limits of what is kept
+pub early_union : (plan : PlanValue) (p m n k : ℕ) (a b c : List (List (Option BatchValue))) → AreEarly plan p m a → AreEarly plan p n b → n + k ≡ m → IsTable plan.parts c → ((i q : ℕ) → IsEither (early_at a i q) (early_at b (i + k) q) (early_at c i q)) → AreEarly plan p m c
+early_union plan p m n k a b c ea eb at table union = record {
+  table = table;
+  kept = λ i q.
+      let later : n + 1 + (i + k) ≡ m + 1 + i = omega (arith, at) in
+      if_of (IsOfName plan (record { superstep = m + 1 + i; source = q; target = p })) _ _ _ (union i q) (ea.kept i q)
+      (subst (λ s. IfSome (early_at b (i + k) q) (IsOfName plan (record { superstep = s; source = q; target = p }))) later (eb.kept (i + k) q));
+  own = λ i. none_of _ _ _ (union i p) (ea.own i) (eb.own (i + k));
+}
 
-further_in : (t u : ℕ) (b : Bool) → nat_lt t u ≡ b → max t u ≡ (if b then u else t)
-further_in t u true e = grind (arith, nat_tests)
-further_in t u false e = grind (arith, nat_tests)
+some_source : (parts : ℕ) (early : List (List (Option BatchValue))) (i q : ℕ) → IsTable parts early → is_some (early_at early i q) ≡ true → q < parts
+some_source parts early i q is on = elim (cases_lt q parts) [
+  | inl lt ↦ lt
+  | inr out ↦ absurd (no_none (early_at early i q) on (no_source parts early i q is out))
+]
+  where
+    no_none : (o : Option BatchValue) → is_some o ≡ true → o ≡ None → ⊥
+    no_none o e f = let g : is_some o ≡ false = ap is_some f in absurd (cc)
 
-further_at : (v o : State) (b : Bool) → (if b then o else v).superstep ≡ (if b then o.superstep else v.superstep)
-further_at v o true = refl
-further_at v o false = refl
+-- the limits
+pub gathers_state : (f l w : State) → IsState f → IsState l → Gathers f.part.plan.log2m f l w → l.part.plan ≡ f.part.plan → l.part.number ≡ f.part.number → w.part.plan ≡ f.part.plan → w.part.number ≡ f.part.number → length w.part.preds ≡ length f.part.preds → IsPart w.part → IsState w
+gathers_state f l w sf sl g plan number wplan wnumber size ok =
+    let lt = g.lt in
+    let gap = f.superstep - l.superstep - 1 in
+    let mine : AreEarly f.part.plan f.part.number l.superstep l.early = subst (λ n. AreEarly f.part.plan n l.superstep l.early) number (subst (λ (a : PlanValue). AreEarly a l.part.number l.superstep l.early) plan sl.early) in
+    let at : l.superstep + (1 + gap) ≡ f.superstep = omega arith in
+    let union : (i q : ℕ) → IsEither (early_at f.early i q) (early_at l.early (i + (1 + gap)) q) (early_at w.early i q) =
+    λ i q. let e : i + 1 + gap ≡ i + (1 + gap) = omega arith in subst (λ k. IsEither (early_at f.early i q) (early_at l.early k q) (early_at w.early i q)) e (g.early i q) in
+    record {
+      part = ok;
+      superstep = rw wplan (omega (arith, g.shown.superstep, sf.superstep));
+      count = ap length g.shown.rows ∙ sf.count ∙ sym size;
+      rows = rw (wplan, g.shown.rows) sf.rows;
+      marks = ap length g.shown.marks ∙ sf.marks ∙ sym size;
+      lasts = rw (wplan, g.shown.tallies, g.shown.rows) sf.lasts;
+      sums = rw (g.shown.superstep, g.shown.tallies, g.shown.sums) sf.sums;
+      heard = rw (wplan, wnumber) (sources_more f.part.plan.parts f.part.number f.heard w.heard (λ q. is_some (early_at l.early gap q)) sf.heard g.hears.count g.hears.sources
+          (λ q on. some_source f.part.plan.parts l.early gap q mine.table on) (ap is_some (mine.own gap)));
+      accumulated = rw (wplan, g.shown.rows) (all_on f.part.plan.log2m f.rows f.accumulated w.accumulated sf.rows sf.accumulated g.hears.rise);
+      early = rw (wplan, wnumber, g.shown.superstep) (early_union f.part.plan f.part.number f.superstep l.superstep (1 + gap) f.early l.early w.early sf.early mine at g.table union);
+    }
 
--- the superstep of the further
-pub further_superstep : (v o : State) → (further v o).superstep ≡ max v.superstep o.superstep
-further_superstep v o = further_at v o (nat_lt v.superstep o.superstep) ∙ sym (further_in v.superstep o.superstep (nat_lt v.superstep o.superstep) refl)
+-- ---- both are at one superstep
 
--- the names held by a replica that has taken over another one
-pub merged_names : (v o w : State) → IsState v → IsState o → v.part.plan ≡ o.part.plan → v.part.number ≡ o.part.number → w.part ≡ v.part → ShowsAs w (further v o) → w.kept ≡ gathered v.part.plan.parts v.superstep o.superstep v.kept o.kept →
-    (s q : ℕ) → (content_of w).holds s q ≡ (joined (content_of v) (content_of o)).holds s q
-merged_names v o w sv so plan number part shown kept s q =
-    let t : w.superstep ≡ max v.superstep o.superstep = shown.superstep ∙ further_superstep v o in
-    let other : length o.kept ≡ 4 * v.part.plan.parts = so.kept ∙ ap (λ (a : PlanValue). 4 * a.parts) (sym plan) in
-    rw (part, t, kept, ← plan, ← number) (holds_gathered v.part.plan v.part.number v.superstep o.superstep s q v.kept o.kept sv.kept other)
+flags_at : (a b : List Bool) (q : ℕ) → length a ≡ length b → get_or (union_of_flags a b) q false ≡ (get_or a q false || get_or b q false)
+flags_at [] [] q e = refl
+flags_at [] (y ∷ b) q e = absurd (omega arith)
+flags_at (x ∷ a) [] q e = absurd (omega arith)
+flags_at (x ∷ a) (y ∷ b) zero e = refl
+flags_at (x ∷ a) (y ∷ b) (suc q) e = flags_at a b q (omega arith)
 
-stands_further : (j : Job) (p t u : ℕ) (v o : State) (b : Bool) → nat_lt v.superstep o.superstep ≡ b → StandsFor j p t v → StandsFor j p u o → StandsFor j p (max t u) (if b then o else v)
-stands_further j p t u v o true e h g =
-    let ht = h.superstep in let gu = g.superstep in
-    let same : u ≡ max t u = grind (arith, nat_tests) in subst (λ n. StandsFor j p n o) same g
-stands_further j p t u v o false e h g =
-    let ht = h.superstep in let gu = g.superstep in
-    let same : t ≡ max t u = grind (arith, nat_tests) in subst (λ n. StandsFor j p n v) same h
+length-flags : (a b : List Bool) → length a ≡ length b → length (union_of_flags a b) ≡ length a
+length-flags [] b e = refl
+length-flags (x ∷ a) [] e = absurd (omega arith)
+length-flags (x ∷ a) (y ∷ b) e = ap suc (length-flags a b (omega arith))
 
--- it stands for the greater superstep
-pub merged_stands : (v o w : State) → IsState v → IsState o → w.part ≡ v.part → ShowsAs w (further v o) → w.kept ≡ gathered v.part.plan.parts v.superstep o.superstep v.kept o.kept →
-    (j : Job) (p t u : ℕ) → StandsFor j p t v → StandsFor j p u o → StandsFor j p (max t u) w
-merged_stands v o w sv so part shown kept j p t u h g =
-    let f : StandsFor j p (max t u) (further v o) = stands_further j p t u v o (nat_lt v.superstep o.superstep) refl h g in
-    let mine : v.part.plan.parts ≡ j.plan.parts = ap (λ (a : PlanValue). a.parts) (plan_is j p t v h) in
-    let theirs : o.part.plan.parts ≡ j.plan.parts = ap (λ (a : PlanValue). a.parts) (plan_is j p u o g) in
+-- row by row the maximum of two
+max_rows : List (List ℕ) → List (List ℕ) → List (List ℕ)
+max_rows a b = map (λ p. max_each p.0 p.1) (zip a b)
+
+rows_at : (a b : List (List ℕ)) (i : ℕ) → i < length a → length a ≡ length b → get_or (map (λ p. max_each p.0 p.1) (zip a b)) i [] ≡ max_each (get_or a i []) (get_or b i [])
+rows_at [] b i lt e = absurd (omega arith)
+rows_at (x ∷ a) [] i lt e = absurd (omega arith)
+rows_at (x ∷ a) (y ∷ b) zero lt e = refl
+rows_at (x ∷ a) (y ∷ b) (suc i) lt e = rows_at a b i (omega arith) (omega arith)
+
+length-rows : (a b : List (List ℕ)) → length a ≡ length b → length (map (λ p. max_each p.0 p.1) (zip a b)) ≡ length a
+length-rows [] b e = refl
+length-rows (x ∷ a) [] e = absurd (omega arith)
+length-rows (x ∷ a) (y ∷ b) e = ap suc (length-rows a b (omega arith))
+
+-- they rise
+pub max_rise : (log2m : ℕ) (a b : List (List ℕ)) → AreCounters log2m a → AreCounters log2m b → length a ≡ length b → AllRise log2m a (map (λ p. max_each p.0 p.1) (zip a b))
+max_rise log2m a b p q e = record {
+  count = length-rows a b e;
+  rises = λ i lt. rw (rows_at a b i lt e) (max_rises log2m (get_or a i []) (get_or b i []) (p.row i lt) (q.row i (omega arith)));
+}
+
+pub record Unites (v o w : State) : Type 0 where
+  pub level : v.superstep ≡ o.superstep
+  pub shown : ShowsAs w v
+  pub heard : w.heard ≡ union_of_flags v.heard o.heard
+  pub change : w.heard_change ≡ (v.heard_change || o.heard_change)
+  pub accumulated : w.accumulated ≡ map (λ p. max_each p.0 p.1) (zip v.accumulated o.accumulated)
+  pub early : (i q : ℕ) → IsEither (early_at v.early i q) (early_at o.early i q) (early_at w.early i q)
+  pub table : IsTable v.part.plan.parts w.early
+
+sources_of : (v o w : State) → IsState v → IsState o → Unites v o w → (q : ℕ) → get_or w.heard q false ≡ (get_or v.heard q false || get_or o.heard q false)
+sources_of v o w sv so u q = ap (λ (l : List Bool). get_or l q false) u.heard ∙ flags_at v.heard o.heard q (sv.heard.count ∙ sym so.heard.count)
+
+pub unites_names : (v o w : State) → IsState v → IsState o → Unites v o w → (s q : ℕ) → (content_of w).holds s q ≡ (nat_le v.superstep s && ((content_of v).holds s q || (content_of o).holds s q))
+unites_names v o w sv so u s q =
+    let m = v.superstep in
+    let theirs : holds_in m o.heard o.early s q ≡ (content_of o).holds s q = ap (λ k. holds_in k o.heard o.early s q) u.level in
+    ap (λ k. holds_in k w.heard w.early s q) u.shown.superstep
+    ∙ elim (cases_lt s m) [
+      | inl before ↦ holds_before m w.heard w.early s q before ∙ sym (ap (λ b. b && (holds_in m v.heard v.early s q || holds_in m o.heard o.early s q)) (le_no m s before))
+      | inr from ↦
+          elim (cases_eq s m) [
+            | inl here ↦
+                ap (λ k. holds_in m w.heard w.early k q) here ∙ holds_now m w.heard w.early q ∙ sources_of v o w sv so u q
+                ∙ ap (λ b. b || get_or o.heard q false) (sym (ap (λ k. holds_in m v.heard v.early k q) here ∙ holds_now m v.heard v.early q))
+                ∙ ap (λ b. holds_in m v.heard v.early s q || b) (sym (ap (λ k. holds_in m o.heard o.early k q) here ∙ holds_now m o.heard o.early q))
+            | inr other ↦
+                let more : m < s = omega arith in
+                holds_later m w.heard w.early s q more
+                ∙ some_of _ _ _ (u.early (s - (m + 1)) q)
+                ∙ ap (λ b. b || is_some (early_at o.early (s - (m + 1)) q)) (sym (holds_later m v.heard v.early s q more))
+                ∙ ap (λ b. holds_in m v.heard v.early s q || b) (sym (holds_later m o.heard o.early s q more))
+          ]
+          ∙ sym (ap (λ b. b && (holds_in m v.heard v.early s q || holds_in m o.heard o.early s q)) (le_yes m s from))
+    ]
+    ∙ ap (λ b. nat_le m s && (holds_in m v.heard v.early s q || b)) theirs
+
+and_or : (a b c : Bool) → ((a || b) && c) ≡ ((a && c) || (b && c))
+and_or true true true = refl
+and_or true true false = refl
+and_or true false true = refl
+and_or true false false = refl
+and_or false b c = refl
+
+changes_or : (j : Job) (t : ℕ) (a b c : List Bool) → ((q : ℕ) → get_or c q false ≡ (get_or a q false || get_or b q false)) → heard_changes j t c ≡ (heard_changes j t a || heard_changes j t b)
+unfolding heard_changes
+changes_or j t a b c is =
+    let d : ℕ → Bool = λ q. not (changed_count j t q == 0) in
+    any_same (λ q. get_or c q false && d q) (λ q. (get_or a q false && d q) || (get_or b q false && d q)) 0 j.plan.parts j.plan.parts (omega arith) (λ q _. ap (λ e. e && d q) (is q) ∙ and_or (get_or a q false) (get_or b q false) (d q))
+    ∙ any_or (λ q. get_or a q false && d q) (λ q. get_or b q false && d q) 0 j.plan.parts
+
+pub unites_stands : (v o w : State) → IsState v → IsState o → Unites v o w → w.part ≡ v.part → (j : Job) (p t u : ℕ) → StandsFor j p t v → StandsFor j p u o → StandsFor j p t w
+unites_stands v o w sv so un part j p t u h k =
+    let same : u ≡ t = omega (arith, un.level, h.superstep, k.superstep) in
+    let g : StandsFor j p t o = subst (λ n. StandsFor j p n o) same k in
+    let flags = sources_of v o w sv so un in
     record {
       job = h.job;
       partition = h.partition;
       part = part ∙ h.part;
-      superstep = shown.superstep ∙ f.superstep;
-      in_time = f.in_time;
-      rows = shown.rows ∙ f.rows;
-      marks = shown.marks ∙ f.marks;
-      tallies = shown.tallies ∙ f.tallies;
-      sums = shown.sums ∙ f.sums;
-      kept = rw (kept, mine, h.superstep, g.superstep) (keeps_gathered j p t u v.kept o.kept (sv.kept ∙ ap (λ n. 4 * n) mine) (so.kept ∙ ap (λ n. 4 * n) theirs) h.kept g.kept);
+      superstep = un.shown.superstep ∙ h.superstep;
+      in_time = h.in_time;
+      rows = un.shown.rows ∙ h.rows;
+      marks = un.shown.marks ∙ h.marks;
+      tallies = un.shown.tallies ∙ h.tallies;
+      sums = un.shown.sums ∙ h.sums;
+      heard_change = un.change ∙ rw (h.heard_change, g.heard_change) (sym (changes_or j t v.heard o.heard w.heard flags));
+      accumulated =
+          un.accumulated
+          ∙ ap (λ l. map (λ p. max_each p.0 p.1) (zip l o.accumulated)) h.accumulated
+          ∙ ap (λ l. map (λ p. max_each p.0 p.1) (zip (accumulated_of j p t (λ z. is_heard j.plan.parts v.heard z)) l)) g.accumulated
+          ∙ accumulated_of-or j p t (λ z. is_heard j.plan.parts v.heard z) (λ z. is_heard j.plan.parts o.heard z)
+          ∙ accumulated_of-alike j p t (λ z. is_heard j.plan.parts v.heard z || is_heard j.plan.parts o.heard z) (λ z. is_heard j.plan.parts w.heard z) h.job.graph (λ z _. sym (flags (z % j.plan.parts)));
+      early = record {
+        true_of = λ i q. if_of (λ b. b ≡ true_batch j (record { superstep = t + 1 + i; source = q; target = p })) _ _ _ (un.early i q) (h.early.true_of i q) (g.early.true_of i q);
+      };
     }
 
--- ---- plans
+-- two of one plan and one partition are of one size
+pub as_large : (v o : State) → IsState v → IsState o → v.part.plan ≡ o.part.plan → v.part.number ≡ o.part.number → length v.part.preds ≡ length o.part.preds
+as_large v o sv so plan number = sv.part.preds ∙ rw (plan, number) refl ∙ sym so.part.preds
 
-bytes_same : (xs ys : List ℕ) → bytes_eq xs ys ≡ true → xs ≡ ys
-bytes_same xs ys e = (bytes_eq-Decides xs ys).0 e
+pub as_long : (v o : State) → IsState v → IsState o → v.part.plan ≡ o.part.plan → v.part.number ≡ o.part.number → length v.accumulated ≡ length o.accumulated
+as_long v o sv so plan number = sv.accumulated.count ∙ sv.count ∙ as_large v o sv so plan number ∙ sym so.count ∙ sym so.accumulated.count
 
-eq_from : (a b : ℕ) → (a == b) ≡ true → a ≡ b
-eq_from a b e = grind (arith, nat_tests)
+pub unites_rise : (v o : State) → IsState v → IsState o → v.part.plan ≡ o.part.plan → v.part.number ≡ o.part.number → AllRise v.part.plan.log2m v.accumulated (map (λ p. max_each p.0 p.1) (zip v.accumulated o.accumulated))
+unites_rise v o sv so plan number =
+    let width : o.part.plan.log2m ≡ v.part.plan.log2m = ap (λ (a : PlanValue). a.log2m) (sym plan) in
+    let counters : AreCounters v.part.plan.log2m o.accumulated = subst (λ n. AreCounters n o.accumulated) width (rise_counters o.part.plan.log2m o.rows o.accumulated so.accumulated) in
+    max_rise v.part.plan.log2m v.accumulated o.accumulated (rise_counters v.part.plan.log2m v.rows v.accumulated sv.accumulated) counters (as_long v o sv so plan number)
 
-plan_of_fields : (a b : PlanValue) → a.log2m ≡ b.log2m → a.seed ≡ b.seed → a.parts ≡ b.parts → a.limit ≡ b.limit → a.vertices ≡ b.vertices → a.job ≡ b.job → a ≡ b
-plan_of_fields a b e f g h i k =
-    let same : record { log2m = a.log2m; seed = a.seed; parts = a.parts; limit = a.limit; vertices = a.vertices; job = a.job } ≡ record { log2m = b.log2m; seed = b.seed; parts = b.parts; limit = b.limit; vertices = b.vertices; job = b.job } = rw (e, f, g, h, i, k) refl in
-    same
+pub unites_state : (v o w : State) → IsState v → IsState o → Unites v o w → v.part.plan ≡ o.part.plan → v.part.number ≡ o.part.number → w.part ≡ v.part → IsState w
+unites_state v o w sv so u plan number part =
+    let log2m = v.part.plan.log2m in
+    let mine : AreEarly v.part.plan v.part.number o.superstep o.early = subst (λ n. AreEarly v.part.plan n o.superstep o.early) (sym number) (subst (λ (a : PlanValue). AreEarly a o.part.number o.superstep o.early) (sym plan) so.early) in
+    let theirs : AreSources v.part.plan.parts v.part.number o.heard = subst (λ n. AreSources v.part.plan.parts n o.heard) (sym number) (subst (λ (a : PlanValue). AreSources a.parts o.part.number o.heard) (sym plan) so.heard) in
+    let rise : AllRise log2m v.accumulated w.accumulated = subst (λ (l : List (List ℕ)). AllRise log2m v.accumulated l) (sym u.accumulated) (unites_rise v o sv so plan number) in
+    let zero_on : o.superstep + 0 ≡ v.superstep = omega (arith, u.level) in
+    let union : (i q : ℕ) → IsEither (early_at v.early i q) (early_at o.early (i + 0) q) (early_at w.early i q) =
+    λ i q. let e : i ≡ i + 0 = omega arith in subst (λ k. IsEither (early_at v.early i q) (early_at o.early k q) (early_at w.early i q)) e (u.early i q) in
+    record {
+      part = subst (λ (a : PartValue). IsPart a) (sym part) sv.part;
+      superstep = rw part (omega (arith, u.shown.superstep, sv.superstep));
+      count = ap length u.shown.rows ∙ sv.count ∙ ap (λ (a : PartValue). length a.preds) (sym part);
+      rows = rw (part, u.shown.rows) sv.rows;
+      marks = ap length u.shown.marks ∙ sv.marks ∙ ap (λ (a : PartValue). length a.preds) (sym part);
+      lasts = rw (part, u.shown.tallies, u.shown.rows) sv.lasts;
+      sums = rw (u.shown.superstep, u.shown.tallies, u.shown.sums) sv.sums;
+      heard = rw part (sources_more v.part.plan.parts v.part.number v.heard w.heard (λ q. get_or o.heard q false) sv.heard (ap length u.heard ∙ length-flags v.heard o.heard (sv.heard.count ∙ sym so.heard.count)) (sources_of v o w sv so u) theirs.below theirs.other);
+      accumulated = rw (part, u.shown.rows) (all_on log2m v.rows v.accumulated w.accumulated sv.rows sv.accumulated rise);
+      early = rw (part, u.shown.superstep) (early_union v.part.plan v.part.number v.superstep o.superstep 0 v.early o.early w.early sv.early mine zero_on u.table union);
+    }
 
--- plans that are the same in every field are one
-pub same_plan_one : (a b : PlanValue) → same_plan a b ≡ true → a ≡ b
-same_plan_one a b e =
-    let e5 = and_left _ _ e in
-    let e4 = and_left _ _ e5 in
-    let e3 = and_left _ _ e4 in
-    let e2 = and_left _ _ e3 in
-    plan_of_fields a b (eq_from _ _ (and_left _ _ e2)) (eq_from _ _ (and_right _ _ e2)) (eq_from _ _ (and_right _ _ e3)) (eq_from _ _ (and_right _ _ e4)) (eq_from _ _ (and_right _ _ e5)) (bytes_same a.job b.job (and_right _ _ e))
+-- ---- either way
+
+lt_yes : (a b : ℕ) → a < b → nat_lt a b ≡ true
+lt_yes a b lt = grind (arith, nat_tests)
+
+lt_no : (a b : ℕ) → b ≤ a → nat_lt a b ≡ false
+lt_no a b le = grind (arith, nat_tests)
+
+-- the other one is further
+pub absorbs_further : (log2m : ℕ) (v o w : State) → Gathers log2m o v w → w.part ≡ v.part → Absorbs v o w
+absorbs_further log2m v o w g part =
+    let lt = g.lt in
+    let top : o.superstep ≡ max v.superstep o.superstep = omega arith in
+    record {
+      part = part;
+      shown = rw (lt_yes v.superstep o.superstep lt) g.shown;
+      names = λ s q.
+          gathers_names log2m o v w g s q
+          ∙ ap (λ b. nat_le o.superstep s && b) (or_turn ((content_of o).holds s q) ((content_of v).holds s q))
+          ∙ ap (λ n. nat_le n s && ((content_of v).holds s q || (content_of o).holds s q)) top;
+      stands = λ j p t u h k.
+          let at : u ≡ max t u = omega (arith, h.superstep, k.superstep) in
+          subst (λ n. StandsFor j p n w) at (gathers_stands log2m o v w g (inl part) j p u t k h);
+    }
+
+-- the first one is further
+pub absorbs_lesser : (log2m : ℕ) (v o w : State) → Gathers log2m v o w → w.part ≡ v.part → Absorbs v o w
+absorbs_lesser log2m v o w g part =
+    let lt = g.lt in
+    let top : v.superstep ≡ max v.superstep o.superstep = omega arith in
+    record {
+      part = part;
+      shown = rw (lt_no v.superstep o.superstep (omega arith)) g.shown;
+      names = λ s q.
+          gathers_names log2m v o w g s q
+          ∙ ap (λ n. nat_le n s && ((content_of v).holds s q || (content_of o).holds s q)) top;
+      stands = λ j p t u h k.
+          let at : t ≡ max t u = omega (arith, h.superstep, k.superstep) in
+          subst (λ n. StandsFor j p n w) at (gathers_stands log2m v o w g (inr part) j p t u h k);
+    }
+
+-- neither is
+pub absorbs_level : (v o w : State) → IsState v → IsState o → Unites v o w → w.part ≡ v.part → Absorbs v o w
+absorbs_level v o w sv so u part =
+    let level = u.level in
+    let top : v.superstep ≡ max v.superstep o.superstep = omega arith in
+    record {
+      part = part;
+      shown = rw (lt_no v.superstep o.superstep (omega arith)) u.shown;
+      names = λ s q.
+          unites_names v o w sv so u s q
+          ∙ ap (λ n. nat_le n s && ((content_of v).holds s q || (content_of o).holds s q)) top;
+      stands = λ j p t r h k.
+          let at : t ≡ max t r = omega (arith, h.superstep, k.superstep) in
+          subst (λ n. StandsFor j p n w) at (unites_stands v o w sv so u part j p t r h k);
+    }
+
+-- ---- marks
+
+above_from : (xs ys : List ℕ) → length xs ≡ length ys → ((k : ℕ) → k < length xs → get_or xs k 0 ≤ get_or ys k 0) → max_each xs ys ≡ ys
+above_from [] [] e h = refl
+above_from [] (y ∷ ys) e h = absurd (omega arith)
+above_from (x ∷ xs) [] e h = absurd (omega arith)
+above_from (x ∷ xs) (y ∷ ys) e h =
+    let first : x ≤ y = h 0 (omega arith) in
+    let here : max x y ≡ y = omega arith in
+    rw (here, above_from xs ys (omega arith) (λ k lt. h (suc k) (omega arith))) refl
+
+-- rows that rose, and the marks of those that differ
+pub touched_from : (log2m n : ℕ) (rows accumulated : List (List ℕ)) (marks : List Bool) → AreCounters log2m rows → AllRise log2m rows accumulated → n ≡ length rows → marks ≡ differing rows accumulated n → AreTouched rows accumulated marks
+unfolding differing
+touched_from log2m n rows accumulated marks are rise size is =
+    let F : ℕ → Bool = λ i. not (bytes_eq (get_or accumulated i []) (get_or rows i [])) in
+    record {
+      count = rise.count;
+      marks = ap length is ∙ length-map-range_with_len F 0 n ∙ size;
+      above = λ i lt. let r = rise.rises i lt in above_from (get_or rows i []) (get_or accumulated i []) ((are.row i lt).width ∙ sym r.row.width) r.grew;
+      differ = λ i lt. ap (λ (l : List Bool). get_or l i false) is ∙ get_or-map-range_with_len F 0 n i i false (omega arith) (omega arith);
+    }
+
+-- the superstep of the further
+pub further_superstep : (v o : State) → (further v o).superstep ≡ max v.superstep o.superstep
+further_superstep v o =
+    elim (cases_lt v.superstep o.superstep) [
+      | inl less ↦ let top : o.superstep ≡ max v.superstep o.superstep = omega arith in ap (λ b. (if b then o else v).superstep) (lt_yes v.superstep o.superstep less) ∙ top
+      | inr more ↦ let top : v.superstep ≡ max v.superstep o.superstep = omega arith in ap (λ b. (if b then o else v).superstep) (lt_no v.superstep o.superstep more) ∙ top
+    ]

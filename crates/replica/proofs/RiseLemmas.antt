@@ -1,24 +1,17 @@
 -- Whatever the batches say, rows keep their shape, and no register falls.
-use Rattle.std.proofs.Common.{◌≡◌, ℕ, zero, suc, ◌/◌, ◌%◌, ◌<◌, ◌≤◌, Bool, true, false, ◌==◌, if◌then◌else◌, List, [], ◌∷◌, length, get_or, refl, ap, arith, sym, ◌∙◌, subst, IfSome}
-use Rattle.std.specs.Prelude.{Option, Some, None}
-use Rattle.std.specs.List.{All}
+use Rattle.std.proofs.Common.{◌≡◌, ℕ, zero, suc, ◌/◌, ◌%◌, ◌<◌, ◌≤◌, Bool, true, false, ◌==◌, if◌then◌else◌, List, [], ◌∷◌, length, map, ◌+◌, ◌*◌, get_or, refl, ap, arith, sym, ◌∙◌, subst, IfSome}
+use Rattle.std.specs.List.{All, filter, range_with_len}
 use Rattle.std.proofs.lemmas.List.FromFn.{length-map-range_with_len, get_or-map-range_with_len}
 use Rattle.ball_model.specs.Counter.{max_each}
 use Rattle.ball_model.specs.Laws.{IsCounterRow}
 use Rattle.ball_model.specs.Figures.{estimate_of}
-use Rattle.ball_model.specs.Batches.{BatchValue, IsRow, find_row}
+use Rattle.ball_model.specs.Batches.{BatchValue, IsBatch}
 use Rattle.ball_model.specs.PlanValue.{PlanValue, IsPlan, part_size}
 use Rattle.ball_model.specs.Job.{PartValue, IsPart}
 use Rattle.ball_model.proofs.EstimateLemmas.{estimate_of-grows_wide}
-use Rattle.ball_model.proofs.PathLemmas.{eq_true}
-use Rattle.replica.specs.Level.{raised, raised_by_found, found_at, found_in, grown_row, grown}
-use Rattle.replica.specs.Kept.{IsFit, AreFit, AreCounters, IsOwn}
+use Rattle.replica.specs.Spread.{stands_in, spread_to, spread, spread_each, marked_rows}
+use Rattle.replica.specs.Kept.{AreCounters, Rises, AllRise, IsOwn}
 use Rattle.replica.proofs.OwnLemmas.{place_below}
-
--- a row that has become another: still a counter's row, and no register fell
-pub record Rises (log2m : ℕ) (old new : List ℕ) : Type 0 where
-  pub row : IsCounterRow log2m new
-  pub grew : (k : ℕ) → k < length old → get_or old k 0 ≤ get_or new k 0
 
 length-max : (xs ys : List ℕ) → length xs ≡ length ys → length (max_each xs ys) ≡ length xs
 length-max [] ys e = refl
@@ -46,7 +39,7 @@ ranks_to row h k d lt = subst (λ (r : ℕ). r ≤ 33) (same row k d lt) (h k lt
     same (x ∷ xs) (suc k) d lt = same xs k d (omega arith)
 
 -- the maximum of two rows
-max_rises : (b : ℕ) (old other : List ℕ) → IsCounterRow b old → IsCounterRow b other → Rises b old (max_each old other)
+pub max_rises : (b : ℕ) (old other : List ℕ) → IsCounterRow b old → IsCounterRow b other → Rises b old (max_each old other)
 max_rises b old other p q =
     let same : length old ≡ length other = p.width ∙ sym q.width in
     record {
@@ -57,45 +50,12 @@ max_rises b old other p q =
 stays : (b : ℕ) (old : List ℕ) → IsCounterRow b old → Rises b old old
 stays b old p = record { row = p; grew = λ k lt. omega arith }
 
-raised_rises : (b : ℕ) (old : List ℕ) (o : Option (List ℕ)) → IsCounterRow b old → IfSome o (IsCounterRow b) → Rises b old (raised old o)
-raised_rises b old None p q = stays b old p
-raised_rises b old (Some other) p q = max_rises b old other p q
-
 -- one rise after another
 rises_on : (b : ℕ) (x y z : List ℕ) → IsCounterRow b x → Rises b x y → Rises b y z → Rises b x z
 rises_on b x y z p f g = record {
   row = g.row;
   grew = λ k lt. let l : length x ≡ length y = p.width ∙ sym f.row.width in omega (arith, f.grew k lt, g.grew k (omega arith));
 }
-
-found_rises : (b : ℕ) (find : ℕ → Option (List ℕ)) (bound : ℕ) (old : List ℕ) (zs : List ℕ) → IsCounterRow b old → ((z : ℕ) → z < bound → IfSome (find z) (IsCounterRow b)) → ((k : ℕ) → k < length zs → get_or zs k 0 < bound) → Rises b old (raised_by_found find old zs)
-unfolding raised_by_found
-found_rises b find bound old [] p h below = stays b old p
-found_rises b find bound old (z ∷ zs) p h below =
-    let one : Rises b old (raised old (find z)) = raised_rises b old (find z) p (h z (below 0 (omega arith))) in
-    rises_on b old (raised old (find z)) _ p one (found_rises b find bound (raised old (find z)) zs one.row h (λ k lt. below (suc k) (omega arith)))
-
-row_if : (here : Bool) (row : List ℕ) (rest : Option (List ℕ)) (b : ℕ) → IsCounterRow b row → IfSome rest (IsCounterRow b) → IfSome (if here then Some row else rest) (IsCounterRow b)
-row_if true row rest b p q = p
-row_if false row rest b p q = q
-
--- a row of a fit batch
-find_fit : (plan : PlanValue) (source : ℕ) (rows : List (ℕ × List ℕ)) (z : ℕ) → IsPlan plan → All (IsRow plan source) rows → IfSome (find_row rows z) (IsCounterRow plan.log2m)
-unfolding find_row
-find_fit plan source [] z ok h = tt
-find_fit plan source (row ∷ rest) z ok h =
-    let here : IsRow plan source row = h 0 row (omega arith) in
-    row_if (row.0 == z) row.1 (find_row rest z) plan.log2m (record { from = ok.log2m_from; to = ok.log2m_to; width = here.width; ranks = here.ranks }) (find_fit plan source rest z ok (λ k d lt. h (suc k) d (omega arith)))
-
-at_fit : (b : ℕ) (o : Option BatchValue) (z : ℕ) → IfSome o (IsFit b) → IfSome (found_at o z) (IsCounterRow b)
-at_fit b None z h = tt
-at_fit b (Some a) z h = subst (λ (n : ℕ). IfSome (find_row a.rows z) (IsCounterRow n)) h.width (find_fit a.plan a.name.source a.rows z h.batch.plan h.batch.rows)
-
-found_one : (own mark : Bool) (b : ℕ) (row : List ℕ) (o : Option BatchValue) (z : ℕ) → (own ≡ true → IsCounterRow b row) → IfSome o (IsFit b) →
-    IfSome (if own then (if mark then Some row else None) else found_at o z) (IsCounterRow b)
-found_one true true b row o z p h = p refl
-found_one true false b row o z p h = tt
-found_one false mark b row o z p h = at_fit b o z h
 
 -- where z is of the partition, its place is below the number of its vertices
 pub is_own : (v : PartValue) (count z : ℕ) → IsPart v → count ≡ length v.preds → z < v.plan.vertices → IsOwn v.plan.parts v.number count z
@@ -114,40 +74,42 @@ pred_below v i k ok lt in_list = ok.below i [] lt k 0 in_list
 pub is_pred : (bound : ℕ) (zs : List ℕ) (k z : ℕ) → All (λ y. y < bound) zs → k < length zs → z ≡ get_or zs k z → z < bound
 is_pred bound zs k z below in_list at = rw at (below k z in_list)
 
--- row i at the next superstep has risen
-pub grown_rises : (part : PartValue) (rows : List (List ℕ)) (marks : List Bool) (kept : List (Option BatchValue)) (i : ℕ) → IsPart part → length rows ≡ length part.preds → AreCounters part.plan.log2m rows → AreFit part.plan.log2m kept → i < length part.preds →
-    Rises part.plan.log2m (get_or rows i []) (grown_row part rows marks kept i)
-unfolding grown_row found_in
-grown_rises part rows marks kept i ok count are fit lt =
-    let parts = part.plan.parts in
-    found_rises part.plan.log2m (found_in parts part.number rows marks kept) part.plan.vertices (get_or rows i []) (get_or part.preds i []) (are.row i (omega arith))
-    (λ z below. found_one (z % parts == part.number) (get_or marks (z / parts) false) part.plan.log2m (get_or rows (z / parts) []) (get_or kept (z % parts) None) z
-    (λ mine. are.row (z / parts) ((is_own part (length rows) z ok count below).below (eq_true _ _ mine)))
-    (fit.fit (z % parts)))
-    (λ k in_list. pred_below part i k ok lt in_list)
-
-grown_at : (part : PartValue) (rows : List (List ℕ)) (marks : List Bool) (kept : List (Option BatchValue)) (i : ℕ) → i < length part.preds → get_or (grown part rows marks kept) i [] ≡ grown_row part rows marks kept i
-unfolding grown
-grown_at part rows marks kept i lt = get_or-map-range_with_len (λ k. grown_row part rows marks kept k) 0 (length part.preds) i i [] lt (omega arith)
-
-pub length-grown : (part : PartValue) (rows : List (List ℕ)) (marks : List Bool) (kept : List (Option BatchValue)) → length (grown part rows marks kept) ≡ length part.preds
-unfolding grown
-length-grown part rows marks kept = length-map-range_with_len (λ i. grown_row part rows marks kept i) 0 (length part.preds)
-
--- all rows at the next superstep have risen
-pub record AllRise (log2m : ℕ) (old new : List (List ℕ)) : Type 0 where
-  pub count : length new ≡ length old
-  pub rises : (i : ℕ) → i < length old → Rises log2m (get_or old i []) (get_or new i [])
-
-pub grown_all : (part : PartValue) (rows : List (List ℕ)) (marks : List Bool) (kept : List (Option BatchValue)) → IsPart part → length rows ≡ length part.preds → AreCounters part.plan.log2m rows → AreFit part.plan.log2m kept →
-    AllRise part.plan.log2m rows (grown part rows marks kept)
-grown_all part rows marks kept ok count are fit = record {
-  count = length-grown part rows marks kept ∙ sym count;
-  rises = λ i lt. rw (grown_at part rows marks kept i (omega arith)) (grown_rises part rows marks kept i ok count are fit (omega arith));
-}
-
 pub rise_counters : (log2m : ℕ) (old new : List (List ℕ)) → AllRise log2m old new → AreCounters log2m new
 rise_counters log2m old new h = record { row = λ i lt. (h.rises i (omega (arith, h.count))).row }
+
+-- all rows as they are
+pub all_stay : (b : ℕ) (rows : List (List ℕ)) → AreCounters b rows → AllRise b rows rows
+all_stay b rows are = record { count = refl; rises = λ i lt. stays b (get_or rows i []) (are.row i lt) }
+
+-- one rise of all after another
+pub all_on : (b : ℕ) (x y z : List (List ℕ)) → AreCounters b x → AllRise b x y → AllRise b y z → AllRise b x z
+all_on b x y z p f g = record {
+  count = g.count ∙ f.count;
+  rises = λ i lt. rises_on b (get_or x i []) (get_or y i []) (get_or z i []) (p.row i lt) (f.rises i lt) (g.rises i (omega (arith, f.count)));
+}
+
+spread_rise : (here : Bool) (b : ℕ) (row other : List ℕ) → IsCounterRow b row → IsCounterRow b other → Rises b row (if here then max_each row other else row)
+spread_rise true b row other p q = max_rises b row other p q
+spread_rise false b row other p q = stays b row p
+
+-- rows to which another one is spread rise
+one_rises : (b : ℕ) (places other : List ℕ) (rows : List (List ℕ)) → AreCounters b rows → IsCounterRow b other → AllRise b rows (spread places other rows)
+unfolding spread spread_to
+one_rises b places other rows p q = record {
+  count = length-map-range_with_len (spread_to places other rows) 0 (length rows);
+  rises = λ i lt.
+      rw (get_or-map-range_with_len (spread_to places other rows) 0 (length rows) i i [] lt (omega arith))
+      (spread_rise (stands_in places i) b (get_or rows i []) other (p.row i lt) q);
+}
+
+-- and so do rows to which several are
+pub each_rises : (b : ℕ) (targets : List (List ℕ)) (others : List (ℕ × List ℕ)) (rows : List (List ℕ)) → AreCounters b rows → ((k : ℕ) (d : ℕ × List ℕ) → k < length others → IsCounterRow b (get_or others k d).1) → AllRise b rows (spread_each targets others rows)
+unfolding spread_each
+each_rises b targets [] rows p h = all_stay b rows p
+each_rises b targets (other ∷ rest) rows p h =
+    let one = one_rises b (get_or targets other.0 []) other.1 rows p (h 0 other (omega arith)) in
+    all_on b rows (spread (get_or targets other.0 []) other.1 rows) _ p one
+    (each_rises b targets rest (spread (get_or targets other.0 []) other.1 rows) (rise_counters b rows _ one) (λ k d lt. h (suc k) d (omega arith)))
 
 -- no estimate falls
 pub rise_estimate : (log2m : ℕ) (old new : List (List ℕ)) (i : ℕ) → AreCounters log2m old → AllRise log2m old new → i < length old → estimate_of log2m (get_or old i []) ≤ estimate_of log2m (get_or new i [])
@@ -155,3 +117,36 @@ rise_estimate log2m old new i are h lt =
     let p = are.row i lt in
     let r = h.rises i lt in
     estimate_of-grows_wide log2m (get_or old i []) (get_or new i []) p.from p.to p.width r.row.width r.grew
+
+-- the rows of a batch are those of counters
+pub batch_rows : (b : BatchValue) → IsBatch b → (k : ℕ) (d : ℕ × List ℕ) → k < length b.rows → IsCounterRow b.plan.log2m (get_or b.rows k d).1
+batch_rows b ok k d lt = let row = ok.rows k d lt in record { from = ok.plan.log2m_from; to = ok.plan.log2m_to; width = row.width; ranks = row.ranks }
+
+-- a marked row is one of the rows
+marked_one : (b : Bool) (x : ℕ × List ℕ) (rest : List (ℕ × List ℕ)) (log2m : ℕ) → IsCounterRow log2m x.1 → ((k : ℕ) (d : ℕ × List ℕ) → k < length rest → IsCounterRow log2m (get_or rest k d).1) →
+    (k : ℕ) (d : ℕ × List ℕ) → k < length (if b then (x ∷ rest) else rest) → IsCounterRow log2m (get_or (if b then (x ∷ rest) else rest) k d).1
+marked_one true x rest log2m here later zero d lt = here
+marked_one true x rest log2m here later (suc k) d lt = later k d (omega arith)
+marked_one false x rest log2m here later k d lt = later k d lt
+
+if_out : {A B : Type 0} (f : A → B) (b : Bool) (x : A) (rest : List A) → (if b then (f x ∷ map f rest) else map f rest) ≡ map f (if b then (x ∷ rest) else rest)
+if_out f true x rest = refl
+if_out f false x rest = refl
+
+marked_from : (f : ℕ → ℕ × List ℕ) (t : ℕ → Bool) (log2m a n bound : ℕ) → a + n ≤ bound → ((i : ℕ) → i < bound → IsCounterRow log2m (f i).1) →
+    (k : ℕ) (d : ℕ × List ℕ) → k < length (map f (filter t (range_with_len a n))) → IsCounterRow log2m (get_or (map f (filter t (range_with_len a n))) k d).1
+marked_from f t log2m a zero bound le h k d lt = absurd (omega arith)
+marked_from f t log2m a (suc n) bound le h k d lt =
+    let rest = filter t (range_with_len (a + 1) n) in
+    let is : (if t a then (f a ∷ map f rest) else map f rest) ≡ map f (if t a then (a ∷ rest) else rest) = if_out f (t a) a rest in
+    subst (λ (l : List (ℕ × List ℕ)). IsCounterRow log2m (get_or l k d).1) is
+    (marked_one (t a) (f a) (map f rest) log2m (h a (omega arith)) (marked_from f t log2m (a + 1) n bound (omega arith) h) k d (rw is lt))
+
+-- what is accumulated rises as the own marked rows are spread
+pub own_rises : (log2m parts p n : ℕ) (targets rows accumulated own : List (List ℕ)) (marks : List Bool) → AreCounters log2m rows → AllRise log2m rows accumulated → n ≤ length rows →
+    own ≡ spread_each targets (marked_rows parts p rows marks n) accumulated → AllRise log2m accumulated own
+unfolding marked_rows
+own_rises log2m parts p n targets rows accumulated own marks are rise le is =
+    subst (λ (l : List (List ℕ)). AllRise log2m accumulated l) (sym is)
+    (each_rises log2m targets (map (λ i. (i * parts + p, get_or rows i [])) (filter (λ i. get_or marks i false) (range_with_len 0 n))) accumulated (rise_counters log2m rows accumulated rise)
+    (marked_from (λ i. (i * parts + p, get_or rows i [])) (λ i. get_or marks i false) log2m 0 n n (omega arith) (λ i lt. are.row i (omega arith))))

@@ -9,7 +9,7 @@ use Rattle.ball_model.specs.declared.names.TakeError.{TakeError}
 use Rattle.ball_model.specs.declared.names.CloseError.{CloseError}
 use Rattle.ball_model.specs.declared.names.MergeError.{MergeError}
 use Rattle.ball_model.specs.declared.names.Verdict.TheVariants as verdict
-use Rattle.ball_model.specs.Graph.{Graph, IsGraph, is_path, in_ball}
+use Rattle.ball_model.specs.Graph.{Graph, IsGraph, is_path, in_ball, is_counted}
 use Rattle.ball_model.specs.Counter.{Mixing, counter_of, ball_counter}
 use Rattle.ball_model.specs.Change.{changed_at, any_changed}
 use Rattle.ball_model.specs.PlanValue.{PlanValue, mixing_of, part_size}
@@ -21,7 +21,8 @@ use Rattle.ball_model.proofs.CounterLemmas.{counter_of-same}
 use Rattle.ball_model.proofs.ChangeLemmas.{changed_next}
 use Rattle.ball_model.proofs.QuietLemmas.{quiet_stays, none_in}
 use Rattle.ball_model.specs.Join.{joined, merge_of}
-use Rattle.replica.specs.Runs.{Call, Take, Close, Merge, Answer, Took, Closed, Merged, answer_of, answers_of, content_after, content_after_all, content_closed, start_content, HasContent, Takes, Did, Made}
+use Rattle.ball_model.specs.Steps.{Call, Take, Close, Merge, Answer, Took, Closed, Merged, answer_of, answers_of, content_after, content_after_all, content_closed, start_content}
+use Rattle.replica.specs.Runs.{HasContent, Takes, Did, Made}
 use Rattle.std.specs.Str.{bytes_eq}
 use Rattle.std.proofs.lemmas.Slice.Eq.{bytes_eq-Decides}
 use Rattle.replica.proofs.OwnLemmas.{vertex_of, place_below, vertex_at}
@@ -188,24 +189,24 @@ ball_of_all g x (suc m) reaches ok lt le paths = by_bool (reaches m) refl (ball_
         (before.0 + k, more before.0 k before.1 (λ r. inside))
     by_bool false at before = (before.0 + 0, more before.0 0 before.1 (λ r. absurd (let no : true ≡ false = sym r ∙ at in cc)))
 
--- where no vertex is changed, a counter is that of all vertices that can reach its vertex
+-- where no vertex is changed, a counter is that of all counted vertices that can reach its vertex
 counter_reaches : (m : Mixing) (g : Graph) (x t : ℕ) (reaches : ℕ → Bool) → IsGraph g → x < g.vertices → any_changed m g t ≡ false →
     ((y : ℕ) → y < g.vertices → (IsTrue (reaches y) → (path : List ℕ) × IsTrue (is_path g y x path)) × (((path : List ℕ) × IsTrue (is_path g y x path)) → IsTrue (reaches y))) →
-    ball_counter m g x t ≡ counter_of m g.vertices reaches
+    ball_counter m g x t ≡ counter_of m g.vertices (λ y. reaches y && is_counted g y)
 unfolding ball_counter
 counter_reaches m g x t reaches ok lt quiet paths =
     let all = ball_of_all g x g.vertices reaches ok lt (omega arith) (λ y below. (paths y below).0) in
     let swap : t + all.0 ≡ all.0 + t = omega arith in
     sym (counter_stays m g x t all.0 ok lt quiet)
-    ∙ (counter_of-same m g.vertices (λ y. in_ball g x (t + all.0) y) reaches
-    (λ y below. same_bool (in_ball g x (t + all.0) y) (reaches y)
+    ∙ (counter_of-same m g.vertices (λ y. in_ball g x (t + all.0) y && is_counted g y) (λ y. reaches y && is_counted g y)
+    (λ y below. ap (λ b. b && is_counted g y) (same_bool (in_ball g x (t + all.0) y) (reaches y)
     (λ inside. let found = in_ball-finds g x (t + all.0) y inside in (paths y below).1 (found.0, found.2))
-    (λ r. rw swap (ball_keeps g x all.0 t y ok lt (all.1 y below r)))))
+    (λ r. rw swap (ball_keeps g x all.0 t y ok lt (all.1 y below r))))))
 
 -- a stable replica's rows are those counters
 pub stable_reaches : (j : Job) (p t x : ℕ) (v : State) (reaches : ℕ → Bool) → StandsFor j p t v → verdict_of j p (content_of v) ≡ Some verdict.Stable → x < j.graph.vertices → x % j.plan.parts ≡ p →
     ((y : ℕ) → y < j.graph.vertices → (IsTrue (reaches y) → (path : List ℕ) × IsTrue (is_path j.graph y x path)) × (((path : List ℕ) × IsTrue (is_path j.graph y x path)) → IsTrue (reaches y))) →
-    get_or v.rows (x / j.plan.parts) [] ≡ counter_of (mixing_of j.plan) j.graph.vertices reaches
+    get_or v.rows (x / j.plan.parts) [] ≡ counter_of (mixing_of j.plan) j.graph.vertices (λ y. reaches y && is_counted j.graph y)
 stable_reaches j p t x v reaches h stable lt own paths =
     let some : 1 ≤ j.plan.parts = h.job.plan.parts_from in
     let place : x / j.plan.parts < part_size j.graph.vertices j.plan.parts p = rw (← own) (place_below j.graph.vertices j.plan.parts x some lt) in

@@ -1,70 +1,91 @@
 -- Replicas with one content are equal.
-use Rattle.std.proofs.Common.{◌≡◌, ℕ, ◌+◌, ◌-◌, ◌*◌, ◌/◌, ◌%◌, ◌<◌, ◌≤◌, Bool, true, false, ◌&&◌, ◌==◌, List, length, get_or, refl, ap, arith, sym, ◌∙◌, subst, is_some, IfSome}
+use Rattle.std.proofs.Common.{◌≡◌, ℕ, ◌+◌, ◌-◌, ◌<◌, ◌≤◌, nat_le, nat_lt, not, Bool, true, false, ◌&&◌, ◌==◌, List, [], length, get_or, refl, ap, arith, sym, ◌∙◌, inl, inr, is_some, IfSome}
 use Rattle.std.specs.Prelude.{Option, None, Some}
-use Rattle.std.proofs.lemmas.Nat.{div-add-mod'}
-use Rattle.std.proofs.Math.Nat.{mod-lt, div-lt_iff_lt-mul}
+use Rattle.std.proofs.lemmas.Bool.{cases_eq, cases_lt}
+use Rattle.std.proofs.lemmas.Bool.Decides.{nat_tests}
 use Rattle.std.proofs.lemmas.List.{same_lists, get_or_default}
+use Rattle.ball_model.specs.declared.names.BatchName.{BatchName}
+use Rattle.ball_model.specs.Accumulated.{accumulated_of}
 use Rattle.ball_model.specs.PlanValue.{PlanValue}
 use Rattle.ball_model.specs.Job.{Job}
 use Rattle.ball_model.specs.Batches.{BatchValue, true_batch}
 use Rattle.ball_model.specs.Content.{Content, IsContent, in_window}
-use Rattle.ball_model.specs.State.{State, StandsFor, content_of, place_of, holds_in}
-use Rattle.ball_model.proofs.PathLemmas.{and_left, eq_true}
-use Rattle.replica.specs.Kept.{IsFit}
+use Rattle.ball_model.specs.State.{State, StandsFor, content_of, early_at, holds_in, heard_changes, is_heard}
+use Rattle.ball_model.specs.Steps.{Call, Answer, content_after_all}
+use Rattle.ball_model.proofs.PathLemmas.{and_both, eq_true}
+use Rattle.replica.specs.Kept.{IsOfName}
 use Rattle.replica.specs.Seen.{IsState}
-use Rattle.replica.specs.Runs.{Call, Answer, content_after_all, HasContent, Made}
-use Rattle.replica.proofs.PlaceLemmas.{window_to}
-use Rattle.replica.proofs.LevelLemmas.{plan_is, number_is}
+use Rattle.replica.specs.Runs.{HasContent, Made}
+use Rattle.replica.proofs.AdvanceLemmas.{holds_now, holds_before, holds_later}
+use Rattle.replica.proofs.EarlyLemmas.{no_level}
+use Rattle.replica.proofs.LevelLemmas.{plan_is}
 use Rattle.replica.proofs.RunLemmas.{made}
+
+-- what is kept is of one of the three supersteps that follow, and of another partition
+record IsKeptAt (v : State) (i q : ℕ) : Type 0 where
+  level : i < 3
+  within : v.superstep + 1 + i ≤ v.part.plan.limit
+  source : q < v.part.plan.parts
+  other : q ≡ v.part.number → ⊥
+
+no_none : (o : Option BatchValue) → is_some o ≡ true → o ≡ None → ⊥
+no_none o e f = let g : is_some o ≡ false = ap is_some f in absurd (cc)
+
+kept_is : (v : State) (i q : ℕ) → IsState v → is_some (early_at v.early i q) ≡ true → IsKeptAt v i q
+kept_is v i q s there = record {
+  level = elim (cases_lt i 3) [
+    | inl lt ↦ lt
+    | inr out ↦ absurd (no_none (early_at v.early i q) there (no_level v.early i q (omega (arith, s.early.table.levels))))
+  ];
+  within = (named (early_at v.early i q) there (s.early.kept i q)).0;
+  source = (named (early_at v.early i q) there (s.early.kept i q)).1;
+  other = λ same. no_none (early_at v.early i q) there (ap (λ n. early_at v.early i n) same ∙ s.early.own i);
+}
+  where
+    named : (o : Option BatchValue) → is_some o ≡ true → IfSome o (IsOfName v.part.plan (record { superstep = v.superstep + 1 + i; source = q; target = v.part.number })) → (v.superstep + 1 + i ≤ v.part.plan.limit) × (q < v.part.plan.parts)
+    named None e h = absurd (cc)
+    named (Some b) e h = (
+      omega (arith, h.batch.superstep, ap (λ (n : BatchName). n.superstep) h.name_is, ap (λ (a : PlanValue). a.limit) h.plan_is),
+      omega (arith, h.batch.source, ap (λ (n : BatchName). n.source) h.name_is, ap (λ (a : PlanValue). a.parts) h.plan_is),
+    )
+
+-- what may be held: heard of another partition, or kept of a superstep that follows
+content_in_window : (v : State) → IsState v → (s q : ℕ) → (content_of v).holds s q ≡ true → in_window v.part.plan v.part.number v.superstep s q ≡ true
+content_in_window v st s q held =
+    elim (cases_eq s v.superstep) [
+      | inl here ↦
+          let on : get_or v.heard q false ≡ true = sym (ap (λ n. holds_in v.superstep v.heard v.early n q) here ∙ holds_now v.superstep v.heard v.early q) ∙ held in
+          window_to v.part.plan v.part.number v.superstep s q (omega arith) (omega arith) (omega (arith, st.superstep)) (st.heard.below q on)
+          (λ same. let off = st.heard.other in let bad : true ≡ false = sym on ∙ ap (λ n. get_or v.heard n false) same ∙ off in cc)
+      | inr other ↦ elim (cases_lt s v.superstep) [
+        | inl before ↦ absurd (let bad : true ≡ false = sym held ∙ holds_before v.superstep v.heard v.early s q before in cc)
+        | inr after ↦
+            let later : v.superstep < s = omega arith in
+            let there : is_some (early_at v.early (s - (v.superstep + 1)) q) ≡ true = sym (holds_later v.superstep v.heard v.early s q later) ∙ held in
+            let k = kept_is v (s - (v.superstep + 1)) q st there in
+            window_to v.part.plan v.part.number v.superstep s q (omega arith) (omega (arith, k.level)) (omega (arith, k.within)) k.source k.other
+      ]
+    ]
+  where
+    lt_to : (a b : ℕ) → a < b → nat_lt a b ≡ true
+    lt_to a b e = grind (arith, nat_tests)
+
+    leq_to : (a b : ℕ) → a ≤ b → nat_le a b ≡ true
+    leq_to a b e = grind (arith, nat_tests)
+
+    not_eq : (a b : ℕ) → (a ≡ b → ⊥) → not (a == b) ≡ true
+    not_eq a b ne = by_test (a == b) refl
+      where
+        by_test : (c : Bool) → (a == b) ≡ c → not c ≡ true
+        by_test true e = absurd (ne (eq_true a b e))
+        by_test false e = refl
+
+    window_to : (plan : PlanValue) (p t s q : ℕ) → t ≤ s → s ≤ t + 3 → s ≤ plan.limit → q < plan.parts → (q ≡ p → ⊥) → in_window plan p t s q ≡ true
+    window_to plan p t s q low high within source other = and_both _ _ (and_both _ _ (and_both _ _ (and_both _ _ (leq_to t s low) (leq_to s (t + 3) high)) (leq_to s plan.limit within)) (lt_to q plan.parts source)) (not_eq q p other)
 
 -- THE CONTENT: a replica holds only what it may hold
 pub content_is_one : (v : State) → IsState v → IsContent v.part.plan v.part.number (content_of v)
-content_is_one v s = record { superstep = s.superstep; names = λ r q. and_left (in_window v.part.plan v.part.number v.superstep r q) _ }
-
-true_name : (j : Job) (p s q : ℕ) → (true_batch j (record { superstep = s; source = q; target = p })).name.superstep ≡ s
-unfolding true_batch
-true_name j p s q = refl
-
-true_job : (j : Job) (p s q : ℕ) → (true_batch j (record { superstep = s; source = q; target = p })).plan ≡ j.plan
-unfolding true_batch
-true_job j p s q = refl
-
--- a true batch that is fit is of a superstep of at most the limit
-true_within : (j : Job) (p s q log2m : ℕ) (o : Option BatchValue) → IfSome o (IsFit log2m) → IfSome o (λ b. b ≡ true_batch j (record { superstep = s; source = q; target = p })) → is_some o ≡ true → s ≤ j.plan.limit
-true_within j p s q log2m None fit is some = absurd (cc)
-true_within j p s q log2m (Some b) fit is some =
-    let at : b.name.superstep ≡ s = ap (λ (a : BatchValue). a.name.superstep) is ∙ true_name j p s q in
-    let limit : b.plan.limit ≡ j.plan.limit = ap (λ (a : BatchValue). a.plan.limit) is ∙ ap (λ (a : PlanValue). a.limit) (true_job j p s q) in
-    omega (arith, fit.batch.superstep, at, limit)
-
-and_true : (a b : Bool) → (b ≡ true → a ≡ true) → (a && b) ≡ b
-and_true true b f = refl
-and_true false true f = f refl
-and_true false false f = refl
-
--- the place of superstep t + i
-at_level : (parts t i q : ℕ) → place_of parts t (t + i) q ≡ i * parts + q
-at_level parts t i q = let e : t + i - t ≡ i = omega arith in ap (λ k. k * parts + q) e
-
--- what is kept at a place is true of its superstep and its source
-true_at : (j : Job) (p t i q : ℕ) (v : State) → StandsFor j p t v → i < 4 → q < j.plan.parts →
-    IfSome (get_or v.kept (i * j.plan.parts + q) None) (λ b. b ≡ true_batch j (record { superstep = t + i; source = q; target = p }))
-true_at j p t i q v h low lt = rw (at_level j.plan.parts t i q) at (h.kept.true_of (t + i) q (omega arith) (omega arith) lt)
-
--- a place of another source has something exactly where its name is held
-held_is : (j : Job) (p t i q : ℕ) (v : State) → StandsFor j p t v → IsState v → i < 4 → q < j.plan.parts → (q == p) ≡ false →
-    holds_in j.plan p t v.kept (t + i) q ≡ is_some (get_or v.kept (i * j.plan.parts + q) None)
-held_is j p t i q v h s low lt other =
-    let here : Option BatchValue = get_or v.kept (i * j.plan.parts + q) None in
-    ap (λ k. in_window j.plan p t (t + i) q && is_some (get_or v.kept k None)) (at_level j.plan.parts t i q)
-    ∙ and_true (in_window j.plan p t (t + i) q) (is_some here)
-    (λ some. window_to j.plan p t (t + i) q (record {
-      low = omega arith;
-      high = omega arith;
-      within = true_within j p (t + i) q v.part.plan.log2m here (s.fit.fit (i * j.plan.parts + q)) (true_at j p t i q v h low lt) some;
-      source = lt;
-      other = other;
-    }))
+content_is_one v s = record { superstep = s.superstep; names = λ r q. content_in_window v s r q }
 
 -- two places with the same true batch, or nothing
 same_kept : (b : BatchValue) (o k : Option BatchValue) → IfSome o (λ a. a ≡ b) → IfSome k (λ a. a ≡ b) → is_some o ≡ is_some k → o ≡ k
@@ -73,69 +94,68 @@ same_kept b None (Some a) f g e = absurd (cc)
 same_kept b (Some a) None f g e = absurd (cc)
 same_kept b (Some a) (Some c) f g e = ap Some (f ∙ sym g)
 
--- names held, as the place says
-names_at : (j : Job) (p : ℕ) (c : Content) (v : State) → HasContent j p c v → (s q : ℕ) → holds_in j.plan p c.superstep v.kept s q ≡ c.holds s q
-names_at j p c v h s q =
-    let F : PlanValue → ℕ → ℕ → Bool = λ plan n t. holds_in plan n t v.kept s q in
-    sym (ap (λ plan. F plan v.part.number v.superstep) (plan_is j p c.superstep v h.stands) ∙ ap (λ n. F j.plan n v.superstep) (number_is j p c.superstep v h.stands) ∙ ap (F j.plan p) h.stands.superstep)
-    ∙ h.names s q
+-- names held, as the superstep says
+names_at : (j : Job) (p : ℕ) (c : Content) (v : State) → HasContent j p c v → (s q : ℕ) → holds_in c.superstep v.heard v.early s q ≡ c.holds s q
+names_at j p c v h s q = ap (λ t. holds_in t v.heard v.early s q) (sym h.stands.superstep) ∙ h.names s q
 
--- nothing is kept at a place of the own partition
-none_of_own : (j : Job) (p t i q : ℕ) (v : State) → StandsFor j p t v → IsState v → i < 4 → q ≡ p → get_or v.kept (i * j.plan.parts + q) None ≡ None
-none_of_own j p t i q v h s low mine =
-    ap (λ (n : ℕ). get_or v.kept (i * j.plan.parts + n) None) (mine ∙ sym (number_is j p t v h))
-    ∙ ap (λ (plan : PlanValue). get_or v.kept (i * plan.parts + v.part.number) None) (sym (plan_is j p t v h))
-    ∙ s.own i low
+-- the sources that are heard
+heard_same : (j : Job) (p : ℕ) (c : Content) (v w : State) → HasContent j p c v → HasContent j p c w → IsState v → IsState w → v.heard ≡ w.heard
+heard_same j p c v w h k s r =
+    let t = c.superstep in
+    same_lists v.heard w.heard (s.heard.count ∙ sym r.heard.count)
+    (λ q d lt. get_or_default v.heard q d false lt
+    ∙ sym (holds_now t v.heard v.early q) ∙ names_at j p c v h t q ∙ sym (names_at j p c w k t q) ∙ holds_now t w.heard w.early q
+    ∙ sym (get_or_default w.heard q d false (omega (arith, s.heard.count, r.heard.count))))
 
 -- one place of both
-place_same : (own : Bool) (j : Job) (p : ℕ) (c : Content) (i q : ℕ) (v w : State) → HasContent j p c v → HasContent j p c w → IsState v → IsState w → i < 4 → q < j.plan.parts → (q == p) ≡ own →
-    get_or v.kept (i * j.plan.parts + q) None ≡ get_or w.kept (i * j.plan.parts + q) None
-place_same true j p c i q v w h k s r low lt own =
-    let mine : q ≡ p = eq_true q p own in
-    none_of_own j p c.superstep i q v h.stands s low mine ∙ sym (none_of_own j p c.superstep i q w k.stands r low mine)
-place_same false j p c i q v w h k s r low lt own =
+place_same : (j : Job) (p : ℕ) (c : Content) (i q : ℕ) (v w : State) → HasContent j p c v → HasContent j p c w → early_at v.early i q ≡ early_at w.early i q
+place_same j p c i q v w h k =
     let t = c.superstep in
-    same_kept (true_batch j (record { superstep = t + i; source = q; target = p })) _ _ (true_at j p t i q v h.stands low lt) (true_at j p t i q w k.stands low lt)
-    (sym (held_is j p t i q v h.stands s low lt own) ∙ names_at j p c v h (t + i) q ∙ sym (names_at j p c w k (t + i) q) ∙ held_is j p t i q w k.stands r low lt own)
-
--- a place is one of four supersteps and one of the sources
-row_below : (parts n : ℕ) → 0 < parts → n < 4 * parts → n / parts < 4
-row_below parts n some lt = (div-lt_iff_lt-mul {k = parts} {x = n} {y = 4} some).1 lt
-
-long : (j : Job) (p t : ℕ) (v : State) → StandsFor j p t v → IsState v → length v.kept ≡ 4 * j.plan.parts
-long j p t v h s = s.kept ∙ ap (λ (plan : PlanValue). 4 * plan.parts) (plan_is j p t v h)
+    let gap : i ≡ t + 1 + i - (t + 1) = omega arith in
+    let later : t < t + 1 + i = omega arith in
+    same_kept (true_batch j (record { superstep = t + 1 + i; source = q; target = p })) _ _ (h.stands.early.true_of i q) (k.stands.early.true_of i q)
+    (ap (λ n. is_some (early_at v.early n q)) gap ∙ sym (holds_later t v.heard v.early (t + 1 + i) q later) ∙ names_at j p c v h (t + 1 + i) q
+    ∙ sym (names_at j p c w k (t + 1 + i) q) ∙ holds_later t w.heard w.early (t + 1 + i) q later ∙ ap (λ n. is_some (early_at w.early n q)) (sym gap))
 
 -- the batches that are kept
-kept_same : (j : Job) (p : ℕ) (c : Content) (v w : State) → HasContent j p c v → HasContent j p c w → IsState v → IsState w → v.kept ≡ w.kept
-kept_same j p c v w h k s r =
-    let parts = j.plan.parts in
-    let left = long j p c.superstep v h.stands s in
-    let right = long j p c.superstep w k.stands r in
-    same_lists v.kept w.kept (left ∙ sym right)
-    (λ n d lt. let whole : n / parts * parts + n % parts ≡ n = div-add-mod' n parts in
-    let some : 0 < parts = omega (arith, left) in
-    let below : n < 4 * parts = omega (arith, left) in
-    let at = place_same (n % parts == p) j p c (n / parts) (n % parts) v w h k s r (row_below parts n some below) (mod-lt n some) refl in
-    get_or_default v.kept n d None lt
-    ∙ subst (λ (m : ℕ). get_or v.kept m None ≡ get_or w.kept m None) whole at
-    ∙ sym (get_or_default w.kept n d None (omega (arith, left, right))))
+early_same : (j : Job) (p : ℕ) (c : Content) (v w : State) → HasContent j p c v → HasContent j p c w → IsState v → IsState w → v.early ≡ w.early
+early_same j p c v w h k s r =
+    let parts : v.part.plan.parts ≡ w.part.plan.parts = ap (λ (a : PlanValue). a.parts) (plan_is j p c.superstep v h.stands ∙ sym (plan_is j p c.superstep w k.stands)) in
+    let a = s.early.table in
+    let b = r.early.table in
+    same_lists v.early w.early (a.levels ∙ sym b.levels)
+    (λ i d lt. let inside : i < 3 = omega (arith, a.levels) in
+    let x = get_or v.early i [] in
+    let y = get_or w.early i [] in
+    get_or_default v.early i d [] lt
+    ∙ same_lists x y (a.sources i inside ∙ parts ∙ sym (b.sources i inside))
+    (λ q e below. get_or_default x q e None below ∙ place_same j p c i q v w h k ∙ sym (get_or_default y q e None (omega (arith, a.sources i inside, b.sources i inside, parts))))
+    ∙ sym (get_or_default w.early i d [] (omega (arith, a.levels, b.levels))))
 
-same_state : (v w : State) → v.part ≡ w.part → v.superstep ≡ w.superstep → v.rows ≡ w.rows → v.marks ≡ w.marks → v.tallies ≡ w.tallies → v.sums ≡ w.sums → v.kept ≡ w.kept → v ≡ w
-same_state v w part superstep rows marks tallies sums kept = λ i. record {
+same_state : (v w : State) → v.part ≡ w.part → v.superstep ≡ w.superstep → v.rows ≡ w.rows → v.marks ≡ w.marks → v.tallies ≡ w.tallies → v.sums ≡ w.sums → v.heard ≡ w.heard → v.heard_change ≡ w.heard_change → v.accumulated ≡ w.accumulated → v.early ≡ w.early → v ≡ w
+same_state v w part superstep rows marks tallies sums heard change accumulated early = λ i. record {
   part = part i;
   superstep = superstep i;
   rows = rows i;
   marks = marks i;
   tallies = tallies i;
   sums = sums i;
-  kept = kept i;
+  heard = heard i;
+  heard_change = change i;
+  accumulated = accumulated i;
+  early = early i;
 }
 
 -- THE SAME: replicas that stand for one partition and superstep and hold the same names are equal
 pub same_replica : (j : Job) (p : ℕ) (c : Content) (v w : State) → HasContent j p c v → HasContent j p c w → IsState v → IsState w → v ≡ w
 same_replica j p c v w h k s r =
+    let heard = heard_same j p c v w h k s r in
+    let t = c.superstep in
     same_state v w (h.stands.part ∙ sym k.stands.part) (h.stands.superstep ∙ sym k.stands.superstep) (h.stands.rows ∙ sym k.stands.rows) (h.stands.marks ∙ sym k.stands.marks)
-    (h.stands.tallies ∙ sym k.stands.tallies) (h.stands.sums ∙ sym k.stands.sums) (kept_same j p c v w h k s r)
+    (h.stands.tallies ∙ sym k.stands.tallies) (h.stands.sums ∙ sym k.stands.sums) heard
+    (h.stands.heard_change ∙ ap (λ l. heard_changes j t l) heard ∙ sym k.stands.heard_change)
+    (h.stands.accumulated ∙ ap (λ l. accumulated_of j p t (λ z. is_heard j.plan.parts l z)) heard ∙ sym k.stands.accumulated)
+    (early_same j p c v w h k s r)
 
 -- and the same calls on both have the same answers
 pub same_calls : (j : Job) (p : ℕ) (c : Content) (calls : List Call) (left right : List Answer) (v v2 w w2 : State) → HasContent j p c v → HasContent j p c w → Made j p v calls left v2 → Made j p w calls right w2 →

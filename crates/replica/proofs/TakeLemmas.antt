@@ -1,106 +1,269 @@
--- A state that keeps one more batch.
-use Rattle.std.proofs.Common.{◌≡◌, ℕ, zero, suc, [], ◌∷◌, IfSome, ◌+◌, ◌-◌, ◌*◌, ◌<◌, true, List, length, get_or, set, refl, ap, arith, sym, ◌∙◌, subst}
-use Rattle.std.specs.Prelude.{Option, Some, None, Ok}
-use Rattle.ball_model.specs.declared.names.Taken.TheVariants as taken
-use Rattle.ball_model.specs.PlanValue.{PlanValue}
-use Rattle.ball_model.specs.Job.{Job, PartValue}
-use Rattle.ball_model.specs.Batches.{BatchValue, IsBatch, true_batch}
-use Rattle.ball_model.specs.Content.{take_of, after_take, same_plan}
-use Rattle.ball_model.specs.State.{State, StandsFor, place_of, content_of}
-use Rattle.replica.specs.Kept.{IsFit, AreFit}
-use Rattle.replica.specs.Seen.{IsState}
-use Rattle.ball_model.specs.Job.{IsPart}
+-- A replica that receives a batch which it did not hold.
+use Rattle.std.proofs.Common.{◌≡◌, ℕ, ◌+◌, ◌-◌, ◌<◌, ◌≤◌, ◌==◌, nat_le, nat_lt, Bool, true, false, not, ◌&&◌, ◌||◌, List, length, get_or, refl, ap, arith, sym, ◌∙◌, subst, inl, inr, if◌then◌else◌, is_some, IfSome}
+use Rattle.std.specs.Prelude.{Option, Some, None, Result, Ok, Err}
+use Rattle.std.specs.Str.{bytes_eq}
+use Rattle.std.proofs.lemmas.Bool.{cases_eq, cases_lt}
 use Rattle.std.proofs.lemmas.Bool.Decides.{nat_tests}
-use Rattle.std.proofs.lemmas.List.{length-set, get_or-set_other}
-use Rattle.replica.proofs.LevelLemmas.{plan_is, number_is}
-use Rattle.replica.proofs.PlaceLemmas.{InWindow, take_of-new, same_place, same_parts, same_limit, same_width, holds_in-set, keeps-set}
+use Rattle.std.proofs.lemmas.Slice.Eq.{bytes_eq-Decides}
+use Rattle.ball_model.specs.declared.names.BatchName.{BatchName}
+use Rattle.ball_model.specs.declared.names.Taken.{Taken}
+use Rattle.ball_model.specs.declared.names.Taken.TheVariants as taken
+use Rattle.ball_model.specs.declared.names.TakeError.{TakeError}
+use Rattle.ball_model.specs.declared.names.TakeError.TheVariants as refusal
+use Rattle.ball_model.specs.Accumulated.{accumulated_of}
+use Rattle.ball_model.specs.PlanValue.{PlanValue}
+use Rattle.ball_model.specs.Job.{Job, part_of}
+use Rattle.ball_model.specs.Batches.{BatchValue, IsBatch, true_batch}
+use Rattle.ball_model.specs.Content.{Content, take_of, after_take, same_plan}
+use Rattle.ball_model.specs.State.{State, SameShown, StandsFor, KeepsTrue, content_of, early_at, holds_in, is_heard, heard_changes}
+use Rattle.ball_model.proofs.PathLemmas.{and_left, and_right, eq_true, same_true}
+use Rattle.replica.specs.Ahead.{IsTable}
+use Rattle.replica.specs.Change.{Receives}
+use Rattle.replica.specs.Hearing.{Hears, told_by}
+use Rattle.replica.specs.Index.{targets_of}
+use Rattle.replica.specs.Kept.{IsOfName, AreEarly, AreSources}
+use Rattle.replica.specs.Seen.{IsState}
+use Rattle.replica.proofs.AdvanceLemmas.{holds_now, holds_before, holds_later, if_same, true_at}
+use Rattle.replica.proofs.StateLemmas.{sources_more}
 
--- the place that a batch has in a state
-abbrev pub place_in : State → BatchValue → ℕ
-place_in v b = place_of v.part.plan.parts v.superstep b.name.superstep b.name.source
+new_chain : (a b c d e f : Bool) (x y z w : Result Taken TakeError) (v : TakeError) → (if a then Err refusal.OtherJob else (if b then Err refusal.NotMine else (if c then Err refusal.OwnPartition else (if d then Ok taken.Old else (if e then Ok taken.Known else (if f then Err v else Ok taken.New)))))) ≡ Ok taken.New →
+    (a ≡ false) × (b ≡ false) × (c ≡ false) × (d ≡ false) × (e ≡ false) × (f ≡ false)
+new_chain true b c d e f x y z w v h = absurd (cc)
+new_chain false true c d e f x y z w v h = absurd (cc)
+new_chain false false true d e f x y z w v h = absurd (cc)
+new_chain false false false true e f x y z w v h = absurd (cc)
+new_chain false false false false true f x y z w v h = absurd (cc)
+new_chain false false false false false true x y z w v h = absurd (cc)
+new_chain false false false false false false x y z w v h = (refl, refl, refl, refl, refl, refl)
 
--- one state keeps one batch more than another
-pub record Keeps1 (v w : State) (b : BatchValue) : Type 0 where
-  pub window : InWindow v.part.plan v.part.number v.superstep b.name.superstep b.name.source
+-- what a New says
+pub record IsNew (plan : PlanValue) (p : ℕ) (c : Content) (other : PlanValue) (name : BatchName) : Type 0 where
+  pub job : same_plan plan other ≡ true
+  pub target : name.target ≡ p
+  pub source : (name.source == p) ≡ false
+  pub low : c.superstep ≤ name.superstep
+  pub high : name.superstep < c.superstep + 4
+  pub unknown : c.holds name.superstep name.source ≡ false
+
+not_false : (b : Bool) → not b ≡ false → b ≡ true
+not_false true e = refl
+not_false false e = absurd (cc)
+
+eq_from : (a b : ℕ) → (a == b) ≡ true → a ≡ b
+eq_from a b e = grind (arith, nat_tests)
+
+le_from : (a b : ℕ) → nat_lt a b ≡ false → b ≤ a
+le_from a b e = grind (arith, nat_tests)
+
+pub take_of-new : (plan : PlanValue) (p : ℕ) (c : Content) (other : PlanValue) (name : BatchName) → take_of plan p c other name ≡ Ok taken.New → IsNew plan p c other name
+take_of-new plan p c other name h =
+    let r : Result Taken TakeError = Ok taken.New in
+    let f = new_chain (not (same_plan plan other)) (not (name.target == p)) (name.source == p) (nat_lt name.superstep c.superstep) (c.holds name.superstep name.source) (nat_lt (c.superstep + 3) name.superstep) r r r r (refusal.TooEarly (c.superstep + 3)) h in
+    let low : c.superstep ≤ name.superstep = le_from _ _ f.3 in
+    let high : name.superstep ≤ c.superstep + 3 = le_from _ _ f.5 in
+    record { job = not_false _ f.0; target = eq_from _ _ (not_false _ f.1); source = f.2; low = low; high = omega arith; unknown = f.4 }
+
+-- ---- plans
+
+bytes_same : (xs ys : List ℕ) → bytes_eq xs ys ≡ true → xs ≡ ys
+bytes_same xs ys e = (bytes_eq-Decides xs ys).0 e
+
+plan_of_fields : (a b : PlanValue) → a.log2m ≡ b.log2m → a.seed ≡ b.seed → a.parts ≡ b.parts → a.limit ≡ b.limit → a.vertices ≡ b.vertices → a.job ≡ b.job → a ≡ b
+plan_of_fields a b e f g h i k =
+    let same : record { log2m = a.log2m; seed = a.seed; parts = a.parts; limit = a.limit; vertices = a.vertices; job = a.job } ≡ record { log2m = b.log2m; seed = b.seed; parts = b.parts; limit = b.limit; vertices = b.vertices; job = b.job } = rw (e, f, g, h, i, k) refl in
+    same
+
+-- plans that are the same in every field are one
+pub same_plan_one : (a b : PlanValue) → same_plan a b ≡ true → a ≡ b
+same_plan_one a b e =
+    let e5 = and_left _ _ e in
+    let e4 = and_left _ _ e5 in
+    let e3 = and_left _ _ e4 in
+    let e2 = and_left _ _ e3 in
+    plan_of_fields a b (eq_from _ _ (and_left _ _ e2)) (eq_from _ _ (and_right _ _ e2)) (eq_from _ _ (and_right _ _ e3)) (eq_from _ _ (and_right _ _ e4)) (eq_from _ _ (and_right _ _ e5)) (bytes_same a.job b.job (and_right _ _ e))
+
+-- what is known of a batch that is new
+pub record IsFresh (v : State) (b : BatchValue) : Type 0 where
+  pub batch : IsBatch b
+  pub plan_is : b.plan ≡ v.part.plan
   pub target : b.name.target ≡ v.part.number
-  pub long : length v.kept ≡ 4 * v.part.plan.parts
-  pub part : w.part ≡ v.part
-  pub superstep : w.superstep ≡ v.superstep
-  pub rows : w.rows ≡ v.rows
-  pub marks : w.marks ≡ v.marks
-  pub tallies : w.tallies ≡ v.tallies
-  pub sums : w.sums ≡ v.sums
-  pub kept : w.kept ≡ set v.kept (place_in v b) (Some b)
+  pub other : (b.name.source == v.part.number) ≡ false
+  pub below : b.name.source < v.part.plan.parts
+  pub low : v.superstep ≤ b.name.superstep
+  pub high : b.name.superstep < v.superstep + 4
 
-pub new_window : (v : State) (b : BatchValue) → IsBatch b → take_of v.part.plan v.part.number (content_of v) b.plan b.name ≡ Ok taken.New → InWindow v.part.plan v.part.number v.superstep b.name.superstep b.name.source
-new_window v b ok e =
-    let n = take_of-new v.part.plan v.part.number (content_of v) b.plan b.name e in
-    let parts : v.part.plan.parts ≡ b.plan.parts = same_parts v.part.plan b.plan n.job in
-    let limit : v.part.plan.limit ≡ b.plan.limit = same_limit v.part.plan b.plan n.job in
-    let high = n.high in
-    record { low = n.low; high = omega arith; within = omega (arith, ok.superstep, limit); source = omega (arith, ok.source, parts); other = n.source }
+pub fresh : (v : State) (b : BatchValue) → IsBatch b → take_of v.part.plan v.part.number (content_of v) b.plan b.name ≡ Ok taken.New → IsFresh v b
+fresh v b ok new =
+    let n = take_of-new v.part.plan v.part.number (content_of v) b.plan b.name new in
+    let plan : b.plan ≡ v.part.plan = sym (same_plan_one v.part.plan b.plan n.job) in
+    record { batch = ok; plan_is = plan; target = n.target; other = n.source; below = omega (arith, ok.source, ap (λ (a : PlanValue). a.parts) plan); low = n.low; high = n.high }
 
-pub keeps1_names : (v w : State) (b : BatchValue) → Keeps1 v w b → (s q : ℕ) → (content_of w).holds s q ≡ after_take true (content_of v).holds b.name.superstep b.name.source s q
-keeps1_names v w b k s q =
-    rw (k.part, k.superstep) (holds_in-set v.part.plan v.part.number v.superstep b.name.superstep b.name.source v.kept w.kept b k.window k.long k.kept s q)
+no : (a b : ℕ) → (a ≡ b → ⊥) → (a == b) ≡ false
+no a b ne = not_so (a == b) (λ e. ne (eq_true a b e))
+  where
+    not_so : (c : Bool) → (c ≡ true → ⊥) → c ≡ false
+    not_so true h = absurd (h refl)
+    not_so false h = refl
 
-pub keeps1_stands : (v w : State) (b : BatchValue) → Keeps1 v w b → (j : Job) (p t : ℕ) → StandsFor j p t v → b ≡ true_batch j b.name → StandsFor j p t w
-keeps1_stands v w b k j p t h is =
-    let plan : v.part.plan ≡ j.plan = plan_is j p t v h in
-    let parts : v.part.plan.parts ≡ j.plan.parts = ap (λ (a : PlanValue). a.parts) plan in
-    let number : v.part.number ≡ p = number_is j p t v h in
-    let mine : b.name.target ≡ p = k.target ∙ number in
-    let window : InWindow j.plan p t b.name.superstep b.name.source =
-    subst (λ (n : ℕ). InWindow j.plan p n b.name.superstep b.name.source) h.superstep (subst (λ (n : ℕ). InWindow j.plan n v.superstep b.name.superstep b.name.source) number (subst (λ (a : PlanValue). InWindow a v.part.number v.superstep b.name.superstep b.name.source) plan k.window)) in
-    let at : place_in v b ≡ place_of j.plan.parts t b.name.superstep b.name.source = rw (parts, h.superstep) refl in
+or_turn : (a b : Bool) → (a || b) ≡ (b || a)
+or_turn true true = refl
+or_turn true false = refl
+or_turn false true = refl
+or_turn false false = refl
+
+some_if : (e : Bool) (b : BatchValue) → is_some (if e then Some b else None) ≡ e
+some_if true b = refl
+some_if false b = refl
+
+some_else : (e : Bool) (b : BatchValue) (o : Option BatchValue) → is_some (if e then Some b else o) ≡ (e || is_some o)
+some_else true b o = refl
+some_else false b o = refl
+
+-- a batch of the superstep is heard
+pub names_heard : (v w : State) (b : BatchValue) → b.name.superstep ≡ v.superstep → w.superstep ≡ v.superstep → w.early ≡ v.early →
+    ((q : ℕ) → get_or w.heard q false ≡ (get_or v.heard q false || is_some (told_by b.name.source (Some b) q))) →
+    (s q : ℕ) → (content_of w).holds s q ≡ after_take true (content_of v).holds b.name.superstep b.name.source s q
+names_heard v w b now at early heard s q =
+    let t = v.superstep in
+    ap (λ n. holds_in n w.heard w.early s q) at ∙ ap (λ e. holds_in t w.heard e s q) early
+    ∙ elim (cases_eq s t) [
+      | inl here ↦
+          let named : (s == b.name.superstep) ≡ true = ap (λ n. n == b.name.superstep) (here ∙ sym now) ∙ same_true b.name.superstep in
+          ap (λ n. holds_in t w.heard v.early n q) here
+          ∙ holds_now t w.heard v.early q
+          ∙ heard q
+          ∙ ap (λ e. get_or v.heard q false || e) (some_if (q == b.name.source) b)
+          ∙ or_turn (get_or v.heard q false) (q == b.name.source)
+          ∙ sym (ap (λ e. (e && (q == b.name.source)) || holds_in t v.heard v.early s q) named ∙ ap (λ e. (q == b.name.source) || e) (ap (λ n. holds_in t v.heard v.early n q) here ∙ holds_now t v.heard v.early q))
+      | inr other ↦
+          let unnamed : (s == b.name.superstep) ≡ false = no s b.name.superstep (λ e. other (e ∙ now)) in
+          elim (cases_lt s t) [
+            | inl before ↦ holds_before t w.heard v.early s q before ∙ sym (holds_before t v.heard v.early s q before)
+            | inr after ↦ let more : t < s = omega arith in holds_later t w.heard v.early s q more ∙ sym (holds_later t v.heard v.early s q more)
+          ]
+          ∙ sym (ap (λ e. (e && (q == b.name.source)) || holds_in t v.heard v.early s q) unnamed)
+    ]
+
+-- a later one is kept
+pub names_kept : (v w : State) (b : BatchValue) (level : ℕ) → v.superstep < b.name.superstep → level ≡ b.name.superstep - v.superstep - 1 → w.superstep ≡ v.superstep → w.heard ≡ v.heard →
+    ((i k : ℕ) → early_at w.early i k ≡ (if (i == level) && (k == b.name.source) then Some b else early_at v.early i k)) →
+    (s q : ℕ) → (content_of w).holds s q ≡ after_take true (content_of v).holds b.name.superstep b.name.source s q
+names_kept v w b level later is at heard kept s q =
+    let t = v.superstep in
+    ap (λ n. holds_in n w.heard w.early s q) at ∙ ap (λ e. holds_in t e w.early s q) heard
+    ∙ elim (cases_lt t s) [
+      | inl after ↦
+          let same : (s - (t + 1) == level) ≡ (s == b.name.superstep) = level_is s t b.name.superstep level after later is in
+          holds_later t v.heard w.early s q after
+          ∙ ap is_some (kept (s - (t + 1)) q)
+          ∙ some_else ((s - (t + 1) == level) && (q == b.name.source)) b (early_at v.early (s - (t + 1)) q)
+          ∙ ap (λ e. (e && (q == b.name.source)) || is_some (early_at v.early (s - (t + 1)) q)) same
+          ∙ ap (λ e. ((s == b.name.superstep) && (q == b.name.source)) || e) (sym (holds_later t v.heard v.early s q after))
+      | inr upto ↦
+          let unnamed : (s == b.name.superstep) ≡ false = no s b.name.superstep (λ e. omega arith) in
+          elim (cases_eq s t) [
+            | inl here ↦ ap (λ n. holds_in t v.heard w.early n q) here ∙ holds_now t v.heard w.early q ∙ sym (ap (λ n. holds_in t v.heard v.early n q) here ∙ holds_now t v.heard v.early q)
+            | inr other ↦ let before : s < t = omega arith in holds_before t v.heard w.early s q before ∙ sym (holds_before t v.heard v.early s q before)
+          ]
+          ∙ sym (ap (λ e. (e && (q == b.name.source)) || holds_in t v.heard v.early s q) unnamed)
+    ]
+  where
+    level_is : (s t n level : ℕ) → t < s → t < n → level ≡ n - t - 1 → (s - (t + 1) == level) ≡ (s == n)
+    level_is s t n level after later is =
+        elim (cases_eq s n) [
+          | inl same ↦ let e : s - (t + 1) ≡ level = omega arith in ap (λ k. k == level) e ∙ same_true level ∙ sym (ap (λ k. k == n) same ∙ same_true n)
+          | inr other ↦ no (s - (t + 1)) level (λ e. other (omega arith)) ∙ sym (no s n other)
+        ]
+
+true_name : (j : Job) (b : BatchValue) (s p : ℕ) → b.name.superstep ≡ s → b.name.target ≡ p → b ≡ true_batch j b.name → b ≡ true_batch j (record { superstep = s; source = b.name.source; target = p })
+true_name j b s p at mine is = is ∙ ap (λ n. true_batch j (record { superstep = n; source = b.name.source; target = b.name.target })) at ∙ ap (λ n. true_batch j (record { superstep = s; source = b.name.source; target = n })) mine
+
+if_true : (e : Bool) (P : BatchValue → Type 0) (b : BatchValue) (o : Option BatchValue) → (e ≡ true → P b) → IfSome o P → IfSome (if e then Some b else o) P
+if_true true P b o h k = h refl
+if_true false P b o h k = k
+
+-- what is heard or kept is true where the batch is
+pub stands_heard : (v w : State) (b : BatchValue) (log2m : ℕ) → SameShown w v → b.name.superstep ≡ v.superstep → b.name.target ≡ v.part.number → w.early ≡ v.early →
+    Hears log2m (targets_of v.part) (told_by b.name.source (Some b)) (record { heard = v.heard; change = v.heard_change; accumulated = v.accumulated }) (record { heard = w.heard; change = w.heard_change; accumulated = w.accumulated }) →
+    (j : Job) (p t : ℕ) → v.part.number ≡ p → StandsFor j p t v → b ≡ true_batch j b.name → StandsFor j p t w
+stands_heard v w b log2m shown now mine early hears j p t number h is =
+    let q = b.name.source in
+    let truth : b ≡ true_batch j (record { superstep = t; source = q; target = p }) = true_name j b t p (now ∙ h.superstep) (mine ∙ number) is in
+    let hearing = hears.stands j p t h.job (ap targets_of h.part)
+    (λ k. if_true (k == q) (λ c. c ≡ true_batch j (record { superstep = t; source = k; target = p })) b None
+    (λ e. truth ∙ ap (λ n. true_batch j (record { superstep = t; source = n; target = p })) (sym (eq_true k q e))) tt)
+    (record { change = h.heard_change; accumulated = h.accumulated }) in
     record {
       job = h.job;
       partition = h.partition;
-      part = k.part ∙ h.part;
-      superstep = k.superstep ∙ h.superstep;
+      part = shown.part ∙ h.part;
+      superstep = shown.superstep ∙ h.superstep;
       in_time = h.in_time;
-      rows = k.rows ∙ h.rows;
-      marks = k.marks ∙ h.marks;
-      tallies = k.tallies ∙ h.tallies;
-      sums = k.sums ∙ h.sums;
-      kept = keeps-set j p t b.name.superstep b.name.source v.kept w.kept b window (k.long ∙ ap (λ n. 4 * n) parts)
-          (k.kept ∙ ap (λ n. set v.kept n (Some b)) at) (is ∙ ap (λ n. true_batch j (record { superstep = b.name.superstep; source = b.name.source; target = n })) mine) h.kept;
+      rows = shown.rows ∙ h.rows;
+      marks = shown.marks ∙ h.marks;
+      tallies = shown.tallies ∙ h.tallies;
+      sums = shown.sums ∙ h.sums;
+      heard_change = hearing.change;
+      accumulated = hearing.accumulated;
+      early = subst (λ e. KeepsTrue j p t e) (sym early) h.early;
     }
 
-fit_set : (log2m : ℕ) (kept : List (Option BatchValue)) (i : ℕ) (b : BatchValue) → IsFit log2m b → AreFit log2m kept → AreFit log2m (set kept i (Some b))
-fit_set log2m kept i b fit h = record { fit = λ k. by_place kept i k (h.fit k) }
-  where
-    by_place : (l : List (Option BatchValue)) (n k : ℕ) → IfSome (get_or l k None) (IsFit log2m) → IfSome (get_or (set l n (Some b)) k None) (IsFit log2m)
-    by_place [] n k old = old
-    by_place (o ∷ l) zero zero old = fit
-    by_place (o ∷ l) zero (suc k) old = old
-    by_place (o ∷ l) (suc n) zero old = old
-    by_place (o ∷ l) (suc n) (suc k) old = by_place l n k old
-
--- a batch of another partition has another place than one of the own would have
-pub keeps1_own : (v w : State) (b : BatchValue) → Keeps1 v w b → IsState v → (i : ℕ) → i < 4 → get_or w.kept (i * w.part.plan.parts + w.part.number) None ≡ None
-keeps1_own v w b k s i lt =
-    let parts = v.part.plan.parts in
-    let other = k.window.other in
-    let apart : i * parts + v.part.number ≡ place_in v b → ⊥ = λ e. let same : v.part.number ≡ b.name.source = (same_place parts i (b.name.superstep - v.superstep) v.part.number b.name.source s.part.number k.window.source e).1 in grind (arith, nat_tests) in
-    rw (k.part, k.kept) (get_or-set_other v.kept (place_in v b) (i * parts + v.part.number) (Some b) None apart ∙ s.own i lt)
-
--- what is kept stays fit
-pub keeps1_fit : (v w : State) (b : BatchValue) → Keeps1 v w b → IsBatch b → same_plan v.part.plan b.plan ≡ true → AreFit v.part.plan.log2m v.kept → AreFit v.part.plan.log2m w.kept
-keeps1_fit v w b k ok job h =
-    subst (λ (l : List (Option BatchValue)). AreFit v.part.plan.log2m l) (sym k.kept) (fit_set v.part.plan.log2m v.kept (place_in v b) b (record { batch = ok; width = sym (same_width v.part.plan b.plan job) }) h)
-
--- the limits are kept
-pub keeps1_state : (v w : State) (b : BatchValue) → Keeps1 v w b → IsBatch b → same_plan v.part.plan b.plan ≡ true → IsState v → IsState w
-keeps1_state v w b k ok job s = record {
-  part = subst (λ (p : PartValue). IsPart p) (sym k.part) s.part;
-  superstep = rw (k.superstep, k.part) s.superstep;
-  count = rw (k.rows, k.part) s.count;
-  rows = rw (k.part, k.rows) s.rows;
-  marks = rw (k.marks, k.part) s.marks;
-  lasts = rw (k.tallies, k.part, k.rows) s.lasts;
-  sums = rw (k.sums, k.superstep) s.sums;
-  kept = ap length k.kept ∙ simp length-set s.kept ∙ ap (λ (p : PartValue). 4 * p.plan.parts) (sym k.part);
-  own = keeps1_own v w b k s;
-  fit = subst (λ (n : ℕ). AreFit n w.kept) (ap (λ (p : PartValue). p.plan.log2m) (sym k.part)) (keeps1_fit v w b k ok job s.fit);
+pub stands_kept : (v w : State) (b : BatchValue) (level : ℕ) → SameShown w v → v.superstep < b.name.superstep → level ≡ b.name.superstep - v.superstep - 1 → b.name.target ≡ v.part.number →
+    w.heard ≡ v.heard → w.heard_change ≡ v.heard_change → w.accumulated ≡ v.accumulated → ((i k : ℕ) → early_at w.early i k ≡ (if (i == level) && (k == b.name.source) then Some b else early_at v.early i k)) →
+    (j : Job) (p t : ℕ) → v.part.number ≡ p → StandsFor j p t v → b ≡ true_batch j b.name → StandsFor j p t w
+stands_kept v w b level shown later is mine heard change accumulated kept j p t number h truth = record {
+  job = h.job;
+  partition = h.partition;
+  part = shown.part ∙ h.part;
+  superstep = shown.superstep ∙ h.superstep;
+  in_time = h.in_time;
+  rows = shown.rows ∙ h.rows;
+  marks = shown.marks ∙ h.marks;
+  tallies = shown.tallies ∙ h.tallies;
+  sums = shown.sums ∙ h.sums;
+  heard_change = change ∙ h.heard_change ∙ ap (λ l. heard_changes j t l) (sym heard);
+  accumulated = accumulated ∙ h.accumulated ∙ ap (λ l. accumulated_of j p t (λ z. is_heard j.plan.parts l z)) (sym heard);
+  early = record {
+    true_of = λ i k.
+        if_same _ (early_at w.early i k) _ (kept i k)
+        (if_true ((i == level) && (k == b.name.source)) (λ c. c ≡ true_batch j (record { superstep = t + 1 + i; source = k; target = p })) b (early_at v.early i k)
+        (λ e. let here : i ≡ level = eq_true i level (and_left (i == level) (k == b.name.source) e) in
+        let there : k ≡ b.name.source = eq_true k b.name.source (and_right (i == level) (k == b.name.source) e) in
+        let at : b.name.superstep ≡ t + 1 + i = omega (arith, h.superstep) in
+        true_name j b (t + 1 + i) p at (mine ∙ number) truth ∙ ap (λ n. true_batch j (record { superstep = t + 1 + i; source = n; target = p })) (sym there))
+        (h.early.true_of i k));
+  };
 }
+
+-- the limits
+pub sources_heard : (v w : State) (b : BatchValue) → IsFresh v b → IsState v → length w.heard ≡ length v.heard → ((q : ℕ) → get_or w.heard q false ≡ (get_or v.heard q false || is_some (told_by b.name.source (Some b) q))) →
+    AreSources v.part.plan.parts v.part.number w.heard
+sources_heard v w b f s count heard =
+    sources_more v.part.plan.parts v.part.number v.heard w.heard (λ q. is_some (told_by b.name.source (Some b) q)) s.heard count heard
+    (λ q on. let at : q ≡ b.name.source = eq_true q b.name.source (sym (some_if (q == b.name.source) b) ∙ on) in omega (arith, f.below))
+    (some_if (v.part.number == b.name.source) b ∙ no v.part.number b.name.source (λ e. let same : (b.name.source == v.part.number) ≡ true = ap (λ n. n == v.part.number) (sym e) ∙ same_true v.part.number in let off = f.other in let bad : true ≡ false = sym same ∙ off in cc))
+
+name_of : (n : BatchName) (s q p : ℕ) → n.superstep ≡ s → n.source ≡ q → n.target ≡ p → n ≡ record { superstep = s; source = q; target = p }
+name_of n s q p e f g = λ i. record { superstep = e i; source = f i; target = g i }
+
+pub early_kept : (v : State) (after : List (List (Option BatchValue))) (b : BatchValue) (level : ℕ) → IsFresh v b → v.superstep < b.name.superstep → level ≡ b.name.superstep - v.superstep - 1 → AreEarly v.part.plan v.part.number v.superstep v.early →
+    IsTable v.part.plan.parts after → ((i k : ℕ) → early_at after i k ≡ (if (i == level) && (k == b.name.source) then Some b else early_at v.early i k)) → AreEarly v.part.plan v.part.number v.superstep after
+early_kept v after b level f later is e table kept = record {
+  table = table;
+  kept = λ i k.
+      if_same _ (early_at after i k) _ (kept i k)
+      (if_true ((i == level) && (k == b.name.source)) (IsOfName v.part.plan (record { superstep = v.superstep + 1 + i; source = k; target = v.part.number })) b (early_at v.early i k)
+      (λ on. let here : i ≡ level = eq_true i level (and_left (i == level) (k == b.name.source) on) in
+      let there : k ≡ b.name.source = eq_true k b.name.source (and_right (i == level) (k == b.name.source) on) in
+      record { batch = f.batch; plan_is = f.plan_is; name_is = name_of b.name (v.superstep + 1 + i) k v.part.number (omega arith) (sym there) f.target })
+      (e.kept i k));
+  own = λ i.
+      kept i v.part.number
+      ∙ off_case ((i == level) && (v.part.number == b.name.source)) (λ on. let at : v.part.number ≡ b.name.source = eq_true v.part.number b.name.source (and_right (i == level) (v.part.number == b.name.source) on) in
+      let same : (b.name.source == v.part.number) ≡ true = ap (λ n. n == v.part.number) (sym at) ∙ same_true v.part.number in let off = f.other in let bad : true ≡ false = sym same ∙ off in cc)
+      ∙ e.own i;
+}
+  where
+    off_case : (c : Bool) → (c ≡ true → ⊥) → {o : Option BatchValue} → (if c then Some b else o) ≡ o
+    off_case true h = absurd (h refl)
+    off_case false h = refl

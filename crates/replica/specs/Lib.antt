@@ -1,8 +1,13 @@
 pub mod Level
+pub mod Ahead
 pub mod Kept
+pub mod Index
+pub mod Spread
+pub mod Hearing
+pub mod Change
 pub mod Start
 pub mod Seen
-pub mod Saved
 pub mod Sent
 pub mod Merged
 pub mod Runs
+pub mod Heard

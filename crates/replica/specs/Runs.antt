@@ -1,5 +1,5 @@
 -- What a replica promises over whole runs: lists of calls, what each answers, and what they make of a replica.
-use Rattle.std.specs.Prelude.{◌≡◌, ◌≢◌, ◌↔◌, ℕ, ◌+◌, ◌/◌, ◌%◌, ◌<◌, ◌≤◌, Bool, false, List, [], ◌∷◌, IsTrue, None, Some, Result, Ok, Err, OnOk, OnErr, max, slice_index_or}
+use Rattle.std.specs.Prelude.{◌≡◌, ◌≢◌, ◌↔◌, ℕ, ◌+◌, ◌/◌, ◌%◌, ◌<◌, ◌≤◌, ◌&&◌, Bool, false, List, [], ◌∷◌, IsTrue, None, Some, Result, Ok, Err, OnOk, OnErr, max, slice_index_or}
 use Rattle.ball_model.specs.declared.names.BatchName.{BatchName}
 use Rattle.ball_model.specs.declared.names.Taken.{Taken}
 use Rattle.ball_model.specs.declared.names.TakeError.{TakeError}
@@ -7,67 +7,17 @@ use Rattle.ball_model.specs.declared.names.CloseError.{CloseError}
 use Rattle.ball_model.specs.declared.names.MergeError.{MergeError}
 use Rattle.ball_model.specs.declared.names.MergeError.TheVariants as refusal
 use Rattle.ball_model.specs.declared.names.Verdict.TheVariants as verdict
-use Rattle.ball_model.specs.Graph.{is_path}
+use Rattle.ball_model.specs.Graph.{is_path, is_counted}
 use Rattle.ball_model.specs.Counter.{counter_of}
 use Rattle.ball_model.specs.Change.{any_changed}
 use Rattle.ball_model.specs.Supersteps.{end_of}
 use Rattle.ball_model.specs.PlanValue.{mixing_of}
 use Rattle.ball_model.specs.Job.{Job}
 use Rattle.ball_model.specs.Content.{Content, IsContent, take_of, is_new, after_take, missing_of, verdict_of, close_of, closed}
-use Rattle.ball_model.specs.Join.{joined, merge_of}
+use Rattle.ball_model.specs.Join.{joined}
 use Rattle.ball_model.specs.State.{State, StandsFor, content_of}
+use Rattle.ball_model.specs.Steps.{Call, Take, Close, Merge, Answer, Took, Closed, Merged, start_content, content_after_all, answers_of}
 use Rattle.replica.specs.Seen.{IsState}
-
--- a call on a replica: the true batch of a name is taken, the superstep is closed, or a snapshot of a replica of the
--- same partition with that content is merged
-pub data Call : Type 0 where
-  Take : BatchName → Call
-  Close : Call
-  Merge : Content → Call
-
--- what a call answers
-pub data Answer : Type 0 where
-  Took : Result Taken TakeError → Answer
-  Closed : Result ℕ CloseError → Answer
-  Merged : Result (Unit {0}) MergeError → Answer
-
--- the answer to a call, as the content says
-abbrev pub answer_of : Job → ℕ → Content → Call → Answer
-answer_of j p c (Take name) = Took (take_of j.plan p c j.plan name)
-answer_of j p c Close = Closed (close_of j p c)
-answer_of j p c (Merge d) = Merged (merge_of j.plan p j.plan p)
-
--- the content after a batch of the job was taken
-abbrev pub content_taken : Job → ℕ → Content → BatchName → Content
-content_taken j p c name = record {
-  superstep = c.superstep;
-  holds = λ s q. after_take (is_new (take_of j.plan p c j.plan name)) c.holds name.superstep name.source s q;
-}
-
--- the content after a close with that answer
-abbrev pub content_closed : Result ℕ CloseError → Content → Content
-content_closed (Ok t) c = closed c
-content_closed (Err e) c = c
-
--- the content after a call
-abbrev pub content_after : Job → ℕ → Content → Call → Content
-content_after j p c (Take name) = content_taken j p c name
-content_after j p c Close = content_closed (close_of j p c) c
-content_after j p c (Merge d) = joined c d
-
--- the content after a list of calls, one after the other
-unfoldable pub content_after_all : Job → ℕ → Content → List Call → Content
-content_after_all j p c [] = c
-content_after_all j p c (call ∷ calls) = content_after_all j p (content_after j p c call) calls
-
--- the answers to a list of calls, one after the other
-unfoldable pub answers_of : Job → ℕ → Content → List Call → List Answer
-answers_of j p c [] = []
-answers_of j p c (call ∷ calls) = answer_of j p c call ∷ answers_of j p (content_after j p c call) calls
-
--- the start: superstep 0, and no batches
-abbrev pub start_content : Content
-start_content = record { superstep = 0; holds = λ s q. false }
 
 -- the replica stands for the partition and has that content
 pub record HasContent (j : Job) (p : ℕ) (c : Content) (v : State) : Type 0 where
@@ -127,11 +77,11 @@ StableIsQuiet = (j : Job) (p t : ℕ) (v : State) → StandsFor j p t v →
     (verdict_of j p (content_of v) ≡ Some verdict.Stable)
     ↔ ((missing_of j.plan.parts p (content_of v) ≡ None) × (1 ≤ t) × (any_changed (mixing_of j.plan) j.graph t ≡ false))
 
--- then each row is the counter of all vertices that can reach its vertex
+-- then each row is the counter of all counted vertices that can reach its vertex
 abbrev pub StableReaches : Type 0
 StableReaches = (j : Job) (p t x : ℕ) (v : State) (reaches : ℕ → Bool) → StandsFor j p t v → verdict_of j p (content_of v) ≡ Some verdict.Stable → x < j.graph.vertices → x % j.plan.parts ≡ p →
     ((y : ℕ) → y < j.graph.vertices → IsTrue (reaches y) ↔ ((path : List ℕ) × IsTrue (is_path j.graph y x path))) →
-    slice_index_or v.rows (x / j.plan.parts) [] ≡ counter_of (mixing_of j.plan) j.graph.vertices reaches
+    slice_index_or v.rows (x / j.plan.parts) [] ≡ counter_of (mixing_of j.plan) j.graph.vertices (λ y. reaches y && is_counted j.graph y)
 
 -- replicas that stand for one partition and superstep and hold the same names are equal in all that they have
 abbrev pub SameContentIsSame : Type 0

@@ -1,15 +1,19 @@
 -- A replica's fields as plain data, and what they keep.
-use Rattle.std.specs.Prelude.{◌≡◌, ℕ, ◌+◌, ◌*◌, ◌^◌, ◌<◌, ◌≤◌, map, length, option_map, slice_index_or, None}
+use Rattle.std.specs.Prelude.{◌≡◌, ℕ, ◌+◌, ◌*◌, ◌^◌, ◌<◌, ◌≤◌, map, length}
 use Rattle.std.specs.Arc.{arc_value}
 use Rattle.std.specs.Vec.{vec_capacity}
-use Rattle.replica.specs.declared.Replica.TheInside.{Inside}
+use Rattle.std.specs.List.{sum_by}
+use Rattle.replica.specs.declared.Snapshot.TheInside as snapshot
+use Rattle.replica.specs.declared.Replica.TheInside as replica
 use Rattle.figures.specs.Values.{value_of}
 use Rattle.ball_model.specs.Figures.{estimate_of}
 use Rattle.ball_model.specs.Job.{IsPart}
 use Rattle.ball_model.specs.State.{State}
-use Rattle.replica.specs.Kept.{AreFit, AreCounters}
+use Rattle.replica.specs.Index.{targets_of}
+use Rattle.replica.specs.Spread.{AreTouched}
+use Rattle.replica.specs.Kept.{AreEarly, AreSources, AreCounters, AllRise, AreSums}
 
-abbrev pub state_of : Inside → State
+abbrev pub state_of : snapshot.Inside → State
 state_of r = record {
   part = arc_value r.part;
   superstep = r.superstep;
@@ -17,7 +21,10 @@ state_of r = record {
   marks = r.marks.items;
   tallies = map value_of r.tallies.items;
   sums = r.sums.items;
-  kept = map (option_map arc_value) r.kept.items;
+  heard = r.heard;
+  heard_change = r.heard_change;
+  accumulated = r.accumulated.rows;
+  early = r.early;
 }
 
 -- the limits that every replica keeps, whatever its batches say
@@ -28,15 +35,19 @@ pub record IsState (v : State) : Type 0 where
   pub rows : AreCounters v.part.plan.log2m v.rows
   pub marks : length v.marks ≡ length v.part.preds
   pub lasts : map (λ tally. tally.last) v.tallies ≡ map (estimate_of v.part.plan.log2m) v.rows
-  pub sums : length v.sums ≡ v.superstep + 1
-  pub kept : length v.kept ≡ 4 * v.part.plan.parts
-  pub own : (i : ℕ) → i < 4 → slice_index_or v.kept (i * v.part.plan.parts + v.part.number) None ≡ None
-  pub fit : AreFit v.part.plan.log2m v.kept
+  pub sums : AreSums v.superstep (sum_by (λ tally. tally.last) v.tallies) v.sums
+  pub heard : AreSources v.part.plan.parts v.part.number v.heard
+  pub accumulated : AllRise v.part.plan.log2m v.rows v.accumulated
+  pub early : AreEarly v.part.plan v.part.number v.superstep v.early
 
--- and the room that later supersteps take
-pub record IsReplica (r : Inside) : Type 0 where
-  pub state : IsState (state_of r)
-  pub width : r.rows.width ≡ 2 ^ (arc_value r.part).plan.log2m
-  pub next_width : r.next.width ≡ 2 ^ (arc_value r.part).plan.log2m
-  pub next_count : length r.next.rows ≡ length (arc_value r.part).preds
-  pub room : (arc_value r.part).plan.limit + 1 ≤ vec_capacity r.sums
+-- and there is room for the sums of all supersteps
+pub record IsSnapshot (s : snapshot.Inside) : Type 0 where
+  pub state : IsState (state_of s)
+  pub width : s.rows.width ≡ 2 ^ (arc_value s.part).plan.log2m
+  pub accumulated_width : s.accumulated.width ≡ 2 ^ (arc_value s.part).plan.log2m
+  pub room : (arc_value s.part).plan.limit + 1 ≤ vec_capacity s.sums
+
+-- the index is that of the part, and the rows that differ from what is accumulated are marked
+pub record IsReplica (r : replica.Inside) : Type 0 where
+  pub index : r.targets ≡ targets_of r.known.part
+  pub touched : AreTouched r.known.rows r.known.accumulated r.touched.items

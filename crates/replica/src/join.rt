@@ -7,7 +7,7 @@ ghost use Rattle.ball_model.specs.State.{StandsFor, content_of, further};
 ghost use Rattle.ball_model.proofs.JoinLemmas.{join_commutes, join_associates, join_repeats, alike_turns, alike_through, join_stays_alike};
 ghost use Rattle.replica.specs.Merged.{ShowsAs, holding};
 
-use crate::{Replica, saved, step};
+use crate::Replica;
 use registers::Join;
 use std::alloc::{AllocError, Global};
 
@@ -26,13 +26,12 @@ impl Join for Replica {
 
     /// Whether the two are of one plan and one partition.
     fn alike(&self, other: &Replica) -> bool {
-        step::is_same(self.part.plan(), other.part.plan())
-            && self.part.partition() == other.part.partition()
+        self.known.is_alike(&other.known)
     }
 
     /// Takes over what `other` knows, as [`Replica::merge`] does with a snapshot of it.
     ///
-    /// It takes the memory of that snapshot for as long as it works.
+    /// It takes memory for the list of shared batches, for as long as it works.
     fn join(&mut self, alloc: Global, other: &Replica) -> Result<(), AllocError>
         requires { AreAlike (holding self.old) (holding other.now) }
         ensures joined { OnOk result (holding self.new ≡ join_of (holding self.old) (holding other.now)) }
@@ -43,9 +42,14 @@ impl Join for Replica {
         ensures shown { OnOk result (ShowsAs self.new (further self.old other.now)) }
         ensures stands { (j : Job) (p t u : ℕ) → StandsFor j p t self.old → StandsFor j p u other.now → OnOk result (StandsFor j p (max t u) self.new) }
     {
-        let known = other.snapshot(alloc)?;
-        let kept = saved::share(alloc, &known.kept)?;
-        self.absorb(&known, kept);
+        let shared = other.known.shared(alloc)?;
+        self.known.absorb(
+            alloc,
+            &self.targets,
+            &mut self.touched,
+            &other.known,
+            shared,
+        );
         Ok(())
     }
 

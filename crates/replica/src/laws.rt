@@ -8,7 +8,7 @@ ghost use Rattle.replica.specs.Runs.{RunStands, RunAnswers, RunIsInTime, StableI
 /// snapshots of replicas of the same partition, a replica stands for what the calls make of its content, at a
 /// superstep of at most the end, and each call answers what the content says. Its verdict is stable exactly where its
 /// level is held, the superstep is not 0, and no vertex of the graph is changed; then each of its rows is the counter
-/// of all vertices that can reach its vertex.
+/// of all counted vertices that can reach its vertex.
 pub fn end_to_end()
     ensures stands { RunStands }
     ensures answers { RunAnswers }

@@ -1,82 +1,141 @@
-//! What a replica does with its marks, its batches and its figures.
+//! What a replica does with the batches of its superstep, and with its figures.
 
-ghost use Rattle.std.specs.Prelude.{◌≡◌, ℕ, ◌<◌, ◌≤◌, ◌+◌, ◌*◌, ◌^◌, not, false, length, slice_index_or, option_map, None, if◌then◌else◌, map, replicate, ◌==◌, ◌&&◌, is_some, count_by};
-ghost use Rattle.std.specs.Arc.{arc_value};
-ghost use Rattle.std.specs.List.{range_with_len, find, list_any, sum_by};
+ghost use Rattle.std.specs.Prelude.{◌≡◌, ℕ, List, ◌<◌, ◌≤◌, ◌+◌, ◌*◌, ◌^◌, false, not, [], slice_set, length, slice_index_or, option_map, Some, map, IfSome, count_by};
+ghost use Rattle.std.specs.List.{sum_by, list_any};
+ghost use Rattle.std.specs.Str.{bytes_eq};
+ghost use Rattle.ball_model.specs.Counter.{max_each};
 ghost use Rattle.ball_model.specs.Figures.{estimate_of};
 ghost use Rattle.ball_model.specs.Laws.{IsCounterRow};
+ghost use Rattle.ball_model.specs.State.{early_at};
 ghost use Rattle.figures.specs.Values.{value_of};
-ghost use Rattle.replica.specs.Level.{is_busy, differing, shifted, stepped, stepped_all};
-ghost use Rattle.replica.specs.Kept.{AreCounters, AreLasts};
-ghost use Rattle.replica.specs.Merged.{either, filled, gathered, shifted_by};
-ghost use Rattle.ball_model.specs.State.{holds_in};
+ghost use Rattle.replica.specs.Ahead.{IsTable};
+ghost use Rattle.replica.specs.Level.{differing, stepped, stepped_all};
+ghost use Rattle.replica.specs.Kept.{AreCounters, AreLasts, AllRise, IsFrom};
+ghost use Rattle.replica.specs.Spread.{AreTouched, LeadInside};
+ghost use Rattle.replica.specs.Hearing.{Hears, told_by};
 
+use crate::early::Early;
+use crate::spread::spread_batch;
+use crate::targets::Targets;
+use ball_model::Plan;
 use batches::Batch;
-use edgelist::Part;
 use figures::{Tally, estimate};
-use registers::Rows;
-use std::sync::Arc;
+use registers::{Rows, SourceMask};
 
-/// The least source other than the given one with no batch.
-pub fn first_missing(kept: &[Option<Arc<Batch>>], parts: u16, number: u16) -> Option<u16>
-    requires { parts ≤ length kept.now }
-    ensures { result ≡ find (λ q. not (q == number) && not (is_some (slice_index_or (map (option_map arc_value) kept.now) q None))) (range_with_len 0 parts) }
+/// Hears a batch of the superstep: its rows are spread, and its source is heard.
+pub fn hear(
+    targets: &Targets,
+    batch: &Batch,
+    heard: &mut SourceMask,
+    heard_change: &mut bool,
+    accumulated: &mut Rows,
+    touched: &mut [bool],
+)
+    requires sources { length heard.old ≡ 64 }
+    requires width { accumulated.old.width ≡ 2 ^ batch.now.plan.log2m }
+    requires inside { LeadInside (length accumulated.old.rows) targets.now }
+    requires count { length touched.old ≡ length accumulated.old.rows }
+    requires rows { AreCounters batch.now.plan.log2m accumulated.old.rows }
+    ensures width { accumulated.new.width ≡ accumulated.old.width }
+    ensures hears { Hears batch.now.plan.log2m targets.now (told_by batch.now.name.source (Some batch.now))
+        (record { heard = heard.old; change = heard_change.old; accumulated = accumulated.old.rows })
+        (record { heard = heard.new; change = heard_change.new; accumulated = accumulated.new.rows }) }
+    ensures touched { (rows : List (List ℕ)) → AreTouched rows accumulated.old.rows touched.old → AreTouched rows accumulated.new.rows touched.new }
 {
-    for q in 0..parts {
-        if is_missing(kept, q, number) {
-            return Some(q);
-        }
+    spread_batch(targets, batch, accumulated, touched);
+    heard.insert(batch.name().source);
+    *heard_change |= batch.changed() != 0;
+}
+
+// Hears the batch of a source, where there is one.
+fn hear_if(
+    targets: &Targets,
+    plan: &Plan,
+    source: u16,
+    batch: Option<&Batch>,
+    heard: &mut SourceMask,
+    heard_change: &mut bool,
+    accumulated: &mut Rows,
+    touched: &mut [bool],
+)
+    requires sources { length heard.old ≡ 64 }
+    requires width { accumulated.old.width ≡ 2 ^ plan.now.log2m }
+    requires inside { LeadInside (length accumulated.old.rows) targets.now }
+    requires count { length touched.old ≡ length accumulated.old.rows }
+    requires rows { AreCounters plan.now.log2m accumulated.old.rows }
+    requires batch { IfSome batch (λ b. IsFrom plan.now source b.now) }
+    ensures width { accumulated.new.width ≡ accumulated.old.width }
+    ensures hears { Hears plan.now.log2m targets.now (told_by source (option_map (λ b. b.now) batch.entry))
+        (record { heard = heard.old; change = heard_change.old; accumulated = accumulated.old.rows })
+        (record { heard = heard.new; change = heard_change.new; accumulated = accumulated.new.rows }) }
+    ensures touched { (rows : List (List ℕ)) → AreTouched rows accumulated.old.rows touched.old → AreTouched rows accumulated.new.rows touched.new }
+{
+    match batch {
+        Some(batch) => hear(targets, batch, heard, heard_change, accumulated, touched),
+        None => {}
     }
-    None
 }
 
-// Whether a source other than the given one has no batch.
-fn is_missing(kept: &[Option<Arc<Batch>>], q: u16, number: u16) -> bool
-    requires { q < length kept.now }
-    ensures { result ≡ (not (q == number) && not (is_some (slice_index_or (map (option_map arc_value) kept.now) q None))) }
+/// Hears the batches of the next superstep, which has begun.
+pub fn hear_early(
+    targets: &Targets,
+    plan: &Plan,
+    early: &Early,
+    heard: &mut SourceMask,
+    heard_change: &mut bool,
+    accumulated: &mut Rows,
+    touched: &mut [bool],
+)
+    requires sources { length heard.old ≡ 64 }
+    requires width { accumulated.old.width ≡ 2 ^ plan.now.log2m }
+    requires inside { LeadInside (length accumulated.old.rows) targets.now }
+    requires count { length touched.old ≡ length accumulated.old.rows }
+    requires rows { AreCounters plan.now.log2m accumulated.old.rows }
+    requires table { IsTable plan.now.parts early.now }
+    requires batches { (q : ℕ) → IfSome (early_at early.now 0 q) (IsFrom plan.now q) }
+    ensures width { accumulated.new.width ≡ accumulated.old.width }
+    ensures hears { Hears plan.now.log2m targets.now (λ q. early_at early.now 0 q)
+        (record { heard = heard.old; change = heard_change.old; accumulated = accumulated.old.rows })
+        (record { heard = heard.new; change = heard_change.new; accumulated = accumulated.new.rows }) }
+    ensures touched { (rows : List (List ℕ)) → AreTouched rows accumulated.old.rows touched.old → AreTouched rows accumulated.new.rows touched.new }
 {
-    q != number && kept[usize::from(q)].is_none()
-}
-
-/// Whether some source tells of a changed vertex: the given one by its marks, the others by their batches.
-pub fn is_any_busy(marks: &[bool], kept: &[Option<Arc<Batch>>], parts: u16, number: u16) -> bool
-    requires { parts ≤ length kept.now }
-    ensures { result ≡ list_any (λ q. if q == number then list_any (λ mark. mark) marks.now else is_busy (slice_index_or (map (option_map arc_value) kept.now) q None)) (range_with_len 0 parts) }
-{
-    for q in 0..parts {
-        if is_source_busy(marks, kept, q, number) {
-            return true;
-        }
+    for source in 0..plan.parts() {
+        let batch = early.get(0, source);
+        hear_if(
+            targets,
+            plan,
+            source,
+            batch,
+            heard,
+            heard_change,
+            accumulated,
+            touched,
+        );
     }
-    false
 }
 
-// Whether a source tells of a changed vertex.
-fn is_source_busy(marks: &[bool], kept: &[Option<Arc<Batch>>], q: u16, number: u16) -> bool
-    requires { q < length kept.now }
-    ensures { result ≡ (if q == number then list_any (λ mark. mark) marks.now else is_busy (slice_index_or (map (option_map arc_value) kept.now) q None)) }
+/// Each marked row becomes what was accumulated for it; the others have it already.
+pub fn catch_up(rows: &mut Rows, accumulated: &Rows, touched: &[bool])
+    requires width { rows.old.width ≡ accumulated.now.width }
+    requires touched { AreTouched rows.old.rows accumulated.now.rows touched.now }
+    ensures { rows.new ≡ accumulated.now }
 {
-    if q == number {
-        is_marked(marks)
-    } else {
-        is_batch_busy(&kept[usize::from(q)])
+    for i in 0..touched.len() {
+        catch_up_row(rows, accumulated, i, touched[i]);
     }
 }
 
-// Whether some mark is set.
-fn is_marked(marks: &[bool]) -> bool
-    ensures { result ≡ list_any (λ mark. mark) marks.now }
+// A marked row becomes what was accumulated for it; another one has it already.
+fn catch_up_row(rows: &mut Rows, accumulated: &Rows, i: usize, changed: bool)
+    requires width { rows.old.width ≡ accumulated.now.width }
+    requires count { length rows.old.rows ≡ length accumulated.now.rows }
+    requires row { i < length rows.old.rows }
+    requires above { max_each (slice_index_or rows.old.rows i []) (slice_index_or accumulated.now.rows i []) ≡ slice_index_or accumulated.now.rows i [] }
+    requires differs { changed ≡ not (bytes_eq (slice_index_or accumulated.now.rows i []) (slice_index_or rows.old.rows i [])) }
+    ensures { rows.new ≡ record rows.old { rows = slice_set rows.old.rows i (slice_index_or accumulated.now.rows i []) } }
 {
-    marks.iter().any(|mark| *mark)
-}
-
-// Whether a batch that may be kept tells of a changed vertex.
-fn is_batch_busy(kept: &Option<Arc<Batch>>) -> bool
-    ensures { result ≡ is_busy (option_map arc_value kept.now) }
-{
-    match kept {
-        Some(batch) => batch.changed() != 0,
-        None => false,
+    if changed {
+        let _raised = rows.raise(i, accumulated.row(i));
     }
 }
 
@@ -91,132 +150,52 @@ pub fn mark(old: &Rows, new: &Rows, marks: &mut [bool])
     }
 }
 
-/// The batches move so many places nearer, and the first ones go.
-pub fn shift(kept: &mut [Option<Arc<Batch>>], count: usize)
-    requires { count ≤ length kept.old }
-    ensures { map (option_map arc_value) kept.new ≡ shifted count (map (option_map arc_value) kept.old) }
+/// No row is marked.
+pub fn clear_marks(marks: &mut [bool])
+    ensures { (i : ℕ) → slice_index_or marks.new i false ≡ false }
 {
-    clear(&mut kept[..count]);
-    kept.rotate_left(count);
-}
-
-// Lets each batch go.
-fn clear(kept: &mut [Option<Arc<Batch>>])
-    ensures { map (option_map arc_value) kept.new ≡ replicate (length kept.old) None }
-{
-    for i in 0..kept.len() {
-        kept[i] = None;
+    for i in 0..marks.len() {
+        marks[i] = false;
     }
 }
 
-/// Joins what two keep, at supersteps `mine` and `theirs`: `kept` has, at the greater one, what either had.
-pub fn gather(
-    kept: &mut [Option<Arc<Batch>>],
-    mine: u32,
-    others: &mut [Option<Arc<Batch>>],
-    theirs: u32,
-    parts: u16,
-)
-    requires kept { length kept.old ≡ 4 * parts }
-    requires others { length others.old ≡ 4 * parts }
-    ensures { map (option_map arc_value) kept.new ≡ gathered parts mine theirs (map (option_map arc_value) kept.old) (map (option_map arc_value) others.old) }
-{
-    bring(kept, theirs.saturating_sub(mine), parts);
-    bring(others, mine.saturating_sub(theirs), parts);
-    fill(kept, others);
-}
-
-// The batches move so many supersteps nearer.
-fn bring(kept: &mut [Option<Arc<Batch>>], supersteps: u32, parts: u16)
-    requires { length kept.old ≡ 4 * parts }
-    ensures { map (option_map arc_value) kept.new ≡ shifted_by parts supersteps (map (option_map arc_value) kept.old) }
-{
-    shift(kept, supersteps.min(4) as usize * usize::from(parts));
-}
-
-// Each empty slot takes what the other one at its place has.
-fn fill(kept: &mut [Option<Arc<Batch>>], others: &mut [Option<Arc<Batch>>])
-    requires { length others.old ≡ length kept.old }
-    ensures { map (option_map arc_value) kept.new ≡ filled (map (option_map arc_value) kept.old) (map (option_map arc_value) others.old) }
-{
-    for i in 0..kept.len() {
-        fill_one(&mut kept[i], &mut others[i]);
-    }
-}
-
-// A slot that is empty takes what the other one has.
-fn fill_one(slot: &mut Option<Arc<Batch>>, other: &mut Option<Arc<Batch>>)
-    ensures { option_map arc_value slot.new ≡ either (option_map arc_value slot.old) (option_map arc_value other.old) }
-{
-    if slot.is_none() {
-        *slot = other.take();
-    }
-}
-
-/// Whether the batch of a superstep and a source is among those that are kept at superstep `now`.
-pub fn is_held(
-    part: &Part,
-    now: u32,
-    kept: &[Option<Arc<Batch>>],
-    superstep: u32,
-    source: u16,
-) -> bool
-    requires now { now ≤ part.now.plan.limit }
-    requires kept { length kept.now ≡ 4 * part.now.plan.parts }
-    ensures { result ≡ holds_in part.now.plan part.now.number now (map (option_map arc_value) kept.now) superstep source }
-{
-    let plan = part.plan();
-    if plan.limit() < superstep || superstep < now || now + 3 < superstep {
-        return false;
-    }
-    if plan.parts() <= source || source == part.partition() {
-        return false;
-    }
-    let level = (superstep - now) as usize;
-    is_kept(
-        kept,
-        level * usize::from(plan.parts()) + usize::from(source),
-    )
-}
-
-// Whether something is kept at a place.
-fn is_kept(kept: &[Option<Arc<Batch>>], place: usize) -> bool
-    requires { place < length kept.now }
-    ensures { result ≡ is_some (slice_index_or (map (option_map arc_value) kept.now) place None) }
-{
-    kept[place].is_some()
-}
-
-/// The figures at superstep `t` of all rows, whose marks say which of them changed.
-pub fn step_tallies(log2m: u8, t: u32, rows: &Rows, marks: &[bool], tallies: &mut [Tally])
+/// The figures at superstep `t` of all rows, whose marks say which of them changed; the answer is what the sum of the
+/// last estimates has gained. Figures of rows that did not change stay as they are.
+pub fn step_tallies(log2m: u8, t: u32, rows: &Rows, marks: &[bool], tallies: &mut [Tally]) -> u128
     requires from { 0 < t }
     requires to { t ≤ 4096 }
     requires rows { AreCounters log2m rows.now.rows }
     requires marks { length marks.now ≡ length rows.now.rows }
     requires count { length tallies.old ≡ length rows.now.rows }
     requires lasts { AreLasts log2m rows.now.rows marks.now (map value_of tallies.old) }
-    ensures { map value_of tallies.new ≡ stepped_all log2m t rows.now.rows (map value_of tallies.old) (length rows.now.rows) }
+    ensures tallies { map value_of tallies.new ≡ stepped_all log2m t rows.now.rows (map value_of tallies.old) (length rows.now.rows) }
+    ensures gain { sum_by (λ tally. tally.last) tallies.new ≡ sum_by (λ tally. tally.last) tallies.old + result }
 {
+    let mut gain = 0;
     for (i, tally) in tallies.iter_mut().enumerate() {
-        step_tally(log2m, t, rows.row(i), marks[i], tally);
+        gain += step_tally(log2m, t, rows.row(i), marks[i], tally);
     }
+    gain
 }
 
-// The figures at superstep `t` of a row. Where it has not changed, its estimate is the last one.
-fn step_tally(log2m: u8, t: u32, row: &[u8], changed: bool, tally: &mut Tally)
+// The figures at superstep `t` of a row; the answer is what its estimate has gained. Where the row has not changed,
+// they stay as they are.
+fn step_tally(log2m: u8, t: u32, row: &[u8], changed: bool, tally: &mut Tally) -> u128
     requires from { 0 < t }
     requires to { t ≤ 4096 }
     requires row { IsCounterRow log2m row.now }
     requires grown { tally.old.last ≤ estimate_of log2m row.now }
     requires same { changed ≡ false → tally.old.last ≡ estimate_of log2m row.now }
-    ensures { value_of tally.new ≡ stepped t (value_of tally.old) (estimate_of log2m row.now) }
+    ensures value { value_of tally.new ≡ stepped t (value_of tally.old) (estimate_of log2m row.now) }
+    ensures gain { tally.new.last ≡ tally.old.last + result }
+    ensures small { result < 2 ^ 64 }
 {
-    let now = if changed {
-        estimate(log2m, row)
-    } else {
-        tally.last
-    };
-    tally.step(t, now);
+    if !changed {
+        return 0;
+    }
+    let before = tally.last;
+    tally.step(t, estimate(log2m, row));
+    u128::from(tally.last - before)
 }
 
 /// The sum of the last estimates.
@@ -236,4 +215,11 @@ pub fn count_marks(marks: &[bool]) -> usize
     ensures within { result ≤ length marks.now }
 {
     marks.iter().filter(|mark| **mark).count()
+}
+
+/// Whether some mark is set.
+pub fn is_marked(marks: &[bool]) -> bool
+    ensures { result ≡ list_any (λ mark. mark) marks.now }
+{
+    marks.iter().any(|mark| *mark)
 }

@@ -26,62 +26,35 @@
 //! Only [`Replica::new`], [`Replica::out`], [`Replica::snapshot`], [`Replica::merge`] and a join take memory.
 #![tactic(auto)]
 
-mod grow;
+mod early;
 mod join;
 pub mod laws;
 mod level;
 mod merge;
+mod node;
 mod out;
-mod read;
-mod saved;
+mod shown;
+mod spread;
 mod start;
 mod step;
+mod targets;
 
-use batches::Batch;
+use early::Early;
 use edgelist::Part;
 use figures::Tally;
-use registers::Rows;
+use registers::{Rows, SourceMask};
 use std::marker::Model;
 use std::sync::Arc;
+use targets::Targets;
 
 #[cfg(test)]
 mod tests;
 
-/// One partition's state at a superstep, and the batches that it holds.
-///
-/// Its memory is taken when it is made: two rows of 2^log2m bytes and a tally for each vertex, a slot for each source
-/// and each of four supersteps, and a sum for each superstep up to the limit.
-#[derive(Drop)]
-pub struct Replica {
-    part: Arc<Part>,
-    superstep: u32,
-    rows: Rows,
-    // the place where `close` makes the next rows
-    next: Rows,
-    marks: Vec<bool>,
-    tallies: Vec<Tally>,
-    sums: Vec<u128>,
-    // at (s - superstep) * parts + source, the batch of superstep s and that source
-    kept: Vec<Option<Arc<Batch>>>,
-}
-
-impl Model for Replica {
-    ghost use Rattle.ball_model.specs.State.{State};
-
-    ghost Value = { State };
-
-    ghost use Rattle.replica.specs.Seen.{state_of, IsReplica};
-
-    ghost view = { state_of };
-
-    ghost invariant = { IsReplica };
-}
-
 /// What a replica has at a superstep, without the room that later supersteps take.
 ///
-/// Another replica of the partition, one that was lost, restarted or late, takes it over by [`Replica::merge`].
-/// Batches are shared with the replica that it is of, the rest is a copy: what the replica does afterwards changes
-/// nothing here.
+/// Another replica of the partition, one that was lost, restarted or late, takes it over by
+/// [`Replica::merge`]. Batches are shared with the replica that it is of, the rest is a copy:
+/// what the replica does afterwards changes nothing here.
 #[derive(Drop)]
 pub struct Snapshot {
     part: Arc<Part>,
@@ -89,8 +62,15 @@ pub struct Snapshot {
     rows: Rows,
     marks: Vec<bool>,
     tallies: Vec<Tally>,
+    // there is room for one a superstep up to the limit
     sums: Vec<u128>,
-    kept: Vec<Option<Arc<Batch>>>,
+    // which sources of the superstep are heard
+    heard: SourceMask,
+    // whether one of them tells of a changed vertex
+    heard_change: bool,
+    // the rows, raised by those of the sources that are heard
+    accumulated: Rows,
+    early: Early,
 }
 
 impl Model for Snapshot {
@@ -98,9 +78,34 @@ impl Model for Snapshot {
 
     ghost Value = { State };
 
-    ghost use Rattle.replica.specs.Saved.{saved_of, IsSnapshot};
+    ghost use Rattle.replica.specs.Seen.{state_of, IsSnapshot};
 
-    ghost view = { saved_of };
+    ghost view = { state_of };
 
     ghost invariant = { IsSnapshot };
+}
+
+/// One partition's state at a superstep, and the batches that it holds.
+///
+/// Its memory is taken when it is made: two rows of 2^log2m bytes and a tally for each vertex, 4 bytes for each edge
+/// into the partition, a slot for each source and each of three supersteps, and a sum for each superstep up to the
+/// limit.
+#[derive(Drop)]
+pub struct Replica {
+    known: Snapshot,
+    targets: Targets,
+    // which rows differ from what is accumulated for them
+    touched: Vec<bool>,
+}
+
+impl Model for Replica {
+    ghost use Rattle.ball_model.specs.State.{State};
+
+    ghost Value = { State };
+
+    ghost use Rattle.replica.specs.Seen.{IsReplica};
+
+    ghost view = { λ r. r.known };
+
+    ghost invariant = { IsReplica };
 }

@@ -7,26 +7,14 @@ ghost use Rattle.ball_model.specs.State.{StandsFor};
 ghost use Rattle.replica.specs.Sent.{has_bit, sent_batch};
 ghost use Rattle.replica.specs.Seen.{IsState};
 
-use crate::Replica;
+use crate::Snapshot;
 use ball_model::BatchName;
 use batches::Batch;
 use std::alloc::{AllocError, Global};
 
-impl Replica {
-    /// What the partition tells another one, `target`, of this superstep.
-    ///
-    /// The batch has the registers of each vertex that changed and has an edge into the target, ascending, and the
-    /// number of all vertices that changed. It is to be sent where it has no rows too: a level is held only with it.
-    pub fn out(&self, alloc: Global, target: u16) -> Result<Batch, AllocError>
-        requires target { target < self.now.part.plan.parts }
-        requires other { target ≢ self.now.part.number }
-        ensures stands { (j : Job) (p t : ℕ) → StandsFor j p t self.now → IfOk result (λ b. b ≡ true_batch j (record { superstep = t; source = p; target = target })) }
-    {
-        self.sent(alloc, target)
-    }
-
-    // The batch, as it is read off what the replica has.
-    fn sent(&self, alloc: Global, target: u16) -> Result<Batch, AllocError>
+impl Snapshot {
+    /// What the partition tells another one of this superstep, as it is read off what the replica has.
+    pub(crate) fn sent(&self, alloc: Global, target: u16) -> Result<Batch, AllocError>
         requires target { target < self.now.part.plan.parts }
         ensures sent { IfOk result (λ b. b ≡ sent_batch self.now target (length self.now.part.preds)) }
         ensures state { IsState self.now }

@@ -1,32 +1,58 @@
 //! What a replica begins with.
 
-ghost use Rattle.std.specs.Prelude.{◌≡◌, ℕ, ◌<◌, ◌≤◌, ◌+◌, ◌*◌, ◌^◌, length, option_map, None, map, replicate, IfOk};
+ghost use Rattle.std.specs.Prelude.{◌≡◌, ℕ, ◌<◌, ◌≤◌, ◌+◌, ◌*◌, ◌^◌, length, map, replicate, slice_index_or, slice_set, [], IfOk};
 ghost use Rattle.std.specs.Arc.{arc_value};
 ghost use Rattle.std.specs.Vec.{vec_len};
 ghost use Rattle.ball_model.specs.Figures.{estimate_of};
 ghost use Rattle.figures.specs.Values.{value_of};
 ghost use Rattle.replica.specs.Kept.{AreCounters};
-ghost use Rattle.replica.specs.Start.{first_rows, started};
+ghost use Rattle.replica.specs.Start.{Starts, first_row, first_rows, started};
 
+use crate::early::Early;
+use crate::{Snapshot, level, shown};
 use ball_model::{mix, place};
-use batches::Batch;
 use edgelist::Part;
 use figures::{Tally, estimate};
-use registers::Rows;
+use registers::{Rows, SourceMask};
 use std::alloc::{AllocError, Global};
 use std::sync::Arc;
 
-/// The registers of each vertex of the part alone.
+// The row of vertex i, which is empty, becomes that of the vertex alone, where it is counted.
+fn start_row(part: &Part, i: u32, rows: &mut Rows)
+    requires place { i < length part.now.preds }
+    requires count { length rows.old.rows ≡ length part.now.preds }
+    requires width { rows.old.width ≡ 2 ^ part.now.plan.log2m }
+    requires empty { slice_index_or rows.old.rows i [] ≡ replicate (2 ^ part.now.plan.log2m) 0 }
+    ensures { rows.new ≡ record rows.old { rows = slice_set rows.old.rows i (first_row part.now i) } }
+{
+    if part.counts(i) {
+        let plan = part.plan();
+        let (index, rank) = place(plan.log2m(), mix(plan.seed(), part.vertex(i)));
+        let _raised = rows.raise_one(i as usize, usize::from(index), rank);
+    }
+}
+
+/// The registers that the vertices of the part begin with.
 pub fn start_rows(alloc: Global, part: &Part) -> Result<Rows, AllocError>
     ensures { IfOk result (λ rows. rows ≡ record { width = 2 ^ part.now.plan.log2m; rows = first_rows part.now }) }
 {
     let plan = part.plan();
     let mut rows = Rows::fixed(alloc, part.size(), plan.width() as u16)?;
     for i in 0..part.size() {
-        let (index, rank) = place(plan.log2m(), mix(plan.seed(), part.vertex(i)));
-        let _raised = rows.raise_one(i as usize, usize::from(index), rank);
+        start_row(part, i, &mut rows);
     }
     Ok(rows)
+}
+
+/// Which vertices of the part are changed at superstep 0: those that are counted.
+pub fn start_marks(alloc: Global, part: &Part) -> Result<Vec<bool>, AllocError>
+    ensures { IfOk result (λ marks. marks.items ≡ part.now.counted) }
+{
+    let mut marks = Vec::with_capacity(alloc, part.size() as usize)?;
+    for i in 0..part.size() {
+        marks.push(part.counts(i))?;
+    }
+    Ok(marks)
 }
 
 /// Figures that begin with the estimates of rows.
@@ -41,13 +67,31 @@ pub fn start_tallies(alloc: Global, log2m: u8, rows: &Rows) -> Result<Vec<Tally>
     Ok(tallies)
 }
 
-/// Room for `count` batches.
-pub fn start_kept(alloc: Global, count: usize) -> Result<Vec<Option<Arc<Batch>>>, AllocError>
-    ensures { IfOk result (λ kept. map (option_map arc_value) kept.items ≡ replicate count None) }
+/// What a replica of the part begins with, at superstep 0.
+pub fn first(alloc: Global, part: Arc<Part>) -> Result<Snapshot, AllocError>
+    ensures { IfOk result (λ r. Starts (arc_value part) r) }
 {
-    let mut kept = Vec::with_capacity(alloc, count)?;
-    for _ in 0..count {
-        kept.push(None)?;
-    }
-    Ok(kept)
+    let plan = part.plan();
+    // the limits of a part are told with its number
+    prove!(part.partition() < plan.parts());
+    let rows = start_rows(alloc, &part)?;
+    let accumulated = shown::copy_rows(alloc, &rows)?;
+    let marks = start_marks(alloc, &part)?;
+    let tallies = start_tallies(alloc, plan.log2m(), &rows)?;
+    let mut sums = Vec::with_capacity(alloc, plan.limit() as usize + 1)?;
+    sums.push_reserved(level::sum_of_lasts(&tallies));
+    let heard = SourceMask::empty();
+    let early = Early::empty(alloc, plan.parts())?;
+    Ok(Snapshot {
+        part,
+        superstep: 0,
+        rows,
+        marks,
+        tallies,
+        sums,
+        heard,
+        heard_change: false,
+        accumulated,
+        early,
+    })
 }

@@ -5,6 +5,7 @@ use super::*;
 use ball_model::{
     BatchName, CloseError, CountingReader, MergeError, Plan, TakeError, Taken, Verdict,
 };
+use batches::Batch;
 use edgelist::{Delimiter, EdgeLimits, Graph, read_edges};
 use registers::{Join, reconcile};
 use std::alloc::AllocError;
@@ -16,13 +17,15 @@ const ROW_A: [u8; 16] = [0, 0, 0, 0, 0, 0, 0, 0, 0, 0, 0, 0, 0, 0, 3, 0];
 
 const ROW_B: [u8; 16] = [0, 0, 0, 0, 0, 0, 1, 0, 0, 0, 0, 0, 0, 0, 0, 0];
 
+const ROW_C: [u8; 16] = [2, 0, 0, 0, 0, 0, 0, 0, 0, 0, 0, 0, 0, 0, 0, 0];
+
 const ROW_AB: [u8; 16] = [0, 0, 0, 0, 0, 0, 1, 0, 0, 0, 0, 0, 0, 0, 3, 0];
 
 const ROW_BC: [u8; 16] = [2, 0, 0, 0, 0, 0, 1, 0, 0, 0, 0, 0, 0, 0, 0, 0];
 
 const ROW_ABC: [u8; 16] = [2, 0, 0, 0, 0, 0, 1, 0, 0, 0, 0, 0, 0, 0, 3, 0];
 
-/// A graph of an edge list with tabs.
+/// A graph of an edge list with tabs, whose vertices are all counted.
 fn graph(rt: &HostRuntime, text: &[u8]) -> Option<Graph> {
     let limits = EdgeLimits {
         vertices: 100,
@@ -47,6 +50,17 @@ fn seeded(
     limit: u32,
 ) -> Option<Vec<Replica>> {
     let graph = graph(rt, text)?;
+    parted(rt, &graph, seed, parts, limit)
+}
+
+/// A replica of each partition of the graph, at 16 registers under that seed.
+fn parted(
+    rt: &HostRuntime,
+    graph: &Graph,
+    seed: u64,
+    parts: u16,
+    limit: u32,
+) -> Option<Vec<Replica>> {
     let plan = graph.plan(4, seed, parts, limit).ok()?;
     let mut all = Vec::new(rt.alloc());
     for p in 0..plan.parts() {
@@ -129,7 +143,7 @@ fn run(rt: &HostRuntime, all: &mut [Replica], count: u32) -> bool {
 /// The registers of a vertex in the replica that owns it.
 fn has_row(all: &[Replica], x: u32, wanted: &[u8]) -> bool {
     for replica in all {
-        if x < replica.plan().vertices() && replica.plan().partition_of(x) == replica.partition() {
+        if replica.owns(x) {
             return replica.row(x) == wanted;
         }
     }
@@ -139,7 +153,7 @@ fn has_row(all: &[Replica], x: u32, wanted: &[u8]) -> bool {
 /// The figures of a vertex in the replica that owns it.
 fn figures_of(all: &[Replica], x: u32) -> Option<(u64, u64, u128)> {
     for replica in all {
-        if x < replica.plan().vertices() && replica.plan().partition_of(x) == replica.partition() {
+        if replica.owns(x) {
             let tally = replica.tally(x);
             return Some((tally.last, tally.harm, tally.dist));
         }
@@ -150,7 +164,7 @@ fn figures_of(all: &[Replica], x: u32) -> Option<(u64, u64, u128)> {
 /// Whether a vertex changed, in the replica that owns it.
 fn is_changed(all: &[Replica], x: u32) -> Option<bool> {
     for replica in all {
-        if x < replica.plan().vertices() && replica.plan().partition_of(x) == replica.partition() {
+        if replica.owns(x) {
             return Some(replica.changed(x));
         }
     }
@@ -163,182 +177,401 @@ fn all_say(all: &[Replica], wanted: Option<Verdict>) -> bool {
 }
 
 /// Replicas of the edges a to b and b to c, with the given partitions and limit.
-fn two_edges(rt: &HostRuntime, parts: u16, limit: u32) -> Vec<Replica> {
-    match replicas(rt, b"a\tb\nb\tc\n", parts, limit) {
-        Some(all) => all,
-        None => Vec::new(rt.alloc()),
+fn two_edges(rt: &HostRuntime, parts: u16, limit: u32) -> Option<Vec<Replica>> {
+    replicas(rt, b"a\tb\nb\tc\n", parts, limit)
+}
+
+/// The same replicas, or a failure of the test.
+fn start(rt: &HostRuntime, parts: u16, limit: u32) -> Result<Vec<Replica>, Fail> {
+    match two_edges(rt, parts, limit) {
+        Some(all) => Ok(all),
+        None => Err(Fail::new("no replicas of two edges")),
     }
 }
 
-#[test]
-fn all_batches_of_two_edges(rt: HostRuntime) {
-    let mut all = two_edges(&rt, 2, 4096);
-    let wanted = [
-        ((0, 2, 1, Some(0)), (0, 1, 1, Some(1))),
-        ((1, 1, 0, None), (1, 1, 1, Some(1))),
-        ((2, 1, 0, None), (2, 0, 0, None)),
-        ((3, 0, 0, None), (3, 0, 0, None)),
-    ];
-    for (first, second) in wanted {
-        assert_eq!(rt; sent(&rt, &all, 0, 1).map(|b| told(&b)), Some(first));
-        assert_eq!(rt; sent(&rt, &all, 1, 0).map(|b| told(&b)), Some(second));
-        assert!(rt; exchange(&rt, &mut all));
-        let _last = close_all(&mut all);
+/// What each partition tells the other at each superstep of two edges.
+const TOLD: [((u32, u32, u32, Option<u32>), (u32, u32, u32, Option<u32>)); 4] = [
+    ((0, 2, 1, Some(0)), (0, 1, 1, Some(1))),
+    ((1, 1, 0, None), (1, 1, 1, Some(1))),
+    ((2, 1, 0, None), (2, 0, 0, None)),
+    ((3, 0, 0, None), (3, 0, 0, None)),
+];
+
+/// Whether the two partitions tell each other this.
+fn tells(
+    rt: &HostRuntime,
+    all: &[Replica],
+    first: (u32, u32, u32, Option<u32>),
+    second: (u32, u32, u32, Option<u32>),
+) -> bool {
+    sent(rt, all, 0, 1).map(|b| told(&b)) == Some(first)
+        && sent(rt, all, 1, 0).map(|b| told(&b)) == Some(second)
+}
+
+/// Whether all batches of two edges are those that are expected, to the last superstep, which no replica closes.
+fn tells_all(rt: &HostRuntime, all: &mut [Replica]) -> bool {
+    let mut right = true;
+    for (first, second) in TOLD {
+        right &= tells(rt, all, first, second);
+        right &= exchange(rt, all);
+        right &= close_all(all) == (first.0 < 3);
     }
+    right
 }
 
 #[test]
-fn supersteps_of_two_edges(rt: HostRuntime) {
-    let mut all = two_edges(&rt, 2, 4096);
-    assert!(rt; all_say(&all, None));
-    assert!(rt; has_row(&all, 0, &ROW_A));
-    assert!(rt; has_row(&all, 1, &ROW_B));
-    assert!(rt; exchange(&rt, &mut all));
-    assert!(rt; all_say(&all, Some(Verdict::GoOn)));
-    assert!(rt; close_all(&mut all));
-    assert!(rt; has_row(&all, 0, &ROW_A));
-    assert!(rt; has_row(&all, 1, &ROW_AB));
-    assert!(rt; has_row(&all, 2, &ROW_BC));
-    assert_eq!(rt; is_changed(&all, 0), Some(false));
-    assert_eq!(rt; is_changed(&all, 2), Some(true));
-    assert!(rt; run(&rt, &mut all, 2));
-    assert!(rt; has_row(&all, 2, &ROW_ABC));
-    assert_eq!(rt; figures_of(&all, 2), Some((12_417_153, 751_274, 1_856_191)));
-    assert!(rt; exchange(&rt, &mut all));
-    assert!(rt; all_say(&all, Some(Verdict::Stable)));
-    assert!(rt; !close_all(&mut all));
+fn all_batches_of_two_edges(rt: HostRuntime) -> Result<(), Fail> {
+    let mut all = start(&rt, 2, 4096)?;
+    assert!(rt; tells_all(&rt, &mut all));
+    Ok(())
+}
+
+/// The bytes of what one replica tells another.
+fn written(rt: &HostRuntime, all: &[Replica], source: usize, target: usize) -> Option<Vec<u8>> {
+    sent(rt, all, source, target)?.encode(rt.alloc()).ok()
+}
+
+/// What partition 0 of two edges tells partition 1 of superstep 0: vertices 0 and 2 are changed, and 0 has an edge to
+/// a vertex of partition 1. The digest is the SHA-256 of the 47 bytes of the job.
+const BYTES: [u8; 74] = [
+    0x48, 0x42, 0x42, 0x54, // HBBT
+    1, 4, // version, log2m
+    0, 0, 0, 0, // superstep
+    0, 0, 0, 1, // source, target
+    0xe4, 0x87, 0x78, 0x82, 0x8d, 0xfe, 0xa5, 0x0f, 0x8c, 0x6f, 0x4c, 0x3f, 0x13, 0xc9, 0x4f, 0xf2,
+    0xeb, 0xd3, 0x33, 0xd7, 0xa4, 0x76, 0x10, 0x77, 0x8d, 0x84, 0xb6, 0xc7, 0xed, 0x7a, 0x08, 0xd3,
+    0, 0, 0, 2, // changed
+    0, 0, 0, 1, // rows
+    0, 0, 0, 0, // vertex 0
+    0, 0, 0, 0, 0, 0, 0, 0, 0, 0, 0, 0, 0, 0, 3, 0,
+];
+
+/// Whether the first batch of two edges has these bytes.
+fn is_written(rt: &HostRuntime) -> Option<bool> {
+    let all = two_edges(rt, 2, 4096)?;
+    let bytes = written(rt, &all, 0, 1)?;
+    Some(bytes.as_slice() == BYTES.as_slice())
 }
 
 #[test]
-fn sums_of_two_edges(rt: HostRuntime) {
-    let mut all = two_edges(&rt, 2, 4096);
-    assert!(rt; run(&rt, &mut all, 3));
+fn bytes_of_the_first_batch(rt: HostRuntime) {
+    assert_eq!(rt; is_written(&rt), Some(true));
+}
+
+/// Which of the first five vertices a replica owns.
+fn owned(replica: &Replica) -> [bool; 5] {
+    [
+        replica.owns(0),
+        replica.owns(1),
+        replica.owns(2),
+        replica.owns(3),
+        replica.owns(4),
+    ]
+}
+
+#[test]
+fn vertices_of_each_partition(rt: HostRuntime) -> Result<(), Fail> {
+    let all = start(&rt, 2, 4096)?;
+    assert_eq!(rt;
+        (all.get(0).map(|r| owned(r)), all.get(1).map(|r| owned(r))),
+        (
+            Some([true, false, true, false, false]),
+            Some([false, true, false, false, false])
+        )
+    );
+    Ok(())
+}
+
+/// Whether the first superstep of two edges is as expected, and is closed.
+fn first_superstep(rt: &HostRuntime, all: &mut [Replica]) -> bool {
+    all_say(all, None)
+        && has_row(all, 0, &ROW_A)
+        && has_row(all, 1, &ROW_B)
+        && exchange(rt, all)
+        && all_say(all, Some(Verdict::GoOn))
+        && close_all(all)
+}
+
+/// Whether two edges are as expected once the first superstep is closed.
+fn after_first(all: &[Replica]) -> bool {
+    has_row(all, 0, &ROW_A)
+        && has_row(all, 1, &ROW_AB)
+        && has_row(all, 2, &ROW_BC)
+        && is_changed(all, 0) == Some(false)
+        && is_changed(all, 2) == Some(true)
+}
+
+/// Whether two edges end as expected.
+fn last_supersteps(rt: &HostRuntime, all: &mut [Replica]) -> bool {
+    run(rt, all, 2)
+        && has_row(all, 2, &ROW_ABC)
+        && figures_of(all, 2) == Some((12_417_153, 751_274, 1_856_191))
+        && exchange(rt, all)
+        && all_say(all, Some(Verdict::Stable))
+        && !close_all(all)
+}
+
+#[test]
+fn supersteps_of_two_edges(rt: HostRuntime) -> Result<(), Fail> {
+    let mut all = start(&rt, 2, 4096)?;
+    let first = first_superstep(&rt, &mut all) && after_first(&all);
+    assert_eq!(rt; (first, last_supersteps(&rt, &mut all)), (true, true));
+    Ok(())
+}
+
+/// Whether replicas have these sums.
+fn have_sums(all: &[Replica], wanted: &[&[u128]]) -> bool {
+    all.len() == wanted.len()
+        && all
+            .iter()
+            .zip(wanted)
+            .all(|(replica, sums)| replica.sums() == *sums)
+}
+
+/// Whether all replicas are at a superstep.
+fn are_at(all: &[Replica], superstep: u32) -> bool {
+    all.iter().all(|replica| replica.superstep() == superstep)
+}
+
+#[test]
+fn sums_of_two_edges(rt: HostRuntime) -> Result<(), Fail> {
+    let mut all = start(&rt, 2, 4096)?;
+    let done = run(&rt, &mut all, 3) && are_at(&all, 3);
     let wanted = [
         [22_688_515u128, 23_071_484, 23_808_095, 23_808_095].as_slice(),
         [11_115_354u128, 11_780_376, 11_780_376, 11_780_376].as_slice(),
     ];
-    assert!(rt;
-        all.iter()
-            .zip(wanted)
-            .all(|(replica, sums)| replica.sums() == sums)
-    );
-    assert_eq!(rt;
-        all.iter()
-            .filter(|replica| replica.superstep() == 3)
-            .count(),
-        2
-    );
-}
-
-#[test]
-fn quiet_source_is_waited_for(rt: HostRuntime) {
-    let mut all = two_edges(&rt, 5, 4096);
-    for replica in all.iter_mut() {
-        let least = if replica.partition() == 0 { 1 } else { 0 };
-        assert_eq!(rt; replica.missing(), Some(least));
-        assert_eq!(rt; replica.close(), Err(CloseError::Waiting { source: least }));
-    }
-    assert_eq!(rt; tell(&rt, &mut all, 0, 4), Some(Ok(Taken::New)));
-    assert_eq!(rt; tell(&rt, &mut all, 1, 4), Some(Ok(Taken::New)));
-    assert_eq!(rt; tell(&rt, &mut all, 2, 4), Some(Ok(Taken::New)));
-    // Partition 3 has no vertices; its batch has no rows, and is waited for all the same.
-    assert!(rt;
-        all.iter_mut()
-            .filter(|replica| replica.partition() == 4)
-            .all(|replica| replica.close() == Err(CloseError::Waiting { source: 3 }))
-    );
-}
-
-#[test]
-fn five_partitions_of_two_edges(rt: HostRuntime) {
-    let mut all = two_edges(&rt, 5, 4096);
-    assert!(rt; run(&rt, &mut all, 3));
-    assert!(rt; exchange(&rt, &mut all));
-    assert!(rt; all_say(&all, Some(Verdict::Stable)));
-    assert!(rt; has_row(&all, 0, &ROW_A));
-    assert!(rt; has_row(&all, 1, &ROW_AB));
-    assert!(rt; has_row(&all, 2, &ROW_ABC));
-    assert_eq!(rt;
-        sent(&rt, &all, 4, 0).map(|b| told(&b)),
-        Some((3, 0, 0, None))
-    );
-    assert!(rt;
-        all.iter()
-            .filter(|replica| replica.partition() >= 3)
-            .all(|replica| replica.sums() == [0, 0, 0, 0].as_slice())
-    );
-}
-
-#[test]
-fn limit_of_one(rt: HostRuntime) {
-    let mut all = two_edges(&rt, 2, 1);
-    assert!(rt; run(&rt, &mut all, 1));
-    assert!(rt; exchange(&rt, &mut all));
-    assert!(rt; all_say(&all, Some(Verdict::Limit)));
-    for replica in all.iter_mut() {
-        assert_eq!(rt; replica.close(), Err(CloseError::Finished));
-    }
-}
-
-// What partition 1 tells of superstep 1 has a row of its vertex, and comes before what it tells of superstep 0.
-#[test]
-fn early_batch_with_rows(rt: HostRuntime) -> Result<(), Fail> {
-    let mut all = two_edges(&rt, 2, 4096);
-    let level = sent(&rt, &all, 1, 0);
-    assert_eq!(rt; tell(&rt, &mut all, 0, 1), Some(Ok(Taken::New)));
-    assert!(rt;
-        all.iter_mut()
-            .filter(|replica| replica.partition() == 1)
-            .all(|replica| replica.close() == Ok(1))
-    );
-    assert_eq!(rt;
-        sent(&rt, &all, 1, 0).map(|b| told(&b)),
-        Some((1, 1, 1, Some(1)))
-    );
-    assert_eq!(rt; tell(&rt, &mut all, 1, 0), Some(Ok(Taken::New)));
-    assert_eq!(rt; tell(&rt, &mut all, 1, 0), Some(Ok(Taken::Known)));
-    if let Some(batch) = level {
-        let batch = Arc::new(rt.alloc(), batch)?;
-        for replica in all.iter_mut() {
-            if replica.partition() == 0 {
-                assert_eq!(rt; replica.close(), Err(CloseError::Waiting { source: 1 }));
-                assert_eq!(rt; replica.take(Arc::try_clone(&batch)?), Ok(Taken::New));
-                assert_eq!(rt; replica.close(), Ok(1));
-                assert_eq!(rt; replica.take(Arc::try_clone(&batch)?), Ok(Taken::Old));
-            }
-        }
-    }
-    assert!(rt; has_row(&all, 2, &ROW_BC));
-    let name = BatchName {
-        superstep: 1,
-        source: 1,
-        target: 0,
-    };
-    assert_eq!(rt; all.iter().filter(|replica| replica.holds(name)).count(), 1);
-    assert_eq!(rt; tell(&rt, &mut all, 0, 1), Some(Ok(Taken::New)));
-    assert!(rt; close_all(&mut all));
-    assert!(rt; has_row(&all, 2, &ROW_ABC));
+    assert_eq!(rt; (done, have_sums(&all, &wanted)), (true, true));
     Ok(())
 }
 
-// Vertices 1 and 10 fall into one register, and 1 has the lesser rank: what 10 takes from 1 changes nothing, so it is
-// not sent, and its successor 5 loses nothing.
+/// Whether each replica waits for the least other source.
+fn all_wait(all: &mut [Replica]) -> bool {
+    let mut waiting = true;
+    for replica in all.iter_mut() {
+        let source = if replica.partition() == 0 { 1 } else { 0 };
+        waiting &= replica.missing() == Some(source);
+        waiting &= replica.close() == Err(CloseError::Waiting { source });
+    }
+    waiting
+}
+
+/// Whether the last of five replicas waits for partition 3, which has no vertices, once it has taken from the others:
+/// a batch with no rows is waited for all the same.
+fn waits_for_quiet(rt: &HostRuntime, all: &mut [Replica]) -> Option<bool> {
+    let mut news = true;
+    for source in 0..3 {
+        news &= tell(rt, all, source, 4) == Some(Ok(Taken::New));
+    }
+    let answer = all.get_mut(4)?.close();
+    Some(news && answer == Err(CloseError::Waiting { source: 3 }))
+}
+
+#[test]
+fn quiet_source_is_waited_for(rt: HostRuntime) -> Result<(), Fail> {
+    let mut all = start(&rt, 5, 4096)?;
+    let waiting = all_wait(&mut all);
+    assert_eq!(rt;
+        (waiting, waits_for_quiet(&rt, &mut all)),
+        (true, Some(true))
+    );
+    Ok(())
+}
+
+/// Whether two edges in five partitions end as in one.
+fn five_end(rt: &HostRuntime, all: &mut [Replica]) -> bool {
+    run(rt, all, 3)
+        && exchange(rt, all)
+        && all_say(all, Some(Verdict::Stable))
+        && has_row(all, 0, &ROW_A)
+        && has_row(all, 1, &ROW_AB)
+        && has_row(all, 2, &ROW_ABC)
+}
+
+/// Whether the replicas without vertices tell nothing.
+fn are_quiet(rt: &HostRuntime, all: &[Replica]) -> Option<bool> {
+    let quiet = sent(rt, all, 4, 0).map(|b| told(&b)) == Some((3, 0, 0, None));
+    let nothing = [0, 0, 0, 0].as_slice();
+    Some(quiet && all.get(3)?.sums() == nothing && all.get(4)?.sums() == nothing)
+}
+
+#[test]
+fn five_partitions_of_two_edges(rt: HostRuntime) -> Result<(), Fail> {
+    let mut all = start(&rt, 5, 4096)?;
+    let ended = five_end(&rt, &mut all);
+    assert_eq!(rt; (ended, are_quiet(&rt, &all)), (true, Some(true)));
+    Ok(())
+}
+
+/// Whether two replicas reach their limit after one superstep, and close no more.
+fn reach_limit(rt: &HostRuntime, all: &mut [Replica]) -> bool {
+    let mut reached = all.len() == 2
+        && run(rt, all, 1)
+        && exchange(rt, all)
+        && all_say(all, Some(Verdict::Limit));
+    for replica in all.iter_mut() {
+        reached &= replica.close() == Err(CloseError::Finished);
+    }
+    reached
+}
+
+#[test]
+fn limit_of_one(rt: HostRuntime) -> Result<(), Fail> {
+    let mut all = start(&rt, 2, 1)?;
+    assert!(rt; reach_limit(&rt, &mut all));
+    Ok(())
+}
+
+/// The accumulated registers of a vertex in the replica that owns it.
+fn has_accumulated(all: &[Replica], x: u32, wanted: &[u8]) -> bool {
+    for replica in all {
+        if replica.owns(x) {
+            return replica.accumulated(x) == wanted;
+        }
+    }
+    false
+}
+
+/// Partition 1 closes superstep 0, and partition 0 is told of superstep 1 twice, before it is told of superstep 0.
+fn tells_ahead(rt: &HostRuntime, all: &mut [Replica]) -> Option<bool> {
+    let mut done = tell(rt, all, 0, 1) == Some(Ok(Taken::New));
+    done &= all.get_mut(1)?.close() == Ok(1);
+    done &= sent(rt, all, 1, 0).map(|b| told(&b)) == Some((1, 1, 1, Some(1)));
+    done &= tell(rt, all, 1, 0) == Some(Ok(Taken::New));
+    done &= tell(rt, all, 1, 0) == Some(Ok(Taken::Known));
+    let replica = all.get_mut(0)?;
+    done &= replica.close() == Err(CloseError::Waiting { source: 1 });
+    // what is kept for later is not merged
+    Some(done && !replica.heard().has(1) && has_accumulated(all, 2, &ROW_C))
+}
+
+/// Partition 0 takes the batch of superstep 0 and closes.
+fn takes_and_closes(rt: &HostRuntime, replica: &mut Replica, batch: Batch) -> Option<bool> {
+    let batch = Arc::new(rt.alloc(), batch).ok()?;
+    let again = Arc::try_clone(&batch).ok()?;
+    let mut done = replica.take(batch) == Ok(Taken::New);
+    done &= replica.close() == Ok(1);
+    Some(done && replica.take(again) == Ok(Taken::Old))
+}
+
+/// Whether the early batch was heard and its row was spread at the close.
+fn hears_early(all: &[Replica]) -> Option<bool> {
+    let replica = all.get(0)?;
+    Some(
+        replica.heard().has(1)
+            && replica.heard_change()
+            && replica.missing().is_none()
+            && is_held(all, 0, 1, 1)?
+            && has_row(all, 2, &ROW_BC)
+            && has_accumulated(all, 2, &ROW_ABC),
+    )
+}
+
+/// What partition 1 tells of superstep 1 has a row of its vertex, and comes before what it tells of superstep 0.
+fn early_with_rows(rt: &HostRuntime) -> Option<bool> {
+    let mut all = two_edges(rt, 2, 4096)?;
+    let level = sent(rt, &all, 1, 0)?;
+    let mut done = tells_ahead(rt, &mut all)?;
+    done &= takes_and_closes(rt, all.get_mut(0)?, level)?;
+    done &= hears_early(&all)?;
+    done &= tell(rt, &mut all, 0, 1) == Some(Ok(Taken::New));
+    done &= close_all(&mut all);
+    Some(done && has_row(&all, 2, &ROW_ABC))
+}
+
+#[test]
+fn early_batch_with_rows(rt: HostRuntime) {
+    assert_eq!(rt; early_with_rows(&rt), Some(true));
+}
+
+/// Vertices 1 and 10 fall into one register, and 1 has the lesser rank: what 10 takes from 1 changes nothing, so it
+/// is not sent, and its successor 5 loses nothing.
+fn absorbed(rt: &HostRuntime) -> Option<bool> {
+    let text = b"0\n1\n2\n3\n4\n5\n6\n7\n8\n9\n10\n11\n12\n13\n14\n15\n16\n1\t10\n10\t5\n";
+    let mut all = replicas(rt, text, 2, 4096)?;
+    let mut done = run(rt, &mut all, 1);
+    done &= is_changed(&all, 10) == Some(false);
+    done &= sent(rt, &all, 0, 1).map(|b| told(&b)) == Some((1, 0, 0, None));
+    done &= run(rt, &mut all, 1);
+    let wanted = [0, 0, 0, 0, 0, 3, 2, 0, 0, 0, 0, 0, 0, 0, 0, 0];
+    Some(done && has_row(&all, 5, &wanted))
+}
+
 #[test]
 fn absorbed_counter(rt: HostRuntime) {
-    let text = b"0\n1\n2\n3\n4\n5\n6\n7\n8\n9\n10\n11\n12\n13\n14\n15\n16\n1\t10\n10\t5\n";
-    let mut all = match replicas(&rt, text, 2, 4096) {
-        Some(all) => all,
-        None => Vec::new(rt.alloc()),
-    };
-    assert_eq!(rt; all.len(), 2);
-    assert!(rt; run(&rt, &mut all, 1));
-    assert_eq!(rt; is_changed(&all, 10), Some(false));
-    assert_eq!(rt;
-        sent(&rt, &all, 0, 1).map(|b| told(&b)),
-        Some((1, 0, 0, None))
+    assert_eq!(rt; absorbed(&rt), Some(true));
+}
+
+/// What partition 1 tells partition 0, but with 33, the greatest rank, in each register.
+fn untrue(rt: &HostRuntime, all: &[Replica]) -> Option<Batch> {
+    let mut bytes = written(rt, all, 1, 0)?;
+    for i in 58..74 {
+        *bytes.get_mut(i)? = 33;
+    }
+    Batch::decode(rt.alloc(), all.get(0)?.plan(), &bytes).ok()
+}
+
+/// Whether a batch that is not true is taken and closed over: 16 registers of 33 are estimated as 0.673 * 16 * 2^33.
+fn untrue_is_taken(rt: &HostRuntime) -> Option<bool> {
+    let mut all = two_edges(rt, 2, 4096)?;
+    let batch = untrue(rt, &all);
+    let mut done = answer(rt, &mut all, 0, batch) == Some(Ok(Taken::New));
+    done &= all.get_mut(0)?.close() == Ok(1);
+    done &= has_row(&all, 0, &ROW_A) && has_row(&all, 2, &[33; 16]);
+    let wanted = (
+        92_496_415_686_656_000,
+        92_496_415_675_358_427,
+        92_496_415_675_358_427,
     );
-    assert!(rt; run(&rt, &mut all, 1));
-    assert!(rt; has_row(&all, 5, &[0, 0, 0, 0, 0, 3, 2, 0, 0, 0, 0, 0, 0, 0, 0, 0]));
+    done &= figures_of(&all, 2) == Some(wanted);
+    let sums = [22_688_515u128, 92_496_415_698_046_942];
+    Some(done && all.get(0)?.sums() == sums.as_slice())
+}
+
+#[test]
+fn untrue_batch(rt: HostRuntime) {
+    assert_eq!(rt; untrue_is_taken(&rt), Some(true));
+}
+
+/// Replicas of two edges in two partitions, where vertex 0 alone is counted.
+fn one_counted(rt: &HostRuntime) -> Option<Vec<Replica>> {
+    let mut graph = graph(rt, b"a\tb\nb\tc\n")?;
+    graph.count_only(rt.alloc(), Delimiter::Tab, b"a").ok()?;
+    parted(rt, &graph, 0, 2, 4096)
+}
+
+/// Whether they begin as expected: a vertex that is not counted has empty registers, and is not changed.
+fn begins_counted(rt: &HostRuntime, all: &[Replica]) -> bool {
+    has_row(all, 0, &ROW_A)
+        && has_row(all, 1, &[0; 16])
+        && has_row(all, 2, &[0; 16])
+        && is_changed(all, 0) == Some(true)
+        && is_changed(all, 1) == Some(false)
+        && is_changed(all, 2) == Some(false)
+        && tells(rt, all, (0, 1, 1, Some(0)), (0, 0, 0, None))
+}
+
+/// Whether they end as expected: each has seen vertex 0, one superstep after the other.
+fn ends_counted(rt: &HostRuntime, all: &mut [Replica]) -> bool {
+    run(rt, all, 3)
+        && exchange(rt, all)
+        && all_say(all, Some(Verdict::Stable))
+        && has_row(all, 1, &ROW_A)
+        && has_row(all, 2, &ROW_A)
+        && figures_of(all, 1) == Some((11_390_942, 622_942, 622_942))
+        && figures_of(all, 2) == Some((11_390_942, 311_471, 1_245_884))
+}
+
+/// The run of one counted vertex of three.
+fn counted_run(rt: &HostRuntime) -> Option<(bool, bool)> {
+    let mut all = one_counted(rt)?;
+    let begins = begins_counted(rt, &all);
+    Some((begins, ends_counted(rt, &mut all)))
+}
+
+#[test]
+fn one_counted_vertex(rt: HostRuntime) {
+    assert_eq!(rt; counted_run(&rt), Some((true, true)));
 }
 
 /// A batch with no rows, of that name and under the plan of the first replica.
@@ -372,32 +605,49 @@ fn answer(
     Some(all.get_mut(target)?.take(batch))
 }
 
+/// What a replica answers to batches that are not for it.
+fn refusals(rt: &HostRuntime) -> Option<[Option<Result<Taken, TakeError>>; 5]> {
+    let mut all = two_edges(rt, 2, 4096)?;
+    let others = two_edges(rt, 2, 7)?;
+    let foreign = sent(rt, &others, 1, 0);
+    let mine = sent(rt, &all, 0, 1);
+    let own = bare(rt, &all, 0, 1, 1);
+    let late = bare(rt, &all, 4, 1, 0);
+    let last = bare(rt, &all, 3, 1, 0);
+    Some([
+        answer(rt, &mut all, 0, foreign),
+        answer(rt, &mut all, 0, mine),
+        answer(rt, &mut all, 1, own),
+        answer(rt, &mut all, 0, late),
+        answer(rt, &mut all, 0, last),
+    ])
+}
+
+/// What a replica of a job in which every vertex counts answers to a batch of a job in which only one does.
+fn answer_to_counted(rt: &HostRuntime) -> Option<Result<Taken, TakeError>> {
+    let mut all = two_edges(rt, 2, 4096)?;
+    let counted = one_counted(rt)?;
+    let foreign = sent(rt, &counted, 1, 0);
+    answer(rt, &mut all, 0, foreign)
+}
+
+#[test]
+fn batch_of_a_job_with_one_counted_vertex(rt: HostRuntime) {
+    assert_eq!(rt; answer_to_counted(&rt), Some(Err(TakeError::OtherJob)));
+}
+
 #[test]
 fn refused_batches(rt: HostRuntime) {
-    let mut all = two_edges(&rt, 2, 4096);
-    let others = two_edges(&rt, 2, 7);
-    let foreign = sent(&rt, &others, 1, 0);
     assert_eq!(rt;
-        answer(&rt, &mut all, 0, foreign),
-        Some(Err(TakeError::OtherJob))
+        refusals(&rt),
+        Some([
+            Some(Err(TakeError::OtherJob)),
+            Some(Err(TakeError::NotMine)),
+            Some(Err(TakeError::OwnPartition)),
+            Some(Err(TakeError::TooEarly { last: 3 })),
+            Some(Ok(Taken::New)),
+        ])
     );
-    let mine = sent(&rt, &all, 0, 1);
-    assert_eq!(rt;
-        answer(&rt, &mut all, 0, mine),
-        Some(Err(TakeError::NotMine))
-    );
-    let own = bare(&rt, &all, 0, 1, 1);
-    assert_eq!(rt;
-        answer(&rt, &mut all, 1, own),
-        Some(Err(TakeError::OwnPartition))
-    );
-    let late = bare(&rt, &all, 4, 1, 0);
-    assert_eq!(rt;
-        answer(&rt, &mut all, 0, late),
-        Some(Err(TakeError::TooEarly { last: 3 }))
-    );
-    let last = bare(&rt, &all, 3, 1, 0);
-    assert_eq!(rt; answer(&rt, &mut all, 0, last), Some(Ok(Taken::New)));
 }
 
 /// Whether a replica holds the batch of that name.
@@ -434,8 +684,8 @@ fn reconciled(rt: &HostRuntime, left: &mut Replica, right: &mut Replica) -> bool
 
 /// A replica of partition 0 that holds its level, beside one that holds nothing.
 fn held_and_not(rt: &HostRuntime) -> Option<(Vec<Replica>, Vec<Replica>)> {
-    let mut held = two_edges(rt, 2, 4096);
-    let other = two_edges(rt, 2, 4096);
+    let mut held = two_edges(rt, 2, 4096)?;
+    let other = two_edges(rt, 2, 4096)?;
     let told = tell(rt, &mut held, 1, 0) == Some(Ok(Taken::New));
     let alone = other.get(0)?.missing() == Some(1);
     if told && alone {
@@ -451,24 +701,81 @@ fn has_level(all: &[Replica]) -> Option<bool> {
     Some(replica.superstep() == 0 && replica.missing().is_none() && is_held(all, 0, 0, 1)?)
 }
 
-/// The lesser joins the other, the other the lesser, or both at once: then both hold the name, and a second join
-/// changes nothing.
+/// Whether a replica tells of a vertex what a snapshot does.
+fn shows_vertex(replica: &Replica, snapshot: &Snapshot, x: u32) -> bool {
+    if !replica.owns(x) || !snapshot.owns(x) {
+        return replica.owns(x) == snapshot.owns(x);
+    }
+    let (left, right) = (replica.tally(x), snapshot.tally(x));
+    replica.row(x) == snapshot.row(x)
+        && replica.accumulated(x) == snapshot.accumulated(x)
+        && replica.changed(x) == snapshot.changed(x)
+        && (left.last, left.harm, left.dist) == (right.last, right.harm, right.dist)
+}
+
+/// Whether a replica holds of two partitions and six supersteps the names that a snapshot does.
+fn holds_names(replica: &Replica, snapshot: &Snapshot) -> bool {
+    let target = replica.partition();
+    let mut same = true;
+    for superstep in 0..6 {
+        for source in 0..2 {
+            let name = BatchName {
+                superstep,
+                source,
+                target,
+            };
+            same &= replica.holds(name) == snapshot.holds(name);
+        }
+    }
+    same
+}
+
+/// Whether each reader of a replica tells what that of a snapshot does.
+fn shows_all(replica: &Replica, snapshot: &Snapshot) -> bool {
+    let mut same = replica.plan() == snapshot.plan()
+        && replica.partition() == snapshot.partition()
+        && replica.superstep() == snapshot.superstep()
+        && replica.changed_count() == snapshot.changed_count()
+        && replica.sums() == snapshot.sums()
+        && replica.missing() == snapshot.missing()
+        && replica.verdict() == snapshot.verdict()
+        && replica.heard_change() == snapshot.heard_change()
+        && replica.heard().has(1) == snapshot.heard().has(1)
+        && holds_names(replica, snapshot);
+    for x in 0..4 {
+        same &= shows_vertex(replica, snapshot, x);
+    }
+    same
+}
+
+/// The lesser joins the other, the other the lesser, or both at once.
+fn joins_once(
+    rt: &HostRuntime,
+    left: &mut Replica,
+    right: &mut Replica,
+    both: bool,
+    turned: bool,
+) -> bool {
+    if both && turned {
+        reconciled(rt, right, left)
+    } else if both {
+        reconciled(rt, left, right)
+    } else if turned {
+        joined(rt, right, left) && joined(rt, left, right)
+    } else {
+        joined(rt, left, right) && joined(rt, right, left)
+    }
+}
+
+/// Once they are joined both hold the name, and a second join changes nothing in any reader.
 fn joins_names(rt: &HostRuntime, both: bool, turned: bool) -> Option<bool> {
     let (mut held, mut other) = held_and_not(rt)?;
     let left = held.get_mut(0)?;
     let right = other.get_mut(0)?;
-    let mut done = true;
-    for _ in 0..2 {
-        done &= if both && turned {
-            reconciled(rt, right, left)
-        } else if both {
-            reconciled(rt, left, right)
-        } else if turned {
-            joined(rt, right, left) && joined(rt, left, right)
-        } else {
-            joined(rt, left, right) && joined(rt, right, left)
-        };
-    }
+    let mut done = joins_once(rt, left, right, both, turned);
+    let before = left.snapshot(rt.alloc()).ok()?;
+    done &= joins_once(rt, left, right, both, turned);
+    done &= shows_all(left, &before) && shows_all(right, &before);
     Some(done && has_level(&held)? && has_level(&other)?)
 }
 
@@ -483,8 +790,8 @@ fn joins_held_names(rt: HostRuntime) {
 /// Replicas of two runs. The first has partition 0 at superstep 1, with the batch of superstep 2 alone; the other has
 /// it at superstep 0, with the batches of superstep 0 and, with a row, of superstep 1.
 fn apart(rt: &HostRuntime) -> Option<(Vec<Replica>, Vec<Replica>)> {
-    let mut ahead = two_edges(rt, 2, 4096);
-    let mut behind = two_edges(rt, 2, 4096);
+    let mut ahead = two_edges(rt, 2, 4096)?;
+    let mut behind = two_edges(rt, 2, 4096)?;
     let mut done = run(rt, &mut ahead, 1);
     let early = sent(rt, &ahead, 1, 0)?;
     done &= told(&early) == (1, 1, 1, Some(1));
@@ -507,6 +814,7 @@ fn is_recovered(all: &[Replica]) -> Option<bool> {
             && !is_held(all, 0, 0, 1)?
             && has_row(all, 0, &ROW_A)
             && has_row(all, 2, &ROW_BC)
+            && has_accumulated(all, 2, &ROW_ABC)
             && is_changed(all, 0) == Some(false)
             && is_changed(all, 2) == Some(true),
     )
@@ -581,8 +889,8 @@ fn joins_where_one_is_further(rt: HostRuntime) {
 /// Two replicas of partition 2, which owns vertex 2 alone: one has the batch of partition 0, the other that of
 /// partition 1. Together they have the level, and it has the row of vertex 1.
 fn names_of_both(rt: &HostRuntime) -> Option<bool> {
-    let mut first = two_edges(rt, 3, 4096);
-    let mut second = two_edges(rt, 3, 4096);
+    let mut first = two_edges(rt, 3, 4096)?;
+    let mut second = two_edges(rt, 3, 4096)?;
     let mut done = tell(rt, &mut first, 0, 2) == Some(Ok(Taken::New));
     done &= tell(rt, &mut second, 1, 2) == Some(Ok(Taken::New));
     done &= first.get(2)?.missing() == Some(1);
@@ -590,7 +898,7 @@ fn names_of_both(rt: &HostRuntime) -> Option<bool> {
     done &= merged(rt, &mut first, 2, second.get(2)) == Some(Ok(()));
     done &= is_held(&first, 2, 0, 0)? && is_held(&first, 2, 0, 1)?;
     done &= first.get(2)?.missing().is_none();
-    done &= has_row(&first, 2, &[2, 0, 0, 0, 0, 0, 0, 0, 0, 0, 0, 0, 0, 0, 0, 0]);
+    done &= has_row(&first, 2, &ROW_C) && has_accumulated(&first, 2, &ROW_BC);
     done &= first.get_mut(2)?.close() == Ok(1);
     Some(done && has_row(&first, 2, &ROW_BC))
 }
@@ -627,7 +935,7 @@ fn refuses_a_snapshot_of_another_job(rt: HostRuntime) {
 
 #[test]
 fn refuses_a_snapshot_of_another_partition(rt: HostRuntime) {
-    let others = Some(two_edges(&rt, 2, 4096));
+    let others = two_edges(&rt, 2, 4096);
     assert_eq!(rt; refusal(&rt, others, 1), Some(Err(MergeError::NotMine)));
 }
 

@@ -1,7 +1,6 @@
 use Rattle.std.proofs.Common.{◌≡◌, ℕ, ◌-◌, List, ◌++◌, length, take, drop, sym, ap, ◌∙◌, append_assoc, take-append-drop}
 use Rattle.std.proofs.lemmas.List.{take_rest}
 use Rattle.std.proofs.KnownBytes.{Appends-trans}
-use Rattle.ball_model.proofs.StreamLemmas.{rises_from}
 use Rattle.ball_model.proofs.streams.put_all.Goals as goal
 
 -- what is gone grows by the first n bytes of the rest
@@ -14,9 +13,9 @@ loop-rest-preserved g c =
     let (done, split, appended, same) = c.loop-rest.invariant in
     let rest = c.loop-rest.rest.now in
     let n = c.in-Some.n in
-    (done ++ take n rest, moves_front _ done rest n split, Appends-trans _ _ _ _ _ appended c.in-Some.ensures.appends, c.in-Some.ensures.counted ∙ same)
+    (done ++ take n rest, moves_front _ done rest n split, Appends-trans _ _ _ _ _ appended c.in-Some.ensures.bytes.0, c.in-Some.ensures.counted ∙ same)
 
 pub returns-in-None-clause-failed : goal.returns-in-None-clause-failed
 returns-in-None-clause-failed g c e =
     let (done, split, appended, same) = c.loop-rest.invariant in
-    rises_from _ _ _ same c.in-None.ensures.failed
+    rw (← same) c.in-None.ensures.failed

@@ -3,6 +3,7 @@ use Rattle.std.specs.String.{string_bytes}
 use Rattle.std.proofs.lemmas.Result.{IfOk-weaker}
 use Rattle.clap.specs.Words.{App, is_simple, is_simple_and_free, subcommand_of, FailsBy, fault_of}
 use Rattle.clap.specs.declared.builder.value_parser.ValueParser.{ValueParser}
+use Rattle.clap.proofs.CallerLemmas.{subcommand_required}
 use Rattle.clap.proofs.OnLiterals.{clap_on_literals}
 use Rattle.hyperball.specs.CommandLine.{TakesNames, delimiter_names, hyperball_app, run_app}
 use Rattle.hyperball.proofs.NameLemmas.{names_at, of_names}
@@ -16,20 +17,23 @@ free : (p : ValueParser) → TakesNames delimiter_names p → is_simple_and_free
 unfolding clap_on_literals hyperball_app run_app
 free = of_names (λ p. is_simple_and_free (hyperball_app p) ≡ true) (λ list a b c. refl)
 
-pub returns-in_err-command : goal.returns-in_err-command
-returns-in_err-command c = record { read = (names_at (0, 0) (0, 0) (0, 0) (0, 0), refl, search rules, search rules) }
+pub returns-in_err-command-clause-read : goal.returns-in_err-command-clause-read
+returns-in_err-command-clause-read c = (names_at (0, 0) (0, 0) (0, 0) (0, 0), refl, search rules, search rules)
 
-pub returns : goal.returns
-returns c =
+pub returns-clause-read : goal.returns-clause-read
+returns-clause-read c =
     let p = c.in_ok-command.ensures.0 in
     let takes = c.in_ok-command.ensures.1 in
+    let app = c.in_ok-command.ensures.2.form in
+    let parse = c.try_get_matches_from in (
+      p,
+      takes,
+      IfOk-weaker parse.result _ _ (λ m h. (h (ap is_simple app ∙ simple p takes)).1 ∙ ap (λ (a : App). subcommand_of a (map (λ w. string_bytes w) c.args.words.now)) app) parse.ensures.matches,
+      subst (λ (a : App). FailsBy (fault_of a (map (λ w. string_bytes w) c.args.words.now)) parse.result) app (parse.ensures.kinds (ap is_simple_and_free app ∙ free p takes)),
+    )
+
+pub returns-clause-subcommand : goal.returns-clause-subcommand
+unfolding hyperball_app
+returns-clause-subcommand c =
     let app = c.in_ok-command.ensures.2 in
-    let parse = c.try_get_matches_from in
-    record {
-      read = (
-        p,
-        takes,
-        IfOk-weaker parse.result _ _ (λ m h. (h (ap is_simple app ∙ simple p takes)).1 ∙ ap (λ (a : App). subcommand_of a (map (λ w. string_bytes w) c.args.words.now)) app) parse.ensures.matches,
-        subst (λ (a : App). FailsBy (fault_of a (map (λ w. string_bytes w) c.args.words.now)) parse.result) app (parse.ensures.kinds (ap is_simple_and_free app ∙ free p takes)),
-      );
-    }
+    IfOk-weaker c.try_get_matches_from.result _ _ (λ m parsed. subcommand_required _ m parsed app.local (ap (λ (a : App). a.top.subcommand_required) app.form)) c.try_get_matches_from.ensures.parsed

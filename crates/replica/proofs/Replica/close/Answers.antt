@@ -1,31 +1,45 @@
-use Rattle.std.proofs.Common.{sym, ◌∙◌}
+use Rattle.std.proofs.Common.{◌≡◌, ap, sym, ◌∙◌, subst}
+use Rattle.std.specs.Prelude.{OnOk, OnErr}
+use Rattle.ball_model.specs.State.{State}
+use Rattle.replica.specs.Change.{Advances}
+use Rattle.replica.specs.Level.{found_close}
+use Rattle.replica.specs.Seen.{IsState}
 use Rattle.replica.proofs.BusyLemmas.{found_close-is}
 use Rattle.replica.proofs.CloseLemmas.{waits_for, closes, on_ok, if_ok, close_stands}
 use Rattle.replica.proofs.AdvanceLemmas.{advance_holds}
 use Rattle.replica.proofs.Replica.close.Goals as goal
 
+exact : (c : goal.After-self-1) → c.found_close.result ≡ found_close c.args.self.now
+exact c = c.found_close.ensures.exact ∙ ap found_close c.self.view_is
+
+advances : (c : goal.After-self-1) → OnOk c.found_close.result (Advances c.args.self.now c.found_close.new.self)
+advances c = subst (λ (u : State). OnOk c.found_close.result (Advances u c.found_close.new.self)) c.self.view_is c.found_close.ensures.advances
+
+state : (c : goal.After-self-1) → IsState c.args.self.now
+state c = subst (λ (u : State). IsState u) c.self.view_is c.found_close.ensures.state
+
 pub returns-clause-waits : goal.returns-clause-waits
-returns-clause-waits c = λ q. waits_for c.args.self.now c.found_close.result q c.found_close.ensures.exact
+returns-clause-waits c = λ q. waits_for c.args.self.now c.found_close.result q (exact c)
 
 pub returns-clause-superstep : goal.returns-clause-superstep
 returns-clause-superstep c =
-    if_ok c.found_close.result c.found_close.ensures.advances
-    (λ n ok a. let next = (closes c.args.self.now c.found_close.result n c.found_close.ensures.exact ok).2 in (next, a.superstep ∙ sym next))
+    if_ok c.found_close.result (advances c)
+    (λ n ok a. let next = (closes c.args.self.now c.found_close.result n (exact c) ok).2 in (next, a.superstep ∙ sym next))
 
 pub returns-clause-names : goal.returns-clause-names
 returns-clause-names c =
-    on_ok c.found_close.result c.found_close.ensures.advances (λ n ok a s q. advance_holds c.args.self.now c.found_close.new.self a c.found_close.ensures.state.kept s q)
+    on_ok c.found_close.result (advances c) (λ n ok a s q. advance_holds c.args.self.now c.found_close.new.self a s q)
 
 pub returns-clause-answer : goal.returns-clause-answer
-returns-clause-answer c = λ j p t h. c.found_close.ensures.exact ∙ found_close-is j p t c.args.self.now h
+returns-clause-answer c = λ j p t h. exact c ∙ found_close-is j p t c.args.self.now h
 
 pub returns-clause-stands : goal.returns-clause-stands
 returns-clause-stands c = λ j p t h.
-    on_ok c.found_close.result c.found_close.ensures.advances (λ n ok a. close_stands j p t n c.args.self.now c.found_close.new.self c.found_close.result h c.found_close.ensures.state c.found_close.ensures.exact ok a)
+    on_ok c.found_close.result (advances c) (λ n ok a. close_stands j p t n c.args.self.now c.found_close.new.self c.found_close.result h (state c) (exact c) ok a)
 
 pub returns-clause-step : goal.returns-clause-step
 returns-clause-step c = λ j p. record {
-  refused = c.found_close.ensures.refused;
+  refused = subst (λ (u : State). OnErr c.found_close.result (c.found_close.new.self ≡ u)) c.self.view_is c.found_close.ensures.refused;
   names = returns-clause-names c;
   answer = returns-clause-answer c j p;
   stands = returns-clause-stands c j p;

@@ -10,3 +10,6 @@ returns-clause-names c = if_made c.started.result c.started.ensures (λ v s r q.
 
 pub returns-clause-stands : goal.returns-clause-stands
 returns-clause-stands c = if_made c.started.result c.started.ensures (λ v s j p ok below is. starts_stands j p (arc_value c.args.part) v ok below is s)
+
+pub returns-clause-superstep : goal.returns-clause-superstep
+returns-clause-superstep c = if_made c.started.result c.started.ensures (λ v s. s.superstep)

@@ -1,61 +1,24 @@
-use Rattle.std.proofs.Common.{◌≡◌, ℕ, ◌*◌, ◌^◌, true, List, length, map, replicate, refl, ap, ◌∙◌, arith, subst, rules}
-use Rattle.std.specs.Prelude.{Option, None}
+use Rattle.std.proofs.Common.{◌≡◌, Bool, List, length, false, replicate, rules, refl, ap, sym, ◌∙◌, subst}
 use Rattle.std.specs.Arc.{arc_value}
-use Rattle.std.specs.List.{sum_by}
 use Rattle.std.proofs.lemmas.List.{length-replicate}
-use Rattle.ball_model.specs.Table.{Table}
-use Rattle.ball_model.specs.Figures.{estimate_of}
-use Rattle.ball_model.specs.PlanValue.{PlanValue, IsPlan}
-use Rattle.ball_model.specs.Job.{PartValue, IsPart}
-use Rattle.ball_model.specs.Batches.{BatchValue}
-use Rattle.figures.specs.declared.tally.Tally.{Tally}
-use Rattle.figures.specs.Values.{value_of}
-use Rattle.replica.specs.Level.{total_of}
-use Rattle.replica.specs.Start.{Starts, first_rows, started}
-use Rattle.replica.specs.Seen.{state_of}
-use Rattle.replica.proofs.StartLemmas.{first_counters, started_total, starts_state}
+use Rattle.ball_model.specs.Job.{PartValue}
+use Rattle.replica.specs.Index.{targets_of}
+use Rattle.replica.specs.Spread.{AreTouched}
+use Rattle.replica.specs.Start.{first_rows}
+use Rattle.replica.proofs.HearLemmas.{flag_none}
+use Rattle.replica.proofs.LevelLemmas.{none_touched}
+use Rattle.replica.proofs.StartLemmas.{length-first_rows}
 use Rattle.replica.proofs.Replica.started.Goals as goal
-use Rattle.replica.proofs.Replica.started.Goals.{In_ok-kept}
-
-pub start_tallies-requires : goal.start_tallies-requires
-start_tallies-requires c =
-    let part = arc_value c.args.part in
-    let plan : c.plan-plan.result.now ≡ part.plan = c.plan-plan.ensures ∙ ap (λ (a : PartValue). a.plan) c.deref.ensures in
-    let ok : IsPlan part.plan = subst (λ (a : PlanValue). IsPlan a) plan c.log2m.ensures.plan in
-    let rows : c.in_ok-rows.rows.rows ≡ first_rows part = ap (λ (t : Table). t.rows) c.in_ok-rows.ensures ∙ ap first_rows c.deref-3.ensures in
-    rw (c.log2m.ensures.value, plan, rows) (first_counters part ok)
-
-starts : (c : In_ok-kept) → Starts (arc_value c.args.part) (state_of (record { part = c.args.part; superstep = 0; rows = c.in_ok-rows.rows; next = c.in_ok-next.next; marks = c.in_ok-marks.marks; tallies = c.in_ok-tallies.tallies; sums = c.push_reserved.new.self; kept = c.in_ok-kept.kept }))
-starts c =
-    let part = arc_value c.args.part in
-    let plan : c.plan-plan.result.now ≡ part.plan = c.plan-plan.ensures ∙ ap (λ (a : PartValue). a.plan) c.deref.ensures in
-    let log2m : c.log2m.result ≡ part.plan.log2m = c.log2m.ensures.value ∙ ap (λ (a : PlanValue). a.log2m) plan in
-    let rows : c.in_ok-rows.rows.rows ≡ first_rows part = ap (λ (t : Table). t.rows) c.in_ok-rows.ensures ∙ ap first_rows c.deref-3.ensures in
-    let tallies : map value_of c.in_ok-tallies.tallies.items ≡ map (λ row. started (estimate_of part.plan.log2m row)) (first_rows part) = c.in_ok-tallies.ensures ∙ rw (log2m, rows) refl in
-    let total : c.sum_of_lasts.result ≡ total_of part.plan.log2m (first_rows part) =
-    c.sum_of_lasts.ensures ∙ ap (sum_by (λ (tally : Tally). tally.last)) c.deref-6.ensures.value ∙ started_total part.plan.log2m (first_rows part) c.in_ok-tallies.tallies.items tallies in
-    record {
-      part_is = refl;
-      superstep = refl;
-      rows = rows;
-      marks = c.in_ok-marks.ensures.items_if_clones_equal (search rules) ∙ ap (λ n. replicate n true) (c.size-2.ensures.lists ∙ ap (λ (a : PartValue). length a.preds) c.deref-5.ensures);
-      tallies = tallies;
-      sums = c.push_reserved.ensures.items ∙ rw (c.in_ok-sums.ensures.items, total) refl;
-      kept = c.in_ok-kept.ensures ∙ ap (λ n. replicate {A = Option BatchValue} (4 * n) None) (c.from.ensures ∙ c.parts-2.ensures.value ∙ ap (λ (a : PlanValue). a.parts) plan);
-    }
 
 pub invariant_of-result : goal.invariant_of-result
 invariant_of-result c =
     let part = arc_value c.args.part in
-    let plan : c.plan-plan.result.now ≡ part.plan = c.plan-plan.ensures ∙ ap (λ (a : PartValue). a.plan) c.deref.ensures in
-    let limit : c.limit.result ≡ part.plan.limit = c.limit.ensures.value ∙ ap (λ (a : PlanValue). a.limit) plan in
+    let s = c.in_ok-known.ensures in
+    let size : c.size.result ≡ length part.preds = c.size.ensures.lists ∙ ap (λ (a : PartValue). length a.preds) c.deref-2.ensures in
+    let items : c.in_ok-touched.touched.items ≡ replicate (length part.preds) false = c.in_ok-touched.ensures.items_if_clones_equal (search rules) ∙ ap (λ n. replicate n false) size in
+    let quiet : AreTouched (first_rows part) (first_rows part) (replicate (length part.preds) false) =
+    none_touched (first_rows part) (replicate (length part.preds) false) (length-replicate {A = Bool} (length part.preds) false ∙ sym (length-first_rows part)) (flag_none (length part.preds)) in
     record {
-      state = starts_state (arc_value c.args.part) _ (subst (λ (a : PartValue). IsPart a) c.deref-2.ensures c.partition.ensures.part) (starts c);
-      width = ap (λ (t : Table). t.width) c.in_ok-rows.ensures ∙ ap (λ (a : PartValue). 2 ^ a.plan.log2m) c.deref-3.ensures;
-      next_width = ap (λ (t : Table). t.width) c.in_ok-next.ensures ∙ c.width.ensures.value ∙ ap (λ (a : PlanValue). 2 ^ a.log2m) plan;
-      next_count = ap (λ (t : Table). length t.rows) c.in_ok-next.ensures ∙ length-replicate {A = List ℕ} c.size.result (replicate c.width.result 0) ∙ c.size.ensures.lists ∙ ap (λ (a : PartValue). length a.preds) c.deref-4.ensures;
-      room = omega (arith, limit, c.in_ok-sums.ensures.capacity, c.push_reserved.ensures.capacity);
+      index = c.in_ok-targets.ensures ∙ ap targets_of (c.deref.ensures ∙ sym s.part_is);
+      touched = rw (items, s.rows, s.accumulated) quiet;
     }
-
-pub returns : goal.returns
-returns c = starts c

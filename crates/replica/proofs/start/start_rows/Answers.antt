@@ -1,31 +1,27 @@
 use Rattle.std.proofs.Common.{◌≡◌, ◌+◌, ◌*◌, ◌^◌, ◌<◌, [], length, get_or, set, replicate, refl, ap, ◌∙◌, arith, length-set}
 use Rattle.ball_model.specs.Table.{Table}
-use Rattle.ball_model.specs.PlanValue.{PlanValue}
-use Rattle.ball_model.specs.Hash.{hash_of, index_of, rank_of}
-use Rattle.registers.specs.Raised.{raised_one}
 use Rattle.replica.specs.Start.{first_row}
-use Rattle.replica.proofs.StartLemmas.{first_is, first_rows-is}
+use Rattle.replica.proofs.StartLemmas.{first_rows-is}
 use Rattle.replica.proofs.StepLemmas.{step_done, step_rest_to}
 use Rattle.replica.proofs.start.start_rows.Goals as goal
+
+pub start_row-requires : goal.start_row-requires
+start_row-requires c =
+    let inv = c.loop-i.invariant in
+    let lt : c.loop-i.i < length c.args.part.now.preds = omega (arith, c.size-i-end.ensures.lists) in
+    record { place = lt; count = inv.count; width = inv.width; empty = inv.rest c.loop-i.i (omega arith) lt }
 
 pub loop-i-preserved : goal.loop-i-preserved
 loop-i-preserved c =
     let inv = c.loop-i.invariant in
     let part = c.args.part.now in
-    let plan : c.plan-plan.result.now ≡ part.plan = c.plan-plan.ensures in
     let lt : c.loop-i.i < length part.preds = omega (arith, c.size-i-end.ensures.lists) in
-    let old = get_or c.loop-i.rows.rows c.loop-i.i [] in
-    let new = raised_one old c.from.result c.place-index.result.1 in
-    let rows : c.raise_one-raised.new.self.rows ≡ set c.loop-i.rows.rows c.loop-i.i new = ap (λ (t : Table). t.rows) c.raise_one-raised.ensures.raised in
-    let log2m : c.log2m.result ≡ part.plan.log2m = c.log2m.ensures.value ∙ ap (λ (a : PlanValue). a.log2m) plan in
-    let hash : c.mix.result ≡ hash_of part.plan.seed (c.loop-i.i * part.plan.parts + part.number) = c.mix.ensures ∙ rw (c.seed.ensures, c.vertex.ensures.value, ap (λ (a : PlanValue). a.seed) plan) refl in
-    let index : c.from.result ≡ index_of part.plan.log2m (hash_of part.plan.seed (c.loop-i.i * part.plan.parts + part.number)) = c.from.ensures ∙ c.place-index.ensures.index ∙ rw (log2m, hash) refl in
-    let rank : c.place-index.result.1 ≡ rank_of part.plan.log2m (hash_of part.plan.seed (c.loop-i.i * part.plan.parts + part.number)) = c.place-index.ensures.rank ∙ rw (log2m, hash) refl in
-    let is = first_is part.plan (c.loop-i.i * part.plan.parts + part.number) c.from.result c.place-index.result.1 old (inv.rest c.loop-i.i (omega arith) lt) index rank in
+    let new = first_row part c.loop-i.i in
+    let rows : c.start_row.new.rows.rows ≡ set c.loop-i.rows.rows c.loop-i.i new = ap (λ (t : Table). t.rows) c.start_row.ensures in
     record {
-      width = ap (λ (t : Table). t.width) c.raise_one-raised.ensures.raised ∙ inv.width;
+      width = ap (λ (t : Table). t.width) c.start_row.ensures ∙ inv.width;
       count = ap length rows ∙ simp length-set inv.count;
-      done = rw rows (step_done (λ k. first_row part.plan (k * part.plan.parts + part.number)) c.loop-i.rows.rows [] new c.loop-i.i (omega (arith, inv.count)) is inv.done);
+      done = rw rows (step_done (λ k. first_row part k) c.loop-i.rows.rows [] new c.loop-i.i (omega (arith, inv.count)) refl inv.done);
       rest = rw rows (step_rest_to (λ k. replicate (2 ^ part.plan.log2m) 0) c.loop-i.rows.rows [] new c.loop-i.i (length part.preds) inv.rest);
     }
 

@@ -1,8 +1,13 @@
 use Rattle.std.proofs.Common.{◌∙◌, ap, arith, sym, Ok}
 use Rattle.std.proofs.lemmas.Result.{err_from_is_err_and}
 use Rattle.ball_model.specs.Batches.{BatchValue, batch_bytes}
-use Rattle.batches.proofs.WholeLemmas.{checked_takes, checked_spelled, read_is, only_from, only_refused}
+use Rattle.batches.proofs.WholeLemmas.{checked_takes, checked_spelled, read_is, only_from, refused, only_refused}
 use Rattle.batches.proofs.batch.Batch.decode.Goals as goal
+
+pub returns-in_err-header-clause-exact : goal.returns-in_err-header-clause-exact
+returns-in_err-header-clause-exact c =
+    let p = err_from_is_err_and c.from_residual.result c.from_residual.ensures.1 in
+    rw (p.1, p.2) (refused c.args.plan.now c.args.bytes.now c.in_err-header.field-0.0 c.in_err-header.ensures)
 
 pub returns-in_err-header-clause-only : goal.returns-in_err-header-clause-only
 returns-in_err-header-clause-only c =

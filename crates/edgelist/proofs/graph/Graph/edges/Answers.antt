@@ -4,4 +4,4 @@ use Rattle.edgelist.proofs.LinksLemmas.{length-edges}
 use Rattle.edgelist.proofs.graph.Graph.edges.Goals as goal
 
 pub returns : goal.returns
-returns c = c.total.ensures ∙ sym (length-edges c.self.inside.lists 0) ∙ ap (λ (net : Network). length net.graph.edges) c.self.view_is
+returns c = c.total.ensures.value ∙ sym (length-edges c.self.inside.lists 0) ∙ ap (λ (net : Network). length net.graph.edges) c.self.view_is

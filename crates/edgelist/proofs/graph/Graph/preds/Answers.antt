@@ -7,7 +7,7 @@ use Rattle.edgelist.proofs.graph.Graph.preds.Goals as goal
 pub returns-clause-value : goal.returns-clause-value
 returns-clause-value c =
     let count = ap (λ (net : Network). net.graph.vertices) c.self.view_is in
-    c.list.ensures ∙ sym (preds_of-graph c.self.inside.lists c.args.v c.self.invariant.ascend (omega (arith, count)))
+    c.list.ensures ∙ sym (preds_of-graph c.self.inside.lists c.self.inside.marks.items c.args.v c.self.invariant.ascend (omega (arith, count)))
     ∙ ap (λ (net : Network). preds_of net.graph c.args.v) c.self.view_is
 
 pub returns-clause-below : goal.returns-clause-below

@@ -5,7 +5,7 @@ use Rattle.edgelist.proofs.LinksLemmas.{graph_of-IsGraph, length-edges}
 use Rattle.edgelist.proofs.graph.Graph.vertices.Goals as goal
 
 pub returns-clause-graph : goal.returns-clause-graph
-returns-clause-graph c = subst (λ (net : Network). IsGraph net.graph) c.self.view_is (graph_of-IsGraph c.self.inside.lists c.self.invariant.ascend)
+returns-clause-graph c = subst (λ (net : Network). IsGraph net.graph) c.self.view_is (graph_of-IsGraph c.self.inside.lists c.self.inside.marks.items c.self.invariant.ascend)
 
 pub returns-clause-few_edges : goal.returns-clause-few_edges
 returns-clause-few_edges c = omega (arith, c.len.ensures.few, length-edges c.self.inside.lists 0, ap (λ (net : Network). length net.graph.edges) c.self.view_is)

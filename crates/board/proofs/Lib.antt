@@ -1,0 +1,7 @@
+pub mod BookLemmas
+pub mod ViewLemmas
+pub mod MoveLemmas
+pub mod SeatLemmas
+pub mod CallLemmas
+pub mod CrossingLemmas
+pub mod TestLemmas

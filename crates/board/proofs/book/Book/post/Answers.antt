@@ -1,0 +1,32 @@
+use Rattle.std.proofs.Common.{◌≡◌, ◌<◌, ◌≤◌, ◌∙◌, inr, sym, ap, subst, refl, max, length}
+use Rattle.std.specs.Prelude.{slice_index_or, Some, None}
+use Rattle.std.specs.Arc.{arc_value}
+use Rattle.std.specs.Global.{Global}
+use Rattle.std.specs.BTreeMap.{get}
+use Rattle.ball_model.specs.declared.names.BatchName.{BatchName}
+use Rattle.ball_model.specs.Batches.{BatchValue, true_batch}
+use Rattle.ball_model.specs.State.{State, StandsFor}
+use Rattle.ball_model.specs.History.{History, Post, entry, with_entry, entries_of, board_of, held_by}
+use Rattle.board.specs.declared.event.Event.TheVariants as noted
+use Rattle.board.specs.Book.{by_name, history_of, IsNoted}
+use Rattle.board.proofs.BookLemmas.{noted as line, keeps-post}
+use Rattle.board.proofs.book.Book.post.Goals as goal
+
+pub invariant_of-self-2 : goal.invariant_of-self-2
+invariant_of-self-2 c =
+    let i = c.self.inside in
+    let h : History = history_of i in
+    let same = line h i.full.items c.make_room.new.full.items i.sheet.items c.make_room.new.sheet.items c.push_reserved.new.self.items (record { by = c.args.by; event = noted.Post c.name-name.result c.in_ok-reply.reply }) refl c.make_room.ensures.same c.push_reserved.ensures.items in
+    let name : c.name-name.result ≡ (arc_value c.args.batch).name = c.name-name.ensures.value ∙ ap (λ (b : BatchValue). b.name) c.deref.ensures in
+    let asked : arc_value c.args.batch ≡ true_batch h.job (arc_value c.args.batch).name =
+    subst (λ (k : History). arc_value c.args.batch ≡ true_batch k.job (arc_value c.args.batch).name) (sym c.self.view_is) c.requires in
+    let true_of : arc_value c.args.batch ≡ true_batch h.job c.name-name.result = asked ∙ ap (true_batch h.job) (sym name) in
+    keeps-post (arc_value {X = BatchValue} {Z = Global}) (arc_value {X = State} {Z = Global}) h _ c.args.by c.name-name.result c.in_ok-reply.reply c.args.batch i.entries i.floor (get by_name i.standing) _ i.kept.items c.self.invariant same true_of c.in_ok-reply.ensures.reply c.in_ok-reply.ensures.put
+
+pub returns-clause-next : goal.returns-clause-next
+returns-clause-next c =
+    let i = c.self.inside in
+    let h : History = history_of i in
+    let same = line h i.full.items c.make_room.new.full.items i.sheet.items c.make_room.new.sheet.items c.push_reserved.new.self.items (record { by = c.args.by; event = noted.Post c.name-name.result c.in_ok-reply.reply }) refl c.make_room.ensures.same c.push_reserved.ensures.items in
+    let room : entries_of h < c.args.limit = subst (λ n. n < c.args.limit) c.self.invariant.entries_are c.in_ok-make_room.ensures.ok.0 in
+    ((invariant_of-self-2 c).legal, inr (Post c.name-name.result c.in_ok-reply.reply, rw (← c.self.view_is) (same, room)))

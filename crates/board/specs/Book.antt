@@ -1,0 +1,72 @@
+-- A book's fields as a history, and what they keep.
+use Rattle.std.specs.Prelude.{◌≡◌, ◌⊎◌, ℕ, ◌<◌, true, false, List, [], ◌∷◌, ◌++◌, map, length, option_map, slice_index_or, Option, None, Some, MatchOption, IfSome}
+use Rattle.std.specs.List.{flat_map}
+use Rattle.std.specs.Arc.{arc_value}
+use Rattle.std.specs.BTreeMap.{get}
+use Rattle.std.specs.Global.{Vec}
+use Rattle.std.specs.declared.cmp.Ordering.{Ordering}
+use Rattle.ball_model.specs.declared.names.BatchName.{BatchName}
+use Rattle.ball_model.specs.contracts.names.BatchNameOrd.TheImpl as name_order
+use Rattle.ball_model.specs.Job.{Job}
+use Rattle.ball_model.specs.Batches.{BatchValue, true_batch}
+use Rattle.ball_model.specs.State.{State, StandsFor}
+use Rattle.ball_model.specs.History.{Event, Post, Fetch, Keep, Recall, Drop, Entry, History, entry, entries_of, with_entry, Object, board_of, IsLegal, held_by}
+use Rattle.board.specs.declared.event.Event.{Event as Noted}
+use Rattle.board.specs.declared.event.Event.TheVariants as noted
+use Rattle.board.specs.declared.event.Entry.{Entry as Line}
+use Rattle.board.specs.declared.book.Book.TheInside.{Inside}
+
+-- the order of names
+abbrev pub by_name : BatchName → BatchName → Ordering
+by_name = (name_order.ghosts).cmp
+
+-- a noted event
+abbrev pub event_of : Noted → Event
+event_of (noted.Post name r) = Post name r
+event_of (noted.Fetch name) = Fetch name
+event_of (noted.Keep s r) = Keep (held_by s.value) r
+event_of (noted.Recall p least s) = Recall p least (held_by s.value)
+event_of (noted.DropBelow s) = Drop s
+
+abbrev pub entry_of : Line → Entry
+entry_of e = entry e.by (event_of e.event)
+
+-- the calls on the full sheets, and on the sheet that is written on
+abbrev pub calls_of : List (Vec Line) → List Line → List Entry
+calls_of full sheet = map entry_of (flat_map (λ v. v.items) full ++ sheet)
+
+abbrev pub history_of : Inside → History
+history_of b = record { job = record { graph = b.graph.value.graph; plan = b.plan.value }; calls = calls_of b.full.items b.sheet.items }
+
+-- the map has the names that stand, each with its true batch
+abbrev pub HasStanding : {A : Type 0} → (A → BatchValue) → Job → Object → (BatchName → Option A) → Type 0
+HasStanding value j o find = (name : BatchName) → MatchOption (find name) (o.stands name ≡ false) (λ a. (o.stands name ≡ true) × (value a ≡ true_batch j name))
+
+-- what is kept for each partition is the content of the snapshot in its place
+abbrev pub HasContents : {C : Type 0} → (C → State) → Object → List (Option C) → Type 0
+HasContents state o kept = (p : ℕ) → option_map (λ c. held_by (state c)) (slice_index_or kept p None) ≡ o.kept p
+
+-- each snapshot stands for the partition of its place
+abbrev pub HasSnapshots : {C : Type 0} → (C → State) → Job → List (Option C) → Type 0
+HasSnapshots state j kept = (p : ℕ) → IfSome (slice_index_or kept p None) (λ c. StandsFor j p (state c).superstep (state c))
+
+-- what a book of this history has
+pub record Keeps {A C : Type 0} (value : A → BatchValue) (state : C → State) (h : History) (entries floor : ℕ) (find : BatchName → Option A) (kept : List (Option C)) : Type 0 where
+  pub legal : IsLegal h
+  pub entries_are : entries ≡ entries_of h
+  pub floor_is : floor ≡ (board_of h).floor
+  pub standing : HasStanding value h.job (board_of h) find
+  pub places : length kept ≡ h.job.plan.parts
+  pub contents : HasContents state (board_of h) kept
+  pub snapshots : HasSnapshots state h.job kept
+
+abbrev pub IsBook : Inside → Type 0
+IsBook b = Keeps arc_value arc_value (history_of b) b.entries b.floor (get by_name b.standing) b.kept.items
+
+-- one entry more, where there is room for it
+abbrev pub IsNoted : ℕ → ℕ → Event → History → History → Type 0
+IsNoted limit by e old new = (new ≡ with_entry old (entry by e)) × (entries_of old < limit)
+
+-- the history after a call of this caller: it is legal, and the same or with one entry more
+abbrev pub IsNext : ℕ → ℕ → History → History → Type 0
+IsNext limit by old new = IsLegal new × ((new ≡ old) ⊎ ((e : Event) × IsNoted limit by e old new))

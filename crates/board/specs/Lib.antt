@@ -1,0 +1,6 @@
+pub mod Book
+pub mod View
+pub mod Rule
+pub mod Turn
+pub mod Seats
+pub mod Inside

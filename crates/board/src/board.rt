@@ -1,0 +1,254 @@
+//! A history that threads share.
+
+ghost use Rattle.std.specs.Prelude.{◌≡◌, ◌≤◌, ◌^◌, IfOk, OnOk, IfErr, OnErr, IfSome, IfNone, Err, is_some, true, false};
+ghost use Rattle.std.specs.Arc.{arc_value};
+ghost use Rattle.board.specs.declared.error.BoardError.TheVariants.{BookFull, Memory};
+ghost use Rattle.ball_model.specs.Job.{IsJob};
+ghost use Rattle.ball_model.specs.Batches.{true_batch};
+ghost use Rattle.ball_model.specs.State.{StandsFor};
+ghost use Rattle.ball_model.specs.History.{Post, Fetch, Keep, Recall, Drop, Begins, IsLegal, opened, entries_of, calls_by, board_of, held_by, is_kept_from};
+ghost use Rattle.board.specs.Seats.{Stands, IsAt, Extends, Called, CalledNothing, IsFull, HasRoom, IsAsFar};
+
+use crate::book::Book;
+use crate::error::BoardError;
+use crate::rule::{Room, Tells};
+use crate::seat::Seat;
+use crate::turn::{count, give, take};
+use ball_model::{BatchName, Kept, Plan, Posted};
+use batches::Batch;
+use edgelist::Graph;
+use replica::Snapshot;
+use std::alloc::{AllocError, Global};
+use std::marker::Model;
+use std::snapshot::Snapshot as Seen;
+use std::sync::{Arc, Wait};
+
+/// How many numbers the first seat has.
+const NUMBERS: u64 = 1 << 63;
+
+/// A history that threads share.
+///
+/// Each call but [`length`](Board::length) and [`join`](Board::join) waits for its turn. Where it answers an error it
+/// has added no entry, and its seat has seen the whole history.
+#[derive(Drop)]
+pub struct Board {
+    pub(crate) room: Room,
+    limit: u32,
+}
+
+impl Model for Board {
+    ghost use Rattle.board.specs.Seats.{BoardView};
+
+    ghost Value = { BoardView };
+
+    ghost use Rattle.board.specs.Inside.{board_view, IsBoard};
+
+    ghost view = { board_view };
+
+    ghost invariant = { IsBoard };
+}
+
+impl Board {
+    /// A board whose history has the opening alone, and its first seat, which has number 0.
+    ///
+    /// The history may have `entries` entries, from 2 to 2^24, the opening among them. The error is that memory was
+    /// refused; what is taken here is a place for a snapshot of each partition.
+    pub fn open(
+        alloc: Global,
+        graph: &Graph,
+        plan: &Plan,
+        entries: u32,
+    ) -> Result<(Board, Seat), AllocError>
+        requires job { IsJob (record { graph = graph.now.graph; plan = plan.now }) }
+        requires entries { (2 ≤ entries) × (entries ≤ 2 ^ 24) }
+        ensures board { IfOk result (λ r. IsAt r.0 r.1) }
+        ensures limit { IfOk result (λ r. r.1.limit ≡ entries) }
+        ensures number { IfOk result (λ r. r.1.number ≡ 0) }
+        ensures room { IfOk result (λ r. r.1.room ≡ 2 ^ 63) }
+        ensures seen { IfOk result (λ r. r.1.seen ≡ opened (record { graph = graph.now.graph; plan = plan.now })) }
+        ensures legal { IfOk result (λ r. IsLegal r.1.seen) }
+    {
+        let book = Book::open(alloc, graph, plan)?;
+        let about = (Seen::of(&book), entries);
+        let mut slots = Vec::new(alloc);
+        slots.push(Some(book))?;
+        let Ok((room, pass)) = Room::new(alloc, &[1, 0, 0], slots, &about) else {
+            return Err(AllocError);
+        };
+        let seat = Seat {
+            pass,
+            number: 0,
+            room: NUMBERS,
+        };
+        Ok((
+            Board {
+                room,
+                limit: entries,
+            },
+            seat,
+        ))
+    }
+
+    /// The number of entries of the history, which the seat has then seen.
+    ///
+    /// It is one look at a word: it takes no memory, and waits for nobody.
+    pub fn length(&self, seat: &mut Seat) -> u64
+        requires board { IsAt self.now seat.old }
+        ensures seen { Extends seat.old seat.new }
+        ensures nothing { CalledNothing seat.old seat.new }
+        ensures length { result ≡ entries_of seat.new.seen }
+    {
+        count(&self.room, &mut seat.pass)
+    }
+
+    /// The first seat has then seen what both have, and the second ends: its number is never used again.
+    ///
+    /// It takes no memory, and waits for nobody.
+    pub fn join(&self, seat: &mut Seat, ended: Seat)
+        requires board { IsAt self.now seat.old }
+        requires ended { IsAt self.now ended }
+        ensures seen { Extends seat.old seat.new }
+        ensures nothing { CalledNothing seat.old seat.new }
+        ensures both { Begins ended.seen seat.new.seen }
+        ensures ended { calls_by ended.number seat.new.seen ≡ calls_by ended.number ended.seen }
+    {
+        let Seat {
+            pass,
+            number: _,
+            room: _,
+        } = ended;
+        self.room.shared.join_seat::<Tells>(&mut seat.pass, pass);
+        count(&self.room, &mut seat.pass);
+    }
+
+    /// Finds the batch of a name: None exactly where the name does not stand, and then no entry is added.
+    ///
+    /// [`BookFull`](BoardError::BookFull) where the name stands and the history is full, then
+    /// [`Memory`](BoardError::Memory) (also where the batch is shared 2^63 times). The batch is shared, not copied. It
+    /// takes the logarithm of the number of batches that stand.
+    pub fn fetch<R: Wait>(
+        &self,
+        rt: &R,
+        seat: &mut Seat,
+        name: BatchName,
+    ) -> Result<Option<Arc<Batch>>, BoardError>
+        requires board { IsAt self.now seat.old }
+        ensures seen { Extends seat.old seat.new }
+        ensures found { IfOk result (λ r. IfSome r (λ a. Called seat.old (Fetch name) seat.new)) }
+        ensures batch { IfOk result (λ r. IfSome r (λ a. arc_value a ≡ true_batch seat.old.seen.job name)) }
+        ensures stands { IfOk result (λ r. is_some r ≡ (board_of seat.new.seen).stands name) }
+        ensures none { IfOk result (λ r. IfNone r (CalledNothing seat.old seat.new)) }
+        ensures refused { OnErr result (CalledNothing seat.old seat.new) }
+        ensures asked { OnErr result ((board_of seat.new.seen).stands name ≡ true) }
+        ensures full { IfErr result (λ e. e ≡ BookFull → IsFull seat.new) }
+        ensures memory { IfErr result (λ e. e ≡ Memory → HasRoom seat.new) }
+    {
+        let mut book = take(rt, &self.room, &mut seat.pass);
+        let answer = book.fetch(seat.number, name, self.limit);
+        give(&self.room, &mut seat.pass, book);
+        answer
+    }
+
+    /// Posts a batch, which is the true one of its name: [`Old`](Posted::Old) below the floor,
+    /// [`Known`](Posted::Known) where the name stands, else [`New`](Posted::New), and the name stands from then on.
+    ///
+    /// [`BookFull`](BoardError::BookFull) where the history is full, then [`Memory`](BoardError::Memory). It takes the
+    /// logarithm of the number of batches that stand.
+    pub fn post<R: Wait>(
+        &self,
+        rt: &R,
+        seat: &mut Seat,
+        batch: Arc<Batch>,
+    ) -> Result<Posted, BoardError>
+        requires board { IsAt self.now seat.old }
+        requires batch { arc_value batch ≡ true_batch seat.old.seen.job (arc_value batch).name }
+        ensures seen { Extends seat.old seat.new }
+        ensures ok { IfOk result (λ r. Called seat.old (Post (arc_value batch).name r) seat.new) }
+        ensures refused { OnErr result (CalledNothing seat.old seat.new) }
+        ensures full { IfErr result (λ e. e ≡ BookFull → IsFull seat.new) }
+        ensures memory { IfErr result (λ e. e ≡ Memory → HasRoom seat.new) }
+    {
+        let mut book = take(rt, &self.room, &mut seat.pass);
+        let answer = book.post(seat.number, batch, self.limit);
+        give(&self.room, &mut seat.pass, book);
+        answer
+    }
+
+    /// Keeps a snapshot of the job: [`New`](Kept::New) where it is further than the one kept for its partition, which it
+    /// takes the place of, else [`Behind`](Kept::Behind).
+    ///
+    /// [`BookFull`](BoardError::BookFull) where the history is full, then [`Memory`](BoardError::Memory). The snapshot is
+    /// moved, not copied.
+    pub fn keep<R: Wait>(
+        &self,
+        rt: &R,
+        seat: &mut Seat,
+        snapshot: Arc<Snapshot>,
+    ) -> Result<Kept, BoardError>
+        requires board { IsAt self.now seat.old }
+        requires snapshot { Stands seat.old.seen.job (arc_value snapshot) }
+        ensures seen { Extends seat.old seat.new }
+        ensures ok { IfOk result (λ r. Called seat.old (Keep (held_by (arc_value snapshot)) r) seat.new) }
+        ensures refused { OnErr result (CalledNothing seat.old seat.new) }
+        ensures full { IfErr result (λ e. e ≡ BookFull → IsFull seat.new) }
+        ensures memory { IfErr result (λ e. e ≡ Memory → HasRoom seat.new) }
+    {
+        let mut book = take(rt, &self.room, &mut seat.pass);
+        let answer = book.keep(seat.number, snapshot, self.limit);
+        give(&self.room, &mut seat.pass, book);
+        answer
+    }
+
+    /// Finds the snapshot that is kept for a partition: None exactly where there is none whose superstep is `at_least`
+    /// so much, and then no entry is added. It is at least as far as what the seat had seen kept.
+    ///
+    /// [`BookFull`](BoardError::BookFull) where there is one and the history is full, then
+    /// [`Memory`](BoardError::Memory) (also where it is shared 2^63 times). The snapshot is shared, not copied.
+    pub fn recall<R: Wait>(
+        &self,
+        rt: &R,
+        seat: &mut Seat,
+        part: u16,
+        at_least: u32,
+    ) -> Result<Option<Arc<Snapshot>>, BoardError>
+        requires board { IsAt self.now seat.old }
+        ensures seen { Extends seat.old seat.new }
+        ensures found { IfOk result (λ r. IfSome r (λ a. Called seat.old (Recall part at_least (held_by (arc_value a))) seat.new)) }
+        ensures snapshot { IfOk result (λ r. IfSome r (λ a. StandsFor seat.old.seen.job part (arc_value a).superstep (arc_value a))) }
+        ensures furthest { IfOk result (λ r. IfSome r (λ a. IsAsFar seat.old part (arc_value a).superstep)) }
+        ensures far { IfOk result (λ r. is_some r ≡ is_kept_from ((board_of seat.new.seen).kept part) at_least) }
+        ensures none { IfOk result (λ r. IfNone r (CalledNothing seat.old seat.new)) }
+        ensures refused { OnErr result (CalledNothing seat.old seat.new) }
+        ensures asked { OnErr result (is_kept_from ((board_of seat.new.seen).kept part) at_least ≡ true) }
+        ensures full { IfErr result (λ e. e ≡ BookFull → IsFull seat.new) }
+        ensures memory { IfErr result (λ e. e ≡ Memory → HasRoom seat.new) }
+    {
+        let mut book = take(rt, &self.room, &mut seat.pass);
+        let answer = book.recall(seat.number, part, at_least, self.limit);
+        give(&self.room, &mut seat.pass, book);
+        answer
+    }
+
+    /// Raises the floor to `superstep` at least, and drops the batches below it.
+    ///
+    /// [`BookFull`](BoardError::BookFull) where the history is full, then [`Memory`](BoardError::Memory). It takes time in
+    /// proportion to the batches that are dropped.
+    pub fn drop_below<R: Wait>(
+        &self,
+        rt: &R,
+        seat: &mut Seat,
+        superstep: u32,
+    ) -> Result<(), BoardError>
+        requires board { IsAt self.now seat.old }
+        ensures seen { Extends seat.old seat.new }
+        ensures ok { OnOk result (Called seat.old (Drop superstep) seat.new) }
+        ensures refused { OnErr result (CalledNothing seat.old seat.new) }
+        ensures full { IfErr result (λ e. e ≡ BookFull → IsFull seat.new) }
+        ensures memory { IfErr result (λ e. e ≡ Memory → HasRoom seat.new) }
+    {
+        let mut book = take(rt, &self.room, &mut seat.pass);
+        let answer = book.drop_below(seat.number, superstep, self.limit);
+        give(&self.room, &mut seat.pass, book);
+        answer
+    }
+}

@@ -1,0 +1,351 @@
+//! What lies in the slot of a board: the history, and what it leaves.
+
+ghost use Rattle.std.specs.Prelude.{◌≡◌, ℕ, ◌+◌, ◌&&◌, ◌<◌, ◌≤◌, ◌∷◌, ◌++◌, [], cond, if◌then◌else◌, nat_le, nat_lt, IsTrue, IsFalse, true, false, None, Some, length, replicate, slice_get, slice_set, slice_index_or, is_some, option_map, vec_len, vec_capacity, IfErr, IfOk, OnOk, OnErr, IfSome, IfNone, Err};
+ghost use Rattle.std.specs.Arc.{arc_value};
+ghost use Rattle.std.specs.BTreeMap.{get};
+ghost use Rattle.ball_model.specs.declared.history.Posted.TheVariants as posted;
+ghost use Rattle.ball_model.specs.declared.history.Kept.TheVariants as replies;
+ghost use Rattle.board.specs.declared.error.BoardError.TheVariants.{BookFull, Memory};
+ghost use Rattle.ball_model.specs.Batches.{true_batch};
+ghost use Rattle.ball_model.specs.State.{StandsFor};
+ghost use Rattle.ball_model.specs.Join.{Holding};
+ghost use Rattle.ball_model.specs.History.{Post, Fetch, Keep, Recall, Drop, IsLegal, entry, opened, entries_of, with_entry, board_of, held_by, is_further, is_kept_from, is_new_keep, is_new_post, same_name};
+ghost use Rattle.board.specs.Book.{by_name, calls_of, IsNoted, IsNext};
+
+use crate::error::BoardError;
+use crate::event::{Entry, Event};
+use ball_model::{BatchName, Kept, Plan, Posted};
+use batches::Batch;
+use edgelist::Graph;
+use replica::Snapshot;
+use std::alloc::{AllocError, Global};
+use std::collections::BTreeMap;
+use std::marker::Model;
+use std::mem;
+use std::snapshot::Snapshot as Seen;
+use std::sync::Arc;
+
+/// How many entries stand side by side. The history grows by so many at once, so that no entry is ever moved far.
+const SHEET: usize = 1024;
+
+/// The history, with what it leaves: the floor, the batches that stand, and the snapshot kept for each partition.
+#[derive(Drop)]
+pub struct Book {
+    alloc: Global,
+    graph: Seen<Graph>,
+    plan: Seen<Plan>,
+    // how many entries there are, the opening among them
+    entries: u32,
+    // the calls: full sheets, and the sheet that is written on
+    full: Vec<Vec<Entry>>,
+    sheet: Vec<Entry>,
+    floor: u32,
+    standing: BTreeMap<BatchName, Arc<Batch>>,
+    kept: Vec<Option<Arc<Snapshot>>>,
+}
+
+impl Model for Book {
+    ghost use Rattle.ball_model.specs.History.{History};
+
+    ghost Value = { History };
+
+    ghost use Rattle.board.specs.Book.{history_of, IsBook};
+
+    ghost view = { history_of };
+
+    ghost invariant = { IsBook };
+}
+
+impl Book {
+    /// The book of a history that has the opening alone.
+    pub fn open(alloc: Global, graph: &Graph, plan: &Plan) -> Result<Book, AllocError>
+        ensures { IfOk result (λ b. b ≡ opened (record { graph = graph.now.graph; plan = plan.now })) }
+    {
+        Ok(Book {
+            alloc,
+            graph: Seen::of(graph),
+            plan: Seen::of(plan),
+            entries: 1,
+            full: Vec::new(alloc),
+            sheet: Vec::new(alloc),
+            floor: 0,
+            standing: BTreeMap::new(alloc),
+            kept: start_kept(alloc, plan.parts())?,
+        })
+    }
+
+    /// The number of entries. The history is legal.
+    pub fn entries(&self) -> u32
+        ensures entries { result ≡ entries_of self.now }
+        ensures legal { IsLegal self.now }
+    {
+        self.entries
+    }
+
+    /// Finds the batch, and notes it.
+    pub fn fetch(
+        &mut self,
+        by: u64,
+        name: BatchName,
+        limit: u32,
+    ) -> Result<Option<Arc<Batch>>, BoardError>
+        ensures found { IfOk result (λ r. IfSome r (λ a. IsNoted limit by (Fetch name) self.old self.new × (arc_value a ≡ true_batch self.old.job name))) }
+        ensures none { IfOk result (λ r. IfNone r ((self.new ≡ self.old) × ((board_of self.old).stands name ≡ false))) }
+        ensures err { OnErr result ((self.new ≡ self.old) × ((board_of self.old).stands name ≡ true)) }
+        ensures full { IfErr result (λ e. e ≡ BookFull → limit ≤ entries_of self.old) }
+        ensures memory { IfErr result (λ e. e ≡ Memory → entries_of self.old < limit) }
+        ensures next { IsNext limit by self.old self.new }
+    {
+        let Some(batch) = self.standing.get(&name) else {
+            return Ok(None);
+        };
+        make_room(
+            self.alloc,
+            self.entries,
+            limit,
+            &mut self.full,
+            &mut self.sheet,
+        )?;
+        let Ok(copy) = Arc::try_clone(batch) else {
+            return Err(BoardError::Memory);
+        };
+        self.sheet.push_reserved(Entry {
+            by,
+            event: Event::Fetch(name),
+        });
+        self.entries += 1;
+        Ok(Some(copy))
+    }
+
+    /// Puts a batch where none of its name stands, and notes the reply.
+    pub fn post(&mut self, by: u64, batch: Arc<Batch>, limit: u32) -> Result<Posted, BoardError>
+        requires { arc_value batch ≡ true_batch self.old.job (arc_value batch).name }
+        ensures ok { IfOk result (λ r. IsNoted limit by (Post (arc_value batch).name r) self.old self.new) }
+        ensures err { OnErr result (self.new ≡ self.old) }
+        ensures full { IfErr result (λ e. e ≡ BookFull → limit ≤ entries_of self.old) }
+        ensures memory { IfErr result (λ e. e ≡ Memory → entries_of self.old < limit) }
+        ensures next { IsNext limit by self.old self.new }
+    {
+        make_room(
+            self.alloc,
+            self.entries,
+            limit,
+            &mut self.full,
+            &mut self.sheet,
+        )?;
+        let name = batch.name();
+        let reply = put_batch(&mut self.standing, self.floor, name, batch)?;
+        self.sheet.push_reserved(Entry {
+            by,
+            event: Event::Post(name, reply),
+        });
+        self.entries += 1;
+        Ok(reply)
+    }
+
+    /// Keeps a snapshot where it is further than the one kept for its partition, and notes the reply.
+    pub fn keep(&mut self, by: u64, snapshot: Arc<Snapshot>, limit: u32) -> Result<Kept, BoardError>
+        requires { StandsFor self.old.job (arc_value snapshot).part.number (arc_value snapshot).superstep (arc_value snapshot) }
+        ensures ok { IfOk result (λ r. IsNoted limit by (Keep (held_by (arc_value snapshot)) r) self.old self.new) }
+        ensures err { OnErr result (self.new ≡ self.old) }
+        ensures full { IfErr result (λ e. e ≡ BookFull → limit ≤ entries_of self.old) }
+        ensures memory { IfErr result (λ e. e ≡ Memory → entries_of self.old < limit) }
+        ensures next { IsNext limit by self.old self.new }
+    {
+        make_room(
+            self.alloc,
+            self.entries,
+            limit,
+            &mut self.full,
+            &mut self.sheet,
+        )?;
+        let seen = Seen::of(&*snapshot);
+        let reply = put_snapshot(&mut self.kept, snapshot);
+        self.sheet.push_reserved(Entry {
+            by,
+            event: Event::Keep(seen, reply),
+        });
+        self.entries += 1;
+        Ok(reply)
+    }
+
+    /// Finds the snapshot that is kept for a partition, where it is far enough, and notes it.
+    pub fn recall(
+        &mut self,
+        by: u64,
+        part: u16,
+        at_least: u32,
+        limit: u32,
+    ) -> Result<Option<Arc<Snapshot>>, BoardError>
+        ensures found { IfOk result (λ r. IfSome r (λ a. IsNoted limit by (Recall part at_least (held_by (arc_value a))) self.old self.new × StandsFor self.old.job part (arc_value a).superstep (arc_value a))) }
+        ensures none { IfOk result (λ r. IfNone r ((self.new ≡ self.old) × (is_kept_from ((board_of self.old).kept part) at_least ≡ false))) }
+        ensures err { OnErr result ((self.new ≡ self.old) × (is_kept_from ((board_of self.old).kept part) at_least ≡ true)) }
+        ensures full { IfErr result (λ e. e ≡ BookFull → limit ≤ entries_of self.old) }
+        ensures memory { IfErr result (λ e. e ≡ Memory → entries_of self.old < limit) }
+        ensures next { IsNext limit by self.old self.new }
+    {
+        let Some(snapshot) = find_snapshot(&self.kept, part, at_least) else {
+            return Ok(None);
+        };
+        make_room(
+            self.alloc,
+            self.entries,
+            limit,
+            &mut self.full,
+            &mut self.sheet,
+        )?;
+        let Ok(copy) = Arc::try_clone(snapshot) else {
+            return Err(BoardError::Memory);
+        };
+        self.sheet.push_reserved(Entry {
+            by,
+            event: Event::Recall(part, at_least, Seen::of(&*copy)),
+        });
+        self.entries += 1;
+        Ok(Some(copy))
+    }
+
+    /// Raises the floor, drops the batches below it, and notes it.
+    pub fn drop_below(&mut self, by: u64, superstep: u32, limit: u32) -> Result<(), BoardError>
+        ensures ok { OnOk result (IsNoted limit by (Drop superstep) self.old self.new) }
+        ensures err { OnErr result (self.new ≡ self.old) }
+        ensures full { IfErr result (λ e. e ≡ BookFull → limit ≤ entries_of self.old) }
+        ensures memory { IfErr result (λ e. e ≡ Memory → entries_of self.old < limit) }
+        ensures next { IsNext limit by self.old self.new }
+    {
+        make_room(
+            self.alloc,
+            self.entries,
+            limit,
+            &mut self.full,
+            &mut self.sheet,
+        )?;
+        self.floor = self.floor.max(superstep);
+        drop_batches(&mut self.standing, superstep);
+        self.sheet.push_reserved(Entry {
+            by,
+            event: Event::DropBelow(superstep),
+        });
+        self.entries += 1;
+        Ok(())
+    }
+}
+
+// A place for a snapshot of each partition.
+fn start_kept(alloc: Global, parts: u16) -> Result<Vec<Option<Arc<Snapshot>>>, AllocError>
+    ensures { IfOk result (λ kept. kept.items ≡ replicate parts None) }
+{
+    let mut kept = Vec::with_capacity(alloc, usize::from(parts))?;
+    for _ in 0..parts {
+        kept.push(None)?;
+    }
+    Ok(kept)
+}
+
+// Room for one entry more.
+fn make_room(
+    alloc: Global,
+    entries: u32,
+    limit: u32,
+    full: &mut Vec<Vec<Entry>>,
+    sheet: &mut Vec<Entry>,
+) -> Result<(), BoardError>
+    ensures same { calls_of full.new.items sheet.new.items ≡ calls_of full.old.items sheet.old.items }
+    ensures ok { OnOk result ((entries < limit) × (vec_len sheet.new < vec_capacity sheet.new)) }
+    ensures full { IfErr result (λ e. e ≡ BookFull → limit ≤ entries) }
+    ensures memory { IfErr result (λ e. e ≡ Memory → entries < limit) }
+{
+    if entries >= limit {
+        return Err(BoardError::BookFull);
+    }
+    if sheet.len() >= SHEET {
+        let Ok(()) = full.reserve(1) else {
+            return Err(BoardError::Memory);
+        };
+        full.push_reserved(mem::replace(sheet, Vec::new(alloc)));
+    }
+    let Ok(()) = sheet.reserve(1) else {
+        return Err(BoardError::Memory);
+    };
+    Ok(())
+}
+
+// Puts a batch where none of its name stands.
+fn put_batch(
+    standing: &mut BTreeMap<BatchName, Arc<Batch>>,
+    floor: u32,
+    name: BatchName,
+    batch: Arc<Batch>,
+) -> Result<Posted, BoardError>
+    ensures reply { IfOk result (λ r. r ≡ (if nat_lt name.superstep floor then posted.Old else (if is_some (get by_name standing.old name) then posted.Known else posted.New))) }
+    ensures put { IfOk result (λ r. (n : BatchName) → get by_name standing.new n ≡ cond (is_new_post r && same_name n name) (Some batch) (get by_name standing.old n)) }
+    ensures err { IfErr result (λ e. (e ≡ Memory) × ((n : BatchName) → get by_name standing.new n ≡ get by_name standing.old n)) }
+{
+    if name.superstep < floor {
+        return Ok(Posted::Old);
+    }
+    if standing.contains_key(&name) {
+        return Ok(Posted::Known);
+    }
+    let Ok(_) = standing.insert(name, batch) else {
+        return Err(BoardError::Memory);
+    };
+    Ok(Posted::New)
+}
+
+// Puts a snapshot in its place where it is further than the one there.
+fn put_snapshot(kept: &mut Vec<Option<Arc<Snapshot>>>, snapshot: Arc<Snapshot>) -> Kept
+    requires { (arc_value snapshot).part.number < length kept.old.items }
+    ensures reply { result ≡ (if is_further (option_map (λ a. held_by (arc_value a)) (slice_index_or kept.old.items (arc_value snapshot).part.number None)) (held_by (arc_value snapshot)) then replies.New else replies.Behind) }
+    ensures put { kept.new.items ≡ (if is_new_keep result then slice_set kept.old.items (arc_value snapshot).part.number (Some snapshot) else kept.old.items) }
+{
+    let place = usize::from(snapshot.partition());
+    if !is_ahead(&kept[place], &snapshot) {
+        return Kept::Behind;
+    }
+    kept[place] = Some(snapshot);
+    Kept::New
+}
+
+// Whether a snapshot is further than the one that is kept.
+fn is_ahead(old: &Option<Arc<Snapshot>>, new: &Snapshot) -> bool
+    ensures { result ≡ is_further (option_map (λ a. held_by (arc_value a)) old.now) (held_by new.now) }
+{
+    match old {
+        Some(old) => old.superstep() < new.superstep(),
+        None => true,
+    }
+}
+
+// The snapshot that is kept for a partition, where it is far enough.
+fn find_snapshot(kept: &[Option<Arc<Snapshot>>], part: u16, at_least: u32) -> Option<&Arc<Snapshot>>
+    ensures found { IfSome result (λ a. (slice_index_or kept.now part None ≡ Some a.now) × (at_least ≤ (arc_value a.now).superstep)) }
+    ensures kept { is_some result ≡ is_kept_from (option_map (λ a. held_by (arc_value a)) (slice_index_or kept.now part None)) at_least }
+{
+    match kept.get(usize::from(part)) {
+        Some(Some(snapshot)) if snapshot.superstep() >= at_least => Some(snapshot),
+        _ => None,
+    }
+}
+
+// Whether the first name is of a superstep below s. If it is not, none is.
+fn first_is_below(standing: &BTreeMap<BatchName, Arc<Batch>>, s: u32) -> bool
+    ensures below { IsTrue result → (e : BatchName × _) × (slice_get standing.now.entries 0 ≡ Some e) × (e.0.superstep < s) }
+    ensures none { IsFalse result → (n : BatchName) → n.superstep < s → get by_name standing.now n ≡ None }
+{
+    match standing.first_key_value() {
+        Some((name, _)) => name.superstep < s,
+        None => false,
+    }
+}
+
+// Takes out the names of supersteps below s.
+fn drop_batches(standing: &mut BTreeMap<BatchName, Arc<Batch>>, s: u32)
+    ensures { (n : BatchName) → get by_name standing.new n ≡ cond (nat_lt n.superstep s) None (get by_name standing.old n) }
+{
+    while first_is_below(standing, s) {
+        let Some(_old) = standing.pop_first() else {
+            break;
+        };
+    }
+}

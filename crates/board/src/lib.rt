@@ -1,0 +1,36 @@
+//! One history that threads share: a board on which batches are posted and fetched, snapshots kept and recalled.
+//!
+//! A [`Board`] is shared by reference; each thread calls it through a [`Seat`] of its own. Every call stands once in
+//! one history, answered as a board of a single caller would answer it there (linearizability: Herlihy and Wing
+//! 1990); which replies those are is a definition of `ball_model`. Contracts see a seat as its number and the history
+//! that it has seen, a beginning of the one there is. After a call the seat has seen all of it, so its own entry is
+//! the last.
+//!
+//! ```text
+//!   the history   Open 1 2 3 4 5 6 7      one call:  draw a ticket, wait until it is served,
+//!   seat A saw    |--------|                         take the book, ask it, give it back,
+//!   seat B saw    |-------------|                    write the length, serve the next ticket
+//! ```
+//!
+//! Calls take turns by a ticket lock over three words, and what they ask lies in one slot, the book: the entries, the
+//! floor, the batches that stand by name, and the furthest snapshot of each partition. A call holds its turn for its
+//! own work alone: a search among the batches that stand, an entry of the history, and what it lets go. No rows are
+//! copied, and nothing is in proportion to the history. Who waits looks some sixty times and then yields its thread.
+//!
+//! An entry takes about 24 bytes. [`Board::length`] and [`Board::join`] take no turn and no memory.
+#![tactic(auto)]
+
+mod board;
+mod book;
+mod error;
+mod event;
+mod rule;
+mod seat;
+mod turn;
+
+pub use board::Board;
+pub use error::BoardError;
+pub use seat::Seat;
+
+#[cfg(test)]
+mod tests;

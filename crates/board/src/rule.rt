@@ -1,0 +1,111 @@
+//! The table of a board: word 0 is the length of the history, word 1 the next ticket, word 2 the ticket that is served,
+//! and the one slot has the book. Each step is one of the moves below.
+
+use crate::book::Book;
+use atomic_table::{Join, Play, Seat, Split, Table, TableRule};
+use std::alloc::Global;
+use std::marker::Model;
+use std::snapshot::Snapshot as Seen;
+
+/// The word that is the length of the history.
+pub const LENGTH: usize = 0;
+
+/// The word that is the next ticket.
+pub const TICKETS: usize = 1;
+
+/// The word that is the ticket that is served.
+pub const SERVING: usize = 2;
+
+/// What a seat knows, as clauses see it. No value of it is made.
+pub struct Knowledge {}
+
+impl Model for Knowledge {
+    ghost use Rattle.board.specs.View.{View, spent};
+
+    ghost Value = { View };
+
+    ghost view = { λ _. spent };
+}
+
+/// There is one legal history, and what each seat knows fits it.
+pub struct Lock;
+
+impl TableRule<Option<Book>, Knowledge, (Seen<Book>, u32)> for Lock {
+    ghost use Rattle.board.specs.Rule.{IsLocked, first_view};
+
+    ghost holds = { λ _. IsLocked };
+
+    ghost first = { λ k. first_view k.0.value k.1 };
+}
+
+/// A ticket is drawn.
+pub struct Draws;
+
+impl Play<Option<Book>, Knowledge> for Draws {
+    ghost use Rattle.board.specs.Rule.{Drew};
+
+    ghost then = { Drew };
+}
+
+/// The ticket that is served is looked at.
+pub struct Looks;
+
+impl Play<Option<Book>, Knowledge> for Looks {
+    ghost use Rattle.board.specs.Rule.{Looked};
+
+    ghost then = { Looked };
+}
+
+/// The length is written.
+pub struct Writes;
+
+impl Play<Option<Book>, Knowledge> for Writes {
+    ghost use Rattle.board.specs.Rule.{Wrote};
+
+    ghost then = { Wrote };
+}
+
+/// The next ticket is served.
+pub struct Raises;
+
+impl Play<Option<Book>, Knowledge> for Raises {
+    ghost use Rattle.board.specs.Rule.{Raised};
+
+    ghost then = { Raised };
+}
+
+/// The length is looked at.
+pub struct Counts;
+
+impl Play<Option<Book>, Knowledge> for Counts {
+    ghost use Rattle.board.specs.Rule.{Counted};
+
+    ghost then = { Counted };
+}
+
+/// A seat gives some of its numbers to a new one.
+pub struct Shares;
+
+impl Split<Knowledge> for Shares {
+    ghost use Rattle.board.specs.Rule.{keeper, newcomer};
+
+    ghost left = { keeper };
+
+    ghost right = { newcomer };
+}
+
+/// A seat is told what another has seen, which ends.
+pub struct Tells;
+
+impl Join<Knowledge> for Tells {
+    ghost use Rattle.board.specs.Rule.{informed};
+    ghost use Rattle.board.specs.View.{spent};
+
+    ghost both = { informed };
+
+    ghost spent = { spent };
+}
+
+pub type Room = Table<Option<Book>, Knowledge, (Seen<Book>, u32), Lock, Global>;
+
+pub type Pass = Seat<Option<Book>, Knowledge>;

@@ -1,0 +1,99 @@
+//! The turn of a call: a ticket is drawn, the book is taken once the ticket is served, and given back.
+
+ghost use Rattle.std.specs.Prelude.{◌≡◌, ◌%◌, ◌^◌, ◌<◌, ◌∷◌, [], None, Some};
+ghost use Rattle.ball_model.specs.History.{Begins, calls_by, entries_of};
+ghost use Rattle.board.specs.View.{Told};
+ghost use Rattle.board.specs.Rule.{GoesOn, at_look, with_ticket, at_turn, served};
+ghost use Rattle.board.specs.Turn.{IsSized, Next};
+
+use crate::book::Book;
+use crate::rule::{Counts, Draws, LENGTH, Looks, Pass, Raises, Room, SERVING, TICKETS, Writes};
+use std::sync::Wait;
+use std::{hint, thread};
+
+/// How often a caller looks at the ticket that is served before it yields its thread.
+const LOOKS: u32 = 64;
+
+/// Looks at the length.
+pub fn count(room: &Room, pass: &mut Pass) -> u64
+    requires room { IsSized room.now.shared.table_id × (pass.old.table_id ≡ room.now.shared.table_id) }
+    requires idle { (pass.old.me.0.stage ≡ 0) × (0 < pass.old.me.0.room) × (pass.old.me.1 ≡ []) }
+    ensures same { (pass.new.table_id ≡ pass.old.table_id) × (pass.new.id ≡ pass.old.id) }
+    ensures length { result ≡ entries_of pass.new.me.0.seen }
+    ensures seen { GoesOn pass.old.me.0 pass.new.me.0.seen × (pass.new.me ≡ (at_look pass.old.me.0 pass.new.me.0.seen, [])) }
+    ensures told { (t : Told) → pass.old.me.0.told ≡ Some t → Begins t.seen pass.new.me.0.seen × (calls_by t.number pass.new.me.0.seen ≡ calls_by t.number t.seen) }
+{
+    room.shared.load::<Counts>(pass, LENGTH)
+}
+
+// Draws a ticket.
+fn draw(room: &Room, pass: &mut Pass) -> u64
+    requires room { IsSized room.now.shared.table_id × (pass.old.table_id ≡ room.now.shared.table_id) }
+    requires idle { (pass.old.me.0.stage ≡ 0) × (0 < pass.old.me.0.room) × (pass.old.me.1 ≡ []) }
+    ensures same { (pass.new.table_id ≡ pass.old.table_id) × (pass.new.id ≡ pass.old.id) }
+    ensures drew { pass.new.me ≡ (with_ticket pass.old.me.0 pass.new.me.0.ticket, []) }
+    ensures ticket { result ≡ pass.new.me.0.ticket % 2 ^ 64 }
+{
+    room.shared.fetch_add::<Draws>(pass, TICKETS, 1)
+}
+
+// Waits until it is the seat's turn.
+fn wait<R: Wait>(rt: &R, room: &Room, pass: &mut Pass, ticket: u64)
+    requires room { IsSized room.now.shared.table_id × (pass.old.table_id ≡ room.now.shared.table_id) }
+    requires waits { (pass.old.me.0.stage ≡ 1) × (pass.old.me.1 ≡ []) × (ticket ≡ pass.old.me.0.ticket % 2 ^ 64) }
+    ensures same { (pass.new.table_id ≡ pass.old.table_id) × (pass.new.id ≡ pass.old.id) }
+    ensures turn { GoesOn pass.old.me.0 pass.new.me.0.seen × (pass.new.me ≡ (at_turn pass.old.me.0 pass.new.me.0.seen, (0, Some pass.new.me.0.seen) ∷ [])) }
+{
+    let mut looks = 0;
+    for _ in rt.forever() {
+        if room.shared.load::<Looks>(pass, SERVING) == ticket {
+            return;
+        }
+        looks = pause(looks);
+    }
+    unreachable!()
+}
+
+// Lets a moment pass after so many looks, and counts one more.
+fn pause(looks: u32) -> u32 {
+    if looks < LOOKS {
+        hint::spin_loop();
+        return looks + 1;
+    }
+    thread::yield_now();
+    looks
+}
+
+/// Takes the book, once it is the seat's turn.
+pub fn take<R: Wait>(rt: &R, room: &Room, pass: &mut Pass) -> Book
+    requires room { IsSized room.now.shared.table_id × (pass.old.table_id ≡ room.now.shared.table_id) }
+    requires idle { (pass.old.me.0.stage ≡ 0) × (0 < pass.old.me.0.room) × (pass.old.me.1 ≡ []) }
+    ensures same { (pass.new.table_id ≡ pass.old.table_id) × (pass.new.id ≡ pass.old.id) }
+    ensures kept { (pass.new.me.0.number ≡ pass.old.me.0.number) × (pass.new.me.0.room ≡ pass.old.me.0.room) × (pass.new.me.0.told ≡ pass.old.me.0.told) × (pass.new.me.0.limit ≡ pass.old.me.0.limit) }
+    ensures turn { (pass.new.me.0.stage ≡ 2) × (pass.new.me.1 ≡ (0, None) ∷ []) }
+    ensures book { (result ≡ pass.new.me.0.seen) × GoesOn pass.old.me.0 result }
+{
+    let ticket = draw(room, pass);
+    wait(rt, room, pass, ticket);
+    let Some(book) = room.shared.exchange(pass, 0, None) else {
+        unreachable!()
+    };
+    book
+}
+
+/// Gives the book back, and lets the next caller in.
+///
+/// The book is put into the slot before the length is written; no other seat can reach it there until `serving` is
+/// raised, which is the last step.
+pub fn give(room: &Room, pass: &mut Pass, book: Book)
+    requires room { IsSized room.now.shared.table_id × (pass.old.table_id ≡ room.now.shared.table_id) }
+    requires turn { (pass.old.me.0.stage ≡ 2) × (pass.old.me.1 ≡ (0, None) ∷ []) }
+    requires next { Next pass.old.me.0 book }
+    ensures same { (pass.new.table_id ≡ pass.old.table_id) × (pass.new.id ≡ pass.old.id) }
+    ensures given { pass.new.me ≡ (served (at_turn pass.old.me.0 book), []) }
+{
+    let length = u64::from(book.entries());
+    let _left = room.shared.exchange(pass, 0, Some(book));
+    room.shared.store::<Writes>(pass, LENGTH, length);
+    room.shared.fetch_add::<Raises>(pass, SERVING, 1);
+}

@@ -1,0 +1,195 @@
+//! Lists of the vertices that alone are counted.
+
+ghost use Rattle.std.specs.Prelude.{◌≡◌, ◌+◌, ◌^◌, ◌<◌, ◌≤◌, ℕ, List, Bool, [], ◌∷◌, ◌++◌, length, replicate, slice_index_or, if◌then◌else◌, None, OnOk, IfOk, IfErr, IfSome, IfNone, false, true};
+ghost use Rattle.std.specs.List.{IsDistinct};
+ghost use Rattle.std.specs.Str.{bytes_eq};
+ghost use Rattle.csv.specs.Records.{fields_of};
+ghost use Rattle.ball_model.specs.Input.{IsPlain, records};
+ghost use Rattle.ball_model.specs.Counting.{is_name};
+ghost use Rattle.edgelist.specs.Links.{marked};
+ghost use Rattle.edgelist.specs.Reading.{byte_of};
+ghost use Rattle.edgelist.specs.Records.{FromStart};
+ghost use Rattle.edgelist.specs.declared.counting.CountedError.TheVariants.{Memory};
+ghost use Rattle.edgelist.specs.Counting.{ListFaultIs, record_fault, MarksAre, MarksOne, SaysMarks, SaysRefusal};
+
+use crate::index::Index;
+use crate::labels::Labels;
+use crate::read::Delimiter;
+use crate::records::{next_record, reader_of};
+use csv::{ByteRecord, Reader};
+use std::alloc::{AllocError, Global};
+use std::io::Read;
+use thiserror::Error;
+
+/// Why a list of counted vertices is refused. Records are numbered from 1.
+#[derive(Clone, Copy, Debug, PartialEq, Eq, Error)]
+pub enum CountedError {
+    /// A record is not one field, or an empty one.
+    #[error("record {number} of the list is not one identifier")]
+    Fields { number: u64 },
+    /// A record names no vertex.
+    #[error("record {number} of the list names no vertex")]
+    Unknown { number: u64 },
+    /// Memory was refused.
+    #[error("out of memory")]
+    Memory,
+}
+
+impl From<AllocError> for CountedError {
+    ghost from_gives = { λ _ e. e ≡ Memory };
+
+    fn from(_error: AllocError) -> CountedError {
+        CountedError::Memory
+    }
+}
+
+// The bytes of a list are there, so all that fails is memory.
+impl From<csv::Error> for CountedError {
+    ghost from_gives = { λ _ e. e ≡ Memory };
+
+    fn from(_error: csv::Error) -> CountedError {
+        CountedError::Memory
+    }
+}
+
+// The field of a record, where it has one alone that is not empty.
+fn name<'a>(row: &'a ByteRecord) -> Option<&'a [u8]>
+    ensures fields { IfSome result (λ name. fields_of row.now ≡ name.now ∷ []) }
+    ensures is_name { IfSome result (λ name. is_name (fields_of row.now) ≡ true) }
+    ensures none { IfNone result (is_name (fields_of row.now) ≡ false) }
+{
+    if row.len() != 1 {
+        return None;
+    }
+    let Some(field) = row.get(0) else {
+        return None;
+    };
+    if field.is_empty() {
+        return None;
+    }
+    Some(field)
+}
+
+// Marks the vertex that a record names, which follows `number` others.
+fn mark(
+    marks: &mut [bool],
+    index: &Index<'_>,
+    row: &ByteRecord,
+    number: u64,
+) -> Result<(), CountedError>
+    requires distinct { IsDistinct bytes_eq index.now }
+    requires size { length marks.old ≡ length index.now }
+    requires few { number ≤ 2 ^ 63 }
+    ensures marks { OnOk result (MarksOne index.now (fields_of row.now) marks.old marks.new) }
+    ensures passes { OnOk result (record_fault index.now (fields_of row.now) number ≡ None) }
+    ensures stops { IfErr result (ListFaultIs (record_fault index.now (fields_of row.now) number)) }
+{
+    let Some(label) = name(row) else {
+        return Err(CountedError::Fields { number: number + 1 });
+    };
+    let Some(v) = index.find(label) else {
+        return Err(CountedError::Unknown { number: number + 1 });
+    };
+    marks[v as usize] = true;
+    Ok(())
+}
+
+// Marks the vertices that the records of a list name.
+fn mark_all<R: Read + Drop>(
+    marks: &mut [bool],
+    index: &Index<'_>,
+    reader: &mut Reader<R>,
+    row: &mut ByteRecord,
+    most: u64,
+) -> Result<(), CountedError>
+    requires distinct { IsDistinct bytes_eq index.now }
+    requires marks { MarksAre index.now [] marks.old }
+    requires few { most ≤ 2 ^ 63 + 1 }
+    ensures ok { FromStart R.remaining reader.old (λ rs. OnOk result (SaysMarks index.now rs marks.new)) }
+    ensures refused { FromStart R.remaining reader.old (λ rs. IfErr result (SaysRefusal index.now rs)) }
+{
+    for number in 0..most {
+        let more = next_record(reader, row)?;
+        if !more {
+            return Ok(());
+        }
+        match mark(marks, index, row, number) {
+            Ok(()) => {}
+            Err(e) => return Err(e),
+        }
+    }
+    Err(CountedError::Memory)
+}
+
+// A mark for each of so many vertices, not set.
+fn no_marks(alloc: Global, count: usize) -> Result<Vec<bool>, AllocError>
+    ensures { IfOk result (λ marks. marks.items ≡ replicate count false) }
+{
+    vec![in alloc; false; count]
+}
+
+// Marks the vertices that a list names.
+fn mark_list(
+    alloc: Global,
+    marks: &mut [bool],
+    index: &Index<'_>,
+    delimiter: Delimiter,
+    list: &[u8],
+) -> Result<(), CountedError>
+    requires distinct { IsDistinct bytes_eq index.now }
+    requires marks { MarksAre index.now [] marks.old }
+    ensures ok { IsPlain list.now → OnOk result (SaysMarks index.now (records (byte_of delimiter) list.now) marks.new) }
+    ensures refused { IsPlain list.now → IfErr result (SaysRefusal index.now (records (byte_of delimiter) list.now)) }
+{
+    let mut reader = reader_of(alloc, list, delimiter);
+    let mut row = ByteRecord::new(alloc);
+    match mark_all(marks, index, &mut reader, &mut row, list.len() as u64 + 2) {
+        Ok(()) => Ok(()),
+        Err(e) => Err(e),
+    }
+}
+
+/// For each label whether some record of the list names it.
+pub(crate) fn marks_of(
+    alloc: Global,
+    labels: &Labels,
+    delimiter: Delimiter,
+    list: &[u8],
+) -> Result<Vec<bool>, CountedError>
+    requires distinct { IsDistinct bytes_eq labels.now }
+    requires few { length labels.now < 2 ^ 32 }
+    ensures size { IfOk result (λ marks. length marks.items ≡ length labels.now) }
+    ensures ok { IsPlain list.now → IfOk result (λ marks. SaysMarks labels.now (records (byte_of delimiter) list.now) marks.items) }
+    ensures refused { IsPlain list.now → IfErr result (SaysRefusal labels.now (records (byte_of delimiter) list.now)) }
+{
+    let index = Index::of(alloc, labels)?;
+    let mut marks = no_marks(alloc, labels.len())?;
+    mark_list(alloc, &mut marks, &index, delimiter, list)?;
+    Ok(marks)
+}
+
+/// The mark of a vertex; one that has none is counted.
+pub(crate) fn is_marked(marks: &[bool], v: usize) -> bool
+    ensures { result ≡ slice_index_or marks.now v true }
+{
+    if v < marks.len() { marks[v] } else { true }
+}
+
+// 1 for a mark that is set.
+fn bit(mark: bool) -> u32
+    ensures { result ≡ (if mark then 1 else 0) }
+{
+    if mark { 1 } else { 0 }
+}
+
+/// How many marks are set.
+pub(crate) fn count_marks(marks: &[bool]) -> u32
+    requires { length marks.now < 2 ^ 32 }
+    ensures { result ≡ length (marked (length marks.now) marks.now) }
+{
+    let mut count = 0;
+    for v in 0..marks.len() {
+        count += bit(is_marked(marks, v));
+    }
+    count
+}

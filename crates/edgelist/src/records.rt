@@ -1,0 +1,59 @@
+//! The records of a text, as `csv` reads them.
+
+ghost use Rattle.std.specs.Prelude.{◌≡◌, [], IfOk, true, false};
+ghost use Rattle.csv.specs.Records.{fields_of};
+ghost use Rattle.edgelist.specs.Records.{is_blank, ForPlain, IsLeft, ReadsNone, ReadsOne};
+ghost use Rattle.edgelist.specs.Reading.{byte_of};
+
+use crate::read::Delimiter;
+use csv::{ByteRecord, Reader, ReaderBuilder};
+use std::alloc::Global;
+use std::io::Read;
+
+fn byte(delimiter: Delimiter) -> u8
+    ensures { result ≡ byte_of delimiter }
+{
+    match delimiter {
+        Delimiter::Tab => b'\t',
+        Delimiter::Comma => b',',
+        Delimiter::Space => b' ',
+    }
+}
+
+/// A reader of records: quotes are ordinary bytes, nothing is trimmed, and a record has any number of fields.
+pub(crate) fn reader_of<R: Read + Drop>(alloc: Global, source: R, delimiter: Delimiter) -> Reader<R>
+    ensures { ForPlain (R.remaining source) (λ text. IsLeft R.remaining (byte_of delimiter) text [] result) }
+{
+    ReaderBuilder::new()
+        .has_headers(false)
+        .flexible(true)
+        .quoting(false)
+        .comment(Some(b'#'))
+        .delimiter(byte(delimiter))
+        .from_reader(alloc, source)
+}
+
+// Whether a row is one empty field: what is read of a comment at the end of a text that has no LF.
+fn is_blank(row: &ByteRecord) -> bool
+    ensures { result ≡ is_blank (fields_of row.now) }
+{
+    if row.len() != 1 {
+        return false;
+    }
+    match row.get(0) {
+        Some(field) => field.is_empty(),
+        None => false,
+    }
+}
+
+/// Reads one record more, and tells whether there was one.
+pub(crate) fn next_record<R: Read + Drop>(
+    reader: &mut Reader<R>,
+    row: &mut ByteRecord,
+) -> Result<bool, csv::Error>
+    ensures one { IfOk result (λ more. more ≡ true → ReadsOne R.remaining reader.old reader.new (fields_of row.new)) }
+    ensures end { IfOk result (λ more. more ≡ false → ReadsNone R.remaining reader.old) }
+{
+    let more = reader.read_byte_record(row)?;
+    if more { Ok(!is_blank(row)) } else { Ok(false) }
+}

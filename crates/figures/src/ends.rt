@@ -1,0 +1,83 @@
+//! The figures of many vertices, in threads.
+
+ghost use Rattle.std.specs.Prelude.{◌≡◌, ◌≤◌, ◌<◌, ◌^◌, [], IfOk, length, map, slice_index_or};
+ghost use Rattle.std.specs.List.{All};
+ghost use Rattle.figures.specs.declared.tally.Tally.{Tally};
+ghost use Rattle.figures.specs.Values.{IsAt, figures_from, value_of};
+
+use super::{Tally, closeness, estimate, lin};
+use rayon::prelude::*;
+use registers::Rows;
+use std::alloc::{AllocError, Global};
+use std::thread::Threads;
+
+/// What is reported of a vertex. The order of the fields keeps it at 48 bytes.
+#[derive(Clone, Copy, Debug)]
+pub struct Figures {
+    /// The estimate of its ball, in millionths.
+    pub estimate: u64,
+    /// Its harmonic centrality, in millionths.
+    pub harmonic: u64,
+    /// Lin's index, in millionths.
+    pub lin: u128,
+    /// Its closeness, in millionths.
+    pub closeness: u64,
+    /// The number of registers of its row that are 0.
+    pub empty: u32,
+}
+
+/// The figures of all vertices, in order: of each row and the tally at its place, what [`estimate`], [`closeness`],
+/// [`lin`] and [`Rows::empty_count`] give. The error is that memory was refused.
+///
+/// The work is dealt out to as many threads as there are processors; what comes out is the same for every split.
+/// Fewer than 2,048 vertices are done in one thread.
+pub fn final_figures(
+    rt: &(impl Threads + Sync),
+    alloc: Global,
+    log2m: u8,
+    rows: &Rows,
+    tallies: &[Tally],
+) -> Result<Vec<Figures>, AllocError>
+    requires low { 4 ≤ log2m }
+    requires high { log2m ≤ 10 }
+    requires count { length tallies.now ≡ length rows.now.rows }
+    requires width { rows.now.width ≡ 2 ^ log2m }
+    requires ranks { All (λ row. All (λ r. r ≤ 33) row) rows.now.rows }
+    ensures { IfOk result (λ v. v.items ≡ figures_from log2m rows.now.rows (map value_of tallies.now)) }
+{
+    (0..tallies.len())
+        .into_par_iter()
+        .map(
+            |i: usize| -> Figures
+                requires low { 4 ≤ log2m }
+                requires high { log2m ≤ 10 }
+                requires tally { i < length tallies.now }
+                requires row { i < length rows.now.rows }
+                requires width { rows.now.width ≡ 2 ^ log2m }
+                requires ranks { All (λ r. r ≤ 33) (slice_index_or rows.now.rows i []) }
+                ensures { (d : Tally) → IsAt log2m rows.entry.now.rows tallies.entry.now i d result }
+            { figures_at(log2m, rows, tallies, i) },
+        )
+        .collect(rt, alloc)
+}
+
+// The figures of the vertex at a place.
+fn figures_at(log2m: u8, rows: &Rows, tallies: &[Tally], i: usize) -> Figures
+    requires low { 4 ≤ log2m }
+    requires high { log2m ≤ 10 }
+    requires tally { i < length tallies.now }
+    requires row { i < length rows.now.rows }
+    requires width { rows.now.width ≡ 2 ^ log2m }
+    requires ranks { All (λ r. r ≤ 33) (slice_index_or rows.now.rows i []) }
+    ensures { (d : Tally) → IsAt log2m rows.now.rows tallies.now i d result }
+{
+    let tally = tallies[i];
+    let estimate = estimate(log2m, rows.row(i));
+    Figures {
+        estimate,
+        harmonic: tally.harm,
+        closeness: closeness(tally.dist),
+        lin: lin(estimate, tally.dist),
+        empty: rows.empty_count(i),
+    }
+}

@@ -1,0 +1,10 @@
+pub mod AppendingLemmas
+pub mod DigitsLemmas
+pub mod GammaLemmas
+pub mod IndexLemmas
+pub mod PlacesLemmas
+pub mod SpelledLemmas
+pub mod SteppingLemmas
+pub mod WalkLemmas
+pub mod WholeLemmas
+pub mod WordsLemmas

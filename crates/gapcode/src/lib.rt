@@ -1,0 +1,34 @@
+//! Lists of ascending numbers as gap codes.
+//!
+//! [`Lists`] keeps lists of ascending numbers, as the predecessors of each vertex of a graph, in little memory: the
+//! gaps between neighbours are mostly small, and a small number has a short Elias gamma code (Elias 1975). Any list
+//! is found at once, and [`Elements`] walks it without memory. [`ListsBuilder`] takes one list after the other.
+//! [`Lists::bytes`] and [`Lists::read`] are the one spelling of lists as bytes, both ways.
+//!
+//! Below them, [`BitWriter`] with [`put_gamma`] and [`BitReader`] with [`get_gamma`] write and read single codes.
+//!
+//! ```text
+//! let lists = ListsBuilder::with_room(alloc, 1)?.push(&[0, 2, 5])?.finish();
+//! lists.list(0)   // 0, 2, 5
+//! lists.bytes()   // 0x25, 0x30
+//! ```
+#![tactic(auto)]
+
+mod check;
+mod code;
+mod elements;
+mod error;
+pub mod laws;
+mod lists;
+mod places;
+mod reader;
+mod writer;
+
+pub use elements::Elements;
+pub use error::CodeError;
+pub use lists::{Lists, ListsBuilder};
+pub use reader::{BitReader, get_gamma};
+pub use writer::{BitWriter, put_gamma};
+
+#[cfg(test)]
+mod tests;

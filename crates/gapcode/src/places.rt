@@ -1,0 +1,87 @@
+//! Places in bits, in four bytes each.
+
+ghost use Rattle.std.specs.Prelude.{◌≡◌, ◌+◌, ◌-◌, ◌/◌, ◌*◌, ◌^◌, ◌<◌, ◌≤◌, ◌++◌, ◌∷◌, [], length, replicate, slice_index, IfOk, OnOk, nat_le};
+ghost use Rattle.std.specs.List.{count_by};
+ghost use Rattle.gapcode.specs.Places.{passed};
+
+use std::alloc::{AllocError, Global};
+use std::marker::Model;
+
+/// Ascending places. It keeps the lowest 32 bits of each, and a mark wherever 2^32 are passed: once in 512 MiB.
+#[derive(Drop)]
+pub struct Places {
+    lows: Vec<u32>,
+    marks: Vec<usize>,
+}
+
+impl Model for Places {
+    ghost use Rattle.std.specs.Prelude.{List, ℕ};
+    ghost use Rattle.gapcode.specs.Places.{places_from, AreMarks};
+
+    ghost Value = { List ℕ };
+
+    ghost view = { λ p. places_from 0 p.marks.items p.lows.items };
+
+    ghost invariant = { λ p. AreMarks p.lows.items p.marks.items };
+}
+
+// How many marks stand at entry i or before.
+fn passed_by(marks: &[usize], i: usize) -> usize
+    ensures { result ≡ passed i marks.now }
+{
+    marks.iter().filter(|mark| **mark <= i).count()
+}
+
+// Marks the entry until there are that many marks.
+fn put_marks(marks: &mut Vec<usize>, entry: usize, count: u64) -> Result<(), AllocError>
+    requires { length marks.old.items ≤ count }
+    ensures { OnOk result (marks.new.items
+        ≡ marks.old.items ++ replicate (count - length marks.old.items) entry) }
+{
+    for _ in marks.len() as u64..count {
+        marks.push(entry)?;
+    }
+    Ok(())
+}
+
+impl Places {
+    /// No places, with room for so many.
+    pub fn with_room(alloc: Global, count: usize) -> Result<Places, AllocError>
+        ensures { IfOk result (λ p. p ≡ []) }
+    {
+        Ok(Places {
+            lows: Vec::with_capacity(alloc, count)?,
+            marks: Vec::new(alloc),
+        })
+    }
+
+    /// The number of places.
+    pub fn len(&self) -> usize
+        ensures { result ≡ length self.now }
+    {
+        self.lows.len()
+    }
+
+    /// Place i.
+    pub fn at(&self, i: usize) -> u128
+        requires { i < length self.now }
+        ensures { result ≡ slice_index self.now i }
+    {
+        self.lows[i] as u128 + ((passed_by(&self.marks, i) as u128) << 32)
+    }
+
+    /// One place more, not before the last.
+    pub fn push(self, place: u128) -> Result<Places, AllocError>
+        requires order { slice_index self (length self - 1) ≤ place }
+        requires small { place < 2 ^ 96 }
+        ensures { IfOk result (λ p. p ≡ self ++ place ∷ []) }
+    {
+        let Places {
+            mut lows,
+            mut marks,
+        } = self;
+        put_marks(&mut marks, lows.len(), (place >> 32) as u64)?;
+        lows.push((place % (1 << 32)) as u32)?;
+        Ok(Places { lows, marks })
+    }
+}

@@ -1,0 +1,20 @@
+-- What is reported of the sections of an input.
+use Rattle.std.proofs.Common.{◌≡◌, ◌∙◌, ℕ, List, true, ap, sym, subst}
+use Rattle.std.specs.Prelude.{Option, None, Some, IfSome, option_map}
+use Rattle.ball_model.specs.RunText.{AppendsReport}
+use Rattle.ball_model.specs.Sections.{sections_of}
+use Rattle.hyperball.specs.Serial.{ArePlain, settings_of}
+use Rattle.hyperball.specs.Whole.{IsWhole}
+use Rattle.hyperball.specs.Words.{Reports}
+use Rattle.hyperball.specs.declared.serial.SerialOptions.{SerialOptions}
+
+-- a whole input of two sections, whose report was appended
+pub listed : (o : Option (List ℕ)) (bytes seen edges first list : List ℕ) (options : SerialOptions) (old new : Option (List ℕ)) → IsWhole o bytes → seen ≡ bytes → Some (edges, list) ≡ sections_of seen → first ≡ edges →
+    (ArePlain first (Some list) → AppendsReport (settings_of options) first (Some list) old new) → IfSome o (λ input. Reports (record { options = options; counted = true }) input old new)
+listed None bytes seen edges first list options old new whole same found is appended = tt
+listed (Some input) bytes seen edges first list options old new whole same found is appended = record {
+  edges = edges;
+  list = Some list;
+  found = ap (option_map (λ s. (s.0, Some s.1))) (sym (found ∙ ap sections_of (same ∙ whole)));
+  appended = subst (λ l. ArePlain l (Some list) → AppendsReport (settings_of options) l (Some list) old new) is appended;
+}

@@ -1,0 +1,117 @@
+-- Inputs that are read whole, and their sections.
+use Rattle.std.proofs.Common.{◌≡◌, ◌∙◌, ℕ, suc, ◌+◌, ◌-◌, ◌<◌, ◌≤◌, Bool, true, false, ◌==◌, if◌then◌else◌, List, [], ◌∷◌, ◌++◌, length, take, drop, slice_index, refl, ap, arith, sym, subst, append_assoc, append-nil, length-append}
+use Rattle.std.specs.Prelude.{Option, None, Some, option_map, IfSome}
+use Rattle.std.specs.Io.KnownBytes.{Consumes, IsAtEnd, Keeps}
+use Rattle.std.proofs.Math.Seq.{drop-cons, take-suc}
+use Rattle.std.proofs.lemmas.List.{drop_all, length-drop, length-take, take_all}
+use Rattle.std.proofs.KnownBytes.{Consumes-kept, Consumes-nil, Consumes-trans}
+use Rattle.ball_model.specs.Sections.{after_mark, longer, sections_from}
+use Rattle.hyperball.specs.Whole.{AddsPiece, ReadsAtMost, most_bytes}
+
+-- what was read so far
+pub record HasRead (old new : Option (List ℕ)) (bytes : List ℕ) : Type 0 where
+  pub consumed : Consumes old new bytes
+  pub few : length bytes ≤ most_bytes + 1
+
+-- the sections of a text behind some bytes of the first
+abbrev pub behind : List ℕ → Option (List ℕ × List ℕ) → Option (List ℕ × List ℕ)
+behind xs o = option_map (λ s. (xs ++ s.0, s.1)) o
+
+-- where the line that begins here is no mark, its first byte is one more of the first section
+pub one_more : (xs rest : List ℕ) (c : ℕ) (begins : Bool) → (begins ≡ true → after_mark (c ∷ rest) ≡ None) → behind xs (sections_from begins (c ∷ rest)) ≡ behind (xs ++ c ∷ []) (sections_from (c == 10) rest)
+unfolding sections_from
+one_more xs rest c true none = rw (none refl) (longer_is (sections_from (c == 10) rest))
+  where
+    longer_is : (o : Option (List ℕ × List ℕ)) → behind xs (longer c o) ≡ behind (xs ++ c ∷ []) o
+    longer_is None = refl
+    longer_is (Some s) = ap (λ l. Some (l, s.1)) (sym (append_assoc xs (c ∷ []) s.0))
+one_more xs rest c false none = longer_is (sections_from (c == 10) rest)
+  where
+    longer_is : (o : Option (List ℕ × List ℕ)) → behind xs (longer c o) ≡ behind (xs ++ c ∷ []) o
+    longer_is None = refl
+    longer_is (Some s) = ap (λ l. Some (l, s.1)) (sym (append_assoc xs (c ∷ []) s.0))
+
+-- a mark that begins here
+pub marked_here : (xs text rest : List ℕ) → after_mark text ≡ Some rest → behind xs (sections_from true text) ≡ Some (xs, rest)
+unfolding sections_from
+marked_here xs [] rest is = absurd (cc)
+marked_here xs (c ∷ text) rest is = rw is (ap (λ l. Some (l, rest)) (append-nil xs))
+
+pub behind_none : (xs : List ℕ) (begins : Bool) → behind xs (sections_from begins []) ≡ None
+unfolding sections_from
+behind_none xs begins = refl
+
+whole_rest : (xs : List ℕ) (i : ℕ) → i < length xs → take (length xs - i) (drop i xs) ≡ drop i xs
+whole_rest xs i lt = take_all (length xs - i) (drop i xs) (let long = length-drop i xs in omega (arith, long))
+
+no_mark : (text : List ℕ) (begins : Bool) → (if begins then after_mark text else None) ≡ None → begins ≡ true → after_mark text ≡ None
+no_mark text true none is = none
+no_mark text false none is = none_of (sym is)
+  where
+    none_of : true ≡ false → after_mark text ≡ None
+    none_of bad = absurd (cc)
+
+-- one byte further
+pub further : (xs : List ℕ) (i : ℕ) (begins : Bool) → i < length xs → None ≡ (if begins then after_mark (take (length xs - i) (drop i xs)) else None) →
+    behind (take i xs) (sections_from begins (drop i xs)) ≡ behind (take (i + 1) xs) (sections_from (slice_index xs i == 10) (drop (i + 1) xs))
+further xs i begins lt none =
+    let cut : drop i xs ≡ slice_index xs i ∷ drop (suc i) xs = drop-cons xs i 0 lt in
+    let more : take (suc i) xs ≡ take i xs ++ slice_index xs i ∷ [] = take-suc xs i 0 lt in
+    let next : i + 1 ≡ suc i = omega arith in
+    let here : (if begins then after_mark (drop i xs) else None) ≡ None = sym (none ∙ ap (λ l. if begins then after_mark l else None) (whole_rest xs i lt)) in
+    rw (next, more, cut) (one_more (take i xs) (drop (suc i) xs) (slice_index xs i) begins (λ is. ap after_mark (sym cut) ∙ no_mark (drop i xs) begins here is))
+
+found_by : (xs text rest : List ℕ) (begins : Bool) → Some rest ≡ (if begins then after_mark text else None) → behind xs (sections_from begins text) ≡ Some (xs, rest)
+found_by xs text rest true is = marked_here xs text rest (sym is)
+found_by xs text rest false is = absurd (cc)
+
+-- the first mark
+pub found_here : (xs rest : List ℕ) (i : ℕ) (begins : Bool) → i < length xs → Some rest ≡ (if begins then after_mark (take (length xs - i) (drop i xs)) else None) →
+    behind (take i xs) (sections_from begins (drop i xs)) ≡ Some (take i xs, rest)
+found_here xs rest i begins lt is = found_by (take i xs) (drop i xs) rest begins (is ∙ ap (λ l. if begins then after_mark l else None) (whole_rest xs i lt))
+
+-- at the end
+pub ended : (xs : List ℕ) (i : ℕ) (begins : Bool) → length xs ≤ i → behind (take i xs) (sections_from begins (drop i xs)) ≡ None
+ended xs i begins le = ap (λ l. behind (take i xs) (sections_from begins l)) (drop_all i xs le) ∙ behind_none (take i xs) begins
+
+-- no byte is read
+pub none_read : (a : Option (List ℕ)) → HasRead a a []
+none_read a = record { consumed = Consumes-nil a; few = omega arith }
+
+-- a piece more
+pub piece_read : (a b c : Option (List ℕ)) (before after : List ℕ) (n room : ℕ) → HasRead a b before → AddsPiece b c before after n → n ≤ room → room ≤ most_bytes + 1 - length before → length before ≤ most_bytes → HasRead a c after
+piece_read a b c before after n room h adds le most under =
+    let long : length after ≡ length before + n = ap length adds.added ∙ length-append before adds.bytes ∙ ap (λ k. length before + k) adds.count in
+    record {
+      consumed = subst (λ l. Consumes a c l) (sym adds.added) (Consumes-trans a b c before adds.bytes h.consumed adds.consumed);
+      few = omega (arith, long, le, most, under);
+    }
+
+-- at the end of the input all of it is there
+pub all_read : (a b : Option (List ℕ)) (bytes : List ℕ) → HasRead a b bytes → IsAtEnd b → IfSome a (λ input. bytes ≡ input)
+all_read None b bytes h end = tt
+all_read (Some x) None bytes h end = absurd h.consumed
+all_read (Some x) (Some y) bytes h end = sym (h.consumed ∙ ap (λ l. bytes ++ l) end ∙ append-nil bytes)
+
+-- and where too many were read there are too many
+pub too_many : (a b : Option (List ℕ)) (bytes : List ℕ) → HasRead a b bytes → most_bytes < length bytes → IfSome a (λ input. most_bytes < length input)
+too_many None b bytes h lt = tt
+too_many (Some x) None bytes h lt = absurd h.consumed
+too_many (Some x) (Some y) bytes h lt = let long : length x ≡ length bytes + length y = ap length h.consumed ∙ length-append bytes y in omega (arith, long, lt)
+
+pub read_so_far : (a b : Option (List ℕ)) (bytes : List ℕ) → HasRead a b bytes → ReadsAtMost (most_bytes + 1) a b
+read_so_far a b bytes h = record { bytes = bytes; consumed = h.consumed; few = h.few }
+
+-- a piece of which nothing was kept
+pub piece_lost : (a b c : Option (List ℕ)) (before : List ℕ) (room : ℕ) → HasRead a b before → ReadsAtMost room b c → room ≤ most_bytes + 1 - length before → length before ≤ most_bytes → ReadsAtMost (most_bytes + 1) a c
+piece_lost a b c before room h lost most under = record {
+  bytes = before ++ lost.bytes;
+  consumed = Consumes-trans a b c before lost.bytes h.consumed lost.consumed;
+  few = omega (arith, length-append before lost.bytes, lost.few, most, under);
+}
+
+pub nothing_read : (n : ℕ) (a b : Option (List ℕ)) → Keeps a b → ReadsAtMost n a b
+nothing_read n a b kept = record { bytes = []; consumed = Consumes-kept a a b [] (Consumes-nil a) kept; few = omega arith }
+
+pub taken_within : (n : ℕ) (xs : List ℕ) → length (take n xs) ≤ n
+taken_within n xs = let long = length-take n xs in omega (arith, long)

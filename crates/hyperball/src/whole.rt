@@ -1,0 +1,151 @@
+//! Inputs that are read whole, and cut into sections by a line of exactly `%%`.
+
+ghost use Rattle.std.specs.Prelude.{◌≡◌, ◌≢◌, ◌+◌, ◌<◌, ◌≤◌, Err, IfErr, IfOk, OnErr, OnOk, None, [], length, option_map, if◌then◌else◌};
+ghost use Rattle.ball_model.specs.Sections.{after_line, after_mark, sections_of};
+ghost use Rattle.hyperball.specs.Whole.{AddsPiece, IsLong, IsWhole, ReadsAtMost, most_bytes};
+
+use ball_model::CountedRead;
+use std::alloc::{AllocError, Global};
+use thiserror::Error;
+
+/// The most bytes of an input that is read whole.
+const MOST: usize = 67_108_864;
+
+// How many bytes a read asks for at most.
+const PIECE: usize = 65_536;
+
+/// Why an input is not read whole, in the order of the checks.
+#[derive(Clone, Copy, Debug, PartialEq, Eq, Error)]
+pub enum WholeError {
+    /// A read failed.
+    #[error("the input cannot be read")]
+    Read,
+    /// There are more bytes.
+    #[error("the input is longer than 67108864 bytes")]
+    Size,
+    /// Memory was refused.
+    #[error("out of memory")]
+    Memory,
+}
+
+impl From<AllocError> for WholeError {
+    ghost use Rattle.hyperball.specs.declared.whole.WholeError.TheVariants.{Memory};
+
+    ghost from_gives = { λ _ e. e ≡ Memory };
+
+    fn from(_error: AllocError) -> WholeError {
+        WholeError::Memory
+    }
+}
+
+// Reads a piece of at most `room` bytes behind the others, and tells how many these are: none only at the end.
+fn read_piece<R: CountedRead>(
+    reader: &mut R,
+    buffer: &mut [u8],
+    bytes: &mut Vec<u8>,
+) -> Result<usize, WholeError>
+    requires { 0 < length buffer.old }
+    ensures adds { IfOk result (λ n. AddsPiece (R.remaining reader.old) (R.remaining reader.new) bytes.old.items bytes.new.items n) }
+    ensures few { OnErr result (ReadsAtMost (length buffer.old) (R.remaining reader.old) (R.remaining reader.new)) }
+    ensures within { IfOk result (λ n. n ≤ length buffer.old) }
+    ensures counted { OnOk result (R.failed_calls reader.new ≡ R.failed_calls reader.old) }
+    ensures kind { IfErr result (λ e. e ≢ WholeError.Size) }
+    ensures read { result ≡ Err WholeError.Read → R.failed_calls reader.old < R.failed_calls reader.new }
+{
+    let Some(count) = reader.get(buffer) else {
+        return Err(WholeError::Read);
+    };
+    bytes.extend_from_slice(&buffer[..count])?;
+    Ok(count)
+}
+
+// A buffer of so many bytes.
+fn buffer_of(alloc: Global, size: usize) -> Result<Vec<u8>, AllocError>
+    ensures { IfOk result (λ buffer. length buffer.items ≡ size) }
+{
+    vec![in alloc; 0u8; size]
+}
+
+// Reads all pieces.
+fn read_all<R: CountedRead>(
+    reader: &mut R,
+    buffer: &mut [u8],
+    bytes: &mut Vec<u8>,
+) -> Result<(), WholeError>
+    requires buffer { 0 < length buffer.old }
+    requires start { bytes.old.items ≡ [] }
+    ensures ok { OnOk result (IsWhole (R.remaining reader.old) bytes.new.items) }
+    ensures size { result ≡ Err WholeError.Size → IsLong (R.remaining reader.old) }
+    ensures read { result ≡ Err WholeError.Read → R.failed_calls reader.old < R.failed_calls reader.new }
+    ensures few { ReadsAtMost (most_bytes + 1) (R.remaining reader.old) (R.remaining reader.new) }
+{
+    while bytes.len() <= MOST {
+        let room = buffer.len().min(MOST + 1 - bytes.len());
+        if read_piece(reader, &mut buffer[..room], bytes)? == 0 {
+            return Ok(());
+        }
+    }
+    Err(WholeError::Size)
+}
+
+/// Reads an input to its end, at most one byte more than 2^26.
+///
+/// `Read` is answered only where a call of the reader failed, `Size` where there are more than 2^26 bytes.
+pub fn read_whole<R: CountedRead>(alloc: Global, reader: &mut R) -> Result<Vec<u8>, WholeError>
+    ensures ok { IfOk result (λ bytes. IsWhole (R.remaining reader.old) bytes.items) }
+    ensures size { result ≡ Err WholeError.Size → IsLong (R.remaining reader.old) }
+    ensures read { result ≡ Err WholeError.Read → R.failed_calls reader.old < R.failed_calls reader.new }
+    ensures few { ReadsAtMost (most_bytes + 1) (R.remaining reader.old) (R.remaining reader.new) }
+{
+    let mut buffer = buffer_of(alloc, PIECE)?;
+    let mut bytes = Vec::new(alloc);
+    read_all(reader, &mut buffer, &mut bytes)?;
+    Ok(bytes)
+}
+
+// What follows the end of a line, where one stands at the front.
+fn after_line(bytes: &[u8]) -> Option<&[u8]>
+    ensures { option_map (λ rest. rest.now) result ≡ after_line bytes.now }
+{
+    if bytes.is_empty() {
+        Some(bytes)
+    } else if bytes[0] == b'\n' {
+        Some(&bytes[1..])
+    } else if bytes.len() > 1 && bytes[0] == b'\r' && bytes[1] == b'\n' {
+        Some(&bytes[2..])
+    } else {
+        None
+    }
+}
+
+// What follows a line of exactly %%, where one stands at the front.
+fn after_mark(bytes: &[u8]) -> Option<&[u8]>
+    ensures { option_map (λ rest. rest.now) result ≡ after_mark bytes.now }
+{
+    if bytes.len() > 1 && bytes[0] == b'%' && bytes[1] == b'%' {
+        after_line(&bytes[2..])
+    } else {
+        None
+    }
+}
+
+// The same, where a line begins there.
+fn mark_here(begins: bool, bytes: &[u8]) -> Option<&[u8]>
+    ensures { option_map (λ rest. rest.now) result ≡ (if begins then after_mark bytes.now else None) }
+{
+    if begins { after_mark(bytes) } else { None }
+}
+
+/// What stands before the first line of exactly `%%`, and what follows it.
+pub fn sections(input: &[u8]) -> Option<(&[u8], &[u8])>
+    ensures { option_map (λ s. (s.0.now, s.1.now)) result ≡ sections_of input.now }
+{
+    let mut begins = true;
+    for i in 0..input.len() {
+        match mark_here(begins, &input[i..]) {
+            Some(rest) => return Some((&input[..i], rest)),
+            None => begins = input[i] == b'\n',
+        }
+    }
+    None
+}

@@ -1,0 +1,6 @@
+use Rattle.std.proofs.Common.{◌∙◌, sym}
+use Rattle.replica.proofs.CloseLemmas.{goes_below}
+use Rattle.replica.proofs.Snapshot.found_close.Goals as goal
+
+pub advance-requires-clause-limit : goal.advance-requires-clause-limit
+advance-requires-clause-limit c = goes_below c.args.self.now c.superstep-next.ensures.state (sym c.level_verdict.ensures ∙ c.in-GoOn.is)

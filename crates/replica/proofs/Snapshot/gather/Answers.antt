@@ -1,0 +1,105 @@
+use Rattle.std.proofs.Common.{◌≡◌, ℕ, ◌+◌, ◌-◌, ◌<◌, List, length, refl, ap, sym, ◌∙◌, subst, arith, inl, inr}
+use Rattle.std.specs.Prelude.{Option}
+use Rattle.ball_model.specs.PlanValue.{PlanValue}
+use Rattle.ball_model.specs.Job.{PartValue}
+use Rattle.ball_model.specs.State.{State, early_at}
+use Rattle.replica.specs.Ahead.{IsTable, either}
+use Rattle.replica.specs.Index.{targets_of}
+use Rattle.replica.specs.Merged.{Absorbs}
+use Rattle.replica.specs.Seen.{state_of}
+use Rattle.replica.proofs.AdvanceLemmas.{same_early}
+use Rattle.replica.proofs.HearLemmas.{hears_as, hears_same}
+use Rattle.replica.proofs.MergeLemmas.{Gathers, gathers_state, absorbs_lesser, shifted_told}
+use Rattle.replica.proofs.StateLemmas.{inside_of}
+use Rattle.replica.proofs.Snapshot.gather.Goals as goal
+
+pub hear_early-requires-clause-inside : goal.hear_early-requires-clause-inside
+hear_early-requires-clause-inside c =
+    let s = state_of c.self.inside in
+    inside_of s c.args.targets.now (length s.accumulated) c.self.invariant.state (c.requires.index ∙ ap (λ (v : State). targets_of v.part) (sym c.self.view_is)) refl
+
+pub hear_early-requires-clause-table : goal.hear_early-requires-clause-table
+hear_early-requires-clause-table c =
+    let s = state_of c.self.inside in
+    let o = state_of c.other.inside in
+    let st = c.self.invariant.state in
+    let so = c.other.invariant.state in
+    let plan : s.part.plan ≡ o.part.plan = ap (λ (v : State). v.part.plan) c.self.view_is ∙ c.requires.plan ∙ sym (ap (λ (v : State). v.part.plan) c.other.view_is) in
+    let number : s.part.number ≡ o.part.number = ap (λ (v : State). v.part.number) c.self.view_is ∙ c.requires.number ∙ sym (ap (λ (v : State). v.part.number) c.other.view_is) in
+    let parts : s.part.plan.parts ≡ o.part.plan.parts = ap (λ (a : PlanValue). a.parts) plan in
+    let shared : c.args.shared ≡ o.early = c.requires.shared ∙ sym (ap (λ (v : State). v.early) c.other.view_is) in
+    let table : IsTable s.part.plan.parts o.early = subst (λ n. IsTable n o.early) (sym parts) so.early.table in
+    let own : c.plan.result.now ≡ s.part.plan = c.plan.ensures ∙ ap (λ (a : PartValue). a.plan) c.deref.ensures in
+    let index : c.args.targets.now ≡ targets_of s.part = c.requires.index ∙ ap (λ (v : State). targets_of v.part) (sym c.self.view_is) in
+    let shared_table : IsTable s.part.plan.parts c.args.shared = subst (λ e. IsTable s.part.plan.parts e) (sym shared) table in
+    rw own (c.shift.ensures.table s.part.plan.parts shared_table)
+
+pub fill-requires : goal.fill-requires
+fill-requires c = λ n is.
+    let s = state_of c.self.inside in
+    let o = state_of c.other.inside in
+    let st = c.self.invariant.state in
+    let so = c.other.invariant.state in
+    let plan : s.part.plan ≡ o.part.plan = ap (λ (v : State). v.part.plan) c.self.view_is ∙ c.requires.plan ∙ sym (ap (λ (v : State). v.part.plan) c.other.view_is) in
+    let number : s.part.number ≡ o.part.number = ap (λ (v : State). v.part.number) c.self.view_is ∙ c.requires.number ∙ sym (ap (λ (v : State). v.part.number) c.other.view_is) in
+    let parts : s.part.plan.parts ≡ o.part.plan.parts = ap (λ (a : PlanValue). a.parts) plan in
+    let shared : c.args.shared ≡ o.early = c.requires.shared ∙ sym (ap (λ (v : State). v.early) c.other.view_is) in
+    let table : IsTable s.part.plan.parts o.early = subst (λ n. IsTable n o.early) (sym parts) so.early.table in
+    let own : c.plan.result.now ≡ s.part.plan = c.plan.ensures ∙ ap (λ (a : PartValue). a.plan) c.deref.ensures in
+    let index : c.args.targets.now ≡ targets_of s.part = c.requires.index ∙ ap (λ (v : State). targets_of v.part) (sym c.self.view_is) in
+    let shared_table : IsTable s.part.plan.parts c.args.shared = subst (λ e. IsTable s.part.plan.parts e) (sym shared) table in
+    let same : s.part.plan.parts ≡ n = sym (st.early.table.sources 0 (omega arith)) ∙ is.sources 0 (omega arith) in
+    subst (λ k. IsTable k c.shift-2.new.self) same (c.shift-2.ensures.table s.part.plan.parts (c.shift.ensures.table s.part.plan.parts shared_table))
+
+gathers : (c : goal.After-drop-shared-inside) → Gathers (state_of c.self.inside).part.plan.log2m (state_of c.self.inside) (state_of c.other.inside) (state_of (record { part = c.self.inside.part; superstep = c.self.inside.superstep; rows = c.self.inside.rows; marks = c.self.inside.marks; tallies = c.self.inside.tallies; sums = c.self.inside.sums; heard = c.hear_early.new.heard; heard_change = c.hear_early.new.heard_change; accumulated = c.hear_early.new.accumulated; early = c.fill.new.self }))
+gathers c =
+    let s = state_of c.self.inside in
+    let o = state_of c.other.inside in
+    let st = c.self.invariant.state in
+    let so = c.other.invariant.state in
+    let plan : s.part.plan ≡ o.part.plan = ap (λ (v : State). v.part.plan) c.self.view_is ∙ c.requires.plan ∙ sym (ap (λ (v : State). v.part.plan) c.other.view_is) in
+    let number : s.part.number ≡ o.part.number = ap (λ (v : State). v.part.number) c.self.view_is ∙ c.requires.number ∙ sym (ap (λ (v : State). v.part.number) c.other.view_is) in
+    let parts : s.part.plan.parts ≡ o.part.plan.parts = ap (λ (a : PlanValue). a.parts) plan in
+    let shared : c.args.shared ≡ o.early = c.requires.shared ∙ sym (ap (λ (v : State). v.early) c.other.view_is) in
+    let table : IsTable s.part.plan.parts o.early = subst (λ n. IsTable n o.early) (sym parts) so.early.table in
+    let own : c.plan.result.now ≡ s.part.plan = c.plan.ensures ∙ ap (λ (a : PartValue). a.plan) c.deref.ensures in
+    let index : c.args.targets.now ≡ targets_of s.part = c.requires.index ∙ ap (λ (v : State). targets_of v.part) (sym c.self.view_is) in
+    let gap = s.superstep - o.superstep - 1 in
+    let lt : o.superstep < s.superstep = omega (arith, c.requires.further, ap (λ (v : State). v.superstep) c.self.view_is, ap (λ (v : State). v.superstep) c.other.view_is) in
+    let told : (i k : ℕ) → early_at c.shift.new.self i k ≡ early_at o.early (i + gap) k =
+    shifted_told s.part.plan.parts o.early c.shift.new.self gap c.gap.result table c.gap.ensures (λ i k. c.shift.ensures.kept i k ∙ ap (λ e. early_at e (i + c.gap.result) k) shared) in
+    let zero_on : 0 + gap ≡ gap = omega arith in
+    record {
+      lt = lt;
+      shown = record { superstep = refl; rows = refl; marks = refl; tallies = refl; sums = refl };
+      hears = hears_same s.part.plan.log2m (targets_of s.part) (λ q. early_at c.shift.new.self 0 q) (λ q. early_at o.early gap q) _ _ (λ q. told 0 q ∙ same_early o.early (0 + gap) gap q zero_on)
+          (hears_as (ap (λ (a : PlanValue). a.log2m) own) index refl refl c.hear_early.ensures.hears);
+      early = λ i q. inl (c.fill.ensures.kept i q ∙ ap (either (early_at s.early i q)) (c.shift-2.ensures.kept i q ∙ told (i + 1) q));
+      table = c.fill.ensures.table s.part.plan.parts st.early.table;
+    }
+
+pub invariant_of-self : goal.invariant_of-self
+invariant_of-self c =
+    let s = state_of c.self.inside in
+    let o = state_of c.other.inside in
+    let st = c.self.invariant.state in
+    let so = c.other.invariant.state in
+    let plan : s.part.plan ≡ o.part.plan = ap (λ (v : State). v.part.plan) c.self.view_is ∙ c.requires.plan ∙ sym (ap (λ (v : State). v.part.plan) c.other.view_is) in
+    let number : s.part.number ≡ o.part.number = ap (λ (v : State). v.part.number) c.self.view_is ∙ c.requires.number ∙ sym (ap (λ (v : State). v.part.number) c.other.view_is) in
+    let parts : s.part.plan.parts ≡ o.part.plan.parts = ap (λ (a : PlanValue). a.parts) plan in
+    let shared : c.args.shared ≡ o.early = c.requires.shared ∙ sym (ap (λ (v : State). v.early) c.other.view_is) in
+    let table : IsTable s.part.plan.parts o.early = subst (λ n. IsTable n o.early) (sym parts) so.early.table in
+    let own : c.plan.result.now ≡ s.part.plan = c.plan.ensures ∙ ap (λ (a : PartValue). a.plan) c.deref.ensures in
+    let index : c.args.targets.now ≡ targets_of s.part = c.requires.index ∙ ap (λ (v : State). targets_of v.part) (sym c.self.view_is) in
+    record {
+      state = gathers_state s o (state_of (record { part = c.self.inside.part; superstep = c.self.inside.superstep; rows = c.self.inside.rows; marks = c.self.inside.marks; tallies = c.self.inside.tallies; sums = c.self.inside.sums; heard = c.hear_early.new.heard; heard_change = c.hear_early.new.heard_change; accumulated = c.hear_early.new.accumulated; early = c.fill.new.self })) st so (gathers c) (sym plan) (sym number) refl refl refl st.part;
+      width = c.self.invariant.width;
+      accumulated_width = c.hear_early.ensures.width ∙ c.self.invariant.accumulated_width;
+      room = c.self.invariant.room;
+    }
+
+pub returns-clause-absorbs : goal.returns-clause-absorbs
+returns-clause-absorbs c =
+    let s = state_of c.self.inside in
+    let o = state_of c.other.inside in
+    subst (λ (u : State). Absorbs u c.args.other.now (state_of (record { part = c.self.inside.part; superstep = c.self.inside.superstep; rows = c.self.inside.rows; marks = c.self.inside.marks; tallies = c.self.inside.tallies; sums = c.self.inside.sums; heard = c.hear_early.new.heard; heard_change = c.hear_early.new.heard_change; accumulated = c.hear_early.new.accumulated; early = c.fill.new.self }))) c.self.view_is (subst (λ (u : State). Absorbs s u (state_of (record { part = c.self.inside.part; superstep = c.self.inside.superstep; rows = c.self.inside.rows; marks = c.self.inside.marks; tallies = c.self.inside.tallies; sums = c.self.inside.sums; heard = c.hear_early.new.heard; heard_change = c.hear_early.new.heard_change; accumulated = c.hear_early.new.accumulated; early = c.fill.new.self }))) c.other.view_is (absorbs_lesser s.part.plan.log2m s o (state_of (record { part = c.self.inside.part; superstep = c.self.inside.superstep; rows = c.self.inside.rows; marks = c.self.inside.marks; tallies = c.self.inside.tallies; sums = c.self.inside.sums; heard = c.hear_early.new.heard; heard_change = c.hear_early.new.heard_change; accumulated = c.hear_early.new.accumulated; early = c.fill.new.self })) (gathers c) refl))

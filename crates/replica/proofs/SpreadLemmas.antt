@@ -1,0 +1,195 @@
+-- A row spread place by place, and which accumulators it touches.
+use Rattle.std.proofs.Common.{◌≡◌, ℕ, ◌<◌, ◌≢◌, Bool, true, false, not, ◌||◌, ◌==◌, List, [], ◌∷◌, if◌then◌else◌, max, length, get_or, set, drop, refl, ap, ap₂, arith, sym, ◌∙◌, inl, inr, subst, ◌↔◌}
+use Rattle.std.specs.Str.{bytes_eq}
+use Rattle.std.proofs.lemmas.Bool.{cases_eq, or_right, ne_eqb, eq-eqb}
+use Rattle.std.proofs.lemmas.Slice.Eq.{bytes_eq-Decides}
+use Rattle.std.proofs.lemmas.List.{get_or-set_same, get_or-set_other, length-set, same_lists, get_or_default}
+use Rattle.std.proofs.lemmas.List.FromFn.{get_or-map-range_with_len, length-map-range_with_len}
+use Rattle.ball_model.specs.Counter.{max_each}
+use Rattle.replica.specs.Spread.{stands_in, spread_to, spread, touched_at, AreTouched}
+
+max_twice : (xs ys : List ℕ) → max_each (max_each xs ys) ys ≡ max_each xs ys
+max_twice [] ys = refl
+max_twice (x ∷ xs) [] = refl
+max_twice (x ∷ xs) (y ∷ ys) = ap₂ (λ v rest. v ∷ rest) (omega arith) (max_twice xs ys)
+
+pub length-spread : (places src : List ℕ) (rows : List (List ℕ)) → length (spread places src rows) ≡ length rows
+unfolding spread
+length-spread places src rows = length-map-range_with_len (spread_to places src rows) 0 (length rows)
+
+pub spread-at : (places src : List ℕ) (rows : List (List ℕ)) (i : ℕ) (d : List ℕ) → i < length rows → get_or (spread places src rows) i d ≡ spread_to places src rows i
+unfolding spread
+spread-at places src rows i d lt = get_or-map-range_with_len (spread_to places src rows) 0 (length rows) i i d lt (omega arith)
+
+pub to_in : (places src : List ℕ) (rows : List (List ℕ)) (i : ℕ) → stands_in places i ≡ true → spread_to places src rows i ≡ max_each (get_or rows i []) src
+unfolding spread_to
+to_in places src rows i e = rw e refl
+
+pub to_out : (places src : List ℕ) (rows : List (List ℕ)) (i : ℕ) → stands_in places i ≡ false → spread_to places src rows i ≡ get_or rows i []
+unfolding spread_to
+to_out places src rows i e = rw e refl
+
+to_same : (before after src : List ℕ) (rows : List (List ℕ)) (i : ℕ) → stands_in after i ≡ stands_in before i → spread_to before src rows i ≡ spread_to after src rows i
+unfolding spread_to
+to_same before after src rows i e = rw e refl
+
+-- spread to no place
+pub spread-none : (src : List ℕ) (rows : List (List ℕ)) → rows ≡ spread [] src rows
+spread-none src rows =
+    same_lists rows (spread [] src rows) (sym (length-spread [] src rows))
+    (λ k d lt. get_or_default rows k d [] lt ∙ sym (spread-at [] src rows k d lt ∙ to_out [] src rows k refl))
+
+or_false : (a b : Bool) → b ≡ false → (a || b) ≡ a
+or_false true b e = refl
+or_false false b e = e
+
+-- the place that is added: raised once more, or for the first time
+here_is : (b : Bool) (before after src : List ℕ) (rows : List (List ℕ)) (p : ℕ) → stands_in before p ≡ b → stands_in after p ≡ true → max_each (spread_to before src rows p) src ≡ spread_to after src rows p
+here_is true before after src rows p was now = rw (to_in before src rows p was, to_in after src rows p now) (max_twice (get_or rows p []) src)
+here_is false before after src rows p was now = rw (to_out before src rows p was, to_in after src rows p now) refl
+
+-- one place more
+pub spread-more : (before after src : List ℕ) (p : ℕ) (rows : List (List ℕ)) → p < length rows → ((i : ℕ) → stands_in after i ≡ (stands_in before i || (p == i))) →
+    set (spread before src rows) p (max_each (get_or (spread before src rows) p []) src) ≡ spread after src rows
+spread-more before after src p rows lt adds =
+    let cur = spread before src rows in
+    let new = max_each (get_or cur p []) src in
+    let now : stands_in after p ≡ true = adds p ∙ or_right (stands_in before p) (p == p) (eq-eqb p p refl) in
+    let new_is : new ≡ spread_to after src rows p = ap (λ row. max_each row src) (spread-at before src rows p [] lt) ∙ here_is (stands_in before p) before after src rows p refl now in
+    same_lists (set cur p new) (spread after src rows) (length-set cur p new ∙ length-spread before src rows ∙ sym (length-spread after src rows))
+    (λ k d within.
+    let long : length (set cur p new) ≡ length rows = length-set cur p new ∙ length-spread before src rows in
+    let inside : k < length rows = omega (arith, long) in
+    elim (cases_eq k p) [
+      | inl same ↦
+          subst (λ (j : ℕ). get_or (set cur p new) j d ≡ get_or (spread after src rows) j d) (sym same)
+          (get_or-set_same cur p new d (omega (arith, length-spread before src rows)) ∙ new_is ∙ sym (spread-at after src rows p d lt))
+      | inr ne ↦
+          let other : p ≢ k = omega arith in
+          get_or-set_other cur p k new d ne ∙ spread-at before src rows k d inside
+          ∙ to_same before after src rows k (adds k ∙ or_false (stands_in before k) (p == k) (ne_eqb p k other)) ∙ sym (spread-at after src rows k d inside)
+    ])
+
+-- ---- which rows are touched
+bytes_same : (xs ys : List ℕ) → xs ≡ ys → bytes_eq xs ys ≡ true
+bytes_same xs ys e = grind (arith, bytes_eq-Decides)
+
+bytes_are : (xs ys : List ℕ) → bytes_eq xs ys ≡ true → xs ≡ ys
+bytes_are xs ys e = grind (arith, bytes_eq-Decides)
+
+bytes_unlike : (xs ys : List ℕ) → (xs ≡ ys → ⊥) → bytes_eq xs ys ≡ false
+bytes_unlike xs ys ne = grind (arith, bytes_eq-Decides, ne)
+
+unlike_are : (xs ys : List ℕ) → bytes_eq xs ys ≡ false → xs ≡ ys → ⊥
+unlike_are xs ys e same = let yes = bytes_same xs ys same in absurd (cc)
+
+-- whether a row became another
+changed_is : (r : Bool) (new old : List ℕ) → (r ≡ false) ↔ (new ≡ old) → r ≡ not (bytes_eq new old)
+changed_is true new old h = grind (arith, bytes_eq-Decides, h.1)
+changed_is false new old h = grind (arith, bytes_eq-Decides, h.0)
+
+mark_here : (b a r : Bool) (before after src : List ℕ) (rows : List (List ℕ)) (p : ℕ) → stands_in before p ≡ b → stands_in after p ≡ true → r ≡ not (bytes_eq (max_each (spread_to before src rows p) src) (spread_to before src rows p)) →
+    ((a || not (bytes_eq (spread_to before src rows p) (get_or rows p []))) || r) ≡ (a || not (bytes_eq (spread_to after src rows p) (get_or rows p [])))
+mark_here true a r before after src rows p was now at =
+    let raised = to_in before src rows p was in
+    let again : bytes_eq (max_each (spread_to before src rows p) src) (spread_to before src rows p) ≡ true =
+    bytes_same _ _ (ap (λ row. max_each row src) raised ∙ max_twice (get_or rows p []) src ∙ sym raised) in
+    let no_more : r ≡ false = at ∙ ap not again in
+    or_false _ r no_more ∙ ap (λ row. a || not (bytes_eq row (get_or rows p []))) (raised ∙ sym (to_in after src rows p now))
+mark_here false a r before after src rows p was now at =
+    let kept = to_out before src rows p was in
+    let same : bytes_eq (spread_to before src rows p) (get_or rows p []) ≡ true = bytes_same _ _ kept in
+    let first : r ≡ not (bytes_eq (spread_to after src rows p) (get_or rows p [])) =
+    at ∙ rw (kept, to_in after src rows p now) refl in
+    ap (λ e. (a || not e) || r) same ∙ ap (λ e. e || r) (or_false a false refl) ∙ ap (λ e. a || e) first
+
+-- the marks, one place more
+pub touched-more : (before after src : List ℕ) (p : ℕ) (rows : List (List ℕ)) (old marks : List Bool) (r : Bool) → p < length rows → length marks ≡ length rows → ((i : ℕ) → stands_in after i ≡ (stands_in before i || (p == i))) →
+    ((r ≡ false) ↔ (max_each (get_or (spread before src rows) p []) src ≡ get_or (spread before src rows) p [])) →
+    ((i : ℕ) → i < length rows → get_or marks i false ≡ touched_at old rows (spread before src rows) i) →
+    (i : ℕ) → i < length rows → get_or (set marks p (get_or marks p false || r)) i false ≡ touched_at old rows (spread after src rows) i
+touched-more before after src p rows old marks r lt count adds tells so_far i inside =
+    let now : stands_in after p ≡ true = adds p ∙ or_right (stands_in before p) (p == p) (eq-eqb p p refl) in
+    let at_p = spread-at before src rows p [] lt in
+    let is : r ≡ not (bytes_eq (max_each (spread_to before src rows p) src) (spread_to before src rows p)) = rw at_p at (changed_is r _ _ tells) in
+    let here : (get_or marks p false || r) ≡ touched_at old rows (spread after src rows) p =
+    ap (λ b. b || r) (so_far p lt) ∙ rw (at_p, spread-at after src rows p [] lt) (mark_here (stands_in before p) (get_or old p false) r before after src rows p refl now is) in
+    elim (cases_eq i p) [
+      | inl same ↦
+          subst (λ (j : ℕ). get_or (set marks p (get_or marks p false || r)) j false ≡ touched_at old rows (spread after src rows) j) (sym same)
+          (get_or-set_same marks p _ false (omega arith) ∙ here)
+      | inr ne ↦
+          let other : p ≢ i = omega arith in
+          get_or-set_other marks p i _ false ne ∙ so_far i inside
+          ∙ ap (λ row. get_or old i false || not (bytes_eq row (get_or rows i [])))
+          (spread-at before src rows i [] inside ∙ to_same before after src rows i (adds i ∙ or_false (stands_in before i) (p == i) (ne_eqb p i other)) ∙ sym (spread-at after src rows i [] inside))
+    ]
+
+-- the marks before any place
+pub touched-none : (src : List ℕ) (rows : List (List ℕ)) (marks : List Bool) (i : ℕ) → i < length rows → get_or marks i false ≡ touched_at marks rows (spread [] src rows) i
+touched-none src rows marks i lt =
+    let same : bytes_eq (get_or (spread [] src rows) i []) (get_or rows i []) ≡ true = bytes_same _ _ (spread-at [] src rows i [] lt ∙ to_out [] src rows i refl) in
+    sym (ap (λ e. get_or marks i false || not e) same ∙ or_false (get_or marks i false) false refl)
+
+-- ---- an accumulator that is above its row, and is raised
+above_stays : (row acc s : List ℕ) → max_each row acc ≡ acc → max_each row (max_each acc s) ≡ max_each acc s
+above_stays [] [] s h = refl
+above_stays [] (a ∷ acc) s h = absurd (cc)
+above_stays (x ∷ row) [] s h = refl
+above_stays (x ∷ row) (a ∷ acc) [] h = refl
+above_stays (x ∷ row) (a ∷ acc) (k ∷ s) h =
+    let head : max x a ≡ a = ap (λ l. get_or l 0 0) h in
+    let tail : max_each row acc ≡ acc = ap (λ l. drop 1 l) h in
+    ap₂ (λ v rest. v ∷ rest) (omega arith) (above_stays row acc s tail)
+
+-- raised to its row, it was its row
+settled : (row acc s : List ℕ) → max_each row acc ≡ acc → max_each acc s ≡ row → acc ≡ row
+settled [] acc s h e = sym h
+settled (x ∷ row) [] s h e = absurd (cc)
+settled (x ∷ row) (a ∷ acc) [] h e = absurd (cc)
+settled (x ∷ row) (a ∷ acc) (k ∷ s) h e =
+    let head : max x a ≡ a = ap (λ l. get_or l 0 0) h in
+    let tail : max_each row acc ≡ acc = ap (λ l. drop 1 l) h in
+    let top : max a k ≡ x = ap (λ l. get_or l 0 0) e in
+    let rest : max_each acc s ≡ row = ap (λ l. drop 1 l) e in
+    ap₂ (λ v more. v ∷ more) (omega arith) (settled row acc s tail rest)
+
+join_marks : (a b c : Bool) → (a ≡ true → c ≡ b) → (a ≡ false → c ≡ false) → (not a || not b) ≡ not c
+join_marks true b c same never = ap not (sym (same refl))
+join_marks false b c same never = sym (ap not (never refl))
+
+-- a mark that an accumulator differs from its row stays right where the accumulator is raised again
+pub still_marked : (row acc s : List ℕ) → max_each row acc ≡ acc →
+    (not (bytes_eq acc row) || not (bytes_eq (max_each acc s) acc)) ≡ not (bytes_eq (max_each acc s) row)
+still_marked row acc s h =
+    join_marks (bytes_eq acc row) (bytes_eq (max_each acc s) acc) (bytes_eq (max_each acc s) row)
+    (λ same. ap (λ l. bytes_eq (max_each acc s) l) (sym (bytes_are acc row same)))
+    (λ other. bytes_unlike (max_each acc s) row (λ e. unlike_are acc row other (settled row acc s h e)))
+
+raised_above : (b : Bool) (row acc s new : List ℕ) → max_each row acc ≡ acc → new ≡ (if b then max_each acc s else acc) → max_each row new ≡ new
+raised_above true row acc s new h is = rw is (above_stays row acc s h)
+raised_above false row acc s new h is = rw is h
+
+raised_marked : (b : Bool) (row acc s new : List ℕ) → max_each row acc ≡ acc → new ≡ (if b then max_each acc s else acc) →
+    (not (bytes_eq acc row) || not (bytes_eq new acc)) ≡ not (bytes_eq new row)
+raised_marked true row acc s new h is = rw is (still_marked row acc s h)
+raised_marked false row acc s new h is =
+    ap (λ e. not (bytes_eq acc row) || not e) (bytes_same new acc is) ∙ or_false (not (bytes_eq acc row)) false refl ∙ ap (λ l. not (bytes_eq l row)) (sym is)
+
+-- marks that say which accumulators differ from their rows still do once a row is spread
+pub touched-spread : (places src : List ℕ) (rows acc new : List (List ℕ)) (old marks : List Bool) → new ≡ spread places src acc → length marks ≡ length old →
+    ((i : ℕ) → i < length acc → get_or marks i false ≡ touched_at old acc new i) → AreTouched rows acc old → AreTouched rows new marks
+touched-spread places src rows acc new old marks is count tells ok =
+    let long : length new ≡ length acc = ap length is ∙ length-spread places src acc in
+    let at : (i : ℕ) → i < length rows → get_or new i [] ≡ spread_to places src acc i = λ i lt. ap (λ l. get_or l i []) is ∙ spread-at places src acc i [] (omega (arith, ok.count)) in
+    record {
+      count = long ∙ ok.count;
+      marks = count ∙ ok.marks;
+      above = λ i lt. raised_above (stands_in places i) (get_or rows i []) (get_or acc i []) src (get_or new i []) (ok.above i lt) (at i lt ∙ to_is places src acc i);
+      differ = λ i lt.
+          tells i (omega (arith, ok.count)) ∙ ap (λ b. b || not (bytes_eq (get_or new i []) (get_or acc i []))) (ok.differ i lt)
+          ∙ raised_marked (stands_in places i) (get_or rows i []) (get_or acc i []) src (get_or new i []) (ok.above i lt) (at i lt ∙ to_is places src acc i);
+    }
+  where
+    to_is : (places src : List ℕ) (rows : List (List ℕ)) (i : ℕ) → spread_to places src rows i ≡ (if stands_in places i then max_each (get_or rows i []) src else get_or rows i [])
+    to_is places src rows i = unfold spread_to in refl

@@ -1,0 +1,91 @@
+-- Where the index of a part leads.
+use Rattle.std.proofs.Common.{◌≡◌, ◌≢◌, ℕ, ◌+◌, ◌<◌, ◌≤◌, Bool, true, false, ◌&&◌, ◌||◌, ◌==◌, List, [], ◌∷◌, map, length, get_or, if◌then◌else◌, refl, ap, arith, sym, ◌∙◌, inl, inr}
+use Rattle.std.specs.List.{list_any, filter}
+use Rattle.std.proofs.lemmas.Bool.{cases_lt, and_right, ne_eqb, eq-eqb, false_from_ne_true}
+use Rattle.std.proofs.lemmas.List.Folds.{list_any_at, list_any-append}
+use Rattle.std.proofs.lemmas.List.FromFn.{get_or-map-range_with_len, length-map-range_with_len}
+use Rattle.ball_model.specs.Job.{Job, IsJob, PartValue, part_of}
+use Rattle.ball_model.specs.Graph.{is_edge, preds_of}
+use Rattle.ball_model.specs.State.{own_vertices}
+use Rattle.ball_model.proofs.PathLemmas.{edge_below}
+use Rattle.ball_model.proofs.AccumulatedLemmas.{any_pred}
+use Rattle.std.proofs.lemmas.List.{get_or-map, get_or_past}
+use Rattle.edgelist.specs.Links.{edges_from}
+use Rattle.edgelist.proofs.LinksLemmas.{any_edges}
+use Rattle.replica.specs.Spread.{stands_in, LeadInside}
+use Rattle.replica.specs.Index.{targets_from, targets_of}
+
+-- ---- edges of lists of predecessors
+any_elsewhere : (ps : List ℕ) (y a x : ℕ) → a ≢ x → list_any (λ (e : ℕ × ℕ). (e.0 == y) && (e.1 == x)) (map (λ p. (p, a)) ps) ≡ false
+any_elsewhere [] y a x ne = refl
+any_elsewhere (p ∷ ps) y a x ne = rw (and_right (p == y) (a == x) (ne_eqb a x ne)) (any_elsewhere ps y a x ne)
+
+any_beyond : (lists : List (List ℕ)) (a y x : ℕ) → a + length lists ≤ x → list_any (λ (e : ℕ × ℕ). (e.0 == y) && (e.1 == x)) (edges_from a lists) ≡ false
+unfolding edges_from
+any_beyond [] a y x le = refl
+any_beyond (ps ∷ rest) a y x le =
+    let apart : a ≢ x = omega arith in
+    list_any-append (λ (e : ℕ × ℕ). (e.0 == y) && (e.1 == x)) (map (λ p. (p, a)) ps) (edges_from (a + 1) rest)
+    ∙ rw (any_elsewhere ps y a x apart) (any_beyond rest (a + 1) y x (omega arith))
+
+edges_are : (lists : List (List ℕ)) (z i : ℕ) → list_any (λ (e : ℕ × ℕ). (e.0 == z) && (e.1 == i)) (edges_from 0 lists) ≡ stands_in (get_or lists i []) z
+edges_are lists z i =
+    elim (cases_lt i (length lists)) [
+      | inl inside ↦ let e : 0 + i ≡ i = omega arith in rw e at (any_edges lists 0 z i inside)
+      | inr beyond ↦ any_beyond lists 0 z i (omega arith) ∙ rw (get_or_past lists i [] beyond) refl
+    ]
+
+-- ---- the index
+any_one : (b : Bool) (i : ℕ) (e : ℕ × ℕ) (rest : List (ℕ × ℕ)) (r : Bool) → list_any (λ y. y == i) (map (λ f. f.1) rest) ≡ r →
+    list_any (λ y. y == i) (map (λ f. f.1) (if b then (e ∷ rest) else rest)) ≡ ((b && (e.1 == i)) || r)
+any_one true i e rest r h = ap (λ s. (e.1 == i) || s) h
+any_one false i e rest r h = h
+
+any_targets : (es : List (ℕ × ℕ)) (z i : ℕ) → stands_in (targets_from es z) i ≡ list_any (λ (e : ℕ × ℕ). (e.0 == z) && (e.1 == i)) es
+any_targets [] z i = refl
+any_targets (e ∷ es) z i = any_one (e.0 == z) i e (filter (λ f. f.0 == z) es) _ (any_targets es z i)
+
+pub targets-at : (part : PartValue) (z : ℕ) (d : List ℕ) → z < part.plan.vertices → get_or (targets_of part) z d ≡ targets_from (edges_from 0 part.preds) z
+unfolding targets_of
+targets-at part z d lt = get_or-map-range_with_len (λ z. targets_from (edges_from 0 part.preds) z) 0 part.plan.vertices z z d lt (omega arith)
+
+pub length-targets : (part : PartValue) → length (targets_of part) ≡ part.plan.vertices
+unfolding targets_of
+length-targets part = length-map-range_with_len (λ z. targets_from (edges_from 0 part.preds) z) 0 part.plan.vertices
+
+-- the index leads from a vertex to those that have it as a predecessor
+pub targets-in : (part : PartValue) (z i : ℕ) (d : List ℕ) → z < part.plan.vertices → stands_in (get_or (targets_of part) z d) i ≡ stands_in (get_or part.preds i []) z
+targets-in part z i d lt = ap (λ places. stands_in places i) (targets-at part z d lt) ∙ any_targets (edges_from 0 part.preds) z i ∙ edges_are part.preds z i
+
+-- and nowhere from what is no vertex
+pub targets-none : (part : PartValue) (z : ℕ) → part.plan.vertices ≤ z → get_or (targets_of part) z [] ≡ []
+targets-none part z le = get_or_past (targets_of part) z [] (omega (arith, length-targets part))
+
+-- each place is one of the part's
+pub targets-inside : (part : PartValue) → LeadInside (length part.preds) (targets_of part)
+targets-inside part z d lt k e less =
+    let places = get_or (targets_of part) z d in
+    let i = get_or places k e in
+    let there : stands_in places i ≡ true = list_any_at (λ y. y == i) places k e less (eq-eqb i i refl) in
+    let pred : stands_in (get_or part.preds i []) z ≡ true = sym (targets-in part z i d (omega (arith, length-targets part))) ∙ there in
+    elim (cases_lt i (length part.preds)) [
+      | inl inside ↦ inside
+      | inr beyond ↦ absurd (let at : stands_in [] z ≡ true = rw (get_or_past part.preds i [] beyond) at pred in cc)
+    ]
+
+-- ---- the index of a job's partition
+preds-at : (j : Job) (p i : ℕ) → i < length (own_vertices j p) → get_or (part_of j p).preds i [] ≡ preds_of j.graph (get_or (own_vertices j p) i 0)
+unfolding part_of
+preds-at j p i lt = get_or-map (λ x. preds_of j.graph x) (own_vertices j p) i 0 [] lt
+
+-- it leads from a vertex to those of the partition that it has an edge to
+pub targets-edge : (j : Job) (p z i : ℕ) → IsJob j → i < length (own_vertices j p) → stands_in (get_or (targets_of (part_of j p)) z []) i ≡ is_edge j.graph z (get_or (own_vertices j p) i 0)
+unfolding part_of
+targets-edge j p z i job lt =
+    let x = get_or (own_vertices j p) i 0 in
+    elim (cases_lt z j.plan.vertices) [
+      | inl inside ↦ targets-in (part_of j p) z i [] inside ∙ ap (λ zs. stands_in zs z) (preds-at j p i lt) ∙ any_pred j.graph z x job.graph
+      | inr beyond ↦
+          ap (λ places. stands_in places i) (targets-none (part_of j p) z beyond)
+          ∙ sym (false_from_ne_true (is_edge j.graph z x) (λ edge. omega (arith, (edge_below j.graph z x job.graph edge).0, job.vertices)))
+    ]

@@ -1,0 +1,7 @@
+use Rattle.std.proofs.Common.{◌≡◌, map, option_map, replicate}
+use Rattle.std.specs.Prelude.{None}
+use Rattle.std.specs.Arc.{arc_value}
+use Rattle.replica.proofs.early.empty_slots.Given as goal
+
+abbrev pub invariant-loop : goal.invariant-loop
+invariant-loop l = map (option_map arc_value) l.slots.items ≡ replicate l.counter None

@@ -1,0 +1,10 @@
+use Rattle.std.proofs.Common.{◌≡◌, ℕ, ◌<◌, ◌≤◌, slice_index_or, length, []}
+use Rattle.replica.proofs.level.catch_up.Given as goal
+
+abbrev pub invariant-loop-i : goal.invariant-loop-i
+invariant-loop-i l = record {
+  width : l.rows.width ≡ l.initial.rows.width;
+  count : length l.rows.rows ≡ length l.initial.rows.rows;
+  done : (k : ℕ) → k < l.i → slice_index_or l.rows.rows k [] ≡ slice_index_or l.accumulated.rows k [];
+  rest : (k : ℕ) → l.i ≤ k → slice_index_or l.rows.rows k [] ≡ slice_index_or l.initial.rows.rows k [];
+}

@@ -1,6 +1,0 @@
-use Rattle.std.proofs.Common.{◌≡◌, take, map, option_map}
-use Rattle.std.specs.Arc.{arc_value}
-use Rattle.replica.proofs.saved.share.Given as goal
-
-abbrev pub invariant-loop-slot : goal.invariant-loop-slot
-invariant-loop-slot l = map (option_map arc_value) l.shared.items ≡ map (option_map arc_value) (take l.slot-index l.kept)

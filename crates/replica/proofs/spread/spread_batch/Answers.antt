@@ -1,0 +1,48 @@
+use Rattle.std.proofs.Common.{◌≡◌, ◌+◌, ◌<◌, ℕ, List, [], length, get_or, take, ap, arith, ◌∙◌}
+use Rattle.std.proofs.lemmas.List.{get_or-map, take_more, take_all}
+use Rattle.ball_model.specs.Table.{Table}
+use Rattle.ball_model.specs.Batches.{BatchValue}
+use Rattle.replica.proofs.HeardLemmas.{spread-batch, spread_each-none, spread_each-more, length-spread_each}
+use Rattle.replica.proofs.spread.spread_batch.Goals as goal
+
+pub loop-k-init : goal.loop-k-init
+loop-k-init c = record {
+  rows = ap (λ (rows : List (List ℕ)). record c.args.accumulated.now { rows = rows }) (spread_each-none c.args.targets.now c.args.accumulated.now.rows);
+  touched = λ rows h. h;
+}
+
+pub spread_row-requires-clause-inside : goal.spread_row-requires-clause-inside
+spread_row-requires-clause-inside c =
+    let count : length c.loop-k.accumulated.rows ≡ length c.args.accumulated.now.rows =
+    ap (λ (t : Table). length t.rows) c.loop-k.invariant.rows ∙ length-spread_each c.args.targets.now (take c.loop-k.k c.args.batch.now.rows) c.args.accumulated.now.rows in
+    λ z d lt k e less. let at : get_or (get_or c.args.targets.now z d) k e < length c.loop-k.accumulated.rows = omega (arith, count, c.requires.inside z d lt k e less) in at
+
+pub spread_row-requires-clause-marks : goal.spread_row-requires-clause-marks
+spread_row-requires-clause-marks c =
+    let count : length c.loop-k.accumulated.rows ≡ length c.args.accumulated.now.rows =
+    ap (λ (t : Table). length t.rows) c.loop-k.invariant.rows ∙ length-spread_each c.args.targets.now (take c.loop-k.k c.args.batch.now.rows) c.args.accumulated.now.rows in
+    let at : length c.loop-k.touched ≡ length c.loop-k.accumulated.rows = omega (arith, count, c.loop-k.auto.touched, c.requires.marks) in
+    at
+
+pub loop-k-preserved : goal.loop-k-preserved
+loop-k-preserved c =
+    let k = c.loop-k.k in
+    let targets = c.args.targets.now in
+    let others = c.args.batch.now.rows in
+    let old = c.args.accumulated.now.rows in
+    let lt : k < length others = omega (arith, c.loop-k-test.true, c.count-k-end.ensures.value) in
+    let vertex : c.id.result ≡ (get_or others k (0, [])).0 = c.id.ensures.value ∙ get_or-map (λ row. row.0) others k (0, []) 0 lt in
+    let registers : c.registers.result.now ≡ (get_or others k (0, [])).1 = c.registers.ensures.value ∙ get_or-map (λ row. row.1) others k (0, []) [] lt in
+    let rows = ap (λ (t : Table). t.rows) c.loop-k.invariant.rows in
+    let width = ap (λ (t : Table). t.width) c.loop-k.invariant.rows in
+    record {
+      rows = c.spread_row.ensures.rows ∙ rw (rows, width, vertex, registers) (ap (λ (rs : List (List ℕ)). record c.args.accumulated.now { rows = rs })
+          (spread_each-more targets (take k others) (take (k + 1) others) (get_or others k (0, [])) old (take_more others k (0, []) lt)));
+      touched = λ own h. c.spread_row.ensures.touched own (c.loop-k.invariant.touched own h);
+    }
+
+pub returns-clause-stands : goal.returns-clause-stands
+returns-clause-stands c = λ j p t q heard job index true_one stands.
+    let all : take c.loop-k.k c.args.batch.now.rows ≡ c.args.batch.now.rows = take_all c.loop-k.k c.args.batch.now.rows (omega (arith, c.loop-k-test.false, c.count-k-end.ensures.value)) in
+    ap (λ (table : Table). table.rows) c.loop-k.invariant.rows
+    ∙ rw (all, index, stands, ap (λ (b : BatchValue). b.rows) true_one) (spread-batch j p t q heard job)

@@ -1,0 +1,57 @@
+use Rattle.std.proofs.Common.{◌≡◌, ◌+◌, ◌*◌, ℕ, List, [], length, get_or, ap, arith, ◌∙◌}
+use Rattle.ball_model.specs.Table.{Table}
+use Rattle.replica.specs.Spread.{marked_rows}
+use Rattle.replica.proofs.HeardLemmas.{own_stands, spread_each-none, spread_each-more, length-spread_each, marked-none, marked-yes, marked-no}
+use Rattle.replica.proofs.spread.spread_own.Goals as goal
+use Rattle.replica.proofs.spread.spread_own.Goals.{then-marks-i, else-marks-i}
+
+pub loop-i-init : goal.loop-i-init
+loop-i-init c =
+    let part = c.args.part.now in
+    let none = marked-none part.plan.parts part.number c.args.rows.now.rows c.args.marks.now in
+    record {
+      rows = rw none (ap (λ (rows : List (List ℕ)). record c.args.accumulated.now { rows = rows }) (spread_each-none c.args.targets.now c.args.accumulated.now.rows));
+      touched = λ own h. h;
+    }
+
+pub spread_row-requires-clause-inside : goal.spread_row-requires-clause-inside
+spread_row-requires-clause-inside c =
+    let part = c.args.part.now in
+    let count : length c.loop-i.accumulated.rows ≡ length c.args.accumulated.now.rows =
+    ap (λ (t : Table). length t.rows) c.loop-i.invariant.rows ∙ length-spread_each c.args.targets.now (marked_rows part.plan.parts part.number c.args.rows.now.rows c.args.marks.now c.loop-i.i) c.args.accumulated.now.rows in
+    λ z d lt k e less. omega (arith, count, c.requires.inside z d lt k e less)
+
+pub spread_row-requires-clause-marks : goal.spread_row-requires-clause-marks
+spread_row-requires-clause-marks c =
+    let part = c.args.part.now in
+    let count : length c.loop-i.accumulated.rows ≡ length c.args.accumulated.now.rows =
+    ap (λ (t : Table). length t.rows) c.loop-i.invariant.rows ∙ length-spread_each c.args.targets.now (marked_rows part.plan.parts part.number c.args.rows.now.rows c.args.marks.now c.loop-i.i) c.args.accumulated.now.rows in
+    omega (arith, count, c.loop-i.auto.touched, c.requires.touched)
+
+pub loop-i-preserved : goal.loop-i-preserved
+loop-i-preserved c =
+    let i = c.loop-i.i in
+    let part = c.args.part.now in
+    let own = c.args.rows.now.rows in
+    let marks = c.args.marks.now in
+    let parts = part.plan.parts in
+    let p = part.number in
+    let old = c.args.accumulated.now.rows in
+    let rows = ap (λ (t : Table). t.rows) c.loop-i.invariant.rows in
+    let width = ap (λ (t : Table). t.width) c.loop-i.invariant.rows in
+    elim c.if-marks-i.branch [
+      | then-marks-i w ↦ record {
+        rows = w.accumulated-is ∙ w.spread_row.ensures.rows ∙ rw (rows, width, w.vertex.ensures.value, w.row.ensures.value) (ap (λ (rs : List (List ℕ)). record c.args.accumulated.now { rows = rs })
+            (spread_each-more c.args.targets.now (marked_rows parts p own marks i) (marked_rows parts p own marks (i + 1)) (i * parts + p, get_or own i []) old (marked-yes parts p i own marks w.if-marks-i.true)));
+        touched = λ rs h. rw (w.accumulated-is, w.touched-is) (w.spread_row.ensures.touched rs (c.loop-i.invariant.touched rs h));
+      }
+      | else-marks-i w ↦ record {
+        rows = w.accumulated-is ∙ rw (marked-no parts p i own marks w.if-marks-i.false) c.loop-i.invariant.rows;
+        touched = λ rs h. rw (w.accumulated-is, w.touched-is) (c.loop-i.invariant.touched rs h);
+      }
+    ]
+
+pub returns-clause-stands : goal.returns-clause-stands
+returns-clause-stands c = λ j p t heard job lt part index own marks stands.
+    ap (λ (table : Table). table.rows) c.loop-i.invariant.rows
+    ∙ own_stands j p t c.loop-i.i heard c.args.part.now c.args.targets.now c.args.rows.now.rows c.args.accumulated.now.rows c.args.marks.now job lt part index own marks stands (omega arith)

@@ -1,0 +1,15 @@
+use Rattle.std.proofs.Common.{[], get_or, ap, arith, ◌∙◌}
+use Rattle.ball_model.specs.Table.{Table}
+use Rattle.replica.proofs.SpreadLemmas.{touched-spread}
+use Rattle.replica.proofs.HeardLemmas.{accumulated_of-spread}
+use Rattle.replica.proofs.spread.spread_row.Goals as goal
+
+pub returns-clause-stands : goal.returns-clause-stands
+returns-clause-stands c = λ j p t heard job index changed true_row stands.
+    ap (λ (table : Table). table.rows) (rw c.places.ensures at c.raise_places.ensures.rows)
+    ∙ rw (true_row, stands, index) (accumulated_of-spread j p t c.args.z heard job changed)
+
+pub returns-clause-touched : goal.returns-clause-touched
+returns-clause-touched c = λ rows h.
+    touched-spread (get_or c.args.targets.now c.args.z []) c.args.registers.now rows c.args.accumulated.now.rows c.raise_places.new.accumulated.rows c.args.touched.now c.raise_places.new.touched
+    (ap (λ (table : Table). table.rows) (rw c.places.ensures at c.raise_places.ensures.rows)) (omega arith) c.raise_places.ensures.marks h

@@ -1,7 +1,0 @@
-use Rattle.std.proofs.Common.{◌≡◌, map, option_map, replicate}
-use Rattle.std.specs.Prelude.{None}
-use Rattle.std.specs.Arc.{arc_value}
-use Rattle.replica.proofs.start.start_kept.Given as goal
-
-abbrev pub invariant-loop : goal.invariant-loop
-invariant-loop l = map (option_map arc_value) l.kept.items ≡ replicate l.counter None

@@ -1,0 +1,37 @@
+-- How a replica changes, over plain data.
+use Rattle.std.specs.Prelude.{◌≡◌, ◌≤◌, ℕ, ◌+◌, ◌%◌, ◌==◌, ◌||◌, true, false, [], ◌∷◌, ◌++◌, length, replicate}
+use Rattle.std.specs.List.{sum_by}
+use Rattle.ball_model.specs.Accumulated.{accumulated_of}
+use Rattle.ball_model.specs.Batches.{BatchValue, true_batch}
+use Rattle.ball_model.specs.Content.{after_take}
+use Rattle.ball_model.specs.Job.{Job}
+use Rattle.ball_model.specs.State.{State, SameShown, StandsFor, content_of, early_at, is_heard}
+use Rattle.replica.specs.Ahead.{IsTable}
+use Rattle.replica.specs.Hearing.{Hears}
+use Rattle.replica.specs.Index.{targets_of}
+use Rattle.replica.specs.Kept.{AllRise}
+use Rattle.replica.specs.Level.{differing, stepped_all, total_of}
+
+-- w is v once it has received a batch that it did not hold
+pub record Receives (b : BatchValue) (v w : State) : Type 0 where
+  pub shown : SameShown w v
+  pub names : (s q : ℕ) → (content_of w).holds s q ≡ after_take true (content_of v).holds b.name.superstep b.name.source s q
+  pub stands : (j : Job) (p t : ℕ) → StandsFor j p t v → b ≡ true_batch j b.name → StandsFor j p t w
+
+-- w is v one superstep later: what is accumulated with the own partition's changed rows becomes the rows, and what is
+-- kept of the new superstep is heard
+pub record Advances (v w : State) : Type 0 where
+  pub part : w.part ≡ v.part
+  pub superstep : w.superstep ≡ v.superstep + 1
+  pub rise : AllRise v.part.plan.log2m v.rows w.rows
+  pub gathers : (j : Job) (p t : ℕ) → StandsFor j p t v →
+      w.rows ≡ accumulated_of j p t (λ z. is_heard j.plan.parts v.heard z || (z % j.plan.parts == p))
+  pub marks : w.marks ≡ differing v.rows w.rows (length v.part.preds)
+  pub tallies : w.tallies ≡ stepped_all v.part.plan.log2m (v.superstep + 1) w.rows v.tallies (length v.part.preds)
+  pub sums : w.sums ≡ v.sums ++ total_of v.part.plan.log2m w.rows ∷ []
+  pub gains : sum_by (λ tally. tally.last) v.tallies ≤ total_of v.part.plan.log2m w.rows
+  pub hears : Hears v.part.plan.log2m (targets_of v.part) (λ q. early_at v.early 0 q)
+      (record { heard = replicate 64 false; change = false; accumulated = w.rows })
+      (record { heard = w.heard; change = w.heard_change; accumulated = w.accumulated })
+  pub early : (i q : ℕ) → early_at w.early i q ≡ early_at v.early (i + 1) q
+  pub table : IsTable v.part.plan.parts w.early

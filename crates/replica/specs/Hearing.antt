@@ -1,0 +1,36 @@
+-- What a replica has heard of its superstep, and what becomes of it as batches are heard.
+use Rattle.std.specs.Prelude.{◌≡◌, ℕ, Bool, false, ◌||◌, ◌==◌, List, length, Option, None, None, is_some, nat_lt, IfSome, slice_index_or, if◌then◌else◌}
+use Rattle.ball_model.specs.Accumulated.{accumulated_of}
+use Rattle.ball_model.specs.Batches.{BatchValue, true_batch}
+use Rattle.ball_model.specs.Job.{Job, IsJob, part_of}
+use Rattle.ball_model.specs.State.{is_heard, heard_changes}
+use Rattle.replica.specs.Index.{targets_of}
+use Rattle.replica.specs.Kept.{AllRise}
+
+-- which sources are heard, whether one of them tells of a changed vertex, and what is accumulated for each vertex
+pub record Hearing : Type 0 where
+  pub heard : List Bool
+  pub change : Bool
+  pub accumulated : List (List ℕ)
+
+-- it is what the definitions say of superstep t
+pub record IsTrueHearing (j : Job) (p t : ℕ) (a : Hearing) : Type 0 where
+  pub change : a.change ≡ heard_changes j t a.heard
+  pub accumulated : a.accumulated ≡ accumulated_of j p t (λ z. is_heard j.plan.parts a.heard z)
+
+-- what one source tells
+abbrev pub told_by : ℕ → Option BatchValue → ℕ → Option BatchValue
+told_by source told q = if q == source then told else None
+
+-- what the sources below n tell
+abbrev pub told_below : (ℕ → Option BatchValue) → ℕ → ℕ → Option BatchValue
+told_below told n q = if nat_lt q n then told q else None
+
+-- what the sources tell is heard too
+pub record Hears (log2m : ℕ) (targets : List (List ℕ)) (told : ℕ → Option BatchValue) (a b : Hearing) : Type 0 where
+  pub count : length b.heard ≡ length a.heard
+  pub sources : (q : ℕ) → slice_index_or b.heard q false ≡ (slice_index_or a.heard q false || is_some (told q))
+  pub rise : AllRise log2m a.accumulated b.accumulated
+  pub stands : (j : Job) (p t : ℕ) → IsJob j → targets ≡ targets_of (part_of j p) →
+      ((q : ℕ) → IfSome (told q) (λ b. b ≡ true_batch j (record { superstep = t; source = q; target = p }))) →
+      IsTrueHearing j p t a → IsTrueHearing j p t b

@@ -1,0 +1,48 @@
+-- Rows of vertices, spread to the own vertices that those have an edge to (HyperBall 2013).
+use Rattle.std.specs.Prelude.{◌≡◌, ℕ, ◌+◌, ◌*◌, ◌<◌, Bool, false, not, ◌||◌, ◌==◌, List, [], ◌∷◌, map, length, slice_index_or, if◌then◌else◌}
+use Rattle.std.specs.List.{All, list_any, filter, range_with_len}
+use Rattle.std.specs.Str.{bytes_eq}
+use Rattle.ball_model.specs.Counter.{max_each}
+use Rattle.ball_model.specs.Job.{PartValue}
+
+-- the number stands in the list
+abbrev pub stands_in : List ℕ → ℕ → Bool
+stands_in xs x = list_any (λ y. y == x) xs
+
+-- row i, raised by other registers where i is one of the places
+unfoldable pub spread_to : List ℕ → List ℕ → List (List ℕ) → ℕ → List ℕ
+spread_to places registers rows i =
+    if stands_in places i then max_each (slice_index_or rows i []) registers else slice_index_or rows i []
+
+-- rows, raised by other registers at these places
+unfoldable pub spread : List ℕ → List ℕ → List (List ℕ) → List (List ℕ)
+spread places registers rows = map (spread_to places registers rows) (range_with_len 0 (length rows))
+
+-- rows, raised by those of some vertices one after the other, each at the places of its vertex
+unfoldable pub spread_each : List (List ℕ) → List (ℕ × List ℕ) → List (List ℕ) → List (List ℕ)
+spread_each targets [] rows = rows
+spread_each targets (other ∷ rest) rows = spread_each targets rest (spread (slice_index_or targets other.0 []) other.1 rows)
+
+-- of the first n vertices of partition p those whose row is marked, each with its row
+unfoldable pub marked_rows : ℕ → ℕ → List (List ℕ) → List Bool → ℕ → List (ℕ × List ℕ)
+marked_rows parts p rows marks n =
+    map (λ i. (i * parts + p, slice_index_or rows i [])) (filter (λ i. slice_index_or marks i false) (range_with_len 0 n))
+
+-- the vertices of a part whose row is marked, each with its row
+abbrev pub own_rows : PartValue → List (List ℕ) → List Bool → List (ℕ × List ℕ)
+own_rows part rows marks = marked_rows part.plan.parts part.number rows marks (length marks)
+
+-- row i is marked where it was marked or has become another
+abbrev pub touched_at : List Bool → List (List ℕ) → List (List ℕ) → ℕ → Bool
+touched_at marks old new i = slice_index_or marks i false || not (bytes_eq (slice_index_or new i []) (slice_index_or old i []))
+
+-- each place is one of so many
+abbrev pub LeadInside : ℕ → List (List ℕ) → Type 0
+LeadInside count targets = All (λ places. All (λ i. i < count) places) targets
+
+-- no accumulator is below its row anywhere, and those are marked that differ from their row
+pub record AreTouched (rows accumulated : List (List ℕ)) (touched : List Bool) : Type 0 where
+  pub count : length accumulated ≡ length rows
+  pub marks : length touched ≡ length rows
+  pub above : (i : ℕ) → i < length rows → max_each (slice_index_or rows i []) (slice_index_or accumulated i []) ≡ slice_index_or accumulated i []
+  pub differ : (i : ℕ) → i < length rows → slice_index_or touched i false ≡ not (bytes_eq (slice_index_or accumulated i []) (slice_index_or rows i []))

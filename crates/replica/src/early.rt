@@ -1,0 +1,191 @@
+//! Batches of supersteps to come.
+
+ghost use Rattle.std.specs.Prelude.{◌≡◌, ℕ, ◌<◌, ◌≤◌, ◌+◌, ◌*◌, ◌==◌, ◌&&◌, replicate, length, option_map, slice_index_or, slice_set, None, Some, [], map, IfOk, if◌then◌else◌};
+ghost use Rattle.std.specs.Arc.{arc_value};
+ghost use Rattle.ball_model.specs.State.{early_at};
+ghost use Rattle.replica.specs.Ahead.{IsTable, either, filled, shifted};
+
+use batches::Batch;
+use std::alloc::{AllocError, Global};
+use std::marker::Model;
+use std::sync::Arc;
+
+/// Of how many supersteps ahead batches are kept.
+pub const LEVELS: usize = 3;
+
+/// For each of the three supersteps that follow, by source, the batch that is kept.
+///
+/// All its room is taken when it is made.
+#[derive(Drop)]
+pub struct Early {
+    parts: usize,
+    // at level * parts + source
+    slots: Vec<Option<Arc<Batch>>>,
+}
+
+impl Model for Early {
+    ghost use Rattle.std.specs.Prelude.{List, Option, ◌≡◌, ◌*◌, length, map, option_map};
+    ghost use Rattle.std.specs.Arc.{arc_value};
+    ghost use Rattle.ball_model.specs.Batches.{BatchValue};
+    ghost use Rattle.replica.specs.Ahead.{table_of};
+
+    ghost Value = { List (List (Option BatchValue)) };
+
+    ghost view = { λ e. table_of e.parts (map (option_map arc_value) e.slots.items) };
+
+    ghost invariant = { λ e. length e.slots.items ≡ 3 * e.parts };
+}
+
+impl Early {
+    /// Room for the batches of so many sources.
+    pub fn empty(alloc: Global, parts: u16) -> Result<Early, AllocError>
+        ensures table { IfOk result (λ e. IsTable parts e) }
+        ensures none { IfOk result (λ e. (i q : ℕ) → early_at e i q ≡ None) }
+    {
+        let parts = usize::from(parts);
+        let slots = empty_slots(alloc, LEVELS * parts)?;
+        Ok(Early { parts, slots })
+    }
+
+    /// The batch of a source, `level` supersteps after the next one.
+    pub fn get(&self, level: usize, source: u16) -> Option<&Batch>
+        ensures { option_map (λ b. b.now) result ≡ early_at self.now level source }
+    {
+        let source = usize::from(source);
+        if LEVELS <= level || self.parts <= source {
+            return None;
+        }
+        batch_at(&self.slots, level * self.parts + source)
+    }
+
+    /// Keeps the batch of a source.
+    pub fn keep(&mut self, level: usize, source: u16, batch: Arc<Batch>)
+        requires level { level < 3 }
+        requires source { (parts : ℕ) → IsTable parts self.old → source < parts }
+        ensures kept { (i k : ℕ) → early_at self.new i k ≡ (if (i == level) && (k == source) then Some (arc_value batch) else early_at self.old i k) }
+        ensures table { (parts : ℕ) → IsTable parts self.old → IsTable parts self.new }
+    {
+        let place = level * self.parts + usize::from(source);
+        put(&mut self.slots, place, batch);
+    }
+
+    /// So many supersteps go, and the others come nearer.
+    pub fn shift(&mut self, count: usize)
+        requires { count ≤ 3 }
+        ensures kept { (i k : ℕ) → early_at self.new i k ≡ early_at self.old (i + count) k }
+        ensures table { (parts : ℕ) → IsTable parts self.old → IsTable parts self.new }
+    {
+        shift_slots(&mut self.slots, count * self.parts);
+    }
+
+    /// Where there is no batch, that of the other one comes.
+    pub fn fill(&mut self, other: &mut Early)
+        requires { (parts : ℕ) → IsTable parts self.old → IsTable parts other.old }
+        ensures kept { (i k : ℕ) → early_at self.new i k ≡ either (early_at self.old i k) (early_at other.old i k) }
+        ensures table { (parts : ℕ) → IsTable parts self.old → IsTable parts self.new }
+    {
+        fill_slots(&mut self.slots, &mut other.slots);
+    }
+
+    /// The same batches, shared.
+    pub fn share(&self, alloc: Global) -> Result<Early, AllocError>
+        ensures { IfOk result (λ e. e ≡ self.now) }
+    {
+        let slots = share_slots(alloc, &self.slots)?;
+        Ok(Early {
+            parts: self.parts,
+            slots,
+        })
+    }
+}
+
+// So many empty slots.
+fn empty_slots(alloc: Global, count: usize) -> Result<Vec<Option<Arc<Batch>>>, AllocError>
+    ensures { IfOk result (λ slots. map (option_map arc_value) slots.items ≡ replicate count None) }
+{
+    let mut slots = Vec::with_capacity(alloc, count)?;
+    for _ in 0..count {
+        slots.push(None)?;
+    }
+    Ok(slots)
+}
+
+// The batch in a slot.
+fn batch_at(slots: &[Option<Arc<Batch>>], place: usize) -> Option<&Batch>
+    requires { place < length slots.now }
+    ensures { option_map (λ b. b.now) result ≡ slice_index_or (map (option_map arc_value) slots.now) place None }
+{
+    match &slots[place] {
+        Some(batch) => Some(batch),
+        None => None,
+    }
+}
+
+// A batch comes into a slot.
+fn put(slots: &mut [Option<Arc<Batch>>], place: usize, batch: Arc<Batch>)
+    requires { place < length slots.old }
+    ensures { map (option_map arc_value) slots.new ≡ slice_set (map (option_map arc_value) slots.old) place (Some (arc_value batch)) }
+{
+    slots[place] = Some(batch);
+}
+
+// The batches move so many places nearer, and the first ones go.
+fn shift_slots(slots: &mut [Option<Arc<Batch>>], count: usize)
+    requires { count ≤ length slots.old }
+    ensures { map (option_map arc_value) slots.new ≡ shifted count (map (option_map arc_value) slots.old) }
+{
+    clear(&mut slots[..count]);
+    slots.rotate_left(count);
+}
+
+// Lets each batch go.
+fn clear(slots: &mut [Option<Arc<Batch>>])
+    ensures { map (option_map arc_value) slots.new ≡ replicate (length slots.old) None }
+{
+    for i in 0..slots.len() {
+        slots[i] = None;
+    }
+}
+
+// Each empty slot takes what the other one at its place has.
+fn fill_slots(slots: &mut [Option<Arc<Batch>>], others: &mut [Option<Arc<Batch>>])
+    requires { length others.old ≡ length slots.old }
+    ensures { map (option_map arc_value) slots.new ≡ filled (map (option_map arc_value) slots.old) (map (option_map arc_value) others.old) }
+{
+    for i in 0..slots.len() {
+        fill_one(&mut slots[i], &mut others[i]);
+    }
+}
+
+// A slot that is empty takes what the other one has.
+fn fill_one(slot: &mut Option<Arc<Batch>>, other: &mut Option<Arc<Batch>>)
+    ensures { option_map arc_value slot.new ≡ either (option_map arc_value slot.old) (option_map arc_value other.old) }
+{
+    if slot.is_none() {
+        *slot = other.take();
+    }
+}
+
+// The same batches, shared.
+fn share_slots(
+    alloc: Global,
+    slots: &[Option<Arc<Batch>>],
+) -> Result<Vec<Option<Arc<Batch>>>, AllocError>
+    ensures { IfOk result (λ shared. map (option_map arc_value) shared.items ≡ map (option_map arc_value) slots.now) }
+{
+    let mut shared = Vec::with_capacity(alloc, slots.len())?;
+    for slot in slots {
+        shared.push(share_one(slot)?)?;
+    }
+    Ok(shared)
+}
+
+// The same batch, shared, where there is one.
+fn share_one(slot: &Option<Arc<Batch>>) -> Result<Option<Arc<Batch>>, AllocError>
+    ensures { IfOk result (λ shared. option_map arc_value shared ≡ option_map arc_value slot.now) }
+{
+    match slot {
+        Some(batch) => Ok(Some(Arc::try_clone(batch)?)),
+        None => Ok(None),
+    }
+}

@@ -1,0 +1,315 @@
+//! A replica: what it knows, and the room in which it goes on. Only its making, `out`, `snapshot` and `merge` take
+//! memory.
+
+ghost use Rattle.std.specs.Prelude.{◌≡◌, ◌≢◌, ℕ, ◌<◌, ◌≤◌, ◌+◌, ◌*◌, ◌/◌, ◌%◌, ◌^◌, ◌==◌, ◌&&◌, false, length, slice_index_or, option_map, None, [], map, max, count_by, IsSome, IsTrue, OnOk, OnErr, IfOk, Ok, Err, ◌↔◌};
+ghost use Rattle.std.specs.Arc.{arc_value};
+ghost use Rattle.std.specs.List.{list_any};
+ghost use Rattle.ball_model.specs.declared.names.CloseError.TheVariants as waits;
+ghost use Rattle.ball_model.specs.declared.names.MergeError.TheVariants as refusal;
+ghost use Rattle.ball_model.specs.Counter.{ball_counter};
+ghost use Rattle.ball_model.specs.Change.{changed_at};
+ghost use Rattle.ball_model.specs.Laws.{IsCounterRow};
+ghost use Rattle.ball_model.specs.Supersteps.{tally_at};
+ghost use Rattle.ball_model.specs.PlanValue.{mixing_of, vertices_of};
+ghost use Rattle.ball_model.specs.Job.{Job, IsJob, part_of};
+ghost use Rattle.ball_model.specs.Batches.{true_batch, changed_count};
+ghost use Rattle.ball_model.specs.Content.{Content, take_of, is_new, after_take, missing_of, verdict_of, close_of, closed};
+ghost use Rattle.ball_model.specs.Join.{joined, merge_of};
+ghost use Rattle.ball_model.specs.State.{SameShown, StandsFor, content_of, further, rows_of, tallies_of, sums_of};
+ghost use Rattle.figures.specs.Values.{value_of};
+ghost use Rattle.replica.specs.Level.{found_verdict, nothing};
+ghost use Rattle.replica.specs.Merged.{ShowsAs};
+ghost use Rattle.replica.specs.Start.{Starts};
+ghost use Rattle.replica.specs.Seen.{IsState};
+ghost use Rattle.replica.specs.Runs.{HasContent, Takes, Closes, Merges};
+
+use crate::targets::Targets;
+use crate::{Replica, Snapshot, start, step};
+use ball_model::{BatchName, CloseError, MergeError, Plan, TakeError, Taken, Verdict};
+use batches::Batch;
+use edgelist::Part;
+use figures::Tally;
+use registers::{Rows, SourceMask};
+use std::alloc::{AllocError, Global};
+use std::sync::Arc;
+
+impl Replica {
+    /// A replica of the part at superstep 0, which holds no batch: each vertex has seen itself.
+    ///
+    /// All room of later supersteps is taken here. The error is that memory was refused. It takes time in proportion
+    /// to the registers of the partition and the edges into it.
+    pub fn new(alloc: Global, part: Arc<Part>) -> Result<Replica, AllocError>
+        ensures part { IfOk result (λ r. r.part ≡ arc_value part) }
+        ensures superstep { IfOk result (λ r. r.superstep ≡ 0) }
+        ensures names { IfOk result (λ r. (s q : ℕ) → (content_of r).holds s q ≡ false) }
+        ensures stands { IfOk result (λ r. (j : Job) (p : ℕ) → IsJob j → p < j.plan.parts → arc_value part ≡ part_of j p → StandsFor j p 0 r) }
+    {
+        Replica::started(alloc, part)
+    }
+
+    // A replica of the part at superstep 0.
+    fn started(alloc: Global, part: Arc<Part>) -> Result<Replica, AllocError>
+        ensures { IfOk result (λ r. Starts (arc_value part) r) }
+    {
+        let targets = Targets::of(alloc, &part)?;
+        let touched = vec![in alloc; false; part.size() as usize]?;
+        let known = start::first(alloc, part)?;
+        Ok(Replica {
+            known,
+            targets,
+            touched,
+        })
+    }
+
+    /// Holds a batch from now on, or says why not. It takes no memory, and waits for nobody.
+    ///
+    /// In this order: [`OtherJob`](TakeError::OtherJob) where the plan is another,
+    /// [`NotMine`](TakeError::NotMine) where the target is, [`OwnPartition`](TakeError::OwnPartition) where the source
+    /// is the replica's own partition; [`Old`](Taken::Old) below its superstep, [`Known`](Taken::Known) where it is
+    /// held, [`TooEarly`](TakeError::TooEarly) more than three supersteps ahead, else [`New`](Taken::New). New adds
+    /// the batch alone; every other answer changes nothing. A batch of the superstep is merged and let go, in time in
+    /// proportion to the registers of the edges from its vertices into the partition; a later one is kept.
+    pub fn take(&mut self, batch: Arc<Batch>) -> Result<Taken, TakeError>
+        ensures answer { result ≡ take_of self.old.part.plan self.old.part.number (content_of self.old) (arc_value batch).plan (arc_value batch).name }
+        ensures names { (s q : ℕ) → (content_of self.new).holds s q ≡ after_take (is_new result) (content_of self.old).holds (arc_value batch).name.superstep (arc_value batch).name.source s q }
+        ensures shown { SameShown self.new self.old }
+        ensures unchanged { is_new result ≡ false → self.new ≡ self.old }
+        ensures stands { (j : Job) (p t : ℕ) → StandsFor j p t self.old → arc_value batch ≡ true_batch j (arc_value batch).name → StandsFor j p t self.new }
+        // a step of a run
+        ensures step { (j : Job) (p : ℕ) → arc_value batch ≡ true_batch j (arc_value batch).name → Takes j p (arc_value batch).name result self.old self.new }
+    {
+        let answer = self.known.answer(&batch);
+        match answer {
+            Ok(Taken::New) => {
+                // the limits of a batch are told with its name
+                let _name = batch.name();
+                self.known.receive(&self.targets, &mut self.touched, batch);
+                answer
+            }
+            _ => answer,
+        }
+    }
+
+    /// Goes on to the next superstep and answers it. It takes no memory, and waits for nobody.
+    ///
+    /// [`Waiting`](CloseError::Waiting) where a batch of the level is missing, for the least such source, then
+    /// [`Finished`](CloseError::Finished) where the verdict is Stable or Limit; an error changes nothing. Batches of
+    /// the superstep go, the others stay. It takes time in proportion to the registers of the vertices that change and
+    /// of the edges from own vertices that did, and a look at one mark a vertex.
+    pub fn close(&mut self) -> Result<u32, CloseError>
+        ensures waits { (q : ℕ) → (result ≡ Err (waits.Waiting q)) ↔ (missing_of self.old.part.plan.parts self.old.part.number (content_of self.old) ≡ Some q) }
+        ensures refused { OnErr result (self.new ≡ self.old) }
+        ensures part { self.new.part ≡ self.old.part }
+        ensures superstep { IfOk result (λ t. (t ≡ self.old.superstep + 1) × (self.new.superstep ≡ t)) }
+        ensures names { OnOk result ((s q : ℕ) → (content_of self.new).holds s q ≡ (closed (content_of self.old)).holds s q) }
+        ensures answer { (j : Job) (p t : ℕ) → StandsFor j p t self.old → result ≡ close_of j p (content_of self.old) }
+        ensures stands { (j : Job) (p t : ℕ) → StandsFor j p t self.old → OnOk result (StandsFor j p (t + 1) self.new) }
+        // a step of a run
+        ensures step { (j : Job) (p : ℕ) → Closes j p result self.old self.new }
+    {
+        self.known.found_close(&self.targets, &mut self.touched)
+    }
+
+    /// Takes over what a snapshot of a replica of the same partition knows: its superstep, rows and figures where it
+    /// is further, and its batches of the superstep reached and of the three that follow.
+    ///
+    /// In this order: [`OtherJob`](MergeError::OtherJob) where the plan is another,
+    /// [`NotMine`](MergeError::NotMine) where the partition is, [`Memory`](MergeError::Memory) where the list of
+    /// shared batches, three for each partition, is refused; an error changes nothing. It waits for nobody. It takes
+    /// time in proportion to the registers of the partition, and of the edges from the early batches' vertices.
+    pub fn merge(&mut self, alloc: Global, other: &Snapshot) -> Result<(), MergeError>
+        ensures answer { result ≢ Err refusal.Memory → result ≡ merge_of self.old.part.plan self.old.part.number other.now.part.plan other.now.part.number }
+        ensures memory { result ≡ Err refusal.Memory → merge_of self.old.part.plan self.old.part.number other.now.part.plan other.now.part.number ≡ Ok tt }
+        ensures refused { OnErr result (self.new ≡ self.old) }
+        ensures part { self.new.part ≡ self.old.part }
+        ensures superstep { OnOk result (self.new.superstep ≡ max self.old.superstep other.now.superstep) }
+        ensures names { OnOk result ((s q : ℕ) → (content_of self.new).holds s q ≡ (joined (content_of self.old) (content_of other.now)).holds s q) }
+        ensures shown { OnOk result (ShowsAs self.new (further self.old other.now)) }
+        ensures stands { (j : Job) (p t u : ℕ) → StandsFor j p t self.old → StandsFor j p u other.now → OnOk result (StandsFor j p (max t u) self.new) }
+        // a step of a run
+        ensures step { (j : Job) (p : ℕ) (d : Content) → HasContent j p d other.now → Merges j p d result self.old self.new }
+    {
+        if !step::is_same(self.plan(), other.plan()) {
+            return Err(MergeError::OtherJob);
+        }
+        if other.partition() != self.partition() {
+            return Err(MergeError::NotMine);
+        }
+        let Ok(shared) = other.shared(alloc) else {
+            return Err(MergeError::Memory);
+        };
+        self.known
+            .absorb(alloc, &self.targets, &mut self.touched, other, shared);
+        Ok(())
+    }
+
+    /// What the replica has now.
+    ///
+    /// The batches and the part are shared, the rest is a copy: 2 rows of 2^log2m registers and a tally for each
+    /// vertex, and room for a sum for each superstep. The error is that memory was refused.
+    pub fn snapshot(&self, alloc: Global) -> Result<Snapshot, AllocError>
+        ensures same { IfOk result (λ s. s ≡ self.now) }
+        ensures stands { IfOk result (λ s. (j : Job) (p t : ℕ) → StandsFor j p t self.now → StandsFor j p t s) }
+    {
+        self.known.copied(alloc)
+    }
+
+    /// What the partition tells another one, `target`, of this superstep.
+    ///
+    /// The batch has the registers of each vertex that changed and has an edge into the target, ascending, and the
+    /// number of all vertices that changed. It is to be sent where it has no rows too: a level is held only with it.
+    pub fn out(&self, alloc: Global, target: u16) -> Result<Batch, AllocError>
+        requires target { target < self.now.part.plan.parts }
+        requires other { target ≢ self.now.part.number }
+        ensures stands { (j : Job) (p t : ℕ) → StandsFor j p t self.now → IfOk result (λ b. b ≡ true_batch j (record { superstep = t; source = p; target = target })) }
+    {
+        self.known.sent(alloc, target)
+    }
+}
+
+/// What a replica tells, as its snapshot does. No call here takes memory.
+impl Replica {
+    /// The plan of the job.
+    pub fn plan(&self) -> &Plan
+        ensures { result.now ≡ self.now.part.plan }
+    {
+        self.known.plan()
+    }
+
+    /// The number of the partition.
+    pub fn partition(&self) -> u16
+        ensures { result ≡ self.now.part.number }
+    {
+        self.known.partition()
+    }
+
+    /// The superstep.
+    pub fn superstep(&self) -> u32
+        ensures value { result ≡ self.now.superstep }
+        // the limits that every replica keeps, whatever its batches say
+        ensures state { IsState self.now }
+    {
+        self.known.superstep()
+    }
+
+    /// Whether vertex `x` is one of the partition.
+    pub fn owns(&self, x: u32) -> bool
+        ensures vertex { IsTrue result → x < self.now.part.plan.vertices }
+        ensures own { IsTrue result → x % self.now.part.plan.parts ≡ self.now.part.number }
+        ensures value { result ≡ list_any (λ v. v == x) (vertices_of self.now.part.plan.vertices self.now.part.plan.parts self.now.part.number) }
+    {
+        self.known.owns(x)
+    }
+
+    /// The 2^log2m registers of vertex `x`, which the partition owns.
+    pub fn row(&self, x: u32) -> &[u8]
+        requires vertex { x < self.now.part.plan.vertices }
+        requires own { x % self.now.part.plan.parts ≡ self.now.part.number }
+        ensures value { result.now ≡ slice_index_or self.now.rows (x / self.now.part.plan.parts) [] }
+        ensures counter { IsCounterRow self.now.part.plan.log2m result.now }
+        ensures stands { (j : Job) (p t : ℕ) → StandsFor j p t self.now → result.now ≡ ball_counter (mixing_of j.plan) j.graph x t }
+    {
+        self.known.row(x)
+    }
+
+    /// The figures of vertex `x`, which the partition owns.
+    pub fn tally(&self, x: u32) -> Tally
+        requires vertex { x < self.now.part.plan.vertices }
+        requires own { x % self.now.part.plan.parts ≡ self.now.part.number }
+        ensures value { value_of result ≡ slice_index_or self.now.tallies (x / self.now.part.plan.parts) nothing }
+        ensures stands { (j : Job) (p t : ℕ) → StandsFor j p t self.now → value_of result ≡ tally_at (mixing_of j.plan) j.graph x t }
+    {
+        self.known.tally(x)
+    }
+
+    /// Whether vertex `x`, which the partition owns, changed at this superstep.
+    pub fn changed(&self, x: u32) -> bool
+        requires vertex { x < self.now.part.plan.vertices }
+        requires own { x % self.now.part.plan.parts ≡ self.now.part.number }
+        ensures value { result ≡ slice_index_or self.now.marks (x / self.now.part.plan.parts) false }
+        ensures stands { (j : Job) (p t : ℕ) → StandsFor j p t self.now → result ≡ changed_at (mixing_of j.plan) j.graph x t }
+    {
+        self.known.changed(x)
+    }
+
+    /// How many vertices of the partition changed at this superstep.
+    pub fn changed_count(&self) -> u32
+        ensures value { result ≡ count_by (λ mark. mark) self.now.marks }
+        ensures stands { (j : Job) (p t : ℕ) → StandsFor j p t self.now → result ≡ changed_count j t p }
+    {
+        self.known.changed_count()
+    }
+
+    /// The sum of the estimates of the partition at each superstep so far, from 0 on.
+    pub fn sums(&self) -> &[u128]
+        ensures value { result.now ≡ self.now.sums }
+        ensures count { length result.now ≡ self.now.superstep + 1 }
+        ensures stands { (j : Job) (p t : ℕ) → StandsFor j p t self.now → result.now ≡ sums_of j p t }
+    {
+        self.known.sums()
+    }
+
+    /// The registers of all vertices of the partition, a row each.
+    pub fn rows(&self) -> &Rows
+        ensures value { result.now.rows ≡ self.now.rows }
+        ensures width { result.now.width ≡ 2 ^ self.now.part.plan.log2m }
+        ensures stands { (j : Job) (p t : ℕ) → StandsFor j p t self.now → result.now.rows ≡ rows_of j p t }
+    {
+        self.known.rows()
+    }
+
+    /// The figures of all vertices of the partition.
+    pub fn tallies(&self) -> &[Tally]
+        ensures value { map value_of result.now ≡ self.now.tallies }
+        ensures stands { (j : Job) (p t : ℕ) → StandsFor j p t self.now → map value_of result.now ≡ tallies_of j p t }
+    {
+        self.known.tallies()
+    }
+
+    /// Whether the batch of that name is held.
+    pub fn holds(&self, name: BatchName) -> bool
+        ensures { result ≡ ((name.target == self.now.part.number) && (content_of self.now).holds name.superstep name.source) }
+    {
+        self.known.holds(name)
+    }
+
+    /// The least source that is missing from the level; the level is held where there is none.
+    pub fn missing(&self) -> Option<u16>
+        ensures { result ≡ missing_of self.now.part.plan.parts self.now.part.number (content_of self.now) }
+    {
+        self.known.missing()
+    }
+
+    /// Which sources of the superstep are heard.
+    pub fn heard(&self) -> SourceMask
+        ensures value { result ≡ self.now.heard }
+    {
+        self.known.heard()
+    }
+
+    /// Whether a source that is heard tells of a changed vertex.
+    pub fn heard_change(&self) -> bool
+        ensures value { result ≡ self.now.heard_change }
+    {
+        self.known.heard_change()
+    }
+
+    /// The registers accumulated so far for vertex `x`, which the partition owns.
+    pub fn accumulated(&self, x: u32) -> &[u8]
+        requires vertex { x < self.now.part.plan.vertices }
+        requires own { x % self.now.part.plan.parts ≡ self.now.part.number }
+        ensures value { result.now ≡ slice_index_or self.now.accumulated (x / self.now.part.plan.parts) [] }
+        ensures counter { IsCounterRow self.now.part.plan.log2m result.now }
+    {
+        self.known.accumulated(x)
+    }
+
+    /// The verdict, where the level is held.
+    pub fn verdict(&self) -> Option<Verdict>
+        ensures value { result ≡ found_verdict self.now }
+        ensures none { (result ≡ None) ↔ (IsSome (missing_of self.now.part.plan.parts self.now.part.number (content_of self.now))) }
+        ensures stands { (j : Job) (p t : ℕ) → StandsFor j p t self.now → result ≡ verdict_of j p (content_of self.now) }
+    {
+        self.known.verdict()
+    }
+}

@@ -1,0 +1,118 @@
+//! Rows of registers, spread to the own vertices that their vertices have an edge to.
+
+ghost use Rattle.std.specs.Prelude.{◌≡◌, ◌^◌, ◌<◌, length, slice_index_or, []};
+ghost use Rattle.std.specs.List.{All};
+ghost use Rattle.replica.specs.Spread.{spread, spread_each, own_rows, LeadInside};
+ghost use Rattle.replica.specs.Heard.{RowIsHeard, BatchIsHeard, OwnIsHeard, MarksChanges, StayTouched};
+
+use crate::targets::Targets;
+use batches::Batch;
+use edgelist::Part;
+use registers::Rows;
+
+/// Spreads the row of vertex `z`: the accumulator of each own vertex that `z` has an edge to becomes the maximum of
+/// itself and `registers`, register by register, and each accumulator that this changes is marked.
+///
+/// Where the registers are the counter of `z`, which is changed at t, the accumulators of what was heard become those
+/// of what was heard and `z`. It takes no memory, and time in proportion to the edges of `z` into the part.
+pub fn spread_row(
+    targets: &Targets,
+    z: u32,
+    registers: &[u8],
+    accumulated: &mut Rows,
+    touched: &mut [bool],
+)
+    requires width { length registers.now ≡ accumulated.old.width }
+    requires inside { LeadInside (length accumulated.old.rows) targets.now }
+    requires marks { length touched.old ≡ length accumulated.old.rows }
+    ensures rows { accumulated.new ≡ record accumulated.old {
+      rows = spread (slice_index_or targets.now z []) registers.now accumulated.old.rows;
+    } }
+    ensures marks { MarksChanges touched.old accumulated.old.rows accumulated.new.rows touched.new }
+    ensures touched { StayTouched accumulated.old.rows touched.old accumulated.new.rows touched.new }
+    ensures stands { RowIsHeard targets.now z registers.now accumulated.old.rows accumulated.new.rows }
+{
+    raise_places(targets.places(z), registers, accumulated, touched);
+}
+
+/// Spreads the rows of a batch, one after the other.
+///
+/// Where it is the true batch of source q at t, the accumulators of what was heard become those of what was heard and
+/// the vertices of q. It takes no memory, and time in proportion to the edges of its rows' vertices into the part.
+pub fn spread_batch(targets: &Targets, batch: &Batch, accumulated: &mut Rows, touched: &mut [bool])
+    requires width { 2 ^ batch.now.plan.log2m ≡ accumulated.old.width }
+    requires inside { LeadInside (length accumulated.old.rows) targets.now }
+    requires marks { length touched.old ≡ length accumulated.old.rows }
+    ensures rows { accumulated.new ≡ record accumulated.old {
+      rows = spread_each targets.now batch.now.rows accumulated.old.rows;
+    } }
+    ensures touched { StayTouched accumulated.old.rows touched.old accumulated.new.rows touched.new }
+    ensures stands { BatchIsHeard targets.now batch.now accumulated.old.rows accumulated.new.rows }
+{
+    for k in 0..batch.count() {
+        spread_row(
+            targets,
+            batch.id(k),
+            batch.registers(k),
+            accumulated,
+            touched,
+        );
+    }
+}
+
+/// Spreads the own rows that are marked, one after the other.
+///
+/// Where the rows are the counters at t and the marks say which of them are changed there, the accumulators of what
+/// was heard become those of what was heard and the own vertices. It takes no memory, and time in proportion to the
+/// own vertices and to the edges of the marked ones into the part.
+pub fn spread_own(
+    targets: &Targets,
+    part: &Part,
+    rows: &Rows,
+    marks: &[bool],
+    accumulated: &mut Rows,
+    touched: &mut [bool],
+)
+    requires width { rows.now.width ≡ accumulated.old.width }
+    requires count { length rows.now.rows ≡ length part.now.preds }
+    requires marks { length marks.now ≡ length part.now.preds }
+    requires inside { LeadInside (length accumulated.old.rows) targets.now }
+    requires touched { length touched.old ≡ length accumulated.old.rows }
+    ensures rows { accumulated.new ≡ record accumulated.old {
+      rows = spread_each targets.now (own_rows part.now rows.now.rows marks.now) accumulated.old.rows;
+    } }
+    ensures touched { StayTouched accumulated.old.rows touched.old accumulated.new.rows touched.new }
+    ensures stands { OwnIsHeard targets.now part.now rows.now.rows marks.now accumulated.old.rows accumulated.new.rows }
+{
+    for i in 0..part.size() {
+        if marks[i as usize] {
+            spread_row(
+                targets,
+                part.vertex(i),
+                rows.row(i as usize),
+                accumulated,
+                touched,
+            );
+        }
+    }
+}
+
+// The rows at these places become the maximum of themselves and `registers`, register by register, and each row
+// that this changes is marked.
+//
+// It takes no memory, and touches no other row.
+fn raise_places(places: &[u32], registers: &[u8], accumulated: &mut Rows, touched: &mut [bool])
+    requires places { All (λ i. i < length accumulated.old.rows) places.now }
+    requires width { length registers.now ≡ accumulated.old.width }
+    requires marks { length touched.old ≡ length accumulated.old.rows }
+    ensures rows { accumulated.new ≡ record accumulated.old {
+      rows = spread places.now registers.now accumulated.old.rows;
+    } }
+    ensures marks { MarksChanges touched.old accumulated.old.rows accumulated.new.rows touched.new }
+{
+    for place in places {
+        let i = *place as usize;
+        let raised = accumulated.raise(i, registers);
+        touched[i] |= raised;
+    }
+}

@@ -1,0 +1,9 @@
+pub mod CsvLemmas
+pub mod TextLemmas
+pub mod ReadyLemmas
+pub mod TotalLemmas
+pub mod PlaceLemmas
+pub mod DealLemmas
+pub mod EndingLemmas
+pub mod VertexLemmas
+pub mod WholeLemmas

@@ -1,0 +1,33 @@
+-- Lines, one after another.
+use Rattle.std.proofs.Common.{◌≡◌, ℕ, zero, suc, ◌+◌, List, [], ◌∷◌, ◌++◌, refl, ap, arith, ◌∙◌, append_assoc}
+use Rattle.std.specs.List.{flat_map, range_with_len}
+use Rattle.std.proofs.lemmas.List.{append-nil}
+use Rattle.std.proofs.lemmas.Grind.{flat_map-append}
+
+-- numbers from a on, up to and from a number between
+pub range_split : (a n k : ℕ) → range_with_len a (n + k) ≡ range_with_len a n ++ range_with_len (a + n) k
+range_split a zero k =
+    let none : zero + k ≡ k = omega arith in
+    let here : a + zero ≡ a = omega arith in
+    rw (none, here) refl
+range_split a (suc n) k =
+    let count : suc n + k ≡ suc (n + k) = omega arith in
+    let at : a + suc n ≡ a + 1 + n = omega arith in
+    rw (count, at) (ap (λ (rest : List ℕ). a ∷ rest) (range_split (a + 1) n k))
+
+-- more lines
+pub lines_more : (f : ℕ → List ℕ) (n k : ℕ) (start text lines : List ℕ) → text ≡ start ++ flat_map f (range_with_len 0 n) → lines ≡ flat_map f (range_with_len n k) →
+    text ++ lines ≡ start ++ flat_map f (range_with_len 0 (n + k))
+lines_more f n k start text lines before here =
+    let at : 0 + n ≡ n = omega arith in
+    let all : flat_map f (range_with_len 0 (n + k)) ≡ flat_map f (range_with_len 0 n) ++ flat_map f (range_with_len n k) =
+    ap (flat_map f) (range_split 0 n k ∙ ap (λ b. range_with_len 0 n ++ range_with_len b k) at) ∙ flat_map-append f (range_with_len 0 n) (range_with_len n k) in
+    rw (before, here, all) (append_assoc start (flat_map f (range_with_len 0 n)) (flat_map f (range_with_len n k)))
+
+-- one line more, after those of n numbers from a on
+pub line_more : (f : ℕ → List ℕ) (a n : ℕ) (start text line : List ℕ) → text ≡ start ++ flat_map f (range_with_len a n) → line ≡ f (a + n) →
+    text ++ line ≡ start ++ flat_map f (range_with_len a (n + 1))
+line_more f a n start text line before here =
+    let all : flat_map f (range_with_len a (n + 1)) ≡ flat_map f (range_with_len a n) ++ f (a + n) =
+    ap (flat_map f) (range_split a n 1) ∙ flat_map-append f (range_with_len a n) ((a + n) ∷ []) ∙ ap (λ (l : List ℕ). flat_map f (range_with_len a n) ++ l) (append-nil (f (a + n))) in
+    rw (before, here, all) (append_assoc start (flat_map f (range_with_len a n)) (f (a + n)))

@@ -1,0 +1,133 @@
+//! The parts of a report: totals and figures of all partitions, and their text.
+
+ghost use Rattle.std.specs.Prelude.{◌≡◌, ℕ, ◌≤◌, ◌<◌, ◌+◌, ◌-◌, ◌++◌, ◌^◌, IfOk, OnOk, length, map, slice_index, slice_index_or, []};
+ghost use Rattle.std.specs.List.{All, flat_map, range_with_len};
+ghost use Rattle.ball_model.specs.Report.{superstep_line};
+ghost use Rattle.report.specs.Parts.{HasSize, HaveSizes, figures_at, figures_in, head_text, lists_in};
+ghost use Rattle.report.specs.Parts.{superstep_lines, total_in, totals_in, vertices_text};
+ghost use Rattle.report.specs.Rows.{Adds, AtRow};
+
+use crate::lines::{put_end, put_gain, put_superstep, put_vertex, rows_in, text_of};
+use csv::Writer;
+use edgelist::Graph;
+use figures::{Figures, final_figures, gain};
+use replica::Replica;
+use std::alloc::{AllocError, Global};
+use std::thread::Threads;
+
+// The bytes of the usual line.
+const USUAL_LINE: usize = 96;
+
+// The sum of the partitions' sums at superstep `i`, as far as 128 bits can tell it.
+fn total(replicas: &[Replica], i: usize) -> u128
+    requires { All (λ v. i ≤ v.superstep) replicas.now }
+    ensures { result ≡ total_in replicas.now i }
+{
+    let mut sum = 0u128;
+    for replica in replicas {
+        sum = sum.saturating_add(replica.sums()[i]);
+    }
+    sum
+}
+
+// These at supersteps 0 to `end`.
+pub(crate) fn totals(alloc: Global, replicas: &[Replica], end: u32) -> Result<Vec<u128>, AllocError>
+    requires { All (λ v. v.superstep ≡ end) replicas.now }
+    ensures { IfOk result (λ totals. totals.items ≡ totals_in replicas.now end) }
+{
+    let count = end as usize + 1;
+    let mut totals = Vec::with_capacity(alloc, count)?;
+    for i in 0..count {
+        totals.push(total(replicas, i))?;
+    }
+    Ok(totals)
+}
+
+// The figures of a replica's vertices.
+fn own_figures<T: AllocGlobal + Threads + Sync>(
+    rt: &T,
+    replica: &Replica,
+) -> Result<Vec<Figures>, AllocError>
+    ensures value { IfOk result (λ own. own.items ≡ figures_in replica.now) }
+    ensures size { HasSize replica.now }
+{
+    let log2m = replica.plan().log2m();
+    let _superstep = replica.superstep();
+    final_figures(rt, rt.alloc(), log2m, replica.rows(), replica.tallies())
+}
+
+// The figures of each replica's vertices.
+pub(crate) fn figures<T: AllocGlobal + Threads + Sync>(
+    rt: &T,
+    replicas: &[Replica],
+) -> Result<Vec<Vec<Figures>>, AllocError>
+    ensures value { IfOk result (λ parts. lists_in parts.items ≡ map figures_in replicas.now) }
+    ensures sizes { OnOk result (All HasSize replicas.now) }
+{
+    let mut parts = Vec::with_capacity(rt.alloc(), replicas.len())?;
+    for replica in replicas {
+        parts.push(own_figures(rt, replica)?)?;
+    }
+    Ok(parts)
+}
+
+// The rows of all supersteps.
+fn put_supersteps(rows: &mut Writer<Vec<u8>>, totals: &[u128]) -> Result<(), AllocError>
+    requires { AtRow rows.old }
+    ensures row { OnOk result (AtRow rows.new) }
+    ensures text { OnOk result (Adds rows.old rows.new (superstep_lines totals.now)) }
+{
+    for (i, total) in totals.iter().enumerate() {
+        put_superstep(rows, i, *total)?;
+    }
+    Ok(())
+}
+
+// The text before the vertices.
+pub(crate) fn head(
+    alloc: Global,
+    totals: &[u128],
+    end: u32,
+    stable: bool,
+) -> Result<Vec<u8>, AllocError>
+    ensures { IfOk result (λ text. text.items ≡ head_text totals.now end stable) }
+{
+    let mut rows = rows_in(Vec::new(alloc));
+    put_supersteps(&mut rows, totals)?;
+    put_end(&mut rows, end, stable)?;
+    put_gain(&mut rows, gain(totals))?;
+    text_of(rows)
+}
+
+// The figures of vertex `x`.
+fn figures_at(graph: &Graph, parts: &[Vec<Figures>], x: u32) -> Figures
+    requires sizes { HaveSizes graph.now.graph.vertices (lists_in parts.now) }
+    requires vertex { x < graph.now.graph.vertices }
+    ensures { result ≡ figures_at (lists_in parts.now) x }
+{
+    let _vertices = graph.vertices();
+    let count = parts.len();
+    parts[x as usize % count][x as usize / count]
+}
+
+// The text of the vertices from `from` on and below `to`.
+pub(crate) fn vertices(
+    alloc: Global,
+    graph: &Graph,
+    parts: &[Vec<Figures>],
+    from: u32,
+    to: u32,
+) -> Result<Vec<u8>, AllocError>
+    requires sizes { HaveSizes graph.now.graph.vertices (lists_in parts.now) }
+    requires from { from ≤ to }
+    requires to { to ≤ graph.now.graph.vertices }
+    ensures { IfOk result (λ text.
+        text.items ≡ vertices_text graph.now.labels (lists_in parts.now) from (to - from)) }
+{
+    let room = (to - from) as usize * USUAL_LINE;
+    let mut rows = rows_in(Vec::with_capacity(alloc, room)?);
+    for x in from..to {
+        put_vertex(&mut rows, graph.label(x), figures_at(graph, parts, x))?;
+    }
+    text_of(rows)
+}
