@@ -11,8 +11,11 @@ use Rattle.ball_model.specs.Job.{Job}
 -- counter of x at t and of those at t of its predecessors that are heard and changed at t
 unfoldable pub accumulated_row : Mixing → Graph → ℕ → ℕ → (ℕ → Bool) → List ℕ
 accumulated_row m g x t heard =
-    fold (λ acc z. max_each acc (ball_counter m g z t)) (ball_counter m g x t) (filter (λ z. heard z && changed_at m g z t) (preds_of g x))
+    fold (λ acc z. max_each acc (ball_counter m g z t)) (ball_counter m g x t)
+    (filter (λ z. heard z && changed_at m g z t) (preds_of g x))
 
 -- the accumulators at t of the vertices of partition p
 unfoldable pub accumulated_of : Job → ℕ → ℕ → (ℕ → Bool) → List (List ℕ)
-accumulated_of j p t heard = map (λ x. accumulated_row (mixing_of j.plan) j.graph x t heard) (vertices_of j.graph.vertices j.plan.parts p)
+accumulated_of j p t heard =
+    map (λ x. accumulated_row (mixing_of j.plan) j.graph x t heard)
+    (vertices_of j.graph.vertices j.plan.parts p)

@@ -7,7 +7,8 @@ use Rattle.ball_model.specs.Accumulated.{accumulated_row}
 
 -- where nothing is heard, an accumulator is the counter
 abbrev pub AccumulatorStarts : Type 0
-AccumulatorStarts = (m : Mixing) (g : Graph) (x t : ℕ) → accumulated_row m g x t (λ _. false) ≡ ball_counter m g x t
+AccumulatorStarts = (m : Mixing) (g : Graph) (x t : ℕ) →
+    accumulated_row m g x t (λ _. false) ≡ ball_counter m g x t
 
 -- where all is heard, it is the counter at the next superstep
 abbrev pub AccumulatorEnds : Type 0
@@ -17,9 +18,12 @@ AccumulatorEnds = (m : Mixing) (g : Graph) (x t : ℕ) → IsGraph g → x < g.v
 -- the maximum of two accumulators is that of what either heard
 abbrev pub AccumulatorsJoin : Type 0
 AccumulatorsJoin = (m : Mixing) (g : Graph) (x t : ℕ) (a b : ℕ → Bool) →
-    max_each (accumulated_row m g x t a) (accumulated_row m g x t b) ≡ accumulated_row m g x t (λ z. a z || b z)
+    max_each (accumulated_row m g x t a) (accumulated_row m g x t b)
+    ≡ accumulated_row m g x t (λ z. a z || b z)
 
 -- raised by the counter of a changed predecessor, it is the accumulator for which that one is heard too
 abbrev pub AccumulatorSteps : Type 0
-AccumulatorSteps = (m : Mixing) (g : Graph) (x z t : ℕ) (a : ℕ → Bool) → IsGraph g → IsTrue (is_edge g z x) → IsTrue (changed_at m g z t) →
-    max_each (accumulated_row m g x t a) (ball_counter m g z t) ≡ accumulated_row m g x t (λ w. a w || (w == z))
+AccumulatorSteps = (m : Mixing) (g : Graph) (x z t : ℕ) (a : ℕ → Bool) → IsGraph g →
+    IsTrue (is_edge g z x) → IsTrue (changed_at m g z t) →
+    max_each (accumulated_row m g x t a) (ball_counter m g z t)
+    ≡ accumulated_row m g x t (λ w. a w || (w == z))

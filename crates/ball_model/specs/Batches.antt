@@ -9,7 +9,8 @@ use Rattle.ball_model.specs.Change.{changed_at}
 use Rattle.ball_model.specs.PlanValue.{PlanValue, IsPlan, mixing_of, vertices_of, part_size}
 use Rattle.ball_model.specs.Job.{Job, feeds_into}
 
--- what the source of a name tells its target of the superstep: the number of the source's changed vertices, and rows of a vertex and its registers
+-- what the source of a name tells its target of the superstep: the number of the source's changed vertices, and rows
+-- of a vertex and its registers
 pub record BatchValue : Type 0 where
   pub plan : PlanValue
   pub name : BatchName
@@ -32,11 +33,14 @@ registers_of rows = map (λ row. row.1) rows
 -- the vertices of partition q that are changed at s and have an edge into p, ascending
 unfoldable pub sent_vertices : Job → ℕ → ℕ → ℕ → List ℕ
 sent_vertices j s q p =
-    filter (λ y. changed_at (mixing_of j.plan) j.graph y s && feeds_into j.graph j.plan.parts y p) (vertices_of j.graph.vertices j.plan.parts q)
+    filter (λ y. changed_at (mixing_of j.plan) j.graph y s && feeds_into j.graph j.plan.parts y p)
+    (vertices_of j.graph.vertices j.plan.parts q)
 
 -- the number of all vertices of partition q that are changed at s
 unfoldable pub changed_count : Job → ℕ → ℕ → ℕ
-changed_count j s q = count_by (λ y. changed_at (mixing_of j.plan) j.graph y s) (vertices_of j.graph.vertices j.plan.parts q)
+changed_count j s q =
+    count_by (λ y. changed_at (mixing_of j.plan) j.graph y s)
+    (vertices_of j.graph.vertices j.plan.parts q)
 
 -- the true batch of a name: a row for each vertex that the source sends, with its counter at the superstep
 unfoldable pub true_batch : Job → BatchName → BatchValue
@@ -44,7 +48,8 @@ true_batch j name = record {
   plan = j.plan;
   name = name;
   changed = changed_count j name.superstep name.source;
-  rows = map (λ y. (y, ball_counter (mixing_of j.plan) j.graph y name.superstep)) (sent_vertices j name.superstep name.source name.target);
+  rows = map (λ y. (y, ball_counter (mixing_of j.plan) j.graph y name.superstep))
+      (sent_vertices j name.superstep name.source name.target);
 }
 
 -- a row that a batch of the source may have: 2^log2m registers of at most 33, of a vertex of the source
@@ -73,5 +78,7 @@ row_bytes row = to_be_bytes w32 row.0 ++ row.1
 unfoldable pub batch_bytes : BatchValue → List ℕ
 batch_bytes b =
     codes "HBBT" ++ (1 ∷ []) ++ (b.plan.log2m ∷ [])
-    ++ to_be_bytes w32 b.name.superstep ++ to_be_bytes w16 b.name.source ++ to_be_bytes w16 b.name.target
-    ++ b.plan.job ++ to_be_bytes w32 b.changed ++ to_be_bytes w32 (length b.rows) ++ flat_map row_bytes b.rows
+    ++ to_be_bytes w32 b.name.superstep
+    ++ to_be_bytes w16 b.name.source ++ to_be_bytes w16 b.name.target
+    ++ b.plan.job ++ to_be_bytes w32 b.changed
+    ++ to_be_bytes w32 (length b.rows) ++ flat_map row_bytes b.rows

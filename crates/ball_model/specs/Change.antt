@@ -7,7 +7,10 @@ use Rattle.ball_model.specs.Counter.{Mixing, counter_of, ball_counter}
 
 -- x is changed at t: its counter at t differs from that of the counted vertices of its ball before
 unfoldable pub changed_at : Mixing → Graph → ℕ → ℕ → Bool
-changed_at m g x t = not (bytes_eq (ball_counter m g x t) (counter_of m g.vertices (λ y. in_ball_before g x t y && is_counted g y)))
+changed_at m g x t =
+    not (bytes_eq
+    (ball_counter m g x t)
+    (counter_of m g.vertices (λ y. in_ball_before g x t y && is_counted g y)))
 
 -- some vertex of the graph is changed at t
 unfoldable pub any_changed : Mixing → Graph → ℕ → Bool

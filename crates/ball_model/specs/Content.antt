@@ -1,4 +1,5 @@
--- The content of a replica: its superstep and which batches it holds; and its answers, as functions of them (Pregel 2010).
+-- The content of a replica: its superstep and which batches it holds; and its answers, as functions of them
+-- (Pregel 2010).
 use Rattle.std.specs.Prelude.{◌≡◌, ℕ, ◌+◌, ◌<◌, ◌≤◌, Bool, true, false, not, ◌==◌, ◌&&◌, ◌||◌, nat_le, nat_lt, List, map, Option, None, Some, Result, Ok, Err, if◌then◌else◌}
 use Rattle.std.specs.List.{filter, find, flat_map, range_with_len}
 use Rattle.std.specs.Str.{bytes_eq}
@@ -23,7 +24,8 @@ pub record Content : Type 0 where
 -- a batch of superstep s and source q may be held at superstep t by a replica of partition p: s is from t to t + 3
 -- and at most the limit, and q is another partition
 abbrev pub in_window : PlanValue → ℕ → ℕ → ℕ → ℕ → Bool
-in_window plan p t s q = nat_le t s && nat_le s (t + 3) && nat_le s plan.limit && nat_lt q plan.parts && not (q == p)
+in_window plan p t s q =
+    nat_le t s && nat_le s (t + 3) && nat_le s plan.limit && nat_lt q plan.parts && not (q == p)
 
 -- only such batches are held
 pub record IsContent (plan : PlanValue) (p : ℕ) (c : Content) : Type 0 where
@@ -33,16 +35,22 @@ pub record IsContent (plan : PlanValue) (p : ℕ) (c : Content) : Type 0 where
 -- the names of the batches that are held, ascending by superstep, then by source
 unfoldable pub names_of : PlanValue → ℕ → Content → List BatchName
 names_of plan p c =
-    flat_map (λ s. map (λ q. record { superstep = s; source = q; target = p }) (filter (λ q. c.holds s q) (range_with_len 0 plan.parts))) (range_with_len c.superstep 4)
+    flat_map
+    (λ s. map
+    (λ q. record { superstep = s; source = q; target = p })
+    (filter (λ q. c.holds s q) (range_with_len 0 plan.parts)))
+    (range_with_len c.superstep 4)
 
 -- the least source that is missing from the level; the level is held where there is none
 unfoldable pub missing_of : ℕ → ℕ → Content → Option ℕ
-missing_of parts p c = find (λ q. not (q == p) && not (c.holds c.superstep q)) (range_with_len 0 parts)
+missing_of parts p c =
+    find (λ q. not (q == p) && not (c.holds c.superstep q)) (range_with_len 0 parts)
 
 -- two plans are the same in every field
 abbrev pub same_plan : PlanValue → PlanValue → Bool
 same_plan a b =
-    (a.log2m == b.log2m) && (a.seed == b.seed) && (a.parts == b.parts) && (a.limit == b.limit) && (a.vertices == b.vertices) && bytes_eq a.job b.job
+    (a.log2m == b.log2m) && (a.seed == b.seed) && (a.parts == b.parts) && (a.limit == b.limit)
+    && (a.vertices == b.vertices) && bytes_eq a.job b.job
 
 -- the answer to a batch of that plan and name
 abbrev pub take_of : PlanValue → ℕ → Content → PlanValue → BatchName → Result Taken TakeError
@@ -62,7 +70,8 @@ is_new (Ok taken.Old) = false
 is_new (Ok taken.Known) = false
 is_new (Ok taken.New) = true
 
--- whether a batch of superstep r and source k is held after an answer to one of superstep s and source q: New adds that one alone
+-- whether a batch of superstep r and source k is held after an answer to one of superstep s and source q: New adds
+-- that one alone
 abbrev pub after_take : Bool → (ℕ → ℕ → Bool) → ℕ → ℕ → ℕ → ℕ → Bool
 after_take new holds s q r k = (new && ((r == s) && (k == q))) || holds r k
 
@@ -95,4 +104,7 @@ close_of j p c = close_unless (missing_of j.plan.parts p c) (verdict_at j c.supe
 
 -- the content after a close: names of the superstep go, the others stay
 abbrev pub closed : Content → Content
-closed c = record { superstep = c.superstep + 1; holds = λ s q. nat_lt c.superstep s && c.holds s q }
+closed c = record {
+  superstep = c.superstep + 1;
+  holds = λ s q. nat_lt c.superstep s && c.holds s q;
+}

@@ -13,11 +13,13 @@ pub record Mixing : Type 0 where
 -- register j of a set of vertices below n: the greatest rank of a member whose index is j, and 0 where there is none
 unfoldable pub register_of : Mixing → ℕ → (ℕ → Bool) → ℕ → ℕ
 register_of mixing n member j =
-    greatest (λ v. member v && (index_of mixing.log2m (hash_of mixing.seed v) == j)) (λ v. rank_of mixing.log2m (hash_of mixing.seed v)) n
+    greatest (λ v. member v && (index_of mixing.log2m (hash_of mixing.seed v) == j))
+    (λ v. rank_of mixing.log2m (hash_of mixing.seed v)) n
 
 -- the counter of a set of vertices below n: its registers
 unfoldable pub counter_of : Mixing → ℕ → (ℕ → Bool) → List ℕ
-counter_of mixing n member = map (λ j. register_of mixing n member j) (range_with_len 0 (2 ^ mixing.log2m))
+counter_of mixing n member =
+    map (λ j. register_of mixing n member j) (range_with_len 0 (2 ^ mixing.log2m))
 
 -- the counter of x at t: that of the counted vertices of its ball
 unfoldable pub ball_counter : Mixing → Graph → ℕ → ℕ → List ℕ

@@ -25,25 +25,33 @@ pub data CountedRefusal : Type 0 where
 abbrev pub list_fault_at : List (List ℕ) → List (List (List ℕ)) → ℕ → Option CountedRefusal
 list_fault_at labels records i =
     if not (is_name (slice_index_or records i [])) then Some (NotOne (i + 1))
-    else if not (list_any (λ label. names label (slice_index_or records i [])) labels) then Some (Unknown (i + 1))
+    else if not (list_any (λ label. names label (slice_index_or records i [])) labels)
+    then Some (Unknown (i + 1))
     else None
 
 -- the vertices that some record names, ascending
 unfoldable pub counted_by : List (List ℕ) → List (List (List ℕ)) → List ℕ
-counted_by labels records = filter (λ v. list_any (names (slice_index_or labels v [])) records) (range_with_len 0 (length labels))
+counted_by labels records =
+    filter (λ v. list_any (names (slice_index_or labels v [])) records)
+    (range_with_len 0 (length labels))
 
 -- the network in which just the vertices that some record names are counted
 abbrev pub counting : Network → List (List (List ℕ)) → Network
-counting network records = record network { graph = record network.graph { counted = counted_by network.labels records } }
+counting network records = record network {
+  graph = record network.graph { counted = counted_by network.labels records };
+}
 
-abbrev pub counting_unless : Option CountedRefusal → Network → List (List (List ℕ)) → Result Network CountedRefusal
+abbrev pub counting_unless : Option CountedRefusal → Network → List (List (List ℕ)) →
+    Result Network CountedRefusal
 counting_unless None network records = Ok (counting network records)
 counting_unless (Some refusal) network records = Err refusal
 
 -- records are refused for the first one at which a check fails, or say which vertices are counted
 unfoldable pub counted_as : Network → List (List (List ℕ)) → Result Network CountedRefusal
 counted_as network records =
-    counting_unless (first_of (map (list_fault_at network.labels records) (range_with_len 0 (length records)))) network records
+    counting_unless
+    (first_of (map (list_fault_at network.labels records) (range_with_len 0 (length records))))
+    network records
 
 -- what a plain list says of a network, with this byte between fields
 abbrev pub counted_of : ℕ → Network → List ℕ → Result Network CountedRefusal

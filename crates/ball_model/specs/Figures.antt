@@ -40,9 +40,12 @@ closeness_of distance = if distance == 0 then 0 else 10 ^ 12 / distance
 unfoldable pub lin_of : ℕ → ℕ → ℕ
 lin_of estimate distance = if distance == 0 then 1000000 else estimate * estimate / distance
 
--- the gain of totals, one a superstep: how much each superstep adds, halved as often as its number says and rounded down
+-- the gain of totals, one a superstep: how much each superstep adds, halved as often as its number says and rounded
+-- down
 unfoldable pub gain_of : List ℕ → ℕ
-gain_of totals = sum_by (λ i. (slice_index totals i - slice_index totals (i - 1)) / 2 ^ i) (range_with_len 1 (length totals - 1))
+gain_of totals =
+    sum_by (λ i. (slice_index totals i - slice_index totals (i - 1)) / 2 ^ i)
+    (range_with_len 1 (length totals - 1))
 
 -- a vertex's last estimate, harmonic centrality and sum of distances
 pub record TallyValue : Type 0 where

@@ -48,7 +48,8 @@ is_path g y x (v ∷ w ∷ rest) = (v == y) && (is_edge g v w && is_path g w x (
 -- some list of at most k numbers below n passes the test
 unfoldable pub some_list : ℕ → ℕ → (List ℕ → Bool) → Bool
 some_list n zero p = p []
-some_list n (suc k) p = p [] || list_any (λ v. some_list n k (λ rest. p (v ∷ rest))) (range_with_len 0 n)
+some_list n (suc k) p =
+    p [] || list_any (λ v. some_list n k (λ rest. p (v ∷ rest))) (range_with_len 0 n)
 
 -- y is in the ball of x at t: there is a path from y to x of at most t edges
 unfoldable pub in_ball : Graph → ℕ → ℕ → ℕ → Bool

@@ -76,7 +76,9 @@ empty = record { floor = 0; stands = λ _. false; kept = λ _. None }
 
 -- the reply to a post
 abbrev pub post_reply : Object → BatchName → Posted
-post_reply o name = if nat_lt name.superstep o.floor then posted.Old else (if o.stands name then posted.Known else posted.New)
+post_reply o name =
+    if nat_lt name.superstep o.floor then posted.Old
+    else (if o.stands name then posted.Known else posted.New)
 
 -- nothing is kept, or what is kept is of a lesser superstep
 abbrev pub is_further : Option Holding → Holding → Bool
@@ -103,11 +105,23 @@ is_new_keep kept.Behind = false
 
 -- the board after an event
 abbrev pub after : Object → Event → Object
-after o (Post name r) = record { floor = o.floor; stands = λ n. (is_new_post r && same_name n name) || o.stands n; kept = o.kept }
+after o (Post name r) = record {
+  floor = o.floor;
+  stands = λ n. (is_new_post r && same_name n name) || o.stands n;
+  kept = o.kept;
+}
 after o (Fetch name) = o
-after o (Keep c r) = record { floor = o.floor; stands = o.stands; kept = λ p. if is_new_keep r && (p == c.partition) then Some c else o.kept p }
+after o (Keep c r) = record {
+  floor = o.floor;
+  stands = o.stands;
+  kept = λ p. if is_new_keep r && (p == c.partition) then Some c else o.kept p;
+}
 after o (Recall p s c) = o
-after o (Drop s) = record { floor = max o.floor s; stands = λ n. o.stands n && not (nat_lt n.superstep s); kept = o.kept }
+after o (Drop s) = record {
+  floor = max o.floor s;
+  stands = λ n. o.stands n && not (nat_lt n.superstep s);
+  kept = o.kept;
+}
 
 -- the board after these entries
 abbrev pub after_all : Object → List Entry → Object
@@ -159,7 +173,8 @@ pub record IsPosted (name : BatchName) (h : History) : Type 0 where
 
 -- a name that stands was posted and not dropped since
 abbrev pub StandingIsPosted : Type 0
-StandingIsPosted = (h : History) (name : BatchName) → (board_of h).stands name ≡ true → IsPosted name h
+StandingIsPosted = (h : History) (name : BatchName) → (board_of h).stands name ≡ true →
+    IsPosted name h
 
 -- and a name that was posted and not dropped since stands
 abbrev pub PostedStands : Type 0
@@ -167,7 +182,8 @@ PostedStands = (h : History) (name : BatchName) → IsPosted name h → (board_o
 
 -- what is kept for a partition never goes back
 abbrev pub KeptNeverGoesBack : Type 0
-KeptNeverGoesBack = (h k : History) (p s : ℕ) → IsLegal k → Begins h k → is_kept_from ((board_of h).kept p) s ≡ true → is_kept_from ((board_of k).kept p) s ≡ true
+KeptNeverGoesBack = (h k : History) (p s : ℕ) → IsLegal k → Begins h k →
+    is_kept_from ((board_of h).kept p) s ≡ true → is_kept_from ((board_of k).kept p) s ≡ true
 
 -- the floor never goes down
 abbrev pub FloorNeverGoesDown : Type 0
@@ -175,7 +191,8 @@ FloorNeverGoesDown = (h k : History) → Begins h k → (board_of h).floor ≤ (
 
 -- no name below the floor stands
 abbrev pub NothingBelowFloor : Type 0
-NothingBelowFloor = (h : History) (name : BatchName) → IsLegal h → (board_of h).stands name ≡ true → (board_of h).floor ≤ name.superstep
+NothingBelowFloor = (h : History) (name : BatchName) → IsLegal h → (board_of h).stands name ≡ true →
+    (board_of h).floor ≤ name.superstep
 
 -- a beginning of a legal history is legal
 abbrev pub BeginningIsLegal : Type 0

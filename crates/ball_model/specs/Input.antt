@@ -33,7 +33,8 @@ joined c (p ∷ ps) = (c ∷ p) ∷ ps
 -- the lines of a plain text: each LF ends one, and a CR is part of a line's end
 unfoldable pub lines : List ℕ → List (List ℕ)
 lines [] = [] ∷ []
-lines (c ∷ rest) = if c == 10 then [] ∷ lines rest else if c == 13 then lines rest else joined c (lines rest)
+lines (c ∷ rest) =
+    if c == 10 then [] ∷ lines rest else if c == 13 then lines rest else joined c (lines rest)
 
 -- the fields of a line, with this byte between them
 unfoldable pub fields : ℕ → List ℕ → List (List ℕ)
@@ -89,7 +90,13 @@ network_of records =
     record {
       graph = record {
         vertices = n;
-        edges = flat_map (λ x. map (λ y. (y, x)) (filter (λ y. list_any (leads (slice_index_or labels y []) (slice_index_or labels x [])) records) (range_with_len 0 n))) (range_with_len 0 n);
+        edges = flat_map
+            (λ x. map
+            (λ y. (y, x))
+            (filter
+            (λ y. list_any (leads (slice_index_or labels y []) (slice_index_or labels x [])) records)
+            (range_with_len 0 n)))
+            (range_with_len 0 n);
         counted = range_with_len 0 n;
       };
       labels = labels;
@@ -102,7 +109,10 @@ pub record Limits : Type 0 where
 
 -- the limits in force are never above 2^24 vertices and 2^26 records
 abbrev pub in_force : Limits → Limits
-in_force limits = record { vertices = min limits.vertices 16777216; edges = min limits.edges 67108864 }
+in_force limits = record {
+  vertices = min limits.vertices 16777216;
+  edges = min limits.edges 67108864;
+}
 
 -- why an edge list is refused; records are numbered from 1
 pub data Refusal : Type 0 where
@@ -115,7 +125,8 @@ abbrev pub fault_at : Limits → List (List (List ℕ)) → ℕ → Option Refus
 fault_at limits records i =
     if nat_le limits.edges i then Some TooManyEdges
     else if not (has_form (slice_index_or records i [])) then Some (Fields (i + 1))
-    else if nat_lt limits.vertices (length (labels_of (take (i + 1) records))) then Some TooManyVertices
+    else if nat_lt limits.vertices (length (labels_of (take (i + 1) records)))
+    then Some TooManyVertices
     else None
 
 abbrev pub first_of : {X : Type 0} → List (Option X) → Option X
@@ -129,7 +140,10 @@ network_unless (Some refusal) records = Err refusal
 
 -- records are refused for the first record at which a check fails, or give their network
 unfoldable pub read_as : Limits → List (List (List ℕ)) → Result Network Refusal
-read_as limits records = network_unless (first_of (map (fault_at limits records) (range_with_len 0 (length records)))) records
+read_as limits records =
+    network_unless
+    (first_of (map (fault_at limits records) (range_with_len 0 (length records))))
+    records
 
 -- what a plain text says, with this byte between fields, under the limits in force
 abbrev pub input_of : ℕ → Limits → List ℕ → Result Network Refusal

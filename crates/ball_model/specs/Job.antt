@@ -18,7 +18,8 @@ edge_bytes e = to_be_bytes w32 e.0 ++ to_be_bytes w32 e.1
 -- what digests of both forms have: the fields of the plan, the numbers of vertices and of edges, and each edge
 unfoldable pub job_bytes : PlanValue → Graph → List ℕ
 job_bytes plan g =
-    (plan.log2m ∷ []) ++ to_be_bytes w64 plan.seed ++ to_be_bytes w16 plan.parts ++ to_be_bytes w32 plan.limit
+    (plan.log2m ∷ []) ++ to_be_bytes w64 plan.seed ++ to_be_bytes w16 plan.parts
+    ++ to_be_bytes w32 plan.limit
     ++ to_be_bytes w32 g.vertices ++ to_be_bytes w64 (length g.edges) ++ flat_map edge_bytes g.edges
 
 -- the number of counted vertices, and each of them
@@ -28,7 +29,8 @@ counted_bytes g = to_be_bytes w32 (length g.counted) ++ flat_map (λ v. to_be_by
 -- what the job digest is made of: the first form where every vertex is counted, else the second, with the counted ones
 unfoldable pub digest_bytes : PlanValue → Graph → List ℕ
 digest_bytes plan g =
-    if counts_all g then codes "HBJ1" ++ job_bytes plan g else codes "HBJ2" ++ job_bytes plan g ++ counted_bytes g
+    if counts_all g then codes "HBJ1" ++ job_bytes plan g
+    else codes "HBJ2" ++ job_bytes plan g ++ counted_bytes g
 
 -- the job digest: the SHA-256 of these bytes
 unfoldable pub digest_of : PlanValue → Graph → List ℕ
@@ -47,7 +49,8 @@ feeds_into g parts y r = list_any (λ e. (e.0 == y) && (e.1 % parts == r)) g.edg
 
 -- the feed mask of y: bit r is set where y has an edge into partition r
 unfoldable pub feed_mask : Graph → ℕ → ℕ → ℕ
-feed_mask g parts y = sum_by (λ r. if feeds_into g parts y r then 2 ^ r else 0) (range_with_len 0 parts)
+feed_mask g parts y =
+    sum_by (λ r. if feeds_into g parts y r then 2 ^ r else 0) (range_with_len 0 parts)
 
 -- what a partition is told: its plan and number, and of each of its vertices the predecessors, the feed mask and
 -- whether it is counted

@@ -1,4 +1,5 @@
--- The join of contents: what two replicas of one partition hold together (Pregel 2010 has recovery from a checkpoint alone).
+-- The join of contents: what two replicas of one partition hold together (Pregel 2010 has recovery from a checkpoint
+-- alone).
 use Rattle.std.specs.Prelude.{◌≡◌, ℕ, Bool, not, ◌==◌, ◌&&◌, ◌||◌, nat_le, List, max, Result, Ok, Err, if◌then◌else◌}
 use Rattle.std.specs.List.{list_any}
 use Rattle.ball_model.specs.declared.names.BatchName.{BatchName}
@@ -31,7 +32,12 @@ content_in h = record { superstep = h.superstep; holds = has_name h.names }
 
 -- a content of a partition, as plain data
 abbrev pub holding_of : PlanValue → ℕ → Content → Holding
-holding_of plan p c = record { plan = plan; partition = p; superstep = c.superstep; names = names_of plan p c }
+holding_of plan p c = record {
+  plan = plan;
+  partition = p;
+  superstep = c.superstep;
+  names = names_of plan p c;
+}
 
 -- the names ascend by superstep, then by source, without repeats, and all of them may be held
 pub record IsHolding (h : Holding) : Type 0 where

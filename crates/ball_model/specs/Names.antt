@@ -6,4 +6,5 @@ use Rattle.ball_model.specs.declared.names.BatchName.{BatchName}
 abbrev pub stands_before : BatchName → BatchName → Bool
 stands_before a b =
     nat_lt a.superstep b.superstep
-    || ((a.superstep == b.superstep) && (nat_lt a.source b.source || ((a.source == b.source) && nat_lt a.target b.target)))
+    || ((a.superstep == b.superstep)
+    && (nat_lt a.source b.source || ((a.source == b.source) && nat_lt a.target b.target)))

@@ -34,7 +34,8 @@ superstep_line i total = line_text (codes "superstep" ∷ decimal i ∷ fixed6_o
 
 -- the superstep at which the run ended, and why
 unfoldable pub end_line : ℕ → Bool → List ℕ
-end_line t stable = line_text (codes "end" ∷ decimal t ∷ (if stable then codes "stable" else codes "limit") ∷ [])
+end_line t stable =
+    line_text (codes "end" ∷ decimal t ∷ (if stable then codes "stable" else codes "limit") ∷ [])
 
 -- the neighbourhood function at supersteps 0 to t
 abbrev pub totals_at : Mixing → Graph → ℕ → List ℕ
@@ -47,7 +48,10 @@ gain_line gain = line_text (codes "gain" ∷ fixed6_of gain ∷ [])
 -- a vertex: its label, estimate, harmonic centrality, closeness, Lin's index and number of empty registers
 unfoldable pub vertex_line : List ℕ → TallyValue → ℕ → List ℕ
 vertex_line label tally empty =
-    line_text (codes "vertex" ∷ label ∷ fixed6_of tally.last ∷ fixed6_of tally.harm ∷ fixed6_of (closeness_of tally.dist) ∷ fixed6_of (lin_of tally.last tally.dist) ∷ decimal empty ∷ [])
+    line_text
+    (codes "vertex" ∷ label ∷ fixed6_of tally.last ∷ fixed6_of tally.harm
+    ∷ fixed6_of (closeness_of tally.dist) ∷ fixed6_of (lin_of tally.last tally.dist)
+    ∷ decimal empty ∷ [])
 
 -- the number of registers of a counter that are 0
 abbrev pub empty_of : List ℕ → ℕ
@@ -55,7 +59,8 @@ empty_of row = count_by (λ r. r == 0) row
 
 -- the line of vertex x at superstep t
 unfoldable pub vertex_text : Mixing → Graph → List (List ℕ) → ℕ → ℕ → List ℕ
-vertex_text m g labels t x = vertex_line (slice_index_or labels x []) (tally_at m g x t) (empty_of (ball_counter m g x t))
+vertex_text m g labels t x =
+    vertex_line (slice_index_or labels x []) (tally_at m g x t) (empty_of (ball_counter m g x t))
 
 -- the report: the neighbourhood function up to the end, the end, the gain, and each vertex's figures at the end
 unfoldable pub report_of : Mixing → Graph → List (List ℕ) → ℕ → List ℕ

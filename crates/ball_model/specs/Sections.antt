@@ -5,7 +5,8 @@ use Rattle.std.specs.Prelude.{ℕ, Bool, true, List, [], ◌∷◌, ◌==◌, �
 abbrev pub after_line : List ℕ → Option (List ℕ)
 after_line [] = Some []
 after_line (a ∷ []) = if a == 10 then Some [] else None
-after_line (a ∷ b ∷ rest) = if a == 10 then Some (b ∷ rest) else if (a == 13) && (b == 10) then Some rest else None
+after_line (a ∷ b ∷ rest) =
+    if a == 10 then Some (b ∷ rest) else if (a == 13) && (b == 10) then Some rest else None
 
 -- what follows a line of exactly %%, where one stands at the front
 abbrev pub after_mark : List ℕ → Option (List ℕ)
@@ -25,7 +26,8 @@ found_or (Some rest) later = Some ([], rest)
 unfoldable pub sections_from : Bool → List ℕ → Option (List ℕ × List ℕ)
 sections_from begins [] = None
 sections_from begins (c ∷ rest) =
-    found_or (if begins then after_mark (c ∷ rest) else None) (longer c (sections_from (c == 10) rest))
+    found_or (if begins then after_mark (c ∷ rest) else None)
+    (longer c (sections_from (c == 10) rest))
 
 -- the sections before and after the first line of exactly %%
 abbrev pub sections_of : List ℕ → Option (List ℕ × List ℕ)

@@ -34,11 +34,16 @@ early_at early i q = slice_index_or (slice_index_or early i []) q None
 
 -- the batch of superstep s and source q is held at superstep t: it is heard, or it is kept
 abbrev pub holds_in : ℕ → List Bool → List (List (Option BatchValue)) → ℕ → ℕ → Bool
-holds_in t heard early s q = if s == t then slice_index_or heard q false else (nat_lt t s && is_some (early_at early (s - (t + 1)) q))
+holds_in t heard early s q =
+    if s == t then slice_index_or heard q false
+    else (nat_lt t s && is_some (early_at early (s - (t + 1)) q))
 
 -- the content of a replica
 abbrev pub content_of : State → Content
-content_of v = record { superstep = v.superstep; holds = λ s q. holds_in v.superstep v.heard v.early s q }
+content_of v = record {
+  superstep = v.superstep;
+  holds = λ s q. holds_in v.superstep v.heard v.early s q;
+}
 
 -- the vertices of partition p of a job
 abbrev pub own_vertices : Job → ℕ → List ℕ
@@ -58,7 +63,8 @@ tallies_of j p t = map (λ x. tally_at (mixing_of j.plan) j.graph x t) (own_vert
 
 -- the sums of their estimates at each superstep from 0 to t
 unfoldable pub sums_of : Job → ℕ → ℕ → List ℕ
-sums_of j p t = map (λ i. total_over (mixing_of j.plan) j.graph (own_vertices j p) i) (range_with_len 0 (t + 1))
+sums_of j p t =
+    map (λ i. total_over (mixing_of j.plan) j.graph (own_vertices j p) i) (range_with_len 0 (t + 1))
 
 -- vertex z is of a partition that is heard
 abbrev pub is_heard : ℕ → List Bool → ℕ → Bool
@@ -66,11 +72,14 @@ is_heard parts heard z = slice_index_or heard (z % parts) false
 
 -- some partition that is heard has a vertex that is changed at t
 unfoldable pub heard_changes : Job → ℕ → List Bool → Bool
-heard_changes j t heard = list_any (λ q. slice_index_or heard q false && not (changed_count j t q == 0)) (range_with_len 0 j.plan.parts)
+heard_changes j t heard =
+    list_any (λ q. slice_index_or heard q false && not (changed_count j t q == 0))
+    (range_with_len 0 j.plan.parts)
 
 -- each batch that is kept is the true batch of its superstep and its source
 pub record KeepsTrue (j : Job) (p t : ℕ) (early : List (List (Option BatchValue))) : Type 0 where
-  pub true_of : (i q : ℕ) → IfSome (early_at early i q) (λ b. b ≡ true_batch j (record { superstep = t + 1 + i; source = q; target = p }))
+  pub true_of : (i q : ℕ) → IfSome (early_at early i q)
+      (λ b. b ≡ true_batch j (record { superstep = t + 1 + i; source = q; target = p }))
 
 -- the replica stands for partition p of the job at superstep t: all that it has is what the definitions say of t
 pub record StandsFor (j : Job) (p t : ℕ) (v : State) : Type 0 where

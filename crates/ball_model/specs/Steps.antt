@@ -32,7 +32,8 @@ answer_of j p c (Merge d) = Merged (merge_of j.plan p j.plan p)
 abbrev pub content_taken : Job → ℕ → Content → BatchName → Content
 content_taken j p c name = record {
   superstep = c.superstep;
-  holds = λ s q. after_take (is_new (take_of j.plan p c j.plan name)) c.holds name.superstep name.source s q;
+  holds = λ s q.
+      after_take (is_new (take_of j.plan p c j.plan name)) c.holds name.superstep name.source s q;
 }
 
 -- the content after a close with that answer
@@ -54,7 +55,8 @@ content_after_all j p c (call ∷ calls) = content_after_all j p (content_after 
 -- the answers to a list of calls, one after the other
 unfoldable pub answers_of : Job → ℕ → Content → List Call → List Answer
 answers_of j p c [] = []
-answers_of j p c (call ∷ calls) = answer_of j p c call ∷ answers_of j p (content_after j p c call) calls
+answers_of j p c (call ∷ calls) =
+    answer_of j p c call ∷ answers_of j p (content_after j p c call) calls
 
 -- the start: superstep 0, and no batches
 abbrev pub start_content : Content

@@ -37,7 +37,8 @@ impl<'a> Read for MemReader<'a> {
 
     fn read(&mut self, buf: &mut [u8]) -> io::Result<usize>
         ensures bound { ReadsAtMost result buf.new }
-        ensures bytes { ReadConsumes (Some self.old.left.now) (Some self.new.left.now) result buf.new }
+        ensures bytes { ReadConsumes (Some self.old.left.now) (Some self.new.left.now)
+            result buf.new }
         ensures count { IfOk result (λ n. n ≡ min (length self.old.left.now) (length buf.old)) }
         ensures fails { self.old.good ≡ Some 0 → IsErr result }
         ensures only { OnErr result (self.old.good ≡ Some 0) }
@@ -120,12 +121,14 @@ impl Write for MemWriter {
 
     fn write(&mut self, buf: &[u8]) -> io::Result<usize>
         ensures bound { WritesAtMost result buf.now }
-        ensures bytes { WriteAppends (Some self.old.bytes.items) (Some self.new.bytes.items) result buf.now }
+        ensures bytes { WriteAppends (Some self.old.bytes.items) (Some self.new.bytes.items)
+            result buf.now }
         ensures count { IfOk result (λ n. n ≡ min (length buf.now) self.old.room) }
         ensures room { IfOk result (λ n. self.new.room + n ≡ self.old.room) }
         ensures fails { self.old.good ≡ Some 0 → IsErr result }
         ensures full { self.old.room ≡ 0 → 0 < length buf.now → IsErr result }
-        ensures only { OnErr result ((self.old.good ≡ Some 0) ⊎ ((self.old.room ≡ 0) × (0 < length buf.now))) }
+        ensures only { OnErr result ((self.old.good ≡ Some 0)
+            ⊎ ((self.old.room ≡ 0) × (0 < length buf.now))) }
         ensures good { self.new.good ≡ option_map (λ n. n - 1) self.old.good }
         ensures failed { OnErr result (self.new.failures ≡ self.old.failures + 1) }
         ensures done { OnOk result (self.new.failures ≡ self.old.failures) }

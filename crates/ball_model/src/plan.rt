@@ -38,11 +38,32 @@ impl Model for Plan {
 
     ghost Value = { PlanValue };
 
-    ghost view = { λ p. record { log2m = p.log2m; seed = p.seed; parts = p.parts; limit = p.limit; vertices = p.vertices; job = p.job } };
+    ghost view = { λ p. record {
+      log2m = p.log2m;
+      seed = p.seed;
+      parts = p.parts;
+      limit = p.limit;
+      vertices = p.vertices;
+      job = p.job;
+    } };
 
-    ghost invariant = { λ p. IsPlan (record { log2m = p.log2m; seed = p.seed; parts = p.parts; limit = p.limit; vertices = p.vertices; job = p.job }) };
+    ghost invariant = { λ p. IsPlan (record {
+      log2m = p.log2m;
+      seed = p.seed;
+      parts = p.parts;
+      limit = p.limit;
+      vertices = p.vertices;
+      job = p.job;
+    }) };
 
-    ghost inverse = { λ p. record { log2m = p.log2m; seed = p.seed; parts = p.parts; limit = p.limit; vertices = p.vertices; job = p.job } };
+    ghost inverse = { λ p. record {
+      log2m = p.log2m;
+      seed = p.seed;
+      parts = p.parts;
+      limit = p.limit;
+      vertices = p.vertices;
+      job = p.job;
+    } };
 }
 
 impl Plan {
@@ -58,7 +79,14 @@ impl Plan {
         vertices: u32,
         job: [u8; 32],
     ) -> Result<Plan, PlanError>
-        ensures { result ≡ plan_of (record { log2m = log2m; seed = seed; parts = parts; limit = limit; vertices = vertices; job = job }) }
+        ensures { result ≡ plan_of (record {
+          log2m = log2m;
+          seed = seed;
+          parts = parts;
+          limit = limit;
+          vertices = vertices;
+          job = job;
+        }) }
     {
         if !(4..=10).contains(&log2m) {
             return Err(PlanError::Log2m);

@@ -147,7 +147,8 @@ impl<R: Read + Drop> Read for CountingReader<R> {
 
     fn read(&mut self, buf: &mut [u8]) -> io::Result<usize>
         ensures bound { ReadsAtMost result buf.new }
-        ensures bytes { ReadConsumes (R.remaining self.old.inner) (R.remaining self.new.inner) result buf.new }
+        ensures bytes { ReadConsumes (R.remaining self.old.inner) (R.remaining self.new.inner)
+            result buf.new }
         ensures failed { OnErr result (self.new.failures ≡ self.old.failures + 1) }
         ensures done { OnOk result (self.new.failures ≡ self.old.failures) }
     {
@@ -206,9 +207,11 @@ impl<W: Write + Drop> Write for CountingWriter<W> {
 
     fn write(&mut self, buf: &[u8]) -> io::Result<usize>
         ensures bound { WritesAtMost result buf.now }
-        ensures bytes { WriteAppends (W.contents self.old.inner) (W.contents self.new.inner) result buf.now }
+        ensures bytes { WriteAppends (W.contents self.old.inner) (W.contents self.new.inner)
+            result buf.now }
         ensures failed { OnErr result (self.new.failures ≡ self.old.failures + 1) }
-        ensures stuck { IfOk result (λ n. n ≡ 0 → 0 < length buf.now → self.new.failures ≡ self.old.failures + 1) }
+        ensures stuck { IfOk result (λ n. n ≡ 0 → 0 < length buf.now →
+            self.new.failures ≡ self.old.failures + 1) }
         ensures done { IfOk result (λ n. 0 < n → self.new.failures ≡ self.old.failures) }
         ensures idle { OnOk result (length buf.now ≡ 0 → self.new.failures ≡ self.old.failures) }
     {
@@ -254,7 +257,8 @@ impl<W: Write + Drop> CountedWrite for CountingWriter<W> {
 
 /// Writes all bytes and answers true, or answers false where a call failed; nothing is tried again.
 pub fn put_all<W: CountedWrite>(writer: &mut W, bytes: &[u8]) -> bool
-    ensures done { result ≡ true → Appends (W.contents writer.old) (W.contents writer.new) bytes.now }
+    ensures done { result ≡ true →
+        Appends (W.contents writer.old) (W.contents writer.new) bytes.now }
     ensures counted { result ≡ true → W.failed_calls writer.new ≡ W.failed_calls writer.old }
     ensures failed { result ≡ false → W.failed_calls writer.old < W.failed_calls writer.new }
 {

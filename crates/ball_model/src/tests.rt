@@ -28,14 +28,24 @@ fn least_and_greatest_seed_and_vertex(rt: HostRuntime) {
     assert_eq!(rt; mix(u64::MAX, u32::MAX), 0xd3c3fc2c2de810ec);
 }
 
-// The 33rd bit behind the index is set in each of these, and does not count.
+// Where tails of zeros lead, up to the last one. The 33rd bit behind the index is set in the first two, and does not
+// count.
+fn places_of_tails() -> [(u16, u8); 5] {
+    [
+        place(4, 0xa000_0000_0fff_ffff),
+        place(10, 0xffc0_0000_003f_ffff),
+        place(4, 0xa000_0000_1000_0000),
+        place(4, 0xa800_0000_0000_0000),
+        place(4, 0),
+    ]
+}
+
 #[test]
 fn tail_of_zero(rt: HostRuntime) {
-    assert_eq!(rt; place(4, 0xa000_0000_0fff_ffff), (10, 33));
-    assert_eq!(rt; place(10, 0xffc0_0000_003f_ffff), (1023, 33));
-    assert_eq!(rt; place(4, 0xa000_0000_1000_0000), (10, 32));
-    assert_eq!(rt; place(4, 0xa800_0000_0000_0000), (10, 1));
-    assert_eq!(rt; place(4, 0), (0, 33));
+    assert_eq!(rt;
+        places_of_tails(),
+        [(10, 33), (1023, 33), (10, 32), (10, 1), (0, 33)]
+    );
 }
 
 fn plan_with(log2m: u8, parts: u16, limit: u32, vertices: u32) -> Result<Plan, PlanError> {
@@ -238,15 +248,18 @@ fn all_is_put_a_byte_at_a_time(rt: HostRuntime) {
     assert_eq!(rt; writer.failures(), 1);
 }
 
+// Whether two bytes and one more are put, and how many calls failed.
+fn puts_twice(bytes: &mut Vec<u8>) -> (bool, bool, u64) {
+    let mut writer = CountingWriter::new(bytes);
+    let first = put_all(&mut writer, b"ab");
+    let second = put_all(&mut writer, b"c");
+    (first, second, writer.failures())
+}
+
 #[test]
 fn what_is_put_is_held(rt: HostRuntime) {
     let mut bytes = Vec::new(rt.alloc());
-    {
-        let mut writer = CountingWriter::new(&mut bytes);
-        assert!(rt; put_all(&mut writer, b"ab"));
-        assert!(rt; put_all(&mut writer, b"c"));
-        assert_eq!(rt; writer.failures(), 0);
-    }
+    assert_eq!(rt; puts_twice(&mut bytes), (true, true, 0));
     assert_eq!(rt; bytes.as_slice(), b"abc".as_slice());
 }
 

@@ -39,7 +39,9 @@ impl Model for Batch {
 
     ghost view = { λ b. batch_of b.plan b.name b.changed b.ids.items b.registers.items };
 
-    ghost invariant = { λ b. IsKept (batch_of b.plan b.name b.changed b.ids.items b.registers.items) b.ids.items b.registers.items };
+    ghost invariant = { λ b. IsKept
+        (batch_of b.plan b.name b.changed b.ids.items b.registers.items)
+        b.ids.items b.registers.items };
 }
 
 impl Batch {
@@ -56,7 +58,8 @@ impl Batch {
         requires source { name.source < plan.now.parts }
         requires target { name.target < plan.now.parts }
         requires changed { changed ≤ part_size plan.now.vertices plan.now.parts name.source }
-        ensures { IfOk result (λ b. b ≡ record { plan = plan.now; name = name; changed = changed; rows = [] }) }
+        ensures { IfOk result (λ b. b
+            ≡ record { plan = plan.now; name = name; changed = changed; rows = [] }) }
     {
         let first = changed.min(FIRST_ROWS) as usize;
         Ok(Batch {
@@ -75,7 +78,8 @@ impl Batch {
         requires row { IsRow self.old.plan self.old.name.source (id, registers.now) }
         requires above { All (λ before. before < id) (ids_of self.old.rows) }
         requires room { length self.old.rows < self.old.changed }
-        ensures ok { OnOk result (self.new ≡ record self.old { rows = self.old.rows ++ (id, registers.now) ∷ [] }) }
+        ensures ok { OnOk result (self.new
+            ≡ record self.old { rows = self.old.rows ++ (id, registers.now) ∷ [] }) }
         ensures err { OnErr result (self.new ≡ self.old) }
     {
         push_row(&mut self.ids, &mut self.registers, id, registers)?;
@@ -181,7 +185,8 @@ impl Batch {
         ensures of_plan { IfOk result (λ b. AgreesButJob plan.now b.plan) }
         ensures batch { IfOk result (λ b. IsBatch b) }
         // Each batch of the plan with these bytes is what is read.
-        ensures only { (b : BatchValue) → IsBatch b → AgreesButJob plan.now b.plan → bytes.now ≡ batch_bytes b → GivesOrMemory result (Ok b) }
+        ensures only { (b : BatchValue) → IsBatch b → AgreesButJob plan.now b.plan
+            → bytes.now ≡ batch_bytes b → GivesOrMemory result (Ok b) }
         // Which refusal it is; memory is wanting only where bytes and plan give a batch.
         ensures exact { GivesOrMemory result (batch_at plan.now bytes.now) }
     {
@@ -209,7 +214,8 @@ fn check(plan: &Plan, bytes: &[u8]) -> Result<Header, BatchError>
 /// The batch of bytes that passed all checks.
 fn read(alloc: Global, plan: &Plan, header: &Header, bytes: &[u8]) -> Result<Batch, AllocError>
     requires { checked_at plan.now bytes.now ≡ Ok header.now }
-    ensures { IfOk result (λ b. b ≡ made plan.now header.now (rows_at (2 ^ plan.now.log2m) header.now.count (drop 54 bytes.now))) }
+    ensures { IfOk result (λ b. b ≡ made plan.now header.now
+        (rows_at (2 ^ plan.now.log2m) header.now.count (drop 54 bytes.now))) }
 {
     let (_, body) = bytes.split_at(HEADER_LEN);
     let (ids, registers) = read_rows(alloc, plan.width(), header.count, body)?;

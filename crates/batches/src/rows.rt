@@ -53,7 +53,8 @@ pub fn check_len(wanted: usize, len: usize) -> Result<(), BatchError>
 #[tactic(auto, unfolding(crate::specs::Reading::check_row))]
 fn check_front(plan: &Plan, source: u16, least: u32, bytes: &[u8]) -> Result<u32, BatchError>
     requires { 4 + 2 ^ plan.now.log2m ≤ length bytes.now }
-    ensures exact { without_value result ≡ check_row plan.now source least (row_at (2 ^ plan.now.log2m) bytes.now) }
+    ensures exact { without_value result
+        ≡ check_row plan.now source least (row_at (2 ^ plan.now.log2m) bytes.now) }
     ensures id { IfOk result (λ id. (id ≡ field w32 0 bytes.now) × (id < plan.now.vertices)) }
 {
     let id = u32_at(bytes, 0);
@@ -126,7 +127,8 @@ pub fn read_rows(
 ) -> Result<(Vec<u32>, Vec<u8>), AllocError>
     requires small { width ≤ 1024 }
     requires whole { length body.now ≡ count * (4 + width) }
-    ensures rows { IfOk result (λ r. rows_of width r.0.items r.1.items ≡ rows_at width count body.now) }
+    ensures rows { IfOk result
+        (λ r. rows_of width r.0.items r.1.items ≡ rows_at width count body.now) }
     ensures room { IfOk result (λ r. length r.1.items ≡ length r.0.items * width) }
 {
     let mut ids = Vec::with_capacity(alloc, count as usize)?;
@@ -149,7 +151,8 @@ pub fn put_rows(
     registers: &[u8],
 ) -> Result<(), AllocError>
     requires { length registers.now ≡ length ids.now * width }
-    ensures { OnOk result (out.new.items ≡ out.old.items ++ flat_map row_bytes (rows_of width ids.now registers.now)) }
+    ensures { OnOk result (out.new.items
+        ≡ out.old.items ++ flat_map row_bytes (rows_of width ids.now registers.now)) }
 {
     let mut rest = registers;
     for id in ids {

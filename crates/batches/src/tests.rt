@@ -38,7 +38,8 @@ const BYTES: [u8; 74] = [
 
 /// A plan of three vertices in two partitions.
 fn plan(job: [u8; 32]) -> Result<Plan, PlanError>
-    ensures { IfOk result (λ p. p ≡ record { log2m = 4; seed = 0; parts = 2; limit = 4096; vertices = 3; job = job }) }
+    ensures { IfOk result (λ p. p
+        ≡ record { log2m = 4; seed = 0; parts = 2; limit = 4096; vertices = 3; job = job }) }
 {
     Plan::new(4, 0, 2, 4096, 3, job)
 }
@@ -56,7 +57,8 @@ fn with(edits: &[(usize, u8)]) -> [u8; 74] {
 
 /// A batch with the row of vertex 0.
 fn one_row(alloc: Global) -> Result<Batch, Fail>
-    ensures plan { IfOk result (λ b. (b.plan.log2m ≡ 4) × (b.plan.parts ≡ 2) × (b.plan.vertices ≡ 3)) }
+    ensures plan { IfOk result
+        (λ b. (b.plan.log2m ≡ 4) × (b.plan.parts ≡ 2) × (b.plan.vertices ≡ 3)) }
     ensures name { IfOk result (λ b. (b.name.source ≡ 0) × (b.changed ≡ 2)) }
     ensures rows { IfOk result (λ b. ids_of b.rows ≡ 0 ∷ []) }
 {
@@ -145,12 +147,20 @@ const REFUSED: [(&[(usize, u8)], BatchError); 17] = [
     (&[(72, 34)], BatchError::Rank),
 ];
 
+/// The first error of that table that is not what is answered.
+fn first_not_answered(alloc: Global, plan: &Plan) -> Option<BatchError> {
+    for (edits, wanted) in &REFUSED {
+        if rows_of(alloc, plan, &with(edits)) != Err(*wanted) {
+            return Some(*wanted);
+        }
+    }
+    None
+}
+
 #[test]
 fn each_check_refuses(rt: HostRuntime) -> Result<(), Fail> {
     let plan = plan(JOB)?;
-    for (edits, wanted) in REFUSED {
-        assert_eq!(rt; rows_of(rt.alloc(), &plan, &with(edits)), Err(wanted));
-    }
+    assert_eq!(rt; first_not_answered(rt.alloc(), &plan), None);
     Ok(())
 }
 
@@ -257,10 +267,23 @@ const TEXTS: [(BatchError, &str); 11] = [
     (BatchError::Memory, "out of memory"),
 ];
 
+/// Whether an error has that text.
+fn has_text(alloc: Global, error: BatchError, wanted: &str) -> Result<bool, Fail> {
+    Ok(text(alloc, error)?.as_str() == wanted)
+}
+
+/// The first error of that table that has another text.
+fn first_of_another_text(alloc: Global) -> Result<Option<BatchError>, Fail> {
+    for (error, wanted) in &TEXTS {
+        if !has_text(alloc, *error, wanted)? {
+            return Ok(Some(*error));
+        }
+    }
+    Ok(None)
+}
+
 #[test]
 fn errors_have_texts(rt: HostRuntime) -> Result<(), Fail> {
-    for (error, wanted) in TEXTS {
-        assert_eq!(rt; text(rt.alloc(), error)?.as_str(), wanted);
-    }
+    assert_eq!(rt; first_of_another_text(rt.alloc())?, None);
     Ok(())
 }

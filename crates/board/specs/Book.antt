@@ -8,6 +8,7 @@ use Rattle.std.specs.declared.cmp.Ordering.{Ordering}
 use Rattle.ball_model.specs.declared.names.BatchName.{BatchName}
 use Rattle.ball_model.specs.contracts.names.BatchNameOrd.TheImpl as name_order
 use Rattle.ball_model.specs.Job.{Job}
+use Rattle.ball_model.specs.Join.{Holding}
 use Rattle.ball_model.specs.Batches.{BatchValue, true_batch}
 use Rattle.ball_model.specs.State.{State, StandsFor}
 use Rattle.ball_model.specs.History.{Event, Post, Fetch, Keep, Recall, Drop, Entry, History, entry, entries_of, with_entry, Object, board_of, IsLegal, held_by}
@@ -42,9 +43,13 @@ history_of b = record { job = record { graph = b.graph.value.graph; plan = b.pla
 abbrev pub HasStanding : {A : Type 0} → (A → BatchValue) → Job → Object → (BatchName → Option A) → Type 0
 HasStanding value j o find = (name : BatchName) → MatchOption (find name) (o.stands name ≡ false) (λ a. (o.stands name ≡ true) × (value a ≡ true_batch j name))
 
+-- the content of the snapshot in the place of partition p
+abbrev pub held_at : {C : Type 0} → (C → State) → List (Option C) → ℕ → Option Holding
+held_at state kept p = option_map (λ c. held_by (state c)) (slice_index_or kept p None)
+
 -- what is kept for each partition is the content of the snapshot in its place
 abbrev pub HasContents : {C : Type 0} → (C → State) → Object → List (Option C) → Type 0
-HasContents state o kept = (p : ℕ) → option_map (λ c. held_by (state c)) (slice_index_or kept p None) ≡ o.kept p
+HasContents state o kept = (p : ℕ) → held_at state kept p ≡ o.kept p
 
 -- each snapshot stands for the partition of its place
 abbrev pub HasSnapshots : {C : Type 0} → (C → State) → Job → List (Option C) → Type 0

@@ -1,7 +1,10 @@
 -- What contracts see of a board and of a seat, and what a call does to a seat.
 use Rattle.std.specs.Prelude.{◌≡◌, ℕ, ◌<◌, ◌≤◌, true, [], ◌∷◌, ◌++◌}
 use Rattle.atomic_table.specs.Seated.{TableId}
+use Rattle.ball_model.specs.Graph.{Graph}
+use Rattle.ball_model.specs.PlanValue.{PlanValue}
 use Rattle.ball_model.specs.Job.{Job}
+use Rattle.ball_model.specs.Batches.{BatchValue, true_batch}
 use Rattle.ball_model.specs.State.{State, StandsFor}
 use Rattle.ball_model.specs.History.{Event, History, Begins, IsLegal, entry, entries_of, calls_by, with_entry, board_of, is_kept_from}
 
@@ -18,6 +21,14 @@ pub record SeatView : Type 0 where
   pub room : ℕ
   pub limit : ℕ
   pub seen : History
+
+-- the job of a graph and a plan
+abbrev pub job_of : Graph → PlanValue → Job
+job_of graph plan = record { graph = graph; plan = plan }
+
+-- the batch is the true one of its name
+abbrev pub IsTrueIn : Job → BatchValue → Type 0
+IsTrueIn j b = b ≡ true_batch j b.name
 
 -- the replica or snapshot stands for a partition of the job, at its superstep
 abbrev pub Stands : Job → State → Type 0

@@ -7,7 +7,7 @@ ghost use Rattle.ball_model.specs.Job.{IsJob};
 ghost use Rattle.ball_model.specs.Batches.{true_batch};
 ghost use Rattle.ball_model.specs.State.{StandsFor};
 ghost use Rattle.ball_model.specs.History.{Post, Fetch, Keep, Recall, Drop, Begins, IsLegal, opened, entries_of, calls_by, board_of, held_by, is_kept_from};
-ghost use Rattle.board.specs.Seats.{Stands, IsAt, Extends, Called, CalledNothing, IsFull, HasRoom, IsAsFar};
+ghost use Rattle.board.specs.Seats.{job_of, IsTrueIn, Stands, IsAt, Extends, Called, CalledNothing, IsFull, HasRoom, IsAsFar};
 
 use crate::book::Book;
 use crate::error::BoardError;
@@ -59,13 +59,13 @@ impl Board {
         plan: &Plan,
         entries: u32,
     ) -> Result<(Board, Seat), AllocError>
-        requires job { IsJob (record { graph = graph.now.graph; plan = plan.now }) }
+        requires job { IsJob (job_of graph.now.graph plan.now) }
         requires entries { (2 ≤ entries) × (entries ≤ 2 ^ 24) }
         ensures board { IfOk result (λ r. IsAt r.0 r.1) }
         ensures limit { IfOk result (λ r. r.1.limit ≡ entries) }
         ensures number { IfOk result (λ r. r.1.number ≡ 0) }
         ensures room { IfOk result (λ r. r.1.room ≡ 2 ^ 63) }
-        ensures seen { IfOk result (λ r. r.1.seen ≡ opened (record { graph = graph.now.graph; plan = plan.now })) }
+        ensures seen { IfOk result (λ r. r.1.seen ≡ opened (job_of graph.now.graph plan.now)) }
         ensures legal { IfOk result (λ r. IsLegal r.1.seen) }
     {
         let book = Book::open(alloc, graph, plan)?;
@@ -135,7 +135,8 @@ impl Board {
         requires board { IsAt self.now seat.old }
         ensures seen { Extends seat.old seat.new }
         ensures found { IfOk result (λ r. IfSome r (λ a. Called seat.old (Fetch name) seat.new)) }
-        ensures batch { IfOk result (λ r. IfSome r (λ a. arc_value a ≡ true_batch seat.old.seen.job name)) }
+        ensures batch { IfOk result
+            (λ r. IfSome r (λ a. arc_value a ≡ true_batch seat.old.seen.job name)) }
         ensures stands { IfOk result (λ r. is_some r ≡ (board_of seat.new.seen).stands name) }
         ensures none { IfOk result (λ r. IfNone r (CalledNothing seat.old seat.new)) }
         ensures refused { OnErr result (CalledNothing seat.old seat.new) }
@@ -161,7 +162,7 @@ impl Board {
         batch: Arc<Batch>,
     ) -> Result<Posted, BoardError>
         requires board { IsAt self.now seat.old }
-        requires batch { arc_value batch ≡ true_batch seat.old.seen.job (arc_value batch).name }
+        requires batch { IsTrueIn seat.old.seen.job (arc_value batch) }
         ensures seen { Extends seat.old seat.new }
         ensures ok { IfOk result (λ r. Called seat.old (Post (arc_value batch).name r) seat.new) }
         ensures refused { OnErr result (CalledNothing seat.old seat.new) }
@@ -188,7 +189,8 @@ impl Board {
         requires board { IsAt self.now seat.old }
         requires snapshot { Stands seat.old.seen.job (arc_value snapshot) }
         ensures seen { Extends seat.old seat.new }
-        ensures ok { IfOk result (λ r. Called seat.old (Keep (held_by (arc_value snapshot)) r) seat.new) }
+        ensures ok { IfOk result
+            (λ r. Called seat.old (Keep (held_by (arc_value snapshot)) r) seat.new) }
         ensures refused { OnErr result (CalledNothing seat.old seat.new) }
         ensures full { IfErr result (λ e. e ≡ BookFull → IsFull seat.new) }
         ensures memory { IfErr result (λ e. e ≡ Memory → HasRoom seat.new) }
@@ -213,13 +215,18 @@ impl Board {
     ) -> Result<Option<Arc<Snapshot>>, BoardError>
         requires board { IsAt self.now seat.old }
         ensures seen { Extends seat.old seat.new }
-        ensures found { IfOk result (λ r. IfSome r (λ a. Called seat.old (Recall part at_least (held_by (arc_value a))) seat.new)) }
-        ensures snapshot { IfOk result (λ r. IfSome r (λ a. StandsFor seat.old.seen.job part (arc_value a).superstep (arc_value a))) }
-        ensures furthest { IfOk result (λ r. IfSome r (λ a. IsAsFar seat.old part (arc_value a).superstep)) }
-        ensures far { IfOk result (λ r. is_some r ≡ is_kept_from ((board_of seat.new.seen).kept part) at_least) }
+        ensures found { IfOk result (λ r. IfSome r
+            (λ a. Called seat.old (Recall part at_least (held_by (arc_value a))) seat.new)) }
+        ensures snapshot { IfOk result (λ r. IfSome r
+            (λ a. StandsFor seat.old.seen.job part (arc_value a).superstep (arc_value a))) }
+        ensures furthest { IfOk result
+            (λ r. IfSome r (λ a. IsAsFar seat.old part (arc_value a).superstep)) }
+        ensures far { IfOk result
+            (λ r. is_some r ≡ is_kept_from ((board_of seat.new.seen).kept part) at_least) }
         ensures none { IfOk result (λ r. IfNone r (CalledNothing seat.old seat.new)) }
         ensures refused { OnErr result (CalledNothing seat.old seat.new) }
-        ensures asked { OnErr result (is_kept_from ((board_of seat.new.seen).kept part) at_least ≡ true) }
+        ensures asked { OnErr result
+            (is_kept_from ((board_of seat.new.seen).kept part) at_least ≡ true) }
         ensures full { IfErr result (λ e. e ≡ BookFull → IsFull seat.new) }
         ensures memory { IfErr result (λ e. e ≡ Memory → HasRoom seat.new) }
     {

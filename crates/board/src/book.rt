@@ -10,7 +10,8 @@ ghost use Rattle.ball_model.specs.Batches.{true_batch};
 ghost use Rattle.ball_model.specs.State.{StandsFor};
 ghost use Rattle.ball_model.specs.Join.{Holding};
 ghost use Rattle.ball_model.specs.History.{Post, Fetch, Keep, Recall, Drop, IsLegal, entry, opened, entries_of, with_entry, board_of, held_by, is_further, is_kept_from, is_new_keep, is_new_post, same_name};
-ghost use Rattle.board.specs.Book.{by_name, calls_of, IsNoted, IsNext};
+ghost use Rattle.board.specs.Seats.{job_of, IsTrueIn, Stands};
+ghost use Rattle.board.specs.Book.{by_name, calls_of, held_at, IsNoted, IsNext};
 
 use crate::error::BoardError;
 use crate::event::{Entry, Event};
@@ -59,7 +60,7 @@ impl Model for Book {
 impl Book {
     /// The book of a history that has the opening alone.
     pub fn open(alloc: Global, graph: &Graph, plan: &Plan) -> Result<Book, AllocError>
-        ensures { IfOk result (λ b. b ≡ opened (record { graph = graph.now.graph; plan = plan.now })) }
+        ensures { IfOk result (λ b. b ≡ opened (job_of graph.now.graph plan.now)) }
     {
         Ok(Book {
             alloc,
@@ -89,9 +90,13 @@ impl Book {
         name: BatchName,
         limit: u32,
     ) -> Result<Option<Arc<Batch>>, BoardError>
-        ensures found { IfOk result (λ r. IfSome r (λ a. IsNoted limit by (Fetch name) self.old self.new × (arc_value a ≡ true_batch self.old.job name))) }
-        ensures none { IfOk result (λ r. IfNone r ((self.new ≡ self.old) × ((board_of self.old).stands name ≡ false))) }
-        ensures err { OnErr result ((self.new ≡ self.old) × ((board_of self.old).stands name ≡ true)) }
+        ensures found { IfOk result (λ r. IfSome r (λ a.
+            IsNoted limit by (Fetch name) self.old self.new
+            × (arc_value a ≡ true_batch self.old.job name))) }
+        ensures none { IfOk result (λ r. IfNone r
+            ((self.new ≡ self.old) × ((board_of self.old).stands name ≡ false))) }
+        ensures err { OnErr result
+            ((self.new ≡ self.old) × ((board_of self.old).stands name ≡ true)) }
         ensures full { IfErr result (λ e. e ≡ BookFull → limit ≤ entries_of self.old) }
         ensures memory { IfErr result (λ e. e ≡ Memory → entries_of self.old < limit) }
         ensures next { IsNext limit by self.old self.new }
@@ -119,8 +124,9 @@ impl Book {
 
     /// Puts a batch where none of its name stands, and notes the reply.
     pub fn post(&mut self, by: u64, batch: Arc<Batch>, limit: u32) -> Result<Posted, BoardError>
-        requires { arc_value batch ≡ true_batch self.old.job (arc_value batch).name }
-        ensures ok { IfOk result (λ r. IsNoted limit by (Post (arc_value batch).name r) self.old self.new) }
+        requires { IsTrueIn self.old.job (arc_value batch) }
+        ensures ok { IfOk result
+            (λ r. IsNoted limit by (Post (arc_value batch).name r) self.old self.new) }
         ensures err { OnErr result (self.new ≡ self.old) }
         ensures full { IfErr result (λ e. e ≡ BookFull → limit ≤ entries_of self.old) }
         ensures memory { IfErr result (λ e. e ≡ Memory → entries_of self.old < limit) }
@@ -145,8 +151,9 @@ impl Book {
 
     /// Keeps a snapshot where it is further than the one kept for its partition, and notes the reply.
     pub fn keep(&mut self, by: u64, snapshot: Arc<Snapshot>, limit: u32) -> Result<Kept, BoardError>
-        requires { StandsFor self.old.job (arc_value snapshot).part.number (arc_value snapshot).superstep (arc_value snapshot) }
-        ensures ok { IfOk result (λ r. IsNoted limit by (Keep (held_by (arc_value snapshot)) r) self.old self.new) }
+        requires { Stands self.old.job (arc_value snapshot) }
+        ensures ok { IfOk result
+            (λ r. IsNoted limit by (Keep (held_by (arc_value snapshot)) r) self.old self.new) }
         ensures err { OnErr result (self.new ≡ self.old) }
         ensures full { IfErr result (λ e. e ≡ BookFull → limit ≤ entries_of self.old) }
         ensures memory { IfErr result (λ e. e ≡ Memory → entries_of self.old < limit) }
@@ -177,9 +184,13 @@ impl Book {
         at_least: u32,
         limit: u32,
     ) -> Result<Option<Arc<Snapshot>>, BoardError>
-        ensures found { IfOk result (λ r. IfSome r (λ a. IsNoted limit by (Recall part at_least (held_by (arc_value a))) self.old self.new × StandsFor self.old.job part (arc_value a).superstep (arc_value a))) }
-        ensures none { IfOk result (λ r. IfNone r ((self.new ≡ self.old) × (is_kept_from ((board_of self.old).kept part) at_least ≡ false))) }
-        ensures err { OnErr result ((self.new ≡ self.old) × (is_kept_from ((board_of self.old).kept part) at_least ≡ true)) }
+        ensures found { IfOk result (λ r. IfSome r (λ a.
+            IsNoted limit by (Recall part at_least (held_by (arc_value a))) self.old self.new
+            × StandsFor self.old.job part (arc_value a).superstep (arc_value a))) }
+        ensures none { IfOk result (λ r. IfNone r ((self.new ≡ self.old)
+            × (is_kept_from ((board_of self.old).kept part) at_least ≡ false))) }
+        ensures err { OnErr result ((self.new ≡ self.old)
+            × (is_kept_from ((board_of self.old).kept part) at_least ≡ true)) }
         ensures full { IfErr result (λ e. e ≡ BookFull → limit ≤ entries_of self.old) }
         ensures memory { IfErr result (λ e. e ≡ Memory → entries_of self.old < limit) }
         ensures next { IsNext limit by self.old self.new }
@@ -250,7 +261,8 @@ fn make_room(
     full: &mut Vec<Vec<Entry>>,
     sheet: &mut Vec<Entry>,
 ) -> Result<(), BoardError>
-    ensures same { calls_of full.new.items sheet.new.items ≡ calls_of full.old.items sheet.old.items }
+    ensures same { calls_of full.new.items sheet.new.items
+        ≡ calls_of full.old.items sheet.old.items }
     ensures ok { OnOk result ((entries < limit) × (vec_len sheet.new < vec_capacity sheet.new)) }
     ensures full { IfErr result (λ e. e ≡ BookFull → limit ≤ entries) }
     ensures memory { IfErr result (λ e. e ≡ Memory → entries < limit) }
@@ -277,9 +289,12 @@ fn put_batch(
     name: BatchName,
     batch: Arc<Batch>,
 ) -> Result<Posted, BoardError>
-    ensures reply { IfOk result (λ r. r ≡ (if nat_lt name.superstep floor then posted.Old else (if is_some (get by_name standing.old name) then posted.Known else posted.New))) }
-    ensures put { IfOk result (λ r. (n : BatchName) → get by_name standing.new n ≡ cond (is_new_post r && same_name n name) (Some batch) (get by_name standing.old n)) }
-    ensures err { IfErr result (λ e. (e ≡ Memory) × ((n : BatchName) → get by_name standing.new n ≡ get by_name standing.old n)) }
+    ensures reply { IfOk result (λ r. r ≡ (if nat_lt name.superstep floor then posted.Old else
+        (if is_some (get by_name standing.old name) then posted.Known else posted.New))) }
+    ensures put { IfOk result (λ r. (n : BatchName) → get by_name standing.new n
+        ≡ cond (is_new_post r && same_name n name) (Some batch) (get by_name standing.old n)) }
+    ensures err { IfErr result (λ e. (e ≡ Memory)
+        × ((n : BatchName) → get by_name standing.new n ≡ get by_name standing.old n)) }
 {
     if name.superstep < floor {
         return Ok(Posted::Old);
@@ -296,8 +311,12 @@ fn put_batch(
 // Puts a snapshot in its place where it is further than the one there.
 fn put_snapshot(kept: &mut Vec<Option<Arc<Snapshot>>>, snapshot: Arc<Snapshot>) -> Kept
     requires { (arc_value snapshot).part.number < length kept.old.items }
-    ensures reply { result ≡ (if is_further (option_map (λ a. held_by (arc_value a)) (slice_index_or kept.old.items (arc_value snapshot).part.number None)) (held_by (arc_value snapshot)) then replies.New else replies.Behind) }
-    ensures put { kept.new.items ≡ (if is_new_keep result then slice_set kept.old.items (arc_value snapshot).part.number (Some snapshot) else kept.old.items) }
+    ensures reply { result ≡ (if is_further
+        (held_at arc_value kept.old.items (arc_value snapshot).part.number)
+        (held_by (arc_value snapshot)) then replies.New else replies.Behind) }
+    ensures put { kept.new.items ≡ (if is_new_keep result
+        then slice_set kept.old.items (arc_value snapshot).part.number (Some snapshot)
+        else kept.old.items) }
 {
     let place = usize::from(snapshot.partition());
     if !is_ahead(&kept[place], &snapshot) {
@@ -309,7 +328,8 @@ fn put_snapshot(kept: &mut Vec<Option<Arc<Snapshot>>>, snapshot: Arc<Snapshot>) 
 
 // Whether a snapshot is further than the one that is kept.
 fn is_ahead(old: &Option<Arc<Snapshot>>, new: &Snapshot) -> bool
-    ensures { result ≡ is_further (option_map (λ a. held_by (arc_value a)) old.now) (held_by new.now) }
+    ensures { result
+        ≡ is_further (option_map (λ a. held_by (arc_value a)) old.now) (held_by new.now) }
 {
     match old {
         Some(old) => old.superstep() < new.superstep(),
@@ -319,8 +339,9 @@ fn is_ahead(old: &Option<Arc<Snapshot>>, new: &Snapshot) -> bool
 
 // The snapshot that is kept for a partition, where it is far enough.
 fn find_snapshot(kept: &[Option<Arc<Snapshot>>], part: u16, at_least: u32) -> Option<&Arc<Snapshot>>
-    ensures found { IfSome result (λ a. (slice_index_or kept.now part None ≡ Some a.now) × (at_least ≤ (arc_value a.now).superstep)) }
-    ensures kept { is_some result ≡ is_kept_from (option_map (λ a. held_by (arc_value a)) (slice_index_or kept.now part None)) at_least }
+    ensures found { IfSome result (λ a. (slice_index_or kept.now part None ≡ Some a.now)
+        × (at_least ≤ (arc_value a.now).superstep)) }
+    ensures kept { is_some result ≡ is_kept_from (held_at arc_value kept.now part) at_least }
 {
     match kept.get(usize::from(part)) {
         Some(Some(snapshot)) if snapshot.superstep() >= at_least => Some(snapshot),
@@ -330,8 +351,10 @@ fn find_snapshot(kept: &[Option<Arc<Snapshot>>], part: u16, at_least: u32) -> Op
 
 // Whether the first name is of a superstep below s. If it is not, none is.
 fn first_is_below(standing: &BTreeMap<BatchName, Arc<Batch>>, s: u32) -> bool
-    ensures below { IsTrue result → (e : BatchName × _) × (slice_get standing.now.entries 0 ≡ Some e) × (e.0.superstep < s) }
-    ensures none { IsFalse result → (n : BatchName) → n.superstep < s → get by_name standing.now n ≡ None }
+    ensures below { IsTrue result → (e : BatchName × _)
+        × (slice_get standing.now.entries 0 ≡ Some e) × (e.0.superstep < s) }
+    ensures none { IsFalse result → (n : BatchName) → n.superstep < s
+        → get by_name standing.now n ≡ None }
 {
     match standing.first_key_value() {
         Some((name, _)) => name.superstep < s,
@@ -341,7 +364,8 @@ fn first_is_below(standing: &BTreeMap<BatchName, Arc<Batch>>, s: u32) -> bool
 
 // Takes out the names of supersteps below s.
 fn drop_batches(standing: &mut BTreeMap<BatchName, Arc<Batch>>, s: u32)
-    ensures { (n : BatchName) → get by_name standing.new n ≡ cond (nat_lt n.superstep s) None (get by_name standing.old n) }
+    ensures { (n : BatchName) → get by_name standing.new n
+        ≡ cond (nat_lt n.superstep s) None (get by_name standing.old n) }
 {
     while first_is_below(standing, s) {
         let Some(_old) = standing.pop_first() else {

@@ -43,7 +43,8 @@ impl Seat {
     pub fn split(&mut self, board: &Board) -> Seat
         requires board { IsAt board.now self.old }
         requires room { 1024 ≤ self.old.room }
-        ensures kept { (self.new.table ≡ self.old.table) × (self.new.limit ≡ self.old.limit) × (self.new.number ≡ self.old.number) × (self.new.seen ≡ self.old.seen) }
+        ensures kept { (self.new.table ≡ self.old.table) × (self.new.limit ≡ self.old.limit)
+            × (self.new.number ≡ self.old.number) × (self.new.seen ≡ self.old.seen) }
         ensures left { self.new.room ≡ self.old.room - self.old.room / 1024 }
         ensures board { IsAt board.now result }
         ensures number { result.number ≢ self.old.number }

@@ -4,8 +4,7 @@ ghost use Rattle.std.specs.Prelude.{◌≡◌, ◌*◌, ◌<◌, ◌≤◌, ◌^
 ghost use Rattle.std.specs.List.{All};
 ghost use Rattle.std.specs.Arc.{arc_value};
 ghost use Rattle.ball_model.specs.Job.{IsJob};
-ghost use Rattle.ball_model.specs.Batches.{true_batch};
-ghost use Rattle.board.specs.Seats.{Stands, IsAt};
+ghost use Rattle.board.specs.Seats.{job_of, IsTrueIn, Stands, IsAt};
 
 use super::*;
 use ball_model::{BatchName, CountingReader, Kept, Plan, Posted};
@@ -23,7 +22,7 @@ const TWO_EDGES: &[u8] = b"a\tb\nb\tc\n";
 
 /// A graph of an edge list with tabs, and a plan of two partitions.
 fn job(rt: &HostRuntime, text: &[u8]) -> Option<(Graph, Plan)>
-    ensures { IfSome result (λ r. IsJob (record { graph = r.0.graph; plan = r.1 })) }
+    ensures { IfSome result (λ r. IsJob (job_of r.0.graph r.1)) }
 {
     let limits = EdgeLimits {
         vertices: 100,
@@ -38,8 +37,8 @@ fn job(rt: &HostRuntime, text: &[u8]) -> Option<(Graph, Plan)>
 
 /// A replica of a partition at superstep 0.
 fn replica(alloc: Global, graph: &Graph, plan: &Plan, p: u16) -> Option<Replica>
-    requires { IsJob (record { graph = graph.now.graph; plan = plan.now }) }
-    ensures { IfSome result (λ r. Stands (record { graph = graph.now.graph; plan = plan.now }) r) }
+    requires { IsJob (job_of graph.now.graph plan.now) }
+    ensures { IfSome result (λ r. Stands (job_of graph.now.graph plan.now) r) }
 {
     if p >= plan.parts() {
         return None;
@@ -64,8 +63,8 @@ fn told(
     from: &Replica,
     target: u16,
 ) -> Option<Arc<Batch>>
-    requires { Stands (record { graph = graph.now.graph; plan = plan.now }) from.now }
-    ensures { IfSome result (λ a. arc_value a ≡ true_batch (record { graph = graph.now.graph; plan = plan.now }) (arc_value a).name) }
+    requires { Stands (job_of graph.now.graph plan.now) from.now }
+    ensures { IfSome result (λ a. IsTrueIn (job_of graph.now.graph plan.now) (arc_value a)) }
 {
     if target >= from.plan().parts() || target == from.partition() {
         return None;
@@ -91,10 +90,10 @@ fn post<R: Wait>(
     target: u16,
 ) -> Option<Result<Posted, BoardError>>
     requires board { IsAt board.now seat.old }
-    requires job { seat.old.seen.job ≡ record { graph = graph.now.graph; plan = plan.now } }
-    requires from { Stands (record { graph = graph.now.graph; plan = plan.now }) from.now }
+    requires job { seat.old.seen.job ≡ job_of graph.now.graph plan.now }
+    requires from { Stands (job_of graph.now.graph plan.now) from.now }
     ensures board { IsAt board.now seat.new }
-    ensures job { seat.new.seen.job ≡ record { graph = graph.now.graph; plan = plan.now } }
+    ensures job { seat.new.seen.job ≡ job_of graph.now.graph plan.now }
 {
     let batch = told(alloc, graph, plan, from, target)?;
     Some(board.post(rt, seat, batch))
@@ -111,10 +110,10 @@ fn keep<R: Wait>(
     from: &Replica,
 ) -> Option<Result<Kept, BoardError>>
     requires board { IsAt board.now seat.old }
-    requires job { seat.old.seen.job ≡ record { graph = graph.now.graph; plan = plan.now } }
-    requires from { Stands (record { graph = graph.now.graph; plan = plan.now }) from.now }
+    requires job { seat.old.seen.job ≡ job_of graph.now.graph plan.now }
+    requires from { Stands (job_of graph.now.graph plan.now) from.now }
     ensures board { IsAt board.now seat.new }
-    ensures job { seat.new.seen.job ≡ record { graph = graph.now.graph; plan = plan.now } }
+    ensures job { seat.new.seen.job ≡ job_of graph.now.graph plan.now }
 {
     let Ok(snapshot) = from.snapshot(alloc) else {
         return None;
@@ -133,10 +132,10 @@ fn advance(
     first: &mut Replica,
     second: &mut Replica,
 ) -> Option<()>
-    requires first { Stands (record { graph = graph.now.graph; plan = plan.now }) first.old }
-    requires second { Stands (record { graph = graph.now.graph; plan = plan.now }) second.old }
-    ensures first { OnSome result (Stands (record { graph = graph.now.graph; plan = plan.now }) first.new) }
-    ensures second { OnSome result (Stands (record { graph = graph.now.graph; plan = plan.now }) second.new) }
+    requires first { Stands (job_of graph.now.graph plan.now) first.old }
+    requires second { Stands (job_of graph.now.graph plan.now) second.old }
+    ensures first { OnSome result (Stands (job_of graph.now.graph plan.now) first.new) }
+    ensures second { OnSome result (Stands (job_of graph.now.graph plan.now) second.new) }
 {
     let there = told(alloc, graph, plan, first, second.partition())?;
     let back = told(alloc, graph, plan, second, first.partition())?;
@@ -206,10 +205,12 @@ fn add_both(
     second: &Replica,
     batches: &mut Vec<Arc<Batch>>,
 ) -> Option<()>
-    requires first { Stands (record { graph = graph.now.graph; plan = plan.now }) first.now }
-    requires second { Stands (record { graph = graph.now.graph; plan = plan.now }) second.now }
-    requires batches { All (λ a. arc_value a ≡ true_batch (record { graph = graph.now.graph; plan = plan.now }) (arc_value a).name) batches.old.items }
-    ensures { OnSome result (All (λ a. arc_value a ≡ true_batch (record { graph = graph.now.graph; plan = plan.now }) (arc_value a).name) batches.new.items) }
+    requires first { Stands (job_of graph.now.graph plan.now) first.now }
+    requires second { Stands (job_of graph.now.graph plan.now) second.now }
+    requires batches { All (λ a. IsTrueIn (job_of graph.now.graph plan.now) (arc_value a))
+        batches.old.items }
+    ensures { OnSome result
+        (All (λ a. IsTrueIn (job_of graph.now.graph plan.now) (arc_value a)) batches.new.items) }
 {
     let there = told(alloc, graph, plan, first, 1)?;
     let back = told(alloc, graph, plan, second, 0)?;
@@ -222,21 +223,41 @@ fn add_both(
     Some(())
 }
 
+/// Adds what each partition tells the other at four supersteps.
+fn add_eight(
+    alloc: Global,
+    graph: &Graph,
+    plan: &Plan,
+    first: &mut Replica,
+    second: &mut Replica,
+    batches: &mut Vec<Arc<Batch>>,
+) -> Option<()>
+    requires first { Stands (job_of graph.now.graph plan.now) first.old }
+    requires second { Stands (job_of graph.now.graph plan.now) second.old }
+    requires batches { All (λ a. IsTrueIn (job_of graph.now.graph plan.now) (arc_value a))
+        batches.old.items }
+    ensures { OnSome result
+        (All (λ a. IsTrueIn (job_of graph.now.graph plan.now) (arc_value a)) batches.new.items) }
+{
+    add_both(alloc, graph, plan, first, second, batches)?;
+    advance(alloc, graph, plan, first, second)?;
+    add_both(alloc, graph, plan, first, second, batches)?;
+    advance(alloc, graph, plan, first, second)?;
+    add_both(alloc, graph, plan, first, second, batches)?;
+    advance(alloc, graph, plan, first, second)?;
+    add_both(alloc, graph, plan, first, second, batches)
+}
+
 /// The eight batches of supersteps 0 to 3.
 fn eight_batches(alloc: Global, graph: &Graph, plan: &Plan) -> Option<Vec<Arc<Batch>>>
-    requires { IsJob (record { graph = graph.now.graph; plan = plan.now }) }
-    ensures { IfSome result (λ v. All (λ a. arc_value a ≡ true_batch (record { graph = graph.now.graph; plan = plan.now }) (arc_value a).name) v.items) }
+    requires { IsJob (job_of graph.now.graph plan.now) }
+    ensures { IfSome result
+        (λ v. All (λ a. IsTrueIn (job_of graph.now.graph plan.now) (arc_value a)) v.items) }
 {
     let mut first = replica(alloc, graph, plan, 0)?;
     let mut second = replica(alloc, graph, plan, 1)?;
     let mut batches = Vec::new(alloc);
-    add_both(alloc, graph, plan, &first, &second, &mut batches)?;
-    advance(alloc, graph, plan, &mut first, &mut second)?;
-    add_both(alloc, graph, plan, &first, &second, &mut batches)?;
-    advance(alloc, graph, plan, &mut first, &mut second)?;
-    add_both(alloc, graph, plan, &first, &second, &mut batches)?;
-    advance(alloc, graph, plan, &mut first, &mut second)?;
-    add_both(alloc, graph, plan, &first, &second, &mut batches)?;
+    add_eight(alloc, graph, plan, &mut first, &mut second, &mut batches)?;
     Some(batches)
 }
 
@@ -250,10 +271,11 @@ fn post_all<R: Wait>(
     batches: &[Arc<Batch>],
 ) -> usize
     requires board { IsAt board.now seat.old }
-    requires job { seat.old.seen.job ≡ record { graph = graph.now.graph; plan = plan.now } }
-    requires batches { All (λ a. arc_value a ≡ true_batch (record { graph = graph.now.graph; plan = plan.now }) (arc_value a).name) batches.now }
+    requires job { seat.old.seen.job ≡ job_of graph.now.graph plan.now }
+    requires batches { All (λ a. IsTrueIn (job_of graph.now.graph plan.now) (arc_value a))
+        batches.now }
     ensures board { IsAt board.now seat.new }
-    ensures job { seat.new.seen.job ≡ record { graph = graph.now.graph; plan = plan.now } }
+    ensures job { seat.new.seen.job ≡ job_of graph.now.graph plan.now }
 {
     let mut news = 0usize;
     for batch in batches {
@@ -297,7 +319,7 @@ fn calls_of_two_entries<R: Wait>(
         Result<Posted, BoardError>,
     ),
 >
-    requires { IsJob (record { graph = graph.now.graph; plan = plan.now }) }
+    requires { IsJob (job_of graph.now.graph plan.now) }
 {
     let first = replica(alloc, graph, plan, 0)?;
     let (board, mut seat) = Board::open(alloc, graph, plan, 2).ok()?;
@@ -345,10 +367,10 @@ fn posts_of_eight_entries<R: Wait>(
     ),
 >
     requires board { IsAt board.now seat.old }
-    requires job { seat.old.seen.job ≡ record { graph = graph.now.graph; plan = plan.now } }
-    requires first { Stands (record { graph = graph.now.graph; plan = plan.now }) first.now }
+    requires job { seat.old.seen.job ≡ job_of graph.now.graph plan.now }
+    requires first { Stands (job_of graph.now.graph plan.now) first.now }
     ensures board { IsAt board.now seat.new }
-    ensures job { seat.new.seen.job ≡ record { graph = graph.now.graph; plan = plan.now } }
+    ensures job { seat.new.seen.job ≡ job_of graph.now.graph plan.now }
 {
     let posted = post(rt, alloc, board, seat, graph, plan, first, 1)?;
     let found = finds(rt, board, seat, name(0, 0));
@@ -391,8 +413,8 @@ fn keeps_of_eight_entries<R: Wait>(
     ),
 >
     requires board { IsAt board.now seat.old }
-    requires job { seat.old.seen.job ≡ record { graph = graph.now.graph; plan = plan.now } }
-    requires first { Stands (record { graph = graph.now.graph; plan = plan.now }) first.now }
+    requires job { seat.old.seen.job ≡ job_of graph.now.graph plan.now }
+    requires first { Stands (job_of graph.now.graph plan.now) first.now }
 {
     let kept = keep(rt, alloc, board, seat, graph, plan, first)?;
     let again = keep(rt, alloc, board, seat, graph, plan, first)?;
@@ -401,21 +423,25 @@ fn keeps_of_eight_entries<R: Wait>(
     Some((kept, again, found, none, board.length(seat)))
 }
 
-/// Whether a board of eight entries answers as the floor and the kept snapshots ask.
-fn is_board_of_eight_entries<R: Wait>(
+/// Whether a board of eight entries answers a seat as the floor and the kept snapshots ask.
+fn answers_of_eight_entries<R: Wait>(
     rt: &R,
     alloc: Global,
+    board: &Board,
+    seat: &mut Seat,
     graph: &Graph,
     plan: &Plan,
+    first: &mut Replica,
+    second: &mut Replica,
 ) -> Option<bool>
-    requires { IsJob (record { graph = graph.now.graph; plan = plan.now }) }
+    requires board { IsAt board.now seat.old }
+    requires job { seat.old.seen.job ≡ job_of graph.now.graph plan.now }
+    requires first { Stands (job_of graph.now.graph plan.now) first.old }
+    requires second { Stands (job_of graph.now.graph plan.now) second.old }
 {
-    let mut first = replica(alloc, graph, plan, 0)?;
-    let mut second = replica(alloc, graph, plan, 1)?;
-    let (board, mut seat) = Board::open(alloc, graph, plan, 8).ok()?;
-    let posts = posts_of_eight_entries(rt, alloc, &board, &mut seat, graph, plan, &first)?;
-    advance(alloc, graph, plan, &mut first, &mut second)?;
-    let keeps = keeps_of_eight_entries(rt, alloc, &board, &mut seat, graph, plan, &first)?;
+    let posts = posts_of_eight_entries(rt, alloc, board, seat, graph, plan, first)?;
+    advance(alloc, graph, plan, first, second)?;
+    let keeps = keeps_of_eight_entries(rt, alloc, board, seat, graph, plan, first)?;
     let posts_wanted = (
         Ok(Posted::New),
         Ok(true),
@@ -425,6 +451,30 @@ fn is_board_of_eight_entries<R: Wait>(
     );
     let keeps_wanted = (Ok(Kept::New), Ok(Kept::Behind), Ok(Some(1)), Ok(None), 8);
     Some(posts == posts_wanted && keeps == keeps_wanted)
+}
+
+/// Whether a board of eight entries answers its first seat so.
+fn is_board_of_eight_entries<R: Wait>(
+    rt: &R,
+    alloc: Global,
+    graph: &Graph,
+    plan: &Plan,
+) -> Option<bool>
+    requires { IsJob (job_of graph.now.graph plan.now) }
+{
+    let mut first = replica(alloc, graph, plan, 0)?;
+    let mut second = replica(alloc, graph, plan, 1)?;
+    let (board, mut seat) = Board::open(alloc, graph, plan, 8).ok()?;
+    answers_of_eight_entries(
+        rt,
+        alloc,
+        &board,
+        &mut seat,
+        graph,
+        plan,
+        &mut first,
+        &mut second,
+    )
 }
 
 #[test]
@@ -444,7 +494,7 @@ fn post_twice<R: Wait>(
     graph: &Graph,
     plan: &Plan,
 ) -> Option<(Result<Posted, BoardError>, Result<Posted, BoardError>, u64)>
-    requires { IsJob (record { graph = graph.now.graph; plan = plan.now }) }
+    requires { IsJob (job_of graph.now.graph plan.now) }
 {
     let first = replica(alloc, graph, plan, 0)?;
     let (board, mut seat) = Board::open(alloc, graph, plan, 8).ok()?;
@@ -477,7 +527,7 @@ fn calls_of_seats<R: Wait>(
         u64,
     ),
 >
-    requires { IsJob (record { graph = graph.now.graph; plan = plan.now }) }
+    requires { IsJob (job_of graph.now.graph plan.now) }
 {
     let first = replica(alloc, graph, plan, 0)?;
     let (board, mut a) = Board::open(alloc, graph, plan, 16).ok()?;
@@ -509,8 +559,9 @@ fn fills_up<R: Wait>(
     batches: &[Arc<Batch>],
     entries: u32,
 ) -> Option<bool>
-    requires job { IsJob (record { graph = graph.now.graph; plan = plan.now }) }
-    requires batches { All (λ a. arc_value a ≡ true_batch (record { graph = graph.now.graph; plan = plan.now }) (arc_value a).name) batches.now }
+    requires job { IsJob (job_of graph.now.graph plan.now) }
+    requires batches { All (λ a. IsTrueIn (job_of graph.now.graph plan.now) (arc_value a))
+        batches.now }
     requires entries { (2 ≤ entries) × (entries ≤ 2 ^ 24) }
 {
     let (board, mut seat) = Board::open(alloc, graph, plan, entries).ok()?;
@@ -535,7 +586,7 @@ fn fills_up<R: Wait>(
 
 /// Whether a board fills up at each number of entries from 2 to 18.
 fn all_fill_up<R: Wait>(rt: &R, alloc: Global, graph: &Graph, plan: &Plan) -> Option<bool>
-    requires { IsJob (record { graph = graph.now.graph; plan = plan.now }) }
+    requires { IsJob (job_of graph.now.graph plan.now) }
 {
     let batches = eight_batches(alloc, graph, plan)?;
     let mut all = true;
@@ -566,8 +617,9 @@ fn post_from<R: Wait>(
     source: u16,
 ) -> (usize, Seat)
     requires board { IsAt board.now seat }
-    requires job { seat.seen.job ≡ record { graph = graph.now.graph; plan = plan.now } }
-    requires batches { All (λ a. arc_value a ≡ true_batch (record { graph = graph.now.graph; plan = plan.now }) (arc_value a).name) batches.now }
+    requires job { seat.seen.job ≡ job_of graph.now.graph plan.now }
+    requires batches { All (λ a. IsTrueIn (job_of graph.now.graph plan.now) (arc_value a))
+        batches.now }
     ensures { IsAt board.now result.1 }
 {
     let mut news = 0usize;
@@ -591,7 +643,7 @@ fn calls_of_threads<R: Threads + Wait + Sync>(
     graph: &Graph,
     plan: &Plan,
 ) -> Option<(usize, usize, u64, usize, u64)>
-    requires { IsJob (record { graph = graph.now.graph; plan = plan.now }) }
+    requires { IsJob (job_of graph.now.graph plan.now) }
 {
     let batches = eight_batches(alloc, graph, plan)?;
     let (board, mut a) = Board::open(alloc, graph, plan, 17).ok()?;
@@ -600,14 +652,16 @@ fn calls_of_threads<R: Threads + Wait + Sync>(
         rt,
         || -> (usize, Seat)
             requires board { IsAt board a }
-            requires job { a.seen.job ≡ record { graph = graph.now.graph; plan = plan.now } }
-            requires batches { All (λ a. arc_value a ≡ true_batch (record { graph = graph.now.graph; plan = plan.now }) (arc_value a).name) batches.items }
+            requires job { a.seen.job ≡ job_of graph.now.graph plan.now }
+            requires batches { All (λ a. IsTrueIn (job_of graph.now.graph plan.now) (arc_value a))
+                batches.items }
             ensures { IsAt board result.1 }
         { post_from(rt, &board, a, graph, plan, &batches, 0) },
         || -> (usize, Seat)
             requires board { IsAt board b }
-            requires job { b.seen.job ≡ record { graph = graph.now.graph; plan = plan.now } }
-            requires batches { All (λ a. arc_value a ≡ true_batch (record { graph = graph.now.graph; plan = plan.now }) (arc_value a).name) batches.items }
+            requires job { b.seen.job ≡ job_of graph.now.graph plan.now }
+            requires batches { All (λ a. IsTrueIn (job_of graph.now.graph plan.now) (arc_value a))
+                batches.items }
             ensures { IsAt board result.1 }
         { post_from(rt, &board, b, graph, plan, &batches, 1) },
     );
@@ -631,8 +685,8 @@ fn two_threads_post(rt: HostRuntime) -> Result<(), Fail> {
 
 /// What a replica has.
 fn snapshot_of(alloc: Global, graph: &Graph, plan: &Plan, from: &Replica) -> Option<Arc<Snapshot>>
-    requires { Stands (record { graph = graph.now.graph; plan = plan.now }) from.now }
-    ensures { IfSome result (λ a. Stands (record { graph = graph.now.graph; plan = plan.now }) (arc_value a)) }
+    requires { Stands (job_of graph.now.graph plan.now) from.now }
+    ensures { IfSome result (λ a. Stands (job_of graph.now.graph plan.now) (arc_value a)) }
 {
     let Ok(snapshot) = from.snapshot(alloc) else {
         return None;
@@ -651,9 +705,11 @@ fn add_snapshot(
     from: &Replica,
     snapshots: &mut Vec<Arc<Snapshot>>,
 ) -> Option<()>
-    requires from { Stands (record { graph = graph.now.graph; plan = plan.now }) from.now }
-    requires snapshots { All (λ a. Stands (record { graph = graph.now.graph; plan = plan.now }) (arc_value a)) snapshots.old.items }
-    ensures { OnSome result (All (λ a. Stands (record { graph = graph.now.graph; plan = plan.now }) (arc_value a)) snapshots.new.items) }
+    requires from { Stands (job_of graph.now.graph plan.now) from.now }
+    requires snapshots { All (λ a. Stands (job_of graph.now.graph plan.now) (arc_value a))
+        snapshots.old.items }
+    ensures { OnSome result
+        (All (λ a. Stands (job_of graph.now.graph plan.now) (arc_value a)) snapshots.new.items) }
 {
     let snapshot = snapshot_of(alloc, graph, plan, from)?;
     let Ok(()) = snapshots.push(snapshot) else {
@@ -662,21 +718,41 @@ fn add_snapshot(
     Some(())
 }
 
+/// Adds what the first replica has at four supersteps.
+fn add_four(
+    alloc: Global,
+    graph: &Graph,
+    plan: &Plan,
+    first: &mut Replica,
+    second: &mut Replica,
+    snapshots: &mut Vec<Arc<Snapshot>>,
+) -> Option<()>
+    requires first { Stands (job_of graph.now.graph plan.now) first.old }
+    requires second { Stands (job_of graph.now.graph plan.now) second.old }
+    requires snapshots { All (λ a. Stands (job_of graph.now.graph plan.now) (arc_value a))
+        snapshots.old.items }
+    ensures { OnSome result
+        (All (λ a. Stands (job_of graph.now.graph plan.now) (arc_value a)) snapshots.new.items) }
+{
+    add_snapshot(alloc, graph, plan, first, snapshots)?;
+    advance(alloc, graph, plan, first, second)?;
+    add_snapshot(alloc, graph, plan, first, snapshots)?;
+    advance(alloc, graph, plan, first, second)?;
+    add_snapshot(alloc, graph, plan, first, snapshots)?;
+    advance(alloc, graph, plan, first, second)?;
+    add_snapshot(alloc, graph, plan, first, snapshots)
+}
+
 /// What partition 0 has at supersteps 0 to 3.
 fn four_snapshots(alloc: Global, graph: &Graph, plan: &Plan) -> Option<Vec<Arc<Snapshot>>>
-    requires { IsJob (record { graph = graph.now.graph; plan = plan.now }) }
-    ensures { IfSome result (λ v. All (λ a. Stands (record { graph = graph.now.graph; plan = plan.now }) (arc_value a)) v.items) }
+    requires { IsJob (job_of graph.now.graph plan.now) }
+    ensures { IfSome result
+        (λ v. All (λ a. Stands (job_of graph.now.graph plan.now) (arc_value a)) v.items) }
 {
     let mut first = replica(alloc, graph, plan, 0)?;
     let mut second = replica(alloc, graph, plan, 1)?;
     let mut snapshots = Vec::new(alloc);
-    add_snapshot(alloc, graph, plan, &first, &mut snapshots)?;
-    advance(alloc, graph, plan, &mut first, &mut second)?;
-    add_snapshot(alloc, graph, plan, &first, &mut snapshots)?;
-    advance(alloc, graph, plan, &mut first, &mut second)?;
-    add_snapshot(alloc, graph, plan, &first, &mut snapshots)?;
-    advance(alloc, graph, plan, &mut first, &mut second)?;
-    add_snapshot(alloc, graph, plan, &first, &mut snapshots)?;
+    add_four(alloc, graph, plan, &mut first, &mut second, &mut snapshots)?;
     Some(snapshots)
 }
 
@@ -690,10 +766,10 @@ fn keep_one<R: Wait>(
     snapshot: &Arc<Snapshot>,
 ) -> (bool, bool)
     requires board { IsAt board.now seat.old }
-    requires job { seat.old.seen.job ≡ record { graph = graph.now.graph; plan = plan.now } }
-    requires snapshot { Stands (record { graph = graph.now.graph; plan = plan.now }) (arc_value snapshot.now) }
+    requires job { seat.old.seen.job ≡ job_of graph.now.graph plan.now }
+    requires snapshot { Stands (job_of graph.now.graph plan.now) (arc_value snapshot.now) }
     ensures board { IsAt board.now seat.new }
-    ensures job { seat.new.seen.job ≡ record { graph = graph.now.graph; plan = plan.now } }
+    ensures job { seat.new.seen.job ≡ job_of graph.now.graph plan.now }
 {
     let superstep = snapshot.superstep();
     let Ok(copy) = Arc::try_clone(snapshot) else {
@@ -717,10 +793,11 @@ fn keep_all<R: Wait>(
     snapshots: &[Arc<Snapshot>],
 ) -> (usize, usize)
     requires board { IsAt board.now seat.old }
-    requires job { seat.old.seen.job ≡ record { graph = graph.now.graph; plan = plan.now } }
-    requires snapshots { All (λ a. Stands (record { graph = graph.now.graph; plan = plan.now }) (arc_value a)) snapshots.now }
+    requires job { seat.old.seen.job ≡ job_of graph.now.graph plan.now }
+    requires snapshots { All (λ a. Stands (job_of graph.now.graph plan.now) (arc_value a))
+        snapshots.now }
     ensures board { IsAt board.now seat.new }
-    ensures job { seat.new.seen.job ≡ record { graph = graph.now.graph; plan = plan.now } }
+    ensures job { seat.new.seen.job ≡ job_of graph.now.graph plan.now }
 {
     let mut news = 0usize;
     let mut recalled = 0usize;
@@ -772,9 +849,11 @@ fn work<R: Wait>(
     stock: &Stock,
 ) -> Done
     requires board { IsAt board.now seat }
-    requires job { seat.seen.job ≡ record { graph = graph.now.graph; plan = plan.now } }
-    requires batches { All (λ a. arc_value a ≡ true_batch (record { graph = graph.now.graph; plan = plan.now }) (arc_value a).name) stock.now.batches.items }
-    requires snapshots { All (λ a. Stands (record { graph = graph.now.graph; plan = plan.now }) (arc_value a)) stock.now.snapshots.items }
+    requires job { seat.seen.job ≡ job_of graph.now.graph plan.now }
+    requires batches { All (λ a. IsTrueIn (job_of graph.now.graph plan.now) (arc_value a))
+        stock.now.batches.items }
+    requires snapshots { All (λ a. Stands (job_of graph.now.graph plan.now) (arc_value a))
+        stock.now.snapshots.items }
 {
     let posts = stock.batches.len() as u64;
     let keeps = stock.snapshots.len();
@@ -809,9 +888,11 @@ fn crowd<R: Threads + Wait + Sync>(
     others: u8,
 ) -> Done
     requires board { IsAt board.now seat }
-    requires job { seat.seen.job ≡ record { graph = graph.now.graph; plan = plan.now } }
-    requires batches { All (λ a. arc_value a ≡ true_batch (record { graph = graph.now.graph; plan = plan.now }) (arc_value a).name) stock.now.batches.items }
-    requires snapshots { All (λ a. Stands (record { graph = graph.now.graph; plan = plan.now }) (arc_value a)) stock.now.snapshots.items }
+    requires job { seat.seen.job ≡ job_of graph.now.graph plan.now }
+    requires batches { All (λ a. IsTrueIn (job_of graph.now.graph plan.now) (arc_value a))
+        stock.now.batches.items }
+    requires snapshots { All (λ a. Stands (job_of graph.now.graph plan.now) (arc_value a))
+        stock.now.snapshots.items }
     requires room { (seat.room ≤ 2 ^ 63) × (others * 2 ^ 53 ≤ seat.room) }
 {
     if others == 0 {
@@ -823,15 +904,19 @@ fn crowd<R: Threads + Wait + Sync>(
         rt,
         || -> Done
             requires board { IsAt board.now other }
-            requires job { other.seen.job ≡ record { graph = graph.now.graph; plan = plan.now } }
-            requires batches { All (λ a. arc_value a ≡ true_batch (record { graph = graph.now.graph; plan = plan.now }) (arc_value a).name) stock.now.batches.items }
-            requires snapshots { All (λ a. Stands (record { graph = graph.now.graph; plan = plan.now }) (arc_value a)) stock.now.snapshots.items }
+            requires job { other.seen.job ≡ job_of graph.now.graph plan.now }
+            requires batches { All (λ a. IsTrueIn (job_of graph.now.graph plan.now) (arc_value a))
+                stock.now.batches.items }
+            requires snapshots { All (λ a. Stands (job_of graph.now.graph plan.now) (arc_value a))
+                stock.now.snapshots.items }
         { work(rt, board, other, graph, plan, stock) },
         || -> Done
             requires board { IsAt board.now seat }
-            requires job { seat.seen.job ≡ record { graph = graph.now.graph; plan = plan.now } }
-            requires batches { All (λ a. arc_value a ≡ true_batch (record { graph = graph.now.graph; plan = plan.now }) (arc_value a).name) stock.now.batches.items }
-            requires snapshots { All (λ a. Stands (record { graph = graph.now.graph; plan = plan.now }) (arc_value a)) stock.now.snapshots.items }
+            requires job { seat.seen.job ≡ job_of graph.now.graph plan.now }
+            requires batches { All (λ a. IsTrueIn (job_of graph.now.graph plan.now) (arc_value a))
+                stock.now.batches.items }
+            requires snapshots { All (λ a. Stands (job_of graph.now.graph plan.now) (arc_value a))
+                stock.now.snapshots.items }
             requires room { (seat.room ≤ 2 ^ 63) × (fewer * 2 ^ 53 ≤ seat.room) }
         { crowd(rt, board, seat, graph, plan, stock, fewer) },
     );
@@ -847,7 +932,7 @@ fn is_right_crowd<R: Threads + Wait + Sync>(
     plan: &Plan,
     threads: u8,
 ) -> Option<bool>
-    requires job { IsJob (record { graph = graph.now.graph; plan = plan.now }) }
+    requires job { IsJob (job_of graph.now.graph plan.now) }
     requires threads { 1 ≤ threads }
 {
     let stock = Stock {
@@ -869,7 +954,7 @@ fn are_right_crowds<R: Threads + Wait + Sync>(
     graph: &Graph,
     plan: &Plan,
 ) -> Option<bool>
-    requires { IsJob (record { graph = graph.now.graph; plan = plan.now }) }
+    requires { IsJob (job_of graph.now.graph plan.now) }
 {
     let few = is_right_crowd(rt, alloc, graph, plan, 4)?;
     let some = is_right_crowd(rt, alloc, graph, plan, 8)?;

@@ -16,19 +16,23 @@ const LOOKS: u32 = 64;
 
 /// Looks at the length.
 pub fn count(room: &Room, pass: &mut Pass) -> u64
-    requires room { IsSized room.now.shared.table_id × (pass.old.table_id ≡ room.now.shared.table_id) }
+    requires room { IsSized room.now.shared.table_id
+        × (pass.old.table_id ≡ room.now.shared.table_id) }
     requires idle { (pass.old.me.0.stage ≡ 0) × (0 < pass.old.me.0.room) × (pass.old.me.1 ≡ []) }
     ensures same { (pass.new.table_id ≡ pass.old.table_id) × (pass.new.id ≡ pass.old.id) }
     ensures length { result ≡ entries_of pass.new.me.0.seen }
-    ensures seen { GoesOn pass.old.me.0 pass.new.me.0.seen × (pass.new.me ≡ (at_look pass.old.me.0 pass.new.me.0.seen, [])) }
-    ensures told { (t : Told) → pass.old.me.0.told ≡ Some t → Begins t.seen pass.new.me.0.seen × (calls_by t.number pass.new.me.0.seen ≡ calls_by t.number t.seen) }
+    ensures seen { GoesOn pass.old.me.0 pass.new.me.0.seen
+        × (pass.new.me ≡ (at_look pass.old.me.0 pass.new.me.0.seen, [])) }
+    ensures told { (t : Told) → pass.old.me.0.told ≡ Some t → Begins t.seen pass.new.me.0.seen
+        × (calls_by t.number pass.new.me.0.seen ≡ calls_by t.number t.seen) }
 {
     room.shared.load::<Counts>(pass, LENGTH)
 }
 
 // Draws a ticket.
 fn draw(room: &Room, pass: &mut Pass) -> u64
-    requires room { IsSized room.now.shared.table_id × (pass.old.table_id ≡ room.now.shared.table_id) }
+    requires room { IsSized room.now.shared.table_id
+        × (pass.old.table_id ≡ room.now.shared.table_id) }
     requires idle { (pass.old.me.0.stage ≡ 0) × (0 < pass.old.me.0.room) × (pass.old.me.1 ≡ []) }
     ensures same { (pass.new.table_id ≡ pass.old.table_id) × (pass.new.id ≡ pass.old.id) }
     ensures drew { pass.new.me ≡ (with_ticket pass.old.me.0 pass.new.me.0.ticket, []) }
@@ -39,10 +43,13 @@ fn draw(room: &Room, pass: &mut Pass) -> u64
 
 // Waits until it is the seat's turn.
 fn wait<R: Wait>(rt: &R, room: &Room, pass: &mut Pass, ticket: u64)
-    requires room { IsSized room.now.shared.table_id × (pass.old.table_id ≡ room.now.shared.table_id) }
-    requires waits { (pass.old.me.0.stage ≡ 1) × (pass.old.me.1 ≡ []) × (ticket ≡ pass.old.me.0.ticket % 2 ^ 64) }
+    requires room { IsSized room.now.shared.table_id
+        × (pass.old.table_id ≡ room.now.shared.table_id) }
+    requires waits { (pass.old.me.0.stage ≡ 1) × (pass.old.me.1 ≡ [])
+        × (ticket ≡ pass.old.me.0.ticket % 2 ^ 64) }
     ensures same { (pass.new.table_id ≡ pass.old.table_id) × (pass.new.id ≡ pass.old.id) }
-    ensures turn { GoesOn pass.old.me.0 pass.new.me.0.seen × (pass.new.me ≡ (at_turn pass.old.me.0 pass.new.me.0.seen, (0, Some pass.new.me.0.seen) ∷ [])) }
+    ensures turn { GoesOn pass.old.me.0 pass.new.me.0.seen × (pass.new.me
+        ≡ (at_turn pass.old.me.0 pass.new.me.0.seen, (0, Some pass.new.me.0.seen) ∷ [])) }
 {
     let mut looks = 0;
     for _ in rt.forever() {
@@ -66,10 +73,13 @@ fn pause(looks: u32) -> u32 {
 
 /// Takes the book, once it is the seat's turn.
 pub fn take<R: Wait>(rt: &R, room: &Room, pass: &mut Pass) -> Book
-    requires room { IsSized room.now.shared.table_id × (pass.old.table_id ≡ room.now.shared.table_id) }
+    requires room { IsSized room.now.shared.table_id
+        × (pass.old.table_id ≡ room.now.shared.table_id) }
     requires idle { (pass.old.me.0.stage ≡ 0) × (0 < pass.old.me.0.room) × (pass.old.me.1 ≡ []) }
     ensures same { (pass.new.table_id ≡ pass.old.table_id) × (pass.new.id ≡ pass.old.id) }
-    ensures kept { (pass.new.me.0.number ≡ pass.old.me.0.number) × (pass.new.me.0.room ≡ pass.old.me.0.room) × (pass.new.me.0.told ≡ pass.old.me.0.told) × (pass.new.me.0.limit ≡ pass.old.me.0.limit) }
+    ensures kept { (pass.new.me.0.number ≡ pass.old.me.0.number)
+        × (pass.new.me.0.room ≡ pass.old.me.0.room) × (pass.new.me.0.told ≡ pass.old.me.0.told)
+        × (pass.new.me.0.limit ≡ pass.old.me.0.limit) }
     ensures turn { (pass.new.me.0.stage ≡ 2) × (pass.new.me.1 ≡ (0, None) ∷ []) }
     ensures book { (result ≡ pass.new.me.0.seen) × GoesOn pass.old.me.0 result }
 {
@@ -86,7 +96,8 @@ pub fn take<R: Wait>(rt: &R, room: &Room, pass: &mut Pass) -> Book
 /// The book is put into the slot before the length is written; no other seat can reach it there until `serving` is
 /// raised, which is the last step.
 pub fn give(room: &Room, pass: &mut Pass, book: Book)
-    requires room { IsSized room.now.shared.table_id × (pass.old.table_id ≡ room.now.shared.table_id) }
+    requires room { IsSized room.now.shared.table_id
+        × (pass.old.table_id ≡ room.now.shared.table_id) }
     requires turn { (pass.old.me.0.stage ≡ 2) × (pass.old.me.1 ≡ (0, None) ∷ []) }
     requires next { Next pass.old.me.0 book }
     ensures same { (pass.new.table_id ≡ pass.old.table_id) × (pass.new.id ≡ pass.old.id) }

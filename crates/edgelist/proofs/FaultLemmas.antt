@@ -5,11 +5,12 @@ use Rattle.std.specs.List.{range_with_len}
 use Rattle.std.proofs.lemmas.Bool.{cases_lt}
 use Rattle.std.proofs.lemmas.List.{get_or_append_left, length-append, take-append-le}
 use Rattle.ball_model.specs.Input.{Limits, Refusal, TooManyEdges, Fields, TooManyVertices, has_form, labels_of, fault_at, first_of, read_as}
-use Rattle.edgelist.specs.Pairs.{AllBelow, graph_of_pairs}
-use Rattle.edgelist.specs.Reading.{with_label, IsReadAs, AddsPair, Exceeds, IsClean, Adds, Stops, FaultIs, Refuses}
+use Rattle.edgelist.specs.Edges.{AllBelow, edge_of, graph_of_edges}
+use Rattle.edgelist.specs.declared.edge.Edge.{Edge}
+use Rattle.edgelist.specs.Reading.{with_label, IsReadAs, AddsEdge, Exceeds, IsClean, Adds, Stops, FaultIs, Refuses}
 use Rattle.edgelist.specs.declared.read.EdgeError.{EdgeError}
 use Rattle.edgelist.specs.declared.read.EdgeError.TheVariants as refused
-use Rattle.edgelist.proofs.NetworkLemmas.{labels_of-one, labels_of-two, with_label-longer, below_more, read-one, read-two, pair-below, network-is}
+use Rattle.edgelist.proofs.NetworkLemmas.{labels_of-one, labels_of-two, with_label-longer, below_more, read-one, read-two, edge-below, network-is}
 
 abbrev Record : Type 0
 Record = List (List ℕ)
@@ -66,12 +67,12 @@ first-some f x a (suc n) (suc k) lt h here =
     rw (h a (omega arith)) (first-some f x (a + 1) n k (omega arith) (λ j less. h j (omega arith)) at)
 
 -- records with no fault are their network
-pub says-network : (limits : Limits) (records : List Record) (labels : List (List ℕ)) (pairs : List (ℕ × ℕ)) → IsClean limits records → IsReadAs records labels pairs →
-    read_as limits records ≡ Ok (record { graph = graph_of_pairs (length labels) pairs; labels = labels })
+pub says-network : (limits : Limits) (records : List Record) (labels : List (List ℕ)) (edges : List Edge) → IsClean limits records → IsReadAs records labels edges →
+    read_as limits records ≡ Ok (record { graph = graph_of_edges (length labels) edges; labels = labels })
 unfolding read_as
-says-network limits records labels pairs clean so =
+says-network limits records labels edges clean so =
     let none : first_of (map (fault_at limits records) (range_with_len 0 (length records))) ≡ None = first-none (fault_at limits records) 0 (length records) (λ k lt. clean.none k (omega arith)) in
-    rw none (ap Ok (network-is records labels pairs so))
+    rw none (ap Ok (network-is records labels edges so))
 
 says-fault : (limits : Limits) (records : List Record) (r : Record) (more : List Record) (x : Refusal) → IsClean limits records → fault_at limits (records ++ r ∷ more) (length records) ≡ Some x →
     read_as limits (records ++ r ∷ more) ≡ Err x
@@ -109,69 +110,69 @@ clean-more limits records r clean here = record {
 }
 
 -- what adding a record of one label gives
-adds-one : (limits : Limits) (n : ℕ) (a : List ℕ) (old new : List (List ℕ)) (pairs pairs' : List (ℕ × ℕ)) → n < limits.edges → has_form (a ∷ []) ≡ true → new ≡ with_label old a → pairs' ≡ pairs → length new ≤ limits.vertices →
-    Adds limits n (a ∷ []) old pairs new pairs'
-adds-one limits n a old new pairs pairs' lt form is same few = record {
-  reads = λ records so. read-one records old new pairs pairs' a so is same;
+adds-one : (limits : Limits) (n : ℕ) (a : List ℕ) (old new : List (List ℕ)) (edges edges' : List Edge) → n < limits.edges → has_form (a ∷ []) ≡ true → new ≡ with_label old a → edges' ≡ edges → length new ≤ limits.vertices →
+    Adds limits n (a ∷ []) old edges new edges'
+adds-one limits n a old new edges edges' lt form is same few = record {
+  reads = λ records so. read-one records old new edges edges' a so is same;
   passes = λ records at so.
       let all : labels_of (records ++ (a ∷ []) ∷ []) ≡ new = labels_of-one records a ∙ ap (λ (ls : List (List ℕ)). with_label ls a) (sym so.labels_are) ∙ sym is in
       rw (← at) (fault-none limits records (a ∷ []) [] (omega arith) form (omega (arith, ap length all)));
   within = λ h. record {
-    below = subst (λ (ps : List (ℕ × ℕ)). AllBelow (length new) ps) (sym same) (below_more (length old) (length new) pairs (omega (arith, with_label-longer old a, ap length is)) h.below);
+    below = subst (λ (ps : List Edge). AllBelow (length new) ps) (sym same) (below_more (length old) (length new) edges (omega (arith, with_label-longer old a, ap length is)) h.below);
     few_labels = few;
-    few_pairs = omega (arith, h.few_pairs, ap length same);
+    few_edges = omega (arith, h.few_edges, ap length same);
   };
 }
 
-adds-two : (limits : Limits) (n : ℕ) (a b : List ℕ) (old new : List (List ℕ)) (pairs pairs' : List (ℕ × ℕ)) → n < limits.edges → has_form (a ∷ b ∷ []) ≡ true → AddsPair a b old pairs new pairs' → length new ≤ limits.vertices →
-    Adds limits n (a ∷ b ∷ []) old pairs new pairs'
-adds-two limits n a b old new pairs pairs' lt form adds few = record {
-  reads = λ records so. read-two records old new pairs pairs' a b so adds;
+adds-two : (limits : Limits) (n : ℕ) (a b : List ℕ) (old new : List (List ℕ)) (edges edges' : List Edge) → n < limits.edges → has_form (a ∷ b ∷ []) ≡ true → AddsEdge a b old edges new edges' → length new ≤ limits.vertices →
+    Adds limits n (a ∷ b ∷ []) old edges new edges'
+adds-two limits n a b old new edges edges' lt form adds few = record {
+  reads = λ records so. read-two records old new edges edges' a b so adds;
   passes = λ records at so.
       let all : labels_of (records ++ (a ∷ b ∷ []) ∷ []) ≡ new = labels_of-two records a b ∙ ap (λ (ls : List (List ℕ)). with_label (with_label ls a) b) (sym so.labels_are) ∙ sym adds.labels_are in
       rw (← at) (fault-none limits records (a ∷ b ∷ []) [] (omega arith) form (omega (arith, ap length all)));
   within = λ h. record {
-    below = pair-below old new pairs pairs' a b adds h.below;
+    below = edge-below old new edges edges' a b adds h.below;
     few_labels = few;
-    few_pairs = omega (arith, h.few_pairs, ap length adds.pairs_are, length-append pairs ((adds.to, adds.from) ∷ []));
+    few_edges = omega (arith, h.few_edges, ap length adds.edges_are, length-append edges (edge_of adds.to adds.from ∷ []));
   };
 }
 
 -- the same, of an answer
-pub answer-one : {T : Type 0} (o : Result T EdgeError) (limits : Limits) (n : ℕ) (r : Record) (a : List ℕ) (old new : List (List ℕ)) (pairs pairs' : List (ℕ × ℕ)) → n < limits.edges → has_form r ≡ true → r ≡ a ∷ [] →
-    OnOk o (new ≡ with_label old a) → OnOk o (pairs' ≡ pairs) → OnOk o (length new ≤ limits.vertices) → OnOk o (Adds limits n r old pairs new pairs')
-answer-one (Ok t) limits n r a old new pairs pairs' lt form row is same few = rw row (adds-one limits n a old new pairs pairs' lt (rw row at form) is same few)
-answer-one (Err x) limits n r a old new pairs pairs' lt form row is same few = tt
+pub answer-one : {T : Type 0} (o : Result T EdgeError) (limits : Limits) (n : ℕ) (r : Record) (a : List ℕ) (old new : List (List ℕ)) (edges edges' : List Edge) → n < limits.edges → has_form r ≡ true → r ≡ a ∷ [] →
+    OnOk o (new ≡ with_label old a) → OnOk o (edges' ≡ edges) → OnOk o (length new ≤ limits.vertices) → OnOk o (Adds limits n r old edges new edges')
+answer-one (Ok t) limits n r a old new edges edges' lt form row is same few = rw row (adds-one limits n a old new edges edges' lt (rw row at form) is same few)
+answer-one (Err x) limits n r a old new edges edges' lt form row is same few = tt
 
-pub answer-two : {T : Type 0} (o : Result T EdgeError) (limits : Limits) (n : ℕ) (r : Record) (a b : List ℕ) (old new : List (List ℕ)) (pairs pairs' : List (ℕ × ℕ)) → n < limits.edges → has_form r ≡ true → r ≡ a ∷ b ∷ [] →
-    OnOk o (AddsPair a b old pairs new pairs') → OnOk o (length new ≤ limits.vertices) → OnOk o (Adds limits n r old pairs new pairs')
-answer-two (Ok t) limits n r a b old new pairs pairs' lt form row adds few = rw row (adds-two limits n a b old new pairs pairs' lt (rw row at form) adds few)
-answer-two (Err x) limits n r a b old new pairs pairs' lt form row adds few = tt
+pub answer-two : {T : Type 0} (o : Result T EdgeError) (limits : Limits) (n : ℕ) (r : Record) (a b : List ℕ) (old new : List (List ℕ)) (edges edges' : List Edge) → n < limits.edges → has_form r ≡ true → r ≡ a ∷ b ∷ [] →
+    OnOk o (AddsEdge a b old edges new edges') → OnOk o (length new ≤ limits.vertices) → OnOk o (Adds limits n r old edges new edges')
+answer-two (Ok t) limits n r a b old new edges edges' lt form row adds few = rw row (adds-two limits n a b old new edges edges' lt (rw row at form) adds few)
+answer-two (Err x) limits n r a b old new edges edges' lt form row adds few = tt
 
 -- the refusals
-pub stops-many : (limits : Limits) (n : ℕ) (r : Record) (old : List (List ℕ)) (pairs : List (ℕ × ℕ)) → limits.edges ≤ n → Stops limits n r old pairs refused.TooManyEdges
-stops-many limits n r old pairs le = record { at = λ records more is so. fault-many limits (records ++ r ∷ more) n le }
+pub stops-many : (limits : Limits) (n : ℕ) (r : Record) (old : List (List ℕ)) (edges : List Edge) → limits.edges ≤ n → Stops limits n r old edges refused.TooManyEdges
+stops-many limits n r old edges le = record { at = λ records more is so. fault-many limits (records ++ r ∷ more) n le }
 
-pub stops-form : (limits : Limits) (n : ℕ) (r : Record) (old : List (List ℕ)) (pairs : List (ℕ × ℕ)) → n < limits.edges → has_form r ≡ false → Stops limits n r old pairs (refused.Fields (n + 1))
-stops-form limits n r old pairs lt form = record { at = λ records more is so. rw (← is) (fault-form limits records r more (omega arith) form) }
+pub stops-form : (limits : Limits) (n : ℕ) (r : Record) (old : List (List ℕ)) (edges : List Edge) → n < limits.edges → has_form r ≡ false → Stops limits n r old edges (refused.Fields (n + 1))
+stops-form limits n r old edges lt form = record { at = λ records more is so. rw (← is) (fault-form limits records r more (omega arith) form) }
 
-exceeds-stops : (e : EdgeError) (limits : Limits) (n : ℕ) (r : Record) (old with_it : List (List ℕ)) (pairs : List (ℕ × ℕ)) → n < limits.edges → has_form r ≡ true →
-    ((records : List Record) → labels_of records ≡ old → labels_of (records ++ r ∷ []) ≡ with_it) → Exceeds limits.vertices with_it e → Stops limits n r old pairs e
-exceeds-stops refused.Read limits n r old with_it pairs lt form labels many = absurd many
-exceeds-stops refused.TooManyEdges limits n r old with_it pairs lt form labels many = absurd many
-exceeds-stops (refused.Fields k) limits n r old with_it pairs lt form labels many = absurd many
-exceeds-stops refused.TooManyVertices limits n r old with_it pairs lt form labels many =
+exceeds-stops : (e : EdgeError) (limits : Limits) (n : ℕ) (r : Record) (old with_it : List (List ℕ)) (edges : List Edge) → n < limits.edges → has_form r ≡ true →
+    ((records : List Record) → labels_of records ≡ old → labels_of (records ++ r ∷ []) ≡ with_it) → Exceeds limits.vertices with_it e → Stops limits n r old edges e
+exceeds-stops refused.Read limits n r old with_it edges lt form labels many = absurd many
+exceeds-stops refused.TooManyEdges limits n r old with_it edges lt form labels many = absurd many
+exceeds-stops (refused.Fields k) limits n r old with_it edges lt form labels many = absurd many
+exceeds-stops refused.TooManyVertices limits n r old with_it edges lt form labels many =
     record { at = λ records more is so. rw (← is) (fault-vertices limits records r more (omega arith) form (omega (arith, many, ap length (labels records (sym so.labels_are))))) }
-exceeds-stops refused.Memory limits n r old with_it pairs lt form labels many = record { at = λ records more is so. tt }
+exceeds-stops refused.Memory limits n r old with_it edges lt form labels many = record { at = λ records more is so. tt }
 
-pub stop-one : {T : Type 0} (o : Result T EdgeError) (limits : Limits) (n : ℕ) (r : Record) (a : List ℕ) (old : List (List ℕ)) (pairs : List (ℕ × ℕ)) → n < limits.edges → has_form r ≡ true → r ≡ a ∷ [] →
-    IfErr o (Exceeds limits.vertices (with_label old a)) → IfErr o (Stops limits n r old pairs)
-stop-one (Ok t) limits n r a old pairs lt form row many = tt
-stop-one (Err e) limits n r a old pairs lt form row many =
-    exceeds-stops e limits n r old (with_label old a) pairs lt form (λ records is. rw (row, labels_of-one records a, is) refl) many
+pub stop-one : {T : Type 0} (o : Result T EdgeError) (limits : Limits) (n : ℕ) (r : Record) (a : List ℕ) (old : List (List ℕ)) (edges : List Edge) → n < limits.edges → has_form r ≡ true → r ≡ a ∷ [] →
+    IfErr o (Exceeds limits.vertices (with_label old a)) → IfErr o (Stops limits n r old edges)
+stop-one (Ok t) limits n r a old edges lt form row many = tt
+stop-one (Err e) limits n r a old edges lt form row many =
+    exceeds-stops e limits n r old (with_label old a) edges lt form (λ records is. rw (row, labels_of-one records a, is) refl) many
 
-pub stop-two : {T : Type 0} (o : Result T EdgeError) (limits : Limits) (n : ℕ) (r : Record) (a b : List ℕ) (old : List (List ℕ)) (pairs : List (ℕ × ℕ)) → n < limits.edges → has_form r ≡ true → r ≡ a ∷ b ∷ [] →
-    IfErr o (Exceeds limits.vertices (with_label (with_label old a) b)) → IfErr o (Stops limits n r old pairs)
-stop-two (Ok t) limits n r a b old pairs lt form row many = tt
-stop-two (Err e) limits n r a b old pairs lt form row many =
-    exceeds-stops e limits n r old (with_label (with_label old a) b) pairs lt form (λ records is. rw (row, labels_of-two records a b, is) refl) many
+pub stop-two : {T : Type 0} (o : Result T EdgeError) (limits : Limits) (n : ℕ) (r : Record) (a b : List ℕ) (old : List (List ℕ)) (edges : List Edge) → n < limits.edges → has_form r ≡ true → r ≡ a ∷ b ∷ [] →
+    IfErr o (Exceeds limits.vertices (with_label (with_label old a) b)) → IfErr o (Stops limits n r old edges)
+stop-two (Ok t) limits n r a b old edges lt form row many = tt
+stop-two (Err e) limits n r a b old edges lt form row many =
+    exceeds-stops e limits n r old (with_label (with_label old a) b) edges lt form (λ records is. rw (row, labels_of-two records a b, is) refl) many

@@ -1,20 +1,22 @@
 -- What an edge list's network means.
-use Rattle.std.proofs.Common.{◌≡◌, ◌∙◌, ℕ, zero, suc, ◌+◌, ◌<◌, Bool, true, false, not, ◌||◌, ◌==◌, List, [], ◌∷◌, length, map, get_or, refl, ap, arith, sym, subst}
+use Rattle.std.proofs.Common.{◌≡◌, ◌∙◌, ℕ, zero, suc, ◌+◌, ◌<◌, Bool, true, false, not, ◌&&◌, ◌||◌, ◌==◌, nat_eq, List, [], ◌∷◌, ◌++◌, length, map, get_or, refl, ap, ap₂, arith, sym, subst}
 use Rattle.std.specs.List.{list_any, filter, flat_map, range_with_len, position_or_len, AllByRecursion}
 use Rattle.std.specs.Str.{bytes_eq}
 use Rattle.std.specs.Cmp.Lexicographic.{same_text}
 use Rattle.std.proofs.lemmas.List.{length-map}
+use Rattle.std.proofs.lemmas.Bool.{eqb-true}
 use Rattle.std.proofs.lemmas.List.Folds.{list_any-append}
+use Rattle.std.proofs.lemmas.List.Sums.{passes_at_first}
 use Rattle.std.proofs.lemmas.List.FromFn.{length-range_with_len, get_or-map-range_with_len}
 use Rattle.ball_model.specs.Graph.{Graph, IsGraph, is_edge}
 use Rattle.ball_model.specs.Input.{distinct, labels_of, leads, network_of}
-use Rattle.edgelist.specs.Laws.{LabelsAreDistinct, LabelsAreInOrder, LabelsAreFields, EdgesAreNamed, EdgesStandOnce, DeclaringAddsNoEdge, label_at}
+use Rattle.edgelist.specs.Laws.{LabelsAreDistinct, LabelsAreInOrder, LabelsAreFields, EdgesAreNamed, EdgesStandOnce, DeclaringAddsNoEdge, joins, label_at, vertex_at}
 use Rattle.edgelist.specs.Links.{AllAscend, graph_of}
 use Rattle.edgelist.proofs.BoolLemmas.{by_cases}
 use Rattle.edgelist.proofs.LabelLemmas.{text_same, text-flip}
 use Rattle.edgelist.proofs.LinksLemmas.{any_edges, edges_by, graph_of-IsGraph}
 use Rattle.edgelist.proofs.NetworkLemmas.{apart-labels, apart-at}
-use Rattle.edgelist.proofs.PairLemmas.{filter-ascends}
+use Rattle.edgelist.proofs.EdgeLemmas.{filter-ascends}
 use Rattle.edgelist.proofs.RangeLemmas.{filter-has, filter-all}
 
 pub labels_are_distinct : LabelsAreDistinct
@@ -160,6 +162,107 @@ pub edges_stand_once : EdgesStandOnce
 unfolding network_of
 edges_stand_once records = lists-IsGraph (leads_to records) (length (labels_of records))
 
+-- the first place of a text that a list has
+place-within : (p : List ℕ → Bool) (xs : List (List ℕ)) → list_any p xs ≡ true → position_or_len p xs < length xs
+place-within p [] e = absurd (cc)
+place-within p (x ∷ xs) e =
+    by_cases (p x) _
+    (λ t. rw t (omega arith))
+    (λ f. rw f (omega (arith, place-within p xs (rw f at e))))
+
+place-none : (p : List ℕ → Bool) (xs : List (List ℕ)) → list_any p xs ≡ false → position_or_len p xs ≡ length xs
+place-none p [] e = refl
+place-none p (x ∷ xs) e =
+    by_cases (p x) _
+    (λ t. absurd (let bad = rw t at e in cc))
+    (λ f. rw f (omega (arith, place-none p xs (rw f at e))))
+
+-- no edge has an end that is no vertex
+edge-none : (es : List (ℕ × ℕ)) (n y x : ℕ) → AllByRecursion (λ e. (e.0 < n) × (e.1 < n)) es → (y < n → x < n → ⊥) → list_any (λ e. (e.0 == y) && (e.1 == x)) es ≡ false
+edge-none [] n y x all past = refl
+edge-none (e ∷ es) n y x all past =
+    by_cases (nat_eq e.0 y) _
+    (λ t. by_cases (nat_eq e.1 x) _
+    (λ u.
+    let from : e.0 ≡ y = eqb-true e.0 y t in
+    let to : e.1 ≡ x = eqb-true e.1 x u in
+    absurd (past (omega (arith, from, all.0.0)) (omega (arith, to, all.0.1))))
+    (λ f. rw (t, f) (edge-none es n y x all.1 past)))
+    (λ f. rw f (edge-none es n y x all.1 past))
+
+-- the labels that a record leads from and to are fields of it
+leads-from : (r : List (List ℕ)) (from to : List ℕ) → leads from to r ≡ true → list_any (bytes_eq from) r ≡ true
+leads-from [] from to e = absurd (cc)
+leads-from (a ∷ []) from to e = absurd (cc)
+leads-from (a ∷ b ∷ more) from to e =
+    by_cases (bytes_eq a from) _
+    (λ t. let on : bytes_eq from a ≡ true = text-flip from a ∙ t in rw on refl)
+    (λ f. absurd (let bad = rw f at e in cc))
+
+leads-to : (r : List (List ℕ)) (from to : List ℕ) → leads from to r ≡ true → list_any (bytes_eq to) r ≡ true
+leads-to [] from to e = absurd (cc)
+leads-to (a ∷ []) from to e = absurd (cc)
+leads-to (a ∷ b ∷ more) from to e =
+    by_cases (bytes_eq a from) _
+    (λ t.
+    let last : bytes_eq b to ≡ true = rw t at e in
+    let on : bytes_eq to b ≡ true = text-flip to b ∙ last in
+    by_cases (bytes_eq to a) _ (λ u. rw u refl) (λ f. rw (f, on) refl))
+    (λ f. absurd (let bad = rw f at e in cc))
+
+or-by : (a b c : Bool) → (c ≡ true → a ≡ true) → (c ≡ false → b ≡ true) → (a || b) ≡ true
+or-by a b true f g = rw (f refl) refl
+or-by true b false f g = refl
+or-by false b false f g = g refl
+
+any-flat : (p : List ℕ → Bool) (q : List (List ℕ) → Bool) (rs : List (List (List ℕ))) → ((r : List (List ℕ)) → q r ≡ true → list_any p r ≡ true) → list_any q rs ≡ true → list_any p (flat_map (λ r. r) rs) ≡ true
+any-flat p q [] has e = absurd (cc)
+any-flat p q (r ∷ rs) has e =
+    list_any-append p r (flat_map (λ s. s) rs) ∙ or-by (list_any p r) (list_any p (flat_map (λ s. s) rs)) (q r) (has r) (λ f. any-flat p q rs has (rw f at e))
+
+never : (b : Bool) → (b ≡ true → ⊥) → b ≡ false
+never true f = absurd (f refl)
+never false f = refl
+
+-- between labels that are not both of vertices there is no edge
+joins-none : (records : List (List (List ℕ))) (from to : List ℕ) → (vertex_at records from < length (labels_of records) → vertex_at records to < length (labels_of records) → ⊥) → (list_any (leads from to) records ≡ true → ⊥) →
+    joins records from to ≡ list_any (leads from to) records
+unfolding network_of
+joins-none records from to past none =
+    edge-none (network_of records).graph.edges (length (labels_of records)) (vertex_at records from) (vertex_at records to) (edges_stand_once records).ends past
+    ∙ sym (never (list_any (leads from to) records) none)
+
+-- a label that is none of a vertex is no field
+no-field : (records : List (List (List ℕ))) (label : List ℕ) (q : List (List ℕ) → Bool) → ((r : List (List ℕ)) → q r ≡ true → list_any (bytes_eq label) r ≡ true) → list_any (bytes_eq label) (labels_of records) ≡ false → list_any q records ≡ true → ⊥
+no-field records label q has none e =
+    let bad : true ≡ false = sym (any-flat (bytes_eq label) q records has e) ∙ sym (labels_are_fields records label) ∙ none in
+    cc
+
+-- the vertex with a label that is one has that label
+vertex-label : (records : List (List (List ℕ))) (label : List ℕ) → list_any (bytes_eq label) (labels_of records) ≡ true → label_at records (vertex_at records label) ≡ label
+vertex-label records label t =
+    sym (same_text label (label_at records (vertex_at records label)) (sym (passes_at_first (bytes_eq label) (labels_of records) [] (place-within (bytes_eq label) (labels_of records) t))))
+
+-- there is an edge from the one label to the other exactly where some record leads from the one to the other
+joins-leads : (records : List (List (List ℕ))) (from to : List ℕ) → joins records from to ≡ list_any (leads from to) records
+joins-leads records from to =
+    by_cases (list_any (bytes_eq from) (labels_of records)) _
+    (λ t. by_cases (list_any (bytes_eq to) (labels_of records)) _
+    (λ u.
+    let lo = place-within (bytes_eq from) (labels_of records) t in
+    let hi = place-within (bytes_eq to) (labels_of records) u in
+    edges_are_named records (vertex_at records from) (vertex_at records to) lo hi
+    ∙ ap₂ (λ (a b : List ℕ). list_any (leads a b) records) (vertex-label records from t) (vertex-label records to u))
+    (λ f. joins-none records from to
+    (λ lo hi. omega (arith, place-none (bytes_eq to) (labels_of records) f, hi))
+    (no-field records to (leads from to) (λ r. leads-to r from to) f)))
+    (λ f. joins-none records from to
+    (λ lo hi. omega (arith, place-none (bytes_eq from) (labels_of records) f, lo))
+    (no-field records from (leads from to) (λ r. leads-from r from to) f))
+
 pub declaring_adds_no_edge : DeclaringAddsNoEdge
 declaring_adds_no_edge records more label from to =
-    list_any-append (leads from to) records ((label ∷ []) ∷ more) ∙ sym (list_any-append (leads from to) records more)
+    joins-leads (records ++ (label ∷ []) ∷ more) from to
+    ∙ list_any-append (leads from to) records ((label ∷ []) ∷ more)
+    ∙ sym (list_any-append (leads from to) records more)
+    ∙ sym (joins-leads (records ++ more) from to)

@@ -10,7 +10,7 @@ pub mod LoopLemmas
 pub mod FindLemmas
 pub mod CountLemmas
 pub mod LinksLemmas
-pub mod PairLemmas
+pub mod EdgeLemmas
 pub mod SortLemmas
 pub mod RangeLemmas
 pub mod DigestLemmas

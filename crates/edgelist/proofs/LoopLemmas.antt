@@ -7,30 +7,31 @@ use Rattle.csv.specs.declared.reader.Reader.{Reader}
 use Rattle.ball_model.specs.Input.{Limits, records, read_as}
 use Rattle.edgelist.specs.Records.{config, rows, is_row, IsLeft}
 use Rattle.edgelist.specs.Reading.{network_by, IsReadAs, IsClean, Adds, Stops, Refuses}
+use Rattle.edgelist.specs.declared.edge.Edge.{Edge}
 use Rattle.edgelist.specs.declared.read.EdgeError.{EdgeError}
 use Rattle.edgelist.proofs.NetworkLemmas.{read-none}
 use Rattle.edgelist.proofs.FaultLemmas.{says-network, says-refusal, clean-none, clean-more}
 
--- so many records were read, and the labels and pairs are theirs
-pub record Goes {R : Type 0} (rem : R → Option (List ℕ)) (d : ℕ) (limits : Limits) (n : ℕ) (text : List ℕ) (rdr : Reader R) (labels : List (List ℕ)) (pairs : List (ℕ × ℕ)) : Type 0 where
+-- so many records were read, and the labels and edges are theirs
+pub record Goes {R : Type 0} (rem : R → Option (List ℕ)) (d : ℕ) (limits : Limits) (n : ℕ) (text : List ℕ) (rdr : Reader R) (labels : List (List ℕ)) (edges : List Edge) : Type 0 where
   pub past : List (List (List ℕ))
   pub at : IsLeft rem d text past rdr
   pub count : length past ≡ n
-  pub so : IsReadAs past labels pairs
+  pub so : IsReadAs past labels edges
   pub clean : IsClean limits past
 
 pub goes-start : {R : Type 0} (rem : R → Option (List ℕ)) (d : ℕ) (limits : Limits) (text : List ℕ) (rdr : Reader R) → IsLeft rem d text [] rdr → Goes rem d limits 0 text rdr [] []
 goes-start rem d limits text rdr at = record { past = []; at = at; count = refl; so = read-none; clean = clean-none limits }
 
 -- the records so far are all
-pub goes-end : {R : Type 0} (rem : R → Option (List ℕ)) (d : ℕ) (limits : Limits) (n : ℕ) (text : List ℕ) (a : Reader R) (labels : List (List ℕ)) (pairs : List (ℕ × ℕ)) (goes : Goes rem d limits n text a labels pairs) →
-    records d text ≡ goes.past → read_as limits (records d text) ≡ Ok (network_by labels pairs)
-goes-end rem d limits n text a labels pairs goes whole = rw whole (says-network limits goes.past labels pairs goes.clean goes.so)
+pub goes-end : {R : Type 0} (rem : R → Option (List ℕ)) (d : ℕ) (limits : Limits) (n : ℕ) (text : List ℕ) (a : Reader R) (labels : List (List ℕ)) (edges : List Edge) (goes : Goes rem d limits n text a labels edges) →
+    records d text ≡ goes.past → read_as limits (records d text) ≡ Ok (network_by labels edges)
+goes-end rem d limits n text a labels edges goes whole = rw whole (says-network limits goes.past labels edges goes.clean goes.so)
 
 -- a record more that was added
-pub goes-more : {R : Type 0} (rem : R → Option (List ℕ)) (d : ℕ) (limits : Limits) (n : ℕ) (text : List ℕ) (a b : Reader R) (labels labels' : List (List ℕ)) (pairs pairs' : List (ℕ × ℕ)) (f : List (List ℕ)) (goes : Goes rem d limits n text a labels pairs) →
-    IsLeft rem d text (goes.past ++ f ∷ []) b → Adds limits n f labels pairs labels' pairs' → Goes rem d limits (n + 1) text b labels' pairs'
-goes-more rem d limits n text a b labels labels' pairs pairs' f goes at adds = record {
+pub goes-more : {R : Type 0} (rem : R → Option (List ℕ)) (d : ℕ) (limits : Limits) (n : ℕ) (text : List ℕ) (a b : Reader R) (labels labels' : List (List ℕ)) (edges edges' : List Edge) (f : List (List ℕ)) (goes : Goes rem d limits n text a labels edges) →
+    IsLeft rem d text (goes.past ++ f ∷ []) b → Adds limits n f labels edges labels' edges' → Goes rem d limits (n + 1) text b labels' edges'
+goes-more rem d limits n text a b labels labels' edges edges' f goes at adds = record {
   past = goes.past ++ f ∷ [];
   at = at;
   count = omega (arith, length-append goes.past (f ∷ []), goes.count);
@@ -39,9 +40,9 @@ goes-more rem d limits n text a b labels labels' pairs pairs' f goes at adds = r
 }
 
 -- a record more that was refused
-pub goes-stop : {R : Type 0} (rem : R → Option (List ℕ)) (d : ℕ) (limits : Limits) (n : ℕ) (text : List ℕ) (a b : Reader R) (labels : List (List ℕ)) (pairs : List (ℕ × ℕ)) (f : List (List ℕ)) (e : EdgeError) (goes : Goes rem d limits n text a labels pairs) →
-    IsLeft rem d text (goes.past ++ f ∷ []) b → Stops limits n f labels pairs e → Refuses (read_as limits (records d text)) e
-goes-stop rem d limits n text a b labels pairs f e goes at stops =
+pub goes-stop : {R : Type 0} (rem : R → Option (List ℕ)) (d : ℕ) (limits : Limits) (n : ℕ) (text : List ℕ) (a b : Reader R) (labels : List (List ℕ)) (edges : List Edge) (f : List (List ℕ)) (e : EdgeError) (goes : Goes rem d limits n text a labels edges) →
+    IsLeft rem d text (goes.past ++ f ∷ []) b → Stops limits n f labels edges e → Refuses (read_as limits (records d text)) e
+goes-stop rem d limits n text a b labels edges f e goes at stops =
     let more = filter is_row (rows (config d) b.state [] [] at.left) in
     let whole : records d text ≡ goes.past ++ f ∷ more = at.all ∙ append_assoc goes.past (f ∷ []) more in
     rw whole (says-refusal limits goes.past f more e goes.clean (rw goes.count (stops.at goes.past more goes.count goes.so)))

@@ -7,8 +7,9 @@ use Rattle.std.proofs.lemmas.List.{append-nil, append_assoc, get_or_append_left,
 use Rattle.std.proofs.lemmas.List.Elements.{filter-append}
 use Rattle.ball_model.specs.Input.{distinct, labels_of, leads, network_of}
 use Rattle.ball_model.proofs.PathLemmas.{same_bool, eq_true, same_true}
-use Rattle.edgelist.specs.Pairs.{AllBelow, graph_of_pairs}
-use Rattle.edgelist.specs.Reading.{with_label, pair_in, pairs_in, named, IsReadAs, AddsPair}
+use Rattle.edgelist.specs.Edges.{AllBelow, edge_of, graph_of_edges}
+use Rattle.edgelist.specs.declared.edge.Edge.{Edge}
+use Rattle.edgelist.specs.Reading.{with_label, pair_in, pairs_in, named, IsReadAs, AddsEdge}
 use Rattle.edgelist.proofs.BoolLemmas.{by_cases}
 use Rattle.edgelist.proofs.LabelLemmas.{text_same}
 use Rattle.edgelist.proofs.RangeLemmas.{filter_range-same}
@@ -73,45 +74,45 @@ longer_if false labels y = omega (arith, length-append labels (y ∷ []))
 pub with_label-longer : (labels : List (List ℕ)) (y : List ℕ) → length labels ≤ length (with_label labels y)
 with_label-longer labels y = longer_if (list_any (λ l. bytes_eq l y) labels) labels y
 
-named_same : (old new : List (List ℕ)) (pairs : List (ℕ × ℕ)) → ((k : ℕ) → k < length old → get_or new k [] ≡ get_or old k []) → AllBelow (length old) pairs → map (named new) pairs ≡ map (named old) pairs
+named_same : (old new : List (List ℕ)) (edges : List Edge) → ((k : ℕ) → k < length old → get_or new k [] ≡ get_or old k []) → AllBelow (length old) edges → map (named new) edges ≡ map (named old) edges
 named_same old new [] same below = refl
-named_same old new (e ∷ es) same below = rw (same e.0 below.0.0, same e.1 below.0.1, named_same old new es same below.1) refl
+named_same old new (e ∷ es) same below = rw (same e.target below.0.0, same e.source below.0.1, named_same old new es same below.1) refl
 
-pub below_more : (m n : ℕ) (pairs : List (ℕ × ℕ)) → m ≤ n → AllBelow m pairs → AllBelow n pairs
+pub below_more : (m n : ℕ) (edges : List Edge) → m ≤ n → AllBelow m edges → AllBelow n edges
 below_more m n [] le below = tt
 below_more m n (e ∷ es) le below = ((omega (arith, below.0.0), omega (arith, below.0.1)), below_more m n es le below.1)
 
-pub below_push : (n : ℕ) (pairs : List (ℕ × ℕ)) (i j : ℕ) → i < n → j < n → AllBelow n pairs → AllBelow n (pairs ++ (i, j) ∷ [])
+pub below_push : (n : ℕ) (edges : List Edge) (i j : ℕ) → i < n → j < n → AllBelow n edges → AllBelow n (edges ++ edge_of i j ∷ [])
 below_push n [] i j lo hi below = ((lo, hi), tt)
 below_push n (e ∷ es) i j lo hi below = (below.0, below_push n es i j lo hi below.1)
 
 pub read-none : IsReadAs [] [] []
 unfolding labels_of distinct pairs_in
-read-none = record { labels_are = refl; below = tt; pairs_are = refl }
+read-none = record { labels_are = refl; below = tt; edges_are = refl }
 
 -- a record of one label
-pub read-one : (records : List (List (List ℕ))) (old new : List (List ℕ)) (pairs pairs' : List (ℕ × ℕ)) (a : List ℕ) → IsReadAs records old pairs → new ≡ with_label old a → pairs' ≡ pairs →
-    IsReadAs (records ++ (a ∷ []) ∷ []) new pairs'
-read-one records old new pairs pairs' a so is same =
-    subst (λ (ps : List (ℕ × ℕ)). IsReadAs (records ++ (a ∷ []) ∷ []) new ps) (sym same) (record {
+pub read-one : (records : List (List (List ℕ))) (old new : List (List ℕ)) (edges edges' : List Edge) (a : List ℕ) → IsReadAs records old edges → new ≡ with_label old a → edges' ≡ edges →
+    IsReadAs (records ++ (a ∷ []) ∷ []) new edges'
+read-one records old new edges edges' a so is same =
+    subst (λ (ps : List Edge). IsReadAs (records ++ (a ∷ []) ∷ []) new ps) (sym same) (record {
       labels_are = is ∙ ap (λ (ls : List (List ℕ)). with_label ls a) so.labels_are ∙ sym (labels_of-one records a);
-      below = below_more (length old) (length new) pairs (omega (arith, with_label-longer old a, ap length is)) so.below;
-      pairs_are = named_same old new pairs (λ k lt. ap (λ (ls : List (List ℕ)). get_or ls k []) is ∙ with_label-at old a k lt) so.below ∙ so.pairs_are ∙ sym (append-nil (pairs_in records)) ∙ sym (pairs_push records (a ∷ []));
+      below = below_more (length old) (length new) edges (omega (arith, with_label-longer old a, ap length is)) so.below;
+      edges_are = named_same old new edges (λ k lt. ap (λ (ls : List (List ℕ)). get_or ls k []) is ∙ with_label-at old a k lt) so.below ∙ so.edges_are ∙ sym (append-nil (pairs_in records)) ∙ sym (pairs_push records (a ∷ []));
     })
 
 -- the ends of an added pair are labels
-pub pair-below : (old new : List (List ℕ)) (pairs pairs' : List (ℕ × ℕ)) (a b : List ℕ) → AddsPair a b old pairs new pairs' → AllBelow (length old) pairs → AllBelow (length new) pairs'
-pair-below old new pairs pairs' a b adds below =
+pub edge-below : (old new : List (List ℕ)) (edges edges' : List Edge) (a b : List ℕ) → AddsEdge a b old edges new edges' → AllBelow (length old) edges → AllBelow (length new) edges'
+edge-below old new edges edges' a b adds below =
     let mid = with_label old a in
     let longer_mid : length old ≤ length mid = with_label-longer old a in
     let longer_new : length mid ≤ length new = omega (arith, with_label-longer mid b, ap length adds.labels_are) in
-    subst (λ (ps : List (ℕ × ℕ)). AllBelow (length new) ps) (sym adds.pairs_are)
-    (below_push (length new) pairs adds.to adds.from adds.to_within (omega (arith, adds.from_within, longer_new)) (below_more (length old) (length new) pairs (omega arith) below))
+    subst (λ (ps : List Edge). AllBelow (length new) ps) (sym adds.edges_are)
+    (below_push (length new) edges adds.to adds.from adds.to_within (omega (arith, adds.from_within, longer_new)) (below_more (length old) (length new) edges (omega arith) below))
 
 -- a record of two labels
-pub read-two : (records : List (List (List ℕ))) (old new : List (List ℕ)) (pairs pairs' : List (ℕ × ℕ)) (a b : List ℕ) → IsReadAs records old pairs → AddsPair a b old pairs new pairs' →
-    IsReadAs (records ++ (a ∷ b ∷ []) ∷ []) new pairs'
-read-two records old new pairs pairs' a b so adds =
+pub read-two : (records : List (List (List ℕ))) (old new : List (List ℕ)) (edges edges' : List Edge) (a b : List ℕ) → IsReadAs records old edges → AddsEdge a b old edges new edges' →
+    IsReadAs (records ++ (a ∷ b ∷ []) ∷ []) new edges'
+read-two records old new edges edges' a b so adds =
     let mid = with_label old a in
     let i = adds.from in
     let j = adds.to in
@@ -121,13 +122,13 @@ read-two records old new pairs pairs' a b so adds =
     let keep : (k : ℕ) → k < length old → get_or new k [] ≡ get_or old k [] = λ k lt. keep_new k (omega arith) ∙ with_label-at old a k lt in
     let all_labels : new ≡ labels_of (records ++ (a ∷ b ∷ []) ∷ []) =
     adds.labels_are ∙ ap (λ (ls : List (List ℕ)). with_label (with_label ls a) b) so.labels_are ∙ sym (labels_of-two records a b) in
-    let here : named new (j, i) ≡ (b, a) = ap₂ (λ x y. (x, y)) adds.to_is (keep_new i adds.from_within ∙ adds.from_is) in
+    let here : named new (edge_of j i) ≡ (b, a) = ap₂ (λ x y. (x, y)) adds.to_is (keep_new i adds.from_within ∙ adds.from_is) in
     record {
       labels_are = all_labels;
-      below = pair-below old new pairs pairs' a b adds so.below;
-      pairs_are =
-          ap (map (named new)) adds.pairs_are ∙ map-append (named new) pairs ((j, i) ∷ [])
-          ∙ ap₂ (λ (xs ys : List (List ℕ × List ℕ)). xs ++ ys) (named_same old new pairs keep so.below ∙ so.pairs_are) (ap (λ (p : List ℕ × List ℕ). p ∷ []) here)
+      below = edge-below old new edges edges' a b adds so.below;
+      edges_are =
+          ap (map (named new)) adds.edges_are ∙ map-append (named new) edges (edge_of j i ∷ [])
+          ∙ ap₂ (λ (xs ys : List (List ℕ × List ℕ)). xs ++ ys) (named_same old new edges keep so.below ∙ so.edges_are) (ap (λ (p : List ℕ × List ℕ). p ∷ []) here)
           ∙ sym (pairs_push records (a ∷ b ∷ []));
     }
 
@@ -216,28 +217,28 @@ unfolding pairs_in
 leads_pairs [] from to = refl
 leads_pairs (r ∷ rs) from to = leads_one r from to (pairs_in rs) ∙ ap (λ b. leads from to r || b) (leads_pairs rs from to)
 
-numbers_any : (labels : List (List ℕ)) (pairs : List (ℕ × ℕ)) (x y : ℕ) → Apart labels → x < length labels → y < length labels → AllBelow (length labels) pairs →
-    list_any (λ p. bytes_eq p.0 (get_or labels x []) && bytes_eq p.1 (get_or labels y [])) (map (named labels) pairs) ≡ list_any (λ e. (e.0 == x) && (e.1 == y)) pairs
+numbers_any : (labels : List (List ℕ)) (edges : List Edge) (x y : ℕ) → Apart labels → x < length labels → y < length labels → AllBelow (length labels) edges →
+    list_any (λ p. bytes_eq p.0 (get_or labels x []) && bytes_eq p.1 (get_or labels y [])) (map (named labels) edges) ≡ list_any (λ e. (e.target == x) && (e.source == y)) edges
 numbers_any labels [] x y h lo hi below = refl
 numbers_any labels (e ∷ es) x y h lo hi below =
-    rw (label-eq labels e.0 x h below.0.0 lo, label-eq labels e.1 y h below.0.1 hi, numbers_any labels es x y h lo hi below.1) refl
+    rw (label-eq labels e.target x h below.0.0 lo, label-eq labels e.source y h below.0.1 hi, numbers_any labels es x y h lo hi below.1) refl
 
 edges_range-same : (f h : ℕ → List (ℕ × ℕ)) (a n bound : ℕ) → a + n ≤ bound → ((k : ℕ) → k < bound → f k ≡ h k) → flat_map f (range_with_len a n) ≡ flat_map h (range_with_len a n)
 edges_range-same f h a zero bound le e = refl
 edges_range-same f h a (suc n) bound le e = rw (e a (omega arith), edges_range-same f h (a + 1) n bound (omega arith) e) refl
 
 -- what is read is the network of the records
-pub network-is : (records : List (List (List ℕ))) (labels : List (List ℕ)) (pairs : List (ℕ × ℕ)) → IsReadAs records labels pairs →
-    network_of records ≡ record { graph = graph_of_pairs (length labels) pairs; labels = labels }
+pub network-is : (records : List (List (List ℕ))) (labels : List (List ℕ)) (edges : List Edge) → IsReadAs records labels edges →
+    network_of records ≡ record { graph = graph_of_edges (length labels) edges; labels = labels }
 unfolding network_of
-network-is records labels pairs so =
+network-is records labels edges so =
     let n = length labels in
     let h : Apart labels = subst Apart (sym so.labels_are) (apart-labels records) in
-    let one : (x y : ℕ) → x < n → y < n → list_any (leads (get_or labels y []) (get_or labels x [])) records ≡ list_any (λ e. (e.0 == x) && (e.1 == y)) pairs =
+    let one : (x y : ℕ) → x < n → y < n → list_any (leads (get_or labels y []) (get_or labels x [])) records ≡ list_any (λ e. (e.target == x) && (e.source == y)) edges =
     λ x y hi lo. sym (leads_pairs records (get_or labels y []) (get_or labels x []))
-    ∙ ap (list_any (λ p. bytes_eq p.0 (get_or labels x []) && bytes_eq p.1 (get_or labels y []))) (sym so.pairs_are)
-    ∙ numbers_any labels pairs x y h hi lo so.below in
-    let edges : flat_map (λ x. map (λ y. (y, x)) (filter (λ y. list_any (leads (get_or labels y []) (get_or labels x [])) records) (range_with_len 0 n))) (range_with_len 0 n)
-    ≡ flat_map (λ x. map (λ y. (y, x)) (filter (λ y. list_any (λ e. (e.0 == x) && (e.1 == y)) pairs) (range_with_len 0 n))) (range_with_len 0 n) =
+    ∙ ap (list_any (λ p. bytes_eq p.0 (get_or labels x []) && bytes_eq p.1 (get_or labels y []))) (sym so.edges_are)
+    ∙ numbers_any labels edges x y h hi lo so.below in
+    let same_edges : flat_map (λ x. map (λ y. (y, x)) (filter (λ y. list_any (leads (get_or labels y []) (get_or labels x [])) records) (range_with_len 0 n))) (range_with_len 0 n)
+    ≡ flat_map (λ x. map (λ y. (y, x)) (filter (λ y. list_any (λ e. (e.target == x) && (e.source == y)) edges) (range_with_len 0 n))) (range_with_len 0 n) =
     edges_range-same _ _ 0 n n (omega arith) (λ x hi. ap (map (λ y. (y, x))) (filter_range-same _ _ 0 n n (omega arith) (λ y lo. one x y hi lo))) in
-    rw (← so.labels_are, edges) refl
+    rw (← so.labels_are, same_edges) refl

@@ -1,16 +1,18 @@
 -- The lists of a partition's vertices.
-use Rattle.std.proofs.Common.{◌≡◌, ◌∙◌, ℕ, suc, ◌+◌, ◌-◌, ◌%◌, ◌<◌, ◌≤◌, Bool, true, false, ◌==◌, List, [], ◌∷◌, ◌++◌, length, map, get_or, refl, ap, arith, sym, tests}
+use Rattle.std.proofs.Common.{◌≡◌, ◌∙◌, ℕ, zero, suc, ◌+◌, ◌-◌, ◌%◌, ◌<◌, ◌≤◌, Bool, true, false, ◌==◌, List, [], ◌∷◌, ◌++◌, length, map, get_or, refl, ap, subst, arith, sym, tests}
 use Rattle.std.specs.List.{filter, flat_map, range_with_len, All}
-use Rattle.std.proofs.lemmas.List.{append-nil, length-append, length-map, get_or-map}
+use Rattle.std.proofs.lemmas.List.{append-nil, length-append, length-map, get_or-map, ext_get_or}
 use Rattle.std.proofs.lemmas.List.Elements.{filter-append}
+use Rattle.std.proofs.lemmas.List.FromFn.{get_or-map-range_with_len, length-map-range_with_len}
 use Rattle.ball_model.specs.Graph.{Graph, IsGraph, is_edge, is_counted, preds_of, listed_edges}
 use Rattle.ball_model.specs.PlanValue.{PlanValue, IsPlan, vertices_of}
 use Rattle.ball_model.specs.Job.{feed_mask, IsPart}
 use Rattle.std.proofs.lemmas.Bool.{eqb-true}
 use Rattle.ball_model.proofs.PartLemmas.{range_more}
-use Rattle.edgelist.proofs.LinksLemmas.{ascends-below}
+use Rattle.edgelist.specs.Links.{AllAscend, graph_of}
+use Rattle.edgelist.proofs.LinksLemmas.{ascends-below, preds_of-graph}
 use Rattle.gapcode.specs.Lists.{AscendsFrom}
-use Rattle.edgelist.proofs.PairLemmas.{filter-ascends, ascends-from}
+use Rattle.edgelist.proofs.EdgeLemmas.{filter-ascends, ascends-from}
 use Rattle.edgelist.proofs.BoolLemmas.{by_cases}
 use Rattle.edgelist.proofs.DigestLemmas.{edges_to}
 
@@ -26,6 +28,21 @@ unfolding vertices_of
 other-next n parts p other =
     let off : (n % parts == p) ≡ false = by_cases (n % parts == p) _ (λ t. absurd (other (eqb-true (n % parts) p t))) (λ f. f) in
     ap (filter (λ v. v % parts == p)) (range_more n) ∙ filter-append (λ v. v % parts == p) (range_with_len 0 n) (n ∷ []) ∙ rw off (append-nil (filter (λ v. v % parts == p) (range_with_len 0 n)))
+
+-- a sole partition has all vertices
+vertices-all : (n : ℕ) → vertices_of n 1 0 ≡ range_with_len 0 n
+unfolding vertices_of
+vertices-all zero = refl
+vertices-all (suc n) =
+    let next : suc n ≡ n + 1 = omega arith in
+    subst (λ (k : ℕ). vertices_of k 1 0 ≡ range_with_len 0 k) (sym next) (own-next n 1 0 (omega arith) ∙ ap (λ (l : List ℕ). l ++ n ∷ []) (vertices-all n) ∙ sym (range_more n))
+
+-- the lists of a graph are those of its sole partition
+pub lists-all : (lists : List (List ℕ)) (marks : List Bool) → AllAscend (length lists) lists → lists ≡ map (λ x. preds_of (graph_of lists marks) x) (vertices_of (length lists) 1 0)
+lists-all lists marks asc =
+    rw (vertices-all (length lists)) (ext_get_or [] lists (map (preds_of (graph_of lists marks)) (range_with_len 0 (length lists)))
+    (sym (length-map-range_with_len (preds_of (graph_of lists marks)) 0 (length lists)))
+    (λ i lt. sym (preds_of-graph lists marks i asc lt) ∙ sym (get_or-map-range_with_len (preds_of (graph_of lists marks)) 0 (length lists) i i [] lt (omega arith))))
 
 -- the edges to the targets from x on
 pub left-next : (g : Graph) (n x : ℕ) → x < n → length (flat_map (edges_to g) (range_with_len x (n - x))) ≡ length (preds_of g x) + length (flat_map (edges_to g) (range_with_len (x + 1) (n - (x + 1))))

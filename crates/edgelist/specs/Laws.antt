@@ -1,5 +1,5 @@
 -- What an edge list's network means, in the subject's own words. Each is the contract of a function of src/laws.rt.
-use Rattle.std.specs.Prelude.{◌≡◌, ℕ, ◌<◌, List, [], ◌∷◌, ◌++◌, length, slice_index_or}
+use Rattle.std.specs.Prelude.{◌≡◌, ℕ, ◌<◌, Bool, List, [], ◌∷◌, ◌++◌, length, slice_index_or}
 use Rattle.std.specs.List.{list_any, flat_map, position_or_len}
 use Rattle.std.specs.Str.{bytes_eq}
 use Rattle.ball_model.specs.Graph.{IsGraph, is_edge}
@@ -36,7 +36,15 @@ EdgesAreNamed = (records : List (List (List ℕ))) (y x : ℕ) → y < length (l
 abbrev pub EdgesStandOnce : Type 0
 EdgesStandOnce = (records : List (List (List ℕ))) → IsGraph (network_of records).graph
 
--- a record of one field leads from no label to another
+-- the vertex with this label; where no vertex has it, a number that is no vertex
+abbrev pub vertex_at : List (List (List ℕ)) → List ℕ → ℕ
+vertex_at records label = position_or_len (bytes_eq label) (labels_of records)
+
+-- whether there is an edge from the vertex with the one label to that with the other
+abbrev pub joins : List (List (List ℕ)) → List ℕ → List ℕ → Bool
+joins records from to = is_edge (network_of records).graph (vertex_at records from) (vertex_at records to)
+
+-- an input with a record of one field has just the edges that it has without it
 abbrev pub DeclaringAddsNoEdge : Type 0
 DeclaringAddsNoEdge = (records more : List (List (List ℕ))) (label from to : List ℕ) →
-    list_any (leads from to) (records ++ (label ∷ []) ∷ more) ≡ list_any (leads from to) (records ++ more)
+    joins (records ++ (label ∷ []) ∷ more) from to ≡ joins (records ++ more) from to

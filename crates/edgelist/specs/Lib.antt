@@ -1,6 +1,6 @@
 pub mod Lists
 pub mod Links
-pub mod Pairs
+pub mod Edges
 pub mod Labels
 pub mod Guessing
 pub mod Finding

@@ -3,7 +3,8 @@ use Rattle.std.specs.Prelude.{◌≡◌, ⊤, ℕ, ◌+◌, ◌-◌, ◌^◌, �
 use Rattle.std.specs.List.{list_any}
 use Rattle.std.specs.Str.{bytes_eq}
 use Rattle.ball_model.specs.Input.{Network, Limits, Refusal, TooManyEdges, Fields, TooManyVertices, fault_at, labels_of, records, read_as, input_of}
-use Rattle.edgelist.specs.Pairs.{AllBelow, graph_of_pairs}
+use Rattle.edgelist.specs.Edges.{AllBelow, edge_of, graph_of_edges}
+use Rattle.edgelist.specs.declared.edge.Edge.{Edge}
 use Rattle.edgelist.specs.declared.read.EdgeError.{EdgeError}
 use Rattle.edgelist.specs.declared.read.EdgeError.TheVariants as refused
 use Rattle.edgelist.specs.declared.read.EdgeLimits.{EdgeLimits}
@@ -15,6 +16,14 @@ abbrev pub byte_of : Delimiter → ℕ
 byte_of delimiter.Tab = 9
 byte_of delimiter.Comma = 44
 byte_of delimiter.Space = 32
+
+-- the most vertices under any limits
+abbrev pub most_vertices : ℕ
+most_vertices = 2 ^ 24
+
+-- the most records under any limits
+abbrev pub most_records : ℕ
+most_records = 2 ^ 26
 
 abbrev pub limits_of : EdgeLimits → Limits
 limits_of limits = record { vertices = limits.vertices; edges = limits.edges }
@@ -66,24 +75,24 @@ unfoldable pub pairs_in : List (List (List ℕ)) → List (List ℕ × List ℕ)
 pairs_in [] = []
 pairs_in (r ∷ rs) = pair_in r ++ pairs_in rs
 
--- the labels of a pair of numbers
-abbrev pub named : List (List ℕ) → ℕ × ℕ → List ℕ × List ℕ
-named labels e = (slice_index_or labels e.0 [], slice_index_or labels e.1 [])
+-- the labels of an edge's target and source
+abbrev pub named : List (List ℕ) → Edge → List ℕ × List ℕ
+named labels e = (slice_index_or labels e.target [], slice_index_or labels e.source [])
 
--- the labels and the pairs of a target and a source that these records name
-pub record IsReadAs (records : List (List (List ℕ))) (labels : List (List ℕ)) (pairs : List (ℕ × ℕ)) : Type 0 where
+-- the labels and the edges that these records name
+pub record IsReadAs (records : List (List (List ℕ))) (labels : List (List ℕ)) (edges : List Edge) : Type 0 where
   pub labels_are : labels ≡ labels_of records
-  pub below : AllBelow (length labels) pairs
-  pub pairs_are : map (named labels) pairs ≡ pairs_in records
+  pub below : AllBelow (length labels) edges
+  pub edges_are : map (named labels) edges ≡ pairs_in records
 
--- at most so many labels and pairs, and each pair of two of the labels
-pub record AreWithin (vertices number : ℕ) (labels : List (List ℕ)) (pairs : List (ℕ × ℕ)) : Type 0 where
-  pub below : AllBelow (length labels) pairs
+-- at most so many labels and edges, and each edge of two of the labels
+pub record AreWithin (vertices number : ℕ) (labels : List (List ℕ)) (edges : List Edge) : Type 0 where
+  pub below : AllBelow (length labels) edges
   pub few_labels : length labels ≤ vertices
-  pub few_pairs : length pairs ≤ number
+  pub few_edges : length edges ≤ number
 
--- a pair of two labels was added: of the place of the second among all labels, and of the first
-pub record AddsPair (source target : List ℕ) (labels : List (List ℕ)) (pairs : List (ℕ × ℕ)) (labels' : List (List ℕ)) (pairs' : List (ℕ × ℕ)) : Type 0 where
+-- an edge was added: to the place of the second among all labels, from that of the first
+pub record AddsEdge (source target : List ℕ) (labels : List (List ℕ)) (edges : List Edge) (labels' : List (List ℕ)) (edges' : List Edge) : Type 0 where
   pub from : ℕ
   pub to : ℕ
   pub labels_are : labels' ≡ with_label (with_label labels source) target
@@ -91,7 +100,7 @@ pub record AddsPair (source target : List ℕ) (labels : List (List ℕ)) (pairs
   pub from_is : slice_index_or (with_label labels source) from [] ≡ source
   pub to_within : to < length labels'
   pub to_is : slice_index_or labels' to [] ≡ target
-  pub pairs_are : pairs' ≡ pairs ++ (to, from) ∷ []
+  pub edges_are : edges' ≡ edges ++ edge_of to from ∷ []
 
 -- there are more labels than the limit, or memory was refused
 abbrev pub Exceeds : ℕ → List (List ℕ) → EdgeError → Type 0
@@ -101,24 +110,24 @@ Exceeds vertices labels (refused.Fields number) = ⊥
 Exceeds vertices labels refused.TooManyVertices = vertices < length labels
 Exceeds vertices labels refused.Memory = ⊤
 
--- the network of these labels and pairs, in which every vertex is counted
-abbrev pub network_by : List (List ℕ) → List (ℕ × ℕ) → Network
-network_by labels pairs = record { graph = graph_of_pairs (length labels) pairs; labels = labels }
+-- the network of these labels and edges, in which every vertex is counted
+abbrev pub network_by : List (List ℕ) → List Edge → Network
+network_by labels edges = record { graph = graph_of_edges (length labels) edges; labels = labels }
 
--- these records say the network of these labels and pairs
-abbrev pub IsReadBy : EdgeLimits → List (List (List ℕ)) → List (List ℕ) → List (ℕ × ℕ) → Type 0
-IsReadBy limits rs labels pairs = read_as (limits_of limits) rs ≡ Ok (network_by labels pairs)
+-- these records say the network of these labels and edges
+abbrev pub IsReadBy : EdgeLimits → List (List (List ℕ)) → List (List ℕ) → List Edge → Type 0
+IsReadBy limits rs labels edges = read_as (limits_of limits) rs ≡ Ok (network_by labels edges)
 
 -- no check fails at any of these records
 pub record IsClean (limits : Limits) (records : List (List (List ℕ))) : Type 0 where
   pub none : (i : ℕ) → i < length records → fault_at limits records i ≡ None
 
 -- one more record with these fields made these of those
-pub record Adds (limits : Limits) (number : ℕ) (fields : List (List ℕ)) (labels : List (List ℕ)) (pairs : List (ℕ × ℕ)) (labels' : List (List ℕ)) (pairs' : List (ℕ × ℕ)) : Type 0 where
-  pub reads : (records : List (List (List ℕ))) → IsReadAs records labels pairs → IsReadAs (records ++ fields ∷ []) labels' pairs'
-  pub passes : (records : List (List (List ℕ))) → length records ≡ number → IsReadAs records labels pairs → fault_at limits (records ++ fields ∷ []) number ≡ None
-  pub within : AreWithin limits.vertices number labels pairs → AreWithin limits.vertices (number + 1) labels' pairs'
+pub record Adds (limits : Limits) (number : ℕ) (fields : List (List ℕ)) (labels : List (List ℕ)) (edges : List Edge) (labels' : List (List ℕ)) (edges' : List Edge) : Type 0 where
+  pub reads : (records : List (List (List ℕ))) → IsReadAs records labels edges → IsReadAs (records ++ fields ∷ []) labels' edges'
+  pub passes : (records : List (List (List ℕ))) → length records ≡ number → IsReadAs records labels edges → fault_at limits (records ++ fields ∷ []) number ≡ None
+  pub within : AreWithin limits.vertices number labels edges → AreWithin limits.vertices (number + 1) labels' edges'
 
 -- the error is the check that fails at this record
-pub record Stops (limits : Limits) (number : ℕ) (fields : List (List ℕ)) (labels : List (List ℕ)) (pairs : List (ℕ × ℕ)) (error : EdgeError) : Type 0 where
-  pub at : (records more : List (List (List ℕ))) → length records ≡ number → IsReadAs records labels pairs → FaultIs (fault_at limits (records ++ fields ∷ more) number) error
+pub record Stops (limits : Limits) (number : ℕ) (fields : List (List ℕ)) (labels : List (List ℕ)) (edges : List Edge) (error : EdgeError) : Type 0 where
+  pub at : (records more : List (List (List ℕ))) → length records ≡ number → IsReadAs records labels edges → FaultIs (fault_at limits (records ++ fields ∷ more) number) error

@@ -105,8 +105,10 @@ fn mark_all<R: Read + Drop>(
     requires distinct { IsDistinct bytes_eq index.now }
     requires marks { MarksAre index.now [] marks.old }
     requires few { most ≤ 2 ^ 63 + 1 }
-    ensures ok { FromStart R.remaining reader.old (λ rs. OnOk result (SaysMarks index.now rs marks.new)) }
-    ensures refused { FromStart R.remaining reader.old (λ rs. IfErr result (SaysRefusal index.now rs)) }
+    ensures ok { FromStart R.remaining reader.old (λ rs.
+        OnOk result (SaysMarks index.now rs marks.new)) }
+    ensures refused { FromStart R.remaining reader.old (λ rs.
+        IfErr result (SaysRefusal index.now rs)) }
 {
     for number in 0..most {
         let more = next_record(reader, row)?;
@@ -138,15 +140,14 @@ fn mark_list(
 ) -> Result<(), CountedError>
     requires distinct { IsDistinct bytes_eq index.now }
     requires marks { MarksAre index.now [] marks.old }
-    ensures ok { IsPlain list.now → OnOk result (SaysMarks index.now (records (byte_of delimiter) list.now) marks.new) }
-    ensures refused { IsPlain list.now → IfErr result (SaysRefusal index.now (records (byte_of delimiter) list.now)) }
+    ensures ok { IsPlain list.now →
+        OnOk result (SaysMarks index.now (records (byte_of delimiter) list.now) marks.new) }
+    ensures refused { IsPlain list.now →
+        IfErr result (SaysRefusal index.now (records (byte_of delimiter) list.now)) }
 {
     let mut reader = reader_of(alloc, list, delimiter);
     let mut row = ByteRecord::new(alloc);
-    match mark_all(marks, index, &mut reader, &mut row, list.len() as u64 + 2) {
-        Ok(()) => Ok(()),
-        Err(e) => Err(e),
-    }
+    mark_all(marks, index, &mut reader, &mut row, list.len() as u64 + 2)
 }
 
 /// For each label whether some record of the list names it.
@@ -159,8 +160,10 @@ pub(crate) fn marks_of(
     requires distinct { IsDistinct bytes_eq labels.now }
     requires few { length labels.now < 2 ^ 32 }
     ensures size { IfOk result (λ marks. length marks.items ≡ length labels.now) }
-    ensures ok { IsPlain list.now → IfOk result (λ marks. SaysMarks labels.now (records (byte_of delimiter) list.now) marks.items) }
-    ensures refused { IsPlain list.now → IfErr result (SaysRefusal labels.now (records (byte_of delimiter) list.now)) }
+    ensures ok { IsPlain list.now → IfOk result (λ marks.
+        SaysMarks labels.now (records (byte_of delimiter) list.now) marks.items) }
+    ensures refused { IsPlain list.now →
+        IfErr result (SaysRefusal labels.now (records (byte_of delimiter) list.now)) }
 {
     let index = Index::of(alloc, labels)?;
     let mut marks = no_marks(alloc, labels.len())?;

@@ -60,7 +60,8 @@ fn add_job(hasher: &mut Sha256, graph: &Graph, log2m: u8, seed: u64, parts: u16,
 // Adds a vertex, where it is counted.
 fn add_if_counted(hasher: &mut Sha256, graph: &Graph, v: u32)
     requires { v < graph.now.graph.vertices }
-    ensures { Hashes hasher.old hasher.new (if is_counted graph.now.graph v then vertex_bytes v else []) }
+    ensures { Hashes hasher.old hasher.new
+        (if is_counted graph.now.graph v then vertex_bytes v else []) }
 {
     if graph.counted(v) {
         add(hasher, &v.to_be_bytes());

@@ -1,28 +1,31 @@
 //! Graphs whose vertices have labels.
 
-ghost use Rattle.std.specs.Prelude.{◌≡◌, ◌^◌, ◌<◌, ◌≤◌, length, slice_index_or, IfOk, IfErr, OnOk, OnErr, Ok, [], ℕ};
+ghost use Rattle.std.specs.Prelude.{◌≡◌, ◌^◌, ◌<◌, ◌≤◌, length, map, slice_index_or, IfOk, IfErr, OnOk, OnErr, Ok, [], ℕ};
+ghost use Rattle.std.specs.Arc.{arc_value};
 ghost use Rattle.std.specs.List.{All, IsDistinct};
 ghost use Rattle.std.specs.Str.{bytes_eq};
 ghost use Rattle.ball_model.specs.Graph.{IsGraph, is_counted, preds_of};
 ghost use Rattle.ball_model.specs.Job.{Job, IsJob};
-ghost use Rattle.ball_model.specs.PlanValue.{plan_of};
+ghost use Rattle.ball_model.specs.PlanValue.{plan_of, vertices_of};
 ghost use Rattle.ball_model.specs.RunText.{plan_over};
 ghost use Rattle.ball_model.specs.Counting.{counted_of};
 ghost use Rattle.ball_model.specs.Input.{IsPlain};
 ghost use Rattle.edgelist.specs.Counting.{RefusesList};
 ghost use Rattle.edgelist.specs.Reading.{byte_of};
 ghost use Rattle.edgelist.specs.Planning.{numbers_of};
-ghost use Rattle.edgelist.specs.Pairs.{graph_of_pairs, AllBelow};
+ghost use Rattle.edgelist.specs.Edges.{graph_of_edges, AllBelow};
 
 use crate::build::lists_of;
 use crate::counting::{CountedError, count_marks, is_marked, marks_of};
 use crate::digest::digest;
+use crate::edge::Edge;
 use crate::labels::Labels;
 use crate::lists::{Lists, Preds};
 use crate::read::Delimiter;
 use ball_model::{Plan, PlanError};
 use std::alloc::{AllocError, Global};
 use std::marker::Model;
+use std::sync::Arc;
 
 /// A graph: for each vertex its predecessors, ascending, its label, and whether it is counted.
 ///
@@ -30,39 +33,40 @@ use std::marker::Model;
 /// and for each vertex 12 bytes and its label; and a byte more once only some vertices are counted.
 #[derive(Drop)]
 pub struct Graph {
-    lists: Lists,
+    lists: Arc<Lists>,
     labels: Labels,
     marks: Vec<bool>,
     number: u32,
 }
 
 impl Model for Graph {
+    ghost use Rattle.std.specs.Arc.{arc_value};
     ghost use Rattle.ball_model.specs.Input.{Network};
     ghost use Rattle.edgelist.specs.Links.{graph_of, AreLinks};
 
     ghost Value = { Network };
 
-    ghost view = { λ g. record { graph = graph_of g.lists g.marks.items; labels = g.labels } };
+    ghost view = { λ g. record { graph = graph_of (arc_value g.lists) g.marks.items; labels = g.labels } };
 
-    ghost invariant = { λ g. AreLinks g.labels g.lists g.marks.items g.number };
+    ghost invariant = { λ g. AreLinks g.labels (arc_value g.lists) g.marks.items g.number };
 }
 
 impl Graph {
-    /// The graph of pairs of a target and a source, with these labels. Every vertex is counted.
-    pub(crate) fn of_pairs(
+    /// The graph of edges, with these labels. Every vertex is counted.
+    pub(crate) fn of_edges(
         alloc: Global,
         labels: Labels,
-        pairs: Vec<(u32, u32)>,
+        edges: Vec<Edge>,
     ) -> Result<Graph, AllocError>
-        requires below { AllBelow (length labels) pairs.items }
+        requires below { AllBelow (length labels) edges.items }
         requires distinct { IsDistinct bytes_eq labels }
         requires few_labels { length labels ≤ 2 ^ 24 }
-        requires few_pairs { length pairs.items < 2 ^ 32 }
-        ensures graph { IfOk result (λ g. g.graph ≡ graph_of_pairs (length labels) pairs.items) }
+        requires few_edges { length edges.items < 2 ^ 32 }
+        ensures graph { IfOk result (λ g. g.graph ≡ graph_of_edges (length labels) edges.items) }
         ensures labels { IfOk result (λ g. g.labels ≡ labels) }
     {
         let number = labels.len() as u32;
-        let lists = lists_of(alloc, pairs, number)?;
+        let lists = Arc::new(alloc, lists_of(alloc, edges, number)?)?;
         Ok(Graph {
             lists,
             labels,
@@ -106,6 +110,14 @@ impl Graph {
         self.lists.list(v as usize)
     }
 
+    /// The lists of predecessors of all vertices, which are shared.
+    pub(crate) fn shared_lists(&self) -> Result<Arc<Lists>, AllocError>
+        ensures { IfOk result (λ lists. arc_value lists ≡ map (λ x. preds_of self.now.graph x) (vertices_of self.now.graph.vertices 1 0)) }
+    {
+        let lists = Arc::try_clone(&self.lists)?;
+        Ok(lists)
+    }
+
     /// Whether balls count this vertex. All vertices of an edge list are counted until a list names some.
     pub fn counted(&self, v: u32) -> bool
         requires { v < self.now.graph.vertices }
@@ -129,8 +141,10 @@ impl Graph {
         delimiter: Delimiter,
         list: &[u8],
     ) -> Result<(), CountedError>
-        ensures ok { IsPlain list.now → OnOk result (counted_of (byte_of delimiter) self.old list.now ≡ Ok self.new) }
-        ensures refused { IsPlain list.now → IfErr result (RefusesList (counted_of (byte_of delimiter) self.old list.now)) }
+        ensures ok { IsPlain list.now →
+            OnOk result (counted_of (byte_of delimiter) self.old list.now ≡ Ok self.new) }
+        ensures refused { IsPlain list.now →
+            IfErr result (RefusesList (counted_of (byte_of delimiter) self.old list.now)) }
         ensures labels { self.new.labels ≡ self.old.labels }
         ensures kept { OnErr result (self.new ≡ self.old) }
     {
@@ -153,7 +167,8 @@ impl Graph {
     /// The plan of a job over this graph, with its job digest, or the first fault of these options. It takes no
     /// memory, and time in proportion to the edges.
     pub fn plan(&self, log2m: u8, seed: u64, parts: u16, limit: u32) -> Result<Plan, PlanError>
-        ensures value { result ≡ plan_of (plan_over (numbers_of log2m seed parts limit) self.now.graph) }
+        ensures value { result ≡
+            plan_of (plan_over (numbers_of log2m seed parts limit) self.now.graph) }
         ensures job { IfOk result (λ plan. IsJob (record { graph = self.now.graph; plan = plan })) }
     {
         let job = digest(self, log2m, seed, parts, limit);

@@ -27,7 +27,7 @@ pub fn edges_stand_once()
     ensures { EdgesStandOnce }
 {}
 
-/// Declaring a vertex adds no edge.
+/// Declaring a vertex adds no edge: an input with a record of one field has just the edges that it has without it.
 pub fn declaring_adds_no_edge()
     ensures { DeclaringAddsNoEdge }
 {}

@@ -17,6 +17,7 @@
 mod build;
 mod counting;
 mod digest;
+mod edge;
 mod graph;
 mod index;
 mod labels;

@@ -3,7 +3,7 @@
 ghost use Rattle.std.specs.Prelude.{◌≡◌, ◌+◌, ◌*◌, ◌^◌, ◌<◌, ◌≤◌, ℕ, List, length, map, replicate, slice_index_or, [], IfOk, IfSome, OnOk, OnErr};
 ghost use Rattle.std.specs.List.{IsDistinct};
 ghost use Rattle.std.specs.Str.{bytes_eq};
-ghost use Rattle.edgelist.specs.Guessing.{AreTold, IsShort, StandsAt, blank_entry, bytes_after, told_word, word_of};
+ghost use Rattle.edgelist.specs.Guessing.{AreTold, IsShort, StandsAt, Tells, blank_entry, bytes_after, told_word, word_of};
 ghost use Rattle.edgelist.specs.Labels.{texts};
 ghost use Rattle.edgelist.specs.Reading.{with_label};
 
@@ -20,7 +20,10 @@ const SHORT: usize = 11;
 const PIECE: u128 = 18_446_744_073_709_551_616;
 
 // The number of entries at first, of 16 bytes each.
-const FIRST_ENTRIES: usize = 65_536;
+const FIRST_ENTRIES: usize = 131_072;
+
+// The number of entries of a group: they stand side by side, most often in one line of the cache.
+const GROUP: usize = 4;
 
 // A short label's word, which has its bytes and its length, and the label's number.
 #[derive(Clone, Copy)]
@@ -39,8 +42,8 @@ const BLANK: Entry = Entry {
 
 /// Labels, numbered from 0 by first appearance.
 ///
-/// Beside the set of labels is a table of guesses: a short label has one place there, and the entry at that place
-/// holds a short label and its number. Where it holds the same label, that is found by one access to memory in place
+/// Beside the set of labels is a table of guesses: a short label has one group of entries there, each of which holds a
+/// short label and its number. Where one of them holds the same label, that is found by one access to memory in place
 /// of the set's three.
 #[derive(Drop)]
 pub(crate) struct Numbering {
@@ -92,45 +95,74 @@ impl Entry {
     }
 }
 
-// The place of a word's entry among 2^k entries: any place will do, and this one spreads them.
-fn place(word: u128, count: usize) -> usize {
+// Where the group of a word begins among 2^k entries: any place will do, and this one spreads them.
+fn group(word: u128, count: usize) -> usize {
     let low = (word % PIECE) as u64;
     let high = (word / PIECE % PIECE) as u64;
     let mixed = (low ^ high.wrapping_mul(0xd6e8_feb8_6659_fd93)).wrapping_mul(
         0x9e37_79b9_7f4a_7c15,
     );
-    (mixed >> 32) as usize & count.wrapping_sub(1)
+    ((mixed >> 32) as usize & count.wrapping_sub(1)) / GROUP * GROUP
 }
 
-// The number of the short label with this word, where the entry at its place is that label's.
+// The number of the short label with this word, where an entry of its group is that label's.
 fn guess(entries: &[Entry], word: u128) -> Option<usize>
     ensures { (labels : List (List ℕ)) (label : List ℕ) → AreTold labels entries.now → IsShort label → word ≡ word_of label → IfSome result (StandsAt labels label) }
 {
-    let Some(entry) = entries.get(place(word, entries.len())) else {
-        return None;
-    };
-    if entry.word() != word {
-        return None;
+    let start = group(word, entries.len());
+    for i in start..entries.len().min(start.saturating_add(GROUP)) {
+        if entries[i].word() == word {
+            return Some(entries[i].number as usize);
+        }
     }
-    Some(entry.number as usize)
+    None
 }
 
-// Puts a label's word and number into the entry at its place.
+// The place in a group for one more entry: the first that is blank, or else that of its first entry.
+fn place(entries: &[Entry], start: usize) -> usize {
+    for i in start..entries.len().min(start.saturating_add(GROUP)) {
+        if entries[i].word() == 0 {
+            return i;
+        }
+    }
+    start
+}
+
+// Puts an entry into its group.
+fn put(entries: &mut [Entry], entry: Entry)
+    ensures { (labels : List (List ℕ)) → AreTold labels entries.old → Tells labels entry → AreTold labels entries.new }
+{
+    let place = place(entries, group(entry.word(), entries.len()));
+    if place < entries.len() {
+        entries[place] = entry;
+    }
+}
+
+// Puts the entries of a smaller table into theirs.
+fn put_all(entries: &mut [Entry], smaller: &[Entry])
+    ensures { (labels : List (List ℕ)) → AreTold labels smaller.now → AreTold labels entries.old → AreTold labels entries.new }
+{
+    for entry in smaller {
+        if entry.word() > 0 {
+            put(entries, *entry);
+        }
+    }
+}
+
+// Puts a label's word and number into an entry of its group.
 fn remember(entries: &mut [Entry], word: u128, number: usize)
     requires { word < 2 ^ 96 }
     ensures { (labels : List (List ℕ)) (label : List ℕ) → AreTold labels entries.old → IsShort label → word ≡ word_of label → StandsAt labels label number → AreTold labels entries.new }
 {
-    let place = place(word, entries.len());
     let Ok(number) = u32::try_from(number) else {
         return;
     };
-    if place < entries.len() {
-        entries[place] = Entry {
-            low: (word % PIECE) as u64,
-            high: (word / PIECE) as u32,
-            number,
-        };
-    }
+    let entry = Entry {
+        low: (word % PIECE) as u64,
+        high: (word / PIECE) as u32,
+        number,
+    };
+    put(entries, entry);
 }
 
 // Entries that hold no label.
@@ -194,13 +226,15 @@ impl Numbering {
         Ok(number)
     }
 
-    // Once there are more labels than entries, blank entries, four times as many.
+    // Once there are more labels than entries, four times as many entries.
     fn make_room(&mut self, alloc: Global) -> Result<(), AllocError>
         ensures { self.new ≡ self.old }
     {
         let count = self.entries.len();
         if self.len() > count {
-            self.entries = blank(alloc, count.saturating_mul(4))?;
+            let mut entries = blank(alloc, count.saturating_mul(4))?;
+            put_all(&mut entries, &self.entries);
+            self.entries = entries;
         }
         Ok(())
     }

@@ -1,6 +1,7 @@
 //! What a partition is told of its graph.
 
 ghost use Rattle.std.specs.Prelude.{◌≡◌, ◌+◌, ◌*◌, ◌^◌, ◌%◌, ◌<◌, ◌≤◌, ◌++◌, ◌∷◌, [], ℕ, List, false, length, map, slice_index, slice_index_or, replicate, IfOk, OnOk};
+ghost use Rattle.std.specs.Arc.{arc_value};
 ghost use Rattle.std.specs.List.{All, sum_by};
 ghost use Rattle.ball_model.specs.Graph.{preds_of, is_counted};
 ghost use Rattle.ball_model.specs.PlanValue.{vertices_of, part_size};
@@ -14,26 +15,29 @@ use ball_model::Plan;
 use gapcode::ListsBuilder;
 use std::alloc::{AllocError, Global};
 use std::marker::Model;
+use std::sync::Arc;
 
 /// What a partition is told of its graph: the predecessors of each of its vertices, into which partitions the vertex
-/// has edges, and whether it is counted. It has no other partition's lists.
+/// has edges, and whether it is counted. It has no other partition's lists, and where there is one partition it shares
+/// those of the graph.
 #[derive(Drop)]
 pub struct Part {
     plan: Plan,
     number: u16,
-    lists: Lists,
+    lists: Arc<Lists>,
     feeds: Vec<u64>,
     counted: Vec<bool>,
 }
 
 impl Model for Part {
+    ghost use Rattle.std.specs.Arc.{arc_value};
     ghost use Rattle.ball_model.specs.Job.{PartValue, IsPart};
 
     ghost Value = { PartValue };
 
-    ghost view = { λ p. record { plan = p.plan; number = p.number; preds = p.lists; feeds = p.feeds.items; counted = p.counted.items } };
+    ghost view = { λ p. record { plan = p.plan; number = p.number; preds = arc_value p.lists; feeds = p.feeds.items; counted = p.counted.items } };
 
-    ghost invariant = { λ p. IsPart (record { plan = p.plan; number = p.number; preds = p.lists; feeds = p.feeds.items; counted = p.counted.items }) };
+    ghost invariant = { λ p. IsPart (record { plan = p.plan; number = p.number; preds = arc_value p.lists; feeds = p.feeds.items; counted = p.counted.items }) };
 }
 
 impl Part {
@@ -146,6 +150,18 @@ fn own_lists(alloc: Global, graph: &Graph, parts: u32, p: u32) -> Result<Lists, 
     Ok(Lists::of(builder.finish(), total))
 }
 
+// The predecessors of each vertex of partition `p`, which are the graph's own lists where there is one partition.
+fn part_lists(alloc: Global, graph: &Graph, parts: u32, p: u32) -> Result<Arc<Lists>, AllocError>
+    requires { p < parts }
+    ensures { IfOk result (λ lists. arc_value lists ≡ map (λ x. preds_of graph.now.graph x) (vertices_of graph.now.graph.vertices parts p)) }
+{
+    if parts == 1 {
+        return graph.shared_lists();
+    }
+    let lists = Arc::new(alloc, own_lists(alloc, graph, parts, p)?)?;
+    Ok(lists)
+}
+
 // Marks that an edge leads from a vertex of partition `p` into the partition of its target.
 fn mark(feeds: &mut [u64], plan: &Plan, p: u16, source: u32, target: u32)
     requires part { p < plan.now.parts }
@@ -219,14 +235,14 @@ fn own_counts(alloc: Global, graph: &Graph, parts: u32, p: u32) -> Result<Vec<bo
 
 impl Graph {
     /// What partition `p` of the plan is told. It takes time in proportion to the vertices and edges, and memory in
-    /// proportion to those of the partition.
+    /// proportion to those of the partition; the lists of a sole partition are shared and take none.
     pub fn part(&self, alloc: Global, plan: &Plan, p: u16) -> Result<Part, AllocError>
         requires below { p < plan.now.parts }
         requires vertices { plan.now.vertices ≡ self.now.graph.vertices }
         requires digest { plan.now.job ≡ digest_of plan.now self.now.graph }
         ensures { IfOk result (λ part. part ≡ part_of (record { graph = self.now.graph; plan = plan.now }) p) }
     {
-        let lists = own_lists(alloc, self, u32::from(plan.parts()), u32::from(p))?;
+        let lists = part_lists(alloc, self, u32::from(plan.parts()), u32::from(p))?;
         let feeds = own_feeds(alloc, self, plan, p)?;
         let counted = own_counts(alloc, self, u32::from(plan.parts()), u32::from(p))?;
         Ok(Part {

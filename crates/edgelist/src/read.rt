@@ -6,11 +6,12 @@ ghost use Rattle.std.specs.Io.{ReadsAtMost};
 ghost use Rattle.csv.specs.Records.{fields_of};
 ghost use Rattle.csv.specs.Reading.{is_io, error_kind};
 ghost use Rattle.ball_model.specs.Input.{IsPlain, records, has_form, read_as, input_of};
-ghost use Rattle.edgelist.specs.Pairs.{graph_of_pairs};
+ghost use Rattle.edgelist.specs.Edges.{edge_of, graph_of_edges};
 ghost use Rattle.edgelist.specs.declared.read.EdgeError.TheVariants.{Memory};
 ghost use Rattle.edgelist.specs.Records.{ForPlain, FromStart};
-ghost use Rattle.edgelist.specs.Reading.{byte_of, limits_of, said, said_within, CountsOne, IsReadBy, Refuses, told_as, with_label, AreWithin, AddsPair, Exceeds, Adds, Stops};
+ghost use Rattle.edgelist.specs.Reading.{byte_of, limits_of, said, said_within, CountsOne, IsReadBy, Refuses, most_records, most_vertices, told_as, with_label, AreWithin, AddsEdge, Exceeds, Adds, Stops};
 
+use crate::edge::Edge;
 use crate::graph::Graph;
 use crate::numbering::Numbering;
 use crate::records::{next_record, reader_of};
@@ -76,16 +77,16 @@ pub struct EdgeLimits {
     pub edges: u64,
 }
 
-// The most vertices and records under any limits.
+// The most vertices under any limits, 2^24, and the most records, 2^26.
 const MOST_VERTICES: u32 = 16_777_216;
 
 const MOST_RECORDS: u64 = 67_108_864;
 
-// The labels so far, numbered by first appearance, and each edge's target and source.
+// The labels so far, numbered by first appearance, and the edges.
 #[derive(Drop)]
 struct Reading {
     labels: Numbering,
-    pairs: Vec<(u32, u32)>,
+    edges: Vec<Edge>,
 }
 
 // Whether a record is one or two fields, none of them empty.
@@ -105,18 +106,29 @@ fn has_form(row: &ByteRecord) -> bool
 }
 
 // Adds the edge from a source to a target.
-fn push_pair(pairs: &mut Vec<(u32, u32)>, target: u32, source: u32) -> Result<(), AllocError>
-    ensures { OnOk result (pairs.new.items ≡ pairs.old.items ++ (target, source) ∷ []) }
+fn push_edge(edges: &mut Vec<Edge>, target: u32, source: u32) -> Result<(), AllocError>
+    ensures { OnOk result (edges.new.items ≡ edges.old.items ++ edge_of target source ∷ []) }
 {
-    pairs.push((target, source))?;
+    edges.push(Edge { target, source })?;
     Ok(())
 }
 
 impl Reading {
+    // No labels and no edges.
+    fn new(alloc: Global, state: RandomState) -> Result<Reading, AllocError>
+        ensures labels { IfOk result (λ r. r.labels ≡ []) }
+        ensures edges { IfOk result (λ r. r.edges.items ≡ []) }
+    {
+        Ok(Reading {
+            labels: Numbering::new(alloc, state)?,
+            edges: Vec::new(alloc),
+        })
+    }
+
     // Adds the label of a record of one field.
     fn add_vertex(&mut self, alloc: Global, label: &[u8], vertices: u32) -> Result<(), EdgeError>
         ensures labels { OnOk result (self.new.labels ≡ with_label self.old.labels label.now) }
-        ensures pairs { OnOk result (self.new.pairs.items ≡ self.old.pairs.items) }
+        ensures edges { OnOk result (self.new.edges.items ≡ self.old.edges.items) }
         ensures few { OnOk result (length self.new.labels ≤ vertices) }
         ensures exceeds { IfErr result (Exceeds vertices (with_label self.old.labels label.now)) }
     {
@@ -135,16 +147,18 @@ impl Reading {
         target: &[u8],
         vertices: u32,
     ) -> Result<(), EdgeError>
-        ensures adds { OnOk result (AddsPair source.now target.now self.old.labels self.old.pairs.items self.new.labels self.new.pairs.items) }
+        ensures adds { OnOk result (AddsEdge source.now target.now
+            self.old.labels self.old.edges.items self.new.labels self.new.edges.items) }
         ensures few { OnOk result (length self.new.labels ≤ vertices) }
-        ensures exceeds { IfErr result (Exceeds vertices (with_label (with_label self.old.labels source.now) target.now)) }
+        ensures exceeds { IfErr result (
+            Exceeds vertices (with_label (with_label self.old.labels source.now) target.now)) }
     {
         let from = self.labels.number(alloc, source)?;
         let to = self.labels.number(alloc, target)?;
         if self.labels.len() > vertices as usize {
             return Err(EdgeError::TooManyVertices);
         }
-        push_pair(&mut self.pairs, to as u32, from as u32)?;
+        push_edge(&mut self.edges, to as u32, from as u32)?;
         Ok(())
     }
 
@@ -156,9 +170,11 @@ impl Reading {
         number: u64,
         limits: EdgeLimits,
     ) -> Result<(), EdgeError>
-        ensures adds { OnOk result (Adds (limits_of limits) number (fields_of row.now) self.old.labels self.old.pairs.items self.new.labels self.new.pairs.items) }
+        ensures adds { OnOk result (Adds (limits_of limits) number (fields_of row.now)
+            self.old.labels self.old.edges.items self.new.labels self.new.edges.items) }
         ensures fewer { OnOk result (number < limits.edges) }
-        ensures stops { IfErr result (Stops (limits_of limits) number (fields_of row.now) self.old.labels self.old.pairs.items) }
+        ensures stops { IfErr result (Stops (limits_of limits) number (fields_of row.now)
+            self.old.labels self.old.edges.items) }
     {
         if number >= limits.edges {
             return Err(EdgeError::TooManyEdges);
@@ -185,12 +201,15 @@ impl Reading {
         row: &mut ByteRecord,
         limits: EdgeLimits,
     ) -> Result<(), EdgeError>
-        requires few { limits.edges ≤ 67108864 }
+        requires few { limits.edges ≤ most_records }
         requires labels { self.old.labels ≡ [] }
-        requires pairs { self.old.pairs.items ≡ [] }
-        ensures within { OnOk result (AreWithin limits.vertices limits.edges self.new.labels self.new.pairs.items) }
-        ensures ok { FromStart R.remaining reader.old (λ rs. OnOk result (IsReadBy limits rs self.new.labels self.new.pairs.items)) }
-        ensures refused { FromStart R.remaining reader.old (λ rs. IfErr result (Refuses (read_as (limits_of limits) rs))) }
+        requires edges { self.old.edges.items ≡ [] }
+        ensures within { OnOk result (
+            AreWithin limits.vertices limits.edges self.new.labels self.new.edges.items) }
+        ensures ok { FromStart R.remaining reader.old (λ rs.
+            OnOk result (IsReadBy limits rs self.new.labels self.new.edges.items)) }
+        ensures refused { FromStart R.remaining reader.old (λ rs.
+            IfErr result (Refuses (read_as (limits_of limits) rs))) }
     {
         for number in 0..limits.edges + 1 {
             let more = next_record(reader, row)?;
@@ -213,27 +232,31 @@ impl Reading {
         delimiter: Delimiter,
         limits: EdgeLimits,
     ) -> Result<(), EdgeError>
-        requires few { limits.edges ≤ 67108864 }
+        requires few { limits.edges ≤ most_records }
         requires labels { self.old.labels ≡ [] }
-        requires pairs { self.old.pairs.items ≡ [] }
-        ensures within { OnOk result (AreWithin limits.vertices limits.edges self.new.labels self.new.pairs.items) }
-        ensures ok { ForPlain (R.remaining source) (λ text. OnOk result (IsReadBy limits (records (byte_of delimiter) text) self.new.labels self.new.pairs.items)) }
-        ensures refused { ForPlain (R.remaining source) (λ text. IfErr result (Refuses (said_within limits delimiter text))) }
+        requires edges { self.old.edges.items ≡ [] }
+        ensures within { OnOk result (
+            AreWithin limits.vertices limits.edges self.new.labels self.new.edges.items) }
+        ensures ok { ForPlain (R.remaining source) (λ text. OnOk result (IsReadBy limits
+            (records (byte_of delimiter) text) self.new.labels self.new.edges.items)) }
+        ensures refused { ForPlain (R.remaining source) (λ text.
+            IfErr result (Refuses (said_within limits delimiter text))) }
     {
         let mut reader = reader_of(alloc, source, delimiter);
         let mut row = ByteRecord::new(alloc);
         self.read_all(alloc, &mut reader, &mut row, limits)
     }
 
-    // The graph that was read. The set of labels is gone before the pairs are sorted.
+    // The graph that was read. The set of labels is gone before the edges are sorted.
     fn into_graph(self, alloc: Global) -> Result<Graph, AllocError>
-        requires within { AreWithin 16777216 67108864 self.labels self.pairs.items }
-        ensures graph { IfOk result (λ g. g.graph ≡ graph_of_pairs (length self.labels) self.pairs.items) }
+        requires within { AreWithin most_vertices most_records self.labels self.edges.items }
+        ensures graph { IfOk result (λ g.
+            g.graph ≡ graph_of_edges (length self.labels) self.edges.items) }
         ensures labels { IfOk result (λ g. g.labels ≡ self.labels) }
     {
-        let Reading { labels, pairs } = self;
+        let Reading { labels, edges } = self;
         let labels = labels.into_labels(alloc)?;
-        Graph::of_pairs(alloc, labels, pairs)
+        Graph::of_edges(alloc, labels, edges)
     }
 }
 
@@ -245,15 +268,15 @@ fn read_records<R: Read + Drop>(
     delimiter: Delimiter,
     limits: EdgeLimits,
 ) -> Result<Reading, EdgeError>
-    requires { limits.edges ≤ 67108864 }
-    ensures within { IfOk result (λ reading. AreWithin limits.vertices limits.edges reading.labels reading.pairs.items) }
-    ensures ok { ForPlain (R.remaining reader) (λ text. IfOk result (λ r. IsReadBy limits (records (byte_of delimiter) text) r.labels r.pairs.items)) }
-    ensures refused { ForPlain (R.remaining reader) (λ text. IfErr result (Refuses (said_within limits delimiter text))) }
+    requires { limits.edges ≤ most_records }
+    ensures within { IfOk result (λ r.
+        AreWithin limits.vertices limits.edges r.labels r.edges.items) }
+    ensures ok { ForPlain (R.remaining reader) (λ text. IfOk result (λ r.
+        IsReadBy limits (records (byte_of delimiter) text) r.labels r.edges.items)) }
+    ensures refused { ForPlain (R.remaining reader) (λ text.
+        IfErr result (Refuses (said_within limits delimiter text))) }
 {
-    let mut reading = Reading {
-        labels: Numbering::new(alloc, state)?,
-        pairs: Vec::new(alloc),
-    };
+    let mut reading = Reading::new(alloc, state)?;
     reading.read_source(alloc, reader, delimiter, limits)?;
     Ok(reading)
 }
@@ -266,10 +289,12 @@ fn read_graph<R: Read + Drop>(
     delimiter: Delimiter,
     limits: EdgeLimits,
 ) -> Result<Graph, EdgeError>
-    requires vertices { limits.vertices ≤ 16777216 }
-    requires edges { limits.edges ≤ 67108864 }
-    ensures ok { ForPlain (R.remaining reader) (λ text. IfOk result (λ g. said_within limits delimiter text ≡ Ok g)) }
-    ensures refused { ForPlain (R.remaining reader) (λ text. IfErr result (Refuses (said_within limits delimiter text))) }
+    requires vertices { limits.vertices ≤ most_vertices }
+    requires edges { limits.edges ≤ most_records }
+    ensures ok { ForPlain (R.remaining reader) (λ text.
+        IfOk result (λ g. said_within limits delimiter text ≡ Ok g)) }
+    ensures refused { ForPlain (R.remaining reader) (λ text.
+        IfErr result (Refuses (said_within limits delimiter text))) }
 {
     let reading = read_records(alloc, state, reader, delimiter, limits)?;
     let graph = reading.into_graph(alloc)?;
@@ -287,8 +312,10 @@ impl<'a, R: CountedRead> Read for Counted<'a, R> {
 
     fn read(&mut self, buf: &mut [u8]) -> io::Result<usize>
         ensures bound { ReadsAtMost result buf.new }
-        ensures bytes { ReadConsumes (R.remaining self.old.reader.now) (R.remaining self.new.reader.now) result buf.new }
-        ensures failed { OnErr result (R.failed_calls self.old.reader.now < R.failed_calls self.new.reader.now) }
+        ensures bytes { ReadConsumes
+            (R.remaining self.old.reader.now) (R.remaining self.new.reader.now) result buf.new }
+        ensures failed { OnErr result (
+            R.failed_calls self.old.reader.now < R.failed_calls self.new.reader.now) }
     {
         match self.reader.get(buf) {
             Some(n) => Ok(n),
@@ -314,10 +341,14 @@ pub fn read_edges<R: CountedRead>(
     delimiter: Delimiter,
     limits: EdgeLimits,
 ) -> Result<Graph, EdgeError>
-    ensures ok { ForPlain (R.remaining reader.old) (λ text. IfOk result (λ g. said limits delimiter text ≡ Ok g)) }
-    ensures refused { ForPlain (R.remaining reader.old) (λ text. IfErr result (Refuses (said limits delimiter text))) }
-    ensures read { result ≡ Err EdgeError.Read → R.failed_calls reader.old < R.failed_calls reader.new }
-    ensures failed { CountsOne (R.failed_calls reader.old) (R.failed_calls reader.new) → result ≡ Err EdgeError.Read }
+    ensures ok { ForPlain (R.remaining reader.old) (λ text.
+        IfOk result (λ g. said limits delimiter text ≡ Ok g)) }
+    ensures refused { ForPlain (R.remaining reader.old) (λ text.
+        IfErr result (Refuses (said limits delimiter text))) }
+    ensures read { result ≡ Err EdgeError.Read →
+        R.failed_calls reader.old < R.failed_calls reader.new }
+    ensures failed { CountsOne (R.failed_calls reader.old) (R.failed_calls reader.new) →
+        result ≡ Err EdgeError.Read }
 {
     let before = reader.failures();
     let limits = EdgeLimits {

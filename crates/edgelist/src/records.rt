@@ -22,7 +22,8 @@ fn byte(delimiter: Delimiter) -> u8
 
 /// A reader of records: quotes are ordinary bytes, nothing is trimmed, and a record has any number of fields.
 pub(crate) fn reader_of<R: Read + Drop>(alloc: Global, source: R, delimiter: Delimiter) -> Reader<R>
-    ensures { ForPlain (R.remaining source) (λ text. IsLeft R.remaining (byte_of delimiter) text [] result) }
+    ensures { ForPlain (R.remaining source) (λ text.
+        IsLeft R.remaining (byte_of delimiter) text [] result) }
 {
     ReaderBuilder::new()
         .has_headers(false)
@@ -51,7 +52,8 @@ pub(crate) fn next_record<R: Read + Drop>(
     reader: &mut Reader<R>,
     row: &mut ByteRecord,
 ) -> Result<bool, csv::Error>
-    ensures one { IfOk result (λ more. more ≡ true → ReadsOne R.remaining reader.old reader.new (fields_of row.new)) }
+    ensures one { IfOk result (λ more. more ≡ true →
+        ReadsOne R.remaining reader.old reader.new (fields_of row.new)) }
     ensures end { IfOk result (λ more. more ≡ false → ReadsNone R.remaining reader.old) }
 {
     let more = reader.read_byte_record(row)?;

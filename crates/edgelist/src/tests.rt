@@ -11,9 +11,12 @@ use std::io::{ErrorKind, Read};
 use std::test::Fail;
 
 const LIMITS: EdgeLimits = EdgeLimits {
-    vertices: 16_777_216,
-    edges: 67_108_864,
+    vertices: u32::MAX,
+    edges: u64::MAX,
 };
+
+// Two edges, with tabs.
+const TWO_EDGES: &[u8] = b"a\tb\nb\tc\n";
 
 // Reads an edge list from memory.
 fn read(
@@ -90,7 +93,7 @@ fn error_of(rt: &HostRuntime, text: &[u8], vertices: u32, edges: u64) -> Option<
 
 #[test]
 fn two_edges(rt: HostRuntime) {
-    assert!(rt; tabs(&rt, b"a\tb\nb\tc\n", b"a\nb 0\nc 1\n"));
+    assert!(rt; tabs(&rt, TWO_EDGES, b"a\nb 0\nc 1\n"));
 }
 
 #[test]
@@ -106,57 +109,50 @@ fn noisy_input(rt: HostRuntime) {
 
 #[test]
 fn refused_records(rt: HostRuntime) {
-    assert_eq!(rt;
-        error_of(&rt, b"a\tb\nb\tc\t7\n", 9, 9),
-        Some(EdgeError::Fields { number: 2 })
-    );
-    assert_eq!(rt;
-        error_of(&rt, b"a\tb\nb\tc\n", 2, 9),
-        Some(EdgeError::TooManyVertices)
-    );
-    assert_eq!(rt;
-        error_of(&rt, b"a\tb\nb\tc\n", 9, 1),
-        Some(EdgeError::TooManyEdges)
-    );
-    assert_eq!(rt; error_of(&rt, b"a\tb\nb\tc\n", 3, 2), None);
+    let cases: [(&[u8], u32, u64, Option<EdgeError>); 4] = [
+        (
+            b"a\tb\nb\tc\t7\n",
+            9,
+            9,
+            Some(EdgeError::Fields { number: 2 }),
+        ),
+        (TWO_EDGES, 2, 9, Some(EdgeError::TooManyVertices)),
+        (TWO_EDGES, 9, 1, Some(EdgeError::TooManyEdges)),
+        (TWO_EDGES, 3, 2, None),
+    ];
+    for (text, vertices, edges, wanted) in cases {
+        assert_eq!(rt; error_of(&rt, text, vertices, edges), wanted);
+    }
 }
 
 #[test]
 fn order_of_checks(rt: HostRuntime) {
-    // The number of records is tested before the fields, and the fields before the number of vertices.
-    assert_eq!(rt;
-        error_of(&rt, b"a\tb\nb\tc\t7\n", 9, 1),
-        Some(EdgeError::TooManyEdges)
-    );
-    assert_eq!(rt;
-        error_of(&rt, b"a\tb\nc\td\t7\n", 2, 9),
-        Some(EdgeError::Fields { number: 2 })
-    );
-    // Neither comments nor empty lines are numbered; doubles and single labels are.
-    assert_eq!(rt;
-        error_of(&rt, b"# c\n\na\tb\na\tb\nd\n\n\tc\n", 9, 9),
-        Some(EdgeError::Fields { number: 4 })
-    );
+    // The number of records is tested before the fields, and the fields before the number of vertices. Neither
+    // comments nor empty lines are numbered; doubles and single labels are.
+    let cases: [(&[u8], u32, u64, EdgeError); 3] = [
+        (b"a\tb\nb\tc\t7\n", 9, 1, EdgeError::TooManyEdges),
+        (b"a\tb\nc\td\t7\n", 2, 9, EdgeError::Fields { number: 2 }),
+        (
+            b"# c\n\na\tb\na\tb\nd\n\n\tc\n",
+            9,
+            9,
+            EdgeError::Fields { number: 4 },
+        ),
+    ];
+    for (text, vertices, edges, wanted) in cases {
+        assert_eq!(rt; error_of(&rt, text, vertices, edges), Some(wanted));
+    }
 }
 
 #[test]
 fn empty_fields(rt: HostRuntime) {
-    assert_eq!(rt;
-        error_of(&rt, b"\tb\n", 9, 9),
-        Some(EdgeError::Fields { number: 1 })
-    );
-    assert_eq!(rt;
-        error_of(&rt, b"a\t\n", 9, 9),
-        Some(EdgeError::Fields { number: 1 })
-    );
-    assert_eq!(rt;
-        error_of(&rt, b"\t", 9, 9),
-        Some(EdgeError::Fields { number: 1 })
-    );
-    assert_eq!(rt;
-        error_of(&rt, b"a\tb\t\n", 9, 9),
-        Some(EdgeError::Fields { number: 1 })
-    );
+    let texts: [&[u8]; 4] = [b"\tb\n", b"a\t\n", b"\t", b"a\tb\t\n"];
+    for text in texts {
+        assert_eq!(rt;
+            error_of(&rt, text, 9, 9),
+            Some(EdgeError::Fields { number: 1 })
+        );
+    }
 }
 
 #[test]
@@ -547,13 +543,14 @@ fn counts(graph: &Graph, wanted: &[u8]) -> bool {
     right
 }
 
-// What counting the vertices of a list answers on the two edges, and whether then just these are counted.
+// What counting the vertices of a list answers on an edge list, and whether then just these are counted.
 fn counted_list(
     rt: &HostRuntime,
+    text: &[u8],
     list: &[u8],
     wanted: &[u8],
 ) -> Result<(Result<(), CountedError>, bool), Fail> {
-    let (graph, result) = counting(rt, b"a\tb\nb\tc\n", list)?;
+    let (graph, result) = counting(rt, text, list)?;
     Ok((result, counts(&graph, wanted)))
 }
 
@@ -563,7 +560,10 @@ fn counted_lists(rt: HostRuntime) -> Result<(), Fail> {
     let lists: [&[u8]; 5] = [b"a", b"b\nc\na\nb\n", b"", b"# a\n\nc\r\n", b"a\n# b"];
     let wanted: [&[u8]; 5] = [b"0", b"012", b"", b"2", b"0"];
     for i in 0..5usize {
-        assert_eq!(rt; counted_list(&rt, lists[i], wanted[i])?, (Ok(()), true));
+        assert_eq!(rt;
+            counted_list(&rt, TWO_EDGES, lists[i], wanted[i])?,
+            (Ok(()), true)
+        );
     }
     Ok(())
 }
@@ -589,7 +589,7 @@ fn refused_lists(rt: HostRuntime) -> Result<(), Fail> {
     ];
     for i in 0..6usize {
         assert_eq!(rt;
-            counted_list(&rt, lists[i], b"012")?,
+            counted_list(&rt, TWO_EDGES, lists[i], b"012")?,
             (Err(wanted[i]), true)
         );
     }
@@ -598,7 +598,7 @@ fn refused_lists(rt: HostRuntime) -> Result<(), Fail> {
 
 #[test]
 fn counted_twice(rt: HostRuntime) -> Result<(), Fail> {
-    let (mut graph, first) = counting(&rt, b"a\tb\nb\tc\n", b"a\nb")?;
+    let (mut graph, first) = counting(&rt, TWO_EDGES, b"a\nb")?;
     let refused = graph.count_only(rt.alloc(), Delimiter::Tab, b"c\nz");
     let kept = counts(&graph, b"01");
     let second = graph.count_only(rt.alloc(), Delimiter::Comma, b"c");
@@ -616,17 +616,20 @@ fn counted_twice(rt: HostRuntime) -> Result<(), Fail> {
 fn lists_of_odd_labels(rt: HostRuntime) -> Result<(), Fail> {
     // Labels that begin alike, with quotes, of bytes that are no text, and of one space.
     let text = b"\"x\ty\"\"z\n\xff\xc0\t \nab\tabc\na\tabcdefghijklmn\n";
-    let (some, first) = counting(&rt, text, b"\"x\n\xff\xc0\nab\n")?;
-    let (others, second) = counting(&rt, text, b" \nabcdefghijklmn\ny\"\"z\nabc\na")?;
-    assert!(rt;
-        first == Ok(()) && second == Ok(()) && counts(&some, b"024") && counts(&others, b"13567")
-    );
+    let lists: [&[u8]; 2] = [b"\"x\n\xff\xc0\nab\n", b" \nabcdefghijklmn\ny\"\"z\nabc\na"];
+    let wanted: [&[u8]; 2] = [b"024", b"13567"];
+    for i in 0..2usize {
+        assert_eq!(rt;
+            counted_list(&rt, text, lists[i], wanted[i])?,
+            (Ok(()), true)
+        );
+    }
     Ok(())
 }
 
 // The job digest of the two edges in two partitions with just the vertices of a list counted.
 fn counted_digest(rt: &HostRuntime, list: &[u8]) -> Result<[u8; 32], Fail> {
-    let (graph, result) = counting(rt, b"a\tb\nb\tc\n", list)?;
+    let (graph, result) = counting(rt, TWO_EDGES, list)?;
     result?;
     let plan = graph.plan(4, 0, 2, 4096)?;
     Ok(plan.job())
@@ -641,7 +644,7 @@ fn digests_of_counted_vertices(rt: HostRuntime) -> Result<(), Fail> {
         0x21, 0xec, 0x52, 0x0b, 0x6f, 0x4a, 0x74, 0x5c, 0x46, 0x6d, 0x5d, 0x0b, 0x42, 0x93, 0x61,
         0x61, 0x45,
     ];
-    let all = digest(&rt, b"a\tb\nb\tc\n", 4);
+    let all = digest(&rt, TWO_EDGES, 4);
     assert_eq!(rt; counted_digest(&rt, b"a")?, one);
     assert!(rt; Some(Ok(counted_digest(&rt, b"a\nb\nc\na")?)) == all);
     Ok(())
@@ -667,7 +670,7 @@ fn part_counts(alloc: Global, graph: &Graph, p: u16, wanted: &[bool]) -> bool {
 
 #[test]
 fn parts_know_counted_vertices(rt: HostRuntime) -> Result<(), Fail> {
-    let (graph, _) = counting(&rt, b"a\tb\nb\tc\n", b"a")?;
+    let (graph, _) = counting(&rt, TWO_EDGES, b"a")?;
     assert!(rt; part_counts(rt.alloc(), &graph, 0, &[true, false]));
     assert!(rt; part_counts(rt.alloc(), &graph, 1, &[false]));
     Ok(())

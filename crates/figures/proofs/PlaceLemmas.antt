@@ -1,33 +1,48 @@
--- A list made place by place from two lists of one length.
-use Rattle.std.proofs.Common.{◌≡◌, ℕ, suc, ◌+◌, ◌<◌, List, [], ◌∷◌, length, get_or, map, refl, ap, ap₂, subst, arith}
+-- A part of a list that is made place by place, and what two lists give at a place.
+use Rattle.std.proofs.Common.{◌≡◌, ℕ, zero, suc, ◌+◌, ◌-◌, ◌<◌, ◌≤◌, List, [], ◌∷◌, length, get_or, map, min, take, drop, refl, ap, ap₂, arith, sym, ◌∙◌}
 use Rattle.std.specs.List.{AllZip, range_with_len, zip}
+use Rattle.std.proofs.lemmas.List.{drop_more, get_or-map, length-drop, length-map, take_min}
+use Rattle.std.proofs.lemmas.Slice.Zip.{get_or-zip, length-zip}
 
-module _ {A B C : Type 0} (f : A → B → C) (R : ℕ → C → Type 0) where
-  -- what a relation of places and results makes of the places from `at` on
-  zip_places : (at : ℕ) (xs : List A) (ys : List B) (zs : List C) → length ys ≡ length xs → AllZip R (range_with_len at (length ys)) zs →
-      ((k : ℕ) (x : A) (y : B) (z : C) → k < length xs → R (at + k) z → z ≡ f (get_or xs k x) (get_or ys k y)) → zs ≡ map (λ p. f p.0 p.1) (zip xs ys)
-  zip_places at [] [] [] same all gives = refl
-  zip_places at [] [] (z ∷ zs) same all gives = absurd all
-  zip_places at [] (y ∷ ys) zs same all gives = absurd (omega arith)
-  zip_places at (x ∷ xs) [] zs same all gives = absurd (omega arith)
-  zip_places at (x ∷ xs) (y ∷ ys) [] same all gives = absurd all
-  zip_places at (x ∷ xs) (y ∷ ys) (z ∷ zs) same all gives =
-      let here : at ≡ at + 0 = omega arith in
-      ap₂ (λ v rest. v ∷ rest)
-      (gives 0 x y z (omega arith) (subst (λ n. R n z) here all.0))
-      (zip_places (at + 1) xs ys zs (omega arith) all.1 (λ k a b c lt r.
-      let next : at + 1 + k ≡ at + suc k = omega arith in
-      gives (suc k) a b c (omega arith) (subst (λ n. R n c) next r)))
+module _ {C : Type 0} (R : ℕ → C → Type 0) (us : List C) where
+  -- what a relation of places and results makes of n places from `at` on
+  pub part_of : (at n : ℕ) (zs : List C) → n ≤ length us - at → AllZip R (range_with_len at n) zs → ((k : ℕ) (z : C) → k < length us → R k z → z ≡ get_or us k z) →
+      zs ≡ take n (drop at us)
+  part_of at zero [] within all gives = refl
+  part_of at zero (z ∷ zs) within all gives = absurd all
+  part_of at (suc n) [] within all gives = absurd all
+  part_of at (suc n) (z ∷ zs) within all gives =
+      let here : at < length us = omega arith in
+      ap₂ (λ v rest. v ∷ rest) (gives at z here all.0) (part_of (at + 1) n zs (omega arith) all.1 gives)
+      ∙ ap (take (suc n)) (sym (drop_more us at z here))
 
-  -- of all places
-  pub zip-range : (xs : List A) (ys : List B) (zs : List C) → length ys ≡ length xs → AllZip R (range_with_len 0 (length ys)) zs →
-      ((k : ℕ) (x : A) (y : B) (z : C) → k < length xs → R k z → z ≡ f (get_or xs k x) (get_or ys k y)) → zs ≡ map (λ p. f p.0 p.1) (zip xs ys)
-  zip-range xs ys zs same all gives = zip_places 0 xs ys zs same all (λ k x y z lt r.
-      let here : 0 + k ≡ k = omega arith in
-      gives k x y z lt (subst (λ n. R n z) here r))
+-- as many as there are
+pub take_within : {C : Type 0} (us : List C) (from to : ℕ) → take (min to (length us) - from) (drop from us) ≡ take (to - from) (drop from us)
+take_within us from to =
+    let left : length (drop from us) ≡ length us - from = length-drop from us in
+    let count : min to (length us) - from ≡ min (to - from) (length (drop from us)) = omega arith in
+    ap (λ n. take n (drop from us)) count ∙ take_min (to - from) (drop from us)
 
--- a list that is changed item by item before it is zipped
-pub zip-mapped : {A B C D : Type 0} (f : A → C → D) (g : B → C) (xs : List A) (ys : List B) → map (λ p. f p.0 (g p.1)) (zip xs ys) ≡ map (λ p. f p.0 p.1) (zip xs (map g ys))
-zip-mapped f g [] ys = refl
-zip-mapped f g (x ∷ xs) [] = refl
-zip-mapped f g (x ∷ xs) (y ∷ ys) = ap (λ rest. f x (g y) ∷ rest) (zip-mapped f g xs ys)
+-- an item of a list that has some
+pub an_item : {B : Type 0} (ys : List B) (k : ℕ) → k < length ys → B
+an_item [] k lt = absurd (omega arith)
+an_item (y ∷ ys) k lt = y
+
+-- what two lists of one length give at a place
+pub zipped_at : {A B C D : Type 0} (f : A → C → D) (g : B → C) (xs : List A) (ys : List B) (k : ℕ) (a : A) (b : B) (d : D) → length ys ≡ length xs → k < length xs →
+    f (get_or xs k a) (g (get_or ys k b)) ≡ get_or (map (λ p. f p.0 p.1) (zip xs (map g ys))) k d
+zipped_at f g xs ys k a b d same lt =
+    let count : length (map g ys) ≡ length ys = length-map ys g in
+    let long : length (zip xs (map g ys)) ≡ min (length xs) (length (map g ys)) = length-zip xs (map g ys) in
+    ap (f (get_or xs k a)) (sym (get_or-map g ys k b (g b) (omega arith)))
+    ∙ ap (λ p. f p.0 p.1) (sym (get_or-zip xs (map g ys) k (a, g b) lt (omega arith)))
+    ∙ sym (get_or-map (λ p. f p.0 p.1) (zip xs (map g ys)) k (a, g b) d (omega arith))
+
+-- and how many they give
+pub zipped_length : {A B C D : Type 0} (f : A → C → D) (g : B → C) (xs : List A) (ys : List B) → length ys ≡ length xs →
+    length (map (λ p. f p.0 p.1) (zip xs (map g ys))) ≡ length xs
+zipped_length f g xs ys same =
+    let count : length (map g ys) ≡ length ys = length-map ys g in
+    let long : length (zip xs (map g ys)) ≡ min (length xs) (length (map g ys)) = length-zip xs (map g ys) in
+    let made : length (map (λ p. f p.0 p.1) (zip xs (map g ys))) ≡ length (zip xs (map g ys)) = length-map (zip xs (map g ys)) (λ p. f p.0 p.1) in
+    omega arith

@@ -1,6 +1,7 @@
 //! The figures of many vertices, in threads.
 
-ghost use Rattle.std.specs.Prelude.{◌≡◌, ◌≤◌, ◌<◌, ◌^◌, [], IfOk, length, map, slice_index_or};
+ghost use Rattle.std.specs.Prelude.{◌≡◌, ◌≤◌, ◌<◌, ◌-◌, ◌^◌, [], IfOk};
+ghost use Rattle.std.specs.Prelude.{length, map, slice_index_or, take, drop};
 ghost use Rattle.std.specs.List.{All};
 ghost use Rattle.figures.specs.declared.tally.Tally.{Tally};
 ghost use Rattle.figures.specs.Values.{IsAt, figures_from, value_of};
@@ -9,6 +10,7 @@ use super::{Tally, closeness, estimate, lin};
 use rayon::prelude::*;
 use registers::Rows;
 use std::alloc::{AllocError, Global};
+use std::ops::Range;
 use std::thread::Threads;
 
 /// What is reported of a vertex. The order of the fields keeps it at 48 bytes.
@@ -43,9 +45,30 @@ pub fn final_figures(
     requires count { length tallies.now ≡ length rows.now.rows }
     requires width { rows.now.width ≡ 2 ^ log2m }
     requires ranks { All (λ row. All (λ r. r ≤ 33) row) rows.now.rows }
-    ensures { IfOk result (λ v. v.items ≡ figures_from log2m rows.now.rows (map value_of tallies.now)) }
+    ensures { IfOk result (λ v.
+        v.items ≡ figures_from log2m rows.now.rows (map value_of tallies.now)) }
 {
-    (0..tallies.len())
+    figures_within(rt, alloc, log2m, rows, tallies, 0..tallies.len())
+}
+
+/// Those of the vertices at some of the places, as far as there are such: for callers that have no room for all.
+pub fn figures_within(
+    rt: &(impl Threads + Sync),
+    alloc: Global,
+    log2m: u8,
+    rows: &Rows,
+    tallies: &[Tally],
+    places: Range<usize>,
+) -> Result<Vec<Figures>, AllocError>
+    requires low { 4 ≤ log2m }
+    requires high { log2m ≤ 10 }
+    requires count { length tallies.now ≡ length rows.now.rows }
+    requires width { rows.now.width ≡ 2 ^ log2m }
+    requires ranks { All (λ row. All (λ r. r ≤ 33) row) rows.now.rows }
+    ensures { IfOk result (λ v. v.items ≡ take (places.end - places.start)
+        (drop places.start (figures_from log2m rows.now.rows (map value_of tallies.now)))) }
+{
+    (places.start..places.end.min(tallies.len()))
         .into_par_iter()
         .map(
             |i: usize| -> Figures
@@ -55,7 +78,8 @@ pub fn final_figures(
                 requires row { i < length rows.now.rows }
                 requires width { rows.now.width ≡ 2 ^ log2m }
                 requires ranks { All (λ r. r ≤ 33) (slice_index_or rows.now.rows i []) }
-                ensures { (d : Tally) → IsAt log2m rows.entry.now.rows tallies.entry.now i d result }
+                ensures { (d : Tally) →
+                    IsAt log2m rows.entry.now.rows tallies.entry.now i d result }
             { figures_at(log2m, rows, tallies, i) },
         )
         .collect(rt, alloc)

@@ -1,14 +1,20 @@
+ghost use Rattle.std.specs.Prelude.{◌≡◌, ◌≤◌, length};
+ghost use Rattle.std.specs.List.{All};
+
 use super::*;
 use registers::Rows;
-use std::process::Abort;
+use std::ops::Range;
 use std::test::Fail;
+use std::thread::Threads;
 
-// The estimate of a row whose shape and ranks are looked at first.
-fn estimate_in(rt: &impl Abort, log2m: u8, row: &[u8]) -> u64 {
-    assert!(rt; (4..=10).contains(&log2m));
-    assert!(rt; row.len() == 1 << log2m);
-    assert!(rt; row.iter().all(|register| *register <= 33));
-    estimate(log2m, row)
+// The estimate of a row, where it is one of 2^log2m ranks.
+fn estimate_in(log2m: u8, row: &[u8]) -> Option<u64> {
+    let is_size = (4..=10).contains(&log2m);
+    if is_size && row.len() == 1 << log2m && row.iter().all(|register| *register <= 33) {
+        Some(estimate(log2m, row))
+    } else {
+        None
+    }
 }
 
 // The balls of a path of three vertices under seed 0: vertex 0 has rank 3 in register 14, vertex 1 rank 1 in
@@ -25,16 +31,25 @@ fn small_sets(rt: HostRuntime) {
         ([2, 0, 0, 0, 0, 0, 1, 0, 0, 0, 0, 0, 0, 0, 0, 0], 11_680_542),
         ([2, 0, 0, 0, 0, 0, 1, 0, 0, 0, 0, 0, 0, 0, 3, 0], 12_417_153),
     ];
-    for (row, want) in sets {
-        assert_eq!(rt; estimate_in(&rt, 4, &row), want);
-    }
+    assert!(rt;
+        sets.iter()
+            .all(|(row, told)| estimate_in(4, row) == Some(*told))
+    );
 }
 
 #[test]
 fn one_vertex_among_128_registers(rt: HostRuntime) {
     let mut row = [0u8; 128];
     row[113] = 4;
-    assert_eq!(rt; estimate_in(&rt, 7, &row), 92_230_136);
+    assert_eq!(rt; estimate_in(7, &row), Some(92_230_136));
+}
+
+// The estimates of 2^log2m registers that are all 0, and all 33, are these.
+fn are_bounds(log2m: u8, least: u64, greatest: u64) -> bool {
+    let width = 1usize << log2m.min(10);
+    width <= 1024
+        && estimate_in(log2m, &[0; 1024][..width]) == Some(least)
+        && estimate_in(log2m, &[33; 1024][..width]) == Some(greatest)
 }
 
 #[test]
@@ -48,79 +63,89 @@ fn least_and_greatest_estimates(rt: HostRuntime) {
         (9, 368_528_954, 3_165_639_610_296_210_490),
         (10, 737_833_736, 6_337_943_536_492_970_326),
     ];
-    for (log2m, least, greatest) in bounds {
-        assert!(rt; log2m <= 10);
-        let width = 1usize << log2m;
-        assert!(rt; width <= 1024);
-        assert_eq!(rt; estimate_in(&rt, log2m, &[0; 1024][..width]), least);
-        assert_eq!(rt; estimate_in(&rt, log2m, &[33; 1024][..width]), greatest);
-    }
+    assert!(rt;
+        bounds.iter().all(|(log2m, least, greatest)| are_bounds(*log2m, *least, *greatest))
+    );
+}
+
+fn numbers_of(tally: Tally) -> (u64, u64, u128) {
+    (tally.last, tally.harm, tally.dist)
 }
 
 // A vertex behind two others: its gains are 0.382969 at distance 1 and 0.736611 at distance 2.
 #[test]
 fn figures_of_a_vertex(rt: HostRuntime) {
     let mut tally = Tally::start(11_297_573);
-    assert_eq!(rt; (tally.last, tally.harm, tally.dist), (11_297_573, 0, 0));
+    let alone = numbers_of(tally);
     tally.step(1, 11_680_542);
-    assert_eq!(rt;
-        (tally.last, tally.harm, tally.dist),
-        (11_680_542, 382_969, 382_969)
-    );
+    let near = numbers_of(tally);
     tally.step(2, 12_417_153);
-    assert_eq!(rt;
-        (tally.last, tally.harm, tally.dist),
-        (12_417_153, 751_274, 1_856_191)
-    );
+    let far = numbers_of(tally);
     tally.step(3, 12_417_153);
-    assert_eq!(rt;
-        (tally.last, tally.harm, tally.dist),
-        (12_417_153, 751_274, 1_856_191)
-    );
-    assert_eq!(rt; closeness(tally.dist), 538_737);
-    assert_eq!(rt; lin(tally.last, tally.dist), 83_065_637);
+    let told = (12_417_153, 751_274, 1_856_191);
+    let is_told = alone == (11_297_573, 0, 0)
+        && near == (11_680_542, 382_969, 382_969)
+        && far == told
+        && numbers_of(tally) == told
+        && closeness(tally.dist) == 538_737
+        && lin(tally.last, tally.dist) == 83_065_637;
+    assert!(rt; is_told);
 }
 
 #[test]
 fn greatest_step(rt: HostRuntime) {
     let mut tally = Tally::start(0);
     tally.step(4096, 9_223_372_036_854_775_807);
-    assert_eq!(rt; tally.harm, 2_251_799_813_685_247);
-    assert_eq!(rt; tally.dist, 37_778_931_862_957_161_705_472);
+    assert_eq!(rt;
+        (tally.harm, tally.dist),
+        (2_251_799_813_685_247, 37_778_931_862_957_161_705_472)
+    );
 }
 
 #[test]
 fn centralities(rt: HostRuntime) {
-    assert_eq!(rt; closeness(0), 0);
-    assert_eq!(rt; closeness(1), 1_000_000_000_000);
-    assert_eq!(rt; closeness(665_022), 1_503_709);
-    assert_eq!(rt; closeness(1_000_000_000_001), 0);
-    assert_eq!(rt; lin(11_390_942, 0), 1_000_000);
-    assert_eq!(rt; lin(11_780_376, 665_022), 208_680_703);
-    assert_eq!(rt; lin(0, 5), 0);
-    assert_eq!(rt; lin(3, 2), 4);
-    assert_eq!(rt;
-        lin(u64::MAX, 1),
-        340_282_366_920_938_463_426_481_119_284_349_108_225
-    );
+    let close = [
+        (0, 0),
+        (1, 1_000_000_000_000),
+        (665_022, 1_503_709),
+        (1_000_000_000_001, 0),
+    ];
+    let index = [
+        (11_390_942, 0, 1_000_000),
+        (11_780_376, 665_022, 208_680_703),
+        (0, 5, 0),
+        (3, 2, 4),
+        (
+            u64::MAX,
+            1,
+            340_282_366_920_938_463_426_481_119_284_349_108_225,
+        ),
+    ];
+    let are_told = close.iter().all(|(dist, told)| closeness(*dist) == *told)
+        && index
+            .iter()
+            .all(|(last, dist, told)| lin(*last, *dist) == *told);
+    assert!(rt; are_told);
+}
+
+// The text of a number of millionths is this one.
+fn is_text(x: u128, told: &str) -> bool {
+    let mut buffer = [b'x'; 48];
+    fixed6(x, &mut buffer) == told
 }
 
 #[test]
 fn fixed_point_text(rt: HostRuntime) {
-    let mut buffer = [b'x'; 48];
-    assert_eq!(rt; fixed6(0, &mut buffer), "0.000000");
-    assert_eq!(rt; fixed6(7, &mut buffer), "0.000007");
-    assert_eq!(rt; fixed6(999_999, &mut buffer), "0.999999");
-    assert_eq!(rt; fixed6(1_000_000, &mut buffer), "1.000000");
-    assert_eq!(rt; fixed6(208_680_703, &mut buffer), "208.680703");
-    assert_eq!(rt;
-        fixed6(6_337_943_536_492_970_326, &mut buffer),
-        "6337943536492.970326"
-    );
-    assert_eq!(rt;
-        fixed6(u128::MAX, &mut buffer),
-        "340282366920938463463374607431768.211455"
-    );
+    let texts = [
+        (0, "0.000000"),
+        (7, "0.000007"),
+        (999_999, "0.999999"),
+        (1_000_000, "1.000000"),
+        (208_680_703, "208.680703"),
+        (6_337_943_536_492_970_326, "6337943536492.970326"),
+        (u128::MAX, "340282366920938463463374607431768.211455"),
+    ];
+    assert!(rt; texts.iter().all(|(x, told)| is_text(*x, told)));
 }
 
 // The figures are these.
@@ -135,9 +160,24 @@ fn are_told(figures: &[Figures], wanted: &[(u64, u64, u64, u128, u32)]) -> bool 
         ) == *told)
 }
 
-// The figures of three vertices whose rows and tallies differ, and of none.
-#[test]
-fn figures_of_vertices(rt: HostRuntime) -> Result<(), Fail> {
+// The figures of the vertices at some places are these.
+fn figures_are<H: AllocGlobal + Threads + Sync>(
+    rt: &H,
+    rows: &Rows,
+    tallies: &[Tally],
+    places: Range<usize>,
+    wanted: &[(u64, u64, u64, u128, u32)],
+) -> Result<bool, Fail>
+    requires count { length tallies.now ≡ length rows.now.rows }
+    requires width { rows.now.width ≡ 16 }
+    requires ranks { All (λ row. All (λ r. r ≤ 33) row) rows.now.rows }
+{
+    let figures = figures_within(rt, rt.alloc(), 4, rows, tallies, places)?;
+    Ok(are_told(&figures, wanted))
+}
+
+// The figures of three vertices whose rows and tallies differ, and of all but the first, are those of the table.
+fn three_are_told<H: AllocGlobal + Threads + Sync>(rt: &H) -> Result<bool, Fail> {
     let mut rows = Rows::fixed(rt.alloc(), 3, 16)?;
     rows.raise_one(1, 14, 3);
     rows.raise_one(2, 0, 2);
@@ -145,15 +185,33 @@ fn figures_of_vertices(rt: HostRuntime) -> Result<(), Fail> {
     let mut tally = Tally::start(11_297_573);
     tally.step(1, 11_680_542);
     let tallies = [Tally::start(0), Tally::start(5), tally];
-    let all = final_figures(&rt, rt.alloc(), 4, &rows, &tallies)?;
     let wanted = [
         (10_768_000, 0, 0, 1_000_000, 16),
         (11_390_942, 0, 0, 1_000_000, 15),
         (11_680_542, 382_969, 2_611_177, 356_256_149, 14),
     ];
-    assert!(rt; are_told(&all, &wanted));
-    let none = final_figures(&rt, rt.alloc(), 4, &Rows::fixed(rt.alloc(), 0, 16)?, &[])?;
-    assert_eq!(rt; none.len(), 0);
+    let all = figures_are(rt, &rows, &tallies, 0..3, &wanted)?;
+    let later = figures_are(rt, &rows, &tallies, 1..9, &wanted[1..])?;
+    Ok(all && later)
+}
+
+#[test]
+fn figures_of_vertices(rt: HostRuntime) -> Result<(), Fail> {
+    let are_told = three_are_told(&rt)?;
+    assert!(rt; are_told);
+    Ok(())
+}
+
+// How many figures no vertices have.
+fn count_of_none<H: AllocGlobal + Threads + Sync>(rt: &H) -> Result<usize, Fail> {
+    let rows = Rows::fixed(rt.alloc(), 0, 16)?;
+    Ok(final_figures(rt, rt.alloc(), 4, &rows, &[])?.len())
+}
+
+#[test]
+fn figures_of_no_vertices(rt: HostRuntime) -> Result<(), Fail> {
+    let count = count_of_none(&rt)?;
+    assert_eq!(rt; count, 0);
     Ok(())
 }
 
@@ -168,42 +226,57 @@ fn gaining<H: AllocGlobal>(rt: &H, count: u32) -> Result<Vec<Tally>, Fail> {
     Ok(tallies)
 }
 
+// The figures of vertices come in the order of such tallies.
+fn come_in_order<H: AllocGlobal + Threads + Sync>(rt: &H, rows: &Rows) -> Result<bool, Fail>
+    requires width { rows.now.width ≡ 16 }
+    requires ranks { All (λ row. All (λ r. r ≤ 33) row) rows.now.rows }
+{
+    let tallies = gaining(rt, 5000)?;
+    if tallies.len() != rows.len() {
+        return Err(Fail::new("a tally for each row"));
+    }
+    let all = final_figures(rt, rt.alloc(), 4, rows, &tallies)?;
+    Ok(all.len() == 5000 && all.iter().enumerate().all(|(i, f)| f.harmonic == i as u64))
+}
+
 // As many vertices as several threads are started for come back in order.
 #[test]
 fn figures_of_many_vertices(rt: HostRuntime) -> Result<(), Fail> {
     let rows = Rows::fixed(rt.alloc(), 5000, 16)?;
-    let tallies = gaining(&rt, 5000)?;
-    if tallies.len() != 5000 {
-        return Err(Fail::new("5000 tallies"));
-    }
-    let all = final_figures(&rt, rt.alloc(), 4, &rows, &tallies)?;
-    let in_order = all.iter().enumerate().all(|(i, f)| f.harmonic == i as u64);
-    assert_eq!(rt; (all.len(), in_order), (5000, true));
+    let in_order = come_in_order(&rt, &rows)?;
+    assert!(rt; in_order);
     Ok(())
 }
 
 // 4,097 totals: one that rises at superstep 1, stays, and rises to the greatest number at superstep 4,096.
 fn many_totals<H: AllocGlobal>(rt: &H) -> Result<Vec<u128>, Fail> {
     let mut totals = Vec::new(rt.alloc());
-    totals.push(0)?;
-    for _ in 1..4096 {
-        totals.push(1 << 20)?;
+    for i in 0..=4096 {
+        totals.push(match i {
+            0 => 0,
+            4096 => u128::MAX,
+            _ => 1 << 20,
+        })?;
     }
-    totals.push(u128::MAX)?;
     Ok(totals)
 }
 
-// Each term is rounded down, a rise divided by 2^128 or more is 0, and a total that falls adds nothing.
+// Each term is rounded down, and a total that falls adds nothing.
 #[test]
-fn gains(rt: HostRuntime) -> Result<(), Fail> {
-    let small = (
+fn gains(rt: HostRuntime) {
+    let gains = [
         gain(&[]),
         gain(&[7]),
         gain(&[0, 3, 9, 9, 73]),
         gain(&[9, 5, 13]),
         gain(&[0, u128::MAX, u128::MAX]),
-    );
-    assert_eq!(rt; small, (0, 0, 6, 2, u128::MAX / 2));
+    ];
+    assert_eq!(rt; gains, [0, 0, 6, 2, u128::MAX / 2]);
+}
+
+// A rise divided by 2^128 or more is 0.
+#[test]
+fn gain_of_many_totals(rt: HostRuntime) -> Result<(), Fail> {
     let totals = many_totals(&rt)?;
     assert_eq!(rt; (totals.len(), gain(&totals)), (4097, 1 << 19));
     Ok(())

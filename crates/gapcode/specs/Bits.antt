@@ -53,7 +53,10 @@ unfoldable pub gamma_at : List Bool → Result (ℕ × List Bool) CodeError
 gamma_at bits =
     if nat_le 64 (zeros bits) then Err TooLong
     else if nat_lt (length bits) (2 * zeros bits + 1) then Err Ended
-    else Ok (number_of (take (zeros bits + 1) (drop (zeros bits) bits)), drop (2 * zeros bits + 1) bits)
+    else Ok (
+      number_of (take (zeros bits + 1) (drop (zeros bits) bits)),
+      drop (2 * zeros bits + 1) bits,
+    )
 
 -- where a reader stands in its bits
 pub record Place : Type 0 where

@@ -17,7 +17,8 @@ list_bits (x ∷ xs) = gamma (length xs + 2) ++ (gamma (x + 1) ++ gaps x xs)
 
 -- the bytes spell the lists: one after the other, then less than a byte of zero bits
 abbrev pub IsSpelling : List ℕ → List (List ℕ) → Type 0
-IsSpelling bytes lists = (pad : ℕ) × (pad < 8) × (bits_of bytes ≡ flat_map list_bits lists ++ replicate pad false)
+IsSpelling bytes lists =
+    (pad : ℕ) × (pad < 8) × (bits_of bytes ≡ flat_map list_bits lists ++ replicate pad false)
 
 -- strictly ascending, from least on
 abbrev pub AscendsFrom : ℕ → List ℕ → Type 0
@@ -46,7 +47,8 @@ beyond = 4294967296
 -- ---- reading from left to right, with the first refusal that is met
 
 infixl 10 ◌>>=◌
-abbrev pub ◌>>=◌ : {A B : Type 0} → Result A CodeError → (A → Result B CodeError) → Result B CodeError
+abbrev pub ◌>>=◌ : {A B : Type 0} →
+    Result A CodeError → (A → Result B CodeError) → Result B CodeError
 (Ok x) >>= f = f x
 (Err e) >>= f = Err e
 
@@ -62,7 +64,8 @@ elements_at bound (suc n) least bits = do
 unfoldable pub list_at : ℕ → List Bool → Result (List ℕ × List Bool) CodeError
 list_at bound bits = do
   degree ← gamma_at bits
-  if nat_lt bound (degree.0 - 1) then Err errors.Range else elements_at bound (degree.0 - 1) 0 degree.1
+  if nat_lt bound (degree.0 - 1) then Err errors.Range else do
+    elements_at bound (degree.0 - 1) 0 degree.1
 
 unfoldable pub lists_at : ℕ → ℕ → List Bool → Result (List (List ℕ) × List Bool) CodeError
 lists_at bound zero bits = Ok ([], bits)
@@ -90,7 +93,8 @@ all_of bound count bytes = do
   Ok lists.0
 
 -- it is what the reading gives, or memory was refused where the reading gives lists
-abbrev pub GivesOrMemory : Result (List (List ℕ)) CodeError → Result (List (List ℕ)) CodeError → Type 0
+abbrev pub GivesOrMemory :
+    Result (List (List ℕ)) CodeError → Result (List (List ℕ)) CodeError → Type 0
 GivesOrMemory (Ok lists) due = Ok lists ≡ due
 GivesOrMemory (Err errors.Memory) due = (lists : List (List ℕ)) × (due ≡ Ok lists)
 GivesOrMemory (Err e) due = Err e ≡ due
@@ -136,7 +140,8 @@ BeginWith bytes count lists = lists_at beyond count (bits_of bytes) ≡ Ok lists
 -- that many elements are spelled from the place on
 pub record ArePlaced (bytes : List ℕ) (place left least : ℕ) : Type 0 where
   pub inside : place ≤ 8 * length bytes
-  pub coded : (x : List ℕ × List Bool) × (elements_at beyond left least (drop place (bits_of bytes)) ≡ Ok x)
+  pub coded : (x : List ℕ × List Bool)
+      × (elements_at beyond left least (drop place (bits_of bytes)) ≡ Ok x)
 
 -- a list is spelled from the place on
 pub record IsPlaced (bytes : List ℕ) (place : ℕ) : Type 0 where

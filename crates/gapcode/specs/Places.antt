@@ -9,7 +9,8 @@ passed i marks = count_by (λ mark. nat_le mark i) marks
 -- the places, the first of them entry i: each mark up to an entry adds 2 ^ 32
 unfoldable pub places_from : ℕ → List ℕ → List ℕ → List ℕ
 places_from i marks [] = []
-places_from i marks (low ∷ lows) = (low + 4294967296 * passed i marks) ∷ places_from (i + 1) marks lows
+places_from i marks (low ∷ lows) =
+    (low + 4294967296 * passed i marks) ∷ places_from (i + 1) marks lows
 
 -- each mark is of an entry that is there
 abbrev pub AreMarks : List ℕ → List ℕ → Type 0

@@ -11,7 +11,8 @@ use crate::error::CodeError;
 fn pass_elements(bytes: &[u8], place: u128, count: u64, bound: u64) -> Result<u128, CodeError>
     requires inside { place ≤ 8 * length bytes.now }
     requires bound { bound ≤ 2 ^ 32 }
-    ensures exact { from_place (bits_of bytes.now) result ≡ after (elements_at bound count 0 (bits_from bytes.now place)) }
+    ensures exact { from_place (bits_of bytes.now) result
+        ≡ after (elements_at bound count 0 (bits_from bytes.now place)) }
     ensures inside { IfOk result (λ end. end ≤ 8 * length bytes.now) }
 {
     let mut least = 0;
@@ -32,7 +33,8 @@ fn pass_elements(bytes: &[u8], place: u128, count: u64, bound: u64) -> Result<u1
 pub fn pass_list(bytes: &[u8], place: u128, bound: u64) -> Result<u128, CodeError>
     requires inside { place ≤ 8 * length bytes.now }
     requires bound { bound ≤ 2 ^ 32 }
-    ensures exact { from_place (bits_of bytes.now) result ≡ after (list_at bound (bits_from bytes.now place)) }
+    ensures exact { from_place (bits_of bytes.now) result
+        ≡ after (list_at bound (bits_from bytes.now place)) }
     ensures inside { IfOk result (λ end. end ≤ 8 * length bytes.now) }
 {
     let (code, next) = code_from(bytes, place)?;
@@ -46,7 +48,8 @@ pub fn pass_list(bytes: &[u8], place: u128, bound: u64) -> Result<u128, CodeErro
 // The place after that many lists.
 fn pass_lists(bytes: &[u8], count: usize, bound: u64) -> Result<u128, CodeError>
     requires { bound ≤ 2 ^ 32 }
-    ensures exact { from_place (bits_of bytes.now) result ≡ after (lists_at bound count (bits_of bytes.now)) }
+    ensures exact { from_place (bits_of bytes.now) result
+        ≡ after (lists_at bound count (bits_of bytes.now)) }
     ensures inside { IfOk result (λ end. end ≤ 8 * length bytes.now) }
 {
     let mut place = 0;
@@ -59,7 +62,8 @@ fn pass_lists(bytes: &[u8], count: usize, bound: u64) -> Result<u128, CodeError>
 // The bits up to the next whole byte, as a number.
 fn padding(bytes: &[u8], place: u128) -> u8
     requires { place ≤ 8 * length bytes.now }
-    ensures { result ≡ number_of (first_of_byte (8 * length bytes.now - place) (bits_from bytes.now place)) }
+    ensures { result ≡
+        number_of (first_of_byte (8 * length bytes.now - place) (bits_from bytes.now place)) }
 {
     let pad = ((8 * bytes.len() as u128 - place) % 8) as u32;
     if pad == 0 {

@@ -50,7 +50,8 @@ fn window(bytes: &[u8], position: u32) -> u64
 fn any_code(bytes: &[u8], position: u32) -> Result<(u64, u32), CodeError>
     requires first { position < 8 }
     requires inside { position ≤ 8 * length bytes.now }
-    ensures exact { with_rest_at (bits_of bytes.now) result ≡ gamma_at (bits_from bytes.now position) }
+    ensures exact { with_rest_at (bits_of bytes.now) result
+        ≡ gamma_at (bits_from bytes.now position) }
     ensures inside { IfOk result (λ found. found.1 ≤ 8 * length bytes.now) }
 {
     let front = window(bytes, position);
@@ -81,7 +82,8 @@ fn any_code(bytes: &[u8], position: u32) -> Result<(u64, u32), CodeError>
 pub fn code_at(bytes: &[u8], position: u32) -> Result<(u64, u32), CodeError>
     requires first { position < 8 }
     requires inside { position ≤ 8 * length bytes.now }
-    ensures exact { with_rest_at (bits_of bytes.now) result ≡ gamma_at (bits_from bytes.now position) }
+    ensures exact { with_rest_at (bits_of bytes.now) result
+        ≡ gamma_at (bits_from bytes.now position) }
     ensures inside { IfOk result (λ found. found.1 ≤ 8 * length bytes.now) }
 {
     if bytes.len() >= REACH {

@@ -107,7 +107,8 @@ fn list_end(bytes: &[u8], place: u128) -> u128
     requires inside { place ≤ 8 * length bytes.now }
     ensures end { (x : List ℕ × List Bool) → BeginsAt bytes.now place x
         → result ≡ place + length (list_bits x.0) }
-    ensures rest { (x : List ℕ × List Bool) → BeginsAt bytes.now place x → bits_from bytes.now result ≡ x.1 }
+    ensures rest { (x : List ℕ × List Bool) → BeginsAt bytes.now place x
+        → bits_from bytes.now result ≡ x.1 }
     ensures inside { result ≤ 8 * length bytes.now }
 {
     match pass_list(bytes, place, NUMBERS) {

@@ -53,7 +53,8 @@ fn put_code(full: &mut Vec<u8>, last: u8, used: u32, x: u64) -> (u8, u32)
     requires room { vec_len full.old + 17 ≤ vec_capacity full.old }
     ensures used { result.1 < 8 }
     ensures last { result.0 < 2 ^ result.1 }
-    ensures bits { written full.new.items result.0 result.1 ≡ written full.old.items last used ++ gamma x }
+    ensures bits { written full.new.items result.0 result.1
+        ≡ written full.old.items last used ++ gamma x }
     ensures room { vec_len full.new < vec_capacity full.new }
 {
     let zeros = 63 - x.leading_zeros();
@@ -80,7 +81,8 @@ impl Model for BitWriter {
     ghost view = { λ w. written w.full.items w.last w.used };
 
     ghost invariant = { λ w.
-        (w.used < 8) × (w.last < 2 ^ w.used) × (0 < w.used → vec_len w.full < vec_capacity w.full) };
+        (w.used < 8) × (w.last < 2 ^ w.used)
+        × (0 < w.used → vec_len w.full < vec_capacity w.full) };
 }
 
 impl BitWriter {

@@ -1,6 +1,6 @@
 -- The replicas of all partitions of a job, side by side.
 use Rattle.std.proofs.Common.{◌≡◌, ◌≢◌, ℕ, ◌+◌, ◌<◌, ◌≤◌, nat_lt, zero, suc, [], ◌∷◌, Bool, true, false, not, ◌&&◌, ◌||◌, ◌==◌, if◌then◌else◌, List, ◌++◌, length, get_or, set, slice_index_or, refl, ap, arith, sym, ◌∙◌, subst, inl, inr, ◌⊎◌}
-use Rattle.std.specs.Prelude.{Option, None, Some, Result, Ok, OnOk}
+use Rattle.std.specs.Prelude.{Option, None, Some, Result, Ok, OnOk, OnErr}
 use Rattle.std.specs.List.{find, range_with_len}
 use Rattle.std.specs.Str.{bytes_eq}
 use Rattle.std.proofs.lemmas.Bool.Decides.{nat_tests}
@@ -15,7 +15,7 @@ use Rattle.ball_model.specs.declared.names.Verdict.TheVariants as verdict
 use Rattle.ball_model.specs.PlanValue.{PlanValue, mixing_of}
 use Rattle.ball_model.specs.Job.{Job, PartValue, part_of}
 use Rattle.ball_model.specs.Batches.{BatchValue, true_batch}
-use Rattle.ball_model.specs.Content.{Content, take_of, is_new, after_take, same_plan, missing_of, close_of, verdict_at, verdict_of}
+use Rattle.ball_model.specs.Content.{Content, take_of, is_new, after_take, same_plan, missing_of, close_of, close_unless, verdict_at, verdict_of}
 use Rattle.ball_model.specs.State.{State, StandsFor, content_of}
 use Rattle.ball_model.proofs.EndLemmas.{end_within}
 use Rattle.replica.specs.Level.{found_verdict}
@@ -245,6 +245,19 @@ unfolding close_of
 close_on j p t v w r h held on answer stands =
     let is : r ≡ Ok (v.superstep + 1) = answer ∙ rw (held, h.superstep, on) refl in
     subst (λ (q : Result ℕ CloseError). OnOk q (StandsFor j p (t + 1) w)) is stands
+
+over_case : (k : Verdict) (n : ℕ) (v w : State) (r : Result ℕ CloseError) → (k ≡ verdict.GoOn → ⊥) → r ≡ close_unless None k n → OnErr r (w ≡ v) → w ≡ v
+over_case verdict.GoOn n v w r ends is same = absurd (ends refl)
+over_case verdict.Stable n v w r ends is same = subst (λ (q : Result ℕ CloseError). OnErr q (w ≡ v)) is same
+over_case verdict.Limit n v w r ends is same = subst (λ (q : Result ℕ CloseError). OnErr q (w ≡ v)) is same
+
+-- a replica whose run has ended does not go on
+pub close_over : (j : Job) (p t : ℕ) (v w : State) (r : Result ℕ CloseError) → StandsFor j p t v → missing_of j.plan.parts p (content_of v) ≡ None → (verdict_at j t ≡ verdict.GoOn → ⊥) →
+    r ≡ close_of j p (content_of v) → OnErr r (w ≡ v) → w ≡ v
+unfolding close_of
+close_over j p t v w r h held ends answer same =
+    let is : r ≡ close_unless None (verdict_at j t) v.superstep = answer ∙ rw (held, h.superstep) refl in
+    over_case (verdict_at j t) v.superstep v w r ends is same
 
 -- the verdict of a replica that holds its level
 pub verdict_is : (j : Job) (p t : ℕ) (v : State) (r : Option Verdict) → StandsFor j p t v → missing_of j.plan.parts p (content_of v) ≡ None → r ≡ verdict_of j p (content_of v) → r ≡ Some (verdict_at j t)

@@ -7,14 +7,19 @@ use Rattle.hyperball.specs.Serial.{ArePlain, settings_of}
 use Rattle.hyperball.specs.Whole.{IsWhole}
 use Rattle.hyperball.specs.Words.{Reports}
 use Rattle.hyperball.specs.declared.serial.SerialOptions.{SerialOptions}
+use Rattle.hyperball.specs.declared.words.RunWords.{RunWords}
 
--- a whole input of two sections, whose report was appended
-pub listed : (o : Option (List ℕ)) (bytes seen edges first list : List ℕ) (options : SerialOptions) (old new : Option (List ℕ)) → IsWhole o bytes → seen ≡ bytes → Some (edges, list) ≡ sections_of seen → first ≡ edges →
-    (ArePlain first (Some list) → AppendsReport (settings_of options) first (Some list) old new) → IfSome o (λ input. Reports (record { options = options; counted = true }) input old new)
-listed None bytes seen edges first list options old new whole same found is appended = tt
-listed (Some input) bytes seen edges first list options old new whole same found is appended = record {
+-- the two sections of an input, whose report was appended
+pub cut : (input edges first list : List ℕ) (options : SerialOptions) (old new : Option (List ℕ)) → Some (edges, list) ≡ sections_of input → first ≡ edges →
+    (ArePlain first (Some list) → AppendsReport (settings_of options) first (Some list) old new) → Reports (record { options = options; counted = true }) input old new
+cut input edges first list options old new found is appended = record {
   edges = edges;
   list = Some list;
-  found = ap (option_map (λ s. (s.0, Some s.1))) (sym (found ∙ ap sections_of (same ∙ whole)));
+  found = ap (option_map (λ s. (s.0, Some s.1))) (sym found);
   appended = subst (λ l. ArePlain l (Some list) → AppendsReport (settings_of options) l (Some list) old new) is appended;
 }
+
+-- a whole input whose report was appended
+pub listed : (o : Option (List ℕ)) (bytes seen : List ℕ) (w : RunWords) (old new : Option (List ℕ)) → IsWhole o bytes → seen ≡ bytes → Reports w seen old new → IfSome o (λ input. Reports w input old new)
+listed None bytes seen w old new whole same done = tt
+listed (Some input) bytes seen w old new whole same done = subst (λ l. Reports w l old new) (same ∙ whole) done

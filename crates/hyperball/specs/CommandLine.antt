@@ -1,6 +1,7 @@
 -- The command line: the subcommand `run` and its options.
 use Rattle.std.specs.Prelude.{◌≡◌, List, [], ◌∷◌, Some, codes, map, pos, true, false}
-use Rattle.clap.specs.Words.{App, Rule, Text, app_of, new_app, new_rule, with_rule, with_subcommand}
+use Rattle.clap.specs.Words.{App, Rule, Text, app_of, new_app, new_rule}
+use Rattle.clap.specs.Words.{with_rule, with_subcommand}
 use Rattle.clap.specs.declared.builder.action.ArgAction.TheVariants.{SetTrue}
 use Rattle.clap.specs.declared.builder.command.Command.{Command}
 use Rattle.clap.specs.declared.builder.command.Command.TheViews.{out-Command as fields_of}
@@ -47,16 +48,23 @@ with_numbers app = with_rule (with_rule (with_rule (with_rule app
 
 -- a command with the options of an input, whose delimiters a parser takes
 abbrev pub with_input : ValueParser → App → App
-with_input delimiters app = with_rule (with_rule app (option_rule (codes "delimiter") delimiters)) (flag_rule (codes "counted"))
+with_input delimiters app = with_rule (with_rule app
+    (option_rule (codes "delimiter") delimiters))
+    (flag_rule (codes "counted"))
 
 -- the subcommand `run`
 unfoldable pub run_app : ValueParser → App
 run_app delimiters = with_input delimiters (with_numbers (new_app (codes "run")))
 
--- the program, which wants a subcommand
+-- the program, which wants a subcommand, before it has one
+abbrev pub new_hyperball : App
+new_hyperball = record (new_app (codes "hyperball")) {
+  top = record (new_app (codes "hyperball")).top { subcommand_required = true };
+}
+
+-- the program
 unfoldable pub hyperball_app : ValueParser → App
-hyperball_app delimiters =
-    with_subcommand (record (new_app (codes "hyperball")) { top = record (new_app (codes "hyperball")).top { subcommand_required = true } }) (run_app delimiters).top
+hyperball_app delimiters = with_subcommand new_hyperball (run_app delimiters).top
 
 -- a command of this form, with no argument for all subcommands
 pub record IsApp (app : App) (c : Command) : Type 0 where

@@ -12,7 +12,10 @@ abbrev pub log2m_words : RunWords
 log2m_words = record { options = record usual_options { log2m = 4 }; counted = false }
 
 abbrev pub space_words : RunWords
-space_words = record { options = record usual_options { delimiter = Space; limit = 5000 }; counted = false }
+space_words = record {
+  options = record usual_options { delimiter = Space; limit = 5000 };
+  counted = false;
+}
 
 abbrev pub counted_words : RunWords
 counted_words = record { options = record usual_options { parts = 2 }; counted = true }

@@ -1,10 +1,12 @@
 -- A run in one thread: what is asked of it, and what its refusals say of the input.
-use Rattle.std.specs.Prelude.{◌≡◌, ℕ, List, Option, option_map, Result, Ok, Err, MatchResult, IfSome, Vec}
+use Rattle.std.specs.Prelude.{◌≡◌, ℕ, List, Option, option_map, Result, Ok, Err, IfSome, Vec}
+use Rattle.std.specs.Prelude.{MatchResult}
 use Rattle.std.specs.Borrow.{Bor}
 use Rattle.std.specs.Global.{Global}
 use Rattle.ball_model.specs.PlanValue.{plan_of}
 use Rattle.ball_model.specs.Input.{IsPlain, Network}
-use Rattle.ball_model.specs.RunText.{AreRead, IsPlanFault, IsReportOf, Numbers, Settings, counted_in, network_in, plan_over}
+use Rattle.ball_model.specs.RunText.{AreRead, IsPlanFault, IsReportOf, Numbers, Settings}
+use Rattle.ball_model.specs.RunText.{counted_in, network_in, plan_over}
 use Rattle.edgelist.specs.Planning.{numbers_of}
 use Rattle.edgelist.specs.Reading.{Refuses, byte_of}
 use Rattle.edgelist.specs.Counting.{RefusesList}
@@ -33,11 +35,15 @@ pub record IsListRefusal (s : Settings) (input : List ℕ) (list : Option (List 
   pub read : network_in s input ≡ Ok all
   pub refused : RefusesList (counted_in s all list) e
 
+-- there is a plan of these numbers over the network
+abbrev pub HasPlan : Numbers → Network → Type 0
+HasPlan n network = plan_of (plan_over n network.graph) ≡ Ok (plan_over n network.graph)
+
 -- both say a network, over which there is such a plan
 pub record IsPlanned (s : Settings) (input : List ℕ) (list : Option (List ℕ)) : Type 0 where
   pub network : Network
   pub read : AreRead s input list network
-  pub planned : plan_of (plan_over s.numbers network.graph) ≡ Ok (plan_over s.numbers network.graph)
+  pub planned : HasPlan s.numbers network
 
 -- what a refusal says of the input: each comes only where all checks before it passed
 abbrev pub IsRefusal : Settings → List ℕ → Option (List ℕ) → SerialError → Type 0
@@ -60,9 +66,10 @@ abbrev pub RefusesNetwork : Numbers → Network → SerialError → Type 0
 RefusesNetwork n network (fault.Edges e) = ⊥
 RefusesNetwork n network (fault.Counted e) = ⊥
 RefusesNetwork n network (fault.Plan e) = plan_of (plan_over n network.graph) ≡ Err e
-RefusesNetwork n network fault.Memory = plan_of (plan_over n network.graph) ≡ Ok (plan_over n network.graph)
+RefusesNetwork n network fault.Memory = HasPlan n network
 RefusesNetwork n network fault.Write = ⊥
 
 -- the report of a network, or why there is none
 abbrev pub AnswersNetwork : Numbers → Network → Result (Vec ℕ Global) SerialError → Type 0
-AnswersNetwork n network result = MatchResult result (λ text. IsReportOf n network text.items) (RefusesNetwork n network)
+AnswersNetwork n network result =
+    MatchResult result (λ text. IsReportOf n network text.items) (RefusesNetwork n network)

@@ -1,5 +1,6 @@
 -- Inputs that are read whole.
-use Rattle.std.specs.Prelude.{◌≡◌, ℕ, ◌<◌, ◌≤◌, Bool, true, false, List, ◌++◌, length, Option, None, Some, IfSome, option_map}
+use Rattle.std.specs.Prelude.{◌≡◌, ℕ, ◌<◌, ◌≤◌, Bool, true, false, List, ◌++◌, length}
+use Rattle.std.specs.Prelude.{Option, None, Some, IfSome, option_map}
 use Rattle.std.specs.Io.KnownBytes.{Consumes, IsAtEnd}
 use Rattle.ball_model.specs.Sections.{sections_of}
 
@@ -29,7 +30,7 @@ IsWhole old bytes = IfSome old (λ input. bytes ≡ input)
 abbrev pub IsLong : Option (List ℕ) → Type 0
 IsLong old = IfSome old (λ input. most_bytes < length input)
 
--- the edge list in an input, and the list of counted vertices: where one is given they are the two sections
+-- the edge list in an input, and the list of counted vertices: with one they are the two sections
 abbrev pub found_in : Bool → List ℕ → Option (List ℕ × Option (List ℕ))
 found_in false input = Some (input, None)
 found_in true input = option_map (λ sections. (sections.0, Some sections.1)) (sections_of input)

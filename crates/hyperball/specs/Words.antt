@@ -1,5 +1,7 @@
 -- What the words of a command line say.
-use Rattle.std.specs.Prelude.{◌≡◌, ◌≢◌, ◌<◌, ◌^◌, ℕ, Bool, true, false, List, [], Option, Some, MatchOption, codes}
+use Rattle.std.specs.Prelude.{◌≡◌, ◌≢◌, ◌<◌, ◌^◌, ℕ, Bool, true, false, List, [], Option, Some}
+use Rattle.std.specs.Prelude.{MatchOption, String, codes, map, string_bytes}
+use Rattle.std.specs.Global.{Global}
 use Rattle.std.specs.List.{AllByRecursion}
 use Rattle.std.specs.Str.Parse.{IsNumeral, digits_value, without_leading_plus}
 use Rattle.clap.specs.Words.{Row, Text, first_of, one_of, subcommand_of, fault_of}
@@ -14,6 +16,10 @@ use Rattle.hyperball.specs.CommandLine.{delimiter_names, TakesNames, hyperball_a
 use Rattle.hyperball.specs.Serial.{ArePlain, settings_of}
 use Rattle.hyperball.specs.Whole.{found_in}
 
+-- the words of a command line as texts
+abbrev pub texts_of : List (String Global) → List Text
+texts_of words = map (λ w. string_bytes w) words
+
 -- a text is this number of so many bits
 pub record IsNumber (bits : ℕ) (text : Text) (n : ℕ) : Type 0 where
   pub numeral : IsNumeral 10 (without_leading_plus text)
@@ -22,7 +28,8 @@ pub record IsNumber (bits : ℕ) (text : Text) (n : ℕ) : Type 0 where
 
 -- an option's value is this number; where it is not given it is the usual one
 abbrev pub IsNumberOr : ℕ → ℕ → List Row → Text → ℕ → Type 0
-IsNumberOr usual bits rows id n = MatchOption (one_of id rows) (n ≡ usual) (λ text. IsNumber bits text n)
+IsNumberOr usual bits rows id n =
+    MatchOption (one_of id rows) (n ≡ usual) (λ text. IsNumber bits text n)
 
 -- the name of a delimiter
 abbrev pub name_of : Delimiter → Text
@@ -32,7 +39,8 @@ name_of Space = codes "space"
 
 -- an option's value is the name of this delimiter; where it is not given it is the tab
 abbrev pub IsDelimiter : List Row → Delimiter → Type 0
-IsDelimiter rows d = MatchOption (first_of (codes "delimiter") rows) (d ≡ Tab) (λ name. name ≡ name_of d)
+IsDelimiter rows d =
+    MatchOption (first_of (codes "delimiter") rows) (d ≡ Tab) (λ name. name ≡ name_of d)
 
 -- the text of a flag
 abbrev pub flag_text : Bool → Text
@@ -58,12 +66,14 @@ IsRunOf sub w = (rows : List Row) × (sub ≡ Some (codes "run", rows)) × AreOp
 
 -- what the program's command finds wrong with the words
 pub record HasFaults (words : List Text) (kinds : List ErrorKind) : Type 0 where
-  pub are : (p : ValueParser) → TakesNames delimiter_names p → fault_of (hyperball_app p) words ≡ kinds
+  pub are : (p : ValueParser) → TakesNames delimiter_names p →
+      fault_of (hyperball_app p) words ≡ kinds
 
 -- the words are read as those of run, with these options or their defaults
 pub record IsRun (words : List Text) (w : RunWords) : Type 0 where
   pub accepted : HasFaults words []
-  pub command : (p : ValueParser) → TakesNames delimiter_names p → IsRunOf (subcommand_of (hyperball_app p) words) w
+  pub command : (p : ValueParser) → TakesNames delimiter_names p →
+      IsRunOf (subcommand_of (hyperball_app p) words) w
 
 -- a mistake, and no wish for help
 abbrev pub IsMistake : ErrorKind → Type 0

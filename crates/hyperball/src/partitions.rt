@@ -1,11 +1,13 @@
 //! All partitions of a job in one thread, superstep by superstep (Pregel 2010).
 
-ghost use Rattle.std.specs.Prelude.{◌≡◌, ◌≢◌, ◌<◌, ◌+◌, ◌==◌, ◌||◌, ℕ, Bool, true, false, OnOk, IfOk, length};
+ghost use Rattle.std.specs.Prelude.{◌≡◌, ◌≢◌, ◌<◌, ◌+◌, ◌==◌, ◌||◌, ℕ, Bool, true, false};
+ghost use Rattle.std.specs.Prelude.{OnOk, IfOk, length};
 ghost use Rattle.ball_model.specs.declared.names.Verdict.TheVariants as verdict;
 ghost use Rattle.ball_model.specs.Job.{Job, IsJob};
 ghost use Rattle.ball_model.specs.Content.{verdict_at};
 ghost use Rattle.ball_model.specs.State.{StandsFor};
-ghost use Rattle.hyperball.specs.Partitions.{AreAt, AreEnded, AreLevel, AreOver, AreRunning, AreTold, and_told};
+ghost use Rattle.hyperball.specs.Partitions.{AreAt, AreEnded, AreLevel, AreOver, AreRunning};
+ghost use Rattle.hyperball.specs.Partitions.{AreTold, and_told, job_of};
 
 use ball_model::{Plan, Verdict};
 use edgelist::Graph;
@@ -15,9 +17,9 @@ use std::sync::Arc;
 
 // A replica of partition `p` at superstep 0.
 fn start_one(alloc: Global, graph: &Graph, plan: &Plan, p: u16) -> Result<Replica, AllocError>
-    requires job { IsJob (record { graph = graph.now.graph; plan = plan.now }) }
+    requires job { IsJob (job_of graph.now plan.now) }
     requires below { p < plan.now.parts }
-    ensures { IfOk result (StandsFor (record { graph = graph.now.graph; plan = plan.now }) p 0) }
+    ensures { IfOk result (StandsFor (job_of graph.now plan.now) p 0) }
 {
     let part = graph.part(alloc, plan, p)?;
     let part = Arc::new(alloc, part)?;
@@ -26,8 +28,8 @@ fn start_one(alloc: Global, graph: &Graph, plan: &Plan, p: u16) -> Result<Replic
 
 // A replica of each partition at superstep 0.
 fn start_all(alloc: Global, graph: &Graph, plan: &Plan) -> Result<Vec<Replica>, AllocError>
-    requires job { IsJob (record { graph = graph.now.graph; plan = plan.now }) }
-    ensures { IfOk result (λ rs. AreAt (record { graph = graph.now.graph; plan = plan.now }) 0 rs.items) }
+    requires job { IsJob (job_of graph.now plan.now) }
+    ensures { IfOk result (λ rs. AreAt (job_of graph.now plan.now) 0 rs.items) }
 {
     let mut replicas = Vec::with_capacity(alloc, usize::from(plan.parts()))?;
     for p in 0..plan.parts() {
@@ -70,7 +72,8 @@ fn tell_all(alloc: Global, replicas: &mut [Replica], source: u16) -> Result<(), 
 // Every partition tells every other one of the superstep, so that each holds its level.
 fn exchange(alloc: Global, replicas: &mut [Replica]) -> Result<(), AllocError>
     requires running { AreRunning replicas.old }
-    ensures level { (j : Job) (t : ℕ) → AreAt j t replicas.old → OnOk result (AreLevel j t replicas.new) }
+    ensures level { (j : Job) (t : ℕ) → AreAt j t replicas.old →
+        OnOk result (AreLevel j t replicas.new) }
 {
     for source in 0..replicas.len() as u16 {
         tell_all(alloc, replicas, source)?;
@@ -81,8 +84,10 @@ fn exchange(alloc: Global, replicas: &mut [Replica]) -> Result<(), AllocError>
 // Whether there is a next superstep. All partitions that hold their level say the same.
 fn goes_on(replicas: &[Replica]) -> bool
     requires { 0 < length replicas.now }
-    ensures on { result ≡ true → (j : Job) (t : ℕ) → AreLevel j t replicas.now → verdict_at j t ≡ verdict.GoOn }
-    ensures over { result ≡ false → (j : Job) (t : ℕ) → AreLevel j t replicas.now → AreOver j t (length replicas.now) replicas.now }
+    ensures on { result ≡ true → (j : Job) (t : ℕ) → AreLevel j t replicas.now →
+        verdict_at j t ≡ verdict.GoOn }
+    ensures over { result ≡ false → (j : Job) (t : ℕ) → AreLevel j t replicas.now →
+        AreOver j t (length replicas.now) replicas.now }
 {
     for replica in replicas {
         if replica.verdict() == Some(Verdict::GoOn) {
@@ -94,7 +99,17 @@ fn goes_on(replicas: &[Replica]) -> bool
 
 // All partitions go on to the next superstep.
 fn close_all(replicas: &mut [Replica])
-    ensures { (j : Job) (t : ℕ) → AreLevel j t replicas.old → verdict_at j t ≡ verdict.GoOn → AreAt j (t + 1) replicas.new }
+    ensures { (j : Job) (t : ℕ) → AreLevel j t replicas.old → verdict_at j t ≡ verdict.GoOn →
+        AreAt j (t + 1) replicas.new }
+{
+    for replica in replicas.iter_mut() {
+        let _ = replica.close();
+    }
+}
+
+// Replicas at the end of their run close once more, which changes nothing and gives back the memory of their indexes.
+fn settle(replicas: &mut [Replica])
+    ensures { (j : Job) → AreEnded j replicas.old → replicas.new ≡ replicas.old }
 {
     for replica in replicas.iter_mut() {
         let _ = replica.close();
@@ -105,8 +120,8 @@ fn close_all(replicas: &mut [Replica])
 ///
 /// In each superstep every partition tells every other one what it has to, and all go on together.
 pub fn run_to_end(alloc: Global, graph: &Graph, plan: &Plan) -> Result<Vec<Replica>, AllocError>
-    requires job { IsJob (record { graph = graph.now.graph; plan = plan.now }) }
-    ensures { IfOk result (λ rs. AreEnded (record { graph = graph.now.graph; plan = plan.now }) rs.items) }
+    requires job { IsJob (job_of graph.now plan.now) }
+    ensures { IfOk result (λ rs. AreEnded (job_of graph.now plan.now) rs.items) }
 {
     let mut replicas = start_all(alloc, graph, plan)?;
     exchange(alloc, &mut replicas)?;
@@ -114,5 +129,6 @@ pub fn run_to_end(alloc: Global, graph: &Graph, plan: &Plan) -> Result<Vec<Repli
         close_all(&mut replicas);
         exchange(alloc, &mut replicas)?;
     }
+    settle(&mut replicas);
     Ok(replicas)
 }

@@ -1,14 +1,17 @@
 //! A run in one thread: from bytes to bytes.
 
-ghost use Rattle.std.specs.Prelude.{◌≡◌, ◌≢◌, ◌<◌, Ok, Err, OnOk, OnErr, IfOk, IfErr, IfSome};
+ghost use Rattle.std.specs.Prelude.{◌≡◌, ◌≢◌, Ok, Err, OnOk, OnErr, IfOk, IfErr, IfSome};
 ghost use Rattle.std.specs.Io.KnownBytes.{Appends, Keeps};
 ghost use Rattle.ball_model.specs.Job.{IsJob};
 ghost use Rattle.ball_model.specs.Input.{IsPlain};
 ghost use Rattle.ball_model.specs.PlanValue.{mixing_of};
 ghost use Rattle.ball_model.specs.Report.{report_of};
 ghost use Rattle.ball_model.specs.RunText.{AppendsReport, AreRead, IsReport, counted_in};
+ghost use Rattle.ball_model.specs.Streams.{Rises};
 ghost use Rattle.edgelist.specs.Counting.{RefusesList};
-ghost use Rattle.hyperball.specs.Serial.{AnswersNetwork, ArePlain, IsRefusal, RefusesRead, list_in, numbers_in, settings_of};
+ghost use Rattle.hyperball.specs.Partitions.{job_of};
+ghost use Rattle.hyperball.specs.Serial.{AnswersNetwork, ArePlain, IsRefusal, RefusesRead, list_in};
+ghost use Rattle.hyperball.specs.Serial.{numbers_in, settings_of};
 
 use crate::partitions::run_to_end;
 use ball_model::{CountedRead, CountedWrite, CountingWriter, Plan, PlanError, put_all};
@@ -111,8 +114,10 @@ fn count_listed(
     counted: Option<&[u8]>,
     options: &SerialOptions,
 ) -> Result<(), CountedError>
-    ensures ok { IfSome (list_in counted.entry) IsPlain → OnOk result (counted_in (settings_of options.now) graph.old (list_in counted.entry) ≡ Ok graph.new) }
-    ensures refused { IfSome (list_in counted.entry) IsPlain → IfErr result (RefusesList (counted_in (settings_of options.now) graph.old (list_in counted.entry))) }
+    ensures ok { IfSome (list_in counted.entry) IsPlain → OnOk result (
+        counted_in (settings_of options.now) graph.old (list_in counted.entry) ≡ Ok graph.new) }
+    ensures refused { IfSome (list_in counted.entry) IsPlain → IfErr result (
+        RefusesList (counted_in (settings_of options.now) graph.old (list_in counted.entry))) }
 {
     match counted {
         Some(list) => graph.count_only(alloc, options.delimiter, list),
@@ -128,10 +133,14 @@ fn read_graph<R: CountedRead>(
     counted: Option<&[u8]>,
     options: &SerialOptions,
 ) -> Result<Graph, SerialError>
-    ensures ok { IfSome (R.remaining reader.old) (λ input. ArePlain input (list_in counted.entry) → IfOk result (AreRead (settings_of options.now) input (list_in counted.entry))) }
-    ensures refused { IfSome (R.remaining reader.old) (λ input. ArePlain input (list_in counted.entry) → IfErr result (RefusesRead (settings_of options.now) input (list_in counted.entry))) }
+    ensures ok { IfSome (R.remaining reader.old) (λ input. ArePlain input (list_in counted.entry) →
+        IfOk result (AreRead (settings_of options.now) input (list_in counted.entry))) }
+    ensures refused { IfSome (R.remaining reader.old) (λ input.
+        ArePlain input (list_in counted.entry) →
+        IfErr result (RefusesRead (settings_of options.now) input (list_in counted.entry))) }
     ensures kind { IfErr result (λ e. e ≢ SerialError.Write) }
-    ensures read { result ≡ Err (SerialError.Edges EdgeError.Read) → R.failed_calls reader.old < R.failed_calls reader.new }
+    ensures read { result ≡ Err (SerialError.Edges EdgeError.Read) →
+        Rises (R.failed_calls reader.old) (R.failed_calls reader.new) }
 {
     let mut graph = read_edges(alloc, state, reader, options.delimiter, LIMITS)?;
     count_listed(alloc, &mut graph, counted, options)?;
@@ -144,8 +153,9 @@ fn planned_text<T: AllocGlobal + Threads + Sync>(
     graph: &Graph,
     plan: &Plan,
 ) -> Result<Vec<u8>, AllocError>
-    requires { IsJob (record { graph = graph.now.graph; plan = plan.now }) }
-    ensures { IfOk result (λ text. text.items ≡ report_of (mixing_of plan.now) graph.now.graph graph.now.labels plan.now.limit) }
+    requires { IsJob (job_of graph.now plan.now) }
+    ensures { IfOk result (λ text. text.items ≡
+        report_of (mixing_of plan.now) graph.now.graph graph.now.labels plan.now.limit) }
 {
     let replicas = run_to_end(rt.alloc(), graph, plan)?;
     let room = graph.vertices() as usize * LINE_ROOM;
@@ -179,11 +189,14 @@ fn read_text<T: AllocGlobal + Threads + Sync, R: CountedRead>(
     options: &SerialOptions,
 ) -> Result<Vec<u8>, SerialError>
     ensures ok { IfSome (R.remaining reader.old) (λ input. ArePlain input (list_in counted.entry) →
-        IfOk result (λ text. IsReport (settings_of options.now) input (list_in counted.entry) text.items)) }
-    ensures refused { IfSome (R.remaining reader.old) (λ input. ArePlain input (list_in counted.entry) →
+        IfOk result (λ text.
+        IsReport (settings_of options.now) input (list_in counted.entry) text.items)) }
+    ensures refused { IfSome (R.remaining reader.old) (λ input.
+        ArePlain input (list_in counted.entry) →
         IfErr result (IsRefusal (settings_of options.now) input (list_in counted.entry))) }
     ensures kind { IfErr result (λ e. e ≢ SerialError.Write) }
-    ensures read { result ≡ Err (SerialError.Edges EdgeError.Read) → R.failed_calls reader.old < R.failed_calls reader.new }
+    ensures read { result ≡ Err (SerialError.Edges EdgeError.Read) →
+        Rises (R.failed_calls reader.old) (R.failed_calls reader.new) }
 {
     let graph = read_graph(rt.alloc(), state, reader, counted, options)?;
     report_text(rt, &graph, options)
@@ -193,7 +206,7 @@ fn read_text<T: AllocGlobal + Threads + Sync, R: CountedRead>(
 fn write_text<W: CountedWrite>(writer: &mut W, text: &[u8]) -> Result<(), SerialError>
     ensures done { OnOk result (Appends (W.contents writer.old) (W.contents writer.new) text.now) }
     ensures kind { IfErr result (λ e. e ≡ SerialError.Write) }
-    ensures failed { OnErr result (W.failed_calls writer.old < W.failed_calls writer.new) }
+    ensures failed { OnErr result (Rises (W.failed_calls writer.old) (W.failed_calls writer.new)) }
 {
     if put_all(writer, text) {
         Ok(())
@@ -218,13 +231,19 @@ pub fn run_serial<T: AllocGlobal + Threads + Sync, R: CountedRead, W: CountedWri
     writer: &mut W,
     options: &SerialOptions,
 ) -> Result<(), SerialError>
-    ensures ok { OnOk result (IfSome (R.remaining reader.old) (λ input. ArePlain input (list_in counted.entry) →
-        AppendsReport (settings_of options.now) input (list_in counted.entry) (W.contents writer.old) (W.contents writer.new))) }
-    ensures refused { IfErr result (λ e. IfSome (R.remaining reader.old) (λ input. ArePlain input (list_in counted.entry) →
+    ensures ok { OnOk result (IfSome (R.remaining reader.old) (λ input.
+        ArePlain input (list_in counted.entry) →
+        AppendsReport (settings_of options.now) input (list_in counted.entry)
+        (W.contents writer.old) (W.contents writer.new))) }
+    ensures refused { IfErr result (λ e. IfSome (R.remaining reader.old) (λ input.
+        ArePlain input (list_in counted.entry) →
         IsRefusal (settings_of options.now) input (list_in counted.entry) e)) }
-    ensures read { result ≡ Err (SerialError.Edges EdgeError.Read) → R.failed_calls reader.old < R.failed_calls reader.new }
-    ensures write { result ≡ Err SerialError.Write → W.failed_calls writer.old < W.failed_calls writer.new }
-    ensures untouched { IfErr result (λ e. e ≢ SerialError.Write → Keeps (W.contents writer.old) (W.contents writer.new)) }
+    ensures read { result ≡ Err (SerialError.Edges EdgeError.Read) →
+        Rises (R.failed_calls reader.old) (R.failed_calls reader.new) }
+    ensures write { result ≡ Err SerialError.Write →
+        Rises (W.failed_calls writer.old) (W.failed_calls writer.new) }
+    ensures untouched { IfErr result (λ e. e ≢ SerialError.Write →
+        Keeps (W.contents writer.old) (W.contents writer.new)) }
 {
     let text = read_text(rt, state, reader, counted, options)?;
     write_text(writer, &text)

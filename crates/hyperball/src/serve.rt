@@ -1,18 +1,19 @@
 //! From words and bytes to bytes and a status.
 
-ghost use Rattle.std.specs.Prelude.{◌≡◌, ◌≢◌, ◌<◌, ◌≤◌, ◌+◌, ◌⊎◌, ◌∷◌, [], IfSome, OnErr, OnOk, List, map, true};
+ghost use Rattle.std.specs.Prelude.{◌≡◌, ◌≢◌, ◌≤◌, ◌+◌, ◌⊎◌, ◌∷◌, [], List, true};
+ghost use Rattle.std.specs.Prelude.{IfSome, OnErr, OnOk};
 ghost use Rattle.std.specs.Io.KnownBytes.{Keeps};
-ghost use Rattle.std.specs.String.{string_bytes};
 ghost use Rattle.clap.specs.Words.{kind_of};
 ghost use Rattle.clap.specs.declared.error.kind.ErrorKind.TheVariants as kind;
 ghost use Rattle.clap.specs.declared.error.kind.ErrorKind.{ErrorKind as Kind};
+ghost use Rattle.ball_model.specs.Streams.{Rises};
 ghost use Rattle.hyperball.specs.Whole.{ReadsAtMost, most_bytes};
-ghost use Rattle.hyperball.specs.Words.{AreMistakes, HasFaults, IsRun, Reports};
+ghost use Rattle.hyperball.specs.Words.{AreMistakes, HasFaults, IsRun, Reports, texts_of};
 ghost use Rattle.hyperball.specs.declared.words.RunWords.{RunWords as Run};
 
 use crate::serial::{SerialError, SerialOptions, run_serial};
 use crate::whole::{WholeError, read_whole, sections};
-use crate::words::{RunWords, parse, run_words};
+use crate::words::{RunWords, read_words};
 use ball_model::{CountedRead, CountedWrite, CountingReader, put_all};
 use clap::error::ErrorKind;
 use std::alloc::Global;
@@ -73,7 +74,8 @@ fn tell_help<W: CountedWrite, F: Write>(
     faults: &mut F,
 ) -> u8
     ensures status { (result ≡ 0) ⊎ (result ≡ 1) }
-    ensures kept { result ≡ 1 → Keeps (W.contents writer.old) (W.contents writer.new) ⊎ (W.failed_calls writer.old < W.failed_calls writer.new) }
+    ensures kept { result ≡ 1 → Keeps (W.contents writer.old) (W.contents writer.new)
+        ⊎ Rises (W.failed_calls writer.old) (W.failed_calls writer.new) }
     ensures silent { result ≡ 0 → Keeps (F.contents faults.old) (F.contents faults.new) }
 {
     let Ok(text) = format!(in alloc; "{help}") else {
@@ -96,8 +98,10 @@ fn tell_words<W: CountedWrite, F: Write>(
     ensures status { result ≤ 2 }
     ensures memory { kind_of error.now ≡ kind.OutOfMemory → result ≡ 1 }
     ensures help { kind_of error.now ≡ kind.DisplayHelp → (result ≡ 0) ⊎ (result ≡ 1) }
-    ensures mistake { kind_of error.now ≢ kind.OutOfMemory → kind_of error.now ≢ kind.DisplayHelp → kind_of error.now ≢ kind.DisplayVersion → result ≡ 2 }
-    ensures kept { result ≡ 1 → Keeps (W.contents writer.old) (W.contents writer.new) ⊎ (W.failed_calls writer.old < W.failed_calls writer.new) }
+    ensures mistake { kind_of error.now ≢ kind.OutOfMemory → kind_of error.now ≢ kind.DisplayHelp →
+        kind_of error.now ≢ kind.DisplayVersion → result ≡ 2 }
+    ensures kept { result ≡ 1 → Keeps (W.contents writer.old) (W.contents writer.new)
+        ⊎ Rises (W.failed_calls writer.old) (W.failed_calls writer.new) }
     ensures mistaken { result ≡ 2 → Keeps (W.contents writer.old) (W.contents writer.new) }
     ensures silent { result ≡ 0 → Keeps (F.contents faults.old) (F.contents faults.new) }
 {
@@ -113,7 +117,29 @@ fn tell_words<W: CountedWrite, F: Write>(
     }
 }
 
-// A run over an input that has the list of counted vertices too, after a line of %%.
+// A run over a whole input, which has the list of counted vertices too, after a line of %%.
+fn run_sections<H: AllocGlobal + Threads + Sync, W: CountedWrite>(
+    rt: &H,
+    state: RandomState,
+    options: &SerialOptions,
+    input: &[u8],
+    writer: &mut W,
+) -> Result<(), RunFault>
+    ensures done { OnOk result (
+        Reports (record { options = options.now; counted = true }) input.now
+        (W.contents writer.old) (W.contents writer.new)) }
+    ensures kept { OnErr result (Keeps (W.contents writer.old) (W.contents writer.new)
+        ⊎ Rises (W.failed_calls writer.old) (W.failed_calls writer.new)) }
+{
+    let Some((edges, list)) = sections(input) else {
+        return Err(RunFault::NoList);
+    };
+    let mut edges = CountingReader::new(edges);
+    run_serial(rt, state, &mut edges, Some(list), writer, options)?;
+    Ok(())
+}
+
+// A run over an input that is read whole.
 fn run_listed<H: AllocGlobal + Threads + Sync, R: CountedRead, W: CountedWrite>(
     rt: &H,
     state: RandomState,
@@ -121,18 +147,15 @@ fn run_listed<H: AllocGlobal + Threads + Sync, R: CountedRead, W: CountedWrite>(
     reader: &mut R,
     writer: &mut W,
 ) -> Result<(), RunFault>
-    ensures done { OnOk result (IfSome (R.remaining reader.old)
-        (λ input. Reports (record { options = options.now; counted = true }) input (W.contents writer.old) (W.contents writer.new))) }
+    ensures done { OnOk result (IfSome (R.remaining reader.old) (λ input.
+        Reports (record { options = options.now; counted = true }) input
+        (W.contents writer.old) (W.contents writer.new))) }
     ensures few { ReadsAtMost (most_bytes + 1) (R.remaining reader.old) (R.remaining reader.new) }
-    ensures kept { OnErr result (Keeps (W.contents writer.old) (W.contents writer.new) ⊎ (W.failed_calls writer.old < W.failed_calls writer.new)) }
+    ensures kept { OnErr result (Keeps (W.contents writer.old) (W.contents writer.new)
+        ⊎ Rises (W.failed_calls writer.old) (W.failed_calls writer.new)) }
 {
     let input = read_whole(rt.alloc(), reader)?;
-    let Some((edges, list)) = sections(&input) else {
-        return Err(RunFault::NoList);
-    };
-    let mut edges = CountingReader::new(edges);
-    run_serial(rt, state, &mut edges, Some(list), writer, options)?;
-    Ok(())
+    run_sections(rt, state, options, &input, writer)
 }
 
 // A run of these words.
@@ -142,9 +165,12 @@ fn run<H: AllocGlobal + RandomSource + Threads + Sync, R: CountedRead, W: Counte
     reader: &mut R,
     writer: &mut W,
 ) -> Result<(), RunFault>
-    ensures done { OnOk result (IfSome (R.remaining reader.old) (λ input. Reports words.now input (W.contents writer.old) (W.contents writer.new))) }
-    ensures few { words.now.counted ≡ true → ReadsAtMost (most_bytes + 1) (R.remaining reader.old) (R.remaining reader.new) }
-    ensures kept { OnErr result (Keeps (W.contents writer.old) (W.contents writer.new) ⊎ (W.failed_calls writer.old < W.failed_calls writer.new)) }
+    ensures done { OnOk result (IfSome (R.remaining reader.old) (λ input.
+        Reports words.now input (W.contents writer.old) (W.contents writer.new))) }
+    ensures few { words.now.counted ≡ true →
+        ReadsAtMost (most_bytes + 1) (R.remaining reader.old) (R.remaining reader.new) }
+    ensures kept { OnErr result (Keeps (W.contents writer.old) (W.contents writer.new)
+        ⊎ Rises (W.failed_calls writer.old) (W.failed_calls writer.new)) }
 {
     let Ok(state) = RandomState::new(rt) else {
         return Err(RunFault::Random);
@@ -164,9 +190,12 @@ fn serve_run<
     F: Write,
 >(rt: &H, words: &RunWords, reader: &mut R, writer: &mut W, faults: &mut F) -> u8
     ensures status { (result ≡ 0) ⊎ (result ≡ 1) }
-    ensures done { result ≡ 0 → IfSome (R.remaining reader.old) (λ input. Reports words.now input (W.contents writer.old) (W.contents writer.new)) }
-    ensures few { words.now.counted ≡ true → ReadsAtMost (most_bytes + 1) (R.remaining reader.old) (R.remaining reader.new) }
-    ensures kept { result ≡ 1 → Keeps (W.contents writer.old) (W.contents writer.new) ⊎ (W.failed_calls writer.old < W.failed_calls writer.new) }
+    ensures done { result ≡ 0 → IfSome (R.remaining reader.old) (λ input.
+        Reports words.now input (W.contents writer.old) (W.contents writer.new)) }
+    ensures few { words.now.counted ≡ true →
+        ReadsAtMost (most_bytes + 1) (R.remaining reader.old) (R.remaining reader.new) }
+    ensures kept { result ≡ 1 → Keeps (W.contents writer.old) (W.contents writer.new)
+        ⊎ Rises (W.failed_calls writer.old) (W.failed_calls writer.new) }
     ensures silent { result ≡ 0 → Keeps (F.contents faults.old) (F.contents faults.new) }
 {
     match run(rt, words, reader, writer) {
@@ -187,20 +216,24 @@ pub fn serve<
     W: CountedWrite,
     F: Write,
 >(rt: &H, words: &[String], reader: &mut R, writer: &mut W, faults: &mut F) -> u8
-    ensures run { (w : Run) → IsRun (map (λ w. string_bytes w) words.now) w → result ≡ 0 →
-        IfSome (R.remaining reader.old) (λ input. Reports w input (W.contents writer.old) (W.contents writer.new)) }
-    ensures few { (w : Run) → IsRun (map (λ w. string_bytes w) words.now) w → w.counted ≡ true →
+    ensures run { (w : Run) → IsRun (texts_of words.now) w → result ≡ 0 →
+        IfSome (R.remaining reader.old) (λ input.
+        Reports w input (W.contents writer.old) (W.contents writer.new)) }
+    ensures few { (w : Run) → IsRun (texts_of words.now) w → w.counted ≡ true →
         ReadsAtMost (most_bytes + 1) (R.remaining reader.old) (R.remaining reader.new) }
-    ensures mistaken { (kinds : List Kind) → HasFaults (map (λ w. string_bytes w) words.now) kinds → AreMistakes kinds → (result ≡ 2) ⊎ (result ≡ 1) }
-    ensures help { HasFaults (map (λ w. string_bytes w) words.now) (kind.DisplayHelp ∷ []) → (result ≡ 0) ⊎ (result ≡ 1) }
+    ensures mistaken { (kinds : List Kind) → HasFaults (texts_of words.now) kinds →
+        AreMistakes kinds → (result ≡ 2) ⊎ (result ≡ 1) }
+    ensures help { HasFaults (texts_of words.now) (kind.DisplayHelp ∷ []) →
+        (result ≡ 0) ⊎ (result ≡ 1) }
     ensures status { result ≤ 2 }
-    ensures two { result ≡ 2 → HasFaults (map (λ w. string_bytes w) words.now) [] → ⊥ }
+    ensures two { result ≡ 2 → HasFaults (texts_of words.now) [] → ⊥ }
     ensures two_kept { result ≡ 2 → Keeps (W.contents writer.old) (W.contents writer.new) }
-    ensures one_kept { result ≡ 1 → Keeps (W.contents writer.old) (W.contents writer.new) ⊎ (W.failed_calls writer.old < W.failed_calls writer.new) }
+    ensures one_kept { result ≡ 1 → Keeps (W.contents writer.old) (W.contents writer.new)
+        ⊎ Rises (W.failed_calls writer.old) (W.failed_calls writer.new) }
     ensures silent { result ≡ 0 → Keeps (F.contents faults.old) (F.contents faults.new) }
 {
-    match parse(rt.alloc(), words) {
-        Ok(matches) => serve_run(rt, &run_words(&matches), reader, writer, faults),
+    match read_words(rt.alloc(), words) {
+        Ok(run) => serve_run(rt, &run, reader, writer, faults),
         Err(error) => tell_words(rt.alloc(), &error, writer, faults),
     }
 }

@@ -6,9 +6,10 @@ use crate::laws::{words_of_a_run, words_of_no_run};
 use crate::serial::{SerialError, SerialOptions, run_serial};
 use crate::serve::serve;
 use crate::whole::{WholeError, sections};
-use crate::words::{RunWords, command, parse, run_words};
+use crate::words::{RunWords, command, read_words};
 use ball_model::{CountedWrite, CountingReader, CountingWriter, PlanError};
 use edgelist::{CountedError, Delimiter, EdgeError};
+use std::fmt::Display;
 use std::hash::RandomState;
 use std::io;
 use std::io::{ErrorKind, Read, Write};
@@ -118,9 +119,12 @@ vertex,b,10.768000,0.000000,0.000000,1.000000,16
 vertex,c,10.768000,0.000000,0.000000,1.000000,16
 ";
 
-const COUNTED: [&str; 5] = ["hyperball", "run", "--log2m", "4", "--counted"];
+const RUN: &str = "hyperball run --log2m 4";
 
-const RUN: [&str; 4] = ["hyperball", "run", "--log2m", "4"];
+const COUNTED: &str = "hyperball run --log2m 4 --counted";
+
+// The words of a command line, an input, and what is written or told.
+type Case = (&'static str, &'static [u8], &'static [u8]);
 
 // What was served.
 #[derive(Drop)]
@@ -130,32 +134,44 @@ struct Served {
     faults: Vec<u8>,
 }
 
-// The words as the program gets them.
-fn words_of<H: AllocGlobal>(rt: &H, words: &[&str]) -> Result<Vec<String>, Fail> {
-    let mut list = Vec::new(rt.alloc());
-    for word in words {
-        list.push(String::from_str(rt.alloc(), word)?)?;
+// Adds the words of a line.
+fn add_words<H: AllocGlobal>(rt: &H, line: &str, words: &mut Vec<String>) -> Result<(), Fail> {
+    for word in line.split_whitespace() {
+        let word = String::from_str(rt.alloc(), word)?;
+        words.push(word)?;
     }
-    Ok(list)
+    Ok(())
 }
 
-// Serves words over an input in memory.
-fn serve_input<H: AllocGlobal + RandomSource + Threads + Sync>(
-    rt: &H,
-    words: &[&str],
-    input: &[u8],
-) -> Result<Served, Fail> {
-    let words = words_of(rt, words)?;
+// The words as the program gets them.
+fn words_of<H: AllocGlobal>(rt: &H, line: &str) -> Result<Vec<String>, Fail> {
+    let mut words = Vec::new(rt.alloc());
+    add_words(rt, line, &mut words)?;
+    Ok(words)
+}
+
+// Serves words over three streams, and gives the status.
+fn serve_streams<
+    H: AllocGlobal + RandomSource + Threads + Sync,
+    R: Read + Drop,
+    W: Write + Drop,
+    F: Write,
+>(rt: &H, line: &str, input: R, output: W, faults: &mut F) -> Result<u8, Fail> {
+    let words = words_of(rt, line)?;
     let mut reader = CountingReader::new(input);
+    let mut writer = CountingWriter::new(output);
+    Ok(serve(rt, &words, &mut reader, &mut writer, faults))
+}
+
+// Serves words over an input.
+fn serve_input<H: AllocGlobal + RandomSource + Threads + Sync, R: Read + Drop>(
+    rt: &H,
+    line: &str,
+    input: R,
+) -> Result<Served, Fail> {
     let mut output = Vec::new(rt.alloc());
     let mut faults = Vec::new(rt.alloc());
-    let status = serve(
-        rt,
-        &words,
-        &mut reader,
-        &mut CountingWriter::new(&mut output),
-        &mut faults,
-    );
+    let status = serve_streams(rt, line, input, &mut output, &mut faults)?;
     Ok(Served {
         status,
         output,
@@ -170,285 +186,282 @@ fn is_served(served: &Served, status: u8, output: &[u8], faults: &[u8]) -> bool 
         && served.faults.as_slice() == faults
 }
 
-// The words are a run that writes this and nothing else.
-fn reports<H: Abort + AllocGlobal + RandomSource + Threads + Sync>(
+// These words end with this status, and write and tell just this.
+fn ends<H: Abort + AllocGlobal + RandomSource + Threads + Sync>(
     rt: &H,
-    words: &[&str],
+    status: u8,
+    line: &str,
     input: &[u8],
-    report: &[u8],
+    output: &[u8],
+    faults: &[u8],
 ) -> Result<(), Fail> {
-    let served = serve_input(rt, words, input)?;
-    assert!(rt; is_served(&served, 0, report, b""));
+    let served = serve_input(rt, line, input)?;
+    assert!(rt; is_served(&served, status, output, faults), "{line}");
     Ok(())
 }
 
-// The words are a run that writes nothing, and ends with this fault.
-fn fails<H: Abort + AllocGlobal + RandomSource + Threads + Sync>(
+// Each is a run that writes this and nothing else.
+fn all_report<H: Abort + AllocGlobal + RandomSource + Threads + Sync>(
     rt: &H,
-    words: &[&str],
-    input: &[u8],
-    fault: &[u8],
+    cases: &[Case],
 ) -> Result<(), Fail> {
-    let served = serve_input(rt, words, input)?;
-    assert!(rt; is_served(&served, 1, b"", fault));
-    Ok(())
-}
-
-// The words are refused, with this at the front of what is told.
-fn refuses<H: Abort + AllocGlobal + RandomSource + Threads + Sync>(
-    rt: &H,
-    words: &[&str],
-    front: &[u8],
-) -> Result<(), Fail> {
-    let served = serve_input(rt, words, b"a\tb\n")?;
-    let refused = served.output.is_empty() && served.status == 2;
-    assert!(rt; refused && served.faults.starts_with(front));
-    Ok(())
-}
-
-#[test]
-fn two_edges(rt: HostRuntime) -> Result<(), Fail> {
-    reports(&rt, &RUN, b"a\tb\nb\tc\n", TWO_EDGES)?;
-    let comma = ["hyperball", "run", "--log2m", "4", "--delimiter", "comma"];
-    reports(&rt, &comma, b"a,b\nb,c\n", TWO_EDGES)?;
-    let space = ["hyperball", "run", "--delimiter=space", "--log2m=4"];
-    reports(&rt, &space, b"a b\nb c", TWO_EDGES)?;
-    let tab = [
-        "hyperball",
-        "run",
-        "--log2m",
-        "4",
-        "--delimiter",
-        "tab",
-        "--seed",
-        "0",
-        "--limit",
-        "4096",
-    ];
-    reports(&rt, &tab, b"a\tb\nb\tc\n", TWO_EDGES)
-}
-
-#[test]
-fn five_partitions(rt: HostRuntime) -> Result<(), Fail> {
-    for parts in ["1", "2", "3", "4", "5", "64"] {
-        let words = ["hyperball", "run", "--log2m", "4", "--parts", parts];
-        reports(&rt, &words, b"a\tb\nb\tc\n", TWO_EDGES)?;
-        reports(&rt, &words, b"a\tb\nb\ta\n", TWO_CYCLE)?;
-        reports(&rt, &words, b"", EMPTY_INPUT)?;
+    for (line, input, output) in cases {
+        ends(rt, 0, line, input, output, b"")?;
     }
     Ok(())
 }
 
-#[test]
-fn one_counted_vertex(rt: HostRuntime) -> Result<(), Fail> {
-    let input = b"a\tb\nb\tc\n%%\na\n";
-    for parts in ["1", "2"] {
-        let words = [
-            "hyperball",
-            "run",
-            "--log2m=4",
-            "--counted",
-            "--parts",
-            parts,
-        ];
-        reports(&rt, &words, input, ONE_COUNTED)?;
+// Each is a run that writes nothing, and ends with this fault.
+fn all_fail<H: Abort + AllocGlobal + RandomSource + Threads + Sync>(
+    rt: &H,
+    cases: &[Case],
+) -> Result<(), Fail> {
+    for (line, input, faults) in cases {
+        ends(rt, 1, line, input, b"", faults)?;
     }
     Ok(())
 }
 
+const REPORTS: [Case; 12] = [
+    (RUN, b"a\tb\nb\tc\n", TWO_EDGES),
+    (
+        "hyperball run --log2m 4 --delimiter comma",
+        b"a,b\nb,c\n",
+        TWO_EDGES,
+    ),
+    (
+        "hyperball run --delimiter=space --log2m=4",
+        b"a b\nb c",
+        TWO_EDGES,
+    ),
+    (
+        "hyperball run --log2m 4 --delimiter tab --seed 0 --limit 4096",
+        b"a\tb\nb\tc\n",
+        TWO_EDGES,
+    ),
+    (RUN, b"# c\r\na\tb\r\nb\tc\r\na\tb\r\nb\tb\r\n", TWO_EDGES),
+    (RUN, b"x\n", LONE_VERTEX),
+    (RUN, b"", EMPTY_INPUT),
+    (RUN, b"# nothing\n\n", EMPTY_INPUT),
+    (
+        "hyperball run --log2m 4 --limit 1",
+        b"a\tb\nb\tc\n",
+        LIMIT_OF_ONE,
+    ),
+    (RUN, b"a\tb\nb\ta\n", TWO_CYCLE),
+    (RUN, b"x,y\tq\"\n", QUOTED_LABELS),
+    (
+        RUN,
+        b"a\tb\nb\tc\nc\td\nd\te\ne\tf\nf\tg\ng\th\n",
+        PATH_OF_EIGHT,
+    ),
+];
+
 #[test]
-fn counted_lists(rt: HostRuntime) -> Result<(), Fail> {
-    reports(&rt, &COUNTED, b"a\tb\nb\tc\n%%\na\nb\nc\na\n", TWO_EDGES)?;
-    reports(&rt, &COUNTED, b"a\tb\nb\tc\n%%", NONE_COUNTED)?;
-    reports(
-        &rt,
-        &COUNTED,
-        b"a\tb\r\nb\tc\r\n%%\r\n# c\r\na",
+fn reports(rt: HostRuntime) -> Result<(), Fail> {
+    all_report(&rt, &REPORTS)
+}
+
+// The report is the same for every number of partitions.
+const PARTITIONS: [&str; 6] = [
+    "hyperball run --log2m 4 --parts 1",
+    "hyperball run --log2m 4 --parts 2",
+    "hyperball run --log2m 4 --parts 3",
+    "hyperball run --log2m 4 --parts 4",
+    "hyperball run --log2m 4 --parts 5",
+    "hyperball run --log2m 4 --parts 64",
+];
+
+// The reports of small graphs do not depend on these words.
+fn reports_alike<H: Abort + AllocGlobal + RandomSource + Threads + Sync>(
+    rt: &H,
+    line: &'static str,
+) -> Result<(), Fail> {
+    ends(rt, 0, line, b"a\tb\nb\tc\n", TWO_EDGES, b"")?;
+    ends(rt, 0, line, b"a\tb\nb\ta\n", TWO_CYCLE, b"")?;
+    ends(rt, 0, line, b"", EMPTY_INPUT, b"")
+}
+
+#[test]
+fn partitions(rt: HostRuntime) -> Result<(), Fail> {
+    for line in PARTITIONS {
+        reports_alike(&rt, line)?;
+    }
+    Ok(())
+}
+
+const COUNTED_REPORTS: [Case; 6] = [
+    (
+        "hyperball run --log2m=4 --counted --parts 1",
+        b"a\tb\nb\tc\n%%\na\n",
         ONE_COUNTED,
-    )?;
-    let unknown = b"hyperball: record 1 of the list names no vertex\n";
-    fails(&rt, &COUNTED, b"a\tb\nb\tc\n%%\n# c\nz\n", unknown)?;
-    // a second line of %% is a record of the list
-    fails(&rt, &COUNTED, b"a\tb\n%%\n%%\n", unknown)?;
-    let fields = b"hyperball: record 1 of the list is not one identifier\n";
-    fails(&rt, &COUNTED, b"a\tb\nb\tc\n%%\na\tb\n", fields)?;
+    ),
+    (
+        "hyperball run --log2m=4 --counted --parts 2",
+        b"a\tb\nb\tc\n%%\na\n",
+        ONE_COUNTED,
+    ),
+    (COUNTED, b"a\tb\nb\tc\n%%\na\nb\nc\na\n", TWO_EDGES),
+    (COUNTED, b"a\tb\nb\tc\n%%", NONE_COUNTED),
+    (COUNTED, b"a\tb\r\nb\tc\r\n%%\r\n# c\r\na", ONE_COUNTED),
     // without the flag a line of %% is a record
-    reports(&rt, &RUN, b"%%\n", PERCENTS)
-}
+    (RUN, b"%%\n", PERCENTS),
+];
 
 #[test]
-fn no_list(rt: HostRuntime) -> Result<(), Fail> {
-    let no_list = b"hyperball: no line %% before the list\n";
-    for input in [
-        b"a\tb\nb\tc\n".as_slice(),
-        b"",
-        b"a\tb\n%%%\n",
-        b"a\tb\n %%\n",
-        b"a\tb%%\n",
-        b"%% \na\n",
-        b"%%\r",
-    ] {
-        fails(&rt, &COUNTED, input, no_list)?;
-    }
+fn counted_reports(rt: HostRuntime) -> Result<(), Fail> {
+    all_report(&rt, &COUNTED_REPORTS)
+}
+
+const NO_LIST: &[u8] = b"hyperball: no line %% before the list\n";
+
+const UNKNOWN: &[u8] = b"hyperball: record 1 of the list names no vertex\n";
+
+const COUNTED_FAULTS: [Case; 12] = [
+    (COUNTED, b"a\tb\nb\tc\n%%\n# c\nz\n", UNKNOWN),
+    // a second line of %% is a record of the list
+    (COUNTED, b"a\tb\n%%\n%%\n", UNKNOWN),
+    (
+        COUNTED,
+        b"a\tb\nb\tc\n%%\na\tb\n",
+        b"hyperball: record 1 of the list is not one identifier\n",
+    ),
+    (COUNTED, b"a\tb\nb\tc\n", NO_LIST),
+    (COUNTED, b"", NO_LIST),
+    (COUNTED, b"a\tb\n%%%\n", NO_LIST),
+    (COUNTED, b"a\tb\n %%\n", NO_LIST),
+    (COUNTED, b"a\tb%%\n", NO_LIST),
+    (COUNTED, b"%% \na\n", NO_LIST),
+    (COUNTED, b"%%\r", NO_LIST),
     // no list comes before the faults of the options and of the edge list
-    let words = ["hyperball", "run", "--log2m", "3", "--counted"];
-    fails(&rt, &words, b"a\tb\tc\n", no_list)?;
-    fails(
-        &rt,
-        &words,
-        b"a\tb\n%%\n",
-        b"hyperball: log2m is not from 4 to 10\n",
-    )
+    ("hyperball run --log2m 3 --counted", b"a\tb\tc\n", NO_LIST),
+    ("hyperball run --log2m 3 --counted", b"a\tb\n%%\n", LOG2M),
+];
+
+#[test]
+fn counted_faults(rt: HostRuntime) -> Result<(), Fail> {
+    all_fail(&rt, &COUNTED_FAULTS)
+}
+
+// Whether the first line of %% cuts the input into these two.
+fn is_cut_into(input: &[u8], edges: &[u8], list: &[u8]) -> bool {
+    match sections(input) {
+        Some((before, after)) => before == edges && after == list,
+        None => false,
+    }
 }
 
 #[test]
 fn sections_of_inputs(rt: HostRuntime) -> Result<(), Fail> {
-    let (edges, list) = sections(b"a\n%%\n%%\nb").ok_or("two sections")?;
-    assert!(rt; edges == b"a\n".as_slice() && list == b"%%\nb".as_slice());
-    let (edges, list) = sections(b"%%").ok_or("two sections")?;
-    assert!(rt; edges.is_empty() && list.is_empty());
+    assert!(rt; is_cut_into(b"a\n%%\n%%\nb", b"a\n", b"%%\nb"));
+    assert!(rt; is_cut_into(b"%%", b"", b""));
     Ok(())
 }
 
-#[test]
-fn lone_vertex_and_empty_input(rt: HostRuntime) -> Result<(), Fail> {
-    reports(&rt, &RUN, b"x\n", LONE_VERTEX)?;
-    reports(&rt, &RUN, b"", EMPTY_INPUT)?;
-    reports(&rt, &RUN, b"# nothing\n\n", EMPTY_INPUT)
-}
+const RECORD: &[u8] = b"hyperball: record 2 has not one or two identifiers\n";
 
-#[test]
-fn noisy_input(rt: HostRuntime) -> Result<(), Fail> {
-    reports(
-        &rt,
-        &RUN,
-        b"# c\r\na\tb\r\nb\tc\r\na\tb\r\nb\tb\r\n",
-        TWO_EDGES,
-    )
-}
+const LOG2M: &[u8] = b"hyperball: log2m is not from 4 to 10\n";
 
-#[test]
-fn limit_of_one(rt: HostRuntime) -> Result<(), Fail> {
-    let words = ["hyperball", "run", "--log2m", "4", "--limit", "1"];
-    reports(&rt, &words, b"a\tb\nb\tc\n", LIMIT_OF_ONE)
-}
+const LIMIT: &[u8] = b"hyperball: limit is not from 1 to 4096\n";
 
-#[test]
-fn two_cycle(rt: HostRuntime) -> Result<(), Fail> {
-    reports(&rt, &RUN, b"a\tb\nb\ta\n", TWO_CYCLE)
-}
+const PARTS: &[u8] = b"hyperball: parts is not from 1 to 64\n";
 
-#[test]
-fn quoted_labels(rt: HostRuntime) -> Result<(), Fail> {
-    reports(&rt, &RUN, b"x,y\tq\"\n", QUOTED_LABELS)
-}
-
-#[test]
-fn path_of_eight(rt: HostRuntime) -> Result<(), Fail> {
-    let path = b"a\tb\nb\tc\nc\td\nd\te\ne\tf\nf\tg\ng\th\n";
-    reports(&rt, &RUN, path, PATH_OF_EIGHT)
-}
+const FAULTS: [Case; 14] = [
+    (RUN, b"a\tb\nb\tc\t7\n", RECORD),
+    (RUN, b"# c\n\na\tb\n\t\n", RECORD),
+    ("hyperball run --log2m 0", b"a\tb\n", LOG2M),
+    ("hyperball run --log2m 3", b"a\tb\n", LOG2M),
+    ("hyperball run --log2m 11", b"a\tb\n", LOG2M),
+    ("hyperball run --log2m 255", b"a\tb\n", LOG2M),
+    ("hyperball run --limit 0", b"a\tb\n", LIMIT),
+    ("hyperball run --limit 4097", b"a\tb\n", LIMIT),
+    ("hyperball run --limit 4294967295", b"a\tb\n", LIMIT),
+    ("hyperball run --parts 0", b"a\tb\n", PARTS),
+    ("hyperball run --parts 65", b"a\tb\n", PARTS),
+    ("hyperball run --parts 65535", b"a\tb\n", PARTS),
+    // the edge list comes before the plan, and log2m before the limit
+    (
+        "hyperball run --log2m 3 --limit 0",
+        b"a\tb\nb\tc\t7\n",
+        RECORD,
+    ),
+    ("hyperball run --log2m 3 --limit 0", b"a\tb\n", LOG2M),
+];
 
 #[test]
 fn faults_of_a_run(rt: HostRuntime) -> Result<(), Fail> {
-    let three = b"hyperball: record 2 has not one or two identifiers\n";
-    fails(&rt, &RUN, b"a\tb\nb\tc\t7\n", three)?;
-    fails(&rt, &RUN, b"# c\n\na\tb\n\t\n", three)?;
-    let log2m = b"hyperball: log2m is not from 4 to 10\n";
-    for number in ["0", "3", "11", "255"] {
-        fails(
-            &rt,
-            &["hyperball", "run", "--log2m", number],
-            b"a\tb\n",
-            log2m,
-        )?;
+    all_fail(&rt, &FAULTS)
+}
+
+// A fault prints as this text.
+fn prints<H: AllocGlobal, F: Display>(rt: &H, fault: &F, text: &str) -> Result<bool, Fail> {
+    let told = format!(in rt.alloc(); "{fault}")?;
+    Ok(told.as_str() == text)
+}
+
+const FAULT_TEXTS: [(SerialError, &str); 14] = [
+    (
+        SerialError::Edges(EdgeError::Read),
+        "the edge list cannot be read",
+    ),
+    (
+        SerialError::Edges(EdgeError::TooManyEdges),
+        "too many records",
+    ),
+    (
+        SerialError::Edges(EdgeError::Fields { number: 7 }),
+        "record 7 has not one or two identifiers",
+    ),
+    (
+        SerialError::Edges(EdgeError::TooManyVertices),
+        "too many vertices",
+    ),
+    (SerialError::Edges(EdgeError::Memory), "out of memory"),
+    (
+        SerialError::Counted(CountedError::Fields { number: 7 }),
+        "record 7 of the list is not one identifier",
+    ),
+    (
+        SerialError::Counted(CountedError::Unknown { number: 7 }),
+        "record 7 of the list names no vertex",
+    ),
+    (SerialError::Counted(CountedError::Memory), "out of memory"),
+    (
+        SerialError::Plan(PlanError::Log2m),
+        "log2m is not from 4 to 10",
+    ),
+    (
+        SerialError::Plan(PlanError::Parts),
+        "parts is not from 1 to 64",
+    ),
+    (
+        SerialError::Plan(PlanError::Limit),
+        "limit is not from 1 to 4096",
+    ),
+    (SerialError::Plan(PlanError::Vertices), "too many vertices"),
+    (SerialError::Memory, "out of memory"),
+    (SerialError::Write, "the output cannot be written"),
+];
+
+const WHOLE_TEXTS: [(WholeError, &str); 3] = [
+    (WholeError::Read, "the input cannot be read"),
+    (WholeError::Size, "the input is longer than 67108864 bytes"),
+    (WholeError::Memory, "out of memory"),
+];
+
+// Each fault prints as its text.
+fn all_print<H: AllocGlobal, F: Display>(rt: &H, texts: &[(F, &str)]) -> Result<bool, Fail> {
+    let mut all = true;
+    for (fault, text) in texts {
+        all &= prints(rt, fault, text)?;
     }
-    let limit = b"hyperball: limit is not from 1 to 4096\n";
-    for number in ["0", "4097", "4294967295"] {
-        fails(
-            &rt,
-            &["hyperball", "run", "--limit", number],
-            b"a\tb\n",
-            limit,
-        )?;
-    }
-    let parts = b"hyperball: parts is not from 1 to 64\n";
-    for number in ["0", "65", "65535"] {
-        fails(
-            &rt,
-            &["hyperball", "run", "--parts", number],
-            b"a\tb\n",
-            parts,
-        )?;
-    }
-    // the edge list comes before the plan, and log2m before the limit
-    let both = ["hyperball", "run", "--log2m", "3", "--limit", "0"];
-    fails(&rt, &both, b"a\tb\nb\tc\t7\n", three)?;
-    fails(&rt, &both, b"a\tb\n", log2m)
+    Ok(all)
 }
 
 #[test]
 fn texts_of_faults(rt: HostRuntime) -> Result<(), Fail> {
-    let faults = [
-        (
-            SerialError::Edges(EdgeError::Read),
-            "the edge list cannot be read",
-        ),
-        (
-            SerialError::Edges(EdgeError::TooManyEdges),
-            "too many records",
-        ),
-        (
-            SerialError::Edges(EdgeError::Fields { number: 7 }),
-            "record 7 has not one or two identifiers",
-        ),
-        (
-            SerialError::Edges(EdgeError::TooManyVertices),
-            "too many vertices",
-        ),
-        (SerialError::Edges(EdgeError::Memory), "out of memory"),
-        (
-            SerialError::Counted(CountedError::Fields { number: 7 }),
-            "record 7 of the list is not one identifier",
-        ),
-        (
-            SerialError::Counted(CountedError::Unknown { number: 7 }),
-            "record 7 of the list names no vertex",
-        ),
-        (SerialError::Counted(CountedError::Memory), "out of memory"),
-        (
-            SerialError::Plan(PlanError::Log2m),
-            "log2m is not from 4 to 10",
-        ),
-        (
-            SerialError::Plan(PlanError::Parts),
-            "parts is not from 1 to 64",
-        ),
-        (
-            SerialError::Plan(PlanError::Limit),
-            "limit is not from 1 to 4096",
-        ),
-        (SerialError::Plan(PlanError::Vertices), "too many vertices"),
-        (SerialError::Memory, "out of memory"),
-        (SerialError::Write, "the output cannot be written"),
-    ];
-    for (fault, text) in faults {
-        let told = format!(in rt.alloc(); "{fault}")?;
-        assert!(rt; told.as_str() == text);
-    }
-    Ok(())
-}
-
-#[test]
-fn texts_of_whole_inputs(rt: HostRuntime) -> Result<(), Fail> {
-    for (fault, text) in [
-        (WholeError::Read, "the input cannot be read"),
-        (WholeError::Size, "the input is longer than 67108864 bytes"),
-        (WholeError::Memory, "out of memory"),
-    ] {
-        let told = format!(in rt.alloc(); "{fault}")?;
-        assert!(rt; told.as_str() == text);
-    }
+    let all = all_print(&rt, &FAULT_TEXTS)? && all_print(&rt, &WHOLE_TEXTS)?;
+    assert!(rt; all);
     Ok(())
 }
 
@@ -463,85 +476,97 @@ fn explains(text: &str, name: &str, help: &str) -> bool {
     }
 }
 
-#[test]
-fn help_of_each_option(rt: HostRuntime) -> Result<(), Fail> {
-    let served = serve_input(&rt, &["hyperball", "run", "--help"], b"")?;
-    let text = str::from_utf8(&served.output).map_err(|_| "text")?;
-    let mut all = true;
-    for (name, help) in [
-        ("--log2m <", "Counters of 2^log2m bytes"),
-        ("--seed <", "Seed under which"),
-        ("--parts <", "Partitions that"),
-        ("--limit <", "Greatest superstep"),
-        ("--delimiter <", "What stands between"),
-        ("--counted", "Count only"),
-    ] {
+const HELPS: [(&str, &str); 6] = [
+    ("--log2m <", "Counters of 2^log2m bytes"),
+    ("--seed <", "Seed under which"),
+    ("--parts <", "Partitions that"),
+    ("--limit <", "Greatest superstep"),
+    ("--delimiter <", "What stands between"),
+    ("--counted", "Count only"),
+];
+
+// Every option is explained.
+fn explains_all(text: &str) -> bool {
+    let mut all = text.contains("hyperball run --log2m 8 < edges.tsv > report.csv");
+    for (name, help) in &HELPS {
         all &= explains(text, name, help);
     }
-    all &= text.contains("hyperball run --log2m 8 < edges.tsv > report.csv");
-    assert!(rt; all);
+    all
+}
+
+// This is a text that explains every option.
+fn is_help(bytes: &[u8]) -> bool {
+    match str::from_utf8(bytes) {
+        Ok(text) => explains_all(text),
+        Err(_) => false,
+    }
+}
+
+#[test]
+fn help_of_each_option(rt: HostRuntime) -> Result<(), Fail> {
+    let served = serve_input(&rt, "hyperball run --help", b"".as_slice())?;
+    assert!(rt; is_help(&served.output));
     Ok(())
+}
+
+// Words that ask for help get it, and nothing is told.
+fn helps<H: AllocGlobal + RandomSource + Threads + Sync>(rt: &H, line: &str) -> Result<bool, Fail> {
+    let served = serve_input(rt, line, b"a\tb\n".as_slice())?;
+    Ok(served.status == 0 && served.output.len() > 100 && served.faults.is_empty())
 }
 
 #[test]
 fn help_is_shown(rt: HostRuntime) -> Result<(), Fail> {
-    for words in [
-        ["hyperball", "--help"].as_slice(),
-        ["hyperball", "run", "--help"].as_slice(),
-        ["hyperball", "help"].as_slice(),
-    ] {
-        let served = serve_input(&rt, words, b"a\tb\n")?;
-        assert_eq!(rt; served.status, 0);
-        assert_eq!(rt; served.faults.as_slice(), b"".as_slice());
-        assert!(rt; served.output.len() > 100);
+    for line in ["hyperball --help", "hyperball run --help", "hyperball help"] {
+        assert!(rt; helps(&rt, line)?, "{line}");
     }
     Ok(())
 }
+
+// The words are refused, with this at the front of what is told.
+fn refuses<H: AllocGlobal + RandomSource + Threads + Sync>(
+    rt: &H,
+    line: &str,
+    front: &[u8],
+) -> Result<bool, Fail> {
+    let served = serve_input(rt, line, b"a\tb\n".as_slice())?;
+    Ok(served.status == 2 && served.output.is_empty() && served.faults.starts_with(front))
+}
+
+const MISTAKES: [(&str, &[u8]); 15] = [
+    ("hyperball", b"error: 'hyperball' requires a subcommand"),
+    (
+        "hyperball replay",
+        b"error: unrecognized subcommand 'replay'",
+    ),
+    (
+        "hyperball run --replicas 2",
+        b"error: unexpected argument '--replicas'",
+    ),
+    (
+        "hyperball run edges.tsv",
+        b"error: unexpected argument 'edges.tsv'",
+    ),
+    (
+        "hyperball run --log2m",
+        b"error: a value is required for '--log2m",
+    ),
+    ("hyperball run --counted=1", b"error: "),
+    ("hyperball run --log2m 256", b"error: "),
+    ("hyperball run --log2m -1", b"error: "),
+    ("hyperball run --log2m four", b"error: "),
+    ("hyperball run --parts 65536", b"error: "),
+    ("hyperball run --limit 4294967296", b"error: "),
+    ("hyperball run --seed 18446744073709551616", b"error: "),
+    ("hyperball run --delimiter semicolon", b"error: "),
+    ("hyperball run --delimiter Tab", b"error: "),
+    ("hyperball run --delimiter ,", b"error: "),
+];
 
 #[test]
 fn mistaken_words(rt: HostRuntime) -> Result<(), Fail> {
-    for (words, front) in [
-        (
-            ["hyperball"].as_slice(),
-            b"error: 'hyperball' requires a subcommand".as_slice(),
-        ),
-        (
-            &["hyperball", "replay"],
-            b"error: unrecognized subcommand 'replay'",
-        ),
-        (
-            &["hyperball", "run", "--replicas", "2"],
-            b"error: unexpected argument '--replicas'",
-        ),
-        (
-            &["hyperball", "run", "edges.tsv"],
-            b"error: unexpected argument 'edges.tsv'",
-        ),
-        (
-            &["hyperball", "run", "--log2m"],
-            b"error: a value is required for '--log2m",
-        ),
-        (&["hyperball", "run", "--counted=1"], b"error: "),
-    ] {
-        refuses(&rt, words, front)?;
-    }
-    Ok(())
-}
-
-#[test]
-fn mistaken_values(rt: HostRuntime) -> Result<(), Fail> {
-    for words in [
-        ["hyperball", "run", "--log2m", "256"],
-        ["hyperball", "run", "--log2m", "-1"],
-        ["hyperball", "run", "--log2m", "four"],
-        ["hyperball", "run", "--parts", "65536"],
-        ["hyperball", "run", "--limit", "4294967296"],
-        ["hyperball", "run", "--seed", "18446744073709551616"],
-        ["hyperball", "run", "--delimiter", "semicolon"],
-        ["hyperball", "run", "--delimiter", "Tab"],
-        ["hyperball", "run", "--delimiter", ","],
-    ] {
-        refuses(&rt, &words, b"error: ")?;
+    for (line, front) in &MISTAKES {
+        assert!(rt; refuses(&rt, line, front)?, "{line}");
     }
     Ok(())
 }
@@ -573,64 +598,86 @@ impl<'a> Read for Dripping<'a> {
     }
 }
 
-// Serves words, an input a byte a call, with a failure at this call.
+// Serves words over an input a byte a call, with a failure at this call.
 fn dripped<H: AllocGlobal + RandomSource + Threads + Sync>(
     rt: &H,
-    words: &[&str],
+    line: &str,
     bytes: &[u8],
     fails_at: u64,
 ) -> Result<Served, Fail> {
-    let words = words_of(rt, words)?;
-    let mut reader = CountingReader::new(Dripping {
+    let input = Dripping {
         bytes,
         calls: 0,
         fails_at,
-    });
-    let mut output = Vec::new(rt.alloc());
-    let mut faults = Vec::new(rt.alloc());
-    let status = serve(
-        rt,
-        &words,
-        &mut reader,
-        &mut CountingWriter::new(&mut output),
-        &mut faults,
-    );
-    Ok(Served {
-        status,
-        output,
-        faults,
-    })
+    };
+    serve_input(rt, line, input)
 }
 
-// A failure at any call of the reader is told so, and nothing is written.
-fn fails_dripping<H: Abort + AllocGlobal + RandomSource + Threads + Sync>(
+// An input a byte a call has this report.
+fn reports_dripping<H: AllocGlobal + RandomSource + Threads + Sync>(
     rt: &H,
-    words: &[&str],
-    bytes: &[u8],
-    fault: &[u8],
-) -> Result<(), Fail> {
-    for call in 1..=bytes.len() as u64 + 1 {
-        let cut = dripped(rt, words, bytes, call)?;
-        assert!(rt; cut.status == 1 && cut.output.is_empty());
-        assert_eq!(rt; cut.faults.as_slice(), fault);
+    case: &Case,
+) -> Result<bool, Fail> {
+    let (line, bytes, report) = *case;
+    let whole = dripped(rt, line, bytes, u64::MAX)?;
+    Ok(is_served(&whole, 0, report, b""))
+}
+
+// A failure at this call of the reader is told so, and nothing is written.
+fn fails_at<H: AllocGlobal + RandomSource + Threads + Sync>(
+    rt: &H,
+    case: &Case,
+    call: u64,
+) -> Result<bool, Fail> {
+    let (line, bytes, fault) = *case;
+    let cut = dripped(rt, line, bytes, call)?;
+    Ok(is_served(&cut, 1, b"", fault))
+}
+
+// So is a failure at any call.
+fn fails_dripping<H: AllocGlobal + RandomSource + Threads + Sync>(
+    rt: &H,
+    case: &Case,
+) -> Result<bool, Fail> {
+    let mut all = true;
+    for call in 1..=case.1.len() as u64 + 1 {
+        all &= fails_at(rt, case, call)?;
+    }
+    Ok(all)
+}
+
+const DRIPPING_REPORTS: [Case; 2] = [
+    (RUN, b"a\tb\nb\tc\n", TWO_EDGES),
+    (COUNTED, b"a\tb\nb\tc\n%%\na", ONE_COUNTED),
+];
+
+const DRIPPING_FAULTS: [Case; 2] = [
+    (
+        RUN,
+        b"a\tb\nb\tc\n",
+        b"hyperball: the edge list cannot be read\n",
+    ),
+    (
+        COUNTED,
+        b"a\tb\nb\tc\n%%\na",
+        b"hyperball: the input cannot be read\n",
+    ),
+];
+
+#[test]
+fn a_byte_a_read(rt: HostRuntime) -> Result<(), Fail> {
+    for case in &DRIPPING_REPORTS {
+        assert!(rt; reports_dripping(&rt, case)?);
     }
     Ok(())
 }
 
 #[test]
-fn a_byte_a_read(rt: HostRuntime) -> Result<(), Fail> {
-    let whole = dripped(&rt, &RUN, b"a\tb\nb\tc\n", u64::MAX)?;
-    assert_eq!(rt; whole.output.as_slice(), TWO_EDGES);
-    let fault = b"hyperball: the edge list cannot be read\n";
-    fails_dripping(&rt, &RUN, b"a\tb\nb\tc\n", fault)
-}
-
-#[test]
-fn a_byte_a_read_of_a_whole_input(rt: HostRuntime) -> Result<(), Fail> {
-    let whole = dripped(&rt, &COUNTED, b"a\tb\nb\tc\n%%\na", u64::MAX)?;
-    assert_eq!(rt; whole.output.as_slice(), ONE_COUNTED);
-    let fault = b"hyperball: the input cannot be read\n";
-    fails_dripping(&rt, &COUNTED, b"a\tb\nb\tc\n%%\na", fault)
+fn a_read_that_fails(rt: HostRuntime) -> Result<(), Fail> {
+    for case in &DRIPPING_FAULTS {
+        assert!(rt; fails_dripping(&rt, case)?);
+    }
+    Ok(())
 }
 
 // A writer that takes a byte a call, and fails where it is full.
@@ -661,23 +708,14 @@ impl Write for Narrow {
 // Serves words over the two edges into a narrow writer.
 fn serve_narrowly<H: AllocGlobal + RandomSource + Threads + Sync>(
     rt: &H,
-    words: &[&str],
+    line: &str,
     room: usize,
 ) -> Result<Served, Fail> {
-    let words = words_of(rt, words)?;
-    let mut reader = CountingReader::new(b"a\tb\nb\tc\n".as_slice());
-    let mut narrow = Narrow {
-        taken: Vec::new(rt.alloc()),
-        room,
-    };
+    let taken = Vec::new(rt.alloc());
+    let mut narrow = Narrow { taken, room };
     let mut faults = Vec::new(rt.alloc());
-    let status = serve(
-        rt,
-        &words,
-        &mut reader,
-        &mut CountingWriter::new(&mut narrow),
-        &mut faults,
-    );
+    let input = b"a\tb\nb\tc\n".as_slice();
+    let status = serve_streams(rt, line, input, &mut narrow, &mut faults)?;
     let Narrow { taken, room: _ } = narrow;
     Ok(Served {
         status,
@@ -686,106 +724,132 @@ fn serve_narrowly<H: AllocGlobal + RandomSource + Threads + Sync>(
     })
 }
 
-// The writer was full before the text was out.
+#[test]
+fn a_byte_a_write(rt: HostRuntime) -> Result<(), Fail> {
+    let whole = serve_narrowly(&rt, RUN, TWO_EDGES.len())?;
+    assert!(rt; is_served(&whole, 0, TWO_EDGES, b""));
+    Ok(())
+}
+
+// The writer was full before the text was out, and this was told.
 fn is_cut(served: &Served, room: usize) -> bool {
     served.status == 1
         && served.output.len() == room
         && served.faults.as_slice() == b"hyperball: the output cannot be written\n".as_slice()
 }
 
+// Words whose text needs more room end so.
+fn fails_narrowly<H: AllocGlobal + RandomSource + Threads + Sync>(
+    rt: &H,
+    line: &str,
+    room: usize,
+) -> Result<bool, Fail> {
+    let served = serve_narrowly(rt, line, room)?;
+    Ok(is_cut(&served, room))
+}
+
+const NARROW: [(&str, usize); 5] = [
+    (RUN, 0),
+    (RUN, 1),
+    (RUN, 100),
+    (RUN, TWO_EDGES.len() - 1),
+    ("hyperball --help", 5),
+];
+
 #[test]
-fn a_byte_a_write(rt: HostRuntime) -> Result<(), Fail> {
-    let whole = serve_narrowly(&rt, &RUN, TWO_EDGES.len())?;
-    assert!(rt; whole.status == 0 && whole.output.as_slice() == TWO_EDGES);
-    let mut all = true;
-    for room in [0, 1, 100, TWO_EDGES.len() - 1] {
-        all &= is_cut(&serve_narrowly(&rt, &RUN, room)?, room);
+fn a_write_that_fails(rt: HostRuntime) -> Result<(), Fail> {
+    for (line, room) in NARROW {
+        assert!(rt; fails_narrowly(&rt, line, room)?, "{line} {room}");
     }
-    all &= is_cut(&serve_narrowly(&rt, &["hyperball", "--help"], 5)?, 5);
-    assert!(rt; all);
     Ok(())
+}
+
+// The status of words whose fault has room for three bytes, where it takes them and nothing is written.
+fn told_in_three<H: AllocGlobal + RandomSource + Threads + Sync>(
+    rt: &H,
+    line: &str,
+) -> Result<Option<u8>, Fail> {
+    let mut output = Vec::new(rt.alloc());
+    let taken = Vec::new(rt.alloc());
+    let mut faults = Narrow { taken, room: 3 };
+    let input = b"a\tb\n".as_slice();
+    let status = serve_streams(rt, line, input, &mut output, &mut faults)?;
+    let told = output.is_empty() && faults.taken.len() == 3;
+    Ok(told.then_some(status))
 }
 
 #[test]
 fn a_fault_that_cannot_be_told(rt: HostRuntime) -> Result<(), Fail> {
-    for (words, status) in [
-        (["hyperball", "run", "--log2m", "3"].as_slice(), 1),
-        (["hyperball", "run", "--log2m", "x"].as_slice(), 2),
-    ] {
-        let words = words_of(&rt, words)?;
-        let mut output = Vec::new(rt.alloc());
-        let mut faults = Narrow {
-            taken: Vec::new(rt.alloc()),
-            room: 3,
-        };
-        let told = serve(
-            &rt,
-            &words,
-            &mut CountingReader::new(b"a\tb\n".as_slice()),
-            &mut CountingWriter::new(&mut output),
-            &mut faults,
-        );
-        let Narrow { taken, room: _ } = faults;
-        assert_eq!(rt; told, status);
-        assert_eq!(rt; taken.len(), 3);
-        assert_eq!(rt; output.len(), 0);
-    }
+    let run = told_in_three(&rt, "hyperball run --log2m 3")?;
+    let words = told_in_three(&rt, "hyperball run --log2m x")?;
+    assert_eq!(rt; (run, words), (Some(1), Some(2)));
     Ok(())
+}
+
+const OPTIONS: SerialOptions = SerialOptions {
+    log2m: 4,
+    seed: 0,
+    parts: 3,
+    limit: 1,
+    delimiter: Delimiter::Comma,
+};
+
+// A run by these options writes a report.
+fn run_by<H: AllocGlobal + RandomSource + Threads + Sync>(
+    rt: &H,
+    options: &SerialOptions,
+    input: &[u8],
+    output: &mut Vec<u8>,
+) -> Result<bool, Fail> {
+    let state = RandomState::new(rt)?;
+    let mut reader = CountingReader::new(input);
+    let mut writer = CountingWriter::new(output);
+    let answer = run_serial(rt, state, &mut reader, None, &mut writer, options);
+    Ok(answer == Ok(()))
 }
 
 #[test]
 fn a_run_by_its_options(rt: HostRuntime) -> Result<(), Fail> {
-    let options = SerialOptions {
-        log2m: 4,
-        seed: 0,
-        parts: 3,
-        limit: 1,
-        delimiter: Delimiter::Comma,
-    };
     let mut output = Vec::new(rt.alloc());
-    let answer = run_serial(
-        &rt,
-        RandomState::new(&rt)?,
-        &mut CountingReader::new(b"a,b\nb,c\n".as_slice()),
-        None,
-        &mut CountingWriter::new(&mut output),
-        &options,
-    );
-    assert!(rt; answer == Ok(()) && output.as_slice() == LIMIT_OF_ONE);
+    let done = run_by(&rt, &OPTIONS, b"a,b\nb,c\n", &mut output)?;
+    assert!(rt; done && output.as_slice() == LIMIT_OF_ONE);
     Ok(())
 }
 
 // What words of a run say.
-fn said<H: AllocGlobal>(rt: &H, words: &[&str]) -> Result<RunWords, Fail> {
-    let words = words_of(rt, words)?;
-    let matches = parse(rt.alloc(), &words)?;
-    Ok(run_words(&matches))
+fn said<H: AllocGlobal>(rt: &H, line: &str) -> Result<RunWords, Fail> {
+    let words = words_of(rt, line)?;
+    Ok(read_words(rt.alloc(), &words)?)
 }
+
+const SAID: RunWords = RunWords {
+    options: SerialOptions {
+        log2m: 8,
+        seed: 7,
+        parts: 1,
+        limit: 4096,
+        delimiter: Delimiter::Space,
+    },
+    counted: true,
+};
 
 #[test]
 fn words_are_read(rt: HostRuntime) -> Result<(), Fail> {
-    let words = [
-        "hyperball",
-        "run",
-        "--seed",
-        "7",
-        "--delimiter",
-        "space",
-        "--counted",
-    ];
-    let expected = RunWords {
-        options: SerialOptions {
-            log2m: 8,
-            seed: 7,
-            parts: 1,
-            limit: 4096,
-            delimiter: Delimiter::Space,
-        },
-        counted: true,
-    };
-    assert!(rt; said(&rt, &words)? == expected);
-    assert_eq!(rt; command(rt.alloc())?.get_name(), "hyperball");
+    let read = said(&rt, "hyperball run --seed 7 --delimiter space --counted")?;
+    assert!(rt; read == SAID);
     words_of_a_run();
     words_of_no_run();
+    Ok(())
+}
+
+// The command has this name.
+fn is_named<H: AllocGlobal>(rt: &H, name: &str) -> Result<bool, Fail> {
+    let program = command(rt.alloc())?;
+    Ok(program.get_name() == name)
+}
+
+#[test]
+fn the_name_of_the_program(rt: HostRuntime) -> Result<(), Fail> {
+    assert!(rt; is_named(&rt, "hyperball")?);
     Ok(())
 }

@@ -1,6 +1,8 @@
 //! Inputs that are read whole, and cut into sections by a line of exactly `%%`.
 
-ghost use Rattle.std.specs.Prelude.{◌≡◌, ◌≢◌, ◌+◌, ◌<◌, ◌≤◌, Err, IfErr, IfOk, OnErr, OnOk, None, [], length, option_map, if◌then◌else◌};
+ghost use Rattle.std.specs.Prelude.{◌≡◌, ◌≢◌, ◌+◌, ◌<◌, ◌≤◌, if◌then◌else◌, [], length};
+ghost use Rattle.std.specs.Prelude.{Err, IfErr, IfOk, OnErr, OnOk, None, option_map};
+ghost use Rattle.ball_model.specs.Streams.{Rises};
 ghost use Rattle.ball_model.specs.Sections.{after_line, after_mark, sections_of};
 ghost use Rattle.hyperball.specs.Whole.{AddsPiece, IsLong, IsWhole, ReadsAtMost, most_bytes};
 
@@ -45,12 +47,15 @@ fn read_piece<R: CountedRead>(
     bytes: &mut Vec<u8>,
 ) -> Result<usize, WholeError>
     requires { 0 < length buffer.old }
-    ensures adds { IfOk result (λ n. AddsPiece (R.remaining reader.old) (R.remaining reader.new) bytes.old.items bytes.new.items n) }
-    ensures few { OnErr result (ReadsAtMost (length buffer.old) (R.remaining reader.old) (R.remaining reader.new)) }
+    ensures adds { IfOk result (λ n. AddsPiece (R.remaining reader.old) (R.remaining reader.new)
+        bytes.old.items bytes.new.items n) }
+    ensures few { OnErr result (
+        ReadsAtMost (length buffer.old) (R.remaining reader.old) (R.remaining reader.new)) }
     ensures within { IfOk result (λ n. n ≤ length buffer.old) }
     ensures counted { OnOk result (R.failed_calls reader.new ≡ R.failed_calls reader.old) }
     ensures kind { IfErr result (λ e. e ≢ WholeError.Size) }
-    ensures read { result ≡ Err WholeError.Read → R.failed_calls reader.old < R.failed_calls reader.new }
+    ensures read { result ≡ Err WholeError.Read →
+        Rises (R.failed_calls reader.old) (R.failed_calls reader.new) }
 {
     let Some(count) = reader.get(buffer) else {
         return Err(WholeError::Read);
@@ -76,7 +81,8 @@ fn read_all<R: CountedRead>(
     requires start { bytes.old.items ≡ [] }
     ensures ok { OnOk result (IsWhole (R.remaining reader.old) bytes.new.items) }
     ensures size { result ≡ Err WholeError.Size → IsLong (R.remaining reader.old) }
-    ensures read { result ≡ Err WholeError.Read → R.failed_calls reader.old < R.failed_calls reader.new }
+    ensures read { result ≡ Err WholeError.Read →
+        Rises (R.failed_calls reader.old) (R.failed_calls reader.new) }
     ensures few { ReadsAtMost (most_bytes + 1) (R.remaining reader.old) (R.remaining reader.new) }
 {
     while bytes.len() <= MOST {
@@ -94,7 +100,8 @@ fn read_all<R: CountedRead>(
 pub fn read_whole<R: CountedRead>(alloc: Global, reader: &mut R) -> Result<Vec<u8>, WholeError>
     ensures ok { IfOk result (λ bytes. IsWhole (R.remaining reader.old) bytes.items) }
     ensures size { result ≡ Err WholeError.Size → IsLong (R.remaining reader.old) }
-    ensures read { result ≡ Err WholeError.Read → R.failed_calls reader.old < R.failed_calls reader.new }
+    ensures read { result ≡ Err WholeError.Read →
+        Rises (R.failed_calls reader.old) (R.failed_calls reader.new) }
     ensures few { ReadsAtMost (most_bytes + 1) (R.remaining reader.old) (R.remaining reader.new) }
 {
     let mut buffer = buffer_of(alloc, PIECE)?;
@@ -131,7 +138,8 @@ fn after_mark(bytes: &[u8]) -> Option<&[u8]>
 
 // The same, where a line begins there.
 fn mark_here(begins: bool, bytes: &[u8]) -> Option<&[u8]>
-    ensures { option_map (λ rest. rest.now) result ≡ (if begins then after_mark bytes.now else None) }
+    ensures { option_map (λ rest. rest.now) result ≡
+        (if begins then after_mark bytes.now else None) }
 {
     if begins { after_mark(bytes) } else { None }
 }

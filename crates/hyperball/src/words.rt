@@ -1,12 +1,15 @@
 //! The command line, read by `clap`.
 
-ghost use Rattle.std.specs.Prelude.{◌≡◌, IfOk, MatchOption, false, true, map, option_map};
-ghost use Rattle.std.specs.String.{string_bytes};
-ghost use Rattle.clap.specs.Words.{App, FailsBy, fault_of, found_of, has_subcommand, rows_of, rule_of, subcommand_of, subcommand_rows_of};
+ghost use Rattle.std.specs.Prelude.{◌≡◌, IfOk, List, MatchOption, false, true, option_map};
+ghost use Rattle.clap.specs.Words.{App, FailsBy, fault_of, found_of, has_subcommand, rows_of};
+ghost use Rattle.clap.specs.Words.{rule_of, subcommand_of, subcommand_rows_of};
+ghost use Rattle.clap.specs.declared.error.kind.ErrorKind.{ErrorKind as Kind};
 ghost use Rattle.clap.specs.declared.builder.value_parser.ValueParser.{ValueParser as Parser};
-ghost use Rattle.hyperball.specs.CommandLine.{IsApp, TakesNames, delimiter_names, flag_rule, hyperball_app, option_rule, run_app, with_input, with_numbers};
+ghost use Rattle.hyperball.specs.CommandLine.{IsApp, TakesNames, delimiter_names, hyperball_app};
+ghost use Rattle.hyperball.specs.CommandLine.{flag_rule, option_rule, run_app};
+ghost use Rattle.hyperball.specs.CommandLine.{with_input, with_numbers};
 ghost use Rattle.hyperball.specs.declared.words.RunWords.{RunWords as Run};
-ghost use Rattle.hyperball.specs.Words.{AreOptionsOf, IsRunOf, name_of};
+ghost use Rattle.hyperball.specs.Words.{AreOptionsOf, HasFaults, IsRun, IsRunOf, name_of, texts_of};
 ghost use Rattle.edgelist.specs.declared.read.Delimiter.{Delimiter as Between};
 ghost use Rattle.edgelist.specs.declared.read.Delimiter.TheVariants.{Tab};
 
@@ -48,8 +51,8 @@ const RUN_AFTER: &str = "Example:
   The input is always standard input: a file is handed over by the shell, with '<'.
 
 Memory and accuracy:
-  A run takes about 2 * 2^log2m + 320 bytes a vertex and 5 bytes an edge, and while it reads about
-  100 bytes a vertex and 11 bytes an edge. The relative error of a large set is about
+  A run takes at most about 2 * 2^log2m + 180 bytes a vertex and 9 bytes an edge, and while it reads
+  110 bytes a vertex and 11 bytes an edge. The relative error of a large set is about
   1.04 / sqrt(2^log2m): 26 % at 4, 6.5 % at 8, 3.3 % at 10. A set of fewer than 2.5 * 2^log2m
   vertices is estimated too large.
 
@@ -136,7 +139,8 @@ fn add_input<'a>(
     command: Command<'a>,
     delimiters: ValueParser<'a>,
 ) -> Result<Command<'a>, AllocError>
-    ensures { (app : App) → IsApp app command.entry → IfOk result (IsApp (with_input delimiters.entry app)) }
+    ensures { (app : App) → IsApp app command.entry →
+        IfOk result (IsApp (with_input delimiters.entry app)) }
 {
     let delimiter = option(alloc, "delimiter", DELIMITER_HELP, delimiters);
     let command = command.arg(delimiter)?;
@@ -157,7 +161,8 @@ fn run_command<'a>(alloc: Global, delimiters: ValueParser<'a>) -> Result<Command
 
 /// The program's command.
 pub fn command<'a>(alloc: Global) -> Result<Command<'a>, AllocError>
-    ensures { IfOk result (λ c. (p : Parser) × TakesNames delimiter_names p × IsApp (hyperball_app p) c) }
+    ensures { IfOk result (λ c.
+        (p : Parser) × TakesNames delimiter_names p × IsApp (hyperball_app p) c) }
 {
     let run = run_command(alloc, delimiters())?;
     Command::new(alloc, "hyperball")
@@ -166,11 +171,12 @@ pub fn command<'a>(alloc: Global) -> Result<Command<'a>, AllocError>
         .subcommand(run)
 }
 
-/// The words, as the program's command reads them.
-pub fn parse<'a>(alloc: Global, words: &'a [String]) -> Result<ArgMatches<'a>, Error>
+// The words, as the program's command reads them.
+fn parse<'a>(alloc: Global, words: &'a [String]) -> Result<ArgMatches<'a>, Error>
     ensures read { (p : Parser) × TakesNames delimiter_names p
-        × IfOk result (λ m. subcommand_rows_of m ≡ subcommand_of (hyperball_app p) (map (λ w. string_bytes w) words.entry.now))
-        × FailsBy (fault_of (hyperball_app p) (map (λ w. string_bytes w) words.entry.now)) result }
+        × IfOk result (λ m.
+        subcommand_rows_of m ≡ subcommand_of (hyperball_app p) (texts_of words.entry.now))
+        × FailsBy (fault_of (hyperball_app p) (texts_of words.entry.now)) result }
     ensures subcommand { IfOk result (λ m. has_subcommand m ≡ true) }
 {
     command(alloc)?.try_get_matches_from(words)
@@ -178,7 +184,8 @@ pub fn parse<'a>(alloc: Global, words: &'a [String]) -> Result<ArgMatches<'a>, E
 
 // The delimiter of that name; where none is given it is the usual one.
 fn delimiter_of(name: Option<&str>) -> Delimiter
-    ensures { (d : Between) → MatchOption (option_map (λ name. name.now) name.entry) (d ≡ Tab) (λ name. name ≡ name_of d) → result ≡ d }
+    ensures { (d : Between) → MatchOption (option_map (λ name. name.now) name.entry)
+        (d ≡ Tab) (λ name. name ≡ name_of d) → result ≡ d }
 {
     match name {
         Some("comma") => Delimiter::Comma,
@@ -204,11 +211,21 @@ fn options_of(matches: &ArgMatches<'_>) -> RunWords
     }
 }
 
-/// What the words of a run say.
-pub fn run_words(matches: &ArgMatches<'_>) -> RunWords
+// What the words of a run say.
+fn run_words(matches: &ArgMatches<'_>) -> RunWords
     requires { has_subcommand matches.now ≡ true }
     ensures { (w : Run) → IsRunOf (subcommand_rows_of matches.now) w → result ≡ w }
 {
     let (_, inner) = matches.subcommand().unwrap();
     options_of(inner)
+}
+
+/// What the words of a command line say of a run. The error is why they are none.
+pub fn read_words(alloc: Global, words: &[String]) -> Result<RunWords, Error>
+    ensures run { (w : Run) → IsRun (texts_of words.now) w → IfOk result (λ said. said ≡ w) }
+    ensures faults { (kinds : List Kind) → HasFaults (texts_of words.now) kinds →
+        FailsBy kinds result }
+{
+    let matches = parse(alloc, words)?;
+    Ok(run_words(&matches))
 }

@@ -1,4 +1,5 @@
 pub mod Flags
+pub mod Glance
 pub mod Joined
 pub mod Laws
 pub mod Raised

@@ -21,16 +21,16 @@ pub mod mask;
 pub mod rows;
 
 pub use join::{Join, reconcile};
-use lanes::{LANES, raise_lanes};
+use lanes::{HALF, LANES, raise_half, raise_lanes};
 pub use mask::SourceMask;
-pub use rows::Rows;
+pub use rows::{LINE, Rows};
 
 #[cfg(test)]
 mod tests;
 
 /// Each byte of `dst` becomes the maximum of itself and the byte of `src` there; the answer is whether one changed.
 ///
-/// Both have the same length. 32 bytes are taken at once, and the loop over the rest has no branch.
+/// Both have the same length. 32 bytes are taken at once, or 16, and the loop over the rest has no branch.
 pub fn max_into(dst: &mut [u8], src: &[u8]) -> bool
     requires { length dst.old ≡ length src.now }
     ensures maximum { dst.new ≡ max_each dst.old src.now }
@@ -42,6 +42,10 @@ pub fn max_into(dst: &mut [u8], src: &[u8]) -> bool
     while len - done >= LANES {
         changed |= raise_lanes(dst, src, done);
         done += LANES;
+    }
+    if len - done >= HALF {
+        changed |= raise_half(dst, src, done);
+        done += HALF;
     }
     for i in done..len {
         changed |= dst[i] < src[i];

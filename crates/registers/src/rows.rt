@@ -1,13 +1,17 @@
 //! Rows of registers in one buffer.
 
-ghost use Rattle.std.specs.Prelude.{◌≡◌, ◌↔◌, length, false, [], IsTrue, IfOk, replicate, slice_index, slice_index_or, slice_set, ◌<◌, ◌≤◌, ◌+◌, ◌*◌, ◌^◌, ◌++◌, take, drop};
+ghost use Rattle.std.specs.Prelude.{◌≡◌, ◌≢◌, ◌↔◌, length, false, [], IsTrue, IfOk, replicate, slice_index, slice_index_or, slice_set, ◌<◌, ◌≤◌, ◌+◌, ◌*◌, ◌^◌, ◌++◌, take, drop};
 ghost use Rattle.ball_model.specs.Counter.{max_each};
 ghost use Rattle.ball_model.specs.Report.{empty_of};
+ghost use Rattle.registers.specs.Glance.{glanced_at, is_less_at};
 ghost use Rattle.registers.specs.Raised.{raised_one};
 
 use super::{Join, max_into};
 use std::alloc::{AllocError, Global};
 use std::marker::Model;
+
+/// The bytes of a line of the cache.
+pub const LINE: usize = 64;
 
 /// Rows of registers, one a vertex, all of one width.
 ///
@@ -81,6 +85,21 @@ impl Rows {
         ensures { result ≡ empty_of (slice_index_or self.now.rows i []) }
     {
         zeros(piece(&self.cells, self.width, i))
+    }
+
+    /// Whether row `i` is seen at a glance to be less than `src` somewhere, so that it would be raised: in its last
+    /// register, or in one of each line of the cache.
+    ///
+    /// Rows that are glanced at first and raised then are fetched side by side, and not one after the other.
+    pub fn glance(&self, i: usize, src: &[u8]) -> bool
+        requires row { i < length self.now.rows }
+        requires width { length src.now ≡ self.now.width }
+        requires some { 0 < length src.now }
+        ensures value { result ≡ is_less_at (glanced_at self.now.width) (slice_index_or self.now.rows i []) src.now }
+        ensures rises { IsTrue result →
+            max_each (slice_index_or self.now.rows i []) src.now ≢ slice_index_or self.now.rows i [] }
+    {
+        glance_over(piece(&self.cells, self.width, i), src)
     }
 
     /// Row `i` becomes the maximum of itself and `src`, register by register; the answer is whether it changed.
@@ -176,6 +195,21 @@ fn zeros(row: &[u8]) -> u32
     ensures { result ≡ empty_of row.now }
 {
     row.iter().filter(|register| **register == 0).count() as u32
+}
+
+// Whether the last register of a row, or one of each line, is less than that of `src`.
+fn glance_over(row: &[u8], src: &[u8]) -> bool
+    requires same_length { length row.now ≡ length src.now }
+    requires some { 0 < length src.now }
+    ensures value { result ≡ is_less_at (glanced_at (length row.now)) row.now src.now }
+    ensures rises { IsTrue result → max_each row.now src.now ≢ row.now }
+{
+    let last = row.len() - 1;
+    let mut less = row[last] < src[last];
+    for line in 0..row.len() / LINE {
+        less |= row[line * LINE] < src[line * LINE];
+    }
+    less
 }
 
 // The i-th piece of the cells becomes the maximum with `src`; the answer is whether it changed.

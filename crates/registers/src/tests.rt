@@ -22,14 +22,16 @@ fn raises_at(rt: &impl Abort, dst: &mut [u8], src: &mut [u8], place: usize)
     }
 }
 
-// Lengths on both sides of a lane of 32 bytes, raised in the last place alone and in the first.
+// Lengths on both sides of a lane of 32 bytes, or with one of 16, raised in the last place alone and in the first.
 #[test]
 fn lane_boundaries(rt: HostRuntime) {
     assert!(rt; !max_into(&mut [], &[]));
     raises_at(&rt, &mut [0; 1], &mut [0; 1], 0);
+    raises_at(&rt, &mut [0; 16], &mut [0; 16], 15);
     raises_at(&rt, &mut [0; 31], &mut [0; 31], 30);
     raises_at(&rt, &mut [0; 32], &mut [0; 32], 31);
     raises_at(&rt, &mut [0; 33], &mut [0; 33], 32);
+    raises_at(&rt, &mut [0; 48], &mut [0; 48], 47);
     raises_at(&rt, &mut [0; 1024], &mut [0; 1024], 1023);
     raises_at(&rt, &mut [0; 1024], &mut [0; 1024], 500);
     raises_at(&rt, &mut [0; 31], &mut [0; 31], 0);
@@ -64,6 +66,35 @@ fn no_rows(rt: HostRuntime) -> Result<(), Fail> {
     rows.copy_from(&other);
     assert_eq!(rt; rows.len(), 0);
     assert_eq!(rt; rows.width(), 1024);
+    Ok(())
+}
+
+// Whether the second of two rows of 200 registers is seen to be less where one register of another is 1 and the
+// others are 0.
+fn is_seen_at(rows: &Rows, other: &mut [u8], place: usize) -> bool
+    requires rows { length rows.now.rows ≡ 2 }
+    requires width { rows.now.width ≡ 200 }
+    requires other { length other.old ≡ 200 }
+    requires within { place < 200 }
+{
+    other.fill(0);
+    other[place] = 1;
+    rows.glance(1, other)
+}
+
+// One register of each 64 is read, and the last.
+#[test]
+fn a_glance_reads_each_line(rt: HostRuntime) -> Result<(), Fail> {
+    let rows = Rows::fixed(rt.alloc(), 2, 200)?;
+    let mut other = [0u8; 200];
+    let first = is_seen_at(&rows, &mut other, 0) & is_seen_at(&rows, &mut other, 64);
+    let last = is_seen_at(&rows, &mut other, 128) & is_seen_at(&rows, &mut other, 199);
+    assert!(rt;
+        first & last,
+        "the first of each line and the last are read"
+    );
+    let others = is_seen_at(&rows, &mut other, 1) | is_seen_at(&rows, &mut other, 198);
+    assert!(rt; !others, "no others are read");
     Ok(())
 }
 

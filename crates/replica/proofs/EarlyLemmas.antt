@@ -9,7 +9,7 @@ use Rattle.std.proofs.lemmas.List.{get_or-drop, get_or-append_right, take_at, dr
 use Rattle.std.proofs.lemmas.List.FromFn.{length-map-range_with_len, get_or-map-range_with_len}
 use Rattle.ball_model.specs.Batches.{BatchValue}
 use Rattle.ball_model.specs.State.{early_at}
-use Rattle.ball_model.proofs.PathLemmas.{and_left, and_right, and_both, eq_true, same_true}
+use Rattle.ball_model.proofs.PathLemmas.{and_left, and_right, and_both, eq_true}
 use Rattle.replica.specs.Ahead.{table_of, IsTable, either, filled, shifted}
 
 pub get_none : (n i : ℕ) → get_or (replicate {A = Option BatchValue} n None) i None ≡ None
@@ -73,11 +73,11 @@ length-filled slots others = length-map-range_with_len (λ i. either (get_or slo
 row_of : ℕ → List (Option BatchValue) → ℕ → List (Option BatchValue)
 row_of parts slots i = map (λ q. get_or slots (i * parts + q) None) (range_with_len 0 parts)
 
-level_in : (parts : ℕ) (slots : List (Option BatchValue)) (i : ℕ) → i < 3 → get_or (table_of parts slots) i [] ≡ map (λ q. get_or slots (i * parts + q) None) (range_with_len 0 parts)
+pub level_in : (parts : ℕ) (slots : List (Option BatchValue)) (i : ℕ) → i < 3 → get_or (table_of parts slots) i [] ≡ map (λ q. get_or slots (i * parts + q) None) (range_with_len 0 parts)
 unfolding table_of
 level_in parts slots i lt = get_or-map-range_with_len (λ k. map (λ q. get_or slots (k * parts + q) None) (range_with_len 0 parts)) 0 3 i i [] lt (omega arith)
 
-levels : (parts : ℕ) (slots : List (Option BatchValue)) → length (table_of parts slots) ≡ 3
+pub levels : (parts : ℕ) (slots : List (Option BatchValue)) → length (table_of parts slots) ≡ 3
 unfolding table_of
 levels parts slots = length-map-range_with_len (λ k. map (λ q. get_or slots (k * parts + q) None) (range_with_len 0 parts)) 0 3
 

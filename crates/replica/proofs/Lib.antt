@@ -4,6 +4,8 @@ pub mod StepLemmas
 pub mod RiseLemmas
 pub mod LevelLemmas
 pub mod EarlyLemmas
+pub mod KeptLemmas
+pub mod OptionLemmas
 pub mod HearLemmas
 pub mod HeardLemmas
 pub mod IndexLemmas
@@ -25,4 +27,5 @@ pub mod CountingLemmas
 pub mod SameLemmas
 pub mod MergeLemmas
 pub mod HoldingLemmas
+pub mod OverLemmas
 pub mod Crossing

@@ -1,9 +1,11 @@
 -- A row spread place by place, and which accumulators it touches.
-use Rattle.std.proofs.Common.{◌≡◌, ℕ, ◌<◌, ◌≢◌, Bool, true, false, not, ◌||◌, ◌==◌, List, [], ◌∷◌, if◌then◌else◌, max, length, get_or, set, drop, refl, ap, ap₂, arith, sym, ◌∙◌, inl, inr, subst, ◌↔◌}
+use Rattle.std.proofs.Common.{◌≡◌, ℕ, zero, suc, ◌<◌, ◌≢◌, Bool, true, false, not, ◌||◌, ◌==◌, List, [], ◌∷◌, ◌++◌, if◌then◌else◌, max, length, get_or, set, drop, refl, ap, ap₂, arith, sym, ◌∙◌, inl, inr, subst, ◌↔◌}
+use Rattle.std.specs.List.{All}
 use Rattle.std.specs.Str.{bytes_eq}
 use Rattle.std.proofs.lemmas.Bool.{cases_eq, or_right, ne_eqb, eq-eqb}
 use Rattle.std.proofs.lemmas.Slice.Eq.{bytes_eq-Decides}
 use Rattle.std.proofs.lemmas.List.{get_or-set_same, get_or-set_other, length-set, same_lists, get_or_default}
+use Rattle.std.proofs.lemmas.List.Folds.{list_any_at, list_any-append}
 use Rattle.std.proofs.lemmas.List.FromFn.{get_or-map-range_with_len, length-map-range_with_len}
 use Rattle.ball_model.specs.Counter.{max_each}
 use Rattle.replica.specs.Spread.{stands_in, spread_to, spread, touched_at, AreTouched}
@@ -130,6 +132,93 @@ pub touched-none : (src : List ℕ) (rows : List (List ℕ)) (marks : List Bool)
 touched-none src rows marks i lt =
     let same : bytes_eq (get_or (spread [] src rows) i []) (get_or rows i []) ≡ true = bytes_same _ _ (spread-at [] src rows i [] lt ∙ to_out [] src rows i refl) in
     sym (ap (λ e. get_or marks i false || not e) same ∙ or_false (get_or marks i false) false refl)
+
+-- ---- rows that are seen to rise before they are raised
+seen_mark : (t g ch : Bool) → (g ≡ true → ch ≡ true) → ((t || g) || ch) ≡ (t || ch)
+seen_mark true g ch h = refl
+seen_mark false true ch h = sym (h refl)
+seen_mark false false ch h = refl
+
+-- the row at a place of the list, where it is not its maximum with the others, becomes another
+seen_rises : (places src : List ℕ) (k : ℕ) (rows : List (List ℕ)) (p : ℕ) → k < length places → get_or places k 0 ≡ p → p < length rows → max_each (get_or rows p []) src ≢ get_or rows p [] →
+    not (bytes_eq (get_or (spread places src rows) p []) (get_or rows p [])) ≡ true
+seen_rises places src k rows p in_list is lt rises =
+    let here : stands_in places p ≡ true = list_any_at (λ y. y == p) places k 0 in_list (eq-eqb (get_or places k 0) p is) in
+    let at : get_or (spread places src rows) p [] ≡ max_each (get_or rows p []) src = spread-at places src rows p [] lt ∙ to_in places src rows p here in
+    ap not (ap (λ row. bytes_eq row (get_or rows p [])) at ∙ bytes_unlike _ _ rises)
+
+-- a mark that is set of one of them
+pub touched-seen : (places src : List ℕ) (k : ℕ) (rows : List (List ℕ)) (p : ℕ) (old marks : List Bool) (g : Bool) → k < length places → get_or places k 0 ≡ p → p < length rows → length marks ≡ length rows →
+    (g ≡ true → max_each (get_or rows p []) src ≢ get_or rows p []) →
+    ((i : ℕ) → i < length rows → touched_at marks rows (spread places src rows) i ≡ touched_at old rows (spread places src rows) i) →
+    (i : ℕ) → i < length rows → touched_at (set marks p (get_or marks p false || g)) rows (spread places src rows) i ≡ touched_at old rows (spread places src rows) i
+touched-seen places src k rows p old marks g in_list is lt count rises so_far i inside =
+    let ch : ℕ → Bool = λ j. not (bytes_eq (get_or (spread places src rows) j []) (get_or rows j [])) in
+    elim (cases_eq i p) [
+      | inl same ↦
+          subst (λ (j : ℕ). touched_at (set marks p (get_or marks p false || g)) rows (spread places src rows) j ≡ touched_at old rows (spread places src rows) j) (sym same)
+          (ap (λ b. b || ch p) (get_or-set_same marks p (get_or marks p false || g) false (omega arith))
+          ∙ seen_mark (get_or marks p false) g (ch p) (λ t. seen_rises places src k rows p in_list is lt (rises t)) ∙ so_far p lt)
+      | inr ne ↦ ap (λ b. b || ch i) (get_or-set_other marks p i (get_or marks p false || g) false ne) ∙ so_far i inside
+    ]
+
+-- ---- one list of places after another
+spread_to_both : (b c : Bool) (x src : List ℕ) → (if c then max_each (if b then max_each x src else x) src else (if b then max_each x src else x)) ≡ (if b || c then max_each x src else x)
+spread_to_both true true x src = max_twice x src
+spread_to_both true false x src = refl
+spread_to_both false c x src = refl
+
+spread_to-append : (xs ys src : List ℕ) (rows : List (List ℕ)) (i : ℕ) → i < length rows → spread_to ys src (spread xs src rows) i ≡ spread_to (xs ++ ys) src rows i
+unfolding spread_to
+spread_to-append xs ys src rows i lt =
+    ap (λ row. if stands_in ys i then max_each row src else row) (spread-at xs src rows i [] lt)
+    ∙ spread_to_both (stands_in xs i) (stands_in ys i) (get_or rows i []) src
+    ∙ ap (λ b. if b then max_each (get_or rows i []) src else get_or rows i []) (sym (list_any-append (λ y. y == i) xs ys))
+
+pub spread-append : (xs ys src : List ℕ) (rows : List (List ℕ)) → spread ys src (spread xs src rows) ≡ spread (xs ++ ys) src rows
+spread-append xs ys src rows =
+    let count = length-spread xs src rows in
+    let first = length-spread ys src (spread xs src rows) in
+    let second = length-spread (xs ++ ys) src rows in
+    same_lists (spread ys src (spread xs src rows)) (spread (xs ++ ys) src rows) (first ∙ count ∙ sym second)
+    (λ k d lt.
+    let inside : k < length rows = omega arith in
+    spread-at ys src (spread xs src rows) k d (omega arith) ∙ spread_to-append xs ys src rows k inside ∙ sym (spread-at (xs ++ ys) src rows k d inside))
+
+-- the marks of the first list, then of the second
+both_marks : (b c : Bool) (t : Bool) (x src first last : List ℕ) → first ≡ (if b then max_each x src else x) → last ≡ (if b || c then max_each x src else x) →
+    ((t || not (bytes_eq first x)) || not (bytes_eq last first)) ≡ (t || not (bytes_eq last x))
+both_marks true c t x src first last f l =
+    let same : last ≡ first = l ∙ sym f in
+    ap (λ e. (t || not (bytes_eq first x)) || not e) (bytes_same last first same) ∙ or_false (t || not (bytes_eq first x)) false refl ∙ ap (λ row. t || not (bytes_eq row x)) (sym same)
+both_marks false c t x src first last f l =
+    ap (λ e. (t || not e) || not (bytes_eq last first)) (bytes_same first x f) ∙ ap (λ b. b || not (bytes_eq last first)) (or_false t false refl) ∙ ap (λ row. t || not (bytes_eq last row)) f
+
+to_row : (places src : List ℕ) (rows : List (List ℕ)) (i : ℕ) → spread_to places src rows i ≡ (if stands_in places i then max_each (get_or rows i []) src else get_or rows i [])
+unfolding spread_to
+to_row places src rows i = refl
+
+pub touched-append : (xs ys src : List ℕ) (rows : List (List ℕ)) (old marks : List Bool) →
+    ((i : ℕ) → i < length rows → get_or marks i false ≡ touched_at old rows (spread xs src rows) i) →
+    (i : ℕ) → i < length rows → touched_at marks (spread xs src rows) (spread ys src (spread xs src rows)) i ≡ touched_at old rows (spread (xs ++ ys) src rows) i
+touched-append xs ys src rows old marks tells i lt =
+    let first = get_or (spread xs src rows) i [] in
+    let last = get_or (spread (xs ++ ys) src rows) i [] in
+    ap (λ (t : List (List ℕ)). get_or marks i false || not (bytes_eq (get_or t i []) first)) (spread-append xs ys src rows)
+    ∙ ap (λ b. b || not (bytes_eq last first)) (tells i lt)
+    ∙ both_marks (stands_in xs i) (stands_in ys i) (get_or old i false) (get_or rows i []) src first last
+    (spread-at xs src rows i [] lt ∙ to_row xs src rows i)
+    (spread-at (xs ++ ys) src rows i [] lt ∙ to_row (xs ++ ys) src rows i ∙ ap (λ b. if b then max_each (get_or rows i []) src else get_or rows i []) (list_any-append (λ y. y == i) xs ys))
+
+-- what holds of all places holds of the first ones, and of the last
+pub all_first : (P : ℕ → Type 0) (xs ys : List ℕ) → All P (xs ++ ys) → All P xs
+all_first P [] ys h k d lt = absurd (omega arith)
+all_first P (x ∷ xs) ys h zero d lt = h 0 d (omega arith)
+all_first P (x ∷ xs) ys h (suc k) d lt = all_first P xs ys (λ j e l. h (suc j) e (omega arith)) k d (omega arith)
+
+pub all_last : (P : ℕ → Type 0) (xs ys : List ℕ) → All P (xs ++ ys) → All P ys
+all_last P [] ys h = h
+all_last P (x ∷ xs) ys h = all_last P xs ys (λ j e l. h (suc j) e (omega arith))
 
 -- ---- an accumulator that is above its row, and is raised
 above_stays : (row acc s : List ℕ) → max_each row acc ≡ acc → max_each row (max_each acc s) ≡ max_each acc s

@@ -1,7 +1,11 @@
 -- Batches of supersteps to come, by how far they are ahead and by source.
-use Rattle.std.specs.Prelude.{◌≡◌, ℕ, ◌+◌, ◌*◌, ◌<◌, List, [], map, length, Option, None, Some, slice_index_or, drop, ◌++◌, replicate}
-use Rattle.std.specs.List.{range_with_len}
+use Rattle.std.specs.Prelude.{◌≡◌, ℕ, ◌+◌, ◌*◌, ◌<◌, List, [], map, length, Option, None, Some, slice_index_or, drop, ◌++◌, replicate, nat_lt}
+use Rattle.std.specs.List.{range_with_len, filter, flat_map}
+use Rattle.std.specs.Option.{option_to_list}
+use Rattle.ball_model.specs.declared.names.BatchName.{BatchName}
 use Rattle.ball_model.specs.Batches.{BatchValue}
+use Rattle.ball_model.specs.Content.{names_of}
+use Rattle.ball_model.specs.State.{State, content_of}
 
 -- slots, one for each of three supersteps and each source, as a table
 unfoldable pub table_of : ℕ → List (Option BatchValue) → List (List (Option BatchValue))
@@ -24,3 +28,15 @@ either (Some b) other = Some b
 -- what either keeps at each place; where both do, that of the first
 unfoldable pub filled : List (Option BatchValue) → List (Option BatchValue) → List (Option BatchValue)
 filled slots others = map (λ i. either (slice_index_or slots i None) (slice_index_or others i None)) (range_with_len 0 (length slots))
+
+-- the batches that stand in slots, in their order
+unfoldable pub batches_in : List (Option BatchValue) → List BatchValue
+batches_in slots = flat_map option_to_list slots
+
+-- the batches that are kept, ascending by superstep, then by source
+unfoldable pub early_batches : List (List (Option BatchValue)) → List BatchValue
+early_batches early = flat_map batches_in early
+
+-- the names that are held of later supersteps, ascending by superstep, then by source
+unfoldable pub early_names : State → List BatchName
+early_names v = filter (λ name. nat_lt v.superstep name.superstep) (names_of v.part.plan v.part.number (content_of v))

@@ -1,11 +1,12 @@
 -- A superstep over plain data: what a replica makes of what it has (HyperBall 2013).
-use Rattle.std.specs.Prelude.{◌≡◌, ℕ, ◌+◌, ◌-◌, ◌*◌, ◌/◌, Bool, true, not, ◌==◌, ◌||◌, ◌&&◌, List, [], ◌∷◌, ◌++◌, map, length, Option, None, Some, Result, if◌then◌else◌, slice_index_or, nat_le}
+use Rattle.std.specs.Prelude.{◌≡◌, ℕ, ◌+◌, ◌-◌, ◌*◌, ◌/◌, Bool, true, not, ◌==◌, ◌||◌, ◌&&◌, List, [], ◌∷◌, ◌++◌, map, length, Option, None, Some, Result, Ok, Err, false, if◌then◌else◌, slice_index_or, nat_le}
 use Rattle.std.specs.List.{range_with_len, list_any, sum_by}
 use Rattle.std.specs.Str.{bytes_eq}
 use Rattle.ball_model.specs.Figures.{TallyValue, estimate_of}
 use Rattle.ball_model.specs.declared.names.Verdict.{Verdict}
 use Rattle.ball_model.specs.declared.names.Verdict.TheVariants as verdict
 use Rattle.ball_model.specs.declared.names.CloseError.{CloseError}
+use Rattle.ball_model.specs.declared.names.CloseError.TheVariants as finished
 use Rattle.ball_model.specs.Content.{verdict_unless, close_unless, missing_of}
 use Rattle.ball_model.specs.State.{State, content_of}
 
@@ -45,3 +46,13 @@ found_verdict v = verdict_unless (missing_of v.part.plan.parts v.part.number (co
 
 abbrev pub found_close : State → Result ℕ CloseError
 found_close v = close_unless (missing_of v.part.plan.parts v.part.number (content_of v)) (level_verdict v) v.superstep
+
+-- whether an answer to a close is that the run is over
+abbrev pub is_finished : Result ℕ CloseError → Bool
+is_finished (Ok t) = false
+is_finished (Err finished.Finished) = true
+is_finished (Err (finished.Waiting q)) = false
+
+-- its level is held, and it does not go on from there
+abbrev pub is_over : State → Bool
+is_over v = is_finished (found_close v)

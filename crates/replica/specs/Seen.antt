@@ -1,5 +1,5 @@
 -- A replica's fields as plain data, and what they keep.
-use Rattle.std.specs.Prelude.{◌≡◌, ℕ, ◌+◌, ◌*◌, ◌^◌, ◌<◌, ◌≤◌, map, length}
+use Rattle.std.specs.Prelude.{◌≡◌, ℕ, ◌+◌, ◌*◌, ◌^◌, ◌<◌, ◌≤◌, ◌⊎◌, true, List, [], map, length}
 use Rattle.std.specs.Arc.{arc_value}
 use Rattle.std.specs.Vec.{vec_capacity}
 use Rattle.std.specs.List.{sum_by}
@@ -10,6 +10,7 @@ use Rattle.ball_model.specs.Figures.{estimate_of}
 use Rattle.ball_model.specs.Job.{IsPart}
 use Rattle.ball_model.specs.State.{State}
 use Rattle.replica.specs.Index.{targets_of}
+use Rattle.replica.specs.Level.{is_over}
 use Rattle.replica.specs.Spread.{AreTouched}
 use Rattle.replica.specs.Kept.{AreEarly, AreSources, AreCounters, AllRise, AreSums}
 
@@ -47,7 +48,11 @@ pub record IsSnapshot (s : snapshot.Inside) : Type 0 where
   pub accumulated_width : s.accumulated.width ≡ 2 ^ (arc_value s.part).plan.log2m
   pub room : (arc_value s.part).plan.limit + 1 ≤ vec_capacity s.sums
 
--- the index is that of the part, and the rows that differ from what is accumulated are marked
+-- the index is that of the part, or was let go where the run is over
+abbrev pub HasIndex : State → List (List ℕ) → Type 0
+HasIndex v targets = (targets ≡ targets_of v.part) ⊎ ((targets ≡ []) × (is_over v ≡ true))
+
+-- and the rows that differ from what is accumulated are marked
 pub record IsReplica (r : replica.Inside) : Type 0 where
-  pub index : r.targets ≡ targets_of r.known.part
+  pub index : HasIndex r.known r.targets
   pub touched : AreTouched r.known.rows r.known.accumulated r.touched.items

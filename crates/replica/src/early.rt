@@ -3,7 +3,9 @@
 ghost use Rattle.std.specs.Prelude.{◌≡◌, ℕ, ◌<◌, ◌≤◌, ◌+◌, ◌*◌, ◌==◌, ◌&&◌, replicate, length, option_map, slice_index_or, slice_set, None, Some, [], map, IfOk, if◌then◌else◌};
 ghost use Rattle.std.specs.Arc.{arc_value};
 ghost use Rattle.ball_model.specs.State.{early_at};
-ghost use Rattle.replica.specs.Ahead.{IsTable, either, filled, shifted};
+ghost use Rattle.std.specs.List.{slice_get, flat_map};
+ghost use Rattle.std.specs.Option.{option_to_list};
+ghost use Rattle.replica.specs.Ahead.{IsTable, either, filled, shifted, batches_in, early_batches};
 
 use batches::Batch;
 use std::alloc::{AllocError, Global};
@@ -58,11 +60,30 @@ impl Early {
         batch_at(&self.slots, level * self.parts + source)
     }
 
+    /// How many batches are kept.
+    pub fn count(&self) -> usize
+        ensures { result ≡ length (early_batches self.now) }
+    {
+        count_kept(&self.slots)
+    }
+
+    /// The batch that is kept at place `i`, by superstep, then by source.
+    pub fn nth(&self, i: usize) -> Option<&Batch>
+        ensures { option_map (λ b. b.now) result ≡ slice_get (early_batches self.now) i }
+    {
+        match nth_kept(&self.slots, i) {
+            Some(batch) => Some(batch),
+            None => None,
+        }
+    }
+
     /// Keeps the batch of a source.
     pub fn keep(&mut self, level: usize, source: u16, batch: Arc<Batch>)
         requires level { level < 3 }
         requires source { (parts : ℕ) → IsTable parts self.old → source < parts }
-        ensures kept { (i k : ℕ) → early_at self.new i k ≡ (if (i == level) && (k == source) then Some (arc_value batch) else early_at self.old i k) }
+        ensures kept { (i k : ℕ) →
+            early_at self.new i k ≡ (if (i == level) && (k == source)
+            then Some (arc_value batch) else early_at self.old i k) }
         ensures table { (parts : ℕ) → IsTable parts self.old → IsTable parts self.new }
     {
         let place = level * self.parts + usize::from(source);
@@ -81,7 +102,8 @@ impl Early {
     /// Where there is no batch, that of the other one comes.
     pub fn fill(&mut self, other: &mut Early)
         requires { (parts : ℕ) → IsTable parts self.old → IsTable parts other.old }
-        ensures kept { (i k : ℕ) → early_at self.new i k ≡ either (early_at self.old i k) (early_at other.old i k) }
+        ensures kept { (i k : ℕ) →
+            early_at self.new i k ≡ either (early_at self.old i k) (early_at other.old i k) }
         ensures table { (parts : ℕ) → IsTable parts self.old → IsTable parts self.new }
     {
         fill_slots(&mut self.slots, &mut other.slots);
@@ -113,7 +135,8 @@ fn empty_slots(alloc: Global, count: usize) -> Result<Vec<Option<Arc<Batch>>>, A
 // The batch in a slot.
 fn batch_at(slots: &[Option<Arc<Batch>>], place: usize) -> Option<&Batch>
     requires { place < length slots.now }
-    ensures { option_map (λ b. b.now) result ≡ slice_index_or (map (option_map arc_value) slots.now) place None }
+    ensures { option_map (λ b. b.now) result ≡
+        slice_index_or (map (option_map arc_value) slots.now) place None }
 {
     match &slots[place] {
         Some(batch) => Some(batch),
@@ -121,10 +144,25 @@ fn batch_at(slots: &[Option<Arc<Batch>>], place: usize) -> Option<&Batch>
     }
 }
 
+// How many slots have a batch.
+fn count_kept(slots: &[Option<Arc<Batch>>]) -> usize
+    ensures { result ≡ length (flat_map option_to_list slots.now) }
+{
+    slots.iter().flatten().count()
+}
+
+// The i-th of the batches in slots.
+fn nth_kept(slots: &[Option<Arc<Batch>>], i: usize) -> Option<&Arc<Batch>>
+    ensures { option_map (λ b. b.now) result ≡ slice_get (flat_map option_to_list slots.now) i }
+{
+    slots.iter().flatten().nth(i)
+}
+
 // A batch comes into a slot.
 fn put(slots: &mut [Option<Arc<Batch>>], place: usize, batch: Arc<Batch>)
     requires { place < length slots.old }
-    ensures { map (option_map arc_value) slots.new ≡ slice_set (map (option_map arc_value) slots.old) place (Some (arc_value batch)) }
+    ensures { map (option_map arc_value) slots.new ≡
+        slice_set (map (option_map arc_value) slots.old) place (Some (arc_value batch)) }
 {
     slots[place] = Some(batch);
 }
@@ -132,7 +170,8 @@ fn put(slots: &mut [Option<Arc<Batch>>], place: usize, batch: Arc<Batch>)
 // The batches move so many places nearer, and the first ones go.
 fn shift_slots(slots: &mut [Option<Arc<Batch>>], count: usize)
     requires { count ≤ length slots.old }
-    ensures { map (option_map arc_value) slots.new ≡ shifted count (map (option_map arc_value) slots.old) }
+    ensures { map (option_map arc_value) slots.new ≡
+        shifted count (map (option_map arc_value) slots.old) }
 {
     clear(&mut slots[..count]);
     slots.rotate_left(count);
@@ -150,7 +189,8 @@ fn clear(slots: &mut [Option<Arc<Batch>>])
 // Each empty slot takes what the other one at its place has.
 fn fill_slots(slots: &mut [Option<Arc<Batch>>], others: &mut [Option<Arc<Batch>>])
     requires { length others.old ≡ length slots.old }
-    ensures { map (option_map arc_value) slots.new ≡ filled (map (option_map arc_value) slots.old) (map (option_map arc_value) others.old) }
+    ensures { map (option_map arc_value) slots.new ≡
+        filled (map (option_map arc_value) slots.old) (map (option_map arc_value) others.old) }
 {
     for i in 0..slots.len() {
         fill_one(&mut slots[i], &mut others[i]);
@@ -159,7 +199,8 @@ fn fill_slots(slots: &mut [Option<Arc<Batch>>], others: &mut [Option<Arc<Batch>>
 
 // A slot that is empty takes what the other one has.
 fn fill_one(slot: &mut Option<Arc<Batch>>, other: &mut Option<Arc<Batch>>)
-    ensures { option_map arc_value slot.new ≡ either (option_map arc_value slot.old) (option_map arc_value other.old) }
+    ensures { option_map arc_value slot.new ≡
+        either (option_map arc_value slot.old) (option_map arc_value other.old) }
 {
     if slot.is_none() {
         *slot = other.take();
@@ -171,7 +212,8 @@ fn share_slots(
     alloc: Global,
     slots: &[Option<Arc<Batch>>],
 ) -> Result<Vec<Option<Arc<Batch>>>, AllocError>
-    ensures { IfOk result (λ shared. map (option_map arc_value) shared.items ≡ map (option_map arc_value) slots.now) }
+    ensures { IfOk result (λ shared. map (option_map arc_value) shared.items ≡
+        map (option_map arc_value) slots.now) }
 {
     let mut shared = Vec::with_capacity(alloc, slots.len())?;
     for slot in slots {

@@ -34,15 +34,21 @@ impl Join for Replica {
     /// It takes memory for the list of shared batches, for as long as it works.
     fn join(&mut self, alloc: Global, other: &Replica) -> Result<(), AllocError>
         requires { AreAlike (holding self.old) (holding other.now) }
-        ensures joined { OnOk result (holding self.new ≡ join_of (holding self.old) (holding other.now)) }
+        ensures joined { OnOk result
+            (holding self.new ≡ join_of (holding self.old) (holding other.now)) }
         ensures refused { OnErr result (self.new ≡ self.old) }
         ensures part { self.new.part ≡ self.old.part }
-        ensures superstep { OnOk result (self.new.superstep ≡ max self.old.superstep other.now.superstep) }
-        ensures names { OnOk result ((s q : ℕ) → (content_of self.new).holds s q ≡ (joined_names (content_of self.old) (content_of other.now)).holds s q) }
+        ensures superstep { OnOk result
+            (self.new.superstep ≡ max self.old.superstep other.now.superstep) }
+        ensures names { OnOk result ((s q : ℕ) →
+            (content_of self.new).holds s q ≡
+            (joined_names (content_of self.old) (content_of other.now)).holds s q) }
         ensures shown { OnOk result (ShowsAs self.new (further self.old other.now)) }
-        ensures stands { (j : Job) (p t u : ℕ) → StandsFor j p t self.old → StandsFor j p u other.now → OnOk result (StandsFor j p (max t u) self.new) }
+        ensures stands { (j : Job) (p t u : ℕ) → StandsFor j p t self.old →
+            StandsFor j p u other.now → OnOk result (StandsFor j p (max t u) self.new) }
     {
         let shared = other.known.shared(alloc)?;
+        self.targets.renew(alloc, &self.known.part)?;
         self.known.absorb(
             alloc,
             &self.targets,

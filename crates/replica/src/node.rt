@@ -1,9 +1,9 @@
 //! A replica: what it knows, and the room in which it goes on. Only its making, `out`, `snapshot` and `merge` take
 //! memory.
 
-ghost use Rattle.std.specs.Prelude.{◌≡◌, ◌≢◌, ℕ, ◌<◌, ◌≤◌, ◌+◌, ◌*◌, ◌/◌, ◌%◌, ◌^◌, ◌==◌, ◌&&◌, false, length, slice_index_or, option_map, None, [], map, max, count_by, IsSome, IsTrue, OnOk, OnErr, IfOk, Ok, Err, ◌↔◌};
+ghost use Rattle.std.specs.Prelude.{◌≡◌, ◌≢◌, ℕ, ◌<◌, ◌≤◌, ◌+◌, ◌*◌, ◌/◌, ◌%◌, ◌^◌, ◌==◌, ◌&&◌, ◌⊎◌, true, false, length, slice_index_or, option_map, None, [], map, max, count_by, IsSome, IsTrue, OnOk, OnErr, IfOk, Ok, Err, ◌↔◌};
 ghost use Rattle.std.specs.Arc.{arc_value};
-ghost use Rattle.std.specs.List.{list_any};
+ghost use Rattle.std.specs.List.{list_any, slice_get};
 ghost use Rattle.ball_model.specs.declared.names.CloseError.TheVariants as waits;
 ghost use Rattle.ball_model.specs.declared.names.MergeError.TheVariants as refusal;
 ghost use Rattle.ball_model.specs.Counter.{ball_counter};
@@ -17,7 +17,8 @@ ghost use Rattle.ball_model.specs.Content.{Content, take_of, is_new, after_take,
 ghost use Rattle.ball_model.specs.Join.{joined, merge_of};
 ghost use Rattle.ball_model.specs.State.{SameShown, StandsFor, content_of, further, rows_of, tallies_of, sums_of};
 ghost use Rattle.figures.specs.Values.{value_of};
-ghost use Rattle.replica.specs.Level.{found_verdict, nothing};
+ghost use Rattle.replica.specs.Ahead.{early_batches, early_names};
+ghost use Rattle.replica.specs.Level.{found_verdict, is_finished, nothing};
 ghost use Rattle.replica.specs.Merged.{ShowsAs};
 ghost use Rattle.replica.specs.Start.{Starts};
 ghost use Rattle.replica.specs.Seen.{IsState};
@@ -42,7 +43,8 @@ impl Replica {
         ensures part { IfOk result (λ r. r.part ≡ arc_value part) }
         ensures superstep { IfOk result (λ r. r.superstep ≡ 0) }
         ensures names { IfOk result (λ r. (s q : ℕ) → (content_of r).holds s q ≡ false) }
-        ensures stands { IfOk result (λ r. (j : Job) (p : ℕ) → IsJob j → p < j.plan.parts → arc_value part ≡ part_of j p → StandsFor j p 0 r) }
+        ensures stands { IfOk result (λ r. (j : Job) (p : ℕ) → IsJob j → p < j.plan.parts →
+            arc_value part ≡ part_of j p → StandsFor j p 0 r) }
     {
         Replica::started(alloc, part)
     }
@@ -70,13 +72,19 @@ impl Replica {
     /// the batch alone; every other answer changes nothing. A batch of the superstep is merged and let go, in time in
     /// proportion to the registers of the edges from its vertices into the partition; a later one is kept.
     pub fn take(&mut self, batch: Arc<Batch>) -> Result<Taken, TakeError>
-        ensures answer { result ≡ take_of self.old.part.plan self.old.part.number (content_of self.old) (arc_value batch).plan (arc_value batch).name }
-        ensures names { (s q : ℕ) → (content_of self.new).holds s q ≡ after_take (is_new result) (content_of self.old).holds (arc_value batch).name.superstep (arc_value batch).name.source s q }
+        ensures answer { result ≡
+            take_of self.old.part.plan self.old.part.number (content_of self.old)
+            (arc_value batch).plan (arc_value batch).name }
+        ensures names { (s q : ℕ) → (content_of self.new).holds s q ≡
+            after_take (is_new result) (content_of self.old).holds
+            (arc_value batch).name.superstep (arc_value batch).name.source s q }
         ensures shown { SameShown self.new self.old }
         ensures unchanged { is_new result ≡ false → self.new ≡ self.old }
-        ensures stands { (j : Job) (p t : ℕ) → StandsFor j p t self.old → arc_value batch ≡ true_batch j (arc_value batch).name → StandsFor j p t self.new }
+        ensures stands { (j : Job) (p t : ℕ) → StandsFor j p t self.old →
+            arc_value batch ≡ true_batch j (arc_value batch).name → StandsFor j p t self.new }
         // a step of a run
-        ensures step { (j : Job) (p : ℕ) → arc_value batch ≡ true_batch j (arc_value batch).name → Takes j p (arc_value batch).name result self.old self.new }
+        ensures step { (j : Job) (p : ℕ) → arc_value batch ≡ true_batch j (arc_value batch).name →
+            Takes j p (arc_value batch).name result self.old self.new }
     {
         let answer = self.known.answer(&batch);
         match answer {
@@ -95,19 +103,28 @@ impl Replica {
     /// [`Waiting`](CloseError::Waiting) where a batch of the level is missing, for the least such source, then
     /// [`Finished`](CloseError::Finished) where the verdict is Stable or Limit; an error changes nothing. Batches of
     /// the superstep go, the others stay. It takes time in proportion to the registers of the vertices that change and
-    /// of the edges from own vertices that did, and a look at one mark a vertex.
+    /// of the edges from own vertices that did, and a look at one mark a vertex. Where it answers `Finished`, it gives
+    /// back the memory of the index, which only a merge may need again.
     pub fn close(&mut self) -> Result<u32, CloseError>
-        ensures waits { (q : ℕ) → (result ≡ Err (waits.Waiting q)) ↔ (missing_of self.old.part.plan.parts self.old.part.number (content_of self.old) ≡ Some q) }
+        ensures waits { (q : ℕ) → (result ≡ Err (waits.Waiting q)) ↔
+            (missing_of self.old.part.plan.parts self.old.part.number (content_of self.old)
+            ≡ Some q) }
         ensures refused { OnErr result (self.new ≡ self.old) }
         ensures part { self.new.part ≡ self.old.part }
-        ensures superstep { IfOk result (λ t. (t ≡ self.old.superstep + 1) × (self.new.superstep ≡ t)) }
-        ensures names { OnOk result ((s q : ℕ) → (content_of self.new).holds s q ≡ (closed (content_of self.old)).holds s q) }
-        ensures answer { (j : Job) (p t : ℕ) → StandsFor j p t self.old → result ≡ close_of j p (content_of self.old) }
-        ensures stands { (j : Job) (p t : ℕ) → StandsFor j p t self.old → OnOk result (StandsFor j p (t + 1) self.new) }
+        ensures superstep { IfOk result (λ t.
+            (t ≡ self.old.superstep + 1) × (self.new.superstep ≡ t)) }
+        ensures names { OnOk result ((s q : ℕ) →
+            (content_of self.new).holds s q ≡ (closed (content_of self.old)).holds s q) }
+        ensures answer { (j : Job) (p t : ℕ) → StandsFor j p t self.old →
+            result ≡ close_of j p (content_of self.old) }
+        ensures stands { (j : Job) (p t : ℕ) → StandsFor j p t self.old →
+            OnOk result (StandsFor j p (t + 1) self.new) }
         // a step of a run
         ensures step { (j : Job) (p : ℕ) → Closes j p result self.old self.new }
     {
-        self.known.found_close(&self.targets, &mut self.touched)
+        let answer = self.known.found_close(&self.targets, &mut self.touched);
+        let_go(&mut self.targets, &answer);
+        answer
     }
 
     /// Takes over what a snapshot of a replica of the same partition knows: its superstep, rows and figures where it
@@ -115,19 +132,28 @@ impl Replica {
     ///
     /// In this order: [`OtherJob`](MergeError::OtherJob) where the plan is another,
     /// [`NotMine`](MergeError::NotMine) where the partition is, [`Memory`](MergeError::Memory) where the list of
-    /// shared batches, three for each partition, is refused; an error changes nothing. It waits for nobody. It takes
+    /// shared batches, three for each partition, or the index is refused; an error changes nothing. It waits for nobody. It takes
     /// time in proportion to the registers of the partition, and of the edges from the early batches' vertices.
     pub fn merge(&mut self, alloc: Global, other: &Snapshot) -> Result<(), MergeError>
-        ensures answer { result ≢ Err refusal.Memory → result ≡ merge_of self.old.part.plan self.old.part.number other.now.part.plan other.now.part.number }
-        ensures memory { result ≡ Err refusal.Memory → merge_of self.old.part.plan self.old.part.number other.now.part.plan other.now.part.number ≡ Ok tt }
+        ensures answer { result ≢ Err refusal.Memory → result ≡
+            merge_of self.old.part.plan self.old.part.number
+            other.now.part.plan other.now.part.number }
+        ensures memory { result ≡ Err refusal.Memory →
+            merge_of self.old.part.plan self.old.part.number
+            other.now.part.plan other.now.part.number ≡ Ok tt }
         ensures refused { OnErr result (self.new ≡ self.old) }
         ensures part { self.new.part ≡ self.old.part }
-        ensures superstep { OnOk result (self.new.superstep ≡ max self.old.superstep other.now.superstep) }
-        ensures names { OnOk result ((s q : ℕ) → (content_of self.new).holds s q ≡ (joined (content_of self.old) (content_of other.now)).holds s q) }
+        ensures superstep { OnOk result
+            (self.new.superstep ≡ max self.old.superstep other.now.superstep) }
+        ensures names { OnOk result ((s q : ℕ) →
+            (content_of self.new).holds s q ≡
+            (joined (content_of self.old) (content_of other.now)).holds s q) }
         ensures shown { OnOk result (ShowsAs self.new (further self.old other.now)) }
-        ensures stands { (j : Job) (p t u : ℕ) → StandsFor j p t self.old → StandsFor j p u other.now → OnOk result (StandsFor j p (max t u) self.new) }
+        ensures stands { (j : Job) (p t u : ℕ) → StandsFor j p t self.old →
+            StandsFor j p u other.now → OnOk result (StandsFor j p (max t u) self.new) }
         // a step of a run
-        ensures step { (j : Job) (p : ℕ) (d : Content) → HasContent j p d other.now → Merges j p d result self.old self.new }
+        ensures step { (j : Job) (p : ℕ) (d : Content) → HasContent j p d other.now →
+            Merges j p d result self.old self.new }
     {
         if !step::is_same(self.plan(), other.plan()) {
             return Err(MergeError::OtherJob);
@@ -136,6 +162,9 @@ impl Replica {
             return Err(MergeError::NotMine);
         }
         let Ok(shared) = other.shared(alloc) else {
+            return Err(MergeError::Memory);
+        };
+        let Ok(()) = self.targets.renew(alloc, &self.known.part) else {
             return Err(MergeError::Memory);
         };
         self.known
@@ -149,7 +178,8 @@ impl Replica {
     /// vertex, and room for a sum for each superstep. The error is that memory was refused.
     pub fn snapshot(&self, alloc: Global) -> Result<Snapshot, AllocError>
         ensures same { IfOk result (λ s. s ≡ self.now) }
-        ensures stands { IfOk result (λ s. (j : Job) (p t : ℕ) → StandsFor j p t self.now → StandsFor j p t s) }
+        ensures stands { IfOk result (λ s. (j : Job) (p t : ℕ) → StandsFor j p t self.now →
+            StandsFor j p t s) }
     {
         self.known.copied(alloc)
     }
@@ -161,7 +191,9 @@ impl Replica {
     pub fn out(&self, alloc: Global, target: u16) -> Result<Batch, AllocError>
         requires target { target < self.now.part.plan.parts }
         requires other { target ≢ self.now.part.number }
-        ensures stands { (j : Job) (p t : ℕ) → StandsFor j p t self.now → IfOk result (λ b. b ≡ true_batch j (record { superstep = t; source = p; target = target })) }
+        ensures stands { (j : Job) (p t : ℕ) → StandsFor j p t self.now →
+            IfOk result (λ b.
+            b ≡ true_batch j (record { superstep = t; source = p; target = target })) }
     {
         self.known.sent(alloc, target)
     }
@@ -196,7 +228,8 @@ impl Replica {
     pub fn owns(&self, x: u32) -> bool
         ensures vertex { IsTrue result → x < self.now.part.plan.vertices }
         ensures own { IsTrue result → x % self.now.part.plan.parts ≡ self.now.part.number }
-        ensures value { result ≡ list_any (λ v. v == x) (vertices_of self.now.part.plan.vertices self.now.part.plan.parts self.now.part.number) }
+        ensures value { result ≡ list_any (λ v. v == x) (vertices_of
+            self.now.part.plan.vertices self.now.part.plan.parts self.now.part.number) }
     {
         self.known.owns(x)
     }
@@ -205,9 +238,11 @@ impl Replica {
     pub fn row(&self, x: u32) -> &[u8]
         requires vertex { x < self.now.part.plan.vertices }
         requires own { x % self.now.part.plan.parts ≡ self.now.part.number }
-        ensures value { result.now ≡ slice_index_or self.now.rows (x / self.now.part.plan.parts) [] }
+        ensures value { result.now ≡
+            slice_index_or self.now.rows (x / self.now.part.plan.parts) [] }
         ensures counter { IsCounterRow self.now.part.plan.log2m result.now }
-        ensures stands { (j : Job) (p t : ℕ) → StandsFor j p t self.now → result.now ≡ ball_counter (mixing_of j.plan) j.graph x t }
+        ensures stands { (j : Job) (p t : ℕ) → StandsFor j p t self.now →
+            result.now ≡ ball_counter (mixing_of j.plan) j.graph x t }
     {
         self.known.row(x)
     }
@@ -216,8 +251,10 @@ impl Replica {
     pub fn tally(&self, x: u32) -> Tally
         requires vertex { x < self.now.part.plan.vertices }
         requires own { x % self.now.part.plan.parts ≡ self.now.part.number }
-        ensures value { value_of result ≡ slice_index_or self.now.tallies (x / self.now.part.plan.parts) nothing }
-        ensures stands { (j : Job) (p t : ℕ) → StandsFor j p t self.now → value_of result ≡ tally_at (mixing_of j.plan) j.graph x t }
+        ensures value { value_of result ≡
+            slice_index_or self.now.tallies (x / self.now.part.plan.parts) nothing }
+        ensures stands { (j : Job) (p t : ℕ) → StandsFor j p t self.now →
+            value_of result ≡ tally_at (mixing_of j.plan) j.graph x t }
     {
         self.known.tally(x)
     }
@@ -226,8 +263,10 @@ impl Replica {
     pub fn changed(&self, x: u32) -> bool
         requires vertex { x < self.now.part.plan.vertices }
         requires own { x % self.now.part.plan.parts ≡ self.now.part.number }
-        ensures value { result ≡ slice_index_or self.now.marks (x / self.now.part.plan.parts) false }
-        ensures stands { (j : Job) (p t : ℕ) → StandsFor j p t self.now → result ≡ changed_at (mixing_of j.plan) j.graph x t }
+        ensures value { result ≡
+            slice_index_or self.now.marks (x / self.now.part.plan.parts) false }
+        ensures stands { (j : Job) (p t : ℕ) → StandsFor j p t self.now →
+            result ≡ changed_at (mixing_of j.plan) j.graph x t }
     {
         self.known.changed(x)
     }
@@ -235,7 +274,8 @@ impl Replica {
     /// How many vertices of the partition changed at this superstep.
     pub fn changed_count(&self) -> u32
         ensures value { result ≡ count_by (λ mark. mark) self.now.marks }
-        ensures stands { (j : Job) (p t : ℕ) → StandsFor j p t self.now → result ≡ changed_count j t p }
+        ensures stands { (j : Job) (p t : ℕ) → StandsFor j p t self.now →
+            result ≡ changed_count j t p }
     {
         self.known.changed_count()
     }
@@ -244,7 +284,8 @@ impl Replica {
     pub fn sums(&self) -> &[u128]
         ensures value { result.now ≡ self.now.sums }
         ensures count { length result.now ≡ self.now.superstep + 1 }
-        ensures stands { (j : Job) (p t : ℕ) → StandsFor j p t self.now → result.now ≡ sums_of j p t }
+        ensures stands { (j : Job) (p t : ℕ) → StandsFor j p t self.now →
+            result.now ≡ sums_of j p t }
     {
         self.known.sums()
     }
@@ -253,7 +294,8 @@ impl Replica {
     pub fn rows(&self) -> &Rows
         ensures value { result.now.rows ≡ self.now.rows }
         ensures width { result.now.width ≡ 2 ^ self.now.part.plan.log2m }
-        ensures stands { (j : Job) (p t : ℕ) → StandsFor j p t self.now → result.now.rows ≡ rows_of j p t }
+        ensures stands { (j : Job) (p t : ℕ) → StandsFor j p t self.now →
+            result.now.rows ≡ rows_of j p t }
     {
         self.known.rows()
     }
@@ -261,21 +303,24 @@ impl Replica {
     /// The figures of all vertices of the partition.
     pub fn tallies(&self) -> &[Tally]
         ensures value { map value_of result.now ≡ self.now.tallies }
-        ensures stands { (j : Job) (p t : ℕ) → StandsFor j p t self.now → map value_of result.now ≡ tallies_of j p t }
+        ensures stands { (j : Job) (p t : ℕ) → StandsFor j p t self.now →
+            map value_of result.now ≡ tallies_of j p t }
     {
         self.known.tallies()
     }
 
     /// Whether the batch of that name is held.
     pub fn holds(&self, name: BatchName) -> bool
-        ensures { result ≡ ((name.target == self.now.part.number) && (content_of self.now).holds name.superstep name.source) }
+        ensures { result ≡ ((name.target == self.now.part.number) &&
+            (content_of self.now).holds name.superstep name.source) }
     {
         self.known.holds(name)
     }
 
     /// The least source that is missing from the level; the level is held where there is none.
     pub fn missing(&self) -> Option<u16>
-        ensures { result ≡ missing_of self.now.part.plan.parts self.now.part.number (content_of self.now) }
+        ensures { result ≡
+            missing_of self.now.part.plan.parts self.now.part.number (content_of self.now) }
     {
         self.known.missing()
     }
@@ -298,18 +343,52 @@ impl Replica {
     pub fn accumulated(&self, x: u32) -> &[u8]
         requires vertex { x < self.now.part.plan.vertices }
         requires own { x % self.now.part.plan.parts ≡ self.now.part.number }
-        ensures value { result.now ≡ slice_index_or self.now.accumulated (x / self.now.part.plan.parts) [] }
+        ensures value { result.now ≡
+            slice_index_or self.now.accumulated (x / self.now.part.plan.parts) [] }
         ensures counter { IsCounterRow self.now.part.plan.log2m result.now }
     {
         self.known.accumulated(x)
     }
 
+    /// How many batches of later supersteps are kept. It takes time in proportion to three slots for each partition.
+    pub fn early_count(&self) -> u32
+        ensures value { result ≡ length (early_batches self.now.early) }
+        ensures names { result ≡ length (early_names self.now) }
+    {
+        self.known.early_count()
+    }
+
+    /// The i-th of the batches of later supersteps, ascending by superstep, then by source; none past the last.
+    ///
+    /// It takes time in proportion to three slots for each partition.
+    pub fn early(&self, i: u32) -> Option<&Batch>
+        ensures value { option_map (λ b. b.now) result ≡
+            slice_get (early_batches self.now.early) i }
+        ensures name { option_map (λ b. b.now.name) result ≡ slice_get (early_names self.now) i }
+        ensures stands { (j : Job) (p t : ℕ) → StandsFor j p t self.now →
+            option_map (λ b. b.now) result ≡
+            option_map (true_batch j) (slice_get (early_names self.now) i) }
+    {
+        self.known.early(i)
+    }
+
     /// The verdict, where the level is held.
     pub fn verdict(&self) -> Option<Verdict>
         ensures value { result ≡ found_verdict self.now }
-        ensures none { (result ≡ None) ↔ (IsSome (missing_of self.now.part.plan.parts self.now.part.number (content_of self.now))) }
-        ensures stands { (j : Job) (p t : ℕ) → StandsFor j p t self.now → result ≡ verdict_of j p (content_of self.now) }
+        ensures none { (result ≡ None) ↔ (IsSome
+            (missing_of self.now.part.plan.parts self.now.part.number (content_of self.now))) }
+        ensures stands { (j : Job) (p t : ℕ) → StandsFor j p t self.now →
+            result ≡ verdict_of j p (content_of self.now) }
     {
         self.known.verdict()
+    }
+}
+
+// Lets the index go where the answer to a close is that the run is over.
+fn let_go(targets: &mut Targets, answer: &Result<u32, CloseError>)
+    ensures { (targets.new ≡ targets.old) ⊎ ((targets.new ≡ []) × (is_finished answer.now ≡ true)) }
+{
+    if matches!(answer, Err(CloseError::Finished)) {
+        targets.clear();
     }
 }

@@ -16,7 +16,8 @@ impl Snapshot {
     /// What the partition tells another one of this superstep, as it is read off what the replica has.
     pub(crate) fn sent(&self, alloc: Global, target: u16) -> Result<Batch, AllocError>
         requires target { target < self.now.part.plan.parts }
-        ensures sent { IfOk result (λ b. b ≡ sent_batch self.now target (length self.now.part.preds)) }
+        ensures sent { IfOk result (λ b. b ≡
+            sent_batch self.now target (length self.now.part.preds)) }
         ensures state { IsState self.now }
     {
         let name = BatchName {

@@ -3,7 +3,7 @@
 ghost use Rattle.std.specs.Prelude.{◌≡◌, ℕ, ◌<◌, ◌≤◌, ◌+◌, ◌-◌, ◌*◌, ◌/◌, ◌%◌, ◌^◌, ◌==◌, ◌&&◌, false, not, length, slice_index_or, is_some, option_map, None, [], map, count_by, IsSome, IsTrue, IfOk, ◌↔◌};
 ghost use Rattle.std.specs.Arc.{arc_value};
 ghost use Rattle.std.specs.Vec.{vec_capacity};
-ghost use Rattle.std.specs.List.{list_any, range_with_len};
+ghost use Rattle.std.specs.List.{list_any, range_with_len, slice_get};
 ghost use Rattle.figures.specs.Values.{value_of};
 ghost use Rattle.ball_model.specs.PlanValue.{mixing_of, vertices_of};
 ghost use Rattle.ball_model.specs.Counter.{ball_counter};
@@ -11,14 +11,16 @@ ghost use Rattle.ball_model.specs.Change.{changed_at};
 ghost use Rattle.ball_model.specs.Laws.{IsCounterRow};
 ghost use Rattle.ball_model.specs.Supersteps.{tally_at};
 ghost use Rattle.ball_model.specs.Job.{Job, IsJob};
-ghost use Rattle.ball_model.specs.Batches.{changed_count};
+ghost use Rattle.ball_model.specs.Batches.{true_batch, changed_count};
 ghost use Rattle.ball_model.specs.Content.{missing_of, verdict_of};
 ghost use Rattle.ball_model.specs.State.{StandsFor, content_of, early_at, rows_of, tallies_of, sums_of};
+ghost use Rattle.replica.specs.Ahead.{early_batches, early_names};
 ghost use Rattle.replica.specs.Level.{is_changing, level_verdict, found_verdict, nothing};
 ghost use Rattle.replica.specs.Seen.{IsState};
 
 use crate::{Snapshot, level};
 use ball_model::{BatchName, Plan, Verdict};
+use batches::Batch;
 use figures::Tally;
 use registers::{Rows, SourceMask};
 use std::alloc::{AllocError, Global};
@@ -52,7 +54,8 @@ impl Snapshot {
     pub fn owns(&self, x: u32) -> bool
         ensures vertex { IsTrue result → x < self.now.part.plan.vertices }
         ensures own { IsTrue result → x % self.now.part.plan.parts ≡ self.now.part.number }
-        ensures value { result ≡ list_any (λ v. v == x) (vertices_of self.now.part.plan.vertices self.now.part.plan.parts self.now.part.number) }
+        ensures value { result ≡ list_any (λ v. v == x) (vertices_of
+            self.now.part.plan.vertices self.now.part.plan.parts self.now.part.number) }
     {
         let plan = self.part.plan();
         x < plan.vertices() && plan.partition_of(x) == self.part.partition()
@@ -62,9 +65,11 @@ impl Snapshot {
     pub fn row(&self, x: u32) -> &[u8]
         requires vertex { x < self.now.part.plan.vertices }
         requires own { x % self.now.part.plan.parts ≡ self.now.part.number }
-        ensures value { result.now ≡ slice_index_or self.now.rows (x / self.now.part.plan.parts) [] }
+        ensures value { result.now ≡
+            slice_index_or self.now.rows (x / self.now.part.plan.parts) [] }
         ensures counter { IsCounterRow self.now.part.plan.log2m result.now }
-        ensures stands { (j : Job) (p t : ℕ) → StandsFor j p t self.now → result.now ≡ ball_counter (mixing_of j.plan) j.graph x t }
+        ensures stands { (j : Job) (p t : ℕ) → StandsFor j p t self.now →
+            result.now ≡ ball_counter (mixing_of j.plan) j.graph x t }
     {
         self.rows.row(self.place(x))
     }
@@ -73,8 +78,10 @@ impl Snapshot {
     pub fn tally(&self, x: u32) -> Tally
         requires vertex { x < self.now.part.plan.vertices }
         requires own { x % self.now.part.plan.parts ≡ self.now.part.number }
-        ensures value { value_of result ≡ slice_index_or self.now.tallies (x / self.now.part.plan.parts) nothing }
-        ensures stands { (j : Job) (p t : ℕ) → StandsFor j p t self.now → value_of result ≡ tally_at (mixing_of j.plan) j.graph x t }
+        ensures value { value_of result ≡
+            slice_index_or self.now.tallies (x / self.now.part.plan.parts) nothing }
+        ensures stands { (j : Job) (p t : ℕ) → StandsFor j p t self.now →
+            value_of result ≡ tally_at (mixing_of j.plan) j.graph x t }
     {
         self.tallies[self.place(x)]
     }
@@ -83,8 +90,10 @@ impl Snapshot {
     pub fn changed(&self, x: u32) -> bool
         requires vertex { x < self.now.part.plan.vertices }
         requires own { x % self.now.part.plan.parts ≡ self.now.part.number }
-        ensures value { result ≡ slice_index_or self.now.marks (x / self.now.part.plan.parts) false }
-        ensures stands { (j : Job) (p t : ℕ) → StandsFor j p t self.now → result ≡ changed_at (mixing_of j.plan) j.graph x t }
+        ensures value { result ≡
+            slice_index_or self.now.marks (x / self.now.part.plan.parts) false }
+        ensures stands { (j : Job) (p t : ℕ) → StandsFor j p t self.now →
+            result ≡ changed_at (mixing_of j.plan) j.graph x t }
     {
         self.marks[self.place(x)]
     }
@@ -103,7 +112,8 @@ impl Snapshot {
     /// How many vertices of the partition changed at this superstep.
     pub fn changed_count(&self) -> u32
         ensures value { result ≡ count_by (λ mark. mark) self.now.marks }
-        ensures stands { (j : Job) (p t : ℕ) → StandsFor j p t self.now → result ≡ changed_count j t p }
+        ensures stands { (j : Job) (p t : ℕ) → StandsFor j p t self.now →
+            result ≡ changed_count j t p }
     {
         level::count_marks(&self.marks) as u32
     }
@@ -112,7 +122,8 @@ impl Snapshot {
     pub fn sums(&self) -> &[u128]
         ensures value { result.now ≡ self.now.sums }
         ensures count { length result.now ≡ self.now.superstep + 1 }
-        ensures stands { (j : Job) (p t : ℕ) → StandsFor j p t self.now → result.now ≡ sums_of j p t }
+        ensures stands { (j : Job) (p t : ℕ) → StandsFor j p t self.now →
+            result.now ≡ sums_of j p t }
     {
         &self.sums
     }
@@ -121,7 +132,8 @@ impl Snapshot {
     pub fn rows(&self) -> &Rows
         ensures value { result.now.rows ≡ self.now.rows }
         ensures width { result.now.width ≡ 2 ^ self.now.part.plan.log2m }
-        ensures stands { (j : Job) (p t : ℕ) → StandsFor j p t self.now → result.now.rows ≡ rows_of j p t }
+        ensures stands { (j : Job) (p t : ℕ) → StandsFor j p t self.now →
+            result.now.rows ≡ rows_of j p t }
     {
         &self.rows
     }
@@ -129,14 +141,16 @@ impl Snapshot {
     /// The figures of all vertices of the partition.
     pub fn tallies(&self) -> &[Tally]
         ensures value { map value_of result.now ≡ self.now.tallies }
-        ensures stands { (j : Job) (p t : ℕ) → StandsFor j p t self.now → map value_of result.now ≡ tallies_of j p t }
+        ensures stands { (j : Job) (p t : ℕ) → StandsFor j p t self.now →
+            map value_of result.now ≡ tallies_of j p t }
     {
         &self.tallies
     }
 
     /// Whether the batch of that name is held.
     pub fn holds(&self, name: BatchName) -> bool
-        ensures { result ≡ ((name.target == self.now.part.number) && (content_of self.now).holds name.superstep name.source) }
+        ensures { result ≡ ((name.target == self.now.part.number) &&
+            (content_of self.now).holds name.superstep name.source) }
     {
         name.target == self.part.partition() && self.holds_from(name.superstep, name.source)
     }
@@ -164,7 +178,8 @@ impl Snapshot {
 
     /// The least source that is missing from the level; the level is held where there is none.
     pub fn missing(&self) -> Option<u16>
-        ensures { result ≡ missing_of self.now.part.plan.parts self.now.part.number (content_of self.now) }
+        ensures { result ≡
+            missing_of self.now.part.plan.parts self.now.part.number (content_of self.now) }
     {
         self.heard
             .least_missing(self.part.plan().parts(), self.part.partition())
@@ -188,10 +203,33 @@ impl Snapshot {
     pub fn accumulated(&self, x: u32) -> &[u8]
         requires vertex { x < self.now.part.plan.vertices }
         requires own { x % self.now.part.plan.parts ≡ self.now.part.number }
-        ensures value { result.now ≡ slice_index_or self.now.accumulated (x / self.now.part.plan.parts) [] }
+        ensures value { result.now ≡
+            slice_index_or self.now.accumulated (x / self.now.part.plan.parts) [] }
         ensures counter { IsCounterRow self.now.part.plan.log2m result.now }
     {
         self.accumulated.row(self.place(x))
+    }
+
+    /// How many batches of later supersteps are kept. It takes time in proportion to three slots for each partition.
+    pub fn early_count(&self) -> u32
+        ensures value { result ≡ length (early_batches self.now.early) }
+        ensures names { result ≡ length (early_names self.now) }
+    {
+        self.early.count() as u32
+    }
+
+    /// The i-th of the batches of later supersteps, ascending by superstep, then by source; none past the last.
+    ///
+    /// It takes time in proportion to three slots for each partition.
+    pub fn early(&self, i: u32) -> Option<&Batch>
+        ensures value { option_map (λ b. b.now) result ≡
+            slice_get (early_batches self.now.early) i }
+        ensures name { option_map (λ b. b.now.name) result ≡ slice_get (early_names self.now) i }
+        ensures stands { (j : Job) (p t : ℕ) → StandsFor j p t self.now →
+            option_map (λ b. b.now) result ≡
+            option_map (true_batch j) (slice_get (early_names self.now) i) }
+    {
+        self.early.nth(i as usize)
     }
 
     // Whether some source tells of a changed vertex.
@@ -228,8 +266,10 @@ impl Snapshot {
     /// The verdict, where the level is held.
     pub fn verdict(&self) -> Option<Verdict>
         ensures value { result ≡ found_verdict self.now }
-        ensures none { (result ≡ None) ↔ (IsSome (missing_of self.now.part.plan.parts self.now.part.number (content_of self.now))) }
-        ensures stands { (j : Job) (p t : ℕ) → StandsFor j p t self.now → result ≡ verdict_of j p (content_of self.now) }
+        ensures none { (result ≡ None) ↔ (IsSome
+            (missing_of self.now.part.plan.parts self.now.part.number (content_of self.now))) }
+        ensures stands { (j : Job) (p t : ℕ) → StandsFor j p t self.now →
+            result ≡ verdict_of j p (content_of self.now) }
     {
         self.found_verdict()
     }

@@ -3,12 +3,12 @@
 ghost use Rattle.std.specs.Prelude.{◌≡◌, ◌^◌, ◌<◌, length, slice_index_or, []};
 ghost use Rattle.std.specs.List.{All};
 ghost use Rattle.replica.specs.Spread.{spread, spread_each, own_rows, LeadInside};
-ghost use Rattle.replica.specs.Heard.{RowIsHeard, BatchIsHeard, OwnIsHeard, MarksChanges, StayTouched};
+ghost use Rattle.replica.specs.Heard.{RowIsHeard, BatchIsHeard, OwnIsHeard, MarksBefore, MarksChanges, StayTouched};
 
 use crate::targets::Targets;
 use batches::Batch;
 use edgelist::Part;
-use registers::Rows;
+use registers::{LINE, Rows};
 
 /// Spreads the row of vertex `z`: the accumulator of each own vertex that `z` has an edge to becomes the maximum of
 /// itself and `registers`, register by register, and each accumulator that this changes is marked.
@@ -97,11 +97,50 @@ pub fn spread_own(
     }
 }
 
+// How many rows are glanced at before the first of them is raised.
+const BLOCK: usize = 8;
+
 // The rows at these places become the maximum of themselves and `registers`, register by register, and each row
 // that this changes is marked.
 //
-// It takes no memory, and touches no other row.
+// It takes no memory, and touches no other row. The rows of a block that are wider than a line of the cache are
+// glanced at first, so that they are fetched side by side.
 fn raise_places(places: &[u32], registers: &[u8], accumulated: &mut Rows, touched: &mut [bool])
+    requires places { All (λ i. i < length accumulated.old.rows) places.now }
+    requires width { length registers.now ≡ accumulated.old.width }
+    requires marks { length touched.old ≡ length accumulated.old.rows }
+    ensures rows { accumulated.new ≡ record accumulated.old {
+      rows = spread places.now registers.now accumulated.old.rows;
+    } }
+    ensures marks { MarksChanges touched.old accumulated.old.rows accumulated.new.rows touched.new }
+{
+    for block in places.chunks(BLOCK) {
+        mark_seen(block, registers, accumulated, touched);
+        raise_block(block, registers, accumulated, touched);
+    }
+}
+
+// Marks the rows at these places that are seen at a glance to rise, where rows are wider than a line of the cache.
+// So each row that is marked here is one that spreading marks.
+fn mark_seen(places: &[u32], registers: &[u8], accumulated: &Rows, touched: &mut [bool])
+    requires places { All (λ i. i < length accumulated.now.rows) places.now }
+    requires width { length registers.now ≡ accumulated.now.width }
+    requires marks { length touched.old ≡ length accumulated.now.rows }
+    ensures { MarksBefore places.now registers.now accumulated.now.rows touched.old touched.new }
+{
+    if registers.len() <= LINE {
+        return;
+    }
+    for place in places {
+        let i = *place as usize;
+        let seen = accumulated.glance(i, registers);
+        touched[i] |= seen;
+    }
+}
+
+// The rows at the places of a block become the maximum of themselves and `registers`, one after the other, and each
+// row that this changes is marked.
+fn raise_block(places: &[u32], registers: &[u8], accumulated: &mut Rows, touched: &mut [bool])
     requires places { All (λ i. i < length accumulated.old.rows) places.now }
     requires width { length registers.now ≡ accumulated.old.width }
     requires marks { length touched.old ≡ length accumulated.old.rows }

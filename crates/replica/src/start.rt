@@ -23,7 +23,8 @@ fn start_row(part: &Part, i: u32, rows: &mut Rows)
     requires count { length rows.old.rows ≡ length part.now.preds }
     requires width { rows.old.width ≡ 2 ^ part.now.plan.log2m }
     requires empty { slice_index_or rows.old.rows i [] ≡ replicate (2 ^ part.now.plan.log2m) 0 }
-    ensures { rows.new ≡ record rows.old { rows = slice_set rows.old.rows i (first_row part.now i) } }
+    ensures { rows.new ≡
+        record rows.old { rows = slice_set rows.old.rows i (first_row part.now i) } }
 {
     if part.counts(i) {
         let plan = part.plan();
@@ -34,7 +35,8 @@ fn start_row(part: &Part, i: u32, rows: &mut Rows)
 
 /// The registers that the vertices of the part begin with.
 pub fn start_rows(alloc: Global, part: &Part) -> Result<Rows, AllocError>
-    ensures { IfOk result (λ rows. rows ≡ record { width = 2 ^ part.now.plan.log2m; rows = first_rows part.now }) }
+    ensures { IfOk result (λ rows. rows ≡
+        record { width = 2 ^ part.now.plan.log2m; rows = first_rows part.now }) }
 {
     let plan = part.plan();
     let mut rows = Rows::fixed(alloc, part.size(), plan.width() as u16)?;
@@ -58,7 +60,8 @@ pub fn start_marks(alloc: Global, part: &Part) -> Result<Vec<bool>, AllocError>
 /// Figures that begin with the estimates of rows.
 pub fn start_tallies(alloc: Global, log2m: u8, rows: &Rows) -> Result<Vec<Tally>, AllocError>
     requires { AreCounters log2m rows.now.rows }
-    ensures { IfOk result (λ tallies. map value_of tallies.items ≡ map (λ row. started (estimate_of log2m row)) rows.now.rows) }
+    ensures { IfOk result (λ tallies. map value_of tallies.items ≡
+        map (λ row. started (estimate_of log2m row)) rows.now.rows) }
 {
     let mut tallies = Vec::with_capacity(alloc, rows.len())?;
     for i in 0..rows.len() {

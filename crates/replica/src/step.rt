@@ -1,16 +1,16 @@
 //! How what a replica has changes, superstep by superstep.
 
-ghost use Rattle.std.specs.Prelude.{◌≡◌, ℕ, ◌<◌, ◌≤◌, ◌+◌, ◌*◌, length, Ok, OnOk, OnErr};
+ghost use Rattle.std.specs.Prelude.{◌≡◌, true, ℕ, ◌<◌, ◌≤◌, ◌+◌, ◌*◌, length, Ok, OnOk, OnErr};
 ghost use Rattle.std.specs.Arc.{arc_value};
 ghost use Rattle.ball_model.specs.declared.names.Taken.TheVariants as taken;
 ghost use Rattle.ball_model.specs.Batches.{IsBatch};
 ghost use Rattle.ball_model.specs.Content.{take_of, same_plan};
 ghost use Rattle.ball_model.specs.State.{content_of};
-ghost use Rattle.replica.specs.Level.{found_close};
+ghost use Rattle.replica.specs.Level.{found_close, is_over};
 ghost use Rattle.replica.specs.Change.{Advances, Receives};
 ghost use Rattle.replica.specs.Index.{targets_of};
 ghost use Rattle.replica.specs.Spread.{AreTouched};
-ghost use Rattle.replica.specs.Seen.{IsState};
+ghost use Rattle.replica.specs.Seen.{HasIndex, IsState};
 
 use crate::spread::spread_own;
 use crate::targets::Targets;
@@ -52,9 +52,10 @@ impl Snapshot {
     pub(crate) fn receive(&mut self, targets: &Targets, touched: &mut [bool], batch: Arc<Batch>)
         requires new { take_of self.old.part.plan self.old.part.number (content_of self.old) (arc_value batch).plan (arc_value batch).name ≡ Ok taken.New }
         requires batch { IsBatch (arc_value batch) }
-        requires index { targets.now ≡ targets_of self.old.part }
+        requires index { HasIndex self.old targets.now }
         requires touched { AreTouched self.old.rows self.old.accumulated touched.old }
         ensures receives { Receives (arc_value batch) self.old self.new }
+        ensures over { is_over self.old ≡ true → is_over self.new ≡ true }
         ensures touched { AreTouched self.new.rows self.new.accumulated touched.new }
     {
         let name = batch.name();
@@ -79,7 +80,7 @@ impl Snapshot {
         targets: &Targets,
         touched: &mut [bool],
     ) -> Result<u32, CloseError>
-        requires index { targets.now ≡ targets_of self.old.part }
+        requires index { HasIndex self.old targets.now }
         requires touched { AreTouched self.old.rows self.old.accumulated touched.old }
         ensures exact { result ≡ found_close self.old }
         ensures refused { OnErr result (self.new ≡ self.old) }

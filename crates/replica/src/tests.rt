@@ -623,6 +623,47 @@ fn refusals(rt: &HostRuntime) -> Option<[Option<Result<Taken, TakeError>>; 5]> {
     ])
 }
 
+/// Takes batches of supersteps 3, 1, 0 and 1, in this order.
+fn takes_ahead(rt: &HostRuntime, all: &mut [Replica]) -> bool {
+    let mut news = true;
+    for (superstep, source) in [(3, 0), (1, 1), (0, 0), (1, 0)] {
+        let batch = bare(rt, all, superstep, source, 2);
+        news &= answer(rt, all, 2, batch) == Some(Ok(Taken::New));
+    }
+    news
+}
+
+/// The superstep and the source of a batch.
+fn place_of(batch: Option<&Batch>) -> Option<(u32, u16)> {
+    let name = batch?.name();
+    Some((name.superstep, name.source))
+}
+
+/// Whether a replica and a snapshot of it keep these batches, and no further one.
+fn keep(replica: &Replica, snapshot: &Snapshot, wanted: &[(u32, u16)]) -> bool {
+    let count = replica.early_count();
+    let mut same = snapshot.early_count() == count && wanted.len() == count as usize;
+    for i in 0..4 {
+        let place = wanted.get(i as usize).copied();
+        same &= place_of(replica.early(i)) == place && place_of(snapshot.early(i)) == place;
+    }
+    same
+}
+
+/// Whether what is kept is told by superstep, then by source, and without the batch of the replica's own superstep.
+fn keeps_in_order(rt: &HostRuntime) -> Option<bool> {
+    let mut all = two_edges(rt, 3, 4096)?;
+    let taken = takes_ahead(rt, &mut all);
+    let replica = all.get(2)?;
+    let snapshot = replica.snapshot(rt.alloc()).ok()?;
+    Some(taken && keep(replica, &snapshot, &[(1, 0), (1, 1), (3, 0)]))
+}
+
+#[test]
+fn batches_of_later_supersteps(rt: HostRuntime) {
+    assert_eq!(rt; keeps_in_order(&rt), Some(true));
+}
+
 /// What a replica of a job in which every vertex counts answers to a batch of a job in which only one does.
 fn answer_to_counted(rt: &HostRuntime) -> Option<Result<Taken, TakeError>> {
     let mut all = two_edges(rt, 2, 4096)?;
@@ -741,6 +782,7 @@ fn shows_all(replica: &Replica, snapshot: &Snapshot) -> bool {
         && replica.verdict() == snapshot.verdict()
         && replica.heard_change() == snapshot.heard_change()
         && replica.heard().has(1) == snapshot.heard().has(1)
+        && replica.early_count() == snapshot.early_count()
         && holds_names(replica, snapshot);
     for x in 0..4 {
         same &= shows_vertex(replica, snapshot, x);

@@ -7,3 +7,5 @@ pub mod DealLemmas
 pub mod EndingLemmas
 pub mod VertexLemmas
 pub mod WholeLemmas
+pub mod BlockLemmas
+pub mod PieceLemmas

@@ -16,13 +16,12 @@ range_split a (suc n) k =
     rw (count, at) (ap (λ (rest : List ℕ). a ∷ rest) (range_split (a + 1) n k))
 
 -- more lines
-pub lines_more : (f : ℕ → List ℕ) (n k : ℕ) (start text lines : List ℕ) → text ≡ start ++ flat_map f (range_with_len 0 n) → lines ≡ flat_map f (range_with_len n k) →
-    text ++ lines ≡ start ++ flat_map f (range_with_len 0 (n + k))
-lines_more f n k start text lines before here =
-    let at : 0 + n ≡ n = omega arith in
-    let all : flat_map f (range_with_len 0 (n + k)) ≡ flat_map f (range_with_len 0 n) ++ flat_map f (range_with_len n k) =
-    ap (flat_map f) (range_split 0 n k ∙ ap (λ b. range_with_len 0 n ++ range_with_len b k) at) ∙ flat_map-append f (range_with_len 0 n) (range_with_len n k) in
-    rw (before, here, all) (append_assoc start (flat_map f (range_with_len 0 n)) (flat_map f (range_with_len n k)))
+pub lines_more : (f : ℕ → List ℕ) (a n k : ℕ) (start text lines : List ℕ) → text ≡ start ++ flat_map f (range_with_len a n) → lines ≡ flat_map f (range_with_len (a + n) k) →
+    text ++ lines ≡ start ++ flat_map f (range_with_len a (n + k))
+lines_more f a n k start text lines before here =
+    let all : flat_map f (range_with_len a (n + k)) ≡ flat_map f (range_with_len a n) ++ flat_map f (range_with_len (a + n) k) =
+    ap (flat_map f) (range_split a n k) ∙ flat_map-append f (range_with_len a n) (range_with_len (a + n) k) in
+    rw (before, here, all) (append_assoc start (flat_map f (range_with_len a n)) (flat_map f (range_with_len (a + n) k)))
 
 -- one line more, after those of n numbers from a on
 pub line_more : (f : ℕ → List ℕ) (a n : ℕ) (start text line : List ℕ) → text ≡ start ++ flat_map f (range_with_len a n) → line ≡ f (a + n) →

@@ -1,5 +1,5 @@
 -- The line of a vertex, from the figures of its partition.
-use Rattle.std.proofs.Common.{◌≡◌, ℕ, zero, suc, ◌+◌, ◌/◌, ◌%◌, ◌<◌, ◌≤◌, List, [], ◌∷◌, length, map, get_or, refl, ap, arith, sym, ◌∙◌}
+use Rattle.std.proofs.Common.{◌≡◌, ℕ, zero, suc, ◌+◌, ◌-◌, ◌/◌, ◌%◌, ◌<◌, ◌≤◌, List, [], ◌∷◌, length, map, get_or, refl, ap, arith, sym, ◌∙◌}
 use Rattle.std.specs.List.{range_with_len, flat_map, zip}
 use Rattle.std.proofs.lemmas.List.{get_or-map, get_or_default, length-map}
 use Rattle.figures.specs.declared.ends.Figures.{Figures}
@@ -39,13 +39,15 @@ own_figures j p t v h =
 
 -- among those of all partitions
 pub true_figures_at : (j : Job) (vs : List State) (t x : ℕ) (v : State) → 1 ≤ j.plan.parts → length vs ≡ j.plan.parts → x < j.graph.vertices → v ≡ get_or vs (x % j.plan.parts) v →
-    StandsFor j (x % j.plan.parts) t v → figures_at (map figures_in vs) x ≡ true_figures j t x
+    StandsFor j (x % j.plan.parts) t v → figures_at 0 (map figures_in vs) x ≡ true_figures j t x
 true_figures_at j vs t x v some count lt is h =
     let parts : ℕ = j.plan.parts in
     let long : length (map figures_in vs) ≡ parts = length-map vs figures_in ∙ count in
     let within : x % parts < length vs = omega arith in
     let below : x % parts < parts = omega arith in
-    ap (λ k. get_or (get_or (map figures_in vs) (x % k) []) (x / k) nothing) long
+    let at : x / parts - 0 ≡ x / parts = omega arith in
+    ap (λ k. get_or (get_or (map figures_in vs) (x % k) []) (x / k - 0) nothing) long
+    ∙ ap (λ i. get_or (get_or (map figures_in vs) (x % parts) []) i nothing) at
     ∙ ap (λ (l : List Figures). get_or l (x / parts) nothing)
     (get_or-map figures_in vs (x % parts) v [] within ∙ ap figures_in (sym is) ∙ own_figures j (x % parts) t v h)
     ∙ at_own (true_figures j t) j.graph.vertices parts (x % parts) (x / parts) nothing below (place_below j.graph.vertices parts x some lt)
@@ -63,10 +65,10 @@ lines_same f h a (suc n) bound le e = rw (e a (omega arith), lines_same f h (a +
 -- the lines of all vertices
 pub vertices_are : (j : Job) (vs : List State) (d : State) (labels : List (List ℕ)) (t n : ℕ) → 1 ≤ j.plan.parts → length vs ≡ j.plan.parts → n ≡ j.graph.vertices →
     ((p : ℕ) (d : State) → p < length vs → StandsFor j p t (get_or vs p d)) →
-    vertices_text labels (map figures_in vs) 0 n ≡ flat_map (λ x. vertex_text (mixing_of j.plan) j.graph labels t x) (range_with_len 0 n)
+    vertices_text labels 0 (map figures_in vs) 0 n ≡ flat_map (λ x. vertex_text (mixing_of j.plan) j.graph labels t x) (range_with_len 0 n)
 unfolding vertices_text vertex_text
 vertices_are j vs d labels t n some count all stand =
-    lines_same (λ x. figures_line (get_or labels x []) (figures_at (map figures_in vs) x)) (λ x. vertex_text (mixing_of j.plan) j.graph labels t x) 0 n n (omega arith)
+    lines_same (λ x. figures_line (get_or labels x []) (figures_at 0 (map figures_in vs) x)) (λ x. vertex_text (mixing_of j.plan) j.graph labels t x) 0 n n (omega arith)
     (λ x lt.
     let k : ℕ = x % j.plan.parts in
     let within : k < length vs = omega arith in

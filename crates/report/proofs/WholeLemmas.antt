@@ -16,7 +16,7 @@ use Rattle.ball_model.specs.State.{State, StandsFor, own_vertices, sums_of}
 use Rattle.ball_model.proofs.EstimateLemmas.{estimate_small, inverse_sum-low}
 use Rattle.ball_model.proofs.RankLemmas.{counter_length}
 use Rattle.report.specs.Ready.{AllStand}
-use Rattle.report.specs.Parts.{HasSize, HaveSizes, figures_in, head_text, total_in, totals_in, vertices_text}
+use Rattle.report.specs.Parts.{HasSize, figures_in, head_text, lines_between, total_in, totals_in, vertices_text}
 use Rattle.report.proofs.DealLemmas.{sum_dealt, sum_places}
 use Rattle.report.proofs.EndingLemmas.{IsEnded}
 use Rattle.report.proofs.ReadyLemmas.{AreReady}
@@ -96,12 +96,14 @@ supersteps_are f n totals is =
 -- all lines are those of the definition
 pub report_is : (j : Job) (vs : List State) (d : State) (labels : List (List ℕ)) (t n : ℕ) (quiet : Bool) → 0 < length vs → AllAt j t vs →
     IsEnded (mixing_of j.plan) j.graph j.plan.limit t quiet → n ≡ j.graph.vertices →
-    head_text (totals_in vs t) t quiet ++ vertices_text labels (map figures_in vs) 0 n ≡ report_of (mixing_of j.plan) j.graph labels j.plan.limit
+    head_text (totals_in vs t) t quiet ++ lines_between labels vs 0 n ≡ report_of (mixing_of j.plan) j.graph labels j.plan.limit
 unfolding report_of head_text
 report_is j vs d labels t n quiet some all ended same =
     let m = mixing_of j.plan in
     let h = all.stand 0 d some in
-    rw (
+    let count : n - 0 ≡ n = omega arith in
+    ap (λ k. head_text (totals_in vs t) t quiet ++ vertices_text labels 0 (map figures_in vs) 0 k) count
+    ∙ rw (
       totals_are j vs d t some all,
       supersteps_are (λ i. total_at m j.graph i) (t + 1) (totals_at m j.graph t) refl,
       ended.stable,
@@ -110,22 +112,24 @@ report_is j vs d labels t n quiet some all ended same =
       ← ended.at_end,
     ) refl
 
+-- figures of n vertices, dealt out to partitions
+pub record HaveSizes (n : ℕ) (parts : List (List Figures)) : Type 0 where
+  pub each : (p : ℕ) → p < length parts → length (get_or parts p []) ≡ part_size n (length parts) p
+
 -- figures of all partitions have the sizes of the partitions
-pub have_sizes : (n : ℕ) (vs : List State) (d : State) (lists : List (List Figures)) → AreReady vs → lists ≡ map figures_in vs → All HasSize vs → All (λ v. v.part.plan.vertices ≡ n) vs → HaveSizes n lists
-have_sizes n vs d lists ready are sizes vertices =
-    let long : length lists ≡ length vs = ap length are ∙ length-map vs figures_in in
+pub have_sizes : (n : ℕ) (vs : List State) (d : State) → AreReady vs → All HasSize vs → All (λ v. v.part.plan.vertices ≡ n) vs → HaveSizes n (map figures_in vs)
+have_sizes n vs d ready sizes vertices =
+    let long : length (map figures_in vs) ≡ length vs = length-map vs figures_in in
     record {
-      some = omega (arith, ready.some);
       each = λ p lt.
-          let below : p < length vs = omega arith in
+          let below : p < length vs = omega (arith, lt, long) in
           let v : State = get_or vs p d in
           let r = ready.each p d d below in
-          ap (λ (l : List (List Figures)). length (get_or l p [])) are
-          ∙ ap length (get_or-map figures_in vs p d [] below)
+          ap length (get_or-map figures_in vs p d [] below)
           ∙ (sizes p d below).size
           ∙ ap (λ k. part_size k v.part.plan.parts v.part.number) (vertices p d below)
           ∙ ap (λ k. part_size n k v.part.number) (r.parts ∙ sym (ready.count d) ∙ sym long)
-          ∙ ap (λ k. part_size n (length lists) k) r.number;
+          ∙ ap (λ k. part_size n (length (map figures_in vs)) k) r.number;
     }
 
 -- ready replicas that stand for a job are all at the superstep of the first

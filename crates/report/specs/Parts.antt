@@ -1,12 +1,11 @@
 -- The parts of a report: its lines of totals and of figures, as they are made of what replicas have.
-use Rattle.std.specs.Prelude.{◌≡◌, ◌<◌, ℕ, ◌+◌, ◌-◌, ◌/◌, ◌%◌, ◌^◌, Bool, List, [], ◌∷◌, ◌++◌, length, map, min, slice_index, slice_index_or, codes, decimal, Vec}
+use Rattle.std.specs.Prelude.{◌≡◌, ◌<◌, ◌≤◌, ℕ, ◌+◌, ◌-◌, ◌/◌, ◌%◌, ◌^◌, Bool, List, [], ◌∷◌, ◌++◌, length, map, min, take, drop, slice_index, slice_index_or, codes, decimal, Vec}
 use Rattle.std.specs.Global.{Global}
 use Rattle.std.specs.List.{flat_map, range_with_len, sum_by}
 use Rattle.figures.specs.declared.ends.Figures.{Figures}
 use Rattle.figures.specs.Values.{figures_from}
 use Rattle.ball_model.specs.Figures.{fixed6_of, gain_of}
 use Rattle.ball_model.specs.Report.{end_line, gain_line, line_text, superstep_line}
-use Rattle.ball_model.specs.Input.{Network}
 use Rattle.ball_model.specs.PlanValue.{part_size}
 use Rattle.ball_model.specs.State.{State}
 
@@ -39,27 +38,33 @@ figures_line label f =
 abbrev pub nothing : Figures
 nothing = record { estimate = 0; harmonic = 0; closeness = 0; lin = 0; empty = 0 }
 
--- the figures of vertex x among those of each partition: it is vertex x / P of partition x % P
-abbrev pub figures_at : List (List Figures) → ℕ → Figures
-figures_at parts x = slice_index_or (slice_index_or parts (x % length parts) []) (x / length parts) nothing
+-- a replica's figures at the places from `first` on and below `last`, as far as there are such
+unfoldable pub figures_among : ℕ → ℕ → State → List Figures
+figures_among first last v = take (last - first) (drop first (figures_in v))
+
+-- the figures of vertex x among those of each partition from place `first` on: it is vertex x / P of partition x % P
+abbrev pub figures_at : ℕ → List (List Figures) → ℕ → Figures
+figures_at first parts x = slice_index_or (slice_index_or parts (x % length parts) []) (x / length parts - first) nothing
+
+-- they are among these
+pub record HasPlace (first : ℕ) (parts : List (List Figures)) (x : ℕ) : Type 0 where
+  pub some : 0 < length parts
+  pub from : first ≤ x / length parts
+  pub to : x / length parts - first < length (slice_index_or parts (x % length parts) [])
 
 -- the lines of n vertices from a on
-unfoldable pub vertices_text : List (List ℕ) → List (List Figures) → ℕ → ℕ → List ℕ
-vertices_text labels parts a n = flat_map (λ x. figures_line (slice_index_or labels x []) (figures_at parts x)) (range_with_len a n)
+unfoldable pub vertices_text : List (List ℕ) → ℕ → List (List Figures) → ℕ → ℕ → List ℕ
+vertices_text labels first parts a n =
+    flat_map (λ x. figures_line (slice_index_or labels x []) (figures_at first parts x)) (range_with_len a n)
 
 -- figures of partitions as lists
 abbrev pub lists_in : List (Vec Figures Global) → List (List Figures)
 lists_in parts = map (λ own. own.items) parts
 
--- the lines of all vertices of a graph with labels
-abbrev pub lines_of : Network → List (Vec Figures Global) → List ℕ
-lines_of network parts = vertices_text network.labels (lists_in parts) 0 network.graph.vertices
+-- the lines of the vertices from `from` on and below `to`, of the figures of all replicas
+abbrev pub lines_between : List (List ℕ) → List State → ℕ → ℕ → List ℕ
+lines_between labels replicas from to = vertices_text labels 0 (map figures_in replicas) from (to - from)
 
 -- the figures of a replica are those of the vertices of its partition
 pub record HasSize (v : State) : Type 0 where
   pub size : length (figures_in v) ≡ part_size v.part.plan.vertices v.part.plan.parts v.part.number
-
--- figures of n vertices, dealt out to partitions
-pub record HaveSizes (n : ℕ) (parts : List (List Figures)) : Type 0 where
-  pub some : 0 < length parts
-  pub each : (p : ℕ) → p < length parts → length (slice_index_or parts p []) ≡ part_size n (length parts) p

@@ -1,6 +1,7 @@
 //! Lines of comma-separated values, built in memory.
 
-ghost use Rattle.std.specs.Prelude.{◌≡◌, ◌++◌, ◌≤◌, OnOk, IfOk, length, map, [], codes, if◌then◌else◌};
+ghost use Rattle.std.specs.Prelude.{◌≡◌, ◌++◌, ◌≤◌, OnOk, IfOk, length, map, []};
+ghost use Rattle.std.specs.Prelude.{codes, if◌then◌else◌};
 ghost use Rattle.ball_model.specs.Report.{end_line, gain_line, line_text, superstep_line};
 ghost use Rattle.report.specs.Parts.{figures_line};
 ghost use Rattle.report.specs.Rows.{Adds, AtRow, text_in};
@@ -24,7 +25,8 @@ fn put_row(rows: &mut Writer<Vec<u8>>, fields: &[&[u8]]) -> Result<(), AllocErro
     requires row { AtRow rows.old }
     requires fields { 2 ≤ length fields.now }
     ensures row { OnOk result (AtRow rows.new) }
-    ensures text { OnOk result (Adds rows.old rows.new (line_text (map (λ field. field.now) fields.now))) }
+    ensures text { OnOk result
+        (Adds rows.old rows.new (line_text (map (λ field. field.now) fields.now))) }
 {
     let Ok(()) = rows.write_fields(fields) else {
         return Err(AllocError);

@@ -1,16 +1,17 @@
 //! The parts of a report: totals and figures of all partitions, and their text.
 
-ghost use Rattle.std.specs.Prelude.{◌≡◌, ℕ, ◌≤◌, ◌<◌, ◌+◌, ◌-◌, ◌++◌, ◌^◌, IfOk, OnOk, length, map, slice_index, slice_index_or, []};
+ghost use Rattle.std.specs.Prelude.{◌≡◌, ℕ, ◌≤◌, ◌<◌, ◌+◌, ◌-◌, ◌++◌, ◌^◌, IfOk, OnOk};
+ghost use Rattle.std.specs.Prelude.{length, map, slice_index, slice_index_or, []};
 ghost use Rattle.std.specs.List.{All, flat_map, range_with_len};
 ghost use Rattle.ball_model.specs.Report.{superstep_line};
-ghost use Rattle.report.specs.Parts.{HasSize, HaveSizes, figures_at, figures_in, head_text, lists_in};
-ghost use Rattle.report.specs.Parts.{superstep_lines, total_in, totals_in, vertices_text};
+ghost use Rattle.report.specs.Parts.{HasPlace, HasSize, figures_among, figures_at, head_text};
+ghost use Rattle.report.specs.Parts.{lists_in, superstep_lines, total_in, totals_in, vertices_text};
 ghost use Rattle.report.specs.Rows.{Adds, AtRow};
 
 use crate::lines::{put_end, put_gain, put_superstep, put_vertex, rows_in, text_of};
 use csv::Writer;
 use edgelist::Graph;
-use figures::{Figures, final_figures, gain};
+use figures::{Figures, figures_within, gain};
 use replica::Replica;
 use std::alloc::{AllocError, Global};
 use std::thread::Threads;
@@ -43,30 +44,43 @@ pub(crate) fn totals(alloc: Global, replicas: &[Replica], end: u32) -> Result<Ve
     Ok(totals)
 }
 
-// The figures of a replica's vertices.
+// The figures of a replica's vertices at the places from `first` on and below `last`, as far as there are such.
 fn own_figures<T: AllocGlobal + Threads + Sync>(
     rt: &T,
     replica: &Replica,
+    first: usize,
+    last: usize,
 ) -> Result<Vec<Figures>, AllocError>
-    ensures value { IfOk result (λ own. own.items ≡ figures_in replica.now) }
+    ensures value { IfOk result (λ own. own.items ≡ figures_among first last replica.now) }
     ensures size { HasSize replica.now }
 {
     let log2m = replica.plan().log2m();
     let _superstep = replica.superstep();
-    final_figures(rt, rt.alloc(), log2m, replica.rows(), replica.tallies())
+    let alloc = rt.alloc();
+    figures_within(
+        rt,
+        alloc,
+        log2m,
+        replica.rows(),
+        replica.tallies(),
+        first..last,
+    )
 }
 
-// The figures of each replica's vertices.
+// These of each replica.
 pub(crate) fn figures<T: AllocGlobal + Threads + Sync>(
     rt: &T,
     replicas: &[Replica],
+    first: usize,
+    last: usize,
 ) -> Result<Vec<Vec<Figures>>, AllocError>
-    ensures value { IfOk result (λ parts. lists_in parts.items ≡ map figures_in replicas.now) }
+    ensures value { IfOk result (λ parts.
+        lists_in parts.items ≡ map (figures_among first last) replicas.now) }
     ensures sizes { OnOk result (All HasSize replicas.now) }
 {
     let mut parts = Vec::with_capacity(rt.alloc(), replicas.len())?;
     for replica in replicas {
-        parts.push(own_figures(rt, replica)?)?;
+        parts.push(own_figures(rt, replica, first, last)?)?;
     }
     Ok(parts)
 }
@@ -99,15 +113,13 @@ pub(crate) fn head(
     text_of(rows)
 }
 
-// The figures of vertex `x`.
-fn figures_at(graph: &Graph, parts: &[Vec<Figures>], x: u32) -> Figures
-    requires sizes { HaveSizes graph.now.graph.vertices (lists_in parts.now) }
-    requires vertex { x < graph.now.graph.vertices }
-    ensures { result ≡ figures_at (lists_in parts.now) x }
+// The figures of vertex `x`, among those of each partition from place `first` on.
+fn figures_at(parts: &[Vec<Figures>], first: usize, x: u32) -> Figures
+    requires { HasPlace first (lists_in parts.now) x }
+    ensures { result ≡ figures_at first (lists_in parts.now) x }
 {
-    let _vertices = graph.vertices();
     let count = parts.len();
-    parts[x as usize % count][x as usize / count]
+    parts[x as usize % count][x as usize / count - first]
 }
 
 // The text of the vertices from `from` on and below `to`.
@@ -115,19 +127,20 @@ pub(crate) fn vertices(
     alloc: Global,
     graph: &Graph,
     parts: &[Vec<Figures>],
+    first: usize,
     from: u32,
     to: u32,
 ) -> Result<Vec<u8>, AllocError>
-    requires sizes { HaveSizes graph.now.graph.vertices (lists_in parts.now) }
+    requires places { (x : ℕ) → from ≤ x → x < to → HasPlace first (lists_in parts.now) x }
     requires from { from ≤ to }
     requires to { to ≤ graph.now.graph.vertices }
     ensures { IfOk result (λ text.
-        text.items ≡ vertices_text graph.now.labels (lists_in parts.now) from (to - from)) }
+        text.items ≡ vertices_text graph.now.labels first (lists_in parts.now) from (to - from)) }
 {
     let room = (to - from) as usize * USUAL_LINE;
     let mut rows = rows_in(Vec::with_capacity(alloc, room)?);
     for x in from..to {
-        put_vertex(&mut rows, graph.label(x), figures_at(graph, parts, x))?;
+        put_vertex(&mut rows, graph.label(x), figures_at(parts, first, x))?;
     }
     text_of(rows)
 }

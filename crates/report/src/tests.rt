@@ -148,7 +148,8 @@ fn run_to<H: AllocGlobal>(rt: &H, all: &mut [Replica], t: u32) -> Result<(), Fai
 
 // Whether the replicas are of a plan of this graph.
 fn are_of(graph: &Graph, replicas: &[Replica]) -> bool
-    ensures { result ≡ true → All (λ v. v.part.plan.vertices ≡ graph.now.graph.vertices) replicas.now }
+    ensures { result ≡ true →
+        All (λ v. v.part.plan.vertices ≡ graph.now.graph.vertices) replicas.now }
 {
     for replica in replicas {
         if replica.plan().vertices() != graph.vertices() {

@@ -1,11 +1,11 @@
 //! The report, written piece by piece.
 
-ghost use Rattle.std.specs.Prelude.{◌≡◌, ◌≢◌, Err, IfErr, OnErr, OnOk, true};
+ghost use Rattle.std.specs.Prelude.{◌≡◌, ◌≢◌, ℕ, ◌≤◌, ◌<◌, ◌-◌, Err, IfErr, OnErr, OnOk, true};
 ghost use Rattle.std.specs.List.{All};
 ghost use Rattle.std.specs.Io.KnownBytes.{Appends};
 ghost use Rattle.ball_model.specs.Job.{Job};
 ghost use Rattle.ball_model.specs.Streams.{Rises};
-ghost use Rattle.report.specs.Parts.{HaveSizes, lines_of, lists_in};
+ghost use Rattle.report.specs.Parts.{HasPlace, lines_between, lists_in, vertices_text};
 ghost use Rattle.report.specs.Ready.{AllStand, are_ready, job_report};
 
 use crate::parts::{figures, head, totals, vertices};
@@ -42,6 +42,9 @@ impl From<AllocError> for ReportError {
 // How many vertices have their lines in one piece of text.
 const PIECE: u32 = 4096;
 
+// How many vertices, at least, have their figures in memory at once.
+const BLOCK: u32 = 8 * PIECE;
+
 // Writes a piece of text.
 fn put<W: CountedWrite>(writer: &mut W, text: &[u8]) -> Result<(), ReportError>
     ensures done { OnOk result (Appends (W.contents writer.old) (W.contents writer.new) text.now) }
@@ -56,26 +59,83 @@ fn put<W: CountedWrite>(writer: &mut W, text: &[u8]) -> Result<(), ReportError>
     }
 }
 
-// Writes the lines of the vertices.
-fn put_vertices<W: CountedWrite>(
+// Writes the lines of the vertices from `from` on and below `to`, of figures from place `first` on.
+fn put_lines<W: CountedWrite>(
     alloc: Global,
     writer: &mut W,
     graph: &Graph,
     parts: &[Vec<Figures>],
+    first: usize,
+    from: u32,
+    to: u32,
 ) -> Result<(), ReportError>
-    requires { HaveSizes graph.now.graph.vertices (lists_in parts.now) }
-    ensures done { OnOk result
-        (Appends (W.contents writer.old) (W.contents writer.new) (lines_of graph.now parts.now)) }
+    requires places { (x : ℕ) → from ≤ x → x < to → HasPlace first (lists_in parts.now) x }
+    requires from { from ≤ to }
+    requires to { to ≤ graph.now.graph.vertices }
+    ensures done { OnOk result (Appends (W.contents writer.old) (W.contents writer.new)
+        (vertices_text graph.now.labels first (lists_in parts.now) from (to - from))) }
+    ensures counted { result ≢ Err ReportError.Write →
+        W.failed_calls writer.new ≡ W.failed_calls writer.old }
+    ensures write { result ≡ Err ReportError.Write →
+        Rises (W.failed_calls writer.old) (W.failed_calls writer.new) }
+{
+    let mut at = from;
+    while at < to {
+        let end = at + PIECE.min(to - at);
+        put(writer, &vertices(alloc, graph, parts, first, at, end)?)?;
+        at = end;
+    }
+    Ok(())
+}
+
+// The same, of figures that are made for it.
+fn put_block<T: AllocGlobal + Threads + Sync, W: CountedWrite>(
+    rt: &T,
+    writer: &mut W,
+    graph: &Graph,
+    replicas: &[Replica],
+    from: u32,
+    to: u32,
+) -> Result<(), ReportError>
+    requires ready { are_ready replicas.now ≡ true }
+    requires graph { All (λ v. v.part.plan.vertices ≡ graph.now.graph.vertices) replicas.now }
+    requires from { from ≤ to }
+    requires to { to ≤ graph.now.graph.vertices }
+    ensures done { OnOk result (Appends (W.contents writer.old) (W.contents writer.new)
+        (lines_between graph.now.labels replicas.now from to)) }
+    ensures counted { result ≢ Err ReportError.Write →
+        W.failed_calls writer.new ≡ W.failed_calls writer.old }
+    ensures write { result ≡ Err ReportError.Write →
+        Rises (W.failed_calls writer.old) (W.failed_calls writer.new) }
+{
+    let count = replicas.len();
+    let first = from as usize / count;
+    let parts = figures(rt, replicas, first, (to as usize).div_ceil(count))?;
+    put_lines(rt.alloc(), writer, graph, &parts, first, from, to)
+}
+
+// Writes the lines of all vertices, some of each partition at a time, so that all processors have work.
+fn put_vertices<T: AllocGlobal + Threads + Sync, W: CountedWrite>(
+    rt: &T,
+    writer: &mut W,
+    graph: &Graph,
+    replicas: &[Replica],
+) -> Result<(), ReportError>
+    requires ready { are_ready replicas.now ≡ true }
+    requires graph { All (λ v. v.part.plan.vertices ≡ graph.now.graph.vertices) replicas.now }
+    ensures done { OnOk result (Appends (W.contents writer.old) (W.contents writer.new)
+        (lines_between graph.now.labels replicas.now 0 graph.now.graph.vertices)) }
     ensures counted { result ≢ Err ReportError.Write →
         W.failed_calls writer.new ≡ W.failed_calls writer.old }
     ensures write { result ≡ Err ReportError.Write →
         Rises (W.failed_calls writer.old) (W.failed_calls writer.new) }
 {
     let count = graph.vertices();
+    let block = BLOCK.max(PIECE * u32::from(replicas[0].plan().parts()));
     let mut from = 0;
     while from < count {
-        let to = from + PIECE.min(count - from);
-        put(writer, &vertices(alloc, graph, parts, from, to)?)?;
+        let to = from + block.min(count - from);
+        put_block(rt, writer, graph, replicas, from, to)?;
         from = to;
     }
     Ok(())
@@ -85,8 +145,8 @@ fn put_vertices<W: CountedWrite>(
 ///
 /// Lines of comma-separated values: the neighbourhood function at each superstep, the end, the gain, and each vertex
 /// with its label, estimate, harmonic centrality, closeness, Lin's index and number of empty registers, in order of
-/// its number (HyperBall 2013). The figures are made by all processors, and the text goes out in pieces, so what was
-/// written before an error is left open.
+/// its number (HyperBall 2013). The figures of some vertices at a time are made by all processors, and the text goes
+/// out in pieces, so what was written before an error is left open.
 pub fn write_report<T: AllocGlobal + Threads + Sync, W: CountedWrite>(
     rt: &T,
     writer: &mut W,
@@ -106,7 +166,6 @@ pub fn write_report<T: AllocGlobal + Threads + Sync, W: CountedWrite>(
     let end = first.superstep();
     let stable = is_stable(first);
     let totals = totals(rt.alloc(), replicas, end)?;
-    let parts = figures(rt, replicas)?;
     put(writer, &head(rt.alloc(), &totals, end, stable)?)?;
-    put_vertices(rt.alloc(), writer, graph, &parts)
+    put_vertices(rt, writer, graph, replicas)
 }

@@ -5,8 +5,8 @@ use Rattle.ball_model.specs.Table.{Table}
 use Rattle.figures.proofs.tests.figures_of_many_vertices.Goals as goal
 
 -- rows of zeros
-pub final_figures-requires-clause-ranks : goal.final_figures-requires-clause-ranks
-final_figures-requires-clause-ranks g c κs =
+pub come_in_order-requires-clause-ranks : goal.come_in_order-requires-clause-ranks
+come_in_order-requires-clause-ranks g c κs =
     let blank : c.in_ok-rows.rows.rows ≡ replicate 5000 (replicate 16 0) = ap (λ (t : Table). t.rows) c.in_ok-rows.ensures in
     let ranks = All-replicate (λ (row : List ℕ). All (λ r. r ≤ 33) row) 5000 (replicate 16 0) (All-replicate (λ r. r ≤ 33) 16 0 (omega arith)) in
     subst (λ (rows : List (List ℕ)). All (λ row. All (λ r. r ≤ 33) row) rows) (sym blank) ranks

@@ -3,7 +3,7 @@ use Rattle.std.specs.Vec.{with_items}
 use Rattle.std.proofs.lemmas.List.{with_items_is}
 use Rattle.ball_model.specs.Job.{Job}
 use Rattle.ball_model.specs.State.{State}
-use Rattle.hyperball.specs.Partitions.{AreAt, AreLevel}
+use Rattle.hyperball.specs.Partitions.{AreAt, AreEnded, AreLevel}
 use Rattle.hyperball.proofs.PartitionLemmas.{ended, gone_on, some_held, superstep_at, superstep_of, within}
 use Rattle.hyperball.proofs.partitions.run_to_end.Goals as goal
 use Rattle.hyperball.proofs.partitions.run_to_end.Goals.{In_ok-exchange-2}
@@ -66,4 +66,9 @@ pub returns : goal.returns
 returns c =
     let j : Job = record { graph = c.args.graph.now.graph; plan = c.args.plan.now } in
     let h = c.loop-alloc.invariant in
-    ended j h.superstep c.loop-alloc.replicas.items c.deref.result.now c.goes_on.result h.level c.deref.ensures.value c.loop-alloc-test.false c.goes_on.ensures.over
+    let ended_there : AreEnded j c.loop-alloc.replicas.items =
+    ended j h.superstep c.loop-alloc.replicas.items c.deref.result.now c.goes_on.result h.level c.deref.ensures.value c.loop-alloc-test.false c.goes_on.ensures.over in
+    let there : AreEnded j c.deref_mut-2.result.now = subst (λ (rs : List State). AreEnded j rs) (sym c.deref_mut-2.ensures.value) ended_there in
+    let settled : c.settle.new.replicas ≡ c.loop-alloc.replicas.items = c.settle.ensures j there ∙ c.deref_mut-2.ensures.value in
+    let long : length c.settle.new.replicas ≡ c.loop-alloc.replicas.len = omega (arith, c.settle.auto.replicas, c.deref_mut-2.ensures.len) in
+    subst (λ (rs : List State). AreEnded j rs) (sym (with_items_is c.loop-alloc.replicas c.settle.new.replicas long ∙ settled)) ended_there

@@ -1,9 +1,10 @@
-use Rattle.std.proofs.Common.{ℕ, List, ap, Bor}
+use Rattle.std.proofs.Common.{true}
+use Rattle.std.proofs.lemmas.Result.{on_ok_weaker}
 use Rattle.hyperball.proofs.ReportLemmas.{listed}
 use Rattle.hyperball.proofs.serve.run_listed.Goals as goal
 
 pub returns-clause-done : goal.returns-clause-done
-returns-clause-done g c =
-    listed (g.R.Read.remaining c.args.reader.now) c.in_ok-input.input.items c.deref.result.now c.in-Some.edges.now c.new-edges.result.inner.now c.in-Some.list.now c.args.options.now
-    (g.W.Write.contents c.args.writer.now) (g.W.Write.contents c.run_serial.new.writer)
-    c.in_ok-input.ensures.ok c.deref.ensures.value c.in-Some.ensures (ap (λ (b : Bor (List ℕ)). b.now) c.new-edges.ensures.inner) c.in_ok-run_serial.ensures.ok
+returns-clause-done g c = on_ok_weaker c.run_sections.result
+    (listed (g.R.Read.remaining c.args.reader.now) c.in_ok-input.input.items c.deref.result.now (record { options = c.args.options.now; counted = true })
+    (g.W.Write.contents c.args.writer.now) (g.W.Write.contents c.run_sections.new.writer) c.in_ok-input.ensures.ok c.deref.ensures.value)
+    c.run_sections.ensures.done

@@ -1,14 +1,14 @@
-use Rattle.std.proofs.Common.{rules, ap, ap₂, codes, true, false, Bool, ◌||◌, ◌≡◌, ◌∙◌}
+use Rattle.std.proofs.Common.{rules, ap, ap₂, false, Bool, ◌||◌, ◌≡◌, ◌∙◌}
 use Rattle.std.proofs.lemmas.Result.{IfOk-weaker}
-use Rattle.clap.specs.Words.{App, app_of, new_app, with_subcommand}
+use Rattle.clap.specs.Words.{App, app_of, with_subcommand}
 use Rattle.clap.specs.declared.builder.command.Command.TheViews.{out-Command as fields_of}
-use Rattle.hyperball.specs.CommandLine.{hyperball_app}
+use Rattle.hyperball.specs.CommandLine.{hyperball_app, new_hyperball}
 use Rattle.hyperball.proofs.words.command.Goals as goal
 
 pub returns : goal.returns
 unfolding hyperball_app
 returns c =
-    let required : app_of c.subcommand_required.result ≡ record (new_app (codes "hyperball")) { top = record (new_app (codes "hyperball")).top { subcommand_required = true } } = search rules in
+    let required : app_of c.subcommand_required.result ≡ new_hyperball = search rules in
     let start : (fields_of c.subcommand_required.result).has_globals ≡ false = search rules in
     let or : Bool → Bool → Bool = λ a b. a || b in
     IfOk-weaker c.subcommand.result _ _ (λ m h. (

@@ -1,11 +1,11 @@
-use Rattle.std.proofs.Common.{◌≡◌, ◌∙◌, ap, refl, rules, true, map, subst}
-use Rattle.std.specs.String.{string_bytes}
+use Rattle.std.proofs.Common.{◌≡◌, ◌∙◌, ap, refl, rules, true, subst}
 use Rattle.std.proofs.lemmas.Result.{IfOk-weaker}
 use Rattle.clap.specs.Words.{App, is_simple, is_simple_and_free, subcommand_of, FailsBy, fault_of}
 use Rattle.clap.specs.declared.builder.value_parser.ValueParser.{ValueParser}
 use Rattle.clap.proofs.CallerLemmas.{subcommand_required}
 use Rattle.clap.proofs.OnLiterals.{clap_on_literals}
 use Rattle.hyperball.specs.CommandLine.{TakesNames, delimiter_names, hyperball_app, run_app}
+use Rattle.hyperball.specs.Words.{texts_of}
 use Rattle.hyperball.proofs.NameLemmas.{names_at, of_names}
 use Rattle.hyperball.proofs.words.parse.Goals as goal
 
@@ -28,8 +28,8 @@ returns-clause-read c =
     let parse = c.try_get_matches_from in (
       p,
       takes,
-      IfOk-weaker parse.result _ _ (λ m h. (h (ap is_simple app ∙ simple p takes)).1 ∙ ap (λ (a : App). subcommand_of a (map (λ w. string_bytes w) c.args.words.now)) app) parse.ensures.matches,
-      subst (λ (a : App). FailsBy (fault_of a (map (λ w. string_bytes w) c.args.words.now)) parse.result) app (parse.ensures.kinds (ap is_simple_and_free app ∙ free p takes)),
+      IfOk-weaker parse.result _ _ (λ m h. (h (ap is_simple app ∙ simple p takes)).1 ∙ ap (λ (a : App). subcommand_of a (texts_of c.args.words.now)) app) parse.ensures.matches,
+      subst (λ (a : App). FailsBy (fault_of a (texts_of c.args.words.now)) parse.result) app (parse.ensures.kinds (ap is_simple_and_free app ∙ free p takes)),
     )
 
 pub returns-clause-subcommand : goal.returns-clause-subcommand

@@ -1,4 +1,4 @@
-use Rattle.std.proofs.Common.{◌≡◌, Bool, List, length, false, replicate, rules, refl, ap, sym, ◌∙◌, subst}
+use Rattle.std.proofs.Common.{◌≡◌, Bool, List, length, false, replicate, rules, refl, ap, sym, ◌∙◌, subst, inl}
 use Rattle.std.specs.Arc.{arc_value}
 use Rattle.std.proofs.lemmas.List.{length-replicate}
 use Rattle.ball_model.specs.Job.{PartValue}
@@ -19,6 +19,6 @@ invariant_of-result c =
     let quiet : AreTouched (first_rows part) (first_rows part) (replicate (length part.preds) false) =
     none_touched (first_rows part) (replicate (length part.preds) false) (length-replicate {A = Bool} (length part.preds) false ∙ sym (length-first_rows part)) (flag_none (length part.preds)) in
     record {
-      index = c.in_ok-targets.ensures ∙ ap targets_of (c.deref.ensures ∙ sym s.part_is);
+      index = inl (c.in_ok-targets.ensures ∙ ap targets_of (c.deref.ensures ∙ sym s.part_is));
       touched = rw (items, s.rows, s.accumulated) quiet;
     }

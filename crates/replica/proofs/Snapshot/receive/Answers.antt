@@ -1,4 +1,4 @@
-use Rattle.std.proofs.Common.{◌≡◌, ℕ, ◌-◌, ◌<◌, ◌≤◌, ◌==◌, ◌&&◌, Bool, List, length, refl, ap, sym, ◌∙◌, subst, arith, if◌then◌else◌}
+use Rattle.std.proofs.Common.{◌≡◌, ℕ, ◌-◌, ◌<◌, ◌≤◌, ◌==◌, ◌&&◌, Bool, List, length, refl, true, ap, sym, ◌∙◌, subst, arith, if◌then◌else◌}
 use Rattle.std.specs.Prelude.{Option, Some, Ok}
 use Rattle.std.specs.Arc.{arc_value}
 use Rattle.ball_model.specs.declared.names.BatchName.{BatchName}
@@ -11,7 +11,9 @@ use Rattle.replica.specs.Change.{Receives}
 use Rattle.replica.specs.Hearing.{Hears, told_by}
 use Rattle.replica.specs.Index.{targets_of}
 use Rattle.replica.specs.Kept.{AllRise}
-use Rattle.replica.specs.Seen.{state_of}
+use Rattle.replica.specs.Level.{is_over}
+use Rattle.replica.specs.Seen.{HasIndex, state_of}
+use Rattle.replica.proofs.OverLemmas.{hearing_index, kept_over, never_over}
 use Rattle.replica.proofs.HearLemmas.{hears_as}
 use Rattle.replica.proofs.LevelLemmas.{number_is}
 use Rattle.replica.proofs.RiseLemmas.{all_on}
@@ -25,7 +27,13 @@ further t n le ne = omega (arith, ne)
 pub hear-requires-clause-inside : goal.hear-requires-clause-inside
 hear-requires-clause-inside c =
     let s = state_of c.self.inside in
-    inside_of s c.args.targets.now (length s.accumulated) c.self.invariant.state (c.requires.index ∙ ap (λ (v : State). targets_of v.part) (sym c.self.view_is)) refl
+    let b = arc_value c.args.batch in
+    let new = subst (λ (u : State). take_of u.part.plan u.part.number (content_of u) b.plan b.name ≡ Ok taken.New) (sym c.self.view_is) c.requires.new in
+    let name : c.name-name.result ≡ b.name = c.name-name.ensures.value ∙ ap (λ (x : BatchValue). x.name) c.deref.ensures in
+    let now : b.name.superstep ≡ s.superstep = omega (arith, ap (λ (n : BatchName). n.superstep) name, c.if-name-self.true) in
+    let has : HasIndex s c.args.targets.now = subst (λ (u : State). HasIndex u c.args.targets.now) (sym c.self.view_is) c.requires.index in
+    let index : c.args.targets.now ≡ targets_of s.part = hearing_index s b c.args.targets.now has c.requires.batch new now in
+    inside_of s c.args.targets.now (length s.accumulated) c.self.invariant.state index refl
 
 pub invariant_of-self : goal.invariant_of-self
 invariant_of-self c =
@@ -35,8 +43,9 @@ invariant_of-self c =
     let new = subst (λ (u : State). take_of u.part.plan u.part.number (content_of u) b.plan b.name ≡ Ok taken.New) (sym c.self.view_is) c.requires.new in
     let f : IsFresh s b = fresh s b c.requires.batch new in
     let name : c.name-name.result ≡ b.name = c.name-name.ensures.value ∙ ap (λ (x : BatchValue). x.name) c.deref.ensures in
-    let index : c.args.targets.now ≡ targets_of s.part = c.requires.index ∙ ap (λ (v : State). targets_of v.part) (sym c.self.view_is) in
     let now : b.name.superstep ≡ s.superstep = omega (arith, ap (λ (n : BatchName). n.superstep) name, c.if-name-self.true) in
+    let has : HasIndex s c.args.targets.now = subst (λ (u : State). HasIndex u c.args.targets.now) (sym c.self.view_is) c.requires.index in
+    let index : c.args.targets.now ≡ targets_of s.part = hearing_index s b c.args.targets.now has c.requires.batch new now in
     let hears : Hears b.plan.log2m c.args.targets.now (told_by b.name.source (Some b)) (record { heard = s.heard; change = s.heard_change; accumulated = s.accumulated }) (record { heard = c.hear.new.heard; change = c.hear.new.heard_change; accumulated = c.hear.new.accumulated.rows }) =
     rw (← c.deref-then-name-self.ensures) c.hear.ensures.hears in
     let hears2 = hears_as (ap (λ (a : PlanValue). a.log2m) f.plan_is) index refl refl hears in
@@ -66,7 +75,6 @@ invariant_of-self-else-name-self c =
     let new = subst (λ (u : State). take_of u.part.plan u.part.number (content_of u) b.plan b.name ≡ Ok taken.New) (sym c.self.view_is) c.requires.new in
     let f : IsFresh s b = fresh s b c.requires.batch new in
     let name : c.name-name.result ≡ b.name = c.name-name.ensures.value ∙ ap (λ (x : BatchValue). x.name) c.deref.ensures in
-    let index : c.args.targets.now ≡ targets_of s.part = c.requires.index ∙ ap (λ (v : State). targets_of v.part) (sym c.self.view_is) in
     let later : s.superstep < b.name.superstep = further s.superstep b.name.superstep f.low (λ e. c.if-name-self.false (ap (λ (n : BatchName). n.superstep) name ∙ e)) in
     let level : c.name-name.result.superstep - c.self.inside.superstep - 1 ≡ b.name.superstep - s.superstep - 1 = omega (arith, ap (λ (n : BatchName). n.superstep) name) in
     let source : c.name-name.result.source ≡ b.name.source = ap (λ (n : BatchName). n.source) name in
@@ -98,8 +106,9 @@ returns-then-name-self-clause-receives c =
     let new = subst (λ (u : State). take_of u.part.plan u.part.number (content_of u) b.plan b.name ≡ Ok taken.New) (sym c.self.view_is) c.requires.new in
     let f : IsFresh s b = fresh s b c.requires.batch new in
     let name : c.name-name.result ≡ b.name = c.name-name.ensures.value ∙ ap (λ (x : BatchValue). x.name) c.deref.ensures in
-    let index : c.args.targets.now ≡ targets_of s.part = c.requires.index ∙ ap (λ (v : State). targets_of v.part) (sym c.self.view_is) in
     let now : b.name.superstep ≡ s.superstep = omega (arith, ap (λ (n : BatchName). n.superstep) name, c.if-name-self.true) in
+    let has : HasIndex s c.args.targets.now = subst (λ (u : State). HasIndex u c.args.targets.now) (sym c.self.view_is) c.requires.index in
+    let index : c.args.targets.now ≡ targets_of s.part = hearing_index s b c.args.targets.now has c.requires.batch new now in
     let hears : Hears b.plan.log2m c.args.targets.now (told_by b.name.source (Some b)) (record { heard = s.heard; change = s.heard_change; accumulated = s.accumulated }) (record { heard = c.hear.new.heard; change = c.hear.new.heard_change; accumulated = c.hear.new.accumulated.rows }) =
     rw (← c.deref-then-name-self.ensures) c.hear.ensures.hears in
     let hears2 = hears_as (ap (λ (a : PlanValue). a.log2m) f.plan_is) index refl refl hears in
@@ -117,7 +126,6 @@ returns-else-name-self-clause-receives c =
     let new = subst (λ (u : State). take_of u.part.plan u.part.number (content_of u) b.plan b.name ≡ Ok taken.New) (sym c.self.view_is) c.requires.new in
     let f : IsFresh s b = fresh s b c.requires.batch new in
     let name : c.name-name.result ≡ b.name = c.name-name.ensures.value ∙ ap (λ (x : BatchValue). x.name) c.deref.ensures in
-    let index : c.args.targets.now ≡ targets_of s.part = c.requires.index ∙ ap (λ (v : State). targets_of v.part) (sym c.self.view_is) in
     let later : s.superstep < b.name.superstep = further s.superstep b.name.superstep f.low (λ e. c.if-name-self.false (ap (λ (n : BatchName). n.superstep) name ∙ e)) in
     let level : c.name-name.result.superstep - c.self.inside.superstep - 1 ≡ b.name.superstep - s.superstep - 1 = omega (arith, ap (λ (n : BatchName). n.superstep) name) in
     let source : c.name-name.result.source ≡ b.name.source = ap (λ (n : BatchName). n.source) name in
@@ -128,3 +136,17 @@ returns-else-name-self-clause-receives c =
       names = names_kept s (state_of (record { part = c.self.inside.part; superstep = c.self.inside.superstep; rows = c.self.inside.rows; marks = c.self.inside.marks; tallies = c.self.inside.tallies; sums = c.self.inside.sums; heard = c.self.inside.heard; heard_change = c.self.inside.heard_change; accumulated = c.self.inside.accumulated; early = c.keep.new.self })) b (c.name-name.result.superstep - c.self.inside.superstep - 1) later level refl refl kept;
       stands = λ j p t h. stands_kept s (state_of (record { part = c.self.inside.part; superstep = c.self.inside.superstep; rows = c.self.inside.rows; marks = c.self.inside.marks; tallies = c.self.inside.tallies; sums = c.self.inside.sums; heard = c.self.inside.heard; heard_change = c.self.inside.heard_change; accumulated = c.self.inside.accumulated; early = c.keep.new.self })) b (c.name-name.result.superstep - c.self.inside.superstep - 1) (record { part = refl; superstep = refl; rows = refl; marks = refl; tallies = refl; sums = refl }) later level f.target refl refl refl kept j p t (number_is j p t s h) h;
     })
+
+pub returns-then-name-self-clause-over : goal.returns-then-name-self-clause-over
+returns-then-name-self-clause-over c = λ over.
+    let s = state_of c.self.inside in
+    let b = arc_value c.args.batch in
+    let new = subst (λ (u : State). take_of u.part.plan u.part.number (content_of u) b.plan b.name ≡ Ok taken.New) (sym c.self.view_is) c.requires.new in
+    let name : c.name-name.result ≡ b.name = c.name-name.ensures.value ∙ ap (λ (x : BatchValue). x.name) c.deref.ensures in
+    let now : b.name.superstep ≡ s.superstep = omega (arith, ap (λ (n : BatchName). n.superstep) name, c.if-name-self.true) in
+    never_over s b _ c.requires.batch new now (subst (λ (u : State). is_over u ≡ true) (sym c.self.view_is) over)
+
+pub returns-else-name-self-clause-over : goal.returns-else-name-self-clause-over
+returns-else-name-self-clause-over c = λ over.
+    let s = state_of c.self.inside in
+    kept_over s c.keep.new.self ∙ subst (λ (u : State). is_over u ≡ true) (sym c.self.view_is) over

@@ -1,38 +1,100 @@
-use Rattle.std.proofs.Common.{◌≡◌, ◌<◌, ◌+◌, ◌||◌, ◌==◌, ℕ, List, length, get_or, take, refl, ap, arith, ◌∙◌}
-use Rattle.std.proofs.lemmas.List.Folds.{list_any_more}
+use Rattle.std.proofs.Common.{◌≡◌, false, ◌<◌, ◌++◌, ℕ, List, [], length, get_or, refl, ap, arith, rules, sym, ◌∙◌}
+use Rattle.std.proofs.lemmas.List.{nil_from_length}
+use Rattle.std.specs.Slice.Iter.{chunks_rest}
 use Rattle.ball_model.specs.Table.{Table}
-use Rattle.replica.specs.Spread.{stands_in}
-use Rattle.replica.proofs.SpreadLemmas.{spread-none, spread-more, length-spread, touched-none, touched-more}
+use Rattle.replica.specs.Spread.{spread, touched_at}
+use Rattle.replica.proofs.SpreadLemmas.{spread-none, spread-append, length-spread, touched-none, touched-append, all_first, all_last}
 use Rattle.replica.proofs.spread.raise_places.Goals as goal
 
-pub loop-place-init : goal.loop-place-init
-loop-place-init c = record {
-  rows = ap (λ (rows : List (List ℕ)). record c.args.accumulated.now { rows = rows }) (spread-none c.args.registers.now c.args.accumulated.now.rows);
-  marks = λ i lt. touched-none c.args.registers.now c.args.accumulated.now.rows c.args.touched.now i lt;
-}
+-- a table is its width and its rows
+table_is : (a b : Table) → a.width ≡ b.width → a.rows ≡ b.rows → a ≡ b
+table_is a b width rows = λ i. record { width = width i; rows = rows i }
 
-pub raise-raised-requires-clause-row : goal.raise-raised-requires-clause-row
-raise-raised-requires-clause-row c =
-    let rows = ap (λ (t : Table). t.rows) c.loop-place.invariant.rows in
-    let within : get_or c.args.places.now c.loop-place.place-index 0 < length c.args.accumulated.now.rows = c.requires.places c.loop-place.place-index 0 c.loop-place-test.true in
-    rw (rows, length-spread (take c.loop-place.place-index c.args.places.now) c.args.registers.now c.args.accumulated.now.rows) within
-
-pub loop-place-preserved : goal.loop-place-preserved
-loop-place-preserved c =
-    let k = c.loop-place.place-index in
-    let places = c.args.places.now in
-    let src = c.args.registers.now in
-    let old = c.args.accumulated.now.rows in
-    let p = get_or places k 0 in
-    let before = take k places in
-    let after = take (k + 1) places in
-    let rows = ap (λ (t : Table). t.rows) c.loop-place.invariant.rows in
-    let width = ap (λ (t : Table). t.width) c.loop-place.invariant.rows in
-    let lt : p < length old = c.requires.places k 0 c.loop-place-test.true in
-    let adds : (i : ℕ) → stands_in after i ≡ (stands_in before i || (p == i)) = λ i. list_any_more (λ y. y == i) places k 0 c.loop-place-test.true in
+pub loop-block-init : goal.loop-block-init
+loop-block-init c =
+    let rest : chunks_rest c.into_iter-block-iterator.result ≡ c.args.places.now = search rules in
     record {
-      rows = c.raise-raised.ensures.raised ∙ rw (rows, width, spread-more before after src p old lt adds) refl;
-      marks = λ i inside.
-          touched-more before after src p old c.args.touched.now c.loop-place.touched c.raise-raised.result lt (omega (arith, c.loop-place.auto.touched, c.requires.marks)) adds
-          (rw rows at c.raise-raised.ensures.unchanged) c.loop-place.invariant.marks i inside;
+      can_next = search rules;
+      is_finite = tt;
+      inside = rw rest c.requires.places;
+      width = refl;
+      count = refl;
+      rows = ap (λ (places : List ℕ). spread places c.args.registers.now c.args.accumulated.now.rows) rest;
+      marks = λ i lt. ap (λ (places : List ℕ). touched_at c.args.touched.now c.args.accumulated.now.rows (spread places c.args.registers.now c.args.accumulated.now.rows) i) rest;
     }
+
+pub mark_seen-requires-clause-places : goal.mark_seen-requires-clause-places
+mark_seen-requires-clause-places c =
+    let inv = c.loop-block.invariant in
+    let block = c.in-Some.block.now in
+    let all = rw c.in-Some.ensures.steps.1.0 at inv.inside in
+    λ k d lt.
+    let inside : get_or block k d < length c.args.accumulated.now.rows = all_first (λ i. i < length c.args.accumulated.now.rows) block (chunks_rest c.next.new.self) all k d lt in
+    omega (arith, inside, inv.count)
+
+pub mark_seen-requires-clause-marks : goal.mark_seen-requires-clause-marks
+mark_seen-requires-clause-marks c = omega (arith, c.loop-block.auto.touched, c.requires.marks, c.loop-block.invariant.count)
+
+pub raise_block-requires-clause-places : goal.raise_block-requires-clause-places
+raise_block-requires-clause-places c =
+    let inv = c.loop-block.invariant in
+    let block = c.in-Some.block.now in
+    let all = rw c.in-Some.ensures.steps.1.0 at inv.inside in
+    λ k d lt.
+    let inside : get_or block k d < length c.args.accumulated.now.rows = all_first (λ i. i < length c.args.accumulated.now.rows) block (chunks_rest c.next.new.self) all k d lt in
+    omega (arith, inside, inv.count)
+
+pub raise_block-requires-clause-marks : goal.raise_block-requires-clause-marks
+raise_block-requires-clause-marks c = omega (arith, c.loop-block.auto.touched, c.mark_seen.auto.touched, c.requires.marks, c.loop-block.invariant.count)
+
+pub loop-block-preserved : goal.loop-block-preserved
+loop-block-preserved c =
+    let inv = c.loop-block.invariant in
+    let block = c.in-Some.block.now in
+    let left = chunks_rest c.next.new.self in
+    let src = c.args.registers.now in
+    let acc = c.loop-block.accumulated.rows in
+    let old = c.loop-block.touched in
+    let new = c.raise_block.new.touched in
+    let split : chunks_rest c.loop-block.block-iterator ≡ block ++ left = c.in-Some.ensures.steps.1.0 in
+    let rows : c.raise_block.new.accumulated.rows ≡ spread block src acc = ap (λ (t : Table). t.rows) c.raise_block.ensures.rows in
+    let width = ap (λ (t : Table). t.width) c.raise_block.ensures.rows in
+    let marks : (i : ℕ) → i < length acc → get_or new i false ≡ touched_at old acc (spread block src acc) i =
+    λ i lt. c.raise_block.ensures.marks i lt ∙ ap (λ (rs : List (List ℕ)). touched_at c.mark_seen.new.touched acc rs i) rows ∙ c.mark_seen.ensures i lt in
+    record {
+      can_next = search rules;
+      is_finite = tt;
+      inside = all_last (λ i. i < length c.args.accumulated.now.rows) block left (rw split at inv.inside);
+      width = width ∙ inv.width;
+      count = ap length rows ∙ length-spread block src acc ∙ inv.count;
+      rows = ap (λ (rs : List (List ℕ)). spread left src rs) rows ∙ spread-append block left src acc ∙ ap (λ (places : List ℕ). spread places src acc) (sym split) ∙ inv.rows;
+      marks = λ i lt.
+          let inside : i < length acc = omega (arith, inv.count) in
+          ap (λ (rs : List (List ℕ)). touched_at new rs (spread left src rs) i) rows
+          ∙ touched-append block left src acc old new marks i inside
+          ∙ ap (λ (places : List ℕ). touched_at old acc (spread places src acc) i) (sym split) ∙ inv.marks i lt;
+    }
+
+-- spread to all places
+all_rows : (places left src : List ℕ) (rows old : List (List ℕ)) → left ≡ [] → spread left src rows ≡ spread places src old → rows ≡ spread places src old
+all_rows places left src rows old none is = spread-none src rows ∙ ap (λ (ps : List ℕ). spread ps src rows) (sym none) ∙ is
+
+pub returns-clause-rows : goal.returns-clause-rows
+returns-clause-rows c =
+    let inv = c.loop-block.invariant in
+    let none : chunks_rest c.loop-block.block-iterator ≡ [] = nil_from_length _ c.in-None.ensures.steps.1.0 in
+    table_is c.loop-block.accumulated (record c.args.accumulated.now { rows = spread c.args.places.now c.args.registers.now c.args.accumulated.now.rows }) inv.width
+    (all_rows c.args.places.now (chunks_rest c.loop-block.block-iterator) c.args.registers.now c.loop-block.accumulated.rows c.args.accumulated.now.rows none inv.rows)
+
+pub returns-clause-marks : goal.returns-clause-marks
+returns-clause-marks c =
+    let inv = c.loop-block.invariant in
+    let src = c.args.registers.now in
+    let acc = c.loop-block.accumulated.rows in
+    let left = chunks_rest c.loop-block.block-iterator in
+    let none : left ≡ [] = nil_from_length _ c.in-None.ensures.steps.1.0 in
+    let all = all_rows c.args.places.now left src acc c.args.accumulated.now.rows none inv.rows in
+    λ i lt.
+    touched-none src acc c.loop-block.touched i (omega (arith, inv.count))
+    ∙ ap (λ (places : List ℕ). touched_at c.loop-block.touched acc (spread places src acc) i) (sym none)
+    ∙ inv.marks i lt ∙ ap (λ (rs : List (List ℕ)). touched_at c.args.touched.now c.args.accumulated.now.rows rs i) (sym all)

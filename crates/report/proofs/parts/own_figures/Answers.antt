@@ -8,15 +8,15 @@ use Rattle.ball_model.specs.PlanValue.{PlanValue}
 use Rattle.ball_model.specs.Figures.{TallyValue, estimate_of}
 use Rattle.ball_model.specs.State.{State}
 use Rattle.replica.specs.Seen.{IsState}
-use Rattle.report.specs.Parts.{HasSize, figures_in}
+use Rattle.report.specs.Parts.{HasSize, figures_among, figures_in}
 use Rattle.report.proofs.parts.own_figures.Goals as goal
 
 pub returns-clause-value : goal.returns-clause-value
-unfolding figures_in
+unfolding figures_among figures_in
 returns-clause-value g c =
     let v = c.args.replica.now in
     let log2m : c.log2m-log2m.result ≡ v.part.plan.log2m = c.log2m-log2m.ensures.value ∙ ap (λ (p : PlanValue). p.log2m) c.plan.ensures in
-    IfOk-weaker c.final_figures.result _ _ (λ own h. h ∙ rw (log2m, c.rows.ensures.value, c.tallies.ensures.value) refl) c.final_figures.ensures
+    IfOk-weaker c.figures_within.result _ _ (λ own h. h ∙ rw (log2m, c.rows.ensures.value, c.tallies.ensures.value) refl) c.figures_within.ensures
 
 -- as many figures as rows, and as many rows as vertices
 has_size : (v : State) → IsState v → HasSize v

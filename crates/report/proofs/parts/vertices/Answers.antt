@@ -7,32 +7,32 @@ use Rattle.report.specs.Rows.{text_in}
 use Rattle.report.proofs.TextLemmas.{line_more}
 use Rattle.report.proofs.parts.vertices.Goals as goal
 
-no_vertices : (labels : List (List ℕ)) (parts : List (List Figures)) (a : ℕ) → vertices_text labels parts a (a - a) ≡ []
+no_vertices : (labels : List (List ℕ)) (first : ℕ) (parts : List (List Figures)) (a : ℕ) → vertices_text labels first parts a (a - a) ≡ []
 unfolding vertices_text
-no_vertices labels parts a =
+no_vertices labels first parts a =
     let none : a - a ≡ 0 = omega arith in
     rw none refl
 
-vertex_more : (labels : List (List ℕ)) (parts : List (List Figures)) (a x : ℕ) (text line label : List ℕ) (f : Figures) → a ≤ x → text ≡ vertices_text labels parts a (x - a) →
-    line ≡ figures_line label f → label ≡ slice_index_or labels x [] → f ≡ figures_at parts x → text ++ line ≡ vertices_text labels parts a (x + 1 - a)
+vertex_more : (labels : List (List ℕ)) (first : ℕ) (parts : List (List Figures)) (a x : ℕ) (text line label : List ℕ) (f : Figures) → a ≤ x → text ≡ vertices_text labels first parts a (x - a) →
+    line ≡ figures_line label f → label ≡ slice_index_or labels x [] → f ≡ figures_at first parts x → text ++ line ≡ vertices_text labels first parts a (x + 1 - a)
 unfolding vertices_text
-vertex_more labels parts a x text line label f from before here name own =
+vertex_more labels first parts a x text line label f from before here name own =
     let at : x ≡ a + (x - a) = omega arith in
     let next : x - a + 1 ≡ x + 1 - a = omega arith in
-    let F : ℕ → List ℕ = λ x. figures_line (slice_index_or labels x []) (figures_at parts x) in
+    let F : ℕ → List ℕ = λ x. figures_line (slice_index_or labels x []) (figures_at first parts x) in
     line_more F a (x - a) [] text line before (here ∙ rw (name, own) (ap F at)) ∙ ap (λ n. flat_map F (range_with_len a n)) next
 
 pub loop-x-init : goal.loop-x-init
 loop-x-init c = record {
   row = c.rows_in-rows.ensures.row;
-  text = c.rows_in-rows.ensures.text ∙ sym (no_vertices c.args.graph.now.labels (lists_in c.args.parts.now) c.args.from);
+  text = c.rows_in-rows.ensures.text ∙ sym (no_vertices c.args.graph.now.labels c.args.first (lists_in c.args.parts.now) c.args.from);
 }
 
 pub loop-x-preserved : goal.loop-x-preserved
 loop-x-preserved c = record {
   row = c.in_ok-put_vertex.ensures.row;
   text = c.in_ok-put_vertex.ensures.text
-      ∙ vertex_more c.args.graph.now.labels (lists_in c.args.parts.now) c.args.from c.loop-x.x (text_in c.loop-x.rows) (figures_line c.label.result.now c.figures_at.result)
+      ∙ vertex_more c.args.graph.now.labels c.args.first (lists_in c.args.parts.now) c.args.from c.loop-x.x (text_in c.loop-x.rows) (figures_line c.label.result.now c.figures_at.result)
       c.label.result.now c.figures_at.result c.loop-x.auto.x c.loop-x.invariant.text refl c.label.ensures c.figures_at.ensures;
 }
 
@@ -40,4 +40,4 @@ pub returns : goal.returns
 returns c =
     let all : c.loop-x.x ≡ c.args.to = omega (arith, c.loop-x.auto.x-end c.requires.from) in
     IfOk-weaker c.text_of.result _ _ (λ text h. h ∙ c.loop-x.invariant.text
-    ∙ ap (λ n. vertices_text c.args.graph.now.labels (lists_in c.args.parts.now) c.args.from (n - c.args.from)) all) c.text_of.ensures
+    ∙ ap (λ n. vertices_text c.args.graph.now.labels c.args.first (lists_in c.args.parts.now) c.args.from (n - c.args.from)) all) c.text_of.ensures

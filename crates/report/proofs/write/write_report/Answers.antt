@@ -1,4 +1,4 @@
-use Rattle.std.proofs.Common.{◌≡◌, ◌∙◌, ◌++◌, true, ℕ, List, map, get_or, ap, ap₂, sym, subst}
+use Rattle.std.proofs.Common.{◌≡◌, ◌∙◌, ◌++◌, true, ℕ, List, get_or, ap, sym, subst}
 use Rattle.std.specs.Io.KnownBytes.{Appends}
 use Rattle.std.proofs.KnownBytes.{Appends-trans}
 use Rattle.std.proofs.lemmas.Result.{on_ok_weaker}
@@ -7,10 +7,10 @@ use Rattle.ball_model.specs.PlanValue.{mixing_of}
 use Rattle.ball_model.specs.State.{State, StandsFor}
 use Rattle.replica.specs.Level.{found_verdict}
 use Rattle.report.specs.Ready.{says_end}
-use Rattle.report.specs.Parts.{figures_in, head_text, lists_in, totals_in, vertices_text}
+use Rattle.report.specs.Parts.{head_text, lines_between, totals_in}
 use Rattle.report.proofs.ReadyLemmas.{AreReady, are_ready-facts}
 use Rattle.report.proofs.EndingLemmas.{IsEnded, is_ended}
-use Rattle.report.proofs.WholeLemmas.{AllAt, all_at, have_sizes, report_is}
+use Rattle.report.proofs.WholeLemmas.{AllAt, all_at, report_is}
 use Rattle.report.proofs.write.write_report.Goals as goal
 
 pub bounds-replicas-0 : goal.bounds-replicas-0
@@ -21,11 +21,6 @@ totals-requires g c =
     let v = c.index-replicas-0.result in
     let ready = are_ready-facts c.args.replicas.now c.requires.ready in
     λ k d lt. (ready.each k d v lt).superstep ∙ ap (λ (w : State). w.superstep) (sym c.index-replicas-0.is) ∙ sym c.superstep-end.ensures.value
-
-pub put_vertices-requires : goal.put_vertices-requires
-put_vertices-requires g c =
-    have_sizes c.args.graph.now.graph.vertices c.args.replicas.now c.index-replicas-0.result (lists_in c.deref-3.result.now) (are_ready-facts c.args.replicas.now c.requires.ready)
-    (ap lists_in c.deref-3.ensures.value ∙ c.in_ok-parts.ensures.value) c.in_ok-parts.ensures.sizes c.requires.graph
 
 pub returns-clause-ok : goal.returns-clause-ok
 returns-clause-ok g c = λ j same stands.
@@ -43,9 +38,7 @@ returns-clause-ok g c = λ j same stands.
     subst (λ b. IsEnded (mixing_of j.plan) j.graph j.plan.limit t b) (sym c.is_stable-stable.ensures.value) (is_ended j 0 t v (found_verdict v) first (c.is_stable-stable.ensures.stands j 0 t first) over) in
     let top : c.deref-2.result.now ≡ head_text (totals_in vs t) t c.is_stable-stable.result =
     c.deref-2.ensures.value ∙ c.in_ok-head.ensures ∙ ap (λ totals. head_text totals t c.is_stable-stable.result) (c.deref.ensures.value ∙ c.in_ok-totals.ensures) in
-    let rest : vertices_text labels (lists_in c.deref-3.result.now) 0 n ≡ vertices_text labels (map figures_in vs) 0 n =
-    ap (λ lists. vertices_text labels lists 0 n) (ap lists_in c.deref-3.ensures.value ∙ c.in_ok-parts.ensures.value) in
-    let text = ap₂ (λ (a b : List ℕ). a ++ b) top rest ∙ report_is j vs v labels t n c.is_stable-stable.result ready.some all ended (sym (ap (λ (h : Graph). h.vertices) same)) in
+    let text = ap (λ (a : List ℕ). a ++ lines_between labels vs 0 n) top ∙ report_is j vs v labels t n c.is_stable-stable.result ready.some all ended (sym (ap (λ (h : Graph). h.vertices) same)) in
     on_ok_weaker c.put_vertices.result
     (λ h. subst (λ (line : List ℕ). Appends (g.W.Write.contents c.args.writer.now) (g.W.Write.contents c.put_vertices.new.writer) line) text (Appends-trans _ _ _ _ _ c.in_ok-put.ensures.done h))
     c.put_vertices.ensures.done

@@ -1,4 +1,5 @@
 use Rattle.std.proofs.Common.{◌∙◌, ap, arith, sym}
+use Rattle.std.specs.Arc.{arc_value}
 use Rattle.ball_model.specs.Input.{Network}
 use Rattle.ball_model.specs.Graph.{is_counted}
 use Rattle.edgelist.proofs.LinksLemmas.{counted-by-mark}
@@ -8,5 +9,5 @@ pub returns : goal.returns
 returns c =
     let count = ap (λ (net : Network). net.graph.vertices) c.self.view_is in
     c.is_marked.ensures
-    ∙ rw c.deref.ensures.value (sym (counted-by-mark c.self.inside.lists c.self.inside.marks.items c.args.v (omega (arith, count))))
+    ∙ rw c.deref.ensures.value (sym (counted-by-mark (arc_value c.self.inside.lists) c.self.inside.marks.items c.args.v (omega (arith, count))))
     ∙ ap (λ (net : Network). is_counted net.graph c.args.v) c.self.view_is

@@ -11,7 +11,7 @@ returns-then-not-has_form-clause-stops c = stops-form _ _ _ _ _ (omega arith) (s
 
 pub returns-in-None-clause-adds : goal.returns-in-None-clause-adds
 returns-in-None-clause-adds c = answer-one _ _ _ _ _ _ _ _ _ (omega arith) (sym c.has_form.ensures ∙ search c.if-not-has_form.false)
-    (one-field _ _ (rw c.in-Some.is at c.get.ensures.value) (rw c.in-None.is at c.get-2.ensures.value)) c.add_vertex.ensures.labels c.add_vertex.ensures.pairs c.add_vertex.ensures.few
+    (one-field _ _ (rw c.in-Some.is at c.get.ensures.value) (rw c.in-None.is at c.get-2.ensures.value)) c.add_vertex.ensures.labels c.add_vertex.ensures.edges c.add_vertex.ensures.few
 
 pub returns-in-None-clause-stops : goal.returns-in-None-clause-stops
 returns-in-None-clause-stops c = stop-one _ _ _ _ _ _ _ (omega arith) (sym c.has_form.ensures ∙ search c.if-not-has_form.false)

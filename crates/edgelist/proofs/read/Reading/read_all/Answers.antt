@@ -7,15 +7,15 @@ use Rattle.edgelist.proofs.read.Reading.read_all.Goals as goal
 pub loop-number-init : goal.loop-number-init
 loop-number-init g c = record {
   in_range = omega arith;
-  within = rw (c.requires.labels, c.requires.pairs) (record { below = tt; few_labels = omega arith; few_pairs = omega arith });
-  goes = λ d text at. rw (c.requires.labels, c.requires.pairs) (goes-start g.R.Read.remaining d (limits_of c.args.limits) text c.args.reader.now at);
+  within = rw (c.requires.labels, c.requires.edges) (record { below = tt; few_labels = omega arith; few_edges = omega arith });
+  goes = λ d text at. rw (c.requires.labels, c.requires.edges) (goes-start g.R.Read.remaining d (limits_of c.args.limits) text c.args.reader.now at);
 }
 
 pub returns-then-not-more-clause-ok : goal.returns-then-not-more-clause-ok
 returns-then-not-more-clause-ok g c = λ d text at.
     let goes = c.loop-number.invariant.goes d text at in
     let none : c.in_ok-more.more ≡ false = search c.if-not-more.true in
-    goes-end g.R.Read.remaining d (limits_of c.args.limits) c.loop-number.number text c.loop-number.reader c.loop-number.self.labels c.loop-number.self.pairs.items
+    goes-end g.R.Read.remaining d (limits_of c.args.limits) c.loop-number.number text c.loop-number.reader c.loop-number.self.labels c.loop-number.self.edges.items
     goes (c.in_ok-more.ensures.end none d text goes.past goes.at)
 
 pub returns-in-Err-clause-refused : goal.returns-in-Err-clause-refused
@@ -23,7 +23,7 @@ returns-in-Err-clause-refused g c = λ d text at.
     let goes = c.loop-number.invariant.goes d text at in
     let more : c.in_ok-more.more ≡ true = search c.if-not-more.false in
     goes-stop g.R.Read.remaining d (limits_of c.args.limits) c.loop-number.number text c.loop-number.reader c.next_record.new.reader
-    c.loop-number.self.labels c.loop-number.self.pairs.items (fields_of c.next_record.new.row) c.in-Err.e
+    c.loop-number.self.labels c.loop-number.self.edges.items (fields_of c.next_record.new.row) c.in-Err.e
     goes (c.in_ok-more.ensures.one more d text goes.past goes.at) (rw c.in-Err.is at c.add.ensures.stops)
 
 pub loop-number-preserved : goal.loop-number-preserved
@@ -37,6 +37,6 @@ loop-number-preserved g c =
           let goes = c.loop-number.invariant.goes d text at in
           let more : c.in_ok-more.more ≡ true = search c.if-not-more.false in
           goes-more g.R.Read.remaining d (limits_of c.args.limits) c.loop-number.number text c.loop-number.reader c.next_record.new.reader
-          c.loop-number.self.labels c.add.new.self.labels c.loop-number.self.pairs.items c.add.new.self.pairs.items (fields_of c.next_record.new.row)
+          c.loop-number.self.labels c.add.new.self.labels c.loop-number.self.edges.items c.add.new.self.edges.items (fields_of c.next_record.new.row)
           goes (c.in_ok-more.ensures.one more d text goes.past goes.at) adds;
     }

@@ -1,0 +1,40 @@
+use Rattle.std.proofs.Common.{◌∙◌, ◌<◌, ◌/◌, ℕ, List, length, ap, sym, arith, subst}
+use Rattle.std.specs.Io.KnownBytes.{Appends}
+use Rattle.std.proofs.lemmas.Result.{on_ok_weaker}
+use Rattle.ball_model.specs.State.{State}
+use Rattle.report.specs.Parts.{lists_in}
+use Rattle.report.proofs.ReadyLemmas.{AreReady, are_ready-facts}
+use Rattle.report.proofs.BlockLemmas.{a_replica, block_lines, has_place, places_from, places_to}
+use Rattle.report.proofs.WholeLemmas.{have_sizes}
+use Rattle.report.proofs.write.put_block.Goals as goal
+
+-- there is a replica
+pub nonzero_div-first : goal.nonzero_div-first
+nonzero_div-first g c = omega (arith, (are_ready-facts c.args.replicas.now c.requires.ready).some)
+
+pub div_ceil-requires : goal.div_ceil-requires
+div_ceil-requires g c = omega (arith, (are_ready-facts c.args.replicas.now c.requires.ready).some)
+
+-- the vertices have their places among the figures that were made
+pub put_lines-requires-clause-places : goal.put_lines-requires-clause-places
+put_lines-requires-clause-places g c = λ x low high.
+    let vs = c.args.replicas.now in
+    let n : ℕ = c.args.graph.now.graph.vertices in
+    let ready : AreReady vs = are_ready-facts vs c.requires.ready in
+    let d : State = a_replica vs ready.some in
+    has_place n (c.args.from / length vs) c.div_ceil.result x vs d (lists_in c.deref.result.now) (ap lists_in c.deref.ensures.value ∙ c.in_ok-parts.ensures.value)
+    (have_sizes n vs d ready c.in_ok-parts.ensures.sizes c.requires.graph) ready.some (omega arith)
+    (places_from (length vs) c.args.from x ready.some low)
+    (subst (λ last. x / length vs < last) (sym c.div_ceil.ensures) (places_to (length vs) c.args.to x ready.some high))
+
+pub returns-clause-done : goal.returns-clause-done
+returns-clause-done g c =
+    let vs = c.args.replicas.now in
+    let ready : AreReady vs = are_ready-facts vs c.requires.ready in
+    let lines = block_lines c.args.graph.now.labels (c.args.from / length vs) c.div_ceil.result c.args.from c.args.to vs (a_replica vs ready.some) (lists_in c.deref.result.now)
+    (ap lists_in c.deref.ensures.value ∙ c.in_ok-parts.ensures.value) ready.some c.requires.from
+    (λ x low. places_from (length vs) c.args.from x ready.some low)
+    (λ x high. subst (λ last. x / length vs < last) (sym c.div_ceil.ensures) (places_to (length vs) c.args.to x ready.some high)) in
+    on_ok_weaker c.put_lines.result
+    (λ h. subst (λ (text : List ℕ). Appends (g.W.Write.contents c.args.writer.now) (g.W.Write.contents c.put_lines.new.writer) text) lines h)
+    c.put_lines.ensures.done
