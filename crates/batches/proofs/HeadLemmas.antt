@@ -118,7 +118,8 @@ unfolding head_at
 job_len bytes long = omega (arith, length-take 32 (drop 14 bytes), length-drop 14 bytes)
 
 -- the fields appended one after another
-pub fields_are : (h : Header) (o0 o1 o2 o3 o4 o5 o6 o7 o8 o9 : List ℕ) → o1 ≡ o0 ++ to_be_bytes w32 h.magic → o2 ≡ o1 ++ h.version ∷ [] → o3 ≡ o2 ++ h.log2m ∷ [] → o4 ≡ o3 ++ to_be_bytes w32 h.name.superstep
-    → o5 ≡ o4 ++ to_be_bytes w16 h.name.source → o6 ≡ o5 ++ to_be_bytes w16 h.name.target → o7 ≡ o6 ++ h.job → o8 ≡ o7 ++ to_be_bytes w32 h.changed → o9 ≡ o8 ++ to_be_bytes w32 h.count → o9 ≡ o0 ++ head_bytes h
+pub fields_are : (h : Header) (o0 o1 o2 o3 o4 o5 : List ℕ) → o1 ≡ o0 ++ to_be_bytes w32 h.magic ++ h.version ∷ h.log2m ∷ []
+    → o2 ≡ o1 ++ to_be_bytes w32 h.name.superstep ++ to_be_bytes w16 h.name.source ++ to_be_bytes w16 h.name.target
+    → o3 ≡ o2 ++ h.job → o4 ≡ o3 ++ to_be_bytes w32 h.changed → o5 ≡ o4 ++ to_be_bytes w32 h.count → o5 ≡ o0 ++ head_bytes h
 unfolding head_bytes
-fields_are h o0 o1 o2 o3 o4 o5 o6 o7 o8 o9 e1 e2 e3 e4 e5 e6 e7 e8 e9 = rw (e9, e8, e7, e6, e5, e4, e3, e2, e1) (simp append_assoc refl)
+fields_are h o0 o1 o2 o3 o4 o5 e1 e2 e3 e4 e5 = rw (e5, e4, e3, e2, e1) (simp append_assoc refl)

@@ -155,9 +155,17 @@ impl Batch {
     pub fn encode(&self, alloc: Global) -> Result<Vec<u8>, AllocError>
         ensures { IfOk result (λ v. v.items ≡ batch_bytes self.now) }
     {
-        let width = self.plan.width();
-        let count = self.count();
-        let mut out = Vec::with_capacity(alloc, HEADER_LEN + count as usize * (ID_LEN + width))?;
+        let size = HEADER_LEN + self.count() as usize * (ID_LEN + self.plan.width());
+        let mut out = Vec::with_capacity(alloc, size)?;
+        self.put(&mut out)?;
+        Ok(out)
+    }
+
+    // Appends the bytes of the batch.
+    fn put(&self, out: &mut Vec<u8>) -> Result<(), AllocError>
+        requires { out.old.items ≡ [] }
+        ensures { OnOk result (out.new.items ≡ batch_bytes self.now) }
+    {
         let header = Header {
             magic: MAGIC,
             version: VERSION,
@@ -165,11 +173,11 @@ impl Batch {
             name: self.name,
             job: self.plan.job(),
             changed: self.changed,
-            count,
+            count: self.count(),
         };
-        put_header(&mut out, &header)?;
-        put_rows(&mut out, width, &self.ids, &self.registers)?;
-        Ok(out)
+        put_header(out, &header)?;
+        put_rows(out, self.plan.width(), &self.ids, &self.registers)?;
+        Ok(())
     }
 
     /// The batch that the bytes spell under a plan, whose job digest is that of the bytes, or the first check that

@@ -1,6 +1,6 @@
 //! The fixed fields of a batch's bytes.
 
-ghost use Rattle.std.specs.Prelude.{◌≡◌, ◌+◌, ◌-◌, ◌/◌, ◌≤◌, ◌<◌, ◌++◌, length, take, drop, OnOk};
+ghost use Rattle.std.specs.Prelude.{◌≡◌, ◌+◌, ◌-◌, ◌/◌, ◌≤◌, ◌<◌, ◌++◌, ◌∷◌, [], length, take, drop, OnOk};
 ghost use Rattle.std.specs.Int.{w16, w32, to_be_bytes};
 ghost use Rattle.batches.specs.Kept.{field};
 ghost use Rattle.batches.specs.Reading.{head_at, head_bytes, check_head};
@@ -120,17 +120,35 @@ fn put_u16(out: &mut Vec<u8>, number: u16) -> Result<(), AllocError>
     out.extend_from_slice(&field)
 }
 
+// Appends the magic number, the version and the logarithm of the number of registers.
+fn put_form(out: &mut Vec<u8>, header: &Header) -> Result<(), AllocError>
+    ensures { OnOk result (out.new.items ≡ out.old.items
+        ++ to_be_bytes w32 header.now.magic ++ header.now.version ∷ header.now.log2m ∷ []) }
+{
+    put_u32(out, header.magic)?;
+    out.push(header.version)?;
+    out.push(header.log2m)?;
+    Ok(())
+}
+
+// Appends a name.
+fn put_name(out: &mut Vec<u8>, name: BatchName) -> Result<(), AllocError>
+    ensures { OnOk result (out.new.items ≡ out.old.items ++ to_be_bytes w32 name.superstep
+        ++ to_be_bytes w16 name.source ++ to_be_bytes w16 name.target) }
+{
+    put_u32(out, name.superstep)?;
+    put_u16(out, name.source)?;
+    put_u16(out, name.target)?;
+    Ok(())
+}
+
 /// Appends the fixed fields.
 #[tactic(auto, unfolding(crate::specs::Reading::head_bytes))]
 pub fn put_header(out: &mut Vec<u8>, header: &Header) -> Result<(), AllocError>
     ensures { OnOk result (out.new.items ≡ out.old.items ++ head_bytes header.now) }
 {
-    put_u32(out, header.magic)?;
-    out.push(header.version)?;
-    out.push(header.log2m)?;
-    put_u32(out, header.name.superstep)?;
-    put_u16(out, header.name.source)?;
-    put_u16(out, header.name.target)?;
+    put_form(out, header)?;
+    put_name(out, header.name)?;
     out.extend_from_slice(&header.job)?;
     put_u32(out, header.changed)?;
     put_u32(out, header.count)?;

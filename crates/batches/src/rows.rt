@@ -118,6 +118,32 @@ pub fn push_row(
     Ok(())
 }
 
+// Reads rows of `width` registers behind none: their vertices and their registers.
+fn read_each(
+    ids: &mut Vec<u32>,
+    registers: &mut Vec<u8>,
+    width: usize,
+    count: u32,
+    body: &[u8],
+) -> Result<(), AllocError>
+    requires whole { length body.now ≡ count * (4 + width) }
+    requires no_ids { ids.old.items ≡ [] }
+    requires no_registers { registers.old.items ≡ [] }
+    ensures rows { OnOk result
+        (rows_of width ids.new.items registers.new.items ≡ rows_at width count body.now) }
+    ensures room { OnOk result
+        (length registers.new.items ≡ length ids.new.items * width) }
+{
+    let mut rest = body;
+    for _ in 0..count {
+        let (id, from_row) = rest.split_at(ID_LEN);
+        let (row, after) = from_row.split_at(width);
+        push_row(ids, registers, u32_at(id, 0), row)?;
+        rest = after;
+    }
+    Ok(())
+}
+
 /// Reads rows of `width` registers: their vertices and their registers.
 pub fn read_rows(
     alloc: Global,
@@ -133,13 +159,7 @@ pub fn read_rows(
 {
     let mut ids = Vec::with_capacity(alloc, count as usize)?;
     let mut registers = Vec::with_capacity(alloc, count as usize * width)?;
-    let mut rest = body;
-    for _ in 0..count {
-        let (id, from_row) = rest.split_at(ID_LEN);
-        let (row, after) = from_row.split_at(width);
-        push_row(&mut ids, &mut registers, u32_at(id, 0), row)?;
-        rest = after;
-    }
+    read_each(&mut ids, &mut registers, width, count, body)?;
     Ok((ids, registers))
 }
 

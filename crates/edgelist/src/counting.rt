@@ -115,10 +115,7 @@ fn mark_all<R: Read + Drop>(
         if !more {
             return Ok(());
         }
-        match mark(marks, index, row, number) {
-            Ok(()) => {}
-            Err(e) => return Err(e),
-        }
+        mark(marks, index, row, number)?;
     }
     Err(CountedError::Memory)
 }

@@ -46,7 +46,10 @@ impl Model for Graph {
 
     ghost Value = { Network };
 
-    ghost view = { λ g. record { graph = graph_of (arc_value g.lists) g.marks.items; labels = g.labels } };
+    ghost view = { λ g. record {
+      graph = graph_of (arc_value g.lists) g.marks.items;
+      labels = g.labels;
+    } };
 
     ghost invariant = { λ g. AreLinks g.labels (arc_value g.lists) g.marks.items g.number };
 }
@@ -112,7 +115,8 @@ impl Graph {
 
     /// The lists of predecessors of all vertices, which are shared.
     pub(crate) fn shared_lists(&self) -> Result<Arc<Lists>, AllocError>
-        ensures { IfOk result (λ lists. arc_value lists ≡ map (λ x. preds_of self.now.graph x) (vertices_of self.now.graph.vertices 1 0)) }
+        ensures { IfOk result (λ lists. arc_value lists ≡ map
+            (λ x. preds_of self.now.graph x) (vertices_of self.now.graph.vertices 1 0)) }
     {
         let lists = Arc::try_clone(&self.lists)?;
         Ok(lists)
@@ -148,10 +152,7 @@ impl Graph {
         ensures labels { self.new.labels ≡ self.old.labels }
         ensures kept { OnErr result (self.new ≡ self.old) }
     {
-        let marks = match marks_of(alloc, &self.labels, delimiter, list) {
-            Ok(marks) => marks,
-            Err(e) => return Err(e),
-        };
+        let marks = marks_of(alloc, &self.labels, delimiter, list)?;
         self.number = count_marks(&marks);
         self.marks = marks;
         Ok(())

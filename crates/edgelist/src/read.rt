@@ -216,10 +216,7 @@ impl Reading {
             if !more {
                 return Ok(());
             }
-            match self.add(alloc, row, number, limits) {
-                Ok(()) => {}
-                Err(e) => return Err(e),
-            }
+            self.add(alloc, row, number, limits)?;
         }
         Err(EdgeError::TooManyEdges)
     }

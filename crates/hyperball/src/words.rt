@@ -2,7 +2,7 @@
 
 ghost use Rattle.std.specs.Prelude.{◌≡◌, IfOk, List, MatchOption, false, true, option_map};
 ghost use Rattle.clap.specs.Words.{App, FailsBy, fault_of, found_of, has_subcommand, rows_of};
-ghost use Rattle.clap.specs.Words.{rule_of, subcommand_of, subcommand_rows_of};
+ghost use Rattle.clap.specs.Words.{rule_of, subcommand_of, subcommand_rows_of, with_rule};
 ghost use Rattle.clap.specs.declared.error.kind.ErrorKind.{ErrorKind as Kind};
 ghost use Rattle.clap.specs.declared.builder.value_parser.ValueParser.{ValueParser as Parser};
 ghost use Rattle.hyperball.specs.CommandLine.{IsApp, TakesNames, delimiter_names, hyperball_app};
@@ -119,18 +119,28 @@ fn delimiters<'a>() -> ValueParser<'a>
     ValueParser::Names(DELIMITERS.as_slice())
 }
 
+// Adds an option that takes a value.
+fn add_option<'a>(
+    alloc: Global,
+    command: Command<'a>,
+    name: &'a str,
+    help: &'a str,
+    parser: ValueParser<'a>,
+) -> Result<Command<'a>, AllocError>
+    ensures { (app : App) → IsApp app command.entry →
+        IfOk result (IsApp (with_rule app (option_rule name.entry.now parser.entry))) }
+{
+    command.arg(option(alloc, name, help, parser))
+}
+
 // Adds the options of a plan.
 fn add_numbers<'a>(alloc: Global, command: Command<'a>) -> Result<Command<'a>, AllocError>
     ensures { (app : App) → IsApp app command.entry → IfOk result (IsApp (with_numbers app)) }
 {
-    let log2m = option(alloc, "log2m", LOG2M_HELP, value_parser!(u8));
-    let command = command.arg(log2m)?;
-    let seed = option(alloc, "seed", SEED_HELP, value_parser!(u64));
-    let command = command.arg(seed)?;
-    let parts = option(alloc, "parts", PARTS_HELP, value_parser!(u16));
-    let command = command.arg(parts)?;
-    let limit = option(alloc, "limit", LIMIT_HELP, value_parser!(u32));
-    command.arg(limit)
+    let command = add_option(alloc, command, "log2m", LOG2M_HELP, value_parser!(u8))?;
+    let command = add_option(alloc, command, "seed", SEED_HELP, value_parser!(u64))?;
+    let command = add_option(alloc, command, "parts", PARTS_HELP, value_parser!(u16))?;
+    add_option(alloc, command, "limit", LIMIT_HELP, value_parser!(u32))
 }
 
 // Adds the options of an input, with a parser of delimiters.
@@ -142,8 +152,7 @@ fn add_input<'a>(
     ensures { (app : App) → IsApp app command.entry →
         IfOk result (IsApp (with_input delimiters.entry app)) }
 {
-    let delimiter = option(alloc, "delimiter", DELIMITER_HELP, delimiters);
-    let command = command.arg(delimiter)?;
+    let command = add_option(alloc, command, "delimiter", DELIMITER_HELP, delimiters)?;
     command.arg(flag(alloc, "counted", COUNTED_HELP))
 }
 

@@ -37,10 +37,21 @@ pub fn hear(
     requires count { length touched.old ≡ length accumulated.old.rows }
     requires rows { AreCounters batch.now.plan.log2m accumulated.old.rows }
     ensures width { accumulated.new.width ≡ accumulated.old.width }
-    ensures hears { Hears batch.now.plan.log2m targets.now (told_by batch.now.name.source (Some batch.now))
-        (record { heard = heard.old; change = heard_change.old; accumulated = accumulated.old.rows })
-        (record { heard = heard.new; change = heard_change.new; accumulated = accumulated.new.rows }) }
-    ensures touched { (rows : List (List ℕ)) → AreTouched rows accumulated.old.rows touched.old → AreTouched rows accumulated.new.rows touched.new }
+    ensures hears { Hears batch.now.plan.log2m targets.now
+        (told_by batch.now.name.source (Some batch.now))
+        (record {
+          heard = heard.old;
+          change = heard_change.old;
+          accumulated = accumulated.old.rows;
+        })
+        (record {
+          heard = heard.new;
+          change = heard_change.new;
+          accumulated = accumulated.new.rows;
+        }) }
+    ensures touched { (rows : List (List ℕ)) →
+        AreTouched rows accumulated.old.rows touched.old →
+        AreTouched rows accumulated.new.rows touched.new }
 {
     spread_batch(targets, batch, accumulated, touched);
     heard.insert(batch.name().source);
@@ -65,10 +76,21 @@ fn hear_if(
     requires rows { AreCounters plan.now.log2m accumulated.old.rows }
     requires batch { IfSome batch (λ b. IsFrom plan.now source b.now) }
     ensures width { accumulated.new.width ≡ accumulated.old.width }
-    ensures hears { Hears plan.now.log2m targets.now (told_by source (option_map (λ b. b.now) batch.entry))
-        (record { heard = heard.old; change = heard_change.old; accumulated = accumulated.old.rows })
-        (record { heard = heard.new; change = heard_change.new; accumulated = accumulated.new.rows }) }
-    ensures touched { (rows : List (List ℕ)) → AreTouched rows accumulated.old.rows touched.old → AreTouched rows accumulated.new.rows touched.new }
+    ensures hears { Hears plan.now.log2m targets.now
+        (told_by source (option_map (λ b. b.now) batch.entry))
+        (record {
+          heard = heard.old;
+          change = heard_change.old;
+          accumulated = accumulated.old.rows;
+        })
+        (record {
+          heard = heard.new;
+          change = heard_change.new;
+          accumulated = accumulated.new.rows;
+        }) }
+    ensures touched { (rows : List (List ℕ)) →
+        AreTouched rows accumulated.old.rows touched.old →
+        AreTouched rows accumulated.new.rows touched.new }
 {
     match batch {
         Some(batch) => hear(targets, batch, heard, heard_change, accumulated, touched),
@@ -94,10 +116,21 @@ pub fn hear_early(
     requires table { IsTable plan.now.parts early.now }
     requires batches { (q : ℕ) → IfSome (early_at early.now 0 q) (IsFrom plan.now q) }
     ensures width { accumulated.new.width ≡ accumulated.old.width }
-    ensures hears { Hears plan.now.log2m targets.now (λ q. early_at early.now 0 q)
-        (record { heard = heard.old; change = heard_change.old; accumulated = accumulated.old.rows })
-        (record { heard = heard.new; change = heard_change.new; accumulated = accumulated.new.rows }) }
-    ensures touched { (rows : List (List ℕ)) → AreTouched rows accumulated.old.rows touched.old → AreTouched rows accumulated.new.rows touched.new }
+    ensures hears { Hears plan.now.log2m targets.now
+        (λ q. early_at early.now 0 q)
+        (record {
+          heard = heard.old;
+          change = heard_change.old;
+          accumulated = accumulated.old.rows;
+        })
+        (record {
+          heard = heard.new;
+          change = heard_change.new;
+          accumulated = accumulated.new.rows;
+        }) }
+    ensures touched { (rows : List (List ℕ)) →
+        AreTouched rows accumulated.old.rows touched.old →
+        AreTouched rows accumulated.new.rows touched.new }
 {
     for source in 0..plan.parts() {
         let batch = early.get(0, source);
@@ -130,9 +163,13 @@ fn catch_up_row(rows: &mut Rows, accumulated: &Rows, i: usize, changed: bool)
     requires width { rows.old.width ≡ accumulated.now.width }
     requires count { length rows.old.rows ≡ length accumulated.now.rows }
     requires row { i < length rows.old.rows }
-    requires above { max_each (slice_index_or rows.old.rows i []) (slice_index_or accumulated.now.rows i []) ≡ slice_index_or accumulated.now.rows i [] }
-    requires differs { changed ≡ not (bytes_eq (slice_index_or accumulated.now.rows i []) (slice_index_or rows.old.rows i [])) }
-    ensures { rows.new ≡ record rows.old { rows = slice_set rows.old.rows i (slice_index_or accumulated.now.rows i []) } }
+    requires above { max_each (slice_index_or rows.old.rows i [])
+        (slice_index_or accumulated.now.rows i []) ≡ slice_index_or accumulated.now.rows i [] }
+    requires differs { changed ≡ not (bytes_eq
+        (slice_index_or accumulated.now.rows i []) (slice_index_or rows.old.rows i [])) }
+    ensures { rows.new ≡ record rows.old {
+      rows = slice_set rows.old.rows i (slice_index_or accumulated.now.rows i []);
+    } }
 {
     if changed {
         let _raised = rows.raise(i, accumulated.row(i));
@@ -168,8 +205,10 @@ pub fn step_tallies(log2m: u8, t: u32, rows: &Rows, marks: &[bool], tallies: &mu
     requires marks { length marks.now ≡ length rows.now.rows }
     requires count { length tallies.old ≡ length rows.now.rows }
     requires lasts { AreLasts log2m rows.now.rows marks.now (map value_of tallies.old) }
-    ensures tallies { map value_of tallies.new ≡ stepped_all log2m t rows.now.rows (map value_of tallies.old) (length rows.now.rows) }
-    ensures gain { sum_by (λ tally. tally.last) tallies.new ≡ sum_by (λ tally. tally.last) tallies.old + result }
+    ensures tallies { map value_of tallies.new ≡ stepped_all log2m t rows.now.rows
+        (map value_of tallies.old) (length rows.now.rows) }
+    ensures gain { sum_by (λ tally. tally.last) tallies.new ≡
+        sum_by (λ tally. tally.last) tallies.old + result }
 {
     let mut gain = 0;
     for (i, tally) in tallies.iter_mut().enumerate() {
@@ -186,7 +225,8 @@ fn step_tally(log2m: u8, t: u32, row: &[u8], changed: bool, tally: &mut Tally) -
     requires row { IsCounterRow log2m row.now }
     requires grown { tally.old.last ≤ estimate_of log2m row.now }
     requires same { changed ≡ false → tally.old.last ≡ estimate_of log2m row.now }
-    ensures value { value_of tally.new ≡ stepped t (value_of tally.old) (estimate_of log2m row.now) }
+    ensures value { value_of tally.new ≡
+        stepped t (value_of tally.old) (estimate_of log2m row.now) }
     ensures gain { tally.new.last ≡ tally.old.last + result }
     ensures small { result < 2 ^ 64 }
 {

@@ -29,8 +29,10 @@ pub fn spread_row(
       rows = spread (slice_index_or targets.now z []) registers.now accumulated.old.rows;
     } }
     ensures marks { MarksChanges touched.old accumulated.old.rows accumulated.new.rows touched.new }
-    ensures touched { StayTouched accumulated.old.rows touched.old accumulated.new.rows touched.new }
-    ensures stands { RowIsHeard targets.now z registers.now accumulated.old.rows accumulated.new.rows }
+    ensures touched { StayTouched accumulated.old.rows touched.old
+        accumulated.new.rows touched.new }
+    ensures stands { RowIsHeard targets.now z registers.now
+        accumulated.old.rows accumulated.new.rows }
 {
     raise_places(targets.places(z), registers, accumulated, touched);
 }
@@ -46,7 +48,8 @@ pub fn spread_batch(targets: &Targets, batch: &Batch, accumulated: &mut Rows, to
     ensures rows { accumulated.new ≡ record accumulated.old {
       rows = spread_each targets.now batch.now.rows accumulated.old.rows;
     } }
-    ensures touched { StayTouched accumulated.old.rows touched.old accumulated.new.rows touched.new }
+    ensures touched { StayTouched accumulated.old.rows touched.old
+        accumulated.new.rows touched.new }
     ensures stands { BatchIsHeard targets.now batch.now accumulated.old.rows accumulated.new.rows }
 {
     for k in 0..batch.count() {
@@ -79,10 +82,13 @@ pub fn spread_own(
     requires inside { LeadInside (length accumulated.old.rows) targets.now }
     requires touched { length touched.old ≡ length accumulated.old.rows }
     ensures rows { accumulated.new ≡ record accumulated.old {
-      rows = spread_each targets.now (own_rows part.now rows.now.rows marks.now) accumulated.old.rows;
+      rows = spread_each targets.now (own_rows part.now rows.now.rows marks.now)
+          accumulated.old.rows;
     } }
-    ensures touched { StayTouched accumulated.old.rows touched.old accumulated.new.rows touched.new }
-    ensures stands { OwnIsHeard targets.now part.now rows.now.rows marks.now accumulated.old.rows accumulated.new.rows }
+    ensures touched { StayTouched accumulated.old.rows touched.old
+        accumulated.new.rows touched.new }
+    ensures stands { OwnIsHeard targets.now part.now rows.now.rows marks.now
+        accumulated.old.rows accumulated.new.rows }
 {
     for i in 0..part.size() {
         if marks[i as usize] {

@@ -23,7 +23,8 @@ use std::sync::Arc;
 impl Snapshot {
     /// The answer to a batch.
     pub(crate) fn answer(&self, batch: &Batch) -> Result<Taken, TakeError>
-        ensures { result ≡ take_of self.now.part.plan self.now.part.number (content_of self.now) batch.now.plan batch.now.name }
+        ensures { result ≡ take_of self.now.part.plan self.now.part.number
+            (content_of self.now) batch.now.plan batch.now.name }
     {
         let name = batch.name();
         if !is_same(self.plan(), batch.plan()) {
@@ -50,7 +51,8 @@ impl Snapshot {
 
     /// Holds a batch from now on: one of the superstep is heard, a later one is kept.
     pub(crate) fn receive(&mut self, targets: &Targets, touched: &mut [bool], batch: Arc<Batch>)
-        requires new { take_of self.old.part.plan self.old.part.number (content_of self.old) (arc_value batch).plan (arc_value batch).name ≡ Ok taken.New }
+        requires new { take_of self.old.part.plan self.old.part.number (content_of self.old)
+            (arc_value batch).plan (arc_value batch).name ≡ Ok taken.New }
         requires batch { IsBatch (arc_value batch) }
         requires index { HasIndex self.old targets.now }
         requires touched { AreTouched self.old.rows self.old.accumulated touched.old }

@@ -32,7 +32,7 @@ fn total(replicas: &[Replica], i: usize) -> u128
 }
 
 // These at supersteps 0 to `end`.
-pub(crate) fn totals(alloc: Global, replicas: &[Replica], end: u32) -> Result<Vec<u128>, AllocError>
+fn totals(alloc: Global, replicas: &[Replica], end: u32) -> Result<Vec<u128>, AllocError>
     requires { All (λ v. v.superstep ≡ end) replicas.now }
     ensures { IfOk result (λ totals. totals.items ≡ totals_in replicas.now end) }
 {
@@ -67,6 +67,25 @@ fn own_figures<T: AllocGlobal + Threads + Sync>(
     )
 }
 
+// Puts these of each replica behind none.
+fn put_figures<T: AllocGlobal + Threads + Sync>(
+    rt: &T,
+    parts: &mut Vec<Vec<Figures>>,
+    replicas: &[Replica],
+    first: usize,
+    last: usize,
+) -> Result<(), AllocError>
+    requires { parts.old.items ≡ [] }
+    ensures value { OnOk result
+        (lists_in parts.new.items ≡ map (figures_among first last) replicas.now) }
+    ensures sizes { OnOk result (All HasSize replicas.now) }
+{
+    for replica in replicas {
+        parts.push(own_figures(rt, replica, first, last)?)?;
+    }
+    Ok(())
+}
+
 // These of each replica.
 pub(crate) fn figures<T: AllocGlobal + Threads + Sync>(
     rt: &T,
@@ -79,9 +98,7 @@ pub(crate) fn figures<T: AllocGlobal + Threads + Sync>(
     ensures sizes { OnOk result (All HasSize replicas.now) }
 {
     let mut parts = Vec::with_capacity(rt.alloc(), replicas.len())?;
-    for replica in replicas {
-        parts.push(own_figures(rt, replica, first, last)?)?;
-    }
+    put_figures(rt, &mut parts, replicas, first, last)?;
     Ok(parts)
 }
 
@@ -97,20 +114,44 @@ fn put_supersteps(rows: &mut Writer<Vec<u8>>, totals: &[u128]) -> Result<(), All
     Ok(())
 }
 
-// The text before the vertices.
-pub(crate) fn head(
-    alloc: Global,
+// The rows before the vertices.
+fn put_head(
+    rows: &mut Writer<Vec<u8>>,
     totals: &[u128],
     end: u32,
     stable: bool,
-) -> Result<Vec<u8>, AllocError>
+) -> Result<(), AllocError>
+    requires { AtRow rows.old }
+    ensures { OnOk result (Adds rows.old rows.new (head_text totals.now end stable)) }
+{
+    put_supersteps(rows, totals)?;
+    put_end(rows, end, stable)?;
+    put_gain(rows, gain(totals))?;
+    Ok(())
+}
+
+// The text before the vertices.
+fn head(alloc: Global, totals: &[u128], end: u32, stable: bool) -> Result<Vec<u8>, AllocError>
     ensures { IfOk result (λ text. text.items ≡ head_text totals.now end stable) }
 {
     let mut rows = rows_in(Vec::new(alloc));
-    put_supersteps(&mut rows, totals)?;
-    put_end(&mut rows, end, stable)?;
-    put_gain(&mut rows, gain(totals))?;
+    put_head(&mut rows, totals, end, stable)?;
     text_of(rows)
+}
+
+// The text before the vertices, of replicas at superstep `end`.
+pub(crate) fn head_of(
+    alloc: Global,
+    replicas: &[Replica],
+    end: u32,
+    stable: bool,
+) -> Result<Vec<u8>, AllocError>
+    requires { All (λ v. v.superstep ≡ end) replicas.now }
+    ensures { IfOk result (λ text.
+        text.items ≡ head_text (totals_in replicas.now end) end stable) }
+{
+    let totals = totals(alloc, replicas, end)?;
+    head(alloc, &totals, end, stable)
 }
 
 // The figures of vertex `x`, among those of each partition from place `first` on.

@@ -5,10 +5,11 @@ ghost use Rattle.std.specs.List.{All};
 ghost use Rattle.std.specs.Io.KnownBytes.{Appends};
 ghost use Rattle.ball_model.specs.Job.{Job};
 ghost use Rattle.ball_model.specs.Streams.{Rises};
-ghost use Rattle.report.specs.Parts.{HasPlace, lines_between, lists_in, vertices_text};
+ghost use Rattle.report.specs.Parts.{HasPlace, head_text, lines_between, lists_in};
+ghost use Rattle.report.specs.Parts.{totals_in, vertices_text};
 ghost use Rattle.report.specs.Ready.{AllStand, are_ready, job_report};
 
-use crate::parts::{figures, head, totals, vertices};
+use crate::parts::{figures, head_of, vertices};
 use crate::ready::is_stable;
 use ball_model::{CountedWrite, put_all};
 use edgelist::Graph;
@@ -59,6 +60,48 @@ fn put<W: CountedWrite>(writer: &mut W, text: &[u8]) -> Result<(), ReportError>
     }
 }
 
+// Writes the lines before the vertices, of replicas at superstep `end`.
+fn put_top<W: CountedWrite>(
+    alloc: Global,
+    writer: &mut W,
+    replicas: &[Replica],
+    end: u32,
+    stable: bool,
+) -> Result<(), ReportError>
+    requires { All (λ v. v.superstep ≡ end) replicas.now }
+    ensures done { OnOk result (Appends (W.contents writer.old) (W.contents writer.new)
+        (head_text (totals_in replicas.now end) end stable)) }
+    ensures counted { result ≢ Err ReportError.Write →
+        W.failed_calls writer.new ≡ W.failed_calls writer.old }
+    ensures write { result ≡ Err ReportError.Write →
+        Rises (W.failed_calls writer.old) (W.failed_calls writer.new) }
+{
+    put(writer, &head_of(alloc, replicas, end, stable)?)
+}
+
+// Writes the lines of the vertices from `from` on and below `to`, in one piece.
+fn put_piece<W: CountedWrite>(
+    alloc: Global,
+    writer: &mut W,
+    graph: &Graph,
+    parts: &[Vec<Figures>],
+    first: usize,
+    from: u32,
+    to: u32,
+) -> Result<(), ReportError>
+    requires places { (x : ℕ) → from ≤ x → x < to → HasPlace first (lists_in parts.now) x }
+    requires from { from ≤ to }
+    requires to { to ≤ graph.now.graph.vertices }
+    ensures done { OnOk result (Appends (W.contents writer.old) (W.contents writer.new)
+        (vertices_text graph.now.labels first (lists_in parts.now) from (to - from))) }
+    ensures counted { result ≢ Err ReportError.Write →
+        W.failed_calls writer.new ≡ W.failed_calls writer.old }
+    ensures write { result ≡ Err ReportError.Write →
+        Rises (W.failed_calls writer.old) (W.failed_calls writer.new) }
+{
+    put(writer, &vertices(alloc, graph, parts, first, from, to)?)
+}
+
 // Writes the lines of the vertices from `from` on and below `to`, of figures from place `first` on.
 fn put_lines<W: CountedWrite>(
     alloc: Global,
@@ -82,7 +125,7 @@ fn put_lines<W: CountedWrite>(
     let mut at = from;
     while at < to {
         let end = at + PIECE.min(to - at);
-        put(writer, &vertices(alloc, graph, parts, first, at, end)?)?;
+        put_piece(alloc, writer, graph, parts, first, at, end)?;
         at = end;
     }
     Ok(())
@@ -165,7 +208,6 @@ pub fn write_report<T: AllocGlobal + Threads + Sync, W: CountedWrite>(
     let first = &replicas[0];
     let end = first.superstep();
     let stable = is_stable(first);
-    let totals = totals(rt.alloc(), replicas, end)?;
-    put(writer, &head(rt.alloc(), &totals, end, stable)?)?;
+    put_top(rt.alloc(), writer, replicas, end, stable)?;
     put_vertices(rt, writer, graph, replicas)
 }

@@ -3,4 +3,4 @@ use Rattle.batches.proofs.header.put_header.Goals as goal
 
 pub returns : goal.returns
 returns c =
-    fields_are c.args.header.now c.args.out.now.items _ _ _ _ _ _ _ _ _ c.in_ok-put_u32.ensures c.in_ok-push.ensures.items c.in_ok-push-2.ensures.items c.in_ok-put_u32-2.ensures c.in_ok-put_u16.ensures c.in_ok-put_u16-2.ensures c.in_ok-extend_from_slice.ensures.items c.in_ok-put_u32-3.ensures c.in_ok-put_u32-4.ensures
+    fields_are c.args.header.now c.args.out.now.items _ _ _ _ _ c.in_ok-put_form.ensures c.in_ok-put_name.ensures c.in_ok-extend_from_slice.ensures.items c.in_ok-put_u32.ensures c.in_ok-put_u32-2.ensures

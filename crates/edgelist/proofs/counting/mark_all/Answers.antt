@@ -1,4 +1,5 @@
 use Rattle.std.proofs.Common.{◌≡◌, arith, true, false}
+use Rattle.std.proofs.lemmas.Result.{err_from_is_err_and}
 use Rattle.csv.specs.Records.{fields_of}
 use Rattle.edgelist.proofs.CountLemmas.{counts-start, counts-end, counts-more, counts-stop}
 use Rattle.edgelist.proofs.counting.mark_all.Goals as goal
@@ -16,18 +17,19 @@ returns-then-not-more-clause-ok g c = λ d text at.
     counts-end g.R.Read.remaining d c.args.index.now c.loop-number.number text c.loop-number.reader c.loop-number.marks
     counts (c.in_ok-more.ensures.end none d text counts.past counts.at)
 
-pub returns-in-Err-clause-refused : goal.returns-in-Err-clause-refused
-returns-in-Err-clause-refused g c = λ d text at.
+pub returns-in_err-mark-clause-refused : goal.returns-in_err-mark-clause-refused
+returns-in_err-mark-clause-refused g c = λ d text at.
     let counts = c.loop-number.invariant.counts d text at in
     let more : c.in_ok-more.more ≡ true = search c.if-not-more.false in
-    counts-stop g.R.Read.remaining d c.args.index.now c.loop-number.number text c.loop-number.reader c.next_record.new.reader
-    c.loop-number.marks (fields_of c.next_record.new.row) c.in-Err.e
-    counts (c.in_ok-more.ensures.one more d text counts.past counts.at) (rw c.in-Err.is at c.mark.ensures.stops)
+    let p = err_from_is_err_and c.from_residual-in_err-mark.result c.from_residual-in_err-mark.ensures.1 in
+    rw (p.1, p.2) (counts-stop g.R.Read.remaining d c.args.index.now c.loop-number.number text c.loop-number.reader c.next_record.new.reader
+    c.loop-number.marks (fields_of c.next_record.new.row) c.in_err-mark.field-0.0
+    counts (c.in_ok-more.ensures.one more d text counts.past counts.at) c.in_err-mark.ensures.stops)
 
 pub loop-number-preserved : goal.loop-number-preserved
 loop-number-preserved g c =
-    let marks = rw c.in-Ok.is at c.mark.ensures.marks in
-    let passes = rw c.in-Ok.is at c.mark.ensures.passes in
+    let marks = c.in_ok-mark.ensures.marks in
+    let passes = c.in_ok-mark.ensures.passes in
     record {
       size = omega (arith, c.mark.auto.marks, c.loop-number.invariant.size);
       counts = λ d text at.

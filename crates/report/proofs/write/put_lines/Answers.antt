@@ -13,8 +13,8 @@ loop-at-init g c = record {
 }
 
 -- the vertices of a piece are some of these
-pub vertices-requires-clause-places : goal.vertices-requires-clause-places
-vertices-requires-clause-places g c = λ x low high. c.requires.places x (omega arith) (omega arith)
+pub put_piece-requires-clause-places : goal.put_piece-requires-clause-places
+put_piece-requires-clause-places g c = λ x low high. c.requires.places x (omega arith) (omega arith)
 
 pub loop-at-preserved : goal.loop-at-preserved
 loop-at-preserved g c =
@@ -23,9 +23,9 @@ loop-at-preserved g c =
     record {
       low = omega arith;
       high = omega arith;
-      written = piece_more labels c.args.first (lists_in c.args.parts.now) c.args.from c.loop-at.at to _ _ _ c.deref.result.now c.loop-at.invariant.low (omega arith)
-          c.loop-at.invariant.written c.in_ok-put.ensures.done (c.deref.ensures.value ∙ c.in_ok-vertices.ensures);
-      counted = c.in_ok-put.ensures.counted ∙ c.loop-at.invariant.counted;
+      written = piece_more labels c.args.first (lists_in c.args.parts.now) c.args.from c.loop-at.at to _ _ _ _ c.loop-at.invariant.low (omega arith)
+          c.loop-at.invariant.written c.in_ok-put_piece.ensures.done refl;
+      counted = c.in_ok-put_piece.ensures.counted (λ e. cc) ∙ c.loop-at.invariant.counted;
     }
 
 pub returns-clause-done : goal.returns-clause-done

@@ -7,7 +7,7 @@ use Rattle.ball_model.specs.PlanValue.{mixing_of}
 use Rattle.ball_model.specs.State.{State, StandsFor}
 use Rattle.replica.specs.Level.{found_verdict}
 use Rattle.report.specs.Ready.{says_end}
-use Rattle.report.specs.Parts.{head_text, lines_between, totals_in}
+use Rattle.report.specs.Parts.{lines_between}
 use Rattle.report.proofs.ReadyLemmas.{AreReady, are_ready-facts}
 use Rattle.report.proofs.EndingLemmas.{IsEnded, is_ended}
 use Rattle.report.proofs.WholeLemmas.{AllAt, all_at, report_is}
@@ -16,8 +16,8 @@ use Rattle.report.proofs.write.write_report.Goals as goal
 pub bounds-replicas-0 : goal.bounds-replicas-0
 bounds-replicas-0 g c = (are_ready-facts c.args.replicas.now c.requires.ready).some
 
-pub totals-requires : goal.totals-requires
-totals-requires g c =
+pub put_top-requires : goal.put_top-requires
+put_top-requires g c =
     let v = c.index-replicas-0.result in
     let ready = are_ready-facts c.args.replicas.now c.requires.ready in
     λ k d lt. (ready.each k d v lt).superstep ∙ ap (λ (w : State). w.superstep) (sym c.index-replicas-0.is) ∙ sym c.superstep-end.ensures.value
@@ -36,9 +36,7 @@ returns-clause-ok g c = λ j same stands.
     let over : says_end (found_verdict v) ≡ true = ap (λ w. says_end (found_verdict w)) is ∙ (ready.each 0 v v ready.some).ended in
     let ended : IsEnded (mixing_of j.plan) j.graph j.plan.limit t c.is_stable-stable.result =
     subst (λ b. IsEnded (mixing_of j.plan) j.graph j.plan.limit t b) (sym c.is_stable-stable.ensures.value) (is_ended j 0 t v (found_verdict v) first (c.is_stable-stable.ensures.stands j 0 t first) over) in
-    let top : c.deref-2.result.now ≡ head_text (totals_in vs t) t c.is_stable-stable.result =
-    c.deref-2.ensures.value ∙ c.in_ok-head.ensures ∙ ap (λ totals. head_text totals t c.is_stable-stable.result) (c.deref.ensures.value ∙ c.in_ok-totals.ensures) in
-    let text = ap (λ (a : List ℕ). a ++ lines_between labels vs 0 n) top ∙ report_is j vs v labels t n c.is_stable-stable.result ready.some all ended (sym (ap (λ (h : Graph). h.vertices) same)) in
+    let text = report_is j vs v labels t n c.is_stable-stable.result ready.some all ended (sym (ap (λ (h : Graph). h.vertices) same)) in
     on_ok_weaker c.put_vertices.result
-    (λ h. subst (λ (line : List ℕ). Appends (g.W.Write.contents c.args.writer.now) (g.W.Write.contents c.put_vertices.new.writer) line) text (Appends-trans _ _ _ _ _ c.in_ok-put.ensures.done h))
+    (λ h. subst (λ (line : List ℕ). Appends (g.W.Write.contents c.args.writer.now) (g.W.Write.contents c.put_vertices.new.writer) line) text (Appends-trans _ _ _ _ _ c.in_ok-put_top.ensures.done h))
     c.put_vertices.ensures.done

@@ -1,4 +1,5 @@
 use Rattle.std.proofs.Common.{◌≡◌, arith, true, false}
+use Rattle.std.proofs.lemmas.Result.{err_from_is_err_and}
 use Rattle.csv.specs.Records.{fields_of}
 use Rattle.edgelist.specs.Reading.{limits_of}
 use Rattle.edgelist.proofs.LoopLemmas.{goes-start, goes-end, goes-more, goes-stop}
@@ -18,18 +19,19 @@ returns-then-not-more-clause-ok g c = λ d text at.
     goes-end g.R.Read.remaining d (limits_of c.args.limits) c.loop-number.number text c.loop-number.reader c.loop-number.self.labels c.loop-number.self.edges.items
     goes (c.in_ok-more.ensures.end none d text goes.past goes.at)
 
-pub returns-in-Err-clause-refused : goal.returns-in-Err-clause-refused
-returns-in-Err-clause-refused g c = λ d text at.
+pub returns-in_err-add-clause-refused : goal.returns-in_err-add-clause-refused
+returns-in_err-add-clause-refused g c = λ d text at.
     let goes = c.loop-number.invariant.goes d text at in
     let more : c.in_ok-more.more ≡ true = search c.if-not-more.false in
-    goes-stop g.R.Read.remaining d (limits_of c.args.limits) c.loop-number.number text c.loop-number.reader c.next_record.new.reader
-    c.loop-number.self.labels c.loop-number.self.edges.items (fields_of c.next_record.new.row) c.in-Err.e
-    goes (c.in_ok-more.ensures.one more d text goes.past goes.at) (rw c.in-Err.is at c.add.ensures.stops)
+    let p = err_from_is_err_and c.from_residual-in_err-add.result c.from_residual-in_err-add.ensures.1 in
+    rw (p.1, p.2) (goes-stop g.R.Read.remaining d (limits_of c.args.limits) c.loop-number.number text c.loop-number.reader c.next_record.new.reader
+    c.loop-number.self.labels c.loop-number.self.edges.items (fields_of c.next_record.new.row) c.in_err-add.field-0.0
+    goes (c.in_ok-more.ensures.one more d text goes.past goes.at) c.in_err-add.ensures.stops)
 
 pub loop-number-preserved : goal.loop-number-preserved
 loop-number-preserved g c =
-    let few = rw c.in-Ok.is at c.add.ensures.fewer in
-    let adds = rw c.in-Ok.is at c.add.ensures.adds in
+    let few = c.in_ok-add.ensures.fewer in
+    let adds = c.in_ok-add.ensures.adds in
     record {
       in_range = omega arith;
       within = adds.within c.loop-number.invariant.within;

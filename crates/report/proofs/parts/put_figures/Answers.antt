@@ -5,7 +5,7 @@ use Rattle.std.proofs.lemmas.List.{get_or_default, map-append, take_all, take_mo
 use Rattle.figures.specs.declared.ends.Figures.{Figures}
 use Rattle.ball_model.specs.State.{State}
 use Rattle.report.specs.Parts.{HasSize, figures_among, lists_in}
-use Rattle.report.proofs.parts.figures.Goals as goal
+use Rattle.report.proofs.parts.put_figures.Goals as goal
 
 -- one partition more
 figures_more : (first last : ℕ) (parts more : List (Vec Figures Global)) (own : Vec Figures Global) (vs : List State) (k : ℕ) (v : State) → k < length vs → v ≡ get_or vs k v →

@@ -1,11 +1,11 @@
 use Rattle.std.proofs.Common.{arith}
 use Rattle.batches.proofs.LoopLemmas.{read_next, read_done, read_none, read_whole}
-use Rattle.batches.proofs.rows.read_rows.Goals as goal
+use Rattle.batches.proofs.rows.read_each.Goals as goal
 
 pub loop-init : goal.loop-init
 loop-init c = record {
-  so_far = read_none c.args.width c.args.count c.in_ok-ids.ids.items c.in_ok-registers.registers.items c.args.body.now c.in_ok-ids.ensures.items;
-  room = rw (c.in_ok-ids.ensures.items, c.in_ok-registers.ensures.items) (omega arith);
+  so_far = read_none c.args.width c.args.count c.args.ids.now.items c.args.registers.now.items c.args.body.now c.requires.no_ids;
+  room = rw (c.requires.no_ids, c.requires.no_registers) (omega arith);
   whole = read_whole c.args.width c.args.count c.args.body.now c.requires.whole;
 }
 

@@ -1,6 +1,6 @@
 use Rattle.std.proofs.Common.{◌≡◌, ◌+◌, ◌-◌, ◌*◌, ◌++◌, length}
 use Rattle.batches.specs.Kept.{rows_at, rows_of}
-use Rattle.batches.proofs.rows.read_rows.Given as goal
+use Rattle.batches.proofs.rows.read_each.Given as goal
 
 abbrev pub invariant-loop : goal.invariant-loop
 invariant-loop l = record {

@@ -1,7 +1,7 @@
 use Rattle.std.proofs.Common.{◌≡◌, ◌<◌, ℕ, map, get_or, take}
 use Rattle.ball_model.specs.State.{State}
 use Rattle.report.specs.Parts.{HasSize, figures_among, lists_in}
-use Rattle.report.proofs.parts.figures.Given as goal
+use Rattle.report.proofs.parts.put_figures.Given as goal
 
 abbrev pub invariant-loop-replica : goal.invariant-loop-replica
 invariant-loop-replica g l = record {
