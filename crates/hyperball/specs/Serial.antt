@@ -1,8 +1,7 @@
 -- A run in one thread: what is asked of it, and what its refusals say of the input.
-use Rattle.std.specs.Prelude.{◌≡◌, ℕ, List, Option, option_map, Result, Ok, Err, IfSome, Vec}
+use Rattle.std.specs.Prelude.{◌≡◌, ℕ, List, Option, option_map, Result, Ok, Err, IfSome}
 use Rattle.std.specs.Prelude.{MatchResult}
 use Rattle.std.specs.Borrow.{Bor}
-use Rattle.std.specs.Global.{Global}
 use Rattle.ball_model.specs.PlanValue.{plan_of}
 use Rattle.ball_model.specs.Input.{IsPlain, Network}
 use Rattle.ball_model.specs.RunText.{AreRead, IsPlanFault, IsReportOf, Numbers, Settings}
@@ -30,7 +29,8 @@ abbrev pub ArePlain : List ℕ → Option (List ℕ) → Type 0
 ArePlain input list = IsPlain input × IfSome list IsPlain
 
 -- the edge list says a network, and this error is what the list of counted vertices says of it
-pub record IsListRefusal (s : Settings) (input : List ℕ) (list : Option (List ℕ)) (e : CountedError) : Type 0 where
+pub record IsListRefusal
+    (s : Settings) (input : List ℕ) (list : Option (List ℕ)) (e : CountedError) : Type 0 where
   pub all : Network
   pub read : network_in s input ≡ Ok all
   pub refused : RefusesList (counted_in s all list) e
@@ -70,6 +70,6 @@ RefusesNetwork n network fault.Memory = HasPlan n network
 RefusesNetwork n network fault.Write = ⊥
 
 -- the report of a network, or why there is none
-abbrev pub AnswersNetwork : Numbers → Network → Result (Vec ℕ Global) SerialError → Type 0
+abbrev pub AnswersNetwork : Numbers → Network → Result (List ℕ) SerialError → Type 0
 AnswersNetwork n network result =
-    MatchResult result (λ text. IsReportOf n network text.items) (RefusesNetwork n network)
+    MatchResult result (IsReportOf n network) (RefusesNetwork n network)

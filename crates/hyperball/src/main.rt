@@ -5,6 +5,7 @@
 #![tactic(auto)]
 
 pub mod laws;
+mod pages;
 mod partitions;
 pub mod serial;
 pub mod serve;

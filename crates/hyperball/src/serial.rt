@@ -13,8 +13,9 @@ ghost use Rattle.hyperball.specs.Partitions.{job_of};
 ghost use Rattle.hyperball.specs.Serial.{AnswersNetwork, ArePlain, IsRefusal, RefusesRead, list_in};
 ghost use Rattle.hyperball.specs.Serial.{numbers_in, settings_of};
 
+use crate::pages::Pages;
 use crate::partitions::run_to_end;
-use ball_model::{CountedRead, CountedWrite, CountingWriter, Plan, PlanError, put_all};
+use ball_model::{CountedRead, CountedWrite, CountingWriter, Plan, PlanError};
 use edgelist::{CountedError, Delimiter, EdgeError, EdgeLimits, Graph, read_edges};
 use report::write_report;
 use std::alloc::{AllocError, Global};
@@ -27,10 +28,6 @@ const LIMITS: EdgeLimits = EdgeLimits {
     vertices: 16_777_216,
     edges: 67_108_864,
 };
-
-/// The room for a line of the report that is taken before it is written: enough for most. Room that no line needs is
-/// never touched, and where lines are longer the text grows.
-const LINE_ROOM: usize = 96;
 
 /// What is asked of a run.
 #[derive(Clone, Copy, Debug, PartialEq, Eq)]
@@ -152,15 +149,13 @@ fn planned_text<T: AllocGlobal + Threads + Sync>(
     rt: &T,
     graph: &Graph,
     plan: &Plan,
-) -> Result<Vec<u8>, AllocError>
+) -> Result<Pages, AllocError>
     requires { IsJob (job_of graph.now plan.now) }
-    ensures { IfOk result (λ text. text.items ≡
+    ensures { IfOk result (λ text. text ≡
         report_of (mixing_of plan.now) graph.now.graph graph.now.labels plan.now.limit) }
 {
     let replicas = run_to_end(rt.alloc(), graph, plan)?;
-    let room = graph.vertices() as usize * LINE_ROOM;
-    let buffer = Vec::with_capacity(rt.alloc(), room)?;
-    let mut text = CountingWriter::new(buffer);
+    let mut text = CountingWriter::new(Pages::new(rt.alloc()));
     match write_report(rt, &mut text, graph, &replicas) {
         Ok(()) => Ok(text.into_inner()),
         Err(_) => Err(AllocError),
@@ -172,7 +167,7 @@ fn report_text<T: AllocGlobal + Threads + Sync>(
     rt: &T,
     graph: &Graph,
     options: &SerialOptions,
-) -> Result<Vec<u8>, SerialError>
+) -> Result<Pages, SerialError>
     ensures { AnswersNetwork (numbers_in options.now) graph.now result }
 {
     let plan = graph.plan(options.log2m, options.seed, options.parts, options.limit)?;
@@ -187,10 +182,9 @@ fn read_text<T: AllocGlobal + Threads + Sync, R: CountedRead>(
     reader: &mut R,
     counted: Option<&[u8]>,
     options: &SerialOptions,
-) -> Result<Vec<u8>, SerialError>
+) -> Result<Pages, SerialError>
     ensures ok { IfSome (R.remaining reader.old) (λ input. ArePlain input (list_in counted.entry) →
-        IfOk result (λ text.
-        IsReport (settings_of options.now) input (list_in counted.entry) text.items)) }
+        IfOk result (IsReport (settings_of options.now) input (list_in counted.entry))) }
     ensures refused { IfSome (R.remaining reader.old) (λ input.
         ArePlain input (list_in counted.entry) →
         IfErr result (IsRefusal (settings_of options.now) input (list_in counted.entry))) }
@@ -203,12 +197,12 @@ fn read_text<T: AllocGlobal + Threads + Sync, R: CountedRead>(
 }
 
 // Writes a text.
-fn write_text<W: CountedWrite>(writer: &mut W, text: &[u8]) -> Result<(), SerialError>
+fn write_text<W: CountedWrite>(writer: &mut W, text: &Pages) -> Result<(), SerialError>
     ensures done { OnOk result (Appends (W.contents writer.old) (W.contents writer.new) text.now) }
     ensures kind { IfErr result (λ e. e ≡ SerialError.Write) }
     ensures failed { OnErr result (Rises (W.failed_calls writer.old) (W.failed_calls writer.new)) }
 {
-    if put_all(writer, text) {
+    if text.write_to(writer) {
         Ok(())
     } else {
         Err(SerialError::Write)

@@ -3,11 +3,12 @@
 ghost use Rattle.std.specs.Prelude.{None};
 
 use crate::laws::{words_of_a_run, words_of_no_run};
+use crate::pages::Pages;
 use crate::serial::{SerialError, SerialOptions, run_serial};
 use crate::serve::serve;
 use crate::whole::{WholeError, sections};
 use crate::words::{RunWords, command, read_words};
-use ball_model::{CountedWrite, CountingReader, CountingWriter, PlanError};
+use ball_model::{CountedWrite, CountingReader, CountingWriter, MemWriter, PlanError};
 use edgelist::{CountedError, Delimiter, EdgeError};
 use std::fmt::Display;
 use std::hash::RandomState;
@@ -851,5 +852,28 @@ fn is_named<H: AllocGlobal>(rt: &H, name: &str) -> Result<bool, Fail> {
 #[test]
 fn the_name_of_the_program(rt: HostRuntime) -> Result<(), Fail> {
     assert!(rt; is_named(&rt, "hyperball")?);
+    Ok(())
+}
+
+// What a writer whose call `fails_at` fails takes of a text in three pages, of which the second is empty.
+fn taken_of_pages<H: AllocGlobal>(rt: &H, fails_at: Option<u64>) -> Result<(bool, Vec<u8>), Fail> {
+    let mut text = Pages::new(rt.alloc());
+    for page in [b"one,".as_slice(), b"".as_slice(), b"two".as_slice()] {
+        if text.write(page)? != page.len() {
+            return Err(Fail::new("a page is taken whole"));
+        }
+    }
+    text.flush()?;
+    let mut writer = MemWriter::with_room(rt.alloc(), 7, fails_at)?;
+    let done = text.write_to(&mut writer);
+    Ok((done, writer.into_bytes()))
+}
+
+#[test]
+fn a_text_in_pages(rt: HostRuntime) -> Result<(), Fail> {
+    let (done, taken) = taken_of_pages(&rt, None)?;
+    assert!(rt; done && taken.as_slice() == b"one,two".as_slice());
+    let (done, taken) = taken_of_pages(&rt, Some(2))?;
+    assert!(rt; !done && taken.as_slice() == b"one,".as_slice());
     Ok(())
 }

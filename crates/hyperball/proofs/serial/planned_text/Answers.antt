@@ -1,5 +1,4 @@
-use Rattle.std.proofs.Common.{◌≡◌, ◌∙◌, ℕ, List, [], ◌++◌, Vec, sym, ap, refl, subst}
-use Rattle.std.specs.Global.{Global}
+use Rattle.std.proofs.Common.{◌≡◌, ◌∙◌, ℕ, List, [], ◌++◌, sym, ap, refl, subst}
 use Rattle.ball_model.specs.Job.{Job}
 use Rattle.ball_model.specs.PlanValue.{mixing_of}
 use Rattle.ball_model.specs.Report.{report_of}
@@ -25,6 +24,6 @@ returns-in-Ok g c =
     let j : Job = record { graph = c.args.graph.now.graph; plan = c.args.plan.now } in
     let ended : AreEnded j c.deref.result.now = subst (λ (rs : List State). AreEnded j rs) (sym c.deref.ensures.value) c.in_ok-replicas.ensures in
     let text : List ℕ = report_of (mixing_of j.plan) j.graph c.args.graph.now.labels j.plan.limit in
-    let said : c.write_report.new.writer.inner.items ≡ c.new-text.result.inner.items ++ text = c.in-Ok.ensures.ok j refl (all_stand j c.deref.result.now ended) in
-    let start : c.new-text.result.inner.items ≡ [] = ap (λ (v : Vec ℕ Global). v.items) c.new-text.ensures.inner ∙ c.in_ok-buffer.ensures.items in
-    ap (λ (v : Vec ℕ Global). v.items) c.into_inner.ensures ∙ said ∙ ap (λ l. l ++ text) start
+    let said : c.write_report.new.writer.inner ≡ c.new-text.result.inner ++ text = c.in-Ok.ensures.ok j refl (all_stand j c.deref.result.now ended) in
+    let start : c.new-text.result.inner ≡ [] = c.new-text.ensures.inner ∙ c.new.ensures in
+    c.into_inner.ensures ∙ said ∙ ap (λ l. l ++ text) start
