@@ -1,10 +1,11 @@
 -- Feed masks, bit by bit.
 use Rattle.std.proofs.Common.{◌≡◌, ◌≢◌, ◌∙◌, ℕ, zero, suc, ◌+◌, ◌-◌, ◌*◌, ◌/◌, ◌%◌, ◌^◌, ◌<◌, ◌≤◌, Bool, true, false, ◌&&◌, ◌||◌, ◌==◌, List, [], ◌∷◌, ◌++◌, length, map, get_or, set, bit_or, take, drop, replicate, refl, ap, arith, sym, subst, inl, inr, length-set}
-use Rattle.std.specs.Int.{bit_at, w64}
+use Rattle.std.specs.Int.{bit_at}
 use Rattle.std.specs.List.{list_any, range_with_len}
 use Rattle.std.proofs.Math.Nat.{div-add-mod, mod-lt, mul-le-mul_left}
 use Rattle.std.proofs.lemmas.Nat.{div-mul-add, mod-mul-add, or_lt}
-use Rattle.std.proofs.lemmas.Nat.Bits.{bit_at-zero, bit_at_set_same, bit_at_set_other}
+use Rattle.std.proofs.Math.Pow.{pow-lt}
+use Rattle.std.proofs.lemmas.Nat.Bits.{bit_at-zero, bit_at_or, bit_at-pow_same, bit_at-pow_other}
 use Rattle.std.proofs.lemmas.Bool.{cases_lt, eqb-true, eq-eqb}
 use Rattle.std.proofs.lemmas.List.{get_or-set_same, get_or-set_other, get_or-map, length-map, ext_get_or, append-nil, take_all, drop_all}
 use Rattle.std.proofs.lemmas.List.FromFn.{length-range_with_len, get_or-map-range_with_len}
@@ -56,14 +57,21 @@ or_true : (a : Bool) → (a || true) ≡ true
 or_true true = refl
 or_true false = refl
 
+-- a bit is set, and the others stay
+set-same : (n k : ℕ) → bit_at (bit_or n (2 ^ k)) k ≡ 1
+set-same n k = omega (arith, bit_at_or n (2 ^ k) k, bit_at-pow_same k)
+
+set-other : (n k i : ℕ) → i ≢ k → bit_at (bit_or n (2 ^ k)) i ≡ bit_at n i
+set-other n k i apart = omega (arith, bit_at_or n (2 ^ k) i, bit_at-pow_other k i apart)
+
 -- an edge of vertex j of the partition sets one bit of its mask
 pub masks-own : (parts p y x j : ℕ) (es : List (ℕ × ℕ)) (masks : List ℕ) → p < parts → parts ≤ 64 → y ≡ j * parts + p → j < length masks → AreMasks parts p es masks →
-    AreMasks parts p (es ++ (y, x) ∷ []) (set masks j (bit_or (get_or masks j 0) (1 * 2 ^ (x % parts) % 2 ^ 64)))
+    AreMasks parts p (es ++ (y, x) ∷ []) (set masks j (bit_or (get_or masks j 0) (2 ^ (x % parts))))
 masks-own parts p y x j es masks lt few is low h =
     let r0 = x % parts in
     let small0 : r0 < 64 = omega (arith, mod-lt x (let some : 0 < parts = omega arith in some)) in
-    let mask = bit_or (get_or masks j 0) (1 * 2 ^ r0 % 2 ^ 64) in
-    let mask_fits : mask < 2 ^ 64 = or_lt 64 (get_or masks j 0) (1 * 2 ^ r0 % 2 ^ 64) (h.fits j) (mod-lt (1 * 2 ^ r0) (omega arith)) in
+    let mask = bit_or (get_or masks j 0) (2 ^ r0) in
+    let mask_fits : mask < 2 ^ 64 = or_lt 64 (get_or masks j 0) (2 ^ r0) (h.fits j) (pow-lt small0) in
     record {
       fits = λ i. by_cases (i == j) _
           (λ t.
@@ -82,22 +90,22 @@ masks-own parts p y x j es masks lt few is low h =
           (λ t.
           let at : i ≡ j = eqb-true i j t in
           let here : (y == i * parts + p) ≡ true = rw (at, is) (eq-eqb (j * parts + p) (j * parts + p) refl) in
-          let now : get_or (set masks j (bit_or (get_or masks j 0) (1 * 2 ^ r0 % 2 ^ 64))) i 0 ≡ bit_or (get_or masks i 0) (1 * 2 ^ r0 % 2 ^ 64) =
+          let now : get_or (set masks j (bit_or (get_or masks j 0) (2 ^ r0))) i 0 ≡ bit_or (get_or masks i 0) (2 ^ r0) =
           rw at (get_or-set_same masks j _ 0 low) in
           by_cases (r0 == r) _
           (λ u.
           let same : r0 ≡ r = eqb-true r0 r u in
-          rw (now, whole, here, u, or_true (list_any test es)) (subst (λ (k : ℕ). bit_at (bit_or (get_or masks i 0) (1 * 2 ^ r0 % 2 ^ 64)) k ≡ 1) same (bit_at_set_same w64 (get_or masks i 0) r0 small0)))
+          rw (now, whole, here, u, or_true (list_any test es)) (subst (λ (k : ℕ). bit_at (bit_or (get_or masks i 0) (2 ^ r0)) k ≡ 1) same (set-same (get_or masks i 0) r0)))
           (λ f.
           let apart : r ≢ r0 = λ bad. absurd (let no_ : true ≡ false = sym (eq-eqb r0 r0 refl) ∙ ap (λ (k : ℕ). r0 == k) (sym bad) ∙ f in cc) in
-          rw (now, whole, here, f, or-false (list_any test es)) (bit_at_set_other w64 (get_or masks i 0) r0 small0 r apart ∙ h.bits i r inside small)))
+          rw (now, whole, here, f, or-false (list_any test es)) (set-other (get_or masks i 0) r0 r apart ∙ h.bits i r inside small)))
           (λ f.
           let apart : i ≢ j = λ bad. absurd (let no_ : true ≡ false = sym (eq-eqb j j refl) ∙ ap (λ (k : ℕ). k == j) (sym bad) ∙ f in cc) in
           let off : (y == i * parts + p) ≡ false =
           by_cases (y == i * parts + p) _
           (λ t. absurd (apart (sym (div-mul-add i parts p lt) ∙ ap (λ k. k / parts) (sym (eqb-true y (i * parts + p) t) ∙ is) ∙ div-mul-add j parts p lt)))
           (λ g. g) in
-          let kept : get_or (set masks j (bit_or (get_or masks j 0) (1 * 2 ^ r0 % 2 ^ 64))) i 0 ≡ get_or masks i 0 = rw get_or-set_other refl in
+          let kept : get_or (set masks j (bit_or (get_or masks j 0) (2 ^ r0))) i 0 ≡ get_or masks i 0 = rw get_or-set_other refl in
           rw (kept, any-other parts p i r y x es off) (h.bits i r inside small));
     }
 

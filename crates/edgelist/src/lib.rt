@@ -23,6 +23,7 @@ mod index;
 mod labels;
 pub mod laws;
 mod lists;
+mod masks;
 mod numbering;
 mod part;
 mod read;

@@ -57,7 +57,8 @@ impl Model for Lists {
 
     ghost view = { λ lists. lists.codes };
 
-    ghost invariant = { λ lists. (lists.total ≡ sum_by length lists.codes) × (lists.total < 2 ^ 32) };
+    ghost invariant = { λ lists.
+        (lists.total ≡ sum_by length lists.codes) × (lists.total < 2 ^ 32) };
 }
 
 impl Lists {

@@ -1,16 +1,18 @@
 //! What a partition is told of its graph.
 
-ghost use Rattle.std.specs.Prelude.{◌≡◌, ◌+◌, ◌*◌, ◌^◌, ◌%◌, ◌<◌, ◌≤◌, ◌++◌, ◌∷◌, [], ℕ, List, false, length, map, slice_index, slice_index_or, replicate, IfOk, OnOk};
+ghost use Rattle.std.specs.Prelude.{◌≡◌, ◌+◌, ◌*◌, ◌^◌, ◌<◌, ◌≤◌, ◌++◌, ◌∷◌, [], ℕ, List};
+ghost use Rattle.std.specs.Prelude.{false, length, map, slice_index, slice_index_or, IfOk, OnOk};
 ghost use Rattle.std.specs.Arc.{arc_value};
 ghost use Rattle.std.specs.List.{All, sum_by};
 ghost use Rattle.ball_model.specs.Graph.{preds_of, is_counted};
 ghost use Rattle.ball_model.specs.PlanValue.{vertices_of, part_size};
 ghost use Rattle.ball_model.specs.Job.{Job, IsPart, digest_of, feed_mask, feeds_into, part_of};
 ghost use Rattle.ball_model.specs.Masks.{has_bit};
-ghost use Rattle.edgelist.specs.Feeding.{AreMasks};
+ghost use Rattle.edgelist.specs.Feeding.{AreMasks, masks_of, width_of, edges_into};
 
 use crate::graph::Graph;
 use crate::lists::{Lists, Preds};
+use crate::masks::Masks;
 use ball_model::Plan;
 use gapcode::ListsBuilder;
 use std::alloc::{AllocError, Global};
@@ -20,24 +22,40 @@ use std::sync::Arc;
 /// What a partition is told of its graph: the predecessors of each of its vertices, into which partitions the vertex
 /// has edges, and whether it is counted. It has no other partition's lists, and where there is one partition it shares
 /// those of the graph.
+///
+/// Beside the lists it takes for each vertex a byte for the mask where there are at most 8 partitions, and 8 where
+/// there are more; and one or two bytes for whether it is counted.
 #[derive(Drop)]
 pub struct Part {
     plan: Plan,
     number: u16,
     lists: Arc<Lists>,
-    feeds: Vec<u64>,
+    feeds: Masks,
     counted: Vec<bool>,
 }
 
 impl Model for Part {
     ghost use Rattle.std.specs.Arc.{arc_value};
     ghost use Rattle.ball_model.specs.Job.{PartValue, IsPart};
+    ghost use Rattle.edgelist.specs.Feeding.{masks_of};
 
     ghost Value = { PartValue };
 
-    ghost view = { λ p. record { plan = p.plan; number = p.number; preds = arc_value p.lists; feeds = p.feeds.items; counted = p.counted.items } };
+    ghost view = { λ p. record {
+      plan = p.plan;
+      number = p.number;
+      preds = arc_value p.lists;
+      feeds = masks_of p.feeds;
+      counted = p.counted.items;
+    } };
 
-    ghost invariant = { λ p. IsPart (record { plan = p.plan; number = p.number; preds = arc_value p.lists; feeds = p.feeds.items; counted = p.counted.items }) };
+    ghost invariant = { λ p. IsPart (record {
+      plan = p.plan;
+      number = p.number;
+      preds = arc_value p.lists;
+      feeds = masks_of p.feeds;
+      counted = p.counted.items;
+    }) };
 }
 
 impl Part {
@@ -58,7 +76,8 @@ impl Part {
 
     /// The number of its vertices.
     pub fn size(&self) -> u32
-        ensures value { result ≡ part_size self.now.plan.vertices self.now.plan.parts self.now.number }
+        ensures value { result ≡
+            part_size self.now.plan.vertices self.now.plan.parts self.now.number }
         ensures lists { result ≡ length self.now.preds }
         ensures masks { result ≡ length self.now.feeds }
         ensures counted { result ≡ length self.now.counted }
@@ -96,16 +115,18 @@ impl Part {
     pub fn feeds(&self, i: u32) -> u64
         requires { i < length self.now.preds }
         ensures value { result ≡ slice_index self.now.feeds i }
-        ensures bits { (j : Job) (p r : ℕ) → self.now ≡ part_of j p → has_bit result r ≡ feeds_into j.graph j.plan.parts (i * j.plan.parts + p) r }
+        ensures bits { (j : Job) (p r : ℕ) → self.now ≡ part_of j p →
+            has_bit result r ≡ feeds_into j.graph j.plan.parts (i * j.plan.parts + p) r }
     {
-        self.feeds[i as usize]
+        self.feeds.get(i as usize)
     }
 
     /// Whether balls count the vertex with this index.
     pub fn counts(&self, i: u32) -> bool
         requires { i < length self.now.preds }
         ensures value { result ≡ slice_index_or self.now.counted i false }
-        ensures graph { (j : Job) (p : ℕ) → self.now ≡ part_of j p → result ≡ is_counted j.graph (i * j.plan.parts + p) }
+        ensures graph { (j : Job) (p : ℕ) → self.now ≡ part_of j p →
+            result ≡ is_counted j.graph (i * j.plan.parts + p) }
     {
         self.counted[i as usize]
     }
@@ -135,7 +156,8 @@ fn put_preds(row: &mut Vec<u32>, preds: Preds<'_>) -> Result<(), AllocError>
 // The predecessors of each vertex of partition `p`.
 fn own_lists(alloc: Global, graph: &Graph, parts: u32, p: u32) -> Result<Lists, AllocError>
     requires { 0 < parts }
-    ensures { IfOk result (λ lists. lists ≡ map (λ x. preds_of graph.now.graph x) (vertices_of graph.now.graph.vertices parts p)) }
+    ensures { IfOk result (λ lists. lists ≡
+        map (λ x. preds_of graph.now.graph x) (vertices_of graph.now.graph.vertices parts p)) }
 {
     let mut builder = ListsBuilder::with_room(alloc, (graph.vertices() / parts) as usize)?;
     let mut row = Vec::new(alloc);
@@ -153,7 +175,8 @@ fn own_lists(alloc: Global, graph: &Graph, parts: u32, p: u32) -> Result<Lists, 
 // The predecessors of each vertex of partition `p`, which are the graph's own lists where there is one partition.
 fn part_lists(alloc: Global, graph: &Graph, parts: u32, p: u32) -> Result<Arc<Lists>, AllocError>
     requires { p < parts }
-    ensures { IfOk result (λ lists. arc_value lists ≡ map (λ x. preds_of graph.now.graph x) (vertices_of graph.now.graph.vertices parts p)) }
+    ensures { IfOk result (λ lists. arc_value lists ≡
+        map (λ x. preds_of graph.now.graph x) (vertices_of graph.now.graph.vertices parts p)) }
 {
     if parts == 1 {
         return graph.shared_lists();
@@ -163,25 +186,35 @@ fn part_lists(alloc: Global, graph: &Graph, parts: u32, p: u32) -> Result<Arc<Li
 }
 
 // Marks that an edge leads from a vertex of partition `p` into the partition of its target.
-fn mark(feeds: &mut [u64], plan: &Plan, p: u16, source: u32, target: u32)
+fn mark(feeds: &mut Masks, plan: &Plan, p: u16, source: u32, target: u32)
     requires part { p < plan.now.parts }
-    requires size { length feeds.old ≡ part_size plan.now.vertices plan.now.parts p }
+    requires size { length (masks_of feeds.old) ≡ part_size plan.now.vertices plan.now.parts p }
+    requires room { plan.now.parts ≤ width_of feeds.old }
     requires source { source < plan.now.vertices }
-    ensures { (es : List (ℕ × ℕ)) → AreMasks plan.now.parts p es feeds.old → AreMasks plan.now.parts p (es ++ (source, target) ∷ []) feeds.new }
+    ensures masks { (es : List (ℕ × ℕ)) →
+        AreMasks plan.now.parts p es (masks_of feeds.old) →
+        AreMasks plan.now.parts p (es ++ (source, target) ∷ []) (masks_of feeds.new) }
+    ensures size { length (masks_of feeds.new) ≡ length (masks_of feeds.old) }
+    ensures room { width_of feeds.new ≡ width_of feeds.old }
 {
     let parts = u32::from(plan.parts());
     if plan.partition_of(source) == p {
         let place = (source / parts) as usize;
-        feeds[place] |= 1 << (target % parts);
+        feeds.set_bit(place, target % parts);
     }
 }
 
 // Marks the edges from some sources to a target.
-fn mark_row(feeds: &mut [u64], plan: &Plan, p: u16, sources: Preds<'_>, target: u32)
+fn mark_row(feeds: &mut Masks, plan: &Plan, p: u16, sources: Preds<'_>, target: u32)
     requires part { p < plan.now.parts }
-    requires size { length feeds.old ≡ part_size plan.now.vertices plan.now.parts p }
+    requires size { length (masks_of feeds.old) ≡ part_size plan.now.vertices plan.now.parts p }
+    requires room { plan.now.parts ≤ width_of feeds.old }
     requires sources { All (λ y. y < plan.now.vertices) sources }
-    ensures { (es : List (ℕ × ℕ)) → AreMasks plan.now.parts p es feeds.old → AreMasks plan.now.parts p (es ++ map (λ y. (y, target)) sources.entry) feeds.new }
+    ensures masks { (es : List (ℕ × ℕ)) →
+        AreMasks plan.now.parts p es (masks_of feeds.old) →
+        AreMasks plan.now.parts p (es ++ edges_into target sources.entry) (masks_of feeds.new) }
+    ensures size { length (masks_of feeds.new) ≡ length (masks_of feeds.old) }
+    ensures room { width_of feeds.new ≡ width_of feeds.old }
 {
     for source in sources {
         mark(feeds, plan, p, source, target);
@@ -189,32 +222,32 @@ fn mark_row(feeds: &mut [u64], plan: &Plan, p: u16, sources: Preds<'_>, target: 
 }
 
 // Marks all edges of a graph.
-fn mark_all(feeds: &mut [u64], plan: &Plan, p: u16, graph: &Graph)
+fn mark_all(feeds: &mut Masks, plan: &Plan, p: u16, graph: &Graph)
     requires part { p < plan.now.parts }
-    requires size { length feeds.old ≡ part_size plan.now.vertices plan.now.parts p }
+    requires size { length (masks_of feeds.old) ≡ part_size plan.now.vertices plan.now.parts p }
+    requires room { plan.now.parts ≤ width_of feeds.old }
     requires vertices { plan.now.vertices ≡ graph.now.graph.vertices }
-    ensures { AreMasks plan.now.parts p [] feeds.old → AreMasks plan.now.parts p graph.now.graph.edges feeds.new }
+    ensures masks { AreMasks plan.now.parts p [] (masks_of feeds.old) →
+        AreMasks plan.now.parts p graph.now.graph.edges (masks_of feeds.new) }
+    ensures size { length (masks_of feeds.new) ≡ length (masks_of feeds.old) }
+    ensures room { width_of feeds.new ≡ width_of feeds.old }
 {
     for target in 0..graph.vertices() {
         mark_row(feeds, plan, p, graph.preds(target), target);
     }
 }
 
-// Masks with no bit set.
-fn no_masks(alloc: Global, count: usize) -> Result<Vec<u64>, AllocError>
-    ensures { IfOk result (λ masks. masks.items ≡ replicate count 0) }
-{
-    vec![in alloc; 0u64; count]
-}
-
 // The feed mask of each vertex of partition `p`.
-fn own_feeds(alloc: Global, graph: &Graph, plan: &Plan, p: u16) -> Result<Vec<u64>, AllocError>
+fn own_feeds(alloc: Global, graph: &Graph, plan: &Plan, p: u16) -> Result<Masks, AllocError>
     requires part { p < plan.now.parts }
     requires few { plan.now.parts ≤ 64 }
     requires vertices { plan.now.vertices ≡ graph.now.graph.vertices }
-    ensures { IfOk result (λ feeds. feeds.items ≡ map (λ x. feed_mask graph.now.graph plan.now.parts x) (vertices_of graph.now.graph.vertices plan.now.parts p)) }
+    ensures { IfOk result (λ feeds. masks_of feeds ≡ map
+        (λ x. feed_mask graph.now.graph plan.now.parts x)
+        (vertices_of graph.now.graph.vertices plan.now.parts p)) }
 {
-    let mut feeds = no_masks(alloc, plan.part_size(p) as usize)?;
+    let bits = u32::from(plan.parts());
+    let mut feeds = Masks::zeros(alloc, plan.part_size(p) as usize, bits)?;
     mark_all(&mut feeds, plan, p, graph);
     Ok(feeds)
 }
@@ -222,7 +255,8 @@ fn own_feeds(alloc: Global, graph: &Graph, plan: &Plan, p: u16) -> Result<Vec<u6
 // Whether each vertex of partition `p` is counted.
 fn own_counts(alloc: Global, graph: &Graph, parts: u32, p: u32) -> Result<Vec<bool>, AllocError>
     requires { 0 < parts }
-    ensures { IfOk result (λ counted. counted.items ≡ map (λ x. is_counted graph.now.graph x) (vertices_of graph.now.graph.vertices parts p)) }
+    ensures { IfOk result (λ counted. counted.items ≡
+        map (λ x. is_counted graph.now.graph x) (vertices_of graph.now.graph.vertices parts p)) }
 {
     let mut counted = Vec::new(alloc);
     for x in 0..graph.vertices() {
@@ -235,12 +269,14 @@ fn own_counts(alloc: Global, graph: &Graph, parts: u32, p: u32) -> Result<Vec<bo
 
 impl Graph {
     /// What partition `p` of the plan is told. It takes time in proportion to the vertices and edges, and memory in
-    /// proportion to those of the partition; the lists of a sole partition are shared and take none.
+    /// proportion to those of the partition: beside the lists 2 or 3 bytes a vertex of it, or 9 or 10 where there are
+    /// more than 8 partitions. The lists of a sole partition are shared and take none.
     pub fn part(&self, alloc: Global, plan: &Plan, p: u16) -> Result<Part, AllocError>
         requires below { p < plan.now.parts }
         requires vertices { plan.now.vertices ≡ self.now.graph.vertices }
         requires digest { plan.now.job ≡ digest_of plan.now self.now.graph }
-        ensures { IfOk result (λ part. part ≡ part_of (record { graph = self.now.graph; plan = plan.now }) p) }
+        ensures { IfOk result (λ part. part ≡
+            part_of (record { graph = self.now.graph; plan = plan.now }) p) }
     {
         let lists = part_lists(alloc, self, u32::from(plan.parts()), u32::from(p))?;
         let feeds = own_feeds(alloc, self, plan, p)?;

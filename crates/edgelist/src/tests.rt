@@ -297,6 +297,38 @@ fn parts_of_a_path(rt: HostRuntime) {
     );
 }
 
+// Whether the feed masks of a part are just as wanted.
+fn part_feeds(alloc: Global, graph: &Graph, parts: u16, p: u16, wanted: &[u64]) -> bool {
+    let Ok(plan) = graph.plan(4, 0, parts, 4096) else {
+        return false;
+    };
+    if p >= plan.parts() {
+        return false;
+    }
+    let Ok(part) = graph.part(alloc, &plan, p) else {
+        return false;
+    };
+    let mut right = part.size() as usize == wanted.len();
+    for i in 0..part.size() {
+        right = right && wanted.get(i as usize) == Some(&part.feeds(i));
+    }
+    right
+}
+
+#[test]
+fn masks_of_8_and_9_partitions(rt: HostRuntime) -> Result<(), Fail> {
+    // Vertices 0 to 9, and edges from 0 to 1, 7 and 8, from 8 to 0, and from 9 to 7.
+    let text = b"a\nb\nc\nd\ne\nf\ng\nh\ni\nj\na\tb\na\th\na\ti\ni\ta\nj\th\n";
+    let graph = read(&rt, text, Delimiter::Tab, LIMITS)?;
+    // Vertices 0 and 8, then 1 and 9: partition 7 is that of vertex 7, and partition 0 that of vertex 8.
+    assert!(rt; part_feeds(rt.alloc(), &graph, 8, 0, &[0b1000_0011, 0b1]));
+    assert!(rt; part_feeds(rt.alloc(), &graph, 8, 1, &[0, 0b1000_0000]));
+    // Vertices 0 and 9, then 8: partition 8 is that of vertex 8.
+    assert!(rt; part_feeds(rt.alloc(), &graph, 9, 0, &[0b1_1000_0010, 0b1000_0000]));
+    assert!(rt; part_feeds(rt.alloc(), &graph, 9, 8, &[0b1]));
+    Ok(())
+}
+
 // Whether an error has this text.
 fn says(alloc: Global, error: EdgeError, wanted: &str) -> bool {
     match format!(in alloc; "{}", error) {

@@ -1,15 +1,11 @@
 use Rattle.std.proofs.Common.{◌≡◌, ◌∙◌, ◌+◌, ◌*◌, ◌/◌, ◌%◌, ◌<◌, ℕ, length, sym, arith}
 use Rattle.std.proofs.Math.Nat.{div-add-mod}
+use Rattle.edgelist.specs.Feeding.{masks_of}
 use Rattle.edgelist.proofs.FeedLemmas.{place-within, masks-own, masks-other}
 use Rattle.edgelist.proofs.part.mark.Goals as goal
 
-pub bounds-feeds-place : goal.bounds-feeds-place
-bounds-feeds-place c =
-    let own = sym c.partition_of.ensures.value ∙ c.if-partition_of-p.true in
-    rw (c.from-parts.ensures, c.parts.ensures.value, c.requires.size) (place-within c.args.plan.now.vertices c.args.plan.now.parts c.args.p c.args.source c.requires.part c.requires.source own)
-
-pub bounds-feeds-place-then-partition_of-p : goal.bounds-feeds-place-then-partition_of-p
-bounds-feeds-place-then-partition_of-p c =
+pub set_bit-requires-clause-index : goal.set_bit-requires-clause-index
+set_bit-requires-clause-index c =
     let own = sym c.partition_of.ensures.value ∙ c.if-partition_of-p.true in
     rw (c.from-parts.ensures, c.parts.ensures.value, c.requires.size) (place-within c.args.plan.now.vertices c.args.plan.now.parts c.args.p c.args.source c.requires.part c.requires.source own)
 
@@ -20,15 +16,15 @@ index-is y parts p own =
     let flip : parts * (y / parts) ≡ y / parts * parts = grind arith in
     omega arith
 
-pub returns-then-partition_of-p : goal.returns-then-partition_of-p
-returns-then-partition_of-p c = λ es held.
+pub returns-then-partition_of-p-clause-masks : goal.returns-then-partition_of-p-clause-masks
+returns-then-partition_of-p-clause-masks c = λ es held.
     let own = sym c.partition_of.ensures.value ∙ c.if-partition_of-p.true in
-    let within : c.args.source / c.args.plan.now.parts < length c.args.feeds.now =
+    let within : c.args.source / c.args.plan.now.parts < length (masks_of c.args.feeds.now) =
     rw c.requires.size (place-within c.args.plan.now.vertices c.args.plan.now.parts c.args.p c.args.source c.requires.part c.requires.source own) in
-    rw (c.from-parts.ensures, c.parts.ensures.value)
-    (masks-own c.args.plan.now.parts c.args.p c.args.source c.args.target (c.args.source / c.args.plan.now.parts) es c.args.feeds.now c.requires.part c.parts.ensures.plan.parts_to
+    rw (c.set_bit.ensures.masks, c.from-parts.ensures, c.parts.ensures.value)
+    (masks-own c.args.plan.now.parts c.args.p c.args.source c.args.target (c.args.source / c.args.plan.now.parts) es (masks_of c.args.feeds.now) c.requires.part c.parts.ensures.plan.parts_to
     (index-is c.args.source c.args.plan.now.parts c.args.p own) within held)
 
-pub returns-else-partition_of-p : goal.returns-else-partition_of-p
-returns-else-partition_of-p c = λ es held.
-    masks-other c.args.plan.now.parts c.args.p c.args.source c.args.target es c.args.feeds.now c.requires.part (λ own. c.if-partition_of-p.false (c.partition_of.ensures.value ∙ own)) held
+pub returns-else-partition_of-p-clause-masks : goal.returns-else-partition_of-p-clause-masks
+returns-else-partition_of-p-clause-masks c = λ es held.
+    masks-other c.args.plan.now.parts c.args.p c.args.source c.args.target es (masks_of c.args.feeds.now) c.requires.part (λ own. c.if-partition_of-p.false (c.partition_of.ensures.value ∙ own)) held
