@@ -36,6 +36,15 @@ starts-at end (a ∷ b ∷ starts) (suc i) up lt =
     let moved : suc i + 1 ≡ suc (i + 1) = omega arith in
     rw moved (starts-at end (b ∷ starts) i up.1 (omega arith))
 
+-- the last start is not past the end
+pub last-start : (end : ℕ) (starts : List ℕ) → Ascend end starts → get_or starts (length starts - 1) 0 ≤ end
+unfolding Ascend
+last-start end [] up = absurd up
+last-start end (a ∷ []) up = omega (arith, up)
+last-start end (a ∷ b ∷ starts) up =
+    let moved : length (a ∷ b ∷ starts) - 1 ≡ suc (length (b ∷ starts) - 1) = omega arith in
+    rw moved (last-start end (b ∷ starts) up.1)
+
 -- list i is what stands between its start and the next
 pub cut-at : (items starts : List ℕ) (end i : ℕ) → Ascend end starts → i + 1 < length starts → get_or (cut items starts) i [] ≡ slice_range items (get_or starts i 0) (get_or starts (i + 1) 0)
 unfolding cut Ascend

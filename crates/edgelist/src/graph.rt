@@ -30,7 +30,7 @@ use std::sync::Arc;
 /// A graph: for each vertex its predecessors, ascending, its label, and whether it is counted.
 ///
 /// It takes a gap code for each edge, which is one or two bytes where the predecessors of a vertex are near one another,
-/// and for each vertex 12 bytes and its label; and a byte more once only some vertices are counted.
+/// and for each vertex 8 bytes and its label; and a byte more once only some vertices are counted.
 #[derive(Drop)]
 pub struct Graph {
     lists: Arc<Lists>,

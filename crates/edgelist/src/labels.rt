@@ -4,14 +4,15 @@ ghost use Rattle.std.specs.Prelude.{◌≡◌, ◌+◌, ◌^◌, ◌<◌, ◌≤
 ghost use Rattle.std.specs.List.{sum_by};
 ghost use Rattle.edgelist.specs.Lists.{Ascend, cut};
 
+use gapcode::Places;
 use std::alloc::{AllocError, Global};
 use std::marker::Model;
 
-/// Labels, one behind another, and the place where each begins. It takes 8 bytes a label beside the labels' own.
+/// Labels, one behind another, and the place where each begins. It takes 4 bytes a label beside the labels' own.
 #[derive(Drop)]
 pub struct Labels {
     bytes: Vec<u8>,
-    starts: Vec<usize>,
+    starts: Places,
 }
 
 impl Model for Labels {
@@ -20,14 +21,15 @@ impl Model for Labels {
 
     ghost Value = { List (List ℕ) };
 
-    ghost view = { λ labels. cut labels.bytes.items labels.starts.items };
+    ghost view = { λ labels. cut labels.bytes.items labels.starts };
 
-    ghost invariant = { λ labels. Ascend (length labels.bytes.items) labels.starts.items };
+    ghost invariant = { λ labels. Ascend (length labels.bytes.items) labels.starts };
 }
 
 // The number of bytes of all texts.
 fn total(texts: &[Vec<u8>]) -> usize
-    ensures { sum_by (λ text. length text.items) texts.now < 2 ^ 64 → result ≡ sum_by (λ text. length text.items) texts.now }
+    ensures { sum_by (λ text. length text.items) texts.now < 2 ^ 64
+        → result ≡ sum_by (λ text. length text.items) texts.now }
 {
     let mut sum = 0usize;
     for text in texts {
@@ -42,11 +44,10 @@ impl Labels {
         ensures { IfOk result (λ labels. labels ≡ map (λ text. text.items) texts.now) }
     {
         let mut bytes = Vec::with_capacity(alloc, total(texts))?;
-        let mut starts = Vec::with_capacity(alloc, texts.len().saturating_add(1))?;
-        starts.push(0)?;
+        let mut starts = Places::with_room(alloc, texts.len().saturating_add(1))?.push(0)?;
         for text in texts {
             bytes.extend_from_slice(text)?;
-            starts.push(bytes.len())?;
+            starts = starts.push(bytes.len() as u128)?;
         }
         Ok(Labels { bytes, starts })
     }
@@ -79,10 +80,11 @@ impl Labels {
 }
 
 // Text i: the bytes from its start up to the next.
-fn text_at<'a>(bytes: &'a [u8], starts: &[usize], i: usize) -> &'a [u8]
+fn text_at<'a>(bytes: &'a [u8], starts: &Places, i: usize) -> &'a [u8]
     requires starts { Ascend (length bytes.now) starts.now }
     requires below { i + 1 < length starts.now }
     ensures { result.now ≡ slice_index_or (cut bytes.now starts.now) i [] }
 {
-    &bytes[starts[i]..starts[i + 1]]
+    prove!(i < starts.len());
+    &bytes[starts.at(i) as usize..starts.at(i + 1) as usize]
 }

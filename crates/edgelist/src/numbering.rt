@@ -107,7 +107,8 @@ fn group(word: u128, count: usize) -> usize {
 
 // The number of the short label with this word, where an entry of its group is that label's.
 fn guess(entries: &[Entry], word: u128) -> Option<usize>
-    ensures { (labels : List (List ℕ)) (label : List ℕ) → AreTold labels entries.now → IsShort label → word ≡ word_of label → IfSome result (StandsAt labels label) }
+    ensures { (labels : List (List ℕ)) (label : List ℕ) → AreTold labels entries.now
+        → IsShort label → word ≡ word_of label → IfSome result (StandsAt labels label) }
 {
     let start = group(word, entries.len());
     for i in start..entries.len().min(start.saturating_add(GROUP)) {
@@ -118,7 +119,8 @@ fn guess(entries: &[Entry], word: u128) -> Option<usize>
     None
 }
 
-// The place in a group for one more entry: the first that is blank, or else that of its first entry.
+// The place in a group for one more entry: the first that is blank, or else that of its first
+// entry.
 fn place(entries: &[Entry], start: usize) -> usize {
     for i in start..entries.len().min(start.saturating_add(GROUP)) {
         if entries[i].word() == 0 {
@@ -130,7 +132,8 @@ fn place(entries: &[Entry], start: usize) -> usize {
 
 // Puts an entry into its group.
 fn put(entries: &mut [Entry], entry: Entry)
-    ensures { (labels : List (List ℕ)) → AreTold labels entries.old → Tells labels entry → AreTold labels entries.new }
+    ensures { (labels : List (List ℕ)) → AreTold labels entries.old → Tells labels entry
+        → AreTold labels entries.new }
 {
     let place = place(entries, group(entry.word(), entries.len()));
     if place < entries.len() {
@@ -140,7 +143,8 @@ fn put(entries: &mut [Entry], entry: Entry)
 
 // Puts the entries of a smaller table into theirs.
 fn put_all(entries: &mut [Entry], smaller: &[Entry])
-    ensures { (labels : List (List ℕ)) → AreTold labels smaller.now → AreTold labels entries.old → AreTold labels entries.new }
+    ensures { (labels : List (List ℕ)) → AreTold labels smaller.now → AreTold labels entries.old
+        → AreTold labels entries.new }
 {
     for entry in smaller {
         if entry.word() > 0 {
@@ -152,7 +156,9 @@ fn put_all(entries: &mut [Entry], smaller: &[Entry])
 // Puts a label's word and number into an entry of its group.
 fn remember(entries: &mut [Entry], word: u128, number: usize)
     requires { word < 2 ^ 96 }
-    ensures { (labels : List (List ℕ)) (label : List ℕ) → AreTold labels entries.old → IsShort label → word ≡ word_of label → StandsAt labels label number → AreTold labels entries.new }
+    ensures { (labels : List (List ℕ)) (label : List ℕ) → AreTold labels entries.old
+        → IsShort label → word ≡ word_of label → StandsAt labels label number
+        → AreTold labels entries.new }
 {
     let Ok(number) = u32::try_from(number) else {
         return;
@@ -239,12 +245,14 @@ impl Numbering {
         Ok(())
     }
 
-    /// The labels in one piece of memory.
+    /// The labels in one piece of memory. The guesses are let go before it is asked for.
     pub(crate) fn into_labels(self, alloc: Global) -> Result<Labels, AllocError>
         ensures labels { IfOk result (λ labels. labels ≡ self) }
         ensures distinct { IfOk result (λ labels. IsDistinct bytes_eq labels) }
     {
-        let labels = Labels::of(alloc, self.labels.as_slice())?;
+        let Numbering { labels, entries } = self;
+        drop(entries);
+        let labels = Labels::of(alloc, labels.as_slice())?;
         Ok(labels)
     }
 }

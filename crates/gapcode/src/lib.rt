@@ -5,12 +5,16 @@
 //! is found at once, and [`Elements`] walks it without memory. [`ListsBuilder`] takes one list after the other.
 //! [`Lists::bytes`] and [`Lists::read`] are the one spelling of lists as bytes, both ways.
 //!
-//! Below them, [`BitWriter`] with [`put_gamma`] and [`BitReader`] with [`get_gamma`] write and read single codes.
+//! Below them, [`BitWriter`] with [`put_gamma`] and [`BitReader`] with [`get_gamma`] write and read single codes, and
+//! [`Places`] keeps where each of many pieces begins that stand one behind another.
 //!
 //! ```text
 //! let lists = ListsBuilder::with_room(alloc, 1)?.push(&[0, 2, 5])?.finish();
 //! lists.list(0)   // 0, 2, 5
 //! lists.bytes()   // 0x25, 0x30
+//!
+//! let places = Places::with_room(alloc, 2)?.push(0)?.push(12)?;
+//! places.at(1)    // 12
 //! ```
 #![tactic(auto)]
 
@@ -27,6 +31,7 @@ mod writer;
 pub use elements::Elements;
 pub use error::CodeError;
 pub use lists::{Lists, ListsBuilder};
+pub use places::Places;
 pub use reader::{BitReader, get_gamma};
 pub use writer::{BitWriter, put_gamma};
 

@@ -1,4 +1,4 @@
-//! Places in bits, in four bytes each.
+//! Places in four bytes each.
 
 ghost use Rattle.std.specs.Prelude.{◌≡◌, ◌+◌, ◌-◌, ◌/◌, ◌*◌, ◌^◌, ◌<◌, ◌≤◌, ◌++◌, ◌∷◌, [], length, replicate, slice_index, IfOk, OnOk, nat_le};
 ghost use Rattle.std.specs.List.{count_by};
@@ -7,7 +7,10 @@ ghost use Rattle.gapcode.specs.Places.{passed};
 use std::alloc::{AllocError, Global};
 use std::marker::Model;
 
-/// Ascending places. It keeps the lowest 32 bits of each, and a mark wherever 2^32 are passed: once in 512 MiB.
+/// Ascending places below 2^96: the bits or bytes at which pieces begin that stand one behind another.
+///
+/// A place takes 4 bytes, for its lowest 32 bits. Beside them is a mark of 8 bytes for each 2^32 that the last place has
+/// passed.
 #[derive(Drop)]
 pub struct Places {
     lows: Vec<u32>,
@@ -62,7 +65,7 @@ impl Places {
         self.lows.len()
     }
 
-    /// Place i.
+    /// Place i. It looks at all marks; there is none where all places are below 2^32.
     pub fn at(&self, i: usize) -> u128
         requires { i < length self.now }
         ensures { result ≡ slice_index self.now i }
@@ -70,7 +73,7 @@ impl Places {
         self.lows[i] as u128 + ((passed_by(&self.marks, i) as u128) << 32)
     }
 
-    /// One place more, not before the last.
+    /// One place more, not before the last. The error is that memory was refused, and the places so far are lost.
     pub fn push(self, place: u128) -> Result<Places, AllocError>
         requires order { slice_index self (length self - 1) ≤ place }
         requires small { place < 2 ^ 96 }

@@ -213,3 +213,33 @@ fn a_refusal_stays_where_it_was(rt: HostRuntime) {
         Err(CodeError::TooLong)
     );
 }
+
+// Whether these places are kept.
+fn are_kept(places: &Places, wanted: &[u128]) -> bool {
+    places.len() == wanted.len()
+        && wanted
+            .iter()
+            .enumerate()
+            .all(|(i, place)| i < places.len() && places.at(i) == *place)
+}
+
+#[test]
+fn places_are_kept(rt: HostRuntime) -> Result<(), Fail> {
+    let places = Places::with_room(rt.alloc(), 2)?.push(0)?.push(12)?;
+    assert!(rt; are_kept(&places, &[0, 12]));
+    let far = places
+        .push(4_294_967_295)?
+        .push(4_294_967_296)?
+        .push(4_294_967_296)?
+        .push(12_884_901_889)?;
+    let wanted = [
+        0,
+        12,
+        4_294_967_295,
+        4_294_967_296,
+        4_294_967_296,
+        12_884_901_889,
+    ];
+    assert!(rt; are_kept(&far, &wanted));
+    Ok(())
+}

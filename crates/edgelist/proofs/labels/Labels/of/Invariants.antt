@@ -4,6 +4,6 @@ use Rattle.edgelist.proofs.labels.Labels.of.Given as goal
 
 abbrev pub invariant-loop-text : goal.invariant-loop-text
 invariant-loop-text l = record {
-  starts : Ascend (length l.bytes.items) l.starts.items;
-  labels : cut l.bytes.items l.starts.items ≡ map (λ text. text.items) (take l.text-index l.texts);
+  starts : Ascend (length l.bytes.items) l.starts;
+  labels : cut l.bytes.items l.starts ≡ map (λ text. text.items) (take l.text-index l.texts);
 }
