@@ -33,7 +33,8 @@ pub trait Join {
     /// `self` becomes the join of itself and `other`. The error is that memory was refused.
     fn join(&mut self, alloc: Global, other: &Self) -> Result<(), AllocError>
         requires { are_alike (content self.old) (content other.now) }
-        ensures joined { OnOk result (content self.new ≡ joined (content self.old) (content other.now)) }
+        ensures joined { OnOk result (
+            content self.new ≡ joined (content self.old) (content other.now)) }
         ensures refused { OnErr result (self.new ≡ self.old) }
         ensures settled { GROWS ≡ false → IsOk result };
 
@@ -56,8 +57,10 @@ pub trait Join {
 /// The error is that memory was refused: `right` is as it was, and `left` is as it was or has the join.
 pub fn reconcile<T: Join>(alloc: Global, left: &mut T, right: &mut T) -> Result<(), AllocError>
     requires { T.are_alike (T.content left.old) (T.content right.old) }
-    ensures left { OnOk result (T.content left.new ≡ T.joined (T.content left.old) (T.content right.old)) }
-    ensures right { OnOk result (T.content right.new ≡ T.joined (T.content left.old) (T.content right.old)) }
+    ensures left { OnOk result (
+        T.content left.new ≡ T.joined (T.content left.old) (T.content right.old)) }
+    ensures right { OnOk result (
+        T.content right.new ≡ T.joined (T.content left.old) (T.content right.old)) }
     ensures refused { OnErr result (right.new ≡ right.old) }
     ensures half { OnErr result ((left.new ≡ left.old)
         ⊎ (T.content left.new ≡ T.joined (T.content left.old) (T.content right.old))) }

@@ -56,7 +56,9 @@ impl SourceMask {
     /// The least source below `parts` that is not there and is not `own`.
     pub fn least_missing(self, parts: u16, own: u16) -> Option<u16>
         requires { parts ≤ 64 }
-        ensures { result ≡ find (λ q. not (q == own) && not (slice_index_or self q false)) (range_with_len 0 parts) }
+        ensures { result ≡ find
+            (λ q. not (q == own) && not (slice_index_or self q false))
+            (range_with_len 0 parts) }
     {
         (0..parts).find(|q| *q != own && !self.has(*q))
     }

@@ -1,10 +1,11 @@
 //! Rows of registers in one buffer.
 
-ghost use Rattle.std.specs.Prelude.{◌≡◌, ◌≢◌, ◌↔◌, length, false, [], IsTrue, IfOk, replicate, slice_index, slice_index_or, slice_set, ◌<◌, ◌≤◌, ◌+◌, ◌*◌, ◌^◌, ◌++◌, take, drop};
+ghost use Rattle.std.specs.Prelude.{◌≡◌, ◌≢◌, ◌↔◌, length, false, [], IsTrue, IfOk, replicate, slice_index, slice_index_or, slice_set, ◌<◌, ◌≤◌, ◌+◌, ◌*◌, ◌^◌};
 ghost use Rattle.ball_model.specs.Counter.{max_each};
 ghost use Rattle.ball_model.specs.Report.{empty_of};
 ghost use Rattle.registers.specs.Glance.{glanced_at, is_less_at};
 ghost use Rattle.registers.specs.Raised.{raised_one};
+ghost use Rattle.registers.specs.Shape.{piece_at, with_piece};
 
 use super::{Join, max_into};
 use std::alloc::{AllocError, Global};
@@ -88,16 +89,17 @@ impl Rows {
     }
 
     /// Whether row `i` is seen at a glance to be less than `src` somewhere, so that it would be raised: in its last
-    /// register, or in one of each line of the cache.
+    /// register, or in one of each line of the cache. Of a row of no registers nothing is seen.
     ///
     /// Rows that are glanced at first and raised then are fetched side by side, and not one after the other.
     pub fn glance(&self, i: usize, src: &[u8]) -> bool
         requires row { i < length self.now.rows }
         requires width { length src.now ≡ self.now.width }
-        requires some { 0 < length src.now }
-        ensures value { result ≡ is_less_at (glanced_at self.now.width) (slice_index_or self.now.rows i []) src.now }
-        ensures rises { IsTrue result →
-            max_each (slice_index_or self.now.rows i []) src.now ≢ slice_index_or self.now.rows i [] }
+        ensures value { result
+            ≡ is_less_at (glanced_at self.now.width) (slice_index_or self.now.rows i []) src.now }
+        ensures rises { IsTrue result → (
+            max_each (slice_index_or self.now.rows i []) src.now ≢ slice_index_or self.now.rows i []
+            ) }
     {
         glance_over(piece(&self.cells, self.width, i), src)
     }
@@ -109,8 +111,9 @@ impl Rows {
         ensures raised { self.new ≡ record self.old {
           rows = slice_set self.old.rows i (max_each (slice_index_or self.old.rows i []) src.now);
         } }
-        ensures unchanged { (result ≡ false) ↔
-            (max_each (slice_index_or self.old.rows i []) src.now ≡ slice_index_or self.old.rows i []) }
+        ensures unchanged { (result ≡ false) ↔ (
+            max_each (slice_index_or self.old.rows i []) src.now ≡ slice_index_or self.old.rows i []
+            ) }
     {
         raise_piece(&mut self.cells, self.width, i, src)
     }
@@ -120,9 +123,11 @@ impl Rows {
         requires row { i < length self.old.rows }
         requires place { index < self.old.width }
         ensures raised { self.new ≡ record self.old {
-          rows = slice_set self.old.rows i (raised_one (slice_index_or self.old.rows i []) index rank);
+          rows = slice_set self.old.rows i
+              (raised_one (slice_index_or self.old.rows i []) index rank);
         } }
-        ensures changed { IsTrue result ↔ (slice_index (slice_index_or self.old.rows i []) index < rank) }
+        ensures changed { IsTrue result
+            ↔ (slice_index (slice_index_or self.old.rows i []) index < rank) }
     {
         raise_place(&mut self.cells, self.width, i, index, rank)
     }
@@ -182,7 +187,7 @@ impl Join for Rows {
 // The i-th piece of the cells.
 fn piece(cells: &[u8], width: usize, i: usize) -> &[u8]
     requires { i * width + width ≤ length cells.now }
-    ensures value { result.now ≡ take width (drop (i * width) cells.now) }
+    ensures value { result.now ≡ piece_at width i cells.now }
     ensures width { length result.now ≡ width }
 {
     let start = i * width;
@@ -200,10 +205,12 @@ fn zeros(row: &[u8]) -> u32
 // Whether the last register of a row, or one of each line, is less than that of `src`.
 fn glance_over(row: &[u8], src: &[u8]) -> bool
     requires same_length { length row.now ≡ length src.now }
-    requires some { 0 < length src.now }
     ensures value { result ≡ is_less_at (glanced_at (length row.now)) row.now src.now }
     ensures rises { IsTrue result → max_each row.now src.now ≢ row.now }
 {
+    if row.is_empty() {
+        return false;
+    }
     let last = row.len() - 1;
     let mut less = row[last] < src[last];
     for line in 0..row.len() / LINE {
@@ -216,10 +223,10 @@ fn glance_over(row: &[u8], src: &[u8]) -> bool
 fn raise_piece(cells: &mut [u8], width: usize, i: usize, src: &[u8]) -> bool
     requires within { i * width + width ≤ length cells.old }
     requires width { length src.now ≡ width }
-    ensures raised { cells.new ≡ take (i * width) cells.old
-        ++ (max_each (take width (drop (i * width) cells.old)) src.now ++ drop (i * width + width) cells.old) }
-    ensures unchanged { (result ≡ false) ↔
-        (max_each (take width (drop (i * width) cells.old)) src.now ≡ take width (drop (i * width) cells.old)) }
+    ensures raised { cells.new
+        ≡ with_piece width i (max_each (piece_at width i cells.old) src.now) cells.old }
+    ensures unchanged { (result ≡ false)
+        ↔ (max_each (piece_at width i cells.old) src.now ≡ piece_at width i cells.old) }
 {
     let start = i * width;
     max_into(&mut cells[start..start + width], src)
@@ -229,9 +236,9 @@ fn raise_piece(cells: &mut [u8], width: usize, i: usize, src: &[u8]) -> bool
 fn raise_place(cells: &mut [u8], width: usize, i: usize, index: usize, rank: u8) -> bool
     requires within { i * width + width ≤ length cells.old }
     requires place { index < width }
-    ensures raised { cells.new ≡ take (i * width) cells.old
-        ++ (raised_one (take width (drop (i * width) cells.old)) index rank ++ drop (i * width + width) cells.old) }
-    ensures changed { IsTrue result ↔ (slice_index (take width (drop (i * width) cells.old)) index < rank) }
+    ensures raised { cells.new
+        ≡ with_piece width i (raised_one (piece_at width i cells.old) index rank) cells.old }
+    ensures changed { IsTrue result ↔ (slice_index (piece_at width i cells.old) index < rank) }
 {
     let start = i * width;
     raise_byte(&mut cells[start..start + width], index, rank)

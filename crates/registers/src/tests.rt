@@ -99,6 +99,13 @@ fn a_glance_reads_each_line(rt: HostRuntime) -> Result<(), Fail> {
 }
 
 #[test]
+fn nothing_is_seen_of_an_empty_row(rt: HostRuntime) -> Result<(), Fail> {
+    let rows = Rows::fixed(rt.alloc(), 1, 0)?;
+    assert!(rt; !rows.glance(0, &[]), "a row of no registers");
+    Ok(())
+}
+
+#[test]
 fn one_row_is_raised(rt: HostRuntime) -> Result<(), Fail> {
     let mut rows = Rows::fixed(rt.alloc(), 3, 4)?;
     assert!(rt; rows.raise(1, &[0, 3, 0, 33]));

@@ -9,11 +9,11 @@ piece-requires c =
     let is = shown r.width r.count r.cells.items c.args.self.now c.self.view_is in
     omega (arith, row_ends r.width r.count r.cells.items c.args.self.now c.args.i r.cells.len is c.requires.row c.self.invariant.filled, c.deref.ensures.len)
 
-pub glance_over-requires-clause-same_length : goal.glance_over-requires-clause-same_length
-glance_over-requires-clause-same_length c =
+pub glance_over-requires : goal.glance_over-requires
+glance_over-requires c =
     let r = c.self.inside in
     let is = shown r.width r.count r.cells.items c.args.self.now c.self.view_is in
-    c.piece.ensures.width ∙ is.width ∙ sym c.requires.width
+    record { same_length = c.piece.ensures.width ∙ is.width ∙ sym c.requires.width }
 
 pub returns-clause-value : goal.returns-clause-value
 returns-clause-value c =
