@@ -140,6 +140,16 @@ impl Rows {
     {
         self.cells.copy_from_slice(&other.cells);
     }
+
+    /// No row is left, and the memory of the registers is free.
+    pub fn clear(&mut self)
+        ensures { self.new ≡ record self.old { rows = [] } }
+    {
+        let Rows { cells, count, .. } = self;
+        cells.clear();
+        cells.shrink_to_fit();
+        *count = 0;
+    }
 }
 
 /// Rows of one shape are joined to the maximum of the two, register by register, with no memory taken.

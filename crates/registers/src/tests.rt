@@ -60,6 +60,14 @@ fn rows_begin_empty(rt: HostRuntime) -> Result<(), Fail> {
 }
 
 #[test]
+fn rows_are_let_go(rt: HostRuntime) -> Result<(), Fail> {
+    let mut rows = Rows::fixed(rt.alloc(), 3, 16)?;
+    rows.clear();
+    assert_eq!(rt; (rows.len(), rows.width()), (0, 16));
+    Ok(())
+}
+
+#[test]
 fn no_rows(rt: HostRuntime) -> Result<(), Fail> {
     let mut rows = Rows::fixed(rt.alloc(), 0, 1024)?;
     let other = Rows::fixed(rt.alloc(), 0, 1024)?;

@@ -28,4 +28,5 @@ pub mod SameLemmas
 pub mod MergeLemmas
 pub mod HoldingLemmas
 pub mod OverLemmas
+pub mod AccumulatorLemmas
 pub mod Crossing

@@ -1,15 +1,14 @@
 -- A replica whose run is over hears nothing any more.
-use Rattle.std.proofs.Common.{◌≡◌, ℕ, ◌<◌, Bool, true, false, ◌==◌, List, get_or, refl, ap, sym, ◌∙◌, subst, inl, inr}
-use Rattle.std.specs.Prelude.{Option, None, Some, Result, Ok}
+use Rattle.std.proofs.Common.{◌≡◌, ℕ, true, false, List, get_or, refl, ap, sym, ◌∙◌, subst, inl, inr}
+use Rattle.std.specs.Prelude.{Option, None, Some, Ok}
 use Rattle.ball_model.specs.declared.names.Verdict.{Verdict}
 use Rattle.ball_model.specs.declared.names.Verdict.TheVariants as verdict
-use Rattle.ball_model.specs.declared.names.CloseError.{CloseError}
 use Rattle.ball_model.specs.declared.names.Taken.TheVariants as taken
 use Rattle.ball_model.specs.Batches.{BatchValue, IsBatch}
 use Rattle.ball_model.specs.Content.{close_unless, missing_of, take_of}
 use Rattle.ball_model.specs.State.{State, content_of, holds_in}
 use Rattle.replica.specs.Index.{targets_of}
-use Rattle.replica.specs.Level.{found_close, is_finished, is_over, level_verdict}
+use Rattle.replica.specs.Level.{is_finished, is_over, level_verdict}
 use Rattle.replica.specs.Seen.{HasIndex}
 use Rattle.replica.proofs.AdvanceLemmas.{holds_now, missing_is}
 use Rattle.replica.proofs.LevelLemmas.{level_there}
@@ -30,7 +29,7 @@ going_index v targets has on =
     ]
 
 -- a batch of the superstep is not new to a replica whose run is over
-over_later : (v : State) (b : BatchValue) → IsBatch b → take_of v.part.plan v.part.number (content_of v) b.plan b.name ≡ Ok taken.New → is_over v ≡ true → b.name.superstep ≡ v.superstep → ⊥
+pub over_later : (v : State) (b : BatchValue) → IsBatch b → take_of v.part.plan v.part.number (content_of v) b.plan b.name ≡ Ok taken.New → is_over v ≡ true → b.name.superstep ≡ v.superstep → ⊥
 over_later v b ok new over now =
     let f = fresh v b ok new in
     let none : missing_of v.part.plan.parts v.part.number (content_of v) ≡ None = (finished_says (missing_of v.part.plan.parts v.part.number (content_of v)) (level_verdict v) v.superstep over).0 in

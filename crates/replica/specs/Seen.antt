@@ -1,5 +1,5 @@
 -- A replica's fields as plain data, and what they keep.
-use Rattle.std.specs.Prelude.{◌≡◌, ℕ, ◌+◌, ◌*◌, ◌^◌, ◌<◌, ◌≤◌, ◌⊎◌, true, List, [], map, length}
+use Rattle.std.specs.Prelude.{◌≡◌, ℕ, ◌+◌, ◌^◌, ◌≤◌, ◌⊎◌, true, List, [], ◌∷◌, map, length}
 use Rattle.std.specs.Arc.{arc_value}
 use Rattle.std.specs.Vec.{vec_capacity}
 use Rattle.std.specs.List.{sum_by}
@@ -14,6 +14,11 @@ use Rattle.replica.specs.Level.{is_over}
 use Rattle.replica.specs.Spread.{AreTouched}
 use Rattle.replica.specs.Kept.{AreEarly, AreSources, AreCounters, AllRise, AreSums}
 
+-- the accumulators: where none are kept beside the rows, they are the rows
+unfoldable pub accumulators_of : List (List ℕ) → List (List ℕ) → List (List ℕ)
+accumulators_of rows [] = rows
+accumulators_of rows (own ∷ rest) = own ∷ rest
+
 abbrev pub state_of : snapshot.Inside → State
 state_of r = record {
   part = arc_value r.part;
@@ -24,7 +29,7 @@ state_of r = record {
   sums = r.sums.items;
   heard = r.heard;
   heard_change = r.heard_change;
-  accumulated = r.accumulated.rows;
+  accumulated = accumulators_of r.rows.rows r.accumulated.rows;
   early = r.early;
 }
 
@@ -41,11 +46,16 @@ pub record IsState (v : State) : Type 0 where
   pub accumulated : AllRise v.part.plan.log2m v.rows v.accumulated
   pub early : AreEarly v.part.plan v.part.number v.superstep v.early
 
+-- of each row an accumulator is kept, or they were let go where the run is over
+abbrev pub HasAccumulators : State → List (List ℕ) → Type 0
+HasAccumulators v kept = (length kept ≡ length v.rows) ⊎ ((kept ≡ []) × (is_over v ≡ true))
+
 -- and there is room for the sums of all supersteps
 pub record IsSnapshot (s : snapshot.Inside) : Type 0 where
   pub state : IsState (state_of s)
   pub width : s.rows.width ≡ 2 ^ (arc_value s.part).plan.log2m
   pub accumulated_width : s.accumulated.width ≡ 2 ^ (arc_value s.part).plan.log2m
+  pub kept : HasAccumulators (state_of s) s.accumulated.rows
   pub room : (arc_value s.part).plan.limit + 1 ≤ vec_capacity s.sums
 
 -- the index is that of the part, or was let go where the run is over

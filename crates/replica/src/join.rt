@@ -31,7 +31,8 @@ impl Join for Replica {
 
     /// Takes over what `other` knows, as [`Replica::merge`] does with a snapshot of it.
     ///
-    /// It takes memory for the list of shared batches, for as long as it works.
+    /// It takes memory for the list of shared batches, for as long as it works, and where `close` has given back the
+    /// index and the accumulators, it makes them again.
     fn join(&mut self, alloc: Global, other: &Replica) -> Result<(), AllocError>
         requires { AreAlike (holding self.old) (holding other.now) }
         ensures joined { OnOk result
@@ -55,8 +56,7 @@ impl Join for Replica {
             &mut self.touched,
             &other.known,
             shared,
-        );
-        Ok(())
+        )
     }
 
     ghost commutative = { join_commutes };

@@ -68,7 +68,7 @@ pub struct Snapshot {
     heard: SourceMask,
     // whether one of them tells of a changed vertex
     heard_change: bool,
-    // the rows, raised by those of the sources that are heard
+    // the rows, raised by those of the sources that are heard; none where they were let go, each equal to its row
     accumulated: Rows,
     early: Early,
 }
@@ -89,7 +89,8 @@ impl Model for Snapshot {
 ///
 /// Its memory is taken when it is made: two rows of 2^log2m bytes and a tally for each vertex, 4 bytes for each edge
 /// into the partition, a slot for each source and each of three supersteps, and a sum for each superstep up to the
-/// limit.
+/// limit. Where [`Replica::close`] answers that the run is over, that of the edges is given back, and one of the two
+/// rows if they are equal.
 #[derive(Drop)]
 pub struct Replica {
     known: Snapshot,

@@ -1,16 +1,16 @@
 //! What is taken over from another replica of the partition.
 
-ghost use Rattle.std.specs.Prelude.{◌≡◌, ◌↔◌, ◌-◌, ◌<◌, min, IfOk, IsTrue};
+ghost use Rattle.std.specs.Prelude.{◌≡◌, ◌↔◌, ◌-◌, ◌<◌, ◌^◌, min, IfOk, IsTrue, OnErr, OnOk};
 ghost use Rattle.ball_model.specs.Join.{AreAlike};
 ghost use Rattle.replica.specs.Index.{targets_of};
 ghost use Rattle.replica.specs.Spread.{AreTouched};
 ghost use Rattle.replica.specs.Merged.{Absorbs, holding};
-ghost use Rattle.replica.specs.Seen.{IsState};
+ghost use Rattle.replica.specs.Seen.{IsState, accumulators_of};
 
 use crate::early::{Early, LEVELS};
 use crate::targets::Targets;
 use crate::{Snapshot, level, shown, step};
-use registers::Join;
+use registers::{Join, Rows};
 use std::alloc::{AllocError, Global};
 
 impl Snapshot {
@@ -37,43 +37,51 @@ impl Snapshot {
         touched: &mut [bool],
         other: &Snapshot,
         shared: Early,
-    )
+    ) -> Result<(), AllocError>
         requires plan { self.old.part.plan ≡ other.now.part.plan }
         requires number { self.old.part.number ≡ other.now.part.number }
         requires shared { shared ≡ other.now.early }
         requires index { targets.now ≡ targets_of self.old.part }
         requires touched { AreTouched self.old.rows self.old.accumulated touched.old }
-        ensures absorbs { Absorbs self.old other.now self.new }
+        ensures absorbs { OnOk result (Absorbs self.old other.now self.new) }
+        ensures refused { OnErr result (self.new ≡ self.old) }
         ensures touched { AreTouched self.new.rows self.new.accumulated touched.new }
         ensures mine { IsState self.old }
         ensures theirs { IsState other.now }
     {
+        let theirs = other.accumulators();
         if self.superstep < other.superstep {
-            self.overtake(targets, touched, other, shared);
+            self.overtake(alloc, targets, touched, other, theirs, shared)
         } else if other.superstep < self.superstep {
-            self.gather(targets, touched, other, shared);
+            self.gather(alloc, targets, touched, other, shared)
         } else {
-            self.unite(alloc, touched, other, shared);
+            self.unite(alloc, touched, other, theirs, shared)
         }
     }
 
     // Becomes what another one is that is further; of the own batches those count that are of its superstep or later.
     fn overtake(
         &mut self,
+        alloc: Global,
         targets: &Targets,
         touched: &mut [bool],
         other: &Snapshot,
+        theirs: &Rows,
         mut shared: Early,
-    )
+    ) -> Result<(), AllocError>
         requires further { self.old.superstep < other.now.superstep }
         requires plan { self.old.part.plan ≡ other.now.part.plan }
         requires number { self.old.part.number ≡ other.now.part.number }
+        requires theirs { theirs.now.rows ≡ other.now.accumulated }
+        requires width { theirs.now.width ≡ 2 ^ other.now.part.plan.log2m }
         requires shared { shared ≡ other.now.early }
         requires index { targets.now ≡ targets_of self.old.part }
         requires touched { AreTouched self.old.rows self.old.accumulated touched.old }
-        ensures absorbs { Absorbs self.old other.now self.new }
+        ensures absorbs { OnOk result (Absorbs self.old other.now self.new) }
+        ensures refused { OnErr result (self.new ≡ self.old) }
         ensures touched { AreTouched self.new.rows self.new.accumulated touched.new }
     {
+        renew(alloc, &self.rows, &mut self.accumulated)?;
         let plan = *self.part.plan();
         let ahead = gap(self.superstep, other.superstep);
         self.superstep = other.superstep;
@@ -83,7 +91,7 @@ impl Snapshot {
         shown::refill(&mut self.sums, &other.sums);
         self.heard = other.heard;
         self.heard_change = other.heard_change;
-        self.accumulated.copy_from(&other.accumulated);
+        self.accumulated.copy_from(theirs);
         level::mark(&self.rows, &self.accumulated, touched);
         self.early.shift(ahead);
         level::hear_early(
@@ -97,25 +105,29 @@ impl Snapshot {
         );
         self.early.shift(1);
         self.early.fill(&mut shared);
+        Ok(())
     }
 
     // Of the batches of another one that is behind, those of the own superstep are heard, and later ones kept.
     fn gather(
         &mut self,
+        alloc: Global,
         targets: &Targets,
         touched: &mut [bool],
         other: &Snapshot,
         mut shared: Early,
-    )
+    ) -> Result<(), AllocError>
         requires further { other.now.superstep < self.old.superstep }
         requires plan { self.old.part.plan ≡ other.now.part.plan }
         requires number { self.old.part.number ≡ other.now.part.number }
         requires shared { shared ≡ other.now.early }
         requires index { targets.now ≡ targets_of self.old.part }
         requires touched { AreTouched self.old.rows self.old.accumulated touched.old }
-        ensures absorbs { Absorbs self.old other.now self.new }
+        ensures absorbs { OnOk result (Absorbs self.old other.now self.new) }
+        ensures refused { OnErr result (self.new ≡ self.old) }
         ensures touched { AreTouched self.new.rows self.new.accumulated touched.new }
     {
+        renew(alloc, &self.rows, &mut self.accumulated)?;
         let plan = *self.part.plan();
         shared.shift(gap(other.superstep, self.superstep));
         level::hear_early(
@@ -129,24 +141,51 @@ impl Snapshot {
         );
         shared.shift(1);
         self.early.fill(&mut shared);
+        Ok(())
     }
 
     // What either of two at one superstep has heard and keeps.
-    fn unite(&mut self, alloc: Global, touched: &mut [bool], other: &Snapshot, mut shared: Early)
+    fn unite(
+        &mut self,
+        alloc: Global,
+        touched: &mut [bool],
+        other: &Snapshot,
+        theirs: &Rows,
+        mut shared: Early,
+    ) -> Result<(), AllocError>
         requires level { self.old.superstep ≡ other.now.superstep }
         requires plan { self.old.part.plan ≡ other.now.part.plan }
         requires number { self.old.part.number ≡ other.now.part.number }
+        requires theirs { theirs.now.rows ≡ other.now.accumulated }
+        requires width { theirs.now.width ≡ 2 ^ other.now.part.plan.log2m }
         requires shared { shared ≡ other.now.early }
         requires touched { AreTouched self.old.rows self.old.accumulated touched.old }
-        ensures absorbs { Absorbs self.old other.now self.new }
+        ensures absorbs { OnOk result (Absorbs self.old other.now self.new) }
+        ensures refused { OnErr result (self.new ≡ self.old) }
         ensures touched { AreTouched self.new.rows self.new.accumulated touched.new }
     {
-        let _settled = self.accumulated.join(alloc, &other.accumulated);
+        renew(alloc, &self.rows, &mut self.accumulated)?;
+        let _heard = self.heard.join(alloc, &other.heard);
+        let _raised = self.accumulated.join(alloc, theirs);
         level::mark(&self.rows, &self.accumulated, touched);
-        let _settled = self.heard.join(alloc, &other.heard);
         self.heard_change |= other.heard_change;
         self.early.fill(&mut shared);
+        Ok(())
     }
+}
+
+// The accumulators again, where they were let go: as the rows. An error changes nothing.
+fn renew(alloc: Global, rows: &Rows, accumulated: &mut Rows) -> Result<(), AllocError>
+    requires width { rows.now.width ≡ accumulated.old.width }
+    ensures rows { OnOk result (accumulated.new ≡ record accumulated.old {
+      rows = accumulators_of rows.now.rows accumulated.old.rows;
+    }) }
+    ensures refused { OnErr result (accumulated.new ≡ accumulated.old) }
+{
+    if accumulated.len() == 0 {
+        *accumulated = shown::copy_rows(alloc, rows)?;
+    }
+    Ok(())
 }
 
 // Of how many supersteps between the two no batch counts; past all that are kept it is as many as these.

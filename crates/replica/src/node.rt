@@ -104,7 +104,8 @@ impl Replica {
     /// [`Finished`](CloseError::Finished) where the verdict is Stable or Limit; an error changes nothing. Batches of
     /// the superstep go, the others stay. It takes time in proportion to the registers of the vertices that change and
     /// of the edges from own vertices that did, and a look at one mark a vertex. Where it answers `Finished`, it gives
-    /// back the memory of the index, which only a merge may need again.
+    /// back the memory of the index, and that of the accumulators if each equals its row; only a merge or a join may
+    /// need them again.
     pub fn close(&mut self) -> Result<u32, CloseError>
         ensures waits { (q : ℕ) → (result ≡ Err (waits.Waiting q)) ↔
             (missing_of self.old.part.plan.parts self.old.part.number (content_of self.old)
@@ -131,9 +132,10 @@ impl Replica {
     /// is further, and its batches of the superstep reached and of the three that follow.
     ///
     /// In this order: [`OtherJob`](MergeError::OtherJob) where the plan is another,
-    /// [`NotMine`](MergeError::NotMine) where the partition is, [`Memory`](MergeError::Memory) where the list of
-    /// shared batches, three for each partition, or the index is refused; an error changes nothing. It waits for nobody. It takes
-    /// time in proportion to the registers of the partition, and of the edges from the early batches' vertices.
+    /// [`NotMine`](MergeError::NotMine) where the partition is, [`Memory`](MergeError::Memory) where that of the list
+    /// of shared batches, three for each partition, is refused, or that of the index and the accumulators, which are
+    /// made again where `close` has given them back; an error changes nothing. It waits for nobody. It takes time in
+    /// proportion to the registers of the partition, and of the edges from the early batches' vertices.
     pub fn merge(&mut self, alloc: Global, other: &Snapshot) -> Result<(), MergeError>
         ensures answer { result ≢ Err refusal.Memory → result ≡
             merge_of self.old.part.plan self.old.part.number
@@ -167,15 +169,20 @@ impl Replica {
         let Ok(()) = self.targets.renew(alloc, &self.known.part) else {
             return Err(MergeError::Memory);
         };
-        self.known
-            .absorb(alloc, &self.targets, &mut self.touched, other, shared);
+        let Ok(()) = self
+            .known
+            .absorb(alloc, &self.targets, &mut self.touched, other, shared)
+        else {
+            return Err(MergeError::Memory);
+        };
         Ok(())
     }
 
     /// What the replica has now.
     ///
-    /// The batches and the part are shared, the rest is a copy: 2 rows of 2^log2m registers and a tally for each
-    /// vertex, and room for a sum for each superstep. The error is that memory was refused.
+    /// The batches and the part are shared, the rest is a copy: 2 rows of 2^log2m registers (1 where `close` has given
+    /// back the accumulators) and a tally for each vertex, and room for a sum for each superstep. The error is that
+    /// memory was refused.
     pub fn snapshot(&self, alloc: Global) -> Result<Snapshot, AllocError>
         ensures same { IfOk result (λ s. s ≡ self.now) }
         ensures stands { IfOk result (λ s. (j : Job) (p t : ℕ) → StandsFor j p t self.now →

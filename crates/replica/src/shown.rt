@@ -207,7 +207,19 @@ impl Snapshot {
             slice_index_or self.now.accumulated (x / self.now.part.plan.parts) [] }
         ensures counter { IsCounterRow self.now.part.plan.log2m result.now }
     {
-        self.accumulated.row(self.place(x))
+        self.accumulators().row(self.place(x))
+    }
+
+    /// The accumulators, a row each: the rows themselves where no others are kept.
+    pub(crate) fn accumulators(&self) -> &Rows
+        ensures value { result.now.rows ≡ self.now.accumulated }
+        ensures width { result.now.width ≡ 2 ^ self.now.part.plan.log2m }
+    {
+        if self.accumulated.len() == 0 {
+            &self.rows
+        } else {
+            &self.accumulated
+        }
     }
 
     /// How many batches of later supersteps are kept. It takes time in proportion to three slots for each partition.

@@ -1,6 +1,6 @@
 //! How what a replica has changes, superstep by superstep.
 
-ghost use Rattle.std.specs.Prelude.{◌≡◌, true, ℕ, ◌<◌, ◌≤◌, ◌+◌, ◌*◌, length, Ok, OnOk, OnErr};
+ghost use Rattle.std.specs.Prelude.{◌≡◌, true, false, ℕ, ◌<◌, ◌≤◌, ◌+◌, ◌*◌, length, Ok, OnOk, OnErr};
 ghost use Rattle.std.specs.Arc.{arc_value};
 ghost use Rattle.ball_model.specs.declared.names.Taken.TheVariants as taken;
 ghost use Rattle.ball_model.specs.Batches.{IsBatch};
@@ -98,8 +98,22 @@ impl Snapshot {
                     self.advance(targets, touched);
                     Ok(next)
                 }
-                Verdict::Stable | Verdict::Limit => Err(CloseError::Finished),
+                Verdict::Stable | Verdict::Limit => {
+                    self.settle(touched);
+                    Err(CloseError::Finished)
+                }
             },
+        }
+    }
+
+    // Lets the accumulators go where the run is over and each of them equals its row.
+    fn settle(&mut self, touched: &[bool])
+        requires over { is_over self.old ≡ true }
+        requires touched { AreTouched self.old.rows self.old.accumulated touched.now }
+        ensures { self.new ≡ self.old }
+    {
+        if !level::is_marked(touched) {
+            self.accumulated.clear();
         }
     }
 
@@ -107,6 +121,7 @@ impl Snapshot {
     // the batches of the new superstep are heard.
     fn advance(&mut self, targets: &Targets, touched: &mut [bool])
         requires limit { self.old.superstep < self.old.part.plan.limit }
+        requires going { is_over self.old ≡ false }
         requires index { targets.now ≡ targets_of self.old.part }
         requires touched { AreTouched self.old.rows self.old.accumulated touched.old }
         ensures advances { Advances self.old self.new }

@@ -419,6 +419,8 @@ fn reach_limit(rt: &HostRuntime, all: &mut [Replica]) -> bool {
 fn limit_of_one(rt: HostRuntime) -> Result<(), Fail> {
     let mut all = start(&rt, 2, 1)?;
     assert!(rt; reach_limit(&rt, &mut all));
+    // an accumulator that differs from its row is kept
+    assert!(rt; has_row(&all, 2, &ROW_BC) && has_accumulated(&all, 2, &ROW_ABC));
     Ok(())
 }
 
@@ -926,6 +928,49 @@ fn joins_further(rt: &HostRuntime, turned: bool) -> Option<bool> {
 fn joins_where_one_is_further(rt: HostRuntime) {
     assert_eq!(rt; joins_further(&rt, false), Some(true));
     assert_eq!(rt; joins_further(&rt, true), Some(true));
+}
+
+/// Whether the accumulators of a replica's vertices are its rows.
+fn is_settled(replica: &Replica) -> bool {
+    let mut same = true;
+    for x in 0..4 {
+        if replica.owns(x) {
+            same &= replica.accumulated(x) == replica.row(x);
+        }
+    }
+    same
+}
+
+/// Whether partition 0 of two runs is over, and its accumulators are its rows.
+fn are_over(left: &mut [Replica], right: &mut [Replica]) -> Option<bool> {
+    let (left, right) = (left.get_mut(0)?, right.get_mut(0)?);
+    let over = left.close() == Err(CloseError::Finished);
+    let both = over && right.close() == Err(CloseError::Finished);
+    Some(both && is_settled(left) && is_settled(right))
+}
+
+/// A replica whose run is over merges another such one and joins one behind, and is as it was; the one behind joins
+/// it, and is as it is.
+fn over_and_taken_over(rt: &HostRuntime) -> Option<bool> {
+    let mut over = two_edges(rt, 2, 4096)?;
+    let mut other = two_edges(rt, 2, 4096)?;
+    let mut behind = two_edges(rt, 2, 4096)?;
+    let mut done = run(rt, &mut over, 3) && exchange(rt, &mut over);
+    done &= run(rt, &mut other, 3) && exchange(rt, &mut other);
+    let before = over.get(0)?.snapshot(rt.alloc()).ok()?;
+    done &= are_over(&mut over, &mut other)? && shows_all(over.get(0)?, &before);
+    done &= merged(rt, &mut over, 0, other.get(0)) == Some(Ok(()));
+    done &= is_settled(over.get(0)?) && shows_all(over.get(0)?, &before);
+    done &= are_over(&mut over, &mut other)?;
+    done &= joined(rt, over.get_mut(0)?, behind.get(0)?);
+    done &= is_settled(over.get(0)?) && shows_all(over.get(0)?, &before);
+    done &= joined(rt, behind.get_mut(0)?, other.get(0)?);
+    Some(done && is_settled(behind.get(0)?) && shows_all(behind.get(0)?, &before))
+}
+
+#[test]
+fn merges_and_joins_where_the_run_is_over(rt: HostRuntime) {
+    assert_eq!(rt; over_and_taken_over(&rt), Some(true));
 }
 
 /// Two replicas of partition 2, which owns vertex 2 alone: one has the batch of partition 0, the other that of

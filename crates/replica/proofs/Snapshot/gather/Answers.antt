@@ -1,12 +1,14 @@
-use Rattle.std.proofs.Common.{◌≡◌, ℕ, ◌+◌, ◌-◌, ◌<◌, List, length, refl, ap, sym, ◌∙◌, subst, arith, inl, inr}
-use Rattle.std.specs.Prelude.{Option}
+use Rattle.std.proofs.Common.{◌≡◌, ℕ, ◌+◌, ◌-◌, ◌<◌, List, length, refl, ap, sym, ◌∙◌, subst, arith, inl}
 use Rattle.ball_model.specs.PlanValue.{PlanValue}
 use Rattle.ball_model.specs.Job.{PartValue}
+use Rattle.ball_model.specs.Table.{Table}
 use Rattle.ball_model.specs.State.{State, early_at}
 use Rattle.replica.specs.Ahead.{IsTable, either}
 use Rattle.replica.specs.Index.{targets_of}
 use Rattle.replica.specs.Merged.{Absorbs}
-use Rattle.replica.specs.Seen.{state_of}
+use Rattle.replica.specs.Seen.{IsState, IsSnapshot, state_of}
+use Rattle.replica.specs.Spread.{AreTouched}
+use Rattle.replica.proofs.AccumulatorLemmas.{fields_of, fields_are, kept_snapshot}
 use Rattle.replica.proofs.AdvanceLemmas.{same_early}
 use Rattle.replica.proofs.HearLemmas.{hears_as, hears_same}
 use Rattle.replica.proofs.MergeLemmas.{Gathers, gathers_state, absorbs_lesser, shifted_told}
@@ -16,7 +18,8 @@ use Rattle.replica.proofs.Snapshot.gather.Goals as goal
 pub hear_early-requires-clause-inside : goal.hear_early-requires-clause-inside
 hear_early-requires-clause-inside c =
     let s = state_of c.self.inside in
-    inside_of s c.args.targets.now (length s.accumulated) c.self.invariant.state (c.requires.index ∙ ap (λ (v : State). targets_of v.part) (sym c.self.view_is)) refl
+    let own_rows : c.renew.new.accumulated.rows ≡ s.accumulated = ap (λ (t : Table). t.rows) c.in_ok-renew.ensures.rows in
+    inside_of s c.args.targets.now (length c.renew.new.accumulated.rows) c.self.invariant.state (c.requires.index ∙ ap (λ (v : State). targets_of v.part) (sym c.self.view_is)) (ap (length {A = List ℕ}) own_rows)
 
 pub hear_early-requires-clause-table : goal.hear_early-requires-clause-table
 hear_early-requires-clause-table c =
@@ -51,7 +54,7 @@ fill-requires c = λ n is.
     let same : s.part.plan.parts ≡ n = sym (st.early.table.sources 0 (omega arith)) ∙ is.sources 0 (omega arith) in
     subst (λ k. IsTable k c.shift-2.new.self) same (c.shift-2.ensures.table s.part.plan.parts (c.shift.ensures.table s.part.plan.parts shared_table))
 
-gathers : (c : goal.After-drop-shared-inside) → Gathers (state_of c.self.inside).part.plan.log2m (state_of c.self.inside) (state_of c.other.inside) (state_of (record { part = c.self.inside.part; superstep = c.self.inside.superstep; rows = c.self.inside.rows; marks = c.self.inside.marks; tallies = c.self.inside.tallies; sums = c.self.inside.sums; heard = c.hear_early.new.heard; heard_change = c.hear_early.new.heard_change; accumulated = c.hear_early.new.accumulated; early = c.fill.new.self }))
+gathers : (c : goal.After-drop-shared-inside-2) → Gathers (state_of c.self.inside).part.plan.log2m (state_of c.self.inside) (state_of c.other.inside) (fields_of (record { part = c.self.inside.part; superstep = c.self.inside.superstep; rows = c.self.inside.rows; marks = c.self.inside.marks; tallies = c.self.inside.tallies; sums = c.self.inside.sums; heard = c.hear_early.new.heard; heard_change = c.hear_early.new.heard_change; accumulated = c.hear_early.new.accumulated; early = c.fill.new.self }))
 gathers c =
     let s = state_of c.self.inside in
     let o = state_of c.other.inside in
@@ -73,13 +76,14 @@ gathers c =
       lt = lt;
       shown = record { superstep = refl; rows = refl; marks = refl; tallies = refl; sums = refl };
       hears = hears_same s.part.plan.log2m (targets_of s.part) (λ q. early_at c.shift.new.self 0 q) (λ q. early_at o.early gap q) _ _ (λ q. told 0 q ∙ same_early o.early (0 + gap) gap q zero_on)
-          (hears_as (ap (λ (a : PlanValue). a.log2m) own) index refl refl c.hear_early.ensures.hears);
+          (hears_as (ap (λ (a : PlanValue). a.log2m) own) index refl (ap (λ (t : Table). t.rows) c.in_ok-renew.ensures.rows) c.hear_early.ensures.hears);
       early = λ i q. inl (c.fill.ensures.kept i q ∙ ap (either (early_at s.early i q)) (c.shift-2.ensures.kept i q ∙ told (i + 1) q));
       table = c.fill.ensures.table s.part.plan.parts st.early.table;
     }
 
-pub invariant_of-self : goal.invariant_of-self
-invariant_of-self c =
+-- the limits, as the fields stand
+state_after : (c : goal.After-drop-shared-inside-2) → IsState (fields_of (record { part = c.self.inside.part; superstep = c.self.inside.superstep; rows = c.self.inside.rows; marks = c.self.inside.marks; tallies = c.self.inside.tallies; sums = c.self.inside.sums; heard = c.hear_early.new.heard; heard_change = c.hear_early.new.heard_change; accumulated = c.hear_early.new.accumulated; early = c.fill.new.self }))
+state_after c =
     let s = state_of c.self.inside in
     let o = state_of c.other.inside in
     let st = c.self.invariant.state in
@@ -91,15 +95,31 @@ invariant_of-self c =
     let table : IsTable s.part.plan.parts o.early = subst (λ n. IsTable n o.early) (sym parts) so.early.table in
     let own : c.plan.result.now ≡ s.part.plan = c.plan.ensures ∙ ap (λ (a : PartValue). a.plan) c.deref.ensures in
     let index : c.args.targets.now ≡ targets_of s.part = c.requires.index ∙ ap (λ (v : State). targets_of v.part) (sym c.self.view_is) in
-    record {
-      state = gathers_state s o (state_of (record { part = c.self.inside.part; superstep = c.self.inside.superstep; rows = c.self.inside.rows; marks = c.self.inside.marks; tallies = c.self.inside.tallies; sums = c.self.inside.sums; heard = c.hear_early.new.heard; heard_change = c.hear_early.new.heard_change; accumulated = c.hear_early.new.accumulated; early = c.fill.new.self })) st so (gathers c) (sym plan) (sym number) refl refl refl st.part;
-      width = c.self.invariant.width;
-      accumulated_width = c.hear_early.ensures.width ∙ c.self.invariant.accumulated_width;
-      room = c.self.invariant.room;
-    }
+    gathers_state s o (fields_of (record { part = c.self.inside.part; superstep = c.self.inside.superstep; rows = c.self.inside.rows; marks = c.self.inside.marks; tallies = c.self.inside.tallies; sums = c.self.inside.sums; heard = c.hear_early.new.heard; heard_change = c.hear_early.new.heard_change; accumulated = c.hear_early.new.accumulated; early = c.fill.new.self })) st so (gathers c) (sym plan) (sym number) refl refl refl st.part
+
+whole : (c : goal.After-drop-shared-inside-2) → fields_of (record { part = c.self.inside.part; superstep = c.self.inside.superstep; rows = c.self.inside.rows; marks = c.self.inside.marks; tallies = c.self.inside.tallies; sums = c.self.inside.sums; heard = c.hear_early.new.heard; heard_change = c.hear_early.new.heard_change; accumulated = c.hear_early.new.accumulated; early = c.fill.new.self }) ≡ state_of (record { part = c.self.inside.part; superstep = c.self.inside.superstep; rows = c.self.inside.rows; marks = c.self.inside.marks; tallies = c.self.inside.tallies; sums = c.self.inside.sums; heard = c.hear_early.new.heard; heard_change = c.hear_early.new.heard_change; accumulated = c.hear_early.new.accumulated; early = c.fill.new.self })
+whole c = fields_are (record { part = c.self.inside.part; superstep = c.self.inside.superstep; rows = c.self.inside.rows; marks = c.self.inside.marks; tallies = c.self.inside.tallies; sums = c.self.inside.sums; heard = c.hear_early.new.heard; heard_change = c.hear_early.new.heard_change; accumulated = c.hear_early.new.accumulated; early = c.fill.new.self }) (state_after c).accumulated.count
+
+pub invariant_of-self : goal.invariant_of-self
+invariant_of-self c = subst (λ (t : Table). IsSnapshot (record c.self.inside { accumulated = t })) (sym c.in_err-renew.ensures.refused) c.self.invariant
+
+pub invariant_of-self-2 : goal.invariant_of-self-2
+invariant_of-self-2 c =
+    kept_snapshot (record { part = c.self.inside.part; superstep = c.self.inside.superstep; rows = c.self.inside.rows; marks = c.self.inside.marks; tallies = c.self.inside.tallies; sums = c.self.inside.sums; heard = c.hear_early.new.heard; heard_change = c.hear_early.new.heard_change; accumulated = c.hear_early.new.accumulated; early = c.fill.new.self }) (state_after c) c.self.invariant.width
+    (c.hear_early.ensures.width ∙ ap (λ (t : Table). t.width) c.in_ok-renew.ensures.rows ∙ c.self.invariant.accumulated_width)
+    c.self.invariant.room
 
 pub returns-clause-absorbs : goal.returns-clause-absorbs
 returns-clause-absorbs c =
     let s = state_of c.self.inside in
     let o = state_of c.other.inside in
-    subst (λ (u : State). Absorbs u c.args.other.now (state_of (record { part = c.self.inside.part; superstep = c.self.inside.superstep; rows = c.self.inside.rows; marks = c.self.inside.marks; tallies = c.self.inside.tallies; sums = c.self.inside.sums; heard = c.hear_early.new.heard; heard_change = c.hear_early.new.heard_change; accumulated = c.hear_early.new.accumulated; early = c.fill.new.self }))) c.self.view_is (subst (λ (u : State). Absorbs s u (state_of (record { part = c.self.inside.part; superstep = c.self.inside.superstep; rows = c.self.inside.rows; marks = c.self.inside.marks; tallies = c.self.inside.tallies; sums = c.self.inside.sums; heard = c.hear_early.new.heard; heard_change = c.hear_early.new.heard_change; accumulated = c.hear_early.new.accumulated; early = c.fill.new.self }))) c.other.view_is (absorbs_lesser s.part.plan.log2m s o (state_of (record { part = c.self.inside.part; superstep = c.self.inside.superstep; rows = c.self.inside.rows; marks = c.self.inside.marks; tallies = c.self.inside.tallies; sums = c.self.inside.sums; heard = c.hear_early.new.heard; heard_change = c.hear_early.new.heard_change; accumulated = c.hear_early.new.accumulated; early = c.fill.new.self })) (gathers c) refl))
+    let absorbs : Absorbs s o (state_of (record { part = c.self.inside.part; superstep = c.self.inside.superstep; rows = c.self.inside.rows; marks = c.self.inside.marks; tallies = c.self.inside.tallies; sums = c.self.inside.sums; heard = c.hear_early.new.heard; heard_change = c.hear_early.new.heard_change; accumulated = c.hear_early.new.accumulated; early = c.fill.new.self })) = subst (λ (w : State). Absorbs s o w) (whole c) (absorbs_lesser s.part.plan.log2m s o (fields_of (record { part = c.self.inside.part; superstep = c.self.inside.superstep; rows = c.self.inside.rows; marks = c.self.inside.marks; tallies = c.self.inside.tallies; sums = c.self.inside.sums; heard = c.hear_early.new.heard; heard_change = c.hear_early.new.heard_change; accumulated = c.hear_early.new.accumulated; early = c.fill.new.self })) (gathers c) refl) in
+    subst (λ (u : State). Absorbs u c.args.other.now (state_of (record { part = c.self.inside.part; superstep = c.self.inside.superstep; rows = c.self.inside.rows; marks = c.self.inside.marks; tallies = c.self.inside.tallies; sums = c.self.inside.sums; heard = c.hear_early.new.heard; heard_change = c.hear_early.new.heard_change; accumulated = c.hear_early.new.accumulated; early = c.fill.new.self }))) c.self.view_is (subst (λ (u : State). Absorbs s u (state_of (record { part = c.self.inside.part; superstep = c.self.inside.superstep; rows = c.self.inside.rows; marks = c.self.inside.marks; tallies = c.self.inside.tallies; sums = c.self.inside.sums; heard = c.hear_early.new.heard; heard_change = c.hear_early.new.heard_change; accumulated = c.hear_early.new.accumulated; early = c.fill.new.self }))) c.other.view_is absorbs)
+
+pub returns-clause-touched : goal.returns-clause-touched
+returns-clause-touched c =
+    let s = state_of c.self.inside in
+    let own_rows : c.renew.new.accumulated.rows ≡ s.accumulated = ap (λ (t : Table). t.rows) c.in_ok-renew.ensures.rows in
+    let mine : AreTouched s.rows s.accumulated c.args.touched.now = subst (λ (v : State). AreTouched v.rows v.accumulated c.args.touched.now) (sym c.self.view_is) c.requires.touched in
+    let after : AreTouched s.rows c.hear_early.new.accumulated.rows c.hear_early.new.touched = c.hear_early.ensures.touched s.rows (subst (λ (l : List (List ℕ)). AreTouched s.rows l c.args.touched.now) (sym own_rows) mine) in
+    subst (λ (w : State). AreTouched w.rows w.accumulated c.hear_early.new.touched) (whole c) after

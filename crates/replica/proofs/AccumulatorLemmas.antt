@@ -1,0 +1,150 @@
+-- A replica's accumulators: kept beside its rows, or let go where the run is over.
+use Rattle.std.proofs.Common.{◌≡◌, ℕ, ◌+◌, ◌^◌, ◌<◌, ◌≤◌, Bool, true, false, not, List, [], ◌∷◌, length, map, get_or, refl, ap, sym, ◌∙◌, subst, arith, inl, inr}
+use Rattle.std.specs.Prelude.{Option, None, Some, Ok}
+use Rattle.std.specs.Arc.{arc_value}
+use Rattle.std.specs.List.{list_any}
+use Rattle.std.specs.Str.{bytes_eq}
+use Rattle.std.specs.Vec.{vec_capacity}
+use Rattle.std.proofs.lemmas.List.{same_lists, get_or_default}
+use Rattle.std.proofs.lemmas.List.Folds.{list_any_at}
+use Rattle.std.proofs.lemmas.Slice.Eq.{bytes_eq-Decides}
+use Rattle.ball_model.specs.declared.names.Taken.TheVariants as taken
+use Rattle.ball_model.specs.declared.names.Verdict.{Verdict}
+use Rattle.ball_model.specs.declared.names.Verdict.TheVariants as verdict
+use Rattle.ball_model.specs.Batches.{BatchValue, IsBatch}
+use Rattle.ball_model.specs.Table.{Table}
+use Rattle.ball_model.specs.Content.{close_unless, missing_of, take_of}
+use Rattle.ball_model.specs.State.{State, content_of}
+use Rattle.figures.specs.Values.{value_of}
+use Rattle.replica.specs.declared.Snapshot.TheInside as snapshot
+use Rattle.replica.specs.Level.{is_finished, is_over, level_verdict}
+use Rattle.replica.specs.Seen.{IsState, IsSnapshot, accumulators_of, state_of}
+use Rattle.replica.specs.Spread.{AreTouched}
+use Rattle.replica.proofs.OverLemmas.{over_later}
+
+-- ---- rows, and what is kept beside them
+
+pub none_kept : (rows kept : List (List ℕ)) → length kept ≡ 0 → accumulators_of rows kept ≡ rows
+unfolding accumulators_of
+none_kept rows [] e = refl
+none_kept rows (own ∷ rest) e = absurd (omega arith)
+
+pub some_kept : (rows kept : List (List ℕ)) → (length kept ≡ 0 → ⊥) → accumulators_of rows kept ≡ kept
+unfolding accumulators_of
+some_kept rows [] ne = absurd (ne refl)
+some_kept rows (own ∷ rest) ne = refl
+
+pub all_kept : (rows kept : List (List ℕ)) → length kept ≡ length rows → accumulators_of rows kept ≡ kept
+unfolding accumulators_of
+all_kept [] [] e = refl
+all_kept (row ∷ rows) [] e = absurd (omega arith)
+all_kept rows (own ∷ rest) e = refl
+
+-- ---- the fields as they stand
+
+abbrev pub fields_of : snapshot.Inside → State
+fields_of r = record {
+  part = arc_value r.part;
+  superstep = r.superstep;
+  rows = r.rows.rows;
+  marks = r.marks.items;
+  tallies = map value_of r.tallies.items;
+  sums = r.sums.items;
+  heard = r.heard;
+  heard_change = r.heard_change;
+  accumulated = r.accumulated.rows;
+  early = r.early;
+}
+
+-- where an accumulator is kept of each row they are the state
+pub fields_are : (r : snapshot.Inside) → length r.accumulated.rows ≡ length r.rows.rows → fields_of r ≡ state_of r
+fields_are r e = ap (λ (l : List (List ℕ)). record (fields_of r) { accumulated = l }) (sym (all_kept r.rows.rows r.accumulated.rows e))
+
+-- an accumulator is kept of each row
+pub record Keeps (r : snapshot.Inside) (v : State) : Type 0 where
+  pub count : length r.accumulated.rows ≡ length r.rows.rows
+  pub view_is : fields_of r ≡ v
+  pub state : IsState (fields_of r)
+
+keeps : (r : snapshot.Inside) (v : State) → IsSnapshot r → state_of r ≡ v → length r.accumulated.rows ≡ length r.rows.rows → Keeps r v
+keeps r v ok is count = record {
+  count = count;
+  view_is = fields_are r count ∙ is;
+  state = subst (λ (u : State). IsState u) (sym (fields_are r count)) ok.state;
+}
+
+-- so it is where the run goes on
+pub going_keeps : (r : snapshot.Inside) (v : State) → IsSnapshot r → state_of r ≡ v → is_over v ≡ false → Keeps r v
+going_keeps r v ok is going =
+    elim ok.kept [
+      | inl count ↦ keeps r v ok is count
+      | inr gone ↦ absurd (let bad : true ≡ false = sym gone.1 ∙ ap (λ (u : State). is_over u) is ∙ going in cc)
+    ]
+
+-- and where a batch of the superstep is new
+pub hearing_keeps : (r : snapshot.Inside) (v : State) (b : BatchValue) → IsSnapshot r → state_of r ≡ v → IsBatch b → take_of v.part.plan v.part.number (content_of v) b.plan b.name ≡ Ok taken.New → b.name.superstep ≡ v.superstep → Keeps r v
+hearing_keeps r v b ok is batch new now =
+    elim ok.kept [
+      | inl count ↦ keeps r v ok is count
+      | inr gone ↦ absurd (over_later v b batch new (subst (λ (u : State). is_over u ≡ true) is gone.1) now)
+    ]
+
+-- the fields of a replica that keeps them
+pub kept_snapshot : (r : snapshot.Inside) → IsState (fields_of r) → r.rows.width ≡ 2 ^ (arc_value r.part).plan.log2m → r.accumulated.width ≡ 2 ^ (arc_value r.part).plan.log2m → (arc_value r.part).plan.limit + 1 ≤ vec_capacity r.sums → IsSnapshot r
+kept_snapshot r st width accumulated_width room = record {
+  state = subst (λ (u : State). IsState u) (fields_are r st.accumulated.count) st;
+  width = width;
+  accumulated_width = accumulated_width;
+  kept = inl st.accumulated.count;
+  room = room;
+}
+
+-- ---- letting them go
+
+no_mark : (marks : List Bool) (i : ℕ) → i < length marks → list_any (λ mark. mark) marks ≡ false → get_or marks i false ≡ false
+no_mark marks i lt none = by_mark (get_or marks i false) refl
+  where
+    by_mark : (b : Bool) → get_or marks i false ≡ b → b ≡ false
+    by_mark true at = absurd (let some : true ≡ false = sym (list_any_at (λ mark. mark) marks i false lt at) ∙ none in cc)
+    by_mark false at = refl
+
+same_row : (a b : List ℕ) → not (bytes_eq a b) ≡ false → a ≡ b
+same_row a b e = (bytes_eq-Decides a b).0 (by_test (bytes_eq a b) e)
+  where
+    by_test : (t : Bool) → not t ≡ false → t ≡ true
+    by_test true e = refl
+    by_test false e = absurd (cc)
+
+-- where no row is marked, the accumulators are the rows
+pub unmarked_same : (rows accumulated : List (List ℕ)) (touched : List Bool) → AreTouched rows accumulated touched → list_any (λ mark. mark) touched ≡ false → accumulated ≡ rows
+unmarked_same rows accumulated touched are none =
+    same_lists accumulated rows are.count
+    (λ i d lt. get_or_default accumulated i d [] lt
+    ∙ same_row (get_or accumulated i []) (get_or rows i []) (sym (are.differ i (omega (arith, are.count))) ∙ no_mark touched i (omega (arith, are.count, are.marks)) none)
+    ∙ sym (get_or_default rows i d [] (omega (arith, are.count))))
+
+-- so the state is as it was without them
+pub let_go_same : (r : snapshot.Inside) (kept : Table) (touched : List Bool) → kept.rows ≡ [] → AreTouched (state_of r).rows (state_of r).accumulated touched → list_any (λ mark. mark) touched ≡ false → state_of (record r { accumulated = kept }) ≡ state_of r
+let_go_same r kept touched gone are none =
+    ap (λ (l : List (List ℕ)). record (state_of r) { accumulated = l })
+    (none_kept r.rows.rows kept.rows (ap (length {A = List ℕ}) gone) ∙ sym (unmarked_same r.rows.rows (accumulators_of r.rows.rows r.accumulated.rows) touched are none))
+
+-- ---- when the run is over
+
+goes_on : (o : Option ℕ) (w : Verdict) (t : ℕ) → w ≡ verdict.GoOn → is_finished (close_unless o w t) ≡ false
+goes_on None verdict.GoOn t e = refl
+goes_on None verdict.Stable t e = absurd (cc)
+goes_on None verdict.Limit t e = absurd (cc)
+goes_on (Some q) w t e = refl
+
+pub going_on : (v : State) → level_verdict v ≡ verdict.GoOn → is_over v ≡ false
+going_on v on = goes_on (missing_of v.part.plan.parts v.part.number (content_of v)) (level_verdict v) v.superstep on
+
+ends : (o : Option ℕ) (w : Verdict) (t : ℕ) → o ≡ None → (w ≡ verdict.GoOn → ⊥) → is_finished (close_unless o w t) ≡ true
+ends None verdict.GoOn t e off = absurd (off refl)
+ends None verdict.Stable t e off = refl
+ends None verdict.Limit t e off = refl
+ends (Some q) w t e off = absurd (cc)
+
+pub ended : (v : State) → missing_of v.part.plan.parts v.part.number (content_of v) ≡ None → (level_verdict v ≡ verdict.GoOn → ⊥) → is_over v ≡ true
+ended v none off = ends (missing_of v.part.plan.parts v.part.number (content_of v)) (level_verdict v) v.superstep none off

@@ -1,0 +1,25 @@
+use Rattle.std.proofs.Common.{◌≡◌, ap, sym, ◌∙◌, subst, inr}
+use Rattle.ball_model.specs.Table.{Table}
+use Rattle.ball_model.specs.State.{State}
+use Rattle.replica.specs.Level.{is_over}
+use Rattle.replica.specs.Seen.{IsState, state_of}
+use Rattle.replica.specs.Spread.{AreTouched}
+use Rattle.replica.proofs.AccumulatorLemmas.{let_go_same}
+use Rattle.replica.proofs.Snapshot.settle.Goals as goal
+
+same : (c : goal.After-clear) → state_of (record c.self.inside { accumulated = c.clear.new.self }) ≡ state_of c.self.inside
+same c =
+    let are : AreTouched (state_of c.self.inside).rows (state_of c.self.inside).accumulated c.args.touched.now = subst (λ (u : State). AreTouched u.rows u.accumulated c.args.touched.now) (sym c.self.view_is) c.requires.touched in
+    let_go_same c.self.inside c.clear.new.self c.args.touched.now (ap (λ (t : Table). t.rows) c.clear.ensures) are (sym c.is_marked.ensures ∙ c.if-not-is_marked.true)
+
+pub invariant_of-self : goal.invariant_of-self
+invariant_of-self c = record {
+  state = subst (λ (u : State). IsState u) (sym (same c)) c.self.invariant.state;
+  width = c.self.invariant.width;
+  accumulated_width = ap (λ (t : Table). t.width) c.clear.ensures ∙ c.self.invariant.accumulated_width;
+  kept = inr (ap (λ (t : Table). t.rows) c.clear.ensures, ap (λ (u : State). is_over u) (same c ∙ c.self.view_is) ∙ c.requires.over);
+  room = c.self.invariant.room;
+}
+
+pub returns-then-not-is_marked : goal.returns-then-not-is_marked
+returns-then-not-is_marked c = same c ∙ c.self.view_is
