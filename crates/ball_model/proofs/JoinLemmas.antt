@@ -7,7 +7,7 @@ use Rattle.std.proofs.lemmas.List.Folds.{list_any-append}
 use Rattle.ball_model.specs.declared.names.BatchName.{BatchName}
 use Rattle.ball_model.specs.PlanValue.{PlanValue}
 use Rattle.ball_model.specs.Content.{Content, IsContent, in_window, names_of}
-use Rattle.ball_model.specs.Join.{Holding, IsHolding, AreAlike, has_name, content_in, holding_of, joined, join_of}
+use Rattle.ball_model.specs.Join.{Holding, IsHolding, AreAlike, has_name, content_in, holding_of, union_of, join_of}
 use Rattle.ball_model.proofs.PathLemmas.{eq_true, same_true}
 
 -- ---- contents
@@ -42,19 +42,19 @@ window_made plan p t s q w =
     rw (le-leb t s w.from, le-leb s (t + 3) w.to, le-leb s plan.limit w.limit, lt-ltb q plan.parts w.part, w.other) refl
 
 -- what the join holds
-joined_out : (c d : Content) (s q : ℕ) → (joined c d).holds s q ≡ true → (max c.superstep d.superstep ≤ s) × ((c.holds s q ≡ true) ⊎ (d.holds s q ≡ true))
+joined_out : (c d : Content) (s q : ℕ) → (union_of c d).holds s q ≡ true → (max c.superstep d.superstep ≤ s) × ((c.holds s q ≡ true) ⊎ (d.holds s q ≡ true))
 joined_out c d s q e =
     let both = and_parts (nat_le (max c.superstep d.superstep) s) (c.holds s q || d.holds s q) e in
     (leb-true (max c.superstep d.superstep) s both.0, or_cases (c.holds s q) (d.holds s q) both.1)
 
-joined_left : (c d : Content) (s q : ℕ) → max c.superstep d.superstep ≤ s → c.holds s q ≡ true → (joined c d).holds s q ≡ true
+joined_left : (c d : Content) (s q : ℕ) → max c.superstep d.superstep ≤ s → c.holds s q ≡ true → (union_of c d).holds s q ≡ true
 joined_left c d s q le e = rw (le-leb (max c.superstep d.superstep) s le) (or_left (c.holds s q) (d.holds s q) e)
 
-joined_right : (c d : Content) (s q : ℕ) → max c.superstep d.superstep ≤ s → d.holds s q ≡ true → (joined c d).holds s q ≡ true
+joined_right : (c d : Content) (s q : ℕ) → max c.superstep d.superstep ≤ s → d.holds s q ≡ true → (union_of c d).holds s q ≡ true
 joined_right c d s q le e = rw (le-leb (max c.superstep d.superstep) s le) (or_right (c.holds s q) (d.holds s q) e)
 
 -- a join of contents is a content
-pub joined_content : (plan : PlanValue) (p : ℕ) (c d : Content) → IsContent plan p c → IsContent plan p d → IsContent plan p (joined c d)
+pub joined_content : (plan : PlanValue) (p : ℕ) (c d : Content) → IsContent plan p c → IsContent plan p d → IsContent plan p (union_of c d)
 joined_content plan p c d cs ds =
     let widen : (t s q : ℕ) → in_window plan p t s q ≡ true → t ≤ max c.superstep d.superstep → max c.superstep d.superstep ≤ s → in_window plan p (max c.superstep d.superstep) s q ≡ true =
     λ t s q e below from.
@@ -71,10 +71,10 @@ joined_content plan p c d cs ds =
     }
 
 -- in either order
-joined_commutes : (c d : Content) → joined c d ≡ joined d c
+joined_commutes : (c d : Content) → union_of c d ≡ union_of d c
 joined_commutes c d =
     let at : max c.superstep d.superstep ≡ max d.superstep c.superstep = omega arith in
-    content_same (joined c d) (joined d c) at (λ s q. both_ways _ _
+    content_same (union_of c d) (union_of d c) at (λ s q. both_ways _ _
     (λ e. let out = joined_out c d s q e in elim out.1 [
       | inl left ↦ joined_right d c s q (omega (arith, out.0)) left
       | inr right ↦ joined_left d c s q (omega (arith, out.0)) right
@@ -85,30 +85,30 @@ joined_commutes c d =
     ]))
 
 -- in whatever groups
-joined_associates : (c d e : Content) → joined (joined c d) e ≡ joined c (joined d e)
+joined_associates : (c d e : Content) → union_of (union_of c d) e ≡ union_of c (union_of d e)
 joined_associates c d e =
     let at : max (max c.superstep d.superstep) e.superstep ≡ max c.superstep (max d.superstep e.superstep) = omega arith in
-    content_same (joined (joined c d) e) (joined c (joined d e)) at (λ s q. both_ways _ _
-    (λ held. let out = joined_out (joined c d) e s q held in elim out.1 [
+    content_same (union_of (union_of c d) e) (union_of c (union_of d e)) at (λ s q. both_ways _ _
+    (λ held. let out = joined_out (union_of c d) e s q held in elim out.1 [
       | inl left ↦ let more = joined_out c d s q left in elim more.1 [
-        | inl first ↦ joined_left c (joined d e) s q (omega (arith, out.0)) first
-        | inr second ↦ joined_right c (joined d e) s q (omega (arith, out.0)) (joined_left d e s q (omega (arith, out.0)) second)
+        | inl first ↦ joined_left c (union_of d e) s q (omega (arith, out.0)) first
+        | inr second ↦ joined_right c (union_of d e) s q (omega (arith, out.0)) (joined_left d e s q (omega (arith, out.0)) second)
       ]
-      | inr third ↦ joined_right c (joined d e) s q (omega (arith, out.0)) (joined_right d e s q (omega (arith, out.0)) third)
+      | inr third ↦ joined_right c (union_of d e) s q (omega (arith, out.0)) (joined_right d e s q (omega (arith, out.0)) third)
     ])
-    (λ held. let out = joined_out c (joined d e) s q held in elim out.1 [
-      | inl first ↦ joined_left (joined c d) e s q (omega (arith, out.0)) (joined_left c d s q (omega (arith, out.0)) first)
+    (λ held. let out = joined_out c (union_of d e) s q held in elim out.1 [
+      | inl first ↦ joined_left (union_of c d) e s q (omega (arith, out.0)) (joined_left c d s q (omega (arith, out.0)) first)
       | inr right ↦ let more = joined_out d e s q right in elim more.1 [
-        | inl second ↦ joined_left (joined c d) e s q (omega (arith, out.0)) (joined_right c d s q (omega (arith, out.0)) second)
-        | inr third ↦ joined_right (joined c d) e s q (omega (arith, out.0)) third
+        | inl second ↦ joined_left (union_of c d) e s q (omega (arith, out.0)) (joined_right c d s q (omega (arith, out.0)) second)
+        | inr third ↦ joined_right (union_of c d) e s q (omega (arith, out.0)) third
       ]
     ]))
 
 -- a content with itself
-joined_repeats : (plan : PlanValue) (p : ℕ) (c : Content) → IsContent plan p c → joined c c ≡ c
+joined_repeats : (plan : PlanValue) (p : ℕ) (c : Content) → IsContent plan p c → union_of c c ≡ c
 joined_repeats plan p c cs =
     let at : max c.superstep c.superstep ≡ c.superstep = omega arith in
-    content_same (joined c c) c at (λ s q. both_ways _ _
+    content_same (union_of c c) c at (λ s q. both_ways _ _
     (λ e. elim (joined_out c c s q e).1 [ inl held ↦ held | inr held ↦ held ])
     (λ held. let w = window_parts plan p c.superstep s q (cs.names s q held) in joined_left c c s q (omega arith) held))
 
@@ -223,12 +223,12 @@ holding_is_one plan p c cs =
     record { listed = ap (holding_of plan p) (sym back); content = subst (IsContent plan p) (sym back) cs }
 
 -- contents with the same batches are the same holding
-pub holding_of_joined : (plan : PlanValue) (p : ℕ) (c d e : Content) → IsContent plan p c → IsContent plan p d → e.superstep ≡ max c.superstep d.superstep → ((s q : ℕ) → e.holds s q ≡ (joined c d).holds s q) → holding_of plan p e ≡ join_of (holding_of plan p c) (holding_of plan p d)
+pub holding_of_joined : (plan : PlanValue) (p : ℕ) (c d e : Content) → IsContent plan p c → IsContent plan p d → e.superstep ≡ max c.superstep d.superstep → ((s q : ℕ) → e.holds s q ≡ (union_of c d).holds s q) → holding_of plan p e ≡ join_of (holding_of plan p c) (holding_of plan p d)
 holding_of_joined plan p c d e cs ds at holds =
-    let same : e ≡ joined c d = content_same e (joined c d) at holds in
+    let same : e ≡ union_of c d = content_same e (union_of c d) at holds in
     let left : content_in (holding_of plan p c) ≡ c = content_back plan p c cs in
     let right : content_in (holding_of plan p d) ≡ d = content_back plan p d ds in
-    ap (holding_of plan p) (same ∙ ap (λ x. joined x d) (sym left) ∙ ap (λ y. joined (content_in (holding_of plan p c)) y) (sym right))
+    ap (holding_of plan p) (same ∙ ap (λ x. union_of x d) (sym left) ∙ ap (λ y. union_of (content_in (holding_of plan p c)) y) (sym right))
 
 -- the contents of two that may be joined are of one plan and one partition
 right_content : (a b : Holding) → AreAlike a b → IsContent a.plan a.partition (content_in b)
@@ -236,7 +236,7 @@ right_content a b alike =
     subst (λ plan. IsContent plan a.partition (content_in b)) (sym alike.plan)
     (subst (λ p. IsContent b.plan p (content_in b)) (sym alike.partition) alike.right.content)
 
-pub join_content : (a b : Holding) → AreAlike a b → IsContent a.plan a.partition (joined (content_in a) (content_in b))
+pub join_content : (a b : Holding) → AreAlike a b → IsContent a.plan a.partition (union_of (content_in a) (content_in b))
 join_content a b alike = joined_content a.plan a.partition (content_in a) (content_in b) alike.left.content (right_content a b alike)
 
 pub alike_turns : (a b : Holding) → AreAlike a b → AreAlike b a
@@ -250,7 +250,7 @@ pub join_stays_alike : (a b : Holding) → AreAlike a b → AreAlike (join_of a 
 join_stays_alike a b alike = record {
   plan = alike.plan;
   partition = alike.partition;
-  left = holding_is_one a.plan a.partition (joined (content_in a) (content_in b)) (join_content a b alike);
+  left = holding_is_one a.plan a.partition (union_of (content_in a) (content_in b)) (join_content a b alike);
   right = alike.right;
 }
 
@@ -258,17 +258,17 @@ join_stays_alike a b alike = record {
 pub join_commutes : (a b : Holding) → AreAlike a b → join_of a b ≡ join_of b a
 join_commutes a b alike =
     ap (holding_of a.plan a.partition) (joined_commutes (content_in a) (content_in b))
-    ∙ ap (λ plan. holding_of plan a.partition (joined (content_in b) (content_in a))) alike.plan
-    ∙ ap (λ p. holding_of b.plan p (joined (content_in b) (content_in a))) alike.partition
+    ∙ ap (λ plan. holding_of plan a.partition (union_of (content_in b) (content_in a))) alike.plan
+    ∙ ap (λ p. holding_of b.plan p (union_of (content_in b) (content_in a))) alike.partition
 
 pub join_associates : (a b c : Holding) → AreAlike a b → AreAlike b c → join_of (join_of a b) c ≡ join_of a (join_of b c)
 join_associates a b c first second =
-    let left : content_in (join_of a b) ≡ joined (content_in a) (content_in b) = content_back a.plan a.partition (joined (content_in a) (content_in b)) (join_content a b first) in
-    let right : content_in (join_of b c) ≡ joined (content_in b) (content_in c) = content_back b.plan b.partition (joined (content_in b) (content_in c)) (join_content b c second) in
+    let left : content_in (join_of a b) ≡ union_of (content_in a) (content_in b) = content_back a.plan a.partition (union_of (content_in a) (content_in b)) (join_content a b first) in
+    let right : content_in (join_of b c) ≡ union_of (content_in b) (content_in c) = content_back b.plan b.partition (union_of (content_in b) (content_in c)) (join_content b c second) in
     ap (holding_of a.plan a.partition)
-    (ap (λ x. joined x (content_in c)) left
+    (ap (λ x. union_of x (content_in c)) left
     ∙ joined_associates (content_in a) (content_in b) (content_in c)
-    ∙ ap (λ y. joined (content_in a) y) (sym right))
+    ∙ ap (λ y. union_of (content_in a) y) (sym right))
 
 pub join_repeats : (a : Holding) → AreAlike a a → join_of a a ≡ a
 join_repeats a alike =
@@ -278,7 +278,7 @@ join_repeats a alike =
 pub join_is_union : (a b : Holding) (s q : ℕ) → AreAlike a b →
     IsTrue (has_name (join_of a b).names s q) ↔ ((IsTrue (has_name a.names s q) ⊎ IsTrue (has_name b.names s q)) × (a.superstep ≤ s) × (b.superstep ≤ s))
 join_is_union a b s q alike =
-    let c = joined (content_in a) (content_in b) in
+    let c = union_of (content_in a) (content_in b) in
     let kept : has_name (join_of a b).names s q ≡ c.holds s q = has_name-names_of a.plan a.partition c (join_content a b alike) s q in (
       λ named.
           let out = joined_out (content_in a) (content_in b) s q (sym kept ∙ named) in

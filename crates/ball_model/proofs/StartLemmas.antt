@@ -6,7 +6,7 @@ use Rattle.std.proofs.lemmas.Slice.Eq.{bytes_eq-Decides}
 use Rattle.std.proofs.lemmas.List.{get_or-set_same, length-replicate, get_or-replicate}
 use Rattle.std.proofs.Math.Nat.{mod-lt, div-le_self}
 use Rattle.std.proofs.lemmas.Nat.{xor_lt}
-use Rattle.ball_model.specs.Hash.{hash_of, index_of, rank_of, plus64, times64, folded}
+use Rattle.ball_model.specs.Hash.{hash_of, index_of, rank_of, plus64, times64, xor_shift}
 use Rattle.ball_model.specs.Graph.{Graph, IsGraph, is_path, in_ball, in_ball_before, is_counted}
 use Rattle.ball_model.specs.Counter.{Mixing, register_of, ball_counter}
 use Rattle.ball_model.specs.Change.{changed_at}
@@ -20,9 +20,9 @@ pub hash_small : (seed x : ℕ) → hash_of seed x < 2 ^ 64
 unfolding hash_of
 hash_small seed x =
     let start = plus64 seed (times64 (x + 1) 0x9e3779b97f4a7c15) in
-    let second = times64 (folded 30 start) 0xbf58476d1ce4e5b9 in
-    let third = times64 (folded 27 second) 0x94d049bb133111eb in
-    let small : third < 2 ^ 64 = mod-lt (folded 27 second * 0x94d049bb133111eb) (lit< tt) in
+    let second = times64 (xor_shift 30 start) 0xbf58476d1ce4e5b9 in
+    let third = times64 (xor_shift 27 second) 0x94d049bb133111eb in
+    let small : third < 2 ^ 64 = mod-lt (xor_shift 27 second * 0x94d049bb133111eb) (lit< tt) in
     xor_lt 64 third (third / 2 ^ 31) small (omega (arith, div-le_self third (2 ^ 31)))
 
 -- an index is one of a register

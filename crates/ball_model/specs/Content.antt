@@ -103,8 +103,8 @@ unfoldable pub close_of : Job → ℕ → Content → Result ℕ CloseError
 close_of j p c = close_unless (missing_of j.plan.parts p c) (verdict_at j c.superstep) c.superstep
 
 -- the content after a close: names of the superstep go, the others stay
-abbrev pub closed : Content → Content
-closed c = record {
+abbrev pub after_close : Content → Content
+after_close c = record {
   superstep = c.superstep + 1;
   holds = λ s q. nat_lt c.superstep s && c.holds s q;
 }

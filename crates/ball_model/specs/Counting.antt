@@ -30,20 +30,20 @@ list_fault_at labels records i =
     else None
 
 -- the vertices that some record names, ascending
-unfoldable pub counted_by : List (List ℕ) → List (List (List ℕ)) → List ℕ
-counted_by labels records =
+unfoldable pub named_vertices : List (List ℕ) → List (List (List ℕ)) → List ℕ
+named_vertices labels records =
     filter (λ v. list_any (names (slice_index_or labels v [])) records)
     (range_with_len 0 (length labels))
 
 -- the network in which just the vertices that some record names are counted
-abbrev pub counting : Network → List (List (List ℕ)) → Network
-counting network records = record network {
-  graph = record network.graph { counted = counted_by network.labels records };
+abbrev pub counted_network : Network → List (List (List ℕ)) → Network
+counted_network network records = record network {
+  graph = record network.graph { counted = named_vertices network.labels records };
 }
 
 abbrev pub counting_unless : Option CountedRefusal → Network → List (List (List ℕ)) →
     Result Network CountedRefusal
-counting_unless None network records = Ok (counting network records)
+counting_unless None network records = Ok (counted_network network records)
 counting_unless (Some refusal) network records = Err refusal
 
 -- records are refused for the first one at which a check fails, or say which vertices are counted

@@ -25,8 +25,8 @@ abbrev pub is_counted : Graph → ℕ → Bool
 is_counted g v = list_any (λ k. k == v) g.counted
 
 -- the counted vertices, each once, ascending
-unfoldable pub listed_counted : Graph → List ℕ
-listed_counted g = filter (λ v. is_counted g v) (range_with_len 0 g.vertices)
+unfoldable pub counted_vertices : Graph → List ℕ
+counted_vertices g = filter (λ v. is_counted g v) (range_with_len 0 g.vertices)
 
 -- every vertex is counted
 abbrev pub counts_all : Graph → Bool
@@ -37,7 +37,7 @@ counts_all g = length g.counted == g.vertices
 pub record IsGraph (g : Graph) : Type 0 where
   pub ends : AllByRecursion (λ e. (e.0 < g.vertices) × (e.1 < g.vertices)) g.edges
   pub listed : g.edges ≡ listed_edges g
-  pub counted : g.counted ≡ listed_counted g
+  pub counted : g.counted ≡ counted_vertices g
 
 -- the list is a path from y to x: its first vertex is y, its last is x, and each neighbouring pair is an edge
 unfoldable pub is_path : Graph → ℕ → ℕ → List ℕ → Bool

@@ -11,15 +11,15 @@ abbrev pub times64 : ℕ → ℕ → ℕ
 times64 a b = a * b % 2 ^ 64
 
 -- n xor (n >> k)
-abbrev pub folded : ℕ → ℕ → ℕ
-folded k n = bit_xor n (n / 2 ^ k)
+abbrev pub xor_shift : ℕ → ℕ → ℕ
+xor_shift k n = bit_xor n (n / 2 ^ k)
 
 -- the hash of vertex v under a seed
 unfoldable pub hash_of : ℕ → ℕ → ℕ
 hash_of seed v =
     let start = plus64 seed (times64 (v + 1) 0x9e3779b97f4a7c15) in
-    let second = times64 (folded 30 start) 0xbf58476d1ce4e5b9 in
-    let third = times64 (folded 27 second) 0x94d049bb133111eb in folded 31 third
+    let second = times64 (xor_shift 30 start) 0xbf58476d1ce4e5b9 in
+    let third = times64 (xor_shift 27 second) 0x94d049bb133111eb in xor_shift 31 third
 
 -- the index: the top log2m bits of a hash
 unfoldable pub index_of : ℕ → ℕ → ℕ

@@ -35,8 +35,8 @@ pub record History : Type 0 where
   pub calls : List Entry
 
 -- the history that has the opening alone
-abbrev pub opened : Job → History
-opened job = record { job = job; calls = [] }
+abbrev pub start_history : Job → History
+start_history job = record { job = job; calls = [] }
 
 -- how many entries a history has, the opening among them
 abbrev pub entries_of : History → ℕ
@@ -150,8 +150,8 @@ abbrev pub IsLegal : History → Type 0
 IsLegal h = AreAnswers empty h.calls
 
 -- the content of a replica or of a snapshot, as plain data
-abbrev pub held_by : State → Holding
-held_by v = holding_of v.part.plan v.part.number (content_of v)
+abbrev pub holding_in : State → Holding
+holding_in v = holding_of v.part.plan v.part.number (content_of v)
 
 -- ---- laws, in the subject's own words. Each is the contract of a function of src/history.rt
 

@@ -26,20 +26,22 @@ pub record IsPlain (text : List ℕ) : Type 0 where
   pub ends : HasLfs text
 
 -- a byte at the front of the first of some pieces
-abbrev pub joined : ℕ → List (List ℕ) → List (List ℕ)
-joined c [] = (c ∷ []) ∷ []
-joined c (p ∷ ps) = (c ∷ p) ∷ ps
+abbrev pub with_first_byte : ℕ → List (List ℕ) → List (List ℕ)
+with_first_byte c [] = (c ∷ []) ∷ []
+with_first_byte c (p ∷ ps) = (c ∷ p) ∷ ps
 
 -- the lines of a plain text: each LF ends one, and a CR is part of a line's end
 unfoldable pub lines : List ℕ → List (List ℕ)
 lines [] = [] ∷ []
 lines (c ∷ rest) =
-    if c == 10 then [] ∷ lines rest else if c == 13 then lines rest else joined c (lines rest)
+    if c == 10 then [] ∷ lines rest
+    else if c == 13 then lines rest
+    else with_first_byte c (lines rest)
 
 -- the fields of a line, with this byte between them
 unfoldable pub fields : ℕ → List ℕ → List (List ℕ)
 fields d [] = [] ∷ []
-fields d (c ∷ rest) = if c == d then [] ∷ fields d rest else joined c (fields d rest)
+fields d (c ∷ rest) = if c == d then [] ∷ fields d rest else with_first_byte c (fields d rest)
 
 -- a line is a record where it is not empty and its first byte is not #
 abbrev pub is_record : List ℕ → Bool
@@ -139,12 +141,12 @@ network_unless None records = Ok (network_of records)
 network_unless (Some refusal) records = Err refusal
 
 -- records are refused for the first record at which a check fails, or give their network
-unfoldable pub read_as : Limits → List (List (List ℕ)) → Result Network Refusal
-read_as limits records =
+unfoldable pub network_from : Limits → List (List (List ℕ)) → Result Network Refusal
+network_from limits records =
     network_unless
     (first_of (map (fault_at limits records) (range_with_len 0 (length records))))
     records
 
 -- what a plain text says, with this byte between fields, under the limits in force
 abbrev pub input_of : ℕ → Limits → List ℕ → Result Network Refusal
-input_of d limits text = read_as (in_force limits) (records d text)
+input_of d limits text = network_from (in_force limits) (records d text)

@@ -9,8 +9,8 @@ use Rattle.ball_model.specs.PlanValue.{PlanValue}
 use Rattle.ball_model.specs.Content.{Content, IsContent, names_of, same_plan}
 
 -- the join of two contents: the greater superstep, and the batches of at least that superstep that either holds
-abbrev pub joined : Content → Content → Content
-joined a b = record {
+abbrev pub union_of : Content → Content → Content
+union_of a b = record {
   superstep = max a.superstep b.superstep;
   holds = λ s q. nat_le (max a.superstep b.superstep) s && (a.holds s q || b.holds s q);
 }
@@ -53,7 +53,7 @@ pub record AreAlike (a b : Holding) : Type 0 where
 
 -- the join of two holdings
 abbrev pub join_of : Holding → Holding → Holding
-join_of a b = holding_of a.plan a.partition (joined (content_in a) (content_in b))
+join_of a b = holding_of a.plan a.partition (union_of (content_in a) (content_in b))
 
 -- the answer of a replica to a snapshot of that plan and partition
 abbrev pub merge_of : PlanValue → ℕ → PlanValue → ℕ → Result (Unit {0}) MergeError

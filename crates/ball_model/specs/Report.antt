@@ -11,12 +11,12 @@ abbrev pub is_quoted : List ℕ → Bool
 is_quoted field = list_any (λ b. (b == 44) || (b == 34) || (b == 13) || (b == 10)) field
 
 -- a field with each quote doubled
-unfoldable pub doubled : List ℕ → List ℕ
-doubled [] = []
-doubled (b ∷ field) = if b == 34 then 34 ∷ 34 ∷ doubled field else b ∷ doubled field
+unfoldable pub inner_text : List ℕ → List ℕ
+inner_text [] = []
+inner_text (b ∷ field) = if b == 34 then 34 ∷ 34 ∷ inner_text field else b ∷ inner_text field
 
 abbrev pub field_text : List ℕ → List ℕ
-field_text field = if is_quoted field then 34 ∷ (doubled field ++ (34 ∷ [])) else field
+field_text field = if is_quoted field then 34 ∷ (inner_text field ++ (34 ∷ [])) else field
 
 -- further fields, each after a comma, and the LF that ends a line
 abbrev pub more_text : List (List ℕ) → List ℕ

@@ -18,15 +18,15 @@ abbrev pub longer : ℕ → Option (List ℕ × List ℕ) → Option (List ℕ �
 longer c None = None
 longer c (Some sections) = Some (c ∷ sections.0, sections.1)
 
-abbrev pub found_or : Option (List ℕ) → Option (List ℕ × List ℕ) → Option (List ℕ × List ℕ)
-found_or None later = later
-found_or (Some rest) later = Some ([], rest)
+abbrev pub sections_or : Option (List ℕ) → Option (List ℕ × List ℕ) → Option (List ℕ × List ℕ)
+sections_or None later = later
+sections_or (Some rest) later = Some ([], rest)
 
 -- what stands before the first line of exactly %% and what follows it; the flag says that a line begins here
 unfoldable pub sections_from : Bool → List ℕ → Option (List ℕ × List ℕ)
 sections_from begins [] = None
 sections_from begins (c ∷ rest) =
-    found_or (if begins then after_mark (c ∷ rest) else None)
+    sections_or (if begins then after_mark (c ∷ rest) else None)
     (longer c (sections_from (c == 10) rest))
 
 -- the sections before and after the first line of exactly %%

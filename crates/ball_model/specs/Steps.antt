@@ -6,8 +6,8 @@ use Rattle.ball_model.specs.declared.names.TakeError.{TakeError}
 use Rattle.ball_model.specs.declared.names.CloseError.{CloseError}
 use Rattle.ball_model.specs.declared.names.MergeError.{MergeError}
 use Rattle.ball_model.specs.Job.{Job}
-use Rattle.ball_model.specs.Content.{Content, take_of, is_new, after_take, close_of, closed}
-use Rattle.ball_model.specs.Join.{joined, merge_of}
+use Rattle.ball_model.specs.Content.{Content, take_of, is_new, after_take, close_of, after_close}
+use Rattle.ball_model.specs.Join.{union_of, merge_of}
 
 -- a call on a replica: the true batch of a name is taken, the superstep is closed, or a snapshot of a replica of the
 -- same partition with that content is merged
@@ -29,23 +29,23 @@ answer_of j p c Close = Closed (close_of j p c)
 answer_of j p c (Merge d) = Merged (merge_of j.plan p j.plan p)
 
 -- the content after a batch of the job was taken
-abbrev pub content_taken : Job → ℕ → Content → BatchName → Content
-content_taken j p c name = record {
+abbrev pub content_after_take : Job → ℕ → Content → BatchName → Content
+content_after_take j p c name = record {
   superstep = c.superstep;
   holds = λ s q.
       after_take (is_new (take_of j.plan p c j.plan name)) c.holds name.superstep name.source s q;
 }
 
 -- the content after a close with that answer
-abbrev pub content_closed : Result ℕ CloseError → Content → Content
-content_closed (Ok t) c = closed c
-content_closed (Err e) c = c
+abbrev pub content_after_close : Result ℕ CloseError → Content → Content
+content_after_close (Ok t) c = after_close c
+content_after_close (Err e) c = c
 
 -- the content after a call
 abbrev pub content_after : Job → ℕ → Content → Call → Content
-content_after j p c (Take name) = content_taken j p c name
-content_after j p c Close = content_closed (close_of j p c) c
-content_after j p c (Merge d) = joined c d
+content_after j p c (Take name) = content_after_take j p c name
+content_after j p c Close = content_after_close (close_of j p c) c
+content_after j p c (Merge d) = union_of c d
 
 -- the content after a list of calls, one after the other
 unfoldable pub content_after_all : Job → ℕ → Content → List Call → Content

@@ -10,7 +10,7 @@ use Rattle.batches.specs.declared.error.BatchError.{BatchError}
 use Rattle.batches.specs.declared.error.BatchError.TheVariants as errors
 use Rattle.batches.specs.declared.header.Header.{Header}
 use Rattle.batches.specs.Kept.{rows_at, rows_of, IsKept}
-use Rattle.batches.specs.Reading.{◌>>=◌, magic, head_at, head_bytes, check_head, check_length, check_rows, checked_at, made, batch_at, GivesOrMemory, AgreesButJob}
+use Rattle.batches.specs.Reading.{◌>>=◌, magic, head_at, head_bytes, check_head, check_length, check_rows, check_at, batch_from, batch_at, GivesOrMemory, AgreesButJob}
 use Rattle.batches.proofs.HeadLemmas.{IsBytes, IsBytes-drop, Fits, head_takes, head_again, head_len, head_after, same_head, job_len}
 use Rattle.batches.proofs.RowLemmas.{rows_take, rows_again, rows_len, flat_len, AreWide}
 use Rattle.batches.proofs.CheckLemmas.{bind_ok, guard_ok, ok_is, IsHead, head_checked, head_passes, length_checked, length_passes, AreRows, rows_all, rows_ascend, rows_are, rows_even, rows_checked, rows_pass, IsFault, AsksNone, err_asks-none, ok_asks-none, guard_asks-none, bind_asks-none, head_asks-none, length_asks-none, rows_ask-none}
@@ -33,8 +33,8 @@ pub record IsChecked (plan : PlanValue) (bytes : List ℕ) (h : Header) : Type 0
   pub whole : length (drop 54 bytes) ≡ h.count * (4 + 2 ^ plan.log2m)
   pub rows : AreRows plan h.name.source 0 (rows_at (2 ^ plan.log2m) h.count (drop 54 bytes))
 
-pub checked_takes : (plan : PlanValue) (bytes : List ℕ) (h : Header) → checked_at plan bytes ≡ Ok h → IsChecked plan bytes h
-unfolding checked_at
+pub checked_takes : (plan : PlanValue) (bytes : List ℕ) (h : Header) → check_at plan bytes ≡ Ok h → IsChecked plan bytes h
+unfolding check_at
 checked_takes plan bytes h e =
     let m = 2 ^ plan.log2m in
     let g = head_at bytes in
@@ -54,7 +54,7 @@ checked_takes plan bytes h e =
     subst (λ (x : Header). IsChecked plan bytes x) (ok_is g h three.2) all
 
 -- what passes the checks is a batch
-pub checked_batch : (plan : PlanValue) (bytes : List ℕ) (h : Header) → IsPlan plan → IsChecked plan bytes h → IsBatch (made plan h (rows_at (2 ^ plan.log2m) h.count (drop 54 bytes)))
+pub checked_batch : (plan : PlanValue) (bytes : List ℕ) (h : Header) → IsPlan plan → IsChecked plan bytes h → IsBatch (batch_from plan h (rows_at (2 ^ plan.log2m) h.count (drop 54 bytes)))
 checked_batch plan bytes h ok c =
     let rows = rows_at (2 ^ plan.log2m) h.count (drop 54 bytes) in
     let digest : length h.job ≡ 32 = ap (λ (x : Header). length x.job) c.is ∙ job_len bytes c.long in
@@ -70,16 +70,16 @@ checked_batch plan bytes h ok c =
     }
 
 -- what passes the checks is spelled so
-pub checked_spelled : (plan : PlanValue) (bytes : List ℕ) (h : Header) → IsBytes bytes → IsChecked plan bytes h → bytes ≡ batch_bytes (made plan h (rows_at (2 ^ plan.log2m) h.count (drop 54 bytes)))
+pub checked_spelled : (plan : PlanValue) (bytes : List ℕ) (h : Header) → IsBytes bytes → IsChecked plan bytes h → bytes ≡ batch_bytes (batch_from plan h (rows_at (2 ^ plan.log2m) h.count (drop 54 bytes)))
 checked_spelled plan bytes h fits c =
     let m = 2 ^ plan.log2m in
     let body = drop 54 bytes in
     let rows = rows_at m h.count body in
-    let the_head : h ≡ head_of (made plan h rows) = same_head h (head_of (made plan h rows)) c.head.magic c.head.version c.head.log2m refl refl refl refl refl (sym (rows_len m h.count body)) in
+    let the_head : h ≡ head_of (batch_from plan h rows) = same_head h (head_of (batch_from plan h rows)) c.head.magic c.head.version c.head.log2m refl refl refl refl refl (sym (rows_len m h.count body)) in
     head_takes bytes c.long fits
     ∙ ap (λ (x : Header). head_bytes x ++ body) (sym c.is ∙ the_head)
-    ∙ ap (λ (t : List ℕ). head_bytes (head_of (made plan h rows)) ++ t) (rows_take m h.count body c.whole (IsBytes-drop 54 bytes fits))
-    ∙ sym (batch_bytes-head (made plan h rows))
+    ∙ ap (λ (t : List ℕ). head_bytes (head_of (batch_from plan h rows)) ++ t) (rows_take m h.count body c.whole (IsBytes-drop 54 bytes fits))
+    ∙ sym (batch_bytes-head (batch_from plan h rows))
 
 -- rows of a batch fit their bytes
 rows_wide : (plan : PlanValue) (source least : ℕ) (rows : List (ℕ × List ℕ)) → plan.vertices ≤ 2 ^ 24 → AreRows plan source least rows → AreWide (2 ^ plan.log2m) rows
@@ -88,13 +88,13 @@ rows_wide plan source least [] few are = tt
 rows_wide plan source least (row ∷ rows) few are = (omega (arith, are.0.vertex, few), are.0.width, rows_wide plan source (row.0 + 1) rows few are.2)
 
 checks_pass : (plan : PlanValue) (bytes body : List ℕ) (h : Header) (rows : List (ℕ × List ℕ)) → 54 ≤ length bytes → head_at bytes ≡ h → drop 54 bytes ≡ body → rows_at (2 ^ plan.log2m) h.count body ≡ rows
-    → check_head plan h ≡ Ok tt → length bytes - 54 ≡ h.count * (4 + 2 ^ plan.log2m) → check_rows plan h.name.source 0 rows ≡ Ok tt → batch_at plan bytes ≡ Ok (made plan h rows)
-unfolding checked_at
+    → check_head plan h ≡ Ok tt → length bytes - 54 ≡ h.count * (4 + 2 ^ plan.log2m) → check_rows plan h.name.source 0 rows ≡ Ok tt → batch_at plan bytes ≡ Ok (batch_from plan h rows)
+unfolding check_at
 checks_pass plan bytes body h rows long is after these head_fine len rows_fine =
     rw (le-ltb (length bytes) 54 long, is, after, these, head_fine, length_passes (h.count * (4 + 2 ^ plan.log2m)) (length bytes - 54) len, rows_fine, these) refl
 
 -- the spelling of a batch under the plan with the batch's digest is read
-spelling_again : (plan : PlanValue) (b : BatchValue) → b.plan ≡ record plan { job = b.plan.job } → IsBatch b → batch_at plan (batch_bytes b) ≡ Ok (made plan (head_of b) b.rows)
+spelling_again : (plan : PlanValue) (b : BatchValue) → b.plan ≡ record plan { job = b.plan.job } → IsBatch b → batch_at plan (batch_bytes b) ≡ Ok (batch_from plan (head_of b) b.rows)
 spelling_again plan b agrees is =
     let m = 2 ^ plan.log2m in
     let h = head_of b in
@@ -140,13 +140,13 @@ with_plan p b = record { plan = p; name = b.name; changed = b.changed; rows = b.
 -- the spelling of a batch is read
 pub spelling_is_read : (plan : PlanValue) (b : BatchValue) → IsBatch b → AgreesButJob plan b.plan → batch_at plan (batch_bytes b) ≡ Ok b
 spelling_is_read plan b is agrees =
-    let whole : made plan (head_of b) b.rows ≡ b = ap (λ (p : PlanValue). with_plan p b) (sym agrees) in
+    let whole : batch_from plan (head_of b) b.rows ≡ b = ap (λ (p : PlanValue). with_plan p b) (sym agrees) in
     spelling_again plan b agrees is ∙ ap (λ (x : BatchValue). Ok x) whole
 
 -- bytes that are read passed the checks
-pub batch_takes : (plan : PlanValue) (bytes : List ℕ) (b : BatchValue) → batch_at plan bytes ≡ Ok b → (h : Header) × IsChecked plan bytes h × (made plan h (rows_at (2 ^ plan.log2m) h.count (drop 54 bytes)) ≡ b)
+pub batch_takes : (plan : PlanValue) (bytes : List ℕ) (b : BatchValue) → batch_at plan bytes ≡ Ok b → (h : Header) × IsChecked plan bytes h × (batch_from plan h (rows_at (2 ^ plan.log2m) h.count (drop 54 bytes)) ≡ b)
 batch_takes plan bytes b e =
-    let one = bind_ok (checked_at plan bytes) (λ head. Ok (made plan head (rows_at (2 ^ plan.log2m) head.count (drop 54 bytes)))) b e in
+    let one = bind_ok (check_at plan bytes) (λ head. Ok (batch_from plan head (rows_at (2 ^ plan.log2m) head.count (drop 54 bytes)))) b e in
     (one.0, checked_takes plan bytes one.0 one.1, ok_is _ b one.2)
 
 -- a refusal is due, which is no want of memory
@@ -164,8 +164,8 @@ gives_err errors.Order due fault same = same
 gives_err errors.Rank due fault same = same
 
 -- no check of the bytes asks for memory
-checked_asks-none : (plan : PlanValue) (bytes : List ℕ) → AsksNone (checked_at plan bytes)
-unfolding checked_at
+checked_asks-none : (plan : PlanValue) (bytes : List ℕ) → AsksNone (check_at plan bytes)
+unfolding check_at
 checked_asks-none plan bytes =
     let g = head_at bytes in
     let rows = rows_at (2 ^ plan.log2m) g.count (drop 54 bytes) in
@@ -174,12 +174,12 @@ checked_asks-none plan bytes =
     bind_asks-none (check_rows plan g.name.source 0 rows) _ (rows_ask-none plan g.name.source 0 rows) (λ fine. ok_asks-none g))))
 
 -- what the checks refuse is not read
-pub refused : (plan : PlanValue) (bytes : List ℕ) (e : BatchError) → Err e ≡ checked_at plan bytes → GivesOrMemory (Err e) (batch_at plan bytes)
+pub refused : (plan : PlanValue) (bytes : List ℕ) (e : BatchError) → Err e ≡ check_at plan bytes → GivesOrMemory (Err e) (batch_at plan bytes)
 refused plan bytes e same =
     gives_err e (batch_at plan bytes) (err_asks-none Header e (subst (λ (r : Result Header BatchError). AsksNone r) (sym same) (checked_asks-none plan bytes))) (rw (← same) refl)
 
 -- what passes the checks is read
-pub read_is : (plan : PlanValue) (bytes : List ℕ) (h : Header) → checked_at plan bytes ≡ Ok h → batch_at plan bytes ≡ Ok (made plan h (rows_at (2 ^ plan.log2m) h.count (drop 54 bytes)))
+pub read_is : (plan : PlanValue) (bytes : List ℕ) (h : Header) → check_at plan bytes ≡ Ok h → batch_at plan bytes ≡ Ok (batch_from plan h (rows_at (2 ^ plan.log2m) h.count (drop 54 bytes)))
 read_is plan bytes h same = rw same refl
 
 -- the answer that is due, at a batch with these bytes
@@ -213,18 +213,18 @@ batch_is_one a b is_a is_b agrees same =
 -- the batch that was read
 pub kept_is : (plan p : PlanValue) (bytes ids registers : List ℕ) (h : Header) (m : ℕ) → m ≡ 2 ^ plan.log2m → p ≡ record plan { job = h.job }
     → rows_of m ids registers ≡ rows_at m h.count (drop 54 bytes)
-    → record { plan = p; name = h.name; changed = h.changed; rows = rows_of (2 ^ p.log2m) ids registers } ≡ made plan h (rows_at (2 ^ plan.log2m) h.count (drop 54 bytes))
+    → record { plan = p; name = h.name; changed = h.changed; rows = rows_of (2 ^ p.log2m) ids registers } ≡ batch_from plan h (rows_at (2 ^ plan.log2m) h.count (drop 54 bytes))
 kept_is plan p bytes ids registers h m e_m e_p rows =
-    let P : PlanValue → Type 0 = λ q. record { plan = q; name = h.name; changed = h.changed; rows = rows_of (2 ^ q.log2m) ids registers } ≡ made plan h (rows_at (2 ^ plan.log2m) h.count (drop 54 bytes)) in
+    let P : PlanValue → Type 0 = λ q. record { plan = q; name = h.name; changed = h.changed; rows = rows_of (2 ^ q.log2m) ids registers } ≡ batch_from plan h (rows_at (2 ^ plan.log2m) h.count (drop 54 bytes)) in
     let at : rows_of (2 ^ plan.log2m) ids registers ≡ rows_at (2 ^ plan.log2m) h.count (drop 54 bytes) = subst (λ (w : ℕ). rows_of w ids registers ≡ rows_at w h.count (drop 54 bytes)) e_m rows in
-    subst P (sym e_p) (ap (λ (t : List (ℕ × List ℕ)). made plan h t) at)
+    subst P (sym e_p) (ap (λ (t : List (ℕ × List ℕ)). batch_from plan h t) at)
 
 -- what was read and kept in memory
 pub kept_read : (plan p : PlanValue) (bytes ids registers : List ℕ) (h : Header) (m : ℕ) → IsPlan plan → IsChecked plan bytes h → m ≡ 2 ^ plan.log2m → p ≡ record plan { job = h.job }
     → rows_of m ids registers ≡ rows_at m h.count (drop 54 bytes) → length registers ≡ length ids * m
     → IsKept (record { plan = p; name = h.name; changed = h.changed; rows = rows_of (2 ^ p.log2m) ids registers }) ids registers
 kept_read plan p bytes ids registers h m ok c e_m e_p rows room =
-    let same : record { plan = p; name = h.name; changed = h.changed; rows = rows_of (2 ^ p.log2m) ids registers } ≡ made plan h (rows_at (2 ^ plan.log2m) h.count (drop 54 bytes)) = kept_is plan p bytes ids registers h m e_m e_p rows in
+    let same : record { plan = p; name = h.name; changed = h.changed; rows = rows_of (2 ^ p.log2m) ids registers } ≡ batch_from plan h (rows_at (2 ^ plan.log2m) h.count (drop 54 bytes)) = kept_is plan p bytes ids registers h m e_m e_p rows in
     record {
       batch = subst IsBatch (sym same) (checked_batch plan bytes h ok c);
       room = room ∙ ap (λ (w : ℕ). length ids * w) (e_m ∙ ap (λ (q : PlanValue). 2 ^ q.log2m) (sym e_p));
@@ -240,5 +240,5 @@ written_is b h m ids registers o0 o1 o2 kept e_h e_m e0 e1 e2 =
     ∙ ap (λ (rs : List (ℕ × List ℕ)). head_bytes (head_of b) ++ flat_map row_bytes rs) rows ∙ sym (batch_bytes-head b)
 
 -- where the checks refuse, no batch has these bytes
-pub only_refused : (plan : PlanValue) (bytes : List ℕ) (e : BatchError) → Err e ≡ checked_at plan bytes → (b : BatchValue) → IsBatch b → AgreesButJob plan b.plan → bytes ≡ batch_bytes b → GivesOrMemory (Err e) (Ok b)
+pub only_refused : (plan : PlanValue) (bytes : List ℕ) (e : BatchError) → Err e ≡ check_at plan bytes → (b : BatchValue) → IsBatch b → AgreesButJob plan b.plan → bytes ≡ batch_bytes b → GivesOrMemory (Err e) (Ok b)
 only_refused plan bytes e same = only_from plan bytes (Err e) (refused plan bytes e same)

@@ -72,8 +72,8 @@ check_rows plan source least (row ∷ rows) = do
   check_rows plan source (row.0 + 1) rows
 
 -- the fixed fields of bytes that pass all checks, or the first that fails
-unfoldable pub checked_at : PlanValue → List ℕ → Result Header BatchError
-checked_at plan bytes =
+unfoldable pub check_at : PlanValue → List ℕ → Result Header BatchError
+check_at plan bytes =
     if nat_lt (length bytes) 54 then Err errors.Short else do
       head ← check_head plan (head_at bytes)
       whole ← check_length ((head_at bytes).count * (4 + 2 ^ plan.log2m)) (length bytes - 54)
@@ -81,14 +81,19 @@ checked_at plan bytes =
       Ok (head_at bytes)
 
 -- the batch of a plan that fixed fields and rows make: the job digest is theirs
-abbrev pub made : PlanValue → Header → List (ℕ × List ℕ) → BatchValue
-made plan h rows = record { plan = record plan { job = h.job }; name = h.name; changed = h.changed; rows = rows }
+abbrev pub batch_from : PlanValue → Header → List (ℕ × List ℕ) → BatchValue
+batch_from plan h rows = record {
+  plan = record plan { job = h.job };
+  name = h.name;
+  changed = h.changed;
+  rows = rows;
+}
 
 -- the batch that bytes spell under a plan, or the first check that fails
 abbrev pub batch_at : PlanValue → List ℕ → Result BatchValue BatchError
 batch_at plan bytes = do
-  head ← checked_at plan bytes
-  Ok (made plan head (rows_at (2 ^ plan.log2m) head.count (drop 54 bytes)))
+  head ← check_at plan bytes
+  Ok (batch_from plan head (rows_at (2 ^ plan.log2m) head.count (drop 54 bytes)))
 
 -- the answer is the one that is due, or, where that is a batch, memory ran out
 abbrev pub GivesOrMemory : Result BatchValue BatchError → Result BatchValue BatchError → Type 0

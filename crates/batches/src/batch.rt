@@ -5,7 +5,7 @@ ghost use Rattle.std.specs.List.{All};
 ghost use Rattle.ball_model.specs.PlanValue.{part_size};
 ghost use Rattle.ball_model.specs.Batches.{BatchValue, IsRow, IsBatch, ids_of, registers_of, find_row, batch_bytes};
 ghost use Rattle.batches.specs.Kept.{rows_at};
-ghost use Rattle.batches.specs.Reading.{checked_at, made, batch_at, GivesOrMemory, AgreesButJob};
+ghost use Rattle.batches.specs.Reading.{check_at, batch_from, batch_at, GivesOrMemory, AgreesButJob};
 
 use crate::error::BatchError;
 use crate::header::{HEADER_LEN, Header, MAGIC, VERSION, check_header, put_header, read_header};
@@ -204,9 +204,9 @@ impl Batch {
 }
 
 /// The fixed fields of bytes that pass all checks, or the first that fails.
-#[tactic(auto, unfolding(crate::specs::Reading::checked_at))]
+#[tactic(auto, unfolding(crate::specs::Reading::check_at))]
 fn check(plan: &Plan, bytes: &[u8]) -> Result<Header, BatchError>
-    ensures { result ≡ checked_at plan.now bytes.now }
+    ensures { result ≡ check_at plan.now bytes.now }
 {
     if bytes.len() < HEADER_LEN {
         return Err(BatchError::Short);
@@ -221,8 +221,8 @@ fn check(plan: &Plan, bytes: &[u8]) -> Result<Header, BatchError>
 
 /// The batch of bytes that passed all checks.
 fn read(alloc: Global, plan: &Plan, header: &Header, bytes: &[u8]) -> Result<Batch, AllocError>
-    requires { checked_at plan.now bytes.now ≡ Ok header.now }
-    ensures { IfOk result (λ b. b ≡ made plan.now header.now
+    requires { check_at plan.now bytes.now ≡ Ok header.now }
+    ensures { IfOk result (λ b. b ≡ batch_from plan.now header.now
         (rows_at (2 ^ plan.now.log2m) header.now.count (drop 54 bytes.now))) }
 {
     let (_, body) = bytes.split_at(HEADER_LEN);

@@ -14,7 +14,7 @@ use Rattle.ball_model.specs.Job.{Job}
 use Rattle.ball_model.specs.Join.{Holding}
 use Rattle.ball_model.specs.Batches.{BatchValue, true_batch}
 use Rattle.ball_model.specs.State.{State, StandsFor}
-use Rattle.ball_model.specs.History.{Event, Post, Fetch, Keep, Recall, Drop, Entry, History, entry, entries_of, with_entry, same_name, Object, after, board_of, IsAnswer, IsLegal, held_by, post_reply, keep_reply, is_further, is_kept_from, is_new_post, is_new_keep}
+use Rattle.ball_model.specs.History.{Event, Post, Fetch, Keep, Recall, Drop, Entry, History, entry, entries_of, with_entry, same_name, Object, after, board_of, IsAnswer, IsLegal, holding_in, post_reply, keep_reply, is_further, is_kept_from, is_new_post, is_new_keep}
 use Rattle.ball_model.proofs.HistoryLemmas.{legal-push, board_of-push, same_name-true}
 use Rattle.board.specs.declared.event.Entry.{Entry as Line}
 use Rattle.board.specs.Book.{entry_of, calls_of, Keeps, HasStanding, HasContents, HasSnapshots, IsNext, IsNoted}
@@ -76,39 +76,39 @@ module _ {A C : Type 0} (value : A → BatchValue) (state : C → State) where
       go false false x k = k
 
   -- what one more place would have
-  kept-is : (o : Object) (kept : List (Option C)) (p : ℕ) (x : Option C) → HasContents state o kept → slice_index_or kept p None ≡ x → o.kept p ≡ option_map (λ c. held_by (state c)) x
-  kept-is o kept p x h e = sym (h p) ∙ ap (option_map (λ c. held_by (state c))) e
+  kept-is : (o : Object) (kept : List (Option C)) (p : ℕ) (x : Option C) → HasContents state o kept → slice_index_or kept p None ≡ x → o.kept p ≡ option_map (λ c. holding_in (state c)) x
+  kept-is o kept p x h e = sym (h p) ∙ ap (option_map (λ c. holding_in (state c))) e
 
-  pub kept-found : (o : Object) (kept : List (Option C)) (p : ℕ) (c : C) → HasContents state o kept → slice_index_or kept p None ≡ Some c → o.kept p ≡ Some (held_by (state c))
+  pub kept-found : (o : Object) (kept : List (Option C)) (p : ℕ) (c : C) → HasContents state o kept → slice_index_or kept p None ≡ Some c → o.kept p ≡ Some (holding_in (state c))
   kept-found o kept p c h e = kept-is o kept p (Some c) h e
 
   pub snapshot-found : (j : Job) (kept : List (Option C)) (p : ℕ) (c : C) → HasSnapshots state j kept → slice_index_or kept p None ≡ Some c → StandsFor j p (state c).superstep (state c)
   snapshot-found j kept p c h e = subst (λ (x : Option C). IfSome x (λ c. StandsFor j p (state c).superstep (state c))) e (h p)
 
   pub keep_reply-is : (o : Object) (kept : List (Option C)) (c : C) (r : Kept) → HasContents state o kept
-      → r ≡ (if is_further (option_map (λ c. held_by (state c)) (slice_index_or kept (state c).part.number None)) (held_by (state c)) then replies.New else replies.Behind)
-      → r ≡ keep_reply o (held_by (state c))
-  keep_reply-is o kept c r h e = e ∙ ap (λ (x : Option Holding). if is_further x (held_by (state c)) then replies.New else replies.Behind) (h (state c).part.number)
+      → r ≡ (if is_further (option_map (λ c. holding_in (state c)) (slice_index_or kept (state c).part.number None)) (holding_in (state c)) then replies.New else replies.Behind)
+      → r ≡ keep_reply o (holding_in (state c))
+  keep_reply-is o kept c r h e = e ∙ ap (λ (x : Option Holding). if is_further x (holding_in (state c)) then replies.New else replies.Behind) (h (state c).part.number)
 
   -- the places after one was put, where it was
   abbrev Put : Bool → List (Option C) → C → List (Option C)
   Put new kept c = if new then slice_set kept (state c).part.number (Some c) else kept
 
   pub contents-put : (o : Object) (kept next : List (Option C)) (c : C) (r : Kept) → HasContents state o kept → (state c).part.number < length kept
-      → next ≡ Put (is_new_keep r) kept c → HasContents state (after o (Keep (held_by (state c)) r)) next
-  contents-put o kept next c r h fits put p = subst (λ (l : List (Option C)). option_map (λ c. held_by (state c)) (slice_index_or l p None) ≡ (after o (Keep (held_by (state c)) r)).kept p) (sym put) (go (is_new_keep r))
+      → next ≡ Put (is_new_keep r) kept c → HasContents state (after o (Keep (holding_in (state c)) r)) next
+  contents-put o kept next c r h fits put p = subst (λ (l : List (Option C)). option_map (λ c. holding_in (state c)) (slice_index_or l p None) ≡ (after o (Keep (holding_in (state c)) r)).kept p) (sym put) (go (is_new_keep r))
     where
       at : ℕ
       at = (state c).part.number
 
-      go : (new : Bool) → option_map (λ c. held_by (state c)) (slice_index_or (Put new kept c) p None) ≡ (if new && (p == at) then Some (held_by (state c)) else o.kept p)
+      go : (new : Bool) → option_map (λ c. holding_in (state c)) (slice_index_or (Put new kept c) p None) ≡ (if new && (p == at) then Some (holding_in (state c)) else o.kept p)
       go false = h p
       go true = ⊎_elim
           (λ (e : p ≡ at).
           let here : slice_index_or (slice_set kept at (Some c)) p None ≡ Some c = ap (λ (k : ℕ). slice_index_or (slice_set kept at (Some c)) k None) e ∙ get_or-set_same kept at (Some c) None fits in
-          ap (option_map (λ c. held_by (state c))) here ∙ sym (ap (λ (b : Bool). if b then Some (held_by (state c)) else o.kept p) (eq-eqb p at e)))
+          ap (option_map (λ c. holding_in (state c))) here ∙ sym (ap (λ (b : Bool). if b then Some (holding_in (state c)) else o.kept p) (eq-eqb p at e)))
           (λ (ne : p ≡ at → ⊥).
-          ap (option_map (λ c. held_by (state c))) (get_or-set_other kept at p (Some c) None ne) ∙ (h p ∙ sym (ap (λ (b : Bool). if b then Some (held_by (state c)) else o.kept p) (ne_eqb p at ne))))
+          ap (option_map (λ c. holding_in (state c))) (get_or-set_other kept at p (Some c) None ne) ∙ (h p ∙ sym (ap (λ (b : Bool). if b then Some (holding_in (state c)) else o.kept p) (ne_eqb p at ne))))
           (cases_eq p at)
 
   pub snapshots-put : (j : Job) (kept next : List (Option C)) (c : C) (new : Bool) → HasSnapshots state j kept → (state c).part.number < length kept
@@ -150,10 +150,10 @@ module _ {A C : Type 0} (value : A → BatchValue) (state : C → State) where
   keeps-fetch h n by name entries floor find kept k same stands = keeps-entry h n by (Fetch name) entries floor floor find find kept kept k same stands k.floor_is k.standing refl k.contents k.snapshots
 
   pub keeps-recall : (h n : History) (by p least : ℕ) (c : C) (entries floor : ℕ) (find : BatchName → Option A) (kept : List (Option C))
-      → Keeps value state h entries floor find kept → n ≡ with_entry h (entry by (Recall p least (held_by (state c)))) → slice_index_or kept p None ≡ Some c → least ≤ (state c).superstep
+      → Keeps value state h entries floor find kept → n ≡ with_entry h (entry by (Recall p least (holding_in (state c)))) → slice_index_or kept p None ≡ Some c → least ≤ (state c).superstep
       → Keeps value state n (entries + 1) floor find kept
   keeps-recall h n by p least c entries floor find kept k same found far =
-      keeps-entry h n by (Recall p least (held_by (state c))) entries floor floor find find kept kept k same (kept-found (board_of h) kept p c k.contents found, far) k.floor_is k.standing refl k.contents k.snapshots
+      keeps-entry h n by (Recall p least (holding_in (state c))) entries floor floor find find kept kept k same (kept-found (board_of h) kept p c k.contents found, far) k.floor_is k.standing refl k.contents k.snapshots
 
   pub keeps-post : (h n : History) (by : ℕ) (name : BatchName) (r : Posted) (a : A) (entries floor : ℕ) (find find' : BatchName → Option A) (kept : List (Option C))
       → Keeps value state h entries floor find kept → n ≡ with_entry h (entry by (Post name r)) → value a ≡ true_batch h.job name
@@ -176,11 +176,11 @@ module _ {A C : Type 0} (value : A → BatchValue) (state : C → State) where
   length-put false kept c = refl
 
   pub keeps-keep : (h n : History) (by : ℕ) (r : Kept) (c : C) (entries floor : ℕ) (find : BatchName → Option A) (kept kept' : List (Option C))
-      → Keeps value state h entries floor find kept → n ≡ with_entry h (entry by (Keep (held_by (state c)) r)) → (state c).part.number < length kept
+      → Keeps value state h entries floor find kept → n ≡ with_entry h (entry by (Keep (holding_in (state c)) r)) → (state c).part.number < length kept
       → StandsFor h.job (state c).part.number (state c).superstep (state c)
-      → r ≡ (if is_further (option_map (λ c. held_by (state c)) (slice_index_or kept (state c).part.number None)) (held_by (state c)) then replies.New else replies.Behind)
+      → r ≡ (if is_further (option_map (λ c. holding_in (state c)) (slice_index_or kept (state c).part.number None)) (holding_in (state c)) then replies.New else replies.Behind)
       → kept' ≡ Put (is_new_keep r) kept c
       → Keeps value state n (entries + 1) floor find kept'
   keeps-keep h n by r c entries floor find kept kept' k same fits stands reply put =
-      keeps-entry h n by (Keep (held_by (state c)) r) entries floor floor find find kept kept' k same (keep_reply-is (board_of h) kept c r k.contents reply) k.floor_is k.standing
+      keeps-entry h n by (Keep (holding_in (state c)) r) entries floor floor find find kept kept' k same (keep_reply-is (board_of h) kept c r k.contents reply) k.floor_is k.standing
       (ap length put ∙ length-put (is_new_keep r) kept c) (contents-put (board_of h) kept kept' c r k.contents fits put) (snapshots-put h.job kept kept' c (is_new_keep r) k.snapshots fits stands put)

@@ -8,11 +8,11 @@ use Rattle.ball_model.specs.Join.{Holding}
 use Rattle.ball_model.specs.History.{Event, Fetch, Recall, Entry, History, Object, board_of, is_kept_from, Begins, IsLegal, calls_by, entries_of, entry, with_entry}
 use Rattle.ball_model.proofs.HistoryLemmas.{begins_self, begins_entry, begins_trans, calls_by-other, calls_by-own, board_of-push, last_is_answer, kept_never_goes_back}
 use Rattle.board.specs.View.{View}
-use Rattle.board.specs.Rule.{GoesOn, at_turn, served}
+use Rattle.board.specs.Rule.{GoesOn, at_turn, after_turn}
 use Rattle.board.specs.Turn.{Next}
 use Rattle.board.specs.Book.{IsNext, IsNoted}
 use Rattle.board.specs.Seats.{SeatView, Extends, Called, CalledNothing}
-use Rattle.board.specs.Inside.{SeatFits, seen_of}
+use Rattle.board.specs.Inside.{SeatFits, seat_view_of}
 
 -- what follows where the history is the same, and where it has one entry more
 next_cases : (limit n : ℕ) (old new : History) (P : History → Type 0) → IsNext limit n old new → P old → ((x : Event) → entries_of old < limit → P (with_entry old (entry n x))) → P new
@@ -51,7 +51,7 @@ turn_next limit number room m m1 book new t l h =
       others = λ k ne. others_of limit number book new h k (λ e. ne (e ∙ n)) ∙ ap (calls_by k) t.seen_is;
     }
 
-pub turn_fits : (limit number room : ℕ) (m m1 m2 : Me (Option History) View) (book new : History) → Turn number room m m1 book → limit ≡ m.0.limit → IsNext limit number book new → m2 ≡ (served (at_turn m1.0 new), [])
+pub turn_fits : (limit number room : ℕ) (m m1 m2 : Me (Option History) View) (book new : History) → Turn number room m m1 book → limit ≡ m.0.limit → IsNext limit number book new → m2 ≡ (after_turn (at_turn m1.0 new), [])
     → SeatFits number room m2
 turn_fits limit number room m m1 m2 book new t same h e =
     let le : entries_of new ≤ limit = fits_of limit number book new h (let g = t.goes_on.4 in omega arith) in
@@ -73,10 +73,10 @@ turn_fits limit number room m m1 m2 book new t same h e =
     }
 
 pub turn_extends : (limit : ℕ) (table table' : TableId) (number room : ℕ) (m m1 m2 : Me (Option History) View) (book new : History) → Turn number room m m1 book → limit ≡ m.0.limit → IsNext limit number book new
-    → m2 ≡ (served (at_turn m1.0 new), []) → table' ≡ table → Extends (seen_of table number room m) (seen_of table' number room m2)
+    → m2 ≡ (after_turn (at_turn m1.0 new), []) → table' ≡ table → Extends (seat_view_of table number room m) (seat_view_of table' number room m2)
 turn_extends limit table table' number room m m1 m2 book new t same h e z =
     let le : entries_of new ≤ limit = fits_of limit number book new h (let g = t.goes_on.4 in omega arith) in
-    subst (λ (x : Me (Option History) View). Extends (seen_of table number room m) (seen_of table' number room x)) (sym e) record {
+    subst (λ (x : Me (Option History) View). Extends (seat_view_of table number room m) (seat_view_of table' number room x)) (sym e) record {
       table = z;
       number = refl;
       room = refl;
@@ -87,14 +87,14 @@ turn_extends limit table table' number room m m1 m2 book new t same h e z =
     }
 
 -- what the seat has seen after the call
-pub turn_seen : (m1 m2 : Me (Option History) View) (new : History) → m2 ≡ (served (at_turn m1.0 new), []) → m2.0.seen ≡ new
+pub turn_seen : (m1 m2 : Me (Option History) View) (new : History) → m2 ≡ (after_turn (at_turn m1.0 new), []) → m2.0.seen ≡ new
 turn_seen m1 m2 new e = ap (λ (x : Me (Option History) View). x.0.seen) e
 
 own_before : (number room : ℕ) (m m1 : Me (Option History) View) (book : History) → Turn number room m m1 book → calls_by number book ≡ calls_by number m.0.seen
 own_before number room m m1 book t = subst (λ (k : ℕ). calls_by k book ≡ calls_by k m.0.seen) (sym t.was.number_is) t.goes_on.1
 
 pub turn_called : (limit : ℕ) (table table' : TableId) (number room : ℕ) (m m1 m2 : Me (Option History) View) (book new : History) (v : Event) → Turn number room m m1 book → IsNoted limit number v book new
-    → m2 ≡ (served (at_turn m1.0 new), []) → Called (seen_of table number room m) v (seen_of table' number room m2)
+    → m2 ≡ (after_turn (at_turn m1.0 new), []) → Called (seat_view_of table number room m) v (seat_view_of table' number room m2)
 turn_called limit table table' number room m m1 m2 book new v t h e =
     let seen : m2.0.seen ≡ with_entry book (entry number v) = turn_seen m1 m2 new e ∙ h.0 in
     record {
@@ -104,8 +104,8 @@ turn_called limit table table' number room m m1 m2 book new v t h e =
       own = ap (calls_by number) seen ∙ (calls_by-own number book v ∙ ap (λ l. l ++ v ∷ []) (own_before number room m m1 book t));
     }
 
-pub turn_nothing : (table table' : TableId) (number room : ℕ) (m m1 m2 : Me (Option History) View) (book new : History) → Turn number room m m1 book → new ≡ book → m2 ≡ (served (at_turn m1.0 new), [])
-    → CalledNothing (seen_of table number room m) (seen_of table' number room m2)
+pub turn_nothing : (table table' : TableId) (number room : ℕ) (m m1 m2 : Me (Option History) View) (book new : History) → Turn number room m m1 book → new ≡ book → m2 ≡ (after_turn (at_turn m1.0 new), [])
+    → CalledNothing (seat_view_of table number room m) (seat_view_of table' number room m2)
 turn_nothing table table' number room m m1 m2 book new t h e = ap (calls_by number) (turn_seen m1 m2 new e ∙ h) ∙ own_before number room m m1 book t
 
 -- ---- what was found

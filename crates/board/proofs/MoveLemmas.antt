@@ -9,9 +9,9 @@ use lib.ListN.{get_elem?}
 use lib.Seq.{set-get_or}
 use Rattle.atomic_table.specs.Table.{State, Me, Step, step, Act, keeps, takes, gives, Valid, carried_after, Allows, stepped, opening}
 use Rattle.atomic_table.proofs.Lists.{at_set, at_snoc, set_again, set_here, set_else, one_turn}
-use Rattle.board.specs.View.{View, Told, spent}
+use Rattle.board.specs.View.{View, Told, spent_view}
 use Rattle.ball_model.specs.History.{History, Begins, IsLegal, entries_of, calls_by}
-use Rattle.board.specs.Rule.{total, room_of, tickets_of, IsNotOf, Fits, Apart, IsKeptSafe, IsLocked, with_ticket, at_turn, served, Drew, GoesOn, LookedIf, Looked, Wrote, Raised}
+use Rattle.board.specs.Rule.{total, room_of, tickets_of, IsNotOf, Fits, Apart, IsKeptSafe, IsLocked, with_ticket, at_turn, after_turn, Drew, GoesOn, LookedIf, Looked, Wrote, Raised}
 use Rattle.board.specs.Turn.{Next}
 use Rattle.ball_model.proofs.HistoryLemmas.{begins_self, begins_trans}
 use Rattle.board.proofs.ViewLemmas.{total_set, total_le, each_set, apart_set, set_at}
@@ -288,7 +288,7 @@ writes slots id v book turn next s h len at small =
 pub raises : (slots id : ℕ) (v : View) → v.stage ≡ 2 → Allows IsLocked slots id (v, (0, Some v.seen) ∷ []) 2 (λ n. (n + 1) % 2 ^ 64) (Raised still (v, (0, Some v.seen) ∷ []))
 raises slots id v turn s h len at small =
     let f = h.each id v at in
-    let w = served v in
+    let w = after_turn v in
     let o = f.out (omega arith) in
     let t = f.turn turn in
     let count = total_set tickets_of s.views id v w at in

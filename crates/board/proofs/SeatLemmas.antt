@@ -7,9 +7,9 @@ use lib.ListN.{get_elem?}
 use lib.Seq.{set-get_or}
 use Rattle.atomic_table.specs.Table.{State, Me, keeps, Allows, Splits, Joins, opening}
 use Rattle.atomic_table.proofs.Lists.{at_set, set_else, at_longer}
-use Rattle.board.specs.View.{View, Told, spent}
+use Rattle.board.specs.View.{View, Told, spent_view}
 use Rattle.ball_model.specs.History.{History, Begins, entries_of, events_by, calls_by, IsLegal}
-use Rattle.board.specs.Rule.{total, room_of, tickets_of, IsNotOf, Fits, Apart, IsKeptSafe, IsLocked, at_look, Counted, share, keeper, newcomer, informed, first_view}
+use Rattle.board.specs.Rule.{total, room_of, tickets_of, IsNotOf, Fits, Apart, IsKeptSafe, IsLocked, at_look, Counted, share, keeper, newcomer, with_news, first_view}
 use Rattle.ball_model.proofs.HistoryLemmas.{begins_self, calls_by-none}
 use Rattle.board.proofs.ViewLemmas.{total_set, total_push, each_set, each_push, apart_set, apart_set_on, apart_push}
 use Rattle.board.proofs.MoveLemmas.{still, home_same}
@@ -150,25 +150,25 @@ shares id v idle enough s h at =
           )));
     }
 
-pub tells : (id : ℕ) (v : View) (other : ℕ) (w : View) → v.stage ≡ 0 → w.stage ≡ 0 → 0 < v.room → 0 < w.room → Joins IsLocked id v other w (informed v w) spent
+pub tells : (id : ℕ) (v : View) (other : ℕ) (w : View) → v.stage ≡ 0 → w.stage ≡ 0 → 0 < v.room → 0 < w.room → Joins IsLocked id v other w (with_news v w) spent_view
 tells id v other w idle idle' live live' s h at ne at' =
     let f = h.each id v at in
-    let at_w : get_elem? s.views other ≡ some w = sym (set_else s.views id other (informed v w) ne) ∙ at' in
+    let at_w : get_elem? s.views other ≡ some w = sym (set_else s.views id other (with_news v w) ne) ∙ at' in
     let g = h.each other w at_w in
     let vw = h.apart id other v w (λ q. ne (sym q)) at at_w in
     let wv = h.apart other id w v ne at_w at in
-    let u = informed v w in
+    let u = with_news v w in
     let views = set s.views id u in
     let c1 = total_set tickets_of s.views id v u at in
-    let c2 = total_set tickets_of views other w spent at' in
+    let c2 = total_set tickets_of views other w spent_view at' in
     let t1 : tickets_of v ≡ 0 = ap (λ (j : ℕ). min j 1) idle in
     let t2 : tickets_of u ≡ 0 = ap (λ (j : ℕ). min j 1) idle in
     let t3 : tickets_of w ≡ 0 = ap (λ (j : ℕ). min j 1) idle' in
-    let t4 : tickets_of spent ≡ 0 = refl in
+    let t4 : tickets_of spent_view ≡ 0 = refl in
     let r1 = total_set room_of s.views id v u at in
-    let r2 = total_set room_of views other w spent at' in
+    let r2 = total_set room_of views other w spent_view at' in
     let r3 : room_of u ≡ room_of v = refl in
-    let r4 : room_of spent ≡ 0 = refl in
+    let r4 : room_of spent_view ≡ 0 = refl in
     let was = h.out in
     let all = h.rooms in
     let not_v : IsNotOf w.number v = ⊎_elim (λ (a : v.number + v.room ≤ w.number). inr (omega arith)) (λ (a : w.number + w.room ≤ v.number). inl (omega arith)) vw.numbers in
@@ -182,8 +182,8 @@ tells id v other w idle idle' live live' s h at ne at' =
       fits = h.fits;
       out = omega arith;
       rooms = omega arith;
-      home = home_same h.log record { words = s.words; homes = s.homes; views = views } s.words other w spent at' (λ e. omega arith) (λ e. omega arith) (home_same h.log s s.words id v u at (λ e. omega arith) (λ e. omega arith) h.home);
-      each = each_set (Fits h.limit h.log h.next h.serving) views other spent record {
+      home = home_same h.log record { words = s.words; homes = s.homes; views = views } s.words other w spent_view at' (λ e. omega arith) (λ e. omega arith) (home_same h.log s s.words id v u at (λ e. omega arith) (λ e. omega arith) h.home);
+      each = each_set (Fits h.limit h.log h.next h.serving) views other spent_view record {
         begins = λ p. absurd (omega arith);
         limit_is = λ p. absurd (omega arith);
         own = λ p. absurd (omega arith);
@@ -200,7 +200,7 @@ tells id v other w idle idle' live live' s h at ne at' =
         turn = λ e. absurd (omega arith);
         told = λ t e. let q : record { number = w.number; seen = w.seen } ≡ t = cc e in subst (λ (t : Told). Begins t.seen h.log × (calls_by t.number h.log ≡ calls_by t.number t.seen) × IsNotOf t.number v) q (g.begins live', g.own live', not_v);
       } (λ j x _ e. h.each j x e) j x e);
-      apart = λ j k x y n e e'. apart_set_on (λ _. Unit {0}) views other spent
+      apart = λ j k x y n e e'. apart_set_on (λ _. Unit {0}) views other spent_view
           (λ j k x y _ _ nj nk n e e'. apart_set_on (λ i. i ≢ other) s.views id u (λ j k x y _ _ _ _ n e e'. h.apart j k x y n e e') (λ j x q n e.
           let a = h.apart id j v x (λ q. n (sym q)) at e in
           let b = h.apart j id x v n e at in

@@ -11,7 +11,7 @@ use Rattle.ball_model.specs.Job.{Job}
 use Rattle.ball_model.specs.Join.{Holding}
 use Rattle.ball_model.specs.Batches.{BatchValue, true_batch}
 use Rattle.ball_model.specs.State.{State, StandsFor}
-use Rattle.ball_model.specs.History.{Event, Post, Fetch, Keep, Recall, Drop, Entry, History, entry, entries_of, with_entry, Object, board_of, IsLegal, held_by}
+use Rattle.ball_model.specs.History.{Event, Post, Fetch, Keep, Recall, Drop, Entry, History, entry, entries_of, with_entry, Object, board_of, IsLegal, holding_in}
 use Rattle.board.specs.declared.event.Event.{Event as Noted}
 use Rattle.board.specs.declared.event.Event.TheVariants as noted
 use Rattle.board.specs.declared.event.Entry.{Entry as Line}
@@ -25,8 +25,8 @@ by_name = (name_order.ghosts).cmp
 abbrev pub event_of : Noted → Event
 event_of (noted.Post name r) = Post name r
 event_of (noted.Fetch name) = Fetch name
-event_of (noted.Keep s r) = Keep (held_by s.value) r
-event_of (noted.Recall p least s) = Recall p least (held_by s.value)
+event_of (noted.Keep s r) = Keep (holding_in s.value) r
+event_of (noted.Recall p least s) = Recall p least (holding_in s.value)
 event_of (noted.DropBelow s) = Drop s
 
 abbrev pub entry_of : Line → Entry
@@ -45,7 +45,7 @@ HasStanding value j o find = (name : BatchName) → MatchOption (find name) (o.s
 
 -- the content of the snapshot in the place of partition p
 abbrev pub held_at : {C : Type 0} → (C → State) → List (Option C) → ℕ → Option Holding
-held_at state kept p = option_map (λ c. held_by (state c)) (slice_index_or kept p None)
+held_at state kept p = option_map (λ c. holding_in (state c)) (slice_index_or kept p None)
 
 -- what is kept for each partition is the content of the snapshot in its place
 abbrev pub HasContents : {C : Type 0} → (C → State) → Object → List (Option C) → Type 0

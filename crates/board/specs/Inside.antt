@@ -16,11 +16,17 @@ abbrev pub IsBoard : board.Inside → Type 0
 IsBoard b = IsSized b.room.shared.table_id
 
 -- what contracts see of a seat at that table that knows so much
-abbrev pub seen_of : TableId → ℕ → ℕ → Me (Option History) View → SeatView
-seen_of table number room m = record { table = table; number = number; room = room; limit = m.0.limit; seen = m.0.seen }
+abbrev pub seat_view_of : TableId → ℕ → ℕ → Me (Option History) View → SeatView
+seat_view_of table number room m = record {
+  table = table;
+  number = number;
+  room = room;
+  limit = m.0.limit;
+  seen = m.0.seen;
+}
 
 abbrev pub seat_view : seat.Inside → SeatView
-seat_view s = seen_of s.pass.table_id s.number s.room s.pass.me
+seat_view s = seat_view_of s.pass.table_id s.number s.room s.pass.me
 
 -- the seat's fields fit what it knows, and it has no ticket
 pub record SeatFits (number room : ℕ) (m : Me (Option History) View) : Type 0 where

@@ -75,8 +75,16 @@ with_ticket v t = record { number = v.number; room = v.room; seen = v.seen; stag
 abbrev pub at_turn : View → History → View
 at_turn v log = record { number = v.number; room = v.room; seen = log; stage = 2; ticket = v.ticket; told = v.told; limit = v.limit }
 
-abbrev pub served : View → View
-served v = record { number = v.number; room = v.room; seen = v.seen; stage = 0; ticket = v.ticket; told = v.told; limit = v.limit }
+abbrev pub after_turn : View → View
+after_turn v = record {
+  number = v.number;
+  room = v.room;
+  seen = v.seen;
+  stage = 0;
+  ticket = v.ticket;
+  told = v.told;
+  limit = v.limit;
+}
 
 -- the ticket drawn is the number found, but for turns round 2^64
 abbrev pub Drew : At → Sat → ℕ → Sat → Type 0
@@ -99,7 +107,7 @@ abbrev pub Wrote : At → Sat → ℕ → Sat → Type 0
 Wrote st m n m' = (log : History) → m.1 ≡ (0, Some log) ∷ [] → m' ≡ (at_turn m.0 log, m.1)
 
 abbrev pub Raised : At → Sat → ℕ → Sat → Type 0
-Raised st m n m' = m' ≡ (served m.0, [])
+Raised st m n m' = m' ≡ (after_turn m.0, [])
 
 -- a look at the length shows the whole history, with what was told
 abbrev pub at_look : View → History → View
@@ -122,5 +130,13 @@ abbrev pub newcomer : View → View
 newcomer v = record { number = v.number + (v.room - share v.room); room = share v.room; seen = v.seen; stage = 0; ticket = 0; told = None; limit = v.limit }
 
 -- the seat is told of what another has seen, which ends
-abbrev pub informed : View → View → View
-informed v w = record { number = v.number; room = v.room; seen = v.seen; stage = v.stage; ticket = v.ticket; told = Some (record { number = w.number; seen = w.seen }); limit = v.limit }
+abbrev pub with_news : View → View → View
+with_news v w = record {
+  number = v.number;
+  room = v.room;
+  seen = v.seen;
+  stage = v.stage;
+  ticket = v.ticket;
+  told = Some (record { number = w.number; seen = w.seen });
+  limit = v.limit;
+}

@@ -2,7 +2,7 @@
 use Rattle.std.specs.Prelude.{ℕ, [], Option, None}
 use Rattle.ball_model.specs.Job.{Job}
 use Rattle.ball_model.specs.Input.{network_of}
-use Rattle.ball_model.specs.History.{History, opened}
+use Rattle.ball_model.specs.History.{History, start_history}
 
 -- the number of a seat that ended, and what it had seen
 pub record Told : Type 0 where
@@ -26,5 +26,13 @@ abbrev pub no_job : Job
 no_job = record { graph = (network_of []).graph; plan = record { log2m = 0; seed = 0; parts = 0; limit = 0; vertices = 0; job = [] } }
 
 -- what a seat that has ended knows
-abbrev pub spent : View
-spent = record { number = 0; room = 0; seen = opened no_job; stage = 0; ticket = 0; told = None; limit = 0 }
+abbrev pub spent_view : View
+spent_view = record {
+  number = 0;
+  room = 0;
+  seen = start_history no_job;
+  stage = 0;
+  ticket = 0;
+  told = None;
+  limit = 0;
+}

@@ -6,7 +6,7 @@ ghost use Rattle.board.specs.declared.error.BoardError.TheVariants.{BookFull, Me
 ghost use Rattle.ball_model.specs.Job.{IsJob};
 ghost use Rattle.ball_model.specs.Batches.{true_batch};
 ghost use Rattle.ball_model.specs.State.{StandsFor};
-ghost use Rattle.ball_model.specs.History.{Post, Fetch, Keep, Recall, Drop, Begins, IsLegal, opened, entries_of, calls_by, board_of, held_by, is_kept_from};
+ghost use Rattle.ball_model.specs.History.{Post, Fetch, Keep, Recall, Drop, Begins, IsLegal, start_history, entries_of, calls_by, board_of, holding_in, is_kept_from};
 ghost use Rattle.board.specs.Seats.{job_of, IsTrueIn, Stands, IsAt, Extends, Called, CalledNothing, IsFull, HasRoom, IsAsFar};
 
 use crate::book::Book;
@@ -65,7 +65,8 @@ impl Board {
         ensures limit { IfOk result (λ r. r.1.limit ≡ entries) }
         ensures number { IfOk result (λ r. r.1.number ≡ 0) }
         ensures room { IfOk result (λ r. r.1.room ≡ 2 ^ 63) }
-        ensures seen { IfOk result (λ r. r.1.seen ≡ opened (job_of graph.now.graph plan.now)) }
+        ensures seen { IfOk result (λ r.
+            r.1.seen ≡ start_history (job_of graph.now.graph plan.now)) }
         ensures legal { IfOk result (λ r. IsLegal r.1.seen) }
     {
         let book = Book::open(alloc, graph, plan)?;
@@ -190,7 +191,7 @@ impl Board {
         requires snapshot { Stands seat.old.seen.job (arc_value snapshot) }
         ensures seen { Extends seat.old seat.new }
         ensures ok { IfOk result
-            (λ r. Called seat.old (Keep (held_by (arc_value snapshot)) r) seat.new) }
+            (λ r. Called seat.old (Keep (holding_in (arc_value snapshot)) r) seat.new) }
         ensures refused { OnErr result (CalledNothing seat.old seat.new) }
         ensures full { IfErr result (λ e. e ≡ BookFull → IsFull seat.new) }
         ensures memory { IfErr result (λ e. e ≡ Memory → HasRoom seat.new) }
@@ -216,7 +217,7 @@ impl Board {
         requires board { IsAt self.now seat.old }
         ensures seen { Extends seat.old seat.new }
         ensures found { IfOk result (λ r. IfSome r
-            (λ a. Called seat.old (Recall part at_least (held_by (arc_value a))) seat.new)) }
+            (λ a. Called seat.old (Recall part at_least (holding_in (arc_value a))) seat.new)) }
         ensures snapshot { IfOk result (λ r. IfSome r
             (λ a. StandsFor seat.old.seen.job part (arc_value a).superstep (arc_value a))) }
         ensures furthest { IfOk result

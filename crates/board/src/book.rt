@@ -9,7 +9,7 @@ ghost use Rattle.board.specs.declared.error.BoardError.TheVariants.{BookFull, Me
 ghost use Rattle.ball_model.specs.Batches.{true_batch};
 ghost use Rattle.ball_model.specs.State.{StandsFor};
 ghost use Rattle.ball_model.specs.Join.{Holding};
-ghost use Rattle.ball_model.specs.History.{Post, Fetch, Keep, Recall, Drop, IsLegal, entry, opened, entries_of, with_entry, board_of, held_by, is_further, is_kept_from, is_new_keep, is_new_post, same_name};
+ghost use Rattle.ball_model.specs.History.{Post, Fetch, Keep, Recall, Drop, IsLegal, entry, start_history, entries_of, with_entry, board_of, holding_in, is_further, is_kept_from, is_new_keep, is_new_post, same_name};
 ghost use Rattle.board.specs.Seats.{job_of, IsTrueIn, Stands};
 ghost use Rattle.board.specs.Book.{by_name, calls_of, held_at, IsNoted, IsNext};
 
@@ -60,7 +60,7 @@ impl Model for Book {
 impl Book {
     /// The book of a history that has the opening alone.
     pub fn open(alloc: Global, graph: &Graph, plan: &Plan) -> Result<Book, AllocError>
-        ensures { IfOk result (λ b. b ≡ opened (job_of graph.now.graph plan.now)) }
+        ensures { IfOk result (λ b. b ≡ start_history (job_of graph.now.graph plan.now)) }
     {
         Ok(Book {
             alloc,
@@ -153,7 +153,7 @@ impl Book {
     pub fn keep(&mut self, by: u64, snapshot: Arc<Snapshot>, limit: u32) -> Result<Kept, BoardError>
         requires { Stands self.old.job (arc_value snapshot) }
         ensures ok { IfOk result
-            (λ r. IsNoted limit by (Keep (held_by (arc_value snapshot)) r) self.old self.new) }
+            (λ r. IsNoted limit by (Keep (holding_in (arc_value snapshot)) r) self.old self.new) }
         ensures err { OnErr result (self.new ≡ self.old) }
         ensures full { IfErr result (λ e. e ≡ BookFull → limit ≤ entries_of self.old) }
         ensures memory { IfErr result (λ e. e ≡ Memory → entries_of self.old < limit) }
@@ -185,7 +185,7 @@ impl Book {
         limit: u32,
     ) -> Result<Option<Arc<Snapshot>>, BoardError>
         ensures found { IfOk result (λ r. IfSome r (λ a.
-            IsNoted limit by (Recall part at_least (held_by (arc_value a))) self.old self.new
+            IsNoted limit by (Recall part at_least (holding_in (arc_value a))) self.old self.new
             × StandsFor self.old.job part (arc_value a).superstep (arc_value a))) }
         ensures none { IfOk result (λ r. IfNone r ((self.new ≡ self.old)
             × (is_kept_from ((board_of self.old).kept part) at_least ≡ false))) }
@@ -313,7 +313,7 @@ fn put_snapshot(kept: &mut Vec<Option<Arc<Snapshot>>>, snapshot: Arc<Snapshot>) 
     requires { (arc_value snapshot).part.number < length kept.old.items }
     ensures reply { result ≡ (if is_further
         (held_at arc_value kept.old.items (arc_value snapshot).part.number)
-        (held_by (arc_value snapshot)) then replies.New else replies.Behind) }
+        (holding_in (arc_value snapshot)) then replies.New else replies.Behind) }
     ensures put { kept.new.items ≡ (if is_new_keep result
         then slice_set kept.old.items (arc_value snapshot).part.number (Some snapshot)
         else kept.old.items) }
@@ -329,7 +329,7 @@ fn put_snapshot(kept: &mut Vec<Option<Arc<Snapshot>>>, snapshot: Arc<Snapshot>) 
 // Whether a snapshot is further than the one that is kept.
 fn is_ahead(old: &Option<Arc<Snapshot>>, new: &Snapshot) -> bool
     ensures { result
-        ≡ is_further (option_map (λ a. held_by (arc_value a)) old.now) (held_by new.now) }
+        ≡ is_further (option_map (λ a. holding_in (arc_value a)) old.now) (holding_in new.now) }
 {
     match old {
         Some(old) => old.superstep() < new.superstep(),

@@ -20,11 +20,11 @@ pub const SERVING: usize = 2;
 pub struct Knowledge {}
 
 impl Model for Knowledge {
-    ghost use Rattle.board.specs.View.{View, spent};
+    ghost use Rattle.board.specs.View.{View, spent_view};
 
     ghost Value = { View };
 
-    ghost view = { λ _. spent };
+    ghost view = { λ _. spent_view };
 }
 
 /// There is one legal history, and what each seat knows fits it.
@@ -98,12 +98,12 @@ impl Split<Knowledge> for Shares {
 pub struct Tells;
 
 impl Join<Knowledge> for Tells {
-    ghost use Rattle.board.specs.Rule.{informed};
-    ghost use Rattle.board.specs.View.{spent};
+    ghost use Rattle.board.specs.Rule.{with_news};
+    ghost use Rattle.board.specs.View.{spent_view};
 
-    ghost both = { informed };
+    ghost both = { with_news };
 
-    ghost spent = { spent };
+    ghost spent = { spent_view };
 }
 
 pub type Room = Table<Option<Book>, Knowledge, (Seen<Book>, u32), Lock, Global>;

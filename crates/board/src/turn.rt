@@ -3,7 +3,7 @@
 ghost use Rattle.std.specs.Prelude.{◌≡◌, ◌%◌, ◌^◌, ◌<◌, ◌∷◌, [], None, Some};
 ghost use Rattle.ball_model.specs.History.{Begins, calls_by, entries_of};
 ghost use Rattle.board.specs.View.{Told};
-ghost use Rattle.board.specs.Rule.{GoesOn, at_look, with_ticket, at_turn, served};
+ghost use Rattle.board.specs.Rule.{GoesOn, at_look, with_ticket, at_turn, after_turn};
 ghost use Rattle.board.specs.Turn.{IsSized, Next};
 
 use crate::book::Book;
@@ -101,7 +101,7 @@ pub fn give(room: &Room, pass: &mut Pass, book: Book)
     requires turn { (pass.old.me.0.stage ≡ 2) × (pass.old.me.1 ≡ (0, None) ∷ []) }
     requires next { Next pass.old.me.0 book }
     ensures same { (pass.new.table_id ≡ pass.old.table_id) × (pass.new.id ≡ pass.old.id) }
-    ensures given { pass.new.me ≡ (served (at_turn pass.old.me.0 book), []) }
+    ensures given { pass.new.me ≡ (after_turn (at_turn pass.old.me.0 book), []) }
 {
     let length = u64::from(book.entries());
     let _left = room.shared.exchange(pass, 0, Some(book));

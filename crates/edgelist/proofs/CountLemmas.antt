@@ -9,11 +9,11 @@ use Rattle.std.proofs.lemmas.List.Folds.{list_any-append}
 use Rattle.std.proofs.lemmas.List.Elements.{filter-append}
 use Rattle.csv.specs.declared.reader.Reader.{Reader}
 use Rattle.ball_model.specs.Input.{Network, records, first_of}
-use Rattle.ball_model.specs.Counting.{CountedRefusal, NotOne, Unknown, is_name, names, list_fault_at, counted_by, counted_as}
+use Rattle.ball_model.specs.Counting.{CountedRefusal, NotOne, Unknown, is_name, names, list_fault_at, named_vertices, counted_as}
 use Rattle.std.proofs.lemmas.Bool.{eqb-true, eq-eqb}
 use Rattle.ball_model.proofs.PartLemmas.{range_more}
 use Rattle.edgelist.specs.Guessing.{StandsAt}
-use Rattle.edgelist.specs.Links.{marked}
+use Rattle.edgelist.specs.Links.{marked_vertices}
 use Rattle.edgelist.specs.Records.{config, rows, is_row, IsLeft}
 use Rattle.edgelist.specs.Counting.{ListFaultIs, record_fault, MarksAre, SaysMarks, SaysRefusal}
 use Rattle.edgelist.specs.declared.counting.CountedError.{CountedError}
@@ -152,10 +152,10 @@ counts-more rem d labels n text a b marks marks' r counts at more passes = recor
 
 -- the marks of all records are what the list says
 says-marks : (labels : List (List ℕ)) (past : List (List (List ℕ))) (marks : List Bool) → IsCleanList labels past → MarksAre labels past marks → SaysMarks labels past marks
-unfolding counted_as counted_by
+unfolding counted_as named_vertices
 says-marks labels past marks clean are network same =
     let none : first_of (map (list_fault_at labels past) (range_with_len 0 (length past))) ≡ None = first-none (list_fault_at labels past) 0 (length past) (λ k lt. clean.none k (omega arith)) in
-    let sets : filter (λ v. list_any (names (get_or labels v [])) past) (range_with_len 0 (length labels)) ≡ marked (length labels) marks =
+    let sets : filter (λ v. list_any (names (get_or labels v [])) past) (range_with_len 0 (length labels)) ≡ marked_vertices (length labels) marks =
     filter_range-same _ _ 0 (length labels) (length labels) (omega arith) (λ k lt. sym (are.each k lt)) in
     rw (same, none, sets) refl
 

@@ -5,7 +5,7 @@ use Rattle.std.specs.List.{sum_by}
 use Rattle.std.proofs.lemmas.List.{length-take, take-append-le, drop-append-le, take_all, take_more, map-append}
 use Rattle.std.proofs.Math.Seq.{drop-append_seam}
 use Rattle.std.proofs.lemmas.List.Sums.{sum_by-cons}
-use Rattle.edgelist.specs.Lists.{cut, Ascend, AreStarts}
+use Rattle.edgelist.specs.Lists.{lists_between, Ascend, AreStarts}
 
 -- there is at least one start
 pub some-start : (end : ℕ) (starts : List ℕ) → Ascend end starts → 0 < length starts
@@ -14,8 +14,8 @@ some-start end [] up = absurd up
 some-start end (a ∷ starts) up = omega arith
 
 -- there is one list fewer than there are starts
-pub length-cut : (items starts : List ℕ) (end : ℕ) → Ascend end starts → length starts ≡ length (cut items starts) + 1
-unfolding cut Ascend
+pub length-cut : (items starts : List ℕ) (end : ℕ) → Ascend end starts → length starts ≡ length (lists_between items starts) + 1
+unfolding lists_between Ascend
 length-cut items [] end up = absurd up
 length-cut items (a ∷ []) end up = refl
 length-cut items (a ∷ b ∷ starts) end up = let more = length-cut items (b ∷ starts) end up.1 in omega arith
@@ -46,8 +46,8 @@ last-start end (a ∷ b ∷ starts) up =
     rw moved (last-start end (b ∷ starts) up.1)
 
 -- list i is what stands between its start and the next
-pub cut-at : (items starts : List ℕ) (end i : ℕ) → Ascend end starts → i + 1 < length starts → get_or (cut items starts) i [] ≡ slice_range items (get_or starts i 0) (get_or starts (i + 1) 0)
-unfolding cut Ascend
+pub cut-at : (items starts : List ℕ) (end i : ℕ) → Ascend end starts → i + 1 < length starts → get_or (lists_between items starts) i [] ≡ slice_range items (get_or starts i 0) (get_or starts (i + 1) 0)
+unfolding lists_between Ascend
 cut-at items [] end i up lt = absurd up
 cut-at items (a ∷ []) end i up lt = absurd (omega arith)
 cut-at items (a ∷ b ∷ starts) end zero up lt = refl
@@ -58,16 +58,16 @@ cut-at items (a ∷ b ∷ starts) end (suc i) up lt =
 length-range : (items : List ℕ) (a b : ℕ) → a ≤ b → b ≤ length items → length (slice_range items a b) ≡ b - a
 length-range items a b low high = omega (arith, length-take (b - a) (drop a items), length-drop a items)
 
-total-from : (items : List ℕ) (a : ℕ) (starts : List ℕ) → Ascend (length items) (a ∷ starts) → a + sum_by length (cut items (a ∷ starts)) ≡ length items
-unfolding cut Ascend
+total-from : (items : List ℕ) (a : ℕ) (starts : List ℕ) → Ascend (length items) (a ∷ starts) → a + sum_by length (lists_between items (a ∷ starts)) ≡ length items
+unfolding lists_between Ascend
 total-from items a [] up = omega (arith, up)
 total-from items a (b ∷ starts) up =
-    let step : sum_by length (cut items (a ∷ b ∷ starts)) ≡ length (slice_range items a b) + sum_by length (cut items (b ∷ starts)) =
-    sum_by-cons length (slice_range items a b) (cut items (b ∷ starts)) in
+    let step : sum_by length (lists_between items (a ∷ b ∷ starts)) ≡ length (slice_range items a b) + sum_by length (lists_between items (b ∷ starts)) =
+    sum_by-cons length (slice_range items a b) (lists_between items (b ∷ starts)) in
     omega (arith, step, up.0, total-from items b starts up.1, length-range items a b up.0 (start-within (length items) b starts up.1))
 
 -- the lists have all items
-pub total-cut : (items starts : List ℕ) → AreStarts (length items) starts → length items ≡ sum_by length (cut items starts)
+pub total-cut : (items starts : List ℕ) → AreStarts (length items) starts → length items ≡ sum_by length (lists_between items starts)
 total-cut items [] ok = absurd (omega (arith, some-start (length items) [] ok.ascend))
 total-cut items (a ∷ starts) ok = omega (arith, ok.first, total-from items a starts ok.ascend)
 
@@ -78,8 +78,8 @@ slice-more items more a b low high =
     let fits : b - a ≤ length (drop a items) = omega (arith, length-drop a items) in
     rw (drop-append-le a items more) (rw take-append-le refl)
 
-cut-more : (items more starts : List ℕ) → Ascend (length items) starts → cut (items ++ more) starts ≡ cut items starts
-unfolding cut Ascend
+cut-more : (items more starts : List ℕ) → Ascend (length items) starts → lists_between (items ++ more) starts ≡ lists_between items starts
+unfolding lists_between Ascend
 cut-more items more [] up = absurd up
 cut-more items more (a ∷ []) up = refl
 cut-more items more (a ∷ b ∷ starts) up = rw (slice-more items more a b up.0 (start-within (length items) b starts up.1), cut-more items more (b ∷ starts) up.1) refl
@@ -90,8 +90,8 @@ ascend-push end b [] up le = absurd up
 ascend-push end b (a ∷ []) up le = (omega (arith, up), refl)
 ascend-push end b (a ∷ c ∷ starts) up le = (up.0, ascend-push end b (c ∷ starts) up.1 le)
 
-cut-push : (items starts : List ℕ) (end b : ℕ) → Ascend end starts → cut items (starts ++ b ∷ []) ≡ cut items starts ++ slice_range items end b ∷ []
-unfolding cut Ascend
+cut-push : (items starts : List ℕ) (end b : ℕ) → Ascend end starts → lists_between items (starts ++ b ∷ []) ≡ lists_between items starts ++ slice_range items end b ∷ []
+unfolding lists_between Ascend
 cut-push items [] end b up = absurd up
 cut-push items (a ∷ []) end b up = ap (λ k. slice_range items k b ∷ []) up
 cut-push items (a ∷ c ∷ starts) end b up = ap (λ (ls : List (List ℕ)). slice_range items a c ∷ ls) (cut-push items (c ∷ starts) end b up.1)
@@ -109,7 +109,7 @@ starts-push items list starts end e ok fits = record {
   few = fits;
 }
 
-pub lists-push : (items list starts : List ℕ) (end : ℕ) → end ≡ length items + length list → Ascend (length items) starts → cut (items ++ list) (starts ++ end ∷ []) ≡ cut items starts ++ list ∷ []
+pub lists-push : (items list starts : List ℕ) (end : ℕ) → end ≡ length items + length list → Ascend (length items) starts → lists_between (items ++ list) (starts ++ end ∷ []) ≡ lists_between items starts ++ list ∷ []
 lists-push items list starts end e up =
     let count : end - length items ≡ length list = omega arith in
     let last : slice_range (items ++ list) (length items) end ≡ list = rw (drop-append_seam, count) (take_all (length list) list (omega arith)) in
@@ -120,16 +120,16 @@ pub starts-none : AreStarts 0 (0 ∷ [])
 unfolding Ascend
 starts-none = record { first = refl; ascend = refl; few = omega arith }
 
-pub cut-none : (items : List ℕ) → cut items (0 ∷ []) ≡ []
-unfolding cut
+pub cut-none : (items : List ℕ) → lists_between items (0 ∷ []) ≡ []
+unfolding lists_between
 cut-none items = refl
 
 -- the same, of places that do not have to fit 32 bits
 pub record AddsText (bytes starts : List ℕ) (texts : List (List ℕ)) : Type 0 where
   pub starts_are : Ascend (length bytes) starts
-  pub texts_are : cut bytes starts ≡ texts
+  pub texts_are : lists_between bytes starts ≡ texts
 
-pub text-push : (bytes text starts new starts' : List ℕ) (end : ℕ) (texts : List (List ℕ)) → new ≡ bytes ++ text → starts' ≡ starts ++ end ∷ [] → end ≡ length new → Ascend (length bytes) starts → cut bytes starts ≡ texts →
+pub text-push : (bytes text starts new starts' : List ℕ) (end : ℕ) (texts : List (List ℕ)) → new ≡ bytes ++ text → starts' ≡ starts ++ end ∷ [] → end ≡ length new → Ascend (length bytes) starts → lists_between bytes starts ≡ texts →
     AddsText new starts' (texts ++ text ∷ [])
 text-push bytes text starts new starts' end texts is is' at up are =
     let long : length new ≡ length bytes + length text = ap (length {A = ℕ}) is ∙ length-append bytes text in

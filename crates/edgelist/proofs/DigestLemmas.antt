@@ -4,7 +4,7 @@ use Rattle.std.specs.List.{filter, flat_map, range_with_len}
 use Rattle.std.proofs.lemmas.List.{append-nil}
 use Rattle.std.proofs.lemmas.Grind.{flat_map-append}
 use Rattle.std.proofs.lemmas.List.Elements.{filter-append}
-use Rattle.ball_model.specs.Graph.{Graph, IsGraph, is_counted, preds_of, listed_edges, listed_counted}
+use Rattle.ball_model.specs.Graph.{Graph, IsGraph, is_counted, preds_of, listed_edges, counted_vertices}
 use Rattle.ball_model.specs.Job.{edge_bytes}
 use Rattle.ball_model.proofs.PartLemmas.{range_more}
 use Rattle.edgelist.specs.Planning.{row_bytes, vertex_bytes}
@@ -56,7 +56,7 @@ members-next g m n =
     ∙ sym (append_assoc m (members_below g n) (if is_counted g n then vertex_bytes n else []))
 
 pub members-all : (g : Graph) (n : ℕ) → IsGraph g → n ≡ g.vertices → members_below g n ≡ flat_map vertex_bytes g.counted
-unfolding listed_counted
+unfolding counted_vertices
 members-all g n ok count = ap (flat_map vertex_bytes) (rw count (sym ok.counted))
 
 -- seven pieces behind some bytes

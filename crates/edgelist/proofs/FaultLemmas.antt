@@ -4,7 +4,7 @@ use Rattle.std.specs.Prelude.{Option, Some, None, Result, nat_le}
 use Rattle.std.specs.List.{range_with_len}
 use Rattle.std.proofs.lemmas.Bool.{cases_lt}
 use Rattle.std.proofs.lemmas.List.{get_or_append_left, length-append, take-append-le}
-use Rattle.ball_model.specs.Input.{Limits, Refusal, TooManyEdges, Fields, TooManyVertices, has_form, labels_of, fault_at, first_of, read_as}
+use Rattle.ball_model.specs.Input.{Limits, Refusal, TooManyEdges, Fields, TooManyVertices, has_form, labels_of, fault_at, first_of, network_from}
 use Rattle.edgelist.specs.Edges.{AllBelow, edge_of, graph_of_edges}
 use Rattle.edgelist.specs.declared.edge.Edge.{Edge}
 use Rattle.edgelist.specs.Reading.{with_label, IsReadAs, AddsEdge, Exceeds, IsClean, Adds, Stops, FaultIs, Refuses}
@@ -68,15 +68,15 @@ first-some f x a (suc n) (suc k) lt h here =
 
 -- records with no fault are their network
 pub says-network : (limits : Limits) (records : List Record) (labels : List (List ℕ)) (edges : List Edge) → IsClean limits records → IsReadAs records labels edges →
-    read_as limits records ≡ Ok (record { graph = graph_of_edges (length labels) edges; labels = labels })
-unfolding read_as
+    network_from limits records ≡ Ok (record { graph = graph_of_edges (length labels) edges; labels = labels })
+unfolding network_from
 says-network limits records labels edges clean so =
     let none : first_of (map (fault_at limits records) (range_with_len 0 (length records))) ≡ None = first-none (fault_at limits records) 0 (length records) (λ k lt. clean.none k (omega arith)) in
     rw none (ap Ok (network-is records labels edges so))
 
 says-fault : (limits : Limits) (records : List Record) (r : Record) (more : List Record) (x : Refusal) → IsClean limits records → fault_at limits (records ++ r ∷ more) (length records) ≡ Some x →
-    read_as limits (records ++ r ∷ more) ≡ Err x
-unfolding read_as
+    network_from limits (records ++ r ∷ more) ≡ Err x
+unfolding network_from
 says-fault limits records r more x clean fault =
     let all = records ++ r ∷ more in
     let long : length records < length all = omega (arith, length-append records (r ∷ more)) in
@@ -88,7 +88,7 @@ says-fault limits records r more x clean fault =
 
 -- the first fault is what the edge list says
 pub says-refusal : (limits : Limits) (records : List Record) (r : Record) (more : List Record) (e : EdgeError) → IsClean limits records → FaultIs (fault_at limits (records ++ r ∷ more) (length records)) e →
-    Refuses (read_as limits (records ++ r ∷ more)) e
+    Refuses (network_from limits (records ++ r ∷ more)) e
 says-refusal limits records r more refused.Read clean fault = absurd fault
 says-refusal limits records r more refused.TooManyEdges clean fault = says-fault limits records r more TooManyEdges clean fault
 says-refusal limits records r more (refused.Fields n) clean fault = says-fault limits records r more (Fields n) clean fault

@@ -5,7 +5,7 @@ use Rattle.std.proofs.lemmas.List.{length-map, length-append}
 use Rattle.std.proofs.lemmas.List.Sums.{sum_by-cons}
 use Rattle.std.proofs.lemmas.List.Folds.{list_any-append}
 use Rattle.std.proofs.lemmas.Bool.{cases_lt}
-use Rattle.ball_model.specs.Graph.{IsGraph, is_edge, is_counted, preds_of, listed_edges, listed_counted}
+use Rattle.ball_model.specs.Graph.{IsGraph, is_edge, is_counted, preds_of, listed_edges, counted_vertices}
 use Rattle.edgelist.specs.Links.{Ascends, AllAscend, edges_from, graph_of}
 use Rattle.std.proofs.Math.Bool.{and-true, and-false, or-false}
 use Rattle.edgelist.proofs.RangeLemmas.{filter-has, filter_range-same}
@@ -117,7 +117,7 @@ pub counted-by-mark : (lists : List (List ℕ)) (marks : List Bool) (v : ℕ) �
 counted-by-mark lists marks v lt = filter-has (λ k. get_or marks k true) 0 (length lists) v (omega arith) (omega arith)
 
 pub graph_of-IsGraph : (lists : List (List ℕ)) (marks : List Bool) → AllAscend (length lists) lists → IsGraph (graph_of lists marks)
-unfolding listed_edges listed_counted
+unfolding listed_edges counted_vertices
 graph_of-IsGraph lists marks asc = record {
   ends = ends_below lists 0 (length lists) asc (omega arith);
   listed = edges_by lists (preds_of (graph_of lists marks)) 0 (λ k lt. let at : 0 + k ≡ k = omega arith in rw at (sym (preds_of-graph lists marks k asc lt)));

@@ -4,7 +4,7 @@ use Rattle.std.specs.Prelude.{Option}
 use Rattle.std.specs.List.{filter}
 use Rattle.std.proofs.lemmas.List.{append_assoc, length-append}
 use Rattle.csv.specs.declared.reader.Reader.{Reader}
-use Rattle.ball_model.specs.Input.{Limits, records, read_as}
+use Rattle.ball_model.specs.Input.{Limits, records, network_from}
 use Rattle.edgelist.specs.Records.{config, rows, is_row, IsLeft}
 use Rattle.edgelist.specs.Reading.{network_by, IsReadAs, IsClean, Adds, Stops, Refuses}
 use Rattle.edgelist.specs.declared.edge.Edge.{Edge}
@@ -25,7 +25,7 @@ goes-start rem d limits text rdr at = record { past = []; at = at; count = refl;
 
 -- the records so far are all
 pub goes-end : {R : Type 0} (rem : R → Option (List ℕ)) (d : ℕ) (limits : Limits) (n : ℕ) (text : List ℕ) (a : Reader R) (labels : List (List ℕ)) (edges : List Edge) (goes : Goes rem d limits n text a labels edges) →
-    records d text ≡ goes.past → read_as limits (records d text) ≡ Ok (network_by labels edges)
+    records d text ≡ goes.past → network_from limits (records d text) ≡ Ok (network_by labels edges)
 goes-end rem d limits n text a labels edges goes whole = rw whole (says-network limits goes.past labels edges goes.clean goes.so)
 
 -- a record more that was added
@@ -41,7 +41,7 @@ goes-more rem d limits n text a b labels labels' edges edges' f goes at adds = r
 
 -- a record more that was refused
 pub goes-stop : {R : Type 0} (rem : R → Option (List ℕ)) (d : ℕ) (limits : Limits) (n : ℕ) (text : List ℕ) (a b : Reader R) (labels : List (List ℕ)) (edges : List Edge) (f : List (List ℕ)) (e : EdgeError) (goes : Goes rem d limits n text a labels edges) →
-    IsLeft rem d text (goes.past ++ f ∷ []) b → Stops limits n f labels edges e → Refuses (read_as limits (records d text)) e
+    IsLeft rem d text (goes.past ++ f ∷ []) b → Stops limits n f labels edges e → Refuses (network_from limits (records d text)) e
 goes-stop rem d limits n text a b labels edges f e goes at stops =
     let more = filter is_row (rows (config d) b.state [] [] at.left) in
     let whole : records d text ≡ goes.past ++ f ∷ more = at.all ∙ append_assoc goes.past (f ∷ []) more in

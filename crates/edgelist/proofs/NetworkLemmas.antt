@@ -9,7 +9,7 @@ use Rattle.ball_model.specs.Input.{distinct, labels_of, leads, network_of}
 use Rattle.ball_model.proofs.PathLemmas.{same_bool, eq_true, same_true}
 use Rattle.edgelist.specs.Edges.{AllBelow, edge_of, graph_of_edges}
 use Rattle.edgelist.specs.declared.edge.Edge.{Edge}
-use Rattle.edgelist.specs.Reading.{with_label, pair_in, pairs_in, named, IsReadAs, AddsEdge}
+use Rattle.edgelist.specs.Reading.{with_label, pair_in, pairs_in, label_pair, IsReadAs, AddsEdge}
 use Rattle.edgelist.proofs.BoolLemmas.{by_cases}
 use Rattle.edgelist.proofs.LabelLemmas.{text_same}
 use Rattle.edgelist.proofs.RangeLemmas.{filter_range-same}
@@ -74,7 +74,7 @@ longer_if false labels y = omega (arith, length-append labels (y ∷ []))
 pub with_label-longer : (labels : List (List ℕ)) (y : List ℕ) → length labels ≤ length (with_label labels y)
 with_label-longer labels y = longer_if (list_any (λ l. bytes_eq l y) labels) labels y
 
-named_same : (old new : List (List ℕ)) (edges : List Edge) → ((k : ℕ) → k < length old → get_or new k [] ≡ get_or old k []) → AllBelow (length old) edges → map (named new) edges ≡ map (named old) edges
+named_same : (old new : List (List ℕ)) (edges : List Edge) → ((k : ℕ) → k < length old → get_or new k [] ≡ get_or old k []) → AllBelow (length old) edges → map (label_pair new) edges ≡ map (label_pair old) edges
 named_same old new [] same below = refl
 named_same old new (e ∷ es) same below = rw (same e.target below.0.0, same e.source below.0.1, named_same old new es same below.1) refl
 
@@ -122,12 +122,12 @@ read-two records old new edges edges' a b so adds =
     let keep : (k : ℕ) → k < length old → get_or new k [] ≡ get_or old k [] = λ k lt. keep_new k (omega arith) ∙ with_label-at old a k lt in
     let all_labels : new ≡ labels_of (records ++ (a ∷ b ∷ []) ∷ []) =
     adds.labels_are ∙ ap (λ (ls : List (List ℕ)). with_label (with_label ls a) b) so.labels_are ∙ sym (labels_of-two records a b) in
-    let here : named new (edge_of j i) ≡ (b, a) = ap₂ (λ x y. (x, y)) adds.to_is (keep_new i adds.from_within ∙ adds.from_is) in
+    let here : label_pair new (edge_of j i) ≡ (b, a) = ap₂ (λ x y. (x, y)) adds.to_is (keep_new i adds.from_within ∙ adds.from_is) in
     record {
       labels_are = all_labels;
       below = edge-below old new edges edges' a b adds so.below;
       edges_are =
-          ap (map (named new)) adds.edges_are ∙ map-append (named new) edges (edge_of j i ∷ [])
+          ap (map (label_pair new)) adds.edges_are ∙ map-append (label_pair new) edges (edge_of j i ∷ [])
           ∙ ap₂ (λ (xs ys : List (List ℕ × List ℕ)). xs ++ ys) (named_same old new edges keep so.below ∙ so.edges_are) (ap (λ (p : List ℕ × List ℕ). p ∷ []) here)
           ∙ sym (pairs_push records (a ∷ b ∷ []));
     }
@@ -218,7 +218,7 @@ leads_pairs [] from to = refl
 leads_pairs (r ∷ rs) from to = leads_one r from to (pairs_in rs) ∙ ap (λ b. leads from to r || b) (leads_pairs rs from to)
 
 numbers_any : (labels : List (List ℕ)) (edges : List Edge) (x y : ℕ) → Apart labels → x < length labels → y < length labels → AllBelow (length labels) edges →
-    list_any (λ p. bytes_eq p.0 (get_or labels x []) && bytes_eq p.1 (get_or labels y [])) (map (named labels) edges) ≡ list_any (λ e. (e.target == x) && (e.source == y)) edges
+    list_any (λ p. bytes_eq p.0 (get_or labels x []) && bytes_eq p.1 (get_or labels y [])) (map (label_pair labels) edges) ≡ list_any (λ e. (e.target == x) && (e.source == y)) edges
 numbers_any labels [] x y h lo hi below = refl
 numbers_any labels (e ∷ es) x y h lo hi below =
     rw (label-eq labels e.target x h below.0.0 lo, label-eq labels e.source y h below.0.1 hi, numbers_any labels es x y h lo hi below.1) refl

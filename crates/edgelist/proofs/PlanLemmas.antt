@@ -7,7 +7,7 @@ use Rattle.ball_model.specs.PlanValue.{PlanValue, IsPlan, plan_of}
 use Rattle.ball_model.specs.declared.plan.PlanError.{PlanError}
 use Rattle.ball_model.specs.Job.{IsJob, digest_of, digest_bytes, job_bytes}
 use Rattle.ball_model.specs.RunText.{Numbers, plan_over}
-use Rattle.edgelist.specs.Planning.{undigested}
+use Rattle.edgelist.specs.Planning.{bare_plan}
 use Rattle.edgelist.proofs.BoolLemmas.{by_cases}
 
 left-false : (a b : Bool) → (a || b) ≡ false → a ≡ false
@@ -69,5 +69,5 @@ length-digest p g = length-sha256 (digest_bytes p g)
 -- the plan of options is a job's
 pub plan-job : (o : Result PlanValue PlanError) (g : Graph) (n : Numbers) → IsGraph g → n.seed < 2 ^ 64 →
     o ≡ plan_of (plan_over n g) → IfOk o (λ q. IsJob (record { graph = g; plan = q }))
-plan-job (Ok q) g n ok fits is = job-of g n q ok (rw (← is) at (plan_of-good (plan_over n g) fits (length-digest (undigested n g) g)))
+plan-job (Ok q) g n ok fits is = job-of g n q ok (rw (← is) at (plan_of-good (plan_over n g) fits (length-digest (bare_plan n g) g)))
 plan-job (Err e) g n ok fits is = tt

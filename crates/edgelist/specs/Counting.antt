@@ -3,7 +3,7 @@ use Rattle.std.specs.Prelude.{◌≡◌, ⊤, ℕ, ◌+◌, ◌<◌, Bool, true,
 use Rattle.std.specs.List.{list_any}
 use Rattle.ball_model.specs.Input.{Network}
 use Rattle.ball_model.specs.Counting.{CountedRefusal, NotOne, Unknown, is_name, names, counted_as}
-use Rattle.edgelist.specs.Links.{marked}
+use Rattle.edgelist.specs.Links.{marked_vertices}
 use Rattle.edgelist.specs.declared.counting.CountedError.{CountedError}
 use Rattle.edgelist.specs.declared.counting.CountedError.TheVariants as refused
 
@@ -36,12 +36,15 @@ abbrev pub MarksOne : List (List ℕ) → List (List ℕ) → List Bool → List
 MarksOne labels fields old new = (past : List (List (List ℕ))) → MarksAre labels past old → MarksAre labels (past ++ fields ∷ []) new
 
 -- a network in which the marked vertices are counted
-abbrev pub marking : Network → List Bool → Network
-marking network marks = record network { graph = record network.graph { counted = marked (length network.labels) marks } }
+abbrev pub with_marks : Network → List Bool → Network
+with_marks network marks = record network {
+  graph = record network.graph { counted = marked_vertices (length network.labels) marks };
+}
 
 -- of every network with these labels the records say that the marked vertices are counted
 abbrev pub SaysMarks : List (List ℕ) → List (List (List ℕ)) → List Bool → Type 0
-SaysMarks labels records marks = (network : Network) → network.labels ≡ labels → counted_as network records ≡ Ok (marking network marks)
+SaysMarks labels records marks = (network : Network) → network.labels ≡ labels →
+    counted_as network records ≡ Ok (with_marks network marks)
 
 -- of every network with these labels the records say this error
 abbrev pub SaysRefusal : List (List ℕ) → List (List (List ℕ)) → CountedError → Type 0

@@ -19,11 +19,15 @@ edges_from x [] = []
 edges_from x (ps ∷ rest) = map (λ y. (y, x)) ps ++ edges_from (x + 1) rest
 
 -- the vertices below n that are marked; a vertex that has no mark is counted
-abbrev pub marked : ℕ → List Bool → List ℕ
-marked n marks = filter (λ v. slice_index_or marks v true) (range_with_len 0 n)
+abbrev pub marked_vertices : ℕ → List Bool → List ℕ
+marked_vertices n marks = filter (λ v. slice_index_or marks v true) (range_with_len 0 n)
 
 abbrev pub graph_of : List (List ℕ) → List Bool → Graph
-graph_of lists marks = record { vertices = length lists; edges = edges_from 0 lists; counted = marked (length lists) marks }
+graph_of lists marks = record {
+  vertices = length lists;
+  edges = edges_from 0 lists;
+  counted = marked_vertices (length lists) marks;
+}
 
 -- a list of predecessors for each label, and the number of counted vertices
 pub record AreLinks (labels lists : List (List ℕ)) (marks : List Bool) (number : ℕ) : Type 0 where
@@ -31,4 +35,4 @@ pub record AreLinks (labels lists : List (List ℕ)) (marks : List Bool) (number
   pub ascend : AllAscend (length lists) lists
   pub few : length labels ≤ 2 ^ 24
   pub distinct : IsDistinct bytes_eq labels
-  pub counts : number ≡ length (marked (length lists) marks)
+  pub counts : number ≡ length (marked_vertices (length lists) marks)

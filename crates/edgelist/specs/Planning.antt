@@ -14,16 +14,25 @@ abbrev pub numbers_of : ℕ → ℕ → ℕ → ℕ → Numbers
 numbers_of log2m seed parts limit = record { log2m = log2m; seed = seed; parts = parts; limit = limit }
 
 -- the plan of these numbers over a graph, but for its digest
-abbrev pub undigested : Numbers → Graph → PlanValue
-undigested n g = record { log2m = n.log2m; seed = n.seed; parts = n.parts; limit = n.limit; vertices = g.vertices; job = [] }
+abbrev pub bare_plan : Numbers → Graph → PlanValue
+bare_plan n g = record {
+  log2m = n.log2m;
+  seed = n.seed;
+  parts = n.parts;
+  limit = n.limit;
+  vertices = g.vertices;
+  job = [];
+}
 
 -- what a digest of these four numbers over a graph has in both its forms
 abbrev pub numbered_bytes : ℕ → ℕ → ℕ → ℕ → Graph → List ℕ
-numbered_bytes log2m seed parts limit g = job_bytes (undigested (numbers_of log2m seed parts limit) g) g
+numbered_bytes log2m seed parts limit g =
+    job_bytes (bare_plan (numbers_of log2m seed parts limit) g) g
 
 -- the digest of the job of these four numbers over a graph
 abbrev pub numbered_digest : ℕ → ℕ → ℕ → ℕ → Graph → List ℕ
-numbered_digest log2m seed parts limit g = digest_of (undigested (numbers_of log2m seed parts limit) g) g
+numbered_digest log2m seed parts limit g =
+    digest_of (bare_plan (numbers_of log2m seed parts limit) g) g
 
 -- the hasher was given these bytes more
 abbrev pub Hashes : Sha256 → Sha256 → List ℕ → Type 0

@@ -2,7 +2,7 @@
 use Rattle.std.specs.Prelude.{◌≡◌, ⊤, ℕ, ◌+◌, ◌-◌, ◌^◌, ◌<◌, ◌≤◌, Bool, true, false, List, [], ◌∷◌, ◌++◌, map, length, slice_index_or, if◌then◌else◌, Option, None, Some, Result, Ok, Err}
 use Rattle.std.specs.List.{list_any}
 use Rattle.std.specs.Str.{bytes_eq}
-use Rattle.ball_model.specs.Input.{Network, Limits, Refusal, TooManyEdges, Fields, TooManyVertices, fault_at, labels_of, records, read_as, input_of}
+use Rattle.ball_model.specs.Input.{Network, Limits, Refusal, TooManyEdges, Fields, TooManyVertices, fault_at, labels_of, records, network_from, input_of}
 use Rattle.edgelist.specs.Edges.{AllBelow, edge_of, graph_of_edges}
 use Rattle.edgelist.specs.declared.edge.Edge.{Edge}
 use Rattle.edgelist.specs.declared.read.EdgeError.{EdgeError}
@@ -30,11 +30,12 @@ limits_of limits = record { vertices = limits.vertices; edges = limits.edges }
 
 -- what a text says under these limits
 abbrev pub said_within : EdgeLimits → Delimiter → List ℕ → Result Network Refusal
-said_within limits delimiter text = read_as (limits_of limits) (records (byte_of delimiter) text)
+said_within limits delimiter text =
+    network_from (limits_of limits) (records (byte_of delimiter) text)
 
 -- what a text says under the limits in force
-abbrev pub said : EdgeLimits → Delimiter → List ℕ → Result Network Refusal
-said limits delimiter text = input_of (byte_of delimiter) (limits_of limits) text
+abbrev pub meaning_of : EdgeLimits → Delimiter → List ℕ → Result Network Refusal
+meaning_of limits delimiter text = input_of (byte_of delimiter) (limits_of limits) text
 
 -- a count of failed calls rose from a number below the greatest that can be told
 abbrev pub CountsOne : ℕ → ℕ → Type 0
@@ -49,9 +50,9 @@ Refuses says refused.TooManyVertices = says ≡ Err TooManyVertices
 Refuses says refused.Memory = ⊤
 
 -- what an error of `csv` is told as: one of the reader underneath as a failed read, all others as want of memory
-abbrev pub told_as : Bool → EdgeError
-told_as true = refused.Read
-told_as false = refused.Memory
+abbrev pub edge_error : Bool → EdgeError
+edge_error true = refused.Read
+edge_error false = refused.Memory
 
 -- the same of one record
 abbrev pub FaultIs : Option Refusal → EdgeError → Type 0
@@ -76,14 +77,14 @@ pairs_in [] = []
 pairs_in (r ∷ rs) = pair_in r ++ pairs_in rs
 
 -- the labels of an edge's target and source
-abbrev pub named : List (List ℕ) → Edge → List ℕ × List ℕ
-named labels e = (slice_index_or labels e.target [], slice_index_or labels e.source [])
+abbrev pub label_pair : List (List ℕ) → Edge → List ℕ × List ℕ
+label_pair labels e = (slice_index_or labels e.target [], slice_index_or labels e.source [])
 
 -- the labels and the edges that these records name
 pub record IsReadAs (records : List (List (List ℕ))) (labels : List (List ℕ)) (edges : List Edge) : Type 0 where
   pub labels_are : labels ≡ labels_of records
   pub below : AllBelow (length labels) edges
-  pub edges_are : map (named labels) edges ≡ pairs_in records
+  pub edges_are : map (label_pair labels) edges ≡ pairs_in records
 
 -- at most so many labels and edges, and each edge of two of the labels
 pub record AreWithin (vertices number : ℕ) (labels : List (List ℕ)) (edges : List Edge) : Type 0 where
@@ -116,7 +117,7 @@ network_by labels edges = record { graph = graph_of_edges (length labels) edges;
 
 -- these records say the network of these labels and edges
 abbrev pub IsReadBy : EdgeLimits → List (List (List ℕ)) → List (List ℕ) → List Edge → Type 0
-IsReadBy limits rs labels edges = read_as (limits_of limits) rs ≡ Ok (network_by labels edges)
+IsReadBy limits rs labels edges = network_from (limits_of limits) rs ≡ Ok (network_by labels edges)
 
 -- no check fails at any of these records
 pub record IsClean (limits : Limits) (records : List (List (List ℕ))) : Type 0 where

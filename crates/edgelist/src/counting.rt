@@ -6,7 +6,7 @@ ghost use Rattle.std.specs.Str.{bytes_eq};
 ghost use Rattle.csv.specs.Records.{fields_of};
 ghost use Rattle.ball_model.specs.Input.{IsPlain, records};
 ghost use Rattle.ball_model.specs.Counting.{is_name};
-ghost use Rattle.edgelist.specs.Links.{marked};
+ghost use Rattle.edgelist.specs.Links.{marked_vertices};
 ghost use Rattle.edgelist.specs.Reading.{byte_of};
 ghost use Rattle.edgelist.specs.Records.{FromStart};
 ghost use Rattle.edgelist.specs.declared.counting.CountedError.TheVariants.{Memory};
@@ -185,7 +185,7 @@ fn bit(mark: bool) -> u32
 /// How many marks are set.
 pub(crate) fn count_marks(marks: &[bool]) -> u32
     requires { length marks.now < 2 ^ 32 }
-    ensures { result ≡ length (marked (length marks.now) marks.now) }
+    ensures { result ≡ length (marked_vertices (length marks.now) marks.now) }
 {
     let mut count = 0;
     for v in 0..marks.len() {

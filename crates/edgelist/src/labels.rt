@@ -2,7 +2,7 @@
 
 ghost use Rattle.std.specs.Prelude.{◌≡◌, ◌+◌, ◌^◌, ◌<◌, ◌≤◌, length, map, slice_index_or, IfOk, []};
 ghost use Rattle.std.specs.List.{sum_by};
-ghost use Rattle.edgelist.specs.Lists.{Ascend, cut};
+ghost use Rattle.edgelist.specs.Lists.{Ascend, lists_between};
 
 use gapcode::Places;
 use std::alloc::{AllocError, Global};
@@ -17,11 +17,11 @@ pub struct Labels {
 
 impl Model for Labels {
     ghost use Rattle.std.specs.Prelude.{List, ℕ, length};
-    ghost use Rattle.edgelist.specs.Lists.{Ascend, cut};
+    ghost use Rattle.edgelist.specs.Lists.{Ascend, lists_between};
 
     ghost Value = { List (List ℕ) };
 
-    ghost view = { λ labels. cut labels.bytes.items labels.starts };
+    ghost view = { λ labels. lists_between labels.bytes.items labels.starts };
 
     ghost invariant = { λ labels. Ascend (length labels.bytes.items) labels.starts };
 }
@@ -83,7 +83,7 @@ impl Labels {
 fn text_at<'a>(bytes: &'a [u8], starts: &Places, i: usize) -> &'a [u8]
     requires starts { Ascend (length bytes.now) starts.now }
     requires below { i + 1 < length starts.now }
-    ensures { result.now ≡ slice_index_or (cut bytes.now starts.now) i [] }
+    ensures { result.now ≡ slice_index_or (lists_between bytes.now starts.now) i [] }
 {
     prove!(i < starts.len());
     &bytes[starts.at(i) as usize..starts.at(i + 1) as usize]

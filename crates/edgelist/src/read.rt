@@ -5,11 +5,11 @@ ghost use Rattle.std.specs.Io.KnownBytes.{ReadConsumes};
 ghost use Rattle.std.specs.Io.{ReadsAtMost};
 ghost use Rattle.csv.specs.Records.{fields_of};
 ghost use Rattle.csv.specs.Reading.{is_io, error_kind};
-ghost use Rattle.ball_model.specs.Input.{IsPlain, records, has_form, read_as, input_of};
+ghost use Rattle.ball_model.specs.Input.{IsPlain, records, has_form, network_from, input_of};
 ghost use Rattle.edgelist.specs.Edges.{edge_of, graph_of_edges};
 ghost use Rattle.edgelist.specs.declared.read.EdgeError.TheVariants.{Memory};
 ghost use Rattle.edgelist.specs.Records.{ForPlain, FromStart};
-ghost use Rattle.edgelist.specs.Reading.{byte_of, limits_of, said, said_within, CountsOne, IsReadBy, Refuses, most_records, most_vertices, told_as, with_label, AreWithin, AddsEdge, Exceeds, Adds, Stops};
+ghost use Rattle.edgelist.specs.Reading.{byte_of, limits_of, meaning_of, said_within, CountsOne, IsReadBy, Refuses, most_records, most_vertices, edge_error, with_label, AreWithin, AddsEdge, Exceeds, Adds, Stops};
 
 use crate::edge::Edge;
 use crate::graph::Graph;
@@ -52,7 +52,7 @@ impl From<AllocError> for EdgeError {
 }
 
 impl From<csv::Error> for EdgeError {
-    ghost from_gives = { λ error e. e ≡ told_as (is_io (error_kind error)) };
+    ghost from_gives = { λ error e. e ≡ edge_error (is_io (error_kind error)) };
 
     fn from(error: csv::Error) -> EdgeError {
         match error.kind() {
@@ -209,7 +209,7 @@ impl Reading {
         ensures ok { FromStart R.remaining reader.old (λ rs.
             OnOk result (IsReadBy limits rs self.new.labels self.new.edges.items)) }
         ensures refused { FromStart R.remaining reader.old (λ rs.
-            IfErr result (Refuses (read_as (limits_of limits) rs))) }
+            IfErr result (Refuses (network_from (limits_of limits) rs))) }
     {
         for number in 0..limits.edges + 1 {
             let more = next_record(reader, row)?;
@@ -339,9 +339,9 @@ pub fn read_edges<R: CountedRead>(
     limits: EdgeLimits,
 ) -> Result<Graph, EdgeError>
     ensures ok { ForPlain (R.remaining reader.old) (λ text.
-        IfOk result (λ g. said limits delimiter text ≡ Ok g)) }
+        IfOk result (λ g. meaning_of limits delimiter text ≡ Ok g)) }
     ensures refused { ForPlain (R.remaining reader.old) (λ text.
-        IfErr result (Refuses (said limits delimiter text))) }
+        IfErr result (Refuses (meaning_of limits delimiter text))) }
     ensures read { result ≡ Err EdgeError.Read →
         R.failed_calls reader.old < R.failed_calls reader.new }
     ensures failed { CountsOne (R.failed_calls reader.old) (R.failed_calls reader.new) →

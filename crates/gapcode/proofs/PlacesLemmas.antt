@@ -4,32 +4,32 @@ use Rattle.std.specs.Prelude.{replicate}
 use Rattle.std.specs.List.{AllByRecursion}
 use Rattle.std.proofs.lemmas.Bool.{le-leb, lt-leb}
 use Rattle.std.proofs.lemmas.List.Sums.{sum_by-cons, sum_by-append}
-use Rattle.gapcode.specs.Places.{passed, places_from, AreMarks}
+use Rattle.gapcode.specs.Places.{marks_up_to, places_from, AreMarks}
 
 -- whether a mark counts at entry i
 counts : ℕ → ℕ → ℕ
 counts i mark = cond (leb mark i) 1 0
 
-passed-cons : (i mark : ℕ) (marks : List ℕ) → passed i (mark ∷ marks) ≡ cond (leb mark i) 1 0 + passed i marks
+passed-cons : (i mark : ℕ) (marks : List ℕ) → marks_up_to i (mark ∷ marks) ≡ cond (leb mark i) 1 0 + marks_up_to i marks
 passed-cons i mark marks = sum_by-cons (λ m. cond (leb m i) 1 0) mark marks
 
-passed-all : (i n : ℕ) (marks : List ℕ) → n ≤ i + 1 → AllByRecursion (λ mark. mark < n) marks → passed i marks ≡ length marks
+passed-all : (i n : ℕ) (marks : List ℕ) → n ≤ i + 1 → AllByRecursion (λ mark. mark < n) marks → marks_up_to i marks ≡ length marks
 passed-all i n [] le h = refl
 passed-all i n (mark ∷ marks) le h =
     let one : leb mark i ≡ true = le-leb mark i (omega (arith, h.0)) in
     passed-cons i mark marks ∙ rw one (omega (arith, passed-all i n marks le h.1))
 
-passed-late : (i k mark : ℕ) → i < mark → passed i (replicate k mark) ≡ 0
+passed-late : (i k mark : ℕ) → i < mark → marks_up_to i (replicate k mark) ≡ 0
 passed-late i zero mark lt = refl
 passed-late i (suc k) mark lt =
     passed-cons i mark (replicate k mark) ∙ rw (lt-leb mark i lt) (omega (arith, passed-late i k mark lt))
 
-passed-now : (i k : ℕ) → passed i (replicate k i) ≡ k
+passed-now : (i k : ℕ) → marks_up_to i (replicate k i) ≡ k
 passed-now i zero = refl
 passed-now i (suc k) =
     passed-cons i i (replicate k i) ∙ rw (le-leb i i (omega arith)) (omega (arith, passed-now i k))
 
-passed-append : (i : ℕ) (xs ys : List ℕ) → passed i (xs ++ ys) ≡ passed i xs + passed i ys
+passed-append : (i : ℕ) (xs ys : List ℕ) → marks_up_to i (xs ++ ys) ≡ marks_up_to i xs + marks_up_to i ys
 passed-append i xs ys = sum_by-append (λ m. cond (leb m i) 1 0) xs ys
 
 -- ---- the places
@@ -39,7 +39,7 @@ unfolding places_from
 length-places i marks [] = refl
 length-places i marks (low ∷ lows) = ap suc (length-places (i + 1) marks lows)
 
-pub place-at : (i k : ℕ) (marks lows : List ℕ) → k < length lows → get_or (places_from i marks lows) k 0 ≡ get_or lows k 0 + 4294967296 * passed (i + k) marks
+pub place-at : (i k : ℕ) (marks lows : List ℕ) → k < length lows → get_or (places_from i marks lows) k 0 ≡ get_or lows k 0 + 4294967296 * marks_up_to (i + k) marks
 unfolding places_from
 place-at i k marks [] lt = absurd (omega arith)
 place-at i zero marks (low ∷ lows) lt = let e : i + 0 ≡ i = omega arith in rw e refl
@@ -49,10 +49,10 @@ places-late : (i k mark : ℕ) (marks lows : List ℕ) → i + length lows ≤ m
 unfolding places_from
 places-late i k mark marks [] le = refl
 places-late i k mark marks (low ∷ lows) le =
-    let same : passed i (marks ++ replicate k mark) ≡ passed i marks = passed-append i marks (replicate k mark) ∙ omega (arith, passed-late i k mark (omega arith)) in
+    let same : marks_up_to i (marks ++ replicate k mark) ≡ marks_up_to i marks = passed-append i marks (replicate k mark) ∙ omega (arith, passed-late i k mark (omega arith)) in
     rw (same, places-late (i + 1) k mark marks lows (omega arith)) refl
 
-places-append : (i low : ℕ) (marks lows : List ℕ) → places_from i marks (lows ++ low ∷ []) ≡ places_from i marks lows ++ (low + 4294967296 * passed (i + length lows) marks) ∷ []
+places-append : (i low : ℕ) (marks lows : List ℕ) → places_from i marks (lows ++ low ∷ []) ≡ places_from i marks lows ++ (low + 4294967296 * marks_up_to (i + length lows) marks) ∷ []
 unfolding places_from
 places-append i low marks [] = let e : i + 0 ≡ i = omega arith in rw e refl
 places-append i low marks (l ∷ lows) =
@@ -61,12 +61,12 @@ places-append i low marks (l ∷ lows) =
 
 -- ---- one place
 
-pub at_is : (lows marks : List ℕ) (i low count : ℕ) → i < length lows → low ≡ get_or lows i 0 → count ≡ passed i marks → count < 2 ^ 64
+pub at_is : (lows marks : List ℕ) (i low count : ℕ) → i < length lows → low ≡ get_or lows i 0 → count ≡ marks_up_to i marks → count < 2 ^ 64
     → low + count * 4294967296 % 340282366920938463463374607431768211456 ≡ get_or (places_from 0 marks lows) i 0
 at_is lows marks i low count lt is many small =
     let e : 0 + i ≡ i = omega arith in
     let at = place-at 0 i marks lows lt in
-    omega (arith, subst (λ (k : ℕ). get_or (places_from 0 marks lows) i 0 ≡ get_or lows i 0 + 4294967296 * passed k marks) e at, is, many, small)
+    omega (arith, subst (λ (k : ℕ). get_or (places_from 0 marks lows) i 0 ≡ get_or lows i 0 + 4294967296 * marks_up_to k marks) e at, is, many, small)
 
 -- ---- one place more
 
@@ -100,6 +100,6 @@ push_is lows marks place ok le =
     let ms = marks ++ replicate k i in
     let few = marks_few place lows marks ok le in
     let e : 0 + i ≡ i = omega arith in
-    let all : passed i ms ≡ place / 4294967296 = passed-append i marks (replicate k i) ∙ omega (arith, passed-all i i marks (omega arith) ok, passed-now i k) in
-    let last : place % 4294967296 + 4294967296 * passed (0 + i) ms ≡ place = rw (e, all) (omega arith) in
+    let all : marks_up_to i ms ≡ place / 4294967296 = passed-append i marks (replicate k i) ∙ omega (arith, passed-all i i marks (omega arith) ok, passed-now i k) in
+    let last : place % 4294967296 + 4294967296 * marks_up_to (0 + i) ms ≡ place = rw (e, all) (omega arith) in
     places-append 0 (place % 4294967296) ms lows ∙ rw (last, places-late 0 k i marks lows (omega arith)) refl

@@ -4,7 +4,7 @@ use Rattle.std.proofs.lemmas.Bool.{ltb-false, le-ltb}
 use Rattle.gapcode.specs.declared.error.CodeError.{CodeError}
 use Rattle.gapcode.specs.declared.error.CodeError.TheVariants.{Range}
 use Rattle.gapcode.specs.Bits.{gamma_at, bits_of}
-use Rattle.gapcode.specs.Lists.{◌>>=◌, elements_at, beyond, values, decoded, read_list, list_at, ArePlaced, IsPlaced}
+use Rattle.gapcode.specs.Lists.{◌>>=◌, elements_at, beyond, values, elements_of, read_list, list_at, ArePlaced, IsPlaced}
 use Rattle.gapcode.proofs.GammaLemmas.{gamma_takes, ok_is}
 use Rattle.std.proofs.lemmas.List.{length-drop}
 use Rattle.gapcode.proofs.WordsLemmas.{at_rest}
@@ -15,10 +15,10 @@ pub record Next (n least : ℕ) (bits : List Bool) (gap : ℕ) (more : List Bool
   pub fits : least + gap ≤ beyond
   pub some : 0 < gap
   pub rest : (x : List ℕ × List Bool) × (elements_at beyond n (least + gap) more ≡ Ok x)
-  pub split : decoded (suc n) least bits ≡ (least + (gap - 1)) ∷ decoded n (least + gap) more
+  pub split : elements_of (suc n) least bits ≡ (least + (gap - 1)) ∷ elements_of n (least + gap) more
 
 split_is : (n least gap : ℕ) (bits more : List Bool) (x : List ℕ × List Bool) → gamma_at bits ≡ Ok (gap, more) → least + gap ≤ beyond → elements_at beyond n (least + gap) more ≡ Ok x
-    → decoded (suc n) least bits ≡ (least + (gap - 1)) ∷ decoded n (least + gap) more
+    → elements_of (suc n) least bits ≡ (least + (gap - 1)) ∷ elements_of n (least + gap) more
 unfolding elements_at
 split_is n least gap bits more x read fits rest = rw (read, le-ltb beyond (least + gap) fits, rest) refl
 
@@ -36,7 +36,7 @@ next_is n least bits h =
 
 -- the same of a count that is not 0
 pub next_of : (left least : ℕ) (bits : List Bool) → 0 < left → (x : List ℕ × List Bool) × (elements_at beyond left least bits ≡ Ok x) → (gap : ℕ) × (more : List Bool) × (gamma_at bits ≡ Ok (gap, more)) × (least + gap ≤ beyond) × (0 < gap)
-    × ((x : List ℕ × List Bool) × (elements_at beyond (left - 1) (least + gap) more ≡ Ok x)) × (decoded left least bits ≡ (least + (gap - 1)) ∷ decoded (left - 1) (least + gap) more)
+    × ((x : List ℕ × List Bool) × (elements_at beyond (left - 1) (least + gap) more ≡ Ok x)) × (elements_of left least bits ≡ (least + (gap - 1)) ∷ elements_of (left - 1) (least + gap) more)
 next_of zero least bits pos h = absurd (omega arith)
 next_of (suc n) least bits pos h =
     let t = next_is n least bits h in
@@ -46,7 +46,7 @@ next_of (suc n) least bits pos h =
 pub record Stepped (bytes : List ℕ) (position left least gap place : ℕ) : Type 0 where
   pub some : 0 < gap
   pub fits : least + gap ≤ beyond
-  pub next : decoded left least (drop position (bits_of bytes)) ≡ (least + (gap - 1)) ∷ decoded (left - 1) (least + (gap - 1) + 1) (drop place (bits_of bytes))
+  pub next : elements_of left least (drop position (bits_of bytes)) ≡ (least + (gap - 1)) ∷ elements_of (left - 1) (least + (gap - 1) + 1) (drop place (bits_of bytes))
   pub placed : ArePlaced bytes place (left - 1) (least + (gap - 1) + 1)
 
 pub stepped : (bytes : List ℕ) (position left least gap place : ℕ) → ArePlaced bytes position left least → 0 < left → Ok (gap, drop place (bits_of bytes)) ≡ gamma_at (drop position (bits_of bytes)) → place ≤ 8 * length bytes → Stepped bytes position left least gap place
@@ -73,7 +73,7 @@ no_error bytes position left least e is pos read =
 
 pub record Begun (bytes : List ℕ) (position code end : ℕ) : Type 0 where
   pub some : 0 < code
-  pub first : decoded (code - 1) 0 (drop end (bits_of bytes)) ≡ read_list (drop position (bits_of bytes))
+  pub first : elements_of (code - 1) 0 (drop end (bits_of bytes)) ≡ read_list (drop position (bits_of bytes))
   pub placed : ArePlaced bytes end (code - 1) 0
 
 pub begun : (bytes : List ℕ) (position code end : ℕ) → IsPlaced bytes position → Ok (code, drop end (bits_of bytes)) ≡ gamma_at (drop position (bits_of bytes)) → end ≤ 8 * length bytes → Begun bytes position code end
@@ -118,10 +118,10 @@ list_moved bytes rest place e is = record {
   coded = (is.coded.0, ap (list_at beyond) (sym (at_rest bytes rest place e)) ∙ is.coded.1);
 }
 
-pub length-placed : (bytes : List ℕ) (place left least : ℕ) → ArePlaced bytes place left least → length (decoded left least (drop place (bits_of bytes))) ≡ left
+pub length-placed : (bytes : List ℕ) (place left least : ℕ) → ArePlaced bytes place left least → length (elements_of left least (drop place (bits_of bytes))) ≡ left
 length-placed bytes place left least is =
     ap (λ (r : Result (List ℕ × List Bool) CodeError). length (values r)) is.coded.1 ∙ (elements_take beyond left least (drop place (bits_of bytes)) is.coded.0 is.coded.1).1
 
-pub none_left : (left least : ℕ) (bits : List Bool) → left ≡ 0 → decoded left least bits ≡ []
+pub none_left : (left least : ℕ) (bits : List Bool) → left ≡ 0 → elements_of left least bits ≡ []
 unfolding elements_at
 none_left left least bits e = rw e refl

@@ -22,8 +22,8 @@ abbrev pub bits_from : List ℕ → ℕ → List Bool
 bits_from bytes place = drop place (bits_of bytes)
 
 -- the bits of whole bytes, and the lowest `used` of a byte behind them
-abbrev pub written : List ℕ → ℕ → ℕ → List Bool
-written full last used = bits_of full ++ digits used last
+abbrev pub bits_with : List ℕ → ℕ → ℕ → List Bool
+bits_with full last used = bits_of full ++ digits used last
 
 -- the bytes have these bits, and zero bits up to the next whole byte
 abbrev pub AreBytesOf : List Bool → List ℕ → Type 0

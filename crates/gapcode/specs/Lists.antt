@@ -122,8 +122,8 @@ values (Ok x) = x.0
 values (Err e) = []
 
 -- n elements, whatever their bound
-abbrev pub decoded : ℕ → ℕ → List Bool → List ℕ
-decoded n least bits = values (elements_at beyond n least bits)
+abbrev pub elements_of : ℕ → ℕ → List Bool → List ℕ
+elements_of n least bits = values (elements_at beyond n least bits)
 
 -- the list that the bits begin with
 abbrev pub read_list : List Bool → List ℕ

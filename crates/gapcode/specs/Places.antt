@@ -3,14 +3,14 @@ use Rattle.std.specs.Prelude.{ℕ, ◌+◌, ◌*◌, ◌<◌, nat_le, List, [], 
 use Rattle.std.specs.List.{AllByRecursion, count_by}
 
 -- how many of the marks stand at entry i or before
-abbrev pub passed : ℕ → List ℕ → ℕ
-passed i marks = count_by (λ mark. nat_le mark i) marks
+abbrev pub marks_up_to : ℕ → List ℕ → ℕ
+marks_up_to i marks = count_by (λ mark. nat_le mark i) marks
 
 -- the places, the first of them entry i: each mark up to an entry adds 2 ^ 32
 unfoldable pub places_from : ℕ → List ℕ → List ℕ → List ℕ
 places_from i marks [] = []
 places_from i marks (low ∷ lows) =
-    (low + 4294967296 * passed i marks) ∷ places_from (i + 1) marks lows
+    (low + 4294967296 * marks_up_to i marks) ∷ places_from (i + 1) marks lows
 
 -- each mark is of an entry that is there
 abbrev pub AreMarks : List ℕ → List ℕ → Type 0

@@ -2,7 +2,7 @@
 
 ghost use Rattle.std.specs.Prelude.{◌≡◌, ◌+◌, ◌-◌, ◌/◌, ◌*◌, ◌^◌, ◌<◌, ◌≤◌, ◌++◌, ◌∷◌, [], length, replicate, slice_index, IfOk, OnOk, nat_le};
 ghost use Rattle.std.specs.List.{count_by};
-ghost use Rattle.gapcode.specs.Places.{passed};
+ghost use Rattle.gapcode.specs.Places.{marks_up_to};
 
 use std::alloc::{AllocError, Global};
 use std::marker::Model;
@@ -30,7 +30,7 @@ impl Model for Places {
 
 // How many marks stand at entry i or before.
 fn passed_by(marks: &[usize], i: usize) -> usize
-    ensures { result ≡ passed i marks.now }
+    ensures { result ≡ marks_up_to i marks.now }
 {
     marks.iter().filter(|mark| **mark <= i).count()
 }

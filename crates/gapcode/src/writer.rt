@@ -1,7 +1,7 @@
 //! Bits into bytes.
 
 ghost use Rattle.std.specs.Prelude.{◌≡◌, ◌+◌, ◌*◌, ◌/◌, ◌%◌, ◌<◌, ◌≤◌, ◌^◌, ◌++◌, [], length, replicate, false, OnOk, OnErr, ℕ, vec_len, vec_capacity};
-ghost use Rattle.gapcode.specs.Bits.{digits, written, gamma, AreBytesOf};
+ghost use Rattle.gapcode.specs.Bits.{digits, bits_with, gamma, AreBytesOf};
 
 use std::alloc::{AllocError, Global};
 use std::marker::Model;
@@ -32,8 +32,8 @@ fn put_digits(full: &mut Vec<u8>, last: u8, used: u32, value: u64, n: u32) -> (u
     requires room { vec_len full.old + 8 ≤ vec_capacity full.old }
     ensures used { result.1 < 8 }
     ensures last { result.0 < 2 ^ result.1 }
-    ensures bits { written full.new.items result.0 result.1
-        ≡ written full.old.items last used ++ digits n value }
+    ensures bits { bits_with full.new.items result.0 result.1
+        ≡ bits_with full.old.items last used ++ digits n value }
     ensures longer { vec_len full.new ≤ vec_len full.old + 8 }
     ensures room { vec_capacity full.old ≤ vec_capacity full.new }
 {
@@ -53,8 +53,8 @@ fn put_code(full: &mut Vec<u8>, last: u8, used: u32, x: u64) -> (u8, u32)
     requires room { vec_len full.old + 17 ≤ vec_capacity full.old }
     ensures used { result.1 < 8 }
     ensures last { result.0 < 2 ^ result.1 }
-    ensures bits { written full.new.items result.0 result.1
-        ≡ written full.old.items last used ++ gamma x }
+    ensures bits { bits_with full.new.items result.0 result.1
+        ≡ bits_with full.old.items last used ++ gamma x }
     ensures room { vec_len full.new < vec_capacity full.new }
 {
     let zeros = 63 - x.leading_zeros();
@@ -74,11 +74,11 @@ pub struct BitWriter {
 
 impl Model for BitWriter {
     ghost use Rattle.std.specs.Prelude.{List, Bool, ◌<◌, ◌^◌, vec_len, vec_capacity};
-    ghost use Rattle.gapcode.specs.Bits.{written};
+    ghost use Rattle.gapcode.specs.Bits.{bits_with};
 
     ghost Value = { List Bool };
 
-    ghost view = { λ w. written w.full.items w.last w.used };
+    ghost view = { λ w. bits_with w.full.items w.last w.used };
 
     ghost invariant = { λ w.
         (w.used < 8) × (w.last < 2 ^ w.used)

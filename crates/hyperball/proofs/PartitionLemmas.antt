@@ -20,7 +20,7 @@ use Rattle.ball_model.specs.State.{State, StandsFor, content_of}
 use Rattle.ball_model.proofs.EndLemmas.{end_within}
 use Rattle.replica.specs.Level.{found_verdict}
 use Rattle.report.specs.Ready.{AllStand, are_ready, is_ready, ready_from, says_end}
-use Rattle.hyperball.specs.Partitions.{AreAt, AreEnded, AreLevel, AreOver, AreRunning, AreTold, and_told}
+use Rattle.hyperball.specs.Partitions.{AreAt, AreEnded, AreLevel, AreOver, AreRunning, AreTold, with_pair}
 
 pub number_of_part : (j : Job) (p : ℕ) (v : State) → v.part ≡ part_of j p → v.part.number ≡ p
 unfolding part_of
@@ -114,7 +114,7 @@ told_by j t q p v w b r h other is answer names stands =
       held = names t q ∙ rw (new, name, sym h.superstep) (taken_in j.plan p q (content_of v) other);
     }
 
-told_there : (told : ℕ → ℕ → Bool) (q p r s : ℕ) → and_told told q p r s ≡ true → ((r ≡ q) × (s ≡ p)) ⊎ (told r s ≡ true)
+told_there : (told : ℕ → ℕ → Bool) (q p r s : ℕ) → with_pair told q p r s ≡ true → ((r ≡ q) × (s ≡ p)) ⊎ (told r s ≡ true)
 told_there told q p r s e = by_test (r == q) (s == p) (told r s) refl refl e
   where
     by_test : (a b c : Bool) → (r == q) ≡ a → (s == p) ≡ b → ((a && b) || c) ≡ true → ((r ≡ q) × (s ≡ p)) ⊎ (c ≡ true)
@@ -124,7 +124,7 @@ told_there told q p r s e = by_test (r == q) (s == p) (told r s) refl refl e
     by_test false false c e f h = inr h
 
 -- once a source has told a target
-pub told_set : (j : Job) (t q p : ℕ) (told : ℕ → ℕ → Bool) (rs : List State) (d w : State) → AreTold j t told rs → p < length rs → Told j t q p (slice_index_or rs p d) w → AreTold j t (and_told told q p) (set rs p w)
+pub told_set : (j : Job) (t q p : ℕ) (told : ℕ → ℕ → Bool) (rs : List State) (d w : State) → AreTold j t told rs → p < length rs → Told j t q p (slice_index_or rs p d) w → AreTold j t (with_pair told q p) (set rs p w)
 told_set j t q p told rs d w h lt one = record {
   at = at_set j t rs p w h.at lt one.stands;
   held = λ r s e source target other is. elim (same_or_not s p) [
@@ -185,7 +185,7 @@ below_more told q n r s e = by_test (r == q) (nat_lt s (n + 1)) (nat_lt s n) (to
     by_test false b l c f g k h = inr h
 
 -- once it has told target n too
-pub below_told : (told : ℕ → ℕ → Bool) (q n r s : ℕ) → told_below told q (n + 1) r s ≡ true → and_told (told_below told q n) q n r s ≡ true
+pub below_told : (told : ℕ → ℕ → Bool) (q n r s : ℕ) → told_below told q (n + 1) r s ≡ true → with_pair (told_below told q n) q n r s ≡ true
 below_told told q n r s e = elim (below_more told q n r s e) [
   | inl both ↦ rw (both.0, both.1, same_number q, same_number n) refl
   | inr before ↦ rw before (or_true ((r == q) && (s == n)))

@@ -31,8 +31,8 @@ pub record AreTold (j : Job) (t : ℕ) (told : ℕ → ℕ → Bool) (rs : List 
       q ≢ p → told q p ≡ true → (content_of (slice_index_or rs p d)).holds t q ≡ true
 
 -- source q has told target p too
-abbrev pub and_told : (ℕ → ℕ → Bool) → ℕ → ℕ → ℕ → ℕ → Bool
-and_told told q p r s = ((r == q) && (s == p)) || told r s
+abbrev pub with_pair : (ℕ → ℕ → Bool) → ℕ → ℕ → ℕ → ℕ → Bool
+with_pair told q p r s = ((r == q) && (s == p)) || told r s
 
 -- each source has told every target
 abbrev pub AreLevel : Job → ℕ → List State → Type 0

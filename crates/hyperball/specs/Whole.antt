@@ -31,6 +31,6 @@ abbrev pub IsLong : Option (List ℕ) → Type 0
 IsLong old = IfSome old (λ input. most_bytes < length input)
 
 -- the edge list in an input, and the list of counted vertices: with one they are the two sections
-abbrev pub found_in : Bool → List ℕ → Option (List ℕ × Option (List ℕ))
-found_in false input = Some (input, None)
-found_in true input = option_map (λ sections. (sections.0, Some sections.1)) (sections_of input)
+abbrev pub sections_in : Bool → List ℕ → Option (List ℕ × Option (List ℕ))
+sections_in false input = Some (input, None)
+sections_in true input = option_map (λ sections. (sections.0, Some sections.1)) (sections_of input)

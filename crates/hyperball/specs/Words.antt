@@ -14,7 +14,7 @@ use Rattle.edgelist.specs.declared.read.Delimiter.TheVariants.{Tab, Comma, Space
 use Rattle.hyperball.specs.declared.words.RunWords.{RunWords}
 use Rattle.hyperball.specs.CommandLine.{delimiter_names, TakesNames, hyperball_app}
 use Rattle.hyperball.specs.Serial.{ArePlain, settings_of}
-use Rattle.hyperball.specs.Whole.{found_in}
+use Rattle.hyperball.specs.Whole.{sections_in}
 
 -- the words of a command line as texts
 abbrev pub texts_of : List (String Global) → List Text
@@ -87,5 +87,5 @@ AreMistakes kinds = (kinds ≢ []) × AllByRecursion IsMistake kinds
 pub record Reports (w : RunWords) (input : List ℕ) (old new : Option (List ℕ)) : Type 0 where
   pub edges : List ℕ
   pub list : Option (List ℕ)
-  pub found : found_in w.counted input ≡ Some (edges, list)
+  pub found : sections_in w.counted input ≡ Some (edges, list)
   pub appended : ArePlain edges list → AppendsReport (settings_of w.options) edges list old new

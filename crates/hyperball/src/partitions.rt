@@ -7,7 +7,7 @@ ghost use Rattle.ball_model.specs.Job.{Job, IsJob};
 ghost use Rattle.ball_model.specs.Content.{verdict_at};
 ghost use Rattle.ball_model.specs.State.{StandsFor};
 ghost use Rattle.hyperball.specs.Partitions.{AreAt, AreEnded, AreLevel, AreOver, AreRunning};
-ghost use Rattle.hyperball.specs.Partitions.{AreTold, and_told, job_of};
+ghost use Rattle.hyperball.specs.Partitions.{AreTold, with_pair, job_of};
 
 use ball_model::{Plan, Verdict};
 use edgelist::Graph;
@@ -46,7 +46,7 @@ fn tell(alloc: Global, replicas: &mut [Replica], source: u16, target: u16) -> Re
     requires target { target < length replicas.old }
     requires other { target ≢ source }
     ensures told { (j : Job) (t : ℕ) (told : ℕ → ℕ → Bool) → AreTold j t told replicas.old →
-        OnOk result (AreTold j t (and_told told source target) replicas.new) }
+        OnOk result (AreTold j t (with_pair told source target) replicas.new) }
 {
     let batch = replicas[usize::from(source)].out(alloc, target)?;
     let batch = Arc::new(alloc, batch)?;

@@ -19,7 +19,7 @@ pub trait Join {
     ghost are_alike: { Content → Content → Type 0 };
 
     /// The join of two contents.
-    ghost joined: { Content → Content → Content };
+    ghost union: { Content → Content → Content };
 
     ghost GROWS: { Bool };
 
@@ -34,22 +34,22 @@ pub trait Join {
     fn join(&mut self, alloc: Global, other: &Self) -> Result<(), AllocError>
         requires { are_alike (content self.old) (content other.now) }
         ensures joined { OnOk result (
-            content self.new ≡ joined (content self.old) (content other.now)) }
+            content self.new ≡ union (content self.old) (content other.now)) }
         ensures refused { OnErr result (self.new ≡ self.old) }
         ensures settled { GROWS ≡ false → IsOk result };
 
-    ghost commutative: { (a b : Content) → are_alike a b → joined a b ≡ joined b a };
+    ghost commutative: { (a b : Content) → are_alike a b → union a b ≡ union b a };
 
     ghost associative: { (a b c : Content) → are_alike a b → are_alike b c →
-        joined (joined a b) c ≡ joined a (joined b c) };
+        union (union a b) c ≡ union a (union b c) };
 
-    ghost idempotent: { (a : Content) → are_alike a a → joined a a ≡ a };
+    ghost idempotent: { (a : Content) → are_alike a a → union a a ≡ a };
 
     ghost symmetric: { (a b : Content) → are_alike a b → are_alike b a };
 
     ghost transitive: { (a b c : Content) → are_alike a b → are_alike b c → are_alike a c };
 
-    ghost stays_alike: { (a b : Content) → are_alike a b → are_alike (joined a b) b };
+    ghost stays_alike: { (a b : Content) → are_alike a b → are_alike (union a b) b };
 }
 
 /// Both become the join of the two.
@@ -58,12 +58,12 @@ pub trait Join {
 pub fn reconcile<T: Join>(alloc: Global, left: &mut T, right: &mut T) -> Result<(), AllocError>
     requires { T.are_alike (T.content left.old) (T.content right.old) }
     ensures left { OnOk result (
-        T.content left.new ≡ T.joined (T.content left.old) (T.content right.old)) }
+        T.content left.new ≡ T.union (T.content left.old) (T.content right.old)) }
     ensures right { OnOk result (
-        T.content right.new ≡ T.joined (T.content left.old) (T.content right.old)) }
+        T.content right.new ≡ T.union (T.content left.old) (T.content right.old)) }
     ensures refused { OnErr result (right.new ≡ right.old) }
     ensures half { OnErr result ((left.new ≡ left.old)
-        ⊎ (T.content left.new ≡ T.joined (T.content left.old) (T.content right.old))) }
+        ⊎ (T.content left.new ≡ T.union (T.content left.old) (T.content right.old))) }
     ensures settled { T.GROWS ≡ false → IsOk result }
 {
     left.join(alloc, right)?;

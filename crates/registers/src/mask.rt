@@ -76,7 +76,7 @@ impl Join for SourceMask {
 
     ghost are_alike = { λ _ _. ⊤ };
 
-    ghost joined = { union_of_flags };
+    ghost union = { union_of_flags };
 
     ghost GROWS = { false };
 

@@ -4,7 +4,7 @@ ghost use Rattle.std.specs.Prelude.{◌≡◌, ◌≢◌, ◌↔◌, length, fal
 ghost use Rattle.ball_model.specs.Counter.{max_each};
 ghost use Rattle.ball_model.specs.Report.{empty_of};
 ghost use Rattle.registers.specs.Glance.{glanced_at, is_less_at};
-ghost use Rattle.registers.specs.Raised.{raised_one};
+ghost use Rattle.registers.specs.Raised.{row_after_raise};
 ghost use Rattle.registers.specs.Shape.{piece_at, with_piece};
 
 use super::{Join, max_into};
@@ -124,7 +124,7 @@ impl Rows {
         requires place { index < self.old.width }
         ensures raised { self.new ≡ record self.old {
           rows = slice_set self.old.rows i
-              (raised_one (slice_index_or self.old.rows i []) index rank);
+              (row_after_raise (slice_index_or self.old.rows i []) index rank);
         } }
         ensures changed { IsTrue result
             ↔ (slice_index (slice_index_or self.old.rows i []) index < rank) }
@@ -164,7 +164,7 @@ impl Join for Rows {
 
     ghost are_alike = { AreSameShape };
 
-    ghost joined = { maximum_of_rows };
+    ghost union = { maximum_of_rows };
 
     ghost GROWS = { false };
 
@@ -247,7 +247,7 @@ fn raise_place(cells: &mut [u8], width: usize, i: usize, index: usize, rank: u8)
     requires within { i * width + width ≤ length cells.old }
     requires place { index < width }
     ensures raised { cells.new
-        ≡ with_piece width i (raised_one (piece_at width i cells.old) index rank) cells.old }
+        ≡ with_piece width i (row_after_raise (piece_at width i cells.old) index rank) cells.old }
     ensures changed { IsTrue result ↔ (slice_index (piece_at width i cells.old) index < rank) }
 {
     let start = i * width;
@@ -257,7 +257,7 @@ fn raise_place(cells: &mut [u8], width: usize, i: usize, index: usize, rank: u8)
 // One byte becomes the maximum with the rank; the answer is whether it changed.
 fn raise_byte(row: &mut [u8], index: usize, rank: u8) -> bool
     requires { index < length row.old }
-    ensures raised { row.new ≡ raised_one row.old index rank }
+    ensures raised { row.new ≡ row_after_raise row.old index rank }
     ensures changed { IsTrue result ↔ (slice_index row.old index < rank) }
 {
     let changed = row[index] < rank;

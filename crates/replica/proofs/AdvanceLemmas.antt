@@ -8,7 +8,7 @@ use Rattle.ball_model.specs.PlanValue.{PlanValue, mixing_of}
 use Rattle.ball_model.specs.Job.{Job, part_of}
 use Rattle.ball_model.specs.Batches.{BatchValue, true_batch}
 use Rattle.ball_model.specs.Supersteps.{end_of}
-use Rattle.ball_model.specs.Content.{closed, missing_of}
+use Rattle.ball_model.specs.Content.{after_close, missing_of}
 use Rattle.ball_model.specs.State.{State, StandsFor, KeepsTrue, content_of, early_at, holds_in, rows_of}
 use Rattle.ball_model.proofs.PathLemmas.{same_true}
 use Rattle.replica.specs.Change.{Advances}
@@ -91,7 +91,7 @@ advance_stands j p t v w r a time =
     }
 
 -- the names held after it
-pub advance_holds : (v w : State) → Advances v w → (s q : ℕ) → (content_of w).holds s q ≡ (closed (content_of v)).holds s q
+pub advance_holds : (v w : State) → Advances v w → (s q : ℕ) → (content_of w).holds s q ≡ (after_close (content_of v)).holds s q
 advance_holds v w a s q =
     let t = v.superstep in
     ap (λ n. holds_in n w.heard w.early s q) a.superstep

@@ -10,7 +10,7 @@ use Rattle.ball_model.proofs.PathLemmas.{same_true}
 use Rattle.ball_model.specs.Job.{Job}
 use Rattle.ball_model.specs.Batches.{BatchValue, true_batch}
 use Rattle.ball_model.specs.Content.{Content, take_of, is_new, after_take, same_plan}
-use Rattle.ball_model.specs.Join.{joined, merge_of}
+use Rattle.ball_model.specs.Join.{union_of, merge_of}
 use Rattle.ball_model.specs.State.{State, StandsFor, content_of}
 use Rattle.replica.specs.Runs.{HasContent, Takes, Merges}
 use Rattle.replica.proofs.LevelLemmas.{plan_is, number_is}
@@ -38,7 +38,7 @@ on_ok (Err e) p f = tt
 
 -- a call of `merge`
 pub merges : (v other w : State) (r : Result (Unit {0}) MergeError) → (r ≢ Err refusal.Memory → r ≡ merge_of v.part.plan v.part.number other.part.plan other.part.number) → OnErr r (w ≡ v) →
-    OnOk r ((s q : ℕ) → (content_of w).holds s q ≡ (joined (content_of v) (content_of other)).holds s q) →
+    OnOk r ((s q : ℕ) → (content_of w).holds s q ≡ (union_of (content_of v) (content_of other)).holds s q) →
     ((j : Job) (p t u : ℕ) → StandsFor j p t v → StandsFor j p u other → OnOk r (StandsFor j p (max t u) w)) →
     (j : Job) (p : ℕ) (d : Content) → HasContent j p d other → Merges j p d r v w
 merges v other w r answer refused names stands j p d h = record {
@@ -50,7 +50,7 @@ merges v other w r answer refused names stands j p d h = record {
       ∙ ap (λ n. merge_of j.plan p j.plan n) (number_is j p d.superstep other h.stands)
       ∙ same_job p j.plan;
   refused = refused;
-  names = on_ok r names (λ all s q. all s q ∙ ap (λ (e : Content). (joined (content_of v) e).holds s q) (has_content j p d other h));
+  names = on_ok r names (λ all s q. all s q ∙ ap (λ (e : Content). (union_of (content_of v) e).holds s q) (has_content j p d other h));
   stands = λ t k. stands j p t d.superstep k h.stands;
 }
 

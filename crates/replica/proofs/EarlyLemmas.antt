@@ -10,7 +10,7 @@ use Rattle.std.proofs.lemmas.List.FromFn.{length-map-range_with_len, get_or-map-
 use Rattle.ball_model.specs.Batches.{BatchValue}
 use Rattle.ball_model.specs.State.{early_at}
 use Rattle.ball_model.proofs.PathLemmas.{and_left, and_right, and_both, eq_true}
-use Rattle.replica.specs.Ahead.{table_of, IsTable, either, filled, shifted}
+use Rattle.replica.specs.Ahead.{table_of, IsTable, either, union_of_slots, slots_after}
 
 pub get_none : (n i : ℕ) → get_or (replicate {A = Option BatchValue} n None) i None ≡ None
 get_none zero i = refl
@@ -24,7 +24,7 @@ past_end (x ∷ xs) zero d beyond = absurd (omega arith)
 past_end (x ∷ xs) (suc k) d beyond = past_end xs k d (omega arith)
 
 -- what stands at a place after a shift
-shifted_at : (n k : ℕ) (slots : List (Option BatchValue)) → get_or (shifted n slots) k None ≡ get_or slots (n + k) None
+shifted_at : (n k : ℕ) (slots : List (Option BatchValue)) → get_or (slots_after n slots) k None ≡ get_or slots (n + k) None
 shifted_at n k slots =
     elim (cases_lt k (length (drop n slots))) [
       | inl before ↦ get_or-append (drop n slots) (replicate n None) None k before ∙ get_or-drop n slots k None
@@ -54,8 +54,8 @@ either_none : (a b : Option BatchValue) → a ≡ None → b ≡ None → None �
 either_none a b p q = rw (p, q) refl
 
 -- what stands at a place of two that are joined
-filled_at : (slots others : List (Option BatchValue)) (k : ℕ) → length others ≡ length slots → get_or (filled slots others) k None ≡ either (get_or slots k None) (get_or others k None)
-unfolding filled
+filled_at : (slots others : List (Option BatchValue)) (k : ℕ) → length others ≡ length slots → get_or (union_of_slots slots others) k None ≡ either (get_or slots k None) (get_or others k None)
+unfolding union_of_slots
 filled_at slots others k same =
     let F : ℕ → Option BatchValue = λ i. either (get_or slots i None) (get_or others i None) in
     elim (cases_lt k (length slots)) [
@@ -65,8 +65,8 @@ filled_at slots others k same =
           ∙ either_none (get_or slots k None) (get_or others k None) (past_end slots k None beyond) (past_end others k None (omega (arith, same)))
     ]
 
-pub length-filled : (slots others : List (Option BatchValue)) → length (filled slots others) ≡ length slots
-unfolding filled
+pub length-filled : (slots others : List (Option BatchValue)) → length (union_of_slots slots others) ≡ length slots
+unfolding union_of_slots
 length-filled slots others = length-map-range_with_len (λ i. either (get_or slots i None) (get_or others i None)) 0 (length slots)
 
 -- ---- the table
@@ -166,9 +166,9 @@ kept_at parts level source slots b low lt long i k =
 
 -- some supersteps later
 pub shift_at : (parts count : ℕ) (slots : List (Option BatchValue)) → length slots ≡ 3 * parts → (i k : ℕ) →
-    early_at (table_of parts (shifted (count * parts) slots)) i k ≡ early_at (table_of parts slots) (i + count) k
+    early_at (table_of parts (slots_after (count * parts) slots)) i k ≡ early_at (table_of parts slots) (i + count) k
 shift_at parts count slots long i k =
-    let slots2 = shifted (count * parts) slots in
+    let slots2 = slots_after (count * parts) slots in
     elim (cases_lt k parts) [
       | inl below ↦ elim (cases_lt i 3) [
         | inl inside ↦
@@ -189,17 +189,17 @@ shift_at parts count slots long i k =
 
 -- what either has
 pub fill_at : (parts : ℕ) (slots others : List (Option BatchValue)) → length others ≡ length slots → (i k : ℕ) →
-    early_at (table_of parts (filled slots others)) i k ≡ either (early_at (table_of parts slots) i k) (early_at (table_of parts others) i k)
+    early_at (table_of parts (union_of_slots slots others)) i k ≡ either (early_at (table_of parts slots) i k) (early_at (table_of parts others) i k)
 fill_at parts slots others same i k =
     elim (cases_lt i 3) [
       | inl inside ↦ elim (cases_lt k parts) [
         | inl below ↦
-            early_in parts (filled slots others) i k inside below
+            early_in parts (union_of_slots slots others) i k inside below
             ∙ filled_at slots others (i * parts + k) same
             ∙ rw (early_in parts slots i k inside below, early_in parts others i k inside below) refl
-        | inr above ↦ out_source parts (filled slots others) i k above ∙ either_none _ _ (out_source parts slots i k above) (out_source parts others i k above)
+        | inr above ↦ out_source parts (union_of_slots slots others) i k above ∙ either_none _ _ (out_source parts slots i k above) (out_source parts others i k above)
       ]
-      | inr beyond ↦ out_level parts (filled slots others) i k beyond ∙ either_none _ _ (out_level parts slots i k beyond) (out_level parts others i k beyond)
+      | inr beyond ↦ out_level parts (union_of_slots slots others) i k beyond ∙ either_none _ _ (out_level parts slots i k beyond) (out_level parts others i k beyond)
     ]
 
 -- nothing is kept in empty slots

@@ -11,7 +11,7 @@ use Rattle.ball_model.specs.PlanValue.{PlanValue, part_size, mixing_of}
 use Rattle.ball_model.specs.Job.{Job}
 use Rattle.ball_model.specs.State.{State, StandsFor, tallies_of, sums_of, rows_of, own_vertices}
 use Rattle.ball_model.proofs.TallyLemmas.{harmonic_more, distance_more}
-use Rattle.replica.specs.Level.{stepped, stepped_all, nothing, total_of}
+use Rattle.replica.specs.Level.{next_tally, next_tallies, nothing, total_of}
 use Rattle.replica.proofs.OwnLemmas.{vertex_of, at_own}
 use Rattle.replica.proofs.LevelLemmas.{row_at, size_is, plan_is}
 
@@ -24,7 +24,7 @@ unfolding tallies_of
 length-tallies_of j p t = simp length-map refl
 
 -- figures of any estimates, one superstep later
-tally_more : (e : ℕ → ℕ) (t : ℕ) → stepped (t + 1) (tally_of e t) (e (t + 1)) ≡ tally_of e (t + 1)
+tally_more : (e : ℕ → ℕ) (t : ℕ) → next_tally (t + 1) (tally_of e t) (e (t + 1)) ≡ tally_of e (t + 1)
 tally_more e t = rw (harmonic_more e t, distance_more e t) refl
 
 estimate_in : (j : Job) (p t i : ℕ) → p < j.plan.parts → i < part_size j.graph.vertices j.plan.parts p → estimate_of j.plan.log2m (get_or (rows_of j p t) i []) ≡ estimate_at (mixing_of j.plan) j.graph (vertex_of j.plan.parts p i) t
@@ -32,11 +32,11 @@ unfolding estimate_at
 estimate_in j p t i below lt = ap (estimate_of j.plan.log2m) (row_at j p t i [] below lt)
 
 -- all figures
-pub next_tallies_are : (j : Job) (p t : ℕ) (v : State) (rows : List (List ℕ)) → StandsFor j p t v → rows ≡ rows_of j p (t + 1) → stepped_all v.part.plan.log2m (v.superstep + 1) rows v.tallies (length v.part.preds) ≡ tallies_of j p (t + 1)
-unfolding stepped_all
+pub next_tallies_are : (j : Job) (p t : ℕ) (v : State) (rows : List (List ℕ)) → StandsFor j p t v → rows ≡ rows_of j p (t + 1) → next_tallies v.part.plan.log2m (v.superstep + 1) rows v.tallies (length v.part.preds) ≡ tallies_of j p (t + 1)
+unfolding next_tallies
 next_tallies_are j p t v rows h is =
     let size = size_is j p t v h in
-    let f : ℕ → TallyValue = λ i. stepped (v.superstep + 1) (get_or v.tallies i nothing) (estimate_of v.part.plan.log2m (get_or rows i [])) in
+    let f : ℕ → TallyValue = λ i. next_tally (v.superstep + 1) (get_or v.tallies i nothing) (estimate_of v.part.plan.log2m (get_or rows i [])) in
     let long : length (map f (range_with_len 0 (length v.part.preds))) ≡ length v.part.preds = length-map-range_with_len f 0 (length v.part.preds) in
     same_lists (map f (range_with_len 0 (length v.part.preds))) (tallies_of j p (t + 1)) (long ∙ size ∙ sym (length-tallies_of j p (t + 1)))
     (λ k d lt. let in_part : k < part_size j.graph.vertices j.plan.parts p = omega (arith, long, size) in

@@ -13,7 +13,7 @@ use Rattle.ball_model.specs.PlanValue.{PlanValue}
 use Rattle.ball_model.specs.State.{is_heard, heard_changes, rows_of}
 use Rattle.ball_model.proofs.AccumulatedPartLemmas.{accumulated_of-alike, accumulated_of-none}
 use Rattle.ball_model.proofs.PathLemmas.{eq_true, same_true}
-use Rattle.replica.specs.Hearing.{Hearing, IsTrueHearing, Hears, told_by, told_below}
+use Rattle.replica.specs.Hearing.{Hearing, IsTrueHearing, Hears, batch_by, told_below}
 use Rattle.replica.specs.Index.{targets_of}
 use Rattle.replica.specs.Kept.{AreCounters, AllRise}
 use Rattle.replica.proofs.RiseLemmas.{all_stay, all_on}
@@ -130,7 +130,7 @@ pub hears_one : (log2m : ℕ) (targets : List (List ℕ)) (b : BatchValue) (a c 
     c.heard ≡ set a.heard b.name.source true → c.change ≡ (a.change || not (b.changed == 0)) → AllRise log2m a.accumulated c.accumulated →
     ((j : Job) (p t q : ℕ) (heard : ℕ → Bool) → IsJob j → targets ≡ targets_of (part_of j p) → b ≡ true_batch j (record { superstep = t; source = q; target = p }) →
     a.accumulated ≡ accumulated_of j p t heard → c.accumulated ≡ accumulated_of j p t (λ w. heard w || (w % j.plan.parts == q))) →
-    Hears log2m targets (told_by b.name.source (Some b)) a c
+    Hears log2m targets (batch_by b.name.source (Some b)) a c
 hears_one log2m targets b a c ok lt heard change rise truth =
     let k = b.name.source in
     let flags : (q : ℕ) → get_or c.heard q false ≡ (get_or a.heard q false || (q == k)) = λ q. ap (λ (l : List Bool). get_or l q false) heard ∙ flag_set a.heard k q lt in
@@ -207,9 +207,9 @@ below_if P told n q false false true at lt eq h = absurd (grind (arith, nat_test
 below_if P told n q false false false at lt eq h = (tt, tt)
 
 pub hears_next : (log2m : ℕ) (targets : List (List ℕ)) (told : ℕ → Option BatchValue) (n : ℕ) (a b c : Hearing) → AreCounters log2m a.accumulated →
-    Hears log2m targets (told_below told n) a b → Hears log2m targets (told_by n (told n)) b c → Hears log2m targets (told_below told (n + 1)) a c
+    Hears log2m targets (told_below told n) a b → Hears log2m targets (batch_by n (told n)) b c → Hears log2m targets (told_below told (n + 1)) a c
 hears_next log2m targets told n a b c are f g =
-    hears_on log2m targets (told_below told n) (told_by n (told n)) (told_below told (n + 1)) a b c are
+    hears_on log2m targets (told_below told n) (batch_by n (told n)) (told_below told (n + 1)) a b c are
     (λ q. below_one told n q (nat_lt q (n + 1)) (nat_lt q n) (q == n) refl refl refl)
     (λ P q. below_if P told n q (nat_lt q (n + 1)) (nat_lt q n) (q == n) refl refl refl) f g
 

@@ -20,17 +20,17 @@ use Rattle.ball_model.proofs.PartLemmas.{vertices_of-strided, range_more}
 use Rattle.ball_model.proofs.AccumulatedLemmas.{accumulated-step}
 use Rattle.ball_model.proofs.AccumulatedPartLemmas.{accumulated_of-same, accumulated_of-at, length-accumulated_of, own_is}
 use Rattle.replica.specs.Index.{targets_of}
-use Rattle.replica.specs.Spread.{stands_in, spread_to, spread, spread_each, marked_rows}
+use Rattle.replica.specs.Spread.{stands_in, row_after, rows_after, rows_after_all, marked_rows}
 use Rattle.replica.proofs.SpreadLemmas.{length-spread, spread-at}
 use Rattle.replica.proofs.TargetLemmas.{targets-edge}
 
-at_place : (b : Bool) (places src : List ℕ) (rows : List (List ℕ)) (k : ℕ) (row : List ℕ) → stands_in places k ≡ b → get_or rows k [] ≡ row → spread_to places src rows k ≡ (if b then max_each row src else row)
-unfolding spread_to
+at_place : (b : Bool) (places src : List ℕ) (rows : List (List ℕ)) (k : ℕ) (row : List ℕ) → stands_in places k ≡ b → get_or rows k [] ≡ row → row_after places src rows k ≡ (if b then max_each row src else row)
+unfolding row_after
 at_place b places src rows k row e at = rw (e, at) refl
 
 -- THE SPREAD: the counter of a changed vertex, spread to where it has an edge, is heard
 pub accumulated_of-spread : (j : Job) (p t z : ℕ) (heard : ℕ → Bool) → IsJob j → changed_at (mixing_of j.plan) j.graph z t ≡ true →
-    spread (get_or (targets_of (part_of j p)) z []) (ball_counter (mixing_of j.plan) j.graph z t) (accumulated_of j p t heard) ≡ accumulated_of j p t (λ w. heard w || (w == z))
+    rows_after (get_or (targets_of (part_of j p)) z []) (ball_counter (mixing_of j.plan) j.graph z t) (accumulated_of j p t heard) ≡ accumulated_of j p t (λ w. heard w || (w == z))
 accumulated_of-spread j p t z heard job changed =
     let m = mixing_of j.plan in
     let g = j.graph in
@@ -38,7 +38,7 @@ accumulated_of-spread j p t z heard job changed =
     let rows = accumulated_of j p t heard in
     let places = get_or (targets_of (part_of j p)) z [] in
     let more : ℕ → Bool = λ w. heard w || (w == z) in
-    same_lists (spread places src rows) (accumulated_of j p t more)
+    same_lists (rows_after places src rows) (accumulated_of j p t more)
     (length-spread places src rows ∙ length-accumulated_of j p t heard ∙ sym (length-accumulated_of j p t more))
     (λ k d within.
     let inside : k < length (own_vertices j p) = omega (arith, length-spread places src rows, length-accumulated_of j p t heard) in
@@ -62,11 +62,11 @@ or_none false = refl
 
 -- counters of changed vertices, spread one after the other, are heard
 pub spread-each : (j : Job) (p t : ℕ) (heard : ℕ → Bool) (ys : List ℕ) → IsJob j → AllByRecursion (λ y. changed_at (mixing_of j.plan) j.graph y t ≡ true) ys →
-    spread_each (targets_of (part_of j p)) (map (λ y. (y, ball_counter (mixing_of j.plan) j.graph y t)) ys) (accumulated_of j p t heard) ≡ accumulated_of j p t (λ w. heard w || stands_in ys w)
-unfolding spread_each
+    rows_after_all (targets_of (part_of j p)) (map (λ y. (y, ball_counter (mixing_of j.plan) j.graph y t)) ys) (accumulated_of j p t heard) ≡ accumulated_of j p t (λ w. heard w || stands_in ys w)
+unfolding rows_after_all
 spread-each j p t heard [] job all = accumulated_of-same j p t heard (λ w. heard w || false) (λ x z member edge changed. or_none (heard z))
 spread-each j p t heard (y ∷ ys) job all =
-    ap (λ rows. spread_each (targets_of (part_of j p)) (map (λ k. (k, ball_counter (mixing_of j.plan) j.graph k t)) ys) rows) (accumulated_of-spread j p t y heard job all.0)
+    ap (λ rows. rows_after_all (targets_of (part_of j p)) (map (λ k. (k, ball_counter (mixing_of j.plan) j.graph k t)) ys) rows) (accumulated_of-spread j p t y heard job all.0)
     ∙ spread-each j p t (λ w. heard w || (w == y)) ys job all.1
     ∙ accumulated_of-same j p t (λ w. (heard w || (w == y)) || stands_in ys w) (λ w. heard w || ((y == w) || stands_in ys w))
     (λ x z member edge changed. or_group (heard z) (z == y) (y == z) (stands_in ys z) (turned z y))
@@ -91,7 +91,7 @@ or_alike a b c e = ap (λ k. a || k) e
 -- counters of changed vertices of a partition, all of those with an edge to an own one: the partition is heard
 part-heard : (j : Job) (p t q : ℕ) (heard f : ℕ → Bool) → IsJob j → ((y : ℕ) → f y ≡ true → changed_at (mixing_of j.plan) j.graph y t ≡ true) →
     ((x z : ℕ) → x % j.plan.parts ≡ p → is_edge j.graph z x ≡ true → changed_at (mixing_of j.plan) j.graph z t ≡ true → f z ≡ true) →
-    spread_each (targets_of (part_of j p)) (map (λ y. (y, ball_counter (mixing_of j.plan) j.graph y t)) (filter f (own_vertices j q))) (accumulated_of j p t heard)
+    rows_after_all (targets_of (part_of j p)) (map (λ y. (y, ball_counter (mixing_of j.plan) j.graph y t)) (filter f (own_vertices j q))) (accumulated_of j p t heard)
     ≡ accumulated_of j p t (λ w. heard w || (w % j.plan.parts == q))
 part-heard j p t q heard f job told all =
     spread-each j p t heard (filter f (own_vertices j q)) job (changed_all (filter f (own_vertices j q)) (filter_passes f (own_vertices j q)))
@@ -116,7 +116,7 @@ feeds_in (a ∷ es) parts p z x own e =
 
 -- THE BATCH: once the rows of the true batch of source q are spread, q is heard
 pub spread-batch : (j : Job) (p t q : ℕ) (heard : ℕ → Bool) → IsJob j →
-    spread_each (targets_of (part_of j p)) (true_batch j (record { superstep = t; source = q; target = p })).rows (accumulated_of j p t heard) ≡ accumulated_of j p t (λ w. heard w || (w % j.plan.parts == q))
+    rows_after_all (targets_of (part_of j p)) (true_batch j (record { superstep = t; source = q; target = p })).rows (accumulated_of j p t heard) ≡ accumulated_of j p t (λ w. heard w || (w % j.plan.parts == q))
 unfolding true_batch sent_vertices feeds_into
 spread-batch j p t q heard job =
     part-heard j p t q heard (λ y. changed_at (mixing_of j.plan) j.graph y t && feeds_into j.graph j.plan.parts y p) job
@@ -168,31 +168,31 @@ marked-rows j p t lt =
 
 -- THE OWN ROWS: once the changed ones are spread, the partition itself is heard
 pub spread-own : (j : Job) (p t : ℕ) (heard : ℕ → Bool) → IsJob j → p < j.plan.parts →
-    spread_each (targets_of (part_of j p)) (marked_rows j.plan.parts p (rows_of j p t) (marks_of j p t) (length (marks_of j p t))) (accumulated_of j p t heard) ≡ accumulated_of j p t (λ w. heard w || (w % j.plan.parts == p))
+    rows_after_all (targets_of (part_of j p)) (marked_rows j.plan.parts p (rows_of j p t) (marks_of j p t) (length (marks_of j p t))) (accumulated_of j p t heard) ≡ accumulated_of j p t (λ w. heard w || (w % j.plan.parts == p))
 spread-own j p t heard job lt =
-    ap (λ rows. spread_each (targets_of (part_of j p)) rows (accumulated_of j p t heard)) (marked-rows j p t lt)
+    ap (λ rows. rows_after_all (targets_of (part_of j p)) rows (accumulated_of j p t heard)) (marked-rows j p t lt)
     ∙ part-heard j p t p heard (λ y. changed_at (mixing_of j.plan) j.graph y t) job (λ y e. e) (λ x z own edge changed. changed)
 
 -- ---- one row more
 spread_each-last : (targets : List (List ℕ)) (before : List (ℕ × List ℕ)) (row : ℕ × List ℕ) (rows : List (List ℕ)) →
-    spread_each targets (before ++ row ∷ []) rows ≡ spread (get_or targets row.0 []) row.1 (spread_each targets before rows)
-unfolding spread_each
+    rows_after_all targets (before ++ row ∷ []) rows ≡ rows_after (get_or targets row.0 []) row.1 (rows_after_all targets before rows)
+unfolding rows_after_all
 spread_each-last targets [] row rows = refl
-spread_each-last targets (other ∷ before) row rows = spread_each-last targets before row (spread (get_or targets other.0 []) other.1 rows)
+spread_each-last targets (other ∷ before) row rows = spread_each-last targets before row (rows_after (get_or targets other.0 []) other.1 rows)
 
 pub spread_each-more : (targets : List (List ℕ)) (before after : List (ℕ × List ℕ)) (row : ℕ × List ℕ) (rows : List (List ℕ)) → after ≡ before ++ row ∷ [] →
-    spread (get_or targets row.0 []) row.1 (spread_each targets before rows) ≡ spread_each targets after rows
-spread_each-more targets before after row rows is = sym (ap (λ l. spread_each targets l rows) is ∙ spread_each-last targets before row rows)
+    rows_after (get_or targets row.0 []) row.1 (rows_after_all targets before rows) ≡ rows_after_all targets after rows
+spread_each-more targets before after row rows is = sym (ap (λ l. rows_after_all targets l rows) is ∙ spread_each-last targets before row rows)
 
-pub spread_each-none : (targets : List (List ℕ)) (rows : List (List ℕ)) → rows ≡ spread_each targets [] rows
-unfolding spread_each
+pub spread_each-none : (targets : List (List ℕ)) (rows : List (List ℕ)) → rows ≡ rows_after_all targets [] rows
+unfolding rows_after_all
 spread_each-none targets rows = refl
 
-pub length-spread_each : (targets : List (List ℕ)) (others : List (ℕ × List ℕ)) (rows : List (List ℕ)) → length (spread_each targets others rows) ≡ length rows
-unfolding spread_each
+pub length-spread_each : (targets : List (List ℕ)) (others : List (ℕ × List ℕ)) (rows : List (List ℕ)) → length (rows_after_all targets others rows) ≡ length rows
+unfolding rows_after_all
 length-spread_each targets [] rows = refl
 length-spread_each targets (other ∷ rest) rows =
-    length-spread_each targets rest (spread (get_or targets other.0 []) other.1 rows) ∙ length-spread (get_or targets other.0 []) other.1 rows
+    length-spread_each targets rest (rows_after (get_or targets other.0 []) other.1 rows) ∙ length-spread (get_or targets other.0 []) other.1 rows
 
 -- ---- the marked rows, one place more
 pub marked-none : (parts p : ℕ) (rows : List (List ℕ)) (marks : List Bool) → marked_rows parts p rows marks 0 ≡ []
@@ -219,6 +219,6 @@ marked-no parts p i rows marks at = marked-next parts p i rows marks false at �
 
 -- what a partition has, its changed rows spread
 pub own_stands : (j : Job) (p t n : ℕ) (heard : ℕ → Bool) (part : PartValue) (targets rows accumulated : List (List ℕ)) (marks : List Bool) → IsJob j → p < j.plan.parts → part ≡ part_of j p → targets ≡ targets_of part → rows ≡ rows_of j p t → marks ≡ marks_of j p t → accumulated ≡ accumulated_of j p t heard → n ≡ length marks →
-    spread_each targets (marked_rows part.plan.parts part.number rows marks n) accumulated ≡ accumulated_of j p t (λ w. heard w || (w % j.plan.parts == p))
+    rows_after_all targets (marked_rows part.plan.parts part.number rows marks n) accumulated ≡ accumulated_of j p t (λ w. heard w || (w % j.plan.parts == p))
 own_stands j p t n heard part targets rows accumulated marks job lt told index own changed stands all =
     rw (index, told, all, own, changed, stands) (unfold part_of in (spread-own j p t heard job lt))

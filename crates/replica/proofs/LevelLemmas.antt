@@ -17,7 +17,7 @@ use Rattle.ball_model.proofs.AccumulatedPartLemmas.{accumulated_of-level}
 use Rattle.ball_model.proofs.PathLemmas.{eq_true, same_true}
 use Rattle.ball_model.proofs.ChangeLemmas.{changed_next}
 use Rattle.ball_model.proofs.EndLemmas.{find_none}
-use Rattle.replica.specs.Level.{differing}
+use Rattle.replica.specs.Level.{differences}
 use Rattle.replica.specs.Spread.{AreTouched}
 use Rattle.std.proofs.lemmas.Slice.Eq.{bytes_eq-Decides}
 use Rattle.ball_model.specs.Counter.{max_each}
@@ -66,13 +66,13 @@ pub length-marks_of : (j : Job) (p t : ℕ) → length (marks_of j p t) ≡ part
 unfolding marks_of
 length-marks_of j p t = simp length-map refl
 
-pub length-differing : (old new : List (List ℕ)) (n : ℕ) → length (differing old new n) ≡ n
-unfolding differing
+pub length-differing : (old new : List (List ℕ)) (n : ℕ) → length (differences old new n) ≡ n
+unfolding differences
 length-differing old new n = length-map-range_with_len (λ i. not (bytes_eq (get_or new i []) (get_or old i []))) 0 n
 
 -- the rows that differ from those of the superstep before are the changed ones
-pub differing_is : (j : Job) (p t n : ℕ) (old new : List (List ℕ)) → p < j.plan.parts → n ≡ part_size j.graph.vertices j.plan.parts p → old ≡ rows_of j p t → new ≡ rows_of j p (t + 1) → differing old new n ≡ marks_of j p (t + 1)
-unfolding differing
+pub differing_is : (j : Job) (p t n : ℕ) (old new : List (List ℕ)) → p < j.plan.parts → n ≡ part_size j.graph.vertices j.plan.parts p → old ≡ rows_of j p t → new ≡ rows_of j p (t + 1) → differences old new n ≡ marks_of j p (t + 1)
+unfolding differences
 differing_is j p t n old new below size was now =
     let f : ℕ → Bool = λ i. not (bytes_eq (get_or new i []) (get_or old i [])) in
     let long : length (map f (range_with_len 0 n)) ≡ n = length-map-range_with_len f 0 n in
@@ -120,8 +120,8 @@ next_rows_are j p t v r =
     (λ q lt ne. there j p t q v r lt (not_same q p ne))
 
 -- the rows that are marked as differing from what is accumulated are those that differ
-pub differing_from : (rows accumulated : List (List ℕ)) (marks : List Bool) (n : ℕ) → AreTouched rows accumulated marks → length rows ≡ n → marks ≡ differing rows accumulated n
-unfolding differing
+pub differing_from : (rows accumulated : List (List ℕ)) (marks : List Bool) (n : ℕ) → AreTouched rows accumulated marks → length rows ≡ n → marks ≡ differences rows accumulated n
+unfolding differences
 differing_from rows accumulated marks n is size =
     list_is (λ i. not (bytes_eq (get_or accumulated i []) (get_or rows i []))) marks false n (is.marks ∙ size) (λ k lt. is.differ k (omega (arith, size)))
 

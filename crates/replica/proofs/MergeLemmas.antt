@@ -14,7 +14,7 @@ use Rattle.ball_model.specs.Counter.{max_each}
 use Rattle.ball_model.specs.PlanValue.{PlanValue}
 use Rattle.ball_model.specs.Job.{Job, IsPart, PartValue, part_of}
 use Rattle.ball_model.specs.Batches.{BatchValue, true_batch, changed_count}
-use Rattle.ball_model.specs.Join.{joined}
+use Rattle.ball_model.specs.Join.{union_of}
 use Rattle.ball_model.specs.State.{State, StandsFor, KeepsTrue, content_of, early_at, holds_in, further, is_heard, heard_changes}
 use Rattle.ball_model.proofs.AccumulatedPartLemmas.{accumulated_of-or, accumulated_of-alike}
 use Rattle.registers.specs.Joined.{union_of_flags}
@@ -22,7 +22,7 @@ use Rattle.replica.specs.Ahead.{IsTable, either}
 use Rattle.replica.specs.Hearing.{Hears}
 use Rattle.replica.specs.Index.{targets_of}
 use Rattle.replica.specs.Kept.{IsOfName, AreEarly, AreSources, AreCounters, Rises, AllRise}
-use Rattle.replica.specs.Level.{differing}
+use Rattle.replica.specs.Level.{differences}
 use Rattle.replica.specs.Merged.{ShowsAs, Absorbs}
 use Rattle.replica.specs.Seen.{IsState}
 use Rattle.replica.specs.Spread.{AreTouched}
@@ -415,8 +415,8 @@ above_from (x ∷ xs) (y ∷ ys) e h =
     rw (here, above_from xs ys (omega arith) (λ k lt. h (suc k) (omega arith))) refl
 
 -- rows that rose, and the marks of those that differ
-pub touched_from : (log2m n : ℕ) (rows accumulated : List (List ℕ)) (marks : List Bool) → AreCounters log2m rows → AllRise log2m rows accumulated → n ≡ length rows → marks ≡ differing rows accumulated n → AreTouched rows accumulated marks
-unfolding differing
+pub touched_from : (log2m n : ℕ) (rows accumulated : List (List ℕ)) (marks : List Bool) → AreCounters log2m rows → AllRise log2m rows accumulated → n ≡ length rows → marks ≡ differences rows accumulated n → AreTouched rows accumulated marks
+unfolding differences
 touched_from log2m n rows accumulated marks are rise size is =
     let F : ℕ → Bool = λ i. not (bytes_eq (get_or accumulated i []) (get_or rows i [])) in
     record {

@@ -12,7 +12,7 @@ use Rattle.ball_model.proofs.EstimateLemmas.{estimate_fits}
 use Rattle.ball_model.specs.Figures.{TallyValue, estimate_of}
 use Rattle.figures.specs.declared.tally.Tally.{Tally}
 use Rattle.figures.specs.Values.{value_of}
-use Rattle.replica.specs.Level.{differing, stepped, stepped_all, nothing, total_of}
+use Rattle.replica.specs.Level.{differences, next_tally, next_tallies, nothing, total_of}
 use Rattle.replica.specs.Kept.{AreLasts, AreCounters, AllRise}
 use Rattle.replica.proofs.RiseLemmas.{rise_estimate}
 
@@ -30,8 +30,8 @@ unmarked a b e = grind (arith, bytes_eq-Decides, was_so)
 
 -- what the step of the figures asks for
 pub next_lasts : (log2m : ℕ) (old new : List (List ℕ)) (tallies : List TallyValue) (n : ℕ) → AreCounters log2m old → AllRise log2m old new → map (λ t. t.last) tallies ≡ map (estimate_of log2m) old → n ≡ length old →
-    AreLasts log2m new (differing old new n) tallies
-unfolding differing
+    AreLasts log2m new (differences old new n) tallies
+unfolding differences
 next_lasts log2m old new tallies n are rise lasts size = record {
   grown = λ i lt. rw (last_at log2m old tallies i lasts (omega (arith, rise.count))) (rise_estimate log2m old new i are rise (omega (arith, rise.count)));
   same = λ i lt off.
@@ -41,10 +41,10 @@ next_lasts log2m old new tallies n are rise lasts size = record {
 }
 
 -- the last estimates are those of the rows
-pub stepped_lasts : (log2m t : ℕ) (rows : List (List ℕ)) (old : List TallyValue) (n : ℕ) → n ≡ length rows → map (λ t. t.last) (stepped_all log2m t rows old n) ≡ map (estimate_of log2m) rows
-unfolding stepped_all
+pub stepped_lasts : (log2m t : ℕ) (rows : List (List ℕ)) (old : List TallyValue) (n : ℕ) → n ≡ length rows → map (λ t. t.last) (next_tallies log2m t rows old n) ≡ map (estimate_of log2m) rows
+unfolding next_tallies
 stepped_lasts log2m t rows old n count =
-    let F : ℕ → TallyValue = λ i. stepped t (get_or old i nothing) (estimate_of log2m (get_or rows i [])) in
+    let F : ℕ → TallyValue = λ i. next_tally t (get_or old i nothing) (estimate_of log2m (get_or rows i [])) in
     let last : TallyValue → ℕ = λ t. t.last in
     let long = length-map-range_with_len F 0 n in
     same_lists (map last (map F (range_with_len 0 n))) (map (estimate_of log2m) rows) (length-map (map F (range_with_len 0 n)) last ∙ long ∙ count ∙ sym (length-map rows (estimate_of log2m)))
@@ -81,5 +81,5 @@ total_small log2m (row ∷ rows) are =
     let rest = total_small log2m rows (λ i lt. are (suc i) (omega arith)) in
     omega (arith, here, rest, sum_by-cons (estimate_of log2m) row rows)
 
-pub stepped_as : {m m' t t' : ℕ} {rows rows' : List (List ℕ)} {old old' : List TallyValue} {n n' : ℕ} → m ≡ m' → t ≡ t' → rows ≡ rows' → old ≡ old' → n ≡ n' → stepped_all m t rows old n ≡ stepped_all m' t' rows' old' n'
+pub stepped_as : {m m' t t' : ℕ} {rows rows' : List (List ℕ)} {old old' : List TallyValue} {n n' : ℕ} → m ≡ m' → t ≡ t' → rows ≡ rows' → old ≡ old' → n ≡ n' → next_tallies m t rows old n ≡ next_tallies m' t' rows' old' n'
 stepped_as p q r s e = rw (p, q, r, s, e) refl

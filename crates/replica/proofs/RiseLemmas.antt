@@ -9,7 +9,7 @@ use Rattle.ball_model.specs.Batches.{BatchValue, IsBatch}
 use Rattle.ball_model.specs.PlanValue.{PlanValue, IsPlan, part_size}
 use Rattle.ball_model.specs.Job.{PartValue, IsPart}
 use Rattle.ball_model.proofs.EstimateLemmas.{estimate_of-grows_wide}
-use Rattle.replica.specs.Spread.{stands_in, spread_to, spread, spread_each, marked_rows}
+use Rattle.replica.specs.Spread.{stands_in, row_after, rows_after, rows_after_all, marked_rows}
 use Rattle.replica.specs.Kept.{AreCounters, Rises, AllRise, IsOwn}
 use Rattle.replica.proofs.OwnLemmas.{place_below}
 
@@ -93,23 +93,23 @@ spread_rise true b row other p q = max_rises b row other p q
 spread_rise false b row other p q = stays b row p
 
 -- rows to which another one is spread rise
-one_rises : (b : ℕ) (places other : List ℕ) (rows : List (List ℕ)) → AreCounters b rows → IsCounterRow b other → AllRise b rows (spread places other rows)
-unfolding spread spread_to
+one_rises : (b : ℕ) (places other : List ℕ) (rows : List (List ℕ)) → AreCounters b rows → IsCounterRow b other → AllRise b rows (rows_after places other rows)
+unfolding rows_after row_after
 one_rises b places other rows p q = record {
-  count = length-map-range_with_len (spread_to places other rows) 0 (length rows);
+  count = length-map-range_with_len (row_after places other rows) 0 (length rows);
   rises = λ i lt.
-      rw (get_or-map-range_with_len (spread_to places other rows) 0 (length rows) i i [] lt (omega arith))
+      rw (get_or-map-range_with_len (row_after places other rows) 0 (length rows) i i [] lt (omega arith))
       (spread_rise (stands_in places i) b (get_or rows i []) other (p.row i lt) q);
 }
 
 -- and so do rows to which several are
-pub each_rises : (b : ℕ) (targets : List (List ℕ)) (others : List (ℕ × List ℕ)) (rows : List (List ℕ)) → AreCounters b rows → ((k : ℕ) (d : ℕ × List ℕ) → k < length others → IsCounterRow b (get_or others k d).1) → AllRise b rows (spread_each targets others rows)
-unfolding spread_each
+pub each_rises : (b : ℕ) (targets : List (List ℕ)) (others : List (ℕ × List ℕ)) (rows : List (List ℕ)) → AreCounters b rows → ((k : ℕ) (d : ℕ × List ℕ) → k < length others → IsCounterRow b (get_or others k d).1) → AllRise b rows (rows_after_all targets others rows)
+unfolding rows_after_all
 each_rises b targets [] rows p h = all_stay b rows p
 each_rises b targets (other ∷ rest) rows p h =
     let one = one_rises b (get_or targets other.0 []) other.1 rows p (h 0 other (omega arith)) in
-    all_on b rows (spread (get_or targets other.0 []) other.1 rows) _ p one
-    (each_rises b targets rest (spread (get_or targets other.0 []) other.1 rows) (rise_counters b rows _ one) (λ k d lt. h (suc k) d (omega arith)))
+    all_on b rows (rows_after (get_or targets other.0 []) other.1 rows) _ p one
+    (each_rises b targets rest (rows_after (get_or targets other.0 []) other.1 rows) (rise_counters b rows _ one) (λ k d lt. h (suc k) d (omega arith)))
 
 -- no estimate falls
 pub rise_estimate : (log2m : ℕ) (old new : List (List ℕ)) (i : ℕ) → AreCounters log2m old → AllRise log2m old new → i < length old → estimate_of log2m (get_or old i []) ≤ estimate_of log2m (get_or new i [])
@@ -144,7 +144,7 @@ marked_from f t log2m a (suc n) bound le h k d lt =
 
 -- what is accumulated rises as the own marked rows are spread
 pub own_rises : (log2m parts p n : ℕ) (targets rows accumulated own : List (List ℕ)) (marks : List Bool) → AreCounters log2m rows → AllRise log2m rows accumulated → n ≤ length rows →
-    own ≡ spread_each targets (marked_rows parts p rows marks n) accumulated → AllRise log2m accumulated own
+    own ≡ rows_after_all targets (marked_rows parts p rows marks n) accumulated → AllRise log2m accumulated own
 unfolding marked_rows
 own_rises log2m parts p n targets rows accumulated own marks are rise le is =
     subst (λ (l : List (List ℕ)). AllRise log2m accumulated l) (sym is)

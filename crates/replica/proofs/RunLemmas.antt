@@ -14,14 +14,14 @@ use Rattle.ball_model.specs.Counter.{Mixing, counter_of, ball_counter}
 use Rattle.ball_model.specs.Change.{changed_at, any_changed}
 use Rattle.ball_model.specs.PlanValue.{PlanValue, mixing_of, part_size}
 use Rattle.ball_model.specs.Job.{Job}
-use Rattle.ball_model.specs.Content.{Content, take_of, is_new, after_take, missing_of, verdict_unless, verdict_at, verdict_of, close_of, closed, same_plan}
+use Rattle.ball_model.specs.Content.{Content, take_of, is_new, after_take, missing_of, verdict_unless, verdict_at, verdict_of, close_of, after_close, same_plan}
 use Rattle.ball_model.specs.State.{State, StandsFor, content_of}
 use Rattle.ball_model.proofs.PathLemmas.{same_true, in_ball-found, in_ball-finds, in_ball-grows, same_bool}
 use Rattle.ball_model.proofs.CounterLemmas.{counter_of-same}
 use Rattle.ball_model.proofs.ChangeLemmas.{changed_next}
 use Rattle.ball_model.proofs.QuietLemmas.{quiet_stays, none_in}
-use Rattle.ball_model.specs.Join.{joined, merge_of}
-use Rattle.ball_model.specs.Steps.{Call, Take, Close, Merge, Answer, Took, Closed, Merged, answer_of, answers_of, content_after, content_after_all, content_closed, start_content}
+use Rattle.ball_model.specs.Join.{union_of, merge_of}
+use Rattle.ball_model.specs.Steps.{Call, Take, Close, Merge, Answer, Took, Closed, Merged, answer_of, answers_of, content_after, content_after_all, content_after_close, start_content}
 use Rattle.replica.specs.Runs.{HasContent, Takes, Did, Made}
 use Rattle.std.specs.Str.{bytes_eq}
 use Rattle.std.proofs.lemmas.Slice.Eq.{bytes_eq-Decides}
@@ -52,19 +52,19 @@ took j p name r c v w h k = record {
       ∙ ap (λ (a : Result Taken TakeError). after_take (is_new a) c.holds name.superstep name.source s q) (took_answer j p name r c v w h k);
 }
 
-shut : (j : Job) (p : ℕ) (r : Result ℕ CloseError) (c : Content) (v w : State) → HasContent j p c v → OnErr r (w ≡ v) → OnOk r ((s q : ℕ) → (content_of w).holds s q ≡ (closed (content_of v)).holds s q) → OnOk r (StandsFor j p (c.superstep + 1) w) →
-    HasContent j p (content_closed r c) w
+shut : (j : Job) (p : ℕ) (r : Result ℕ CloseError) (c : Content) (v w : State) → HasContent j p c v → OnErr r (w ≡ v) → OnOk r ((s q : ℕ) → (content_of w).holds s q ≡ (after_close (content_of v)).holds s q) → OnOk r (StandsFor j p (c.superstep + 1) w) →
+    HasContent j p (content_after_close r c) w
 shut j p (Ok t) c v w h refused names stands = record {
   stands = stands;
-  names = λ s q. names s q ∙ ap (λ (d : Content). (closed d).holds s q) (has_content j p c v h);
+  names = λ s q. names s q ∙ ap (λ (d : Content). (after_close d).holds s q) (has_content j p c v h);
 }
 shut j p (Err e) c v w h refused names stands = subst (λ (u : State). HasContent j p c u) (sym refused) h
 
-merged : (j : Job) (p : ℕ) (d : Content) (r : Result (Unit {0}) MergeError) (c : Content) (v w : State) → HasContent j p c v → r ≡ Ok tt → OnOk r ((s q : ℕ) → (content_of w).holds s q ≡ (joined (content_of v) d).holds s q) → OnOk r (StandsFor j p (max c.superstep d.superstep) w) →
-    HasContent j p (joined c d) w
+merged : (j : Job) (p : ℕ) (d : Content) (r : Result (Unit {0}) MergeError) (c : Content) (v w : State) → HasContent j p c v → r ≡ Ok tt → OnOk r ((s q : ℕ) → (content_of w).holds s q ≡ (union_of (content_of v) d).holds s q) → OnOk r (StandsFor j p (max c.superstep d.superstep) w) →
+    HasContent j p (union_of c d) w
 merged j p d (Ok u) c v w h is names stands = record {
   stands = stands;
-  names = λ s q. names s q ∙ ap (λ (e : Content). (joined e d).holds s q) (has_content j p c v h);
+  names = λ s q. names s q ∙ ap (λ (e : Content). (union_of e d).holds s q) (has_content j p c v h);
 }
 merged j p d (Err e) c v w h is names stands = absurd (cc)
 
@@ -84,7 +84,7 @@ did : (j : Job) (p : ℕ) (call : Call) (answer : Answer) (c : Content) (v w : S
 did j p (Take name) (Took r) c v w h k = (ap Took (took_answer j p name r c v w h k), took j p name r c v w h k)
 did j p Close (Closed r) c v w h k =
     let is : r ≡ close_of j p c = k.answer c.superstep h.stands ∙ ap (close_of j p) (has_content j p c v h) in
-    (ap Closed is, subst (λ (q : Result ℕ CloseError). HasContent j p (content_closed q c) w) is (shut j p r c v w h k.refused k.names (k.stands c.superstep h.stands)))
+    (ap Closed is, subst (λ (q : Result ℕ CloseError). HasContent j p (content_after_close q c) w) is (shut j p r c v w h k.refused k.names (k.stands c.superstep h.stands)))
 did j p (Merge d) (Merged r) c v w h k =
     let is : r ≡ Ok tt = k.1.answer c.superstep h.stands k.0 in
     (ap Merged (is ∙ sym (same_job p j.plan)), merged j p d r c v w h is k.1.names (k.1.stands c.superstep h.stands))

@@ -17,12 +17,12 @@ use Rattle.ball_model.specs.Job.{Job, IsJob, PartValue, IsPart, part_of}
 use Rattle.ball_model.specs.State.{State, StandsFor, content_of, holds_in, early_at, own_vertices, rows_of, marks_of, tallies_of, sums_of}
 use Rattle.ball_model.proofs.RankLemmas.{rank_le, ball_counter-zero, ball_counter-uncounted}
 use Rattle.ball_model.proofs.StartLemmas.{index_small, changed_where_counted}
-use Rattle.registers.specs.Raised.{raised_one}
+use Rattle.registers.specs.Raised.{row_after_raise}
 use Rattle.figures.specs.declared.tally.Tally.{Tally}
 use Rattle.figures.specs.Values.{value_of}
 use Rattle.replica.specs.Level.{total_of}
 use Rattle.replica.specs.Kept.{AreCounters}
-use Rattle.replica.specs.Start.{alone, first_row, first_rows, started, Starts}
+use Rattle.replica.specs.Start.{alone, first_row, first_rows, first_tally, Starts}
 use Rattle.replica.specs.Seen.{IsState}
 use Rattle.replica.proofs.OwnLemmas.{vertex_of, own_below, at_own}
 use Rattle.replica.proofs.LevelLemmas.{part_plan, part_number, length-part_preds, row_at, mark_at, length-rows_of, length-marks_of}
@@ -43,7 +43,7 @@ max_zero : (n : ℕ) → max 0 n ≡ n
 max_zero n = omega arith
 
 -- the row of a vertex, raised from nothing
-pub alone_is : (plan : PlanValue) (x index rank : ℕ) (row : List ℕ) → row ≡ replicate (2 ^ plan.log2m) 0 → index ≡ index_of plan.log2m (hash_of plan.seed x) → rank ≡ rank_of plan.log2m (hash_of plan.seed x) → raised_one row index rank ≡ alone plan x
+pub alone_is : (plan : PlanValue) (x index rank : ℕ) (row : List ℕ) → row ≡ replicate (2 ^ plan.log2m) 0 → index ≡ index_of plan.log2m (hash_of plan.seed x) → rank ≡ rank_of plan.log2m (hash_of plan.seed x) → row_after_raise row index rank ≡ alone plan x
 unfolding alone
 alone_is plan x index rank row none at is = rw (none, at, is, zero_at (2 ^ plan.log2m) (index_of plan.log2m (hash_of plan.seed x)), max_zero (rank_of plan.log2m (hash_of plan.seed x))) refl
 
@@ -109,12 +109,12 @@ length-first_rows part = length-map-range_with_len (λ k. first_row part k) 0 (l
 pub first_counters : (part : PartValue) → IsPlan part.plan → AreCounters part.plan.log2m (first_rows part)
 first_counters part ok = record { row = λ i lt. rw (first_row_at part i [] (omega (arith, length-first_rows part))) (first_row-counter part i ok) }
 
-started_lasts : (log2m : ℕ) (rows : List (List ℕ)) → map (λ (t : TallyValue). t.last) (map (λ row. started (estimate_of log2m row)) rows) ≡ map (estimate_of log2m) rows
+started_lasts : (log2m : ℕ) (rows : List (List ℕ)) → map (λ (t : TallyValue). t.last) (map (λ row. first_tally (estimate_of log2m row)) rows) ≡ map (estimate_of log2m) rows
 started_lasts log2m [] = refl
 started_lasts log2m (row ∷ rows) = ap (λ (l : List ℕ). estimate_of log2m row ∷ l) (started_lasts log2m rows)
 
 -- the sum of the estimates that figures begin with
-pub started_total : (log2m : ℕ) (rows : List (List ℕ)) (ts : List Tally) → map value_of ts ≡ map (λ row. started (estimate_of log2m row)) rows → sum_by (λ tally. tally.last) ts ≡ total_of log2m rows
+pub started_total : (log2m : ℕ) (rows : List (List ℕ)) (ts : List Tally) → map value_of ts ≡ map (λ row. first_tally (estimate_of log2m row)) rows → sum_by (λ tally. tally.last) ts ≡ total_of log2m rows
 started_total log2m rows ts is = total_of-lasts log2m rows ts (ap (map (λ (t : TallyValue). t.last)) is ∙ started_lasts log2m rows)
 
 -- the limits are kept from the start
@@ -206,12 +206,12 @@ counted_marked j p ok below =
     ∙ sym (changed_where_counted (mixing_of j.plan) j.graph (vertex_of j.plan.parts p k) ok.plan.log2m_to ok.graph (own_below j.graph.vertices j.plan.parts p k below inside))
     ∙ sym (mark_at j p 0 k d below inside))
 
-started_at : (j : Job) (xs : List ℕ) → map (λ row. started (estimate_of j.plan.log2m row)) (map (λ x. ball_counter (mixing_of j.plan) j.graph x 0) xs) ≡ map (λ x. tally_at (mixing_of j.plan) j.graph x 0) xs
+started_at : (j : Job) (xs : List ℕ) → map (λ row. first_tally (estimate_of j.plan.log2m row)) (map (λ x. ball_counter (mixing_of j.plan) j.graph x 0) xs) ≡ map (λ x. tally_at (mixing_of j.plan) j.graph x 0) xs
 unfolding estimate_at harmonic_of distance_of
 started_at j [] = refl
-started_at j (x ∷ xs) = ap (λ (l : List TallyValue). started (estimate_of j.plan.log2m (ball_counter (mixing_of j.plan) j.graph x 0)) ∷ l) (started_at j xs)
+started_at j (x ∷ xs) = ap (λ (l : List TallyValue). first_tally (estimate_of j.plan.log2m (ball_counter (mixing_of j.plan) j.graph x 0)) ∷ l) (started_at j xs)
 
-first_tallies : (j : Job) (p : ℕ) → map (λ row. started (estimate_of j.plan.log2m row)) (rows_of j p 0) ≡ tallies_of j p 0
+first_tallies : (j : Job) (p : ℕ) → map (λ row. first_tally (estimate_of j.plan.log2m row)) (rows_of j p 0) ≡ tallies_of j p 0
 unfolding rows_of tallies_of
 first_tallies j p = started_at j (own_vertices j p)
 

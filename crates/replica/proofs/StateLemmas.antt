@@ -14,7 +14,7 @@ use Rattle.ball_model.specs.State.{State, early_at}
 use Rattle.replica.specs.Ahead.{IsTable}
 use Rattle.replica.specs.Change.{Advances}
 use Rattle.replica.specs.Kept.{IsOfName, IsFrom, AreEarly, AreSources, AreSums}
-use Rattle.replica.specs.Level.{total_of, stepped_all, differing}
+use Rattle.replica.specs.Level.{total_of, next_tallies, differences}
 use Rattle.replica.specs.Seen.{IsState}
 use Rattle.replica.proofs.AdvanceLemmas.{if_same}
 use Rattle.replica.proofs.EarlyLemmas.{no_source}

@@ -5,7 +5,7 @@ use Rattle.std.proofs.lemmas.Bool.{cases_lt}
 use Rattle.std.proofs.lemmas.List.{get_or-set_same, get_or-set_other, same_lists, get_or_default}
 use Rattle.std.proofs.lemmas.List.FromFn.{get_or-map-range_with_len, length-map-range_with_len}
 use Rattle.ball_model.specs.Figures.{TallyValue, estimate_of}
-use Rattle.replica.specs.Level.{stepped, stepped_all, nothing}
+use Rattle.replica.specs.Level.{next_tally, next_tallies, nothing}
 
 -- a list that is written at place i: what holds below and at i
 pub step_done : {X : Type 0} (F : ℕ → X) (xs : List X) (d y : X) (i : ℕ) → i < length xs → y ≡ F i → ((k : ℕ) → k < i → get_or xs k d ≡ F k) → (k : ℕ) → k < i + 1 → get_or (set xs i y) k d ≡ F k
@@ -31,11 +31,11 @@ list_is F xs d n count done =
     (λ k e lt. let inside : k < n = omega (arith, count) in
     get_or_default xs k e d lt ∙ done k inside ∙ sym (get_or-map-range_with_len F 0 n k k e inside (omega arith)))
 
-pub stepped_same : (t : ℕ) {a b : TallyValue} {e f : ℕ} → a ≡ b → e ≡ f → stepped t a e ≡ stepped t b f
+pub stepped_same : (t : ℕ) {a b : TallyValue} {e f : ℕ} → a ≡ b → e ≡ f → next_tally t a e ≡ next_tally t b f
 stepped_same t same estimate = cc
 
 -- all figures are stepped
-pub all_stepped : (log2m t : ℕ) (rows : List (List ℕ)) (old new : List TallyValue) (n : ℕ) → length new ≡ n → ((k : ℕ) → k < n → get_or new k nothing ≡ stepped t (get_or old k nothing) (estimate_of log2m (get_or rows k []))) →
-    new ≡ stepped_all log2m t rows old n
-unfolding stepped_all
-all_stepped log2m t rows old new n count done = list_is (λ i. stepped t (get_or old i nothing) (estimate_of log2m (get_or rows i []))) new nothing n count done
+pub all_stepped : (log2m t : ℕ) (rows : List (List ℕ)) (old new : List TallyValue) (n : ℕ) → length new ≡ n → ((k : ℕ) → k < n → get_or new k nothing ≡ next_tally t (get_or old k nothing) (estimate_of log2m (get_or rows k []))) →
+    new ≡ next_tallies log2m t rows old n
+unfolding next_tallies
+all_stepped log2m t rows old new n count done = list_is (λ i. next_tally t (get_or old i nothing) (estimate_of log2m (get_or rows i []))) new nothing n count done

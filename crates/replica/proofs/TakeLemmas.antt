@@ -19,7 +19,7 @@ use Rattle.ball_model.specs.State.{State, SameShown, StandsFor, KeepsTrue, conte
 use Rattle.ball_model.proofs.PathLemmas.{and_left, and_right, eq_true, same_true}
 use Rattle.replica.specs.Ahead.{IsTable}
 use Rattle.replica.specs.Change.{Receives}
-use Rattle.replica.specs.Hearing.{Hears, told_by}
+use Rattle.replica.specs.Hearing.{Hears, batch_by}
 use Rattle.replica.specs.Index.{targets_of}
 use Rattle.replica.specs.Kept.{IsOfName, AreEarly, AreSources}
 use Rattle.replica.specs.Seen.{IsState}
@@ -121,7 +121,7 @@ some_else false b o = refl
 
 -- a batch of the superstep is heard
 pub names_heard : (v w : State) (b : BatchValue) → b.name.superstep ≡ v.superstep → w.superstep ≡ v.superstep → w.early ≡ v.early →
-    ((q : ℕ) → get_or w.heard q false ≡ (get_or v.heard q false || is_some (told_by b.name.source (Some b) q))) →
+    ((q : ℕ) → get_or w.heard q false ≡ (get_or v.heard q false || is_some (batch_by b.name.source (Some b) q))) →
     (s q : ℕ) → (content_of w).holds s q ≡ after_take true (content_of v).holds b.name.superstep b.name.source s q
 names_heard v w b now at early heard s q =
     let t = v.superstep in
@@ -184,7 +184,7 @@ if_true false P b o h k = k
 
 -- what is heard or kept is true where the batch is
 pub stands_heard : (v w : State) (b : BatchValue) (log2m : ℕ) → SameShown w v → b.name.superstep ≡ v.superstep → b.name.target ≡ v.part.number → w.early ≡ v.early →
-    Hears log2m (targets_of v.part) (told_by b.name.source (Some b)) (record { heard = v.heard; change = v.heard_change; accumulated = v.accumulated }) (record { heard = w.heard; change = w.heard_change; accumulated = w.accumulated }) →
+    Hears log2m (targets_of v.part) (batch_by b.name.source (Some b)) (record { heard = v.heard; change = v.heard_change; accumulated = v.accumulated }) (record { heard = w.heard; change = w.heard_change; accumulated = w.accumulated }) →
     (j : Job) (p t : ℕ) → v.part.number ≡ p → StandsFor j p t v → b ≡ true_batch j b.name → StandsFor j p t w
 stands_heard v w b log2m shown now mine early hears j p t number h is =
     let q = b.name.source in
@@ -236,10 +236,10 @@ stands_kept v w b level shown later is mine heard change accumulated kept j p t 
 }
 
 -- the limits
-pub sources_heard : (v w : State) (b : BatchValue) → IsFresh v b → IsState v → length w.heard ≡ length v.heard → ((q : ℕ) → get_or w.heard q false ≡ (get_or v.heard q false || is_some (told_by b.name.source (Some b) q))) →
+pub sources_heard : (v w : State) (b : BatchValue) → IsFresh v b → IsState v → length w.heard ≡ length v.heard → ((q : ℕ) → get_or w.heard q false ≡ (get_or v.heard q false || is_some (batch_by b.name.source (Some b) q))) →
     AreSources v.part.plan.parts v.part.number w.heard
 sources_heard v w b f s count heard =
-    sources_more v.part.plan.parts v.part.number v.heard w.heard (λ q. is_some (told_by b.name.source (Some b) q)) s.heard count heard
+    sources_more v.part.plan.parts v.part.number v.heard w.heard (λ q. is_some (batch_by b.name.source (Some b) q)) s.heard count heard
     (λ q on. let at : q ≡ b.name.source = eq_true q b.name.source (sym (some_if (q == b.name.source) b) ∙ on) in omega (arith, f.below))
     (some_if (v.part.number == b.name.source) b ∙ no v.part.number b.name.source (λ e. let same : (b.name.source == v.part.number) ≡ true = ap (λ n. n == v.part.number) (sym e) ∙ same_true v.part.number in let off = f.other in let bad : true ≡ false = sym same ∙ off in cc))
 

@@ -17,8 +17,8 @@ pub record IsTable (parts : ℕ) (early : List (List (Option BatchValue))) : Typ
   pub sources : (i : ℕ) → i < 3 → length (slice_index_or early i []) ≡ parts
 
 -- the batches that follow the first slots
-abbrev pub shifted : ℕ → List (Option BatchValue) → List (Option BatchValue)
-shifted count slots = drop count slots ++ replicate count None
+abbrev pub slots_after : ℕ → List (Option BatchValue) → List (Option BatchValue)
+slots_after count slots = drop count slots ++ replicate count None
 
 -- the one batch, else the other
 abbrev pub either : Option BatchValue → Option BatchValue → Option BatchValue
@@ -26,8 +26,11 @@ either None other = other
 either (Some b) other = Some b
 
 -- what either keeps at each place; where both do, that of the first
-unfoldable pub filled : List (Option BatchValue) → List (Option BatchValue) → List (Option BatchValue)
-filled slots others = map (λ i. either (slice_index_or slots i None) (slice_index_or others i None)) (range_with_len 0 (length slots))
+unfoldable pub union_of_slots : List (Option BatchValue) → List (Option BatchValue) →
+    List (Option BatchValue)
+union_of_slots slots others =
+    map (λ i. either (slice_index_or slots i None) (slice_index_or others i None))
+    (range_with_len 0 (length slots))
 
 -- the batches that stand in slots, in their order
 unfoldable pub batches_in : List (Option BatchValue) → List BatchValue

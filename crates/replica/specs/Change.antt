@@ -10,7 +10,7 @@ use Rattle.replica.specs.Ahead.{IsTable}
 use Rattle.replica.specs.Hearing.{Hears}
 use Rattle.replica.specs.Index.{targets_of}
 use Rattle.replica.specs.Kept.{AllRise}
-use Rattle.replica.specs.Level.{differing, stepped_all, total_of}
+use Rattle.replica.specs.Level.{differences, next_tallies, total_of}
 
 -- w is v once it has received a batch that it did not hold
 pub record Receives (b : BatchValue) (v w : State) : Type 0 where
@@ -26,8 +26,9 @@ pub record Advances (v w : State) : Type 0 where
   pub rise : AllRise v.part.plan.log2m v.rows w.rows
   pub gathers : (j : Job) (p t : ℕ) → StandsFor j p t v →
       w.rows ≡ accumulated_of j p t (λ z. is_heard j.plan.parts v.heard z || (z % j.plan.parts == p))
-  pub marks : w.marks ≡ differing v.rows w.rows (length v.part.preds)
-  pub tallies : w.tallies ≡ stepped_all v.part.plan.log2m (v.superstep + 1) w.rows v.tallies (length v.part.preds)
+  pub marks : w.marks ≡ differences v.rows w.rows (length v.part.preds)
+  pub tallies : w.tallies
+      ≡ next_tallies v.part.plan.log2m (v.superstep + 1) w.rows v.tallies (length v.part.preds)
   pub sums : w.sums ≡ v.sums ++ total_of v.part.plan.log2m w.rows ∷ []
   pub gains : sum_by (λ tally. tally.last) v.tallies ≤ total_of v.part.plan.log2m w.rows
   pub hears : Hears v.part.plan.log2m (targets_of v.part) (λ q. early_at v.early 0 q)

@@ -8,7 +8,7 @@ use Rattle.ball_model.specs.Job.{Job, IsJob, PartValue, part_of}
 use Rattle.ball_model.specs.PlanValue.{mixing_of}
 use Rattle.ball_model.specs.State.{rows_of, marks_of}
 use Rattle.replica.specs.Index.{targets_of}
-use Rattle.replica.specs.Spread.{spread, touched_at, AreTouched}
+use Rattle.replica.specs.Spread.{rows_after, touched_at, AreTouched}
 
 -- where the registers are the counter of a changed vertex z, what was heard becomes that and z
 abbrev pub RowIsHeard : List (List ℕ) → ℕ → List ℕ → List (List ℕ) → List (List ℕ) → Type 0
@@ -35,7 +35,8 @@ MarksChanges marks old new later = (i : ℕ) → i < length old → slice_index_
 -- before other registers are spread to these places, marks are set of rows alone that this makes others
 abbrev pub MarksBefore : List ℕ → List ℕ → List (List ℕ) → List Bool → List Bool → Type 0
 MarksBefore places registers rows marks later = (i : ℕ) → i < length rows →
-    touched_at later rows (spread places registers rows) i ≡ touched_at marks rows (spread places registers rows) i
+    touched_at later rows (rows_after places registers rows) i
+    ≡ touched_at marks rows (rows_after places registers rows) i
 
 -- whatever the rows, marks that said which accumulators differ from them still do
 abbrev pub StayTouched : List (List ℕ) → List Bool → List (List ℕ) → List Bool → Type 0

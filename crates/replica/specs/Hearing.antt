@@ -19,8 +19,8 @@ pub record IsTrueHearing (j : Job) (p t : ℕ) (a : Hearing) : Type 0 where
   pub accumulated : a.accumulated ≡ accumulated_of j p t (λ z. is_heard j.plan.parts a.heard z)
 
 -- what one source tells
-abbrev pub told_by : ℕ → Option BatchValue → ℕ → Option BatchValue
-told_by source told q = if q == source then told else None
+abbrev pub batch_by : ℕ → Option BatchValue → ℕ → Option BatchValue
+batch_by source told q = if q == source then told else None
 
 -- what the sources below n tell
 abbrev pub told_below : (ℕ → Option BatchValue) → ℕ → ℕ → Option BatchValue

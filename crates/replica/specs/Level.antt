@@ -11,20 +11,29 @@ use Rattle.ball_model.specs.Content.{verdict_unless, close_unless, missing_of}
 use Rattle.ball_model.specs.State.{State, content_of}
 
 -- which rows differ
-unfoldable pub differing : List (List ℕ) → List (List ℕ) → ℕ → List Bool
-differing old new n = map (λ i. not (bytes_eq (slice_index_or new i []) (slice_index_or old i []))) (range_with_len 0 n)
+unfoldable pub differences : List (List ℕ) → List (List ℕ) → ℕ → List Bool
+differences old new n =
+    map (λ i. not (bytes_eq (slice_index_or new i []) (slice_index_or old i [])))
+    (range_with_len 0 n)
 
 -- figures at superstep t, from those before and the estimate at t
-abbrev pub stepped : ℕ → TallyValue → ℕ → TallyValue
-stepped t v e = record { last = e; harm = v.harm + (e - v.last) / t; dist = v.dist + t * (e - v.last) }
+abbrev pub next_tally : ℕ → TallyValue → ℕ → TallyValue
+next_tally t v e = record {
+  last = e;
+  harm = v.harm + (e - v.last) / t;
+  dist = v.dist + t * (e - v.last);
+}
 
 -- no figures
 abbrev pub nothing : TallyValue
 nothing = record { last = 0; harm = 0; dist = 0 }
 
 -- the figures of all rows at superstep t, from those before
-unfoldable pub stepped_all : ℕ → ℕ → List (List ℕ) → List TallyValue → ℕ → List TallyValue
-stepped_all log2m t rows old n = map (λ i. stepped t (slice_index_or old i nothing) (estimate_of log2m (slice_index_or rows i []))) (range_with_len 0 n)
+unfoldable pub next_tallies : ℕ → ℕ → List (List ℕ) → List TallyValue → ℕ → List TallyValue
+next_tallies log2m t rows old n =
+    map (λ i.
+    next_tally t (slice_index_or old i nothing) (estimate_of log2m (slice_index_or rows i [])))
+    (range_with_len 0 n)
 
 -- the sum of the estimates of all rows
 unfoldable pub total_of : ℕ → List (List ℕ) → ℕ

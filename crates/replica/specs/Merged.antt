@@ -1,7 +1,7 @@
 -- What two replicas of one partition make of what they have: merging, over plain data.
 use Rattle.std.specs.Prelude.{◌≡◌, ℕ, max}
 use Rattle.ball_model.specs.Job.{Job}
-use Rattle.ball_model.specs.Join.{Holding, holding_of, joined}
+use Rattle.ball_model.specs.Join.{Holding, holding_of, union_of}
 use Rattle.ball_model.specs.State.{State, StandsFor, content_of, further}
 
 -- the superstep, the rows, the marks, the figures and the sums are those of another replica
@@ -20,5 +20,6 @@ holding v = holding_of v.part.plan v.part.number (content_of v)
 pub record Absorbs (v o w : State) : Type 0 where
   pub part : w.part ≡ v.part
   pub shown : ShowsAs w (further v o)
-  pub names : (s q : ℕ) → (content_of w).holds s q ≡ (joined (content_of v) (content_of o)).holds s q
+  pub names : (s q : ℕ) →
+      (content_of w).holds s q ≡ (union_of (content_of v) (content_of o)).holds s q
   pub stands : (j : Job) (p t u : ℕ) → StandsFor j p t v → StandsFor j p u o → StandsFor j p (max t u) w

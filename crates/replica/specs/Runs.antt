@@ -13,8 +13,8 @@ use Rattle.ball_model.specs.Change.{any_changed}
 use Rattle.ball_model.specs.Supersteps.{end_of}
 use Rattle.ball_model.specs.PlanValue.{mixing_of}
 use Rattle.ball_model.specs.Job.{Job}
-use Rattle.ball_model.specs.Content.{Content, IsContent, take_of, is_new, after_take, missing_of, verdict_of, close_of, closed}
-use Rattle.ball_model.specs.Join.{joined}
+use Rattle.ball_model.specs.Content.{Content, IsContent, take_of, is_new, after_take, missing_of, verdict_of, close_of, after_close}
+use Rattle.ball_model.specs.Join.{union_of}
 use Rattle.ball_model.specs.State.{State, StandsFor, content_of}
 use Rattle.ball_model.specs.Steps.{Call, Take, Close, Merge, Answer, Took, Closed, Merged, start_content, content_after_all, answers_of}
 use Rattle.replica.specs.Seen.{IsState}
@@ -33,7 +33,7 @@ pub record Takes (j : Job) (p : ℕ) (name : BatchName) (r : Result Taken TakeEr
 -- what a call of `close` promises, of its answer
 pub record Closes (j : Job) (p : ℕ) (r : Result ℕ CloseError) (v w : State) : Type 0 where
   pub refused : OnErr r (w ≡ v)
-  pub names : OnOk r ((s q : ℕ) → (content_of w).holds s q ≡ (closed (content_of v)).holds s q)
+  pub names : OnOk r ((s q : ℕ) → (content_of w).holds s q ≡ (after_close (content_of v)).holds s q)
   pub answer : (t : ℕ) → StandsFor j p t v → r ≡ close_of j p (content_of v)
   pub stands : (t : ℕ) → StandsFor j p t v → OnOk r (StandsFor j p (t + 1) w)
 
@@ -41,7 +41,7 @@ pub record Closes (j : Job) (p : ℕ) (r : Result ℕ CloseError) (v w : State) 
 pub record Merges (j : Job) (p : ℕ) (d : Content) (r : Result (Unit {0}) MergeError) (v w : State) : Type 0 where
   pub answer : (t : ℕ) → StandsFor j p t v → r ≢ Err refusal.Memory → r ≡ Ok tt
   pub refused : OnErr r (w ≡ v)
-  pub names : OnOk r ((s q : ℕ) → (content_of w).holds s q ≡ (joined (content_of v) d).holds s q)
+  pub names : OnOk r ((s q : ℕ) → (content_of w).holds s q ≡ (union_of (content_of v) d).holds s q)
   pub stands : (t : ℕ) → StandsFor j p t v → OnOk r (StandsFor j p (max t d.superstep) w)
 
 -- this call, with this answer, made the one of the other; a merge that was refused memory changes nothing and is no call

@@ -10,18 +10,20 @@ abbrev pub stands_in : List ℕ → ℕ → Bool
 stands_in xs x = list_any (λ y. y == x) xs
 
 -- row i, raised by other registers where i is one of the places
-unfoldable pub spread_to : List ℕ → List ℕ → List (List ℕ) → ℕ → List ℕ
-spread_to places registers rows i =
+unfoldable pub row_after : List ℕ → List ℕ → List (List ℕ) → ℕ → List ℕ
+row_after places registers rows i =
     if stands_in places i then max_each (slice_index_or rows i []) registers else slice_index_or rows i []
 
 -- rows, raised by other registers at these places
-unfoldable pub spread : List ℕ → List ℕ → List (List ℕ) → List (List ℕ)
-spread places registers rows = map (spread_to places registers rows) (range_with_len 0 (length rows))
+unfoldable pub rows_after : List ℕ → List ℕ → List (List ℕ) → List (List ℕ)
+rows_after places registers rows =
+    map (row_after places registers rows) (range_with_len 0 (length rows))
 
 -- rows, raised by those of some vertices one after the other, each at the places of its vertex
-unfoldable pub spread_each : List (List ℕ) → List (ℕ × List ℕ) → List (List ℕ) → List (List ℕ)
-spread_each targets [] rows = rows
-spread_each targets (other ∷ rest) rows = spread_each targets rest (spread (slice_index_or targets other.0 []) other.1 rows)
+unfoldable pub rows_after_all : List (List ℕ) → List (ℕ × List ℕ) → List (List ℕ) → List (List ℕ)
+rows_after_all targets [] rows = rows
+rows_after_all targets (other ∷ rest) rows =
+    rows_after_all targets rest (rows_after (slice_index_or targets other.0 []) other.1 rows)
 
 -- of the first n vertices of partition p those whose row is marked, each with its row
 unfoldable pub marked_rows : ℕ → ℕ → List (List ℕ) → List Bool → ℕ → List (ℕ × List ℕ)

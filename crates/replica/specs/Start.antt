@@ -23,8 +23,8 @@ unfoldable pub first_rows : PartValue → List (List ℕ)
 first_rows part = map (λ i. first_row part i) (range_with_len 0 (length part.preds))
 
 -- figures that begin with an estimate
-abbrev pub started : ℕ → TallyValue
-started e = record { last = e; harm = 0; dist = 0 }
+abbrev pub first_tally : ℕ → TallyValue
+first_tally e = record { last = e; harm = 0; dist = 0 }
 
 -- a replica of the part at superstep 0 that holds nothing
 pub record Starts (part : PartValue) (v : State) : Type 0 where
@@ -32,7 +32,8 @@ pub record Starts (part : PartValue) (v : State) : Type 0 where
   pub superstep : v.superstep ≡ 0
   pub rows : v.rows ≡ first_rows part
   pub marks : v.marks ≡ part.counted
-  pub tallies : v.tallies ≡ map (λ row. started (estimate_of part.plan.log2m row)) (first_rows part)
+  pub tallies : v.tallies
+      ≡ map (λ row. first_tally (estimate_of part.plan.log2m row)) (first_rows part)
   pub sums : v.sums ≡ total_of part.plan.log2m (first_rows part) ∷ []
   pub heard : v.heard ≡ replicate 64 false
   pub heard_change : v.heard_change ≡ false

@@ -5,7 +5,7 @@ ghost use Rattle.std.specs.Arc.{arc_value};
 ghost use Rattle.ball_model.specs.State.{early_at};
 ghost use Rattle.std.specs.List.{slice_get, flat_map};
 ghost use Rattle.std.specs.Option.{option_to_list};
-ghost use Rattle.replica.specs.Ahead.{IsTable, either, filled, shifted, batches_in, early_batches};
+ghost use Rattle.replica.specs.Ahead.{IsTable, either, union_of_slots, slots_after, batches_in, early_batches};
 
 use batches::Batch;
 use std::alloc::{AllocError, Global};
@@ -171,7 +171,7 @@ fn put(slots: &mut [Option<Arc<Batch>>], place: usize, batch: Arc<Batch>)
 fn shift_slots(slots: &mut [Option<Arc<Batch>>], count: usize)
     requires { count ≤ length slots.old }
     ensures { map (option_map arc_value) slots.new ≡
-        shifted count (map (option_map arc_value) slots.old) }
+        slots_after count (map (option_map arc_value) slots.old) }
 {
     clear(&mut slots[..count]);
     slots.rotate_left(count);
@@ -189,8 +189,9 @@ fn clear(slots: &mut [Option<Arc<Batch>>])
 // Each empty slot takes what the other one at its place has.
 fn fill_slots(slots: &mut [Option<Arc<Batch>>], others: &mut [Option<Arc<Batch>>])
     requires { length others.old ≡ length slots.old }
-    ensures { map (option_map arc_value) slots.new ≡
-        filled (map (option_map arc_value) slots.old) (map (option_map arc_value) others.old) }
+    ensures { map (option_map arc_value) slots.new ≡ union_of_slots
+        (map (option_map arc_value) slots.old)
+        (map (option_map arc_value) others.old) }
 {
     for i in 0..slots.len() {
         fill_one(&mut slots[i], &mut others[i]);

@@ -2,7 +2,7 @@
 
 ghost use Rattle.std.specs.Prelude.{◌≡◌, ℕ, Bool, true, max, OnOk, OnErr};
 ghost use Rattle.ball_model.specs.Job.{Job};
-ghost use Rattle.ball_model.specs.Join.{Holding, AreAlike, join_of, joined as joined_names};
+ghost use Rattle.ball_model.specs.Join.{Holding, AreAlike, join_of, union_of};
 ghost use Rattle.ball_model.specs.State.{StandsFor, content_of, further};
 ghost use Rattle.ball_model.proofs.JoinLemmas.{join_commutes, join_associates, join_repeats, alike_turns, alike_through, join_stays_alike};
 ghost use Rattle.replica.specs.Merged.{ShowsAs, holding};
@@ -18,7 +18,7 @@ impl Join for Replica {
 
     ghost are_alike = { AreAlike };
 
-    ghost joined = { join_of };
+    ghost union = { join_of };
 
     ghost GROWS = { true };
 
@@ -43,7 +43,7 @@ impl Join for Replica {
             (self.new.superstep ≡ max self.old.superstep other.now.superstep) }
         ensures names { OnOk result ((s q : ℕ) →
             (content_of self.new).holds s q ≡
-            (joined_names (content_of self.old) (content_of other.now)).holds s q) }
+            (union_of (content_of self.old) (content_of other.now)).holds s q) }
         ensures shown { OnOk result (ShowsAs self.new (further self.old other.now)) }
         ensures stands { (j : Job) (p t u : ℕ) → StandsFor j p t self.old →
             StandsFor j p u other.now → OnOk result (StandsFor j p (max t u) self.new) }

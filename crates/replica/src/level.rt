@@ -9,10 +9,10 @@ ghost use Rattle.ball_model.specs.Laws.{IsCounterRow};
 ghost use Rattle.ball_model.specs.State.{early_at};
 ghost use Rattle.figures.specs.Values.{value_of};
 ghost use Rattle.replica.specs.Ahead.{IsTable};
-ghost use Rattle.replica.specs.Level.{differing, stepped, stepped_all};
+ghost use Rattle.replica.specs.Level.{differences, next_tally, next_tallies};
 ghost use Rattle.replica.specs.Kept.{AreCounters, AreLasts, AllRise, IsFrom};
 ghost use Rattle.replica.specs.Spread.{AreTouched, LeadInside};
-ghost use Rattle.replica.specs.Hearing.{Hears, told_by};
+ghost use Rattle.replica.specs.Hearing.{Hears, batch_by};
 
 use crate::early::Early;
 use crate::spread::spread_batch;
@@ -38,7 +38,7 @@ pub fn hear(
     requires rows { AreCounters batch.now.plan.log2m accumulated.old.rows }
     ensures width { accumulated.new.width ≡ accumulated.old.width }
     ensures hears { Hears batch.now.plan.log2m targets.now
-        (told_by batch.now.name.source (Some batch.now))
+        (batch_by batch.now.name.source (Some batch.now))
         (record {
           heard = heard.old;
           change = heard_change.old;
@@ -77,7 +77,7 @@ fn hear_if(
     requires batch { IfSome batch (λ b. IsFrom plan.now source b.now) }
     ensures width { accumulated.new.width ≡ accumulated.old.width }
     ensures hears { Hears plan.now.log2m targets.now
-        (told_by source (option_map (λ b. b.now) batch.entry))
+        (batch_by source (option_map (λ b. b.now) batch.entry))
         (record {
           heard = heard.old;
           change = heard_change.old;
@@ -180,7 +180,7 @@ fn catch_up_row(rows: &mut Rows, accumulated: &Rows, i: usize, changed: bool)
 pub fn mark(old: &Rows, new: &Rows, marks: &mut [bool])
     requires old { length old.now.rows ≡ length marks.old }
     requires new { length new.now.rows ≡ length marks.old }
-    ensures { marks.new ≡ differing old.now.rows new.now.rows (length marks.old) }
+    ensures { marks.new ≡ differences old.now.rows new.now.rows (length marks.old) }
 {
     for i in 0..marks.len() {
         marks[i] = new.row(i) != old.row(i);
@@ -205,7 +205,7 @@ pub fn step_tallies(log2m: u8, t: u32, rows: &Rows, marks: &[bool], tallies: &mu
     requires marks { length marks.now ≡ length rows.now.rows }
     requires count { length tallies.old ≡ length rows.now.rows }
     requires lasts { AreLasts log2m rows.now.rows marks.now (map value_of tallies.old) }
-    ensures tallies { map value_of tallies.new ≡ stepped_all log2m t rows.now.rows
+    ensures tallies { map value_of tallies.new ≡ next_tallies log2m t rows.now.rows
         (map value_of tallies.old) (length rows.now.rows) }
     ensures gain { sum_by (λ tally. tally.last) tallies.new ≡
         sum_by (λ tally. tally.last) tallies.old + result }
@@ -226,7 +226,7 @@ fn step_tally(log2m: u8, t: u32, row: &[u8], changed: bool, tally: &mut Tally) -
     requires grown { tally.old.last ≤ estimate_of log2m row.now }
     requires same { changed ≡ false → tally.old.last ≡ estimate_of log2m row.now }
     ensures value { value_of tally.new ≡
-        stepped t (value_of tally.old) (estimate_of log2m row.now) }
+        next_tally t (value_of tally.old) (estimate_of log2m row.now) }
     ensures gain { tally.new.last ≡ tally.old.last + result }
     ensures small { result < 2 ^ 64 }
 {

@@ -13,8 +13,8 @@ ghost use Rattle.ball_model.specs.Supersteps.{tally_at};
 ghost use Rattle.ball_model.specs.PlanValue.{mixing_of, vertices_of};
 ghost use Rattle.ball_model.specs.Job.{Job, IsJob, part_of};
 ghost use Rattle.ball_model.specs.Batches.{true_batch, changed_count};
-ghost use Rattle.ball_model.specs.Content.{Content, take_of, is_new, after_take, missing_of, verdict_of, close_of, closed};
-ghost use Rattle.ball_model.specs.Join.{joined, merge_of};
+ghost use Rattle.ball_model.specs.Content.{Content, take_of, is_new, after_take, missing_of, verdict_of, close_of, after_close};
+ghost use Rattle.ball_model.specs.Join.{union_of, merge_of};
 ghost use Rattle.ball_model.specs.State.{SameShown, StandsFor, content_of, further, rows_of, tallies_of, sums_of};
 ghost use Rattle.figures.specs.Values.{value_of};
 ghost use Rattle.replica.specs.Ahead.{early_batches, early_names};
@@ -115,7 +115,7 @@ impl Replica {
         ensures superstep { IfOk result (λ t.
             (t ≡ self.old.superstep + 1) × (self.new.superstep ≡ t)) }
         ensures names { OnOk result ((s q : ℕ) →
-            (content_of self.new).holds s q ≡ (closed (content_of self.old)).holds s q) }
+            (content_of self.new).holds s q ≡ (after_close (content_of self.old)).holds s q) }
         ensures answer { (j : Job) (p t : ℕ) → StandsFor j p t self.old →
             result ≡ close_of j p (content_of self.old) }
         ensures stands { (j : Job) (p t : ℕ) → StandsFor j p t self.old →
@@ -149,7 +149,7 @@ impl Replica {
             (self.new.superstep ≡ max self.old.superstep other.now.superstep) }
         ensures names { OnOk result ((s q : ℕ) →
             (content_of self.new).holds s q ≡
-            (joined (content_of self.old) (content_of other.now)).holds s q) }
+            (union_of (content_of self.old) (content_of other.now)).holds s q) }
         ensures shown { OnOk result (ShowsAs self.new (further self.old other.now)) }
         ensures stands { (j : Job) (p t u : ℕ) → StandsFor j p t self.old →
             StandsFor j p u other.now → OnOk result (StandsFor j p (max t u) self.new) }

@@ -2,7 +2,7 @@
 
 ghost use Rattle.std.specs.Prelude.{◌≡◌, ◌^◌, ◌<◌, length, slice_index_or, []};
 ghost use Rattle.std.specs.List.{All};
-ghost use Rattle.replica.specs.Spread.{spread, spread_each, own_rows, LeadInside};
+ghost use Rattle.replica.specs.Spread.{rows_after, rows_after_all, own_rows, LeadInside};
 ghost use Rattle.replica.specs.Heard.{RowIsHeard, BatchIsHeard, OwnIsHeard, MarksBefore, MarksChanges, StayTouched};
 
 use crate::targets::Targets;
@@ -26,7 +26,7 @@ pub fn spread_row(
     requires inside { LeadInside (length accumulated.old.rows) targets.now }
     requires marks { length touched.old ≡ length accumulated.old.rows }
     ensures rows { accumulated.new ≡ record accumulated.old {
-      rows = spread (slice_index_or targets.now z []) registers.now accumulated.old.rows;
+      rows = rows_after (slice_index_or targets.now z []) registers.now accumulated.old.rows;
     } }
     ensures marks { MarksChanges touched.old accumulated.old.rows accumulated.new.rows touched.new }
     ensures touched { StayTouched accumulated.old.rows touched.old
@@ -46,7 +46,7 @@ pub fn spread_batch(targets: &Targets, batch: &Batch, accumulated: &mut Rows, to
     requires inside { LeadInside (length accumulated.old.rows) targets.now }
     requires marks { length touched.old ≡ length accumulated.old.rows }
     ensures rows { accumulated.new ≡ record accumulated.old {
-      rows = spread_each targets.now batch.now.rows accumulated.old.rows;
+      rows = rows_after_all targets.now batch.now.rows accumulated.old.rows;
     } }
     ensures touched { StayTouched accumulated.old.rows touched.old
         accumulated.new.rows touched.new }
@@ -82,7 +82,7 @@ pub fn spread_own(
     requires inside { LeadInside (length accumulated.old.rows) targets.now }
     requires touched { length touched.old ≡ length accumulated.old.rows }
     ensures rows { accumulated.new ≡ record accumulated.old {
-      rows = spread_each targets.now (own_rows part.now rows.now.rows marks.now)
+      rows = rows_after_all targets.now (own_rows part.now rows.now.rows marks.now)
           accumulated.old.rows;
     } }
     ensures touched { StayTouched accumulated.old.rows touched.old
@@ -116,7 +116,7 @@ fn raise_places(places: &[u32], registers: &[u8], accumulated: &mut Rows, touche
     requires width { length registers.now ≡ accumulated.old.width }
     requires marks { length touched.old ≡ length accumulated.old.rows }
     ensures rows { accumulated.new ≡ record accumulated.old {
-      rows = spread places.now registers.now accumulated.old.rows;
+      rows = rows_after places.now registers.now accumulated.old.rows;
     } }
     ensures marks { MarksChanges touched.old accumulated.old.rows accumulated.new.rows touched.new }
 {
@@ -151,7 +151,7 @@ fn raise_block(places: &[u32], registers: &[u8], accumulated: &mut Rows, touched
     requires width { length registers.now ≡ accumulated.old.width }
     requires marks { length touched.old ≡ length accumulated.old.rows }
     ensures rows { accumulated.new ≡ record accumulated.old {
-      rows = spread places.now registers.now accumulated.old.rows;
+      rows = rows_after places.now registers.now accumulated.old.rows;
     } }
     ensures marks { MarksChanges touched.old accumulated.old.rows accumulated.new.rows touched.new }
 {

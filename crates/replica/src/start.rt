@@ -6,7 +6,7 @@ ghost use Rattle.std.specs.Vec.{vec_len};
 ghost use Rattle.ball_model.specs.Figures.{estimate_of};
 ghost use Rattle.figures.specs.Values.{value_of};
 ghost use Rattle.replica.specs.Kept.{AreCounters};
-ghost use Rattle.replica.specs.Start.{Starts, first_row, first_rows, started};
+ghost use Rattle.replica.specs.Start.{Starts, first_row, first_rows, first_tally};
 
 use crate::early::Early;
 use crate::{Snapshot, level, shown};
@@ -61,7 +61,7 @@ pub fn start_marks(alloc: Global, part: &Part) -> Result<Vec<bool>, AllocError>
 pub fn start_tallies(alloc: Global, log2m: u8, rows: &Rows) -> Result<Vec<Tally>, AllocError>
     requires { AreCounters log2m rows.now.rows }
     ensures { IfOk result (λ tallies. map value_of tallies.items ≡
-        map (λ row. started (estimate_of log2m row)) rows.now.rows) }
+        map (λ row. first_tally (estimate_of log2m row)) rows.now.rows) }
 {
     let mut tallies = Vec::with_capacity(alloc, rows.len())?;
     for i in 0..rows.len() {

@@ -10,8 +10,8 @@ use Rattle.ball_model.specs.Report as row
 abbrev pub report_writer : WriterBuilder
 report_writer = csv.with_flexible default_writer true
 
-escapes : (f : List ℕ) → escaped report_writer f ≡ row.doubled f
-unfolding csv.escaped row.doubled
+escapes : (f : List ℕ) → escaped report_writer f ≡ row.inner_text f
+unfolding csv.escaped row.inner_text
 escapes [] = refl
 escapes (b ∷ f) = elim (cases_Bool (b == 34)) [
   | inl e ↦ rw (e, escapes f, eqb-true b 34 e) refl

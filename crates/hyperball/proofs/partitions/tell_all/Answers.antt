@@ -1,6 +1,6 @@
 use Rattle.std.proofs.Common.{◌≤◌, ℕ, List, arith, sym, subst, ◌+◌}
 use Rattle.ball_model.specs.State.{State}
-use Rattle.hyperball.specs.Partitions.{AreTold, and_told}
+use Rattle.hyperball.specs.Partitions.{AreTold, with_pair}
 use Rattle.hyperball.proofs.PartitionLemmas.{at_most_64, below_all, below_self, below_told, running, told_below, told_less, untold}
 use Rattle.hyperball.proofs.partitions.tell_all.Goals as goal
 use Rattle.hyperball.proofs.partitions.tell_all.Goals.{then-target-source+in_ok-tell, else-target-source}
@@ -21,7 +21,7 @@ loop-target-preserved c = λ j t told h.
     elim c.if-target-source.branch [
       | then-target-source+in_ok-tell w ↦
           subst (λ (rs : List State). AreTold j t (told_below told q (n + 1)) rs) (sym w.replicas-is)
-          (told_less j t (and_told (told_below told q n) q n) (told_below told q (n + 1)) w.tell.new.replicas (w.in_ok-tell.ensures.told j t (told_below told q n) before) (λ r s a b other is. below_told told q n r s is))
+          (told_less j t (with_pair (told_below told q n) q n) (told_below told q (n + 1)) w.tell.new.replicas (w.in_ok-tell.ensures.told j t (told_below told q n) before) (λ r s a b other is. below_told told q n r s is))
       | else-target-source w ↦
           subst (λ (rs : List State). AreTold j t (told_below told q (n + 1)) rs) (sym w.replicas-is)
           (told_less j t (told_below told q n) (told_below told q (n + 1)) c.loop-target.replicas before (λ r s a b other is. below_self told q n r s w.if-target-source.false other is))

@@ -11,10 +11,10 @@ use Rattle.figures.specs.declared.tally.Tally.{Tally}
 use Rattle.figures.specs.Values.{value_of}
 use Rattle.replica.specs.Change.{Advances}
 use Rattle.replica.specs.Kept.{AllRise}
-use Rattle.replica.specs.Level.{differing, stepped_all, total_of}
+use Rattle.replica.specs.Level.{differences, next_tallies, total_of}
 use Rattle.replica.specs.Seen.{state_of}
 use Rattle.replica.proofs.AccumulatorLemmas.{fields_of, fields_are, going_keeps, kept_snapshot}
-use Rattle.replica.specs.Spread.{spread_each, marked_rows, AreTouched}
+use Rattle.replica.specs.Spread.{rows_after_all, marked_rows, AreTouched}
 use Rattle.replica.specs.Index.{targets_of}
 use Rattle.replica.proofs.HearLemmas.{hears_as}
 use Rattle.replica.proofs.LevelLemmas.{differing_from, none_touched}
@@ -44,7 +44,7 @@ step_tallies-gain-requires-clause-rows c =
     let st = k.state in
     let own = c.spread_own.new.accumulated.rows in
     let size : length s.marks ≤ length s.rows = omega (arith, st.marks, st.count) in
-    let own_is : own ≡ spread_each c.args.targets.now (marked_rows s.part.plan.parts s.part.number s.rows s.marks (length s.marks)) s.accumulated =
+    let own_is : own ≡ rows_after_all c.args.targets.now (marked_rows s.part.plan.parts s.part.number s.rows s.marks (length s.marks)) s.accumulated =
     ap (λ (t : Table). t.rows) c.spread_own.ensures.rows ∙ rw (c.deref-2.ensures, c.deref-3.ensures.value) refl in
     let up : AllRise s.part.plan.log2m s.accumulated own = own_rises s.part.plan.log2m s.part.plan.parts s.part.number (length s.marks) c.args.targets.now s.rows s.accumulated own s.marks st.rows st.accumulated size own_is in
     let rise : AllRise s.part.plan.log2m s.rows own = all_on s.part.plan.log2m s.rows s.accumulated own st.rows st.accumulated up in
@@ -60,7 +60,7 @@ step_tallies-gain-requires-clause-count c =
     let st = k.state in
     let own = c.spread_own.new.accumulated.rows in
     let size : length s.marks ≤ length s.rows = omega (arith, st.marks, st.count) in
-    let own_is : own ≡ spread_each c.args.targets.now (marked_rows s.part.plan.parts s.part.number s.rows s.marks (length s.marks)) s.accumulated =
+    let own_is : own ≡ rows_after_all c.args.targets.now (marked_rows s.part.plan.parts s.part.number s.rows s.marks (length s.marks)) s.accumulated =
     ap (λ (t : Table). t.rows) c.spread_own.ensures.rows ∙ rw (c.deref-2.ensures, c.deref-3.ensures.value) refl in
     let up : AllRise s.part.plan.log2m s.accumulated own = own_rises s.part.plan.log2m s.part.plan.parts s.part.number (length s.marks) c.args.targets.now s.rows s.accumulated own s.marks st.rows st.accumulated size own_is in
     let rise : AllRise s.part.plan.log2m s.rows own = all_on s.part.plan.log2m s.rows s.accumulated own st.rows st.accumulated up in
@@ -74,7 +74,7 @@ step_tallies-gain-requires-clause-lasts c =
     let st = k.state in
     let own = c.spread_own.new.accumulated.rows in
     let size : length s.marks ≤ length s.rows = omega (arith, st.marks, st.count) in
-    let own_is : own ≡ spread_each c.args.targets.now (marked_rows s.part.plan.parts s.part.number s.rows s.marks (length s.marks)) s.accumulated =
+    let own_is : own ≡ rows_after_all c.args.targets.now (marked_rows s.part.plan.parts s.part.number s.rows s.marks (length s.marks)) s.accumulated =
     ap (λ (t : Table). t.rows) c.spread_own.ensures.rows ∙ rw (c.deref-2.ensures, c.deref-3.ensures.value) refl in
     let up : AllRise s.part.plan.log2m s.accumulated own = own_rises s.part.plan.log2m s.part.plan.parts s.part.number (length s.marks) c.args.targets.now s.rows s.accumulated own s.marks st.rows st.accumulated size own_is in
     let rise : AllRise s.part.plan.log2m s.rows own = all_on s.part.plan.log2m s.rows s.accumulated own st.rows st.accumulated up in
@@ -83,7 +83,7 @@ step_tallies-gain-requires-clause-lasts c =
     let log2m : c.log2m.result ≡ s.part.plan.log2m = c.log2m.ensures.value ∙ ap (λ (a : PlanValue). a.log2m) plan in
     let mine : AreTouched s.rows s.accumulated c.args.touched.now = subst (λ (v : State). AreTouched v.rows v.accumulated c.args.touched.now) (sym k.view_is) c.requires.touched in
     let marked : AreTouched s.rows own c.spread_own.new.touched = c.spread_own.ensures.touched s.rows mine in
-    let marks : c.copy_from_slice.new.self.items ≡ differing s.rows own (length s.part.preds) = c.copy_from_slice.ensures.items ∙ differing_from s.rows own c.spread_own.new.touched (length s.part.preds) marked st.count in
+    let marks : c.copy_from_slice.new.self.items ≡ differences s.rows own (length s.part.preds) = c.copy_from_slice.ensures.items ∙ differing_from s.rows own c.spread_own.new.touched (length s.part.preds) marked st.count in
     rw (log2m, rows, c.deref-4.ensures.value, marks, c.deref_mut.ensures.value) (next_lasts s.part.plan.log2m s.rows own s.tallies (length s.part.preds) st.rows rise st.lasts (sym st.count))
 
 pub step_tallies-gain-requires-clause-marks : goal.step_tallies-gain-requires-clause-marks
@@ -103,7 +103,7 @@ overflow_add-last c =
     let st = k.state in
     let own = c.spread_own.new.accumulated.rows in
     let size : length s.marks ≤ length s.rows = omega (arith, st.marks, st.count) in
-    let own_is : own ≡ spread_each c.args.targets.now (marked_rows s.part.plan.parts s.part.number s.rows s.marks (length s.marks)) s.accumulated =
+    let own_is : own ≡ rows_after_all c.args.targets.now (marked_rows s.part.plan.parts s.part.number s.rows s.marks (length s.marks)) s.accumulated =
     ap (λ (t : Table). t.rows) c.spread_own.ensures.rows ∙ rw (c.deref-2.ensures, c.deref-3.ensures.value) refl in
     let up : AllRise s.part.plan.log2m s.accumulated own = own_rises s.part.plan.log2m s.part.plan.parts s.part.number (length s.marks) c.args.targets.now s.rows s.accumulated own s.marks st.rows st.accumulated size own_is in
     let rise : AllRise s.part.plan.log2m s.rows own = all_on s.part.plan.log2m s.rows s.accumulated own st.rows st.accumulated up in
@@ -112,11 +112,11 @@ overflow_add-last c =
     let log2m : c.log2m.result ≡ s.part.plan.log2m = c.log2m.ensures.value ∙ ap (λ (a : PlanValue). a.log2m) plan in
     let mine : AreTouched s.rows s.accumulated c.args.touched.now = subst (λ (v : State). AreTouched v.rows v.accumulated c.args.touched.now) (sym k.view_is) c.requires.touched in
     let marked : AreTouched s.rows own c.spread_own.new.touched = c.spread_own.ensures.touched s.rows mine in
-    let marks : c.copy_from_slice.new.self.items ≡ differing s.rows own (length s.part.preds) = c.copy_from_slice.ensures.items ∙ differing_from s.rows own c.spread_own.new.touched (length s.part.preds) marked st.count in
+    let marks : c.copy_from_slice.new.self.items ≡ differences s.rows own (length s.part.preds) = c.copy_from_slice.ensures.items ∙ differing_from s.rows own c.spread_own.new.touched (length s.part.preds) marked st.count in
     let old_tallies : map value_of c.deref_mut.result.now ≡ s.tallies = ap (map value_of) c.deref_mut.ensures.value in
     let long : length c.step_tallies-gain.new.tallies ≡ c.self.inside.tallies.len = omega (arith, c.step_tallies-gain.auto.tallies, c.deref_mut.ensures.len, c.self.inside.tallies.ok.0) in
     let count : length c.catch_up.new.rows.rows ≡ length s.part.preds = ap (length {A = List ℕ}) rows ∙ rise.count ∙ st.count in
-    let tallies : map value_of c.step_tallies-gain.new.tallies ≡ stepped_all s.part.plan.log2m (s.superstep + 1) own s.tallies (length s.part.preds) =
+    let tallies : map value_of c.step_tallies-gain.new.tallies ≡ next_tallies s.part.plan.log2m (s.superstep + 1) own s.tallies (length s.part.preds) =
     c.step_tallies-gain.ensures.tallies ∙ stepped_as log2m refl rows old_tallies count in
     let lasts = stepped_lasts s.part.plan.log2m (s.superstep + 1) own s.tallies (length s.part.preds) (sym (rise.count ∙ st.count)) in
     let total : sum_by (λ (tally : Tally). tally.last) c.step_tallies-gain.new.tallies ≡ total_of s.part.plan.log2m own = total_of-lasts s.part.plan.log2m own c.step_tallies-gain.new.tallies (ap (map (λ (t : TallyValue). t.last)) tallies ∙ lasts) in
@@ -134,7 +134,7 @@ hear_early-requires-clause-inside c =
     let st = k.state in
     let own = c.spread_own.new.accumulated.rows in
     let size : length s.marks ≤ length s.rows = omega (arith, st.marks, st.count) in
-    let own_is : own ≡ spread_each c.args.targets.now (marked_rows s.part.plan.parts s.part.number s.rows s.marks (length s.marks)) s.accumulated =
+    let own_is : own ≡ rows_after_all c.args.targets.now (marked_rows s.part.plan.parts s.part.number s.rows s.marks (length s.marks)) s.accumulated =
     ap (λ (t : Table). t.rows) c.spread_own.ensures.rows ∙ rw (c.deref-2.ensures, c.deref-3.ensures.value) refl in
     let up : AllRise s.part.plan.log2m s.accumulated own = own_rises s.part.plan.log2m s.part.plan.parts s.part.number (length s.marks) c.args.targets.now s.rows s.accumulated own s.marks st.rows st.accumulated size own_is in
     let rise : AllRise s.part.plan.log2m s.rows own = all_on s.part.plan.log2m s.rows s.accumulated own st.rows st.accumulated up in
@@ -155,7 +155,7 @@ hear_early-requires-clause-rows c =
     let st = k.state in
     let own = c.spread_own.new.accumulated.rows in
     let size : length s.marks ≤ length s.rows = omega (arith, st.marks, st.count) in
-    let own_is : own ≡ spread_each c.args.targets.now (marked_rows s.part.plan.parts s.part.number s.rows s.marks (length s.marks)) s.accumulated =
+    let own_is : own ≡ rows_after_all c.args.targets.now (marked_rows s.part.plan.parts s.part.number s.rows s.marks (length s.marks)) s.accumulated =
     ap (λ (t : Table). t.rows) c.spread_own.ensures.rows ∙ rw (c.deref-2.ensures, c.deref-3.ensures.value) refl in
     let up : AllRise s.part.plan.log2m s.accumulated own = own_rises s.part.plan.log2m s.part.plan.parts s.part.number (length s.marks) c.args.targets.now s.rows s.accumulated own s.marks st.rows st.accumulated size own_is in
     let rise : AllRise s.part.plan.log2m s.rows own = all_on s.part.plan.log2m s.rows s.accumulated own st.rows st.accumulated up in
@@ -170,7 +170,7 @@ advances c =
     let st = k.state in
     let own = c.spread_own.new.accumulated.rows in
     let size : length s.marks ≤ length s.rows = omega (arith, st.marks, st.count) in
-    let own_is : own ≡ spread_each c.args.targets.now (marked_rows s.part.plan.parts s.part.number s.rows s.marks (length s.marks)) s.accumulated =
+    let own_is : own ≡ rows_after_all c.args.targets.now (marked_rows s.part.plan.parts s.part.number s.rows s.marks (length s.marks)) s.accumulated =
     ap (λ (t : Table). t.rows) c.spread_own.ensures.rows ∙ rw (c.deref-2.ensures, c.deref-3.ensures.value) refl in
     let up : AllRise s.part.plan.log2m s.accumulated own = own_rises s.part.plan.log2m s.part.plan.parts s.part.number (length s.marks) c.args.targets.now s.rows s.accumulated own s.marks st.rows st.accumulated size own_is in
     let rise : AllRise s.part.plan.log2m s.rows own = all_on s.part.plan.log2m s.rows s.accumulated own st.rows st.accumulated up in
@@ -179,11 +179,11 @@ advances c =
     let log2m : c.log2m.result ≡ s.part.plan.log2m = c.log2m.ensures.value ∙ ap (λ (a : PlanValue). a.log2m) plan in
     let mine : AreTouched s.rows s.accumulated c.args.touched.now = subst (λ (v : State). AreTouched v.rows v.accumulated c.args.touched.now) (sym k.view_is) c.requires.touched in
     let marked : AreTouched s.rows own c.spread_own.new.touched = c.spread_own.ensures.touched s.rows mine in
-    let marks : c.copy_from_slice.new.self.items ≡ differing s.rows own (length s.part.preds) = c.copy_from_slice.ensures.items ∙ differing_from s.rows own c.spread_own.new.touched (length s.part.preds) marked st.count in
+    let marks : c.copy_from_slice.new.self.items ≡ differences s.rows own (length s.part.preds) = c.copy_from_slice.ensures.items ∙ differing_from s.rows own c.spread_own.new.touched (length s.part.preds) marked st.count in
     let old_tallies : map value_of c.deref_mut.result.now ≡ s.tallies = ap (map value_of) c.deref_mut.ensures.value in
     let long : length c.step_tallies-gain.new.tallies ≡ c.self.inside.tallies.len = omega (arith, c.step_tallies-gain.auto.tallies, c.deref_mut.ensures.len, c.self.inside.tallies.ok.0) in
     let count : length c.catch_up.new.rows.rows ≡ length s.part.preds = ap (length {A = List ℕ}) rows ∙ rise.count ∙ st.count in
-    let tallies : map value_of c.step_tallies-gain.new.tallies ≡ stepped_all s.part.plan.log2m (s.superstep + 1) own s.tallies (length s.part.preds) =
+    let tallies : map value_of c.step_tallies-gain.new.tallies ≡ next_tallies s.part.plan.log2m (s.superstep + 1) own s.tallies (length s.part.preds) =
     c.step_tallies-gain.ensures.tallies ∙ stepped_as log2m refl rows old_tallies count in
     let lasts = stepped_lasts s.part.plan.log2m (s.superstep + 1) own s.tallies (length s.part.preds) (sym (rise.count ∙ st.count)) in
     let total : sum_by (λ (tally : Tally). tally.last) c.step_tallies-gain.new.tallies ≡ total_of s.part.plan.log2m own = total_of-lasts s.part.plan.log2m own c.step_tallies-gain.new.tallies (ap (map (λ (t : TallyValue). t.last)) tallies ∙ lasts) in
@@ -197,8 +197,8 @@ advances c =
       rise = subst (λ (r : List (List ℕ)). AllRise s.part.plan.log2m s.rows r) (sym rows) rise;
       gathers = λ j p t h.
           rows ∙ c.spread_own.ensures.stands j p t (λ z. is_heard j.plan.parts s.heard z) h.job h.partition (c.deref-2.ensures ∙ h.part) (index ∙ ap targets_of (sym c.deref-2.ensures)) h.rows (c.deref-3.ensures.value ∙ h.marks) h.accumulated;
-      marks = marks ∙ ap (λ (r : List (List ℕ)). differing s.rows r (length s.part.preds)) (sym rows);
-      tallies = ap (map value_of) (with_items_is c.self.inside.tallies c.step_tallies-gain.new.tallies long) ∙ tallies ∙ ap (λ (r : List (List ℕ)). stepped_all s.part.plan.log2m (s.superstep + 1) r s.tallies (length s.part.preds)) (sym rows);
+      marks = marks ∙ ap (λ (r : List (List ℕ)). differences s.rows r (length s.part.preds)) (sym rows);
+      tallies = ap (map value_of) (with_items_is c.self.inside.tallies c.step_tallies-gain.new.tallies long) ∙ tallies ∙ ap (λ (r : List (List ℕ)). next_tallies s.part.plan.log2m (s.superstep + 1) r s.tallies (length s.part.preds)) (sym rows);
       sums = c.push_reserved.ensures.items ∙ ap (λ n. s.sums ++ n ∷ []) (sum ∙ ap (total_of s.part.plan.log2m) (sym rows));
       gains = rw rows (omega (arith, last, sum));
       hears = hears_as (ap (λ (a : PlanValue). a.log2m) plan) index c.empty-self-inside.ensures (sym rows) c.hear_early.ensures.hears;
@@ -233,7 +233,7 @@ returns-clause-touched c =
     let st = k.state in
     let own = c.spread_own.new.accumulated.rows in
     let size : length s.marks ≤ length s.rows = omega (arith, st.marks, st.count) in
-    let own_is : own ≡ spread_each c.args.targets.now (marked_rows s.part.plan.parts s.part.number s.rows s.marks (length s.marks)) s.accumulated =
+    let own_is : own ≡ rows_after_all c.args.targets.now (marked_rows s.part.plan.parts s.part.number s.rows s.marks (length s.marks)) s.accumulated =
     ap (λ (t : Table). t.rows) c.spread_own.ensures.rows ∙ rw (c.deref-2.ensures, c.deref-3.ensures.value) refl in
     let up : AllRise s.part.plan.log2m s.accumulated own = own_rises s.part.plan.log2m s.part.plan.parts s.part.number (length s.marks) c.args.targets.now s.rows s.accumulated own s.marks st.rows st.accumulated size own_is in
     let rise : AllRise s.part.plan.log2m s.rows own = all_on s.part.plan.log2m s.rows s.accumulated own st.rows st.accumulated up in
@@ -242,7 +242,7 @@ returns-clause-touched c =
     let log2m : c.log2m.result ≡ s.part.plan.log2m = c.log2m.ensures.value ∙ ap (λ (a : PlanValue). a.log2m) plan in
     let mine : AreTouched s.rows s.accumulated c.args.touched.now = subst (λ (v : State). AreTouched v.rows v.accumulated c.args.touched.now) (sym k.view_is) c.requires.touched in
     let marked : AreTouched s.rows own c.spread_own.new.touched = c.spread_own.ensures.touched s.rows mine in
-    let marks : c.copy_from_slice.new.self.items ≡ differing s.rows own (length s.part.preds) = c.copy_from_slice.ensures.items ∙ differing_from s.rows own c.spread_own.new.touched (length s.part.preds) marked st.count in
+    let marks : c.copy_from_slice.new.self.items ≡ differences s.rows own (length s.part.preds) = c.copy_from_slice.ensures.items ∙ differing_from s.rows own c.spread_own.new.touched (length s.part.preds) marked st.count in
     let quiet : AreTouched own own c.clear_marks.new.marks = none_touched own c.clear_marks.new.marks (c.clear_marks.auto.marks ∙ c.spread_own.auto.touched ∙ mine.marks ∙ sym rise.count) c.clear_marks.ensures in
     let after : AreTouched c.catch_up.new.rows.rows c.hear_early.new.accumulated.rows c.hear_early.new.touched = rw rows (c.hear_early.ensures.touched own quiet) in
     subst (λ (w : State). AreTouched w.rows w.accumulated c.hear_early.new.touched) (whole c) after

@@ -9,7 +9,7 @@ use Rattle.ball_model.specs.Job.{PartValue}
 use Rattle.ball_model.specs.State.{State, early_at}
 use Rattle.replica.specs.Ahead.{IsTable, either}
 use Rattle.replica.specs.Index.{targets_of}
-use Rattle.replica.specs.Level.{differing}
+use Rattle.replica.specs.Level.{differences}
 use Rattle.replica.specs.Merged.{Absorbs}
 use Rattle.replica.specs.Seen.{IsState, IsSnapshot, state_of}
 use Rattle.replica.proofs.AccumulatorLemmas.{fields_of, fields_are, kept_snapshot}
@@ -169,7 +169,7 @@ returns-clause-touched c =
     let accumulated : c.copy_from-2.new.self.rows ≡ o.accumulated = ap (λ (t : Table). t.rows) c.copy_from-2.ensures ∙ c.requires.theirs ∙ sym (ap (λ (v : State). v.accumulated) c.other.view_is) in
     let count : length c.args.touched.now ≡ length o.rows = size ∙ st.count ∙ as_large s o st so plan number ∙ sym so.count in
     let n = length c.args.touched.now in
-    let marks : c.mark.new.marks ≡ differing o.rows o.accumulated n = c.mark.ensures ∙ ap (λ (l : List (List ℕ)). differing l c.copy_from-2.new.self.rows n) rows ∙ ap (λ (l : List (List ℕ)). differing o.rows l n) accumulated in
+    let marks : c.mark.new.marks ≡ differences o.rows o.accumulated n = c.mark.ensures ∙ ap (λ (l : List (List ℕ)). differences l c.copy_from-2.new.self.rows n) rows ∙ ap (λ (l : List (List ℕ)). differences o.rows l n) accumulated in
     let after : AreTouched c.copy_from.new.self.rows c.hear_early.new.accumulated.rows c.hear_early.new.touched =
     c.hear_early.ensures.touched c.copy_from.new.self.rows
     (rw (rows, accumulated) (touched_from o.part.plan.log2m (length c.args.touched.now) o.rows o.accumulated c.mark.new.marks so.rows so.accumulated count marks)) in

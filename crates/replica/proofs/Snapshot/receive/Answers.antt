@@ -8,7 +8,7 @@ use Rattle.ball_model.specs.Batches.{BatchValue}
 use Rattle.ball_model.specs.Content.{take_of}
 use Rattle.ball_model.specs.State.{State, content_of, early_at}
 use Rattle.replica.specs.Change.{Receives}
-use Rattle.replica.specs.Hearing.{Hears, told_by}
+use Rattle.replica.specs.Hearing.{Hears, batch_by}
 use Rattle.replica.specs.Index.{targets_of}
 use Rattle.replica.specs.Kept.{AreCounters}
 use Rattle.replica.specs.Level.{is_over}
@@ -76,7 +76,7 @@ invariant_of-self c =
     let now : b.name.superstep ≡ s.superstep = omega (arith, ap (λ (n : BatchName). n.superstep) name, c.if-name-self.true) in
     let has : HasIndex s c.args.targets.now = subst (λ (u : State). HasIndex u c.args.targets.now) (sym k.view_is) c.requires.index in
     let index : c.args.targets.now ≡ targets_of s.part = hearing_index s b c.args.targets.now has c.requires.batch new now in
-    let hears : Hears b.plan.log2m c.args.targets.now (told_by b.name.source (Some b)) (record { heard = s.heard; change = s.heard_change; accumulated = s.accumulated }) (record { heard = c.hear.new.heard; change = c.hear.new.heard_change; accumulated = c.hear.new.accumulated.rows }) =
+    let hears : Hears b.plan.log2m c.args.targets.now (batch_by b.name.source (Some b)) (record { heard = s.heard; change = s.heard_change; accumulated = s.accumulated }) (record { heard = c.hear.new.heard; change = c.hear.new.heard_change; accumulated = c.hear.new.accumulated.rows }) =
     rw (← c.deref-then-name-self.ensures) c.hear.ensures.hears in
     let hears2 = hears_as (ap (λ (a : PlanValue). a.log2m) f.plan_is) index refl refl hears in
     kept_snapshot (record { part = c.self.inside.part; superstep = c.self.inside.superstep; rows = c.self.inside.rows; marks = c.self.inside.marks; tallies = c.self.inside.tallies; sums = c.self.inside.sums; heard = c.hear.new.heard; heard_change = c.hear.new.heard_change; accumulated = c.hear.new.accumulated; early = c.self.inside.early })
@@ -142,7 +142,7 @@ returns-then-name-self-clause-receives c =
     let now : b.name.superstep ≡ s.superstep = omega (arith, ap (λ (n : BatchName). n.superstep) name, c.if-name-self.true) in
     let has : HasIndex s c.args.targets.now = subst (λ (u : State). HasIndex u c.args.targets.now) (sym k.view_is) c.requires.index in
     let index : c.args.targets.now ≡ targets_of s.part = hearing_index s b c.args.targets.now has c.requires.batch new now in
-    let hears : Hears b.plan.log2m c.args.targets.now (told_by b.name.source (Some b)) (record { heard = s.heard; change = s.heard_change; accumulated = s.accumulated }) (record { heard = c.hear.new.heard; change = c.hear.new.heard_change; accumulated = c.hear.new.accumulated.rows }) =
+    let hears : Hears b.plan.log2m c.args.targets.now (batch_by b.name.source (Some b)) (record { heard = s.heard; change = s.heard_change; accumulated = s.accumulated }) (record { heard = c.hear.new.heard; change = c.hear.new.heard_change; accumulated = c.hear.new.accumulated.rows }) =
     rw (← c.deref-then-name-self.ensures) c.hear.ensures.hears in
     let hears2 = hears_as (ap (λ (a : PlanValue). a.log2m) f.plan_is) index refl refl hears in
     subst (λ (w : State). Receives b v w) (fields_are (record { part = c.self.inside.part; superstep = c.self.inside.superstep; rows = c.self.inside.rows; marks = c.self.inside.marks; tallies = c.self.inside.tallies; sums = c.self.inside.sums; heard = c.hear.new.heard; heard_change = c.hear.new.heard_change; accumulated = c.hear.new.accumulated; early = c.self.inside.early }) (all_on s.part.plan.log2m s.rows s.accumulated c.hear.new.accumulated.rows st.rows st.accumulated hears2.rise).count)

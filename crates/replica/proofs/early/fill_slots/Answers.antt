@@ -3,7 +3,7 @@ use Rattle.std.specs.Prelude.{Option, None}
 use Rattle.std.specs.Arc.{arc_value}
 use Rattle.std.proofs.lemmas.List.{length-map, map-set, get_or-map}
 use Rattle.ball_model.specs.Batches.{BatchValue}
-use Rattle.replica.specs.Ahead.{either, filled}
+use Rattle.replica.specs.Ahead.{either, union_of_slots}
 use Rattle.replica.proofs.StepLemmas.{step_done, step_rest, list_is}
 use Rattle.replica.proofs.early.fill_slots.Goals as goal
 
@@ -33,7 +33,7 @@ loop-i-preserved c =
     }
 
 pub returns : goal.returns
-unfolding filled
+unfolding union_of_slots
 returns c =
     let F = option_map (arc_value {X = BatchValue}) in
     let size : length (map F c.args.slots.now) ≡ length c.args.slots.now = length-map c.args.slots.now F in

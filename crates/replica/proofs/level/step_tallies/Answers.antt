@@ -4,7 +4,7 @@ use Rattle.std.proofs.lemmas.List.Sums.{sum_by-set}
 use Rattle.figures.specs.declared.tally.Tally.{Tally}
 use Rattle.figures.specs.Values.{value_of}
 use Rattle.ball_model.specs.Figures.{TallyValue, estimate_of}
-use Rattle.replica.specs.Level.{stepped, nothing}
+use Rattle.replica.specs.Level.{next_tally, nothing}
 use Rattle.replica.proofs.StepLemmas.{step_done, step_rest, stepped_same, all_stepped}
 use Rattle.replica.proofs.level.step_tallies.Goals as goal
 
@@ -30,7 +30,7 @@ loop-i-preserved c =
     let at = here c.loop-i.tallies c.args.tallies.now c.loop-i.i c.index-tallies-i.result lt (c.loop-i.invariant.rest c.loop-i.i (omega arith)) in
     let written = map-set value_of c.loop-i.tallies c.loop-i.i c.step_tally-gain.new.tally in
     let long : c.loop-i.i < length (map value_of c.loop-i.tallies) = simp length-map lt in
-    let F : ℕ → TallyValue = λ k. stepped c.args.t (get_or (map value_of c.args.tallies.now) k nothing) (estimate_of c.args.log2m (get_or c.args.rows.now.rows k [])) in
+    let F : ℕ → TallyValue = λ k. next_tally c.args.t (get_or (map value_of c.args.tallies.now) k nothing) (estimate_of c.args.log2m (get_or c.args.rows.now.rows k [])) in
     let is : value_of c.step_tally-gain.new.tally ≡ F c.loop-i.i = c.step_tally-gain.ensures.value ∙ stepped_same c.args.t at (ap (estimate_of c.args.log2m) c.row.ensures.value) in
     record {
       done = rw written (step_done F (map value_of c.loop-i.tallies) nothing (value_of c.step_tally-gain.new.tally) c.loop-i.i long is c.loop-i.invariant.done);

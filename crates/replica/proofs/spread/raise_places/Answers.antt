@@ -2,7 +2,7 @@ use Rattle.std.proofs.Common.{◌≡◌, false, ◌<◌, ◌++◌, ℕ, List, []
 use Rattle.std.proofs.lemmas.List.{nil_from_length}
 use Rattle.std.specs.Slice.Iter.{chunks_rest}
 use Rattle.ball_model.specs.Table.{Table}
-use Rattle.replica.specs.Spread.{spread, touched_at}
+use Rattle.replica.specs.Spread.{rows_after, touched_at}
 use Rattle.replica.proofs.SpreadLemmas.{spread-none, spread-append, length-spread, touched-none, touched-append, all_first, all_last}
 use Rattle.replica.proofs.spread.raise_places.Goals as goal
 
@@ -19,8 +19,8 @@ loop-block-init c =
       inside = rw rest c.requires.places;
       width = refl;
       count = refl;
-      rows = ap (λ (places : List ℕ). spread places c.args.registers.now c.args.accumulated.now.rows) rest;
-      marks = λ i lt. ap (λ (places : List ℕ). touched_at c.args.touched.now c.args.accumulated.now.rows (spread places c.args.registers.now c.args.accumulated.now.rows) i) rest;
+      rows = ap (λ (places : List ℕ). rows_after places c.args.registers.now c.args.accumulated.now.rows) rest;
+      marks = λ i lt. ap (λ (places : List ℕ). touched_at c.args.touched.now c.args.accumulated.now.rows (rows_after places c.args.registers.now c.args.accumulated.now.rows) i) rest;
     }
 
 pub mark_seen-requires-clause-places : goal.mark_seen-requires-clause-places
@@ -57,9 +57,9 @@ loop-block-preserved c =
     let old = c.loop-block.touched in
     let new = c.raise_block.new.touched in
     let split : chunks_rest c.loop-block.block-iterator ≡ block ++ left = c.in-Some.ensures.steps.1.0 in
-    let rows : c.raise_block.new.accumulated.rows ≡ spread block src acc = ap (λ (t : Table). t.rows) c.raise_block.ensures.rows in
+    let rows : c.raise_block.new.accumulated.rows ≡ rows_after block src acc = ap (λ (t : Table). t.rows) c.raise_block.ensures.rows in
     let width = ap (λ (t : Table). t.width) c.raise_block.ensures.rows in
-    let marks : (i : ℕ) → i < length acc → get_or new i false ≡ touched_at old acc (spread block src acc) i =
+    let marks : (i : ℕ) → i < length acc → get_or new i false ≡ touched_at old acc (rows_after block src acc) i =
     λ i lt. c.raise_block.ensures.marks i lt ∙ ap (λ (rs : List (List ℕ)). touched_at c.mark_seen.new.touched acc rs i) rows ∙ c.mark_seen.ensures i lt in
     record {
       can_next = search rules;
@@ -67,23 +67,23 @@ loop-block-preserved c =
       inside = all_last (λ i. i < length c.args.accumulated.now.rows) block left (rw split at inv.inside);
       width = width ∙ inv.width;
       count = ap length rows ∙ length-spread block src acc ∙ inv.count;
-      rows = ap (λ (rs : List (List ℕ)). spread left src rs) rows ∙ spread-append block left src acc ∙ ap (λ (places : List ℕ). spread places src acc) (sym split) ∙ inv.rows;
+      rows = ap (λ (rs : List (List ℕ)). rows_after left src rs) rows ∙ spread-append block left src acc ∙ ap (λ (places : List ℕ). rows_after places src acc) (sym split) ∙ inv.rows;
       marks = λ i lt.
           let inside : i < length acc = omega (arith, inv.count) in
-          ap (λ (rs : List (List ℕ)). touched_at new rs (spread left src rs) i) rows
+          ap (λ (rs : List (List ℕ)). touched_at new rs (rows_after left src rs) i) rows
           ∙ touched-append block left src acc old new marks i inside
-          ∙ ap (λ (places : List ℕ). touched_at old acc (spread places src acc) i) (sym split) ∙ inv.marks i lt;
+          ∙ ap (λ (places : List ℕ). touched_at old acc (rows_after places src acc) i) (sym split) ∙ inv.marks i lt;
     }
 
 -- spread to all places
-all_rows : (places left src : List ℕ) (rows old : List (List ℕ)) → left ≡ [] → spread left src rows ≡ spread places src old → rows ≡ spread places src old
-all_rows places left src rows old none is = spread-none src rows ∙ ap (λ (ps : List ℕ). spread ps src rows) (sym none) ∙ is
+all_rows : (places left src : List ℕ) (rows old : List (List ℕ)) → left ≡ [] → rows_after left src rows ≡ rows_after places src old → rows ≡ rows_after places src old
+all_rows places left src rows old none is = spread-none src rows ∙ ap (λ (ps : List ℕ). rows_after ps src rows) (sym none) ∙ is
 
 pub returns-clause-rows : goal.returns-clause-rows
 returns-clause-rows c =
     let inv = c.loop-block.invariant in
     let none : chunks_rest c.loop-block.block-iterator ≡ [] = nil_from_length _ c.in-None.ensures.steps.1.0 in
-    table_is c.loop-block.accumulated (record c.args.accumulated.now { rows = spread c.args.places.now c.args.registers.now c.args.accumulated.now.rows }) inv.width
+    table_is c.loop-block.accumulated (record c.args.accumulated.now { rows = rows_after c.args.places.now c.args.registers.now c.args.accumulated.now.rows }) inv.width
     (all_rows c.args.places.now (chunks_rest c.loop-block.block-iterator) c.args.registers.now c.loop-block.accumulated.rows c.args.accumulated.now.rows none inv.rows)
 
 pub returns-clause-marks : goal.returns-clause-marks
@@ -96,5 +96,5 @@ returns-clause-marks c =
     let all = all_rows c.args.places.now left src acc c.args.accumulated.now.rows none inv.rows in
     λ i lt.
     touched-none src acc c.loop-block.touched i (omega (arith, inv.count))
-    ∙ ap (λ (places : List ℕ). touched_at c.loop-block.touched acc (spread places src acc) i) (sym none)
+    ∙ ap (λ (places : List ℕ). touched_at c.loop-block.touched acc (rows_after places src acc) i) (sym none)
     ∙ inv.marks i lt ∙ ap (λ (rs : List (List ℕ)). touched_at c.args.touched.now c.args.accumulated.now.rows rs i) (sym all)

@@ -1,7 +1,7 @@
 use Rattle.std.proofs.Common.{◌≡◌, ℕ, ◌<◌, length}
 use Rattle.std.specs.List.{All}
 use Rattle.std.specs.Slice.Iter.{chunks_rest}
-use Rattle.replica.specs.Spread.{spread, touched_at}
+use Rattle.replica.specs.Spread.{rows_after, touched_at}
 use Rattle.replica.proofs.spread.raise_places.Given as goal
 
 abbrev pub invariant-loop-block : goal.invariant-loop-block
@@ -11,6 +11,6 @@ invariant-loop-block l = record {
   inside : All (λ i. i < length l.initial.accumulated.rows) (chunks_rest l.block-iterator);
   width : l.accumulated.width ≡ l.initial.accumulated.width;
   count : length l.accumulated.rows ≡ length l.initial.accumulated.rows;
-  rows : spread (chunks_rest l.block-iterator) l.registers l.accumulated.rows ≡ spread l.places l.registers l.initial.accumulated.rows;
-  marks : (i : ℕ) → i < length l.initial.accumulated.rows → touched_at l.touched l.accumulated.rows (spread (chunks_rest l.block-iterator) l.registers l.accumulated.rows) i ≡ touched_at l.initial.touched l.initial.accumulated.rows (spread l.places l.registers l.initial.accumulated.rows) i;
+  rows : rows_after (chunks_rest l.block-iterator) l.registers l.accumulated.rows ≡ rows_after l.places l.registers l.initial.accumulated.rows;
+  marks : (i : ℕ) → i < length l.initial.accumulated.rows → touched_at l.touched l.accumulated.rows (rows_after (chunks_rest l.block-iterator) l.registers l.accumulated.rows) i ≡ touched_at l.initial.touched l.initial.accumulated.rows (rows_after l.places l.registers l.initial.accumulated.rows) i;
 }

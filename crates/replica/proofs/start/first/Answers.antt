@@ -9,7 +9,7 @@ use Rattle.replica.specs.Ahead.{IsTable}
 use Rattle.figures.specs.declared.tally.Tally.{Tally}
 use Rattle.figures.specs.Values.{value_of}
 use Rattle.replica.specs.Level.{total_of}
-use Rattle.replica.specs.Start.{Starts, first_rows, started}
+use Rattle.replica.specs.Start.{Starts, first_rows, first_tally}
 use Rattle.ball_model.specs.State.{State}
 use Rattle.replica.proofs.AccumulatorLemmas.{fields_of, fields_are, kept_snapshot}
 use Rattle.replica.proofs.StartLemmas.{first_counters, started_total, starts_state}
@@ -30,7 +30,7 @@ starts c =
     let plan : c.plan-plan.result.now ≡ part.plan = c.plan-plan.ensures ∙ ap (λ (a : PartValue). a.plan) c.deref.ensures in
     let log2m : c.log2m.result ≡ part.plan.log2m = c.log2m.ensures.value ∙ ap (λ (a : PlanValue). a.log2m) plan in
     let rows : c.in_ok-rows.rows.rows ≡ first_rows part = ap (λ (t : Table). t.rows) c.in_ok-rows.ensures ∙ ap first_rows c.deref-3.ensures in
-    let tallies : map value_of c.in_ok-tallies.tallies.items ≡ map (λ row. started (estimate_of part.plan.log2m row)) (first_rows part) = c.in_ok-tallies.ensures ∙ rw (log2m, rows) refl in
+    let tallies : map value_of c.in_ok-tallies.tallies.items ≡ map (λ row. first_tally (estimate_of part.plan.log2m row)) (first_rows part) = c.in_ok-tallies.ensures ∙ rw (log2m, rows) refl in
     let total : c.sum_of_lasts.result ≡ total_of part.plan.log2m (first_rows part) =
     c.sum_of_lasts.ensures ∙ ap (sum_by (λ (tally : Tally). tally.last)) c.deref-5.ensures.value ∙ started_total part.plan.log2m (first_rows part) c.in_ok-tallies.tallies.items tallies in
     record {

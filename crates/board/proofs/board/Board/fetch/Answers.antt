@@ -3,7 +3,7 @@ use Rattle.std.specs.Arc.{arc_value}
 use Rattle.std.proofs.lemmas.Result.{IfOk-weaker, on_ok_weaker}
 use Rattle.ball_model.specs.History.{History, Fetch, board_of}
 use Rattle.board.specs.Seats.{BoardView, SeatView, Extends, Called}
-use Rattle.board.specs.Inside.{seen_of}
+use Rattle.board.specs.Inside.{seat_view_of}
 use Rattle.board.proofs.CallLemmas.{Turn, turn_next, turn_fits, turn_extends, turn_called, turn_nothing, turn_seen, fetch_stands, recall_far, recall_furthest, if_ok, if_some}
 use Rattle.board.proofs.board.Board.fetch.Goals as goal
 

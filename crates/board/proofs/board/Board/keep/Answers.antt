@@ -1,9 +1,9 @@
 use Rattle.std.proofs.Common.{◌≡◌, true, false, is_some, Ok, Err, None, Some, IfOk, IfErr, IfSome, IfNone, OnOk, OnErr, refl, sym, ap, ◌∙◌, subst}
 use Rattle.std.specs.Arc.{arc_value}
 use Rattle.std.proofs.lemmas.Result.{IfOk-weaker, on_ok_weaker}
-use Rattle.ball_model.specs.History.{History, Keep, held_by, board_of}
+use Rattle.ball_model.specs.History.{History, Keep, holding_in, board_of}
 use Rattle.board.specs.Seats.{BoardView, SeatView, Extends, Called}
-use Rattle.board.specs.Inside.{seen_of}
+use Rattle.board.specs.Inside.{seat_view_of}
 use Rattle.board.proofs.CallLemmas.{Turn, turn_next, turn_fits, turn_extends, turn_called, turn_nothing, turn_seen, fetch_stands, recall_far, recall_furthest, if_ok, if_some}
 use Rattle.board.proofs.board.Board.keep.Goals as goal
 
@@ -60,4 +60,4 @@ returns-clause-ok g c =
       seen_is = c.take-book.ensures.book.0;
       goes_on = c.take-book.ensures.book.1;
     } in
-    IfOk-weaker c.keep-answer.result _ _ (λ r h. rw (← c.seat.view_is) (turn_called _ _ _ _ _ _ _ c.give.new.pass.me _ _ (Keep (held_by (arc_value c.args.snapshot)) r) t h c.give.ensures.given)) c.keep-answer.ensures.ok
+    IfOk-weaker c.keep-answer.result _ _ (λ r h. rw (← c.seat.view_is) (turn_called _ _ _ _ _ _ _ c.give.new.pass.me _ _ (Keep (holding_in (arc_value c.args.snapshot)) r) t h c.give.ensures.given)) c.keep-answer.ensures.ok

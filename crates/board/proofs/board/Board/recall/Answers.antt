@@ -1,9 +1,9 @@
 use Rattle.std.proofs.Common.{◌≡◌, true, false, is_some, Ok, Err, None, Some, IfOk, IfErr, IfSome, IfNone, OnOk, OnErr, refl, sym, ap, ◌∙◌, subst}
 use Rattle.std.specs.Arc.{arc_value}
 use Rattle.std.proofs.lemmas.Result.{IfOk-weaker, on_ok_weaker}
-use Rattle.ball_model.specs.History.{History, Recall, held_by, is_kept_from, board_of}
+use Rattle.ball_model.specs.History.{History, Recall, holding_in, is_kept_from, board_of}
 use Rattle.board.specs.Seats.{BoardView, SeatView, Extends, Called}
-use Rattle.board.specs.Inside.{seen_of}
+use Rattle.board.specs.Inside.{seat_view_of}
 use Rattle.board.proofs.CallLemmas.{Turn, turn_next, turn_fits, turn_extends, turn_called, turn_nothing, turn_seen, fetch_stands, recall_far, recall_furthest, if_ok, if_some}
 use Rattle.board.proofs.board.Board.recall.Goals as goal
 
@@ -60,7 +60,7 @@ returns-clause-found g c =
       seen_is = c.take-book.ensures.book.0;
       goes_on = c.take-book.ensures.book.1;
     } in
-    IfOk-weaker c.recall-answer.result _ _ (λ r h. if_some r _ _ h (λ a k. rw (← c.seat.view_is) (turn_called _ _ _ _ _ _ _ c.give.new.pass.me _ _ (Recall c.args.part c.args.at_least (held_by (arc_value a))) t k.0 c.give.ensures.given))) c.recall-answer.ensures.found
+    IfOk-weaker c.recall-answer.result _ _ (λ r h. if_some r _ _ h (λ a k. rw (← c.seat.view_is) (turn_called _ _ _ _ _ _ _ c.give.new.pass.me _ _ (Recall c.args.part c.args.at_least (holding_in (arc_value a))) t k.0 c.give.ensures.given))) c.recall-answer.ensures.found
 
 pub returns-clause-far : goal.returns-clause-far
 returns-clause-far g c =
@@ -73,7 +73,7 @@ returns-clause-far g c =
       seen_is = c.take-book.ensures.book.0;
       goes_on = c.take-book.ensures.book.1;
     } in
-    if_ok c.recall-answer.result _ _ _ c.recall-answer.ensures.found c.recall-answer.ensures.none (λ r some none. subst (λ (l : History). is_some r ≡ is_kept_from ((board_of l).kept c.args.part) c.args.at_least) (sym (turn_seen c.take-book.new.pass.me c.give.new.pass.me _ c.give.ensures.given)) (recall_far _ (λ a. held_by (arc_value a)) r _ _ _ _ c.args.part c.args.at_least c.recall-answer.ensures.next.0 some none))
+    if_ok c.recall-answer.result _ _ _ c.recall-answer.ensures.found c.recall-answer.ensures.none (λ r some none. subst (λ (l : History). is_some r ≡ is_kept_from ((board_of l).kept c.args.part) c.args.at_least) (sym (turn_seen c.take-book.new.pass.me c.give.new.pass.me _ c.give.ensures.given)) (recall_far _ (λ a. holding_in (arc_value a)) r _ _ _ _ c.args.part c.args.at_least c.recall-answer.ensures.next.0 some none))
 
 pub returns-clause-furthest : goal.returns-clause-furthest
 returns-clause-furthest g c =
@@ -86,4 +86,4 @@ returns-clause-furthest g c =
       seen_is = c.take-book.ensures.book.0;
       goes_on = c.take-book.ensures.book.1;
     } in
-    IfOk-weaker c.recall-answer.result _ _ (λ r h. if_some r _ _ h (λ a k least kept. recall_furthest _ _ c.seat.inside.pass.me.0.seen c.take-book.result _ c.args.part c.args.at_least least (held_by (arc_value a)) c.take-book.ensures.book.1.0 c.take-book.ensures.book.1.2 c.recall-answer.ensures.next.0 k.0 (subst (λ (v : SeatView). is_kept_from ((board_of v.seen).kept c.args.part) least ≡ true) (sym c.seat.view_is) kept))) c.recall-answer.ensures.found
+    IfOk-weaker c.recall-answer.result _ _ (λ r h. if_some r _ _ h (λ a k least kept. recall_furthest _ _ c.seat.inside.pass.me.0.seen c.take-book.result _ c.args.part c.args.at_least least (holding_in (arc_value a)) c.take-book.ensures.book.1.0 c.take-book.ensures.book.1.2 c.recall-answer.ensures.next.0 k.0 (subst (λ (v : SeatView). is_kept_from ((board_of v.seen).kept c.args.part) least ≡ true) (sym c.seat.view_is) kept))) c.recall-answer.ensures.found

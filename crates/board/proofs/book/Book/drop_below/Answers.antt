@@ -6,7 +6,7 @@ use Rattle.std.specs.BTreeMap.{get}
 use Rattle.ball_model.specs.declared.names.BatchName.{BatchName}
 use Rattle.ball_model.specs.Batches.{BatchValue, true_batch}
 use Rattle.ball_model.specs.State.{State, StandsFor}
-use Rattle.ball_model.specs.History.{History, Drop, entry, with_entry, entries_of, board_of, held_by}
+use Rattle.ball_model.specs.History.{History, Drop, entry, with_entry, entries_of, board_of, holding_in}
 use Rattle.board.specs.declared.event.Event.TheVariants as noted
 use Rattle.board.specs.Book.{by_name, history_of, IsNoted}
 use Rattle.board.proofs.BookLemmas.{noted as line, keeps-drop}

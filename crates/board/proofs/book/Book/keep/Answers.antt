@@ -6,7 +6,7 @@ use Rattle.std.specs.BTreeMap.{get}
 use Rattle.ball_model.specs.declared.names.BatchName.{BatchName}
 use Rattle.ball_model.specs.Batches.{BatchValue, true_batch}
 use Rattle.ball_model.specs.State.{State, StandsFor}
-use Rattle.ball_model.specs.History.{History, Keep, entry, with_entry, entries_of, board_of, held_by}
+use Rattle.ball_model.specs.History.{History, Keep, entry, with_entry, entries_of, board_of, holding_in}
 use Rattle.board.specs.declared.event.Event.TheVariants as noted
 use Rattle.board.specs.Book.{by_name, history_of, IsNoted}
 use Rattle.board.proofs.BookLemmas.{noted as line, keeps-keep}
@@ -21,7 +21,7 @@ invariant_of-self-2 c =
     subst (λ (k : History). StandsFor k.job (arc_value c.args.snapshot).part.number (arc_value c.args.snapshot).superstep (arc_value c.args.snapshot)) (sym c.self.view_is) c.requires in
     let fits : (arc_value c.args.snapshot).part.number < length i.kept.items = subst (λ n. (arc_value c.args.snapshot).part.number < n) (sym c.self.invariant.places) stands.partition in
     let value : c.of-seen.result.value ≡ arc_value c.args.snapshot = c.of-seen.ensures ∙ c.deref.ensures in
-    let same_event = same ∙ ap (λ (v : State). with_entry h (entry c.args.by (Keep (held_by v) c.put_snapshot-reply.result))) value in
+    let same_event = same ∙ ap (λ (v : State). with_entry h (entry c.args.by (Keep (holding_in v) c.put_snapshot-reply.result))) value in
     keeps-keep (arc_value {X = BatchValue} {Z = Global}) (arc_value {X = State} {Z = Global}) h _ c.args.by c.put_snapshot-reply.result c.args.snapshot i.entries i.floor (get by_name i.standing) i.kept.items _ c.self.invariant same_event fits stands c.put_snapshot-reply.ensures.reply c.put_snapshot-reply.ensures.put
 
 pub returns-clause-next : goal.returns-clause-next
@@ -30,4 +30,4 @@ returns-clause-next c =
     let h : History = history_of i in
     let same = line h i.full.items c.make_room.new.full.items i.sheet.items c.make_room.new.sheet.items c.push_reserved.new.self.items (record { by = c.args.by; event = noted.Keep c.of-seen.result c.put_snapshot-reply.result }) refl c.make_room.ensures.same c.push_reserved.ensures.items in
     let room : entries_of h < c.args.limit = subst (λ n. n < c.args.limit) c.self.invariant.entries_are c.in_ok-make_room.ensures.ok.0 in
-    ((invariant_of-self-2 c).legal, inr (Keep (held_by c.of-seen.result.value) c.put_snapshot-reply.result, rw (← c.self.view_is) (same, room)))
+    ((invariant_of-self-2 c).legal, inr (Keep (holding_in c.of-seen.result.value) c.put_snapshot-reply.result, rw (← c.self.view_is) (same, room)))

@@ -1,5 +1,5 @@
 use Rattle.std.proofs.Common.{◌∙◌, ap, sym, arith}
-use Rattle.gapcode.specs.Lists.{decoded, read_list}
+use Rattle.gapcode.specs.Lists.{elements_of, read_list}
 use Rattle.gapcode.proofs.WordsLemmas.{at_rest}
 use Rattle.gapcode.proofs.SteppingLemmas.{moved, list_moved}
 use Rattle.gapcode.proofs.elements.Elements.at.Goals as goal
@@ -12,5 +12,5 @@ invariant_of-result c = (omega arith, moved c.split_at.result.1.now _ c.degree-l
 
 pub returns : goal.returns
 returns c =
-    ap (decoded c.degree-left.result.0 0) (sym (at_rest c.split_at.result.1.now _ c.degree-left.result.1 c.behind.ensures))
+    ap (elements_of c.degree-left.result.0 0) (sym (at_rest c.split_at.result.1.now _ c.degree-left.result.1 c.behind.ensures))
     ∙ c.degree-left.ensures.first ∙ ap read_list (sym (at_rest c.args.bytes.now _ c.args.place c.split_at.ensures.back))

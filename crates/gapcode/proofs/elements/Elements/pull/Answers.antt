@@ -1,6 +1,6 @@
 use Rattle.std.proofs.Common.{◌≡◌, ◌∙◌, ◌+◌, ◌-◌, ◌∷◌, List, ℕ, ap, sym, arith, [], drop}
 use Rattle.gapcode.specs.Bits.{bits_of}
-use Rattle.gapcode.specs.Lists.{decoded}
+use Rattle.gapcode.specs.Lists.{elements_of}
 use Rattle.gapcode.proofs.WordsLemmas.{at_rest}
 use Rattle.gapcode.proofs.SteppingLemmas.{moved, none_left}
 use Rattle.gapcode.proofs.elements.Elements.pull.Goals as goal
@@ -21,4 +21,4 @@ returns c =
     let e = c.self.inside in
     let first = c.step-element.result.0 in
     sym c.self.view_is ∙ c.step-element.ensures.next
-    ∙ ap (λ (xs : List ℕ). first ∷ xs) (rw c.from.ensures (ap (decoded (e.left - 1) (first + 1)) (at_rest e.bytes.now _ c.step-element.result.1 c.behind-self-inside.ensures)))
+    ∙ ap (λ (xs : List ℕ). first ∷ xs) (rw c.from.ensures (ap (elements_of (e.left - 1) (first + 1)) (at_rest e.bytes.now _ c.step-element.result.1 c.behind-self-inside.ensures)))
