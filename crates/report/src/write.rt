@@ -41,7 +41,7 @@ impl From<AllocError> for ReportError {
 }
 
 // How many vertices have their lines in one piece of text.
-const PIECE: u32 = 4096;
+const PIECE: u32 = 1024;
 
 // How many vertices, at least, have their figures in memory at once.
 const BLOCK: u32 = 8 * PIECE;
