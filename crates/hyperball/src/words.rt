@@ -58,7 +58,7 @@ Memory and accuracy:
 
 Figures:
   Harmonic centrality 0.000000 with Lin's index 1.000000: nobody else that counts gets there.
-  Closeness is one by the sum of distances, so it is also 0.000000 where that sum is above a million.
+  Closeness is one by the sum of distances, so it is also 0.000000 if that sum is above a million.
 
 Exit status:
   0  the report was written, or help was asked for
