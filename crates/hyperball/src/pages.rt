@@ -14,7 +14,7 @@ use std::marker::Model;
 
 /// A text that is kept in pieces, as they were written: each goes where memory is free.
 ///
-/// A model is the text: all pages, one behind another.
+/// Its model is the text: all pages, one behind another.
 #[derive(Drop)]
 pub(crate) struct Pages {
     alloc: Global,
