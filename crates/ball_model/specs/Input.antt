@@ -96,7 +96,8 @@ network_of records =
             (λ x. map
             (λ y. (y, x))
             (filter
-            (λ y. list_any (leads (slice_index_or labels y []) (slice_index_or labels x [])) records)
+            (λ y. list_any
+            (leads (slice_index_or labels y []) (slice_index_or labels x [])) records)
             (range_with_len 0 n)))
             (range_with_len 0 n);
         counted = range_with_len 0 n;

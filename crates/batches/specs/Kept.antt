@@ -12,7 +12,13 @@ rows_of m (id ∷ ids) registers = (id, take m registers) ∷ rows_of m ids (dro
 
 -- the batch of these fields, whose rows are kept as vertices and registers
 abbrev pub batch_of : PlanValue → BatchName → ℕ → List ℕ → List ℕ → BatchValue
-batch_of plan name changed ids registers = record { plan = plan; name = name; changed = changed; rows = rows_of (2 ^ plan.log2m) ids registers }
+batch_of plan name changed ids registers =
+    record {
+      plan = plan;
+      name = name;
+      changed = changed;
+      rows = rows_of (2 ^ plan.log2m) ids registers;
+    }
 
 -- a batch is kept so: it is within the limits, and each row has its registers
 pub record IsKept (b : BatchValue) (ids registers : List ℕ) : Type 0 where

@@ -9,16 +9,20 @@ use Rattle.batches.specs.Reading.{batch_at, AgreesButJob}
 
 -- the spelling of a batch is read as that batch, under its plan whatever the plan's digest
 abbrev pub SpellingIsRead : Type 0
-SpellingIsRead = (plan : PlanValue) (b : BatchValue) → IsBatch b → AgreesButJob plan b.plan → batch_at plan (batch_bytes b) ≡ Ok b
+SpellingIsRead = (plan : PlanValue) (b : BatchValue) → IsBatch b → AgreesButJob plan b.plan →
+    batch_at plan (batch_bytes b) ≡ Ok b
 
 -- bytes that are read as a batch are its spelling: no batch has two
 abbrev pub SpellingIsOne : Type 0
-SpellingIsOne = (plan : PlanValue) (bytes : List ℕ) (b : BatchValue) → All (λ x. x < 256) bytes → batch_at plan bytes ≡ Ok b → bytes ≡ batch_bytes b
+SpellingIsOne = (plan : PlanValue) (bytes : List ℕ) (b : BatchValue) → All (λ x. x < 256) bytes →
+    batch_at plan bytes ≡ Ok b → bytes ≡ batch_bytes b
 
 -- no bytes spell two batches of a plan
 abbrev pub BatchIsOne : Type 0
-BatchIsOne = (a b : BatchValue) → IsBatch a → IsBatch b → AgreesButJob a.plan b.plan → batch_bytes a ≡ batch_bytes b → a ≡ b
+BatchIsOne = (a b : BatchValue) → IsBatch a → IsBatch b → AgreesButJob a.plan b.plan →
+    batch_bytes a ≡ batch_bytes b → a ≡ b
 
 -- a true batch is within the limits that every batch keeps
 abbrev pub TrueIsBatch : Type 0
-TrueIsBatch = (j : Job) (name : BatchName) → IsJob j → name.superstep ≤ j.plan.limit → name.source < j.plan.parts → name.target < j.plan.parts → IsBatch (true_batch j name)
+TrueIsBatch = (j : Job) (name : BatchName) → IsJob j → name.superstep ≤ j.plan.limit →
+    name.source < j.plan.parts → name.target < j.plan.parts → IsBatch (true_batch j name)

@@ -11,7 +11,8 @@ use Rattle.batches.specs.Kept.{field, rows_at}
 
 infixl 10 ◌>>=◌
 -- a step and what follows it, or the refusal of the step
-abbrev pub ◌>>=◌ : {A B : Type 0} → Result A BatchError → (A → Result B BatchError) → Result B BatchError
+abbrev pub ◌>>=◌ : {A B : Type 0} → Result A BatchError → (A → Result B BatchError) →
+    Result B BatchError
 (Ok x) >>= f = f x
 (Err e) >>= f = Err e
 
@@ -21,7 +22,11 @@ head_at bytes = record {
   magic = field w32 0 bytes;
   version = slice_index bytes 4;
   log2m = slice_index bytes 5;
-  name = record { superstep = field w32 6 bytes; source = field w16 10 bytes; target = field w16 12 bytes };
+  name = record {
+    superstep = field w32 6 bytes;
+    source = field w16 10 bytes;
+    target = field w16 12 bytes;
+  };
   job = take 32 (drop 14 bytes);
   changed = field w32 46 bytes;
   count = field w32 50 bytes;
@@ -31,7 +36,8 @@ head_at bytes = record {
 unfoldable pub head_bytes : Header → List ℕ
 head_bytes h =
     to_be_bytes w32 h.magic ++ (h.version ∷ []) ++ (h.log2m ∷ [])
-    ++ to_be_bytes w32 h.name.superstep ++ to_be_bytes w16 h.name.source ++ to_be_bytes w16 h.name.target
+    ++ to_be_bytes w32 h.name.superstep ++ to_be_bytes w16 h.name.source
+    ++ to_be_bytes w16 h.name.target
     ++ h.job ++ to_be_bytes w32 h.changed ++ to_be_bytes w32 h.count
 
 -- HBBT
@@ -47,13 +53,16 @@ check_head plan h =
     else if nat_lt plan.limit h.name.superstep then Err errors.Name
     else if nat_le plan.parts h.name.source then Err errors.Name
     else if nat_le plan.parts h.name.target then Err errors.Name
-    else if nat_lt (part_size plan.vertices plan.parts h.name.source) h.changed then Err errors.Count
+    else if nat_lt (part_size plan.vertices plan.parts h.name.source) h.changed
+    then Err errors.Count
     else if nat_lt h.changed h.count then Err errors.Count
     else Ok tt
 
 -- the rows have the length that is wanted
 unfoldable pub check_length : ℕ → ℕ → Result (Unit {0}) BatchError
-check_length wanted len = if nat_lt len wanted then Err errors.Short else if nat_lt wanted len then Err errors.Trailing else Ok tt
+check_length wanted len =
+    if nat_lt len wanted then Err errors.Short else if nat_lt wanted len then Err errors.Trailing
+    else Ok tt
 
 -- a row is of a vertex of the source from least on, and has registers of at most 33
 unfoldable pub check_row : PlanValue → ℕ → ℕ → ℕ × List ℕ → Result (Unit {0}) BatchError
@@ -77,7 +86,8 @@ check_at plan bytes =
     if nat_lt (length bytes) 54 then Err errors.Short else do
       head ← check_head plan (head_at bytes)
       whole ← check_length ((head_at bytes).count * (4 + 2 ^ plan.log2m)) (length bytes - 54)
-      rows ← check_rows plan (head_at bytes).name.source 0 (rows_at (2 ^ plan.log2m) (head_at bytes).count (drop 54 bytes))
+      rows ← check_rows plan (head_at bytes).name.source 0
+          (rows_at (2 ^ plan.log2m) (head_at bytes).count (drop 54 bytes))
       Ok (head_at bytes)
 
 -- the batch of a plan that fixed fields and rows make: the job digest is theirs

@@ -37,11 +37,18 @@ abbrev pub calls_of : List (Vec Line) → List Line → List Entry
 calls_of full sheet = map entry_of (flat_map (λ v. v.items) full ++ sheet)
 
 abbrev pub history_of : Inside → History
-history_of b = record { job = record { graph = b.graph.value.graph; plan = b.plan.value }; calls = calls_of b.full.items b.sheet.items }
+history_of b =
+    record {
+      job = record { graph = b.graph.value.graph; plan = b.plan.value };
+      calls = calls_of b.full.items b.sheet.items;
+    }
 
 -- the map has the names that stand, each with its true batch
-abbrev pub HasStanding : {A : Type 0} → (A → BatchValue) → Job → Object → (BatchName → Option A) → Type 0
-HasStanding value j o find = (name : BatchName) → MatchOption (find name) (o.stands name ≡ false) (λ a. (o.stands name ≡ true) × (value a ≡ true_batch j name))
+abbrev pub HasStanding : {A : Type 0} → (A → BatchValue) → Job → Object → (BatchName → Option A) →
+    Type 0
+HasStanding value j o find = (name : BatchName) →
+    MatchOption (find name) (o.stands name ≡ false)
+    (λ a. (o.stands name ≡ true) × (value a ≡ true_batch j name))
 
 -- the content of the snapshot in the place of partition p
 abbrev pub held_at : {C : Type 0} → (C → State) → List (Option C) → ℕ → Option Holding
@@ -53,10 +60,12 @@ HasContents state o kept = (p : ℕ) → held_at state kept p ≡ o.kept p
 
 -- each snapshot stands for the partition of its place
 abbrev pub HasSnapshots : {C : Type 0} → (C → State) → Job → List (Option C) → Type 0
-HasSnapshots state j kept = (p : ℕ) → IfSome (slice_index_or kept p None) (λ c. StandsFor j p (state c).superstep (state c))
+HasSnapshots state j kept =
+    (p : ℕ) → IfSome (slice_index_or kept p None) (λ c. StandsFor j p (state c).superstep (state c))
 
 -- what a book of this history has
-pub record Keeps {A C : Type 0} (value : A → BatchValue) (state : C → State) (h : History) (entries floor : ℕ) (find : BatchName → Option A) (kept : List (Option C)) : Type 0 where
+pub record Keeps {A C : Type 0} (value : A → BatchValue) (state : C → State) (h : History)
+    (entries floor : ℕ) (find : BatchName → Option A) (kept : List (Option C)) : Type 0 where
   pub legal : IsLegal h
   pub entries_are : entries ≡ entries_of h
   pub floor_is : floor ≡ (board_of h).floor
@@ -66,7 +75,8 @@ pub record Keeps {A C : Type 0} (value : A → BatchValue) (state : C → State)
   pub snapshots : HasSnapshots state h.job kept
 
 abbrev pub IsBook : Inside → Type 0
-IsBook b = Keeps arc_value arc_value (history_of b) b.entries b.floor (get by_name b.standing) b.kept.items
+IsBook b =
+    Keeps arc_value arc_value (history_of b) b.entries b.floor (get by_name b.standing) b.kept.items
 
 -- one entry more, where there is room for it
 abbrev pub IsNoted : ℕ → ℕ → Event → History → History → Type 0

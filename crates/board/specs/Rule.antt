@@ -19,7 +19,16 @@ abbrev pub tickets_of : View → ℕ
 tickets_of v = min v.stage 1
 
 abbrev pub first_view : History → ℕ → View
-first_view log limit = record { number = 0; room = 2 ^ 63; seen = log; stage = 0; ticket = 0; told = None; limit = limit }
+first_view log limit =
+    record {
+      number = 0;
+      room = 2 ^ 63;
+      seen = log;
+      stage = 0;
+      ticket = 0;
+      told = None;
+      limit = limit;
+    }
 
 -- k is the number of none of this seat's, nor of a seat that it may make
 abbrev pub IsNotOf : ℕ → View → Type 0
@@ -33,7 +42,8 @@ pub record Fits (limit : ℕ) (log : History) (next serving : ℕ) (v : View) : 
   pub unused : (k : ℕ) → v.number < k → k < v.number + v.room → calls_by k log ≡ []
   pub out : 0 < v.stage → (0 < v.room) × (serving ≤ v.ticket) × (v.ticket < next)
   pub turn : v.stage ≡ 2 → (v.ticket ≡ serving) × (v.seen ≡ log)
-  pub told : (t : Told) → v.told ≡ Some t → Begins t.seen log × (calls_by t.number log ≡ calls_by t.number t.seen) × IsNotOf t.number v
+  pub told : (t : Told) → v.told ≡ Some t →
+      Begins t.seen log × (calls_by t.number log ≡ calls_by t.number t.seen) × IsNotOf t.number v
 
 -- two seats have no number in common, and no ticket; the number that one was told of is none of the other's
 pub record Apart (v w : View) : Type 0 where
@@ -44,8 +54,10 @@ pub record Apart (v w : View) : Type 0 where
 -- the book is at home, or out with the seat whose turn it is
 abbrev pub IsKeptSafe : History → State (Option History) View → Type 0
 IsKeptSafe log s =
-    ((s.homes ≡ some (Some log) ∷ []) × ((i : ℕ) (v : View) → get_elem? s.views i ≡ some v → v.stage ≢ 2))
-    ⊎ ((s.homes ≡ none ∷ []) × ((i : ℕ) × (v : View) × (get_elem? s.views i ≡ some v) × (v.stage ≡ 2)))
+    ((s.homes ≡ some (Some log) ∷ [])
+    × ((i : ℕ) (v : View) → get_elem? s.views i ≡ some v → v.stage ≢ 2))
+    ⊎ ((s.homes ≡ none ∷ [])
+    × ((i : ℕ) × (v : View) × (get_elem? s.views i ≡ some v) × (v.stage ≡ 2)))
 
 -- the rule: there is one legal history, whose length is word 0; words 1 and 2 are the next ticket and the one that is
 -- served, modulo 2^64, and the tickets between them are out; each seat knows what fits, and each two are apart
@@ -61,7 +73,8 @@ pub record IsLocked (s : State (Option History) View) : Type 0 where
   pub rooms : total room_of s.views ≤ 2 ^ 64
   pub home : IsKeptSafe log s
   pub each : (i : ℕ) (v : View) → get_elem? s.views i ≡ some v → Fits limit log next serving v
-  pub apart : (i j : ℕ) (v w : View) → i ≢ j → get_elem? s.views i ≡ some v → get_elem? s.views j ≡ some w → Apart v w
+  pub apart : (i j : ℕ) (v w : View) → i ≢ j → get_elem? s.views i ≡ some v →
+      get_elem? s.views j ≡ some w → Apart v w
 
 abbrev pub Sat : Type 0
 Sat = Me (Option History) View
@@ -70,10 +83,28 @@ abbrev pub At : Type 0
 At = Step (Option History)
 
 abbrev pub with_ticket : View → ℕ → View
-with_ticket v t = record { number = v.number; room = v.room; seen = v.seen; stage = 1; ticket = t; told = v.told; limit = v.limit }
+with_ticket v t =
+    record {
+      number = v.number;
+      room = v.room;
+      seen = v.seen;
+      stage = 1;
+      ticket = t;
+      told = v.told;
+      limit = v.limit;
+    }
 
 abbrev pub at_turn : View → History → View
-at_turn v log = record { number = v.number; room = v.room; seen = log; stage = 2; ticket = v.ticket; told = v.told; limit = v.limit }
+at_turn v log =
+    record {
+      number = v.number;
+      room = v.room;
+      seen = log;
+      stage = 2;
+      ticket = v.ticket;
+      told = v.told;
+      limit = v.limit;
+    }
 
 abbrev pub after_turn : View → View
 after_turn v = record {
@@ -92,7 +123,10 @@ Drew st m found m' = (t : ℕ) × (t % 2 ^ 64 ≡ found) × (m' ≡ (with_ticket
 
 -- the whole history goes on from what was seen, and has no other calls of this seat, nor of one that it may make
 abbrev pub GoesOn : View → History → Type 0
-GoesOn v log = Begins v.seen log × (calls_by v.number log ≡ calls_by v.number v.seen) × IsLegal log × ((k : ℕ) → v.number < k → k < v.number + v.room → calls_by k log ≡ []) × (entries_of log ≤ v.limit)
+GoesOn v log =
+    Begins v.seen log × (calls_by v.number log ≡ calls_by v.number v.seen) × IsLegal log
+    × ((k : ℕ) → v.number < k → k < v.number + v.room → calls_by k log ≡ [])
+    × (entries_of log ≤ v.limit)
 
 -- it is the seat's turn, and it has the slot with the book; or it waits on
 abbrev pub LookedIf : Bool → View → Sat → Type 0
@@ -111,12 +145,22 @@ Raised st m n m' = m' ≡ (after_turn m.0, [])
 
 -- a look at the length shows the whole history, with what was told
 abbrev pub at_look : View → History → View
-at_look v log = record { number = v.number; room = v.room; seen = log; stage = 0; ticket = v.ticket; told = None; limit = v.limit }
+at_look v log =
+    record {
+      number = v.number;
+      room = v.room;
+      seen = log;
+      stage = 0;
+      ticket = v.ticket;
+      told = None;
+      limit = v.limit;
+    }
 
 abbrev pub Counted : At → Sat → ℕ → Sat → Type 0
 Counted st m found m' =
     (log : History) × GoesOn m.0 log × (entries_of log ≡ found)
-    × ((t : Told) → m.0.told ≡ Some t → Begins t.seen log × (calls_by t.number log ≡ calls_by t.number t.seen))
+    × ((t : Told) → m.0.told ≡ Some t →
+    Begins t.seen log × (calls_by t.number log ≡ calls_by t.number t.seen))
     × (m' ≡ (at_look m.0 log, m.1))
 
 -- how many numbers a new seat is given
@@ -124,10 +168,28 @@ abbrev pub share : ℕ → ℕ
 share room = room / 1024
 
 abbrev pub keeper : View → View
-keeper v = record { number = v.number; room = v.room - share v.room; seen = v.seen; stage = v.stage; ticket = v.ticket; told = v.told; limit = v.limit }
+keeper v =
+    record {
+      number = v.number;
+      room = v.room - share v.room;
+      seen = v.seen;
+      stage = v.stage;
+      ticket = v.ticket;
+      told = v.told;
+      limit = v.limit;
+    }
 
 abbrev pub newcomer : View → View
-newcomer v = record { number = v.number + (v.room - share v.room); room = share v.room; seen = v.seen; stage = 0; ticket = 0; told = None; limit = v.limit }
+newcomer v =
+    record {
+      number = v.number + (v.room - share v.room);
+      room = share v.room;
+      seen = v.seen;
+      stage = 0;
+      ticket = 0;
+      told = None;
+      limit = v.limit;
+    }
 
 -- the seat is told of what another has seen, which ends
 abbrev pub with_news : View → View → View

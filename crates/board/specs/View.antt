@@ -23,7 +23,10 @@ pub record View : Type 0 where
 
 -- a job over the graph of no records
 abbrev pub no_job : Job
-no_job = record { graph = (network_of []).graph; plan = record { log2m = 0; seed = 0; parts = 0; limit = 0; vertices = 0; job = [] } }
+no_job = record {
+  graph = (network_of []).graph;
+  plan = record { log2m = 0; seed = 0; parts = 0; limit = 0; vertices = 0; job = [] };
+}
 
 -- what a seat that has ended knows
 abbrev pub spent_view : View

@@ -27,13 +27,16 @@ record_fault labels record_ i =
     else None
 
 -- the mark of each label says whether some of these records names it
-pub record MarksAre (labels : List (List ℕ)) (records : List (List (List ℕ))) (marks : List Bool) : Type 0 where
+pub record MarksAre (labels : List (List ℕ)) (records : List (List (List ℕ)))
+    (marks : List Bool) : Type 0 where
   pub count : length marks ≡ length labels
-  pub each : (v : ℕ) → v < length labels → slice_index_or marks v true ≡ list_any (names (slice_index_or labels v [])) records
+  pub each : (v : ℕ) → v < length labels →
+      slice_index_or marks v true ≡ list_any (names (slice_index_or labels v [])) records
 
 -- a record with these fields was marked
 abbrev pub MarksOne : List (List ℕ) → List (List ℕ) → List Bool → List Bool → Type 0
-MarksOne labels fields old new = (past : List (List (List ℕ))) → MarksAre labels past old → MarksAre labels (past ++ fields ∷ []) new
+MarksOne labels fields old new = (past : List (List (List ℕ))) → MarksAre labels past old →
+    MarksAre labels (past ++ fields ∷ []) new
 
 -- a network in which the marked vertices are counted
 abbrev pub with_marks : Network → List Bool → Network
@@ -48,4 +51,5 @@ SaysMarks labels records marks = (network : Network) → network.labels ≡ labe
 
 -- of every network with these labels the records say this error
 abbrev pub SaysRefusal : List (List ℕ) → List (List (List ℕ)) → CountedError → Type 0
-SaysRefusal labels records error = (network : Network) → network.labels ≡ labels → RefusesList (counted_as network records) error
+SaysRefusal labels records error =
+    (network : Network) → network.labels ≡ labels → RefusesList (counted_as network records) error

@@ -22,4 +22,6 @@ edges_into x ys = map (λ y. (y, x)) ys
 -- bit r of mask i is set where one of these edges leads from vertex i of partition p into partition r
 pub record AreMasks (parts p : ℕ) (edges : List (ℕ × ℕ)) (masks : List ℕ) : Type 0 where
   pub fits : (i : ℕ) → slice_index masks i < 2 ^ 64
-  pub bits : (i r : ℕ) → i < length masks → r < 64 → bit_at (slice_index masks i) r ≡ (if list_any (λ e. (e.0 == i * parts + p) && (e.1 % parts == r)) edges then 1 else 0)
+  pub bits : (i r : ℕ) → i < length masks → r < 64 →
+      bit_at (slice_index masks i) r
+      ≡ (if list_any (λ e. (e.0 == i * parts + p) && (e.1 % parts == r)) edges then 1 else 0)

@@ -15,22 +15,28 @@ first_place records label = position_or_len (bytes_eq label) (flat_map (λ r. r)
 
 -- no two vertices have one label
 abbrev pub LabelsAreDistinct : Type 0
-LabelsAreDistinct = (records : List (List (List ℕ))) (v w : ℕ) → v < length (labels_of records) → w < length (labels_of records) →
+LabelsAreDistinct = (records : List (List (List ℕ))) (v w : ℕ) → v < length (labels_of records) →
+    w < length (labels_of records) →
     label_at records v ≡ label_at records w → v ≡ w
 
 -- vertices are numbered by the first appearance of their labels
 abbrev pub LabelsAreInOrder : Type 0
-LabelsAreInOrder = (records : List (List (List ℕ))) (v w : ℕ) → v < w → w < length (labels_of records) →
+LabelsAreInOrder =
+    (records : List (List (List ℕ))) (v w : ℕ) → v < w → w < length (labels_of records) →
     first_place records (label_at records v) < first_place records (label_at records w)
 
 -- the labels are the fields of the records
 abbrev pub LabelsAreFields : Type 0
-LabelsAreFields = (records : List (List (List ℕ))) (label : List ℕ) → list_any (bytes_eq label) (labels_of records) ≡ list_any (bytes_eq label) (flat_map (λ r. r) records)
+LabelsAreFields = (records : List (List (List ℕ))) (label : List ℕ) →
+    list_any (bytes_eq label) (labels_of records)
+    ≡ list_any (bytes_eq label) (flat_map (λ r. r) records)
 
 -- there is an edge from y to x exactly where some record leads from the label of y to that of x
 abbrev pub EdgesAreNamed : Type 0
-EdgesAreNamed = (records : List (List (List ℕ))) (y x : ℕ) → y < length (labels_of records) → x < length (labels_of records) →
-    is_edge (network_of records).graph y x ≡ list_any (leads (label_at records y) (label_at records x)) records
+EdgesAreNamed = (records : List (List (List ℕ))) (y x : ℕ) → y < length (labels_of records) →
+    x < length (labels_of records) →
+    is_edge (network_of records).graph y x
+    ≡ list_any (leads (label_at records y) (label_at records x)) records
 
 -- the ends of each edge are vertices, and each edge stands once
 abbrev pub EdgesStandOnce : Type 0
@@ -42,7 +48,8 @@ vertex_at records label = position_or_len (bytes_eq label) (labels_of records)
 
 -- whether there is an edge from the vertex with the one label to that with the other
 abbrev pub joins : List (List (List ℕ)) → List ℕ → List ℕ → Bool
-joins records from to = is_edge (network_of records).graph (vertex_at records from) (vertex_at records to)
+joins records from to =
+    is_edge (network_of records).graph (vertex_at records from) (vertex_at records to)
 
 -- an input with a record of one field has just the edges that it has without it
 abbrev pub DeclaringAddsNoEdge : Type 0

@@ -11,7 +11,8 @@ use Rattle.ball_model.specs.RunText.{Numbers}
 
 -- the four numbers that a plan is asked for by
 abbrev pub numbers_of : ℕ → ℕ → ℕ → ℕ → Numbers
-numbers_of log2m seed parts limit = record { log2m = log2m; seed = seed; parts = parts; limit = limit }
+numbers_of log2m seed parts limit =
+    record { log2m = log2m; seed = seed; parts = parts; limit = limit }
 
 -- the plan of these numbers over a graph, but for its digest
 abbrev pub bare_plan : Numbers → Graph → PlanValue

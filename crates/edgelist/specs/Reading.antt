@@ -81,19 +81,22 @@ abbrev pub label_pair : List (List ℕ) → Edge → List ℕ × List ℕ
 label_pair labels e = (slice_index_or labels e.target [], slice_index_or labels e.source [])
 
 -- the labels and the edges that these records name
-pub record IsReadAs (records : List (List (List ℕ))) (labels : List (List ℕ)) (edges : List Edge) : Type 0 where
+pub record IsReadAs (records : List (List (List ℕ))) (labels : List (List ℕ))
+    (edges : List Edge) : Type 0 where
   pub labels_are : labels ≡ labels_of records
   pub below : AllBelow (length labels) edges
   pub edges_are : map (label_pair labels) edges ≡ pairs_in records
 
 -- at most so many labels and edges, and each edge of two of the labels
-pub record AreWithin (vertices number : ℕ) (labels : List (List ℕ)) (edges : List Edge) : Type 0 where
+pub record AreWithin (vertices number : ℕ) (labels : List (List ℕ))
+    (edges : List Edge) : Type 0 where
   pub below : AllBelow (length labels) edges
   pub few_labels : length labels ≤ vertices
   pub few_edges : length edges ≤ number
 
 -- an edge was added: to the place of the second among all labels, from that of the first
-pub record AddsEdge (source target : List ℕ) (labels : List (List ℕ)) (edges : List Edge) (labels' : List (List ℕ)) (edges' : List Edge) : Type 0 where
+pub record AddsEdge (source target : List ℕ) (labels : List (List ℕ)) (edges : List Edge)
+    (labels' : List (List ℕ)) (edges' : List Edge) : Type 0 where
   pub from : ℕ
   pub to : ℕ
   pub labels_are : labels' ≡ with_label (with_label labels source) target
@@ -124,11 +127,18 @@ pub record IsClean (limits : Limits) (records : List (List (List ℕ))) : Type 0
   pub none : (i : ℕ) → i < length records → fault_at limits records i ≡ None
 
 -- one more record with these fields made these of those
-pub record Adds (limits : Limits) (number : ℕ) (fields : List (List ℕ)) (labels : List (List ℕ)) (edges : List Edge) (labels' : List (List ℕ)) (edges' : List Edge) : Type 0 where
-  pub reads : (records : List (List (List ℕ))) → IsReadAs records labels edges → IsReadAs (records ++ fields ∷ []) labels' edges'
-  pub passes : (records : List (List (List ℕ))) → length records ≡ number → IsReadAs records labels edges → fault_at limits (records ++ fields ∷ []) number ≡ None
-  pub within : AreWithin limits.vertices number labels edges → AreWithin limits.vertices (number + 1) labels' edges'
+pub record Adds (limits : Limits) (number : ℕ) (fields : List (List ℕ)) (labels : List (List ℕ))
+    (edges : List Edge) (labels' : List (List ℕ)) (edges' : List Edge) : Type 0 where
+  pub reads : (records : List (List (List ℕ))) → IsReadAs records labels edges →
+      IsReadAs (records ++ fields ∷ []) labels' edges'
+  pub passes : (records : List (List (List ℕ))) → length records ≡ number →
+      IsReadAs records labels edges → fault_at limits (records ++ fields ∷ []) number ≡ None
+  pub within : AreWithin limits.vertices number labels edges →
+      AreWithin limits.vertices (number + 1) labels' edges'
 
 -- the error is the check that fails at this record
-pub record Stops (limits : Limits) (number : ℕ) (fields : List (List ℕ)) (labels : List (List ℕ)) (edges : List Edge) (error : EdgeError) : Type 0 where
-  pub at : (records more : List (List (List ℕ))) → length records ≡ number → IsReadAs records labels edges → FaultIs (fault_at limits (records ++ fields ∷ more) number) error
+pub record Stops (limits : Limits) (number : ℕ) (fields : List (List ℕ)) (labels : List (List ℕ))
+    (edges : List Edge) (error : EdgeError) : Type 0 where
+  pub at : (records more : List (List (List ℕ))) → length records ≡ number →
+      IsReadAs records labels edges →
+      FaultIs (fault_at limits (records ++ fields ∷ more) number) error

@@ -12,14 +12,25 @@ use Rattle.ball_model.specs.Input.{IsPlain, records}
 
 -- how the reader is set up, with this byte between fields
 abbrev pub config : ℕ → Config
-config d = record { delimiter = d; quote = 34; escape = None; double_quote = true; quoting = false; comment = Some 35; terminator = term.CRLF }
+config d =
+    record {
+      delimiter = d;
+      quote = 34;
+      escape = None;
+      double_quote = true;
+      quoting = false;
+      comment = Some 35;
+      terminator = term.CRLF;
+    }
 
 -- every row that the reader gives, from a state, some fields and the bytes of a field
 unfoldable pub rows : Config → State → List (List ℕ) → List ℕ → List ℕ → List (List (List ℕ))
 rows cfg s fs f [] = if ends_at_end s then (fs ++ (f ∷ [])) ∷ [] else []
 rows cfg s fs f (c ∷ rest) =
-    if is_end (step cfg s c).1 then fields_after (step cfg s c).1 fs f ∷ rows cfg (step cfg s c).0 [] [] rest
-    else rows cfg (step cfg s c).0 (fields_after (step cfg s c).1 fs f) (field_after (step cfg s c).1 c f) rest
+    if is_end (step cfg s c).1
+    then fields_after (step cfg s c).1 fs f ∷ rows cfg (step cfg s c).0 [] [] rest
+    else rows cfg (step cfg s c).0 (fields_after (step cfg s c).1 fs f)
+    (field_after (step cfg s c).1 c f) rest
 
 -- a row of one empty field: no line that is a record has these fields
 abbrev pub is_blank : List (List ℕ) → Bool
@@ -37,7 +48,8 @@ EndsAtBlank [] = Unit {0}
 EndsAtBlank (r ∷ rs) = (is_blank r ≡ true → rs ≡ []) × EndsAtBlank rs
 
 -- the reader is set up for records and has not failed, and the text's records are those so far and those left
-pub record IsLeft {R : Type 0} (rem : R → Option (List ℕ)) (d : ℕ) (text : List ℕ) (past : List (List (List ℕ))) (rdr : Reader R) : Type 0 where
+pub record IsLeft {R : Type 0} (rem : R → Option (List ℕ)) (d : ℕ) (text : List ℕ)
+    (past : List (List (List ℕ))) (rdr : Reader R) : Type 0 where
   pub trims : rdr.trim ≡ trim.None
   pub ready : Ready rdr
   pub configured : rdr.config ≡ config d
@@ -51,13 +63,17 @@ abbrev pub ForPlain : Option (List ℕ) → (List ℕ → Type 0) → Type 0
 ForPlain known P = (text : List ℕ) → known ≡ Some text → IsPlain text → P text
 
 -- what is said of the records of a text at which a reader begins
-abbrev pub FromStart : {R : Type 0} → (R → Option (List ℕ)) → Reader R → (List (List (List ℕ)) → Type 0) → Type 0
+abbrev pub FromStart : {R : Type 0} → (R → Option (List ℕ)) → Reader R →
+    (List (List (List ℕ)) → Type 0) → Type 0
 FromStart rem rdr P = (d : ℕ) (text : List ℕ) → IsLeft rem d text [] rdr → P (records d text)
 
 -- a record with these fields was read
-abbrev pub ReadsOne : {R : Type 0} → (R → Option (List ℕ)) → Reader R → Reader R → List (List ℕ) → Type 0
-ReadsOne rem old new fields = (d : ℕ) (text : List ℕ) (past : List (List (List ℕ))) → IsLeft rem d text past old → IsLeft rem d text (past ++ fields ∷ []) new
+abbrev pub ReadsOne : {R : Type 0} → (R → Option (List ℕ)) → Reader R → Reader R → List (List ℕ) →
+    Type 0
+ReadsOne rem old new fields = (d : ℕ) (text : List ℕ) (past : List (List (List ℕ))) →
+    IsLeft rem d text past old → IsLeft rem d text (past ++ fields ∷ []) new
 
 -- no record is left
 abbrev pub ReadsNone : {R : Type 0} → (R → Option (List ℕ)) → Reader R → Type 0
-ReadsNone rem old = (d : ℕ) (text : List ℕ) (past : List (List (List ℕ))) → IsLeft rem d text past old → records d text ≡ past
+ReadsNone rem old = (d : ℕ) (text : List ℕ) (past : List (List (List ℕ))) →
+    IsLeft rem d text past old → records d text ≡ past

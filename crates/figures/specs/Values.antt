@@ -26,4 +26,5 @@ figures_from log2m rows tallies = map (λ p. figures_of log2m p.0 p.1) (zip rows
 
 -- the figures are those of the row and the tally at place i, where a tally that is not there is d
 abbrev pub IsAt : ℕ → List (List ℕ) → List Tally → ℕ → Tally → Figures → Type 0
-IsAt log2m rows tallies i d figures = figures ≡ figures_of log2m (slice_index_or rows i []) (value_of (slice_index_or tallies i d))
+IsAt log2m rows tallies i d figures =
+    figures ≡ figures_of log2m (slice_index_or rows i []) (value_of (slice_index_or tallies i d))

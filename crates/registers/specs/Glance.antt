@@ -8,4 +8,5 @@ glanced_at width = (width - 1) ∷ map (λ line. line * 64) (range_with_len 0 (w
 
 -- whether one of these registers is less than that of another row
 abbrev pub is_less_at : List ℕ → List ℕ → List ℕ → Bool
-is_less_at places row other = list_any (λ k. nat_lt (slice_index row k) (slice_index other k)) places
+is_less_at places row other =
+    list_any (λ k. nat_lt (slice_index row k) (slice_index other k)) places

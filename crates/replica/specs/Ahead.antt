@@ -9,7 +9,9 @@ use Rattle.ball_model.specs.State.{State, content_of}
 
 -- slots, one for each of three supersteps and each source, as a table
 unfoldable pub table_of : ℕ → List (Option BatchValue) → List (List (Option BatchValue))
-table_of parts slots = map (λ i. map (λ q. slice_index_or slots (i * parts + q) None) (range_with_len 0 parts)) (range_with_len 0 3)
+table_of parts slots =
+    map (λ i. map (λ q. slice_index_or slots (i * parts + q) None) (range_with_len 0 parts))
+    (range_with_len 0 3)
 
 -- of each of three supersteps a place for each source
 pub record IsTable (parts : ℕ) (early : List (List (Option BatchValue))) : Type 0 where
@@ -42,4 +44,6 @@ early_batches early = flat_map batches_in early
 
 -- the names that are held of later supersteps, ascending by superstep, then by source
 unfoldable pub early_names : State → List BatchName
-early_names v = filter (λ name. nat_lt v.superstep name.superstep) (names_of v.part.plan v.part.number (content_of v))
+early_names v =
+    filter (λ name. nat_lt v.superstep name.superstep)
+    (names_of v.part.plan v.part.number (content_of v))

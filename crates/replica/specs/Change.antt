@@ -15,7 +15,9 @@ use Rattle.replica.specs.Level.{differences, next_tallies, total_of}
 -- w is v once it has received a batch that it did not hold
 pub record Receives (b : BatchValue) (v w : State) : Type 0 where
   pub shown : SameShown w v
-  pub names : (s q : ℕ) → (content_of w).holds s q ≡ after_take true (content_of v).holds b.name.superstep b.name.source s q
+  pub names : (s q : ℕ) →
+      (content_of w).holds s q
+      ≡ after_take true (content_of v).holds b.name.superstep b.name.source s q
   pub stands : (j : Job) (p t : ℕ) → StandsFor j p t v → b ≡ true_batch j b.name → StandsFor j p t w
 
 -- w is v one superstep later: what is accumulated with the own partition's changed rows becomes the rows, and what is
@@ -25,7 +27,8 @@ pub record Advances (v w : State) : Type 0 where
   pub superstep : w.superstep ≡ v.superstep + 1
   pub rise : AllRise v.part.plan.log2m v.rows w.rows
   pub gathers : (j : Job) (p t : ℕ) → StandsFor j p t v →
-      w.rows ≡ accumulated_of j p t (λ z. is_heard j.plan.parts v.heard z || (z % j.plan.parts == p))
+      w.rows ≡ accumulated_of j p t
+      (λ z. is_heard j.plan.parts v.heard z || (z % j.plan.parts == p))
   pub marks : w.marks ≡ differences v.rows w.rows (length v.part.preds)
   pub tallies : w.tallies
       ≡ next_tallies v.part.plan.log2m (v.superstep + 1) w.rows v.tallies (length v.part.preds)

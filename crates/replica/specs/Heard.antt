@@ -12,25 +12,33 @@ use Rattle.replica.specs.Spread.{rows_after, touched_at, AreTouched}
 
 -- where the registers are the counter of a changed vertex z, what was heard becomes that and z
 abbrev pub RowIsHeard : List (List ℕ) → ℕ → List ℕ → List (List ℕ) → List (List ℕ) → Type 0
-RowIsHeard targets z registers old new = (j : Job) (p t : ℕ) (heard : ℕ → Bool) → IsJob j → targets ≡ targets_of (part_of j p) →
-    IsTrue (changed_at (mixing_of j.plan) j.graph z t) → registers ≡ ball_counter (mixing_of j.plan) j.graph z t →
+RowIsHeard targets z registers old new =
+    (j : Job) (p t : ℕ) (heard : ℕ → Bool) → IsJob j → targets ≡ targets_of (part_of j p) →
+    IsTrue (changed_at (mixing_of j.plan) j.graph z t) →
+    registers ≡ ball_counter (mixing_of j.plan) j.graph z t →
     old ≡ accumulated_of j p t heard → new ≡ accumulated_of j p t (λ w. heard w || (w == z))
 
 -- where the batch is the true one of source q, what was heard becomes that and the vertices of q
 abbrev pub BatchIsHeard : List (List ℕ) → BatchValue → List (List ℕ) → List (List ℕ) → Type 0
-BatchIsHeard targets batch old new = (j : Job) (p t q : ℕ) (heard : ℕ → Bool) → IsJob j → targets ≡ targets_of (part_of j p) →
+BatchIsHeard targets batch old new =
+    (j : Job) (p t q : ℕ) (heard : ℕ → Bool) → IsJob j → targets ≡ targets_of (part_of j p) →
     batch ≡ true_batch j (record { superstep = t; source = q; target = p }) →
-    old ≡ accumulated_of j p t heard → new ≡ accumulated_of j p t (λ w. heard w || (w % j.plan.parts == q))
+    old ≡ accumulated_of j p t heard →
+    new ≡ accumulated_of j p t (λ w. heard w || (w % j.plan.parts == q))
 
 -- where the rows are the counters and the marks say which are changed, what was heard becomes that and the own vertices
-abbrev pub OwnIsHeard : List (List ℕ) → PartValue → List (List ℕ) → List Bool → List (List ℕ) → List (List ℕ) → Type 0
-OwnIsHeard targets part rows marks old new = (j : Job) (p t : ℕ) (heard : ℕ → Bool) → IsJob j → p < j.plan.parts →
+abbrev pub OwnIsHeard : List (List ℕ) → PartValue → List (List ℕ) → List Bool → List (List ℕ) →
+    List (List ℕ) → Type 0
+OwnIsHeard targets part rows marks old new =
+    (j : Job) (p t : ℕ) (heard : ℕ → Bool) → IsJob j → p < j.plan.parts →
     part ≡ part_of j p → targets ≡ targets_of part → rows ≡ rows_of j p t → marks ≡ marks_of j p t →
-    old ≡ accumulated_of j p t heard → new ≡ accumulated_of j p t (λ w. heard w || (w % j.plan.parts == p))
+    old ≡ accumulated_of j p t heard →
+    new ≡ accumulated_of j p t (λ w. heard w || (w % j.plan.parts == p))
 
 -- each mark is set where it was set or its accumulator has become another
 abbrev pub MarksChanges : List Bool → List (List ℕ) → List (List ℕ) → List Bool → Type 0
-MarksChanges marks old new later = (i : ℕ) → i < length old → slice_index_or later i false ≡ touched_at marks old new i
+MarksChanges marks old new later =
+    (i : ℕ) → i < length old → slice_index_or later i false ≡ touched_at marks old new i
 
 -- before other registers are spread to these places, marks are set of rows alone that this makes others
 abbrev pub MarksBefore : List ℕ → List ℕ → List (List ℕ) → List Bool → List Bool → Type 0
@@ -40,4 +48,5 @@ MarksBefore places registers rows marks later = (i : ℕ) → i < length rows �
 
 -- whatever the rows, marks that said which accumulators differ from them still do
 abbrev pub StayTouched : List (List ℕ) → List Bool → List (List ℕ) → List Bool → Type 0
-StayTouched old marks new later = (rows : List (List ℕ)) → AreTouched rows old marks → AreTouched rows new later
+StayTouched old marks new later =
+    (rows : List (List ℕ)) → AreTouched rows old marks → AreTouched rows new later

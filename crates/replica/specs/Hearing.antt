@@ -27,10 +27,13 @@ abbrev pub told_below : (ℕ → Option BatchValue) → ℕ → ℕ → Option B
 told_below told n q = if nat_lt q n then told q else None
 
 -- what the sources tell is heard too
-pub record Hears (log2m : ℕ) (targets : List (List ℕ)) (told : ℕ → Option BatchValue) (a b : Hearing) : Type 0 where
+pub record Hears (log2m : ℕ) (targets : List (List ℕ)) (told : ℕ → Option BatchValue)
+    (a b : Hearing) : Type 0 where
   pub count : length b.heard ≡ length a.heard
-  pub sources : (q : ℕ) → slice_index_or b.heard q false ≡ (slice_index_or a.heard q false || is_some (told q))
+  pub sources : (q : ℕ) →
+      slice_index_or b.heard q false ≡ (slice_index_or a.heard q false || is_some (told q))
   pub rise : AllRise log2m a.accumulated b.accumulated
   pub stands : (j : Job) (p t : ℕ) → IsJob j → targets ≡ targets_of (part_of j p) →
-      ((q : ℕ) → IfSome (told q) (λ b. b ≡ true_batch j (record { superstep = t; source = q; target = p }))) →
+      ((q : ℕ) →
+      IfSome (told q) (λ b. b ≡ true_batch j (record { superstep = t; source = q; target = p }))) →
       IsTrueHearing j p t a → IsTrueHearing j p t b

@@ -22,9 +22,12 @@ pub record IsFrom (plan : PlanValue) (source : ℕ) (b : BatchValue) : Type 0 wh
 
 -- of each superstep that follows t a place for each source; what is kept has the plan, and the name of its place, and
 -- none is of the own partition
-pub record AreEarly (plan : PlanValue) (p t : ℕ) (early : List (List (Option BatchValue))) : Type 0 where
+pub record AreEarly (plan : PlanValue) (p t : ℕ)
+    (early : List (List (Option BatchValue))) : Type 0 where
   pub table : IsTable plan.parts early
-  pub kept : (i q : ℕ) → IfSome (early_at early i q) (IsOfName plan (record { superstep = t + 1 + i; source = q; target = p }))
+  pub kept : (i q : ℕ) →
+      IfSome (early_at early i q)
+      (IsOfName plan (record { superstep = t + 1 + i; source = q; target = p }))
   pub own : (i : ℕ) → early_at early i p ≡ None
 
 -- flags of 64 sources; only other partitions' are set
@@ -45,16 +48,20 @@ pub record Rises (log2m : ℕ) (old new : List ℕ) : Type 0 where
 -- all rows have
 pub record AllRise (log2m : ℕ) (old new : List (List ℕ)) : Type 0 where
   pub count : length new ≡ length old
-  pub rises : (i : ℕ) → i < length old → Rises log2m (slice_index_or old i []) (slice_index_or new i [])
+  pub rises : (i : ℕ) → i < length old →
+      Rises log2m (slice_index_or old i []) (slice_index_or new i [])
 
 -- where z is of the partition, its place is below the number of its vertices
 pub record IsOwn (parts number count z : ℕ) : Type 0 where
   pub below : z % parts ≡ number → z / parts < count
 
 -- the last estimates are at most those of the rows, and the same where a row is not marked
-pub record AreLasts (log2m : ℕ) (rows : List (List ℕ)) (marks : List Bool) (tallies : List TallyValue) : Type 0 where
-  pub grown : (i : ℕ) → i < length rows → (slice_index_or tallies i nothing).last ≤ estimate_of log2m (slice_index_or rows i [])
-  pub same : (i : ℕ) → i < length rows → slice_index_or marks i false ≡ false → (slice_index_or tallies i nothing).last ≡ estimate_of log2m (slice_index_or rows i [])
+pub record AreLasts (log2m : ℕ) (rows : List (List ℕ)) (marks : List Bool)
+    (tallies : List TallyValue) : Type 0 where
+  pub grown : (i : ℕ) → i < length rows →
+      (slice_index_or tallies i nothing).last ≤ estimate_of log2m (slice_index_or rows i [])
+  pub same : (i : ℕ) → i < length rows → slice_index_or marks i false ≡ false →
+      (slice_index_or tallies i nothing).last ≡ estimate_of log2m (slice_index_or rows i [])
 
 -- a sum for each superstep up to t; the last is the one given, and none is less than the one before
 pub record AreSums (t last : ℕ) (sums : List ℕ) : Type 0 where

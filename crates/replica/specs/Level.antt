@@ -51,10 +51,13 @@ level_verdict v =
 
 -- the verdict, and the answer to a close, as they are read off what the replica has
 abbrev pub found_verdict : State → Option Verdict
-found_verdict v = verdict_unless (missing_of v.part.plan.parts v.part.number (content_of v)) (level_verdict v)
+found_verdict v =
+    verdict_unless (missing_of v.part.plan.parts v.part.number (content_of v)) (level_verdict v)
 
 abbrev pub found_close : State → Result ℕ CloseError
-found_close v = close_unless (missing_of v.part.plan.parts v.part.number (content_of v)) (level_verdict v) v.superstep
+found_close v =
+    close_unless (missing_of v.part.plan.parts v.part.number (content_of v))
+    (level_verdict v) v.superstep
 
 -- whether an answer to a close is that the run is over
 abbrev pub is_finished : Result ℕ CloseError → Bool

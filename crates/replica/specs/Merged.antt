@@ -22,4 +22,5 @@ pub record Absorbs (v o w : State) : Type 0 where
   pub shown : ShowsAs w (further v o)
   pub names : (s q : ℕ) →
       (content_of w).holds s q ≡ (union_of (content_of v) (content_of o)).holds s q
-  pub stands : (j : Job) (p t u : ℕ) → StandsFor j p t v → StandsFor j p u o → StandsFor j p (max t u) w
+  pub stands : (j : Job) (p t u : ℕ) → StandsFor j p t v → StandsFor j p u o →
+      StandsFor j p (max t u) w

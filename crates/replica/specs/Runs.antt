@@ -25,9 +25,12 @@ pub record HasContent (j : Job) (p : ℕ) (c : Content) (v : State) : Type 0 whe
   pub names : (s q : ℕ) → (content_of v).holds s q ≡ c.holds s q
 
 -- what a call of `take` with the true batch of that name promises, of its answer
-pub record Takes (j : Job) (p : ℕ) (name : BatchName) (r : Result Taken TakeError) (v w : State) : Type 0 where
+pub record Takes (j : Job) (p : ℕ) (name : BatchName) (r : Result Taken TakeError)
+    (v w : State) : Type 0 where
   pub answer : r ≡ take_of v.part.plan v.part.number (content_of v) j.plan name
-  pub names : (s q : ℕ) → (content_of w).holds s q ≡ after_take (is_new r) (content_of v).holds name.superstep name.source s q
+  pub names : (s q : ℕ) →
+      (content_of w).holds s q
+      ≡ after_take (is_new r) (content_of v).holds name.superstep name.source s q
   pub stands : (t : ℕ) → StandsFor j p t v → StandsFor j p t w
 
 -- what a call of `close` promises, of its answer
@@ -38,7 +41,8 @@ pub record Closes (j : Job) (p : ℕ) (r : Result ℕ CloseError) (v w : State) 
   pub stands : (t : ℕ) → StandsFor j p t v → OnOk r (StandsFor j p (t + 1) w)
 
 -- what a call of `merge` with a snapshot of a replica of the same partition with content d promises, of its answer
-pub record Merges (j : Job) (p : ℕ) (d : Content) (r : Result (Unit {0}) MergeError) (v w : State) : Type 0 where
+pub record Merges (j : Job) (p : ℕ) (d : Content) (r : Result (Unit {0}) MergeError)
+    (v w : State) : Type 0 where
   pub answer : (t : ℕ) → StandsFor j p t v → r ≢ Err refusal.Memory → r ≡ Ok tt
   pub refused : OnErr r (w ≡ v)
   pub names : OnOk r ((s q : ℕ) → (content_of w).holds s q ≡ (union_of (content_of v) d).holds s q)
@@ -54,42 +58,54 @@ Did j p call answer v w = ⊥
 -- these calls, one after the other, each with its answer, made the one of the other
 unfoldable pub Made : Job → ℕ → State → List Call → List Answer → State → Type 0
 Made j p v [] [] w = w ≡ v
-Made j p v (call ∷ calls) (answer ∷ answers) w = (u : State) × Did j p call answer v u × Made j p u calls answers w
+Made j p v (call ∷ calls) (answer ∷ answers) w =
+    (u : State) × Did j p call answer v u × Made j p u calls answers w
 Made j p v calls answers w = ⊥
 
 -- from the start, by any list of calls, a replica stands for what the calls make of its content
 abbrev pub RunStands : Type 0
-RunStands = (j : Job) (p : ℕ) (calls : List Call) (answers : List Answer) (v w : State) → HasContent j p start_content v → Made j p v calls answers w →
+RunStands = (j : Job) (p : ℕ) (calls : List Call) (answers : List Answer) (v w : State) →
+    HasContent j p start_content v → Made j p v calls answers w →
     HasContent j p (content_after_all j p start_content calls) w
 
 -- and each call answers what the content says
 abbrev pub RunAnswers : Type 0
-RunAnswers = (j : Job) (p : ℕ) (calls : List Call) (answers : List Answer) (v w : State) → HasContent j p start_content v → Made j p v calls answers w →
+RunAnswers = (j : Job) (p : ℕ) (calls : List Call) (answers : List Answer) (v w : State) →
+    HasContent j p start_content v → Made j p v calls answers w →
     answers ≡ answers_of j p start_content calls
 
 -- its superstep is at most the end
 abbrev pub RunIsInTime : Type 0
-RunIsInTime = (j : Job) (p t : ℕ) (v : State) → StandsFor j p t v → t ≤ end_of (mixing_of j.plan) j.graph j.plan.limit
+RunIsInTime = (j : Job) (p t : ℕ) (v : State) → StandsFor j p t v →
+    t ≤ end_of (mixing_of j.plan) j.graph j.plan.limit
 
 -- the verdict is stable exactly where the level is held, the superstep is not 0, and no vertex of the graph is changed
 abbrev pub StableIsQuiet : Type 0
 StableIsQuiet = (j : Job) (p t : ℕ) (v : State) → StandsFor j p t v →
     (verdict_of j p (content_of v) ≡ Some verdict.Stable)
-    ↔ ((missing_of j.plan.parts p (content_of v) ≡ None) × (1 ≤ t) × (any_changed (mixing_of j.plan) j.graph t ≡ false))
+    ↔ ((missing_of j.plan.parts p (content_of v) ≡ None) × (1 ≤ t)
+    × (any_changed (mixing_of j.plan) j.graph t ≡ false))
 
 -- then each row is the counter of all counted vertices that can reach its vertex
 abbrev pub StableReaches : Type 0
-StableReaches = (j : Job) (p t x : ℕ) (v : State) (reaches : ℕ → Bool) → StandsFor j p t v → verdict_of j p (content_of v) ≡ Some verdict.Stable → x < j.graph.vertices → x % j.plan.parts ≡ p →
-    ((y : ℕ) → y < j.graph.vertices → IsTrue (reaches y) ↔ ((path : List ℕ) × IsTrue (is_path j.graph y x path))) →
-    slice_index_or v.rows (x / j.plan.parts) [] ≡ counter_of (mixing_of j.plan) j.graph.vertices (λ y. reaches y && is_counted j.graph y)
+StableReaches = (j : Job) (p t x : ℕ) (v : State) (reaches : ℕ → Bool) → StandsFor j p t v →
+    verdict_of j p (content_of v) ≡ Some verdict.Stable → x < j.graph.vertices →
+    x % j.plan.parts ≡ p →
+    ((y : ℕ) → y < j.graph.vertices →
+    IsTrue (reaches y) ↔ ((path : List ℕ) × IsTrue (is_path j.graph y x path))) →
+    slice_index_or v.rows (x / j.plan.parts) []
+    ≡ counter_of (mixing_of j.plan) j.graph.vertices (λ y. reaches y && is_counted j.graph y)
 
 -- replicas that stand for one partition and superstep and hold the same names are equal in all that they have
 abbrev pub SameContentIsSame : Type 0
-SameContentIsSame = (j : Job) (p : ℕ) (c : Content) (v w : State) → HasContent j p c v → HasContent j p c w → IsState v → IsState w → v ≡ w
+SameContentIsSame = (j : Job) (p : ℕ) (c : Content) (v w : State) → HasContent j p c v →
+    HasContent j p c w → IsState v → IsState w → v ≡ w
 
 -- and the same calls on both have the same answers, and leave both with one content
 abbrev pub SameCallsAlike : Type 0
-SameCallsAlike = (j : Job) (p : ℕ) (c : Content) (calls : List Call) (left right : List Answer) (v v2 w w2 : State) → HasContent j p c v → HasContent j p c w →
+SameCallsAlike =
+    (j : Job) (p : ℕ) (c : Content) (calls : List Call) (left right : List Answer)
+    (v v2 w w2 : State) → HasContent j p c v → HasContent j p c w →
     Made j p v calls left v2 → Made j p w calls right w2 →
     (left ≡ right) × ((e : Content) × HasContent j p e v2 × HasContent j p e w2)
 

@@ -11,7 +11,8 @@ has_bit mask r = mask / 2 ^ r % 2 == 1
 -- vertex i and its registers, where it changed and has an edge into the target
 abbrev pub sent_row : State → ℕ → ℕ → List (ℕ × List ℕ)
 sent_row v target i =
-    if slice_index_or v.marks i false && has_bit (slice_index v.part.feeds i) target then (i * v.part.plan.parts + v.part.number, slice_index_or v.rows i []) ∷ []
+    if slice_index_or v.marks i false && has_bit (slice_index v.part.feeds i) target
+    then (i * v.part.plan.parts + v.part.number, slice_index_or v.rows i []) ∷ []
     else []
 
 -- those of the first n vertices

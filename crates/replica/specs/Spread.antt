@@ -12,7 +12,8 @@ stands_in xs x = list_any (λ y. y == x) xs
 -- row i, raised by other registers where i is one of the places
 unfoldable pub row_after : List ℕ → List ℕ → List (List ℕ) → ℕ → List ℕ
 row_after places registers rows i =
-    if stands_in places i then max_each (slice_index_or rows i []) registers else slice_index_or rows i []
+    if stands_in places i then max_each (slice_index_or rows i []) registers
+    else slice_index_or rows i []
 
 -- rows, raised by other registers at these places
 unfoldable pub rows_after : List ℕ → List ℕ → List (List ℕ) → List (List ℕ)
@@ -28,7 +29,8 @@ rows_after_all targets (other ∷ rest) rows =
 -- of the first n vertices of partition p those whose row is marked, each with its row
 unfoldable pub marked_rows : ℕ → ℕ → List (List ℕ) → List Bool → ℕ → List (ℕ × List ℕ)
 marked_rows parts p rows marks n =
-    map (λ i. (i * parts + p, slice_index_or rows i [])) (filter (λ i. slice_index_or marks i false) (range_with_len 0 n))
+    map (λ i. (i * parts + p, slice_index_or rows i []))
+    (filter (λ i. slice_index_or marks i false) (range_with_len 0 n))
 
 -- the vertices of a part whose row is marked, each with its row
 abbrev pub own_rows : PartValue → List (List ℕ) → List Bool → List (ℕ × List ℕ)
@@ -36,7 +38,9 @@ own_rows part rows marks = marked_rows part.plan.parts part.number rows marks (l
 
 -- row i is marked where it was marked or has become another
 abbrev pub touched_at : List Bool → List (List ℕ) → List (List ℕ) → ℕ → Bool
-touched_at marks old new i = slice_index_or marks i false || not (bytes_eq (slice_index_or new i []) (slice_index_or old i []))
+touched_at marks old new i =
+    slice_index_or marks i false
+    || not (bytes_eq (slice_index_or new i []) (slice_index_or old i []))
 
 -- each place is one of so many
 abbrev pub LeadInside : ℕ → List (List ℕ) → Type 0
@@ -46,5 +50,9 @@ LeadInside count targets = All (λ places. All (λ i. i < count) places) targets
 pub record AreTouched (rows accumulated : List (List ℕ)) (touched : List Bool) : Type 0 where
   pub count : length accumulated ≡ length rows
   pub marks : length touched ≡ length rows
-  pub above : (i : ℕ) → i < length rows → max_each (slice_index_or rows i []) (slice_index_or accumulated i []) ≡ slice_index_or accumulated i []
-  pub differ : (i : ℕ) → i < length rows → slice_index_or touched i false ≡ not (bytes_eq (slice_index_or accumulated i []) (slice_index_or rows i []))
+  pub above : (i : ℕ) → i < length rows →
+      max_each (slice_index_or rows i []) (slice_index_or accumulated i [])
+      ≡ slice_index_or accumulated i []
+  pub differ : (i : ℕ) → i < length rows →
+      slice_index_or touched i false
+      ≡ not (bytes_eq (slice_index_or accumulated i []) (slice_index_or rows i []))

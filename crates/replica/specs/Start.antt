@@ -11,12 +11,15 @@ use Rattle.replica.specs.Level.{total_of}
 
 -- the registers of a vertex alone: its rank in its register
 unfoldable pub alone : PlanValue → ℕ → List ℕ
-alone plan x = slice_set (replicate (2 ^ plan.log2m) 0) (index_of plan.log2m (hash_of plan.seed x)) (rank_of plan.log2m (hash_of plan.seed x))
+alone plan x =
+    slice_set (replicate (2 ^ plan.log2m) 0) (index_of plan.log2m (hash_of plan.seed x))
+    (rank_of plan.log2m (hash_of plan.seed x))
 
 -- the registers that vertex i of a part begins with: those of itself alone where it is counted, else none
 unfoldable pub first_row : PartValue → ℕ → List ℕ
 first_row part i =
-    if slice_index_or part.counted i false then alone part.plan (i * part.plan.parts + part.number) else replicate (2 ^ part.plan.log2m) 0
+    if slice_index_or part.counted i false then alone part.plan (i * part.plan.parts + part.number)
+    else replicate (2 ^ part.plan.log2m) 0
 
 -- those of the vertices of a part
 unfoldable pub first_rows : PartValue → List (List ℕ)

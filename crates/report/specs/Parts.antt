@@ -23,16 +23,19 @@ figures_in v = figures_from v.part.plan.log2m v.rows v.tallies
 
 -- the lines of the supersteps from 0 on, of their totals
 abbrev pub superstep_lines : List ℕ → List ℕ
-superstep_lines totals = flat_map (λ i. superstep_line i (slice_index totals i)) (range_with_len 0 (length totals))
+superstep_lines totals =
+    flat_map (λ i. superstep_line i (slice_index totals i)) (range_with_len 0 (length totals))
 
 -- the lines before the vertices
 unfoldable pub head_text : List ℕ → ℕ → Bool → List ℕ
-head_text totals end stable = superstep_lines totals ++ end_line end stable ++ gain_line (gain_of totals)
+head_text totals end stable =
+    superstep_lines totals ++ end_line end stable ++ gain_line (gain_of totals)
 
 -- the line of a vertex
 unfoldable pub figures_line : List ℕ → Figures → List ℕ
 figures_line label f =
-    line_text (codes "vertex" ∷ label ∷ fixed6_of f.estimate ∷ fixed6_of f.harmonic ∷ fixed6_of f.closeness ∷ fixed6_of f.lin ∷ decimal f.empty ∷ [])
+    line_text (codes "vertex" ∷ label ∷ fixed6_of f.estimate ∷ fixed6_of f.harmonic
+    ∷ fixed6_of f.closeness ∷ fixed6_of f.lin ∷ decimal f.empty ∷ [])
 
 -- no figures
 abbrev pub nothing : Figures
@@ -44,7 +47,8 @@ figures_among first last v = take (last - first) (drop first (figures_in v))
 
 -- the figures of vertex x among those of each partition from place `first` on: it is vertex x / P of partition x % P
 abbrev pub figures_at : ℕ → List (List Figures) → ℕ → Figures
-figures_at first parts x = slice_index_or (slice_index_or parts (x % length parts) []) (x / length parts - first) nothing
+figures_at first parts x =
+    slice_index_or (slice_index_or parts (x % length parts) []) (x / length parts - first) nothing
 
 -- they are among these
 pub record HasPlace (first : ℕ) (parts : List (List Figures)) (x : ℕ) : Type 0 where
@@ -55,7 +59,8 @@ pub record HasPlace (first : ℕ) (parts : List (List Figures)) (x : ℕ) : Type
 -- the lines of n vertices from a on
 unfoldable pub vertices_text : List (List ℕ) → ℕ → List (List Figures) → ℕ → ℕ → List ℕ
 vertices_text labels first parts a n =
-    flat_map (λ x. figures_line (slice_index_or labels x []) (figures_at first parts x)) (range_with_len a n)
+    flat_map (λ x. figures_line (slice_index_or labels x []) (figures_at first parts x))
+    (range_with_len a n)
 
 -- figures of partitions as lists
 abbrev pub lists_in : List (Vec Figures Global) → List (List Figures)
@@ -63,7 +68,8 @@ lists_in parts = map (λ own. own.items) parts
 
 -- the lines of the vertices from `from` on and below `to`, of the figures of all replicas
 abbrev pub lines_between : List (List ℕ) → List State → ℕ → ℕ → List ℕ
-lines_between labels replicas from to = vertices_text labels 0 (map figures_in replicas) from (to - from)
+lines_between labels replicas from to =
+    vertices_text labels 0 (map figures_in replicas) from (to - from)
 
 -- the figures of a replica are those of the vertices of its partition
 pub record HasSize (v : State) : Type 0 where

@@ -25,7 +25,9 @@ says_stable (Some verdict.Limit) = false
 
 -- a replica of partition p under the plan, at superstep t, whose verdict says that the run has ended
 abbrev pub is_ready : PlanValue → ℕ → ℕ → State → Bool
-is_ready plan t p v = (v.part.number == p) && same_plan plan v.part.plan && (v.superstep == t) && says_end (found_verdict v)
+is_ready plan t p v =
+    (v.part.number == p) && same_plan plan v.part.plan && (v.superstep == t)
+    && says_end (found_verdict v)
 
 -- such replicas, of partition p and those that follow
 unfoldable pub ready_from : PlanValue → ℕ → ℕ → List State → Bool
@@ -35,15 +37,18 @@ ready_from plan t p (v ∷ vs) = is_ready plan t p v && ready_from plan t (p + 1
 -- a replica of each partition, in order, of one plan, at one superstep, whose verdicts say that the run has ended
 unfoldable pub are_ready : List State → Bool
 are_ready [] = false
-are_ready (v ∷ vs) = (length (v ∷ vs) == v.part.plan.parts) && ready_from v.part.plan v.superstep 0 (v ∷ vs)
+are_ready (v ∷ vs) =
+    (length (v ∷ vs) == v.part.plan.parts) && ready_from v.part.plan v.superstep 0 (v ∷ vs)
 
 -- the replica at place p stands for partition p of the job, at its superstep
 pub record AllStand (j : Job) (replicas : List State) : Type 0 where
-  pub each : (p : ℕ) (d : State) → p < length replicas → StandsFor j p (slice_index_or replicas p d).superstep (slice_index_or replicas p d)
+  pub each : (p : ℕ) (d : State) → p < length replicas →
+      StandsFor j p (slice_index_or replicas p d).superstep (slice_index_or replicas p d)
 
 -- what is found in the replica is the verdict of each job for which it stands
 abbrev pub FindsVerdict : State → Type 0
-FindsVerdict v = (j : Job) (p t : ℕ) → StandsFor j p t v → found_verdict v ≡ verdict_of j p (content_of v)
+FindsVerdict v =
+    (j : Job) (p t : ℕ) → StandsFor j p t v → found_verdict v ≡ verdict_of j p (content_of v)
 
 -- the report of a job whose vertices have these labels
 abbrev pub job_report : Job → List (List ℕ) → List ℕ
