@@ -1,15 +1,14 @@
 -- Histories of a board that go on.
-use Rattle.std.proofs.Common.{◌≡◌, ◌⊎◌, ℕ, ◌<◌, ◌≤◌, max, Bool, true, false, not, ◌==◌, ◌&&◌, ◌||◌, nat_lt, nat_le, List, [], ◌∷◌, ◌++◌, Option, None, Some, refl, ap, sym, ◌∙◌, subst, inl, inr, ⊎_elim, arith, append_assoc, append-nil, if◌then◌else◌}
+use Rattle.std.proofs.Common.{◌≡◌, ◌⊎◌, ℕ, ◌≤◌, Bool, true, false, not, ◌==◌, ◌&&◌, nat_lt, List, [], ◌∷◌, ◌++◌, Option, None, Some, refl, ap, sym, ◌∙◌, subst, inl, inr, ⊎_elim, arith, append_assoc, append-nil, if◌then◌else◌}
 use Rattle.std.specs.List.{AllByRecursion}
-use Rattle.std.proofs.lemmas.Bool.{leb-true, le-leb, ltb-true, ltb-false, le-ltb, and_parts, and_from, eqb-true, eq-eqb, ne_eqb, or_cases, or_left, or_right, not-true, not_from_false, cases_Bool}
-use mathlib.Core.List.{IsPrefix}
+use Rattle.std.proofs.lemmas.Bool.{leb-true, le-leb, ltb-true, ltb-false, le-ltb, and_parts, and_from, eqb-true, eq-eqb, ne_eqb, or_cases, or_left, or_right, not-true, not_from_false}
 use Rattle.ball_model.specs.declared.names.BatchName.{BatchName}
 use Rattle.ball_model.specs.declared.history.Posted.{Posted}
 use Rattle.ball_model.specs.declared.history.Posted.TheVariants as posted
 use Rattle.ball_model.specs.declared.history.Kept.{Kept}
 use Rattle.ball_model.specs.declared.history.Kept.TheVariants as kept
 use Rattle.ball_model.specs.Join.{Holding}
-use Rattle.ball_model.specs.History.{Event, Post, Fetch, Keep, Recall, Drop, Entry, History, with_entry, Begins, events_by, calls_by, same_name, Object, empty, post_reply, is_further, keep_reply, is_kept_from, is_new_post, is_new_keep, after, after_all, board_of, IsAnswer, AreAnswers, IsLegal, SparesName, entry, IsPosted, StandingIsPosted, PostedStands, KeptNeverGoesBack, FloorNeverGoesDown, NothingBelowFloor, BeginningIsLegal, LastIsAnswer}
+use Rattle.ball_model.specs.History.{Event, Post, Fetch, Keep, Recall, Drop, Entry, History, with_entry, Begins, events_by, calls_by, same_name, Object, empty, is_further, keep_reply, is_kept_from, is_new_post, is_new_keep, after, after_all, board_of, IsAnswer, AreAnswers, IsLegal, SparesName, entry, StandingIsPosted, PostedStands, KeptNeverGoesBack, FloorNeverGoesDown, NothingBelowFloor, BeginningIsLegal, LastIsAnswer}
 
 -- ---- names
 pub same_name-true : (a b : BatchName) → same_name a b ≡ true → a ≡ b

@@ -94,14 +94,16 @@ fn rows_are_told(rt: HostRuntime) -> Result<(), Fail> {
     Ok(())
 }
 
-/// The bytes of that batch.
-fn written(alloc: Global) -> Result<Vec<u8>, Fail> {
-    Ok(one_row(alloc)?.encode(alloc)?)
+/// The batch with one row is written as the bytes.
+fn is_written(alloc: Global) -> Result<bool, Fail> {
+    let bytes = one_row(alloc)?.encode(alloc)?;
+    Ok(bytes.as_slice() == BYTES.as_slice())
 }
 
 #[test]
 fn batch_is_written(rt: HostRuntime) -> Result<(), Fail> {
-    assert_eq!(rt; written(rt.alloc())?.as_slice(), BYTES.as_slice());
+    let is_written = is_written(rt.alloc())?;
+    assert!(rt; is_written);
     Ok(())
 }
 
@@ -127,7 +129,7 @@ fn rows_of(alloc: Global, plan: &Plan, bytes: &[u8]) -> Result<u32, BatchError> 
 }
 
 /// What bytes with some changed are refused for: of two faults, for the one that is checked first.
-const REFUSED: [(&[(usize, u8)], BatchError); 17] = [
+static REFUSED: [(&[(usize, u8)], BatchError); 17] = [
     (&[(0, 0), (4, 2)], BatchError::Magic),
     (&[(3, 0x55), (5, 5)], BatchError::Magic),
     (&[(4, 2), (5, 5)], BatchError::Version),
@@ -147,10 +149,15 @@ const REFUSED: [(&[(usize, u8)], BatchError); 17] = [
     (&[(72, 34)], BatchError::Rank),
 ];
 
+/// Bytes with some changed are refused for that error.
+fn is_refused(alloc: Global, plan: &Plan, edits: &[(usize, u8)], wanted: BatchError) -> bool {
+    rows_of(alloc, plan, &with(edits)) == Err(wanted)
+}
+
 /// The first error of that table that is not what is answered.
 fn first_not_answered(alloc: Global, plan: &Plan) -> Option<BatchError> {
     for (edits, wanted) in &REFUSED {
-        if rows_of(alloc, plan, &with(edits)) != Err(*wanted) {
+        if !is_refused(alloc, plan, edits, *wanted) {
             return Some(*wanted);
         }
     }
@@ -170,16 +177,16 @@ fn is_kept(alloc: Global, plan: &Plan, bytes: &[u8]) -> Result<bool, BatchError>
     Ok(again.as_slice() == bytes)
 }
 
+/// Bytes with one changed are read and kept.
+fn one_is_kept(alloc: Global, place: usize, byte: u8) -> Result<bool, Fail> {
+    Ok(is_kept(alloc, &plan(JOB)?, &with(&[(place, byte)]))?)
+}
+
 #[test]
 fn limits_themselves_pass(rt: HostRuntime) -> Result<(), Fail> {
-    let plan = plan(JOB)?;
-    for edits in [
-        [(8, 0x10)].as_slice(),
-        [(57, 2)].as_slice(),
-        [(72, 33)].as_slice(),
-        [(13, 0)].as_slice(),
-    ] {
-        assert_eq!(rt; is_kept(rt.alloc(), &plan, &with(edits)), Ok(true));
+    for (place, byte) in [(8, 0x10), (57, 2), (72, 33), (13, 0)] {
+        let is_kept = one_is_kept(rt.alloc(), place, byte)?;
+        assert!(rt; is_kept, "byte {place}");
     }
     Ok(())
 }
@@ -203,40 +210,56 @@ fn fewer_bytes_are_short(rt: HostRuntime) -> Result<(), Fail> {
     Ok(())
 }
 
+/// How many rows are read of bytes and some more.
+fn rows_of_longer(
+    alloc: Global,
+    bytes: &[u8],
+    more: &[u8],
+) -> Result<Result<u32, BatchError>, Fail> {
+    let plan = plan(JOB)?;
+    let all = longer(alloc, bytes, more)?;
+    Ok(rows_of(alloc, &plan, &all))
+}
+
 #[test]
 fn one_byte_more_is_trailing(rt: HostRuntime) -> Result<(), Fail> {
-    let bytes = longer(rt.alloc(), &BYTES, &[0])?;
-    assert_eq!(rt;
-        rows_of(rt.alloc(), &plan(JOB)?, &bytes),
-        Err(BatchError::Trailing)
-    );
+    let rows = rows_of_longer(rt.alloc(), &BYTES, &[0])?;
+    assert_eq!(rt; rows, Err(BatchError::Trailing));
     Ok(())
 }
 
 /// How many rows are read of bytes with a row of each of two vertices.
 fn rows_of_two(alloc: Global, first: u8, second: u8) -> Result<Result<u32, BatchError>, Fail> {
     let rest = longer(alloc, &[0, 0, 0, second], &ROW)?;
-    let bytes = longer(alloc, &with(&[(53, 2), (57, first)]), &rest)?;
-    Ok(rows_of(alloc, &plan(JOB)?, &bytes))
+    rows_of_longer(alloc, &with(&[(53, 2), (57, first)]), &rest)
+}
+
+/// Two rows are read or refused as they ascend or do not.
+fn must_ascend(alloc: Global) -> Result<bool, Fail> {
+    Ok(
+        rows_of_two(alloc, 0, 2)? == Ok(2)
+            && rows_of_two(alloc, 2, 0)? == Err(BatchError::Order)
+            && rows_of_two(alloc, 2, 2)? == Err(BatchError::Order),
+    )
 }
 
 #[test]
 fn rows_ascend(rt: HostRuntime) -> Result<(), Fail> {
-    for (first, second, wanted) in [
-        (0, 2, Ok(2)),
-        (2, 0, Err(BatchError::Order)),
-        (2, 2, Err(BatchError::Order)),
-    ] {
-        assert_eq!(rt; rows_of_two(rt.alloc(), first, second)?, wanted);
-    }
+    let must_ascend = must_ascend(rt.alloc())?;
+    assert!(rt; must_ascend);
     Ok(())
+}
+
+/// How many rows are read of a batch from partition 1 to itself that has none.
+fn rows_to_its_own_source(alloc: Global) -> Result<Result<u32, BatchError>, Fail> {
+    let bytes = with(&[(11, 1), (49, 1), (53, 0)]);
+    let (header, _) = bytes.split_at(54);
+    Ok(rows_of(alloc, &plan(JOB)?, header))
 }
 
 #[test]
 fn batch_to_its_own_source_is_a_batch(rt: HostRuntime) -> Result<(), Fail> {
-    let bytes = with(&[(11, 1), (49, 1), (53, 0)]);
-    let (header, _) = bytes.split_at(54);
-    assert_eq!(rt; rows_of(rt.alloc(), &plan(JOB)?, header), Ok(0));
+    assert_eq!(rt; rows_to_its_own_source(rt.alloc())?, Ok(0));
     Ok(())
 }
 

@@ -72,9 +72,8 @@ fn numbers_of(tally: Tally) -> (u64, u64, u128) {
     (tally.last, tally.harm, tally.dist)
 }
 
-// A vertex behind two others: its gains are 0.382969 at distance 1 and 0.736611 at distance 2.
-#[test]
-fn figures_of_a_vertex(rt: HostRuntime) {
+// The numbers of a vertex behind two others, as it starts and after each of three steps.
+fn numbers_of_steps() -> [(u64, u64, u128); 4] {
     let mut tally = Tally::start(11_297_573);
     let alone = numbers_of(tally);
     tally.step(1, 11_680_542);
@@ -82,14 +81,17 @@ fn figures_of_a_vertex(rt: HostRuntime) {
     tally.step(2, 12_417_153);
     let far = numbers_of(tally);
     tally.step(3, 12_417_153);
-    let told = (12_417_153, 751_274, 1_856_191);
-    let is_told = alone == (11_297_573, 0, 0)
-        && near == (11_680_542, 382_969, 382_969)
-        && far == told
-        && numbers_of(tally) == told
-        && closeness(tally.dist) == 538_737
-        && lin(tally.last, tally.dist) == 83_065_637;
-    assert!(rt; is_told);
+    [alone, near, far, numbers_of(tally)]
+}
+
+// Its gains are 0.382969 at distance 1 and 0.736611 at distance 2.
+#[test]
+fn figures_of_a_vertex(rt: HostRuntime) {
+    let far = (12_417_153, 751_274, 1_856_191);
+    let are_told = numbers_of_steps()
+        == [(11_297_573, 0, 0), (11_680_542, 382_969, 382_969), far, far];
+    let is_central = closeness(1_856_191) == 538_737 && lin(12_417_153, 1_856_191) == 83_065_637;
+    assert!(rt; are_told && is_central);
 }
 
 #[test]
@@ -176,23 +178,39 @@ fn figures_are<H: AllocGlobal + Threads + Sync>(
     Ok(are_told(&figures, wanted))
 }
 
-// The figures of three vertices whose rows and tallies differ, and of all but the first, are those of the table.
+// The tallies of three vertices: the last one has gained.
+fn three_tallies() -> [Tally; 3] {
+    let mut tally = Tally::start(11_297_573);
+    tally.step(1, 11_680_542);
+    [Tally::start(0), Tally::start(5), tally]
+}
+
+// The figures of three vertices with those tallies, whose rows differ too.
+const THREE: [(u64, u64, u64, u128, u32); 3] = [
+    (10_768_000, 0, 0, 1_000_000, 16),
+    (11_390_942, 0, 0, 1_000_000, 15),
+    (11_680_542, 382_969, 2_611_177, 356_256_149, 14),
+];
+
+// The figures of three vertices, and of all but the first, are those of the table.
+fn rows_are_told<H: AllocGlobal + Threads + Sync>(rt: &H, rows: &Rows) -> Result<bool, Fail>
+    requires count { length rows.now.rows ≡ 3 }
+    requires width { rows.now.width ≡ 16 }
+    requires ranks { All (λ row. All (λ r. r ≤ 33) row) rows.now.rows }
+{
+    let tallies = three_tallies();
+    let all = figures_are(rt, rows, &tallies, 0..3, &THREE)?;
+    let later = figures_are(rt, rows, &tallies, 1..9, &THREE[1..])?;
+    Ok(all && later)
+}
+
+// Rows of three vertices, of no, one and two registers above 0, have those figures.
 fn three_are_told<H: AllocGlobal + Threads + Sync>(rt: &H) -> Result<bool, Fail> {
     let mut rows = Rows::fixed(rt.alloc(), 3, 16)?;
     rows.raise_one(1, 14, 3);
     rows.raise_one(2, 0, 2);
     rows.raise_one(2, 6, 1);
-    let mut tally = Tally::start(11_297_573);
-    tally.step(1, 11_680_542);
-    let tallies = [Tally::start(0), Tally::start(5), tally];
-    let wanted = [
-        (10_768_000, 0, 0, 1_000_000, 16),
-        (11_390_942, 0, 0, 1_000_000, 15),
-        (11_680_542, 382_969, 2_611_177, 356_256_149, 14),
-    ];
-    let all = figures_are(rt, &rows, &tallies, 0..3, &wanted)?;
-    let later = figures_are(rt, &rows, &tallies, 1..9, &wanted[1..])?;
-    Ok(all && later)
+    rows_are_told(rt, &rows)
 }
 
 #[test]
@@ -226,17 +244,38 @@ fn gaining<H: AllocGlobal>(rt: &H, count: u32) -> Result<Vec<Tally>, Fail> {
     Ok(tallies)
 }
 
-// The figures of vertices come in the order of such tallies.
+// 5,000 figures that gained 0, 1, 2, ..
+fn are_in_order(figures: &[Figures]) -> bool {
+    figures.len() == 5000
+        && figures
+            .iter()
+            .enumerate()
+            .all(|(i, f)| f.harmonic == i as u64)
+}
+
+// The figures of vertices come in the order of their tallies, of which there is one for each.
+fn tallies_come_in_order<H: AllocGlobal + Threads + Sync>(
+    rt: &H,
+    rows: &Rows,
+    tallies: &[Tally],
+) -> Result<bool, Fail>
+    requires width { rows.now.width ≡ 16 }
+    requires ranks { All (λ row. All (λ r. r ≤ 33) row) rows.now.rows }
+{
+    if tallies.len() != rows.len() {
+        return Err(Fail::new("a tally for each row"));
+    }
+    let all = final_figures(rt, rt.alloc(), 4, rows, tallies)?;
+    Ok(are_in_order(&all))
+}
+
+// The figures of vertices that gained 0, 1, 2, .. come in that order.
 fn come_in_order<H: AllocGlobal + Threads + Sync>(rt: &H, rows: &Rows) -> Result<bool, Fail>
     requires width { rows.now.width ≡ 16 }
     requires ranks { All (λ row. All (λ r. r ≤ 33) row) rows.now.rows }
 {
     let tallies = gaining(rt, 5000)?;
-    if tallies.len() != rows.len() {
-        return Err(Fail::new("a tally for each row"));
-    }
-    let all = final_figures(rt, rt.alloc(), 4, rows, &tallies)?;
-    Ok(all.len() == 5000 && all.iter().enumerate().all(|(i, f)| f.harmonic == i as u64))
+    tallies_come_in_order(rt, rows, &tallies)
 }
 
 // As many vertices as several threads are started for come back in order.
