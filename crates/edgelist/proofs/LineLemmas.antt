@@ -1,7 +1,8 @@
 -- What `csv` reads of an edge list's bytes is its records.
-use Rattle.std.proofs.Common.{◌≡◌, ◌∙◌, ℕ, List, [], ◌∷◌, ◌++◌, Bool, true, false, refl, sym, ap, append_assoc, inl, inr, map, Some, None, Option}
+use Rattle.std.proofs.Common.{◌≡◌, ◌∙◌, ◌+◌, ◌≤◌, ℕ, List, [], ◌∷◌, ◌++◌, Bool, true, false, length, arith, refl, sym, ap, append_assoc, inl, inr, map, Some, None, Option}
 use Rattle.std.specs.Prelude.{◌==◌, if◌then◌else◌}
-use Rattle.std.proofs.lemmas.List.{append-nil}
+use Rattle.std.proofs.lemmas.List.{append-nil, length-map}
+use Rattle.std.proofs.lemmas.List.Sums.{length-filter, count_by-le-length}
 use Rattle.std.proofs.lemmas.Bool.{cases_Bool, eqb-true, false≢true}
 use Rattle.std.specs.List.{filter}
 use Rattle.csv.specs.Machine.{Read, ends_at_end, field_after, fields_after, is_end, next_record, step}
@@ -217,3 +218,26 @@ rows-records d del xs plain = rw (read-text d del xs plain).0 (all-records d (li
 
 pub rows-ends : (d : ℕ) → IsDelimiter d → (xs : List ℕ) → HasLfs xs → EndsAtBlank (rows (config d) st.StartRecord [] [] xs)
 rows-ends d del xs plain = rw (read-text d del xs plain).0 (all-ends d (lines xs))
+
+-- there is a line more than bytes at most
+lines-few : (xs : List ℕ) → length (lines xs) ≤ length xs + 1
+unfolding lines
+lines-few [] = omega arith
+lines-few (c ∷ rest) =
+    let few = lines-few rest in
+    elim (cases_Bool (c == 10)) [
+      | inl e ↦ rw e (omega (arith, few))
+      | inr e ↦ elim (cases_Bool (c == 13)) [
+        | inl r ↦ rw (e, r) (omega (arith, few))
+        | inr r ↦
+            let (h, t, at) = lines-some rest in
+            rw (e, r, at) (omega (arith, few, ap (length {A = List ℕ}) at))
+      ]
+    ]
+
+-- and not more records than lines
+pub records-few : (d : ℕ) (text : List ℕ) → length (records d text) ≤ length text + 1
+records-few d text =
+    let all = filter is_record (lines text) in
+    let same : length (map (fields d) all) ≡ length all = simp length-map in
+    omega (arith, same, length-filter is_record (lines text), count_by-le-length is_record (lines text), lines-few text)

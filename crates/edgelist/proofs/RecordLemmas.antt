@@ -1,8 +1,8 @@
 -- What reading one record more leaves.
-use Rattle.std.proofs.Common.{◌≡◌, ◌∙◌, ℕ, List, [], ◌∷◌, ◌++◌, Bool, true, false, refl, sym, Some, None, Option}
+use Rattle.std.proofs.Common.{◌≡◌, ◌∙◌, ◌≤◌, ℕ, List, [], ◌∷◌, ◌++◌, Bool, true, false, length, arith, ap, refl, sym, Some, None, Option}
 use Rattle.std.specs.Prelude.{if◌then◌else◌}
 use Rattle.std.specs.List.{filter}
-use Rattle.std.proofs.lemmas.List.{append-nil, append_assoc}
+use Rattle.std.proofs.lemmas.List.{append-nil, append_assoc, length-append}
 use Rattle.csv.specs.Machine.{next_record}
 use Rattle.csv.specs.Reading.{Reached, Ready, ReadRecord, source_of, strip_bom}
 use Rattle.csv.specs.declared.reader.Reader.{Reader}
@@ -52,6 +52,13 @@ left-end rem d text past a b f at r =
     let none : next_record (config d) a.state [] [] at.left ≡ None = rows-end rem a b f (config d) at.left at.configured at.source r in
     let nothing : rows (config d) a.state [] [] at.left ≡ [] = rows-next (config d) a.state [] [] at.left ∙ rw none refl in
     at.all ∙ rw nothing (append-nil past)
+
+-- the records so far are among all
+pub past-within : {R : Type 0} (rem : R → Option (List ℕ)) (d : ℕ) (text : List ℕ) (past : List (List (List ℕ))) (a : Reader R) →
+    IsLeft rem d text past a → length past ≤ length (records d text)
+past-within rem d text past a at =
+    let left = filter is_row (rows (config d) a.state [] [] at.left) in
+    omega (arith, ap (length {A = List (List ℕ)}) at.all, length-append past left)
 
 -- one more row
 row-read : {R : Type 0} (rem : R → Option (List ℕ)) (d : ℕ) (a b : Reader R) (y : List ℕ) (f : List (List ℕ)) → a.config ≡ config d → source_of rem a ≡ Some y

@@ -8,7 +8,7 @@ ghost use Rattle.ball_model.specs.Input.{IsPlain, records};
 ghost use Rattle.ball_model.specs.Counting.{is_name};
 ghost use Rattle.edgelist.specs.Links.{marked_vertices};
 ghost use Rattle.edgelist.specs.Reading.{byte_of};
-ghost use Rattle.edgelist.specs.Records.{FromStart};
+ghost use Rattle.edgelist.specs.Records.{FromStart, ReadsNone, ReadsOne};
 ghost use Rattle.edgelist.specs.declared.counting.CountedError.TheVariants.{Memory};
 ghost use Rattle.edgelist.specs.Counting.{ListFaultIs, record_fault, MarksAre, MarksOne, SaysMarks, SaysRefusal};
 
@@ -94,7 +94,21 @@ fn mark(
     Ok(())
 }
 
-// Marks the vertices that the records of a list name.
+// Reads one record more, and tells whether there was one.
+fn next_row<R: Read + Drop>(
+    reader: &mut Reader<R>,
+    row: &mut ByteRecord,
+) -> Result<bool, CountedError>
+    ensures one { IfOk result (λ more. more ≡ true →
+        ReadsOne R.remaining reader.old reader.new (fields_of row.new)) }
+    ensures end { IfOk result (λ more. more ≡ false → ReadsNone R.remaining reader.old) }
+    ensures failed { IfErr result (λ e. e ≡ Memory) }
+{
+    let more = next_record(reader, row)?;
+    Ok(more)
+}
+
+// Marks the vertices that the records of a list name, which are fewer than `most`.
 fn mark_all<R: Read + Drop>(
     marks: &mut [bool],
     index: &Index<'_>,
@@ -105,19 +119,19 @@ fn mark_all<R: Read + Drop>(
     requires distinct { IsDistinct bytes_eq index.now }
     requires marks { MarksAre index.now [] marks.old }
     requires few { most ≤ 2 ^ 63 + 1 }
-    ensures ok { FromStart R.remaining reader.old (λ rs.
+    ensures ok { FromStart R.remaining reader.old (λ rs. length rs < most →
         OnOk result (SaysMarks index.now rs marks.new)) }
     ensures refused { FromStart R.remaining reader.old (λ rs.
         IfErr result (SaysRefusal index.now rs)) }
 {
     for number in 0..most {
-        let more = next_record(reader, row)?;
+        let more = next_row(reader, row)?;
         if !more {
             return Ok(());
         }
         mark(marks, index, row, number)?;
     }
-    Err(CountedError::Memory)
+    Ok(())
 }
 
 // A mark for each of so many vertices, not set.

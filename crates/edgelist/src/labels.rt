@@ -1,6 +1,6 @@
 //! Labels in one piece of memory.
 
-ghost use Rattle.std.specs.Prelude.{◌≡◌, ◌+◌, ◌^◌, ◌<◌, ◌≤◌, length, map, slice_index_or, IfOk, []};
+ghost use Rattle.std.specs.Prelude.{◌≡◌, ◌+◌, ◌^◌, ◌<◌, ◌≤◌, length, map, slice_index_or, IfOk, ◌∷◌, []};
 ghost use Rattle.std.specs.List.{sum_by};
 ghost use Rattle.edgelist.specs.Lists.{Ascend, lists_between};
 
@@ -38,17 +38,35 @@ fn total(texts: &[Vec<u8>]) -> usize
     sum
 }
 
+// Where the first text begins; there is room for so many others.
+fn first_start(alloc: Global, count: usize) -> Result<Places, AllocError>
+    ensures { IfOk result (λ starts. starts ≡ 0 ∷ []) }
+{
+    Places::with_room(alloc, count.saturating_add(1))?.push(0)
+}
+
+// Puts copies of texts behind one another, and tells where each of them begins and the last ends.
+fn put_texts(alloc: Global, bytes: &mut Vec<u8>, texts: &[Vec<u8>]) -> Result<Places, AllocError>
+    requires { bytes.old.items ≡ [] }
+    ensures starts { IfOk result (λ starts. Ascend (length bytes.new.items) starts) }
+    ensures texts { IfOk result (λ starts.
+        lists_between bytes.new.items starts ≡ map (λ text. text.items) texts.now) }
+{
+    let mut starts = first_start(alloc, texts.len())?;
+    for text in texts {
+        bytes.extend_from_slice(text)?;
+        starts = starts.push(bytes.len() as u128)?;
+    }
+    Ok(starts)
+}
+
 impl Labels {
     /// A copy of these texts, in their order.
     pub fn of(alloc: Global, texts: &[Vec<u8>]) -> Result<Labels, AllocError>
         ensures { IfOk result (λ labels. labels ≡ map (λ text. text.items) texts.now) }
     {
         let mut bytes = Vec::with_capacity(alloc, total(texts))?;
-        let mut starts = Places::with_room(alloc, texts.len().saturating_add(1))?.push(0)?;
-        for text in texts {
-            bytes.extend_from_slice(text)?;
-            starts = starts.push(bytes.len() as u128)?;
-        }
+        let starts = put_texts(alloc, &mut bytes, texts)?;
         Ok(Labels { bytes, starts })
     }
 

@@ -223,9 +223,26 @@ impl Numbering {
             return look_up(alloc, &mut self.labels, label);
         }
         let word = word(label);
-        if let Some(number) = guess(&self.entries, word) {
-            return Ok(number);
+        match guess(&self.entries, word) {
+            Some(number) => Ok(number),
+            None => self.look_up_short(alloc, label, word),
         }
+    }
+
+    // The number of a short label in the set, which its word then leads to.
+    fn look_up_short(
+        &mut self,
+        alloc: Global,
+        label: &[u8],
+        word: u128,
+    ) -> Result<usize, AllocError>
+        requires short { IsShort label.now }
+        requires word { word ≡ word_of label.now }
+        requires fits { word < 2 ^ 96 }
+        ensures within { IfOk result (λ i. i < length self.new) }
+        ensures place { IfOk result (λ i. slice_index_or self.new i [] ≡ label.now) }
+        ensures labels { OnOk result (self.new ≡ with_label self.old label.now) }
+    {
         let number = look_up(alloc, &mut self.labels, label)?;
         self.make_room(alloc)?;
         remember(&mut self.entries, word, number);

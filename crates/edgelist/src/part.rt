@@ -4,6 +4,7 @@ ghost use Rattle.std.specs.Prelude.{◌≡◌, ◌+◌, ◌*◌, ◌^◌, ◌<�
 ghost use Rattle.std.specs.Prelude.{false, length, map, slice_index, slice_index_or, IfOk, OnOk};
 ghost use Rattle.std.specs.Arc.{arc_value};
 ghost use Rattle.std.specs.List.{All, sum_by};
+ghost use Rattle.gapcode.specs.Lists.{AscendsFrom};
 ghost use Rattle.ball_model.specs.Graph.{preds_of, is_counted};
 ghost use Rattle.ball_model.specs.PlanValue.{vertices_of, part_size};
 ghost use Rattle.ball_model.specs.Job.{Job, IsPart, digest_of, feed_mask, feeds_into, part_of};
@@ -153,6 +154,20 @@ fn put_preds(row: &mut Vec<u32>, preds: Preds<'_>) -> Result<(), AllocError>
     Ok(())
 }
 
+// The lists with these predecessors behind them; the row is room for the predecessors.
+fn push_preds(
+    builder: ListsBuilder,
+    row: &mut Vec<u32>,
+    preds: Preds<'_>,
+) -> Result<ListsBuilder, AllocError>
+    requires { AscendsFrom 0 preds }
+    ensures lists { IfOk result (λ lists. lists ≡ builder ++ preds.entry ∷ []) }
+    ensures row { OnOk result (row.new.items ≡ preds.entry) }
+{
+    put_preds(row, preds)?;
+    builder.push(row)
+}
+
 // The predecessors of each vertex of partition `p`.
 fn own_lists(alloc: Global, graph: &Graph, parts: u32, p: u32) -> Result<Lists, AllocError>
     requires { 0 < parts }
@@ -164,8 +179,7 @@ fn own_lists(alloc: Global, graph: &Graph, parts: u32, p: u32) -> Result<Lists, 
     let mut total = 0;
     for x in 0..graph.vertices() {
         if x % parts == p {
-            put_preds(&mut row, graph.preds(x))?;
-            builder = builder.push(&row)?;
+            builder = push_preds(builder, &mut row, graph.preds(x))?;
             total += row.len();
         }
     }

@@ -1,14 +1,14 @@
 //! Reading edge lists.
 
-ghost use Rattle.std.specs.Prelude.{◌≡◌, ◌≤◌, ◌<◌, ◌-◌, ◌^◌, ℕ, List, Some, Ok, Err, IfOk, IfErr, OnOk, OnErr, length, slice_index_or, [], ◌∷◌, ◌++◌};
+ghost use Rattle.std.specs.Prelude.{◌≡◌, ◌≤◌, ◌<◌, ◌-◌, ◌^◌, ℕ, List, Result, true, false, Some, Ok, Err, IfOk, IfErr, OnOk, OnErr, length, slice_index_or, [], ◌∷◌, ◌++◌};
 ghost use Rattle.std.specs.Io.KnownBytes.{ReadConsumes};
 ghost use Rattle.std.specs.Io.{ReadsAtMost};
 ghost use Rattle.csv.specs.Records.{fields_of};
 ghost use Rattle.csv.specs.Reading.{is_io, error_kind};
-ghost use Rattle.ball_model.specs.Input.{IsPlain, records, has_form, network_from, input_of};
+ghost use Rattle.ball_model.specs.Input.{Network, Refusal, IsPlain, records, has_form, network_from, input_of};
 ghost use Rattle.edgelist.specs.Edges.{edge_of, graph_of_edges};
 ghost use Rattle.edgelist.specs.declared.read.EdgeError.TheVariants.{Memory};
-ghost use Rattle.edgelist.specs.Records.{ForPlain, FromStart};
+ghost use Rattle.edgelist.specs.Records.{ForPlain, FromStart, ReadsNone, ReadsOne};
 ghost use Rattle.edgelist.specs.Reading.{byte_of, limits_of, meaning_of, said_within, CountsOne, IsReadBy, Refuses, most_records, most_vertices, edge_error, with_label, AreWithin, AddsEdge, Exceeds, Adds, Stops};
 
 use crate::edge::Edge;
@@ -103,6 +103,17 @@ fn has_form(row: &ByteRecord) -> bool
         Some(target) => !target.is_empty(),
         None => true,
     }
+}
+
+// Reads one record more, and tells whether there was one.
+fn next_row<R: Read + Drop>(reader: &mut Reader<R>, row: &mut ByteRecord) -> Result<bool, EdgeError>
+    ensures one { IfOk result (λ more. more ≡ true →
+        ReadsOne R.remaining reader.old reader.new (fields_of row.new)) }
+    ensures end { IfOk result (λ more. more ≡ false → ReadsNone R.remaining reader.old) }
+    ensures failed { IfErr result (λ e. (says : Result Network Refusal) → Refuses says e) }
+{
+    let more = next_record(reader, row)?;
+    Ok(more)
 }
 
 // Adds the edge from a source to a target.
@@ -212,36 +223,13 @@ impl Reading {
             IfErr result (Refuses (network_from (limits_of limits) rs))) }
     {
         for number in 0..limits.edges + 1 {
-            let more = next_record(reader, row)?;
+            let more = next_row(reader, row)?;
             if !more {
                 return Ok(());
             }
             self.add(alloc, row, number, limits)?;
         }
         Err(EdgeError::TooManyEdges)
-    }
-
-    // Adds all records of a reader.
-    fn read_source<R: Read + Drop>(
-        &mut self,
-        alloc: Global,
-        source: R,
-        delimiter: Delimiter,
-        limits: EdgeLimits,
-    ) -> Result<(), EdgeError>
-        requires few { limits.edges ≤ most_records }
-        requires labels { self.old.labels ≡ [] }
-        requires edges { self.old.edges.items ≡ [] }
-        ensures within { OnOk result (
-            AreWithin limits.vertices limits.edges self.new.labels self.new.edges.items) }
-        ensures ok { ForPlain (R.remaining source) (λ text. OnOk result (IsReadBy limits
-            (records (byte_of delimiter) text) self.new.labels self.new.edges.items)) }
-        ensures refused { ForPlain (R.remaining source) (λ text.
-            IfErr result (Refuses (said_within limits delimiter text))) }
-    {
-        let mut reader = reader_of(alloc, source, delimiter);
-        let mut row = ByteRecord::new(alloc);
-        self.read_all(alloc, &mut reader, &mut row, limits)
     }
 
     // The graph that was read. The set of labels is gone before the edges are sorted.
@@ -257,25 +245,46 @@ impl Reading {
     }
 }
 
-// Reads all records.
+// Reads all records that are left.
 fn read_records<R: Read + Drop>(
     alloc: Global,
     state: RandomState,
-    reader: R,
+    reader: &mut Reader<R>,
+    row: &mut ByteRecord,
+    limits: EdgeLimits,
+) -> Result<Reading, EdgeError>
+    requires { limits.edges ≤ most_records }
+    ensures within { IfOk result (λ r.
+        AreWithin limits.vertices limits.edges r.labels r.edges.items) }
+    ensures ok { FromStart R.remaining reader.old (λ rs. IfOk result (λ r.
+        IsReadBy limits rs r.labels r.edges.items)) }
+    ensures refused { FromStart R.remaining reader.old (λ rs.
+        IfErr result (Refuses (network_from (limits_of limits) rs))) }
+{
+    let mut reading = Reading::new(alloc, state)?;
+    let read = reading.read_all(alloc, reader, row, limits);
+    read.map(|()| reading)
+}
+
+// Reads all records of a source.
+fn read_source<R: Read + Drop>(
+    alloc: Global,
+    state: RandomState,
+    source: R,
     delimiter: Delimiter,
     limits: EdgeLimits,
 ) -> Result<Reading, EdgeError>
     requires { limits.edges ≤ most_records }
     ensures within { IfOk result (λ r.
         AreWithin limits.vertices limits.edges r.labels r.edges.items) }
-    ensures ok { ForPlain (R.remaining reader) (λ text. IfOk result (λ r.
+    ensures ok { ForPlain (R.remaining source) (λ text. IfOk result (λ r.
         IsReadBy limits (records (byte_of delimiter) text) r.labels r.edges.items)) }
-    ensures refused { ForPlain (R.remaining reader) (λ text.
+    ensures refused { ForPlain (R.remaining source) (λ text.
         IfErr result (Refuses (said_within limits delimiter text))) }
 {
-    let mut reading = Reading::new(alloc, state)?;
-    reading.read_source(alloc, reader, delimiter, limits)?;
-    Ok(reading)
+    let mut reader = reader_of(alloc, source, delimiter);
+    let mut row = ByteRecord::new(alloc);
+    read_records(alloc, state, &mut reader, &mut row, limits)
 }
 
 // Reads all records, and makes their graph.
@@ -293,7 +302,7 @@ fn read_graph<R: Read + Drop>(
     ensures refused { ForPlain (R.remaining reader) (λ text.
         IfErr result (Refuses (said_within limits delimiter text))) }
 {
-    let reading = read_records(alloc, state, reader, delimiter, limits)?;
+    let reading = read_source(alloc, state, reader, delimiter, limits)?;
     let graph = reading.into_graph(alloc)?;
     Ok(graph)
 }
@@ -318,6 +327,24 @@ impl<'a, R: CountedRead> Read for Counted<'a, R> {
             Some(n) => Ok(n),
             None => Err(io::Error::from(ErrorKind::Other)),
         }
+    }
+}
+
+// What is told of a graph that was read: `Read` where a call of the reader failed, and nowhere else.
+fn told(read: Result<Graph, EdgeError>, failed: bool) -> Result<Graph, EdgeError>
+    ensures ok { IfOk result (λ g. read ≡ Ok g) }
+    ensures refused { (says : Result Network Refusal) → IfErr read (Refuses says) →
+        IfErr result (Refuses says) }
+    ensures read { result ≡ Err EdgeError.Read → failed ≡ true }
+    ensures failed { failed ≡ true → result ≡ Err EdgeError.Read }
+{
+    if failed {
+        return Err(EdgeError::Read);
+    }
+    match read {
+        Ok(graph) => Ok(graph),
+        Err(EdgeError::Read) => Err(EdgeError::Memory),
+        Err(e) => Err(e),
     }
 }
 
@@ -362,12 +389,5 @@ pub fn read_edges<R: CountedRead>(
         limits,
     );
     let failed = reader.failures() > before;
-    if failed {
-        return Err(EdgeError::Read);
-    }
-    match result {
-        Ok(graph) => Ok(graph),
-        Err(EdgeError::Read) => Err(EdgeError::Memory),
-        Err(e) => Err(e),
-    }
+    told(result, failed)
 }

@@ -2,13 +2,12 @@
 
 ghost use Rattle.std.specs.Prelude.{None};
 
-use crate::{CountedError, Delimiter, EdgeError, EdgeLimits, Graph, Part, laws, read_edges};
+use crate::{CountedError, Delimiter, EdgeError, EdgeLimits, Graph, Part, Preds, laws, read_edges};
 use ball_model::{CountingReader, PlanError};
 use std::alloc::{AllocError, Global};
 use std::hash::RandomState;
 use std::io;
 use std::io::{ErrorKind, Read};
-use std::test::Fail;
 
 const LIMITS: EdgeLimits = EdgeLimits {
     vertices: u32::MAX,
@@ -41,13 +40,19 @@ fn push_vertex(text: &mut Vec<u8>, v: u32) -> Result<(), AllocError> {
     Ok(())
 }
 
+// A space and the last digit of each vertex.
+fn push_vertices(text: &mut Vec<u8>, vertices: Preds<'_>) -> Result<(), AllocError> {
+    for v in vertices {
+        push_vertex(text, v)?;
+    }
+    Ok(())
+}
+
 // A line for a vertex: its label and its predecessors.
 fn push_line(text: &mut Vec<u8>, graph: &Graph, v: u32) -> Result<(), AllocError> {
     if v < graph.vertices() {
         text.extend_from_slice(graph.label(v))?;
-        for source in graph.preds(v) {
-            push_vertex(text, source)?;
-        }
+        push_vertices(text, graph.preds(v))?;
     }
     text.push(b'\n')?;
     Ok(())
@@ -91,6 +96,18 @@ fn error_of(rt: &HostRuntime, text: &[u8], vertices: u32, edges: u64) -> Option<
     }
 }
 
+// An edge list, its limits on vertices and records, and the error that it gives.
+type Refusal<'a> = (&'a [u8], u32, u64, Option<EdgeError>);
+
+// Whether each of these edge lists gives its error.
+fn are_refused(rt: &HostRuntime, cases: &[Refusal<'_>]) -> bool {
+    let mut right = true;
+    for (text, vertices, edges, wanted) in cases {
+        right = right && error_of(rt, text, *vertices, *edges) == *wanted;
+    }
+    right
+}
+
 #[test]
 fn two_edges(rt: HostRuntime) {
     assert!(rt; tabs(&rt, TWO_EDGES, b"a\nb 0\nc 1\n"));
@@ -109,39 +126,36 @@ fn noisy_input(rt: HostRuntime) {
 
 #[test]
 fn refused_records(rt: HostRuntime) {
-    let cases: [(&[u8], u32, u64, Option<EdgeError>); 4] = [
-        (
-            b"a\tb\nb\tc\t7\n",
-            9,
-            9,
-            Some(EdgeError::Fields { number: 2 }),
-        ),
-        (TWO_EDGES, 2, 9, Some(EdgeError::TooManyVertices)),
-        (TWO_EDGES, 9, 1, Some(EdgeError::TooManyEdges)),
-        (TWO_EDGES, 3, 2, None),
-    ];
-    for (text, vertices, edges, wanted) in cases {
-        assert_eq!(rt; error_of(&rt, text, vertices, edges), wanted);
-    }
+    let fields = Some(EdgeError::Fields { number: 2 });
+    assert!(rt;
+        are_refused(
+            &rt,
+            &[
+                (b"a\tb\nb\tc\t7\n", 9, 9, fields),
+                (TWO_EDGES, 2, 9, Some(EdgeError::TooManyVertices)),
+                (TWO_EDGES, 9, 1, Some(EdgeError::TooManyEdges)),
+                (TWO_EDGES, 3, 2, None),
+            ]
+        )
+    );
 }
 
 #[test]
 fn order_of_checks(rt: HostRuntime) {
     // The number of records is tested before the fields, and the fields before the number of vertices. Neither
     // comments nor empty lines are numbered; doubles and single labels are.
-    let cases: [(&[u8], u32, u64, EdgeError); 3] = [
-        (b"a\tb\nb\tc\t7\n", 9, 1, EdgeError::TooManyEdges),
-        (b"a\tb\nc\td\t7\n", 2, 9, EdgeError::Fields { number: 2 }),
-        (
-            b"# c\n\na\tb\na\tb\nd\n\n\tc\n",
-            9,
-            9,
-            EdgeError::Fields { number: 4 },
-        ),
-    ];
-    for (text, vertices, edges, wanted) in cases {
-        assert_eq!(rt; error_of(&rt, text, vertices, edges), Some(wanted));
-    }
+    let second = Some(EdgeError::Fields { number: 2 });
+    let fourth = Some(EdgeError::Fields { number: 4 });
+    assert!(rt;
+        are_refused(
+            &rt,
+            &[
+                (b"a\tb\nb\tc\t7\n", 9, 1, Some(EdgeError::TooManyEdges)),
+                (b"a\tb\nc\td\t7\n", 2, 9, second),
+                (b"# c\n\na\tb\na\tb\nd\n\n\tc\n", 9, 9, fourth),
+            ]
+        )
+    );
 }
 
 #[test]
@@ -175,9 +189,16 @@ fn odd_labels(rt: HostRuntime) {
 
 #[test]
 fn last_lines(rt: HostRuntime) {
-    assert!(rt; tabs(&rt, b"a\tb\nb\tc\n# end", b"a\nb 0\nc 1\n"));
-    assert!(rt; tabs(&rt, b"a\tb\nb\tc", b"a\nb 0\nc 1\n"));
-    assert!(rt; tabs(&rt, b"#", b""));
+    let texts: [&[u8]; 3] = [b"a\tb\nb\tc\n# end", b"a\tb\nb\tc", b"#"];
+    let wanted: [&[u8]; 3] = [b"a\nb 0\nc 1\n", b"a\nb 0\nc 1\n", b""];
+    for i in 0..3usize {
+        assert!(rt; tabs(&rt, texts[i], wanted[i]));
+    }
+}
+
+#[test]
+fn last_comments(rt: HostRuntime) {
+    // A comment in place of a last line is not counted among the records.
     assert_eq!(rt; error_of(&rt, b"a\tb\nb\tc\n# end", 9, 2), None);
 }
 
@@ -200,13 +221,18 @@ fn counted_edges(rt: HostRuntime) {
     assert_eq!(rt; count(&rt, b"a\tb\nb\tc\na\tb\nb\tb\nd\n"), Some(3));
 }
 
-// The job digest of an edge list with 2 partitions, or the fault of its plan.
+// The job digest of a graph with 2 partitions, or the fault of its plan.
+fn job_of(graph: &Graph, log2m: u8) -> Result<[u8; 32], PlanError> {
+    match graph.plan(log2m, 0, 2, 4096) {
+        Ok(plan) => Ok(plan.job()),
+        Err(e) => Err(e),
+    }
+}
+
+// The same of the graph of an edge list.
 fn digest(rt: &HostRuntime, text: &[u8], log2m: u8) -> Option<Result<[u8; 32], PlanError>> {
     match read(rt, text, Delimiter::Tab, LIMITS) {
-        Ok(graph) => match graph.plan(log2m, 0, 2, 4096) {
-            Ok(plan) => Some(Ok(plan.job())),
-            Err(e) => Some(Err(e)),
-        },
+        Ok(graph) => Some(job_of(&graph, log2m)),
         Err(_) => None,
     }
 }
@@ -224,54 +250,68 @@ fn job_digest(rt: HostRuntime) {
     assert!(rt; digest(&rt, b"a\tb\n", 3) == Some(Err(PlanError::Log2m)));
 }
 
+// A part of a graph, by a plan with so many partitions.
+fn part_of(alloc: Global, graph: &Graph, parts: u16, p: u16) -> Option<Part> {
+    let Ok(plan) = graph.plan(4, 0, parts, 4096) else {
+        return None;
+    };
+    if p >= plan.parts() {
+        return None;
+    }
+    graph.part(alloc, &plan, p).ok()
+}
+
+// The last digit of a feed mask, and the end of the line.
+fn push_feeds(text: &mut Vec<u8>, feeds: u64) -> Result<(), AllocError> {
+    text.push(b':')?;
+    push_vertex(text, (feeds % 10) as u32)?;
+    text.push(b'\n')?;
+    Ok(())
+}
+
 // A line for a vertex of a part: itself, its predecessors, and the last digit of its feed mask.
 fn push_part_line(text: &mut Vec<u8>, part: &Part, i: u32) -> Result<(), AllocError> {
     if i < part.size() {
         push_vertex(text, part.vertex(i))?;
         text.push(b':')?;
-        for source in part.preds(i) {
-            push_vertex(text, source)?;
-        }
-        text.push(b':')?;
-        push_vertex(text, (part.feeds(i) % 10) as u32)?;
+        push_vertices(text, part.preds(i))?;
+        push_feeds(text, part.feeds(i))?;
     }
-    text.push(b'\n')?;
     Ok(())
 }
 
-// A line for each vertex of a part.
-fn show_part(alloc: Global, part: &Part) -> Result<Vec<u8>, AllocError> {
-    let mut text = Vec::new(alloc);
-    push_vertex(&mut text, u32::from(part.partition()))?;
-    push_vertex(&mut text, u32::from(part.plan().parts()))?;
+// The numbers of a part and of all of them, and a line for each vertex of the part.
+fn push_part(text: &mut Vec<u8>, part: &Part) -> Result<(), AllocError> {
+    push_vertex(text, u32::from(part.partition()))?;
+    push_vertex(text, u32::from(part.plan().parts()))?;
     text.push(b'\n')?;
     for i in 0..part.size() {
-        push_part_line(&mut text, part, i)?;
+        push_part_line(text, part, i)?;
     }
-    Ok(text)
+    Ok(())
 }
 
-// Whether a part of an edge list with 2 partitions is shown so.
-fn part_of(alloc: Global, graph: &Graph, p: u16, wanted: &[u8]) -> bool {
-    let Ok(plan) = graph.plan(4, 0, 2, 4096) else {
-        return false;
-    };
-    if p >= plan.parts() {
-        return false;
-    }
-    let Ok(part) = graph.part(alloc, &plan, p) else {
-        return false;
-    };
-    match show_part(alloc, &part) {
-        Ok(text) => text.as_slice() == wanted,
+// Whether a part is shown so.
+fn is_part_shown(alloc: Global, part: &Part, wanted: &[u8]) -> bool {
+    let mut text = Vec::new(alloc);
+    match push_part(&mut text, part) {
+        Ok(()) => text.as_slice() == wanted,
         Err(_) => false,
+    }
+}
+
+// Whether a part of a graph with 2 partitions is shown so.
+fn shows_part(alloc: Global, graph: &Graph, p: u16, wanted: &[u8]) -> bool {
+    match part_of(alloc, graph, 2, p) {
+        Some(part) => is_part_shown(alloc, &part, wanted),
+        None => false,
     }
 }
 
 // Whether a part of an edge list with tabs is shown so.
 fn parts(rt: &HostRuntime, text: &[u8], p: u16, wanted: &[u8]) -> bool {
     match read(rt, text, Delimiter::Tab, LIMITS) {
-        Ok(graph) => part_of(rt.alloc(), &graph, p, wanted),
+        Ok(graph) => shows_part(rt.alloc(), &graph, p, wanted),
         Err(_) => false,
     }
 }
@@ -297,17 +337,8 @@ fn parts_of_a_path(rt: HostRuntime) {
     );
 }
 
-// Whether the feed masks of a part are just as wanted.
-fn part_feeds(alloc: Global, graph: &Graph, parts: u16, p: u16, wanted: &[u64]) -> bool {
-    let Ok(plan) = graph.plan(4, 0, parts, 4096) else {
-        return false;
-    };
-    if p >= plan.parts() {
-        return false;
-    }
-    let Ok(part) = graph.part(alloc, &plan, p) else {
-        return false;
-    };
+// Whether the feed masks of a part are just these.
+fn has_feeds(part: &Part, wanted: &[u64]) -> bool {
     let mut right = part.size() as usize == wanted.len();
     for i in 0..part.size() {
         right = right && wanted.get(i as usize) == Some(&part.feeds(i));
@@ -315,18 +346,38 @@ fn part_feeds(alloc: Global, graph: &Graph, parts: u16, p: u16, wanted: &[u64]) 
     right
 }
 
+// Whether the feed masks of a part of a graph are just these.
+fn part_feeds(alloc: Global, graph: &Graph, parts: u16, p: u16, wanted: &[u64]) -> bool {
+    match part_of(alloc, graph, parts, p) {
+        Some(part) => has_feeds(&part, wanted),
+        None => false,
+    }
+}
+
+// The same of an edge list with tabs.
+fn feeds(rt: &HostRuntime, text: &[u8], parts: u16, p: u16, wanted: &[u64]) -> bool {
+    match read(rt, text, Delimiter::Tab, LIMITS) {
+        Ok(graph) => part_feeds(rt.alloc(), &graph, parts, p, wanted),
+        Err(_) => false,
+    }
+}
+
 #[test]
-fn masks_of_8_and_9_partitions(rt: HostRuntime) -> Result<(), Fail> {
+fn masks_of_8_and_9_partitions(rt: HostRuntime) {
     // Vertices 0 to 9, and edges from 0 to 1, 7 and 8, from 8 to 0, and from 9 to 7.
     let text = b"a\nb\nc\nd\ne\nf\ng\nh\ni\nj\na\tb\na\th\na\ti\ni\ta\nj\th\n";
-    let graph = read(&rt, text, Delimiter::Tab, LIMITS)?;
-    // Vertices 0 and 8, then 1 and 9: partition 7 is that of vertex 7, and partition 0 that of vertex 8.
-    assert!(rt; part_feeds(rt.alloc(), &graph, 8, 0, &[0b1000_0011, 0b1]));
-    assert!(rt; part_feeds(rt.alloc(), &graph, 8, 1, &[0, 0b1000_0000]));
-    // Vertices 0 and 9, then 8: partition 8 is that of vertex 8.
-    assert!(rt; part_feeds(rt.alloc(), &graph, 9, 0, &[0b1_1000_0010, 0b1000_0000]));
-    assert!(rt; part_feeds(rt.alloc(), &graph, 9, 8, &[0b1]));
-    Ok(())
+    // Of 8: vertices 0 and 8, then 1 and 9: partition 7 is that of vertex 7, and partition 0 that of vertex 8. Of 9:
+    // vertices 0 and 9, then 8: partition 8 is that of vertex 8.
+    let parts: [(u16, u16); 4] = [(8, 0), (8, 1), (9, 0), (9, 8)];
+    let wanted: [&[u64]; 4] = [
+        &[0b1000_0011, 0b1],
+        &[0, 0b1000_0000],
+        &[0b1_1000_0010, 0b1000_0000],
+        &[0b1],
+    ];
+    for i in 0..4usize {
+        assert!(rt; feeds(&rt, text, parts[i].0, parts[i].1, wanted[i]));
+    }
 }
 
 // Whether an error has this text.
@@ -339,18 +390,19 @@ fn says(alloc: Global, error: EdgeError, wanted: &str) -> bool {
 
 #[test]
 fn error_texts(rt: HostRuntime) {
-    let alloc = rt.alloc();
-    assert!(rt; says(alloc, EdgeError::Read, "the edge list cannot be read"));
-    assert!(rt; says(alloc, EdgeError::TooManyEdges, "too many records"));
-    assert!(rt;
-        says(
-            alloc,
+    let cases: [(EdgeError, &str); 5] = [
+        (EdgeError::Read, "the edge list cannot be read"),
+        (EdgeError::TooManyEdges, "too many records"),
+        (
             EdgeError::Fields { number: 2 },
-            "record 2 has not one or two identifiers"
-        )
-    );
-    assert!(rt; says(alloc, EdgeError::TooManyVertices, "too many vertices"));
-    assert!(rt; says(alloc, EdgeError::Memory, "out of memory"));
+            "record 2 has not one or two identifiers",
+        ),
+        (EdgeError::TooManyVertices, "too many vertices"),
+        (EdgeError::Memory, "out of memory"),
+    ];
+    for i in 0..5usize {
+        assert!(rt; says(rt.alloc(), cases[i].0, cases[i].1));
+    }
 }
 
 // A reader that gives a byte at a time, and whose call `fails_at` and all later ones fail.
@@ -470,16 +522,19 @@ fn push_long(text: &mut Vec<u8>, byte: u8, last: u8) -> Result<(), AllocError> {
     Ok(())
 }
 
-// Two labels of 300 bytes with one edge, and how their graph is shown.
+// Two labels of 300 bytes with one byte between them.
+fn push_two_long(text: &mut Vec<u8>, between: u8) -> Result<(), AllocError> {
+    push_long(text, b'x', b'y')?;
+    text.push(between)?;
+    push_long(text, b'x', b'z')
+}
+
+// An edge of labels of 300 bytes, and how its graph is shown.
 fn long_labels(alloc: Global) -> Result<(Vec<u8>, Vec<u8>), AllocError> {
     let mut text = Vec::new(alloc);
-    push_long(&mut text, b'x', b'y')?;
-    text.push(b'\t')?;
-    push_long(&mut text, b'x', b'z')?;
+    push_two_long(&mut text, b'\t')?;
     let mut wanted = Vec::new(alloc);
-    push_long(&mut wanted, b'x', b'y')?;
-    wanted.push(b'\n')?;
-    push_long(&mut wanted, b'x', b'z')?;
+    push_two_long(&mut wanted, b'\n')?;
     wanted.extend_from_slice(b" 0\n")?;
     Ok((text, wanted))
 }
@@ -506,15 +561,29 @@ fn five_digits(v: u32) -> [u8; 5] {
     ]
 }
 
-// The edges from each number below a count to the next, labelled by their digits.
+// The edge from a number to the next, labelled by their digits.
+fn push_step(text: &mut Vec<u8>, v: u32) -> Result<(), AllocError> {
+    text.extend_from_slice(&five_digits(v))?;
+    text.push(b'\t')?;
+    text.extend_from_slice(&five_digits(v.saturating_add(1)))?;
+    text.push(b'\n')?;
+    Ok(())
+}
+
+// The edges from each number below a count to the next.
 fn push_path(text: &mut Vec<u8>, count: u32) -> Result<(), AllocError> {
     for v in 0..count {
-        text.extend_from_slice(&five_digits(v))?;
-        text.push(b'\t')?;
-        text.extend_from_slice(&five_digits(v + 1))?;
-        text.push(b'\n')?;
+        push_step(text, v)?;
     }
     Ok(())
+}
+
+// A path, each of whose edges stands twice.
+fn path(alloc: Global, count: u32) -> Result<Vec<u8>, AllocError> {
+    let mut text = Vec::new(alloc);
+    push_path(&mut text, count)?;
+    push_path(&mut text, count)?;
+    Ok(text)
 }
 
 // Whether the label of a vertex is its number, and its one predecessor the vertex before.
@@ -528,42 +597,47 @@ fn is_next(graph: &Graph, v: u32) -> bool {
         && preds.next() == None
 }
 
-// How many vertices of a path, each of whose edges stands twice, are as they should be.
-fn path(rt: &HostRuntime, count: u32) -> Option<u32> {
-    let mut text = Vec::new(rt.alloc());
-    let Ok(()) = push_path(&mut text, count) else {
-        return None;
-    };
-    let Ok(()) = push_path(&mut text, count) else {
-        return None;
-    };
-    let Ok(graph) = read(rt, &text, Delimiter::Tab, LIMITS) else {
-        return None;
-    };
+// How many vertices of a path are as they should be.
+fn count_next(graph: &Graph) -> u32 {
     let mut right = 0u32;
     for v in 0..graph.vertices() {
-        if is_next(&graph, v) {
+        if is_next(graph, v) {
             right = right.saturating_add(1);
         }
     }
-    Some(right)
+    right
+}
+
+// The same of an edge list with tabs.
+fn next_of(rt: &HostRuntime, text: &[u8]) -> Option<u32> {
+    match read(rt, text, Delimiter::Tab, LIMITS) {
+        Ok(graph) => Some(count_next(&graph)),
+        Err(_) => None,
+    }
 }
 
 #[test]
 fn many_labels(rt: HostRuntime) {
     // More than the 65,536 entries that there are at first. Vertex 0 has no predecessor.
-    assert_eq!(rt; path(&rt, 70_000), Some(70_000));
+    match path(rt.alloc(), 70_000) {
+        Ok(text) => assert_eq!(rt; next_of(&rt, &text), Some(70_000)),
+        Err(_) => assert!(rt; false),
+    }
 }
 
-// A line of an edge list with tabs, or of a list: its graph, with just the vertices of the list counted.
+// The graph of an edge list with tabs, once a list was to say which of its vertices are counted, and the answer.
 fn counting(
     rt: &HostRuntime,
     text: &[u8],
     list: &[u8],
-) -> Result<(Graph, Result<(), CountedError>), Fail> {
-    let mut graph = read(rt, text, Delimiter::Tab, LIMITS)?;
-    let result = graph.count_only(rt.alloc(), Delimiter::Tab, list);
-    Ok((graph, result))
+) -> Option<(Graph, Result<(), CountedError>)> {
+    match read(rt, text, Delimiter::Tab, LIMITS) {
+        Ok(mut graph) => {
+            let result = graph.count_only(rt.alloc(), Delimiter::Tab, list);
+            Some((graph, result))
+        }
+        Err(_) => None,
+    }
 }
 
 // Whether just the vertices of these digits are counted, of ten at most, and are told to be so many.
@@ -575,33 +649,32 @@ fn counts(graph: &Graph, wanted: &[u8]) -> bool {
     right
 }
 
-// What counting the vertices of a list answers on an edge list, and whether then just these are counted.
-fn counted_list(
+// Whether counting the vertices of a list on an edge list answers this, and counts just the wanted ones.
+fn counts_list(
     rt: &HostRuntime,
     text: &[u8],
     list: &[u8],
+    answer: Result<(), CountedError>,
     wanted: &[u8],
-) -> Result<(Result<(), CountedError>, bool), Fail> {
-    let (graph, result) = counting(rt, text, list)?;
-    Ok((result, counts(&graph, wanted)))
+) -> bool {
+    match counting(rt, text, list) {
+        Some((graph, result)) => result == answer && counts(&graph, wanted),
+        None => false,
+    }
 }
 
 #[test]
-fn counted_lists(rt: HostRuntime) -> Result<(), Fail> {
+fn counted_lists(rt: HostRuntime) {
     // One vertex; all of them, one twice and in another order; none; comments, empty lines and both ends of lines.
     let lists: [&[u8]; 5] = [b"a", b"b\nc\na\nb\n", b"", b"# a\n\nc\r\n", b"a\n# b"];
     let wanted: [&[u8]; 5] = [b"0", b"012", b"", b"2", b"0"];
     for i in 0..5usize {
-        assert_eq!(rt;
-            counted_list(&rt, TWO_EDGES, lists[i], wanted[i])?,
-            (Ok(()), true)
-        );
+        assert!(rt; counts_list(&rt, TWO_EDGES, lists[i], Ok(()), wanted[i]));
     }
-    Ok(())
 }
 
 #[test]
-fn refused_lists(rt: HostRuntime) -> Result<(), Fail> {
+fn refused_lists(rt: HostRuntime) {
     // Comments and empty lines have no number, and a refused list leaves all vertices counted.
     let lists: [&[u8]; 6] = [
         b"# c\nz",
@@ -620,55 +693,51 @@ fn refused_lists(rt: HostRuntime) -> Result<(), Fail> {
         CountedError::Unknown { number: 2 },
     ];
     for i in 0..6usize {
-        assert_eq!(rt;
-            counted_list(&rt, TWO_EDGES, lists[i], b"012")?,
-            (Err(wanted[i]), true)
-        );
+        assert!(rt; counts_list(&rt, TWO_EDGES, lists[i], Err(wanted[i]), b"012"));
     }
-    Ok(())
+}
+
+// Whether a list that is refused leaves the first two counted, and one of the third alone then counts that.
+fn counts_in_turn(alloc: Global, graph: &mut Graph) -> bool {
+    let refused = graph.count_only(alloc, Delimiter::Tab, b"c\nz");
+    let kept = counts(graph, b"01");
+    let second = graph.count_only(alloc, Delimiter::Comma, b"c");
+    refused == Err(CountedError::Unknown { number: 2 })
+        && kept
+        && second == Ok(())
+        && counts(graph, b"2")
 }
 
 #[test]
-fn counted_twice(rt: HostRuntime) -> Result<(), Fail> {
-    let (mut graph, first) = counting(&rt, TWO_EDGES, b"a\nb")?;
-    let refused = graph.count_only(rt.alloc(), Delimiter::Tab, b"c\nz");
-    let kept = counts(&graph, b"01");
-    let second = graph.count_only(rt.alloc(), Delimiter::Comma, b"c");
-    assert!(rt;
-        first == Ok(())
-            && refused == Err(CountedError::Unknown { number: 2 })
-            && kept
-            && second == Ok(())
-            && counts(&graph, b"2")
-    );
-    Ok(())
+fn counted_twice(rt: HostRuntime) {
+    let right = match counting(&rt, TWO_EDGES, b"a\nb") {
+        Some((mut graph, first)) => first == Ok(()) && counts_in_turn(rt.alloc(), &mut graph),
+        None => false,
+    };
+    assert!(rt; right);
 }
 
 #[test]
-fn lists_of_odd_labels(rt: HostRuntime) -> Result<(), Fail> {
+fn lists_of_odd_labels(rt: HostRuntime) {
     // Labels that begin alike, with quotes, of bytes that are no text, and of one space.
     let text = b"\"x\ty\"\"z\n\xff\xc0\t \nab\tabc\na\tabcdefghijklmn\n";
     let lists: [&[u8]; 2] = [b"\"x\n\xff\xc0\nab\n", b" \nabcdefghijklmn\ny\"\"z\nabc\na"];
     let wanted: [&[u8]; 2] = [b"024", b"13567"];
     for i in 0..2usize {
-        assert_eq!(rt;
-            counted_list(&rt, text, lists[i], wanted[i])?,
-            (Ok(()), true)
-        );
+        assert!(rt; counts_list(&rt, text, lists[i], Ok(()), wanted[i]));
     }
-    Ok(())
 }
 
 // The job digest of the two edges in two partitions with just the vertices of a list counted.
-fn counted_digest(rt: &HostRuntime, list: &[u8]) -> Result<[u8; 32], Fail> {
-    let (graph, result) = counting(rt, TWO_EDGES, list)?;
-    result?;
-    let plan = graph.plan(4, 0, 2, 4096)?;
-    Ok(plan.job())
+fn counted_digest(rt: &HostRuntime, list: &[u8]) -> Option<Result<[u8; 32], PlanError>> {
+    match counting(rt, TWO_EDGES, list) {
+        Some((graph, Ok(()))) => Some(job_of(&graph, 4)),
+        _ => None,
+    }
 }
 
 #[test]
-fn digests_of_counted_vertices(rt: HostRuntime) -> Result<(), Fail> {
+fn digests_of_counted_vertices(rt: HostRuntime) {
     // SHA-256, by another program, of the 55 bytes 48424a32 04 0000000000000000 0002 00001000 00000003
     // 0000000000000002 00000000 00000001 00000001 00000002 00000001 00000000.
     let one: [u8; 32] = [
@@ -676,23 +745,13 @@ fn digests_of_counted_vertices(rt: HostRuntime) -> Result<(), Fail> {
         0x21, 0xec, 0x52, 0x0b, 0x6f, 0x4a, 0x74, 0x5c, 0x46, 0x6d, 0x5d, 0x0b, 0x42, 0x93, 0x61,
         0x61, 0x45,
     ];
-    let all = digest(&rt, TWO_EDGES, 4);
-    assert_eq!(rt; counted_digest(&rt, b"a")?, one);
-    assert!(rt; Some(Ok(counted_digest(&rt, b"a\nb\nc\na")?)) == all);
-    Ok(())
+    let named = counted_digest(&rt, b"a\nb\nc\na");
+    assert!(rt; counted_digest(&rt, b"a") == Some(Ok(one)));
+    assert!(rt; named != None && named == digest(&rt, TWO_EDGES, 4));
 }
 
-// Whether the vertices of a part of two are counted just as wanted.
-fn part_counts(alloc: Global, graph: &Graph, p: u16, wanted: &[bool]) -> bool {
-    let Ok(plan) = graph.plan(4, 0, 2, 4096) else {
-        return false;
-    };
-    if p >= plan.parts() {
-        return false;
-    }
-    let Ok(part) = graph.part(alloc, &plan, p) else {
-        return false;
-    };
+// Whether the vertices of a part are counted just so.
+fn has_counts(part: &Part, wanted: &[bool]) -> bool {
     let mut right = part.size() as usize == wanted.len();
     for i in 0..part.size() {
         right = right && wanted.get(i as usize) == Some(&part.counts(i));
@@ -700,12 +759,26 @@ fn part_counts(alloc: Global, graph: &Graph, p: u16, wanted: &[bool]) -> bool {
     right
 }
 
+// Whether the vertices of a part of two of a graph are counted just so.
+fn part_counts(alloc: Global, graph: &Graph, p: u16, wanted: &[bool]) -> bool {
+    match part_of(alloc, graph, 2, p) {
+        Some(part) => has_counts(&part, wanted),
+        None => false,
+    }
+}
+
+// The same of the two edges with just the first vertex counted.
+fn counts_first(rt: &HostRuntime, p: u16, wanted: &[bool]) -> bool {
+    match counting(rt, TWO_EDGES, b"a") {
+        Some((graph, Ok(()))) => part_counts(rt.alloc(), &graph, p, wanted),
+        _ => false,
+    }
+}
+
 #[test]
-fn parts_know_counted_vertices(rt: HostRuntime) -> Result<(), Fail> {
-    let (graph, _) = counting(&rt, TWO_EDGES, b"a")?;
-    assert!(rt; part_counts(rt.alloc(), &graph, 0, &[true, false]));
-    assert!(rt; part_counts(rt.alloc(), &graph, 1, &[false]));
-    Ok(())
+fn parts_know_counted_vertices(rt: HostRuntime) {
+    assert!(rt; counts_first(&rt, 0, &[true, false]));
+    assert!(rt; counts_first(&rt, 1, &[false]));
 }
 
 // Whether an error of a list has this text.
@@ -718,20 +791,18 @@ fn says_of_list(alloc: Global, error: CountedError, wanted: &str) -> bool {
 
 #[test]
 fn counted_error_texts(rt: HostRuntime) {
-    let alloc = rt.alloc();
-    assert!(rt;
-        says_of_list(
-            alloc,
+    let cases: [(CountedError, &str); 3] = [
+        (
             CountedError::Fields { number: 2 },
-            "record 2 of the list is not one identifier"
-        )
-    );
-    assert!(rt;
-        says_of_list(
-            alloc,
+            "record 2 of the list is not one identifier",
+        ),
+        (
             CountedError::Unknown { number: 3 },
-            "record 3 of the list names no vertex"
-        )
-    );
-    assert!(rt; says_of_list(alloc, CountedError::Memory, "out of memory"));
+            "record 3 of the list names no vertex",
+        ),
+        (CountedError::Memory, "out of memory"),
+    ];
+    for i in 0..3usize {
+        assert!(rt; says_of_list(rt.alloc(), cases[i].0, cases[i].1));
+    }
 }

@@ -2,6 +2,7 @@ use Rattle.std.proofs.Common.{◌≡◌, arith, true, false}
 use Rattle.std.proofs.lemmas.Result.{err_from_is_err_and}
 use Rattle.csv.specs.Records.{fields_of}
 use Rattle.edgelist.proofs.CountLemmas.{counts-start, counts-end, counts-more, counts-stop}
+use Rattle.edgelist.proofs.RecordLemmas.{past-within}
 use Rattle.edgelist.proofs.counting.mark_all.Goals as goal
 
 pub loop-number-init : goal.loop-number-init
@@ -11,19 +12,25 @@ loop-number-init g c = record {
 }
 
 pub returns-then-not-more-clause-ok : goal.returns-then-not-more-clause-ok
-returns-then-not-more-clause-ok g c = λ d text at.
+returns-then-not-more-clause-ok g c = λ d text at few.
     let counts = c.loop-number.invariant.counts d text at in
     let none : c.in_ok-more.more ≡ false = search c.if-not-more.true in
     counts-end g.R.Read.remaining d c.args.index.now c.loop-number.number text c.loop-number.reader c.loop-number.marks
     counts (c.in_ok-more.ensures.end none d text counts.past counts.at)
+
+-- there is no record number `most`
+pub returns-clause-ok : goal.returns-clause-ok
+returns-clause-ok g c = λ d text at few.
+    let counts = c.loop-number.invariant.counts d text at in
+    absurd (omega (arith, few, counts.count, past-within g.R.Read.remaining d text counts.past c.loop-number.reader counts.at, c.loop-number-test.false))
 
 pub returns-in_err-mark-clause-refused : goal.returns-in_err-mark-clause-refused
 returns-in_err-mark-clause-refused g c = λ d text at.
     let counts = c.loop-number.invariant.counts d text at in
     let more : c.in_ok-more.more ≡ true = search c.if-not-more.false in
     let p = err_from_is_err_and c.from_residual-in_err-mark.result c.from_residual-in_err-mark.ensures.1 in
-    rw (p.1, p.2) (counts-stop g.R.Read.remaining d c.args.index.now c.loop-number.number text c.loop-number.reader c.next_record.new.reader
-    c.loop-number.marks (fields_of c.next_record.new.row) c.in_err-mark.field-0.0
+    rw (p.1, p.2) (counts-stop g.R.Read.remaining d c.args.index.now c.loop-number.number text c.loop-number.reader c.next_row.new.reader
+    c.loop-number.marks (fields_of c.next_row.new.row) c.in_err-mark.field-0.0
     counts (c.in_ok-more.ensures.one more d text counts.past counts.at) c.in_err-mark.ensures.stops)
 
 pub loop-number-preserved : goal.loop-number-preserved
@@ -35,7 +42,7 @@ loop-number-preserved g c =
       counts = λ d text at.
           let counts = c.loop-number.invariant.counts d text at in
           let more : c.in_ok-more.more ≡ true = search c.if-not-more.false in
-          counts-more g.R.Read.remaining d c.args.index.now c.loop-number.number text c.loop-number.reader c.next_record.new.reader
-          c.loop-number.marks c.mark.new.marks (fields_of c.next_record.new.row)
+          counts-more g.R.Read.remaining d c.args.index.now c.loop-number.number text c.loop-number.reader c.next_row.new.reader
+          c.loop-number.marks c.mark.new.marks (fields_of c.next_row.new.row)
           counts (c.in_ok-more.ensures.one more d text counts.past counts.at) marks passes;
     }

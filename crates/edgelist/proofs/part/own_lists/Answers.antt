@@ -7,7 +7,7 @@ use Rattle.ball_model.specs.Graph.{preds_of}
 use Rattle.ball_model.specs.PlanValue.{vertices_of}
 use Rattle.edgelist.proofs.OwnLemmas.{own-next, other-next, preds-from, left-next, left-all}
 use Rattle.edgelist.proofs.part.own_lists.Goals as goal
-use Rattle.edgelist.proofs.part.own_lists.Goals.{then-x-parts+in_ok-put_preds+in_ok-builder-2, else-x-parts}
+use Rattle.edgelist.proofs.part.own_lists.Goals.{then-x-parts+in_ok-builder-2, else-x-parts}
 
 pub loop-x-init : goal.loop-x-init
 unfolding vertices_of
@@ -22,9 +22,9 @@ total-more : (lists : List (List ℕ)) (list : List ℕ) (total len : ℕ) → t
 total-more lists list total len is long =
     omega (arith, is, long, sum_by-append length lists (list ∷ []), sum_by-cons length list [])
 
-pub push-requires : goal.push-requires
-push-requires c =
-    let is = c.deref.ensures.value ∙ c.in_ok-put_preds.ensures ∙ c.preds.ensures.value in
+pub push_preds-requires : goal.push_preds-requires
+push_preds-requires c =
+    let is = c.preds.ensures.value in
     subst (λ (xs : List ℕ). AscendsFrom 0 xs) (sym is) (preds-from c.args.graph.now.graph c.loop-x.x)
 
 pub overflow_add-total : goal.overflow_add-total
@@ -32,8 +32,8 @@ overflow_add-total c =
     omega (
       arith,
       c.len-total.ensures,
-      c.put_preds.new.row.ok.0,
-      ap (length {A = ℕ}) (c.in_ok-put_preds.ensures ∙ c.preds.ensures.value),
+      c.push_preds.new.row.ok.0,
+      ap (length {A = ℕ}) (c.in_ok-builder-2.ensures.row ∙ c.preds.ensures.value),
       c.loop-x.invariant.room,
       left-next c.args.graph.now.graph c.args.graph.now.graph.vertices c.loop-x.x (omega (arith, c.vertices-x-end.ensures.count, c.loop-x-test.true)),
       c.vertices-x-end.ensures.few_edges,
@@ -44,11 +44,10 @@ loop-x-preserved c =
     let lt : c.loop-x.x < c.args.graph.now.graph.vertices = omega (arith, c.vertices-x-end.ensures.count, c.loop-x-test.true) in
     let next = left-next c.args.graph.now.graph c.args.graph.now.graph.vertices c.loop-x.x lt in
     elim c.if-x-parts.branch [
-      | then-x-parts+in_ok-put_preds+in_ok-builder-2 w ↦
-          let is = w.deref.ensures.value ∙ w.in_ok-put_preds.ensures ∙ w.preds.ensures.value in
-          let row = w.in_ok-put_preds.ensures ∙ w.preds.ensures.value in
-          let built = w.in_ok-builder-2.ensures ∙ ap (λ (xs : List ℕ). c.loop-x.builder ++ xs ∷ []) is in
-          let len : w.len-total.result ≡ length (preds_of c.args.graph.now.graph c.loop-x.x) = omega (arith, w.len-total.ensures, w.put_preds.new.row.ok.0, ap (length {A = ℕ}) row) in
+      | then-x-parts+in_ok-builder-2 w ↦
+          let row = w.in_ok-builder-2.ensures.row ∙ w.preds.ensures.value in
+          let built = w.in_ok-builder-2.ensures.lists ∙ ap (λ (xs : List ℕ). c.loop-x.builder ++ xs ∷ []) w.preds.ensures.value in
+          let len : w.len-total.result ≡ length (preds_of c.args.graph.now.graph c.loop-x.x) = omega (arith, w.len-total.ensures, w.push_preds.new.row.ok.0, ap (length {A = ℕ}) row) in
           record {
             lists = w.builder-is ∙ built
                 ∙ rw (c.loop-x.invariant.lists, own-next c.loop-x.x c.args.parts c.args.p w.if-x-parts.true)

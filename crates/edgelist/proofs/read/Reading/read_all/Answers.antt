@@ -1,6 +1,7 @@
 use Rattle.std.proofs.Common.{◌≡◌, arith, true, false}
 use Rattle.std.proofs.lemmas.Result.{err_from_is_err_and}
 use Rattle.csv.specs.Records.{fields_of}
+use Rattle.ball_model.specs.Input.{records, network_from}
 use Rattle.edgelist.specs.Reading.{limits_of}
 use Rattle.edgelist.proofs.LoopLemmas.{goes-start, goes-end, goes-more, goes-stop}
 use Rattle.edgelist.proofs.read.Reading.read_all.Goals as goal
@@ -19,13 +20,18 @@ returns-then-not-more-clause-ok g c = λ d text at.
     goes-end g.R.Read.remaining d (limits_of c.args.limits) c.loop-number.number text c.loop-number.reader c.loop-number.self.labels c.loop-number.self.edges.items
     goes (c.in_ok-more.ensures.end none d text goes.past goes.at)
 
+pub returns-in_err-more-clause-refused : goal.returns-in_err-more-clause-refused
+returns-in_err-more-clause-refused g c = λ d text at.
+    let p = err_from_is_err_and c.from_residual.result c.from_residual.ensures.1 in
+    rw (p.1, p.2) (c.in_err-more.ensures.failed (network_from (limits_of c.args.limits) (records d text)))
+
 pub returns-in_err-add-clause-refused : goal.returns-in_err-add-clause-refused
 returns-in_err-add-clause-refused g c = λ d text at.
     let goes = c.loop-number.invariant.goes d text at in
     let more : c.in_ok-more.more ≡ true = search c.if-not-more.false in
     let p = err_from_is_err_and c.from_residual-in_err-add.result c.from_residual-in_err-add.ensures.1 in
-    rw (p.1, p.2) (goes-stop g.R.Read.remaining d (limits_of c.args.limits) c.loop-number.number text c.loop-number.reader c.next_record.new.reader
-    c.loop-number.self.labels c.loop-number.self.edges.items (fields_of c.next_record.new.row) c.in_err-add.field-0.0
+    rw (p.1, p.2) (goes-stop g.R.Read.remaining d (limits_of c.args.limits) c.loop-number.number text c.loop-number.reader c.next_row.new.reader
+    c.loop-number.self.labels c.loop-number.self.edges.items (fields_of c.next_row.new.row) c.in_err-add.field-0.0
     goes (c.in_ok-more.ensures.one more d text goes.past goes.at) c.in_err-add.ensures.stops)
 
 pub loop-number-preserved : goal.loop-number-preserved
@@ -38,7 +44,7 @@ loop-number-preserved g c =
       goes = λ d text at.
           let goes = c.loop-number.invariant.goes d text at in
           let more : c.in_ok-more.more ≡ true = search c.if-not-more.false in
-          goes-more g.R.Read.remaining d (limits_of c.args.limits) c.loop-number.number text c.loop-number.reader c.next_record.new.reader
-          c.loop-number.self.labels c.add.new.self.labels c.loop-number.self.edges.items c.add.new.self.edges.items (fields_of c.next_record.new.row)
+          goes-more g.R.Read.remaining d (limits_of c.args.limits) c.loop-number.number text c.loop-number.reader c.next_row.new.reader
+          c.loop-number.self.labels c.add.new.self.labels c.loop-number.self.edges.items c.add.new.self.edges.items (fields_of c.next_row.new.row)
           goes (c.in_ok-more.ensures.one more d text goes.past goes.at) adds;
     }

@@ -1,15 +1,15 @@
 use Rattle.std.proofs.Common.{◌∙◌, [], length, ℕ, ap, arith}
 use Rattle.edgelist.proofs.CutLemmas.{starts-none, cut-none, text-push, map-more, last-start}
-use Rattle.edgelist.proofs.labels.Labels.of.Goals as goal
+use Rattle.edgelist.proofs.labels.put_texts.Goals as goal
 
 pub loop-text-init : goal.loop-text-init
 loop-text-init c = record {
-  starts = rw (c.in_ok-starts.ensures, c.in_ok-with_room.ensures, c.in_ok-bytes.ensures.items) starts-none.ascend;
-  labels = rw (c.in_ok-starts.ensures, c.in_ok-with_room.ensures, c.in_ok-bytes.ensures.items) (cut-none []);
+  starts = rw (c.in_ok-starts.ensures, c.requires) starts-none.ascend;
+  labels = rw (c.in_ok-starts.ensures, c.requires) (cut-none []);
 }
 
-pub push-requires-in-loop-text-clause-order : goal.push-requires-in-loop-text-clause-order
-push-requires-in-loop-text-clause-order c =
+pub push-requires-clause-order : goal.push-requires-clause-order
+push-requires-clause-order c =
     omega (arith, last-start _ c.loop-text.starts c.loop-text.invariant.starts, c.len.ensures, ap (length {A = ℕ}) c.in_ok-extend_from_slice.ensures.items, c.in_ok-extend_from_slice.ensures.len)
 
 pub loop-text-preserved : goal.loop-text-preserved

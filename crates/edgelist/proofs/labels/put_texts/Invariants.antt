@@ -1,6 +1,6 @@
 use Rattle.std.proofs.Common.{◌≡◌, length, map, take}
 use Rattle.edgelist.specs.Lists.{Ascend, lists_between}
-use Rattle.edgelist.proofs.labels.Labels.of.Given as goal
+use Rattle.edgelist.proofs.labels.put_texts.Given as goal
 
 abbrev pub invariant-loop-text : goal.invariant-loop-text
 invariant-loop-text l = record {

@@ -1,0 +1,21 @@
+use Rattle.std.proofs.Common.{◌≡◌}
+use Rattle.std.specs.Prelude.{Result, Ok, Err, IsOkAnd, IfOk, IfErr, OnOk, MatchResult}
+use Rattle.edgelist.proofs.read.read_records.Goals as goal
+
+map-ok : {X Y E : Type 0} (r : Result X E) (s : Result Y E) (F : X → Y → Type 0) (P : Type 0) (Q : Y → Type 0) → MatchResult r (λ x. IsOkAnd s (F x)) (λ e. s ≡ Err e) → OnOk r P → (P → (x : X) (y : Y) → F x y → Q y) → IfOk s Q
+map-ok (Ok x) (Ok y) F P Q m p f = f p x y m
+map-ok (Ok x) (Err e) F P Q m p f = tt
+map-ok (Err e) s F P Q m p f = rw m tt
+
+map-err : {X Y E : Type 0} (r : Result X E) (s : Result Y E) (F : X → Y → Type 0) (P : E → Type 0) → MatchResult r (λ x. IsOkAnd s (F x)) (λ e. s ≡ Err e) → IfErr r P → IfErr s P
+map-err (Ok x) (Ok y) F P m p = tt
+map-err (Ok x) (Err e) F P m p = absurd m
+map-err (Err e) s F P m p = rw m p
+
+pub returns-clause-ok : goal.returns-clause-ok
+returns-clause-ok g c = λ d text at.
+    map-ok c.read_all-read.result c.map.result _ _ _ c.map.ensures.cases (c.read_all-read.ensures.ok d text at) (λ p x y post. let is : y ≡ c.read_all-read.new.self = search in rw is p)
+
+pub returns-clause-refused : goal.returns-clause-refused
+returns-clause-refused g c = λ d text at.
+    map-err c.read_all-read.result c.map.result _ _ c.map.ensures.cases (c.read_all-read.ensures.refused d text at)
