@@ -30,3 +30,4 @@ pub mod HoldingLemmas
 pub mod OverLemmas
 pub mod AccumulatorLemmas
 pub mod Crossing
+pub mod ReceiveLemmas

@@ -1,27 +1,24 @@
 -- What two replicas of one partition know, taken together.
-use Rattle.std.proofs.Common.{◌≡◌, ℕ, zero, suc, ◌+◌, ◌-◌, ◌%◌, ◌<◌, ◌≤◌, max, min, ◌==◌, nat_le, nat_lt, not, Bool, true, false, ◌&&◌, ◌||◌, if◌then◌else◌, List, [], ◌∷◌, length, map, get_or, refl, ap, arith, sym, ◌∙◌, inl, inr, subst, is_some, IfSome, ◌⊎◌}
+use Rattle.std.proofs.Common.{◌≡◌, ℕ, zero, suc, ◌+◌, ◌-◌, ◌%◌, ◌^◌, ◌<◌, ◌≤◌, max, min, ◌==◌, nat_le, nat_lt, not, Bool, true, false, ◌&&◌, ◌||◌, if◌then◌else◌, List, [], ◌∷◌, length, map, get_or, refl, ap, arith, sym, ◌∙◌, inl, inr, subst, is_some, IfSome, ◌⊎◌}
 use Rattle.std.specs.Prelude.{Option, Some, None}
-use Rattle.std.specs.List.{zip, range_with_len, list_any}
+use Rattle.std.specs.List.{zip}
 use Rattle.std.specs.Str.{bytes_eq}
 use Rattle.std.proofs.lemmas.Bool.{cases_lt, cases_eq}
 use Rattle.std.proofs.lemmas.Bool.Decides.{nat_tests}
-use Rattle.std.proofs.lemmas.List.{length-map}
 use Rattle.std.proofs.lemmas.List.FromFn.{get_or-map-range_with_len, length-map-range_with_len}
-use Rattle.std.proofs.lemmas.Slice.Zip.{length-zip}
-use Rattle.ball_model.specs.declared.names.BatchName.{BatchName}
 use Rattle.ball_model.specs.Accumulated.{accumulated_of}
 use Rattle.ball_model.specs.Counter.{max_each}
 use Rattle.ball_model.specs.PlanValue.{PlanValue}
 use Rattle.ball_model.specs.Job.{Job, IsPart, PartValue, part_of}
 use Rattle.ball_model.specs.Batches.{BatchValue, true_batch, changed_count}
-use Rattle.ball_model.specs.Join.{union_of}
-use Rattle.ball_model.specs.State.{State, StandsFor, KeepsTrue, content_of, early_at, holds_in, further, is_heard, heard_changes}
+use Rattle.ball_model.specs.State.{State, StandsFor, content_of, early_at, holds_in, further, is_heard, heard_changes}
 use Rattle.ball_model.proofs.AccumulatedPartLemmas.{accumulated_of-or, accumulated_of-alike}
-use Rattle.registers.specs.Joined.{union_of_flags}
+use Rattle.ball_model.specs.Table.{Table}
+use Rattle.registers.specs.Joined.{maximum_of_rows, union_of_flags}
 use Rattle.replica.specs.Ahead.{IsTable, either}
 use Rattle.replica.specs.Hearing.{Hears}
 use Rattle.replica.specs.Index.{targets_of}
-use Rattle.replica.specs.Kept.{IsOfName, AreEarly, AreSources, AreCounters, Rises, AllRise}
+use Rattle.replica.specs.Kept.{IsOfName, AreEarly, AreSources, AreCounters, AllRise}
 use Rattle.replica.specs.Level.{differences}
 use Rattle.replica.specs.Merged.{ShowsAs, Absorbs}
 use Rattle.replica.specs.Seen.{IsState}
@@ -29,7 +26,6 @@ use Rattle.replica.specs.Spread.{AreTouched}
 use Rattle.replica.proofs.AdvanceLemmas.{holds_now, holds_before, holds_later, same_early, true_at}
 use Rattle.replica.proofs.EarlyLemmas.{no_level, no_source}
 use Rattle.replica.proofs.HearLemmas.{any_or, any_same}
-use Rattle.replica.proofs.LevelLemmas.{plan_is, number_is}
 use Rattle.replica.proofs.RiseLemmas.{max_rises, all_on, rise_counters}
 use Rattle.replica.proofs.StateLemmas.{sources_more}
 
@@ -433,3 +429,51 @@ further_superstep v o =
       | inl less ↦ let top : o.superstep ≡ max v.superstep o.superstep = omega arith in ap (λ b. (if b then o else v).superstep) (lt_yes v.superstep o.superstep less) ∙ top
       | inr more ↦ let top : v.superstep ≡ max v.superstep o.superstep = omega arith in ap (λ b. (if b then o else v).superstep) (lt_no v.superstep o.superstep more) ∙ top
     ]
+
+-- ---- what is taken over
+
+-- two of one plan and one partition, and the batches that the other one keeps
+pub record Meets (v o : State) (shared : List (List (Option BatchValue))) : Type 0 where
+  pub mine : IsState v
+  pub theirs : IsState o
+  pub plan : v.part.plan ≡ o.part.plan
+  pub number : v.part.number ≡ o.part.number
+  pub size : length v.part.preds ≡ length o.part.preds
+  pub count : length v.accumulated ≡ length o.accumulated
+  pub early : shared ≡ o.early
+  pub table : IsTable v.part.plan.parts shared
+
+pub meets : (v o mine theirs : State) (shared : List (List (Option BatchValue))) → IsState v → IsState o → v ≡ mine → o ≡ theirs → mine.part.plan ≡ theirs.part.plan → mine.part.number ≡ theirs.part.number → shared ≡ theirs.early → Meets v o shared
+meets v o mine theirs shared sv so is other plan number early =
+    let plans : v.part.plan ≡ o.part.plan = ap (λ (u : State). u.part.plan) is ∙ plan ∙ sym (ap (λ (u : State). u.part.plan) other) in
+    let numbers : v.part.number ≡ o.part.number = ap (λ (u : State). u.part.number) is ∙ number ∙ sym (ap (λ (u : State). u.part.number) other) in
+    let batches : shared ≡ o.early = early ∙ sym (ap (λ (u : State). u.early) other) in
+    record {
+      mine = sv;
+      theirs = so;
+      plan = plans;
+      number = numbers;
+      size = as_large v o sv so plans numbers;
+      count = as_long v o sv so plans numbers;
+      early = batches;
+      table = subst (λ e. IsTable v.part.plan.parts e) (sym batches) (subst (λ n. IsTable n o.early) (sym (ap (λ (a : PlanValue). a.parts) plans)) so.early.table);
+    }
+
+-- the accumulators of both, joined
+pub record Raises (v o : State) (joined : Table) : Type 0 where
+  pub width : joined.width ≡ 2 ^ v.part.plan.log2m
+  pub rows : joined.rows ≡ map (λ p. max_each p.0 p.1) (zip v.accumulated o.accumulated)
+  pub rise : AllRise v.part.plan.log2m v.accumulated joined.rows
+
+pub raises : (v o : State) (shared : List (List (Option BatchValue))) (own other joined : Table) → Meets v o shared → own.width ≡ 2 ^ v.part.plan.log2m → own.rows ≡ v.accumulated → other.rows ≡ o.accumulated → joined ≡ maximum_of_rows own other → Raises v o joined
+raises v o shared own other joined m width mine theirs is =
+    let rows : joined.rows ≡ map (λ p. max_each p.0 p.1) (zip v.accumulated o.accumulated) = ap (λ (t : Table). t.rows) is ∙ rw (mine, theirs) refl in
+    record {
+      width = ap (λ (t : Table). t.width) is ∙ width;
+      rows = rows;
+      rise = subst (λ (l : List (List ℕ)). AllRise v.part.plan.log2m v.accumulated l) (sym rows) (unites_rise v o m.mine m.theirs m.plan m.number);
+    }
+
+pub absorbs_as : (v o w mine theirs after : State) → v ≡ mine → o ≡ theirs → w ≡ after → Absorbs v o w → Absorbs mine theirs after
+absorbs_as v o w mine theirs after is other same a =
+    subst (λ (u : State). Absorbs mine theirs u) same (subst (λ (u : State). Absorbs mine u w) other (subst (λ (u : State). Absorbs u o w) is a))

@@ -11,6 +11,8 @@ use Rattle.ball_model.specs.PlanValue.{PlanValue}
 use Rattle.ball_model.specs.Job.{PartValue, IsPart}
 use Rattle.ball_model.specs.Figures.{TallyValue, estimate_of}
 use Rattle.ball_model.specs.State.{State, early_at}
+use Rattle.figures.specs.declared.tally.Tally.{Tally}
+use Rattle.figures.specs.Values.{value_of}
 use Rattle.replica.specs.Ahead.{IsTable}
 use Rattle.replica.specs.Change.{Advances}
 use Rattle.replica.specs.Kept.{IsOfName, IsFrom, AreEarly, AreSources, AreSums}
@@ -20,7 +22,7 @@ use Rattle.replica.proofs.AdvanceLemmas.{if_same}
 use Rattle.replica.proofs.EarlyLemmas.{no_source}
 use Rattle.replica.proofs.HearLemmas.{flag_none}
 use Rattle.replica.proofs.LevelLemmas.{length-differing}
-use Rattle.replica.proofs.NextLemmas.{stepped_lasts, sum_same}
+use Rattle.replica.proofs.NextLemmas.{stepped_lasts, sum_same, total_of-lasts, map_lasts}
 use Rattle.replica.proofs.RiseLemmas.{rise_counters}
 use Rattle.replica.specs.Index.{targets_of}
 use Rattle.replica.specs.Spread.{LeadInside}
@@ -135,6 +137,17 @@ state_next v w s a lt =
 -- the last sum
 pub last_at : (t last : ℕ) (sums : List ℕ) (found : ℕ) → AreSums t last sums → found ≡ get_or sums t found → found ≡ last
 last_at t last sums found s is = is ∙ get_or_default sums t found 0 (omega (arith, s.count)) ∙ s.last_is
+
+-- with what the figures have gained it is the next one
+pub next_at : (log2m t : ℕ) (rows : List (List ℕ)) (old new : List Tally) (sums : List ℕ) (last gain : ℕ) → AreSums t (sum_by (λ (v : TallyValue). v.last) (map value_of old)) sums → last ≡ get_or sums t last →
+    map value_of new ≡ next_tallies log2m (t + 1) rows (map value_of old) (length rows) → sum_by (λ (tally : Tally). tally.last) new ≡ sum_by (λ (tally : Tally). tally.last) old + gain →
+    (last ≡ sum_by (λ (v : TallyValue). v.last) (map value_of old)) × (last + gain ≡ total_of log2m rows)
+next_at log2m t rows old new sums last gain s is tallies gains =
+    let last_of : TallyValue → ℕ = λ v. v.last in
+    let here = last_at t (sum_by last_of (map value_of old)) sums last s is in
+    let before : sum_by (λ (tally : Tally). tally.last) old ≡ sum_by last_of (map value_of old) = sum_same (λ (tally : Tally). tally.last) last_of old (map value_of old) (map_lasts old) in
+    let after = total_of-lasts log2m rows new (ap (map last_of) tallies ∙ stepped_lasts log2m (t + 1) rows (map value_of old) (length rows) refl) in
+    (here, omega (arith, here, before, after, gains))
 
 -- the index leads to places of the part
 pub inside_of : (v : State) (targets : List (List ℕ)) (n : ℕ) → IsState v → targets ≡ targets_of v.part → n ≡ length v.accumulated → LeadInside n targets

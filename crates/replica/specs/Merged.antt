@@ -1,7 +1,7 @@
 -- What two replicas of one partition make of what they have: merging, over plain data.
 use Rattle.std.specs.Prelude.{◌≡◌, ℕ, max}
 use Rattle.ball_model.specs.Job.{Job}
-use Rattle.ball_model.specs.Join.{Holding, holding_of, union_of}
+use Rattle.ball_model.specs.Join.{union_of}
 use Rattle.ball_model.specs.State.{State, StandsFor, content_of, further}
 
 -- the superstep, the rows, the marks, the figures and the sums are those of another replica
@@ -11,10 +11,6 @@ pub record ShowsAs (v w : State) : Type 0 where
   pub marks : v.marks ≡ w.marks
   pub tallies : v.tallies ≡ w.tallies
   pub sums : v.sums ≡ w.sums
-
--- the content of a replica, as plain data
-abbrev pub holding : State → Holding
-holding v = holding_of v.part.plan v.part.number (content_of v)
 
 -- w is v once it has taken over what o knows
 pub record Absorbs (v o w : State) : Type 0 where

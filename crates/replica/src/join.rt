@@ -1,11 +1,12 @@
 //! Replicas of one partition, joined.
 
-ghost use Rattle.std.specs.Prelude.{◌≡◌, ℕ, Bool, true, max, OnOk, OnErr};
+ghost use Rattle.std.specs.Prelude.{◌≡◌, ℕ, true, max, OnOk, OnErr};
+ghost use Rattle.ball_model.specs.History.{holding_in};
 ghost use Rattle.ball_model.specs.Job.{Job};
 ghost use Rattle.ball_model.specs.Join.{Holding, AreAlike, join_of, union_of};
 ghost use Rattle.ball_model.specs.State.{StandsFor, content_of, further};
 ghost use Rattle.ball_model.proofs.JoinLemmas.{join_commutes, join_associates, join_repeats, alike_turns, alike_through, join_stays_alike};
-ghost use Rattle.replica.specs.Merged.{ShowsAs, holding};
+ghost use Rattle.replica.specs.Merged.{ShowsAs};
 
 use crate::Replica;
 use registers::Join;
@@ -14,7 +15,7 @@ use std::alloc::{AllocError, Global};
 impl Join for Replica {
     ghost Content = { Holding };
 
-    ghost content = { holding };
+    ghost content = { holding_in };
 
     ghost are_alike = { AreAlike };
 
@@ -34,9 +35,9 @@ impl Join for Replica {
     /// It takes memory for the list of shared batches, for as long as it works, and where `close` has given back the
     /// index and the accumulators, it makes them again.
     fn join(&mut self, alloc: Global, other: &Replica) -> Result<(), AllocError>
-        requires { AreAlike (holding self.old) (holding other.now) }
+        requires { AreAlike (holding_in self.old) (holding_in other.now) }
         ensures joined { OnOk result
-            (holding self.new ≡ join_of (holding self.old) (holding other.now)) }
+            (holding_in self.new ≡ join_of (holding_in self.old) (holding_in other.now)) }
         ensures refused { OnErr result (self.new ≡ self.old) }
         ensures part { self.new.part ≡ self.old.part }
         ensures superstep { OnOk result
@@ -48,15 +49,7 @@ impl Join for Replica {
         ensures stands { (j : Job) (p t u : ℕ) → StandsFor j p t self.old →
             StandsFor j p u other.now → OnOk result (StandsFor j p (max t u) self.new) }
     {
-        let shared = other.known.shared(alloc)?;
-        self.targets.renew(alloc, &self.known.part)?;
-        self.known.absorb(
-            alloc,
-            &self.targets,
-            &mut self.touched,
-            &other.known,
-            shared,
-        )
+        self.take_over(alloc, &other.known)
     }
 
     ghost commutative = { join_commutes };

@@ -1,22 +1,26 @@
 //! What is taken over from another replica of the partition.
 
-ghost use Rattle.std.specs.Prelude.{◌≡◌, ◌↔◌, ◌-◌, ◌<◌, ◌^◌, min, IfOk, IsTrue, OnErr, OnOk};
+ghost use Rattle.std.specs.Prelude.{◌≡◌, ◌↔◌, ◌⊎◌, ◌-◌, ◌<◌, ◌≤◌, ◌^◌, [], length, map, min, IfOk, IsTrue, OnErr, OnOk};
+ghost use Rattle.std.specs.Vec.{vec_capacity};
+ghost use Rattle.ball_model.specs.History.{holding_in};
 ghost use Rattle.ball_model.specs.Join.{AreAlike};
+ghost use Rattle.figures.specs.Values.{value_of};
 ghost use Rattle.replica.specs.Index.{targets_of};
 ghost use Rattle.replica.specs.Spread.{AreTouched};
-ghost use Rattle.replica.specs.Merged.{Absorbs, holding};
+ghost use Rattle.replica.specs.Merged.{Absorbs};
 ghost use Rattle.replica.specs.Seen.{IsState, accumulators_of};
 
 use crate::early::{Early, LEVELS};
 use crate::targets::Targets;
 use crate::{Snapshot, level, shown, step};
+use figures::Tally;
 use registers::{Join, Rows};
 use std::alloc::{AllocError, Global};
 
 impl Snapshot {
     /// Whether the two are of one plan and one partition.
     pub(crate) fn is_alike(&self, other: &Snapshot) -> bool
-        ensures { IsTrue result ↔ AreAlike (holding self.now) (holding other.now) }
+        ensures { IsTrue result ↔ AreAlike (holding_in self.now) (holding_in other.now) }
     {
         step::is_same(self.part.plan(), other.part.plan())
             && self.part.partition() == other.part.partition()
@@ -36,11 +40,11 @@ impl Snapshot {
         targets: &Targets,
         touched: &mut [bool],
         other: &Snapshot,
-        shared: Early,
+        shared: &mut Early,
     ) -> Result<(), AllocError>
         requires plan { self.old.part.plan ≡ other.now.part.plan }
         requires number { self.old.part.number ≡ other.now.part.number }
-        requires shared { shared ≡ other.now.early }
+        requires shared { shared.old ≡ other.now.early }
         requires index { targets.now ≡ targets_of self.old.part }
         requires touched { AreTouched self.old.rows self.old.accumulated touched.old }
         ensures absorbs { OnOk result (Absorbs self.old other.now self.new) }
@@ -67,31 +71,33 @@ impl Snapshot {
         touched: &mut [bool],
         other: &Snapshot,
         theirs: &Rows,
-        mut shared: Early,
+        shared: &mut Early,
     ) -> Result<(), AllocError>
         requires further { self.old.superstep < other.now.superstep }
         requires plan { self.old.part.plan ≡ other.now.part.plan }
         requires number { self.old.part.number ≡ other.now.part.number }
         requires theirs { theirs.now.rows ≡ other.now.accumulated }
         requires width { theirs.now.width ≡ 2 ^ other.now.part.plan.log2m }
-        requires shared { shared ≡ other.now.early }
+        requires shared { shared.old ≡ other.now.early }
         requires index { targets.now ≡ targets_of self.old.part }
         requires touched { AreTouched self.old.rows self.old.accumulated touched.old }
         ensures absorbs { OnOk result (Absorbs self.old other.now self.new) }
         ensures refused { OnErr result (self.new ≡ self.old) }
         ensures touched { AreTouched self.new.rows self.new.accumulated touched.new }
     {
-        renew(alloc, &self.rows, &mut self.accumulated)?;
-        let plan = *self.part.plan();
         let ahead = gap(self.superstep, other.superstep);
+        replace(alloc, theirs, &mut self.accumulated)?;
+        let plan = *self.part.plan();
         self.superstep = other.superstep;
-        self.rows.copy_from(&other.rows);
-        self.marks.copy_from_slice(&other.marks);
-        self.tallies.copy_from_slice(&other.tallies);
-        shown::refill(&mut self.sums, &other.sums);
+        copy_shown(
+            other,
+            &mut self.rows,
+            &mut self.marks,
+            &mut self.tallies,
+            &mut self.sums,
+        );
         self.heard = other.heard;
         self.heard_change = other.heard_change;
-        self.accumulated.copy_from(theirs);
         level::mark(&self.rows, &self.accumulated, touched);
         self.early.shift(ahead);
         level::hear_early(
@@ -104,7 +110,7 @@ impl Snapshot {
             touched,
         );
         self.early.shift(1);
-        self.early.fill(&mut shared);
+        self.early.fill(shared);
         Ok(())
     }
 
@@ -115,12 +121,12 @@ impl Snapshot {
         targets: &Targets,
         touched: &mut [bool],
         other: &Snapshot,
-        mut shared: Early,
+        shared: &mut Early,
     ) -> Result<(), AllocError>
         requires further { other.now.superstep < self.old.superstep }
         requires plan { self.old.part.plan ≡ other.now.part.plan }
         requires number { self.old.part.number ≡ other.now.part.number }
-        requires shared { shared ≡ other.now.early }
+        requires shared { shared.old ≡ other.now.early }
         requires index { targets.now ≡ targets_of self.old.part }
         requires touched { AreTouched self.old.rows self.old.accumulated touched.old }
         ensures absorbs { OnOk result (Absorbs self.old other.now self.new) }
@@ -133,14 +139,14 @@ impl Snapshot {
         level::hear_early(
             targets,
             &plan,
-            &shared,
+            shared,
             &mut self.heard,
             &mut self.heard_change,
             &mut self.accumulated,
             touched,
         );
         shared.shift(1);
-        self.early.fill(&mut shared);
+        self.early.fill(shared);
         Ok(())
     }
 
@@ -151,14 +157,14 @@ impl Snapshot {
         touched: &mut [bool],
         other: &Snapshot,
         theirs: &Rows,
-        mut shared: Early,
+        shared: &mut Early,
     ) -> Result<(), AllocError>
         requires level { self.old.superstep ≡ other.now.superstep }
         requires plan { self.old.part.plan ≡ other.now.part.plan }
         requires number { self.old.part.number ≡ other.now.part.number }
         requires theirs { theirs.now.rows ≡ other.now.accumulated }
         requires width { theirs.now.width ≡ 2 ^ other.now.part.plan.log2m }
-        requires shared { shared ≡ other.now.early }
+        requires shared { shared.old ≡ other.now.early }
         requires touched { AreTouched self.old.rows self.old.accumulated touched.old }
         ensures absorbs { OnOk result (Absorbs self.old other.now self.new) }
         ensures refused { OnErr result (self.new ≡ self.old) }
@@ -169,9 +175,35 @@ impl Snapshot {
         let _raised = self.accumulated.join(alloc, theirs);
         level::mark(&self.rows, &self.accumulated, touched);
         self.heard_change |= other.heard_change;
-        self.early.fill(&mut shared);
+        self.early.fill(shared);
         Ok(())
     }
+}
+
+// The rows, the marks, the figures and the sums become those of another one.
+fn copy_shown(
+    other: &Snapshot,
+    rows: &mut Rows,
+    marks: &mut [bool],
+    tallies: &mut [Tally],
+    sums: &mut Vec<u128>,
+)
+    requires rows { length rows.old.rows ≡ length other.now.rows }
+    requires width { rows.old.width ≡ 2 ^ other.now.part.plan.log2m }
+    requires marks { length marks.old ≡ length other.now.marks }
+    requires tallies { length tallies.old ≡ length other.now.tallies }
+    requires sums { length other.now.sums ≤ vec_capacity sums.old }
+    ensures rows { rows.new.rows ≡ other.now.rows }
+    ensures width { rows.new.width ≡ rows.old.width }
+    ensures marks { marks.new ≡ other.now.marks }
+    ensures tallies { map value_of tallies.new ≡ other.now.tallies }
+    ensures sums { sums.new.items ≡ other.now.sums }
+    ensures capacity { vec_capacity sums.new ≡ vec_capacity sums.old }
+{
+    rows.copy_from(&other.rows);
+    marks.copy_from_slice(&other.marks);
+    tallies.copy_from_slice(&other.tallies);
+    shown::refill(sums, &other.sums);
 }
 
 // The accumulators again, where they were let go: as the rows. An error changes nothing.
@@ -184,6 +216,22 @@ fn renew(alloc: Global, rows: &Rows, accumulated: &mut Rows) -> Result<(), Alloc
 {
     if accumulated.len() == 0 {
         *accumulated = shown::copy_rows(alloc, rows)?;
+    }
+    Ok(())
+}
+
+// The accumulators become others, in a buffer of their own again where it was let go. An error changes nothing.
+fn replace(alloc: Global, rows: &Rows, accumulated: &mut Rows) -> Result<(), AllocError>
+    requires width { rows.now.width ≡ accumulated.old.width }
+    requires count { (length accumulated.old.rows ≡ length rows.now.rows) ⊎
+        (accumulated.old.rows ≡ []) }
+    ensures rows { OnOk result (accumulated.new ≡ rows.now) }
+    ensures refused { OnErr result (accumulated.new ≡ accumulated.old) }
+{
+    if accumulated.len() == 0 {
+        *accumulated = shown::copy_rows(alloc, rows)?;
+    } else {
+        accumulated.copy_from(rows);
     }
     Ok(())
 }

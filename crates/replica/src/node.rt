@@ -19,11 +19,13 @@ ghost use Rattle.ball_model.specs.State.{SameShown, StandsFor, content_of, furth
 ghost use Rattle.figures.specs.Values.{value_of};
 ghost use Rattle.replica.specs.Ahead.{early_batches, early_names};
 ghost use Rattle.replica.specs.Level.{found_verdict, is_finished, nothing};
-ghost use Rattle.replica.specs.Merged.{ShowsAs};
+ghost use Rattle.replica.specs.Merged.{Absorbs, ShowsAs};
+ghost use Rattle.replica.specs.Sent.{sent_batch};
 ghost use Rattle.replica.specs.Start.{Starts};
 ghost use Rattle.replica.specs.Seen.{IsState};
 ghost use Rattle.replica.specs.Runs.{HasContent, Takes, Closes, Merges};
 
+use crate::early::Early;
 use crate::targets::Targets;
 use crate::{Replica, Snapshot, start, step};
 use ball_model::{BatchName, CloseError, MergeError, Plan, TakeError, Taken, Verdict};
@@ -163,19 +165,43 @@ impl Replica {
         if other.partition() != self.partition() {
             return Err(MergeError::NotMine);
         }
-        let Ok(shared) = other.shared(alloc) else {
-            return Err(MergeError::Memory);
-        };
-        let Ok(()) = self.targets.renew(alloc, &self.known.part) else {
-            return Err(MergeError::Memory);
-        };
-        let Ok(()) = self
-            .known
-            .absorb(alloc, &self.targets, &mut self.touched, other, shared)
-        else {
+        let Ok(()) = self.take_over(alloc, other) else {
             return Err(MergeError::Memory);
         };
         Ok(())
+    }
+
+    /// Takes over what a snapshot of the same plan and partition knows. An error changes nothing.
+    pub(crate) fn take_over(&mut self, alloc: Global, other: &Snapshot) -> Result<(), AllocError>
+        requires plan { self.old.part.plan ≡ other.now.part.plan }
+        requires number { self.old.part.number ≡ other.now.part.number }
+        ensures absorbs { OnOk result (Absorbs self.old other.now self.new) }
+        ensures refused { OnErr result (self.new ≡ self.old) }
+        ensures mine { OnOk result (IsState self.old) }
+        ensures theirs { OnOk result (IsState other.now) }
+    {
+        let mut shared = other.shared(alloc)?;
+        self.absorb(alloc, other, &mut shared)
+    }
+
+    // The same, where `shared` are the batches that the other one keeps.
+    fn absorb(
+        &mut self,
+        alloc: Global,
+        other: &Snapshot,
+        shared: &mut Early,
+    ) -> Result<(), AllocError>
+        requires plan { self.old.part.plan ≡ other.now.part.plan }
+        requires number { self.old.part.number ≡ other.now.part.number }
+        requires shared { shared.old ≡ other.now.early }
+        ensures absorbs { OnOk result (Absorbs self.old other.now self.new) }
+        ensures refused { OnErr result (self.new ≡ self.old) }
+        ensures mine { OnOk result (IsState self.old) }
+        ensures theirs { OnOk result (IsState other.now) }
+    {
+        self.targets.renew(alloc, &self.known.part)?;
+        self.known
+            .absorb(alloc, &self.targets, &mut self.touched, other, shared)
     }
 
     /// What the replica has now.
@@ -198,6 +224,8 @@ impl Replica {
     pub fn out(&self, alloc: Global, target: u16) -> Result<Batch, AllocError>
         requires target { target < self.now.part.plan.parts }
         requires other { target ≢ self.now.part.number }
+        ensures value { IfOk result (λ b. b ≡
+            sent_batch self.now target (length self.now.part.preds)) }
         ensures stands { (j : Job) (p t : ℕ) → StandsFor j p t self.now →
             IfOk result (λ b.
             b ≡ true_batch j (record { superstep = t; source = p; target = target })) }

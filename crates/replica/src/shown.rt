@@ -16,8 +16,9 @@ ghost use Rattle.ball_model.specs.Content.{missing_of, verdict_of};
 ghost use Rattle.ball_model.specs.State.{StandsFor, content_of, early_at, rows_of, tallies_of, sums_of};
 ghost use Rattle.replica.specs.Ahead.{early_batches, early_names};
 ghost use Rattle.replica.specs.Level.{is_changing, level_verdict, found_verdict, nothing};
-ghost use Rattle.replica.specs.Seen.{IsState};
+ghost use Rattle.replica.specs.Seen.{IsState, HasAccumulators, accumulators_of};
 
+use crate::start::Tables;
 use crate::{Snapshot, level};
 use ball_model::{BatchName, Plan, Verdict};
 use batches::Batch;
@@ -290,21 +291,81 @@ impl Snapshot {
     pub(crate) fn copied(&self, alloc: Global) -> Result<Snapshot, AllocError>
         ensures { IfOk result (λ s. s ≡ self.now) }
     {
-        let mut sums = Vec::with_capacity(alloc, self.part.plan().limit() as usize + 1)?;
-        refill(&mut sums, &self.sums);
+        let part = Arc::try_clone(&self.part)?;
+        let early = self.early.share(alloc)?;
+        let tables = self.copied_tables(alloc)?;
         Ok(Snapshot {
-            part: Arc::try_clone(&self.part)?,
+            part,
             superstep: self.superstep,
-            rows: copy_rows(alloc, &self.rows)?,
-            marks: Vec::from_slice(alloc, &self.marks)?,
-            tallies: Vec::from_slice(alloc, &self.tallies)?,
-            sums,
+            rows: tables.rows,
+            marks: tables.marks,
+            tallies: tables.tallies,
+            sums: tables.sums,
             heard: self.heard,
             heard_change: self.heard_change,
-            accumulated: copy_rows(alloc, &self.accumulated)?,
-            early: self.early.share(alloc)?,
+            accumulated: tables.accumulated,
+            early,
         })
     }
+
+    // The tables, copied.
+    fn copied_tables(&self, alloc: Global) -> Result<Tables, AllocError>
+        ensures rows { IfOk result (λ t. t.rows ≡
+            record { width = 2 ^ self.now.part.plan.log2m; rows = self.now.rows }) }
+        ensures marks { IfOk result (λ t. t.marks.items ≡ self.now.marks) }
+        ensures tallies { IfOk result (λ t. map value_of t.tallies.items ≡ self.now.tallies) }
+        ensures sums { IfOk result (λ t. t.sums.items ≡ self.now.sums) }
+        ensures room { IfOk result (λ t. self.now.part.plan.limit + 1 ≤ vec_capacity t.sums) }
+        ensures width { IfOk result (λ t. t.accumulated.width ≡ 2 ^ self.now.part.plan.log2m) }
+        ensures accumulated { IfOk result (λ t.
+            accumulators_of self.now.rows t.accumulated.rows ≡ self.now.accumulated) }
+        ensures kept { IfOk result (λ t. HasAccumulators self.now t.accumulated.rows) }
+        ensures state { IsState self.now }
+    {
+        let limit = self.part.plan().limit();
+        let (rows, accumulated) = copy_both(alloc, &self.rows, &self.accumulated)?;
+        let (marks, tallies, sums) = copy_figures(
+            alloc,
+            limit,
+            &self.marks,
+            &self.tallies,
+            &self.sums,
+        )?;
+        Ok(Tables {
+            rows,
+            accumulated,
+            marks,
+            tallies,
+            sums,
+        })
+    }
+}
+
+// The same rows and accumulators, each in a buffer of their own.
+fn copy_both(alloc: Global, rows: &Rows, accumulated: &Rows) -> Result<(Rows, Rows), AllocError>
+    ensures { IfOk result (λ both. (both.0 ≡ rows.now) × (both.1 ≡ accumulated.now)) }
+{
+    let copy = copy_rows(alloc, rows)?;
+    let other = copy_rows(alloc, accumulated)?;
+    Ok((copy, other))
+}
+
+// The same marks, figures and sums, with room for a sum a superstep up to the limit.
+fn copy_figures(
+    alloc: Global,
+    limit: u32,
+    marks: &[bool],
+    tallies: &[Tally],
+    sums: &[u128],
+) -> Result<(Vec<bool>, Vec<Tally>, Vec<u128>), AllocError>
+    requires { length sums.now ≤ limit + 1 }
+    ensures { IfOk result (λ copy. (copy.0.items ≡ marks.now) × (copy.1.items ≡ tallies.now)
+        × (copy.2.items ≡ sums.now) × (limit + 1 ≤ vec_capacity copy.2)) }
+{
+    let mut copy = Vec::with_capacity(alloc, limit as usize + 1)?;
+    refill(&mut copy, sums);
+    let figures = Vec::from_slice(alloc, tallies)?;
+    Ok((Vec::from_slice(alloc, marks)?, figures, copy))
 }
 
 // The same rows in a buffer of their own.

@@ -1,21 +1,33 @@
 //! What a replica begins with.
 
-ghost use Rattle.std.specs.Prelude.{◌≡◌, ℕ, ◌<◌, ◌≤◌, ◌+◌, ◌*◌, ◌^◌, length, map, replicate, slice_index_or, slice_set, [], IfOk};
+ghost use Rattle.std.specs.Prelude.{◌≡◌, ℕ, ◌<◌, ◌≤◌, ◌+◌, ◌*◌, ◌^◌, length, map, replicate, slice_index_or, slice_set, [], ◌∷◌, IfOk};
 ghost use Rattle.std.specs.Arc.{arc_value};
-ghost use Rattle.std.specs.Vec.{vec_len};
+ghost use Rattle.std.specs.Vec.{vec_capacity};
 ghost use Rattle.ball_model.specs.Figures.{estimate_of};
+ghost use Rattle.ball_model.specs.PlanValue.{IsPlan};
 ghost use Rattle.figures.specs.Values.{value_of};
 ghost use Rattle.replica.specs.Kept.{AreCounters};
+ghost use Rattle.replica.specs.Level.{total_of};
 ghost use Rattle.replica.specs.Start.{Starts, first_row, first_rows, first_tally};
 
 use crate::early::Early;
 use crate::{Snapshot, level, shown};
-use ball_model::{mix, place};
+use ball_model::{Plan, mix, place};
 use edgelist::Part;
 use figures::{Tally, estimate};
 use registers::{Rows, SourceMask};
 use std::alloc::{AllocError, Global};
 use std::sync::Arc;
+
+/// What a snapshot has for each vertex, and the sums of all supersteps: what takes memory beside its part and batches.
+#[derive(Drop)]
+pub struct Tables {
+    pub rows: Rows,
+    pub accumulated: Rows,
+    pub marks: Vec<bool>,
+    pub tallies: Vec<Tally>,
+    pub sums: Vec<u128>,
+}
 
 // The row of vertex i, which is empty, becomes that of the vertex alone, where it is counted.
 fn start_row(part: &Part, i: u32, rows: &mut Rows)
@@ -70,6 +82,63 @@ pub fn start_tallies(alloc: Global, log2m: u8, rows: &Rows) -> Result<Vec<Tally>
     Ok(tallies)
 }
 
+// The rows that the vertices of the part begin with, and accumulators that equal them.
+fn start_both(alloc: Global, part: &Part) -> Result<(Rows, Rows), AllocError>
+    ensures { IfOk result (λ both. (both.0 ≡ record {
+      width = 2 ^ part.now.plan.log2m;
+      rows = first_rows part.now;
+    }) × (both.1 ≡ both.0)) }
+{
+    let rows = start_rows(alloc, part)?;
+    let accumulated = shown::copy_rows(alloc, &rows)?;
+    Ok((rows, accumulated))
+}
+
+// Figures that begin with the estimates of rows, and their sum, with room for one a superstep up to the limit.
+fn start_figures(
+    alloc: Global,
+    plan: &Plan,
+    rows: &Rows,
+) -> Result<(Vec<Tally>, Vec<u128>), AllocError>
+    requires { AreCounters plan.now.log2m rows.now.rows }
+    ensures { IfOk result (λ figures. (map value_of figures.0.items ≡
+        map (λ row. first_tally (estimate_of plan.now.log2m row)) rows.now.rows)
+        × (figures.1.items ≡ total_of plan.now.log2m rows.now.rows ∷ [])
+        × (plan.now.limit + 1 ≤ vec_capacity figures.1)) }
+{
+    let tallies = start_tallies(alloc, plan.log2m(), rows)?;
+    let mut sums = Vec::with_capacity(alloc, plan.limit() as usize + 1)?;
+    sums.push_reserved(level::sum_of_lasts(&tallies));
+    Ok((tallies, sums))
+}
+
+// The tables that a replica of the part begins with.
+fn start_tables(alloc: Global, part: &Part) -> Result<Tables, AllocError>
+    requires { IsPlan part.now.plan }
+    ensures rows { IfOk result (λ t. t.rows ≡ record {
+      width = 2 ^ part.now.plan.log2m;
+      rows = first_rows part.now;
+    }) }
+    ensures accumulated { IfOk result (λ t. t.accumulated ≡ t.rows) }
+    ensures marks { IfOk result (λ t. t.marks.items ≡ part.now.counted) }
+    ensures tallies { IfOk result (λ t. map value_of t.tallies.items ≡
+        map (λ row. first_tally (estimate_of part.now.plan.log2m row)) (first_rows part.now)) }
+    ensures sums { IfOk result (λ t. t.sums.items ≡
+        total_of part.now.plan.log2m (first_rows part.now) ∷ []) }
+    ensures room { IfOk result (λ t. part.now.plan.limit + 1 ≤ vec_capacity t.sums) }
+{
+    let marks = start_marks(alloc, part)?;
+    let (rows, accumulated) = start_both(alloc, part)?;
+    let (tallies, sums) = start_figures(alloc, part.plan(), &rows)?;
+    Ok(Tables {
+        rows,
+        accumulated,
+        marks,
+        tallies,
+        sums,
+    })
+}
+
 /// What a replica of the part begins with, at superstep 0.
 pub fn first(alloc: Global, part: Arc<Part>) -> Result<Snapshot, AllocError>
     ensures { IfOk result (λ r. Starts (arc_value part) r) }
@@ -77,24 +146,19 @@ pub fn first(alloc: Global, part: Arc<Part>) -> Result<Snapshot, AllocError>
     let plan = part.plan();
     // the limits of a part are told with its number
     prove!(part.partition() < plan.parts());
-    let rows = start_rows(alloc, &part)?;
-    let accumulated = shown::copy_rows(alloc, &rows)?;
-    let marks = start_marks(alloc, &part)?;
-    let tallies = start_tallies(alloc, plan.log2m(), &rows)?;
-    let mut sums = Vec::with_capacity(alloc, plan.limit() as usize + 1)?;
-    sums.push_reserved(level::sum_of_lasts(&tallies));
-    let heard = SourceMask::empty();
     let early = Early::empty(alloc, plan.parts())?;
+    let tables = start_tables(alloc, &part)?;
+    let heard = SourceMask::empty();
     Ok(Snapshot {
         part,
         superstep: 0,
-        rows,
-        marks,
-        tallies,
-        sums,
+        rows: tables.rows,
+        marks: tables.marks,
+        tallies: tables.tallies,
+        sums: tables.sums,
         heard,
         heard_change: false,
-        accumulated,
+        accumulated: tables.accumulated,
         early,
     })
 }

@@ -1,15 +1,20 @@
 //! How what a replica has changes, superstep by superstep.
 
-ghost use Rattle.std.specs.Prelude.{◌≡◌, true, false, ℕ, ◌<◌, ◌≤◌, ◌+◌, ◌*◌, length, Ok, OnOk, OnErr};
+ghost use Rattle.std.specs.Prelude.{◌≡◌, true, false, ℕ, ◌<◌, ◌≤◌, ◌+◌, ◌*◌, ◌^◌, ◌++◌, ◌∷◌, [], length, map, Ok, OnOk, OnErr};
 ghost use Rattle.std.specs.Arc.{arc_value};
+ghost use Rattle.std.specs.List.{sum_by};
+ghost use Rattle.std.specs.Vec.{vec_capacity};
 ghost use Rattle.ball_model.specs.declared.names.Taken.TheVariants as taken;
 ghost use Rattle.ball_model.specs.Batches.{IsBatch};
 ghost use Rattle.ball_model.specs.Content.{take_of, same_plan};
 ghost use Rattle.ball_model.specs.State.{content_of};
-ghost use Rattle.replica.specs.Level.{found_close, is_over};
+ghost use Rattle.figures.specs.Values.{value_of};
+ghost use Rattle.replica.specs.Heard.{OwnIsHeard};
+ghost use Rattle.replica.specs.Kept.{AllRise, AreCounters, AreLasts, AreSums};
+ghost use Rattle.replica.specs.Level.{differences, found_close, is_over, next_tallies, total_of};
 ghost use Rattle.replica.specs.Change.{Advances, Receives};
 ghost use Rattle.replica.specs.Index.{targets_of};
-ghost use Rattle.replica.specs.Spread.{AreTouched};
+ghost use Rattle.replica.specs.Spread.{AreTouched, LeadInside};
 ghost use Rattle.replica.specs.Seen.{HasIndex, IsState};
 
 use crate::spread::spread_own;
@@ -17,7 +22,9 @@ use crate::targets::Targets;
 use crate::{Snapshot, level};
 use ball_model::{CloseError, Plan, TakeError, Taken, Verdict};
 use batches::Batch;
-use registers::SourceMask;
+use edgelist::Part;
+use figures::Tally;
+use registers::{Rows, SourceMask};
 use std::sync::Arc;
 
 impl Snapshot {
@@ -128,27 +135,23 @@ impl Snapshot {
         ensures touched { AreTouched self.new.rows self.new.accumulated touched.new }
     {
         let plan = *self.part.plan();
-        spread_own(
+        next_rows(
             targets,
             &self.part,
-            &self.rows,
-            &self.marks,
+            &mut self.rows,
+            &mut self.marks,
             &mut self.accumulated,
             touched,
         );
-        level::catch_up(&mut self.rows, &self.accumulated, touched);
-        self.marks.copy_from_slice(touched);
-        level::clear_marks(touched);
-        let last = self.sums[self.superstep as usize];
-        self.superstep += 1;
-        let gain = level::step_tallies(
-            plan.log2m(),
+        next_figures(
+            &plan,
             self.superstep,
             &self.rows,
             &self.marks,
             &mut self.tallies,
+            &mut self.sums,
         );
-        self.sums.push_reserved(last + gain);
+        self.superstep += 1;
         self.heard = SourceMask::empty();
         self.heard_change = false;
         level::hear_early(
@@ -162,6 +165,67 @@ impl Snapshot {
         );
         self.early.shift(1);
     }
+}
+
+// The rows of the next superstep: what changed in the own partition is heard too, and what was accumulated becomes the
+// rows. Those are marked that this changes.
+fn next_rows(
+    targets: &Targets,
+    part: &Part,
+    rows: &mut Rows,
+    marks: &mut [bool],
+    accumulated: &mut Rows,
+    touched: &mut [bool],
+)
+    requires width { rows.old.width ≡ accumulated.old.width }
+    requires count { length rows.old.rows ≡ length part.now.preds }
+    requires marks { length marks.old ≡ length part.now.preds }
+    requires inside { LeadInside (length accumulated.old.rows) targets.now }
+    requires counters { AreCounters part.now.plan.log2m rows.old.rows }
+    requires rise { AllRise part.now.plan.log2m rows.old.rows accumulated.old.rows }
+    requires touched { AreTouched rows.old.rows accumulated.old.rows touched.old }
+    ensures rows { rows.new ≡ accumulated.new }
+    ensures width { accumulated.new.width ≡ accumulated.old.width }
+    ensures marks { marks.new ≡ differences rows.old.rows rows.new.rows (length part.now.preds) }
+    ensures rise { AllRise part.now.plan.log2m rows.old.rows rows.new.rows }
+    ensures touched { AreTouched rows.new.rows accumulated.new.rows touched.new }
+    ensures stands { OwnIsHeard targets.now part.now rows.old.rows marks.old
+        accumulated.old.rows accumulated.new.rows }
+{
+    spread_own(targets, part, rows, marks, accumulated, touched);
+    level::catch_up(rows, accumulated, touched);
+    marks.copy_from_slice(touched);
+    level::clear_marks(touched);
+}
+
+// The figures of the superstep that follows `t`, whose rows and marks are given, and the sum of its estimates.
+fn next_figures(
+    plan: &Plan,
+    t: u32,
+    rows: &Rows,
+    marks: &[bool],
+    tallies: &mut [Tally],
+    sums: &mut Vec<u128>,
+)
+    requires to { t < 4096 }
+    requires few { length rows.now.rows ≤ 2 ^ 24 }
+    requires rows { AreCounters plan.now.log2m rows.now.rows }
+    requires marks { length marks.now ≡ length rows.now.rows }
+    requires count { length tallies.old ≡ length rows.now.rows }
+    requires lasts { AreLasts plan.now.log2m rows.now.rows marks.now (map value_of tallies.old) }
+    requires sums { AreSums t
+        (sum_by (λ tally. tally.last) (map value_of tallies.old)) sums.old.items }
+    requires room { t + 1 < vec_capacity sums.old }
+    ensures tallies { map value_of tallies.new ≡ next_tallies plan.now.log2m (t + 1) rows.now.rows
+        (map value_of tallies.old) (length rows.now.rows) }
+    ensures sums { sums.new.items ≡ sums.old.items ++ total_of plan.now.log2m rows.now.rows ∷ [] }
+    ensures gains { sum_by (λ tally. tally.last) (map value_of tallies.old) ≤
+        total_of plan.now.log2m rows.now.rows }
+    ensures capacity { vec_capacity sums.new ≡ vec_capacity sums.old }
+{
+    let last = sums[t as usize];
+    let gain = level::step_tallies(plan.log2m(), t + 1, rows, marks, tallies);
+    sums.push_reserved(last + gain);
 }
 
 // Whether two plans are the same.

@@ -6,12 +6,11 @@ use ball_model::{
     BatchName, CloseError, CountingReader, MergeError, Plan, TakeError, Taken, Verdict,
 };
 use batches::Batch;
-use edgelist::{Delimiter, EdgeLimits, Graph, read_edges};
+use edgelist::{Delimiter, EdgeLimits, Graph, Part, read_edges};
 use registers::{Join, reconcile};
 use std::alloc::AllocError;
 use std::hash::RandomState;
 use std::mem;
-use std::test::Fail;
 
 const ROW_A: [u8; 16] = [0, 0, 0, 0, 0, 0, 0, 0, 0, 0, 0, 0, 0, 0, 3, 0];
 
@@ -65,10 +64,16 @@ fn parted(
     let mut all = Vec::new(rt.alloc());
     for p in 0..plan.parts() {
         let part = graph.part(rt.alloc(), &plan, p).ok()?;
-        let part = Arc::new(rt.alloc(), part).ok()?;
-        all.push(Replica::new(rt.alloc(), part).ok()?).ok()?;
+        add(rt, &mut all, part)?;
     }
     Some(all)
+}
+
+/// Adds a replica of a part.
+fn add(rt: &HostRuntime, all: &mut Vec<Replica>, part: Part) -> Option<()> {
+    let part = Arc::new(rt.alloc(), part).ok()?;
+    let replica = Replica::new(rt.alloc(), part).ok()?;
+    all.push(replica).ok()
 }
 
 /// Takes from one replica what another one tells it.
@@ -108,17 +113,49 @@ fn told(batch: &Batch) -> (u32, u32, u32, Option<u32>) {
     )
 }
 
+/// Whether one replica takes as new what another one tells it.
+fn is_new(rt: &HostRuntime, all: &mut [Replica], source: usize, target: usize) -> bool {
+    tell(rt, all, source, target) == Some(Ok(Taken::New))
+}
+
+/// Whether one replica tells another one this.
+fn tells_one(
+    rt: &HostRuntime,
+    all: &[Replica],
+    source: usize,
+    target: usize,
+    wanted: (u32, u32, u32, Option<u32>),
+) -> bool {
+    sent(rt, all, source, target).map(|b| told(&b)) == Some(wanted)
+}
+
 /// Every replica takes what every other one tells it.
 fn exchange(rt: &HostRuntime, all: &mut [Replica]) -> bool {
     let mut news = true;
     for source in 0..all.len() {
         for target in 0..all.len() {
             if source != target {
-                news &= tell(rt, all, source, target) == Some(Ok(Taken::New));
+                news &= is_new(rt, all, source, target);
             }
         }
     }
     news
+}
+
+/// Whether a replica answers this to a close.
+fn closes(all: &mut [Replica], place: usize, wanted: Result<u32, CloseError>) -> bool {
+    match all.get_mut(place) {
+        Some(replica) => replica.close() == wanted,
+        None => false,
+    }
+}
+
+/// Whether this is the least source that a replica misses.
+fn misses(all: &[Replica], place: usize, wanted: Option<u16>) -> bool {
+    match all.get(place) {
+        Some(replica) => replica.missing() == wanted,
+        None => false,
+    }
 }
 
 /// Every replica closes its superstep.
@@ -181,14 +218,6 @@ fn two_edges(rt: &HostRuntime, parts: u16, limit: u32) -> Option<Vec<Replica>> {
     replicas(rt, b"a\tb\nb\tc\n", parts, limit)
 }
 
-/// The same replicas, or a failure of the test.
-fn start(rt: &HostRuntime, parts: u16, limit: u32) -> Result<Vec<Replica>, Fail> {
-    match two_edges(rt, parts, limit) {
-        Some(all) => Ok(all),
-        None => Err(Fail::new("no replicas of two edges")),
-    }
-}
-
 /// What each partition tells the other at each superstep of two edges.
 const TOLD: [((u32, u32, u32, Option<u32>), (u32, u32, u32, Option<u32>)); 4] = [
     ((0, 2, 1, Some(0)), (0, 1, 1, Some(1))),
@@ -204,8 +233,7 @@ fn tells(
     first: (u32, u32, u32, Option<u32>),
     second: (u32, u32, u32, Option<u32>),
 ) -> bool {
-    sent(rt, all, 0, 1).map(|b| told(&b)) == Some(first)
-        && sent(rt, all, 1, 0).map(|b| told(&b)) == Some(second)
+    tells_one(rt, all, 0, 1, first) && tells_one(rt, all, 1, 0, second)
 }
 
 /// Whether all batches of two edges are those that are expected, to the last superstep, which no replica closes.
@@ -219,11 +247,15 @@ fn tells_all(rt: &HostRuntime, all: &mut [Replica]) -> bool {
     right
 }
 
+/// The batches of the run of two edges.
+fn told_run(rt: &HostRuntime) -> Option<bool> {
+    let mut all = two_edges(rt, 2, 4096)?;
+    Some(tells_all(rt, &mut all))
+}
+
 #[test]
-fn all_batches_of_two_edges(rt: HostRuntime) -> Result<(), Fail> {
-    let mut all = start(&rt, 2, 4096)?;
-    assert!(rt; tells_all(&rt, &mut all));
-    Ok(())
+fn all_batches_of_two_edges(rt: HostRuntime) {
+    assert_eq!(rt; told_run(&rt), Some(true));
 }
 
 /// The bytes of what one replica tells another.
@@ -269,17 +301,26 @@ fn owned(replica: &Replica) -> [bool; 5] {
     ]
 }
 
+/// Which of the first five vertices each of two replicas owns.
+fn owned_by_two(all: &[Replica]) -> Option<([bool; 5], [bool; 5])> {
+    Some((owned(all.get(0)?), owned(all.get(1)?)))
+}
+
+/// Which of them each partition of two edges owns.
+fn owned_of_two_edges(rt: &HostRuntime) -> Option<([bool; 5], [bool; 5])> {
+    let all = two_edges(rt, 2, 4096)?;
+    owned_by_two(&all)
+}
+
 #[test]
-fn vertices_of_each_partition(rt: HostRuntime) -> Result<(), Fail> {
-    let all = start(&rt, 2, 4096)?;
+fn vertices_of_each_partition(rt: HostRuntime) {
     assert_eq!(rt;
-        (all.get(0).map(|r| owned(r)), all.get(1).map(|r| owned(r))),
-        (
-            Some([true, false, true, false, false]),
-            Some([false, true, false, false, false])
-        )
+        owned_of_two_edges(&rt),
+        Some((
+            [true, false, true, false, false],
+            [false, true, false, false, false]
+        ))
     );
-    Ok(())
 }
 
 /// Whether the first superstep of two edges is as expected, and is closed.
@@ -311,21 +352,35 @@ fn last_supersteps(rt: &HostRuntime, all: &mut [Replica]) -> bool {
         && !close_all(all)
 }
 
-#[test]
-fn supersteps_of_two_edges(rt: HostRuntime) -> Result<(), Fail> {
-    let mut all = start(&rt, 2, 4096)?;
-    let first = first_superstep(&rt, &mut all) && after_first(&all);
-    assert_eq!(rt; (first, last_supersteps(&rt, &mut all)), (true, true));
-    Ok(())
+/// The run of two edges.
+fn two_edges_run(rt: &HostRuntime) -> Option<(bool, bool)> {
+    let mut all = two_edges(rt, 2, 4096)?;
+    let first = first_superstep(rt, &mut all) && after_first(&all);
+    Some((first, last_supersteps(rt, &mut all)))
 }
 
-/// Whether replicas have these sums.
-fn have_sums(all: &[Replica], wanted: &[&[u128]]) -> bool {
-    all.len() == wanted.len()
-        && all
-            .iter()
-            .zip(wanted)
-            .all(|(replica, sums)| replica.sums() == *sums)
+#[test]
+fn supersteps_of_two_edges(rt: HostRuntime) {
+    assert_eq!(rt; two_edges_run(&rt), Some((true, true)));
+}
+
+/// The sums of the two partitions of two edges at superstep 3.
+const SUMS: [[u128; 4]; 2] = [
+    [22_688_515, 23_071_484, 23_808_095, 23_808_095],
+    [11_115_354, 11_780_376, 11_780_376, 11_780_376],
+];
+
+/// Whether the replica at a place has these sums.
+fn has_sums(all: &[Replica], place: usize, wanted: &[u128]) -> bool {
+    match all.get(place) {
+        Some(replica) => replica.sums() == wanted,
+        None => false,
+    }
+}
+
+/// Whether two replicas have the sums of two edges.
+fn have_sums(all: &[Replica]) -> bool {
+    has_sums(all, 0, &SUMS[0]) && has_sums(all, 1, &SUMS[1])
 }
 
 /// Whether all replicas are at a superstep.
@@ -333,16 +388,15 @@ fn are_at(all: &[Replica], superstep: u32) -> bool {
     all.iter().all(|replica| replica.superstep() == superstep)
 }
 
+/// Whether two edges have their sums once three supersteps are closed.
+fn sums_run(rt: &HostRuntime) -> Option<bool> {
+    let mut all = two_edges(rt, 2, 4096)?;
+    Some(run(rt, &mut all, 3) && are_at(&all, 3) && have_sums(&all))
+}
+
 #[test]
-fn sums_of_two_edges(rt: HostRuntime) -> Result<(), Fail> {
-    let mut all = start(&rt, 2, 4096)?;
-    let done = run(&rt, &mut all, 3) && are_at(&all, 3);
-    let wanted = [
-        [22_688_515u128, 23_071_484, 23_808_095, 23_808_095].as_slice(),
-        [11_115_354u128, 11_780_376, 11_780_376, 11_780_376].as_slice(),
-    ];
-    assert_eq!(rt; (done, have_sums(&all, &wanted)), (true, true));
-    Ok(())
+fn sums_of_two_edges(rt: HostRuntime) {
+    assert_eq!(rt; sums_run(&rt), Some(true));
 }
 
 /// Whether each replica waits for the least other source.
@@ -358,24 +412,24 @@ fn all_wait(all: &mut [Replica]) -> bool {
 
 /// Whether the last of five replicas waits for partition 3, which has no vertices, once it has taken from the others:
 /// a batch with no rows is waited for all the same.
-fn waits_for_quiet(rt: &HostRuntime, all: &mut [Replica]) -> Option<bool> {
+fn waits_for_quiet(rt: &HostRuntime, all: &mut [Replica]) -> bool {
     let mut news = true;
     for source in 0..3 {
-        news &= tell(rt, all, source, 4) == Some(Ok(Taken::New));
+        news &= is_new(rt, all, source, 4);
     }
-    let answer = all.get_mut(4)?.close();
-    Some(news && answer == Err(CloseError::Waiting { source: 3 }))
+    news && closes(all, 4, Err(CloseError::Waiting { source: 3 }))
+}
+
+/// How five partitions of two edges wait.
+fn waiting_run(rt: &HostRuntime) -> Option<(bool, bool)> {
+    let mut all = two_edges(rt, 5, 4096)?;
+    let waiting = all_wait(&mut all);
+    Some((waiting, waits_for_quiet(rt, &mut all)))
 }
 
 #[test]
-fn quiet_source_is_waited_for(rt: HostRuntime) -> Result<(), Fail> {
-    let mut all = start(&rt, 5, 4096)?;
-    let waiting = all_wait(&mut all);
-    assert_eq!(rt;
-        (waiting, waits_for_quiet(&rt, &mut all)),
-        (true, Some(true))
-    );
-    Ok(())
+fn quiet_source_is_waited_for(rt: HostRuntime) {
+    assert_eq!(rt; waiting_run(&rt), Some((true, true)));
 }
 
 /// Whether two edges in five partitions end as in one.
@@ -389,18 +443,22 @@ fn five_end(rt: &HostRuntime, all: &mut [Replica]) -> bool {
 }
 
 /// Whether the replicas without vertices tell nothing.
-fn are_quiet(rt: &HostRuntime, all: &[Replica]) -> Option<bool> {
-    let quiet = sent(rt, all, 4, 0).map(|b| told(&b)) == Some((3, 0, 0, None));
-    let nothing = [0, 0, 0, 0].as_slice();
-    Some(quiet && all.get(3)?.sums() == nothing && all.get(4)?.sums() == nothing)
+fn are_quiet(rt: &HostRuntime, all: &[Replica]) -> bool {
+    tells_one(rt, all, 4, 0, (3, 0, 0, None))
+        && has_sums(all, 3, &[0; 4])
+        && has_sums(all, 4, &[0; 4])
+}
+
+/// The run of two edges in five partitions.
+fn five_run(rt: &HostRuntime) -> Option<(bool, bool)> {
+    let mut all = two_edges(rt, 5, 4096)?;
+    let ended = five_end(rt, &mut all);
+    Some((ended, are_quiet(rt, &all)))
 }
 
 #[test]
-fn five_partitions_of_two_edges(rt: HostRuntime) -> Result<(), Fail> {
-    let mut all = start(&rt, 5, 4096)?;
-    let ended = five_end(&rt, &mut all);
-    assert_eq!(rt; (ended, are_quiet(&rt, &all)), (true, Some(true)));
-    Ok(())
+fn five_partitions_of_two_edges(rt: HostRuntime) {
+    assert_eq!(rt; five_run(&rt), Some((true, true)));
 }
 
 /// Whether two replicas reach their limit after one superstep, and close no more.
@@ -415,13 +473,17 @@ fn reach_limit(rt: &HostRuntime, all: &mut [Replica]) -> bool {
     reached
 }
 
+/// The run of two edges to a limit of one superstep: an accumulator that differs from its row is kept.
+fn limited_run(rt: &HostRuntime) -> Option<(bool, bool)> {
+    let mut all = two_edges(rt, 2, 1)?;
+    let reached = reach_limit(rt, &mut all);
+    let kept = has_row(&all, 2, &ROW_BC) && has_accumulated(&all, 2, &ROW_ABC);
+    Some((reached, kept))
+}
+
 #[test]
-fn limit_of_one(rt: HostRuntime) -> Result<(), Fail> {
-    let mut all = start(&rt, 2, 1)?;
-    assert!(rt; reach_limit(&rt, &mut all));
-    // an accumulator that differs from its row is kept
-    assert!(rt; has_row(&all, 2, &ROW_BC) && has_accumulated(&all, 2, &ROW_ABC));
-    Ok(())
+fn limit_of_one(rt: HostRuntime) {
+    assert_eq!(rt; limited_run(&rt), Some((true, true)));
 }
 
 /// The accumulated registers of a vertex in the replica that owns it.
@@ -434,51 +496,64 @@ fn has_accumulated(all: &[Replica], x: u32, wanted: &[u8]) -> bool {
     false
 }
 
-/// Partition 1 closes superstep 0, and partition 0 is told of superstep 1 twice, before it is told of superstep 0.
-fn tells_ahead(rt: &HostRuntime, all: &mut [Replica]) -> Option<bool> {
-    let mut done = tell(rt, all, 0, 1) == Some(Ok(Taken::New));
-    done &= all.get_mut(1)?.close() == Ok(1);
-    done &= sent(rt, all, 1, 0).map(|b| told(&b)) == Some((1, 1, 1, Some(1)));
-    done &= tell(rt, all, 1, 0) == Some(Ok(Taken::New));
-    done &= tell(rt, all, 1, 0) == Some(Ok(Taken::Known));
-    let replica = all.get_mut(0)?;
-    done &= replica.close() == Err(CloseError::Waiting { source: 1 });
-    // what is kept for later is not merged
-    Some(done && !replica.heard().has(1) && has_accumulated(all, 2, &ROW_C))
+/// Whether a replica has heard partition 1 at its superstep.
+fn has_heard(all: &[Replica], place: usize) -> Option<bool> {
+    Some(all.get(place)?.heard().has(1))
 }
 
-/// Partition 0 takes the batch of superstep 0 and closes.
-fn takes_and_closes(rt: &HostRuntime, replica: &mut Replica, batch: Batch) -> Option<bool> {
-    let batch = Arc::new(rt.alloc(), batch).ok()?;
-    let again = Arc::try_clone(&batch).ok()?;
-    let mut done = replica.take(batch) == Ok(Taken::New);
-    done &= replica.close() == Ok(1);
-    Some(done && replica.take(again) == Ok(Taken::Old))
+/// Partition 1 closes superstep 0, and partition 0 is told of superstep 1 twice, before it is told of superstep 0:
+/// what is kept for later is not merged.
+fn tells_ahead(rt: &HostRuntime, all: &mut [Replica]) -> bool {
+    is_new(rt, all, 0, 1)
+        && closes(all, 1, Ok(1))
+        && tells_one(rt, all, 1, 0, (1, 1, 1, Some(1)))
+        && is_new(rt, all, 1, 0)
+        && tell(rt, all, 1, 0) == Some(Ok(Taken::Known))
+        && closes(all, 0, Err(CloseError::Waiting { source: 1 }))
+        && has_heard(all, 0) == Some(false)
+        && has_accumulated(all, 2, &ROW_C)
+}
+
+/// Partition 0 takes the batch of superstep 0 and closes, and then takes it no more.
+fn takes_and_closes(
+    rt: &HostRuntime,
+    all: &mut [Replica],
+    batch: Option<Batch>,
+    again: Option<Batch>,
+) -> bool {
+    let taken = answer(rt, all, 0, batch) == Some(Ok(Taken::New));
+    let closed = closes(all, 0, Ok(1));
+    answer(rt, all, 0, again) == Some(Ok(Taken::Old)) && taken && closed
+}
+
+/// Whether a replica tells that a source changed.
+fn has_heard_change(all: &[Replica], place: usize) -> Option<bool> {
+    Some(all.get(place)?.heard_change())
 }
 
 /// Whether the early batch was heard and its row was spread at the close.
-fn hears_early(all: &[Replica]) -> Option<bool> {
-    let replica = all.get(0)?;
-    Some(
-        replica.heard().has(1)
-            && replica.heard_change()
-            && replica.missing().is_none()
-            && is_held(all, 0, 1, 1)?
-            && has_row(all, 2, &ROW_BC)
-            && has_accumulated(all, 2, &ROW_ABC),
-    )
+fn hears_early(all: &[Replica]) -> bool {
+    has_heard(all, 0) == Some(true)
+        && has_heard_change(all, 0) == Some(true)
+        && misses(all, 0, None)
+        && is_held(all, 0, 1, 1) == Some(true)
+        && has_row(all, 2, &ROW_BC)
+        && has_accumulated(all, 2, &ROW_ABC)
 }
 
 /// What partition 1 tells of superstep 1 has a row of its vertex, and comes before what it tells of superstep 0.
 fn early_with_rows(rt: &HostRuntime) -> Option<bool> {
     let mut all = two_edges(rt, 2, 4096)?;
-    let level = sent(rt, &all, 1, 0)?;
-    let mut done = tells_ahead(rt, &mut all)?;
-    done &= takes_and_closes(rt, all.get_mut(0)?, level)?;
-    done &= hears_early(&all)?;
-    done &= tell(rt, &mut all, 0, 1) == Some(Ok(Taken::New));
-    done &= close_all(&mut all);
-    Some(done && has_row(&all, 2, &ROW_ABC))
+    let level = sent(rt, &all, 1, 0);
+    let again = sent(rt, &all, 1, 0);
+    let ahead = tells_ahead(rt, &mut all);
+    let closed = takes_and_closes(rt, &mut all, level, again);
+    Some(ahead && closed && hears_early(&all) && ends_early(rt, &mut all))
+}
+
+/// Whether the next close makes the row of the early batch that of its successor.
+fn ends_early(rt: &HostRuntime, all: &mut [Replica]) -> bool {
+    is_new(rt, all, 0, 1) && close_all(all) && has_row(all, 2, &ROW_ABC)
 }
 
 #[test]
@@ -493,7 +568,7 @@ fn absorbed(rt: &HostRuntime) -> Option<bool> {
     let mut all = replicas(rt, text, 2, 4096)?;
     let mut done = run(rt, &mut all, 1);
     done &= is_changed(&all, 10) == Some(false);
-    done &= sent(rt, &all, 0, 1).map(|b| told(&b)) == Some((1, 0, 0, None));
+    done &= tells_one(rt, &all, 0, 1, (1, 0, 0, None));
     done &= run(rt, &mut all, 1);
     let wanted = [0, 0, 0, 0, 0, 3, 2, 0, 0, 0, 0, 0, 0, 0, 0, 0];
     Some(done && has_row(&all, 5, &wanted))
@@ -504,30 +579,40 @@ fn absorbed_counter(rt: HostRuntime) {
     assert_eq!(rt; absorbed(&rt), Some(true));
 }
 
-/// What partition 1 tells partition 0, but with 33, the greatest rank, in each register.
-fn untrue(rt: &HostRuntime, all: &[Replica]) -> Option<Batch> {
-    let mut bytes = written(rt, all, 1, 0)?;
-    for i in 58..74 {
-        *bytes.get_mut(i)? = 33;
+/// Each register of the row of a batch becomes 33, the greatest rank.
+fn raise_registers(bytes: &mut [u8]) {
+    for i in 58..bytes.len() {
+        bytes[i] = 33;
     }
-    Batch::decode(rt.alloc(), all.get(0)?.plan(), &bytes).ok()
 }
 
-/// Whether a batch that is not true is taken and closed over: 16 registers of 33 are estimated as 0.673 * 16 * 2^33.
-fn untrue_is_taken(rt: &HostRuntime) -> Option<bool> {
-    let mut all = two_edges(rt, 2, 4096)?;
-    let batch = untrue(rt, &all);
-    let mut done = answer(rt, &mut all, 0, batch) == Some(Ok(Taken::New));
-    done &= all.get_mut(0)?.close() == Ok(1);
-    done &= has_row(&all, 0, &ROW_A) && has_row(&all, 2, &[33; 16]);
+/// What partition 1 tells partition 0, but with 33 in each register.
+fn untrue(rt: &HostRuntime, all: &[Replica]) -> Option<Batch> {
+    let plan = all.get(0)?.plan();
+    let mut bytes = written(rt, all, 1, 0)?;
+    raise_registers(&mut bytes);
+    Batch::decode(rt.alloc(), plan, &bytes).ok()
+}
+
+/// Whether registers of 33 are closed over: 16 of them are estimated as 0.673 * 16 * 2^33.
+fn shows_untrue(all: &[Replica]) -> bool {
     let wanted = (
         92_496_415_686_656_000,
         92_496_415_675_358_427,
         92_496_415_675_358_427,
     );
-    done &= figures_of(&all, 2) == Some(wanted);
-    let sums = [22_688_515u128, 92_496_415_698_046_942];
-    Some(done && all.get(0)?.sums() == sums.as_slice())
+    has_row(all, 0, &ROW_A)
+        && has_row(all, 2, &[33; 16])
+        && figures_of(all, 2) == Some(wanted)
+        && has_sums(all, 0, &[22_688_515, 92_496_415_698_046_942])
+}
+
+/// Whether a batch that is not true is taken and closed over.
+fn untrue_is_taken(rt: &HostRuntime) -> Option<bool> {
+    let mut all = two_edges(rt, 2, 4096)?;
+    let batch = untrue(rt, &all);
+    let taken = answer(rt, &mut all, 0, batch) == Some(Ok(Taken::New));
+    Some(taken && closes(&mut all, 0, Ok(1)) && shows_untrue(&all))
 }
 
 #[test]
@@ -535,10 +620,16 @@ fn untrue_batch(rt: HostRuntime) {
     assert_eq!(rt; untrue_is_taken(&rt), Some(true));
 }
 
-/// Replicas of two edges in two partitions, where vertex 0 alone is counted.
-fn one_counted(rt: &HostRuntime) -> Option<Vec<Replica>> {
+/// The graph of two edges, where vertex 0 alone is counted.
+fn counted_graph(rt: &HostRuntime) -> Option<Graph> {
     let mut graph = graph(rt, b"a\tb\nb\tc\n")?;
     graph.count_only(rt.alloc(), Delimiter::Tab, b"a").ok()?;
+    Some(graph)
+}
+
+/// Replicas of it in two partitions.
+fn one_counted(rt: &HostRuntime) -> Option<Vec<Replica>> {
+    let graph = counted_graph(rt)?;
     parted(rt, &graph, 0, 2, 4096)
 }
 
@@ -607,21 +698,35 @@ fn answer(
     Some(all.get_mut(target)?.take(batch))
 }
 
-/// What a replica answers to batches that are not for it.
+/// The answer of a replica to a batch with no rows.
+fn answer_to_bare(
+    rt: &HostRuntime,
+    all: &mut [Replica],
+    place: usize,
+    superstep: u32,
+    target: u16,
+) -> Option<Result<Taken, TakeError>> {
+    let batch = bare(rt, all, superstep, 1, target);
+    answer(rt, all, place, batch)
+}
+
+/// What partition 1 of two edges tells partition 0 where the limit is another.
+fn foreign(rt: &HostRuntime) -> Option<Batch> {
+    let others = two_edges(rt, 2, 7)?;
+    sent(rt, &others, 1, 0)
+}
+
+/// What replicas answer to batches that are not for them.
 fn refusals(rt: &HostRuntime) -> Option<[Option<Result<Taken, TakeError>>; 5]> {
     let mut all = two_edges(rt, 2, 4096)?;
-    let others = two_edges(rt, 2, 7)?;
-    let foreign = sent(rt, &others, 1, 0);
+    let other_job = answer(rt, &mut all, 0, foreign(rt));
     let mine = sent(rt, &all, 0, 1);
-    let own = bare(rt, &all, 0, 1, 1);
-    let late = bare(rt, &all, 4, 1, 0);
-    let last = bare(rt, &all, 3, 1, 0);
     Some([
-        answer(rt, &mut all, 0, foreign),
+        other_job,
         answer(rt, &mut all, 0, mine),
-        answer(rt, &mut all, 1, own),
-        answer(rt, &mut all, 0, late),
-        answer(rt, &mut all, 0, last),
+        answer_to_bare(rt, &mut all, 1, 0, 1),
+        answer_to_bare(rt, &mut all, 0, 4, 0),
+        answer_to_bare(rt, &mut all, 0, 3, 0),
     ])
 }
 
@@ -652,13 +757,18 @@ fn keep(replica: &Replica, snapshot: &Snapshot, wanted: &[(u32, u16)]) -> bool {
     same
 }
 
+/// Whether partition 2 and a snapshot of it keep these batches.
+fn keeps(rt: &HostRuntime, all: &[Replica], wanted: &[(u32, u16)]) -> Option<bool> {
+    let replica = all.get(2)?;
+    let snapshot = replica.snapshot(rt.alloc()).ok()?;
+    Some(keep(replica, &snapshot, wanted))
+}
+
 /// Whether what is kept is told by superstep, then by source, and without the batch of the replica's own superstep.
 fn keeps_in_order(rt: &HostRuntime) -> Option<bool> {
     let mut all = two_edges(rt, 3, 4096)?;
     let taken = takes_ahead(rt, &mut all);
-    let replica = all.get(2)?;
-    let snapshot = replica.snapshot(rt.alloc()).ok()?;
-    Some(taken && keep(replica, &snapshot, &[(1, 0), (1, 1), (3, 0)]))
+    Some(taken && keeps(rt, &all, &[(1, 0), (1, 1), (3, 0)]) == Some(true))
 }
 
 #[test]
@@ -704,15 +814,36 @@ fn is_held(all: &[Replica], place: usize, superstep: u32, source: u16) -> Option
     }))
 }
 
-/// The answer of the replica at a place to a snapshot of another one.
+/// What the replica at a place has.
+fn snapshot_of(rt: &HostRuntime, all: &[Replica], place: usize) -> Option<Snapshot> {
+    all.get(place)?.snapshot(rt.alloc()).ok()
+}
+
+/// The answer of the replica at a place to a snapshot.
+fn merge_answer(
+    rt: &HostRuntime,
+    all: &mut [Replica],
+    place: usize,
+    snapshot: &Snapshot,
+) -> Option<Result<(), MergeError>> {
+    Some(all.get_mut(place)?.merge(rt.alloc(), snapshot))
+}
+
+/// Its answer to a snapshot of the replica at a place of other ones.
 fn merged(
     rt: &HostRuntime,
     all: &mut [Replica],
     place: usize,
-    other: Option<&Replica>,
+    others: &[Replica],
+    from: usize,
 ) -> Option<Result<(), MergeError>> {
-    let snapshot = other?.snapshot(rt.alloc()).ok()?;
-    Some(all.get_mut(place)?.merge(rt.alloc(), &snapshot))
+    let snapshot = snapshot_of(rt, others, from)?;
+    merge_answer(rt, all, place, &snapshot)
+}
+
+/// Whether the replica at a place takes over what another one knows.
+fn merges(rt: &HostRuntime, all: &mut [Replica], place: usize, others: &[Replica]) -> bool {
+    merged(rt, all, place, others, place) == Some(Ok(()))
 }
 
 /// Joins two replicas, where they may be.
@@ -720,28 +851,51 @@ fn joined(rt: &HostRuntime, to: &mut Replica, from: &Replica) -> bool {
     to.alike(from) && to.join(rt.alloc(), from).is_ok()
 }
 
+/// Joins partition 0 of two runs.
+fn joins_first(rt: &HostRuntime, to: &mut [Replica], from: &[Replica]) -> bool {
+    match (to.get_mut(0), from.get(0)) {
+        (Some(to), Some(from)) => joined(rt, to, from),
+        _ => false,
+    }
+}
+
 /// Makes both replicas the join of the two, where they may be.
 fn reconciled(rt: &HostRuntime, left: &mut Replica, right: &mut Replica) -> bool {
     left.alike(right) && reconcile(rt.alloc(), left, right).is_ok()
 }
 
-/// A replica of partition 0 that holds its level, beside one that holds nothing.
-fn held_and_not(rt: &HostRuntime) -> Option<(Vec<Replica>, Vec<Replica>)> {
+/// Replicas of which partition 0 holds its level.
+fn held(rt: &HostRuntime) -> Option<Vec<Replica>> {
     let mut held = two_edges(rt, 2, 4096)?;
+    if is_new(rt, &mut held, 1, 0) {
+        Some(held)
+    } else {
+        None
+    }
+}
+
+/// The same, beside replicas that hold nothing.
+fn held_and_not(rt: &HostRuntime) -> Option<(Vec<Replica>, Vec<Replica>)> {
+    let held = held(rt)?;
     let other = two_edges(rt, 2, 4096)?;
-    let told = tell(rt, &mut held, 1, 0) == Some(Ok(Taken::New));
-    let alone = other.get(0)?.missing() == Some(1);
-    if told && alone {
+    if misses(&other, 0, Some(1)) {
         Some((held, other))
     } else {
         None
     }
 }
 
+/// Whether partition 0 is at a superstep and holds its level.
+fn is_level(all: &[Replica], superstep: u32) -> bool {
+    match all.get(0) {
+        Some(replica) => replica.superstep() == superstep && replica.missing().is_none(),
+        None => false,
+    }
+}
+
 /// Whether partition 0 holds its level at superstep 0, by the batch of partition 1.
-fn has_level(all: &[Replica]) -> Option<bool> {
-    let replica = all.get(0)?;
-    Some(replica.superstep() == 0 && replica.missing().is_none() && is_held(all, 0, 0, 1)?)
+fn has_level(all: &[Replica]) -> bool {
+    is_level(all, 0) && is_held(all, 0, 0, 1) == Some(true)
 }
 
 /// Whether a replica tells of a vertex what a snapshot does.
@@ -773,19 +927,28 @@ fn holds_names(replica: &Replica, snapshot: &Snapshot) -> bool {
     same
 }
 
-/// Whether each reader of a replica tells what that of a snapshot does.
-fn shows_all(replica: &Replica, snapshot: &Snapshot) -> bool {
-    let mut same = replica.plan() == snapshot.plan()
+/// Whether a replica tells of its level what a snapshot does.
+fn shows_level(replica: &Replica, snapshot: &Snapshot) -> bool {
+    replica.plan() == snapshot.plan()
         && replica.partition() == snapshot.partition()
         && replica.superstep() == snapshot.superstep()
         && replica.changed_count() == snapshot.changed_count()
         && replica.sums() == snapshot.sums()
-        && replica.missing() == snapshot.missing()
         && replica.verdict() == snapshot.verdict()
+}
+
+/// Whether a replica tells of what it has heard what a snapshot does.
+fn shows_heard(replica: &Replica, snapshot: &Snapshot) -> bool {
+    replica.missing() == snapshot.missing()
         && replica.heard_change() == snapshot.heard_change()
         && replica.heard().has(1) == snapshot.heard().has(1)
         && replica.early_count() == snapshot.early_count()
-        && holds_names(replica, snapshot);
+        && holds_names(replica, snapshot)
+}
+
+/// Whether each reader of a replica tells what that of a snapshot does.
+fn shows_all(replica: &Replica, snapshot: &Snapshot) -> bool {
+    let mut same = shows_level(replica, snapshot) && shows_heard(replica, snapshot);
     for x in 0..4 {
         same &= shows_vertex(replica, snapshot, x);
     }
@@ -811,91 +974,152 @@ fn joins_once(
     }
 }
 
-/// Once they are joined both hold the name, and a second join changes nothing in any reader.
+/// The same of partition 0 of two runs.
+fn joins_both(
+    rt: &HostRuntime,
+    left: &mut [Replica],
+    right: &mut [Replica],
+    both: bool,
+    turned: bool,
+) -> bool {
+    match (left.get_mut(0), right.get_mut(0)) {
+        (Some(left), Some(right)) => joins_once(rt, left, right, both, turned),
+        _ => false,
+    }
+}
+
+/// Whether partition 0 of two runs tells in each reader what a snapshot does.
+fn are_shown(left: &[Replica], right: &[Replica], snapshot: &Snapshot) -> bool {
+    match (left.get(0), right.get(0)) {
+        (Some(left), Some(right)) => shows_all(left, snapshot) && shows_all(right, snapshot),
+        _ => false,
+    }
+}
+
+/// Joins partition 0 of two runs that is joined: it changes nothing in any reader.
+fn joins_again(
+    rt: &HostRuntime,
+    held: &mut [Replica],
+    other: &mut [Replica],
+    both: bool,
+    turned: bool,
+    before: &Snapshot,
+) -> bool {
+    joins_both(rt, held, other, both, turned) && are_shown(held, other, before)
+}
+
+/// Joins partition 0 of two runs twice.
+fn joins_twice(
+    rt: &HostRuntime,
+    held: &mut [Replica],
+    other: &mut [Replica],
+    both: bool,
+    turned: bool,
+) -> Option<bool> {
+    let first = joins_both(rt, held, other, both, turned);
+    let before = snapshot_of(rt, held, 0)?;
+    Some(first && joins_again(rt, held, other, both, turned, &before))
+}
+
+/// Once they are joined both hold the name.
 fn joins_names(rt: &HostRuntime, both: bool, turned: bool) -> Option<bool> {
     let (mut held, mut other) = held_and_not(rt)?;
-    let left = held.get_mut(0)?;
-    let right = other.get_mut(0)?;
-    let mut done = joins_once(rt, left, right, both, turned);
-    let before = left.snapshot(rt.alloc()).ok()?;
-    done &= joins_once(rt, left, right, both, turned);
-    done &= shows_all(left, &before) && shows_all(right, &before);
-    Some(done && has_level(&held)? && has_level(&other)?)
+    let done = joins_twice(rt, &mut held, &mut other, both, turned);
+    Some(done == Some(true) && has_level(&held) && has_level(&other))
+}
+
+/// Whether they do, whichever joins the other.
+fn joins_each_way(rt: &HostRuntime) -> bool {
+    let mut done = true;
+    for (both, turned) in [(false, false), (false, true), (true, false), (true, true)] {
+        done &= joins_names(rt, both, turned) == Some(true);
+    }
+    done
 }
 
 #[test]
 fn joins_held_names(rt: HostRuntime) {
-    assert_eq!(rt; joins_names(&rt, false, false), Some(true));
-    assert_eq!(rt; joins_names(&rt, false, true), Some(true));
-    assert_eq!(rt; joins_names(&rt, true, false), Some(true));
-    assert_eq!(rt; joins_names(&rt, true, true), Some(true));
+    assert!(rt; joins_each_way(&rt));
 }
 
-/// Replicas of two runs. The first has partition 0 at superstep 1, with the batch of superstep 2 alone; the other has
-/// it at superstep 0, with the batches of superstep 0 and, with a row, of superstep 1.
+/// The first has partition 0 at superstep 1, with the batch of superstep 2 alone; the other has it at superstep 0,
+/// with the batches of superstep 0 and, with a row, of superstep 1.
+fn go_apart(rt: &HostRuntime, ahead: &mut [Replica], behind: &mut [Replica]) -> bool {
+    let first = run(rt, ahead, 1) && tells_one(rt, ahead, 1, 0, (1, 1, 1, Some(1)));
+    let level = is_new(rt, behind, 1, 0);
+    let early = sent(rt, ahead, 1, 0);
+    let later = answer(rt, behind, 0, early) == Some(Ok(Taken::New));
+    let next = is_new(rt, ahead, 0, 1) && closes(ahead, 1, Ok(2)) && is_new(rt, ahead, 1, 0);
+    first && level && later && next
+}
+
+/// Replicas of two runs that went apart.
 fn apart(rt: &HostRuntime) -> Option<(Vec<Replica>, Vec<Replica>)> {
     let mut ahead = two_edges(rt, 2, 4096)?;
     let mut behind = two_edges(rt, 2, 4096)?;
-    let mut done = run(rt, &mut ahead, 1);
-    let early = sent(rt, &ahead, 1, 0)?;
-    done &= told(&early) == (1, 1, 1, Some(1));
-    done &= tell(rt, &mut behind, 1, 0) == Some(Ok(Taken::New));
-    done &= answer(rt, &mut behind, 0, Some(early)) == Some(Ok(Taken::New));
-    done &= tell(rt, &mut ahead, 0, 1) == Some(Ok(Taken::New));
-    done &= ahead.get_mut(1)?.close() == Ok(2);
-    done &= tell(rt, &mut ahead, 1, 0) == Some(Ok(Taken::New));
-    if done { Some((ahead, behind)) } else { None }
+    if go_apart(rt, &mut ahead, &mut behind) {
+        Some((ahead, behind))
+    } else {
+        None
+    }
 }
 
 /// What partition 0 is to have once the two are merged: superstep 1, and the batches of supersteps 1 and 2.
-fn is_recovered(all: &[Replica]) -> Option<bool> {
-    let replica = all.get(0)?;
-    Some(
-        replica.superstep() == 1
-            && replica.missing().is_none()
-            && is_held(all, 0, 1, 1)?
-            && is_held(all, 0, 2, 1)?
-            && !is_held(all, 0, 0, 1)?
-            && has_row(all, 0, &ROW_A)
-            && has_row(all, 2, &ROW_BC)
-            && has_accumulated(all, 2, &ROW_ABC)
-            && is_changed(all, 0) == Some(false)
-            && is_changed(all, 2) == Some(true),
-    )
+fn is_recovered(all: &[Replica]) -> bool {
+    is_level(all, 1)
+        && is_held(all, 0, 1, 1) == Some(true)
+        && is_held(all, 0, 2, 1) == Some(true)
+        && is_held(all, 0, 0, 1) == Some(false)
+        && has_row(all, 0, &ROW_A)
+        && has_row(all, 2, &ROW_BC)
+        && has_accumulated(all, 2, &ROW_ABC)
+        && is_changed(all, 0) == Some(false)
+        && is_changed(all, 2) == Some(true)
 }
 
-/// The run goes on to the end of an undisturbed one, with its rows, figures and sums.
-fn goes_on(rt: &HostRuntime, all: &mut [Replica]) -> Option<bool> {
-    let mut done = all.get_mut(0)?.close() == Ok(2);
-    done &= has_row(all, 2, &ROW_ABC);
-    done &= tell(rt, all, 0, 1) == Some(Ok(Taken::New));
-    done &= close_all(all);
-    done &= exchange(rt, all);
-    done &= all_say(all, Some(Verdict::Stable));
-    done &= has_row(all, 0, &ROW_A);
-    done &= has_row(all, 1, &ROW_AB);
-    done &= has_row(all, 2, &ROW_ABC);
-    done &= figures_of(all, 2) == Some((12_417_153, 751_274, 1_856_191));
-    done &= all.get(0)?.sums() == [22_688_515u128, 23_071_484, 23_808_095, 23_808_095].as_slice();
-    Some(
-        done && all.get(1)?.sums()
-            == [11_115_354u128, 11_780_376, 11_780_376, 11_780_376].as_slice(),
-    )
+/// Whether rows, figures and sums are those of an undisturbed run.
+fn is_undisturbed(all: &[Replica]) -> bool {
+    has_row(all, 0, &ROW_A)
+        && has_row(all, 1, &ROW_AB)
+        && has_row(all, 2, &ROW_ABC)
+        && figures_of(all, 2) == Some((12_417_153, 751_274, 1_856_191))
+        && have_sums(all)
+}
+
+/// The run goes on to the end of an undisturbed one.
+fn goes_on(rt: &HostRuntime, all: &mut [Replica]) -> bool {
+    closes(all, 0, Ok(2))
+        && has_row(all, 2, &ROW_ABC)
+        && is_new(rt, all, 0, 1)
+        && close_all(all)
+        && exchange(rt, all)
+        && all_say(all, Some(Verdict::Stable))
+        && is_undisturbed(all)
+}
+
+/// Partition 0 of two runs changes places.
+fn swap_first(left: &mut [Replica], right: &mut [Replica]) -> bool {
+    match (left.get_mut(0), right.get_mut(0)) {
+        (Some(left), Some(right)) => {
+            mem::swap(left, right);
+            true
+        }
+        _ => false,
+    }
 }
 
 /// The one behind merges a snapshot of the one ahead, and takes its place.
 fn behind_recovers(rt: &HostRuntime) -> Option<bool> {
     let (mut ahead, mut behind) = apart(rt)?;
-    let answer = merged(rt, &mut behind, 0, ahead.get(0));
-    mem::swap(ahead.get_mut(0)?, behind.get_mut(0)?);
-    Some(answer == Some(Ok(())) && is_recovered(&ahead)? && goes_on(rt, &mut ahead)?)
+    let done = merges(rt, &mut behind, 0, &ahead) && swap_first(&mut ahead, &mut behind);
+    Some(done && is_recovered(&ahead) && goes_on(rt, &mut ahead))
 }
 
 /// The one ahead merges a snapshot of the one behind.
 fn ahead_recovers(rt: &HostRuntime) -> Option<bool> {
     let (mut ahead, behind) = apart(rt)?;
-    let answer = merged(rt, &mut ahead, 0, behind.get(0));
-    Some(answer == Some(Ok(())) && is_recovered(&ahead)? && goes_on(rt, &mut ahead)?)
+    let done = merges(rt, &mut ahead, 0, &behind);
+    Some(done && is_recovered(&ahead) && goes_on(rt, &mut ahead))
 }
 
 #[test]
@@ -909,29 +1133,36 @@ fn recovers_where_the_copy_is_behind(rt: HostRuntime) {
 }
 
 /// The one behind joins the one ahead and takes its place, or the one ahead joins the one behind.
+fn joins_in_place(
+    rt: &HostRuntime,
+    ahead: &mut [Replica],
+    behind: &mut [Replica],
+    turned: bool,
+) -> bool {
+    if turned {
+        joins_first(rt, ahead, behind)
+    } else {
+        joins_first(rt, behind, ahead) && swap_first(ahead, behind)
+    }
+}
+
+/// The run goes on once the two are joined.
 fn joins_further(rt: &HostRuntime, turned: bool) -> Option<bool> {
     let (mut ahead, mut behind) = apart(rt)?;
-    let left = ahead.get_mut(0)?;
-    let right = behind.get_mut(0)?;
-    let done = if turned {
-        joined(rt, left, right)
-    } else {
-        joined(rt, right, left)
-    };
-    if !turned {
-        mem::swap(left, right);
-    }
-    Some(done && is_recovered(&ahead)? && goes_on(rt, &mut ahead)?)
+    let done = joins_in_place(rt, &mut ahead, &mut behind, turned);
+    Some(done && is_recovered(&ahead) && goes_on(rt, &mut ahead))
 }
 
 #[test]
 fn joins_where_one_is_further(rt: HostRuntime) {
-    assert_eq!(rt; joins_further(&rt, false), Some(true));
-    assert_eq!(rt; joins_further(&rt, true), Some(true));
+    assert_eq!(rt;
+        (joins_further(&rt, false), joins_further(&rt, true)),
+        (Some(true), Some(true))
+    );
 }
 
 /// Whether the accumulators of a replica's vertices are its rows.
-fn is_settled(replica: &Replica) -> bool {
+fn has_settled(replica: &Replica) -> bool {
     let mut same = true;
     for x in 0..4 {
         if replica.owns(x) {
@@ -941,31 +1172,77 @@ fn is_settled(replica: &Replica) -> bool {
     same
 }
 
-/// Whether partition 0 of two runs is over, and its accumulators are its rows.
-fn are_over(left: &mut [Replica], right: &mut [Replica]) -> Option<bool> {
-    let (left, right) = (left.get_mut(0)?, right.get_mut(0)?);
-    let over = left.close() == Err(CloseError::Finished);
-    let both = over && right.close() == Err(CloseError::Finished);
-    Some(both && is_settled(left) && is_settled(right))
+/// Whether partition 0 tells in each reader what a snapshot does, and its accumulators are its rows.
+fn is_settled(all: &[Replica], before: &Snapshot) -> bool {
+    match all.get(0) {
+        Some(replica) => has_settled(replica) && shows_all(replica, before),
+        None => false,
+    }
 }
 
-/// A replica whose run is over merges another such one and joins one behind, and is as it was; the one behind joins
-/// it, and is as it is.
+/// Whether partition 0 of two runs is over, and is as it was.
+fn are_over(left: &mut [Replica], right: &mut [Replica], before: &Snapshot) -> bool {
+    closes(left, 0, Err(CloseError::Finished))
+        && closes(right, 0, Err(CloseError::Finished))
+        && is_settled(left, before)
+        && is_settled(right, before)
+}
+
+/// Replicas of two edges whose run is over once they close.
+fn ended(rt: &HostRuntime) -> Option<Vec<Replica>> {
+    let mut all = two_edges(rt, 2, 4096)?;
+    if run(rt, &mut all, 3) && exchange(rt, &mut all) {
+        Some(all)
+    } else {
+        None
+    }
+}
+
+/// A replica whose run is over merges another such one, and is as it was.
+fn stays_over(
+    rt: &HostRuntime,
+    over: &mut [Replica],
+    other: &mut [Replica],
+    before: &Snapshot,
+) -> bool {
+    are_over(over, other, before)
+        && merges(rt, over, 0, other)
+        && is_settled(over, before)
+        && are_over(over, other, before)
+}
+
+/// Then it joins one behind, and is as it was; the one behind joins another such one, and is as it is.
+fn take_over(
+    rt: &HostRuntime,
+    over: &mut [Replica],
+    other: &mut [Replica],
+    behind: &mut [Replica],
+    before: &Snapshot,
+) -> bool {
+    stays_over(rt, over, other, before)
+        && joins_first(rt, over, behind)
+        && is_settled(over, before)
+        && joins_first(rt, behind, other)
+        && is_settled(behind, before)
+}
+
+/// All this, from what it has at first.
+fn is_taken_over(
+    rt: &HostRuntime,
+    over: &mut [Replica],
+    other: &mut [Replica],
+    behind: &mut [Replica],
+) -> Option<bool> {
+    let before = snapshot_of(rt, over, 0)?;
+    Some(take_over(rt, over, other, behind, &before))
+}
+
+/// Two replicas whose run is over, and one behind.
 fn over_and_taken_over(rt: &HostRuntime) -> Option<bool> {
-    let mut over = two_edges(rt, 2, 4096)?;
-    let mut other = two_edges(rt, 2, 4096)?;
+    let mut over = ended(rt)?;
+    let mut other = ended(rt)?;
     let mut behind = two_edges(rt, 2, 4096)?;
-    let mut done = run(rt, &mut over, 3) && exchange(rt, &mut over);
-    done &= run(rt, &mut other, 3) && exchange(rt, &mut other);
-    let before = over.get(0)?.snapshot(rt.alloc()).ok()?;
-    done &= are_over(&mut over, &mut other)? && shows_all(over.get(0)?, &before);
-    done &= merged(rt, &mut over, 0, other.get(0)) == Some(Ok(()));
-    done &= is_settled(over.get(0)?) && shows_all(over.get(0)?, &before);
-    done &= are_over(&mut over, &mut other)?;
-    done &= joined(rt, over.get_mut(0)?, behind.get(0)?);
-    done &= is_settled(over.get(0)?) && shows_all(over.get(0)?, &before);
-    done &= joined(rt, behind.get_mut(0)?, other.get(0)?);
-    Some(done && is_settled(behind.get(0)?) && shows_all(behind.get(0)?, &before))
+    is_taken_over(rt, &mut over, &mut other, &mut behind)
 }
 
 #[test]
@@ -973,21 +1250,31 @@ fn merges_and_joins_where_the_run_is_over(rt: HostRuntime) {
     assert_eq!(rt; over_and_taken_over(&rt), Some(true));
 }
 
-/// Two replicas of partition 2, which owns vertex 2 alone: one has the batch of partition 0, the other that of
-/// partition 1. Together they have the level, and it has the row of vertex 1.
+/// Of partition 2, which owns vertex 2 alone, one has the batch of partition 0, the other that of partition 1.
+fn tell_either(rt: &HostRuntime, first: &mut [Replica], second: &mut [Replica]) -> bool {
+    is_new(rt, first, 0, 2)
+        && is_new(rt, second, 1, 2)
+        && misses(first, 2, Some(1))
+        && misses(second, 2, Some(0))
+}
+
+/// Together they have the level, and it has the row of vertex 1.
+fn has_both(all: &mut [Replica]) -> bool {
+    is_held(all, 2, 0, 0) == Some(true)
+        && is_held(all, 2, 0, 1) == Some(true)
+        && misses(all, 2, None)
+        && has_row(all, 2, &ROW_C)
+        && has_accumulated(all, 2, &ROW_BC)
+        && closes(all, 2, Ok(1))
+        && has_row(all, 2, &ROW_BC)
+}
+
+/// The one merges a snapshot of the other.
 fn names_of_both(rt: &HostRuntime) -> Option<bool> {
     let mut first = two_edges(rt, 3, 4096)?;
     let mut second = two_edges(rt, 3, 4096)?;
-    let mut done = tell(rt, &mut first, 0, 2) == Some(Ok(Taken::New));
-    done &= tell(rt, &mut second, 1, 2) == Some(Ok(Taken::New));
-    done &= first.get(2)?.missing() == Some(1);
-    done &= second.get(2)?.missing() == Some(0);
-    done &= merged(rt, &mut first, 2, second.get(2)) == Some(Ok(()));
-    done &= is_held(&first, 2, 0, 0)? && is_held(&first, 2, 0, 1)?;
-    done &= first.get(2)?.missing().is_none();
-    done &= has_row(&first, 2, &ROW_C) && has_accumulated(&first, 2, &ROW_BC);
-    done &= first.get_mut(2)?.close() == Ok(1);
-    Some(done && has_row(&first, 2, &ROW_BC))
+    let told = tell_either(rt, &mut first, &mut second);
+    Some(told && merges(rt, &mut first, 2, &second) && has_both(&mut first))
 }
 
 #[test]
@@ -1001,23 +1288,29 @@ fn refusal(
     others: Option<Vec<Replica>>,
     place: usize,
 ) -> Option<Result<(), MergeError>> {
-    let (mut held, _other) = held_and_not(rt)?;
     let others = others?;
-    let answer = merged(rt, &mut held, 0, others.get(place));
-    if has_level(&held)? { answer } else { None }
+    let mut held = held(rt)?;
+    let answer = merged(rt, &mut held, 0, &others, place);
+    if has_level(&held) { answer } else { None }
+}
+
+/// Whether snapshots of other jobs are refused, of another partition too: the job is the first of the checks.
+fn refuses_other_jobs(rt: &HostRuntime) -> bool {
+    let mut refused = true;
+    for (text, seed, place) in [
+        (b"a\tb\nb\tc\n", 1, 0),
+        (b"a\tb\na\tc\n", 0, 0),
+        (b"a\tb\nb\tc\n", 1, 1),
+    ] {
+        let others = seeded(rt, text, seed, 2, 4096);
+        refused &= refusal(rt, others, place) == Some(Err(MergeError::OtherJob));
+    }
+    refused
 }
 
 #[test]
 fn refuses_a_snapshot_of_another_job(rt: HostRuntime) {
-    let text = b"a\tb\nb\tc\n".as_slice();
-    let other_job = Some(Err(MergeError::OtherJob));
-    assert_eq!(rt; refusal(&rt, seeded(&rt, text, 1, 2, 4096), 0), other_job);
-    assert_eq!(rt;
-        refusal(&rt, replicas(&rt, b"a\tb\na\tc\n", 2, 4096), 0),
-        other_job
-    );
-    // The job is the first of the checks.
-    assert_eq!(rt; refusal(&rt, seeded(&rt, text, 1, 2, 4096), 1), other_job);
+    assert!(rt; refuses_other_jobs(&rt));
 }
 
 #[test]
@@ -1027,7 +1320,7 @@ fn refuses_a_snapshot_of_another_partition(rt: HostRuntime) {
 }
 
 /// Whether a snapshot is of partition 0 at superstep 0, and has the batch of partition 1.
-fn is_first(snapshot: &Snapshot, replica: &Replica) -> bool {
+fn is_first(snapshot: &Snapshot) -> bool {
     let name = BatchName {
         superstep: 0,
         source: 1,
@@ -1038,23 +1331,36 @@ fn is_first(snapshot: &Snapshot, replica: &Replica) -> bool {
         ..name
     };
     let elsewhere = BatchName { target: 1, ..name };
-    snapshot.plan() == replica.plan()
-        && snapshot.partition() == 0
+    snapshot.partition() == 0
         && snapshot.superstep() == 0
         && snapshot.holds(name)
         && !snapshot.holds(early)
         && !snapshot.holds(elsewhere)
 }
 
+/// Whether a snapshot is of the job of these replicas.
+fn is_of_job(all: &[Replica], snapshot: &Snapshot) -> bool {
+    match all.get(0) {
+        Some(replica) => replica.plan() == snapshot.plan(),
+        None => false,
+    }
+}
+
 /// The replica goes on to superstep 1; its snapshot of superstep 0 does not.
+fn stays_first(held: &mut [Replica], snapshot: &Snapshot) -> bool {
+    is_of_job(held, snapshot)
+        && is_first(snapshot)
+        && closes(held, 0, Ok(1))
+        && is_held(held, 0, 0, 1) == Some(false)
+        && is_first(snapshot)
+        && is_of_job(held, snapshot)
+}
+
+/// The snapshot of a replica that goes on.
 fn snapshot_stays(rt: &HostRuntime) -> Option<bool> {
-    let (mut held, _other) = held_and_not(rt)?;
-    let replica = held.get_mut(0)?;
-    let snapshot = replica.snapshot(rt.alloc()).ok()?;
-    let before = is_first(&snapshot, replica);
-    let closed = replica.close() == Ok(1);
-    let gone = is_held(&held, 0, 0, 1)?;
-    Some(before && closed && !gone && is_first(&snapshot, held.get(0)?))
+    let mut held = held(rt)?;
+    let snapshot = snapshot_of(rt, &held, 0)?;
+    Some(stays_first(&mut held, &snapshot))
 }
 
 #[test]

@@ -14,4 +14,9 @@ told : {E : Type 0} (v : State) (target : ℕ) (r : Result BatchValue E) → tar
 told v target r other sent j p t h = if_made r sent (λ b is. is ∙ sent_true j p t target v h other)
 
 pub returns : goal.returns
-returns c = record { stands = told c.args.self.now c.args.target c.sent.result c.requires.target (subst (λ (u : State). IfOk c.sent.result (λ b. b ≡ sent_batch u c.args.target (length u.part.preds))) c.self.view_is c.sent.ensures.sent) }
+returns c =
+    let sent = subst (λ (u : State). IfOk c.sent.result (λ b. b ≡ sent_batch u c.args.target (length u.part.preds))) c.self.view_is c.sent.ensures.sent in
+    record {
+      value = sent;
+      stands = told c.args.self.now c.args.target c.sent.result c.requires.target sent;
+    }

@@ -5,72 +5,40 @@ use Rattle.ball_model.specs.Table.{Table}
 use Rattle.ball_model.specs.State.{State, early_at}
 use Rattle.replica.specs.Ahead.{IsTable, either}
 use Rattle.replica.specs.Index.{targets_of}
-use Rattle.replica.specs.Merged.{Absorbs}
 use Rattle.replica.specs.Seen.{IsState, IsSnapshot, state_of}
 use Rattle.replica.specs.Spread.{AreTouched}
+use Rattle.replica.specs.declared.Snapshot.TheInside as snapshot
 use Rattle.replica.proofs.AccumulatorLemmas.{fields_of, fields_are, kept_snapshot}
 use Rattle.replica.proofs.AdvanceLemmas.{same_early}
 use Rattle.replica.proofs.HearLemmas.{hears_as, hears_same}
-use Rattle.replica.proofs.MergeLemmas.{Gathers, gathers_state, absorbs_lesser, shifted_told}
+use Rattle.replica.proofs.MergeLemmas.{Meets, meets, Gathers, gathers_state, absorbs_lesser, absorbs_as, shifted_told}
 use Rattle.replica.proofs.StateLemmas.{inside_of}
 use Rattle.replica.proofs.Snapshot.gather.Goals as goal
+use Rattle.replica.proofs.Snapshot.gather.Goals.{After-other, After-fill}
 
-pub hear_early-requires-clause-inside : goal.hear_early-requires-clause-inside
-hear_early-requires-clause-inside c =
-    let s = state_of c.self.inside in
-    let own_rows : c.renew.new.accumulated.rows ≡ s.accumulated = ap (λ (t : Table). t.rows) c.in_ok-renew.ensures.rows in
-    inside_of s c.args.targets.now (length c.renew.new.accumulated.rows) c.self.invariant.state (c.requires.index ∙ ap (λ (v : State). targets_of v.part) (sym c.self.view_is)) (ap (length {A = List ℕ}) own_rows)
+-- the two, and what is shared
+pair : (c : After-other) → Meets (state_of c.self.inside) (state_of c.other.inside) c.args.shared.now
+pair c = meets (state_of c.self.inside) (state_of c.other.inside) c.args.self.now c.args.other.now c.args.shared.now c.self.invariant.state c.other.invariant.state c.self.view_is c.other.view_is c.requires.plan c.requires.number c.requires.shared
 
-pub hear_early-requires-clause-table : goal.hear_early-requires-clause-table
-hear_early-requires-clause-table c =
-    let s = state_of c.self.inside in
-    let o = state_of c.other.inside in
-    let st = c.self.invariant.state in
-    let so = c.other.invariant.state in
-    let plan : s.part.plan ≡ o.part.plan = ap (λ (v : State). v.part.plan) c.self.view_is ∙ c.requires.plan ∙ sym (ap (λ (v : State). v.part.plan) c.other.view_is) in
-    let number : s.part.number ≡ o.part.number = ap (λ (v : State). v.part.number) c.self.view_is ∙ c.requires.number ∙ sym (ap (λ (v : State). v.part.number) c.other.view_is) in
-    let parts : s.part.plan.parts ≡ o.part.plan.parts = ap (λ (a : PlanValue). a.parts) plan in
-    let shared : c.args.shared ≡ o.early = c.requires.shared ∙ sym (ap (λ (v : State). v.early) c.other.view_is) in
-    let table : IsTable s.part.plan.parts o.early = subst (λ n. IsTable n o.early) (sym parts) so.early.table in
-    let own : c.plan.result.now ≡ s.part.plan = c.plan.ensures ∙ ap (λ (a : PartValue). a.plan) c.deref.ensures in
-    let index : c.args.targets.now ≡ targets_of s.part = c.requires.index ∙ ap (λ (v : State). targets_of v.part) (sym c.self.view_is) in
-    let shared_table : IsTable s.part.plan.parts c.args.shared = subst (λ e. IsTable s.part.plan.parts e) (sym shared) table in
-    rw own (c.shift.ensures.table s.part.plan.parts shared_table)
+-- the fields in the end
+abbrev after : After-fill → snapshot.Inside
+after c = record c.self.inside {
+  heard = c.hear_early.new.heard;
+  heard_change = c.hear_early.new.heard_change;
+  accumulated = c.hear_early.new.accumulated;
+  early = c.fill.new.self;
+}
 
-pub fill-requires : goal.fill-requires
-fill-requires c = λ n is.
+gathers : (c : After-fill) → Meets (state_of c.self.inside) (state_of c.other.inside) c.args.shared.now → Gathers (state_of c.self.inside).part.plan.log2m (state_of c.self.inside) (state_of c.other.inside) (fields_of (after c))
+gathers c m =
     let s = state_of c.self.inside in
     let o = state_of c.other.inside in
-    let st = c.self.invariant.state in
-    let so = c.other.invariant.state in
-    let plan : s.part.plan ≡ o.part.plan = ap (λ (v : State). v.part.plan) c.self.view_is ∙ c.requires.plan ∙ sym (ap (λ (v : State). v.part.plan) c.other.view_is) in
-    let number : s.part.number ≡ o.part.number = ap (λ (v : State). v.part.number) c.self.view_is ∙ c.requires.number ∙ sym (ap (λ (v : State). v.part.number) c.other.view_is) in
-    let parts : s.part.plan.parts ≡ o.part.plan.parts = ap (λ (a : PlanValue). a.parts) plan in
-    let shared : c.args.shared ≡ o.early = c.requires.shared ∙ sym (ap (λ (v : State). v.early) c.other.view_is) in
-    let table : IsTable s.part.plan.parts o.early = subst (λ n. IsTable n o.early) (sym parts) so.early.table in
-    let own : c.plan.result.now ≡ s.part.plan = c.plan.ensures ∙ ap (λ (a : PartValue). a.plan) c.deref.ensures in
-    let index : c.args.targets.now ≡ targets_of s.part = c.requires.index ∙ ap (λ (v : State). targets_of v.part) (sym c.self.view_is) in
-    let shared_table : IsTable s.part.plan.parts c.args.shared = subst (λ e. IsTable s.part.plan.parts e) (sym shared) table in
-    let same : s.part.plan.parts ≡ n = sym (st.early.table.sources 0 (omega arith)) ∙ is.sources 0 (omega arith) in
-    subst (λ k. IsTable k c.shift-2.new.self) same (c.shift-2.ensures.table s.part.plan.parts (c.shift.ensures.table s.part.plan.parts shared_table))
-
-gathers : (c : goal.After-drop-shared-inside-2) → Gathers (state_of c.self.inside).part.plan.log2m (state_of c.self.inside) (state_of c.other.inside) (fields_of (record { part = c.self.inside.part; superstep = c.self.inside.superstep; rows = c.self.inside.rows; marks = c.self.inside.marks; tallies = c.self.inside.tallies; sums = c.self.inside.sums; heard = c.hear_early.new.heard; heard_change = c.hear_early.new.heard_change; accumulated = c.hear_early.new.accumulated; early = c.fill.new.self }))
-gathers c =
-    let s = state_of c.self.inside in
-    let o = state_of c.other.inside in
-    let st = c.self.invariant.state in
-    let so = c.other.invariant.state in
-    let plan : s.part.plan ≡ o.part.plan = ap (λ (v : State). v.part.plan) c.self.view_is ∙ c.requires.plan ∙ sym (ap (λ (v : State). v.part.plan) c.other.view_is) in
-    let number : s.part.number ≡ o.part.number = ap (λ (v : State). v.part.number) c.self.view_is ∙ c.requires.number ∙ sym (ap (λ (v : State). v.part.number) c.other.view_is) in
-    let parts : s.part.plan.parts ≡ o.part.plan.parts = ap (λ (a : PlanValue). a.parts) plan in
-    let shared : c.args.shared ≡ o.early = c.requires.shared ∙ sym (ap (λ (v : State). v.early) c.other.view_is) in
-    let table : IsTable s.part.plan.parts o.early = subst (λ n. IsTable n o.early) (sym parts) so.early.table in
     let own : c.plan.result.now ≡ s.part.plan = c.plan.ensures ∙ ap (λ (a : PartValue). a.plan) c.deref.ensures in
     let index : c.args.targets.now ≡ targets_of s.part = c.requires.index ∙ ap (λ (v : State). targets_of v.part) (sym c.self.view_is) in
     let gap = s.superstep - o.superstep - 1 in
     let lt : o.superstep < s.superstep = omega (arith, c.requires.further, ap (λ (v : State). v.superstep) c.self.view_is, ap (λ (v : State). v.superstep) c.other.view_is) in
     let told : (i k : ℕ) → early_at c.shift.new.self i k ≡ early_at o.early (i + gap) k =
-    shifted_told s.part.plan.parts o.early c.shift.new.self gap c.gap.result table c.gap.ensures (λ i k. c.shift.ensures.kept i k ∙ ap (λ e. early_at e (i + c.gap.result) k) shared) in
+    λ i k. shifted_told s.part.plan.parts c.args.shared.now c.shift.new.self gap c.gap.result m.table c.gap.ensures c.shift.ensures.kept i k ∙ ap (λ e. early_at e (i + gap) k) m.early in
     let zero_on : 0 + gap ≡ gap = omega arith in
     record {
       lt = lt;
@@ -78,34 +46,38 @@ gathers c =
       hears = hears_same s.part.plan.log2m (targets_of s.part) (λ q. early_at c.shift.new.self 0 q) (λ q. early_at o.early gap q) _ _ (λ q. told 0 q ∙ same_early o.early (0 + gap) gap q zero_on)
           (hears_as (ap (λ (a : PlanValue). a.log2m) own) index refl (ap (λ (t : Table). t.rows) c.in_ok-renew.ensures.rows) c.hear_early.ensures.hears);
       early = λ i q. inl (c.fill.ensures.kept i q ∙ ap (either (early_at s.early i q)) (c.shift-2.ensures.kept i q ∙ told (i + 1) q));
-      table = c.fill.ensures.table s.part.plan.parts st.early.table;
+      table = c.fill.ensures.table s.part.plan.parts m.mine.early.table;
     }
 
 -- the limits, as the fields stand
-state_after : (c : goal.After-drop-shared-inside-2) → IsState (fields_of (record { part = c.self.inside.part; superstep = c.self.inside.superstep; rows = c.self.inside.rows; marks = c.self.inside.marks; tallies = c.self.inside.tallies; sums = c.self.inside.sums; heard = c.hear_early.new.heard; heard_change = c.hear_early.new.heard_change; accumulated = c.hear_early.new.accumulated; early = c.fill.new.self }))
-state_after c =
-    let s = state_of c.self.inside in
-    let o = state_of c.other.inside in
-    let st = c.self.invariant.state in
-    let so = c.other.invariant.state in
-    let plan : s.part.plan ≡ o.part.plan = ap (λ (v : State). v.part.plan) c.self.view_is ∙ c.requires.plan ∙ sym (ap (λ (v : State). v.part.plan) c.other.view_is) in
-    let number : s.part.number ≡ o.part.number = ap (λ (v : State). v.part.number) c.self.view_is ∙ c.requires.number ∙ sym (ap (λ (v : State). v.part.number) c.other.view_is) in
-    let parts : s.part.plan.parts ≡ o.part.plan.parts = ap (λ (a : PlanValue). a.parts) plan in
-    let shared : c.args.shared ≡ o.early = c.requires.shared ∙ sym (ap (λ (v : State). v.early) c.other.view_is) in
-    let table : IsTable s.part.plan.parts o.early = subst (λ n. IsTable n o.early) (sym parts) so.early.table in
-    let own : c.plan.result.now ≡ s.part.plan = c.plan.ensures ∙ ap (λ (a : PartValue). a.plan) c.deref.ensures in
-    let index : c.args.targets.now ≡ targets_of s.part = c.requires.index ∙ ap (λ (v : State). targets_of v.part) (sym c.self.view_is) in
-    gathers_state s o (fields_of (record { part = c.self.inside.part; superstep = c.self.inside.superstep; rows = c.self.inside.rows; marks = c.self.inside.marks; tallies = c.self.inside.tallies; sums = c.self.inside.sums; heard = c.hear_early.new.heard; heard_change = c.hear_early.new.heard_change; accumulated = c.hear_early.new.accumulated; early = c.fill.new.self })) st so (gathers c) (sym plan) (sym number) refl refl refl st.part
+state_after : (c : After-fill) → Meets (state_of c.self.inside) (state_of c.other.inside) c.args.shared.now → IsState (fields_of (after c))
+state_after c m = gathers_state (state_of c.self.inside) (state_of c.other.inside) (fields_of (after c)) m.mine m.theirs (gathers c m) (sym m.plan) (sym m.number) refl refl refl m.mine.part
 
-whole : (c : goal.After-drop-shared-inside-2) → fields_of (record { part = c.self.inside.part; superstep = c.self.inside.superstep; rows = c.self.inside.rows; marks = c.self.inside.marks; tallies = c.self.inside.tallies; sums = c.self.inside.sums; heard = c.hear_early.new.heard; heard_change = c.hear_early.new.heard_change; accumulated = c.hear_early.new.accumulated; early = c.fill.new.self }) ≡ state_of (record { part = c.self.inside.part; superstep = c.self.inside.superstep; rows = c.self.inside.rows; marks = c.self.inside.marks; tallies = c.self.inside.tallies; sums = c.self.inside.sums; heard = c.hear_early.new.heard; heard_change = c.hear_early.new.heard_change; accumulated = c.hear_early.new.accumulated; early = c.fill.new.self })
-whole c = fields_are (record { part = c.self.inside.part; superstep = c.self.inside.superstep; rows = c.self.inside.rows; marks = c.self.inside.marks; tallies = c.self.inside.tallies; sums = c.self.inside.sums; heard = c.hear_early.new.heard; heard_change = c.hear_early.new.heard_change; accumulated = c.hear_early.new.accumulated; early = c.fill.new.self }) (state_after c).accumulated.count
+pub hear_early-requires-clause-inside : goal.hear_early-requires-clause-inside
+hear_early-requires-clause-inside c =
+    inside_of (state_of c.self.inside) c.args.targets.now (length c.renew.new.accumulated.rows) c.self.invariant.state (c.requires.index ∙ ap (λ (v : State). targets_of v.part) (sym c.self.view_is)) (ap (λ (t : Table). length t.rows) c.in_ok-renew.ensures.rows)
+
+pub hear_early-requires-clause-table : goal.hear_early-requires-clause-table
+hear_early-requires-clause-table c =
+    let s = state_of c.self.inside in
+    let m = pair (goal.at.hear_early-requires-clause-table c).After-other in
+    let own : c.plan.result.now ≡ s.part.plan = c.plan.ensures ∙ ap (λ (a : PartValue). a.plan) c.deref.ensures in
+    rw own (c.shift.ensures.table s.part.plan.parts m.table)
+
+pub fill-requires : goal.fill-requires
+fill-requires c = λ n is.
+    let s = state_of c.self.inside in
+    let m = pair (goal.at.fill-requires c).After-other in
+    let same : s.part.plan.parts ≡ n = sym (m.mine.early.table.sources 0 (omega arith)) ∙ is.sources 0 (omega arith) in
+    subst (λ k. IsTable k c.shift-2.new.self) same (c.shift-2.ensures.table s.part.plan.parts (c.shift.ensures.table s.part.plan.parts m.table))
 
 pub invariant_of-self : goal.invariant_of-self
 invariant_of-self c = subst (λ (t : Table). IsSnapshot (record c.self.inside { accumulated = t })) (sym c.in_err-renew.ensures.refused) c.self.invariant
 
 pub invariant_of-self-2 : goal.invariant_of-self-2
 invariant_of-self-2 c =
-    kept_snapshot (record { part = c.self.inside.part; superstep = c.self.inside.superstep; rows = c.self.inside.rows; marks = c.self.inside.marks; tallies = c.self.inside.tallies; sums = c.self.inside.sums; heard = c.hear_early.new.heard; heard_change = c.hear_early.new.heard_change; accumulated = c.hear_early.new.accumulated; early = c.fill.new.self }) (state_after c) c.self.invariant.width
+    let m = pair (goal.at.invariant_of-self-2 c).After-other in
+    kept_snapshot (after c) (state_after c m) c.self.invariant.width
     (c.hear_early.ensures.width ∙ ap (λ (t : Table). t.width) c.in_ok-renew.ensures.rows ∙ c.self.invariant.accumulated_width)
     c.self.invariant.room
 
@@ -113,13 +85,15 @@ pub returns-clause-absorbs : goal.returns-clause-absorbs
 returns-clause-absorbs c =
     let s = state_of c.self.inside in
     let o = state_of c.other.inside in
-    let absorbs : Absorbs s o (state_of (record { part = c.self.inside.part; superstep = c.self.inside.superstep; rows = c.self.inside.rows; marks = c.self.inside.marks; tallies = c.self.inside.tallies; sums = c.self.inside.sums; heard = c.hear_early.new.heard; heard_change = c.hear_early.new.heard_change; accumulated = c.hear_early.new.accumulated; early = c.fill.new.self })) = subst (λ (w : State). Absorbs s o w) (whole c) (absorbs_lesser s.part.plan.log2m s o (fields_of (record { part = c.self.inside.part; superstep = c.self.inside.superstep; rows = c.self.inside.rows; marks = c.self.inside.marks; tallies = c.self.inside.tallies; sums = c.self.inside.sums; heard = c.hear_early.new.heard; heard_change = c.hear_early.new.heard_change; accumulated = c.hear_early.new.accumulated; early = c.fill.new.self })) (gathers c) refl) in
-    subst (λ (u : State). Absorbs u c.args.other.now (state_of (record { part = c.self.inside.part; superstep = c.self.inside.superstep; rows = c.self.inside.rows; marks = c.self.inside.marks; tallies = c.self.inside.tallies; sums = c.self.inside.sums; heard = c.hear_early.new.heard; heard_change = c.hear_early.new.heard_change; accumulated = c.hear_early.new.accumulated; early = c.fill.new.self }))) c.self.view_is (subst (λ (u : State). Absorbs s u (state_of (record { part = c.self.inside.part; superstep = c.self.inside.superstep; rows = c.self.inside.rows; marks = c.self.inside.marks; tallies = c.self.inside.tallies; sums = c.self.inside.sums; heard = c.hear_early.new.heard; heard_change = c.hear_early.new.heard_change; accumulated = c.hear_early.new.accumulated; early = c.fill.new.self }))) c.other.view_is absorbs)
+    let m = pair (goal.at.returns-clause-absorbs c).After-other in
+    absorbs_as s o (fields_of (after c)) c.args.self.now c.args.other.now (state_of (after c)) c.self.view_is c.other.view_is (fields_are (after c) (state_after c m).accumulated.count)
+    (absorbs_lesser s.part.plan.log2m s o (fields_of (after c)) (gathers c m) refl)
 
 pub returns-clause-touched : goal.returns-clause-touched
 returns-clause-touched c =
     let s = state_of c.self.inside in
+    let m = pair (goal.at.returns-clause-touched c).After-other in
     let own_rows : c.renew.new.accumulated.rows ≡ s.accumulated = ap (λ (t : Table). t.rows) c.in_ok-renew.ensures.rows in
     let mine : AreTouched s.rows s.accumulated c.args.touched.now = subst (λ (v : State). AreTouched v.rows v.accumulated c.args.touched.now) (sym c.self.view_is) c.requires.touched in
-    let after : AreTouched s.rows c.hear_early.new.accumulated.rows c.hear_early.new.touched = c.hear_early.ensures.touched s.rows (subst (λ (l : List (List ℕ)). AreTouched s.rows l c.args.touched.now) (sym own_rows) mine) in
-    subst (λ (w : State). AreTouched w.rows w.accumulated c.hear_early.new.touched) (whole c) after
+    let here : AreTouched s.rows c.hear_early.new.accumulated.rows c.hear_early.new.touched = c.hear_early.ensures.touched s.rows (subst (λ (l : List (List ℕ)). AreTouched s.rows l c.args.touched.now) (sym own_rows) mine) in
+    subst (λ (w : State). AreTouched w.rows w.accumulated c.hear_early.new.touched) (fields_are (after c) (state_after c m).accumulated.count) here

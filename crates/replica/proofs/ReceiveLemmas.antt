@@ -1,0 +1,137 @@
+-- A replica that receives a batch: one of its superstep is heard, a later one is kept.
+use Rattle.std.proofs.Common.{◌≡◌, ℕ, ◌-◌, ◌<◌, ◌≤◌, ◌==◌, ◌&&◌, Bool, List, length, refl, ap, sym, ◌∙◌, subst, arith, inl, inr, if◌then◌else◌}
+use Rattle.std.specs.Prelude.{Option, Some, Ok}
+use Rattle.std.specs.Arc.{arc_value}
+use Rattle.ball_model.specs.declared.names.BatchName.{BatchName}
+use Rattle.ball_model.specs.declared.names.Taken.TheVariants as taken
+use Rattle.ball_model.specs.Table.{Table}
+use Rattle.ball_model.specs.PlanValue.{PlanValue}
+use Rattle.ball_model.specs.Batches.{BatchValue, IsBatch}
+use Rattle.ball_model.specs.Content.{take_of}
+use Rattle.ball_model.specs.State.{State, content_of, early_at}
+use Rattle.replica.specs.declared.Snapshot.TheInside as snapshot
+use Rattle.replica.specs.Ahead.{IsTable}
+use Rattle.replica.specs.Change.{Receives}
+use Rattle.replica.specs.Hearing.{Hears, batch_by}
+use Rattle.replica.specs.Index.{targets_of}
+use Rattle.replica.specs.Seen.{HasIndex, IsSnapshot, IsState, state_of}
+use Rattle.replica.specs.Spread.{AreTouched, LeadInside}
+use Rattle.replica.proofs.AccumulatorLemmas.{Keeps, fields_of, fields_are, hearing_keeps}
+use Rattle.replica.proofs.HearLemmas.{hears_as}
+use Rattle.replica.proofs.LevelLemmas.{number_is}
+use Rattle.replica.proofs.OverLemmas.{hearing_index, kept_over}
+use Rattle.replica.proofs.RiseLemmas.{all_on}
+use Rattle.replica.proofs.StateLemmas.{inside_of}
+use Rattle.replica.proofs.TakeLemmas.{IsFresh, fresh, names_heard, names_kept, stands_heard, stands_kept, sources_heard, early_kept}
+
+-- ---- a batch of the superstep
+
+-- what is known where it is new
+pub record Hearable (r : snapshot.Inside) (v : State) (b : BatchValue) (targets : List (List ℕ)) (touched : List Bool) : Type 0 where
+  pub keeps : Keeps r v
+  pub now : b.name.superstep ≡ r.superstep
+  pub is_fresh : IsFresh (fields_of r) b
+  pub index : targets ≡ targets_of (arc_value r.part)
+  pub inside : LeadInside (length r.accumulated.rows) targets
+  pub touched_are : AreTouched r.rows.rows r.accumulated.rows touched
+
+pub hearable : (r : snapshot.Inside) (v : State) (b : BatchValue) (targets : List (List ℕ)) (touched : List Bool) (name : BatchName) → IsSnapshot r → state_of r ≡ v → IsBatch b →
+    take_of v.part.plan v.part.number (content_of v) b.plan b.name ≡ Ok taken.New → HasIndex v targets → AreTouched v.rows v.accumulated touched → name ≡ b.name → name.superstep ≡ r.superstep → Hearable r v b targets touched
+hearable r v b targets touched name ok is batch new has are named here =
+    let now : b.name.superstep ≡ r.superstep = ap (λ (n : BatchName). n.superstep) (sym named) ∙ here in
+    let k = hearing_keeps r v b ok is batch new (now ∙ ap (λ (u : State). u.superstep) is) in
+    let mine = subst (λ (u : State). take_of u.part.plan u.part.number (content_of u) b.plan b.name ≡ Ok taken.New) (sym k.view_is) new in
+    let index = hearing_index (fields_of r) b targets (subst (λ (u : State). HasIndex u targets) (sym k.view_is) has) batch mine now in
+    record {
+      keeps = k;
+      now = now;
+      is_fresh = fresh (fields_of r) b batch mine;
+      index = index;
+      inside = inside_of (fields_of r) targets (length r.accumulated.rows) k.state index refl;
+      touched_are = subst (λ (u : State). AreTouched u.rows u.accumulated touched) (sym k.view_is) are;
+    }
+
+-- the fields once it is heard
+abbrev pub with_heard : snapshot.Inside → List Bool → Bool → Table → snapshot.Inside
+with_heard r heard change accumulated = record r { heard = heard; heard_change = change; accumulated = accumulated }
+
+pub record Heard (r : snapshot.Inside) (v : State) (b : BatchValue) : Type 0 where
+  pub state : IsState (fields_of r)
+  pub receives : Receives b v (state_of r)
+
+pub heard_now : (r : snapshot.Inside) (v : State) (b : BatchValue) (targets : List (List ℕ)) (touched heard : List Bool) (change : Bool) (accumulated : Table) → Hearable r v b targets touched →
+    Hears b.plan.log2m targets (batch_by b.name.source (Some b)) (record { heard = r.heard; change = r.heard_change; accumulated = r.accumulated.rows }) (record { heard = heard; change = change; accumulated = accumulated.rows }) →
+    Heard (with_heard r heard change accumulated) v b
+heard_now r v b targets touched heard change accumulated h hears =
+    let s = fields_of r in
+    let w = fields_of (with_heard r heard change accumulated) in
+    let st = h.keeps.state in
+    let own = hears_as (ap (λ (a : PlanValue). a.log2m) h.is_fresh.plan_is) h.index refl refl hears in
+    let rise = all_on s.part.plan.log2m s.rows s.accumulated accumulated.rows st.rows st.accumulated own.rise in
+    record {
+      state = record {
+        part = st.part;
+        superstep = st.superstep;
+        count = st.count;
+        rows = st.rows;
+        marks = st.marks;
+        lasts = st.lasts;
+        sums = st.sums;
+        heard = sources_heard s w b h.is_fresh st hears.count hears.sources;
+        accumulated = rise;
+        early = st.early;
+      };
+      receives = subst (λ (u : State). Receives b v u) (fields_are (with_heard r heard change accumulated) rise.count)
+          (subst (λ (u : State). Receives b u w) h.keeps.view_is (record {
+            shown = (record { part = refl; superstep = refl; rows = refl; marks = refl; tallies = refl; sums = refl });
+            names = names_heard s w b h.now refl refl hears.sources;
+            stands = λ j p t at. stands_heard s w b s.part.plan.log2m (record { part = refl; superstep = refl; rows = refl; marks = refl; tallies = refl; sums = refl }) h.now h.is_fresh.target refl own j p t (number_is j p t s at) at;
+          }));
+    }
+
+-- ---- a batch of a later superstep
+
+later_than : (t n : ℕ) → t ≤ n → (n ≡ t → ⊥) → t < n
+later_than t n le ne = omega (arith, ne)
+
+pub record Kept (r : snapshot.Inside) (v : State) (b : BatchValue) : Type 0 where
+  pub limits : IsSnapshot r
+  pub receives : Receives b v (state_of r)
+
+pub kept_later : (r : snapshot.Inside) (v : State) (b : BatchValue) (name : BatchName) (after : List (List (Option BatchValue))) → IsSnapshot r → state_of r ≡ v → IsBatch b →
+    take_of v.part.plan v.part.number (content_of v) b.plan b.name ≡ Ok taken.New → name ≡ b.name → (name.superstep ≡ r.superstep → ⊥) → ((parts : ℕ) → IsTable parts r.early → IsTable parts after) →
+    ((i k : ℕ) → early_at after i k ≡ (if (i == name.superstep - r.superstep - 1) && (k == name.source) then Some b else early_at r.early i k)) → Kept (record r { early = after }) v b
+kept_later r v b name after ok is batch new named other table at =
+    let s = state_of r in
+    let st = ok.state in
+    let f = fresh s b batch (subst (λ (u : State). take_of u.part.plan u.part.number (content_of u) b.plan b.name ≡ Ok taken.New) (sym is) new) in
+    let level = name.superstep - r.superstep - 1 in
+    let later : s.superstep < b.name.superstep = later_than s.superstep b.name.superstep f.low (λ e. other (ap (λ (n : BatchName). n.superstep) named ∙ e)) in
+    let level_is : level ≡ b.name.superstep - s.superstep - 1 = ap (λ (n : BatchName). n.superstep - s.superstep - 1) named in
+    let kept : (i k : ℕ) → early_at after i k ≡ (if (i == level) && (k == b.name.source) then Some b else early_at s.early i k) =
+    λ i k. at i k ∙ ap (λ (n : BatchName). if (i == level) && (k == n.source) then Some b else early_at s.early i k) named in
+    record {
+      limits = record {
+        state = record {
+          part = st.part;
+          superstep = st.superstep;
+          count = st.count;
+          rows = st.rows;
+          marks = st.marks;
+          lasts = st.lasts;
+          sums = st.sums;
+          heard = st.heard;
+          accumulated = st.accumulated;
+          early = early_kept s after b level f later level_is st.early (table s.part.plan.parts st.early.table) kept;
+        };
+        width = ok.width;
+        accumulated_width = ok.accumulated_width;
+        kept = elim ok.kept [ inl count ↦ inl count | inr gone ↦ inr (gone.0, kept_over s after ∙ gone.1) ];
+        room = ok.room;
+      };
+      receives = subst (λ (u : State). Receives b u (state_of (record r { early = after }))) is (record {
+        shown = (record { part = refl; superstep = refl; rows = refl; marks = refl; tallies = refl; sums = refl });
+        names = names_kept s (state_of (record r { early = after })) b level later level_is refl refl kept;
+        stands = λ j p t h. stands_kept s (state_of (record r { early = after })) b level (record { part = refl; superstep = refl; rows = refl; marks = refl; tallies = refl; sums = refl }) later level_is f.target refl refl refl kept j p t (number_is j p t s h) h;
+      });
+    }
