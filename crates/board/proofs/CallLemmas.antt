@@ -1,17 +1,17 @@
 -- A call of the board, from the turn to its end.
-use Rattle.std.proofs.Common.{◌≡◌, ◌≢◌, ◌⊎◌, ℕ, ◌+◌, ◌<◌, ◌≤◌, length-append, [], ◌∷◌, ◌++◌, length, true, false, Option, None, Some, is_some, Result, Ok, Err, IfOk, IfSome, IfNone, refl, sym, ap, ◌∙◌, subst, ⊎_elim, arith}
+use Rattle.std.proofs.Common.{◌≡◌, ◌≢◌, ℕ, ◌<◌, ◌≤◌, length-append, [], ◌∷◌, ◌++◌, true, false, Option, None, Some, is_some, Result, Ok, Err, IfOk, IfSome, IfNone, refl, sym, ap, ◌∙◌, subst, ⊎_elim, arith}
 use Rattle.atomic_table.specs.Table.{Me}
 use Rattle.atomic_table.specs.Seated.{TableId}
 use Rattle.std.proofs.lemmas.Bool.{leb-true, le-leb}
 use Rattle.ball_model.specs.declared.names.BatchName.{BatchName}
 use Rattle.ball_model.specs.Join.{Holding}
-use Rattle.ball_model.specs.History.{Event, Fetch, Recall, Entry, History, Object, board_of, is_kept_from, Begins, IsLegal, calls_by, entries_of, entry, with_entry}
+use Rattle.ball_model.specs.History.{Event, Fetch, Recall, History, Object, board_of, is_kept_from, Begins, IsLegal, calls_by, entries_of, entry, with_entry}
 use Rattle.ball_model.proofs.HistoryLemmas.{begins_self, begins_entry, begins_trans, calls_by-other, calls_by-own, board_of-push, last_is_answer, kept_never_goes_back}
 use Rattle.board.specs.View.{View}
 use Rattle.board.specs.Rule.{GoesOn, at_turn, after_turn}
 use Rattle.board.specs.Turn.{Next}
 use Rattle.board.specs.Book.{IsNext, IsNoted}
-use Rattle.board.specs.Seats.{SeatView, Extends, Called, CalledNothing}
+use Rattle.board.specs.Seats.{BoardView, SeatView, Extends, Called, CalledNothing}
 use Rattle.board.specs.Inside.{SeatFits, seat_view_of}
 
 -- what follows where the history is the same, and where it has one entry more
@@ -39,6 +39,23 @@ pub record Turn (number room : ℕ) (m m1 : Me (Option History) View) (book : Hi
   pub limit_is : m1.0.limit ≡ m.0.limit
   pub seen_is : book ≡ m1.0.seen
   pub goes_on : GoesOn m.0 book
+
+pub turn_taken : (number room : ℕ) (m m1 : Me (Option History) View) (book : History) → SeatFits number room m
+    → (m1.0.number ≡ m.0.number) × (m1.0.room ≡ m.0.room) × (m1.0.told ≡ m.0.told) × (m1.0.limit ≡ m.0.limit) → (book ≡ m1.0.seen) × GoesOn m.0 book → Turn number room m m1 book
+turn_taken number room m m1 book was kept found =
+    record {
+      was = was;
+      number_is = kept.0;
+      room_is = kept.1;
+      told_is = kept.2;
+      limit_is = kept.3;
+      seen_is = found.0;
+      goes_on = found.1;
+    }
+
+-- a seat of a board has its limit, as the fields of both have it
+pub limit_of : (b b' : BoardView) (v v' : SeatView) → b ≡ b' → v ≡ v' → v'.limit ≡ b'.limit → b.limit ≡ v.limit
+limit_of b b' v v' board seat same = ap (λ (x : BoardView). x.limit) board ∙ sym (ap (λ (x : SeatView). x.limit) seat ∙ same)
 
 pub turn_next : (limit number room : ℕ) (m m1 : Me (Option History) View) (book new : History) → Turn number room m m1 book → limit ≡ m.0.limit → IsNext limit number book new → Next m1.0 new
 turn_next limit number room m m1 book new t l h =

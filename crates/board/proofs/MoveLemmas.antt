@@ -1,5 +1,5 @@
 -- Each step keeps the rule.
-use Rattle.std.proofs.Common.{◌≡◌, ◌≢◌, ◌⊎◌, ℕ, zero, suc, ◌+◌, ◌%◌, ◌^◌, ◌<◌, ◌≤◌, ◌==◌, min, Bool, true, false, List, [], ◌∷◌, ◌++◌, length, set, Option, Some, None, MatchBool, refl, sym, ap, ◌∙◌, subst, inl, inr, ⊎_elim, arith}
+use Rattle.std.proofs.Common.{◌≡◌, ◌≢◌, ◌⊎◌, ℕ, ◌+◌, ◌%◌, ◌^◌, ◌<◌, ◌≤◌, ◌==◌, min, Bool, true, false, List, [], ◌∷◌, set, Option, Some, None, refl, sym, ap, ◌∙◌, subst, inl, inr, ⊎_elim, arith}
 use Rattle.std.specs.Prelude.{slice_index}
 use Rattle.std.proofs.Math.Nat.{add-mod}
 use Rattle.std.proofs.lemmas.Bool.Decides.{nat_tests}
@@ -7,11 +7,11 @@ use mathlib.Core.Option.{some, none, some-injective, some-ne-none}
 use mathlib.Core.Option as maybe
 use lib.ListN.{get_elem?}
 use lib.Seq.{set-get_or}
-use Rattle.atomic_table.specs.Table.{State, Me, Step, step, Act, keeps, takes, gives, Valid, carried_after, Allows, stepped, opening}
-use Rattle.atomic_table.proofs.Lists.{at_set, at_snoc, set_again, set_here, set_else, one_turn}
-use Rattle.board.specs.View.{View, Told, spent_view}
-use Rattle.ball_model.specs.History.{History, Begins, IsLegal, entries_of, calls_by}
-use Rattle.board.specs.Rule.{total, room_of, tickets_of, IsNotOf, Fits, Apart, IsKeptSafe, IsLocked, with_ticket, at_turn, after_turn, Drew, GoesOn, LookedIf, Looked, Wrote, Raised}
+use Rattle.atomic_table.specs.Table.{State, Me, Step, step, Act, keeps, takes, gives, Valid, carried_after, Allows, stepped}
+use Rattle.atomic_table.proofs.Lists.{set_again, set_else, one_turn}
+use Rattle.board.specs.View.{View}
+use Rattle.ball_model.specs.History.{History, Begins, entries_of, calls_by}
+use Rattle.board.specs.Rule.{total, room_of, tickets_of, IsNotOf, Fits, IsKeptSafe, IsLocked, with_ticket, at_turn, after_turn, Drew, LookedIf, Looked, Wrote, Raised}
 use Rattle.board.specs.Turn.{Next}
 use Rattle.ball_model.proofs.HistoryLemmas.{begins_self, begins_trans}
 use Rattle.board.proofs.ViewLemmas.{total_set, total_le, each_set, apart_set, set_at}

@@ -1,15 +1,14 @@
 -- A look at the length, a new seat, and a seat that ends.
-use Rattle.std.proofs.Common.{◌≡◌, ◌≢◌, ◌⊎◌, ℕ, zero, suc, ◌+◌, ◌-◌, ◌/◌, ◌*◌, ◌%◌, ◌^◌, ◌<◌, ◌≤◌, min, List, [], ◌∷◌, ◌++◌, length, set, Option, Some, None, refl, sym, ap, ◌∙◌, subst, inl, inr, ⊎_elim, arith}
+use Rattle.std.proofs.Common.{◌≡◌, ◌≢◌, ◌⊎◌, ℕ, zero, suc, ◌+◌, ◌-◌, ◌<◌, ◌≤◌, min, List, [], ◌∷◌, ◌++◌, length, set, Option, Some, None, refl, sym, ap, ◌∙◌, subst, inl, inr, ⊎_elim, arith}
 use Rattle.std.specs.Prelude.{slice_index}
 use mathlib.Core.Option.{some, none, some-injective, some-ne-none}
-use mathlib.Core.Option as maybe
 use lib.ListN.{get_elem?}
 use lib.Seq.{set-get_or}
 use Rattle.atomic_table.specs.Table.{State, Me, keeps, Allows, Splits, Joins, opening}
-use Rattle.atomic_table.proofs.Lists.{at_set, set_else, at_longer}
+use Rattle.atomic_table.proofs.Lists.{set_else, at_longer}
 use Rattle.board.specs.View.{View, Told, spent_view}
 use Rattle.ball_model.specs.History.{History, Begins, entries_of, events_by, calls_by, IsLegal}
-use Rattle.board.specs.Rule.{total, room_of, tickets_of, IsNotOf, Fits, Apart, IsKeptSafe, IsLocked, at_look, Counted, share, keeper, newcomer, with_news, first_view}
+use Rattle.board.specs.Rule.{room_of, tickets_of, IsNotOf, Fits, Apart, IsKeptSafe, IsLocked, at_look, Counted, share, keeper, newcomer, with_news, first_view}
 use Rattle.ball_model.proofs.HistoryLemmas.{begins_self, calls_by-none}
 use Rattle.board.proofs.ViewLemmas.{total_set, total_push, each_set, each_push, apart_set, apart_set_on, apart_push}
 use Rattle.board.proofs.MoveLemmas.{still, home_same}

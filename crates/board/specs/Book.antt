@@ -1,9 +1,8 @@
 -- A book's fields as a history, and what they keep.
-use Rattle.std.specs.Prelude.{◌≡◌, ◌⊎◌, ℕ, ◌<◌, true, false, List, [], ◌∷◌, ◌++◌, map, length, option_map, slice_index_or, Option, None, Some, MatchOption, IfSome}
+use Rattle.std.specs.Prelude.{◌≡◌, ◌⊎◌, ℕ, ◌+◌, ◌^◌, ◌<◌, vec_len, vec_capacity, true, false, List, ◌++◌, map, length, option_map, slice_index_or, Option, None, MatchOption, IfSome}
 use Rattle.std.specs.List.{flat_map}
 use Rattle.std.specs.Arc.{arc_value}
 use Rattle.std.specs.BTreeMap.{get}
-use Rattle.std.specs.Global.{Vec}
 use Rattle.std.specs.declared.cmp.Ordering.{Ordering}
 use Rattle.ball_model.specs.declared.names.BatchName.{BatchName}
 use Rattle.ball_model.specs.contracts.names.BatchNameOrd.TheImpl as name_order
@@ -15,6 +14,7 @@ use Rattle.ball_model.specs.History.{Event, Post, Fetch, Keep, Recall, Drop, Ent
 use Rattle.board.specs.declared.event.Event.{Event as Noted}
 use Rattle.board.specs.declared.event.Event.TheVariants as noted
 use Rattle.board.specs.declared.event.Entry.{Entry as Line}
+use Rattle.board.specs.declared.calls.Calls.{Calls}
 use Rattle.board.specs.declared.book.Book.TheInside.{Inside}
 
 -- the order of names
@@ -33,14 +33,18 @@ abbrev pub entry_of : Line → Entry
 entry_of e = entry e.by (event_of e.event)
 
 -- the calls on the full sheets, and on the sheet that is written on
-abbrev pub calls_of : List (Vec Line) → List Line → List Entry
-calls_of full sheet = map entry_of (flat_map (λ v. v.items) full ++ sheet)
+abbrev pub calls_in : Calls → List Entry
+calls_in c = map entry_of (flat_map (λ v. v.items) c.full.items ++ c.sheet.items)
+
+-- there is room for one call more
+abbrev pub HasPlace : Calls → Type 0
+HasPlace c = (vec_len c.sheet < vec_capacity c.sheet) × (c.entries + 1 < 2 ^ 32)
 
 abbrev pub history_of : Inside → History
 history_of b =
     record {
       job = record { graph = b.graph.value.graph; plan = b.plan.value };
-      calls = calls_of b.full.items b.sheet.items;
+      calls = calls_in b.calls;
     }
 
 -- the map has the names that stand, each with its true batch
@@ -76,7 +80,8 @@ pub record Keeps {A C : Type 0} (value : A → BatchValue) (state : C → State)
 
 abbrev pub IsBook : Inside → Type 0
 IsBook b =
-    Keeps arc_value arc_value (history_of b) b.entries b.floor (get by_name b.standing) b.kept.items
+    Keeps arc_value arc_value (history_of b) b.calls.entries b.floor (get by_name b.standing)
+    b.kept.items
 
 -- one entry more, where there is room for it
 abbrev pub IsNoted : ℕ → ℕ → Event → History → History → Type 0

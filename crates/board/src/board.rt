@@ -1,6 +1,6 @@
 //! A history that threads share.
 
-ghost use Rattle.std.specs.Prelude.{◌≡◌, ◌≤◌, ◌^◌, IfOk, OnOk, IfErr, OnErr, IfSome, IfNone, Err, is_some, true, false};
+ghost use Rattle.std.specs.Prelude.{◌≡◌, ◌≤◌, ◌^◌, [], IfOk, OnOk, IfErr, OnErr, IfSome, IfNone, is_some, true};
 ghost use Rattle.std.specs.Arc.{arc_value};
 ghost use Rattle.board.specs.declared.error.BoardError.TheVariants.{BookFull, Memory};
 ghost use Rattle.ball_model.specs.Job.{IsJob};
@@ -8,10 +8,12 @@ ghost use Rattle.ball_model.specs.Batches.{true_batch};
 ghost use Rattle.ball_model.specs.State.{StandsFor};
 ghost use Rattle.ball_model.specs.History.{Post, Fetch, Keep, Recall, Drop, Begins, IsLegal, start_history, entries_of, calls_by, board_of, holding_in, is_kept_from};
 ghost use Rattle.board.specs.Seats.{job_of, IsTrueIn, Stands, IsAt, Extends, Called, CalledNothing, IsFull, HasRoom, IsAsFar};
+ghost use Rattle.board.specs.Rule.{first_view};
+ghost use Rattle.board.specs.Turn.{IsSized};
 
 use crate::book::Book;
 use crate::error::BoardError;
-use crate::rule::{Room, Tells};
+use crate::rule::{Pass, Room, Tells};
 use crate::seat::Seat;
 use crate::turn::{count, give, take};
 use ball_model::{BatchName, Kept, Plan, Posted};
@@ -70,24 +72,17 @@ impl Board {
         ensures legal { IfOk result (λ r. IsLegal r.1.seen) }
     {
         let book = Book::open(alloc, graph, plan)?;
-        let about = (Seen::of(&book), entries);
-        let mut slots = Vec::new(alloc);
-        slots.push(Some(book))?;
-        let Ok((room, pass)) = Room::new(alloc, &[1, 0, 0], slots, &about) else {
-            return Err(AllocError);
+        let (room, pass) = start_room(alloc, book, entries)?;
+        let board = Board {
+            room,
+            limit: entries,
         };
         let seat = Seat {
             pass,
             number: 0,
             room: NUMBERS,
         };
-        Ok((
-            Board {
-                room,
-                limit: entries,
-            },
-            seat,
-        ))
+        Ok((board, seat))
     }
 
     /// The number of entries of the history, which the seat has then seen.
@@ -259,4 +254,17 @@ impl Board {
         give(&self.room, &mut seat.pass, book);
         answer
     }
+}
+
+// The table round a book that has the opening alone, and what its first seat knows.
+fn start_room(alloc: Global, book: Book, entries: u32) -> Result<(Room, Pass), AllocError>
+    requires book { IsLegal book × (book.calls ≡ []) }
+    requires entries { 1 ≤ entries }
+    ensures { IfOk result (λ r. IsSized r.0.shared.table_id
+        × (r.1.table_id ≡ r.0.shared.table_id) × (r.1.me ≡ (first_view book entries, []))) }
+{
+    let about = (Seen::of(&book), entries);
+    let mut slots = Vec::new(alloc);
+    slots.push(Some(book))?;
+    Room::new(alloc, &[1, 0, 0], slots, &about).map_err(|_| AllocError)
 }

@@ -1,6 +1,6 @@
 //! What lies in the slot of a board: the history, and what it leaves.
 
-ghost use Rattle.std.specs.Prelude.{◌≡◌, ℕ, ◌+◌, ◌&&◌, ◌<◌, ◌≤◌, ◌∷◌, ◌++◌, [], cond, if◌then◌else◌, nat_le, nat_lt, IsTrue, IsFalse, true, false, None, Some, length, replicate, slice_get, slice_set, slice_index_or, is_some, option_map, vec_len, vec_capacity, IfErr, IfOk, OnOk, OnErr, IfSome, IfNone, Err};
+ghost use Rattle.std.specs.Prelude.{◌≡◌, ◌&&◌, ◌<◌, ◌≤◌, cond, if◌then◌else◌, nat_lt, IsTrue, IsFalse, true, false, None, Some, length, replicate, slice_get, slice_set, slice_index_or, is_some, option_map, IfErr, IfOk, OnOk, OnErr, IfSome, IfNone, Err};
 ghost use Rattle.std.specs.Arc.{arc_value};
 ghost use Rattle.std.specs.BTreeMap.{get};
 ghost use Rattle.ball_model.specs.declared.history.Posted.TheVariants as posted;
@@ -8,13 +8,13 @@ ghost use Rattle.ball_model.specs.declared.history.Kept.TheVariants as replies;
 ghost use Rattle.board.specs.declared.error.BoardError.TheVariants.{BookFull, Memory};
 ghost use Rattle.ball_model.specs.Batches.{true_batch};
 ghost use Rattle.ball_model.specs.State.{StandsFor};
-ghost use Rattle.ball_model.specs.Join.{Holding};
-ghost use Rattle.ball_model.specs.History.{Post, Fetch, Keep, Recall, Drop, IsLegal, entry, start_history, entries_of, with_entry, board_of, holding_in, is_further, is_kept_from, is_new_keep, is_new_post, same_name};
+ghost use Rattle.ball_model.specs.History.{Post, Fetch, Keep, Recall, Drop, IsLegal, start_history, entries_of, board_of, holding_in, is_further, is_kept_from, is_new_keep, is_new_post, same_name};
 ghost use Rattle.board.specs.Seats.{job_of, IsTrueIn, Stands};
-ghost use Rattle.board.specs.Book.{by_name, calls_of, held_at, IsNoted, IsNext};
+ghost use Rattle.board.specs.Book.{by_name, held_at, IsNoted, IsNext};
 
+use crate::calls::Calls;
 use crate::error::BoardError;
-use crate::event::{Entry, Event};
+use crate::event::Event;
 use ball_model::{BatchName, Kept, Plan, Posted};
 use batches::Batch;
 use edgelist::Graph;
@@ -22,24 +22,15 @@ use replica::Snapshot;
 use std::alloc::{AllocError, Global};
 use std::collections::BTreeMap;
 use std::marker::Model;
-use std::mem;
 use std::snapshot::Snapshot as Seen;
 use std::sync::Arc;
-
-/// How many entries stand side by side. The history grows by so many at once, so that no entry is ever moved far.
-const SHEET: usize = 1024;
 
 /// The history, with what it leaves: the floor, the batches that stand, and the snapshot kept for each partition.
 #[derive(Drop)]
 pub struct Book {
-    alloc: Global,
     graph: Seen<Graph>,
     plan: Seen<Plan>,
-    // how many entries there are, the opening among them
-    entries: u32,
-    // the calls: full sheets, and the sheet that is written on
-    full: Vec<Vec<Entry>>,
-    sheet: Vec<Entry>,
+    calls: Calls,
     floor: u32,
     standing: BTreeMap<BatchName, Arc<Batch>>,
     kept: Vec<Option<Arc<Snapshot>>>,
@@ -63,12 +54,9 @@ impl Book {
         ensures { IfOk result (λ b. b ≡ start_history (job_of graph.now.graph plan.now)) }
     {
         Ok(Book {
-            alloc,
             graph: Seen::of(graph),
             plan: Seen::of(plan),
-            entries: 1,
-            full: Vec::new(alloc),
-            sheet: Vec::new(alloc),
+            calls: Calls::new(alloc),
             floor: 0,
             standing: BTreeMap::new(alloc),
             kept: start_kept(alloc, plan.parts())?,
@@ -80,7 +68,7 @@ impl Book {
         ensures entries { result ≡ entries_of self.now }
         ensures legal { IsLegal self.now }
     {
-        self.entries
+        self.calls.entries()
     }
 
     /// Finds the batch, and notes it.
@@ -104,21 +92,8 @@ impl Book {
         let Some(batch) = self.standing.get(&name) else {
             return Ok(None);
         };
-        make_room(
-            self.alloc,
-            self.entries,
-            limit,
-            &mut self.full,
-            &mut self.sheet,
-        )?;
-        let Ok(copy) = Arc::try_clone(batch) else {
-            return Err(BoardError::Memory);
-        };
-        self.sheet.push_reserved(Entry {
-            by,
-            event: Event::Fetch(name),
-        });
-        self.entries += 1;
+        let copy = self.calls.share(batch, limit)?;
+        self.calls.note(by, Event::Fetch(name));
         Ok(Some(copy))
     }
 
@@ -132,20 +107,10 @@ impl Book {
         ensures memory { IfErr result (λ e. e ≡ Memory → entries_of self.old < limit) }
         ensures next { IsNext limit by self.old self.new }
     {
-        make_room(
-            self.alloc,
-            self.entries,
-            limit,
-            &mut self.full,
-            &mut self.sheet,
-        )?;
+        self.calls.make_room(limit)?;
         let name = batch.name();
         let reply = put_batch(&mut self.standing, self.floor, name, batch)?;
-        self.sheet.push_reserved(Entry {
-            by,
-            event: Event::Post(name, reply),
-        });
-        self.entries += 1;
+        self.calls.note(by, Event::Post(name, reply));
         Ok(reply)
     }
 
@@ -159,20 +124,10 @@ impl Book {
         ensures memory { IfErr result (λ e. e ≡ Memory → entries_of self.old < limit) }
         ensures next { IsNext limit by self.old self.new }
     {
-        make_room(
-            self.alloc,
-            self.entries,
-            limit,
-            &mut self.full,
-            &mut self.sheet,
-        )?;
+        self.calls.make_room(limit)?;
         let seen = Seen::of(&*snapshot);
         let reply = put_snapshot(&mut self.kept, snapshot);
-        self.sheet.push_reserved(Entry {
-            by,
-            event: Event::Keep(seen, reply),
-        });
-        self.entries += 1;
+        self.calls.note(by, Event::Keep(seen, reply));
         Ok(reply)
     }
 
@@ -198,21 +153,9 @@ impl Book {
         let Some(snapshot) = find_snapshot(&self.kept, part, at_least) else {
             return Ok(None);
         };
-        make_room(
-            self.alloc,
-            self.entries,
-            limit,
-            &mut self.full,
-            &mut self.sheet,
-        )?;
-        let Ok(copy) = Arc::try_clone(snapshot) else {
-            return Err(BoardError::Memory);
-        };
-        self.sheet.push_reserved(Entry {
-            by,
-            event: Event::Recall(part, at_least, Seen::of(&*copy)),
-        });
-        self.entries += 1;
+        let copy = self.calls.share(snapshot, limit)?;
+        self.calls
+            .note(by, Event::Recall(part, at_least, Seen::of(&*copy)));
         Ok(Some(copy))
     }
 
@@ -224,20 +167,10 @@ impl Book {
         ensures memory { IfErr result (λ e. e ≡ Memory → entries_of self.old < limit) }
         ensures next { IsNext limit by self.old self.new }
     {
-        make_room(
-            self.alloc,
-            self.entries,
-            limit,
-            &mut self.full,
-            &mut self.sheet,
-        )?;
+        self.calls.make_room(limit)?;
         self.floor = self.floor.max(superstep);
         drop_batches(&mut self.standing, superstep);
-        self.sheet.push_reserved(Entry {
-            by,
-            event: Event::DropBelow(superstep),
-        });
-        self.entries += 1;
+        self.calls.note(by, Event::DropBelow(superstep));
         Ok(())
     }
 }
@@ -251,35 +184,6 @@ fn start_kept(alloc: Global, parts: u16) -> Result<Vec<Option<Arc<Snapshot>>>, A
         kept.push(None)?;
     }
     Ok(kept)
-}
-
-// Room for one entry more.
-fn make_room(
-    alloc: Global,
-    entries: u32,
-    limit: u32,
-    full: &mut Vec<Vec<Entry>>,
-    sheet: &mut Vec<Entry>,
-) -> Result<(), BoardError>
-    ensures same { calls_of full.new.items sheet.new.items
-        ≡ calls_of full.old.items sheet.old.items }
-    ensures ok { OnOk result ((entries < limit) × (vec_len sheet.new < vec_capacity sheet.new)) }
-    ensures full { IfErr result (λ e. e ≡ BookFull → limit ≤ entries) }
-    ensures memory { IfErr result (λ e. e ≡ Memory → entries < limit) }
-{
-    if entries >= limit {
-        return Err(BoardError::BookFull);
-    }
-    if sheet.len() >= SHEET {
-        let Ok(()) = full.reserve(1) else {
-            return Err(BoardError::Memory);
-        };
-        full.push_reserved(mem::replace(sheet, Vec::new(alloc)));
-    }
-    let Ok(()) = sheet.reserve(1) else {
-        return Err(BoardError::Memory);
-    };
-    Ok(())
 }
 
 // Puts a batch where none of its name stands.

@@ -22,6 +22,7 @@
 
 mod board;
 mod book;
+mod calls;
 mod error;
 mod event;
 mod rule;

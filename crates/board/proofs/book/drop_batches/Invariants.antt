@@ -1,4 +1,4 @@
-use Rattle.std.proofs.Common.{◌≡◌, ◌⊎◌, ℕ, nat_lt, true, None}
+use Rattle.std.proofs.Common.{◌≡◌, ◌⊎◌, nat_lt, true, None}
 use Rattle.std.specs.BTreeMap.{get, btree_map_len}
 use Rattle.ball_model.specs.declared.names.BatchName.{BatchName}
 use Rattle.board.specs.Book.{by_name}

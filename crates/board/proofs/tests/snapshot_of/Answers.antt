@@ -1,4 +1,4 @@
-use Rattle.std.proofs.Common.{◌≡◌, sym, ◌∙◌, subst}
+use Rattle.std.proofs.Common.{sym, ◌∙◌, subst}
 use Rattle.ball_model.specs.Job.{Job}
 use Rattle.board.specs.Seats.{Stands}
 use Rattle.board.proofs.tests.snapshot_of.Goals as goal

@@ -1,8 +1,8 @@
-use Rattle.std.proofs.Common.{◌≡◌, List, ℕ, Option, sym, ap, subst}
+use Rattle.std.proofs.Common.{◌≡◌, Option, sym, ap, subst}
 use Rattle.atomic_table.specs.Table.{Me}
 use Rattle.ball_model.specs.History.{History, Begins, calls_by}
 use Rattle.board.specs.View.{View}
-use Rattle.std.proofs.Common.{◌<◌, arith}
+use Rattle.std.proofs.Common.{arith}
 use Rattle.board.proofs.SeatLemmas.{counts_at}
 use Rattle.board.proofs.turn.count.Goals as goal
 

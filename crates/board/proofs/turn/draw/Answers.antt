@@ -1,4 +1,4 @@
-use Rattle.std.proofs.Common.{◌<◌, arith}
+use Rattle.std.proofs.Common.{arith}
 use Rattle.board.proofs.MoveLemmas.{draws_at}
 use Rattle.board.proofs.turn.draw.Goals as goal
 

@@ -1,6 +1,6 @@
-use Rattle.std.proofs.Common.{◌≡◌, ◌<◌, ℕ, List, [], ◌∷◌, Option, Some, None, ap, sym, ◌∙◌, refl, arith}
+use Rattle.std.proofs.Common.{◌≡◌, ℕ, List, [], ◌∷◌, Option, Some, ap, ◌∙◌, refl, arith}
 use Rattle.atomic_table.specs.Table.{rest, Me}
-use Rattle.ball_model.specs.History.{History, Begins, calls_by}
+use Rattle.ball_model.specs.History.{History}
 use Rattle.board.specs.View.{View}
 use Rattle.board.specs.Rule.{at_turn}
 use Rattle.board.proofs.MoveLemmas.{writes_at, raises_at}

@@ -1,6 +1,6 @@
 use Rattle.std.proofs.Common.{◌≡◌, ap, sym, ◌∙◌, List, ℕ, [], ◌∷◌, Option, Some}
 use Rattle.atomic_table.specs.Table.{Me, rest}
-use Rattle.ball_model.specs.History.{History, Begins, calls_by}
+use Rattle.ball_model.specs.History.{History}
 use Rattle.board.specs.View.{View}
 use Rattle.board.proofs.turn.take.Goals as goal
 

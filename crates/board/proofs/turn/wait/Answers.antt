@@ -1,6 +1,6 @@
-use Rattle.std.proofs.Common.{◌≡◌, ◌<◌, ap, sym, ◌∙◌, arith, List, ℕ, [], Option}
+use Rattle.std.proofs.Common.{ap, ◌∙◌, arith, Option}
 use Rattle.atomic_table.specs.Table.{Me}
-use Rattle.ball_model.specs.History.{History, Begins, calls_by}
+use Rattle.ball_model.specs.History.{History}
 use Rattle.board.specs.View.{View}
 use Rattle.board.proofs.MoveLemmas.{looks_at}
 use Rattle.board.proofs.turn.wait.Goals as goal

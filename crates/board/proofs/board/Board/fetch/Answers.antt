@@ -1,76 +1,32 @@
-use Rattle.std.proofs.Common.{◌≡◌, true, false, is_some, Ok, Err, None, Some, IfOk, IfErr, IfSome, IfNone, OnOk, OnErr, refl, sym, ap, ◌∙◌, subst}
-use Rattle.std.specs.Arc.{arc_value}
-use Rattle.std.proofs.lemmas.Result.{IfOk-weaker, on_ok_weaker}
+use Rattle.std.proofs.Common.{◌≡◌, is_some, sym, ◌∙◌, subst}
+use Rattle.std.proofs.lemmas.Result.{IfOk-weaker}
 use Rattle.ball_model.specs.History.{History, Fetch, board_of}
-use Rattle.board.specs.Seats.{BoardView, SeatView, Extends, Called}
-use Rattle.board.specs.Inside.{seat_view_of}
-use Rattle.board.proofs.CallLemmas.{Turn, turn_next, turn_fits, turn_extends, turn_called, turn_nothing, turn_seen, fetch_stands, recall_far, recall_furthest, if_ok, if_some}
+use Rattle.board.proofs.CallLemmas.{turn_taken, limit_of, turn_next, turn_fits, turn_extends, turn_called, turn_seen, fetch_stands, if_ok, if_some}
 use Rattle.board.proofs.board.Board.fetch.Goals as goal
 
 pub give-requires-clause-next : goal.give-requires-clause-next
 give-requires-clause-next g c =
-    let t : Turn c.seat.inside.number c.seat.inside.room c.seat.inside.pass.me c.take-book.new.pass.me c.take-book.result = record {
-      was = c.seat.invariant;
-      number_is = c.take-book.ensures.kept.0;
-      room_is = c.take-book.ensures.kept.1;
-      told_is = c.take-book.ensures.kept.2;
-      limit_is = c.take-book.ensures.kept.3;
-      seen_is = c.take-book.ensures.book.0;
-      goes_on = c.take-book.ensures.book.1;
-    } in
-    let limit = ap (λ (b : BoardView). b.limit) c.self.view_is ∙ sym (ap (λ (v : SeatView). v.limit) c.seat.view_is ∙ c.requires.board.1) in
+    let t = turn_taken _ _ c.seat.inside.pass.me c.take-book.new.pass.me _ c.seat.invariant c.take-book.ensures.kept c.take-book.ensures.book in
+    let limit = limit_of _ _ _ _ c.self.view_is c.seat.view_is c.requires.board.1 in
     turn_next _ _ _ _ _ _ _ t limit c.fetch-answer.ensures.next
 
 pub invariant_of-seat : goal.invariant_of-seat
 invariant_of-seat g c =
-    let t : Turn c.seat.inside.number c.seat.inside.room c.seat.inside.pass.me c.take-book.new.pass.me c.take-book.result = record {
-      was = c.seat.invariant;
-      number_is = c.take-book.ensures.kept.0;
-      room_is = c.take-book.ensures.kept.1;
-      told_is = c.take-book.ensures.kept.2;
-      limit_is = c.take-book.ensures.kept.3;
-      seen_is = c.take-book.ensures.book.0;
-      goes_on = c.take-book.ensures.book.1;
-    } in
-    let limit = ap (λ (b : BoardView). b.limit) c.self.view_is ∙ sym (ap (λ (v : SeatView). v.limit) c.seat.view_is ∙ c.requires.board.1) in
+    let t = turn_taken _ _ c.seat.inside.pass.me c.take-book.new.pass.me _ c.seat.invariant c.take-book.ensures.kept c.take-book.ensures.book in
+    let limit = limit_of _ _ _ _ c.self.view_is c.seat.view_is c.requires.board.1 in
     turn_fits _ _ _ _ _ _ _ _ t limit c.fetch-answer.ensures.next c.give.ensures.given
 
 pub returns-clause-seen : goal.returns-clause-seen
 returns-clause-seen g c =
-    let t : Turn c.seat.inside.number c.seat.inside.room c.seat.inside.pass.me c.take-book.new.pass.me c.take-book.result = record {
-      was = c.seat.invariant;
-      number_is = c.take-book.ensures.kept.0;
-      room_is = c.take-book.ensures.kept.1;
-      told_is = c.take-book.ensures.kept.2;
-      limit_is = c.take-book.ensures.kept.3;
-      seen_is = c.take-book.ensures.book.0;
-      goes_on = c.take-book.ensures.book.1;
-    } in
-    let limit = ap (λ (b : BoardView). b.limit) c.self.view_is ∙ sym (ap (λ (v : SeatView). v.limit) c.seat.view_is ∙ c.requires.board.1) in
+    let t = turn_taken _ _ c.seat.inside.pass.me c.take-book.new.pass.me _ c.seat.invariant c.take-book.ensures.kept c.take-book.ensures.book in
+    let limit = limit_of _ _ _ _ c.self.view_is c.seat.view_is c.requires.board.1 in
     rw (← c.seat.view_is) (turn_extends _ _ _ _ _ _ _ c.give.new.pass.me _ _ t limit c.fetch-answer.ensures.next c.give.ensures.given (c.give.ensures.same.0 ∙ c.take-book.ensures.same.0))
 
 pub returns-clause-found : goal.returns-clause-found
 returns-clause-found g c =
-    let t : Turn c.seat.inside.number c.seat.inside.room c.seat.inside.pass.me c.take-book.new.pass.me c.take-book.result = record {
-      was = c.seat.invariant;
-      number_is = c.take-book.ensures.kept.0;
-      room_is = c.take-book.ensures.kept.1;
-      told_is = c.take-book.ensures.kept.2;
-      limit_is = c.take-book.ensures.kept.3;
-      seen_is = c.take-book.ensures.book.0;
-      goes_on = c.take-book.ensures.book.1;
-    } in
+    let t = turn_taken _ _ c.seat.inside.pass.me c.take-book.new.pass.me _ c.seat.invariant c.take-book.ensures.kept c.take-book.ensures.book in
     IfOk-weaker c.fetch-answer.result _ _ (λ r h. if_some r _ _ h (λ a k. rw (← c.seat.view_is) (turn_called _ _ _ _ _ _ _ c.give.new.pass.me _ _ (Fetch c.args.name) t k.0 c.give.ensures.given))) c.fetch-answer.ensures.found
 
 pub returns-clause-stands : goal.returns-clause-stands
 returns-clause-stands g c =
-    let t : Turn c.seat.inside.number c.seat.inside.room c.seat.inside.pass.me c.take-book.new.pass.me c.take-book.result = record {
-      was = c.seat.invariant;
-      number_is = c.take-book.ensures.kept.0;
-      room_is = c.take-book.ensures.kept.1;
-      told_is = c.take-book.ensures.kept.2;
-      limit_is = c.take-book.ensures.kept.3;
-      seen_is = c.take-book.ensures.book.0;
-      goes_on = c.take-book.ensures.book.1;
-    } in
     if_ok c.fetch-answer.result _ _ _ c.fetch-answer.ensures.found c.fetch-answer.ensures.none (λ r some none. subst (λ (l : History). is_some r ≡ (board_of l).stands c.args.name) (sym (turn_seen c.take-book.new.pass.me c.give.new.pass.me _ c.give.ensures.given)) (fetch_stands _ r _ _ _ _ c.args.name c.fetch-answer.ensures.next.0 some none))

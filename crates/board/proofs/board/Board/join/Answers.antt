@@ -1,7 +1,7 @@
-use Rattle.std.proofs.Common.{◌≡◌, ◌<◌, ◌≤◌, ℕ, Option, Some, refl, sym, ap, ◌∙◌, subst, arith}
+use Rattle.std.proofs.Common.{◌≡◌, ℕ, Option, sym, ap, ◌∙◌, subst, arith}
 use Rattle.atomic_table.specs.Table.{Me}
 use Rattle.ball_model.specs.History.{History, Begins, calls_by}
-use Rattle.board.specs.View.{View, Told}
+use Rattle.board.specs.View.{View}
 use Rattle.board.specs.Seats.{BoardView, SeatView}
 use Rattle.board.proofs.SeatLemmas.{tells}
 use Rattle.board.proofs.board.Board.join.Goals as goal

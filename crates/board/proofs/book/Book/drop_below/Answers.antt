@@ -1,14 +1,12 @@
-use Rattle.std.proofs.Common.{◌≡◌, ◌<◌, ◌≤◌, ◌∙◌, inr, sym, ap, subst, refl, max, length}
-use Rattle.std.specs.Prelude.{slice_index_or, Some, None}
+use Rattle.std.proofs.Common.{◌≡◌, ◌+◌, ◌<◌, ◌∙◌, inr, ap, subst, max}
 use Rattle.std.specs.Arc.{arc_value}
 use Rattle.std.specs.Global.{Global}
 use Rattle.std.specs.BTreeMap.{get}
-use Rattle.ball_model.specs.declared.names.BatchName.{BatchName}
-use Rattle.ball_model.specs.Batches.{BatchValue, true_batch}
-use Rattle.ball_model.specs.State.{State, StandsFor}
-use Rattle.ball_model.specs.History.{History, Drop, entry, with_entry, entries_of, board_of, holding_in}
+use Rattle.ball_model.specs.Batches.{BatchValue}
+use Rattle.ball_model.specs.State.{State}
+use Rattle.ball_model.specs.History.{History, Drop, entry, entries_of}
 use Rattle.board.specs.declared.event.Event.TheVariants as noted
-use Rattle.board.specs.Book.{by_name, history_of, IsNoted}
+use Rattle.board.specs.Book.{by_name, event_of, history_of}
 use Rattle.board.proofs.BookLemmas.{noted as line, keeps-drop}
 use Rattle.board.proofs.book.Book.drop_below.Goals as goal
 
@@ -16,14 +14,15 @@ pub invariant_of-self-2 : goal.invariant_of-self-2
 invariant_of-self-2 c =
     let i = c.self.inside in
     let h : History = history_of i in
-    let same = line h i.full.items c.make_room.new.full.items i.sheet.items c.make_room.new.sheet.items c.push_reserved.new.self.items (record { by = c.args.by; event = noted.DropBelow c.args.superstep }) refl c.make_room.ensures.same c.push_reserved.ensures.items in
+    let same = line h _ _ (entry c.args.by (event_of (noted.DropBelow c.args.superstep))) c.make_room.ensures.calls c.note.ensures.calls in
+    let more : c.note.new.self.entries ≡ i.calls.entries + 1 = c.note.ensures.entries ∙ ap (λ n. n + 1) c.make_room.ensures.entries in
     let m : c.max-self-inside.result ≡ max i.floor c.args.superstep = c.max-self-inside.ensures in
-    keeps-drop (arc_value {X = BatchValue} {Z = Global}) (arc_value {X = State} {Z = Global}) h _ c.args.by c.args.superstep i.entries i.floor _ (get by_name i.standing) _ i.kept.items c.self.invariant same (m ∙ ap (λ f. max f c.args.superstep) c.self.invariant.floor_is) c.drop_batches.ensures
+    keeps-drop (arc_value {X = BatchValue} {Z = Global}) (arc_value {X = State} {Z = Global}) h _ c.args.by c.args.superstep i.calls.entries _ i.floor _ (get by_name i.standing) _ i.kept.items c.self.invariant same more (m ∙ ap (λ f. max f c.args.superstep) c.self.invariant.floor_is) c.drop_batches.ensures
 
 pub returns-clause-next : goal.returns-clause-next
 returns-clause-next c =
     let i = c.self.inside in
     let h : History = history_of i in
-    let same = line h i.full.items c.make_room.new.full.items i.sheet.items c.make_room.new.sheet.items c.push_reserved.new.self.items (record { by = c.args.by; event = noted.DropBelow c.args.superstep }) refl c.make_room.ensures.same c.push_reserved.ensures.items in
+    let same = line h _ _ (entry c.args.by (event_of (noted.DropBelow c.args.superstep))) c.make_room.ensures.calls c.note.ensures.calls in
     let room : entries_of h < c.args.limit = subst (λ n. n < c.args.limit) c.self.invariant.entries_are c.in_ok-make_room.ensures.ok.0 in
     ((invariant_of-self-2 c).legal, inr (Drop c.args.superstep, rw (← c.self.view_is) (same, room)))

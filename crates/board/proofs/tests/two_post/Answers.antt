@@ -1,0 +1,14 @@
+use denote.Param.Send.{IsSync, sendable}
+use Rattle.std.proofs.Crossing.{crosses}
+use Rattle.board.specs.contracts.tests.Stock as stock
+use Rattle.board.proofs.CrossingLemmas.{seat_send, board_sync, graph_sync, plan_sync, batches_sync, snapshots_sync}
+use Rattle.board.proofs.tests.two_post.Goals as goal
+
+stock_sync : IsSync stock.the_row
+stock_sync = search (sendable, batches_sync, snapshots_sync) depth 20
+
+pub join-one-requires-send-F : goal.join-one-requires-send-F
+join-one-requires-send-F g c κs within = search (sendable, crosses, seat_send, board_sync, graph_sync, plan_sync, stock_sync) depth 20
+
+pub join-one-requires-send-A : goal.join-one-requires-send-A
+join-one-requires-send-A g c κs within = search (sendable, seat_send) depth 20
