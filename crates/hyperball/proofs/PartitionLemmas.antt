@@ -1,5 +1,5 @@
 -- The replicas of all partitions of a job, side by side.
-use Rattle.std.proofs.Common.{◌≡◌, ◌≢◌, ℕ, ◌+◌, ◌<◌, ◌≤◌, nat_lt, zero, suc, [], ◌∷◌, Bool, true, false, not, ◌&&◌, ◌||◌, ◌==◌, if◌then◌else◌, List, ◌++◌, length, get_or, set, slice_index_or, refl, ap, arith, sym, ◌∙◌, subst, inl, inr, ◌⊎◌}
+use Rattle.std.proofs.Common.{◌≡◌, ◌≢◌, ℕ, ◌+◌, ◌<◌, ◌≤◌, ◌-◌, nat_lt, zero, suc, [], ◌∷◌, Bool, true, false, not, ◌&&◌, ◌||◌, ◌==◌, if◌then◌else◌, List, ◌++◌, length, get_or, set, slice_index_or, refl, ap, arith, sym, ◌∙◌, subst, inl, inr, ◌⊎◌}
 use Rattle.std.specs.Prelude.{Option, None, Some, Result, Ok, OnOk, OnErr}
 use Rattle.std.specs.List.{find, range_with_len}
 use Rattle.std.specs.Str.{bytes_eq}
@@ -352,37 +352,42 @@ over_more j t n rs v r h lt is found at not_on = record {
   over = λ some. not_on;
 }
 
--- where the level is held there are replicas, and all are at its superstep
-pub some_held : (j : Job) (rs : List State) → 1 ≤ j.plan.parts → AreHeld j rs → 0 < length rs
-some_held j rs some h = omega (arith, h.level.at.count)
+-- the greatest superstep of the plan of the first replica
+abbrev pub limit_of : List State → ℕ
+limit_of [] = 0
+limit_of (v ∷ rest) = v.part.plan.limit
 
-pub superstep_at : (j : Job) (t : ℕ) (told : ℕ → ℕ → Bool) (rs : List State) → 1 ≤ j.plan.parts → AreTold j t told rs → superstep_of rs ≡ t
+-- where the level is held all are at its superstep
+superstep_at : (j : Job) (t : ℕ) (told : ℕ → ℕ → Bool) (rs : List State) → 1 ≤ j.plan.parts → AreTold j t told rs → superstep_of rs ≡ t
 superstep_at j t told [] some h = absurd (omega (arith, h.at.count))
 superstep_at j t told (v ∷ rest) some h = (h.at.each 0 v (omega arith)).superstep
 
 -- the superstep is at most the limit
-pub within : (j : Job) (t : ℕ) (told : ℕ → ℕ → Bool) (rs : List State) → 1 ≤ j.plan.parts → 1 ≤ j.plan.limit → AreTold j t told rs → t ≤ j.plan.limit
+within : (j : Job) (t : ℕ) (told : ℕ → ℕ → Bool) (rs : List State) → 1 ≤ j.plan.parts → 1 ≤ j.plan.limit → AreTold j t told rs → t ≤ j.plan.limit
 within j t told [] some limit h = absurd (omega (arith, h.at.count))
 within j t told (v ∷ rest) some limit h =
     let time = (h.at.each 0 v (omega arith)).in_time in
     let most = (end_within (mixing_of j.plan) j.graph j.plan.limit limit).1 in
     omega (arith, time, most)
 
--- replicas that go on
-pub gone_on : (j : Job) (t : ℕ) (rs seen given closed : List State) (on : Bool) → AreLevel j t rs → seen ≡ rs → given ≡ rs → on ≡ true →
-    (on ≡ true → (k : Job) (s : ℕ) → AreLevel k s seen → verdict_at k s ≡ verdict.GoOn) →
-    ((k : Job) (s : ℕ) → AreLevel k s given → verdict_at k s ≡ verdict.GoOn → AreAt k (s + 1) closed) → AreAt j (t + 1) closed
-gone_on j t rs seen given closed on h same_seen same_given is says closes =
-    closes j t (subst (λ (l : List State). AreLevel j t l) (sym same_given) h) (says is j t (subst (λ (l : List State). AreLevel j t l) (sym same_seen) h))
+-- the limit is that of the job
+limit_at : (j : Job) (t : ℕ) (rs : List State) → 1 ≤ j.plan.parts → AreLevel j t rs → (limit_of rs ≡ j.plan.limit) × (1 ≤ j.plan.limit)
+limit_at j t [] some h = absurd (omega (arith, h.at.count))
+limit_at j t (v ∷ rest) some h =
+    let stands : StandsFor j 0 t v = h.at.each 0 v (omega arith) in
+    (ap (λ (a : PlanValue). a.limit) (plan_of_part j 0 v stands.part), stands.job.plan.limit_from)
 
--- the run has ended
-pub ended : (j : Job) (t : ℕ) (rs seen : List State) (on : Bool) → AreLevel j t rs → seen ≡ rs → on ≡ false →
-    (on ≡ false → (k : Job) (s : ℕ) → AreLevel k s seen → AreOver k s (length seen) seen) → AreEnded j rs
-ended j t rs seen on h same is says = record {
-  superstep = t;
-  level = h;
-  over = subst (λ (l : List State). AreOver j t (length l) l) same (says is j t (subst (λ (l : List State). AreLevel j t l) (sym same) h));
-}
+-- after a superstep there are fewer up to the limit
+pub fewer_left : (j : Job) (t : ℕ) (rs next : List State) → 0 < length rs → AreLevel j t rs → AreLevel j (t + 1) next → limit_of next - superstep_of next < limit_of rs - superstep_of rs
+fewer_left j t rs next held h more =
+    let some : 1 ≤ j.plan.parts = omega (arith, held, h.at.count) in
+    let limit : 1 ≤ j.plan.limit = (limit_at j t rs some h).1 in
+    let before : superstep_of rs ≡ t = superstep_at j t (λ _ _. true) rs some h in
+    let after : superstep_of next ≡ t + 1 = superstep_at j (t + 1) (λ _ _. true) next some more in
+    let most : t + 1 ≤ j.plan.limit = within j (t + 1) (λ _ _. true) next some limit more in
+    let same : limit_of rs ≡ j.plan.limit = (limit_at j t rs some h).0 in
+    let still : limit_of next ≡ j.plan.limit = (limit_at j (t + 1) next some more).0 in
+    omega (arith, before, after, most, same, still)
 
 says_end_of : (v : Verdict) → (v ≡ verdict.GoOn → ⊥) → says_end (Some v) ≡ true
 says_end_of verdict.GoOn apart = absurd (apart refl)

@@ -38,11 +38,15 @@ number32 = vp.Signed (pos 0) (pos 4294967295)
 abbrev pub number64 : ValueParser
 number64 = vp.Unsigned 0 18446744073709551615
 
+-- a command with the options of the counters
+abbrev pub with_counters : App → App
+with_counters app = with_rule (with_rule app
+    (option_rule (codes "log2m") number8))
+    (option_rule (codes "seed") number64)
+
 -- a command with the options of a plan
 abbrev pub with_numbers : App → App
-with_numbers app = with_rule (with_rule (with_rule (with_rule app
-    (option_rule (codes "log2m") number8))
-    (option_rule (codes "seed") number64))
+with_numbers app = with_rule (with_rule (with_counters app)
     (option_rule (codes "parts") number16))
     (option_rule (codes "limit") number32)
 

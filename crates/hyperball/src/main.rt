@@ -18,8 +18,13 @@ use ball_model::{CountingReader, CountingWriter};
 use std::process::ExitCode;
 use std::{env, io};
 
+// The words of the command line.
+fn words_of(rt: &HostRuntime) -> io::Result<Vec<String>> {
+    Ok(env::args(rt)?.collect(rt.alloc())?)
+}
+
 fn main(rt: HostRuntime) -> io::Result<ExitCode> {
-    let words: Vec<String> = env::args(&rt)?.collect(rt.alloc())?;
+    let words = words_of(&rt)?;
     let mut reader = CountingReader::new(rt.stdin());
     let mut writer = CountingWriter::new(rt.stdout());
     let mut faults = rt.stderr();

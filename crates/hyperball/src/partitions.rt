@@ -116,6 +116,22 @@ fn settle(replicas: &mut [Replica])
     }
 }
 
+// Replicas at one superstep go on to the end of their run.
+fn go_to_end(alloc: Global, replicas: &mut [Replica]) -> Result<(), AllocError>
+    requires running { AreRunning replicas.old }
+    requires some { 0 < length replicas.old }
+    ensures end { (j : Job) (t : ℕ) → AreAt j t replicas.old →
+        OnOk result (AreEnded j replicas.new) }
+{
+    exchange(alloc, replicas)?;
+    while goes_on(replicas) {
+        close_all(replicas);
+        exchange(alloc, replicas)?;
+    }
+    settle(replicas);
+    Ok(())
+}
+
 /// The replicas of all partitions of a job at the end of its run. The error is that memory was refused.
 ///
 /// In each superstep every partition tells every other one what it has to, and all go on together.
@@ -124,11 +140,6 @@ pub fn run_to_end(alloc: Global, graph: &Graph, plan: &Plan) -> Result<Vec<Repli
     ensures { IfOk result (λ rs. AreEnded (job_of graph.now plan.now) rs.items) }
 {
     let mut replicas = start_all(alloc, graph, plan)?;
-    exchange(alloc, &mut replicas)?;
-    while goes_on(&replicas) {
-        close_all(&mut replicas);
-        exchange(alloc, &mut replicas)?;
-    }
-    settle(&mut replicas);
+    go_to_end(alloc, &mut replicas)?;
     Ok(replicas)
 }

@@ -107,24 +107,24 @@ impl From<AllocError> for SerialError {
 // Counts only the vertices of a list, where there is one.
 fn count_listed(
     alloc: Global,
-    graph: &mut Graph,
+    mut graph: Graph,
     counted: Option<&[u8]>,
     options: &SerialOptions,
-) -> Result<(), CountedError>
-    ensures ok { IfSome (list_in counted.entry) IsPlain → OnOk result (
-        counted_in (settings_of options.now) graph.old (list_in counted.entry) ≡ Ok graph.new) }
+) -> Result<Graph, CountedError>
+    ensures ok { IfSome (list_in counted.entry) IsPlain → IfOk result (λ listed.
+        counted_in (settings_of options.now) graph (list_in counted.entry) ≡ Ok listed) }
     ensures refused { IfSome (list_in counted.entry) IsPlain → IfErr result (
-        RefusesList (counted_in (settings_of options.now) graph.old (list_in counted.entry))) }
+        RefusesList (counted_in (settings_of options.now) graph (list_in counted.entry))) }
 {
-    match counted {
-        Some(list) => graph.count_only(alloc, options.delimiter, list),
-        None => Ok(()),
+    if let Some(list) = counted {
+        graph.count_only(alloc, options.delimiter, list)?;
     }
+    Ok(graph)
 }
 
 // The graph that an edge list and a list of counted vertices say.
-fn read_graph<R: CountedRead>(
-    alloc: Global,
+fn read_graph<T: AllocGlobal, R: CountedRead>(
+    rt: &T,
     state: RandomState,
     reader: &mut R,
     counted: Option<&[u8]>,
@@ -139,9 +139,8 @@ fn read_graph<R: CountedRead>(
     ensures read { result ≡ Err (SerialError.Edges EdgeError.Read) →
         Rises (R.failed_calls reader.old) (R.failed_calls reader.new) }
 {
-    let mut graph = read_edges(alloc, state, reader, options.delimiter, LIMITS)?;
-    count_listed(alloc, &mut graph, counted, options)?;
-    Ok(graph)
+    let graph = read_edges(rt.alloc(), state, reader, options.delimiter, LIMITS)?;
+    Ok(count_listed(rt.alloc(), graph, counted, options)?)
 }
 
 // The text of the report of a graph under a plan. The error is that memory was refused.
@@ -192,7 +191,7 @@ fn read_text<T: AllocGlobal + Threads + Sync, R: CountedRead>(
     ensures read { result ≡ Err (SerialError.Edges EdgeError.Read) →
         Rises (R.failed_calls reader.old) (R.failed_calls reader.new) }
 {
-    let graph = read_graph(rt.alloc(), state, reader, counted, options)?;
+    let graph = read_graph(rt, state, reader, counted, options)?;
     report_text(rt, &graph, options)
 }
 

@@ -47,12 +47,20 @@ enum RunFault {
 }
 
 impl From<WholeError> for RunFault {
+    ghost use Rattle.hyperball.specs.declared.serve.RunFault.TheVariants.{Input};
+
+    ghost from_gives = { λ fault e. e ≡ Input fault };
+
     fn from(fault: WholeError) -> RunFault {
         RunFault::Input(fault)
     }
 }
 
 impl From<SerialError> for RunFault {
+    ghost use Rattle.hyperball.specs.declared.serve.RunFault.TheVariants.{Run as Fault};
+
+    ghost from_gives = { λ fault e. e ≡ Fault fault };
+
     fn from(fault: SerialError) -> RunFault {
         RunFault::Run(fault)
     }

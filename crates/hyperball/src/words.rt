@@ -7,7 +7,7 @@ ghost use Rattle.clap.specs.declared.error.kind.ErrorKind.{ErrorKind as Kind};
 ghost use Rattle.clap.specs.declared.builder.value_parser.ValueParser.{ValueParser as Parser};
 ghost use Rattle.hyperball.specs.CommandLine.{IsApp, TakesNames, delimiter_names, hyperball_app};
 ghost use Rattle.hyperball.specs.CommandLine.{flag_rule, option_rule, run_app};
-ghost use Rattle.hyperball.specs.CommandLine.{with_input, with_numbers};
+ghost use Rattle.hyperball.specs.CommandLine.{with_counters, with_input, with_numbers};
 ghost use Rattle.hyperball.specs.declared.words.RunWords.{RunWords as Run};
 ghost use Rattle.hyperball.specs.Words.{AreOptionsOf, HasFaults, IsRun, IsRunOf, name_of, texts_of};
 ghost use Rattle.edgelist.specs.declared.read.Delimiter.{Delimiter as Between};
@@ -133,12 +133,19 @@ fn add_option<'a>(
     command.arg(option(alloc, name, help, parser))
 }
 
+// Adds the options of the counters.
+fn add_counters<'a>(alloc: Global, command: Command<'a>) -> Result<Command<'a>, AllocError>
+    ensures { (app : App) → IsApp app command.entry → IfOk result (IsApp (with_counters app)) }
+{
+    let command = add_option(alloc, command, "log2m", LOG2M_HELP, value_parser!(u8))?;
+    add_option(alloc, command, "seed", SEED_HELP, value_parser!(u64))
+}
+
 // Adds the options of a plan.
 fn add_numbers<'a>(alloc: Global, command: Command<'a>) -> Result<Command<'a>, AllocError>
     ensures { (app : App) → IsApp app command.entry → IfOk result (IsApp (with_numbers app)) }
 {
-    let command = add_option(alloc, command, "log2m", LOG2M_HELP, value_parser!(u8))?;
-    let command = add_option(alloc, command, "seed", SEED_HELP, value_parser!(u64))?;
+    let command = add_counters(alloc, command)?;
     let command = add_option(alloc, command, "parts", PARTS_HELP, value_parser!(u16))?;
     add_option(alloc, command, "limit", LIMIT_HELP, value_parser!(u32))
 }

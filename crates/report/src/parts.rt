@@ -163,7 +163,29 @@ fn figures_at(parts: &[Vec<Figures>], first: usize, x: u32) -> Figures
     parts[x as usize % count][x as usize / count - first]
 }
 
-// The text of the vertices from `from` on and below `to`.
+// The rows of the vertices from `from` on and below `to`.
+fn put_rows(
+    rows: &mut Writer<Vec<u8>>,
+    graph: &Graph,
+    parts: &[Vec<Figures>],
+    first: usize,
+    from: u32,
+    to: u32,
+) -> Result<(), AllocError>
+    requires row { AtRow rows.old }
+    requires places { (x : ℕ) → from ≤ x → x < to → HasPlace first (lists_in parts.now) x }
+    requires from { from ≤ to }
+    requires to { to ≤ graph.now.graph.vertices }
+    ensures { OnOk result (Adds rows.old rows.new
+        (vertices_text graph.now.labels first (lists_in parts.now) from (to - from))) }
+{
+    for x in from..to {
+        put_vertex(rows, graph.label(x), figures_at(parts, first, x))?;
+    }
+    Ok(())
+}
+
+// The text of these rows.
 pub(crate) fn vertices(
     alloc: Global,
     graph: &Graph,
@@ -180,8 +202,6 @@ pub(crate) fn vertices(
 {
     let room = (to - from) as usize * USUAL_LINE;
     let mut rows = rows_in(Vec::with_capacity(alloc, room)?);
-    for x in from..to {
-        put_vertex(&mut rows, graph.label(x), figures_at(parts, first, x))?;
-    }
+    put_rows(&mut rows, graph, parts, first, from, to)?;
     text_of(rows)
 }

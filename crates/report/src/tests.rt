@@ -4,48 +4,26 @@ ghost use Rattle.std.specs.Prelude.{◌≡◌, None, true};
 ghost use Rattle.std.specs.List.{All};
 
 use super::*;
-use ball_model::{CountingReader, CountingWriter};
-use edgelist::{Delimiter, EdgeLimits, Graph, read_edges};
+use ball_model::{CountedWrite, CountingReader, CountingWriter, Taken};
+use edgelist::{Delimiter, EdgeLimits, Graph, Part, read_edges};
 use replica::Replica;
 use std::hash::RandomState;
 use std::io::Write;
 use std::random::RandomSource;
 use std::sync::Arc;
-use std::test::Fail;
 use std::thread::Threads;
 use std::{io, mem};
 
-const TWO_EDGES: &[u8] = b"superstep,0,33.803869
-superstep,1,34.851860
-superstep,2,35.588471
-superstep,3,35.588471
-end,3,stable
-gain,0.708147
-vertex,a,11.390942,0.000000,0.000000,1.000000,15
-vertex,b,11.780376,0.665022,1.503709,208.680703,14
-vertex,c,12.417153,0.751274,0.538737,83.065637,13
-";
+const TWO_EDGES: &[u8] = b"a\tb\nb\tc\n";
+
+// An edge list with tabs, the superstep at which its run ends, and its report.
+type Worked = (&'static [u8], u32, &'static [u8]);
 
 const LONE_VERTEX: &[u8] = b"superstep,0,11.390942
 superstep,1,11.390942
 end,1,stable
 gain,0.000000
 vertex,x,11.390942,0.000000,0.000000,1.000000,15
-";
-
-const EMPTY_INPUT: &[u8] = b"superstep,0,0.000000
-superstep,1,0.000000
-end,1,stable
-gain,0.000000
-";
-
-const LIMIT_OF_ONE: &[u8] = b"superstep,0,33.803869
-superstep,1,34.851860
-end,1,limit
-gain,0.523995
-vertex,a,11.390942,0.000000,0.000000,1.000000,15
-vertex,b,11.780376,0.665022,1.503709,208.680703,14
-vertex,c,11.680542,0.382969,2.611177,356.256149,14
 ";
 
 const TWO_CYCLE: &[u8] = b"superstep,0,22.506296
@@ -66,15 +44,58 @@ vertex,\"x,y\",11.390942,0.000000,0.000000,1.000000,15
 vertex,\"q\"\"\",11.780376,0.665022,1.503709,208.680703,14
 ";
 
+// Computed by another program, from the balls and the fractions: each gain is divided by itself, since one division
+// of all gains together gives other figures here.
+const PATH_OF_EIGHT: &[u8] = b"superstep,0,89.838446
+superstep,1,93.259562
+superstep,2,96.581154
+superstep,3,99.407532
+superstep,4,101.996184
+superstep,5,104.340322
+superstep,6,106.010779
+superstep,7,107.217096
+superstep,8,107.217096
+end,8,stable
+gain,3.164821
+vertex,a,11.390942,0.000000,0.000000,1.000000,15
+vertex,b,11.780376,0.665022,1.503709,208.680703,14
+vertex,c,12.417153,0.751274,0.538737,83.065637,13
+vertex,d,12.881345,1.033762,0.266116,44.156442,12
+vertex,e,13.381592,1.032210,0.158611,28.402023,11
+vertex,f,14.357333,1.146133,0.098473,20.298611,10
+vertex,g,14.981565,1.491561,0.067351,15.116905,9
+vertex,h,16.026790,1.470800,0.046512,11.947143,8
+";
+
+const WORKED: [Worked; 4] = [
+    (b"x\n", 1, LONE_VERTEX),
+    (b"a\tb\nb\ta\n", 2, TWO_CYCLE),
+    (b"x,y\tq\"\n", 2, QUOTED_LABELS),
+    (
+        b"a\tb\nb\tc\nc\td\nd\te\ne\tf\nf\tg\ng\th\n",
+        8,
+        PATH_OF_EIGHT,
+    ),
+];
+
 // The graph of an edge list with tabs.
-fn graph_of<H: AllocGlobal + RandomSource>(rt: &H, text: &[u8]) -> Result<Graph, Fail> {
+fn graph_of<H: AllocGlobal + RandomSource>(rt: &H, text: &[u8]) -> Option<Graph> {
     let limits = EdgeLimits {
         vertices: 100,
         edges: 100,
     };
-    let state = RandomState::new(rt)?;
+    let state = RandomState::new(rt).ok()?;
     let mut reader = CountingReader::new(text);
-    Ok(read_edges(rt.alloc(), state, &mut reader, Delimiter::Tab, limits)?)
+    read_edges(rt.alloc(), state, &mut reader, Delimiter::Tab, limits).ok()
+}
+
+// The part of a partition.
+fn part_of<H: AllocGlobal>(rt: &H, graph: &Graph, parts: u16, limit: u32, p: u16) -> Option<Part> {
+    let plan = graph.plan(4, 0, parts, limit).ok()?;
+    if p >= plan.parts() {
+        return None;
+    }
+    graph.part(rt.alloc(), &plan, p).ok()
 }
 
 // A new replica of a partition.
@@ -84,66 +105,85 @@ fn replica_of<H: AllocGlobal>(
     parts: u16,
     limit: u32,
     p: u16,
-) -> Result<Replica, Fail> {
-    let plan = graph.plan(4, 0, parts, limit)?;
-    if p >= plan.parts() {
-        return Err(Fail::new("no such partition"));
-    }
-    let part = Arc::new(rt.alloc(), graph.part(rt.alloc(), &plan, p)?)?;
-    Ok(Replica::new(rt.alloc(), part)?)
+) -> Option<Replica> {
+    let part = part_of(rt, graph, parts, limit, p)?;
+    let part = Arc::new(rt.alloc(), part).ok()?;
+    Replica::new(rt.alloc(), part).ok()
 }
 
-// A new replica of each partition.
-fn replicas_of<H: AllocGlobal>(
+// Adds a new replica of each partition.
+fn add_replicas<H: AllocGlobal>(
     rt: &H,
     graph: &Graph,
     parts: u16,
     limit: u32,
-) -> Result<Vec<Replica>, Fail> {
-    let mut all = Vec::new(rt.alloc());
+    all: &mut Vec<Replica>,
+) -> Option<()> {
     for p in 0..parts {
-        all.push(replica_of(rt, graph, parts, limit, p)?)?;
+        all.push(replica_of(rt, graph, parts, limit, p)?).ok()?;
     }
-    Ok(all)
+    Some(())
 }
 
 // One replica takes what another tells it.
-fn tell<H: AllocGlobal>(
-    rt: &H,
-    all: &mut [Replica],
-    source: usize,
-    target: usize,
-) -> Result<(), Fail> {
-    let from = all.get(source).ok_or("a source")?;
-    let to = all.get(target).ok_or("a target")?.partition();
-    if to >= from.plan().parts() || to == from.partition() {
-        return Ok(());
+fn tell<H: AllocGlobal>(rt: &H, source: &Replica, target: &mut Replica) -> Option<Taken> {
+    let to = target.partition();
+    if to >= source.plan().parts() || to == source.partition() {
+        return None;
     }
-    let batch = Arc::new(rt.alloc(), from.out(rt.alloc(), to)?)?;
-    all.get_mut(target).ok_or("a target")?.take(batch)?;
-    Ok(())
+    let batch = source.out(rt.alloc(), to).ok()?;
+    let batch = Arc::new(rt.alloc(), batch).ok()?;
+    target.take(batch).ok()
+}
+
+// One replica and each of some others tell each other.
+fn tell_each<H: AllocGlobal>(rt: &H, one: &mut Replica, others: &mut [Replica]) -> Option<()> {
+    for other in others.iter_mut() {
+        tell(rt, one, other)?;
+        tell(rt, other, one)?;
+    }
+    Some(())
 }
 
 // Each replica takes what every other one tells it.
-fn exchange<H: AllocGlobal>(rt: &H, all: &mut [Replica]) -> Result<(), Fail> {
-    for source in 0..all.len() {
-        for target in 0..all.len() {
-            tell(rt, all, source, target)?;
-        }
+fn exchange<H: AllocGlobal>(rt: &H, all: &mut [Replica]) -> Option<()> {
+    for i in 0..all.len() {
+        let (one, others) = all[i..].split_first_mut()?;
+        tell_each(rt, one, others)?;
     }
-    Ok(())
+    Some(())
 }
 
-// The replicas at superstep `t`, with all that others tell of it.
-fn run_to<H: AllocGlobal>(rt: &H, all: &mut [Replica], t: u32) -> Result<(), Fail> {
+// Each replica closes its superstep.
+fn close_all(all: &mut [Replica]) -> Option<()> {
+    for replica in all.iter_mut() {
+        replica.close().ok()?;
+    }
+    Some(())
+}
+
+// The replicas go on to superstep `t`, and hold all that others tell of it.
+fn run_to<H: AllocGlobal>(rt: &H, all: &mut [Replica], t: u32) -> Option<()> {
     exchange(rt, all)?;
     for _ in 0..t {
-        for replica in all.iter_mut() {
-            replica.close()?;
-        }
+        close_all(all)?;
         exchange(rt, all)?;
     }
-    Ok(())
+    Some(())
+}
+
+// A replica of each partition, at superstep `t`.
+fn replicas_at<H: AllocGlobal>(
+    rt: &H,
+    graph: &Graph,
+    parts: u16,
+    limit: u32,
+    t: u32,
+) -> Option<Vec<Replica>> {
+    let mut all = Vec::new(rt.alloc());
+    add_replicas(rt, graph, parts, limit, &mut all)?;
+    run_to(rt, &mut all, t)?;
+    Some(all)
 }
 
 // Whether the replicas are of a plan of this graph.
@@ -159,56 +199,83 @@ fn are_of(graph: &Graph, replicas: &[Replica]) -> bool
     true
 }
 
-// What is written of the replicas at superstep `t`.
-fn report_at<H: AllocGlobal + RandomSource + Threads + Sync>(
+// The answer for replicas that are ready.
+fn written<H: AllocGlobal + Threads + Sync, W: CountedWrite>(
     rt: &H,
-    text: &[u8],
-    parts: u16,
-    limit: u32,
-    t: u32,
-) -> Result<Vec<u8>, Fail> {
-    let graph = graph_of(rt, text)?;
-    let mut all = replicas_of(rt, &graph, parts, limit)?;
-    run_to(rt, &mut all, t)?;
-    if !report_ready(&all) || !are_of(&graph, &all) {
-        return Err(Fail::new("not ready"));
+    writer: &mut W,
+    graph: &Graph,
+    replicas: &[Replica],
+) -> Option<Result<(), ReportError>> {
+    if !report_ready(replicas) || !are_of(graph, replicas) {
+        return None;
     }
+    Some(write_report(rt, writer, graph, replicas))
+}
+
+// Whether this is their report.
+fn reports<H: AllocGlobal + Threads + Sync>(
+    rt: &H,
+    graph: &Graph,
+    replicas: &[Replica],
+    wanted: &[u8],
+) -> bool {
     let mut output = Vec::new(rt.alloc());
-    write_report(rt, &mut CountingWriter::new(&mut output), &graph, &all)?;
-    Ok(output)
+    let answer = written(rt, &mut CountingWriter::new(&mut output), graph, replicas);
+    answer == Some(Ok(())) && output.as_slice() == wanted
+}
+
+// Whether the report of a graph in so many partitions is the worked one.
+fn is_report_of<H: AllocGlobal + Threads + Sync>(
+    rt: &H,
+    graph: &Graph,
+    worked: &Worked,
+    parts: u16,
+) -> Option<bool> {
+    let (_, end, wanted) = *worked;
+    let all = replicas_at(rt, graph, parts, 4096, end)?;
+    Some(reports(rt, graph, &all, wanted))
+}
+
+// The same, of the graph of its edge list.
+fn is_worked<H: AllocGlobal + RandomSource + Threads + Sync>(
+    rt: &H,
+    worked: &Worked,
+    parts: u16,
+) -> Option<bool> {
+    let graph = graph_of(rt, worked.0)?;
+    is_report_of(rt, &graph, worked, parts)
 }
 
 #[test]
-fn two_edges_in_partitions(rt: HostRuntime) -> Result<(), Fail> {
-    for parts in 1..=5 {
-        let output = report_at(&rt, b"a\tb\nb\tc\n", parts, 4096, 3)?;
-        assert_eq!(rt; output.as_slice(), TWO_EDGES);
+fn worked_reports(rt: HostRuntime) {
+    for worked in &WORKED {
+        for parts in 1..=5 {
+            assert_eq!(rt; is_worked(&rt, worked, parts), Some(true));
+        }
     }
-    Ok(())
-}
-
-#[test]
-fn small_graphs(rt: HostRuntime) -> Result<(), Fail> {
-    let rows = [
-        (b"x\n".as_slice(), 4096, 1, LONE_VERTEX),
-        (b"".as_slice(), 4096, 1, EMPTY_INPUT),
-        (b"a\tb\nb\tc\n".as_slice(), 1, 1, LIMIT_OF_ONE),
-        (b"a\tb\nb\ta\n".as_slice(), 4096, 2, TWO_CYCLE),
-        (b"x,y\tq\"\n".as_slice(), 4096, 2, QUOTED_LABELS),
-    ];
-    for (text, limit, end, wanted) in rows {
-        assert_eq!(rt; report_at(&rt, text, 1, limit, end)?.as_slice(), wanted);
-        assert_eq!(rt; report_at(&rt, text, 2, limit, end)?.as_slice(), wanted);
-    }
-    Ok(())
 }
 
 // Replicas of the two edges in two partitions, at superstep `t`.
-fn two_at<H: AllocGlobal + RandomSource>(rt: &H, limit: u32, t: u32) -> Result<Vec<Replica>, Fail> {
-    let graph = graph_of(rt, b"a\tb\nb\tc\n")?;
-    let mut all = replicas_of(rt, &graph, 2, limit)?;
-    run_to(rt, &mut all, t)?;
-    Ok(all)
+fn two_at<H: AllocGlobal + RandomSource>(rt: &H, limit: u32, t: u32) -> Option<Vec<Replica>> {
+    let graph = graph_of(rt, TWO_EDGES)?;
+    replicas_at(rt, &graph, 2, limit, t)
+}
+
+// The second replicas change places.
+fn swap_second(all: &mut [Replica], others: &mut [Replica]) -> Option<()> {
+    mem::swap(all.get_mut(1)?, others.get_mut(1)?);
+    Some(())
+}
+
+// Whether the first of these replicas and the second of others are ready together.
+fn ready_with<H: AllocGlobal + RandomSource>(
+    rt: &H,
+    all: &mut [Replica],
+    second: (u32, u32),
+) -> Option<bool> {
+    let mut others = two_at(rt, second.0, second.1)?;
+    swap_second(all, &mut others)?;
+    Some(report_ready(all))
 }
 
 // Whether the first of some replicas and the second of others are ready together.
@@ -216,49 +283,47 @@ fn ready_together<H: AllocGlobal + RandomSource>(
     rt: &H,
     first: (u32, u32),
     second: (u32, u32),
-) -> Result<bool, Fail> {
+) -> Option<bool> {
     let mut all = two_at(rt, first.0, first.1)?;
-    let mut others = two_at(rt, second.0, second.1)?;
-    mem::swap(
-        all.get_mut(1).ok_or("a replica")?,
-        others.get_mut(1).ok_or("a replica")?,
-    );
-    Ok(report_ready(&all))
+    ready_with(rt, &mut all, second)
 }
 
-// Replicas of one plan at the end are ready; of two plans, before the end, or at two supersteps they are not.
+// The limit and the superstep of the first and of the second replica, and whether they are ready together: of one plan
+// at the end they are; of two plans, before the end, or at two supersteps they are not.
+const TOGETHER: [((u32, u32), (u32, u32), bool); 6] = [
+    ((4096, 3), (4096, 3), true),
+    ((3, 3), (3, 3), true),
+    ((4096, 3), (3, 3), false),
+    ((4096, 2), (4096, 2), false),
+    ((4096, 3), (4096, 2), false),
+    ((4096, 2), (4096, 3), false),
+];
+
 #[test]
-fn ready_replicas(rt: HostRuntime) -> Result<(), Fail> {
-    let rows = [
-        ((4096, 3), (4096, 3), true),
-        ((3, 3), (3, 3), true),
-        ((4096, 3), (3, 3), false),
-        ((4096, 2), (4096, 2), false),
-        ((4096, 3), (4096, 2), false),
-        ((4096, 2), (4096, 3), false),
-    ];
-    for (first, second, wanted) in rows {
-        assert_eq!(rt; ready_together(&rt, first, second)?, wanted);
+fn ready_replicas(rt: HostRuntime) {
+    for (first, second, wanted) in &TOGETHER {
+        assert_eq!(rt; ready_together(&rt, *first, *second), Some(*wanted));
     }
-    Ok(())
 }
 
-// Replicas out of order, too few and none are not ready.
-#[test]
-fn replicas_in_order(rt: HostRuntime) -> Result<(), Fail> {
-    let mut all = two_at(&rt, 4096, 3)?;
-    let whole = report_ready(&all);
+// Whether two replicas are ready, and the first alone, none, and both out of order.
+fn ready_in_order(all: &mut [Replica]) -> Option<(bool, bool, bool, bool)> {
+    let (_, first) = all.split_last()?;
+    let alone = report_ready(first);
+    let whole = report_ready(all);
     all.reverse();
-    let turned = report_ready(&all);
-    let last = all.pop().ok_or("a replica")?;
-    let lone = report_ready(&all);
-    all.clear();
-    assert_eq!(rt;
-        (whole, turned, lone, report_ready(&all)),
-        (true, false, false, false)
-    );
-    assert_eq!(rt; last.partition(), 0);
-    Ok(())
+    Some((whole, alone, report_ready(&[]), report_ready(all)))
+}
+
+// The same, of replicas at the end.
+fn two_in_order<H: AllocGlobal + RandomSource>(rt: &H) -> Option<(bool, bool, bool, bool)> {
+    let mut all = two_at(rt, 4096, 3)?;
+    ready_in_order(&mut all)
+}
+
+#[test]
+fn replicas_in_order(rt: HostRuntime) {
+    assert_eq!(rt; two_in_order(&rt), Some((true, false, false, false)));
 }
 
 // A writer that takes all, a number of times, and then nothing.
@@ -283,40 +348,54 @@ impl Write for Full {
     }
 }
 
-// The report of the two edges into such a writer.
-fn written_in<H: AllocGlobal + RandomSource + Threads + Sync>(
+// The answer where such a writer is given.
+fn written_in<H: AllocGlobal + Threads + Sync>(
+    rt: &H,
+    graph: &Graph,
+    calls: u32,
+) -> Option<Result<(), ReportError>> {
+    let all = replicas_at(rt, graph, 2, 4096, 3)?;
+    let mut full = Full { calls };
+    written(rt, &mut CountingWriter::new(&mut full), graph, &all)
+}
+
+// The same, of the two edges.
+fn two_edges_in<H: AllocGlobal + RandomSource + Threads + Sync>(
     rt: &H,
     calls: u32,
-) -> Result<Result<(), ReportError>, Fail> {
-    let graph = graph_of(rt, b"a\tb\nb\tc\n")?;
-    let all = two_at(rt, 4096, 3)?;
-    if !report_ready(&all) || !are_of(&graph, &all) {
-        return Err(Fail::new("not ready"));
-    }
-    let mut full = Full { calls };
-    Ok(write_report(rt, &mut CountingWriter::new(&mut full), &graph, &all))
+) -> Option<Result<(), ReportError>> {
+    let graph = graph_of(rt, TWO_EDGES)?;
+    written_in(rt, &graph, calls)
 }
 
 // The report goes out in two pieces, and a failure of either is told.
-#[test]
-fn full_writers(rt: HostRuntime) -> Result<(), Fail> {
-    for (calls, wanted) in [
-        (0, Err(ReportError::Write)),
-        (1, Err(ReportError::Write)),
-        (2, Ok(())),
-    ] {
-        assert_eq!(rt; written_in(&rt, calls)?, wanted);
-    }
-    Ok(())
-}
+const CALLS: [(u32, Result<(), ReportError>); 3] = [
+    (0, Err(ReportError::Write)),
+    (1, Err(ReportError::Write)),
+    (2, Ok(())),
+];
 
 #[test]
-fn texts_of_errors(rt: HostRuntime) -> Result<(), Fail> {
-    let memory = format!(in rt.alloc(); "{}", ReportError::Memory)?;
-    let write = format!(in rt.alloc(); "{}", ReportError::Write)?;
-    assert_eq!(rt;
-        (memory.as_str(), write.as_str()),
-        ("out of memory", "the output cannot be written")
-    );
-    Ok(())
+fn full_writers(rt: HostRuntime) {
+    for (calls, wanted) in &CALLS {
+        assert!(rt; two_edges_in(&rt, *calls) == Some(*wanted));
+    }
+}
+
+// An error prints as this text.
+fn prints<H: AllocGlobal>(rt: &H, error: ReportError, text: &str) -> Option<bool> {
+    let told = format!(in rt.alloc(); "{error}").ok()?;
+    Some(told.as_str() == text)
+}
+
+const TEXTS: [(ReportError, &str); 2] = [
+    (ReportError::Memory, "out of memory"),
+    (ReportError::Write, "the output cannot be written"),
+];
+
+#[test]
+fn texts_of_errors(rt: HostRuntime) {
+    for (error, text) in &TEXTS {
+        assert!(rt; prints(&rt, *error, text) == Some(true));
+    }
 }

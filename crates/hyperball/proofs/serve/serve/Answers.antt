@@ -1,4 +1,4 @@
-use Rattle.std.proofs.Common.{◌≡◌, inl, inr, List, [], ◌∷◌, subst, sym, Option, true}
+use Rattle.std.proofs.Common.{◌≡◌, inl, inr, List, [], ◌∷◌, subst, sym, true}
 use Rattle.std.specs.Prelude.{IfSome}
 use Rattle.std.specs.List.{AllByRecursion}
 use Rattle.clap.specs.Words.{IsAmong, kind_of}

@@ -1,4 +1,4 @@
-use Rattle.std.proofs.Common.{◌≡◌, ◌∙◌, ◌++◌, true, ℕ, List, get_or, ap, sym, subst}
+use Rattle.std.proofs.Common.{◌≡◌, ◌∙◌, true, ℕ, List, get_or, ap, sym, subst}
 use Rattle.std.specs.Io.KnownBytes.{Appends}
 use Rattle.std.proofs.KnownBytes.{Appends-trans}
 use Rattle.std.proofs.lemmas.Result.{on_ok_weaker}
@@ -7,7 +7,6 @@ use Rattle.ball_model.specs.PlanValue.{mixing_of}
 use Rattle.ball_model.specs.State.{State, StandsFor}
 use Rattle.replica.specs.Level.{found_verdict}
 use Rattle.report.specs.Ready.{says_end}
-use Rattle.report.specs.Parts.{lines_between}
 use Rattle.report.proofs.ReadyLemmas.{AreReady, are_ready-facts}
 use Rattle.report.proofs.EndingLemmas.{IsEnded, is_ended}
 use Rattle.report.proofs.WholeLemmas.{AllAt, all_at, report_is}

@@ -1,0 +1,289 @@
+//! Streams that give or take a byte a call, or fail.
+
+ghost use Rattle.std.specs.Prelude.{None};
+
+use super::*;
+use crate::pages::Pages;
+use ball_model::{CountedWrite, MemWriter};
+use std::io;
+use std::io::ErrorKind;
+
+// A reader that gives a byte a call, and fails from a call on.
+#[derive(Drop)]
+struct Dripping<'a> {
+    bytes: &'a [u8],
+    calls: u64,
+    fails_at: u64,
+}
+
+impl<'a> Read for Dripping<'a> {
+    ghost remaining = { λ r. None };
+
+    fn read(&mut self, buf: &mut [u8]) -> io::Result<usize> {
+        self.calls = self.calls.saturating_add(1);
+        if self.calls >= self.fails_at {
+            return Err(io::Error::from(ErrorKind::Other));
+        }
+        match self.bytes.split_first() {
+            Some((first, rest)) if !buf.is_empty() => {
+                buf[0] = *first;
+                self.bytes = rest;
+                Ok(1)
+            }
+            _ => Ok(0),
+        }
+    }
+}
+
+// Serves words over an input a byte a call, with a failure at this call.
+fn dripped<H: AllocGlobal + RandomSource + Threads + Sync>(
+    rt: &H,
+    line: &str,
+    bytes: &[u8],
+    fails_at: u64,
+) -> Result<Served, AllocError> {
+    let input = Dripping {
+        bytes,
+        calls: 0,
+        fails_at,
+    };
+    serve_input(rt, line, input)
+}
+
+// An input a byte a call has this report.
+fn reports_dripping<H: AllocGlobal + RandomSource + Threads + Sync>(
+    rt: &H,
+    case: &Case,
+) -> Result<bool, Fail> {
+    let (line, bytes, report) = *case;
+    let whole = dripped(rt, line, bytes, u64::MAX)?;
+    Ok(is_served(&whole, 0, report, b""))
+}
+
+// A failure at this call of the reader is told so, and nothing is written.
+fn fails_at<H: AllocGlobal + RandomSource + Threads + Sync>(
+    rt: &H,
+    case: &Case,
+    call: u64,
+) -> Result<bool, Fail> {
+    let (line, bytes, fault) = *case;
+    let cut = dripped(rt, line, bytes, call)?;
+    Ok(is_served(&cut, 1, b"", fault))
+}
+
+// So is a failure at any call.
+fn fails_dripping<H: AllocGlobal + RandomSource + Threads + Sync>(
+    rt: &H,
+    case: &Case,
+) -> Result<bool, Fail> {
+    let mut all = true;
+    for call in 1..=case.1.len() as u64 + 1 {
+        all &= fails_at(rt, case, call)?;
+    }
+    Ok(all)
+}
+
+const DRIPPING_REPORTS: [Case; 2] = [
+    (RUN, b"a\tb\nb\tc\n", TWO_EDGES),
+    (COUNTED, b"a\tb\nb\tc\n%%\na", ONE_COUNTED),
+];
+
+const DRIPPING_FAULTS: [Case; 2] = [
+    (
+        RUN,
+        b"a\tb\nb\tc\n",
+        b"hyperball: the edge list cannot be read\n",
+    ),
+    (
+        COUNTED,
+        b"a\tb\nb\tc\n%%\na",
+        b"hyperball: the input cannot be read\n",
+    ),
+];
+
+#[test]
+fn a_byte_a_read(rt: HostRuntime) -> Result<(), Fail> {
+    for case in &DRIPPING_REPORTS {
+        assert!(rt; reports_dripping(&rt, case)?);
+    }
+    Ok(())
+}
+
+#[test]
+fn a_read_that_fails(rt: HostRuntime) -> Result<(), Fail> {
+    for case in &DRIPPING_FAULTS {
+        assert!(rt; fails_dripping(&rt, case)?);
+    }
+    Ok(())
+}
+
+// A writer that takes a byte a call, and fails where it is full.
+#[derive(Drop)]
+struct Narrow {
+    taken: Vec<u8>,
+    room: usize,
+}
+
+impl Write for Narrow {
+    ghost contents = { λ w. None };
+
+    fn write(&mut self, buf: &[u8]) -> io::Result<usize> {
+        match buf.first() {
+            Some(byte) if self.taken.len() < self.room => match self.taken.push(*byte) {
+                Ok(()) => Ok(1),
+                Err(_) => Err(io::Error::from(ErrorKind::OutOfMemory)),
+            },
+            _ => Ok(0),
+        }
+    }
+
+    fn flush(&mut self) -> io::Result<()> {
+        Ok(())
+    }
+}
+
+// Serves words over the two edges into a narrow writer.
+fn serve_narrowly<H: AllocGlobal + RandomSource + Threads + Sync>(
+    rt: &H,
+    line: &str,
+    room: usize,
+) -> Result<Served, Fail> {
+    let taken = Vec::new(rt.alloc());
+    let mut narrow = Narrow { taken, room };
+    let mut faults = Vec::new(rt.alloc());
+    let input = b"a\tb\nb\tc\n".as_slice();
+    let status = serve_streams(rt, line, input, &mut narrow, &mut faults)?;
+    let Narrow { taken, room: _ } = narrow;
+    Ok(Served {
+        status,
+        output: taken,
+        faults,
+    })
+}
+
+#[test]
+fn a_byte_a_write(rt: HostRuntime) -> Result<(), Fail> {
+    let whole = serve_narrowly(&rt, RUN, TWO_EDGES.len())?;
+    assert!(rt; is_served(&whole, 0, TWO_EDGES, b""));
+    Ok(())
+}
+
+// The writer was full before the text was out, and this was told.
+fn is_cut(served: &Served, room: usize) -> bool {
+    served.status == 1
+        && served.output.len() == room
+        && served.faults.as_slice() == b"hyperball: the output cannot be written\n".as_slice()
+}
+
+// Words whose text needs more room end so.
+fn fails_narrowly<H: AllocGlobal + RandomSource + Threads + Sync>(
+    rt: &H,
+    line: &str,
+    room: usize,
+) -> Result<bool, Fail> {
+    let served = serve_narrowly(rt, line, room)?;
+    Ok(is_cut(&served, room))
+}
+
+const NARROW: [(&str, usize); 5] = [
+    (RUN, 0),
+    (RUN, 1),
+    (RUN, 100),
+    (RUN, TWO_EDGES.len() - 1),
+    ("hyperball --help", 5),
+];
+
+#[test]
+fn a_write_that_fails(rt: HostRuntime) -> Result<(), Fail> {
+    for (line, room) in &NARROW {
+        assert!(rt; fails_narrowly(&rt, line, *room)?, "{line}");
+    }
+    Ok(())
+}
+
+// The status of words whose fault goes to this writer, where they write nothing.
+fn told_in<H: AllocGlobal + RandomSource + Threads + Sync>(
+    rt: &H,
+    line: &str,
+    faults: &mut Narrow,
+) -> Result<Option<u8>, AllocError> {
+    let mut output = Vec::new(rt.alloc());
+    let status = serve_streams(rt, line, b"a\tb\n".as_slice(), &mut output, faults)?;
+    Ok(output.is_empty().then_some(status))
+}
+
+// Words whose fault has room for three bytes end with this status, where it takes them.
+fn ends_in_three<H: AllocGlobal + RandomSource + Threads + Sync>(
+    rt: &H,
+    line: &str,
+    wanted: u8,
+) -> Result<bool, AllocError> {
+    let taken = Vec::new(rt.alloc());
+    let mut faults = Narrow { taken, room: 3 };
+    let status = told_in(rt, line, &mut faults)?;
+    Ok(status == Some(wanted) && faults.taken.len() == 3)
+}
+
+const IN_THREE: [(&str, u8); 2] = [
+    ("hyperball run --log2m 3", 1),
+    ("hyperball run --log2m x", 2),
+];
+
+#[test]
+fn a_fault_that_cannot_be_told(rt: HostRuntime) -> Result<(), Fail> {
+    for (line, status) in &IN_THREE {
+        assert!(rt; ends_in_three(&rt, line, *status)?, "{line}");
+    }
+    Ok(())
+}
+
+// Three pages, of which the second is empty.
+const PAGES: [&[u8]; 3] = [b"one,", b"", b"two"];
+
+// Writes the pages, each of which is taken whole.
+fn write_pages(text: &mut Pages) -> bool {
+    let mut whole = true;
+    for page in &PAGES {
+        whole &= matches!(text.write(page), Ok(count) if count == page.len());
+    }
+    whole && text.flush().is_ok()
+}
+
+// What a writer whose call `fails_at` fails takes of a text.
+fn taken_of<H: AllocGlobal>(
+    rt: &H,
+    text: &Pages,
+    fails_at: Option<u64>,
+) -> Result<(bool, Vec<u8>), Fail> {
+    let mut writer = MemWriter::with_room(rt.alloc(), 7, fails_at)?;
+    let done = text.write_to(&mut writer);
+    Ok((done, writer.into_bytes()))
+}
+
+// It takes these bytes of the pages, and all is done or not.
+fn takes<H: AllocGlobal>(
+    rt: &H,
+    text: &Pages,
+    fails_at: Option<u64>,
+    wanted: (bool, &[u8]),
+) -> Result<bool, Fail> {
+    let (done, taken) = taken_of(rt, text, fails_at)?;
+    Ok((done, taken.as_slice()) == wanted)
+}
+
+// So it is with pages that are written.
+fn takes_pages<H: AllocGlobal>(
+    rt: &H,
+    fails_at: Option<u64>,
+    wanted: (bool, &[u8]),
+) -> Result<bool, Fail> {
+    let mut text = Pages::new(rt.alloc());
+    Ok(write_pages(&mut text) && takes(rt, &text, fails_at, wanted)?)
+}
+
+#[test]
+fn a_text_in_pages(rt: HostRuntime) -> Result<(), Fail> {
+    assert!(rt; takes_pages(&rt, None, (true, b"one,two"))?);
+    assert!(rt; takes_pages(&rt, Some(2), (false, b"one,"))?);
+    Ok(())
+}

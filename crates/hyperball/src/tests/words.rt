@@ -1,0 +1,214 @@
+//! What words say, and the texts of faults, help and mistakes.
+
+use super::*;
+use crate::laws::{words_of_a_run, words_of_no_run};
+use crate::serial::{SerialError, SerialOptions};
+use crate::whole::WholeError;
+use crate::words::{RunWords, read_words};
+use ball_model::PlanError;
+use edgelist::{CountedError, Delimiter, EdgeError};
+use std::fmt::Display;
+
+// A fault prints as this text.
+fn prints<H: AllocGlobal, F: Display>(rt: &H, fault: &F, text: &str) -> Result<bool, Fail> {
+    let told = format!(in rt.alloc(); "{fault}")?;
+    Ok(told.as_str() == text)
+}
+
+const FAULT_TEXTS: [(SerialError, &str); 14] = [
+    (
+        SerialError::Edges(EdgeError::Read),
+        "the edge list cannot be read",
+    ),
+    (
+        SerialError::Edges(EdgeError::TooManyEdges),
+        "too many records",
+    ),
+    (
+        SerialError::Edges(EdgeError::Fields { number: 7 }),
+        "record 7 has not one or two identifiers",
+    ),
+    (
+        SerialError::Edges(EdgeError::TooManyVertices),
+        "too many vertices",
+    ),
+    (SerialError::Edges(EdgeError::Memory), "out of memory"),
+    (
+        SerialError::Counted(CountedError::Fields { number: 7 }),
+        "record 7 of the list is not one identifier",
+    ),
+    (
+        SerialError::Counted(CountedError::Unknown { number: 7 }),
+        "record 7 of the list names no vertex",
+    ),
+    (SerialError::Counted(CountedError::Memory), "out of memory"),
+    (
+        SerialError::Plan(PlanError::Log2m),
+        "log2m is not from 4 to 10",
+    ),
+    (
+        SerialError::Plan(PlanError::Parts),
+        "parts is not from 1 to 64",
+    ),
+    (
+        SerialError::Plan(PlanError::Limit),
+        "limit is not from 1 to 4096",
+    ),
+    (SerialError::Plan(PlanError::Vertices), "too many vertices"),
+    (SerialError::Memory, "out of memory"),
+    (SerialError::Write, "the output cannot be written"),
+];
+
+const WHOLE_TEXTS: [(WholeError, &str); 3] = [
+    (WholeError::Read, "the input cannot be read"),
+    (WholeError::Size, "the input is longer than 67108864 bytes"),
+    (WholeError::Memory, "out of memory"),
+];
+
+// Each fault prints as its text.
+fn all_print<H: AllocGlobal, F: Display>(rt: &H, texts: &[(F, &str)]) -> Result<bool, Fail> {
+    let mut all = true;
+    for (fault, text) in texts {
+        all &= prints(rt, fault, text)?;
+    }
+    Ok(all)
+}
+
+#[test]
+fn texts_of_faults(rt: HostRuntime) -> Result<(), Fail> {
+    let all = all_print(&rt, &FAULT_TEXTS)? && all_print(&rt, &WHOLE_TEXTS)?;
+    assert!(rt; all);
+    Ok(())
+}
+
+// The help of an option stands behind its name.
+fn explains(text: &str, name: &str, help: &str) -> bool {
+    match text.split_once(name) {
+        Some((_, after)) => match after.split_once("--") {
+            Some((own, _)) => own.contains(help),
+            None => after.contains(help),
+        },
+        None => false,
+    }
+}
+
+const HELPS: [(&str, &str); 6] = [
+    ("--log2m <", "Counters of 2^log2m bytes"),
+    ("--seed <", "Seed under which"),
+    ("--parts <", "Partitions that"),
+    ("--limit <", "Greatest superstep"),
+    ("--delimiter <", "What stands between"),
+    ("--counted", "Count only"),
+];
+
+// Every option is explained.
+fn explains_all(text: &str) -> bool {
+    let mut all = text.contains("hyperball run --log2m 8 < edges.tsv > report.csv");
+    for (name, help) in &HELPS {
+        all &= explains(text, name, help);
+    }
+    all
+}
+
+// This is a text that explains every option.
+fn is_help(bytes: &[u8]) -> bool {
+    match str::from_utf8(bytes) {
+        Ok(text) => explains_all(text),
+        Err(_) => false,
+    }
+}
+
+#[test]
+fn help_of_each_option(rt: HostRuntime) -> Result<(), Fail> {
+    let served = serve_input(&rt, "hyperball run --help", b"".as_slice())?;
+    assert!(rt; is_help(&served.output));
+    Ok(())
+}
+
+// Words that ask for help get it, and nothing is told.
+fn helps<H: AllocGlobal + RandomSource + Threads + Sync>(rt: &H, line: &str) -> Result<bool, Fail> {
+    let served = serve_input(rt, line, b"a\tb\n".as_slice())?;
+    Ok(served.status == 0 && served.output.len() > 100 && served.faults.is_empty())
+}
+
+#[test]
+fn help_is_shown(rt: HostRuntime) -> Result<(), Fail> {
+    for line in ["hyperball --help", "hyperball run --help", "hyperball help"] {
+        assert!(rt; helps(&rt, line)?, "{line}");
+    }
+    Ok(())
+}
+
+// The words are refused, with this at the front of what is told.
+fn refuses<H: AllocGlobal + RandomSource + Threads + Sync>(
+    rt: &H,
+    line: &str,
+    front: &[u8],
+) -> Result<bool, Fail> {
+    let served = serve_input(rt, line, b"a\tb\n".as_slice())?;
+    Ok(served.status == 2 && served.output.is_empty() && served.faults.starts_with(front))
+}
+
+const MISTAKES: [(&str, &[u8]); 15] = [
+    ("hyperball", b"error: 'hyperball' requires a subcommand"),
+    (
+        "hyperball replay",
+        b"error: unrecognized subcommand 'replay'",
+    ),
+    (
+        "hyperball run --replicas 2",
+        b"error: unexpected argument '--replicas'",
+    ),
+    (
+        "hyperball run edges.tsv",
+        b"error: unexpected argument 'edges.tsv'",
+    ),
+    (
+        "hyperball run --log2m",
+        b"error: a value is required for '--log2m",
+    ),
+    ("hyperball run --counted=1", b"error: "),
+    ("hyperball run --log2m 256", b"error: "),
+    ("hyperball run --log2m -1", b"error: "),
+    ("hyperball run --log2m four", b"error: "),
+    ("hyperball run --parts 65536", b"error: "),
+    ("hyperball run --limit 4294967296", b"error: "),
+    ("hyperball run --seed 18446744073709551616", b"error: "),
+    ("hyperball run --delimiter semicolon", b"error: "),
+    ("hyperball run --delimiter Tab", b"error: "),
+    ("hyperball run --delimiter ,", b"error: "),
+];
+
+#[test]
+fn mistaken_words(rt: HostRuntime) -> Result<(), Fail> {
+    for (line, front) in &MISTAKES {
+        assert!(rt; refuses(&rt, line, front)?, "{line}");
+    }
+    Ok(())
+}
+
+// What words of a run say.
+fn said<H: AllocGlobal>(rt: &H, line: &str) -> Result<RunWords, Fail> {
+    let words = words_of(rt, line)?;
+    Ok(read_words(rt.alloc(), &words)?)
+}
+
+const SAID: RunWords = RunWords {
+    options: SerialOptions {
+        log2m: 8,
+        seed: 7,
+        parts: 1,
+        limit: 4096,
+        delimiter: Delimiter::Space,
+    },
+    counted: true,
+};
+
+#[test]
+fn words_are_read(rt: HostRuntime) -> Result<(), Fail> {
+    let read = said(&rt, "hyperball run --seed 7 --delimiter space --counted")?;
+    assert!(rt; read == SAID);
+    words_of_a_run();
+    words_of_no_run();
+    Ok(())
+}

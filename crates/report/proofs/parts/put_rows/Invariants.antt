@@ -1,0 +1,10 @@
+use Rattle.std.proofs.Common.{◌≡◌, ◌++◌, ◌-◌}
+use Rattle.report.specs.Parts.{lists_in, vertices_text}
+use Rattle.report.specs.Rows.{AtRow, text_in}
+use Rattle.report.proofs.parts.put_rows.Given as goal
+
+abbrev pub invariant-loop-x : goal.invariant-loop-x
+invariant-loop-x l = record {
+  row : AtRow l.rows;
+  text : text_in l.rows ≡ text_in l.initial.rows ++ vertices_text l.graph.labels l.first (lists_in l.parts) l.from (l.x - l.from);
+}
