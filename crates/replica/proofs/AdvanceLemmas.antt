@@ -1,18 +1,17 @@
 -- One superstep more, over plain data.
-use Rattle.std.proofs.Common.{◌≡◌, ℕ, zero, suc, ◌+◌, ◌-◌, ◌<◌, ◌≤◌, ◌==◌, nat_lt, Bool, true, false, not, ◌&&◌, ◌||◌, List, [], get_or, replicate, refl, ap, arith, sym, ◌∙◌, subst, inl, inr, is_some, IfSome}
+use Rattle.std.proofs.Common.{◌≡◌, ℕ, zero, suc, ◌+◌, ◌-◌, ◌<◌, ◌≤◌, ◌==◌, nat_lt, Bool, true, false, not, ◌&&◌, ◌||◌, List, get_or, replicate, refl, ap, arith, sym, ◌∙◌, subst, inl, inr, is_some, IfSome}
 use Rattle.std.specs.Prelude.{Option}
 use Rattle.std.specs.List.{range_with_len, find}
-use Rattle.std.proofs.lemmas.Bool.{cases_lt, cases_eq, eq-eqb}
+use Rattle.std.proofs.lemmas.Bool.{cases_lt, cases_eq}
 use Rattle.std.proofs.lemmas.Bool.Decides.{nat_tests}
-use Rattle.ball_model.specs.PlanValue.{PlanValue, mixing_of}
-use Rattle.ball_model.specs.Job.{Job, part_of}
+use Rattle.ball_model.specs.PlanValue.{mixing_of}
+use Rattle.ball_model.specs.Job.{Job}
 use Rattle.ball_model.specs.Batches.{BatchValue, true_batch}
 use Rattle.ball_model.specs.Supersteps.{end_of}
 use Rattle.ball_model.specs.Content.{after_close, missing_of}
-use Rattle.ball_model.specs.State.{State, StandsFor, KeepsTrue, content_of, early_at, holds_in, rows_of}
+use Rattle.ball_model.specs.State.{State, StandsFor, content_of, early_at, holds_in, rows_of}
 use Rattle.ball_model.proofs.PathLemmas.{same_true}
 use Rattle.replica.specs.Change.{Advances}
-use Rattle.replica.specs.Hearing.{IsTrueHearing}
 use Rattle.replica.specs.Index.{targets_of}
 use Rattle.replica.proofs.LevelLemmas.{Ready, next_rows_are, differing_is, size_is}
 use Rattle.replica.proofs.FigureLemmas.{next_tallies_are, next_sums_are}

@@ -1,5 +1,5 @@
 -- A replica that stands for its content and holds its level has what the next superstep is made of.
-use Rattle.std.proofs.Common.{◌≡◌, ◌≢◌, ℕ, ◌+◌, ◌%◌, ◌<◌, ◌≤◌, Bool, true, false, not, ◌&&◌, ◌||◌, ◌==◌, List, [], ◌∷◌, max, length, map, get_or, refl, ap, arith, sym, ◌∙◌}
+use Rattle.std.proofs.Common.{◌≡◌, ℕ, ◌+◌, ◌%◌, ◌<◌, Bool, true, false, not, ◌&&◌, ◌||◌, ◌==◌, List, [], ◌∷◌, max, length, map, get_or, refl, ap, arith, sym, ◌∙◌}
 use Rattle.std.specs.Prelude.{Option, None}
 use Rattle.std.specs.List.{range_with_len}
 use Rattle.std.specs.Str.{bytes_eq}
@@ -8,7 +8,7 @@ use Rattle.std.proofs.lemmas.List.FromFn.{length-map-range_with_len, get_or-map-
 use Rattle.ball_model.specs.Accumulated.{accumulated_of}
 use Rattle.ball_model.specs.Counter.{ball_counter}
 use Rattle.ball_model.specs.Change.{changed_at}
-use Rattle.ball_model.specs.PlanValue.{PlanValue, mixing_of, vertices_of, part_size}
+use Rattle.ball_model.specs.PlanValue.{mixing_of, part_size}
 use Rattle.ball_model.specs.Job.{Job, PartValue, part_of}
 use Rattle.ball_model.specs.Batches.{BatchValue}
 use Rattle.ball_model.specs.Content.{missing_of}

@@ -1,9 +1,8 @@
 -- A replica one superstep later keeps its limits, whatever the batches say.
-use Rattle.std.proofs.Common.{◌≡◌, ℕ, suc, ◌^◌, ◌≤◌, ◌+◌, ◌*◌, ◌<◌, Bool, true, false, not, List, [], ◌∷◌, length, map, get_or, drop, replicate, refl, ap, arith, sym, ◌∙◌, subst, length-drop, length-append}
-use Rattle.std.specs.Prelude.{Option, None}
+use Rattle.std.proofs.Common.{◌≡◌, ℕ, suc, ◌^◌, ◌≤◌, ◌*◌, ◌<◌, Bool, true, false, not, List, [], ◌∷◌, length, map, get_or, refl, ap, arith, sym, ◌∙◌}
 use Rattle.std.specs.List.{sum_by, range_with_len}
 use Rattle.std.specs.Str.{bytes_eq}
-use Rattle.std.proofs.lemmas.List.{length-map, same_lists, get_or-map, length-replicate}
+use Rattle.std.proofs.lemmas.List.{length-map, same_lists, get_or-map}
 use Rattle.std.proofs.lemmas.List.Sums.{sum_by-cons}
 use Rattle.std.proofs.lemmas.List.FromFn.{length-map-range_with_len, get_or-map-range_with_len}
 use Rattle.std.proofs.lemmas.Slice.Eq.{bytes_eq-Decides}

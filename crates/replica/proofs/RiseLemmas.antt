@@ -1,12 +1,12 @@
 -- Whatever the batches say, rows keep their shape, and no register falls.
-use Rattle.std.proofs.Common.{◌≡◌, ℕ, zero, suc, ◌/◌, ◌%◌, ◌<◌, ◌≤◌, Bool, true, false, ◌==◌, if◌then◌else◌, List, [], ◌∷◌, length, map, ◌+◌, ◌*◌, get_or, refl, ap, arith, sym, ◌∙◌, subst, IfSome}
+use Rattle.std.proofs.Common.{◌≡◌, ℕ, zero, suc, ◌/◌, ◌<◌, ◌≤◌, Bool, true, false, if◌then◌else◌, List, [], ◌∷◌, length, map, ◌+◌, ◌*◌, get_or, refl, ap, arith, sym, ◌∙◌, subst}
 use Rattle.std.specs.List.{All, filter, range_with_len}
 use Rattle.std.proofs.lemmas.List.FromFn.{length-map-range_with_len, get_or-map-range_with_len}
 use Rattle.ball_model.specs.Counter.{max_each}
 use Rattle.ball_model.specs.Laws.{IsCounterRow}
 use Rattle.ball_model.specs.Figures.{estimate_of}
 use Rattle.ball_model.specs.Batches.{BatchValue, IsBatch}
-use Rattle.ball_model.specs.PlanValue.{PlanValue, IsPlan, part_size}
+use Rattle.ball_model.specs.PlanValue.{part_size}
 use Rattle.ball_model.specs.Job.{PartValue, IsPart}
 use Rattle.ball_model.proofs.EstimateLemmas.{estimate_of-grows_wide}
 use Rattle.replica.specs.Spread.{stands_in, row_after, rows_after, rows_after_all, marked_rows}

@@ -1,5 +1,5 @@
 -- Replicas with one content are equal.
-use Rattle.std.proofs.Common.{◌≡◌, ℕ, ◌+◌, ◌-◌, ◌<◌, ◌≤◌, nat_le, nat_lt, not, Bool, true, false, ◌&&◌, ◌==◌, List, [], length, get_or, refl, ap, arith, sym, ◌∙◌, inl, inr, is_some, IfSome}
+use Rattle.std.proofs.Common.{◌≡◌, ℕ, ◌+◌, ◌-◌, ◌<◌, ◌≤◌, nat_le, nat_lt, not, Bool, true, false, ◌==◌, List, [], get_or, refl, ap, arith, sym, ◌∙◌, inl, inr, is_some, IfSome}
 use Rattle.std.specs.Prelude.{Option, None, Some}
 use Rattle.std.proofs.lemmas.Bool.{cases_eq, cases_lt}
 use Rattle.std.proofs.lemmas.Bool.Decides.{nat_tests}
@@ -10,7 +10,7 @@ use Rattle.ball_model.specs.PlanValue.{PlanValue}
 use Rattle.ball_model.specs.Job.{Job}
 use Rattle.ball_model.specs.Batches.{BatchValue, true_batch}
 use Rattle.ball_model.specs.Content.{Content, IsContent, in_window}
-use Rattle.ball_model.specs.State.{State, StandsFor, content_of, early_at, holds_in, heard_changes, is_heard}
+use Rattle.ball_model.specs.State.{State, content_of, early_at, holds_in, heard_changes, is_heard}
 use Rattle.ball_model.specs.Steps.{Call, Answer, content_after_all}
 use Rattle.ball_model.proofs.PathLemmas.{and_both, eq_true}
 use Rattle.replica.specs.Kept.{IsOfName}

@@ -1,9 +1,9 @@
 -- What a replica begins with.
-use Rattle.std.proofs.Common.{◌≡◌, ℕ, zero, suc, ◌+◌, ◌*◌, ◌^◌, ◌/◌, ◌++◌, ◌<◌, ◌≤◌, max, Bool, true, false, not, ◌&&◌, is_some, lit<, List, [], ◌∷◌, length, map, get_or, set, replicate, refl, ap, arith, sym, subst, ◌∙◌, inl, inr, ◌-◌, IfSome}
-use Rattle.std.specs.Prelude.{Option, None, Result, Ok, Err, IfOk}
+use Rattle.std.proofs.Common.{◌≡◌, ℕ, zero, suc, ◌+◌, ◌*◌, ◌^◌, ◌<◌, ◌≤◌, max, Bool, true, false, is_some, List, [], ◌∷◌, length, map, get_or, set, replicate, refl, ap, arith, sym, subst, ◌∙◌, inl, inr, ◌-◌}
+use Rattle.std.specs.Prelude.{None, Result, Ok, Err, IfOk}
 use Rattle.std.specs.List.{sum_by}
 use Rattle.std.proofs.lemmas.Bool.{cases_eq, cases_lt}
-use Rattle.std.proofs.lemmas.List.{length-map, get_or-replicate, length-replicate, length-set, get_or-set_same, same_lists}
+use Rattle.std.proofs.lemmas.List.{length-map, length-replicate, length-set, same_lists}
 use Rattle.std.proofs.lemmas.List.FromFn.{length-map-range_with_len, get_or-map-range_with_len}
 use Rattle.std.proofs.lemmas.List.Elements.{All-from_get_or}
 use Rattle.ball_model.specs.Hash.{hash_of, index_of, rank_of}

@@ -1,10 +1,10 @@
 -- A replica one superstep later keeps its limits, whatever the batches say.
-use Rattle.std.proofs.Common.{◌≡◌, ℕ, zero, suc, ◌+◌, ◌-◌, ◌<◌, ◌≤◌, Bool, true, false, ◌||◌, List, [], ◌∷◌, ◌++◌, length, map, get_or, replicate, refl, ap, arith, sym, ◌∙◌, subst, inl, inr, is_some, IfSome, length-append}
+use Rattle.std.proofs.Common.{◌≡◌, ℕ, ◌+◌, ◌-◌, ◌<◌, ◌≤◌, Bool, true, false, ◌||◌, List, [], ◌∷◌, ◌++◌, length, map, get_or, replicate, refl, ap, arith, sym, ◌∙◌, subst, inl, inr, is_some, IfSome, length-append}
 use Rattle.std.specs.Prelude.{Option, Some, None}
 use Rattle.std.specs.List.{sum_by}
 use Rattle.std.proofs.Math.ListN.{get_or-append}
 use Rattle.std.proofs.lemmas.Bool.{cases_lt}
-use Rattle.std.proofs.lemmas.List.{get_or_default, get_or-append_right, length-replicate, length-map}
+use Rattle.std.proofs.lemmas.List.{get_or_default, get_or-append_right, length-replicate}
 use Rattle.ball_model.specs.declared.names.BatchName.{BatchName}
 use Rattle.ball_model.specs.Batches.{BatchValue}
 use Rattle.ball_model.specs.PlanValue.{PlanValue}
@@ -16,7 +16,7 @@ use Rattle.figures.specs.Values.{value_of}
 use Rattle.replica.specs.Ahead.{IsTable}
 use Rattle.replica.specs.Change.{Advances}
 use Rattle.replica.specs.Kept.{IsOfName, IsFrom, AreEarly, AreSources, AreSums}
-use Rattle.replica.specs.Level.{total_of, next_tallies, differences}
+use Rattle.replica.specs.Level.{total_of, next_tallies}
 use Rattle.replica.specs.Seen.{IsState}
 use Rattle.replica.proofs.AdvanceLemmas.{if_same}
 use Rattle.replica.proofs.EarlyLemmas.{no_source}

@@ -1,5 +1,5 @@
 -- A replica that receives a batch which it did not hold.
-use Rattle.std.proofs.Common.{◌≡◌, ℕ, ◌+◌, ◌-◌, ◌<◌, ◌≤◌, ◌==◌, nat_le, nat_lt, Bool, true, false, not, ◌&&◌, ◌||◌, List, length, get_or, refl, ap, arith, sym, ◌∙◌, subst, inl, inr, if◌then◌else◌, is_some, IfSome}
+use Rattle.std.proofs.Common.{◌≡◌, ℕ, ◌+◌, ◌-◌, ◌<◌, ◌≤◌, ◌==◌, nat_lt, Bool, true, false, not, ◌&&◌, ◌||◌, List, length, get_or, refl, ap, arith, sym, ◌∙◌, subst, inl, inr, if◌then◌else◌, is_some, IfSome}
 use Rattle.std.specs.Prelude.{Option, Some, None, Result, Ok, Err}
 use Rattle.std.specs.Str.{bytes_eq}
 use Rattle.std.proofs.lemmas.Bool.{cases_eq, cases_lt}
@@ -12,18 +12,17 @@ use Rattle.ball_model.specs.declared.names.TakeError.{TakeError}
 use Rattle.ball_model.specs.declared.names.TakeError.TheVariants as refusal
 use Rattle.ball_model.specs.Accumulated.{accumulated_of}
 use Rattle.ball_model.specs.PlanValue.{PlanValue}
-use Rattle.ball_model.specs.Job.{Job, part_of}
+use Rattle.ball_model.specs.Job.{Job}
 use Rattle.ball_model.specs.Batches.{BatchValue, IsBatch, true_batch}
 use Rattle.ball_model.specs.Content.{Content, take_of, after_take, same_plan}
 use Rattle.ball_model.specs.State.{State, SameShown, StandsFor, KeepsTrue, content_of, early_at, holds_in, is_heard, heard_changes}
 use Rattle.ball_model.proofs.PathLemmas.{and_left, and_right, eq_true, same_true}
 use Rattle.replica.specs.Ahead.{IsTable}
-use Rattle.replica.specs.Change.{Receives}
 use Rattle.replica.specs.Hearing.{Hears, batch_by}
 use Rattle.replica.specs.Index.{targets_of}
 use Rattle.replica.specs.Kept.{IsOfName, AreEarly, AreSources}
 use Rattle.replica.specs.Seen.{IsState}
-use Rattle.replica.proofs.AdvanceLemmas.{holds_now, holds_before, holds_later, if_same, true_at}
+use Rattle.replica.proofs.AdvanceLemmas.{holds_now, holds_before, holds_later, if_same}
 use Rattle.replica.proofs.StateLemmas.{sources_more}
 
 new_chain : (a b c d e f : Bool) (x y z w : Result Taken TakeError) (v : TakeError) → (if a then Err refusal.OtherJob else (if b then Err refusal.NotMine else (if c then Err refusal.OwnPartition else (if d then Ok taken.Old else (if e then Ok taken.Known else (if f then Err v else Ok taken.New)))))) ≡ Ok taken.New →

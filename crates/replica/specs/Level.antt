@@ -1,5 +1,5 @@
 -- A superstep over plain data: what a replica makes of what it has (HyperBall 2013).
-use Rattle.std.specs.Prelude.{◌≡◌, ℕ, ◌+◌, ◌-◌, ◌*◌, ◌/◌, Bool, true, not, ◌==◌, ◌||◌, ◌&&◌, List, [], ◌∷◌, ◌++◌, map, length, Option, None, Some, Result, Ok, Err, false, if◌then◌else◌, slice_index_or, nat_le}
+use Rattle.std.specs.Prelude.{ℕ, ◌+◌, ◌-◌, ◌*◌, ◌/◌, Bool, true, not, ◌==◌, ◌||◌, ◌&&◌, List, [], map, Option, Result, Ok, Err, false, if◌then◌else◌, slice_index_or, nat_le}
 use Rattle.std.specs.List.{range_with_len, list_any, sum_by}
 use Rattle.std.specs.Str.{bytes_eq}
 use Rattle.ball_model.specs.Figures.{TallyValue, estimate_of}

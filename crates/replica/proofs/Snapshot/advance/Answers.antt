@@ -1,4 +1,4 @@
-use Rattle.std.proofs.Common.{◌≡◌, ℕ, ◌+◌, ◌<◌, ◌≤◌, ◌++◌, ◌∷◌, List, [], length, map, refl, ap, sym, ◌∙◌, arith, subst}
+use Rattle.std.proofs.Common.{◌≡◌, ◌+◌, ◌<◌, ◌≤◌, ◌++◌, ◌∷◌, List, [], length, map, refl, ap, sym, ◌∙◌, arith, subst}
 use Rattle.std.specs.Vec.{with_items}
 use Rattle.std.specs.List.{sum_by}
 use Rattle.std.proofs.lemmas.List.{with_items_is, length-map}

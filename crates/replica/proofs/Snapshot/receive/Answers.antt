@@ -1,17 +1,14 @@
 use Rattle.std.proofs.Common.{◌≡◌, true, ap, sym, ◌∙◌, subst, arith}
-use Rattle.std.specs.Prelude.{Some}
 use Rattle.std.specs.Arc.{arc_value}
 use Rattle.ball_model.specs.declared.names.BatchName.{BatchName}
-use Rattle.ball_model.specs.declared.names.Taken.TheVariants as taken
 use Rattle.ball_model.specs.PlanValue.{PlanValue}
 use Rattle.ball_model.specs.Batches.{BatchValue}
-use Rattle.ball_model.specs.Content.{take_of}
-use Rattle.ball_model.specs.State.{State, content_of}
+use Rattle.ball_model.specs.State.{State}
 use Rattle.replica.specs.Kept.{AreCounters}
 use Rattle.replica.specs.Level.{is_over}
 use Rattle.replica.specs.Spread.{AreTouched}
 use Rattle.replica.specs.Seen.{state_of}
-use Rattle.replica.proofs.AccumulatorLemmas.{fields_of, fields_are, kept_snapshot}
+use Rattle.replica.proofs.AccumulatorLemmas.{fields_are, kept_snapshot}
 use Rattle.replica.proofs.OverLemmas.{kept_over, never_over}
 use Rattle.replica.proofs.ReceiveLemmas.{hearable, with_heard, heard_now, kept_later}
 use Rattle.replica.proofs.RiseLemmas.{rise_counters}

@@ -1,7 +1,6 @@
 use Rattle.std.proofs.Common.{◌≡◌, ℕ, zero, suc, ◌<◌, not, Bool, true, false, List, [], ◌∷◌, length, get_or, set, refl, ap, sym, ◌∙◌, arith}
 use Rattle.std.specs.Str.{bytes_eq}
 use Rattle.std.proofs.lemmas.Slice.Eq.{bytes_eq-Decides}
-use Rattle.ball_model.specs.Table.{Table}
 use Rattle.replica.proofs.level.catch_up_row.Goals as goal
 
 set_self : {X : Type 0} (xs : List X) (i : ℕ) (d : X) → i < length xs → xs ≡ set xs i (get_or xs i d)

@@ -1,4 +1,4 @@
-use Rattle.std.proofs.Common.{◌≡◌, ◌||◌, ◌==◌, not, ap, ◌∙◌, sym, subst, refl, set, arith}
+use Rattle.std.proofs.Common.{◌≡◌, ◌||◌, ◌==◌, not, ap, ◌∙◌, sym, subst, set, arith}
 use Rattle.ball_model.specs.declared.names.BatchName.{BatchName}
 use Rattle.ball_model.specs.Table.{Table}
 use Rattle.replica.specs.Kept.{AllRise}

@@ -1,6 +1,5 @@
-use Rattle.std.proofs.Common.{◌≡◌, ap, sym, ◌∙◌, arith}
+use Rattle.std.proofs.Common.{◌∙◌}
 use Rattle.ball_model.specs.State.{early_at}
-use Rattle.replica.specs.Hearing.{Hears, batch_by}
 use Rattle.replica.proofs.HearLemmas.{hears_next}
 use Rattle.replica.proofs.level.hear_early.Goals as goal
 

@@ -1,4 +1,4 @@
-use Rattle.std.proofs.Common.{◌≡◌, ◌+◌, ◌*◌, ◌^◌, ◌<◌, [], length, get_or, set, replicate, refl, ap, ◌∙◌, arith, length-set}
+use Rattle.std.proofs.Common.{◌≡◌, ◌^◌, ◌<◌, [], length, set, replicate, refl, ap, ◌∙◌, arith, length-set}
 use Rattle.ball_model.specs.Table.{Table}
 use Rattle.replica.specs.Start.{first_row}
 use Rattle.replica.proofs.StartLemmas.{first_rows-is}

@@ -1,4 +1,4 @@
-use Rattle.std.proofs.Common.{◌≡◌, ℕ, ◌+◌, ◌*◌, ◌^◌, ◌<◌, ◌≤◌, slice_index_or, length, [], replicate}
+use Rattle.std.proofs.Common.{◌≡◌, ℕ, ◌^◌, ◌<◌, ◌≤◌, slice_index_or, length, [], replicate}
 use Rattle.replica.specs.Start.{first_row}
 use Rattle.replica.proofs.start.start_rows.Given as goal
 

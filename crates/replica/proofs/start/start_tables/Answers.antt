@@ -1,8 +1,3 @@
-use Rattle.std.proofs.Common.{◌≡◌, ap, ◌∙◌, sym, subst}
-use Rattle.ball_model.specs.Job.{PartValue}
-use Rattle.ball_model.specs.PlanValue.{PlanValue}
-use Rattle.ball_model.specs.Table.{Table}
-use Rattle.replica.specs.Kept.{AreCounters}
 use Rattle.replica.proofs.StartLemmas.{first_counters}
 use Rattle.replica.proofs.start.start_tables.Goals as goal
 

@@ -1,4 +1,4 @@
-use Rattle.std.proofs.Common.{◌≡◌, ◌≤◌, List, ℕ, length, ap, sym, ◌∙◌, subst, arith}
+use Rattle.std.proofs.Common.{◌≡◌, ◌≤◌, List, ℕ, length, ap, sym, ◌∙◌, arith}
 use Rattle.ball_model.specs.Table.{Table}
 use Rattle.replica.specs.Kept.{AllRise}
 use Rattle.replica.specs.Level.{differences}

@@ -1,5 +1,4 @@
-use Rattle.std.proofs.Common.{◌≡◌, ◌+◌, ◌*◌, option_map, map, get_or, ap, sym, ◌∙◌, arith}
-use Rattle.std.specs.Prelude.{None}
+use Rattle.std.proofs.Common.{option_map, map, ap, sym, ◌∙◌, arith}
 use Rattle.std.specs.Arc.{arc_value}
 use Rattle.ball_model.specs.State.{early_at}
 use Rattle.replica.proofs.EarlyLemmas.{early_in, out_level, out_source}

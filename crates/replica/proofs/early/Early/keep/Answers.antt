@@ -1,12 +1,11 @@
-use Rattle.std.proofs.Common.{◌≡◌, ◌+◌, ◌*◌, ◌<◌, List, length, map, option_map, replicate, refl, ap, sym, ◌∙◌, subst, arith}
+use Rattle.std.proofs.Common.{◌≡◌, ◌*◌, ◌<◌, List, length, map, option_map, refl, sym, ◌∙◌, subst, arith}
 use Rattle.std.specs.Prelude.{Option}
 use Rattle.std.specs.Arc.{arc_value}
 use Rattle.std.specs.Vec.{with_items}
 use Rattle.std.proofs.lemmas.List.{with_items_is, length-map}
 use Rattle.ball_model.specs.Batches.{BatchValue}
-use Rattle.ball_model.specs.State.{early_at}
 use Rattle.replica.specs.Ahead.{table_of, IsTable}
-use Rattle.replica.proofs.EarlyLemmas.{kept_at, shift_at, fill_at, empty_at, table_is, as_many, place_fits}
+use Rattle.replica.proofs.EarlyLemmas.{kept_at, table_is, as_many, place_fits}
 use Rattle.replica.proofs.early.Early.keep.Goals as goal
 
 pub put-requires : goal.put-requires
