@@ -1,6 +1,6 @@
 use Rattle.std.proofs.Common.{◌≡◌}
 use Rattle.board.specs.Seats.{IsAt}
-use Rattle.board.proofs.tests.post_from.Given as goal
+use Rattle.board.proofs.tests.threads.post_from.Given as goal
 
 abbrev pub invariant-loop-batch : goal.invariant-loop-batch
 invariant-loop-batch g l = IsAt l.board l.seat × (l.seat.seen.job ≡ record { graph = l.graph.graph; plan = l.plan })

@@ -2,7 +2,7 @@ use denote.Param.Send.{IsSync, sendable}
 use Rattle.std.proofs.Crossing.{crosses}
 use Rattle.board.specs.contracts.tests.Stock as stock
 use Rattle.board.proofs.CrossingLemmas.{seat_send, board_sync, graph_sync, plan_sync, batches_sync, snapshots_sync}
-use Rattle.board.proofs.tests.+crowd+fn-crowd-join+arg3.Goals as goal
+use Rattle.board.proofs.tests.threads.+crowd+fn-crowd-join+arg3.Goals as goal
 
 -- threads may share what they post and keep
 stock_sync : IsSync stock.the_row

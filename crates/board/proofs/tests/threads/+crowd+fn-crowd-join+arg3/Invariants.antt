@@ -1,5 +1,5 @@
 use Rattle.std.proofs.Common.{◌+◌, ◌*◌}
-use Rattle.board.proofs.tests.+crowd+fn-crowd-join+arg3.Given as goal
+use Rattle.board.proofs.tests.threads.+crowd+fn-crowd-join+arg3.Given as goal
 
 abbrev pub decreases-crowd : goal.decreases-crowd
 decreases-crowd g l = 2 * l.others + 1

@@ -2,7 +2,7 @@ use denote.Param.Send.{IsSync, sendable}
 use Rattle.std.proofs.Crossing.{crosses}
 use Rattle.board.specs.contracts.tests.Stock as stock
 use Rattle.board.proofs.CrossingLemmas.{seat_send, board_sync, graph_sync, plan_sync, batches_sync, snapshots_sync}
-use Rattle.board.proofs.tests.two_post.Goals as goal
+use Rattle.board.proofs.tests.threads.two_post.Goals as goal
 
 stock_sync : IsSync stock.the_row
 stock_sync = search (sendable, batches_sync, snapshots_sync) depth 20

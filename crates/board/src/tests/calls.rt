@@ -1,0 +1,322 @@
+//! Calls of one caller, and of seats that are split and joined.
+
+ghost use Rattle.std.specs.Prelude.{◌≡◌, ◌*◌, ◌<◌, ◌≤◌, ◌^◌};
+ghost use Rattle.std.specs.List.{All};
+ghost use Rattle.std.specs.Arc.{arc_value};
+ghost use Rattle.ball_model.specs.Job.{IsJob};
+ghost use Rattle.board.specs.Seats.{job_of, IsTrueIn, Stands, IsAt};
+
+use super::*;
+
+/// With two entries: a post, the length, two fetches and a post again.
+fn fills_two_entries<R: Wait>(
+    rt: &R,
+    board: &Board,
+    seat: &mut Seat,
+    graph: &Graph,
+    plan: &Plan,
+    batch: &Arc<Batch>,
+) -> bool
+    requires board { IsAt board.now seat.old }
+    requires job { seat.old.seen.job ≡ job_of graph.now.graph plan.now }
+    requires batch { IsTrueIn (job_of graph.now.graph plan.now) (arc_value batch.now) }
+{
+    let posted = post(rt, board, seat, graph, plan, batch);
+    let length = board.length(seat);
+    let other = fetches(rt, board, seat, name(0, 1));
+    let full = fetches(rt, board, seat, name(0, 0));
+    let again = post(rt, board, seat, graph, plan, batch);
+    posted == Ok(Posted::New)
+        && length == 2
+        && other == Ok(None)
+        && full == Err(BoardError::BookFull)
+        && again == Err(BoardError::BookFull)
+}
+
+#[test]
+fn board_of_two_entries(rt: HostRuntime) -> Result<(), Fail> {
+    let right = is_right(&rt, rt.alloc(), Case::Calls(Calls::OfTwoEntries));
+    assert!(rt; right == Some(true));
+    Ok(())
+}
+
+/// With eight entries: a post, a fetch, a floor of 1, a fetch and a post again.
+fn drops_below_the_floor<R: Wait>(
+    rt: &R,
+    board: &Board,
+    seat: &mut Seat,
+    graph: &Graph,
+    plan: &Plan,
+    batch: &Arc<Batch>,
+) -> bool
+    requires board { IsAt board.now seat.old }
+    requires job { seat.old.seen.job ≡ job_of graph.now.graph plan.now }
+    requires batch { IsTrueIn (job_of graph.now.graph plan.now) (arc_value batch.now) }
+    ensures board { IsAt board.now seat.new }
+    ensures job { seat.new.seen.job ≡ job_of graph.now.graph plan.now }
+{
+    let posted = post(rt, board, seat, graph, plan, batch);
+    let found = fetches(rt, board, seat, name(0, 0));
+    let dropped = drop_below(rt, board, seat, 1).is_ok();
+    let gone = fetches(rt, board, seat, name(0, 0));
+    let late = post(rt, board, seat, graph, plan, batch);
+    posted == Ok(Posted::New)
+        && found == Ok(Some(name(0, 0)))
+        && dropped
+        && gone == Ok(None)
+        && late == Ok(Posted::Old)
+}
+
+/// With eight entries, of which four are there: the snapshot of superstep 1 kept twice, recalled where it is far enough,
+/// and the length.
+fn keeps_the_furthest<R: Wait>(
+    rt: &R,
+    board: &Board,
+    seat: &mut Seat,
+    graph: &Graph,
+    plan: &Plan,
+    snapshot: &Arc<Snapshot>,
+) -> bool
+    requires board { IsAt board.now seat.old }
+    requires job { seat.old.seen.job ≡ job_of graph.now.graph plan.now }
+    requires snapshot { Stands (job_of graph.now.graph plan.now) (arc_value snapshot.now) }
+{
+    let kept = keep(rt, board, seat, graph, plan, snapshot);
+    let again = keep(rt, board, seat, graph, plan, snapshot);
+    let found = recalls(rt, board, seat, 0, 1);
+    let none = recalls(rt, board, seat, 0, 2);
+    kept == Ok(Kept::New)
+        && again == Ok(Kept::Behind)
+        && found == Ok(Some(1))
+        && none == Ok(None)
+        && board.length(seat) == 8
+}
+
+#[test]
+fn board_of_eight_entries(rt: HostRuntime) -> Result<(), Fail> {
+    let right = is_right(&rt, rt.alloc(), Case::Calls(Calls::OfEightEntries));
+    assert!(rt; right == Some(true));
+    Ok(())
+}
+
+/// One name posted twice, and the length.
+fn posts_twice<R: Wait>(
+    rt: &R,
+    board: &Board,
+    seat: &mut Seat,
+    graph: &Graph,
+    plan: &Plan,
+    batch: &Arc<Batch>,
+) -> bool
+    requires board { IsAt board.now seat.old }
+    requires job { seat.old.seen.job ≡ job_of graph.now.graph plan.now }
+    requires batch { IsTrueIn (job_of graph.now.graph plan.now) (arc_value batch.now) }
+{
+    let posted = post(rt, board, seat, graph, plan, batch);
+    let again = post(rt, board, seat, graph, plan, batch);
+    posted == Ok(Posted::New) && again == Ok(Posted::Known) && board.length(seat) == 3
+}
+
+#[test]
+fn one_name_posted_twice(rt: HostRuntime) -> Result<(), Fail> {
+    let right = is_right(&rt, rt.alloc(), Case::Calls(Calls::PostedTwice));
+    assert!(rt; right == Some(true));
+    Ok(())
+}
+
+/// A post by one seat, the length and a fetch by another, and the length once a third is split and joined.
+fn splits_and_joins<R: Wait>(
+    rt: &R,
+    board: &Board,
+    seat: &mut Seat,
+    graph: &Graph,
+    plan: &Plan,
+    batch: &Arc<Batch>,
+) -> bool
+    requires board { IsAt board.now seat.old }
+    requires job { seat.old.seen.job ≡ job_of graph.now.graph plan.now }
+    requires batch { IsTrueIn (job_of graph.now.graph plan.now) (arc_value batch.now) }
+    requires room { 1024 * 1024 ≤ seat.old.room }
+{
+    let mut other = seat.split(board);
+    let posted = post(rt, board, seat, graph, plan, batch);
+    let length = board.length(&mut other);
+    let found = fetches(rt, board, &mut other, name(0, 0));
+    let third = other.split(board);
+    board.join(seat, third);
+    posted == Ok(Posted::New)
+        && length == 2
+        && found == Ok(Some(name(0, 0)))
+        && board.length(seat) == 3
+}
+
+#[test]
+fn seats_split_and_joined(rt: HostRuntime) -> Result<(), Fail> {
+    let right = is_right(&rt, rt.alloc(), Case::Calls(Calls::SplitAndJoined));
+    assert!(rt; right == Some(true));
+    Ok(())
+}
+
+/// What one thread calls at a board of its own.
+#[derive(Clone, Copy)]
+pub(super) enum Calls {
+    OfTwoEntries,
+    OfEightEntries,
+    PostedTwice,
+    SplitAndJoined,
+}
+
+impl Calls {
+    /// How many entries the board may have.
+    fn limit(self) -> u32
+        ensures { (2 ≤ result) × (result ≤ 2 ^ 24) }
+    {
+        match self {
+            Calls::OfTwoEntries => 2,
+            Calls::OfEightEntries | Calls::PostedTwice => 8,
+            Calls::SplitAndJoined => 16,
+        }
+    }
+}
+
+/// Whether a new board answers its first seat as it should.
+fn answers<R: Wait>(
+    rt: &R,
+    board: &Board,
+    seat: &mut Seat,
+    graph: &Graph,
+    plan: &Plan,
+    batch: &Arc<Batch>,
+    snapshot: &Arc<Snapshot>,
+    calls: Calls,
+) -> bool
+    requires board { IsAt board.now seat.old }
+    requires job { seat.old.seen.job ≡ job_of graph.now.graph plan.now }
+    requires batch { IsTrueIn (job_of graph.now.graph plan.now) (arc_value batch.now) }
+    requires snapshot { Stands (job_of graph.now.graph plan.now) (arc_value snapshot.now) }
+    requires room { 1024 * 1024 ≤ seat.old.room }
+{
+    match calls {
+        Calls::OfTwoEntries => fills_two_entries(rt, board, seat, graph, plan, batch),
+        Calls::OfEightEntries => {
+            drops_below_the_floor(rt, board, seat, graph, plan, batch)
+                && keeps_the_furthest(rt, board, seat, graph, plan, snapshot)
+        }
+        Calls::PostedTwice => posts_twice(rt, board, seat, graph, plan, batch),
+        Calls::SplitAndJoined => splits_and_joins(rt, board, seat, graph, plan, batch),
+    }
+}
+
+/// The same, by what there is in stock.
+fn answers_from<R: Wait>(
+    rt: &R,
+    board: &Board,
+    seat: &mut Seat,
+    graph: &Graph,
+    plan: &Plan,
+    stock: &Stock,
+    calls: Calls,
+) -> Option<bool>
+    requires board { IsAt board.now seat.old }
+    requires job { seat.old.seen.job ≡ job_of graph.now.graph plan.now }
+    requires batches { All (λ a. IsTrueIn (job_of graph.now.graph plan.now) (arc_value a))
+        stock.now.batches.items }
+    requires snapshots { All (λ a. Stands (job_of graph.now.graph plan.now) (arc_value a))
+        stock.now.snapshots.items }
+    requires room { 1024 * 1024 ≤ seat.old.room }
+{
+    let batch = stock.batches.first()?;
+    let snapshot = stock.snapshots.get(1)?;
+    Some(answers(rt, board, seat, graph, plan, batch, snapshot, calls))
+}
+
+/// Whether a board that is opened for these calls answers them as it should.
+pub(super) fn is_right_board<R: Wait>(
+    rt: &R,
+    alloc: Global,
+    graph: &Graph,
+    plan: &Plan,
+    stock: &Stock,
+    calls: Calls,
+) -> Option<bool>
+    requires job { IsJob (job_of graph.now.graph plan.now) }
+    requires batches { All (λ a. IsTrueIn (job_of graph.now.graph plan.now) (arc_value a))
+        stock.now.batches.items }
+    requires snapshots { All (λ a. Stands (job_of graph.now.graph plan.now) (arc_value a))
+        stock.now.snapshots.items }
+{
+    let (board, mut seat) = Board::open(alloc, graph, plan, calls.limit()).ok()?;
+    answers_from(rt, &board, &mut seat, graph, plan, stock, calls)
+}
+
+/// Whether a board of so many entries answers up to them, and then no more: eight posts, eight fetches, the length.
+fn is_full_at<R: Wait>(
+    rt: &R,
+    board: &Board,
+    seat: &mut Seat,
+    graph: &Graph,
+    plan: &Plan,
+    batches: &[Arc<Batch>],
+    entries: u32,
+) -> bool
+    requires board { IsAt board.now seat.old }
+    requires job { seat.old.seen.job ≡ job_of graph.now.graph plan.now }
+    requires batches { All (λ a. IsTrueIn (job_of graph.now.graph plan.now) (arc_value a))
+        batches.now }
+    requires entries { 2 ≤ entries }
+{
+    let room = entries as usize - 1;
+    let posted = post_all(rt, board, seat, graph, plan, batches);
+    let found = find_all(rt, board, seat, batches);
+    let full = drop_below(rt, board, seat, 0) == Err(BoardError::BookFull);
+    let missing = fetches(rt, board, seat, name(9, 0));
+    posted == room.min(8)
+        && found == room.saturating_sub(8).min(8)
+        && full == (entries < 18)
+        && missing == Ok(None)
+        && board.length(seat) == u64::from(entries)
+}
+
+/// Whether a board fills up so.
+fn fills_up<R: Wait>(
+    rt: &R,
+    alloc: Global,
+    graph: &Graph,
+    plan: &Plan,
+    batches: &[Arc<Batch>],
+    entries: u32,
+) -> Option<bool>
+    requires job { IsJob (job_of graph.now.graph plan.now) }
+    requires batches { All (λ a. IsTrueIn (job_of graph.now.graph plan.now) (arc_value a))
+        batches.now }
+    requires entries { (2 ≤ entries) × (entries ≤ 2 ^ 24) }
+{
+    let (board, mut seat) = Board::open(alloc, graph, plan, entries).ok()?;
+    Some(is_full_at(rt, &board, &mut seat, graph, plan, batches, entries))
+}
+
+/// Whether a board fills up at each number of entries from 2 to 18.
+pub(super) fn all_fill_up<R: Wait>(
+    rt: &R,
+    alloc: Global,
+    graph: &Graph,
+    plan: &Plan,
+    batches: &[Arc<Batch>],
+) -> Option<bool>
+    requires job { IsJob (job_of graph.now.graph plan.now) }
+    requires batches { All (λ a. IsTrueIn (job_of graph.now.graph plan.now) (arc_value a))
+        batches.now }
+{
+    let mut all = true;
+    for entries in 2..19 {
+        all &= fills_up(rt, alloc, graph, plan, batches, entries)?;
+    }
+    Some(all)
+}
+
+#[test]
+fn full_books(rt: HostRuntime) -> Result<(), Fail> {
+    let right = is_right(&rt, rt.alloc(), Case::FullBooks);
+    assert!(rt; right == Some(true));
+    Ok(())
+}
