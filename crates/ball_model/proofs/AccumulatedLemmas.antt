@@ -70,7 +70,8 @@ or_mixed false true true d = refl
 or_mixed false true false d = refl
 or_mixed false false c d = refl
 
-or_split : (p q r : ℕ → Bool) (xs : List ℕ) → ((z : ℕ) → p z ≡ (q z || r z)) → list_any p xs ≡ (list_any q xs || list_any r xs)
+-- what one of two tests passes is what one passes or the other does
+pub or_split : (p q r : ℕ → Bool) (xs : List ℕ) → ((z : ℕ) → p z ≡ (q z || r z)) → list_any p xs ≡ (list_any q xs || list_any r xs)
 or_split p q r [] h = refl
 or_split p q r (x ∷ xs) h = rw (h x, or_split p q r xs h) (or_mixed (q x) (r x) (list_any q xs) (list_any r xs))
 

@@ -54,16 +54,13 @@ accumulated_of-same j p t a b same =
 pub accumulated_of-alike : (j : Job) (p t : ℕ) (a b : ℕ → Bool) → IsGraph j.graph → ((z : ℕ) → z < j.graph.vertices → a z ≡ b z) → accumulated_of j p t a ≡ accumulated_of j p t b
 accumulated_of-alike j p t a b ok same = accumulated_of-same j p t a b (λ x z member edge changed. same z (edge_below j.graph z x ok edge).0)
 
-or_true : (a b : Bool) → b ≡ true → true ≡ (a || b)
-or_true a b e = sym (or_right a b e)
-
 -- where every source but p is heard, and p itself, they are the rows at the next superstep
 pub accumulated_of-level : (j : Job) (p t : ℕ) (mask : ℕ → Bool) → IsGraph j.graph → 0 < j.plan.parts → ((q : ℕ) → q < j.plan.parts → q ≢ p → mask q ≡ true) →
     accumulated_of j p t (λ z. mask (z % j.plan.parts) || (z % j.plan.parts == p)) ≡ rows_of j p (t + 1)
 accumulated_of-level j p t mask ok some all =
     sym (accumulated_of-alike j p t (λ z. true) (λ z. mask (z % j.plan.parts) || (z % j.plan.parts == p)) ok
     (λ z lt. elim (cases_eq (z % j.plan.parts) p) [
-      | inl own ↦ or_true (mask (z % j.plan.parts)) (z % j.plan.parts == p) (ap (λ k. k == p) own ∙ eq-eqb p p refl)
+      | inl own ↦ sym (or_right (mask (z % j.plan.parts)) (z % j.plan.parts == p) (ap (λ k. k == p) own ∙ eq-eqb p p refl))
       | inr other ↦ sym (or_left (mask (z % j.plan.parts)) (z % j.plan.parts == p) (all (z % j.plan.parts) (mod-lt z some) other))
     ]))
     ∙ accumulated_of-all j p t ok

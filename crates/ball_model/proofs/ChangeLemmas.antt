@@ -1,6 +1,6 @@
 -- Only changed predecessors count.
 use Rattle.std.proofs.Common.{◌≡◌, ℕ, zero, suc, ◌+◌, ◌-◌, ◌<◌, Bool, true, false, not, ◌&&◌, ◌||◌, ◌==◌, List, [], ◌∷◌, if◌then◌else◌, refl, ap, arith, sym, ◌∙◌, tests}
-use Rattle.std.proofs.lemmas.Bool.{and_from, and_parts, or_left}
+use Rattle.std.proofs.lemmas.Bool.{and_from, and_parts, or_left, not-false}
 use Rattle.std.specs.List.{range_with_len, filter, fold, AllByRecursion}
 use Rattle.std.specs.Str.{bytes_eq}
 use Rattle.std.proofs.lemmas.Slice.Eq.{bytes_eq-Decides}
@@ -9,16 +9,12 @@ use Rattle.ball_model.specs.Counter.{Mixing, counter_of, ball_counter, max_each}
 use Rattle.ball_model.specs.Graph.{in_ball_before}
 use Rattle.ball_model.specs.Change.{changed_at}
 use Rattle.ball_model.proofs.PathLemmas.{in_ball-step}
-use Rattle.ball_model.proofs.CounterLemmas.{counter_of-same, counter_of-or, ball_counter-suc}
-
-not_false : (b : Bool) → not b ≡ false → b ≡ true
-not_false true e = refl
-not_false false e = absurd (cc)
+use Rattle.ball_model.proofs.CounterLemmas.{counter_of-same, counter_of-or, ball_counter-suc, kept_one}
 
 -- a vertex that has not changed has the counter from before
 unchanged_counter : (m : Mixing) (g : Graph) (z t : ℕ) → changed_at m g z t ≡ false → ball_counter m g z t ≡ counter_of m g.vertices (λ y. in_ball_before g z t y && is_counted g y)
 unfolding changed_at
-unchanged_counter m g z t e = grind (arith, bytes_eq-Decides, not_false)
+unchanged_counter m g z t e = grind (arith, bytes_eq-Decides, not-false)
 
 -- what was in a predecessor's ball before is in the ball
 before_in : (g : Graph) (x z t y : ℕ) → IsGraph g → is_edge g z x ≡ true → in_ball_before g z t y ≡ true → in_ball g x t y ≡ true
@@ -64,10 +60,6 @@ pub changed_only : (m : Mixing) (g : Graph) (x t : ℕ) (A : ℕ → Bool) (zs :
 changed_only m g x t A [] ok edges has = refl
 changed_only m g x t A (z ∷ zs) ok edges has =
     one_more m g x z t A (changed_at m g z t) zs ok edges.0 has refl (λ B hasB. changed_only m g x t B zs ok edges.1 hasB)
-
-kept_one : (b : Bool) (P : ℕ → Type 0) (x : ℕ) (rest : List ℕ) → (b ≡ true → P x) → AllByRecursion P rest → AllByRecursion P (if b then (x ∷ rest) else rest)
-kept_one true P x rest here later = (here refl, later)
-kept_one false P x rest here later = later
 
 -- what a filter keeps passes
 pub filter_passes : (q : ℕ → Bool) (xs : List ℕ) → AllByRecursion (λ z. q z ≡ true) (filter q xs)

@@ -3,7 +3,7 @@ use Rattle.std.proofs.Common.{◌≡◌, ℕ, zero, suc, ◌+◌, ◌<◌, ◌�
 use Rattle.std.proofs.Math.Bool.{or_assoc, or-false, and-or_distrib_right}
 use Rattle.std.specs.List.{list_any, range_with_len, filter, fold, AllByRecursion}
 use Rattle.ball_model.specs.Hash.{hash_of, index_of, rank_of}
-use Rattle.ball_model.specs.Graph.{Graph, IsGraph, is_edge, in_ball, preds_of, is_counted}
+use Rattle.ball_model.specs.Graph.{Graph, IsGraph, in_ball, preds_of, is_counted}
 use Rattle.ball_model.specs.Counter.{Mixing, register_of, counter_of, ball_counter, max_each}
 use Rattle.ball_model.proofs.GreatestLemmas.{greatest-or, greatest-same}
 use Rattle.ball_model.proofs.PathLemmas.{in_ball-suc}
@@ -72,23 +72,11 @@ ball_counter-suc m g x t ok lt =
     (λ y. (in_ball g x t y && is_counted g y) || list_any (λ z. in_ball g z t y && is_counted g y) (preds_of g x)) (λ y below. counted_ball-suc g x t y ok lt)
     ∙ counter_of-union m g.vertices (λ y. in_ball g x t y && is_counted g y) (λ z y. in_ball g z t y && is_counted g y) (preds_of g x)
 
--- once no vertex is changed, none is
-pub fold-same : (F G : ℕ → List ℕ) (start : List ℕ) (zs : List ℕ) → AllByRecursion (λ z. F z ≡ G z) zs → fold (λ acc z. max_each acc (F z)) start zs ≡ fold (λ acc z. max_each acc (G z)) start zs
-fold-same F G start [] h = refl
-fold-same F G start (z ∷ zs) h = ap (λ row. fold (λ acc w. max_each acc (F w)) (max_each start row) zs) h.0 ∙ fold-same F G (max_each start (G z)) zs h.1
-
-filtered_one : (b : Bool) (P : ℕ → Type 0) (x : ℕ) (rest : List ℕ) → P x → AllByRecursion P rest → AllByRecursion P (if b then (x ∷ rest) else rest)
-filtered_one true P x rest here later = (here, later)
-filtered_one false P x rest here later = later
+-- what holds of a filtered list, with one more item in front that is kept where the test says so
+pub kept_one : (b : Bool) (P : ℕ → Type 0) (x : ℕ) (rest : List ℕ) → (b ≡ true → P x) → AllByRecursion P rest → AllByRecursion P (if b then (x ∷ rest) else rest)
+kept_one true P x rest here later = (here refl, later)
+kept_one false P x rest here later = later
 
 pub range_all : (P : ℕ → Type 0) (q : ℕ → Bool) (a n bound : ℕ) → a + n ≤ bound → ((k : ℕ) → k < bound → P k) → AllByRecursion P (filter q (range_with_len a n))
 range_all P q a zero bound fits h = tt
-range_all P q a (suc n) bound fits h = filtered_one (q a) P a _ (h a (omega arith)) (range_all P q (a + 1) n bound (omega arith) h)
-
-pub ball_counter-stays : (m : Mixing) (g : Graph) (s t : ℕ) → IsGraph g → ((x : ℕ) → x < g.vertices → ball_counter m g x s ≡ ball_counter m g x t) →
-    (x : ℕ) → x < g.vertices → ball_counter m g x (s + 1) ≡ ball_counter m g x (t + 1)
-ball_counter-stays m g s t ok same x lt =
-    ball_counter-suc m g x s ok lt
-    ∙ ap (λ row. fold (λ acc z. max_each acc (ball_counter m g z s)) row (preds_of g x)) (same x lt)
-    ∙ fold-same (λ z. ball_counter m g z s) (λ z. ball_counter m g z t) (ball_counter m g x t) (preds_of g x) (range_all (λ z. ball_counter m g z s ≡ ball_counter m g z t) (λ y. is_edge g y x) 0 g.vertices g.vertices (omega arith) same)
-    ∙ sym (ball_counter-suc m g x t ok lt)
+range_all P q a (suc n) bound fits h = kept_one (q a) P a _ (λ e. h a (omega arith)) (range_all P q (a + 1) n bound (omega arith) h)

@@ -1,18 +1,11 @@
-use Rattle.std.proofs.Common.{◌≡◌, ℕ, zero, suc, ◌+◌, ◌-◌, ◌<◌, ◌≤◌, ◌^◌, ◌*◌, ◌/◌, ◌%◌, inl, inr, Bool, true, false, nat_le, nat_eq, if◌then◌else◌, ◌==◌, bit_and, add-one, mul_comm, arith, ◌∙◌, sym, ap, refl, tests}
+use Rattle.std.proofs.Common.{◌≡◌, ℕ, zero, suc, ◌+◌, ◌-◌, ◌<◌, ◌≤◌, ◌^◌, ◌*◌, ◌/◌, ◌%◌, inl, inr, Bool, false, nat_le, nat_eq, if◌then◌else◌, ◌==◌, bit_and, add-one, mul_comm, arith, ◌∙◌, sym, ap, refl, tests}
 use Rattle.std.specs.Int.Count.{count_leading_zeros, leading_of_zero}
 use Rattle.std.proofs.lemmas.Nat.{leading_top, and_mask, pow_pos, pow-add}
 use Rattle.std.proofs.Math.Nat.{pow-le-pow_right, div-lt_iff_lt-mul}
-use Rattle.std.proofs.lemmas.Bool.{cases_lt}
-use Rattle.std.proofs.lemmas.Bool.Decides.{nat_tests}
+use Rattle.std.proofs.lemmas.Bool.{cases_lt, le-leb, leb-true}
 use Rattle.ball_model.specs.Hash.{floor_log2, rank_of, tail_of}
 use Rattle.ball_model.specs.Greatest.{greatest}
 use Rattle.ball_model.proofs.GreatestLemmas.{greatest-bounds, greatest-least}
-
-passes : (a b : ℕ) → a ≤ b → nat_le a b ≡ true
-passes a b h = search (tests, arith)
-
-holds : (a b : ℕ) → nat_le a b ≡ true → a ≤ b
-holds a b h = grind (arith, nat_tests)
 
 -- a number between two powers has the lower one's exponent
 pub floor_log2-between : (n j : ℕ) → 2 ^ j ≤ n → n < 2 ^ (j + 1) → j < 32 → floor_log2 n ≡ j
@@ -20,10 +13,10 @@ unfolding floor_log2
 floor_log2-between n j low high lt =
     let p : ℕ → Bool = λ i. nat_le (2 ^ i) n in
     let f : ℕ → ℕ = λ i. i in
-    let above : j ≤ greatest p f 32 = greatest-bounds p f 32 j lt (passes (2 ^ j) n low) in
+    let above : j ≤ greatest p f 32 = greatest-bounds p f 32 j lt (le-leb (2 ^ j) n low) in
     let below : greatest p f 32 ≤ j = greatest-least p f 32 j (λ i small pass.
     elim (cases_lt j i) [
-      | inl more ↦ let le : 2 ^ (j + 1) ≤ 2 ^ i = pow-le-pow_right (omega arith) (omega arith) in absurd (omega (arith, holds (2 ^ i) n pass))
+      | inl more ↦ let le : 2 ^ (j + 1) ≤ 2 ^ i = pow-le-pow_right (omega arith) (omega arith) in absurd (omega (arith, leb-true (2 ^ i) n pass))
       | inr less ↦ less
     ]) in
     omega arith

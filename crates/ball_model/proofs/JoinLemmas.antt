@@ -2,13 +2,12 @@
 use Rattle.std.proofs.Common.{◌≡◌, ◌↔◌, ◌⊎◌, ℕ, zero, suc, ◌+◌, ◌<◌, ◌≤◌, max, Bool, true, not, ◌==◌, ◌&&◌, ◌||◌, nat_le, nat_lt, IsTrue, List, ◌∷◌, map, refl, ap, sym, ◌∙◌, subst, inl, inr, arith}
 use Rattle.std.specs.Cmp.{both_ways}
 use Rattle.std.specs.List.{filter, flat_map, list_any, range_with_len}
-use Rattle.std.proofs.lemmas.Bool.{leb-true, le-leb, ltb-true, lt-ltb, and_parts, cases_Bool, cases_eq, eq-eqb, or_cases, or_left, or_right}
+use Rattle.std.proofs.lemmas.Bool.{leb-true, le-leb, ltb-true, lt-ltb, and_parts, cases_Bool, cases_eq, eqb-true, eq-eqb, or_cases, or_left, or_right}
 use Rattle.std.proofs.lemmas.List.Folds.{list_any-append}
 use Rattle.ball_model.specs.declared.names.BatchName.{BatchName}
 use Rattle.ball_model.specs.PlanValue.{PlanValue}
 use Rattle.ball_model.specs.Content.{Content, IsContent, in_window, names_of}
 use Rattle.ball_model.specs.Join.{Holding, IsHolding, AreAlike, has_name, content_in, holding_of, union_of, join_of}
-use Rattle.ball_model.proofs.PathLemmas.{eq_true, same_true}
 
 -- ---- contents
 -- a content is its superstep and what it holds
@@ -140,8 +139,8 @@ named_out p r s q test a (suc n) e =
           elim (or_cases ((r == s) && (a == q)) (list_any (is_name s q) (names_at p test r (range_with_len (a + 1) n))) found) [
             | inl here ↦
                 let both = and_parts (r == s) (a == q) here in
-                let same : a ≡ q = eq_true a q both.1 in
-                record { superstep = eq_true r s both.0; from = omega arith; to = omega arith; passes = ap test (sym same) ∙ passes }
+                let same : a ≡ q = eqb-true a q both.1 in
+                record { superstep = eqb-true r s both.0; from = omega arith; to = omega arith; passes = ap test (sym same) ∙ passes }
             | inr more ↦ later more
           ]
       | inr fails ↦ later (rw fails at e)
@@ -154,7 +153,7 @@ named_in p s q test a (suc n) from to passes =
       | inl here ↦
           let test_here : test a ≡ true = ap test here ∙ passes in
           let same : (a == q) ≡ true = eq-eqb a q here in
-          rw (test_here, same_true s, same) refl
+          rw (test_here, eq-eqb s s refl, same) refl
       | inr before ↦
           let more : list_any (is_name s q) (names_at p test s (range_with_len (a + 1) n)) ≡ true = named_in p s q test (a + 1) n (omega arith) (omega arith) passes in
           elim (cases_Bool (test a)) [

@@ -1,5 +1,5 @@
 -- Feed masks, bit by bit.
-use Rattle.std.proofs.Common.{◌≡◌, ◌∙◌, ℕ, zero, suc, ◌+◌, ◌-◌, ◌*◌, ◌%◌, ◌^◌, ◌<◌, ◌≤◌, Bool, true, false, ◌&&◌, ◌==◌, List, [], ◌∷◌, if◌then◌else◌, refl, ap, arith, sym, subst, inl, inr, tests}
+use Rattle.std.proofs.Common.{◌≡◌, ◌∙◌, ℕ, zero, suc, ◌+◌, ◌-◌, ◌*◌, ◌%◌, ◌^◌, ◌<◌, ◌≤◌, Bool, true, false, ◌&&◌, ◌==◌, List, [], ◌∷◌, if◌then◌else◌, refl, ap, arith, sym, subst, inl, inr, tests, pow_mono}
 use Rattle.std.specs.Int.{bit_at}
 use Rattle.std.specs.List.{list_any, range_with_len, sum_by}
 use Rattle.std.proofs.Math.Nat.{mod-lt, pow-succ'}
@@ -72,20 +72,12 @@ no-feed (e ∷ es) parts y r some le =
     let off : (e.1 % parts == r) ≡ false = search (tests, arith) in
     rw (off, and-false (e.0 == y), no-feed es parts y r some le) refl
 
-pub pow-up : (a b : ℕ) → a ≤ b → 2 ^ a ≤ 2 ^ b
-pow-up a zero le = let e : a ≡ 0 = omega arith in rw e (omega arith)
-pow-up a (suc b) le =
-    elim (cases_lt b a) [
-      | inl more ↦ let e : a ≡ suc b = omega arith in rw e (omega arith)
-      | inr less ↦ let e : suc b ≡ b + 1 = omega arith in rw e (rw (pow-next b) (omega (arith, pow-up a b less)))
-    ]
-
 -- a number with these bits is the feed mask
 pub mask-is : (g : Graph) (parts y m : ℕ) → 0 < parts → parts ≤ 64 → m < 2 ^ 64 → ((r : ℕ) → r < 64 → bit_at m r ≡ bit (list_any (λ e. (e.0 == y) && (e.1 % parts == r)) g.edges)) → m ≡ feed_mask g parts y
 unfolding feed_mask feeds_into
 mask-is g parts y m some few small bits =
     let f : ℕ → Bool = λ r. list_any (λ e. (e.0 == y) && (e.1 % parts == r)) g.edges in
-    let fits : powers f parts < 2 ^ 64 = omega (arith, powers-lt f parts, pow-up parts 64 few) in
+    let fits : powers f parts < 2 ^ 64 = omega (arith, powers-lt f parts, pow_mono {i = parts} {j = 64} few) in
     same_from_bits_below 64 m (powers f parts) small fits
     (λ r lt. bits r lt ∙ elim (cases_lt r parts) [
       | inl less ↦ sym (powers-bit f parts r less)

@@ -1,7 +1,7 @@
 -- The vertices of a partition.
 use Rattle.std.proofs.Common.{◌≡◌, ℕ, zero, suc, ◌+◌, ◌-◌, ◌*◌, ◌/◌, ◌%◌, ◌<◌, Bool, true, false, ◌==◌, if◌then◌else◌, List, [], ◌∷◌, ◌++◌, map, length, refl, ap, arith, sym, ◌∙◌, inl, inr}
 use Rattle.std.specs.List.{filter, range_with_len}
-use Rattle.std.proofs.lemmas.Bool.{cases_lt}
+use Rattle.std.proofs.lemmas.Bool.{cases_lt, eqb-true}
 use Rattle.std.proofs.lemmas.Bool.Decides.{nat_tests}
 use Rattle.std.proofs.lemmas.List.{append-nil}
 use Rattle.std.proofs.lemmas.List.Elements.{filter-append}
@@ -61,14 +61,11 @@ other_next n parts p lt off =
           rw (now, next) refl
     ]
 
-eq_true : (a b : ℕ) → (a == b) ≡ true → a ≡ b
-eq_true a b e = grind (arith, nat_tests)
-
 -- one number more is tried
 more_case : (b : Bool) (n parts p : ℕ) → p < parts → (n % parts == p) ≡ b →
     map (λ i. i * parts + p) (range_with_len 0 (strided n parts p)) ++ (if b then (n ∷ []) else []) ≡ map (λ i. i * parts + p) (range_with_len 0 (strided (n + 1) parts p))
 more_case true n parts p lt at =
-    let h = own_next n parts p lt (eq_true _ _ at) in
+    let h = own_next n parts p lt (eqb-true _ _ at) in
     ap (λ k. map (λ i. i * parts + p) (range_with_len 0 (strided n parts p)) ++ k ∷ []) h.1
     ∙ sym (ap (λ k. map (λ i. i * parts + p) (range_with_len 0 k)) h.0 ∙ map-range_with_len_more (λ i. i * parts + p) 0 (strided n parts p) (strided n parts p) (omega arith))
 more_case false n parts p lt at =

@@ -1,27 +1,10 @@
 -- Paths and balls.
 use Rattle.std.proofs.Common.{◌≡◌, ℕ, zero, suc, ◌+◌, ◌<◌, ◌≤◌, Bool, true, false, ◌&&◌, ◌||◌, ◌==◌, List, [], ◌∷◌, ◌++◌, length, refl, ap, arith, if◌then◌else◌, ◌⊎◌, inl, inr, subst, sym, ◌∙◌}
 use Rattle.std.specs.List.{list_any, range_with_len, filter, AllByRecursion}
-use Rattle.std.proofs.lemmas.Bool.{cases_lt}
-use Rattle.std.proofs.lemmas.Bool.Decides.{nat_tests}
+use Rattle.std.proofs.lemmas.Bool.{cases_lt, and_from, and_parts, or_left, or_right, or_cases, eqb-true, eq-eqb}
+use Rattle.std.specs.Cmp.{both_ways}
 use Rattle.std.proofs.Common.{length-append}
 use Rattle.ball_model.specs.Graph.{Graph, IsGraph, is_edge, is_path, some_list, in_ball, preds_of}
--- tests, by std's lemmas under the names that proofs above use
-pub use Rattle.std.proofs.lemmas.Bool.{and_from as and_both, or_cases, or_left, or_right}
-pub use Rattle.std.specs.Cmp.{both_ways as same_bool}
-
-pub and_left : (a b : Bool) → (a && b) ≡ true → a ≡ true
-and_left true b e = refl
-and_left false b e = e
-
-pub and_right : (a b : Bool) → (a && b) ≡ true → b ≡ true
-and_right true b e = e
-and_right false b e = absurd (cc)
-
-pub eq_true : (a b : ℕ) → (a == b) ≡ true → a ≡ b
-eq_true a b e = grind (arith, nat_tests)
-
-pub same_true : (a : ℕ) → (a == a) ≡ true
-same_true a = grind (arith, nat_tests)
 
 -- some number of a range passes
 pub any_range : (p : ℕ → Bool) (a n k : ℕ) → a ≤ k → k < a + n → p k ≡ true → list_any p (range_with_len a n) ≡ true
@@ -68,8 +51,9 @@ edge_below_in [] n y x all e = absurd (cc)
 edge_below_in (e ∷ es) n y x all found =
     elim (or_cases ((e.0 == y) && (e.1 == x)) _ found) [
       | inl here ↦
-          let first = eq_true e.0 y (and_left (e.0 == y) (e.1 == x) here) in
-          let second = eq_true e.1 x (and_right (e.0 == y) (e.1 == x) here) in
+          let both = and_parts (e.0 == y) (e.1 == x) here in
+          let first = eqb-true e.0 y both.0 in
+          let second = eqb-true e.1 x both.1 in
           (omega (arith, first, all.0.0), omega (arith, second, all.0.1))
       | inr later ↦ edge_below_in es n y x all.1 later
     ]
@@ -85,20 +69,21 @@ no_path g y x e = cc
 path_parts : (g : Graph) (y x v w : ℕ) (rest : List ℕ) → is_path g y x (v ∷ w ∷ rest) ≡ true → (v ≡ y) × (is_edge g v w ≡ true) × (is_path g w x (w ∷ rest) ≡ true)
 unfolding is_path
 path_parts g y x v w rest e =
-    let more = and_right (v == y) _ e in
-    (eq_true v y (and_left (v == y) _ e), and_left (is_edge g v w) _ more, and_right (is_edge g v w) _ more)
+    let ends = and_parts (v == y) _ e in
+    let more = and_parts (is_edge g v w) _ ends.1 in
+    (eqb-true v y ends.0, more.0, more.1)
 
 path_made : (g : Graph) (y x w : ℕ) (rest : List ℕ) → is_edge g y w ≡ true → is_path g w x (w ∷ rest) ≡ true → is_path g y x (y ∷ w ∷ rest) ≡ true
 unfolding is_path
-path_made g y x w rest edge more = and_both (y == y) _ (same_true y) (and_both (is_edge g y w) _ edge more)
+path_made g y x w rest edge more = and_from (y == y) _ (eq-eqb y y refl) (and_from (is_edge g y w) _ edge more)
 
 path_one : (g : Graph) (y x v : ℕ) → is_path g y x (v ∷ []) ≡ true → (v ≡ y) × (v ≡ x)
 unfolding is_path
-path_one g y x v e = (eq_true v y (and_left (v == y) (v == x) e), eq_true v x (and_right (v == y) (v == x) e))
+path_one g y x v e = let both = and_parts (v == y) (v == x) e in (eqb-true v y both.0, eqb-true v x both.1)
 
 pub path_here : (g : Graph) (x : ℕ) → is_path g x x (x ∷ []) ≡ true
 unfolding is_path
-path_here g x = and_both (x == x) _ (same_true x) (same_true x)
+path_here g x = and_from (x == x) _ (eq-eqb x x refl) (eq-eqb x x refl)
 
 -- each vertex of a path is one of the graph
 pub path_below : (g : Graph) (y x : ℕ) (p : List ℕ) → IsGraph g → x < g.vertices → is_path g y x p ≡ true → AllByRecursion (λ v. v < g.vertices) p
@@ -186,15 +171,16 @@ any_filter p q (x ∷ xs) = any_filter_one (q x) p x (filter q xs) _ (any_filter
 
 -- the ball at t + 1 is the ball at t, and those of the predecessors
 pub in_ball-suc : (g : Graph) (x t y : ℕ) → IsGraph g → x < g.vertices → in_ball g x (t + 1) y ≡ (in_ball g x t y || list_any (λ z. in_ball g z t y) (preds_of g x))
-in_ball-suc g x t y ok lt = same_bool (in_ball g x (t + 1) y) _
+in_ball-suc g x t y ok lt = both_ways (in_ball g x (t + 1) y) _
     (λ e. elim (in_ball-back g x t y ok lt e) [
       | inl stays ↦ or_left (in_ball g x t y) _ stays
       | inr comes ↦ or_right (in_ball g x t y) _ (any_filter (λ z. in_ball g z t y) (λ z. is_edge g z x) (range_with_len 0 g.vertices)
-          ∙ any_range (λ z. is_edge g z x && in_ball g z t y) 0 g.vertices comes.0 (omega arith) (omega (arith, (edge_below g comes.0 x ok comes.1).0)) (and_both _ _ comes.1 comes.2))
+          ∙ any_range (λ z. is_edge g z x && in_ball g z t y) 0 g.vertices comes.0 (omega arith) (omega (arith, (edge_below g comes.0 x ok comes.1).0)) (and_from _ _ comes.1 comes.2))
     ])
     (λ e. elim (or_cases (in_ball g x t y) _ e) [
       | inl stays ↦ in_ball-grows g x t y ok lt stays
       | inr comes ↦
           let found = range_any (λ z. is_edge g z x && in_ball g z t y) 0 g.vertices (sym (any_filter (λ z. in_ball g z t y) (λ z. is_edge g z x) (range_with_len 0 g.vertices)) ∙ comes) in
-          in_ball-step g x found.0 t y ok (and_left (is_edge g found.0 x) _ found.3) (and_right (is_edge g found.0 x) _ found.3)
+          let both = and_parts (is_edge g found.0 x) _ found.3 in
+          in_ball-step g x found.0 t y ok both.0 both.1
     ])

@@ -1,41 +1,26 @@
 -- Where change comes from, and that it does not come back.
-use Rattle.std.proofs.Common.{◌≡◌, ℕ, zero, suc, ◌+◌, ◌<◌, ◌≤◌, Bool, true, false, not, List, [], ◌∷◌, if◌then◌else◌, refl, ap, arith, ◌∙◌, inl, inr, subst, IsTrue}
+use Rattle.std.proofs.Common.{◌≡◌, ℕ, zero, suc, ◌+◌, ◌<◌, ◌≤◌, Bool, true, false, List, [], ◌∷◌, refl, ap, arith, ◌∙◌, inl, inr, subst, IsTrue}
 use Rattle.std.specs.List.{list_any, range_with_len, filter, fold, AllByRecursion}
-use Rattle.std.specs.Str.{bytes_eq}
 use Rattle.std.proofs.lemmas.Slice.Eq.{bytes_eq-Decides}
-use Rattle.std.proofs.lemmas.Bool.{cases_lt}
+use Rattle.std.proofs.lemmas.Bool.{cases_lt, false_from_ne_true, not_from_true}
 use Rattle.ball_model.specs.Graph.{Graph, IsGraph, is_edge, preds_of}
 use Rattle.ball_model.specs.Counter.{Mixing, ball_counter, max_each}
 use Rattle.ball_model.specs.Change.{changed_at, any_changed}
 use Rattle.ball_model.proofs.PathLemmas.{any_range, edge_below}
+use Rattle.ball_model.proofs.CounterLemmas.{kept_one}
 use Rattle.ball_model.proofs.ChangeLemmas.{changed_suffice, changed_next, filter_passes}
-
--- some number of a filtered list that is not empty
-first_of_filter : (q : ℕ → Bool) (xs : List ℕ) (P : List ℕ → Type 0) → ((z : ℕ) (rest : List ℕ) → q z ≡ true → filter q xs ≡ z ∷ rest → P (filter q xs)) → (filter q xs ≡ [] → P (filter q xs)) → P (filter q xs)
-first_of_filter q xs P some none = by_list (filter q xs) refl (filter_passes q xs)
-  where
-    by_list : (l : List ℕ) → filter q xs ≡ l → AllByRecursion (λ z. q z ≡ true) (filter q xs) → P (filter q xs)
-    by_list [] at all = none at
-    by_list (z ∷ rest) at all = some z rest (subst (λ (l : List ℕ). AllByRecursion (λ z. q z ≡ true) l) at all).0 at
-
--- a row is itself
-same_row : (a b : List ℕ) → a ≡ b → not (bytes_eq a b) ≡ false
-same_row a b e = grind (arith, bytes_eq-Decides)
 
 -- with no changed predecessor a vertex stays as it is
 unchanged_next : (m : Mixing) (g : Graph) (x t : ℕ) → IsGraph g → x < g.vertices → filter (λ z. changed_at m g z t) (preds_of g x) ≡ [] → changed_at m g x (t + 1) ≡ false
 unchanged_next m g x t ok lt none =
-    changed_next m g x t ∙ same_row (ball_counter m g x (t + 1)) (ball_counter m g x t)
-    (changed_suffice m g x t ok lt ∙ ap (λ (l : List ℕ). fold (λ acc z. max_each acc (ball_counter m g z t)) (ball_counter m g x t) l) none)
+    let same : ball_counter m g x (t + 1) ≡ ball_counter m g x t =
+    changed_suffice m g x t ok lt ∙ ap (λ (l : List ℕ). fold (λ acc z. max_each acc (ball_counter m g z t)) (ball_counter m g x t) l) none in
+    changed_next m g x t ∙ not_from_true _ ((bytes_eq-Decides (ball_counter m g x (t + 1)) (ball_counter m g x t)).1 same)
 
 -- what a filtered list of predecessors holds
 pred_in : (q p : ℕ → Bool) (xs : List ℕ) → AllByRecursion (λ z. p z ≡ true) xs → AllByRecursion (λ z. p z ≡ true) (filter q xs)
 pred_in q p [] h = h
-pred_in q p (x ∷ xs) h = kept (q x) h.0 (pred_in q p xs h.1)
-  where
-    kept : (b : Bool) → p x ≡ true → AllByRecursion (λ z. p z ≡ true) (filter q xs) → AllByRecursion (λ z. p z ≡ true) (if b then (x ∷ filter q xs) else filter q xs)
-    kept true here later = (here, later)
-    kept false here later = later
+pred_in q p (x ∷ xs) h = kept_one (q x) (λ z. p z ≡ true) x (filter q xs) (λ e. h.0) (pred_in q p xs h.1)
 
 -- a vertex that is changed at t + 1 has a predecessor that is changed at t
 pub change_source : (m : Mixing) (g : Graph) (x t : ℕ) → IsGraph g → x < g.vertices → IsTrue (changed_at m g x (t + 1)) →
@@ -52,16 +37,13 @@ change_source m g x t ok lt changed = by_list (filter q (preds_of g x)) refl
         let marks = subst (λ (l : List ℕ). AllByRecursion (λ z. q z ≡ true) l) at (filter_passes q (preds_of g x)) in
         (z, edges.0, marks.0)
 
-none_of : (p : ℕ → Bool) (a n : ℕ) → ((k : ℕ) → a ≤ k → k < a + n → p k ≡ false) → list_any p (range_with_len a n) ≡ false
+-- where no number of a range passes, none is found
+pub none_of : (p : ℕ → Bool) (a n : ℕ) → ((k : ℕ) → a ≤ k → k < a + n → p k ≡ false) → list_any p (range_with_len a n) ≡ false
 none_of p a zero h = refl
 none_of p a (suc n) h = rw (h a (omega arith) (omega arith)) (none_of p (a + 1) n (λ k low high. h k (omega arith) (omega arith)))
 
 pub none_in : (p : ℕ → Bool) (a n k : ℕ) → list_any p (range_with_len a n) ≡ false → a ≤ k → k < a + n → p k ≡ false
-none_in p a n k e low high = by_bool (p k) refl
-  where
-    by_bool : (b : Bool) → p k ≡ b → p k ≡ false
-    by_bool true at = absurd (let h = any_range p a n k low high at in cc)
-    by_bool false at = at
+none_in p a n k e low high = false_from_ne_true (p k) (λ at. let h = any_range p a n k low high at in cc)
 
 -- no vertex is changed one superstep later
 quiet_next : (m : Mixing) (g : Graph) (t : ℕ) → IsGraph g → any_changed m g t ≡ false → any_changed m g (t + 1) ≡ false

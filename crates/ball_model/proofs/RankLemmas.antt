@@ -1,7 +1,8 @@
 -- Registers are at most 33, never fall as the ball grows, and at 0 are those of the vertex alone.
-use Rattle.std.proofs.Common.{◌≡◌, ℕ, ◌+◌, ◌-◌, ◌<◌, ◌≤◌, ◌^◌, Bool, true, false, ◌&&◌, ◌==◌, nat_eq, List, [], ◌∷◌, length, get_or, set, replicate, if◌then◌else◌, refl, arith, sym, subst, ap, ◌∙◌, ◌≢◌}
+use Rattle.std.proofs.Common.{◌≡◌, ℕ, ◌+◌, ◌-◌, ◌<◌, ◌≤◌, ◌^◌, Bool, true, false, ◌&&◌, ◌==◌, nat_eq, List, [], ◌∷◌, length, get_or, set, replicate, if◌then◌else◌, refl, arith, sym, subst, ap, ◌∙◌, ◌≢◌, le_antisymm}
 use Rattle.std.specs.Cmp.{both_ways}
-use Rattle.std.proofs.lemmas.Bool.{and_from, and_parts}
+use Rattle.std.proofs.lemmas.Bool.{and_from, and_parts, eqb-true, eq-eqb, false≢true}
+use Rattle.std.proofs.Math.Bool.{and-true, and-false}
 use Rattle.std.specs.List.{All}
 use Rattle.std.proofs.lemmas.List.{length-map, get_or-set_same, get_or-set_other, ext_get_or, length-replicate, get_or-replicate, length-set}
 use Rattle.std.proofs.lemmas.List.FromFn.{length-range_with_len, length-map-range_with_len, get_or-map-range_with_len}
@@ -11,7 +12,7 @@ use Rattle.ball_model.specs.Hash.{hash_of, index_of, tail_of, rank_of, floor_log
 use Rattle.ball_model.specs.Graph.{Graph, IsGraph, is_path, in_ball, is_counted}
 use Rattle.ball_model.specs.Counter.{Mixing, register_of, counter_of, ball_counter}
 use Rattle.ball_model.proofs.GreatestLemmas.{greatest-bounds, greatest-least}
-use Rattle.ball_model.proofs.PathLemmas.{in_ball-grows, in_ball-found, in_ball-finds, path_here, eq_true, same_true}
+use Rattle.ball_model.proofs.PathLemmas.{in_ball-grows, in_ball-found, in_ball-finds, path_here}
 use Rattle.ball_model.proofs.CounterLemmas.{register_of-same, counter_of-same}
 
 rank_le_if : (b : Bool) (k : ℕ) → (if b then 33 else 32 - k) ≤ 33
@@ -64,15 +65,15 @@ ball_grows m g x t j ok lt in_len =
 short_path : (g : Graph) (y x : ℕ) (p : List ℕ) → length p ≤ 1 → is_path g y x p ≡ true → y ≡ x
 unfolding is_path
 short_path g y x [] le path = absurd (let bad : false ≡ true = path in cc)
-short_path g y x (v ∷ []) le path = sym (eq_true v y ((and_parts (v == y) (v == x) path).0)) ∙ eq_true v x ((and_parts (v == y) (v == x) path).1)
+short_path g y x (v ∷ []) le path = sym (eqb-true v y ((and_parts (v == y) (v == x) path).0)) ∙ eqb-true v x ((and_parts (v == y) (v == x) path).1)
 short_path g y x (v ∷ w ∷ rest) le path = absurd (omega arith)
 
 pub ball_zero : (g : Graph) (x y : ℕ) → IsGraph g → x < g.vertices → in_ball g x 0 y ≡ (y == x)
 ball_zero g x y ok lt =
     both_ways (in_ball g x 0 y) (y == x)
     (λ inside. let found = in_ball-finds g x 0 y inside in
-    let e : x ≡ y = sym (short_path g y x found.0 (omega (arith, found.1)) found.2) in subst (λ (k : ℕ). (y == k) ≡ true) (sym e) (same_true y))
-    (λ same. let e : y ≡ x = eq_true y x same in
+    let e : x ≡ y = sym (short_path g y x found.0 (omega (arith, found.1)) found.2) in subst (λ (k : ℕ). (y == k) ≡ true) (sym e) (eq-eqb y y refl))
+    (λ same. let e : y ≡ x = eqb-true y x same in
     subst (λ (k : ℕ). in_ball g x 0 k ≡ true) (sym e) (in_ball-found g x 0 x (x ∷ []) ok lt (path_here g x) (omega arith)))
 
 -- the counter of one vertex
@@ -80,56 +81,42 @@ by_cases : (b : Bool) (P : Type 0) → (b ≡ true → P) → (b ≡ false → P
 by_cases true P y n = y refl
 by_cases false P y n = n refl
 
-between : (a b : ℕ) → a ≤ b → b ≤ a → a ≡ b
-between a b low high = omega arith
-
-no_more : (b : Bool) → (false && b) ≡ true → ⊥
-no_more b e = absurd (let bad : false ≡ true = e in cc)
-
 pub register_of-one : (m : Mixing) (n x j : ℕ) → x < n → register_of m n (λ y. y == x) j ≡ (if (index_of m.log2m (hash_of m.seed x) == j) then rank_of m.log2m (hash_of m.seed x) else 0)
 unfolding register_of
 register_of-one m n x j lt =
     let f : ℕ → ℕ = λ v. rank_of m.log2m (hash_of m.seed v) in
     let here : ℕ → Bool = λ v. index_of m.log2m (hash_of m.seed v) == j in
     by_cases (here x) _
-    (λ at. rw at (between _ _
-    (greatest-least (λ v. (v == x) && here v) f n (f x) (λ v below pass. let e : x ≡ v = sym (eq_true v x ((and_parts (v == x) (here v) pass).0)) in subst (λ (k : ℕ). f k ≤ f x) e (omega arith)))
-    (greatest-bounds (λ v. (v == x) && here v) f n x lt (and_from (x == x) (here x) (same_true x) at))))
-    (λ off. rw off (between _ _
+    (λ at. rw at (le_antisymm
+    (greatest-least (λ v. (v == x) && here v) f n (f x) (λ v below pass. let e : x ≡ v = sym (eqb-true v x ((and_parts (v == x) (here v) pass).0)) in subst (λ (k : ℕ). f k ≤ f x) e (omega arith)))
+    (greatest-bounds (λ v. (v == x) && here v) f n x lt (and_from (x == x) (here x) (eq-eqb x x refl) at))))
+    (λ off. rw off (le_antisymm
     (greatest-least (λ v. (v == x) && here v) f n 0 (λ v below pass.
-    let e : v ≡ x = eq_true v x ((and_parts (v == x) (here v) pass).0) in
+    let e : v ≡ x = eqb-true v x ((and_parts (v == x) (here v) pass).0) in
     let bad : here x ≡ true = subst (λ (k : ℕ). here k ≡ true) e ((and_parts (v == x) (here v) pass).1) in
     absurd (let no : true ≡ false = sym bad ∙ off in cc)))
     (omega arith)))
 
 -- the counted vertices of the ball at 0: the vertex itself, where it is counted
 counted_here : (b : Bool) (g : Graph) (x y : ℕ) → (y == x) ≡ b → (b && is_counted g y) ≡ (b && is_counted g x)
-counted_here true g x y e = ap (is_counted g) (eq_true y x e)
+counted_here true g x y e = ap (is_counted g) (eqb-true y x e)
 counted_here false g x y e = refl
 
 counted_zero : (g : Graph) (x y : ℕ) → IsGraph g → x < g.vertices → (in_ball g x 0 y && is_counted g y) ≡ ((y == x) && is_counted g x)
 counted_zero g x y ok lt = ap (λ b. b && is_counted g y) (ball_zero g x y ok lt) ∙ counted_here (y == x) g x y refl
 
-and_true : (b : Bool) → (b && true) ≡ b
-and_true true = refl
-and_true false = refl
-
-and_false : (b : Bool) → (b && false) ≡ false
-and_false true = refl
-and_false false = refl
-
 register_same : (m : Mixing) (g : Graph) (x j : ℕ) → IsGraph g → x < g.vertices → is_counted g x ≡ true →
     register_of m g.vertices (λ y. in_ball g x 0 y && is_counted g y) j ≡ register_of m g.vertices (λ y. y == x) j
 register_same m g x j ok lt counted =
     register_of-same m g.vertices (λ y. in_ball g x 0 y && is_counted g y) (λ y. y == x) j
-    (λ v below. counted_zero g x v ok lt ∙ ap (λ b. (v == x) && b) counted ∙ and_true (v == x))
+    (λ v below. counted_zero g x v ok lt ∙ ap (λ b. (v == x) && b) counted ∙ and-true (v == x))
 
 set_at : (w i j r : ℕ) → i < w → j < w → get_or (set (replicate w 0) i r) j 0 ≡ (if (i == j) then r else 0)
 set_at w i j r in_i in_j =
     by_cases (nat_eq i j) _
-    (λ same. let e : i ≡ j = eq_true i j same in
+    (λ same. let e : i ≡ j = eqb-true i j same in
     rw same (subst (λ (k : ℕ). get_or (set (replicate w 0) i r) k 0 ≡ r) e (get_or-set_same (replicate w 0) i r 0 (omega (arith, length-replicate {A = ℕ} w 0)))))
-    (λ apart. let ne : j ≢ i = λ bad. absurd (let same : (i == j) ≡ true = subst (λ (k : ℕ). (i == k) ≡ true) (sym bad) (same_true i) in (let no : true ≡ false = sym same ∙ apart in cc)) in
+    (λ apart. let ne : j ≢ i = λ bad. absurd (let same : (i == j) ≡ true = subst (λ (k : ℕ). (i == k) ≡ true) (sym bad) (eq-eqb i i refl) in (let no : true ≡ false = sym same ∙ apart in cc)) in
     rw (apart, get_or-set_other) (get_or-replicate w j 0 0 in_j))
 
 -- THE START: the counter of a counted vertex at 0 has its own rank in its register, and 0 elsewhere
@@ -160,8 +147,8 @@ counter_of-ranks m n A =
 register_of-empty : (m : Mixing) (n j : ℕ) → register_of m n (λ _. false) j ≡ 0
 unfolding register_of
 register_of-empty m n j =
-    between _ 0
-    (greatest-least (λ v. false && (index_of m.log2m (hash_of m.seed v) == j)) (λ v. rank_of m.log2m (hash_of m.seed v)) n 0 (λ v lt pass. absurd (no_more (index_of m.log2m (hash_of m.seed v) == j) pass)))
+    le_antisymm
+    (greatest-least (λ v. false && (index_of m.log2m (hash_of m.seed v) == j)) (λ v. rank_of m.log2m (hash_of m.seed v)) n 0 (λ v lt pass. absurd (false≢true pass)))
     (omega arith)
 
 -- the counter of the empty set is all 0
@@ -178,5 +165,5 @@ pub ball_counter-uncounted : (m : Mixing) (g : Graph) (x : ℕ) → IsGraph g �
 unfolding ball_counter
 ball_counter-uncounted m g x ok lt uncounted =
     counter_of-same m g.vertices (λ y. in_ball g x 0 y && is_counted g y) (λ _. false)
-    (λ v below. counted_zero g x v ok lt ∙ ap (λ b. (v == x) && b) uncounted ∙ and_false (v == x))
+    (λ v below. counted_zero g x v ok lt ∙ ap (λ b. (v == x) && b) uncounted ∙ and-false (v == x))
     ∙ counter_of-empty m g.vertices

@@ -1,6 +1,6 @@
 -- Counters at superstep 0, and counters as the ranks of counted vertices with a path.
 use Rattle.std.proofs.Common.{◌≡◌, ℕ, ◌+◌, ◌*◌, ◌/◌, ◌<◌, ◌≤◌, ◌^◌, Bool, true, false, not, ◌&&◌, ◌==◌, List, length, get_or, set, replicate, IsTrue, lit<, refl, ap, arith, sym, ◌∙◌}
-use Rattle.std.proofs.lemmas.Bool.{and_from, and_parts}
+use Rattle.std.proofs.lemmas.Bool.{and_from, and_parts, eqb-true, eq-eqb, not_from_true}
 use Rattle.std.specs.Str.{bytes_eq}
 use Rattle.std.proofs.lemmas.Slice.Eq.{bytes_eq-Decides}
 use Rattle.std.proofs.lemmas.List.{get_or-set_same, length-replicate, get_or-replicate}
@@ -12,7 +12,7 @@ use Rattle.ball_model.specs.Counter.{Mixing, register_of, ball_counter}
 use Rattle.ball_model.specs.Change.{changed_at}
 use Rattle.ball_model.proofs.GreatestLemmas.{greatest-bounds, greatest-least}
 use Rattle.ball_model.proofs.HashLemmas.{rank_of-code, index_of-lt}
-use Rattle.ball_model.proofs.PathLemmas.{eq_true, same_true, in_ball-found, in_ball-finds, path_from_below}
+use Rattle.ball_model.proofs.PathLemmas.{in_ball-found, in_ball-finds, path_from_below}
 use Rattle.ball_model.proofs.RankLemmas.{ball_at, ball_counter-zero, ball_counter-uncounted, counter_of-empty}
 
 -- a hash is a number of 64 bits
@@ -42,9 +42,6 @@ not_zero w i r lt some same =
 differ : (a b : List ℕ) → (a ≡ b → ⊥) → not (bytes_eq a b) ≡ true
 differ a b ne = grind (arith, bytes_eq-Decides)
 
-agree : (a b : List ℕ) → a ≡ b → not (bytes_eq a b) ≡ false
-agree a b e = grind (arith, bytes_eq-Decides)
-
 -- nothing comes before superstep 0: a vertex is changed there exactly where its counter is not empty
 pub changed_where_filled : (m : Mixing) (g : Graph) (x : ℕ) → changed_at m g x 0 ≡ not (bytes_eq (ball_counter m g x 0) (replicate (2 ^ m.log2m) 0))
 unfolding changed_at in_ball_before
@@ -60,7 +57,7 @@ changed_where_counted m g x to ok lt = changed_where_filled m g x ∙ by_bool (i
         (λ same. not_zero (2 ^ m.log2m) (index_of m.log2m (hash_of m.seed x)) (rank_of m.log2m (hash_of m.seed x)) (index_small m x to) (rank_from m.log2m (hash_of m.seed x))
         (sym (ball_counter-zero m g x ok lt at (index_small m x to)) ∙ same))
         ∙ sym at
-    by_bool false at = agree (ball_counter m g x 0) (replicate (2 ^ m.log2m) 0) (ball_counter-uncounted m g x ok lt at) ∙ sym at
+    by_bool false at = not_from_true _ ((bytes_eq-Decides (ball_counter m g x 0) (replicate (2 ^ m.log2m) 0)).1 (ball_counter-uncounted m g x ok lt at)) ∙ sym at
 
 -- a register is at least the rank of each counted vertex with a path that falls into it
 pub counter_bounds : (m : Mixing) (g : Graph) (x t j y : ℕ) (path : List ℕ) → IsGraph g → x < g.vertices → j < 2 ^ m.log2m → IsTrue (is_counted g y) →
@@ -72,7 +69,7 @@ counter_bounds m g x t j y path ok lt in_row counted is short falls =
     let inside : member y ≡ true = and_from (in_ball g x t y) (is_counted g y) (in_ball-found g x t y path ok lt is short) counted in
     rw (ball_at m g x t j 0 in_row)
     (greatest-bounds (λ v. member v && (place v == j)) (λ v. rank_of m.log2m (hash_of m.seed v)) g.vertices y (path_from_below g y x path ok lt is)
-    (and_from (member y) (place y == j) inside (ap (λ i. i == j) falls ∙ same_true j)))
+    (and_from (member y) (place y == j) inside (ap (λ i. i == j) falls ∙ eq-eqb j j refl)))
 
 -- and at most whatever the ranks of all of them are at most
 pub counter_least : (m : Mixing) (g : Graph) (x t j bound : ℕ) → j < 2 ^ m.log2m →
@@ -87,4 +84,4 @@ counter_least m g x t j bound in_row h =
     (λ v lt pass.
     let inside = (and_parts (member v) (place v == j) pass).0 in
     let found = in_ball-finds g x t v ((and_parts (in_ball g x t v) (is_counted g v) inside).0) in
-    h v found.0 ((and_parts (in_ball g x t v) (is_counted g v) inside).1) found.2 found.1 (eq_true (place v) j ((and_parts (member v) (place v == j) pass).1))))
+    h v found.0 ((and_parts (in_ball g x t v) (is_counted g v) inside).1) found.2 found.1 (eqb-true (place v) j ((and_parts (member v) (place v == j) pass).1))))

@@ -41,18 +41,18 @@ counted_network network records = record network {
   graph = record network.graph { counted = named_vertices network.labels records };
 }
 
-abbrev pub counting_unless : Option CountedRefusal → Network → List (List (List ℕ)) →
+abbrev pub counted_network_unless : Option CountedRefusal → Network → List (List (List ℕ)) →
     Result Network CountedRefusal
-counting_unless None network records = Ok (counted_network network records)
-counting_unless (Some refusal) network records = Err refusal
+counted_network_unless None network records = Ok (counted_network network records)
+counted_network_unless (Some refusal) network records = Err refusal
 
 -- records are refused for the first one at which a check fails, or say which vertices are counted
-unfoldable pub counted_as : Network → List (List (List ℕ)) → Result Network CountedRefusal
-counted_as network records =
-    counting_unless
+unfoldable pub counted_network_from : Network → List (List (List ℕ)) → Result Network CountedRefusal
+counted_network_from network records =
+    counted_network_unless
     (first_of (map (list_fault_at network.labels records) (range_with_len 0 (length records))))
     network records
 
 -- what a plain list says of a network, with this byte between fields
 abbrev pub counted_of : ℕ → Network → List ℕ → Result Network CountedRefusal
-counted_of d network list = counted_as network (records d list)
+counted_of d network list = counted_network_from network (records d list)

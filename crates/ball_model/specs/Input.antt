@@ -1,8 +1,9 @@
 -- What an edge list says: the graph and the labels that its records name, or its first refusal.
-use Rattle.std.specs.Prelude.{◌≡◌, ⊤, ℕ, ◌+◌, Bool, true, false, List, [], ◌∷◌, ◌==◌, ◌&&◌, not, if◌then◌else◌, map, length, take, min, nat_lt, nat_le, Option, None, Some, Result, Ok, Err, slice_index_or}
+use Rattle.std.specs.Prelude.{◌≡◌, ⊤, ℕ, ◌+◌, Bool, true, false, List, [], ◌∷◌, ◌==◌, ◌&&◌, ◌^◌, not, if◌then◌else◌, map, length, take, min, nat_lt, nat_le, Option, None, Some, Result, Ok, Err, slice_index_or}
 use Rattle.std.specs.List.{list_any, range_with_len, filter, flat_map}
 use Rattle.std.specs.Str.{bytes_eq}
 use Rattle.ball_model.specs.Graph.{Graph}
+use Rattle.ball_model.specs.PlanValue.{most_vertices}
 
 -- a byte order mark at the front: the bytes ef bb bf
 abbrev pub has_mark : List ℕ → Bool
@@ -110,11 +111,15 @@ pub record Limits : Type 0 where
   pub vertices : ℕ
   pub edges : ℕ
 
--- the limits in force are never above 2^24 vertices and 2^26 records
+-- no more records than that are read, whatever the limits
+abbrev pub most_records : ℕ
+most_records = 2 ^ 26
+
+-- the limits in force are never above those of all runs
 abbrev pub in_force : Limits → Limits
 in_force limits = record {
-  vertices = min limits.vertices 16777216;
-  edges = min limits.edges 67108864;
+  vertices = min limits.vertices most_vertices;
+  edges = min limits.edges most_records;
 }
 
 -- why an edge list is refused; records are numbered from 1

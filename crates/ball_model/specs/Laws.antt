@@ -8,7 +8,7 @@ use Rattle.ball_model.specs.Counter.{Mixing, register_of, counter_of, ball_count
 use Rattle.ball_model.specs.Change.{changed_at, any_changed}
 use Rattle.ball_model.specs.Figures.{estimate_of}
 use Rattle.ball_model.specs.Supersteps.{tally_at, end_of}
-use Rattle.ball_model.specs.PlanValue.{vertices_of, part_size}
+use Rattle.ball_model.specs.PlanValue.{least_log2m, greatest_log2m, greatest_limit, vertices_of, part_size}
 use Rattle.ball_model.specs.Join.{Holding, AreAlike, has_name, join_of}
 
 -- y is in the ball of x at t exactly where there is a path from y to x of at most t edges
@@ -76,7 +76,8 @@ CounterIsLeastBound = (m : Mixing) (g : Graph) (x t j bound : ℕ) → j < 2 ^ m
 
 -- at superstep 0 a vertex is changed exactly where it is counted
 abbrev pub StartIsCounted : Type 0
-StartIsCounted = (m : Mixing) (g : Graph) (x : ℕ) → m.log2m ≤ 10 → IsGraph g → x < g.vertices →
+StartIsCounted = (m : Mixing) (g : Graph) (x : ℕ) → m.log2m ≤ greatest_log2m → IsGraph g →
+    x < g.vertices →
     changed_at m g x 0 ≡ is_counted g x
 
 -- and exactly where its counter is not empty
@@ -119,8 +120,8 @@ EndIsReached = (m : Mixing) (g : Graph) (limit : ℕ) →
 
 -- registers of a counter of 2^log2m
 pub record IsCounterRow (log2m : ℕ) (row : List ℕ) : Type 0 where
-  pub from : 4 ≤ log2m
-  pub to : log2m ≤ 10
+  pub from : least_log2m ≤ log2m
+  pub to : log2m ≤ greatest_log2m
   pub width : length row ≡ 2 ^ log2m
   pub ranks : All (λ r. r ≤ 33) row
 
@@ -134,12 +135,12 @@ EstimateGrows = (log2m : ℕ) (xs ys : List ℕ) → IsCounterRow log2m xs → I
 abbrev pub EstimateFits : Type 0
 EstimateFits = (log2m : ℕ) (row : List ℕ) → IsCounterRow log2m row → estimate_of log2m row < 2 ^ 63
 
--- harmonic centrality is at most the last estimate, and the sum of distances at most 4096 times that
+-- harmonic centrality is at most the last estimate, and the sum of distances at most the greatest limit times that
 abbrev pub TalliesFit : Type 0
-TalliesFit = (m : Mixing) (g : Graph) (x t : ℕ) → 4 ≤ m.log2m → m.log2m ≤ 10 → IsGraph g →
-    x < g.vertices → t ≤ 4096 →
+TalliesFit = (m : Mixing) (g : Graph) (x t : ℕ) → least_log2m ≤ m.log2m →
+    m.log2m ≤ greatest_log2m → IsGraph g → x < g.vertices → t ≤ greatest_limit →
     ((tally_at m g x t).harm ≤ (tally_at m g x t).last)
-    × ((tally_at m g x t).dist ≤ 4096 * (tally_at m g x t).last)
+    × ((tally_at m g x t).dist ≤ greatest_limit * (tally_at m g x t).last)
 
 -- vertex i of partition p, from 0 on, is i * parts + p
 abbrev pub PartIsStrided : Type 0

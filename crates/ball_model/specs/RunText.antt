@@ -2,9 +2,9 @@
 use Rattle.std.specs.Prelude.{◌≡◌, ℕ, List, [], Option, None, Some, Result, Ok, Err}
 use Rattle.std.specs.Io.KnownBytes.{Appends}
 use Rattle.ball_model.specs.Graph.{Graph}
-use Rattle.ball_model.specs.PlanValue.{PlanValue, plan_of, mixing_of}
+use Rattle.ball_model.specs.PlanValue.{PlanValue, most_vertices, plan_of, mixing_of}
 use Rattle.ball_model.specs.Job.{digest_of}
-use Rattle.ball_model.specs.Input.{Network, Limits, Refusal, input_of}
+use Rattle.ball_model.specs.Input.{Network, Limits, Refusal, most_records, input_of}
 use Rattle.ball_model.specs.Counting.{CountedRefusal, counted_of}
 use Rattle.ball_model.specs.Report.{report_of}
 use Rattle.ball_model.specs.declared.plan.PlanError.{PlanError}
@@ -23,7 +23,7 @@ pub record Settings : Type 0 where
 
 -- the most vertices and records that a run reads
 abbrev pub run_limits : Limits
-run_limits = record { vertices = 16777216; edges = 67108864 }
+run_limits = record { vertices = most_vertices; edges = most_records }
 
 -- what the edge list says
 abbrev pub network_in : Settings → List ℕ → Result Network Refusal

@@ -76,7 +76,7 @@ pub fn estimate_grows()
     ensures fits { EstimateFits }
 {}
 
-/// Figures fit their types, for every superstep up to 4,096.
+/// Figures fit their types, for every superstep up to the greatest limit, 4096.
 pub fn tallies_fit()
     ensures { TalliesFit }
 {}

@@ -1,10 +1,25 @@
 //! What hyperball speaks of: its definitions (in `specs/`), their laws, and the types that every crate names.
 //!
-//! A vertex is hashed by [`mix`], and [`place`] reads a register and a rank off the hash. A [`Plan`] says how
-//! many registers a counter has, under which seed vertices are hashed, among how many partitions they are dealt
-//! out, and after how many supersteps a run stops at the latest. The functions of [`laws`] do nothing: the
-//! contract of each is a law of the definitions. [`CountedRead`] and [`CountedWrite`] are streams whose failed calls
-//! a contract sees; [`MemReader`] and [`MemWriter`] are such streams over memory, which fail where one wants them to.
+//! A [`Plan`] says how many registers a counter has, under which seed vertices are hashed, among how many partitions
+//! they are dealt out, and after how many supersteps a run stops at the latest. A vertex is hashed by [`mix`], and
+//! [`place`] reads a register and a rank off the hash. A [`BatchName`] names what a partition tells another of a
+//! superstep. The functions of [`laws`] and of [`history`] do nothing: the contract of each is a law of the
+//! definitions.
+//!
+//! [`CountingReader`] and [`CountingWriter`] are streams whose failed calls a contract sees, by [`CountedRead`] and
+//! [`CountedWrite`]; [`MemReader`] and [`MemWriter`] are such streams over memory, which fail where one wants them to.
+//!
+//! ```text
+//! let plan = Plan::new(4, 0, 3, 100, 8, job)?;
+//! plan.width()                      // 16 registers
+//! plan.partition_of(7)              // 1
+//! plan.part_size(1)                 // 3: the vertices 1, 4 and 7
+//! place(4, mix(0, 0))               // (14, 3): vertex 0 falls into register 14 with rank 3
+//!
+//! let mut reader = MemReader::new(b"abc", Some(2));
+//! reader.get(&mut [0; 2])           // Some(2)
+//! reader.get(&mut [0; 2])           // None, and reader.failures() is 1
+//! ```
 #![tactic(auto)]
 
 ghost use Rattle.std.specs.Prelude.{◌≡◌, ◌≤◌, ◌<◌, ◌^◌};

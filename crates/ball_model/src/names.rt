@@ -10,8 +10,11 @@ use thiserror::Error;
 /// Names ascend by superstep, then by source, then by target.
 #[derive(Clone, Copy, Debug, PartialEq, Eq, PartialOrd, Ord)]
 pub struct BatchName {
+    /// The superstep whose changes are told, from 0 up to the plan's limit.
     pub superstep: u32,
+    /// The number of the partition that tells, from 0 on.
     pub source: u16,
+    /// The number of the partition that is told, from 0 on.
     pub target: u16,
 }
 
@@ -24,10 +27,12 @@ impl BatchName {
     }
 }
 
-/// A replica of a partition.
+/// A replica of a partition. They ascend by partition, then by replica.
 #[derive(Clone, Copy, Debug, PartialEq, Eq, PartialOrd, Ord)]
 pub struct NodeId {
+    /// The number of its partition, from 0 on.
     pub part: u16,
+    /// Its number among the replicas of that partition, from 0 on.
     pub replica: u8,
 }
 
@@ -56,10 +61,13 @@ pub enum Taken {
 /// Why a batch is not taken, in the order of the checks.
 #[derive(Clone, Copy, Debug, PartialEq, Eq, Error)]
 pub enum TakeError {
+    /// The batch's plan is not the replica's, in some number or in the job digest.
     #[error("the batch is of another job")]
     OtherJob,
+    /// The batch's target is not the replica's partition.
     #[error("the batch is for another partition")]
     NotMine,
+    /// The batch's source is the replica's partition, which tells itself nothing.
     #[error("the batch is of the replica's own partition")]
     OwnPartition,
     /// A replica takes batches of its superstep and of the three that follow, up to `last`.
@@ -73,6 +81,7 @@ pub enum CloseError {
     /// The batch of `source` at the replica's superstep is missing; it is the least such source.
     #[error("waiting for partition {source}")]
     Waiting { source: u16 },
+    /// No batch is missing, and the verdict is not to go on: nothing is changed any more, or the limit is reached.
     #[error("the run has ended")]
     Finished,
 }
@@ -80,10 +89,13 @@ pub enum CloseError {
 /// Why a snapshot is not merged, in the order of the checks.
 #[derive(Clone, Copy, Debug, PartialEq, Eq, Error)]
 pub enum MergeError {
+    /// The snapshot's plan is not the replica's, in some number or in the job digest.
     #[error("the snapshot is of another job")]
     OtherJob,
+    /// The snapshot's partition is not the replica's.
     #[error("the snapshot is of another partition")]
     NotMine,
+    /// The memory that the merge asks for is refused.
     #[error("out of memory")]
     Memory,
 }

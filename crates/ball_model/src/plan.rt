@@ -5,15 +5,34 @@ ghost use Rattle.std.specs.Prelude.{◌≡◌, ◌<◌, ◌%◌, ◌^◌};
 use std::marker::Model;
 use thiserror::Error;
 
+/// The least binary logarithm of the number of registers: 16 registers.
+pub const LEAST_LOG2M: u8 = 4;
+
+/// The greatest binary logarithm of the number of registers: 1024 registers.
+pub const GREATEST_LOG2M: u8 = 10;
+
+/// The most partitions that vertices are dealt out among.
+pub const MOST_PARTS: u16 = 64;
+
+/// The greatest limit that a run may have, in supersteps.
+pub const GREATEST_LIMIT: u32 = 4096;
+
+/// The most vertices of a graph.
+pub const MOST_VERTICES: u32 = 1 << 24;
+
 /// Why there is no such plan, in the order of the checks.
 #[derive(Clone, Copy, Debug, PartialEq, Eq, Error)]
 pub enum PlanError {
+    /// The binary logarithm of the number of registers is below 4 or above 10.
     #[error("log2m is not from 4 to 10")]
     Log2m,
+    /// There is no partition, or there are more than 64.
     #[error("parts is not from 1 to 64")]
     Parts,
+    /// The greatest superstep is 0, or above 4096.
     #[error("limit is not from 1 to 4096")]
     Limit,
+    /// There are more than 2^24 vertices.
     #[error("too many vertices")]
     Vertices,
 }
@@ -88,16 +107,16 @@ impl Plan {
           job = job;
         }) }
     {
-        if !(4..=10).contains(&log2m) {
+        if !(LEAST_LOG2M..=GREATEST_LOG2M).contains(&log2m) {
             return Err(PlanError::Log2m);
         }
-        if !(1..=64).contains(&parts) {
+        if !(1..=MOST_PARTS).contains(&parts) {
             return Err(PlanError::Parts);
         }
-        if !(1..=4096).contains(&limit) {
+        if !(1..=GREATEST_LIMIT).contains(&limit) {
             return Err(PlanError::Limit);
         }
-        if vertices > 1 << 24 {
+        if vertices > MOST_VERTICES {
             return Err(PlanError::Vertices);
         }
         Ok(Plan {

@@ -82,27 +82,42 @@ const CHECKED: [(u8, u16, u32, u32, Option<PlanError>); 9] = [
     (10, 64, 4096, 16_777_216, None),
 ];
 
-#[test]
-fn plan_checks(rt: HostRuntime) {
-    let are_told = CHECKED.iter().all(|(log2m, parts, limit, vertices, refusal)| {
-        plan_with(*log2m, *parts, *limit, *vertices).err() == *refusal
-    });
-    assert!(rt; are_told);
+// The first row of that table that is refused for something else.
+fn first_of_another_refusal() -> Option<(u8, u16, u32, u32, Option<PlanError>)> {
+    for (log2m, parts, limit, vertices, refusal) in &CHECKED {
+        if plan_with(*log2m, *parts, *limit, *vertices).err() != *refusal {
+            return Some((*log2m, *parts, *limit, *vertices, *refusal));
+        }
+    }
+    None
 }
 
-// What a plan tells: its numbers, and its digest with another one's.
-fn tells_the_plan(plan: &Plan) -> bool {
-    (plan.log2m(), plan.seed(), plan.parts()) == (5, 42, 3)
-        && (plan.limit(), plan.vertices(), plan.width()) == (77, 8, 32)
-        && plan.job() == [9; 32]
-        && plan.with_job([8; 32]).job() == [8; 32]
-        && plan.partition_of(7) == 1
+#[test]
+fn plan_checks(rt: HostRuntime) {
+    assert_eq!(rt; first_of_another_refusal(), None);
+}
+
+// What a plan tells: its numbers, the width and a vertex's partition; its digest, and that of one with another.
+fn told_by(plan: &Plan) -> ((u8, u64, u16), (u32, u32, usize, u16), [[u8; 32]; 2]) {
+    (
+        (plan.log2m(), plan.seed(), plan.parts()),
+        (
+            plan.limit(),
+            plan.vertices(),
+            plan.width(),
+            plan.partition_of(7),
+        ),
+        [plan.job(), plan.with_job([8; 32]).job()],
+    )
 }
 
 #[test]
 fn plan_readers(rt: HostRuntime) -> Result<(), Fail> {
     let plan = Plan::new(5, 42, 3, 77, 8, [9; 32])?;
-    assert!(rt; tells_the_plan(&plan));
+    assert_eq!(rt;
+        told_by(&plan),
+        ((5, 42, 3), (77, 8, 32, 1), [[9; 32], [8; 32]])
+    );
     Ok(())
 }
 
@@ -180,7 +195,10 @@ fn names_ascend(rt: HostRuntime) {
         source: 1,
         target: 0,
     };
-    assert!(rt; first.is_before(&second) && second.is_before(&third));
+    assert_eq!(rt;
+        (first.is_before(&second), second.is_before(&third)),
+        (true, true)
+    );
     assert!(rt;
         NodeId {
             part: 0,
@@ -245,6 +263,84 @@ fn failed_reads() -> (Option<usize>, Option<usize>, u64, bool, u64) {
     (first, second, then, refused, reader.failures())
 }
 
+// A stream whose first call fails, and whose later ones move a byte.
+#[derive(Drop)]
+struct Hiccup {
+    has_failed: bool,
+}
+
+impl Hiccup {
+    fn is_failing(&mut self) -> bool {
+        let fails = !self.has_failed;
+        self.has_failed = true;
+        fails
+    }
+}
+
+impl Read for Hiccup {
+    fn read(&mut self, buf: &mut [u8]) -> io::Result<usize> {
+        if self.is_failing() {
+            return Err(io::Error::from(ErrorKind::Other));
+        }
+        Ok(buf.len().min(1))
+    }
+}
+
+impl Write for Hiccup {
+    fn write(&mut self, buf: &[u8]) -> io::Result<usize> {
+        if self.is_failing() {
+            return Err(io::Error::from(ErrorKind::Other));
+        }
+        Ok(buf.len().min(1))
+    }
+
+    fn flush(&mut self) -> io::Result<()> {
+        if self.is_failing() {
+            return Err(io::Error::from(ErrorKind::Other));
+        }
+        Ok(())
+    }
+}
+
+// Two reads of a reader whose first call fails, with the failures after each.
+fn reads_after_a_failure() -> (Option<usize>, u64, Option<usize>, u64) {
+    let mut reader = CountingReader::new(Hiccup { has_failed: false });
+    let mut place = [0u8; 4];
+    let first = reader.get(&mut place);
+    let then = reader.failures();
+    (first, then, reader.get(&mut place), reader.failures())
+}
+
+// Two writes of a writer whose first call fails, with the failures after each.
+fn writes_after_a_failure() -> (Option<usize>, u64, Option<usize>, u64) {
+    let mut writer = CountingWriter::new(Hiccup { has_failed: false });
+    let first = writer.put(b"a");
+    let then = writer.failures();
+    (first, then, writer.put(b"a"), writer.failures())
+}
+
+// Whether two flushes of a writer whose first call fails go well, with the failures after each.
+fn flushes_after_a_failure() -> (bool, u64, bool, u64) {
+    let mut writer = CountingWriter::new(Hiccup { has_failed: false });
+    let first = writer.flush().is_ok();
+    let then = writer.failures();
+    (first, then, writer.flush().is_ok(), writer.failures())
+}
+
+// A call that fails is not tried again in secret: its failure is told, and the next call goes well.
+#[test]
+fn a_failed_call_is_told(rt: HostRuntime) {
+    assert_eq!(rt;
+        [reads_after_a_failure(), writes_after_a_failure()],
+        [(None, 1, Some(1), 1), (None, 1, Some(1), 1)]
+    );
+}
+
+#[test]
+fn a_failed_flush_is_told(rt: HostRuntime) {
+    assert_eq!(rt; flushes_after_a_failure(), (false, 1, true, 1));
+}
+
 #[test]
 fn failed_reads_are_counted(rt: HostRuntime) {
     assert_eq!(rt; failed_reads(), (Some(1), None, 1, true, 2));
@@ -293,15 +389,16 @@ fn puts_twice(bytes: &mut Vec<u8>) -> (bool, bool, u64) {
     (first, second, writer.failures())
 }
 
-// Whether a vector holds the three bytes that are put.
-fn holds_what_is_put(alloc: Global) -> bool {
+// Whether two bytes and one more are put into a vector, and how many calls failed; and whether it holds the three.
+fn put_and_held(alloc: Global) -> ((bool, bool, u64), bool) {
     let mut bytes = Vec::new(alloc);
-    puts_twice(&mut bytes) == (true, true, 0) && bytes.as_slice() == b"abc".as_slice()
+    let told = puts_twice(&mut bytes);
+    (told, bytes.as_slice() == b"abc".as_slice())
 }
 
 #[test]
 fn what_is_put_is_held(rt: HostRuntime) {
-    assert!(rt; holds_what_is_put(rt.alloc()));
+    assert_eq!(rt; put_and_held(rt.alloc()), ((true, true, 0), true));
 }
 
 // Three bytes are read by twos up to the end, and then the fourth call fails.
@@ -327,17 +424,17 @@ fn writes_by_twos(writer: &mut MemWriter) -> ([Option<usize>; 3], u64) {
     (calls, writer.failures())
 }
 
-// Whether a writer with room for three bytes takes three of these five, and fails where it is full.
-fn takes_three(alloc: Global) -> Result<bool, AllocError> {
+// What a writer with room for three bytes takes of these five, and how many calls failed; and whether it holds abc.
+fn taken_and_held(alloc: Global) -> Result<(([Option<usize>; 3], u64), bool), AllocError> {
     let mut writer = MemWriter::with_room(alloc, 3, None)?;
-    let is_told = writes_by_twos(&mut writer) == ([Some(2), Some(1), None], 1);
-    Ok(is_told && writer.into_bytes().as_slice() == b"abc".as_slice())
+    let told = writes_by_twos(&mut writer);
+    Ok((told, writer.into_bytes().as_slice() == b"abc".as_slice()))
 }
 
 #[test]
 fn memory_is_written(rt: HostRuntime) -> Result<(), Fail> {
-    let takes_three = takes_three(rt.alloc())?;
-    assert!(rt; takes_three);
+    let told = taken_and_held(rt.alloc())?;
+    assert_eq!(rt; told, (([Some(2), Some(1), None], 1), true));
     Ok(())
 }
 
@@ -348,11 +445,18 @@ fn laws_are_called() {
     laws::union_is_maximum();
     laws::counter_is_row();
     laws::counter_grows();
+    laws::counter_counts_paths();
+    laws::start_is_counted();
     laws::quiet_stays();
     laws::changed_suffice();
+    laws::accumulators_gather();
     laws::end_is_least();
     laws::estimate_grows();
     laws::tallies_fit();
     laws::part_is_strided();
     laws::join_is_a_join();
+    history::standing_is_posted();
+    history::nothing_goes_back();
+    history::floor_bounds_names();
+    history::replies_stay();
 }
