@@ -13,7 +13,7 @@ use Rattle.ball_model.specs.Batches.{IsRow, ids_of}
 use Rattle.batches.specs.declared.error.BatchError.{BatchError}
 use Rattle.batches.specs.declared.error.BatchError.TheVariants as errors
 use Rattle.batches.specs.declared.header.Header.{Header}
-use Rattle.batches.specs.Kept.{rows_at}
+use Rattle.batches.specs.Kept.{first_rows}
 use Rattle.batches.specs.Reading.{◌>>=◌, magic, check_head, check_length, check_row, check_rows}
 
 -- a step that passed, and what followed it
@@ -193,8 +193,8 @@ unfoldable pub AreEven : ℕ → List (ℕ × List ℕ) → Type 0
 AreEven m [] = Unit {0}
 AreEven m (row ∷ rows) = (length row.1 ≡ m) × AreEven m rows
 
-pub rows_even : (m n : ℕ) (bytes : List ℕ) → length bytes ≡ n * (4 + m) → AreEven m (rows_at m n bytes)
-unfolding rows_at AreEven
+pub rows_even : (m n : ℕ) (bytes : List ℕ) → length bytes ≡ n * (4 + m) → AreEven m (first_rows m n bytes)
+unfolding first_rows AreEven
 rows_even m zero bytes len = tt
 rows_even m (suc n) bytes len =
     let long : length bytes ≡ n * (4 + m) + (4 + m) = len ∙ suc-mul n (4 + m) in

@@ -3,7 +3,7 @@ use Rattle.std.proofs.Common.{◌≡◌, ℕ, suc, ◌+◌, ◌-◌, ◌*◌, �
 use Rattle.std.specs.Prelude.{None, Some}
 use Rattle.std.specs.List.{All}
 use Rattle.std.specs.List.Sorted.{IsStrictlyIncreasing}
-use Rattle.std.proofs.Math.Nat.{suc-mul, div-le_self, mul-le-mul_left}
+use Rattle.std.proofs.Math.Nat.{suc-mul, div-le_self, mul-le-mul_right}
 use Rattle.std.proofs.Math.Seq.{get_or-append_seam}
 use Rattle.std.proofs.lemmas.Bool.{cases_lt}
 use Rattle.std.proofs.lemmas.List.{length-append, get_or_append_left, map_push, get_or-map}
@@ -12,47 +12,44 @@ use Rattle.std.proofs.lemmas.List.Kept.{AllPairs-from_increasing}
 use Rattle.ball_model.specs.declared.names.BatchName.{BatchName}
 use Rattle.ball_model.specs.PlanValue.{PlanValue, IsPlan, part_size}
 use Rattle.ball_model.specs.Batches.{BatchValue, IsRow, IsBatch, ids_of, registers_of, find_row}
-use Rattle.batches.specs.Kept.{rows_of, IsKept}
+use Rattle.batches.specs.Kept.{paired_rows, IsKept}
 use Rattle.ball_model.proofs.PartLemmas.{part_size-is}
-use Rattle.batches.proofs.RowLemmas.{rows_of-length, rows_of-ids, rows_of-push, rows_of-registers, find_at, find_none}
+use Rattle.batches.proofs.RowLemmas.{paired_rows-length, paired_rows-ids, paired_rows-push, paired_rows-registers, find_at, find_none}
 
 -- a batch, and the vertices and the registers that are its rows
 pub record Kept (b : BatchValue) (ids registers : List ℕ) : Type 0 where
   pub batch : IsBatch b
   pub room : length registers ≡ length ids * 2 ^ b.plan.log2m
-  pub rows : b.rows ≡ rows_of (2 ^ b.plan.log2m) ids registers
+  pub rows : b.rows ≡ paired_rows (2 ^ b.plan.log2m) ids registers
 
 -- a batch seen from its fields
 pub kept_of : (plan : PlanValue) (name : BatchName) (changed : ℕ) (ids registers : List ℕ) (b : BatchValue)
-    → record { plan = plan; name = name; changed = changed; rows = rows_of (2 ^ plan.log2m) ids registers } ≡ b
-    → IsKept (record { plan = plan; name = name; changed = changed; rows = rows_of (2 ^ plan.log2m) ids registers }) ids registers → Kept b ids registers
+    → record { plan = plan; name = name; changed = changed; rows = paired_rows (2 ^ plan.log2m) ids registers } ≡ b
+    → IsKept (record { plan = plan; name = name; changed = changed; rows = paired_rows (2 ^ plan.log2m) ids registers }) ids registers → Kept b ids registers
 kept_of plan name changed ids registers b same kept =
     let P : BatchValue → Type 0 = λ x. Kept x ids registers in
     subst P same (record { batch = kept.batch; room = kept.room; rows = refl })
 
 -- a row for each vertex
 pub kept-count : (b : BatchValue) (ids registers : List ℕ) → Kept b ids registers → length b.rows ≡ length ids
-kept-count b ids registers kept = ap length kept.rows ∙ rows_of-length (2 ^ b.plan.log2m) ids registers
+kept-count b ids registers kept = ap length kept.rows ∙ paired_rows-length (2 ^ b.plan.log2m) ids registers
 
 -- the rows are of these vertices
 pub kept-ids : (b : BatchValue) (ids registers : List ℕ) → Kept b ids registers → ids_of b.rows ≡ ids
-kept-ids b ids registers kept = ap ids_of kept.rows ∙ rows_of-ids (2 ^ b.plan.log2m) ids registers
+kept-ids b ids registers kept = ap ids_of kept.rows ∙ paired_rows-ids (2 ^ b.plan.log2m) ids registers
 
 -- the registers of a row
 pub kept-registers : (b : BatchValue) (i : ℕ) (ids registers : List ℕ) → Kept b ids registers → i < length b.rows → get_or (registers_of b.rows) i [] ≡ take (2 ^ b.plan.log2m) (drop (i * 2 ^ b.plan.log2m) registers)
 kept-registers b i ids registers kept lt =
     ap (λ (rows : List (ℕ × List ℕ)). get_or (registers_of rows) i []) kept.rows
-    ∙ rows_of-registers (2 ^ b.plan.log2m) i ids registers (omega (arith, lt, kept-count b ids registers kept))
+    ∙ paired_rows-registers (2 ^ b.plan.log2m) i ids registers (omega (arith, lt, kept-count b ids registers kept))
 
 -- the registers of a row lie within the registers
 pub kept-room : (b : BatchValue) (i : ℕ) (ids registers : List ℕ) → Kept b ids registers → i < length b.rows → (i + 1) * 2 ^ b.plan.log2m ≤ length registers
 kept-room b i ids registers kept lt =
     let le : i + 1 ≤ length ids = omega (arith, lt, kept-count b ids registers kept) in
-    let cells : (i + 1) * 2 ^ b.plan.log2m ≤ length ids * 2 ^ b.plan.log2m = mul_le (2 ^ b.plan.log2m) (i + 1) (length ids) le in
+    let cells : (i + 1) * 2 ^ b.plan.log2m ≤ length ids * 2 ^ b.plan.log2m = mul-le-mul_right (2 ^ b.plan.log2m) le in
     omega (arith, cells, kept.room)
-  where
-    mul_le : (m a b : ℕ) → a ≤ b → a * m ≤ b * m
-    mul_le m a b le = omega (arith, mul-le-mul_left m le)
 
 -- the registers of a row are of the width
 pub kept-width : (b : BatchValue) (i : ℕ) → IsBatch b → i < length b.rows → length (get_or (registers_of b.rows) i []) ≡ 2 ^ b.plan.log2m
@@ -130,8 +127,8 @@ batch-push b id row is one above room = record {
 -- a batch with no rows yet
 pub kept_start : (plan : PlanValue) (name : BatchName) (changed m : ℕ) (ids registers : List ℕ) → IsPlan plan → name.superstep ≤ plan.limit → name.source < plan.parts → name.target < plan.parts
     → changed ≤ part_size plan.vertices plan.parts name.source → ids ≡ [] → registers ≡ []
-    → IsKept (record { plan = plan; name = name; changed = changed; rows = rows_of m ids registers }) ids registers
-unfolding rows_of
+    → IsKept (record { plan = plan; name = name; changed = changed; rows = paired_rows m ids registers }) ids registers
+unfolding paired_rows
 kept_start plan name changed m ids registers ok superstep source target size no_ids no_registers =
     rw (no_ids, no_registers) (record {
       batch = record { plan = ok; superstep = superstep; source = source; target = target; changed = size; count = omega arith; ascending = λ k lt. absurd (omega arith); rows = λ k d lt. absurd (omega arith) };
@@ -139,8 +136,8 @@ kept_start plan name changed m ids registers ok superstep source target size no_
     })
 
 -- there are no rows without vertices
-pub rows_none : (m : ℕ) (ids registers : List ℕ) → ids ≡ [] → rows_of m ids registers ≡ []
-unfolding rows_of
+pub rows_none : (m : ℕ) (ids registers : List ℕ) → ids ≡ [] → paired_rows m ids registers ≡ []
+unfolding paired_rows
 rows_none m ids registers e = rw e refl
 
 -- what a push needs of a batch, and what it makes of it
@@ -149,13 +146,13 @@ pub record Pushed (b : BatchValue) (ids registers row : List ℕ) (id : ℕ) (ne
   pub is : new ≡ record { plan = b.plan; name = b.name; changed = b.changed; rows = b.rows ++ (id, row) ∷ [] }
 
 pushed_kept : (b : BatchValue) (ids registers row : List ℕ) (id : ℕ) → Kept b ids registers → IsRow b.plan b.name.source (id, row) → All (λ before. before < id) (ids_of b.rows) → length b.rows < b.changed
-    → Pushed b ids registers row id (record { plan = b.plan; name = b.name; changed = b.changed; rows = rows_of (2 ^ b.plan.log2m) (ids ++ id ∷ []) (registers ++ row) })
+    → Pushed b ids registers row id (record { plan = b.plan; name = b.name; changed = b.changed; rows = paired_rows (2 ^ b.plan.log2m) (ids ++ id ∷ []) (registers ++ row) })
 pushed_kept b ids registers row id kept one above room =
     let m = 2 ^ b.plan.log2m in
-    let rows : rows_of m (ids ++ id ∷ []) (registers ++ row) ≡ b.rows ++ (id, row) ∷ [] =
-    rows_of-push m ids registers id row kept.room one.width ∙ ap (λ (t : List (ℕ × List ℕ)). t ++ (id, row) ∷ []) (sym kept.rows) in
+    let rows : paired_rows m (ids ++ id ∷ []) (registers ++ row) ≡ b.rows ++ (id, row) ∷ [] =
+    paired_rows-push m ids registers id row kept.room one.width ∙ ap (λ (t : List (ℕ × List ℕ)). t ++ (id, row) ∷ []) (sym kept.rows) in
     let with_rows : List (ℕ × List ℕ) → BatchValue = λ t. record { plan = b.plan; name = b.name; changed = b.changed; rows = t } in
-    let same : with_rows (rows_of m (ids ++ id ∷ []) (registers ++ row)) ≡ with_rows (b.rows ++ (id, row) ∷ []) = ap with_rows rows in
+    let same : with_rows (paired_rows m (ids ++ id ∷ []) (registers ++ row)) ≡ with_rows (b.rows ++ (id, row) ∷ []) = ap with_rows rows in
     let more : length (ids ++ id ∷ []) ≡ suc (length ids) = omega (arith, length-append ids (id ∷ [])) in
     let cells : length (ids ++ id ∷ []) * m ≡ length ids * m + m = ap (λ (n : ℕ). n * m) more ∙ suc-mul (length ids) m in
     record {
@@ -172,18 +169,18 @@ seen plan name changed rows = record { plan = plan; name = name; changed = chang
 
 -- one row more in memory, of a batch seen from its fields
 pub pushed : (plan : PlanValue) (name : BatchName) (changed : ℕ) (ids registers ids' registers' row : List ℕ) (id : ℕ) (b : BatchValue)
-    → record { plan = plan; name = name; changed = changed; rows = rows_of (2 ^ plan.log2m) ids registers } ≡ b
-    → IsKept (record { plan = plan; name = name; changed = changed; rows = rows_of (2 ^ plan.log2m) ids registers }) ids registers
+    → record { plan = plan; name = name; changed = changed; rows = paired_rows (2 ^ plan.log2m) ids registers } ≡ b
+    → IsKept (record { plan = plan; name = name; changed = changed; rows = paired_rows (2 ^ plan.log2m) ids registers }) ids registers
     → IsRow b.plan b.name.source (id, row) → All (λ before. before < id) (ids_of b.rows) → length b.rows < b.changed → ids' ≡ ids ++ id ∷ [] → registers' ≡ registers ++ row
     → record {
-      kept : IsKept (record { plan = plan; name = name; changed = changed; rows = rows_of (2 ^ plan.log2m) ids' registers' }) ids' registers';
-      is : seen plan name changed (rows_of (2 ^ plan.log2m) ids' registers') ≡ seen b.plan b.name b.changed (b.rows ++ (id, row) ∷ []);
+      kept : IsKept (record { plan = plan; name = name; changed = changed; rows = paired_rows (2 ^ plan.log2m) ids' registers' }) ids' registers';
+      is : seen plan name changed (paired_rows (2 ^ plan.log2m) ids' registers') ≡ seen b.plan b.name b.changed (b.rows ++ (id, row) ∷ []);
     }
 pushed plan name changed ids registers ids' registers' row id b view kept one above room is_ids is_registers =
     let before = kept_of plan name changed ids registers b view kept in
     let p = pushed_kept b ids registers row id before one above room in
-    let now : BatchValue → BatchValue = λ v. record { plan = v.plan; name = v.name; changed = v.changed; rows = rows_of (2 ^ v.plan.log2m) (ids ++ id ∷ []) (registers ++ row) } in
-    let same : now (record { plan = plan; name = name; changed = changed; rows = rows_of (2 ^ plan.log2m) ids registers }) ≡ now b = ap now view in
+    let now : BatchValue → BatchValue = λ v. record { plan = v.plan; name = v.name; changed = v.changed; rows = paired_rows (2 ^ v.plan.log2m) (ids ++ id ∷ []) (registers ++ row) } in
+    let same : now (record { plan = plan; name = name; changed = changed; rows = paired_rows (2 ^ plan.log2m) ids registers }) ≡ now b = ap now view in
     rw (is_ids, is_registers) (record { kept = subst (λ (v : BatchValue). IsKept v (ids ++ id ∷ []) (registers ++ row)) (sym same) p.kept; is = same ∙ p.is })
 
 -- where a binary search ends between lesser and greater vertices there is none

@@ -1,10 +1,10 @@
 -- A true batch is within the limits.
-use Rattle.std.proofs.Common.{◌≡◌, ℕ, zero, suc, ◌+◌, ◌%◌, ◌<◌, ◌≤◌, ◌==◌, ◌&&◌, Bool, true, false, cond, List, [], ◌∷◌, length, map, get_or, refl, sym, ap, subst, arith}
+use Rattle.std.proofs.Common.{◌≡◌, ℕ, ◌+◌, ◌%◌, ◌<◌, ◌≤◌, ◌==◌, ◌&&◌, Bool, true, false, cond, List, [], ◌∷◌, length, map, get_or, refl, sym, ap, subst, arith}
 use Rattle.std.specs.List.{filter, range_with_len, All}
 use Rattle.std.specs.List.Sorted.{IsStrictlyIncreasing}
 use Rattle.std.proofs.lemmas.Bool.{eqb-true}
 use Rattle.std.proofs.lemmas.List.{length-map, get_or-map}
-use Rattle.std.proofs.lemmas.List.Elements.{All-filter}
+use Rattle.std.proofs.lemmas.List.Elements.{All-filter, filter_passes}
 use Rattle.std.proofs.lemmas.List.FromFn.{length-range_with_len, get_or-range_with_len}
 use Rattle.std.proofs.lemmas.List.Kept.{IsStrictlyIncreasing-filter}
 use Rattle.std.proofs.lemmas.List.Sums.{length-filter, count_by-le-length}
@@ -27,16 +27,6 @@ both_fewer p q (x ∷ xs) = one (p x) (q x) (both_fewer p q xs)
     one true false h = omega arith
     one false b h = h
 
--- what a filter leaves passes
-passes : (p : ℕ → Bool) (xs : List ℕ) → All (λ x. p x ≡ true) (filter p xs)
-passes p [] = λ k d lt. absurd (omega arith)
-passes p (x ∷ xs) = one (passes p xs) (p x) refl
-  where
-    one : All (λ y. p y ≡ true) (filter p xs) → (b : Bool) → p x ≡ b → All (λ y. p y ≡ true) (cond b (x ∷ filter p xs) (filter p xs))
-    one rest true e zero d lt = e
-    one rest true e (suc k) d lt = rest k d (omega arith)
-    one rest false e k d lt = rest k d lt
-
 -- the vertices of a partition are below the number of vertices, of the partition, and ascend
 below : (n parts p : ℕ) → All (λ v. v < n) (vertices_of n parts p)
 unfolding vertices_of
@@ -44,7 +34,7 @@ below n parts p = All-filter (λ v. v % parts == p) (λ v. v < n) (range_with_le
 
 own : (n parts p : ℕ) → All (λ v. v % parts ≡ p) (vertices_of n parts p)
 unfolding vertices_of
-own n parts p k d lt = eqb-true _ _ (passes (λ v. v % parts == p) (range_with_len 0 n) k d lt)
+own n parts p k d lt = eqb-true _ _ (filter_passes (λ v. v % parts == p) (range_with_len 0 n) k d lt)
 
 rises : (n parts p : ℕ) → IsStrictlyIncreasing (vertices_of n parts p)
 unfolding vertices_of

@@ -9,7 +9,7 @@ use Rattle.ball_model.specs.Batches.{BatchValue, IsRow, IsBatch, row_bytes, batc
 use Rattle.batches.specs.declared.error.BatchError.{BatchError}
 use Rattle.batches.specs.declared.error.BatchError.TheVariants as errors
 use Rattle.batches.specs.declared.header.Header.{Header}
-use Rattle.batches.specs.Kept.{rows_at, rows_of, IsKept}
+use Rattle.batches.specs.Kept.{first_rows, paired_rows, IsKept}
 use Rattle.batches.specs.Reading.{◌>>=◌, magic, head_at, head_bytes, check_head, check_length, check_rows, check_at, batch_from, batch_at, GivesOrMemory, AgreesButJob}
 use Rattle.batches.proofs.HeadLemmas.{IsBytes, IsBytes-drop, Fits, head_takes, head_again, head_len, head_after, same_head, job_len}
 use Rattle.batches.proofs.RowLemmas.{rows_take, rows_again, rows_len, flat_len, AreWide}
@@ -31,14 +31,14 @@ pub record IsChecked (plan : PlanValue) (bytes : List ℕ) (h : Header) : Type 0
   pub is : h ≡ head_at bytes
   pub head : IsHead plan h
   pub whole : length (drop 54 bytes) ≡ h.count * (4 + 2 ^ plan.log2m)
-  pub rows : AreRows plan h.name.source 0 (rows_at (2 ^ plan.log2m) h.count (drop 54 bytes))
+  pub rows : AreRows plan h.name.source 0 (first_rows (2 ^ plan.log2m) h.count (drop 54 bytes))
 
 pub checked_takes : (plan : PlanValue) (bytes : List ℕ) (h : Header) → check_at plan bytes ≡ Ok h → IsChecked plan bytes h
 unfolding check_at
 checked_takes plan bytes h e =
     let m = 2 ^ plan.log2m in
     let g = head_at bytes in
-    let rows = rows_at m g.count (drop 54 bytes) in
+    let rows = first_rows m g.count (drop 54 bytes) in
     let start = guard_ok (ltb (length bytes) 54) errors.Short _ h e in
     let one = bind_ok (check_head plan g) (λ head. check_length (g.count * (4 + m)) (length bytes - 54) >>= λ whole. check_rows plan g.name.source 0 rows >>= λ fine. Ok g) h start.1 in
     let two = bind_ok (check_length (g.count * (4 + m)) (length bytes - 54)) (λ whole. check_rows plan g.name.source 0 rows >>= λ fine. Ok g) h one.2 in
@@ -54,9 +54,9 @@ checked_takes plan bytes h e =
     subst (λ (x : Header). IsChecked plan bytes x) (ok_is g h three.2) all
 
 -- what passes the checks is a batch
-pub checked_batch : (plan : PlanValue) (bytes : List ℕ) (h : Header) → IsPlan plan → IsChecked plan bytes h → IsBatch (batch_from plan h (rows_at (2 ^ plan.log2m) h.count (drop 54 bytes)))
+pub checked_batch : (plan : PlanValue) (bytes : List ℕ) (h : Header) → IsPlan plan → IsChecked plan bytes h → IsBatch (batch_from plan h (first_rows (2 ^ plan.log2m) h.count (drop 54 bytes)))
 checked_batch plan bytes h ok c =
-    let rows = rows_at (2 ^ plan.log2m) h.count (drop 54 bytes) in
+    let rows = first_rows (2 ^ plan.log2m) h.count (drop 54 bytes) in
     let digest : length h.job ≡ 32 = ap (λ (x : Header). length x.job) c.is ∙ job_len bytes c.long in
     record {
       plan = record { log2m_from = ok.log2m_from; log2m_to = ok.log2m_to; seed_to = ok.seed_to; parts_from = ok.parts_from; parts_to = ok.parts_to; limit_from = ok.limit_from; limit_to = ok.limit_to; vertices_to = ok.vertices_to; digest = digest };
@@ -70,11 +70,11 @@ checked_batch plan bytes h ok c =
     }
 
 -- what passes the checks is spelled so
-pub checked_spelled : (plan : PlanValue) (bytes : List ℕ) (h : Header) → IsBytes bytes → IsChecked plan bytes h → bytes ≡ batch_bytes (batch_from plan h (rows_at (2 ^ plan.log2m) h.count (drop 54 bytes)))
+pub checked_spelled : (plan : PlanValue) (bytes : List ℕ) (h : Header) → IsBytes bytes → IsChecked plan bytes h → bytes ≡ batch_bytes (batch_from plan h (first_rows (2 ^ plan.log2m) h.count (drop 54 bytes)))
 checked_spelled plan bytes h fits c =
     let m = 2 ^ plan.log2m in
     let body = drop 54 bytes in
-    let rows = rows_at m h.count body in
+    let rows = first_rows m h.count body in
     let the_head : h ≡ head_of (batch_from plan h rows) = same_head h (head_of (batch_from plan h rows)) c.head.magic c.head.version c.head.log2m refl refl refl refl refl (sym (rows_len m h.count body)) in
     head_takes bytes c.long fits
     ∙ ap (λ (x : Header). head_bytes x ++ body) (sym c.is ∙ the_head)
@@ -87,7 +87,7 @@ unfolding AreWide AreRows
 rows_wide plan source least [] few are = tt
 rows_wide plan source least (row ∷ rows) few are = (omega (arith, are.0.vertex, few), are.0.width, rows_wide plan source (row.0 + 1) rows few are.2)
 
-checks_pass : (plan : PlanValue) (bytes body : List ℕ) (h : Header) (rows : List (ℕ × List ℕ)) → 54 ≤ length bytes → head_at bytes ≡ h → drop 54 bytes ≡ body → rows_at (2 ^ plan.log2m) h.count body ≡ rows
+checks_pass : (plan : PlanValue) (bytes body : List ℕ) (h : Header) (rows : List (ℕ × List ℕ)) → 54 ≤ length bytes → head_at bytes ≡ h → drop 54 bytes ≡ body → first_rows (2 ^ plan.log2m) h.count body ≡ rows
     → check_head plan h ≡ Ok tt → length bytes - 54 ≡ h.count * (4 + 2 ^ plan.log2m) → check_rows plan h.name.source 0 rows ≡ Ok tt → batch_at plan bytes ≡ Ok (batch_from plan h rows)
 unfolding check_at
 checks_pass plan bytes body h rows long is after these head_fine len rows_fine =
@@ -144,9 +144,9 @@ spelling_is_read plan b is agrees =
     spelling_again plan b agrees is ∙ ap (λ (x : BatchValue). Ok x) whole
 
 -- bytes that are read passed the checks
-pub batch_takes : (plan : PlanValue) (bytes : List ℕ) (b : BatchValue) → batch_at plan bytes ≡ Ok b → (h : Header) × IsChecked plan bytes h × (batch_from plan h (rows_at (2 ^ plan.log2m) h.count (drop 54 bytes)) ≡ b)
+pub batch_takes : (plan : PlanValue) (bytes : List ℕ) (b : BatchValue) → batch_at plan bytes ≡ Ok b → (h : Header) × IsChecked plan bytes h × (batch_from plan h (first_rows (2 ^ plan.log2m) h.count (drop 54 bytes)) ≡ b)
 batch_takes plan bytes b e =
-    let one = bind_ok (check_at plan bytes) (λ head. Ok (batch_from plan head (rows_at (2 ^ plan.log2m) head.count (drop 54 bytes)))) b e in
+    let one = bind_ok (check_at plan bytes) (λ head. Ok (batch_from plan head (first_rows (2 ^ plan.log2m) head.count (drop 54 bytes)))) b e in
     (one.0, checked_takes plan bytes one.0 one.1, ok_is _ b one.2)
 
 -- a refusal is due, which is no want of memory
@@ -168,7 +168,7 @@ checked_asks-none : (plan : PlanValue) (bytes : List ℕ) → AsksNone (check_at
 unfolding check_at
 checked_asks-none plan bytes =
     let g = head_at bytes in
-    let rows = rows_at (2 ^ plan.log2m) g.count (drop 54 bytes) in
+    let rows = first_rows (2 ^ plan.log2m) g.count (drop 54 bytes) in
     guard_asks-none (ltb (length bytes) 54) errors.Short _ tt (bind_asks-none (check_head plan g) _ (head_asks-none plan g) (λ head.
     bind_asks-none (check_length (g.count * (4 + 2 ^ plan.log2m)) (length bytes - 54)) _ (length_asks-none _ _) (λ whole.
     bind_asks-none (check_rows plan g.name.source 0 rows) _ (rows_ask-none plan g.name.source 0 rows) (λ fine. ok_asks-none g))))
@@ -179,7 +179,7 @@ refused plan bytes e same =
     gives_err e (batch_at plan bytes) (err_asks-none Header e (subst (λ (r : Result Header BatchError). AsksNone r) (sym same) (checked_asks-none plan bytes))) (rw (← same) refl)
 
 -- what passes the checks is read
-pub read_is : (plan : PlanValue) (bytes : List ℕ) (h : Header) → check_at plan bytes ≡ Ok h → batch_at plan bytes ≡ Ok (batch_from plan h (rows_at (2 ^ plan.log2m) h.count (drop 54 bytes)))
+pub read_is : (plan : PlanValue) (bytes : List ℕ) (h : Header) → check_at plan bytes ≡ Ok h → batch_at plan bytes ≡ Ok (batch_from plan h (first_rows (2 ^ plan.log2m) h.count (drop 54 bytes)))
 read_is plan bytes h same = rw same refl
 
 -- the answer that is due, at a batch with these bytes
@@ -212,19 +212,19 @@ batch_is_one a b is_a is_b agrees same =
 
 -- the batch that was read
 pub kept_is : (plan p : PlanValue) (bytes ids registers : List ℕ) (h : Header) (m : ℕ) → m ≡ 2 ^ plan.log2m → p ≡ record plan { job = h.job }
-    → rows_of m ids registers ≡ rows_at m h.count (drop 54 bytes)
-    → record { plan = p; name = h.name; changed = h.changed; rows = rows_of (2 ^ p.log2m) ids registers } ≡ batch_from plan h (rows_at (2 ^ plan.log2m) h.count (drop 54 bytes))
+    → paired_rows m ids registers ≡ first_rows m h.count (drop 54 bytes)
+    → record { plan = p; name = h.name; changed = h.changed; rows = paired_rows (2 ^ p.log2m) ids registers } ≡ batch_from plan h (first_rows (2 ^ plan.log2m) h.count (drop 54 bytes))
 kept_is plan p bytes ids registers h m e_m e_p rows =
-    let P : PlanValue → Type 0 = λ q. record { plan = q; name = h.name; changed = h.changed; rows = rows_of (2 ^ q.log2m) ids registers } ≡ batch_from plan h (rows_at (2 ^ plan.log2m) h.count (drop 54 bytes)) in
-    let at : rows_of (2 ^ plan.log2m) ids registers ≡ rows_at (2 ^ plan.log2m) h.count (drop 54 bytes) = subst (λ (w : ℕ). rows_of w ids registers ≡ rows_at w h.count (drop 54 bytes)) e_m rows in
+    let P : PlanValue → Type 0 = λ q. record { plan = q; name = h.name; changed = h.changed; rows = paired_rows (2 ^ q.log2m) ids registers } ≡ batch_from plan h (first_rows (2 ^ plan.log2m) h.count (drop 54 bytes)) in
+    let at : paired_rows (2 ^ plan.log2m) ids registers ≡ first_rows (2 ^ plan.log2m) h.count (drop 54 bytes) = subst (λ (w : ℕ). paired_rows w ids registers ≡ first_rows w h.count (drop 54 bytes)) e_m rows in
     subst P (sym e_p) (ap (λ (t : List (ℕ × List ℕ)). batch_from plan h t) at)
 
 -- what was read and kept in memory
 pub kept_read : (plan p : PlanValue) (bytes ids registers : List ℕ) (h : Header) (m : ℕ) → IsPlan plan → IsChecked plan bytes h → m ≡ 2 ^ plan.log2m → p ≡ record plan { job = h.job }
-    → rows_of m ids registers ≡ rows_at m h.count (drop 54 bytes) → length registers ≡ length ids * m
-    → IsKept (record { plan = p; name = h.name; changed = h.changed; rows = rows_of (2 ^ p.log2m) ids registers }) ids registers
+    → paired_rows m ids registers ≡ first_rows m h.count (drop 54 bytes) → length registers ≡ length ids * m
+    → IsKept (record { plan = p; name = h.name; changed = h.changed; rows = paired_rows (2 ^ p.log2m) ids registers }) ids registers
 kept_read plan p bytes ids registers h m ok c e_m e_p rows room =
-    let same : record { plan = p; name = h.name; changed = h.changed; rows = rows_of (2 ^ p.log2m) ids registers } ≡ batch_from plan h (rows_at (2 ^ plan.log2m) h.count (drop 54 bytes)) = kept_is plan p bytes ids registers h m e_m e_p rows in
+    let same : record { plan = p; name = h.name; changed = h.changed; rows = paired_rows (2 ^ p.log2m) ids registers } ≡ batch_from plan h (first_rows (2 ^ plan.log2m) h.count (drop 54 bytes)) = kept_is plan p bytes ids registers h m e_m e_p rows in
     record {
       batch = subst IsBatch (sym same) (checked_batch plan bytes h ok c);
       room = room ∙ ap (λ (w : ℕ). length ids * w) (e_m ∙ ap (λ (q : PlanValue). 2 ^ q.log2m) (sym e_p));
@@ -232,11 +232,11 @@ kept_read plan p bytes ids registers h m ok c e_m e_p rows room =
 
 -- what is written is the spelling
 pub written_is : (b : BatchValue) (h : Header) (m : ℕ) (ids registers o0 o1 o2 : List ℕ) → Kept b ids registers → h ≡ head_of b → m ≡ 2 ^ b.plan.log2m
-    → o0 ≡ [] → o1 ≡ o0 ++ head_bytes h → o2 ≡ o1 ++ flat_map row_bytes (rows_of m ids registers) → o2 ≡ batch_bytes b
+    → o0 ≡ [] → o1 ≡ o0 ++ head_bytes h → o2 ≡ o1 ++ flat_map row_bytes (paired_rows m ids registers) → o2 ≡ batch_bytes b
 written_is b h m ids registers o0 o1 o2 kept e_h e_m e0 e1 e2 =
     let first : o1 ≡ head_bytes (head_of b) = rw (e0, e_h) at e1 in
-    let rows : rows_of m ids registers ≡ b.rows = ap (λ (w : ℕ). rows_of w ids registers) e_m ∙ sym kept.rows in
-    e2 ∙ ap (λ (t : List ℕ). t ++ flat_map row_bytes (rows_of m ids registers)) first
+    let rows : paired_rows m ids registers ≡ b.rows = ap (λ (w : ℕ). paired_rows w ids registers) e_m ∙ sym kept.rows in
+    e2 ∙ ap (λ (t : List ℕ). t ++ flat_map row_bytes (paired_rows m ids registers)) first
     ∙ ap (λ (rs : List (ℕ × List ℕ)). head_bytes (head_of b) ++ flat_map row_bytes rs) rows ∙ sym (batch_bytes-head b)
 
 -- where the checks refuse, no batch has these bytes

@@ -6,9 +6,9 @@ use Rattle.ball_model.specs.PlanValue.{PlanValue}
 use Rattle.ball_model.specs.Batches.{BatchValue, IsBatch}
 
 -- the rows of some vertices, whose registers lie one row after another, m to a row
-unfoldable pub rows_of : ℕ → List ℕ → List ℕ → List (ℕ × List ℕ)
-rows_of m [] registers = []
-rows_of m (id ∷ ids) registers = (id, take m registers) ∷ rows_of m ids (drop m registers)
+unfoldable pub paired_rows : ℕ → List ℕ → List ℕ → List (ℕ × List ℕ)
+paired_rows m [] registers = []
+paired_rows m (id ∷ ids) registers = (id, take m registers) ∷ paired_rows m ids (drop m registers)
 
 -- the batch of these fields, whose rows are kept as vertices and registers
 abbrev pub batch_of : PlanValue → BatchName → ℕ → List ℕ → List ℕ → BatchValue
@@ -17,7 +17,7 @@ batch_of plan name changed ids registers =
       plan = plan;
       name = name;
       changed = changed;
-      rows = rows_of (2 ^ plan.log2m) ids registers;
+      rows = paired_rows (2 ^ plan.log2m) ids registers;
     }
 
 -- a batch is kept so: it is within the limits, and each row has its registers
@@ -34,6 +34,6 @@ abbrev pub row_at : ℕ → List ℕ → ℕ × List ℕ
 row_at m bytes = (field w32 0 bytes, take m (drop 4 bytes))
 
 -- the first n rows of m registers of bytes
-unfoldable pub rows_at : ℕ → ℕ → List ℕ → List (ℕ × List ℕ)
-rows_at m zero bytes = []
-rows_at m (suc n) bytes = row_at m bytes ∷ rows_at m n (drop (4 + m) bytes)
+unfoldable pub first_rows : ℕ → ℕ → List ℕ → List (ℕ × List ℕ)
+first_rows m zero bytes = []
+first_rows m (suc n) bytes = row_at m bytes ∷ first_rows m n (drop (4 + m) bytes)

@@ -2,12 +2,13 @@
 use Rattle.std.specs.Prelude.{◌≡◌, ℕ, ◌+◌, ◌-◌, ◌*◌, ◌%◌, ◌^◌, ◌==◌, not, if◌then◌else◌, nat_lt, nat_le, List, [], ◌∷◌, ◌++◌, length, take, drop, slice_index, Result, Ok, Err, IsOk}
 use Rattle.std.specs.List.{list_any}
 use Rattle.std.specs.Int.{w16, w32, to_be_bytes}
+use Rattle.ball_model.specs.declared.names.BatchName.{BatchName}
 use Rattle.ball_model.specs.PlanValue.{PlanValue, part_size}
 use Rattle.ball_model.specs.Batches.{BatchValue}
 use Rattle.batches.specs.declared.error.BatchError.{BatchError}
 use Rattle.batches.specs.declared.error.BatchError.TheVariants as errors
 use Rattle.batches.specs.declared.header.Header.{Header}
-use Rattle.batches.specs.Kept.{field, rows_at}
+use Rattle.batches.specs.Kept.{field, first_rows}
 
 infixl 10 ◌>>=◌
 -- a step and what follows it, or the refusal of the step
@@ -39,6 +40,12 @@ head_bytes h =
     ++ to_be_bytes w32 h.name.superstep ++ to_be_bytes w16 h.name.source
     ++ to_be_bytes w16 h.name.target
     ++ h.job ++ to_be_bytes w32 h.changed ++ to_be_bytes w32 h.count
+
+-- bytes, and behind them a name
+abbrev pub with_name : List ℕ → BatchName → List ℕ
+with_name bytes name =
+    bytes ++ to_be_bytes w32 name.superstep ++ to_be_bytes w16 name.source
+    ++ to_be_bytes w16 name.target
 
 -- HBBT
 abbrev pub magic : ℕ
@@ -87,7 +94,7 @@ check_at plan bytes =
       head ← check_head plan (head_at bytes)
       whole ← check_length ((head_at bytes).count * (4 + 2 ^ plan.log2m)) (length bytes - 54)
       rows ← check_rows plan (head_at bytes).name.source 0
-          (rows_at (2 ^ plan.log2m) (head_at bytes).count (drop 54 bytes))
+          (first_rows (2 ^ plan.log2m) (head_at bytes).count (drop 54 bytes))
       Ok (head_at bytes)
 
 -- the batch of a plan that fixed fields and rows make: the job digest is theirs
@@ -103,7 +110,7 @@ batch_from plan h rows = record {
 abbrev pub batch_at : PlanValue → List ℕ → Result BatchValue BatchError
 batch_at plan bytes = do
   head ← check_at plan bytes
-  Ok (batch_from plan head (rows_at (2 ^ plan.log2m) head.count (drop 54 bytes)))
+  Ok (batch_from plan head (first_rows (2 ^ plan.log2m) head.count (drop 54 bytes)))
 
 -- the answer is the one that is due, or, where that is a batch, memory ran out
 abbrev pub GivesOrMemory : Result BatchValue BatchError → Result BatchValue BatchError → Type 0
@@ -114,7 +121,3 @@ GivesOrMemory (Err e) due = Err e ≡ due
 -- two plans are the same but for the job digest
 abbrev pub AgreesButJob : PlanValue → PlanValue → Type 0
 AgreesButJob plan other = other ≡ record plan { job = other.job }
-
-abbrev pub without_value : {A : Type 0} → Result A BatchError → Result (Unit {0}) BatchError
-without_value (Ok x) = Ok tt
-without_value (Err e) = Err e

@@ -4,7 +4,7 @@ ghost use Rattle.std.specs.Prelude.{◌≡◌, ◌+◌, ◌*◌, ◌^◌, ◌<�
 ghost use Rattle.std.specs.List.{All};
 ghost use Rattle.ball_model.specs.PlanValue.{part_size};
 ghost use Rattle.ball_model.specs.Batches.{BatchValue, IsRow, IsBatch, ids_of, registers_of, find_row, batch_bytes};
-ghost use Rattle.batches.specs.Kept.{rows_at};
+ghost use Rattle.batches.specs.Kept.{first_rows};
 ghost use Rattle.batches.specs.Reading.{check_at, batch_from, batch_at, GivesOrMemory, AgreesButJob};
 
 use crate::error::BatchError;
@@ -223,7 +223,7 @@ fn check(plan: &Plan, bytes: &[u8]) -> Result<Header, BatchError>
 fn read(alloc: Global, plan: &Plan, header: &Header, bytes: &[u8]) -> Result<Batch, AllocError>
     requires { check_at plan.now bytes.now ≡ Ok header.now }
     ensures { IfOk result (λ b. b ≡ batch_from plan.now header.now
-        (rows_at (2 ^ plan.now.log2m) header.now.count (drop 54 bytes.now))) }
+        (first_rows (2 ^ plan.now.log2m) header.now.count (drop 54 bytes.now))) }
 {
     let (_, body) = bytes.split_at(HEADER_LEN);
     let (ids, registers) = read_rows(alloc, plan.width(), header.count, body)?;

@@ -12,8 +12,10 @@ pub enum BatchError {
     /// There are fewer bytes than the fixed fields have, or fewer than the rows have.
     #[error("too few bytes")]
     Short,
+    /// The bytes do not begin with `HBBT`.
     #[error("not a batch")]
     Magic,
+    /// The version is not 1.
     #[error("not of version 1")]
     Version,
     /// The counters have another number of registers than the plan's.
@@ -25,6 +27,7 @@ pub enum BatchError {
     /// More vertices are changed than the source has, or there are more rows than changed vertices.
     #[error("a count is too great")]
     Count,
+    /// There are more bytes than the rows have.
     #[error("bytes after the last row")]
     Trailing,
     /// A row is of a number that is no vertex of the source.
@@ -36,6 +39,7 @@ pub enum BatchError {
     /// A register is above 33.
     #[error("a register is too great")]
     Rank,
+    /// Memory was refused. It is told only where the bytes pass all checks.
     #[error("out of memory")]
     Memory,
 }

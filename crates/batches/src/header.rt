@@ -3,7 +3,7 @@
 ghost use Rattle.std.specs.Prelude.{◌≡◌, ◌+◌, ◌-◌, ◌/◌, ◌≤◌, ◌<◌, ◌++◌, ◌∷◌, [], length, take, drop, OnOk};
 ghost use Rattle.std.specs.Int.{w16, w32, to_be_bytes};
 ghost use Rattle.batches.specs.Kept.{field};
-ghost use Rattle.batches.specs.Reading.{head_at, head_bytes, check_head};
+ghost use Rattle.batches.specs.Reading.{head_at, head_bytes, check_head, with_name};
 
 use crate::error::BatchError;
 use ball_model::{BatchName, Plan};
@@ -22,12 +22,19 @@ pub const HEADER_LEN: usize = 54;
 /// The fixed fields, as they stand.
 #[derive(Clone, Copy)]
 pub struct Header {
+    /// [`MAGIC`] in every batch.
     pub magic: u32,
+    /// [`VERSION`] in every batch.
     pub version: u8,
+    /// The binary logarithm of the number of registers.
     pub log2m: u8,
+    /// The superstep, the source and the target.
     pub name: BatchName,
+    /// The job digest.
     pub job: [u8; 32],
+    /// How many vertices of the source are changed at the superstep.
     pub changed: u32,
+    /// How many rows follow.
     pub count: u32,
 }
 
@@ -133,8 +140,7 @@ fn put_form(out: &mut Vec<u8>, header: &Header) -> Result<(), AllocError>
 
 // Appends a name.
 fn put_name(out: &mut Vec<u8>, name: BatchName) -> Result<(), AllocError>
-    ensures { OnOk result (out.new.items ≡ out.old.items ++ to_be_bytes w32 name.superstep
-        ++ to_be_bytes w16 name.source ++ to_be_bytes w16 name.target) }
+    ensures { OnOk result (out.new.items ≡ with_name out.old.items name) }
 {
     put_u32(out, name.superstep)?;
     put_u16(out, name.source)?;

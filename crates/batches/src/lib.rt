@@ -4,6 +4,17 @@
 //! and [`Batch::encode`] writes its bytes. [`Batch::decode`] reads them back: it answers the batch or, as a
 //! [`BatchError`], the first check that fails. Bytes that pass are the spelling of a batch within its limits, so a
 //! replica may rest on these limits whatever it is sent.
+//!
+//! ```text
+//! let mut batch = Batch::start(alloc, &plan, name, 2)?;   // 2 vertices of its source are changed
+//! batch.push(0, &row)?;                                   // vertex 0 has an edge into the target
+//! batch.find(0)                                           // Some: its registers
+//! batch.find(2)                                           // None
+//!
+//! let bytes = batch.encode(alloc)?;                       // "HBBT", version, name, .., and each row
+//! Batch::decode(alloc, &plan, &bytes)                     // Ok: the same batch
+//! Batch::decode(alloc, &plan, &bytes[1..])                // Err: BatchError::Magic
+//! ```
 #![tactic(auto)]
 
 mod batch;

@@ -1,11 +1,12 @@
 //! Rows of a batch, in memory and as bytes.
 
-ghost use Rattle.std.specs.Prelude.{◌≡◌, ◌+◌, ◌-◌, ◌*◌, ◌^◌, ◌≤◌, ◌<◌, ◌++◌, ◌∷◌, [], length, take, drop, max, nat_lt, IfOk, OnOk, OnErr};
+ghost use Rattle.std.specs.Prelude.{◌≡◌, ◌+◌, ◌-◌, ◌*◌, ◌^◌, ◌≤◌, ◌<◌, ◌++◌, ◌∷◌, [], length, take, drop, max, nat_lt, IfOk, OnOk, OnErr, Ok};
+ghost use Rattle.std.specs.Result.{result_and};
 ghost use Rattle.std.specs.List.{list_any, flat_map, fold};
 ghost use Rattle.std.specs.Int.{w32};
 ghost use Rattle.ball_model.specs.Batches.{row_bytes};
-ghost use Rattle.batches.specs.Kept.{field, row_at, rows_at, rows_of};
-ghost use Rattle.batches.specs.Reading.{check_length, check_row, check_rows, without_value};
+ghost use Rattle.batches.specs.Kept.{field, row_at, first_rows, paired_rows};
+ghost use Rattle.batches.specs.Reading.{check_length, check_row, check_rows};
 
 use crate::error::BatchError;
 use crate::header::{put_u32, u32_at};
@@ -14,6 +15,9 @@ use std::alloc::{AllocError, Global};
 
 /// The greatest rank.
 const MAX_RANK: u8 = 33;
+
+/// The greatest number of registers of a row.
+const MOST_REGISTERS: usize = 1024;
 
 /// How many bytes a row has before its registers.
 pub const ID_LEN: usize = 4;
@@ -53,7 +57,7 @@ pub fn check_len(wanted: usize, len: usize) -> Result<(), BatchError>
 #[tactic(auto, unfolding(crate::specs::Reading::check_row))]
 fn check_front(plan: &Plan, source: u16, least: u32, bytes: &[u8]) -> Result<u32, BatchError>
     requires { 4 + 2 ^ plan.now.log2m ≤ length bytes.now }
-    ensures exact { without_value result
+    ensures exact { result_and result (Ok tt)
         ≡ check_row plan.now source least (row_at (2 ^ plan.now.log2m) bytes.now) }
     ensures id { IfOk result (λ id. (id ≡ field w32 0 bytes.now) × (id < plan.now.vertices)) }
 {
@@ -76,7 +80,7 @@ fn check_front(plan: &Plan, source: u16, least: u32, bytes: &[u8]) -> Result<u32
 /// The first fault of the rows, row by row.
 pub fn check_body(plan: &Plan, source: u16, count: u32, body: &[u8]) -> Result<(), BatchError>
     requires { count * (4 + 2 ^ plan.now.log2m) ≤ length body.now }
-    ensures { result ≡ check_rows plan.now source 0 (rows_at (2 ^ plan.now.log2m) count body.now) }
+    ensures { result ≡ check_rows plan.now source 0 (first_rows (2 ^ plan.now.log2m) count body.now) }
 {
     let size = ID_LEN + plan.width();
     let mut least = 0;
@@ -130,7 +134,7 @@ fn read_each(
     requires no_ids { ids.old.items ≡ [] }
     requires no_registers { registers.old.items ≡ [] }
     ensures rows { OnOk result
-        (rows_of width ids.new.items registers.new.items ≡ rows_at width count body.now) }
+        (paired_rows width ids.new.items registers.new.items ≡ first_rows width count body.now) }
     ensures room { OnOk result
         (length registers.new.items ≡ length ids.new.items * width) }
 {
@@ -151,10 +155,10 @@ pub fn read_rows(
     count: u32,
     body: &[u8],
 ) -> Result<(Vec<u32>, Vec<u8>), AllocError>
-    requires small { width ≤ 1024 }
+    requires small { width ≤ MOST_REGISTERS }
     requires whole { length body.now ≡ count * (4 + width) }
     ensures rows { IfOk result
-        (λ r. rows_of width r.0.items r.1.items ≡ rows_at width count body.now) }
+        (λ r. paired_rows width r.0.items r.1.items ≡ first_rows width count body.now) }
     ensures room { IfOk result (λ r. length r.1.items ≡ length r.0.items * width) }
 {
     let mut ids = Vec::with_capacity(alloc, count as usize)?;
@@ -172,7 +176,7 @@ pub fn put_rows(
 ) -> Result<(), AllocError>
     requires { length registers.now ≡ length ids.now * width }
     ensures { OnOk result (out.new.items
-        ≡ out.old.items ++ flat_map row_bytes (rows_of width ids.now registers.now)) }
+        ≡ out.old.items ++ flat_map row_bytes (paired_rows width ids.now registers.now)) }
 {
     let mut rest = registers;
     for id in ids {

@@ -76,55 +76,75 @@ fn two_rows(alloc: Global) -> Result<Batch, Fail>
     Ok(batch)
 }
 
-/// The readers tell the two rows.
-fn tells_two_rows(batch: &Batch) -> bool
+/// How many rows there are, the vertex of the second, whether its registers are the row's, and whether vertices 1
+/// and 2 have rows.
+fn told_of_two(batch: &Batch) -> (u32, u32, bool, [bool; 2])
     requires { length batch.now.rows ≡ 2 }
 {
-    batch.count() == 2
-        && batch.id(1) == 2
-        && batch.registers(1) == ROW.as_slice()
-        && batch.find(1).is_none()
-        && batch.find(2).is_some()
+    (
+        batch.count(),
+        batch.id(1),
+        batch.registers(1) == ROW.as_slice(),
+        [batch.find(1).is_some(), batch.find(2).is_some()],
+    )
 }
 
 #[test]
 fn rows_are_told(rt: HostRuntime) -> Result<(), Fail> {
-    let batch = two_rows(rt.alloc())?;
-    assert!(rt; tells_two_rows(&batch));
+    let told = told_of_two(&two_rows(rt.alloc())?);
+    assert_eq!(rt; told, (2, 2, true, [false, true]));
     Ok(())
 }
 
-/// The batch with one row is written as the bytes.
-fn is_written(alloc: Global) -> Result<bool, Fail> {
+/// The first place at which bytes are not those of the batch.
+fn first_other(bytes: &[u8]) -> Option<usize> {
+    bytes
+        .iter()
+        .zip(&BYTES)
+        .position(|(one, other)| *one != *other)
+}
+
+/// How many bytes the batch with one row is written as, and the first that is another.
+fn written(alloc: Global) -> Result<(usize, Option<usize>), Fail> {
     let bytes = one_row(alloc)?.encode(alloc)?;
-    Ok(bytes.as_slice() == BYTES.as_slice())
+    Ok((bytes.len(), first_other(&bytes)))
 }
 
 #[test]
 fn batch_is_written(rt: HostRuntime) -> Result<(), Fail> {
-    let is_written = is_written(rt.alloc())?;
-    assert!(rt; is_written);
+    assert_eq!(rt; written(rt.alloc())?, (74, None));
     Ok(())
 }
 
-/// The readers tell the batch of the bytes.
-fn tells_the_bytes(batch: &Batch) -> bool {
-    batch.name() == NAME
-        && batch.plan().job() == JOB
-        && batch.changed() == 2
-        && batch.count() == 1
-        && matches!(batch.find(0), Some(row) if row == ROW.as_slice())
+/// The name, the number of changed vertices and of rows, whether the job digest is the batch's own, and whether
+/// vertex 0 has the row.
+fn told_of_one(batch: &Batch) -> (BatchName, u32, u32, [bool; 2]) {
+    (
+        batch.name(),
+        batch.changed(),
+        batch.count(),
+        [
+            batch.plan().job() == JOB,
+            matches!(batch.find(0), Some(row) if row == ROW.as_slice()),
+        ],
+    )
+}
+
+/// The same of the bytes, under a plan of another job.
+fn told_of_bytes(alloc: Global) -> Result<(BatchName, u32, u32, [bool; 2]), Fail> {
+    let batch = Batch::decode(alloc, &plan([9; 32])?, &BYTES)?;
+    Ok(told_of_one(&batch))
 }
 
 #[test]
 fn batch_is_read(rt: HostRuntime) -> Result<(), Fail> {
-    let batch = Batch::decode(rt.alloc(), &plan([9; 32])?, &BYTES)?;
-    assert!(rt; tells_the_bytes(&batch));
+    let told = told_of_bytes(rt.alloc())?;
+    assert_eq!(rt; told, (NAME, 2, 1, [true, true]));
     Ok(())
 }
 
 /// How many rows bytes have, or why they are no batch.
-fn rows_of(alloc: Global, plan: &Plan, bytes: &[u8]) -> Result<u32, BatchError> {
+fn row_count(alloc: Global, plan: &Plan, bytes: &[u8]) -> Result<u32, BatchError> {
     Ok(Batch::decode(alloc, plan, bytes)?.count())
 }
 
@@ -151,7 +171,7 @@ static REFUSED: [(&[(usize, u8)], BatchError); 17] = [
 
 /// Bytes with some changed are refused for that error.
 fn is_refused(alloc: Global, plan: &Plan, edits: &[(usize, u8)], wanted: BatchError) -> bool {
-    rows_of(alloc, plan, &with(edits)) == Err(wanted)
+    row_count(alloc, plan, &with(edits)) == Err(wanted)
 }
 
 /// The first error of that table that is not what is answered.
@@ -203,7 +223,7 @@ fn fewer_bytes_are_short(rt: HostRuntime) -> Result<(), Fail> {
     let plan = plan(JOB)?;
     for len in 0..74 {
         assert_eq!(rt;
-            rows_of(rt.alloc(), &plan, &BYTES[..len]),
+            row_count(rt.alloc(), &plan, &BYTES[..len]),
             Err(BatchError::Short)
         );
     }
@@ -218,7 +238,7 @@ fn rows_of_longer(
 ) -> Result<Result<u32, BatchError>, Fail> {
     let plan = plan(JOB)?;
     let all = longer(alloc, bytes, more)?;
-    Ok(rows_of(alloc, &plan, &all))
+    Ok(row_count(alloc, &plan, &all))
 }
 
 #[test]
@@ -234,19 +254,22 @@ fn rows_of_two(alloc: Global, first: u8, second: u8) -> Result<Result<u32, Batch
     rows_of_longer(alloc, &with(&[(53, 2), (57, first)]), &rest)
 }
 
-/// Two rows are read or refused as they ascend or do not.
-fn must_ascend(alloc: Global) -> Result<bool, Fail> {
-    Ok(
-        rows_of_two(alloc, 0, 2)? == Ok(2)
-            && rows_of_two(alloc, 2, 0)? == Err(BatchError::Order)
-            && rows_of_two(alloc, 2, 2)? == Err(BatchError::Order),
-    )
+/// How many rows are read of two that ascend, of two that descend, and of two of one vertex.
+fn rows_of_pairs(alloc: Global) -> Result<[Result<u32, BatchError>; 3], Fail> {
+    Ok([
+        rows_of_two(alloc, 0, 2)?,
+        rows_of_two(alloc, 2, 0)?,
+        rows_of_two(alloc, 2, 2)?,
+    ])
 }
 
 #[test]
 fn rows_ascend(rt: HostRuntime) -> Result<(), Fail> {
-    let must_ascend = must_ascend(rt.alloc())?;
-    assert!(rt; must_ascend);
+    let rows = rows_of_pairs(rt.alloc())?;
+    assert_eq!(rt;
+        rows,
+        [Ok(2), Err(BatchError::Order), Err(BatchError::Order)]
+    );
     Ok(())
 }
 
@@ -254,7 +277,7 @@ fn rows_ascend(rt: HostRuntime) -> Result<(), Fail> {
 fn rows_to_its_own_source(alloc: Global) -> Result<Result<u32, BatchError>, Fail> {
     let bytes = with(&[(11, 1), (49, 1), (53, 0)]);
     let (header, _) = bytes.split_at(54);
-    Ok(rows_of(alloc, &plan(JOB)?, header))
+    Ok(row_count(alloc, &plan(JOB)?, header))
 }
 
 #[test]

@@ -1,8 +1,8 @@
 -- What totals gain, one superstep later.
 use Rattle.std.proofs.Common.{◌≡◌, ℕ, suc, ◌+◌, ◌-◌, ◌*◌, ◌/◌, ◌^◌, ◌≤◌, List, slice_index, ap, ap₂, sym, ◌∙◌, arith}
 use Rattle.std.specs.List.{sum_by, range_with_len}
-use Rattle.std.proofs.Math.Nat.{div-div-eq-div-mul, div-mul-le_self}
-use Rattle.std.proofs.lemmas.Nat.{le-div, pow-add, pow_pos}
+use Rattle.std.proofs.Math.Nat.{div-mul-le_self}
+use Rattle.std.proofs.lemmas.Nat.{le-div, pow_pos, shr-shr}
 use Rattle.ball_model.proofs.TallyLemmas.{sum_from}
 
 -- the gain of one superstep
@@ -18,16 +18,12 @@ gain_more totals i sum part from before is =
     let here : 1 + (i - 1) ≡ i = omega arith in
     ap₂ (λ (a b : ℕ). a + b) before (is ∙ ap f (sym here)) ∙ sym (sum_from f 1 (i - 1)) ∙ ap (λ k. sum_by f (range_with_len 1 k)) next
 
--- what a number leaves where it was halved once more
-halved_again : (x k : ℕ) → x / 2 ^ k / 2 ≡ x / 2 ^ (k + 1)
-halved_again x k = div-div-eq-div-mul x (2 ^ k) 2 ∙ ap (λ (n : ℕ). x / n) (sym (pow-add 2 k 1))
-
 -- a rise at i takes no more than half of the room before it, and the other half is left
 pub room_more : (most x i sum part : ℕ) → 1 ≤ i → x ≤ most → part ≡ x / 2 ^ i → sum + most / 2 ^ (i - 1) ≤ most → sum + part + most / 2 ^ (i + 1 - 1) ≤ most
 room_more most x i sum part from small is room =
     let at : i - 1 + 1 ≡ i = omega arith in
     let after : i + 1 - 1 ≡ i = omega arith in
-    let half : most / 2 ^ (i - 1) / 2 ≡ most / 2 ^ i = halved_again most (i - 1) ∙ ap (λ k. most / 2 ^ k) at in
+    let half : most / 2 ^ (i - 1) / 2 ≡ most / 2 ^ i = shr-shr most (i - 1) 1 ∙ ap (λ k. most / 2 ^ k) at in
     let left : most / 2 ^ (i + 1 - 1) ≡ most / 2 ^ i = ap (λ k. most / 2 ^ k) after in
     let within : x / 2 ^ i * 2 ^ i ≤ x = div-mul-le_self x (2 ^ i) in
     let below : x / 2 ^ i ≤ most / 2 ^ i = le-div (x / 2 ^ i) most (2 ^ i) (pow_pos i) (omega arith) in

@@ -1,10 +1,10 @@
 //! The figures of many vertices, in threads.
 
-ghost use Rattle.std.specs.Prelude.{◌≡◌, ◌≤◌, ◌<◌, ◌-◌, ◌^◌, [], IfOk};
-ghost use Rattle.std.specs.Prelude.{length, map, slice_index_or, take, drop};
+ghost use Rattle.std.specs.Prelude.{◌≡◌, ◌≤◌, ◌<◌, ◌^◌, [], IfOk};
+ghost use Rattle.std.specs.Prelude.{length, map, slice_index_or};
 ghost use Rattle.std.specs.List.{All};
 ghost use Rattle.figures.specs.declared.tally.Tally.{Tally};
-ghost use Rattle.figures.specs.Values.{IsAt, figures_from, value_of};
+ghost use Rattle.figures.specs.Values.{IsAt, figures_from, items_between, value_of};
 
 use super::{Tally, closeness, estimate, lin};
 use rayon::prelude::*;
@@ -65,8 +65,8 @@ pub fn figures_within(
     requires count { length tallies.now ≡ length rows.now.rows }
     requires width { rows.now.width ≡ 2 ^ log2m }
     requires ranks { All (λ row. All (λ r. r ≤ 33) row) rows.now.rows }
-    ensures { IfOk result (λ v. v.items ≡ take (places.end - places.start)
-        (drop places.start (figures_from log2m rows.now.rows (map value_of tallies.now)))) }
+    ensures { IfOk result (λ v. v.items ≡ items_between places.start places.end
+        (figures_from log2m rows.now.rows (map value_of tallies.now))) }
 {
     (places.start..places.end.min(tallies.len()))
         .into_par_iter()

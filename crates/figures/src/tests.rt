@@ -31,10 +31,10 @@ fn small_sets(rt: HostRuntime) {
         ([2, 0, 0, 0, 0, 0, 1, 0, 0, 0, 0, 0, 0, 0, 0, 0], 11_680_542),
         ([2, 0, 0, 0, 0, 0, 1, 0, 0, 0, 0, 0, 0, 0, 3, 0], 12_417_153),
     ];
-    assert!(rt;
-        sets.iter()
-            .all(|(row, told)| estimate_in(4, row) == Some(*told))
-    );
+    let first_wrong = sets
+        .iter()
+        .position(|(row, told)| estimate_in(4, row) != Some(*told));
+    assert_eq!(rt; first_wrong, None);
 }
 
 #[test]
@@ -63,9 +63,10 @@ fn least_and_greatest_estimates(rt: HostRuntime) {
         (9, 368_528_954, 3_165_639_610_296_210_490),
         (10, 737_833_736, 6_337_943_536_492_970_326),
     ];
-    assert!(rt;
-        bounds.iter().all(|(log2m, least, greatest)| are_bounds(*log2m, *least, *greatest))
-    );
+    let first_wrong = bounds.iter().position(|(log2m, least, greatest)| !are_bounds(
+        *log2m, *least, *greatest,
+    ));
+    assert_eq!(rt; first_wrong, None);
 }
 
 fn numbers_of(tally: Tally) -> (u64, u64, u128) {
@@ -84,14 +85,25 @@ fn numbers_of_steps() -> [(u64, u64, u128); 4] {
     [alone, near, far, numbers_of(tally)]
 }
 
-// Its gains are 0.382969 at distance 1 and 0.736611 at distance 2.
+// They are these, since the gains are 0.382969 at distance 1 and 0.736611 at distance 2.
+const STEPS: [(u64, u64, u128); 4] = [
+    (11_297_573, 0, 0),
+    (11_680_542, 382_969, 382_969),
+    (12_417_153, 751_274, 1_856_191),
+    (12_417_153, 751_274, 1_856_191),
+];
+
 #[test]
 fn figures_of_a_vertex(rt: HostRuntime) {
-    let far = (12_417_153, 751_274, 1_856_191);
-    let are_told = numbers_of_steps()
-        == [(11_297_573, 0, 0), (11_680_542, 382_969, 382_969), far, far];
-    let is_central = closeness(1_856_191) == 538_737 && lin(12_417_153, 1_856_191) == 83_065_637;
-    assert!(rt; are_told && is_central);
+    assert_eq!(rt; numbers_of_steps(), STEPS);
+}
+
+#[test]
+fn centralities_of_a_vertex(rt: HostRuntime) {
+    assert_eq!(rt;
+        (closeness(1_856_191), lin(12_417_153, 1_856_191)),
+        (538_737, 83_065_637)
+    );
 }
 
 #[test]
@@ -104,15 +116,21 @@ fn greatest_step(rt: HostRuntime) {
     );
 }
 
-#[test]
-fn centralities(rt: HostRuntime) {
-    let close = [
+// The first sum of distances of a table of which another closeness is told.
+fn first_other_closeness() -> Option<u128> {
+    let table = [
         (0, 0),
         (1, 1_000_000_000_000),
         (665_022, 1_503_709),
         (1_000_000_000_001, 0),
     ];
-    let index = [
+    let wrong = table.iter().find(|(dist, told)| closeness(*dist) != *told);
+    wrong.map(|(dist, _)| *dist)
+}
+
+// The first estimate and sum of distances of a table of which another index is told.
+fn first_other_index() -> Option<(u64, u128)> {
+    let table = [
         (11_390_942, 0, 1_000_000),
         (11_780_376, 665_022, 208_680_703),
         (0, 5, 0),
@@ -123,11 +141,20 @@ fn centralities(rt: HostRuntime) {
             340_282_366_920_938_463_426_481_119_284_349_108_225,
         ),
     ];
-    let are_told = close.iter().all(|(dist, told)| closeness(*dist) == *told)
-        && index
-            .iter()
-            .all(|(last, dist, told)| lin(*last, *dist) == *told);
-    assert!(rt; are_told);
+    let wrong = table
+        .iter()
+        .find(|(last, dist, told)| lin(*last, *dist) != *told);
+    wrong.map(|(last, dist, _)| (*last, *dist))
+}
+
+#[test]
+fn closenesses(rt: HostRuntime) {
+    assert_eq!(rt; first_other_closeness(), None);
+}
+
+#[test]
+fn indices_of_lin(rt: HostRuntime) {
+    assert_eq!(rt; first_other_index(), None);
 }
 
 // The text of a number of millionths is this one.
@@ -136,9 +163,9 @@ fn is_text(x: u128, told: &str) -> bool {
     fixed6(x, &mut buffer) == told
 }
 
-#[test]
-fn fixed_point_text(rt: HostRuntime) {
-    let texts = [
+// The first number of a table that has another text.
+fn first_other_text() -> Option<u128> {
+    let table = [
         (0, "0.000000"),
         (7, "0.000007"),
         (999_999, "0.999999"),
@@ -147,7 +174,13 @@ fn fixed_point_text(rt: HostRuntime) {
         (6_337_943_536_492_970_326, "6337943536492.970326"),
         (u128::MAX, "340282366920938463463374607431768.211455"),
     ];
-    assert!(rt; texts.iter().all(|(x, told)| is_text(*x, told)));
+    let wrong = table.iter().find(|(x, told)| !is_text(*x, told));
+    wrong.map(|(x, _)| *x)
+}
+
+#[test]
+fn fixed_point_text(rt: HostRuntime) {
+    assert_eq!(rt; first_other_text(), None);
 }
 
 // The figures are these.
@@ -192,8 +225,8 @@ const THREE: [(u64, u64, u64, u128, u32); 3] = [
     (11_680_542, 382_969, 2_611_177, 356_256_149, 14),
 ];
 
-// The figures of three vertices, and of all but the first, are those of the table.
-fn rows_are_told<H: AllocGlobal + Threads + Sync>(rt: &H, rows: &Rows) -> Result<bool, Fail>
+// Whether the figures of three vertices, and those of all but the first, are those of the table.
+fn rows_are_told<H: AllocGlobal + Threads + Sync>(rt: &H, rows: &Rows) -> Result<[bool; 2], Fail>
     requires count { length rows.now.rows ≡ 3 }
     requires width { rows.now.width ≡ 16 }
     requires ranks { All (λ row. All (λ r. r ≤ 33) row) rows.now.rows }
@@ -201,11 +234,11 @@ fn rows_are_told<H: AllocGlobal + Threads + Sync>(rt: &H, rows: &Rows) -> Result
     let tallies = three_tallies();
     let all = figures_are(rt, rows, &tallies, 0..3, &THREE)?;
     let later = figures_are(rt, rows, &tallies, 1..9, &THREE[1..])?;
-    Ok(all && later)
+    Ok([all, later])
 }
 
-// Rows of three vertices, of no, one and two registers above 0, have those figures.
-fn three_are_told<H: AllocGlobal + Threads + Sync>(rt: &H) -> Result<bool, Fail> {
+// The same of rows of no, one and two registers above 0.
+fn three_are_told<H: AllocGlobal + Threads + Sync>(rt: &H) -> Result<[bool; 2], Fail> {
     let mut rows = Rows::fixed(rt.alloc(), 3, 16)?;
     rows.raise_one(1, 14, 3);
     rows.raise_one(2, 0, 2);
@@ -215,8 +248,7 @@ fn three_are_told<H: AllocGlobal + Threads + Sync>(rt: &H) -> Result<bool, Fail>
 
 #[test]
 fn figures_of_vertices(rt: HostRuntime) -> Result<(), Fail> {
-    let are_told = three_are_told(&rt)?;
-    assert!(rt; are_told);
+    assert_eq!(rt; three_are_told(&rt)?, [true; 2]);
     Ok(())
 }
 

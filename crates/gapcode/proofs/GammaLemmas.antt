@@ -1,7 +1,8 @@
 -- Zero bits in front, and gamma codes.
 use Rattle.std.proofs.Common.{◌≡◌, ℕ, zero, suc, ◌+◌, ◌-◌, ◌*◌, ◌/◌, ◌^◌, ◌<◌, ◌≤◌, Bool, true, false, List, [], ◌∷◌, ◌++◌, length, take, drop, Result, Ok, Err, refl, sym, ap, subst, ◌∙◌, append_assoc, arith, inl, inr}
 use Rattle.std.specs.Prelude.{replicate, ◌⊎◌, ◌↔◌, IfOk}
-use Rattle.std.proofs.Math.Nat.{pow-suc, suc-add, zero-add, div-eq_of_lt, add-div_left, pow-le-pow_right}
+use Rattle.std.proofs.Math.Nat.{pow-suc, suc-add, zero-add, div-eq_of_lt, div-eq_of_lt-le, pow-le-pow_right}
+use Rattle.std.proofs.Math.Numerals.{suc-eq-add-one}
 use Rattle.std.proofs.lemmas.Nat.{pow_pos, shr_below, leading_top}
 use Rattle.std.proofs.lemmas.Bool.{cases_lt, cases_eq, le-leb, lt-leb, le-ltb, lt-ltb}
 use Rattle.std.proofs.lemmas.List.{take_at, drop_at, length-append, length-replicate, length-take, length-drop, take-append-drop, append-nil, drop-append-le, take-append-le, drop-take, take-take, drop-drop}
@@ -11,24 +12,12 @@ use Rattle.gapcode.specs.declared.error.CodeError.TheVariants.{Ended, TooLong}
 use Rattle.gapcode.specs.Bits.{digits, number_of, log2_below, log2, gamma, zeros, gamma_at, with_rest}
 use Rattle.gapcode.proofs.DigitsLemmas.{length-digits, digits-zero, number_of-below, digits-number_of, drop-digits, take-digits, number_of-small}
 
-quotient_one : (x p : ℕ) → p ≤ x → x < p + p → x / p ≡ 1
-quotient_one x p le lt =
-    let e : p + (x - p) ≡ x = omega arith in
-    let pos : 0 < p = omega arith in
-    subst (λ (y : ℕ). y / p ≡ 1) e (add-div_left (x - p) pos ∙ ap (λ k. k + 1) (div-eq_of_lt (omega arith)))
-
 -- ---- zero bits in front
 
 pub zeros-replicate : (n : ℕ) (bits : List Bool) → zeros (replicate n false ++ bits) ≡ n + zeros bits
 unfolding zeros
 zeros-replicate zero bits = omega arith
 zeros-replicate (suc n) bits = ap suc (zeros-replicate n bits) ∙ omega arith
-
-pub zeros_le : (bits : List Bool) → zeros bits ≤ length bits
-unfolding zeros
-zeros_le [] = omega arith
-zeros_le (true ∷ bits) = omega arith
-zeros_le (false ∷ bits) = omega (arith, zeros_le bits)
 
 pub zeros-padded : (bits : List Bool) (n : ℕ) → ((zeros bits < length bits) × (zeros (bits ++ replicate n false) ≡ zeros bits)) ⊎ ((zeros bits ≡ length bits) × (zeros (bits ++ replicate n false) ≡ length bits + n))
 unfolding zeros
@@ -43,7 +32,7 @@ zeros-padded (false ∷ bits) n =
 pub zeros-digits : (z j x : ℕ) (more : List Bool) → 2 ^ j ≤ x → x < 2 ^ suc j → zeros (digits (z + suc j) x ++ more) ≡ z
 unfolding zeros digits
 zeros-digits zero j x more low high =
-    let one : x / 2 ^ j ≡ 1 = quotient_one x (2 ^ j) low (omega (arith, pow-suc 2 j)) in
+    let one : x / 2 ^ j ≡ 1 = div-eq_of_lt-le {k = 1} (2 ^ j) {m = x} (omega (arith, low)) (omega (arith, pow-suc 2 j, high)) in
     rw (zero-add (suc j), one) refl
 zeros-digits (suc z) j x more low high =
     let grows : 2 ^ suc j ≤ 2 ^ (z + suc j) = pow-le-pow_right {n = 2} (omega arith) {i = suc j} {j = z + suc j} (omega arith) in
@@ -83,9 +72,6 @@ log2_below-only (suc n) k x lt h =
 pub record IsWindow (w : ℕ) (bits : List Bool) : Type 0 where
   pub below : w < 2 ^ 64
   pub digits : digits 64 w ≡ take 64 (bits ++ replicate 64 false)
-
-padded : List Bool → List Bool
-padded bits = bits ++ replicate 64 false
 
 whole : (w : ℕ) (bits : List Bool) → IsWindow w bits → bits ++ replicate 64 false ≡ digits 64 w ++ drop 64 (bits ++ replicate 64 false)
 whole w bits h = sym (take-append-drop 64 (bits ++ replicate 64 false)) ∙ ap (λ (t : List Bool). t ++ drop 64 (bits ++ replicate 64 false)) (sym h.digits)
@@ -232,13 +218,10 @@ gamma_again x rest pos lt =
     let f = found bits (omega (arith, z, h.1)) (omega (arith, z, len)) in
     let dropped : drop k bits ≡ body ++ rest = drop_at front (body ++ rest) k front_len in
     let taken : take (k + 1) (drop k bits) ≡ body = ap (take (k + 1)) dropped ∙ take_at body rest (k + 1) body_len in
-    let number : number_of (take (k + 1) (drop k bits)) ≡ x = ap number_of taken ∙ number_of-small (k + 1) x (subst (λ (n : ℕ). x < 2 ^ n) (suc_is k) h.0.high) in
+    let number : number_of (take (k + 1) (drop k bits)) ≡ x = ap number_of taken ∙ number_of-small (k + 1) x (subst (λ (n : ℕ). x < 2 ^ n) (suc-eq-add-one k) h.0.high) in
     let both : 2 * k + 1 ≡ k + (k + 1) = omega arith in
     let after : drop (2 * k + 1) bits ≡ rest = ap (λ (n : ℕ). drop n bits) both ∙ sym (drop-drop (k + 1) k bits) ∙ ap (drop (k + 1)) dropped ∙ drop_at body rest (k + 1) body_len in
     ap gamma_at regrouped ∙ f ∙ rw (z, number, after) refl
-  where
-    suc_is : (k : ℕ) → suc k ≡ k + 1
-    suc_is k = omega arith
 
 abbrev done : {A : Type 0} → A → Result A CodeError
 done x = Ok x

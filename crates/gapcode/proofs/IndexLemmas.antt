@@ -1,8 +1,8 @@
 -- Lists by the places where they begin.
-use Rattle.std.proofs.Common.{◌≡◌, ℕ, zero, suc, ◌+◌, ◌-◌, ◌*◌, ◌^◌, ◌<◌, ◌≤◌, Bool, false, List, [], ◌∷◌, ◌++◌, length, get_or, take, drop, map, Ok, refl, sym, ap, subst, ◌∙◌, append_assoc, arith, length-append}
+use Rattle.std.proofs.Common.{◌≡◌, ℕ, zero, suc, ◌+◌, ◌-◌, ◌*◌, ◌^◌, ◌<◌, ◌≤◌, Bool, false, List, [], ◌∷◌, ◌++◌, length, get_or, drop, Ok, refl, sym, ap, subst, ◌∙◌, append_assoc, arith, length-append}
 use Rattle.std.specs.Prelude.{replicate}
 use Rattle.std.specs.List.{flat_map}
-use Rattle.std.proofs.lemmas.List.{append-nil, drop_at, drop_more, drop_all, take_more, map-append, length-drop, length-map, get_or-map, get_or-append-add}
+use Rattle.std.proofs.lemmas.List.{append-nil, drop_at, drop_more, drop_all, length-drop, length-map, get_or-map, get_or-append-add}
 use Rattle.std.proofs.lemmas.List.Concat.{flat_map-append}
 use Rattle.gapcode.specs.Bits.{gamma, bits_of}
 use Rattle.gapcode.specs.Lists.{beyond, list_bits, list_at, lists_at, read_list, values, IsAscending, AreAscending, AscendsFrom, IsSpelling, AreSpelled, IsPlaced, ◌>>=◌, after}
@@ -46,11 +46,6 @@ listed zero n bits front more (xs ∷ lists) lt e len up = record {
 }
 listed (suc i) n bits front more (xs ∷ lists) lt e len up =
     listed i (n + length (list_bits xs)) bits (front ++ list_bits xs) more lists (omega arith) (begins_later bits front more xs lists e) (length-append front (list_bits xs) ∙ omega (arith, len)) up.1
-
-length-starts : (n : ℕ) (lists : List (List ℕ)) → length (starts_from n lists) ≡ length lists
-unfolding starts_from
-length-starts n [] = refl
-length-starts n (xs ∷ lists) = ap suc (length-starts (n + length (list_bits xs)) lists)
 
 -- ---- an index
 
@@ -216,8 +211,3 @@ put_all writer total list i least le so_far =
 
 pub ascends_at : (list : List ℕ) (i least : ℕ) → i < length list → AscendsFrom least (drop i list) → (least ≤ get_or list i 0) × AscendsFrom (get_or list i 0 + 1) (drop (i + 1) list)
 ascends_at list i least lt up = let both = rw (drop_more list i 0 lt) at up in (both.0, both.1)
-
--- the values of one item more
-pub map-more : {X Y : Type 0} (f : X → Y) (xs : List X) (i : ℕ) (x : X) → i < length xs → x ≡ get_or xs i x → map f (take i xs) ++ f x ∷ [] ≡ map f (take (i + 1) xs)
-map-more f xs i x lt at =
-    sym (ap (map f) (take_more xs i x lt) ∙ map-append f (take i xs) (get_or xs i x ∷ []) ∙ ap (λ z. map f (take i xs) ++ z ∷ []) (ap f (sym at)))

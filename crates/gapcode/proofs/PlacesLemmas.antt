@@ -6,10 +6,6 @@ use Rattle.std.proofs.lemmas.Bool.{le-leb, lt-leb}
 use Rattle.std.proofs.lemmas.List.Sums.{sum_by-cons, sum_by-append}
 use Rattle.gapcode.specs.Places.{marks_up_to, places_from, AreMarks}
 
--- whether a mark counts at entry i
-counts : ℕ → ℕ → ℕ
-counts i mark = cond (leb mark i) 1 0
-
 passed-cons : (i mark : ℕ) (marks : List ℕ) → marks_up_to i (mark ∷ marks) ≡ cond (leb mark i) 1 0 + marks_up_to i marks
 passed-cons i mark marks = sum_by-cons (λ m. cond (leb m i) 1 0) mark marks
 

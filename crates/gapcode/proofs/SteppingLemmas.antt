@@ -61,13 +61,14 @@ stepped bytes position left least gap place is pos read inside =
     let f : least + (gap - 1) ≡ least + (t.0 - 1) = omega (arith, g) in
     record { some = omega (arith, g, t.4); fits = omega (arith, g, t.3); next = rw (m, e, f) t.6; placed = record { inside = inside; coded = rw (m, e) t.5 } }
 
+-- what was read is no error
+apart : {e : CodeError} {x : ℕ × List Bool} → Err e ≡ Ok x → ⊥
+apart h = cc
+
 pub no_error : (bytes : List ℕ) (position left least : ℕ) (e : CodeError) → ArePlaced bytes position left least → 0 < left → Err e ≡ gamma_at (drop position (bits_of bytes)) → ⊥
 no_error bytes position left least e is pos read =
     let t = next_of left least (drop position (bits_of bytes)) pos is.coded in
     apart (read ∙ t.2)
-  where
-    apart : {x : ℕ × List Bool} → Err e ≡ Ok x → ⊥
-    apart h = cc
 
 -- ---- the degree
 
@@ -97,9 +98,6 @@ no_list bytes position e is read =
     let bits = drop position (bits_of bytes) in
     let a = bind_ok (gamma_at bits) (λ degree. cond (ltb beyond (degree.0 - 1)) (Err Range) (elements_at beyond (degree.0 - 1) 0 degree.1)) is.coded.0 is.coded.1 in
     apart (read ∙ a.1)
-  where
-    apart : {x : ℕ × List Bool} → Err e ≡ Ok x → ⊥
-    apart h = cc
 
 -- ---- a place, counted from the byte that has it
 

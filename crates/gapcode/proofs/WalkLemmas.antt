@@ -1,11 +1,12 @@
 -- Reading lists one after the other, as loops do.
 use Rattle.std.proofs.Common.{◌≡◌, ℕ, suc, ◌+◌, ◌-◌, ◌*◌, ◌/◌, ◌%◌, ◌^◌, ◌<◌, ◌≤◌, Bool, List, ◌∷◌, ◌++◌, length, get_or, take, drop, Result, Ok, Err, refl, sym, ap, subst, ◌∙◌, arith}
+use Rattle.std.specs.Result.{result_and}
 use Rattle.std.proofs.lemmas.Bool.{le-ltb, lt-ltb}
 use Rattle.gapcode.specs.declared.error.CodeError.{CodeError}
 use Rattle.gapcode.specs.declared.error.CodeError.TheVariants.{Range}
 use Rattle.std.proofs.lemmas.List.{drop_more, drop-append-le, take_at, length-drop}
 use Rattle.gapcode.specs.Bits.{gamma_at, bits_of, digits, number_of}
-use Rattle.gapcode.specs.Lists.{◌>>=◌, elements_at, list_at, lists_at, after, end_at, all_of, without_value}
+use Rattle.gapcode.specs.Lists.{◌>>=◌, elements_at, list_at, lists_at, after, end_at, all_of}
 use Rattle.gapcode.proofs.DigitsLemmas.{drop-digits, length-digits, number_of-digits}
 use Rattle.gapcode.proofs.WordsLemmas.{at_place, length-bits_of}
 use Rattle.gapcode.proofs.GammaLemmas.{ok_is}
@@ -96,9 +97,6 @@ padding_is bytes position pad pos e lt =
     let apart : drop s (digits 8 b ++ more) ≡ digits pad b ++ more = drop-append-le s (digits 8 b) more (omega (arith, length-digits 8 b)) ∙ ap (λ (t : List Bool). t ++ more) dropped in
     ap (λ (t : List Bool). number_of (take pad t)) (at ∙ apart) ∙ ap number_of (take_at (digits pad b) more pad (length-digits pad b)) ∙ number_of-digits pad b
 
-abbrev left_at : List ℕ → ℕ → List Bool
-left_at bytes position = drop position (bits_of bytes)
-
 pub left_len : (bytes : List ℕ) (position : ℕ) → length (drop position (bits_of bytes)) ≡ 8 * length bytes - position
 left_len bytes position = length-drop position (bits_of bytes) ∙ omega (arith, length-bits_of bytes)
 
@@ -108,16 +106,16 @@ no_padding bits pad e = rw e refl
 
 -- ---- all of the bytes
 
-pub check_fails : (bound count : ℕ) (bytes : List ℕ) (e : CodeError) → after (lists_at bound count (bits_of bytes)) ≡ Err e → Err e ≡ without_value (all_of bound count bytes)
+pub check_fails : (bound count : ℕ) (bytes : List ℕ) (e : CodeError) → after (lists_at bound count (bits_of bytes)) ≡ Err e → Err e ≡ result_and {U = Unit {0}} (all_of bound count bytes) (Ok tt)
 unfolding all_of
 check_fails bound count bytes e h = rw (after_err (lists_at bound count (bits_of bytes)) e h) refl
 
-pub check_goes_on : (bound count : ℕ) (bytes : List ℕ) (more : List Bool) → after (lists_at bound count (bits_of bytes)) ≡ Ok more → end_at more ≡ without_value (all_of bound count bytes)
+pub check_goes_on : (bound count : ℕ) (bytes : List ℕ) (more : List Bool) → after (lists_at bound count (bits_of bytes)) ≡ Ok more → end_at more ≡ result_and {U = Unit {0}} (all_of bound count bytes) (Ok tt)
 unfolding all_of
 check_goes_on bound count bytes more h =
     let x = after_ok (lists_at bound count (bits_of bytes)) more h in
     rw (x.1) (kept (end_at more) x.0)
   where
-    kept : (r : Result (Unit {0}) CodeError) (xss : List (List ℕ)) → r ≡ without_value (r >>= λ none. Ok xss)
+    kept : (r : Result (Unit {0}) CodeError) (xss : List (List ℕ)) → r ≡ result_and {U = Unit {0}} (r >>= λ none. Ok xss) (Ok tt)
     kept (Ok u) xss = refl
     kept (Err e) xss = refl

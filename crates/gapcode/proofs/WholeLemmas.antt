@@ -1,6 +1,7 @@
 -- All of the bytes.
 use Rattle.std.proofs.Common.{◌≡◌, ℕ, zero, suc, ◌+◌, ◌-◌, ◌*◌, ◌%◌, ◌^◌, ◌<◌, ◌≤◌, Bool, true, false, cond, ltb, leb, List, [], ◌∷◌, ◌++◌, length, take, drop, Result, Ok, Err, refl, sym, ap, subst, ◌∙◌, arith}
 use Rattle.std.specs.Prelude.{replicate, IfOk}
+use Rattle.std.specs.Result.{result_and}
 use Rattle.std.specs.List.{flat_map, AllByRecursion}
 use Rattle.std.proofs.lemmas.Bool.{ltb-false, leb-false, lt-leb}
 use Rattle.std.proofs.Math.Nat.{zero-mod}
@@ -9,7 +10,7 @@ use Rattle.gapcode.specs.declared.error.CodeError.{CodeError}
 use Rattle.gapcode.specs.declared.error.CodeError.TheVariants.{Padding, Trailing}
 use Rattle.gapcode.specs.declared.error.CodeError.TheVariants as errors
 use Rattle.gapcode.specs.Bits.{digits, number_of, bits_of, gamma_at, zeros}
-use Rattle.gapcode.specs.Lists.{list_bits, IsAscending, AreAscending, IsSpelling, AreSpelled, ◌>>=◌, elements_at, list_at, lists_at, end_at, all_of, without_value, GivesOrMemory}
+use Rattle.gapcode.specs.Lists.{list_bits, IsAscending, AreAscending, IsSpelling, AreSpelled, ◌>>=◌, elements_at, list_at, lists_at, end_at, all_of, GivesOrMemory}
 use Rattle.gapcode.proofs.DigitsLemmas.{digits-zero, digits-number_of, number_of-digits, number_of-small, length-digits}
 use Rattle.gapcode.proofs.GammaLemmas.{ok_is}
 use Rattle.gapcode.proofs.WordsLemmas.{length-bits_of}
@@ -113,16 +114,16 @@ gives_other errors.Range due other is = sym is
 gives_other errors.Padding due other is = sym is
 gives_other errors.Trailing due other is = sym is
 
-err_of : {A : Type 0} (r : Result A CodeError) (e : CodeError) → Err e ≡ without_value r → r ≡ Err e
+err_of : {A : Type 0} (r : Result A CodeError) (e : CodeError) → Err e ≡ result_and {U = Unit {0}} r (Ok tt) → r ≡ Err e
 err_of (Ok x) e h = absurd cc
 err_of (Err d) e h = let same : d ≡ e = cc in ap (λ (t : CodeError). Err t) same
 
-pub gives_err : (bound count : ℕ) (bytes : List ℕ) (e : CodeError) → Err e ≡ without_value (all_of bound count bytes) → GivesOrMemory (Err e) (all_of bound count bytes)
+pub gives_err : (bound count : ℕ) (bytes : List ℕ) (e : CodeError) → Err e ≡ result_and {U = Unit {0}} (all_of bound count bytes) (Ok tt) → GivesOrMemory (Err e) (all_of bound count bytes)
 gives_err bound count bytes e h =
     let is = err_of (all_of bound count bytes) e h in
     gives_other e (all_of bound count bytes) (rw is at (no_all bound count bytes)) is
 
-pub value_of : {A : Type 0} (r : Result A CodeError) → without_value r ≡ Ok tt → (x : A) × (r ≡ Ok x)
+pub value_of : {A : Type 0} (r : Result A CodeError) → result_and {U = Unit {0}} r (Ok tt) ≡ Ok tt → (x : A) × (r ≡ Ok x)
 value_of (Ok x) e = (x, refl)
 value_of (Err e) h = absurd cc
 
@@ -145,7 +146,7 @@ below_more bound more [] le up = tt
 below_more bound more (xs ∷ lists) le up = (ascending_below bound more 0 xs le up.0, below_more bound more lists le up.1)
 
 -- what is checked is spelled, below any greater bound too
-pub checked : (bound more count : ℕ) (bytes : List ℕ) → bound ≤ more → Ok tt ≡ without_value (all_of bound count bytes) → (lists : List (List ℕ)) × AreSpelled more count bytes lists × (all_of bound count bytes ≡ Ok lists)
+pub checked : (bound more count : ℕ) (bytes : List ℕ) → bound ≤ more → Ok tt ≡ result_and {U = Unit {0}} (all_of bound count bytes) (Ok tt) → (lists : List (List ℕ)) × AreSpelled more count bytes lists × (all_of bound count bytes ≡ Ok lists)
 checked bound more count bytes le h =
     let x = value_of (all_of bound count bytes) (sym h) in
     let t = all_takes bound count bytes x.0 x.1 in

@@ -4,7 +4,7 @@ use Rattle.std.specs.Prelude.{replicate}
 use Rattle.std.specs.Int.{w64, to_be_bytes, from_be_bytes}
 use Rattle.std.specs.Prelude.{bit_or, bit_and, slice_get, Some, None}
 use Rattle.std.proofs.Math.Nat.{add_comm, mul_assoc, add-mul-div_right, mul-mod_left}
-use Rattle.std.proofs.Math.Seq.{drop-append-add}
+use Rattle.std.proofs.Math.Seq.{drop-append-add, drop-nil}
 use Rattle.std.proofs.lemmas.Nat.{pow_pos, pow-add, div-add-mod', be_bytes_8, and_mask, or_shifted, mod-pow-add, shr_high, shr_below}
 use Rattle.std.proofs.lemmas.List.{append-nil, length-append, replicate-append-replicate, drop-append-le, take-append-le, take-replicate, take-append-drop, drop_more, drop_all, length-drop, length-take, drop-drop}
 use Rattle.gapcode.specs.Bits.{digits, bits_of, window_of}
@@ -40,10 +40,6 @@ bits_of-zeros (suc n) =
     let e : 8 + 8 * n ≡ 8 * suc n = omega arith in
     ap (λ (t : List Bool). digits 8 0 ++ t) (bits_of-zeros n) ∙ ap (λ (t : List Bool). t ++ replicate (8 * n) false) (digits-zero 8) ∙ replicate-append-replicate 8 (8 * n) false ∙ ap (λ (k : ℕ). replicate k false) e
 
-drop-nil : (n : ℕ) → drop n (bits_of []) ≡ bits_of []
-drop-nil zero = refl
-drop-nil (suc n) = refl
-
 pub bits_of-drop : (i : ℕ) (bytes : List ℕ) → drop (8 * i) (bits_of bytes) ≡ bits_of (drop i bytes)
 bits_of-drop zero bytes = refl
 bits_of-drop (suc i) [] = drop-nil (8 * suc i)
@@ -60,23 +56,17 @@ padding_free (suc n) (b ∷ bits) k m hk hm = ap (λ (t : List Bool). b ∷ t) (
 abbrev pub IsBytes : List ℕ → Type 0
 IsBytes bytes = (i : ℕ) → get_or bytes i 0 < 256
 
-eight : (xs : List ℕ) → List ℕ
-eight xs = get_or xs 0 0 ∷ get_or xs 1 0 ∷ get_or xs 2 0 ∷ get_or xs 3 0 ∷ get_or xs 4 0 ∷ get_or xs 5 0 ∷ get_or xs 6 0 ∷ get_or xs 7 0 ∷ []
-
-cell : (xs : List ℕ) (i : ℕ) → i < length xs → drop i xs ≡ get_or xs i 0 ∷ drop (i + 1) xs
-cell xs i lt = drop_more xs i 0 lt
-
 nine_cells : (xs : List ℕ) → length xs ≡ 9 → xs ≡ get_or xs 0 0 ∷ get_or xs 1 0 ∷ get_or xs 2 0 ∷ get_or xs 3 0 ∷ get_or xs 4 0 ∷ get_or xs 5 0 ∷ get_or xs 6 0 ∷ get_or xs 7 0 ∷ get_or xs 8 0 ∷ []
 nine_cells xs len =
-    cell xs 0 (omega arith) ∙ ap (λ (t : List ℕ). get_or xs 0 0 ∷ t)
-    (cell xs 1 (omega arith) ∙ ap (λ (t : List ℕ). get_or xs 1 0 ∷ t)
-    (cell xs 2 (omega arith) ∙ ap (λ (t : List ℕ). get_or xs 2 0 ∷ t)
-    (cell xs 3 (omega arith) ∙ ap (λ (t : List ℕ). get_or xs 3 0 ∷ t)
-    (cell xs 4 (omega arith) ∙ ap (λ (t : List ℕ). get_or xs 4 0 ∷ t)
-    (cell xs 5 (omega arith) ∙ ap (λ (t : List ℕ). get_or xs 5 0 ∷ t)
-    (cell xs 6 (omega arith) ∙ ap (λ (t : List ℕ). get_or xs 6 0 ∷ t)
-    (cell xs 7 (omega arith) ∙ ap (λ (t : List ℕ). get_or xs 7 0 ∷ t)
-    (cell xs 8 (omega arith) ∙ ap (λ (t : List ℕ). get_or xs 8 0 ∷ t) (drop_all 9 xs (omega arith))))))))))
+    drop_more xs 0 0 (omega arith) ∙ ap (λ (t : List ℕ). get_or xs 0 0 ∷ t)
+    (drop_more xs 1 0 (omega arith) ∙ ap (λ (t : List ℕ). get_or xs 1 0 ∷ t)
+    (drop_more xs 2 0 (omega arith) ∙ ap (λ (t : List ℕ). get_or xs 2 0 ∷ t)
+    (drop_more xs 3 0 (omega arith) ∙ ap (λ (t : List ℕ). get_or xs 3 0 ∷ t)
+    (drop_more xs 4 0 (omega arith) ∙ ap (λ (t : List ℕ). get_or xs 4 0 ∷ t)
+    (drop_more xs 5 0 (omega arith) ∙ ap (λ (t : List ℕ). get_or xs 5 0 ∷ t)
+    (drop_more xs 6 0 (omega arith) ∙ ap (λ (t : List ℕ). get_or xs 6 0 ∷ t)
+    (drop_more xs 7 0 (omega arith) ∙ ap (λ (t : List ℕ). get_or xs 7 0 ∷ t)
+    (drop_more xs 8 0 (omega arith) ∙ ap (λ (t : List ℕ). get_or xs 8 0 ∷ t) (drop_all 9 xs (omega arith))))))))))
 
 -- nine bytes as one number
 nine_bits : (xs : List ℕ) (word : ℕ) → length xs ≡ 9 → IsBytes xs
@@ -123,10 +113,10 @@ or_bits word last s lt small =
     let quotient : (word * 2 ^ 8 + last) / 2 ^ (8 - s) ≡ shifted + q = ap (λ (k : ℕ). (k + last) / 2 ^ (8 - s)) m ∙ ap (λ (k : ℕ). k / 2 ^ (8 - s)) (add_comm (shifted * 2 ^ (8 - s)) last) ∙ add-mul-div_right last shifted (pow_pos (8 - s)) ∙ add_comm q shifted in
     ap (digits 64) or_is ∙ above ∙ ap (digits 64) (sym quotient)
 
-pub joined_is : (xs : List ℕ) (word s : ℕ) → length xs ≡ 9 → s < 8 → IsBytes xs
+pub shifted_is : (xs : List ℕ) (word s : ℕ) → length xs ≡ 9 → s < 8 → IsBytes xs
     → word ≡ from_be_bytes w64 (get_or xs 0 0 ∷ get_or xs 1 0 ∷ get_or xs 2 0 ∷ get_or xs 3 0 ∷ get_or xs 4 0 ∷ get_or xs 5 0 ∷ get_or xs 6 0 ∷ get_or xs 7 0 ∷ [])
     → digits 64 (bit_or (word * 2 ^ s % 2 ^ 64) (get_or xs 8 0 / 2 ^ (8 - s))) ≡ take 64 (drop s (bits_of xs))
-joined_is xs word s len lt fits e =
+shifted_is xs word s len lt fits e =
     let last = get_or xs 8 0 in
     let n = word * 2 ^ 8 + last in
     let e72 : s + (64 + (8 - s)) ≡ 72 = omega arith in

@@ -111,10 +111,6 @@ abbrev pub from_place : List Bool → Result ℕ CodeError → Result (List Bool
 from_place bits (Ok position) = Ok (drop position bits)
 from_place bits (Err e) = Err e
 
-abbrev pub without_value : {A : Type 0} → Result A CodeError → Result (Unit {0}) CodeError
-without_value (Ok x) = Ok tt
-without_value (Err e) = Err e
-
 -- ---- one list, element by element
 
 abbrev pub values : Result (List ℕ × List Bool) CodeError → List ℕ
@@ -124,6 +120,10 @@ values (Err e) = []
 -- n elements, whatever their bound
 abbrev pub elements_of : ℕ → ℕ → List Bool → List ℕ
 elements_of n least bits = values (elements_at beyond n least bits)
+
+-- those from a place among the bits of bytes on
+abbrev pub elements_from : List ℕ → ℕ → ℕ → ℕ → List ℕ
+elements_from bytes place n least = elements_of n least (drop place (bits_of bytes))
 
 -- the list that the bits begin with
 abbrev pub read_list : List Bool → List ℕ

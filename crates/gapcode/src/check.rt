@@ -1,8 +1,9 @@
 //! Whether bytes spell lists. It takes no memory.
 
-ghost use Rattle.std.specs.Prelude.{◌≡◌, ◌+◌, ◌-◌, ◌*◌, ◌<◌, ◌≤◌, ◌^◌, ◌%◌, length, take, IfOk};
+ghost use Rattle.std.specs.Prelude.{◌≡◌, ◌+◌, ◌-◌, ◌*◌, ◌<◌, ◌≤◌, ◌^◌, ◌%◌, length, take, IfOk, Ok};
+ghost use Rattle.std.specs.Result.{result_and};
 ghost use Rattle.gapcode.specs.Bits.{bits_of, bits_from, number_of};
-ghost use Rattle.gapcode.specs.Lists.{elements_at, list_at, lists_at, all_of, after, from_place, first_of_byte, end_at, without_value};
+ghost use Rattle.gapcode.specs.Lists.{elements_at, list_at, lists_at, all_of, after, from_place, first_of_byte, end_at};
 
 use crate::code::code_from;
 use crate::error::CodeError;
@@ -89,7 +90,7 @@ fn pass_end(bytes: &[u8], place: u128) -> Result<(), CodeError>
 
 /// Whether the bytes spell that many lists of numbers below the bound, or the first fault.
 pub fn check(bytes: &[u8], count: usize, bound: u32) -> Result<(), CodeError>
-    ensures { result ≡ without_value (all_of bound count bytes.now) }
+    ensures { result ≡ result_and (all_of bound count bytes.now) (Ok tt) }
 {
     let end = pass_lists(bytes, count, bound as u64)?;
     pass_end(bytes, end)

@@ -9,7 +9,7 @@ use crate::error::CodeError;
 const REACH: usize = 17;
 
 // The 64 bits from `shift` on.
-fn joined(nine: &[u8], shift: u32) -> u64
+fn shifted_word(nine: &[u8], shift: u32) -> u64
     requires nine { length nine.now ≡ 9 }
     requires shift { shift < 8 }
     ensures { digits 64 result ≡ take 64 (drop shift (bits_of nine.now)) }
@@ -38,9 +38,9 @@ fn window(bytes: &[u8], position: u32) -> u64
     let index = (position / 8) as usize;
     let shift = position % 8;
     if index + 9 <= bytes.len() {
-        joined(&bytes[index..index + 9], shift)
+        shifted_word(&bytes[index..index + 9], shift)
     } else {
-        joined(&padded(&bytes[index..]), shift)
+        shifted_word(&padded(&bytes[index..]), shift)
     }
 }
 

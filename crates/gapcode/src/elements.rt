@@ -3,7 +3,7 @@
 ghost use Rattle.std.specs.Prelude.{◌≡◌, ◌+◌, ◌-◌, ◌*◌, ◌/◌, ◌%◌, ◌<◌, ◌≤◌, ◌∷◌, length, drop, []};
 ghost use Rattle.std.specs.Iterator.{YieldsFirst, item_count};
 ghost use Rattle.gapcode.specs.Bits.{bits_from};
-ghost use Rattle.gapcode.specs.Lists.{elements_of, read_list, ArePlaced, IsPlaced};
+ghost use Rattle.gapcode.specs.Lists.{elements_from, read_list, ArePlaced, IsPlaced};
 
 use crate::code::code_at;
 use std::marker::Model;
@@ -36,8 +36,8 @@ fn step(bytes: &[u8], position: u32, left: u64, least: u64) -> (u32, u32)
     requires first { position < 8 }
     requires placed { ArePlaced bytes.now position left least }
     requires some { 0 < left }
-    ensures next { elements_of left least (bits_from bytes.now position)
-        ≡ result.0 ∷ elements_of (left - 1) (result.0 + 1) (bits_from bytes.now result.1) }
+    ensures next { elements_from bytes.now position left least
+        ≡ result.0 ∷ elements_from bytes.now result.1 (left - 1) (result.0 + 1) }
     ensures placed { ArePlaced bytes.now result.1 (left - 1) (result.0 + 1) }
 {
     match code_at(bytes, position) {
@@ -50,7 +50,7 @@ fn step(bytes: &[u8], position: u32, left: u64, least: u64) -> (u32, u32)
 fn degree(bytes: &[u8], position: u32) -> (u64, u32)
     requires first { position < 8 }
     requires placed { IsPlaced bytes.now position }
-    ensures first { elements_of result.0 0 (bits_from bytes.now result.1)
+    ensures first { elements_from bytes.now result.1 result.0 0
         ≡ read_list (bits_from bytes.now position) }
     ensures placed { ArePlaced bytes.now result.1 result.0 0 }
 {

@@ -24,6 +24,7 @@ pub enum CodeError {
     /// A whole byte stands after the padding.
     #[error("bytes after the last list")]
     Trailing,
+    /// Memory was refused. It is told only where the bytes pass all checks.
     #[error("out of memory")]
     Memory,
 }

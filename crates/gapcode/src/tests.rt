@@ -103,11 +103,13 @@ fn three_are_read(alloc: Global) -> Result<bool, CodeError> {
 }
 
 #[test]
-fn lists_stand_behind_one_another(rt: HostRuntime) -> Result<(), Fail> {
-    let are_written = three_are_written(rt.alloc())?;
-    let are_read = three_are_read(rt.alloc())?;
-    assert!(rt; are_written && are_read);
-    Ok(())
+fn lists_stand_behind_one_another(rt: HostRuntime) {
+    assert_eq!(rt; three_are_written(rt.alloc()), Ok(true));
+}
+
+#[test]
+fn lists_behind_one_another_are_read(rt: HostRuntime) {
+    assert_eq!(rt; three_are_read(rt.alloc()), Ok(true));
 }
 
 // What refuses these bytes.
@@ -156,11 +158,11 @@ fn is_within(alloc: Global, list: &[u32], bound: u32) -> Result<bool, CodeError>
     is_read(alloc, one(alloc, list)?.bytes(), bound, list)
 }
 
-// Whether a list with the greatest element is walked, and refused where that is the bound.
-fn is_greatest_walked(alloc: Global) -> Result<bool, AllocError> {
+// Whether a list with the greatest element is walked, and what refuses it where that is the bound.
+fn is_greatest_walked(alloc: Global) -> Result<(bool, Option<CodeError>), AllocError> {
     let lists = one(alloc, &[7, 4_294_967_295])?;
     let refusal = refusal(alloc, lists.bytes(), 1, u32::MAX);
-    Ok(only_is(&lists, &[7, 4_294_967_295]) && refusal == Some(CodeError::Range))
+    Ok((only_is(&lists, &[7, 4_294_967_295]), refusal))
 }
 
 // How many lists there are of no bytes, where none are wanted.
@@ -169,17 +171,19 @@ fn count_of_none(alloc: Global) -> Result<usize, CodeError> {
 }
 
 #[test]
-fn bounds_themselves_pass(rt: HostRuntime) -> Result<(), Fail> {
-    let is_within = is_within(rt.alloc(), &[0, 1, 2], 3)?;
-    let count_of_none = count_of_none(rt.alloc())?;
-    assert!(rt; is_within && count_of_none == 0);
-    Ok(())
+fn bounds_themselves_pass(rt: HostRuntime) {
+    assert_eq!(rt; is_within(rt.alloc(), &[0, 1, 2], 3), Ok(true));
+}
+
+#[test]
+fn no_lists_are_read_of_no_bytes(rt: HostRuntime) {
+    assert_eq!(rt; count_of_none(rt.alloc()), Ok(0));
 }
 
 #[test]
 fn the_greatest_element_is_walked(rt: HostRuntime) -> Result<(), Fail> {
     let is_walked = is_greatest_walked(rt.alloc())?;
-    assert!(rt; is_walked);
+    assert_eq!(rt; is_walked, (true, Some(CodeError::Range)));
     Ok(())
 }
 

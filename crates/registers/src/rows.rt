@@ -3,8 +3,8 @@
 ghost use Rattle.std.specs.Prelude.{◌≡◌, ◌≢◌, ◌↔◌, length, false, [], IsTrue, IfOk, replicate, slice_index, slice_index_or, slice_set, ◌<◌, ◌≤◌, ◌+◌, ◌*◌, ◌^◌};
 ghost use Rattle.ball_model.specs.Counter.{max_each};
 ghost use Rattle.ball_model.specs.Report.{empty_of};
-ghost use Rattle.registers.specs.Glance.{glanced_at, is_less_at};
-ghost use Rattle.registers.specs.Raised.{row_after_raise};
+ghost use Rattle.registers.specs.Glance.{glance_places, is_less_at};
+ghost use Rattle.registers.specs.Raised.{row_after_raise, rows_after_raise};
 ghost use Rattle.registers.specs.Shape.{piece_at, with_piece};
 
 use super::{Join, max_into};
@@ -96,7 +96,7 @@ impl Rows {
         requires row { i < length self.now.rows }
         requires width { length src.now ≡ self.now.width }
         ensures value { result
-            ≡ is_less_at (glanced_at self.now.width) (slice_index_or self.now.rows i []) src.now }
+            ≡ is_less_at (glance_places self.now.width) (slice_index_or self.now.rows i []) src.now }
         ensures rises { IsTrue result → (
             max_each (slice_index_or self.now.rows i []) src.now ≢ slice_index_or self.now.rows i []
             ) }
@@ -122,10 +122,8 @@ impl Rows {
     pub fn raise_one(&mut self, i: usize, index: usize, rank: u8) -> bool
         requires row { i < length self.old.rows }
         requires place { index < self.old.width }
-        ensures raised { self.new ≡ record self.old {
-          rows = slice_set self.old.rows i
-              (row_after_raise (slice_index_or self.old.rows i []) index rank);
-        } }
+        ensures raised { self.new
+            ≡ record self.old { rows = rows_after_raise self.old.rows i index rank } }
         ensures changed { IsTrue result
             ↔ (slice_index (slice_index_or self.old.rows i []) index < rank) }
     {
@@ -215,7 +213,7 @@ fn zeros(row: &[u8]) -> u32
 // Whether the last register of a row, or one of each line, is less than that of `src`.
 fn glance_over(row: &[u8], src: &[u8]) -> bool
     requires same_length { length row.now ≡ length src.now }
-    ensures value { result ≡ is_less_at (glanced_at (length row.now)) row.now src.now }
+    ensures value { result ≡ is_less_at (glance_places (length row.now)) row.now src.now }
     ensures rises { IsTrue result → max_each row.now src.now ≢ row.now }
 {
     if row.is_empty() {

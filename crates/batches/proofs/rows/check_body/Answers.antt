@@ -3,14 +3,14 @@ use Rattle.std.proofs.lemmas.Result.{err_from_is_err_and}
 use Rattle.std.proofs.lemmas.List.{length-drop}
 use Rattle.batches.specs.declared.error.BatchError.{BatchError}
 use Rattle.ball_model.specs.PlanValue.{PlanValue}
-use Rattle.batches.specs.Kept.{rows_at}
+use Rattle.batches.specs.Kept.{first_rows}
 use Rattle.batches.specs.Reading.{check_rows}
 use Rattle.batches.proofs.LoopLemmas.{row_goes_on, row_fails, rows_done, room_goes_on}
 use Rattle.batches.proofs.rows.check_body.Goals as goal
 
 next : (plan : PlanValue) (source m left id front : ℕ) (rest after : List ℕ) (total : Result (Unit {0}) BatchError) → id ≡ front → after ≡ drop (4 + m) rest
-    → check_rows plan source (front + 1) (rows_at m left (drop (4 + m) rest)) ≡ total → left * (4 + m) ≤ length rest - (4 + m)
-    → record { so_far : check_rows plan source (id + 1) (rows_at m left after) ≡ total; room : left * (4 + m) ≤ length after }
+    → check_rows plan source (front + 1) (first_rows m left (drop (4 + m) rest)) ≡ total → left * (4 + m) ≤ length rest - (4 + m)
+    → record { so_far : check_rows plan source (id + 1) (first_rows m left after) ≡ total; room : left * (4 + m) ≤ length after }
 next plan source m left id front rest after total e f on room =
     record { so_far = rw (e, f) on; room = rw f (omega (arith, room, length-drop (4 + m) rest)) }
 

@@ -1,6 +1,0 @@
-use Rattle.std.proofs.Common.{arith}
-use Rattle.gapcode.proofs.WordsLemmas.{joined_is}
-use Rattle.gapcode.proofs.code.joined.Goals as goal
-
-pub returns : goal.returns
-returns c = joined_is c.args.nine.now c.from_be_bytes-word.result c.args.shift c.requires.nine c.requires.shift (λ i. omega (arith, c.type_inv.nine i)) c.from_be_bytes-word.ensures
