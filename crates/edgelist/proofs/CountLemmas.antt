@@ -5,11 +5,11 @@ use Rattle.std.specs.List.{list_any, filter, range_with_len, AllByRecursion, IsD
 use Rattle.std.specs.Str.{bytes_eq}
 use Rattle.std.specs.Cmp.Lexicographic.{same_text}
 use Rattle.std.proofs.lemmas.List.{append_assoc, length-append, length-set, length-replicate, get_or_append_left, get_or-set_same, get_or-set_other, get_or-replicate}
-use Rattle.std.proofs.lemmas.List.Folds.{list_any-append}
+use Rattle.std.proofs.lemmas.List.Folds.{list_any-append, list_any_at}
 use Rattle.std.proofs.lemmas.List.Elements.{filter-append}
 use Rattle.csv.specs.declared.reader.Reader.{Reader}
 use Rattle.ball_model.specs.Input.{Network, records, first_of}
-use Rattle.ball_model.specs.Counting.{CountedRefusal, NotOne, Unknown, is_name, names, list_fault_at, named_vertices, counted_as}
+use Rattle.ball_model.specs.Counting.{CountedRefusal, NotOne, Unknown, is_name, names, list_fault_at, named_vertices, counted_network_from}
 use Rattle.std.proofs.lemmas.Bool.{eqb-true, eq-eqb}
 use Rattle.ball_model.proofs.PartLemmas.{range_more}
 use Rattle.edgelist.specs.Guessing.{StandsAt}
@@ -18,7 +18,8 @@ use Rattle.edgelist.specs.Records.{config, rows, is_row, IsLeft}
 use Rattle.edgelist.specs.Counting.{ListFaultIs, record_fault, MarksAre, SaysMarks, SaysRefusal}
 use Rattle.edgelist.specs.declared.counting.CountedError.{CountedError}
 use Rattle.edgelist.specs.declared.counting.CountedError.TheVariants as refused
-use Rattle.std.proofs.Math.Bool.{or-false}
+use Rattle.std.proofs.Math.Bool.{or-false, or-true}
+use Rattle.std.proofs.Math.Seq.{get_or-append_seam}
 use Rattle.edgelist.proofs.BoolLemmas.{by_cases}
 use Rattle.edgelist.proofs.LabelLemmas.{text_same}
 use Rattle.edgelist.proofs.NetworkLemmas.{Apart, apart-at}
@@ -74,51 +75,26 @@ marks-more labels past marks label r v distinct one stands are =
           let kept : get_or (set marks v true) w true ≡ get_or marks w true = rw get_or-set_other refl in
           kept ∙ are.each w lt ∙ sym (now ∙ rw differs (or-false (list_any (names (get_or labels w [])) past))));
     }
-  where
-    or-true : (b : Bool) → (b || true) ≡ true
-    or-true true = refl
-    or-true false = refl
 
--- a record that names a label passes, one that names none or is no name does not
+-- a record that names a label passes
 names-any : (label : List ℕ) (labels : List (List ℕ)) → list_any (λ l. names l (label ∷ [])) labels ≡ list_any (bytes_eq label) labels
 names-any label [] = refl
 names-any label (l ∷ labels) = ap (λ b. bytes_eq label l || b) (names-any label labels)
 
-any-stands : (label : List ℕ) (labels : List (List ℕ)) (v : ℕ) → v < length labels → get_or labels v [] ≡ label → list_any (bytes_eq label) labels ≡ true
-any-stands label [] v lt is = absurd (omega arith)
-any-stands label (l ∷ labels) zero lt is = rw (is, text_same label) refl
-any-stands label (l ∷ labels) (suc v) lt is =
-    by_cases (bytes_eq label l) _
-    (λ t. rw t refl)
-    (λ f. rw f (any-stands label labels v (omega arith) is))
-
 pub passes-known : (labels : List (List ℕ)) (r : List (List ℕ)) (label : List ℕ) (n v : ℕ) → is_name r ≡ true → r ≡ label ∷ [] → StandsAt labels label v → record_fault labels r n ≡ None
 passes-known labels r label n v name one stands =
-    let known : list_any (λ l. names l r) labels ≡ true = rw one (names-any label labels ∙ any-stands label labels v stands.within stands.is) in
+    let known : list_any (λ l. names l r) labels ≡ true = rw one (names-any label labels ∙ list_any_at (bytes_eq label) labels v [] stands.within (rw stands.is (text_same label))) in
     rw (name, known) refl
-
-pub stops-unknown : (labels : List (List ℕ)) (r : List (List ℕ)) (label : List ℕ) (n : ℕ) → is_name r ≡ true → r ≡ label ∷ [] → list_any (bytes_eq label) labels ≡ false → record_fault labels r n ≡ Some (Unknown (n + 1))
-stops-unknown labels r label n name one none =
-    let unknown : list_any (λ l. names l r) labels ≡ false = rw one (names-any label labels ∙ none) in
-    rw (name, unknown) refl
-
-pub stops-name : (labels : List (List ℕ)) (r : List (List ℕ)) (n : ℕ) → is_name r ≡ false → record_fault labels r n ≡ Some (NotOne (n + 1))
-stops-name labels r n name = rw name refl
 
 -- no check fails at any of these records
 pub record IsCleanList (labels : List (List ℕ)) (past : List (List (List ℕ))) : Type 0 where
   pub none : (i : ℕ) → i < length past → list_fault_at labels past i ≡ None
 
--- the record that follows some
-at-next : (past : List (List (List ℕ))) (r : List (List ℕ)) (more : List (List (List ℕ))) → get_or (past ++ r ∷ more) (length past) [] ≡ r
-at-next [] r more = refl
-at-next (s ∷ past) r more = at-next past r more
-
 list-fault-before : (labels : List (List ℕ)) (past more : List (List (List ℕ))) (i : ℕ) → i < length past → list_fault_at labels (past ++ more) i ≡ list_fault_at labels past i
 list-fault-before labels past more i lt = ap (λ r. record_fault labels r i) (get_or_append_left past more [] i lt)
 
 list-fault-next : (labels : List (List ℕ)) (past : List (List (List ℕ))) (r : List (List ℕ)) (more : List (List (List ℕ))) → list_fault_at labels (past ++ r ∷ more) (length past) ≡ record_fault labels r (length past)
-list-fault-next labels past r more = ap (λ s. record_fault labels s (length past)) (at-next past r more)
+list-fault-next labels past r more = ap (λ s. record_fault labels s (length past)) (get_or-append_seam past r more [])
 
 -- so many records were read, and the marks are theirs
 pub record Counts {R : Type 0} (rem : R → Option (List ℕ)) (d : ℕ) (labels : List (List ℕ)) (n : ℕ) (text : List ℕ) (rdr : Reader R) (marks : List Bool) : Type 0 where
@@ -152,7 +128,7 @@ counts-more rem d labels n text a b marks marks' r counts at more passes = recor
 
 -- the marks of all records are what the list says
 says-marks : (labels : List (List ℕ)) (past : List (List (List ℕ))) (marks : List Bool) → IsCleanList labels past → MarksAre labels past marks → SaysMarks labels past marks
-unfolding counted_as named_vertices
+unfolding counted_network_from named_vertices
 says-marks labels past marks clean are network same =
     let none : first_of (map (list_fault_at labels past) (range_with_len 0 (length past))) ≡ None = first-none (list_fault_at labels past) 0 (length past) (λ k lt. clean.none k (omega arith)) in
     let sets : filter (λ v. list_any (names (get_or labels v [])) past) (range_with_len 0 (length labels)) ≡ marked_vertices (length labels) marks =
@@ -164,8 +140,8 @@ pub counts-end : {R : Type 0} (rem : R → Option (List ℕ)) (d : ℕ) (labels 
 counts-end rem d labels n text a marks counts whole = rw whole (says-marks labels counts.past marks counts.clean counts.are)
 
 says-fault : (labels : List (List ℕ)) (past : List (List (List ℕ))) (r : List (List ℕ)) (more : List (List (List ℕ))) (x : CountedRefusal) → IsCleanList labels past → record_fault labels r (length past) ≡ Some x →
-    (network : Network) → network.labels ≡ labels → counted_as network (past ++ r ∷ more) ≡ Err x
-unfolding counted_as
+    (network : Network) → network.labels ≡ labels → counted_network_from network (past ++ r ∷ more) ≡ Err x
+unfolding counted_network_from
 says-fault labels past r more x clean fault network same =
     let all = past ++ r ∷ more in
     let long : length past < length all = omega (arith, length-append past (r ∷ more)) in
@@ -179,7 +155,7 @@ says-refused : (labels : List (List ℕ)) (past : List (List (List ℕ))) (r : L
     SaysRefusal labels (past ++ r ∷ more) e
 says-refused labels past r more (refused.Fields n) clean fault = says-fault labels past r more (NotOne n) clean fault
 says-refused labels past r more (refused.Unknown n) clean fault = says-fault labels past r more (Unknown n) clean fault
-says-refused labels past r more refused.Memory clean fault = λ network same. tt
+says-refused labels past r more refused.Memory clean fault = absurd fault
 
 pub counts-stop : {R : Type 0} (rem : R → Option (List ℕ)) (d : ℕ) (labels : List (List ℕ)) (n : ℕ) (text : List ℕ) (a b : Reader R) (marks : List Bool) (r : List (List ℕ)) (e : CountedError) (counts : Counts rem d labels n text a marks) →
     IsLeft rem d text (counts.past ++ r ∷ []) b → ListFaultIs (record_fault labels r n) e → SaysRefusal labels (records d text) e

@@ -1,6 +1,6 @@
 -- Lists that stand one behind another.
-use Rattle.std.proofs.Common.{subst, sym, map, take, length-append, ◌≡◌, ℕ, zero, suc, ◌+◌, ◌-◌, ◌^◌, ◌<◌, ◌≤◌, List, [], ◌∷◌, ◌++◌, length, get_or, drop, refl, ap, arith, ◌∙◌, length-drop}
-use Rattle.std.specs.Prelude.{slice_range, slice_index}
+use Rattle.std.proofs.Common.{subst, sym, map, take, length-append, ◌≡◌, ℕ, zero, suc, ◌+◌, ◌-◌, ◌<◌, ◌≤◌, List, [], ◌∷◌, ◌++◌, length, get_or, drop, refl, ap, arith, ◌∙◌, length-drop}
+use Rattle.std.specs.Prelude.{slice_range}
 use Rattle.std.specs.List.{sum_by}
 use Rattle.std.proofs.lemmas.List.{length-take, take-append-le, drop-append-le, take_all, take_more, map-append}
 use Rattle.std.proofs.Math.Seq.{drop-append_seam}
@@ -96,19 +96,7 @@ cut-push items [] end b up = absurd up
 cut-push items (a ∷ []) end b up = ap (λ k. slice_range items k b ∷ []) up
 cut-push items (a ∷ c ∷ starts) end b up = ap (λ (ls : List (List ℕ)). slice_range items a c ∷ ls) (cut-push items (c ∷ starts) end b up.1)
 
-first-kept : (starts : List ℕ) (b end : ℕ) → Ascend end starts → slice_index (starts ++ b ∷ []) 0 ≡ slice_index starts 0
-unfolding Ascend
-first-kept [] b end up = absurd up
-first-kept (a ∷ starts) b end up = refl
-
 -- a list behind the others
-pub starts-push : (items list starts : List ℕ) (end : ℕ) → end ≡ length items + length list → AreStarts (length items) starts → end < 2 ^ 32 → AreStarts end (starts ++ end ∷ [])
-starts-push items list starts end e ok fits = record {
-  first = first-kept starts end (length items) ok.ascend ∙ ok.first;
-  ascend = ascend-push (length items) end starts ok.ascend (omega arith);
-  few = fits;
-}
-
 pub lists-push : (items list starts : List ℕ) (end : ℕ) → end ≡ length items + length list → Ascend (length items) starts → lists_between (items ++ list) (starts ++ end ∷ []) ≡ lists_between items starts ++ list ∷ []
 lists-push items list starts end e up =
     let count : end - length items ≡ length list = omega arith in

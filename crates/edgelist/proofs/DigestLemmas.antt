@@ -7,7 +7,7 @@ use Rattle.std.proofs.lemmas.List.Elements.{filter-append}
 use Rattle.ball_model.specs.Graph.{Graph, IsGraph, is_counted, preds_of, listed_edges, counted_vertices}
 use Rattle.ball_model.specs.Job.{edge_bytes}
 use Rattle.ball_model.proofs.PartLemmas.{range_more}
-use Rattle.edgelist.specs.Planning.{row_bytes, vertex_bytes}
+use Rattle.edgelist.specs.Planning.{target_bytes, vertex_bytes}
 
 -- the edges to x
 abbrev pub edges_to : Graph → ℕ → List (ℕ × ℕ)
@@ -28,11 +28,11 @@ pub edges-all : (g : Graph) (n : ℕ) → IsGraph g → n ≡ g.vertices → fla
 unfolding listed_edges
 edges-all g n ok count = rw count (sym ok.listed)
 
-pub bytes-next : (g : Graph) (m : List ℕ) (n : ℕ) → m ++ bytes_below g (n + 1) ≡ (m ++ bytes_below g n) ++ row_bytes (preds_of g n) n
+pub bytes-next : (g : Graph) (m : List ℕ) (n : ℕ) → m ++ bytes_below g (n + 1) ≡ (m ++ bytes_below g n) ++ target_bytes (preds_of g n) n
 bytes-next g m n =
     ap (λ (es : List (ℕ × ℕ)). m ++ flat_map edge_bytes es) (edges-next g n)
     ∙ ap (λ (bs : List ℕ). m ++ bs) (flat_map-append edge_bytes (flat_map (edges_to g) (range_with_len 0 n)) (edges_to g n))
-    ∙ sym (append_assoc m (bytes_below g n) (row_bytes (preds_of g n) n))
+    ∙ sym (append_assoc m (bytes_below g n) (target_bytes (preds_of g n) n))
 
 pub bytes-all : (g : Graph) (n : ℕ) → IsGraph g → n ≡ g.vertices → bytes_below g n ≡ flat_map edge_bytes g.edges
 bytes-all g n ok count = ap (flat_map edge_bytes) (edges-all g n ok count)

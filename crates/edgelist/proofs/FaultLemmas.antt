@@ -1,13 +1,14 @@
 -- Which check fails first.
-use Rattle.std.proofs.Common.{◌≡◌, ℕ, zero, suc, ◌+◌, ◌<◌, ◌≤◌, true, false, nat_lt, List, [], ◌∷◌, ◌++◌, length, map, get_or, take, refl, ap, arith, sym, subst, ◌∙◌, inl, inr, tests, Ok, Err, OnOk, IfErr}
+use Rattle.std.proofs.Common.{◌≡◌, ℕ, zero, suc, ◌+◌, ◌<◌, ◌≤◌, true, false, nat_lt, List, [], ◌∷◌, ◌++◌, length, map, take, refl, ap, arith, sym, subst, ◌∙◌, inl, inr, tests, Ok, Err, OnOk, IfErr}
 use Rattle.std.specs.Prelude.{Option, Some, None, Result, nat_le}
 use Rattle.std.specs.List.{range_with_len}
 use Rattle.std.proofs.lemmas.Bool.{cases_lt}
 use Rattle.std.proofs.lemmas.List.{get_or_append_left, length-append, take-append-le}
-use Rattle.ball_model.specs.Input.{Limits, Refusal, TooManyEdges, Fields, TooManyVertices, has_form, labels_of, fault_at, first_of, network_from}
+use Rattle.std.proofs.Math.Seq.{get_or-append_seam}
+use Rattle.ball_model.specs.Input.{Limits, Network, Refusal, TooManyEdges, Fields, TooManyVertices, has_form, labels_of, fault_at, first_of, network_from}
 use Rattle.edgelist.specs.Edges.{AllBelow, edge_of, graph_of_edges}
 use Rattle.edgelist.specs.declared.edge.Edge.{Edge}
-use Rattle.edgelist.specs.Reading.{with_label, IsReadAs, AddsEdge, Exceeds, IsClean, Adds, Stops, FaultIs, Refuses}
+use Rattle.edgelist.specs.Reading.{with_label, IsReadAs, AddsEdge, Exceeds, IsClean, Adds, Stops, FaultIs, Refuses, IsRefusal}
 use Rattle.edgelist.specs.declared.read.EdgeError.{EdgeError}
 use Rattle.edgelist.specs.declared.read.EdgeError.TheVariants as refused
 use Rattle.edgelist.proofs.NetworkLemmas.{labels_of-one, labels_of-two, with_label-longer, below_more, read-one, read-two, edge-below, network-is}
@@ -21,38 +22,24 @@ fault-prefix limits records more i lt =
     let le : i + 1 ≤ length records = omega arith in
     rw (get_or_append_left records more [] i lt, take-append-le (i + 1) records more) refl
 
--- the record that follows some
-at-next : (records : List Record) (r : Record) (more : List Record) → get_or (records ++ r ∷ more) (length records) [] ≡ r
-at-next [] r more = refl
-at-next (s ∷ records) r more = at-next records r more
-
 up-to-next : (records : List Record) (r : Record) (more : List Record) → take (length records + 1) (records ++ r ∷ more) ≡ records ++ r ∷ []
 up-to-next [] r more = refl
 up-to-next (s ∷ records) r more = let e : suc (length records) + 1 ≡ suc (length records + 1) = omega arith in rw e (ap (λ (l : List Record). s ∷ l) (up-to-next records r more))
 
 -- the four outcomes at the record that follows some
-fault-many : (limits : Limits) (records : List Record) (n : ℕ) → limits.edges ≤ n → fault_at limits records n ≡ Some TooManyEdges
-fault-many limits records n le = let on : nat_le limits.edges n ≡ true = search (tests, arith) in rw on refl
-
-fault-form : (limits : Limits) (records : List Record) (r : Record) (more : List Record) → length records < limits.edges → has_form r ≡ false →
-    fault_at limits (records ++ r ∷ more) (length records) ≡ Some (Fields (length records + 1))
-fault-form limits records r more lt form =
-    let off : nat_le limits.edges (length records) ≡ false = search (tests, arith) in
-    rw (off, at-next records r more, form) refl
-
 fault-vertices : (limits : Limits) (records : List Record) (r : Record) (more : List Record) → length records < limits.edges → has_form r ≡ true → limits.vertices < length (labels_of (records ++ r ∷ [])) →
     fault_at limits (records ++ r ∷ more) (length records) ≡ Some TooManyVertices
 fault-vertices limits records r more lt form many =
     let off : nat_le limits.edges (length records) ≡ false = search (tests, arith) in
     let over : nat_lt limits.vertices (length (labels_of (records ++ r ∷ []))) ≡ true = search (tests, arith) in
-    rw (off, at-next records r more, form, up-to-next records r more, over) refl
+    rw (off, get_or-append_seam records r more [], form, up-to-next records r more, over) refl
 
 fault-none : (limits : Limits) (records : List Record) (r : Record) (more : List Record) → length records < limits.edges → has_form r ≡ true → length (labels_of (records ++ r ∷ [])) ≤ limits.vertices →
     fault_at limits (records ++ r ∷ more) (length records) ≡ None
 fault-none limits records r more lt form few =
     let off : nat_le limits.edges (length records) ≡ false = search (tests, arith) in
     let within : nat_lt limits.vertices (length (labels_of (records ++ r ∷ []))) ≡ false = search (tests, arith) in
-    rw (off, at-next records r more, form, up-to-next records r more, within) refl
+    rw (off, get_or-append_seam records r more [], form, up-to-next records r more, within) refl
 
 pub first-none : {X : Type 0} (f : ℕ → Option X) (a n : ℕ) → ((k : ℕ) → k < a + n → f k ≡ None) → first_of (map f (range_with_len a n)) ≡ None
 first-none f a zero h = refl
@@ -94,6 +81,14 @@ says-refusal limits records r more refused.TooManyEdges clean fault = says-fault
 says-refusal limits records r more (refused.Fields n) clean fault = says-fault limits records r more (Fields n) clean fault
 says-refusal limits records r more refused.TooManyVertices clean fault = says-fault limits records r more TooManyVertices clean fault
 says-refusal limits records r more refused.Memory clean fault = tt
+
+-- what any text may say is no refusal of a record
+pub refuses-none : (e : EdgeError) → ((says : Result Network Refusal) → Refuses says e) → IsRefusal e → ⊥
+refuses-none refused.Read any is = is
+refuses-none refused.TooManyEdges any is = let bad : Err TooManyVertices ≡ Err TooManyEdges = any (Err TooManyVertices) in cc
+refuses-none (refused.Fields n) any is = let bad : Err TooManyEdges ≡ Err (Fields n) = any (Err TooManyEdges) in cc
+refuses-none refused.TooManyVertices any is = let bad : Err TooManyEdges ≡ Err TooManyVertices = any (Err TooManyEdges) in cc
+refuses-none refused.Memory any is = is
 
 pub clean-none : (limits : Limits) → IsClean limits []
 clean-none limits = record { none = λ i lt. absurd (omega arith) }
@@ -150,12 +145,6 @@ answer-two (Ok t) limits n r a b old new edges edges' lt form row adds few = rw 
 answer-two (Err x) limits n r a b old new edges edges' lt form row adds few = tt
 
 -- the refusals
-pub stops-many : (limits : Limits) (n : ℕ) (r : Record) (old : List (List ℕ)) (edges : List Edge) → limits.edges ≤ n → Stops limits n r old edges refused.TooManyEdges
-stops-many limits n r old edges le = record { at = λ records more is so. fault-many limits (records ++ r ∷ more) n le }
-
-pub stops-form : (limits : Limits) (n : ℕ) (r : Record) (old : List (List ℕ)) (edges : List Edge) → n < limits.edges → has_form r ≡ false → Stops limits n r old edges (refused.Fields (n + 1))
-stops-form limits n r old edges lt form = record { at = λ records more is so. rw (← is) (fault-form limits records r more (omega arith) form) }
-
 exceeds-stops : (e : EdgeError) (limits : Limits) (n : ℕ) (r : Record) (old with_it : List (List ℕ)) (edges : List Edge) → n < limits.edges → has_form r ≡ true →
     ((records : List Record) → labels_of records ≡ old → labels_of (records ++ r ∷ []) ≡ with_it) → Exceeds limits.vertices with_it e → Stops limits n r old edges e
 exceeds-stops refused.Read limits n r old with_it edges lt form labels many = absurd many

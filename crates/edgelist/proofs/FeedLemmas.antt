@@ -1,5 +1,5 @@
 -- Feed masks, bit by bit.
-use Rattle.std.proofs.Common.{◌≡◌, ◌≢◌, ◌∙◌, ℕ, zero, suc, ◌+◌, ◌-◌, ◌*◌, ◌/◌, ◌%◌, ◌^◌, ◌<◌, ◌≤◌, Bool, true, false, ◌&&◌, ◌||◌, ◌==◌, List, [], ◌∷◌, ◌++◌, length, map, get_or, set, bit_or, take, drop, replicate, refl, ap, arith, sym, subst, inl, inr, length-set}
+use Rattle.std.proofs.Common.{◌≡◌, ◌≢◌, ◌∙◌, ℕ, ◌+◌, ◌-◌, ◌*◌, ◌/◌, ◌%◌, ◌^◌, ◌<◌, ◌≤◌, Bool, true, false, ◌&&◌, ◌||◌, ◌==◌, List, [], ◌∷◌, ◌++◌, length, map, get_or, set, bit_or, take, drop, replicate, refl, ap, arith, sym, subst, inl, inr, length-set}
 use Rattle.std.specs.Int.{bit_at}
 use Rattle.std.specs.List.{list_any, range_with_len}
 use Rattle.std.proofs.Math.Nat.{div-add-mod, mod-lt, mul-le-mul_left}
@@ -17,22 +17,15 @@ use Rattle.ball_model.proofs.PartLemmas.{part_size-is, vertices_of-strided}
 use Rattle.ball_model.proofs.MaskLemmas.{bit, mask-is, mask-bit}
 use Rattle.ball_model.specs.Masks.{has_bit}
 use Rattle.edgelist.specs.Feeding.{AreMasks}
-use Rattle.std.proofs.Math.Bool.{or-false}
+use Rattle.std.proofs.Math.Bool.{or-false, or-true}
 use Rattle.edgelist.proofs.BoolLemmas.{by_cases}
+use Rattle.edgelist.proofs.RangeLemmas.{copies-at}
 
 -- no edges, no bits
-abbrev no_bits : ℕ
-no_bits = 0
-
-pub zeros-at : (n i : ℕ) → get_or (replicate n no_bits) i no_bits ≡ no_bits
-zeros-at zero i = refl
-zeros-at (suc n) zero = refl
-zeros-at (suc n) (suc i) = zeros-at n i
-
 pub masks-none : (parts p n : ℕ) → AreMasks parts p [] (replicate n 0)
 masks-none parts p n = record {
-  fits = λ i. rw (zeros-at n i) (omega arith);
-  bits = λ i r lt small. rw (zeros-at n i) (bit_at-zero r);
+  fits = λ i. rw (copies-at {X = ℕ} n i 0) (omega arith);
+  bits = λ i r lt small. rw (copies-at {X = ℕ} n i 0) (bit_at-zero r);
 }
 
 -- an edge of another partition's vertex
@@ -52,10 +45,6 @@ masks-other parts p y x es masks lt other h = record {
   fits = h.fits;
   bits = λ i r low small. h.bits i r low small ∙ ap bit (sym (any-other parts p i r y x es (mark-other parts p i y lt other)));
 }
-
-or_true : (a : Bool) → (a || true) ≡ true
-or_true true = refl
-or_true false = refl
 
 -- a bit is set, and the others stay
 set-same : (n k : ℕ) → bit_at (bit_or n (2 ^ k)) k ≡ 1
@@ -95,7 +84,7 @@ masks-own parts p y x j es masks lt few is low h =
           by_cases (r0 == r) _
           (λ u.
           let same : r0 ≡ r = eqb-true r0 r u in
-          rw (now, whole, here, u, or_true (list_any test es)) (subst (λ (k : ℕ). bit_at (bit_or (get_or masks i 0) (2 ^ r0)) k ≡ 1) same (set-same (get_or masks i 0) r0)))
+          rw (now, whole, here, u, or-true (list_any test es)) (subst (λ (k : ℕ). bit_at (bit_or (get_or masks i 0) (2 ^ r0)) k ≡ 1) same (set-same (get_or masks i 0) r0)))
           (λ f.
           let apart : r ≢ r0 = λ bad. absurd (let no_ : true ≡ false = sym (eq-eqb r0 r0 refl) ∙ ap (λ (k : ℕ). r0 == k) (sym bad) ∙ f in cc) in
           rw (now, whole, here, f, or-false (list_any test es)) (set-other (get_or masks i 0) r0 r apart ∙ h.bits i r inside small)))
@@ -133,6 +122,11 @@ vertex-within n parts p i lt low =
     let flip : parts * (i + 1) ≡ i * parts + parts = grind arith in
     omega arith
 
+-- vertex i of a partition
+vertex-at : (n parts p i : ℕ) → p < parts → i < part_size n parts p → get_or (vertices_of n parts p) i 0 ≡ i * parts + p
+vertex-at n parts p i lt inside =
+    ap (λ (l : List ℕ). get_or l i 0) (vertices_of-strided n parts p lt) ∙ get_or-map-range_with_len (λ k. k * parts + p) 0 (part_size n parts p) i i 0 inside (omega arith)
+
 -- the masks of all edges are the feed masks
 masks-feeds-of : (g : Graph) (n parts p : ℕ) (masks : List ℕ) → p < parts → parts ≤ 64 → length masks ≡ part_size n parts p → AreMasks parts p g.edges masks →
     masks ≡ map (λ x. feed_mask g parts x) (vertices_of n parts p)
@@ -142,8 +136,7 @@ masks-feeds-of g n parts p masks lt few size h =
     ext_get_or 0 masks (map (λ x. feed_mask g parts x) (vertices_of n parts p)) (size ∙ sym long)
     (λ i low.
     let inside : i < part_size n parts p = omega arith in
-    let at : get_or (vertices_of n parts p) i 0 ≡ i * parts + p =
-    ap (λ (l : List ℕ). get_or l i 0) (vertices_of-strided n parts p lt) ∙ get_or-map-range_with_len (λ k. k * parts + p) 0 (part_size n parts p) i i 0 inside (omega arith) in
+    let at = vertex-at n parts p i lt inside in
     mask-is g parts (i * parts + p) (get_or masks i 0) (omega arith) few (h.fits i) (λ r fits. h.bits i r low fits)
     ∙ ap (feed_mask g parts) (sym at)
     ∙ sym (get_or-map (λ x. feed_mask g parts x) (vertices_of n parts p) i 0 0 inside))
@@ -157,11 +150,6 @@ pub refill : {X : Type 0} (xs ys : List X) (n : ℕ) → n ≡ length ys → len
 refill xs ys n count same =
     let none : drop (length xs) ys ≡ [] = drop_all (length xs) ys (omega arith) in
     rw (none, append-nil xs) (take_all n xs (omega arith))
-
--- vertex i of a partition
-vertex-at : (n parts p i : ℕ) → p < parts → i < part_size n parts p → get_or (vertices_of n parts p) i 0 ≡ i * parts + p
-vertex-at n parts p i lt inside =
-    ap (λ (l : List ℕ). get_or l i 0) (vertices_of-strided n parts p lt) ∙ get_or-map-range_with_len (λ k. k * parts + p) 0 (part_size n parts p) i i 0 inside (omega arith)
 
 -- the feed mask of vertex i of a part
 part-mask : (j : Job) (p i : ℕ) → p < j.plan.parts → i < length (part_of j p).preds → get_or (part_of j p).feeds i 0 ≡ feed_mask j.graph j.plan.parts (i * j.plan.parts + p)

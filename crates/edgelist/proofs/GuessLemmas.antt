@@ -1,17 +1,19 @@
 -- Words of short labels, and entries that tell their places.
-use Rattle.std.proofs.Common.{◌≡◌, ◌≢◌, ◌∙◌, ℕ, zero, suc, ◌+◌, ◌*◌, ◌/◌, ◌%◌, ◌^◌, ◌<◌, ◌≤◌, true, false, ◌==◌, List, [], ◌∷◌, length, get_or, set, replicate, refl, ap, arith, sym, subst}
+use Rattle.std.proofs.Common.{◌≡◌, ◌≢◌, ◌∙◌, ℕ, zero, suc, ◌+◌, ◌-◌, ◌*◌, ◌^◌, ◌<◌, ◌≤◌, true, false, ◌==◌, ◌&&◌, List, [], ◌∷◌, ◌++◌, length, get_or, set, take, drop, replicate, refl, ap, ap₂, arith, sym, subst, pow_mono}
+use Rattle.std.specs.Prelude.{min}
 use Rattle.std.specs.List.{list_any}
 use Rattle.std.specs.Str.{bytes_eq}
-use Rattle.std.proofs.Math.Nat.{div-add-mod}
 use Rattle.std.proofs.lemmas.Nat.{pow-add}
-use Rattle.std.proofs.lemmas.List.{length-append, get_or_append_left, get_or-set_same, get_or-set_other}
+use Rattle.std.proofs.lemmas.List.Folds.{list_any_at}
+use Rattle.std.proofs.lemmas.List.{length-append, length-take, length-drop, take-append-drop, get_or_default, get_or_append_left, get_or-set_same, get_or-set_other}
 use Rattle.std.proofs.lemmas.Bool.{eqb-true, eq-eqb}
 use Rattle.edgelist.specs.Guessing.{bytes_after, word_of, IsShort, StandsAt, Tells, AreTold, told_word, blank_entry}
 use Rattle.edgelist.specs.declared.numbering.Entry.{Entry}
+use Rattle.edgelist.specs.declared.numbering.LabelWord.{LabelWord}
 use Rattle.edgelist.specs.Reading.{with_label}
 use Rattle.edgelist.proofs.BoolLemmas.{by_cases}
-use Rattle.ball_model.proofs.MaskLemmas.{pow-up}
 use Rattle.edgelist.proofs.LabelLemmas.{text_same}
+use Rattle.edgelist.proofs.RangeLemmas.{copies-at}
 
 abbrev AreBytes : List ℕ → Type 0
 AreBytes xs = (i : ℕ) → get_or xs i 0 < 256
@@ -27,11 +29,26 @@ same-after v w (x ∷ xs) (y ∷ ys) long p q is =
     let same_digit : x ≡ y = omega (arith, later.0, p zero, q zero) in
     (omega (arith, later.0, p zero, q zero), rw (same_digit, later.1) refl)
 
+bytes-take : (n : ℕ) (xs : List ℕ) → AreBytes xs → AreBytes (take n xs)
+bytes-take zero xs bytes i = omega arith
+bytes-take (suc n) [] bytes i = omega arith
+bytes-take (suc n) (x ∷ xs) bytes zero = bytes zero
+bytes-take (suc n) (x ∷ xs) bytes (suc i) = bytes-take n xs (λ j. bytes (suc j)) i
+
+bytes-drop : (n : ℕ) (xs : List ℕ) → AreBytes xs → AreBytes (drop n xs)
+bytes-drop zero xs bytes i = bytes i
+bytes-drop (suc n) [] bytes i = omega arith
+bytes-drop (suc n) (x ∷ xs) bytes i = bytes-drop n xs (λ j. bytes (suc j)) i
+
 -- short labels with the same word are the same
 pub word-same : (a b : List ℕ) → IsShort a → IsShort b → word_of a ≡ word_of b → a ≡ b
 word-same a b short_a short_b is =
-    let long : length a ≡ length b = omega (arith, is, short_a.few, short_b.few) in
-    (same-after 0 0 a b long short_a.bytes short_b.bytes (omega (arith, is, long))).1
+    let low : bytes_after 0 (take 8 a) ≡ bytes_after 0 (take 8 b) = ap (λ (w : LabelWord). w.low) is in
+    let high : bytes_after 0 (drop 8 a) * 256 + length a + 1 ≡ bytes_after 0 (drop 8 b) * 256 + length b + 1 = ap (λ (w : LabelWord). w.high) is in
+    let long : length a ≡ length b = omega (arith, high, short_a.few, short_b.few) in
+    let first = same-after 0 0 (take 8 a) (take 8 b) (length-take 8 a ∙ ap (λ n. min 8 n) long ∙ sym (length-take 8 b)) (bytes-take 8 a short_a.bytes) (bytes-take 8 b short_b.bytes) low in
+    let rest = same-after 0 0 (drop 8 a) (drop 8 b) (length-drop 8 a ∙ ap (λ n. n - 8) long ∙ sym (length-drop 8 b)) (bytes-drop 8 a short_a.bytes) (bytes-drop 8 b short_b.bytes) (omega (arith, high, long)) in
+    sym (take-append-drop 8 a) ∙ ap₂ (λ (xs ys : List ℕ). xs ++ ys) first.1 rest.1 ∙ take-append-drop 8 b
 
 -- a byte more
 pub digits-step : (w b i : ℕ) → w < 2 ^ (8 * i) → b < 256 → w * 256 + b < 2 ^ (8 * (i + 1))
@@ -39,14 +56,18 @@ digits-step w b i small byte =
     let at : 8 * (i + 1) ≡ 8 * i + 8 = omega arith in
     rw (at, pow-add 2 (8 * i) 8) (omega (arith, small, byte))
 
-pub digits-fit : (i n : ℕ) → i ≤ n → n ≤ 11 → 2 ^ (8 * i) ≤ 2 ^ 88
-digits-fit i n le few = pow-up (8 * i) 88 (omega (arith, le, few))
+pub digits-fit : (i n : ℕ) → i ≤ n → 2 ^ (8 * i) ≤ 2 ^ (8 * n)
+digits-fit i n le = pow_mono {i = 8 * i} {j = 8 * n} (omega (arith, le))
 
--- a word from its two pieces
-pub pieces : (w : ℕ) → w / 2 ^ 64 * 2 ^ 64 + w % 2 ^ 64 ≡ w
-pieces w =
-    let whole : 2 ^ 64 * (w / 2 ^ 64) + w % 2 ^ 64 ≡ w = div-add-mod w (2 ^ 64) in
-    omega (arith, whole)
+-- words are the same where the test of their numbers says so
+same-numbers : (a b : LabelWord) → ((a.low == b.low) && (a.high == b.high)) ≡ true → a ≡ b
+same-numbers a b t =
+    by_cases (a.low == b.low) _
+    (λ low.
+    let high : (a.high == b.high) ≡ true = rw low at t in
+    let make : ℕ → ℕ → LabelWord = λ l h. record { low = l; high = h } in
+    ap₂ make (eqb-true a.low b.low low) (eqb-true a.high b.high high))
+    (λ f. absurd (let bad = rw f at t in cc))
 
 -- an entry of the word of a label tells its place
 pub tells-one : (labels : List (List ℕ)) (label : List ℕ) (entry : Entry) → IsShort label → StandsAt labels label entry.number → told_word entry ≡ word_of label → Tells labels entry
@@ -55,15 +76,10 @@ tells-one labels label entry short stands told other shorter is =
 
 -- a blank entry tells nothing
 tells-none : (labels : List (List ℕ)) → Tells labels blank_entry
-tells-none labels label short is = absurd (omega (arith, is))
-
-blanks-at : (n i : ℕ) → get_or (replicate n blank_entry) i blank_entry ≡ blank_entry
-blanks-at zero i = refl
-blanks-at (suc n) zero = refl
-blanks-at (suc n) (suc i) = blanks-at n i
+tells-none labels label short is = absurd (let none : bytes_after 0 (drop 8 label) * 256 + length label + 1 ≡ 0 = ap (λ (w : LabelWord). w.high) is in omega (arith, none))
 
 pub told-blank : (labels : List (List ℕ)) (n : ℕ) → AreTold labels (replicate n blank_entry)
-told-blank labels n = record { each = λ i. rw (blanks-at n i) (tells-none labels) }
+told-blank labels n = record { each = λ i. rw (copies-at n i blank_entry) (tells-none labels) }
 
 pub told-set : (labels : List (List ℕ)) (entries : List Entry) (i : ℕ) (e : Entry) → i < length entries → AreTold labels entries → Tells labels e → AreTold labels (set entries i e)
 told-set labels entries i e lt told tells = record {
@@ -78,24 +94,16 @@ told-set labels entries i e lt told tells = record {
       rw kept (told.each k));
 }
 
--- a label stands where it stood when another is added
-stands-more : (labels : List (List ℕ)) (label more : List ℕ) (i : ℕ) → StandsAt labels label i → StandsAt (with_label labels more) label i
-stands-more labels label more i stands =
-    by_cases (list_any (λ k. bytes_eq k more) labels) _
-    (λ t. rw t stands)
-    (λ f. rw f (record { within = omega (arith, stands.within, length-append labels (more ∷ [])); is = get_or_append_left labels (more ∷ []) [] i stands.within ∙ stands.is }))
+-- an entry with the word of a label tells its place
+pub told-at : (labels : List (List ℕ)) (entries : List Entry) (label : List ℕ) (word : LabelWord) (i : ℕ) (e d : Entry) → e ≡ get_or entries i d → i < length entries → AreTold labels entries → IsShort label → word ≡ word_of label
+    → ((e.low == word.low) && (e.high == word.high)) ≡ true → StandsAt labels label e.number
+told-at labels entries label word i e d is lt told short word_is t =
+    let here : e ≡ get_or entries i blank_entry = is ∙ get_or_default entries i d blank_entry lt in
+    let tells : Tells labels e = rw here (told.each i) in
+    tells label short (sym word_is ∙ sym (same-numbers (told_word e) word t))
 
-pub told-more : (labels : List (List ℕ)) (entries : List Entry) (more : List ℕ) → AreTold labels entries → AreTold (with_label labels more) entries
-told-more labels entries more told = record { each = λ i label short is. stands-more labels label more _ (told.each i label short is) }
-
--- the label at a place is one of the labels
-any-at : (labels : List (List ℕ)) (label : List ℕ) (i : ℕ) → i < length labels → get_or labels i [] ≡ label → list_any (λ k. bytes_eq k label) labels ≡ true
-any-at [] label i lt is = absurd (omega arith)
-any-at (l ∷ labels) label zero lt is = rw (is, text_same label) refl
-any-at (l ∷ labels) label (suc i) lt is =
-    by_cases (bytes_eq l label) _
-    (λ t. rw t refl)
-    (λ f. rw f (any-at labels label i (omega arith) is))
-
+-- the labels have the one that stands at a place
 pub with-label-at : (labels : List (List ℕ)) (label : List ℕ) (i : ℕ) → StandsAt labels label i → labels ≡ with_label labels label
-with-label-at labels label i stands = rw (any-at labels label i stands.within stands.is) refl
+with-label-at labels label i stands =
+    let known : list_any (λ k. bytes_eq k label) labels ≡ true = list_any_at (λ k. bytes_eq k label) labels i [] stands.within (rw stands.is (text_same label)) in
+    rw known refl

@@ -4,19 +4,19 @@ use Rattle.std.specs.List.{list_any, filter, flat_map, range_with_len, position_
 use Rattle.std.specs.Str.{bytes_eq}
 use Rattle.std.specs.Cmp.Lexicographic.{same_text}
 use Rattle.std.proofs.lemmas.List.{length-map}
-use Rattle.std.proofs.lemmas.Bool.{eqb-true}
+use Rattle.std.proofs.lemmas.Bool.{eqb-true, not-true, not_from_false, false_from_ne_true}
+use Rattle.std.proofs.lemmas.Map.Views.{any-filter_same}
 use Rattle.std.proofs.lemmas.List.Folds.{list_any-append}
-use Rattle.std.proofs.lemmas.List.Sums.{passes_at_first}
 use Rattle.std.proofs.lemmas.List.FromFn.{length-range_with_len, get_or-map-range_with_len}
 use Rattle.ball_model.specs.Graph.{Graph, IsGraph, is_edge}
 use Rattle.ball_model.specs.Input.{distinct, labels_of, leads, network_of}
 use Rattle.edgelist.specs.Laws.{LabelsAreDistinct, LabelsAreInOrder, LabelsAreFields, EdgesAreNamed, EdgesStandOnce, DeclaringAddsNoEdge, joins, label_at, vertex_at}
 use Rattle.edgelist.specs.Links.{AllAscend, graph_of}
 use Rattle.edgelist.proofs.BoolLemmas.{by_cases}
-use Rattle.edgelist.proofs.LabelLemmas.{text_same, text-flip}
+use Rattle.edgelist.proofs.LabelLemmas.{text_same, text-flip, place-within, place-none, present}
 use Rattle.edgelist.proofs.LinksLemmas.{any_edges, edges_by, graph_of-IsGraph}
 use Rattle.edgelist.proofs.NetworkLemmas.{apart-labels, apart-at}
-use Rattle.edgelist.proofs.EdgeLemmas.{filter-ascends}
+use Rattle.edgelist.proofs.EdgeLemmas.{all_weaker, filter-ascends}
 use Rattle.edgelist.proofs.RangeLemmas.{filter-has, filter-all}
 
 pub labels_are_distinct : LabelsAreDistinct
@@ -24,14 +24,8 @@ labels_are_distinct records v w lo hi same = apart-at (labels_of records) v w (a
 
 -- a label that another one is not is found behind the filter or not, as before it
 any-kept : (l x : List ℕ) (ds : List (List ℕ)) → bytes_eq l x ≡ false → list_any (bytes_eq l) (filter (λ y. not (bytes_eq x y)) ds) ≡ list_any (bytes_eq l) ds
-any-kept l x [] e = refl
-any-kept l x (d ∷ ds) e =
-    by_cases (bytes_eq x d) _
-    (λ same.
-    let at : x ≡ d = same_text x d (sym same) in
-    let other : bytes_eq l d ≡ false = subst (λ (z : List ℕ). bytes_eq l z ≡ false) at e in
-    rw (same, other) (any-kept l x ds e))
-    (λ apart. rw apart (ap (λ b. bytes_eq l d || b) (any-kept l x ds e)))
+any-kept l x ds e = any-filter_same (bytes_eq l) (λ y. not (bytes_eq x y)) true
+    (λ k on. ap (λ (z : List ℕ). not (bytes_eq x z)) (sym (same_text l k (sym on))) ∙ not_from_false (bytes_eq x l) (text-flip x l ∙ e)) ds
 
 any-distinct : (l : List ℕ) (xs : List (List ℕ)) → list_any (bytes_eq l) (distinct xs) ≡ list_any (bytes_eq l) xs
 unfolding distinct
@@ -65,14 +59,6 @@ all-true : (ds : List (List ℕ)) → AllByRecursion (λ e. Unit {0}) ds
 all-true [] = tt
 all-true (d ∷ ds) = (tt, all-true ds)
 
-all-map : (P Q : List ℕ → Type 0) (ds : List (List ℕ)) → ((d : List ℕ) → P d → Q d) → AllByRecursion P ds → AllByRecursion Q ds
-all-map P Q [] f all = tt
-all-map P Q (d ∷ ds) f all = (f d all.0, all-map P Q ds f all.1)
-
-not-true : (b : Bool) → not b ≡ true → b ≡ false
-not-true true e = absurd (cc)
-not-true false e = refl
-
 -- with another label in front, a label is found one place later
 later : (x l : List ℕ) (xs : List (List ℕ)) → bytes_eq x l ≡ false → place (x ∷ xs) l ≡ 1 + place xs l
 later x l xs e = let off : bytes_eq l x ≡ false = text-flip l x ∙ e in rw off refl
@@ -84,7 +70,7 @@ order-kept x xs (d ∷ ds) up =
     by_cases (bytes_eq x d) _
     (λ t. rw t (order-kept x xs ds up.1))
     (λ f. rw f (
-      all-map (λ e. (not (bytes_eq x e) ≡ true) × (place xs d < place xs e)) (λ e. place (x ∷ xs) d < place (x ∷ xs) e) (filter (λ y. not (bytes_eq x y)) ds)
+      all_weaker (λ e. (not (bytes_eq x e) ≡ true) × (place xs d < place xs e)) (λ e. place (x ∷ xs) d < place (x ∷ xs) e) (filter (λ y. not (bytes_eq x y)) ds)
           (λ e h. omega (arith, later x d xs f, later x e xs (not-true (bytes_eq x e) h.0), h.1))
           (all-kept (λ e. place xs d < place xs e) (λ y. not (bytes_eq x y)) ds up.0),
       order-kept x xs ds up.1,
@@ -94,7 +80,7 @@ in-order : (xs : List (List ℕ)) → InOrder xs (distinct xs)
 unfolding distinct InOrder
 in-order [] = tt
 in-order (x ∷ xs) = (
-  all-map (λ e. (not (bytes_eq x e) ≡ true) × Unit {0}) (λ e. place (x ∷ xs) x < place (x ∷ xs) e) (filter (λ y. not (bytes_eq x y)) (distinct xs))
+  all_weaker (λ e. (not (bytes_eq x e) ≡ true) × Unit {0}) (λ e. place (x ∷ xs) x < place (x ∷ xs) e) (filter (λ y. not (bytes_eq x y)) (distinct xs))
       (λ e h. let first : place (x ∷ xs) x ≡ 0 = rw (text_same x) refl in omega (arith, first, later x e xs (not-true (bytes_eq x e) h.0)))
       (all-kept (λ e. Unit {0}) (λ y. not (bytes_eq x y)) (distinct xs) (all-true (distinct xs))),
   order-kept x xs (distinct xs) (in-order xs),
@@ -162,21 +148,6 @@ pub edges_stand_once : EdgesStandOnce
 unfolding network_of
 edges_stand_once records = lists-IsGraph (leads_to records) (length (labels_of records))
 
--- the first place of a text that a list has
-place-within : (p : List ℕ → Bool) (xs : List (List ℕ)) → list_any p xs ≡ true → position_or_len p xs < length xs
-place-within p [] e = absurd (cc)
-place-within p (x ∷ xs) e =
-    by_cases (p x) _
-    (λ t. rw t (omega arith))
-    (λ f. rw f (omega (arith, place-within p xs (rw f at e))))
-
-place-none : (p : List ℕ → Bool) (xs : List (List ℕ)) → list_any p xs ≡ false → position_or_len p xs ≡ length xs
-place-none p [] e = refl
-place-none p (x ∷ xs) e =
-    by_cases (p x) _
-    (λ t. absurd (let bad = rw t at e in cc))
-    (λ f. rw f (omega (arith, place-none p xs (rw f at e))))
-
 -- no edge has an end that is no vertex
 edge-none : (es : List (ℕ × ℕ)) (n y x : ℕ) → AllByRecursion (λ e. (e.0 < n) × (e.1 < n)) es → (y < n → x < n → ⊥) → list_any (λ e. (e.0 == y) && (e.1 == x)) es ≡ false
 edge-none [] n y x all past = refl
@@ -220,17 +191,13 @@ any-flat p q [] has e = absurd (cc)
 any-flat p q (r ∷ rs) has e =
     list_any-append p r (flat_map (λ s. s) rs) ∙ or-by (list_any p r) (list_any p (flat_map (λ s. s) rs)) (q r) (has r) (λ f. any-flat p q rs has (rw f at e))
 
-never : (b : Bool) → (b ≡ true → ⊥) → b ≡ false
-never true f = absurd (f refl)
-never false f = refl
-
 -- between labels that are not both of vertices there is no edge
 joins-none : (records : List (List (List ℕ))) (from to : List ℕ) → (vertex_at records from < length (labels_of records) → vertex_at records to < length (labels_of records) → ⊥) → (list_any (leads from to) records ≡ true → ⊥) →
     joins records from to ≡ list_any (leads from to) records
 unfolding network_of
 joins-none records from to past none =
     edge-none (network_of records).graph.edges (length (labels_of records)) (vertex_at records from) (vertex_at records to) (edges_stand_once records).ends past
-    ∙ sym (never (list_any (leads from to) records) none)
+    ∙ sym (false_from_ne_true (list_any (leads from to) records) none)
 
 -- a label that is none of a vertex is no field
 no-field : (records : List (List (List ℕ))) (label : List ℕ) (q : List (List ℕ) → Bool) → ((r : List (List ℕ)) → q r ≡ true → list_any (bytes_eq label) r ≡ true) → list_any (bytes_eq label) (labels_of records) ≡ false → list_any q records ≡ true → ⊥
@@ -240,8 +207,7 @@ no-field records label q has none e =
 
 -- the vertex with a label that is one has that label
 vertex-label : (records : List (List (List ℕ))) (label : List ℕ) → list_any (bytes_eq label) (labels_of records) ≡ true → label_at records (vertex_at records label) ≡ label
-vertex-label records label t =
-    sym (same_text label (label_at records (vertex_at records label)) (sym (passes_at_first (bytes_eq label) (labels_of records) [] (place-within (bytes_eq label) (labels_of records) t))))
+vertex-label records label t = (present label (labels_of records) t).1
 
 -- there is an edge from the one label to the other exactly where some record leads from the one to the other
 joins-leads : (records : List (List (List ℕ))) (from to : List ℕ) → joins records from to ≡ list_any (leads from to) records

@@ -1,5 +1,5 @@
 -- A label's number, by the keys of a set and by their texts.
-use Rattle.std.proofs.Common.{rules, suc, ◌<◌, get_or, arith, subst, ◌≡◌, ◌∙◌, ℕ, ◌+◌, List, [], ◌∷◌, ◌++◌, Bool, true, false, refl, sym, ap, inl, inr, map, Some, None}
+use Rattle.std.proofs.Common.{rules, ◌<◌, get_or, arith, subst, ◌≡◌, ◌∙◌, ℕ, ◌+◌, List, [], ◌∷◌, ◌++◌, Bool, true, false, refl, sym, ap, inl, inr, map, Some, None}
 use Rattle.std.specs.Prelude.{if◌then◌else◌, cond, nat_lt, length}
 use Rattle.std.specs.List.{list_any, position, position_or_len}
 use Rattle.std.proofs.lemmas.Bool.{cases_Bool}
@@ -7,7 +7,9 @@ use Rattle.std.proofs.lemmas.List.{map-append}
 use Rattle.std.specs.Str.{bytes_eq}
 use Rattle.std.specs.Cmp.Lexicographic.{same_text}
 use Rattle.std.proofs.lemmas.List.{length-append}
-use Rattle.ball_model.proofs.PathLemmas.{same_bool}
+use Rattle.std.proofs.lemmas.List.Sums.{passes_at_first}
+use Rattle.std.proofs.Math.Seq.{get_or-append_seam}
+use Rattle.std.specs.Cmp.{both_ways}
 use Rattle.edgelist.specs.Reading.{with_label}
 use Rattle.edgelist.proofs.BoolLemmas.{by_cases}
 
@@ -49,11 +51,11 @@ text_same x = search rules
 
 pub text-flip : (x y : List ℕ) → bytes_eq x y ≡ bytes_eq y x
 text-flip x y =
-    same_bool (bytes_eq x y) (bytes_eq y x)
+    both_ways (bytes_eq x y) (bytes_eq y x)
     (λ t. let e : x ≡ y = same_text x y (sym t) in subst (λ (z : List ℕ). bytes_eq z x ≡ true) e (text_same x))
     (λ t. let e : y ≡ x = same_text y x (sym t) in subst (λ (z : List ℕ). bytes_eq z y ≡ true) e (text_same y))
 
-any-flip : (l : List ℕ) (xs : List (List ℕ)) → list_any (bytes_eq l) xs ≡ list_any (λ k. bytes_eq k l) xs
+pub any-flip : (l : List ℕ) (xs : List (List ℕ)) → list_any (bytes_eq l) xs ≡ list_any (λ k. bytes_eq k l) xs
 any-flip l [] = refl
 any-flip l (x ∷ xs) = rw (text-flip l x, any-flip l xs) refl
 
@@ -61,26 +63,25 @@ any-flip l (x ∷ xs) = rw (text-flip l x, any-flip l xs) refl
 pub with-label : (l : List ℕ) (xs : List (List ℕ)) → (if list_any (bytes_eq l) xs then xs else xs ++ l ∷ []) ≡ with_label xs l
 with-label l xs = rw (any-flip l xs) refl
 
-present : (l : List ℕ) (xs : List (List ℕ)) → list_any (bytes_eq l) xs ≡ true → (position_or_len (bytes_eq l) xs < length xs) × (get_or xs (position_or_len (bytes_eq l) xs) [] ≡ l)
-present l [] e = absurd (cc)
-present l (x ∷ xs) e =
-    by_cases (bytes_eq l x) _
-    (λ t. let same : l ≡ x = same_text l x (sym t) in rw t (omega arith, sym same))
-    (λ f.
-    let later = present l xs (rw f at e) in
-    let next : 1 + position_or_len (bytes_eq l) xs ≡ suc (position_or_len (bytes_eq l) xs) = omega arith in
-    rw (f, next) (omega (arith, later.0), later.1))
+-- the first place of a text that a list has
+pub place-within : (p : List ℕ → Bool) (xs : List (List ℕ)) → list_any p xs ≡ true → position_or_len p xs < length xs
+place-within p [] e = absurd (cc)
+place-within p (x ∷ xs) e =
+    by_cases (p x) _
+    (λ t. rw t (omega arith))
+    (λ f. rw f (omega (arith, place-within p xs (rw f at e))))
 
-absent : (l : List ℕ) (xs : List (List ℕ)) → list_any (bytes_eq l) xs ≡ false → position_or_len (bytes_eq l) xs ≡ length xs
-absent l [] e = refl
-absent l (x ∷ xs) e =
-    by_cases (bytes_eq l x) _
+pub place-none : (p : List ℕ → Bool) (xs : List (List ℕ)) → list_any p xs ≡ false → position_or_len p xs ≡ length xs
+place-none p [] e = refl
+place-none p (x ∷ xs) e =
+    by_cases (p x) _
     (λ t. absurd (let bad = rw t at e in cc))
-    (λ f. rw f (omega (arith, absent l xs (rw f at e))))
+    (λ f. rw f (omega (arith, place-none p xs (rw f at e))))
 
-last-label : (l : List ℕ) (xs : List (List ℕ)) → get_or (xs ++ l ∷ []) (length xs) [] ≡ l
-last-label l [] = refl
-last-label l (x ∷ xs) = last-label l xs
+pub present : (l : List ℕ) (xs : List (List ℕ)) → list_any (bytes_eq l) xs ≡ true → (position_or_len (bytes_eq l) xs < length xs) × (get_or xs (position_or_len (bytes_eq l) xs) [] ≡ l)
+present l xs e =
+    let within = place-within (bytes_eq l) xs e in
+    (within, sym (same_text l (get_or xs (position_or_len (bytes_eq l) xs) []) (sym (passes_at_first (bytes_eq l) xs [] within))))
 
 -- the place of a label among the labels with it
 pub label-at : (l : List ℕ) (xs : List (List ℕ)) (i : ℕ) → i ≡ position_or_len (bytes_eq l) xs → (i < length (with_label xs l)) × (get_or (with_label xs l) i [] ≡ l)
@@ -89,5 +90,5 @@ label-at l xs i e =
     (λ t. let flipped : list_any (λ k. bytes_eq k l) xs ≡ true = sym (any-flip l xs) ∙ t in rw (flipped, e) (present l xs t))
     (λ f.
     let flipped : list_any (λ k. bytes_eq k l) xs ≡ false = sym (any-flip l xs) ∙ f in
-    let at : i ≡ length xs = e ∙ absent l xs f in
-    rw (flipped, at) (omega (arith, length-append xs (l ∷ [])), last-label l xs))
+    let at : i ≡ length xs = e ∙ place-none (bytes_eq l) xs f in
+    rw (flipped, at) (omega (arith, length-append xs (l ∷ [])), get_or-append_seam xs l [] []))

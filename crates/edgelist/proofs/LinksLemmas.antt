@@ -111,11 +111,11 @@ edges_by (ps ∷ rest) f a h =
     let later = edges_by rest f (a + 1) (λ k lt. let moved : a + suc k ≡ (a + 1) + k = omega arith in h (suc k) (omega arith) ∙ ap f moved) in
     rw (later, here) refl
 
--- a graph of ascending lists is one
 -- a vertex is counted by its mark
 pub counted-by-mark : (lists : List (List ℕ)) (marks : List Bool) (v : ℕ) → v < length lists → is_counted (graph_of lists marks) v ≡ get_or marks v true
 counted-by-mark lists marks v lt = filter-has (λ k. get_or marks k true) 0 (length lists) v (omega arith) (omega arith)
 
+-- a graph of ascending lists is one
 pub graph_of-IsGraph : (lists : List (List ℕ)) (marks : List Bool) → AllAscend (length lists) lists → IsGraph (graph_of lists marks)
 unfolding listed_edges counted_vertices
 graph_of-IsGraph lists marks asc = record {

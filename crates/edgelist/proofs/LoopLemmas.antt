@@ -6,7 +6,7 @@ use Rattle.std.proofs.lemmas.List.{append_assoc, length-append}
 use Rattle.csv.specs.declared.reader.Reader.{Reader}
 use Rattle.ball_model.specs.Input.{Limits, records, network_from}
 use Rattle.edgelist.specs.Records.{config, rows, is_row, IsLeft}
-use Rattle.edgelist.specs.Reading.{network_by, IsReadAs, IsClean, Adds, Stops, Refuses}
+use Rattle.edgelist.specs.Reading.{network_by, IsReadAs, IsClean, Adds, Stops, Refuses, EndsAt}
 use Rattle.edgelist.specs.declared.edge.Edge.{Edge}
 use Rattle.edgelist.specs.declared.read.EdgeError.{EdgeError}
 use Rattle.edgelist.proofs.NetworkLemmas.{read-none}
@@ -46,3 +46,14 @@ goes-stop rem d limits n text a b labels edges f e goes at stops =
     let more = filter is_row (rows (config d) b.state [] [] at.left) in
     let whole : records d text ≡ goes.past ++ f ∷ more = at.all ∙ append_assoc goes.past (f ∷ []) more in
     rw whole (says-refusal limits goes.past f more e goes.clean (rw goes.count (stops.at goes.past more goes.count goes.so)))
+
+-- and nothing was read after it
+pub goes-ends : {R : Type 0} (rem : R → Option (List ℕ)) (d : ℕ) (limits : Limits) (n : ℕ) (text : List ℕ) (a b : Reader R) (labels : List (List ℕ)) (edges : List Edge) (f : List (List ℕ)) (e : EdgeError) (goes : Goes rem d limits n text a labels edges) →
+    IsLeft rem d text (goes.past ++ f ∷ []) b → Stops limits n f labels edges e → EndsAt rem d text limits b e
+goes-ends rem d limits n text a b labels edges f e goes at stops = record {
+  before = goes.past;
+  last = f;
+  at = at;
+  clean = goes.clean;
+  fault = rw goes.count (stops.at goes.past [] goes.count goes.so);
+}

@@ -5,24 +5,23 @@ use Rattle.std.specs.Str.{bytes_eq}
 use Rattle.std.specs.Cmp.Lexicographic.{same_text}
 use Rattle.std.proofs.lemmas.List.{append-nil, append_assoc, get_or_append_left, length-append, map-append}
 use Rattle.std.proofs.lemmas.List.Elements.{filter-append}
+use Rattle.std.proofs.lemmas.Grind.{flat_map-append}
+use Rattle.std.proofs.lemmas.Map.Views.{any-filter_same}
+use Rattle.std.proofs.lemmas.Bool.{not_from_true, not_from_false, eqb-true, eq-eqb}
+use Rattle.std.proofs.Math.Bool.{and_comm}
 use Rattle.ball_model.specs.Input.{distinct, labels_of, leads, network_of}
-use Rattle.ball_model.proofs.PathLemmas.{same_bool, eq_true, same_true}
+use Rattle.std.specs.Cmp.{both_ways}
 use Rattle.edgelist.specs.Edges.{AllBelow, edge_of, graph_of_edges}
 use Rattle.edgelist.specs.declared.edge.Edge.{Edge}
-use Rattle.edgelist.specs.Reading.{with_label, pair_in, pairs_in, label_pair, IsReadAs, AddsEdge}
+use Rattle.edgelist.specs.Reading.{with_label, Link, link_in, links_in, link_of, IsReadAs, AddsEdge}
 use Rattle.edgelist.proofs.BoolLemmas.{by_cases}
 use Rattle.edgelist.proofs.LabelLemmas.{text_same}
 use Rattle.edgelist.proofs.RangeLemmas.{filter_range-same}
 
 -- a label that another one is not is found behind the filter or not, as before it
 any_kept : (x y : List ℕ) (ds : List (List ℕ)) → bytes_eq x y ≡ false → list_any (λ l. bytes_eq l y) (filter (λ z. not (bytes_eq x z)) ds) ≡ list_any (λ l. bytes_eq l y) ds
-any_kept x y [] e = refl
-any_kept x y (d ∷ ds) e =
-    by_cases (bytes_eq x d) _
-    (λ same. let at : x ≡ d = same_text x d (sym same) in
-    let other : bytes_eq d y ≡ false = subst (λ (z : List ℕ). bytes_eq z y ≡ false) at e in
-    rw (same, other) (any_kept x y ds e))
-    (λ apart. rw apart (ap (λ b. bytes_eq d y || b) (any_kept x y ds e)))
+any_kept x y ds e = any-filter_same (λ l. bytes_eq l y) (λ z. not (bytes_eq x z)) true
+    (λ k on. ap (λ (z : List ℕ). not (bytes_eq x z)) (same_text k y (sym on)) ∙ not_from_false (bytes_eq x y) e) ds
 
 put_other : (b : Bool) (x y : List ℕ) (ds : List (List ℕ)) → bytes_eq x y ≡ false → (x ∷ filter (λ z. not (bytes_eq x z)) (if b then ds else ds ++ y ∷ [])) ≡ (if b then (x ∷ filter (λ z. not (bytes_eq x z)) ds) else (x ∷ filter (λ z. not (bytes_eq x z)) ds) ++ y ∷ [])
 put_other true x y ds e = refl
@@ -41,8 +40,7 @@ distinct-push (x ∷ xs) y =
     (λ apart. rw (distinct-push xs y, put_other (list_any (λ l. bytes_eq l y) (distinct xs)) x y (distinct xs) apart, apart, any_kept x y (distinct xs) apart) refl)
 
 concat_push : (rs : List (List (List ℕ))) (r : List (List ℕ)) → flat_map (λ s. s) (rs ++ r ∷ []) ≡ flat_map (λ s. s) rs ++ r
-concat_push [] r = append-nil r
-concat_push (s ∷ rs) r = rw (concat_push rs r) (sym (append_assoc s (flat_map (λ t. t) rs) r))
+concat_push rs r = flat_map-append (λ s. s) rs (r ∷ []) ∙ ap (λ (l : List (List ℕ)). flat_map (λ s. s) rs ++ l) (append-nil r)
 
 pub labels_of-one : (rs : List (List (List ℕ))) (a : List ℕ) → labels_of (rs ++ (a ∷ []) ∷ []) ≡ with_label (labels_of rs) a
 unfolding labels_of
@@ -54,10 +52,10 @@ labels_of-two rs a b =
     ap distinct (concat_push rs (a ∷ b ∷ []) ∙ sym (append_assoc (flat_map (λ s. s) rs) (a ∷ []) (b ∷ [])))
     ∙ distinct-push (flat_map (λ s. s) rs ++ a ∷ []) b ∙ ap (λ (ls : List (List ℕ)). with_label ls b) (distinct-push (flat_map (λ s. s) rs) a)
 
-pairs_push : (rs : List (List (List ℕ))) (r : List (List ℕ)) → pairs_in (rs ++ r ∷ []) ≡ pairs_in rs ++ pair_in r
-unfolding pairs_in
-pairs_push [] r = append-nil (pair_in r)
-pairs_push (s ∷ rs) r = rw (pairs_push rs r) (sym (append_assoc (pair_in s) (pairs_in rs) (pair_in r)))
+links_push : (rs : List (List (List ℕ))) (r : List (List ℕ)) → links_in (rs ++ r ∷ []) ≡ links_in rs ++ link_in r
+unfolding links_in
+links_push [] r = append-nil (link_in r)
+links_push (s ∷ rs) r = rw (links_push rs r) (sym (append_assoc (link_in s) (links_in rs) (link_in r)))
 
 -- a label more leaves the others in their places
 kept_if : (b : Bool) (labels : List (List ℕ)) (y : List ℕ) (k : ℕ) → k < length labels → get_or (if b then labels else labels ++ y ∷ []) k [] ≡ get_or labels k []
@@ -74,7 +72,7 @@ longer_if false labels y = omega (arith, length-append labels (y ∷ []))
 pub with_label-longer : (labels : List (List ℕ)) (y : List ℕ) → length labels ≤ length (with_label labels y)
 with_label-longer labels y = longer_if (list_any (λ l. bytes_eq l y) labels) labels y
 
-named_same : (old new : List (List ℕ)) (edges : List Edge) → ((k : ℕ) → k < length old → get_or new k [] ≡ get_or old k []) → AllBelow (length old) edges → map (label_pair new) edges ≡ map (label_pair old) edges
+named_same : (old new : List (List ℕ)) (edges : List Edge) → ((k : ℕ) → k < length old → get_or new k [] ≡ get_or old k []) → AllBelow (length old) edges → map (link_of new) edges ≡ map (link_of old) edges
 named_same old new [] same below = refl
 named_same old new (e ∷ es) same below = rw (same e.target below.0.0, same e.source below.0.1, named_same old new es same below.1) refl
 
@@ -86,8 +84,11 @@ pub below_push : (n : ℕ) (edges : List Edge) (i j : ℕ) → i < n → j < n �
 below_push n [] i j lo hi below = ((lo, hi), tt)
 below_push n (e ∷ es) i j lo hi below = (below.0, below_push n es i j lo hi below.1)
 
+abbrev link_to : List ℕ → List ℕ → Link
+link_to target source = record { target = target; source = source }
+
 pub read-none : IsReadAs [] [] []
-unfolding labels_of distinct pairs_in
+unfolding labels_of distinct links_in
 read-none = record { labels_are = refl; below = tt; edges_are = refl }
 
 -- a record of one label
@@ -97,10 +98,10 @@ read-one records old new edges edges' a so is same =
     subst (λ (ps : List Edge). IsReadAs (records ++ (a ∷ []) ∷ []) new ps) (sym same) (record {
       labels_are = is ∙ ap (λ (ls : List (List ℕ)). with_label ls a) so.labels_are ∙ sym (labels_of-one records a);
       below = below_more (length old) (length new) edges (omega (arith, with_label-longer old a, ap length is)) so.below;
-      edges_are = named_same old new edges (λ k lt. ap (λ (ls : List (List ℕ)). get_or ls k []) is ∙ with_label-at old a k lt) so.below ∙ so.edges_are ∙ sym (append-nil (pairs_in records)) ∙ sym (pairs_push records (a ∷ []));
+      edges_are = named_same old new edges (λ k lt. ap (λ (ls : List (List ℕ)). get_or ls k []) is ∙ with_label-at old a k lt) so.below ∙ so.edges_are ∙ sym (append-nil (links_in records)) ∙ sym (links_push records (a ∷ []));
     })
 
--- the ends of an added pair are labels
+-- the ends of an added edge are labels
 pub edge-below : (old new : List (List ℕ)) (edges edges' : List Edge) (a b : List ℕ) → AddsEdge a b old edges new edges' → AllBelow (length old) edges → AllBelow (length new) edges'
 edge-below old new edges edges' a b adds below =
     let mid = with_label old a in
@@ -122,14 +123,14 @@ read-two records old new edges edges' a b so adds =
     let keep : (k : ℕ) → k < length old → get_or new k [] ≡ get_or old k [] = λ k lt. keep_new k (omega arith) ∙ with_label-at old a k lt in
     let all_labels : new ≡ labels_of (records ++ (a ∷ b ∷ []) ∷ []) =
     adds.labels_are ∙ ap (λ (ls : List (List ℕ)). with_label (with_label ls a) b) so.labels_are ∙ sym (labels_of-two records a b) in
-    let here : label_pair new (edge_of j i) ≡ (b, a) = ap₂ (λ x y. (x, y)) adds.to_is (keep_new i adds.from_within ∙ adds.from_is) in
+    let here : link_of new (edge_of j i) ≡ record { target = b; source = a } = ap₂ (λ (x y : List ℕ). link_to x y) adds.to_is (keep_new i adds.from_within ∙ adds.from_is) in
     record {
       labels_are = all_labels;
       below = edge-below old new edges edges' a b adds so.below;
       edges_are =
-          ap (map (label_pair new)) adds.edges_are ∙ map-append (label_pair new) edges (edge_of j i ∷ [])
-          ∙ ap₂ (λ (xs ys : List (List ℕ × List ℕ)). xs ++ ys) (named_same old new edges keep so.below ∙ so.edges_are) (ap (λ (p : List ℕ × List ℕ). p ∷ []) here)
-          ∙ sym (pairs_push records (a ∷ b ∷ []));
+          ap (map (link_of new)) adds.edges_are ∙ map-append (link_of new) edges (edge_of j i ∷ [])
+          ∙ ap₂ (λ (xs ys : List Link). xs ++ ys) (named_same old new edges keep so.below ∙ so.edges_are) (ap (λ (l : Link). l ∷ []) here)
+          ∙ sym (links_push records (a ∷ b ∷ []));
     }
 
 -- labels that are all different
@@ -157,11 +158,7 @@ apart_kept q (x ∷ xs) h =
     (λ f. rw f (apart_kept q xs h.1))
 
 others : (p : List ℕ → Bool) (xs : List (List ℕ)) → list_any p (filter (λ y. not (p y)) xs) ≡ false
-others p [] = refl
-others p (x ∷ xs) =
-    by_cases (p x) _
-    (λ t. rw t (others p xs))
-    (λ f. rw (f, f) (others p xs))
+others p xs = any-filter_same p (λ y. not (p y)) false (λ k on. not_from_true (p k) on) xs
 
 pub apart-distinct : (xs : List (List ℕ)) → Apart (distinct xs)
 unfolding distinct Apart
@@ -196,29 +193,23 @@ apart-at (x ∷ xs) (suc i) (suc j) h lo hi e = ap suc (apart-at xs i j h.1 (ome
 
 pub label-eq : (labels : List (List ℕ)) (i j : ℕ) → Apart labels → i < length labels → j < length labels → bytes_eq (get_or labels i []) (get_or labels j []) ≡ (i == j)
 label-eq labels i j h lo hi =
-    same_bool _ _
-    (λ t. let e : i ≡ j = apart-at labels i j h lo hi (same_text _ _ (sym t)) in subst (λ (k : ℕ). (i == k) ≡ true) e (same_true i))
-    (λ t. let e : i ≡ j = eq_true i j t in subst (λ (k : ℕ). bytes_eq (get_or labels i []) (get_or labels k []) ≡ true) e (text_same (get_or labels i [])))
-
-and-flip : (a b : Bool) → (a && b) ≡ (b && a)
-and-flip true true = refl
-and-flip true false = refl
-and-flip false true = refl
-and-flip false false = refl
+    both_ways _ _
+    (λ t. let e : i ≡ j = apart-at labels i j h lo hi (same_text _ _ (sym t)) in subst (λ (k : ℕ). (i == k) ≡ true) e (eq-eqb i i refl))
+    (λ t. let e : i ≡ j = eqb-true i j t in subst (λ (k : ℕ). bytes_eq (get_or labels i []) (get_or labels k []) ≡ true) e (text_same (get_or labels i [])))
 
 -- the records that lead from one label to another
-leads_one : (r : List (List ℕ)) (from to : List ℕ) (tail : List (List ℕ × List ℕ)) → list_any (λ p. bytes_eq p.0 to && bytes_eq p.1 from) (pair_in r ++ tail) ≡ (leads from to r || list_any (λ p. bytes_eq p.0 to && bytes_eq p.1 from) tail)
+leads_one : (r : List (List ℕ)) (from to : List ℕ) (tail : List Link) → list_any (λ l. bytes_eq l.target to && bytes_eq l.source from) (link_in r ++ tail) ≡ (leads from to r || list_any (λ l. bytes_eq l.target to && bytes_eq l.source from) tail)
 leads_one [] from to tail = refl
 leads_one (a ∷ []) from to tail = refl
-leads_one (a ∷ b ∷ more) from to tail = rw (and-flip (bytes_eq b to) (bytes_eq a from)) refl
+leads_one (a ∷ b ∷ more) from to tail = rw (and_comm (bytes_eq b to) (bytes_eq a from)) refl
 
-leads_pairs : (rs : List (List (List ℕ))) (from to : List ℕ) → list_any (λ p. bytes_eq p.0 to && bytes_eq p.1 from) (pairs_in rs) ≡ list_any (leads from to) rs
-unfolding pairs_in
-leads_pairs [] from to = refl
-leads_pairs (r ∷ rs) from to = leads_one r from to (pairs_in rs) ∙ ap (λ b. leads from to r || b) (leads_pairs rs from to)
+leads_links : (rs : List (List (List ℕ))) (from to : List ℕ) → list_any (λ l. bytes_eq l.target to && bytes_eq l.source from) (links_in rs) ≡ list_any (leads from to) rs
+unfolding links_in
+leads_links [] from to = refl
+leads_links (r ∷ rs) from to = leads_one r from to (links_in rs) ∙ ap (λ b. leads from to r || b) (leads_links rs from to)
 
 numbers_any : (labels : List (List ℕ)) (edges : List Edge) (x y : ℕ) → Apart labels → x < length labels → y < length labels → AllBelow (length labels) edges →
-    list_any (λ p. bytes_eq p.0 (get_or labels x []) && bytes_eq p.1 (get_or labels y [])) (map (label_pair labels) edges) ≡ list_any (λ e. (e.target == x) && (e.source == y)) edges
+    list_any (λ l. bytes_eq l.target (get_or labels x []) && bytes_eq l.source (get_or labels y [])) (map (link_of labels) edges) ≡ list_any (λ e. (e.target == x) && (e.source == y)) edges
 numbers_any labels [] x y h lo hi below = refl
 numbers_any labels (e ∷ es) x y h lo hi below =
     rw (label-eq labels e.target x h below.0.0 lo, label-eq labels e.source y h below.0.1 hi, numbers_any labels es x y h lo hi below.1) refl
@@ -235,8 +226,8 @@ network-is records labels edges so =
     let n = length labels in
     let h : Apart labels = subst Apart (sym so.labels_are) (apart-labels records) in
     let one : (x y : ℕ) → x < n → y < n → list_any (leads (get_or labels y []) (get_or labels x [])) records ≡ list_any (λ e. (e.target == x) && (e.source == y)) edges =
-    λ x y hi lo. sym (leads_pairs records (get_or labels y []) (get_or labels x []))
-    ∙ ap (list_any (λ p. bytes_eq p.0 (get_or labels x []) && bytes_eq p.1 (get_or labels y []))) (sym so.edges_are)
+    λ x y hi lo. sym (leads_links records (get_or labels y []) (get_or labels x []))
+    ∙ ap (list_any (λ l. bytes_eq l.target (get_or labels x []) && bytes_eq l.source (get_or labels y []))) (sym so.edges_are)
     ∙ numbers_any labels edges x y h hi lo so.below in
     let same_edges : flat_map (λ x. map (λ y. (y, x)) (filter (λ y. list_any (leads (get_or labels y []) (get_or labels x [])) records) (range_with_len 0 n))) (range_with_len 0 n)
     ≡ flat_map (λ x. map (λ y. (y, x)) (filter (λ y. list_any (λ e. (e.target == x) && (e.source == y)) edges) (range_with_len 0 n))) (range_with_len 0 n) =

@@ -1,5 +1,5 @@
 -- The plan that options give is of the graph.
-use Rattle.std.proofs.Common.{◌≡◌, ◌<◌, ◌≤◌, ◌^◌, ℕ, Bool, true, false, nat_lt, length, refl, arith, tests}
+use Rattle.std.proofs.Common.{◌≡◌, ◌<◌, ◌^◌, nat_lt, length, refl}
 use Rattle.std.specs.Prelude.{Result, Ok, Err, IfOk, ◌||◌}
 use Rattle.sha2.proofs.Facts256.{length-sha256}
 use Rattle.ball_model.specs.Graph.{Graph, IsGraph}
@@ -8,18 +8,8 @@ use Rattle.ball_model.specs.declared.plan.PlanError.{PlanError}
 use Rattle.ball_model.specs.Job.{IsJob, digest_of, digest_bytes, job_bytes}
 use Rattle.ball_model.specs.RunText.{Numbers, plan_over}
 use Rattle.edgelist.specs.Planning.{bare_plan}
+use Rattle.std.proofs.lemmas.Bool.{or_parts, ltb-false}
 use Rattle.edgelist.proofs.BoolLemmas.{by_cases}
-
-left-false : (a b : Bool) → (a || b) ≡ false → a ≡ false
-left-false true b e = e
-left-false false b e = refl
-
-right-false : (a b : Bool) → (a || b) ≡ false → b ≡ false
-right-false true b e = absurd (cc)
-right-false false b e = e
-
-not-below : (a b : ℕ) → nat_lt a b ≡ false → b ≤ a
-not-below a b e = search (tests, arith)
 
 abbrev IsGood : PlanValue → PlanValue → Type 0
 IsGood p q = IsPlan q × (q ≡ p)
@@ -32,22 +22,19 @@ plan_of-good p seed digest =
     (λ b. by_cases (nat_lt p.limit 1 || nat_lt 4096 p.limit) _ (λ t. rw (a, b, t) tt)
     (λ d. by_cases (nat_lt 16777216 p.vertices) _ (λ t. rw (a, b, d, t) tt)
     (λ e.
-    let a0 = left-false (nat_lt p.log2m 4) (nat_lt 10 p.log2m) a in
-    let a1 = right-false (nat_lt p.log2m 4) (nat_lt 10 p.log2m) a in
-    let b0 = left-false (nat_lt p.parts 1) (nat_lt 64 p.parts) b in
-    let b1 = right-false (nat_lt p.parts 1) (nat_lt 64 p.parts) b in
-    let d0 = left-false (nat_lt p.limit 1) (nat_lt 4096 p.limit) d in
-    let d1 = right-false (nat_lt p.limit 1) (nat_lt 4096 p.limit) d in
+    let widths = or_parts (nat_lt p.log2m 4) (nat_lt 10 p.log2m) a in
+    let parts = or_parts (nat_lt p.parts 1) (nat_lt 64 p.parts) b in
+    let limits = or_parts (nat_lt p.limit 1) (nat_lt 4096 p.limit) d in
     rw (a, b, d, e) (
       record {
-        log2m_from = not-below p.log2m 4 a0;
-        log2m_to = not-below 10 p.log2m a1;
+        log2m_from = ltb-false p.log2m 4 widths.0;
+        log2m_to = ltb-false 10 p.log2m widths.1;
         seed_to = seed;
-        parts_from = not-below p.parts 1 b0;
-        parts_to = not-below 64 p.parts b1;
-        limit_from = not-below p.limit 1 d0;
-        limit_to = not-below 4096 p.limit d1;
-        vertices_to = not-below 16777216 p.vertices e;
+        parts_from = ltb-false p.parts 1 parts.0;
+        parts_to = ltb-false 64 p.parts parts.1;
+        limit_from = ltb-false p.limit 1 limits.0;
+        limit_to = ltb-false 4096 p.limit limits.1;
+        vertices_to = ltb-false 16777216 p.vertices e;
         digest = digest;
       },
       refl,

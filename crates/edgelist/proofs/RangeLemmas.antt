@@ -1,8 +1,7 @@
--- Ranges of numbers.
-use Rattle.std.proofs.Common.{◌≡◌, ◌∙◌, ℕ, zero, suc, ◌+◌, ◌<◌, ◌≤◌, Bool, true, false, ◌||◌, ◌==◌, List, ◌∷◌, refl, ap, arith, sym, subst, inl, inr, tests}
+-- Ranges of numbers, and copies of one value.
+use Rattle.std.proofs.Common.{◌≡◌, ◌∙◌, ℕ, zero, suc, ◌+◌, ◌<◌, ◌≤◌, Bool, true, false, ◌||◌, ◌==◌, List, ◌∷◌, get_or, replicate, refl, ap, arith, sym, subst, inl, inr, tests}
 use Rattle.std.specs.List.{list_any, filter, range_with_len}
-use Rattle.std.proofs.lemmas.Bool.{cases_lt}
-use Rattle.ball_model.proofs.PathLemmas.{same_true}
+use Rattle.std.proofs.lemmas.Bool.{cases_lt, eq-eqb}
 use Rattle.edgelist.proofs.BoolLemmas.{by_cases}
 
 -- tests that agree below a bound keep the same of a range below it
@@ -31,11 +30,17 @@ filter-has q a (suc k) y low lt =
           (λ f. rw f rest)
       | inr more ↦
           let at : a ≡ y = omega arith in
-          let on : (y == y) ≡ true = same_true y in
+          let on : (y == y) ≡ true = eq-eqb y y refl in
           by_cases (q a) _
           (λ t. let pass : q y ≡ true = ap q (sym at) ∙ t in rw (t, pass) (subst (λ (b : ℕ). ((b == y) || list_any (λ p. p == y) (filter q (range_with_len (a + 1) k))) ≡ true) (sym at) (rw on refl)))
           (λ f. let fail : q y ≡ false = ap q (sym at) ∙ f in rw (f, fail) (none-early q (a + 1) k y (omega arith)))
     ]
+
+-- each of some copies, and what is told past them
+pub copies-at : {X : Type 0} (n i : ℕ) (x : X) → get_or (replicate n x) i x ≡ x
+copies-at zero i x = refl
+copies-at (suc n) zero x = refl
+copies-at (suc n) (suc i) x = copies-at n i x
 
 -- a test that all numbers pass keeps the range
 pub filter-all : (a n : ℕ) → filter (λ v. true) (range_with_len a n) ≡ range_with_len a n

@@ -2,7 +2,7 @@
 use Rattle.std.specs.Prelude.{◌≡◌, ⊤, ℕ, ◌+◌, ◌<◌, Bool, true, not, List, [], ◌∷◌, ◌++◌, if◌then◌else◌, length, slice_index_or, Option, None, Some, Result, Ok, Err}
 use Rattle.std.specs.List.{list_any}
 use Rattle.ball_model.specs.Input.{Network}
-use Rattle.ball_model.specs.Counting.{CountedRefusal, NotOne, Unknown, is_name, names, counted_as}
+use Rattle.ball_model.specs.Counting.{CountedRefusal, NotOne, Unknown, is_name, names, counted_network_from}
 use Rattle.edgelist.specs.Links.{marked_vertices}
 use Rattle.edgelist.specs.declared.counting.CountedError.{CountedError}
 use Rattle.edgelist.specs.declared.counting.CountedError.TheVariants as refused
@@ -13,11 +13,11 @@ RefusesList says (refused.Fields number) = says ≡ Err (NotOne number)
 RefusesList says (refused.Unknown number) = says ≡ Err (Unknown number)
 RefusesList says refused.Memory = ⊤
 
--- the same of one record
+-- the same of one record, for which no memory is taken
 abbrev pub ListFaultIs : Option CountedRefusal → CountedError → Type 0
 ListFaultIs fault (refused.Fields number) = fault ≡ Some (NotOne number)
 ListFaultIs fault (refused.Unknown number) = fault ≡ Some (Unknown number)
-ListFaultIs fault refused.Memory = ⊤
+ListFaultIs fault refused.Memory = ⊥
 
 -- the first check that fails at a record that follows i others
 abbrev pub record_fault : List (List ℕ) → List (List ℕ) → ℕ → Option CountedRefusal
@@ -47,9 +47,9 @@ with_marks network marks = record network {
 -- of every network with these labels the records say that the marked vertices are counted
 abbrev pub SaysMarks : List (List ℕ) → List (List (List ℕ)) → List Bool → Type 0
 SaysMarks labels records marks = (network : Network) → network.labels ≡ labels →
-    counted_as network records ≡ Ok (with_marks network marks)
+    counted_network_from network records ≡ Ok (with_marks network marks)
 
 -- of every network with these labels the records say this error
 abbrev pub SaysRefusal : List (List ℕ) → List (List (List ℕ)) → CountedError → Type 0
 SaysRefusal labels records error =
-    (network : Network) → network.labels ≡ labels → RefusesList (counted_as network records) error
+    (network : Network) → network.labels ≡ labels → RefusesList (counted_network_from network records) error

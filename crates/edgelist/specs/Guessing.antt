@@ -1,15 +1,19 @@
 -- Guesses at the numbers of short labels.
-use Rattle.std.specs.Prelude.{◌≡◌, ℕ, ◌+◌, ◌*◌, ◌^◌, ◌<◌, ◌≤◌, List, [], ◌∷◌, length, slice_index, slice_index_or}
+use Rattle.std.specs.Prelude.{◌≡◌, ℕ, ◌+◌, ◌*◌, ◌<◌, ◌≤◌, List, [], ◌∷◌, length, take, drop, slice_index, slice_index_or}
 use Rattle.edgelist.specs.declared.numbering.Entry.{Entry}
+use Rattle.edgelist.specs.declared.numbering.LabelWord.{LabelWord}
 
 -- more bytes behind those of a number, which are its digits to the base 256
 unfoldable pub bytes_after : ℕ → List ℕ → ℕ
 bytes_after w [] = w
 bytes_after w (b ∷ bs) = bytes_after (w * 256 + b) bs
 
--- a short label as a number: its bytes, and behind them one more than how many they are
-abbrev pub word_of : List ℕ → ℕ
-word_of label = bytes_after 0 label * 256 + length label + 1
+-- a short label as two numbers: its first 8 bytes, and the others with one more than how many all are
+abbrev pub word_of : List ℕ → LabelWord
+word_of label = record {
+  low = bytes_after 0 (take 8 label);
+  high = bytes_after 0 (drop 8 label) * 256 + length label + 1;
+}
 
 -- a label of at most 11 bytes
 pub record IsShort (label : List ℕ) : Type 0 where
@@ -21,11 +25,11 @@ pub record StandsAt (labels : List (List ℕ)) (label : List ℕ) (i : ℕ) : Ty
   pub within : i < length labels
   pub is : slice_index_or labels i [] ≡ label
 
--- the word of an entry, from its two pieces
-abbrev pub told_word : Entry → ℕ
-told_word entry = entry.high * 2 ^ 64 + entry.low
+-- the word of an entry
+abbrev pub told_word : Entry → LabelWord
+told_word entry = record { low = entry.low; high = entry.high }
 
--- an entry of no label: no word is 0
+-- an entry of no label: the second number of a word is never 0
 abbrev pub blank_entry : Entry
 blank_entry = record { low = 0; high = 0; number = 0 }
 

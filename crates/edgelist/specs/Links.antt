@@ -3,6 +3,7 @@ use Rattle.std.specs.Prelude.{◌≡◌, ℕ, ◌+◌, ◌^◌, ◌<◌, ◌≤�
 use Rattle.std.specs.List.{filter, range_with_len, IsDistinct}
 use Rattle.std.specs.Str.{bytes_eq}
 use Rattle.ball_model.specs.Graph.{Graph}
+use Rattle.ball_model.specs.PlanValue.{most_vertices}
 
 -- ascending, from lo on and below n
 unfoldable pub Ascends : ℕ → ℕ → List ℕ → Type 0
@@ -33,6 +34,6 @@ graph_of lists marks = record {
 pub record AreLinks (labels lists : List (List ℕ)) (marks : List Bool) (number : ℕ) : Type 0 where
   pub count : length lists ≡ length labels
   pub ascend : AllAscend (length lists) lists
-  pub few : length labels ≤ 2 ^ 24
+  pub few : length labels ≤ most_vertices
   pub distinct : IsDistinct bytes_eq labels
   pub counts : number ≡ length (marked_vertices (length lists) marks)

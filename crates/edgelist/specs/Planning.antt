@@ -44,5 +44,5 @@ abbrev pub vertex_bytes : ℕ → List ℕ
 vertex_bytes v = to_be_bytes w32 v
 
 -- the edges from some sources to a target, as bytes
-abbrev pub row_bytes : List ℕ → ℕ → List ℕ
-row_bytes sources x = flat_map edge_bytes (map (λ y. (y, x)) sources)
+abbrev pub target_bytes : List ℕ → ℕ → List ℕ
+target_bytes sources x = flat_map edge_bytes (map (λ y. (y, x)) sources)

@@ -1,8 +1,10 @@
 -- What is made of the records that were read so far.
-use Rattle.std.specs.Prelude.{◌≡◌, ⊤, ℕ, ◌+◌, ◌-◌, ◌^◌, ◌<◌, ◌≤◌, Bool, true, false, List, [], ◌∷◌, ◌++◌, map, length, slice_index_or, if◌then◌else◌, Option, None, Some, Result, Ok, Err}
+use Rattle.std.specs.Prelude.{◌≡◌, ⊤, ℕ, ◌+◌, ◌-◌, ◌^◌, ◌<◌, ◌≤◌, Bool, true, false, List, [], ◌∷◌, ◌++◌, map, length, slice_index_or, if◌then◌else◌, Option, None, Some, Result, Ok, Err, IfErr}
 use Rattle.std.specs.List.{list_any}
 use Rattle.std.specs.Str.{bytes_eq}
 use Rattle.ball_model.specs.Input.{Network, Limits, Refusal, TooManyEdges, Fields, TooManyVertices, fault_at, labels_of, records, network_from, input_of}
+use Rattle.csv.specs.declared.reader.Reader.{Reader}
+use Rattle.edgelist.specs.Records.{IsLeft}
 use Rattle.edgelist.specs.Edges.{AllBelow, edge_of, graph_of_edges}
 use Rattle.edgelist.specs.declared.edge.Edge.{Edge}
 use Rattle.edgelist.specs.declared.read.EdgeError.{EdgeError}
@@ -17,20 +19,12 @@ byte_of delimiter.Tab = 9
 byte_of delimiter.Comma = 44
 byte_of delimiter.Space = 32
 
--- the most vertices under any limits
-abbrev pub most_vertices : ℕ
-most_vertices = 2 ^ 24
-
--- the most records under any limits
-abbrev pub most_records : ℕ
-most_records = 2 ^ 26
-
 abbrev pub limits_of : EdgeLimits → Limits
 limits_of limits = record { vertices = limits.vertices; edges = limits.edges }
 
 -- what a text says under these limits
-abbrev pub said_within : EdgeLimits → Delimiter → List ℕ → Result Network Refusal
-said_within limits delimiter text =
+abbrev pub meaning_within : EdgeLimits → Delimiter → List ℕ → Result Network Refusal
+meaning_within limits delimiter text =
     network_from (limits_of limits) (records (byte_of delimiter) text)
 
 -- what a text says under the limits in force
@@ -54,6 +48,14 @@ abbrev pub edge_error : Bool → EdgeError
 edge_error true = refused.Read
 edge_error false = refused.Memory
 
+-- the error is of a record, and none of reading or of memory
+abbrev pub IsRefusal : EdgeError → Type 0
+IsRefusal refused.Read = ⊥
+IsRefusal refused.TooManyEdges = ⊤
+IsRefusal (refused.Fields number) = ⊤
+IsRefusal refused.TooManyVertices = ⊤
+IsRefusal refused.Memory = ⊥
+
 -- the same of one record
 abbrev pub FaultIs : Option Refusal → EdgeError → Type 0
 FaultIs fault refused.Read = ⊥
@@ -62,30 +64,47 @@ FaultIs fault (refused.Fields number) = fault ≡ Some (Fields number)
 FaultIs fault refused.TooManyVertices = fault ≡ Some TooManyVertices
 FaultIs fault refused.Memory = ⊤
 
+-- the fields of a record, of which there may be a second
+abbrev pub fields_with : List ℕ → Option (List ℕ) → List (List ℕ)
+fields_with source None = source ∷ []
+fields_with source (Some target) = source ∷ target ∷ []
+
+-- whether the label is one of these
+abbrev pub has_label : List (List ℕ) → List ℕ → Bool
+has_label labels l = list_any (λ k. bytes_eq k l) labels
+
 -- the labels with this one
 abbrev pub with_label : List (List ℕ) → List ℕ → List (List ℕ)
-with_label labels l = if list_any (λ k. bytes_eq k l) labels then labels else labels ++ l ∷ []
+with_label labels l = if has_label labels l then labels else labels ++ l ∷ []
 
--- the labels that a record leads to and from
-abbrev pub pair_in : List (List ℕ) → List (List ℕ × List ℕ)
-pair_in [] = []
-pair_in (a ∷ []) = []
-pair_in (a ∷ b ∷ more) = (b, a) ∷ []
+-- what a record of two fields says: it leads to the one label from the other
+pub record Link : Type 0 where
+  pub target : List ℕ
+  pub source : List ℕ
 
-unfoldable pub pairs_in : List (List (List ℕ)) → List (List ℕ × List ℕ)
-pairs_in [] = []
-pairs_in (r ∷ rs) = pair_in r ++ pairs_in rs
+-- the link that a record says, where it says one
+abbrev pub link_in : List (List ℕ) → List Link
+link_in [] = []
+link_in (a ∷ []) = []
+link_in (a ∷ b ∷ more) = record { target = b; source = a } ∷ []
 
--- the labels of an edge's target and source
-abbrev pub label_pair : List (List ℕ) → Edge → List ℕ × List ℕ
-label_pair labels e = (slice_index_or labels e.target [], slice_index_or labels e.source [])
+unfoldable pub links_in : List (List (List ℕ)) → List Link
+links_in [] = []
+links_in (r ∷ rs) = link_in r ++ links_in rs
+
+-- an edge by the labels of its ends
+abbrev pub link_of : List (List ℕ) → Edge → Link
+link_of labels e = record {
+  target = slice_index_or labels e.target [];
+  source = slice_index_or labels e.source [];
+}
 
 -- the labels and the edges that these records name
 pub record IsReadAs (records : List (List (List ℕ))) (labels : List (List ℕ))
     (edges : List Edge) : Type 0 where
   pub labels_are : labels ≡ labels_of records
   pub below : AllBelow (length labels) edges
-  pub edges_are : map (label_pair labels) edges ≡ pairs_in records
+  pub edges_are : map (link_of labels) edges ≡ links_in records
 
 -- at most so many labels and edges, and each edge of two of the labels
 pub record AreWithin (vertices number : ℕ) (labels : List (List ℕ))
@@ -142,3 +161,18 @@ pub record Stops (limits : Limits) (number : ℕ) (fields : List (List ℕ)) (la
   pub at : (records more : List (List (List ℕ))) → length records ≡ number →
       IsReadAs records labels edges →
       FaultIs (fault_at limits (records ++ fields ∷ more) number) error
+
+-- the records that were read of a text end with that at which the first check fails
+pub record EndsAt {R : Type 0} (rem : R → Option (List ℕ)) (d : ℕ) (text : List ℕ)
+    (limits : Limits) (rdr : Reader R) (error : EdgeError) : Type 0 where
+  pub before : List (List (List ℕ))
+  pub last : List (List ℕ)
+  pub at : IsLeft rem d text (before ++ last ∷ []) rdr
+  pub clean : IsClean limits before
+  pub fault : FaultIs (fault_at limits (before ++ last ∷ []) (length before)) error
+
+-- where a record was refused, none was read after it
+abbrev pub EndsAtFault : {R T : Type 0} → (R → Option (List ℕ)) → Reader R → Reader R → Limits →
+    Result T EdgeError → Type 0
+EndsAtFault rem old new limits result = (d : ℕ) (text : List ℕ) → IsLeft rem d text [] old →
+    IfErr result (λ error. IsRefusal error → EndsAt rem d text limits new error)

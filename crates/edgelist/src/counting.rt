@@ -183,7 +183,7 @@ pub(crate) fn marks_of(
 }
 
 /// The mark of a vertex; one that has none is counted.
-pub(crate) fn is_marked(marks: &[bool], v: usize) -> bool
+pub(crate) fn vertex_mark(marks: &[bool], v: usize) -> bool
     ensures { result ≡ slice_index_or marks.now v true }
 {
     if v < marks.len() { marks[v] } else { true }
@@ -203,7 +203,7 @@ pub(crate) fn count_marks(marks: &[bool]) -> u32
 {
     let mut count = 0;
     for v in 0..marks.len() {
-        count += bit(is_marked(marks, v));
+        count += bit(vertex_mark(marks, v));
     }
     count
 }

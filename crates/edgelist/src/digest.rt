@@ -5,7 +5,7 @@ ghost use Rattle.std.specs.Int.{w16, w32, w64, to_be_bytes};
 ghost use Rattle.std.specs.List.{flat_map};
 ghost use Rattle.ball_model.specs.Graph.{is_counted};
 ghost use Rattle.ball_model.specs.Job.{digest_of, edge_bytes, job_bytes, counted_bytes};
-ghost use Rattle.edgelist.specs.Planning.{Hashes, numbered_bytes, numbered_digest, row_bytes, vertex_bytes};
+ghost use Rattle.edgelist.specs.Planning.{Hashes, numbered_bytes, numbered_digest, target_bytes, vertex_bytes};
 
 use crate::graph::Graph;
 use crate::lists::Preds;
@@ -13,7 +13,7 @@ use sha2::{Digest, Sha256};
 
 // Adds the edges from some sources to a target.
 fn add_row(hasher: &mut Sha256, sources: Preds<'_>, target: u32)
-    ensures { Hashes hasher.old hasher.new (row_bytes sources.entry target) }
+    ensures { Hashes hasher.old hasher.new (target_bytes sources.entry target) }
 {
     for source in sources {
         add_edge(hasher, source, target);

@@ -11,12 +11,13 @@ ghost use Rattle.ball_model.specs.RunText.{plan_over};
 ghost use Rattle.ball_model.specs.Counting.{counted_of};
 ghost use Rattle.ball_model.specs.Input.{IsPlain};
 ghost use Rattle.edgelist.specs.Counting.{RefusesList};
+ghost use Rattle.ball_model.specs.PlanValue.{most_vertices};
 ghost use Rattle.edgelist.specs.Reading.{byte_of};
 ghost use Rattle.edgelist.specs.Planning.{numbers_of};
 ghost use Rattle.edgelist.specs.Edges.{graph_of_edges, AllBelow};
 
 use crate::build::lists_of;
-use crate::counting::{CountedError, count_marks, is_marked, marks_of};
+use crate::counting::{CountedError, count_marks, marks_of, vertex_mark};
 use crate::digest::digest;
 use crate::edge::Edge;
 use crate::labels::Labels;
@@ -63,7 +64,7 @@ impl Graph {
     ) -> Result<Graph, AllocError>
         requires below { AllBelow (length labels) edges.items }
         requires distinct { IsDistinct bytes_eq labels }
-        requires few_labels { length labels ≤ 2 ^ 24 }
+        requires few_labels { length labels ≤ most_vertices }
         requires few_edges { length edges.items < 2 ^ 32 }
         ensures graph { IfOk result (λ g. g.graph ≡ graph_of_edges (length labels) edges.items) }
         ensures labels { IfOk result (λ g. g.labels ≡ labels) }
@@ -83,7 +84,7 @@ impl Graph {
         ensures count { result ≡ self.now.graph.vertices }
         ensures labels { length self.now.labels ≡ self.now.graph.vertices }
         ensures graph { IsGraph self.now.graph }
-        ensures few { self.now.graph.vertices ≤ 2 ^ 24 }
+        ensures few { self.now.graph.vertices ≤ most_vertices }
         ensures few_edges { length self.now.graph.edges < 2 ^ 32 }
     {
         self.lists.len() as u32
@@ -127,7 +128,7 @@ impl Graph {
         requires { v < self.now.graph.vertices }
         ensures { result ≡ is_counted self.now.graph v }
     {
-        is_marked(&self.marks, v as usize)
+        vertex_mark(&self.marks, v as usize)
     }
 
     /// Counts only the vertices whose labels a list names, in place of those that were counted before.
@@ -150,6 +151,8 @@ impl Graph {
         ensures refused { IsPlain list.now →
             IfErr result (RefusesList (counted_of (byte_of delimiter) self.old list.now)) }
         ensures labels { self.new.labels ≡ self.old.labels }
+        ensures vertices { self.new.graph.vertices ≡ self.old.graph.vertices }
+        ensures edges { self.new.graph.edges ≡ self.old.graph.edges }
         ensures kept { OnErr result (self.new ≡ self.old) }
     {
         let marks = marks_of(alloc, &self.labels, delimiter, list)?;

@@ -1,11 +1,11 @@
 //! Labels that are numbered by first appearance.
 
-ghost use Rattle.std.specs.Prelude.{◌≡◌, ◌+◌, ◌*◌, ◌^◌, ◌<◌, ◌≤◌, ℕ, List, length, map, replicate, slice_index_or, [], IfOk, IfSome, OnOk, OnErr};
+ghost use Rattle.std.specs.Prelude.{◌≡◌, ◌+◌, ◌*◌, ◌^◌, ◌<◌, ◌≤◌, ℕ, List, length, map, replicate, slice_index_or, [], true, false, IfOk, IfSome, IfNone, IsOk, OnOk, OnErr};
 ghost use Rattle.std.specs.List.{IsDistinct};
 ghost use Rattle.std.specs.Str.{bytes_eq};
 ghost use Rattle.edgelist.specs.Guessing.{AreTold, IsShort, StandsAt, Tells, blank_entry, bytes_after, told_word, word_of};
 ghost use Rattle.edgelist.specs.Labels.{texts};
-ghost use Rattle.edgelist.specs.Reading.{with_label};
+ghost use Rattle.edgelist.specs.Reading.{has_label, with_label};
 
 use crate::labels::Labels;
 use indexmap::IndexSet;
@@ -16,8 +16,8 @@ use std::marker::Model;
 // The most bytes of a label that is guessed at.
 const SHORT: usize = 11;
 
-// 2^64: a word is kept in two pieces, so that an entry takes 16 bytes.
-const PIECE: u128 = 18_446_744_073_709_551_616;
+// How many of them the first number of its word has, at most.
+const FIRST: usize = 8;
 
 // The number of entries at first, of 16 bytes each.
 const FIRST_ENTRIES: usize = 131_072;
@@ -25,7 +25,14 @@ const FIRST_ENTRIES: usize = 131_072;
 // The number of entries of a group: they stand side by side, most often in one line of the cache.
 const GROUP: usize = 4;
 
-// A short label's word, which has its bytes and its length, and the label's number.
+// A short label as two numbers that no other short label has: its first 8 bytes, and the others with its length.
+#[derive(Clone, Copy, PartialEq, Eq)]
+struct LabelWord {
+    low: u64,
+    high: u32,
+}
+
+// A short label's word, and the label's number.
 #[derive(Clone, Copy)]
 struct Entry {
     low: u64,
@@ -33,7 +40,7 @@ struct Entry {
     number: u32,
 }
 
-// An entry of no label: no word is 0.
+// An entry of no label: the second number of a word is never 0.
 const BLANK: Entry = Entry {
     low: 0,
     high: 0,
@@ -65,48 +72,51 @@ impl Model for Numbering {
     ghost invariant = { λ n. AreTold (texts n.labels) n.entries.items };
 }
 
-// The bytes of a short label as the digits of one number.
-fn digits(label: &[u8]) -> u128
-    requires { length label.now ≤ 11 }
-    ensures value { result ≡ bytes_after 0 label.now }
-    ensures fits { result < 2 ^ 88 }
+// Some bytes of a label as the digits of one number.
+fn digits(part: &[u8]) -> u64
+    requires { length part.now ≤ 8 }
+    ensures value { result ≡ bytes_after 0 part.now }
+    ensures few { length part.now ≤ 3 → result < 2 ^ 24 }
 {
-    let mut digits = 0u128;
-    for byte in label {
-        digits = digits * 256 + u128::from(*byte);
+    let mut digits = 0u64;
+    for byte in part {
+        digits = digits * 256 + u64::from(*byte);
     }
     digits
 }
 
-// A short label as a number that no other short label has.
-fn word(label: &[u8]) -> u128
+// The word of a short label.
+fn word(label: &[u8]) -> LabelWord
     requires { length label.now ≤ 11 }
-    ensures value { result ≡ word_of label.now }
-    ensures fits { result < 2 ^ 96 }
+    ensures { result ≡ word_of label.now }
 {
-    digits(label) * 256 + label.len() as u128 + 1
+    let (first, rest) = label.split_at(label.len().min(FIRST));
+    let low = digits(first);
+    let high = (digits(rest) * 256 + label.len() as u64 + 1) as u32;
+    LabelWord { low, high }
 }
 
 impl Entry {
-    fn word(self) -> u128
+    fn word(self) -> LabelWord
         ensures { result ≡ told_word self }
     {
-        u128::from(self.high) * PIECE + u128::from(self.low)
+        LabelWord {
+            low: self.low,
+            high: self.high,
+        }
     }
 }
 
 // Where the group of a word begins among 2^k entries: any place will do, and this one spreads them.
-fn group(word: u128, count: usize) -> usize {
-    let low = (word % PIECE) as u64;
-    let high = (word / PIECE % PIECE) as u64;
-    let mixed = (low ^ high.wrapping_mul(0xd6e8_feb8_6659_fd93)).wrapping_mul(
+fn group(word: LabelWord, count: usize) -> usize {
+    let mixed = (word.low ^ u64::from(word.high).wrapping_mul(0xd6e8_feb8_6659_fd93)).wrapping_mul(
         0x9e37_79b9_7f4a_7c15,
     );
     ((mixed >> 32) as usize & count.wrapping_sub(1)) / GROUP * GROUP
 }
 
 // The number of the short label with this word, where an entry of its group is that label's.
-fn guess(entries: &[Entry], word: u128) -> Option<usize>
+fn guess(entries: &[Entry], word: LabelWord) -> Option<usize>
     ensures { (labels : List (List ℕ)) (label : List ℕ) → AreTold labels entries.now
         → IsShort label → word ≡ word_of label → IfSome result (StandsAt labels label) }
 {
@@ -123,7 +133,7 @@ fn guess(entries: &[Entry], word: u128) -> Option<usize>
 // entry.
 fn place(entries: &[Entry], start: usize) -> usize {
     for i in start..entries.len().min(start.saturating_add(GROUP)) {
-        if entries[i].word() == 0 {
+        if entries[i].high == 0 {
             return i;
         }
     }
@@ -147,15 +157,14 @@ fn put_all(entries: &mut [Entry], smaller: &[Entry])
         → AreTold labels entries.new }
 {
     for entry in smaller {
-        if entry.word() > 0 {
+        if entry.high > 0 {
             put(entries, *entry);
         }
     }
 }
 
 // Puts a label's word and number into an entry of its group.
-fn remember(entries: &mut [Entry], word: u128, number: usize)
-    requires { word < 2 ^ 96 }
+fn remember(entries: &mut [Entry], word: LabelWord, number: usize)
     ensures { (labels : List (List ℕ)) (label : List ℕ) → AreTold labels entries.old
         → IsShort label → word ≡ word_of label → StandsAt labels label number
         → AreTold labels entries.new }
@@ -164,8 +173,8 @@ fn remember(entries: &mut [Entry], word: u128, number: usize)
         return;
     };
     let entry = Entry {
-        low: (word % PIECE) as u64,
-        high: (word / PIECE) as u32,
+        low: word.low,
+        high: word.high,
         number,
     };
     put(entries, entry);
@@ -178,22 +187,43 @@ fn blank(alloc: Global, count: usize) -> Result<Vec<Entry>, AllocError>
     vec![in alloc; BLANK; count]
 }
 
+// The number of a label that is in the set.
+fn find(labels: &IndexSet<Vec<u8>, RandomState>, label: &[u8]) -> Option<usize>
+    ensures found { IfSome result (StandsAt (texts labels.now) label.now) }
+    ensures none { IfNone result (has_label (texts labels.now) label.now ≡ false) }
+{
+    labels.get_index_of(label)
+}
+
+// Puts a label into the set, at the end where it is new, and tells its number.
+fn insert(
+    alloc: Global,
+    labels: &mut IndexSet<Vec<u8>, RandomState>,
+    label: &[u8],
+) -> Result<usize, AllocError>
+    ensures found { IfOk result (StandsAt (texts labels.new) label.now) }
+    ensures labels { OnOk result (texts labels.new ≡ with_label (texts labels.old) label.now) }
+    ensures kept { OnErr result (texts labels.new ≡ texts labels.old) }
+{
+    let (place, _) = labels.insert_full(Vec::from_slice(alloc, label)?)?;
+    Ok(place)
+}
+
 // The number of a label in the set, which takes the next one where it is new.
 fn look_up(
     alloc: Global,
     labels: &mut IndexSet<Vec<u8>, RandomState>,
     label: &[u8],
 ) -> Result<usize, AllocError>
-    ensures within { IfOk result (λ i. i < length (texts labels.new)) }
-    ensures place { IfOk result (λ i. slice_index_or (texts labels.new) i [] ≡ label.now) }
+    ensures found { IfOk result (StandsAt (texts labels.new) label.now) }
     ensures labels { OnOk result (texts labels.new ≡ with_label (texts labels.old) label.now) }
+    ensures known { has_label (texts labels.old) label.now ≡ true → IsOk result }
     ensures kept { OnErr result (texts labels.new ≡ texts labels.old) }
 {
-    if let Some(place) = labels.get_index_of(label) {
-        return Ok(place);
+    match find(labels, label) {
+        Some(number) => Ok(number),
+        None => insert(alloc, labels, label),
     }
-    let (place, _) = labels.insert_full(Vec::from_slice(alloc, label)?)?;
-    Ok(place)
 }
 
 impl Numbering {
@@ -213,11 +243,13 @@ impl Numbering {
         self.labels.len()
     }
 
-    /// The number of a label, which takes the next one where it is new.
+    /// The number of a label, which takes the next one where it is new. For a label that is known no memory is taken.
     pub(crate) fn number(&mut self, alloc: Global, label: &[u8]) -> Result<usize, AllocError>
         ensures within { IfOk result (λ i. i < length self.new) }
         ensures place { IfOk result (λ i. slice_index_or self.new i [] ≡ label.now) }
         ensures labels { OnOk result (self.new ≡ with_label self.old label.now) }
+        ensures known { has_label self.old label.now ≡ true → IsOk result }
+        ensures kept { OnErr result (self.new ≡ self.old) }
     {
         if label.len() > SHORT {
             return look_up(alloc, &mut self.labels, label);
@@ -229,32 +261,44 @@ impl Numbering {
         }
     }
 
-    // The number of a short label in the set, which its word then leads to.
+    // The number of a short label by the set, which its word then leads to.
     fn look_up_short(
         &mut self,
         alloc: Global,
         label: &[u8],
-        word: u128,
+        word: LabelWord,
     ) -> Result<usize, AllocError>
         requires short { IsShort label.now }
         requires word { word ≡ word_of label.now }
-        requires fits { word < 2 ^ 96 }
-        ensures within { IfOk result (λ i. i < length self.new) }
-        ensures place { IfOk result (λ i. slice_index_or self.new i [] ≡ label.now) }
+        ensures found { IfOk result (StandsAt self.new label.now) }
         ensures labels { OnOk result (self.new ≡ with_label self.old label.now) }
+        ensures known { has_label self.old label.now ≡ true → IsOk result }
+        ensures kept { OnErr result (self.new ≡ self.old) }
     {
-        let number = look_up(alloc, &mut self.labels, label)?;
-        self.make_room(alloc)?;
+        let number = match find(&self.labels, label) {
+            Some(number) => number,
+            None => self.insert_short(alloc, label)?,
+        };
         remember(&mut self.entries, word, number);
         Ok(number)
     }
 
-    // Once there are more labels than entries, four times as many entries.
+    // Puts a short label into the set, once the table of guesses has room for it.
+    fn insert_short(&mut self, alloc: Global, label: &[u8]) -> Result<usize, AllocError>
+        ensures found { IfOk result (StandsAt self.new label.now) }
+        ensures labels { OnOk result (self.new ≡ with_label self.old label.now) }
+        ensures kept { OnErr result (self.new ≡ self.old) }
+    {
+        self.make_room(alloc)?;
+        insert(alloc, &mut self.labels, label)
+    }
+
+    // Four times as many entries, where there are as many labels as entries or more.
     fn make_room(&mut self, alloc: Global) -> Result<(), AllocError>
         ensures { self.new ≡ self.old }
     {
         let count = self.entries.len();
-        if self.len() > count {
+        if self.len() >= count {
             let mut entries = blank(alloc, count.saturating_mul(4))?;
             put_all(&mut entries, &self.entries);
             self.entries = entries;

@@ -1,21 +1,23 @@
 //! Reading edge lists.
 
-ghost use Rattle.std.specs.Prelude.{◌≡◌, ◌≤◌, ◌<◌, ◌-◌, ◌^◌, ℕ, List, Result, true, false, Some, Ok, Err, IfOk, IfErr, OnOk, OnErr, length, slice_index_or, [], ◌∷◌, ◌++◌};
+ghost use Rattle.std.specs.Prelude.{◌≡◌, ◌≢◌, ◌≤◌, ◌<◌, ◌+◌, ◌-◌, ◌^◌, ℕ, List, Result, true, false, Some, Ok, Err, IfSome, IfNone, OnSome, IfOk, IfErr, OnOk, OnErr, length, option_copied, slice_index_or, [], ◌∷◌, ◌++◌};
 ghost use Rattle.std.specs.Io.KnownBytes.{ReadConsumes};
 ghost use Rattle.std.specs.Io.{ReadsAtMost};
 ghost use Rattle.csv.specs.Records.{fields_of};
 ghost use Rattle.csv.specs.Reading.{is_io, error_kind};
-ghost use Rattle.ball_model.specs.Input.{Network, Refusal, IsPlain, records, has_form, network_from, input_of};
+ghost use Rattle.ball_model.specs.PlanValue.{most_vertices};
+ghost use Rattle.ball_model.specs.Input.{Network, Refusal, IsPlain, most_records, records, has_form, network_from, input_of};
 ghost use Rattle.edgelist.specs.Edges.{edge_of, graph_of_edges};
 ghost use Rattle.edgelist.specs.declared.read.EdgeError.TheVariants.{Memory};
 ghost use Rattle.edgelist.specs.Records.{ForPlain, FromStart, ReadsNone, ReadsOne};
-ghost use Rattle.edgelist.specs.Reading.{byte_of, limits_of, meaning_of, said_within, CountsOne, IsReadBy, Refuses, most_records, most_vertices, edge_error, with_label, AreWithin, AddsEdge, Exceeds, Adds, Stops};
+ghost use Rattle.edgelist.specs.Reading.{byte_of, limits_of, meaning_of, meaning_within, CountsOne, IsReadBy, Refuses, edge_error, fields_with, with_label, AreWithin, AddsEdge, Exceeds, Adds, Stops, EndsAtFault};
 
 use crate::edge::Edge;
 use crate::graph::Graph;
 use crate::numbering::Numbering;
 use crate::records::{next_record, reader_of};
 use ball_model::CountedRead;
+use ball_model::plan::MOST_VERTICES;
 use csv::{ByteRecord, Reader};
 use std::alloc::{AllocError, Global};
 use std::hash::RandomState;
@@ -65,21 +67,24 @@ impl From<csv::Error> for EdgeError {
 /// What stands between the fields of a record.
 #[derive(Clone, Copy, Debug, PartialEq, Eq)]
 pub enum Delimiter {
+    /// A horizontal tab, the byte 9.
     Tab,
+    /// A comma, the byte 44.
     Comma,
+    /// One space, the byte 32; two in a row have an empty field between them.
     Space,
 }
 
 /// The most vertices and the most records that are read.
 #[derive(Clone, Copy, Debug, PartialEq, Eq)]
 pub struct EdgeLimits {
+    /// The most vertices: labels that differ.
     pub vertices: u32,
+    /// The most records. Those of one field, and edges that were read before, count too.
     pub edges: u64,
 }
 
-// The most vertices under any limits, 2^24, and the most records, 2^26.
-const MOST_VERTICES: u32 = 16_777_216;
-
+// The most records under any limits, 2^26.
 const MOST_RECORDS: u64 = 67_108_864;
 
 // The labels so far, numbered by first appearance, and the edges.
@@ -89,19 +94,26 @@ struct Reading {
     edges: Vec<Edge>,
 }
 
-// Whether a record is one or two fields, none of them empty.
-fn has_form(row: &ByteRecord) -> bool
-    ensures { result ≡ has_form (fields_of row.now) }
+// The first field of a record and its second, where it has one or two and none is empty.
+fn fields_in<'a>(row: &'a ByteRecord) -> Option<(&'a [u8], Option<&'a [u8]>)>
+    ensures fields { IfSome result (λ r.
+        fields_of row.now ≡ fields_with r.0.now (option_copied r.1)) }
+    ensures form { OnSome result (has_form (fields_of row.now) ≡ true) }
+    ensures none { IfNone result (has_form (fields_of row.now) ≡ false) }
 {
     let Some(source) = row.get(0) else {
-        return false;
+        return None;
     };
     if source.is_empty() || row.len() > 2 {
-        return false;
+        return None;
     }
     match row.get(1) {
-        Some(target) => !target.is_empty(),
-        None => true,
+        None => Some((source, None)),
+        Some(target) => if target.is_empty() {
+            None
+        } else {
+            Some((source, Some(target)))
+        },
     }
 }
 
@@ -184,19 +196,19 @@ impl Reading {
         ensures adds { OnOk result (Adds (limits_of limits) number (fields_of row.now)
             self.old.labels self.old.edges.items self.new.labels self.new.edges.items) }
         ensures fewer { OnOk result (number < limits.edges) }
+        ensures many { limits.edges ≤ number → result ≡ Err EdgeError.TooManyEdges }
+        ensures form { number < limits.edges → has_form (fields_of row.now) ≡ false →
+            result ≡ Err (EdgeError.Fields (number + 1)) }
         ensures stops { IfErr result (Stops (limits_of limits) number (fields_of row.now)
             self.old.labels self.old.edges.items) }
     {
         if number >= limits.edges {
             return Err(EdgeError::TooManyEdges);
         }
-        if !has_form(row) {
+        let Some((source, target)) = fields_in(row) else {
             return Err(EdgeError::Fields { number: number + 1 });
-        }
-        let Some(source) = row.get(0) else {
-            return Err(EdgeError::Memory);
         };
-        match row.get(1) {
+        match target {
             None => self.add_vertex(alloc, source, limits.vertices),
             Some(target) => self.add_edge(alloc, source, target, limits.vertices),
         }
@@ -204,7 +216,8 @@ impl Reading {
 }
 
 impl Reading {
-    // Adds all records that are left, one after another; at most one more than the limit is asked for.
+    // Adds all records that are left, one after another; at most one more than the limit is asked for. Where a record
+    // is refused, none is asked for after it.
     fn read_all<R: Read + Drop>(
         &mut self,
         alloc: Global,
@@ -221,6 +234,7 @@ impl Reading {
             OnOk result (IsReadBy limits rs self.new.labels self.new.edges.items)) }
         ensures refused { FromStart R.remaining reader.old (λ rs.
             IfErr result (Refuses (network_from (limits_of limits) rs))) }
+        ensures ends { EndsAtFault R.remaining reader.old reader.new (limits_of limits) result }
     {
         for number in 0..limits.edges + 1 {
             let more = next_row(reader, row)?;
@@ -280,7 +294,7 @@ fn read_source<R: Read + Drop>(
     ensures ok { ForPlain (R.remaining source) (λ text. IfOk result (λ r.
         IsReadBy limits (records (byte_of delimiter) text) r.labels r.edges.items)) }
     ensures refused { ForPlain (R.remaining source) (λ text.
-        IfErr result (Refuses (said_within limits delimiter text))) }
+        IfErr result (Refuses (meaning_within limits delimiter text))) }
 {
     let mut reader = reader_of(alloc, source, delimiter);
     let mut row = ByteRecord::new(alloc);
@@ -298,9 +312,9 @@ fn read_graph<R: Read + Drop>(
     requires vertices { limits.vertices ≤ most_vertices }
     requires edges { limits.edges ≤ most_records }
     ensures ok { ForPlain (R.remaining reader) (λ text.
-        IfOk result (λ g. said_within limits delimiter text ≡ Ok g)) }
+        IfOk result (λ g. meaning_within limits delimiter text ≡ Ok g)) }
     ensures refused { ForPlain (R.remaining reader) (λ text.
-        IfErr result (Refuses (said_within limits delimiter text))) }
+        IfErr result (Refuses (meaning_within limits delimiter text))) }
 {
     let reading = read_source(alloc, state, reader, delimiter, limits)?;
     let graph = reading.into_graph(alloc)?;
@@ -337,6 +351,7 @@ fn told(read: Result<Graph, EdgeError>, failed: bool) -> Result<Graph, EdgeError
         IfErr result (Refuses says) }
     ensures read { result ≡ Err EdgeError.Read → failed ≡ true }
     ensures failed { failed ≡ true → result ≡ Err EdgeError.Read }
+    ensures same { read ≢ Err EdgeError.Read → failed ≡ false → result ≡ read }
 {
     if failed {
         return Err(EdgeError::Read);
@@ -354,7 +369,7 @@ fn told(read: Result<Graph, EdgeError>, failed: bool) -> Result<Graph, EdgeError
 /// every other line is a record. Its fields stand between the delimiter, quotes are ordinary bytes, and nothing is
 /// trimmed. Two fields are an edge from the first to the second, and one field declares a vertex. The limits in
 /// force are never above 2^24 vertices and 2^26 records. At most one record more than the limit is asked for, and
-/// no memory is taken for a record whose labels are known.
+/// no memory is taken for a label that is known.
 ///
 /// The errors are those of the first record where a check fails, in the order `TooManyEdges`, `Fields`,
 /// `TooManyVertices`. `Read` is answered where a call of the reader failed and nowhere else, and nothing is tried again.

@@ -6,10 +6,10 @@ pub overflow_add-count : goal.overflow_add-count
 overflow_add-count c =
     let next = marked-next c.args.marks.now c.loop-v.v in
     let few = marked-few c.args.marks.now (c.loop-v.v + 1) in
-    rw (c.bit-count.ensures, c.is_marked.ensures) (omega (arith, next, few, c.loop-v.invariant, c.loop-v-test.true, c.requires))
+    rw (c.bit-count.ensures, c.vertex_mark.ensures) (omega (arith, next, few, c.loop-v.invariant, c.loop-v-test.true, c.requires))
 
 pub loop-v-preserved : goal.loop-v-preserved
-loop-v-preserved c = rw (c.bit-count.ensures, c.is_marked.ensures, c.loop-v.invariant) (sym (marked-next c.args.marks.now c.loop-v.v))
+loop-v-preserved c = rw (c.bit-count.ensures, c.vertex_mark.ensures, c.loop-v.invariant) (sym (marked-next c.args.marks.now c.loop-v.v))
 
 pub returns : goal.returns
 returns c =

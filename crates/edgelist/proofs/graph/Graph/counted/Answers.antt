@@ -8,6 +8,6 @@ use Rattle.edgelist.proofs.graph.Graph.counted.Goals as goal
 pub returns : goal.returns
 returns c =
     let count = ap (λ (net : Network). net.graph.vertices) c.self.view_is in
-    c.is_marked.ensures
+    c.vertex_mark.ensures
     ∙ rw c.deref.ensures.value (sym (counted-by-mark (arc_value c.self.inside.lists) c.self.inside.marks.items c.args.v (omega (arith, count))))
     ∙ ap (λ (net : Network). is_counted net.graph c.args.v) c.self.view_is

@@ -3,7 +3,8 @@ use Rattle.std.proofs.lemmas.Result.{err_from_is_err_and}
 use Rattle.csv.specs.Records.{fields_of}
 use Rattle.ball_model.specs.Input.{records, network_from}
 use Rattle.edgelist.specs.Reading.{limits_of}
-use Rattle.edgelist.proofs.LoopLemmas.{goes-start, goes-end, goes-more, goes-stop}
+use Rattle.edgelist.proofs.FaultLemmas.{refuses-none}
+use Rattle.edgelist.proofs.LoopLemmas.{goes-start, goes-end, goes-more, goes-stop, goes-ends}
 use Rattle.edgelist.proofs.read.Reading.read_all.Goals as goal
 
 pub loop-number-init : goal.loop-number-init
@@ -31,6 +32,20 @@ returns-in_err-add-clause-refused g c = λ d text at.
     let more : c.in_ok-more.more ≡ true = search c.if-not-more.false in
     let p = err_from_is_err_and c.from_residual-in_err-add.result c.from_residual-in_err-add.ensures.1 in
     rw (p.1, p.2) (goes-stop g.R.Read.remaining d (limits_of c.args.limits) c.loop-number.number text c.loop-number.reader c.next_row.new.reader
+    c.loop-number.self.labels c.loop-number.self.edges.items (fields_of c.next_row.new.row) c.in_err-add.field-0.0
+    goes (c.in_ok-more.ensures.one more d text goes.past goes.at) c.in_err-add.ensures.stops)
+
+pub returns-in_err-more-clause-ends : goal.returns-in_err-more-clause-ends
+returns-in_err-more-clause-ends g c = λ d text at.
+    let p = err_from_is_err_and c.from_residual.result c.from_residual.ensures.1 in
+    rw (p.1, p.2) (λ is. absurd (refuses-none c.in_err-more.field-0.0 c.in_err-more.ensures.failed is))
+
+pub returns-in_err-add-clause-ends : goal.returns-in_err-add-clause-ends
+returns-in_err-add-clause-ends g c = λ d text at.
+    let goes = c.loop-number.invariant.goes d text at in
+    let more : c.in_ok-more.more ≡ true = search c.if-not-more.false in
+    let p = err_from_is_err_and c.from_residual-in_err-add.result c.from_residual-in_err-add.ensures.1 in
+    rw (p.1, p.2) (λ is. goes-ends g.R.Read.remaining d (limits_of c.args.limits) c.loop-number.number text c.loop-number.reader c.next_row.new.reader
     c.loop-number.self.labels c.loop-number.self.edges.items (fields_of c.next_row.new.row) c.in_err-add.field-0.0
     goes (c.in_ok-more.ensures.one more d text goes.past goes.at) c.in_err-add.ensures.stops)
 
