@@ -1,13 +1,12 @@
 -- A replica's accumulators: kept beside its rows, or let go where the run is over.
-use Rattle.std.proofs.Common.{◌≡◌, ℕ, ◌+◌, ◌^◌, ◌<◌, ◌≤◌, Bool, true, false, not, List, [], ◌∷◌, length, map, get_or, refl, ap, sym, ◌∙◌, subst, arith, inl, inr}
+use Rattle.std.proofs.Common.{◌≡◌, ℕ, ◌+◌, ◌^◌, ◌<◌, ◌≤◌, Bool, true, false, List, [], ◌∷◌, length, map, get_or, refl, ap, sym, ◌∙◌, subst, arith, inl, inr}
 use Rattle.std.specs.Prelude.{Option, None, Some, Ok}
 use Rattle.std.specs.Arc.{arc_value}
 use Rattle.std.specs.List.{list_any}
-use Rattle.std.specs.Str.{bytes_eq}
 use Rattle.std.specs.Vec.{vec_capacity}
 use Rattle.std.proofs.lemmas.List.{same_lists, get_or_default}
 use Rattle.std.proofs.lemmas.List.Folds.{list_any_at}
-use Rattle.std.proofs.lemmas.Slice.Eq.{bytes_eq-Decides}
+use Rattle.std.proofs.lemmas.Bool.{both_ways, false_from_ne_true}
 use Rattle.ball_model.specs.declared.names.Taken.TheVariants as taken
 use Rattle.ball_model.specs.declared.names.Verdict.{Verdict}
 use Rattle.ball_model.specs.declared.names.Verdict.TheVariants as verdict
@@ -21,6 +20,7 @@ use Rattle.replica.specs.Level.{is_finished, is_over, level_verdict}
 use Rattle.replica.specs.Seen.{IsState, IsSnapshot, accumulators_of, state_of}
 use Rattle.replica.specs.Spread.{AreTouched}
 use Rattle.replica.proofs.OverLemmas.{over_later}
+use Rattle.replica.proofs.RiseLemmas.{same_registers}
 
 -- ---- rows, and what is kept beside them
 
@@ -102,25 +102,14 @@ kept_snapshot r st width accumulated_width room = record {
 -- ---- letting them go
 
 no_mark : (marks : List Bool) (i : ℕ) → i < length marks → list_any (λ mark. mark) marks ≡ false → get_or marks i false ≡ false
-no_mark marks i lt none = by_mark (get_or marks i false) refl
-  where
-    by_mark : (b : Bool) → get_or marks i false ≡ b → b ≡ false
-    by_mark true at = absurd (let some : true ≡ false = sym (list_any_at (λ mark. mark) marks i false lt at) ∙ none in cc)
-    by_mark false at = refl
-
-same_row : (a b : List ℕ) → not (bytes_eq a b) ≡ false → a ≡ b
-same_row a b e = (bytes_eq-Decides a b).0 (by_test (bytes_eq a b) e)
-  where
-    by_test : (t : Bool) → not t ≡ false → t ≡ true
-    by_test true e = refl
-    by_test false e = absurd (cc)
+no_mark marks i lt none = false_from_ne_true (get_or marks i false) (λ on. both_ways (list_any (λ mark. mark) marks) none (list_any_at (λ mark. mark) marks i false lt on))
 
 -- where no row is marked, the accumulators are the rows
 pub unmarked_same : (rows accumulated : List (List ℕ)) (touched : List Bool) → AreTouched rows accumulated touched → list_any (λ mark. mark) touched ≡ false → accumulated ≡ rows
 unmarked_same rows accumulated touched are none =
     same_lists accumulated rows are.count
     (λ i d lt. get_or_default accumulated i d [] lt
-    ∙ same_row (get_or accumulated i []) (get_or rows i []) (sym (are.differ i (omega (arith, are.count))) ∙ no_mark touched i (omega (arith, are.count, are.marks)) none)
+    ∙ same_registers (get_or accumulated i []) (get_or rows i []) (sym (are.differ i (omega (arith, are.count))) ∙ no_mark touched i (omega (arith, are.count, are.marks)) none)
     ∙ sym (get_or_default rows i d [] (omega (arith, are.count))))
 
 -- so the state is as it was without them
@@ -139,12 +128,3 @@ goes_on (Some q) w t e = refl
 
 pub going_on : (v : State) → level_verdict v ≡ verdict.GoOn → is_over v ≡ false
 going_on v on = goes_on (missing_of v.part.plan.parts v.part.number (content_of v)) (level_verdict v) v.superstep on
-
-ends : (o : Option ℕ) (w : Verdict) (t : ℕ) → o ≡ None → (w ≡ verdict.GoOn → ⊥) → is_finished (close_unless o w t) ≡ true
-ends None verdict.GoOn t e off = absurd (off refl)
-ends None verdict.Stable t e off = refl
-ends None verdict.Limit t e off = refl
-ends (Some q) w t e off = absurd (cc)
-
-pub ended : (v : State) → missing_of v.part.plan.parts v.part.number (content_of v) ≡ None → (level_verdict v ≡ verdict.GoOn → ⊥) → is_over v ≡ true
-ended v none off = ends (missing_of v.part.plan.parts v.part.number (content_of v)) (level_verdict v) v.superstep none off

@@ -2,7 +2,7 @@
 use Rattle.std.proofs.Common.{◌≡◌, ℕ, zero, suc, ◌+◌, ◌-◌, ◌<◌, ◌≤◌, ◌==◌, nat_lt, Bool, true, false, not, ◌&&◌, ◌||◌, List, get_or, replicate, refl, ap, arith, sym, ◌∙◌, subst, inl, inr, is_some, IfSome}
 use Rattle.std.specs.Prelude.{Option}
 use Rattle.std.specs.List.{range_with_len, find}
-use Rattle.std.proofs.lemmas.Bool.{cases_lt, cases_eq}
+use Rattle.std.proofs.lemmas.Bool.{cases_lt, cases_eq, eq-eqb}
 use Rattle.std.proofs.lemmas.Bool.Decides.{nat_tests}
 use Rattle.ball_model.specs.PlanValue.{mixing_of}
 use Rattle.ball_model.specs.Job.{Job}
@@ -10,18 +10,18 @@ use Rattle.ball_model.specs.Batches.{BatchValue, true_batch}
 use Rattle.ball_model.specs.Supersteps.{end_of}
 use Rattle.ball_model.specs.Content.{after_close, missing_of}
 use Rattle.ball_model.specs.State.{State, StandsFor, content_of, early_at, holds_in, rows_of}
-use Rattle.ball_model.proofs.PathLemmas.{same_true}
 use Rattle.replica.specs.Change.{Advances}
 use Rattle.replica.specs.Index.{targets_of}
 use Rattle.replica.proofs.LevelLemmas.{Ready, next_rows_are, differing_is, size_is}
 use Rattle.replica.proofs.FigureLemmas.{next_tallies_are, next_sums_are}
-use Rattle.replica.proofs.HearLemmas.{none_heard, flag_none}
+use Rattle.replica.proofs.HearLemmas.{none_heard, if_some_as}
+use Rattle.replica.proofs.StepLemmas.{get_or-replicate_same}
 
 -- ---- what is held
 
 -- of the superstep: what is heard
 pub holds_now : (t : ℕ) (heard : List Bool) (early : List (List (Option BatchValue))) (q : ℕ) → holds_in t heard early t q ≡ get_or heard q false
-holds_now t heard early q = rw (same_true t) refl
+holds_now t heard early q = rw (eq-eqb t t refl) refl
 
 -- of an earlier one: nothing
 pub holds_before : (t : ℕ) (heard : List Bool) (early : List (List (Option BatchValue))) (s q : ℕ) → s < t → holds_in t heard early s q ≡ false
@@ -58,9 +58,6 @@ same_early early i k q e = ap (λ n. early_at early n q) e
 pub true_at : (j : Job) (p s r q : ℕ) (o : Option BatchValue) → s ≡ r → IfSome o (λ b. b ≡ true_batch j (record { superstep = s; source = q; target = p })) → IfSome o (λ b. b ≡ true_batch j (record { superstep = r; source = q; target = p }))
 true_at j p s r q o e h = subst (λ n. IfSome o (λ b. b ≡ true_batch j (record { superstep = n; source = q; target = p }))) e h
 
-pub if_same : (P : BatchValue → Type 0) (a b : Option BatchValue) → a ≡ b → IfSome b P → IfSome a P
-if_same P a b e h = rw e h
-
 -- a replica that is ready and advances stands for the next superstep
 pub advance_stands : (j : Job) (p t : ℕ) (v w : State) → Ready j p t v → Advances v w → t + 1 ≤ end_of (mixing_of j.plan) j.graph j.plan.limit → StandsFor j p (t + 1) w
 advance_stands j p t v w r a time =
@@ -85,7 +82,7 @@ advance_stands j p t v w r a time =
       early = record {
         true_of = λ i q.
             let e : t + 1 + (i + 1) ≡ t + 1 + 1 + i = omega arith in
-            if_same _ (early_at w.early i q) (early_at v.early (i + 1) q) (a.early i q) (true_at j p (t + 1 + (i + 1)) (t + 1 + 1 + i) q (early_at v.early (i + 1) q) e (h.early.true_of (i + 1) q));
+            if_some_as _ (early_at w.early i q) (early_at v.early (i + 1) q) (a.early i q) (true_at j p (t + 1 + (i + 1)) (t + 1 + 1 + i) q (early_at v.early (i + 1) q) e (h.early.true_of (i + 1) q));
       };
     }
 
@@ -102,7 +99,7 @@ advance_holds v w a s q =
             ap (λ n. holds_in (t + 1) w.heard w.early n q) here
             ∙ holds_now (t + 1) w.heard w.early q
             ∙ a.hears.sources q
-            ∙ ap (λ b. b || is_some (early_at v.early 0 q)) (flag_none 64 q)
+            ∙ ap (λ b. b || is_some (early_at v.early 0 q)) (get_or-replicate_same 64 q false)
             ∙ ap is_some (same_early v.early 0 (s - (t + 1)) q gap)
             ∙ sym (ap (λ b. b && holds_in t v.heard v.early s q) yes ∙ holds_later t v.heard v.early s q after)
         | inr other ↦

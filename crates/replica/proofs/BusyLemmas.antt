@@ -4,6 +4,7 @@ use Rattle.std.specs.Prelude.{Option, None, Some, Result}
 use Rattle.std.specs.List.{list_any, range_with_len, filter}
 use Rattle.std.proofs.lemmas.Bool.Decides.{nat_tests}
 use Rattle.std.proofs.lemmas.List.Sums.{length-filter}
+use Rattle.std.proofs.Math.Bool.{or-false}
 use Rattle.ball_model.specs.declared.names.Verdict.{Verdict}
 use Rattle.ball_model.specs.declared.names.CloseError.{CloseError}
 use Rattle.ball_model.specs.Change.{changed_at, any_changed}
@@ -15,36 +16,30 @@ use Rattle.ball_model.specs.State.{State, StandsFor, marks_of, heard_changes, co
 use Rattle.replica.specs.Level.{is_changing, level_verdict, found_verdict, found_close}
 use Rattle.replica.proofs.VerdictLemmas.{changed_by_counts}
 use Rattle.replica.proofs.LevelLemmas.{Ready, there, plan_is, number_is}
-use Rattle.replica.proofs.HearLemmas.{or_none, any_same, any_or, any_one_of}
+use Rattle.replica.proofs.HearLemmas.{any_same, any_or, any_one_of}
 
-any_one : (b : Bool) (y : ℕ) (rest : List ℕ) (r : Bool) → r ≡ not (length rest == 0) → (b || r) ≡ not (length (if b then (y ∷ rest) else rest) == 0)
-any_one true y rest r h = grind (arith, nat_tests)
-any_one false y rest r h = h
+some_counted : (b : Bool) (y : ℕ) (rest : List ℕ) (r : Bool) → r ≡ not (length rest == 0) → (b || r) ≡ not (length (if b then (y ∷ rest) else rest) == 0)
+some_counted true y rest r h = grind (arith, nat_tests)
+some_counted false y rest r h = h
 
 -- some mark is set where the count is not 0
-any_marked : (test : ℕ → Bool) (ys : List ℕ) → list_any (λ mark. mark) (map test ys) ≡ not (length (filter test ys) == 0)
-any_marked test [] = refl
-any_marked test (y ∷ ys) = any_one (test y) y (filter test ys) _ (any_marked test ys)
+any_passes : (test : ℕ → Bool) (ys : List ℕ) → list_any (λ mark. mark) (map test ys) ≡ not (length (filter test ys) == 0)
+any_passes test [] = refl
+any_passes test (y ∷ ys) = some_counted (test y) y (filter test ys) _ (any_passes test ys)
 
 own_busy : (j : Job) (p t : ℕ) → list_any (λ mark. mark) (marks_of j p t) ≡ not (changed_count j t p == 0)
 unfolding marks_of changed_count
 own_busy j p t =
     let test : ℕ → Bool = λ y. changed_at (mixing_of j.plan) j.graph y t in
     let ys : List ℕ = vertices_of j.graph.vertices j.plan.parts p in
-    any_marked test ys ∙ ap (λ n. not (n == 0)) (length-filter test ys)
-
-no_other : (a b : Bool) → (a || b) ≡ (b || a)
-no_other true true = refl
-no_other true false = refl
-no_other false true = refl
-no_other false false = refl
+    any_passes test ys ∙ ap (λ n. not (n == 0)) (length-filter test ys)
 
 -- of all sources but one all are heard, and that one counts too
 one_of : (own : Bool) (h c : Bool) → (own ≡ false → h ≡ true) → ((h && c) || (own && c)) ≡ c
 one_of true true true f = refl
 one_of true true false f = refl
 one_of true false c f = refl
-one_of false h c f = rw (f refl) (sym (or_none c))
+one_of false h c f = rw (f refl) (or-false c)
 
 -- a vertex of a source that is heard, or an own one, is changed exactly where one is
 changing_is : (j : Job) (p t : ℕ) (v : State) → Ready j p t v → is_changing v ≡ any_changed (mixing_of j.plan) j.graph t

@@ -1,5 +1,5 @@
 -- The answer to a close.
-use Rattle.std.proofs.Common.{◌≡◌, ℕ, ◌+◌, ◌<◌, ◌≤◌, Bool, true, false, not, ◌&&◌, ◌==◌, if◌then◌else◌, refl, ap, arith, sym, ◌∙◌}
+use Rattle.std.proofs.Common.{◌≡◌, ℕ, ◌+◌, ◌<◌, ◌≤◌, Bool, true, false, not, ◌&&◌, ◌==◌, if◌then◌else◌, refl, ap, arith, sym, ◌∙◌, ◌⊎◌, inl, inr}
 use Rattle.std.specs.Prelude.{Option, None, Some, Result, Ok, Err, OnOk, IfOk}
 use Rattle.std.proofs.lemmas.Bool.Decides.{nat_tests}
 use Rattle.ball_model.specs.declared.names.Verdict.{Verdict}
@@ -7,10 +7,10 @@ use Rattle.ball_model.specs.declared.names.Verdict.TheVariants as verdict
 use Rattle.ball_model.specs.declared.names.CloseError.{CloseError}
 use Rattle.ball_model.specs.declared.names.CloseError.TheVariants as waits
 use Rattle.ball_model.specs.Job.{Job}
-use Rattle.ball_model.specs.Content.{close_unless, close_when, missing_of}
+use Rattle.ball_model.specs.Content.{close_unless, close_when, verdict_unless, missing_of}
 use Rattle.ball_model.specs.State.{State, StandsFor, content_of}
 use Rattle.replica.specs.Change.{Advances}
-use Rattle.replica.specs.Level.{level_verdict, found_close}
+use Rattle.replica.specs.Level.{level_verdict, found_verdict, found_close}
 use Rattle.replica.specs.Seen.{IsState}
 use Rattle.replica.proofs.LevelLemmas.{Ready}
 use Rattle.replica.proofs.BusyLemmas.{level_is}
@@ -36,6 +36,47 @@ pub waits_for : (v : State) (r : Result ℕ CloseError) (q : ℕ) → r ≡ foun
 waits_for v r q is = (
   λ e. waiting_from (missing_of v.part.plan.parts v.part.number (content_of v)) (level_verdict v) v.superstep q (sym is ∙ e),
   λ e. is ∙ waiting_to (missing_of v.part.plan.parts v.part.number (content_of v)) (level_verdict v) v.superstep q e,
+)
+
+goes_from : (o : Option ℕ) (v : Verdict) (t : ℕ) → close_unless o v t ≡ Ok (t + 1) → verdict_unless o v ≡ Some verdict.GoOn
+goes_from None verdict.GoOn t e = refl
+goes_from None verdict.Stable t e = absurd (cc)
+goes_from None verdict.Limit t e = absurd (cc)
+goes_from (Some q) v t e = absurd (cc)
+
+goes_to : (o : Option ℕ) (v : Verdict) (t : ℕ) → verdict_unless o v ≡ Some verdict.GoOn → close_unless o v t ≡ Ok (t + 1)
+goes_to None verdict.GoOn t e = refl
+goes_to None verdict.Stable t e = absurd (cc)
+goes_to None verdict.Limit t e = absurd (cc)
+goes_to (Some q) v t e = absurd (cc)
+
+-- it goes on exactly where the verdict says so
+pub goes_on_for : (v : State) (r : Result ℕ CloseError) → r ≡ found_close v → (r ≡ Ok (v.superstep + 1) → found_verdict v ≡ Some verdict.GoOn) × (found_verdict v ≡ Some verdict.GoOn → r ≡ Ok (v.superstep + 1))
+goes_on_for v r is = (
+  λ e. goes_from (missing_of v.part.plan.parts v.part.number (content_of v)) (level_verdict v) v.superstep (sym is ∙ e),
+  λ e. is ∙ goes_to (missing_of v.part.plan.parts v.part.number (content_of v)) (level_verdict v) v.superstep e,
+)
+
+ends_from : (o : Option ℕ) (v : Verdict) (t : ℕ) → close_unless o v t ≡ Err waits.Finished → (verdict_unless o v ≡ Some verdict.Stable) ⊎ (verdict_unless o v ≡ Some verdict.Limit)
+ends_from None verdict.GoOn t e = absurd (cc)
+ends_from None verdict.Stable t e = inl refl
+ends_from None verdict.Limit t e = inr refl
+ends_from (Some q) v t e = absurd (cc)
+
+ends_to : (o : Option ℕ) (v : Verdict) (t : ℕ) → (verdict_unless o v ≡ Some verdict.Stable) ⊎ (verdict_unless o v ≡ Some verdict.Limit) → close_unless o v t ≡ Err waits.Finished
+ends_to None verdict.GoOn t (inl e) = absurd (cc)
+ends_to None verdict.GoOn t (inr e) = absurd (cc)
+ends_to None verdict.Stable t e = refl
+ends_to None verdict.Limit t e = refl
+ends_to (Some q) v t (inl e) = absurd (cc)
+ends_to (Some q) v t (inr e) = absurd (cc)
+
+-- and the run is over exactly where it says that
+pub ends_for : (v : State) (r : Result ℕ CloseError) → r ≡ found_close v →
+    (r ≡ Err waits.Finished → (found_verdict v ≡ Some verdict.Stable) ⊎ (found_verdict v ≡ Some verdict.Limit)) × ((found_verdict v ≡ Some verdict.Stable) ⊎ (found_verdict v ≡ Some verdict.Limit) → r ≡ Err waits.Finished)
+ends_for v r is = (
+  λ e. ends_from (missing_of v.part.plan.parts v.part.number (content_of v)) (level_verdict v) v.superstep (sym is ∙ e),
+  λ e. is ∙ ends_to (missing_of v.part.plan.parts v.part.number (content_of v)) (level_verdict v) v.superstep e,
 )
 
 ok_from : (o : Option ℕ) (v : Verdict) (t n : ℕ) → close_unless o v t ≡ Ok n → (o ≡ None) × (v ≡ verdict.GoOn) × (n ≡ t + 1)

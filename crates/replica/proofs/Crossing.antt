@@ -1,18 +1,12 @@
 -- Snapshots and replicas may cross threads.
 use denote.Param.Send.{IsSend, IsSync, sendable}
 use Rattle.std.proofs.Crossing.{crosses}
-use Rattle.registers.specs.contracts.rows.Rows as rows
+use Rattle.registers.proofs.Crossing.{rows_send, rows_sync}
 use Rattle.batches.proofs.Crossing.{batch_send, batch_sync}
 use Rattle.edgelist.proofs.Crossing.{part_send, part_sync}
 use Rattle.figures.proofs.Crossing.{tally_send, tally_sync}
 use Rattle.replica.specs.contracts.Replica as replica
 use Rattle.replica.specs.contracts.Snapshot as snapshot
-
-rows_send : IsSend rows.the_row
-rows_send = search (sendable, crosses) depth 30
-
-rows_sync : IsSync rows.the_row
-rows_sync = search (sendable, crosses) depth 30
 
 pub snapshot_send : IsSend snapshot.the_row
 snapshot_send = search (part_send, part_sync, rows_send, tally_send, batch_send, batch_sync, sendable, crosses) depth 30 fits 20000

@@ -2,26 +2,16 @@
 use Rattle.std.proofs.Common.{◌≡◌, ℕ, zero, suc, ◌+◌, ◌-◌, ◌*◌, ◌<◌, ◌≤◌, ◌==◌, Bool, true, false, ◌&&◌, List, [], ◌∷◌, ◌++◌, length, map, get_or, set, take, drop, replicate, option_map, refl, ap, arith, sym, ◌∙◌, inl, inr, if◌then◌else◌, length-drop}
 use Rattle.std.specs.Prelude.{Option, Some, None}
 use Rattle.std.specs.List.{range_with_len}
-use Rattle.std.proofs.lemmas.Bool.{cases_lt, eq-eqb}
+use Rattle.std.proofs.lemmas.Bool.{cases_lt, eq-eqb, and_from, eqb-true}
 use Rattle.std.proofs.Math.ListN.{get_or-append}
 use Rattle.std.proofs.Math.Nat.{mul-le-mul_right}
-use Rattle.std.proofs.lemmas.List.{get_or-drop, get_or-append_right, take_at, drop_at, map-append, drop-map, get_or-set_same, get_or-set_other}
+use Rattle.std.proofs.lemmas.List.{get_or-drop, get_or-append_right, take_at, drop_at, map-append, drop-map, get_or-set_same, get_or-set_other, get_or_past}
 use Rattle.std.proofs.lemmas.List.FromFn.{length-map-range_with_len, get_or-map-range_with_len}
+use Rattle.std.specs.Cmp.{first_so, second_so}
 use Rattle.ball_model.specs.Batches.{BatchValue}
 use Rattle.ball_model.specs.State.{early_at}
-use Rattle.ball_model.proofs.PathLemmas.{and_left, and_right, and_both, eq_true}
 use Rattle.replica.specs.Ahead.{table_of, IsTable, either, union_of_slots, slots_after}
-
-pub get_none : (n i : ℕ) → get_or (replicate {A = Option BatchValue} n None) i None ≡ None
-get_none zero i = refl
-get_none (suc n) zero = refl
-get_none (suc n) (suc i) = get_none n i
-
--- nothing stands past the end
-pub past_end : {X : Type 0} (xs : List X) (k : ℕ) (d : X) → length xs ≤ k → get_or xs k d ≡ d
-past_end [] k d beyond = refl
-past_end (x ∷ xs) zero d beyond = absurd (omega arith)
-past_end (x ∷ xs) (suc k) d beyond = past_end xs k d (omega arith)
+use Rattle.replica.proofs.StepLemmas.{get_or-replicate_same}
 
 -- what stands at a place after a shift
 shifted_at : (n k : ℕ) (slots : List (Option BatchValue)) → get_or (slots_after n slots) k None ≡ get_or slots (n + k) None
@@ -30,8 +20,8 @@ shifted_at n k slots =
       | inl before ↦ get_or-append (drop n slots) (replicate n None) None k before ∙ get_or-drop n slots k None
       | inr after ↦
           get_or-append_right (drop n slots) (replicate n None) (length (drop n slots)) k None refl after
-          ∙ get_none n (k - length (drop n slots))
-          ∙ sym (past_end slots (n + k) None (omega (arith, length-drop n slots)))
+          ∙ get_or-replicate_same {X = Option BatchValue} n (k - length (drop n slots)) None
+          ∙ sym (get_or_past slots (n + k) None (omega (arith, length-drop n slots)))
     ]
 
 -- what a rotation of the places makes of the batches
@@ -61,18 +51,11 @@ filled_at slots others k same =
     elim (cases_lt k (length slots)) [
       | inl inside ↦ get_or-map-range_with_len F 0 (length slots) k k None inside (omega arith)
       | inr beyond ↦
-          past_end (map F (range_with_len 0 (length slots))) k None (omega (arith, length-map-range_with_len F 0 (length slots)))
-          ∙ either_none (get_or slots k None) (get_or others k None) (past_end slots k None beyond) (past_end others k None (omega (arith, same)))
+          get_or_past (map F (range_with_len 0 (length slots))) k None (omega (arith, length-map-range_with_len F 0 (length slots)))
+          ∙ either_none (get_or slots k None) (get_or others k None) (get_or_past slots k None beyond) (get_or_past others k None (omega (arith, same)))
     ]
 
-pub length-filled : (slots others : List (Option BatchValue)) → length (union_of_slots slots others) ≡ length slots
-unfolding union_of_slots
-length-filled slots others = length-map-range_with_len (λ i. either (get_or slots i None) (get_or others i None)) 0 (length slots)
-
 -- ---- the table
-row_of : ℕ → List (Option BatchValue) → ℕ → List (Option BatchValue)
-row_of parts slots i = map (λ q. get_or slots (i * parts + q) None) (range_with_len 0 parts)
-
 pub level_in : (parts : ℕ) (slots : List (Option BatchValue)) (i : ℕ) → i < 3 → get_or (table_of parts slots) i [] ≡ map (λ q. get_or slots (i * parts + q) None) (range_with_len 0 parts)
 unfolding table_of
 level_in parts slots i lt = get_or-map-range_with_len (λ k. map (λ q. get_or slots (k * parts + q) None) (range_with_len 0 parts)) 0 3 i i [] lt (omega arith)
@@ -95,12 +78,12 @@ early_in parts slots i q lt below =
 
 -- outside of any table there is nothing
 pub no_level : (early : List (List (Option BatchValue))) (i q : ℕ) → length early ≤ i → early_at early i q ≡ None
-no_level early i q out = ap (λ (l : List (Option BatchValue)). get_or l q None) (past_end early i [] out)
+no_level early i q out = ap (λ (l : List (Option BatchValue)). get_or l q None) (get_or_past early i [] out)
 
 pub no_source : (parts : ℕ) (early : List (List (Option BatchValue))) (i q : ℕ) → IsTable parts early → parts ≤ q → early_at early i q ≡ None
 no_source parts early i q is out =
     elim (cases_lt i 3) [
-      | inl inside ↦ past_end (get_or early i []) q None (omega (arith, is.sources i inside))
+      | inl inside ↦ get_or_past (get_or early i []) q None (omega (arith, is.sources i inside))
       | inr beyond ↦ no_level early i q (omega (arith, is.levels))
     ]
 
@@ -131,13 +114,13 @@ place_fits parts i q low lt = let le : i * parts ≤ 2 * parts = mul-le-mul_righ
 kept_one : (e : Bool) (parts level source i k : ℕ) (slots : List (Option BatchValue)) (b : BatchValue) → level < 3 → source < parts → k < parts → length slots ≡ 3 * parts → ((i == level) && (k == source)) ≡ e →
     get_or (set slots (level * parts + source) (Some b)) (i * parts + k) None ≡ (if e then Some b else get_or slots (i * parts + k) None)
 kept_one true parts level source i k slots b low lt klt long at =
-    let here : i ≡ level = eq_true i level (and_left (i == level) (k == source) at) in
-    let there : k ≡ source = eq_true k source (and_right (i == level) (k == source) at) in
+    let here : i ≡ level = eqb-true i level (first_so (i == level) (k == source) at) in
+    let there : k ≡ source = eqb-true k source (second_so (i == level) (k == source) at) in
     rw (here, there) (get_or-set_same slots (level * parts + source) (Some b) None (omega (arith, place_fits parts level source low lt, long)))
 kept_one false parts level source i k slots b low lt klt long at =
     get_or-set_other slots (level * parts + source) (i * parts + k) (Some b) None
     (λ e. let s = same_place parts i level k source klt lt e in
-    let both : ((i == level) && (k == source)) ≡ true = and_both (i == level) (k == source) (eq-eqb i level s.0) (eq-eqb k source s.1) in
+    let both : ((i == level) && (k == source)) ≡ true = and_from (i == level) (k == source) (eq-eqb i level s.0) (eq-eqb k source s.1) in
     let no : true ≡ false = sym both ∙ at in cc)
 
 if_none : (e : Bool) (b : BatchValue) (o : Option BatchValue) → (e ≡ true → ⊥) → o ≡ None → None ≡ (if e then Some b else o)
@@ -157,11 +140,11 @@ kept_at parts level source slots b low lt long i k =
             ∙ ap (λ (o : Option BatchValue). if (i == level) && (k == source) then Some b else o) (sym (early_in parts slots i k inside below))
         | inr above ↦
             out_source parts slots2 i k above
-            ∙ if_none ((i == level) && (k == source)) b _ (λ e. let at : k ≡ source = eq_true k source (and_right (i == level) (k == source) e) in omega arith) (out_source parts slots i k above)
+            ∙ if_none ((i == level) && (k == source)) b _ (λ e. let at : k ≡ source = eqb-true k source (second_so (i == level) (k == source) e) in omega arith) (out_source parts slots i k above)
       ]
       | inr beyond ↦
           out_level parts slots2 i k beyond
-          ∙ if_none ((i == level) && (k == source)) b _ (λ e. let at : i ≡ level = eq_true i level (and_left (i == level) (k == source) e) in omega arith) (out_level parts slots i k beyond)
+          ∙ if_none ((i == level) && (k == source)) b _ (λ e. let at : i ≡ level = eqb-true i level (first_so (i == level) (k == source) e) in omega arith) (out_level parts slots i k beyond)
     ]
 
 -- some supersteps later
@@ -180,7 +163,7 @@ shift_at parts count slots long i k =
               | inl still ↦ sym (early_in parts slots (i + count) k still below)
               | inr gone ↦
                   let le : 3 * parts ≤ (i + count) * parts = mul-le-mul_right parts gone in
-                  past_end slots ((i + count) * parts + k) None (omega (arith, long, le)) ∙ sym (out_level parts slots (i + count) k gone)
+                  get_or_past slots ((i + count) * parts + k) None (omega (arith, long, le)) ∙ sym (out_level parts slots (i + count) k gone)
             ]
         | inr beyond ↦ out_level parts slots2 i k beyond ∙ sym (out_level parts slots (i + count) k (omega arith))
       ]
@@ -207,7 +190,7 @@ pub empty_at : (parts n i q : ℕ) → early_at (table_of parts (replicate n Non
 empty_at parts n i q =
     elim (cases_lt i 3) [
       | inl inside ↦ elim (cases_lt q parts) [
-        | inl below ↦ early_in parts (replicate n None) i q inside below ∙ get_none n (i * parts + q)
+        | inl below ↦ early_in parts (replicate n None) i q inside below ∙ get_or-replicate_same {X = Option BatchValue} n (i * parts + q) None
         | inr above ↦ out_source parts (replicate n None) i q above
       ]
       | inr beyond ↦ out_level parts (replicate n None) i q beyond
@@ -216,8 +199,3 @@ empty_at parts n i q =
 -- two tables of as many sources
 pub as_many : (a b : ℕ) (slots : List (Option BatchValue)) → IsTable a (table_of b slots) → b ≡ a
 as_many a b slots is = sym ((table_is b slots).sources 0 (omega arith)) ∙ is.sources 0 (omega arith)
-
--- one more of the same
-pub replicate_push : {X : Type 0} (n : ℕ) (x : X) → replicate n x ++ x ∷ [] ≡ replicate (n + 1) x
-replicate_push zero x = refl
-replicate_push (suc n) x = let e : suc n + 1 ≡ suc (n + 1) = omega arith in rw e (ap (λ (l : List _). x ∷ l) (replicate_push n x))

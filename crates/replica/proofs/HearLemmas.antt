@@ -2,35 +2,23 @@
 use Rattle.std.proofs.Common.{◌≡◌, ℕ, zero, suc, ◌+◌, ◌%◌, ◌<◌, ◌≤◌, ◌==◌, nat_lt, Bool, true, false, not, ◌&&◌, ◌||◌, List, length, get_or, set, replicate, refl, ap, arith, sym, ◌∙◌, subst, inl, inr, if◌then◌else◌, is_some, IfSome}
 use Rattle.std.specs.Prelude.{Option, Some, None}
 use Rattle.std.specs.List.{range_with_len, list_any}
-use Rattle.std.proofs.lemmas.Bool.{cases_eq}
+use Rattle.std.proofs.lemmas.Bool.{cases_eq, eq-eqb, or_right, ne_eqb, eqb-true}
 use Rattle.std.proofs.lemmas.Bool.Decides.{nat_tests}
 use Rattle.std.proofs.lemmas.List.{get_or-set_same, get_or-set_other, length-set}
+use Rattle.std.proofs.Math.Bool.{or-false, or_assoc, and-or_distrib_right}
 use Rattle.ball_model.specs.Accumulated.{accumulated_of}
 use Rattle.ball_model.specs.Batches.{BatchValue, IsBatch, true_batch, changed_count}
 use Rattle.ball_model.specs.Job.{Job, IsJob, part_of}
 use Rattle.ball_model.specs.PlanValue.{PlanValue}
 use Rattle.ball_model.specs.State.{is_heard, heard_changes, rows_of}
 use Rattle.ball_model.proofs.AccumulatedPartLemmas.{accumulated_of-alike, accumulated_of-none}
-use Rattle.ball_model.proofs.PathLemmas.{eq_true, same_true}
-use Rattle.replica.specs.Hearing.{Hearing, IsTrueHearing, Hears, batch_by, told_below}
+use Rattle.ball_model.proofs.AccumulatedLemmas.{or_split}
+use Rattle.ball_model.proofs.QuietLemmas.{none_of}
+use Rattle.replica.specs.Hearing.{Hearing, IsTrueHearing, Hears, batch_by, batches_below}
 use Rattle.replica.specs.Index.{targets_of}
 use Rattle.replica.specs.Kept.{AreCounters, AllRise}
-use Rattle.replica.proofs.RiseLemmas.{all_stay, all_on}
-
-pub or_none : (a : Bool) → a ≡ (a || false)
-or_none true = refl
-or_none false = refl
-
-or_group : (a b c : Bool) → ((a || b) || c) ≡ (a || (b || c))
-or_group true b c = refl
-or_group false b c = refl
-
-no : (a b : ℕ) → (a ≡ b → ⊥) → (a == b) ≡ false
-no a b ne = not_so (a == b) (λ e. ne (eq_true a b e))
-  where
-    not_so : (c : Bool) → (c ≡ true → ⊥) → c ≡ false
-    not_so true h = absurd (h refl)
-    not_so false h = refl
+use Rattle.replica.proofs.RiseLemmas.{all_on}
+use Rattle.replica.proofs.StepLemmas.{get_or-replicate_same}
 
 -- a flag that is set
 pub flag_set : (flags : List Bool) (k q : ℕ) → k < length flags → get_or (set flags k true) q false ≡ (get_or flags q false || (q == k))
@@ -38,41 +26,19 @@ flag_set flags k q lt =
     elim (cases_eq q k) [
       | inl same ↦
           subst (λ (n : ℕ). get_or (set flags k true) n false ≡ (get_or flags n false || (n == k))) (sym same)
-          (get_or-set_same flags k true false lt ∙ sym (or_yes (get_or flags k false) (k == k) (same_true k)))
+          (get_or-set_same flags k true false lt ∙ sym (or_right (get_or flags k false) (k == k) (eq-eqb k k refl)))
       | inr other ↦
           get_or-set_other flags k q true false other
-          ∙ or_none (get_or flags q false)
-          ∙ ap (λ b. get_or flags q false || b) (sym (no q k other))
+          ∙ sym (or-false (get_or flags q false))
+          ∙ ap (λ b. get_or flags q false || b) (sym (ne_eqb q k other))
     ]
-  where
-    or_yes : (a b : Bool) → b ≡ true → (a || b) ≡ true
-    or_yes true b e = refl
-    or_yes false b e = e
-
-and_or : (a b c : Bool) → ((a || b) && c) ≡ ((a && c) || (b && c))
-and_or true true true = refl
-and_or true true false = refl
-and_or true false true = refl
-and_or true false false = refl
-and_or false b c = refl
 
 pub any_or : (f g : ℕ → Bool) (a n : ℕ) → list_any (λ q. f q || g q) (range_with_len a n) ≡ (list_any f (range_with_len a n) || list_any g (range_with_len a n))
-any_or f g a zero = refl
-any_or f g a (suc n) = ap (λ b. (f a || g a) || b) (any_or f g (a + 1) n) ∙ cross (f a) (g a) (list_any f (range_with_len (a + 1) n)) (list_any g (range_with_len (a + 1) n))
-  where
-    cross : (x y u v : Bool) → ((x || y) || (u || v)) ≡ ((x || u) || (y || v))
-    cross true y u v = refl
-    cross false true true v = refl
-    cross false true false v = refl
-    cross false false u v = refl
+any_or f g a n = or_split (λ q. f q || g q) f g (range_with_len a n) (λ q. refl)
 
 pub any_same : (p r : ℕ → Bool) (a n bound : ℕ) → a + n ≤ bound → ((k : ℕ) → k < bound → p k ≡ r k) → list_any p (range_with_len a n) ≡ list_any r (range_with_len a n)
 any_same p r a zero bound le h = refl
 any_same p r a (suc n) bound le h = rw (h a (omega arith), any_same p r (a + 1) n bound (omega arith) h) refl
-
-any_none : (f : ℕ → Bool) (a n : ℕ) → ((k : ℕ) → f k ≡ false) → list_any f (range_with_len a n) ≡ false
-any_none f a zero h = refl
-any_none f a (suc n) h = rw (h a) (any_none f (a + 1) n h)
 
 -- one number alone passes
 pub any_one_of : (f : ℕ → Bool) (k a n : ℕ) → a ≤ k → k < a + n → list_any (λ q. (q == k) && f q) (range_with_len a n) ≡ f k
@@ -81,13 +47,13 @@ any_one_of f k a (suc n) from to =
     elim (cases_eq a k) [
       | inl here ↦
           let gone : list_any (λ q. (q == k) && f q) (range_with_len (a + 1) n) ≡ false = past f k (a + 1) n (omega arith) in
-          rw (gone, here, same_true k) (sym (or_none (f k)))
-      | inr other ↦ rw (no a k other) (any_one_of f k (a + 1) n (omega arith) (omega arith))
+          rw (gone, here, eq-eqb k k refl) (or-false (f k))
+      | inr other ↦ rw (ne_eqb a k other) (any_one_of f k (a + 1) n (omega arith) (omega arith))
     ]
   where
     past : (g : ℕ → Bool) (k a n : ℕ) → k < a → list_any (λ q. (q == k) && g q) (range_with_len a n) ≡ false
     past g k a zero lt = refl
-    past g k a (suc n) lt = let ne : a ≡ k → ⊥ = λ e. omega arith in rw (no a k ne) (past g k (a + 1) n (omega arith))
+    past g k a (suc n) lt = let ne : a ≡ k → ⊥ = λ e. omega arith in rw (ne_eqb a k ne) (past g k (a + 1) n (omega arith))
 
 -- one source more: whether something changed
 changes_more : (j : Job) (t k : ℕ) (heard after : List Bool) → k < j.plan.parts → ((q : ℕ) → get_or after q false ≡ (get_or heard q false || (q == k))) →
@@ -95,26 +61,21 @@ changes_more : (j : Job) (t k : ℕ) (heard after : List Bool) → k < j.plan.pa
 unfolding heard_changes
 changes_more j t k heard after lt is =
     let c : ℕ → Bool = λ q. not (changed_count j t q == 0) in
-    any_same (λ q. get_or after q false && c q) (λ q. (get_or heard q false && c q) || ((q == k) && c q)) 0 j.plan.parts j.plan.parts (omega arith) (λ q _. ap (λ b. b && c q) (is q) ∙ and_or (get_or heard q false) (q == k) (c q))
+    any_same (λ q. get_or after q false && c q) (λ q. (get_or heard q false && c q) || ((q == k) && c q)) 0 j.plan.parts j.plan.parts (omega arith) (λ q _. ap (λ b. b && c q) (is q) ∙ and-or_distrib_right (get_or heard q false) (q == k) (c q))
     ∙ any_or (λ q. get_or heard q false && c q) (λ q. (q == k) && c q) 0 j.plan.parts
     ∙ ap (λ b. list_any (λ q. get_or heard q false && c q) (range_with_len 0 j.plan.parts) || b) (any_one_of c k 0 j.plan.parts (omega arith) (omega arith))
-
-pub flag_none : (n q : ℕ) → get_or (replicate n false) q false ≡ false
-flag_none zero q = refl
-flag_none (suc n) zero = refl
-flag_none (suc n) (suc q) = flag_none n q
 
 -- where nothing is heard
 pub none_heard : (j : Job) (p t n : ℕ) (heard : List Bool) (change : Bool) (rows : List (List ℕ)) → IsJob j → heard ≡ replicate n false → change ≡ false → rows ≡ rows_of j p t →
     IsTrueHearing j p t (record { heard = heard; change = change; accumulated = rows })
 unfolding heard_changes
 none_heard j p t n heard change rows ok none quiet is = record {
-  change = quiet ∙ sym (any_none (λ q. get_or heard q false && not (changed_count j t q == 0)) 0 j.plan.parts (λ q. ap (λ b. b && not (changed_count j t q == 0)) (off q)));
+  change = quiet ∙ sym (none_of (λ q. get_or heard q false && not (changed_count j t q == 0)) 0 j.plan.parts (λ q _ _. ap (λ b. b && not (changed_count j t q == 0)) (off q)));
   accumulated = is ∙ sym (accumulated_of-none j p t) ∙ accumulated_of-alike j p t (λ z. false) (λ z. is_heard j.plan.parts heard z) ok.graph (λ z _. sym (off (z % j.plan.parts)));
 }
   where
     off : (q : ℕ) → get_or heard q false ≡ false
-    off q = ap (λ (l : List Bool). get_or l q false) none ∙ flag_none n q
+    off q = ap (λ (l : List Bool). get_or l q false) none ∙ get_or-replicate_same n q false
 
 true_changed : (j : Job) (t q p : ℕ) → (true_batch j (record { superstep = t; source = q; target = p })).changed ≡ changed_count j t q
 unfolding true_batch
@@ -138,7 +99,7 @@ hears_one log2m targets b a c ok lt heard change rise truth =
       sources = λ q. flags q ∙ ap (λ e. get_or a.heard q false || e) (some_if (q == k));
       rise = rise;
       stands = λ j p t job index told h.
-          let is : b ≡ true_batch j (record { superstep = t; source = k; target = p }) = rw (same_true k) at (told k) in
+          let is : b ≡ true_batch j (record { superstep = t; source = k; target = p }) = rw (eq-eqb k k refl) at (told k) in
           let parts : b.plan.parts ≡ j.plan.parts = ap (λ (x : BatchValue). x.plan.parts) is ∙ ap (λ (x : PlanValue). x.parts) (true_job j t k p) in
           let below : k < j.plan.parts = omega (arith, ok.source, parts) in
           record {
@@ -153,17 +114,9 @@ hears_one log2m targets b a c ok lt heard change rise truth =
     some_if true = refl
     some_if false = refl
 
--- nothing that is told
-pub hears_none : (log2m : ℕ) (targets : List (List ℕ)) (told : ℕ → Option BatchValue) (a : Hearing) → AreCounters log2m a.accumulated → ((q : ℕ) → told q ≡ None) → Hears log2m targets told a a
-hears_none log2m targets told a are none = record {
-  count = refl;
-  sources = λ q. or_none (get_or a.heard q false) ∙ ap (λ (o : Option BatchValue). get_or a.heard q false || is_some o) (sym (none q));
-  rise = all_stay log2m a.accumulated are;
-  stands = λ j p t job index truth h. h;
-}
-
-if_one : (P : BatchValue → Type 0) (a b : Option BatchValue) → a ≡ b → IfSome b P → IfSome a P
-if_one P a b e h = rw e h
+-- what holds of what an option has holds of what one that is the same has
+pub if_some_as : (P : BatchValue → Type 0) (a b : Option BatchValue) → a ≡ b → IfSome b P → IfSome a P
+if_some_as P a b e h = rw e h
 
 -- the same that is told
 pub hears_same : (log2m : ℕ) (targets : List (List ℕ)) (told other : ℕ → Option BatchValue) (a b : Hearing) → ((q : ℕ) → told q ≡ other q) → Hears log2m targets told a b → Hears log2m targets other a b
@@ -171,7 +124,7 @@ hears_same log2m targets told other a b same h = record {
   count = h.count;
   sources = λ q. h.sources q ∙ ap (λ (o : Option BatchValue). get_or a.heard q false || is_some o) (same q);
   rise = h.rise;
-  stands = λ j p t job index truth. h.stands j p t job index (λ q. if_one _ (told q) (other q) (same q) (truth q));
+  stands = λ j p t job index truth. h.stands j p t job index (λ q. if_some_as _ (told q) (other q) (same q) (truth q));
 }
 
 -- one after the other
@@ -180,52 +133,37 @@ pub hears_on : (log2m : ℕ) (targets : List (List ℕ)) (first second told : �
     Hears log2m targets first a b → Hears log2m targets second b c → Hears log2m targets told a c
 hears_on log2m targets first second told a b c are some if_some f g = record {
   count = g.count ∙ f.count;
-  sources = λ q. g.sources q ∙ ap (λ e. e || is_some (second q)) (f.sources q) ∙ or_group (get_or a.heard q false) (is_some (first q)) (is_some (second q)) ∙ ap (λ e. get_or a.heard q false || e) (sym (some q));
+  sources = λ q. g.sources q ∙ ap (λ e. e || is_some (second q)) (f.sources q) ∙ or_assoc (get_or a.heard q false) (is_some (first q)) (is_some (second q)) ∙ ap (λ e. get_or a.heard q false || e) (sym (some q));
   rise = all_on log2m a.accumulated b.accumulated c.accumulated are f.rise g.rise;
   stands = λ j p t job index truth h.
       g.stands j p t job index (λ q. (if_some _ q (truth q)).1) (f.stands j p t job index (λ q. (if_some _ q (truth q)).0) h);
 }
 
 -- one source more of those below a number
-below_one : (told : ℕ → Option BatchValue) (n q : ℕ) (a b c : Bool) → nat_lt q (n + 1) ≡ a → nat_lt q n ≡ b → (q == n) ≡ c → is_some (if a then told q else None) ≡ (is_some (if b then told q else None) || is_some (if c then told n else None))
-below_one told n q true true true at lt eq = absurd (let e : q ≡ n = eq_true q n eq in let f : q < n = grind (arith, nat_tests) in omega arith)
-below_one told n q true true false at lt eq = or_none (is_some (told q))
-below_one told n q true false true at lt eq = let e : q ≡ n = eq_true q n eq in rw e refl
-below_one told n q true false false at lt eq = absurd (grind (arith, nat_tests))
-below_one told n q false true c at lt eq = absurd (grind (arith, nat_tests))
-below_one told n q false false true at lt eq = absurd (grind (arith, nat_tests))
-below_one told n q false false false at lt eq = refl
+told_one : (told : ℕ → Option BatchValue) (n q : ℕ) (a b c : Bool) → nat_lt q (n + 1) ≡ a → nat_lt q n ≡ b → (q == n) ≡ c → is_some (if a then told q else None) ≡ (is_some (if b then told q else None) || is_some (if c then told n else None))
+told_one told n q true true true at lt eq = absurd (let e : q ≡ n = eqb-true q n eq in let f : q < n = grind (arith, nat_tests) in omega arith)
+told_one told n q true true false at lt eq = sym (or-false (is_some (told q)))
+told_one told n q true false true at lt eq = let e : q ≡ n = eqb-true q n eq in rw e refl
+told_one told n q true false false at lt eq = absurd (grind (arith, nat_tests))
+told_one told n q false true c at lt eq = absurd (grind (arith, nat_tests))
+told_one told n q false false true at lt eq = absurd (grind (arith, nat_tests))
+told_one told n q false false false at lt eq = refl
 
-below_if : (P : BatchValue → Type 0) (told : ℕ → Option BatchValue) (n q : ℕ) (a b c : Bool) → nat_lt q (n + 1) ≡ a → nat_lt q n ≡ b → (q == n) ≡ c → IfSome (if a then told q else None) P → IfSome (if b then told q else None) P × IfSome (if c then told n else None) P
-below_if P told n q true true true at lt eq h = absurd (let e : q ≡ n = eq_true q n eq in let f : q < n = grind (arith, nat_tests) in omega arith)
-below_if P told n q true true false at lt eq h = (h, tt)
-below_if P told n q true false true at lt eq h = let e : q ≡ n = eq_true q n eq in (tt, subst (λ (k : ℕ). IfSome (told k) P) e h)
-below_if P told n q true false false at lt eq h = (tt, tt)
-below_if P told n q false true c at lt eq h = absurd (grind (arith, nat_tests))
-below_if P told n q false false true at lt eq h = absurd (grind (arith, nat_tests))
-below_if P told n q false false false at lt eq h = (tt, tt)
+told_if : (P : BatchValue → Type 0) (told : ℕ → Option BatchValue) (n q : ℕ) (a b c : Bool) → nat_lt q (n + 1) ≡ a → nat_lt q n ≡ b → (q == n) ≡ c → IfSome (if a then told q else None) P → IfSome (if b then told q else None) P × IfSome (if c then told n else None) P
+told_if P told n q true true true at lt eq h = absurd (let e : q ≡ n = eqb-true q n eq in let f : q < n = grind (arith, nat_tests) in omega arith)
+told_if P told n q true true false at lt eq h = (h, tt)
+told_if P told n q true false true at lt eq h = let e : q ≡ n = eqb-true q n eq in (tt, subst (λ (k : ℕ). IfSome (told k) P) e h)
+told_if P told n q true false false at lt eq h = (tt, tt)
+told_if P told n q false true c at lt eq h = absurd (grind (arith, nat_tests))
+told_if P told n q false false true at lt eq h = absurd (grind (arith, nat_tests))
+told_if P told n q false false false at lt eq h = (tt, tt)
 
 pub hears_next : (log2m : ℕ) (targets : List (List ℕ)) (told : ℕ → Option BatchValue) (n : ℕ) (a b c : Hearing) → AreCounters log2m a.accumulated →
-    Hears log2m targets (told_below told n) a b → Hears log2m targets (batch_by n (told n)) b c → Hears log2m targets (told_below told (n + 1)) a c
+    Hears log2m targets (batches_below told n) a b → Hears log2m targets (batch_by n (told n)) b c → Hears log2m targets (batches_below told (n + 1)) a c
 hears_next log2m targets told n a b c are f g =
-    hears_on log2m targets (told_below told n) (batch_by n (told n)) (told_below told (n + 1)) a b c are
-    (λ q. below_one told n q (nat_lt q (n + 1)) (nat_lt q n) (q == n) refl refl refl)
-    (λ P q. below_if P told n q (nat_lt q (n + 1)) (nat_lt q n) (q == n) refl refl refl) f g
-
-below_all : (told : ℕ → Option BatchValue) (n q : ℕ) (a : Bool) → nat_lt q n ≡ a → ((k : ℕ) → n ≤ k → told k ≡ None) → (if a then told q else None) ≡ told q
-below_all told n q true at none = refl
-below_all told n q false at none = let le : n ≤ q = grind (arith, nat_tests) in sym (none q le)
-
--- all sources
-pub hears_all : (log2m : ℕ) (targets : List (List ℕ)) (told : ℕ → Option BatchValue) (n : ℕ) (a b : Hearing) → ((k : ℕ) → n ≤ k → told k ≡ None) → Hears log2m targets (told_below told n) a b → Hears log2m targets told a b
-hears_all log2m targets told n a b none h = hears_same log2m targets (told_below told n) told a b (λ q. below_all told n q (nat_lt q n) refl none) h
-
-none_below : (told : ℕ → Option BatchValue) (q : ℕ) (a : Bool) → nat_lt q 0 ≡ a → (if a then told q else None) ≡ None
-none_below told q true at = absurd (grind (arith, nat_tests))
-none_below told q false at = refl
-
-pub hears_first : (log2m : ℕ) (targets : List (List ℕ)) (told : ℕ → Option BatchValue) (a : Hearing) → AreCounters log2m a.accumulated → Hears log2m targets (told_below told 0) a a
-hears_first log2m targets told a are = hears_none log2m targets (told_below told 0) a are (λ q. none_below told q (nat_lt q 0) refl)
+    hears_on log2m targets (batches_below told n) (batch_by n (told n)) (batches_below told (n + 1)) a b c are
+    (λ q. told_one told n q (nat_lt q (n + 1)) (nat_lt q n) (q == n) refl refl refl)
+    (λ P q. told_if P told n q (nat_lt q (n + 1)) (nat_lt q n) (q == n) refl refl refl) f g
 
 -- the same from the same
 pub hears_as : {m m' : ℕ} {targets targets' : List (List ℕ)} {told : ℕ → Option BatchValue} {heard heard' : List Bool} {change : Bool} {rows rows' : List (List ℕ)} {b : Hearing} → m ≡ m' → targets ≡ targets' → heard ≡ heard' → rows ≡ rows' →

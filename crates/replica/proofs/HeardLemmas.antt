@@ -6,6 +6,7 @@ use Rattle.std.proofs.lemmas.Bool.{and_parts, and_from, or_cases, or_left, or_ri
 use Rattle.std.proofs.lemmas.List.{length-map, get_or-map, same_lists, map-append, append-nil}
 use Rattle.std.proofs.lemmas.List.Elements.{filter-append}
 use Rattle.std.proofs.lemmas.List.FromFn.{get_or-map-range_with_len}
+use Rattle.std.proofs.Math.Bool.{or-false, or_assoc}
 use Rattle.ball_model.specs.Graph.{is_edge}
 use Rattle.ball_model.specs.Counter.{ball_counter, max_each}
 use Rattle.ball_model.specs.Change.{changed_at}
@@ -52,24 +53,16 @@ accumulated_of-spread j p t z heard job changed =
 turned : (a b : ℕ) → (a == b) ≡ (b == a)
 turned a b = both_ways _ _ (λ e. eq-eqb b a (sym (eqb-true a b e))) (λ e. eq-eqb a b (sym (eqb-true b a e)))
 
-or_group : (a b c d : Bool) → b ≡ c → ((a || b) || d) ≡ (a || (c || d))
-or_group true b c d e = refl
-or_group false b c d e = ap (λ k. k || d) e
-
-or_none : (a : Bool) → a ≡ (a || false)
-or_none true = refl
-or_none false = refl
-
 -- counters of changed vertices, spread one after the other, are heard
 pub spread-each : (j : Job) (p t : ℕ) (heard : ℕ → Bool) (ys : List ℕ) → IsJob j → AllByRecursion (λ y. changed_at (mixing_of j.plan) j.graph y t ≡ true) ys →
     rows_after_all (targets_of (part_of j p)) (map (λ y. (y, ball_counter (mixing_of j.plan) j.graph y t)) ys) (accumulated_of j p t heard) ≡ accumulated_of j p t (λ w. heard w || stands_in ys w)
 unfolding rows_after_all
-spread-each j p t heard [] job all = accumulated_of-same j p t heard (λ w. heard w || false) (λ x z member edge changed. or_none (heard z))
+spread-each j p t heard [] job all = accumulated_of-same j p t heard (λ w. heard w || false) (λ x z member edge changed. sym (or-false (heard z)))
 spread-each j p t heard (y ∷ ys) job all =
     ap (λ rows. rows_after_all (targets_of (part_of j p)) (map (λ k. (k, ball_counter (mixing_of j.plan) j.graph k t)) ys) rows) (accumulated_of-spread j p t y heard job all.0)
     ∙ spread-each j p t (λ w. heard w || (w == y)) ys job all.1
     ∙ accumulated_of-same j p t (λ w. (heard w || (w == y)) || stands_in ys w) (λ w. heard w || ((y == w) || stands_in ys w))
-    (λ x z member edge changed. or_group (heard z) (z == y) (y == z) (stands_in ys z) (turned z y))
+    (λ x z member edge changed. or_assoc (heard z) (z == y) (stands_in ys z) ∙ ap (λ b. heard z || (b || stands_in ys z)) (turned z y))
 
 -- of the vertices of a partition that pass a test, one that passes is there exactly where it is of the partition
 among : (f : ℕ → Bool) (n parts q z : ℕ) → z < n → f z ≡ true → stands_in (filter f (vertices_of n parts q)) z ≡ (z % parts == q)
@@ -85,9 +78,6 @@ among f n parts q z lt passes =
     ap g (sym (eqb-true found.0 z (and_parts (f found.0) (found.0 == z) both.1).1)) ∙ both.0)
     (λ e. any_range (λ k. g k && (f k && (k == z))) 0 n z (omega arith) (omega arith) (and_from (g z) (f z && (z == z)) e (and_from (f z) (z == z) passes (eq-eqb z z refl))))
 
-or_alike : (a b c : Bool) → b ≡ c → (a || b) ≡ (a || c)
-or_alike a b c e = ap (λ k. a || k) e
-
 -- counters of changed vertices of a partition, all of those with an edge to an own one: the partition is heard
 part-heard : (j : Job) (p t q : ℕ) (heard f : ℕ → Bool) → IsJob j → ((y : ℕ) → f y ≡ true → changed_at (mixing_of j.plan) j.graph y t ≡ true) →
     ((x z : ℕ) → x % j.plan.parts ≡ p → is_edge j.graph z x ≡ true → changed_at (mixing_of j.plan) j.graph z t ≡ true → f z ≡ true) →
@@ -96,7 +86,7 @@ part-heard : (j : Job) (p t q : ℕ) (heard f : ℕ → Bool) → IsJob j → ((
 part-heard j p t q heard f job told all =
     spread-each j p t heard (filter f (own_vertices j q)) job (changed_all (filter f (own_vertices j q)) (filter_passes f (own_vertices j q)))
     ∙ accumulated_of-same j p t (λ w. heard w || stands_in (filter f (own_vertices j q)) w) (λ w. heard w || (w % j.plan.parts == q))
-    (λ x z member edge changed. or_alike (heard z) _ _ (among f j.graph.vertices j.plan.parts q z (edge_below j.graph z x job.graph edge).0
+    (λ x z member edge changed. ap (λ b. heard z || b) (among f j.graph.vertices j.plan.parts q z (edge_below j.graph z x job.graph edge).0
     (all x z (own_is j.graph.vertices j.plan.parts p x member) edge changed)))
   where
     changed_all : (ys : List ℕ) → AllByRecursion (λ y. f y ≡ true) ys → AllByRecursion (λ y. changed_at (mixing_of j.plan) j.graph y t ≡ true) ys

@@ -1,15 +1,11 @@
 -- The contents of replicas, as plain data, and their joins.
-use Rattle.std.proofs.Common.{◌≡◌, ℕ, ◌==◌, true, refl, ap, ◌∙◌, arith}
+use Rattle.std.proofs.Common.{◌≡◌, refl, ap, ◌∙◌}
 use Rattle.std.specs.Prelude.{Result, Ok, Err, OnOk}
-use Rattle.std.proofs.lemmas.Bool.Decides.{nat_tests}
-use Rattle.std.proofs.lemmas.Slice.Eq.{bytes_eq-Decides}
-use Rattle.ball_model.specs.PlanValue.{PlanValue}
 use Rattle.ball_model.specs.Job.{PartValue}
-use Rattle.ball_model.specs.Content.{IsContent, same_plan}
+use Rattle.ball_model.specs.Content.{IsContent}
 use Rattle.ball_model.specs.History.{holding_in}
 use Rattle.ball_model.specs.Join.{AreAlike, join_of, holding_of}
 use Rattle.ball_model.specs.State.{State, content_of}
-use Rattle.ball_model.proofs.PathLemmas.{and_both}
 use Rattle.ball_model.proofs.JoinLemmas.{holding_is_one, holding_of_joined}
 use Rattle.replica.specs.Seen.{IsState}
 use Rattle.replica.specs.Merged.{Absorbs}
@@ -24,17 +20,6 @@ alike_from v o sv so plan number = record {
   left = holding_is_one v.part.plan v.part.number (content_of v) (content_is_one v sv);
   right = holding_is_one o.part.plan o.part.number (content_of o) (content_is_one o so);
 }
-
-eq_to : (a b : ℕ) → a ≡ b → (a == b) ≡ true
-eq_to a b e = grind (arith, nat_tests)
-
--- a plan is the same as itself in every field
-pub same_plan_to : (a b : PlanValue) → a ≡ b → same_plan a b ≡ true
-same_plan_to a b e =
-    and_both _ _ (and_both _ _ (and_both _ _ (and_both _ _ (and_both _ _
-    (eq_to a.log2m b.log2m (ap (λ (p : PlanValue). p.log2m) e)) (eq_to a.seed b.seed (ap (λ (p : PlanValue). p.seed) e)))
-    (eq_to a.parts b.parts (ap (λ (p : PlanValue). p.parts) e))) (eq_to a.limit b.limit (ap (λ (p : PlanValue). p.limit) e)))
-    (eq_to a.vertices b.vertices (ap (λ (p : PlanValue). p.vertices) e))) ((bytes_eq-Decides a.job b.job).1 (ap (λ (p : PlanValue). p.job) e))
 
 -- a replica that has taken over another one has the join of both contents
 pub joined_holding : (v o w : State) → IsState v → IsState o → v.part.plan ≡ o.part.plan → v.part.number ≡ o.part.number → Absorbs v o w → holding_in w ≡ join_of (holding_in v) (holding_in o)

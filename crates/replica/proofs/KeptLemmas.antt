@@ -5,7 +5,7 @@ use Rattle.std.specs.List.{range_with_len, filter, flat_map, slice_get}
 use Rattle.std.specs.Option.{option_to_list}
 use Rattle.std.proofs.lemmas.Bool.Decides.{nat_tests}
 use Rattle.std.proofs.lemmas.Grind.{flat_map-append}
-use Rattle.std.proofs.lemmas.List.{map-append, length-append, append-nil, same_lists, take_all, take-append-drop, length-take-le, length-drop, length-map, get_or-take, get_or-drop, get_or_default}
+use Rattle.std.proofs.lemmas.List.{map-append, length-append, append-nil, same_lists, take_all, take-append-drop, length-take-le, length-drop, length-map, get_or-take, get_or-drop, get_or_default, drop-drop}
 use Rattle.std.proofs.lemmas.List.Elements.{filter-append}
 use Rattle.std.proofs.lemmas.List.FromFn.{length-map-range_with_len, get_or-map-range_with_len}
 use Rattle.std.proofs.lemmas.Option.{slice_get-map, IfSome_then}
@@ -55,19 +55,13 @@ stretch a n slots long =
     ∙ sym (get_or-drop a slots k d)
     ∙ sym (get_or-take n (drop a slots) k d below))
 
-level_is : (parts : ℕ) (slots : List (Option BatchValue)) (i a : ℕ) → i < 3 → i * parts ≡ a → a + parts ≤ length slots → get_or (table_of parts slots) i [] ≡ take parts (drop a slots)
-level_is parts slots i a lt at long =
+level_taken : (parts : ℕ) (slots : List (Option BatchValue)) (i a : ℕ) → i < 3 → i * parts ≡ a → a + parts ≤ length slots → get_or (table_of parts slots) i [] ≡ take parts (drop a slots)
+level_taken parts slots i a lt at long =
     level_in parts slots i lt ∙ ap (λ n. map (λ q. get_or slots (n + q) None) (range_with_len 0 parts)) at ∙ stretch a parts slots long
 
 -- slots, in two stretches
 parted : (n : ℕ) (slots : List (Option BatchValue)) → batches_in slots ≡ batches_in (take n slots) ++ batches_in (drop n slots)
 parted n slots = ap batches_in (sym (take-append-drop n slots)) ∙ batches_in-append (take n slots) (drop n slots)
-
-drop_twice : {X : Type 0} (n m : ℕ) (xs : List X) → drop n (drop m xs) ≡ drop (m + n) xs
-drop_twice n m xs =
-    same_lists (drop n (drop m xs)) (drop (m + n) xs) (omega (arith, length-drop n (drop m xs), length-drop m xs, length-drop (m + n) xs))
-    (λ k d lt. let e : m + (n + k) ≡ m + n + k = omega arith in
-    get_or-drop n (drop m xs) k d ∙ get_or-drop m xs (n + k) d ∙ ap (λ i. get_or xs i d) e ∙ sym (get_or-drop (m + n) xs k d))
 
 drop_none : {X : Type 0} (xs : List X) → drop 0 xs ≡ xs
 drop_none [] = refl
@@ -77,12 +71,12 @@ drop_none (x ∷ xs) = refl
 table_batches : (parts : ℕ) (slots : List (Option BatchValue)) → length slots ≡ 3 * parts → early_batches (table_of parts slots) ≡ batches_in slots
 table_batches parts slots long =
     let B = λ (l : List (Option BatchValue)). batches_in l in
-    let one : get_or (table_of parts slots) 0 [] ≡ take parts slots = level_is parts slots 0 0 (omega arith) (omega arith) (omega arith) ∙ ap (take parts) (drop_none slots) in
-    let two : get_or (table_of parts slots) 1 [] ≡ take parts (drop parts slots) = level_is parts slots 1 parts (omega arith) (omega arith) (omega arith) in
+    let one : get_or (table_of parts slots) 0 [] ≡ take parts slots = level_taken parts slots 0 0 (omega arith) (omega arith) (omega arith) ∙ ap (take parts) (drop_none slots) in
+    let two : get_or (table_of parts slots) 1 [] ≡ take parts (drop parts slots) = level_taken parts slots 1 parts (omega arith) (omega arith) (omega arith) in
     let three : get_or (table_of parts slots) 2 [] ≡ drop parts (drop parts slots) =
-    level_is parts slots 2 (parts + parts) (omega arith) (omega arith) (omega arith)
+    level_taken parts slots 2 (parts + parts) (omega arith) (omega arith) (omega arith)
     ∙ take_all parts (drop (parts + parts) slots) (omega (arith, length-drop (parts + parts) slots))
-    ∙ sym (drop_twice parts parts slots) in
+    ∙ sym (drop-drop parts parts slots) in
     three_levels (table_of parts slots) (levels parts slots)
     ∙ rw (one, two, three) refl
     ∙ ap (λ (l : List BatchValue). batches_in (take parts slots) ++ l) (sym (parted parts (drop parts slots)))
@@ -184,7 +178,8 @@ rows_true j (row ∷ rest) h =
     ∙ sym (map-append (true_batch j) (map name (batches_in row)) (map name (flat_map batches_in rest)))
     ∙ ap (map (true_batch j)) (sym (map-append name (batches_in row) (flat_map batches_in rest)))
 
-true_named : (j : Job) (n : BatchName) (b : BatchValue) → b ≡ true_batch j n → b ≡ true_batch j b.name
+-- a true batch is the one of its own name
+pub true_named : (j : Job) (n : BatchName) (b : BatchValue) → b ≡ true_batch j n → b ≡ true_batch j b.name
 unfolding true_batch
 true_named j n b is = let same : b.name ≡ n = ap (λ (a : BatchValue). a.name) is in is ∙ ap (true_batch j) (sym same)
 

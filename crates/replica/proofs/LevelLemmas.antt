@@ -1,5 +1,5 @@
 -- A replica that stands for its content and holds its level has what the next superstep is made of.
-use Rattle.std.proofs.Common.{◌≡◌, ℕ, ◌+◌, ◌%◌, ◌<◌, Bool, true, false, not, ◌&&◌, ◌||◌, ◌==◌, List, [], ◌∷◌, max, length, map, get_or, refl, ap, arith, sym, ◌∙◌}
+use Rattle.std.proofs.Common.{◌≡◌, ℕ, ◌+◌, ◌%◌, ◌<◌, Bool, true, false, not, ◌&&◌, ◌||◌, ◌==◌, List, [], length, map, get_or, refl, ap, arith, sym, ◌∙◌}
 use Rattle.std.specs.Prelude.{Option, None}
 use Rattle.std.specs.List.{range_with_len}
 use Rattle.std.specs.Str.{bytes_eq}
@@ -14,13 +14,13 @@ use Rattle.ball_model.specs.Batches.{BatchValue}
 use Rattle.ball_model.specs.Content.{missing_of}
 use Rattle.ball_model.specs.State.{State, StandsFor, content_of, rows_of, marks_of, holds_in, is_heard}
 use Rattle.ball_model.proofs.AccumulatedPartLemmas.{accumulated_of-level}
-use Rattle.ball_model.proofs.PathLemmas.{eq_true, same_true}
 use Rattle.ball_model.proofs.ChangeLemmas.{changed_next}
 use Rattle.ball_model.proofs.EndLemmas.{find_none}
 use Rattle.replica.specs.Level.{differences}
 use Rattle.replica.specs.Spread.{AreTouched}
 use Rattle.std.proofs.lemmas.Slice.Eq.{bytes_eq-Decides}
-use Rattle.ball_model.specs.Counter.{max_each}
+use Rattle.std.proofs.lemmas.Bool.{eq-eqb, not-false, ne_eqb}
+use Rattle.registers.specs.Laws.{max_each-repeats}
 use Rattle.replica.proofs.StepLemmas.{list_is}
 use Rattle.replica.proofs.OwnLemmas.{vertex_of, at_own}
 
@@ -84,10 +84,6 @@ differing_is j p t n old new below size was now =
     ∙ rw (next, row) (sym (changed_next (mixing_of j.plan) j.graph (vertex_of j.plan.parts p k) t))
     ∙ sym (mark_at j p (t + 1) k d below in_part))
 
-not_true : (b : Bool) → not b ≡ false → b ≡ true
-not_true true e = refl
-not_true false e = absurd (cc)
-
 and_false_right : (a b : Bool) → (a && b) ≡ false → a ≡ true → b ≡ false
 and_false_right true b e h = e
 and_false_right false b e h = absurd (cc)
@@ -98,26 +94,19 @@ pub level_there : (parts p t q : ℕ) (heard : List Bool) (early : List (List (O
 unfolding missing_of
 level_there parts p t q heard early none lt other =
     let f : (not (q == p) && not (holds_in t heard early t q)) ≡ false = find_none (λ k. not (k == p) && not (holds_in t heard early t k)) 0 parts none q (omega arith) (omega arith) in
-    let held : holds_in t heard early t q ≡ true = not_true (holds_in t heard early t q) (and_false_right (not (q == p)) (not (holds_in t heard early t q)) f (ap not other)) in
-    rw (same_true t) at held
+    let held : holds_in t heard early t q ≡ true = not-false (holds_in t heard early t q) (and_false_right (not (q == p)) (not (holds_in t heard early t q)) f (ap not other)) in
+    rw (eq-eqb t t refl) at held
 
 pub there : (j : Job) (p t q : ℕ) (v : State) → Ready j p t v → q < j.plan.parts → (q == p) ≡ false → get_or v.heard q false ≡ true
 there j p t q v r lt other =
     let at : missing_of j.plan.parts p (content_of v) ≡ None = rw (← plan_is j p t v r.stands, ← number_is j p t v r.stands) r.none in
     level_there j.plan.parts p v.superstep q v.heard v.early at lt other
 
-not_same : (a b : ℕ) → (a ≡ b → ⊥) → (a == b) ≡ false
-not_same a b ne = not_so (a == b) (λ e. ne (eq_true a b e))
-  where
-    not_so : (b : Bool) → (b ≡ true → ⊥) → b ≡ false
-    not_so true h = absurd (h refl)
-    not_so false h = refl
-
 -- what is accumulated, once the level is held and the own partition is spread too, are the next rows
 pub next_rows_are : (j : Job) (p t : ℕ) (v : State) → Ready j p t v → accumulated_of j p t (λ z. is_heard j.plan.parts v.heard z || (z % j.plan.parts == p)) ≡ rows_of j p (t + 1)
 next_rows_are j p t v r =
     accumulated_of-level j p t (λ q. get_or v.heard q false) r.stands.job.graph r.stands.job.plan.parts_from
-    (λ q lt ne. there j p t q v r lt (not_same q p ne))
+    (λ q lt ne. there j p t q v r lt (ne_eqb q p ne))
 
 -- the rows that are marked as differing from what is accumulated are those that differ
 pub differing_from : (rows accumulated : List (List ℕ)) (marks : List Bool) (n : ℕ) → AreTouched rows accumulated marks → length rows ≡ n → marks ≡ differences rows accumulated n
@@ -125,18 +114,11 @@ unfolding differences
 differing_from rows accumulated marks n is size =
     list_is (λ i. not (bytes_eq (get_or accumulated i []) (get_or rows i []))) marks false n (is.marks ∙ size) (λ k lt. is.differ k (omega (arith, size)))
 
-same_text : (x : List ℕ) → bytes_eq x x ≡ true
-same_text x = grind (arith, bytes_eq-Decides)
-
-max_same : (xs : List ℕ) → max_each xs xs ≡ xs
-max_same [] = refl
-max_same (x ∷ xs) = let e : max x x ≡ x = omega arith in rw (e, max_same xs) refl
-
 -- rows differ nowhere from themselves
 pub none_touched : (rows : List (List ℕ)) (marks : List Bool) → length marks ≡ length rows → ((i : ℕ) → get_or marks i false ≡ false) → AreTouched rows rows marks
 none_touched rows marks count off = record {
   count = refl;
   marks = count;
-  above = λ i lt. max_same (get_or rows i []);
-  differ = λ i lt. off i ∙ sym (ap not (same_text (get_or rows i [])));
+  above = λ i lt. max_each-repeats (get_or rows i []);
+  differ = λ i lt. off i ∙ sym (ap not ((bytes_eq-Decides (get_or rows i []) (get_or rows i [])).1 refl));
 }

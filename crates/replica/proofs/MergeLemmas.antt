@@ -1,11 +1,11 @@
 -- What two replicas of one partition know, taken together.
-use Rattle.std.proofs.Common.{◌≡◌, ℕ, zero, suc, ◌+◌, ◌-◌, ◌%◌, ◌^◌, ◌<◌, ◌≤◌, max, min, ◌==◌, nat_le, nat_lt, not, Bool, true, false, ◌&&◌, ◌||◌, if◌then◌else◌, List, [], ◌∷◌, length, map, get_or, refl, ap, arith, sym, ◌∙◌, inl, inr, subst, is_some, IfSome, ◌⊎◌}
+use Rattle.std.proofs.Common.{◌≡◌, ℕ, zero, suc, ◌+◌, ◌-◌, ◌%◌, ◌^◌, ◌<◌, ◌≤◌, max, min, ◌==◌, nat_le, not, Bool, true, false, ◌&&◌, ◌||◌, if◌then◌else◌, List, [], ◌∷◌, length, map, get_or, refl, ap, arith, sym, ◌∙◌, inl, inr, subst, is_some, IfSome, ◌⊎◌}
 use Rattle.std.specs.Prelude.{Option, Some, None}
 use Rattle.std.specs.List.{zip}
 use Rattle.std.specs.Str.{bytes_eq}
-use Rattle.std.proofs.lemmas.Bool.{cases_lt, cases_eq}
-use Rattle.std.proofs.lemmas.Bool.Decides.{nat_tests}
+use Rattle.std.proofs.lemmas.Bool.{cases_lt, cases_eq, lt-leb, le-leb, lt-ltb, le-ltb}
 use Rattle.std.proofs.lemmas.List.FromFn.{get_or-map-range_with_len, length-map-range_with_len}
+use Rattle.std.proofs.Math.Bool.{or_comm, and-or_distrib_right}
 use Rattle.ball_model.specs.Accumulated.{accumulated_of}
 use Rattle.ball_model.specs.Counter.{max_each}
 use Rattle.ball_model.specs.PlanValue.{PlanValue}
@@ -28,6 +28,7 @@ use Rattle.replica.proofs.EarlyLemmas.{no_level, no_source}
 use Rattle.replica.proofs.HearLemmas.{any_or, any_same}
 use Rattle.replica.proofs.RiseLemmas.{max_rises, all_on, rise_counters}
 use Rattle.replica.proofs.StateLemmas.{sources_more}
+use Rattle.replica.proofs.OptionLemmas.{not_none}
 
 -- ---- one or the other
 
@@ -38,16 +39,10 @@ some_either : (a b : Option BatchValue) → is_some (either a b) ≡ (is_some a 
 some_either None b = refl
 some_either (Some a) b = refl
 
-or_turn : (a b : Bool) → (a || b) ≡ (b || a)
-or_turn true true = refl
-or_turn true false = refl
-or_turn false true = refl
-or_turn false false = refl
-
 some_of : (a b c : Option BatchValue) → IsEither a b c → is_some c ≡ (is_some a || is_some b)
 some_of a b c e = elim e [
   | inl left ↦ ap is_some left ∙ some_either a b
-  | inr right ↦ ap is_some right ∙ some_either b a ∙ or_turn (is_some b) (is_some a)
+  | inr right ↦ ap is_some right ∙ some_either b a ∙ or_comm (is_some b) (is_some a)
 ]
 
 either_if : (P : BatchValue → Type 0) (a b : Option BatchValue) → IfSome a P → IfSome b P → IfSome (either a b) P
@@ -88,12 +83,6 @@ pub record Gathers (log2m : ℕ) (f l w : State) : Type 0 where
   pub early : (i q : ℕ) → IsEither (early_at f.early i q) (early_at l.early (i + 1 + (f.superstep - l.superstep - 1)) q) (early_at w.early i q)
   pub table : IsTable f.part.plan.parts w.early
 
-le_no : (a b : ℕ) → b < a → nat_le a b ≡ false
-le_no a b lt = grind (arith, nat_tests)
-
-le_yes : (a b : ℕ) → a ≤ b → nat_le a b ≡ true
-le_yes a b le = grind (arith, nat_tests)
-
 -- the names
 pub gathers_names : (log2m : ℕ) (f l w : State) → Gathers log2m f l w → (s q : ℕ) → (content_of w).holds s q ≡ (nat_le f.superstep s && ((content_of f).holds s q || (content_of l).holds s q))
 gathers_names log2m f l w g s q =
@@ -102,7 +91,7 @@ gathers_names log2m f l w g s q =
     let lt = g.lt in
     ap (λ k. holds_in k w.heard w.early s q) g.shown.superstep
     ∙ elim (cases_lt s m) [
-      | inl before ↦ holds_before m w.heard w.early s q before ∙ sym (ap (λ b. b && (holds_in m f.heard f.early s q || holds_in n l.heard l.early s q)) (le_no m s before))
+      | inl before ↦ holds_before m w.heard w.early s q before ∙ sym (ap (λ b. b && (holds_in m f.heard f.early s q || holds_in n l.heard l.early s q)) (lt-leb m s before))
       | inr from ↦
           elim (cases_eq s m) [
             | inl here ↦
@@ -118,7 +107,7 @@ gathers_names log2m f l w g s q =
                 ∙ ap (λ b. b || is_some (early_at l.early (s - (m + 1) + 1 + (m - n - 1)) q)) (sym (holds_later m f.heard f.early s q more))
                 ∙ ap (λ b. holds_in m f.heard f.early s q || b) (ap is_some (same_early l.early (s - (m + 1) + 1 + (m - n - 1)) (s - (n + 1)) q gap) ∙ sym (holds_later n l.heard l.early s q (omega arith)))
           ]
-          ∙ sym (ap (λ b. b && (holds_in m f.heard f.early s q || holds_in n l.heard l.early s q)) (le_yes m s from))
+          ∙ sym (ap (λ b. b && (holds_in m f.heard f.early s q || holds_in n l.heard l.early s q)) (le-leb m s from))
     ]
 
 -- what is true stays true
@@ -165,11 +154,8 @@ early_union plan p m n k a b c ea eb at table union = record {
 some_source : (parts : ℕ) (early : List (List (Option BatchValue))) (i q : ℕ) → IsTable parts early → is_some (early_at early i q) ≡ true → q < parts
 some_source parts early i q is on = elim (cases_lt q parts) [
   | inl lt ↦ lt
-  | inr out ↦ absurd (no_none (early_at early i q) on (no_source parts early i q is out))
+  | inr out ↦ absurd (not_none (early_at early i q) on (no_source parts early i q is out))
 ]
-  where
-    no_none : (o : Option BatchValue) → is_some o ≡ true → o ≡ None → ⊥
-    no_none o e f = let g : is_some o ≡ false = ap is_some f in absurd (cc)
 
 -- the limits
 pub gathers_state : (f l w : State) → IsState f → IsState l → Gathers f.part.plan.log2m f l w → l.part.plan ≡ f.part.plan → l.part.number ≡ f.part.number → w.part.plan ≡ f.part.plan → w.part.number ≡ f.part.number → length w.part.preds ≡ length f.part.preds → IsPart w.part → IsState w
@@ -209,25 +195,22 @@ length-flags (x ∷ a) [] e = absurd (omega arith)
 length-flags (x ∷ a) (y ∷ b) e = ap suc (length-flags a b (omega arith))
 
 -- row by row the maximum of two
-max_rows : List (List ℕ) → List (List ℕ) → List (List ℕ)
-max_rows a b = map (λ p. max_each p.0 p.1) (zip a b)
+maxima_at : (a b : List (List ℕ)) (i : ℕ) → i < length a → length a ≡ length b → get_or (map (λ p. max_each p.0 p.1) (zip a b)) i [] ≡ max_each (get_or a i []) (get_or b i [])
+maxima_at [] b i lt e = absurd (omega arith)
+maxima_at (x ∷ a) [] i lt e = absurd (omega arith)
+maxima_at (x ∷ a) (y ∷ b) zero lt e = refl
+maxima_at (x ∷ a) (y ∷ b) (suc i) lt e = maxima_at a b i (omega arith) (omega arith)
 
-rows_at : (a b : List (List ℕ)) (i : ℕ) → i < length a → length a ≡ length b → get_or (map (λ p. max_each p.0 p.1) (zip a b)) i [] ≡ max_each (get_or a i []) (get_or b i [])
-rows_at [] b i lt e = absurd (omega arith)
-rows_at (x ∷ a) [] i lt e = absurd (omega arith)
-rows_at (x ∷ a) (y ∷ b) zero lt e = refl
-rows_at (x ∷ a) (y ∷ b) (suc i) lt e = rows_at a b i (omega arith) (omega arith)
-
-length-rows : (a b : List (List ℕ)) → length a ≡ length b → length (map (λ p. max_each p.0 p.1) (zip a b)) ≡ length a
-length-rows [] b e = refl
-length-rows (x ∷ a) [] e = absurd (omega arith)
-length-rows (x ∷ a) (y ∷ b) e = ap suc (length-rows a b (omega arith))
+length-maxima : (a b : List (List ℕ)) → length a ≡ length b → length (map (λ p. max_each p.0 p.1) (zip a b)) ≡ length a
+length-maxima [] b e = refl
+length-maxima (x ∷ a) [] e = absurd (omega arith)
+length-maxima (x ∷ a) (y ∷ b) e = ap suc (length-maxima a b (omega arith))
 
 -- they rise
 pub max_rise : (log2m : ℕ) (a b : List (List ℕ)) → AreCounters log2m a → AreCounters log2m b → length a ≡ length b → AllRise log2m a (map (λ p. max_each p.0 p.1) (zip a b))
 max_rise log2m a b p q e = record {
-  count = length-rows a b e;
-  rises = λ i lt. rw (rows_at a b i lt e) (max_rises log2m (get_or a i []) (get_or b i []) (p.row i lt) (q.row i (omega arith)));
+  count = length-maxima a b e;
+  rises = λ i lt. rw (maxima_at a b i lt e) (max_rises log2m (get_or a i []) (get_or b i []) (p.row i lt) (q.row i (omega arith)));
 }
 
 pub record Unites (v o w : State) : Type 0 where
@@ -248,7 +231,7 @@ unites_names v o w sv so u s q =
     let theirs : holds_in m o.heard o.early s q ≡ (content_of o).holds s q = ap (λ k. holds_in k o.heard o.early s q) u.level in
     ap (λ k. holds_in k w.heard w.early s q) u.shown.superstep
     ∙ elim (cases_lt s m) [
-      | inl before ↦ holds_before m w.heard w.early s q before ∙ sym (ap (λ b. b && (holds_in m v.heard v.early s q || holds_in m o.heard o.early s q)) (le_no m s before))
+      | inl before ↦ holds_before m w.heard w.early s q before ∙ sym (ap (λ b. b && (holds_in m v.heard v.early s q || holds_in m o.heard o.early s q)) (lt-leb m s before))
       | inr from ↦
           elim (cases_eq s m) [
             | inl here ↦
@@ -262,22 +245,15 @@ unites_names v o w sv so u s q =
                 ∙ ap (λ b. b || is_some (early_at o.early (s - (m + 1)) q)) (sym (holds_later m v.heard v.early s q more))
                 ∙ ap (λ b. holds_in m v.heard v.early s q || b) (sym (holds_later m o.heard o.early s q more))
           ]
-          ∙ sym (ap (λ b. b && (holds_in m v.heard v.early s q || holds_in m o.heard o.early s q)) (le_yes m s from))
+          ∙ sym (ap (λ b. b && (holds_in m v.heard v.early s q || holds_in m o.heard o.early s q)) (le-leb m s from))
     ]
     ∙ ap (λ b. nat_le m s && (holds_in m v.heard v.early s q || b)) theirs
-
-and_or : (a b c : Bool) → ((a || b) && c) ≡ ((a && c) || (b && c))
-and_or true true true = refl
-and_or true true false = refl
-and_or true false true = refl
-and_or true false false = refl
-and_or false b c = refl
 
 changes_or : (j : Job) (t : ℕ) (a b c : List Bool) → ((q : ℕ) → get_or c q false ≡ (get_or a q false || get_or b q false)) → heard_changes j t c ≡ (heard_changes j t a || heard_changes j t b)
 unfolding heard_changes
 changes_or j t a b c is =
     let d : ℕ → Bool = λ q. not (changed_count j t q == 0) in
-    any_same (λ q. get_or c q false && d q) (λ q. (get_or a q false && d q) || (get_or b q false && d q)) 0 j.plan.parts j.plan.parts (omega arith) (λ q _. ap (λ e. e && d q) (is q) ∙ and_or (get_or a q false) (get_or b q false) (d q))
+    any_same (λ q. get_or c q false && d q) (λ q. (get_or a q false && d q) || (get_or b q false && d q)) 0 j.plan.parts j.plan.parts (omega arith) (λ q _. ap (λ e. e && d q) (is q) ∙ and-or_distrib_right (get_or a q false) (get_or b q false) (d q))
     ∙ any_or (λ q. get_or a q false && d q) (λ q. get_or b q false && d q) 0 j.plan.parts
 
 pub unites_stands : (v o w : State) → IsState v → IsState o → Unites v o w → w.part ≡ v.part → (j : Job) (p t u : ℕ) → StandsFor j p t v → StandsFor j p u o → StandsFor j p t w
@@ -344,12 +320,6 @@ unites_state v o w sv so u plan number part =
 
 -- ---- either way
 
-lt_yes : (a b : ℕ) → a < b → nat_lt a b ≡ true
-lt_yes a b lt = grind (arith, nat_tests)
-
-lt_no : (a b : ℕ) → b ≤ a → nat_lt a b ≡ false
-lt_no a b le = grind (arith, nat_tests)
-
 -- the other one is further
 pub absorbs_further : (log2m : ℕ) (v o w : State) → Gathers log2m o v w → w.part ≡ v.part → Absorbs v o w
 absorbs_further log2m v o w g part =
@@ -357,10 +327,10 @@ absorbs_further log2m v o w g part =
     let top : o.superstep ≡ max v.superstep o.superstep = omega arith in
     record {
       part = part;
-      shown = rw (lt_yes v.superstep o.superstep lt) g.shown;
+      shown = rw (lt-ltb v.superstep o.superstep lt) g.shown;
       names = λ s q.
           gathers_names log2m o v w g s q
-          ∙ ap (λ b. nat_le o.superstep s && b) (or_turn ((content_of o).holds s q) ((content_of v).holds s q))
+          ∙ ap (λ b. nat_le o.superstep s && b) (or_comm ((content_of o).holds s q) ((content_of v).holds s q))
           ∙ ap (λ n. nat_le n s && ((content_of v).holds s q || (content_of o).holds s q)) top;
       stands = λ j p t u h k.
           let at : u ≡ max t u = omega (arith, h.superstep, k.superstep) in
@@ -374,7 +344,7 @@ absorbs_lesser log2m v o w g part =
     let top : v.superstep ≡ max v.superstep o.superstep = omega arith in
     record {
       part = part;
-      shown = rw (lt_no v.superstep o.superstep (omega arith)) g.shown;
+      shown = rw (le-ltb v.superstep o.superstep (omega arith)) g.shown;
       names = λ s q.
           gathers_names log2m v o w g s q
           ∙ ap (λ n. nat_le n s && ((content_of v).holds s q || (content_of o).holds s q)) top;
@@ -390,7 +360,7 @@ absorbs_level v o w sv so u part =
     let top : v.superstep ≡ max v.superstep o.superstep = omega arith in
     record {
       part = part;
-      shown = rw (lt_no v.superstep o.superstep (omega arith)) u.shown;
+      shown = rw (le-ltb v.superstep o.superstep (omega arith)) u.shown;
       names = λ s q.
           unites_names v o w sv so u s q
           ∙ ap (λ n. nat_le n s && ((content_of v).holds s q || (content_of o).holds s q)) top;
@@ -426,8 +396,8 @@ touched_from log2m n rows accumulated marks are rise size is =
 pub further_superstep : (v o : State) → (further v o).superstep ≡ max v.superstep o.superstep
 further_superstep v o =
     elim (cases_lt v.superstep o.superstep) [
-      | inl less ↦ let top : o.superstep ≡ max v.superstep o.superstep = omega arith in ap (λ b. (if b then o else v).superstep) (lt_yes v.superstep o.superstep less) ∙ top
-      | inr more ↦ let top : v.superstep ≡ max v.superstep o.superstep = omega arith in ap (λ b. (if b then o else v).superstep) (lt_no v.superstep o.superstep more) ∙ top
+      | inl less ↦ let top : o.superstep ≡ max v.superstep o.superstep = omega arith in ap (λ b. (if b then o else v).superstep) (lt-ltb v.superstep o.superstep less) ∙ top
+      | inr more ↦ let top : v.superstep ≡ max v.superstep o.superstep = omega arith in ap (λ b. (if b then o else v).superstep) (le-ltb v.superstep o.superstep more) ∙ top
     ]
 
 -- ---- what is taken over

@@ -1,11 +1,10 @@
 -- A replica one superstep later keeps its limits, whatever the batches say.
-use Rattle.std.proofs.Common.{◌≡◌, ℕ, suc, ◌^◌, ◌≤◌, ◌*◌, ◌<◌, Bool, true, false, not, List, [], ◌∷◌, length, map, get_or, refl, ap, arith, sym, ◌∙◌}
-use Rattle.std.specs.List.{sum_by, range_with_len}
+use Rattle.std.proofs.Common.{◌≡◌, ℕ, suc, ◌^◌, ◌≤◌, ◌*◌, ◌<◌, Bool, false, not, List, [], ◌∷◌, length, map, get_or, refl, ap, arith, sym, ◌∙◌}
+use Rattle.std.specs.List.{sum_by, range_with_len, sum}
 use Rattle.std.specs.Str.{bytes_eq}
 use Rattle.std.proofs.lemmas.List.{length-map, same_lists, get_or-map}
-use Rattle.std.proofs.lemmas.List.Sums.{sum_by-cons}
+use Rattle.std.proofs.lemmas.List.Sums.{sum_by-cons, sum-map}
 use Rattle.std.proofs.lemmas.List.FromFn.{length-map-range_with_len, get_or-map-range_with_len}
-use Rattle.std.proofs.lemmas.Slice.Eq.{bytes_eq-Decides}
 use Rattle.ball_model.specs.Laws.{IsCounterRow}
 use Rattle.ball_model.proofs.EstimateLemmas.{estimate_fits}
 use Rattle.ball_model.specs.Figures.{TallyValue, estimate_of}
@@ -13,19 +12,12 @@ use Rattle.figures.specs.declared.tally.Tally.{Tally}
 use Rattle.figures.specs.Values.{value_of}
 use Rattle.replica.specs.Level.{differences, next_tally, next_tallies, nothing, total_of}
 use Rattle.replica.specs.Kept.{AreLasts, AreCounters, AllRise}
-use Rattle.replica.proofs.RiseLemmas.{rise_estimate}
+use Rattle.replica.proofs.RiseLemmas.{rise_estimate, same_registers}
 
 last_at : (log2m : ℕ) (rows : List (List ℕ)) (tallies : List TallyValue) (i : ℕ) → map (λ t. t.last) tallies ≡ map (estimate_of log2m) rows → i < length rows → (get_or tallies i nothing).last ≡ estimate_of log2m (get_or rows i [])
 last_at log2m rows tallies i same lt =
     let long : length tallies ≡ length rows = sym (length-map tallies (λ (t : TallyValue). t.last)) ∙ ap length same ∙ length-map rows (estimate_of log2m) in
     sym (get_or-map (λ (t : TallyValue). t.last) tallies i nothing 0 (omega arith)) ∙ ap (λ (l : List ℕ). get_or l i 0) same ∙ get_or-map (estimate_of log2m) rows i [] 0 lt
-
-unmarked : (a b : List ℕ) → not (bytes_eq a b) ≡ false → a ≡ b
-unmarked a b e = grind (arith, bytes_eq-Decides, was_so)
-  where
-    was_so : (c : Bool) → not c ≡ false → c ≡ true
-    was_so true e = refl
-    was_so false e = absurd (cc)
 
 -- what the step of the figures asks for
 pub next_lasts : (log2m : ℕ) (old new : List (List ℕ)) (tallies : List TallyValue) (n : ℕ) → AreCounters log2m old → AllRise log2m old new → map (λ t. t.last) tallies ≡ map (estimate_of log2m) old → n ≡ length old →
@@ -36,7 +28,7 @@ next_lasts log2m old new tallies n are rise lasts size = record {
   same = λ i lt off.
       let F : ℕ → Bool = λ k. not (bytes_eq (get_or new k []) (get_or old k [])) in
       let at : get_or (map F (range_with_len 0 n)) i false ≡ F i = get_or-map-range_with_len F 0 n i i false (omega (arith, size, rise.count)) (omega arith) in
-      last_at log2m old tallies i lasts (omega (arith, rise.count)) ∙ ap (estimate_of log2m) (sym (unmarked (get_or new i []) (get_or old i []) (sym at ∙ off)));
+      last_at log2m old tallies i lasts (omega (arith, rise.count)) ∙ ap (estimate_of log2m) (sym (same_registers (get_or new i []) (get_or old i []) (sym at ∙ off)));
 }
 
 -- the last estimates are those of the rows
@@ -54,13 +46,7 @@ stepped_lasts log2m t rows old n count =
     ∙ sym (get_or-map (estimate_of log2m) rows k [] d (omega arith)))
 
 pub sum_same : {A B : Type 0} (f : A → ℕ) (g : B → ℕ) (xs : List A) (ys : List B) → map f xs ≡ map g ys → sum_by f xs ≡ sum_by g ys
-sum_same f g [] [] e = refl
-sum_same f g [] (y ∷ ys) e = absurd (cc)
-sum_same f g (x ∷ xs) [] e = absurd (cc)
-sum_same f g (x ∷ xs) (y ∷ ys) e =
-    let here : f x ≡ g y = cc in
-    let rest : map f xs ≡ map g ys = cc in
-    sum_by-cons f x xs ∙ rw (here, sum_same f g xs ys rest) (sym (sum_by-cons g y ys))
+sum_same f g xs ys e = sym (sum-map f xs) ∙ ap sum e ∙ sum-map g ys
 
 pub map_lasts : (ts : List Tally) → map (λ tally. tally.last) ts ≡ map (λ (v : TallyValue). v.last) (map value_of ts)
 map_lasts [] = refl

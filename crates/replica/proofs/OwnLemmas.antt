@@ -1,20 +1,16 @@
 -- The vertices of a partition, by their places.
-use Rattle.std.proofs.Common.{◌≡◌, ℕ, zero, suc, ◌+◌, ◌-◌, ◌*◌, ◌/◌, ◌%◌, ◌<◌, ◌≤◌, Bool, true, false, ◌&&◌, ◌==◌, List, [], ◌∷◌, length, map, get_or, nat_lt, if◌then◌else◌, ap, arith, sym, ◌∙◌, subst}
-use Rattle.std.specs.List.{list_any, range_with_len, filter, AllByRecursion}
+use Rattle.std.proofs.Common.{◌≡◌, ℕ, zero, suc, ◌+◌, ◌-◌, ◌*◌, ◌/◌, ◌%◌, ◌<◌, ◌≤◌, true, ◌&&◌, ◌==◌, List, length, map, get_or, nat_lt, ap, arith, sym, ◌∙◌, subst, refl}
+use Rattle.std.specs.List.{list_any, range_with_len, AllByRecursion}
 use Rattle.std.proofs.Math.Nat.{le-div_iff_mul-le, mul-add-mod_self_right, mod-eq_of_lt}
 use Rattle.std.proofs.lemmas.Nat.{div-add-mod'}
 use Rattle.std.proofs.lemmas.List.{get_or-map}
-use Rattle.std.proofs.lemmas.Bool.Decides.{nat_tests}
 use Rattle.std.proofs.lemmas.List.FromFn.{length-range_with_len, length-map-range_with_len, get_or-map-range_with_len}
+use Rattle.std.proofs.lemmas.List.Sums.{length-filter, count_by-le-length}
+use Rattle.std.proofs.lemmas.Bool.{eq-eqb, and_from, eqb-true, ltb-true, lt-ltb}
+use Rattle.std.specs.Cmp.{both_ways, first_so, second_so}
 use Rattle.ball_model.specs.PlanValue.{vertices_of, part_size}
-use Rattle.ball_model.proofs.PathLemmas.{any_range, range_any, any_filter, and_both, and_left, and_right, same_true, same_bool, eq_true}
+use Rattle.ball_model.proofs.PathLemmas.{any_range, range_any, any_filter}
 use Rattle.ball_model.proofs.PartLemmas.{vertices_of-strided, part_size-is}
-
-lt_from : (a b : ℕ) → nat_lt a b ≡ true → a < b
-lt_from a b e = grind (arith, nat_tests)
-
-lt_to : (a b : ℕ) → a < b → nat_lt a b ≡ true
-lt_to a b e = grind (arith, nat_tests)
 
 -- vertex i of partition p
 abbrev pub vertex_of : ℕ → ℕ → ℕ → ℕ
@@ -46,7 +42,7 @@ pub is_vertex : (n parts z : ℕ) → z < n → list_any (λ k. k == z) (vertice
 unfolding vertices_of
 is_vertex n parts z lt =
     any_filter (λ k. k == z) (λ v. v % parts == z % parts) (range_with_len 0 n)
-    ∙ any_range (λ k. (k % parts == z % parts) && (k == z)) 0 n z (omega arith) (omega arith) (and_both _ _ (same_true (z % parts)) (same_true z))
+    ∙ any_range (λ k. (k % parts == z % parts) && (k == z)) 0 n z (omega arith) (omega arith) (and_from _ _ (eq-eqb (z % parts) (z % parts) refl) (eq-eqb z z refl))
 
 -- what is made of the vertex at place i
 pub at_own : {X : Type 0} (f : ℕ → X) (n parts p i : ℕ) (d : X) → p < parts → i < part_size n parts p → get_or (map f (vertices_of n parts p)) i d ≡ f (vertex_of parts p i)
@@ -68,24 +64,16 @@ all_own P n parts p below h =
     subst (λ (l : List ℕ). AllByRecursion P l) (sym (vertices_of-strided n parts p below))
     (all_mapped P g 0 (part_size n parts p) (part_size n parts p) (omega arith) (λ i lt. h (vertex_of parts p i) (own_below n parts p i below lt)))
 
-filter_one : (b : Bool) (x : ℕ) (rest : List ℕ) (n : ℕ) → length rest ≤ n → length (if b then (x ∷ rest) else rest) ≤ suc n
-filter_one true x rest n le = omega arith
-filter_one false x rest n le = omega arith
-
-filter_short : (p : ℕ → Bool) (xs : List ℕ) → length (filter p xs) ≤ length xs
-filter_short p [] = omega arith
-filter_short p (x ∷ xs) = filter_one (p x) x (filter p xs) (length xs) (filter_short p xs)
-
 -- a partition has at most all vertices
 pub part_size_le : (n parts p : ℕ) → part_size n parts p ≤ n
 unfolding vertices_of
-part_size_le n parts p = omega (arith, filter_short (λ v. v % parts == p) (range_with_len 0 n), length-range_with_len 0 n)
+part_size_le n parts p = omega (arith, length-filter (λ v. v % parts == p) (range_with_len 0 n), count_by-le-length (λ v. v % parts == p) (range_with_len 0 n), length-range_with_len 0 n)
 
 owned : (x n parts p : ℕ) → list_any (λ k. (k % parts == p) && (k == x)) (range_with_len 0 n) ≡ true → (x < n) × (x % parts ≡ p)
 owned x n parts p e =
     let found = range_any (λ k. (k % parts == p) && (k == x)) 0 n e in
-    let same : found.0 ≡ x = eq_true found.0 x (and_right (found.0 % parts == p) (found.0 == x) found.3) in
-    let mine : found.0 % parts ≡ p = eq_true (found.0 % parts) p (and_left (found.0 % parts == p) (found.0 == x) found.3) in
+    let same : found.0 ≡ x = eqb-true found.0 x (second_so (found.0 % parts == p) (found.0 == x) found.3) in
+    let mine : found.0 % parts ≡ p = eqb-true (found.0 % parts) p (first_so (found.0 % parts == p) (found.0 == x) found.3) in
     (omega (arith, found.2, same), subst (λ (k : ℕ). k % parts ≡ p) same mine)
 
 -- a partition owns a vertex where it is a vertex, and of that partition
@@ -93,7 +81,7 @@ pub owns_is : (x n parts p : ℕ) → list_any (λ v. v == x) (vertices_of n par
 unfolding vertices_of
 owns_is x n parts p =
     any_filter (λ v. v == x) (λ v. v % parts == p) (range_with_len 0 n)
-    ∙ same_bool _ _
-    (λ e. let o = owned x n parts p e in and_both (nat_lt x n) (x % parts == p) (lt_to x n o.0) (rw o.1 (same_true p)))
-    (λ e. let lt : x < n = lt_from x n (and_left (nat_lt x n) (x % parts == p) e) in
-    any_range (λ k. (k % parts == p) && (k == x)) 0 n x (omega arith) (omega arith) (and_both _ _ (and_right (nat_lt x n) (x % parts == p) e) (same_true x)))
+    ∙ both_ways _ _
+    (λ e. let o = owned x n parts p e in and_from (nat_lt x n) (x % parts == p) (lt-ltb x n o.0) (rw o.1 (eq-eqb p p refl)))
+    (λ e. let lt : x < n = ltb-true x n (first_so (nat_lt x n) (x % parts == p) e) in
+    any_range (λ k. (k % parts == p) && (k == x)) 0 n x (omega arith) (omega arith) (and_from _ _ (second_so (nat_lt x n) (x % parts == p) e) (eq-eqb x x refl)))

@@ -1,5 +1,5 @@
 -- What a replica tells of a vertex, where it stands for its content.
-use Rattle.std.proofs.Common.{◌≡◌, ℕ, ◌^◌, suc, ◌/◌, ◌%◌, ◌<◌, ◌≤◌, Bool, true, false, List, [], ◌∷◌, length, map, get_or, if◌then◌else◌, refl, ap, arith, sym, ◌∙◌}
+use Rattle.std.proofs.Common.{◌≡◌, ℕ, suc, ◌/◌, ◌%◌, ◌<◌, ◌≤◌, Bool, true, false, List, [], ◌∷◌, length, map, get_or, if◌then◌else◌, refl, ap, arith, sym, ◌∙◌}
 use Rattle.std.specs.List.{count_by, filter}
 use Rattle.std.proofs.lemmas.List.Sums.{length-filter}
 use Rattle.ball_model.specs.Counter.{ball_counter}
@@ -7,7 +7,7 @@ use Rattle.ball_model.specs.Change.{changed_at}
 use Rattle.std.proofs.lemmas.List.{length-map}
 use Rattle.ball_model.specs.Figures.{TallyValue, estimate_of}
 use Rattle.ball_model.specs.Supersteps.{tally_at}
-use Rattle.ball_model.specs.PlanValue.{PlanValue, mixing_of, part_size}
+use Rattle.ball_model.specs.PlanValue.{PlanValue, mixing_of, part_size, most_vertices}
 use Rattle.ball_model.specs.Job.{Job}
 use Rattle.ball_model.specs.Batches.{changed_count}
 use Rattle.ball_model.specs.State.{State, StandsFor, rows_of, marks_of, tallies_of, own_vertices}
@@ -84,7 +84,7 @@ place_in v x state lt own =
     omega (arith, state.part.preds)
 
 -- a partition is small
-pub few : (v : State) → IsState v → length v.part.preds ≤ 2 ^ 24
+pub few : (v : State) → IsState v → length v.part.preds ≤ most_vertices
 few v state = omega (arith, state.part.preds, part_size_le v.part.plan.vertices v.part.plan.parts v.part.number, state.part.plan.vertices_to)
 
 -- figures for each vertex

@@ -1,22 +1,23 @@
 -- Whatever the batches say, rows keep their shape, and no register falls.
-use Rattle.std.proofs.Common.{◌≡◌, ℕ, zero, suc, ◌/◌, ◌<◌, ◌≤◌, Bool, true, false, if◌then◌else◌, List, [], ◌∷◌, length, map, ◌+◌, ◌*◌, get_or, refl, ap, arith, sym, ◌∙◌, subst}
-use Rattle.std.specs.List.{All, filter, range_with_len}
+use Rattle.std.proofs.Common.{◌≡◌, ℕ, zero, suc, ◌<◌, ◌≤◌, Bool, true, false, if◌then◌else◌, List, [], ◌∷◌, length, map, ◌+◌, ◌*◌, get_or, refl, arith, sym, ◌∙◌, subst, not}
+use Rattle.std.specs.List.{filter, range_with_len}
 use Rattle.std.proofs.lemmas.List.FromFn.{length-map-range_with_len, get_or-map-range_with_len}
+use Rattle.std.proofs.lemmas.List.Elements.{All-from_get_or}
+use Rattle.std.specs.Str.{bytes_eq}
+use Rattle.std.proofs.lemmas.Slice.Eq.{bytes_eq-Decides}
+use Rattle.std.proofs.lemmas.Bool.{not-false}
+use Rattle.registers.proofs.MaxLemmas.{length-max_each}
 use Rattle.ball_model.specs.Counter.{max_each}
 use Rattle.ball_model.specs.Laws.{IsCounterRow}
 use Rattle.ball_model.specs.Figures.{estimate_of}
 use Rattle.ball_model.specs.Batches.{BatchValue, IsBatch}
-use Rattle.ball_model.specs.PlanValue.{part_size}
-use Rattle.ball_model.specs.Job.{PartValue, IsPart}
 use Rattle.ball_model.proofs.EstimateLemmas.{estimate_of-grows_wide}
 use Rattle.replica.specs.Spread.{stands_in, row_after, rows_after, rows_after_all, marked_rows}
-use Rattle.replica.specs.Kept.{AreCounters, Rises, AllRise, IsOwn}
-use Rattle.replica.proofs.OwnLemmas.{place_below}
+use Rattle.replica.specs.Kept.{AreCounters, RowRises, AllRise}
 
-length-max : (xs ys : List ℕ) → length xs ≡ length ys → length (max_each xs ys) ≡ length xs
-length-max [] ys e = refl
-length-max (x ∷ xs) [] e = absurd (omega arith)
-length-max (x ∷ xs) (y ∷ ys) e = ap suc (length-max xs ys (omega arith))
+-- registers that differ nowhere are the same
+pub same_registers : (a b : List ℕ) → not (bytes_eq a b) ≡ false → a ≡ b
+same_registers a b e = (bytes_eq-Decides a b).0 (not-false (bytes_eq a b) e)
 
 max_at : (xs ys : List ℕ) (k : ℕ) → length xs ≡ length ys → get_or xs k 0 ≤ get_or (max_each xs ys) k 0
 max_at [] ys k e = omega arith
@@ -30,49 +31,24 @@ max_all b (x ∷ xs) [] hx hy k lt = omega arith
 max_all b (x ∷ xs) (y ∷ ys) hx hy zero lt = let p : x ≤ b = hx 0 (omega arith) in let q : y ≤ b = hy 0 (omega arith) in omega arith
 max_all b (x ∷ xs) (y ∷ ys) hx hy (suc k) lt = max_all b xs ys (λ i l. hx (suc i) (omega arith)) (λ i l. hy (suc i) (omega arith)) k (omega arith)
 
-ranks_to : (row : List ℕ) → ((k : ℕ) → k < length row → get_or row k 0 ≤ 33) → All (λ r. r ≤ 33) row
-ranks_to row h k d lt = subst (λ (r : ℕ). r ≤ 33) (same row k d lt) (h k lt)
-  where
-    same : (xs : List ℕ) (k d : ℕ) → k < length xs → get_or xs k 0 ≡ get_or xs k d
-    same [] k d lt = absurd (omega arith)
-    same (x ∷ xs) zero d lt = refl
-    same (x ∷ xs) (suc k) d lt = same xs k d (omega arith)
-
 -- the maximum of two rows
-pub max_rises : (b : ℕ) (old other : List ℕ) → IsCounterRow b old → IsCounterRow b other → Rises b old (max_each old other)
+pub max_rises : (b : ℕ) (old other : List ℕ) → IsCounterRow b old → IsCounterRow b other → RowRises b old (max_each old other)
 max_rises b old other p q =
     let same : length old ≡ length other = p.width ∙ sym q.width in
     record {
-      row = record { from = p.from; to = p.to; width = length-max old other same ∙ p.width; ranks = ranks_to (max_each old other) (max_all 33 old other (λ k lt. p.ranks k 0 lt) (λ k lt. q.ranks k 0 lt)) };
+      row = record { from = p.from; to = p.to; width = omega (arith, length-max_each old other, same, p.width); ranks = All-from_get_or (λ r. r ≤ 33) (max_each old other) 0 (max_all 33 old other (λ k lt. p.ranks k 0 lt) (λ k lt. q.ranks k 0 lt)) };
       grew = λ k lt. max_at old other k same;
     }
 
-stays : (b : ℕ) (old : List ℕ) → IsCounterRow b old → Rises b old old
+stays : (b : ℕ) (old : List ℕ) → IsCounterRow b old → RowRises b old old
 stays b old p = record { row = p; grew = λ k lt. omega arith }
 
 -- one rise after another
-rises_on : (b : ℕ) (x y z : List ℕ) → IsCounterRow b x → Rises b x y → Rises b y z → Rises b x z
+rises_on : (b : ℕ) (x y z : List ℕ) → IsCounterRow b x → RowRises b x y → RowRises b y z → RowRises b x z
 rises_on b x y z p f g = record {
   row = g.row;
   grew = λ k lt. let l : length x ≡ length y = p.width ∙ sym f.row.width in omega (arith, f.grew k lt, g.grew k (omega arith));
 }
-
--- where z is of the partition, its place is below the number of its vertices
-pub is_own : (v : PartValue) (count z : ℕ) → IsPart v → count ≡ length v.preds → z < v.plan.vertices → IsOwn v.plan.parts v.number count z
-is_own v count z ok size lt = record {
-  below = λ mine.
-      let some : 1 ≤ v.plan.parts = ok.plan.parts_from in
-      let at : z / v.plan.parts < part_size v.plan.vertices v.plan.parts v.number = rw (← mine) (place_below v.plan.vertices v.plan.parts z some lt) in
-      omega (arith, ok.preds);
-}
-
--- a part's predecessors are vertices
-pub pred_below : (v : PartValue) (i k : ℕ) → IsPart v → i < length v.preds → k < length (get_or v.preds i []) → get_or (get_or v.preds i []) k 0 < v.plan.vertices
-pred_below v i k ok lt in_list = ok.below i [] lt k 0 in_list
-
--- a predecessor that is yielded is a vertex
-pub is_pred : (bound : ℕ) (zs : List ℕ) (k z : ℕ) → All (λ y. y < bound) zs → k < length zs → z ≡ get_or zs k z → z < bound
-is_pred bound zs k z below in_list at = rw at (below k z in_list)
 
 pub rise_counters : (log2m : ℕ) (old new : List (List ℕ)) → AllRise log2m old new → AreCounters log2m new
 rise_counters log2m old new h = record { row = λ i lt. (h.rises i (omega (arith, h.count))).row }
@@ -88,7 +64,7 @@ all_on b x y z p f g = record {
   rises = λ i lt. rises_on b (get_or x i []) (get_or y i []) (get_or z i []) (p.row i lt) (f.rises i lt) (g.rises i (omega (arith, f.count)));
 }
 
-spread_rise : (here : Bool) (b : ℕ) (row other : List ℕ) → IsCounterRow b row → IsCounterRow b other → Rises b row (if here then max_each row other else row)
+spread_rise : (here : Bool) (b : ℕ) (row other : List ℕ) → IsCounterRow b row → IsCounterRow b other → RowRises b row (if here then max_each row other else row)
 spread_rise true b row other p q = max_rises b row other p q
 spread_rise false b row other p q = stays b row p
 

@@ -1,8 +1,7 @@
 -- Whole runs.
 use Rattle.std.proofs.Common.{◌≡◌, ℕ, zero, suc, ◌+◌, ◌/◌, ◌%◌, ◌<◌, ◌≤◌, nat_le, max, Bool, true, false, not, ◌&&◌, ◌==◌, if◌then◌else◌, List, [], ◌∷◌, length, get_or, refl, ap, arith, sym, ◌∙◌, subst, inl, inr}
 use Rattle.std.specs.Prelude.{Option, None, Some, Result, Ok, Err, OnOk, OnErr, IsTrue}
-use Rattle.std.proofs.lemmas.Bool.{cases_lt}
-use Rattle.std.proofs.lemmas.Bool.Decides.{nat_tests}
+use Rattle.std.proofs.lemmas.Bool.{cases_lt, eq-eqb, leb-true, le-leb}
 use Rattle.ball_model.specs.declared.names.BatchName.{BatchName}
 use Rattle.ball_model.specs.declared.names.Taken.{Taken}
 use Rattle.ball_model.specs.declared.names.TakeError.{TakeError}
@@ -12,21 +11,23 @@ use Rattle.ball_model.specs.declared.names.Verdict.TheVariants as verdict
 use Rattle.ball_model.specs.Graph.{Graph, IsGraph, is_path, in_ball, is_counted}
 use Rattle.ball_model.specs.Counter.{Mixing, counter_of, ball_counter}
 use Rattle.ball_model.specs.Change.{changed_at, any_changed}
+use Rattle.ball_model.specs.Supersteps.{end_of}
 use Rattle.ball_model.specs.PlanValue.{PlanValue, mixing_of, part_size}
 use Rattle.ball_model.specs.Job.{Job}
 use Rattle.ball_model.specs.Content.{Content, take_of, is_new, after_take, missing_of, verdict_unless, verdict_at, verdict_of, close_of, after_close, same_plan}
 use Rattle.ball_model.specs.State.{State, StandsFor, content_of}
-use Rattle.ball_model.proofs.PathLemmas.{same_true, in_ball-found, in_ball-finds, in_ball-grows, same_bool}
+use Rattle.ball_model.proofs.PathLemmas.{in_ball-found, in_ball-finds, in_ball-grows}
 use Rattle.ball_model.proofs.CounterLemmas.{counter_of-same}
 use Rattle.ball_model.proofs.ChangeLemmas.{changed_next}
 use Rattle.ball_model.proofs.QuietLemmas.{quiet_stays, none_in}
 use Rattle.ball_model.specs.Join.{union_of, merge_of}
 use Rattle.ball_model.specs.Steps.{Call, Take, Close, Merge, Answer, Took, Closed, Merged, answer_of, answers_of, content_after, content_after_all, content_after_close, start_content}
-use Rattle.replica.specs.Runs.{HasContent, Takes, Did, Made}
-use Rattle.std.specs.Str.{bytes_eq}
+use Rattle.replica.specs.Runs.{HasContent, Takes, Did, Made, closes_in}
 use Rattle.std.proofs.lemmas.Slice.Eq.{bytes_eq-Decides}
+use Rattle.std.specs.Cmp.{both_ways}
 use Rattle.replica.proofs.OwnLemmas.{vertex_of, place_below, vertex_at}
 use Rattle.replica.proofs.LevelLemmas.{plan_is, number_is, row_at}
+use Rattle.replica.proofs.RiseLemmas.{same_registers}
 
 -- contents with the same names are the same
 same_content : (v : State) (c : Content) → v.superstep ≡ c.superstep → ((s q : ℕ) → (content_of v).holds s q ≡ c.holds s q) → content_of v ≡ c
@@ -68,16 +69,13 @@ merged j p d (Ok u) c v w h is names stands = record {
 }
 merged j p d (Err e) c v w h is names stands = absurd (cc)
 
-same_text : (x : List ℕ) → bytes_eq x x ≡ true
-same_text x = grind (arith, bytes_eq-Decides)
-
 -- a plan is the same as itself
-same_plan-self : (a : PlanValue) → same_plan a a ≡ true
-same_plan-self a = rw (same_true a.log2m, same_true a.seed, same_true a.parts, same_true a.limit, same_true a.vertices, same_text a.job) refl
+pub same_plan-self : (a : PlanValue) → same_plan a a ≡ true
+same_plan-self a = rw (eq-eqb a.log2m a.log2m refl, eq-eqb a.seed a.seed refl, eq-eqb a.parts a.parts refl, eq-eqb a.limit a.limit refl, eq-eqb a.vertices a.vertices refl, (bytes_eq-Decides a.job a.job).1 refl) refl
 
 -- a replica and one of the same partition of the job
 pub same_job : (p : ℕ) (plan : PlanValue) → merge_of plan p plan p ≡ Ok tt
-same_job p plan = rw (same_plan-self plan, same_true p) refl
+same_job p plan = rw (same_plan-self plan, eq-eqb p p refl) refl
 
 -- one call: its answer, and the content after it
 did : (j : Job) (p : ℕ) (call : Call) (answer : Answer) (c : Content) (v w : State) → HasContent j p c v → Did j p call answer v w → (answer ≡ answer_of j p c call) × HasContent j p (content_after j p c call) w
@@ -109,6 +107,40 @@ run_stands j p calls answers v w h m = (made j p calls answers start_content v w
 pub run_answers : (j : Job) (p : ℕ) (calls : List Call) (answers : List Answer) (v w : State) → HasContent j p start_content v → Made j p v calls answers w → answers ≡ answers_of j p start_content calls
 run_answers j p calls answers v w h m = (made j p calls answers start_content v w h m).0
 
+-- a call never goes back, and a close that went on goes a superstep further
+closes_rise : (j : Job) (p : ℕ) (call : Call) (answer : Answer) (c : Content) (v w : State) → HasContent j p c v → Did j p call answer v w → v.superstep + closes_in (answer ∷ []) ≤ w.superstep
+unfolding closes_in
+closes_rise j p (Take name) (Took r) c v w h k = omega (arith, h.stands.superstep, (k.stands c.superstep h.stands).superstep)
+closes_rise j p Close (Closed (Ok t)) c v w h k = omega (arith, h.stands.superstep, (k.stands c.superstep h.stands).superstep)
+closes_rise j p Close (Closed (Err e)) c v w h k = let same : w.superstep ≡ v.superstep = ap (λ (u : State). u.superstep) k.refused in omega (arith, same)
+closes_rise j p (Merge d) (Merged (Ok u)) c v w h k = omega (arith, h.stands.superstep, (k.1.stands c.superstep h.stands).superstep)
+closes_rise j p (Merge d) (Merged (Err e)) c v w h k = let same : w.superstep ≡ v.superstep = ap (λ (u : State). u.superstep) k.1.refused in omega (arith, same)
+closes_rise j p call answer c v w h k = absurd k
+
+closes_first : (answer : Answer) (answers : List Answer) → closes_in (answer ∷ answers) ≡ closes_in (answer ∷ []) + closes_in answers
+unfolding closes_in
+closes_first (Closed (Ok t)) answers = omega arith
+closes_first (Closed (Err e)) answers = omega arith
+closes_first (Took r) answers = omega arith
+closes_first (Merged r) answers = omega arith
+
+-- of a list of calls too
+closes_sum : (j : Job) (p : ℕ) (calls : List Call) (answers : List Answer) (c : Content) (v w : State) → HasContent j p c v → Made j p v calls answers w → v.superstep + closes_in answers ≤ w.superstep
+unfolding Made closes_in
+closes_sum j p [] [] c v w h m = let same : w.superstep ≡ v.superstep = ap (λ (u : State). u.superstep) m in omega (arith, same)
+closes_sum j p (call ∷ calls) (answer ∷ answers) c v w h m =
+    let here = closes_rise j p call answer c v m.0 h m.1 in
+    let later = closes_sum j p calls answers (content_after j p c call) m.0 w (did j p call answer c v m.0 h m.1).1 m.2 in
+    omega (arith, here, later, closes_first answer answers)
+closes_sum j p calls answers c v w h m = absurd m
+
+-- and it is never past the end
+pub run_in_time : (j : Job) (p : ℕ) (calls : List Call) (answers : List Answer) (v w : State) → HasContent j p start_content v → Made j p v calls answers w →
+    (closes_in answers ≤ w.superstep) × (w.superstep ≤ end_of (mixing_of j.plan) j.graph j.plan.limit)
+run_in_time j p calls answers v w h m =
+    let stands = (run_stands j p calls answers v w h m).stands in
+    (omega (arith, closes_sum j p calls answers start_content v w h m), omega (arith, stands.superstep, stands.in_time))
+
 stable_from : (o : Option ℕ) (early changed last : Bool) → verdict_unless o (if early && not changed then verdict.Stable else (if last then verdict.Limit else verdict.GoOn)) ≡ Some verdict.Stable → (o ≡ None) × (early ≡ true) × (changed ≡ false)
 stable_from (Some q) early changed last e = absurd (cc)
 stable_from None true false last e = (refl, refl, refl)
@@ -117,23 +149,17 @@ stable_from None true true false e = absurd (cc)
 stable_from None false changed true e = absurd (cc)
 stable_from None false changed false e = absurd (cc)
 
-le_from : (a b : ℕ) → nat_le a b ≡ true → a ≤ b
-le_from a b e = grind (arith, nat_tests)
-
-le_to : (a b : ℕ) → a ≤ b → nat_le a b ≡ true
-le_to a b e = grind (arith, nat_tests)
-
 verdict_here : (j : Job) (p t : ℕ) (v : State) → StandsFor j p t v → verdict_of j p (content_of v) ≡ verdict_unless (missing_of j.plan.parts p (content_of v)) (verdict_at j t)
 unfolding verdict_of
 verdict_here j p t v h = ap (λ n. verdict_unless (missing_of j.plan.parts p (content_of v)) (verdict_at j n)) h.superstep
 
 stable_at : (j : Job) (t : ℕ) (o : Option ℕ) → verdict_unless o (verdict_at j t) ≡ Some verdict.Stable → (o ≡ None) × (1 ≤ t) × (any_changed (mixing_of j.plan) j.graph t ≡ false)
 unfolding verdict_at
-stable_at j t o e = let r = stable_from o (nat_le 1 t) (any_changed (mixing_of j.plan) j.graph t) (t == j.plan.limit) e in (r.0, le_from 1 t r.1, r.2)
+stable_at j t o e = let r = stable_from o (nat_le 1 t) (any_changed (mixing_of j.plan) j.graph t) (t == j.plan.limit) e in (r.0, leb-true 1 t r.1, r.2)
 
 stable_to : (j : Job) (t : ℕ) (o : Option ℕ) → o ≡ None → 1 ≤ t → any_changed (mixing_of j.plan) j.graph t ≡ false → verdict_unless o (verdict_at j t) ≡ Some verdict.Stable
 unfolding verdict_at
-stable_to j t o none low quiet = rw (none, le_to 1 t low, quiet) refl
+stable_to j t o none low quiet = rw (none, le-leb 1 t low, quiet) refl
 
 -- stable is quiet
 pub stable_is : (j : Job) (p t : ℕ) (v : State) → StandsFor j p t v →
@@ -151,13 +177,6 @@ ball_keeps g x t (suc k) y ok lt inside =
     let e : t + suc k ≡ t + k + 1 = omega arith in
     rw e (in_ball-grows g x (t + k) y ok lt (ball_keeps g x t k y ok lt inside))
 
-same_row : (a b : List ℕ) → not (bytes_eq a b) ≡ false → a ≡ b
-same_row a b e = grind (arith, bytes_eq-Decides, was_so)
-  where
-    was_so : (c : Bool) → not c ≡ false → c ≡ true
-    was_so true e = refl
-    was_so false e = absurd (cc)
-
 -- where no vertex is changed, a counter stays as it is
 counter_stays : (m : Mixing) (g : Graph) (x t k : ℕ) → IsGraph g → x < g.vertices → any_changed m g t ≡ false → ball_counter m g x (t + k) ≡ ball_counter m g x t
 unfolding any_changed
@@ -165,7 +184,7 @@ counter_stays m g x t zero ok lt quiet = let e : t + 0 ≡ t = omega arith in rw
 counter_stays m g x t (suc k) ok lt quiet =
     let e : t + suc k ≡ t + k + 1 = omega arith in
     let still : changed_at m g x (t + k + 1) ≡ false = none_in (λ z. changed_at m g z (t + k + 1)) 0 g.vertices x (quiet_stays m g t (t + k + 1) ok quiet (omega arith)) (omega arith) (omega arith) in
-    rw e (same_row (ball_counter m g x (t + k + 1)) (ball_counter m g x (t + k)) (sym (changed_next m g x (t + k)) ∙ still) ∙ counter_stays m g x t k ok lt quiet)
+    rw e (same_registers (ball_counter m g x (t + k + 1)) (ball_counter m g x (t + k)) (sym (changed_next m g x (t + k)) ∙ still) ∙ counter_stays m g x t k ok lt quiet)
 
 -- some ball has all vertices below a number that can reach x
 ball_of_all : (g : Graph) (x m : ℕ) (reaches : ℕ → Bool) → IsGraph g → x < g.vertices → m ≤ g.vertices → ((y : ℕ) → y < g.vertices → IsTrue (reaches y) → (path : List ℕ) × IsTrue (is_path g y x path)) →
@@ -199,7 +218,7 @@ counter_reaches m g x t reaches ok lt quiet paths =
     let swap : t + all.0 ≡ all.0 + t = omega arith in
     sym (counter_stays m g x t all.0 ok lt quiet)
     ∙ (counter_of-same m g.vertices (λ y. in_ball g x (t + all.0) y && is_counted g y) (λ y. reaches y && is_counted g y)
-    (λ y below. ap (λ b. b && is_counted g y) (same_bool (in_ball g x (t + all.0) y) (reaches y)
+    (λ y below. ap (λ b. b && is_counted g y) (both_ways (in_ball g x (t + all.0) y) (reaches y)
     (λ inside. let found = in_ball-finds g x (t + all.0) y inside in (paths y below).1 (found.0, found.2))
     (λ r. rw swap (ball_keeps g x all.0 t y ok lt (all.1 y below r))))))
 

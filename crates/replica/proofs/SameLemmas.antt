@@ -1,8 +1,7 @@
 -- Replicas with one content are equal.
-use Rattle.std.proofs.Common.{◌≡◌, ℕ, ◌+◌, ◌-◌, ◌<◌, ◌≤◌, nat_le, nat_lt, not, Bool, true, false, ◌==◌, List, [], get_or, refl, ap, arith, sym, ◌∙◌, inl, inr, is_some, IfSome}
+use Rattle.std.proofs.Common.{◌≡◌, ℕ, ◌+◌, ◌-◌, ◌<◌, ◌≤◌, true, false, ◌==◌, List, [], get_or, refl, ap, arith, sym, ◌∙◌, inl, inr, is_some, IfSome}
 use Rattle.std.specs.Prelude.{Option, None, Some}
-use Rattle.std.proofs.lemmas.Bool.{cases_eq, cases_lt}
-use Rattle.std.proofs.lemmas.Bool.Decides.{nat_tests}
+use Rattle.std.proofs.lemmas.Bool.{cases_eq, cases_lt, and_from, le-leb, lt-ltb, ne_eqb, not_from_false}
 use Rattle.std.proofs.lemmas.List.{same_lists, get_or_default}
 use Rattle.ball_model.specs.declared.names.BatchName.{BatchName}
 use Rattle.ball_model.specs.Accumulated.{accumulated_of}
@@ -12,7 +11,6 @@ use Rattle.ball_model.specs.Batches.{BatchValue, true_batch}
 use Rattle.ball_model.specs.Content.{Content, IsContent, in_window}
 use Rattle.ball_model.specs.State.{State, content_of, early_at, holds_in, heard_changes, is_heard}
 use Rattle.ball_model.specs.Steps.{Call, Answer, content_after_all}
-use Rattle.ball_model.proofs.PathLemmas.{and_both, eq_true}
 use Rattle.replica.specs.Kept.{IsOfName}
 use Rattle.replica.specs.Seen.{IsState}
 use Rattle.replica.specs.Runs.{HasContent, Made}
@@ -20,6 +18,7 @@ use Rattle.replica.proofs.AdvanceLemmas.{holds_now, holds_before, holds_later}
 use Rattle.replica.proofs.EarlyLemmas.{no_level}
 use Rattle.replica.proofs.LevelLemmas.{plan_is}
 use Rattle.replica.proofs.RunLemmas.{made}
+use Rattle.replica.proofs.OptionLemmas.{not_none}
 
 -- what is kept is of one of the three supersteps that follow, and of another partition
 record IsKeptAt (v : State) (i q : ℕ) : Type 0 where
@@ -28,18 +27,15 @@ record IsKeptAt (v : State) (i q : ℕ) : Type 0 where
   source : q < v.part.plan.parts
   other : q ≡ v.part.number → ⊥
 
-no_none : (o : Option BatchValue) → is_some o ≡ true → o ≡ None → ⊥
-no_none o e f = let g : is_some o ≡ false = ap is_some f in absurd (cc)
-
 kept_is : (v : State) (i q : ℕ) → IsState v → is_some (early_at v.early i q) ≡ true → IsKeptAt v i q
 kept_is v i q s there = record {
   level = elim (cases_lt i 3) [
     | inl lt ↦ lt
-    | inr out ↦ absurd (no_none (early_at v.early i q) there (no_level v.early i q (omega (arith, s.early.table.levels))))
+    | inr out ↦ absurd (not_none (early_at v.early i q) there (no_level v.early i q (omega (arith, s.early.table.levels))))
   ];
   within = (named (early_at v.early i q) there (s.early.kept i q)).0;
   source = (named (early_at v.early i q) there (s.early.kept i q)).1;
-  other = λ same. no_none (early_at v.early i q) there (ap (λ n. early_at v.early i n) same ∙ s.early.own i);
+  other = λ same. not_none (early_at v.early i q) there (ap (λ n. early_at v.early i n) same ∙ s.early.own i);
 }
   where
     named : (o : Option BatchValue) → is_some o ≡ true → IfSome o (IsOfName v.part.plan (record { superstep = v.superstep + 1 + i; source = q; target = v.part.number })) → (v.superstep + 1 + i ≤ v.part.plan.limit) × (q < v.part.plan.parts)
@@ -67,21 +63,8 @@ content_in_window v st s q held =
       ]
     ]
   where
-    lt_to : (a b : ℕ) → a < b → nat_lt a b ≡ true
-    lt_to a b e = grind (arith, nat_tests)
-
-    leq_to : (a b : ℕ) → a ≤ b → nat_le a b ≡ true
-    leq_to a b e = grind (arith, nat_tests)
-
-    not_eq : (a b : ℕ) → (a ≡ b → ⊥) → not (a == b) ≡ true
-    not_eq a b ne = by_test (a == b) refl
-      where
-        by_test : (c : Bool) → (a == b) ≡ c → not c ≡ true
-        by_test true e = absurd (ne (eq_true a b e))
-        by_test false e = refl
-
     window_to : (plan : PlanValue) (p t s q : ℕ) → t ≤ s → s ≤ t + 3 → s ≤ plan.limit → q < plan.parts → (q ≡ p → ⊥) → in_window plan p t s q ≡ true
-    window_to plan p t s q low high within source other = and_both _ _ (and_both _ _ (and_both _ _ (and_both _ _ (leq_to t s low) (leq_to s (t + 3) high)) (leq_to s plan.limit within)) (lt_to q plan.parts source)) (not_eq q p other)
+    window_to plan p t s q low high within source other = and_from _ _ (and_from _ _ (and_from _ _ (and_from _ _ (le-leb t s low) (le-leb s (t + 3) high)) (le-leb s plan.limit within)) (lt-ltb q plan.parts source)) (not_from_false (q == p) (ne_eqb q p other))
 
 -- THE CONTENT: a replica holds only what it may hold
 pub content_is_one : (v : State) → IsState v → IsContent v.part.plan v.part.number (content_of v)
@@ -95,8 +78,8 @@ same_kept b (Some a) None f g e = absurd (cc)
 same_kept b (Some a) (Some c) f g e = ap Some (f ∙ sym g)
 
 -- names held, as the superstep says
-names_at : (j : Job) (p : ℕ) (c : Content) (v : State) → HasContent j p c v → (s q : ℕ) → holds_in c.superstep v.heard v.early s q ≡ c.holds s q
-names_at j p c v h s q = ap (λ t. holds_in t v.heard v.early s q) (sym h.stands.superstep) ∙ h.names s q
+held_as_said : (j : Job) (p : ℕ) (c : Content) (v : State) → HasContent j p c v → (s q : ℕ) → holds_in c.superstep v.heard v.early s q ≡ c.holds s q
+held_as_said j p c v h s q = ap (λ t. holds_in t v.heard v.early s q) (sym h.stands.superstep) ∙ h.names s q
 
 -- the sources that are heard
 heard_same : (j : Job) (p : ℕ) (c : Content) (v w : State) → HasContent j p c v → HasContent j p c w → IsState v → IsState w → v.heard ≡ w.heard
@@ -104,7 +87,7 @@ heard_same j p c v w h k s r =
     let t = c.superstep in
     same_lists v.heard w.heard (s.heard.count ∙ sym r.heard.count)
     (λ q d lt. get_or_default v.heard q d false lt
-    ∙ sym (holds_now t v.heard v.early q) ∙ names_at j p c v h t q ∙ sym (names_at j p c w k t q) ∙ holds_now t w.heard w.early q
+    ∙ sym (holds_now t v.heard v.early q) ∙ held_as_said j p c v h t q ∙ sym (held_as_said j p c w k t q) ∙ holds_now t w.heard w.early q
     ∙ sym (get_or_default w.heard q d false (omega (arith, s.heard.count, r.heard.count))))
 
 -- one place of both
@@ -114,8 +97,8 @@ place_same j p c i q v w h k =
     let gap : i ≡ t + 1 + i - (t + 1) = omega arith in
     let later : t < t + 1 + i = omega arith in
     same_kept (true_batch j (record { superstep = t + 1 + i; source = q; target = p })) _ _ (h.stands.early.true_of i q) (k.stands.early.true_of i q)
-    (ap (λ n. is_some (early_at v.early n q)) gap ∙ sym (holds_later t v.heard v.early (t + 1 + i) q later) ∙ names_at j p c v h (t + 1 + i) q
-    ∙ sym (names_at j p c w k (t + 1 + i) q) ∙ holds_later t w.heard w.early (t + 1 + i) q later ∙ ap (λ n. is_some (early_at w.early n q)) (sym gap))
+    (ap (λ n. is_some (early_at v.early n q)) gap ∙ sym (holds_later t v.heard v.early (t + 1 + i) q later) ∙ held_as_said j p c v h (t + 1 + i) q
+    ∙ sym (held_as_said j p c w k (t + 1 + i) q) ∙ holds_later t w.heard w.early (t + 1 + i) q later ∙ ap (λ n. is_some (early_at w.early n q)) (sym gap))
 
 -- the batches that are kept
 early_same : (j : Job) (p : ℕ) (c : Content) (v w : State) → HasContent j p c v → HasContent j p c w → IsState v → IsState w → v.early ≡ w.early

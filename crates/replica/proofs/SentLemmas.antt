@@ -1,85 +1,25 @@
 -- What a replica sends is the true batch, where it stands for its content.
-use Rattle.std.proofs.Common.{◌≡◌, ℕ, zero, suc, ◌+◌, ◌-◌, ◌*◌, ◌^◌, ◌<◌, ◌≤◌, Bool, true, false, ◌&&◌, ◌==◌, List, [], ◌∷◌, ◌++◌, length, length-append, map, get_or, take, if◌then◌else◌, refl, ap, arith, sym, subst, ◌∙◌, inl, inr}
-use Rattle.std.specs.Int.{bit_at}
-use Rattle.std.specs.List.{range_with_len, flat_map, filter, sum_by, count_by, AllByRecursion}
-use Rattle.std.proofs.Math.Nat.{pow-succ'}
-use Rattle.std.proofs.lemmas.Nat.Bits.{bit_at_cat_low, bit_at_cat_high}
-use Rattle.std.proofs.lemmas.Bool.{cases_lt}
+use Rattle.std.proofs.Common.{◌≡◌, ℕ, zero, suc, ◌+◌, ◌*◌, ◌<◌, ◌≤◌, Bool, true, false, ◌&&◌, List, [], ◌∷◌, ◌++◌, length, length-append, map, get_or, take, if◌then◌else◌, refl, ap, arith, sym, subst, ◌∙◌}
+use Rattle.std.specs.List.{range_with_len, flat_map, filter, count_by, AllByRecursion}
 use Rattle.std.proofs.lemmas.List.{append-nil, take_more, get_or_default}
 use Rattle.std.proofs.lemmas.List.Elements.{filter-append}
 use Rattle.std.proofs.lemmas.List.Concat.{flat_map-append}
-use Rattle.std.proofs.lemmas.List.Sums.{sum_by-append, sum_by-cons, length-filter}
+use Rattle.std.proofs.lemmas.List.Sums.{length-filter}
 use Rattle.ball_model.specs.Counter.{ball_counter}
 use Rattle.ball_model.specs.Change.{changed_at}
 use Rattle.ball_model.specs.PlanValue.{PlanValue, mixing_of, part_size}
 use Rattle.ball_model.specs.Job.{Job, PartValue, part_of, feeds_into, feed_mask}
 use Rattle.ball_model.specs.Laws.{IsCounterRow}
 use Rattle.ball_model.specs.Batches.{BatchValue, IsRow, true_batch, sent_vertices, ids_of}
+use Rattle.ball_model.specs.Masks.{has_bit}
 use Rattle.ball_model.specs.State.{State, StandsFor}
+use Rattle.ball_model.proofs.MaskLemmas.{mask-bit}
 use Rattle.ball_model.proofs.PartLemmas.{range_more, vertices_of-strided}
 use Rattle.replica.specs.Seen.{IsState}
-use Rattle.replica.specs.Sent.{has_bit, sent_row, sent_rows, sent_batch}
+use Rattle.replica.specs.Sent.{sent_row, sent_rows, sent_batch}
 use Rattle.replica.proofs.OwnLemmas.{vertex_of, own_below, own_part, at_own}
 use Rattle.replica.proofs.LevelLemmas.{plan_is, number_is, size_is, row_at, mark_at}
 use Rattle.replica.proofs.ReadLemmas.{count_stands}
-
--- the sum of the powers of two whose exponents pass
-abbrev powers : (ℕ → Bool) → ℕ → ℕ
-powers f n = sum_by (λ r. if f r then 2 ^ r else 0) (range_with_len 0 n)
-
-abbrev bit : Bool → ℕ
-bit b = if b then 1 else 0
-
-power_of : (b : Bool) (n : ℕ) → (if b then 2 ^ n else 0) ≡ bit b * 2 ^ n
-power_of true n = omega arith
-power_of false n = omega arith
-
-powers_next : (f : ℕ → Bool) (n : ℕ) → powers f (n + 1) ≡ bit (f n) * 2 ^ n + powers f n
-powers_next f n =
-    ap (sum_by (λ r. if f r then 2 ^ r else 0)) (range_more n) ∙ sum_by-append (λ r. if f r then 2 ^ r else 0) (range_with_len 0 n) (n ∷ [])
-    ∙ omega (arith, sum_by-cons (λ r. if f r then 2 ^ r else 0) n [], power_of (f n) n)
-
-bit_times : (b : Bool) (n : ℕ) → bit b * 2 ^ n ≤ 2 ^ n
-bit_times true n = omega arith
-bit_times false n = omega arith
-
-pow_next : (n : ℕ) → 2 ^ (n + 1) ≡ 2 * 2 ^ n
-pow_next n = let e : n + 1 ≡ suc n = omega arith in ap (λ k. 2 ^ k) e ∙ pow-succ' 2 n
-
-powers_lt : (f : ℕ → Bool) (n : ℕ) → powers f n < 2 ^ n
-powers_lt f zero = omega arith
-powers_lt f (suc n) =
-    let e : n + 1 ≡ suc n = omega arith in
-    let next : powers f (n + 1) < 2 ^ (n + 1) = rw (powers_next f n, pow_next n) (omega (arith, powers_lt f n, bit_times (f n) n)) in
-    subst (λ (k : ℕ). powers f k < 2 ^ k) e next
-
-bit_low : (b : Bool) → bit_at (bit b) 0 ≡ bit b
-bit_low true = refl
-bit_low false = refl
-
--- bit i of the sum is set where i passes
-powers_bit : (f : ℕ → Bool) (n i : ℕ) → i < n → bit_at (powers f n) i ≡ bit (f i)
-powers_bit f zero i lt = absurd (omega arith)
-powers_bit f (suc n) i lt =
-    let e : n + 1 ≡ suc n = omega arith in
-    subst (λ (k : ℕ). bit_at (powers f k) i ≡ bit (f i)) e (rw (powers_next f n)
-    (elim (cases_lt i n) [
-      | inl less ↦ bit_at_cat_low (bit (f n)) n (powers f n) i less ∙ powers_bit f n i less
-      | inr more ↦
-          let at : n ≡ i = omega arith in
-          let none : n - n ≡ 0 = omega arith in
-          subst (λ (k : ℕ). bit_at (bit (f n) * 2 ^ n + powers f n) k ≡ bit (f k)) at
-          (bit_at_cat_high (bit (f n)) n (powers f n) n (powers_lt f n) (omega arith) ∙ rw none (bit_low (f n)))
-    ]))
-
-bit_test : (b : Bool) → (bit b == 1) ≡ b
-bit_test true = refl
-bit_test false = refl
-
--- bit r of a feed mask is set where the vertex has an edge into partition r
-feeds_bit : (j : Job) (y r : ℕ) → r < j.plan.parts → has_bit (feed_mask j.graph j.plan.parts y) r ≡ feeds_into j.graph j.plan.parts y r
-unfolding feed_mask
-feeds_bit j y r lt = ap (λ n. n == 1) (powers_bit (λ k. feeds_into j.graph j.plan.parts y k) j.plan.parts r lt) ∙ bit_test (feeds_into j.graph j.plan.parts y r)
 
 sent_if : (b : Bool) (y : ℕ) (row : List ℕ) (ys : List ℕ) (G : ℕ → ℕ × List ℕ) → G y ≡ (y, row) → (if b then (y, row) ∷ [] else []) ++ map G ys ≡ map G (if b then (y ∷ ys) else ys)
 sent_if true y row ys G at = ap (λ (p : ℕ × List ℕ). p ∷ map G ys) (sym at)
@@ -99,8 +39,8 @@ part_feeds j p i below lt = at_own (λ x. feed_mask j.graph j.plan.parts x) j.gr
 abbrev row_pair : ℕ → List ℕ → ℕ × List ℕ
 row_pair x r = (x, r)
 
-if_same : (a b : Bool) (x y : ℕ) (r s : List ℕ) → a ≡ b → x ≡ y → r ≡ s → (if a then row_pair x r ∷ [] else []) ≡ (if b then row_pair y s ∷ [] else [])
-if_same a b x y r s p q e = rw (p, q, e) refl
+sent_as : (a b : Bool) (x y : ℕ) (r s : List ℕ) → a ≡ b → x ≡ y → r ≡ s → (if a then row_pair x r ∷ [] else []) ≡ (if b then row_pair y s ∷ [] else [])
+sent_as a b x y r s p q e = rw (p, q, e) refl
 
 -- one row
 row_sent : (j : Job) (p t target i : ℕ) (v : State) → StandsFor j p t v → target < j.plan.parts → i < part_size j.graph.vertices j.plan.parts p →
@@ -109,10 +49,10 @@ row_sent j p t target i v h lt inside =
     let x = vertex_of j.plan.parts p i in
     let mark : get_or v.marks i false ≡ changed_at (mixing_of j.plan) j.graph x t = ap (λ (l : List Bool). get_or l i false) h.marks ∙ mark_at j p t i false h.partition inside in
     let feed : get_or v.part.feeds i 0 ≡ feed_mask j.graph j.plan.parts x = ap (λ (a : PartValue). get_or a.feeds i 0) h.part ∙ part_feeds j p i h.partition inside in
-    let fed : has_bit (get_or v.part.feeds i 0) target ≡ feeds_into j.graph j.plan.parts x target = ap (λ n. has_bit n target) feed ∙ feeds_bit j x target lt in
+    let fed : has_bit (get_or v.part.feeds i 0) target ≡ feeds_into j.graph j.plan.parts x target = ap (λ n. has_bit n target) feed ∙ mask-bit j.graph j.plan.parts x target (omega (arith, lt)) in
     let vertex : i * v.part.plan.parts + v.part.number ≡ x = rw (ap (λ (a : PlanValue). a.parts) (plan_is j p t v h), number_is j p t v h) refl in
     let row : get_or v.rows i [] ≡ ball_counter (mixing_of j.plan) j.graph x t = ap (λ (l : List (List ℕ)). get_or l i []) h.rows ∙ row_at j p t i [] h.partition inside in
-    if_same _ _ _ _ _ _ (rw (mark, fed) refl) vertex row
+    sent_as _ _ _ _ _ _ (rw (mark, fed) refl) vertex row
 
 rows_sent : (j : Job) (p t target : ℕ) (v : State) → StandsFor j p t v → target < j.plan.parts →
     sent_rows v target (length v.part.preds) ≡ map (λ y. (y, ball_counter (mixing_of j.plan) j.graph y t)) (sent_vertices j t p target)
@@ -257,12 +197,6 @@ mark_of items marks i b r same lt at is = get_or_default marks i false b lt ∙ 
 -- a bit that was read
 pub bit_of : (a v : PartValue) (i feeds r target : ℕ) (found test : Bool) → a ≡ v → feeds ≡ get_or a.feeds i 0 → r ≡ target → found ≡ has_bit feeds r → found ≡ test → has_bit (get_or v.feeds i 0) target ≡ test
 bit_of a v i feeds r target found test same at name is told = sym (is ∙ rw (at, same, name) refl) ∙ told
-
-pub both_off : (m f : Bool) → m ≡ true → f ≡ false → (m && f) ≡ false
-both_off m f p q = rw (p, q) refl
-
-pub mark_off : (m f : Bool) → m ≡ false → (m && f) ≡ false
-mark_off m f p = rw p refl
 
 -- the batch without rows
 pub sent_first : (v : State) (target : ℕ) (plan : PlanValue) (superstep source changed : ℕ) → plan ≡ v.part.plan → superstep ≡ v.superstep → source ≡ v.part.number → changed ≡ count_by (λ mark. mark) v.marks →

@@ -2,11 +2,12 @@
 use Rattle.std.proofs.Common.{◌≡◌, ℕ, zero, suc, ◌<◌, ◌≢◌, Bool, true, false, not, ◌||◌, ◌==◌, List, [], ◌∷◌, ◌++◌, if◌then◌else◌, max, length, get_or, set, drop, refl, ap, ap₂, arith, sym, ◌∙◌, inl, inr, subst, ◌↔◌}
 use Rattle.std.specs.List.{All}
 use Rattle.std.specs.Str.{bytes_eq}
-use Rattle.std.proofs.lemmas.Bool.{cases_eq, or_right, ne_eqb, eq-eqb}
+use Rattle.std.proofs.lemmas.Bool.{cases_eq, or_right, ne_eqb, eq-eqb, false_from_ne_true}
 use Rattle.std.proofs.lemmas.Slice.Eq.{bytes_eq-Decides}
 use Rattle.std.proofs.lemmas.List.{get_or-set_same, get_or-set_other, length-set, same_lists, get_or_default}
 use Rattle.std.proofs.lemmas.List.Folds.{list_any_at, list_any-append}
 use Rattle.std.proofs.lemmas.List.FromFn.{get_or-map-range_with_len, length-map-range_with_len}
+use Rattle.std.proofs.lemmas.Bool.Decides.{not_from_Decides}
 use Rattle.ball_model.specs.Counter.{max_each}
 use Rattle.replica.specs.Spread.{stands_in, row_after, rows_after, touched_at, AreTouched}
 
@@ -73,18 +74,6 @@ spread-more before after src p rows lt adds =
     ])
 
 -- ---- which rows are touched
-bytes_same : (xs ys : List ℕ) → xs ≡ ys → bytes_eq xs ys ≡ true
-bytes_same xs ys e = grind (arith, bytes_eq-Decides)
-
-bytes_are : (xs ys : List ℕ) → bytes_eq xs ys ≡ true → xs ≡ ys
-bytes_are xs ys e = grind (arith, bytes_eq-Decides)
-
-bytes_unlike : (xs ys : List ℕ) → (xs ≡ ys → ⊥) → bytes_eq xs ys ≡ false
-bytes_unlike xs ys ne = grind (arith, bytes_eq-Decides, ne)
-
-unlike_are : (xs ys : List ℕ) → bytes_eq xs ys ≡ false → xs ≡ ys → ⊥
-unlike_are xs ys e same = let yes = bytes_same xs ys same in absurd (cc)
-
 -- whether a row became another
 changed_is : (r : Bool) (new old : List ℕ) → (r ≡ false) ↔ (new ≡ old) → r ≡ not (bytes_eq new old)
 changed_is true new old h = grind (arith, bytes_eq-Decides, h.1)
@@ -95,12 +84,12 @@ mark_here : (b a r : Bool) (before after src : List ℕ) (rows : List (List ℕ)
 mark_here true a r before after src rows p was now at =
     let raised = to_in before src rows p was in
     let again : bytes_eq (max_each (row_after before src rows p) src) (row_after before src rows p) ≡ true =
-    bytes_same _ _ (ap (λ row. max_each row src) raised ∙ max_twice (get_or rows p []) src ∙ sym raised) in
+    (bytes_eq-Decides _ _).1 (ap (λ row. max_each row src) raised ∙ max_twice (get_or rows p []) src ∙ sym raised) in
     let no_more : r ≡ false = at ∙ ap not again in
     or_false _ r no_more ∙ ap (λ row. a || not (bytes_eq row (get_or rows p []))) (raised ∙ sym (to_in after src rows p now))
 mark_here false a r before after src rows p was now at =
     let kept = to_out before src rows p was in
-    let same : bytes_eq (row_after before src rows p) (get_or rows p []) ≡ true = bytes_same _ _ kept in
+    let same : bytes_eq (row_after before src rows p) (get_or rows p []) ≡ true = (bytes_eq-Decides _ _).1 kept in
     let first : r ≡ not (bytes_eq (row_after after src rows p) (get_or rows p [])) =
     at ∙ rw (kept, to_in after src rows p now) refl in
     ap (λ e. (a || not e) || r) same ∙ ap (λ e. e || r) (or_false a false refl) ∙ ap (λ e. a || e) first
@@ -130,7 +119,7 @@ touched-more before after src p rows old marks r lt count adds tells so_far i in
 -- the marks before any place
 pub touched-none : (src : List ℕ) (rows : List (List ℕ)) (marks : List Bool) (i : ℕ) → i < length rows → get_or marks i false ≡ touched_at marks rows (rows_after [] src rows) i
 touched-none src rows marks i lt =
-    let same : bytes_eq (get_or (rows_after [] src rows) i []) (get_or rows i []) ≡ true = bytes_same _ _ (spread-at [] src rows i [] lt ∙ to_out [] src rows i refl) in
+    let same : bytes_eq (get_or (rows_after [] src rows) i []) (get_or rows i []) ≡ true = (bytes_eq-Decides _ _).1 (spread-at [] src rows i [] lt ∙ to_out [] src rows i refl) in
     sym (ap (λ e. get_or marks i false || not e) same ∙ or_false (get_or marks i false) false refl)
 
 -- ---- rows that are seen to rise before they are raised
@@ -145,7 +134,7 @@ seen_rises : (places src : List ℕ) (k : ℕ) (rows : List (List ℕ)) (p : ℕ
 seen_rises places src k rows p in_list is lt rises =
     let here : stands_in places p ≡ true = list_any_at (λ y. y == p) places k 0 in_list (eq-eqb (get_or places k 0) p is) in
     let at : get_or (rows_after places src rows) p [] ≡ max_each (get_or rows p []) src = spread-at places src rows p [] lt ∙ to_in places src rows p here in
-    ap not (ap (λ row. bytes_eq row (get_or rows p [])) at ∙ bytes_unlike _ _ rises)
+    ap not (ap (λ row. bytes_eq row (get_or rows p [])) at ∙ false_from_ne_true _ (λ e. rises ((bytes_eq-Decides _ _).0 e)))
 
 -- a mark that is set of one of them
 pub touched-seen : (places src : List ℕ) (k : ℕ) (rows : List (List ℕ)) (p : ℕ) (old marks : List Bool) (g : Bool) → k < length places → get_or places k 0 ≡ p → p < length rows → length marks ≡ length rows →
@@ -190,9 +179,9 @@ both_marks : (b c : Bool) (t : Bool) (x src first last : List ℕ) → first ≡
     ((t || not (bytes_eq first x)) || not (bytes_eq last first)) ≡ (t || not (bytes_eq last x))
 both_marks true c t x src first last f l =
     let same : last ≡ first = l ∙ sym f in
-    ap (λ e. (t || not (bytes_eq first x)) || not e) (bytes_same last first same) ∙ or_false (t || not (bytes_eq first x)) false refl ∙ ap (λ row. t || not (bytes_eq row x)) (sym same)
+    ap (λ e. (t || not (bytes_eq first x)) || not e) ((bytes_eq-Decides last first).1 same) ∙ or_false (t || not (bytes_eq first x)) false refl ∙ ap (λ row. t || not (bytes_eq row x)) (sym same)
 both_marks false c t x src first last f l =
-    ap (λ e. (t || not e) || not (bytes_eq last first)) (bytes_same first x f) ∙ ap (λ b. b || not (bytes_eq last first)) (or_false t false refl) ∙ ap (λ row. t || not (bytes_eq last row)) f
+    ap (λ e. (t || not e) || not (bytes_eq last first)) ((bytes_eq-Decides first x).1 f) ∙ ap (λ b. b || not (bytes_eq last first)) (or_false t false refl) ∙ ap (λ row. t || not (bytes_eq last row)) f
 
 to_row : (places src : List ℕ) (rows : List (List ℕ)) (i : ℕ) → row_after places src rows i ≡ (if stands_in places i then max_each (get_or rows i []) src else get_or rows i [])
 unfolding row_after
@@ -252,8 +241,8 @@ pub still_marked : (row acc s : List ℕ) → max_each row acc ≡ acc →
     (not (bytes_eq acc row) || not (bytes_eq (max_each acc s) acc)) ≡ not (bytes_eq (max_each acc s) row)
 still_marked row acc s h =
     join_marks (bytes_eq acc row) (bytes_eq (max_each acc s) acc) (bytes_eq (max_each acc s) row)
-    (λ same. ap (λ l. bytes_eq (max_each acc s) l) (sym (bytes_are acc row same)))
-    (λ other. bytes_unlike (max_each acc s) row (λ e. unlike_are acc row other (settled row acc s h e)))
+    (λ same. ap (λ l. bytes_eq (max_each acc s) l) (sym ((bytes_eq-Decides acc row).0 same)))
+    (λ other. false_from_ne_true (bytes_eq (max_each acc s) row) (λ e. not_from_Decides (bytes_eq acc row) (bytes_eq-Decides acc row) other (settled row acc s h ((bytes_eq-Decides (max_each acc s) row).0 e))))
 
 raised_above : (b : Bool) (row acc s new : List ℕ) → max_each row acc ≡ acc → new ≡ (if b then max_each acc s else acc) → max_each row new ≡ new
 raised_above true row acc s new h is = rw is (above_stays row acc s h)
@@ -263,7 +252,7 @@ raised_marked : (b : Bool) (row acc s new : List ℕ) → max_each row acc ≡ a
     (not (bytes_eq acc row) || not (bytes_eq new acc)) ≡ not (bytes_eq new row)
 raised_marked true row acc s new h is = rw is (still_marked row acc s h)
 raised_marked false row acc s new h is =
-    ap (λ e. not (bytes_eq acc row) || not e) (bytes_same new acc is) ∙ or_false (not (bytes_eq acc row)) false refl ∙ ap (λ l. not (bytes_eq l row)) (sym is)
+    ap (λ e. not (bytes_eq acc row) || not e) ((bytes_eq-Decides new acc).1 is) ∙ or_false (not (bytes_eq acc row)) false refl ∙ ap (λ l. not (bytes_eq l row)) (sym is)
 
 -- marks that say which accumulators differ from their rows still do once a row is spread
 pub touched-spread : (places src : List ℕ) (rows acc new : List (List ℕ)) (old marks : List Bool) → new ≡ rows_after places src acc → length marks ≡ length old →
@@ -274,11 +263,8 @@ touched-spread places src rows acc new old marks is count tells ok =
     record {
       count = long ∙ ok.count;
       marks = count ∙ ok.marks;
-      above = λ i lt. raised_above (stands_in places i) (get_or rows i []) (get_or acc i []) src (get_or new i []) (ok.above i lt) (at i lt ∙ to_is places src acc i);
+      above = λ i lt. raised_above (stands_in places i) (get_or rows i []) (get_or acc i []) src (get_or new i []) (ok.above i lt) (at i lt ∙ to_row places src acc i);
       differ = λ i lt.
           tells i (omega (arith, ok.count)) ∙ ap (λ b. b || not (bytes_eq (get_or new i []) (get_or acc i []))) (ok.differ i lt)
-          ∙ raised_marked (stands_in places i) (get_or rows i []) (get_or acc i []) src (get_or new i []) (ok.above i lt) (at i lt ∙ to_is places src acc i);
+          ∙ raised_marked (stands_in places i) (get_or rows i []) (get_or acc i []) src (get_or new i []) (ok.above i lt) (at i lt ∙ to_row places src acc i);
     }
-  where
-    to_is : (places src : List ℕ) (rows : List (List ℕ)) (i : ℕ) → row_after places src rows i ≡ (if stands_in places i then max_each (get_or rows i []) src else get_or rows i [])
-    to_is places src rows i = unfold row_after in refl

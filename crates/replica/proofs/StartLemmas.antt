@@ -28,24 +28,18 @@ use Rattle.replica.proofs.OwnLemmas.{vertex_of, own_below, at_own}
 use Rattle.replica.proofs.LevelLemmas.{part_plan, part_number, length-part_preds, row_at, mark_at, length-rows_of, length-marks_of}
 use Rattle.replica.proofs.FigureLemmas.{total_is}
 use Rattle.replica.proofs.NextLemmas.{total_of-lasts}
-use Rattle.replica.proofs.AdvanceLemmas.{holds_now, holds_before, holds_later, if_same}
-use Rattle.replica.proofs.HearLemmas.{none_heard, flag_none}
+use Rattle.replica.proofs.AdvanceLemmas.{holds_now, holds_before, holds_later}
+use Rattle.replica.proofs.HearLemmas.{none_heard, if_some_as}
 use Rattle.replica.proofs.RiseLemmas.{all_stay}
 use Rattle.replica.proofs.StateLemmas.{no_sources, lasts_total}
-use Rattle.replica.proofs.StepLemmas.{list_is}
-
-zero_at : (n i : ℕ) → get_or (replicate {A = ℕ} n 0) i 0 ≡ 0
-zero_at zero i = refl
-zero_at (suc n) zero = refl
-zero_at (suc n) (suc i) = zero_at n i
-
-max_zero : (n : ℕ) → max 0 n ≡ n
-max_zero n = omega arith
+use Rattle.replica.proofs.StepLemmas.{list_is, get_or-replicate_same}
 
 -- the row of a vertex, raised from nothing
 pub alone_is : (plan : PlanValue) (x index rank : ℕ) (row : List ℕ) → row ≡ replicate (2 ^ plan.log2m) 0 → index ≡ index_of plan.log2m (hash_of plan.seed x) → rank ≡ rank_of plan.log2m (hash_of plan.seed x) → row_after_raise row index rank ≡ alone plan x
 unfolding alone
-alone_is plan x index rank row none at is = rw (none, at, is, zero_at (2 ^ plan.log2m) (index_of plan.log2m (hash_of plan.seed x)), max_zero (rank_of plan.log2m (hash_of plan.seed x))) refl
+alone_is plan x index rank row none at is =
+    let zero_up : max 0 (rank_of plan.log2m (hash_of plan.seed x)) ≡ rank_of plan.log2m (hash_of plan.seed x) = omega arith in
+    rw (none, at, is, get_or-replicate_same {X = ℕ} (2 ^ plan.log2m) (index_of plan.log2m (hash_of plan.seed x)) 0, zero_up) refl
 
 -- what a vertex that is counted begins with, and one that is not
 pub first-counted : (part : PartValue) (i : ℕ) → get_or part.counted i false ≡ true → first_row part i ≡ alone part.plan (i * part.plan.parts + part.number)
@@ -67,7 +61,7 @@ rank_small plan x = rank_le plan.log2m (hash_of plan.seed x)
 set_small : (n i r k : ℕ) → r ≤ 33 → get_or (set (replicate n 0) i r) k 0 ≤ 33
 set_small zero i r k le = omega arith
 set_small (suc n) zero r zero le = le
-set_small (suc n) zero r (suc k) le = rw (zero_at n k) (omega arith)
+set_small (suc n) zero r (suc k) le = rw (get_or-replicate_same {X = ℕ} n k 0) (omega arith)
 set_small (suc n) (suc i) r zero le = omega arith
 set_small (suc n) (suc i) r (suc k) le = set_small n i r k le
 
@@ -88,7 +82,7 @@ empty-counter plan ok = record {
   from = ok.log2m_from;
   to = ok.log2m_to;
   width = length-replicate (2 ^ plan.log2m) 0;
-  ranks = All-from_get_or (λ r. r ≤ 33) (replicate (2 ^ plan.log2m) 0) 0 (λ k lt. omega (arith, zero_at (2 ^ plan.log2m) k));
+  ranks = All-from_get_or (λ r. r ≤ 33) (replicate (2 ^ plan.log2m) 0) 0 (λ k lt. omega (arith, get_or-replicate_same {X = ℕ} (2 ^ plan.log2m) k 0));
 }
 
 first_row-counter : (part : PartValue) (i : ℕ) → IsPlan part.plan → IsCounterRow part.plan.log2m (first_row part i)
@@ -136,7 +130,7 @@ starts_state part v ok s =
       accumulated = rw (same, s.rows, s.accumulated) (all_stay part.plan.log2m (first_rows part) (first_counters part ok.plan));
       early = rw same (record {
         table = s.table;
-        kept = λ i q. if_same _ (early_at v.early i q) None (s.early i q) tt;
+        kept = λ i q. if_some_as _ (early_at v.early i q) None (s.early i q) tt;
         own = λ i. s.early i part.number;
       });
     }
@@ -145,7 +139,7 @@ starts_state part v ok s =
 pub starts_empty : (part : PartValue) (v : State) (r q : ℕ) → Starts part v → (content_of v).holds r q ≡ false
 starts_empty part v r q s =
     elim (cases_eq r v.superstep) [
-      | inl here ↦ ap (λ n. holds_in v.superstep v.heard v.early n q) here ∙ holds_now v.superstep v.heard v.early q ∙ ap (λ (l : List Bool). get_or l q false) s.heard ∙ flag_none 64 q
+      | inl here ↦ ap (λ n. holds_in v.superstep v.heard v.early n q) here ∙ holds_now v.superstep v.heard v.early q ∙ ap (λ (l : List Bool). get_or l q false) s.heard ∙ get_or-replicate_same 64 q false
       | inr other ↦ elim (cases_lt r v.superstep) [
         | inl before ↦ holds_before v.superstep v.heard v.early r q before
         | inr after ↦ holds_later v.superstep v.heard v.early r q (omega arith) ∙ ap is_some (s.early (r - (v.superstep + 1)) q)
@@ -236,7 +230,7 @@ starts_stands j p part v ok below is s =
       sums = s.sums ∙ rw (ap first_rows is ∙ first_rows_are j p ok below, ap (λ (a : PartValue). a.plan.log2m) is ∙ ap (λ (a : PlanValue). a.log2m) (part_plan j p)) (first_sums j p);
       heard_change = hearing.change;
       accumulated = hearing.accumulated;
-      early = record { true_of = λ i q. if_same _ (early_at v.early i q) None (s.early i q) tt };
+      early = record { true_of = λ i q. if_some_as _ (early_at v.early i q) None (s.early i q) tt };
     }
 
 -- what is made of the outcome

@@ -1,11 +1,10 @@
 -- A replica one superstep later keeps its limits, whatever the batches say.
 use Rattle.std.proofs.Common.{◌≡◌, ℕ, ◌+◌, ◌-◌, ◌<◌, ◌≤◌, Bool, true, false, ◌||◌, List, [], ◌∷◌, ◌++◌, length, map, get_or, replicate, refl, ap, arith, sym, ◌∙◌, subst, inl, inr, is_some, IfSome, length-append}
-use Rattle.std.specs.Prelude.{Option, Some, None}
+use Rattle.std.specs.Prelude.{Option}
 use Rattle.std.specs.List.{sum_by}
 use Rattle.std.proofs.Math.ListN.{get_or-append}
 use Rattle.std.proofs.lemmas.Bool.{cases_lt}
 use Rattle.std.proofs.lemmas.List.{get_or_default, get_or-append_right, length-replicate}
-use Rattle.ball_model.specs.declared.names.BatchName.{BatchName}
 use Rattle.ball_model.specs.Batches.{BatchValue}
 use Rattle.ball_model.specs.PlanValue.{PlanValue}
 use Rattle.ball_model.specs.Job.{PartValue, IsPart}
@@ -15,18 +14,19 @@ use Rattle.figures.specs.declared.tally.Tally.{Tally}
 use Rattle.figures.specs.Values.{value_of}
 use Rattle.replica.specs.Ahead.{IsTable}
 use Rattle.replica.specs.Change.{Advances}
-use Rattle.replica.specs.Kept.{IsOfName, IsFrom, AreEarly, AreSources, AreSums}
+use Rattle.replica.specs.Kept.{IsOfName, AreEarly, AreSources, AreSums}
 use Rattle.replica.specs.Level.{total_of, next_tallies}
 use Rattle.replica.specs.Seen.{IsState}
-use Rattle.replica.proofs.AdvanceLemmas.{if_same}
 use Rattle.replica.proofs.EarlyLemmas.{no_source}
-use Rattle.replica.proofs.HearLemmas.{flag_none}
+use Rattle.replica.proofs.HearLemmas.{if_some_as}
 use Rattle.replica.proofs.LevelLemmas.{length-differing}
 use Rattle.replica.proofs.NextLemmas.{stepped_lasts, sum_same, total_of-lasts, map_lasts}
 use Rattle.replica.proofs.RiseLemmas.{rise_counters}
 use Rattle.replica.specs.Index.{targets_of}
 use Rattle.replica.specs.Spread.{LeadInside}
 use Rattle.replica.proofs.TargetLemmas.{targets-inside}
+use Rattle.replica.proofs.OptionLemmas.{not_none}
+use Rattle.replica.proofs.StepLemmas.{get_or-replicate_same}
 
 -- a sum more
 pub sums_next : (t last next : ℕ) (sums : List ℕ) → AreSums t last sums → last ≤ next → AreSums (t + 1) next (sums ++ next ∷ [])
@@ -53,9 +53,6 @@ sums_next t last next sums s le = record {
     none : (i t : ℕ) → i ≡ t → i + 1 - (t + 1) ≡ 0
     none i t e = omega arith
 
-is_there : (o : Option BatchValue) → is_some o ≡ true → o ≡ None → ⊥
-is_there o e f = let g : is_some o ≡ false = ap is_some f in absurd (cc)
-
 -- sources more
 pub sources_more : (parts p : ℕ) (before after : List Bool) (new : ℕ → Bool) → AreSources parts p before → length after ≡ length before →
     ((q : ℕ) → get_or after q false ≡ (get_or before q false || new q)) → ((q : ℕ) → new q ≡ true → q < parts) → new p ≡ false → AreSources parts p after
@@ -76,7 +73,7 @@ sources_told plan p t i before after early e s count told =
     sources_more plan.parts p before after (λ q. is_some (early_at early i q)) s count told
     (λ q on. elim (cases_lt q plan.parts) [
       | inl lt ↦ lt
-      | inr out ↦ absurd (is_there (early_at early i q) on (no_source plan.parts early i q e.table out))
+      | inr out ↦ absurd (not_none (early_at early i q) on (no_source plan.parts early i q e.table out))
     ])
     (ap is_some (e.own i))
 
@@ -84,8 +81,8 @@ sources_told plan p t i before after early e s count told =
 pub no_sources : (parts p : ℕ) → AreSources parts p (replicate 64 false)
 no_sources parts p = record {
   count = length-replicate {A = Bool} 64 false;
-  below = λ q on. absurd (let off = flag_none 64 q in let e : true ≡ false = sym on ∙ off in cc);
-  other = flag_none 64 p;
+  below = λ q on. absurd (let off = get_or-replicate_same 64 q false in let e : true ≡ false = sym on ∙ off in cc);
+  other = get_or-replicate_same 64 p false;
 }
 
 -- a place nearer
@@ -94,18 +91,10 @@ early_next plan p t n early after e table at = record {
   table = table;
   kept = λ i q.
       let later : t + 1 + (i + n) ≡ t + n + 1 + i = omega arith in
-      if_same _ (early_at after i q) (early_at early (i + n) q) (at i q)
+      if_some_as _ (early_at after i q) (early_at early (i + n) q) (at i q)
       (subst (λ s. IfSome (early_at early (i + n) q) (IsOfName plan (record { superstep = s; source = q; target = p }))) later (e.kept (i + n) q));
   own = λ i. at i p ∙ e.own (i + n);
 }
-
--- what is kept of the next superstep has the plan and the source
-pub early_from : (plan : PlanValue) (p t i q : ℕ) (early : List (List (Option BatchValue))) → AreEarly plan p t early → IfSome (early_at early i q) (IsFrom plan q)
-early_from plan p t i q early e = by_batch (early_at early i q) (e.kept i q)
-  where
-    by_batch : (o : Option BatchValue) → IfSome o (IsOfName plan (record { superstep = t + 1 + i; source = q; target = p })) → IfSome o (IsFrom plan q)
-    by_batch None h = tt
-    by_batch (Some b) h = record { plan_is = h.plan_is; source_is = ap (λ (n : BatchName). n.source) h.name_is }
 
 pub lasts_total : (log2m : ℕ) (rows : List (List ℕ)) (tallies : List TallyValue) → map (λ (tally : TallyValue). tally.last) tallies ≡ map (estimate_of log2m) rows → total_of log2m rows ≡ sum_by (λ (tally : TallyValue). tally.last) tallies
 unfolding total_of
@@ -135,8 +124,8 @@ state_next v w s a lt =
     }
 
 -- the last sum
-pub last_at : (t last : ℕ) (sums : List ℕ) (found : ℕ) → AreSums t last sums → found ≡ get_or sums t found → found ≡ last
-last_at t last sums found s is = is ∙ get_or_default sums t found 0 (omega (arith, s.count)) ∙ s.last_is
+pub last_sum : (t last : ℕ) (sums : List ℕ) (found : ℕ) → AreSums t last sums → found ≡ get_or sums t found → found ≡ last
+last_sum t last sums found s is = is ∙ get_or_default sums t found 0 (omega (arith, s.count)) ∙ s.last_is
 
 -- with what the figures have gained it is the next one
 pub next_at : (log2m t : ℕ) (rows : List (List ℕ)) (old new : List Tally) (sums : List ℕ) (last gain : ℕ) → AreSums t (sum_by (λ (v : TallyValue). v.last) (map value_of old)) sums → last ≡ get_or sums t last →
@@ -144,7 +133,7 @@ pub next_at : (log2m t : ℕ) (rows : List (List ℕ)) (old new : List Tally) (s
     (last ≡ sum_by (λ (v : TallyValue). v.last) (map value_of old)) × (last + gain ≡ total_of log2m rows)
 next_at log2m t rows old new sums last gain s is tallies gains =
     let last_of : TallyValue → ℕ = λ v. v.last in
-    let here = last_at t (sum_by last_of (map value_of old)) sums last s is in
+    let here = last_sum t (sum_by last_of (map value_of old)) sums last s is in
     let before : sum_by (λ (tally : Tally). tally.last) old ≡ sum_by last_of (map value_of old) = sum_same (λ (tally : Tally). tally.last) last_of old (map value_of old) (map_lasts old) in
     let after = total_of-lasts log2m rows new (ap (map last_of) tallies ∙ stepped_lasts log2m (t + 1) rows (map value_of old) (length rows) refl) in
     (here, omega (arith, here, before, after, gains))

@@ -1,5 +1,5 @@
 -- Figures stepped one after the other.
-use Rattle.std.proofs.Common.{◌≡◌, ℕ, ◌+◌, ◌<◌, ◌≤◌, ◌≢◌, List, [], length, map, get_or, set, arith, sym, ◌∙◌, inl, inr, subst}
+use Rattle.std.proofs.Common.{◌≡◌, ℕ, ◌+◌, ◌<◌, ◌≤◌, ◌≢◌, List, [], length, map, get_or, set, arith, sym, ◌∙◌, inl, inr, subst, zero, suc, replicate, refl}
 use Rattle.std.specs.List.{range_with_len}
 use Rattle.std.proofs.lemmas.Bool.{cases_lt}
 use Rattle.std.proofs.lemmas.List.{get_or-set_same, get_or-set_other, same_lists, get_or_default}
@@ -30,6 +30,12 @@ list_is F xs d n count done =
     same_lists xs (map F (range_with_len 0 n)) (count ∙ sym long)
     (λ k e lt. let inside : k < n = omega (arith, count) in
     get_or_default xs k e d lt ∙ done k inside ∙ sym (get_or-map-range_with_len F 0 n k k e inside (omega arith)))
+
+-- a list of one thing has that thing at each place, and it is what is answered past the end
+pub get_or-replicate_same : {X : Type 0} (n i : ℕ) (x : X) → get_or (replicate n x) i x ≡ x
+get_or-replicate_same zero i x = refl
+get_or-replicate_same (suc n) zero x = refl
+get_or-replicate_same (suc n) (suc i) x = get_or-replicate_same n i x
 
 pub stepped_same : (t : ℕ) {a b : TallyValue} {e f : ℕ} → a ≡ b → e ≡ f → next_tally t a e ≡ next_tally t b f
 stepped_same t same estimate = cc

@@ -1,10 +1,10 @@
 -- A replica that receives a batch which it did not hold.
 use Rattle.std.proofs.Common.{◌≡◌, ℕ, ◌+◌, ◌-◌, ◌<◌, ◌≤◌, ◌==◌, nat_lt, Bool, true, false, not, ◌&&◌, ◌||◌, List, length, get_or, refl, ap, arith, sym, ◌∙◌, subst, inl, inr, if◌then◌else◌, is_some, IfSome}
 use Rattle.std.specs.Prelude.{Option, Some, None, Result, Ok, Err}
-use Rattle.std.specs.Str.{bytes_eq}
-use Rattle.std.proofs.lemmas.Bool.{cases_eq, cases_lt}
-use Rattle.std.proofs.lemmas.Bool.Decides.{nat_tests}
+use Rattle.std.proofs.lemmas.Bool.{cases_eq, cases_lt, eq-eqb, ne_eqb, eqb-true, ltb-false, not-false}
 use Rattle.std.proofs.lemmas.Slice.Eq.{bytes_eq-Decides}
+use Rattle.std.proofs.Math.Bool.{or_comm}
+use Rattle.std.specs.Cmp.{first_so, second_so}
 use Rattle.ball_model.specs.declared.names.BatchName.{BatchName}
 use Rattle.ball_model.specs.declared.names.Taken.{Taken}
 use Rattle.ball_model.specs.declared.names.Taken.TheVariants as taken
@@ -16,14 +16,14 @@ use Rattle.ball_model.specs.Job.{Job}
 use Rattle.ball_model.specs.Batches.{BatchValue, IsBatch, true_batch}
 use Rattle.ball_model.specs.Content.{Content, take_of, after_take, same_plan}
 use Rattle.ball_model.specs.State.{State, SameShown, StandsFor, KeepsTrue, content_of, early_at, holds_in, is_heard, heard_changes}
-use Rattle.ball_model.proofs.PathLemmas.{and_left, and_right, eq_true, same_true}
 use Rattle.replica.specs.Ahead.{IsTable}
 use Rattle.replica.specs.Hearing.{Hears, batch_by}
 use Rattle.replica.specs.Index.{targets_of}
 use Rattle.replica.specs.Kept.{IsOfName, AreEarly, AreSources}
 use Rattle.replica.specs.Seen.{IsState}
-use Rattle.replica.proofs.AdvanceLemmas.{holds_now, holds_before, holds_later, if_same}
+use Rattle.replica.proofs.AdvanceLemmas.{holds_now, holds_before, holds_later}
 use Rattle.replica.proofs.StateLemmas.{sources_more}
+use Rattle.replica.proofs.HearLemmas.{if_some_as}
 
 new_chain : (a b c d e f : Bool) (x y z w : Result Taken TakeError) (v : TakeError) → (if a then Err refusal.OtherJob else (if b then Err refusal.NotMine else (if c then Err refusal.OwnPartition else (if d then Ok taken.Old else (if e then Ok taken.Known else (if f then Err v else Ok taken.New)))))) ≡ Ok taken.New →
     (a ≡ false) × (b ≡ false) × (c ≡ false) × (d ≡ false) × (e ≡ false) × (f ≡ false)
@@ -44,28 +44,15 @@ pub record IsNew (plan : PlanValue) (p : ℕ) (c : Content) (other : PlanValue) 
   pub high : name.superstep < c.superstep + 4
   pub unknown : c.holds name.superstep name.source ≡ false
 
-not_false : (b : Bool) → not b ≡ false → b ≡ true
-not_false true e = refl
-not_false false e = absurd (cc)
-
-eq_from : (a b : ℕ) → (a == b) ≡ true → a ≡ b
-eq_from a b e = grind (arith, nat_tests)
-
-le_from : (a b : ℕ) → nat_lt a b ≡ false → b ≤ a
-le_from a b e = grind (arith, nat_tests)
-
 pub take_of-new : (plan : PlanValue) (p : ℕ) (c : Content) (other : PlanValue) (name : BatchName) → take_of plan p c other name ≡ Ok taken.New → IsNew plan p c other name
 take_of-new plan p c other name h =
     let r : Result Taken TakeError = Ok taken.New in
     let f = new_chain (not (same_plan plan other)) (not (name.target == p)) (name.source == p) (nat_lt name.superstep c.superstep) (c.holds name.superstep name.source) (nat_lt (c.superstep + 3) name.superstep) r r r r (refusal.TooEarly (c.superstep + 3)) h in
-    let low : c.superstep ≤ name.superstep = le_from _ _ f.3 in
-    let high : name.superstep ≤ c.superstep + 3 = le_from _ _ f.5 in
-    record { job = not_false _ f.0; target = eq_from _ _ (not_false _ f.1); source = f.2; low = low; high = omega arith; unknown = f.4 }
+    let low : c.superstep ≤ name.superstep = ltb-false name.superstep c.superstep f.3 in
+    let high : name.superstep ≤ c.superstep + 3 = ltb-false (c.superstep + 3) name.superstep f.5 in
+    record { job = not-false _ f.0; target = eqb-true _ _ (not-false _ f.1); source = f.2; low = low; high = omega arith; unknown = f.4 }
 
 -- ---- plans
-
-bytes_same : (xs ys : List ℕ) → bytes_eq xs ys ≡ true → xs ≡ ys
-bytes_same xs ys e = (bytes_eq-Decides xs ys).0 e
 
 plan_of_fields : (a b : PlanValue) → a.log2m ≡ b.log2m → a.seed ≡ b.seed → a.parts ≡ b.parts → a.limit ≡ b.limit → a.vertices ≡ b.vertices → a.job ≡ b.job → a ≡ b
 plan_of_fields a b e f g h i k =
@@ -75,11 +62,11 @@ plan_of_fields a b e f g h i k =
 -- plans that are the same in every field are one
 pub same_plan_one : (a b : PlanValue) → same_plan a b ≡ true → a ≡ b
 same_plan_one a b e =
-    let e5 = and_left _ _ e in
-    let e4 = and_left _ _ e5 in
-    let e3 = and_left _ _ e4 in
-    let e2 = and_left _ _ e3 in
-    plan_of_fields a b (eq_from _ _ (and_left _ _ e2)) (eq_from _ _ (and_right _ _ e2)) (eq_from _ _ (and_right _ _ e3)) (eq_from _ _ (and_right _ _ e4)) (eq_from _ _ (and_right _ _ e5)) (bytes_same a.job b.job (and_right _ _ e))
+    let e5 = first_so _ _ e in
+    let e4 = first_so _ _ e5 in
+    let e3 = first_so _ _ e4 in
+    let e2 = first_so _ _ e3 in
+    plan_of_fields a b (eqb-true _ _ (first_so _ _ e2)) (eqb-true _ _ (second_so _ _ e2)) (eqb-true _ _ (second_so _ _ e3)) (eqb-true _ _ (second_so _ _ e4)) (eqb-true _ _ (second_so _ _ e5)) ((bytes_eq-Decides a.job b.job).0 (second_so _ _ e))
 
 -- what is known of a batch that is new
 pub record IsFresh (v : State) (b : BatchValue) : Type 0 where
@@ -96,19 +83,6 @@ fresh v b ok new =
     let n = take_of-new v.part.plan v.part.number (content_of v) b.plan b.name new in
     let plan : b.plan ≡ v.part.plan = sym (same_plan_one v.part.plan b.plan n.job) in
     record { batch = ok; plan_is = plan; target = n.target; other = n.source; below = omega (arith, ok.source, ap (λ (a : PlanValue). a.parts) plan); low = n.low; high = n.high }
-
-no : (a b : ℕ) → (a ≡ b → ⊥) → (a == b) ≡ false
-no a b ne = not_so (a == b) (λ e. ne (eq_true a b e))
-  where
-    not_so : (c : Bool) → (c ≡ true → ⊥) → c ≡ false
-    not_so true h = absurd (h refl)
-    not_so false h = refl
-
-or_turn : (a b : Bool) → (a || b) ≡ (b || a)
-or_turn true true = refl
-or_turn true false = refl
-or_turn false true = refl
-or_turn false false = refl
 
 some_if : (e : Bool) (b : BatchValue) → is_some (if e then Some b else None) ≡ e
 some_if true b = refl
@@ -127,15 +101,15 @@ names_heard v w b now at early heard s q =
     ap (λ n. holds_in n w.heard w.early s q) at ∙ ap (λ e. holds_in t w.heard e s q) early
     ∙ elim (cases_eq s t) [
       | inl here ↦
-          let named : (s == b.name.superstep) ≡ true = ap (λ n. n == b.name.superstep) (here ∙ sym now) ∙ same_true b.name.superstep in
+          let named : (s == b.name.superstep) ≡ true = ap (λ n. n == b.name.superstep) (here ∙ sym now) ∙ eq-eqb b.name.superstep b.name.superstep refl in
           ap (λ n. holds_in t w.heard v.early n q) here
           ∙ holds_now t w.heard v.early q
           ∙ heard q
           ∙ ap (λ e. get_or v.heard q false || e) (some_if (q == b.name.source) b)
-          ∙ or_turn (get_or v.heard q false) (q == b.name.source)
+          ∙ or_comm (get_or v.heard q false) (q == b.name.source)
           ∙ sym (ap (λ e. (e && (q == b.name.source)) || holds_in t v.heard v.early s q) named ∙ ap (λ e. (q == b.name.source) || e) (ap (λ n. holds_in t v.heard v.early n q) here ∙ holds_now t v.heard v.early q))
       | inr other ↦
-          let unnamed : (s == b.name.superstep) ≡ false = no s b.name.superstep (λ e. other (e ∙ now)) in
+          let unnamed : (s == b.name.superstep) ≡ false = ne_eqb s b.name.superstep (λ e. other (e ∙ now)) in
           elim (cases_lt s t) [
             | inl before ↦ holds_before t w.heard v.early s q before ∙ sym (holds_before t v.heard v.early s q before)
             | inr after ↦ let more : t < s = omega arith in holds_later t w.heard v.early s q more ∙ sym (holds_later t v.heard v.early s q more)
@@ -159,7 +133,7 @@ names_kept v w b level later is at heard kept s q =
           ∙ ap (λ e. (e && (q == b.name.source)) || is_some (early_at v.early (s - (t + 1)) q)) same
           ∙ ap (λ e. ((s == b.name.superstep) && (q == b.name.source)) || e) (sym (holds_later t v.heard v.early s q after))
       | inr upto ↦
-          let unnamed : (s == b.name.superstep) ≡ false = no s b.name.superstep (λ e. omega arith) in
+          let unnamed : (s == b.name.superstep) ≡ false = ne_eqb s b.name.superstep (λ e. omega arith) in
           elim (cases_eq s t) [
             | inl here ↦ ap (λ n. holds_in t v.heard w.early n q) here ∙ holds_now t v.heard w.early q ∙ sym (ap (λ n. holds_in t v.heard v.early n q) here ∙ holds_now t v.heard v.early q)
             | inr other ↦ let before : s < t = omega arith in holds_before t v.heard w.early s q before ∙ sym (holds_before t v.heard v.early s q before)
@@ -170,8 +144,8 @@ names_kept v w b level later is at heard kept s q =
     level_is : (s t n level : ℕ) → t < s → t < n → level ≡ n - t - 1 → (s - (t + 1) == level) ≡ (s == n)
     level_is s t n level after later is =
         elim (cases_eq s n) [
-          | inl same ↦ let e : s - (t + 1) ≡ level = omega arith in ap (λ k. k == level) e ∙ same_true level ∙ sym (ap (λ k. k == n) same ∙ same_true n)
-          | inr other ↦ no (s - (t + 1)) level (λ e. other (omega arith)) ∙ sym (no s n other)
+          | inl same ↦ let e : s - (t + 1) ≡ level = omega arith in ap (λ k. k == level) e ∙ eq-eqb level level refl ∙ sym (ap (λ k. k == n) same ∙ eq-eqb n n refl)
+          | inr other ↦ ne_eqb (s - (t + 1)) level (λ e. other (omega arith)) ∙ sym (ne_eqb s n other)
         ]
 
 true_name : (j : Job) (b : BatchValue) (s p : ℕ) → b.name.superstep ≡ s → b.name.target ≡ p → b ≡ true_batch j b.name → b ≡ true_batch j (record { superstep = s; source = b.name.source; target = p })
@@ -190,7 +164,7 @@ stands_heard v w b log2m shown now mine early hears j p t number h is =
     let truth : b ≡ true_batch j (record { superstep = t; source = q; target = p }) = true_name j b t p (now ∙ h.superstep) (mine ∙ number) is in
     let hearing = hears.stands j p t h.job (ap targets_of h.part)
     (λ k. if_true (k == q) (λ c. c ≡ true_batch j (record { superstep = t; source = k; target = p })) b None
-    (λ e. truth ∙ ap (λ n. true_batch j (record { superstep = t; source = n; target = p })) (sym (eq_true k q e))) tt)
+    (λ e. truth ∙ ap (λ n. true_batch j (record { superstep = t; source = n; target = p })) (sym (eqb-true k q e))) tt)
     (record { change = h.heard_change; accumulated = h.accumulated }) in
     record {
       job = h.job;
@@ -224,10 +198,10 @@ stands_kept v w b level shown later is mine heard change accumulated kept j p t 
   accumulated = accumulated ∙ h.accumulated ∙ ap (λ l. accumulated_of j p t (λ z. is_heard j.plan.parts l z)) (sym heard);
   early = record {
     true_of = λ i k.
-        if_same _ (early_at w.early i k) _ (kept i k)
+        if_some_as _ (early_at w.early i k) _ (kept i k)
         (if_true ((i == level) && (k == b.name.source)) (λ c. c ≡ true_batch j (record { superstep = t + 1 + i; source = k; target = p })) b (early_at v.early i k)
-        (λ e. let here : i ≡ level = eq_true i level (and_left (i == level) (k == b.name.source) e) in
-        let there : k ≡ b.name.source = eq_true k b.name.source (and_right (i == level) (k == b.name.source) e) in
+        (λ e. let here : i ≡ level = eqb-true i level (first_so (i == level) (k == b.name.source) e) in
+        let there : k ≡ b.name.source = eqb-true k b.name.source (second_so (i == level) (k == b.name.source) e) in
         let at : b.name.superstep ≡ t + 1 + i = omega (arith, h.superstep) in
         true_name j b (t + 1 + i) p at (mine ∙ number) truth ∙ ap (λ n. true_batch j (record { superstep = t + 1 + i; source = n; target = p })) (sym there))
         (h.early.true_of i k));
@@ -239,8 +213,8 @@ pub sources_heard : (v w : State) (b : BatchValue) → IsFresh v b → IsState v
     AreSources v.part.plan.parts v.part.number w.heard
 sources_heard v w b f s count heard =
     sources_more v.part.plan.parts v.part.number v.heard w.heard (λ q. is_some (batch_by b.name.source (Some b) q)) s.heard count heard
-    (λ q on. let at : q ≡ b.name.source = eq_true q b.name.source (sym (some_if (q == b.name.source) b) ∙ on) in omega (arith, f.below))
-    (some_if (v.part.number == b.name.source) b ∙ no v.part.number b.name.source (λ e. let same : (b.name.source == v.part.number) ≡ true = ap (λ n. n == v.part.number) (sym e) ∙ same_true v.part.number in let off = f.other in let bad : true ≡ false = sym same ∙ off in cc))
+    (λ q on. let at : q ≡ b.name.source = eqb-true q b.name.source (sym (some_if (q == b.name.source) b) ∙ on) in omega (arith, f.below))
+    (some_if (v.part.number == b.name.source) b ∙ ne_eqb v.part.number b.name.source (λ e. let same : (b.name.source == v.part.number) ≡ true = ap (λ n. n == v.part.number) (sym e) ∙ eq-eqb v.part.number v.part.number refl in let off = f.other in let bad : true ≡ false = sym same ∙ off in cc))
 
 name_of : (n : BatchName) (s q p : ℕ) → n.superstep ≡ s → n.source ≡ q → n.target ≡ p → n ≡ record { superstep = s; source = q; target = p }
 name_of n s q p e f g = λ i. record { superstep = e i; source = f i; target = g i }
@@ -250,16 +224,16 @@ pub early_kept : (v : State) (after : List (List (Option BatchValue))) (b : Batc
 early_kept v after b level f later is e table kept = record {
   table = table;
   kept = λ i k.
-      if_same _ (early_at after i k) _ (kept i k)
+      if_some_as _ (early_at after i k) _ (kept i k)
       (if_true ((i == level) && (k == b.name.source)) (IsOfName v.part.plan (record { superstep = v.superstep + 1 + i; source = k; target = v.part.number })) b (early_at v.early i k)
-      (λ on. let here : i ≡ level = eq_true i level (and_left (i == level) (k == b.name.source) on) in
-      let there : k ≡ b.name.source = eq_true k b.name.source (and_right (i == level) (k == b.name.source) on) in
+      (λ on. let here : i ≡ level = eqb-true i level (first_so (i == level) (k == b.name.source) on) in
+      let there : k ≡ b.name.source = eqb-true k b.name.source (second_so (i == level) (k == b.name.source) on) in
       record { batch = f.batch; plan_is = f.plan_is; name_is = name_of b.name (v.superstep + 1 + i) k v.part.number (omega arith) (sym there) f.target })
       (e.kept i k));
   own = λ i.
       kept i v.part.number
-      ∙ off_case ((i == level) && (v.part.number == b.name.source)) (λ on. let at : v.part.number ≡ b.name.source = eq_true v.part.number b.name.source (and_right (i == level) (v.part.number == b.name.source) on) in
-      let same : (b.name.source == v.part.number) ≡ true = ap (λ n. n == v.part.number) (sym at) ∙ same_true v.part.number in let off = f.other in let bad : true ≡ false = sym same ∙ off in cc)
+      ∙ off_case ((i == level) && (v.part.number == b.name.source)) (λ on. let at : v.part.number ≡ b.name.source = eqb-true v.part.number b.name.source (second_so (i == level) (v.part.number == b.name.source) on) in
+      let same : (b.name.source == v.part.number) ≡ true = ap (λ n. n == v.part.number) (sym at) ∙ eq-eqb v.part.number v.part.number refl in let off = f.other in let bad : true ≡ false = sym same ∙ off in cc)
       ∙ e.own i;
 }
   where

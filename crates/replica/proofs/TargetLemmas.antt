@@ -1,6 +1,7 @@
 -- Where the index of a part leads.
-use Rattle.std.proofs.Common.{◌≡◌, ◌≢◌, ℕ, ◌+◌, ◌<◌, ◌≤◌, Bool, true, false, ◌&&◌, ◌||◌, ◌==◌, List, [], ◌∷◌, map, length, get_or, if◌then◌else◌, refl, ap, arith, sym, ◌∙◌, inl, inr}
-use Rattle.std.specs.List.{list_any, filter}
+use Rattle.std.proofs.Common.{◌≡◌, ◌≢◌, ℕ, zero, suc, ◌+◌, ◌<◌, ◌≤◌, Bool, true, false, ◌&&◌, ◌||◌, ◌==◌, List, [], ◌∷◌, map, length, get_or, if◌then◌else◌, refl, ap, arith, sym, ◌∙◌, inl, inr}
+use Rattle.std.proofs.Math.Bool.{and-true, or-false}
+use Rattle.std.specs.List.{list_any, filter, flat_map, range_with_len}
 use Rattle.std.proofs.lemmas.Bool.{cases_lt, and_right, ne_eqb, eq-eqb, false_from_ne_true}
 use Rattle.std.proofs.lemmas.List.Folds.{list_any_at, list_any-append}
 use Rattle.std.proofs.lemmas.List.FromFn.{get_or-map-range_with_len, length-map-range_with_len}
@@ -10,29 +11,53 @@ use Rattle.ball_model.specs.State.{own_vertices}
 use Rattle.ball_model.proofs.PathLemmas.{edge_below}
 use Rattle.ball_model.proofs.AccumulatedLemmas.{any_pred}
 use Rattle.std.proofs.lemmas.List.{get_or-map, get_or_past}
-use Rattle.edgelist.specs.Links.{edges_from}
-use Rattle.edgelist.proofs.LinksLemmas.{any_edges}
 use Rattle.replica.specs.Spread.{stands_in, LeadInside}
-use Rattle.replica.specs.Index.{targets_from, targets_of}
+use Rattle.replica.specs.Index.{first_edges, all_edges, targets_from, targets_of}
 
--- ---- edges of lists of predecessors
+-- ---- the edges to own vertices
 any_elsewhere : (ps : List ℕ) (y a x : ℕ) → a ≢ x → list_any (λ (e : ℕ × ℕ). (e.0 == y) && (e.1 == x)) (map (λ p. (p, a)) ps) ≡ false
 any_elsewhere [] y a x ne = refl
 any_elsewhere (p ∷ ps) y a x ne = rw (and_right (p == y) (a == x) (ne_eqb a x ne)) (any_elsewhere ps y a x ne)
 
-any_beyond : (lists : List (List ℕ)) (a y x : ℕ) → a + length lists ≤ x → list_any (λ (e : ℕ × ℕ). (e.0 == y) && (e.1 == x)) (edges_from a lists) ≡ false
-unfolding edges_from
-any_beyond [] a y x le = refl
-any_beyond (ps ∷ rest) a y x le =
-    let apart : a ≢ x = omega arith in
-    list_any-append (λ (e : ℕ × ℕ). (e.0 == y) && (e.1 == x)) (map (λ p. (p, a)) ps) (edges_from (a + 1) rest)
-    ∙ rw (any_elsewhere ps y a x apart) (any_beyond rest (a + 1) y x (omega arith))
+any_here : (ps : List ℕ) (y x : ℕ) → list_any (λ (e : ℕ × ℕ). (e.0 == y) && (e.1 == x)) (map (λ p. (p, x)) ps) ≡ stands_in ps y
+any_here [] y x = refl
+any_here (p ∷ ps) y x = rw (eq-eqb x x refl, and-true (p == y), any_here ps y x) refl
 
-edges_are : (lists : List (List ℕ)) (z i : ℕ) → list_any (λ (e : ℕ × ℕ). (e.0 == z) && (e.1 == i)) (edges_from 0 lists) ≡ stands_in (get_or lists i []) z
-edges_are lists z i =
-    elim (cases_lt i (length lists)) [
-      | inl inside ↦ let e : 0 + i ≡ i = omega arith in rw e at (any_edges lists 0 z i inside)
-      | inr beyond ↦ any_beyond lists 0 z i (omega arith) ∙ rw (get_or_past lists i [] beyond) refl
+-- the edges to own vertex k
+abbrev edges_to : List (List ℕ) → ℕ → List (ℕ × ℕ)
+edges_to preds k = map (λ y. (y, k)) (get_or preds k [])
+
+any_beyond : (preds : List (List ℕ)) (a n z i : ℕ) → i < a → list_any (λ (e : ℕ × ℕ). (e.0 == z) && (e.1 == i)) (flat_map (edges_to preds) (range_with_len a n)) ≡ false
+any_beyond preds a zero z i lt = refl
+any_beyond preds a (suc n) z i lt =
+    let apart : a ≢ i = omega arith in
+    list_any-append (λ (e : ℕ × ℕ). (e.0 == z) && (e.1 == i)) (edges_to preds a) (flat_map (edges_to preds) (range_with_len (a + 1) n))
+    ∙ rw (any_elsewhere (get_or preds a []) z a i apart) (any_beyond preds (a + 1) n z i (omega arith))
+
+any_within : (preds : List (List ℕ)) (a n z i : ℕ) → a ≤ i → i < a + n → list_any (λ (e : ℕ × ℕ). (e.0 == z) && (e.1 == i)) (flat_map (edges_to preds) (range_with_len a n)) ≡ stands_in (get_or preds i []) z
+any_within preds a zero z i low high = absurd (omega arith)
+any_within preds a (suc n) z i low high =
+    list_any-append (λ (e : ℕ × ℕ). (e.0 == z) && (e.1 == i)) (edges_to preds a) (flat_map (edges_to preds) (range_with_len (a + 1) n))
+    ∙ elim (cases_lt a i) [
+      | inl later ↦ let apart : a ≢ i = omega arith in rw (any_elsewhere (get_or preds a []) z a i apart) (any_within preds (a + 1) n z i (omega arith) (omega arith))
+      | inr at ↦
+          let same : a ≡ i = omega arith in
+          rw (same, any_here (get_or preds i []) z i, any_beyond preds (i + 1) n z i (omega arith)) (or-false (stands_in (get_or preds i []) z))
+    ]
+
+any_past : (preds : List (List ℕ)) (a n z i : ℕ) → a + n ≤ i → list_any (λ (e : ℕ × ℕ). (e.0 == z) && (e.1 == i)) (flat_map (edges_to preds) (range_with_len a n)) ≡ false
+any_past preds a zero z i le = refl
+any_past preds a (suc n) z i le =
+    let apart : a ≢ i = omega arith in
+    list_any-append (λ (e : ℕ × ℕ). (e.0 == z) && (e.1 == i)) (edges_to preds a) (flat_map (edges_to preds) (range_with_len (a + 1) n))
+    ∙ rw (any_elsewhere (get_or preds a []) z a i apart) (any_past preds (a + 1) n z i (omega arith))
+
+edges_are : (preds : List (List ℕ)) (z i : ℕ) → list_any (λ (e : ℕ × ℕ). (e.0 == z) && (e.1 == i)) (all_edges preds) ≡ stands_in (get_or preds i []) z
+unfolding first_edges
+edges_are preds z i =
+    elim (cases_lt i (length preds)) [
+      | inl inside ↦ any_within preds 0 (length preds) z i (omega arith) (omega arith)
+      | inr beyond ↦ any_past preds 0 (length preds) z i (omega arith) ∙ rw (get_or_past preds i [] beyond) refl
     ]
 
 -- ---- the index
@@ -45,17 +70,17 @@ any_targets : (es : List (ℕ × ℕ)) (z i : ℕ) → stands_in (targets_from e
 any_targets [] z i = refl
 any_targets (e ∷ es) z i = any_one (e.0 == z) i e (filter (λ f. f.0 == z) es) _ (any_targets es z i)
 
-pub targets-at : (part : PartValue) (z : ℕ) (d : List ℕ) → z < part.plan.vertices → get_or (targets_of part) z d ≡ targets_from (edges_from 0 part.preds) z
+pub targets-at : (part : PartValue) (z : ℕ) (d : List ℕ) → z < part.plan.vertices → get_or (targets_of part) z d ≡ targets_from (all_edges part.preds) z
 unfolding targets_of
-targets-at part z d lt = get_or-map-range_with_len (λ z. targets_from (edges_from 0 part.preds) z) 0 part.plan.vertices z z d lt (omega arith)
+targets-at part z d lt = get_or-map-range_with_len (λ z. targets_from (all_edges part.preds) z) 0 part.plan.vertices z z d lt (omega arith)
 
 pub length-targets : (part : PartValue) → length (targets_of part) ≡ part.plan.vertices
 unfolding targets_of
-length-targets part = length-map-range_with_len (λ z. targets_from (edges_from 0 part.preds) z) 0 part.plan.vertices
+length-targets part = length-map-range_with_len (λ z. targets_from (all_edges part.preds) z) 0 part.plan.vertices
 
 -- the index leads from a vertex to those that have it as a predecessor
 pub targets-in : (part : PartValue) (z i : ℕ) (d : List ℕ) → z < part.plan.vertices → stands_in (get_or (targets_of part) z d) i ≡ stands_in (get_or part.preds i []) z
-targets-in part z i d lt = ap (λ places. stands_in places i) (targets-at part z d lt) ∙ any_targets (edges_from 0 part.preds) z i ∙ edges_are part.preds z i
+targets-in part z i d lt = ap (λ places. stands_in places i) (targets-at part z d lt) ∙ any_targets (all_edges part.preds) z i ∙ edges_are part.preds z i
 
 -- and nowhere from what is no vertex
 pub targets-none : (part : PartValue) (z : ℕ) → part.plan.vertices ≤ z → get_or (targets_of part) z [] ≡ []

@@ -1,8 +1,7 @@
 -- Some vertex is changed exactly where some partition counts one, and then the end is further.
-use Rattle.std.proofs.Common.{◌≡◌, ℕ, zero, suc, ◌+◌, ◌%◌, ◌<◌, ◌≤◌, nat_le, Bool, true, false, not, ◌&&◌, ◌==◌, List, [], ◌∷◌, length, if◌then◌else◌, refl, arith, sym, ◌∙◌, inl, inr, subst}
+use Rattle.std.proofs.Common.{◌≡◌, ℕ, ◌+◌, ◌%◌, ◌<◌, ◌≤◌, nat_le, Bool, true, false, not, ◌&&◌, ◌==◌, List, [], ◌∷◌, length, if◌then◌else◌, refl, arith, sym, ◌∙◌, inl, inr, subst, ap}
 use Rattle.std.specs.List.{list_any, range_with_len, filter, AllByRecursion}
-use Rattle.std.proofs.lemmas.Bool.{cases_lt}
-use Rattle.std.proofs.lemmas.Bool.Decides.{nat_tests}
+use Rattle.std.proofs.lemmas.Bool.{cases_lt, or_cases, eqb-true, eqb-false, le-leb, not-false}
 use Rattle.std.proofs.lemmas.List.Sums.{length-filter}
 use Rattle.ball_model.specs.declared.names.Verdict.TheVariants as verdict
 use Rattle.ball_model.specs.Change.{changed_at, any_changed}
@@ -11,8 +10,7 @@ use Rattle.ball_model.specs.PlanValue.{vertices_of, mixing_of}
 use Rattle.ball_model.specs.Job.{Job, IsJob}
 use Rattle.ball_model.specs.Batches.{changed_count}
 use Rattle.ball_model.specs.Content.{verdict_at}
-use Rattle.ball_model.proofs.PathLemmas.{or_cases, eq_true}
-use Rattle.ball_model.proofs.QuietLemmas.{none_in}
+use Rattle.ball_model.proofs.QuietLemmas.{none_in, none_of}
 use Rattle.ball_model.proofs.EndLemmas.{end_within, end_reached}
 use Rattle.replica.proofs.OwnLemmas.{is_vertex, all_own}
 
@@ -26,7 +24,7 @@ count_none test [] z e mem = absurd (cc)
 count_none test (y ∷ ys) z e mem =
     let parts = count_one (test y) y (filter test ys) e in
     elim (or_cases (y == z) _ mem) [
-      | inl here ↦ let same : y ≡ z = eq_true y z here in subst (λ (k : ℕ). test k ≡ false) same parts.0
+      | inl here ↦ let same : y ≡ z = eqb-true y z here in subst (λ (k : ℕ). test k ≡ false) same parts.0
       | inr later ↦ count_none test ys z parts.1 later
     ]
 
@@ -39,17 +37,13 @@ none_changed j t x ok lt h =
     let ys : List ℕ = vertices_of j.graph.vertices j.plan.parts (x % j.plan.parts) in
     count_none test ys x (length-filter test ys ∙ h (x % j.plan.parts) (omega arith)) (is_vertex j.graph.vertices j.plan.parts x lt)
 
-any_none : (p : ℕ → Bool) (a n : ℕ) → ((k : ℕ) → a ≤ k → k < a + n → p k ≡ false) → list_any p (range_with_len a n) ≡ false
-any_none p a zero h = refl
-any_none p a (suc n) h = rw (h a (omega arith) (omega arith)) (any_none p (a + 1) n (λ k low high. h k (omega arith) (omega arith)))
-
-none_kept : (b : Bool) (y : ℕ) (rest : List ℕ) → b ≡ false → length rest ≡ 0 → length (if b then (y ∷ rest) else rest) ≡ 0
-none_kept true y rest e h = absurd (cc)
-none_kept false y rest e h = h
+none_more : (b : Bool) (y : ℕ) (rest : List ℕ) → b ≡ false → length rest ≡ 0 → length (if b then (y ∷ rest) else rest) ≡ 0
+none_more true y rest e h = absurd (cc)
+none_more false y rest e h = h
 
 none_filtered : (test : ℕ → Bool) (ys : List ℕ) → AllByRecursion (λ k. test k ≡ false) ys → length (filter test ys) ≡ 0
 none_filtered test [] h = refl
-none_filtered test (y ∷ ys) h = none_kept (test y) y (filter test ys) h.0 (none_filtered test ys h.1)
+none_filtered test (y ∷ ys) h = none_more (test y) y (filter test ys) h.0 (none_filtered test ys h.1)
 
 -- where no vertex is changed, no partition counts one
 none_counted : (j : Job) (t q : ℕ) → q < j.plan.parts → any_changed (mixing_of j.plan) j.graph t ≡ false → changed_count j t q ≡ 0
@@ -59,12 +53,6 @@ none_counted j t q lt quiet =
     let ys : List ℕ = vertices_of j.graph.vertices j.plan.parts q in
     sym (length-filter test ys) ∙ none_filtered test ys (all_own (λ k. test k ≡ false) j.graph.vertices j.plan.parts q lt (λ x below. none_in test 0 j.graph.vertices x quiet (omega arith) (omega arith)))
 
-zero_from : (n : ℕ) → not (n == 0) ≡ false → n ≡ 0
-zero_from n e = grind (arith, nat_tests)
-
-zero_to : (n : ℕ) → n ≡ 0 → not (n == 0) ≡ false
-zero_to n e = rw e refl
-
 same_false : (a b : Bool) → (a ≡ false → b ≡ false) → (b ≡ false → a ≡ false) → a ≡ b
 same_false true true f g = refl
 same_false true false f g = g refl
@@ -72,15 +60,15 @@ same_false false b f g = sym (f refl)
 
 all_quiet : (j : Job) (t : ℕ) → IsJob j → ((q : ℕ) → q < j.plan.parts → changed_count j t q ≡ 0) → any_changed (mixing_of j.plan) j.graph t ≡ false
 unfolding any_changed
-all_quiet j t ok h = any_none (λ x. changed_at (mixing_of j.plan) j.graph x t) 0 j.graph.vertices (λ x low lt. none_changed j t x ok (omega arith) h)
+all_quiet j t ok h = none_of (λ x. changed_at (mixing_of j.plan) j.graph x t) 0 j.graph.vertices (λ x low lt. none_changed j t x ok (omega arith) h)
 
 -- THE VERDICT: some vertex is changed where some partition's count is not 0
 pub changed_by_counts : (j : Job) (t : ℕ) → IsJob j → any_changed (mixing_of j.plan) j.graph t ≡ list_any (λ q. not (changed_count j t q == 0)) (range_with_len 0 j.plan.parts)
 changed_by_counts j t ok =
     let counts : ℕ → Bool = λ q. not (changed_count j t q == 0) in
     same_false _ _
-    (λ e. any_none counts 0 j.plan.parts (λ q low lt. zero_to _ (none_counted j t q (omega arith) e)))
-    (λ e. all_quiet j t ok (λ q lt. zero_from _ (none_in counts 0 j.plan.parts q e (omega arith) (omega arith))))
+    (λ e. none_of counts 0 j.plan.parts (λ q low lt. ap (λ n. not (n == 0)) (none_counted j t q (omega arith) e)))
+    (λ e. all_quiet j t ok (λ q lt. eqb-true (changed_count j t q) 0 (not-false (changed_count j t q == 0) (none_in counts 0 j.plan.parts q e (omega arith) (omega arith)))))
 
 -- what a verdict of GoOn says
 go_on : (early quiet last : Bool) → (if early && not quiet then verdict.Stable else (if last then verdict.Limit else verdict.GoOn)) ≡ verdict.GoOn → (early ≡ true → quiet ≡ true) × (last ≡ false)
@@ -89,12 +77,6 @@ go_on true true false e = (λ _. refl, refl)
 go_on true false last e = absurd (cc)
 go_on false quiet true e = absurd (cc)
 go_on false quiet false e = (λ h. absurd (cc), refl)
-
-le_to : (a b : ℕ) → a ≤ b → nat_le a b ≡ true
-le_to a b e = grind (arith, nat_tests)
-
-not_same : (a b : ℕ) → (a == b) ≡ false → a ≡ b → ⊥
-not_same a b off e = grind (arith, nat_tests)
 
 -- the end is after a superstep at which the run goes on
 pub end_further : (j : Job) (t : ℕ) → IsJob j → t ≤ end_of (mixing_of j.plan) j.graph j.plan.limit → verdict_at j t ≡ verdict.GoOn → t + 1 ≤ end_of (mixing_of j.plan) j.graph j.plan.limit
@@ -109,9 +91,9 @@ end_further j t ok le on =
       | inl before ↦ omega arith
       | inr at ↦
           let same : end ≡ t = omega arith in
-          let changed : any_changed m g t ≡ true = says.0 (le_to 1 t (omega arith)) in
+          let changed : any_changed m g t ≡ true = says.0 (le-leb 1 t (omega arith)) in
           elim (end_reached m g j.plan.limit) [
             | inl quiet ↦ absurd (let q : any_changed m g t ≡ false = subst (λ (k : ℕ). any_changed m g k ≡ false) same quiet in cc)
-            | inr last ↦ absurd (not_same t j.plan.limit says.1 (sym same ∙ last))
+            | inr last ↦ absurd (eqb-false t j.plan.limit says.1 (sym same ∙ last))
           ]
     ]

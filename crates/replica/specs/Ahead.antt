@@ -1,10 +1,11 @@
 -- Batches of supersteps to come, by how far they are ahead and by source.
-use Rattle.std.specs.Prelude.{◌≡◌, ℕ, ◌+◌, ◌*◌, ◌<◌, List, [], map, length, Option, None, Some, slice_index_or, drop, ◌++◌, replicate, nat_lt}
-use Rattle.std.specs.List.{range_with_len, filter, flat_map}
+use Rattle.std.specs.Prelude.{◌≡◌, ℕ, ◌+◌, ◌*◌, ◌<◌, List, [], map, length, Option, None, Some, option_map, slice_index_or, drop, ◌++◌, replicate, nat_lt}
+use Rattle.std.specs.List.{range_with_len, filter, flat_map, slice_get}
 use Rattle.std.specs.Option.{option_to_list}
 use Rattle.ball_model.specs.declared.names.BatchName.{BatchName}
-use Rattle.ball_model.specs.Batches.{BatchValue}
+use Rattle.ball_model.specs.Batches.{BatchValue, true_batch}
 use Rattle.ball_model.specs.Content.{names_of}
+use Rattle.ball_model.specs.Job.{Job}
 use Rattle.ball_model.specs.State.{State, content_of}
 
 -- slots, one for each of three supersteps and each source, as a table
@@ -47,3 +48,7 @@ unfoldable pub early_names : State → List BatchName
 early_names v =
     filter (λ name. nat_lt v.superstep name.superstep)
     (names_of v.part.plan v.part.number (content_of v))
+
+-- the true batch of the i-th of them
+abbrev pub true_early : Job → State → ℕ → Option BatchValue
+true_early j v i = option_map (true_batch j) (slice_get (early_names v) i)

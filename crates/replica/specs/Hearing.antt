@@ -1,9 +1,9 @@
 -- What a replica has heard of its superstep, and what becomes of it as batches are heard.
-use Rattle.std.specs.Prelude.{◌≡◌, ℕ, Bool, false, ◌||◌, ◌==◌, List, length, Option, None, None, is_some, nat_lt, IfSome, slice_index_or, if◌then◌else◌}
+use Rattle.std.specs.Prelude.{◌≡◌, ℕ, Bool, false, ◌||◌, ◌==◌, List, length, Option, None, Some, is_some, nat_lt, IfSome, slice_index_or, if◌then◌else◌}
 use Rattle.ball_model.specs.Accumulated.{accumulated_of}
 use Rattle.ball_model.specs.Batches.{BatchValue, true_batch}
 use Rattle.ball_model.specs.Job.{Job, IsJob, part_of}
-use Rattle.ball_model.specs.State.{is_heard, heard_changes}
+use Rattle.ball_model.specs.State.{State, is_heard, heard_changes}
 use Rattle.replica.specs.Index.{targets_of}
 use Rattle.replica.specs.Kept.{AllRise}
 
@@ -12,6 +12,13 @@ pub record Hearing : Type 0 where
   pub heard : List Bool
   pub change : Bool
   pub accumulated : List (List ℕ)
+
+abbrev pub hearing_of : List Bool → Bool → List (List ℕ) → Hearing
+hearing_of heard change rows = record { heard = heard; change = change; accumulated = rows }
+
+-- that of a replica
+abbrev pub hearing_in : State → Hearing
+hearing_in v = hearing_of v.heard v.heard_change v.accumulated
 
 -- it is what the definitions say of superstep t
 pub record IsTrueHearing (j : Job) (p t : ℕ) (a : Hearing) : Type 0 where
@@ -22,9 +29,9 @@ pub record IsTrueHearing (j : Job) (p t : ℕ) (a : Hearing) : Type 0 where
 abbrev pub batch_by : ℕ → Option BatchValue → ℕ → Option BatchValue
 batch_by source told q = if q == source then told else None
 
--- what the sources below n tell
-abbrev pub told_below : (ℕ → Option BatchValue) → ℕ → ℕ → Option BatchValue
-told_below told n q = if nat_lt q n then told q else None
+-- the batches that the sources below n tell of
+abbrev pub batches_below : (ℕ → Option BatchValue) → ℕ → ℕ → Option BatchValue
+batches_below told n q = if nat_lt q n then told q else None
 
 -- what the sources tell is heard too
 pub record Hears (log2m : ℕ) (targets : List (List ℕ)) (told : ℕ → Option BatchValue)
@@ -37,3 +44,8 @@ pub record Hears (log2m : ℕ) (targets : List (List ℕ)) (told : ℕ → Optio
       ((q : ℕ) →
       IfSome (told q) (λ b. b ≡ true_batch j (record { superstep = t; source = q; target = p }))) →
       IsTrueHearing j p t a → IsTrueHearing j p t b
+
+-- what a batch of the superstep tells is heard too
+abbrev pub HearsBatch : List (List ℕ) → BatchValue → Hearing → Hearing → Type 0
+HearsBatch targets b old new =
+    Hears b.plan.log2m targets (batch_by b.name.source (Some b)) old new

@@ -1,5 +1,5 @@
 -- What a replica's fields keep, whatever the batches say.
-use Rattle.std.specs.Prelude.{◌≡◌, ℕ, ◌+◌, ◌/◌, ◌%◌, ◌<◌, ◌≤◌, Bool, true, false, List, [], length, Option, None, IfSome, slice_index_or}
+use Rattle.std.specs.Prelude.{◌≡◌, ℕ, ◌+◌, ◌<◌, ◌≤◌, Bool, true, false, List, [], length, Option, None, IfSome, slice_index_or}
 use Rattle.ball_model.specs.declared.names.BatchName.{BatchName}
 use Rattle.ball_model.specs.Batches.{BatchValue, IsBatch}
 use Rattle.ball_model.specs.Laws.{IsCounterRow}
@@ -41,7 +41,7 @@ pub record AreCounters (log2m : ℕ) (rows : List (List ℕ)) : Type 0 where
   pub row : (i : ℕ) → i < length rows → IsCounterRow log2m (slice_index_or rows i [])
 
 -- a row that has become another: still a counter's row, and no register fell
-pub record Rises (log2m : ℕ) (old new : List ℕ) : Type 0 where
+pub record RowRises (log2m : ℕ) (old new : List ℕ) : Type 0 where
   pub row : IsCounterRow log2m new
   pub grew : (k : ℕ) → k < length old → slice_index_or old k 0 ≤ slice_index_or new k 0
 
@@ -49,11 +49,7 @@ pub record Rises (log2m : ℕ) (old new : List ℕ) : Type 0 where
 pub record AllRise (log2m : ℕ) (old new : List (List ℕ)) : Type 0 where
   pub count : length new ≡ length old
   pub rises : (i : ℕ) → i < length old →
-      Rises log2m (slice_index_or old i []) (slice_index_or new i [])
-
--- where z is of the partition, its place is below the number of its vertices
-pub record IsOwn (parts number count z : ℕ) : Type 0 where
-  pub below : z % parts ≡ number → z / parts < count
+      RowRises log2m (slice_index_or old i []) (slice_index_or new i [])
 
 -- the last estimates are at most those of the rows, and the same where a row is not marked
 pub record AreLasts (log2m : ℕ) (rows : List (List ℕ)) (marks : List Bool)

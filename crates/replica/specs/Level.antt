@@ -1,5 +1,5 @@
 -- A superstep over plain data: what a replica makes of what it has (HyperBall 2013).
-use Rattle.std.specs.Prelude.{ℕ, ◌+◌, ◌-◌, ◌*◌, ◌/◌, Bool, true, not, ◌==◌, ◌||◌, ◌&&◌, List, [], map, Option, Result, Ok, Err, false, if◌then◌else◌, slice_index_or, nat_le}
+use Rattle.std.specs.Prelude.{◌≡◌, ◌⊎◌, ℕ, ◌+◌, ◌-◌, ◌*◌, ◌/◌, Bool, true, not, ◌==◌, ◌||◌, ◌&&◌, List, [], map, Option, Some, Result, Ok, Err, false, if◌then◌else◌, slice_index_or, nat_le}
 use Rattle.std.specs.List.{range_with_len, list_any, sum_by}
 use Rattle.std.specs.Str.{bytes_eq}
 use Rattle.ball_model.specs.Figures.{TallyValue, estimate_of}
@@ -49,15 +49,20 @@ level_verdict v =
     if nat_le 1 v.superstep && not (is_changing v) then verdict.Stable
     else (if v.superstep == v.part.plan.limit then verdict.Limit else verdict.GoOn)
 
+-- the least source that is missing from its level
+abbrev pub missing_in : State → Option ℕ
+missing_in v = missing_of v.part.plan.parts v.part.number (content_of v)
+
 -- the verdict, and the answer to a close, as they are read off what the replica has
 abbrev pub found_verdict : State → Option Verdict
-found_verdict v =
-    verdict_unless (missing_of v.part.plan.parts v.part.number (content_of v)) (level_verdict v)
+found_verdict v = verdict_unless (missing_in v) (level_verdict v)
 
 abbrev pub found_close : State → Result ℕ CloseError
-found_close v =
-    close_unless (missing_of v.part.plan.parts v.part.number (content_of v))
-    (level_verdict v) v.superstep
+found_close v = close_unless (missing_in v) (level_verdict v) v.superstep
+
+-- the verdict is that the run is over
+abbrev pub EndsRun : Option Verdict → Type 0
+EndsRun said = (said ≡ Some verdict.Stable) ⊎ (said ≡ Some verdict.Limit)
 
 -- whether an answer to a close is that the run is over
 abbrev pub is_finished : Result ℕ CloseError → Bool

@@ -1,7 +1,8 @@
 -- What two replicas of one partition make of what they have: merging, over plain data.
-use Rattle.std.specs.Prelude.{◌≡◌, ℕ, max}
+use Rattle.std.specs.Prelude.{◌≡◌, ℕ, Result, max}
+use Rattle.ball_model.specs.declared.names.MergeError.{MergeError}
 use Rattle.ball_model.specs.Job.{Job}
-use Rattle.ball_model.specs.Join.{union_of}
+use Rattle.ball_model.specs.Join.{union_of, merge_of}
 use Rattle.ball_model.specs.State.{State, StandsFor, content_of, further}
 
 -- the superstep, the rows, the marks, the figures and the sums are those of another replica
@@ -12,11 +13,19 @@ pub record ShowsAs (v w : State) : Type 0 where
   pub tallies : v.tallies ≡ w.tallies
   pub sums : v.sums ≡ w.sums
 
+-- the answer to a merge with a snapshot of o, where memory is there
+abbrev pub merge_answer : State → State → Result (Unit {0}) MergeError
+merge_answer v o = merge_of v.part.plan v.part.number o.part.plan o.part.number
+
+-- of the batches that either holds, w holds those of its superstep and later ones
+abbrev pub HoldsOfBoth : State → State → State → Type 0
+HoldsOfBoth v o w =
+    (s q : ℕ) → (content_of w).holds s q ≡ (union_of (content_of v) (content_of o)).holds s q
+
 -- w is v once it has taken over what o knows
 pub record Absorbs (v o w : State) : Type 0 where
   pub part : w.part ≡ v.part
   pub shown : ShowsAs w (further v o)
-  pub names : (s q : ℕ) →
-      (content_of w).holds s q ≡ (union_of (content_of v) (content_of o)).holds s q
+  pub names : HoldsOfBoth v o w
   pub stands : (j : Job) (p t u : ℕ) → StandsFor j p t v → StandsFor j p u o →
       StandsFor j p (max t u) w

@@ -13,10 +13,11 @@ use Rattle.ball_model.specs.Change.{any_changed}
 use Rattle.ball_model.specs.Supersteps.{end_of}
 use Rattle.ball_model.specs.PlanValue.{mixing_of}
 use Rattle.ball_model.specs.Job.{Job}
-use Rattle.ball_model.specs.Content.{Content, IsContent, take_of, is_new, after_take, missing_of, verdict_of, close_of, after_close}
+use Rattle.ball_model.specs.Content.{Content, IsContent, take_of, is_new, missing_of, verdict_of, close_of, after_close}
 use Rattle.ball_model.specs.Join.{union_of}
 use Rattle.ball_model.specs.State.{State, StandsFor, content_of}
 use Rattle.ball_model.specs.Steps.{Call, Take, Close, Merge, Answer, Took, Closed, Merged, start_content, content_after_all, answers_of}
+use Rattle.replica.specs.Change.{HoldsAfter}
 use Rattle.replica.specs.Seen.{IsState}
 
 -- the replica stands for the partition and has that content
@@ -28,9 +29,7 @@ pub record HasContent (j : Job) (p : ℕ) (c : Content) (v : State) : Type 0 whe
 pub record Takes (j : Job) (p : ℕ) (name : BatchName) (r : Result Taken TakeError)
     (v w : State) : Type 0 where
   pub answer : r ≡ take_of v.part.plan v.part.number (content_of v) j.plan name
-  pub names : (s q : ℕ) →
-      (content_of w).holds s q
-      ≡ after_take (is_new r) (content_of v).holds name.superstep name.source s q
+  pub names : HoldsAfter (is_new r) name v w
   pub stands : (t : ℕ) → StandsFor j p t v → StandsFor j p t w
 
 -- what a call of `close` promises, of its answer
@@ -74,10 +73,18 @@ RunAnswers = (j : Job) (p : ℕ) (calls : List Call) (answers : List Answer) (v 
     HasContent j p start_content v → Made j p v calls answers w →
     answers ≡ answers_of j p start_content calls
 
--- its superstep is at most the end
+-- how many of these answers are of a close that went on
+unfoldable pub closes_in : List Answer → ℕ
+closes_in [] = 0
+closes_in (Closed (Ok t) ∷ answers) = closes_in answers + 1
+closes_in (answer ∷ answers) = closes_in answers
+
+-- its superstep is at most the end, and at most so many of the closes went on
 abbrev pub RunIsInTime : Type 0
-RunIsInTime = (j : Job) (p t : ℕ) (v : State) → StandsFor j p t v →
-    t ≤ end_of (mixing_of j.plan) j.graph j.plan.limit
+RunIsInTime = (j : Job) (p : ℕ) (calls : List Call) (answers : List Answer) (v w : State) →
+    HasContent j p start_content v → Made j p v calls answers w →
+    (closes_in answers ≤ w.superstep)
+    × (w.superstep ≤ end_of (mixing_of j.plan) j.graph j.plan.limit)
 
 -- the verdict is stable exactly where the level is held, the superstep is not 0, and no vertex of the graph is changed
 abbrev pub StableIsQuiet : Type 0

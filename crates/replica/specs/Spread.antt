@@ -4,6 +4,7 @@ use Rattle.std.specs.List.{All, list_any, filter, range_with_len}
 use Rattle.std.specs.Str.{bytes_eq}
 use Rattle.ball_model.specs.Counter.{max_each}
 use Rattle.ball_model.specs.Job.{PartValue}
+use Rattle.ball_model.specs.Table.{Table}
 
 -- the number stands in the list
 abbrev pub stands_in : List ℕ → ℕ → Bool
@@ -26,6 +27,13 @@ rows_after_all targets [] rows = rows
 rows_after_all targets (other ∷ rest) rows =
     rows_after_all targets rest (rows_after (slice_index_or targets other.0 []) other.1 rows)
 
+-- a table whose rows are raised so, by other registers or by those of some vertices
+abbrev pub raised_at : List ℕ → List ℕ → Table → Table
+raised_at places registers table = record table { rows = rows_after places registers table.rows }
+
+abbrev pub raised_by : List (List ℕ) → List (ℕ × List ℕ) → Table → Table
+raised_by targets others table = record table { rows = rows_after_all targets others table.rows }
+
 -- of the first n vertices of partition p those whose row is marked, each with its row
 unfoldable pub marked_rows : ℕ → ℕ → List (List ℕ) → List Bool → ℕ → List (ℕ × List ℕ)
 marked_rows parts p rows marks n =
@@ -46,13 +54,16 @@ touched_at marks old new i =
 abbrev pub LeadInside : ℕ → List (List ℕ) → Type 0
 LeadInside count targets = All (λ places. All (λ i. i < count) places) targets
 
+-- no register is below that of the row
+abbrev pub IsAbove : List ℕ → List ℕ → Type 0
+IsAbove row accumulated = max_each row accumulated ≡ accumulated
+
 -- no accumulator is below its row anywhere, and those are marked that differ from their row
 pub record AreTouched (rows accumulated : List (List ℕ)) (touched : List Bool) : Type 0 where
   pub count : length accumulated ≡ length rows
   pub marks : length touched ≡ length rows
   pub above : (i : ℕ) → i < length rows →
-      max_each (slice_index_or rows i []) (slice_index_or accumulated i [])
-      ≡ slice_index_or accumulated i []
+      IsAbove (slice_index_or rows i []) (slice_index_or accumulated i [])
   pub differ : (i : ℕ) → i < length rows →
       slice_index_or touched i false
       ≡ not (bytes_eq (slice_index_or accumulated i []) (slice_index_or rows i []))

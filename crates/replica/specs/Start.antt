@@ -29,14 +29,17 @@ first_rows part = map (λ i. first_row part i) (range_with_len 0 (length part.pr
 abbrev pub first_tally : ℕ → TallyValue
 first_tally e = record { last = e; harm = 0; dist = 0 }
 
+-- those of vertices with such rows
+abbrev pub first_figures : ℕ → List (List ℕ) → List TallyValue
+first_figures log2m rows = map (λ row. first_tally (estimate_of log2m row)) rows
+
 -- a replica of the part at superstep 0 that holds nothing
 pub record Starts (part : PartValue) (v : State) : Type 0 where
   pub part_is : v.part ≡ part
   pub superstep : v.superstep ≡ 0
   pub rows : v.rows ≡ first_rows part
   pub marks : v.marks ≡ part.counted
-  pub tallies : v.tallies
-      ≡ map (λ row. first_tally (estimate_of part.plan.log2m row)) (first_rows part)
+  pub tallies : v.tallies ≡ first_figures part.plan.log2m (first_rows part)
   pub sums : v.sums ≡ total_of part.plan.log2m (first_rows part) ∷ []
   pub heard : v.heard ≡ replicate 64 false
   pub heard_change : v.heard_change ≡ false

@@ -3,10 +3,10 @@
 ghost use Rattle.std.specs.Prelude.{◌≡◌, ℕ, true, max, OnOk, OnErr};
 ghost use Rattle.ball_model.specs.History.{holding_in};
 ghost use Rattle.ball_model.specs.Job.{Job};
-ghost use Rattle.ball_model.specs.Join.{Holding, AreAlike, join_of, union_of};
-ghost use Rattle.ball_model.specs.State.{StandsFor, content_of, further};
+ghost use Rattle.ball_model.specs.Join.{Holding, AreAlike, join_of};
+ghost use Rattle.ball_model.specs.State.{StandsFor, further};
 ghost use Rattle.ball_model.proofs.JoinLemmas.{join_commutes, join_associates, join_repeats, alike_turns, alike_through, join_stays_alike};
-ghost use Rattle.replica.specs.Merged.{ShowsAs};
+ghost use Rattle.replica.specs.Merged.{HoldsOfBoth, ShowsAs};
 
 use crate::Replica;
 use registers::Join;
@@ -42,9 +42,7 @@ impl Join for Replica {
         ensures part { self.new.part ≡ self.old.part }
         ensures superstep { OnOk result
             (self.new.superstep ≡ max self.old.superstep other.now.superstep) }
-        ensures names { OnOk result ((s q : ℕ) →
-            (content_of self.new).holds s q ≡
-            (union_of (content_of self.old) (content_of other.now)).holds s q) }
+        ensures names { OnOk result (HoldsOfBoth self.old other.now self.new) }
         ensures shown { OnOk result (ShowsAs self.new (further self.old other.now)) }
         ensures stands { (j : Job) (p t u : ℕ) → StandsFor j p t self.old →
             StandsFor j p u other.now → OnOk result (StandsFor j p (max t u) self.new) }

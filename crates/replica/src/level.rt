@@ -1,18 +1,19 @@
 //! What a replica does with the batches of its superstep, and with its figures.
 
-ghost use Rattle.std.specs.Prelude.{◌≡◌, ℕ, List, ◌<◌, ◌≤◌, ◌+◌, ◌*◌, ◌^◌, false, not, [], slice_set, length, slice_index_or, option_map, Some, map, IfSome, count_by};
+ghost use Rattle.std.specs.Prelude.{◌≡◌, ℕ, ◌<◌, ◌≤◌, ◌+◌, ◌*◌, ◌^◌, false, not, [], slice_set, length, slice_index_or, option_map, map, IfSome, count_by};
 ghost use Rattle.std.specs.List.{sum_by, list_any};
 ghost use Rattle.std.specs.Str.{bytes_eq};
-ghost use Rattle.ball_model.specs.Counter.{max_each};
 ghost use Rattle.ball_model.specs.Figures.{estimate_of};
 ghost use Rattle.ball_model.specs.Laws.{IsCounterRow};
+ghost use Rattle.ball_model.specs.PlanValue.{greatest_limit};
 ghost use Rattle.ball_model.specs.State.{early_at};
 ghost use Rattle.figures.specs.Values.{value_of};
 ghost use Rattle.replica.specs.Ahead.{IsTable};
 ghost use Rattle.replica.specs.Level.{differences, next_tally, next_tallies};
+ghost use Rattle.replica.specs.Heard.{StayTouched};
 ghost use Rattle.replica.specs.Kept.{AreCounters, AreLasts, AllRise, IsFrom};
-ghost use Rattle.replica.specs.Spread.{AreTouched, LeadInside};
-ghost use Rattle.replica.specs.Hearing.{Hears, batch_by};
+ghost use Rattle.replica.specs.Spread.{AreTouched, IsAbove, LeadInside};
+ghost use Rattle.replica.specs.Hearing.{Hears, HearsBatch, batch_by, hearing_of};
 
 use crate::early::Early;
 use crate::spread::spread_batch;
@@ -37,21 +38,11 @@ pub fn hear(
     requires count { length touched.old ≡ length accumulated.old.rows }
     requires rows { AreCounters batch.now.plan.log2m accumulated.old.rows }
     ensures width { accumulated.new.width ≡ accumulated.old.width }
-    ensures hears { Hears batch.now.plan.log2m targets.now
-        (batch_by batch.now.name.source (Some batch.now))
-        (record {
-          heard = heard.old;
-          change = heard_change.old;
-          accumulated = accumulated.old.rows;
-        })
-        (record {
-          heard = heard.new;
-          change = heard_change.new;
-          accumulated = accumulated.new.rows;
-        }) }
-    ensures touched { (rows : List (List ℕ)) →
-        AreTouched rows accumulated.old.rows touched.old →
-        AreTouched rows accumulated.new.rows touched.new }
+    ensures hears { HearsBatch targets.now batch.now
+        (hearing_of heard.old heard_change.old accumulated.old.rows)
+        (hearing_of heard.new heard_change.new accumulated.new.rows) }
+    ensures touched { StayTouched accumulated.old.rows touched.old
+        accumulated.new.rows touched.new }
 {
     spread_batch(targets, batch, accumulated, touched);
     heard.insert(batch.name().source);
@@ -78,19 +69,10 @@ fn hear_if(
     ensures width { accumulated.new.width ≡ accumulated.old.width }
     ensures hears { Hears plan.now.log2m targets.now
         (batch_by source (option_map (λ b. b.now) batch.entry))
-        (record {
-          heard = heard.old;
-          change = heard_change.old;
-          accumulated = accumulated.old.rows;
-        })
-        (record {
-          heard = heard.new;
-          change = heard_change.new;
-          accumulated = accumulated.new.rows;
-        }) }
-    ensures touched { (rows : List (List ℕ)) →
-        AreTouched rows accumulated.old.rows touched.old →
-        AreTouched rows accumulated.new.rows touched.new }
+        (hearing_of heard.old heard_change.old accumulated.old.rows)
+        (hearing_of heard.new heard_change.new accumulated.new.rows) }
+    ensures touched { StayTouched accumulated.old.rows touched.old
+        accumulated.new.rows touched.new }
 {
     match batch {
         Some(batch) => hear(targets, batch, heard, heard_change, accumulated, touched),
@@ -116,21 +98,11 @@ pub fn hear_early(
     requires table { IsTable plan.now.parts early.now }
     requires batches { (q : ℕ) → IfSome (early_at early.now 0 q) (IsFrom plan.now q) }
     ensures width { accumulated.new.width ≡ accumulated.old.width }
-    ensures hears { Hears plan.now.log2m targets.now
-        (λ q. early_at early.now 0 q)
-        (record {
-          heard = heard.old;
-          change = heard_change.old;
-          accumulated = accumulated.old.rows;
-        })
-        (record {
-          heard = heard.new;
-          change = heard_change.new;
-          accumulated = accumulated.new.rows;
-        }) }
-    ensures touched { (rows : List (List ℕ)) →
-        AreTouched rows accumulated.old.rows touched.old →
-        AreTouched rows accumulated.new.rows touched.new }
+    ensures hears { Hears plan.now.log2m targets.now (λ q. early_at early.now 0 q)
+        (hearing_of heard.old heard_change.old accumulated.old.rows)
+        (hearing_of heard.new heard_change.new accumulated.new.rows) }
+    ensures touched { StayTouched accumulated.old.rows touched.old
+        accumulated.new.rows touched.new }
 {
     for source in 0..plan.parts() {
         let batch = early.get(0, source);
@@ -163,8 +135,8 @@ fn catch_up_row(rows: &mut Rows, accumulated: &Rows, i: usize, changed: bool)
     requires width { rows.old.width ≡ accumulated.now.width }
     requires count { length rows.old.rows ≡ length accumulated.now.rows }
     requires row { i < length rows.old.rows }
-    requires above { max_each (slice_index_or rows.old.rows i [])
-        (slice_index_or accumulated.now.rows i []) ≡ slice_index_or accumulated.now.rows i [] }
+    requires above { IsAbove (slice_index_or rows.old.rows i [])
+        (slice_index_or accumulated.now.rows i []) }
     requires differs { changed ≡ not (bytes_eq
         (slice_index_or accumulated.now.rows i []) (slice_index_or rows.old.rows i [])) }
     ensures { rows.new ≡ record rows.old {
@@ -200,7 +172,7 @@ pub fn clear_marks(marks: &mut [bool])
 /// last estimates has gained. Figures of rows that did not change stay as they are.
 pub fn step_tallies(log2m: u8, t: u32, rows: &Rows, marks: &[bool], tallies: &mut [Tally]) -> u128
     requires from { 0 < t }
-    requires to { t ≤ 4096 }
+    requires to { t ≤ greatest_limit }
     requires rows { AreCounters log2m rows.now.rows }
     requires marks { length marks.now ≡ length rows.now.rows }
     requires count { length tallies.old ≡ length rows.now.rows }
@@ -221,7 +193,7 @@ pub fn step_tallies(log2m: u8, t: u32, rows: &Rows, marks: &[bool], tallies: &mu
 // they stay as they are.
 fn step_tally(log2m: u8, t: u32, row: &[u8], changed: bool, tally: &mut Tally) -> u128
     requires from { 0 < t }
-    requires to { t ≤ 4096 }
+    requires to { t ≤ greatest_limit }
     requires row { IsCounterRow log2m row.now }
     requires grown { tally.old.last ≤ estimate_of log2m row.now }
     requires same { changed ≡ false → tally.old.last ≡ estimate_of log2m row.now }
@@ -250,7 +222,7 @@ pub fn sum_of_lasts(tallies: &[Tally]) -> u128
 }
 
 /// The number of marks that are set.
-pub fn count_marks(marks: &[bool]) -> usize
+pub fn count_set(marks: &[bool]) -> usize
     ensures value { result ≡ count_by (λ mark. mark) marks.now }
     ensures within { result ≤ length marks.now }
 {
@@ -258,7 +230,7 @@ pub fn count_marks(marks: &[bool]) -> usize
 }
 
 /// Whether some mark is set.
-pub fn is_marked(marks: &[bool]) -> bool
+pub fn any_marked(marks: &[bool]) -> bool
     ensures { result ≡ list_any (λ mark. mark) marks.now }
 {
     marks.iter().any(|mark| *mark)

@@ -23,6 +23,14 @@
 //! the rows and figures of that one, and holds each batch of its window that either held. What is taken over is true
 //! where both were.
 //!
+//! ```text
+//! let mut replica = Replica::new(alloc, part)?;      // superstep 0
+//! replica.out(alloc, 1)?                             // what partition 1 is told of superstep 0
+//! replica.close()                                    // Err: CloseError::Waiting { source: 1 }
+//! replica.take(batch)                                // Ok: Taken::New, the batch of partition 1
+//! replica.close()                                    // Ok(1), the superstep that it is at now
+//! ```
+//!
 //! Only [`Replica::new`], [`Replica::out`], [`Replica::snapshot`], [`Replica::merge`] and a join take memory.
 #![tactic(auto)]
 

@@ -6,6 +6,7 @@ ghost use Rattle.std.specs.Arc.{arc_value};
 ghost use Rattle.std.specs.List.{list_any, slice_get};
 ghost use Rattle.ball_model.specs.declared.names.CloseError.TheVariants as waits;
 ghost use Rattle.ball_model.specs.declared.names.MergeError.TheVariants as refusal;
+ghost use Rattle.ball_model.specs.declared.names.Verdict.TheVariants as verdict;
 ghost use Rattle.ball_model.specs.Counter.{ball_counter};
 ghost use Rattle.ball_model.specs.Change.{changed_at};
 ghost use Rattle.ball_model.specs.Laws.{IsCounterRow};
@@ -13,14 +14,14 @@ ghost use Rattle.ball_model.specs.Supersteps.{tally_at};
 ghost use Rattle.ball_model.specs.PlanValue.{mixing_of, vertices_of};
 ghost use Rattle.ball_model.specs.Job.{Job, IsJob, part_of};
 ghost use Rattle.ball_model.specs.Batches.{true_batch, changed_count};
-ghost use Rattle.ball_model.specs.Content.{Content, take_of, is_new, after_take, missing_of, verdict_of, close_of, after_close};
-ghost use Rattle.ball_model.specs.Join.{union_of, merge_of};
+ghost use Rattle.ball_model.specs.Content.{Content, is_new, verdict_of, close_of, after_close};
 ghost use Rattle.ball_model.specs.State.{SameShown, StandsFor, content_of, further, rows_of, tallies_of, sums_of};
 ghost use Rattle.figures.specs.Values.{value_of};
-ghost use Rattle.replica.specs.Ahead.{early_batches, early_names};
-ghost use Rattle.replica.specs.Level.{found_verdict, is_finished, nothing};
-ghost use Rattle.replica.specs.Merged.{Absorbs, ShowsAs};
-ghost use Rattle.replica.specs.Sent.{sent_batch};
+ghost use Rattle.replica.specs.Ahead.{early_batches, early_names, true_early};
+ghost use Rattle.replica.specs.Change.{HoldsAfter, IsTrueBatch, take_answer};
+ghost use Rattle.replica.specs.Level.{EndsRun, found_verdict, is_finished, missing_in, nothing};
+ghost use Rattle.replica.specs.Merged.{Absorbs, HoldsOfBoth, ShowsAs, merge_answer};
+ghost use Rattle.replica.specs.Sent.{batch_name, sent_batch};
 ghost use Rattle.replica.specs.Start.{Starts};
 ghost use Rattle.replica.specs.Seen.{IsState};
 ghost use Rattle.replica.specs.Runs.{HasContent, Takes, Closes, Merges};
@@ -74,18 +75,14 @@ impl Replica {
     /// the batch alone; every other answer changes nothing. A batch of the superstep is merged and let go, in time in
     /// proportion to the registers of the edges from its vertices into the partition; a later one is kept.
     pub fn take(&mut self, batch: Arc<Batch>) -> Result<Taken, TakeError>
-        ensures answer { result ≡
-            take_of self.old.part.plan self.old.part.number (content_of self.old)
-            (arc_value batch).plan (arc_value batch).name }
-        ensures names { (s q : ℕ) → (content_of self.new).holds s q ≡
-            after_take (is_new result) (content_of self.old).holds
-            (arc_value batch).name.superstep (arc_value batch).name.source s q }
+        ensures answer { result ≡ take_answer self.old (arc_value batch) }
+        ensures names { HoldsAfter (is_new result) (arc_value batch).name self.old self.new }
         ensures shown { SameShown self.new self.old }
         ensures unchanged { is_new result ≡ false → self.new ≡ self.old }
         ensures stands { (j : Job) (p t : ℕ) → StandsFor j p t self.old →
-            arc_value batch ≡ true_batch j (arc_value batch).name → StandsFor j p t self.new }
+            IsTrueBatch j (arc_value batch) → StandsFor j p t self.new }
         // a step of a run
-        ensures step { (j : Job) (p : ℕ) → arc_value batch ≡ true_batch j (arc_value batch).name →
+        ensures step { (j : Job) (p : ℕ) → IsTrueBatch j (arc_value batch) →
             Takes j p (arc_value batch).name result self.old self.new }
     {
         let answer = self.known.answer(&batch);
@@ -109,9 +106,11 @@ impl Replica {
     /// back the memory of the index, and that of the accumulators if each equals its row; only a merge or a join may
     /// need them again.
     pub fn close(&mut self) -> Result<u32, CloseError>
-        ensures waits { (q : ℕ) → (result ≡ Err (waits.Waiting q)) ↔
-            (missing_of self.old.part.plan.parts self.old.part.number (content_of self.old)
-            ≡ Some q) }
+        ensures waits { (q : ℕ) →
+            (result ≡ Err (waits.Waiting q)) ↔ (missing_in self.old ≡ Some q) }
+        ensures goes_on { (result ≡ Ok (self.old.superstep + 1)) ↔
+            (found_verdict self.old ≡ Some verdict.GoOn) }
+        ensures finished { (result ≡ Err waits.Finished) ↔ EndsRun (found_verdict self.old) }
         ensures refused { OnErr result (self.new ≡ self.old) }
         ensures part { self.new.part ≡ self.old.part }
         ensures superstep { IfOk result (λ t.
@@ -139,19 +138,14 @@ impl Replica {
     /// made again where `close` has given them back; an error changes nothing. It waits for nobody. It takes time in
     /// proportion to the registers of the partition, and of the edges from the early batches' vertices.
     pub fn merge(&mut self, alloc: Global, other: &Snapshot) -> Result<(), MergeError>
-        ensures answer { result ≢ Err refusal.Memory → result ≡
-            merge_of self.old.part.plan self.old.part.number
-            other.now.part.plan other.now.part.number }
-        ensures memory { result ≡ Err refusal.Memory →
-            merge_of self.old.part.plan self.old.part.number
-            other.now.part.plan other.now.part.number ≡ Ok tt }
+        ensures answer { result ≢ Err refusal.Memory →
+            result ≡ merge_answer self.old other.now }
+        ensures memory { result ≡ Err refusal.Memory → merge_answer self.old other.now ≡ Ok tt }
         ensures refused { OnErr result (self.new ≡ self.old) }
         ensures part { self.new.part ≡ self.old.part }
         ensures superstep { OnOk result
             (self.new.superstep ≡ max self.old.superstep other.now.superstep) }
-        ensures names { OnOk result ((s q : ℕ) →
-            (content_of self.new).holds s q ≡
-            (union_of (content_of self.old) (content_of other.now)).holds s q) }
+        ensures names { OnOk result (HoldsOfBoth self.old other.now self.new) }
         ensures shown { OnOk result (ShowsAs self.new (further self.old other.now)) }
         ensures stands { (j : Job) (p t u : ℕ) → StandsFor j p t self.old →
             StandsFor j p u other.now → OnOk result (StandsFor j p (max t u) self.new) }
@@ -227,8 +221,7 @@ impl Replica {
         ensures value { IfOk result (λ b. b ≡
             sent_batch self.now target (length self.now.part.preds)) }
         ensures stands { (j : Job) (p t : ℕ) → StandsFor j p t self.now →
-            IfOk result (λ b.
-            b ≡ true_batch j (record { superstep = t; source = p; target = target })) }
+            IfOk result (λ b. b ≡ true_batch j (batch_name t p target)) }
     {
         self.known.sent(alloc, target)
     }
@@ -354,8 +347,7 @@ impl Replica {
 
     /// The least source that is missing from the level; the level is held where there is none.
     pub fn missing(&self) -> Option<u16>
-        ensures { result ≡
-            missing_of self.now.part.plan.parts self.now.part.number (content_of self.now) }
+        ensures { result ≡ missing_in self.now }
     {
         self.known.missing()
     }
@@ -401,8 +393,7 @@ impl Replica {
             slice_get (early_batches self.now.early) i }
         ensures name { option_map (λ b. b.now.name) result ≡ slice_get (early_names self.now) i }
         ensures stands { (j : Job) (p t : ℕ) → StandsFor j p t self.now →
-            option_map (λ b. b.now) result ≡
-            option_map (true_batch j) (slice_get (early_names self.now) i) }
+            option_map (λ b. b.now) result ≡ true_early j self.now i }
     {
         self.known.early(i)
     }
@@ -410,8 +401,7 @@ impl Replica {
     /// The verdict, where the level is held.
     pub fn verdict(&self) -> Option<Verdict>
         ensures value { result ≡ found_verdict self.now }
-        ensures none { (result ≡ None) ↔ (IsSome
-            (missing_of self.now.part.plan.parts self.now.part.number (content_of self.now))) }
+        ensures none { (result ≡ None) ↔ (IsSome (missing_in self.now)) }
         ensures stands { (j : Job) (p t : ℕ) → StandsFor j p t self.now →
             result ≡ verdict_of j p (content_of self.now) }
     {

@@ -4,7 +4,8 @@ ghost use Rattle.std.specs.Prelude.{◌≡◌, ◌≢◌, ℕ, ◌<◌, ◌+◌,
 ghost use Rattle.ball_model.specs.Job.{Job};
 ghost use Rattle.ball_model.specs.Batches.{true_batch};
 ghost use Rattle.ball_model.specs.State.{StandsFor};
-ghost use Rattle.replica.specs.Sent.{has_bit, sent_batch};
+ghost use Rattle.ball_model.specs.Masks.{has_bit};
+ghost use Rattle.replica.specs.Sent.{sent_batch};
 ghost use Rattle.replica.specs.Seen.{IsState};
 
 use crate::Snapshot;

@@ -11,11 +11,11 @@ ghost use Rattle.ball_model.specs.Change.{changed_at};
 ghost use Rattle.ball_model.specs.Laws.{IsCounterRow};
 ghost use Rattle.ball_model.specs.Supersteps.{tally_at};
 ghost use Rattle.ball_model.specs.Job.{Job, IsJob};
-ghost use Rattle.ball_model.specs.Batches.{true_batch, changed_count};
-ghost use Rattle.ball_model.specs.Content.{missing_of, verdict_of};
+ghost use Rattle.ball_model.specs.Batches.{changed_count};
+ghost use Rattle.ball_model.specs.Content.{verdict_of};
 ghost use Rattle.ball_model.specs.State.{StandsFor, content_of, early_at, rows_of, tallies_of, sums_of};
-ghost use Rattle.replica.specs.Ahead.{early_batches, early_names};
-ghost use Rattle.replica.specs.Level.{is_changing, level_verdict, found_verdict, nothing};
+ghost use Rattle.replica.specs.Ahead.{early_batches, early_names, true_early};
+ghost use Rattle.replica.specs.Level.{is_changing, level_verdict, found_verdict, missing_in, nothing};
 ghost use Rattle.replica.specs.Seen.{IsState, HasAccumulators, accumulators_of};
 
 use crate::start::Tables;
@@ -116,7 +116,7 @@ impl Snapshot {
         ensures stands { (j : Job) (p t : ℕ) → StandsFor j p t self.now →
             result ≡ changed_count j t p }
     {
-        level::count_marks(&self.marks) as u32
+        level::count_set(&self.marks) as u32
     }
 
     /// The sum of the estimates of the partition at each superstep so far, from 0 on.
@@ -179,8 +179,7 @@ impl Snapshot {
 
     /// The least source that is missing from the level; the level is held where there is none.
     pub fn missing(&self) -> Option<u16>
-        ensures { result ≡
-            missing_of self.now.part.plan.parts self.now.part.number (content_of self.now) }
+        ensures { result ≡ missing_in self.now }
     {
         self.heard
             .least_missing(self.part.plan().parts(), self.part.partition())
@@ -239,8 +238,7 @@ impl Snapshot {
             slice_get (early_batches self.now.early) i }
         ensures name { option_map (λ b. b.now.name) result ≡ slice_get (early_names self.now) i }
         ensures stands { (j : Job) (p t : ℕ) → StandsFor j p t self.now →
-            option_map (λ b. b.now) result ≡
-            option_map (true_batch j) (slice_get (early_names self.now) i) }
+            option_map (λ b. b.now) result ≡ true_early j self.now i }
     {
         self.early.nth(i as usize)
     }
@@ -249,7 +247,7 @@ impl Snapshot {
     fn is_changing(&self) -> bool
         ensures { result ≡ is_changing self.now }
     {
-        self.heard_change || level::is_marked(&self.marks)
+        self.heard_change || level::any_marked(&self.marks)
     }
 
     // The verdict of a level that is held.
@@ -279,8 +277,7 @@ impl Snapshot {
     /// The verdict, where the level is held.
     pub fn verdict(&self) -> Option<Verdict>
         ensures value { result ≡ found_verdict self.now }
-        ensures none { (result ≡ None) ↔ (IsSome
-            (missing_of self.now.part.plan.parts self.now.part.number (content_of self.now))) }
+        ensures none { (result ≡ None) ↔ (IsSome (missing_in self.now)) }
         ensures stands { (j : Job) (p t : ℕ) → StandsFor j p t self.now →
             result ≡ verdict_of j p (content_of self.now) }
     {
@@ -359,8 +356,10 @@ fn copy_figures(
     sums: &[u128],
 ) -> Result<(Vec<bool>, Vec<Tally>, Vec<u128>), AllocError>
     requires { length sums.now ≤ limit + 1 }
-    ensures { IfOk result (λ copy. (copy.0.items ≡ marks.now) × (copy.1.items ≡ tallies.now)
-        × (copy.2.items ≡ sums.now) × (limit + 1 ≤ vec_capacity copy.2)) }
+    ensures marks { IfOk result (λ copy. copy.0.items ≡ marks.now) }
+    ensures tallies { IfOk result (λ copy. copy.1.items ≡ tallies.now) }
+    ensures sums { IfOk result (λ copy. copy.2.items ≡ sums.now) }
+    ensures room { IfOk result (λ copy. limit + 1 ≤ vec_capacity copy.2) }
 {
     let mut copy = Vec::with_capacity(alloc, limit as usize + 1)?;
     refill(&mut copy, sums);

@@ -2,7 +2,7 @@
 
 ghost use Rattle.std.specs.Prelude.{◌≡◌, ◌^◌, ◌<◌, length, slice_index_or, []};
 ghost use Rattle.std.specs.List.{All};
-ghost use Rattle.replica.specs.Spread.{rows_after, rows_after_all, own_rows, LeadInside};
+ghost use Rattle.replica.specs.Spread.{raised_at, raised_by, own_rows, LeadInside};
 ghost use Rattle.replica.specs.Heard.{RowIsHeard, BatchIsHeard, OwnIsHeard, MarksBefore, MarksChanges, StayTouched};
 
 use crate::targets::Targets;
@@ -25,9 +25,8 @@ pub fn spread_row(
     requires width { length registers.now ≡ accumulated.old.width }
     requires inside { LeadInside (length accumulated.old.rows) targets.now }
     requires marks { length touched.old ≡ length accumulated.old.rows }
-    ensures rows { accumulated.new ≡ record accumulated.old {
-      rows = rows_after (slice_index_or targets.now z []) registers.now accumulated.old.rows;
-    } }
+    ensures rows { accumulated.new ≡
+        raised_at (slice_index_or targets.now z []) registers.now accumulated.old }
     ensures marks { MarksChanges touched.old accumulated.old.rows accumulated.new.rows touched.new }
     ensures touched { StayTouched accumulated.old.rows touched.old
         accumulated.new.rows touched.new }
@@ -45,9 +44,7 @@ pub fn spread_batch(targets: &Targets, batch: &Batch, accumulated: &mut Rows, to
     requires width { 2 ^ batch.now.plan.log2m ≡ accumulated.old.width }
     requires inside { LeadInside (length accumulated.old.rows) targets.now }
     requires marks { length touched.old ≡ length accumulated.old.rows }
-    ensures rows { accumulated.new ≡ record accumulated.old {
-      rows = rows_after_all targets.now batch.now.rows accumulated.old.rows;
-    } }
+    ensures rows { accumulated.new ≡ raised_by targets.now batch.now.rows accumulated.old }
     ensures touched { StayTouched accumulated.old.rows touched.old
         accumulated.new.rows touched.new }
     ensures stands { BatchIsHeard targets.now batch.now accumulated.old.rows accumulated.new.rows }
@@ -81,10 +78,8 @@ pub fn spread_own(
     requires marks { length marks.now ≡ length part.now.preds }
     requires inside { LeadInside (length accumulated.old.rows) targets.now }
     requires touched { length touched.old ≡ length accumulated.old.rows }
-    ensures rows { accumulated.new ≡ record accumulated.old {
-      rows = rows_after_all targets.now (own_rows part.now rows.now.rows marks.now)
-          accumulated.old.rows;
-    } }
+    ensures rows { accumulated.new ≡
+        raised_by targets.now (own_rows part.now rows.now.rows marks.now) accumulated.old }
     ensures touched { StayTouched accumulated.old.rows touched.old
         accumulated.new.rows touched.new }
     ensures stands { OwnIsHeard targets.now part.now rows.now.rows marks.now
@@ -115,9 +110,7 @@ fn raise_places(places: &[u32], registers: &[u8], accumulated: &mut Rows, touche
     requires places { All (λ i. i < length accumulated.old.rows) places.now }
     requires width { length registers.now ≡ accumulated.old.width }
     requires marks { length touched.old ≡ length accumulated.old.rows }
-    ensures rows { accumulated.new ≡ record accumulated.old {
-      rows = rows_after places.now registers.now accumulated.old.rows;
-    } }
+    ensures rows { accumulated.new ≡ raised_at places.now registers.now accumulated.old }
     ensures marks { MarksChanges touched.old accumulated.old.rows accumulated.new.rows touched.new }
 {
     for block in places.chunks(BLOCK) {
@@ -150,9 +143,7 @@ fn raise_block(places: &[u32], registers: &[u8], accumulated: &mut Rows, touched
     requires places { All (λ i. i < length accumulated.old.rows) places.now }
     requires width { length registers.now ≡ accumulated.old.width }
     requires marks { length touched.old ≡ length accumulated.old.rows }
-    ensures rows { accumulated.new ≡ record accumulated.old {
-      rows = rows_after places.now registers.now accumulated.old.rows;
-    } }
+    ensures rows { accumulated.new ≡ raised_at places.now registers.now accumulated.old }
     ensures marks { MarksChanges touched.old accumulated.old.rows accumulated.new.rows touched.new }
 {
     for place in places {

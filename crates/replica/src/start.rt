@@ -3,12 +3,11 @@
 ghost use Rattle.std.specs.Prelude.{◌≡◌, ℕ, ◌<◌, ◌≤◌, ◌+◌, ◌*◌, ◌^◌, length, map, replicate, slice_index_or, slice_set, [], ◌∷◌, IfOk};
 ghost use Rattle.std.specs.Arc.{arc_value};
 ghost use Rattle.std.specs.Vec.{vec_capacity};
-ghost use Rattle.ball_model.specs.Figures.{estimate_of};
 ghost use Rattle.ball_model.specs.PlanValue.{IsPlan};
 ghost use Rattle.figures.specs.Values.{value_of};
 ghost use Rattle.replica.specs.Kept.{AreCounters};
 ghost use Rattle.replica.specs.Level.{total_of};
-ghost use Rattle.replica.specs.Start.{Starts, first_row, first_rows, first_tally};
+ghost use Rattle.replica.specs.Start.{Starts, first_figures, first_row, first_rows};
 
 use crate::early::Early;
 use crate::{Snapshot, level, shown};
@@ -72,8 +71,8 @@ pub fn start_marks(alloc: Global, part: &Part) -> Result<Vec<bool>, AllocError>
 /// Figures that begin with the estimates of rows.
 pub fn start_tallies(alloc: Global, log2m: u8, rows: &Rows) -> Result<Vec<Tally>, AllocError>
     requires { AreCounters log2m rows.now.rows }
-    ensures { IfOk result (λ tallies. map value_of tallies.items ≡
-        map (λ row. first_tally (estimate_of log2m row)) rows.now.rows) }
+    ensures { IfOk result (λ tallies.
+        map value_of tallies.items ≡ first_figures log2m rows.now.rows) }
 {
     let mut tallies = Vec::with_capacity(alloc, rows.len())?;
     for i in 0..rows.len() {
@@ -101,10 +100,11 @@ fn start_figures(
     rows: &Rows,
 ) -> Result<(Vec<Tally>, Vec<u128>), AllocError>
     requires { AreCounters plan.now.log2m rows.now.rows }
-    ensures { IfOk result (λ figures. (map value_of figures.0.items ≡
-        map (λ row. first_tally (estimate_of plan.now.log2m row)) rows.now.rows)
-        × (figures.1.items ≡ total_of plan.now.log2m rows.now.rows ∷ [])
-        × (plan.now.limit + 1 ≤ vec_capacity figures.1)) }
+    ensures tallies { IfOk result (λ figures.
+        map value_of figures.0.items ≡ first_figures plan.now.log2m rows.now.rows) }
+    ensures sums { IfOk result (λ figures.
+        figures.1.items ≡ total_of plan.now.log2m rows.now.rows ∷ []) }
+    ensures room { IfOk result (λ figures. plan.now.limit + 1 ≤ vec_capacity figures.1) }
 {
     let tallies = start_tallies(alloc, plan.log2m(), rows)?;
     let mut sums = Vec::with_capacity(alloc, plan.limit() as usize + 1)?;
@@ -121,8 +121,8 @@ fn start_tables(alloc: Global, part: &Part) -> Result<Tables, AllocError>
     }) }
     ensures accumulated { IfOk result (λ t. t.accumulated ≡ t.rows) }
     ensures marks { IfOk result (λ t. t.marks.items ≡ part.now.counted) }
-    ensures tallies { IfOk result (λ t. map value_of t.tallies.items ≡
-        map (λ row. first_tally (estimate_of part.now.plan.log2m row)) (first_rows part.now)) }
+    ensures tallies { IfOk result (λ t.
+        map value_of t.tallies.items ≡ first_figures part.now.plan.log2m (first_rows part.now)) }
     ensures sums { IfOk result (λ t. t.sums.items ≡
         total_of part.now.plan.log2m (first_rows part.now) ∷ []) }
     ensures room { IfOk result (λ t. part.now.plan.limit + 1 ≤ vec_capacity t.sums) }

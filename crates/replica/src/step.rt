@@ -1,18 +1,18 @@
 //! How what a replica has changes, superstep by superstep.
 
-ghost use Rattle.std.specs.Prelude.{◌≡◌, true, false, ℕ, ◌<◌, ◌≤◌, ◌+◌, ◌*◌, ◌^◌, ◌++◌, ◌∷◌, [], length, map, Ok, OnOk, OnErr};
+ghost use Rattle.std.specs.Prelude.{◌≡◌, true, false, ℕ, ◌<◌, ◌≤◌, ◌+◌, ◌*◌, ◌++◌, ◌∷◌, [], length, map, Ok, OnOk, OnErr};
 ghost use Rattle.std.specs.Arc.{arc_value};
 ghost use Rattle.std.specs.List.{sum_by};
 ghost use Rattle.std.specs.Vec.{vec_capacity};
 ghost use Rattle.ball_model.specs.declared.names.Taken.TheVariants as taken;
 ghost use Rattle.ball_model.specs.Batches.{IsBatch};
-ghost use Rattle.ball_model.specs.Content.{take_of, same_plan};
-ghost use Rattle.ball_model.specs.State.{content_of};
+ghost use Rattle.ball_model.specs.Content.{same_plan};
+ghost use Rattle.ball_model.specs.PlanValue.{greatest_limit, most_vertices};
 ghost use Rattle.figures.specs.Values.{value_of};
 ghost use Rattle.replica.specs.Heard.{OwnIsHeard};
 ghost use Rattle.replica.specs.Kept.{AllRise, AreCounters, AreLasts, AreSums};
 ghost use Rattle.replica.specs.Level.{differences, found_close, is_over, next_tallies, total_of};
-ghost use Rattle.replica.specs.Change.{Advances, Receives};
+ghost use Rattle.replica.specs.Change.{Advances, Receives, take_answer};
 ghost use Rattle.replica.specs.Index.{targets_of};
 ghost use Rattle.replica.specs.Spread.{AreTouched, LeadInside};
 ghost use Rattle.replica.specs.Seen.{HasIndex, IsState};
@@ -30,8 +30,7 @@ use std::sync::Arc;
 impl Snapshot {
     /// The answer to a batch.
     pub(crate) fn answer(&self, batch: &Batch) -> Result<Taken, TakeError>
-        ensures { result ≡ take_of self.now.part.plan self.now.part.number
-            (content_of self.now) batch.now.plan batch.now.name }
+        ensures { result ≡ take_answer self.now batch.now }
     {
         let name = batch.name();
         if !is_same(self.plan(), batch.plan()) {
@@ -58,8 +57,7 @@ impl Snapshot {
 
     /// Holds a batch from now on: one of the superstep is heard, a later one is kept.
     pub(crate) fn receive(&mut self, targets: &Targets, touched: &mut [bool], batch: Arc<Batch>)
-        requires new { take_of self.old.part.plan self.old.part.number (content_of self.old)
-            (arc_value batch).plan (arc_value batch).name ≡ Ok taken.New }
+        requires new { take_answer self.old (arc_value batch) ≡ Ok taken.New }
         requires batch { IsBatch (arc_value batch) }
         requires index { HasIndex self.old targets.now }
         requires touched { AreTouched self.old.rows self.old.accumulated touched.old }
@@ -119,7 +117,7 @@ impl Snapshot {
         requires touched { AreTouched self.old.rows self.old.accumulated touched.now }
         ensures { self.new ≡ self.old }
     {
-        if !level::is_marked(touched) {
+        if !level::any_marked(touched) {
             self.accumulated.clear();
         }
     }
@@ -207,8 +205,8 @@ fn next_figures(
     tallies: &mut [Tally],
     sums: &mut Vec<u128>,
 )
-    requires to { t < 4096 }
-    requires few { length rows.now.rows ≤ 2 ^ 24 }
+    requires to { t < greatest_limit }
+    requires few { length rows.now.rows ≤ most_vertices }
     requires rows { AreCounters plan.now.log2m rows.now.rows }
     requires marks { length marks.now ≡ length rows.now.rows }
     requires count { length tallies.old ≡ length rows.now.rows }

@@ -1,8 +1,10 @@
 //! What no clause says: worked supersteps of small graphs. Hashes are those under seed 0 at 16 registers: vertex 0 has
 //! rank 3 in register 14, vertex 1 rank 1 in register 6, vertex 2 rank 2 in register 0.
 
+mod again;
 mod early;
 mod joins;
+mod shown;
 
 use super::*;
 use ball_model::{
@@ -271,26 +273,27 @@ fn tells(
     tells_one(rt, all, 0, 1, first) && tells_one(rt, all, 1, 0, second)
 }
 
-/// Whether all batches of two edges are those that are expected, to the last superstep, which no replica closes.
-fn tells_all(rt: &HostRuntime, all: &mut [Replica]) -> bool {
-    let mut right = true;
+/// Whether the batches of two edges are those that are expected, whether each of them is new, and whether the replicas
+/// close each superstep but the last, which no replica closes.
+fn tells_all(rt: &HostRuntime, all: &mut [Replica]) -> (bool, bool, bool) {
+    let mut right = (true, true, true);
     for (first, second) in TOLD {
-        right &= tells(rt, all, first, second);
-        right &= exchange(rt, all);
-        right &= close_all(all) == (first.0 < 3);
+        right.0 &= tells(rt, all, first, second);
+        right.1 &= exchange(rt, all);
+        right.2 &= close_all(all) == (first.0 < 3);
     }
     right
 }
 
 /// The batches of the run of two edges.
-fn told_run(rt: &HostRuntime) -> Option<bool> {
+fn told_run(rt: &HostRuntime) -> Option<(bool, bool, bool)> {
     let mut all = two_edges(rt, 2, 4096)?;
     Some(tells_all(rt, &mut all))
 }
 
 #[test]
 fn all_batches_of_two_edges(rt: HostRuntime) {
-    assert_eq!(rt; told_run(&rt), Some(true));
+    assert_eq!(rt; told_run(&rt), Some((true, true, true)));
 }
 
 /// The bytes of what one replica tells another.
@@ -388,15 +391,16 @@ fn last_supersteps(rt: &HostRuntime, all: &mut [Replica]) -> bool {
 }
 
 /// The run of two edges.
-fn two_edges_run(rt: &HostRuntime) -> Option<(bool, bool)> {
+fn two_edges_run(rt: &HostRuntime) -> Option<(bool, bool, bool)> {
     let mut all = two_edges(rt, 2, 4096)?;
-    let first = first_superstep(rt, &mut all) && after_first(&all);
-    Some((first, last_supersteps(rt, &mut all)))
+    let first = first_superstep(rt, &mut all);
+    let after = after_first(&all);
+    Some((first, after, last_supersteps(rt, &mut all)))
 }
 
 #[test]
 fn supersteps_of_two_edges(rt: HostRuntime) {
-    assert_eq!(rt; two_edges_run(&rt), Some((true, true)));
+    assert_eq!(rt; two_edges_run(&rt), Some((true, true, true)));
 }
 
 /// The sums of the two partitions of two edges at superstep 3.
@@ -424,14 +428,15 @@ fn are_at(all: &[Replica], superstep: u32) -> bool {
 }
 
 /// Whether two edges have their sums once three supersteps are closed.
-fn sums_run(rt: &HostRuntime) -> Option<bool> {
+fn sums_run(rt: &HostRuntime) -> Option<(bool, bool, bool)> {
     let mut all = two_edges(rt, 2, 4096)?;
-    Some(run(rt, &mut all, 3) && are_at(&all, 3) && have_sums(&all))
+    let done = run(rt, &mut all, 3);
+    Some((done, are_at(&all, 3), have_sums(&all)))
 }
 
 #[test]
 fn sums_of_two_edges(rt: HostRuntime) {
-    assert_eq!(rt; sums_run(&rt), Some(true));
+    assert_eq!(rt; sums_run(&rt), Some((true, true, true)));
 }
 
 /// Whether each replica waits for the least other source.

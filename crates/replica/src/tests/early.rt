@@ -48,13 +48,14 @@ fn hears_early(all: &[Replica]) -> bool {
 }
 
 /// What partition 1 tells of superstep 1 has a row of its vertex, and comes before what it tells of superstep 0.
-fn early_with_rows(rt: &HostRuntime) -> Option<bool> {
+fn early_with_rows(rt: &HostRuntime) -> Option<[bool; 4]> {
     let mut all = two_edges(rt, 2, 4096)?;
     let level = sent(rt, &all, 1, 0);
     let again = sent(rt, &all, 1, 0);
     let ahead = tells_ahead(rt, &mut all);
     let closed = takes_and_closes(rt, &mut all, level, again);
-    Some(ahead && closed && hears_early(&all) && ends_early(rt, &mut all))
+    let heard = hears_early(&all);
+    Some([ahead, closed, heard, ends_early(rt, &mut all)])
 }
 
 /// Whether the next close makes the row of the early batch that of its successor.
@@ -64,25 +65,25 @@ fn ends_early(rt: &HostRuntime, all: &mut [Replica]) -> bool {
 
 #[test]
 fn early_batch_with_rows(rt: HostRuntime) {
-    assert_eq!(rt; early_with_rows(&rt), Some(true));
+    assert_eq!(rt; early_with_rows(&rt), Some([true; 4]));
 }
 
 /// Vertices 1 and 10 fall into one register, and 1 has the lesser rank: what 10 takes from 1 changes nothing, so it
 /// is not sent, and its successor 5 loses nothing.
-fn absorbed(rt: &HostRuntime) -> Option<bool> {
+fn absorbed(rt: &HostRuntime) -> Option<[bool; 5]> {
     let text = b"0\n1\n2\n3\n4\n5\n6\n7\n8\n9\n10\n11\n12\n13\n14\n15\n16\n1\t10\n10\t5\n";
     let mut all = replicas(rt, text, 2, 4096)?;
-    let mut done = run(rt, &mut all, 1);
-    done &= is_changed(&all, 10) == Some(false);
-    done &= tells_one(rt, &all, 0, 1, (1, 0, 0, None));
-    done &= run(rt, &mut all, 1);
+    let first = run(rt, &mut all, 1);
+    let unchanged = is_changed(&all, 10) == Some(false);
+    let quiet = tells_one(rt, &all, 0, 1, (1, 0, 0, None));
+    let second = run(rt, &mut all, 1);
     let wanted = [0, 0, 0, 0, 0, 3, 2, 0, 0, 0, 0, 0, 0, 0, 0, 0];
-    Some(done && has_row(&all, 5, &wanted))
+    Some([first, unchanged, quiet, second, has_row(&all, 5, &wanted)])
 }
 
 #[test]
 fn absorbed_counter(rt: HostRuntime) {
-    assert_eq!(rt; absorbed(&rt), Some(true));
+    assert_eq!(rt; absorbed(&rt), Some([true; 5]));
 }
 
 /// Each register of the row of a batch becomes 33, the greatest rank.
@@ -114,16 +115,17 @@ fn shows_untrue(all: &[Replica]) -> bool {
 }
 
 /// Whether a batch that is not true is taken and closed over.
-fn untrue_is_taken(rt: &HostRuntime) -> Option<bool> {
+fn untrue_is_taken(rt: &HostRuntime) -> Option<(bool, bool, bool)> {
     let mut all = two_edges(rt, 2, 4096)?;
     let batch = untrue(rt, &all);
     let taken = answer(rt, &mut all, 0, batch) == Some(Ok(Taken::New));
-    Some(taken && closes(&mut all, 0, Ok(1)) && shows_untrue(&all))
+    let closed = closes(&mut all, 0, Ok(1));
+    Some((taken, closed, shows_untrue(&all)))
 }
 
 #[test]
 fn untrue_batch(rt: HostRuntime) {
-    assert_eq!(rt; untrue_is_taken(&rt), Some(true));
+    assert_eq!(rt; untrue_is_taken(&rt), Some((true, true, true)));
 }
 
 /// The graph of two edges, where vertex 0 alone is counted.
@@ -194,7 +196,7 @@ fn bare(
 }
 
 /// The answer of a replica to a batch with no rows.
-fn answer_to_bare(
+pub fn answer_to_bare(
     rt: &HostRuntime,
     all: &mut [Replica],
     place: usize,
@@ -236,7 +238,7 @@ fn takes_ahead(rt: &HostRuntime, all: &mut [Replica]) -> bool {
 }
 
 /// The superstep and the source of a batch.
-fn place_of(batch: Option<&Batch>) -> Option<(u32, u16)> {
+pub fn place_of(batch: Option<&Batch>) -> Option<(u32, u16)> {
     let name = batch?.name();
     Some((name.superstep, name.source))
 }
@@ -260,15 +262,15 @@ fn keeps(rt: &HostRuntime, all: &[Replica], wanted: &[(u32, u16)]) -> Option<boo
 }
 
 /// Whether what is kept is told by superstep, then by source, and without the batch of the replica's own superstep.
-fn keeps_in_order(rt: &HostRuntime) -> Option<bool> {
+fn keeps_in_order(rt: &HostRuntime) -> Option<(bool, Option<bool>)> {
     let mut all = two_edges(rt, 3, 4096)?;
     let taken = takes_ahead(rt, &mut all);
-    Some(taken && keeps(rt, &all, &[(1, 0), (1, 1), (3, 0)]) == Some(true))
+    Some((taken, keeps(rt, &all, &[(1, 0), (1, 1), (3, 0)])))
 }
 
 #[test]
 fn batches_of_later_supersteps(rt: HostRuntime) {
-    assert_eq!(rt; keeps_in_order(&rt), Some(true));
+    assert_eq!(rt; keeps_in_order(&rt), Some((true, Some(true))));
 }
 
 /// What a replica of a job in which every vertex counts answers to a batch of a job in which only one does.

@@ -1,9 +1,10 @@
 //! Snapshots, merges and joins.
 
+use super::shown::shows_all;
 use super::*;
 
 /// What the replica at a place has.
-fn snapshot_of(rt: &HostRuntime, all: &[Replica], place: usize) -> Option<Snapshot> {
+pub fn snapshot_of(rt: &HostRuntime, all: &[Replica], place: usize) -> Option<Snapshot> {
     all.get(place)?.snapshot(rt.alloc()).ok()
 }
 
@@ -35,7 +36,7 @@ fn merges(rt: &HostRuntime, all: &mut [Replica], place: usize, others: &[Replica
 }
 
 /// Joins two replicas, where they may be.
-fn joined(rt: &HostRuntime, to: &mut Replica, from: &Replica) -> bool {
+pub fn joined(rt: &HostRuntime, to: &mut Replica, from: &Replica) -> bool {
     to.alike(from) && to.join(rt.alloc(), from).is_ok()
 }
 
@@ -45,11 +46,6 @@ fn joins_first(rt: &HostRuntime, to: &mut [Replica], from: &[Replica]) -> bool {
         (Some(to), Some(from)) => joined(rt, to, from),
         _ => false,
     }
-}
-
-/// Makes both replicas the join of the two, where they may be.
-fn reconciled(rt: &HostRuntime, left: &mut Replica, right: &mut Replica) -> bool {
-    left.alike(right) && reconcile(rt.alloc(), left, right).is_ok()
 }
 
 /// Replicas of which partition 0 holds its level.
@@ -63,7 +59,7 @@ fn held(rt: &HostRuntime) -> Option<Vec<Replica>> {
 }
 
 /// The same, beside replicas that hold nothing.
-fn held_and_not(rt: &HostRuntime) -> Option<(Vec<Replica>, Vec<Replica>)> {
+pub fn held_and_not(rt: &HostRuntime) -> Option<(Vec<Replica>, Vec<Replica>)> {
     let held = held(rt)?;
     let other = two_edges(rt, 2, 4096)?;
     if misses(&other, 0, Some(1)) {
@@ -74,7 +70,7 @@ fn held_and_not(rt: &HostRuntime) -> Option<(Vec<Replica>, Vec<Replica>)> {
 }
 
 /// Whether partition 0 is at a superstep and holds its level.
-fn is_level(all: &[Replica], superstep: u32) -> bool {
+pub fn is_level(all: &[Replica], superstep: u32) -> bool {
     match all.get(0) {
         Some(replica) => replica.superstep() == superstep && replica.missing().is_none(),
         None => false,
@@ -82,152 +78,8 @@ fn is_level(all: &[Replica], superstep: u32) -> bool {
 }
 
 /// Whether partition 0 holds its level at superstep 0, by the batch of partition 1.
-fn has_level(all: &[Replica]) -> bool {
+pub fn has_level(all: &[Replica]) -> bool {
     is_level(all, 0) && is_held(all, 0, 0, 1) == Some(true)
-}
-
-/// Whether a replica tells of a vertex what a snapshot does.
-fn shows_vertex(replica: &Replica, snapshot: &Snapshot, x: u32) -> bool {
-    if !replica.owns(x) || !snapshot.owns(x) {
-        return replica.owns(x) == snapshot.owns(x);
-    }
-    let (left, right) = (replica.tally(x), snapshot.tally(x));
-    replica.row(x) == snapshot.row(x)
-        && replica.accumulated(x) == snapshot.accumulated(x)
-        && replica.changed(x) == snapshot.changed(x)
-        && (left.last, left.harm, left.dist) == (right.last, right.harm, right.dist)
-}
-
-/// Whether a replica holds of two partitions and six supersteps the names that a snapshot does.
-fn holds_names(replica: &Replica, snapshot: &Snapshot) -> bool {
-    let target = replica.partition();
-    let mut same = true;
-    for superstep in 0..6 {
-        for source in 0..2 {
-            let name = BatchName {
-                superstep,
-                source,
-                target,
-            };
-            same &= replica.holds(name) == snapshot.holds(name);
-        }
-    }
-    same
-}
-
-/// Whether a replica tells of its level what a snapshot does.
-fn shows_level(replica: &Replica, snapshot: &Snapshot) -> bool {
-    replica.plan() == snapshot.plan()
-        && replica.partition() == snapshot.partition()
-        && replica.superstep() == snapshot.superstep()
-        && replica.changed_count() == snapshot.changed_count()
-        && replica.sums() == snapshot.sums()
-        && replica.verdict() == snapshot.verdict()
-}
-
-/// Whether a replica tells of what it has heard what a snapshot does.
-fn shows_heard(replica: &Replica, snapshot: &Snapshot) -> bool {
-    replica.missing() == snapshot.missing()
-        && replica.heard_change() == snapshot.heard_change()
-        && replica.heard().has(1) == snapshot.heard().has(1)
-        && replica.early_count() == snapshot.early_count()
-        && holds_names(replica, snapshot)
-}
-
-/// Whether each reader of a replica tells what that of a snapshot does.
-fn shows_all(replica: &Replica, snapshot: &Snapshot) -> bool {
-    let mut same = shows_level(replica, snapshot) && shows_heard(replica, snapshot);
-    for x in 0..4 {
-        same &= shows_vertex(replica, snapshot, x);
-    }
-    same
-}
-
-/// The lesser joins the other, the other the lesser, or both at once.
-fn joins_once(
-    rt: &HostRuntime,
-    left: &mut Replica,
-    right: &mut Replica,
-    both: bool,
-    turned: bool,
-) -> bool {
-    if both && turned {
-        reconciled(rt, right, left)
-    } else if both {
-        reconciled(rt, left, right)
-    } else if turned {
-        joined(rt, right, left) && joined(rt, left, right)
-    } else {
-        joined(rt, left, right) && joined(rt, right, left)
-    }
-}
-
-/// The same of partition 0 of two runs.
-fn joins_both(
-    rt: &HostRuntime,
-    left: &mut [Replica],
-    right: &mut [Replica],
-    both: bool,
-    turned: bool,
-) -> bool {
-    match (left.get_mut(0), right.get_mut(0)) {
-        (Some(left), Some(right)) => joins_once(rt, left, right, both, turned),
-        _ => false,
-    }
-}
-
-/// Whether partition 0 of two runs tells in each reader what a snapshot does.
-fn are_shown(left: &[Replica], right: &[Replica], snapshot: &Snapshot) -> bool {
-    match (left.get(0), right.get(0)) {
-        (Some(left), Some(right)) => shows_all(left, snapshot) && shows_all(right, snapshot),
-        _ => false,
-    }
-}
-
-/// Joins partition 0 of two runs that is joined: it changes nothing in any reader.
-fn joins_again(
-    rt: &HostRuntime,
-    held: &mut [Replica],
-    other: &mut [Replica],
-    both: bool,
-    turned: bool,
-    before: &Snapshot,
-) -> bool {
-    joins_both(rt, held, other, both, turned) && are_shown(held, other, before)
-}
-
-/// Joins partition 0 of two runs twice.
-fn joins_twice(
-    rt: &HostRuntime,
-    held: &mut [Replica],
-    other: &mut [Replica],
-    both: bool,
-    turned: bool,
-) -> Option<bool> {
-    let first = joins_both(rt, held, other, both, turned);
-    let before = snapshot_of(rt, held, 0)?;
-    Some(first && joins_again(rt, held, other, both, turned, &before))
-}
-
-/// Once they are joined both hold the name.
-fn joins_names(rt: &HostRuntime, both: bool, turned: bool) -> Option<bool> {
-    let (mut held, mut other) = held_and_not(rt)?;
-    let done = joins_twice(rt, &mut held, &mut other, both, turned);
-    Some(done == Some(true) && has_level(&held) && has_level(&other))
-}
-
-/// Whether they do, whichever joins the other.
-fn joins_each_way(rt: &HostRuntime) -> bool {
-    let mut done = true;
-    for (both, turned) in [(false, false), (false, true), (true, false), (true, true)] {
-        done &= joins_names(rt, both, turned) == Some(true);
-    }
-    done
-}
-
-#[test]
-fn joins_held_names(rt: HostRuntime) {
-    assert!(rt; joins_each_way(&rt));
 }
 
 /// The first has partition 0 at superstep 1, with the batch of superstep 2 alone; the other has it at superstep 0,
@@ -242,7 +94,7 @@ fn go_apart(rt: &HostRuntime, ahead: &mut [Replica], behind: &mut [Replica]) -> 
 }
 
 /// Replicas of two runs that went apart.
-fn apart(rt: &HostRuntime) -> Option<(Vec<Replica>, Vec<Replica>)> {
+pub fn apart(rt: &HostRuntime) -> Option<(Vec<Replica>, Vec<Replica>)> {
     let mut ahead = two_edges(rt, 2, 4096)?;
     let mut behind = two_edges(rt, 2, 4096)?;
     if go_apart(rt, &mut ahead, &mut behind) {
@@ -253,7 +105,7 @@ fn apart(rt: &HostRuntime) -> Option<(Vec<Replica>, Vec<Replica>)> {
 }
 
 /// What partition 0 is to have once the two are merged: superstep 1, and the batches of supersteps 1 and 2.
-fn is_recovered(all: &[Replica]) -> bool {
+pub fn is_recovered(all: &[Replica]) -> bool {
     is_level(all, 1)
         && is_held(all, 0, 1, 1) == Some(true)
         && is_held(all, 0, 2, 1) == Some(true)
@@ -297,27 +149,29 @@ fn swap_first(left: &mut [Replica], right: &mut [Replica]) -> bool {
 }
 
 /// The one behind merges a snapshot of the one ahead, and takes its place.
-fn behind_recovers(rt: &HostRuntime) -> Option<bool> {
+fn behind_recovers(rt: &HostRuntime) -> Option<(bool, bool, bool)> {
     let (mut ahead, mut behind) = apart(rt)?;
     let done = merges(rt, &mut behind, 0, &ahead) && swap_first(&mut ahead, &mut behind);
-    Some(done && is_recovered(&ahead) && goes_on(rt, &mut ahead))
+    let recovered = is_recovered(&ahead);
+    Some((done, recovered, goes_on(rt, &mut ahead)))
 }
 
 /// The one ahead merges a snapshot of the one behind.
-fn ahead_recovers(rt: &HostRuntime) -> Option<bool> {
+fn ahead_recovers(rt: &HostRuntime) -> Option<(bool, bool, bool)> {
     let (mut ahead, behind) = apart(rt)?;
     let done = merges(rt, &mut ahead, 0, &behind);
-    Some(done && is_recovered(&ahead) && goes_on(rt, &mut ahead))
+    let recovered = is_recovered(&ahead);
+    Some((done, recovered, goes_on(rt, &mut ahead)))
 }
 
 #[test]
 fn recovers_where_self_is_behind(rt: HostRuntime) {
-    assert_eq!(rt; behind_recovers(&rt), Some(true));
+    assert_eq!(rt; behind_recovers(&rt), Some((true, true, true)));
 }
 
 #[test]
 fn recovers_where_the_copy_is_behind(rt: HostRuntime) {
-    assert_eq!(rt; ahead_recovers(&rt), Some(true));
+    assert_eq!(rt; ahead_recovers(&rt), Some((true, true, true)));
 }
 
 /// The one behind joins the one ahead and takes its place, or the one ahead joins the one behind.
@@ -335,17 +189,18 @@ fn joins_in_place(
 }
 
 /// The run goes on once the two are joined.
-fn joins_further(rt: &HostRuntime, turned: bool) -> Option<bool> {
+fn joins_further(rt: &HostRuntime, turned: bool) -> Option<(bool, bool, bool)> {
     let (mut ahead, mut behind) = apart(rt)?;
     let done = joins_in_place(rt, &mut ahead, &mut behind, turned);
-    Some(done && is_recovered(&ahead) && goes_on(rt, &mut ahead))
+    let recovered = is_recovered(&ahead);
+    Some((done, recovered, goes_on(rt, &mut ahead)))
 }
 
 #[test]
 fn joins_where_one_is_further(rt: HostRuntime) {
     assert_eq!(rt;
-        (joins_further(&rt, false), joins_further(&rt, true)),
-        (Some(true), Some(true))
+        [joins_further(&rt, false), joins_further(&rt, true)],
+        [Some((true, true, true)); 2]
     );
 }
 
@@ -393,25 +248,24 @@ fn stays_over(
     other: &mut [Replica],
     before: &Snapshot,
 ) -> bool {
-    are_over(over, other, before)
-        && merges(rt, over, 0, other)
-        && is_settled(over, before)
-        && are_over(over, other, before)
+    merges(rt, over, 0, other) && is_settled(over, before) && are_over(over, other, before)
 }
 
-/// Then it joins one behind, and is as it was; the one behind joins another such one, and is as it is.
+/// Two replicas whose run is over. One merges the other, and is as it was; it joins one behind, and is as it was; the
+/// one behind joins the other, and is as it is.
 fn take_over(
     rt: &HostRuntime,
     over: &mut [Replica],
     other: &mut [Replica],
     behind: &mut [Replica],
     before: &Snapshot,
-) -> bool {
-    stays_over(rt, over, other, before)
-        && joins_first(rt, over, behind)
-        && is_settled(over, before)
-        && joins_first(rt, behind, other)
-        && is_settled(behind, before)
+) -> [bool; 4] {
+    [
+        are_over(over, other, before),
+        stays_over(rt, over, other, before),
+        joins_first(rt, over, behind) && is_settled(over, before),
+        joins_first(rt, behind, other) && is_settled(behind, before),
+    ]
 }
 
 /// All this, from what it has at first.
@@ -420,13 +274,13 @@ fn is_taken_over(
     over: &mut [Replica],
     other: &mut [Replica],
     behind: &mut [Replica],
-) -> Option<bool> {
+) -> Option<[bool; 4]> {
     let before = snapshot_of(rt, over, 0)?;
     Some(take_over(rt, over, other, behind, &before))
 }
 
 /// Two replicas whose run is over, and one behind.
-fn over_and_taken_over(rt: &HostRuntime) -> Option<bool> {
+fn over_and_taken_over(rt: &HostRuntime) -> Option<[bool; 4]> {
     let mut over = ended(rt)?;
     let mut other = ended(rt)?;
     let mut behind = two_edges(rt, 2, 4096)?;
@@ -435,7 +289,7 @@ fn over_and_taken_over(rt: &HostRuntime) -> Option<bool> {
 
 #[test]
 fn merges_and_joins_where_the_run_is_over(rt: HostRuntime) {
-    assert_eq!(rt; over_and_taken_over(&rt), Some(true));
+    assert_eq!(rt; over_and_taken_over(&rt), Some([true; 4]));
 }
 
 /// Of partition 2, which owns vertex 2 alone, one has the batch of partition 0, the other that of partition 1.
@@ -458,16 +312,17 @@ fn has_both(all: &mut [Replica]) -> bool {
 }
 
 /// The one merges a snapshot of the other.
-fn names_of_both(rt: &HostRuntime) -> Option<bool> {
+fn names_of_both(rt: &HostRuntime) -> Option<(bool, bool, bool)> {
     let mut first = two_edges(rt, 3, 4096)?;
     let mut second = two_edges(rt, 3, 4096)?;
     let told = tell_either(rt, &mut first, &mut second);
-    Some(told && merges(rt, &mut first, 2, &second) && has_both(&mut first))
+    let merged = merges(rt, &mut first, 2, &second);
+    Some((told, merged, has_both(&mut first)))
 }
 
 #[test]
 fn merges_equal_supersteps_with_different_names(rt: HostRuntime) {
-    assert_eq!(rt; names_of_both(&rt), Some(true));
+    assert_eq!(rt; names_of_both(&rt), Some((true, true, true)));
 }
 
 /// A replica that holds its level refuses snapshots, and is as it was.
@@ -535,23 +390,28 @@ fn is_of_job(all: &[Replica], snapshot: &Snapshot) -> bool {
 }
 
 /// The replica goes on to superstep 1; its snapshot of superstep 0 does not.
-fn stays_first(held: &mut [Replica], snapshot: &Snapshot) -> bool {
-    is_of_job(held, snapshot)
-        && is_first(snapshot)
-        && closes(held, 0, Ok(1))
-        && is_held(held, 0, 0, 1) == Some(false)
-        && is_first(snapshot)
-        && is_of_job(held, snapshot)
+fn stays_first(held: &mut [Replica], snapshot: &Snapshot) -> [bool; 4] {
+    [
+        is_of_job(held, snapshot) && is_first(snapshot),
+        closes(held, 0, Ok(1)),
+        is_held(held, 0, 0, 1) == Some(false),
+        is_of_job(held, snapshot) && is_first(snapshot),
+    ]
 }
 
 /// The snapshot of a replica that goes on.
-fn snapshot_stays(rt: &HostRuntime) -> Option<bool> {
+fn snapshot_stays(rt: &HostRuntime, held: &mut [Replica]) -> Option<[bool; 4]> {
+    let snapshot = snapshot_of(rt, held, 0)?;
+    Some(stays_first(held, &snapshot))
+}
+
+/// The same of one that holds its level.
+fn snapshot_of_held(rt: &HostRuntime) -> Option<[bool; 4]> {
     let mut held = held(rt)?;
-    let snapshot = snapshot_of(rt, &held, 0)?;
-    Some(stays_first(&mut held, &snapshot))
+    snapshot_stays(rt, &mut held)
 }
 
 #[test]
 fn snapshot_tells_its_content(rt: HostRuntime) {
-    assert_eq!(rt; snapshot_stays(&rt), Some(true));
+    assert_eq!(rt; snapshot_of_held(&rt), Some([true; 4]));
 }

@@ -5,7 +5,7 @@ use Rattle.replica.specs.Change.{Advances}
 use Rattle.replica.specs.Level.{found_close}
 use Rattle.replica.specs.Seen.{IsState}
 use Rattle.replica.proofs.BusyLemmas.{found_close-is}
-use Rattle.replica.proofs.CloseLemmas.{waits_for, closes, on_ok, if_ok, close_stands}
+use Rattle.replica.proofs.CloseLemmas.{waits_for, goes_on_for, ends_for, closes, on_ok, if_ok, close_stands}
 use Rattle.replica.proofs.AdvanceLemmas.{advance_holds}
 use Rattle.replica.proofs.Replica.close.Goals as goal
 
@@ -20,6 +20,12 @@ state c = subst (λ (u : State). IsState u) c.self.view_is c.found_close-answer.
 
 pub returns-clause-waits : goal.returns-clause-waits
 returns-clause-waits c = λ q. waits_for c.args.self.now c.found_close-answer.result q (exact c)
+
+pub returns-clause-goes_on : goal.returns-clause-goes_on
+returns-clause-goes_on c = goes_on_for c.args.self.now c.found_close-answer.result (exact c)
+
+pub returns-clause-finished : goal.returns-clause-finished
+returns-clause-finished c = ends_for c.args.self.now c.found_close-answer.result (exact c)
 
 pub returns-clause-superstep : goal.returns-clause-superstep
 returns-clause-superstep c =

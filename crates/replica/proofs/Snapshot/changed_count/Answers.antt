@@ -8,7 +8,7 @@ use Rattle.replica.proofs.Snapshot.changed_count.Goals as goal
 pub overflow_cast-result : goal.overflow_cast-result
 overflow_cast-result c =
     let state : IsState c.args.self.now = subst (λ (v : State). IsState v) c.self.view_is c.self.invariant.state in
-    omega (arith, c.count_marks.ensures.within, few c.args.self.now state, state.marks, ap (λ (v : State). length v.marks) c.self.view_is, c.deref.ensures.len, ap length c.deref.ensures.value)
+    omega (arith, c.count_set.ensures.within, few c.args.self.now state, state.marks, ap (λ (v : State). length v.marks) c.self.view_is, c.deref.ensures.len, ap length c.deref.ensures.value)
 
 pub returns-clause-stands : goal.returns-clause-stands
-returns-clause-stands c = λ j p t h. c.count_marks.ensures.value ∙ rw (c.deref.ensures.value) (ap (λ (v : State). count_by (λ mark. mark) v.marks) c.self.view_is) ∙ count_stands j p t c.args.self.now h
+returns-clause-stands c = λ j p t h. c.count_set.ensures.value ∙ rw (c.deref.ensures.value) (ap (λ (v : State). count_by (λ mark. mark) v.marks) c.self.view_is) ∙ count_stands j p t c.args.self.now h

@@ -1,5 +1,5 @@
-use Rattle.std.proofs.Common.{◌≡◌, ℕ, ◌==◌, IsTrue, refl, ap, sym, ◌∙◌, subst, arith}
-use Rattle.std.proofs.lemmas.Bool.Decides.{nat_tests}
+use Rattle.std.proofs.Common.{◌≡◌, refl, ap, sym, ◌∙◌, subst}
+use Rattle.std.proofs.lemmas.Bool.{eqb-true, eq-eqb}
 use Rattle.ball_model.specs.Job.{PartValue}
 use Rattle.ball_model.specs.Content.{same_plan}
 use Rattle.ball_model.specs.State.{State}
@@ -7,12 +7,6 @@ use Rattle.replica.specs.Seen.{IsState}
 use Rattle.replica.proofs.TakeLemmas.{same_plan_one}
 use Rattle.replica.proofs.HoldingLemmas.{alike_from}
 use Rattle.replica.proofs.Snapshot.is_alike.Goals as goal
-
-true_eq : (a b : ℕ) → IsTrue (a == b) → a ≡ b
-true_eq a b e = grind (arith, nat_tests)
-
-eq_true : (a b : ℕ) → a ≡ b → IsTrue (a == b)
-eq_true a b e = grind (arith, nat_tests)
 
 pub returns-then-is_same : goal.returns-then-is_same
 returns-then-is_same c =
@@ -26,6 +20,6 @@ returns-then-is_same c =
     let plan : v.part.plan ≡ o.part.plan = same_plan_one v.part.plan o.part.plan (sym same ∙ c.if-is_same.true) in
     let number : c.partition.result ≡ v.part.number = c.partition.ensures.value ∙ ap (λ (a : PartValue). a.number) c.deref-then-is_same.ensures ∙ ap (λ (s : State). s.part.number) c.self.view_is in
     let other : c.partition-then-is_same.result ≡ o.part.number = c.partition-then-is_same.ensures.value ∙ ap (λ (a : PartValue). a.number) c.deref-then-is_same-2.ensures ∙ ap (λ (s : State). s.part.number) c.other.view_is in (
-      λ e. alike_from v o sv so plan (sym number ∙ true_eq c.partition.result c.partition-then-is_same.result e ∙ other),
-      λ a. eq_true c.partition.result c.partition-then-is_same.result (number ∙ a.partition ∙ sym other),
+      λ e. alike_from v o sv so plan (sym number ∙ eqb-true c.partition.result c.partition-then-is_same.result e ∙ other),
+      λ a. eq-eqb c.partition.result c.partition-then-is_same.result (number ∙ a.partition ∙ sym other),
     )

@@ -1,23 +1,17 @@
-use Rattle.std.proofs.Common.{◌≡◌, ◌<◌, ◌≤◌, ◌%◌, ◌==◌, ◌&&◌, nat_lt, ℕ, true, false, ap, sym, ◌∙◌, arith}
+use Rattle.std.proofs.Common.{◌≡◌, ◌<◌, ◌≤◌, ◌%◌, ◌==◌, ◌&&◌, ℕ, false, ap, sym, ◌∙◌, arith}
 use Rattle.std.specs.List.{list_any}
-use Rattle.std.proofs.lemmas.Bool.Decides.{nat_tests}
+use Rattle.std.proofs.lemmas.Bool.{lt-ltb, le-ltb}
 use Rattle.ball_model.specs.PlanValue.{PlanValue, vertices_of}
 use Rattle.ball_model.specs.Job.{PartValue}
 use Rattle.ball_model.specs.State.{State}
 use Rattle.replica.proofs.OwnLemmas.{owns_is}
 use Rattle.replica.proofs.Snapshot.owns.Goals as goal
 
-lt_to : (a b : ℕ) → a < b → nat_lt a b ≡ true
-lt_to a b e = grind (arith, nat_tests)
-
-not_lt_to : (a b : ℕ) → b ≤ a → nat_lt a b ≡ false
-not_lt_to a b e = grind (arith, nat_tests)
-
 inside : (x n parts p : ℕ) → x < n → (x % parts == p) ≡ list_any (λ v. v == x) (vertices_of n parts p)
-inside x n parts p lt = sym (owns_is x n parts p ∙ ap (λ b. b && (x % parts == p)) (lt_to x n lt))
+inside x n parts p lt = sym (owns_is x n parts p ∙ ap (λ b. b && (x % parts == p)) (lt-ltb x n lt))
 
 outside : (x n parts p : ℕ) → n ≤ x → false ≡ list_any (λ v. v == x) (vertices_of n parts p)
-outside x n parts p le = sym (owns_is x n parts p ∙ ap (λ b. b && (x % parts == p)) (not_lt_to x n le))
+outside x n parts p le = sym (owns_is x n parts p ∙ ap (λ b. b && (x % parts == p)) (le-ltb x n le))
 
 pub returns-then-x-vertices-clause-value : goal.returns-then-x-vertices-clause-value
 returns-then-x-vertices-clause-value c =
@@ -31,4 +25,4 @@ pub returns-else-x-vertices-clause-value : goal.returns-else-x-vertices-clause-v
 returns-else-x-vertices-clause-value c =
     let plan : c.plan-plan.result.now ≡ c.args.self.now.part.plan = c.plan-plan.ensures ∙ ap (λ (a : PartValue). a.plan) c.deref.ensures ∙ ap (λ (v : State). v.part.plan) c.self.view_is in
     let le : c.args.self.now.part.plan.vertices ≤ c.args.x = omega (arith, c.vertices.ensures.value, ap (λ (a : PlanValue). a.vertices) plan) in
-    not_lt_to c.args.x c.vertices.result c.if-x-vertices.false ∙ outside c.args.x c.args.self.now.part.plan.vertices c.args.self.now.part.plan.parts c.args.self.now.part.number le
+    le-ltb c.args.x c.vertices.result c.if-x-vertices.false ∙ outside c.args.x c.args.self.now.part.plan.vertices c.args.self.now.part.plan.parts c.args.self.now.part.number le

@@ -1,10 +1,11 @@
 use Rattle.std.proofs.Common.{◌≡◌, ◌+◌, ◌*◌, ◌<◌, true, false, [], length, get_or, ap, ◌∙◌, arith, subst}
+use Rattle.std.proofs.lemmas.Bool.{and_left, and_right}
 use Rattle.ball_model.specs.declared.names.BatchName.{BatchName}
 use Rattle.ball_model.specs.Job.{PartValue}
 use Rattle.ball_model.specs.State.{State}
-use Rattle.replica.specs.Sent.{has_bit}
+use Rattle.ball_model.specs.Masks.{has_bit}
 use Rattle.replica.specs.Seen.{IsState}
-use Rattle.replica.proofs.SentLemmas.{sent_yes, sent_no, sent_fits, sent_above, sent_room, mark_of, bit_of, both_off, mark_off}
+use Rattle.replica.proofs.SentLemmas.{sent_yes, sent_no, sent_fits, sent_above, sent_room, mark_of, bit_of}
 use Rattle.replica.proofs.Snapshot.send_row.Goals as goal
 use Rattle.replica.proofs.Snapshot.send_row.Goals.{else-index-via-then-index+else-has_edge_into, else-index-via-else-index}
 
@@ -60,9 +61,9 @@ returns-else-index c =
       | else-index-via-then-index+else-has_edge_into w ↦
           let told : w.deref.result.now ≡ v.part = w.deref.ensures ∙ ap (λ (u : State). u.part) c.self.view_is in
           sent_no v c.args.batch.now.name.target c.args.i c.args.batch.now c.requires.so_far
-          (both_off mark bit (mark_of c.self.inside.marks.items v.marks c.args.i c.index.result.now true marks lt c.index.ensures w.if-index.true)
+          (and_right mark bit
           (bit_of w.deref.result.now v.part c.args.i w.feeds.result w.name.result.target c.args.batch.now.name.target w.has_edge_into.result false told w.feeds.ensures.value (ap (λ (n : BatchName). n.target) w.name.ensures.value) w.has_edge_into.ensures w.if-has_edge_into.false))
       | else-index-via-else-index w ↦
           sent_no v c.args.batch.now.name.target c.args.i c.args.batch.now c.requires.so_far
-          (mark_off mark bit (mark_of c.self.inside.marks.items v.marks c.args.i c.index.result.now false marks lt c.index.ensures w.if-index.false))
+          (and_left mark bit (mark_of c.self.inside.marks.items v.marks c.args.i c.index.result.now false marks lt c.index.ensures w.if-index.false))
     ]

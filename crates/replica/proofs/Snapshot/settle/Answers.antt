@@ -10,7 +10,7 @@ use Rattle.replica.proofs.Snapshot.settle.Goals as goal
 same : (c : goal.After-clear) → state_of (record c.self.inside { accumulated = c.clear.new.self }) ≡ state_of c.self.inside
 same c =
     let are : AreTouched (state_of c.self.inside).rows (state_of c.self.inside).accumulated c.args.touched.now = subst (λ (u : State). AreTouched u.rows u.accumulated c.args.touched.now) (sym c.self.view_is) c.requires.touched in
-    let_go_same c.self.inside c.clear.new.self c.args.touched.now (ap (λ (t : Table). t.rows) c.clear.ensures) are (sym c.is_marked.ensures ∙ c.if-not-is_marked.true)
+    let_go_same c.self.inside c.clear.new.self c.args.touched.now (ap (λ (t : Table). t.rows) c.clear.ensures) are (sym c.any_marked.ensures ∙ c.if-not-any_marked.true)
 
 pub invariant_of-self : goal.invariant_of-self
 invariant_of-self c = record {
@@ -21,5 +21,5 @@ invariant_of-self c = record {
   room = c.self.invariant.room;
 }
 
-pub returns-then-not-is_marked : goal.returns-then-not-is_marked
-returns-then-not-is_marked c = same c ∙ c.self.view_is
+pub returns-then-not-any_marked : goal.returns-then-not-any_marked
+returns-then-not-any_marked c = same c ∙ c.self.view_is

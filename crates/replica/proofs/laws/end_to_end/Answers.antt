@@ -1,4 +1,4 @@
-use Rattle.replica.proofs.RunLemmas.{run_stands, run_answers, stable_is, stable_reaches}
+use Rattle.replica.proofs.RunLemmas.{run_stands, run_answers, run_in_time, stable_is, stable_reaches}
 use Rattle.replica.proofs.laws.end_to_end.Goals as goal
 
 pub returns-clause-stands : goal.returns-clause-stands
@@ -8,7 +8,7 @@ pub returns-clause-answers : goal.returns-clause-answers
 returns-clause-answers c = run_answers
 
 pub returns-clause-in_time : goal.returns-clause-in_time
-returns-clause-in_time c = λ j p t v h. h.in_time
+returns-clause-in_time c = run_in_time
 
 pub returns-clause-stable : goal.returns-clause-stable
 returns-clause-stable c = stable_is
