@@ -11,7 +11,7 @@ use Rattle.board.specs.View.{View}
 use Rattle.board.specs.Rule.{GoesOn, at_turn, after_turn}
 use Rattle.board.specs.Turn.{Next}
 use Rattle.board.specs.Book.{IsNext, IsNoted}
-use Rattle.board.specs.Seats.{BoardView, SeatView, Extends, Called, CalledNothing}
+use Rattle.board.specs.Seats.{BoardView, SeatView, Extends, Called}
 use Rattle.board.specs.Inside.{SeatFits, seat_view_of}
 
 -- what follows where the history is the same, and where it has one entry more
@@ -121,10 +121,6 @@ turn_called limit table table' number room m m1 m2 book new v t h e =
       own = ap (calls_by number) seen ∙ (calls_by-own number book v ∙ ap (λ l. l ++ v ∷ []) (own_before number room m m1 book t));
     }
 
-pub turn_nothing : (table table' : TableId) (number room : ℕ) (m m1 m2 : Me (Option History) View) (book new : History) → Turn number room m m1 book → new ≡ book → m2 ≡ (after_turn (at_turn m1.0 new), [])
-    → CalledNothing (seat_view_of table number room m) (seat_view_of table' number room m2)
-turn_nothing table table' number room m m1 m2 book new t h e = ap (calls_by number) (turn_seen m1 m2 new e ∙ h) ∙ own_before number room m m1 book t
-
 -- ---- what was found
 -- a name whose batch was found stands
 found_stands : (limit n : ℕ) (old new : History) (name : BatchName) → IsLegal new → IsNoted limit n (Fetch name) old new → (board_of new).stands name ≡ true
@@ -166,7 +162,3 @@ recall_furthest limit n seen old new p s least c begins was legal h kept =
 pub if_ok : {T E : Type 0} (r : Result T E) (P Q R : T → Type 0) → IfOk r P → IfOk r Q → ((x : T) → P x → Q x → R x) → IfOk r R
 if_ok (Ok x) P Q R p q f = f x p q
 if_ok (Err e) P Q R p q f = tt
-
-pub if_some : {A : Type 0} (o : Option A) (P Q : A → Type 0) → IfSome o P → ((x : A) → P x → Q x) → IfSome o Q
-if_some None P Q h f = tt
-if_some (Some x) P Q h f = f x h

@@ -16,12 +16,6 @@ use Rattle.board.specs.Turn.{Next}
 use Rattle.ball_model.proofs.HistoryLemmas.{begins_self, begins_trans}
 use Rattle.board.proofs.ViewLemmas.{total_set, total_le, each_set, apart_set, set_at}
 
-St : Type 0
-St = State (Option History) View
-
-big : ℕ
-big = 2 ^ 64
-
 -- what a step tells does not ask which step it is
 abbrev pub still : Step (Option History)
 still = step 0 0 0 0 none

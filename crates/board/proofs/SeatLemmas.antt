@@ -1,6 +1,7 @@
 -- A look at the length, a new seat, and a seat that ends.
-use Rattle.std.proofs.Common.{◌≡◌, ◌≢◌, ◌⊎◌, ℕ, zero, suc, ◌+◌, ◌-◌, ◌<◌, ◌≤◌, min, List, [], ◌∷◌, ◌++◌, length, set, Option, Some, None, refl, sym, ap, ◌∙◌, subst, inl, inr, ⊎_elim, arith}
+use Rattle.std.proofs.Common.{◌≡◌, ◌≢◌, ◌⊎◌, ℕ, zero, suc, ◌+◌, ◌-◌, ◌<◌, ◌≤◌, min, List, [], ◌∷◌, ◌++◌, length, set, Option, Some, refl, sym, ap, ◌∙◌, subst, inl, inr, ⊎_elim, arith}
 use Rattle.std.specs.Prelude.{slice_index}
+use Rattle.std.proofs.lemmas.Option.{none-some}
 use mathlib.Core.Option.{some, none, some-injective, some-ne-none}
 use lib.ListN.{get_elem?}
 use lib.Seq.{set-get_or}
@@ -12,9 +13,6 @@ use Rattle.board.specs.Rule.{room_of, tickets_of, IsNotOf, Fits, Apart, IsKeptSa
 use Rattle.ball_model.proofs.HistoryLemmas.{begins_self, calls_by-none}
 use Rattle.board.proofs.ViewLemmas.{total_set, total_push, each_set, each_push, apart_set, apart_set_on, apart_push}
 use Rattle.board.proofs.MoveLemmas.{still, home_same}
-
-none_some : {A : Type 0} (a : A) → None ≡ Some a → ⊥
-none_some a e = absurd (cc e)
 
 pub counts : (slots id : ℕ) (v : View) → v.stage ≡ 0 → 0 < v.room → Allows IsLocked slots id (v, []) 0 (λ n. n) (Counted still (v, []))
 counts slots id v idle live s h len at small =
@@ -48,12 +46,12 @@ counts slots id v idle live s h len at small =
           unused = f.unused;
           out = λ p. absurd (omega arith);
           turn = λ e. absurd (omega arith);
-          told = λ t e. absurd (none_some t e);
+          told = λ t e. absurd (none-some t e);
         } (λ j u _ e. h.each j u e);
         apart = apart_set s.views id w h.apart (λ j u ne e.
             let a = h.apart id j v u (λ q. ne (sym q)) at e in
             let b = h.apart j id u v ne e at in (
-              record { numbers = a.numbers; tickets = λ p. absurd (omega arith); told = λ t q. absurd (none_some t q) },
+              record { numbers = a.numbers; tickets = λ p. absurd (omega arith); told = λ t q. absurd (none-some t q) },
               record { numbers = b.numbers; tickets = λ _ p. absurd (omega arith); told = b.told },
             ));
       },
@@ -122,7 +120,7 @@ shares id v idle enough s h at =
         unused = λ j lo hi. f.unused j (omega arith) (omega arith);
         out = λ p. absurd (omega arith);
         turn = λ e. absurd (omega arith);
-        told = λ t e. absurd (none_some t e);
+        told = λ t e. absurd (none-some t e);
       } (each_set (Fits h.limit h.log h.next h.serving) s.views id k record {
         begins = λ _. f.begins (omega arith);
         limit_is = λ _. f.limit_is (omega arith);
@@ -139,12 +137,12 @@ shares id v idle enough s h at =
             record { numbers = turned (apart_part v k u (omega arith) (omega arith) a.numbers); tickets = b.tickets; told = λ t q. part_of v k (omega arith) (omega arith) t.number (b.told t q) },
           )))
           (each_set (λ u. Apart n u × Apart u n) s.views id k (
-            record { numbers = inr (omega arith); tickets = λ p. absurd (omega arith); told = λ t q. absurd (none_some t q) },
+            record { numbers = inr (omega arith); tickets = λ p. absurd (omega arith); told = λ t q. absurd (none-some t q) },
             record { numbers = inl (omega arith); tickets = λ _ p. absurd (omega arith); told = λ t q. part_of v n (omega arith) (omega arith) t.number (f.told t q).2 },
           ) (λ j u ne e.
           let a = h.apart id j v u (λ q. ne (sym q)) at e in
           let b = h.apart j id u v ne e at in (
-            record { numbers = apart_part v n u (omega arith) (omega arith) a.numbers; tickets = λ p. absurd (omega arith); told = λ t q. absurd (none_some t q) },
+            record { numbers = apart_part v n u (omega arith) (omega arith) a.numbers; tickets = λ p. absurd (omega arith); told = λ t q. absurd (none-some t q) },
             record { numbers = turned (apart_part v n u (omega arith) (omega arith) a.numbers); tickets = λ _ p. absurd (omega arith); told = λ t q. part_of v n (omega arith) (omega arith) t.number (b.told t q) },
           )));
     }
@@ -189,7 +187,7 @@ tells id v other w idle idle' live live' s h at ne at' =
         unused = λ k lo hi. absurd (omega arith);
         out = λ p. absurd (omega arith);
         turn = λ e. absurd (omega arith);
-        told = λ t e. absurd (none_some t e);
+        told = λ t e. absurd (none-some t e);
       } (λ j x _ e. each_set (Fits h.limit h.log h.next h.serving) s.views id u record {
         begins = f.begins;
         limit_is = λ _. f.limit_is (omega arith);
@@ -208,7 +206,7 @@ tells id v other w idle idle' live live' s h at ne at' =
             record { numbers = b.numbers; tickets = λ _ p. absurd (omega arith); told = b.told },
           )) j k x y nj nk n e e')
           (λ j x _ q e. (
-            record { numbers = inl (omega arith); tickets = λ p. absurd (omega arith); told = λ t p. absurd (none_some t p) },
+            record { numbers = inl (omega arith); tickets = λ p. absurd (omega arith); told = λ t p. absurd (none-some t p) },
             record { numbers = inr (omega arith); tickets = λ _ p. absurd (omega arith); told = λ t p. inr (omega arith) },
           )) j k x y tt tt n e e';
     }
@@ -234,7 +232,7 @@ opens log limit first legal le =
         unused = λ k lo hi. ap (events_by k) first;
         out = λ p. absurd (omega arith);
         turn = λ e. absurd (omega arith);
-        told = λ t e. absurd (none_some t e);
+        told = λ t e. absurd (none-some t e);
       };
       apart = λ i j v w ne e f. absurd (ne (zero_at i v e ∙ sym (zero_at j w f)));
     }

@@ -1,16 +1,22 @@
 -- A book's fields as a history, and what they keep.
-use Rattle.std.specs.Prelude.{◌≡◌, ◌⊎◌, ℕ, ◌+◌, ◌^◌, ◌<◌, vec_len, vec_capacity, true, false, List, ◌++◌, map, length, option_map, slice_index_or, Option, None, MatchOption, IfSome}
+use Rattle.std.specs.Prelude.{◌≡◌, ◌⊎◌, ℕ, ◌+◌, ◌^◌, ◌<◌, ◌&&◌, if◌then◌else◌, cond, Bool, true, false}
+use Rattle.std.specs.Prelude.{List, ◌++◌, map, length, vec_len, vec_capacity, slice_index_or, slice_set}
+use Rattle.std.specs.Prelude.{Option, None, Some, MatchOption, IfSome, option_map}
 use Rattle.std.specs.List.{flat_map}
 use Rattle.std.specs.Arc.{arc_value}
 use Rattle.std.specs.BTreeMap.{get}
 use Rattle.std.specs.declared.cmp.Ordering.{Ordering}
+use Rattle.ball_model.specs.declared.history.Kept.{Kept}
+use Rattle.ball_model.specs.declared.history.Kept.TheVariants as replies
+use Rattle.ball_model.specs.declared.history.Posted.{Posted}
+use Rattle.ball_model.specs.declared.history.Posted.TheVariants as posted
 use Rattle.ball_model.specs.declared.names.BatchName.{BatchName}
 use Rattle.ball_model.specs.contracts.names.BatchNameOrd.TheImpl as name_order
 use Rattle.ball_model.specs.Job.{Job}
 use Rattle.ball_model.specs.Join.{Holding}
 use Rattle.ball_model.specs.Batches.{BatchValue, true_batch}
 use Rattle.ball_model.specs.State.{State, StandsFor}
-use Rattle.ball_model.specs.History.{Event, Post, Fetch, Keep, Recall, Drop, Entry, History, entry, entries_of, with_entry, Object, board_of, IsLegal, holding_in}
+use Rattle.ball_model.specs.History.{Event, Post, Fetch, Keep, Recall, Drop, Entry, History, entry, entries_of, with_entry, Object, board_of, IsLegal, holding_in, is_further, is_new_keep, is_new_post, same_name}
 use Rattle.board.specs.declared.event.Event.{Event as Noted}
 use Rattle.board.specs.declared.event.Event.TheVariants as noted
 use Rattle.board.specs.declared.event.Entry.{Entry as Line}
@@ -83,9 +89,42 @@ IsBook b =
     Keeps arc_value arc_value (history_of b) b.calls.entries b.floor (get by_name b.standing)
     b.kept.items
 
+-- the reply to a post: whether its name is below the floor, and whether it stands
+abbrev pub reply_to : Bool → Bool → Posted
+reply_to is_old is_known =
+    if is_old then posted.Old else (if is_known then posted.Known else posted.New)
+
+-- where the reply is New, the batch stands at its name; all else stands as before
+abbrev pub IsPut : {A : Type 0} → Posted → BatchName → A → (BatchName → Option A) →
+    (BatchName → Option A) → Type 0
+IsPut reply name batch old new = (n : BatchName) →
+    new n ≡ cond (is_new_post reply && same_name n name) (Some batch) (old n)
+
+-- the reply to a snapshot: whether it is further than the one that is kept
+abbrev pub reply_in : {C : Type 0} → (C → State) → List (Option C) → C → Kept
+reply_in state kept c =
+    if is_further (held_at state kept (state c).part.number) (holding_in (state c))
+    then replies.New else replies.Behind
+
+-- what is kept after that reply
+abbrev pub kept_after : {C : Type 0} → (C → State) → Kept → List (Option C) → C → List (Option C)
+kept_after state reply kept c =
+    if is_new_keep reply then slice_set kept (state c).part.number (Some c) else kept
+
 -- one entry more, where there is room for it
 abbrev pub IsNoted : ℕ → ℕ → Event → History → History → Type 0
 IsNoted limit by e old new = (new ≡ with_entry old (entry by e)) × (entries_of old < limit)
+
+-- a fetch of that name was noted, and this is the true batch of it
+abbrev pub IsFetched : ℕ → ℕ → BatchName → History → History → BatchValue → Type 0
+IsFetched limit by name old new batch =
+    IsNoted limit by (Fetch name) old new × (batch ≡ true_batch old.job name)
+
+-- a recall was noted, and this is a snapshot of the partition with the content that it tells
+abbrev pub IsRecalled : ℕ → ℕ → ℕ → ℕ → History → History → State → Type 0
+IsRecalled limit by part least old new state =
+    IsNoted limit by (Recall part least (holding_in state)) old new
+    × StandsFor old.job part state.superstep state
 
 -- the history after a call of this caller: it is legal, and the same or with one entry more
 abbrev pub IsNext : ℕ → ℕ → History → History → Type 0

@@ -1,5 +1,5 @@
 -- What contracts see of a board and of a seat, and what a call does to a seat.
-use Rattle.std.specs.Prelude.{◌≡◌, ℕ, ◌<◌, ◌≤◌, true, [], ◌∷◌, ◌++◌}
+use Rattle.std.specs.Prelude.{◌≡◌, ℕ, ◌<◌, ◌≤◌, ◌^◌, true, [], ◌∷◌, ◌++◌}
 use Rattle.atomic_table.specs.Seated.{TableId}
 use Rattle.ball_model.specs.Graph.{Graph}
 use Rattle.ball_model.specs.PlanValue.{PlanValue}
@@ -7,6 +7,13 @@ use Rattle.ball_model.specs.Job.{Job}
 use Rattle.ball_model.specs.Batches.{BatchValue, true_batch}
 use Rattle.ball_model.specs.State.{State, StandsFor}
 use Rattle.ball_model.specs.History.{Event, History, Begins, IsLegal, entry, entries_of, calls_by, with_entry, board_of, is_kept_from}
+
+-- the fewest and the most entries that a history may have
+abbrev pub least_entries : ℕ
+least_entries = 2
+
+abbrev pub most_entries : ℕ
+most_entries = 2 ^ 24
 
 -- which table a board has, and how many entries its history may have
 pub record BoardView : Type 0 where
@@ -37,6 +44,11 @@ Stands j v = StandsFor j v.part.number v.superstep v
 -- the seat is one of the board
 abbrev pub IsAt : BoardView → SeatView → Type 0
 IsAt b v = (v.table ≡ b.table) × (v.limit ≡ b.limit)
+
+-- a seat that gave numbers away is else as it was
+abbrev pub SharesNumbers : SeatView → SeatView → Type 0
+SharesNumbers v w =
+    (w.table ≡ v.table) × (w.limit ≡ v.limit) × (w.number ≡ v.number) × (w.seen ≡ v.seen)
 
 -- the seat has seen more, or as much: a legal history that what it had seen begins
 pub record Extends (v w : SeatView) : Type 0 where

@@ -7,7 +7,7 @@ ghost use Rattle.ball_model.specs.Job.{IsJob};
 ghost use Rattle.ball_model.specs.Batches.{true_batch};
 ghost use Rattle.ball_model.specs.State.{StandsFor};
 ghost use Rattle.ball_model.specs.History.{Post, Fetch, Keep, Recall, Drop, Begins, IsLegal, start_history, entries_of, calls_by, board_of, holding_in, is_kept_from};
-ghost use Rattle.board.specs.Seats.{job_of, IsTrueIn, Stands, IsAt, Extends, Called, CalledNothing, IsFull, HasRoom, IsAsFar};
+ghost use Rattle.board.specs.Seats.{job_of, IsTrueIn, Stands, IsAt, Extends, Called, CalledNothing, IsFull, HasRoom, IsAsFar, least_entries, most_entries};
 ghost use Rattle.board.specs.Rule.{first_view};
 ghost use Rattle.board.specs.Turn.{IsSized};
 
@@ -62,7 +62,7 @@ impl Board {
         entries: u32,
     ) -> Result<(Board, Seat), AllocError>
         requires job { IsJob (job_of graph.now.graph plan.now) }
-        requires entries { (2 ≤ entries) × (entries ≤ 2 ^ 24) }
+        requires entries { (least_entries ≤ entries) × (entries ≤ most_entries) }
         ensures board { IfOk result (λ r. IsAt r.0 r.1) }
         ensures limit { IfOk result (λ r. r.1.limit ≡ entries) }
         ensures number { IfOk result (λ r. r.1.number ≡ 0) }

@@ -1,16 +1,12 @@
 //! What lies in the slot of a board: the history, and what it leaves.
 
-ghost use Rattle.std.specs.Prelude.{◌≡◌, ◌&&◌, ◌<◌, ◌≤◌, cond, if◌then◌else◌, nat_lt, IsTrue, IsFalse, true, false, None, Some, length, replicate, slice_get, slice_set, slice_index_or, is_some, option_map, IfErr, IfOk, OnOk, OnErr, IfSome, IfNone, Err};
+ghost use Rattle.std.specs.Prelude.{◌≡◌, ◌<◌, ◌≤◌, cond, nat_lt, IsTrue, IsFalse, true, false, None, Some, length, replicate, slice_get, slice_index_or, is_some, option_map, IfErr, IfOk, OnOk, OnErr, IfSome, IfNone, Err};
 ghost use Rattle.std.specs.Arc.{arc_value};
 ghost use Rattle.std.specs.BTreeMap.{get};
-ghost use Rattle.ball_model.specs.declared.history.Posted.TheVariants as posted;
-ghost use Rattle.ball_model.specs.declared.history.Kept.TheVariants as replies;
 ghost use Rattle.board.specs.declared.error.BoardError.TheVariants.{BookFull, Memory};
-ghost use Rattle.ball_model.specs.Batches.{true_batch};
-ghost use Rattle.ball_model.specs.State.{StandsFor};
-ghost use Rattle.ball_model.specs.History.{Post, Fetch, Keep, Recall, Drop, IsLegal, start_history, entries_of, board_of, holding_in, is_further, is_kept_from, is_new_keep, is_new_post, same_name};
+ghost use Rattle.ball_model.specs.History.{Post, Keep, Drop, IsLegal, start_history, entries_of, board_of, holding_in, is_further, is_kept_from};
 ghost use Rattle.board.specs.Seats.{job_of, IsTrueIn, Stands};
-ghost use Rattle.board.specs.Book.{by_name, held_at, IsNoted, IsNext};
+ghost use Rattle.board.specs.Book.{by_name, held_at, IsFetched, IsNoted, IsNext, IsPut, IsRecalled, kept_after, reply_in, reply_to};
 
 use crate::calls::Calls;
 use crate::error::BoardError;
@@ -79,8 +75,7 @@ impl Book {
         limit: u32,
     ) -> Result<Option<Arc<Batch>>, BoardError>
         ensures found { IfOk result (λ r. IfSome r (λ a.
-            IsNoted limit by (Fetch name) self.old self.new
-            × (arc_value a ≡ true_batch self.old.job name))) }
+            IsFetched limit by name self.old self.new (arc_value a))) }
         ensures none { IfOk result (λ r. IfNone r
             ((self.new ≡ self.old) × ((board_of self.old).stands name ≡ false))) }
         ensures err { OnErr result
@@ -140,8 +135,7 @@ impl Book {
         limit: u32,
     ) -> Result<Option<Arc<Snapshot>>, BoardError>
         ensures found { IfOk result (λ r. IfSome r (λ a.
-            IsNoted limit by (Recall part at_least (holding_in (arc_value a))) self.old self.new
-            × StandsFor self.old.job part (arc_value a).superstep (arc_value a))) }
+            IsRecalled limit by part at_least self.old self.new (arc_value a))) }
         ensures none { IfOk result (λ r. IfNone r ((self.new ≡ self.old)
             × (is_kept_from ((board_of self.old).kept part) at_least ≡ false))) }
         ensures err { OnErr result ((self.new ≡ self.old)
@@ -193,10 +187,10 @@ fn put_batch(
     name: BatchName,
     batch: Arc<Batch>,
 ) -> Result<Posted, BoardError>
-    ensures reply { IfOk result (λ r. r ≡ (if nat_lt name.superstep floor then posted.Old else
-        (if is_some (get by_name standing.old name) then posted.Known else posted.New))) }
-    ensures put { IfOk result (λ r. (n : BatchName) → get by_name standing.new n
-        ≡ cond (is_new_post r && same_name n name) (Some batch) (get by_name standing.old n)) }
+    ensures reply { IfOk result (λ r.
+        r ≡ reply_to (nat_lt name.superstep floor) (is_some (get by_name standing.old name))) }
+    ensures put { IfOk result (λ r.
+        IsPut r name batch (get by_name standing.old) (get by_name standing.new)) }
     ensures err { IfErr result (λ e. (e ≡ Memory)
         × ((n : BatchName) → get by_name standing.new n ≡ get by_name standing.old n)) }
 {
@@ -215,12 +209,8 @@ fn put_batch(
 // Puts a snapshot in its place where it is further than the one there.
 fn put_snapshot(kept: &mut Vec<Option<Arc<Snapshot>>>, snapshot: Arc<Snapshot>) -> Kept
     requires { (arc_value snapshot).part.number < length kept.old.items }
-    ensures reply { result ≡ (if is_further
-        (held_at arc_value kept.old.items (arc_value snapshot).part.number)
-        (holding_in (arc_value snapshot)) then replies.New else replies.Behind) }
-    ensures put { kept.new.items ≡ (if is_new_keep result
-        then slice_set kept.old.items (arc_value snapshot).part.number (Some snapshot)
-        else kept.old.items) }
+    ensures reply { result ≡ reply_in arc_value kept.old.items snapshot }
+    ensures put { kept.new.items ≡ kept_after arc_value result kept.old.items snapshot }
 {
     let place = usize::from(snapshot.partition());
     if !is_ahead(&kept[place], &snapshot) {

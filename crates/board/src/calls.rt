@@ -59,15 +59,11 @@ impl Calls {
             return Err(BoardError::BookFull);
         }
         if self.sheet.len() >= SHEET {
-            let Ok(()) = self.full.reserve(1) else {
-                return Err(BoardError::Memory);
-            };
+            self.full.reserve(1)?;
             let sheet = mem::replace(&mut self.sheet, Vec::new(self.alloc));
             self.full.push_reserved(sheet);
         }
-        let Ok(()) = self.sheet.reserve(1) else {
-            return Err(BoardError::Memory);
-        };
+        self.sheet.reserve(1)?;
         Ok(())
     }
 
@@ -81,9 +77,7 @@ impl Calls {
         ensures memory { IfErr result (λ e. e ≡ Memory → self.old.entries < limit) }
     {
         self.make_room(limit)?;
-        let Ok(copy) = Arc::try_clone(value) else {
-            return Err(BoardError::Memory);
-        };
+        let copy = Arc::try_clone(value)?;
         Ok(copy)
     }
 

@@ -1,5 +1,6 @@
 //! Why a call of a board is refused.
 
+use std::alloc::AllocError;
 use thiserror::Error;
 
 /// Why a call of a board is refused, in the order of the checks. It has then changed nothing.
@@ -8,6 +9,18 @@ pub enum BoardError {
     /// The history has as many entries as it may have, and the call would add one.
     #[error("the board's book is full")]
     BookFull,
+    /// Memory was refused, or a value is shared 2^63 times already.
     #[error("out of memory")]
     Memory,
+}
+
+impl From<AllocError> for BoardError {
+    ghost use Rattle.std.specs.Prelude.{◌≡◌};
+    ghost use Rattle.board.specs.declared.error.BoardError.TheVariants.{Memory};
+
+    ghost from_gives = { λ _ e. e ≡ Memory };
+
+    fn from(_error: AllocError) -> BoardError {
+        BoardError::Memory
+    }
 }

@@ -2,7 +2,7 @@
 
 ghost use Rattle.std.specs.Prelude.{◌≡◌, ◌≢◌, ◌-◌, ◌/◌, ◌≤◌, []};
 ghost use Rattle.ball_model.specs.History.{calls_by};
-ghost use Rattle.board.specs.Seats.{IsAt};
+ghost use Rattle.board.specs.Seats.{IsAt, SharesNumbers};
 
 use crate::board::Board;
 use crate::rule::{Pass, Shares};
@@ -43,8 +43,7 @@ impl Seat {
     pub fn split(&mut self, board: &Board) -> Seat
         requires board { IsAt board.now self.old }
         requires room { 1024 ≤ self.old.room }
-        ensures kept { (self.new.table ≡ self.old.table) × (self.new.limit ≡ self.old.limit)
-            × (self.new.number ≡ self.old.number) × (self.new.seen ≡ self.old.seen) }
+        ensures kept { SharesNumbers self.old self.new }
         ensures left { self.new.room ≡ self.old.room - self.old.room / 1024 }
         ensures board { IsAt board.now result }
         ensures number { result.number ≢ self.old.number }

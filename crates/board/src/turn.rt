@@ -1,10 +1,9 @@
 //! The turn of a call: a ticket is drawn, the book is taken once the ticket is served, and given back.
 
 ghost use Rattle.std.specs.Prelude.{◌≡◌, ◌%◌, ◌^◌, ◌<◌, ◌∷◌, [], None, Some};
-ghost use Rattle.ball_model.specs.History.{Begins, calls_by, entries_of};
-ghost use Rattle.board.specs.View.{Told};
+ghost use Rattle.ball_model.specs.History.{entries_of};
 ghost use Rattle.board.specs.Rule.{GoesOn, at_look, with_ticket, at_turn, after_turn};
-ghost use Rattle.board.specs.Turn.{IsSized, Next};
+ghost use Rattle.board.specs.Turn.{HasNews, IsSameSeat, IsSized, Next};
 
 use crate::book::Book;
 use crate::rule::{Counts, Draws, LENGTH, Looks, Pass, Raises, Room, SERVING, TICKETS, Writes};
@@ -23,8 +22,7 @@ pub fn count(room: &Room, pass: &mut Pass) -> u64
     ensures length { result ≡ entries_of pass.new.me.0.seen }
     ensures seen { GoesOn pass.old.me.0 pass.new.me.0.seen
         × (pass.new.me ≡ (at_look pass.old.me.0 pass.new.me.0.seen, [])) }
-    ensures told { (t : Told) → pass.old.me.0.told ≡ Some t → Begins t.seen pass.new.me.0.seen
-        × (calls_by t.number pass.new.me.0.seen ≡ calls_by t.number t.seen) }
+    ensures told { HasNews pass.old.me.0 pass.new.me.0.seen }
 {
     room.shared.load::<Counts>(pass, LENGTH)
 }
@@ -48,8 +46,9 @@ fn wait<R: Wait>(rt: &R, room: &Room, pass: &mut Pass, ticket: u64)
     requires waits { (pass.old.me.0.stage ≡ 1) × (pass.old.me.1 ≡ [])
         × (ticket ≡ pass.old.me.0.ticket % 2 ^ 64) }
     ensures same { (pass.new.table_id ≡ pass.old.table_id) × (pass.new.id ≡ pass.old.id) }
-    ensures turn { GoesOn pass.old.me.0 pass.new.me.0.seen × (pass.new.me
-        ≡ (at_turn pass.old.me.0 pass.new.me.0.seen, (0, Some pass.new.me.0.seen) ∷ [])) }
+    ensures seen { GoesOn pass.old.me.0 pass.new.me.0.seen }
+    ensures turn { pass.new.me
+        ≡ (at_turn pass.old.me.0 pass.new.me.0.seen, (0, Some pass.new.me.0.seen) ∷ []) }
 {
     let mut looks = 0;
     for _ in rt.forever() {
@@ -77,9 +76,7 @@ pub fn take<R: Wait>(rt: &R, room: &Room, pass: &mut Pass) -> Book
         × (pass.old.table_id ≡ room.now.shared.table_id) }
     requires idle { (pass.old.me.0.stage ≡ 0) × (0 < pass.old.me.0.room) × (pass.old.me.1 ≡ []) }
     ensures same { (pass.new.table_id ≡ pass.old.table_id) × (pass.new.id ≡ pass.old.id) }
-    ensures kept { (pass.new.me.0.number ≡ pass.old.me.0.number)
-        × (pass.new.me.0.room ≡ pass.old.me.0.room) × (pass.new.me.0.told ≡ pass.old.me.0.told)
-        × (pass.new.me.0.limit ≡ pass.old.me.0.limit) }
+    ensures kept { IsSameSeat pass.old.me.0 pass.new.me.0 }
     ensures turn { (pass.new.me.0.stage ≡ 2) × (pass.new.me.1 ≡ (0, None) ∷ []) }
     ensures book { (result ≡ pass.new.me.0.seen) × GoesOn pass.old.me.0 result }
 {

@@ -2,10 +2,10 @@
 use Rattle.std.proofs.Common.{◌≡◌, ◌≢◌, ℕ, ◌+◌, ◌<◌, ◌≤◌, ◌-◌, nat_lt, zero, suc, [], ◌∷◌, Bool, true, false, not, ◌&&◌, ◌||◌, ◌==◌, if◌then◌else◌, List, ◌++◌, length, get_or, set, slice_index_or, refl, ap, arith, sym, ◌∙◌, subst, inl, inr, ◌⊎◌}
 use Rattle.std.specs.Prelude.{Option, None, Some, Result, Ok, OnOk, OnErr}
 use Rattle.std.specs.List.{find, range_with_len}
-use Rattle.std.specs.Str.{bytes_eq}
 use Rattle.std.proofs.lemmas.Bool.Decides.{nat_tests}
 use Rattle.std.proofs.lemmas.List.{length-set, length-append, get_or_append_left, get_or-set_same, get_or-set_other}
-use Rattle.std.proofs.lemmas.Slice.Eq.{bytes_eq-Decides}
+use Rattle.std.proofs.lemmas.Bool.{and_from, cases_eq, eq-eqb, lt-ltb}
+use Rattle.std.proofs.Math.Bool.{or-true}
 use Rattle.ball_model.specs.declared.names.Taken.{Taken}
 use Rattle.ball_model.specs.declared.names.Taken.TheVariants as taken
 use Rattle.ball_model.specs.declared.names.TakeError.{TakeError}
@@ -19,6 +19,7 @@ use Rattle.ball_model.specs.Content.{Content, take_of, is_new, after_take, same_
 use Rattle.ball_model.specs.State.{State, StandsFor, content_of}
 use Rattle.ball_model.proofs.EndLemmas.{end_within}
 use Rattle.replica.specs.Level.{found_verdict}
+use Rattle.replica.proofs.RunLemmas.{same_plan-self}
 use Rattle.report.specs.Ready.{AllStand, are_ready, is_ready, ready_from, says_end}
 use Rattle.hyperball.specs.Partitions.{AreAt, AreEnded, AreLevel, AreOver, AreRunning, AreTold, with_pair}
 
@@ -41,16 +42,6 @@ parts_at rs p d h lt =
     let stands : StandsFor h.job p h.superstep (slice_index_or rs p d) = h.at.each p d (omega (arith, h.at.count)) in
     ap (λ (a : PlanValue). a.parts) (plan_of_part h.job p (slice_index_or rs p d) stands.part) ∙ sym h.at.count
 
-same_text : (x : List ℕ) → bytes_eq x x ≡ true
-same_text x = grind (arith, bytes_eq-Decides)
-
-same_number : (x : ℕ) → (x == x) ≡ true
-same_number x = grind (arith, nat_tests)
-
--- a plan is the same as itself
-same_plan-self : (a : PlanValue) → same_plan a a ≡ true
-same_plan-self a = rw (same_number a.log2m, same_number a.seed, same_number a.parts, same_number a.limit, same_number a.vertices, same_text a.job) refl
-
 new_or_known : (held : Bool) → ((is_new (if held then Ok taken.Known else Ok taken.New) && true) || held) ≡ true
 new_or_known true = refl
 new_or_known false = refl
@@ -62,20 +53,13 @@ taken_in plan p q c other =
     let far : nat_lt (c.superstep + 3) c.superstep ≡ false = grind (arith, nat_tests) in
     let below : nat_lt c.superstep c.superstep ≡ false = grind (arith, nat_tests) in
     let apart : (q == p) ≡ false = grind (arith, nat_tests) in
-    rw (same_plan-self plan, same_number p, same_number q, same_number c.superstep, far, below, apart) (new_or_known (c.holds c.superstep q))
-
-same_by : (a b : ℕ) (test : Bool) → (a == b) ≡ test → (a ≡ b) ⊎ (a ≢ b)
-same_by a b true e = inl (grind (arith, nat_tests))
-same_by a b false e = inr (grind (arith, nat_tests))
-
-same_or_not : (a b : ℕ) → (a ≡ b) ⊎ (a ≢ b)
-same_or_not a b = same_by a b (a == b) refl
+    rw (same_plan-self plan, eq-eqb p p refl, eq-eqb q q refl, eq-eqb c.superstep c.superstep refl, far, below, apart) (new_or_known (c.holds c.superstep q))
 
 -- a list with another replica at a place
 pub at_set : (j : Job) (t : ℕ) (rs : List State) (p : ℕ) (w : State) → AreAt j t rs → p < length rs → StandsFor j p t w → AreAt j t (set rs p w)
 at_set j t rs p w h lt stands = record {
   count = simp length-set h.count;
-  each = λ k d below. elim (same_or_not k p) [
+  each = λ k d below. elim (cases_eq k p) [
     | inl same ↦ subst (λ (n : ℕ). StandsFor j n t (slice_index_or (set rs p w) n d)) (sym same) (subst (λ (s : State). StandsFor j p t s) (sym (get_or-set_same rs p w d lt)) stands)
     | inr other ↦ subst (λ (s : State). StandsFor j k t s) (sym (get_or-set_other rs p k w d other)) (h.each k d below)
   ];
@@ -87,15 +71,8 @@ pub record Told (j : Job) (t q p : ℕ) (v w : State) : Type 0 where
   pub kept : (s k : ℕ) → (content_of v).holds s k ≡ true → (content_of w).holds s k ≡ true
   pub held : (content_of w).holds t q ≡ true
 
-or_true : (b : Bool) → (b || true) ≡ true
-or_true true = refl
-or_true false = refl
-
-pub nat_lt_to : (a b : ℕ) → a < b → nat_lt a b ≡ true
-nat_lt_to a b lt = grind (arith, nat_tests)
-
 kept_after : (new : Bool) (holds : ℕ → ℕ → Bool) (s q r k : ℕ) → holds r k ≡ true → after_take new holds s q r k ≡ true
-kept_after new holds s q r k h = rw h (or_true (new && ((r == s) && (k == q))))
+kept_after new holds s q r k h = rw h (or-true (new && ((r == s) && (k == q))))
 
 -- a true batch of the superstep, taken
 pub told_by : (j : Job) (t q p : ℕ) (v w : State) (b : BatchValue) (r : Result Taken TakeError) → StandsFor j p t v → q ≢ p → b ≡ true_batch j (record { superstep = t; source = q; target = p }) →
@@ -127,7 +104,7 @@ told_there told q p r s e = by_test (r == q) (s == p) (told r s) refl refl e
 pub told_set : (j : Job) (t q p : ℕ) (told : ℕ → ℕ → Bool) (rs : List State) (d w : State) → AreTold j t told rs → p < length rs → Told j t q p (slice_index_or rs p d) w → AreTold j t (with_pair told q p) (set rs p w)
 told_set j t q p told rs d w h lt one = record {
   at = at_set j t rs p w h.at lt one.stands;
-  held = λ r s e source target other is. elim (same_or_not s p) [
+  held = λ r s e source target other is. elim (cases_eq s p) [
     | inl same ↦
         let here : slice_index_or (set rs p w) s e ≡ w = ap (λ n. slice_index_or (set rs p w) n e) same ∙ get_or-set_same rs p w e lt in
         subst (λ (v : State). (content_of v).holds t r ≡ true) (sym here) (elim (told_there told q p r s is) [
@@ -166,14 +143,6 @@ at_most_64 (v ∷ rest) h =
 abbrev pub told_below : (ℕ → ℕ → Bool) → ℕ → ℕ → ℕ → ℕ → Bool
 told_below told q n r s = ((r == q) && nat_lt s n) || told r s
 
-pub below_none : (told : ℕ → ℕ → Bool) (q r s : ℕ) → told_below told q 0 r s ≡ true → told r s ≡ true
-below_none told q r s e = by_test (r == q) (nat_lt s 0) (told r s) refl e
-  where
-    by_test : (a b c : Bool) → nat_lt s 0 ≡ b → ((a && b) || c) ≡ true → c ≡ true
-    by_test true true c e h = absurd (grind (arith, nat_tests))
-    by_test true false c e h = h
-    by_test false b c e h = h
-
 below_more : (told : ℕ → ℕ → Bool) (q n r s : ℕ) → told_below told q (n + 1) r s ≡ true → ((r ≡ q) × (s ≡ n)) ⊎ (told_below told q n r s ≡ true)
 below_more told q n r s e = by_test (r == q) (nat_lt s (n + 1)) (nat_lt s n) (told r s) refl refl refl e
   where
@@ -187,8 +156,8 @@ below_more told q n r s e = by_test (r == q) (nat_lt s (n + 1)) (nat_lt s n) (to
 -- once it has told target n too
 pub below_told : (told : ℕ → ℕ → Bool) (q n r s : ℕ) → told_below told q (n + 1) r s ≡ true → with_pair (told_below told q n) q n r s ≡ true
 below_told told q n r s e = elim (below_more told q n r s e) [
-  | inl both ↦ rw (both.0, both.1, same_number q, same_number n) refl
-  | inr before ↦ rw before (or_true ((r == q) && (s == n)))
+  | inl both ↦ rw (both.0, both.1, eq-eqb q q refl, eq-eqb n n refl) refl
+  | inr before ↦ rw before (or-true ((r == q) && (s == n)))
 ]
 
 -- nothing is told to itself
@@ -200,7 +169,7 @@ below_self told q n r s own other e = elim (below_more told q n r s e) [
 
 -- and in the end it has told all
 pub below_all : (told : ℕ → ℕ → Bool) (q n r s : ℕ) → s < n → ((r == q) || told r s) ≡ true → told_below told q n r s ≡ true
-below_all told q n r s lt e = rw (nat_lt_to s n lt) (by_test (r == q) (told r s) e)
+below_all told q n r s lt e = rw (lt-ltb s n lt) (by_test (r == q) (told r s) e)
   where
     by_test : (a c : Bool) → (a || c) ≡ true → ((a && true) || c) ≡ true
     by_test true c h = refl
@@ -270,7 +239,7 @@ closed_more j t n old new w h lt one =
     let below : n < length new = omega (arith, h.count) in
     record {
       count = simp length-set h.count;
-      closed = λ p d less in_old. elim (same_or_not p n) [
+      closed = λ p d less in_old. elim (cases_eq p n) [
         | inl same ↦ subst (λ (k : ℕ). StandsFor j k (t + 1) (slice_index_or (set new n w) k d)) (sym same) (subst (λ (s : State). StandsFor j n (t + 1) s) (sym (get_or-set_same new n w d below)) one)
         | inr apart ↦ subst (λ (s : State). StandsFor j p (t + 1) s) (sym (get_or-set_other new n p w d apart)) (h.closed p d (omega (arith, apart, less)) in_old)
       ];
@@ -300,7 +269,7 @@ at_end (u ∷ rest) v d = at_end rest v d
 pub started_more : (j : Job) (n : ℕ) (rs : List State) (v : State) → AreStarted j n rs → StandsFor j n 0 v → AreStarted j (n + 1) (rs ++ v ∷ [])
 started_more j n rs v h one = record {
   count = length-append rs (v ∷ []) ∙ ap (λ k. k + 1) h.count;
-  each = λ p d less. elim (same_or_not p n) [
+  each = λ p d less. elim (cases_eq p n) [
     | inl same ↦
         let here : slice_index_or (rs ++ v ∷ []) p d ≡ v = ap (λ k. slice_index_or (rs ++ v ∷ []) k d) (same ∙ sym h.count) ∙ at_end rs v d in
         subst (λ (s : State). StandsFor j p 0 s) (sym here) (subst (λ (k : ℕ). StandsFor j k 0 v) (sym same) one)
@@ -314,9 +283,6 @@ started_all j n rs h all = record { count = h.count ∙ all; each = λ p d lt. h
 -- as many as the plan has partitions have gone on
 pub closed_all : (j : Job) (t n : ℕ) (old new : List State) → AreClosed j t n old new → length old ≤ n → length old ≡ j.plan.parts → AreAt j (t + 1) new
 closed_all j t n old new h all count = record { count = h.count ∙ count; each = λ p d lt. h.closed p d (omega (arith, all, count, lt)) (omega (arith, count, lt)) }
-
-some_is : (a b : Verdict) → ◌≡◌ {A = Option Verdict} (Some a) (Some b) → a ≡ b
-some_is a b e = cc
 
 -- the verdict of a replica is that of all
 pub same_verdict : (j : Job) (t p : ℕ) (rs : List State) (v : State) (r : Option Verdict) → AreLevel j t rs → p < length rs → v ≡ slice_index_or rs p v →
@@ -345,7 +311,7 @@ all_over j t n rs h all = subst (λ k. AreOver j t k rs) all h
 pub over_more : (j : Job) (t n : ℕ) (rs : List State) (v : State) (r : Option Verdict) → AreOver j t n rs → n < length rs → v ≡ slice_index_or rs n v → r ≡ found_verdict v → r ≡ Some (verdict_at j t) →
     (verdict_at j t ≡ verdict.GoOn → ⊥) → AreOver j t (n + 1) rs
 over_more j t n rs v r h lt is found at not_on = record {
-  say = λ p d less. elim (same_or_not p n) [
+  say = λ p d less. elim (cases_eq p n) [
     | inl same ↦ ap (λ k. found_verdict (slice_index_or rs k d)) same ∙ ap found_verdict (same_default rs n d v lt ∙ sym is) ∙ sym found ∙ at
     | inr apart ↦ h.say p d (omega (arith, apart, less))
   ];
@@ -397,15 +363,12 @@ says_end_of verdict.Limit apart = refl
 all_true : (a b c d : Bool) → a ≡ true → b ≡ true → c ≡ true → d ≡ true → (a && b && c && d) ≡ true
 all_true a b c d e f g h = rw (e, f, g, h) refl
 
-both_true : (a b : Bool) → a ≡ true → b ≡ true → (a && b) ≡ true
-both_true a b e f = rw (e, f) refl
-
 ready_one : (j : Job) (t p : ℕ) (v : State) → StandsFor j p t v → found_verdict v ≡ Some (verdict_at j t) → (verdict_at j t ≡ verdict.GoOn → ⊥) → is_ready j.plan t p v ≡ true
 ready_one j t p v h said over =
     let number : v.part.number ≡ p = number_of_part j p v h.part in
     let plan : v.part.plan ≡ j.plan = plan_of_part j p v h.part in
     all_true (v.part.number == p) (same_plan j.plan v.part.plan) (v.superstep == t) (says_end (found_verdict v))
-    (ap (λ n. n == p) number ∙ same_number p) (ap (same_plan j.plan) plan ∙ same_plan-self j.plan) (ap (λ n. n == t) h.superstep ∙ same_number t) (ap says_end said ∙ says_end_of (verdict_at j t) over)
+    (ap (λ n. n == p) number ∙ eq-eqb p p refl) (ap (same_plan j.plan) plan ∙ same_plan-self j.plan) (ap (λ n. n == t) h.superstep ∙ eq-eqb t t refl) (ap says_end said ∙ says_end_of (verdict_at j t) over)
 
 ready_all : (j : Job) (t p : ℕ) (rs : List State) → ((k : ℕ) (d : State) → k < length rs → is_ready j.plan t (p + k) (slice_index_or rs k d) ≡ true) → ready_from j.plan t p rs ≡ true
 unfolding ready_from
@@ -426,7 +389,7 @@ ready j (v ∷ rest) some h =
     let all : ready_from j.plan t 0 (v ∷ rest) ≡ true = ready_all j t 0 (v ∷ rest) (λ k d lt.
     subst (λ m. is_ready j.plan t m (slice_index_or (v ∷ rest) k d) ≡ true) (let start : k ≡ 0 + k = omega arith in start)
     (ready_one j t k (slice_index_or (v ∷ rest) k d) (h.level.at.each k d (omega (arith, h.level.at.count, lt))) (h.over.say k d lt) (h.over.over (omega arith)))) in
-    both_true (length (v ∷ rest) == v.part.plan.parts) (ready_from v.part.plan v.superstep 0 (v ∷ rest))
+    and_from (length (v ∷ rest) == v.part.plan.parts) (ready_from v.part.plan v.superstep 0 (v ∷ rest))
     (ap (λ (a : PlanValue). length (v ∷ rest) == a.parts) plan ∙ count)
     (ap (λ a. ready_from a v.superstep 0 (v ∷ rest)) plan ∙ ap (λ n. ready_from j.plan n 0 (v ∷ rest)) first.superstep ∙ all)
 

@@ -1,12 +1,12 @@
 -- Inputs that are read whole, and their sections.
-use Rattle.std.proofs.Common.{◌≡◌, ◌∙◌, ℕ, suc, ◌+◌, ◌-◌, ◌<◌, ◌≤◌, Bool, true, false, ◌==◌, if◌then◌else◌, List, [], ◌∷◌, ◌++◌, length, take, drop, slice_index, refl, ap, arith, sym, subst, append_assoc, append-nil, length-append}
-use Rattle.std.specs.Prelude.{Option, None, Some, option_map, IfSome}
-use Rattle.std.specs.Io.KnownBytes.{Consumes, IsAtEnd, Keeps}
+use Rattle.std.proofs.Common.{◌≡◌, ◌∙◌, ℕ, suc, ◌+◌, ◌-◌, ◌<◌, ◌≤◌, Bool, true, false, ◌==◌, if◌then◌else◌, List, [], ◌∷◌, ◌++◌, length, take, drop, slice_index, refl, ap, arith, sym, append_assoc, append-nil, length-append}
+use Rattle.std.specs.Prelude.{Option, None, Some, option_map}
+use Rattle.std.specs.Io.KnownBytes.{Consumes}
 use Rattle.std.proofs.Math.Seq.{drop-cons, take-suc}
 use Rattle.std.proofs.lemmas.List.{drop_all, length-drop, length-take, take_all}
-use Rattle.std.proofs.KnownBytes.{Consumes-kept, Consumes-nil, Consumes-trans}
+use Rattle.std.proofs.KnownBytes.{Consumes-trans}
 use Rattle.ball_model.specs.Sections.{after_mark, longer, sections_from}
-use Rattle.hyperball.specs.Whole.{AddsPiece, ReadsAtMost, most_bytes}
+use Rattle.hyperball.specs.Whole.{ReadsAtMost, most_bytes}
 
 -- what was read so far
 pub record HasRead (old new : Option (List ℕ)) (bytes : List ℕ) : Type 0 where
@@ -74,34 +74,6 @@ found_here xs rest i begins lt is = found_by (take i xs) (drop i xs) rest begins
 pub ended : (xs : List ℕ) (i : ℕ) (begins : Bool) → length xs ≤ i → behind (take i xs) (sections_from begins (drop i xs)) ≡ None
 ended xs i begins le = ap (λ l. behind (take i xs) (sections_from begins l)) (drop_all i xs le) ∙ behind_none (take i xs) begins
 
--- no byte is read
-pub none_read : (a : Option (List ℕ)) → HasRead a a []
-none_read a = record { consumed = Consumes-nil a; few = omega arith }
-
--- a piece more
-pub piece_read : (a b c : Option (List ℕ)) (before after : List ℕ) (n room : ℕ) → HasRead a b before → AddsPiece b c before after n → n ≤ room → room ≤ most_bytes + 1 - length before → length before ≤ most_bytes → HasRead a c after
-piece_read a b c before after n room h adds le most under =
-    let long : length after ≡ length before + n = ap length adds.added ∙ length-append before adds.bytes ∙ ap (λ k. length before + k) adds.count in
-    record {
-      consumed = subst (λ l. Consumes a c l) (sym adds.added) (Consumes-trans a b c before adds.bytes h.consumed adds.consumed);
-      few = omega (arith, long, le, most, under);
-    }
-
--- at the end of the input all of it is there
-pub all_read : (a b : Option (List ℕ)) (bytes : List ℕ) → HasRead a b bytes → IsAtEnd b → IfSome a (λ input. bytes ≡ input)
-all_read None b bytes h end = tt
-all_read (Some x) None bytes h end = absurd h.consumed
-all_read (Some x) (Some y) bytes h end = sym (h.consumed ∙ ap (λ l. bytes ++ l) end ∙ append-nil bytes)
-
--- and where too many were read there are too many
-pub too_many : (a b : Option (List ℕ)) (bytes : List ℕ) → HasRead a b bytes → most_bytes < length bytes → IfSome a (λ input. most_bytes < length input)
-too_many None b bytes h lt = tt
-too_many (Some x) None bytes h lt = absurd h.consumed
-too_many (Some x) (Some y) bytes h lt = let long : length x ≡ length bytes + length y = ap length h.consumed ∙ length-append bytes y in omega (arith, long, lt)
-
-pub read_so_far : (a b : Option (List ℕ)) (bytes : List ℕ) → HasRead a b bytes → ReadsAtMost (most_bytes + 1) a b
-read_so_far a b bytes h = record { bytes = bytes; consumed = h.consumed; few = h.few }
-
 -- a piece of which nothing was kept
 pub piece_lost : (a b c : Option (List ℕ)) (before : List ℕ) (room : ℕ) → HasRead a b before → ReadsAtMost room b c → room ≤ most_bytes + 1 - length before → length before ≤ most_bytes → ReadsAtMost (most_bytes + 1) a c
 piece_lost a b c before room h lost most under = record {
@@ -109,9 +81,6 @@ piece_lost a b c before room h lost most under = record {
   consumed = Consumes-trans a b c before lost.bytes h.consumed lost.consumed;
   few = omega (arith, length-append before lost.bytes, lost.few, most, under);
 }
-
-pub nothing_read : (n : ℕ) (a b : Option (List ℕ)) → Keeps a b → ReadsAtMost n a b
-nothing_read n a b kept = record { bytes = []; consumed = Consumes-kept a a b [] (Consumes-nil a) kept; few = omega arith }
 
 pub taken_within : (n : ℕ) (xs : List ℕ) → length (take n xs) ≤ n
 taken_within n xs = let long = length-take n xs in omega (arith, long)

@@ -1,12 +1,8 @@
 -- What some command lines say.
 use Rattle.std.specs.Prelude.{true, false}
-use Rattle.edgelist.specs.declared.read.Delimiter.TheVariants.{Tab, Space}
-use Rattle.hyperball.specs.declared.serial.SerialOptions.{SerialOptions}
+use Rattle.edgelist.specs.declared.read.Delimiter.TheVariants.{Space}
 use Rattle.hyperball.specs.declared.words.RunWords.{RunWords}
-
--- the options where none is given
-abbrev pub usual_options : SerialOptions
-usual_options = record { log2m = 8; seed = 0; parts = 1; limit = 4096; delimiter = Tab }
+use Rattle.hyperball.specs.Words.{usual_options}
 
 abbrev pub log2m_words : RunWords
 log2m_words = record { options = record usual_options { log2m = 4 }; counted = false }

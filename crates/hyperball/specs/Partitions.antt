@@ -34,6 +34,15 @@ pub record AreTold (j : Job) (t : ℕ) (told : ℕ → ℕ → Bool) (rs : List 
 abbrev pub with_pair : (ℕ → ℕ → Bool) → ℕ → ℕ → ℕ → ℕ → Bool
 with_pair told q p r s = ((r == q) && (s == p)) || told r s
 
+-- source q has told every target too
+abbrev pub with_source : (ℕ → ℕ → Bool) → ℕ → ℕ → ℕ → Bool
+with_source told q r s = (r == q) || told r s
+
+-- where the batches that were told are held, these more are held then
+abbrev pub HoldMore : ((ℕ → ℕ → Bool) → ℕ → ℕ → Bool) → List State → List State → Type 0
+HoldMore more old new =
+    (j : Job) (t : ℕ) (told : ℕ → ℕ → Bool) → AreTold j t told old → AreTold j t (more told) new
+
 -- each source has told every target
 abbrev pub AreLevel : Job → ℕ → List State → Type 0
 AreLevel j t rs = AreTold j t (λ _ _. true) rs

@@ -1,11 +1,12 @@
--- A run in one thread: what is asked of it, and what its refusals say of the input.
+-- A run: what is asked of it, and what its refusals say of the input.
 use Rattle.std.specs.Prelude.{◌≡◌, ℕ, List, Option, option_map, Result, Ok, Err, IfSome}
 use Rattle.std.specs.Prelude.{MatchResult}
 use Rattle.std.specs.Borrow.{Bor}
 use Rattle.ball_model.specs.PlanValue.{plan_of}
 use Rattle.ball_model.specs.Input.{IsPlain, Network}
-use Rattle.ball_model.specs.RunText.{AreRead, IsPlanFault, IsReportOf, Numbers, Settings}
-use Rattle.ball_model.specs.RunText.{counted_in, network_in, plan_over}
+use Rattle.ball_model.specs.Counting.{CountedRefusal}
+use Rattle.ball_model.specs.RunText.{AppendsReport, AreRead, IsPlanFault, IsReportOf, Numbers}
+use Rattle.ball_model.specs.RunText.{Settings, counted_in, network_in, plan_over}
 use Rattle.edgelist.specs.Planning.{numbers_of}
 use Rattle.edgelist.specs.Reading.{Refuses, byte_of}
 use Rattle.edgelist.specs.Counting.{RefusesList}
@@ -27,6 +28,22 @@ list_in counted = option_map (λ list. list.now) counted
 -- the edge list and the list are plain
 abbrev pub ArePlain : List ℕ → Option (List ℕ) → Type 0
 ArePlain input list = IsPlain input × IfSome list IsPlain
+
+-- where a reader tells its bytes, and these and the list are plain, this holds of what is asked
+abbrev pub WherePlain : SerialOptions → Option (List ℕ) → Option (Bor (List ℕ)) →
+    (Settings → List ℕ → Option (List ℕ) → Type 0) → Type 0
+WherePlain o told counted holds = IfSome told (λ input.
+    ArePlain input (list_in counted) → holds (settings_of o) input (list_in counted))
+
+-- a writer of these contents is given the report of what is asked
+abbrev pub AddsReport : {W : Type 0} → (W → Option (List ℕ)) → W → W →
+    Settings → List ℕ → Option (List ℕ) → Type 0
+AddsReport contents old new s input list = AppendsReport s input list (contents old) (contents new)
+
+-- what a list of counted vertices says of a network, under the options
+abbrev pub counted_by : SerialOptions → Network → Option (Bor (List ℕ)) →
+    Result Network CountedRefusal
+counted_by o network counted = counted_in (settings_of o) network (list_in counted)
 
 -- the edge list says a network, and this error is what the list of counted vertices says of it
 pub record IsListRefusal

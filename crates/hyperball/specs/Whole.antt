@@ -1,5 +1,5 @@
 -- Inputs that are read whole.
-use Rattle.std.specs.Prelude.{◌≡◌, ℕ, ◌<◌, ◌≤◌, Bool, true, false, List, ◌++◌, length}
+use Rattle.std.specs.Prelude.{◌≡◌, ℕ, ◌+◌, ◌<◌, ◌≤◌, Bool, true, false, List, ◌++◌, length}
 use Rattle.std.specs.Prelude.{Option, None, Some, IfSome, option_map}
 use Rattle.std.specs.Io.KnownBytes.{Consumes, IsAtEnd}
 use Rattle.ball_model.specs.Sections.{sections_of}
@@ -13,6 +13,10 @@ pub record ReadsAtMost (n : ℕ) (old new : Option (List ℕ)) : Type 0 where
   pub bytes : List ℕ
   pub consumed : Consumes old new bytes
   pub few : length bytes ≤ n
+
+-- at most one byte more than such an input has was read
+abbrev pub ReadsFew : Option (List ℕ) → Option (List ℕ) → Type 0
+ReadsFew old new = ReadsAtMost (most_bytes + 1) old new
 
 -- n bytes were read and stand behind the others; none only at the end
 pub record AddsPiece (old new : Option (List ℕ)) (before after : List ℕ) (n : ℕ) : Type 0 where

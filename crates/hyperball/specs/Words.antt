@@ -1,16 +1,20 @@
 -- What the words of a command line say.
 use Rattle.std.specs.Prelude.{◌≡◌, ◌≢◌, ◌<◌, ◌^◌, ℕ, Bool, true, false, List, [], Option, Some}
-use Rattle.std.specs.Prelude.{MatchOption, String, codes, map, string_bytes}
+use Rattle.std.specs.Prelude.{IfOk, IfSome, MatchOption, Result, String, codes, map, string_bytes}
 use Rattle.std.specs.Global.{Global}
 use Rattle.std.specs.List.{AllByRecursion}
 use Rattle.std.specs.Str.Parse.{IsNumeral, digits_value, without_leading_plus}
-use Rattle.clap.specs.Words.{Row, Text, first_of, one_of, subcommand_of, fault_of}
+use Rattle.clap.specs.Words.{FailsBy, Row, Text, fault_of, first_of, one_of, subcommand_of}
+use Rattle.clap.specs.Words.{subcommand_rows_of}
+use Rattle.clap.specs.declared.error.Error.{Error}
+use Rattle.clap.specs.declared.parser.matches.ArgMatches.{ArgMatches}
 use Rattle.clap.specs.declared.builder.value_parser.ValueParser.{ValueParser}
 use Rattle.clap.specs.declared.error.kind.ErrorKind.{ErrorKind}
 use Rattle.clap.specs.declared.error.kind.ErrorKind.TheVariants as kind
 use Rattle.ball_model.specs.RunText.{AppendsReport}
 use Rattle.edgelist.specs.declared.read.Delimiter.{Delimiter}
 use Rattle.edgelist.specs.declared.read.Delimiter.TheVariants.{Tab, Comma, Space}
+use Rattle.hyperball.specs.declared.serial.SerialOptions.{SerialOptions}
 use Rattle.hyperball.specs.declared.words.RunWords.{RunWords}
 use Rattle.hyperball.specs.CommandLine.{delimiter_names, TakesNames, hyperball_app}
 use Rattle.hyperball.specs.Serial.{ArePlain, settings_of}
@@ -19,6 +23,10 @@ use Rattle.hyperball.specs.Whole.{sections_in}
 -- the words of a command line as texts
 abbrev pub texts_of : List (String Global) → List Text
 texts_of words = map (λ w. string_bytes w) words
+
+-- the options where none is given
+abbrev pub usual_options : SerialOptions
+usual_options = record { log2m = 8; seed = 0; parts = 1; limit = 4096; delimiter = Tab }
 
 -- a text is this number of so many bits
 pub record IsNumber (bits : ℕ) (text : Text) (n : ℕ) : Type 0 where
@@ -37,10 +45,11 @@ name_of Tab = codes "tab"
 name_of Comma = codes "comma"
 name_of Space = codes "space"
 
--- an option's value is the name of this delimiter; where it is not given it is the tab
+-- an option's value is the name of this delimiter; where it is not given it is the usual one
 abbrev pub IsDelimiter : List Row → Delimiter → Type 0
 IsDelimiter rows d =
-    MatchOption (first_of (codes "delimiter") rows) (d ≡ Tab) (λ name. name ≡ name_of d)
+    MatchOption (first_of (codes "delimiter") rows) (d ≡ usual_options.delimiter)
+    (λ name. name ≡ name_of d)
 
 -- the text of a flag
 abbrev pub flag_text : Bool → Text
@@ -53,10 +62,10 @@ IsFlag rows id b = MatchOption (one_of id rows) (b ≡ false) (λ text. text ≡
 
 -- the options have these values
 pub record AreOptionsOf (rows : List Row) (w : RunWords) : Type 0 where
-  pub log2m : IsNumberOr 8 8 rows (codes "log2m") w.options.log2m
-  pub seed : IsNumberOr 0 64 rows (codes "seed") w.options.seed
-  pub parts : IsNumberOr 1 16 rows (codes "parts") w.options.parts
-  pub limit : IsNumberOr 4096 32 rows (codes "limit") w.options.limit
+  pub log2m : IsNumberOr usual_options.log2m 8 rows (codes "log2m") w.options.log2m
+  pub seed : IsNumberOr usual_options.seed 64 rows (codes "seed") w.options.seed
+  pub parts : IsNumberOr usual_options.parts 16 rows (codes "parts") w.options.parts
+  pub limit : IsNumberOr usual_options.limit 32 rows (codes "limit") w.options.limit
   pub delimiter : IsDelimiter rows w.options.delimiter
   pub counted : IsFlag rows (codes "counted") w.counted
 
@@ -75,6 +84,13 @@ pub record IsRun (words : List Text) (w : RunWords) : Type 0 where
   pub command : (p : ValueParser) → TakesNames delimiter_names p →
       IsRunOf (subcommand_of (hyperball_app p) words) w
 
+-- a parser of delimiters takes their names, and the program's command with it reads the words so
+pub record ParsesTo (words : List Text) (result : Result ArgMatches Error) : Type 0 where
+  pub parser : ValueParser
+  pub takes : TakesNames delimiter_names parser
+  pub rows : IfOk result (λ m. subcommand_rows_of m ≡ subcommand_of (hyperball_app parser) words)
+  pub faults : FailsBy (fault_of (hyperball_app parser) words) result
+
 -- a mistake, and no wish for help
 abbrev pub IsMistake : ErrorKind → Type 0
 IsMistake k = (k ≢ kind.OutOfMemory) × ((k ≢ kind.DisplayHelp) × (k ≢ kind.DisplayVersion))
@@ -89,3 +105,13 @@ pub record Reports (w : RunWords) (input : List ℕ) (old new : Option (List ℕ
   pub list : Option (List ℕ)
   pub found : sections_in w.counted input ≡ Some (edges, list)
   pub appended : ArePlain edges list → AppendsReport (settings_of w.options) edges list old new
+
+-- what a run with a list of counted vertices is asked
+abbrev pub listed_words : SerialOptions → RunWords
+listed_words options = record { options = options; counted = true }
+
+-- a writer of these contents is given what words ask of an input, where the reader tells its bytes
+abbrev pub Serves : {W : Type 0} → RunWords → Option (List ℕ) →
+    (W → Option (List ℕ)) → W → W → Type 0
+Serves w told contents old new =
+    IfSome told (λ input. Reports w input (contents old) (contents new))

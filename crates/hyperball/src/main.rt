@@ -1,7 +1,23 @@
 //! HyperBall centralities of a directed graph, from the command line.
 //!
-//! `hyperball run` reads an edge list on standard input and writes its report on standard output. [`serve`] goes from
-//! words and bytes to bytes and a status; this file hands it the real streams.
+//! `hyperball run` reads an edge list on standard input and writes its report on standard output. This file hands the
+//! real streams to [`serve::serve`], which goes from words and bytes to bytes and a status. [`words::read_words`] gives
+//! what the words ask for, a [`words::RunWords`], and [`serial::run_serial`] goes from an edge list to its report, by
+//! [`serial::SerialOptions`]. With `--counted` the input is read whole ([`whole::read_whole`]) and cut in two
+//! ([`whole::sections`]).
+//!
+//! ```text
+//! $ printf 'a\tb\nb\tc\n' | hyperball run --log2m 4
+//! superstep,0,33.803869
+//! superstep,1,34.851860
+//! superstep,2,35.588471
+//! superstep,3,35.588471
+//! end,3,stable
+//! gain,0.708147
+//! vertex,a,11.390942,0.000000,0.000000,1.000000,15
+//! vertex,b,11.780376,0.665022,1.503709,208.680703,14
+//! vertex,c,12.417153,0.751274,0.538737,83.065637,13
+//! ```
 #![tactic(auto)]
 
 pub mod laws;
@@ -18,7 +34,7 @@ use ball_model::{CountingReader, CountingWriter};
 use std::process::ExitCode;
 use std::{env, io};
 
-// The words of the command line.
+// The words of the command line. No contract of std says what these are.
 fn words_of(rt: &HostRuntime) -> io::Result<Vec<String>> {
     Ok(env::args(rt)?.collect(rt.alloc())?)
 }

@@ -1,13 +1,13 @@
 //! All partitions of a job in one thread, superstep by superstep (Pregel 2010).
 
-ghost use Rattle.std.specs.Prelude.{◌≡◌, ◌≢◌, ◌<◌, ◌+◌, ◌==◌, ◌||◌, ℕ, Bool, true, false};
+ghost use Rattle.std.specs.Prelude.{◌≡◌, ◌≢◌, ◌<◌, ◌+◌, ℕ, true, false};
 ghost use Rattle.std.specs.Prelude.{OnOk, IfOk, length};
 ghost use Rattle.ball_model.specs.declared.names.Verdict.TheVariants as verdict;
 ghost use Rattle.ball_model.specs.Job.{Job, IsJob};
 ghost use Rattle.ball_model.specs.Content.{verdict_at};
 ghost use Rattle.ball_model.specs.State.{StandsFor};
 ghost use Rattle.hyperball.specs.Partitions.{AreAt, AreEnded, AreLevel, AreOver, AreRunning};
-ghost use Rattle.hyperball.specs.Partitions.{AreTold, with_pair, job_of};
+ghost use Rattle.hyperball.specs.Partitions.{HoldMore, job_of, with_pair, with_source};
 
 use ball_model::{Plan, Verdict};
 use edgelist::Graph;
@@ -45,8 +45,8 @@ fn tell(alloc: Global, replicas: &mut [Replica], source: u16, target: u16) -> Re
     requires source { source < length replicas.old }
     requires target { target < length replicas.old }
     requires other { target ≢ source }
-    ensures told { (j : Job) (t : ℕ) (told : ℕ → ℕ → Bool) → AreTold j t told replicas.old →
-        OnOk result (AreTold j t (with_pair told source target) replicas.new) }
+    ensures told { OnOk result (
+        HoldMore (λ told. with_pair told source target) replicas.old replicas.new) }
 {
     let batch = replicas[usize::from(source)].out(alloc, target)?;
     let batch = Arc::new(alloc, batch)?;
@@ -58,8 +58,8 @@ fn tell(alloc: Global, replicas: &mut [Replica], source: u16, target: u16) -> Re
 fn tell_all(alloc: Global, replicas: &mut [Replica], source: u16) -> Result<(), AllocError>
     requires running { AreRunning replicas.old }
     requires source { source < length replicas.old }
-    ensures told { (j : Job) (t : ℕ) (told : ℕ → ℕ → Bool) → AreTold j t told replicas.old →
-        OnOk result (AreTold j t (λ r s. (r == source) || told r s) replicas.new) }
+    ensures told { OnOk result (
+        HoldMore (λ told. with_source told source) replicas.old replicas.new) }
 {
     for target in 0..replicas.len() as u16 {
         if target != source {

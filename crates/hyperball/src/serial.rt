@@ -1,4 +1,4 @@
-//! A run in one thread: from bytes to bytes.
+//! A run from bytes to bytes. One thread does it, but for the figures, which all processors make.
 
 ghost use Rattle.std.specs.Prelude.{◌≡◌, ◌≢◌, Ok, Err, OnOk, OnErr, IfOk, IfErr, IfSome};
 ghost use Rattle.std.specs.Io.KnownBytes.{Appends, Keeps};
@@ -6,15 +6,17 @@ ghost use Rattle.ball_model.specs.Job.{IsJob};
 ghost use Rattle.ball_model.specs.Input.{IsPlain};
 ghost use Rattle.ball_model.specs.PlanValue.{mixing_of};
 ghost use Rattle.ball_model.specs.Report.{report_of};
-ghost use Rattle.ball_model.specs.RunText.{AppendsReport, AreRead, IsReport, counted_in};
+ghost use Rattle.ball_model.specs.RunText.{AreRead, IsReport};
 ghost use Rattle.ball_model.specs.Streams.{Rises};
 ghost use Rattle.edgelist.specs.Counting.{RefusesList};
+ghost use Rattle.edgelist.specs.Reading.{CountsOne};
 ghost use Rattle.hyperball.specs.Partitions.{job_of};
-ghost use Rattle.hyperball.specs.Serial.{AnswersNetwork, ArePlain, IsRefusal, RefusesRead, list_in};
-ghost use Rattle.hyperball.specs.Serial.{numbers_in, settings_of};
+ghost use Rattle.hyperball.specs.Serial.{AddsReport, AnswersNetwork, IsRefusal, RefusesRead};
+ghost use Rattle.hyperball.specs.Serial.{WherePlain, counted_by, list_in, numbers_in};
 
 use crate::pages::Pages;
 use crate::partitions::run_to_end;
+use ball_model::plan::MOST_VERTICES;
 use ball_model::{CountedRead, CountedWrite, CountingWriter, Plan, PlanError};
 use edgelist::{CountedError, Delimiter, EdgeError, EdgeLimits, Graph, read_edges};
 use report::write_report;
@@ -23,10 +25,13 @@ use std::hash::RandomState;
 use std::thread::Threads;
 use thiserror::Error;
 
-/// The most vertices and records that a run reads.
+/// The most records that a run reads.
+const MOST_RECORDS: u64 = 67_108_864;
+
+/// What a run reads at most.
 const LIMITS: EdgeLimits = EdgeLimits {
-    vertices: 16_777_216,
-    edges: 67_108_864,
+    vertices: MOST_VERTICES,
+    edges: MOST_RECORDS,
 };
 
 /// What is asked of a run.
@@ -112,9 +117,9 @@ fn count_listed(
     options: &SerialOptions,
 ) -> Result<Graph, CountedError>
     ensures ok { IfSome (list_in counted.entry) IsPlain → IfOk result (λ listed.
-        counted_in (settings_of options.now) graph (list_in counted.entry) ≡ Ok listed) }
+        counted_by options.now graph counted.entry ≡ Ok listed) }
     ensures refused { IfSome (list_in counted.entry) IsPlain → IfErr result (
-        RefusesList (counted_in (settings_of options.now) graph (list_in counted.entry))) }
+        RefusesList (counted_by options.now graph counted.entry)) }
 {
     if let Some(list) = counted {
         graph.count_only(alloc, options.delimiter, list)?;
@@ -130,14 +135,15 @@ fn read_graph<T: AllocGlobal, R: CountedRead>(
     counted: Option<&[u8]>,
     options: &SerialOptions,
 ) -> Result<Graph, SerialError>
-    ensures ok { IfSome (R.remaining reader.old) (λ input. ArePlain input (list_in counted.entry) →
-        IfOk result (AreRead (settings_of options.now) input (list_in counted.entry))) }
-    ensures refused { IfSome (R.remaining reader.old) (λ input.
-        ArePlain input (list_in counted.entry) →
-        IfErr result (RefusesRead (settings_of options.now) input (list_in counted.entry))) }
+    ensures ok { WherePlain options.now (R.remaining reader.old) counted.entry
+        (λ s input list. IfOk result (AreRead s input list)) }
+    ensures refused { WherePlain options.now (R.remaining reader.old) counted.entry
+        (λ s input list. IfErr result (RefusesRead s input list)) }
     ensures kind { IfErr result (λ e. e ≢ SerialError.Write) }
     ensures read { result ≡ Err (SerialError.Edges EdgeError.Read) →
         Rises (R.failed_calls reader.old) (R.failed_calls reader.new) }
+    ensures failed { CountsOne (R.failed_calls reader.old) (R.failed_calls reader.new) →
+        result ≡ Err (SerialError.Edges EdgeError.Read) }
 {
     let graph = read_edges(rt.alloc(), state, reader, options.delimiter, LIMITS)?;
     Ok(count_listed(rt.alloc(), graph, counted, options)?)
@@ -182,14 +188,15 @@ fn read_text<T: AllocGlobal + Threads + Sync, R: CountedRead>(
     counted: Option<&[u8]>,
     options: &SerialOptions,
 ) -> Result<Pages, SerialError>
-    ensures ok { IfSome (R.remaining reader.old) (λ input. ArePlain input (list_in counted.entry) →
-        IfOk result (IsReport (settings_of options.now) input (list_in counted.entry))) }
-    ensures refused { IfSome (R.remaining reader.old) (λ input.
-        ArePlain input (list_in counted.entry) →
-        IfErr result (IsRefusal (settings_of options.now) input (list_in counted.entry))) }
+    ensures ok { WherePlain options.now (R.remaining reader.old) counted.entry
+        (λ s input list. IfOk result (IsReport s input list)) }
+    ensures refused { WherePlain options.now (R.remaining reader.old) counted.entry
+        (λ s input list. IfErr result (IsRefusal s input list)) }
     ensures kind { IfErr result (λ e. e ≢ SerialError.Write) }
     ensures read { result ≡ Err (SerialError.Edges EdgeError.Read) →
         Rises (R.failed_calls reader.old) (R.failed_calls reader.new) }
+    ensures failed { CountsOne (R.failed_calls reader.old) (R.failed_calls reader.new) →
+        result ≡ Err (SerialError.Edges EdgeError.Read) }
 {
     let graph = read_graph(rt, state, reader, counted, options)?;
     report_text(rt, &graph, options)
@@ -208,14 +215,16 @@ fn write_text<W: CountedWrite>(writer: &mut W, text: &Pages) -> Result<(), Seria
     }
 }
 
-/// Reads an edge list and writes its report, in one thread.
+/// Reads an edge list and writes its report. Supersteps go on in one thread, and all processors make the figures.
 ///
 /// With a list of `counted` vertices only those are counted; the list is read after the edge list, and its lines are
 /// as there, one label in each. The report is built in memory and then written, so nothing is written unless the
-/// answer is Ok or `Write`. `Edges(Read)` and `Write` are answered only where a call of the stream failed, and nothing
-/// is tried again; `Memory` and `Write` only where what was read has a report. What is said of the input holds for
-/// plain bytes: no byte order mark at the front, and an LF after each CR. Memory is some two times 2^log2m bytes a
-/// vertex, the graph and its parts, and the report.
+/// answer is Ok or `Write`. `Edges(Read)` is answered where a call of the reader failed and nowhere else, `Write` only
+/// where one of the writer did, and nothing is tried again; `Memory` and `Write` only where what was read has a report.
+/// What is said of the input holds for plain bytes: no byte order mark at the front, and an LF after each CR.
+///
+/// Memory is some two times 2^log2m bytes and 32 bytes of figures a vertex, 4 bytes a vertex and an edge of the index
+/// that says whom an edge leads to, the graph and its parts, and the report.
 pub fn run_serial<T: AllocGlobal + Threads + Sync, R: CountedRead, W: CountedWrite>(
     rt: &T,
     state: RandomState,
@@ -224,15 +233,14 @@ pub fn run_serial<T: AllocGlobal + Threads + Sync, R: CountedRead, W: CountedWri
     writer: &mut W,
     options: &SerialOptions,
 ) -> Result<(), SerialError>
-    ensures ok { OnOk result (IfSome (R.remaining reader.old) (λ input.
-        ArePlain input (list_in counted.entry) →
-        AppendsReport (settings_of options.now) input (list_in counted.entry)
-        (W.contents writer.old) (W.contents writer.new))) }
-    ensures refused { IfErr result (λ e. IfSome (R.remaining reader.old) (λ input.
-        ArePlain input (list_in counted.entry) →
-        IsRefusal (settings_of options.now) input (list_in counted.entry) e)) }
+    ensures ok { OnOk result (WherePlain options.now (R.remaining reader.old) counted.entry
+        (AddsReport W.contents writer.old writer.new)) }
+    ensures refused { WherePlain options.now (R.remaining reader.old) counted.entry
+        (λ s input list. IfErr result (IsRefusal s input list)) }
     ensures read { result ≡ Err (SerialError.Edges EdgeError.Read) →
         Rises (R.failed_calls reader.old) (R.failed_calls reader.new) }
+    ensures failed { CountsOne (R.failed_calls reader.old) (R.failed_calls reader.new) →
+        result ≡ Err (SerialError.Edges EdgeError.Read) }
     ensures write { result ≡ Err SerialError.Write →
         Rises (W.failed_calls writer.old) (W.failed_calls writer.new) }
     ensures untouched { IfErr result (λ e. e ≢ SerialError.Write →

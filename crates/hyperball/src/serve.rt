@@ -1,14 +1,15 @@
 //! From words and bytes to bytes and a status.
 
-ghost use Rattle.std.specs.Prelude.{◌≡◌, ◌≢◌, ◌≤◌, ◌+◌, ◌⊎◌, ◌∷◌, [], List, true};
-ghost use Rattle.std.specs.Prelude.{IfSome, OnErr, OnOk};
+ghost use Rattle.std.specs.Prelude.{◌≡◌, ◌≤◌, ◌⊎◌, ◌∷◌, [], List, true};
+ghost use Rattle.std.specs.Prelude.{OnErr, OnOk};
 ghost use Rattle.std.specs.Io.KnownBytes.{Keeps};
 ghost use Rattle.clap.specs.Words.{kind_of};
 ghost use Rattle.clap.specs.declared.error.kind.ErrorKind.TheVariants as kind;
 ghost use Rattle.clap.specs.declared.error.kind.ErrorKind.{ErrorKind as Kind};
-ghost use Rattle.ball_model.specs.Streams.{Rises};
-ghost use Rattle.hyperball.specs.Whole.{ReadsAtMost, most_bytes};
-ghost use Rattle.hyperball.specs.Words.{AreMistakes, HasFaults, IsRun, Reports, texts_of};
+ghost use Rattle.hyperball.specs.Streams.{KeptOrFailed};
+ghost use Rattle.hyperball.specs.Whole.{ReadsFew};
+ghost use Rattle.hyperball.specs.Words.{AreMistakes, HasFaults, IsMistake, IsRun, Reports, Serves};
+ghost use Rattle.hyperball.specs.Words.{listed_words, texts_of};
 ghost use Rattle.hyperball.specs.declared.words.RunWords.{RunWords as Run};
 
 use crate::serial::{SerialError, SerialOptions, run_serial};
@@ -36,12 +37,16 @@ const MISTAKE: u8 = 2;
 // Why words of a run give no report, in the order of the checks.
 #[derive(Clone, Copy, Debug, Error)]
 enum RunFault {
+    // There are no random words to hash labels by.
     #[error("the system gives no random words")]
     Random,
+    // The input is not read whole.
     #[error("{0}")]
     Input(WholeError),
+    // There is no list of counted vertices.
     #[error("no line %% before the list")]
     NoList,
+    // The run gives no report.
     #[error("{0}")]
     Run(SerialError),
 }
@@ -82,8 +87,8 @@ fn tell_help<W: CountedWrite, F: Write>(
     faults: &mut F,
 ) -> u8
     ensures status { (result ≡ 0) ⊎ (result ≡ 1) }
-    ensures kept { result ≡ 1 → Keeps (W.contents writer.old) (W.contents writer.new)
-        ⊎ Rises (W.failed_calls writer.old) (W.failed_calls writer.new) }
+    ensures kept { result ≡ 1 →
+        KeptOrFailed W.contents W.failed_calls writer.old writer.new }
     ensures silent { result ≡ 0 → Keeps (F.contents faults.old) (F.contents faults.new) }
 {
     let Ok(text) = format!(in alloc; "{help}") else {
@@ -106,10 +111,9 @@ fn tell_words<W: CountedWrite, F: Write>(
     ensures status { result ≤ 2 }
     ensures memory { kind_of error.now ≡ kind.OutOfMemory → result ≡ 1 }
     ensures help { kind_of error.now ≡ kind.DisplayHelp → (result ≡ 0) ⊎ (result ≡ 1) }
-    ensures mistake { kind_of error.now ≢ kind.OutOfMemory → kind_of error.now ≢ kind.DisplayHelp →
-        kind_of error.now ≢ kind.DisplayVersion → result ≡ 2 }
-    ensures kept { result ≡ 1 → Keeps (W.contents writer.old) (W.contents writer.new)
-        ⊎ Rises (W.failed_calls writer.old) (W.failed_calls writer.new) }
+    ensures mistake { IsMistake (kind_of error.now) → result ≡ 2 }
+    ensures kept { result ≡ 1 →
+        KeptOrFailed W.contents W.failed_calls writer.old writer.new }
     ensures mistaken { result ≡ 2 → Keeps (W.contents writer.old) (W.contents writer.new) }
     ensures silent { result ≡ 0 → Keeps (F.contents faults.old) (F.contents faults.new) }
 {
@@ -133,11 +137,10 @@ fn run_sections<H: AllocGlobal + Threads + Sync, W: CountedWrite>(
     input: &[u8],
     writer: &mut W,
 ) -> Result<(), RunFault>
-    ensures done { OnOk result (
-        Reports (record { options = options.now; counted = true }) input.now
+    ensures done { OnOk result (Reports (listed_words options.now) input.now
         (W.contents writer.old) (W.contents writer.new)) }
-    ensures kept { OnErr result (Keeps (W.contents writer.old) (W.contents writer.new)
-        ⊎ Rises (W.failed_calls writer.old) (W.failed_calls writer.new)) }
+    ensures kept { OnErr result (
+        KeptOrFailed W.contents W.failed_calls writer.old writer.new) }
 {
     let Some((edges, list)) = sections(input) else {
         return Err(RunFault::NoList);
@@ -155,12 +158,11 @@ fn run_listed<H: AllocGlobal + Threads + Sync, R: CountedRead, W: CountedWrite>(
     reader: &mut R,
     writer: &mut W,
 ) -> Result<(), RunFault>
-    ensures done { OnOk result (IfSome (R.remaining reader.old) (λ input.
-        Reports (record { options = options.now; counted = true }) input
-        (W.contents writer.old) (W.contents writer.new))) }
-    ensures few { ReadsAtMost (most_bytes + 1) (R.remaining reader.old) (R.remaining reader.new) }
-    ensures kept { OnErr result (Keeps (W.contents writer.old) (W.contents writer.new)
-        ⊎ Rises (W.failed_calls writer.old) (W.failed_calls writer.new)) }
+    ensures done { OnOk result (Serves (listed_words options.now) (R.remaining reader.old)
+        W.contents writer.old writer.new) }
+    ensures few { ReadsFew (R.remaining reader.old) (R.remaining reader.new) }
+    ensures kept { OnErr result (
+        KeptOrFailed W.contents W.failed_calls writer.old writer.new) }
 {
     let input = read_whole(rt.alloc(), reader)?;
     run_sections(rt, state, options, &input, writer)
@@ -173,12 +175,12 @@ fn run<H: AllocGlobal + RandomSource + Threads + Sync, R: CountedRead, W: Counte
     reader: &mut R,
     writer: &mut W,
 ) -> Result<(), RunFault>
-    ensures done { OnOk result (IfSome (R.remaining reader.old) (λ input.
-        Reports words.now input (W.contents writer.old) (W.contents writer.new))) }
+    ensures done { OnOk result (
+        Serves words.now (R.remaining reader.old) W.contents writer.old writer.new) }
     ensures few { words.now.counted ≡ true →
-        ReadsAtMost (most_bytes + 1) (R.remaining reader.old) (R.remaining reader.new) }
-    ensures kept { OnErr result (Keeps (W.contents writer.old) (W.contents writer.new)
-        ⊎ Rises (W.failed_calls writer.old) (W.failed_calls writer.new)) }
+        ReadsFew (R.remaining reader.old) (R.remaining reader.new) }
+    ensures kept { OnErr result (
+        KeptOrFailed W.contents W.failed_calls writer.old writer.new) }
 {
     let Ok(state) = RandomState::new(rt) else {
         return Err(RunFault::Random);
@@ -198,12 +200,12 @@ fn serve_run<
     F: Write,
 >(rt: &H, words: &RunWords, reader: &mut R, writer: &mut W, faults: &mut F) -> u8
     ensures status { (result ≡ 0) ⊎ (result ≡ 1) }
-    ensures done { result ≡ 0 → IfSome (R.remaining reader.old) (λ input.
-        Reports words.now input (W.contents writer.old) (W.contents writer.new)) }
+    ensures done { result ≡ 0 →
+        Serves words.now (R.remaining reader.old) W.contents writer.old writer.new }
     ensures few { words.now.counted ≡ true →
-        ReadsAtMost (most_bytes + 1) (R.remaining reader.old) (R.remaining reader.new) }
-    ensures kept { result ≡ 1 → Keeps (W.contents writer.old) (W.contents writer.new)
-        ⊎ Rises (W.failed_calls writer.old) (W.failed_calls writer.new) }
+        ReadsFew (R.remaining reader.old) (R.remaining reader.new) }
+    ensures kept { result ≡ 1 →
+        KeptOrFailed W.contents W.failed_calls writer.old writer.new }
     ensures silent { result ≡ 0 → Keeps (F.contents faults.old) (F.contents faults.new) }
 {
     match run(rt, words, reader, writer) {
@@ -225,10 +227,9 @@ pub fn serve<
     F: Write,
 >(rt: &H, words: &[String], reader: &mut R, writer: &mut W, faults: &mut F) -> u8
     ensures run { (w : Run) → IsRun (texts_of words.now) w → result ≡ 0 →
-        IfSome (R.remaining reader.old) (λ input.
-        Reports w input (W.contents writer.old) (W.contents writer.new)) }
+        Serves w (R.remaining reader.old) W.contents writer.old writer.new }
     ensures few { (w : Run) → IsRun (texts_of words.now) w → w.counted ≡ true →
-        ReadsAtMost (most_bytes + 1) (R.remaining reader.old) (R.remaining reader.new) }
+        ReadsFew (R.remaining reader.old) (R.remaining reader.new) }
     ensures mistaken { (kinds : List Kind) → HasFaults (texts_of words.now) kinds →
         AreMistakes kinds → (result ≡ 2) ⊎ (result ≡ 1) }
     ensures help { HasFaults (texts_of words.now) (kind.DisplayHelp ∷ []) →
@@ -236,8 +237,8 @@ pub fn serve<
     ensures status { result ≤ 2 }
     ensures two { result ≡ 2 → HasFaults (texts_of words.now) [] → ⊥ }
     ensures two_kept { result ≡ 2 → Keeps (W.contents writer.old) (W.contents writer.new) }
-    ensures one_kept { result ≡ 1 → Keeps (W.contents writer.old) (W.contents writer.new)
-        ⊎ Rises (W.failed_calls writer.old) (W.failed_calls writer.new) }
+    ensures one_kept { result ≡ 1 →
+        KeptOrFailed W.contents W.failed_calls writer.old writer.new }
     ensures silent { result ≡ 0 → Keeps (F.contents faults.old) (F.contents faults.new) }
 {
     match read_words(rt.alloc(), words) {

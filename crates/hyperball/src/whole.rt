@@ -1,10 +1,10 @@
 //! Inputs that are read whole, and cut into sections by a line of exactly `%%`.
 
-ghost use Rattle.std.specs.Prelude.{◌≡◌, ◌≢◌, ◌+◌, ◌<◌, ◌≤◌, if◌then◌else◌, [], length};
+ghost use Rattle.std.specs.Prelude.{◌≡◌, ◌≢◌, ◌<◌, ◌≤◌, if◌then◌else◌, [], length};
 ghost use Rattle.std.specs.Prelude.{Err, IfErr, IfOk, OnErr, OnOk, None, option_map};
 ghost use Rattle.ball_model.specs.Streams.{Rises};
 ghost use Rattle.ball_model.specs.Sections.{after_line, after_mark, sections_of};
-ghost use Rattle.hyperball.specs.Whole.{AddsPiece, IsLong, IsWhole, ReadsAtMost, most_bytes};
+ghost use Rattle.hyperball.specs.Whole.{AddsPiece, IsLong, IsWhole, ReadsAtMost, ReadsFew};
 
 use ball_model::CountedRead;
 use std::alloc::{AllocError, Global};
@@ -56,6 +56,8 @@ fn read_piece<R: CountedRead>(
     ensures kind { IfErr result (λ e. e ≢ WholeError.Size) }
     ensures read { result ≡ Err WholeError.Read →
         Rises (R.failed_calls reader.old) (R.failed_calls reader.new) }
+    ensures failed { Rises (R.failed_calls reader.old) (R.failed_calls reader.new) →
+        result ≡ Err WholeError.Read }
 {
     let Some(count) = reader.get(buffer) else {
         return Err(WholeError::Read);
@@ -83,7 +85,9 @@ fn read_all<R: CountedRead>(
     ensures size { result ≡ Err WholeError.Size → IsLong (R.remaining reader.old) }
     ensures read { result ≡ Err WholeError.Read →
         Rises (R.failed_calls reader.old) (R.failed_calls reader.new) }
-    ensures few { ReadsAtMost (most_bytes + 1) (R.remaining reader.old) (R.remaining reader.new) }
+    ensures failed { Rises (R.failed_calls reader.old) (R.failed_calls reader.new) →
+        result ≡ Err WholeError.Read }
+    ensures few { ReadsFew (R.remaining reader.old) (R.remaining reader.new) }
 {
     while bytes.len() <= MOST {
         let room = buffer.len().min(MOST + 1 - bytes.len());
@@ -96,13 +100,16 @@ fn read_all<R: CountedRead>(
 
 /// Reads an input to its end, at most one byte more than 2^26.
 ///
-/// `Read` is answered only where a call of the reader failed, `Size` where there are more than 2^26 bytes.
+/// `Read` is answered where a call of the reader failed and nowhere else, `Size` only where there are more than 2^26
+/// bytes.
 pub fn read_whole<R: CountedRead>(alloc: Global, reader: &mut R) -> Result<Vec<u8>, WholeError>
     ensures ok { IfOk result (λ bytes. IsWhole (R.remaining reader.old) bytes.items) }
     ensures size { result ≡ Err WholeError.Size → IsLong (R.remaining reader.old) }
     ensures read { result ≡ Err WholeError.Read →
         Rises (R.failed_calls reader.old) (R.failed_calls reader.new) }
-    ensures few { ReadsAtMost (most_bytes + 1) (R.remaining reader.old) (R.remaining reader.new) }
+    ensures failed { Rises (R.failed_calls reader.old) (R.failed_calls reader.new) →
+        result ≡ Err WholeError.Read }
+    ensures few { ReadsFew (R.remaining reader.old) (R.remaining reader.new) }
 {
     let mut buffer = buffer_of(alloc, PIECE)?;
     let mut bytes = Vec::new(alloc);

@@ -1,19 +1,21 @@
 //! The command line, read by `clap`.
 
 ghost use Rattle.std.specs.Prelude.{◌≡◌, IfOk, List, MatchOption, false, true, option_map};
-ghost use Rattle.clap.specs.Words.{App, FailsBy, fault_of, found_of, has_subcommand, rows_of};
-ghost use Rattle.clap.specs.Words.{rule_of, subcommand_of, subcommand_rows_of, with_rule};
+ghost use Rattle.clap.specs.Words.{App, FailsBy, found_of, has_subcommand, rows_of, rule_of};
+ghost use Rattle.clap.specs.Words.{subcommand_rows_of, with_rule};
 ghost use Rattle.clap.specs.declared.error.kind.ErrorKind.{ErrorKind as Kind};
 ghost use Rattle.clap.specs.declared.builder.value_parser.ValueParser.{ValueParser as Parser};
 ghost use Rattle.hyperball.specs.CommandLine.{IsApp, TakesNames, delimiter_names, hyperball_app};
 ghost use Rattle.hyperball.specs.CommandLine.{flag_rule, option_rule, run_app};
 ghost use Rattle.hyperball.specs.CommandLine.{with_counters, with_input, with_numbers};
 ghost use Rattle.hyperball.specs.declared.words.RunWords.{RunWords as Run};
-ghost use Rattle.hyperball.specs.Words.{AreOptionsOf, HasFaults, IsRun, IsRunOf, name_of, texts_of};
+ghost use Rattle.hyperball.specs.Words.{AreOptionsOf, HasFaults, IsRun, IsRunOf, ParsesTo};
+ghost use Rattle.hyperball.specs.Words.{name_of, texts_of};
 ghost use Rattle.edgelist.specs.declared.read.Delimiter.{Delimiter as Between};
 ghost use Rattle.edgelist.specs.declared.read.Delimiter.TheVariants.{Tab};
 
 use crate::serial::SerialOptions;
+use ball_model::plan::GREATEST_LIMIT;
 use clap::builder::ValueParser;
 use clap::{Arg, ArgAction, ArgMatches, Command, Error, value_parser};
 use edgelist::Delimiter;
@@ -22,12 +24,12 @@ use std::alloc::{AllocError, Global};
 /// The names that `--delimiter` takes.
 static DELIMITERS: [&str; 3] = ["tab", "comma", "space"];
 
-/// The options that are not given.
+/// The options that are not given: counters of 256 bytes, seed 0, one partition, and the greatest limit.
 const USUAL: SerialOptions = SerialOptions {
     log2m: 8,
     seed: 0,
     parts: 1,
-    limit: 4096,
+    limit: GREATEST_LIMIT,
     delimiter: Delimiter::Tab,
 };
 
@@ -189,10 +191,7 @@ pub fn command<'a>(alloc: Global) -> Result<Command<'a>, AllocError>
 
 // The words, as the program's command reads them.
 fn parse<'a>(alloc: Global, words: &'a [String]) -> Result<ArgMatches<'a>, Error>
-    ensures read { (p : Parser) × TakesNames delimiter_names p
-        × IfOk result (λ m.
-        subcommand_rows_of m ≡ subcommand_of (hyperball_app p) (texts_of words.entry.now))
-        × FailsBy (fault_of (hyperball_app p) (texts_of words.entry.now)) result }
+    ensures read { ParsesTo (texts_of words.entry.now) result }
     ensures subcommand { IfOk result (λ m. has_subcommand m ≡ true) }
 {
     command(alloc)?.try_get_matches_from(words)

@@ -2,15 +2,8 @@
 use Rattle.std.proofs.Common.{◌≡◌, ℕ, zero, suc, ◌+◌, ◌%◌, ◌<◌, ◌≤◌, Bool, true, false, ◌==◌, List, [], ◌∷◌, length, get_or, if◌then◌else◌, refl, ap, ap₂, arith, sym, ◌∙◌, inl, inr}
 use Rattle.std.specs.List.{filter, range_with_len, sum_by}
 use Rattle.std.proofs.lemmas.List.Sums.{sum_by-cons}
-use Rattle.std.proofs.lemmas.Bool.{cases_lt}
-use Rattle.std.proofs.lemmas.Bool.Decides.{nat_tests}
+use Rattle.std.proofs.lemmas.Bool.{cases_lt, eq-eqb, ne_eqb}
 use Rattle.ball_model.specs.PlanValue.{vertices_of}
-
-same_true : (a b : ℕ) → a ≡ b → (a == b) ≡ true
-same_true a b e = grind (arith, nat_tests)
-
-other_false : (a b : ℕ) → a < b → (b == a) ≡ false
-other_false a b lt = grind (arith, nat_tests)
 
 regroup : (a b c d : ℕ) → a + b + (c + d) ≡ a + c + (b + d)
 regroup a b c d = omega arith
@@ -33,19 +26,16 @@ once x c p = if x == p then c else 0
 
 sum_none : (x c a n : ℕ) → x < a → sum_by (once x c) (range_with_len a n) ≡ 0
 sum_none x c a zero lt = refl
-sum_none x c a (suc n) lt = rw (sum_by-cons (once x c) a (range_with_len (a + 1) n), before x a lt, sum_none x c (a + 1) n (omega arith)) refl
-  where
-    before : (x a : ℕ) → x < a → (x == a) ≡ false
-    before x a lt = grind (arith, nat_tests)
+sum_none x c a (suc n) lt = rw (sum_by-cons (once x c) a (range_with_len (a + 1) n), ne_eqb x a (λ e. omega arith), sum_none x c (a + 1) n (omega arith)) refl
 
 sum_once : (x c a n : ℕ) → a ≤ x → x < a + n → sum_by (once x c) (range_with_len a n) ≡ c
 sum_once x c a zero low high = absurd (omega arith)
 sum_once x c a (suc n) low high =
     elim (cases_lt a x) [
-      | inl later ↦ rw (sum_by-cons (once x c) a (range_with_len (a + 1) n), other_false a x later, sum_once x c (a + 1) n (omega arith) (omega arith)) (plus_left c)
+      | inl later ↦ rw (sum_by-cons (once x c) a (range_with_len (a + 1) n), ne_eqb x a (λ e. omega arith), sum_once x c (a + 1) n (omega arith) (omega arith)) (plus_left c)
       | inr at ↦
           let here : x ≡ a = omega arith in
-          rw (sum_by-cons (once x c) a (range_with_len (a + 1) n), same_true x a here, sum_none x c (a + 1) n (omega arith)) (plus_right c)
+          rw (sum_by-cons (once x c) a (range_with_len (a + 1) n), eq-eqb x a here, sum_none x c (a + 1) n (omega arith)) (plus_right c)
     ]
   where
     plus_left : (c : ℕ) → 0 + c ≡ c

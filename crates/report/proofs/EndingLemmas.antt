@@ -1,7 +1,6 @@
 -- Where a verdict says that the run has ended, the superstep is the definition's end.
 use Rattle.std.proofs.Common.{◌≡◌, ℕ, ◌≤◌, nat_le, Bool, true, false, not, ◌&&◌, ◌==◌, Option, None, Some, if◌then◌else◌, refl, ap, arith, sym, ◌∙◌, inl, inr, subst}
-use Rattle.std.proofs.lemmas.Bool.{cases_lt, eqb-true}
-use Rattle.std.proofs.lemmas.Bool.Decides.{nat_tests}
+use Rattle.std.proofs.lemmas.Bool.{cases_lt, eqb-true, le-leb, leb-true}
 use Rattle.ball_model.specs.declared.names.Verdict.{Verdict}
 use Rattle.ball_model.specs.declared.names.Verdict.TheVariants as verdict
 use Rattle.ball_model.specs.Graph.{Graph}
@@ -37,12 +36,6 @@ held : (missing : Option ℕ) (v : Verdict) → says_end (verdict_unless missing
 held None v e = refl
 held (Some q) v e = absurd (let bad : false ≡ true = e in cc)
 
-one_from : (t : ℕ) → nat_le 1 t ≡ true → 1 ≤ t
-one_from t e = grind (arith, nat_tests)
-
-one_to : (t : ℕ) → 1 ≤ t → nat_le 1 t ≡ true
-one_to t e = grind (arith, nat_tests)
-
 was_changed : (some changed : Bool) → some ≡ true → (some && not changed) ≡ false → not changed ≡ false
 was_changed true changed e h = h
 was_changed false changed e h = absurd (let bad : false ≡ true = e in cc)
@@ -54,7 +47,7 @@ ended_by m g limit t true some in_time s =
     let (low, quiet) = s.quiet refl in
     record {
       at_end = elim (cases_lt t (end_of m g limit)) [
-        | inl before ↦ absurd (let bad : true ≡ false = sym (end_least m g limit t (one_from t low) before) ∙ quiet in cc)
+        | inl before ↦ absurd (let bad : true ≡ false = sym (end_least m g limit t (leb-true 1 t low) before) ∙ quiet in cc)
         | inr at ↦ omega arith
       ];
       stable = ap not (sym quiet);
@@ -66,7 +59,7 @@ ended_by m g limit t false some in_time s =
     let low : 1 ≤ t = omega arith in
     record {
       at_end = omega arith;
-      stable = sym (was_changed (nat_le 1 t) (any_changed m g t) (one_to t low) busy);
+      stable = sym (was_changed (nat_le 1 t) (any_changed m g t) (le-leb 1 t low) busy);
     }
 
 -- what the verdict of a replica says of the run

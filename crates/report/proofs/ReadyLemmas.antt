@@ -3,8 +3,7 @@ use Rattle.std.proofs.Common.{◌≡◌, ℕ, zero, suc, ◌+◌, ◌<◌, ◌�
 use Rattle.std.specs.Str.{bytes_eq}
 use Rattle.std.specs.Prelude.{slice_get, None, Some}
 use Rattle.std.proofs.lemmas.List.{drop_all}
-use Rattle.std.proofs.lemmas.Bool.{and_parts, eqb-true}
-use Rattle.std.proofs.lemmas.Bool.Decides.{nat_tests}
+use Rattle.std.proofs.lemmas.Bool.{and_parts, eq-eqb, eqb-true, ne_eqb}
 use Rattle.ball_model.specs.PlanValue.{PlanValue}
 use Rattle.ball_model.specs.Content.{same_plan}
 use Rattle.ball_model.specs.State.{State}
@@ -89,18 +88,12 @@ are_ready-first (w ∷ vs) v e =
     let same : w ≡ v = (let h : Some w ≡ Some v = e in cc) in
     rw same refl
 
-same_true : (a b : ℕ) → a ≡ b → (a == b) ≡ true
-same_true a b e = grind (arith, nat_tests)
-
-other_false : (a b : ℕ) → (a ≡ b → ⊥) → (a == b) ≡ false
-other_false a b e = grind (arith, nat_tests)
-
 -- where there is a replica for each partition, the rest decides
 pub first_whole : (vs : List State) (v : State) (plan : PlanValue) (t : ℕ) (rest : Bool) → slice_get vs 0 ≡ Some v → plan ≡ v.part.plan → t ≡ v.superstep →
     length vs ≡ v.part.plan.parts → rest ≡ ready_from plan t 0 vs → rest ≡ are_ready vs
 first_whole vs v plan t rest first is at whole e =
-    e ∙ rw (is, at, are_ready-first vs v first, same_true (length vs) v.part.plan.parts whole) refl
+    e ∙ rw (is, at, are_ready-first vs v first, eq-eqb (length vs) v.part.plan.parts whole) refl
 
 -- and else they are not ready
 pub first_other : (vs : List State) (v : State) → slice_get vs 0 ≡ Some v → (length vs ≡ v.part.plan.parts → ⊥) → false ≡ are_ready vs
-first_other vs v first other = rw (are_ready-first vs v first, other_false (length vs) v.part.plan.parts other) refl
+first_other vs v first other = rw (are_ready-first vs v first, ne_eqb (length vs) v.part.plan.parts other) refl

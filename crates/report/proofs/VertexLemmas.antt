@@ -7,10 +7,11 @@ use Rattle.figures.specs.Values.{figures_from, figures_of}
 use Rattle.ball_model.specs.Counter.{ball_counter}
 use Rattle.ball_model.specs.Supersteps.{estimate_at, tally_at}
 use Rattle.ball_model.specs.PlanValue.{PlanValue, mixing_of}
-use Rattle.ball_model.specs.Job.{Job, PartValue, part_of}
+use Rattle.ball_model.specs.Job.{Job}
 use Rattle.ball_model.specs.Report.{empty_of, vertex_line, vertex_text}
 use Rattle.ball_model.specs.State.{State, StandsFor, own_vertices, rows_of, tallies_of}
 use Rattle.replica.proofs.OwnLemmas.{at_own, place_below, vertex_at}
+use Rattle.replica.proofs.LevelLemmas.{plan_is}
 use Rattle.report.specs.Parts.{figures_at, figures_in, figures_line, nothing, vertices_text}
 
 -- two lists made of one
@@ -21,13 +22,6 @@ zip_made f h k (x ∷ xs) = ap (λ rest. f (h x) (k x) ∷ rest) (zip_made f h k
 -- the figures that the definitions give vertex x at t
 abbrev pub true_figures : Job → ℕ → ℕ → Figures
 true_figures j t x = figures_of j.plan.log2m (ball_counter (mixing_of j.plan) j.graph x t) (tally_at (mixing_of j.plan) j.graph x t)
-
-part_plan : (j : Job) (p : ℕ) → (part_of j p).plan ≡ j.plan
-unfolding part_of
-part_plan j p = refl
-
-pub plan_is : (j : Job) (p t : ℕ) (v : State) → StandsFor j p t v → v.part.plan ≡ j.plan
-plan_is j p t v h = ap (λ (a : PartValue). a.plan) h.part ∙ part_plan j p
 
 -- the figures of a replica that stands for its partition
 own_figures : (j : Job) (p t : ℕ) (v : State) → StandsFor j p t v → figures_in v ≡ map (true_figures j t) (own_vertices j p)
@@ -58,7 +52,8 @@ line_is : (j : Job) (label : List ℕ) (t x : ℕ) → figures_line label (true_
 unfolding figures_line vertex_line estimate_at
 line_is j label t x = refl
 
-lines_same : (f h : ℕ → List ℕ) (a n bound : ℕ) → a + n ≤ bound → ((x : ℕ) → x < bound → f x ≡ h x) → flat_map f (range_with_len a n) ≡ flat_map h (range_with_len a n)
+-- lines made alike of each number of a range are the same
+pub lines_same : (f h : ℕ → List ℕ) (a n bound : ℕ) → a + n ≤ bound → ((x : ℕ) → x < bound → f x ≡ h x) → flat_map f (range_with_len a n) ≡ flat_map h (range_with_len a n)
 lines_same f h a zero bound le e = refl
 lines_same f h a (suc n) bound le e = rw (e a (omega arith), lines_same f h (a + 1) n bound (omega arith) e) refl
 

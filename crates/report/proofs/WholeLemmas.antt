@@ -4,6 +4,7 @@ use Rattle.std.specs.List.{All, flat_map, range_with_len, sum_by}
 use Rattle.std.proofs.lemmas.List.{get_or-map, length-map}
 use Rattle.std.proofs.lemmas.List.FromFn.{get_or-map-range_with_len, length-map-range_with_len, length-range_with_len}
 use Rattle.std.proofs.lemmas.List.Sums.{sum_by-le}
+use Rattle.replica.proofs.LevelLemmas.{plan_is}
 use Rattle.figures.specs.declared.ends.Figures.{Figures}
 use Rattle.ball_model.specs.Graph.{Graph}
 use Rattle.ball_model.specs.Counter.{Mixing, ball_counter}
@@ -20,7 +21,7 @@ use Rattle.report.specs.Parts.{HasSize, figures_in, head_text, lines_between, to
 use Rattle.report.proofs.DealLemmas.{sum_dealt, sum_places}
 use Rattle.report.proofs.EndingLemmas.{IsEnded}
 use Rattle.report.proofs.ReadyLemmas.{AreReady}
-use Rattle.report.proofs.VertexLemmas.{plan_is, vertices_are}
+use Rattle.report.proofs.VertexLemmas.{lines_same, vertices_are}
 
 -- replicas that stand for all partitions of a job at t
 pub record AllAt (j : Job) (t : ℕ) (vs : List State) : Type 0 where
@@ -79,10 +80,6 @@ totals_are : (j : Job) (vs : List State) (d : State) (t : ℕ) → 0 < length vs
 unfolding totals_in
 totals_are j vs d t some all =
     map_same (λ i. total_in vs i) (λ i. total_at (mixing_of j.plan) j.graph i) 0 (t + 1) (t + 1) (omega arith) (λ i lt. total_is j vs d t i some all (omega arith))
-
-lines_same : (f h : ℕ → List ℕ) (a n bound : ℕ) → a + n ≤ bound → ((i : ℕ) → i < bound → f i ≡ h i) → flat_map f (range_with_len a n) ≡ flat_map h (range_with_len a n)
-lines_same f h a zero bound le e = refl
-lines_same f h a (suc n) bound le e = rw (e a (omega arith), lines_same f h (a + 1) n bound (omega arith) e) refl
 
 -- the lines of the supersteps
 supersteps_are : (f : ℕ → ℕ) (n : ℕ) (totals : List ℕ) → totals ≡ map f (range_with_len 0 n) →

@@ -6,6 +6,7 @@ use Rattle.figures.specs.declared.ends.Figures.{Figures}
 use Rattle.figures.specs.Values.{figures_from}
 use Rattle.ball_model.specs.Figures.{fixed6_of, gain_of}
 use Rattle.ball_model.specs.Report.{end_line, gain_line, line_text, superstep_line}
+use Rattle.ball_model.specs.Input.{Network}
 use Rattle.ball_model.specs.PlanValue.{part_size}
 use Rattle.ball_model.specs.State.{State}
 
@@ -70,6 +71,15 @@ lists_in parts = map (λ own. own.items) parts
 abbrev pub lines_between : List (List ℕ) → List State → ℕ → ℕ → List ℕ
 lines_between labels replicas from to =
     vertices_text labels 0 (map figures_in replicas) from (to - from)
+
+-- the same, of figures of partitions from place `first` on
+abbrev pub lines_from : Network → List (Vec Figures Global) → ℕ → ℕ → ℕ → List ℕ
+lines_from network parts first from to =
+    vertices_text network.labels first (lists_in parts) from (to - from)
+
+-- the lines of all vertices
+abbrev pub lines_of_all : Network → List State → List ℕ
+lines_of_all network replicas = lines_between network.labels replicas 0 network.graph.vertices
 
 -- the figures of a replica are those of the vertices of its partition
 pub record HasSize (v : State) : Type 0 where

@@ -1,7 +1,9 @@
 -- Replicas of all partitions at the end of a run.
 use Rattle.std.specs.Prelude.{◌≡◌, ℕ, ◌+◌, ◌<◌, Bool, true, false, ◌==◌, ◌&&◌, List, [], ◌∷◌, length, Option, None, Some, slice_index_or}
+use Rattle.std.specs.Io.KnownBytes.{Appends}
 use Rattle.ball_model.specs.declared.names.Verdict.{Verdict}
 use Rattle.ball_model.specs.declared.names.Verdict.TheVariants as verdict
+use Rattle.ball_model.specs.Input.{Network}
 use Rattle.ball_model.specs.PlanValue.{PlanValue, mixing_of}
 use Rattle.ball_model.specs.Content.{same_plan, verdict_of}
 use Rattle.ball_model.specs.Job.{Job}
@@ -53,3 +55,9 @@ FindsVerdict v =
 -- the report of a job whose vertices have these labels
 abbrev pub job_report : Job → List (List ℕ) → List ℕ
 job_report j labels = report_of (mixing_of j.plan) j.graph labels j.plan.limit
+
+-- a writer of these contents is given the report of each job of the network that all replicas stand for
+abbrev pub AddsReport : {W : Type 0} → (W → Option (List ℕ)) → W → W → Network → List State → Type 0
+AddsReport contents old new network replicas =
+    (j : Job) → j.graph ≡ network.graph → AllStand j replicas →
+    Appends (contents old) (contents new) (job_report j network.labels)

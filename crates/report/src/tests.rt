@@ -250,7 +250,11 @@ fn is_worked<H: AllocGlobal + RandomSource + Threads + Sync>(
 fn worked_reports(rt: HostRuntime) {
     for worked in &WORKED {
         for parts in 1..=5 {
-            assert_eq!(rt; is_worked(&rt, worked, parts), Some(true));
+            assert!(rt;
+                is_worked(&rt, worked, parts) == Some(true),
+                "to {} in {parts}",
+                worked.1
+            );
         }
     }
 }
@@ -378,7 +382,7 @@ const CALLS: [(u32, Result<(), ReportError>); 3] = [
 #[test]
 fn full_writers(rt: HostRuntime) {
     for (calls, wanted) in &CALLS {
-        assert!(rt; two_edges_in(&rt, *calls) == Some(*wanted));
+        assert!(rt; two_edges_in(&rt, *calls) == Some(*wanted), "{calls} calls");
     }
 }
 
@@ -396,6 +400,6 @@ const TEXTS: [(ReportError, &str); 2] = [
 #[test]
 fn texts_of_errors(rt: HostRuntime) {
     for (error, text) in &TEXTS {
-        assert!(rt; prints(&rt, *error, text) == Some(true));
+        assert!(rt; prints(&rt, *error, text) == Some(true), "{text}");
     }
 }

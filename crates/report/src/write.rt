@@ -1,13 +1,12 @@
 //! The report, written piece by piece.
 
-ghost use Rattle.std.specs.Prelude.{◌≡◌, ◌≢◌, ℕ, ◌≤◌, ◌<◌, ◌-◌, Err, IfErr, OnErr, OnOk, true};
+ghost use Rattle.std.specs.Prelude.{◌≡◌, ◌≢◌, ℕ, ◌≤◌, ◌<◌, Err, IfErr, OnErr, OnOk, true};
 ghost use Rattle.std.specs.List.{All};
 ghost use Rattle.std.specs.Io.KnownBytes.{Appends};
-ghost use Rattle.ball_model.specs.Job.{Job};
 ghost use Rattle.ball_model.specs.Streams.{Rises};
-ghost use Rattle.report.specs.Parts.{HasPlace, head_text, lines_between, lists_in};
-ghost use Rattle.report.specs.Parts.{totals_in, vertices_text};
-ghost use Rattle.report.specs.Ready.{AllStand, are_ready, job_report};
+ghost use Rattle.report.specs.Parts.{HasPlace, head_text, lines_between, lines_from, lines_of_all};
+ghost use Rattle.report.specs.Parts.{lists_in, totals_in};
+ghost use Rattle.report.specs.Ready.{AddsReport, are_ready};
 
 use crate::parts::{figures, head_of, vertices};
 use crate::ready::is_stable;
@@ -93,7 +92,7 @@ fn put_piece<W: CountedWrite>(
     requires from { from ≤ to }
     requires to { to ≤ graph.now.graph.vertices }
     ensures done { OnOk result (Appends (W.contents writer.old) (W.contents writer.new)
-        (vertices_text graph.now.labels first (lists_in parts.now) from (to - from))) }
+        (lines_from graph.now parts.now first from to)) }
     ensures counted { result ≢ Err ReportError.Write →
         W.failed_calls writer.new ≡ W.failed_calls writer.old }
     ensures write { result ≡ Err ReportError.Write →
@@ -116,7 +115,7 @@ fn put_lines<W: CountedWrite>(
     requires from { from ≤ to }
     requires to { to ≤ graph.now.graph.vertices }
     ensures done { OnOk result (Appends (W.contents writer.old) (W.contents writer.new)
-        (vertices_text graph.now.labels first (lists_in parts.now) from (to - from))) }
+        (lines_from graph.now parts.now first from to)) }
     ensures counted { result ≢ Err ReportError.Write →
         W.failed_calls writer.new ≡ W.failed_calls writer.old }
     ensures write { result ≡ Err ReportError.Write →
@@ -167,7 +166,7 @@ fn put_vertices<T: AllocGlobal + Threads + Sync, W: CountedWrite>(
     requires ready { are_ready replicas.now ≡ true }
     requires graph { All (λ v. v.part.plan.vertices ≡ graph.now.graph.vertices) replicas.now }
     ensures done { OnOk result (Appends (W.contents writer.old) (W.contents writer.new)
-        (lines_between graph.now.labels replicas.now 0 graph.now.graph.vertices)) }
+        (lines_of_all graph.now replicas.now)) }
     ensures counted { result ≢ Err ReportError.Write →
         W.failed_calls writer.new ≡ W.failed_calls writer.old }
     ensures write { result ≡ Err ReportError.Write →
@@ -198,8 +197,8 @@ pub fn write_report<T: AllocGlobal + Threads + Sync, W: CountedWrite>(
 ) -> Result<(), ReportError>
     requires ready { are_ready replicas.now ≡ true }
     requires graph { All (λ v. v.part.plan.vertices ≡ graph.now.graph.vertices) replicas.now }
-    ensures ok { (j : Job) → j.graph ≡ graph.now.graph → AllStand j replicas.now → OnOk result
-        (Appends (W.contents writer.old) (W.contents writer.new) (job_report j graph.now.labels)) }
+    ensures ok { OnOk result (
+        AddsReport W.contents writer.old writer.new graph.now replicas.now) }
     ensures counted { result ≢ Err ReportError.Write →
         W.failed_calls writer.new ≡ W.failed_calls writer.old }
     ensures write { result ≡ Err ReportError.Write →

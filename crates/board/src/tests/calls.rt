@@ -36,7 +36,7 @@ fn fills_two_entries<R: Wait>(
 #[test]
 fn board_of_two_entries(rt: HostRuntime) -> Result<(), Fail> {
     let right = is_right(&rt, rt.alloc(), Case::Calls(Calls::OfTwoEntries));
-    assert!(rt; right == Some(true));
+    assert_eq!(rt; right, Some(true));
     Ok(())
 }
 
@@ -95,7 +95,7 @@ fn keeps_the_furthest<R: Wait>(
 #[test]
 fn board_of_eight_entries(rt: HostRuntime) -> Result<(), Fail> {
     let right = is_right(&rt, rt.alloc(), Case::Calls(Calls::OfEightEntries));
-    assert!(rt; right == Some(true));
+    assert_eq!(rt; right, Some(true));
     Ok(())
 }
 
@@ -120,7 +120,7 @@ fn posts_twice<R: Wait>(
 #[test]
 fn one_name_posted_twice(rt: HostRuntime) -> Result<(), Fail> {
     let right = is_right(&rt, rt.alloc(), Case::Calls(Calls::PostedTwice));
-    assert!(rt; right == Some(true));
+    assert_eq!(rt; right, Some(true));
     Ok(())
 }
 
@@ -153,7 +153,7 @@ fn splits_and_joins<R: Wait>(
 #[test]
 fn seats_split_and_joined(rt: HostRuntime) -> Result<(), Fail> {
     let right = is_right(&rt, rt.alloc(), Case::Calls(Calls::SplitAndJoined));
-    assert!(rt; right == Some(true));
+    assert_eq!(rt; right, Some(true));
     Ok(())
 }
 
@@ -317,6 +317,6 @@ pub(super) fn all_fill_up<R: Wait>(
 #[test]
 fn full_books(rt: HostRuntime) -> Result<(), Fail> {
     let right = is_right(&rt, rt.alloc(), Case::FullBooks);
-    assert!(rt; right == Some(true));
+    assert_eq!(rt; right, Some(true));
     Ok(())
 }

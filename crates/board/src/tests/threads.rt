@@ -103,7 +103,7 @@ pub(super) fn threads_post_all<R: Threads + Wait + Sync>(
 #[test]
 fn two_threads_post(rt: HostRuntime) -> Result<(), Fail> {
     let right = is_right(&rt, rt.alloc(), Case::TwoThreads);
-    assert!(rt; right == Some(true));
+    assert_eq!(rt; right, Some(true));
     Ok(())
 }
 
@@ -361,6 +361,9 @@ fn threads_at_one_board(rt: HostRuntime) -> Result<(), Fail> {
     let four = is_right(&rt, rt.alloc(), Case::Crowd(3));
     let eight = is_right(&rt, rt.alloc(), Case::Crowd(7));
     let sixteen = is_right(&rt, rt.alloc(), Case::Crowd(15));
-    assert!(rt; (four, eight, sixteen) == (Some(true), Some(true), Some(true)));
+    assert_eq!(rt;
+        (four, eight, sixteen),
+        (Some(true), Some(true), Some(true))
+    );
     Ok(())
 }

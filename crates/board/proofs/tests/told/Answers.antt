@@ -1,10 +1,10 @@
 use Rattle.std.proofs.Common.{◌≡◌, sym, subst}
 use Rattle.ball_model.specs.Job.{Job}
 use Rattle.ball_model.specs.Batches.{BatchValue, true_batch}
-use Rattle.board.proofs.TestLemmas.{true_name}
+use Rattle.replica.proofs.KeptLemmas.{true_named}
 use Rattle.board.proofs.tests.told.Goals as goal
 
 pub returns : goal.returns
 returns c =
     let j : Job = record { graph = c.args.graph.now.graph; plan = c.args.plan.now } in
-    subst (λ (b : BatchValue). b ≡ true_batch j b.name) (sym c.in-Ok-new.ensures.ok) (true_name j _ _ (c.in-Ok.ensures.stands j _ _ c.requires))
+    subst (λ (b : BatchValue). b ≡ true_batch j b.name) (sym c.in-Ok-new.ensures.ok) (true_named j _ _ (c.in-Ok.ensures.stands j _ _ c.requires))

@@ -1,6 +1,7 @@
 use Rattle.std.proofs.Common.{◌+◌, ◌≤◌, nat_lt, ℕ, arith, true}
+use Rattle.std.proofs.lemmas.Bool.{lt-ltb}
 use Rattle.hyperball.specs.Partitions.{AreTold}
-use Rattle.hyperball.proofs.PartitionLemmas.{at_most_64, nat_lt_to, running, sources_more, told_less}
+use Rattle.hyperball.proofs.PartitionLemmas.{at_most_64, running, sources_more, told_less}
 use Rattle.hyperball.proofs.partitions.exchange.Goals as goal
 
 pub overflow_cast-source-end : goal.overflow_cast-source-end
@@ -23,5 +24,5 @@ returns c = record {
       let n : ℕ = c.loop-source.source in
       let before : AreTold j t (λ r s. nat_lt r n) c.loop-source.replicas = c.loop-source.invariant j t h in
       let all : j.plan.parts ≤ n = omega (arith, h.count, c.loop-source-test.false) in
-      told_less j t (λ r s. nat_lt r n) (λ _ _. true) c.loop-source.replicas before (λ r s a b other is. nat_lt_to r n (omega (arith, all, a)));
+      told_less j t (λ r s. nat_lt r n) (λ _ _. true) c.loop-source.replicas before (λ r s a b other is. lt-ltb r n (omega (arith, all, a)));
 }

@@ -16,7 +16,7 @@ among k (x ∷ xs) (inr h) all = among k xs h all.1
 pub returns-in-Err-clause-mistaken : goal.returns-in-Err-clause-mistaken
 returns-in-Err-clause-mistaken g c = λ kinds has mistakes. elim (c.in-Err.ensures.faults kinds has) [
   | inl e ↦ inr (c.tell_words.ensures.memory e)
-  | inr h ↦ let m = among (kind_of c.in-Err.error) kinds h mistakes.1 in inl (c.tell_words.ensures.mistake m.0 m.1.0 m.1.1)
+  | inr h ↦ let m = among (kind_of c.in-Err.error) kinds h mistakes.1 in inl (c.tell_words.ensures.mistake m)
 ]
 
 pub returns-in-Ok-clause-run : goal.returns-in-Ok-clause-run

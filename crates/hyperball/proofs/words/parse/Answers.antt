@@ -18,19 +18,25 @@ unfolding clap_on_literals hyperball_app run_app
 free = of_names (λ p. is_simple_and_free (hyperball_app p) ≡ true) (λ list a b c. refl)
 
 pub returns-in_err-command-clause-read : goal.returns-in_err-command-clause-read
-returns-in_err-command-clause-read c = (names_at (0, 0) (0, 0) (0, 0) (0, 0), refl, search rules, search rules)
+returns-in_err-command-clause-read c = record {
+  parser = names_at (0, 0) (0, 0) (0, 0) (0, 0);
+  takes = refl;
+  rows = search rules;
+  faults = search rules;
+}
 
 pub returns-clause-read : goal.returns-clause-read
 returns-clause-read c =
     let p = c.in_ok-command.ensures.0 in
     let takes = c.in_ok-command.ensures.1 in
     let app = c.in_ok-command.ensures.2.form in
-    let parse = c.try_get_matches_from in (
-      p,
-      takes,
-      IfOk-weaker parse.result _ _ (λ m h. (h (ap is_simple app ∙ simple p takes)).1 ∙ ap (λ (a : App). subcommand_of a (texts_of c.args.words.now)) app) parse.ensures.matches,
-      subst (λ (a : App). FailsBy (fault_of a (texts_of c.args.words.now)) parse.result) app (parse.ensures.kinds (ap is_simple_and_free app ∙ free p takes)),
-    )
+    let parse = c.try_get_matches_from in
+    record {
+      parser = p;
+      takes = takes;
+      rows = IfOk-weaker parse.result _ _ (λ m h. (h (ap is_simple app ∙ simple p takes)).1 ∙ ap (λ (a : App). subcommand_of a (texts_of c.args.words.now)) app) parse.ensures.matches;
+      faults = subst (λ (a : App). FailsBy (fault_of a (texts_of c.args.words.now)) parse.result) app (parse.ensures.kinds (ap is_simple_and_free app ∙ free p takes));
+    }
 
 pub returns-clause-subcommand : goal.returns-clause-subcommand
 unfolding hyperball_app

@@ -1,5 +1,5 @@
-use Rattle.std.proofs.Common.{◌≡◌, ◌==◌, ◌∙◌, ℕ, false, length, ap, sym, arith}
-use Rattle.std.proofs.lemmas.Bool.Decides.{nat_tests}
+use Rattle.std.proofs.Common.{◌≡◌, ◌∙◌, false, length, ap, sym}
+use Rattle.std.proofs.lemmas.Bool.{ne_eqb}
 use Rattle.ball_model.specs.PlanValue.{PlanValue}
 use Rattle.report.proofs.ReadyLemmas.{none_ready, first_whole, first_other}
 use Rattle.report.proofs.ready.report_ready.Goals as goal
@@ -18,8 +18,5 @@ pub returns-else-replicas-from : goal.returns-else-replicas-from
 returns-else-replicas-from c =
     let v = c.in-Some.first.now in
     let parts : c.from.result ≡ v.part.plan.parts = c.from.ensures ∙ c.parts.ensures.value ∙ ap (λ (p : PlanValue). p.parts) c.plan.ensures in
-    unlike (length c.args.replicas.now) c.from.result c.if-replicas-from.false
+    ne_eqb (length c.args.replicas.now) c.from.result c.if-replicas-from.false
     ∙ first_other c.args.replicas.now v (sym c.in-Some.ensures.value) (λ e. c.if-replicas-from.false (e ∙ sym parts))
-  where
-    unlike : (a b : ℕ) → (a ≡ b → ⊥) → (a == b) ≡ false
-    unlike a b e = grind (arith, nat_tests)

@@ -22,7 +22,7 @@ put_top-requires g c =
     λ k d lt. (ready.each k d v lt).superstep ∙ ap (λ (w : State). w.superstep) (sym c.index-replicas-0.is) ∙ sym c.superstep-end.ensures.value
 
 pub returns-clause-ok : goal.returns-clause-ok
-returns-clause-ok g c = λ j same stands.
+returns-clause-ok g c = on_ok_weaker c.put_vertices.result (λ h j same stands.
     let vs = c.args.replicas.now in
     let v = c.index-replicas-0.result in
     let t : ℕ = c.superstep-end.result in
@@ -36,6 +36,5 @@ returns-clause-ok g c = λ j same stands.
     let ended : IsEnded (mixing_of j.plan) j.graph j.plan.limit t c.is_stable-stable.result =
     subst (λ b. IsEnded (mixing_of j.plan) j.graph j.plan.limit t b) (sym c.is_stable-stable.ensures.value) (is_ended j 0 t v (found_verdict v) first (c.is_stable-stable.ensures.stands j 0 t first) over) in
     let text = report_is j vs v labels t n c.is_stable-stable.result ready.some all ended (sym (ap (λ (h : Graph). h.vertices) same)) in
-    on_ok_weaker c.put_vertices.result
-    (λ h. subst (λ (line : List ℕ). Appends (g.W.Write.contents c.args.writer.now) (g.W.Write.contents c.put_vertices.new.writer) line) text (Appends-trans _ _ _ _ _ c.in_ok-put_top.ensures.done h))
+    subst (λ (line : List ℕ). Appends (g.W.Write.contents c.args.writer.now) (g.W.Write.contents c.put_vertices.new.writer) line) text (Appends-trans _ _ _ _ _ c.in_ok-put_top.ensures.done h))
     c.put_vertices.ensures.done

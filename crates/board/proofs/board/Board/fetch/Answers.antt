@@ -1,7 +1,8 @@
 use Rattle.std.proofs.Common.{◌≡◌, is_some, sym, ◌∙◌, subst}
 use Rattle.std.proofs.lemmas.Result.{IfOk-weaker}
+use Rattle.std.proofs.lemmas.Option.{IfSome_then}
 use Rattle.ball_model.specs.History.{History, Fetch, board_of}
-use Rattle.board.proofs.CallLemmas.{turn_taken, limit_of, turn_next, turn_fits, turn_extends, turn_called, turn_seen, fetch_stands, if_ok, if_some}
+use Rattle.board.proofs.CallLemmas.{turn_taken, limit_of, turn_next, turn_fits, turn_extends, turn_called, turn_seen, fetch_stands, if_ok}
 use Rattle.board.proofs.board.Board.fetch.Goals as goal
 
 pub give-requires-clause-next : goal.give-requires-clause-next
@@ -25,7 +26,7 @@ returns-clause-seen g c =
 pub returns-clause-found : goal.returns-clause-found
 returns-clause-found g c =
     let t = turn_taken _ _ c.seat.inside.pass.me c.take-book.new.pass.me _ c.seat.invariant c.take-book.ensures.kept c.take-book.ensures.book in
-    IfOk-weaker c.fetch-answer.result _ _ (λ r h. if_some r _ _ h (λ a k. rw (← c.seat.view_is) (turn_called _ _ _ _ _ _ _ c.give.new.pass.me _ _ (Fetch c.args.name) t k.0 c.give.ensures.given))) c.fetch-answer.ensures.found
+    IfOk-weaker c.fetch-answer.result _ _ (λ r h. IfSome_then r h (λ a k. rw (← c.seat.view_is) (turn_called _ _ _ _ _ _ _ c.give.new.pass.me _ _ (Fetch c.args.name) t k.0 c.give.ensures.given))) c.fetch-answer.ensures.found
 
 pub returns-clause-stands : goal.returns-clause-stands
 returns-clause-stands g c =

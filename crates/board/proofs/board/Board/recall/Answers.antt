@@ -1,9 +1,10 @@
 use Rattle.std.proofs.Common.{◌≡◌, true, is_some, sym, ◌∙◌, subst}
 use Rattle.std.specs.Arc.{arc_value}
 use Rattle.std.proofs.lemmas.Result.{IfOk-weaker}
+use Rattle.std.proofs.lemmas.Option.{IfSome_then}
 use Rattle.ball_model.specs.History.{History, Recall, holding_in, is_kept_from, board_of}
 use Rattle.board.specs.Seats.{SeatView}
-use Rattle.board.proofs.CallLemmas.{turn_taken, limit_of, turn_next, turn_fits, turn_extends, turn_called, turn_seen, recall_far, recall_furthest, if_ok, if_some}
+use Rattle.board.proofs.CallLemmas.{turn_taken, limit_of, turn_next, turn_fits, turn_extends, turn_called, turn_seen, recall_far, recall_furthest, if_ok}
 use Rattle.board.proofs.board.Board.recall.Goals as goal
 
 pub give-requires-clause-next : goal.give-requires-clause-next
@@ -27,7 +28,7 @@ returns-clause-seen g c =
 pub returns-clause-found : goal.returns-clause-found
 returns-clause-found g c =
     let t = turn_taken _ _ c.seat.inside.pass.me c.take-book.new.pass.me _ c.seat.invariant c.take-book.ensures.kept c.take-book.ensures.book in
-    IfOk-weaker c.recall-answer.result _ _ (λ r h. if_some r _ _ h (λ a k. rw (← c.seat.view_is) (turn_called _ _ _ _ _ _ _ c.give.new.pass.me _ _ (Recall c.args.part c.args.at_least (holding_in (arc_value a))) t k.0 c.give.ensures.given))) c.recall-answer.ensures.found
+    IfOk-weaker c.recall-answer.result _ _ (λ r h. IfSome_then r h (λ a k. rw (← c.seat.view_is) (turn_called _ _ _ _ _ _ _ c.give.new.pass.me _ _ (Recall c.args.part c.args.at_least (holding_in (arc_value a))) t k.0 c.give.ensures.given))) c.recall-answer.ensures.found
 
 pub returns-clause-far : goal.returns-clause-far
 returns-clause-far g c =
@@ -35,4 +36,4 @@ returns-clause-far g c =
 
 pub returns-clause-furthest : goal.returns-clause-furthest
 returns-clause-furthest g c =
-    IfOk-weaker c.recall-answer.result _ _ (λ r h. if_some r _ _ h (λ a k least kept. recall_furthest _ _ c.seat.inside.pass.me.0.seen c.take-book.result _ c.args.part c.args.at_least least (holding_in (arc_value a)) c.take-book.ensures.book.1.0 c.take-book.ensures.book.1.2 c.recall-answer.ensures.next.0 k.0 (subst (λ (v : SeatView). is_kept_from ((board_of v.seen).kept c.args.part) least ≡ true) (sym c.seat.view_is) kept))) c.recall-answer.ensures.found
+    IfOk-weaker c.recall-answer.result _ _ (λ r h. IfSome_then r h (λ a k least kept. recall_furthest _ _ c.seat.inside.pass.me.0.seen c.take-book.result _ c.args.part c.args.at_least least (holding_in (arc_value a)) c.take-book.ensures.book.1.0 c.take-book.ensures.book.1.2 c.recall-answer.ensures.next.0 k.0 (subst (λ (v : SeatView). is_kept_from ((board_of v.seen).kept c.args.part) least ≡ true) (sym c.seat.view_is) kept))) c.recall-answer.ensures.found
