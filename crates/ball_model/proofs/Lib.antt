@@ -15,3 +15,11 @@ pub mod JoinLemmas
 pub mod HistoryLemmas
 pub mod AccumulatedLemmas
 pub mod AccumulatedPartLemmas
+pub mod StreamLemmas
+pub mod HeldLemmas
+pub mod WorldLemmas
+pub mod StoryLemmas
+pub mod CountedLemmas
+pub mod LineLemmas
+pub mod SectionLemmas
+pub mod Crossing

@@ -52,6 +52,10 @@ true_batch j name = record {
       (sent_vertices j name.superstep name.source name.target);
 }
 
+-- the batch is the true one of its name
+abbrev pub IsTrueBatch : Job → BatchValue → Type 0
+IsTrueBatch j b = b ≡ true_batch j b.name
+
 -- a row that a batch of the source may have: 2^log2m registers of at most 33, of a vertex of the source
 pub record IsRow (plan : PlanValue) (source : ℕ) (row : ℕ × List ℕ) : Type 0 where
   pub vertex : row.0 < plan.vertices
@@ -74,11 +78,15 @@ pub record IsBatch (b : BatchValue) : Type 0 where
 abbrev pub row_bytes : ℕ × List ℕ → List ℕ
 row_bytes row = to_be_bytes w32 row.0 ++ row.1
 
--- the spelling of a batch, version 1: numbers of two and of four bytes, most significant first, and the rows
-unfoldable pub batch_bytes : BatchValue → List ℕ
-batch_bytes b =
+-- the fixed fields of a batch as bytes, version 1: numbers of two and of four bytes, most significant first
+unfoldable pub header_bytes : BatchValue → List ℕ
+header_bytes b =
     codes "HBBT" ++ (1 ∷ []) ++ (b.plan.log2m ∷ [])
     ++ to_be_bytes w32 b.name.superstep
     ++ to_be_bytes w16 b.name.source ++ to_be_bytes w16 b.name.target
     ++ b.plan.job ++ to_be_bytes w32 b.changed
-    ++ to_be_bytes w32 (length b.rows) ++ flat_map row_bytes b.rows
+    ++ to_be_bytes w32 (length b.rows)
+
+-- the spelling of a batch: the fixed fields, and each row
+unfoldable pub batch_bytes : BatchValue → List ℕ
+batch_bytes b = header_bytes b ++ flat_map row_bytes b.rows

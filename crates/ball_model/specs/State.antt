@@ -95,6 +95,10 @@ pub record StandsFor (j : Job) (p t : ℕ) (v : State) : Type 0 where
   pub accumulated : v.accumulated ≡ accumulated_of j p t (λ z. is_heard j.plan.parts v.heard z)
   pub early : KeepsTrue j p t v.early
 
+-- the replica stands for its own partition of the job, at its own superstep
+abbrev pub Stands : Job → State → Type 0
+Stands j v = StandsFor j v.part.number v.superstep v
+
 -- all is the same but what is heard, accumulated and kept
 pub record SameShown (a b : State) : Type 0 where
   pub part : a.part ≡ b.part

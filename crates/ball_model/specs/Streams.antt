@@ -1,5 +1,6 @@
--- What a counted call of a stream did.
-use Rattle.std.specs.Prelude.{◌≡◌, ◌<◌, ℕ, List, Option, IfSome, IfNone, take, length}
+-- What a counted call of a stream did, which calls are sure to go well, and what several calls did.
+use Rattle.std.specs.Prelude.{◌≡◌, ◌<◌, ◌≤◌, ◌+◌, ◌-◌, ◌++◌, ℕ, List, ⊤}
+use Rattle.std.specs.Prelude.{Option, None, Some, IfSome, IfNone, option_map, take, length}
 use Rattle.std.specs.Io.KnownBytes.{Appends, Consumes, Keeps, IsAtEnd}
 
 -- the count rose
@@ -16,3 +17,38 @@ Gets old new told buf =
 abbrev pub Puts : Option (List ℕ) → Option (List ℕ) → Option ℕ → List ℕ → Type 0
 Puts old new told bytes =
     IfSome told (λ n. Appends old new (take n bytes)) × IfNone told (Keeps old new)
+
+-- of the next calls that are sure to go well (None: of all calls), so many are left after one
+abbrev pub after_call : Option ℕ → Option ℕ
+after_call sure = option_map (λ n. n - 1) sure
+
+-- the next n calls are sure to go well
+abbrev pub AreSure : Option ℕ → ℕ → Type 0
+AreSure None n = ⊤
+AreSure (Some k) n = n ≤ k
+
+-- at most n calls later
+abbrev pub AfterAtMost : ℕ → Option ℕ → Option ℕ → Type 0
+AfterAtMost n None new = new ≡ None
+AfterAtMost n (Some k) None = ⊥
+AfterAtMost n (Some k) (Some j) = k ≤ j + n
+
+-- a beginning of the bytes was appended, and not all of them
+pub record PutsFront (old new : Option (List ℕ)) (bytes : List ℕ) : Type 0 where
+  pub front : List ℕ
+  pub rest : List ℕ
+  pub split : bytes ≡ front ++ rest
+  pub fewer : 0 < length rest
+  pub appended : Appends old new front
+
+-- at most n bytes were read
+pub record TakesAtMost (n : ℕ) (old new : Option (List ℕ)) : Type 0 where
+  pub bytes : List ℕ
+  pub consumed : Consumes old new bytes
+  pub few : length bytes ≤ n
+
+-- the last n bytes were read into the front of a longer buffer
+pub record EndsAfter (n : ℕ) (old new : Option (List ℕ)) (buf : List ℕ) : Type 0 where
+  pub fewer : n < length buf
+  pub consumed : Consumes old new (take n buf)
+  pub last : IsAtEnd new

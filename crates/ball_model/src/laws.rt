@@ -1,6 +1,7 @@
 //! Laws of the definitions: the contract of each function is the law, and its body is empty.
 
-ghost use Rattle.ball_model.specs.Laws.{BallIsPaths, RegisterIsBound, RegisterIsLeastBound, UnionIsMaximum, EmptyIsZero, CounterIsWide, RegistersAreRanks, CounterGrows, CounterIsBound, CounterIsLeastBound, StartIsCounted, StartIsNotEmpty, QuietStays, ChangedSuffice, ChangeComesFromChange, EndIsWithin, EndIsLeast, EndIsReached, EstimateGrows, EstimateFits, TalliesFit, PartIsStrided, JoinCommutes, JoinAssociates, JoinRepeats, JoinIsUnion};
+ghost use Rattle.ball_model.specs.Laws.{BallIsPaths, RegisterIsBound, RegisterIsLeastBound, UnionIsMaximum, EmptyIsZero, CounterIsWide, RegistersAreRanks, CounterGrows, CounterIsBound, CounterIsLeastBound, StartIsCounted, StartIsNotEmpty, QuietStays, ChangedSuffice, ChangeComesFromChange, EndIsWithin, EndIsLeast, EndIsReached, EstimateGrows, EstimateFits, NoneIsNothing, OneIsOne, DrawsAdd, LargeIsRaw, SmallIsSmall, CountersAreApart, TalliesFit, PartIsStrided, JoinCommutes, JoinAssociates, JoinRepeats, JoinIsUnion};
+ghost use Rattle.ball_model.specs.InputLaws.{AllAreCounted, NamedAreCounted, AllNamedAreAll, LfEndsLine, CrLfEndsLine, EndEndsLine, MarkDivides, FirstMarkDivides};
 ghost use Rattle.ball_model.specs.AccumulatedLaws.{AccumulatorStarts, AccumulatorEnds, AccumulatorsJoin, AccumulatorSteps};
 
 /// The ball of x at t has the vertices with a path of at most t edges to x.
@@ -70,10 +71,25 @@ pub fn end_is_least()
     ensures reached { EndIsReached }
 {}
 
-/// An estimate does not fall where no register falls, and is below 2^63.
+/// An estimate, corrected for small sets or not, does not fall where no register falls, and is below 2^63.
 pub fn estimate_grows()
     ensures grows { EstimateGrows }
     ensures fits { EstimateFits }
+{}
+
+/// Where no place is taken nothing was drawn, where one is taken one was, and each further place adds its wait.
+pub fn draws_are_waits()
+    ensures none { NoneIsNothing }
+    ensures one { OneIsOne }
+    ensures more { DrawsAdd }
+{}
+
+/// From two and a half for each register on an estimate is not corrected, and below that it stays below; counters are
+/// the same.
+pub fn large_is_raw()
+    ensures large { LargeIsRaw }
+    ensures small { SmallIsSmall }
+    ensures counters { CountersAreApart }
 {}
 
 /// Figures fit their types, for every superstep up to the greatest limit, 4096.
@@ -92,4 +108,28 @@ pub fn join_is_a_join()
     ensures associative { JoinAssociates }
     ensures repeats { JoinRepeats }
     ensures union { JoinIsUnion }
+{}
+
+/// All vertices are counted exactly where each one is.
+pub fn all_are_counted()
+    ensures { AllAreCounted }
+{}
+
+/// By a list a vertex is counted exactly where some record is its label, so a list of all labels counts every vertex.
+pub fn named_are_counted()
+    ensures named { NamedAreCounted }
+    ensures all { AllNamedAreAll }
+{}
+
+/// A line ends at an LF, at a CR and an LF, or at the end of the text.
+pub fn lines_end()
+    ensures lf { LfEndsLine }
+    ensures crlf { CrLfEndsLine }
+    ensures end { EndEndsLine }
+{}
+
+/// The sections of an input are what stands before and after its first line of exactly `%%`.
+pub fn first_mark_divides()
+    ensures divides { MarkDivides }
+    ensures first { FirstMarkDivides }
 {}

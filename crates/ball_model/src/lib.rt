@@ -3,11 +3,12 @@
 //! A [`Plan`] says how many registers a counter has, under which seed vertices are hashed, among how many partitions
 //! they are dealt out, and after how many supersteps a run stops at the latest. A vertex is hashed by [`mix`], and
 //! [`place`] reads a register and a rank off the hash. A [`BatchName`] names what a partition tells another of a
-//! superstep. The functions of [`laws`] and of [`history`] do nothing: the contract of each is a law of the
-//! definitions.
+//! superstep. An [`Event`](world::Event) is what happens in a world of replicas. The functions of [`laws`], of
+//! [`history`] and of [`world`] do nothing: the contract of each is a law of the definitions.
 //!
 //! [`CountingReader`] and [`CountingWriter`] are streams whose failed calls a contract sees, by [`CountedRead`] and
-//! [`CountedWrite`]; [`MemReader`] and [`MemWriter`] are such streams over memory, which fail where one wants them to.
+//! [`CountedWrite`]; [`MemReader`] and [`MemWriter`] are such streams over memory, which fail where one wants them to
+//! and nowhere else. [`put_all`] writes all of some bytes, and [`fill`] reads until a buffer is full or the input ends.
 //!
 //! ```text
 //! let plan = Plan::new(4, 0, 3, 100, 8, job)?;
@@ -31,12 +32,15 @@ pub mod memory;
 pub mod names;
 pub mod plan;
 pub mod streams;
+pub mod world;
 
 pub use history::{Kept, Posted};
 pub use memory::{MemReader, MemWriter};
 pub use names::{BatchName, CloseError, MergeError, NodeId, TakeError, Taken, Verdict};
-pub use plan::{Plan, PlanError};
-pub use streams::{CountedRead, CountedWrite, CountingReader, CountingWriter, put_all};
+pub use plan::{Estimate, Plan, PlanError};
+pub use streams::{
+    CountedRead, CountedWrite, CountingReader, CountingWriter, Filled, fill, put_all,
+};
 
 #[cfg(test)]
 mod tests;

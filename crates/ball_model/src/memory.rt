@@ -1,8 +1,9 @@
 //! Streams over memory, which tell their bytes and fail at a call that is chosen.
 
-ghost use Rattle.std.specs.Prelude.{◌≡◌, ℕ, ◌+◌, ◌-◌, ◌<◌, ◌≤◌, ◌⊎◌, min, None, Some, OnOk, OnErr, IfOk, IsOk, IsErr, length, [], take, option_map, vec_len, vec_capacity};
+ghost use Rattle.std.specs.Prelude.{◌≡◌, ℕ, ◌+◌, ◌-◌, ◌<◌, ◌≤◌, ◌⊎◌, min, None, Some, OnOk, OnErr, IfOk, IfSome, IfNone, IsOk, IsErr, length, [], take, true, option_map, vec_len, vec_capacity};
 ghost use Rattle.std.specs.Io.KnownBytes.{ReadConsumes, WriteAppends, Keeps};
 ghost use Rattle.std.specs.Io.{ReadsAtMost, WritesAtMost};
+ghost use Rattle.ball_model.specs.Streams.{Gets, Puts, after_call};
 
 use crate::streams::{CountedRead, CountedWrite, FailedCalls};
 use std::alloc::{AllocError, Global};
@@ -42,7 +43,7 @@ impl<'a> Read for MemReader<'a> {
         ensures count { IfOk result (λ n. n ≡ min (length self.old.left.now) (length buf.old)) }
         ensures fails { self.old.good ≡ Some 0 → IsErr result }
         ensures only { OnErr result (self.old.good ≡ Some 0) }
-        ensures good { self.new.good ≡ option_map (λ n. n - 1) self.old.good }
+        ensures good { self.new.good ≡ after_call self.old.good }
         ensures failed { OnErr result (self.new.failures ≡ self.old.failures + 1) }
         ensures done { OnOk result (self.new.failures ≡ self.old.failures) }
     {
@@ -61,11 +62,22 @@ impl<'a> Read for MemReader<'a> {
 impl<'a> CountedRead for MemReader<'a> {
     ghost failed_calls = { λ r. r.failures };
 
+    ghost sure_calls = { λ r. r.good };
+
     fn failures(&self) -> u64 {
         self.failures.told()
     }
 
-    fn get(&mut self, buf: &mut [u8]) -> Option<usize> {
+    fn get(&mut self, buf: &mut [u8]) -> Option<usize>
+        ensures within { IfSome result (λ n. n ≤ length buf.new) }
+        ensures bytes { Gets (Some self.old.left.now) (Some self.new.left.now) result buf.new }
+        ensures count { IfSome result (λ n. n ≡ min (length self.old.left.now) (length buf.old)) }
+        ensures fails { self.old.good ≡ Some 0 → result ≡ None }
+        ensures only { IfNone result (self.old.good ≡ Some 0) }
+        ensures good { self.new.good ≡ after_call self.old.good }
+        ensures failed { IfNone result (self.new.failures ≡ self.old.failures + 1) }
+        ensures done { IfSome result (λ _. self.new.failures ≡ self.old.failures) }
+    {
         self.read(buf).ok()
     }
 }
@@ -125,11 +137,12 @@ impl Write for MemWriter {
             result buf.now }
         ensures count { IfOk result (λ n. n ≡ min (length buf.now) self.old.room) }
         ensures room { IfOk result (λ n. self.new.room + n ≡ self.old.room) }
+        ensures err { OnErr result (self.new.room ≡ self.old.room) }
         ensures fails { self.old.good ≡ Some 0 → IsErr result }
         ensures full { self.old.room ≡ 0 → 0 < length buf.now → IsErr result }
         ensures only { OnErr result ((self.old.good ≡ Some 0)
             ⊎ ((self.old.room ≡ 0) × (0 < length buf.now))) }
-        ensures good { self.new.good ≡ option_map (λ n. n - 1) self.old.good }
+        ensures good { self.new.good ≡ after_call self.old.good }
         ensures failed { OnErr result (self.new.failures ≡ self.old.failures + 1) }
         ensures done { OnOk result (self.new.failures ≡ self.old.failures) }
     {
@@ -157,11 +170,37 @@ impl Write for MemWriter {
 impl CountedWrite for MemWriter {
     ghost failed_calls = { λ w. w.failures };
 
+    ghost sure_calls = { λ w. w.good };
+
+    ghost room = { λ w. w.room };
+
     fn failures(&self) -> u64 {
         self.failures.told()
     }
 
-    fn put(&mut self, bytes: &[u8]) -> Option<usize> {
+    fn put(&mut self, bytes: &[u8]) -> Option<usize>
+        requires { 0 < length bytes.now }
+        ensures some { IfSome result (λ n. 0 < n) }
+        ensures within { IfSome result (λ n. n ≤ length bytes.now) }
+        ensures bytes { Puts (Some self.old.bytes.items) (Some self.new.bytes.items)
+            result bytes.now }
+        ensures count { IfSome result (λ n. n ≡ min (length bytes.now) self.old.room) }
+        ensures room { IfSome result (λ n. self.new.room + n ≡ self.old.room) }
+        ensures none { IfNone result (self.new.room ≡ self.old.room) }
+        ensures fails { self.old.good ≡ Some 0 → result ≡ None }
+        ensures full { self.old.room ≡ 0 → result ≡ None }
+        ensures only { IfNone result ((self.old.good ≡ Some 0) ⊎ (self.old.room ≡ 0)) }
+        ensures good { self.new.good ≡ after_call self.old.good }
+        ensures failed { IfNone result (self.new.failures ≡ self.old.failures + 1) }
+        ensures done { IfSome result (λ _. self.new.failures ≡ self.old.failures) }
+    {
         self.write(bytes).ok()
+    }
+
+    fn try_flush(&mut self) -> bool
+        ensures ok { result ≡ true }
+        ensures unchanged { self.new ≡ self.old }
+    {
+        self.flush().is_ok()
     }
 }

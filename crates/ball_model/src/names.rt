@@ -1,7 +1,7 @@
 //! Names of batches and of nodes, and the answers of a replica.
 
 ghost use Rattle.std.specs.Prelude.{◌≡◌};
-ghost use Rattle.ball_model.specs.Names.{stands_before};
+ghost use Rattle.ball_model.specs.Names.{stands_before, node_stands_before};
 
 use thiserror::Error;
 
@@ -34,6 +34,15 @@ pub struct NodeId {
     pub part: u16,
     /// Its number among the replicas of that partition, from 0 on.
     pub replica: u8,
+}
+
+impl NodeId {
+    /// Whether the node stands before the other: by partition, then by replica.
+    pub fn is_before(&self, other: &NodeId) -> bool
+        ensures { result ≡ node_stands_before self.now other.now }
+    {
+        (self.part, self.replica) < (other.part, other.replica)
+    }
 }
 
 /// What a replica that holds its level says of the run.

@@ -1,6 +1,6 @@
 //! The plan of a job.
 
-ghost use Rattle.std.specs.Prelude.{◌≡◌, ◌<◌, ◌%◌, ◌^◌};
+ghost use Rattle.std.specs.Prelude.{◌≡◌, true, false, ◌<◌, ◌%◌, ◌^◌};
 
 use std::marker::Model;
 use thiserror::Error;
@@ -37,6 +37,15 @@ pub enum PlanError {
     Vertices,
 }
 
+/// How the estimates of counters are made.
+#[derive(Clone, Copy, Debug, PartialEq, Eq)]
+pub enum Estimate {
+    /// As HyperLogLog gives them, with no correction: they are far too large for small sets.
+    Raw,
+    /// Corrected for small sets, by the number of empty registers.
+    Corrected,
+}
+
 /// The plan of a job, within its limits.
 ///
 /// Counters have 2^log2m registers, vertices are hashed under the seed and dealt out among the partitions by their
@@ -49,6 +58,7 @@ pub struct Plan {
     parts: u16,
     limit: u32,
     vertices: u32,
+    corrected: bool,
     job: [u8; 32],
 }
 
@@ -63,6 +73,7 @@ impl Model for Plan {
       parts = p.parts;
       limit = p.limit;
       vertices = p.vertices;
+      corrected = p.corrected;
       job = p.job;
     } };
 
@@ -72,6 +83,7 @@ impl Model for Plan {
       parts = p.parts;
       limit = p.limit;
       vertices = p.vertices;
+      corrected = p.corrected;
       job = p.job;
     }) };
 
@@ -81,6 +93,7 @@ impl Model for Plan {
       parts = p.parts;
       limit = p.limit;
       vertices = p.vertices;
+      corrected = p.corrected;
       job = p.job;
     } };
 }
@@ -88,7 +101,7 @@ impl Model for Plan {
 impl Plan {
     ghost use Rattle.ball_model.specs.PlanValue.{PlanValue, IsPlan, plan_of, part_size};
 
-    /// The plan, or the first of its faults: 4 to 10 for log2m, 1 to 64 partitions, a limit of 1 to 4096
+    /// The plan with raw estimates, or the first of its faults: 4 to 10 for log2m, 1 to 64 partitions, a limit of 1 to 4096
     /// supersteps, and at most 2^24 vertices.
     pub fn new(
         log2m: u8,
@@ -104,6 +117,7 @@ impl Plan {
           parts = parts;
           limit = limit;
           vertices = vertices;
+          corrected = false;
           job = job;
         }) }
     {
@@ -125,6 +139,7 @@ impl Plan {
             parts,
             limit,
             vertices,
+            corrected: false,
             job,
         })
     }
@@ -173,6 +188,22 @@ impl Plan {
         ensures { result ≡ self.now.job }
     {
         self.job
+    }
+
+    /// Whether estimates are corrected for small sets.
+    pub fn is_corrected(&self) -> bool
+        ensures { result ≡ self.now.corrected }
+    {
+        self.corrected
+    }
+
+    /// The plan with estimates that are corrected for small sets, and with the digest of that other job.
+    pub fn corrected(self, job: [u8; 32]) -> Plan
+        ensures { result ≡ record self { corrected = true; job = job } }
+    {
+        let mut plan = self.with_job(job);
+        plan.corrected = true;
+        plan
     }
 
     /// The plan with another job digest.

@@ -3,11 +3,12 @@
 //! No contract can say what a file, a pipe or a terminal gives or takes. But a program can say that it answers
 //! 'cannot be read' only where a call of its reader really failed: by a reader that counts its failed calls.
 
-ghost use Rattle.std.specs.Prelude.{◌≡◌, ℕ, ◌+◌, ◌-◌, ◌^◌, min, OnOk, OnErr, ◌<◌, ◌≤◌, IfOk, IfSome, IfNone, length, true, false};
+ghost use Rattle.std.specs.Prelude.{◌≡◌, ◌≢◌, ℕ, ◌+◌, ◌-◌, ◌^◌, min, OnOk, OnErr, ◌<◌, ◌≤◌, ◌⊎◌, IfOk, IfSome, IfNone, Option, None, Some, length, true, false};
 ghost use Rattle.std.specs.Borrow.{ftrue};
-ghost use Rattle.std.specs.Io.KnownBytes.{ReadConsumes, WriteAppends, Keeps, Appends};
+ghost use Rattle.std.specs.Io.KnownBytes.{ReadConsumes, WriteAppends, Keeps, Appends, Consumes};
 ghost use Rattle.std.specs.Io.{ReadsAtMost, WritesAtMost};
-ghost use Rattle.ball_model.specs.Streams.{Gets, Puts};
+ghost use Rattle.ball_model.specs.Streams.{Gets, Puts, PutsFront, EndsAfter, AfterAtMost, AreSure, after_call};
+ghost use Rattle.ball_model.specs.Streams.{TakesAtMost};
 
 use std::io;
 use std::io::{Read, Write};
@@ -16,6 +17,9 @@ use std::marker::Model;
 /// A reader whose failed calls a contract sees.
 pub trait CountedRead: Read {
     ghost failed_calls: { Self → ℕ };
+
+    // How many of the next calls are sure to go well. None: all.
+    ghost sure_calls: { Self → Option ℕ };
 
     /// How many calls failed, or `u64::MAX` where they are more.
     fn failures(&self) -> u64
@@ -28,7 +32,9 @@ pub trait CountedRead: Read {
         ensures within { IfSome result (λ n. n ≤ length buf.new) }
         ensures bytes { Gets (Self.remaining self.old) (Self.remaining self.new) result buf.new }
         ensures counted { IfSome result (λ _. failed_calls self.new ≡ failed_calls self.old) }
-        ensures failed { IfNone result (failed_calls self.old < failed_calls self.new) };
+        ensures failed { IfNone result (failed_calls self.old < failed_calls self.new) }
+        ensures only { IfNone result (sure_calls self.old ≡ Some 0) }
+        ensures sure { sure_calls self.new ≡ after_call (sure_calls self.old) };
 }
 
 /// A writer whose failed calls a contract sees.
@@ -36,6 +42,12 @@ pub trait CountedRead: Read {
 /// A write that takes no byte of a slice that is not empty counts as failed.
 pub trait CountedWrite: Write {
     ghost failed_calls: { Self → ℕ };
+
+    // How many of the next calls are sure to go well where there is room. None: all.
+    ghost sure_calls: { Self → Option ℕ };
+
+    // How many bytes there is room for, as far as that is sure.
+    ghost room: { Self → ℕ };
 
     /// How many calls failed, or `u64::MAX` where they are more.
     fn failures(&self) -> u64
@@ -48,7 +60,20 @@ pub trait CountedWrite: Write {
         ensures within { IfSome result (λ n. n ≤ length bytes.now) }
         ensures bytes { Puts (Self.contents self.old) (Self.contents self.new) result bytes.now }
         ensures counted { IfSome result (λ _. failed_calls self.new ≡ failed_calls self.old) }
-        ensures failed { IfNone result (failed_calls self.old < failed_calls self.new) };
+        ensures failed { IfNone result (failed_calls self.old < failed_calls self.new) }
+        ensures only { IfNone result ((sure_calls self.old ≡ Some 0) ⊎ (room self.old ≡ 0)) }
+        ensures sure { sure_calls self.new ≡ after_call (sure_calls self.old) }
+        ensures taken { IfSome result (λ n. room self.new ≡ room self.old - n) }
+        ensures kept { IfNone result (room self.new ≡ room self.old) };
+
+    /// Passes on what is held back, and tells whether the call went well.
+    fn try_flush(&mut self) -> bool
+        ensures bytes { Keeps (Self.contents self.old) (Self.contents self.new) }
+        ensures counted { result ≡ true → failed_calls self.new ≡ failed_calls self.old }
+        ensures failed { result ≡ false → failed_calls self.old < failed_calls self.new }
+        ensures only { result ≡ false → sure_calls self.old ≡ Some 0 }
+        ensures sure { sure_calls self.new ≡ sure_calls self.old }
+        ensures room { room self.new ≡ room self.old };
 }
 
 // A number that only clauses read. It takes no bytes.
@@ -160,8 +185,11 @@ impl<R: Read + Drop> Read for CountingReader<R> {
     }
 }
 
+// Of the reader inside nothing is known, so no call is sure to go well.
 impl<R: Read + Drop> CountedRead for CountingReader<R> {
     ghost failed_calls = { λ r. r.failures };
+
+    ghost sure_calls = { λ _. Some 0 };
 
     fn failures(&self) -> u64 {
         self.failures.told()
@@ -239,8 +267,13 @@ impl<W: Write + Drop> Write for CountingWriter<W> {
     }
 }
 
+// Of the writer inside nothing is known, so no call is sure to go well.
 impl<W: Write + Drop> CountedWrite for CountingWriter<W> {
     ghost failed_calls = { λ w. w.failures };
+
+    ghost sure_calls = { λ _. Some 0 };
+
+    ghost room = { λ _. 0 };
 
     fn failures(&self) -> u64 {
         self.failures.told()
@@ -253,14 +286,26 @@ impl<W: Write + Drop> CountedWrite for CountingWriter<W> {
             Err(_) => None,
         }
     }
+
+    fn try_flush(&mut self) -> bool {
+        self.flush().is_ok()
+    }
 }
 
 /// Writes all bytes and answers true, or answers false where a call failed; nothing is tried again.
 pub fn put_all<W: CountedWrite>(writer: &mut W, bytes: &[u8]) -> bool
     ensures done { result ≡ true →
         Appends (W.contents writer.old) (W.contents writer.new) bytes.now }
+    ensures front { result ≡ false →
+        PutsFront (W.contents writer.old) (W.contents writer.new) bytes.now }
     ensures counted { result ≡ true → W.failed_calls writer.new ≡ W.failed_calls writer.old }
     ensures failed { result ≡ false → W.failed_calls writer.old < W.failed_calls writer.new }
+    ensures only { AreSure (W.sure_calls writer.old) (length bytes.now) →
+        length bytes.now ≤ W.room writer.old → result ≡ true }
+    ensures sure { AfterAtMost (length bytes.now)
+        (W.sure_calls writer.old) (W.sure_calls writer.new) }
+    ensures taken { result ≡ true → W.room writer.new ≡ W.room writer.old - length bytes.now }
+    ensures room { W.room writer.old ≤ W.room writer.new + length bytes.now }
 {
     let mut rest = bytes;
     while !rest.is_empty() {
@@ -270,4 +315,43 @@ pub fn put_all<W: CountedWrite>(writer: &mut W, bytes: &[u8]) -> bool
         }
     }
     true
+}
+
+/// What came of filling a buffer.
+#[derive(Clone, Copy, Debug, PartialEq, Eq)]
+pub enum Filled {
+    /// The buffer is full.
+    Full,
+    /// The input ended, and its last `count` bytes are the front of the buffer, which has more.
+    Ended { count: usize },
+    /// A call failed. Some bytes may be gone from the input.
+    Failed,
+}
+
+/// Reads until the buffer is full or the input is at its end, or up to the first failed call.
+///
+/// Nothing is read where the buffer is empty, and nothing after the end was seen.
+pub fn fill<R: CountedRead>(reader: &mut R, buf: &mut [u8]) -> Filled
+    ensures full { result ≡ Filled.Full →
+        Consumes (R.remaining reader.old) (R.remaining reader.new) buf.new }
+    ensures ended { (n : ℕ) → result ≡ Filled.Ended n →
+        EndsAfter n (R.remaining reader.old) (R.remaining reader.new) buf.new }
+    ensures few { TakesAtMost (length buf.old) (R.remaining reader.old) (R.remaining reader.new) }
+    ensures counted { result ≢ Filled.Failed →
+        R.failed_calls reader.new ≡ R.failed_calls reader.old }
+    ensures failed { result ≡ Filled.Failed →
+        R.failed_calls reader.old < R.failed_calls reader.new }
+    ensures only { AreSure (R.sure_calls reader.old) (length buf.old) → result ≢ Filled.Failed }
+    ensures sure { AfterAtMost (length buf.old)
+        (R.sure_calls reader.old) (R.sure_calls reader.new) }
+{
+    let mut at = 0;
+    while at < buf.len() {
+        match reader.get(&mut buf[at..]) {
+            Some(0) => return Filled::Ended { count: at },
+            Some(n) => at += n,
+            None => return Filled::Failed,
+        }
+    }
+    Filled::Full
 }

@@ -199,15 +199,31 @@ fn names_ascend(rt: HostRuntime) {
         (first.is_before(&second), second.is_before(&third)),
         (true, true)
     );
-    assert!(rt;
-        NodeId {
-            part: 0,
-            replica: 3
-        } < NodeId {
-            part: 1,
-            replica: 0
-        }
+}
+
+#[test]
+fn nodes_ascend_by_partition_then_replica(rt: HostRuntime) {
+    let first = NodeId {
+        part: 0,
+        replica: 3,
+    };
+    let second = NodeId {
+        part: 1,
+        replica: 0,
+    };
+    let third = NodeId {
+        part: 1,
+        replica: 1,
+    };
+    assert_eq!(rt;
+        (
+            first.is_before(&second),
+            second.is_before(&third),
+            third.is_before(&first)
+        ),
+        (true, true, false)
     );
+    assert!(rt; first < second && second < third);
 }
 
 // A stream that moves one byte a call, whose call `fails_at` and all later ones fail.
@@ -365,6 +381,20 @@ fn failed_writes_are_counted(rt: HostRuntime) {
     assert_eq!(rt; failed_writes(), (true, Some(1), None, 1, true, 2));
 }
 
+// Whether two flushes go well, of a writer whose second call fails and whose later ones do too, and the failures.
+fn tries_to_flush() -> (bool, bool, u64) {
+    let mut writer = CountingWriter::new(Slow {
+        calls: 0,
+        fails_at: 2,
+    });
+    (writer.try_flush(), writer.try_flush(), writer.failures())
+}
+
+#[test]
+fn a_flush_is_tried(rt: HostRuntime) {
+    assert_eq!(rt; tries_to_flush(), (true, false, 1));
+}
+
 // Whether four bytes are put in as many calls, and one more where the fifth call fails, and how many calls failed.
 fn puts_four() -> (bool, bool, u64) {
     let mut writer = CountingWriter::new(Slow {
@@ -399,6 +429,64 @@ fn put_and_held(alloc: Global) -> ((bool, bool, u64), bool) {
 #[test]
 fn what_is_put_is_held(rt: HostRuntime) {
     assert_eq!(rt; put_and_held(rt.alloc()), ((true, true, 0), true));
+}
+
+// Seven bytes are read into buffers of four, three and two, from the start: what came of it, and the failures.
+fn fills(fails_at: Option<u64>) -> ([Filled; 3], u64) {
+    let mut reader = MemReader::new(b"abcdefg", fails_at);
+    let mut place = [0u8; 4];
+    let told = [
+        fill(&mut reader, &mut place),
+        fill(&mut reader, &mut place[1..]),
+        fill(&mut reader, &mut place[..2]),
+    ];
+    (told, reader.failures())
+}
+
+#[test]
+fn buffers_are_filled(rt: HostRuntime) {
+    let gone = Filled::Ended { count: 0 };
+    assert_eq!(rt;
+        [fills(None), fills(Some(3)), fills(Some(2))],
+        [
+            ([Filled::Full, Filled::Full, gone], 0),
+            ([Filled::Full, Filled::Full, Filled::Failed], 1),
+            ([Filled::Full, Filled::Failed, Filled::Failed], 2)
+        ]
+    );
+}
+
+// A buffer of four that is filled a byte a call where call `fails_at` fails, its two next bytes, and the failures.
+fn fills_slowly(fails_at: u64) -> (Filled, Filled, u64) {
+    let mut reader = CountingReader::new(Slow { calls: 0, fails_at });
+    let mut place = [0u8; 4];
+    let four = fill(&mut reader, &mut place);
+    let none = fill(&mut reader, &mut []);
+    (four, none, reader.failures())
+}
+
+#[test]
+fn a_buffer_is_filled_a_byte_at_a_time(rt: HostRuntime) {
+    assert_eq!(rt;
+        [fills_slowly(5), fills_slowly(4)],
+        [
+            (Filled::Full, Filled::Full, 0),
+            (Filled::Failed, Filled::Full, 1)
+        ]
+    );
+}
+
+// What is left of three bytes in a buffer of four: the front, and how many.
+fn ends() -> (Filled, [u8; 4]) {
+    let mut reader = MemReader::new(b"abc", None);
+    let mut place = [b'-'; 4];
+    let told = fill(&mut reader, &mut place);
+    (told, place)
+}
+
+#[test]
+fn an_input_ends_in_a_buffer(rt: HostRuntime) {
+    assert_eq!(rt; ends(), (Filled::Ended { count: 3 }, *b"abc-"));
 }
 
 // Three bytes are read by twos up to the end, and then the fourth call fails.
@@ -438,6 +526,46 @@ fn memory_is_written(rt: HostRuntime) -> Result<(), Fail> {
     Ok(())
 }
 
+// Whether five bytes are put into room for so many, with a failure at this call, whether it is flushed then, how many
+// calls failed, and what it holds.
+fn put_in_room(
+    alloc: Global,
+    room: usize,
+    fails_at: Option<u64>,
+) -> Result<((bool, bool, u64), Vec<u8>), AllocError> {
+    let mut writer = MemWriter::with_room(alloc, room, fails_at)?;
+    let two = put_all(&mut writer, b"ab");
+    let all = two && put_all(&mut writer, b"cde");
+    let told = (all, writer.try_flush(), writer.failures());
+    Ok((told, writer.into_bytes()))
+}
+
+// The room, the call that fails, whether all is put, the failures, and what is held.
+const IN_ROOM: [(usize, Option<u64>, bool, u64, &[u8]); 5] = [
+    (5, None, true, 0, b"abcde"),
+    (5, Some(3), true, 0, b"abcde"),
+    (5, Some(2), false, 1, b"ab"),
+    (4, None, false, 1, b"abcd"),
+    (0, None, false, 1, b""),
+];
+
+// The first room that takes otherwise.
+fn first_otherwise(alloc: Global) -> Result<Option<usize>, AllocError> {
+    for (room, fails_at, all, failures, held) in IN_ROOM {
+        let (told, bytes) = put_in_room(alloc, room, fails_at)?;
+        if told != (all, true, failures) || bytes.as_slice() != held {
+            return Ok(Some(room));
+        }
+    }
+    Ok(None)
+}
+
+#[test]
+fn what_fits_is_put(rt: HostRuntime) -> Result<(), Fail> {
+    assert_eq!(rt; first_otherwise(rt.alloc())?, None);
+    Ok(())
+}
+
 #[test]
 fn laws_are_called() {
     laws::ball_is_paths();
@@ -455,6 +583,12 @@ fn laws_are_called() {
     laws::tallies_fit();
     laws::part_is_strided();
     laws::join_is_a_join();
+    laws::draws_are_waits();
+    laws::large_is_raw();
+    laws::all_are_counted();
+    laws::named_are_counted();
+    laws::lines_end();
+    laws::first_mark_divides();
     history::standing_is_posted();
     history::nothing_goes_back();
     history::floor_bounds_names();

@@ -1,0 +1,498 @@
+-- Runs of a world.
+use Rattle.std.proofs.Common.{◌≡◌, ◌≢◌, ◌⊎◌, ℕ, zero, suc, ◌+◌, ◌<◌, ◌≤◌, Bool, true, false, not, ◌==◌, ◌&&◌, nat_lt, if◌then◌else◌, List, [], ◌∷◌, ◌++◌, map, get_or, set, replicate, IfSome, option_map, refl, ap, sym, ◌∙◌, subst, inl, inr, arith}
+use Rattle.std.specs.Prelude.{Option, None, Some, Result, Ok, Err, unwrap_or}
+use Rattle.std.specs.List.{AllByRecursion, range_with_len, slice_get}
+use Rattle.std.proofs.lemmas.Bool.{cases_eq, and_parts, ltb-true, eqb-true, eqb-false, not-true}
+use Rattle.ball_model.specs.declared.names.BatchName.{BatchName}
+use Rattle.ball_model.specs.declared.names.NodeId.{NodeId}
+use Rattle.ball_model.specs.declared.names.Taken.{Taken}
+use Rattle.ball_model.specs.declared.names.Taken.TheVariants as taken
+use Rattle.ball_model.specs.declared.names.TakeError.{TakeError}
+use Rattle.ball_model.specs.declared.names.CloseError.{CloseError}
+use Rattle.ball_model.specs.declared.names.MergeError.{MergeError}
+use Rattle.ball_model.specs.declared.names.MergeError.TheVariants as unmerged
+use Rattle.ball_model.specs.declared.world.Event.{Event}
+use Rattle.ball_model.specs.declared.world.Event.TheVariants as event
+use Rattle.ball_model.specs.declared.world.Answer.{Answer}
+use Rattle.ball_model.specs.declared.world.Answer.TheVariants as answer
+use Rattle.ball_model.specs.declared.world.WorldError.{WorldError}
+use Rattle.ball_model.specs.declared.world.WorldError.TheVariants as refused
+use Rattle.ball_model.specs.PlanValue.{PlanValue}
+use Rattle.ball_model.specs.Job.{Job}
+use Rattle.ball_model.specs.Content.{Content, close_of}
+use Rattle.ball_model.specs.Join.{Holding, content_in, join_of, merge_of}
+use Rattle.ball_model.specs.Steps.{Take, Close, content_after_close}
+use Rattle.ball_model.specs.Held.{start_holding, held_take_answer, held_after, IsHeldBy, IsName}
+use Rattle.ball_model.specs.World.{Node, World, start_node, start_world, node_at, with_node, with_content, node_of, name_to, outcome_at, outcome_unless, recover_when, recover_at, deliver_at, taken_answer, answer_in, world_in, answer_of, after_event, run_of}
+use Rattle.ball_model.specs.WorldLaws.{IsNode, IsWorld, RunsStayWorlds, SentIsInTime, LossLeavesContents, OthersStay, RepeatIsNotNew, RecoverTwiceIsOnce, SparesKept, RestartGivesKept, IsNoRestart, OnlyRestartGoesBack}
+use Rattle.ball_model.proofs.HeldLemmas.{start_held, taken_held, closed_held, joined_held, held_alike, again_held}
+use Rattle.ball_model.proofs.JoinLemmas.{join_repeats, join_associates}
+
+-- ---- lists
+set_same : {X : Type 0} (xs : List X) (k : ℕ) (n m : X) → slice_get xs k ≡ Some n → slice_get (set xs k m) k ≡ Some m
+set_same [] k n m e = absurd (cc)
+set_same (x ∷ xs) zero n m e = refl
+set_same (x ∷ xs) (suc k) n m e = set_same xs k n m e
+
+set_other : {X : Type 0} (xs : List X) (k i : ℕ) (m : X) → i ≢ k → slice_get (set xs k m) i ≡ slice_get xs i
+set_other [] k i m ne = refl
+set_other (x ∷ xs) zero zero m ne = absurd (ne refl)
+set_other (x ∷ xs) zero (suc i) m ne = refl
+set_other (x ∷ xs) (suc k) zero m ne = refl
+set_other (x ∷ xs) (suc k) (suc i) m ne = set_other xs k i m (λ e. ne (ap suc e))
+
+set_back : {X : Type 0} (xs : List X) (k : ℕ) (n : X) → slice_get xs k ≡ Some n → set xs k n ≡ xs
+set_back [] k n e = absurd (cc)
+set_back (x ∷ xs) zero n e = let same : x ≡ n = some_one x n e in ap (λ (y : _). y ∷ xs) (sym same)
+  where
+    some_one : {X : Type 0} (x n : X) → Some x ≡ Some n → x ≡ n
+    some_one x n e = ap (λ o. unwrap_or o x) e
+set_back (x ∷ xs) (suc k) n e = ap (λ ys. x ∷ ys) (set_back xs k n e)
+
+-- a list of lists, where element k of list p is another
+abbrev pub changed : {X : Type 0} → List (List X) → ℕ → ℕ → X → List (List X)
+changed rows p k m = set rows p (set (get_or rows p []) k m)
+
+pub changed_same : {X : Type 0} (rows : List (List X)) (p k : ℕ) (n m : X) → slice_get (get_or rows p []) k ≡ Some n → slice_get (get_or (changed rows p k m) p []) k ≡ Some m
+changed_same [] p k n m e = absurd (cc)
+changed_same (r ∷ rows) zero k n m e = set_same r k n m e
+changed_same (r ∷ rows) (suc p) k n m e = changed_same rows p k n m e
+
+pub changed_row : {X : Type 0} (rows : List (List X)) (p k i : ℕ) (m : X) → i ≢ k → slice_get (get_or (changed rows p k m) p []) i ≡ slice_get (get_or rows p []) i
+changed_row [] p k i m ne = refl
+changed_row (r ∷ rows) zero k i m ne = set_other r k i m ne
+changed_row (r ∷ rows) (suc p) k i m ne = changed_row rows p k i m ne
+
+pub changed_other : {X : Type 0} (rows : List (List X)) (p q k : ℕ) (row : List X) → q ≢ p → get_or (set rows p row) q [] ≡ get_or rows q []
+changed_other [] p q k row ne = refl
+changed_other (r ∷ rows) zero zero k row ne = absurd (ne refl)
+changed_other (r ∷ rows) zero (suc q) k row ne = refl
+changed_other (r ∷ rows) (suc p) zero k row ne = refl
+changed_other (r ∷ rows) (suc p) (suc q) k row ne = changed_other rows p q k row (λ e. ne (ap suc e))
+
+pub changed_back : {X : Type 0} (rows : List (List X)) (p k : ℕ) (n : X) → slice_get (get_or rows p []) k ≡ Some n → changed rows p k n ≡ rows
+changed_back [] p k n e = absurd (cc)
+changed_back (r ∷ rows) zero k n e = ap (λ (x : _). x ∷ rows) (set_back r k n e)
+changed_back (r ∷ rows) (suc p) k n e = ap (λ (x : _). r ∷ x) (changed_back rows p k n e)
+
+-- what holds of each element holds with one more
+pub one_more : {X : Type 0} (P : X → Type 0) (xs : List X) (y : X) → ((m : ℕ) → IfSome (slice_get xs m) P) → P y → (m : ℕ) → IfSome (slice_get (xs ++ y ∷ []) m) P
+one_more P [] y h at zero = at
+one_more P [] y h at (suc m) = tt
+one_more P (x ∷ xs) y h at zero = h 0
+one_more P (x ∷ xs) y h at (suc m) = one_more P xs y (λ k. h (suc k)) at m
+
+-- ---- nodes
+pub id_same : (a b : NodeId) → a.part ≡ b.part → a.replica ≡ b.replica → a ≡ b
+id_same a b p k = λ i. record { part = p i; replica = k i }
+
+pub same_or_other : (a b : NodeId) → (a ≡ b) ⊎ (a ≢ b)
+same_or_other a b = elim (cases_eq a.part b.part) [
+  | inl p ↦ elim (cases_eq a.replica b.replica) [
+    | inl k ↦ inl (id_same a b p k)
+    | inr ne ↦ inr (λ e. ne (ap (λ (x : NodeId). x.replica) e))
+  ]
+  | inr ne ↦ inr (λ e. ne (ap (λ (x : NodeId). x.part) e))
+]
+
+pub node_same : (w : World) (id : NodeId) (n m : Node) → node_at w id ≡ Some n → node_at (with_node w id m) id ≡ Some m
+unfolding node_at
+node_same w id n m e = changed_same w.nodes id.part id.replica n m e
+
+pub node_other : (w : World) (id at : NodeId) (m : Node) → at ≢ id → node_at (with_node w id m) at ≡ node_at w at
+unfolding node_at
+node_other w id at m ne = elim (cases_eq at.part id.part) [
+  | inl p ↦
+      subst (λ (q : ℕ). slice_get (get_or (changed w.nodes id.part id.replica m) q []) at.replica ≡ slice_get (get_or w.nodes q []) at.replica) (sym p)
+      (changed_row w.nodes id.part id.replica at.replica m (λ k. ne (id_same at id p k)))
+  | inr other ↦ ap (λ (row : List Node). slice_get row at.replica) (changed_other w.nodes id.part at.part id.replica (set (get_or w.nodes id.part []) id.replica m) other)
+]
+
+pub node_back : (w : World) (id : NodeId) (n : Node) → node_at w id ≡ Some n → with_node w id n ≡ w
+unfolding node_at
+node_back w id n e = ap (λ (rows : List (List Node)). record w { nodes = rows }) (changed_back w.nodes id.part id.replica n e)
+
+-- ---- worlds of a job
+-- a world with another node is one of the job where that node is
+pub with_node_world : (j : Job) (w : World) (id : NodeId) (n m : Node) → IsWorld j w → node_at w id ≡ Some n → IsNode j id.part m → IsWorld j (with_node w id m)
+with_node_world j w id n m ok at fits = record {
+  nodes = λ other. elim (same_or_other other id) [
+    | inl same ↦ subst (λ (x : NodeId). IfSome (node_at (with_node w id m) x) (IsNode j x.part)) (sym same) (subst (λ (o : Option Node). IfSome o (IsNode j id.part)) (sym (node_same w id n m at)) fits)
+    | inr ne ↦ subst (λ (o : Option Node). IfSome o (IsNode j other.part)) (sym (node_other w id other m ne)) (ok.nodes other)
+  ];
+  sent = ok.sent;
+  copies = ok.copies;
+}
+
+-- the node is one of its partition
+pub node_is_one : (j : Job) (w : World) (id : NodeId) (n : Node) → IsWorld j w → node_at w id ≡ Some n → IsNode j id.part n
+node_is_one j w id n ok at = subst (λ (o : Option Node). IfSome o (IsNode j id.part)) at (ok.nodes id)
+
+with_content_world : (j : Job) (w : World) (id : NodeId) (n : Node) (h : Holding) → IsWorld j w → node_at w id ≡ Some n → IsHeldBy j id.part h → IsWorld j (with_content w id n h)
+with_content_world j w id n h ok at fits = with_node_world j w id n (record n { content = h }) ok at (record { content = fits; kept = (node_is_one j w id n ok at).kept })
+
+sent_world : (j : Job) (w : World) (id : NodeId) (n : Node) (q : ℕ) (b : Bool) → (nat_lt q j.plan.parts && not (q == n.content.partition)) ≡ b → IsWorld j w → node_at w id ≡ Some n → IsWorld j (world_in w (outcome_at j w n (event.Send id q)))
+unfolding node_at
+sent_world j w id n q false e ok at = rw e ok
+sent_world j w id n q true e ok at =
+    let both = and_parts (nat_lt q j.plan.parts) (not (q == n.content.partition)) e in
+    let h = (node_is_one j w id n ok at).content in
+    let name : IsName j.plan (name_to n q) = record {
+      superstep = subst (λ (plan : PlanValue). n.content.superstep ≤ plan.limit) h.plan h.holding.content.superstep;
+      source = subst (λ (p : ℕ). p < j.plan.parts) (sym h.partition) h.below;
+      target = ltb-true q j.plan.parts both.0;
+      other = λ same. eqb-false q n.content.partition (not-true (q == n.content.partition) both.1) (sym same);
+    } in
+    rw e (record { nodes = ok.nodes; sent = one_more (IsName j.plan) w.sent (name_to n q) ok.sent name; copies = ok.copies })
+
+delivered_world : (j : Job) (w : World) (id : NodeId) (n : Node) (o : Option BatchName) → IfSome o (IsName j.plan) → IsWorld j w → node_at w id ≡ Some n → IsWorld j (world_in w (deliver_at j w id n o))
+delivered_world j w id n None name ok at = ok
+delivered_world j w id n (Some m) name ok at = with_content_world j w id n (held_after j n.content (Take m)) ok at (taken_held j id.part n.content m (node_is_one j w id n ok at).content name)
+
+restarted_world : (j : Job) (w : World) (id : NodeId) (n : Node) (o : Option Holding) → IfSome o (IsHeldBy j id.part) → IsWorld j w → node_at w id ≡ Some n → IsWorld j (with_content w id n (unwrap_or o (start_holding j.plan n.content.partition)))
+restarted_world j w id n None kept ok at =
+    let h = (node_is_one j w id n ok at).content in
+    with_content_world j w id n (start_holding j.plan n.content.partition) ok at
+    (subst (λ (p : ℕ). IsHeldBy j id.part (start_holding j.plan p)) (sym h.partition) (start_held j id.part h.below))
+restarted_world j w id n (Some h) kept ok at = with_content_world j w id n h ok at kept
+
+-- a copy that may be merged is of the partition
+pub own_copy : (a b : Bool) (r : Unit {0}) → (if not a then Err unmerged.OtherJob else (if not b then Err unmerged.NotMine else Ok tt)) ≡ Ok r → b ≡ true
+own_copy false b r e = absurd (cc)
+own_copy true false r e = absurd (cc)
+own_copy true true r e = refl
+
+recovered_world : (j : Job) (w : World) (id : NodeId) (n : Node) (c : Holding) (r : Result (Unit {0}) MergeError) → merge_of n.content.plan n.content.partition c.plan c.partition ≡ r → IsHeldBy j c.partition c → IsWorld j w → node_at w id ≡ Some n → IsWorld j (world_in w (recover_when w id n c r))
+recovered_world j w id n c (Err e) is copy ok at = ok
+recovered_world j w id n c (Ok u) is copy ok at =
+    let h = (node_is_one j w id n ok at).content in
+    let same : c.partition ≡ n.content.partition = eqb-true c.partition n.content.partition (own_copy _ (c.partition == n.content.partition) u is) in
+    with_content_world j w id n (join_of n.content c) ok at (joined_held j id.part n.content c h (subst (λ (p : ℕ). IsHeldBy j p c) (same ∙ h.partition) copy))
+
+recover_world : (j : Job) (w : World) (id : NodeId) (n : Node) (o : Option Holding) → IfSome o (λ h. IsHeldBy j h.partition h) → IsWorld j w → node_at w id ≡ Some n → IsWorld j (world_in w (recover_at w id n o))
+recover_world j w id n None copy ok at = ok
+recover_world j w id n (Some c) copy ok at = recovered_world j w id n c (merge_of n.content.plan n.content.partition c.plan c.partition) refl copy ok at
+
+-- what an event at a node makes of a world of the job
+stays_at : (j : Job) (w : World) (n : Node) (e : Event) → IsWorld j w → node_at w (node_of e) ≡ Some n → IsWorld j (world_in w (outcome_at j w n e))
+unfolding node_at
+stays_at j w n (event.Send id q) ok at = sent_world j w id n q (nat_lt q j.plan.parts && not (q == n.content.partition)) refl ok at
+stays_at j w n (event.Deliver m id) ok at = delivered_world j w id n (slice_get w.sent m) (ok.sent m) ok at
+stays_at j w n (event.Close id) ok at = with_content_world j w id n (held_after j n.content Close) ok at (closed_held j id.part n.content (node_is_one j w id n ok at).content)
+stays_at j w n (event.Keep id) ok at = let h = (node_is_one j w id n ok at).content in with_node_world j w id n (record n { kept = Some n.content }) ok at (record { content = h; kept = h })
+stays_at j w n (event.Restart id) ok at = restarted_world j w id n n.kept (node_is_one j w id n ok at).kept ok at
+stays_at j w n (event.Copy id) ok at =
+    let h = (node_is_one j w id n ok at).content in
+    record { nodes = ok.nodes; sent = ok.sent; copies = one_more (λ (x : Holding). IsHeldBy j x.partition x) w.copies n.content ok.copies (subst (λ (p : ℕ). IsHeldBy j p n.content) (sym h.partition) h) }
+stays_at j w n (event.Recover id c) ok at = recover_world j w id n (slice_get w.copies c) (ok.copies c) ok at
+stays_at j w n (event.Show id) ok at = ok
+
+stays_unless : (j : Job) (w : World) (e : Event) (o : Option Node) → node_at w (node_of e) ≡ o → IsWorld j w → IsWorld j (world_in w (outcome_unless j w e o))
+stays_unless j w e None at ok = ok
+stays_unless j w e (Some n) at ok = stays_at j w n e ok at
+
+pub stays_world : (j : Job) (w : World) (e : Event) → IsWorld j w → IsWorld j (after_event j w e)
+stays_world j w e ok = stays_unless j w e (node_at w (node_of e)) refl ok
+
+pub run_stays : (j : Job) (w : World) (es : List Event) → IsWorld j w → IsWorld j (run_of j w es)
+unfolding run_of
+run_stays j w [] ok = ok
+run_stays j w (e ∷ es) ok = run_stays j (after_event j w e) es (stays_world j w e ok)
+
+-- ---- the start
+alike_node : (j : Job) (p count k : ℕ) → p < j.plan.parts → IfSome (slice_get (replicate count (start_node j.plan p)) k) (IsNode j p)
+alike_node j p zero k lt = tt
+alike_node j p (suc count) zero lt = record { content = start_held j p lt; kept = tt }
+alike_node j p (suc count) (suc k) lt = alike_node j p count k lt
+
+start_rows : (j : Job) (replicas a n p k : ℕ) → a + n ≤ j.plan.parts → IfSome (slice_get (get_or (map (λ q. replicate replicas (start_node j.plan q)) (range_with_len a n)) p []) k) (IsNode j (a + p))
+start_rows j replicas a zero p k within = tt
+start_rows j replicas a (suc n) zero k within =
+    let same : a + 0 ≡ a = omega arith in
+    subst (λ (q : ℕ). IfSome (slice_get (replicate replicas (start_node j.plan a)) k) (IsNode j q)) (sym same) (alike_node j a replicas k (omega (arith, within)))
+start_rows j replicas a (suc n) (suc p) k within =
+    let same : (a + 1) + p ≡ a + suc p = omega arith in
+    subst (λ (q : ℕ). IfSome (slice_get (get_or (map (λ r. replicate replicas (start_node j.plan r)) (range_with_len (a + 1) n)) p []) k) (IsNode j q)) same (start_rows j replicas (a + 1) n p k (omega (arith, within)))
+
+pub start_is_world : (j : Job) (replicas : ℕ) → IsWorld j (start_world j.plan replicas)
+unfolding start_world node_at
+start_is_world j replicas = record {
+  nodes = λ id. let same : 0 + id.part ≡ id.part = omega arith in
+      subst (λ (q : ℕ). IfSome (slice_get (get_or (map (λ r. replicate replicas (start_node j.plan r)) (range_with_len 0 j.plan.parts)) id.part []) id.replica) (IsNode j q)) same (start_rows j replicas 0 j.plan.parts id.part id.replica (omega arith));
+  sent = λ m. tt;
+  copies = λ c. tt;
+}
+
+-- ---- the laws
+pub runs_stay_worlds : RunsStayWorlds
+runs_stay_worlds j replicas es = run_stays j (start_world j.plan replicas) es (start_is_world j replicas)
+
+in_time_if : (plan : PlanValue) (o : Option BatchName) → IfSome o (IsName plan) → IfSome o (λ name. name.superstep ≤ plan.limit)
+in_time_if plan None h = tt
+in_time_if plan (Some name) h = h.superstep
+
+pub sent_is_in_time : SentIsInTime
+sent_is_in_time j replicas m es = in_time_if j.plan (slice_get (run_of j (start_world j.plan replicas) es).sent m) ((runs_stay_worlds j replicas es).sent m)
+
+held_if : (j : Job) (p : ℕ) (o : Option Node) → IfSome o (IsNode j p) → IfSome o (λ n. IsHeldBy j p n.content)
+held_if j p None h = tt
+held_if j p (Some n) h = h.content
+
+pub loss_leaves_contents : LossLeavesContents
+loss_leaves_contents j replicas before later id =
+    held_if j id.part (node_at (run_of j (start_world j.plan replicas) (before ++ later)) id)
+    ((runs_stay_worlds j replicas (before ++ later)).nodes id)
+
+-- ---- one event
+-- it changes at most its own node
+others_at : (j : Job) (w : World) (id : NodeId) (n : Node) (e : Event) → node_of e ≢ id → node_at (world_in w (outcome_at j w n e)) id ≡ node_at w id
+unfolding node_at
+others_at j w id n (event.Send at q) ne = others_sent (nat_lt q j.plan.parts && not (q == n.content.partition)) refl
+  where
+    others_sent : (b : Bool) → (nat_lt q j.plan.parts && not (q == n.content.partition)) ≡ b → node_at (world_in w (outcome_at j w n (event.Send at q))) id ≡ node_at w id
+    others_sent false e = rw e refl
+    others_sent true e = rw e refl
+others_at j w id n (event.Deliver m at) ne = others_taken (slice_get w.sent m)
+  where
+    others_taken : (o : Option BatchName) → node_at (world_in w (deliver_at j w at n o)) id ≡ node_at w id
+    others_taken None = refl
+    others_taken (Some name) = node_other w at id (record n { content = held_after j n.content (Take name) }) (λ e. ne (sym e))
+others_at j w id n (event.Close at) ne = node_other w at id (record n { content = held_after j n.content Close }) (λ e. ne (sym e))
+others_at j w id n (event.Keep at) ne = node_other w at id (record n { kept = Some n.content }) (λ e. ne (sym e))
+others_at j w id n (event.Restart at) ne = node_other w at id (record n { content = unwrap_or n.kept (start_holding j.plan n.content.partition) }) (λ e. ne (sym e))
+others_at j w id n (event.Copy at) ne = refl
+others_at j w id n (event.Recover at c) ne = others_merged (slice_get w.copies c)
+  where
+    others_when : (d : Holding) (r : Result (Unit {0}) MergeError) → node_at (world_in w (recover_when w at n d r)) id ≡ node_at w id
+    others_when d (Err e) = refl
+    others_when d (Ok u) = node_other w at id (record n { content = join_of n.content d }) (λ e. ne (sym e))
+
+    others_merged : (o : Option Holding) → node_at (world_in w (recover_at w at n o)) id ≡ node_at w id
+    others_merged None = refl
+    others_merged (Some d) = others_when d (merge_of n.content.plan n.content.partition d.plan d.partition)
+others_at j w id n (event.Show at) ne = refl
+
+others_unless : (j : Job) (w : World) (id : NodeId) (e : Event) (o : Option Node) → node_of e ≢ id → node_at (world_in w (outcome_unless j w e o)) id ≡ node_at w id
+others_unless j w id e None ne = refl
+others_unless j w id e (Some n) ne = others_at j w id n e ne
+
+pub others_stay : OthersStay
+others_stay j w id e ne = others_unless j w id e (node_at w (node_of e)) ne
+
+-- an event at a node that is there
+found_event : (j : Job) (w : World) (n : Node) (e : Event) → node_at w (node_of e) ≡ Some n → after_event j w e ≡ world_in w (outcome_at j w n e)
+found_event j w n e at = ap (λ o. world_in w (outcome_unless j w e o)) at
+
+found_answer : (j : Job) (w : World) (n : Node) (e : Event) → node_at w (node_of e) ≡ Some n → answer_of j w e ≡ answer_in (outcome_at j w n e)
+found_answer j w n e at = ap (λ o. answer_in (outcome_unless j w e o)) at
+
+-- ---- a message that comes again
+abbrev ok_answer : Answer → Result Answer WorldError
+ok_answer a = Ok a
+
+abbrev no_answer : WorldError → Result Answer WorldError
+no_answer e = Err e
+
+took_in : Result Taken TakeError → Result Answer WorldError → Result Taken TakeError
+took_in r (Ok (answer.Took x)) = Ok x
+took_in r other = r
+
+took_back : (r : Result Taken TakeError) (t : Taken) → ok_answer (taken_answer r) ≡ ok_answer (answer.Took t) → r ≡ Ok t
+unfolding took_in
+took_back (Ok s) t e = ap (took_in (Ok s)) e
+took_back (Err x) t e = ap (took_in (Err x)) e
+
+repeat_at : (j : Job) (w : World) (id : NodeId) (m : ℕ) (first : Taken) (n : Node) (o : Option BatchName) → node_at w id ≡ Some n → slice_get w.sent m ≡ o → IsWorld j w →
+    answer_of j w (event.Deliver m id) ≡ Ok (answer.Took first) →
+    (second : Taken) × (answer_of j (after_event j w (event.Deliver m id)) (event.Deliver m id) ≡ Ok (answer.Took second)) × (second ≢ taken.New)
+repeat_at j w id m first n None at sent ok is =
+    absurd (let e : no_answer refused.NoMessage ≡ ok_answer (answer.Took first) = sym (found_answer j w n (event.Deliver m id) at ∙ ap (λ o. answer_in (deliver_at j w id n o)) sent) ∙ is in cc)
+repeat_at j w id m first n (Some name) at sent ok is =
+    let named : IsName j.plan name = subst (λ (o : Option BatchName). IfSome o (IsName j.plan)) sent (ok.sent m) in
+    let held = (node_is_one j w id n ok at).content in
+    let answered : held_take_answer j n.content name ≡ Ok first = took_back (held_take_answer j n.content name) first (sym (found_answer j w n (event.Deliver m id) at ∙ ap (λ o. answer_in (deliver_at j w id n o)) sent) ∙ is) in
+    let again = again_held j id.part n.content name first held named answered in
+    let next : Node = record n { content = held_after j n.content (Take name) } in
+    let v : World = with_node w id next in
+    let after : after_event j w (event.Deliver m id) ≡ v = found_event j w n (event.Deliver m id) at ∙ ap (λ o. world_in w (deliver_at j w id n o)) sent in
+    let here : node_at v id ≡ Some next = node_same w id n next at in (
+      again.0,
+      ap (λ (u : World). answer_of j u (event.Deliver m id)) after
+          ∙ found_answer j v next (event.Deliver m id) here
+          ∙ ap (λ o. answer_in (deliver_at j v id next o)) sent
+          ∙ ap (λ r. Ok (taken_answer r)) again.1,
+      again.2,
+    )
+
+pub repeat_is_not_new : RepeatIsNotNew
+repeat_is_not_new j w id m first ok is = by (node_at w id) refl
+  where
+    by : (o : Option Node) → node_at w id ≡ o → (second : Taken) × (answer_of j (after_event j w (event.Deliver m id)) (event.Deliver m id) ≡ Ok (answer.Took second)) × (second ≢ taken.New)
+    by None at = absurd (let e : no_answer refused.NoNode ≡ ok_answer (answer.Took first) = sym (ap (λ o. answer_in (outcome_unless j w (event.Deliver m id) o)) at) ∙ is in cc)
+    by (Some n) at = repeat_at j w id m first n (slice_get w.sent m) at refl ok is
+
+-- ---- recovering twice
+twice_idle : (j : Job) (w : World) (e : Event) → after_event j w e ≡ w → after_event j (after_event j w e) e ≡ after_event j w e
+twice_idle j w e same = ap (λ (v : World). after_event j v e) same
+
+joined_twice : (j : Job) (p : ℕ) (h c : Holding) → IsHeldBy j p h → IsHeldBy j p c → join_of (join_of h c) c ≡ join_of h c
+joined_twice j p h c hb cb =
+    let a = held_alike j p h c hb cb in
+    let b = held_alike j p c c cb cb in
+    join_associates h c c a b ∙ ap (join_of h) (join_repeats c b)
+
+recover_when_twice : (j : Job) (w : World) (id : NodeId) (c : ℕ) (n : Node) (d : Holding) (r : Result (Unit {0}) MergeError) → node_at w id ≡ Some n → slice_get w.copies c ≡ Some d → merge_of n.content.plan n.content.partition d.plan d.partition ≡ r → IsWorld j w →
+    after_event j (after_event j w (event.Recover id c)) (event.Recover id c) ≡ after_event j w (event.Recover id c)
+recover_when_twice j w id c n d (Err e) at copy is ok =
+    twice_idle j w (event.Recover id c)
+    (found_event j w n (event.Recover id c) at ∙ ap (λ o. world_in w (recover_at w id n o)) copy ∙ ap (λ r. world_in w (recover_when w id n d r)) is)
+recover_when_twice j w id c n d (Ok u) at copy is ok =
+    let held = (node_is_one j w id n ok at).content in
+    let made : IsHeldBy j d.partition d = subst (λ (o : Option Holding). IfSome o (λ h. IsHeldBy j h.partition h)) copy (ok.copies c) in
+    let same : d.partition ≡ n.content.partition = eqb-true d.partition n.content.partition (own_copy _ (d.partition == n.content.partition) u is) in
+    let mine : IsHeldBy j id.part d = subst (λ (p : ℕ). IsHeldBy j p d) (same ∙ held.partition) made in
+    let next : Node = record n { content = join_of n.content d } in
+    let v : World = with_node w id next in
+    let after : after_event j w (event.Recover id c) ≡ v = found_event j w n (event.Recover id c) at ∙ ap (λ o. world_in w (recover_at w id n o)) copy ∙ ap (λ r. world_in w (recover_when w id n d r)) is in
+    let here : node_at v id ≡ Some next = node_same w id n next at in
+    let again : after_event j v (event.Recover id c) ≡ with_node v id (record next { content = join_of (join_of n.content d) d }) = found_event j v next (event.Recover id c) here ∙ ap (λ o. world_in v (recover_at v id next o)) copy ∙ ap (λ r. world_in v (recover_when v id next d r)) is in
+    ap (λ (x : World). after_event j x (event.Recover id c)) after
+    ∙ again
+    ∙ ap (λ (h : Holding). with_node v id (record next { content = h })) (joined_twice j id.part n.content d held mine)
+    ∙ node_back v id next here
+    ∙ sym after
+
+recover_copy_twice : (j : Job) (w : World) (id : NodeId) (c : ℕ) (n : Node) (o : Option Holding) → node_at w id ≡ Some n → slice_get w.copies c ≡ o → IsWorld j w →
+    after_event j (after_event j w (event.Recover id c)) (event.Recover id c) ≡ after_event j w (event.Recover id c)
+recover_copy_twice j w id c n None at copy ok =
+    twice_idle j w (event.Recover id c) (found_event j w n (event.Recover id c) at ∙ ap (λ o. world_in w (recover_at w id n o)) copy)
+recover_copy_twice j w id c n (Some d) at copy ok = recover_when_twice j w id c n d (merge_of n.content.plan n.content.partition d.plan d.partition) at copy refl ok
+
+pub recover_twice_is_once : RecoverTwiceIsOnce
+recover_twice_is_once j w id c ok = by (node_at w id) refl
+  where
+    by : (o : Option Node) → node_at w id ≡ o → after_event j (after_event j w (event.Recover id c)) (event.Recover id c) ≡ after_event j w (event.Recover id c)
+    by None at = twice_idle j w (event.Recover id c) (ap (λ o. world_in w (outcome_unless j w (event.Recover id c) o)) at)
+    by (Some n) at = recover_copy_twice j w id c n (slice_get w.copies c) at refl ok
+
+-- ---- what is kept
+-- the node keeps that content
+record HasKept (w : World) (id : NodeId) (h : Holding) : Type 0 where
+  node : Node
+  at : node_at w id ≡ Some node
+  kept : node.kept ≡ Some h
+
+kept_with : (w : World) (id : NodeId) (n : Node) (h d : Holding) → node_at w id ≡ Some n → n.kept ≡ Some h → HasKept (with_content w id n d) id h
+kept_with w id n h d at kept = record { node = record n { content = d }; at = node_same w id n (record n { content = d }) at; kept = kept }
+
+kept_still : (w : World) (id : NodeId) (n : Node) (h : Holding) → node_at w id ≡ Some n → n.kept ≡ Some h → HasKept w id h
+kept_still w id n h at kept = record { node = n; at = at; kept = kept }
+
+kept_at : (j : Job) (w : World) (n : Node) (h : Holding) (e : Event) → SparesKept (node_of e) e → node_at w (node_of e) ≡ Some n → n.kept ≡ Some h → HasKept (world_in w (outcome_at j w n e)) (node_of e) h
+unfolding node_at
+kept_at j w n h (event.Send id q) spares at kept = by (nat_lt q j.plan.parts && not (q == n.content.partition)) refl
+  where
+    by : (b : Bool) → (nat_lt q j.plan.parts && not (q == n.content.partition)) ≡ b → HasKept (world_in w (outcome_at j w n (event.Send id q))) id h
+    by false e = rw e (kept_still w id n h at kept)
+    by true e = rw e (record { node = n; at = at; kept = kept })
+kept_at j w n h (event.Deliver m id) spares at kept = by (slice_get w.sent m)
+  where
+    by : (o : Option BatchName) → HasKept (world_in w (deliver_at j w id n o)) id h
+    by None = kept_still w id n h at kept
+    by (Some name) = kept_with w id n h (held_after j n.content (Take name)) at kept
+kept_at j w n h (event.Close id) spares at kept = kept_with w id n h (held_after j n.content Close) at kept
+kept_at j w n h (event.Keep id) spares at kept = absurd (spares refl)
+kept_at j w n h (event.Restart id) spares at kept = kept_with w id n h (unwrap_or n.kept (start_holding j.plan n.content.partition)) at kept
+kept_at j w n h (event.Copy id) spares at kept = record { node = n; at = at; kept = kept }
+kept_at j w n h (event.Recover id c) spares at kept = by (slice_get w.copies c)
+  where
+    when : (d : Holding) (r : Result (Unit {0}) MergeError) → HasKept (world_in w (recover_when w id n d r)) id h
+    when d (Err e) = kept_still w id n h at kept
+    when d (Ok u) = kept_with w id n h (join_of n.content d) at kept
+
+    by : (o : Option Holding) → HasKept (world_in w (recover_at w id n o)) id h
+    by None = kept_still w id n h at kept
+    by (Some d) = when d (merge_of n.content.plan n.content.partition d.plan d.partition)
+kept_at j w n h (event.Show id) spares at kept = kept_still w id n h at kept
+
+kept_step : (j : Job) (w : World) (id : NodeId) (h : Holding) (e : Event) → SparesKept id e → HasKept w id h → HasKept (after_event j w e) id h
+kept_step j w id h e spares k = elim (same_or_other (node_of e) id) [
+  | inl same ↦
+      let spared : SparesKept (node_of e) e = subst (λ (x : NodeId). SparesKept x e) (sym same) spares in
+      let at : node_at w (node_of e) ≡ Some k.node = subst (λ (x : NodeId). node_at w x ≡ Some k.node) (sym same) k.at in
+      subst (λ (x : NodeId). HasKept (after_event j w e) x h) same
+      (subst (λ (v : World). HasKept v (node_of e) h) (sym (found_event j w k.node e at)) (kept_at j w k.node h e spared at k.kept))
+  | inr ne ↦ record { node = k.node; at = others_stay j w id e ne ∙ k.at; kept = k.kept }
+]
+
+kept_all : (j : Job) (w : World) (id : NodeId) (h : Holding) (es : List Event) → AllByRecursion (SparesKept id) es → HasKept w id h → HasKept (run_of j w es) id h
+unfolding run_of
+kept_all j w id h [] spares k = k
+kept_all j w id h (e ∷ es) spares k = kept_all j (after_event j w e) id h es spares.1 (kept_step j w id h e spares.0 k)
+
+restarted : (j : Job) (w : World) (id : NodeId) (h : Holding) → HasKept w id h → option_map (λ (m : Node). m.content) (node_at (after_event j w (event.Restart id)) id) ≡ Some h
+restarted j w id h k =
+    let n = k.node in
+    let d = unwrap_or n.kept (start_holding j.plan n.content.partition) in
+    let given : d ≡ h = ap (λ o. unwrap_or o (start_holding j.plan n.content.partition)) k.kept in
+    ap (λ (v : World). option_map (λ (m : Node). m.content) (node_at v id)) (found_event j w n (event.Restart id) k.at)
+    ∙ ap (option_map (λ (m : Node). m.content)) (node_same w id n (record n { content = d }) k.at)
+    ∙ ap Some given
+
+pub restart_gives_kept : RestartGivesKept
+restart_gives_kept j w id n es at spares =
+    let v : World = with_node w id (record n { kept = Some n.content }) in
+    let after : after_event j w (event.Keep id) ≡ v = found_event j w n (event.Keep id) at in
+    let first : HasKept v id n.content = record { node = record n { kept = Some n.content }; at = node_same w id n (record n { kept = Some n.content }) at; kept = refl } in
+    restarted j (run_of j (after_event j w (event.Keep id)) es) id n.content
+    (kept_all j (after_event j w (event.Keep id)) id n.content es spares (subst (λ (x : World). HasKept x id n.content) (sym after) first))
+
+-- ---- supersteps
+abbrev Rises : ℕ → Option Node → Type 0
+Rises t o = IfSome o (λ m. t ≤ m.content.superstep)
+
+rise_with : (w : World) (id : NodeId) (n : Node) (d : Holding) → node_at w id ≡ Some n → n.content.superstep ≤ d.superstep → Rises n.content.superstep (node_at (with_content w id n d) id)
+rise_with w id n d at le = subst (Rises n.content.superstep) (sym (node_same w id n (record n { content = d }) at)) le
+
+rise_still : (w : World) (id : NodeId) (n : Node) → node_at w id ≡ Some n → Rises n.content.superstep (node_at w id)
+rise_still w id n at = let le : n.content.superstep ≤ n.content.superstep = omega arith in subst (Rises n.content.superstep) (sym at) le
+
+rise_close : (r : Result ℕ CloseError) (c : Content) → c.superstep ≤ (content_after_close r c).superstep
+rise_close (Ok t) c = omega arith
+rise_close (Err e) c = omega arith
+
+rise_at : (j : Job) (w : World) (n : Node) (e : Event) → IsNoRestart e → node_at w (node_of e) ≡ Some n → Rises n.content.superstep (node_at (world_in w (outcome_at j w n e)) (node_of e))
+unfolding node_at
+rise_at j w n (event.Send id q) stays at = by (nat_lt q j.plan.parts && not (q == n.content.partition)) refl
+  where
+    by : (b : Bool) → (nat_lt q j.plan.parts && not (q == n.content.partition)) ≡ b → Rises n.content.superstep (node_at (world_in w (outcome_at j w n (event.Send id q))) id)
+    by false e = rw e (rise_still w id n at)
+    by true e = rw e (rise_still w id n at)
+rise_at j w n (event.Deliver m id) stays at = by (slice_get w.sent m)
+  where
+    by : (o : Option BatchName) → Rises n.content.superstep (node_at (world_in w (deliver_at j w id n o)) id)
+    by None = rise_still w id n at
+    by (Some name) = let le : n.content.superstep ≤ n.content.superstep = omega arith in rise_with w id n (held_after j n.content (Take name)) at le
+rise_at j w n (event.Close id) stays at = rise_with w id n (held_after j n.content Close) at (rise_close (close_of j n.content.partition (content_in n.content)) (content_in n.content))
+rise_at j w n (event.Keep id) stays at = let le : n.content.superstep ≤ n.content.superstep = omega arith in subst (Rises n.content.superstep) (sym (node_same w id n (record n { kept = Some n.content }) at)) le
+rise_at j w n (event.Restart id) stays at = absurd stays
+rise_at j w n (event.Copy id) stays at = rise_still w id n at
+rise_at j w n (event.Recover id c) stays at = by (slice_get w.copies c)
+  where
+    when : (d : Holding) (r : Result (Unit {0}) MergeError) → Rises n.content.superstep (node_at (world_in w (recover_when w id n d r)) id)
+    when d (Err e) = rise_still w id n at
+    when d (Ok u) = rise_with w id n (join_of n.content d) at (omega arith)
+
+    by : (o : Option Holding) → Rises n.content.superstep (node_at (world_in w (recover_at w id n o)) id)
+    by None = rise_still w id n at
+    by (Some d) = when d (merge_of n.content.plan n.content.partition d.plan d.partition)
+rise_at j w n (event.Show id) stays at = rise_still w id n at
+
+pub only_restart_goes_back : OnlyRestartGoesBack
+only_restart_goes_back j w id n e stays at = elim (same_or_other (node_of e) id) [
+  | inl same ↦
+      let here : node_at w (node_of e) ≡ Some n = subst (λ (x : NodeId). node_at w x ≡ Some n) (sym same) at in
+      subst (λ (x : NodeId). Rises n.content.superstep (node_at (after_event j w e) x)) same
+      (subst (λ (v : World). Rises n.content.superstep (node_at v (node_of e))) (sym (found_event j w n e here)) (rise_at j w n e stays here))
+  | inr ne ↦ subst (Rises n.content.superstep) (sym (others_stay j w id e ne)) (rise_still w id n at)
+]

@@ -1,0 +1,87 @@
+-- What the events of a world mean, in the subject's own words. Each is the contract of a function of src/world.rt.
+use Rattle.std.specs.Prelude.{◌≡◌, ◌≢◌, ⊤, ℕ, ◌≤◌, List, ◌++◌, Some, IfSome, option_map, Ok}
+use Rattle.std.specs.List.{AllByRecursion, slice_get}
+use Rattle.ball_model.specs.declared.names.NodeId.{NodeId}
+use Rattle.ball_model.specs.declared.names.Taken.{Taken}
+use Rattle.ball_model.specs.declared.names.Taken.TheVariants as taken
+use Rattle.ball_model.specs.declared.world.Event.{Event}
+use Rattle.ball_model.specs.declared.world.Event.TheVariants as event
+use Rattle.ball_model.specs.declared.world.Answer.TheVariants as answer
+use Rattle.ball_model.specs.Job.{Job}
+use Rattle.ball_model.specs.Held.{IsHeldBy, IsName}
+use Rattle.ball_model.specs.World.{World, Node, start_world, node_at, node_of, answer_of, after_event, run_of}
+
+-- a node of partition p: what it holds and what it keeps are contents of that partition
+pub record IsNode (j : Job) (p : ℕ) (n : Node) : Type 0 where
+  pub content : IsHeldBy j p n.content
+  pub kept : IfSome n.kept (IsHeldBy j p)
+
+-- a world of the job: its nodes and copies have contents of the job, and what was sent may be told
+pub record IsWorld (j : Job) (w : World) : Type 0 where
+  pub nodes : (id : NodeId) → IfSome (node_at w id) (IsNode j id.part)
+  pub sent : (m : ℕ) → IfSome (slice_get w.sent m) (IsName j.plan)
+  pub copies : (c : ℕ) → IfSome (slice_get w.copies c) (λ h. IsHeldBy j h.partition h)
+
+-- whatever happens, and whatever is lost, comes twice or comes too early, the world stays one of the job: from the
+-- start, after any list of events
+abbrev pub RunsStayWorlds : Type 0
+RunsStayWorlds = (j : Job) (replicas : ℕ) (es : List Event) →
+    IsWorld j (run_of j (start_world j.plan replicas) es)
+
+-- what is sent is of a superstep of at most the limit
+abbrev pub SentIsInTime : Type 0
+SentIsInTime = (j : Job) (replicas m : ℕ) (es : List Event) →
+    IfSome (slice_get (run_of j (start_world j.plan replicas) es).sent m)
+    (λ name. name.superstep ≤ j.plan.limit)
+
+-- a loss: where a delivery is left out between the events before it and those that follow, each node still has a
+-- content of the same job
+abbrev pub LossLeavesContents : Type 0
+LossLeavesContents = (j : Job) (replicas : ℕ) (before later : List Event) (id : NodeId) →
+    IfSome (node_at (run_of j (start_world j.plan replicas) (before ++ later)) id)
+    (λ n. IsHeldBy j id.part n.content)
+
+-- an event at another node changes nothing at a node
+abbrev pub OthersStay : Type 0
+OthersStay = (j : Job) (w : World) (id : NodeId) (e : Event) → node_of e ≢ id →
+    node_at (after_event j w e) id ≡ node_at w id
+
+-- a message that was taken, was known or was old is known or old when it comes again
+abbrev pub RepeatIsNotNew : Type 0
+RepeatIsNotNew = (j : Job) (w : World) (id : NodeId) (m : ℕ) (first : Taken) → IsWorld j w →
+    answer_of j w (event.Deliver m id) ≡ Ok (answer.Took first) →
+    (second : Taken)
+    × (answer_of j (after_event j w (event.Deliver m id)) (event.Deliver m id)
+    ≡ Ok (answer.Took second))
+    × (second ≢ taken.New)
+
+-- recovering twice from one copy is recovering once
+abbrev pub RecoverTwiceIsOnce : Type 0
+RecoverTwiceIsOnce = (j : Job) (w : World) (id : NodeId) (c : ℕ) → IsWorld j w →
+    after_event j (after_event j w (event.Recover id c)) (event.Recover id c)
+    ≡ after_event j w (event.Recover id c)
+
+-- the event is no keeping of that node
+abbrev pub SparesKept : NodeId → Event → Type 0
+SparesKept id (event.Keep other) = other ≢ id
+SparesKept id e = ⊤
+
+-- a restart gives the content that the node kept last, whatever happened since
+abbrev pub RestartGivesKept : Type 0
+RestartGivesKept = (j : Job) (w : World) (id : NodeId) (n : Node) (es : List Event) →
+    node_at w id ≡ Some n → AllByRecursion (SparesKept id) es →
+    option_map (λ m. m.content)
+    (node_at
+    (after_event j (run_of j (after_event j w (event.Keep id)) es) (event.Restart id)) id)
+    ≡ Some n.content
+
+-- the event is no restart
+abbrev pub IsNoRestart : Event → Type 0
+IsNoRestart (event.Restart id) = ⊥
+IsNoRestart e = ⊤
+
+-- a node's superstep goes down only by a restart
+abbrev pub OnlyRestartGoesBack : Type 0
+OnlyRestartGoesBack = (j : Job) (w : World) (id : NodeId) (n : Node) (e : Event) →
+    IsNoRestart e → node_at w id ≡ Some n →
+    IfSome (node_at (after_event j w e) id) (λ m. n.content.superstep ≤ m.content.superstep)
