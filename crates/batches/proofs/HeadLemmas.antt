@@ -2,7 +2,7 @@
 use Rattle.std.proofs.Common.{◌≡◌, ℕ, ◌+◌, ◌^◌, ◌<◌, ◌≤◌, List, [], ◌∷◌, ◌++◌, length, get_or, take, drop, refl, sym, ap, ◌∙◌, append_assoc, arith, inl, inr}
 use Rattle.std.specs.Int.{w16, w32, from_be_bytes, to_be_bytes}
 use Rattle.std.proofs.lemmas.Bool.{cases_lt}
-use Rattle.std.proofs.lemmas.List.{take_at, drop_at, drop_more, take-append-drop, length-append, length-take, length-drop, get_or-drop, get_or-take, get_or_past, drop-drop}
+use Rattle.std.proofs.lemmas.List.{take_all, take_at, drop_at, drop_more, take-append-drop, length-append, length-take, length-drop, get_or-drop, get_or-take, get_or_past, drop-drop}
 use Rattle.std.proofs.lemmas.Nat.{be_bytes_2, be_bytes_4, from_be_bytes-to_be_bytes_2, from_be_bytes-to_be_bytes_4}
 use Rattle.batches.specs.declared.header.Header.{Header}
 use Rattle.batches.specs.Kept.{field}
@@ -117,9 +117,12 @@ pub job_len : (bytes : List ℕ) → 54 ≤ length bytes → length (head_at byt
 unfolding head_at
 job_len bytes long = omega (arith, length-take 32 (drop 14 bytes), length-drop 14 bytes)
 
--- the fields appended one after another
-pub fields_are : (h : Header) (o0 o1 o2 o3 o4 o5 : List ℕ) → o1 ≡ o0 ++ to_be_bytes w32 h.magic ++ h.version ∷ h.log2m ∷ []
-    → o2 ≡ o1 ++ to_be_bytes w32 h.name.superstep ++ to_be_bytes w16 h.name.source ++ to_be_bytes w16 h.name.target
-    → o3 ≡ o2 ++ h.job → o4 ≡ o3 ++ to_be_bytes w32 h.changed → o5 ≡ o4 ++ to_be_bytes w32 h.count → o5 ≡ o0 ++ head_bytes h
+-- the fields set one behind another
+pub fields_are : (h : Header) (b1 b2 b3 b4 b5 b6 b7 b8 : List ℕ) → take 4 b1 ≡ to_be_bytes w32 h.magic
+    → take 6 b2 ≡ take 4 b1 ++ h.version ∷ h.log2m ∷ [] → take 10 b3 ≡ take 6 b2 ++ to_be_bytes w32 h.name.superstep
+    → take 12 b4 ≡ take 10 b3 ++ to_be_bytes w16 h.name.source → take 14 b5 ≡ take 12 b4 ++ to_be_bytes w16 h.name.target
+    → take 46 b6 ≡ take 14 b5 ++ h.job → take 50 b7 ≡ take 46 b6 ++ to_be_bytes w32 h.changed
+    → take 54 b8 ≡ take 50 b7 ++ to_be_bytes w32 h.count → length b8 ≡ 54 → b8 ≡ head_bytes h
 unfolding head_bytes
-fields_are h o0 o1 o2 o3 o4 o5 e1 e2 e3 e4 e5 = rw (e5, e4, e3, e2, e1) (simp append_assoc refl)
+fields_are h b1 b2 b3 b4 b5 b6 b7 b8 e1 e2 e3 e4 e5 e6 e7 e8 long =
+    sym (take_all 54 b8 (omega (arith, long))) ∙ rw (e8, e7, e6, e5, e4, e3, e2, e1) (simp append_assoc refl)

@@ -5,7 +5,7 @@ use Rattle.std.proofs.Math.Nat.{pow-le-pow_right}
 use Rattle.std.proofs.lemmas.Bool.{ltb-false, le-ltb, cases_lt}
 use Rattle.std.proofs.lemmas.List.{length-append, length-drop, get_or_past}
 use Rattle.ball_model.specs.PlanValue.{PlanValue, IsPlan, part_size}
-use Rattle.ball_model.specs.Batches.{BatchValue, IsRow, IsBatch, row_bytes, batch_bytes}
+use Rattle.ball_model.specs.Batches.{BatchValue, IsRow, IsBatch, row_bytes, header_bytes, batch_bytes}
 use Rattle.batches.specs.declared.error.BatchError.{BatchError}
 use Rattle.batches.specs.declared.error.BatchError.TheVariants as errors
 use Rattle.batches.specs.declared.header.Header.{Header}
@@ -22,8 +22,12 @@ head_of b = record { magic = magic; version = 1; log2m = b.plan.log2m; name = b.
 
 -- the spelling is that of the fixed fields, and the rows
 pub batch_bytes-head : (b : BatchValue) → batch_bytes b ≡ head_bytes (head_of b) ++ flat_map row_bytes b.rows
-unfolding batch_bytes head_bytes
+unfolding batch_bytes header_bytes head_bytes
 batch_bytes-head b = refl
+
+pub header_bytes-head : (b : BatchValue) → head_bytes (head_of b) ≡ header_bytes b
+unfolding header_bytes head_bytes
+header_bytes-head b = refl
 
 -- what all checks say
 pub record IsChecked (plan : PlanValue) (bytes : List ℕ) (h : Header) : Type 0 where
@@ -231,13 +235,24 @@ kept_read plan p bytes ids registers h m ok c e_m e_p rows room =
     }
 
 -- what is written is the spelling
-pub written_is : (b : BatchValue) (h : Header) (m : ℕ) (ids registers o0 o1 o2 : List ℕ) → Kept b ids registers → h ≡ head_of b → m ≡ 2 ^ b.plan.log2m
-    → o0 ≡ [] → o1 ≡ o0 ++ head_bytes h → o2 ≡ o1 ++ flat_map row_bytes (paired_rows m ids registers) → o2 ≡ batch_bytes b
-written_is b h m ids registers o0 o1 o2 kept e_h e_m e0 e1 e2 =
-    let first : o1 ≡ head_bytes (head_of b) = rw (e0, e_h) at e1 in
+pub written_is : (b : BatchValue) (m : ℕ) (ids registers o0 o1 o2 : List ℕ) → Kept b ids registers → m ≡ 2 ^ b.plan.log2m
+    → o0 ≡ [] → o1 ≡ o0 ++ header_bytes b → o2 ≡ o1 ++ flat_map row_bytes (paired_rows m ids registers) → o2 ≡ batch_bytes b
+unfolding batch_bytes
+written_is b m ids registers o0 o1 o2 kept e_m e0 e1 e2 =
+    let first : o1 ≡ header_bytes b = rw e0 at e1 in
     let rows : paired_rows m ids registers ≡ b.rows = ap (λ (w : ℕ). paired_rows w ids registers) e_m ∙ sym kept.rows in
     e2 ∙ ap (λ (t : List ℕ). t ++ flat_map row_bytes (paired_rows m ids registers)) first
-    ∙ ap (λ (rs : List (ℕ × List ℕ)). head_bytes (head_of b) ++ flat_map row_bytes rs) rows ∙ sym (batch_bytes-head b)
+    ∙ ap (λ (rs : List (ℕ × List ℕ)). header_bytes b ++ flat_map row_bytes rs) rows
+
+-- how many bytes a batch has
+pub batch_length : (b : BatchValue) → IsBatch b → length (batch_bytes b) ≡ 54 + length b.rows * (4 + 2 ^ b.plan.log2m)
+batch_length b is =
+    let head = head_bytes (head_of b) in
+    let body = flat_map row_bytes b.rows in
+    let are : AreRows b.plan b.name.source 0 b.rows = rows_are b.plan b.name.source 0 b.rows (λ some. omega arith) is.rows is.ascending in
+    let first : length head ≡ 54 = head_len (head_of b) is.plan.digest in
+    let rest : length body ≡ length b.rows * (4 + 2 ^ b.plan.log2m) = flat_len (2 ^ b.plan.log2m) b.rows (rows_wide b.plan b.name.source 0 b.rows is.plan.vertices_to are) in
+    ap length (batch_bytes-head b) ∙ length-append head body ∙ omega (arith, first, rest)
 
 -- where the checks refuse, no batch has these bytes
 pub only_refused : (plan : PlanValue) (bytes : List ℕ) (e : BatchError) → Err e ≡ check_at plan bytes → (b : BatchValue) → IsBatch b → AgreesButJob plan b.plan → bytes ≡ batch_bytes b → GivesOrMemory (Err e) (Ok b)

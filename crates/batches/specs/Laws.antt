@@ -1,10 +1,12 @@
 -- What the spelling of batches means. Each is the contract of a function of src/laws.rt.
-use Rattle.std.specs.Prelude.{◌≡◌, ◌<◌, ◌≤◌, ℕ, List, Ok}
+use Rattle.std.specs.Prelude.{◌≡◌, ◌<◌, ◌≤◌, ◌+◌, ◌*◌, ◌^◌, ℕ, List, length, Ok}
 use Rattle.std.specs.List.{All}
 use Rattle.ball_model.specs.PlanValue.{PlanValue}
 use Rattle.ball_model.specs.declared.names.BatchName.{BatchName}
 use Rattle.ball_model.specs.Job.{Job, IsJob}
 use Rattle.ball_model.specs.Batches.{BatchValue, IsBatch, batch_bytes, true_batch}
+use Rattle.batches.specs.declared.header.TheConstants.{HEADER_LEN}
+use Rattle.batches.specs.declared.rows.TheConstants.{ID_LEN}
 use Rattle.batches.specs.Reading.{batch_at, AgreesButJob}
 
 -- the spelling of a batch is read as that batch, under its plan whatever the plan's digest
@@ -21,6 +23,11 @@ SpellingIsOne = (plan : PlanValue) (bytes : List ℕ) (b : BatchValue) → All (
 abbrev pub BatchIsOne : Type 0
 BatchIsOne = (a b : BatchValue) → IsBatch a → IsBatch b → AgreesButJob a.plan b.plan →
     batch_bytes a ≡ batch_bytes b → a ≡ b
+
+-- a batch has as many bytes as its fixed fields and, for each row, its vertex and its registers
+abbrev pub SpellingHasLength : Type 0
+SpellingHasLength = (b : BatchValue) → IsBatch b →
+    length (batch_bytes b) ≡ HEADER_LEN + length b.rows * (ID_LEN + 2 ^ b.plan.log2m)
 
 -- a true batch is within the limits that every batch keeps
 abbrev pub TrueIsBatch : Type 0

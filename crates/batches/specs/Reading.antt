@@ -2,12 +2,12 @@
 use Rattle.std.specs.Prelude.{◌≡◌, ℕ, ◌+◌, ◌-◌, ◌*◌, ◌%◌, ◌^◌, ◌==◌, not, if◌then◌else◌, nat_lt, nat_le, List, [], ◌∷◌, ◌++◌, length, take, drop, slice_index, Result, Ok, Err, IsOk}
 use Rattle.std.specs.List.{list_any}
 use Rattle.std.specs.Int.{w16, w32, to_be_bytes}
-use Rattle.ball_model.specs.declared.names.BatchName.{BatchName}
 use Rattle.ball_model.specs.PlanValue.{PlanValue, part_size}
 use Rattle.ball_model.specs.Batches.{BatchValue}
 use Rattle.batches.specs.declared.error.BatchError.{BatchError}
 use Rattle.batches.specs.declared.error.BatchError.TheVariants as errors
 use Rattle.batches.specs.declared.header.Header.{Header}
+use Rattle.batches.specs.declared.header.TheConstants.{HEADER_LEN}
 use Rattle.batches.specs.Kept.{field, first_rows}
 
 infixl 10 ◌>>=◌
@@ -40,12 +40,6 @@ head_bytes h =
     ++ to_be_bytes w32 h.name.superstep ++ to_be_bytes w16 h.name.source
     ++ to_be_bytes w16 h.name.target
     ++ h.job ++ to_be_bytes w32 h.changed ++ to_be_bytes w32 h.count
-
--- bytes, and behind them a name
-abbrev pub with_name : List ℕ → BatchName → List ℕ
-with_name bytes name =
-    bytes ++ to_be_bytes w32 name.superstep ++ to_be_bytes w16 name.source
-    ++ to_be_bytes w16 name.target
 
 -- HBBT
 abbrev pub magic : ℕ
@@ -90,11 +84,11 @@ check_rows plan source least (row ∷ rows) = do
 -- the fixed fields of bytes that pass all checks, or the first that fails
 unfoldable pub check_at : PlanValue → List ℕ → Result Header BatchError
 check_at plan bytes =
-    if nat_lt (length bytes) 54 then Err errors.Short else do
+    if nat_lt (length bytes) HEADER_LEN then Err errors.Short else do
       head ← check_head plan (head_at bytes)
-      whole ← check_length ((head_at bytes).count * (4 + 2 ^ plan.log2m)) (length bytes - 54)
+      whole ← check_length ((head_at bytes).count * (4 + 2 ^ plan.log2m)) (length bytes - HEADER_LEN)
       rows ← check_rows plan (head_at bytes).name.source 0
-          (first_rows (2 ^ plan.log2m) (head_at bytes).count (drop 54 bytes))
+          (first_rows (2 ^ plan.log2m) (head_at bytes).count (drop HEADER_LEN bytes))
       Ok (head_at bytes)
 
 -- the batch of a plan that fixed fields and rows make: the job digest is theirs
@@ -110,7 +104,7 @@ batch_from plan h rows = record {
 abbrev pub batch_at : PlanValue → List ℕ → Result BatchValue BatchError
 batch_at plan bytes = do
   head ← check_at plan bytes
-  Ok (batch_from plan head (first_rows (2 ^ plan.log2m) head.count (drop 54 bytes)))
+  Ok (batch_from plan head (first_rows (2 ^ plan.log2m) head.count (drop HEADER_LEN bytes)))
 
 -- the answer is the one that is due, or, where that is a batch, memory ran out
 abbrev pub GivesOrMemory : Result BatchValue BatchError → Result BatchValue BatchError → Type 0

@@ -3,12 +3,12 @@
 ghost use Rattle.std.specs.Prelude.{◌≡◌, ◌+◌, ◌*◌, ◌^◌, ◌<◌, ◌≤◌, ◌++◌, ◌∷◌, [], length, option_map, slice_index, slice_index_or, drop, IfOk, IfSome, OnOk, OnErr, Ok};
 ghost use Rattle.std.specs.List.{All};
 ghost use Rattle.ball_model.specs.PlanValue.{part_size};
-ghost use Rattle.ball_model.specs.Batches.{BatchValue, IsRow, IsBatch, ids_of, registers_of, find_row, batch_bytes};
+ghost use Rattle.ball_model.specs.Batches.{BatchValue, IsRow, IsBatch, ids_of, registers_of, find_row, header_bytes, batch_bytes};
 ghost use Rattle.batches.specs.Kept.{first_rows};
 ghost use Rattle.batches.specs.Reading.{check_at, batch_from, batch_at, GivesOrMemory, AgreesButJob};
 
 use crate::error::BatchError;
-use crate::header::{HEADER_LEN, Header, MAGIC, VERSION, check_header, put_header, read_header};
+use crate::header::{HEADER_LEN, Header, MAGIC, VERSION, check_header, read_header, spell_header};
 use crate::rows::{ID_LEN, check_body, check_len, push_row, put_rows, read_rows, row_of};
 use ball_model::{BatchName, Plan};
 use std::alloc::{AllocError, Global};
@@ -149,14 +149,40 @@ impl Batch {
         }
     }
 
-    /// The bytes of the batch: `HBBT`, the version (1 byte, 1), log2m (1), the superstep (4), the source (2), the
-    /// target (2), the job digest (32), the number of changed vertices (4) and of rows (4), and then each row: its
-    /// vertex (4) and its 2^log2m registers. Numbers are big-endian. Each batch has one spelling.
+    /// How many bytes the batch has: [`HEADER_LEN`] and, for each row, four and its registers.
+    pub fn length(&self) -> u64
+        ensures value { result
+            ≡ HEADER_LEN + length self.now.rows * (ID_LEN + 2 ^ self.now.plan.log2m) }
+        ensures bytes { result ≡ length (batch_bytes self.now) }
+    {
+        (HEADER_LEN + self.count() as usize * (ID_LEN + self.plan.width())) as u64
+    }
+
+    /// The bytes of the batch before its rows: `HBBT`, the version (1 byte, 1), log2m (1), the superstep (4), the
+    /// source (2), the target (2), the job digest (32), the number of changed vertices (4) and of rows (4). Numbers
+    /// are big-endian.
+    ///
+    /// Each row follows as its vertex (4), by [`id`](Batch::id), and its [`registers`](Batch::registers).
+    pub fn header(&self) -> [u8; HEADER_LEN]
+        ensures { result ≡ header_bytes self.now }
+    {
+        spell_header(&Header {
+            magic: MAGIC,
+            version: VERSION,
+            log2m: self.plan.log2m(),
+            name: self.name,
+            job: self.plan.job(),
+            changed: self.changed,
+            count: self.count(),
+        })
+    }
+
+    /// The bytes of the batch: its [`header`](Batch::header), and then each row: its vertex (4, big-endian) and its
+    /// 2^log2m registers. Each batch has one spelling.
     pub fn encode(&self, alloc: Global) -> Result<Vec<u8>, AllocError>
         ensures { IfOk result (λ v. v.items ≡ batch_bytes self.now) }
     {
-        let size = HEADER_LEN + self.count() as usize * (ID_LEN + self.plan.width());
-        let mut out = Vec::with_capacity(alloc, size)?;
+        let mut out = Vec::with_capacity(alloc, self.length() as usize)?;
         self.put(&mut out)?;
         Ok(out)
     }
@@ -166,16 +192,7 @@ impl Batch {
         requires { out.old.items ≡ [] }
         ensures { OnOk result (out.new.items ≡ batch_bytes self.now) }
     {
-        let header = Header {
-            magic: MAGIC,
-            version: VERSION,
-            log2m: self.plan.log2m(),
-            name: self.name,
-            job: self.plan.job(),
-            changed: self.changed,
-            count: self.count(),
-        };
-        put_header(out, &header)?;
+        out.extend_from_slice(&self.header())?;
         put_rows(out, self.plan.width(), &self.ids, &self.registers)?;
         Ok(())
     }
@@ -223,7 +240,7 @@ fn check(plan: &Plan, bytes: &[u8]) -> Result<Header, BatchError>
 fn read(alloc: Global, plan: &Plan, header: &Header, bytes: &[u8]) -> Result<Batch, AllocError>
     requires { check_at plan.now bytes.now ≡ Ok header.now }
     ensures { IfOk result (λ b. b ≡ batch_from plan.now header.now
-        (first_rows (2 ^ plan.now.log2m) header.now.count (drop 54 bytes.now))) }
+        (first_rows (2 ^ plan.now.log2m) header.now.count (drop HEADER_LEN bytes.now))) }
 {
     let (_, body) = bytes.split_at(HEADER_LEN);
     let (ids, registers) = read_rows(alloc, plan.width(), header.count, body)?;

@@ -3,7 +3,7 @@
 ghost use Rattle.std.specs.Prelude.{◌≡◌, ◌+◌, ◌-◌, ◌/◌, ◌≤◌, ◌<◌, ◌++◌, ◌∷◌, [], length, take, drop, OnOk};
 ghost use Rattle.std.specs.Int.{w16, w32, to_be_bytes};
 ghost use Rattle.batches.specs.Kept.{field};
-ghost use Rattle.batches.specs.Reading.{head_at, head_bytes, check_head, with_name};
+ghost use Rattle.batches.specs.Reading.{head_at, head_bytes, check_head};
 
 use crate::error::BatchError;
 use ball_model::{BatchName, Plan};
@@ -67,7 +67,7 @@ fn job_at(bytes: &[u8]) -> [u8; 32]
 /// The fixed fields of bytes that are long enough.
 #[tactic(auto, unfolding(crate::specs::Reading::head_at))]
 pub fn read_header(bytes: &[u8]) -> Header
-    requires { 54 ≤ length bytes.now }
+    requires { HEADER_LEN ≤ length bytes.now }
     ensures { result ≡ head_at bytes.now }
 {
     Header {
@@ -118,45 +118,28 @@ pub fn put_u32(out: &mut Vec<u8>, number: u32) -> Result<(), AllocError>
     out.extend_from_slice(&field)
 }
 
-/// Appends a number, big-endian.
-fn put_u16(out: &mut Vec<u8>, number: u16) -> Result<(), AllocError>
-    ensures { OnOk result (out.new.items ≡ out.old.items ++ to_be_bytes w16 number) }
+// A field stands at its place, behind what stands before it.
+fn set_field(bytes: &mut [u8], at: usize, field: &[u8])
+    requires { at + length field.now ≤ length bytes.old }
+    ensures { take (at + length field.now) bytes.new ≡ take at bytes.old ++ field.now }
 {
-    let mut field = [0; 2];
-    BigEndian::write_u16(&mut field, number);
-    out.extend_from_slice(&field)
+    bytes[at..at + field.len()].copy_from_slice(field);
 }
 
-// Appends the magic number, the version and the logarithm of the number of registers.
-fn put_form(out: &mut Vec<u8>, header: &Header) -> Result<(), AllocError>
-    ensures { OnOk result (out.new.items ≡ out.old.items
-        ++ to_be_bytes w32 header.now.magic ++ header.now.version ∷ header.now.log2m ∷ []) }
-{
-    put_u32(out, header.magic)?;
-    out.push(header.version)?;
-    out.push(header.log2m)?;
-    Ok(())
-}
-
-// Appends a name.
-fn put_name(out: &mut Vec<u8>, name: BatchName) -> Result<(), AllocError>
-    ensures { OnOk result (out.new.items ≡ with_name out.old.items name) }
-{
-    put_u32(out, name.superstep)?;
-    put_u16(out, name.source)?;
-    put_u16(out, name.target)?;
-    Ok(())
-}
-
-/// Appends the fixed fields.
+/// The fixed fields as bytes.
 #[tactic(auto, unfolding(crate::specs::Reading::head_bytes))]
-pub fn put_header(out: &mut Vec<u8>, header: &Header) -> Result<(), AllocError>
-    ensures { OnOk result (out.new.items ≡ out.old.items ++ head_bytes header.now) }
+pub fn spell_header(header: &Header) -> [u8; HEADER_LEN]
+    ensures { result ≡ head_bytes header.now }
 {
-    put_form(out, header)?;
-    put_name(out, header.name)?;
-    out.extend_from_slice(&header.job)?;
-    put_u32(out, header.changed)?;
-    put_u32(out, header.count)?;
-    Ok(())
+    let name = header.name;
+    let mut bytes = [0; HEADER_LEN];
+    set_field(&mut bytes, 0, &header.magic.to_be_bytes());
+    set_field(&mut bytes, 4, &[header.version, header.log2m]);
+    set_field(&mut bytes, 6, &name.superstep.to_be_bytes());
+    set_field(&mut bytes, 10, &name.source.to_be_bytes());
+    set_field(&mut bytes, 12, &name.target.to_be_bytes());
+    set_field(&mut bytes, 14, &header.job);
+    set_field(&mut bytes, 46, &header.changed.to_be_bytes());
+    set_field(&mut bytes, 50, &header.count.to_be_bytes());
+    bytes
 }

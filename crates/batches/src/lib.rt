@@ -25,6 +25,7 @@ mod rows;
 
 pub use batch::Batch;
 pub use error::BatchError;
+pub use header::HEADER_LEN;
 
 #[cfg(test)]
 mod tests;

@@ -39,7 +39,7 @@ const BYTES: [u8; 74] = [
 /// A plan of three vertices in two partitions.
 fn plan(job: [u8; 32]) -> Result<Plan, PlanError>
     ensures { IfOk result (λ p. p
-        ≡ record { log2m = 4; seed = 0; parts = 2; limit = 4096; vertices = 3; job = job }) }
+        ≡ record { log2m = 4; seed = 0; parts = 2; limit = 4096; vertices = 3; corrected = false; job = job }) }
 {
     Plan::new(4, 0, 2, 4096, 3, job)
 }
@@ -113,6 +113,22 @@ fn written(alloc: Global) -> Result<(usize, Option<usize>), Fail> {
 #[test]
 fn batch_is_written(rt: HostRuntime) -> Result<(), Fail> {
     assert_eq!(rt; written(rt.alloc())?, (74, None));
+    Ok(())
+}
+
+/// Where the header of a batch of one row first differs from its bytes, and how long batches of one and two rows are.
+fn header_and_lengths(alloc: Global) -> Result<(Option<usize>, u64, u64), Fail> {
+    let batch = one_row(alloc)?;
+    Ok((
+        first_other(&batch.header()),
+        batch.length(),
+        two_rows(alloc)?.length(),
+    ))
+}
+
+#[test]
+fn header_is_written_without_memory(rt: HostRuntime) -> Result<(), Fail> {
+    assert_eq!(rt; header_and_lengths(rt.alloc())?, (None, 74, 94));
     Ok(())
 }
 
@@ -291,6 +307,7 @@ fn laws_hold() {
     laws::spelling_is_read();
     laws::spelling_is_one();
     laws::batch_is_one();
+    laws::spelling_has_length();
     laws::true_is_batch();
 }
 

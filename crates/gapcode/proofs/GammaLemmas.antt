@@ -9,7 +9,7 @@ use Rattle.std.proofs.lemmas.List.{take_at, drop_at, length-append, length-repli
 use Rattle.std.specs.Int.Count.{count_leading_zeros}
 use Rattle.gapcode.specs.declared.error.CodeError.{CodeError}
 use Rattle.gapcode.specs.declared.error.CodeError.TheVariants.{Ended, TooLong}
-use Rattle.gapcode.specs.Bits.{digits, number_of, log2_below, log2, gamma, zeros, gamma_at, with_rest}
+use Rattle.gapcode.specs.Bits.{digits, number_of, log2_below, log2, gamma, zeros, gamma_at, Place, rest, with_rest}
 use Rattle.gapcode.proofs.DigitsLemmas.{length-digits, digits-zero, number_of-below, digits-number_of, drop-digits, take-digits, number_of-small}
 
 -- ---- zero bits in front
@@ -294,6 +294,14 @@ gamma_found (Ok x) bits more h = (gamma_takes bits x more (sym h)).0
 pub gamma_number : (r : Result ℕ CodeError) (bits more : List Bool) → with_rest r more ≡ gamma_at bits → IfOk r (λ x. (0 < x) × (x < 2 ^ 64))
 gamma_number (Err e) bits more h = tt
 gamma_number (Ok x) bits more h = let t = gamma_takes bits x more (sym h) in (t.1, t.2)
+
+-- the reader moved by the length of the code
+pub gamma_moved : (r : Result ℕ CodeError) (old new : Place) → with_rest r (rest new) ≡ gamma_at (rest old) → new.bits ≡ old.bits → old.position ≤ length old.bits → new.position ≤ length new.bits
+    → IfOk r (λ x. new.position ≡ old.position + length (gamma x))
+gamma_moved (Err e) old new h same from inside = tt
+gamma_moved (Ok x) old new h same from inside =
+    let taken : rest old ≡ gamma x ++ rest new = gamma_found (Ok x) (rest old) (rest new) h in
+    omega (arith, ap length taken, length-append (gamma x) (rest new), length-drop old.position old.bits, length-drop new.position new.bits, ap length same)
 
 pub gamma_only : (r : Result ℕ CodeError) (bits more : List Bool) → with_rest r more ≡ gamma_at bits → (x : ℕ) (rest : List Bool) → 0 < x → x < 2 ^ 64 → bits ≡ gamma x ++ rest → r ≡ Ok x
 gamma_only r bits more h x rest pos lt e = number r (h ∙ ap gamma_at e ∙ gamma_again x rest pos lt)

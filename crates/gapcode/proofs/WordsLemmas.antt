@@ -7,7 +7,7 @@ use Rattle.std.proofs.Math.Nat.{add_comm, mul_assoc, add-mul-div_right, mul-mod_
 use Rattle.std.proofs.Math.Seq.{drop-append-add, drop-nil}
 use Rattle.std.proofs.lemmas.Nat.{pow_pos, pow-add, div-add-mod', be_bytes_8, and_mask, or_shifted, mod-pow-add, shr_high, shr_below}
 use Rattle.std.proofs.lemmas.List.{append-nil, length-append, replicate-append-replicate, drop-append-le, take-append-le, take-replicate, take-append-drop, drop_more, drop_all, length-drop, length-take, drop-drop}
-use Rattle.gapcode.specs.Bits.{digits, bits_of, window_of}
+use Rattle.gapcode.specs.Bits.{digits, bits_of, window_of, Place}
 use Rattle.gapcode.proofs.DigitsLemmas.{length-digits, digits-append, digits-above, digits-zero, drop-digits, take-digits}
 
 pub digits-mod : (w x : ℕ) → digits w (x % 2 ^ w) ≡ digits w x
@@ -29,6 +29,11 @@ bits_of-word n =
 pub length-bits_of : (bytes : List ℕ) → length (bits_of bytes) ≡ 8 * length bytes
 length-bits_of [] = refl
 length-bits_of (b ∷ bytes) = length-append (digits 8 b) (bits_of bytes) ∙ omega (arith, length-digits 8 b, length-bits_of bytes)
+
+-- a reader stands within its bits
+pub reader_inside : (bytes : List ℕ) (place : ℕ) (p : Place) → record { bits = bits_of bytes; position = place } ≡ p → place ≤ 8 * length bytes → p.position ≤ length p.bits
+reader_inside bytes place p shown within =
+    omega (arith, ap (λ (q : Place). q.position) shown, ap (λ (q : Place). length q.bits) shown, length-bits_of bytes, within)
 
 pub bits_of-append : (xs ys : List ℕ) → bits_of (xs ++ ys) ≡ bits_of xs ++ bits_of ys
 bits_of-append [] ys = refl

@@ -34,9 +34,13 @@ unfoldable pub log2_below : ℕ → ℕ → ℕ
 log2_below zero x = 0
 log2_below (suc n) x = if nat_le (2 ^ n) x then n else log2_below n x
 
--- of a number of at most 64 binary digits
+-- a number has at most that many binary digits
+abbrev pub most_digits : ℕ
+most_digits = 64
+
+-- of such a number
 abbrev pub log2 : ℕ → ℕ
-log2 x = log2_below 64 x
+log2 x = log2_below most_digits x
 
 -- Elias gamma
 unfoldable pub gamma : ℕ → List Bool

@@ -1,7 +1,7 @@
 //! One code at a place among the bits of bytes.
 
 ghost use Rattle.std.specs.Prelude.{◌≡◌, ◌+◌, ◌-◌, ◌*◌, ◌<◌, ◌≤◌, ◌++◌, length, take, drop, replicate, IfOk};
-ghost use Rattle.gapcode.specs.Bits.{digits, bits_of, bits_from, window_of, with_rest_at, gamma_at};
+ghost use Rattle.gapcode.specs.Bits.{digits, bits_of, bits_from, window_of, with_rest_at, gamma_at, most_digits};
 
 use crate::error::CodeError;
 
@@ -12,7 +12,7 @@ const REACH: usize = 17;
 fn shifted_word(nine: &[u8], shift: u32) -> u64
     requires nine { length nine.now ≡ 9 }
     requires shift { shift < 8 }
-    ensures { digits 64 result ≡ take 64 (drop shift (bits_of nine.now)) }
+    ensures { digits most_digits result ≡ take most_digits (drop shift (bits_of nine.now)) }
 {
     let word = u64::from_be_bytes([
         nine[0], nine[1], nine[2], nine[3], nine[4], nine[5], nine[6], nine[7],
@@ -33,7 +33,7 @@ fn padded(tail: &[u8]) -> [u8; 9]
 // The next 64 bits, with zero bits past the end.
 fn window(bytes: &[u8], position: u32) -> u64
     requires { position ≤ 8 * length bytes.now }
-    ensures { digits 64 result ≡ window_of (bits_from bytes.now position) }
+    ensures { digits most_digits result ≡ window_of (bits_from bytes.now position) }
 {
     let index = (position / 8) as usize;
     let shift = position % 8;

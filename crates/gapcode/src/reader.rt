@@ -2,7 +2,7 @@
 
 ghost use Rattle.std.specs.Prelude.{◌≡◌, ◌↔◌, ℕ, Bool, List, Err, false, ◌+◌, ◌++◌, replicate, ◌*◌, ◌<◌, ◌≤◌, ◌^◌, length, take, slice_get, option_to_list, OnErr, IfOk, Ok};
 ghost use Rattle.gapcode.specs.declared.error.CodeError.TheVariants.{TooLong};
-ghost use Rattle.gapcode.specs.Bits.{bits_of, Place, rest, with_rest, gamma, gamma_at};
+ghost use Rattle.gapcode.specs.Bits.{bits_of, Place, rest, with_rest, gamma, gamma_at, most_digits};
 
 use crate::code::code_from;
 use crate::error::CodeError;
@@ -38,7 +38,8 @@ impl<'a> BitReader<'a> {
 
     /// The place of the next bit: how many bits stand before it.
     pub fn position(&self) -> u128
-        ensures { result ≡ self.now.position }
+        ensures value { result ≡ self.now.position }
+        ensures inside { result ≤ length self.now.bits }
     {
         self.place
     }
@@ -64,6 +65,8 @@ fn take_code(reader: &mut BitReader<'_>) -> Result<u64, CodeError>
     ensures exact { with_rest result (rest reader.new) ≡ gamma_at (rest reader.old) }
     ensures err { OnErr result (reader.new ≡ reader.old) }
     ensures bits { reader.new.bits ≡ reader.old.bits }
+    ensures from { reader.old.position ≤ length reader.old.bits }
+    ensures inside { reader.new.position ≤ length reader.new.bits }
 {
     let (x, place) = code_from(reader.bytes, reader.place)?;
     reader.place = place;
@@ -78,11 +81,14 @@ pub fn get_gamma(reader: &mut BitReader<'_>) -> Result<u64, CodeError>
     // What is found is the code that comes next, and the reader moves past it.
     ensures found { IfOk result (λ x. rest reader.old ≡ gamma x ++ rest reader.new) }
     ensures number { IfOk result (λ x. (0 < x) × (x < 2 ^ 64)) }
+    ensures moved { IfOk result (λ x.
+        reader.new.position ≡ reader.old.position + length (gamma x)) }
     // Where a code comes next it is found.
     ensures only { (x : ℕ) (more : List Bool) → 0 < x → x < 2 ^ 64
         → rest reader.old ≡ gamma x ++ more → result ≡ Ok x }
     // Which fault it is.
-    ensures too_long { (result ≡ Err TooLong) ↔ (take 64 (rest reader.old) ≡ replicate 64 false) }
+    ensures too_long { (result ≡ Err TooLong) ↔
+        (take most_digits (rest reader.old) ≡ replicate most_digits false) }
     ensures exact { with_rest result (rest reader.new) ≡ gamma_at (rest reader.old) }
     ensures err { OnErr result (reader.new ≡ reader.old) }
     ensures bits { reader.new.bits ≡ reader.old.bits }

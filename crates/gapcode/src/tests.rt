@@ -359,3 +359,33 @@ fn far_places_are_kept(rt: HostRuntime) -> Result<(), Fail> {
     assert!(rt; are_kept);
     Ok(())
 }
+
+// Whether an error has this text.
+fn has_text(alloc: Global, error: CodeError, wanted: &str) -> Result<bool, Fail> {
+    let text = format!(in alloc; "{error}")?;
+    Ok(text.as_str() == wanted)
+}
+
+// The first error that has another text.
+fn first_of_another_text(alloc: Global) -> Result<Option<CodeError>, Fail> {
+    let texts = [
+        (CodeError::Ended, "the bits end within a code"),
+        (CodeError::TooLong, "a number has more than 64 bits"),
+        (CodeError::Range, "a number is not below the bound"),
+        (CodeError::Padding, "a bit of the padding is set"),
+        (CodeError::Trailing, "bytes after the last list"),
+        (CodeError::Memory, "out of memory"),
+    ];
+    for (error, wanted) in texts {
+        if !has_text(alloc, error, wanted)? {
+            return Ok(Some(error));
+        }
+    }
+    Ok(None)
+}
+
+#[test]
+fn errors_have_texts(rt: HostRuntime) -> Result<(), Fail> {
+    assert_eq!(rt; first_of_another_text(rt.alloc())?, None);
+    Ok(())
+}

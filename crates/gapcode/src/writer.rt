@@ -1,7 +1,7 @@
 //! Bits into bytes.
 
 ghost use Rattle.std.specs.Prelude.{◌≡◌, ◌+◌, ◌*◌, ◌/◌, ◌%◌, ◌<◌, ◌≤◌, ◌^◌, ◌++◌, [], length, replicate, false, OnOk, OnErr, ℕ, vec_len, vec_capacity};
-ghost use Rattle.gapcode.specs.Bits.{digits, bits_with, gamma, AreBytesOf};
+ghost use Rattle.gapcode.specs.Bits.{digits, bits_with, gamma, most_digits, AreBytesOf};
 
 use std::alloc::{AllocError, Global};
 use std::marker::Model;
@@ -11,7 +11,7 @@ const ROOM: usize = 17;
 
 // Cuts the lowest `rest` bits off `last` and the n bits of `value` behind it.
 fn cut(last: u8, value: u64, n: u32, rest: u32) -> (u64, u8)
-    requires n { n ≤ 64 }
+    requires n { n ≤ most_digits }
     requires last { last < 128 }
     requires value { value < 2 ^ n }
     requires rest { rest < 8 }
@@ -27,7 +27,7 @@ fn cut(last: u8, value: u64, n: u32, rest: u32) -> (u64, u8)
 fn put_digits(full: &mut Vec<u8>, last: u8, used: u32, value: u64, n: u32) -> (u8, u32)
     requires used { used < 8 }
     requires last { last < 2 ^ used }
-    requires n { n ≤ 64 }
+    requires n { n ≤ most_digits }
     requires value { value < 2 ^ n }
     requires room { vec_len full.old + 8 ≤ vec_capacity full.old }
     ensures used { result.1 < 8 }
