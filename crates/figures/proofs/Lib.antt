@@ -1,4 +1,7 @@
 pub mod FigureLemmas
+pub mod LastLemmas
 pub mod PlaceLemmas
+pub mod SmallLemmas
+pub mod SumLemmas
 pub mod TotalLemmas
 pub mod Crossing

@@ -1,8 +1,7 @@
 -- What a tally of the program says, as the definitions say it, and the figures that are made of it.
-use Rattle.std.specs.Prelude.{◌≡◌, ℕ, ◌-◌, List, [], map, take, drop, slice_index_or}
-use Rattle.std.specs.List.{zip}
-use Rattle.ball_model.specs.Figures.{TallyValue, tally_of, estimate_of, closeness_of, lin_of}
-use Rattle.ball_model.specs.Report.{empty_of}
+use Rattle.std.specs.Prelude.{◌≡◌, ℕ, ◌+◌, ◌-◌, ◌^◌, ◌≤◌, Bool, true, min, List, [], map, take, drop, slice_index_or}
+use Rattle.std.specs.List.{range_with_len, zip}
+use Rattle.ball_model.specs.Figures.{TallyValue, tally_of, closeness_of, lin_of, empty_of, estimate_of, draws_of, small_bound}
 use Rattle.figures.specs.declared.tally.Tally.{Tally}
 use Rattle.figures.specs.declared.ends.Figures.{Figures}
 
@@ -14,25 +13,40 @@ value_of tally = record { last = tally.last; harm = tally.harm; dist = tally.dis
 abbrev pub IsTallyAt : (ℕ → ℕ) → ℕ → Tally → Type 0
 IsTallyAt e t tally = value_of tally ≡ tally_of e t
 
--- the figures of a vertex, of its row and its tally
+-- what small sets of each number of empty registers are estimated at, of m registers
+unfoldable pub small_table : ℕ → List ℕ
+small_table m = map (λ z. min (draws_of m z) (small_bound m)) (range_with_len 0 (m + 1))
+
+-- the fields of an estimator: 16 to 1024 registers, and what small sets are estimated at where they are corrected
+pub record IsEstimator (log2m : ℕ) (corrected : Bool) (small : List ℕ) : Type 0 where
+  pub low : 4 ≤ log2m
+  pub high : log2m ≤ 10
+  pub table : corrected ≡ true → small ≡ small_table (2 ^ log2m)
+
+-- the figures of a vertex, of the estimate of its ball, its row and its tally
 abbrev pub figures_of : ℕ → List ℕ → TallyValue → Figures
-figures_of log2m row tally = record {
-  estimate = estimate_of log2m row;
+figures_of e row tally = record {
+  estimate = e;
   harmonic = tally.harm;
   closeness = closeness_of tally.dist;
-  lin = lin_of (estimate_of log2m row) tally.dist;
+  lin = lin_of e tally.dist;
   empty = empty_of row;
 }
 
--- the figures of each vertex, of the row and the tally at its place
-unfoldable pub figures_from : ℕ → List (List ℕ) → List TallyValue → List Figures
-figures_from log2m rows tallies = map (λ p. figures_of log2m p.0 p.1) (zip rows tallies)
+-- the figures of each vertex, of the row and the tally at its place, whose estimate they take
+unfoldable pub figures_from : List (List ℕ) → List TallyValue → List Figures
+figures_from rows tallies = map (λ p. figures_of p.1.last p.0 p.1) (zip rows tallies)
+
+-- the same, with the raw estimate of the row, of 2^log2m registers
+unfoldable pub raw_figures_from : ℕ → List (List ℕ) → List TallyValue → List Figures
+raw_figures_from log2m rows tallies =
+    map (λ p. figures_of (estimate_of log2m p.0) p.0 p.1) (zip rows tallies)
 
 -- the items at the places from start on and before end, as far as there are such
 abbrev pub items_between : {A : Type 0} → ℕ → ℕ → List A → List A
 items_between start end items = take (end - start) (drop start items)
 
--- the figures are those of the row and the tally at place i, where a tally that is not there is d
+-- the figures are those of the estimate, the row and the tally at place i, where a tally that is not there is d
 abbrev pub IsAt : ℕ → List (List ℕ) → List Tally → ℕ → Tally → Figures → Type 0
-IsAt log2m rows tallies i d figures =
-    figures ≡ figures_of log2m (slice_index_or rows i []) (value_of (slice_index_or tallies i d))
+IsAt e rows tallies i d figures =
+    figures ≡ figures_of e (slice_index_or rows i []) (value_of (slice_index_or tallies i d))

@@ -3,8 +3,9 @@
 ghost use Rattle.std.specs.Prelude.{◌≡◌, ◌≤◌, ◌<◌, ◌^◌, [], IfOk};
 ghost use Rattle.std.specs.Prelude.{length, map, slice_index_or};
 ghost use Rattle.std.specs.List.{All};
+ghost use Rattle.ball_model.specs.Figures.{estimate_of};
 ghost use Rattle.figures.specs.declared.tally.Tally.{Tally};
-ghost use Rattle.figures.specs.Values.{IsAt, figures_from, items_between, value_of};
+ghost use Rattle.figures.specs.Values.{IsAt, figures_from, items_between, raw_figures_from, value_of};
 
 use super::{Tally, closeness, estimate, lin};
 use rayon::prelude::*;
@@ -29,7 +30,7 @@ pub struct Figures {
 }
 
 /// The figures of all vertices, in order: of each row and the tally at its place, what [`estimate`], [`closeness`],
-/// [`lin`] and [`Rows::empty_count`] give. The error is that memory was refused.
+/// [`lin`] and [`Rows::empty_count`] give. The estimate is the raw one of the row. The error is that memory was refused.
 ///
 /// The work is dealt out to as many threads as there are processors; what comes out is the same for every split.
 /// Fewer than 2,048 vertices are done in one thread.
@@ -46,29 +47,9 @@ pub fn final_figures(
     requires width { rows.now.width ≡ 2 ^ log2m }
     requires ranks { All (λ row. All (λ r. r ≤ 33) row) rows.now.rows }
     ensures { IfOk result (λ v.
-        v.items ≡ figures_from log2m rows.now.rows (map value_of tallies.now)) }
+        v.items ≡ raw_figures_from log2m rows.now.rows (map value_of tallies.now)) }
 {
-    figures_within(rt, alloc, log2m, rows, tallies, 0..tallies.len())
-}
-
-/// Those of the vertices at some of the places, as far as there are such: for callers that have no room for all.
-pub fn figures_within(
-    rt: &(impl Threads + Sync),
-    alloc: Global,
-    log2m: u8,
-    rows: &Rows,
-    tallies: &[Tally],
-    places: Range<usize>,
-) -> Result<Vec<Figures>, AllocError>
-    requires low { 4 ≤ log2m }
-    requires high { log2m ≤ 10 }
-    requires count { length tallies.now ≡ length rows.now.rows }
-    requires width { rows.now.width ≡ 2 ^ log2m }
-    requires ranks { All (λ row. All (λ r. r ≤ 33) row) rows.now.rows }
-    ensures { IfOk result (λ v. v.items ≡ items_between places.start places.end
-        (figures_from log2m rows.now.rows (map value_of tallies.now))) }
-{
-    (places.start..places.end.min(tallies.len()))
+    (0..tallies.len())
         .into_par_iter()
         .map(
             |i: usize| -> Figures
@@ -79,24 +60,46 @@ pub fn figures_within(
                 requires width { rows.now.width ≡ 2 ^ log2m }
                 requires ranks { All (λ r. r ≤ 33) (slice_index_or rows.now.rows i []) }
                 ensures { (d : Tally) →
-                    IsAt log2m rows.entry.now.rows tallies.entry.now i d result }
-            { figures_at(log2m, rows, tallies, i) },
+                    IsAt (estimate_of log2m (slice_index_or rows.entry.now.rows i []))
+                    rows.entry.now.rows tallies.entry.now i d result }
+            { figures_at(estimate(log2m, rows.row(i)), rows, tallies, i) },
         )
         .collect(rt, alloc)
 }
 
-// The figures of the vertex at a place.
-fn figures_at(log2m: u8, rows: &Rows, tallies: &[Tally], i: usize) -> Figures
-    requires low { 4 ≤ log2m }
-    requires high { log2m ≤ 10 }
+/// Those of the vertices at some of the places, as far as there are such: for callers that have no room for all. Here the
+/// estimate is the tally's last one, raw or corrected, as it was stepped by.
+pub fn figures_within(
+    rt: &(impl Threads + Sync),
+    alloc: Global,
+    rows: &Rows,
+    tallies: &[Tally],
+    places: Range<usize>,
+) -> Result<Vec<Figures>, AllocError>
+    requires count { length tallies.now ≡ length rows.now.rows }
+    ensures { IfOk result (λ v. v.items ≡ items_between places.start places.end
+        (figures_from rows.now.rows (map value_of tallies.now))) }
+{
+    (places.start..places.end.min(tallies.len()))
+        .into_par_iter()
+        .map(
+            |i: usize| -> Figures
+                requires tally { i < length tallies.now }
+                requires row { i < length rows.now.rows }
+                ensures { (d : Tally) → IsAt (slice_index_or tallies.entry.now i d).last
+                    rows.entry.now.rows tallies.entry.now i d result }
+            { figures_at(tallies[i].last, rows, tallies, i) },
+        )
+        .collect(rt, alloc)
+}
+
+// The figures of the vertex at a place, whose ball is estimated at so many.
+fn figures_at(estimate: u64, rows: &Rows, tallies: &[Tally], i: usize) -> Figures
     requires tally { i < length tallies.now }
     requires row { i < length rows.now.rows }
-    requires width { rows.now.width ≡ 2 ^ log2m }
-    requires ranks { All (λ r. r ≤ 33) (slice_index_or rows.now.rows i []) }
-    ensures { (d : Tally) → IsAt log2m rows.now.rows tallies.now i d result }
+    ensures { (d : Tally) → IsAt estimate rows.now.rows tallies.now i d result }
 {
     let tally = tallies[i];
-    let estimate = estimate(log2m, rows.row(i));
     Figures {
         estimate,
         harmonic: tally.harm,

@@ -204,10 +204,23 @@ fn figures_are<H: AllocGlobal + Threads + Sync>(
     wanted: &[(u64, u64, u64, u128, u32)],
 ) -> Result<bool, Fail>
     requires count { length tallies.now ≡ length rows.now.rows }
+{
+    let figures = figures_within(rt, rt.alloc(), rows, tallies, places)?;
+    Ok(are_told(&figures, wanted))
+}
+
+// The figures of all vertices, of raw estimates, are these.
+fn raw_figures_are<H: AllocGlobal + Threads + Sync>(
+    rt: &H,
+    rows: &Rows,
+    tallies: &[Tally],
+    wanted: &[(u64, u64, u64, u128, u32)],
+) -> Result<bool, Fail>
+    requires count { length tallies.now ≡ length rows.now.rows }
     requires width { rows.now.width ≡ 16 }
     requires ranks { All (λ row. All (λ r. r ≤ 33) row) rows.now.rows }
 {
-    let figures = figures_within(rt, rt.alloc(), 4, rows, tallies, places)?;
+    let figures = final_figures(rt, rt.alloc(), 4, rows, tallies)?;
     Ok(are_told(&figures, wanted))
 }
 
@@ -218,27 +231,35 @@ fn three_tallies() -> [Tally; 3] {
     [Tally::start(0), Tally::start(5), tally]
 }
 
-// The figures of three vertices with those tallies, whose rows differ too.
+// The figures of three vertices with those tallies, whose rows differ too; the estimates are the tallies'.
 const THREE: [(u64, u64, u64, u128, u32); 3] = [
+    (0, 0, 0, 1_000_000, 16),
+    (5, 0, 0, 1_000_000, 15),
+    (11_680_542, 382_969, 2_611_177, 356_256_149, 14),
+];
+
+// The same, of the raw estimates of the rows.
+const RAW_THREE: [(u64, u64, u64, u128, u32); 3] = [
     (10_768_000, 0, 0, 1_000_000, 16),
     (11_390_942, 0, 0, 1_000_000, 15),
     (11_680_542, 382_969, 2_611_177, 356_256_149, 14),
 ];
 
-// Whether the figures of three vertices, and those of all but the first, are those of the table.
-fn rows_are_told<H: AllocGlobal + Threads + Sync>(rt: &H, rows: &Rows) -> Result<[bool; 2], Fail>
+// Whether the raw figures of three vertices, their figures, and those of all but the first, are those of the tables.
+fn rows_are_told<H: AllocGlobal + Threads + Sync>(rt: &H, rows: &Rows) -> Result<[bool; 3], Fail>
     requires count { length rows.now.rows ≡ 3 }
     requires width { rows.now.width ≡ 16 }
     requires ranks { All (λ row. All (λ r. r ≤ 33) row) rows.now.rows }
 {
     let tallies = three_tallies();
+    let raw = raw_figures_are(rt, rows, &tallies, &RAW_THREE)?;
     let all = figures_are(rt, rows, &tallies, 0..3, &THREE)?;
     let later = figures_are(rt, rows, &tallies, 1..9, &THREE[1..])?;
-    Ok([all, later])
+    Ok([raw, all, later])
 }
 
 // The same of rows of no, one and two registers above 0.
-fn three_are_told<H: AllocGlobal + Threads + Sync>(rt: &H) -> Result<[bool; 2], Fail> {
+fn three_are_told<H: AllocGlobal + Threads + Sync>(rt: &H) -> Result<[bool; 3], Fail> {
     let mut rows = Rows::fixed(rt.alloc(), 3, 16)?;
     rows.raise_one(1, 14, 3);
     rows.raise_one(2, 0, 2);
@@ -248,7 +269,7 @@ fn three_are_told<H: AllocGlobal + Threads + Sync>(rt: &H) -> Result<[bool; 2], 
 
 #[test]
 fn figures_of_vertices(rt: HostRuntime) -> Result<(), Fail> {
-    assert_eq!(rt; three_are_told(&rt)?, [true; 2]);
+    assert_eq!(rt; three_are_told(&rt)?, [true; 3]);
     Ok(())
 }
 
@@ -351,4 +372,41 @@ fn gain_of_many_totals(rt: HostRuntime) -> Result<(), Fail> {
     let totals = many_totals(&rt)?;
     assert_eq!(rt; (totals.len(), gain(&totals)), (4097, 1 << 19));
     Ok(())
+}
+
+// The corrected estimates of 16 registers: no, one, two, eight and sixteen of them above 0; and sixteen that are 4,
+// whose raw estimate is above 40.
+fn corrected_ones<H: AllocGlobal>(rt: &H) -> Result<[u64; 6], Fail> {
+    let estimator = Estimator::corrected(rt.alloc(), 4)?;
+    Ok([
+        estimator.estimate(&[0; 16]),
+        estimator.estimate(&[0, 0, 0, 0, 0, 0, 0, 0, 0, 0, 0, 0, 0, 9, 0, 0]),
+        estimator.estimate(&[0, 0, 0, 0, 0, 0, 0, 0, 0, 0, 0, 0, 0, 1, 0, 2]),
+        estimator.estimate(&[1, 1, 1, 1, 1, 1, 1, 1, 0, 0, 0, 0, 0, 0, 0, 0]),
+        estimator.estimate(&[1; 16]),
+        estimator.estimate(&[4; 16]),
+    ])
+}
+
+// By hand: 0; 16/16; and 16/15; down to 16/9; 3.38 for each register is cut at two and a half; and the raw one.
+#[test]
+fn corrected_small_sets(rt: HostRuntime) -> Result<(), Fail> {
+    assert_eq!(rt;
+        corrected_ones(&rt)?,
+        [0, 1_000_000, 2_066_666, 10_605_947, 40_000_000, 172_288_000]
+    );
+    Ok(())
+}
+
+// harm may be last and dist 4096 times last, and neither may be one more.
+#[test]
+fn figures_that_a_run_can_have(rt: HostRuntime) {
+    let found = [
+        Tally::of(3, 3, 4096 * 3).is_some(),
+        Tally::of(3, 4, 0).is_some(),
+        Tally::of(3, 0, 4096 * 3 + 1).is_some(),
+        Tally::of(0, 0, 0).is_some(),
+        Tally::of(u64::MAX, u64::MAX, 4096 * u128::from(u64::MAX)).is_some(),
+    ];
+    assert_eq!(rt; found, [true, false, false, true, true]);
 }

@@ -1,8 +1,9 @@
-use Rattle.std.proofs.Common.{◌≡◌, ◌≤◌, ◌<◌, ◌-◌, ◌∙◌, [], All, List, ℕ, length, map, min, slice_index_or, take, drop, ap, subst, arith}
+use Rattle.std.proofs.Common.{◌≡◌, ◌<◌, ◌-◌, ◌∙◌, [], List, ℕ, length, get_or, map, min, take, drop, ap, subst, arith}
 use Rattle.std.specs.List.{AllZip, zip}
 use Rattle.rayon.specs.Numbers.{nat_range}
 use Rattle.rayon.proofs.ListFacts.{IfOk-then}
 use Rattle.rayon.proofs.ToStd.{nat_range-All}
+use Rattle.ball_model.specs.Figures.{TallyValue}
 use Rattle.figures.specs.declared.tally.Tally.{Tally}
 use Rattle.figures.specs.declared.ends.Figures.{Figures}
 use Rattle.figures.specs.Values.{IsAt, figures_of, figures_from, value_of}
@@ -16,14 +17,14 @@ collect-requires-clause-ready g c κs within =
     let n = length c.args.tallies.now in
     let rows = c.args.rows.now.rows in
     let last = c.min.result in
-    let inside = nat_range-All (λ i. (i < n) × (i < length rows) × All (λ r. r ≤ 33) (slice_index_or rows i [])) c.args.places.start last
+    let inside = nat_range-All (λ i. (i < n) × (i < length rows)) c.args.places.start last
     (λ i low high.
     let below : i < length rows = omega (arith, c.requires.count) in
-    (omega arith, below, c.requires.ranks i [] below)) in
+    (omega arith, below)) in
     rw (c.map.ensures.base, c.map.ensures.f, ends.0, ends.1)
     (λ k d lt.
     let at = inside k d lt in
-    ((c.requires.low, (c.requires.high, (at.0, (at.1, (c.requires.width, at.2))))), λ y made. tt))
+    ((at.0, at.1), λ y made. tt))
 
 pub returns : goal.returns
 unfolding figures_from
@@ -31,13 +32,13 @@ returns g c =
     let ends = c.into_par_iter.ensures in
     let rows = c.args.rows.now.rows in
     let tallies = c.args.tallies.now in
-    let log2m = c.args.log2m in
     let from : ℕ = c.args.places.start in
     let last : ℕ = c.min.result in
-    let whole : List Figures = map (λ p. figures_of log2m p.0 p.1) (zip rows (map value_of tallies)) in
-    let long : length whole ≡ length rows = zipped_length (figures_of log2m) value_of rows tallies c.requires.count in
+    let of = λ (row : List ℕ) (tally : TallyValue). figures_of tally.last row tally in
+    let whole : List Figures = map (λ p. of p.0 p.1) (zip rows (map value_of tallies)) in
+    let long : length whole ≡ length rows = zipped_length of value_of rows tallies c.requires.count in
     let at_end : last ≡ min c.args.places.end (length whole) = omega arith in
-    let is = λ (i : ℕ) (y : Figures). (d : Tally) → IsAt log2m rows tallies i d y in
+    let is = λ (i : ℕ) (y : Figures). (d : Tally) → IsAt (get_or tallies i d).last rows tallies i d y in
     IfOk-then c.collect.result _ _ c.collect.ensures (λ v h.
     let chain = rw (c.map.ensures.base, c.map.ensures.f) at h.1 in
     let places = chain.1 ∙ (λ i. nat_range (ends.0 i) (ends.1 i)) in
@@ -45,6 +46,6 @@ returns g c =
     ∙ part_of is whole from (last - from) h.0 (omega arith) (subst (λ l. AllZip is l h.0) places chain.2)
     (λ k figures lt made.
     let some : Tally = an_item tallies k (omega arith) in
-    made some ∙ zipped_at (figures_of log2m) value_of rows tallies k [] some figures c.requires.count (omega arith))
+    made some ∙ zipped_at of value_of rows tallies k [] some figures c.requires.count (omega arith))
     ∙ ap (λ n. take (n - from) (drop from whole)) at_end
     ∙ take_within whole from c.args.places.end)

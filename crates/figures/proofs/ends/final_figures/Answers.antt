@@ -1,14 +1,49 @@
-use Rattle.std.proofs.Common.{◌-◌, ◌∙◌, ℕ, length, arith}
+use Rattle.std.proofs.Common.{◌≡◌, ◌≤◌, ◌<◌, ◌-◌, ◌∙◌, [], All, List, ℕ, length, map, get_or, slice_index_or, subst, arith}
+use Rattle.std.specs.List.{AllZip, zip}
 use Rattle.std.proofs.lemmas.List.{take_all}
-use Rattle.std.proofs.lemmas.Result.{IfOk-weaker}
-use Rattle.figures.specs.Values.{figures_from, figures_of, value_of}
-use Rattle.figures.proofs.PlaceLemmas.{zipped_length}
+use Rattle.rayon.specs.Numbers.{nat_range}
+use Rattle.rayon.proofs.ListFacts.{IfOk-then}
+use Rattle.rayon.proofs.ToStd.{nat_range-All}
+use Rattle.ball_model.specs.Figures.{TallyValue, estimate_of}
+use Rattle.figures.specs.declared.tally.Tally.{Tally}
+use Rattle.figures.specs.declared.ends.Figures.{Figures}
+use Rattle.figures.specs.Values.{IsAt, figures_of, raw_figures_from, value_of}
+use Rattle.figures.proofs.PlaceLemmas.{an_item, part_of, zipped_at, zipped_length}
 use Rattle.figures.proofs.ends.final_figures.Goals as goal
 
--- all places
-pub returns : goal.returns
-unfolding figures_from
-returns g c =
+-- the closure may be called at each number of the range
+pub collect-requires-clause-ready : goal.collect-requires-clause-ready
+collect-requires-clause-ready g c κs within =
+    let ends = c.into_par_iter.ensures in
     let n : ℕ = length c.args.tallies.now in
-    let long = zipped_length (figures_of c.args.log2m) value_of c.args.rows.now.rows c.args.tallies.now c.requires.count in
-    IfOk-weaker c.figures_within.result _ _ (λ v h. h ∙ take_all (n - 0) _ (omega arith)) c.figures_within.ensures
+    let rows = c.args.rows.now.rows in
+    let inside = nat_range-All (λ i. (i < n) × (i < length rows) × All (λ r. r ≤ 33) (slice_index_or rows i [])) 0 n
+    (λ i low high.
+    let below : i < length rows = omega (arith, c.requires.count) in
+    (omega arith, below, c.requires.ranks i [] below)) in
+    rw (c.map.ensures.base, c.map.ensures.f, ends.0, ends.1)
+    (λ k d lt.
+    let at = inside k d lt in
+    ((c.requires.low, (c.requires.high, (at.0, (at.1, (c.requires.width, at.2))))), λ y made. tt))
+
+pub returns : goal.returns
+unfolding raw_figures_from
+returns g c =
+    let ends = c.into_par_iter.ensures in
+    let rows = c.args.rows.now.rows in
+    let tallies = c.args.tallies.now in
+    let log2m = c.args.log2m in
+    let n : ℕ = length tallies in
+    let of = λ (row : List ℕ) (tally : TallyValue). figures_of (estimate_of log2m row) row tally in
+    let whole : List Figures = map (λ p. of p.0 p.1) (zip rows (map value_of tallies)) in
+    let long : length whole ≡ length rows = zipped_length of value_of rows tallies c.requires.count in
+    let is = λ (i : ℕ) (y : Figures). (d : Tally) → IsAt (estimate_of log2m (get_or rows i [])) rows tallies i d y in
+    IfOk-then c.collect.result _ _ c.collect.ensures (λ v h.
+    let chain = rw (c.map.ensures.base, c.map.ensures.f) at h.1 in
+    let places = chain.1 ∙ (λ i. nat_range (ends.0 i) (ends.1 i)) in
+    h.2
+    ∙ part_of is whole 0 (n - 0) h.0 (omega arith) (subst (λ l. AllZip is l h.0) places chain.2)
+    (λ k figures lt made.
+    let some : Tally = an_item tallies k (omega arith) in
+    made some ∙ zipped_at of value_of rows tallies k [] some figures c.requires.count (omega arith))
+    ∙ take_all (n - 0) whole (omega arith))
