@@ -1,11 +1,11 @@
 -- What a loop over the records of an edge list keeps.
-use Rattle.std.proofs.Common.{◌≡◌, ◌∙◌, ◌+◌, ℕ, List, [], ◌∷◌, ◌++◌, refl, Ok, length, arith}
+use Rattle.std.proofs.Common.{◌≡◌, ◌∙◌, ◌+◌, ℕ, List, [], ◌∷◌, ◌++◌, refl, sym, subst, Ok, length, arith}
 use Rattle.std.specs.Prelude.{Option}
 use Rattle.std.specs.List.{filter}
 use Rattle.std.proofs.lemmas.List.{append_assoc, length-append}
 use Rattle.csv.specs.declared.reader.Reader.{Reader}
 use Rattle.ball_model.specs.Input.{Limits, records, network_from}
-use Rattle.edgelist.specs.Records.{config, rows, is_row, IsLeft}
+use Rattle.edgelist.specs.Records.{config, rows, is_row, FindsNone, IsLeft, StopsAtEnd}
 use Rattle.edgelist.specs.Reading.{network_by, IsReadAs, IsClean, Adds, Stops, Refuses, EndsAt}
 use Rattle.edgelist.specs.declared.edge.Edge.{Edge}
 use Rattle.edgelist.specs.declared.read.EdgeError.{EdgeError}
@@ -27,6 +27,15 @@ goes-start rem d limits text rdr at = record { past = []; at = at; count = refl;
 pub goes-end : {R : Type 0} (rem : R → Option (List ℕ)) (d : ℕ) (limits : Limits) (n : ℕ) (text : List ℕ) (a : Reader R) (labels : List (List ℕ)) (edges : List Edge) (goes : Goes rem d limits n text a labels edges) →
     records d text ≡ goes.past → network_from limits (records d text) ≡ Ok (network_by labels edges)
 goes-end rem d limits n text a labels edges goes whole = rw whole (says-network limits goes.past labels edges goes.clean goes.so)
+
+-- and no other was asked for
+pub goes-stops : {R : Type 0} (rem : R → Option (List ℕ)) (d : ℕ) (limits : Limits) (n : ℕ) (text : List ℕ) (a b : Reader R) (labels : List (List ℕ)) (edges : List Edge) (goes : Goes rem d limits n text a labels edges) →
+    FindsNone rem d text goes.past a b → StopsAtEnd rem d text b
+goes-stops rem d limits n text a b labels edges goes found = record {
+  before = a;
+  at = subst (λ past. IsLeft rem d text past a) (sym found.all) goes.at;
+  last = found.last;
+}
 
 -- a record more that was added
 pub goes-more : {R : Type 0} (rem : R → Option (List ℕ)) (d : ℕ) (limits : Limits) (n : ℕ) (text : List ℕ) (a b : Reader R) (labels labels' : List (List ℕ)) (edges edges' : List Edge) (f : List (List ℕ)) (goes : Goes rem d limits n text a labels edges) →

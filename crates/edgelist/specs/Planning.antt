@@ -1,5 +1,5 @@
 -- The plan of a job.
-use Rattle.std.specs.Prelude.{ℕ, List, [], ◌++◌, map}
+use Rattle.std.specs.Prelude.{ℕ, Bool, true, false, List, [], ◌++◌, map}
 use Rattle.std.specs.List.{flat_map}
 use Rattle.std.specs.Int.{w32, to_be_bytes}
 use Rattle.sha2.specs.Hashers.{Holds256}
@@ -8,11 +8,13 @@ use Rattle.ball_model.specs.Graph.{Graph}
 use Rattle.ball_model.specs.PlanValue.{PlanValue}
 use Rattle.ball_model.specs.Job.{edge_bytes, job_bytes, digest_of}
 use Rattle.ball_model.specs.RunText.{Numbers}
+use Rattle.ball_model.specs.declared.plan.Estimate.{Estimate}
+use Rattle.ball_model.specs.declared.plan.Estimate.TheVariants.{Raw, Corrected}
 
--- the four numbers that a plan is asked for by
+-- the four numbers that a plan with raw estimates is asked for by
 abbrev pub numbers_of : ℕ → ℕ → ℕ → ℕ → Numbers
 numbers_of log2m seed parts limit =
-    record { log2m = log2m; seed = seed; parts = parts; limit = limit }
+    record { log2m = log2m; seed = seed; parts = parts; limit = limit; corrected = false }
 
 -- the plan of these numbers over a graph, but for its digest
 abbrev pub bare_plan : Numbers → Graph → PlanValue
@@ -22,6 +24,7 @@ bare_plan n g = record {
   parts = n.parts;
   limit = n.limit;
   vertices = g.vertices;
+  corrected = n.corrected;
   job = [];
 }
 
@@ -30,10 +33,20 @@ abbrev pub numbered_bytes : ℕ → ℕ → ℕ → ℕ → Graph → List ℕ
 numbered_bytes log2m seed parts limit g =
     job_bytes (bare_plan (numbers_of log2m seed parts limit) g) g
 
--- the digest of the job of these four numbers over a graph
-abbrev pub numbered_digest : ℕ → ℕ → ℕ → ℕ → Graph → List ℕ
-numbered_digest log2m seed parts limit g =
-    digest_of (bare_plan (numbers_of log2m seed parts limit) g) g
+-- the estimates are corrected for small sets
+abbrev pub is_corrected : Estimate → Bool
+is_corrected Raw = false
+is_corrected Corrected = true
+
+-- with raw estimates or corrected ones
+abbrev pub numbers_with : Bool → ℕ → ℕ → ℕ → ℕ → Numbers
+numbers_with corrected log2m seed parts limit =
+    record { log2m = log2m; seed = seed; parts = parts; limit = limit; corrected = corrected }
+
+-- the digest of the job of these four numbers over a graph, with raw estimates or corrected ones
+abbrev pub numbered_digest : Bool → ℕ → ℕ → ℕ → ℕ → Graph → List ℕ
+numbered_digest corrected log2m seed parts limit g =
+    digest_of (bare_plan (numbers_with corrected log2m seed parts limit) g) g
 
 -- the hasher was given these bytes more
 abbrev pub Hashes : Sha256 → Sha256 → List ℕ → Type 0

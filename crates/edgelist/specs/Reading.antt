@@ -1,10 +1,10 @@
 -- What is made of the records that were read so far.
-use Rattle.std.specs.Prelude.{◌≡◌, ⊤, ℕ, ◌+◌, ◌-◌, ◌^◌, ◌<◌, ◌≤◌, Bool, true, false, List, [], ◌∷◌, ◌++◌, map, length, slice_index_or, if◌then◌else◌, Option, None, Some, Result, Ok, Err, IfErr}
+use Rattle.std.specs.Prelude.{◌≡◌, ⊤, ℕ, ◌+◌, ◌-◌, ◌^◌, ◌<◌, ◌≤◌, Bool, true, false, List, [], ◌∷◌, ◌++◌, map, length, slice_index_or, if◌then◌else◌, Option, None, Some, Result, Ok, Err, IfErr, OnOk}
 use Rattle.std.specs.List.{list_any}
 use Rattle.std.specs.Str.{bytes_eq}
 use Rattle.ball_model.specs.Input.{Network, Limits, Refusal, TooManyEdges, Fields, TooManyVertices, fault_at, labels_of, records, network_from, input_of}
 use Rattle.csv.specs.declared.reader.Reader.{Reader}
-use Rattle.edgelist.specs.Records.{IsLeft}
+use Rattle.edgelist.specs.Records.{IsLeft, StopsAtEnd}
 use Rattle.edgelist.specs.Edges.{AllBelow, edge_of, graph_of_edges}
 use Rattle.edgelist.specs.declared.edge.Edge.{Edge}
 use Rattle.edgelist.specs.declared.read.EdgeError.{EdgeError}
@@ -176,3 +176,9 @@ abbrev pub EndsAtFault : {R T : Type 0} → (R → Option (List ℕ)) → Reader
     Result T EdgeError → Type 0
 EndsAtFault rem old new limits result = (d : ℕ) (text : List ℕ) → IsLeft rem d text [] old →
     IfErr result (λ error. IsRefusal error → EndsAt rem d text limits new error)
+
+-- where all records were read, the reader is as a read leaves it that found no record more
+abbrev pub EndsAtEnd : {R T : Type 0} → (R → Option (List ℕ)) → Reader R → Reader R →
+    Result T EdgeError → Type 0
+EndsAtEnd rem old new result = (d : ℕ) (text : List ℕ) → IsLeft rem d text [] old →
+    OnOk result (StopsAtEnd rem d text new)

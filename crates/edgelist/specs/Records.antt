@@ -2,7 +2,7 @@
 use Rattle.std.specs.Prelude.{◌≡◌, ℕ, Bool, true, false, not, List, [], ◌∷◌, ◌++◌, if◌then◌else◌, Option, None, Some}
 use Rattle.std.specs.List.{filter}
 use Rattle.csv.specs.Machine.{ends_at_end, field_after, fields_after, is_end, step}
-use Rattle.csv.specs.Reading.{Ready, source_of}
+use Rattle.csv.specs.Reading.{ReadRecord, Ready, is_flexible, source_of}
 use Rattle.csv.specs.declared.parser.Config.{Config}
 use Rattle.csv.specs.declared.parser.State.{State}
 use Rattle.csv.specs.declared.parser.Terminator.TheVariants as term
@@ -47,12 +47,14 @@ abbrev pub EndsAtBlank : List (List (List ℕ)) → Type 0
 EndsAtBlank [] = Unit {0}
 EndsAtBlank (r ∷ rs) = (is_blank r ≡ true → rs ≡ []) × EndsAtBlank rs
 
--- the reader is set up for records and has not failed, and the text's records are those so far and those left
+-- the reader is set up for records of any number of fields and has not failed, and the text's records are those so far
+-- and those left
 pub record IsLeft {R : Type 0} (rem : R → Option (List ℕ)) (d : ℕ) (text : List ℕ)
     (past : List (List (List ℕ))) (rdr : Reader R) : Type 0 where
   pub trims : rdr.trim ≡ trim.None
   pub ready : Ready rdr
   pub configured : rdr.config ≡ config d
+  pub flexible : is_flexible rdr ≡ true
   pub left : List ℕ
   pub source : source_of rem rdr ≡ Some left
   pub ends : EndsAtBlank (rows (config d) rdr.state [] [] left)
@@ -73,7 +75,27 @@ abbrev pub ReadsOne : {R : Type 0} → (R → Option (List ℕ)) → Reader R �
 ReadsOne rem old new fields = (d : ℕ) (text : List ℕ) (past : List (List (List ℕ))) →
     IsLeft rem d text past old → IsLeft rem d text (past ++ fields ∷ []) new
 
--- no record is left
-abbrev pub ReadsNone : {R : Type 0} → (R → Option (List ℕ)) → Reader R → Type 0
-ReadsNone rem old = (d : ℕ) (text : List ℕ) (past : List (List (List ℕ))) →
-    IsLeft rem d text past old → records d text ≡ past
+-- one read took the reader from here to there, and gave no row, or a blank one
+pub record IsLastRead {R : Type 0} (rem : R → Option (List ℕ)) (old new : Reader R) : Type 0 where
+  pub found : Bool
+  pub fields : List (List ℕ)
+  pub read : ReadRecord rem old new found fields
+  pub none : found ≡ true → is_blank fields ≡ true
+
+-- no record is left after those so far, as one read found out
+pub record FindsNone {R : Type 0} (rem : R → Option (List ℕ)) (d : ℕ) (text : List ℕ)
+    (past : List (List (List ℕ))) (old new : Reader R) : Type 0 where
+  pub all : records d text ≡ past
+  pub last : IsLastRead rem old new
+
+-- no record was left, as one read found out
+abbrev pub ReadsNone : {R : Type 0} → (R → Option (List ℕ)) → Reader R → Reader R → Type 0
+ReadsNone rem old new = (d : ℕ) (text : List ℕ) (past : List (List (List ℕ))) →
+    IsLeft rem d text past old → FindsNone rem d text past old new
+
+-- all records were read, and the reader is as a read leaves it that found no record more
+pub record StopsAtEnd {R : Type 0} (rem : R → Option (List ℕ)) (d : ℕ) (text : List ℕ)
+    (rdr : Reader R) : Type 0 where
+  pub before : Reader R
+  pub at : IsLeft rem d text (records d text) before
+  pub last : IsLastRead rem before rdr

@@ -101,7 +101,8 @@ fn next_row<R: Read + Drop>(
 ) -> Result<bool, CountedError>
     ensures one { IfOk result (λ more. more ≡ true →
         ReadsOne R.remaining reader.old reader.new (fields_of row.new)) }
-    ensures end { IfOk result (λ more. more ≡ false → ReadsNone R.remaining reader.old) }
+    ensures end { IfOk result (λ more. more ≡ false →
+        ReadsNone R.remaining reader.old reader.new) }
     ensures failed { IfErr result (λ e. e ≡ Memory) }
 {
     let more = next_record(reader, row)?;

@@ -33,7 +33,7 @@ pub use counting::CountedError;
 pub use graph::Graph;
 pub use lists::Preds;
 pub use part::Part;
-pub use read::{Delimiter, EdgeError, EdgeLimits, read_edges};
+pub use read::{Delimiter, EdgeError, EdgeLimits, MOST_RECORDS, read_edges};
 
 #[cfg(test)]
 mod tests;

@@ -2,6 +2,7 @@
 
 ghost use Rattle.std.specs.Prelude.{◌≡◌, ◌^◌, ◌<◌, ◌≤◌, length, slice_index, slice_set, bit_or};
 ghost use Rattle.std.specs.Prelude.{replicate, IfOk};
+ghost use Rattle.ball_model.specs.PlanValue.{most_parts};
 ghost use Rattle.edgelist.specs.Feeding.{masks_of, width_of};
 
 use std::alloc::{AllocError, Global};
@@ -16,7 +17,7 @@ pub(crate) enum Masks {
 impl Masks {
     // Masks with no bit set, which have room for so many bits.
     pub(crate) fn zeros(alloc: Global, count: usize, bits: u32) -> Result<Masks, AllocError>
-        requires { bits ≤ 64 }
+        requires { bits ≤ most_parts }
         ensures masks { IfOk result (λ masks. masks_of masks ≡ replicate count 0) }
         ensures room { IfOk result (λ masks. bits ≤ width_of masks) }
     {

@@ -6,7 +6,7 @@ ghost use Rattle.std.specs.Arc.{arc_value};
 ghost use Rattle.std.specs.List.{All, sum_by};
 ghost use Rattle.gapcode.specs.Lists.{AscendsFrom};
 ghost use Rattle.ball_model.specs.Graph.{preds_of, is_counted};
-ghost use Rattle.ball_model.specs.PlanValue.{vertices_of, part_size};
+ghost use Rattle.ball_model.specs.PlanValue.{most_parts, vertices_of, part_size};
 ghost use Rattle.ball_model.specs.Job.{Job, IsPart, digest_of, feed_mask, feeds_into, part_of};
 ghost use Rattle.ball_model.specs.Masks.{has_bit};
 ghost use Rattle.edgelist.specs.Feeding.{AreMasks, masks_of, width_of, edges_into};
@@ -254,7 +254,7 @@ fn mark_all(feeds: &mut Masks, plan: &Plan, p: u16, graph: &Graph)
 // The feed mask of each vertex of partition `p`.
 fn own_feeds(alloc: Global, graph: &Graph, plan: &Plan, p: u16) -> Result<Masks, AllocError>
     requires part { p < plan.now.parts }
-    requires few { plan.now.parts ≤ 64 }
+    requires few { plan.now.parts ≤ most_parts }
     requires vertices { plan.now.vertices ≡ graph.now.graph.vertices }
     ensures { IfOk result (λ feeds. masks_of feeds ≡ map
         (λ x. feed_mask graph.now.graph plan.now.parts x)

@@ -10,7 +10,7 @@ ghost use Rattle.ball_model.specs.Input.{Network, Refusal, IsPlain, most_records
 ghost use Rattle.edgelist.specs.Edges.{edge_of, graph_of_edges};
 ghost use Rattle.edgelist.specs.declared.read.EdgeError.TheVariants.{Memory};
 ghost use Rattle.edgelist.specs.Records.{ForPlain, FromStart, ReadsNone, ReadsOne};
-ghost use Rattle.edgelist.specs.Reading.{byte_of, limits_of, meaning_of, meaning_within, CountsOne, IsReadBy, Refuses, edge_error, fields_with, with_label, AreWithin, AddsEdge, Exceeds, Adds, Stops, EndsAtFault};
+ghost use Rattle.edgelist.specs.Reading.{byte_of, limits_of, meaning_of, meaning_within, CountsOne, IsReadBy, Refuses, edge_error, fields_with, with_label, AreWithin, AddsEdge, Exceeds, Adds, Stops, EndsAtEnd, EndsAtFault};
 
 use crate::edge::Edge;
 use crate::graph::Graph;
@@ -84,8 +84,8 @@ pub struct EdgeLimits {
     pub edges: u64,
 }
 
-// The most records under any limits, 2^26.
-const MOST_RECORDS: u64 = 67_108_864;
+/// The most records under any limits, 2^26.
+pub const MOST_RECORDS: u64 = 67_108_864;
 
 // The labels so far, numbered by first appearance, and the edges.
 #[derive(Drop)]
@@ -121,7 +121,8 @@ fn fields_in<'a>(row: &'a ByteRecord) -> Option<(&'a [u8], Option<&'a [u8]>)>
 fn next_row<R: Read + Drop>(reader: &mut Reader<R>, row: &mut ByteRecord) -> Result<bool, EdgeError>
     ensures one { IfOk result (λ more. more ≡ true →
         ReadsOne R.remaining reader.old reader.new (fields_of row.new)) }
-    ensures end { IfOk result (λ more. more ≡ false → ReadsNone R.remaining reader.old) }
+    ensures end { IfOk result (λ more. more ≡ false →
+        ReadsNone R.remaining reader.old reader.new) }
     ensures failed { IfErr result (λ e. (says : Result Network Refusal) → Refuses says e) }
 {
     let more = next_record(reader, row)?;
@@ -154,6 +155,9 @@ impl Reading {
         ensures edges { OnOk result (self.new.edges.items ≡ self.old.edges.items) }
         ensures few { OnOk result (length self.new.labels ≤ vertices) }
         ensures exceeds { IfErr result (Exceeds vertices (with_label self.old.labels label.now)) }
+        ensures kept { result ≡ Err EdgeError.Memory → self.new.labels ≡ self.old.labels }
+        ensures memory { result ≡ Err EdgeError.Memory →
+            length self.old.labels ≤ vertices → length self.new.labels ≤ vertices }
     {
         self.labels.number(alloc, label)?;
         if self.labels.len() > vertices as usize {
@@ -162,7 +166,7 @@ impl Reading {
         Ok(())
     }
 
-    // Adds the labels of a record of two fields, and its edge.
+    // Adds the labels of a record of two fields, and its edge. A source too many is told before the target is numbered.
     fn add_edge(
         &mut self,
         alloc: Global,
@@ -175,8 +179,16 @@ impl Reading {
         ensures few { OnOk result (length self.new.labels ≤ vertices) }
         ensures exceeds { IfErr result (
             Exceeds vertices (with_label (with_label self.old.labels source.now) target.now)) }
+        ensures both { result ≡ Err EdgeError.Memory →
+            self.new.labels ≡ with_label (with_label self.old.labels source.now) target.now →
+            length self.new.labels ≤ vertices }
+        ensures memory { result ≡ Err EdgeError.Memory →
+            length self.old.labels ≤ vertices → length self.new.labels ≤ vertices }
     {
         let from = self.labels.number(alloc, source)?;
+        if self.labels.len() > vertices as usize {
+            return Err(EdgeError::TooManyVertices);
+        }
         let to = self.labels.number(alloc, target)?;
         if self.labels.len() > vertices as usize {
             return Err(EdgeError::TooManyVertices);
@@ -201,6 +213,8 @@ impl Reading {
             result ≡ Err (EdgeError.Fields (number + 1)) }
         ensures stops { IfErr result (Stops (limits_of limits) number (fields_of row.now)
             self.old.labels self.old.edges.items) }
+        ensures memory { result ≡ Err EdgeError.Memory →
+            length self.old.labels ≤ limits.vertices → length self.new.labels ≤ limits.vertices }
     {
         if number >= limits.edges {
             return Err(EdgeError::TooManyEdges);
@@ -216,8 +230,10 @@ impl Reading {
 }
 
 impl Reading {
-    // Adds all records that are left, one after another; at most one more than the limit is asked for. Where a record
-    // is refused, none is asked for after it.
+    // Adds all records that are left, one after another; at most one more than the limit is asked for. No record is
+    // asked for after the one that is refused. After the end the reader is as a read leaves it that found no record
+    // more; whether such a read was made once or twice no clause tells (csv's contract says nothing of a reader at
+    // its end).
     fn read_all<R: Read + Drop>(
         &mut self,
         alloc: Global,
@@ -234,6 +250,7 @@ impl Reading {
             OnOk result (IsReadBy limits rs self.new.labels self.new.edges.items)) }
         ensures refused { FromStart R.remaining reader.old (λ rs.
             IfErr result (Refuses (network_from (limits_of limits) rs))) }
+        ensures last { EndsAtEnd R.remaining reader.old reader.new result }
         ensures ends { EndsAtFault R.remaining reader.old reader.new (limits_of limits) result }
     {
         for number in 0..limits.edges + 1 {
@@ -368,11 +385,13 @@ fn told(read: Result<Graph, EdgeError>, failed: bool) -> Result<Graph, EdgeError
 /// Lines end in LF or CRLF, and the last may lack its end. Empty lines and lines that begin with `#` are skipped;
 /// every other line is a record. Its fields stand between the delimiter, quotes are ordinary bytes, and nothing is
 /// trimmed. Two fields are an edge from the first to the second, and one field declares a vertex. The limits in
-/// force are never above 2^24 vertices and 2^26 records. At most one record more than the limit is asked for, and
-/// no memory is taken for a label that is known.
+/// force are never above 2^24 vertices and 2^26 records.
 ///
 /// The errors are those of the first record where a check fails, in the order `TooManyEdges`, `Fields`,
-/// `TooManyVertices`. `Read` is answered where a call of the reader failed and nowhere else, and nothing is tried again.
+/// `TooManyVertices`. `Read` is answered where a call of the reader failed and nowhere else.
+///
+/// Its parts are made so, and no clause of this call says it: at most one record more than the limit is asked for, no
+/// memory is taken for a label that is known, and a call of the reader that failed is not made again.
 pub fn read_edges<R: CountedRead>(
     alloc: Global,
     state: RandomState,

@@ -54,7 +54,8 @@ pub(crate) fn next_record<R: Read + Drop>(
 ) -> Result<bool, csv::Error>
     ensures one { IfOk result (λ more. more ≡ true →
         ReadsOne R.remaining reader.old reader.new (fields_of row.new)) }
-    ensures end { IfOk result (λ more. more ≡ false → ReadsNone R.remaining reader.old) }
+    ensures end { IfOk result (λ more. more ≡ false →
+        ReadsNone R.remaining reader.old reader.new) }
 {
     let more = reader.read_byte_record(row)?;
     if more { Ok(!is_blank(row)) } else { Ok(false) }

@@ -111,6 +111,14 @@ fn job_of(graph: &Graph, log2m: u8) -> Result<[u8; 32], PlanError> {
     }
 }
 
+/// That of the job with corrected estimates.
+fn corrected_job_of(graph: &Graph) -> Result<[u8; 32], PlanError> {
+    match graph.corrected_plan(4, 0, 2, 4096) {
+        Ok(plan) => Ok(plan.job()),
+        Err(e) => Err(e),
+    }
+}
+
 /// A part of a graph, by a plan with so many partitions.
 fn part_of(alloc: Global, graph: &Graph, parts: u16, p: u16) -> Option<Part> {
     let Ok(plan) = graph.plan(4, 0, parts, 4096) else {

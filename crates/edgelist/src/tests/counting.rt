@@ -178,6 +178,37 @@ fn digest_of_all_counted_vertices(rt: HostRuntime) {
     );
 }
 
+// The job digests of corrected estimates: SHA-256, by another program, of the 47 and 55 bytes with 48424331 and
+// 48424332 at the front.
+const CORRECTED_DIGEST: [u8; 32] = [
+    0x22, 0xae, 0x45, 0xe3, 0xf6, 0x0d, 0x10, 0x30, 0x30, 0x1f, 0xbe, 0xb0, 0xf2, 0x80, 0xd5, 0x10,
+    0xe2, 0x9c, 0x3c, 0x9d, 0xb9, 0x57, 0x5b, 0x4c, 0x4c, 0xa2, 0xd4, 0xf1, 0x76, 0x45, 0xdc, 0xb3,
+];
+
+const CORRECTED_FIRST_DIGEST: [u8; 32] = [
+    0x03, 0x5f, 0x92, 0x0d, 0x9f, 0x96, 0xb4, 0x04, 0x86, 0xa6, 0xf2, 0x44, 0x04, 0x2c, 0x41, 0xf8,
+    0x10, 0x7a, 0x09, 0x15, 0x96, 0xcb, 0xb5, 0x4b, 0x12, 0xe7, 0x09, 0x3b, 0x7f, 0xd8, 0xe1, 0xb3,
+];
+
+// The job digest in two partitions where estimates are corrected.
+fn corrected_digest(rt: &HostRuntime, list: &[u8]) -> Option<Result<[u8; 32], PlanError>> {
+    match counting(rt, list) {
+        Some(graph) => Some(corrected_job_of(&graph)),
+        None => None,
+    }
+}
+
+#[test]
+fn digests_of_corrected_estimates(rt: HostRuntime) {
+    assert_eq!(rt;
+        (
+            corrected_digest(&rt, b"a\nb\nc"),
+            corrected_digest(&rt, b"a")
+        ),
+        (Some(Ok(CORRECTED_DIGEST)), Some(Ok(CORRECTED_FIRST_DIGEST)))
+    );
+}
+
 // The number of vertices of a part of two, and whether the one with this index is counted.
 fn count_in(alloc: Global, graph: &Graph, p: u16, i: u32) -> Option<(u32, bool)> {
     match part_of(alloc, graph, 2, p) {

@@ -82,6 +82,9 @@ fn limits(rt: HostRuntime) {
         &[
             (TWO_EDGES, 3, 2, None),
             (TWO_EDGES, 2, 9, Some(EdgeError::TooManyVertices)),
+            (b"a\tb\nc\td\n", 2, 9, Some(EdgeError::TooManyVertices)),
+            (b"a\nb\nc\n", 2, 9, Some(EdgeError::TooManyVertices)),
+            (b"a\nb\na\n", 2, 9, None),
             (TWO_EDGES, 9, 1, Some(EdgeError::TooManyEdges)),
             (b"a\tb\nb\tc\n# end", 9, 2, None),
         ],

@@ -16,7 +16,7 @@ returns-then-not-more-clause-ok g c = λ d text at few.
     let counts = c.loop-number.invariant.counts d text at in
     let none : c.in_ok-more.more ≡ false = search c.if-not-more.true in
     counts-end g.R.Read.remaining d c.args.index.now c.loop-number.number text c.loop-number.reader c.loop-number.marks
-    counts (c.in_ok-more.ensures.end none d text counts.past counts.at)
+    counts (c.in_ok-more.ensures.end none d text counts.past counts.at).all
 
 -- there is no record number `most`
 pub returns-clause-ok : goal.returns-clause-ok
