@@ -1,10 +1,13 @@
 -- Snapshots and replicas may cross threads.
 use denote.Param.Send.{IsSend, IsSync, sendable}
-use Rattle.std.proofs.Crossing.{crosses}
+use Rattle.std.proofs.Crossing.{crosses, Arc-send, Arc-sync}
+use Rattle.std.specs.contracts.alloc.Global as Heap
+use Rattle.std.specs.contracts.impls.GlobalAllocator.TheImpl.{ghosts}
+use Rattle.std.specs.contracts.sync.Arc as arc
 use Rattle.registers.proofs.Crossing.{rows_send, rows_sync}
 use Rattle.batches.proofs.Crossing.{batch_send, batch_sync}
 use Rattle.edgelist.proofs.Crossing.{part_send, part_sync}
-use Rattle.figures.proofs.Crossing.{tally_send, tally_sync}
+use Rattle.figures.proofs.Crossing.{estimator_send, estimator_sync, tally_send, tally_sync}
 use Rattle.replica.specs.contracts.Replica as replica
 use Rattle.replica.specs.contracts.Snapshot as snapshot
 
@@ -15,7 +18,14 @@ pub snapshot_sync : IsSync snapshot.the_row
 snapshot_sync = search (part_send, part_sync, rows_sync, tally_sync, batch_send, batch_sync, sendable, crosses) depth 30 fits 20000
 
 pub replica_send : IsSend replica.the_row
-replica_send = search (part_send, part_sync, rows_send, tally_send, batch_send, batch_sync, sendable, crosses) depth 30 fits 20000
+replica_send = search (part_send, part_sync, rows_send, tally_send, estimator_send, batch_send, batch_sync, sendable, crosses) depth 30 fits 20000
 
 pub replica_sync : IsSync replica.the_row
-replica_sync = search (part_send, part_sync, rows_sync, tally_sync, batch_send, batch_sync, sendable, crosses) depth 30 fits 20000
+replica_sync = search (part_send, part_sync, rows_sync, tally_sync, estimator_sync, batch_send, batch_sync, sendable, crosses) depth 30 fits 20000
+
+-- threads may share a snapshot
+pub shared_snapshot_send : IsSend (arc.the_row snapshot.the_row Heap.the_row ghosts)
+shared_snapshot_send = Arc-send _ snapshot_send snapshot_sync
+
+pub shared_snapshot_sync : IsSync (arc.the_row snapshot.the_row Heap.the_row ghosts)
+shared_snapshot_sync = Arc-sync _ snapshot_send snapshot_sync

@@ -34,7 +34,7 @@ unfolding batches_in
 batches_in-append xs ys = flat_map-append option_to_list xs ys
 
 -- those of a table, level by level
-three_levels : (early : List (List (Option BatchValue))) → length early ≡ 3 → early_batches early ≡ batches_in (get_or early 0 []) ++ (batches_in (get_or early 1 []) ++ batches_in (get_or early 2 []))
+pub three_levels : (early : List (List (Option BatchValue))) → length early ≡ 3 → early_batches early ≡ batches_in (get_or early 0 []) ++ (batches_in (get_or early 1 []) ++ batches_in (get_or early 2 []))
 unfolding early_batches
 three_levels [] long = absurd (omega arith)
 three_levels (x ∷ []) long = absurd (omega arith)

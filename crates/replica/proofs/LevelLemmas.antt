@@ -49,11 +49,18 @@ pub record Ready (j : Job) (p t : ℕ) (v : State) : Type 0 where
   pub stands : StandsFor j p t v
   pub none : missing_of v.part.plan.parts v.part.number (content_of v) ≡ None
 
+-- the plan and the number of a part that is the job's
+pub plan_of_part : (j : Job) (p : ℕ) (v : State) → v.part ≡ part_of j p → v.part.plan ≡ j.plan
+plan_of_part j p v is = ap (λ (a : PartValue). a.plan) is ∙ part_plan j p
+
+pub number_of_part : (j : Job) (p : ℕ) (v : State) → v.part ≡ part_of j p → v.part.number ≡ p
+number_of_part j p v is = ap (λ (a : PartValue). a.number) is ∙ part_number j p
+
 pub plan_is : (j : Job) (p t : ℕ) (v : State) → StandsFor j p t v → v.part.plan ≡ j.plan
-plan_is j p t v h = ap (λ (a : PartValue). a.plan) h.part ∙ part_plan j p
+plan_is j p t v h = plan_of_part j p v h.part
 
 pub number_is : (j : Job) (p t : ℕ) (v : State) → StandsFor j p t v → v.part.number ≡ p
-number_is j p t v h = ap (λ (a : PartValue). a.number) h.part ∙ part_number j p
+number_is j p t v h = number_of_part j p v h.part
 
 pub size_is : (j : Job) (p t : ℕ) (v : State) → StandsFor j p t v → length v.part.preds ≡ part_size j.graph.vertices j.plan.parts p
 size_is j p t v h = ap (λ (a : PartValue). length a.preds) h.part ∙ length-part_preds j p

@@ -31,3 +31,5 @@ pub mod OverLemmas
 pub mod AccumulatorLemmas
 pub mod Crossing
 pub mod ReceiveLemmas
+pub mod SavedLemmas
+pub mod RebuiltLemmas

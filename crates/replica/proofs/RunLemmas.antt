@@ -7,6 +7,7 @@ use Rattle.ball_model.specs.declared.names.Taken.{Taken}
 use Rattle.ball_model.specs.declared.names.TakeError.{TakeError}
 use Rattle.ball_model.specs.declared.names.CloseError.{CloseError}
 use Rattle.ball_model.specs.declared.names.MergeError.{MergeError}
+use Rattle.ball_model.specs.declared.names.Verdict.{Verdict}
 use Rattle.ball_model.specs.declared.names.Verdict.TheVariants as verdict
 use Rattle.ball_model.specs.Graph.{Graph, IsGraph, is_path, in_ball, is_counted}
 use Rattle.ball_model.specs.Counter.{Mixing, counter_of, ball_counter}
@@ -22,9 +23,14 @@ use Rattle.ball_model.proofs.ChangeLemmas.{changed_next}
 use Rattle.ball_model.proofs.QuietLemmas.{quiet_stays, none_in}
 use Rattle.ball_model.specs.Join.{union_of, merge_of}
 use Rattle.ball_model.specs.Steps.{Call, Take, Close, Merge, Answer, Took, Closed, Merged, answer_of, answers_of, content_after, content_after_all, content_after_close, start_content}
+use Rattle.replica.specs.Level.{found_verdict}
 use Rattle.replica.specs.Runs.{HasContent, Takes, Did, Made, closes_in}
+use Rattle.std.specs.Cmp.{booleans_Decides}
 use Rattle.std.proofs.lemmas.Slice.Eq.{bytes_eq-Decides}
 use Rattle.std.specs.Cmp.{both_ways}
+use Rattle.replica.specs.Level.{EndsRun, found_verdict}
+use Rattle.replica.proofs.BusyLemmas.{found_verdict-is}
+use Rattle.replica.proofs.VerdictLemmas.{at_end}
 use Rattle.replica.proofs.OwnLemmas.{vertex_of, place_below, vertex_at}
 use Rattle.replica.proofs.LevelLemmas.{plan_is, number_is, row_at}
 use Rattle.replica.proofs.RiseLemmas.{same_registers}
@@ -71,7 +77,7 @@ merged j p d (Err e) c v w h is names stands = absurd (cc)
 
 -- a plan is the same as itself
 pub same_plan-self : (a : PlanValue) → same_plan a a ≡ true
-same_plan-self a = rw (eq-eqb a.log2m a.log2m refl, eq-eqb a.seed a.seed refl, eq-eqb a.parts a.parts refl, eq-eqb a.limit a.limit refl, eq-eqb a.vertices a.vertices refl, (bytes_eq-Decides a.job a.job).1 refl) refl
+same_plan-self a = rw (eq-eqb a.log2m a.log2m refl, eq-eqb a.seed a.seed refl, eq-eqb a.parts a.parts refl, eq-eqb a.limit a.limit refl, eq-eqb a.vertices a.vertices refl, (booleans_Decides a.corrected a.corrected).1 refl, (bytes_eq-Decides a.job a.job).1 refl) refl
 
 -- a replica and one of the same partition of the job
 pub same_job : (p : ℕ) (plan : PlanValue) → merge_of plan p plan p ≡ Ok tt
@@ -161,14 +167,29 @@ stable_to : (j : Job) (t : ℕ) (o : Option ℕ) → o ≡ None → 1 ≤ t → 
 unfolding verdict_at
 stable_to j t o none low quiet = rw (none, le-leb 1 t low, quiet) refl
 
+-- what is read off a replica is what its content says
+found_here : (j : Job) (p t : ℕ) (v : State) → StandsFor j p t v → found_verdict v ≡ verdict_unless (missing_of j.plan.parts p (content_of v)) (verdict_at j t)
+found_here j p t v h = found_verdict-is j p t v h ∙ verdict_here j p t v h
+
 -- stable is quiet
 pub stable_is : (j : Job) (p t : ℕ) (v : State) → StandsFor j p t v →
-    (verdict_of j p (content_of v) ≡ Some verdict.Stable → (missing_of j.plan.parts p (content_of v) ≡ None) × (1 ≤ t) × (any_changed (mixing_of j.plan) j.graph t ≡ false))
-    × ((missing_of j.plan.parts p (content_of v) ≡ None) × (1 ≤ t) × (any_changed (mixing_of j.plan) j.graph t ≡ false) → verdict_of j p (content_of v) ≡ Some verdict.Stable)
+    (found_verdict v ≡ Some verdict.Stable → (missing_of j.plan.parts p (content_of v) ≡ None) × (1 ≤ t) × (any_changed (mixing_of j.plan) j.graph t ≡ false))
+    × ((missing_of j.plan.parts p (content_of v) ≡ None) × (1 ≤ t) × (any_changed (mixing_of j.plan) j.graph t ≡ false) → found_verdict v ≡ Some verdict.Stable)
 stable_is j p t v h = (
-  λ e. stable_at j t (missing_of j.plan.parts p (content_of v)) (sym (verdict_here j p t v h) ∙ e),
-  λ r. verdict_here j p t v h ∙ stable_to j t (missing_of j.plan.parts p (content_of v)) r.0 r.1 r.2,
+  λ e. stable_at j t (missing_of j.plan.parts p (content_of v)) (sym (found_here j p t v h) ∙ e),
+  λ r. found_here j p t v h ∙ stable_to j t (missing_of j.plan.parts p (content_of v)) r.0 r.1 r.2,
 )
+
+-- where the run is over, the level is held
+ends_held : (o : Option ℕ) (w : Verdict) → EndsRun (verdict_unless o w) → EndsRun (Some w)
+ends_held None w e = e
+ends_held (Some q) w (inl bad) = absurd (cc)
+ends_held (Some q) w (inr bad) = absurd (cc)
+
+-- and it is at the end
+pub over_at_end : (j : Job) (p t : ℕ) (v : State) → StandsFor j p t v → EndsRun (found_verdict v) → t ≡ end_of (mixing_of j.plan) j.graph j.plan.limit
+over_at_end j p t v h over =
+    at_end j t h.job h.in_time (ends_held (missing_of j.plan.parts p (content_of v)) (verdict_at j t) (subst (λ o. EndsRun o) (found_here j p t v h) over))
 
 -- a ball keeps its members
 ball_keeps : (g : Graph) (x t k y : ℕ) → IsGraph g → x < g.vertices → in_ball g x t y ≡ true → in_ball g x (t + k) y ≡ true
@@ -223,7 +244,7 @@ counter_reaches m g x t reaches ok lt quiet paths =
     (λ r. rw swap (ball_keeps g x all.0 t y ok lt (all.1 y below r))))))
 
 -- a stable replica's rows are those counters
-pub stable_reaches : (j : Job) (p t x : ℕ) (v : State) (reaches : ℕ → Bool) → StandsFor j p t v → verdict_of j p (content_of v) ≡ Some verdict.Stable → x < j.graph.vertices → x % j.plan.parts ≡ p →
+pub stable_reaches : (j : Job) (p t x : ℕ) (v : State) (reaches : ℕ → Bool) → StandsFor j p t v → found_verdict v ≡ Some verdict.Stable → x < j.graph.vertices → x % j.plan.parts ≡ p →
     ((y : ℕ) → y < j.graph.vertices → (IsTrue (reaches y) → (path : List ℕ) × IsTrue (is_path j.graph y x path)) × (((path : List ℕ) × IsTrue (is_path j.graph y x path)) → IsTrue (reaches y))) →
     get_or v.rows (x / j.plan.parts) [] ≡ counter_of (mixing_of j.plan) j.graph.vertices (λ y. reaches y && is_counted j.graph y)
 stable_reaches j p t x v reaches h stable lt own paths =

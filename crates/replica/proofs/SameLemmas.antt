@@ -115,7 +115,7 @@ early_same j p c v w h k s r =
     (λ q e below. get_or_default x q e None below ∙ place_same j p c i q v w h k ∙ sym (get_or_default y q e None (omega (arith, a.sources i inside, b.sources i inside, parts))))
     ∙ sym (get_or_default w.early i d [] (omega (arith, a.levels, b.levels))))
 
-same_state : (v w : State) → v.part ≡ w.part → v.superstep ≡ w.superstep → v.rows ≡ w.rows → v.marks ≡ w.marks → v.tallies ≡ w.tallies → v.sums ≡ w.sums → v.heard ≡ w.heard → v.heard_change ≡ w.heard_change → v.accumulated ≡ w.accumulated → v.early ≡ w.early → v ≡ w
+pub same_state : (v w : State) → v.part ≡ w.part → v.superstep ≡ w.superstep → v.rows ≡ w.rows → v.marks ≡ w.marks → v.tallies ≡ w.tallies → v.sums ≡ w.sums → v.heard ≡ w.heard → v.heard_change ≡ w.heard_change → v.accumulated ≡ w.accumulated → v.early ≡ w.early → v ≡ w
 same_state v w part superstep rows marks tallies sums heard change accumulated early = λ i. record {
   part = part i;
   superstep = superstep i;

@@ -1,7 +1,8 @@
 -- Some vertex is changed exactly where some partition counts one, and then the end is further.
 use Rattle.std.proofs.Common.{◌≡◌, ℕ, ◌+◌, ◌%◌, ◌<◌, ◌≤◌, nat_le, Bool, true, false, not, ◌&&◌, ◌==◌, List, [], ◌∷◌, length, if◌then◌else◌, refl, arith, sym, ◌∙◌, inl, inr, subst, ap}
 use Rattle.std.specs.List.{list_any, range_with_len, filter, AllByRecursion}
-use Rattle.std.proofs.lemmas.Bool.{cases_lt, or_cases, eqb-true, eqb-false, le-leb, not-false}
+use Rattle.std.specs.Prelude.{Some, ◌⊎◌}
+use Rattle.std.proofs.lemmas.Bool.{cases_lt, or_cases, eqb-true, eqb-false, le-leb, leb-true, not-false}
 use Rattle.std.proofs.lemmas.List.Sums.{length-filter}
 use Rattle.ball_model.specs.declared.names.Verdict.TheVariants as verdict
 use Rattle.ball_model.specs.Change.{changed_at, any_changed}
@@ -11,7 +12,8 @@ use Rattle.ball_model.specs.Job.{Job, IsJob}
 use Rattle.ball_model.specs.Batches.{changed_count}
 use Rattle.ball_model.specs.Content.{verdict_at}
 use Rattle.ball_model.proofs.QuietLemmas.{none_in, none_of}
-use Rattle.ball_model.proofs.EndLemmas.{end_within, end_reached}
+use Rattle.ball_model.proofs.EndLemmas.{end_within, end_least, end_reached}
+use Rattle.replica.specs.Level.{EndsRun}
 use Rattle.replica.proofs.OwnLemmas.{is_vertex, all_own}
 
 count_one : (b : Bool) (y : ℕ) (rest : List ℕ) → length (if b then (y ∷ rest) else rest) ≡ 0 → (b ≡ false) × (length rest ≡ 0)
@@ -96,4 +98,31 @@ end_further j t ok le on =
             | inl quiet ↦ absurd (let q : any_changed m g t ≡ false = subst (λ (k : ℕ). any_changed m g k ≡ false) same quiet in cc)
             | inr last ↦ absurd (eqb-false t j.plan.limit says.1 (sym same ∙ last))
           ]
+    ]
+
+-- what a verdict that the run is over says
+ends : (low changed last : Bool) → EndsRun (Some (if low && not changed then verdict.Stable else (if last then verdict.Limit else verdict.GoOn))) → ((low ≡ true) × (changed ≡ false)) ⊎ (last ≡ true)
+ends true false last e = inl (refl, refl)
+ends true true true e = inr refl
+ends true true false (inl bad) = absurd (cc)
+ends true true false (inr bad) = absurd (cc)
+ends false changed true e = inr refl
+ends false changed false (inl bad) = absurd (cc)
+ends false changed false (inr bad) = absurd (cc)
+
+-- a run that is over is at the end
+pub at_end : (j : Job) (t : ℕ) → IsJob j → t ≤ end_of (mixing_of j.plan) j.graph j.plan.limit → EndsRun (Some (verdict_at j t)) → t ≡ end_of (mixing_of j.plan) j.graph j.plan.limit
+unfolding verdict_at
+at_end j t ok le over =
+    let m = mixing_of j.plan in
+    let g = j.graph in
+    elim (ends (nat_le 1 t) (any_changed m g t) (t == j.plan.limit) over) [
+      | inl still ↦ elim (cases_lt t (end_of m g j.plan.limit)) [
+        | inl before ↦ absurd (let bad : true ≡ false = sym (end_least m g j.plan.limit t (leb-true 1 t still.0) before) ∙ still.1 in cc)
+        | inr at ↦ omega arith
+      ]
+      | inr last ↦
+          let at : t ≡ j.plan.limit = eqb-true t j.plan.limit last in
+          let within = (end_within m g j.plan.limit ok.plan.limit_from).1 in
+          omega arith
     ]

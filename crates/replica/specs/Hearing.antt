@@ -1,8 +1,11 @@
 -- What a replica has heard of its superstep, and what becomes of it as batches are heard.
-use Rattle.std.specs.Prelude.{◌≡◌, ℕ, Bool, false, ◌||◌, ◌==◌, List, length, Option, None, Some, is_some, nat_lt, IfSome, slice_index_or, if◌then◌else◌}
-use Rattle.ball_model.specs.Accumulated.{accumulated_of}
-use Rattle.ball_model.specs.Batches.{BatchValue, true_batch}
+use Rattle.std.specs.Prelude.{◌≡◌, ℕ, ◌%◌, Bool, false, not, ◌||◌, ◌&&◌, ◌==◌, List, length, map, Option, None, Some, is_some, nat_lt, IfSome, slice_index_or, if◌then◌else◌}
+use Rattle.std.specs.List.{list_any, range_with_len}
+use Rattle.ball_model.specs.Accumulated.{accumulated_of, accumulated_row}
+use Rattle.ball_model.specs.Batches.{BatchValue, true_batch, changed_count}
+use Rattle.ball_model.specs.Content.{Content}
 use Rattle.ball_model.specs.Job.{Job, IsJob, part_of}
+use Rattle.ball_model.specs.PlanValue.{mixing_of}
 use Rattle.ball_model.specs.State.{State, is_heard, heard_changes}
 use Rattle.replica.specs.Index.{targets_of}
 use Rattle.replica.specs.Kept.{AllRise}
@@ -49,3 +52,19 @@ pub record Hears (log2m : ℕ) (targets : List (List ℕ)) (told : ℕ → Optio
 abbrev pub HearsBatch : List (List ℕ) → BatchValue → Hearing → Hearing → Type 0
 HearsBatch targets b old new =
     Hears b.plan.log2m targets (batch_by b.name.source (Some b)) old new
+
+-- which of 64 sources are held of the superstep
+abbrev pub heard_by : Content → List Bool
+heard_by c = map (λ q. c.holds c.superstep q) (range_with_len 0 64)
+
+-- a partition that is held of the superstep has a vertex that is changed there
+abbrev pub change_by : Job → Content → Bool
+change_by j c =
+    list_any (λ q. c.holds c.superstep q && not (changed_count j c.superstep q == 0))
+    (range_with_len 0 j.plan.parts)
+
+-- what is accumulated for x, where the partitions that are held of the superstep are heard
+abbrev pub accumulated_by : Job → Content → ℕ → List ℕ
+accumulated_by j c x =
+    accumulated_row (mixing_of j.plan) j.graph x c.superstep
+    (λ z. c.holds c.superstep (z % j.plan.parts))

@@ -11,3 +11,4 @@ pub mod Sent
 pub mod Merged
 pub mod Runs
 pub mod Heard
+pub mod Saved

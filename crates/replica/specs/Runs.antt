@@ -13,11 +13,12 @@ use Rattle.ball_model.specs.Change.{any_changed}
 use Rattle.ball_model.specs.Supersteps.{end_of}
 use Rattle.ball_model.specs.PlanValue.{mixing_of}
 use Rattle.ball_model.specs.Job.{Job}
-use Rattle.ball_model.specs.Content.{Content, IsContent, take_of, is_new, missing_of, verdict_of, close_of, after_close}
+use Rattle.ball_model.specs.Content.{Content, IsContent, take_of, is_new, missing_of, close_of, after_close}
 use Rattle.ball_model.specs.Join.{union_of}
 use Rattle.ball_model.specs.State.{State, StandsFor, content_of}
 use Rattle.ball_model.specs.Steps.{Call, Take, Close, Merge, Answer, Took, Closed, Merged, start_content, content_after_all, answers_of}
 use Rattle.replica.specs.Change.{HoldsAfter}
+use Rattle.replica.specs.Level.{EndsRun, found_verdict}
 use Rattle.replica.specs.Seen.{IsState}
 
 -- the replica stands for the partition and has that content
@@ -86,17 +87,23 @@ RunIsInTime = (j : Job) (p : ℕ) (calls : List Call) (answers : List Answer) (v
     (closes_in answers ≤ w.superstep)
     × (w.superstep ≤ end_of (mixing_of j.plan) j.graph j.plan.limit)
 
--- the verdict is stable exactly where the level is held, the superstep is not 0, and no vertex of the graph is changed
+-- the verdict that the replica tells is stable exactly where the level is held, the superstep is not 0, and no vertex
+-- of the graph is changed
 abbrev pub StableIsQuiet : Type 0
 StableIsQuiet = (j : Job) (p t : ℕ) (v : State) → StandsFor j p t v →
-    (verdict_of j p (content_of v) ≡ Some verdict.Stable)
+    (found_verdict v ≡ Some verdict.Stable)
     ↔ ((missing_of j.plan.parts p (content_of v) ≡ None) × (1 ≤ t)
     × (any_changed (mixing_of j.plan) j.graph t ≡ false))
 
--- then each row is the counter of all counted vertices that can reach its vertex
+-- a replica whose verdict is that the run is over is at the end
+abbrev pub OverIsAtEnd : Type 0
+OverIsAtEnd = (j : Job) (p t : ℕ) (v : State) → StandsFor j p t v → EndsRun (found_verdict v) →
+    t ≡ end_of (mixing_of j.plan) j.graph j.plan.limit
+
+-- where it is stable, each row is the counter of all counted vertices that can reach its vertex
 abbrev pub StableReaches : Type 0
 StableReaches = (j : Job) (p t x : ℕ) (v : State) (reaches : ℕ → Bool) → StandsFor j p t v →
-    verdict_of j p (content_of v) ≡ Some verdict.Stable → x < j.graph.vertices →
+    found_verdict v ≡ Some verdict.Stable → x < j.graph.vertices →
     x % j.plan.parts ≡ p →
     ((y : ℕ) → y < j.graph.vertices →
     IsTrue (reaches y) ↔ ((path : List ℕ) × IsTrue (is_path j.graph y x path))) →

@@ -1,6 +1,6 @@
 //! What a replica promises over whole runs: the contract of each function is the law, and its body is empty.
 
-ghost use Rattle.replica.specs.Runs.{RunStands, RunAnswers, RunIsInTime, StableIsQuiet, StableReaches, HoldsItsWindow, SameContentIsSame, SameCallsAlike};
+ghost use Rattle.replica.specs.Runs.{RunStands, RunAnswers, RunIsInTime, StableIsQuiet, StableReaches, OverIsAtEnd, HoldsItsWindow, SameContentIsSame, SameCallsAlike};
 
 /// End to end, without faults.
 ///
@@ -8,13 +8,15 @@ ghost use Rattle.replica.specs.Runs.{RunStands, RunAnswers, RunIsInTime, StableI
 /// snapshots of replicas of the same partition, a replica stands for what the calls make of its content, and each call
 /// answers what the content says. Its superstep is at most the end, and at most so many of the closes went on. Its
 /// verdict is stable exactly where its level is held, the superstep is not 0, and no vertex of the graph is changed;
-/// then each of its rows is the counter of all counted vertices that can reach its vertex.
+/// then each of its rows is the counter of all counted vertices that can reach its vertex. Where its verdict is that the
+/// run is over, it is at the end.
 pub fn end_to_end()
     ensures stands { RunStands }
     ensures answers { RunAnswers }
     ensures in_time { RunIsInTime }
     ensures stable { StableIsQuiet }
     ensures reaches { StableReaches }
+    ensures over { OverIsAtEnd }
 {}
 
 /// Whatever its batches say, a replica holds only batches of other partitions, of its superstep to three further ones,

@@ -3,7 +3,7 @@
 ghost use Rattle.std.specs.Prelude.{◌≡◌, ℕ, ◌<◌, ◌≤◌, ◌+◌, ◌*◌, ◌^◌, false, not, [], slice_set, length, slice_index_or, option_map, map, IfSome, count_by};
 ghost use Rattle.std.specs.List.{sum_by, list_any};
 ghost use Rattle.std.specs.Str.{bytes_eq};
-ghost use Rattle.ball_model.specs.Figures.{estimate_of};
+ghost use Rattle.ball_model.specs.Figures.{estimate_with};
 ghost use Rattle.ball_model.specs.Laws.{IsCounterRow};
 ghost use Rattle.ball_model.specs.PlanValue.{greatest_limit};
 ghost use Rattle.ball_model.specs.State.{early_at};
@@ -20,7 +20,7 @@ use crate::spread::spread_batch;
 use crate::targets::Targets;
 use ball_model::Plan;
 use batches::Batch;
-use figures::{Tally, estimate};
+use figures::{Estimator, Tally};
 use registers::{Rows, SourceMask};
 
 /// Hears a batch of the superstep: its rows are spread, and its source is heard.
@@ -170,35 +170,41 @@ pub fn clear_marks(marks: &mut [bool])
 
 /// The figures at superstep `t` of all rows, whose marks say which of them changed; the answer is what the sum of the
 /// last estimates has gained. Figures of rows that did not change stay as they are.
-pub fn step_tallies(log2m: u8, t: u32, rows: &Rows, marks: &[bool], tallies: &mut [Tally]) -> u128
+pub fn step_tallies(
+    estimator: &Estimator,
+    t: u32,
+    rows: &Rows,
+    marks: &[bool],
+    tallies: &mut [Tally],
+) -> u128
     requires from { 0 < t }
     requires to { t ≤ greatest_limit }
-    requires rows { AreCounters log2m rows.now.rows }
+    requires rows { AreCounters estimator.now.log2m rows.now.rows }
     requires marks { length marks.now ≡ length rows.now.rows }
     requires count { length tallies.old ≡ length rows.now.rows }
-    requires lasts { AreLasts log2m rows.now.rows marks.now (map value_of tallies.old) }
-    ensures tallies { map value_of tallies.new ≡ next_tallies log2m t rows.now.rows
+    requires lasts { AreLasts estimator.now rows.now.rows marks.now (map value_of tallies.old) }
+    ensures tallies { map value_of tallies.new ≡ next_tallies estimator.now t rows.now.rows
         (map value_of tallies.old) (length rows.now.rows) }
     ensures gain { sum_by (λ tally. tally.last) tallies.new ≡
         sum_by (λ tally. tally.last) tallies.old + result }
 {
     let mut gain = 0;
     for (i, tally) in tallies.iter_mut().enumerate() {
-        gain += step_tally(log2m, t, rows.row(i), marks[i], tally);
+        gain += step_tally(estimator, t, rows.row(i), marks[i], tally);
     }
     gain
 }
 
 // The figures at superstep `t` of a row; the answer is what its estimate has gained. Where the row has not changed,
 // they stay as they are.
-fn step_tally(log2m: u8, t: u32, row: &[u8], changed: bool, tally: &mut Tally) -> u128
+fn step_tally(estimator: &Estimator, t: u32, row: &[u8], changed: bool, tally: &mut Tally) -> u128
     requires from { 0 < t }
     requires to { t ≤ greatest_limit }
-    requires row { IsCounterRow log2m row.now }
-    requires grown { tally.old.last ≤ estimate_of log2m row.now }
-    requires same { changed ≡ false → tally.old.last ≡ estimate_of log2m row.now }
+    requires row { IsCounterRow estimator.now.log2m row.now }
+    requires grown { tally.old.last ≤ estimate_with estimator.now row.now }
+    requires same { changed ≡ false → tally.old.last ≡ estimate_with estimator.now row.now }
     ensures value { value_of tally.new ≡
-        next_tally t (value_of tally.old) (estimate_of log2m row.now) }
+        next_tally t (value_of tally.old) (estimate_with estimator.now row.now) }
     ensures gain { tally.new.last ≡ tally.old.last + result }
     ensures small { result < 2 ^ 64 }
 {
@@ -206,7 +212,7 @@ fn step_tally(log2m: u8, t: u32, row: &[u8], changed: bool, tally: &mut Tally) -
         return 0;
     }
     let before = tally.last;
-    tally.step(t, estimate(log2m, row));
+    tally.step(t, estimator.estimate(row));
     u128::from(tally.last - before)
 }
 

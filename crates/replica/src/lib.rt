@@ -2,10 +2,11 @@
 //!
 //! A [`Replica`] has the registers of each vertex of its partition at a superstep t, which of them changed there, the
 //! figures so far, and the batches that it holds, of the supersteps t to t + 3. It holds its level where it has the
-//! batch of superstep t of every other partition, those without rows too. Then [`Replica::verdict`] says whether the
+//! batch of superstep t of every other partition, those without rows too. Then [`Shown::verdict`] says whether the
 //! run goes on, and [`Replica::close`] makes the rows of t + 1: each is raised by those of its predecessors that
 //! changed at t, and by no other, since an unchanged row has nothing new to say. [`Replica::out`] is what the
-//! partition tells another one of t, and [`Replica::take`] holds what it is told.
+//! partition tells another one of t, and [`Replica::take`] holds what it is told. What a replica and a snapshot of it
+//! tell of what they have are the calls of one trait, [`Shown`].
 //!
 //! What a replica stands for is a definition of `ball_model`: all that it has is what the definitions say of its
 //! superstep. Whatever a batch says, true or not, registers stay at most 33 and every figure fits its type.
@@ -31,7 +32,8 @@
 //! replica.close()                                    // Ok(1), the superstep that it is at now
 //! ```
 //!
-//! Only [`Replica::new`], [`Replica::out`], [`Replica::snapshot`], [`Replica::merge`] and a join take memory.
+//! Only [`Replica::new`], [`Replica::rebuild`], [`Replica::out`], [`Replica::snapshot`], [`Replica::merge`] and a join
+//! take memory.
 #![tactic(auto)]
 
 mod early;
@@ -41,6 +43,8 @@ mod level;
 mod merge;
 mod node;
 mod out;
+mod rebuild;
+pub mod saved;
 mod shown;
 mod spread;
 mod start;
@@ -49,8 +53,10 @@ mod targets;
 
 use early::Early;
 use edgelist::Part;
-use figures::Tally;
+use figures::{Estimator, Tally};
 use registers::{Rows, SourceMask};
+pub use saved::Saved;
+pub use shown::Shown;
 use std::marker::Model;
 use std::sync::Arc;
 use targets::Targets;
@@ -97,14 +103,16 @@ impl Model for Snapshot {
 ///
 /// Its memory is taken when it is made: two rows of 2^log2m bytes and a tally for each vertex, 4 bytes for each edge
 /// into the partition, a slot for each source and each of three supersteps, and a sum for each superstep up to the
-/// limit. Where [`Replica::close`] answers that the run is over, that of the edges is given back, and one of the two
-/// rows if they are equal.
+/// limit. Where the run is over, [`Replica::give_back`] gives back that of the edges, and one of the two rows if they
+/// are equal.
 #[derive(Drop)]
 pub struct Replica {
     known: Snapshot,
     targets: Targets,
     // which rows differ from what is accumulated for them
     touched: Vec<bool>,
+    // how estimates are made
+    estimator: Estimator,
 }
 
 impl Model for Replica {

@@ -19,7 +19,8 @@ ghost use Rattle.ball_model.specs.State.{SameShown, StandsFor, content_of, furth
 ghost use Rattle.figures.specs.Values.{value_of};
 ghost use Rattle.replica.specs.Ahead.{early_batches, early_names, true_early};
 ghost use Rattle.replica.specs.Change.{HoldsAfter, IsTrueBatch, take_answer};
-ghost use Rattle.replica.specs.Level.{EndsRun, found_verdict, is_finished, missing_in, nothing};
+ghost use Rattle.replica.specs.Hearing.{accumulated_by, change_by, heard_by};
+ghost use Rattle.replica.specs.Level.{EndsRun, found_verdict, missing_in};
 ghost use Rattle.replica.specs.Merged.{Absorbs, HoldsOfBoth, ShowsAs, merge_answer};
 ghost use Rattle.replica.specs.Sent.{batch_name, sent_batch};
 ghost use Rattle.replica.specs.Start.{Starts};
@@ -27,6 +28,7 @@ ghost use Rattle.replica.specs.Seen.{IsState};
 ghost use Rattle.replica.specs.Runs.{HasContent, Takes, Closes, Merges};
 
 use crate::early::Early;
+use crate::shown::Shown;
 use crate::targets::Targets;
 use crate::{Replica, Snapshot, start, step};
 use ball_model::{BatchName, CloseError, MergeError, Plan, TakeError, Taken, Verdict};
@@ -58,11 +60,13 @@ impl Replica {
     {
         let targets = Targets::of(alloc, &part)?;
         let touched = vec![in alloc; false; part.size() as usize]?;
-        let known = start::first(alloc, part)?;
+        let estimator = start::estimator_of(alloc, part.plan())?;
+        let known = start::first(alloc, part, &estimator)?;
         Ok(Replica {
             known,
             targets,
             touched,
+            estimator,
         })
     }
 
@@ -102,9 +106,7 @@ impl Replica {
     /// [`Waiting`](CloseError::Waiting) where a batch of the level is missing, for the least such source, then
     /// [`Finished`](CloseError::Finished) where the verdict is Stable or Limit; an error changes nothing. Batches of
     /// the superstep go, the others stay. It takes time in proportion to the registers of the vertices that change and
-    /// of the edges from own vertices that did, and a look at one mark a vertex. Where it answers `Finished`, it gives
-    /// back the memory of the index, and that of the accumulators if each equals its row; only a merge or a join may
-    /// need them again.
+    /// of the edges from own vertices that did, and a look at one mark a vertex.
     pub fn close(&mut self) -> Result<u32, CloseError>
         ensures waits { (q : ℕ) →
             (result ≡ Err (waits.Waiting q)) ↔ (missing_in self.old ≡ Some q) }
@@ -124,9 +126,20 @@ impl Replica {
         // a step of a run
         ensures step { (j : Job) (p : ℕ) → Closes j p result self.old self.new }
     {
-        let answer = self.known.found_close(&self.targets, &mut self.touched);
-        let_go(&mut self.targets, &answer);
-        answer
+        self.known
+            .found_close(&self.targets, &self.estimator, &mut self.touched)
+    }
+
+    /// Gives back the memory that a run that is over needs no more: that of the index, and that of the accumulators if
+    /// each equals its row. Where the run is not over it does nothing. What the replica has stays as it is, and only a
+    /// merge or a join may take the memory again.
+    pub fn give_back(&mut self)
+        ensures { self.new ≡ self.old }
+    {
+        if self.known.is_over() {
+            self.known.settle(&self.touched);
+            self.targets.clear();
+        }
     }
 
     /// Takes over what a snapshot of a replica of the same partition knows: its superstep, rows and figures where it
@@ -135,7 +148,7 @@ impl Replica {
     /// In this order: [`OtherJob`](MergeError::OtherJob) where the plan is another,
     /// [`NotMine`](MergeError::NotMine) where the partition is, [`Memory`](MergeError::Memory) where that of the list
     /// of shared batches, three for each partition, is refused, or that of the index and the accumulators, which are
-    /// made again where `close` has given them back; an error changes nothing. It waits for nobody. It takes time in
+    /// made again where `give_back` has given them back; an error changes nothing. It waits for nobody. It takes time in
     /// proportion to the registers of the partition, and of the edges from the early batches' vertices.
     pub fn merge(&mut self, alloc: Global, other: &Snapshot) -> Result<(), MergeError>
         ensures answer { result ≢ Err refusal.Memory →
@@ -200,13 +213,14 @@ impl Replica {
 
     /// What the replica has now.
     ///
-    /// The batches and the part are shared, the rest is a copy: 2 rows of 2^log2m registers (1 where `close` has given
-    /// back the accumulators) and a tally for each vertex, and room for a sum for each superstep. The error is that
+    /// The batches and the part are shared, the rest is a copy: 2 rows of 2^log2m registers (1 where `give_back` has
+    /// given back the accumulators) and a tally for each vertex, and room for a sum for each superstep. The error is that
     /// memory was refused.
-    pub fn snapshot(&self, alloc: Global) -> Result<Snapshot, AllocError>
-        ensures same { IfOk result (λ s. s ≡ self.now) }
-        ensures stands { IfOk result (λ s. (j : Job) (p t : ℕ) → StandsFor j p t self.now →
+    pub fn snapshot(&mut self, alloc: Global) -> Result<Snapshot, AllocError>
+        ensures same { IfOk result (λ s. s ≡ self.old) }
+        ensures stands { IfOk result (λ s. (j : Job) (p t : ℕ) → StandsFor j p t self.old →
             StandsFor j p t s) }
+        ensures unchanged { self.new ≡ self.old }
     {
         self.known.copied(alloc)
     }
@@ -224,196 +238,5 @@ impl Replica {
             IfOk result (λ b. b ≡ true_batch j (batch_name t p target)) }
     {
         self.known.sent(alloc, target)
-    }
-}
-
-/// What a replica tells, as its snapshot does. No call here takes memory.
-impl Replica {
-    /// The plan of the job.
-    pub fn plan(&self) -> &Plan
-        ensures { result.now ≡ self.now.part.plan }
-    {
-        self.known.plan()
-    }
-
-    /// The number of the partition.
-    pub fn partition(&self) -> u16
-        ensures { result ≡ self.now.part.number }
-    {
-        self.known.partition()
-    }
-
-    /// The superstep.
-    pub fn superstep(&self) -> u32
-        ensures value { result ≡ self.now.superstep }
-        // the limits that every replica keeps, whatever its batches say
-        ensures state { IsState self.now }
-    {
-        self.known.superstep()
-    }
-
-    /// Whether vertex `x` is one of the partition.
-    pub fn owns(&self, x: u32) -> bool
-        ensures vertex { IsTrue result → x < self.now.part.plan.vertices }
-        ensures own { IsTrue result → x % self.now.part.plan.parts ≡ self.now.part.number }
-        ensures value { result ≡ list_any (λ v. v == x) (vertices_of
-            self.now.part.plan.vertices self.now.part.plan.parts self.now.part.number) }
-    {
-        self.known.owns(x)
-    }
-
-    /// The 2^log2m registers of vertex `x`, which the partition owns.
-    pub fn row(&self, x: u32) -> &[u8]
-        requires vertex { x < self.now.part.plan.vertices }
-        requires own { x % self.now.part.plan.parts ≡ self.now.part.number }
-        ensures value { result.now ≡
-            slice_index_or self.now.rows (x / self.now.part.plan.parts) [] }
-        ensures counter { IsCounterRow self.now.part.plan.log2m result.now }
-        ensures stands { (j : Job) (p t : ℕ) → StandsFor j p t self.now →
-            result.now ≡ ball_counter (mixing_of j.plan) j.graph x t }
-    {
-        self.known.row(x)
-    }
-
-    /// The figures of vertex `x`, which the partition owns.
-    pub fn tally(&self, x: u32) -> Tally
-        requires vertex { x < self.now.part.plan.vertices }
-        requires own { x % self.now.part.plan.parts ≡ self.now.part.number }
-        ensures value { value_of result ≡
-            slice_index_or self.now.tallies (x / self.now.part.plan.parts) nothing }
-        ensures stands { (j : Job) (p t : ℕ) → StandsFor j p t self.now →
-            value_of result ≡ tally_at (mixing_of j.plan) j.graph x t }
-    {
-        self.known.tally(x)
-    }
-
-    /// Whether vertex `x`, which the partition owns, changed at this superstep.
-    pub fn changed(&self, x: u32) -> bool
-        requires vertex { x < self.now.part.plan.vertices }
-        requires own { x % self.now.part.plan.parts ≡ self.now.part.number }
-        ensures value { result ≡
-            slice_index_or self.now.marks (x / self.now.part.plan.parts) false }
-        ensures stands { (j : Job) (p t : ℕ) → StandsFor j p t self.now →
-            result ≡ changed_at (mixing_of j.plan) j.graph x t }
-    {
-        self.known.changed(x)
-    }
-
-    /// How many vertices of the partition changed at this superstep.
-    pub fn changed_count(&self) -> u32
-        ensures value { result ≡ count_by (λ mark. mark) self.now.marks }
-        ensures stands { (j : Job) (p t : ℕ) → StandsFor j p t self.now →
-            result ≡ changed_count j t p }
-    {
-        self.known.changed_count()
-    }
-
-    /// The sum of the estimates of the partition at each superstep so far, from 0 on.
-    pub fn sums(&self) -> &[u128]
-        ensures value { result.now ≡ self.now.sums }
-        ensures count { length result.now ≡ self.now.superstep + 1 }
-        ensures stands { (j : Job) (p t : ℕ) → StandsFor j p t self.now →
-            result.now ≡ sums_of j p t }
-    {
-        self.known.sums()
-    }
-
-    /// The registers of all vertices of the partition, a row each.
-    pub fn rows(&self) -> &Rows
-        ensures value { result.now.rows ≡ self.now.rows }
-        ensures width { result.now.width ≡ 2 ^ self.now.part.plan.log2m }
-        ensures stands { (j : Job) (p t : ℕ) → StandsFor j p t self.now →
-            result.now.rows ≡ rows_of j p t }
-    {
-        self.known.rows()
-    }
-
-    /// The figures of all vertices of the partition.
-    pub fn tallies(&self) -> &[Tally]
-        ensures value { map value_of result.now ≡ self.now.tallies }
-        ensures stands { (j : Job) (p t : ℕ) → StandsFor j p t self.now →
-            map value_of result.now ≡ tallies_of j p t }
-    {
-        self.known.tallies()
-    }
-
-    /// Whether the batch of that name is held.
-    pub fn holds(&self, name: BatchName) -> bool
-        ensures { result ≡ ((name.target == self.now.part.number) &&
-            (content_of self.now).holds name.superstep name.source) }
-    {
-        self.known.holds(name)
-    }
-
-    /// The least source that is missing from the level; the level is held where there is none.
-    pub fn missing(&self) -> Option<u16>
-        ensures { result ≡ missing_in self.now }
-    {
-        self.known.missing()
-    }
-
-    /// Which sources of the superstep are heard.
-    pub fn heard(&self) -> SourceMask
-        ensures value { result ≡ self.now.heard }
-    {
-        self.known.heard()
-    }
-
-    /// Whether a source that is heard tells of a changed vertex.
-    pub fn heard_change(&self) -> bool
-        ensures value { result ≡ self.now.heard_change }
-    {
-        self.known.heard_change()
-    }
-
-    /// The registers accumulated so far for vertex `x`, which the partition owns.
-    pub fn accumulated(&self, x: u32) -> &[u8]
-        requires vertex { x < self.now.part.plan.vertices }
-        requires own { x % self.now.part.plan.parts ≡ self.now.part.number }
-        ensures value { result.now ≡
-            slice_index_or self.now.accumulated (x / self.now.part.plan.parts) [] }
-        ensures counter { IsCounterRow self.now.part.plan.log2m result.now }
-    {
-        self.known.accumulated(x)
-    }
-
-    /// How many batches of later supersteps are kept. It takes time in proportion to three slots for each partition.
-    pub fn early_count(&self) -> u32
-        ensures value { result ≡ length (early_batches self.now.early) }
-        ensures names { result ≡ length (early_names self.now) }
-    {
-        self.known.early_count()
-    }
-
-    /// The i-th of the batches of later supersteps, ascending by superstep, then by source; none past the last.
-    ///
-    /// It takes time in proportion to three slots for each partition.
-    pub fn early(&self, i: u32) -> Option<&Batch>
-        ensures value { option_map (λ b. b.now) result ≡
-            slice_get (early_batches self.now.early) i }
-        ensures name { option_map (λ b. b.now.name) result ≡ slice_get (early_names self.now) i }
-        ensures stands { (j : Job) (p t : ℕ) → StandsFor j p t self.now →
-            option_map (λ b. b.now) result ≡ true_early j self.now i }
-    {
-        self.known.early(i)
-    }
-
-    /// The verdict, where the level is held.
-    pub fn verdict(&self) -> Option<Verdict>
-        ensures value { result ≡ found_verdict self.now }
-        ensures none { (result ≡ None) ↔ (IsSome (missing_in self.now)) }
-        ensures stands { (j : Job) (p t : ℕ) → StandsFor j p t self.now →
-            result ≡ verdict_of j p (content_of self.now) }
-    {
-        self.known.verdict()
-    }
-}
-
-// Lets the index go where the answer to a close is that the run is over.
-fn let_go(targets: &mut Targets, answer: &Result<u32, CloseError>)
-    ensures { (targets.new ≡ targets.old) ⊎ ((targets.new ≡ []) × (is_finished answer.now ≡ true)) }
-{
-    if matches!(answer, Err(CloseError::Finished)) {
-        targets.clear();
     }
 }

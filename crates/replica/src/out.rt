@@ -8,7 +8,7 @@ ghost use Rattle.ball_model.specs.Masks.{has_bit};
 ghost use Rattle.replica.specs.Sent.{sent_batch};
 ghost use Rattle.replica.specs.Seen.{IsState};
 
-use crate::Snapshot;
+use crate::{Shown, Snapshot};
 use ball_model::BatchName;
 use batches::Batch;
 use std::alloc::{AllocError, Global};

@@ -13,13 +13,14 @@ ghost use Rattle.ball_model.specs.Supersteps.{tally_at};
 ghost use Rattle.ball_model.specs.Job.{Job, IsJob};
 ghost use Rattle.ball_model.specs.Batches.{changed_count};
 ghost use Rattle.ball_model.specs.Content.{verdict_of};
-ghost use Rattle.ball_model.specs.State.{StandsFor, content_of, early_at, rows_of, tallies_of, sums_of};
+ghost use Rattle.ball_model.specs.State.{State, StandsFor, content_of, early_at, rows_of, tallies_of, sums_of};
 ghost use Rattle.replica.specs.Ahead.{early_batches, early_names, true_early};
 ghost use Rattle.replica.specs.Level.{is_changing, level_verdict, found_verdict, missing_in, nothing};
+ghost use Rattle.replica.specs.Hearing.{accumulated_by, change_by, heard_by};
 ghost use Rattle.replica.specs.Seen.{IsState, HasAccumulators, accumulators_of};
 
 use crate::start::Tables;
-use crate::{Snapshot, level};
+use crate::{Replica, Snapshot, level};
 use ball_model::{BatchName, Plan, Verdict};
 use batches::Batch;
 use figures::Tally;
@@ -27,78 +28,238 @@ use registers::{Rows, SourceMask};
 use std::alloc::{AllocError, Global};
 use std::sync::Arc;
 
-impl Snapshot {
+/// What a replica and a snapshot of it tell of what they have. No call takes memory.
+pub trait Shown {
+    /// What it has.
+    ghost state: { Self → State };
+
+    /// What it has, as a snapshot has it.
+    fn shown(&self) -> &Snapshot
+        ensures { result.now ≡ state self.now };
+
     /// The plan of the job.
-    pub fn plan(&self) -> &Plan
-        ensures { result.now ≡ self.now.part.plan }
+    final fn plan(&self) -> &Plan
+        ensures { result.now ≡ (state self.now).part.plan }
     {
-        self.part.plan()
+        let s = self.shown();
+        s.part.plan()
     }
 
     /// The number of the partition.
-    pub fn partition(&self) -> u16
-        ensures { result ≡ self.now.part.number }
+    final fn partition(&self) -> u16
+        ensures { result ≡ (state self.now).part.number }
     {
-        self.part.partition()
+        let s = self.shown();
+        s.part.partition()
     }
 
     /// The superstep.
-    pub fn superstep(&self) -> u32
-        ensures value { result ≡ self.now.superstep }
+    final fn superstep(&self) -> u32
+        ensures value { result ≡ (state self.now).superstep }
         // the limits that every replica keeps, whatever its batches say
-        ensures state { IsState self.now }
+        ensures state { IsState (state self.now) }
     {
-        self.superstep
+        let s = self.shown();
+        s.superstep
     }
 
     /// Whether vertex `x` is one of the partition.
-    pub fn owns(&self, x: u32) -> bool
-        ensures vertex { IsTrue result → x < self.now.part.plan.vertices }
-        ensures own { IsTrue result → x % self.now.part.plan.parts ≡ self.now.part.number }
+    final fn owns(&self, x: u32) -> bool
+        ensures vertex { IsTrue result → x < (state self.now).part.plan.vertices }
+        ensures own { IsTrue result → x % (state self.now).part.plan.parts ≡ (state self.now).part.number }
         ensures value { result ≡ list_any (λ v. v == x) (vertices_of
-            self.now.part.plan.vertices self.now.part.plan.parts self.now.part.number) }
+            (state self.now).part.plan.vertices (state self.now).part.plan.parts (state self.now).part.number) }
     {
-        let plan = self.part.plan();
-        x < plan.vertices() && plan.partition_of(x) == self.part.partition()
+        let s = self.shown();
+        let plan = s.part.plan();
+        x < plan.vertices() && plan.partition_of(x) == s.part.partition()
     }
 
     /// The 2^log2m registers of vertex `x`, which the partition owns.
-    pub fn row(&self, x: u32) -> &[u8]
-        requires vertex { x < self.now.part.plan.vertices }
-        requires own { x % self.now.part.plan.parts ≡ self.now.part.number }
+    final fn row(&self, x: u32) -> &[u8]
+        requires vertex { x < (state self.now).part.plan.vertices }
+        requires own { x % (state self.now).part.plan.parts ≡ (state self.now).part.number }
         ensures value { result.now ≡
-            slice_index_or self.now.rows (x / self.now.part.plan.parts) [] }
-        ensures counter { IsCounterRow self.now.part.plan.log2m result.now }
-        ensures stands { (j : Job) (p t : ℕ) → StandsFor j p t self.now →
+            slice_index_or (state self.now).rows (x / (state self.now).part.plan.parts) [] }
+        ensures counter { IsCounterRow (state self.now).part.plan.log2m result.now }
+        ensures stands { (j : Job) (p t : ℕ) → StandsFor j p t (state self.now) →
             result.now ≡ ball_counter (mixing_of j.plan) j.graph x t }
     {
-        self.rows.row(self.place(x))
+        let s = self.shown();
+        s.rows.row(s.place(x))
     }
 
     /// The figures of vertex `x`, which the partition owns.
-    pub fn tally(&self, x: u32) -> Tally
-        requires vertex { x < self.now.part.plan.vertices }
-        requires own { x % self.now.part.plan.parts ≡ self.now.part.number }
+    final fn tally(&self, x: u32) -> Tally
+        requires vertex { x < (state self.now).part.plan.vertices }
+        requires own { x % (state self.now).part.plan.parts ≡ (state self.now).part.number }
         ensures value { value_of result ≡
-            slice_index_or self.now.tallies (x / self.now.part.plan.parts) nothing }
-        ensures stands { (j : Job) (p t : ℕ) → StandsFor j p t self.now →
+            slice_index_or (state self.now).tallies (x / (state self.now).part.plan.parts) nothing }
+        ensures stands { (j : Job) (p t : ℕ) → StandsFor j p t (state self.now) →
             value_of result ≡ tally_at (mixing_of j.plan) j.graph x t }
     {
-        self.tallies[self.place(x)]
+        let s = self.shown();
+        s.tallies[s.place(x)]
     }
 
     /// Whether vertex `x`, which the partition owns, changed at this superstep.
-    pub fn changed(&self, x: u32) -> bool
-        requires vertex { x < self.now.part.plan.vertices }
-        requires own { x % self.now.part.plan.parts ≡ self.now.part.number }
+    final fn changed(&self, x: u32) -> bool
+        requires vertex { x < (state self.now).part.plan.vertices }
+        requires own { x % (state self.now).part.plan.parts ≡ (state self.now).part.number }
         ensures value { result ≡
-            slice_index_or self.now.marks (x / self.now.part.plan.parts) false }
-        ensures stands { (j : Job) (p t : ℕ) → StandsFor j p t self.now →
+            slice_index_or (state self.now).marks (x / (state self.now).part.plan.parts) false }
+        ensures stands { (j : Job) (p t : ℕ) → StandsFor j p t (state self.now) →
             result ≡ changed_at (mixing_of j.plan) j.graph x t }
     {
-        self.marks[self.place(x)]
+        let s = self.shown();
+        s.marks[s.place(x)]
     }
 
+    /// How many vertices of the partition changed at this superstep.
+    final fn changed_count(&self) -> u32
+        ensures value { result ≡ count_by (λ mark. mark) (state self.now).marks }
+        ensures stands { (j : Job) (p t : ℕ) → StandsFor j p t (state self.now) →
+            result ≡ changed_count j t p }
+    {
+        let s = self.shown();
+        level::count_set(&s.marks) as u32
+    }
+
+    /// The sum of the estimates of the partition at each superstep so far, from 0 on.
+    final fn sums(&self) -> &[u128]
+        ensures value { result.now ≡ (state self.now).sums }
+        ensures count { length result.now ≡ (state self.now).superstep + 1 }
+        ensures stands { (j : Job) (p t : ℕ) → StandsFor j p t (state self.now) →
+            result.now ≡ sums_of j p t }
+    {
+        let s = self.shown();
+        &s.sums
+    }
+
+    /// The registers of all vertices of the partition, a row each.
+    final fn rows(&self) -> &Rows
+        ensures value { result.now.rows ≡ (state self.now).rows }
+        ensures width { result.now.width ≡ 2 ^ (state self.now).part.plan.log2m }
+        ensures stands { (j : Job) (p t : ℕ) → StandsFor j p t (state self.now) →
+            result.now.rows ≡ rows_of j p t }
+    {
+        let s = self.shown();
+        &s.rows
+    }
+
+    /// The figures of all vertices of the partition.
+    final fn tallies(&self) -> &[Tally]
+        ensures value { map value_of result.now ≡ (state self.now).tallies }
+        ensures stands { (j : Job) (p t : ℕ) → StandsFor j p t (state self.now) →
+            map value_of result.now ≡ tallies_of j p t }
+    {
+        let s = self.shown();
+        &s.tallies
+    }
+
+    /// Whether the batch of that name is held.
+    final fn holds(&self, name: BatchName) -> bool
+        ensures { result ≡ ((name.target == (state self.now).part.number) &&
+            (content_of (state self.now)).holds name.superstep name.source) }
+    {
+        let s = self.shown();
+        name.target == s.part.partition() && s.holds_from(name.superstep, name.source)
+    }
+
+    /// The least source that is missing from the level; the level is held where there is none.
+    final fn missing(&self) -> Option<u16>
+        ensures { result ≡ missing_in (state self.now) }
+    {
+        let s = self.shown();
+        s.heard
+            .least_missing(s.part.plan().parts(), s.part.partition())
+    }
+
+    /// Which sources of the superstep are heard.
+    final fn heard(&self) -> SourceMask
+        ensures value { result ≡ (state self.now).heard }
+        ensures names { result ≡ heard_by (content_of (state self.now)) }
+    {
+        let s = self.shown();
+        s.heard
+    }
+
+    /// Whether a source that is heard tells of a changed vertex.
+    final fn heard_change(&self) -> bool
+        ensures value { result ≡ (state self.now).heard_change }
+        ensures stands { (j : Job) (p t : ℕ) → StandsFor j p t (state self.now) →
+            result ≡ change_by j (content_of (state self.now)) }
+    {
+        let s = self.shown();
+        s.heard_change
+    }
+
+    /// The registers accumulated so far for vertex `x`, which the partition owns.
+    final fn accumulated(&self, x: u32) -> &[u8]
+        requires vertex { x < (state self.now).part.plan.vertices }
+        requires own { x % (state self.now).part.plan.parts ≡ (state self.now).part.number }
+        ensures value { result.now ≡
+            slice_index_or (state self.now).accumulated (x / (state self.now).part.plan.parts) [] }
+        ensures counter { IsCounterRow (state self.now).part.plan.log2m result.now }
+        ensures stands { (j : Job) (p t : ℕ) → StandsFor j p t (state self.now) →
+            result.now ≡ accumulated_by j (content_of (state self.now)) x }
+    {
+        let s = self.shown();
+        s.accumulators().row(s.place(x))
+    }
+
+    /// How many batches of later supersteps are kept. It takes time in proportion to three slots for each partition.
+    final fn early_count(&self) -> u32
+        ensures value { result ≡ length (early_batches (state self.now).early) }
+        ensures names { result ≡ length (early_names (state self.now)) }
+    {
+        let s = self.shown();
+        s.early.count() as u32
+    }
+
+    /// The i-th of the batches of later supersteps, ascending by superstep, then by source; none past the last.
+    ///
+    /// It takes time in proportion to three slots for each partition.
+    final fn early(&self, i: u32) -> Option<&Batch>
+        ensures value { option_map (λ b. b.now) result ≡
+            slice_get (early_batches (state self.now).early) i }
+        ensures name { option_map (λ b. b.now.name) result ≡ slice_get (early_names (state self.now)) i }
+        ensures stands { (j : Job) (p t : ℕ) → StandsFor j p t (state self.now) →
+            option_map (λ b. b.now) result ≡ true_early j (state self.now) i }
+    {
+        let s = self.shown();
+        s.early.nth(i as usize)
+    }
+
+    /// The verdict, where the level is held.
+    final fn verdict(&self) -> Option<Verdict>
+        ensures value { result ≡ found_verdict (state self.now) }
+        ensures none { (result ≡ None) ↔ (IsSome (missing_in (state self.now))) }
+        ensures stands { (j : Job) (p t : ℕ) → StandsFor j p t (state self.now) →
+            result ≡ verdict_of j p (content_of (state self.now)) }
+    {
+        let s = self.shown();
+        s.found_verdict()
+    }
+}
+
+impl Shown for Snapshot {
+    ghost state = { λ v. v };
+
+    fn shown(&self) -> &Snapshot {
+        self
+    }
+}
+
+impl Shown for Replica {
+    ghost state = { λ v. v };
+
+    fn shown(&self) -> &Snapshot {
+        &self.known
+    }
+}
+
+impl Snapshot {
     // The place of a vertex of the partition.
     fn place(&self, x: u32) -> usize
         requires vertex { x < self.now.part.plan.vertices }
@@ -108,52 +269,6 @@ impl Snapshot {
         ensures state { IsState self.now }
     {
         (x / u32::from(self.part.plan().parts())) as usize
-    }
-
-    /// How many vertices of the partition changed at this superstep.
-    pub fn changed_count(&self) -> u32
-        ensures value { result ≡ count_by (λ mark. mark) self.now.marks }
-        ensures stands { (j : Job) (p t : ℕ) → StandsFor j p t self.now →
-            result ≡ changed_count j t p }
-    {
-        level::count_set(&self.marks) as u32
-    }
-
-    /// The sum of the estimates of the partition at each superstep so far, from 0 on.
-    pub fn sums(&self) -> &[u128]
-        ensures value { result.now ≡ self.now.sums }
-        ensures count { length result.now ≡ self.now.superstep + 1 }
-        ensures stands { (j : Job) (p t : ℕ) → StandsFor j p t self.now →
-            result.now ≡ sums_of j p t }
-    {
-        &self.sums
-    }
-
-    /// The registers of all vertices of the partition, a row each.
-    pub fn rows(&self) -> &Rows
-        ensures value { result.now.rows ≡ self.now.rows }
-        ensures width { result.now.width ≡ 2 ^ self.now.part.plan.log2m }
-        ensures stands { (j : Job) (p t : ℕ) → StandsFor j p t self.now →
-            result.now.rows ≡ rows_of j p t }
-    {
-        &self.rows
-    }
-
-    /// The figures of all vertices of the partition.
-    pub fn tallies(&self) -> &[Tally]
-        ensures value { map value_of result.now ≡ self.now.tallies }
-        ensures stands { (j : Job) (p t : ℕ) → StandsFor j p t self.now →
-            map value_of result.now ≡ tallies_of j p t }
-    {
-        &self.tallies
-    }
-
-    /// Whether the batch of that name is held.
-    pub fn holds(&self, name: BatchName) -> bool
-        ensures { result ≡ ((name.target == self.now.part.number) &&
-            (content_of self.now).holds name.superstep name.source) }
-    {
-        name.target == self.part.partition() && self.holds_from(name.superstep, name.source)
     }
 
     /// Whether the batch of a superstep and a source is held.
@@ -177,39 +292,6 @@ impl Snapshot {
         self.early.get((ahead - 1) as usize, source).is_some()
     }
 
-    /// The least source that is missing from the level; the level is held where there is none.
-    pub fn missing(&self) -> Option<u16>
-        ensures { result ≡ missing_in self.now }
-    {
-        self.heard
-            .least_missing(self.part.plan().parts(), self.part.partition())
-    }
-
-    /// Which sources of the superstep are heard.
-    pub fn heard(&self) -> SourceMask
-        ensures value { result ≡ self.now.heard }
-    {
-        self.heard
-    }
-
-    /// Whether a source that is heard tells of a changed vertex.
-    pub fn heard_change(&self) -> bool
-        ensures value { result ≡ self.now.heard_change }
-    {
-        self.heard_change
-    }
-
-    /// The registers accumulated so far for vertex `x`, which the partition owns.
-    pub fn accumulated(&self, x: u32) -> &[u8]
-        requires vertex { x < self.now.part.plan.vertices }
-        requires own { x % self.now.part.plan.parts ≡ self.now.part.number }
-        ensures value { result.now ≡
-            slice_index_or self.now.accumulated (x / self.now.part.plan.parts) [] }
-        ensures counter { IsCounterRow self.now.part.plan.log2m result.now }
-    {
-        self.accumulators().row(self.place(x))
-    }
-
     /// The accumulators, a row each: the rows themselves where no others are kept.
     pub(crate) fn accumulators(&self) -> &Rows
         ensures value { result.now.rows ≡ self.now.accumulated }
@@ -220,27 +302,6 @@ impl Snapshot {
         } else {
             &self.accumulated
         }
-    }
-
-    /// How many batches of later supersteps are kept. It takes time in proportion to three slots for each partition.
-    pub fn early_count(&self) -> u32
-        ensures value { result ≡ length (early_batches self.now.early) }
-        ensures names { result ≡ length (early_names self.now) }
-    {
-        self.early.count() as u32
-    }
-
-    /// The i-th of the batches of later supersteps, ascending by superstep, then by source; none past the last.
-    ///
-    /// It takes time in proportion to three slots for each partition.
-    pub fn early(&self, i: u32) -> Option<&Batch>
-        ensures value { option_map (λ b. b.now) result ≡
-            slice_get (early_batches self.now.early) i }
-        ensures name { option_map (λ b. b.now.name) result ≡ slice_get (early_names self.now) i }
-        ensures stands { (j : Job) (p t : ℕ) → StandsFor j p t self.now →
-            option_map (λ b. b.now) result ≡ true_early j self.now i }
-    {
-        self.early.nth(i as usize)
     }
 
     // Whether some source tells of a changed vertex.
@@ -272,16 +333,6 @@ impl Snapshot {
             Some(_) => None,
             None => Some(self.level_verdict()),
         }
-    }
-
-    /// The verdict, where the level is held.
-    pub fn verdict(&self) -> Option<Verdict>
-        ensures value { result ≡ found_verdict self.now }
-        ensures none { (result ≡ None) ↔ (IsSome (missing_in self.now)) }
-        ensures stands { (j : Job) (p t : ℕ) → StandsFor j p t self.now →
-            result ≡ verdict_of j p (content_of self.now) }
-    {
-        self.found_verdict()
     }
 
     /// What the replica has now, copied.

@@ -3,7 +3,7 @@
 ghost use Rattle.std.specs.Prelude.{◌≡◌, ℕ, ◌<◌, ◌≤◌, ◌+◌, ◌*◌, ◌^◌, length, map, replicate, slice_index_or, slice_set, [], ◌∷◌, IfOk};
 ghost use Rattle.std.specs.Arc.{arc_value};
 ghost use Rattle.std.specs.Vec.{vec_capacity};
-ghost use Rattle.ball_model.specs.PlanValue.{IsPlan};
+ghost use Rattle.ball_model.specs.PlanValue.{IsPlan, greatest_limit, measure_of};
 ghost use Rattle.figures.specs.Values.{value_of};
 ghost use Rattle.replica.specs.Kept.{AreCounters};
 ghost use Rattle.replica.specs.Level.{total_of};
@@ -13,7 +13,7 @@ use crate::early::Early;
 use crate::{Snapshot, level, shown};
 use ball_model::{Plan, mix, place};
 use edgelist::Part;
-use figures::{Tally, estimate};
+use figures::{Estimator, Tally};
 use registers::{Rows, SourceMask};
 use std::alloc::{AllocError, Global};
 use std::sync::Arc;
@@ -26,6 +26,17 @@ pub struct Tables {
     pub marks: Vec<bool>,
     pub tallies: Vec<Tally>,
     pub sums: Vec<u128>,
+}
+
+/// How the estimates of the plan are made.
+pub fn estimator_of(alloc: Global, plan: &Plan) -> Result<Estimator, AllocError>
+    ensures { IfOk result (λ e. e ≡ measure_of plan.now) }
+{
+    let log2m = plan.log2m();
+    if plan.is_corrected() {
+        return Estimator::corrected(alloc, log2m);
+    }
+    Ok(Estimator::raw(alloc, log2m))
 }
 
 // The row of vertex i, which is empty, becomes that of the vertex alone, where it is counted.
@@ -69,14 +80,18 @@ pub fn start_marks(alloc: Global, part: &Part) -> Result<Vec<bool>, AllocError>
 }
 
 /// Figures that begin with the estimates of rows.
-pub fn start_tallies(alloc: Global, log2m: u8, rows: &Rows) -> Result<Vec<Tally>, AllocError>
-    requires { AreCounters log2m rows.now.rows }
+pub fn start_tallies(
+    alloc: Global,
+    estimator: &Estimator,
+    rows: &Rows,
+) -> Result<Vec<Tally>, AllocError>
+    requires { AreCounters estimator.now.log2m rows.now.rows }
     ensures { IfOk result (λ tallies.
-        map value_of tallies.items ≡ first_figures log2m rows.now.rows) }
+        map value_of tallies.items ≡ first_figures estimator.now rows.now.rows) }
 {
     let mut tallies = Vec::with_capacity(alloc, rows.len())?;
     for i in 0..rows.len() {
-        tallies.push(Tally::start(estimate(log2m, rows.row(i))))?;
+        tallies.push(Tally::start(estimator.estimate(rows.row(i))))?;
     }
     Ok(tallies)
 }
@@ -96,25 +111,28 @@ fn start_both(alloc: Global, part: &Part) -> Result<(Rows, Rows), AllocError>
 // Figures that begin with the estimates of rows, and their sum, with room for one a superstep up to the limit.
 fn start_figures(
     alloc: Global,
-    plan: &Plan,
+    limit: u32,
+    estimator: &Estimator,
     rows: &Rows,
 ) -> Result<(Vec<Tally>, Vec<u128>), AllocError>
-    requires { AreCounters plan.now.log2m rows.now.rows }
+    requires limit { limit ≤ greatest_limit }
+    requires rows { AreCounters estimator.now.log2m rows.now.rows }
     ensures tallies { IfOk result (λ figures.
-        map value_of figures.0.items ≡ first_figures plan.now.log2m rows.now.rows) }
+        map value_of figures.0.items ≡ first_figures estimator.now rows.now.rows) }
     ensures sums { IfOk result (λ figures.
-        figures.1.items ≡ total_of plan.now.log2m rows.now.rows ∷ []) }
-    ensures room { IfOk result (λ figures. plan.now.limit + 1 ≤ vec_capacity figures.1) }
+        figures.1.items ≡ total_of estimator.now rows.now.rows ∷ []) }
+    ensures room { IfOk result (λ figures. limit + 1 ≤ vec_capacity figures.1) }
 {
-    let tallies = start_tallies(alloc, plan.log2m(), rows)?;
-    let mut sums = Vec::with_capacity(alloc, plan.limit() as usize + 1)?;
+    let tallies = start_tallies(alloc, estimator, rows)?;
+    let mut sums = Vec::with_capacity(alloc, limit as usize + 1)?;
     sums.push_reserved(level::sum_of_lasts(&tallies));
     Ok((tallies, sums))
 }
 
 // The tables that a replica of the part begins with.
-fn start_tables(alloc: Global, part: &Part) -> Result<Tables, AllocError>
-    requires { IsPlan part.now.plan }
+fn start_tables(alloc: Global, part: &Part, estimator: &Estimator) -> Result<Tables, AllocError>
+    requires plan { IsPlan part.now.plan }
+    requires measure { estimator.now ≡ measure_of part.now.plan }
     ensures rows { IfOk result (λ t. t.rows ≡ record {
       width = 2 ^ part.now.plan.log2m;
       rows = first_rows part.now;
@@ -122,14 +140,14 @@ fn start_tables(alloc: Global, part: &Part) -> Result<Tables, AllocError>
     ensures accumulated { IfOk result (λ t. t.accumulated ≡ t.rows) }
     ensures marks { IfOk result (λ t. t.marks.items ≡ part.now.counted) }
     ensures tallies { IfOk result (λ t.
-        map value_of t.tallies.items ≡ first_figures part.now.plan.log2m (first_rows part.now)) }
+        map value_of t.tallies.items ≡ first_figures (measure_of part.now.plan) (first_rows part.now)) }
     ensures sums { IfOk result (λ t. t.sums.items ≡
-        total_of part.now.plan.log2m (first_rows part.now) ∷ []) }
+        total_of (measure_of part.now.plan) (first_rows part.now) ∷ []) }
     ensures room { IfOk result (λ t. part.now.plan.limit + 1 ≤ vec_capacity t.sums) }
 {
     let marks = start_marks(alloc, part)?;
     let (rows, accumulated) = start_both(alloc, part)?;
-    let (tallies, sums) = start_figures(alloc, part.plan(), &rows)?;
+    let (tallies, sums) = start_figures(alloc, part.plan().limit(), estimator, &rows)?;
     Ok(Tables {
         rows,
         accumulated,
@@ -140,14 +158,15 @@ fn start_tables(alloc: Global, part: &Part) -> Result<Tables, AllocError>
 }
 
 /// What a replica of the part begins with, at superstep 0.
-pub fn first(alloc: Global, part: Arc<Part>) -> Result<Snapshot, AllocError>
+pub fn first(alloc: Global, part: Arc<Part>, estimator: &Estimator) -> Result<Snapshot, AllocError>
+    requires { estimator.now ≡ measure_of (arc_value part).plan }
     ensures { IfOk result (λ r. Starts (arc_value part) r) }
 {
     let plan = part.plan();
     // the limits of a part are told with its number
     prove!(part.partition() < plan.parts());
     let early = Early::empty(alloc, plan.parts())?;
-    let tables = start_tables(alloc, &part)?;
+    let tables = start_tables(alloc, &part, estimator)?;
     let heard = SourceMask::empty();
     Ok(Snapshot {
         part,

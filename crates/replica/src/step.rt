@@ -7,7 +7,7 @@ ghost use Rattle.std.specs.Vec.{vec_capacity};
 ghost use Rattle.ball_model.specs.declared.names.Taken.TheVariants as taken;
 ghost use Rattle.ball_model.specs.Batches.{IsBatch};
 ghost use Rattle.ball_model.specs.Content.{same_plan};
-ghost use Rattle.ball_model.specs.PlanValue.{greatest_limit, most_vertices};
+ghost use Rattle.ball_model.specs.PlanValue.{greatest_limit, measure_of, most_vertices};
 ghost use Rattle.figures.specs.Values.{value_of};
 ghost use Rattle.replica.specs.Heard.{OwnIsHeard};
 ghost use Rattle.replica.specs.Kept.{AllRise, AreCounters, AreLasts, AreSums};
@@ -19,11 +19,11 @@ ghost use Rattle.replica.specs.Seen.{HasIndex, IsState};
 
 use crate::spread::spread_own;
 use crate::targets::Targets;
-use crate::{Snapshot, level};
+use crate::{Shown, Snapshot, level};
 use ball_model::{CloseError, Plan, TakeError, Taken, Verdict};
 use batches::Batch;
 use edgelist::Part;
-use figures::Tally;
+use figures::{Estimator, Tally};
 use registers::{Rows, SourceMask};
 use std::sync::Arc;
 
@@ -85,8 +85,10 @@ impl Snapshot {
     pub(crate) fn found_close(
         &mut self,
         targets: &Targets,
+        estimator: &Estimator,
         touched: &mut [bool],
     ) -> Result<u32, CloseError>
+        requires measure { estimator.now ≡ measure_of self.old.part.plan }
         requires index { HasIndex self.old targets.now }
         requires touched { AreTouched self.old.rows self.old.accumulated touched.old }
         ensures exact { result ≡ found_close self.old }
@@ -100,19 +102,16 @@ impl Snapshot {
             Some(source) => Err(CloseError::Waiting { source }),
             None => match self.level_verdict() {
                 Verdict::GoOn => {
-                    self.advance(targets, touched);
+                    self.advance(targets, estimator, touched);
                     Ok(next)
                 }
-                Verdict::Stable | Verdict::Limit => {
-                    self.settle(touched);
-                    Err(CloseError::Finished)
-                }
+                Verdict::Stable | Verdict::Limit => Err(CloseError::Finished),
             },
         }
     }
 
-    // Lets the accumulators go where the run is over and each of them equals its row.
-    fn settle(&mut self, touched: &[bool])
+    /// Lets the accumulators go where the run is over and each of them equals its row.
+    pub(crate) fn settle(&mut self, touched: &[bool])
         requires over { is_over self.old ≡ true }
         requires touched { AreTouched self.old.rows self.old.accumulated touched.now }
         ensures { self.new ≡ self.old }
@@ -122,9 +121,23 @@ impl Snapshot {
         }
     }
 
+    /// Whether the run is over.
+    pub(crate) fn is_over(&self) -> bool
+        ensures { result ≡ is_over self.now }
+    {
+        match self.missing() {
+            Some(_) => false,
+            None => match self.level_verdict() {
+                Verdict::GoOn => false,
+                Verdict::Stable | Verdict::Limit => true,
+            },
+        }
+    }
+
     // One superstep more: what changed in the own partition is heard too, what was accumulated becomes the rows, and
     // the batches of the new superstep are heard.
-    fn advance(&mut self, targets: &Targets, touched: &mut [bool])
+    fn advance(&mut self, targets: &Targets, estimator: &Estimator, touched: &mut [bool])
+        requires measure { estimator.now ≡ measure_of self.old.part.plan }
         requires limit { self.old.superstep < self.old.part.plan.limit }
         requires going { is_over self.old ≡ false }
         requires index { targets.now ≡ targets_of self.old.part }
@@ -142,7 +155,7 @@ impl Snapshot {
             touched,
         );
         next_figures(
-            &plan,
+            estimator,
             self.superstep,
             &self.rows,
             &self.marks,
@@ -198,7 +211,7 @@ fn next_rows(
 
 // The figures of the superstep that follows `t`, whose rows and marks are given, and the sum of its estimates.
 fn next_figures(
-    plan: &Plan,
+    estimator: &Estimator,
     t: u32,
     rows: &Rows,
     marks: &[bool],
@@ -207,22 +220,22 @@ fn next_figures(
 )
     requires to { t < greatest_limit }
     requires few { length rows.now.rows ≤ most_vertices }
-    requires rows { AreCounters plan.now.log2m rows.now.rows }
+    requires rows { AreCounters estimator.now.log2m rows.now.rows }
     requires marks { length marks.now ≡ length rows.now.rows }
     requires count { length tallies.old ≡ length rows.now.rows }
-    requires lasts { AreLasts plan.now.log2m rows.now.rows marks.now (map value_of tallies.old) }
+    requires lasts { AreLasts estimator.now rows.now.rows marks.now (map value_of tallies.old) }
     requires sums { AreSums t
         (sum_by (λ tally. tally.last) (map value_of tallies.old)) sums.old.items }
     requires room { t + 1 < vec_capacity sums.old }
-    ensures tallies { map value_of tallies.new ≡ next_tallies plan.now.log2m (t + 1) rows.now.rows
+    ensures tallies { map value_of tallies.new ≡ next_tallies estimator.now (t + 1) rows.now.rows
         (map value_of tallies.old) (length rows.now.rows) }
-    ensures sums { sums.new.items ≡ sums.old.items ++ total_of plan.now.log2m rows.now.rows ∷ [] }
+    ensures sums { sums.new.items ≡ sums.old.items ++ total_of estimator.now rows.now.rows ∷ [] }
     ensures gains { sum_by (λ tally. tally.last) (map value_of tallies.old) ≤
-        total_of plan.now.log2m rows.now.rows }
+        total_of estimator.now rows.now.rows }
     ensures capacity { vec_capacity sums.new ≡ vec_capacity sums.old }
 {
     let last = sums[t as usize];
-    let gain = level::step_tallies(plan.log2m(), t + 1, rows, marks, tallies);
+    let gain = level::step_tallies(estimator, t + 1, rows, marks, tallies);
     sums.push_reserved(last + gain);
 }
 

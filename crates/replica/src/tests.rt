@@ -1,6 +1,9 @@
 //! What no clause says: worked supersteps of small graphs. Hashes are those under seed 0 at 16 registers: vertex 0 has
 //! rank 3 in register 14, vertex 1 rank 1 in register 6, vertex 2 rank 2 in register 0.
 
+ghost use Rattle.std.specs.Prelude.{◌≡◌};
+ghost use Rattle.ball_model.specs.Job.{digest_of};
+
 mod again;
 mod early;
 mod joins;
@@ -66,9 +69,17 @@ fn parted(
     limit: u32,
 ) -> Option<Vec<Replica>> {
     let plan = graph.plan(4, seed, parts, limit).ok()?;
+    planned(rt, graph, &plan)
+}
+
+/// A replica of each partition of the graph, by a plan of it.
+fn planned(rt: &HostRuntime, graph: &Graph, plan: &Plan) -> Option<Vec<Replica>>
+    requires vertices { plan.now.vertices ≡ graph.now.graph.vertices }
+    requires digest { plan.now.job ≡ digest_of plan.now graph.now.graph }
+{
     let mut all = Vec::new(rt.alloc());
     for p in 0..plan.parts() {
-        let part = graph.part(rt.alloc(), &plan, p).ok()?;
+        let part = graph.part(rt.alloc(), plan, p).ok()?;
         add(rt, &mut all, part)?;
     }
     Some(all)

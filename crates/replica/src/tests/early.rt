@@ -255,8 +255,8 @@ fn keep(replica: &Replica, snapshot: &Snapshot, wanted: &[(u32, u16)]) -> bool {
 }
 
 /// Whether partition 2 and a snapshot of it keep these batches.
-fn keeps(rt: &HostRuntime, all: &[Replica], wanted: &[(u32, u16)]) -> Option<bool> {
-    let replica = all.get(2)?;
+fn keeps(rt: &HostRuntime, all: &mut [Replica], wanted: &[(u32, u16)]) -> Option<bool> {
+    let replica = all.get_mut(2)?;
     let snapshot = replica.snapshot(rt.alloc()).ok()?;
     Some(keep(replica, &snapshot, wanted))
 }
@@ -265,7 +265,7 @@ fn keeps(rt: &HostRuntime, all: &[Replica], wanted: &[(u32, u16)]) -> Option<boo
 fn keeps_in_order(rt: &HostRuntime) -> Option<(bool, Option<bool>)> {
     let mut all = two_edges(rt, 3, 4096)?;
     let taken = takes_ahead(rt, &mut all);
-    Some((taken, keeps(rt, &all, &[(1, 0), (1, 1), (3, 0)])))
+    Some((taken, keeps(rt, &mut all, &[(1, 0), (1, 1), (3, 0)])))
 }
 
 #[test]
@@ -284,6 +284,45 @@ fn answer_to_counted(rt: &HostRuntime) -> Option<Result<Taken, TakeError>> {
 #[test]
 fn batch_of_a_job_with_one_counted_vertex(rt: HostRuntime) {
     assert_eq!(rt; answer_to_counted(&rt), Some(Err(TakeError::OtherJob)));
+}
+
+/// Replicas of two edges in two partitions, whose estimates are corrected for small sets.
+fn corrected(rt: &HostRuntime) -> Option<Vec<Replica>> {
+    let graph = graph(rt, b"a\tb\nb\tc\n")?;
+    let plan = graph.corrected_plan(4, 0, 2, 4096).ok()?;
+    planned(rt, &graph, &plan)
+}
+
+/// What replicas of two jobs, which differ in their estimates alone, answer to batches of one another.
+fn answers_across(rt: &HostRuntime) -> Option<[Option<Result<Taken, TakeError>>; 2]> {
+    let mut raw = two_edges(rt, 2, 4096)?;
+    let mut others = corrected(rt)?;
+    let to_raw = sent(rt, &others, 1, 0);
+    let to_others = sent(rt, &raw, 1, 0);
+    Some([
+        answer(rt, &mut raw, 0, to_raw),
+        answer(rt, &mut others, 0, to_others),
+    ])
+}
+
+#[test]
+fn batches_of_jobs_with_other_estimates(rt: HostRuntime) {
+    let refused = Some(Err(TakeError::OtherJob));
+    assert_eq!(rt; answers_across(&rt), Some([refused, refused]));
+}
+
+/// Whether corrected figures are as expected: one, two and three of 16 places are taken after 16/16, 16/15 and 16/14
+/// draws more.
+fn corrected_run(rt: &HostRuntime) -> Option<bool> {
+    let mut all = corrected(rt)?;
+    let starts = figures_of(&all, 2) == Some((1_000_000, 0, 0));
+    let ends = run(rt, &mut all, 3);
+    Some(starts && ends && figures_of(&all, 2) == Some((3_209_523, 1_638_094, 3_352_380)))
+}
+
+#[test]
+fn corrected_figures_of_two_edges(rt: HostRuntime) {
+    assert_eq!(rt; corrected_run(&rt), Some(true));
 }
 
 #[test]

@@ -4,8 +4,8 @@ use super::shown::shows_all;
 use super::*;
 
 /// What the replica at a place has.
-pub fn snapshot_of(rt: &HostRuntime, all: &[Replica], place: usize) -> Option<Snapshot> {
-    all.get(place)?.snapshot(rt.alloc()).ok()
+pub fn snapshot_of(rt: &HostRuntime, all: &mut [Replica], place: usize) -> Option<Snapshot> {
+    all.get_mut(place)?.snapshot(rt.alloc()).ok()
 }
 
 /// The answer of the replica at a place to a snapshot.
@@ -23,7 +23,7 @@ fn merged(
     rt: &HostRuntime,
     all: &mut [Replica],
     place: usize,
-    others: &[Replica],
+    others: &mut [Replica],
     from: usize,
 ) -> Option<Result<(), MergeError>> {
     let snapshot = snapshot_of(rt, others, from)?;
@@ -31,7 +31,7 @@ fn merged(
 }
 
 /// Whether the replica at a place takes over what another one knows.
-fn merges(rt: &HostRuntime, all: &mut [Replica], place: usize, others: &[Replica]) -> bool {
+fn merges(rt: &HostRuntime, all: &mut [Replica], place: usize, others: &mut [Replica]) -> bool {
     merged(rt, all, place, others, place) == Some(Ok(()))
 }
 
@@ -151,15 +151,15 @@ fn swap_first(left: &mut [Replica], right: &mut [Replica]) -> bool {
 /// The one behind merges a snapshot of the one ahead, and takes its place.
 fn behind_recovers(rt: &HostRuntime) -> Option<(bool, bool, bool)> {
     let (mut ahead, mut behind) = apart(rt)?;
-    let done = merges(rt, &mut behind, 0, &ahead) && swap_first(&mut ahead, &mut behind);
+    let done = merges(rt, &mut behind, 0, &mut ahead) && swap_first(&mut ahead, &mut behind);
     let recovered = is_recovered(&ahead);
     Some((done, recovered, goes_on(rt, &mut ahead)))
 }
 
 /// The one ahead merges a snapshot of the one behind.
 fn ahead_recovers(rt: &HostRuntime) -> Option<(bool, bool, bool)> {
-    let (mut ahead, behind) = apart(rt)?;
-    let done = merges(rt, &mut ahead, 0, &behind);
+    let (mut ahead, mut behind) = apart(rt)?;
+    let done = merges(rt, &mut ahead, 0, &mut behind);
     let recovered = is_recovered(&ahead);
     Some((done, recovered, goes_on(rt, &mut ahead)))
 }
@@ -223,10 +223,23 @@ fn is_settled(all: &[Replica], before: &Snapshot) -> bool {
     }
 }
 
+/// Partition 0 gives back the memory that it needs no more.
+fn gives_back(all: &mut [Replica]) -> bool {
+    match all.get_mut(0) {
+        Some(replica) => {
+            replica.give_back();
+            true
+        }
+        None => false,
+    }
+}
+
 /// Whether partition 0 of two runs is over, and is as it was.
 fn are_over(left: &mut [Replica], right: &mut [Replica], before: &Snapshot) -> bool {
     closes(left, 0, Err(CloseError::Finished))
         && closes(right, 0, Err(CloseError::Finished))
+        && gives_back(left)
+        && gives_back(right)
         && is_settled(left, before)
         && is_settled(right, before)
 }
@@ -316,7 +329,7 @@ fn names_of_both(rt: &HostRuntime) -> Option<(bool, bool, bool)> {
     let mut first = two_edges(rt, 3, 4096)?;
     let mut second = two_edges(rt, 3, 4096)?;
     let told = tell_either(rt, &mut first, &mut second);
-    let merged = merges(rt, &mut first, 2, &second);
+    let merged = merges(rt, &mut first, 2, &mut second);
     Some((told, merged, has_both(&mut first)))
 }
 
@@ -331,9 +344,9 @@ fn refusal(
     others: Option<Vec<Replica>>,
     place: usize,
 ) -> Option<Result<(), MergeError>> {
-    let others = others?;
+    let mut others = others?;
     let mut held = held(rt)?;
-    let answer = merged(rt, &mut held, 0, &others, place);
+    let answer = merged(rt, &mut held, 0, &mut others, place);
     if has_level(&held) { answer } else { None }
 }
 

@@ -9,43 +9,43 @@ use Rattle.replica.proofs.CloseLemmas.{waits_for, goes_on_for, ends_for, closes,
 use Rattle.replica.proofs.AdvanceLemmas.{advance_holds}
 use Rattle.replica.proofs.Replica.close.Goals as goal
 
-exact : (c : goal.After-let_go) → c.found_close-answer.result ≡ found_close c.args.self.now
-exact c = c.found_close-answer.ensures.exact ∙ ap found_close c.self.view_is
+exact : (c : goal.After-self-1) → c.found_close.result ≡ found_close c.args.self.now
+exact c = c.found_close.ensures.exact ∙ ap found_close c.self.view_is
 
-advances : (c : goal.After-let_go) → OnOk c.found_close-answer.result (Advances c.args.self.now c.found_close-answer.new.self)
-advances c = subst (λ (u : State). OnOk c.found_close-answer.result (Advances u c.found_close-answer.new.self)) c.self.view_is c.found_close-answer.ensures.advances
+advances : (c : goal.After-self-1) → OnOk c.found_close.result (Advances c.args.self.now c.found_close.new.self)
+advances c = subst (λ (u : State). OnOk c.found_close.result (Advances u c.found_close.new.self)) c.self.view_is c.found_close.ensures.advances
 
-state : (c : goal.After-let_go) → IsState c.args.self.now
-state c = subst (λ (u : State). IsState u) c.self.view_is c.found_close-answer.ensures.state
+state : (c : goal.After-self-1) → IsState c.args.self.now
+state c = subst (λ (u : State). IsState u) c.self.view_is c.found_close.ensures.state
 
 pub returns-clause-waits : goal.returns-clause-waits
-returns-clause-waits c = λ q. waits_for c.args.self.now c.found_close-answer.result q (exact c)
+returns-clause-waits c = λ q. waits_for c.args.self.now c.found_close.result q (exact c)
 
 pub returns-clause-goes_on : goal.returns-clause-goes_on
-returns-clause-goes_on c = goes_on_for c.args.self.now c.found_close-answer.result (exact c)
+returns-clause-goes_on c = goes_on_for c.args.self.now c.found_close.result (exact c)
 
 pub returns-clause-finished : goal.returns-clause-finished
-returns-clause-finished c = ends_for c.args.self.now c.found_close-answer.result (exact c)
+returns-clause-finished c = ends_for c.args.self.now c.found_close.result (exact c)
 
 pub returns-clause-superstep : goal.returns-clause-superstep
 returns-clause-superstep c =
-    if_ok c.found_close-answer.result (advances c)
-    (λ n ok a. let next = (closes c.args.self.now c.found_close-answer.result n (exact c) ok).2 in (next, a.superstep ∙ sym next))
+    if_ok c.found_close.result (advances c)
+    (λ n ok a. let next = (closes c.args.self.now c.found_close.result n (exact c) ok).2 in (next, a.superstep ∙ sym next))
 
 pub returns-clause-names : goal.returns-clause-names
 returns-clause-names c =
-    on_ok c.found_close-answer.result (advances c) (λ n ok a s q. advance_holds c.args.self.now c.found_close-answer.new.self a s q)
+    on_ok c.found_close.result (advances c) (λ n ok a s q. advance_holds c.args.self.now c.found_close.new.self a s q)
 
 pub returns-clause-answer : goal.returns-clause-answer
 returns-clause-answer c = λ j p t h. exact c ∙ found_close-is j p t c.args.self.now h
 
 pub returns-clause-stands : goal.returns-clause-stands
 returns-clause-stands c = λ j p t h.
-    on_ok c.found_close-answer.result (advances c) (λ n ok a. close_stands j p t n c.args.self.now c.found_close-answer.new.self c.found_close-answer.result h (state c) (exact c) ok a)
+    on_ok c.found_close.result (advances c) (λ n ok a. close_stands j p t n c.args.self.now c.found_close.new.self c.found_close.result h (state c) (exact c) ok a)
 
 pub returns-clause-step : goal.returns-clause-step
 returns-clause-step c = λ j p. record {
-  refused = subst (λ (u : State). OnErr c.found_close-answer.result (c.found_close-answer.new.self ≡ u)) c.self.view_is c.found_close-answer.ensures.refused;
+  refused = subst (λ (u : State). OnErr c.found_close.result (c.found_close.new.self ≡ u)) c.self.view_is c.found_close.ensures.refused;
   names = returns-clause-names c;
   answer = returns-clause-answer c j p;
   stands = returns-clause-stands c j p;

@@ -1,4 +1,4 @@
-use Rattle.replica.proofs.RunLemmas.{run_stands, run_answers, run_in_time, stable_is, stable_reaches}
+use Rattle.replica.proofs.RunLemmas.{run_stands, run_answers, run_in_time, stable_is, stable_reaches, over_at_end}
 use Rattle.replica.proofs.laws.end_to_end.Goals as goal
 
 pub returns-clause-stands : goal.returns-clause-stands
@@ -15,3 +15,6 @@ returns-clause-stable c = stable_is
 
 pub returns-clause-reaches : goal.returns-clause-reaches
 returns-clause-reaches c = stable_reaches
+
+pub returns-clause-over : goal.returns-clause-over
+returns-clause-over c = over_at_end

@@ -1,6 +1,0 @@
-use Rattle.std.proofs.Common.{◌∙◌}
-use Rattle.replica.proofs.BusyLemmas.{found_verdict-is}
-use Rattle.replica.proofs.Snapshot.verdict.Goals as goal
-
-pub returns-clause-stands : goal.returns-clause-stands
-returns-clause-stands c = λ j p t h. c.found_verdict.ensures ∙ found_verdict-is j p t c.args.self.now h

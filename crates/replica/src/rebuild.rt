@@ -1,0 +1,116 @@
+//! A replica, made of what a checkpoint tells.
+
+ghost use Rattle.std.specs.Prelude.{◌≡◌, ℕ, ◌+◌, ◌≤◌, map, length, IfOk};
+ghost use Rattle.std.specs.Arc.{arc_value};
+ghost use Rattle.std.specs.Vec.{vec_capacity};
+ghost use Rattle.ball_model.specs.Checkpoint.{kept_batches};
+ghost use Rattle.ball_model.specs.PlanValue.{greatest_limit};
+ghost use Rattle.ball_model.specs.State.{State};
+ghost use Rattle.replica.specs.Kept.{AreEarly};
+ghost use Rattle.replica.specs.Seen.{IsState};
+ghost use Rattle.replica.specs.Level.{differences};
+ghost use Rattle.replica.specs.Saved.{Fits, IsRebuilt, MayBeKept};
+
+use crate::early::Early;
+use crate::saved::Saved;
+use crate::targets::Targets;
+use crate::{Replica, Snapshot, level, shown, start};
+use batches::Batch;
+use edgelist::Part;
+use registers::Rows;
+use std::alloc::{AllocError, Global};
+use std::sync::Arc;
+
+impl Replica {
+    /// The replica of the part that has all this, which has to fit it.
+    ///
+    /// All room of later supersteps is taken here. The error is that memory was refused; then both are dropped. It
+    /// takes time in proportion to the registers of the partition and the edges into it.
+    pub fn rebuild(alloc: Global, part: Arc<Part>, saved: Saved) -> Result<Replica, AllocError>
+        requires { Fits (arc_value part) saved }
+        ensures fields { IfOk result (λ r. IsRebuilt (arc_value part) saved r) }
+        // what a replica has makes that replica, and no other
+        ensures same { IfOk result (λ r. (v : State) → IsState v →
+            IsRebuilt (arc_value part) saved v → r ≡ v) }
+    {
+        let targets = Targets::of(alloc, &part)?;
+        let estimator = start::estimator_of(alloc, part.plan())?;
+        let touched = differing(alloc, &saved.rows, &saved.accumulated)?;
+        let known = known(alloc, part, saved)?;
+        Ok(Replica {
+            known,
+            targets,
+            touched,
+            estimator,
+        })
+    }
+}
+
+// Which rows differ.
+fn differing(alloc: Global, rows: &Rows, accumulated: &Rows) -> Result<Vec<bool>, AllocError>
+    requires { length accumulated.now.rows ≡ length rows.now.rows }
+    ensures { IfOk result (λ marks. marks.items ≡
+        differences rows.now.rows accumulated.now.rows (length rows.now.rows)) }
+{
+    let mut marks = vec![in alloc; false; rows.len()]?;
+    level::mark(rows, accumulated, &mut marks);
+    Ok(marks)
+}
+
+// What a replica of the part knows that has all this.
+fn known(alloc: Global, part: Arc<Part>, saved: Saved) -> Result<Snapshot, AllocError>
+    requires { Fits (arc_value part) saved }
+    ensures fields { IfOk result (λ v. IsRebuilt (arc_value part) saved v) }
+    ensures state { IfOk result (λ v. IsState v) }
+{
+    let plan = part.plan();
+    // the limits of a part are told with its number
+    prove!(part.partition() < plan.parts());
+    let sums = with_room(alloc, plan.limit(), &saved.sums)?;
+    let early = kept(alloc, &part, saved.superstep, &saved.early)?;
+    Ok(Snapshot {
+        part,
+        superstep: saved.superstep,
+        rows: saved.rows,
+        marks: saved.marks,
+        tallies: saved.tallies,
+        sums,
+        heard: saved.heard,
+        heard_change: saved.heard_change,
+        accumulated: saved.accumulated,
+        early,
+    })
+}
+
+// The same sums, with room for one a superstep up to the limit.
+fn with_room(alloc: Global, limit: u32, sums: &[u128]) -> Result<Vec<u128>, AllocError>
+    requires limit { limit ≤ greatest_limit }
+    requires few { length sums.now ≤ limit + 1 }
+    ensures sums { IfOk result (λ copy. copy.items ≡ sums.now) }
+    ensures room { IfOk result (λ copy. limit + 1 ≤ vec_capacity copy) }
+{
+    let mut copy = Vec::with_capacity(alloc, limit as usize + 1)?;
+    shown::refill(&mut copy, sums);
+    Ok(copy)
+}
+
+// The batches, shared, each at its place.
+fn kept(
+    alloc: Global,
+    part: &Part,
+    superstep: u32,
+    batches: &[Arc<Batch>],
+) -> Result<Early, AllocError>
+    requires { MayBeKept part.now.plan part.now.number superstep (map arc_value batches.now) }
+    ensures batches { IfOk result (λ early. kept_batches early ≡ map arc_value batches.now) }
+    ensures early { IfOk result (λ early.
+        AreEarly part.now.plan part.now.number superstep early) }
+{
+    let mut early = Early::empty(alloc, part.plan().parts())?;
+    for batch in batches {
+        let name = batch.name();
+        let level = (name.superstep - superstep - 1) as usize;
+        early.keep(level, name.source, Arc::try_clone(batch)?);
+    }
+    Ok(early)
+}
