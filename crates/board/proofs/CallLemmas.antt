@@ -1,18 +1,18 @@
--- A call of the board, from the turn to its end.
+-- A call of a book, and of the board: from the turn to its end.
 use Rattle.std.proofs.Common.{◌≡◌, ◌≢◌, ℕ, ◌<◌, ◌≤◌, length-append, [], ◌∷◌, ◌++◌, true, false, Option, None, Some, is_some, Result, Ok, Err, IfOk, IfSome, IfNone, refl, sym, ap, ◌∙◌, subst, ⊎_elim, arith}
 use Rattle.atomic_table.specs.Table.{Me}
-use Rattle.atomic_table.specs.Seated.{TableId}
 use Rattle.std.proofs.lemmas.Bool.{leb-true, le-leb}
 use Rattle.ball_model.specs.declared.names.BatchName.{BatchName}
 use Rattle.ball_model.specs.Join.{Holding}
 use Rattle.ball_model.specs.History.{Event, Fetch, Recall, History, Object, board_of, is_kept_from, Begins, IsLegal, calls_by, entries_of, entry, with_entry}
 use Rattle.ball_model.proofs.HistoryLemmas.{begins_self, begins_entry, begins_trans, calls_by-other, calls_by-own, board_of-push, last_is_answer, kept_never_goes_back}
 use Rattle.board.specs.View.{View}
-use Rattle.board.specs.Rule.{GoesOn, at_turn, after_turn}
+use Rattle.ball_model.specs.Caller.{Caller, Called, Extends}
+use Rattle.board.specs.Rule.{at_turn, after_turn}
 use Rattle.board.specs.Turn.{Next}
-use Rattle.board.specs.Book.{IsNext, IsNoted}
-use Rattle.board.specs.Seats.{BoardView, SeatView, Extends, Called}
-use Rattle.board.specs.Inside.{SeatFits, seat_view_of}
+use Rattle.board.specs.Noted.{IsNext, IsNoted}
+use Rattle.board.specs.Inside.{SeatFits, GrantFits, IsTurn, caller_of}
+use Rattle.board.specs.declared.seat.Grant.{Grant}
 
 -- what follows where the history is the same, and where it has one entry more
 next_cases : (limit n : ℕ) (old new : History) (P : History → Type 0) → IsNext limit n old new → P old → ((x : Event) → entries_of old < limit → P (with_entry old (entry n x))) → P new
@@ -30,96 +30,82 @@ others_of limit n old new h k ne = next_cases limit n old new (λ l. calls_by k 
 fits_of : (limit n : ℕ) (old new : History) → IsNext limit n old new → entries_of old ≤ limit → entries_of new ≤ limit
 fits_of limit n old new h le = next_cases limit n old new (λ l. entries_of l ≤ limit) h le (λ x lt. let q = length-append old.calls (entry n x ∷ []) in omega arith)
 
--- the seat between its turn and the end of the call: what it was, the book that it found, and what it is
-pub record Turn (number room : ℕ) (m m1 : Me (Option History) View) (book : History) : Type 0 where
-  pub was : SeatFits number room m
-  pub number_is : m1.0.number ≡ m.0.number
-  pub room_is : m1.0.room ≡ m.0.room
-  pub told_is : m1.0.told ≡ m.0.told
-  pub limit_is : m1.0.limit ≡ m.0.limit
-  pub seen_is : book ≡ m1.0.seen
-  pub goes_on : GoesOn m.0 book
+-- the caller when it has seen that history
+abbrev pub seeing : Caller → History → Caller
+seeing v h = record { number = v.number; limit = v.limit; seen = h }
 
-pub turn_taken : (number room : ℕ) (m m1 : Me (Option History) View) (book : History) → SeatFits number room m
-    → (m1.0.number ≡ m.0.number) × (m1.0.room ≡ m.0.room) × (m1.0.told ≡ m.0.told) × (m1.0.limit ≡ m.0.limit) → (book ≡ m1.0.seen) × GoesOn m.0 book → Turn number room m m1 book
-turn_taken number room m m1 book was kept found =
-    record {
-      was = was;
-      number_is = kept.0;
-      room_is = kept.1;
-      told_is = kept.2;
-      limit_is = kept.3;
-      seen_is = found.0;
-      goes_on = found.1;
-    }
+-- a caller that met a history, and then noted at most one entry, has seen more
+pub met_extends : (v : Caller) (met new : History) → Begins v.seen met → entries_of met ≤ v.limit → IsNext v.limit v.number met new → Extends v (seeing v new)
+met_extends v met new longer le h = record {
+  number = refl;
+  limit = refl;
+  begins = begins_trans v.seen met new longer (longer_of v.limit v.number met new h);
+  legal = h.0;
+  fits = fits_of v.limit v.number met new h le;
+}
 
--- a seat of a board has its limit, as the fields of both have it
-pub limit_of : (b b' : BoardView) (v v' : SeatView) → b ≡ b' → v ≡ v' → v'.limit ≡ b'.limit → b.limit ≡ v.limit
-limit_of b b' v v' board seat same = ap (λ (x : BoardView). x.limit) board ∙ sym (ap (λ (x : SeatView). x.limit) seat ∙ same)
+-- and where it noted one, that is the one call which it made
+pub met_called : (v : Caller) (met new : History) (e : Event) → Begins v.seen met → calls_by v.number met ≡ calls_by v.number v.seen → IsNoted v.limit v.number e met new → Called v e (seeing v new)
+met_called v met new e longer own h = record {
+  met = met;
+  begins = longer;
+  last = h.0;
+  own = ap (calls_by v.number) h.0 ∙ (calls_by-own v.number met e ∙ ap (λ l. l ++ e ∷ []) own);
+}
 
-pub turn_next : (limit number room : ℕ) (m m1 : Me (Option History) View) (book new : History) → Turn number room m m1 book → limit ≡ m.0.limit → IsNext limit number book new → Next m1.0 new
-turn_next limit number room m m1 book new t l h =
-    let n : number ≡ m1.0.number = t.was.number_is ∙ sym t.number_is in
-    let le : entries_of new ≤ limit = fits_of limit number book new h (let g = t.goes_on.4 in omega arith) in
+-- ---- the turn of a seat
+-- what the seat's caller meets in its turn has none of its calls but those that it made
+own_before : (was now : Grant) (found : History) → IsTurn was now found → calls_by was.number found ≡ calls_by was.number was.pass.me.0.seen
+own_before was now found t = subst (λ (k : ℕ). calls_by k found ≡ calls_by k was.pass.me.0.seen) (sym t.fits.number_is) t.goes_on.1
+
+pub turn_next : (was now : Grant) (found book : History) → IsTurn was now found → IsNext was.pass.me.0.limit was.number found book → Next now.pass.me.0 book
+turn_next was now found book t h =
+    let limit = was.pass.me.0.limit in
+    let n : was.number ≡ now.pass.me.0.number = t.fits.number_is ∙ sym t.view.0 in
+    let le : entries_of book ≤ limit = fits_of limit was.number found book h t.goes_on.4 in
     record {
       legal = h.0;
-      fits = let k = t.limit_is in omega arith;
-      longer = subst (λ (l : History). Begins l new) t.seen_is (longer_of limit number book new h);
-      others = λ k ne. others_of limit number book new h k (λ e. ne (e ∙ n)) ∙ ap (calls_by k) t.seen_is;
+      fits = let k = t.view.3 in omega arith;
+      longer = subst (λ (l : History). Begins l book) t.seen (longer_of limit was.number found book h);
+      others = λ k ne. others_of limit was.number found book h k (λ e. ne (e ∙ n)) ∙ ap (calls_by k) t.seen;
     }
 
-pub turn_fits : (limit number room : ℕ) (m m1 m2 : Me (Option History) View) (book new : History) → Turn number room m m1 book → limit ≡ m.0.limit → IsNext limit number book new → m2 ≡ (after_turn (at_turn m1.0 new), [])
-    → SeatFits number room m2
-turn_fits limit number room m m1 m2 book new t same h e =
-    let le : entries_of new ≤ limit = fits_of limit number book new h (let g = t.goes_on.4 in omega arith) in
-    subst (SeatFits number room) (sym e) record {
-      number_is = t.was.number_is ∙ sym t.number_is;
-      room_is = t.was.room_is ∙ sym t.room_is;
-      live = let l = t.was.live in let r = t.room_is in omega arith;
-      bound = let b = t.was.bound in let n = t.number_is in let r = t.room_is in omega arith;
+pub turn_fits : (was now end : Grant) (found book : History) → IsTurn was now found → IsNext was.pass.me.0.limit was.number found book → end.number ≡ now.number → end.room ≡ now.room
+    → end.pass.me ≡ (after_turn (at_turn now.pass.me.0 book), []) → GrantFits end
+turn_fits was now end found book t h number room e =
+    let limit = was.pass.me.0.limit in
+    let le : entries_of book ≤ limit = fits_of limit was.number found book h t.goes_on.4 in
+    subst (λ (x : ℕ × ℕ × Me (Option History) View). SeatFits x.0 x.1 x.2) (λ i. (sym (number ∙ t.number) i, sym (room ∙ t.room) i, sym e i)) record {
+      number_is = t.fits.number_is ∙ sym t.view.0;
+      room_is = t.fits.room_is ∙ sym t.view.1;
+      live = let l = t.fits.live in let r = t.view.1 in omega arith;
+      bound = let b = t.fits.bound in let n = t.view.0 in let r = t.view.1 in omega arith;
       idle = refl;
-      told = t.told_is ∙ t.was.told;
+      told = t.view.2 ∙ t.fits.told;
       holds = refl;
       legal = h.0;
-      fits = let k = t.limit_is in omega arith;
+      fits = let k = t.view.3 in omega arith;
       unused = λ k lo hi.
-          let n = t.was.number_is in
-          let n1 = t.number_is in
-          let r1 = t.room_is in
-          others_of limit number book new h k (λ q. omega arith) ∙ t.goes_on.3 k (omega arith) (omega arith);
+          let n = t.fits.number_is in
+          let n1 = t.view.0 in
+          let r1 = t.view.1 in
+          others_of limit was.number found book h k (λ q. omega arith) ∙ t.goes_on.3 k (omega arith) (omega arith);
     }
 
-pub turn_extends : (limit : ℕ) (table table' : TableId) (number room : ℕ) (m m1 m2 : Me (Option History) View) (book new : History) → Turn number room m m1 book → limit ≡ m.0.limit → IsNext limit number book new
-    → m2 ≡ (after_turn (at_turn m1.0 new), []) → table' ≡ table → Extends (seat_view_of table number room m) (seat_view_of table' number room m2)
-turn_extends limit table table' number room m m1 m2 book new t same h e z =
-    let le : entries_of new ≤ limit = fits_of limit number book new h (let g = t.goes_on.4 in omega arith) in
-    subst (λ (x : Me (Option History) View). Extends (seat_view_of table number room m) (seat_view_of table' number room x)) (sym e) record {
-      table = z;
-      number = refl;
-      room = refl;
-      limit = t.limit_is;
-      begins = begins_trans m.0.seen book new t.goes_on.0 (longer_of limit number book new h);
-      legal = h.0;
-      fits = let k = t.limit_is in omega arith;
+-- who calls by what was granted, after the turn
+pub turn_caller : (was now end : Grant) (found book : History) → IsTurn was now found → end.number ≡ now.number → end.pass.me ≡ (after_turn (at_turn now.pass.me.0 book), []) → caller_of end ≡ seeing (caller_of was) book
+turn_caller was now end found book t number e =
+    λ i. record {
+      number = (number ∙ t.number) i;
+      limit = (ap (λ (x : Me (Option History) View). x.0.limit) e ∙ t.view.3) i;
+      seen = ap (λ (x : Me (Option History) View). x.0.seen) e i;
     }
 
--- what the seat has seen after the call
-pub turn_seen : (m1 m2 : Me (Option History) View) (new : History) → m2 ≡ (after_turn (at_turn m1.0 new), []) → m2.0.seen ≡ new
-turn_seen m1 m2 new e = ap (λ (x : Me (Option History) View). x.0.seen) e
+pub turn_extends : (was now : Grant) (found book : History) → IsTurn was now found → IsNext was.pass.me.0.limit was.number found book → Extends (caller_of was) (seeing (caller_of was) book)
+turn_extends was now found book t h = met_extends (caller_of was) found book t.goes_on.0 t.goes_on.4 h
 
-own_before : (number room : ℕ) (m m1 : Me (Option History) View) (book : History) → Turn number room m m1 book → calls_by number book ≡ calls_by number m.0.seen
-own_before number room m m1 book t = subst (λ (k : ℕ). calls_by k book ≡ calls_by k m.0.seen) (sym t.was.number_is) t.goes_on.1
-
-pub turn_called : (limit : ℕ) (table table' : TableId) (number room : ℕ) (m m1 m2 : Me (Option History) View) (book new : History) (v : Event) → Turn number room m m1 book → IsNoted limit number v book new
-    → m2 ≡ (after_turn (at_turn m1.0 new), []) → Called (seat_view_of table number room m) v (seat_view_of table' number room m2)
-turn_called limit table table' number room m m1 m2 book new v t h e =
-    let seen : m2.0.seen ≡ with_entry book (entry number v) = turn_seen m1 m2 new e ∙ h.0 in
-    record {
-      met = book;
-      begins = t.goes_on.0;
-      last = seen;
-      own = ap (calls_by number) seen ∙ (calls_by-own number book v ∙ ap (λ l. l ++ v ∷ []) (own_before number room m m1 book t));
-    }
+pub turn_called : (was now : Grant) (found book : History) (e : Event) → IsTurn was now found → IsNoted was.pass.me.0.limit was.number e found book → Called (caller_of was) e (seeing (caller_of was) book)
+turn_called was now found book e t h = met_called (caller_of was) found book e t.goes_on.0 (own_before was now found t) h
 
 -- ---- what was found
 -- a name whose batch was found stands

@@ -1,7 +1,8 @@
+pub mod NameLemmas
 pub mod BookLemmas
 pub mod ViewLemmas
 pub mod MoveLemmas
 pub mod SeatLemmas
 pub mod CallLemmas
-pub mod CrossingLemmas
+pub mod Crossing
 pub mod TestLemmas

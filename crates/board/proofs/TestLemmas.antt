@@ -2,8 +2,7 @@
 use Rattle.std.proofs.Common.{◌≡◌, ℕ, sym, ap, ◌∙◌, subst}
 use Rattle.replica.proofs.LevelLemmas.{part_number}
 use Rattle.ball_model.specs.Job.{Job, PartValue}
-use Rattle.ball_model.specs.State.{State, StandsFor}
-use Rattle.board.specs.Seats.{Stands}
+use Rattle.ball_model.specs.State.{State, StandsFor, Stands}
 
 -- what stands for a partition at a superstep stands for its own
 pub stands_self : (j : Job) (p t : ℕ) (v : State) → StandsFor j p t v → Stands j v

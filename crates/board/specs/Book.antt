@@ -1,31 +1,26 @@
 -- A book's fields as a history, and what they keep.
-use Rattle.std.specs.Prelude.{◌≡◌, ◌⊎◌, ℕ, ◌+◌, ◌^◌, ◌<◌, ◌&&◌, if◌then◌else◌, cond, Bool, true, false}
+use Rattle.std.specs.Prelude.{◌≡◌, ℕ, ◌+◌, ◌^◌, ◌<◌, ◌&&◌, if◌then◌else◌, cond, Bool, true, false}
 use Rattle.std.specs.Prelude.{List, ◌++◌, map, length, vec_len, vec_capacity, slice_index_or, slice_set}
 use Rattle.std.specs.Prelude.{Option, None, Some, MatchOption, IfSome, option_map}
 use Rattle.std.specs.List.{flat_map}
 use Rattle.std.specs.Arc.{arc_value}
 use Rattle.std.specs.BTreeMap.{get}
-use Rattle.std.specs.declared.cmp.Ordering.{Ordering}
 use Rattle.ball_model.specs.declared.history.Kept.{Kept}
 use Rattle.ball_model.specs.declared.history.Kept.TheVariants as replies
 use Rattle.ball_model.specs.declared.history.Posted.{Posted}
 use Rattle.ball_model.specs.declared.history.Posted.TheVariants as posted
 use Rattle.ball_model.specs.declared.names.BatchName.{BatchName}
-use Rattle.ball_model.specs.contracts.names.BatchNameOrd.TheImpl as name_order
 use Rattle.ball_model.specs.Job.{Job}
 use Rattle.ball_model.specs.Join.{Holding}
 use Rattle.ball_model.specs.Batches.{BatchValue, true_batch}
 use Rattle.ball_model.specs.State.{State, StandsFor}
-use Rattle.ball_model.specs.History.{Event, Post, Fetch, Keep, Recall, Drop, Entry, History, entry, entries_of, with_entry, Object, board_of, IsLegal, holding_in, is_further, is_new_keep, is_new_post, same_name}
+use Rattle.ball_model.specs.History.{Event, Post, Fetch, Keep, Recall, Drop, Entry, History, entry, entries_of, Object, board_of, IsLegal, holding_in, is_further, is_new_keep, is_new_post, same_name}
+use Rattle.board.specs.Noted.{by_name}
 use Rattle.board.specs.declared.event.Event.{Event as Noted}
 use Rattle.board.specs.declared.event.Event.TheVariants as noted
 use Rattle.board.specs.declared.event.Entry.{Entry as Line}
 use Rattle.board.specs.declared.calls.Calls.{Calls}
 use Rattle.board.specs.declared.book.Book.TheInside.{Inside}
-
--- the order of names
-abbrev pub by_name : BatchName → BatchName → Ordering
-by_name = (name_order.ghosts).cmp
 
 -- a noted event
 abbrev pub event_of : Noted → Event
@@ -110,22 +105,3 @@ reply_in state kept c =
 abbrev pub kept_after : {C : Type 0} → (C → State) → Kept → List (Option C) → C → List (Option C)
 kept_after state reply kept c =
     if is_new_keep reply then slice_set kept (state c).part.number (Some c) else kept
-
--- one entry more, where there is room for it
-abbrev pub IsNoted : ℕ → ℕ → Event → History → History → Type 0
-IsNoted limit by e old new = (new ≡ with_entry old (entry by e)) × (entries_of old < limit)
-
--- a fetch of that name was noted, and this is the true batch of it
-abbrev pub IsFetched : ℕ → ℕ → BatchName → History → History → BatchValue → Type 0
-IsFetched limit by name old new batch =
-    IsNoted limit by (Fetch name) old new × (batch ≡ true_batch old.job name)
-
--- a recall was noted, and this is a snapshot of the partition with the content that it tells
-abbrev pub IsRecalled : ℕ → ℕ → ℕ → ℕ → History → History → State → Type 0
-IsRecalled limit by part least old new state =
-    IsNoted limit by (Recall part least (holding_in state)) old new
-    × StandsFor old.job part state.superstep state
-
--- the history after a call of this caller: it is legal, and the same or with one entry more
-abbrev pub IsNext : ℕ → ℕ → History → History → Type 0
-IsNext limit by old new = IsLegal new × ((new ≡ old) ⊎ ((e : Event) × IsNoted limit by e old new))

@@ -1,3 +1,4 @@
+pub mod Noted
 pub mod Book
 pub mod View
 pub mod Rule

@@ -3,19 +3,20 @@
 ghost use Rattle.std.specs.Prelude.{◌≡◌, ◌≤◌, ◌^◌, [], IfOk, OnOk, IfErr, OnErr, IfSome, IfNone, is_some, true};
 ghost use Rattle.std.specs.Arc.{arc_value};
 ghost use Rattle.board.specs.declared.error.BoardError.TheVariants.{BookFull, Memory};
-ghost use Rattle.ball_model.specs.Job.{IsJob};
-ghost use Rattle.ball_model.specs.Batches.{true_batch};
-ghost use Rattle.ball_model.specs.State.{StandsFor};
+ghost use Rattle.ball_model.specs.Job.{IsJob, job_of};
+ghost use Rattle.ball_model.specs.Batches.{IsTrueBatch, true_batch};
+ghost use Rattle.ball_model.specs.State.{Stands, StandsFor};
 ghost use Rattle.ball_model.specs.History.{Post, Fetch, Keep, Recall, Drop, Begins, IsLegal, start_history, entries_of, calls_by, board_of, holding_in, is_kept_from};
-ghost use Rattle.board.specs.Seats.{job_of, IsTrueIn, Stands, IsAt, Extends, Called, CalledNothing, IsFull, HasRoom, IsAsFar, least_entries, most_entries};
+ghost use Rattle.ball_model.specs.Caller.{IsCaller, Extends, Called, CalledNothing, IsFull, HasRoom, IsAsFar};
+ghost use Rattle.board.specs.Seats.{IsAt, KeepsItsNumbers, least_entries, most_entries};
 ghost use Rattle.board.specs.Rule.{first_view};
 ghost use Rattle.board.specs.Turn.{IsSized};
 
 use crate::book::Book;
 use crate::error::BoardError;
 use crate::rule::{Pass, Room, Tells};
-use crate::seat::Seat;
-use crate::turn::{count, give, take};
+use crate::seat::{Grant, Seat};
+use crate::turn::{Turn, count};
 use ball_model::{BatchName, Kept, Plan, Posted};
 use batches::Batch;
 use edgelist::Graph;
@@ -64,12 +65,12 @@ impl Board {
         requires job { IsJob (job_of graph.now.graph plan.now) }
         requires entries { (least_entries ≤ entries) × (entries ≤ most_entries) }
         ensures board { IfOk result (λ r. IsAt r.0 r.1) }
-        ensures limit { IfOk result (λ r. r.1.limit ≡ entries) }
-        ensures number { IfOk result (λ r. r.1.number ≡ 0) }
+        ensures limit { IfOk result (λ r. r.1.caller.limit ≡ entries) }
+        ensures number { IfOk result (λ r. r.1.caller.number ≡ 0) }
         ensures room { IfOk result (λ r. r.1.room ≡ 2 ^ 63) }
         ensures seen { IfOk result (λ r.
-            r.1.seen ≡ start_history (job_of graph.now.graph plan.now)) }
-        ensures legal { IfOk result (λ r. IsLegal r.1.seen) }
+            r.1.caller.seen ≡ start_history (job_of graph.now.graph plan.now)) }
+        ensures legal { IfOk result (λ r. IsCaller r.1.caller) }
     {
         let book = Book::open(alloc, graph, plan)?;
         let (room, pass) = start_room(alloc, book, entries)?;
@@ -77,12 +78,12 @@ impl Board {
             room,
             limit: entries,
         };
-        let seat = Seat {
+        let grant = Grant {
             pass,
             number: 0,
             room: NUMBERS,
         };
-        Ok((board, seat))
+        Ok((board, Seat { grant }))
     }
 
     /// The number of entries of the history, which the seat has then seen.
@@ -90,11 +91,12 @@ impl Board {
     /// It is one look at a word: it takes no memory, and waits for nobody.
     pub fn length(&self, seat: &mut Seat) -> u64
         requires board { IsAt self.now seat.old }
-        ensures seen { Extends seat.old seat.new }
-        ensures nothing { CalledNothing seat.old seat.new }
-        ensures length { result ≡ entries_of seat.new.seen }
+        ensures numbers { KeepsItsNumbers seat.old seat.new }
+        ensures seen { Extends seat.old.caller seat.new.caller }
+        ensures nothing { CalledNothing seat.old.caller seat.new.caller }
+        ensures length { result ≡ entries_of seat.new.caller.seen }
     {
-        count(&self.room, &mut seat.pass)
+        count(&self.room, &mut seat.grant.pass)
     }
 
     /// The first seat has then seen what both have, and the second ends: its number is never used again.
@@ -103,18 +105,22 @@ impl Board {
     pub fn join(&self, seat: &mut Seat, ended: Seat)
         requires board { IsAt self.now seat.old }
         requires ended { IsAt self.now ended }
-        ensures seen { Extends seat.old seat.new }
-        ensures nothing { CalledNothing seat.old seat.new }
-        ensures both { Begins ended.seen seat.new.seen }
-        ensures ended { calls_by ended.number seat.new.seen ≡ calls_by ended.number ended.seen }
+        ensures numbers { KeepsItsNumbers seat.old seat.new }
+        ensures seen { Extends seat.old.caller seat.new.caller }
+        ensures nothing { CalledNothing seat.old.caller seat.new.caller }
+        ensures both { Begins ended.caller.seen seat.new.caller.seen }
+        ensures ended { calls_by ended.caller.number seat.new.caller.seen
+            ≡ calls_by ended.caller.number ended.caller.seen }
     {
-        let Seat {
+        let Grant {
             pass,
             number: _,
             room: _,
-        } = ended;
-        self.room.shared.join_seat::<Tells>(&mut seat.pass, pass);
-        count(&self.room, &mut seat.pass);
+        } = ended.grant;
+        self.room
+            .shared
+            .join_seat::<Tells>(&mut seat.grant.pass, pass);
+        count(&self.room, &mut seat.grant.pass);
     }
 
     /// Finds the batch of a name: None exactly where the name does not stand, and then no entry is added.
@@ -129,20 +135,23 @@ impl Board {
         name: BatchName,
     ) -> Result<Option<Arc<Batch>>, BoardError>
         requires board { IsAt self.now seat.old }
-        ensures seen { Extends seat.old seat.new }
-        ensures found { IfOk result (λ r. IfSome r (λ a. Called seat.old (Fetch name) seat.new)) }
+        ensures numbers { KeepsItsNumbers seat.old seat.new }
+        ensures seen { Extends seat.old.caller seat.new.caller }
+        ensures found { IfOk result
+            (λ r. IfSome r (λ a. Called seat.old.caller (Fetch name) seat.new.caller)) }
         ensures batch { IfOk result
-            (λ r. IfSome r (λ a. arc_value a ≡ true_batch seat.old.seen.job name)) }
-        ensures stands { IfOk result (λ r. is_some r ≡ (board_of seat.new.seen).stands name) }
-        ensures none { IfOk result (λ r. IfNone r (CalledNothing seat.old seat.new)) }
-        ensures refused { OnErr result (CalledNothing seat.old seat.new) }
-        ensures asked { OnErr result ((board_of seat.new.seen).stands name ≡ true) }
-        ensures full { IfErr result (λ e. e ≡ BookFull → IsFull seat.new) }
-        ensures memory { IfErr result (λ e. e ≡ Memory → HasRoom seat.new) }
+            (λ r. IfSome r (λ a. arc_value a ≡ true_batch seat.old.caller.seen.job name)) }
+        ensures stands { IfOk result
+            (λ r. is_some r ≡ (board_of seat.new.caller.seen).stands name) }
+        ensures none { IfOk result (λ r. IfNone r (CalledNothing seat.old.caller seat.new.caller)) }
+        ensures refused { OnErr result (CalledNothing seat.old.caller seat.new.caller) }
+        ensures asked { OnErr result ((board_of seat.new.caller.seen).stands name ≡ true) }
+        ensures full { IfErr result (λ e. e ≡ BookFull → IsFull seat.new.caller) }
+        ensures memory { IfErr result (λ e. e ≡ Memory → HasRoom seat.new.caller) }
     {
-        let mut book = take(rt, &self.room, &mut seat.pass);
-        let answer = book.fetch(seat.number, name, self.limit);
-        give(&self.room, &mut seat.pass, book);
+        let mut turn = Turn::take(rt, &self.room, &mut seat.grant);
+        let answer = turn.book.fetch(seat.grant.number, name, self.limit);
+        turn.give(&self.room, &mut seat.grant);
         answer
     }
 
@@ -158,16 +167,18 @@ impl Board {
         batch: Arc<Batch>,
     ) -> Result<Posted, BoardError>
         requires board { IsAt self.now seat.old }
-        requires batch { IsTrueIn seat.old.seen.job (arc_value batch) }
-        ensures seen { Extends seat.old seat.new }
-        ensures ok { IfOk result (λ r. Called seat.old (Post (arc_value batch).name r) seat.new) }
-        ensures refused { OnErr result (CalledNothing seat.old seat.new) }
-        ensures full { IfErr result (λ e. e ≡ BookFull → IsFull seat.new) }
-        ensures memory { IfErr result (λ e. e ≡ Memory → HasRoom seat.new) }
+        requires batch { IsTrueBatch seat.old.caller.seen.job (arc_value batch) }
+        ensures numbers { KeepsItsNumbers seat.old seat.new }
+        ensures seen { Extends seat.old.caller seat.new.caller }
+        ensures ok { IfOk result
+            (λ r. Called seat.old.caller (Post (arc_value batch).name r) seat.new.caller) }
+        ensures refused { OnErr result (CalledNothing seat.old.caller seat.new.caller) }
+        ensures full { IfErr result (λ e. e ≡ BookFull → IsFull seat.new.caller) }
+        ensures memory { IfErr result (λ e. e ≡ Memory → HasRoom seat.new.caller) }
     {
-        let mut book = take(rt, &self.room, &mut seat.pass);
-        let answer = book.post(seat.number, batch, self.limit);
-        give(&self.room, &mut seat.pass, book);
+        let mut turn = Turn::take(rt, &self.room, &mut seat.grant);
+        let answer = turn.book.post(seat.grant.number, &batch, self.limit);
+        turn.give(&self.room, &mut seat.grant);
         answer
     }
 
@@ -175,7 +186,7 @@ impl Board {
     /// takes the place of, else [`Behind`](Kept::Behind).
     ///
     /// [`BookFull`](BoardError::BookFull) where the history is full, then [`Memory`](BoardError::Memory). The snapshot is
-    /// moved, not copied.
+    /// moved, not copied; the one that it displaces is let go after the turn.
     pub fn keep<R: Wait>(
         &self,
         rt: &R,
@@ -183,18 +194,21 @@ impl Board {
         snapshot: Arc<Snapshot>,
     ) -> Result<Kept, BoardError>
         requires board { IsAt self.now seat.old }
-        requires snapshot { Stands seat.old.seen.job (arc_value snapshot) }
-        ensures seen { Extends seat.old seat.new }
+        requires snapshot { Stands seat.old.caller.seen.job (arc_value snapshot) }
+        ensures numbers { KeepsItsNumbers seat.old seat.new }
+        ensures seen { Extends seat.old.caller seat.new.caller }
         ensures ok { IfOk result
-            (λ r. Called seat.old (Keep (holding_in (arc_value snapshot)) r) seat.new) }
-        ensures refused { OnErr result (CalledNothing seat.old seat.new) }
-        ensures full { IfErr result (λ e. e ≡ BookFull → IsFull seat.new) }
-        ensures memory { IfErr result (λ e. e ≡ Memory → HasRoom seat.new) }
+            (λ r. Called seat.old.caller (Keep (holding_in (arc_value snapshot)) r)
+            seat.new.caller) }
+        ensures refused { OnErr result (CalledNothing seat.old.caller seat.new.caller) }
+        ensures full { IfErr result (λ e. e ≡ BookFull → IsFull seat.new.caller) }
+        ensures memory { IfErr result (λ e. e ≡ Memory → HasRoom seat.new.caller) }
     {
-        let mut book = take(rt, &self.room, &mut seat.pass);
-        let answer = book.keep(seat.number, snapshot, self.limit);
-        give(&self.room, &mut seat.pass, book);
-        answer
+        let mut turn = Turn::take(rt, &self.room, &mut seat.grant);
+        let answer = turn.book.keep(seat.grant.number, &snapshot, self.limit);
+        turn.give(&self.room, &mut seat.grant);
+        let (reply, _displaced) = answer?;
+        Ok(reply)
     }
 
     /// Finds the snapshot that is kept for a partition: None exactly where there is none whose superstep is `at_least`
@@ -210,32 +224,36 @@ impl Board {
         at_least: u32,
     ) -> Result<Option<Arc<Snapshot>>, BoardError>
         requires board { IsAt self.now seat.old }
-        ensures seen { Extends seat.old seat.new }
+        ensures numbers { KeepsItsNumbers seat.old seat.new }
+        ensures seen { Extends seat.old.caller seat.new.caller }
         ensures found { IfOk result (λ r. IfSome r
-            (λ a. Called seat.old (Recall part at_least (holding_in (arc_value a))) seat.new)) }
-        ensures snapshot { IfOk result (λ r. IfSome r
-            (λ a. StandsFor seat.old.seen.job part (arc_value a).superstep (arc_value a))) }
+            (λ a. Called seat.old.caller (Recall part at_least (holding_in (arc_value a)))
+            seat.new.caller)) }
+        ensures snapshot { IfOk result (λ r. IfSome r (λ a.
+            StandsFor seat.old.caller.seen.job part (arc_value a).superstep (arc_value a))) }
         ensures furthest { IfOk result
-            (λ r. IfSome r (λ a. IsAsFar seat.old part (arc_value a).superstep)) }
+            (λ r. IfSome r (λ a. IsAsFar seat.old.caller part (arc_value a).superstep)) }
         ensures far { IfOk result
-            (λ r. is_some r ≡ is_kept_from ((board_of seat.new.seen).kept part) at_least) }
-        ensures none { IfOk result (λ r. IfNone r (CalledNothing seat.old seat.new)) }
-        ensures refused { OnErr result (CalledNothing seat.old seat.new) }
+            (λ r. is_some r ≡ is_kept_from ((board_of seat.new.caller.seen).kept part) at_least) }
+        ensures none { IfOk result (λ r. IfNone r (CalledNothing seat.old.caller seat.new.caller)) }
+        ensures refused { OnErr result (CalledNothing seat.old.caller seat.new.caller) }
         ensures asked { OnErr result
-            (is_kept_from ((board_of seat.new.seen).kept part) at_least ≡ true) }
-        ensures full { IfErr result (λ e. e ≡ BookFull → IsFull seat.new) }
-        ensures memory { IfErr result (λ e. e ≡ Memory → HasRoom seat.new) }
+            (is_kept_from ((board_of seat.new.caller.seen).kept part) at_least ≡ true) }
+        ensures full { IfErr result (λ e. e ≡ BookFull → IsFull seat.new.caller) }
+        ensures memory { IfErr result (λ e. e ≡ Memory → HasRoom seat.new.caller) }
     {
-        let mut book = take(rt, &self.room, &mut seat.pass);
-        let answer = book.recall(seat.number, part, at_least, self.limit);
-        give(&self.room, &mut seat.pass, book);
+        let mut turn = Turn::take(rt, &self.room, &mut seat.grant);
+        let answer = turn
+            .book
+            .recall(seat.grant.number, part, at_least, self.limit);
+        turn.give(&self.room, &mut seat.grant);
         answer
     }
 
     /// Raises the floor to `superstep` at least, and drops the batches below it.
     ///
-    /// [`BookFull`](BoardError::BookFull) where the history is full, then [`Memory`](BoardError::Memory). It takes time in
-    /// proportion to the batches that are dropped.
+    /// [`BookFull`](BoardError::BookFull) where the history is full, then [`Memory`](BoardError::Memory). The
+    /// batches are let go after the turn.
     pub fn drop_below<R: Wait>(
         &self,
         rt: &R,
@@ -243,16 +261,20 @@ impl Board {
         superstep: u32,
     ) -> Result<(), BoardError>
         requires board { IsAt self.now seat.old }
-        ensures seen { Extends seat.old seat.new }
-        ensures ok { OnOk result (Called seat.old (Drop superstep) seat.new) }
-        ensures refused { OnErr result (CalledNothing seat.old seat.new) }
-        ensures full { IfErr result (λ e. e ≡ BookFull → IsFull seat.new) }
-        ensures memory { IfErr result (λ e. e ≡ Memory → HasRoom seat.new) }
+        ensures numbers { KeepsItsNumbers seat.old seat.new }
+        ensures seen { Extends seat.old.caller seat.new.caller }
+        ensures ok { OnOk result (Called seat.old.caller (Drop superstep) seat.new.caller) }
+        ensures refused { OnErr result (CalledNothing seat.old.caller seat.new.caller) }
+        ensures full { IfErr result (λ e. e ≡ BookFull → IsFull seat.new.caller) }
+        ensures memory { IfErr result (λ e. e ≡ Memory → HasRoom seat.new.caller) }
     {
-        let mut book = take(rt, &self.room, &mut seat.pass);
-        let answer = book.drop_below(seat.number, superstep, self.limit);
-        give(&self.room, &mut seat.pass, book);
-        answer
+        let mut turn = Turn::take(rt, &self.room, &mut seat.grant);
+        let answer = turn
+            .book
+            .drop_below(seat.grant.number, superstep, self.limit);
+        turn.give(&self.room, &mut seat.grant);
+        let _dropped = answer?;
+        Ok(())
     }
 }
 

@@ -1,12 +1,15 @@
-//! What lies in the slot of a board: the history, and what it leaves.
+//! A history, and what it leaves: what lies in the slot of a board, or a board of one caller.
 
 ghost use Rattle.std.specs.Prelude.{◌≡◌, ◌<◌, ◌≤◌, cond, nat_lt, IsTrue, IsFalse, true, false, None, Some, length, replicate, slice_get, slice_index_or, is_some, option_map, IfErr, IfOk, OnOk, OnErr, IfSome, IfNone, Err};
 ghost use Rattle.std.specs.Arc.{arc_value};
 ghost use Rattle.std.specs.BTreeMap.{get};
 ghost use Rattle.board.specs.declared.error.BoardError.TheVariants.{BookFull, Memory};
+ghost use Rattle.ball_model.specs.Job.{job_of};
+ghost use Rattle.ball_model.specs.Batches.{IsTrueBatch};
+ghost use Rattle.ball_model.specs.State.{Stands};
 ghost use Rattle.ball_model.specs.History.{Post, Keep, Drop, IsLegal, start_history, entries_of, board_of, holding_in, is_further, is_kept_from};
-ghost use Rattle.board.specs.Seats.{job_of, IsTrueIn, Stands};
-ghost use Rattle.board.specs.Book.{by_name, held_at, IsFetched, IsNoted, IsNext, IsPut, IsRecalled, kept_after, reply_in, reply_to};
+ghost use Rattle.board.specs.Noted.{AreDropped, IsFetched, IsNoted, IsNext, IsRecalled, by_name, displaced_by};
+ghost use Rattle.board.specs.Book.{held_at, IsPut, kept_after, reply_in, reply_to};
 
 use crate::calls::Calls;
 use crate::error::BoardError;
@@ -14,14 +17,20 @@ use crate::event::Event;
 use ball_model::{BatchName, Kept, Plan, Posted};
 use batches::Batch;
 use edgelist::Graph;
-use replica::Snapshot;
+use replica::{Shown, Snapshot};
 use std::alloc::{AllocError, Global};
 use std::collections::BTreeMap;
 use std::marker::Model;
+use std::mem;
 use std::snapshot::Snapshot as Seen;
 use std::sync::Arc;
 
-/// The history, with what it leaves: the floor, the batches that stand, and the snapshot kept for each partition.
+/// A history, with what it leaves: the floor, the batches that stand, and the snapshot kept for each partition.
+///
+/// It is what the threads at a [`Board`](crate::Board) take turns with, and by itself a board of one caller: each call
+/// is given the caller's number and how many entries the history may have, and the history is its model. Where a call
+/// answers an error the book is as it was. What a call displaces it gives back, so that who calls may let it go when
+/// nobody waits.
 #[derive(Drop)]
 pub struct Book {
     graph: Seen<Graph>,
@@ -67,7 +76,10 @@ impl Book {
         self.calls.entries()
     }
 
-    /// Finds the batch, and notes it.
+    /// Finds the batch of a name, and notes it: None exactly where the name does not stand, and then nothing is noted.
+    ///
+    /// [`BookFull`](BoardError::BookFull) where the name stands and there are `limit` entries, then
+    /// [`Memory`](BoardError::Memory) (also where the batch is shared 2^63 times).
     pub fn fetch(
         &mut self,
         by: u64,
@@ -92,41 +104,59 @@ impl Book {
         Ok(Some(copy))
     }
 
-    /// Puts a batch where none of its name stands, and notes the reply.
-    pub fn post(&mut self, by: u64, batch: Arc<Batch>, limit: u32) -> Result<Posted, BoardError>
-        requires { IsTrueIn self.old.job (arc_value batch) }
+    /// Puts a batch where none of its name stands, and notes the reply. The batch is shared, not moved.
+    ///
+    /// [`BookFull`](BoardError::BookFull) where there are `limit` entries, then [`Memory`](BoardError::Memory) (also
+    /// where the batch is shared 2^63 times).
+    pub fn post(&mut self, by: u64, batch: &Arc<Batch>, limit: u32) -> Result<Posted, BoardError>
+        requires { IsTrueBatch self.old.job (arc_value batch.now) }
         ensures ok { IfOk result
-            (λ r. IsNoted limit by (Post (arc_value batch).name r) self.old self.new) }
+            (λ r. IsNoted limit by (Post (arc_value batch.now).name r) self.old self.new) }
         ensures err { OnErr result (self.new ≡ self.old) }
         ensures full { IfErr result (λ e. e ≡ BookFull → limit ≤ entries_of self.old) }
         ensures memory { IfErr result (λ e. e ≡ Memory → entries_of self.old < limit) }
         ensures next { IsNext limit by self.old self.new }
     {
-        self.calls.make_room(limit)?;
-        let name = batch.name();
-        let reply = put_batch(&mut self.standing, self.floor, name, batch)?;
+        let copy = self.calls.share(batch, limit)?;
+        let name = copy.name();
+        let reply = put_batch(&mut self.standing, self.floor, name, copy)?;
         self.calls.note(by, Event::Post(name, reply));
         Ok(reply)
     }
 
-    /// Keeps a snapshot where it is further than the one kept for its partition, and notes the reply.
-    pub fn keep(&mut self, by: u64, snapshot: Arc<Snapshot>, limit: u32) -> Result<Kept, BoardError>
-        requires { Stands self.old.job (arc_value snapshot) }
-        ensures ok { IfOk result
-            (λ r. IsNoted limit by (Keep (holding_in (arc_value snapshot)) r) self.old self.new) }
+    /// Keeps a snapshot where it is further than the one kept for its partition, and notes the reply; it gives back the
+    /// one that it displaces. The snapshot is shared, not moved.
+    ///
+    /// [`BookFull`](BoardError::BookFull) where there are `limit` entries, then [`Memory`](BoardError::Memory) (also
+    /// where the snapshot is shared 2^63 times).
+    pub fn keep(
+        &mut self,
+        by: u64,
+        snapshot: &Arc<Snapshot>,
+        limit: u32,
+    ) -> Result<(Kept, Option<Arc<Snapshot>>), BoardError>
+        requires { Stands self.old.job (arc_value snapshot.now) }
+        ensures ok { IfOk result (λ r.
+            IsNoted limit by (Keep (holding_in (arc_value snapshot.now)) r.0) self.old self.new) }
+        ensures displaced { IfOk result (λ r. option_map (λ a. holding_in (arc_value a)) r.1
+            ≡ displaced_by r.0 ((board_of self.old).kept (arc_value snapshot.now).part.number)) }
         ensures err { OnErr result (self.new ≡ self.old) }
         ensures full { IfErr result (λ e. e ≡ BookFull → limit ≤ entries_of self.old) }
         ensures memory { IfErr result (λ e. e ≡ Memory → entries_of self.old < limit) }
         ensures next { IsNext limit by self.old self.new }
     {
-        self.calls.make_room(limit)?;
-        let seen = Seen::of(&*snapshot);
-        let reply = put_snapshot(&mut self.kept, snapshot);
+        let copy = self.calls.share(snapshot, limit)?;
+        let seen = Seen::of(&*copy);
+        let (reply, displaced) = put_snapshot(&mut self.kept, copy);
         self.calls.note(by, Event::Keep(seen, reply));
-        Ok(reply)
+        Ok((reply, displaced))
     }
 
-    /// Finds the snapshot that is kept for a partition, where it is far enough, and notes it.
+    /// Finds the snapshot that is kept for a partition, where its superstep is `at_least` so much, and notes it: None
+    /// exactly where there is none, and then nothing is noted.
+    ///
+    /// [`BookFull`](BoardError::BookFull) where there is one and there are `limit` entries, then
+    /// [`Memory`](BoardError::Memory) (also where it is shared 2^63 times).
     pub fn recall(
         &mut self,
         by: u64,
@@ -153,19 +183,28 @@ impl Book {
         Ok(Some(copy))
     }
 
-    /// Raises the floor, drops the batches below it, and notes it.
-    pub fn drop_below(&mut self, by: u64, superstep: u32, limit: u32) -> Result<(), BoardError>
+    /// Raises the floor to `superstep` at least, and notes it; it gives back the batches below, which stand no more.
+    ///
+    /// [`BookFull`](BoardError::BookFull) where there are `limit` entries, then [`Memory`](BoardError::Memory).
+    pub fn drop_below(
+        &mut self,
+        by: u64,
+        superstep: u32,
+        limit: u32,
+    ) -> Result<BTreeMap<BatchName, Arc<Batch>>, BoardError>
         ensures ok { OnOk result (IsNoted limit by (Drop superstep) self.old self.new) }
+        ensures dropped { IfOk result
+            (λ d. AreDropped arc_value superstep self.old (get by_name d)) }
         ensures err { OnErr result (self.new ≡ self.old) }
         ensures full { IfErr result (λ e. e ≡ BookFull → limit ≤ entries_of self.old) }
         ensures memory { IfErr result (λ e. e ≡ Memory → entries_of self.old < limit) }
         ensures next { IsNext limit by self.old self.new }
     {
         self.calls.make_room(limit)?;
+        let dropped = drop_batches(self.calls.alloc, &mut self.standing, superstep)?;
         self.floor = self.floor.max(superstep);
-        drop_batches(&mut self.standing, superstep);
         self.calls.note(by, Event::DropBelow(superstep));
-        Ok(())
+        Ok(dropped)
     }
 }
 
@@ -206,18 +245,23 @@ fn put_batch(
     Ok(Posted::New)
 }
 
-// Puts a snapshot in its place where it is further than the one there.
-fn put_snapshot(kept: &mut Vec<Option<Arc<Snapshot>>>, snapshot: Arc<Snapshot>) -> Kept
+// Puts a snapshot in its place where it is further than the one there, which is then given back.
+fn put_snapshot(
+    kept: &mut Vec<Option<Arc<Snapshot>>>,
+    snapshot: Arc<Snapshot>,
+) -> (Kept, Option<Arc<Snapshot>>)
     requires { (arc_value snapshot).part.number < length kept.old.items }
-    ensures reply { result ≡ reply_in arc_value kept.old.items snapshot }
-    ensures put { kept.new.items ≡ kept_after arc_value result kept.old.items snapshot }
+    ensures reply { result.0 ≡ reply_in arc_value kept.old.items snapshot }
+    ensures put { kept.new.items ≡ kept_after arc_value result.0 kept.old.items snapshot }
+    ensures displaced { option_map (λ a. holding_in (arc_value a)) result.1
+        ≡ displaced_by result.0 (held_at arc_value kept.old.items (arc_value snapshot).part.number) }
 {
     let place = usize::from(snapshot.partition());
     if !is_ahead(&kept[place], &snapshot) {
-        return Kept::Behind;
+        return (Kept::Behind, None);
     }
-    kept[place] = Some(snapshot);
-    Kept::New
+    let displaced = kept[place].replace(snapshot);
+    (Kept::New, displaced)
 }
 
 // Whether a snapshot is further than the one that is kept.
@@ -256,14 +300,27 @@ fn first_is_below(standing: &BTreeMap<BatchName, Arc<Batch>>, s: u32) -> bool
     }
 }
 
-// Takes out the names of supersteps below s.
-fn drop_batches(standing: &mut BTreeMap<BatchName, Arc<Batch>>, s: u32)
-    ensures { (n : BatchName) → get by_name standing.new n
-        ≡ cond (nat_lt n.superstep s) None (get by_name standing.old n) }
+// Takes out the batches of supersteps below s.
+fn drop_batches(
+    alloc: Global,
+    standing: &mut BTreeMap<BatchName, Arc<Batch>>,
+    s: u32,
+) -> Result<BTreeMap<BatchName, Arc<Batch>>, AllocError>
+    ensures left { OnOk result ((n : BatchName) → get by_name standing.new n
+        ≡ cond (nat_lt n.superstep s) None (get by_name standing.old n)) }
+    ensures dropped { IfOk result (λ d. (n : BatchName) → get by_name d n
+        ≡ cond (nat_lt n.superstep s) (get by_name standing.old n) None) }
+    ensures err { OnErr result
+        ((n : BatchName) → get by_name standing.new n ≡ get by_name standing.old n) }
 {
-    while first_is_below(standing, s) {
-        let Some(_old) = standing.pop_first() else {
-            break;
-        };
+    if !first_is_below(standing, s) {
+        return Ok(BTreeMap::new(alloc));
     }
+    let least = BatchName {
+        superstep: s,
+        source: 0,
+        target: 0,
+    };
+    let left = standing.split_off(&least)?;
+    Ok(mem::replace(standing, left))
 }

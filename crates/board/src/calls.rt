@@ -18,7 +18,8 @@ const SHEET: usize = 1024;
 /// The calls of a history.
 #[derive(Drop)]
 pub struct Calls {
-    alloc: Global,
+    /// Where its sheets come from.
+    pub alloc: Global,
     // how many entries the history has, the opening among them
     entries: u32,
     // full sheets, and the sheet that is written on

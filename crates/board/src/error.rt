@@ -7,7 +7,7 @@ use thiserror::Error;
 #[derive(Clone, Copy, Debug, PartialEq, Eq, Error)]
 pub enum BoardError {
     /// The history has as many entries as it may have, and the call would add one.
-    #[error("the board's book is full")]
+    #[error("the book is full")]
     BookFull,
     /// Memory was refused, or a value is shared 2^63 times already.
     #[error("out of memory")]

@@ -23,8 +23,11 @@
 //!
 //! Calls take turns by a ticket lock over three words, and what they ask lies in one slot, the book: the entries, the
 //! floor, the batches that stand by name, and the furthest snapshot of each partition. A call holds its turn for its
-//! own work alone: a search among the batches that stand, an entry of the history, and what it lets go. No rows are
-//! copied, and nothing is in proportion to the history. Who waits looks some sixty times and then yields its thread.
+//! own work alone: a search among the batches that stand, and an entry of the history. What it displaces is let go after
+//! its turn. No rows are copied, and nothing is in proportion to the history. Who waits looks some sixty times and then
+//! yields its thread.
+//!
+//! A [`Book`] by itself is a board of one caller: the same calls with the same answers, and no table.
 //!
 //! An entry takes about 24 bytes. [`Board::length`] and [`Board::join`] take no turn and no memory.
 #![tactic(auto)]
@@ -39,6 +42,7 @@ mod seat;
 mod turn;
 
 pub use board::Board;
+pub use book::Book;
 pub use error::BoardError;
 pub use seat::Seat;
 

@@ -3,8 +3,10 @@
 ghost use Rattle.std.specs.Prelude.{◌≡◌, ◌*◌, ◌<◌, ◌≤◌, ◌^◌, IfSome, OnSome};
 ghost use Rattle.std.specs.List.{All};
 ghost use Rattle.std.specs.Arc.{arc_value};
-ghost use Rattle.ball_model.specs.Job.{IsJob};
-ghost use Rattle.board.specs.Seats.{job_of, IsTrueIn, Stands, IsAt};
+ghost use Rattle.ball_model.specs.Job.{IsJob, job_of};
+ghost use Rattle.ball_model.specs.Batches.{IsTrueBatch};
+ghost use Rattle.ball_model.specs.State.{Stands};
+ghost use Rattle.board.specs.Seats.{IsAt};
 
 mod calls;
 mod threads;
@@ -14,7 +16,7 @@ use ball_model::{BatchName, CountingReader, Kept, Plan, Posted};
 use batches::Batch;
 use calls::{Calls, all_fill_up, is_right_board};
 use edgelist::{Delimiter, EdgeLimits, Graph, read_edges};
-use replica::{Replica, Snapshot};
+use replica::{Replica, Shown, Snapshot};
 use std::alloc::Global;
 use std::hash::RandomState;
 use std::random::RandomSource;
@@ -75,7 +77,7 @@ fn told(
     target: u16,
 ) -> Option<Arc<Batch>>
     requires { Stands (job_of graph.now.graph plan.now) from.now }
-    ensures { IfSome result (λ a. IsTrueIn (job_of graph.now.graph plan.now) (arc_value a)) }
+    ensures { IfSome result (λ a. IsTrueBatch (job_of graph.now.graph plan.now) (arc_value a)) }
 {
     if target >= from.plan().parts() || target == from.partition() {
         return None;
@@ -90,9 +92,15 @@ fn told(
 }
 
 /// What a replica has.
-fn snapshot_of(alloc: Global, graph: &Graph, plan: &Plan, from: &Replica) -> Option<Arc<Snapshot>>
-    requires { Stands (job_of graph.now.graph plan.now) from.now }
-    ensures { IfSome result (λ a. Stands (job_of graph.now.graph plan.now) (arc_value a)) }
+fn snapshot_of(
+    alloc: Global,
+    graph: &Graph,
+    plan: &Plan,
+    from: &mut Replica,
+) -> Option<Arc<Snapshot>>
+    requires { Stands (job_of graph.now.graph plan.now) from.old }
+    ensures value { IfSome result (λ a. Stands (job_of graph.now.graph plan.now) (arc_value a)) }
+    ensures unchanged { from.new ≡ from.old }
 {
     let Ok(snapshot) = from.snapshot(alloc) else {
         return None;
@@ -157,10 +165,10 @@ fn add_batch(
     batches: &mut Vec<Arc<Batch>>,
 ) -> Option<()>
     requires from { Stands (job_of graph.now.graph plan.now) from.now }
-    requires batches { All (λ a. IsTrueIn (job_of graph.now.graph plan.now) (arc_value a))
+    requires batches { All (λ a. IsTrueBatch (job_of graph.now.graph plan.now) (arc_value a))
         batches.old.items }
     ensures { OnSome result
-        (All (λ a. IsTrueIn (job_of graph.now.graph plan.now) (arc_value a)) batches.new.items) }
+        (All (λ a. IsTrueBatch (job_of graph.now.graph plan.now) (arc_value a)) batches.new.items) }
 {
     let batch = told(alloc, graph, plan, from, target)?;
     let Ok(()) = batches.push(batch) else {
@@ -174,14 +182,15 @@ fn add_snapshot(
     alloc: Global,
     graph: &Graph,
     plan: &Plan,
-    from: &Replica,
+    from: &mut Replica,
     snapshots: &mut Vec<Arc<Snapshot>>,
 ) -> Option<()>
-    requires from { Stands (job_of graph.now.graph plan.now) from.now }
+    requires from { Stands (job_of graph.now.graph plan.now) from.old }
     requires snapshots { All (λ a. Stands (job_of graph.now.graph plan.now) (arc_value a))
         snapshots.old.items }
-    ensures { OnSome result
+    ensures added { OnSome result
         (All (λ a. Stands (job_of graph.now.graph plan.now) (arc_value a)) snapshots.new.items) }
+    ensures unchanged { from.new ≡ from.old }
 {
     let snapshot = snapshot_of(alloc, graph, plan, from)?;
     let Ok(()) = snapshots.push(snapshot) else {
@@ -195,20 +204,21 @@ fn add_superstep(
     alloc: Global,
     graph: &Graph,
     plan: &Plan,
-    first: &Replica,
+    first: &mut Replica,
     second: &Replica,
     stock: &mut Stock,
 ) -> Option<()>
-    requires first { Stands (job_of graph.now.graph plan.now) first.now }
+    requires first { Stands (job_of graph.now.graph plan.now) first.old }
     requires second { Stands (job_of graph.now.graph plan.now) second.now }
-    requires batches { All (λ a. IsTrueIn (job_of graph.now.graph plan.now) (arc_value a))
+    requires batches { All (λ a. IsTrueBatch (job_of graph.now.graph plan.now) (arc_value a))
         stock.old.batches.items }
     requires snapshots { All (λ a. Stands (job_of graph.now.graph plan.now) (arc_value a))
         stock.old.snapshots.items }
     ensures batches { OnSome result (All
-        (λ a. IsTrueIn (job_of graph.now.graph plan.now) (arc_value a)) stock.new.batches.items) }
+        (λ a. IsTrueBatch (job_of graph.now.graph plan.now) (arc_value a)) stock.new.batches.items) }
     ensures snapshots { OnSome result (All
         (λ a. Stands (job_of graph.now.graph plan.now) (arc_value a)) stock.new.snapshots.items) }
+    ensures unchanged { first.new ≡ first.old }
 {
     add_batch(alloc, graph, plan, first, 1, &mut stock.batches)?;
     add_batch(alloc, graph, plan, second, 0, &mut stock.batches)?;
@@ -226,12 +236,12 @@ fn add_four_supersteps(
 ) -> Option<()>
     requires first { Stands (job_of graph.now.graph plan.now) first.old }
     requires second { Stands (job_of graph.now.graph plan.now) second.old }
-    requires batches { All (λ a. IsTrueIn (job_of graph.now.graph plan.now) (arc_value a))
+    requires batches { All (λ a. IsTrueBatch (job_of graph.now.graph plan.now) (arc_value a))
         stock.old.batches.items }
     requires snapshots { All (λ a. Stands (job_of graph.now.graph plan.now) (arc_value a))
         stock.old.snapshots.items }
     ensures batches { OnSome result (All
-        (λ a. IsTrueIn (job_of graph.now.graph plan.now) (arc_value a)) stock.new.batches.items) }
+        (λ a. IsTrueBatch (job_of graph.now.graph plan.now) (arc_value a)) stock.new.batches.items) }
     ensures snapshots { OnSome result (All
         (λ a. Stands (job_of graph.now.graph plan.now) (arc_value a)) stock.new.snapshots.items) }
 {
@@ -254,12 +264,12 @@ fn add_by(
 ) -> Option<()>
     requires job { IsJob (job_of graph.now.graph plan.now) }
     requires first { Stands (job_of graph.now.graph plan.now) first.old }
-    requires batches { All (λ a. IsTrueIn (job_of graph.now.graph plan.now) (arc_value a))
+    requires batches { All (λ a. IsTrueBatch (job_of graph.now.graph plan.now) (arc_value a))
         stock.old.batches.items }
     requires snapshots { All (λ a. Stands (job_of graph.now.graph plan.now) (arc_value a))
         stock.old.snapshots.items }
     ensures batches { OnSome result (All
-        (λ a. IsTrueIn (job_of graph.now.graph plan.now) (arc_value a)) stock.new.batches.items) }
+        (λ a. IsTrueBatch (job_of graph.now.graph plan.now) (arc_value a)) stock.new.batches.items) }
     ensures snapshots { OnSome result (All
         (λ a. Stands (job_of graph.now.graph plan.now) (arc_value a)) stock.new.snapshots.items) }
 {
@@ -270,12 +280,12 @@ fn add_by(
 /// Fills a stock.
 fn fill(alloc: Global, graph: &Graph, plan: &Plan, stock: &mut Stock) -> Option<()>
     requires job { IsJob (job_of graph.now.graph plan.now) }
-    requires batches { All (λ a. IsTrueIn (job_of graph.now.graph plan.now) (arc_value a))
+    requires batches { All (λ a. IsTrueBatch (job_of graph.now.graph plan.now) (arc_value a))
         stock.old.batches.items }
     requires snapshots { All (λ a. Stands (job_of graph.now.graph plan.now) (arc_value a))
         stock.old.snapshots.items }
     ensures batches { OnSome result (All
-        (λ a. IsTrueIn (job_of graph.now.graph plan.now) (arc_value a)) stock.new.batches.items) }
+        (λ a. IsTrueBatch (job_of graph.now.graph plan.now) (arc_value a)) stock.new.batches.items) }
     ensures snapshots { OnSome result (All
         (λ a. Stands (job_of graph.now.graph plan.now) (arc_value a)) stock.new.snapshots.items) }
 {
@@ -287,7 +297,7 @@ fn fill(alloc: Global, graph: &Graph, plan: &Plan, stock: &mut Stock) -> Option<
 fn stock_of(alloc: Global, graph: &Graph, plan: &Plan) -> Option<Stock>
     requires { IsJob (job_of graph.now.graph plan.now) }
     ensures batches { IfSome result
-        (λ s. All (λ a. IsTrueIn (job_of graph.now.graph plan.now) (arc_value a)) s.batches.items) }
+        (λ s. All (λ a. IsTrueBatch (job_of graph.now.graph plan.now) (arc_value a)) s.batches.items) }
     ensures snapshots { IfSome result
         (λ s. All (λ a. Stands (job_of graph.now.graph plan.now) (arc_value a)) s.snapshots.items) }
 {
@@ -318,10 +328,10 @@ fn post<R: Wait>(
     batch: &Arc<Batch>,
 ) -> Result<Posted, BoardError>
     requires board { IsAt board.now seat.old }
-    requires job { seat.old.seen.job ≡ job_of graph.now.graph plan.now }
-    requires batch { IsTrueIn (job_of graph.now.graph plan.now) (arc_value batch.now) }
+    requires job { seat.old.caller.seen.job ≡ job_of graph.now.graph plan.now }
+    requires batch { IsTrueBatch (job_of graph.now.graph plan.now) (arc_value batch.now) }
     ensures board { IsAt board.now seat.new }
-    ensures job { seat.new.seen.job ≡ job_of graph.now.graph plan.now }
+    ensures job { seat.new.caller.seen.job ≡ job_of graph.now.graph plan.now }
     ensures room { seat.new.room ≡ seat.old.room }
 {
     let Ok(copy) = Arc::try_clone(batch) else {
@@ -340,10 +350,10 @@ fn keep<R: Wait>(
     snapshot: &Arc<Snapshot>,
 ) -> Result<Kept, BoardError>
     requires board { IsAt board.now seat.old }
-    requires job { seat.old.seen.job ≡ job_of graph.now.graph plan.now }
+    requires job { seat.old.caller.seen.job ≡ job_of graph.now.graph plan.now }
     requires snapshot { Stands (job_of graph.now.graph plan.now) (arc_value snapshot.now) }
     ensures board { IsAt board.now seat.new }
-    ensures job { seat.new.seen.job ≡ job_of graph.now.graph plan.now }
+    ensures job { seat.new.caller.seen.job ≡ job_of graph.now.graph plan.now }
 {
     let Ok(copy) = Arc::try_clone(snapshot) else {
         return Err(BoardError::Memory);
@@ -360,7 +370,7 @@ fn fetches<R: Wait>(
 ) -> Result<Option<BatchName>, BoardError>
     requires board { IsAt board.now seat.old }
     ensures board { IsAt board.now seat.new }
-    ensures job { seat.new.seen.job ≡ seat.old.seen.job }
+    ensures job { seat.new.caller.seen.job ≡ seat.old.caller.seen.job }
     ensures room { seat.new.room ≡ seat.old.room }
 {
     match board.fetch(rt, seat, name)? {
@@ -379,7 +389,7 @@ fn recalls<R: Wait>(
 ) -> Result<Option<u32>, BoardError>
     requires board { IsAt board.now seat.old }
     ensures board { IsAt board.now seat.new }
-    ensures job { seat.new.seen.job ≡ seat.old.seen.job }
+    ensures job { seat.new.caller.seen.job ≡ seat.old.caller.seen.job }
 {
     match board.recall(rt, seat, part, at_least)? {
         Some(snapshot) => Ok(Some(snapshot.superstep())),
@@ -397,11 +407,11 @@ fn post_all<R: Wait>(
     batches: &[Arc<Batch>],
 ) -> usize
     requires board { IsAt board.now seat.old }
-    requires job { seat.old.seen.job ≡ job_of graph.now.graph plan.now }
-    requires batches { All (λ a. IsTrueIn (job_of graph.now.graph plan.now) (arc_value a))
+    requires job { seat.old.caller.seen.job ≡ job_of graph.now.graph plan.now }
+    requires batches { All (λ a. IsTrueBatch (job_of graph.now.graph plan.now) (arc_value a))
         batches.now }
     ensures board { IsAt board.now seat.new }
-    ensures job { seat.new.seen.job ≡ job_of graph.now.graph plan.now }
+    ensures job { seat.new.caller.seen.job ≡ job_of graph.now.graph plan.now }
 {
     let mut news = 0usize;
     for batch in batches {
@@ -416,7 +426,7 @@ fn post_all<R: Wait>(
 fn find_all<R: Wait>(rt: &R, board: &Board, seat: &mut Seat, batches: &[Arc<Batch>]) -> usize
     requires board { IsAt board.now seat.old }
     ensures board { IsAt board.now seat.new }
-    ensures job { seat.new.seen.job ≡ seat.old.seen.job }
+    ensures job { seat.new.caller.seen.job ≡ seat.old.caller.seen.job }
 {
     let mut found = 0usize;
     for batch in batches {
@@ -437,7 +447,7 @@ fn drop_below<R: Wait>(
 ) -> Result<(), BoardError>
     requires board { IsAt board.now seat.old }
     ensures board { IsAt board.now seat.new }
-    ensures job { seat.new.seen.job ≡ seat.old.seen.job }
+    ensures job { seat.new.caller.seen.job ≡ seat.old.caller.seen.job }
 {
     board.drop_below(rt, seat, superstep)
 }
@@ -461,7 +471,7 @@ fn is_right_with<R: Threads + Wait + Sync>(
     case: Case,
 ) -> Option<bool>
     requires job { IsJob (job_of graph.now.graph plan.now) }
-    requires batches { All (λ a. IsTrueIn (job_of graph.now.graph plan.now) (arc_value a))
+    requires batches { All (λ a. IsTrueBatch (job_of graph.now.graph plan.now) (arc_value a))
         stock.now.batches.items }
     requires snapshots { All (λ a. Stands (job_of graph.now.graph plan.now) (arc_value a))
         stock.now.snapshots.items }
@@ -496,4 +506,22 @@ fn is_right<R: RandomSource + Threads + Wait + Sync>(
 ) -> Option<bool> {
     let (graph, plan) = job(rt, alloc, TWO_EDGES)?;
     is_right_at(rt, alloc, &graph, &plan, case)
+}
+
+/// Whether an error has this text: None where memory was refused.
+fn has_text(alloc: Global, error: BoardError, wanted: &str) -> Option<bool> {
+    let text = format!(in alloc; "{error}").ok()?;
+    Some(text.as_str() == wanted)
+}
+
+#[test]
+fn errors_have_texts(rt: HostRuntime) {
+    assert_eq!(rt;
+        has_text(rt.alloc(), BoardError::BookFull, "the book is full"),
+        Some(true)
+    );
+    assert_eq!(rt;
+        has_text(rt.alloc(), BoardError::Memory, "out of memory"),
+        Some(true)
+    );
 }

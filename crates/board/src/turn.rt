@@ -1,12 +1,17 @@
 //! The turn of a call: a ticket is drawn, the book is taken once the ticket is served, and given back.
 
 ghost use Rattle.std.specs.Prelude.{◌≡◌, ◌%◌, ◌^◌, ◌<◌, ◌∷◌, [], None, Some};
-ghost use Rattle.ball_model.specs.History.{entries_of};
+ghost use Rattle.ball_model.specs.History.{Event, entries_of};
+ghost use Rattle.ball_model.specs.Caller.{Called, Extends};
+ghost use Rattle.board.specs.Noted.{IsNext, IsNoted};
 ghost use Rattle.board.specs.Rule.{GoesOn, at_look, with_ticket, at_turn, after_turn};
 ghost use Rattle.board.specs.Turn.{HasNews, IsSameSeat, IsSized, Next};
+ghost use Rattle.board.specs.Inside.{GrantFits, IsTurn, caller_of};
 
 use crate::book::Book;
 use crate::rule::{Counts, Draws, LENGTH, Looks, Pass, Raises, Room, SERVING, TICKETS, Writes};
+use crate::seat::Grant;
+use std::snapshot::Snapshot as Seen;
 use std::sync::Wait;
 use std::{hint, thread};
 
@@ -70,8 +75,8 @@ fn pause(looks: u32) -> u32 {
     looks
 }
 
-/// Takes the book, once it is the seat's turn.
-pub fn take<R: Wait>(rt: &R, room: &Room, pass: &mut Pass) -> Book
+// Takes the book, once it is the seat's turn.
+fn take_book<R: Wait>(rt: &R, room: &Room, pass: &mut Pass) -> Book
     requires room { IsSized room.now.shared.table_id
         × (pass.old.table_id ≡ room.now.shared.table_id) }
     requires idle { (pass.old.me.0.stage ≡ 0) × (0 < pass.old.me.0.room) × (pass.old.me.1 ≡ []) }
@@ -88,11 +93,11 @@ pub fn take<R: Wait>(rt: &R, room: &Room, pass: &mut Pass) -> Book
     book
 }
 
-/// Gives the book back, and lets the next caller in.
-///
-/// The book is put into the slot before the length is written; no other seat can reach it there until `serving` is
-/// raised, which is the last step.
-pub fn give(room: &Room, pass: &mut Pass, book: Book)
+// Gives the book back, and lets the next caller in.
+//
+// The book is put into the slot before the length is written; no other seat can reach it there until `serving` is
+// raised, which is the last step.
+fn give_book(room: &Room, pass: &mut Pass, book: Book)
     requires room { IsSized room.now.shared.table_id
         × (pass.old.table_id ≡ room.now.shared.table_id) }
     requires turn { (pass.old.me.0.stage ≡ 2) × (pass.old.me.1 ≡ (0, None) ∷ []) }
@@ -104,4 +109,49 @@ pub fn give(room: &Room, pass: &mut Pass, book: Book)
     let _left = room.shared.exchange(pass, 0, Some(book));
     room.shared.store::<Writes>(pass, LENGTH, length);
     room.shared.fetch_add::<Raises>(pass, SERVING, 1);
+}
+
+/// A call's turn: what was granted to the seat, the book as it was found, and the book.
+#[derive(Drop)]
+pub struct Turn {
+    was: Seen<Grant>,
+    found: Seen<Book>,
+    pub book: Book,
+}
+
+impl Turn {
+    /// Takes the book, once it is the seat's turn.
+    pub fn take<R: Wait>(rt: &R, room: &Room, grant: &mut Grant) -> Turn
+        requires room { IsSized room.now.shared.table_id
+            × (grant.old.pass.table_id ≡ room.now.shared.table_id) }
+        requires fits { GrantFits grant.old }
+        ensures turn { IsTurn grant.old grant.new result.found.value }
+        ensures was { result.was.value ≡ grant.old }
+        ensures book { result.book ≡ result.found.value }
+    {
+        let was = Seen::of(&*grant);
+        let book = take_book(rt, room, &mut grant.pass);
+        let found = Seen::of(&book);
+        Turn { was, found, book }
+    }
+
+    /// Gives the book back, and lets the next caller in: the seat has made the calls that were noted.
+    pub fn give(self, room: &Room, grant: &mut Grant)
+        requires room { IsSized room.now.shared.table_id
+            × (grant.old.pass.table_id ≡ room.now.shared.table_id) }
+        requires turn { IsTurn self.was.value grant.old self.found.value }
+        requires next { IsNext self.was.value.pass.me.0.limit self.was.value.number
+            self.found.value self.book }
+        ensures fits { GrantFits grant.new }
+        ensures kept { (grant.new.pass.table_id ≡ self.was.value.pass.table_id)
+            × (grant.new.room ≡ self.was.value.room) }
+        ensures seen { Extends (caller_of self.was.value) (caller_of grant.new) }
+        ensures book { (caller_of grant.new).seen ≡ self.book }
+        ensures called { (e : Event) →
+            IsNoted self.was.value.pass.me.0.limit self.was.value.number e
+            self.found.value self.book →
+            Called (caller_of self.was.value) e (caller_of grant.new) }
+    {
+        give_book(room, &mut grant.pass, self.book);
+    }
 }

@@ -5,6 +5,7 @@ pub mod TotalLemmas
 pub mod PlaceLemmas
 pub mod DealLemmas
 pub mod EndingLemmas
+pub mod EndedLemmas
 pub mod VertexLemmas
 pub mod WholeLemmas
 pub mod BlockLemmas

@@ -8,7 +8,8 @@ use Rattle.ball_model.specs.Counter.{ball_counter}
 use Rattle.ball_model.specs.Supersteps.{estimate_at, tally_at}
 use Rattle.ball_model.specs.PlanValue.{PlanValue, mixing_of}
 use Rattle.ball_model.specs.Job.{Job}
-use Rattle.ball_model.specs.Report.{empty_of, vertex_line, vertex_text}
+use Rattle.ball_model.specs.Figures.{TallyValue, empty_of}
+use Rattle.ball_model.specs.Report.{vertex_line, vertex_text}
 use Rattle.ball_model.specs.State.{State, StandsFor, own_vertices, rows_of, tallies_of}
 use Rattle.replica.proofs.OwnLemmas.{at_own, place_below, vertex_at}
 use Rattle.replica.proofs.LevelLemmas.{plan_is}
@@ -21,15 +22,16 @@ zip_made f h k (x ∷ xs) = ap (λ rest. f (h x) (k x) ∷ rest) (zip_made f h k
 
 -- the figures that the definitions give vertex x at t
 abbrev pub true_figures : Job → ℕ → ℕ → Figures
-true_figures j t x = figures_of j.plan.log2m (ball_counter (mixing_of j.plan) j.graph x t) (tally_at (mixing_of j.plan) j.graph x t)
+true_figures j t x =
+    let tally = tally_at (mixing_of j.plan) j.graph x t in
+    figures_of tally.last (ball_counter (mixing_of j.plan) j.graph x t) tally
 
 -- the figures of a replica that stands for its partition
 own_figures : (j : Job) (p t : ℕ) (v : State) → StandsFor j p t v → figures_in v ≡ map (true_figures j t) (own_vertices j p)
 unfolding figures_in figures_from rows_of tallies_of
 own_figures j p t v h =
-    let log2m : v.part.plan.log2m ≡ j.plan.log2m = ap (λ (a : PlanValue). a.log2m) (plan_is j p t v h) in
-    rw (log2m, h.rows, h.tallies)
-    (zip_made (figures_of j.plan.log2m) (λ x. ball_counter (mixing_of j.plan) j.graph x t) (λ x. tally_at (mixing_of j.plan) j.graph x t) (own_vertices j p))
+    rw (h.rows, h.tallies)
+    (zip_made (λ row (tally : TallyValue). figures_of tally.last row tally) (λ x. ball_counter (mixing_of j.plan) j.graph x t) (λ x. tally_at (mixing_of j.plan) j.graph x t) (own_vertices j p))
 
 -- among those of all partitions
 pub true_figures_at : (j : Job) (vs : List State) (t x : ℕ) (v : State) → 1 ≤ j.plan.parts → length vs ≡ j.plan.parts → x < j.graph.vertices → v ≡ get_or vs (x % j.plan.parts) v →

@@ -1,3 +1,4 @@
 pub mod Ready
 pub mod Parts
 pub mod Rows
+pub mod Laws

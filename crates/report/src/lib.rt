@@ -11,6 +11,7 @@
 //! [`report_ready`] says whether replicas are at the end of their run, and [`write_report`] writes their report.
 #![tactic(auto)]
 
+pub mod laws;
 mod lines;
 mod parts;
 mod ready;

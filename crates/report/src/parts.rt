@@ -12,7 +12,7 @@ use crate::lines::{put_end, put_gain, put_superstep, put_vertex, rows_in, text_o
 use csv::Writer;
 use edgelist::Graph;
 use figures::{Figures, figures_within, gain};
-use replica::Replica;
+use replica::{Replica, Shown};
 use std::alloc::{AllocError, Global};
 use std::thread::Threads;
 
@@ -54,17 +54,9 @@ fn own_figures<T: AllocGlobal + Threads + Sync>(
     ensures value { IfOk result (λ own. own.items ≡ figures_among first last replica.now) }
     ensures size { HasSize replica.now }
 {
-    let log2m = replica.plan().log2m();
     let _superstep = replica.superstep();
     let alloc = rt.alloc();
-    figures_within(
-        rt,
-        alloc,
-        log2m,
-        replica.rows(),
-        replica.tallies(),
-        first..last,
-    )
+    figures_within(rt, alloc, replica.rows(), replica.tallies(), first..last)
 }
 
 // Puts these of each replica behind none.

@@ -5,7 +5,7 @@ ghost use Rattle.replica.specs.Level.{found_verdict};
 ghost use Rattle.report.specs.Ready.{FindsVerdict, are_ready, is_ready, ready_from, says_stable};
 
 use ball_model::{Plan, Verdict};
-use replica::Replica;
+use replica::{Replica, Shown};
 
 /// Whether the replicas have a report: they are one of each partition, in order, of one plan and at one superstep,
 /// and the verdict of each is `Stable` or `Limit`. No replicas have none.

@@ -6,7 +6,7 @@ ghost use Rattle.std.specs.List.{All};
 use super::*;
 use ball_model::{CountedWrite, CountingReader, CountingWriter, Taken};
 use edgelist::{Delimiter, EdgeLimits, Graph, Part, read_edges};
-use replica::Replica;
+use replica::{Replica, Shown};
 use std::hash::RandomState;
 use std::io::Write;
 use std::random::RandomSource;

@@ -13,7 +13,7 @@ use crate::ready::is_stable;
 use ball_model::{CountedWrite, put_all};
 use edgelist::Graph;
 use figures::Figures;
-use replica::Replica;
+use replica::{Replica, Shown};
 use std::alloc::{AllocError, Global};
 use std::thread::Threads;
 use thiserror::Error;

@@ -3,8 +3,10 @@
 ghost use Rattle.std.specs.Prelude.{◌≡◌, ◌*◌, ◌<◌, ◌≤◌, ◌^◌};
 ghost use Rattle.std.specs.List.{All};
 ghost use Rattle.std.specs.Arc.{arc_value};
-ghost use Rattle.ball_model.specs.Job.{IsJob};
-ghost use Rattle.board.specs.Seats.{job_of, IsTrueIn, Stands, IsAt};
+ghost use Rattle.ball_model.specs.Job.{IsJob, job_of};
+ghost use Rattle.ball_model.specs.Batches.{IsTrueBatch};
+ghost use Rattle.ball_model.specs.State.{Stands};
+ghost use Rattle.board.specs.Seats.{IsAt};
 
 use super::*;
 
@@ -18,8 +20,8 @@ fn fills_two_entries<R: Wait>(
     batch: &Arc<Batch>,
 ) -> bool
     requires board { IsAt board.now seat.old }
-    requires job { seat.old.seen.job ≡ job_of graph.now.graph plan.now }
-    requires batch { IsTrueIn (job_of graph.now.graph plan.now) (arc_value batch.now) }
+    requires job { seat.old.caller.seen.job ≡ job_of graph.now.graph plan.now }
+    requires batch { IsTrueBatch (job_of graph.now.graph plan.now) (arc_value batch.now) }
 {
     let posted = post(rt, board, seat, graph, plan, batch);
     let length = board.length(seat);
@@ -50,10 +52,10 @@ fn drops_below_the_floor<R: Wait>(
     batch: &Arc<Batch>,
 ) -> bool
     requires board { IsAt board.now seat.old }
-    requires job { seat.old.seen.job ≡ job_of graph.now.graph plan.now }
-    requires batch { IsTrueIn (job_of graph.now.graph plan.now) (arc_value batch.now) }
+    requires job { seat.old.caller.seen.job ≡ job_of graph.now.graph plan.now }
+    requires batch { IsTrueBatch (job_of graph.now.graph plan.now) (arc_value batch.now) }
     ensures board { IsAt board.now seat.new }
-    ensures job { seat.new.seen.job ≡ job_of graph.now.graph plan.now }
+    ensures job { seat.new.caller.seen.job ≡ job_of graph.now.graph plan.now }
 {
     let posted = post(rt, board, seat, graph, plan, batch);
     let found = fetches(rt, board, seat, name(0, 0));
@@ -78,7 +80,7 @@ fn keeps_the_furthest<R: Wait>(
     snapshot: &Arc<Snapshot>,
 ) -> bool
     requires board { IsAt board.now seat.old }
-    requires job { seat.old.seen.job ≡ job_of graph.now.graph plan.now }
+    requires job { seat.old.caller.seen.job ≡ job_of graph.now.graph plan.now }
     requires snapshot { Stands (job_of graph.now.graph plan.now) (arc_value snapshot.now) }
 {
     let kept = keep(rt, board, seat, graph, plan, snapshot);
@@ -109,8 +111,8 @@ fn posts_twice<R: Wait>(
     batch: &Arc<Batch>,
 ) -> bool
     requires board { IsAt board.now seat.old }
-    requires job { seat.old.seen.job ≡ job_of graph.now.graph plan.now }
-    requires batch { IsTrueIn (job_of graph.now.graph plan.now) (arc_value batch.now) }
+    requires job { seat.old.caller.seen.job ≡ job_of graph.now.graph plan.now }
+    requires batch { IsTrueBatch (job_of graph.now.graph plan.now) (arc_value batch.now) }
 {
     let posted = post(rt, board, seat, graph, plan, batch);
     let again = post(rt, board, seat, graph, plan, batch);
@@ -134,8 +136,8 @@ fn splits_and_joins<R: Wait>(
     batch: &Arc<Batch>,
 ) -> bool
     requires board { IsAt board.now seat.old }
-    requires job { seat.old.seen.job ≡ job_of graph.now.graph plan.now }
-    requires batch { IsTrueIn (job_of graph.now.graph plan.now) (arc_value batch.now) }
+    requires job { seat.old.caller.seen.job ≡ job_of graph.now.graph plan.now }
+    requires batch { IsTrueBatch (job_of graph.now.graph plan.now) (arc_value batch.now) }
     requires room { 1024 * 1024 ≤ seat.old.room }
 {
     let mut other = seat.split(board);
@@ -157,6 +159,153 @@ fn seats_split_and_joined(rt: HostRuntime) -> Result<(), Fail> {
     Ok(())
 }
 
+/// A call of a board.
+#[derive(Clone, Copy)]
+enum Step {
+    Post,
+    Fetch,
+    Keep,
+    Recall,
+    Drop,
+}
+
+/// Whether a seat's call is answered as at a board where no call but those before it was made.
+fn is_answered<R: Wait>(
+    rt: &R,
+    board: &Board,
+    seat: &mut Seat,
+    graph: &Graph,
+    plan: &Plan,
+    batch: &Arc<Batch>,
+    snapshot: &Arc<Snapshot>,
+    step: Step,
+) -> Result<bool, BoardError>
+    requires board { IsAt board.now seat.old }
+    requires job { seat.old.caller.seen.job ≡ job_of graph.now.graph plan.now }
+    requires batch { IsTrueBatch (job_of graph.now.graph plan.now) (arc_value batch.now) }
+    requires snapshot { Stands (job_of graph.now.graph plan.now) (arc_value snapshot.now) }
+    ensures board { IsAt board.now seat.new }
+    ensures job { seat.new.caller.seen.job ≡ job_of graph.now.graph plan.now }
+{
+    match step {
+        Step::Post => Ok(post(rt, board, seat, graph, plan, batch)? == Posted::New),
+        Step::Fetch => Ok(fetches(rt, board, seat, name(0, 0))?.is_some()),
+        Step::Keep => Ok(keep(rt, board, seat, graph, plan, snapshot)? == Kept::New),
+        Step::Recall => Ok(recalls(rt, board, seat, 0, 1)?.is_some()),
+        Step::Drop => {
+            drop_below(rt, board, seat, 1)?;
+            Ok(true)
+        }
+    }
+}
+
+/// The same; where memory is refused, no entry is added, and the call that is made again is answered.
+fn is_answered_again<R: Wait>(
+    rt: &R,
+    board: &Board,
+    seat: &mut Seat,
+    graph: &Graph,
+    plan: &Plan,
+    batch: &Arc<Batch>,
+    snapshot: &Arc<Snapshot>,
+    step: Step,
+) -> bool
+    requires board { IsAt board.now seat.old }
+    requires job { seat.old.caller.seen.job ≡ job_of graph.now.graph plan.now }
+    requires batch { IsTrueBatch (job_of graph.now.graph plan.now) (arc_value batch.now) }
+    requires snapshot { Stands (job_of graph.now.graph plan.now) (arc_value snapshot.now) }
+    ensures board { IsAt board.now seat.new }
+    ensures job { seat.new.caller.seen.job ≡ job_of graph.now.graph plan.now }
+{
+    let before = board.length(seat);
+    let first = is_answered(rt, board, seat, graph, plan, batch, snapshot, step);
+    if first != Err(BoardError::Memory) {
+        return first == Ok(true);
+    }
+    let after = board.length(seat);
+    let second = is_answered(rt, board, seat, graph, plan, batch, snapshot, step);
+    after == before && second == Ok(true)
+}
+
+/// With eight entries, of which one is there: each call once, whatever memory is refused, and the length.
+fn goes_on_after_refusals<R: Wait>(
+    rt: &R,
+    board: &Board,
+    seat: &mut Seat,
+    graph: &Graph,
+    plan: &Plan,
+    batch: &Arc<Batch>,
+    snapshot: &Arc<Snapshot>,
+) -> bool
+    requires board { IsAt board.now seat.old }
+    requires job { seat.old.caller.seen.job ≡ job_of graph.now.graph plan.now }
+    requires batch { IsTrueBatch (job_of graph.now.graph plan.now) (arc_value batch.now) }
+    requires snapshot { Stands (job_of graph.now.graph plan.now) (arc_value snapshot.now) }
+{
+    let posted = is_answered_again(rt, board, seat, graph, plan, batch, snapshot, Step::Post);
+    let found = is_answered_again(rt, board, seat, graph, plan, batch, snapshot, Step::Fetch);
+    let kept = is_answered_again(rt, board, seat, graph, plan, batch, snapshot, Step::Keep);
+    let recalled = is_answered_again(rt, board, seat, graph, plan, batch, snapshot, Step::Recall);
+    let dropped = is_answered_again(rt, board, seat, graph, plan, batch, snapshot, Step::Drop);
+    posted && found && kept && recalled && dropped && board.length(seat) == 6
+}
+
+/// Each call is answered, at once or when it is made again: a run of this test can refuse any one growth.
+#[test]
+fn calls_where_memory_is_refused(rt: HostRuntime) -> Result<(), Fail> {
+    let right = is_right(&rt, rt.alloc(), Case::Calls(Calls::WhereMemoryIsRefused));
+    assert!(rt; right.unwrap_or(true));
+    Ok(())
+}
+
+/// How many of so many posts of one batch are answered Known.
+fn post_often<R: Wait>(
+    rt: &R,
+    board: &Board,
+    seat: &mut Seat,
+    graph: &Graph,
+    plan: &Plan,
+    batch: &Arc<Batch>,
+    times: u32,
+) -> u32
+    requires board { IsAt board.now seat.old }
+    requires job { seat.old.caller.seen.job ≡ job_of graph.now.graph plan.now }
+    requires batch { IsTrueBatch (job_of graph.now.graph plan.now) (arc_value batch.now) }
+    ensures board { IsAt board.now seat.new }
+{
+    let mut known = 0u32;
+    for _ in 0..times {
+        if post(rt, board, seat, graph, plan, batch) == Ok(Posted::Known) {
+            known = known.saturating_add(1);
+        }
+    }
+    known
+}
+
+/// With 3,000 entries, of which one is there: 3,000 posts of one batch, of which the last is refused, and the length.
+fn fills_sheets<R: Wait>(
+    rt: &R,
+    board: &Board,
+    seat: &mut Seat,
+    graph: &Graph,
+    plan: &Plan,
+    batch: &Arc<Batch>,
+) -> bool
+    requires board { IsAt board.now seat.old }
+    requires job { seat.old.caller.seen.job ≡ job_of graph.now.graph plan.now }
+    requires batch { IsTrueBatch (job_of graph.now.graph plan.now) (arc_value batch.now) }
+{
+    let known = post_often(rt, board, seat, graph, plan, batch, 3000);
+    known == 2998 && board.length(seat) == 3000
+}
+
+#[test]
+fn board_of_three_thousand_entries(rt: HostRuntime) -> Result<(), Fail> {
+    let right = is_right(&rt, rt.alloc(), Case::Calls(Calls::OfManyEntries));
+    assert_eq!(rt; right, Some(true));
+    Ok(())
+}
+
 /// What one thread calls at a board of its own.
 #[derive(Clone, Copy)]
 pub(super) enum Calls {
@@ -164,6 +313,8 @@ pub(super) enum Calls {
     OfEightEntries,
     PostedTwice,
     SplitAndJoined,
+    WhereMemoryIsRefused,
+    OfManyEntries,
 }
 
 impl Calls {
@@ -173,8 +324,9 @@ impl Calls {
     {
         match self {
             Calls::OfTwoEntries => 2,
-            Calls::OfEightEntries | Calls::PostedTwice => 8,
+            Calls::OfEightEntries | Calls::PostedTwice | Calls::WhereMemoryIsRefused => 8,
             Calls::SplitAndJoined => 16,
+            Calls::OfManyEntries => 3000,
         }
     }
 }
@@ -191,8 +343,8 @@ fn answers<R: Wait>(
     calls: Calls,
 ) -> bool
     requires board { IsAt board.now seat.old }
-    requires job { seat.old.seen.job ≡ job_of graph.now.graph plan.now }
-    requires batch { IsTrueIn (job_of graph.now.graph plan.now) (arc_value batch.now) }
+    requires job { seat.old.caller.seen.job ≡ job_of graph.now.graph plan.now }
+    requires batch { IsTrueBatch (job_of graph.now.graph plan.now) (arc_value batch.now) }
     requires snapshot { Stands (job_of graph.now.graph plan.now) (arc_value snapshot.now) }
     requires room { 1024 * 1024 ≤ seat.old.room }
 {
@@ -204,6 +356,10 @@ fn answers<R: Wait>(
         }
         Calls::PostedTwice => posts_twice(rt, board, seat, graph, plan, batch),
         Calls::SplitAndJoined => splits_and_joins(rt, board, seat, graph, plan, batch),
+        Calls::WhereMemoryIsRefused => {
+            goes_on_after_refusals(rt, board, seat, graph, plan, batch, snapshot)
+        }
+        Calls::OfManyEntries => fills_sheets(rt, board, seat, graph, plan, batch),
     }
 }
 
@@ -218,8 +374,8 @@ fn answers_from<R: Wait>(
     calls: Calls,
 ) -> Option<bool>
     requires board { IsAt board.now seat.old }
-    requires job { seat.old.seen.job ≡ job_of graph.now.graph plan.now }
-    requires batches { All (λ a. IsTrueIn (job_of graph.now.graph plan.now) (arc_value a))
+    requires job { seat.old.caller.seen.job ≡ job_of graph.now.graph plan.now }
+    requires batches { All (λ a. IsTrueBatch (job_of graph.now.graph plan.now) (arc_value a))
         stock.now.batches.items }
     requires snapshots { All (λ a. Stands (job_of graph.now.graph plan.now) (arc_value a))
         stock.now.snapshots.items }
@@ -240,7 +396,7 @@ pub(super) fn is_right_board<R: Wait>(
     calls: Calls,
 ) -> Option<bool>
     requires job { IsJob (job_of graph.now.graph plan.now) }
-    requires batches { All (λ a. IsTrueIn (job_of graph.now.graph plan.now) (arc_value a))
+    requires batches { All (λ a. IsTrueBatch (job_of graph.now.graph plan.now) (arc_value a))
         stock.now.batches.items }
     requires snapshots { All (λ a. Stands (job_of graph.now.graph plan.now) (arc_value a))
         stock.now.snapshots.items }
@@ -260,8 +416,8 @@ fn is_full_at<R: Wait>(
     entries: u32,
 ) -> bool
     requires board { IsAt board.now seat.old }
-    requires job { seat.old.seen.job ≡ job_of graph.now.graph plan.now }
-    requires batches { All (λ a. IsTrueIn (job_of graph.now.graph plan.now) (arc_value a))
+    requires job { seat.old.caller.seen.job ≡ job_of graph.now.graph plan.now }
+    requires batches { All (λ a. IsTrueBatch (job_of graph.now.graph plan.now) (arc_value a))
         batches.now }
     requires entries { 2 ≤ entries }
 {
@@ -287,7 +443,7 @@ fn fills_up<R: Wait>(
     entries: u32,
 ) -> Option<bool>
     requires job { IsJob (job_of graph.now.graph plan.now) }
-    requires batches { All (λ a. IsTrueIn (job_of graph.now.graph plan.now) (arc_value a))
+    requires batches { All (λ a. IsTrueBatch (job_of graph.now.graph plan.now) (arc_value a))
         batches.now }
     requires entries { (2 ≤ entries) × (entries ≤ 2 ^ 24) }
 {
@@ -304,7 +460,7 @@ pub(super) fn all_fill_up<R: Wait>(
     batches: &[Arc<Batch>],
 ) -> Option<bool>
     requires job { IsJob (job_of graph.now.graph plan.now) }
-    requires batches { All (λ a. IsTrueIn (job_of graph.now.graph plan.now) (arc_value a))
+    requires batches { All (λ a. IsTrueBatch (job_of graph.now.graph plan.now) (arc_value a))
         batches.now }
 {
     let mut all = true;

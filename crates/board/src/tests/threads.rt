@@ -3,8 +3,10 @@
 ghost use Rattle.std.specs.Prelude.{◌≡◌, ◌*◌, ◌<◌, ◌≤◌, ◌^◌};
 ghost use Rattle.std.specs.List.{All};
 ghost use Rattle.std.specs.Arc.{arc_value};
-ghost use Rattle.ball_model.specs.Job.{IsJob};
-ghost use Rattle.board.specs.Seats.{job_of, IsTrueIn, Stands, IsAt};
+ghost use Rattle.ball_model.specs.Job.{IsJob, job_of};
+ghost use Rattle.ball_model.specs.Batches.{IsTrueBatch};
+ghost use Rattle.ball_model.specs.State.{Stands};
+ghost use Rattle.board.specs.Seats.{IsAt};
 
 use super::*;
 
@@ -19,8 +21,8 @@ fn post_from<R: Wait>(
     source: u16,
 ) -> (usize, Seat)
     requires board { IsAt board.now seat }
-    requires job { seat.seen.job ≡ job_of graph.now.graph plan.now }
-    requires batches { All (λ a. IsTrueIn (job_of graph.now.graph plan.now) (arc_value a))
+    requires job { seat.caller.seen.job ≡ job_of graph.now.graph plan.now }
+    requires batches { All (λ a. IsTrueBatch (job_of graph.now.graph plan.now) (arc_value a))
         batches.now }
     ensures { IsAt board.now result.1 }
 {
@@ -44,9 +46,9 @@ fn two_post<R: Threads + Wait + Sync>(
     stock: &Stock,
 ) -> bool
     requires board { IsAt board.now a }
-    requires job { a.seen.job ≡ job_of graph.now.graph plan.now }
+    requires job { a.caller.seen.job ≡ job_of graph.now.graph plan.now }
     requires room { 1024 ≤ a.room }
-    requires batches { All (λ a. IsTrueIn (job_of graph.now.graph plan.now) (arc_value a))
+    requires batches { All (λ a. IsTrueBatch (job_of graph.now.graph plan.now) (arc_value a))
         stock.now.batches.items }
     requires snapshots { All (λ a. Stands (job_of graph.now.graph plan.now) (arc_value a))
         stock.now.snapshots.items }
@@ -56,8 +58,8 @@ fn two_post<R: Threads + Wait + Sync>(
         rt,
         || -> (usize, Seat)
             requires board { IsAt board.now a }
-            requires job { a.seen.job ≡ job_of graph.now.graph plan.now }
-            requires batches { All (λ a. IsTrueIn (job_of graph.now.graph plan.now) (arc_value a))
+            requires job { a.caller.seen.job ≡ job_of graph.now.graph plan.now }
+            requires batches { All (λ a. IsTrueBatch (job_of graph.now.graph plan.now) (arc_value a))
                 stock.now.batches.items }
             requires snapshots { All (λ a. Stands (job_of graph.now.graph plan.now) (arc_value a))
                 stock.now.snapshots.items }
@@ -65,8 +67,8 @@ fn two_post<R: Threads + Wait + Sync>(
         { post_from(rt, board, a, graph, plan, &stock.batches, 0) },
         || -> (usize, Seat)
             requires board { IsAt board.now b }
-            requires job { b.seen.job ≡ job_of graph.now.graph plan.now }
-            requires batches { All (λ a. IsTrueIn (job_of graph.now.graph plan.now) (arc_value a))
+            requires job { b.caller.seen.job ≡ job_of graph.now.graph plan.now }
+            requires batches { All (λ a. IsTrueBatch (job_of graph.now.graph plan.now) (arc_value a))
                 stock.now.batches.items }
             requires snapshots { All (λ a. Stands (job_of graph.now.graph plan.now) (arc_value a))
                 stock.now.snapshots.items }
@@ -91,7 +93,7 @@ pub(super) fn threads_post_all<R: Threads + Wait + Sync>(
     stock: &Stock,
 ) -> Option<bool>
     requires job { IsJob (job_of graph.now.graph plan.now) }
-    requires batches { All (λ a. IsTrueIn (job_of graph.now.graph plan.now) (arc_value a))
+    requires batches { All (λ a. IsTrueBatch (job_of graph.now.graph plan.now) (arc_value a))
         stock.now.batches.items }
     requires snapshots { All (λ a. Stands (job_of graph.now.graph plan.now) (arc_value a))
         stock.now.snapshots.items }
@@ -117,10 +119,10 @@ fn keep_one<R: Wait>(
     snapshot: &Arc<Snapshot>,
 ) -> (bool, bool)
     requires board { IsAt board.now seat.old }
-    requires job { seat.old.seen.job ≡ job_of graph.now.graph plan.now }
+    requires job { seat.old.caller.seen.job ≡ job_of graph.now.graph plan.now }
     requires snapshot { Stands (job_of graph.now.graph plan.now) (arc_value snapshot.now) }
     ensures board { IsAt board.now seat.new }
-    ensures job { seat.new.seen.job ≡ job_of graph.now.graph plan.now }
+    ensures job { seat.new.caller.seen.job ≡ job_of graph.now.graph plan.now }
 {
     let superstep = snapshot.superstep();
     let new = keep(rt, board, seat, graph, plan, snapshot) == Ok(Kept::New);
@@ -141,11 +143,11 @@ fn keep_all<R: Wait>(
     snapshots: &[Arc<Snapshot>],
 ) -> (usize, usize)
     requires board { IsAt board.now seat.old }
-    requires job { seat.old.seen.job ≡ job_of graph.now.graph plan.now }
+    requires job { seat.old.caller.seen.job ≡ job_of graph.now.graph plan.now }
     requires snapshots { All (λ a. Stands (job_of graph.now.graph plan.now) (arc_value a))
         snapshots.now }
     ensures board { IsAt board.now seat.new }
-    ensures job { seat.new.seen.job ≡ job_of graph.now.graph plan.now }
+    ensures job { seat.new.caller.seen.job ≡ job_of graph.now.graph plan.now }
 {
     let mut news = 0usize;
     let mut recalled = 0usize;
@@ -189,8 +191,8 @@ fn leaves_none<R: Wait>(
     batches: &[Arc<Batch>],
 ) -> bool
     requires board { IsAt board.now seat.old }
-    requires job { seat.old.seen.job ≡ job_of graph.now.graph plan.now }
-    requires batches { All (λ a. IsTrueIn (job_of graph.now.graph plan.now) (arc_value a))
+    requires job { seat.old.caller.seen.job ≡ job_of graph.now.graph plan.now }
+    requires batches { All (λ a. IsTrueBatch (job_of graph.now.graph plan.now) (arc_value a))
         batches.now }
     ensures board { IsAt board.now seat.new }
 {
@@ -221,13 +223,13 @@ fn post_and_keep_all<R: Wait>(
     stock: &Stock,
 ) -> Done
     requires board { IsAt board.now seat.old }
-    requires job { seat.old.seen.job ≡ job_of graph.now.graph plan.now }
-    requires batches { All (λ a. IsTrueIn (job_of graph.now.graph plan.now) (arc_value a))
+    requires job { seat.old.caller.seen.job ≡ job_of graph.now.graph plan.now }
+    requires batches { All (λ a. IsTrueBatch (job_of graph.now.graph plan.now) (arc_value a))
         stock.now.batches.items }
     requires snapshots { All (λ a. Stands (job_of graph.now.graph plan.now) (arc_value a))
         stock.now.snapshots.items }
     ensures board { IsAt board.now seat.new }
-    ensures job { seat.new.seen.job ≡ job_of graph.now.graph plan.now }
+    ensures job { seat.new.caller.seen.job ≡ job_of graph.now.graph plan.now }
 {
     let news = post_all(rt, board, seat, graph, plan, &stock.batches) as u64;
     let found = find_all(rt, board, seat, &stock.batches) as u64;
@@ -251,8 +253,8 @@ fn work<R: Wait>(
     stock: &Stock,
 ) -> Done
     requires board { IsAt board.now seat }
-    requires job { seat.seen.job ≡ job_of graph.now.graph plan.now }
-    requires batches { All (λ a. IsTrueIn (job_of graph.now.graph plan.now) (arc_value a))
+    requires job { seat.caller.seen.job ≡ job_of graph.now.graph plan.now }
+    requires batches { All (λ a. IsTrueBatch (job_of graph.now.graph plan.now) (arc_value a))
         stock.now.batches.items }
     requires snapshots { All (λ a. Stands (job_of graph.now.graph plan.now) (arc_value a))
         stock.now.snapshots.items }
@@ -276,8 +278,8 @@ fn crowd<R: Threads + Wait + Sync>(
     others: u8,
 ) -> Done
     requires board { IsAt board.now seat }
-    requires job { seat.seen.job ≡ job_of graph.now.graph plan.now }
-    requires batches { All (λ a. IsTrueIn (job_of graph.now.graph plan.now) (arc_value a))
+    requires job { seat.caller.seen.job ≡ job_of graph.now.graph plan.now }
+    requires batches { All (λ a. IsTrueBatch (job_of graph.now.graph plan.now) (arc_value a))
         stock.now.batches.items }
     requires snapshots { All (λ a. Stands (job_of graph.now.graph plan.now) (arc_value a))
         stock.now.snapshots.items }
@@ -292,16 +294,16 @@ fn crowd<R: Threads + Wait + Sync>(
         rt,
         || -> Done
             requires board { IsAt board.now other }
-            requires job { other.seen.job ≡ job_of graph.now.graph plan.now }
-            requires batches { All (λ a. IsTrueIn (job_of graph.now.graph plan.now) (arc_value a))
+            requires job { other.caller.seen.job ≡ job_of graph.now.graph plan.now }
+            requires batches { All (λ a. IsTrueBatch (job_of graph.now.graph plan.now) (arc_value a))
                 stock.now.batches.items }
             requires snapshots { All (λ a. Stands (job_of graph.now.graph plan.now) (arc_value a))
                 stock.now.snapshots.items }
         { work(rt, board, other, graph, plan, stock) },
         || -> Done
             requires board { IsAt board.now seat }
-            requires job { seat.seen.job ≡ job_of graph.now.graph plan.now }
-            requires batches { All (λ a. IsTrueIn (job_of graph.now.graph plan.now) (arc_value a))
+            requires job { seat.caller.seen.job ≡ job_of graph.now.graph plan.now }
+            requires batches { All (λ a. IsTrueBatch (job_of graph.now.graph plan.now) (arc_value a))
                 stock.now.batches.items }
             requires snapshots { All (λ a. Stands (job_of graph.now.graph plan.now) (arc_value a))
                 stock.now.snapshots.items }
@@ -323,9 +325,9 @@ fn does_right<R: Threads + Wait + Sync>(
     others: u8,
 ) -> bool
     requires board { IsAt board.now seat }
-    requires job { seat.seen.job ≡ job_of graph.now.graph plan.now }
+    requires job { seat.caller.seen.job ≡ job_of graph.now.graph plan.now }
     requires room { seat.room ≡ 2 ^ 63 }
-    requires batches { All (λ a. IsTrueIn (job_of graph.now.graph plan.now) (arc_value a))
+    requires batches { All (λ a. IsTrueBatch (job_of graph.now.graph plan.now) (arc_value a))
         stock.now.batches.items }
     requires snapshots { All (λ a. Stands (job_of graph.now.graph plan.now) (arc_value a))
         stock.now.snapshots.items }
@@ -347,7 +349,7 @@ pub(super) fn is_right_crowd<R: Threads + Wait + Sync>(
     others: u8,
 ) -> Option<bool>
     requires job { IsJob (job_of graph.now.graph plan.now) }
-    requires batches { All (λ a. IsTrueIn (job_of graph.now.graph plan.now) (arc_value a))
+    requires batches { All (λ a. IsTrueBatch (job_of graph.now.graph plan.now) (arc_value a))
         stock.now.batches.items }
     requires snapshots { All (λ a. Stands (job_of graph.now.graph plan.now) (arc_value a))
         stock.now.snapshots.items }

@@ -3,4 +3,4 @@ use Rattle.board.specs.Seats.{IsAt}
 use Rattle.board.proofs.tests.find_all.Given as goal
 
 abbrev pub invariant-loop-batch : goal.invariant-loop-batch
-invariant-loop-batch g l = IsAt l.board l.seat × (l.seat.seen.job ≡ l.fn.seat.seen.job)
+invariant-loop-batch g l = IsAt l.board l.seat × (l.seat.caller.seen.job ≡ l.fn.seat.caller.seen.job)

@@ -4,8 +4,8 @@ use Rattle.std.proofs.lemmas.List.{length-map}
 use Rattle.std.proofs.lemmas.Result.{IfOk-weaker}
 use Rattle.std.proofs.lemmas.Slice.Zip.{length-zip}
 use Rattle.figures.specs.Values.{figures_from, figures_of}
-use Rattle.ball_model.specs.PlanValue.{PlanValue}
-use Rattle.ball_model.specs.Figures.{TallyValue, estimate_of}
+use Rattle.ball_model.specs.PlanValue.{measure_of}
+use Rattle.ball_model.specs.Figures.{TallyValue, estimate_with}
 use Rattle.ball_model.specs.State.{State}
 use Rattle.replica.specs.Seen.{IsState}
 use Rattle.report.specs.Parts.{HasSize, figures_among, figures_in}
@@ -15,17 +15,16 @@ pub returns-clause-value : goal.returns-clause-value
 unfolding figures_among figures_in
 returns-clause-value g c =
     let v = c.args.replica.now in
-    let log2m : c.log2m-log2m.result ≡ v.part.plan.log2m = c.log2m-log2m.ensures.value ∙ ap (λ (p : PlanValue). p.log2m) c.plan.ensures in
-    IfOk-weaker c.figures_within.result _ _ (λ own h. h ∙ rw (log2m, c.rows.ensures.value, c.tallies.ensures.value) refl) c.figures_within.ensures
+    IfOk-weaker c.figures_within.result _ _ (λ own h. h ∙ rw (c.rows.ensures.value, c.tallies.ensures.value) refl) c.figures_within.ensures
 
 -- as many figures as rows, and as many rows as vertices
 has_size : (v : State) → IsState v → HasSize v
 unfolding figures_in figures_from
 has_size v s =
     let rows : length v.tallies ≡ length v.rows =
-    sym (length-map v.tallies (λ (t : TallyValue). t.last)) ∙ ap length s.lasts ∙ length-map v.rows (estimate_of v.part.plan.log2m) in
+    sym (length-map v.tallies (λ (t : TallyValue). t.last)) ∙ ap length s.lasts ∙ length-map v.rows (estimate_with (measure_of v.part.plan)) in
     record {
-      size = length-map (zip v.rows v.tallies) (λ (p : List ℕ × TallyValue). figures_of v.part.plan.log2m p.0 p.1)
+      size = length-map (zip v.rows v.tallies) (λ (p : List ℕ × TallyValue). figures_of p.1.last p.0 p.1)
           ∙ length-zip v.rows v.tallies
           ∙ (let less : min (length v.rows) (length v.tallies) ≡ length v.rows = omega arith in less)
           ∙ s.count ∙ s.part.preds;

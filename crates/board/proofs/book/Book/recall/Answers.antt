@@ -7,7 +7,8 @@ use Rattle.ball_model.specs.Batches.{BatchValue}
 use Rattle.ball_model.specs.State.{State}
 use Rattle.ball_model.specs.History.{History, Recall, entry, with_entry, entries_of, holding_in}
 use Rattle.board.specs.declared.event.Event.TheVariants as noted
-use Rattle.board.specs.Book.{by_name, event_of, history_of}
+use Rattle.board.specs.Noted.{by_name}
+use Rattle.board.specs.Book.{event_of, history_of}
 use Rattle.board.proofs.BookLemmas.{noted as line, keeps-recall}
 use Rattle.board.proofs.book.Book.recall.Goals as goal
 

@@ -3,4 +3,4 @@ use Rattle.board.specs.Seats.{IsAt}
 use Rattle.board.proofs.tests.threads.keep_all.Given as goal
 
 abbrev pub invariant-loop-snapshot : goal.invariant-loop-snapshot
-invariant-loop-snapshot g l = IsAt l.board l.seat × (l.seat.seen.job ≡ record { graph = l.graph.graph; plan = l.plan })
+invariant-loop-snapshot g l = IsAt l.board l.seat × (l.seat.caller.seen.job ≡ record { graph = l.graph.graph; plan = l.plan })

@@ -2,7 +2,7 @@ use Rattle.std.proofs.Common.{◌≡◌, ap, sym, ◌∙◌, List, ℕ, [], ◌�
 use Rattle.atomic_table.specs.Table.{Me, rest}
 use Rattle.ball_model.specs.History.{History}
 use Rattle.board.specs.View.{View}
-use Rattle.board.proofs.turn.take.Goals as goal
+use Rattle.board.proofs.turn.take_book.Goals as goal
 
 pub exchange-requires : goal.exchange-requires
 exchange-requires g c =

@@ -4,7 +4,7 @@ use Rattle.ball_model.specs.History.{History}
 use Rattle.board.specs.View.{View}
 use Rattle.board.specs.Rule.{at_turn}
 use Rattle.board.proofs.MoveLemmas.{writes_at, raises_at}
-use Rattle.board.proofs.turn.give.Goals as goal
+use Rattle.board.proofs.turn.give_book.Goals as goal
 
 pub store-requires : goal.store-requires
 store-requires c =
