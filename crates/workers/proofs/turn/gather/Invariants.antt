@@ -1,0 +1,9 @@
+use Rattle.std.proofs.Common.{◌≡◌}
+use Rattle.ball_model.specs.Caller.{Extends}
+use Rattle.workers.specs.Turn.{StandsIn}
+use Rattle.workers.proofs.turn.gather.Given as goal
+
+abbrev pub invariant-loop : goal.invariant-loop
+invariant-loop g l =
+    Extends (g.E.Exchange.caller l.fn.exchange) (g.E.Exchange.caller l.exchange)
+    × StandsIn (g.E.Exchange.caller l.fn.exchange) l.node.part l.replica × (l.replica.superstep ≡ l.fn.replica.superstep)

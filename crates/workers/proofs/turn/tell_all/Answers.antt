@@ -1,0 +1,43 @@
+use Rattle.std.proofs.Common.{◌≡◌, ◌≢◌, ◌<◌, ◌≤◌, ◌+◌, ℕ, ap, arith, sym, subst}
+use Rattle.ball_model.specs.PlanValue.{PlanValue}
+use Rattle.ball_model.specs.Caller.{Caller, Extends}
+use Rattle.replica.specs.Sent.{batch_name}
+use Rattle.workers.specs.Node.{HasPosted}
+use Rattle.workers.proofs.SeenLemmas.{extends_trans, told_more}
+use Rattle.workers.proofs.TurnLemmas.{below_job, below_later, below_plan, no_other}
+use Rattle.workers.proofs.turn.tell_all.Goals as goal
+use Rattle.workers.proofs.turn.tell_all.Goals.{then-target-node+in_ok-tell, else-target-node}
+
+pub tell-requires-clause-target : goal.tell-requires-clause-target
+tell-requires-clause-target g c =
+    let parts = ap (λ (a : PlanValue). a.parts) c.plan.ensures in
+    let lt : c.loop-target.target < c.args.replica.now.part.plan.parts = omega (arith, c.loop-target-test.true, c.loop-target.auto.target-end, c.parts-target-end.ensures.value, parts) in
+    below_later _ _ _ c.loop-target.invariant.0 (below_job _ _ _ _ c.args.replica.now c.requires.stands lt)
+
+pub returns-in_err-tell-clause-alone : goal.returns-in_err-tell-clause-alone
+returns-in_err-tell-clause-alone g c = λ one _.
+    let parts = ap (λ (a : PlanValue). a.parts) c.plan.ensures in
+    let lt : c.loop-target.target < c.args.replica.now.part.plan.parts = omega (arith, c.loop-target-test.true, c.loop-target.auto.target-end, c.parts-target-end.ensures.value, parts) in
+    no_other _ _ _ _ c.args.replica.now c.requires.stands (below_job _ _ _ _ c.args.replica.now c.requires.stands lt) c.if-target-node.true one
+
+pub loop-target-preserved : goal.loop-target-preserved
+loop-target-preserved g c =
+    let caller = g.E.Exchange.caller in
+    let v : Caller = caller c.args.exchange.now in
+    let s : ℕ = c.args.replica.now.superstep in
+    let p : ℕ = c.args.node.part in
+    let n : ℕ = c.loop-target.target in
+    elim c.if-target-node.branch [
+      | then-target-node+in_ok-tell w ↦
+          subst (λ (k : Caller). Extends v k × ((r : ℕ) → r < n + 1 → r ≢ p → HasPosted v (batch_name s p r) k)) (sym (ap caller w.exchange-is))
+          (extends_trans v _ _ c.loop-target.invariant.0 w.tell.ensures.seen, told_more v _ _ s p n c.loop-target.invariant.0 c.loop-target.invariant.1 w.tell.ensures.seen w.in_ok-tell.ensures.posted)
+      | else-target-node w ↦
+          subst (λ (k : Caller). Extends v k × ((r : ℕ) → r < n + 1 → r ≢ p → HasPosted v (batch_name s p r) k)) (sym (ap caller w.exchange-is))
+          (c.loop-target.invariant.0, λ r lt other. c.loop-target.invariant.1 r (omega (arith, lt, other, w.if-target-node.false)) other)
+    ]
+
+pub returns-clause-told : goal.returns-clause-told
+returns-clause-told g c = λ r lt other.
+    let parts = ap (λ (a : PlanValue). a.parts) c.plan.ensures in
+    let below : r < c.args.replica.now.part.plan.parts = below_plan _ _ _ r c.args.replica.now c.requires.stands lt in
+    c.loop-target.invariant.1 r (omega (arith, below, c.loop-target-test.false, c.loop-target.auto.target-end, c.parts-target-end.ensures.value, parts)) other

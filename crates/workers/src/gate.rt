@@ -1,0 +1,106 @@
+//! What is called round each of a node's posts, and while it waits.
+
+use ball_model::NodeId;
+use std::alloc::{AllocError, Global};
+use std::sync::atomic::{AtomicU32, Ordering};
+use std::thread;
+use std::time::{Clock, Duration};
+
+/// What a node calls before and after each of its posts, and in each idle turn. Nothing is asked of it.
+pub trait Gate {
+    /// The node is about to post a batch of the superstep.
+    fn before_post(&self, node: NodeId, superstep: u32);
+
+    /// The node has posted a batch of the superstep.
+    fn after_post(&self, node: NodeId, superstep: u32);
+
+    /// The node waits: nothing that it needs is there, and it looks again after this call.
+    fn idle(&self, node: NodeId);
+}
+
+/// A gate that does nothing, save that an idle turn yields the thread.
+#[derive(Clone, Copy, Debug)]
+pub struct OpenGate;
+
+impl Gate for OpenGate {
+    fn before_post(&self, _node: NodeId, _superstep: u32) {}
+
+    fn after_post(&self, _node: NodeId, _superstep: u32) {}
+
+    fn idle(&self, _node: NodeId) {
+        thread::yield_now();
+    }
+}
+
+/// How many idle turns of a node yield its thread, before it sleeps.
+const YIELDS: u32 = 64;
+
+/// How many replicas a partition has at most.
+const REPLICAS: usize = 4;
+
+/// How many nodes a run has at most: 64 partitions of 4 replicas.
+const NODES: usize = 64 * REPLICAS;
+
+/// How long a node sleeps at most, in microseconds.
+const LONGEST: u64 = 1000;
+
+/// A gate whose idle turns yield the thread some dozens of times, and then sleep, longer each time, up to a
+/// millisecond. After each of its posts a node begins anew.
+///
+/// So who waits uses no processor, and a million idle turns are more than ten minutes.
+#[derive(Drop)]
+pub struct SleepingGate<'a, C> {
+    clock: &'a C,
+    // how many idle turns each node has had since its last post
+    turns: Vec<AtomicU32>,
+}
+
+impl<'a, C: Clock> SleepingGate<'a, C> {
+    /// A gate that sleeps by this clock. The error is that memory was refused.
+    pub fn new(alloc: Global, clock: &'a C) -> Result<SleepingGate<'a, C>, AllocError> {
+        Ok(SleepingGate {
+            clock,
+            turns: no_turns(alloc)?,
+        })
+    }
+}
+
+impl<'a, C: Clock> Gate for SleepingGate<'a, C> {
+    fn before_post(&self, _node: NodeId, _superstep: u32) {}
+
+    fn after_post(&self, node: NodeId, _superstep: u32) {
+        if let Some(turns) = self.turns.get(place_of(node)) {
+            turns.store(0, Ordering::SeqCst);
+        }
+    }
+
+    fn idle(&self, node: NodeId) {
+        if let Some(turns) = self.turns.get(place_of(node)) {
+            rest(self.clock, turns.fetch_add(1, Ordering::SeqCst));
+        }
+    }
+}
+
+// No idle turn yet, of any node.
+fn no_turns(alloc: Global) -> Result<Vec<AtomicU32>, AllocError> {
+    let mut turns = Vec::with_capacity(alloc, NODES)?;
+    for _ in 0..NODES {
+        turns.push(AtomicU32::new(0))?;
+    }
+    Ok(turns)
+}
+
+// The place of a node among all that a run may have.
+fn place_of(node: NodeId) -> usize {
+    usize::from(node.part) * REPLICAS + usize::from(node.replica)
+}
+
+// Lets some time pass after so many idle turns.
+fn rest<C: Clock>(clock: &C, turns: u32) {
+    if turns < YIELDS {
+        thread::yield_now();
+        return;
+    }
+    let longer = u64::from(turns - YIELDS) + 1;
+    thread::sleep(clock, Duration::from_micros(longer.min(LONGEST)));
+}

@@ -1,0 +1,30 @@
+//! One node of a run: a replica that posts what it has to tell, fetches what it is told, and goes on.
+//!
+//! [`run_node`] takes a node of a partition from superstep 0 to its end, over an [`Exchange`]: a board with a seat
+//! ([`BoardExchange`]), or a board of one caller in memory ([`MemoryExchange`]). [`NodeOrders`] say how often it keeps
+//! a snapshot, how long it waits, and whether it is lost or starts anew; [`NodeEnd`] says how it ended. A [`Gate`] is
+//! called round each of its posts, and while it waits.
+//!
+//! ```text
+//! let mut exchange = MemoryExchange::open(alloc, &graph, &plan, 64)?;
+//! let orders = NodeOrders { keep: 1, patience: 10, lose: None, restart: None };
+//! run_node(rt, &mut exchange, &OpenGate, node, part, &orders)?     // NodeEnd::Done(replica)
+//! ```
+//!
+//! A node that waits looks at the length of the history after each idle turn. Where another node of its partition has
+//! kept a snapshot of a further superstep, it takes that over and goes on from there.
+#![tactic(auto)]
+
+mod exchange;
+mod gate;
+mod memory;
+mod node;
+mod turn;
+
+pub use exchange::{BoardExchange, Exchange};
+pub use gate::{Gate, OpenGate, SleepingGate};
+pub use memory::MemoryExchange;
+pub use node::{NodeEnd, NodeError, NodeOrders, run_node};
+
+#[cfg(test)]
+mod tests;

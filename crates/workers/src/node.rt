@@ -1,0 +1,214 @@
+//! One node: a replica of a partition, from superstep 0 to its end.
+
+ghost use Rattle.std.specs.Prelude.{◌≡◌, ◌≢◌, ◌<◌, ◌≤◌, true, false, IfOk, OnOk, IfErr, Err, None};
+ghost use Rattle.std.specs.Arc.{arc_value};
+ghost use Rattle.ball_model.specs.Job.{IsJob, part_of};
+ghost use Rattle.ball_model.specs.Caller.{Extends, IsCaller, IsFull};
+ghost use Rattle.workers.specs.declared.node.NodeError.TheVariants.{BookFull};
+ghost use Rattle.workers.specs.Node.{FallsDue, HasToldAll, IfDone, IfLost, IfStarved, IsDone, WasMissing};
+ghost use Rattle.workers.specs.Turn.{IsFate, IsPartOf, StandsIn};
+ghost use Rattle.replica.specs.Sent.{batch_name};
+
+use crate::exchange::Exchange;
+use crate::gate::Gate;
+use crate::turn::{Turn, catch_up, run_superstep};
+use ball_model::NodeId;
+use board::BoardError;
+use edgelist::Part;
+use replica::{Replica, Shown};
+use std::alloc::{AllocError, AllocGlobal};
+use std::sync::{Arc, Wait};
+use thiserror::Error;
+
+/// What a node is told to do.
+#[derive(Clone, Copy, Debug, PartialEq, Eq)]
+pub struct NodeOrders {
+    /// It keeps a snapshot at each superstep that is a multiple of this, and none where it is 0.
+    pub keep: u32,
+    /// After so many idle turns in succession it gives up.
+    pub patience: u32,
+    /// It is lost at this superstep, or at the first that it reaches behind it.
+    pub lose: Option<u32>,
+    /// It starts anew, once, at this superstep, or at the first that it reaches behind it.
+    pub restart: Option<u32>,
+}
+
+/// How a node ended.
+#[derive(Drop)]
+pub enum NodeEnd {
+    /// It has reached the end of the run.
+    Done(Replica),
+    /// It was to be lost.
+    Lost { superstep: u32 },
+    /// It waited in vain for the batch of a source.
+    Starved { superstep: u32, source: u16 },
+}
+
+/// Why a node could not go on.
+#[derive(Clone, Copy, Debug, PartialEq, Eq, Error)]
+pub enum NodeError {
+    /// The history has as many entries as it may have.
+    #[error("the book is full")]
+    BookFull,
+    /// Memory was refused.
+    #[error("out of memory")]
+    Memory,
+}
+
+impl From<BoardError> for NodeError {
+    ghost use Rattle.std.specs.Prelude.{◌≡◌};
+    ghost use Rattle.workers.specs.Node.{node_error};
+
+    ghost from_gives = { λ fault e. e ≡ node_error fault };
+
+    fn from(fault: BoardError) -> NodeError {
+        match fault {
+            BoardError::BookFull => NodeError::BookFull,
+            BoardError::Memory => NodeError::Memory,
+        }
+    }
+}
+
+impl From<AllocError> for NodeError {
+    ghost use Rattle.std.specs.Prelude.{◌≡◌};
+    ghost use Rattle.workers.specs.declared.node.NodeError.TheVariants.{Memory};
+
+    ghost from_gives = { λ _ e. e ≡ Memory };
+
+    fn from(_fault: AllocError) -> NodeError {
+        NodeError::Memory
+    }
+}
+
+/// How a node's replica fared.
+#[derive(Clone, Copy)]
+pub enum Fate {
+    /// It has reached the end of the run.
+    Done,
+    /// It was to be lost.
+    Lost { superstep: u32 },
+    /// It waited in vain for the batch of a source.
+    Starved { superstep: u32, source: u16 },
+}
+
+// Whether an order falls due at a superstep.
+fn falls_due(order: Option<u32>, superstep: u32) -> bool
+    ensures due { result ≡ true → FallsDue order superstep }
+    ensures none { order ≡ None → result ≡ false }
+{
+    match order {
+        Some(at) => at <= superstep,
+        None => false,
+    }
+}
+
+// A new replica takes the place of the old one, with what is kept for the partition.
+fn begin_anew<R: AllocGlobal + Wait, E: Exchange>(
+    rt: &R,
+    exchange: &mut E,
+    node: NodeId,
+    part: &Arc<Part>,
+    replica: &mut Replica,
+) -> Result<(), NodeError>
+    requires caller { IsCaller (E.caller exchange.old) }
+    requires part { IsPartOf (E.caller exchange.old) node.part (arc_value part.now) }
+    ensures seen { Extends (E.caller exchange.old) (E.caller exchange.new) }
+    ensures stands { OnOk result (StandsIn (E.caller exchange.old) node.part replica.new) }
+    ensures full { IfErr result (λ e. e ≡ BookFull → IsFull (E.caller exchange.new)) }
+{
+    *replica = Replica::new(rt.alloc(), Arc::try_clone(part)?)?;
+    catch_up(rt, exchange, node, 0, replica)?;
+    Ok(())
+}
+
+// The replica goes on, superstep by superstep, until its fate is met.
+fn go_on<R: AllocGlobal + Wait, E: Exchange, G: Gate>(
+    rt: &R,
+    exchange: &mut E,
+    gate: &G,
+    node: NodeId,
+    part: &Arc<Part>,
+    orders: &NodeOrders,
+    replica: &mut Replica,
+) -> Result<Fate, NodeError>
+    requires caller { IsCaller (E.caller exchange.old) }
+    requires part { IsPartOf (E.caller exchange.old) node.part (arc_value part.now) }
+    requires stands { StandsIn (E.caller exchange.old) node.part replica.old }
+    ensures seen { Extends (E.caller exchange.old) (E.caller exchange.new) }
+    ensures stands { OnOk result (StandsIn (E.caller exchange.old) node.part replica.new) }
+    ensures fate { IfOk result (λ fate. IsFate (E.caller exchange.old) node.part orders.now.lose
+        replica.new fate (E.caller exchange.new)) }
+    ensures full { IfErr result (λ e. e ≡ BookFull → IsFull (E.caller exchange.new)) }
+    ensures alone { (E.caller exchange.old).seen.job.plan.parts ≡ 1 → orders.now.keep ≡ 0 →
+        orders.now.restart ≡ None → result ≢ Err BookFull }
+{
+    let mut restart = orders.restart;
+    for _ in rt.forever() {
+        let superstep = replica.superstep();
+        if falls_due(orders.lose, superstep) {
+            return Ok(Fate::Lost { superstep });
+        }
+        if falls_due(restart, superstep) {
+            restart = None;
+            begin_anew(rt, exchange, node, part, replica)?;
+            continue;
+        }
+        match run_superstep(rt, exchange, gate, node, orders, replica)? {
+            Turn::Next => {}
+            Turn::Over => return Ok(Fate::Done),
+            Turn::Starved { source } => {
+                let superstep = replica.superstep();
+                return Ok(Fate::Starved { superstep, source });
+            }
+        }
+    }
+    unreachable!()
+}
+
+/// Runs a node of a partition, from superstep 0 to its end.
+///
+/// At each superstep it is lost or starts anew where an order falls due, keeps a snapshot, tells every other partition
+/// what changed, takes what they tell, and goes on. While a batch is missing it takes over a snapshot of a further
+/// superstep, if another node of its partition has kept one; else it idles until the history has grown. An error or an
+/// end leaves in the exchange the entries that were made before.
+///
+/// [`BookFull`](NodeError::BookFull) where a call of the exchange is refused because the history is full,
+/// [`Memory`](NodeError::Memory) where a growth is refused, each as it happens.
+pub fn run_node<R: AllocGlobal + Wait, E: Exchange, G: Gate>(
+    rt: &R,
+    exchange: &mut E,
+    gate: &G,
+    node: NodeId,
+    part: Arc<Part>,
+    orders: &NodeOrders,
+) -> Result<NodeEnd, NodeError>
+    requires caller { IsCaller (E.caller exchange.old) }
+    requires job { IsJob (E.caller exchange.old).seen.job }
+    requires node { node.part < (E.caller exchange.old).seen.job.plan.parts }
+    requires part { arc_value part ≡ part_of (E.caller exchange.old).seen.job node.part }
+    ensures seen { Extends (E.caller exchange.old) (E.caller exchange.new) }
+    ensures done { IfOk result (λ end. IfDone end
+        (IsDone (E.caller exchange.old).seen.job node.part)) }
+    ensures told { IfOk result (λ end. IfDone end (λ r. HasToldAll (E.caller exchange.old)
+        r.superstep node.part (E.caller exchange.new))) }
+    ensures lost { IfOk result (λ end. IfLost end (FallsDue orders.now.lose)) }
+    ensures starved { IfOk result (λ end. IfStarved end (λ s q.
+        WasMissing (E.caller exchange.old) (batch_name s q node.part) (E.caller exchange.new))) }
+    ensures starved_told { IfOk result (λ end. IfStarved end (λ s q.
+        HasToldAll (E.caller exchange.old) s node.part (E.caller exchange.new))) }
+    ensures source { IfOk result (λ end. IfStarved end (λ s q.
+        (q < (E.caller exchange.old).seen.job.plan.parts) × (q ≢ node.part))) }
+    ensures full { IfErr result (λ e. e ≡ BookFull → IsFull (E.caller exchange.new)) }
+    ensures alone { (E.caller exchange.old).seen.job.plan.parts ≡ 1 →
+        IfOk result (λ end. IfStarved end (λ s q. ⊥)) }
+    ensures alone_fits { (E.caller exchange.old).seen.job.plan.parts ≡ 1 → orders.now.keep ≡ 0 →
+        orders.now.restart ≡ None → result ≢ Err BookFull }
+{
+    let mut replica = Replica::new(rt.alloc(), Arc::try_clone(&part)?)?;
+    let fate = go_on(rt, exchange, gate, node, &part, orders, &mut replica)?;
+    Ok(match fate {
+        Fate::Done => NodeEnd::Done(replica),
+        Fate::Lost { superstep } => NodeEnd::Lost { superstep },
+        Fate::Starved { superstep, source } => NodeEnd::Starved { superstep, source },
+    })
+}

@@ -1,0 +1,294 @@
+//! One superstep of a node.
+
+ghost use Rattle.std.specs.Prelude.{◌≡◌, ◌≢◌, ◌⊎◌, ℕ, false, None, ◌<◌, ◌≤◌, ◌+◌, IfOk, OnOk, IfErr, Err};
+ghost use Rattle.ball_model.specs.Caller.{Extends, IsCaller, IsFull};
+ghost use Rattle.workers.specs.declared.node.NodeError.TheVariants.{BookFull};
+ghost use Rattle.workers.specs.Node.{HasPosted, HasToldAll, WasMissing};
+ghost use Rattle.ball_model.specs.Job.{Job};
+ghost use Rattle.ball_model.specs.State.{StandsFor};
+ghost use Rattle.replica.specs.Level.{EndsRun, found_verdict, missing_in};
+ghost use Rattle.workers.specs.declared.turn.Turn.TheVariants as turn;
+ghost use Rattle.workers.specs.Turn.{IsFound, IsTurn, StandsIn};
+ghost use Rattle.replica.specs.Sent.{batch_name};
+
+use crate::exchange::Exchange;
+use crate::gate::Gate;
+use crate::node::{NodeError, NodeOrders};
+use ball_model::{BatchName, NodeId};
+use replica::{Replica, Shown};
+use std::alloc::AllocGlobal;
+use std::sync::{Arc, Wait};
+
+/// What became of a superstep.
+#[derive(Clone, Copy)]
+pub enum Turn {
+    /// The replica is at another superstep.
+    Next,
+    /// The run is over.
+    Over,
+    /// It waited in vain for the batch of a source.
+    Starved { source: u16 },
+}
+
+/// What a node has found of the others.
+#[derive(Clone, Copy)]
+pub enum Found {
+    /// Every batch of its superstep.
+    Level,
+    /// A snapshot of a further superstep, which it has taken over.
+    Further,
+    /// A batch is missing.
+    Missed { source: u16 },
+}
+
+/// Takes over the snapshot that is kept for the replica's partition, where its superstep is `at_least` so much; and
+/// whether there is one.
+pub fn catch_up<R: AllocGlobal + Wait, E: Exchange>(
+    rt: &R,
+    exchange: &mut E,
+    node: NodeId,
+    at_least: u32,
+    replica: &mut Replica,
+) -> Result<bool, NodeError>
+    requires caller { IsCaller (E.caller exchange.old) }
+    requires stands { StandsIn (E.caller exchange.old) node.part replica.old }
+    ensures seen { Extends (E.caller exchange.old) (E.caller exchange.new) }
+    ensures stands { OnOk result (StandsIn (E.caller exchange.old) node.part replica.new) }
+    ensures none { IfOk result (λ found. found ≡ false → replica.new ≡ replica.old) }
+    ensures full { IfErr result (λ e. e ≡ BookFull → IsFull (E.caller exchange.new)) }
+{
+    let Some(snapshot) = exchange.recall(rt, node.part, at_least)? else {
+        return Ok(false);
+    };
+    let Ok(()) = replica.merge(rt.alloc(), &snapshot) else {
+        return Err(NodeError::Memory);
+    };
+    Ok(true)
+}
+
+// Keeps a snapshot at each superstep that is a multiple of `every`, and none where that is 0.
+fn keep_snapshot<R: AllocGlobal + Wait, E: Exchange>(
+    rt: &R,
+    exchange: &mut E,
+    node: NodeId,
+    every: u32,
+    replica: &mut Replica,
+) -> Result<(), NodeError>
+    requires caller { IsCaller (E.caller exchange.old) }
+    requires stands { StandsIn (E.caller exchange.old) node.part replica.old }
+    ensures seen { Extends (E.caller exchange.old) (E.caller exchange.new) }
+    ensures same { replica.new ≡ replica.old }
+    ensures full { IfErr result (λ e. e ≡ BookFull → IsFull (E.caller exchange.new)) }
+    ensures never { every ≡ 0 → result ≢ Err BookFull }
+{
+    if every == 0 || replica.superstep() % every != 0 {
+        return Ok(());
+    }
+    let Ok(snapshot) = Arc::new(rt.alloc(), replica.snapshot(rt.alloc())?) else {
+        return Err(NodeError::Memory);
+    };
+    exchange.keep(rt, snapshot)?;
+    Ok(())
+}
+
+// Tells one other partition of the superstep.
+fn tell<R: AllocGlobal + Wait, E: Exchange, G: Gate>(
+    rt: &R,
+    exchange: &mut E,
+    gate: &G,
+    node: NodeId,
+    replica: &Replica,
+    target: u16,
+) -> Result<(), NodeError>
+    requires caller { IsCaller (E.caller exchange.old) }
+    requires stands { StandsIn (E.caller exchange.old) node.part replica.now }
+    requires target { target < (E.caller exchange.old).seen.job.plan.parts }
+    requires other { target ≢ node.part }
+    ensures seen { Extends (E.caller exchange.old) (E.caller exchange.new) }
+    ensures posted { OnOk result (HasPosted (E.caller exchange.old)
+        (batch_name replica.now.superstep node.part target) (E.caller exchange.new)) }
+    ensures full { IfErr result (λ e. e ≡ BookFull → IsFull (E.caller exchange.new)) }
+{
+    let Ok(batch) = Arc::new(rt.alloc(), replica.out(rt.alloc(), target)?) else {
+        return Err(NodeError::Memory);
+    };
+    gate.before_post(node, replica.superstep());
+    exchange.post(rt, batch)?;
+    gate.after_post(node, replica.superstep());
+    Ok(())
+}
+
+// Tells every other partition of the superstep.
+fn tell_all<R: AllocGlobal + Wait, E: Exchange, G: Gate>(
+    rt: &R,
+    exchange: &mut E,
+    gate: &G,
+    node: NodeId,
+    replica: &Replica,
+) -> Result<(), NodeError>
+    requires caller { IsCaller (E.caller exchange.old) }
+    requires stands { StandsIn (E.caller exchange.old) node.part replica.now }
+    ensures seen { Extends (E.caller exchange.old) (E.caller exchange.new) }
+    ensures told { OnOk result (HasToldAll (E.caller exchange.old) replica.now.superstep node.part
+        (E.caller exchange.new)) }
+    ensures full { IfErr result (λ e. e ≡ BookFull → IsFull (E.caller exchange.new)) }
+    ensures alone { (E.caller exchange.old).seen.job.plan.parts ≡ 1 → result ≢ Err BookFull }
+{
+    for target in 0..replica.plan().parts() {
+        if target != node.part {
+            tell(rt, exchange, gate, node, replica, target)?;
+        }
+    }
+    Ok(())
+}
+
+// Where every superstep is kept, drops the batches that nobody needs any more.
+fn drop_old<R: Wait, E: Exchange>(
+    rt: &R,
+    exchange: &mut E,
+    every: u32,
+    superstep: u32,
+) -> Result<(), NodeError>
+    requires caller { IsCaller (E.caller exchange.old) }
+    ensures seen { Extends (E.caller exchange.old) (E.caller exchange.new) }
+    ensures full { IfErr result (λ e. e ≡ BookFull → IsFull (E.caller exchange.new)) }
+    ensures never { every ≡ 0 → result ≢ Err BookFull }
+{
+    if every == 1 && superstep >= 2 {
+        exchange.drop_below(rt, superstep - 1)?;
+    }
+    Ok(())
+}
+
+// Idle turns, until the history is no longer of that length, or there were so many of them; and whether it is.
+fn has_grown<E: Exchange, G: Gate>(
+    exchange: &mut E,
+    gate: &G,
+    node: NodeId,
+    known: u64,
+    patience: u32,
+) -> bool
+    requires caller { IsCaller (E.caller exchange.old) }
+    ensures seen { Extends (E.caller exchange.old) (E.caller exchange.new) }
+{
+    for _ in 0..patience {
+        gate.idle(node);
+        if exchange.length() != known {
+            return true;
+        }
+    }
+    false
+}
+
+// Finds the batch of a source, and takes it; and whether it is there.
+fn find<R: Wait, E: Exchange>(
+    rt: &R,
+    exchange: &mut E,
+    node: NodeId,
+    replica: &mut Replica,
+    source: u16,
+) -> Result<bool, NodeError>
+    requires caller { IsCaller (E.caller exchange.old) }
+    requires stands { StandsIn (E.caller exchange.old) node.part replica.old }
+    ensures seen { Extends (E.caller exchange.old) (E.caller exchange.new) }
+    ensures stands { OnOk result (StandsIn (E.caller exchange.old) node.part replica.new) }
+    ensures superstep { replica.new.superstep ≡ replica.old.superstep }
+    ensures missed { IfOk result (λ found. found ≡ false →
+        WasMissing (E.caller exchange.old)
+        (batch_name replica.old.superstep source node.part) (E.caller exchange.new)) }
+    ensures full { IfErr result (λ e. e ≡ BookFull → IsFull (E.caller exchange.new)) }
+{
+    let name = BatchName {
+        superstep: replica.superstep(),
+        source,
+        target: node.part,
+    };
+    let Some(batch) = exchange.fetch(rt, name)? else {
+        return Ok(false);
+    };
+    let _ = replica.take(batch);
+    Ok(true)
+}
+
+// Takes what the others tell of the superstep, until the level is held, or a further snapshot is found, or it was
+// waited for a batch in vain.
+fn gather<R: AllocGlobal + Wait, E: Exchange, G: Gate>(
+    rt: &R,
+    exchange: &mut E,
+    gate: &G,
+    node: NodeId,
+    patience: u32,
+    replica: &mut Replica,
+) -> Result<Found, NodeError>
+    requires caller { IsCaller (E.caller exchange.old) }
+    requires stands { StandsIn (E.caller exchange.old) node.part replica.old }
+    ensures seen { Extends (E.caller exchange.old) (E.caller exchange.new) }
+    ensures stands { OnOk result (StandsIn (E.caller exchange.old) node.part replica.new) }
+    ensures found { IfOk result (λ found. IsFound (E.caller exchange.old) node.part
+        replica.old.superstep replica.new found (E.caller exchange.new)) }
+    ensures full { IfErr result (λ e. e ≡ BookFull → IsFull (E.caller exchange.new)) }
+    ensures alone { (E.caller exchange.old).seen.job.plan.parts ≡ 1 → result ≢ Err BookFull }
+{
+    for _ in rt.forever() {
+        let Some(source) = replica.missing() else {
+            return Ok(Found::Level);
+        };
+        let length = exchange.length();
+        if find(rt, exchange, node, replica, source)? {
+            continue;
+        }
+        if catch_up(rt, exchange, node, replica.superstep() + 1, replica)? {
+            return Ok(Found::Further);
+        }
+        if !has_grown(exchange, gate, node, length, patience) {
+            return Ok(Found::Missed { source });
+        }
+    }
+    unreachable!()
+}
+
+// Goes on from a superstep whose level is held.
+fn close(replica: &mut Replica) -> Turn
+    requires held { missing_in replica.old ≡ None }
+    ensures stands { (j : Job) (p t : ℕ) → StandsFor j p t replica.old →
+        StandsFor j p replica.new.superstep replica.new }
+    ensures over { result ≡ turn.Over → (replica.new ≡ replica.old)
+        × EndsRun (found_verdict replica.new) }
+    ensures kind { (result ≡ turn.Next) ⊎ (result ≡ turn.Over) }
+{
+    match replica.close() {
+        Ok(_) => Turn::Next,
+        Err(_) => Turn::Over,
+    }
+}
+
+/// A superstep of a node: it keeps what it has, tells all others, takes what they tell, and goes on.
+pub fn run_superstep<R: AllocGlobal + Wait, E: Exchange, G: Gate>(
+    rt: &R,
+    exchange: &mut E,
+    gate: &G,
+    node: NodeId,
+    orders: &NodeOrders,
+    replica: &mut Replica,
+) -> Result<Turn, NodeError>
+    requires caller { IsCaller (E.caller exchange.old) }
+    requires stands { StandsIn (E.caller exchange.old) node.part replica.old }
+    ensures seen { Extends (E.caller exchange.old) (E.caller exchange.new) }
+    ensures stands { OnOk result (StandsIn (E.caller exchange.old) node.part replica.new) }
+    ensures turn { IfOk result (λ turn.
+        IsTurn (E.caller exchange.old) node.part replica.new turn (E.caller exchange.new)) }
+    ensures full { IfErr result (λ e. e ≡ BookFull → IsFull (E.caller exchange.new)) }
+    ensures alone { (E.caller exchange.old).seen.job.plan.parts ≡ 1 → orders.now.keep ≡ 0 →
+        result ≢ Err BookFull }
+{
+    keep_snapshot(rt, exchange, node, orders.keep, replica)?;
+    tell_all(rt, exchange, gate, node, replica)?;
+    drop_old(rt, exchange, orders.keep, replica.superstep())?;
+    Ok(
+        match gather(rt, exchange, gate, node, orders.patience, replica)? {
+            Found::Level => close(replica),
+            Found::Further => Turn::Next,
+            Found::Missed { source } => Turn::Starved { source },
+        },
+    )
+}
