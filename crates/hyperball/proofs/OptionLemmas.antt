@@ -5,10 +5,10 @@ use Rattle.std.specs.Str.Parse.{ParsesUnsigned}
 use Rattle.clap.specs.Words.{ReadsOne, Text, first_value, one_text, rows_of}
 use Rattle.clap.specs.declared.parser.matches.Found.{Found}
 use Rattle.clap.proofs.WalkLemmas.{first_value-rows, one_text-rows}
+use Rattle.ball_model.specs.declared.plan.Estimate.{Estimate}
 use Rattle.edgelist.specs.declared.read.Delimiter.{Delimiter}
-use Rattle.edgelist.specs.declared.read.Delimiter.TheVariants.{Tab}
 use Rattle.hyperball.specs.declared.words.RunWords.{RunWords}
-use Rattle.hyperball.specs.Words.{IsDelimiter, IsFlag, IsNumber, IsNumberOr, flag_text, name_of}
+use Rattle.hyperball.specs.Words.{IsFlag, IsNamedOr, IsNumber, IsNumberOr, flag_text}
 
 number_of : {E : Type 0} (A B : List ℕ → Result ℕ E → Type 0) (one : Option Text) (usual bits n : ℕ) (r : Option ℕ) → (one ≡ None → r ≡ None) →
     ((t : Text) → one ≡ Some t → ReadsOne (λ bs x. ParsesUnsigned bits 10 bs x × A bs x × B bs x) t r) →
@@ -24,9 +24,10 @@ pub number_is : {E : Type 0} (A B : List ℕ → Result ℕ E → Type 0) (f : F
 number_is A B f id usual bits n r none value is =
     number_of A B (one_text f id) usual bits n r none value (subst (λ o. MatchOption o (n ≡ usual) (λ t. IsNumber bits t n)) (sym (one_text-rows f id)) is)
 
--- a delimiter's name that was read
-pub name_is : (f : Found) (d : Delimiter) (name : Option Text) → name ≡ first_value f (codes "delimiter") → IsDelimiter (rows_of f) d → MatchOption name (d ≡ Tab) (λ n. n ≡ name_of d)
-name_is f d name read is = subst (λ o. MatchOption o (d ≡ Tab) (λ n. n ≡ name_of d)) (sym (read ∙ first_value-rows f (codes "delimiter"))) is
+-- a name that was read
+pub name_is : {A : Type 0} (usual : A) (name_of : A → Text) (f : Found) (id : Text) (a : A) (name : Option Text) → name ≡ first_value f id → IsNamedOr usual name_of (rows_of f) id a →
+    MatchOption name (a ≡ usual) (λ n. n ≡ name_of a)
+name_is usual name_of f id a name read is = subst (λ o. MatchOption o (a ≡ usual) (λ n. n ≡ name_of a)) (sym (read ∙ first_value-rows f id)) is
 
 flag_of : (one : Option Text) (given b : Bool) → (one ≡ None → given ≡ false) → (one ≡ Some (codes "true") → given ≡ true) → (one ≡ Some (codes "false") → given ≡ false) →
     MatchOption one (b ≡ false) (λ t. t ≡ flag_text b) → given ≡ b
@@ -40,7 +41,7 @@ pub flag_is : (f : Found) (id : Text) (given b : Bool) → (one_text f id ≡ No
 flag_is f id given b none value other is =
     flag_of (one_text f id) given b none value other (subst (λ o. MatchOption o (b ≡ false) (λ t. t ≡ flag_text b)) (sym (one_text-rows f id)) is)
 
-pub same_words : (log2m seed parts limit : ℕ) (d : Delimiter) (counted : Bool) (w : RunWords) → log2m ≡ w.options.log2m → seed ≡ w.options.seed → parts ≡ w.options.parts → limit ≡ w.options.limit →
-    d ≡ w.options.delimiter → counted ≡ w.counted →
-    ◌≡◌ {A = RunWords} (record { options = record { log2m = log2m; seed = seed; parts = parts; limit = limit; delimiter = d }; counted = counted }) w
-same_words log2m seed parts limit d counted w a b e f g h = λ i. record { options = record { log2m = a i; seed = b i; parts = e i; limit = f i; delimiter = g i }; counted = h i }
+pub same_words : (log2m seed parts limit : ℕ) (e : Estimate) (d : Delimiter) (counted : Bool) (w : RunWords) → log2m ≡ w.options.log2m → seed ≡ w.options.seed → parts ≡ w.options.parts → limit ≡ w.options.limit →
+    e ≡ w.options.estimate → d ≡ w.options.delimiter → counted ≡ w.counted →
+    ◌≡◌ {A = RunWords} (record { options = record { log2m = log2m; seed = seed; parts = parts; limit = limit; estimate = e; delimiter = d }; counted = counted }) w
+same_words log2m seed parts limit e d counted w a b p l k g h = λ i. record { options = record { log2m = a i; seed = b i; parts = p i; limit = l i; estimate = k i; delimiter = g i }; counted = h i }

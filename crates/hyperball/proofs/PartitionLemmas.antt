@@ -19,17 +19,10 @@ use Rattle.ball_model.specs.Content.{Content, take_of, is_new, after_take, same_
 use Rattle.ball_model.specs.State.{State, StandsFor, content_of}
 use Rattle.ball_model.proofs.EndLemmas.{end_within}
 use Rattle.replica.specs.Level.{found_verdict}
+use Rattle.replica.proofs.LevelLemmas.{number_of_part, plan_of_part}
 use Rattle.replica.proofs.RunLemmas.{same_plan-self}
 use Rattle.report.specs.Ready.{AllStand, are_ready, is_ready, ready_from, says_end}
 use Rattle.hyperball.specs.Partitions.{AreAt, AreEnded, AreLevel, AreOver, AreRunning, AreTold, with_pair}
-
-pub number_of_part : (j : Job) (p : ℕ) (v : State) → v.part ≡ part_of j p → v.part.number ≡ p
-unfolding part_of
-number_of_part j p v e = ap (λ (part : PartValue). part.number) e
-
-pub plan_of_part : (j : Job) (p : ℕ) (v : State) → v.part ≡ part_of j p → v.part.plan ≡ j.plan
-unfolding part_of
-plan_of_part j p v e = ap (λ (part : PartValue). part.plan) e
 
 -- the replica at a place is of the partition of that number, and there are as many as the plan has partitions
 pub number_at : (rs : List State) (p : ℕ) (d : State) → AreRunning rs → p < length rs → (slice_index_or rs p d).part.number ≡ p

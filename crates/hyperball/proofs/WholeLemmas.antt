@@ -1,17 +1,46 @@
 -- Inputs that are read whole, and their sections.
 use Rattle.std.proofs.Common.{◌≡◌, ◌∙◌, ℕ, suc, ◌+◌, ◌-◌, ◌<◌, ◌≤◌, Bool, true, false, ◌==◌, if◌then◌else◌, List, [], ◌∷◌, ◌++◌, length, take, drop, slice_index, refl, ap, arith, sym, append_assoc, append-nil, length-append}
 use Rattle.std.specs.Prelude.{Option, None, Some, option_map}
-use Rattle.std.specs.Io.KnownBytes.{Consumes}
+use Rattle.std.specs.Io.KnownBytes.{Consumes, IsAtEnd}
 use Rattle.std.proofs.Math.Seq.{drop-cons, take-suc}
 use Rattle.std.proofs.lemmas.List.{drop_all, length-drop, length-take, take_all}
-use Rattle.std.proofs.KnownBytes.{Consumes-trans}
+use Rattle.std.proofs.KnownBytes.{Consumes-trans, Consumes-whole}
 use Rattle.ball_model.specs.Sections.{after_mark, longer, sections_from}
-use Rattle.hyperball.specs.Whole.{ReadsAtMost, most_bytes}
+use Rattle.ball_model.specs.Streams.{TakesAtMost}
+use Rattle.hyperball.specs.Whole.{IsLong, IsWhole, most_bytes}
 
 -- what was read so far
 pub record HasRead (old new : Option (List ℕ)) (bytes : List ℕ) : Type 0 where
   pub consumed : Consumes old new bytes
-  pub few : length bytes ≤ most_bytes + 1
+  pub few : length bytes ≤ most_bytes
+
+-- a piece more
+pub read_more : (a b c : Option (List ℕ)) (before piece after : List ℕ) → HasRead a b before → Consumes b c piece → after ≡ before ++ piece → length after ≤ most_bytes → HasRead a c after
+read_more a b c before piece after h read is few = record {
+  consumed = rw is (Consumes-trans a b c before piece h.consumed read);
+  few = few;
+}
+
+-- the last piece
+pub read_last : (a b c : Option (List ℕ)) (before piece after : List ℕ) → HasRead a b before → Consumes b c piece → IsAtEnd c → after ≡ before ++ piece → IsWhole a after
+read_last a b c before piece after h read end is = Consumes-whole a c (before ++ piece) _ (Consumes-trans a b c before piece h.consumed read) end is
+
+-- more bytes than an input has that is read whole
+pub read_long : (a b c : Option (List ℕ)) (before piece : List ℕ) → HasRead a b before → Consumes b c piece → most_bytes < length before + length piece → IsLong a
+read_long a b c before piece h read long = long_in a c (before ++ piece) (Consumes-trans a b c before piece h.consumed read) (omega (arith, length-append before piece, long))
+  where
+    long_in : (a c : Option (List ℕ)) (bytes : List ℕ) → Consumes a c bytes → most_bytes < length bytes → IsLong a
+    long_in None c bytes read long = tt
+    long_in (Some xs) None bytes read long = absurd read
+    long_in (Some xs) (Some rest) bytes read long = let size = ap (length {A = ℕ}) read ∙ length-append bytes rest in omega (arith, size, long)
+
+-- a piece that was not kept
+pub read_lost : (a b c : Option (List ℕ)) (before : List ℕ) (room most : ℕ) → HasRead a b before → TakesAtMost room b c → length before + room ≤ most → TakesAtMost most a c
+read_lost a b c before room most h lost fits = record {
+  bytes = before ++ lost.bytes;
+  consumed = Consumes-trans a b c before lost.bytes h.consumed lost.consumed;
+  few = omega (arith, length-append before lost.bytes, lost.few, fits);
+}
 
 -- the sections of a text behind some bytes of the first
 abbrev pub behind : List ℕ → Option (List ℕ × List ℕ) → Option (List ℕ × List ℕ)
@@ -73,14 +102,6 @@ found_here xs rest i begins lt is = found_by (take i xs) (drop i xs) rest begins
 -- at the end
 pub ended : (xs : List ℕ) (i : ℕ) (begins : Bool) → length xs ≤ i → behind (take i xs) (sections_from begins (drop i xs)) ≡ None
 ended xs i begins le = ap (λ l. behind (take i xs) (sections_from begins l)) (drop_all i xs le) ∙ behind_none (take i xs) begins
-
--- a piece of which nothing was kept
-pub piece_lost : (a b c : Option (List ℕ)) (before : List ℕ) (room : ℕ) → HasRead a b before → ReadsAtMost room b c → room ≤ most_bytes + 1 - length before → length before ≤ most_bytes → ReadsAtMost (most_bytes + 1) a c
-piece_lost a b c before room h lost most under = record {
-  bytes = before ++ lost.bytes;
-  consumed = Consumes-trans a b c before lost.bytes h.consumed lost.consumed;
-  few = omega (arith, length-append before lost.bytes, lost.few, most, under);
-}
 
 pub taken_within : (n : ℕ) (xs : List ℕ) → length (take n xs) ≤ n
 taken_within n xs = let long = length-take n xs in omega (arith, long)

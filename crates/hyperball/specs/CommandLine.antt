@@ -12,10 +12,23 @@ use Rattle.clap.specs.declared.builder.value_parser.ValueParser.TheVariants as v
 abbrev pub delimiter_names : List Text
 delimiter_names = codes "tab" ∷ codes "comma" ∷ codes "space" ∷ []
 
+-- how estimates are made, by name
+abbrev pub estimate_names : List Text
+estimate_names = codes "raw" ∷ codes "corrected" ∷ []
+
 -- the parser takes one of these names, wherever in memory they stand
 abbrev pub TakesNames : List Text → ValueParser → Type 0
 TakesNames names (vp.Names given) = map (λ name. name.now) given.now ≡ names
 TakesNames names parser = ⊥
+
+-- the parsers of the options whose values are names
+pub record Parsers : Type 0 where
+  pub estimates : ValueParser
+  pub delimiters : ValueParser
+
+-- each takes its names
+abbrev pub TakeNames : Parsers → Type 0
+TakeNames p = TakesNames estimate_names p.estimates × TakesNames delimiter_names p.delimiters
 
 -- an option: its long name, and what its value has to be
 abbrev pub option_rule : Text → ValueParser → Rule
@@ -50,6 +63,10 @@ with_numbers app = with_rule (with_rule (with_counters app)
     (option_rule (codes "parts") number16))
     (option_rule (codes "limit") number32)
 
+-- a command with the option that says how estimates are made, whose names a parser takes
+abbrev pub with_estimate : ValueParser → App → App
+with_estimate estimates app = with_rule app (option_rule (codes "estimate") estimates)
+
 -- a command with the options of an input, whose delimiters a parser takes
 abbrev pub with_input : ValueParser → App → App
 with_input delimiters app = with_rule (with_rule app
@@ -57,8 +74,9 @@ with_input delimiters app = with_rule (with_rule app
     (flag_rule (codes "counted"))
 
 -- the subcommand `run`
-unfoldable pub run_app : ValueParser → App
-run_app delimiters = with_input delimiters (with_numbers (new_app (codes "run")))
+unfoldable pub run_app : Parsers → App
+run_app p =
+    with_input p.delimiters (with_estimate p.estimates (with_numbers (new_app (codes "run"))))
 
 -- the program, which wants a subcommand, before it has one
 abbrev pub new_hyperball : App
@@ -67,8 +85,8 @@ new_hyperball = record (new_app (codes "hyperball")) {
 }
 
 -- the program
-unfoldable pub hyperball_app : ValueParser → App
-hyperball_app delimiters = with_subcommand new_hyperball (run_app delimiters).top
+unfoldable pub hyperball_app : Parsers → App
+hyperball_app p = with_subcommand new_hyperball (run_app p).top
 
 -- a command of this form, with no argument for all subcommands
 pub record IsApp (app : App) (c : Command) : Type 0 where

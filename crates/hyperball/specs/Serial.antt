@@ -7,7 +7,7 @@ use Rattle.ball_model.specs.Input.{IsPlain, Network}
 use Rattle.ball_model.specs.Counting.{CountedRefusal}
 use Rattle.ball_model.specs.RunText.{AppendsReport, AreRead, IsPlanFault, IsReportOf, Numbers}
 use Rattle.ball_model.specs.RunText.{Settings, counted_in, network_in, plan_over}
-use Rattle.edgelist.specs.Planning.{numbers_of}
+use Rattle.edgelist.specs.Planning.{is_corrected, numbers_with}
 use Rattle.edgelist.specs.Reading.{Refuses, byte_of}
 use Rattle.edgelist.specs.Counting.{RefusesList}
 use Rattle.edgelist.specs.declared.counting.CountedError.{CountedError}
@@ -16,7 +16,7 @@ use Rattle.hyperball.specs.declared.serial.SerialError.{SerialError}
 use Rattle.hyperball.specs.declared.serial.SerialError.TheVariants as fault
 
 abbrev pub numbers_in : SerialOptions → Numbers
-numbers_in o = numbers_of o.log2m o.seed o.parts o.limit
+numbers_in o = numbers_with (is_corrected o.estimate) o.log2m o.seed o.parts o.limit
 
 abbrev pub settings_of : SerialOptions → Settings
 settings_of o = record { numbers = numbers_in o; delimiter = byte_of o.delimiter }

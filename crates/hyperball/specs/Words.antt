@@ -8,15 +8,16 @@ use Rattle.clap.specs.Words.{FailsBy, Row, Text, fault_of, first_of, one_of, sub
 use Rattle.clap.specs.Words.{subcommand_rows_of}
 use Rattle.clap.specs.declared.error.Error.{Error}
 use Rattle.clap.specs.declared.parser.matches.ArgMatches.{ArgMatches}
-use Rattle.clap.specs.declared.builder.value_parser.ValueParser.{ValueParser}
 use Rattle.clap.specs.declared.error.kind.ErrorKind.{ErrorKind}
 use Rattle.clap.specs.declared.error.kind.ErrorKind.TheVariants as kind
 use Rattle.ball_model.specs.RunText.{AppendsReport}
+use Rattle.ball_model.specs.declared.plan.Estimate.{Estimate}
+use Rattle.ball_model.specs.declared.plan.Estimate.TheVariants.{Raw, Corrected}
 use Rattle.edgelist.specs.declared.read.Delimiter.{Delimiter}
 use Rattle.edgelist.specs.declared.read.Delimiter.TheVariants.{Tab, Comma, Space}
 use Rattle.hyperball.specs.declared.serial.SerialOptions.{SerialOptions}
 use Rattle.hyperball.specs.declared.words.RunWords.{RunWords}
-use Rattle.hyperball.specs.CommandLine.{delimiter_names, TakesNames, hyperball_app}
+use Rattle.hyperball.specs.CommandLine.{Parsers, TakeNames, hyperball_app}
 use Rattle.hyperball.specs.Serial.{ArePlain, settings_of}
 use Rattle.hyperball.specs.Whole.{sections_in}
 
@@ -26,7 +27,14 @@ texts_of words = map (λ w. string_bytes w) words
 
 -- the options where none is given
 abbrev pub usual_options : SerialOptions
-usual_options = record { log2m = 8; seed = 0; parts = 1; limit = 4096; delimiter = Tab }
+usual_options = record {
+  log2m = 8;
+  seed = 0;
+  parts = 1;
+  limit = 4096;
+  estimate = Raw;
+  delimiter = Tab;
+}
 
 -- a text is this number of so many bits
 pub record IsNumber (bits : ℕ) (text : Text) (n : ℕ) : Type 0 where
@@ -40,16 +48,20 @@ IsNumberOr usual bits rows id n =
     MatchOption (one_of id rows) (n ≡ usual) (λ text. IsNumber bits text n)
 
 -- the name of a delimiter
-abbrev pub name_of : Delimiter → Text
-name_of Tab = codes "tab"
-name_of Comma = codes "comma"
-name_of Space = codes "space"
+abbrev pub delimiter_name : Delimiter → Text
+delimiter_name Tab = codes "tab"
+delimiter_name Comma = codes "comma"
+delimiter_name Space = codes "space"
 
--- an option's value is the name of this delimiter; where it is not given it is the usual one
-abbrev pub IsDelimiter : List Row → Delimiter → Type 0
-IsDelimiter rows d =
-    MatchOption (first_of (codes "delimiter") rows) (d ≡ usual_options.delimiter)
-    (λ name. name ≡ name_of d)
+-- the name of a way to make estimates
+abbrev pub estimate_name : Estimate → Text
+estimate_name Raw = codes "raw"
+estimate_name Corrected = codes "corrected"
+
+-- an option's value is the name of this one; where it is not given it is the usual one
+abbrev pub IsNamedOr : {A : Type 0} → A → (A → Text) → List Row → Text → A → Type 0
+IsNamedOr usual name_of rows id a =
+    MatchOption (first_of id rows) (a ≡ usual) (λ name. name ≡ name_of a)
 
 -- the text of a flag
 abbrev pub flag_text : Bool → Text
@@ -66,7 +78,10 @@ pub record AreOptionsOf (rows : List Row) (w : RunWords) : Type 0 where
   pub seed : IsNumberOr usual_options.seed 64 rows (codes "seed") w.options.seed
   pub parts : IsNumberOr usual_options.parts 16 rows (codes "parts") w.options.parts
   pub limit : IsNumberOr usual_options.limit 32 rows (codes "limit") w.options.limit
-  pub delimiter : IsDelimiter rows w.options.delimiter
+  pub estimate : IsNamedOr usual_options.estimate estimate_name
+      rows (codes "estimate") w.options.estimate
+  pub delimiter : IsNamedOr usual_options.delimiter delimiter_name
+      rows (codes "delimiter") w.options.delimiter
   pub counted : IsFlag rows (codes "counted") w.counted
 
 -- the subcommand is run, with these options or their defaults
@@ -75,21 +90,20 @@ IsRunOf sub w = (rows : List Row) × (sub ≡ Some (codes "run", rows)) × AreOp
 
 -- what the program's command finds wrong with the words
 pub record HasFaults (words : List Text) (kinds : List ErrorKind) : Type 0 where
-  pub are : (p : ValueParser) → TakesNames delimiter_names p →
-      fault_of (hyperball_app p) words ≡ kinds
+  pub are : (p : Parsers) → TakeNames p → fault_of (hyperball_app p) words ≡ kinds
 
 -- the words are read as those of run, with these options or their defaults
 pub record IsRun (words : List Text) (w : RunWords) : Type 0 where
   pub accepted : HasFaults words []
-  pub command : (p : ValueParser) → TakesNames delimiter_names p →
+  pub command : (p : Parsers) → TakeNames p →
       IsRunOf (subcommand_of (hyperball_app p) words) w
 
--- a parser of delimiters takes their names, and the program's command with it reads the words so
+-- parsers take their names, and the program's command with them reads the words so
 pub record ParsesTo (words : List Text) (result : Result ArgMatches Error) : Type 0 where
-  pub parser : ValueParser
-  pub takes : TakesNames delimiter_names parser
-  pub rows : IfOk result (λ m. subcommand_rows_of m ≡ subcommand_of (hyperball_app parser) words)
-  pub faults : FailsBy (fault_of (hyperball_app parser) words) result
+  pub parsers : Parsers
+  pub take : TakeNames parsers
+  pub rows : IfOk result (λ m. subcommand_rows_of m ≡ subcommand_of (hyperball_app parsers) words)
+  pub faults : FailsBy (fault_of (hyperball_app parsers) words) result
 
 -- a mistake, and no wish for help
 abbrev pub IsMistake : ErrorKind → Type 0

@@ -4,7 +4,7 @@ ghost use Rattle.std.specs.Prelude.{◌∷◌, [], codes};
 ghost use Rattle.clap.specs.declared.error.kind.ErrorKind.TheVariants.{DisplayHelp, InvalidValue};
 ghost use Rattle.clap.specs.declared.error.kind.ErrorKind.TheVariants.{UnknownArgument};
 ghost use Rattle.clap.specs.declared.error.kind.ErrorKind.TheVariants.{ValueValidation};
-ghost use Rattle.hyperball.specs.LawWords.{counted_words, log2m_words, space_words};
+ghost use Rattle.hyperball.specs.LawWords.{corrected_words, counted_words, log2m_words, space_words};
 ghost use Rattle.hyperball.specs.Words.{HasFaults, IsRun};
 
 /// These words are read as those of run; an option that is not given has its default.
@@ -15,6 +15,9 @@ pub fn words_of_a_run()
     ensures limit { IsRun
         (codes "hyperball" ∷ codes "run" ∷ codes "--delimiter=space" ∷ codes "--limit=5000" ∷ [])
         space_words }
+    ensures estimate { IsRun
+        (codes "hyperball" ∷ codes "run" ∷ codes "--estimate" ∷ codes "corrected" ∷ [])
+        corrected_words }
     ensures counted { IsRun
         (codes "hyperball" ∷ codes "run" ∷ codes "--counted" ∷ codes "--parts" ∷ codes "2" ∷ [])
         counted_words }

@@ -11,7 +11,7 @@ ghost use Rattle.hyperball.specs.Partitions.{HoldMore, job_of, with_pair, with_s
 
 use ball_model::{Plan, Verdict};
 use edgelist::Graph;
-use replica::Replica;
+use replica::{Replica, Shown};
 use std::alloc::{AllocError, Global};
 use std::sync::Arc;
 
@@ -107,12 +107,12 @@ fn close_all(replicas: &mut [Replica])
     }
 }
 
-// Replicas at the end of their run close once more, which changes nothing and gives back the memory of their indexes.
+// Replicas at the end of their run give back the memory that they need no more.
 fn settle(replicas: &mut [Replica])
-    ensures { (j : Job) → AreEnded j replicas.old → replicas.new ≡ replicas.old }
+    ensures { replicas.new ≡ replicas.old }
 {
     for replica in replicas.iter_mut() {
-        let _ = replica.close();
+        replica.give_back();
     }
 }
 

@@ -4,9 +4,9 @@ ghost use Rattle.std.specs.Prelude.{◌≡◌, ◌≢◌, Ok, Err, OnOk, OnErr, 
 ghost use Rattle.std.specs.Io.KnownBytes.{Appends, Keeps};
 ghost use Rattle.ball_model.specs.Job.{IsJob};
 ghost use Rattle.ball_model.specs.Input.{IsPlain};
-ghost use Rattle.ball_model.specs.PlanValue.{mixing_of};
+ghost use Rattle.ball_model.specs.PlanValue.{mixing_of, plan_of};
 ghost use Rattle.ball_model.specs.Report.{report_of};
-ghost use Rattle.ball_model.specs.RunText.{AreRead, IsReport};
+ghost use Rattle.ball_model.specs.RunText.{AreRead, IsReport, plan_over};
 ghost use Rattle.ball_model.specs.Streams.{Rises};
 ghost use Rattle.edgelist.specs.Counting.{RefusesList};
 ghost use Rattle.edgelist.specs.Reading.{CountsOne};
@@ -17,16 +17,13 @@ ghost use Rattle.hyperball.specs.Serial.{WherePlain, counted_by, list_in, number
 use crate::pages::Pages;
 use crate::partitions::run_to_end;
 use ball_model::plan::MOST_VERTICES;
-use ball_model::{CountedRead, CountedWrite, CountingWriter, Plan, PlanError};
-use edgelist::{CountedError, Delimiter, EdgeError, EdgeLimits, Graph, read_edges};
+use ball_model::{CountedRead, CountedWrite, CountingWriter, Estimate, Plan, PlanError};
+use edgelist::{CountedError, Delimiter, EdgeError, EdgeLimits, Graph, MOST_RECORDS, read_edges};
 use report::write_report;
 use std::alloc::{AllocError, Global};
 use std::hash::RandomState;
 use std::thread::Threads;
 use thiserror::Error;
-
-/// The most records that a run reads.
-const MOST_RECORDS: u64 = 67_108_864;
 
 /// What a run reads at most.
 const LIMITS: EdgeLimits = EdgeLimits {
@@ -45,6 +42,8 @@ pub struct SerialOptions {
     pub parts: u16,
     /// The superstep at which the run ends at the latest.
     pub limit: u32,
+    /// How the estimates of counters are made.
+    pub estimate: Estimate,
     /// What stands between the two fields of a line.
     pub delimiter: Delimiter,
 }
@@ -167,6 +166,24 @@ fn planned_text<T: AllocGlobal + Threads + Sync>(
     }
 }
 
+// The plan of a run over a graph, or the first fault of the options.
+fn plan_for(graph: &Graph, options: &SerialOptions) -> Result<Plan, PlanError>
+    ensures value { result ≡ plan_of (plan_over (numbers_in options.now) graph.now.graph) }
+    ensures job { IfOk result (λ plan. IsJob (job_of graph.now plan)) }
+{
+    let SerialOptions {
+        log2m,
+        seed,
+        parts,
+        limit,
+        ..
+    } = *options;
+    match options.estimate {
+        Estimate::Raw => graph.plan(log2m, seed, parts, limit),
+        Estimate::Corrected => graph.corrected_plan(log2m, seed, parts, limit),
+    }
+}
+
 // The text of the report of a graph.
 fn report_text<T: AllocGlobal + Threads + Sync>(
     rt: &T,
@@ -175,7 +192,7 @@ fn report_text<T: AllocGlobal + Threads + Sync>(
 ) -> Result<Pages, SerialError>
     ensures { AnswersNetwork (numbers_in options.now) graph.now result }
 {
-    let plan = graph.plan(options.log2m, options.seed, options.parts, options.limit)?;
+    let plan = plan_for(graph, options)?;
     let text = planned_text(rt, graph, &plan)?;
     Ok(text)
 }

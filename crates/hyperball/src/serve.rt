@@ -1,15 +1,18 @@
 //! From words and bytes to bytes and a status.
 
-ghost use Rattle.std.specs.Prelude.{◌≡◌, ◌≤◌, ◌⊎◌, ◌∷◌, [], List, true};
-ghost use Rattle.std.specs.Prelude.{OnErr, OnOk};
+ghost use Rattle.std.specs.Prelude.{◌≡◌, ◌≢◌, ◌≤◌, ◌⊎◌, ◌∷◌, [], List, true};
+ghost use Rattle.std.specs.Prelude.{Err, IfSome, None, OnErr, OnOk};
 ghost use Rattle.std.specs.Io.KnownBytes.{Keeps};
 ghost use Rattle.clap.specs.Words.{kind_of};
 ghost use Rattle.clap.specs.declared.error.kind.ErrorKind.TheVariants as kind;
 ghost use Rattle.clap.specs.declared.error.kind.ErrorKind.{ErrorKind as Kind};
+ghost use Rattle.ball_model.specs.Sections.{sections_of};
 ghost use Rattle.hyperball.specs.Streams.{KeptOrFailed};
 ghost use Rattle.hyperball.specs.Whole.{ReadsFew};
 ghost use Rattle.hyperball.specs.Words.{AreMistakes, HasFaults, IsMistake, IsRun, Reports, Serves};
 ghost use Rattle.hyperball.specs.Words.{listed_words, texts_of};
+ghost use Rattle.hyperball.specs.declared.serial.SerialError.{SerialError as NoReport};
+ghost use Rattle.hyperball.specs.declared.whole.WholeError.{WholeError as NoInput};
 ghost use Rattle.hyperball.specs.declared.words.RunWords.{RunWords as Run};
 
 use crate::serial::{SerialError, SerialOptions, run_serial};
@@ -139,6 +142,12 @@ fn run_sections<H: AllocGlobal + Threads + Sync, W: CountedWrite>(
 ) -> Result<(), RunFault>
     ensures done { OnOk result (Reports (listed_words options.now) input.now
         (W.contents writer.old) (W.contents writer.new)) }
+    ensures unlisted { sections_of input.now ≡ None → result ≡ Err RunFault.NoList }
+    ensures no_list { result ≡ Err RunFault.NoList → sections_of input.now ≡ None }
+    ensures listed { (f : NoReport) → result ≡ Err (RunFault.Run f) →
+        sections_of input.now ≢ None }
+    ensures random { result ≢ Err RunFault.Random }
+    ensures input { (f : NoInput) → result ≢ Err (RunFault.Input f) }
     ensures kept { OnErr result (
         KeptOrFailed W.contents W.failed_calls writer.old writer.new) }
 {
@@ -160,6 +169,11 @@ fn run_listed<H: AllocGlobal + Threads + Sync, R: CountedRead, W: CountedWrite>(
 ) -> Result<(), RunFault>
     ensures done { OnOk result (Serves (listed_words options.now) (R.remaining reader.old)
         W.contents writer.old writer.new) }
+    ensures no_list { result ≡ Err RunFault.NoList →
+        IfSome (R.remaining reader.old) (λ input. sections_of input ≡ None) }
+    ensures listed { (f : NoReport) → result ≡ Err (RunFault.Run f) →
+        IfSome (R.remaining reader.old) (λ input. sections_of input ≢ None) }
+    ensures random { result ≢ Err RunFault.Random }
     ensures few { ReadsFew (R.remaining reader.old) (R.remaining reader.new) }
     ensures kept { OnErr result (
         KeptOrFailed W.contents W.failed_calls writer.old writer.new) }

@@ -1,5 +1,6 @@
 //! What no clause says: reports of runs, printed texts, statuses, and streams that fail.
 
+mod estimates;
 mod runs;
 mod streams;
 mod words;

@@ -1,19 +1,19 @@
 //! Inputs that are read whole, and cut into sections by a line of exactly `%%`.
 
-ghost use Rattle.std.specs.Prelude.{◌≡◌, ◌≢◌, ◌<◌, ◌≤◌, if◌then◌else◌, [], length};
-ghost use Rattle.std.specs.Prelude.{Err, IfErr, IfOk, OnErr, OnOk, None, option_map};
-ghost use Rattle.ball_model.specs.Streams.{Rises};
+ghost use Rattle.std.specs.Prelude.{◌≡◌, ◌≢◌, ◌<◌, ◌≤◌, ◌+◌, ◌++◌, if◌then◌else◌, [], length};
+ghost use Rattle.std.specs.Prelude.{Err, IfErr, IfOk, OnOk, None, option_map};
+ghost use Rattle.ball_model.specs.Streams.{Rises, TakesAtMost};
 ghost use Rattle.ball_model.specs.Sections.{after_line, after_mark, sections_of};
-ghost use Rattle.hyperball.specs.Whole.{AddsPiece, IsLong, IsWhole, ReadsAtMost, ReadsFew};
+ghost use Rattle.hyperball.specs.Whole.{IsLong, IsWhole, ReadsFew, most_bytes};
 
-use ball_model::CountedRead;
+use ball_model::{CountedRead, Filled, fill};
 use std::alloc::{AllocError, Global};
 use thiserror::Error;
 
 /// The most bytes of an input that is read whole.
 const MOST: usize = 67_108_864;
 
-// How many bytes a read asks for at most.
+// How many bytes are read at once.
 const PIECE: usize = 65_536;
 
 /// Why an input is not read whole, in the order of the checks.
@@ -40,30 +40,22 @@ impl From<AllocError> for WholeError {
     }
 }
 
-// Reads a piece of at most `room` bytes behind the others, and tells how many these are: none only at the end.
-fn read_piece<R: CountedRead>(
-    reader: &mut R,
-    buffer: &mut [u8],
-    bytes: &mut Vec<u8>,
-) -> Result<usize, WholeError>
-    requires { 0 < length buffer.old }
-    ensures adds { IfOk result (λ n. AddsPiece (R.remaining reader.old) (R.remaining reader.new)
-        bytes.old.items bytes.new.items n) }
-    ensures few { OnErr result (
-        ReadsAtMost (length buffer.old) (R.remaining reader.old) (R.remaining reader.new)) }
-    ensures within { IfOk result (λ n. n ≤ length buffer.old) }
-    ensures counted { OnOk result (R.failed_calls reader.new ≡ R.failed_calls reader.old) }
-    ensures kind { IfErr result (λ e. e ≢ WholeError.Size) }
-    ensures read { result ≡ Err WholeError.Read →
-        Rises (R.failed_calls reader.old) (R.failed_calls reader.new) }
-    ensures failed { Rises (R.failed_calls reader.old) (R.failed_calls reader.new) →
-        result ≡ Err WholeError.Read }
+// Adds a piece behind the others, where they are not more than `MOST` bytes with it.
+fn add_piece(bytes: &mut Vec<u8>, piece: &[u8]) -> Result<(), WholeError>
+    requires { length bytes.old.items ≤ most_bytes }
+    ensures ok { OnOk result (bytes.new.items ≡ bytes.old.items ++ piece.now) }
+    ensures within { OnOk result (length bytes.new.items ≤ most_bytes) }
+    ensures size { result ≡ Err WholeError.Size →
+        most_bytes < length bytes.old.items + length piece.now }
+    ensures memory { result ≡ Err WholeError.Memory →
+        length bytes.old.items + length piece.now ≤ most_bytes }
+    ensures kind { IfErr result (λ e. e ≢ WholeError.Read) }
 {
-    let Some(count) = reader.get(buffer) else {
-        return Err(WholeError::Read);
-    };
-    bytes.extend_from_slice(&buffer[..count])?;
-    Ok(count)
+    if piece.len() > MOST - bytes.len() {
+        return Err(WholeError::Size);
+    }
+    bytes.extend_from_slice(piece)?;
+    Ok(())
 }
 
 // A buffer of so many bytes.
@@ -83,32 +75,39 @@ fn read_all<R: CountedRead>(
     requires start { bytes.old.items ≡ [] }
     ensures ok { OnOk result (IsWhole (R.remaining reader.old) bytes.new.items) }
     ensures size { result ≡ Err WholeError.Size → IsLong (R.remaining reader.old) }
+    ensures memory { result ≡ Err WholeError.Memory →
+        TakesAtMost most_bytes (R.remaining reader.old) (R.remaining reader.new) }
     ensures read { result ≡ Err WholeError.Read →
         Rises (R.failed_calls reader.old) (R.failed_calls reader.new) }
     ensures failed { Rises (R.failed_calls reader.old) (R.failed_calls reader.new) →
         result ≡ Err WholeError.Read }
+    ensures sure { R.sure_calls reader.old ≡ None → result ≢ Err WholeError.Read }
     ensures few { ReadsFew (R.remaining reader.old) (R.remaining reader.new) }
 {
-    while bytes.len() <= MOST {
-        let room = buffer.len().min(MOST + 1 - bytes.len());
-        if read_piece(reader, &mut buffer[..room], bytes)? == 0 {
-            return Ok(());
+    loop {
+        let room = buffer.len().min(MOST - bytes.len() + 1);
+        match fill(reader, &mut buffer[..room]) {
+            Filled::Full => add_piece(bytes, &buffer[..room])?,
+            Filled::Ended { count } => return add_piece(bytes, &buffer[..count]),
+            Filled::Failed => return Err(WholeError::Read),
         }
     }
-    Err(WholeError::Size)
 }
 
 /// Reads an input to its end, at most one byte more than 2^26.
 ///
 /// `Read` is answered where a call of the reader failed and nowhere else, `Size` only where there are more than 2^26
-/// bytes.
+/// bytes, `Memory` only where no more than 2^26 were read.
 pub fn read_whole<R: CountedRead>(alloc: Global, reader: &mut R) -> Result<Vec<u8>, WholeError>
     ensures ok { IfOk result (λ bytes. IsWhole (R.remaining reader.old) bytes.items) }
     ensures size { result ≡ Err WholeError.Size → IsLong (R.remaining reader.old) }
+    ensures memory { result ≡ Err WholeError.Memory →
+        TakesAtMost most_bytes (R.remaining reader.old) (R.remaining reader.new) }
     ensures read { result ≡ Err WholeError.Read →
         Rises (R.failed_calls reader.old) (R.failed_calls reader.new) }
     ensures failed { Rises (R.failed_calls reader.old) (R.failed_calls reader.new) →
         result ≡ Err WholeError.Read }
+    ensures sure { R.sure_calls reader.old ≡ None → result ≢ Err WholeError.Read }
     ensures few { ReadsFew (R.remaining reader.old) (R.remaining reader.new) }
 {
     let mut buffer = buffer_of(alloc, PIECE)?;

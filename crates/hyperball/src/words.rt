@@ -4,17 +4,20 @@ ghost use Rattle.std.specs.Prelude.{◌≡◌, IfOk, List, MatchOption, false, t
 ghost use Rattle.clap.specs.Words.{App, FailsBy, found_of, has_subcommand, rows_of, rule_of};
 ghost use Rattle.clap.specs.Words.{subcommand_rows_of, with_rule};
 ghost use Rattle.clap.specs.declared.error.kind.ErrorKind.{ErrorKind as Kind};
-ghost use Rattle.clap.specs.declared.builder.value_parser.ValueParser.{ValueParser as Parser};
-ghost use Rattle.hyperball.specs.CommandLine.{IsApp, TakesNames, delimiter_names, hyperball_app};
+ghost use Rattle.hyperball.specs.CommandLine.{IsApp, Parsers, TakeNames, TakesNames};
+ghost use Rattle.hyperball.specs.CommandLine.{delimiter_names, estimate_names, hyperball_app};
 ghost use Rattle.hyperball.specs.CommandLine.{flag_rule, option_rule, run_app};
 ghost use Rattle.hyperball.specs.CommandLine.{with_counters, with_input, with_numbers};
 ghost use Rattle.hyperball.specs.declared.words.RunWords.{RunWords as Run};
 ghost use Rattle.hyperball.specs.Words.{AreOptionsOf, HasFaults, IsRun, IsRunOf, ParsesTo};
-ghost use Rattle.hyperball.specs.Words.{name_of, texts_of};
+ghost use Rattle.hyperball.specs.Words.{delimiter_name, estimate_name, texts_of};
+ghost use Rattle.ball_model.specs.declared.plan.Estimate.{Estimate as Made};
+ghost use Rattle.ball_model.specs.declared.plan.Estimate.TheVariants.{Raw};
 ghost use Rattle.edgelist.specs.declared.read.Delimiter.{Delimiter as Between};
 ghost use Rattle.edgelist.specs.declared.read.Delimiter.TheVariants.{Tab};
 
 use crate::serial::SerialOptions;
+use ball_model::Estimate;
 use ball_model::plan::GREATEST_LIMIT;
 use clap::builder::ValueParser;
 use clap::{Arg, ArgAction, ArgMatches, Command, Error, value_parser};
@@ -24,12 +27,16 @@ use std::alloc::{AllocError, Global};
 /// The names that `--delimiter` takes.
 static DELIMITERS: [&str; 3] = ["tab", "comma", "space"];
 
-/// The options that are not given: counters of 256 bytes, seed 0, one partition, and the greatest limit.
+/// The names that `--estimate` takes.
+static ESTIMATES: [&str; 2] = ["raw", "corrected"];
+
+/// The options that are not given: counters of 256 bytes, seed 0, one partition, the greatest limit, and raw estimates.
 const USUAL: SerialOptions = SerialOptions {
     log2m: 8,
     seed: 0,
     parts: 1,
     limit: GREATEST_LIMIT,
+    estimate: Estimate::Raw,
     delimiter: Delimiter::Tab,
 };
 
@@ -56,7 +63,9 @@ Memory and accuracy:
   A run takes at most about 2 * 2^log2m + 180 bytes a vertex and 9 bytes an edge, and while it reads
   110 bytes a vertex and 11 bytes an edge. The relative error of a large set is about
   1.04 / sqrt(2^log2m): 26 % at 4, 6.5 % at 8, 3.3 % at 10. A set of fewer than 2.5 * 2^log2m
-  vertices is estimated too large.
+  vertices is estimated too large, the more so the smaller it is, unless --estimate corrected is
+  said: take it for figures that are to be near the true ones, and raw for those that
+  HyperLogLog's formula gives.
 
 Figures:
   Harmonic centrality 0.000000 with Lin's index 1.000000: nobody else that counts gets there.
@@ -77,6 +86,9 @@ const PARTS_HELP: &str =
 
 const LIMIT_HELP: &str =
     "Greatest superstep, 1 to 4096; a run ends sooner where nothing changes [default: 4096]";
+
+const ESTIMATE_HELP: &str =
+    "raw: far too large for small sets; corrected: near the true size for all [default: raw]";
 
 const DELIMITER_HELP: &str = "What stands between the two fields of a line [default: tab]";
 
@@ -112,6 +124,13 @@ fn flag<'a>(alloc: Global, name: &'a str, help: &'a str) -> Arg<'a>
         .long(name)
         .help(help)
         .action(ArgAction::SetTrue)
+}
+
+// One of the names of the ways to make estimates.
+fn estimates<'a>() -> ValueParser<'a>
+    ensures { TakesNames estimate_names result }
+{
+    ValueParser::Names(ESTIMATES.as_slice())
 }
 
 // One of the names of the delimiters.
@@ -165,24 +184,30 @@ fn add_input<'a>(
     command.arg(flag(alloc, "counted", COUNTED_HELP))
 }
 
-// The subcommand run, with a parser of delimiters.
-fn run_command<'a>(alloc: Global, delimiters: ValueParser<'a>) -> Result<Command<'a>, AllocError>
-    ensures { IfOk result (IsApp (run_app delimiters.entry)) }
+// The subcommand run, with parsers of estimates and of delimiters.
+fn run_command<'a>(
+    alloc: Global,
+    estimates: ValueParser<'a>,
+    delimiters: ValueParser<'a>,
+) -> Result<Command<'a>, AllocError>
+    ensures { IfOk result (IsApp (run_app
+        (record { estimates = estimates.entry; delimiters = delimiters.entry }))) }
 {
     let command = Command::new(alloc, "run")
         .about(RUN_ABOUT)
         .long_about(RUN_LONG_ABOUT)
         .after_long_help(RUN_AFTER);
     let command = add_numbers(alloc, command)?;
+    let command = add_option(alloc, command, "estimate", ESTIMATE_HELP, estimates)?;
     add_input(alloc, command, delimiters)
 }
 
 /// The program's command.
 pub fn command<'a>(alloc: Global) -> Result<Command<'a>, AllocError>
     ensures { IfOk result (λ c.
-        (p : Parser) × TakesNames delimiter_names p × IsApp (hyperball_app p) c) }
+        (p : Parsers) × TakeNames p × IsApp (hyperball_app p) c) }
 {
-    let run = run_command(alloc, delimiters())?;
+    let run = run_command(alloc, estimates(), delimiters())?;
     Command::new(alloc, "hyperball")
         .about(ABOUT)
         .subcommand_required(true)
@@ -200,12 +225,23 @@ fn parse<'a>(alloc: Global, words: &'a [String]) -> Result<ArgMatches<'a>, Error
 // The delimiter of that name; where none is given it is the usual one.
 fn delimiter_of(name: Option<&str>) -> Delimiter
     ensures { (d : Between) → MatchOption (option_map (λ name. name.now) name.entry)
-        (d ≡ Tab) (λ name. name ≡ name_of d) → result ≡ d }
+        (d ≡ Tab) (λ name. name ≡ delimiter_name d) → result ≡ d }
 {
     match name {
         Some("comma") => Delimiter::Comma,
         Some("space") => Delimiter::Space,
         _ => USUAL.delimiter,
+    }
+}
+
+// The way to make estimates of that name; where none is given it is the usual one.
+fn estimate_of(name: Option<&str>) -> Estimate
+    ensures { (e : Made) → MatchOption (option_map (λ name. name.now) name.entry)
+        (e ≡ Raw) (λ name. name ≡ estimate_name e) → result ≡ e }
+{
+    match name {
+        Some("corrected") => Estimate::Corrected,
+        _ => USUAL.estimate,
     }
 }
 
@@ -218,6 +254,7 @@ fn options_of(matches: &ArgMatches<'_>) -> RunWords
         seed: matches.get_one("seed").unwrap_or(USUAL.seed),
         parts: matches.get_one("parts").unwrap_or(USUAL.parts),
         limit: matches.get_one("limit").unwrap_or(USUAL.limit),
+        estimate: estimate_of(matches.get_str("estimate")),
         delimiter: delimiter_of(matches.get_str("delimiter")),
     };
     RunWords {

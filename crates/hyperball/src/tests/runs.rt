@@ -3,6 +3,7 @@
 use super::*;
 use crate::serial::{SerialOptions, run_serial};
 use crate::whole::sections;
+use ball_model::Estimate;
 use edgelist::Delimiter;
 use std::hash::RandomState;
 
@@ -38,7 +39,7 @@ vertex,c,10.768000,0.000000,0.000000,1.000000,16
 ";
 
 // Each is a run that writes this and nothing else.
-fn all_report<H: Abort + AllocGlobal + RandomSource + Threads + Sync>(
+pub fn all_report<H: Abort + AllocGlobal + RandomSource + Threads + Sync>(
     rt: &H,
     cases: &[Case],
 ) -> Result<(), Fail> {
@@ -226,6 +227,7 @@ const OPTIONS: SerialOptions = SerialOptions {
     seed: 0,
     parts: 3,
     limit: 1,
+    estimate: Estimate::Raw,
     delimiter: Delimiter::Comma,
 };
 

@@ -5,7 +5,7 @@ use crate::laws::{words_of_a_run, words_of_no_run};
 use crate::serial::{SerialError, SerialOptions};
 use crate::whole::WholeError;
 use crate::words::{RunWords, read_words};
-use ball_model::PlanError;
+use ball_model::{Estimate, PlanError};
 use edgelist::{CountedError, Delimiter, EdgeError};
 use std::fmt::Display;
 
@@ -103,11 +103,12 @@ fn explains(text: &str, name: &str, help: &str) -> bool {
     }
 }
 
-const HELPS: [(&str, &str); 6] = [
+const HELPS: [(&str, &str); 7] = [
     ("--log2m <", "Counters of 2^log2m bytes"),
     ("--seed <", "Seed under which"),
     ("--parts <", "Partitions that"),
     ("--limit <", "Greatest superstep"),
+    ("--estimate <", "near the true size"),
     ("--delimiter <", "What stands between"),
     ("--counted", "Count only"),
 ];
@@ -160,7 +161,7 @@ fn refuses<H: AllocGlobal + RandomSource + Threads + Sync>(
     Ok(served.status == 2 && served.output.is_empty() && served.faults.starts_with(front))
 }
 
-const MISTAKES: [(&str, &[u8]); 15] = [
+const MISTAKES: [(&str, &[u8]); 17] = [
     ("hyperball", b"error: 'hyperball' requires a subcommand"),
     (
         "hyperball replay",
@@ -185,6 +186,8 @@ const MISTAKES: [(&str, &[u8]); 15] = [
     ("hyperball run --parts 65536", b"error: "),
     ("hyperball run --limit 4294967296", b"error: "),
     ("hyperball run --seed 18446744073709551616", b"error: "),
+    ("hyperball run --estimate linear", b"error: "),
+    ("hyperball run --estimate Raw", b"error: "),
     ("hyperball run --delimiter semicolon", b"error: "),
     ("hyperball run --delimiter Tab", b"error: "),
     ("hyperball run --delimiter ,", b"error: "),
@@ -210,6 +213,7 @@ const SAID: RunWords = RunWords {
         seed: 7,
         parts: 1,
         limit: 4096,
+        estimate: Estimate::Corrected,
         delimiter: Delimiter::Space,
     },
     counted: true,
@@ -217,7 +221,10 @@ const SAID: RunWords = RunWords {
 
 #[test]
 fn words_are_read(rt: HostRuntime) -> Result<(), Fail> {
-    let read = said(&rt, "hyperball run --seed 7 --delimiter space --counted")?;
+    let read = said(
+        &rt,
+        "hyperball run --seed 7 --estimate corrected --delimiter space --counted",
+    )?;
     assert!(rt; read == SAID);
     words_of_a_run();
     words_of_no_run();

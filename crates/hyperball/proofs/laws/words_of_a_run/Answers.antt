@@ -2,7 +2,7 @@ use Rattle.std.proofs.Common.{◌≡◌, List, [], ◌∷◌, codes, refl, lit<}
 use Rattle.clap.specs.Words.{Text, fault_of, subcommand_of}
 use Rattle.clap.proofs.OnLiterals.{clap_on_literals}
 use Rattle.hyperball.specs.CommandLine.{hyperball_app, run_app}
-use Rattle.hyperball.specs.LawWords.{counted_words, log2m_words, space_words}
+use Rattle.hyperball.specs.LawWords.{corrected_words, counted_words, log2m_words, space_words}
 use Rattle.hyperball.specs.Words.{IsRunOf}
 use Rattle.hyperball.proofs.NameLemmas.{of_names}
 use Rattle.hyperball.proofs.laws.words_of_a_run.Goals as goal
@@ -13,14 +13,17 @@ log2m_line = codes "hyperball" ∷ codes "run" ∷ codes "--log2m" ∷ codes "4"
 abbrev space_line : List Text
 space_line = codes "hyperball" ∷ codes "run" ∷ codes "--delimiter=space" ∷ codes "--limit=5000" ∷ []
 
+abbrev corrected_line : List Text
+corrected_line = codes "hyperball" ∷ codes "run" ∷ codes "--estimate" ∷ codes "corrected" ∷ []
+
 abbrev counted_line : List Text
 counted_line = codes "hyperball" ∷ codes "run" ∷ codes "--counted" ∷ codes "--parts" ∷ codes "2" ∷ []
 
 pub returns-clause-log2m : goal.returns-clause-log2m
 unfolding clap_on_literals hyperball_app run_app
 returns-clause-log2m c = record {
-  accepted = record { are = of_names (λ p. fault_of (hyperball_app p) log2m_line ≡ []) (λ list a b c. refl) };
-  command = of_names (λ p. IsRunOf (subcommand_of (hyperball_app p) log2m_line) log2m_words) (λ list a b c. (
+  accepted = record { are = of_names (λ p. fault_of (hyperball_app p) log2m_line ≡ []) (λ at. refl) };
+  command = of_names (λ p. IsRunOf (subcommand_of (hyperball_app p) log2m_line) log2m_words) (λ at. (
     _,
     refl,
     record {
@@ -28,6 +31,7 @@ returns-clause-log2m c = record {
       seed = refl;
       parts = refl;
       limit = refl;
+      estimate = refl;
       delimiter = refl;
       counted = refl;
     },
@@ -37,8 +41,8 @@ returns-clause-log2m c = record {
 pub returns-clause-limit : goal.returns-clause-limit
 unfolding clap_on_literals hyperball_app run_app
 returns-clause-limit c = record {
-  accepted = record { are = of_names (λ p. fault_of (hyperball_app p) space_line ≡ []) (λ list a b c. refl) };
-  command = of_names (λ p. IsRunOf (subcommand_of (hyperball_app p) space_line) space_words) (λ list a b c. (
+  accepted = record { are = of_names (λ p. fault_of (hyperball_app p) space_line ≡ []) (λ at. refl) };
+  command = of_names (λ p. IsRunOf (subcommand_of (hyperball_app p) space_line) space_words) (λ at. (
     _,
     refl,
     record {
@@ -46,6 +50,26 @@ returns-clause-limit c = record {
       seed = refl;
       parts = refl;
       limit = record { numeral = (lit< tt, (lit< tt, (lit< tt, (lit< tt, (lit< tt, tt))))); value = refl; fits = lit< tt };
+      estimate = refl;
+      delimiter = refl;
+      counted = refl;
+    },
+  ));
+}
+
+pub returns-clause-estimate : goal.returns-clause-estimate
+unfolding clap_on_literals hyperball_app run_app
+returns-clause-estimate c = record {
+  accepted = record { are = of_names (λ p. fault_of (hyperball_app p) corrected_line ≡ []) (λ at. refl) };
+  command = of_names (λ p. IsRunOf (subcommand_of (hyperball_app p) corrected_line) corrected_words) (λ at. (
+    _,
+    refl,
+    record {
+      log2m = refl;
+      seed = refl;
+      parts = refl;
+      limit = refl;
+      estimate = refl;
       delimiter = refl;
       counted = refl;
     },
@@ -55,8 +79,8 @@ returns-clause-limit c = record {
 pub returns-clause-counted : goal.returns-clause-counted
 unfolding clap_on_literals hyperball_app run_app
 returns-clause-counted c = record {
-  accepted = record { are = of_names (λ p. fault_of (hyperball_app p) counted_line ≡ []) (λ list a b c. refl) };
-  command = of_names (λ p. IsRunOf (subcommand_of (hyperball_app p) counted_line) counted_words) (λ list a b c. (
+  accepted = record { are = of_names (λ p. fault_of (hyperball_app p) counted_line ≡ []) (λ at. refl) };
+  command = of_names (λ p. IsRunOf (subcommand_of (hyperball_app p) counted_line) counted_words) (λ at. (
     _,
     refl,
     record {
@@ -64,6 +88,7 @@ returns-clause-counted c = record {
       seed = refl;
       parts = record { numeral = (lit< tt, (lit< tt, tt)); value = refl; fits = lit< tt };
       limit = refl;
+      estimate = refl;
       delimiter = refl;
       counted = refl;
     },

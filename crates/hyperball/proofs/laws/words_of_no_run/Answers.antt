@@ -8,16 +8,16 @@ use Rattle.hyperball.proofs.laws.words_of_no_run.Goals as goal
 
 pub returns-clause-help : goal.returns-clause-help
 unfolding clap_on_literals hyperball_app run_app
-returns-clause-help c = record { are = of_names (λ p. fault_of (hyperball_app p) (codes "hyperball" ∷ codes "run" ∷ codes "--help" ∷ []) ≡ DisplayHelp ∷ []) (λ list a b c. refl) }
+returns-clause-help c = record { are = of_names (λ p. fault_of (hyperball_app p) (codes "hyperball" ∷ codes "run" ∷ codes "--help" ∷ []) ≡ DisplayHelp ∷ []) (λ at. refl) }
 
 pub returns-clause-unknown : goal.returns-clause-unknown
 unfolding clap_on_literals hyperball_app run_app
-returns-clause-unknown c = record { are = of_names (λ p. fault_of (hyperball_app p) (codes "hyperball" ∷ codes "run" ∷ codes "--replicas" ∷ codes "2" ∷ []) ≡ UnknownArgument ∷ []) (λ list a b c. refl) }
+returns-clause-unknown c = record { are = of_names (λ p. fault_of (hyperball_app p) (codes "hyperball" ∷ codes "run" ∷ codes "--replicas" ∷ codes "2" ∷ []) ≡ UnknownArgument ∷ []) (λ at. refl) }
 
 pub returns-clause-number : goal.returns-clause-number
 unfolding clap_on_literals hyperball_app run_app
-returns-clause-number c = record { are = of_names (λ p. fault_of (hyperball_app p) (codes "hyperball" ∷ codes "run" ∷ codes "--log2m" ∷ codes "300" ∷ []) ≡ ValueValidation ∷ []) (λ list a b c. refl) }
+returns-clause-number c = record { are = of_names (λ p. fault_of (hyperball_app p) (codes "hyperball" ∷ codes "run" ∷ codes "--log2m" ∷ codes "300" ∷ []) ≡ ValueValidation ∷ []) (λ at. refl) }
 
 pub returns-clause-name : goal.returns-clause-name
 unfolding clap_on_literals hyperball_app run_app
-returns-clause-name c = record { are = of_names (λ p. fault_of (hyperball_app p) (codes "hyperball" ∷ codes "run" ∷ codes "--delimiter" ∷ codes "semicolon" ∷ []) ≡ InvalidValue ∷ []) (λ list a b c. refl) }
+returns-clause-name c = record { are = of_names (λ p. fault_of (hyperball_app p) (codes "hyperball" ∷ codes "run" ∷ codes "--delimiter" ∷ codes "semicolon" ∷ []) ≡ InvalidValue ∷ []) (λ at. refl) }

@@ -36,5 +36,5 @@ returns c = record {
   end = λ j t at.
       let h : AreHeld j c.loop-alloc.replicas = c.loop-alloc.invariant j t (c.in_ok-exchange.ensures.level j t at) in
       let ended : AreEnded j c.loop-alloc.replicas = record { superstep = h.superstep; level = h.level; over = c.goes_on.ensures.over c.loop-alloc-test.false j h.superstep h.level } in
-      subst (λ (rs : List State). AreEnded j rs) (sym (c.settle.ensures j ended)) ended;
+      subst (λ (rs : List State). AreEnded j rs) (sym c.settle.ensures) ended;
 }

@@ -1,12 +1,15 @@
-use Rattle.std.proofs.Common.{◌≡◌, ◌+◌, ◌-◌, length}
+use Rattle.std.proofs.Common.{◌≡◌, ◌+◌, ◌-◌, length, None}
 use Rattle.hyperball.specs.Whole.{most_bytes}
 use Rattle.hyperball.proofs.WholeLemmas.{HasRead}
 use Rattle.hyperball.proofs.whole.read_all.Given as goal
 
+-- the bytes so far are what was read, and no call has failed
 abbrev pub invariant-loop-bytes : goal.invariant-loop-bytes
 invariant-loop-bytes g l = record {
   read : HasRead (g.R.Read.remaining l.initial.reader) (g.R.Read.remaining l.reader) l.bytes.items;
+  size : length l.buffer ≡ length l.initial.buffer;
   failed : g.R.CountedRead.failed_calls l.reader ≡ g.R.CountedRead.failed_calls l.initial.reader;
+  sure : g.R.CountedRead.sure_calls l.initial.reader ≡ None → g.R.CountedRead.sure_calls l.reader ≡ None;
 }
 
 abbrev pub decreases-loop-bytes : goal.decreases-loop-bytes

@@ -12,8 +12,8 @@ returns c =
     let start : (fields_of c.subcommand_required.result).has_globals ≡ false = search rules in
     let or : Bool → Bool → Bool = λ a b. a || b in
     IfOk-weaker c.subcommand.result _ _ (λ m h. (
-      c.delimiters.result,
-      c.delimiters.ensures,
+      record { estimates = c.estimates.result; delimiters = c.delimiters.result },
+      (c.estimates.ensures, c.delimiters.ensures),
       record {
         form = h.shape c.in_ok-run.ensures.local ∙ ap₂ with_subcommand required (ap (λ (a : App). a.top) c.in_ok-run.ensures.form);
         local = h.globals ∙ ap₂ or start c.in_ok-run.ensures.local;

@@ -1,26 +1,25 @@
 use Rattle.std.proofs.Common.{◌≡◌, ◌∙◌, ap, refl, rules, true, subst}
 use Rattle.std.proofs.lemmas.Result.{IfOk-weaker}
 use Rattle.clap.specs.Words.{App, is_simple, is_simple_and_free, subcommand_of, FailsBy, fault_of}
-use Rattle.clap.specs.declared.builder.value_parser.ValueParser.{ValueParser}
 use Rattle.clap.proofs.CallerLemmas.{subcommand_required}
 use Rattle.clap.proofs.OnLiterals.{clap_on_literals}
-use Rattle.hyperball.specs.CommandLine.{TakesNames, delimiter_names, hyperball_app, run_app}
+use Rattle.hyperball.specs.CommandLine.{Parsers, TakeNames, hyperball_app, run_app}
 use Rattle.hyperball.specs.Words.{texts_of}
-use Rattle.hyperball.proofs.NameLemmas.{names_at, of_names}
+use Rattle.hyperball.proofs.NameLemmas.{of_names, parsers_at}
 use Rattle.hyperball.proofs.words.parse.Goals as goal
 
-simple : (p : ValueParser) → TakesNames delimiter_names p → is_simple (hyperball_app p) ≡ true
+simple : (p : Parsers) → TakeNames p → is_simple (hyperball_app p) ≡ true
 unfolding clap_on_literals hyperball_app run_app
-simple = of_names (λ p. is_simple (hyperball_app p) ≡ true) (λ list a b c. refl)
+simple = of_names (λ p. is_simple (hyperball_app p) ≡ true) (λ at. refl)
 
-free : (p : ValueParser) → TakesNames delimiter_names p → is_simple_and_free (hyperball_app p) ≡ true
+free : (p : Parsers) → TakeNames p → is_simple_and_free (hyperball_app p) ≡ true
 unfolding clap_on_literals hyperball_app run_app
-free = of_names (λ p. is_simple_and_free (hyperball_app p) ≡ true) (λ list a b c. refl)
+free = of_names (λ p. is_simple_and_free (hyperball_app p) ≡ true) (λ at. refl)
 
 pub returns-in_err-command-clause-read : goal.returns-in_err-command-clause-read
 returns-in_err-command-clause-read c = record {
-  parser = names_at (0, 0) (0, 0) (0, 0) (0, 0);
-  takes = refl;
+  parsers = parsers_at (record { estimates = (0, 0); raw = (0, 0); corrected = (0, 0); delimiters = (0, 0); tab = (0, 0); comma = (0, 0); space = (0, 0) });
+  take = (refl, refl);
   rows = search rules;
   faults = search rules;
 }
@@ -28,14 +27,14 @@ returns-in_err-command-clause-read c = record {
 pub returns-clause-read : goal.returns-clause-read
 returns-clause-read c =
     let p = c.in_ok-command.ensures.0 in
-    let takes = c.in_ok-command.ensures.1 in
+    let take = c.in_ok-command.ensures.1 in
     let app = c.in_ok-command.ensures.2.form in
     let parse = c.try_get_matches_from in
     record {
-      parser = p;
-      takes = takes;
-      rows = IfOk-weaker parse.result _ _ (λ m h. (h (ap is_simple app ∙ simple p takes)).1 ∙ ap (λ (a : App). subcommand_of a (texts_of c.args.words.now)) app) parse.ensures.matches;
-      faults = subst (λ (a : App). FailsBy (fault_of a (texts_of c.args.words.now)) parse.result) app (parse.ensures.kinds (ap is_simple_and_free app ∙ free p takes));
+      parsers = p;
+      take = take;
+      rows = IfOk-weaker parse.result _ _ (λ m h. (h (ap is_simple app ∙ simple p take)).1 ∙ ap (λ (a : App). subcommand_of a (texts_of c.args.words.now)) app) parse.ensures.matches;
+      faults = subst (λ (a : App). FailsBy (fault_of a (texts_of c.args.words.now)) parse.result) app (parse.ensures.kinds (ap is_simple_and_free app ∙ free p take));
     }
 
 pub returns-clause-subcommand : goal.returns-clause-subcommand
