@@ -1,15 +1,14 @@
 #!/usr/bin/env python3
-"""Measures how near the figures are: exact ones by igraph against those of ./hyperball run.
+"""Measures how near the figures are: exact ones against those of ./hyperball run, raw and corrected.
 
-Usage: bench/accuracy.py        prints the table of docs/ACCURACY.md (about two minutes)
+Usage: bench/accuracy.py        prints the tables of docs/ACCURACY.md (some minutes)
        bench/accuracy.py time   prints igraph's time for exact harmonic centrality beside ours, on 30,000 pages
 
-Three seeded graphs, log2m 4 to 10, 20 seeds each. The relative error of a figure of a vertex is |estimate - exact| / exact.
-A line has its mean and its 95th percentile, for the size of the reachable set and for harmonic centrality, over the seeds and
-the vertices in range: those that at least 2.5 * 2^log2m vertices can reach (smaller counters are overestimated, since the
-estimate has no correction for them). Then the two means over all vertices with an exact figure above 0, and how many of the
-ten vertices of greatest exact harmonic centrality stand among the ten of greatest estimate, on average over the seeds.
-It wants igraph (on Debian: apt-get install python3-igraph).
+Four graphs, log2m 4 to 10, 20 seeds each, both estimates. The relative error of a figure is |estimate - exact| / exact, on
+average over the seeds; of a figure of vertices it is also the average over all vertices where the exact one is above 0. The
+last columns tell how many of the program's ten greatest are among the exact ten greatest (a vertex that is as great as the
+tenth counts), on average over the seeds. Exact figures are those of balls as sets. HYPERBALL names another program.
+`time` wants igraph (on Debian: apt-get install python3-igraph).
 """
 import csv
 import os
@@ -20,7 +19,7 @@ import tempfile
 import time
 
 HERE = os.path.dirname(os.path.abspath(__file__))
-PROGRAM = os.path.join(HERE, "..", "hyperball")
+PROGRAM = os.environ.get("HYPERBALL", os.path.join(HERE, "..", "hyperball"))
 SEEDS = 20
 
 
@@ -29,91 +28,144 @@ def generated(kind, records, seed):
     return [tuple(line.split("\t")) for line in text.decode().splitlines()]
 
 
-def even(vertices, records, seed):
+def ring(vertices, records, seed):
+    """A ring, and other edges that are drawn evenly: everybody reaches everybody."""
     draw = random.Random(seed)
-    return [(str(draw.randrange(vertices)), str(draw.randrange(vertices))) for _ in range(records)]
+    edges = [(str(v), str((v + 1) % vertices)) for v in range(vertices)]
+    return edges + [(str(draw.randrange(vertices)), str(draw.randrange(vertices))) for _ in range(records - vertices)]
 
 
-def exact(edges):
-    """For each label, how many vertices can reach it (itself too), and the sum of 1/distance over them."""
-    import igraph
+def groups(count, seed):
+    """Groups of 3 to 12, each member with edges to two others of its group: no path leads from one group to another."""
+    draw = random.Random(seed)
+    edges = []
+    for group in range(count):
+        members = [f"{group}.{i}" for i in range(draw.randint(3, 12))]
+        edges += [(member, other) for member in members for other in draw.sample(members, 2) if member != other]
+    return edges
 
-    labels = list(dict.fromkeys(label for edge in edges for label in edge))
+
+def listed(name):
+    """The edges and lone vertices of an edge list in examples/."""
+    with open(os.path.join(HERE, "..", "examples", name)) as lines:
+        return [tuple(line.rstrip("\n").split("\t")) for line in lines if line.strip() and not line.startswith("#")]
+
+
+def exact(records):
+    """The neighbourhood function, and of each label the four figures."""
+    labels = list(dict.fromkeys(label for record in records for label in record))
     number = {label: i for i, label in enumerate(labels)}
-    graph = igraph.Graph(len(labels), sorted({(number[a], number[b]) for a, b in edges}), directed=True)
+    preds = [set() for _ in labels]
+    for record in records:
+        if len(record) == 2:
+            preds[number[record[1]]].add(number[record[0]])
+    balls = [1 << v for v in range(len(labels))]
+    sizes = [[1] * len(labels)]
+    while True:
+        after = []
+        for ball, sources in zip(balls, preds):
+            for source in sources:
+                ball |= balls[source]
+            after.append(ball)
+        if after == balls:
+            break
+        balls = after
+        sizes.append([bin(ball).count("1") for ball in balls])
     figures = {}
     for v, label in enumerate(labels):
-        distances = [d for d in graph.distances(source=[v], mode="in")[0] if d != float("inf")]
-        figures[label] = (len(distances), sum(1 / d for d in distances if d > 0))
-    return figures
+        gains = [(t, sizes[t][v] - sizes[t - 1][v]) for t in range(1, len(sizes))]
+        reach, distance = sizes[-1][v], sum(t * gain for t, gain in gains)
+        harmonic = sum(gain / t for t, gain in gains)
+        figures[label] = (reach, harmonic, 1 / distance if distance else 0, reach * reach / distance if distance else 1)
+    return [sum(row) for row in sizes], figures
 
 
-def estimated(path, log2m, seed):
-    """For each label, the same two figures as the program gives them."""
+def estimated(path, words):
+    """The same as the program gives them."""
     with open(path, "rb") as edges:
-        report = subprocess.run([PROGRAM, "run", "--log2m", str(log2m), "--seed", str(seed)], stdin=edges, stdout=subprocess.PIPE, check=True).stdout
-    rows = csv.reader(report.decode().splitlines())
-    return {row[1]: (float(row[2]), float(row[3])) for row in rows if row[0] == "vertex"}
+        report = subprocess.run([PROGRAM, "run", *words], stdin=edges, stdout=subprocess.PIPE, check=True).stdout
+    totals, figures = [], {}
+    for row in csv.reader(report.decode().splitlines()):
+        if row[0] == "superstep":
+            totals.append(float(row[2]))
+        elif row[0] == "vertex":
+            figures[row[1]] = tuple(float(field) for field in row[2:6])
+    return totals, figures
 
 
-def top(figures):
-    return set(sorted(figures, key=lambda label: -figures[label][1])[:10])
+def diameter(totals):
+    """The effective diameter: within it lie nine tenths of all reachable pairs. 0 where N(0) is as much already."""
+    most = 0.9 * totals[-1]
+    t = next(t for t, total in enumerate(totals) if total >= most)
+    return t - 1 + (most - totals[t - 1]) / (totals[t] - totals[t - 1]) if t else 0
 
 
-def errors(true, found, which, least):
-    """The relative errors of one figure, of the vertices that at least so many can reach."""
-    chosen = [label for label in true if true[label][0] >= least and true[label][which] > 0]
-    return [abs(found[label][which] - true[label][which]) / true[label][which] for label in chosen]
+def error(found, true):
+    return abs(found - true) / true
 
 
 def mean(values):
-    return f"{100 * sum(values) / len(values):.1f} %" if values else "-"
+    return sum(values) / len(values)
 
 
-def summary(values):
-    values.sort()
-    return f"{mean(values)} | {100 * values[int(0.95 * (len(values) - 1))]:.1f} %" if values else "- | -"
+def percent(value):
+    return f"{100 * value:,.1f} %" if value < 10 else f"{100 * value:,.0f} %"
 
 
-def table():
+def found_of_ten(true, found, which):
+    """How many of the ten greatest that were found are as great as the true tenth."""
+    least = sorted((figures[which] for figures in true.values()), reverse=True)[:10][-1]
+    chosen = sorted(found, key=lambda label: -found[label][which])[:10]
+    return sum(true[label][which] >= least for label in chosen)
+
+
+def measures(totals, true, path, log2m, kind):
+    """The errors and counts of one seed after another."""
+    for seed in range(SEEDS):
+        said, found = estimated(path, ["--log2m", str(log2m), "--seed", str(seed), "--estimate", kind])
+        yield (
+            error(said[0], totals[0]),
+            error(said[1], totals[1]),
+            *(mean([error(found[label][i], true[label][i]) for label in true if true[label][i] > 0]) for i in range(4)),
+            error(diameter(said), diameter(totals)),
+            *(found_of_ten(true, found, i) for i in (1, 2, 3)),
+        )
+
+
+def line(totals, true, path, log2m, kind):
+    """A line of a table."""
+    means = [mean(column) for column in zip(*measures(totals, true, path, log2m, kind))]
+    cells = [percent(value) for value in means[:7]] + [f"{value:.1f}" for value in means[7:]]
+    return f"| {log2m} | {kind} | " + " | ".join(cells) + " |"
+
+
+def tables():
     graphs = [
-        ("even: 1,000 vertices, 4,000 random edges", even(1000, 4000, 1)),
+        ("strongly connected: a ring of 1,000 vertices, and 3,000 random edges", ring(1000, 4000, 1)),
         ("power-law: 20,000 records", generated("power-law", 20000, 1)),
-        ("web: 40,000 records", generated("web", 40000, 1)),
+        ("many small components: 400 groups of 3 to 12", groups(400, 1)),
+        ("the club of `examples/`", listed("club.tsv")),
     ]
-    for name, edges in graphs:
-        true = exact(edges)
-        reach = sum(size for size, _ in true.values()) / len(true)
-        print(f"\n**{name}** ({len(true):,} vertices, each reached by {reach:,.0f} on average)\n")
-        print("| log2m | in range | reachable: mean | 95th percentile | harmonic: mean | 95th percentile | all: reachable | all: harmonic | of the top 10 |")
-        print("|---|---|---|---|---|---|---|---|---|")
+    for name, records in graphs:
+        totals, true = exact(records)
+        print(f"\n**{name}** ({len(true):,} vertices, each reached by {totals[-1] / len(true):,.1f} on average; effective diameter {diameter(totals):.2f})\n")
+        print("| log2m | estimate | N(0) | N(1) | reachable | harmonic | closeness | Lin | effective diameter | top 10: harmonic | closeness | Lin |")
+        print("|---|---|---|---|---|---|---|---|---|---|---|---|")
         with tempfile.NamedTemporaryFile("w") as file:
-            file.writelines(f"{a}\t{b}\n" for a, b in edges)
+            file.writelines("\t".join(record) + "\n" for record in records)
             file.flush()
             for log2m in range(4, 11):
-                print(line(true, file.name, log2m), flush=True)
-
-
-def line(true, path, log2m):
-    """A line of the table: the errors at one log2m over all seeds."""
-    least = 2.5 * 2**log2m
-    inside = 100 * sum(size >= least for size, _ in true.values()) / len(true)
-    reached, harmonic, all_reached, all_harmonic, found = [], [], [], [], 0
-    for seed in range(SEEDS):
-        figures = estimated(path, log2m, seed)
-        reached += errors(true, figures, 0, least)
-        harmonic += errors(true, figures, 1, least)
-        all_reached += errors(true, figures, 0, 0)
-        all_harmonic += errors(true, figures, 1, 0)
-        found += len(top(true) & top(figures))
-    return f"| {log2m} | {inside:.0f} % | {summary(reached)} | {summary(harmonic)} | {mean(all_reached)} | {mean(all_harmonic)} | {found / SEEDS:.1f} |"
+                for kind in ("raw", "corrected"):
+                    print(line(totals, true, file.name, log2m, kind), flush=True)
 
 
 def times():
+    try:
+        import igraph
+    except ImportError:
+        sys.exit("accuracy.py: igraph is not there; on Debian: apt-get install python3-igraph")
     edges = generated("web", 300000, 1)
     started = time.monotonic()
-    import igraph
-
     labels = list(dict.fromkeys(label for edge in edges for label in edge))
     number = {label: i for i, label in enumerate(labels)}
     graph = igraph.Graph(len(labels), sorted({(number[a], number[b]) for a, b in edges}), directed=True)
@@ -124,18 +176,14 @@ def times():
         file.flush()
         for log2m in (4, 8, 10):
             started = time.monotonic()
-            estimated(file.name, log2m, 0)
+            estimated(file.name, ["--log2m", str(log2m)])
             print(f"hyperball run --log2m {log2m}: {time.monotonic() - started:.1f} s")
 
 
 def main():
     if sys.argv[1:] not in ([], ["time"]):
         sys.exit(__doc__)
-    try:
-        import igraph  # noqa: F401
-    except ImportError:
-        sys.exit("accuracy.py: igraph is not there; on Debian: apt-get install python3-igraph")
-    times() if sys.argv[1:] else table()
+    times() if sys.argv[1:] else tables()
 
 
 main()
