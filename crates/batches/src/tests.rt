@@ -1,4 +1,4 @@
-ghost use Rattle.std.specs.Prelude.{◌≡◌, ◌∷◌, [], length, IfOk};
+ghost use Rattle.std.specs.Prelude.{◌≡◌, ◌∷◌, [], false, length, IfOk};
 ghost use Rattle.ball_model.specs.Batches.{ids_of};
 
 use super::*;
@@ -38,8 +38,15 @@ const BYTES: [u8; 74] = [
 
 /// A plan of three vertices in two partitions.
 fn plan(job: [u8; 32]) -> Result<Plan, PlanError>
-    ensures { IfOk result (λ p. p
-        ≡ record { log2m = 4; seed = 0; parts = 2; limit = 4096; vertices = 3; corrected = false; job = job }) }
+    ensures { IfOk result (λ p. p ≡ record {
+      log2m = 4;
+      seed = 0;
+      parts = 2;
+      limit = 4096;
+      vertices = 3;
+      corrected = false;
+      job = job;
+    }) }
 {
     Plan::new(4, 0, 2, 4096, 3, job)
 }
