@@ -62,7 +62,8 @@ unfoldable pub held_bytes : State → List ℕ
 held_bytes v =
     to_be_bytes w64 (mask_of v.heard) ++ (mark_byte v.heard_change ∷ [])
     ++ flat_map (λ row. row) v.accumulated
-    ++ to_be_bytes w16 (length (kept_batches v.early)) ++ flat_map early_bytes (kept_batches v.early)
+    ++ to_be_bytes w16 (length (kept_batches v.early))
+    ++ flat_map early_bytes (kept_batches v.early)
 
 -- bytes, and behind them their SHA-256
 abbrev pub sealed : List ℕ → List ℕ

@@ -86,7 +86,8 @@ unfoldable pub check_at : PlanValue → List ℕ → Result Header BatchError
 check_at plan bytes =
     if nat_lt (length bytes) HEADER_LEN then Err errors.Short else do
       head ← check_head plan (head_at bytes)
-      whole ← check_length ((head_at bytes).count * (4 + 2 ^ plan.log2m)) (length bytes - HEADER_LEN)
+      whole ← check_length
+          ((head_at bytes).count * (4 + 2 ^ plan.log2m)) (length bytes - HEADER_LEN)
       rows ← check_rows plan (head_at bytes).name.source 0
           (first_rows (2 ^ plan.log2m) (head_at bytes).count (drop HEADER_LEN bytes))
       Ok (head_at bytes)

@@ -80,7 +80,8 @@ fn check_front(plan: &Plan, source: u16, least: u32, bytes: &[u8]) -> Result<u32
 /// The first fault of the rows, row by row.
 pub fn check_body(plan: &Plan, source: u16, count: u32, body: &[u8]) -> Result<(), BatchError>
     requires { count * (4 + 2 ^ plan.now.log2m) ≤ length body.now }
-    ensures { result ≡ check_rows plan.now source 0 (first_rows (2 ^ plan.now.log2m) count body.now) }
+    ensures { result ≡
+        check_rows plan.now source 0 (first_rows (2 ^ plan.now.log2m) count body.now) }
 {
     let size = ID_LEN + plan.width();
     let mut least = 0;

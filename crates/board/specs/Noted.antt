@@ -41,7 +41,8 @@ abbrev pub is_dropped : Object → ℕ → BatchName → Bool
 is_dropped o s name = o.stands name && nat_lt name.superstep s
 
 -- these are the true batches of the names that stood and are of supersteps below s
-abbrev pub AreDropped : {A : Type 0} → (A → BatchValue) → ℕ → History → (BatchName → Option A) → Type 0
+abbrev pub AreDropped : {A : Type 0} → (A → BatchValue) → ℕ → History →
+    (BatchName → Option A) → Type 0
 AreDropped value s old find = (name : BatchName) →
     MatchOption (find name) (is_dropped (board_of old) s name ≡ false)
     (λ a. (is_dropped (board_of old) s name ≡ true) × (value a ≡ true_batch old.job name))

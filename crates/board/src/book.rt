@@ -254,7 +254,8 @@ fn put_snapshot(
     ensures reply { result.0 ≡ reply_in arc_value kept.old.items snapshot }
     ensures put { kept.new.items ≡ kept_after arc_value result.0 kept.old.items snapshot }
     ensures displaced { option_map (λ a. holding_in (arc_value a)) result.1
-        ≡ displaced_by result.0 (held_at arc_value kept.old.items (arc_value snapshot).part.number) }
+        ≡ displaced_by result.0
+        (held_at arc_value kept.old.items (arc_value snapshot).part.number) }
 {
     let place = usize::from(snapshot.partition());
     if !is_ahead(&kept[place], &snapshot) {

@@ -215,7 +215,8 @@ fn add_superstep(
     requires snapshots { All (λ a. Stands (job_of graph.now.graph plan.now) (arc_value a))
         stock.old.snapshots.items }
     ensures batches { OnSome result (All
-        (λ a. IsTrueBatch (job_of graph.now.graph plan.now) (arc_value a)) stock.new.batches.items) }
+        (λ a. IsTrueBatch (job_of graph.now.graph plan.now) (arc_value a))
+        stock.new.batches.items) }
     ensures snapshots { OnSome result (All
         (λ a. Stands (job_of graph.now.graph plan.now) (arc_value a)) stock.new.snapshots.items) }
     ensures unchanged { first.new ≡ first.old }
@@ -241,7 +242,8 @@ fn add_four_supersteps(
     requires snapshots { All (λ a. Stands (job_of graph.now.graph plan.now) (arc_value a))
         stock.old.snapshots.items }
     ensures batches { OnSome result (All
-        (λ a. IsTrueBatch (job_of graph.now.graph plan.now) (arc_value a)) stock.new.batches.items) }
+        (λ a. IsTrueBatch (job_of graph.now.graph plan.now) (arc_value a))
+        stock.new.batches.items) }
     ensures snapshots { OnSome result (All
         (λ a. Stands (job_of graph.now.graph plan.now) (arc_value a)) stock.new.snapshots.items) }
 {
@@ -269,7 +271,8 @@ fn add_by(
     requires snapshots { All (λ a. Stands (job_of graph.now.graph plan.now) (arc_value a))
         stock.old.snapshots.items }
     ensures batches { OnSome result (All
-        (λ a. IsTrueBatch (job_of graph.now.graph plan.now) (arc_value a)) stock.new.batches.items) }
+        (λ a. IsTrueBatch (job_of graph.now.graph plan.now) (arc_value a))
+        stock.new.batches.items) }
     ensures snapshots { OnSome result (All
         (λ a. Stands (job_of graph.now.graph plan.now) (arc_value a)) stock.new.snapshots.items) }
 {
@@ -285,7 +288,8 @@ fn fill(alloc: Global, graph: &Graph, plan: &Plan, stock: &mut Stock) -> Option<
     requires snapshots { All (λ a. Stands (job_of graph.now.graph plan.now) (arc_value a))
         stock.old.snapshots.items }
     ensures batches { OnSome result (All
-        (λ a. IsTrueBatch (job_of graph.now.graph plan.now) (arc_value a)) stock.new.batches.items) }
+        (λ a. IsTrueBatch (job_of graph.now.graph plan.now) (arc_value a))
+        stock.new.batches.items) }
     ensures snapshots { OnSome result (All
         (λ a. Stands (job_of graph.now.graph plan.now) (arc_value a)) stock.new.snapshots.items) }
 {
@@ -297,7 +301,8 @@ fn fill(alloc: Global, graph: &Graph, plan: &Plan, stock: &mut Stock) -> Option<
 fn stock_of(alloc: Global, graph: &Graph, plan: &Plan) -> Option<Stock>
     requires { IsJob (job_of graph.now.graph plan.now) }
     ensures batches { IfSome result
-        (λ s. All (λ a. IsTrueBatch (job_of graph.now.graph plan.now) (arc_value a)) s.batches.items) }
+        (λ s. All (λ a. IsTrueBatch (job_of graph.now.graph plan.now) (arc_value a))
+        s.batches.items) }
     ensures snapshots { IfSome result
         (λ s. All (λ a. Stands (job_of graph.now.graph plan.now) (arc_value a)) s.snapshots.items) }
 {

@@ -52,4 +52,5 @@ SaysMarks labels records marks = (network : Network) → network.labels ≡ labe
 -- of every network with these labels the records say this error
 abbrev pub SaysRefusal : List (List ℕ) → List (List (List ℕ)) → CountedError → Type 0
 SaysRefusal labels records error =
-    (network : Network) → network.labels ≡ labels → RefusesList (counted_network_from network records) error
+    (network : Network) → network.labels ≡ labels →
+    RefusesList (counted_network_from network records) error

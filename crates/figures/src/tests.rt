@@ -273,6 +273,42 @@ fn figures_of_vertices(rt: HostRuntime) -> Result<(), Fail> {
     Ok(())
 }
 
+// Whether these are the last estimates of three rows, raw or corrected.
+fn are_lasts(rows: &Rows, is_corrected: bool, lasts: [u64; 3]) -> bool
+    requires count { length rows.now.rows ≡ 3 }
+    requires width { rows.now.width ≡ 16 }
+    requires ranks { All (λ row. All (λ r. r ≤ 33) row) rows.now.rows }
+{
+    let tallies = [
+        Tally::start(lasts[0]),
+        Tally::start(lasts[1]),
+        Tally::start(lasts[2]),
+    ];
+    are_last(4, is_corrected, rows, &tallies)
+}
+
+// Whether raw and corrected estimates are those of rows of no, one and two registers above 0, one of them is when it is
+// one too many, and raw ones are corrected ones.
+fn lasts_of_three<H: AllocGlobal>(rt: &H) -> Result<[bool; 4], Fail> {
+    let mut rows = Rows::fixed(rt.alloc(), 3, 16)?;
+    rows.raise_one(1, 14, 3);
+    rows.raise_one(2, 0, 2);
+    rows.raise_one(2, 6, 1);
+    Ok([
+        are_lasts(&rows, false, [10_768_000, 11_390_942, 11_680_542]),
+        are_lasts(&rows, true, [0, 1_000_000, 2_066_666]),
+        are_lasts(&rows, false, [10_768_000, 11_390_942, 11_680_543]),
+        are_lasts(&rows, true, [10_768_000, 11_390_942, 11_680_542]),
+    ])
+}
+
+#[test]
+fn lasts_of_rows(rt: HostRuntime) -> Result<(), Fail> {
+    let told = lasts_of_three(&rt)?;
+    assert_eq!(rt; told, [true, true, false, false]);
+    Ok(())
+}
+
 // How many figures no vertices have.
 fn count_of_none<H: AllocGlobal + Threads + Sync>(rt: &H) -> Result<usize, Fail> {
     let rows = Rows::fixed(rt.alloc(), 0, 16)?;

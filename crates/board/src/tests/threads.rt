@@ -59,7 +59,8 @@ fn two_post<R: Threads + Wait + Sync>(
         || -> (usize, Seat)
             requires board { IsAt board.now a }
             requires job { a.caller.seen.job ≡ job_of graph.now.graph plan.now }
-            requires batches { All (λ a. IsTrueBatch (job_of graph.now.graph plan.now) (arc_value a))
+            requires batches { All
+                (λ a. IsTrueBatch (job_of graph.now.graph plan.now) (arc_value a))
                 stock.now.batches.items }
             requires snapshots { All (λ a. Stands (job_of graph.now.graph plan.now) (arc_value a))
                 stock.now.snapshots.items }
@@ -68,7 +69,8 @@ fn two_post<R: Threads + Wait + Sync>(
         || -> (usize, Seat)
             requires board { IsAt board.now b }
             requires job { b.caller.seen.job ≡ job_of graph.now.graph plan.now }
-            requires batches { All (λ a. IsTrueBatch (job_of graph.now.graph plan.now) (arc_value a))
+            requires batches { All
+                (λ a. IsTrueBatch (job_of graph.now.graph plan.now) (arc_value a))
                 stock.now.batches.items }
             requires snapshots { All (λ a. Stands (job_of graph.now.graph plan.now) (arc_value a))
                 stock.now.snapshots.items }
@@ -295,7 +297,8 @@ fn crowd<R: Threads + Wait + Sync>(
         || -> Done
             requires board { IsAt board.now other }
             requires job { other.caller.seen.job ≡ job_of graph.now.graph plan.now }
-            requires batches { All (λ a. IsTrueBatch (job_of graph.now.graph plan.now) (arc_value a))
+            requires batches { All
+                (λ a. IsTrueBatch (job_of graph.now.graph plan.now) (arc_value a))
                 stock.now.batches.items }
             requires snapshots { All (λ a. Stands (job_of graph.now.graph plan.now) (arc_value a))
                 stock.now.snapshots.items }
@@ -303,7 +306,8 @@ fn crowd<R: Threads + Wait + Sync>(
         || -> Done
             requires board { IsAt board.now seat }
             requires job { seat.caller.seen.job ≡ job_of graph.now.graph plan.now }
-            requires batches { All (λ a. IsTrueBatch (job_of graph.now.graph plan.now) (arc_value a))
+            requires batches { All
+                (λ a. IsTrueBatch (job_of graph.now.graph plan.now) (arc_value a))
                 stock.now.batches.items }
             requires snapshots { All (λ a. Stands (job_of graph.now.graph plan.now) (arc_value a))
                 stock.now.snapshots.items }
