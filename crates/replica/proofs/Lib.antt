@@ -33,3 +33,5 @@ pub mod Crossing
 pub mod ReceiveLemmas
 pub mod SavedLemmas
 pub mod RebuiltLemmas
+pub mod FitsLemmas
+pub mod KeepableLemmas

@@ -75,7 +75,7 @@ row_named plan p t i early e q =
     IfSome_then (early_at early i q) (e.kept i q) (λ b is. rw is.name_is (omega arith))
 
 -- THE TABLE: it is told by its batches in their order
-table_is_told : (plan : PlanValue) (p t : ℕ) (early other : List (List (Option BatchValue))) → IsPlan plan → AreEarly plan p t early → AreEarly plan p t other → early_batches early ≡ early_batches other → early ≡ other
+pub table_is_told : (plan : PlanValue) (p t : ℕ) (early other : List (List (Option BatchValue))) → IsPlan plan → AreEarly plan p t early → AreEarly plan p t other → early_batches early ≡ early_batches other → early ≡ other
 table_is_told plan p t early other ok e o same =
     same_lists early other (e.table.levels ∙ sym o.table.levels)
     (λ i d lt. get_or_default early i d [] lt ∙ at_level i (omega (arith, lt, e.table.levels)) ∙ sym (get_or_default other i d [] (omega (arith, lt, e.table.levels, o.table.levels))))

@@ -50,10 +50,12 @@ pub record HasRows (part : PartValue) (s : Saved) : Type 0 where
   pub rows : AreCounters part.plan.log2m s.rows.rows
   pub marks : length s.marks.items ≡ length part.preds
 
--- each last estimate is that of the row, and the sums rise to that of the last estimates
+-- each last estimate is that of the row, the figures are some that a run can have, and the sums rise to that of the
+-- last estimates
 pub record HasFigures (part : PartValue) (s : Saved) : Type 0 where
   pub lasts : map (λ tally. tally.last) (map value_of s.tallies.items) ≡
       map (estimate_with (measure_of part.plan)) s.rows.rows
+  pub limits : All IsFigures (map value_of s.tallies.items)
   pub sums : AreSums s.superstep (sum_by (λ tally. tally.last) (map value_of s.tallies.items))
       s.sums.items
 
@@ -82,3 +84,8 @@ pub record IsRebuilt (part : PartValue) (s : Saved) (v : State) : Type 0 where
   pub heard_change : v.heard_change ≡ s.heard_change
   pub accumulated : v.accumulated ≡ s.accumulated.rows
   pub early : kept_batches v.early ≡ map arc_value s.early.items
+
+-- what a replica can have, in rows of its width, fits its part. It is the contract of a function of src/laws.rt.
+abbrev pub HadFits : Type 0
+HadFits = (part : PartValue) (s : Saved) (v : State) → IsKeepable v → IsRebuilt part s v →
+    s.rows.width ≡ 2 ^ part.plan.log2m → s.accumulated.width ≡ 2 ^ part.plan.log2m → Fits part s

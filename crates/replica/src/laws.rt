@@ -1,6 +1,7 @@
 //! What a replica promises over whole runs: the contract of each function is the law, and its body is empty.
 
 ghost use Rattle.replica.specs.Runs.{RunStands, RunAnswers, RunIsInTime, StableIsQuiet, StableReaches, OverIsAtEnd, HoldsItsWindow, SameContentIsSame, SameCallsAlike};
+ghost use Rattle.replica.specs.Saved.{HadFits};
 
 /// End to end, without faults.
 ///
@@ -33,4 +34,9 @@ pub fn window()
 pub fn same_content()
     ensures same { SameContentIsSame }
     ensures later { SameCallsAlike }
+{}
+
+/// All that a replica can have, in rows of its width, fits its part: so a replica is made of it again.
+pub fn what_is_had_fits()
+    ensures { HadFits }
 {}

@@ -120,6 +120,9 @@ pub fn hear_early(
 }
 
 /// Each marked row becomes what was accumulated for it; the others have it already.
+///
+/// Not inlined: among other loops its place would be kept on the stack, which a superstep of few changes pays for.
+#[inline(never)]
 pub fn catch_up(rows: &mut Rows, accumulated: &Rows, touched: &[bool])
     requires width { rows.old.width ≡ accumulated.now.width }
     requires touched { AreTouched rows.old.rows accumulated.now.rows touched.now }
@@ -170,6 +173,7 @@ pub fn clear_marks(marks: &mut [bool])
 
 /// The figures at superstep `t` of all rows, whose marks say which of them changed; the answer is what the sum of the
 /// last estimates has gained. Figures of rows that did not change stay as they are.
+#[inline(never)]
 pub fn step_tallies(
     estimator: &Estimator,
     t: u32,

@@ -9,7 +9,7 @@ ghost use Rattle.ball_model.specs.State.{State};
 ghost use Rattle.replica.specs.Kept.{AreEarly};
 ghost use Rattle.replica.specs.Seen.{IsState};
 ghost use Rattle.replica.specs.Level.{differences};
-ghost use Rattle.replica.specs.Saved.{Fits, IsRebuilt, MayBeKept};
+ghost use Rattle.replica.specs.Saved.{Fits, IsKeepable, IsRebuilt, MayBeKept};
 
 use crate::early::Early;
 use crate::saved::Saved;
@@ -29,6 +29,7 @@ impl Replica {
     pub fn rebuild(alloc: Global, part: Arc<Part>, saved: Saved) -> Result<Replica, AllocError>
         requires { Fits (arc_value part) saved }
         ensures fields { IfOk result (λ r. IsRebuilt (arc_value part) saved r) }
+        ensures keepable { IfOk result (λ r. IsKeepable r) }
         // what a replica has makes that replica, and no other
         ensures same { IfOk result (λ r. (v : State) → IsState v →
             IsRebuilt (arc_value part) saved v → r ≡ v) }
@@ -61,7 +62,7 @@ fn differing(alloc: Global, rows: &Rows, accumulated: &Rows) -> Result<Vec<bool>
 fn known(alloc: Global, part: Arc<Part>, saved: Saved) -> Result<Snapshot, AllocError>
     requires { Fits (arc_value part) saved }
     ensures fields { IfOk result (λ v. IsRebuilt (arc_value part) saved v) }
-    ensures state { IfOk result (λ v. IsState v) }
+    ensures keepable { IfOk result (λ v. IsKeepable v) }
 {
     let plan = part.plan();
     // the limits of a part are told with its number

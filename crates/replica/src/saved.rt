@@ -1,7 +1,17 @@
 //! What a checkpoint tells of a replica.
 
+ghost use Rattle.std.specs.Prelude.{◌≡◌, ◌≢◌, ◌↔◌, ℕ, ◌+◌, ◌*◌, ◌^◌, ◌<◌, ◌≤◌, IsTrue, true, false, map, length, slice_index_or, []};
+ghost use Rattle.std.specs.Arc.{arc_value};
+ghost use Rattle.std.specs.List.{All};
+ghost use Rattle.ball_model.specs.PlanValue.{most_parts};
+ghost use Rattle.replica.specs.Kept.{AreCounters, AllRise, AreSources, AreSums, RowRises};
+ghost use Rattle.replica.specs.Saved.{Fits, HasRows, HasFigures, HasHeard, MayKeep, MayBeKept};
+
+use crate::level::sum_of_lasts;
+use crate::step::is_same;
 use batches::Batch;
-use figures::Tally;
+use edgelist::Part;
+use figures::{Tally, are_last};
 use registers::{Rows, SourceMask};
 use std::sync::Arc;
 
@@ -28,4 +38,186 @@ pub struct Saved {
     pub accumulated: Rows,
     /// The batches that are kept of later supersteps, ascending by superstep, then by source.
     pub early: Vec<Arc<Batch>>,
+}
+
+impl Saved {
+    /// Whether a replica of the part can have all this.
+    ///
+    /// The superstep is at most the limit; rows, marks, figures and accumulators are as many as the vertices, and the
+    /// sums one more than the superstep; rows have 2^log2m registers of at most 33, and no accumulator has one below
+    /// its row's; each last estimate is that of its row; no sum is less than the one before, and the last is that of
+    /// the last estimates; what is heard are other partitions; and what is kept are batches of the plan from other
+    /// partitions to this one, of the three supersteps that follow, each after the one before. It takes no memory, and
+    /// time in proportion to the registers.
+    pub fn fits(&self, part: &Part) -> bool
+        ensures { IsTrue result ↔ Fits part.now self.now }
+    {
+        self.has_rows(part) && self.has_rest(part)
+    }
+
+    // Whether it has a row and a mark for each vertex, and is in time.
+    fn has_rows(&self, part: &Part) -> bool
+        ensures { IsTrue result ↔ HasRows part.now self.now }
+    {
+        let size = part.size() as usize;
+        let width = part.plan().width();
+        self.superstep <= part.plan().limit()
+            && self.rows.width() == width
+            && self.rows.len() == size
+            && self.marks.len() == size
+            && are_counters(&self.rows, part.plan().log2m())
+    }
+
+    // Whether all else fits too.
+    fn has_rest(&self, part: &Part) -> bool
+        requires { HasRows part.now self.now }
+        ensures { IsTrue result ↔ Fits part.now self.now }
+    {
+        self.has_figures(part)
+            && self.has_heard(part)
+            && may_be_kept(part, self.superstep, &self.early)
+    }
+
+    // Whether the figures are those of the rows, and the sums rise to theirs.
+    fn has_figures(&self, part: &Part) -> bool
+        requires { HasRows part.now self.now }
+        ensures { IsTrue result ↔ HasFigures part.now self.now }
+    {
+        let plan = part.plan();
+        self.tallies.len() == self.rows.len()
+            && are_last(plan.log2m(), plan.is_corrected(), &self.rows, &self.tallies)
+            && are_sums(self.superstep, sum_of_lasts(&self.tallies), &self.sums)
+    }
+
+    // Whether what is heard are other partitions, and no accumulator is below its row.
+    fn has_heard(&self, part: &Part) -> bool
+        requires { HasRows part.now self.now }
+        ensures { IsTrue result ↔ HasHeard part.now self.now }
+    {
+        let width = part.plan().width();
+        are_sources(part.plan().parts(), part.partition(), self.heard)
+            && self.accumulated.width() == width
+            && self.accumulated.len() == self.rows.len()
+            && all_rise(&self.rows, &self.accumulated, part.plan().log2m())
+    }
+}
+
+// Whether each row has registers of at most 33.
+fn are_counters(rows: &Rows, log2m: u8) -> bool
+    requires from { 4 ≤ log2m }
+    requires to { log2m ≤ 10 }
+    requires width { rows.now.width ≡ 2 ^ log2m }
+    ensures { IsTrue result ↔ AreCounters log2m rows.now.rows }
+{
+    for i in 0..rows.len() {
+        if !are_ranks(rows.row(i)) {
+            return false;
+        }
+    }
+    true
+}
+
+// Whether each register is at most 33.
+fn are_ranks(row: &[u8]) -> bool
+    ensures { IsTrue result ↔ All (λ r. r ≤ 33) row.now }
+{
+    row.iter().all(|r| *r <= 33)
+}
+
+// Whether there is a sum for each superstep up to `t`, the last is the one given, and none is less than the one before.
+fn are_sums(t: u32, last: u128, sums: &[u128]) -> bool
+    ensures { IsTrue result ↔ AreSums t last sums.now }
+{
+    let t = t as usize;
+    sums.len() == t + 1 && sums[t] == last && do_rise(sums)
+}
+
+// Whether none is less than the one before.
+fn do_rise(sums: &[u128]) -> bool
+    ensures { IsTrue result ↔ ((i : ℕ) → i + 1 < length sums.now →
+        slice_index_or sums.now i 0 ≤ slice_index_or sums.now (i + 1) 0) }
+{
+    for i in 1..sums.len() {
+        if sums[i] < sums[i - 1] {
+            return false;
+        }
+    }
+    true
+}
+
+// Whether only other partitions are set.
+fn are_sources(parts: u16, own: u16, heard: SourceMask) -> bool
+    requires parts { parts ≤ most_parts }
+    requires own { own < parts }
+    ensures { IsTrue result ↔ AreSources parts own heard }
+{
+    // that a mask has 64 flags is told with its bits
+    let _bits = heard.bits();
+    for q in parts..64 {
+        if heard.has(q) {
+            return false;
+        }
+    }
+    !heard.has(own)
+}
+
+// Whether each row has become a counter's row in which no register fell.
+fn all_rise(rows: &Rows, accumulated: &Rows, log2m: u8) -> bool
+    requires from { 4 ≤ log2m }
+    requires to { log2m ≤ 10 }
+    requires count { length accumulated.now.rows ≡ length rows.now.rows }
+    requires width { rows.now.width ≡ 2 ^ log2m }
+    requires same { accumulated.now.width ≡ 2 ^ log2m }
+    ensures { IsTrue result ↔ AllRise log2m rows.now.rows accumulated.now.rows }
+{
+    for i in 0..rows.len() {
+        if !rises(rows.row(i), accumulated.row(i)) {
+            return false;
+        }
+    }
+    true
+}
+
+// Whether a row has.
+fn rises(row: &[u8], accumulated: &[u8]) -> bool
+    requires { length accumulated.now ≡ length row.now }
+    ensures { IsTrue result ↔ ((k : ℕ) → k < length row.now →
+        (slice_index_or row.now k 0 ≤ slice_index_or accumulated.now k 0)
+        × (slice_index_or accumulated.now k 0 ≤ 33)) }
+{
+    for k in 0..row.len() {
+        if accumulated[k] < row[k] || 33 < accumulated[k] {
+            return false;
+        }
+    }
+    true
+}
+
+// Whether these are batches that a replica of the part may keep, in their order.
+fn may_be_kept(part: &Part, superstep: u32, early: &[Arc<Batch>]) -> bool
+    ensures { IsTrue result ↔ MayBeKept part.now.plan part.now.number superstep
+        (map arc_value early.now) }
+{
+    let mut next = 0;
+    for batch in early {
+        let name = batch.name();
+        let key = name.superstep * 64 + u32::from(name.source);
+        if key < next || !may_keep(part, superstep, batch) {
+            return false;
+        }
+        next = key + 1;
+    }
+    true
+}
+
+// Whether a replica of the part may keep this batch.
+fn may_keep(part: &Part, superstep: u32, batch: &Batch) -> bool
+    ensures { IsTrue result ↔ MayKeep part.now.plan part.now.number superstep batch.now }
+{
+    let name = batch.name();
+    is_same(batch.plan(), part.plan())
+        && name.target == part.partition()
+        && name.source != part.partition()
+        && superstep < name.superstep
+        && u64::from(name.superstep) <= u64::from(superstep) + 3
 }

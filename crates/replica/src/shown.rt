@@ -3,7 +3,7 @@
 ghost use Rattle.std.specs.Prelude.{◌≡◌, ℕ, ◌<◌, ◌≤◌, ◌+◌, ◌-◌, ◌*◌, ◌/◌, ◌%◌, ◌^◌, ◌==◌, ◌&&◌, false, not, length, slice_index_or, is_some, option_map, None, [], map, count_by, IsSome, IsTrue, IfOk, ◌↔◌};
 ghost use Rattle.std.specs.Arc.{arc_value};
 ghost use Rattle.std.specs.Vec.{vec_capacity};
-ghost use Rattle.std.specs.List.{list_any, range_with_len, slice_get};
+ghost use Rattle.std.specs.List.{All, list_any, range_with_len, slice_get};
 ghost use Rattle.figures.specs.Values.{value_of};
 ghost use Rattle.ball_model.specs.PlanValue.{mixing_of, vertices_of};
 ghost use Rattle.ball_model.specs.Counter.{ball_counter};
@@ -17,6 +17,7 @@ ghost use Rattle.ball_model.specs.State.{State, StandsFor, content_of, early_at,
 ghost use Rattle.replica.specs.Ahead.{early_batches, early_names, true_early};
 ghost use Rattle.replica.specs.Level.{is_changing, level_verdict, found_verdict, missing_in, nothing};
 ghost use Rattle.replica.specs.Hearing.{accumulated_by, change_by, heard_by};
+ghost use Rattle.replica.specs.Saved.{IsFigures};
 ghost use Rattle.replica.specs.Seen.{IsState, HasAccumulators, accumulators_of};
 
 use crate::start::Tables;
@@ -66,9 +67,11 @@ pub trait Shown {
     /// Whether vertex `x` is one of the partition.
     final fn owns(&self, x: u32) -> bool
         ensures vertex { IsTrue result → x < (state self.now).part.plan.vertices }
-        ensures own { IsTrue result → x % (state self.now).part.plan.parts ≡ (state self.now).part.number }
+        ensures own { IsTrue result →
+            x % (state self.now).part.plan.parts ≡ (state self.now).part.number }
         ensures value { result ≡ list_any (λ v. v == x) (vertices_of
-            (state self.now).part.plan.vertices (state self.now).part.plan.parts (state self.now).part.number) }
+            (state self.now).part.plan.vertices (state self.now).part.plan.parts
+            (state self.now).part.number) }
     {
         let s = self.shown();
         let plan = s.part.plan();
@@ -150,6 +153,8 @@ pub trait Shown {
     /// The figures of all vertices of the partition.
     final fn tallies(&self) -> &[Tally]
         ensures value { map value_of result.now ≡ (state self.now).tallies }
+        // figures that a run can have, whatever its batches say
+        ensures limits { All IsFigures (state self.now).tallies }
         ensures stands { (j : Job) (p t : ℕ) → StandsFor j p t (state self.now) →
             map value_of result.now ≡ tallies_of j p t }
     {
@@ -223,7 +228,8 @@ pub trait Shown {
     final fn early(&self, i: u32) -> Option<&Batch>
         ensures value { option_map (λ b. b.now) result ≡
             slice_get (early_batches (state self.now).early) i }
-        ensures name { option_map (λ b. b.now.name) result ≡ slice_get (early_names (state self.now)) i }
+        ensures name { option_map (λ b. b.now.name) result ≡
+            slice_get (early_names (state self.now)) i }
         ensures stands { (j : Job) (p t : ℕ) → StandsFor j p t (state self.now) →
             option_map (λ b. b.now) result ≡ true_early j (state self.now) i }
     {

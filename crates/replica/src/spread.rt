@@ -65,6 +65,7 @@ pub fn spread_batch(targets: &Targets, batch: &Batch, accumulated: &mut Rows, to
 /// Where the rows are the counters at t and the marks say which of them are changed there, the accumulators of what
 /// was heard become those of what was heard and the own vertices. It takes no memory, and time in proportion to the
 /// own vertices and to the edges of the marked ones into the part.
+#[inline(never)]
 pub fn spread_own(
     targets: &Targets,
     part: &Part,

@@ -140,7 +140,8 @@ fn start_tables(alloc: Global, part: &Part, estimator: &Estimator) -> Result<Tab
     ensures accumulated { IfOk result (λ t. t.accumulated ≡ t.rows) }
     ensures marks { IfOk result (λ t. t.marks.items ≡ part.now.counted) }
     ensures tallies { IfOk result (λ t.
-        map value_of t.tallies.items ≡ first_figures (measure_of part.now.plan) (first_rows part.now)) }
+        map value_of t.tallies.items ≡
+        first_figures (measure_of part.now.plan) (first_rows part.now)) }
     ensures sums { IfOk result (λ t. t.sums.items ≡
         total_of (measure_of part.now.plan) (first_rows part.now) ∷ []) }
     ensures room { IfOk result (λ t. part.now.plan.limit + 1 ≤ vec_capacity t.sums) }

@@ -7,6 +7,7 @@ ghost use Rattle.ball_model.specs.Job.{digest_of};
 mod again;
 mod early;
 mod joins;
+mod rebuilt;
 mod shown;
 
 use super::*;
@@ -542,4 +543,5 @@ fn laws_are_called() {
     laws::end_to_end();
     laws::window();
     laws::same_content();
+    laws::what_is_had_fits();
 }

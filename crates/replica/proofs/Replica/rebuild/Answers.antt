@@ -21,4 +21,4 @@ invariant_of-result c =
     }
 
 pub returns-clause-same : goal.returns-clause-same
-returns-clause-same c = λ v ok is. rebuilt_same (arc_value c.args.part) c.args.saved c.in_ok-known.known v c.in_ok-known.ensures.state ok c.in_ok-known.ensures.fields is
+returns-clause-same c = λ v ok is. rebuilt_same (arc_value c.args.part) c.args.saved c.in_ok-known.known v c.in_ok-known.ensures.keepable.state ok c.in_ok-known.ensures.fields is

@@ -1,4 +1,4 @@
-use Rattle.std.proofs.Common.{◌≡◌, ◌<◌, ◌≤◌, ℕ, length, map, rules, ap, sym, ◌∙◌, subst, arith}
+use Rattle.std.proofs.Common.{◌≡◌, ◌<◌, ◌≤◌, length, map, rules, ap, ◌∙◌, subst, arith}
 use Rattle.std.specs.Arc.{arc_value}
 use Rattle.std.proofs.lemmas.List.{length-map}
 use Rattle.ball_model.specs.Batches.{BatchValue}
@@ -6,7 +6,7 @@ use Rattle.ball_model.specs.PlanValue.{PlanValue, IsPlan}
 use Rattle.ball_model.specs.declared.names.BatchName.{BatchName}
 use Rattle.replica.specs.Ahead.{IsTable}
 use Rattle.replica.specs.Saved.{MayKeep}
-use Rattle.replica.proofs.SavedLemmas.{filled_all, filled_more, filled_none, level_of, may_at, shared_at, source_of}
+use Rattle.replica.proofs.SavedLemmas.{filled_all, filled_more, filled_none, may_at, shared_at, source_of}
 use Rattle.replica.proofs.RebuiltLemmas.{kept_are}
 use Rattle.replica.proofs.rebuild.kept.Goals as goal
 

@@ -1,12 +1,11 @@
-use Rattle.std.proofs.Common.{◌≡◌, map, ap, sym, ◌∙◌, subst, arith}
+use Rattle.std.proofs.Common.{◌≡◌, map, ap, ◌∙◌, subst, arith}
 use Rattle.std.specs.Arc.{arc_value}
 use Rattle.ball_model.specs.Job.{PartValue, IsPart}
 use Rattle.ball_model.specs.PlanValue.{PlanValue}
 use Rattle.ball_model.specs.State.{State}
 use Rattle.replica.specs.declared.Snapshot.TheInside as snapshot
 use Rattle.replica.specs.Kept.{AreEarly}
-use Rattle.replica.specs.Saved.{IsRebuilt}
-use Rattle.replica.specs.Seen.{IsState}
+use Rattle.replica.specs.Saved.{IsKeepable, IsRebuilt}
 use Rattle.replica.proofs.AccumulatorLemmas.{fields_are, kept_snapshot}
 use Rattle.replica.proofs.SavedLemmas.{rebuilt_state, rebuilt_with, state_with}
 use Rattle.replica.proofs.rebuild.known.Goals as goal
@@ -32,12 +31,15 @@ returns-clause-fields c =
     let is = rebuilt_with part s c.in_ok-sums.sums.items c.in_ok-early.early (c.in_ok-sums.ensures.sums ∙ c.deref-3.ensures.value) (c.in_ok-early.ensures.batches ∙ ap (map arc_value) c.deref-5.ensures.value) in
     subst (λ (v : State). IsRebuilt part s v) (fields_are (made c) c.requires.heard.accumulated.count) is
 
-pub returns-clause-state : goal.returns-clause-state
-returns-clause-state c =
+pub returns-clause-keepable : goal.returns-clause-keepable
+returns-clause-keepable c =
     let part = arc_value c.args.part in
     let s = c.args.saved in
     let own : IsPart part = subst (λ (a : PartValue). IsPart a) c.deref-2.ensures c.partition.ensures.part in
     let early : AreEarly part.plan part.number s.superstep c.in_ok-early.early = subst (λ (a : PartValue). AreEarly a.plan a.number s.superstep c.in_ok-early.early) c.deref-4.ensures c.in_ok-early.ensures.early in
     let is = rebuilt_with part s c.in_ok-sums.sums.items c.in_ok-early.early (c.in_ok-sums.ensures.sums ∙ c.deref-3.ensures.value) (c.in_ok-early.ensures.batches ∙ ap (map arc_value) c.deref-5.ensures.value) in
-    subst (λ (v : State). IsState v) (fields_are (made c) c.requires.heard.accumulated.count)
-    (rebuilt_state part s (state_with part s c.in_ok-sums.sums.items c.in_ok-early.early) own c.requires is early)
+    subst (λ (v : State). IsKeepable v) (fields_are (made c) c.requires.heard.accumulated.count)
+    (record {
+      state = rebuilt_state part s (state_with part s c.in_ok-sums.sums.items c.in_ok-early.early) own c.requires is early;
+      figures = c.requires.figures.limits;
+    })

@@ -1,0 +1,39 @@
+use Rattle.std.proofs.Common.{◌≡◌, List, map, ap, ap₂, sym, ◌∙◌, subst}
+use Rattle.std.specs.List.{sum_by}
+use Rattle.std.proofs.lemmas.Bool.{eqb-true}
+use Rattle.figures.specs.Values.{value_of}
+use Rattle.figures.specs.declared.tally.Tally.{Tally}
+use Rattle.ball_model.specs.Figures.{TallyValue, Measure, estimate_with}
+use Rattle.ball_model.specs.PlanValue.{PlanValue, measure_of}
+use Rattle.replica.specs.Kept.{AreSums}
+use Rattle.replica.proofs.FitsLemmas.{figures_kept}
+use Rattle.replica.proofs.NextLemmas.{map_lasts, sum_same}
+use Rattle.replica.proofs.saved.Saved.has_figures.Goals as goal
+use Rattle.replica.proofs.saved.Saved.has_figures.Goals.{then-len, else-len}
+
+same_measure : (a b : Measure) → a.log2m ≡ b.log2m → a.corrected ≡ b.corrected → a ≡ b
+same_measure a b log2m corrected = λ i. record { log2m = log2m i; corrected = corrected i }
+
+pub returns-then-are_last : goal.returns-then-are_last
+returns-then-are_last c =
+    let s = c.args.self.now in
+    let part = c.args.part.now in
+    let ts = s.tallies.items in
+    let plan : c.plan-plan.result.now ≡ part.plan = c.plan-plan.ensures in
+    let lasts : map (λ (v : TallyValue). v.last) (map value_of ts) ≡ map (estimate_with (measure_of part.plan)) s.rows.rows = elim c.if-len.branch [
+      | then-len w ↦
+          let measure : record { log2m = w.log2m.result; corrected = w.is_corrected.result } ≡ measure_of part.plan =
+          same_measure (record { log2m = w.log2m.result; corrected = w.is_corrected.result }) (measure_of part.plan) (w.log2m.ensures.value ∙ ap (λ (a : PlanValue). a.log2m) plan) (w.is_corrected.ensures ∙ ap (λ (a : PlanValue). a.corrected) plan) in
+          ap (λ (items : List Tally). map (λ (v : TallyValue). v.last) (map value_of items)) (sym w.deref.ensures.value)
+          ∙ w.are_last.ensures.0 (sym w.value-is ∙ c.if-are_last.true)
+          ∙ ap (λ (m : Measure). map (estimate_with m) s.rows.rows) measure
+      | else-len w ↦ absurd (w.if-len.false (eqb-true c.len.result c.len-2.result (sym w.value-is ∙ c.if-are_last.true)))
+    ] in
+    let total : c.sum_of_lasts.result ≡ sum_by (λ (v : TallyValue). v.last) (map value_of ts) =
+    c.sum_of_lasts.ensures ∙ ap (λ (items : List Tally). sum_by (λ tally. tally.last) items) c.deref-then-are_last.ensures.value
+    ∙ sum_same (λ (tally : Tally). tally.last) (λ (v : TallyValue). v.last) ts (map value_of ts) (map_lasts ts) in
+    let same : AreSums s.superstep c.sum_of_lasts.result c.deref-then-are_last-2.result.now ≡ AreSums s.superstep (sum_by (λ (v : TallyValue). v.last) (map value_of ts)) s.sums.items =
+    ap₂ (AreSums s.superstep) total c.deref-then-are_last-2.ensures.value in (
+      λ is. record { lasts = lasts; limits = figures_kept ts; sums = subst (λ x. x) same (c.are_sums.ensures.0 is) },
+      λ has. c.are_sums.ensures.1 (subst (λ x. x) (sym same) has.sums),
+    )

@@ -1,0 +1,99 @@
+//! Replicas that are made of what another one has.
+
+use super::shown::shows_all;
+use super::*;
+
+/// The i-th of the batches of later supersteps, read from its bytes.
+fn copied_early(rt: &HostRuntime, snapshot: &Snapshot, i: u32) -> Option<Arc<Batch>> {
+    let bytes = snapshot.early(i)?.encode(rt.alloc()).ok()?;
+    let batch = Batch::decode(rt.alloc(), snapshot.plan(), &bytes).ok()?;
+    Arc::new(rt.alloc(), batch).ok()
+}
+
+/// The one batch that is kept of later supersteps.
+fn one_early(rt: &HostRuntime, snapshot: &Snapshot) -> Option<Vec<Arc<Batch>>> {
+    let batch = copied_early(rt, snapshot, 0)?;
+    let mut early = Vec::new(rt.alloc());
+    early.push(batch).ok()?;
+    Some(early)
+}
+
+/// All that a replica has which keeps one batch of a later superstep.
+fn saved_of(rt: &HostRuntime, replica: &mut Replica) -> Option<Saved> {
+    let snapshot = replica.snapshot(rt.alloc()).ok()?;
+    let early = one_early(rt, &snapshot)?;
+    Some(Saved {
+        superstep: snapshot.superstep,
+        rows: snapshot.rows,
+        marks: snapshot.marks,
+        tallies: snapshot.tallies,
+        sums: snapshot.sums,
+        heard: snapshot.heard,
+        heard_change: snapshot.heard_change,
+        accumulated: snapshot.accumulated,
+        early,
+    })
+}
+
+/// A replica that is made of it, where it fits the part.
+fn rebuilt(rt: &HostRuntime, part: Arc<Part>, saved: Saved) -> Option<Replica> {
+    if saved.fits(&part) {
+        Replica::rebuild(rt.alloc(), part, saved).ok()
+    } else {
+        None
+    }
+}
+
+/// The replica at a place, made again.
+fn again(rt: &HostRuntime, all: &mut [Replica], place: usize) -> Option<Replica> {
+    let replica = all.get_mut(place)?;
+    let part = Arc::try_clone(&replica.known.part).ok()?;
+    let saved = saved_of(rt, replica)?;
+    rebuilt(rt, part, saved)
+}
+
+/// Partition 0 is at superstep 1, has heard its batch, and keeps one of superstep 2.
+fn hears_and_keeps(rt: &HostRuntime, all: &mut [Replica]) -> bool {
+    run(rt, all, 1)
+        && is_new(rt, all, 1, 0)
+        && is_new(rt, all, 0, 1)
+        && closes(all, 1, Ok(2))
+        && is_new(rt, all, 1, 0)
+        && has_accumulated(all, 2, &ROW_ABC)
+        && is_held(all, 0, 2, 1) == Some(true)
+}
+
+/// Whether the second replica of partition 0 tells in each reader what the first does.
+fn tell_same(rt: &HostRuntime, all: &mut [Replica]) -> Option<bool> {
+    let snapshot = all.get_mut(0)?.snapshot(rt.alloc()).ok()?;
+    Some(shows_all(all.get(2)?, &snapshot))
+}
+
+/// Whether the replica of partition 1, and the two of partition 0, close two supersteps and end.
+fn end_together(rt: &HostRuntime, all: &mut [Replica]) -> bool {
+    closes(all, 0, Ok(2))
+        && closes(all, 2, Ok(2))
+        && is_new(rt, all, 2, 1)
+        && close_all(all)
+        && is_new(rt, all, 1, 0)
+        && is_new(rt, all, 1, 2)
+        && is_new(rt, all, 0, 1)
+        && all_say(all, Some(Verdict::Stable))
+        && has_sums(all, 2, &SUMS[0])
+}
+
+/// Whether partition 0 of two edges is made again as it was, and runs on as it does.
+fn made_again(rt: &HostRuntime) -> Option<[bool; 4]> {
+    let mut all = two_edges(rt, 2, 4096)?;
+    let begun = hears_and_keeps(rt, &mut all);
+    let replica = again(rt, &mut all, 0)?;
+    all.push(replica).ok()?;
+    let same = tell_same(rt, &mut all)?;
+    let ended = end_together(rt, &mut all);
+    Some([begun, same, ended, tell_same(rt, &mut all)?])
+}
+
+#[test]
+fn replica_is_rebuilt(rt: HostRuntime) {
+    assert_eq!(rt; made_again(&rt), Some([true; 4]));
+}
