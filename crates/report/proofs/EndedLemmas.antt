@@ -6,7 +6,7 @@ use Rattle.ball_model.specs.declared.names.Verdict.{Verdict}
 use Rattle.ball_model.specs.PlanValue.{PlanValue, mixing_of}
 use Rattle.ball_model.specs.Content.{same_plan}
 use Rattle.ball_model.specs.Supersteps.{end_of}
-use Rattle.ball_model.specs.Job.{Job, IsJob, PartValue}
+use Rattle.ball_model.specs.Job.{Job, IsJob}
 use Rattle.ball_model.specs.State.{State, StandsFor}
 use Rattle.replica.specs.Level.{found_verdict, EndsRun}
 use Rattle.replica.proofs.BusyLemmas.{found_verdict-is}

@@ -10,3 +10,5 @@ pub mod VertexLemmas
 pub mod WholeLemmas
 pub mod BlockLemmas
 pub mod PieceLemmas
+pub mod FrontLemmas
+pub mod ReportLemmas

@@ -6,13 +6,12 @@ use Rattle.figures.specs.declared.ends.Figures.{Figures}
 use Rattle.figures.specs.Values.{figures_from, figures_of}
 use Rattle.ball_model.specs.Counter.{ball_counter}
 use Rattle.ball_model.specs.Supersteps.{estimate_at, tally_at}
-use Rattle.ball_model.specs.PlanValue.{PlanValue, mixing_of}
+use Rattle.ball_model.specs.PlanValue.{mixing_of}
 use Rattle.ball_model.specs.Job.{Job}
 use Rattle.ball_model.specs.Figures.{TallyValue, empty_of}
 use Rattle.ball_model.specs.Report.{vertex_line, vertex_text}
 use Rattle.ball_model.specs.State.{State, StandsFor, own_vertices, rows_of, tallies_of}
 use Rattle.replica.proofs.OwnLemmas.{at_own, place_below, vertex_at}
-use Rattle.replica.proofs.LevelLemmas.{plan_is}
 use Rattle.report.specs.Parts.{figures_at, figures_in, figures_line, nothing, vertices_text}
 
 -- two lists made of one

@@ -9,6 +9,7 @@ use Rattle.ball_model.specs.Content.{same_plan, verdict_of}
 use Rattle.ball_model.specs.Job.{Job}
 use Rattle.ball_model.specs.Report.{report_of}
 use Rattle.ball_model.specs.State.{State, StandsFor, content_of}
+use Rattle.ball_model.specs.Streams.{PutsFront}
 use Rattle.replica.specs.Level.{found_verdict}
 
 -- the verdict says that the run has ended
@@ -61,3 +62,9 @@ abbrev pub AddsReport : {W : Type 0} → (W → Option (List ℕ)) → W → W �
 AddsReport contents old new network replicas =
     (j : Job) → j.graph ≡ network.graph → AllStand j replicas →
     Appends (contents old) (contents new) (job_report j network.labels)
+
+-- it is given a beginning of each of these reports, and not all of it
+abbrev pub AddsFront : {W : Type 0} → (W → Option (List ℕ)) → W → W → Network → List State → Type 0
+AddsFront contents old new network replicas =
+    (j : Job) → j.graph ≡ network.graph → AllStand j replicas →
+    PutsFront (contents old) (contents new) (job_report j network.labels)

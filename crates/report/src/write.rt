@@ -3,10 +3,10 @@
 ghost use Rattle.std.specs.Prelude.{◌≡◌, ◌≢◌, ℕ, ◌≤◌, ◌<◌, Err, IfErr, OnErr, OnOk, true};
 ghost use Rattle.std.specs.List.{All};
 ghost use Rattle.std.specs.Io.KnownBytes.{Appends};
-ghost use Rattle.ball_model.specs.Streams.{Rises};
+ghost use Rattle.ball_model.specs.Streams.{PutsFront, Rises};
 ghost use Rattle.report.specs.Parts.{HasPlace, head_text, lines_between, lines_from, lines_of_all};
 ghost use Rattle.report.specs.Parts.{lists_in, totals_in};
-ghost use Rattle.report.specs.Ready.{AddsReport, are_ready};
+ghost use Rattle.report.specs.Ready.{AddsFront, AddsReport, are_ready};
 
 use crate::parts::{figures, head_of, vertices};
 use crate::ready::is_stable;
@@ -48,6 +48,8 @@ const BLOCK: u32 = 8 * PIECE;
 // Writes a piece of text.
 fn put<W: CountedWrite>(writer: &mut W, text: &[u8]) -> Result<(), ReportError>
     ensures done { OnOk result (Appends (W.contents writer.old) (W.contents writer.new) text.now) }
+    ensures front { OnErr result
+        (PutsFront (W.contents writer.old) (W.contents writer.new) text.now) }
     ensures counted { OnOk result (W.failed_calls writer.new ≡ W.failed_calls writer.old) }
     ensures kind { IfErr result (λ e. e ≡ ReportError.Write) }
     ensures failed { OnErr result (Rises (W.failed_calls writer.old) (W.failed_calls writer.new)) }
@@ -70,6 +72,8 @@ fn put_top<W: CountedWrite>(
     requires { All (λ v. v.superstep ≡ end) replicas.now }
     ensures done { OnOk result (Appends (W.contents writer.old) (W.contents writer.new)
         (head_text (totals_in replicas.now end) end stable)) }
+    ensures front { OnErr result (PutsFront (W.contents writer.old) (W.contents writer.new)
+        (head_text (totals_in replicas.now end) end stable)) }
     ensures counted { result ≢ Err ReportError.Write →
         W.failed_calls writer.new ≡ W.failed_calls writer.old }
     ensures write { result ≡ Err ReportError.Write →
@@ -89,9 +93,11 @@ fn put_piece<W: CountedWrite>(
     to: u32,
 ) -> Result<(), ReportError>
     requires places { (x : ℕ) → from ≤ x → x < to → HasPlace first (lists_in parts.now) x }
-    requires from { from ≤ to }
+    requires from { from < to }
     requires to { to ≤ graph.now.graph.vertices }
     ensures done { OnOk result (Appends (W.contents writer.old) (W.contents writer.new)
+        (lines_from graph.now parts.now first from to)) }
+    ensures front { OnErr result (PutsFront (W.contents writer.old) (W.contents writer.new)
         (lines_from graph.now parts.now first from to)) }
     ensures counted { result ≢ Err ReportError.Write →
         W.failed_calls writer.new ≡ W.failed_calls writer.old }
@@ -115,6 +121,8 @@ fn put_lines<W: CountedWrite>(
     requires from { from ≤ to }
     requires to { to ≤ graph.now.graph.vertices }
     ensures done { OnOk result (Appends (W.contents writer.old) (W.contents writer.new)
+        (lines_from graph.now parts.now first from to)) }
+    ensures front { OnErr result (PutsFront (W.contents writer.old) (W.contents writer.new)
         (lines_from graph.now parts.now first from to)) }
     ensures counted { result ≢ Err ReportError.Write →
         W.failed_calls writer.new ≡ W.failed_calls writer.old }
@@ -141,9 +149,11 @@ fn put_block<T: AllocGlobal + Threads + Sync, W: CountedWrite>(
 ) -> Result<(), ReportError>
     requires ready { are_ready replicas.now ≡ true }
     requires graph { All (λ v. v.part.plan.vertices ≡ graph.now.graph.vertices) replicas.now }
-    requires from { from ≤ to }
+    requires from { from < to }
     requires to { to ≤ graph.now.graph.vertices }
     ensures done { OnOk result (Appends (W.contents writer.old) (W.contents writer.new)
+        (lines_between graph.now.labels replicas.now from to)) }
+    ensures front { OnErr result (PutsFront (W.contents writer.old) (W.contents writer.new)
         (lines_between graph.now.labels replicas.now from to)) }
     ensures counted { result ≢ Err ReportError.Write →
         W.failed_calls writer.new ≡ W.failed_calls writer.old }
@@ -167,6 +177,8 @@ fn put_vertices<T: AllocGlobal + Threads + Sync, W: CountedWrite>(
     requires graph { All (λ v. v.part.plan.vertices ≡ graph.now.graph.vertices) replicas.now }
     ensures done { OnOk result (Appends (W.contents writer.old) (W.contents writer.new)
         (lines_of_all graph.now replicas.now)) }
+    ensures front { OnErr result (PutsFront (W.contents writer.old) (W.contents writer.new)
+        (lines_of_all graph.now replicas.now)) }
     ensures counted { result ≢ Err ReportError.Write →
         W.failed_calls writer.new ≡ W.failed_calls writer.old }
     ensures write { result ≡ Err ReportError.Write →
@@ -188,7 +200,7 @@ fn put_vertices<T: AllocGlobal + Threads + Sync, W: CountedWrite>(
 /// Lines of comma-separated values: the neighbourhood function at each superstep, the end, the gain, and each vertex
 /// with its label, estimate, harmonic centrality, closeness, Lin's index and number of empty registers, in order of
 /// its number (HyperBall 2013). The figures of some vertices at a time are made by all processors, and the text goes
-/// out in pieces, so what was written before an error is left open.
+/// out in pieces: what was written before an error is a beginning of the report.
 pub fn write_report<T: AllocGlobal + Threads + Sync, W: CountedWrite>(
     rt: &T,
     writer: &mut W,
@@ -199,6 +211,8 @@ pub fn write_report<T: AllocGlobal + Threads + Sync, W: CountedWrite>(
     requires graph { All (λ v. v.part.plan.vertices ≡ graph.now.graph.vertices) replicas.now }
     ensures ok { OnOk result (
         AddsReport W.contents writer.old writer.new graph.now replicas.now) }
+    ensures front { OnErr result (
+        AddsFront W.contents writer.old writer.new graph.now replicas.now) }
     ensures counted { result ≢ Err ReportError.Write →
         W.failed_calls writer.new ≡ W.failed_calls writer.old }
     ensures write { result ≡ Err ReportError.Write →

@@ -1,4 +1,4 @@
-use Rattle.std.proofs.Common.{◌≡◌, ◌∙◌, false, length, ap, sym}
+use Rattle.std.proofs.Common.{◌≡◌, ◌∙◌, length, ap, sym}
 use Rattle.std.proofs.lemmas.Bool.{ne_eqb}
 use Rattle.ball_model.specs.PlanValue.{PlanValue}
 use Rattle.report.proofs.ReadyLemmas.{none_ready, first_whole, first_other}

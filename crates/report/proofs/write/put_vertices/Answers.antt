@@ -2,6 +2,7 @@ use Rattle.std.proofs.Common.{◌≡◌, ◌∙◌, ◌+◌, ℕ, map, refl, ari
 use Rattle.std.specs.Io.KnownBytes.{Appends}
 use Rattle.report.specs.Parts.{figures_in, lines_between}
 use Rattle.report.proofs.ReadyLemmas.{are_ready-facts}
+use Rattle.report.proofs.FrontLemmas.{front_piece, on_err}
 use Rattle.report.proofs.PieceLemmas.{no_piece, piece_more}
 use Rattle.report.proofs.write.put_vertices.Goals as goal
 
@@ -29,3 +30,10 @@ pub returns-clause-done : goal.returns-clause-done
 returns-clause-done g c =
     let all : c.loop-from.from ≡ c.args.graph.now.graph.vertices = omega arith in
     subst (λ n. Appends (g.W.Write.contents c.args.writer.now) (g.W.Write.contents c.loop-from.writer) (lines_between c.args.graph.now.labels c.args.replicas.now 0 n)) all c.loop-from.invariant.written
+
+pub returns-in_err-put_block-clause-front : goal.returns-in_err-put_block-clause-front
+returns-in_err-put_block-clause-front g c =
+    let to : ℕ = c.loop-from.from + c.min.result in
+    on_err c.from_residual.result
+    (front_piece c.args.graph.now.labels 0 (map figures_in c.args.replicas.now) 0 c.loop-from.from to c.args.graph.now.graph.vertices _ _ _ (omega arith) (omega arith) (omega arith)
+    c.loop-from.invariant.written c.in_err-put_block.ensures.front)

@@ -1,15 +1,13 @@
-use Rattle.std.proofs.Common.{◌≡◌, ◌∙◌, true, ℕ, List, get_or, ap, sym, subst}
+use Rattle.std.proofs.Common.{◌∙◌, List, ℕ, ap, sym, subst}
 use Rattle.std.specs.Io.KnownBytes.{Appends}
 use Rattle.std.proofs.KnownBytes.{Appends-trans}
 use Rattle.std.proofs.lemmas.Result.{on_ok_weaker}
-use Rattle.ball_model.specs.Graph.{Graph}
-use Rattle.ball_model.specs.PlanValue.{mixing_of}
-use Rattle.ball_model.specs.State.{State, StandsFor}
-use Rattle.replica.specs.Level.{found_verdict}
-use Rattle.report.specs.Ready.{says_end}
-use Rattle.report.proofs.ReadyLemmas.{AreReady, are_ready-facts}
-use Rattle.report.proofs.EndingLemmas.{IsEnded, is_ended}
-use Rattle.report.proofs.WholeLemmas.{AllAt, all_at, report_is}
+use Rattle.ball_model.specs.State.{State}
+use Rattle.ball_model.specs.Streams.{PutsFront}
+use Rattle.report.specs.Parts.{head_text, lines_of_all, totals_in}
+use Rattle.report.proofs.FrontLemmas.{front_first, front_then, on_err, on_err_weaker}
+use Rattle.report.proofs.ReadyLemmas.{are_ready-facts}
+use Rattle.report.proofs.ReportLemmas.{report_text}
 use Rattle.report.proofs.write.write_report.Goals as goal
 
 pub bounds-replicas-0 : goal.bounds-replicas-0
@@ -23,18 +21,23 @@ put_top-requires g c =
 
 pub returns-clause-ok : goal.returns-clause-ok
 returns-clause-ok g c = on_ok_weaker c.put_vertices.result (λ h j same stands.
-    let vs = c.args.replicas.now in
-    let v = c.index-replicas-0.result in
-    let t : ℕ = c.superstep-end.result in
-    let labels = c.args.graph.now.labels in
-    let n : ℕ = c.args.graph.now.graph.vertices in
-    let is : v ≡ get_or vs 0 v = c.index-replicas-0.is in
-    let ready : AreReady vs = are_ready-facts vs c.requires.ready in
-    let all : AllAt j t vs = all_at j vs v t ready stands (ap (λ (w : State). w.superstep) (sym is) ∙ sym c.superstep-end.ensures.value) in
-    let first : StandsFor j 0 t v = subst (λ w. StandsFor j 0 t w) (sym is) (all.stand 0 v ready.some) in
-    let over : says_end (found_verdict v) ≡ true = ap (λ w. says_end (found_verdict w)) is ∙ (ready.each 0 v v ready.some).ended in
-    let ended : IsEnded (mixing_of j.plan) j.graph j.plan.limit t c.is_stable-stable.result =
-    subst (λ b. IsEnded (mixing_of j.plan) j.graph j.plan.limit t b) (sym c.is_stable-stable.ensures.value) (is_ended j 0 t v (found_verdict v) first (c.is_stable-stable.ensures.stands j 0 t first) over) in
-    let text = report_is j vs v labels t n c.is_stable-stable.result ready.some all ended (sym (ap (λ (h : Graph). h.vertices) same)) in
+    let text = report_text j c.args.graph.now c.args.replicas.now c.index-replicas-0.result c.superstep-end.result c.is_stable-stable.result c.requires.ready c.index-replicas-0.is c.superstep-end.ensures.value
+    c.is_stable-stable.ensures.value c.is_stable-stable.ensures.stands same stands in
     subst (λ (line : List ℕ). Appends (g.W.Write.contents c.args.writer.now) (g.W.Write.contents c.put_vertices.new.writer) line) text (Appends-trans _ _ _ _ _ c.in_ok-put_top.ensures.done h))
     c.put_vertices.ensures.done
+
+pub returns-clause-front : goal.returns-clause-front
+returns-clause-front g c = on_err_weaker c.put_vertices.result (λ h j same stands.
+    let text = report_text j c.args.graph.now c.args.replicas.now c.index-replicas-0.result c.superstep-end.result c.is_stable-stable.result c.requires.ready c.index-replicas-0.is c.superstep-end.ensures.value
+    c.is_stable-stable.ensures.value c.is_stable-stable.ensures.stands same stands in
+    subst (λ (line : List ℕ). PutsFront (g.W.Write.contents c.args.writer.now) (g.W.Write.contents c.put_vertices.new.writer) line) text (front_then _ _ _ _ _ c.in_ok-put_top.ensures.done h))
+    c.put_vertices.ensures.front
+
+pub returns-in_err-put_top-clause-front : goal.returns-in_err-put_top-clause-front
+returns-in_err-put_top-clause-front g c = on_err c.from_residual.result (λ j same stands.
+    let vs = c.args.replicas.now in
+    let t : ℕ = c.superstep-end.result in
+    let text = report_text j c.args.graph.now vs c.index-replicas-0.result t c.is_stable-stable.result c.requires.ready c.index-replicas-0.is c.superstep-end.ensures.value
+    c.is_stable-stable.ensures.value c.is_stable-stable.ensures.stands same stands in
+    subst (λ (line : List ℕ). PutsFront (g.W.Write.contents c.args.writer.now) (g.W.Write.contents c.put_top.new.writer) line) text
+    (front_first (head_text (totals_in vs t) t c.is_stable-stable.result) (lines_of_all c.args.graph.now vs) _ _ c.in_err-put_top.ensures.front))
