@@ -1,0 +1,143 @@
+-- The fixed fields and the digest that are read, as they are spelled.
+use Rattle.std.proofs.Common.{◌≡◌, ℕ, ◌+◌, ◌-◌, ◌<◌, ◌≤◌, List, [], ◌∷◌, ◌++◌, length, get_or, take, drop, Result, Ok, Err, refl, ap, ap₂, sym, ◌∙◌, subst, arith, append_assoc, append-nil, inl, inr}
+use Rattle.std.specs.Prelude.{Bool, true, false, not, ◌==◌, nat_lt, codes, if◌then◌else◌, ⊤}
+use Rattle.std.specs.Int.{w16, w32, to_be_bytes}
+use Rattle.std.specs.Str.{bytes_eq}
+use Rattle.std.proofs.lemmas.Slice.Eq.{bytes_eq-Decides}
+use Rattle.std.proofs.lemmas.Bool.{eqb-true, ltb-false}
+use Rattle.std.proofs.lemmas.List.{drop_more, drop-drop, take-append-drop, take_all, take_at, length-append, length-take, length-drop}
+use Rattle.sha2.specs.Sha256.{sha256}
+use Rattle.ball_model.specs.Job.{PartValue}
+use Rattle.ball_model.specs.State.{State}
+use Rattle.ball_model.specs.Checkpoint.{front_bytes, sealed}
+use Rattle.batches.specs.Kept.{field}
+use Rattle.batches.proofs.HeadLemmas.{field_2, field_4}
+use Rattle.checkpoint.specs.declared.header.Header.{Header}
+use Rattle.checkpoint.specs.declared.error.KeepError.{KeepError}
+use Rattle.checkpoint.specs.declared.error.KeepError.TheVariants as errors
+use Rattle.checkpoint.specs.Reading.{◌>>=◌, Form, needs, followed, content_form, told_body, sealed_form, seal_form, head_at, check_head, magic}
+use Rattle.checkpoint.proofs.ReaderLemmas.{same_bytes}
+
+-- ---- checks that pass
+abbrev is_ok : {A : Type 0} → Result A KeepError → Type 0
+is_ok (Ok x) = ⊤
+is_ok (Err e) = ⊥
+
+-- a check that passes, and what follows it
+goes_on : {A : Type 0} (b : Bool) (d : KeepError) (r : Result A KeepError) (y : A) → (if b then Err d else r) ≡ Ok y → (b ≡ false) × (r ≡ Ok y)
+goes_on true d r y e = absurd (subst is_ok (sym e) tt)
+goes_on false d r y e = (refl, e)
+
+holds : (b : Bool) → not b ≡ false → b ≡ true
+holds true e = refl
+holds false e = sym e
+
+same : (a b : ℕ) → not (a == b) ≡ false → a ≡ b
+same a b e = eqb-true a b (holds (a == b) e)
+
+-- ---- the fixed fields
+-- what stands from a place on: a field and the rest
+split : (at n : ℕ) (bytes : List ℕ) → drop at bytes ≡ take n (drop at bytes) ++ drop (at + n) bytes
+split at n bytes = sym (take-append-drop n (drop at bytes)) ∙ ap (λ (t : List ℕ). take n (drop at bytes) ++ t) (drop-drop n at bytes)
+
+four : (at : ℕ) (bytes : List ℕ) → at + 4 ≤ length bytes → ((i : ℕ) → get_or bytes i 0 < 256) → drop at bytes ≡ to_be_bytes w32 (field w32 at bytes) ++ drop (at + 4) bytes
+four at bytes long fits = split at 4 bytes ∙ ap (λ (t : List ℕ). t ++ drop (at + 4) bytes) (sym (field_4 at bytes long fits))
+
+two : (at : ℕ) (bytes : List ℕ) → at + 2 ≤ length bytes → ((i : ℕ) → get_or bytes i 0 < 256) → drop at bytes ≡ to_be_bytes w16 (field w16 at bytes) ++ drop (at + 2) bytes
+two at bytes long fits = split at 2 bytes ∙ ap (λ (t : List ℕ). t ++ drop (at + 2) bytes) (sym (field_2 at bytes long fits))
+
+-- the fixed fields as bytes, one field after another, and what follows them
+abbrev head_then : Header → List ℕ → List ℕ
+head_then h rest =
+    to_be_bytes w32 h.magic ++ (h.version ∷ h.log2m ∷ (to_be_bytes w16 h.parts ++ (to_be_bytes w16 h.partition ++ (to_be_bytes w32 h.vertices
+    ++ (to_be_bytes w32 h.size ++ (to_be_bytes w32 h.superstep ++ (h.job ++ rest)))))))
+
+-- what is read is spelled so
+pub head_is : (bytes : List ℕ) → 54 ≤ length bytes → ((i : ℕ) → get_or bytes i 0 < 256) → bytes ≡ head_then (head_at bytes) (drop 54 bytes)
+unfolding head_at
+head_is bytes long fits =
+    let e1 = split 22 32 bytes in
+    let e2 = four 18 bytes (omega arith) fits ∙ ap (λ (t : List ℕ). to_be_bytes w32 (field w32 18 bytes) ++ t) e1 in
+    let e3 = four 14 bytes (omega arith) fits ∙ ap (λ (t : List ℕ). to_be_bytes w32 (field w32 14 bytes) ++ t) e2 in
+    let e4 = four 10 bytes (omega arith) fits ∙ ap (λ (t : List ℕ). to_be_bytes w32 (field w32 10 bytes) ++ t) e3 in
+    let e5 = two 8 bytes (omega arith) fits ∙ ap (λ (t : List ℕ). to_be_bytes w16 (field w16 8 bytes) ++ t) e4 in
+    let e6 = two 6 bytes (omega arith) fits ∙ ap (λ (t : List ℕ). to_be_bytes w16 (field w16 6 bytes) ++ t) e5 in
+    let e7 = drop_more bytes 5 0 (omega arith) ∙ ap (λ (t : List ℕ). get_or bytes 5 0 ∷ t) e6 in
+    let e8 = drop_more bytes 4 0 (omega arith) ∙ ap (λ (t : List ℕ). get_or bytes 4 0 ∷ t) e7 in
+    four 0 bytes (omega arith) fits ∙ ap (λ (t : List ℕ). to_be_bytes w32 (field w32 0 bytes) ++ t) e8
+
+-- fixed fields of a part: what the checks say of them
+record IsHead (part : PartValue) (h : Header) : Type 0 where
+  magic : h.magic ≡ 0x4842434b
+  job : h.job ≡ part.plan.job
+  partition : h.partition ≡ part.number
+  log2m : h.log2m ≡ part.plan.log2m
+  parts : h.parts ≡ part.plan.parts
+  vertices : h.vertices ≡ part.plan.vertices
+  size : h.size ≡ length part.preds
+
+head_passed : (part : PartValue) (h : Header) → check_head part h ≡ Ok tt → IsHead part h
+unfolding check_head
+head_passed part h e =
+    let a = goes_on _ errors.Magic _ tt e in
+    let b = goes_on _ errors.Version _ tt a.1 in
+    let c = goes_on _ errors.OtherJob _ tt b.1 in
+    let d = goes_on _ errors.OtherPart _ tt c.1 in
+    let f = goes_on _ errors.Shape _ tt d.1 in
+    let g = goes_on _ errors.Shape _ tt f.1 in
+    let i = goes_on _ errors.Shape _ tt g.1 in
+    let j = goes_on _ errors.Shape _ tt i.1 in
+    record {
+      magic = same h.magic 0x4842434b a.0;
+      job = same_bytes h.job part.plan.job (holds (bytes_eq h.job part.plan.job) c.0);
+      partition = same h.partition part.number d.0;
+      log2m = same h.log2m part.plan.log2m f.0;
+      parts = same h.parts part.plan.parts g.0;
+      vertices = same h.vertices part.plan.vertices i.0;
+      size = same h.size (length part.preds) j.0;
+    }
+
+congr : (f : ℕ → ℕ → ℕ → ℕ → ℕ → ℕ → ℕ → ℕ → List ℕ → List ℕ) (a0 b0 a1 b1 a2 b2 a3 b3 a4 b4 a5 b5 a6 b6 a7 b7 : ℕ) (a8 b8 : List ℕ)
+    → a0 ≡ b0 → a1 ≡ b1 → a2 ≡ b2 → a3 ≡ b3 → a4 ≡ b4 → a5 ≡ b5 → a6 ≡ b6 → a7 ≡ b7 → a8 ≡ b8 → f a0 a1 a2 a3 a4 a5 a6 a7 a8 ≡ f b0 b1 b2 b3 b4 b5 b6 b7 b8
+congr f a0 b0 a1 b1 a2 b2 a3 b3 a4 b4 a5 b5 a6 b6 a7 b7 a8 b8 e0 e1 e2 e3 e4 e5 e6 e7 e8 = cc
+
+-- the fixed fields of the replica, version 2
+abbrev head_of : State → Header
+head_of v = record {
+  magic = 0x4842434b;
+  version = 2;
+  log2m = v.part.plan.log2m;
+  parts = v.part.plan.parts;
+  partition = v.part.number;
+  vertices = v.part.plan.vertices;
+  size = length v.part.preds;
+  superstep = v.superstep;
+  job = v.part.plan.job;
+}
+
+same_head : (v : State) (h : Header) (rest : List ℕ) → IsHead v.part h → h.version ≡ 2 → h.superstep ≡ v.superstep → head_then h rest ≡ head_then (head_of v) rest
+same_head v h rest is version superstep =
+    congr (λ x0 x1 x2 x3 x4 x5 x6 x7 x8. head_then (record { magic = x0; version = x1; log2m = x2; parts = x3; partition = x4; vertices = x5; size = x6; superstep = x7; job = x8 }) rest)
+    h.magic 0x4842434b h.version 2 h.log2m v.part.plan.log2m h.parts v.part.plan.parts h.partition v.part.number h.vertices v.part.plan.vertices h.size (length v.part.preds) h.superstep v.superstep h.job v.part.plan.job
+    is.magic version is.log2m is.parts is.partition is.vertices is.size superstep is.job
+
+-- the front of the replica is that of its fixed fields
+front_then : (v : State) (rest : List ℕ) → front_bytes 2 v ++ rest ≡ head_then (head_of v) rest
+unfolding front_bytes
+front_then v rest = simp append_assoc refl
+
+-- the front has 54 bytes
+front_len : (v : State) → length v.part.plan.job ≡ 32 → length (front_bytes 2 v) ≡ 54
+front_len v job =
+    let flat : length (front_bytes 2 v ++ []) ≡ length (head_then (head_of v) []) = ap length (front_then v []) in
+    let long : length (head_then (head_of v) []) ≡ 22 + length (v.part.plan.job ++ []) = omega arith in
+    omega (arith, flat, long, length-append (front_bytes 2 v) [], length-append v.part.plan.job [], job)
+
+-- fixed fields that pass are those of a replica of the part
+pub front_is : (v : State) (bytes : List ℕ) → ((i : ℕ) → get_or bytes i 0 < 256) → 54 ≤ length bytes → check_head v.part (head_at bytes) ≡ Ok tt
+    → (head_at bytes).version ≡ 2 → (head_at bytes).superstep ≡ v.superstep → length v.part.plan.job ≡ 32 → take 54 bytes ≡ front_bytes 2 v
+front_is v bytes fits long passed version superstep job =
+    let rest = drop 54 bytes in
+    let whole : bytes ≡ front_bytes 2 v ++ rest =
+    head_is bytes long fits ∙ same_head v (head_at bytes) rest (head_passed v.part (head_at bytes) passed) version superstep ∙ sym (front_then v rest) in
+    ap (take 54) whole ∙ take_at (front_bytes 2 v) rest 54 (front_len v job)

@@ -1,0 +1,10 @@
+pub mod WriteLemmas
+pub mod SpoolLemmas
+pub mod TextLemmas
+pub mod LengthLemmas
+pub mod LawLemmas
+pub mod ReaderLemmas
+pub mod HeldLemmas
+pub mod SavedLemmas
+pub mod SpelledLemmas
+pub mod FrontLemmas

@@ -1,0 +1,561 @@
+-- Bytes that are read part by part.
+use Rattle.std.proofs.Common.{◌≡◌, ℕ, suc, ◌+◌, ◌-◌, ◌*◌, ◌<◌, ◌≤◌, List, [], ◌++◌, length, take, drop, Result, Ok, Err, refl, ap, sym, ◌∙◌, subst, arith, append_assoc, append-nil, inl, inr}
+use Rattle.std.specs.Prelude.{◌==◌, ◌&&◌, ◌/◌, ◌%◌, ◌^◌, Bool, true, false, not, ⊤, Option, Some, None, OnOk, IfErr}
+use Rattle.std.specs.Int.{w16, w64, Width, byte_len, from_be_bytes}
+use Rattle.std.specs.Io.KnownBytes.{Consumes, IsAtEnd}
+use Rattle.std.proofs.KnownBytes.{Consumes-nil, Consumes-trans}
+use Rattle.std.proofs.Math.Seq.{take-append_seam, drop-append_seam}
+use Rattle.std.proofs.lemmas.Bool.{le-ltb, lt-ltb, cases_lt}
+use Rattle.std.proofs.lemmas.List.{length-append, length-take, take_all, take-append-le}
+use Rattle.ball_model.specs.PlanValue.{PlanValue}
+use Rattle.std.proofs.Math.Nat.{mul-le-mul_right, div-add-mod}
+use Rattle.std.proofs.Math.Dec.{leb, eqb}
+use Rattle.std.proofs.lemmas.Bool.{leb-true, eqb-true, cases_Bool}
+use Rattle.ball_model.specs.PlanValue.{part_size}
+use Rattle.std.specs.Str.{bytes_eq}
+use Rattle.std.proofs.lemmas.Slice.Eq.{bytes_eq-Decides}
+use Rattle.sha2.specs.Sha256.{sha256}
+use Rattle.edgelist.proofs.LabelLemmas.{text_same}
+use Rattle.ball_model.specs.declared.streams.Filled.{Filled}
+use Rattle.ball_model.specs.declared.streams.Filled.TheVariants as filled
+use Rattle.ball_model.specs.Job.{PartValue}
+use Rattle.ball_model.specs.Streams.{AfterAtMost, AreSure, EndsAfter, TakesAtMost, Rises}
+use Rattle.ball_model.proofs.StreamLemmas.{after_none}
+use Rattle.batches.specs.Kept.{field}
+use Rattle.checkpoint.specs.declared.header.Header.{Header}
+use Rattle.checkpoint.specs.declared.error.KeepError.{KeepError}
+use Rattle.checkpoint.specs.declared.error.KeepError.TheVariants as errors
+use Rattle.checkpoint.specs.Reading.{◌>>=◌, Form, needs, followed, is_batch_length, greatest_batch, told_batch, batch_form, batches_form, told_batches, early_form, fixed_length, most_body, most_early, held_form, content_form, sealed_form, told_body, body_form, check_head, head_at, seal_form, Takes, Grows, Fails, Ends, Refuses, IsRead, IsOfBytes, IsOfBody}
+
+-- ---- calls that are sure
+after_then : (n m : ℕ) (a b c : Option ℕ) → AfterAtMost n a b → AfterAtMost m b c → AfterAtMost (n + m) a c
+after_then n m None b c p q = subst (λ (o : Option ℕ). AfterAtMost m o c) p q
+after_then n m (Some k) None c p q = absurd p
+after_then n m (Some k) (Some j) None p q = absurd q
+after_then n m (Some k) (Some j) (Some i) p q = omega (arith, p, q)
+
+sure_rest : (n m : ℕ) (a b : Option ℕ) → AreSure a (n + m) → AfterAtMost n a b → AreSure b m
+sure_rest n m None b sure p = subst (λ (o : Option ℕ). AreSure o m) (sym p) tt
+sure_rest n m (Some k) None sure p = absurd p
+sure_rest n m (Some k) (Some j) sure p = omega (arith, sure, p)
+
+sure_fewer : (n m : ℕ) (a : Option ℕ) → AreSure a m → n ≤ m → AreSure a n
+sure_fewer n m None sure le = tt
+sure_fewer n m (Some k) sure le = omega (arith, sure, le)
+
+-- ---- forms
+pub needs-ok : (n : ℕ) (bytes : List ℕ) → n ≤ length bytes → needs n bytes ≡ Ok n
+unfolding needs
+needs-ok n bytes le = rw (le-ltb (length bytes) n le) refl
+
+pub needs-err : (n : ℕ) (bytes : List ℕ) → length bytes < n → needs n bytes ≡ Err errors.Short
+unfolding needs
+needs-err n bytes lt = rw (lt-ltb (length bytes) n lt) refl
+
+pub needs-piece : (n : ℕ) (piece rest : List ℕ) → length piece ≡ n → needs n (piece ++ rest) ≡ Ok (length piece)
+needs-piece n piece rest e = needs-ok n (piece ++ rest) (omega (arith, e, length-append piece rest)) ∙ ap Ok (sym e)
+
+abbrev is_ok : Result ℕ KeepError → Type 0
+is_ok (Ok x) = ⊤
+is_ok (Err e) = ⊥
+
+abbrev number : Result ℕ KeepError → ℕ
+number (Ok x) = x
+number (Err e) = 0
+
+-- what is there where so many bytes are
+pub needs-takes : (n k : ℕ) (bytes : List ℕ) → needs n bytes ≡ Ok k → n ≡ k
+needs-takes n k bytes e = elim (cases_lt (length bytes) n) [
+  | inl lt ↦ absurd (subst is_ok (sym e ∙ needs-err n bytes lt) tt)
+  | inr le ↦ ap number (sym (needs-ok n bytes le) ∙ e)
+]
+
+abbrev refusal : KeepError → Result ℕ KeepError
+refusal e = Err e
+
+-- and why they are refused
+pub needs-refuses : (n : ℕ) (e : KeepError) (bytes : List ℕ) → needs n bytes ≡ Err e → (length bytes < n) × (refusal errors.Short ≡ refusal e)
+needs-refuses n e bytes is = elim (cases_lt (length bytes) n) [
+  | inl lt ↦ (lt, sym (needs-err n bytes lt) ∙ is)
+  | inr le ↦ absurd (subst is_ok (sym (needs-ok n bytes le) ∙ is) tt)
+]
+
+pub followed-at : (first : Form) (second : List ℕ → Form) (piece rest : List ℕ) → first (piece ++ rest) ≡ Ok (length piece)
+    → followed first second (piece ++ rest) ≡ (second piece rest >>= λ k. Ok (length piece + k))
+unfolding followed
+followed-at first second piece rest e = rw (e, take-append_seam piece rest, drop-append_seam piece rest) refl
+
+pub followed-err : (first : Form) (second : List ℕ → Form) (bytes : List ℕ) (e : KeepError) → first bytes ≡ Err e → followed first second bytes ≡ Err e
+unfolding followed
+followed-err first second bytes e is = rw is refl
+
+-- ---- what is read
+pub takes_then : {R : Type 0} {remaining : R → Option (List ℕ)} {failed : R → ℕ} {sure : R → Option ℕ} (a b c : R) (xs ys : List ℕ)
+    → Takes remaining failed sure a b xs → Takes remaining failed sure b c ys → Takes remaining failed sure a c (xs ++ ys)
+takes_then {remaining} {failed} {sure} a b c xs ys p q = record {
+  consumed = Consumes-trans (remaining a) (remaining b) (remaining c) xs ys p.consumed q.consumed;
+  counted = q.counted ∙ p.counted;
+  calls = subst (λ n. AfterAtMost n (sure a) (sure c)) (sym (length-append xs ys)) (after_then (length xs) (length ys) (sure a) (sure b) (sure c) p.calls q.calls);
+}
+
+abbrev HasNone : Option (List ℕ) → Type 0
+HasNone None = ⊤
+HasNone (Some x) = ⊥
+
+abbrev bytes_of : Option (List ℕ) → List ℕ
+bytes_of None = []
+bytes_of (Some x) = x
+
+-- the bytes before are the piece and those that are left
+left : (old new : Option (List ℕ)) (piece bytes : List ℕ) → Consumes old new piece → old ≡ Some bytes → record { rest : List ℕ; is : new ≡ Some rest; split : bytes ≡ piece ++ rest }
+left None new piece bytes p e = absurd (subst HasNone e tt)
+left (Some xs) None piece bytes p e = absurd p
+left (Some xs) (Some ys) piece bytes p e = record { rest = ys; is = refl; split = sym (ap bytes_of e) ∙ p }
+
+pub grows_as : {R : Type 0} {remaining : R → Option (List ℕ)} {failed : R → ℕ} {sure : R → Option ℕ} {form : Form} {most : ℕ} {a b : R} {t u : List ℕ} (other : Form) (more : ℕ)
+    → ((bytes : List ℕ) → other bytes ≡ form bytes) → most ≤ more → Grows remaining failed sure form most a b t u → Grows remaining failed sure other more a b t u
+grows_as other more same le p = record { piece = p.piece; grown = p.grown; takes = p.takes; is_form = λ rest. same (p.piece ++ rest) ∙ p.is_form rest; few = omega (arith, p.few, le) }
+
+pub few_more : (n m : ℕ) (old new : Option (List ℕ)) → TakesAtMost n old new → n ≤ m → TakesAtMost m old new
+few_more n m old new p le = record { bytes = p.bytes; consumed = p.consumed; few = omega (arith, p.few, le) }
+
+pub fails_as : {R : Type 0} {remaining : R → Option (List ℕ)} {failed : R → ℕ} {sure : R → Option ℕ} {form : Form} {most : ℕ} {a b : R} {e : KeepError} (other : Form) (more : ℕ)
+    → ((bytes : List ℕ) → form bytes ≡ Err e → other bytes ≡ Err e) → most ≤ more → Fails remaining failed sure form most a b e → Fails remaining failed sure other more a b e
+fails_as {remaining} {sure} {most} {a} {b} other more same le p = record {
+  few = few_more most more (remaining a) (remaining b) p.few le;
+  rises = p.rises;
+  counted = p.counted;
+  unsure = λ is. p.unsure (sure_fewer most more (sure a) is le);
+  due = λ bytes known of. same bytes (p.due bytes known of);
+}
+
+-- where the first form is not there, the whole is not
+pub fails_first : {R : Type 0} {remaining : R → Option (List ℕ)} {failed : R → ℕ} {sure : R → Option ℕ} {form : Form} {most : ℕ} {a b : R} {e : KeepError} (second : List ℕ → Form) (more : ℕ)
+    → most ≤ more → Fails remaining failed sure form most a b e → Fails remaining failed sure (followed form second) more a b e
+fails_first {form} {e} second more le p = fails_as (followed form second) more (λ bytes is. followed-err form second bytes e is) le p
+
+-- a piece is read, and then the rest is not, for whatever form of the whole has this refusal then
+pub fails_then : {R : Type 0} {remaining : R → Option (List ℕ)} {failed : R → ℕ} {sure : R → Option ℕ} {a b c : R} {piece : List ℕ} {form : Form} {most : ℕ} {e : KeepError} (whole : Form) (n more : ℕ)
+    → Takes remaining failed sure a b piece → length piece ≤ n → n + most ≤ more → ((rest : List ℕ) → form rest ≡ Err e → whole (piece ++ rest) ≡ Err e)
+    → Fails remaining failed sure form most b c e → Fails remaining failed sure whole more a c e
+fails_then {remaining} {failed} {sure} {a} {b} {c} {piece} {form} {most} {e} whole n more p short le same q = record {
+  few = record { bytes = piece ++ q.few.bytes; consumed = Consumes-trans (remaining a) (remaining b) (remaining c) piece q.few.bytes p.consumed q.few.consumed; few = omega (arith, length-append piece q.few.bytes, q.few.few, short, le) };
+  rises = λ is. subst (λ k. Rises k (failed c)) p.counted (q.rises is);
+  counted = λ is. q.counted is ∙ p.counted;
+  unsure = λ is. q.unsure (sure_rest (length piece) most (sure a) (sure b) (sure_fewer (length piece + most) more (sure a) is (omega (arith, short, le))) p.calls);
+  due = λ bytes known of.
+      let l = left (remaining a) (remaining b) piece bytes p.consumed known in
+      rw l.split (same l.rest (q.due l.rest l.is of));
+}
+
+pub fails_second : {R : Type 0} {remaining : R → Option (List ℕ)} {failed : R → ℕ} {sure : R → Option ℕ} {a b c : R} {form : Form} {n most : ℕ} {t u : List ℕ} {e : KeepError} (second : List ℕ → Form) (more : ℕ)
+    → (p : Grows remaining failed sure form n a b t u) → n + most ≤ more → Fails remaining failed sure (second p.piece) most b c e → Fails remaining failed sure (followed form second) more a c e
+fails_second {form} {n} {e} second more p le q =
+    fails_then (followed form second) n more p.takes p.few le (λ rest is. followed-at form second p.piece rest (p.is_form rest) ∙ ap (λ (r : Result ℕ KeepError). r >>= λ k. Ok (length p.piece + k)) is) q
+
+-- nothing more is read, and what stands there is refused
+pub fails_here : {R : Type 0} (remaining : R → Option (List ℕ)) (failed : R → ℕ) (sure : R → Option ℕ) (a : R) (form : Form) (most : ℕ) (e : KeepError)
+    → (IsRead e → ⊥) → ((bytes : List ℕ) → IsOfBytes e → form bytes ≡ Err e) → Fails remaining failed sure form most a a e
+fails_here remaining failed sure a form most e other refused = record {
+  few = record { bytes = []; consumed = Consumes-nil (remaining a); few = omega arith };
+  rises = λ is. absurd (other is);
+  counted = λ _. refl;
+  unsure = λ _ is. other is;
+  due = λ bytes known of. refused bytes of;
+}
+
+pub grows_then : {R : Type 0} {remaining : R → Option (List ℕ)} {failed : R → ℕ} {sure : R → Option ℕ} {a b c : R} {form : Form} {n most : ℕ} {t u v : List ℕ} (second : List ℕ → Form) (more : ℕ)
+    → (p : Grows remaining failed sure form n a b t u) → n + most ≤ more → Grows remaining failed sure (second p.piece) most b c u v → Grows remaining failed sure (followed form second) more a c t v
+grows_then {a} {b} {c} {form} {n} {t} second more p le q =
+    let one = p.piece in
+    let two = q.piece in
+    record {
+      piece = one ++ two;
+      grown = q.grown ∙ ap (λ (l : List ℕ). l ++ two) p.grown ∙ append_assoc t one two;
+      takes = takes_then a b c one two p.takes q.takes;
+      is_form = λ rest. ap (followed form second) (append_assoc one two rest) ∙ followed-at form second one (two ++ rest) (p.is_form (two ++ rest))
+          ∙ ap (λ (r : Result ℕ KeepError). r >>= λ k. Ok (length one + k)) (q.is_form rest) ∙ ap Ok (sym (length-append one two));
+      few = omega (arith, length-append one two, p.few, q.few, le);
+    }
+
+-- nothing is read
+pub grows_none : {R : Type 0} (remaining : R → Option (List ℕ)) (failed : R → ℕ) (sure : R → Option ℕ) (a : R) (t : List ℕ) (form : Form) (most : ℕ)
+    → ((rest : List ℕ) → form rest ≡ Ok 0) → Grows remaining failed sure form most a a t t
+grows_none remaining failed sure a t form most is = record {
+  piece = [];
+  grown = sym (append-nil t);
+  takes = record { consumed = Consumes-nil (remaining a); counted = refl; calls = after_none (sure a) };
+  is_form = is;
+  few = omega arith;
+}
+
+-- ---- so many bytes, in pieces
+pub needs_then : {R : Type 0} {remaining : R → Option (List ℕ)} {failed : R → ℕ} {sure : R → Option ℕ} {a b c : R} {n m : ℕ} {t u v : List ℕ} (k : ℕ)
+    → k ≡ n + m → Grows remaining failed sure (needs n) n a b t u → Grows remaining failed sure (needs m) m b c u v → Grows remaining failed sure (needs k) k a c t v
+needs_then {a} {b} {c} {n} {m} {t} k sum p q =
+    let one = p.piece in
+    let two = q.piece in
+    let len = length-append one two in
+    let e1 = needs-takes n (length one) (one ++ []) (p.is_form []) in
+    let e2 = needs-takes m (length two) (two ++ []) (q.is_form []) in
+    record {
+      piece = one ++ two;
+      grown = q.grown ∙ ap (λ (l : List ℕ). l ++ two) p.grown ∙ append_assoc t one two;
+      takes = takes_then a b c one two p.takes q.takes;
+      is_form = λ rest. needs-piece k (one ++ two) rest (omega (arith, len, e1, e2, sum));
+      few = omega (arith, len, e1, e2, sum);
+    }
+
+pub needs_fails : {R : Type 0} {remaining : R → Option (List ℕ)} {failed : R → ℕ} {sure : R → Option ℕ} {a b c : R} {n m : ℕ} {t u : List ℕ} {e : KeepError} (k : ℕ)
+    → n + m ≤ k → Grows remaining failed sure (needs n) n a b t u → Fails remaining failed sure (needs m) m b c e → Fails remaining failed sure (needs k) k a c e
+needs_fails {n} {m} {e} k le p q =
+    let one = p.piece in
+    let e1 = needs-takes n (length one) (one ++ []) (p.is_form []) in
+    fails_then (needs k) n k p.takes p.few le (λ rest is. let r = needs-refuses m e rest is in needs-err k (one ++ rest) (omega (arith, length-append one rest, e1, r.0, le)) ∙ r.1) q
+
+-- the number that was read behind a text
+pub number_read : (w : Width) (at : ℕ) (t u piece : List ℕ) → at ≡ length t → u ≡ t ++ piece → length piece ≡ byte_len w → field w at u ≡ from_be_bytes w piece
+number_read w at t u piece e grown len =
+    let past : drop at u ≡ piece = ap (λ (n : ℕ). drop n u) e ∙ ap (drop (length t)) grown ∙ drop-append_seam t piece in
+    ap (from_be_bytes w) (ap (take (byte_len w)) past ∙ take_all (byte_len w) piece (omega (arith, len)))
+
+-- ---- batches
+-- so many of all batches were read
+pub record Walks {R : Type 0} (remaining : R → Option (List ℕ)) (failed : R → ℕ) (sure : R → Option ℕ) (plan : PlanValue) (count i each : ℕ) (a b : R) (t u : List ℕ) : Type 0 where
+  pub piece : List ℕ
+  pub grown : u ≡ t ++ piece
+  pub takes : Takes remaining failed sure a b piece
+  pub walk : (rest : List ℕ) → batches_form plan count (piece ++ rest) ≡ (batches_form plan (count - i) rest >>= λ k. Ok (length piece + k))
+  pub few : length piece ≤ i * each
+
+plus_none : (r : Result ℕ KeepError) → r ≡ (r >>= λ k. Ok (0 + k))
+plus_none (Ok x) = ap Ok (omega arith)
+plus_none (Err e) = refl
+
+plus_twice : (n m : ℕ) (r : Result ℕ KeepError) → ((r >>= λ k. Ok (m + k)) >>= λ k. Ok (n + k)) ≡ (r >>= λ k. Ok ((n + m) + k))
+plus_twice n m (Ok x) = ap Ok (omega arith)
+plus_twice n m (Err e) = refl
+
+pub walks_none : {R : Type 0} (remaining : R → Option (List ℕ)) (failed : R → ℕ) (sure : R → Option ℕ) (plan : PlanValue) (count each : ℕ) (a : R) (t : List ℕ)
+    → Walks remaining failed sure plan count 0 each a a t t
+walks_none remaining failed sure plan count each a t = record {
+  piece = [];
+  grown = sym (append-nil t);
+  takes = record { consumed = Consumes-nil (remaining a); counted = refl; calls = after_none (sure a) };
+  walk = λ rest. let all : count - 0 ≡ count = omega arith in rw all (plus_none (batches_form plan count rest));
+  few = omega arith;
+}
+
+one_more : (plan : PlanValue) (n : ℕ) (bytes : List ℕ) → batches_form plan (suc n) bytes ≡ followed (batch_form plan) (λ _. batches_form plan n) bytes
+unfolding batches_form
+one_more plan n bytes = refl
+
+pub walks_next : {R : Type 0} {remaining : R → Option (List ℕ)} {failed : R → ℕ} {sure : R → Option ℕ} {plan : PlanValue} {count i each : ℕ} {a b c : R} {t u v : List ℕ}
+    → i < count → Walks remaining failed sure plan count i each a b t u → Grows remaining failed sure (batch_form plan) each b c u v → Walks remaining failed sure plan count (i + 1) each a c t v
+walks_next {plan} {count} {i} {each} {a} {b} {c} {t} lt p q =
+    let one = p.piece in
+    let two = q.piece in
+    let k : count - i ≡ suc (count - (i + 1)) = omega arith in
+    let more : (i + 1) * each ≡ i * each + each = omega arith in
+    let n = count - (i + 1) in
+    record {
+      piece = one ++ two;
+      grown = q.grown ∙ ap (λ (l : List ℕ). l ++ two) p.grown ∙ append_assoc t one two;
+      takes = takes_then a b c one two p.takes q.takes;
+      walk = λ rest.
+          ap (batches_form plan count) (append_assoc one two rest) ∙ p.walk (two ++ rest)
+          ∙ ap (λ (r : Result ℕ KeepError). r >>= λ k. Ok (length one + k))
+          (ap (λ (j : ℕ). batches_form plan j (two ++ rest)) k ∙ one_more plan n (two ++ rest) ∙ followed-at (batch_form plan) (λ _. batches_form plan n) two rest (q.is_form rest))
+          ∙ plus_twice (length one) (length two) (batches_form plan n rest)
+          ∙ ap (λ (j : ℕ). batches_form plan n rest >>= λ k. Ok (j + k)) (sym (length-append one two));
+      few = omega (arith, length-append one two, p.few, q.few, more);
+    }
+
+pub walks_fails : {R : Type 0} {remaining : R → Option (List ℕ)} {failed : R → ℕ} {sure : R → Option ℕ} {plan : PlanValue} {count i each : ℕ} {a b c : R} {t u : List ℕ} {e : KeepError}
+    → i < count → Walks remaining failed sure plan count i each a b t u → Fails remaining failed sure (batch_form plan) each b c e → Fails remaining failed sure (batches_form plan count) (count * each) a c e
+walks_fails {plan} {count} {i} {each} {e} lt p q =
+    let k : count - i ≡ suc (count - (i + 1)) = omega arith in
+    let n = count - (i + 1) in
+    let all : count ≡ i + 1 + n = omega arith in
+    let most : i * each + each ≤ count * each = rw all (omega arith) in
+    fails_then (batches_form plan count) (i * each) (count * each) p.takes p.few most (λ rest is.
+    p.walk rest ∙ ap (λ (r : Result ℕ KeepError). r >>= λ k. Ok (length p.piece + k))
+    (ap (λ (j : ℕ). batches_form plan j rest) k ∙ one_more plan n rest ∙ followed-err (batch_form plan) (λ _. batches_form plan n) rest e is)) q
+
+no_more : (plan : PlanValue) (n : ℕ) (bytes : List ℕ) → n ≡ 0 → batches_form plan n bytes ≡ Ok 0
+unfolding batches_form
+no_more plan n bytes e = rw e refl
+
+pub walks_done : {R : Type 0} {remaining : R → Option (List ℕ)} {failed : R → ℕ} {sure : R → Option ℕ} {plan : PlanValue} {count i each : ℕ} {a b : R} {t u : List ℕ}
+    → i ≡ count → Walks remaining failed sure plan count i each a b t u → Grows remaining failed sure (batches_form plan count) (count * each) a b t u
+walks_done {plan} {count} {i} {each} e p = record {
+  piece = p.piece;
+  grown = p.grown;
+  takes = p.takes;
+  is_form = λ rest. p.walk rest ∙ ap (λ (r : Result ℕ KeepError). r >>= λ k. Ok (length p.piece + k)) (no_more plan (count - i) rest (omega (arith, e))) ∙ ap Ok (omega arith);
+  few = rw (← e) p.few;
+}
+
+-- ---- answers
+pub on_ok_as : {T P Q : Type 0} (r : Result T KeepError) → (P → Q) → OnOk r P → OnOk r Q
+on_ok_as (Ok x) f p = f p
+on_ok_as (Err e) f p = tt
+
+pub if_err_as : {T : Type 0} {P Q : KeepError → Type 0} (r : Result T KeepError) → ((e : KeepError) → P e → Q e) → IfErr r P → IfErr r Q
+if_err_as (Ok x) f p = tt
+if_err_as (Err e) f p = f e p
+
+-- ---- what a fill did
+abbrev IsGood : Filled → Type 0
+IsGood filled.Failed = ⊥
+IsGood x = ⊤
+
+pub ended_good : (n : ℕ) → filled.Ended n ≡ filled.Failed → ⊥
+ended_good n e = subst IsGood e tt
+
+pub full_good : filled.Full ≡ filled.Failed → ⊥
+full_good e = subst IsGood e tt
+
+-- the input ended too early
+pub ended_fails : {R : Type 0} (remaining : R → Option (List ℕ)) (failed : R → ℕ) (sure : R → Option ℕ) (a b : R) (form : Form) (n most k : ℕ) (buf : List ℕ)
+    → ((bytes : List ℕ) → length bytes < n → form bytes ≡ Err errors.Short) → EndsAfter k (remaining a) (remaining b) buf → length buf ≡ n → n ≤ most
+    → TakesAtMost n (remaining a) (remaining b) → failed b ≡ failed a → Fails remaining failed sure form most a b errors.Short
+ended_fails remaining failed sure a b form n most k buf short ends len le few same = record {
+  few = few_more n most (remaining a) (remaining b) few le;
+  rises = λ is. absurd is;
+  counted = λ _. same;
+  unsure = λ _ is. is;
+  due = λ bytes known _.
+      let l = left (remaining a) (remaining b) (take k buf) bytes ends.consumed known in
+      let none : l.rest ≡ [] = subst IsAtEnd l.is ends.last in
+      let size : length bytes ≡ length (take k buf) + length l.rest = ap length l.split ∙ length-append (take k buf) l.rest in
+      short bytes (omega (arith, size, ap length none, ends.fewer, len, length-take k buf));
+}
+
+-- ---- the digest
+seal-at : (text digest rest : List ℕ) → length digest ≡ 32 → bytes_eq digest (sha256 text) ≡ true → 0 < length rest → seal_form text (digest ++ rest) ≡ Err errors.Trailing
+unfolding seal_form
+seal-at text digest rest len same more =
+    let size = length-append digest rest in
+    let front : take 32 (digest ++ rest) ≡ digest = ap (λ (n : ℕ). take n (digest ++ rest)) (sym len) ∙ take-append_seam digest rest in
+    rw (le-ltb (length (digest ++ rest)) 32 (omega arith), front, same, lt-ltb 32 (length (digest ++ rest)) (omega arith)) refl
+
+seal-other : (text digest rest : List ℕ) → length digest ≡ 32 → bytes_eq digest (sha256 text) ≡ false → seal_form text (digest ++ rest) ≡ Err errors.Digest
+unfolding seal_form
+seal-other text digest rest len other =
+    let size = length-append digest rest in
+    let front : take 32 (digest ++ rest) ≡ digest = ap (λ (n : ℕ). take n (digest ++ rest)) (sym len) ∙ take-append_seam digest rest in
+    rw (le-ltb (length (digest ++ rest)) 32 (omega arith), front, other) refl
+
+pub seal-short : (text bytes : List ℕ) → length bytes < 32 → seal_form text bytes ≡ Err errors.Short
+unfolding seal_form
+seal-short text bytes lt = rw (lt-ltb (length bytes) 32 lt) refl
+
+pub seal_differs : {R : Type 0} {remaining : R → Option (List ℕ)} {failed : R → ℕ} {sure : R → Option ℕ} {a b : R} {digest : List ℕ} (text : List ℕ)
+    → Takes remaining failed sure a b digest → length digest ≡ 32 → bytes_eq digest (sha256 text) ≡ false → Fails remaining failed sure (seal_form text) 33 a b errors.Digest
+seal_differs {remaining} {failed} {sure} {b} {digest} text p len other =
+    fails_then (seal_form text) 32 33 p (omega (arith, len)) (omega arith) (λ rest _. seal-other text digest rest len other)
+    (fails_here remaining failed sure b (λ _. Err errors.Digest) 1 errors.Digest (λ is. is) (λ bytes _. refl))
+
+pub seal_trails : {R : Type 0} {remaining : R → Option (List ℕ)} {failed : R → ℕ} {sure : R → Option ℕ} {a b c : R} {digest more : List ℕ} (text : List ℕ)
+    → Takes remaining failed sure a b digest → length digest ≡ 32 → bytes_eq digest (sha256 text) ≡ true → Takes remaining failed sure b c more → length more ≡ 1
+    → Fails remaining failed sure (seal_form text) 33 a c errors.Trailing
+seal_trails {remaining} {failed} {sure} {a} {b} {c} {digest} {more} text p len same q one =
+    let size = length-append digest more in
+    fails_then (seal_form text) 33 33 (takes_then a b c digest more p q) (omega (arith, size, len, one)) (omega arith)
+    (λ rest _. ap (seal_form text) (append_assoc digest more rest) ∙ seal-at text digest (more ++ rest) len same (omega (arith, length-append more rest, one)))
+    (fails_here remaining failed sure c (λ _. Err errors.Trailing) 0 errors.Trailing (λ is. is) (λ bytes _. refl))
+
+pub seal_unread : {R : Type 0} {remaining : R → Option (List ℕ)} {failed : R → ℕ} {sure : R → Option ℕ} {a b c : R} {digest : List ℕ} (text : List ℕ)
+    → Takes remaining failed sure a b digest → length digest ≡ 32 → TakesAtMost 1 (remaining b) (remaining c) → failed b < failed c → (AreSure (sure b) 1 → ⊥)
+    → Fails remaining failed sure (seal_form text) 33 a c errors.Read
+seal_unread {remaining} {failed} {sure} {a} {b} {c} {digest} text p len few rises unsure =
+    fails_then {form = λ _. Ok 0} (seal_form text) 32 33 p (omega (arith, len)) (omega arith) (λ rest is. absurd (subst is_ok is tt))
+    (record { few = few; rises = λ _. rises; counted = λ is. absurd (is tt); unsure = λ is _. unsure is; due = λ bytes known is. absurd is })
+
+-- ---- lengths that are told
+grows-long : (n : ℕ) (t u piece : List ℕ) → u ≡ t ++ piece → needs n (piece ++ []) ≡ Ok (length piece) → length u ≡ length t + n
+grows-long n t u piece grown is = omega (arith, ap length grown, length-append t piece, needs-takes n (length piece) (piece ++ []) is)
+
+pub grown_by : {R : Type 0} {remaining : R → Option (List ℕ)} {failed : R → ℕ} {sure : R → Option ℕ} {most : ℕ} {a b : R} {t u : List ℕ} (n : ℕ) → Grows remaining failed sure (needs n) most a b t u → length u ≡ length t + n
+grown_by {t} {u} n p = grows-long n t u p.piece p.grown (p.is_form [])
+
+pub piece_is : {R : Type 0} {remaining : R → Option (List ℕ)} {failed : R → ℕ} {sure : R → Option ℕ} {most : ℕ} {a b : R} {t u : List ℕ} (n : ℕ) → (p : Grows remaining failed sure (needs n) most a b t u) → length p.piece ≡ n
+piece_is n p = sym (needs-takes n (length p.piece) (p.piece ++ []) (p.is_form []))
+
+pub told-refused : (plan : PlanValue) (piece bytes : List ℕ) → is_batch_length plan (from_be_bytes w64 piece) ≡ false → told_batch plan piece bytes ≡ Err errors.Shape
+unfolding told_batch
+told-refused plan piece bytes is = rw is refl
+
+pub told-needs : (plan : PlanValue) (piece bytes : List ℕ) (n : ℕ) → from_be_bytes w64 piece ≡ n → is_batch_length plan n ≡ true → told_batch plan piece bytes ≡ needs n bytes
+unfolding told_batch
+told-needs plan piece bytes n e is =
+    let here : is_batch_length plan (from_be_bytes w64 piece) ≡ true = ap (is_batch_length plan) e ∙ is in
+    rw here (ap (λ (k : ℕ). needs k bytes) e)
+
+abbrev IsYes : Bool → Type 0
+IsYes true = ⊤
+IsYes false = ⊥
+
+pub batch-small : (plan : PlanValue) (n : ℕ) → is_batch_length plan n ≡ true → n ≤ greatest_batch plan
+unfolding is_batch_length
+batch-small plan n is =
+    let row = 4 + 2 ^ plan.log2m in
+    let size = part_size plan.vertices plan.parts 0 in
+    let both = and-both (leb 54 n && (eqb ((n - 54) % row) 0)) (leb ((n - 54) / row) size) is in
+    let two = and-both (leb 54 n) (eqb ((n - 54) % row) 0) both.0 in
+    let le : (n - 54) / row ≤ size = leb-true _ _ both.1 in
+    let zero_left : (n - 54) % row ≡ 0 = eqb-true _ _ two.1 in
+    let sum = div-add-mod (n - 54) row in
+    let most : (n - 54) / row * row ≤ size * row = mul-le-mul_right row le in
+    let turn : row * ((n - 54) / row) ≡ (n - 54) / row * row = omega arith in
+    omega (arith, sum, zero_left, most, turn)
+  where
+    and-both : (a b : Bool) → (a && b) ≡ true → (a ≡ true) × (b ≡ true)
+    and-both true b e = (refl, e)
+    and-both false b e = absurd (subst IsYes (sym e) tt)
+
+pub number-refused : (plan : PlanValue) (piece bytes : List ℕ) (n : ℕ) → from_be_bytes w16 piece ≡ n → 3 * (plan.parts - 1) < n → told_batches plan piece bytes ≡ Err errors.Shape
+unfolding told_batches
+number-refused plan piece bytes n e lt =
+    rw (lt-ltb (3 * (plan.parts - 1)) (from_be_bytes w16 piece) (omega (arith, e, lt))) refl
+
+pub number-told : (plan : PlanValue) (piece bytes : List ℕ) (n : ℕ) → from_be_bytes w16 piece ≡ n → n ≤ 3 * (plan.parts - 1) → told_batches plan piece bytes ≡ batches_form plan n bytes
+unfolding told_batches
+number-told plan piece bytes n e le =
+    rw (le-ltb (3 * (plan.parts - 1)) (from_be_bytes w16 piece) (omega (arith, e, le))) (ap (λ (k : ℕ). batches_form plan k bytes) e)
+
+pub batches-most : (n m each : ℕ) → n ≤ m → n * each ≤ m * each
+batches-most n m each le = mul-le-mul_right each le
+
+pub held-none : (plan : PlanValue) (version : ℕ) (rest : List ℕ) → version ≡ 1 → held_form plan version rest ≡ Ok 0
+unfolding held_form
+held-none plan version rest e = rw e refl
+
+pub held-some : (plan : PlanValue) (version : ℕ) (rest : List ℕ) → (version == 1) ≡ false → held_form plan version rest ≡ early_form plan rest
+unfolding held_form
+held-some plan version rest e = rw e refl
+
+pub fixed-most : (part : PartValue) (h : Header) → fixed_length part h ≤ most_body part h.superstep
+fixed-most part h = elim (cases_Bool (h.version == 1)) [
+  | inl is ↦ rw is (omega arith)
+  | inr is ↦ rw is (omega arith)
+]
+
+pub fixed-early : (part : PartValue) (h : Header) → (h.version == 1) ≡ false → fixed_length part h + most_early part.plan ≤ most_body part h.superstep
+fixed-early part h is = rw is (omega arith)
+
+-- nothing more comes
+pub takes_ended : {R : Type 0} {remaining : R → Option (List ℕ)} {failed : R → ℕ} {sure : R → Option ℕ} {a b : R} {digest : List ℕ} (c : R) (k : ℕ) (buf : List ℕ) → Takes remaining failed sure a b digest
+    → EndsAfter k (remaining b) (remaining c) buf → length buf ≡ 1 → Consumes (remaining a) (remaining c) digest
+takes_ended {remaining} {a} {b} {digest} c k buf p ends one =
+    let few : k ≡ 0 = omega (arith, ends.fewer, one) in
+    let here : Consumes (remaining b) (remaining c) [] = subst (λ (n : ℕ). Consumes (remaining b) (remaining c) (take n buf)) few ends.consumed in
+    subst (λ (l : List ℕ). Consumes (remaining a) (remaining c) l) (append-nil digest) (Consumes-trans (remaining a) (remaining b) (remaining c) digest [] p.consumed here)
+
+pub same_bytes : (xs ys : List ℕ) → bytes_eq xs ys ≡ true → xs ≡ ys
+same_bytes xs ys is = (bytes_eq-Decides xs ys).0 is
+
+flip_true : (b : Bool) → true ≡ not b → b ≡ false
+flip_true true e = e
+flip_true false e = refl
+
+flip_false : (b : Bool) → false ≡ not b → b ≡ true
+flip_false true e = refl
+flip_false false e = e
+
+pub digest_other : (digest told text : List ℕ) → true ≡ not (bytes_eq digest told) → told ≡ sha256 text → bytes_eq digest (sha256 text) ≡ false
+digest_other digest told text e is = ap (bytes_eq digest) (sym is) ∙ flip_true (bytes_eq digest told) e
+
+pub digest_same : (digest told text : List ℕ) → false ≡ not (bytes_eq digest told) → told ≡ sha256 text → bytes_eq digest (sha256 text) ≡ true
+digest_same digest told text e is = ap (bytes_eq digest) (sym is) ∙ flip_false (bytes_eq digest told) e
+
+-- ---- the whole
+pub content-short : (part : PartValue) (bytes : List ℕ) → length bytes < 54 → content_form part bytes ≡ Err errors.Short
+content-short part bytes lt = followed-err (needs 54) (told_body part) bytes errors.Short (needs-err 54 bytes lt)
+
+pub told-body : (part : PartValue) (piece rest : List ℕ) (h : Header) → head_at piece ≡ h → check_head part h ≡ Ok tt → told_body part piece rest ≡ body_form part h rest
+unfolding told_body
+told-body part piece rest h is fine =
+    ap (λ (x : Header). check_head part x >>= λ _. body_form part x rest) is ∙ ap (λ (r : Result (Unit {0}) KeepError). r >>= λ _. body_form part h rest) fine
+
+told-bad : (part : PartValue) (piece rest : List ℕ) (e : KeepError) → Err e ≡ check_head part (head_at piece) → told_body part piece rest ≡ Err e
+unfolding told_body
+told-bad part piece rest e is = ap (λ (r : Result (Unit {0}) KeepError). r >>= λ _. body_form part (head_at piece) rest) (sym is)
+
+-- the fixed fields are refused
+pub head_fails : {R : Type 0} {remaining : R → Option (List ℕ)} {failed : R → ℕ} {sure : R → Option ℕ} {a b : R} {piece : List ℕ} (part : PartValue) (e : KeepError)
+    → Takes remaining failed sure a b piece → length piece ≡ 54 → Err e ≡ check_head part (head_at piece) → (IsRead e → ⊥) → Fails remaining failed sure (content_form part) 54 a b e
+head_fails {remaining} {failed} {sure} {a} {b} {piece} part e p len is other =
+    fails_then {form = λ _. Err e} (content_form part) 54 54 p (omega (arith, len)) (omega arith)
+    (λ rest _. followed-at (needs 54) (told_body part) piece rest (needs-piece 54 piece rest len) ∙ ap (λ (r : Result ℕ KeepError). r >>= λ k. Ok (length piece + k)) (told-bad part piece rest e is))
+    (fails_here remaining failed sure b (λ _. Err e) 0 e other (λ bytes _. refl))
+
+-- memory is refused
+pub memory_fails : {R : Type 0} {remaining : R → Option (List ℕ)} {failed : R → ℕ} {sure : R → Option ℕ} {a b : R} {piece : List ℕ} (form : Form) (most : ℕ)
+    → Takes remaining failed sure a b piece → length piece ≤ most → Fails remaining failed sure form most a b errors.Memory
+memory_fails {piece} form most p le = record {
+  few = record { bytes = piece; consumed = p.consumed; few = le };
+  rises = λ is. absurd is;
+  counted = λ _. p.counted;
+  unsure = λ _ is. is;
+  due = λ bytes known is. absurd is;
+}
+
+pub most-rises : (part : PartValue) (s t : ℕ) → s ≤ t → most_body part s ≤ most_body part t
+most-rises part s t le = omega (arith, le)
+
+seal-fine : (text bytes : List ℕ) → length (sha256 text) ≡ 32 → bytes ≡ sha256 text → seal_form text bytes ≡ Ok 32
+unfolding seal_form
+seal-fine text bytes len is =
+    let size : length bytes ≡ 32 = ap length is ∙ len in
+    let front : take 32 bytes ≡ sha256 text = take_all 32 bytes (omega (arith, size)) ∙ is in
+    let same : bytes_eq (take 32 bytes) (sha256 text) ≡ true = ap (λ (l : List ℕ). bytes_eq l (sha256 text)) front ∙ (text_same (sha256 text)) in
+    rw (le-ltb (length bytes) 32 (omega (arith, size)), same, le-ltb 32 (length bytes) (omega (arith, size))) refl
+
+-- all bytes were read and the digest is right
+pub whole_fine : {R : Type 0} {remaining : R → Option (List ℕ)} {failed : R → ℕ} {sure : R → Option ℕ} {a b : R} {most : ℕ} {t u : List ℕ} (c : R) (part : PartValue) (text : List ℕ) → (p : Grows remaining failed sure (content_form part) most a b t u) → p.piece ≡ text
+    → Consumes (remaining b) (remaining c) (sha256 text) → IsAtEnd (remaining c) → length (sha256 text) ≡ 32 → (bytes : List ℕ) → remaining a ≡ Some bytes → sealed_form part bytes ≡ Ok (length text + 32)
+whole_fine {remaining} {a} {b} c part text p is seal end len bytes known =
+    let one = left (remaining a) (remaining b) p.piece bytes p.takes.consumed known in
+    let two = left (remaining b) (remaining c) (sha256 text) one.rest seal one.is in
+    let none : two.rest ≡ [] = subst IsAtEnd two.is end in
+    let rest : one.rest ≡ sha256 text = two.split ∙ ap (λ (l : List ℕ). sha256 text ++ l) none ∙ append-nil (sha256 text) in
+    ap (sealed_form part) one.split ∙ followed-at (content_form part) seal_form p.piece one.rest (p.is_form one.rest)
+    ∙ ap (λ (l : List ℕ). seal_form l one.rest >>= λ k. Ok (length l + k)) is
+    ∙ ap (λ (r : Result ℕ KeepError). r >>= λ k. Ok (length text + k)) (seal-fine text one.rest len rest)
+
+-- and they are the content, sealed
+pub whole_sealed : {R : Type 0} {remaining : R → Option (List ℕ)} {failed : R → ℕ} {sure : R → Option ℕ} {a b : R} {form : Form} {most : ℕ} {t u : List ℕ} (c : R) (text : List ℕ) → (p : Grows remaining failed sure form most a b t u) → p.piece ≡ text
+    → Consumes (remaining b) (remaining c) (sha256 text) → IsAtEnd (remaining c) → (bytes : List ℕ) → remaining a ≡ Some bytes → bytes ≡ text ++ sha256 text
+whole_sealed {remaining} {a} {b} c text p is seal end bytes known =
+    let one = left (remaining a) (remaining b) p.piece bytes p.takes.consumed known in
+    let two = left (remaining b) (remaining c) (sha256 text) one.rest seal one.is in
+    let none : two.rest ≡ [] = subst IsAtEnd two.is end in
+    let rest : one.rest ≡ sha256 text = two.split ∙ ap (λ (l : List ℕ). sha256 text ++ l) none ∙ append-nil (sha256 text) in
+    one.split ∙ ap (λ (l : List ℕ). l ++ one.rest) is ∙ ap (λ (l : List ℕ). text ++ l) rest
+
+-- the front of what has grown
+pub front_kept : (n : ℕ) (whole front more : List ℕ) → whole ≡ front ++ more → length front ≡ n → take n whole ≡ front
+front_kept n whole front more grown len = ap (take n) grown ∙ take-append-le n front more (omega (arith, len)) ∙ take_all n front (omega (arith, len))
+
+-- a fault of the body is no failed read
+body_unread : (e : KeepError) → IsOfBody e → IsRead e → ⊥
+body_unread e of is = elim of [
+  | inl memory ↦ subst IsRead memory is
+  | inr shape ↦ subst IsRead shape is
+]
+
+-- what was read whole tells what no replica has, or finds no memory
+pub body_refuses : {R : Type 0} {remaining : R → Option (List ℕ)} {failed : R → ℕ} {form : Form} {most : ℕ} {a b : R} (sure : R → Option ℕ) (e : KeepError)
+    → Ends remaining failed form most a b → IsOfBody e → Refuses remaining failed sure form most a b e
+body_refuses sure e p of = record {
+  few = p.few;
+  rises = λ is. absurd (body_unread e of is);
+  counted = λ _. p.counted;
+  unsure = λ _ is. body_unread e of is;
+  due = λ bytes known told. elim of [
+    | inl memory ↦ absurd (subst IsOfBytes memory told)
+    | inr shape ↦ inr (shape, p.is_form bytes known)
+  ];
+}

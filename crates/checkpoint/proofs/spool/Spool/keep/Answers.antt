@@ -1,0 +1,18 @@
+use Rattle.checkpoint.proofs.WriteLemmas.{on_err, ok_then, err_then, stops_first, stops_then}
+use Rattle.checkpoint.proofs.SpoolLemmas.{passes_all}
+use Rattle.checkpoint.proofs.spool.Spool.keep.Goals as goal
+
+pub returns-in_err-put_out-clause-stops : goal.returns-in_err-put_out-clause-stops
+returns-in_err-put_out-clause-stops g c =
+    on_err c.from_residual.result (stops_first g.W.Write.contents g.W.CountedWrite.failed_calls g.W.CountedWrite.sure_calls g.W.CountedWrite.room _ _ _ _ c.in_err-put_out.ensures.stops)
+
+pub returns-clause-done : goal.returns-clause-done
+returns-clause-done g c =
+    let first = c.in_ok-put_out.ensures in
+    ok_then c.put.result c.put.ensures.done
+    (λ written. passes_all g.W.Write.contents g.W.CountedWrite.failed_calls g.W.CountedWrite.sure_calls g.W.CountedWrite.room _ _ _ c.args.self.now c.put_out.new.self _ c.args.bytes.now first.done first.digested first.empty written c.put.ensures.digested)
+
+pub returns-clause-stops : goal.returns-clause-stops
+returns-clause-stops g c =
+    err_then c.put.result c.put.ensures.stops
+    (λ stops. stops_then g.W.Write.contents g.W.CountedWrite.failed_calls g.W.CountedWrite.sure_calls g.W.CountedWrite.room _ _ _ _ _ c.in_ok-put_out.ensures.done stops)

@@ -1,0 +1,13 @@
+use Rattle.std.proofs.Common.{arith}
+use Rattle.checkpoint.proofs.WriteLemmas.{on_err}
+use Rattle.checkpoint.proofs.SpoolLemmas.{passes_piece, stops_piece}
+use Rattle.checkpoint.proofs.spool.Spool.keep_all.Goals as goal
+
+pub returns-in_err-keep-clause-stops : goal.returns-in_err-keep-clause-stops
+returns-in_err-keep-clause-stops g c =
+    on_err c.from_residual.result
+    (stops_piece g.W.Write.contents g.W.CountedWrite.failed_calls g.W.CountedWrite.sure_calls g.W.CountedWrite.room (λ field. field.now) c.args.fields.now c.loop-field.field-index _ _ _ _ _ _ (omega arith) c.loop-field.invariant c.in_err-keep.ensures.stops)
+
+pub loop-field-preserved : goal.loop-field-preserved
+loop-field-preserved g c =
+    passes_piece g.W.Write.contents g.W.CountedWrite.failed_calls g.W.CountedWrite.sure_calls g.W.CountedWrite.room (λ field. field.now) c.args.fields.now c.loop-field.field-index _ _ _ _ _ _ _ (omega arith) c.loop-field.invariant c.in_ok-keep.ensures.done

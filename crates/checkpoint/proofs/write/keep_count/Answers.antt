@@ -1,0 +1,23 @@
+use Rattle.std.proofs.Common.{List, length, ap, arith}
+use Rattle.ball_model.specs.Batches.{BatchValue}
+use Rattle.replica.proofs.RebuiltLemmas.{kept_are}
+use Rattle.checkpoint.proofs.WriteLemmas.{ok_then, err_then}
+use Rattle.checkpoint.proofs.SpoolLemmas.{passes_as, stops_as}
+use Rattle.checkpoint.proofs.TextLemmas.{count_is, early_few}
+use Rattle.checkpoint.proofs.write.keep_count.Goals as goal
+
+pub overflow_cast-count : goal.overflow_cast-count
+overflow_cast-count g c =
+    let v = c.args.replica.now in
+    let s = c.size_of-size.ensures.state in
+    omega (arith, c.early_count-count.ensures.value, ap (λ (l : List BatchValue). length l) (kept_are v.early), early_few v.part.plan.parts v.early s.early.table, s.part.plan.parts_to)
+
+pub returns-clause-done : goal.returns-clause-done
+returns-clause-done g c =
+    ok_then c.keep.result c.keep.ensures.done
+    (λ p. passes_as g.W.Write.contents g.W.CountedWrite.failed_calls g.W.CountedWrite.sure_calls g.W.CountedWrite.room _ _ _ _ _ _ (count_is c.args.replica.now c.early_count-count.result c.to_be_bytes.result c.early_count-count.ensures.value c.to_be_bytes.ensures) p)
+
+pub returns-clause-stops : goal.returns-clause-stops
+returns-clause-stops g c =
+    err_then c.keep.result c.keep.ensures.stops
+    (λ p. stops_as g.W.Write.contents g.W.CountedWrite.failed_calls g.W.CountedWrite.sure_calls g.W.CountedWrite.room _ _ _ _ _ (count_is c.args.replica.now c.early_count-count.result c.to_be_bytes.result c.early_count-count.ensures.value c.to_be_bytes.ensures) p)

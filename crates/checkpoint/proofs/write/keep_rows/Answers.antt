@@ -1,0 +1,21 @@
+use Rattle.std.proofs.Common.{[], ◌<◌, length, arith}
+use Rattle.ball_model.specs.Batches.{row_bytes}
+use Rattle.checkpoint.proofs.WriteLemmas.{on_err}
+use Rattle.checkpoint.proofs.SpoolLemmas.{passes_as, stops_as, passes_piece, stops_piece}
+use Rattle.checkpoint.proofs.TextLemmas.{row_is}
+use Rattle.checkpoint.proofs.write.keep_rows.Goals as goal
+
+pub returns-in_err-keep_all-clause-stops : goal.returns-in_err-keep_all-clause-stops
+returns-in_err-keep_all-clause-stops g c =
+    let rows = c.args.batch.now.rows in
+    let lt : c.loop-i.i < length rows = omega (arith, c.count-i-end.ensures.value) in
+    let row = row_is rows c.loop-i.i c.id.result c.to_be_bytes.result c.registers.result.now lt c.id.ensures.value c.to_be_bytes.ensures c.registers.ensures.value in
+    on_err c.from_residual.result
+    (stops_piece g.W.Write.contents g.W.CountedWrite.failed_calls g.W.CountedWrite.sure_calls g.W.CountedWrite.room row_bytes rows c.loop-i.i (0, []) _ _ _ _ _ lt c.loop-i.invariant (stops_as g.W.Write.contents g.W.CountedWrite.failed_calls g.W.CountedWrite.sure_calls g.W.CountedWrite.room _ _ _ _ _ row c.in_err-keep_all.ensures.stops))
+
+pub loop-i-preserved : goal.loop-i-preserved
+loop-i-preserved g c =
+    let rows = c.args.batch.now.rows in
+    let lt : c.loop-i.i < length rows = omega (arith, c.count-i-end.ensures.value) in
+    let row = row_is rows c.loop-i.i c.id.result c.to_be_bytes.result c.registers.result.now lt c.id.ensures.value c.to_be_bytes.ensures c.registers.ensures.value in
+    passes_piece g.W.Write.contents g.W.CountedWrite.failed_calls g.W.CountedWrite.sure_calls g.W.CountedWrite.room row_bytes rows c.loop-i.i (0, []) _ _ _ _ _ _ lt c.loop-i.invariant (passes_as g.W.Write.contents g.W.CountedWrite.failed_calls g.W.CountedWrite.sure_calls g.W.CountedWrite.room _ _ _ _ _ _ row c.in_ok-keep_all.ensures.done)

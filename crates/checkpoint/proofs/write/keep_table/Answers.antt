@@ -1,0 +1,19 @@
+use Rattle.std.proofs.Common.{refl}
+use Rattle.checkpoint.proofs.TextLemmas.{table_is}
+use Rattle.checkpoint.proofs.WriteLemmas.{on_err, ok_then, err_then}
+use Rattle.checkpoint.proofs.SpoolLemmas.{passes_next, stops_front, stops_behind}
+use Rattle.checkpoint.proofs.write.keep_table.Goals as goal
+
+pub returns-in_err-keep_vertices-clause-stops : goal.returns-in_err-keep_vertices-clause-stops
+returns-in_err-keep_vertices-clause-stops g c =
+    on_err c.from_residual.result (stops_front g.W.Write.contents g.W.CountedWrite.failed_calls g.W.CountedWrite.sure_calls g.W.CountedWrite.room _ _ _ _ _ _ (table_is c.args.replica.now c.args.replica.now.sums refl) c.in_err-keep_vertices.ensures.stops)
+
+pub returns-clause-done : goal.returns-clause-done
+returns-clause-done g c =
+    ok_then c.keep_sums.result c.keep_sums.ensures.done
+    (λ p. passes_next g.W.Write.contents g.W.CountedWrite.failed_calls g.W.CountedWrite.sure_calls g.W.CountedWrite.room _ _ _ _ _ _ _ _ _ (table_is c.args.replica.now c.sums.result.now c.sums.ensures.value) c.in_ok-keep_vertices.ensures.done p)
+
+pub returns-clause-stops : goal.returns-clause-stops
+returns-clause-stops g c =
+    err_then c.keep_sums.result c.keep_sums.ensures.stops
+    (λ p. stops_behind g.W.Write.contents g.W.CountedWrite.failed_calls g.W.CountedWrite.sure_calls g.W.CountedWrite.room _ _ _ _ _ _ _ _ (table_is c.args.replica.now c.sums.result.now c.sums.ensures.value) c.in_ok-keep_vertices.ensures.done p)

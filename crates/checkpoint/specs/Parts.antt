@@ -1,0 +1,24 @@
+-- Parts of a checkpoint's bytes.
+use Rattle.std.specs.Prelude.{ℕ, ◌+◌, ◌*◌, ◌^◌, List, [], ◌∷◌, ◌++◌, length, slice_get}
+use Rattle.std.specs.List.{flat_map}
+use Rattle.std.specs.Option.{option_to_list}
+use Rattle.std.specs.Int.{w16, w64, to_be_bytes}
+use Rattle.ball_model.specs.Checkpoint.{mask_of, mark_byte, early_bytes, kept_batches}
+use Rattle.ball_model.specs.PlanValue.{most_vertices}
+use Rattle.ball_model.specs.State.{State}
+
+-- which sources are heard, and whether one of them tells of a change
+unfoldable pub heard_bytes : State → List ℕ
+heard_bytes v = to_be_bytes w64 (mask_of v.heard) ++ (mark_byte v.heard_change ∷ [])
+
+-- how many batches are kept
+unfoldable pub count_bytes : State → List ℕ
+count_bytes v = to_be_bytes w16 (length (kept_batches v.early))
+
+-- the i-th of them, where there are so many
+unfoldable pub nth_bytes : State → ℕ → List ℕ
+nth_bytes v i = flat_map early_bytes (option_to_list (slice_get (kept_batches v.early) i))
+
+-- a batch has at most so many bytes, with its length before it
+abbrev pub greatest_batch : ℕ
+greatest_batch = 8 + (54 + most_vertices * (4 + 2 ^ 10))

@@ -1,0 +1,206 @@
+-- Reading a checkpoint: what its bytes have to be, part by part, and the first refusal.
+use Rattle.std.specs.Prelude.{◌≡◌, ℕ, zero, suc, ◌+◌, ◌-◌, ◌*◌, ◌/◌, ◌%◌, ◌^◌, ◌≤◌, ◌==◌, ◌&&◌, Bool, not, if◌then◌else◌, nat_lt, nat_le, List, ◌++◌, length, take, drop, slice_index, Option, Some, Result, Ok, Err, IsOk, ◌⊎◌, ⊤}
+use Rattle.std.specs.Int.{w16, w32, w64, from_be_bytes}
+use Rattle.std.specs.Io.KnownBytes.{Consumes, IsAtEnd}
+use Rattle.std.specs.Str.{bytes_eq}
+use Rattle.sha2.specs.Sha256.{sha256}
+use Rattle.ball_model.specs.Job.{PartValue}
+use Rattle.ball_model.specs.PlanValue.{PlanValue, part_size}
+use Rattle.ball_model.specs.Streams.{AfterAtMost, AreSure, Rises, TakesAtMost}
+use Rattle.batches.specs.Kept.{field}
+use Rattle.checkpoint.specs.declared.error.KeepError.{KeepError}
+use Rattle.checkpoint.specs.declared.error.KeepError.TheVariants as errors
+use Rattle.checkpoint.specs.declared.header.Header.{Header}
+
+infixl 10 ◌>>=◌
+-- a step and what follows it, or the refusal of the step
+abbrev pub ◌>>=◌ : {A B : Type 0} → Result A KeepError → (A → Result B KeepError) → Result B KeepError
+(Ok x) >>= f = f x
+(Err e) >>= f = Err e
+
+-- A form says how many of the bytes at the front are its own, or why they are refused.
+abbrev pub Form : Type 0
+Form = List ℕ → Result ℕ KeepError
+
+-- so many bytes
+unfoldable pub needs : ℕ → Form
+needs n bytes = if nat_lt (length bytes) n then Err errors.Short else Ok n
+
+-- one form, and after it another, which may rest on the bytes of the first
+unfoldable pub followed : Form → (List ℕ → Form) → Form
+followed first second bytes = do
+  n ← first bytes
+  k ← second (take n bytes) (drop n bytes)
+  Ok (n + k)
+
+-- ---- the fixed fields
+unfoldable pub head_at : List ℕ → Header
+head_at bytes = record {
+  magic = field w32 0 bytes;
+  version = slice_index bytes 4;
+  log2m = slice_index bytes 5;
+  parts = field w16 6 bytes;
+  partition = field w16 8 bytes;
+  vertices = field w32 10 bytes;
+  size = field w32 14 bytes;
+  superstep = field w32 18 bytes;
+  job = take 32 (drop 22 bytes);
+}
+
+-- HBCK
+abbrev pub magic : ℕ
+magic = 0x4842434b
+
+-- the checks of the fixed fields, in their order
+unfoldable pub check_head : PartValue → Header → Result (Unit {0}) KeepError
+check_head part h =
+    if not (h.magic == magic) then Err errors.Magic
+    else if not (h.version == 1) && not (h.version == 2) then Err errors.Version
+    else if not (bytes_eq h.job part.plan.job) then Err errors.OtherJob
+    else if not (h.partition == part.number) then Err errors.OtherPart
+    else if not (h.log2m == part.plan.log2m) then Err errors.Shape
+    else if not (h.parts == part.plan.parts) then Err errors.Shape
+    else if not (h.vertices == part.plan.vertices) then Err errors.Shape
+    else if not (h.size == length part.preds) then Err errors.Shape
+    else if nat_lt part.plan.limit h.superstep then Err errors.Shape
+    else Ok tt
+
+-- ---- what follows them
+-- how many bytes there are up to the early batches: vertices and sums, and in version 2 what is heard
+abbrev pub fixed_length : PartValue → Header → ℕ
+fixed_length part h =
+    length part.preds * (33 + 2 ^ part.plan.log2m) + 16 * (h.superstep + 1)
+    + (if h.version == 1 then 0 else 9 + length part.preds * 2 ^ part.plan.log2m)
+
+-- the length of a batch of at most so many rows as the first partition has vertices
+unfoldable pub is_batch_length : PlanValue → ℕ → Bool
+is_batch_length plan n =
+    nat_le 54 n && ((n - 54) % (4 + 2 ^ plan.log2m) == 0)
+    && nat_le ((n - 54) / (4 + 2 ^ plan.log2m)) (part_size plan.vertices plan.parts 0)
+
+-- the greatest such length
+abbrev pub greatest_batch : PlanValue → ℕ
+greatest_batch plan = 54 + part_size plan.vertices plan.parts 0 * (4 + 2 ^ plan.log2m)
+
+-- as many bytes as the length says
+unfoldable pub told_batch : PlanValue → List ℕ → Form
+told_batch plan number rest =
+    if is_batch_length plan (from_be_bytes w64 number)
+    then needs (from_be_bytes w64 number) rest else Err errors.Shape
+
+-- a batch, and before it its length
+abbrev pub batch_form : PlanValue → Form
+batch_form plan = followed (needs 8) (told_batch plan)
+
+unfoldable pub batches_form : PlanValue → ℕ → Form
+batches_form plan zero bytes = Ok 0
+batches_form plan (suc n) bytes = followed (batch_form plan) (λ _. batches_form plan n) bytes
+
+-- as many batches as the number says, which are at most three of each other partition
+unfoldable pub told_batches : PlanValue → List ℕ → Form
+told_batches plan number rest =
+    if nat_lt (3 * (plan.parts - 1)) (from_be_bytes w16 number) then Err errors.Shape
+    else batches_form plan (from_be_bytes w16 number) rest
+
+abbrev pub early_form : PlanValue → Form
+early_form plan = followed (needs 2) (told_batches plan)
+
+-- in version 2 there are early batches
+unfoldable pub held_form : PlanValue → ℕ → Form
+held_form plan version rest = if version == 1 then Ok 0 else early_form plan rest
+
+abbrev pub body_form : PartValue → Header → Form
+body_form part h = followed (needs (fixed_length part h)) (λ _. held_form part.plan h.version)
+
+-- the fixed fields pass, and the rest follows
+unfoldable pub told_body : PartValue → List ℕ → Form
+told_body part head rest = check_head part (head_at head) >>= λ fine. body_form part (head_at head) rest
+
+-- all that stands before the digest
+abbrev pub content_form : PartValue → Form
+content_form part = followed (needs 54) (told_body part)
+
+-- the digest of the content, and nothing after it
+unfoldable pub seal_form : List ℕ → Form
+seal_form content bytes =
+    if nat_lt (length bytes) 32 then Err errors.Short
+    else if not (bytes_eq (take 32 bytes) (sha256 content)) then Err errors.Digest
+    else if nat_lt 32 (length bytes) then Err errors.Trailing
+    else Ok 32
+
+abbrev pub sealed_form : PartValue → Form
+sealed_form part = followed (content_form part) seal_form
+
+-- ---- what is read at most
+abbrev pub most_early : PlanValue → ℕ
+most_early plan = 2 + 3 * (plan.parts - 1) * (8 + greatest_batch plan)
+
+abbrev pub most_body : PartValue → ℕ → ℕ
+most_body part t =
+    length part.preds * (33 + 2 ^ part.plan.log2m) + 16 * (t + 1)
+    + 9 + length part.preds * 2 ^ part.plan.log2m + most_early part.plan
+
+-- the length of a checkpoint of the part at superstep t with the most and the greatest early batches
+abbrev pub most_bytes : PartValue → ℕ → ℕ
+most_bytes part t = 54 + most_body part t + 32
+
+-- ---- readers
+-- a read failed
+abbrev pub IsRead : KeepError → Type 0
+IsRead errors.Read = ⊤
+IsRead e = ⊥
+
+-- the bytes decide
+abbrev pub IsOfBytes : KeepError → Type 0
+IsOfBytes errors.Read = ⊥
+IsOfBytes errors.Memory = ⊥
+IsOfBytes e = ⊤
+
+-- memory was refused, or the bytes tell what no replica has
+abbrev pub IsOfBody : KeepError → Type 0
+IsOfBody e = (e ≡ errors.Memory) ⊎ (e ≡ errors.Shape)
+
+-- a reader that tells its bytes, its failed calls, and which calls are sure gave the bytes
+pub record Takes {R : Type 0} (remaining : R → Option (List ℕ)) (failed : R → ℕ)
+    (sure : R → Option ℕ) (old new : R) (bytes : List ℕ) : Type 0 where
+  pub consumed : Consumes (remaining old) (remaining new) bytes
+  pub counted : failed new ≡ failed old
+  pub calls : AfterAtMost (length bytes) (sure old) (sure new)
+
+-- the bytes of a form, at most so many, were read behind what was there
+pub record Grows {R : Type 0} (remaining : R → Option (List ℕ)) (failed : R → ℕ)
+    (sure : R → Option ℕ) (form : Form) (most : ℕ) (old new : R) (before after : List ℕ) : Type 0
+  where
+    pub piece : List ℕ
+    pub grown : after ≡ before ++ piece
+    pub takes : Takes remaining failed sure old new piece
+    pub is_form : (rest : List ℕ) → form (piece ++ rest) ≡ Ok (length piece)
+    pub few : length piece ≤ most
+
+-- they were not: a call failed that was not sure, memory was refused, or the bytes are refused
+pub record Fails {R : Type 0} (remaining : R → Option (List ℕ)) (failed : R → ℕ)
+    (sure : R → Option ℕ) (form : Form) (most : ℕ) (old new : R) (e : KeepError) : Type 0 where
+  pub few : TakesAtMost most (remaining old) (remaining new)
+  pub rises : IsRead e → Rises (failed old) (failed new)
+  pub counted : (IsRead e → ⊥) → failed new ≡ failed old
+  pub unsure : AreSure (sure old) most → IsRead e → ⊥
+  pub due : (bytes : List ℕ) → remaining old ≡ Some bytes → IsOfBytes e → form bytes ≡ Err e
+
+-- all bytes were read, at most so many and no more, and are of the form
+pub record Ends {R : Type 0} (remaining : R → Option (List ℕ)) (failed : R → ℕ) (form : Form)
+    (most : ℕ) (old new : R) : Type 0 where
+  pub few : TakesAtMost most (remaining old) (remaining new)
+  pub end : IsAtEnd (remaining new)
+  pub counted : failed new ≡ failed old
+  pub is_form : (bytes : List ℕ) → remaining old ≡ Some bytes → IsOk (form bytes)
+
+-- a call failed that was not sure, memory was refused, the form refuses the bytes, or they are of the form and tell what
+-- no replica has
+pub record Refuses {R : Type 0} (remaining : R → Option (List ℕ)) (failed : R → ℕ)
+    (sure : R → Option ℕ) (form : Form) (most : ℕ) (old new : R) (e : KeepError) : Type 0 where
+  pub few : TakesAtMost most (remaining old) (remaining new)
+  pub rises : IsRead e → Rises (failed old) (failed new)
+  pub counted : (IsRead e → ⊥) → failed new ≡ failed old
+  pub unsure : AreSure (sure old) most → IsRead e → ⊥
+  pub due : (bytes : List ℕ) → remaining old ≡ Some bytes → IsOfBytes e →
+      (form bytes ≡ Err e) ⊎ ((e ≡ errors.Shape) × IsOk (form bytes))

@@ -1,0 +1,25 @@
+-- What is written, and digested as it is written.
+use Rattle.std.specs.Prelude.{◌≡◌, ◌-◌, ◌≤◌, ◌++◌, ℕ, List, Option, length}
+use Rattle.std.specs.Io.KnownBytes.{Appends}
+use Rattle.sha2.specs.declared.Sha256.{Sha256}
+use Rattle.sha2.specs.Hashers.{Holds256}
+use Rattle.ball_model.specs.Streams.{AfterAtMost, AreSure, PutsFront, Rises}
+
+-- the hasher was given these bytes more
+abbrev pub Hashes : Sha256 → Sha256 → List ℕ → Type 0
+Hashes old new bytes = (m : List ℕ) → Holds256 old m → Holds256 new (m ++ bytes)
+
+-- a writer that tells its bytes, its failed calls, and which calls are sure, took the bytes
+pub record Writes {W : Type 0} (contents : W → Option (List ℕ)) (failed : W → ℕ)
+    (sure : W → Option ℕ) (room : W → ℕ) (old new : W) (bytes : List ℕ) : Type 0 where
+  pub appended : Appends (contents old) (contents new) bytes
+  pub counted : failed new ≡ failed old
+  pub calls : AfterAtMost (length bytes) (sure old) (sure new)
+  pub taken : room new ≡ room old - length bytes
+
+-- it failed before all of them were written: a beginning is, and a call failed that was not sure
+pub record Stops {W : Type 0} (contents : W → Option (List ℕ)) (failed : W → ℕ)
+    (sure : W → Option ℕ) (room : W → ℕ) (old new : W) (bytes : List ℕ) : Type 0 where
+  pub front : PutsFront (contents old) (contents new) bytes
+  pub rises : Rises (failed old) (failed new)
+  pub unsure : AreSure (sure old) (length bytes) → length bytes ≤ room old → ⊥

@@ -1,0 +1,116 @@
+//! The fixed fields of a checkpoint.
+
+ghost use Rattle.std.specs.Prelude.{◌≡◌, ◌+◌, ◌≤◌, length, take, drop, OnOk, IfErr};
+ghost use Rattle.std.specs.Int.{w16, w32, w64, from_be_bytes};
+ghost use Rattle.batches.specs.Kept.{field};
+ghost use Rattle.checkpoint.specs.Reading.{check_head, head_at, IsRead};
+
+use crate::error::KeepError;
+use edgelist::Part;
+
+/// `HBCK`.
+pub(crate) const MAGIC: u32 = 0x4842_434b;
+
+/// How many bytes the fixed fields have.
+pub(crate) const HEADER_LEN: usize = 54;
+
+/// The fixed fields, as they stand.
+#[derive(Clone, Copy)]
+pub struct Header {
+    /// `HBCK` in every checkpoint.
+    pub magic: u32,
+    /// 1 or 2.
+    pub version: u8,
+    /// The binary logarithm of the number of registers.
+    pub log2m: u8,
+    /// The number of partitions.
+    pub parts: u16,
+    /// The number of the partition.
+    pub partition: u16,
+    /// How many vertices the graph has.
+    pub vertices: u32,
+    /// How many vertices the partition has.
+    pub size: u32,
+    /// The superstep.
+    pub superstep: u32,
+    /// The job digest.
+    pub job: [u8; 32],
+}
+
+// The big-endian number of two bytes at a place.
+pub(crate) fn u16_at(bytes: &[u8], at: usize) -> u16
+    requires { at + 2 ≤ length bytes.now }
+    ensures { result ≡ field w16 at bytes.now }
+{
+    u16::from_be_bytes([bytes[at], bytes[at + 1]])
+}
+
+// The big-endian number of four bytes at a place.
+pub(crate) fn u32_at(bytes: &[u8], at: usize) -> u32
+    requires { at + 4 ≤ length bytes.now }
+    ensures { result ≡ field w32 at bytes.now }
+{
+    u32::from_be_bytes([bytes[at], bytes[at + 1], bytes[at + 2], bytes[at + 3]])
+}
+
+// The 32 bytes at place 22.
+fn job_at(bytes: &[u8]) -> [u8; 32]
+    requires { HEADER_LEN ≤ length bytes.now }
+    ensures { result ≡ take 32 (drop 22 bytes.now) }
+{
+    let mut job = [0; 32];
+    job.copy_from_slice(&bytes[22..54]);
+    job
+}
+
+/// The fixed fields of bytes that are long enough.
+#[tactic(auto, unfolding(crate::specs::Reading::head_at))]
+pub(crate) fn read_header(bytes: &[u8]) -> Header
+    requires { HEADER_LEN ≤ length bytes.now }
+    ensures { result ≡ head_at bytes.now }
+{
+    Header {
+        magic: u32_at(bytes, 0),
+        version: bytes[4],
+        log2m: bytes[5],
+        parts: u16_at(bytes, 6),
+        partition: u16_at(bytes, 8),
+        vertices: u32_at(bytes, 10),
+        size: u32_at(bytes, 14),
+        superstep: u32_at(bytes, 18),
+        job: job_at(bytes),
+    }
+}
+
+/// The first fault of the fixed fields.
+#[tactic(auto, unfolding(crate::specs::Reading::check_head))]
+pub(crate) fn check_header(part: &Part, header: &Header) -> Result<(), KeepError>
+    ensures value { result ≡ check_head part.now header.now }
+    ensures in_time { OnOk result (header.now.superstep ≤ part.now.plan.limit) }
+    ensures small { OnOk result (header.now.superstep ≤ 4096) }
+    ensures of_bytes { IfErr result (λ e. IsRead e → ⊥) }
+{
+    let plan = part.plan();
+    if header.magic != MAGIC {
+        return Err(KeepError::Magic);
+    }
+    if header.version != 1 && header.version != 2 {
+        return Err(KeepError::Version);
+    }
+    if header.job != plan.job() {
+        return Err(KeepError::OtherJob);
+    }
+    if header.partition != part.partition() {
+        return Err(KeepError::OtherPart);
+    }
+    if header.log2m != plan.log2m() || header.parts != plan.parts() {
+        return Err(KeepError::Shape);
+    }
+    if header.vertices != plan.vertices() || header.size != part.size() {
+        return Err(KeepError::Shape);
+    }
+    if header.superstep > plan.limit() {
+        return Err(KeepError::Shape);
+    }
+    Ok(())
+}

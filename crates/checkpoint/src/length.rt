@@ -1,0 +1,89 @@
+//! How many bytes a checkpoint has.
+
+ghost use Rattle.std.specs.Prelude.{◌≡◌, ◌+◌, ◌*◌, ◌≤◌, length};
+ghost use Rattle.std.specs.List.{flat_map};
+ghost use Rattle.ball_model.specs.Batches.{batch_bytes};
+ghost use Rattle.ball_model.specs.Checkpoint.{checkpoint_bytes, early_bytes, kept_batches};
+ghost use Rattle.ball_model.specs.PlanValue.{most_parts};
+ghost use Rattle.checkpoint.specs.Parts.{nth_bytes, greatest_batch};
+
+use batches::Batch;
+use replica::{Replica, Shown};
+
+/// How many bytes stand before the vertices.
+const FRONT_LEN: u64 = 54;
+
+/// How many bytes each vertex has beside its registers: a mark and its figures.
+const ENTRY_LEN: u64 = 33;
+
+/// How many bytes stand before the accumulators: what is heard, and whether it tells of a change.
+const HEARD_LEN: u64 = 9;
+
+/// How many bytes each sum has.
+const SUM_LEN: u64 = 16;
+
+/// How many bytes the number of batches has.
+const COUNT_LEN: u64 = 2;
+
+/// How many bytes the length of a batch has.
+const LENGTH_LEN: u64 = 8;
+
+/// How many bytes a SHA-256 has.
+const DIGEST_LEN: u64 = 32;
+
+/// How many bytes [`write_checkpoint`](crate::write_checkpoint) writes. It takes no memory.
+///
+/// These are 54 bytes; 33 for each vertex of the partition, and twice its registers; 16 for each superstep from 0 on;
+/// 11, and for each batch that is kept 8 and its own; and 32.
+pub fn checkpoint_length(replica: &Replica) -> u64
+    ensures { result ≡ length (checkpoint_bytes replica.now) }
+{
+    // the limits of a replica are told with its superstep
+    let _superstep = replica.superstep();
+    let size = replica.rows().len() as u64;
+    let width = replica.rows().width() as u64;
+    let sums = replica.sums().len() as u64;
+    FRONT_LEN
+        + size * (ENTRY_LEN + width)
+        + SUM_LEN * sums
+        + HEARD_LEN
+        + size * width
+        + COUNT_LEN
+        + early_length(replica)
+        + DIGEST_LEN
+}
+
+// How many bytes the batches have that are kept, each with its length before it.
+fn early_length(replica: &Replica) -> u64
+    ensures value { result ≡ length (flat_map early_bytes (kept_batches replica.now.early)) }
+    ensures few { result ≤ 3 * most_parts * greatest_batch }
+{
+    // the limits of a replica are told with its superstep
+    let _superstep = replica.superstep();
+    let mut length = 0;
+    for i in 0..replica.early_count() {
+        length += nth_length(replica, i);
+    }
+    length
+}
+
+// How many bytes the i-th of them has with its length before it, where there are so many.
+fn nth_length(replica: &Replica, i: u32) -> u64
+    ensures value { result ≡ length (nth_bytes replica.now i) }
+    ensures few { result ≤ greatest_batch }
+{
+    match replica.early(i) {
+        Some(batch) => LENGTH_LEN + batch_length(batch),
+        None => 0,
+    }
+}
+
+// How many bytes a batch has.
+fn batch_length(batch: &Batch) -> u64
+    ensures value { result ≡ length (batch_bytes batch.now) }
+    ensures few { result + 8 ≤ greatest_batch }
+{
+    // the limits of a batch are told with its name
+    let _name = batch.name();
+    batch.length()
+}

@@ -1,0 +1,32 @@
+//! A replica as bytes, from which a worker that was lost comes back (Pregel 2010).
+//!
+//! [`write_checkpoint`] writes all that a replica has: registers, marks and figures of its vertices, the sums of its
+//! estimates, and the batches that it holds: what it has heard of its superstep, and what it keeps of later ones. The
+//! SHA-256 of all bytes follows them. What is written is a definition of `ball_model`. [`read_checkpoint`] reads it, and
+//! what version 1 wrote, which tells of no batches.
+//!
+//! ```text
+//! let mut writer = MemWriter::with_room(alloc, checkpoint_length(&replica) as usize, None)?;
+//! write_checkpoint(&replica, &mut writer)?;
+//! read_checkpoint(alloc, part, &mut MemReader::new(&writer.into_bytes(), None))?    // the same replica
+//! ```
+#![tactic(auto)]
+
+pub mod error;
+mod header;
+pub mod laws;
+pub mod length;
+pub mod read;
+mod saved;
+mod spool;
+mod stream;
+pub mod write;
+
+pub use ball_model::{CountedRead, CountedWrite};
+pub use error::KeepError;
+pub use length::checkpoint_length;
+pub use read::read_checkpoint;
+pub use write::write_checkpoint;
+
+#[cfg(test)]
+mod tests;

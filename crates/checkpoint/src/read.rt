@@ -1,0 +1,166 @@
+//! Reading a checkpoint.
+
+ghost use Rattle.std.specs.Prelude.{◌≡◌, ◌+◌, ◌≤◌, ℕ, List, [], Ok, Some, IfOk, OnOk, IfErr, length, take, slice_index_or};
+ghost use Rattle.std.specs.Arc.{arc_value};
+ghost use Rattle.ball_model.specs.Checkpoint.{checkpoint_bytes, sealed};
+ghost use Rattle.ball_model.specs.State.{State};
+ghost use Rattle.ball_model.specs.Streams.{AreSure, TakesAtMost};
+ghost use Rattle.replica.specs.Saved.{Fits, IsKeepable, IsRebuilt};
+ghost use Rattle.replica.specs.Seen.{IsState};
+ghost use Rattle.checkpoint.specs.Reading.{needs, head_at, check_head, content_form, sealed_form, most_body, most_bytes, Ends, Grows, Fails, Refuses, IsRead, IsOfBytes};
+
+use crate::error::KeepError;
+use crate::header::{HEADER_LEN, Header, check_header, read_header};
+use crate::saved::saved_of;
+use crate::stream::{read_body, read_seal};
+use ball_model::{CountedRead, Filled, fill};
+use edgelist::Part;
+use replica::{Replica, Saved};
+use std::alloc::Global;
+use std::sync::Arc;
+
+// Reads the fixed fields into the text, and checks them before it takes memory.
+fn read_head<R: CountedRead>(
+    part: &Part,
+    reader: &mut R,
+    text: &mut Vec<u8>,
+) -> Result<Header, KeepError>
+    requires { text.old.items ≡ [] }
+    ensures done { OnOk result (Grows R.remaining R.failed_calls R.sure_calls (needs HEADER_LEN)
+        HEADER_LEN reader.old reader.new text.old.items text.new.items) }
+    ensures head { IfOk result (λ h. h ≡ head_at text.new.items) }
+    ensures length { OnOk result (length text.new.items ≡ HEADER_LEN) }
+    ensures checked { IfOk result (λ h. check_head part.now h ≡ Ok tt) }
+    ensures in_time { IfOk result (λ h. h.superstep ≤ part.now.plan.limit) }
+    ensures small { IfOk result (λ h. h.superstep ≤ 4096) }
+    ensures fails { IfErr result (λ e. Fails R.remaining R.failed_calls R.sure_calls
+        (content_form part.now) HEADER_LEN reader.old reader.new e) }
+{
+    let mut head = [0; HEADER_LEN];
+    match fill(reader, &mut head) {
+        Filled::Full => {}
+        Filled::Ended { count: _ } => return Err(KeepError::Short),
+        Filled::Failed => return Err(KeepError::Read),
+    }
+    let header = read_header(&head);
+    check_header(part, &header)?;
+    text.extend_from_slice(&head)?;
+    Ok(header)
+}
+
+// Reads the fixed fields and what follows them, up to the digest.
+fn read_content<R: CountedRead>(
+    part: &Part,
+    reader: &mut R,
+    text: &mut Vec<u8>,
+) -> Result<Header, KeepError>
+    requires { text.old.items ≡ [] }
+    ensures done { OnOk result (Grows R.remaining R.failed_calls R.sure_calls
+        (content_form part.now) (54 + most_body part.now part.now.plan.limit)
+        reader.old reader.new text.old.items text.new.items) }
+    ensures head { IfOk result (λ h. h ≡ head_at (take HEADER_LEN text.new.items)) }
+    ensures length { OnOk result (HEADER_LEN ≤ length text.new.items) }
+    ensures checked { IfOk result (λ h. check_head part.now h ≡ Ok tt) }
+    ensures in_time { IfOk result (λ h. h.superstep ≤ part.now.plan.limit) }
+    ensures small { IfOk result (λ h. h.superstep ≤ 4096) }
+    ensures fails { IfErr result (λ e. Fails R.remaining R.failed_calls R.sure_calls
+        (content_form part.now) (54 + most_body part.now part.now.plan.limit)
+        reader.old reader.new e) }
+{
+    let header = read_head(part, reader, text)?;
+    read_body(reader, part, &header, text)?;
+    Ok(header)
+}
+
+// Reads all bytes up to the end, and leaves those before the digest, which is right.
+fn read_text<R: CountedRead>(
+    part: &Part,
+    reader: &mut R,
+    text: &mut Vec<u8>,
+) -> Result<Header, KeepError>
+    requires { text.old.items ≡ [] }
+    ensures done { OnOk result (Ends R.remaining R.failed_calls (sealed_form part.now)
+        (most_bytes part.now part.now.plan.limit + 1) reader.old reader.new) }
+    ensures head { IfOk result (λ h. h ≡ head_at (take HEADER_LEN text.new.items)) }
+    ensures length { OnOk result (HEADER_LEN ≤ length text.new.items) }
+    ensures checked { IfOk result (λ h. check_head part.now h ≡ Ok tt) }
+    ensures sealed { OnOk result ((bytes : List ℕ) → R.remaining reader.old ≡ Some bytes →
+        bytes ≡ sealed text.new.items) }
+    ensures in_time { IfOk result (λ h. h.superstep ≤ part.now.plan.limit) }
+    ensures small { IfOk result (λ h. h.superstep ≤ 4096) }
+    ensures fails { IfErr result (λ e. Fails R.remaining R.failed_calls R.sure_calls
+        (sealed_form part.now) (most_bytes part.now part.now.plan.limit + 1)
+        reader.old reader.new e) }
+{
+    let header = read_content(part, reader, text)?;
+    read_seal(reader, text)?;
+    Ok(header)
+}
+
+// What the reader tells of a replica of the part.
+fn read_saved<R: CountedRead>(
+    alloc: Global,
+    part: &Part,
+    reader: &mut R,
+) -> Result<Saved, KeepError>
+    ensures fits { IfOk result (λ s. Fits part.now s) }
+    ensures done { OnOk result (Ends R.remaining R.failed_calls (sealed_form part.now)
+        (most_bytes part.now part.now.plan.limit + 1) reader.old reader.new) }
+    ensures spelled { IfOk result (λ s. (v : State) → IsRebuilt part.now s v → IsState v →
+        (bytes : List ℕ) → R.remaining reader.old ≡ Some bytes → slice_index_or bytes 4 0 ≡ 2 →
+        bytes ≡ checkpoint_bytes v) }
+    ensures refused { IfErr result (λ e. Refuses R.remaining R.failed_calls R.sure_calls
+        (sealed_form part.now) (most_bytes part.now part.now.plan.limit + 1)
+        reader.old reader.new e) }
+{
+    let mut text = Vec::new(alloc);
+    let header = read_text(part, reader, &mut text)?;
+    let saved = saved_of(alloc, part, &header, &text)?;
+    if !saved.fits(part) {
+        return Err(KeepError::Shape);
+    }
+    Ok(saved)
+}
+
+/// The replica of the part whose checkpoint the reader gives.
+///
+/// The bytes are checked in this order: [`Short`](KeepError::Short) (fixed fields), [`Magic`](KeepError::Magic),
+/// [`Version`](KeepError::Version), [`OtherJob`](KeepError::OtherJob), [`OtherPart`](KeepError::OtherPart),
+/// [`Shape`](KeepError::Shape) (fixed fields), [`Memory`](KeepError::Memory), `Short` (up to the accumulators, or in
+/// version 1 up to the sums); the number of early batches (`Short`, `Shape`), and each batch's length (`Short`,
+/// `Shape`) and bytes (`Memory`, `Short`); `Short` (digest), [`Digest`](KeepError::Digest),
+/// [`Trailing`](KeepError::Trailing); and then `Shape` and `Memory` of what the bytes tell.
+/// [`Read`](KeepError::Read) is answered where a call of the reader fails.
+///
+/// Memory is taken as the bytes come, never for a number that they only claim. Version 1 tells of no batches.
+pub fn read_checkpoint<R: CountedRead>(
+    alloc: Global,
+    part: Arc<Part>,
+    reader: &mut R,
+) -> Result<Replica, KeepError>
+    // The replica is of the part.
+    ensures part { IfOk result (λ r. r.part ≡ arc_value part) }
+    // All bytes were read, their parts stand in order, and the digest is right.
+    ensures whole { OnOk result (Ends R.remaining R.failed_calls (sealed_form (arc_value part))
+        (most_bytes (arc_value part) (arc_value part).plan.limit + 1) reader.old reader.new) }
+    // What is read of version 2 is the spelling of the replica; so what was written is read.
+    ensures read { IfOk result (λ r. (bytes : List ℕ) → R.remaining reader.old ≡ Some bytes →
+        slice_index_or bytes 4 0 ≡ 2 → bytes ≡ checkpoint_bytes r) }
+    ensures back { (v : State) → IsKeepable v → v.part ≡ arc_value part →
+        R.remaining reader.old ≡ Some (checkpoint_bytes v) → IfOk result (λ r. r ≡ v) }
+    ensures keepable { IfOk result IsKeepable }
+    // A read failed exactly where that is told, and none of sure calls does.
+    ensures counted { OnOk result (R.failed_calls reader.new ≡ R.failed_calls reader.old) }
+    ensures few { TakesAtMost (most_bytes (arc_value part) (arc_value part).plan.limit + 1)
+        (R.remaining reader.old) (R.remaining reader.new) }
+    ensures only { AreSure (R.sure_calls reader.old)
+        (most_bytes (arc_value part) (arc_value part).plan.limit + 1) →
+        IfErr result (λ e. IsRead e → ⊥) }
+    // Which refusal it is, and what was read.
+    ensures refused { IfErr result (λ e. Refuses R.remaining R.failed_calls R.sure_calls
+        (sealed_form (arc_value part)) (most_bytes (arc_value part) (arc_value part).plan.limit + 1)
+        reader.old reader.new e) }
+{
+    let saved = read_saved(alloc, &part, reader)?;
+    Ok(Replica::rebuild(alloc, part, saved)?)
+}

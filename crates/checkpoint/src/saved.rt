@@ -1,0 +1,393 @@
+//! What the bytes of a checkpoint tell of a replica.
+
+ghost use Rattle.std.specs.Prelude.{◌≡◌, ◌+◌, ◌*◌, ◌^◌, ◌≤◌, ◌<◌, ◌++◌, ◌∷◌, [], ℕ, length, map, drop, replicate, slice_index_or, IfOk, OnOk, IsOk, IfErr};
+ghost use Rattle.std.specs.List.{All, flat_map};
+ghost use Rattle.ball_model.specs.Checkpoint.{early_bytes, mark_byte, entry_bytes};
+ghost use Rattle.std.specs.Int.{w16, w64, w128, to_be_bytes};
+ghost use Rattle.std.specs.Arc.{arc_value};
+ghost use Rattle.figures.specs.Values.{value_of};
+ghost use Rattle.batches.specs.Kept.{field};
+ghost use Rattle.checkpoint.specs.Reading.{IsOfBody};
+ghost use Rattle.checkpoint.specs.declared.header.TheConstants.{HEADER_LEN};
+ghost use Rattle.checkpoint.specs.Spelling.{held_text, table_text};
+ghost use Rattle.checkpoint.specs.Told.{IsAdded, AreNone, AreTold};
+
+use crate::error::KeepError;
+use crate::header::{HEADER_LEN, Header, u16_at};
+use crate::stream::u64_at;
+use batches::{Batch, BatchError};
+use edgelist::Part;
+use figures::Tally;
+use registers::{Rows, SourceMask};
+use replica::Saved;
+use std::alloc::{AllocError, Global};
+use std::sync::Arc;
+
+// The registers, marks and figures of vertices.
+#[derive(Drop)]
+struct Vertices {
+    rows: Rows,
+    marks: Vec<bool>,
+    tallies: Vec<Tally>,
+}
+
+// What is heard of the superstep, and what is kept of later ones.
+#[derive(Drop)]
+struct Held {
+    heard: SourceMask,
+    heard_change: bool,
+    accumulated: Rows,
+    early: Vec<Arc<Batch>>,
+}
+
+// So many bytes, and those after them.
+fn cut(bytes: &[u8], count: usize) -> Result<(&[u8], &[u8]), KeepError>
+    ensures split { IfOk result (λ r. bytes.now ≡ r.0.now ++ r.1.now) }
+    ensures length { IfOk result (λ r. length r.0.now ≡ count) }
+    ensures only { count ≤ length bytes.now → IsOk result }
+    ensures kind { IfErr result IsOfBody }
+{
+    if bytes.len() < count {
+        return Err(KeepError::Shape);
+    }
+    Ok(bytes.split_at(count))
+}
+
+// The big-endian number of sixteen bytes at a place.
+fn u128_at(bytes: &[u8], at: usize) -> u128
+    requires { at + 16 ≤ length bytes.now }
+    ensures { result ≡ field w128 at bytes.now }
+{
+    let mut number = [0; 16];
+    number.copy_from_slice(&bytes[at..at + 16]);
+    u128::from_be_bytes(number)
+}
+
+// The number of eight bytes, and the bytes after it.
+fn read_u64(bytes: &[u8]) -> Result<(u64, &[u8]), KeepError>
+    ensures spelled { IfOk result (λ r. bytes.now ≡ to_be_bytes w64 r.0 ++ r.1.now) }
+    ensures kind { IfErr result IsOfBody }
+{
+    let (number, rest) = cut(bytes, 8)?;
+    Ok((u64_at(number, 0), rest))
+}
+
+// The number of sixteen bytes, and the bytes after it.
+fn read_u128(bytes: &[u8]) -> Result<(u128, &[u8]), KeepError>
+    ensures spelled { IfOk result (λ r. bytes.now ≡ to_be_bytes w128 r.0 ++ r.1.now) }
+    ensures kind { IfErr result IsOfBody }
+{
+    let (number, rest) = cut(bytes, 16)?;
+    Ok((u128_at(number, 0), rest))
+}
+
+// Adds an item at the end.
+fn add<T: Drop>(items: &mut Vec<T>, item: T) -> Result<(), AllocError>
+    ensures { OnOk result (items.new.items ≡ items.old.items ++ item ∷ []) }
+{
+    items.push(item)?;
+    Ok(())
+}
+
+// A batch that may be shared.
+fn shared(alloc: Global, batch: Batch) -> Result<Arc<Batch>, AllocError>
+    ensures { IfOk result (λ b. arc_value b ≡ batch) }
+{
+    Ok(Arc::new(alloc, batch)?)
+}
+
+// A mark of one byte.
+fn mark_of(byte: u8) -> Result<bool, KeepError>
+    ensures spelled { IfOk result (λ mark. byte ≡ mark_byte mark) }
+    ensures kind { IfErr result IsOfBody }
+{
+    match byte {
+        0 => Ok(false),
+        1 => Ok(true),
+        _ => Err(KeepError::Shape),
+    }
+}
+
+// The mark of the first byte, and the bytes after it.
+fn read_mark(bytes: &[u8]) -> Result<(bool, &[u8]), KeepError>
+    ensures spelled { IfOk result (λ r. bytes.now ≡ mark_byte r.0 ∷ r.1.now) }
+    ensures kind { IfErr result IsOfBody }
+{
+    let (first, rest) = cut(bytes, 1)?;
+    Ok((mark_of(first[0])?, rest))
+}
+
+// The mark and the figures of a vertex, and the bytes after them.
+fn figures_of(bytes: &[u8]) -> Result<((bool, Tally), &[u8]), KeepError>
+    ensures spelled { IfOk result (λ r. bytes.now
+        ≡ entry_bytes r.0.0 (value_of r.0.1) r.1.now) }
+    ensures kind { IfErr result IsOfBody }
+{
+    let (mark, rest) = read_mark(bytes)?;
+    let (last, rest) = read_u64(rest)?;
+    let (harm, rest) = read_u64(rest)?;
+    let (dist, rest) = read_u128(rest)?;
+    match Tally::of(last, harm, dist) {
+        Some(tally) => Ok(((mark, tally), rest)),
+        None => Err(KeepError::Shape),
+    }
+}
+
+// Adds the vertex with this index, whose registers are zeros so far, and answers the bytes after it.
+fn add_vertex<'a>(vertices: &mut Vertices, i: usize, bytes: &'a [u8]) -> Result<&'a [u8], KeepError>
+    requires place { i < length vertices.old.rows.rows }
+    requires zeros { slice_index_or vertices.old.rows.rows i []
+        ≡ replicate vertices.old.rows.width 0 }
+    ensures added { IfOk result (λ rest.
+        IsAdded vertices.old vertices.new i bytes.now rest.now) }
+    ensures width { vertices.new.rows.width ≡ vertices.old.rows.width }
+    ensures count { length vertices.new.rows.rows ≡ length vertices.old.rows.rows }
+    ensures kind { IfErr result IsOfBody }
+{
+    let ((mark, tally), after) = figures_of(bytes)?;
+    let (row, rest) = cut(after, vertices.rows.width())?;
+    add(&mut vertices.marks, mark)?;
+    add(&mut vertices.tallies, tally)?;
+    vertices.rows.raise(i, row);
+    Ok(rest)
+}
+
+// Adds the vertices, ascending, where there are none yet, and answers the bytes after them.
+fn add_vertices<'a>(vertices: &mut Vertices, bytes: &'a [u8]) -> Result<&'a [u8], KeepError>
+    requires { AreNone vertices.old }
+    ensures told { IfOk result (λ rest.
+        AreTold (length vertices.new.rows.rows) vertices.new bytes.now rest.now) }
+    ensures width { vertices.new.rows.width ≡ vertices.old.rows.width }
+    ensures count { length vertices.new.rows.rows ≡ length vertices.old.rows.rows }
+    ensures kind { IfErr result IsOfBody }
+{
+    let mut rest = bytes;
+    for i in 0..vertices.rows.len() {
+        rest = add_vertex(vertices, i, rest)?;
+    }
+    Ok(rest)
+}
+
+// No vertices yet, with the room for all of the part.
+fn no_vertices(alloc: Global, part: &Part) -> Result<Vertices, KeepError>
+    ensures none { IfOk result AreNone }
+    ensures width { IfOk result (λ v. v.rows.width ≡ 2 ^ part.now.plan.log2m) }
+    ensures count { IfOk result (λ v. length v.rows.rows ≡ length part.now.preds) }
+    ensures kind { IfErr result IsOfBody }
+{
+    let size = part.size();
+    Ok(Vertices {
+        rows: Rows::fixed(alloc, size, part.plan().width() as u16)?,
+        marks: Vec::with_capacity(alloc, size as usize)?,
+        tallies: Vec::with_capacity(alloc, size as usize)?,
+    })
+}
+
+// The sums at each superstep up to the one given, and the bytes after them.
+fn read_sums(alloc: Global, superstep: u32, bytes: &[u8]) -> Result<(Vec<u128>, &[u8]), KeepError>
+    requires { superstep ≤ 4096 }
+    ensures spelled { IfOk result (λ r. bytes.now
+        ≡ flat_map (to_be_bytes w128) r.0.items ++ r.1.now) }
+    ensures count { IfOk result (λ r. length r.0.items ≡ superstep + 1) }
+    ensures kind { IfErr result IsOfBody }
+{
+    let count = superstep as usize + 1;
+    let mut sums = Vec::with_capacity(alloc, count)?;
+    let mut rest = bytes;
+    for _ in 0..count {
+        let (sum, after) = read_u128(rest)?;
+        add(&mut sums, sum)?;
+        rest = after;
+    }
+    Ok((sums, rest))
+}
+
+// Puts the registers of each row, all of which are 0, and answers the bytes after them.
+fn put_rows<'a>(rows: &mut Rows, bytes: &'a [u8]) -> Result<&'a [u8], KeepError>
+    requires { All (λ row. row ≡ replicate rows.old.width 0) rows.old.rows }
+    ensures spelled { IfOk result (λ rest.
+        bytes.now ≡ flat_map (λ row. row) rows.new.rows ++ rest.now) }
+    ensures width { rows.new.width ≡ rows.old.width }
+    ensures count { length rows.new.rows ≡ length rows.old.rows }
+    ensures kind { IfErr result IsOfBody }
+{
+    let mut rest = bytes;
+    for i in 0..rows.len() {
+        let (row, after) = cut(rest, rows.width())?;
+        rows.raise(i, row);
+        rest = after;
+    }
+    Ok(rest)
+}
+
+// A batch of the job, and the bytes after it.
+fn read_batch<'a>(
+    alloc: Global,
+    part: &Part,
+    bytes: &'a [u8],
+) -> Result<(Arc<Batch>, &'a [u8]), KeepError>
+    ensures spelled { IfOk result (λ r.
+        bytes.now ≡ early_bytes (arc_value r.0) ++ r.1.now) }
+    ensures kind { IfErr result IsOfBody }
+{
+    let (length, after) = cut(bytes, 8)?;
+    let (spelling, rest) = cut(after, u64_at(length, 0) as usize)?;
+    match Batch::decode(alloc, part.plan(), spelling) {
+        Ok(batch) => Ok((shared(alloc, batch)?, rest)),
+        Err(BatchError::Memory) => Err(KeepError::Memory),
+        Err(_) => Err(KeepError::Shape),
+    }
+}
+
+// Adds so many batches, and answers the bytes after them.
+fn add_batches<'a>(
+    alloc: Global,
+    part: &Part,
+    count: u16,
+    bytes: &'a [u8],
+    early: &mut Vec<Arc<Batch>>,
+) -> Result<&'a [u8], KeepError>
+    requires { early.old.items ≡ [] }
+    ensures spelled { IfOk result (λ rest.
+        bytes.now ≡ flat_map early_bytes (map arc_value early.new.items) ++ rest.now) }
+    ensures count { OnOk result (length early.new.items ≡ count) }
+    ensures kind { IfErr result IsOfBody }
+{
+    let mut rest = bytes;
+    for _ in 0..count {
+        let (batch, after) = read_batch(alloc, part, rest)?;
+        add(early, batch)?;
+        rest = after;
+    }
+    Ok(rest)
+}
+
+// The early batches, after their number; nothing follows them.
+fn read_early(alloc: Global, part: &Part, bytes: &[u8]) -> Result<Vec<Arc<Batch>>, KeepError>
+    ensures spelled { IfOk result (λ early. bytes.now ≡ to_be_bytes w16 (length early.items)
+        ++ flat_map early_bytes (map arc_value early.items)) }
+    ensures kind { IfErr result IsOfBody }
+{
+    let (number, after) = cut(bytes, 2)?;
+    let mut early = Vec::new(alloc);
+    let rest = add_batches(alloc, part, u16_at(number, 0), after, &mut early)?;
+    if !rest.is_empty() {
+        return Err(KeepError::Shape);
+    }
+    Ok(early)
+}
+
+// Accumulators of all vertices, which are 0.
+fn no_rows(alloc: Global, part: &Part) -> Result<Rows, AllocError>
+    ensures empty { IfOk result (λ rows. All (λ row. row ≡ replicate rows.width 0) rows.rows) }
+    ensures width { IfOk result (λ rows. rows.width ≡ 2 ^ part.now.plan.log2m) }
+    ensures count { IfOk result (λ rows. length rows.rows ≡ length part.now.preds) }
+{
+    Rows::fixed(alloc, part.size(), part.plan().width() as u16)
+}
+
+// What version 2 tells of the batches that are held; nothing follows it.
+fn read_held(alloc: Global, part: &Part, bytes: &[u8]) -> Result<Held, KeepError>
+    ensures spelled { IfOk result (λ h. bytes.now ≡ held_text h.heard h.heard_change
+        h.accumulated.rows (map arc_value h.early.items)) }
+    ensures kind { IfErr result IsOfBody }
+{
+    let (fields, after) = cut(bytes, 9)?;
+    let heard_change = mark_of(fields[8])?;
+    let mut accumulated = no_rows(alloc, part)?;
+    let rest = put_rows(&mut accumulated, after)?;
+    Ok(Held {
+        heard: SourceMask::of_bits(u64_at(fields, 0)),
+        heard_change,
+        accumulated,
+        early: read_early(alloc, part, rest)?,
+    })
+}
+
+// Nothing heard, the accumulators equal to the rows, and nothing kept.
+fn nothing_held(alloc: Global, part: &Part, rows: &Rows) -> Result<Held, KeepError>
+    requires width { rows.now.width ≡ 2 ^ part.now.plan.log2m }
+    requires count { length rows.now.rows ≡ length part.now.preds }
+    ensures kind { IfErr result IsOfBody }
+{
+    let mut accumulated = no_rows(alloc, part)?;
+    accumulated.copy_from(rows);
+    Ok(Held {
+        heard: SourceMask::empty(),
+        heard_change: false,
+        accumulated,
+        early: Vec::new(alloc),
+    })
+}
+
+// Vertices and sums, and the bytes after them.
+fn read_table<'a>(
+    alloc: Global,
+    part: &Part,
+    superstep: u32,
+    bytes: &'a [u8],
+) -> Result<(Vertices, Vec<u128>, &'a [u8]), KeepError>
+    requires { superstep ≤ 4096 }
+    ensures spelled { IfOk result (λ r. bytes.now ≡ table_text r.0.marks.items
+        (map value_of r.0.tallies.items) r.0.rows.rows r.1.items ++ r.2.now) }
+    ensures width { IfOk result (λ r. r.0.rows.width ≡ 2 ^ part.now.plan.log2m) }
+    ensures count { IfOk result (λ r. length r.0.rows.rows ≡ length part.now.preds) }
+    ensures kind { IfErr result IsOfBody }
+{
+    let mut vertices = no_vertices(alloc, part)?;
+    let after = add_vertices(&mut vertices, bytes)?;
+    let (sums, rest) = read_sums(alloc, superstep, after)?;
+    Ok((vertices, sums, rest))
+}
+
+// What is held: what version 2 tells, or nothing in version 1.
+fn held_of(
+    alloc: Global,
+    part: &Part,
+    version: u8,
+    rows: &Rows,
+    bytes: &[u8],
+) -> Result<Held, KeepError>
+    requires width { rows.now.width ≡ 2 ^ part.now.plan.log2m }
+    requires count { length rows.now.rows ≡ length part.now.preds }
+    ensures spelled { version ≡ 2 → IfOk result (λ h. bytes.now ≡ held_text h.heard
+        h.heard_change h.accumulated.rows (map arc_value h.early.items)) }
+    ensures kind { IfErr result IsOfBody }
+{
+    if version == 1 {
+        nothing_held(alloc, part, rows)
+    } else {
+        read_held(alloc, part, bytes)
+    }
+}
+
+/// What the bytes up to the digest tell of a replica of the part.
+pub(crate) fn saved_of(
+    alloc: Global,
+    part: &Part,
+    header: &Header,
+    text: &[u8],
+) -> Result<Saved, KeepError>
+    requires { header.now.superstep ≤ 4096 }
+    ensures superstep { IfOk result (λ s. s.superstep ≡ header.now.superstep) }
+    ensures bytes { OnOk result ((i : ℕ) → slice_index_or text.now i 0 < 256) }
+    ensures spelled { header.now.version ≡ 2 → IfOk result (λ s. drop HEADER_LEN text.now ≡
+        table_text s.marks.items (map value_of s.tallies.items) s.rows.rows s.sums.items
+        ++ held_text s.heard s.heard_change s.accumulated.rows (map arc_value s.early.items)) }
+    ensures kind { IfErr result IsOfBody }
+{
+    let (_front, body) = cut(text, HEADER_LEN)?;
+    let (vertices, sums, rest) = read_table(alloc, part, header.superstep, body)?;
+    let held = held_of(alloc, part, header.version, &vertices.rows, rest)?;
+    Ok(Saved {
+        superstep: header.superstep,
+        rows: vertices.rows,
+        marks: vertices.marks,
+        tallies: vertices.tallies,
+        sums,
+        heard: held.heard,
+        heard_change: held.heard_change,
+        accumulated: held.accumulated,
+        early: held.early,
+    })
+}

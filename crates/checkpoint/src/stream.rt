@@ -1,0 +1,204 @@
+//! The bytes of a checkpoint, as they come from a reader.
+
+ghost use Rattle.std.specs.Prelude.{◌≡◌, ◌+◌, ◌-◌, ◌*◌, ◌^◌, ◌≤◌, ◌<◌, length, take, drop, OnOk, IfErr, IfOk, ℕ};
+ghost use Rattle.std.specs.Int.{w16, w64, from_be_bytes};
+ghost use Rattle.std.specs.Io.KnownBytes.{Consumes, IsAtEnd};
+ghost use Rattle.sha2.specs.Sha256.{sha256};
+ghost use Rattle.batches.specs.Kept.{field};
+ghost use Rattle.checkpoint.specs.Reading.{needs, Grows, Fails, is_batch_length, batch_form, batches_form, greatest_batch, early_form, most_early, body_form, most_body, fixed_length, seal_form};
+
+use crate::error::KeepError;
+use crate::header::{Header, u16_at};
+use ball_model::{CountedRead, Filled, Plan, fill};
+use edgelist::Part;
+use sha2::{Digest, Sha256};
+
+/// How many bytes are read at once, at most.
+const PIECE: usize = 4096;
+
+// The big-endian number of eight bytes at a place.
+pub(crate) fn u64_at(bytes: &[u8], at: usize) -> u64
+    requires { at + 8 ≤ length bytes.now }
+    ensures { result ≡ field w64 at bytes.now }
+{
+    let mut number = [0; 8];
+    number.copy_from_slice(&bytes[at..at + 8]);
+    u64::from_be_bytes(number)
+}
+
+// Reads a piece behind the text.
+fn read_piece<R: CountedRead>(
+    reader: &mut R,
+    text: &mut Vec<u8>,
+    count: usize,
+) -> Result<(), KeepError>
+    requires { count ≤ PIECE }
+    ensures done { OnOk result (Grows R.remaining R.failed_calls R.sure_calls (needs count) count
+        reader.old reader.new text.old.items text.new.items) }
+    ensures fails { IfErr result (λ e. Fails R.remaining R.failed_calls R.sure_calls (needs count)
+        count reader.old reader.new e) }
+{
+    let mut buffer = [0; PIECE];
+    let (piece, _) = buffer.split_at_mut(count);
+    match fill(reader, piece) {
+        Filled::Full => {}
+        Filled::Ended { count: _ } => return Err(KeepError::Short),
+        Filled::Failed => return Err(KeepError::Read),
+    }
+    text.extend_from_slice(piece)?;
+    Ok(())
+}
+
+// Reads so many bytes behind the text, which grows as they come.
+fn read_more<R: CountedRead>(
+    reader: &mut R,
+    text: &mut Vec<u8>,
+    count: usize,
+) -> Result<(), KeepError>
+    ensures done { OnOk result (Grows R.remaining R.failed_calls R.sure_calls (needs count) count
+        reader.old reader.new text.old.items text.new.items) }
+    ensures fails { IfErr result (λ e. Fails R.remaining R.failed_calls R.sure_calls (needs count)
+        count reader.old reader.new e) }
+{
+    let mut left = count;
+    while left > 0 {
+        let piece = left.min(PIECE);
+        read_piece(reader, text, piece)?;
+        left -= piece;
+    }
+    Ok(())
+}
+
+// Whether a batch of at most so many rows as the first partition has vertices has this length.
+#[tactic(auto, unfolding(crate::specs::Reading::is_batch_length))]
+fn may_be_batch(plan: &Plan, length: u64) -> bool
+    ensures { result ≡ is_batch_length plan.now length }
+{
+    if length < 54 {
+        return false;
+    }
+    let row = 4 + plan.width() as u64;
+    (length - 54) % row == 0 && (length - 54) / row <= u64::from(plan.part_size(0))
+}
+
+// Reads a batch and before it its length.
+fn read_batch<R: CountedRead>(
+    reader: &mut R,
+    plan: &Plan,
+    text: &mut Vec<u8>,
+) -> Result<(), KeepError>
+    ensures done { OnOk result (Grows R.remaining R.failed_calls R.sure_calls (batch_form plan.now)
+        (8 + greatest_batch plan.now) reader.old reader.new text.old.items text.new.items) }
+    ensures fails { IfErr result (λ e. Fails R.remaining R.failed_calls R.sure_calls
+        (batch_form plan.now) (8 + greatest_batch plan.now) reader.old reader.new e) }
+{
+    let start = text.len();
+    read_more(reader, text, 8)?;
+    let length = u64_at(text, start);
+    if !may_be_batch(plan, length) {
+        return Err(KeepError::Shape);
+    }
+    read_more(reader, text, length as usize)
+}
+
+// Reads so many batches.
+fn read_batches<R: CountedRead>(
+    reader: &mut R,
+    plan: &Plan,
+    text: &mut Vec<u8>,
+    count: u16,
+) -> Result<(), KeepError>
+    ensures done { OnOk result (Grows R.remaining R.failed_calls R.sure_calls
+        (batches_form plan.now count) (count * (8 + greatest_batch plan.now)) reader.old reader.new
+        text.old.items text.new.items) }
+    ensures fails { IfErr result (λ e. Fails R.remaining R.failed_calls R.sure_calls
+        (batches_form plan.now count) (count * (8 + greatest_batch plan.now)) reader.old reader.new
+        e) }
+{
+    for _ in 0..count {
+        read_batch(reader, plan, text)?;
+    }
+    Ok(())
+}
+
+// Reads the early batches and before them their number.
+fn read_early<R: CountedRead>(
+    reader: &mut R,
+    plan: &Plan,
+    text: &mut Vec<u8>,
+) -> Result<(), KeepError>
+    ensures done { OnOk result (Grows R.remaining R.failed_calls R.sure_calls (early_form plan.now)
+        (most_early plan.now) reader.old reader.new text.old.items text.new.items) }
+    ensures fails { IfErr result (λ e. Fails R.remaining R.failed_calls R.sure_calls
+        (early_form plan.now) (most_early plan.now) reader.old reader.new e) }
+{
+    let start = text.len();
+    read_more(reader, text, 2)?;
+    let count = u16_at(text, start);
+    if count > 3 * (plan.parts() - 1) {
+        return Err(KeepError::Shape);
+    }
+    read_batches(reader, plan, text, count)
+}
+
+// How many bytes follow the fixed fields, up to the number of early batches.
+pub(crate) fn fixed_len(part: &Part, header: &Header) -> usize
+    requires { header.now.superstep ≤ 4096 }
+    ensures { result ≡ fixed_length part.now header.now }
+{
+    let size = part.size() as usize;
+    let width = part.plan().width();
+    let table = size * (33 + width) + 16 * (header.superstep as usize + 1);
+    if header.version == 1 {
+        return table;
+    }
+    table + 9 + size * width
+}
+
+// Reads what follows the fixed fields, up to the digest.
+pub(crate) fn read_body<R: CountedRead>(
+    reader: &mut R,
+    part: &Part,
+    header: &Header,
+    text: &mut Vec<u8>,
+) -> Result<(), KeepError>
+    requires { header.now.superstep ≤ 4096 }
+    ensures done { OnOk result (Grows R.remaining R.failed_calls R.sure_calls
+        (body_form part.now header.now) (most_body part.now header.now.superstep)
+        reader.old reader.new text.old.items text.new.items) }
+    ensures fails { IfErr result (λ e. Fails R.remaining R.failed_calls R.sure_calls
+        (body_form part.now header.now) (most_body part.now header.now.superstep)
+        reader.old reader.new e) }
+{
+    read_more(reader, text, fixed_len(part, header))?;
+    if header.version == 1 {
+        return Ok(());
+    }
+    read_early(reader, part.plan(), text)
+}
+
+// Reads the digest of the text, after which nothing may come.
+pub(crate) fn read_seal<R: CountedRead>(reader: &mut R, text: &[u8]) -> Result<(), KeepError>
+    ensures done { OnOk result (Consumes (R.remaining reader.old) (R.remaining reader.new)
+        (sha256 text.now)) }
+    ensures counted { OnOk result (R.failed_calls reader.new ≡ R.failed_calls reader.old) }
+    ensures end { OnOk result (IsAtEnd (R.remaining reader.new)) }
+    ensures fails { IfErr result (λ e. Fails R.remaining R.failed_calls R.sure_calls
+        (seal_form text.now) 33 reader.old reader.new e) }
+{
+    let mut digest = [0; 32];
+    match fill(reader, &mut digest) {
+        Filled::Full => {}
+        Filled::Ended { count: _ } => return Err(KeepError::Short),
+        Filled::Failed => return Err(KeepError::Read),
+    }
+    if digest != Sha256::digest(text) {
+        return Err(KeepError::Digest);
+    }
+    let mut more = [0; 1];
+    match fill(reader, &mut more) {
+        Filled::Full => Err(KeepError::Trailing),
+        Filled::Ended { count: _ } => Ok(()),
+        Filled::Failed => Err(KeepError::Read),
+    }
+}

@@ -1,0 +1,46 @@
+//! What no clause says: the bytes of worked replicas.
+
+mod reading;
+mod writing;
+
+use crate::laws;
+use ball_model::CountingReader;
+use edgelist::{Delimiter, EdgeLimits, Graph, read_edges};
+use replica::Replica;
+use std::hash::RandomState;
+use std::sync::Arc;
+
+/// A graph of an edge list with tabs.
+fn graph(rt: &HostRuntime, text: &[u8]) -> Option<Graph> {
+    let limits = EdgeLimits {
+        vertices: 100,
+        edges: 100,
+    };
+    let state = RandomState::new(rt).ok()?;
+    let mut reader = CountingReader::new(text);
+    read_edges(rt.alloc(), state, &mut reader, Delimiter::Tab, limits).ok()
+}
+
+/// A new replica of a partition of a graph, at 16 registers under seed 0.
+fn replica_of(rt: &HostRuntime, text: &[u8], parts: u16, partition: u16) -> Option<Replica> {
+    let graph = graph(rt, text)?;
+    let plan = graph.plan(4, 0, parts, 4096).ok()?;
+    if partition >= plan.parts() {
+        return None;
+    }
+    let part = graph.part(rt.alloc(), &plan, partition).ok()?;
+    let part = Arc::new(rt.alloc(), part).ok()?;
+    Replica::new(rt.alloc(), part).ok()
+}
+
+/// The next superstep of a replica that waits for none.
+fn step(replica: &mut Replica) -> Option<u32> {
+    replica.close().ok()
+}
+
+#[test]
+fn laws_are_called() {
+    laws::text_is_one();
+    laws::first_text_tells_rest();
+    laws::versions_differ();
+}

@@ -1,0 +1,296 @@
+//! What no clause says: worked checkpoints, as version 1 and version 2 spell them, and each refusal.
+//!
+//! The graph has the edges a b and b c in one partition. Under seed 0 at 16 registers vertex 0 has rank 3 in register
+//! 14, vertex 1 rank 1 in register 6, vertex 2 rank 2 in register 0. The bytes are those at superstep 2.
+
+use super::graph;
+use super::writing::{WINDOW_EDGE, writes};
+use crate::{KeepError, read_checkpoint};
+use ball_model::MemReader;
+use edgelist::Part;
+use replica::{Replica, Shown};
+use sha2::{Digest, Sha256};
+use std::sync::Arc;
+
+// For each vertex its mark, its figures and its registers, and then the sums at 0, 1 and 2.
+const TABLE: [u8; 195] = [
+    0, 0, 0, 0, 0, 0, 173, 207, 222, 0, 0, 0, 0, 0, 0, 0, 0, 0, 0, 0, 0, 0, 0, 0, 0, 0, 0, 0, 0, 0,
+    0, 0, 0, 0, 0, 0, 0, 0, 0, 0, 0, 0, 0, 0, 0, 0, 0, 3, 0, 0, 0, 0, 0, 0, 0, 179, 193, 24, 0, 0,
+    0, 0, 0, 10, 37, 190, 0, 0, 0, 0, 0, 0, 0, 0, 0, 0, 0, 0, 0, 10, 37, 190, 0, 0, 0, 0, 0, 0, 1,
+    0, 0, 0, 0, 0, 0, 0, 3, 0, 1, 0, 0, 0, 0, 0, 189, 120, 129, 0, 0, 0, 0, 0, 11, 118, 170, 0, 0,
+    0, 0, 0, 0, 0, 0, 0, 0, 0, 0, 0, 28, 82, 191, 2, 0, 0, 0, 0, 0, 1, 0, 0, 0, 0, 0, 0, 0, 3, 0,
+    0, 0, 0, 0, 0, 0, 0, 0, 0, 0, 0, 0, 2, 3, 206, 93, 0, 0, 0, 0, 0, 0, 0, 0, 0, 0, 0, 0, 2, 19,
+    204, 20, 0, 0, 0, 0, 0, 0, 0, 0, 0, 0, 0, 0, 2, 31, 9, 119,
+];
+
+// No source heard, no change, for each vertex the registers accumulated, and no early batch.
+const HELD: [u8; 59] = [
+    0, 0, 0, 0, 0, 0, 0, 0, 0, 0, 0, 0, 0, 0, 0, 0, 0, 0, 0, 0, 0, 0, 0, 3, 0, 0, 0, 0, 0, 0, 0, 1,
+    0, 0, 0, 0, 0, 0, 0, 3, 0, 2, 0, 0, 0, 0, 0, 1, 0, 0, 0, 0, 0, 0, 0, 3, 0, 0, 0,
+];
+
+// The part of the two edges, under that seed.
+fn part(rt: &HostRuntime, seed: u64) -> Option<Arc<Part>> {
+    let graph = graph(rt, b"a\tb\nb\tc\n")?;
+    let plan = graph.plan(4, seed, 1, 4096).ok()?;
+    let part = graph.part(rt.alloc(), &plan, 0).ok()?;
+    Arc::new(rt.alloc(), part).ok()
+}
+
+// The fixed fields of a version, the vertices and the sums, and then what is held.
+fn content(rt: &HostRuntime, part: &Part, version: u8, held: &[u8]) -> Option<Vec<u8>> {
+    let mut bytes = Vec::new(rt.alloc());
+    bytes.extend_from_slice(b"HBCK").ok()?;
+    bytes
+        .extend_from_slice(&[version, 4, 0, 1, 0, 0, 0, 0, 0, 3, 0, 0, 0, 3, 0, 0, 0, 2])
+        .ok()?;
+    bytes.extend_from_slice(&part.plan().job()).ok()?;
+    bytes.extend_from_slice(&TABLE).ok()?;
+    bytes.extend_from_slice(held).ok()?;
+    Some(bytes)
+}
+
+// The bytes, and behind them their digest.
+fn seal(mut bytes: Vec<u8>) -> Option<Vec<u8>> {
+    let digest = Sha256::digest(bytes.as_slice());
+    bytes.extend_from_slice(&digest).ok()?;
+    Some(bytes)
+}
+
+// What comes of reading the bytes as a checkpoint of the part.
+fn read(rt: &HostRuntime, part: &Arc<Part>, bytes: &[u8]) -> Option<Result<Replica, KeepError>> {
+    let part = part.clone().ok()?;
+    Some(read_checkpoint(rt.alloc(), part, &mut MemReader::new(bytes, None)))
+}
+
+// The refusal of the bytes.
+fn refusal(rt: &HostRuntime, part: &Arc<Part>, bytes: &[u8]) -> Option<KeepError> {
+    read(rt, part, bytes)?.err()
+}
+
+// The bytes of both versions.
+fn both(rt: &HostRuntime, part: &Part) -> Option<(Vec<u8>, Vec<u8>)> {
+    let first = seal(content(rt, part, 1, &[])?)?;
+    let second = seal(content(rt, part, 2, &HELD)?)?;
+    Some((first, second))
+}
+
+// Superstep, the figures of vertex 2, and how many names it holds.
+fn told(replica: &Replica) -> Option<(u32, u64, u64, u128, u32)> {
+    if !replica.owns(2) {
+        return None;
+    }
+    let tally = replica.tally(2);
+    Some((
+        replica.superstep(),
+        tally.last,
+        tally.harm,
+        tally.dist,
+        replica.early_count(),
+    ))
+}
+
+// Both versions are read as superstep 2.
+fn reads(rt: &HostRuntime) -> Option<bool> {
+    let part = part(rt, 0)?;
+    let (first, second) = both(rt, &part)?;
+    let one = told(&read(rt, &part, &first)?.ok()?)?;
+    let two = told(&read(rt, &part, &second)?.ok()?)?;
+    let wanted = (2, 12_417_153, 751_274, 1_856_191, 0);
+    Some(first.len() == 281 && second.len() == 340 && one == wanted && two == wanted)
+}
+
+// Each cut of the bytes ends too early.
+fn cuts(rt: &HostRuntime, part: &Arc<Part>, bytes: &[u8]) -> Option<bool> {
+    let mut all = true;
+    for n in 0..bytes.len() {
+        all &= refusal(rt, part, &bytes[..n])? == KeepError::Short;
+    }
+    Some(all)
+}
+
+// Each call of the reader that fails is told of.
+fn failing(rt: &HostRuntime, part: &Arc<Part>, bytes: &[u8]) -> Option<bool> {
+    let mut all = true;
+    for call in 1..5 {
+        let mut reader = MemReader::new(bytes, Some(call));
+        let result = read_checkpoint(rt.alloc(), part.clone().ok()?, &mut reader);
+        all &= result.err()? == KeepError::Read;
+    }
+    Some(all)
+}
+
+// The bytes with another byte at a place, refused with the digest that they have.
+fn changed(rt: &HostRuntime, part: &Arc<Part>, at: usize, byte: u8) -> Option<KeepError> {
+    let (_, mut bytes) = both(rt, part)?;
+    *bytes.get_mut(at)? = byte;
+    refusal(rt, part, &bytes)
+}
+
+// The same, with the right digest.
+fn sealed(rt: &HostRuntime, part: &Arc<Part>, at: usize, byte: u8) -> Option<KeepError> {
+    let mut bytes = content(rt, part, 2, &HELD)?;
+    *bytes.get_mut(at)? = byte;
+    refusal(rt, part, &seal(bytes)?)
+}
+
+// What the body tells, each fault with the right digest: a mark, a last estimate, harm and dist above what a run has, a
+// register above 33, a sum below the one before it, the last sum, a source, the bit, and accumulators above 33 and
+// below the row's.
+fn bodies(rt: &HostRuntime, part: &Arc<Part>) -> Option<bool> {
+    let mut all = true;
+    for (at, byte) in [
+        (54, 2),
+        (62, 0),
+        (63, 1),
+        (71, 1),
+        (87, 34),
+        (202, 9),
+        (248, 0),
+        (256, 1),
+        (256, 2),
+        (257, 2),
+        (258, 34),
+        (272, 0),
+    ] {
+        all &= sealed(rt, part, at, byte)? == KeepError::Shape;
+    }
+    Some(all)
+}
+
+// The faults of the fixed fields.
+fn heads(rt: &HostRuntime, part: &Arc<Part>) -> Option<bool> {
+    let found = (
+        changed(rt, part, 0, b'h')?,
+        changed(rt, part, 4, 3)?,
+        changed(rt, part, 53, 0)?,
+        changed(rt, part, 9, 1)?,
+        changed(rt, part, 5, 5)?,
+        changed(rt, part, 18, 1)?,
+    );
+    Some(
+        found
+            == (
+                KeepError::Magic,
+                KeepError::Version,
+                KeepError::OtherJob,
+                KeepError::OtherPart,
+                KeepError::Shape,
+                KeepError::Shape,
+            ),
+    )
+}
+
+#[test]
+fn both_versions_are_read(rt: HostRuntime) {
+    assert_eq!(rt; reads(&rt), Some(true));
+}
+
+// What comes of cuts, of failed calls, of faults of the fixed fields and of the body.
+fn faults(rt: &HostRuntime) -> Option<(bool, bool, bool, bool)> {
+    let part = part(rt, 0)?;
+    let (_, bytes) = both(rt, &part)?;
+    Some((
+        cuts(rt, &part, &bytes)?,
+        failing(rt, &part, &bytes)?,
+        heads(rt, &part)?,
+        bodies(rt, &part)?,
+    ))
+}
+
+#[test]
+fn faults_are_told(rt: HostRuntime) {
+    assert_eq!(rt; faults(&rt), Some((true, true, true, true)));
+}
+
+// Another seed, a changed bit of a vertex, one byte more, and a number of early batches above none.
+fn others(rt: &HostRuntime) -> Option<(KeepError, KeepError, KeepError, KeepError)> {
+    let own = part(rt, 0)?;
+    let (_, mut bytes) = both(rt, &own)?;
+    let other = part(rt, 1)?;
+    let job = refusal(rt, &other, &bytes)?;
+    bytes.push(0).ok()?;
+    Some((
+        job,
+        changed(rt, &own, 60, 1)?,
+        refusal(rt, &own, &bytes)?,
+        changed(rt, &own, 307, 1)?,
+    ))
+}
+
+#[test]
+fn others_are_refused(rt: HostRuntime) {
+    assert_eq!(rt;
+        others(&rt),
+        Some((
+            KeepError::OtherJob,
+            KeepError::Digest,
+            KeepError::Trailing,
+            KeepError::Shape
+        ))
+    );
+}
+
+// The second of two parts of the path of five vertices, whose checkpoint at superstep 0 keeps a batch of superstep 3.
+fn odd_part(rt: &HostRuntime) -> Option<Arc<Part>> {
+    let graph = graph(rt, b"a\tb\nb\tc\nc\td\nd\te\n")?;
+    let plan = graph.plan(4, 0, 2, 4096).ok()?;
+    if plan.parts() != 2 {
+        return None;
+    }
+    let part = graph.part(rt.alloc(), &plan, 1).ok()?;
+    Arc::new(rt.alloc(), part).ok()
+}
+
+// Its checkpoint is read, with its early batch, and written again; each cut is too short, and one byte more trails.
+fn reads_early(rt: &HostRuntime) -> Option<(bool, bool, KeepError)> {
+    let part = odd_part(rt)?;
+    let replica = read(rt, &part, &WINDOW_EDGE)?.ok()?;
+    let again = replica.early_count() == 1 && writes(rt, &replica, &WINDOW_EDGE)?;
+    let mut more = Vec::new(rt.alloc());
+    more.extend_from_slice(&WINDOW_EDGE).ok()?;
+    more.push(0).ok()?;
+    Some((
+        again,
+        cuts(rt, &part, &WINDOW_EDGE)?,
+        refusal(rt, &part, &more)?,
+    ))
+}
+
+#[test]
+fn an_early_batch_is_read(rt: HostRuntime) {
+    assert_eq!(rt; reads_early(&rt), Some((true, true, KeepError::Trailing)));
+}
+
+// The refusal of these bytes with another one at a place, and the right digest.
+fn resealed(rt: &HostRuntime, part: &Arc<Part>, at: usize, byte: u8) -> Option<KeepError> {
+    let mut bytes = Vec::new(rt.alloc());
+    bytes.extend_from_slice(&WINDOW_EDGE[..273]).ok()?;
+    *bytes.get_mut(at)? = byte;
+    refusal(rt, part, &seal(bytes)?)
+}
+
+// A length that is no batch's, a batch that is none, of superstep 0 and of 4, of source 1, to target 0, and of a source
+// with more changed vertices than it has; and of another job.
+fn early_faults(rt: &HostRuntime) -> Option<bool> {
+    let part = odd_part(rt)?;
+    let mut all = true;
+    for (at, byte) in [
+        (218, 55),
+        (219, 0),
+        (228, 0),
+        (228, 4),
+        (230, 1),
+        (232, 0),
+        (268, 9),
+        (233, WINDOW_EDGE[233] ^ 1),
+    ] {
+        all &= resealed(rt, &part, at, byte)? == KeepError::Shape;
+    }
+    Some(all)
+}
+
+#[test]
+fn untrue_early_batches_are_refused(rt: HostRuntime) {
+    assert_eq!(rt; early_faults(&rt), Some(true));
+}
