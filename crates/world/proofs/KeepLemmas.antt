@@ -1,0 +1,97 @@
+-- What a node keeps, and goes back to: the proofs about `Node` cite these.
+use Rattle.std.proofs.Common.{◌≡◌, ℕ, ◌<◌, ◌≤◌, List, [], ◌∷◌, refl, ap, sym, ◌∙◌, subst, arith}
+use Rattle.std.specs.Prelude.{Option, None, Some, IfSome, Result, Ok, Err, IfOk, unwrap_or}
+use Rattle.std.specs.List.{All, AllByRecursion}
+use Rattle.std.proofs.lemmas.List.Elements.{All-nil, All-cons, All-map}
+use Rattle.ball_model.specs.declared.world.Answer.TheVariants as answer
+use Rattle.ball_model.specs.Checkpoint.{checkpoint_bytes}
+use Rattle.ball_model.specs.Held.{IsHeldBy, start_holding}
+use Rattle.ball_model.specs.Job.{Job, IsJob, part_of}
+use Rattle.ball_model.specs.Join.{Holding}
+use Rattle.ball_model.specs.Figures.{TallyValue}
+use Rattle.ball_model.specs.PlanValue.{mixing_of}
+use Rattle.ball_model.specs.State.{State, own_vertices, tallies_of}
+use Rattle.ball_model.specs.World.{Node, start_node}
+use Rattle.ball_model.specs.WorldLaws.{IsNode}
+use Rattle.ball_model.specs.Supersteps.{tally_at}
+use Rattle.ball_model.proofs.EndLemmas.{end_within}
+use Rattle.ball_model.proofs.TallyLemmas.{tallies_fit}
+use Rattle.replica.specs.Saved.{IsFigures, IsKeepable}
+use Rattle.replica.proofs.OwnLemmas.{all_own}
+use Rattle.world.specs.Shows.{ShowsNode, Agree, Has, IsKept}
+use Rattle.world.specs.Turns.{Turns, kept_turn, restarted_turn}
+use Rattle.world.proofs.NodeLemmas.{node}
+
+-- ---- what may be kept
+each : (P : ℕ → Type 0) (xs : List ℕ) → AllByRecursion P xs → All P xs
+each P [] h = All-nil P
+each P (x ∷ xs) h = All-cons P x xs h.0 (each P xs h.1)
+
+-- a replica that has a content of a job has figures that a run can have
+pub keepable : (j : Job) (h : Holding) (v : State) → Has j h v → IsKeepable v
+unfolding tallies_of
+keepable j h v k =
+    let s = k.holding.stands in
+    let limit : h.superstep ≤ 4096 = omega (arith, (end_within (mixing_of j.plan) j.graph j.plan.limit s.job.plan.limit_from).1, s.in_time, s.job.plan.limit_to) in
+    let figures : ℕ → TallyValue = λ x. tally_at (mixing_of j.plan) j.graph x h.superstep in
+    let fit : (x : ℕ) → x < j.graph.vertices → IsFigures (figures x) = λ x below.
+    let both = tallies_fit (mixing_of j.plan) j.graph x h.superstep s.job.plan.log2m_from s.job.plan.log2m_to s.job.graph below limit in
+    record { harm = both.0; dist = both.1 } in
+    record {
+      state = k.state;
+      figures = subst (λ (l : List TallyValue). All IsFigures l) (sym s.tallies)
+          (All-map IsFigures figures (own_vertices j h.partition)
+          (each (λ x. IsFigures (figures x)) (own_vertices j h.partition) (all_own (λ x. IsFigures (figures x)) j.graph.vertices j.plan.parts h.partition s.partition fit)));
+    }
+
+-- ---- what is kept
+pub keep_turns : (j : Job) (v : State) (kept : Option (List ℕ)) (bytes : List ℕ) → bytes ≡ checkpoint_bytes v → Turns j kept_turn (answer.Kept v.superstep) (node v kept) (node v (Some bytes))
+keep_turns j v kept bytes is = record {
+  turned = λ p n fits shows. (
+    ap answer.Kept shows.content.holding.stands.superstep,
+    record { content = shows.content; kept = record { replica = v; has = shows.content; bytes_are = is } },
+  );
+}
+
+-- the content that was kept, from its bytes
+
+back : (j : Job) (p : ℕ) (n : Node) (v w : State) (bytes : List ℕ) (o : Option Holding) → n.kept ≡ o → IsNode j p n → ShowsNode j n (node v (Some bytes)) → Agree (IsKept j) o (Some bytes) → IfSome o (IsHeldBy j p) →
+    ((u : State) → IsKeepable u → u.part ≡ v.part → bytes ≡ checkpoint_bytes u → w ≡ u) → (answer.Restarted w.superstep ≡ (restarted_turn j n).answer) × ShowsNode j (restarted_turn j n).node (node w (Some bytes))
+back j p n v w bytes None at fits shows agree held read = absurd agree
+back j p n v w bytes (Some h) at fits shows agree held read =
+    let u = agree.replica in
+    let stands = agree.has.holding.stands in
+    let part : u.part ≡ v.part = stands.part ∙ ap (part_of j) (held.partition ∙ sym fits.content.partition) ∙ sym shows.content.holding.stands.part in
+    let same : w ≡ u = read u (keepable j h u agree.has) part agree.bytes_are in
+    let has : Has j h w = subst (λ (x : State). Has j h x) (sym same) agree.has in
+    let given : unwrap_or n.kept (start_holding j.plan n.content.partition) ≡ h = ap (λ o. unwrap_or o (start_holding j.plan n.content.partition)) at in
+    subst (λ (d : Holding). (answer.Restarted w.superstep ≡ answer.Restarted d.superstep) × ShowsNode j (record n { content = d }) (node w (Some bytes))) (sym given)
+    (ap answer.Restarted has.holding.stands.superstep, record { content = has; kept = shows.kept })
+
+pub restart_turns : (j : Job) (v w : State) (bytes : List ℕ) → ((u : State) → IsKeepable u → u.part ≡ v.part → bytes ≡ checkpoint_bytes u → w ≡ u) →
+    Turns j (restarted_turn j) (answer.Restarted w.superstep) (node v (Some bytes)) (node w (Some bytes))
+restart_turns j v w bytes read = record {
+  turned = λ p n fits shows. back j p n v w bytes n.kept refl fits shows shows.kept fits.kept read;
+}
+
+-- the same, where what was read may be a refusal
+pub if_back : {E : Type 0} (r : Result State E) (j : Job) (v : State) (bytes : List ℕ) → ((u : State) → IsKeepable u → u.part ≡ v.part → bytes ≡ checkpoint_bytes u → IfOk r (λ w. w ≡ u)) →
+    IfOk r (λ w. Turns j (restarted_turn j) (answer.Restarted w.superstep) (node v (Some bytes)) (node w (Some bytes)))
+if_back (Ok w) j v bytes read = restart_turns j v w bytes read
+if_back (Err e) j v bytes read = tt
+
+anew : (j : Job) (p : ℕ) (n : Node) (v w : State) (o : Option Holding) → n.kept ≡ o → IsNode j p n → ShowsNode j n (node v None) → Agree (IsKept j) o None → Has j (start_holding j.plan n.content.partition) w →
+    (answer.Restarted w.superstep ≡ (restarted_turn j n).answer) × ShowsNode j (restarted_turn j n).node (node w None)
+anew j p n v w (Some h) at fits shows agree has = absurd agree
+anew j p n v w None at fits shows agree has =
+    let given : unwrap_or n.kept (start_holding j.plan n.content.partition) ≡ start_holding j.plan n.content.partition = ap (λ o. unwrap_or o (start_holding j.plan n.content.partition)) at in
+    subst (λ (d : Holding). (answer.Restarted w.superstep ≡ answer.Restarted d.superstep) × ShowsNode j (record n { content = d }) (node w None)) (sym given)
+    (ap answer.Restarted has.holding.stands.superstep, record { content = has; kept = shows.kept })
+
+pub fresh_turns : (j : Job) (v w : State) → ((k : Job) (p : ℕ) → IsJob k → p < k.plan.parts → v.part ≡ part_of k p → ShowsNode k (start_node k.plan p) (node w None)) →
+    Turns j (restarted_turn j) (answer.Restarted w.superstep) (node v None) (node w None)
+fresh_turns j v w start = record {
+  turned = λ p n fits shows.
+      let stands = shows.content.holding.stands in
+      anew j p n v w n.kept refl fits shows shows.kept (start j n.content.partition stands.job stands.partition stands.part).content;
+}

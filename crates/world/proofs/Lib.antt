@@ -1,0 +1,13 @@
+pub mod BridgeLemmas
+pub mod RunLemmas
+pub mod ShowsLemmas
+pub mod NodeLemmas
+pub mod PlaceLemmas
+pub mod ApplyLemmas
+pub mod StartLemmas
+pub mod KeepLemmas
+pub mod OrderLemmas
+pub mod ScriptLemmas
+pub mod AnswerLemmas
+pub mod TellLemmas
+pub mod ReplayLemmas

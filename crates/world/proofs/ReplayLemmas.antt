@@ -1,0 +1,76 @@
+-- A replay whose input was read.
+use Rattle.std.proofs.Common.{◌≡◌, ℕ, List, Option, refl, inl, inr}
+use Rattle.std.specs.Io.KnownBytes.{Appends}
+use Rattle.ball_model.specs.declared.world.Event.{Event}
+use Rattle.ball_model.specs.Job.{Job}
+use Rattle.ball_model.specs.RunText.{plan_over}
+use Rattle.ball_model.specs.World.{World, start_world}
+use Rattle.ball_model.specs.WorldText.{AppendsReplay, HasCommands, IsReplay, ReplaySettings, events_text, job_over}
+use Rattle.world.specs.declared.tell.TellError.{TellError}
+use Rattle.world.specs.declared.tell.TellError.TheVariants as untold
+use Rattle.world.specs.Replay.{ArePlain, BeginsReplay, Fails, IsReady, StartsFrom, told_tell}
+use Rattle.world.specs.Shows.{SeenWorld, Shows}
+use Rattle.world.specs.Tell.{Stopped, Told}
+
+-- the text of the answers
+abbrev pub text_from : (s : ReplaySettings) (edges : List ℕ) (list : Option (List ℕ)) (events : List Event) (world : SeenWorld) → StartsFrom s edges list world → List ℕ
+text_from s edges list events world starts =
+    events_text (job_over s.run.numbers starts.network) (start_world (plan_over s.run.numbers starts.network.graph) s.replicas) events
+
+-- and it is that of the replay
+pub replay-is : (s : ReplaySettings) (edges : List ℕ) (list : Option (List ℕ)) (script : List ℕ) (events : List Event) (world : SeenWorld) → IsReady s edges list script events world →
+    (starts : StartsFrom s edges list world) → IsReplay s edges list script (text_from s edges list events world starts)
+replay-is s edges list script events world ready starts = record {
+  replicas = ready.commands.replicas;
+  events = events;
+  commands = ready.commands.commands;
+  network = starts.network;
+  read = starts.read;
+  replay = record { planned = starts.started.planned; text_is = refl };
+}
+
+-- all events were told
+pub told-appends : {W : Type 0} (contents : W → Option (List ℕ)) (failed : W → ℕ) (a b : W) (s : ReplaySettings) (edges : List ℕ) (list : Option (List ℕ)) (script : List ℕ) (events : List Event) (world : SeenWorld) →
+    IsReady s edges list script events world → ((j : Job) (w : World) → Shows j w world → Told contents failed a b (events_text j w events)) → ArePlain edges list →
+    AppendsReplay s edges list script (contents a) (contents b)
+told-appends contents failed a b s edges list script events world ready told plain =
+    let starts = ready.starts plain in
+    record {
+      text = text_from s edges list events world starts;
+      replay = replay-is s edges list script events world ready starts;
+      appended = (told (job_over s.run.numbers starts.network) (start_world (plan_over s.run.numbers starts.network.graph) s.replicas) starts.started.shows).appended;
+    }
+
+-- a beginning of them was
+pub told-begins : {W : Type 0} (contents : W → Option (List ℕ)) (failed : W → ℕ) (a b : W) (s : ReplaySettings) (edges : List ℕ) (list : Option (List ℕ)) (script : List ℕ) (events : List Event) (world : SeenWorld) (f : TellError) →
+    IsReady s edges list script events world → ((j : Job) (w : World) → Shows j w world → Stopped contents failed a b (events_text j w events) f) → ArePlain edges list →
+    BeginsReplay s edges list script (contents a) (contents b)
+told-begins contents failed a b s edges list script events world f ready told plain =
+    let starts = ready.starts plain in
+    record {
+      text = text_from s edges list events world starts;
+      replay = replay-is s edges list script events world ready starts;
+      begun = (told (job_over s.run.numbers starts.network) (start_world (plan_over s.run.numbers starts.network.graph) s.replicas) starts.started.shows).begun;
+    }
+
+pub told-fails : {W : Type 0} (contents : W → Option (List ℕ)) (failed : W → ℕ) (a b : W) (s : ReplaySettings) (edges : List ℕ) (list : Option (List ℕ)) (script : List ℕ) (events : List Event) (world : SeenWorld) (f : TellError) →
+    IsReady s edges list script events world → ((j : Job) (w : World) → Shows j w world → Stopped contents failed a b (events_text j w events) f) →
+    Fails s edges list script (contents a) (contents b) (failed a) (failed b) (told_tell f)
+told-fails contents failed a b s edges list script events world untold.Memory ready told = record {
+  before = ready.commands.replicas;
+  refused = λ plain. ready.commands.replicas;
+  no_read = λ is. absurd (cc);
+  write = λ is. absurd (cc);
+  untouched = λ other more. absurd (other refl);
+  begun = λ plain is. absurd (cc);
+  memory = λ plain is. inr (told-begins contents failed a b s edges list script events world untold.Memory ready told plain);
+}
+told-fails contents failed a b s edges list script events world untold.Write ready told = record {
+  before = record { replicas = ready.commands.replicas; events = events; commands = ready.commands.commands };
+  refused = λ plain. let starts = ready.starts plain in (text_from s edges list events world starts, replay-is s edges list script events world ready starts);
+  no_read = λ is. absurd (cc);
+  write = λ is. (told ready.some.job ready.some.defined ready.some.shows).failed_one refl;
+  untouched = λ other more. absurd (more refl);
+  begun = λ plain is. told-begins contents failed a b s edges list script events world untold.Write ready told plain;
+  memory = λ plain is. absurd (cc);
+}

@@ -1,0 +1,52 @@
+use Rattle.std.proofs.Common.{refl, set}
+use Rattle.std.specs.Vec.{with_item}
+use Rattle.std.proofs.lemmas.Result.{err_from_is_err_and}
+use Rattle.ball_model.specs.declared.world.Event.TheVariants as event
+use Rattle.world.specs.contracts.world.World.{the_view}
+use Rattle.world.proofs.PlaceLemmas.{At, at_changed, at_seen, at_unchanged, no_node_in, nothing_at, row_same, something_at, with_rows}
+use Rattle.world.proofs.ApplyLemmas.{keep_of_world, no_node, turn_applies, want_applies}
+use Rattle.world.proofs.world.World.keep.Goals as goal
+
+pub returns-in_default-get_mut : goal.returns-in_default-get_mut
+returns-in_default-get_mut c = λ j.
+    let v = the_view c.self.inside in
+    let rows = c.self.inside.nodes.items in
+    let row = c.in-Some.nodes.now in
+    let there = something_at c.self.inside.nodes c.from.result row (c.in-Some.ensures.variant.0 refl) c.in-Some.ensures.value in
+    let gone = nothing_at row c.from-2.result c.in_default-get_mut.ensures.variant.1 in
+    no_node j (event.Keep c.args.id) c.args.self.now (with_rows v (set rows c.from.result row)) v c.self.view_is (row_same v rows c.from.result row there) (no_node_in v rows c.args.id c.from.result c.from-2.result row c.from.ensures c.from-2.ensures there gone)
+
+pub returns-in_err-keep : goal.returns-in_err-keep
+returns-in_err-keep c = λ j.
+    let v = the_view c.self.inside in
+    let rows = c.self.inside.nodes.items in
+    let row = c.in-Some.nodes.now in
+    let s = c.in-Some-get_mut.node.now in
+    let at : At rows c.args.id c.from.result c.from-2.result row s = record {
+      part = c.from.ensures;
+      replica = c.from-2.ensures;
+      row_is = something_at c.self.inside.nodes c.from.result row (c.in-Some.ensures.variant.0 refl) c.in-Some.ensures.value;
+      node_is = something_at row c.from-2.result s (c.in-Some-get_mut.ensures.variant.0 refl) c.in-Some-get_mut.ensures.value;
+    } in
+    let seen = at_seen v rows c.args.id c.from.result c.from-2.result row s at in
+    let t = c.keep.new.self in
+    let p = err_from_is_err_and c.from_residual.result c.from_residual.ensures.1 in
+    rw (p.1, p.2) (want_applies j (event.Keep c.args.id) c.args.self.now (with_rows v (set rows c.from.result (with_item row c.from-2.result t))) v s c.self.view_is (at_unchanged v rows c.args.id c.from.result c.from-2.result row s t at c.in_err-keep.ensures.refused) seen refl (λ w n shows is agrees. refl))
+
+pub returns : goal.returns
+returns c = λ j.
+    let v = the_view c.self.inside in
+    let rows = c.self.inside.nodes.items in
+    let row = c.in-Some.nodes.now in
+    let s = c.in-Some-get_mut.node.now in
+    let at : At rows c.args.id c.from.result c.from-2.result row s = record {
+      part = c.from.ensures;
+      replica = c.from-2.ensures;
+      row_is = something_at c.self.inside.nodes c.from.result row (c.in-Some.ensures.variant.0 refl) c.in-Some.ensures.value;
+      node_is = something_at row c.from-2.result s (c.in-Some-get_mut.ensures.variant.0 refl) c.in-Some-get_mut.ensures.value;
+    } in
+    let seen = at_seen v rows c.args.id c.from.result c.from-2.result row s at in
+    let t = c.keep.new.self in
+    let a = c.in_ok-keep.field-0 in
+    turn_applies j (event.Keep c.args.id) a c.args.self.now (with_rows v (set rows c.from.result (with_item row c.from-2.result t))) v s t c.self.view_is (at_changed v rows c.args.id c.from.result c.from-2.result row s t at) seen
+    (λ w shows. keep_of_world j c.args.id w a s t (c.in_ok-keep.ensures.turned j))

@@ -1,0 +1,206 @@
+-- A replay: what is asked of it, and what its refusals say of the input.
+use Rattle.std.specs.Prelude.{◌≡◌, ◌≢◌, ⊤, ℕ, List, Option, option_map, Result, Ok, Err, IfSome, ◌⊎◌}
+use Rattle.std.specs.Borrow.{Bor}
+use Rattle.std.specs.Io.KnownBytes.{Keeps}
+use Rattle.ball_model.specs.declared.world.Event.{Event}
+use Rattle.ball_model.specs.PlanValue.{plan_of}
+use Rattle.ball_model.specs.Job.{Job}
+use Rattle.ball_model.specs.Input.{IsPlain, Network, Refusal}
+use Rattle.ball_model.specs.Counting.{CountedRefusal}
+use Rattle.ball_model.specs.RunText.{AreRead, Numbers, Settings, counted_in, network_in, plan_over}
+use Rattle.ball_model.specs.Streams.{Rises}
+use Rattle.ball_model.specs.World.{World, start_world}
+use Rattle.ball_model.specs.WorldText.{AreReplicas, HasCommands, IsReplay, IsReplayPlanFault}
+use Rattle.ball_model.specs.WorldText.{IsScriptFault, ReplaySettings, job_over, script_of}
+use Rattle.edgelist.specs.Planning.{is_corrected, numbers_with}
+use Rattle.edgelist.specs.Reading.{Refuses, byte_of}
+use Rattle.edgelist.specs.Counting.{RefusesList}
+use Rattle.edgelist.specs.declared.read.EdgeError.{EdgeError}
+use Rattle.edgelist.specs.declared.read.EdgeError.TheVariants as edge_fault
+use Rattle.edgelist.specs.declared.counting.CountedError.{CountedError}
+use Rattle.world.specs.declared.replay.ReplayOptions.{ReplayOptions}
+use Rattle.world.specs.declared.replay.ReplayError.{ReplayError}
+use Rattle.world.specs.declared.replay.ReplayError.TheVariants as fault
+use Rattle.world.specs.declared.script.ScriptError.{ScriptError}
+use Rattle.world.specs.declared.script.ScriptError.TheVariants as unread
+use Rattle.world.specs.declared.tell.TellError.{TellError}
+use Rattle.world.specs.declared.tell.TellError.TheVariants as untold
+use Rattle.world.specs.Shows.{SeenWorld, Shows}
+use Rattle.world.specs.Tell.{BeginsText}
+
+-- ---- what is asked
+
+abbrev pub numbers_in : ReplayOptions → Numbers
+numbers_in o = numbers_with (is_corrected o.estimate) o.log2m o.seed o.parts o.limit
+
+abbrev pub settings_of : ReplayOptions → Settings
+settings_of o = record { numbers = numbers_in o; delimiter = byte_of o.delimiter }
+
+abbrev pub replay_of : ReplayOptions → ReplaySettings
+replay_of o = record { run = settings_of o; replicas = o.replicas }
+
+-- the bytes of a list of counted vertices, where there is one
+abbrev pub list_in : Option (Bor (List ℕ)) → Option (List ℕ)
+list_in counted = option_map (λ list. list.now) counted
+
+-- the edge list and the list are plain
+abbrev pub ArePlain : List ℕ → Option (List ℕ) → Type 0
+ArePlain edges list = IsPlain edges × IfSome list IsPlain
+
+-- what an edge list says under the options, and a list of counted vertices of that
+abbrev pub network_by : ReplayOptions → List ℕ → Result Network Refusal
+network_by o edges = network_in (settings_of o) edges
+
+abbrev pub counted_by : ReplayOptions → Network → Option (Bor (List ℕ)) →
+    Result Network CountedRefusal
+counted_by o network counted = counted_in (settings_of o) network (list_in counted)
+
+-- ---- what errors are told as
+
+abbrev pub told_script : ScriptError → ReplayError
+told_script (unread.Line n) = fault.Script n
+told_script unread.Memory = fault.Memory
+
+abbrev pub told_tell : TellError → ReplayError
+told_tell untold.Memory = fault.Memory
+told_tell untold.Write = fault.Write
+
+-- ---- what refusals say
+
+-- the options fit, and the script says these events
+pub record AreCommands (s : ReplaySettings) (script : List ℕ) (events : List Event) : Type 0 where
+  pub replicas : AreReplicas s.replicas
+  pub commands : script_of script ≡ Ok events
+
+-- the error is of the input, and none of the options or of the script or of a write
+abbrev pub IsOfInput : ReplayError → Type 0
+IsOfInput fault.Options = ⊥
+IsOfInput (fault.Script n) = ⊥
+IsOfInput (fault.Edges edge_fault.Read) = ⊥
+IsOfInput (fault.Edges edge_fault.TooManyEdges) = ⊤
+IsOfInput (fault.Edges (edge_fault.Fields n)) = ⊤
+IsOfInput (fault.Edges edge_fault.TooManyVertices) = ⊤
+IsOfInput (fault.Edges edge_fault.Memory) = ⊤
+IsOfInput (fault.Counted e) = ⊤
+IsOfInput (fault.Plan e) = ⊤
+IsOfInput fault.Memory = ⊤
+IsOfInput fault.Write = ⊥
+
+-- what a refusal says of the options and the script, the first of the checks
+abbrev pub RefusesScript : ReplaySettings → List ℕ → ReplayError → Type 0
+RefusesScript s script fault.Options = AreReplicas s.replicas → ⊥
+RefusesScript s script (fault.Script n) = IsScriptFault s script n
+RefusesScript s script (fault.Edges e) = ⊥
+RefusesScript s script (fault.Counted e) = ⊥
+RefusesScript s script (fault.Plan e) = ⊥
+RefusesScript s script fault.Memory = AreReplicas s.replicas
+RefusesScript s script fault.Write = ⊥
+
+-- the edge list says a network, and this error is what the list of counted vertices says of it
+pub record IsListRefusal
+    (s : Settings) (edges : List ℕ) (list : Option (List ℕ)) (e : CountedError) : Type 0 where
+  pub all : Network
+  pub read : network_in s edges ≡ Ok all
+  pub refused : RefusesList (counted_in s all list) e
+
+-- what a refusal says of the network, as far as it was read
+abbrev pub RefusesNetwork : Settings → List ℕ → Option (List ℕ) → ReplayError → Type 0
+RefusesNetwork s edges list fault.Options = ⊥
+RefusesNetwork s edges list (fault.Script n) = ⊥
+RefusesNetwork s edges list (fault.Edges e) = Refuses (network_in s edges) e
+RefusesNetwork s edges list (fault.Counted e) = IsListRefusal s edges list e
+RefusesNetwork s edges list (fault.Plan e) = ⊥
+RefusesNetwork s edges list fault.Memory = ⊥
+RefusesNetwork s edges list fault.Write = ⊥
+
+-- there is a plan of these numbers over the network
+abbrev pub HasPlan : Numbers → Network → Type 0
+HasPlan n network = plan_of (plan_over n network.graph) ≡ Ok (plan_over n network.graph)
+
+-- there is such a plan, and that is the start of its world
+pub record IsStarted (n : Numbers) (replicas : ℕ) (network : Network) (world : SeenWorld) : Type 0 where
+  pub planned : HasPlan n network
+  pub shows : Shows (job_over n network) (start_world (plan_over n network.graph) replicas) world
+
+-- what a refusal says of a network that was read
+abbrev pub RefusesStart : Numbers → Network → ReplayError → Type 0
+RefusesStart n network fault.Options = ⊥
+RefusesStart n network (fault.Script line) = ⊥
+RefusesStart n network (fault.Edges e) = ⊥
+RefusesStart n network (fault.Counted e) = ⊥
+RefusesStart n network (fault.Plan e) = plan_of (plan_over n network.graph) ≡ Err e
+RefusesStart n network fault.Memory = HasPlan n network
+RefusesStart n network fault.Write = ⊥
+
+-- what a refusal says of the whole input: each comes only where all checks before it passed, and a failed write only
+-- of a replay that has a text
+abbrev pub IsRefusal : ReplaySettings → List ℕ → Option (List ℕ) → List ℕ → ReplayError → Type 0
+IsRefusal s edges list script fault.Options = AreReplicas s.replicas → ⊥
+IsRefusal s edges list script (fault.Script n) = IsScriptFault s script n
+IsRefusal s edges list script (fault.Edges e) =
+    HasCommands s script × Refuses (network_in s.run edges) e
+IsRefusal s edges list script (fault.Counted e) =
+    HasCommands s script × IsListRefusal s.run edges list e
+IsRefusal s edges list script (fault.Plan e) = IsReplayPlanFault s edges list script e
+IsRefusal s edges list script fault.Memory = AreReplicas s.replicas
+IsRefusal s edges list script fault.Write = (text : List ℕ) × IsReplay s edges list script text
+
+-- what it says of the options and the script alone, whatever the edge list is
+abbrev pub RefusesBefore : ReplaySettings → List ℕ → ReplayError → Type 0
+RefusesBefore s script fault.Options = AreReplicas s.replicas → ⊥
+RefusesBefore s script (fault.Script n) = IsScriptFault s script n
+RefusesBefore s script (fault.Edges e) = HasCommands s script
+RefusesBefore s script (fault.Counted e) = HasCommands s script
+RefusesBefore s script (fault.Plan e) = HasCommands s script
+RefusesBefore s script fault.Memory = AreReplicas s.replicas
+RefusesBefore s script fault.Write = HasCommands s script
+
+-- a beginning of the answers was appended
+pub record BeginsReplay (s : ReplaySettings) (edges : List ℕ) (list : Option (List ℕ))
+    (script : List ℕ) (old new : Option (List ℕ)) : Type 0 where
+  pub text : List ℕ
+  pub replay : IsReplay s edges list script text
+  pub begun : BeginsText old new text
+
+-- it is the start of some world
+pub record IsSomeStart (world : SeenWorld) : Type 0 where
+  pub job : Job
+  pub defined : World
+  pub shows : Shows job defined world
+
+-- the edge list and the list say a network, and that is the start of its world
+pub record StartsFrom (s : ReplaySettings) (edges : List ℕ) (list : Option (List ℕ))
+    (world : SeenWorld) : Type 0 where
+  pub network : Network
+  pub read : AreRead s.run edges list network
+  pub started : IsStarted s.run.numbers s.replicas network world
+
+-- the events of the script, and the world at its start
+pub record IsReady (s : ReplaySettings) (edges : List ℕ) (list : Option (List ℕ))
+    (script : List ℕ) (events : List Event) (world : SeenWorld) : Type 0 where
+  pub commands : AreCommands s script events
+  pub some : IsSomeStart world
+  pub starts : ArePlain edges list → StartsFrom s edges list world
+
+-- a refusal before anything is written
+pub record IsEarly (s : ReplaySettings) (edges : List ℕ) (list : Option (List ℕ))
+    (script : List ℕ) (e : ReplayError) : Type 0 where
+  pub before : RefusesBefore s script e
+  pub no_read : e ≢ fault.Edges edge_fault.Read
+  pub no_write : e ≢ fault.Write
+  pub refused : ArePlain edges list → IsRefusal s edges list script e
+
+-- what a replay that failed says of the input, and what it leaves: nothing was written, but for want of memory and
+-- for a failed write, after which a beginning of the answers stands; the edge list is never unread; and a write failed
+-- where that is said
+pub record Fails (s : ReplaySettings) (edges : List ℕ) (list : Option (List ℕ)) (script : List ℕ)
+    (old new : Option (List ℕ)) (failed_old failed_new : ℕ) (e : ReplayError) : Type 0 where
+  pub before : RefusesBefore s script e
+  pub refused : ArePlain edges list → IsRefusal s edges list script e
+  pub no_read : e ≢ fault.Edges edge_fault.Read
+  pub write : e ≡ fault.Write → Rises failed_old failed_new
+  pub untouched : e ≢ fault.Memory → e ≢ fault.Write → Keeps old new
+  pub begun : ArePlain edges list → e ≡ fault.Write →
+      BeginsReplay s edges list script old new
+  pub memory : ArePlain edges list → e ≡ fault.Memory →
+      Keeps old new ⊎ BeginsReplay s edges list script old new

@@ -1,0 +1,52 @@
+-- What is written of a text, to its end or not.
+use Rattle.std.specs.Prelude.{◌≡◌, ⊤, ℕ, List, ◌++◌, Option, Result, MatchResult}
+use Rattle.std.specs.Io.KnownBytes.{Appends}
+use Rattle.ball_model.specs.Streams.{Rises}
+use Rattle.ball_model.specs.declared.world.Answer.{Answer}
+use Rattle.ball_model.specs.declared.world.Answer.TheVariants as answer
+use Rattle.ball_model.specs.declared.world.WorldError.{WorldError}
+use Rattle.std.specs.Prelude.{Bool, true, false, Ok, Err}
+use Rattle.world.specs.declared.tell.TellError.{TellError}
+use Rattle.world.specs.declared.tell.TellError.TheVariants as fault
+
+-- a beginning of the text was appended, which may be all of it or nothing
+pub record BeginsText (old new : Option (List ℕ)) (text : List ℕ) : Type 0 where
+  pub front : List ℕ
+  pub rest : List ℕ
+  pub split : text ≡ front ++ rest
+  pub appended : Appends old new front
+
+-- a writer of these contents was given the text, and no call of it failed
+pub record Told {W : Type 0} (contents : W → Option (List ℕ)) (failed : W → ℕ) (old new : W)
+    (text : List ℕ) : Type 0 where
+  pub appended : Appends (contents old) (contents new) text
+  pub counted : failed new ≡ failed old
+
+-- it was given a beginning of the text, and where the fault is of a write a call of it failed
+pub record Stopped {W : Type 0} (contents : W → Option (List ℕ)) (failed : W → ℕ) (old new : W)
+    (text : List ℕ) (e : TellError) : Type 0 where
+  pub begun : BeginsText (contents old) (contents new) text
+  pub failed_one : e ≡ fault.Write → Rises (failed old) (failed new)
+
+-- one or the other
+abbrev pub Tells : {W : Type 0} → (W → Option (List ℕ)) → (W → ℕ) → W → W → List ℕ →
+    Result (Unit {0}) TellError → Type 0
+Tells contents failed old new text result =
+    MatchResult result
+    (λ _. Told contents failed old new text)
+    (Stopped contents failed old new text)
+
+-- a node was looked at
+abbrev pub is_shown : Result Answer WorldError → Bool
+is_shown (Ok answer.Shown) = true
+is_shown (Ok (answer.Sent m name changed rows)) = false
+is_shown (Ok (answer.Took t)) = false
+is_shown (Ok (answer.NotTaken e)) = false
+is_shown (Ok (answer.Closed t)) = false
+is_shown (Ok (answer.NotClosed e)) = false
+is_shown (Ok (answer.Kept t)) = false
+is_shown (Ok (answer.Restarted t)) = false
+is_shown (Ok (answer.Copied c t)) = false
+is_shown (Ok (answer.Merged t)) = false
+is_shown (Ok (answer.NotMerged e)) = false
+is_shown (Err e) = false

@@ -1,0 +1,41 @@
+//! A cluster whose events come one at a time, in any order that anyone writes down (Pregel 2010).
+//!
+//! A [`World`] has the nodes of a job: so many replicas of each partition. An [`Event`] is one call at one node, and
+//! [`World::apply`] answers it: a node sends a message, takes one, closes its superstep, keeps what it has, goes back to
+//! what it kept, is copied, or takes over what a copy has. Messages and copies are numbered from 0 and never go away; a
+//! loss is a message that is never delivered, a repeat one that is delivered again. Messages and checkpoints are bytes.
+//!
+//! What each event answers and makes of the world is a definition of `ball_model`, over plain data. After any list of
+//! events the world is what the definition makes of it: each replica at superstep t has for each of its vertices the
+//! registers of exactly the counted vertices with a path of at most t edges to it ([`laws::headline`]).
+//!
+//! ```text
+//! let mut world = World::new(alloc, &graph, &plan, 1)?;
+//! world.apply(alloc, Event::Send { node: a, target: 1 })?       // Sent { message: 0, .. }
+//! world.apply(alloc, Event::Close { node: b })?                 // NotClosed(Waiting { source: 0 })
+//! world.apply(alloc, Event::Deliver { message: 0, node: b })?   // Took(New)
+//! world.apply(alloc, Event::Close { node: b })?                 // Closed { superstep: 1 }
+//! world.node(b)                                                 // its replica, at superstep 1
+//! ```
+//!
+//! [`replay::replay`] goes from an edge list and a script, a command on each line, to the text of the answers.
+//!
+//! An event is refused ([`WorldError`]) where there is no such node, target, message or copy, or where memory is
+//! refused; then the world is as it was.
+#![tactic(auto)]
+
+mod answer;
+mod bytes;
+pub mod laws;
+mod node;
+pub mod replay;
+mod script;
+mod start;
+mod tell;
+mod world;
+
+pub use ball_model::world::{Answer, Event, WorldError};
+pub use world::World;
+
+#[cfg(test)]
+mod tests;

@@ -1,0 +1,221 @@
+//! A node of a world: its replica, and its checkpoint.
+
+ghost use Rattle.std.specs.Prelude.{◌≡◌, ◌≢◌, ◌<◌, ℕ, None, IfOk, OnErr};
+ghost use Rattle.std.specs.Arc.{arc_value};
+ghost use Rattle.ball_model.specs.declared.world.Answer.TheVariants as answer;
+ghost use Rattle.ball_model.specs.Checkpoint.{checkpoint_bytes};
+ghost use Rattle.ball_model.specs.Held.{IsName};
+ghost use Rattle.ball_model.specs.Job.{Job, IsJob, part_of};
+ghost use Rattle.ball_model.specs.Join.{Holding};
+ghost use Rattle.ball_model.specs.State.{State};
+ghost use Rattle.ball_model.specs.World.{closed_answer, start_node, taken_answer};
+ghost use Rattle.replica.specs.Change.{IsTrueBatch};
+ghost use Rattle.replica.specs.Saved.{IsKeepable};
+ghost use Rattle.world.specs.Shows.{Has, ShowsNode};
+ghost use Rattle.world.specs.Turns.{Turns, closed_turn, kept_turn, merged_turn, restarted_turn, taken_turn};
+
+use ball_model::world::Answer;
+use ball_model::{CloseError, MemReader, MemWriter, MergeError, TakeError, Taken};
+use batches::Batch;
+use checkpoint::{checkpoint_length, read_checkpoint, write_checkpoint};
+use edgelist::Part;
+use replica::{Replica, Shown, Snapshot};
+use std::alloc::{AllocError, Global};
+use std::marker::Model;
+use std::sync::Arc;
+
+/// A node: its replica, and its checkpoint.
+#[derive(Drop)]
+pub struct Node {
+    part: Arc<Part>,
+    replica: Replica,
+    kept: Option<Vec<u8>>,
+}
+
+impl Model for Node {
+    ghost use Rattle.std.specs.Prelude.{◌≡◌, option_map};
+    ghost use Rattle.std.specs.Arc.{arc_value};
+    ghost use Rattle.world.specs.Shows.{SeenNode};
+
+    ghost Value = { SeenNode };
+
+    ghost view = { λ n. record { replica = n.replica; kept = option_map (λ b. b.items) n.kept } };
+
+    ghost invariant = { λ n. arc_value n.part ≡ n.replica.part };
+}
+
+impl Node {
+    /// A node of the part at superstep 0, which has kept nothing.
+    pub fn start(alloc: Global, part: Arc<Part>) -> Result<Node, AllocError>
+        ensures { IfOk result (λ n. (j : Job) (p : ℕ) → IsJob j → p < j.plan.parts →
+            arc_value part ≡ part_of j p → ShowsNode j (start_node j.plan p) n) }
+    {
+        let own = Arc::try_clone(&part)?;
+        let replica = started(alloc, part)?;
+        Ok(Node {
+            part: own,
+            replica,
+            kept: None,
+        })
+    }
+
+    /// The replica.
+    pub fn replica(&self) -> &Replica
+        ensures { result.now ≡ self.now.replica }
+    {
+        &self.replica
+    }
+
+    /// Takes a batch.
+    pub fn deliver(&mut self, batch: Arc<Batch>) -> Answer
+        ensures { (j : Job) → IsTrueBatch j (arc_value batch) → IsName j.plan (arc_value batch).name →
+            Turns j (taken_turn j (arc_value batch).name) result self.old self.new }
+    {
+        let taken = self.replica.take(batch);
+        // the limits of a replica are told with its superstep
+        let _superstep = self.replica.superstep();
+        answer_to_take(taken)
+    }
+
+    /// Closes the superstep.
+    pub fn close(&mut self) -> Answer
+        ensures { (j : Job) → Turns j (closed_turn j) result self.old self.new }
+    {
+        let closed = self.replica.close();
+        // the limits of a replica are told with its superstep
+        let _superstep = self.replica.superstep();
+        answer_to_close(closed)
+    }
+
+    /// Keeps what the node has, in the place of what it kept before. The error is that memory was refused, and changes
+    /// nothing.
+    pub fn keep(&mut self, alloc: Global) -> Result<Answer, AllocError>
+        ensures turned { (j : Job) → IfOk result (λ a. Turns j kept_turn a self.old self.new) }
+        ensures refused { OnErr result (self.new ≡ self.old) }
+    {
+        let bytes = checkpoint_of(alloc, &self.replica)?;
+        self.kept = Some(bytes);
+        Ok(Answer::Kept {
+            superstep: self.replica.superstep(),
+        })
+    }
+
+    /// Goes back to what the node kept, or to the start. The error is that memory was refused, and changes nothing: the
+    /// replica there was goes only where the other is made.
+    pub fn restart(&mut self, alloc: Global) -> Result<Answer, AllocError>
+        ensures turned { (j : Job) →
+            IfOk result (λ a. Turns j (restarted_turn j) a self.old self.new) }
+        ensures refused { OnErr result (self.new ≡ self.old) }
+    {
+        let replica = self.restored(alloc)?;
+        self.replica = replica;
+        Ok(Answer::Restarted {
+            superstep: self.replica.superstep(),
+        })
+    }
+
+    // The replica of what the node kept, or of the start. The error is that memory was refused.
+    fn restored(&self, alloc: Global) -> Result<Replica, AllocError>
+        ensures part { IfOk result (λ r. r.part ≡ self.now.replica.part) }
+        ensures turned { (j : Job) → IfOk result (λ r. Turns j (restarted_turn j)
+            (answer.Restarted r.superstep) self.now (record self.now { replica = r })) }
+    {
+        let part = Arc::try_clone(&self.part)?;
+        match &self.kept {
+            Some(bytes) => read_back(alloc, part, bytes),
+            None => started(alloc, part),
+        }
+    }
+
+    /// A copy of what the node has. The error is that memory was refused.
+    pub fn copy(&mut self, alloc: Global) -> Result<Snapshot, AllocError>
+        ensures same { IfOk result (λ s. s ≡ self.old.replica) }
+        ensures unchanged { self.new ≡ self.old }
+    {
+        self.replica.snapshot(alloc)
+    }
+
+    /// Takes over what a copy has. The error is that memory was refused, and changes nothing.
+    pub fn recover(&mut self, alloc: Global, copy: &Snapshot) -> Result<Answer, AllocError>
+        ensures turned { (j : Job) (c : Holding) → Has j c copy.now →
+            IfOk result (λ a. Turns j (merged_turn c) a self.old self.new) }
+        ensures refused { OnErr result (self.new ≡ self.old) }
+    {
+        match self.replica.merge(alloc, copy) {
+            Ok(()) => Ok(Answer::Merged {
+                superstep: self.replica.superstep(),
+            }),
+            Err(error) => answer_to_refusal(error),
+        }
+    }
+}
+
+// The checkpoint of a replica. The error is that memory was refused.
+fn checkpoint_of(alloc: Global, replica: &Replica) -> Result<Vec<u8>, AllocError>
+    ensures { IfOk result (λ bytes. bytes.items ≡ checkpoint_bytes replica.now) }
+{
+    let room = checkpoint_length(replica) as usize;
+    let mut writer = MemWriter::with_room(alloc, room, None)?;
+    // there is room for all of it, and no call is to fail
+    let Ok(()) = write_checkpoint(replica, &mut writer) else {
+        unreachable!();
+    };
+    Ok(writer.into_bytes())
+}
+
+// A replica of the part at superstep 0. The error is that memory was refused.
+fn started(alloc: Global, part: Arc<Part>) -> Result<Replica, AllocError>
+    ensures part { IfOk result (λ r. r.part ≡ arc_value part) }
+    ensures shows { IfOk result (λ r. (j : Job) (p : ℕ) → IsJob j → p < j.plan.parts →
+        arc_value part ≡ part_of j p →
+        ShowsNode j (start_node j.plan p) (record { replica = r; kept = None })) }
+{
+    let replica = Replica::new(alloc, part)?;
+    // the limits of a replica are told with its superstep
+    let _superstep = replica.superstep();
+    Ok(replica)
+}
+
+// The replica of a checkpoint. The error is that memory was refused.
+fn read_back(alloc: Global, part: Arc<Part>, bytes: &[u8]) -> Result<Replica, AllocError>
+    ensures part { IfOk result (λ r. r.part ≡ arc_value part) }
+    ensures back { (v : State) → IsKeepable v → v.part ≡ arc_value part →
+        bytes.now ≡ checkpoint_bytes v → IfOk result (λ r. r ≡ v) }
+{
+    let mut reader = MemReader::new(bytes, None);
+    // what was written is read
+    let Ok(replica) = read_checkpoint(alloc, part, &mut reader) else {
+        return Err(AllocError);
+    };
+    Ok(replica)
+}
+
+// What a world answers where a replica said this of a batch.
+fn answer_to_take(taken: Result<Taken, TakeError>) -> Answer
+    ensures { result ≡ taken_answer taken }
+{
+    match taken {
+        Ok(taken) => Answer::Took(taken),
+        Err(error) => Answer::NotTaken(error),
+    }
+}
+
+// What a world answers where a replica said this of a close.
+fn answer_to_close(closed: Result<u32, CloseError>) -> Answer
+    ensures { result ≡ closed_answer closed }
+{
+    match closed {
+        Ok(superstep) => Answer::Closed { superstep },
+        Err(error) => Answer::NotClosed(error),
+    }
+}
+
+// What a world answers where a replica refused to merge. The error is that memory was refused.
+fn answer_to_refusal(error: MergeError) -> Result<Answer, AllocError>
+    ensures { IfOk result (λ a. (a ≡ answer.NotMerged error) × (error ≢ MergeError.Memory)) }
+{
+    match error {
+        MergeError::OtherJob | MergeError::NotMine => Ok(Answer::NotMerged(error)),
+        MergeError::Memory => Err(AllocError),
+    }
+}

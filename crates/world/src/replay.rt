@@ -1,0 +1,298 @@
+//! A script over an edge list, and its answers.
+
+ghost use Rattle.std.specs.Prelude.{◌≡◌, ◌≢◌, Ok, Err, IfErr, IfOk, IfSome, OnOk};
+ghost use Rattle.ball_model.specs.Job.{IsJob, job_of};
+ghost use Rattle.ball_model.specs.Input.{IsPlain};
+ghost use Rattle.ball_model.specs.PlanValue.{plan_of};
+ghost use Rattle.ball_model.specs.RunText.{AreRead, plan_over};
+ghost use Rattle.ball_model.specs.WorldText.{AppendsReplay};
+ghost use Rattle.edgelist.specs.Counting.{RefusesList};
+ghost use Rattle.edgelist.specs.Reading.{Refuses};
+ghost use Rattle.world.specs.Replay.{AreCommands, ArePlain, Fails, IsEarly, IsOfInput, IsReady, IsStarted};
+ghost use Rattle.world.specs.Replay.{RefusesNetwork, RefusesScript, RefusesStart, counted_by, list_in};
+ghost use Rattle.world.specs.Replay.{network_by, numbers_in, replay_of, settings_of};
+
+use crate::World;
+use crate::bytes::Bytes;
+use crate::script::{ScriptError, read_script};
+use crate::tell::{TellError, tell_events};
+use ball_model::plan::MOST_VERTICES;
+use ball_model::world::Event;
+use ball_model::{CountedWrite, Estimate, Plan, PlanError};
+use edgelist::{CountedError, Delimiter, EdgeError, EdgeLimits, Graph, MOST_RECORDS, read_edges};
+use std::alloc::{AllocError, Global};
+use std::hash::RandomState;
+use thiserror::Error;
+
+/// The most replicas of a partition.
+pub const MOST_REPLICAS: u8 = 4;
+
+// What is read at most of an edge list.
+const LIMITS: EdgeLimits = EdgeLimits {
+    vertices: MOST_VERTICES,
+    edges: MOST_RECORDS,
+};
+
+/// What is asked of a replay.
+#[derive(Clone, Copy, Debug, PartialEq, Eq)]
+pub struct ReplayOptions {
+    /// The binary logarithm of the number of registers of a counter.
+    pub log2m: u8,
+    /// The seed under which vertices are hashed.
+    pub seed: u64,
+    /// The number of partitions that vertices are dealt out to.
+    pub parts: u16,
+    /// The superstep at which a node stops at the latest.
+    pub limit: u32,
+    /// The number of replicas of each partition, from 1 to [`MOST_REPLICAS`].
+    pub replicas: u8,
+    /// How the estimates of counters are made.
+    pub estimate: Estimate,
+    /// What stands between the two fields of a line of the edge list.
+    pub delimiter: Delimiter,
+}
+
+/// Why a replay gives no answers, or not all of them, in the order of the checks.
+#[derive(Clone, Copy, Debug, PartialEq, Eq, Error)]
+pub enum ReplayError {
+    /// There are not from 1 to 4 replicas.
+    #[error("an option does not fit the job")]
+    Options,
+    /// The first line of the script that is no command, from 1 on.
+    #[error("line {line} of the script is no command")]
+    Script { line: u64 },
+    /// The edge list is refused.
+    #[error("{0}")]
+    Edges(EdgeError),
+    /// The list of counted vertices is refused.
+    #[error("{0}")]
+    Counted(CountedError),
+    /// There is no such plan.
+    #[error("{0}")]
+    Plan(PlanError),
+    /// Memory was refused. The answers of earlier events may stand.
+    #[error("out of memory")]
+    Memory,
+    /// A write failed. The answers of earlier events may stand.
+    #[error("the output cannot be written")]
+    Write,
+}
+
+impl From<ScriptError> for ReplayError {
+    ghost use Rattle.world.specs.Replay.{told_script};
+
+    ghost from_gives = { λ fault e. e ≡ told_script fault };
+
+    fn from(fault: ScriptError) -> ReplayError {
+        match fault {
+            ScriptError::Line { line } => ReplayError::Script { line },
+            ScriptError::Memory => ReplayError::Memory,
+        }
+    }
+}
+
+impl From<EdgeError> for ReplayError {
+    ghost use Rattle.world.specs.declared.replay.ReplayError.TheVariants.{Edges};
+
+    ghost from_gives = { λ fault e. e ≡ Edges fault };
+
+    fn from(fault: EdgeError) -> ReplayError {
+        ReplayError::Edges(fault)
+    }
+}
+
+impl From<CountedError> for ReplayError {
+    ghost use Rattle.world.specs.declared.replay.ReplayError.TheVariants.{Counted};
+
+    ghost from_gives = { λ fault e. e ≡ Counted fault };
+
+    fn from(fault: CountedError) -> ReplayError {
+        ReplayError::Counted(fault)
+    }
+}
+
+impl From<PlanError> for ReplayError {
+    ghost use Rattle.world.specs.declared.replay.ReplayError.TheVariants.{Plan};
+
+    ghost from_gives = { λ fault e. e ≡ Plan fault };
+
+    fn from(fault: PlanError) -> ReplayError {
+        ReplayError::Plan(fault)
+    }
+}
+
+impl From<AllocError> for ReplayError {
+    ghost use Rattle.world.specs.declared.replay.ReplayError.TheVariants.{Memory};
+
+    ghost from_gives = { λ _ e. e ≡ Memory };
+
+    fn from(_fault: AllocError) -> ReplayError {
+        ReplayError::Memory
+    }
+}
+
+impl From<TellError> for ReplayError {
+    ghost use Rattle.world.specs.Replay.{told_tell};
+
+    ghost from_gives = { λ fault e. e ≡ told_tell fault };
+
+    fn from(fault: TellError) -> ReplayError {
+        match fault {
+            TellError::Memory => ReplayError::Memory,
+            TellError::Write => ReplayError::Write,
+        }
+    }
+}
+
+// The events of a script, where the options fit.
+fn read_events(
+    alloc: Global,
+    script: &[u8],
+    options: &ReplayOptions,
+) -> Result<Vec<Event>, ReplayError>
+    ensures ok { IfOk result (λ events. AreCommands (replay_of options.now) script.now events.items) }
+    ensures refused { IfErr result (RefusesScript (replay_of options.now) script.now) }
+{
+    if options.replicas < 1 || MOST_REPLICAS < options.replicas {
+        return Err(ReplayError::Options);
+    }
+    Ok(read_script(alloc, script)?)
+}
+
+// The graph that an edge list in memory says.
+fn read_all(
+    alloc: Global,
+    state: RandomState,
+    edges: &[u8],
+    options: &ReplayOptions,
+) -> Result<Graph, EdgeError>
+    ensures ok { IsPlain edges.now → IfOk result (λ all. network_by options.now edges.now ≡ Ok all) }
+    ensures refused { IsPlain edges.now → IfErr result (Refuses (network_by options.now edges.now)) }
+    ensures read { result ≢ Err EdgeError.Read }
+{
+    read_edges(
+        alloc,
+        state,
+        &mut Bytes::new(edges),
+        options.delimiter,
+        LIMITS,
+    )
+}
+
+// Counts only the vertices of a list, where there is one.
+fn count_listed(
+    alloc: Global,
+    mut graph: Graph,
+    counted: Option<&[u8]>,
+    options: &ReplayOptions,
+) -> Result<Graph, CountedError>
+    ensures ok { IfSome (list_in counted.entry) IsPlain → IfOk result (λ listed.
+        counted_by options.now graph counted.entry ≡ Ok listed) }
+    ensures refused { IfSome (list_in counted.entry) IsPlain → IfErr result (
+        RefusesList (counted_by options.now graph counted.entry)) }
+{
+    if let Some(list) = counted {
+        graph.count_only(alloc, options.delimiter, list)?;
+    }
+    Ok(graph)
+}
+
+// The graph that an edge list and a list of counted vertices say.
+fn read_graph(
+    alloc: Global,
+    state: RandomState,
+    edges: &[u8],
+    counted: Option<&[u8]>,
+    options: &ReplayOptions,
+) -> Result<Graph, ReplayError>
+    ensures ok { ArePlain edges.now (list_in counted.entry) →
+        IfOk result (AreRead (settings_of options.now) edges.now (list_in counted.entry)) }
+    ensures refused { ArePlain edges.now (list_in counted.entry) →
+        IfErr result (RefusesNetwork (settings_of options.now) edges.now (list_in counted.entry)) }
+    ensures kind { IfErr result IsOfInput }
+{
+    let graph = read_all(alloc, state, edges, options)?;
+    Ok(count_listed(alloc, graph, counted, options)?)
+}
+
+// The plan of a replay over a graph, or the first fault of the options.
+fn plan_for(graph: &Graph, options: &ReplayOptions) -> Result<Plan, PlanError>
+    ensures value { result ≡ plan_of (plan_over (numbers_in options.now) graph.now.graph) }
+    ensures job { IfOk result (λ plan. IsJob (job_of graph.now.graph plan)) }
+{
+    let ReplayOptions {
+        log2m,
+        seed,
+        parts,
+        limit,
+        ..
+    } = *options;
+    match options.estimate {
+        Estimate::Raw => graph.plan(log2m, seed, parts, limit),
+        Estimate::Corrected => graph.corrected_plan(log2m, seed, parts, limit),
+    }
+}
+
+// The world of a graph at its start.
+fn start(alloc: Global, graph: &Graph, options: &ReplayOptions) -> Result<World, ReplayError>
+    ensures ok { IfOk result (IsStarted (numbers_in options.now) options.now.replicas graph.now) }
+    ensures refused { IfErr result (RefusesStart (numbers_in options.now) graph.now) }
+{
+    let plan = plan_for(graph, options)?;
+    Ok(World::new(alloc, graph, &plan, options.replicas)?)
+}
+
+// The events of a script, and the world of an edge list at its start.
+fn prepare(
+    alloc: Global,
+    state: RandomState,
+    edges: &[u8],
+    counted: Option<&[u8]>,
+    script: &[u8],
+    options: &ReplayOptions,
+) -> Result<(Vec<Event>, World), ReplayError>
+    ensures ok { IfOk result (λ both. IsReady (replay_of options.now) edges.now
+        (list_in counted.entry) script.now both.0.items both.1) }
+    ensures refused { IfErr result
+        (IsEarly (replay_of options.now) edges.now (list_in counted.entry) script.now) }
+{
+    let events = read_events(alloc, script, options)?;
+    let graph = read_graph(alloc, state, edges, counted, options)?;
+    let world = start(alloc, &graph, options)?;
+    Ok((events, world))
+}
+
+/// Reads an edge list, makes the world of its job, and writes what the events of a script answer.
+///
+/// With a list of `counted` vertices only those are counted. A script has a command on each line: `send P.K Q`,
+/// `deliver M P.K`, `close P.K`, `keep P.K`, `restart P.K`, `copy P.K`, `recover P.K C` and `show P.K`, where `P.K` is
+/// replica K of partition P, Q a partition, and M and C the numbers of a message and of a copy, from 0 on. Empty lines
+/// and lines that begin with `#` are skipped.
+///
+/// The errors come in the order of [`ReplayError`]; the whole script is checked before anything is read or written.
+/// After `Memory` and `Write` a beginning of the answers stands, after every other error nothing. `Edges(Read)` is not
+/// answered, and `Write` only where a call of the writer failed. What is said of the edge list holds for plain bytes:
+/// no byte order mark at the front, and an LF after each CR.
+///
+/// Memory is the graph, a replica for each node, 32 bytes a command, and what the events keep: the bytes of each
+/// message, a replica's rows for each copy and checkpoint, and the longest line of the answers.
+pub fn replay<W: CountedWrite>(
+    alloc: Global,
+    state: RandomState,
+    edges: &[u8],
+    counted: Option<&[u8]>,
+    script: &[u8],
+    options: &ReplayOptions,
+    writer: &mut W,
+) -> Result<(), ReplayError>
+    ensures ok { ArePlain edges.now (list_in counted.entry) →
+        OnOk result (AppendsReplay (replay_of options.now) edges.now (list_in counted.entry)
+        script.now (W.contents writer.old) (W.contents writer.new)) }
+    ensures failed { IfErr result (Fails (replay_of options.now) edges.now (list_in counted.entry)
+        script.now (W.contents writer.old) (W.contents writer.new)
+        (W.failed_calls writer.old) (W.failed_calls writer.new)) }
+{
+    let (events, mut world) = prepare(alloc, state, edges, counted, script, options)?;
+    tell_events(alloc, &mut world, &events, writer)?;
+    Ok(())
+}

@@ -1,0 +1,231 @@
+//! The answers of a list of events, written line by line.
+
+ghost use Rattle.std.specs.Prelude.{◌≡◌, ◌<◌, ◌++◌, ◌%◌, OnOk, false};
+ghost use Rattle.std.specs.List.{flat_map};
+ghost use Rattle.ball_model.specs.declared.world.Event.{Event as Happening};
+ghost use Rattle.ball_model.specs.Job.{Job};
+ghost use Rattle.ball_model.specs.Join.{Holding};
+ghost use Rattle.ball_model.specs.Held.{HasHolding};
+ghost use Rattle.ball_model.specs.State.{own_vertices};
+ghost use Rattle.ball_model.specs.World.{World as Defined, after_event, node_at, node_of};
+ghost use Rattle.ball_model.specs.WorldText.{event_text, events_text, node_line, outcome_text, row_text};
+ghost use Rattle.ball_model.specs.WorldText.{show_text, show_unless};
+ghost use Rattle.world.specs.Runs.{is_want};
+ghost use Rattle.world.specs.Shows.{Shows};
+ghost use Rattle.world.specs.Tell.{Tells, is_shown};
+
+use crate::World;
+use crate::answer::{put_answer, put_node, put_refusal, put_vertex};
+use ball_model::world::{Answer, Event, WorldError};
+use ball_model::{CountedWrite, NodeId, put_all};
+use replica::{Replica, Shown};
+use std::alloc::{AllocError, Global};
+
+/// Why not all answers are written.
+#[derive(Clone, Copy, Debug, PartialEq, Eq)]
+pub(crate) enum TellError {
+    /// Memory was refused.
+    Memory,
+    /// A write failed.
+    Write,
+}
+
+impl From<AllocError> for TellError {
+    ghost use Rattle.world.specs.declared.tell.TellError.TheVariants.{Memory};
+
+    ghost from_gives = { λ _ e. e ≡ Memory };
+
+    fn from(_fault: AllocError) -> TellError {
+        TellError::Memory
+    }
+}
+
+// Writes lines.
+fn write_lines<W: CountedWrite>(writer: &mut W, lines: &[u8]) -> Result<(), TellError>
+    ensures { Tells W.contents W.failed_calls writer.old writer.new lines.now result }
+{
+    if put_all(writer, lines) {
+        Ok(())
+    } else {
+        Err(TellError::Write)
+    }
+}
+
+// Tells a vertex of a node.
+fn tell_vertex<W: CountedWrite>(
+    replica: &Replica,
+    x: u32,
+    line: &mut Vec<u8>,
+    writer: &mut W,
+) -> Result<(), TellError>
+    requires vertex { x < replica.now.part.plan.vertices }
+    requires own { x % replica.now.part.plan.parts ≡ replica.now.part.number }
+    ensures { (j : Job) (h : Holding) → HasHolding j h replica.now →
+        Tells W.contents W.failed_calls writer.old writer.new (row_text j h.superstep x) result }
+{
+    line.clear();
+    put_vertex(line, replica, x)?;
+    write_lines(writer, line)
+}
+
+// Tells all vertices of a node.
+fn tell_vertices<W: CountedWrite>(
+    replica: &Replica,
+    line: &mut Vec<u8>,
+    writer: &mut W,
+) -> Result<(), TellError>
+    ensures { (j : Job) (h : Holding) → HasHolding j h replica.now →
+        Tells W.contents W.failed_calls writer.old writer.new
+        (flat_map (row_text j h.superstep) (own_vertices j h.partition)) result }
+{
+    // the limits of a replica are told with its superstep
+    let _superstep = replica.superstep();
+    let parts = u32::from(replica.plan().parts());
+    let partition = replica.partition();
+    for i in 0..replica.plan().part_size(partition) {
+        tell_vertex(replica, i * parts + u32::from(partition), line, writer)?;
+    }
+    Ok(())
+}
+
+// Tells the line of a node.
+fn tell_head<W: CountedWrite>(
+    id: NodeId,
+    replica: &Replica,
+    line: &mut Vec<u8>,
+    writer: &mut W,
+) -> Result<(), TellError>
+    ensures { (j : Job) (h : Holding) → HasHolding j h replica.now →
+        Tells W.contents W.failed_calls writer.old writer.new (node_line j id h) result }
+{
+    line.clear();
+    put_node(line, id, replica)?;
+    write_lines(writer, line)
+}
+
+// Tells a node: its line, and a line for each of its vertices.
+fn tell_replica<W: CountedWrite>(
+    id: NodeId,
+    replica: &Replica,
+    line: &mut Vec<u8>,
+    writer: &mut W,
+) -> Result<(), TellError>
+    ensures { (j : Job) (h : Holding) → HasHolding j h replica.now →
+        Tells W.contents W.failed_calls writer.old writer.new (show_text j id h) result }
+{
+    tell_head(id, replica, line, writer)?;
+    tell_vertices(replica, line, writer)
+}
+
+// Tells a node of a world, where there is one.
+fn tell_node<W: CountedWrite>(
+    world: &World,
+    id: NodeId,
+    line: &mut Vec<u8>,
+    writer: &mut W,
+) -> Result<(), TellError>
+    ensures { (j : Job) (w : Defined) → Shows j w world.now →
+        Tells W.contents W.failed_calls writer.old writer.new
+        (show_unless j id (node_at w id)) result }
+{
+    match world.node(id) {
+        Some(replica) => tell_replica(id, replica, line, writer),
+        None => Ok(()),
+    }
+}
+
+// Whether memory was refused.
+fn is_want(outcome: Result<Answer, WorldError>) -> bool
+    ensures { result ≡ is_want outcome }
+{
+    matches!(outcome, Err(WorldError::Memory))
+}
+
+// Whether a node was looked at.
+fn is_shown(outcome: Result<Answer, WorldError>) -> bool
+    ensures { result ≡ is_shown outcome }
+{
+    matches!(outcome, Ok(Answer::Shown))
+}
+
+// Adds the line of what an event came to. A node that was looked at has lines of its own.
+fn put_outcome(line: &mut Vec<u8>, outcome: Result<Answer, WorldError>) -> Result<(), AllocError>
+    ensures { (j : Job) (w : Defined) (e : Happening) → is_shown outcome ≡ false →
+        OnOk result (line.new.items ≡ line.old.items ++ outcome_text j w e outcome) }
+{
+    match outcome {
+        Ok(answer) => put_answer(line, answer),
+        Err(error) => put_refusal(line, error),
+    }
+}
+
+// Tells what an event came to.
+fn tell_outcome<W: CountedWrite>(
+    outcome: Result<Answer, WorldError>,
+    line: &mut Vec<u8>,
+    writer: &mut W,
+) -> Result<(), TellError>
+    ensures { (j : Job) (w : Defined) (e : Happening) → is_shown outcome ≡ false →
+        Tells W.contents W.failed_calls writer.old writer.new (outcome_text j w e outcome) result }
+{
+    line.clear();
+    put_outcome(line, outcome)?;
+    write_lines(writer, line)
+}
+
+// The node of an event.
+fn node_of(event: Event) -> NodeId
+    ensures { result ≡ node_of event }
+{
+    match event {
+        Event::Send { node, .. }
+        | Event::Deliver { node, .. }
+        | Event::Close { node }
+        | Event::Keep { node }
+        | Event::Restart { node }
+        | Event::Copy { node }
+        | Event::Recover { node, .. }
+        | Event::Show { node } => node,
+    }
+}
+
+// An event happens, and its answer is told.
+fn tell_event<W: CountedWrite>(
+    alloc: Global,
+    world: &mut World,
+    event: Event,
+    line: &mut Vec<u8>,
+    writer: &mut W,
+) -> Result<(), TellError>
+    ensures told { (j : Job) (w : Defined) → Shows j w world.old →
+        Tells W.contents W.failed_calls writer.old writer.new (event_text j w event) result }
+    ensures shows { (j : Job) (w : Defined) → Shows j w world.old →
+        OnOk result (Shows j (after_event j w event) world.new) }
+{
+    let outcome = world.apply(alloc, event);
+    if is_want(outcome) {
+        return Err(TellError::Memory);
+    }
+    if is_shown(outcome) {
+        return tell_node(world, node_of(event), line, writer);
+    }
+    tell_outcome(outcome, line, writer)
+}
+
+/// Events happen one after the other, and the answer of each is told.
+pub(crate) fn tell_events<W: CountedWrite>(
+    alloc: Global,
+    world: &mut World,
+    events: &[Event],
+    writer: &mut W,
+) -> Result<(), TellError>
+    ensures { (j : Job) (w : Defined) → Shows j w world.old →
+        Tells W.contents W.failed_calls writer.old writer.new
+        (events_text j w events.now) result }
+{
+    let mut line = Vec::new(alloc);
+    for event in events {
+        tell_event(alloc, world, *event, &mut line, writer)?;
+    }
+    Ok(())
+}
