@@ -1,2 +1,5 @@
+pub mod Crossing
+pub mod JobLemmas
+pub mod ReadyLemmas
 pub mod SeenLemmas
 pub mod TurnLemmas

@@ -1,2 +1,5 @@
+pub mod Job
 pub mod Node
+pub mod Options
+pub mod Run
 pub mod Turn

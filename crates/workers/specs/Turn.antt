@@ -1,8 +1,9 @@
 -- A superstep of a node, and how the node's replica fares.
-use Rattle.std.specs.Prelude.{◌≡◌, ◌≢◌, ⊤, ℕ, ◌<◌, Option, None}
+use Rattle.std.specs.Prelude.{◌≡◌, ◌≢◌, ⊤, ℕ, ◌<◌, ◌-◌, ◌⊎◌, Option, None}
 use Rattle.ball_model.specs.Job.{IsJob, PartValue, part_of}
 use Rattle.ball_model.specs.State.{State, StandsFor}
-use Rattle.ball_model.specs.Caller.{Caller}
+use Rattle.ball_model.specs.Caller.{Called, CalledNothing, Caller}
+use Rattle.ball_model.specs.History.{Drop}
 use Rattle.replica.specs.Level.{EndsRun, found_verdict, missing_in}
 use Rattle.replica.specs.Sent.{batch_name}
 use Rattle.workers.specs.declared.node.Fate.{Fate}
@@ -48,6 +49,11 @@ IsTurn v p r (turn.Starved q) w = HasStarved v r.superstep q p w
 
 -- what a fate says of the replica, as it is then
 abbrev pub IsFate : Caller → ℕ → Option ℕ → State → Fate → Caller → Type 0
-IsFate v p lose r fate.Done w = HasToldAll v r.superstep p w × IsDone v.seen.job p r
+IsFate v p lose r fate.Done w =
+    HasToldAll v r.superstep p w × (IsDone v.seen.job p r × (FallsDue lose r.superstep → ⊥))
 IsFate v p lose r (fate.Lost s) w = FallsDue lose s
 IsFate v p lose r (fate.Starved s q) w = HasStarved v s q p w
+
+-- at superstep s the caller drops the batches before the last superstep, or makes no call
+abbrev pub DropsBefore : Caller → ℕ → Caller → Type 0
+DropsBefore v s w = CalledNothing v w ⊎ Called v (Drop (s - 1)) w

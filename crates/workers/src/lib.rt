@@ -1,6 +1,14 @@
-//! One node of a run: a replica that posts what it has to tell, fetches what it is told, and goes on.
+//! Runs: nodes that post what they have to tell, fetch what they are told, and go on, a thread each.
 //!
-//! [`run_node`] takes a node of a partition from superstep 0 to its end, over an [`Exchange`]: a board with a seat
+//! [`run`] goes from an edge list to its report, by [`RunOptions`]: a board for the job, and a thread for each replica of
+//! each partition. Its [`RunError`] says why there is no report.
+//!
+//! ```text
+//! let gate = SleepingGate::new(rt.alloc(), rt)?;
+//! run(rt, RandomState::new(rt)?, &mut reader, None, &mut writer, &options, &gate)?
+//! ```
+//!
+//! [`run_node`] takes one node of a partition from superstep 0 to its end, over an [`Exchange`]: a board with a seat
 //! ([`BoardExchange`]), or a board of one caller in memory ([`MemoryExchange`]). [`NodeOrders`] say how often it keeps
 //! a snapshot, how long it waits, and whether it is lost or starts anew; [`NodeEnd`] says how it ended. A [`Gate`] is
 //! called round each of its posts, and while it waits.
@@ -15,16 +23,24 @@
 //! kept a snapshot of a further superstep, it takes that over and goes on from there.
 #![tactic(auto)]
 
+mod bytes;
+mod ends;
 mod exchange;
 mod gate;
+mod job;
 mod memory;
 mod node;
+mod options;
+mod pages;
+mod told;
 mod turn;
 
+pub use bytes::{RunError, run};
 pub use exchange::{BoardExchange, Exchange};
 pub use gate::{Gate, OpenGate, SleepingGate};
 pub use memory::MemoryExchange;
 pub use node::{NodeEnd, NodeError, NodeOrders, run_node};
+pub use options::RunOptions;
 
 #[cfg(test)]
 mod tests;

@@ -94,6 +94,7 @@ pub enum Fate {
 // Whether an order falls due at a superstep.
 fn falls_due(order: Option<u32>, superstep: u32) -> bool
     ensures due { result ≡ true → FallsDue order superstep }
+    ensures spared { result ≡ false → FallsDue order superstep → ⊥ }
     ensures none { order ≡ None → result ≡ false }
 {
     match order {
@@ -192,6 +193,8 @@ pub fn run_node<R: AllocGlobal + Wait, E: Exchange, G: Gate>(
     ensures told { IfOk result (λ end. IfDone end (λ r. HasToldAll (E.caller exchange.old)
         r.superstep node.part (E.caller exchange.new))) }
     ensures lost { IfOk result (λ end. IfLost end (FallsDue orders.now.lose)) }
+    ensures spared { IfOk result (λ end. IfDone end (λ r.
+        FallsDue orders.now.lose r.superstep → ⊥)) }
     ensures starved { IfOk result (λ end. IfStarved end (λ s q.
         WasMissing (E.caller exchange.old) (batch_name s q node.part) (E.caller exchange.new))) }
     ensures starved_told { IfOk result (λ end. IfStarved end (λ s q.

@@ -1,4 +1,7 @@
-//! What no clause says: worked runs of one node.
+//! What no clause says: worked runs of one node and of many.
+
+mod runs;
+mod texts;
 
 ghost use Rattle.std.specs.Prelude.{◌≡◌, ◌<◌, ◌≤◌, IfSome};
 ghost use Rattle.ball_model.specs.Job.{IsJob, job_of};

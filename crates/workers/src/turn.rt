@@ -8,7 +8,7 @@ ghost use Rattle.ball_model.specs.Job.{Job};
 ghost use Rattle.ball_model.specs.State.{StandsFor};
 ghost use Rattle.replica.specs.Level.{EndsRun, found_verdict, missing_in};
 ghost use Rattle.workers.specs.declared.turn.Turn.TheVariants as turn;
-ghost use Rattle.workers.specs.Turn.{IsFound, IsTurn, StandsIn};
+ghost use Rattle.workers.specs.Turn.{DropsBefore, IsFound, IsTurn, StandsIn};
 ghost use Rattle.replica.specs.Sent.{batch_name};
 
 use crate::exchange::Exchange;
@@ -153,10 +153,13 @@ fn drop_old<R: Wait, E: Exchange>(
     ensures seen { Extends (E.caller exchange.old) (E.caller exchange.new) }
     ensures full { IfErr result (λ e. e ≡ BookFull → IsFull (E.caller exchange.new)) }
     ensures never { every ≡ 0 → result ≢ Err BookFull }
+    ensures dropped { OnOk result (DropsBefore (E.caller exchange.old) superstep
+        (E.caller exchange.new)) }
 {
-    if every == 1 && superstep >= 2 {
-        exchange.drop_below(rt, superstep - 1)?;
+    if every != 1 || superstep < 2 {
+        return Ok(());
     }
+    exchange.drop_below(rt, superstep - 1)?;
     Ok(())
 }
 
@@ -277,6 +280,8 @@ pub fn run_superstep<R: AllocGlobal + Wait, E: Exchange, G: Gate>(
     ensures stands { OnOk result (StandsIn (E.caller exchange.old) node.part replica.new) }
     ensures turn { IfOk result (λ turn.
         IsTurn (E.caller exchange.old) node.part replica.new turn (E.caller exchange.new)) }
+    ensures over { IfOk result (λ t. t ≡ turn.Over →
+        replica.new.superstep ≡ replica.old.superstep) }
     ensures full { IfErr result (λ e. e ≡ BookFull → IsFull (E.caller exchange.new)) }
     ensures alone { (E.caller exchange.old).seen.job.plan.parts ≡ 1 → orders.now.keep ≡ 0 →
         result ≢ Err BookFull }

@@ -1,6 +1,7 @@
-use Rattle.std.proofs.Common.{◌≡◌, ℕ, sym, subst}
+use Rattle.std.proofs.Common.{◌≡◌, ◌∙◌, ℕ, sym, subst}
 use Rattle.ball_model.specs.Caller.{Caller}
 use Rattle.workers.specs.declared.turn.Turn.{Turn}
+use Rattle.workers.specs.Node.{FallsDue}
 use Rattle.workers.specs.Turn.{HasStarved, IsTurn}
 use Rattle.workers.proofs.SeenLemmas.{starved_before, told_before}
 use Rattle.workers.proofs.TurnLemmas.{done_of, stands_back}
@@ -15,7 +16,7 @@ returns-in-Over-clause-fate g c =
     let r = c.run_superstep.new.replica in
     let turn = subst (λ (t : Turn). IsTurn (caller c.loop.exchange) p r t w) c.in-Over.is c.in_ok-run_superstep.ensures.turn in
     let stands = stands_back v (caller c.loop.exchange) p r c.loop.invariant.0 c.in_ok-run_superstep.ensures.stands in
-    (told_before v _ w _ p c.loop.invariant.0 turn.0, done_of v.seen.job p r stands turn.1)
+    (told_before v _ w _ p c.loop.invariant.0 turn.0, (done_of v.seen.job p r stands turn.1, λ due. c.falls_due.ensures.spared c.if-falls_due.false (subst (FallsDue c.args.orders.now.lose) (c.in_ok-run_superstep.ensures.over c.in-Over.is ∙ sym c.superstep-superstep.ensures.value) due)))
 
 pub returns-in-Starved-clause-fate : goal.returns-in-Starved-clause-fate
 returns-in-Starved-clause-fate g c =

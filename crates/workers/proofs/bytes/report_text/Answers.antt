@@ -1,0 +1,21 @@
+use Rattle.std.proofs.Common.{◌≡◌, ℕ, subst}
+use Rattle.std.proofs.lemmas.Result.{err_from_is_err_and}
+use Rattle.workers.specs.declared.ends.JobError.{JobError}
+use Rattle.workers.specs.declared.ends.JobError.TheVariants as job
+use Rattle.workers.specs.declared.options.RunOptions.{RunOptions}
+use Rattle.workers.specs.Job.{IsFaultOf}
+use Rattle.workers.specs.Run.{IsFaultIn, job_fault}
+use Rattle.workers.proofs.bytes.report_text.Goals as goal
+
+said : (o : RunOptions) (e : JobError) → IsFaultOf o.parts o e → IsFaultIn o (job_fault e)
+said o (job.PartitionLost p) h = h
+said o job.BookFull h = h
+said o job.Memory h = tt
+said o (job.Starved node s q) h = h
+
+pub returns-in_err-text-clause-fault : goal.returns-in_err-text-clause-fault
+returns-in_err-text-clause-fault g c =
+    let o = c.args.options.now in
+    let e = c.in_err-text.field-0.0 in
+    let p = err_from_is_err_and c.from_residual-in_err-text.result c.from_residual-in_err-text.ensures.1 in
+    rw (p.1, p.2) (said o e (subst (λ (n : ℕ). IsFaultOf n o e) c.in_ok-plan.ensures.parts c.in_err-text.ensures.fault))

@@ -1,0 +1,37 @@
+use Rattle.std.proofs.Common.{◌≡◌, ◌∙◌, ◌≤◌, ◌+◌, ◌&&◌, [], All, Bool, ℕ, arith, ap, length, rules, subst, sym, true}
+use Rattle.std.proofs.lemmas.List.Elements.{All-tail}
+use Rattle.std.specs.Vec.Iter.{into_iter_items}
+use Rattle.workers.proofs.JobLemmas.{SettlingAll, settling_all_more, settling_all_start}
+use Rattle.workers.proofs.ends.settle.Goals.{then-branch, else-branch}
+use Rattle.workers.proofs.ends.settle.Goals as goal
+
+pub loop-own-init : goal.loop-own-init
+loop-own-init c =
+    let same : into_iter_items c.into_iter-own-iterator.result ≡ c.args.ends.items = search rules in
+    let count = ap length same in (
+      omega (arith, count),
+      (
+        subst (All (λ own. length own.items ≤ 4)) (sym same) c.requires.few,
+        λ j o h. subst (λ rest. SettlingAll (λ own. own.items) j o 0 rest c.none-faults.result c.in_ok-done.done.items true) (sym same)
+            (subst (λ done. SettlingAll (λ own. own.items) j o 0 c.args.ends.items c.none-faults.result done true) (sym c.in_ok-done.ensures.items)
+            (settling_all_start (λ own. own.items) j o c.args.ends.items c.none-faults.result h (c.none-faults.ensures j.plan.parts o))),
+      ),
+    )
+
+pub loop-own-preserved : goal.loop-own-preserved
+loop-own-preserved c =
+    let i = c.loop-own.invariant in
+    let next = c.in-Some.ensures.steps.0 in
+    let fewer = ap length next in
+    let both : c.if-branch.complete ≡ (c.in_ok-complete.complete && c.loop-own.complete) = elim c.if-branch.branch [
+      | then-branch w ↦ w.complete-is ∙ sym (ap (λ (b : Bool). b && c.loop-own.complete) w.if-branch.true)
+      | else-branch w ↦ w.complete-is ∙ w.if-branch.false ∙ sym (ap (λ (b : Bool). b && c.loop-own.complete) w.if-branch.false)
+    ] in (
+      omega (arith, i.0, fewer),
+      (
+        All-tail (λ own. length own.items ≤ 4) c.in-Some.own (into_iter_items c.next.new.self) (subst (All (λ own. length own.items ≤ 4)) next i.1.0),
+        λ j o h. settling_all_more (λ own. own.items) j o c.loop-own.p c.in-Some.own (into_iter_items c.next.new.self) c.loop-own.faults c.settle_part-next.new.faults c.loop-own.done.items c.keep_done.new.done.items c.settle_part-next.result c.in_ok-complete.complete c.loop-own.complete c.if-branch.complete
+            (subst (λ rest. SettlingAll (λ own. own.items) j o c.loop-own.p rest c.loop-own.faults c.loop-own.done.items c.loop-own.complete) next (i.1.1 j o h))
+            (c.settle_part-next.ensures.noted j o) (c.settle_part-next.ensures.done j o) c.in_ok-complete.ensures.count (c.in_ok-complete.ensures.each j) both,
+      ),
+    )

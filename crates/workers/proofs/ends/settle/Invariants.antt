@@ -1,0 +1,13 @@
+use Rattle.std.proofs.Common.{◌≡◌, ◌≤◌, ◌+◌, length, All}
+use Rattle.std.specs.Vec.Iter.{into_iter_items}
+use Rattle.ball_model.specs.Job.{Job}
+use Rattle.workers.specs.declared.options.RunOptions.{RunOptions}
+use Rattle.workers.specs.Job.{AreEnds}
+use Rattle.workers.proofs.JobLemmas.{SettlingAll}
+use Rattle.workers.proofs.ends.settle.Given as goal
+
+abbrev pub invariant-loop-own : goal.invariant-loop-own
+invariant-loop-own l = (l.p + length (into_iter_items l.own-iterator) ≡ length l.fn.ends.items)
+    × (All (λ own. length own.items ≤ 4) (into_iter_items l.own-iterator)
+    × ((j : Job) (o : RunOptions) → AreEnds (λ own. own.items) j o l.fn.ends.items →
+    SettlingAll (λ own. own.items) j o l.p (into_iter_items l.own-iterator) l.faults l.done.items l.complete))

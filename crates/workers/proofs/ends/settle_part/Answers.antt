@@ -1,0 +1,23 @@
+use Rattle.std.proofs.Common.{◌≡◌, ◌∙◌, ◌+◌, ◌&&◌, Bool, ℕ, arith, ap, length, subst, sym}
+use Rattle.std.specs.Vec.Iter.{into_iter_items}
+use Rattle.workers.specs.Options.{orders_for}
+use Rattle.workers.proofs.JobLemmas.{Settling, settling_more}
+use Rattle.workers.proofs.ends.settle_part.Goals.{then-note, else-note}
+use Rattle.workers.proofs.ends.settle_part.Goals as goal
+
+pub loop-end-preserved : goal.loop-end-preserved
+loop-end-preserved c =
+    let p : ℕ = c.args.p in
+    let k : ℕ = c.loop-end.replica in
+    let i = c.loop-end.invariant in
+    let next = c.in-Some.ensures.steps.0 in
+    let fewer = ap length next in
+    let both : c.if-note.all_lost ≡ (c.note.result && c.loop-end.all_lost) = elim c.if-note.branch [
+      | then-note w ↦ w.all_lost-is ∙ sym (ap (λ (b : Bool). b && c.loop-end.all_lost) w.if-note.true)
+      | else-note w ↦ w.all_lost-is ∙ w.if-note.false ∙ sym (ap (λ (b : Bool). b && c.loop-end.all_lost) w.if-note.false)
+    ] in (
+      omega (arith, i.0, fewer),
+      λ j o h. settling_more j o p k c.in-Some.end (into_iter_items c.next.new.self) c.args.faults.now c.loop-end.faults c.note.new.faults c.loop-end.done c.first_done-done.result c.note.result c.loop-end.all_lost c.if-note.all_lost
+          (subst (λ rest. Settling j o p k rest c.args.faults.now c.loop-end.faults c.loop-end.done c.loop-end.all_lost) next (i.1 j o h))
+          (c.note.ensures.noted j o p k) (c.note.ensures.lost j p (orders_for o p k)) (c.first_done-done.ensures j p) both,
+    )

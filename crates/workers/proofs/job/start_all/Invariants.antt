@@ -1,0 +1,11 @@
+use Rattle.std.proofs.Common.{◌≡◌, ◌+◌, ◌*◌, length}
+use Rattle.ball_model.specs.Job.{Job, job_of}
+use Rattle.workers.specs.Job.{HasSplit}
+use Rattle.workers.proofs.JobLemmas.{StartingAll}
+use Rattle.workers.proofs.job.start_all.Given as goal
+
+abbrev pub invariant-loop-p : goal.invariant-loop-p
+invariant-loop-p g l =
+    let j : Job = job_of l.graph.graph l.plan in
+    HasSplit l.board j (4 * l.p) l.first
+    × StartingAll (λ h. h.promise) (λ own. own.items) j l.options l.p l.children.items

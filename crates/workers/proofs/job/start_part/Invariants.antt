@@ -1,0 +1,11 @@
+use Rattle.std.proofs.Common.{◌≡◌, ◌+◌, ◌*◌, length}
+use Rattle.ball_model.specs.Job.{Job, job_of}
+use Rattle.workers.specs.Job.{EachAt, HasSplit, IsTold}
+use Rattle.workers.proofs.JobLemmas.{Starting}
+use Rattle.workers.proofs.job.start_part.Given as goal
+
+abbrev pub invariant-loop-replica : goal.invariant-loop-replica
+invariant-loop-replica g l =
+    let j : Job = job_of l.graph.graph l.plan in
+    HasSplit l.board j (4 * l.p + l.replica) l.first
+    × Starting (λ h. h.promise) j l.options l.p l.replica l.children.items

@@ -1,0 +1,105 @@
+-- All nodes of a job: what they are told, and what they say at their ends.
+use Rattle.std.specs.Prelude.{◌≡◌, ◌≢◌, ⊤, ℕ, ◌+◌, ◌*◌, ◌^◌, ◌<◌, ◌≤◌, List, [], ◌∷◌, length, Option, None, Some, is_some, true, false, Result, Err, IfOk, IfSome}
+use Rattle.ball_model.specs.declared.names.NodeId.{NodeId}
+use Rattle.ball_model.specs.Caller.{IsCaller}
+use Rattle.ball_model.specs.Job.{Job, job_of}
+use Rattle.ball_model.specs.State.{State}
+use Rattle.board.specs.Seats.{BoardView, SeatView, IsAt}
+use Rattle.workers.specs.declared.ends.Faults.{Faults}
+use Rattle.workers.specs.declared.ends.JobError.{JobError}
+use Rattle.workers.specs.declared.ends.JobError.TheVariants as job
+use Rattle.workers.specs.declared.node.NodeEnd.{NodeEnd}
+use Rattle.workers.specs.declared.node.NodeError.{NodeError}
+use Rattle.workers.specs.declared.node.NodeError.TheVariants as fault
+use Rattle.workers.specs.declared.node.NodeOrders.{NodeOrders}
+use Rattle.workers.specs.declared.options.RunOptions.{RunOptions}
+use Rattle.workers.specs.declared.told.Told.{Told}
+use Rattle.workers.specs.Node.{FallsDue, IfDone, IfLost, IfStarved, IsDone}
+use Rattle.workers.specs.Options.{order_for, orders_for}
+
+-- each element has what its place says, where the first one has place k
+abbrev pub EachAt : {A : Type 0} → (ℕ → A → Type 0) → ℕ → List A → Type 0
+EachAt has k [] = ⊤
+EachAt has k (x ∷ xs) = has k x × EachAt has (k + 1) xs
+
+-- what a node of partition p, told so, says at its end
+pub record KeepsItsOrders (j : Job) (p : ℕ) (orders : NodeOrders)
+    (r : Result NodeEnd NodeError) : Type 0 where
+  pub done : IfOk r (λ end. IfDone end (IsDone j p))
+  pub lost : IfOk r (λ end. IfLost end (FallsDue orders.lose))
+  pub alone : j.plan.parts ≡ 1 → IfOk r (λ end. IfStarved end (λ s q. ⊥))
+  pub alone_fits : j.plan.parts ≡ 1 → orders.keep ≡ 0 → orders.restart ≡ None →
+      r ≢ Err fault.BookFull
+
+-- a seat of the board, which has seen a history of the job
+pub record IsSeatOf (b : BoardView) (j : Job) (s : SeatView) : Type 0 where
+  pub board : IsAt b s
+  pub caller : IsCaller s.caller
+  pub job : s.caller.seen.job ≡ j
+
+-- a seat of the first seat's numbers, after so many splits
+pub record HasSplit (b : BoardView) (j : Job) (splits : ℕ) (s : SeatView) : Type 0 where
+  pub seat : IsSeatOf b j s
+  pub least : 2 ^ 63 ≤ s.room + splits * 2 ^ 53
+  pub most : s.room ≤ 2 ^ 63
+
+-- the job of a node that is told so
+abbrev pub job_in : Told → Job
+job_in told = job_of told.graph.value.graph told.plan
+
+-- what is told to node k of partition p
+pub record IsTold (j : Job) (o : RunOptions) (p k : ℕ) (told : Told) : Type 0 where
+  pub job : job_in told ≡ j
+  pub part : told.node.part ≡ p
+  pub orders : told.orders ≡ orders_for o p k
+
+-- the ends of the nodes of partition p
+pub record IsPartEnd (j : Job) (o : RunOptions) (p : ℕ)
+    (ends : List (Result NodeEnd NodeError)) : Type 0 where
+  pub count : length ends ≡ o.replicas
+  pub each : EachAt (λ k. KeepsItsOrders j p (orders_for o p k)) 0 ends
+
+-- the ends of all nodes, by partition
+pub record AreEnds {V : Type 0} (items : V → List (Result NodeEnd NodeError)) (j : Job)
+    (o : RunOptions) (ends : List V) : Type 0 where
+  pub count : length ends ≡ j.plan.parts
+  pub each : EachAt (λ p own. IsPartEnd j o p (items own)) 0 ends
+
+-- each replica of partition p has an order among these
+abbrev pub AllOrdered : ℕ → ℕ → List (NodeId × ℕ) → Type 0
+AllOrdered replicas p orders = (k : ℕ) → k < replicas → is_some (order_for p k orders) ≡ true
+
+-- the threads of partition p's nodes, each told what its node is told
+pub record IsPartStarted {H : Type 0} (told : H → Told) (j : Job) (o : RunOptions) (p : ℕ)
+    (children : List (Option H)) : Type 0 where
+  pub count : length children ≡ o.replicas
+  pub each : EachAt (λ k child. IfSome child (λ h. IsTold j o p k (told h))) 0 children
+
+-- the threads of all nodes, by partition
+pub record AreStarted {H V : Type 0} (told : H → Told) (items : V → List (Option H)) (j : Job)
+    (o : RunOptions) (children : List V) : Type 0 where
+  pub count : length children ≡ j.plan.parts
+  pub each : EachAt (λ p own. IsPartStarted told j o p (items own)) 0 children
+
+-- a partition of so many, each replica of which was to be lost
+pub record IsPartitionLost (parts : ℕ) (o : RunOptions) (p : ℕ) : Type 0 where
+  pub below : p < parts
+  pub ordered : AllOrdered o.replicas p o.lose.items
+
+-- what is noted of the nodes of so many partitions
+pub record AreNoted (parts : ℕ) (o : RunOptions) (f : Faults) : Type 0 where
+  pub lost : IfSome f.lost (IsPartitionLost parts o)
+  pub alone : parts ≡ 1 → f.starved ≡ None
+  pub alone_fits : parts ≡ 1 → o.keep ≡ 0 → o.restart.items ≡ [] → f.full ≡ false
+
+-- a replica of each partition, in order, at the end of the job's run
+pub record AreDone (j : Job) (rs : List State) : Type 0 where
+  pub count : length rs ≡ j.plan.parts
+  pub each : EachAt (IsDone j) 0 rs
+
+-- what a fault of the nodes says of the options
+abbrev pub IsFaultOf : ℕ → RunOptions → JobError → Type 0
+IsFaultOf parts o (job.PartitionLost p) = IsPartitionLost parts o p
+IsFaultOf parts o job.BookFull = parts ≡ 1 → o.keep ≡ 0 → o.restart.items ≢ []
+IsFaultOf parts o job.Memory = ⊤
+IsFaultOf parts o (job.Starved node s q) = parts ≢ 1

@@ -1,0 +1,50 @@
+-- What is asked of a run, and which of it fits.
+use Rattle.std.specs.Prelude.{ℕ, ◌^◌, Bool, true, ◌&&◌, ◌==◌, nat_le, nat_lt, if◌then◌else◌, List, [], ◌∷◌, Option, None, Some}
+use Rattle.ball_model.specs.declared.names.NodeId.{NodeId}
+use Rattle.ball_model.specs.RunText.{Numbers, Settings}
+use Rattle.edgelist.specs.Planning.{is_corrected, numbers_with}
+use Rattle.edgelist.specs.Reading.{byte_of}
+use Rattle.workers.specs.declared.node.NodeOrders.{NodeOrders}
+use Rattle.workers.specs.declared.options.RunOptions.{RunOptions}
+
+abbrev pub numbers_in : RunOptions → Numbers
+numbers_in o = numbers_with (is_corrected o.estimate) o.log2m o.seed o.parts o.limit
+
+abbrev pub settings_of : RunOptions → Settings
+settings_of o = record { numbers = numbers_in o; delimiter = byte_of o.delimiter }
+
+-- a run of so many partitions and replicas has the node
+abbrev pub is_named : ℕ → ℕ → NodeId → Bool
+is_named parts replicas node = nat_lt node.part parts && nat_lt node.replica replicas
+
+-- it has each node that is ordered
+abbrev pub are_all_named : ℕ → ℕ → List (NodeId × ℕ) → Bool
+are_all_named parts replicas [] = true
+are_all_named parts replicas (o ∷ more) =
+    is_named parts replicas o.0 && are_all_named parts replicas more
+
+-- a number from one to another
+abbrev pub is_from : ℕ → ℕ → ℕ → Bool
+is_from least most n = nat_le least n && nat_le n most
+
+-- the options that no plan has are within their limits, and each node that is ordered is one of the run
+abbrev pub are_in_limits : RunOptions → Bool
+are_in_limits o =
+    is_from 1 4 o.replicas && is_from 2 (2 ^ 24) o.entries && nat_le o.keep 4096
+    && nat_le 1 o.patience && are_all_named o.parts o.replicas o.lose.items
+    && are_all_named o.parts o.replicas o.restart.items
+
+-- the superstep of the first order for replica k of partition p
+abbrev pub order_for : ℕ → ℕ → List (NodeId × ℕ) → Option ℕ
+order_for p k [] = None
+order_for p k (o ∷ more) =
+    if (o.0.part == p) && (o.0.replica == k) then Some o.1 else order_for p k more
+
+-- what that replica is told
+abbrev pub orders_for : RunOptions → ℕ → ℕ → NodeOrders
+orders_for o p k = record {
+  keep = o.keep;
+  patience = o.patience;
+  lose = order_for p k o.lose.items;
+  restart = order_for p k o.restart.items;
+}

@@ -1,0 +1,120 @@
+-- A run: what is asked of it, and what its refusals say of the input.
+use Rattle.std.specs.Prelude.{◌≡◌, ⊤, ℕ, Bool, false, List, Option, option_map, Result, Ok, Err, IfSome}
+use Rattle.std.specs.Prelude.{MatchResult}
+use Rattle.std.specs.Borrow.{Bor}
+use Rattle.ball_model.specs.PlanValue.{plan_of}
+use Rattle.ball_model.specs.Input.{IsPlain, Network}
+use Rattle.ball_model.specs.Counting.{CountedRefusal}
+use Rattle.ball_model.specs.RunText.{AppendsReport, AreRead, IsPlanFault, IsReportOf, Numbers}
+use Rattle.ball_model.specs.RunText.{Settings, counted_in, network_in, plan_over}
+use Rattle.edgelist.specs.Reading.{Refuses}
+use Rattle.edgelist.specs.Counting.{RefusesList}
+use Rattle.edgelist.specs.declared.counting.CountedError.{CountedError}
+use Rattle.workers.specs.declared.ends.JobError.{JobError}
+use Rattle.workers.specs.declared.ends.JobError.TheVariants as job
+use Rattle.workers.specs.declared.options.RunOptions.{RunOptions}
+use Rattle.workers.specs.declared.bytes.RunError.{RunError}
+use Rattle.workers.specs.declared.bytes.RunError.TheVariants as fault
+use Rattle.workers.specs.Job.{IsFaultOf}
+use Rattle.workers.specs.Options.{are_in_limits, settings_of}
+
+-- the bytes of a list of counted vertices, where there is one
+abbrev pub list_in : Option (Bor (List ℕ)) → Option (List ℕ)
+list_in counted = option_map (λ list. list.now) counted
+
+-- the edge list and the list are plain
+abbrev pub ArePlain : List ℕ → Option (List ℕ) → Type 0
+ArePlain input list = IsPlain input × IfSome list IsPlain
+
+-- where a reader tells its bytes, and these and the list are plain, this holds of what is asked
+abbrev pub WherePlain : RunOptions → Option (List ℕ) → Option (Bor (List ℕ)) →
+    (Settings → List ℕ → Option (List ℕ) → Type 0) → Type 0
+WherePlain o told counted holds = IfSome told (λ input.
+    ArePlain input (list_in counted) → holds (settings_of o) input (list_in counted))
+
+-- a writer of these contents is given the report of what is asked
+abbrev pub AddsReport : {W : Type 0} → (W → Option (List ℕ)) → W → W →
+    Settings → List ℕ → Option (List ℕ) → Type 0
+AddsReport contents old new s input list = AppendsReport s input list (contents old) (contents new)
+
+-- what a list of counted vertices says of a network, under the options
+abbrev pub counted_by : RunOptions → Network → Option (Bor (List ℕ)) →
+    Result Network CountedRefusal
+counted_by o network counted = counted_in (settings_of o) network (list_in counted)
+
+-- the edge list says a network, and this error is what the list of counted vertices says of it
+pub record IsListRefusal
+    (s : Settings) (input : List ℕ) (list : Option (List ℕ)) (e : CountedError) : Type 0 where
+  pub all : Network
+  pub read : network_in s input ≡ Ok all
+  pub refused : RefusesList (counted_in s all list) e
+
+-- there is a plan of these numbers over the network
+abbrev pub HasPlan : Numbers → Network → Type 0
+HasPlan n network = plan_of (plan_over n network.graph) ≡ Ok (plan_over n network.graph)
+
+-- both say a network, over which there is such a plan
+pub record IsPlanned (s : Settings) (input : List ℕ) (list : Option (List ℕ)) : Type 0 where
+  pub network : Network
+  pub read : AreRead s input list network
+  pub planned : HasPlan s.numbers network
+
+-- the run's error for a fault of its nodes
+abbrev pub job_fault : JobError → RunError
+job_fault (job.PartitionLost p) = fault.PartitionLost p
+job_fault job.BookFull = fault.BookFull
+job_fault job.Memory = fault.Memory
+job_fault (job.Starved node s q) = fault.Starved node s q
+
+-- what a refusal says of the options
+abbrev pub IsFaultIn : RunOptions → RunError → Type 0
+IsFaultIn o fault.Options = are_in_limits o ≡ false
+IsFaultIn o (fault.Edges e) = ⊤
+IsFaultIn o (fault.Counted e) = ⊤
+IsFaultIn o (fault.Plan e) = ⊤
+IsFaultIn o (fault.PartitionLost p) = IsFaultOf o.parts o (job.PartitionLost p)
+IsFaultIn o fault.BookFull = IsFaultOf o.parts o job.BookFull
+IsFaultIn o fault.Memory = ⊤
+IsFaultIn o (fault.Starved node s q) = IsFaultOf o.parts o (job.Starved node s q)
+IsFaultIn o fault.Write = ⊤
+
+-- what a refusal says of the input: each comes only where all checks before it passed
+abbrev pub IsRefusal : Settings → List ℕ → Option (List ℕ) → RunError → Type 0
+IsRefusal s input list fault.Options = ⊤
+IsRefusal s input list (fault.Edges e) = Refuses (network_in s input) e
+IsRefusal s input list (fault.Counted e) = IsListRefusal s input list e
+IsRefusal s input list (fault.Plan e) = IsPlanFault s input list e
+IsRefusal s input list (fault.PartitionLost p) = IsPlanned s input list
+IsRefusal s input list fault.BookFull = IsPlanned s input list
+IsRefusal s input list fault.Memory = IsPlanned s input list
+IsRefusal s input list (fault.Starved node r q) = IsPlanned s input list
+IsRefusal s input list fault.Write = IsPlanned s input list
+
+-- what a refusal says of the network, as far as it was read
+abbrev pub RefusesRead : Settings → List ℕ → Option (List ℕ) → RunError → Type 0
+RefusesRead s input list fault.Options = ⊥
+RefusesRead s input list (fault.Edges e) = Refuses (network_in s input) e
+RefusesRead s input list (fault.Counted e) = IsListRefusal s input list e
+RefusesRead s input list (fault.Plan e) = ⊥
+RefusesRead s input list (fault.PartitionLost p) = ⊥
+RefusesRead s input list fault.BookFull = ⊥
+RefusesRead s input list fault.Memory = ⊥
+RefusesRead s input list (fault.Starved node r q) = ⊥
+RefusesRead s input list fault.Write = ⊥
+
+-- what a refusal says of a network that was read
+abbrev pub RefusesNetwork : Numbers → Network → RunError → Type 0
+RefusesNetwork n network fault.Options = ⊥
+RefusesNetwork n network (fault.Edges e) = ⊥
+RefusesNetwork n network (fault.Counted e) = ⊥
+RefusesNetwork n network (fault.Plan e) = plan_of (plan_over n network.graph) ≡ Err e
+RefusesNetwork n network (fault.PartitionLost p) = HasPlan n network
+RefusesNetwork n network fault.BookFull = HasPlan n network
+RefusesNetwork n network fault.Memory = HasPlan n network
+RefusesNetwork n network (fault.Starved node r q) = HasPlan n network
+RefusesNetwork n network fault.Write = ⊥
+
+-- the report of a network, or why there is none
+abbrev pub AnswersNetwork : Numbers → Network → Result (List ℕ) RunError → Type 0
+AnswersNetwork n network result =
+    MatchResult result (IsReportOf n network) (RefusesNetwork n network)

@@ -1,0 +1,340 @@
+//! A run from bytes to bytes: a thread for each node, and all processors for the figures.
+
+ghost use Rattle.std.specs.Prelude.{◌≡◌, ◌≢◌, Ok, Err, true, false, OnOk, OnErr, IfOk, IfErr, IfSome};
+ghost use Rattle.std.specs.Io.KnownBytes.{Appends, Keeps};
+ghost use Rattle.ball_model.specs.Job.{IsJob, job_of};
+ghost use Rattle.ball_model.specs.Input.{IsPlain};
+ghost use Rattle.ball_model.specs.PlanValue.{mixing_of, plan_of};
+ghost use Rattle.ball_model.specs.Report.{report_of};
+ghost use Rattle.ball_model.specs.RunText.{AreRead, IsReport, plan_over};
+ghost use Rattle.ball_model.specs.Streams.{Rises};
+ghost use Rattle.edgelist.specs.Counting.{RefusesList};
+ghost use Rattle.edgelist.specs.Reading.{CountsOne};
+ghost use Rattle.workers.specs.Job.{AreDone, IsFaultOf};
+ghost use Rattle.workers.specs.Options.{are_in_limits, numbers_in};
+ghost use Rattle.workers.specs.Run.{AddsReport, AnswersNetwork, IsFaultIn, IsRefusal};
+ghost use Rattle.workers.specs.Run.{RefusesRead, WherePlain, counted_by, list_in};
+
+use crate::ends::JobError;
+use crate::gate::Gate;
+use crate::job::run_job;
+use crate::options::RunOptions;
+use crate::pages::Pages;
+use ball_model::plan::MOST_VERTICES;
+use ball_model::{CountedRead, CountedWrite, CountingWriter, Estimate, NodeId, Plan, PlanError};
+use edgelist::{CountedError, EdgeError, EdgeLimits, Graph, MOST_RECORDS, read_edges};
+use replica::Replica;
+use report::write_report;
+use std::alloc::{AllocError, AllocGlobal, Global};
+use std::hash::RandomState;
+use std::sync::Wait;
+use std::thread::Threads;
+use thiserror::Error;
+
+/// What a run reads at most.
+const LIMITS: EdgeLimits = EdgeLimits {
+    vertices: MOST_VERTICES,
+    edges: MOST_RECORDS,
+};
+
+/// Why a run gives no report, in the order of the checks.
+#[derive(Clone, Copy, Debug, PartialEq, Eq, Error)]
+pub enum RunError {
+    /// Replicas, entries, keep or patience are out of their limits, or an order names no node of the run.
+    #[error("an option does not fit the job")]
+    Options,
+    /// The edge list is refused.
+    #[error("{0}")]
+    Edges(EdgeError),
+    /// The list of counted vertices is refused.
+    #[error("{0}")]
+    Counted(CountedError),
+    /// There is no such plan.
+    #[error("{0}")]
+    Plan(PlanError),
+    /// Every node of the partition was lost. It is the least such partition.
+    #[error("every replica of partition {part} was lost")]
+    PartitionLost {
+        part: u16,
+    },
+    /// A node found the book full.
+    #[error("the book is full")]
+    BookFull,
+    /// Memory was refused, or a thread.
+    #[error("out of memory")]
+    Memory,
+    /// A node waited in vain. It is the least such node.
+    #[error("node {}.{} waited in vain at superstep {superstep} for partition {source}", .node.part, .node.replica)]
+    Starved {
+        node: NodeId,
+        superstep: u32,
+        source: u16,
+    },
+    /// A write failed.
+    #[error("the output cannot be written")]
+    Write,
+}
+
+impl From<EdgeError> for RunError {
+    ghost use Rattle.workers.specs.declared.bytes.RunError.TheVariants.{Edges};
+
+    ghost from_gives = { λ fault e. e ≡ Edges fault };
+
+    fn from(fault: EdgeError) -> RunError {
+        RunError::Edges(fault)
+    }
+}
+
+impl From<CountedError> for RunError {
+    ghost use Rattle.workers.specs.declared.bytes.RunError.TheVariants.{Counted};
+
+    ghost from_gives = { λ fault e. e ≡ Counted fault };
+
+    fn from(fault: CountedError) -> RunError {
+        RunError::Counted(fault)
+    }
+}
+
+impl From<PlanError> for RunError {
+    ghost use Rattle.workers.specs.declared.bytes.RunError.TheVariants.{Plan};
+
+    ghost from_gives = { λ fault e. e ≡ Plan fault };
+
+    fn from(fault: PlanError) -> RunError {
+        RunError::Plan(fault)
+    }
+}
+
+impl From<AllocError> for RunError {
+    ghost use Rattle.workers.specs.declared.bytes.RunError.TheVariants.{Memory};
+
+    ghost from_gives = { λ _ e. e ≡ Memory };
+
+    fn from(_fault: AllocError) -> RunError {
+        RunError::Memory
+    }
+}
+
+impl From<JobError> for RunError {
+    ghost use Rattle.std.specs.Prelude.{◌≡◌};
+    ghost use Rattle.workers.specs.Run.{job_fault};
+
+    ghost from_gives = { λ fault e. e ≡ job_fault fault };
+
+    fn from(fault: JobError) -> RunError {
+        match fault {
+            JobError::PartitionLost { part } => RunError::PartitionLost { part },
+            JobError::BookFull => RunError::BookFull,
+            JobError::Memory => RunError::Memory,
+            JobError::Starved {
+                node,
+                superstep,
+                source,
+            } => RunError::Starved {
+                node,
+                superstep,
+                source,
+            },
+        }
+    }
+}
+
+// Counts only the vertices of a list, where there is one.
+fn count_listed(
+    alloc: Global,
+    mut graph: Graph,
+    counted: Option<&[u8]>,
+    options: &RunOptions,
+) -> Result<Graph, CountedError>
+    ensures ok { IfSome (list_in counted.entry) IsPlain → IfOk result (λ listed.
+        counted_by options.now graph counted.entry ≡ Ok listed) }
+    ensures refused { IfSome (list_in counted.entry) IsPlain → IfErr result (
+        RefusesList (counted_by options.now graph counted.entry)) }
+{
+    if let Some(list) = counted {
+        graph.count_only(alloc, options.delimiter, list)?;
+    }
+    Ok(graph)
+}
+
+// The graph that an edge list and a list of counted vertices say.
+fn read_graph<T: AllocGlobal, R: CountedRead>(
+    rt: &T,
+    state: RandomState,
+    reader: &mut R,
+    counted: Option<&[u8]>,
+    options: &RunOptions,
+) -> Result<Graph, RunError>
+    ensures ok { WherePlain options.now (R.remaining reader.old) counted.entry
+        (λ s input list. IfOk result (AreRead s input list)) }
+    ensures refused { WherePlain options.now (R.remaining reader.old) counted.entry
+        (λ s input list. IfErr result (RefusesRead s input list)) }
+    ensures kind { IfErr result (λ e. e ≢ RunError.Write) }
+    ensures read { result ≡ Err (RunError.Edges EdgeError.Read) →
+        Rises (R.failed_calls reader.old) (R.failed_calls reader.new) }
+    ensures failed { CountsOne (R.failed_calls reader.old) (R.failed_calls reader.new) →
+        result ≡ Err (RunError.Edges EdgeError.Read) }
+    ensures fault { IfErr result (IsFaultIn options.now) }
+{
+    let graph = read_edges(rt.alloc(), state, reader, options.delimiter, LIMITS)?;
+    Ok(count_listed(rt.alloc(), graph, counted, options)?)
+}
+
+// The plan of a run over a graph, or the first fault of the options.
+fn plan_for(graph: &Graph, options: &RunOptions) -> Result<Plan, PlanError>
+    ensures value { result ≡ plan_of (plan_over (numbers_in options.now) graph.now.graph) }
+    ensures job { IfOk result (λ plan. IsJob (job_of graph.now.graph plan)) }
+    ensures parts { IfOk result (λ plan. plan.parts ≡ options.now.parts) }
+{
+    let RunOptions {
+        log2m,
+        seed,
+        parts,
+        limit,
+        ..
+    } = *options;
+    match options.estimate {
+        Estimate::Raw => graph.plan(log2m, seed, parts, limit),
+        Estimate::Corrected => graph.corrected_plan(log2m, seed, parts, limit),
+    }
+}
+
+// The text of the report of replicas at the end of their run. The error is that memory was refused.
+fn text_of<T: AllocGlobal + Threads + Sync>(
+    rt: &T,
+    graph: &Graph,
+    plan: &Plan,
+    replicas: &[Replica],
+) -> Result<Pages, AllocError>
+    requires job { IsJob (job_of graph.now.graph plan.now) }
+    requires done { AreDone (job_of graph.now.graph plan.now) replicas.now }
+    ensures { IfOk result (λ text. text ≡
+        report_of (mixing_of plan.now) graph.now.graph graph.now.labels plan.now.limit) }
+{
+    let mut text = CountingWriter::new(Pages::new(rt.alloc()));
+    match write_report(rt, &mut text, graph, replicas) {
+        Ok(()) => Ok(text.into_inner()),
+        Err(_) => Err(AllocError),
+    }
+}
+
+// The text of the report of a graph under a plan.
+fn planned_text<T: AllocGlobal + Threads + Wait + Sync, G: Gate + Sync>(
+    rt: &T,
+    graph: &Graph,
+    plan: &Plan,
+    options: &RunOptions,
+    gate: &G,
+) -> Result<Pages, JobError>
+    requires job { IsJob (job_of graph.now.graph plan.now) }
+    requires limits { are_in_limits options.now ≡ true }
+    ensures ok { IfOk result (λ text. text ≡
+        report_of (mixing_of plan.now) graph.now.graph graph.now.labels plan.now.limit) }
+    ensures fault { IfErr result (IsFaultOf plan.now.parts options.now) }
+{
+    let replicas = run_job(rt, graph, plan, options, gate)?;
+    let text = text_of(rt, graph, plan, &replicas)?;
+    Ok(text)
+}
+
+// The text of the report of a graph.
+fn report_text<T: AllocGlobal + Threads + Wait + Sync, G: Gate + Sync>(
+    rt: &T,
+    graph: &Graph,
+    options: &RunOptions,
+    gate: &G,
+) -> Result<Pages, RunError>
+    requires limits { are_in_limits options.now ≡ true }
+    ensures answer { AnswersNetwork (numbers_in options.now) graph.now result }
+    ensures fault { IfErr result (IsFaultIn options.now) }
+{
+    let plan = plan_for(graph, options)?;
+    let text = planned_text(rt, graph, &plan, options, gate)?;
+    Ok(text)
+}
+
+// The text of the report of what is read.
+fn read_text<T: AllocGlobal + Threads + Wait + Sync, R: CountedRead, G: Gate + Sync>(
+    rt: &T,
+    state: RandomState,
+    reader: &mut R,
+    counted: Option<&[u8]>,
+    options: &RunOptions,
+    gate: &G,
+) -> Result<Pages, RunError>
+    ensures limits { are_in_limits options.now ≡ false → result ≡ Err RunError.Options }
+    ensures ok { WherePlain options.now (R.remaining reader.old) counted.entry
+        (λ s input list. IfOk result (IsReport s input list)) }
+    ensures refused { WherePlain options.now (R.remaining reader.old) counted.entry
+        (λ s input list. IfErr result (IsRefusal s input list)) }
+    ensures kind { IfErr result (λ e. e ≢ RunError.Write) }
+    ensures read { result ≡ Err (RunError.Edges EdgeError.Read) →
+        Rises (R.failed_calls reader.old) (R.failed_calls reader.new) }
+    ensures failed { CountsOne (R.failed_calls reader.old) (R.failed_calls reader.new) →
+        result ≡ Err (RunError.Edges EdgeError.Read) }
+    ensures fault { IfErr result (IsFaultIn options.now) }
+{
+    if !options.are_in_limits() {
+        return Err(RunError::Options);
+    }
+    let graph = read_graph(rt, state, reader, counted, options)?;
+    report_text(rt, &graph, options, gate)
+}
+
+// Writes a text.
+fn write_text<W: CountedWrite>(writer: &mut W, text: &Pages) -> Result<(), RunError>
+    ensures done { OnOk result (Appends (W.contents writer.old) (W.contents writer.new) text.now) }
+    ensures kind { IfErr result (λ e. e ≡ RunError.Write) }
+    ensures failed { OnErr result (Rises (W.failed_calls writer.old) (W.failed_calls writer.new)) }
+{
+    if text.write_to(writer) {
+        Ok(())
+    } else {
+        Err(RunError::Write)
+    }
+}
+
+/// Reads an edge list and writes its report. A thread for each replica of each partition makes the supersteps, and all
+/// processors make the figures.
+///
+/// With a list of `counted` vertices only those are counted; the list is read after the edge list, and its lines are
+/// as there, one label in each. The report is built in memory and then written, so nothing is written unless the
+/// answer is Ok or `Write`. `Edges(Read)` is answered where a call of the reader failed and nowhere else, `Write` only
+/// where one of the writer did, and nothing is tried again. What is said of the input holds for plain bytes: no byte
+/// order mark at the front, and an LF after each CR.
+///
+/// In this order: `Options`, before anything is read; `Edges`, `Counted` and `Plan`; where some partition has no node
+/// that reached the end `PartitionLost`, `BookFull`, `Memory` and `Starved`, the first that some node ended with; then
+/// `Write`. `Memory` is also answered where the growth of the report is refused. Which of the nodes' faults it is may
+/// depend on the schedule, but the report does not: it is that of the input, whatever nodes were lost or started anew.
+///
+/// Memory is some two times 2^log2m bytes and 32 bytes of figures a vertex and replica, as much for each snapshot that is
+/// kept, 4 bytes a vertex and an edge of the index that says whom an edge leads to, the graph and its parts, and the
+/// report.
+pub fn run<T: AllocGlobal + Threads + Wait + Sync, R: CountedRead, W: CountedWrite, G: Gate + Sync>(
+    rt: &T,
+    state: RandomState,
+    reader: &mut R,
+    counted: Option<&[u8]>,
+    writer: &mut W,
+    options: &RunOptions,
+    gate: &G,
+) -> Result<(), RunError>
+    ensures ok { OnOk result (WherePlain options.now (R.remaining reader.old) counted.entry
+        (AddsReport W.contents writer.old writer.new)) }
+    ensures refused { WherePlain options.now (R.remaining reader.old) counted.entry
+        (λ s input list. IfErr result (IsRefusal s input list)) }
+    ensures read { result ≡ Err (RunError.Edges EdgeError.Read) →
+        Rises (R.failed_calls reader.old) (R.failed_calls reader.new) }
+    ensures failed { CountsOne (R.failed_calls reader.old) (R.failed_calls reader.new) →
+        result ≡ Err (RunError.Edges EdgeError.Read) }
+    ensures write { result ≡ Err RunError.Write →
+        Rises (W.failed_calls writer.old) (W.failed_calls writer.new) }
+    ensures limits { are_in_limits options.now ≡ false → result ≡ Err RunError.Options }
+    ensures fault { IfErr result (IsFaultIn options.now) }
+    ensures untouched { IfErr result (λ e. e ≢ RunError.Write →
+        Keeps (W.contents writer.old) (W.contents writer.new)) }
+{
+    let text = read_text(rt, state, reader, counted, options, gate)?;
+    write_text(writer, &text)
+}

@@ -1,0 +1,272 @@
+//! All nodes of a job: a thread for each, and one board between them.
+
+ghost use Rattle.std.specs.Prelude.{◌≡◌, ◌<◌, ◌≤◌, ◌+◌, ◌*◌, ℕ, true, IfOk, IfErr, IfSome};
+ghost use Rattle.std.specs.Arc.{arc_value};
+ghost use Rattle.ball_model.specs.Job.{Job, IsJob, job_of, part_of};
+ghost use Rattle.workers.specs.Job.{AreDone, AreEnds, AreStarted, HasSplit, IsFaultOf, IsPartEnd};
+ghost use Rattle.workers.specs.Job.{IsPartStarted, IsSeatOf, IsTold, KeepsItsOrders, job_in};
+ghost use Rattle.workers.specs.Options.{are_in_limits, order_for, orders_for};
+ghost use Rattle.workers.specs.declared.options.RunOptions.{RunOptions as Asked};
+
+use crate::ends::{JobError, settle};
+use crate::exchange::BoardExchange;
+use crate::gate::Gate;
+use crate::node::{NodeError, NodeOrders, run_node};
+use crate::options::RunOptions;
+use crate::told::{NodeResult, Told};
+use ball_model::{NodeId, Plan};
+use board::{Board, Seat};
+use edgelist::{Graph, Part};
+use replica::Replica;
+use std::alloc::{AllocError, AllocGlobal, Global};
+use std::snapshot::Snapshot;
+use std::sync::{Arc, Wait};
+use std::thread;
+use std::thread::{PromisedHandle, Scope, Threads};
+
+// The thread of a node, where there could be one.
+type Child = Option<PromisedHandle<NodeResult, Told>>;
+
+// The first order for a node.
+fn order_for(orders: &[(NodeId, u32)], node: NodeId) -> Option<u32>
+    ensures { result ≡ order_for node.part node.replica orders.now }
+{
+    for (named, superstep) in orders {
+        if *named == node {
+            return Some(*superstep);
+        }
+    }
+    None
+}
+
+// What a node is told.
+fn orders_for(options: &RunOptions, node: NodeId) -> NodeOrders
+    ensures { result ≡ orders_for options.now node.part node.replica }
+{
+    NodeOrders {
+        keep: options.keep,
+        patience: options.patience,
+        lose: order_for(&options.lose, node),
+        restart: order_for(&options.restart, node),
+    }
+}
+
+// Runs a node at its seat.
+fn run_at<R: AllocGlobal + Wait, G: Gate>(
+    rt: &R,
+    board: &Board,
+    seat: Seat,
+    gate: &G,
+    node: NodeId,
+    part: Arc<Part>,
+    orders: &NodeOrders,
+) -> NodeResult
+    requires seat { IsSeatOf board.now seat.caller.seen.job seat }
+    requires job { IsJob seat.caller.seen.job }
+    requires node { node.part < seat.caller.seen.job.plan.parts }
+    requires part { arc_value part ≡ part_of seat.caller.seen.job node.part }
+    ensures { KeepsItsOrders seat.caller.seen.job node.part orders.now result }
+{
+    let mut exchange = BoardExchange::new(board, seat);
+    run_node(rt, &mut exchange, gate, node, part, orders)
+}
+
+// Starts the thread of a node.
+fn start_node<'s, 'a: 's, X, R: AllocGlobal + Threads + Wait + Sync, G: Gate + Sync>(
+    rt: &'a R,
+    scope: &'s Scope<'s, X>,
+    board: &'a Board,
+    seat: Seat,
+    gate: &'a G,
+    part: Arc<Part>,
+    told: Told,
+) -> Child
+    requires seat { IsSeatOf board.now (job_in told) seat }
+    requires job { IsJob (job_in told) }
+    requires node { told.node.part < (job_in told).plan.parts }
+    requires part { arc_value part ≡ part_of (job_in told) told.node.part }
+    ensures { IfSome result (λ child. child.promise ≡ told) }
+{
+    let node = told.node;
+    let orders = told.orders;
+    let work = move || -> NodeResult
+        requires seat { IsSeatOf board.now seat.caller.seen.job seat }
+        requires job { IsJob seat.caller.seen.job }
+        requires node { node.part < seat.caller.seen.job.plan.parts }
+        requires part { arc_value part ≡ part_of seat.caller.seen.job node.part }
+        ensures { KeepsItsOrders seat.caller.seen.job node.part orders result }
+    { run_at(rt, board, seat, gate, node, part, &orders) };
+    scope.spawn_with(told, work).ok()
+}
+
+// Starts the threads of all nodes of a partition, whose part they share.
+fn start_part<'s, 'a: 's, X, R: AllocGlobal + Threads + Wait + Sync, G: Gate + Sync>(
+    rt: &'a R,
+    scope: &'s Scope<'s, X>,
+    board: &'a Board,
+    first: &mut Seat,
+    gate: &'a G,
+    graph: &Graph,
+    plan: &Plan,
+    options: &RunOptions,
+    p: u16,
+) -> Result<Vec<Child>, AllocError>
+    requires job { IsJob (job_of graph.now.graph plan.now) }
+    requires part { p < plan.now.parts }
+    requires few { options.now.replicas ≤ 4 }
+    requires seat { HasSplit board.now (job_of graph.now.graph plan.now) (4 * p) first.old }
+    ensures seat { HasSplit board.now (job_of graph.now.graph plan.now) (4 * (p + 1)) first.new }
+    ensures started { IfOk result (λ own. IsPartStarted (λ child. child.promise)
+        (job_of graph.now.graph plan.now) options.now p own.items) }
+{
+    let alloc = rt.alloc();
+    let part = shared_part(alloc, graph, plan, p)?;
+    let mut children = Vec::with_capacity(alloc, usize::from(options.replicas))?;
+    for replica in 0..options.replicas {
+        let node = NodeId { part: p, replica };
+        let told = Told {
+            graph: Snapshot::of(graph),
+            plan: *plan,
+            node,
+            orders: orders_for(options, node),
+        };
+        let part = Arc::try_clone(&part)?;
+        let seat = first.split(board);
+        children.push(start_node(rt, scope, board, seat, gate, part, told))?;
+    }
+    Ok(children)
+}
+
+// A part that threads share.
+fn shared_part(alloc: Global, graph: &Graph, plan: &Plan, p: u16) -> Result<Arc<Part>, AllocError>
+    requires job { IsJob (job_of graph.now.graph plan.now) }
+    requires part { p < plan.now.parts }
+    ensures { IfOk result (λ part. arc_value part ≡ part_of (job_of graph.now.graph plan.now) p) }
+{
+    let part = graph.part(alloc, plan, p)?;
+    match Arc::new(alloc, part) {
+        Ok(part) => Ok(part),
+        Err(_) => Err(AllocError),
+    }
+}
+
+// Starts the threads of all nodes.
+fn start_all<'s, 'a: 's, X, R: AllocGlobal + Threads + Wait + Sync, G: Gate + Sync>(
+    rt: &'a R,
+    scope: &'s Scope<'s, X>,
+    board: &'a Board,
+    mut first: Seat,
+    gate: &'a G,
+    graph: &Graph,
+    plan: &Plan,
+    options: &RunOptions,
+) -> Result<Vec<Vec<Child>>, AllocError>
+    requires job { IsJob (job_of graph.now.graph plan.now) }
+    requires few { options.now.replicas ≤ 4 }
+    requires seat { HasSplit board.now (job_of graph.now.graph plan.now) 0 first }
+    ensures { IfOk result (λ all. AreStarted (λ child. child.promise) (λ own. own.items)
+        (job_of graph.now.graph plan.now) options.now all.items) }
+{
+    let mut children = Vec::with_capacity(rt.alloc(), usize::from(plan.parts()))?;
+    for p in 0..plan.parts() {
+        let own = start_part(rt, scope, board, &mut first, gate, graph, plan, options, p)?;
+        children.push(own)?;
+    }
+    Ok(children)
+}
+
+// The end of a node, once its thread has ended; a node without a thread ended for want of memory.
+fn end_of<R: Threads>(rt: &R, child: Child) -> NodeResult
+    ensures { (j : Job) (o : Asked) (p k : ℕ) → IfSome child (λ h. IsTold j o p k h.promise) →
+        KeepsItsOrders j p (orders_for o p k) result }
+{
+    match child {
+        Some(child) => child.join(rt),
+        None => Err(NodeError::Memory),
+    }
+}
+
+// The ends of the nodes of a partition.
+fn join_part<R: AllocGlobal + Threads>(
+    rt: &R,
+    children: Vec<Child>,
+) -> Result<Vec<NodeResult>, AllocError>
+    ensures { (j : Job) (o : Asked) (p : ℕ) →
+        IsPartStarted (λ child. child.promise) j o p children.items →
+        IfOk result (λ ends. IsPartEnd j o p ends.items) }
+{
+    let mut ends = Vec::with_capacity(rt.alloc(), children.len())?;
+    for child in children {
+        ends.push(end_of(rt, child))?;
+    }
+    Ok(ends)
+}
+
+// The ends of all nodes.
+fn join_all<R: AllocGlobal + Threads>(
+    rt: &R,
+    children: Vec<Vec<Child>>,
+) -> Result<Vec<Vec<NodeResult>>, AllocError>
+    ensures { (j : Job) (o : Asked) →
+        AreStarted (λ child. child.promise) (λ own. own.items) j o children.items →
+        IfOk result (λ ends. AreEnds (λ own. own.items) j o ends.items) }
+{
+    let mut ends = Vec::with_capacity(rt.alloc(), children.len())?;
+    for own in children {
+        let own = join_part(rt, own)?;
+        ends.push(own)?;
+    }
+    Ok(ends)
+}
+
+// Starts all nodes, waits for all, and puts together what they say.
+fn run_in<'s, 'a: 's, X, R: AllocGlobal + Threads + Wait + Sync, G: Gate + Sync>(
+    rt: &'a R,
+    scope: &'s Scope<'s, X>,
+    board: &'a Board,
+    first: Seat,
+    gate: &'a G,
+    graph: &Graph,
+    plan: &Plan,
+    options: &RunOptions,
+) -> Result<Vec<Replica>, JobError>
+    requires job { IsJob (job_of graph.now.graph plan.now) }
+    requires few { options.now.replicas ≤ 4 }
+    requires seat { HasSplit board.now (job_of graph.now.graph plan.now) 0 first }
+    ensures done { IfOk result (λ rs. AreDone (job_of graph.now.graph plan.now) rs.items) }
+    ensures fault { IfErr result (IsFaultOf plan.now.parts options.now) }
+{
+    let children = start_all(rt, scope, board, first, gate, graph, plan, options)?;
+    let ends = join_all(rt, children)?;
+    settle(rt.alloc(), ends)
+}
+
+/// Runs all nodes of a job, a thread each, and gives the replica of each partition at the end of the run: that of the
+/// first of its nodes that is done.
+pub fn run_job<R: AllocGlobal + Threads + Wait + Sync, G: Gate + Sync>(
+    rt: &R,
+    graph: &Graph,
+    plan: &Plan,
+    options: &RunOptions,
+    gate: &G,
+) -> Result<Vec<Replica>, JobError>
+    requires job { IsJob (job_of graph.now.graph plan.now) }
+    requires limits { are_in_limits options.now ≡ true }
+    ensures done { IfOk result (λ rs. AreDone (job_of graph.now.graph plan.now) rs.items) }
+    ensures fault { IfErr result (IsFaultOf plan.now.parts options.now) }
+{
+    let (board, first) = Board::open(rt.alloc(), graph, plan, options.entries)?;
+    let board = &board;
+    thread::scope(
+        thread::scope_env(),
+        rt,
+        |scope| -> Result<Vec<Replica>, JobError>
+            requires job { IsJob (job_of graph.now.graph plan.now) }
+            requires few { options.now.replicas ≤ 4 }
+            requires seat { HasSplit board.now (job_of graph.now.graph plan.now) 0 first }
+            ensures done { IfOk result (λ rs.
+                AreDone (job_of graph.entry.now.graph plan.entry.now) rs.items) }
+            ensures fault { IfErr result (IsFaultOf plan.entry.now.parts options.entry.now) }
+        { run_in(rt, scope, board, first, gate, graph, plan, options) },
+    )
+}

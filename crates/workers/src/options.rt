@@ -1,0 +1,82 @@
+//! What is asked of a run.
+
+ghost use Rattle.std.specs.Prelude.{◌≡◌};
+ghost use Rattle.workers.specs.Options.{are_all_named, are_in_limits, is_named};
+
+use ball_model::{Estimate, NodeId};
+use edgelist::Delimiter;
+
+/// The most replicas that a partition may have.
+const MOST_REPLICAS: u8 = 4;
+
+/// The fewest entries that the board's history may have.
+const LEAST_ENTRIES: u32 = 2;
+
+/// The most entries that the board's history may have.
+const MOST_ENTRIES: u32 = 1 << 24;
+
+/// The greatest number of supersteps from one snapshot to the next.
+const MOST_KEEP: u32 = 4096;
+
+/// What is asked of a run.
+#[derive(Debug, PartialEq, Eq, Drop)]
+pub struct RunOptions {
+    /// The binary logarithm of the number of registers of a counter, from 4 to 10.
+    pub log2m: u8,
+    /// The seed under which vertices are hashed.
+    pub seed: u64,
+    /// The number of partitions that vertices are dealt out to, from 1 to 64.
+    pub parts: u16,
+    /// The superstep at which the run ends at the latest, from 1 to 4096.
+    pub limit: u32,
+    /// How the estimates of counters are made.
+    pub estimate: Estimate,
+    /// What stands between the two fields of a line.
+    pub delimiter: Delimiter,
+    /// How many replicas each partition has, from 1 to 4.
+    pub replicas: u8,
+    /// How many entries the board's history may have, from 2 to 2^24.
+    pub entries: u32,
+    /// Each node keeps a snapshot at each superstep that is a multiple of this, up to 4096, and none where it is 0.
+    pub keep: u32,
+    /// After so many idle turns in succession, at least 1, a node gives up.
+    pub patience: u32,
+    /// Which nodes are lost, and at which superstep. The first order for a node counts.
+    pub lose: Vec<(NodeId, u32)>,
+    /// Which nodes start anew, and at which superstep. The first order for a node counts.
+    pub restart: Vec<(NodeId, u32)>,
+}
+
+// Whether a run of so many partitions and replicas has the node.
+fn is_named(parts: u16, replicas: u8, node: NodeId) -> bool
+    ensures { result ≡ is_named parts replicas node }
+{
+    node.part < parts && node.replica < replicas
+}
+
+// Whether it has each node that is ordered.
+fn are_all_named(parts: u16, replicas: u8, orders: &[(NodeId, u32)]) -> bool
+    ensures { result ≡ are_all_named parts replicas orders.now }
+{
+    for (node, _) in orders {
+        if !is_named(parts, replicas, *node) {
+            return false;
+        }
+    }
+    true
+}
+
+impl RunOptions {
+    /// Whether replicas, entries, keep and patience are within their limits, and each node that is ordered is one of the
+    /// run.
+    pub fn are_in_limits(&self) -> bool
+        ensures { result ≡ are_in_limits self.now }
+    {
+        (1..=MOST_REPLICAS).contains(&self.replicas)
+            && (LEAST_ENTRIES..=MOST_ENTRIES).contains(&self.entries)
+            && self.keep <= MOST_KEEP
+            && self.patience >= 1
+            && are_all_named(self.parts, self.replicas, &self.lose)
+            && are_all_named(self.parts, self.replicas, &self.restart)
+    }
+}
