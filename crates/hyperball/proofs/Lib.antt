@@ -1,6 +1,5 @@
 pub mod NameLemmas
 pub mod OptionLemmas
-pub mod PartitionLemmas
 pub mod CommandLemmas
 pub mod WholeLemmas
 pub mod ReportLemmas

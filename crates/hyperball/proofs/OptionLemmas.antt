@@ -1,8 +1,8 @@
 -- What `clap` reads of an option is what its words say.
 use Rattle.std.proofs.Common.{◌≡◌, ◌<◌, ◌^◌, ℕ, Bool, true, false, List, Option, Some, None, codes, refl, ap, sym, subst, ◌∙◌}
-use Rattle.std.specs.Prelude.{MatchOption, Result, unwrap_or}
+use Rattle.std.specs.Prelude.{MatchOption, Result, is_some, unwrap_or}
 use Rattle.std.specs.Str.Parse.{ParsesUnsigned}
-use Rattle.clap.specs.Words.{ReadsOne, Text, first_value, one_text, rows_of}
+use Rattle.clap.specs.Words.{ReadsOne, Text, first_of, first_value, one_text, rows_of}
 use Rattle.clap.specs.declared.parser.matches.Found.{Found}
 use Rattle.clap.proofs.WalkLemmas.{first_value-rows, one_text-rows}
 use Rattle.ball_model.specs.declared.plan.Estimate.{Estimate}
@@ -41,7 +41,11 @@ pub flag_is : (f : Found) (id : Text) (given b : Bool) → (one_text f id ≡ No
 flag_is f id given b none value other is =
     flag_of (one_text f id) given b none value other (subst (λ o. MatchOption o (b ≡ false) (λ t. t ≡ flag_text b)) (sym (one_text-rows f id)) is)
 
-pub same_words : (log2m seed parts limit : ℕ) (e : Estimate) (d : Delimiter) (counted : Bool) (w : RunWords) → log2m ≡ w.options.log2m → seed ≡ w.options.seed → parts ≡ w.options.parts → limit ≡ w.options.limit →
-    e ≡ w.options.estimate → d ≡ w.options.delimiter → counted ≡ w.counted →
-    ◌≡◌ {A = RunWords} (record { options = record { log2m = log2m; seed = seed; parts = parts; limit = limit; estimate = e; delimiter = d }; counted = counted }) w
-same_words log2m seed parts limit e d counted w a b p l k g h = λ i. record { options = record { log2m = a i; seed = b i; parts = p i; limit = l i; estimate = k i; delimiter = g i }; counted = h i }
+pub same_words : (log2m seed parts limit : ℕ) (e : Estimate) (d : Delimiter) (replicas entries keep patience : ℕ) (counted : Bool) (w : RunWords) → log2m ≡ w.options.log2m → seed ≡ w.options.seed → parts ≡ w.options.parts → limit ≡ w.options.limit →
+    e ≡ w.options.estimate → d ≡ w.options.delimiter → replicas ≡ w.options.replicas → entries ≡ w.options.entries → keep ≡ w.options.keep → patience ≡ w.options.patience → counted ≡ w.counted →
+    ◌≡◌ {A = RunWords} (record { options = record { log2m = log2m; seed = seed; parts = parts; limit = limit; estimate = e; delimiter = d; replicas = replicas; entries = entries; keep = keep; patience = patience }; counted = counted }) w
+same_words log2m seed parts limit e d replicas entries keep patience counted w a b p l k g r n m q h = λ i. record { options = record { log2m = a i; seed = b i; parts = p i; limit = l i; estimate = k i; delimiter = g i; replicas = r i; entries = n i; keep = m i; patience = q i }; counted = h i }
+
+-- a text that was read is given
+pub given_is : (f : Found) (id : Text) (text : Option Text) → text ≡ first_value f id → is_some text ≡ true → is_some (first_of id (rows_of f)) ≡ true
+given_is f id text read is = subst (λ o. is_some o ≡ true) (read ∙ first_value-rows f id) is

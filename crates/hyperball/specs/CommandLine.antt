@@ -73,10 +73,25 @@ with_input delimiters app = with_rule (with_rule app
     (option_rule (codes "delimiter") delimiters))
     (flag_rule (codes "counted"))
 
+-- a command with the options of a plan's nodes
+abbrev pub with_nodes : App → App
+with_nodes app = with_rule (with_rule (with_rule (with_rule app
+    (option_rule (codes "replicas") number8))
+    (option_rule (codes "entries") number32))
+    (option_rule (codes "keep") number32))
+    (option_rule (codes "patience") number32)
+
+-- a command with the lists of orders
+abbrev pub with_orders : App → App
+with_orders app = with_rule (with_rule app
+    (option_rule (codes "lose") vp.String))
+    (option_rule (codes "restart") vp.String)
+
 -- the subcommand `run`
 unfoldable pub run_app : Parsers → App
 run_app p =
-    with_input p.delimiters (with_estimate p.estimates (with_numbers (new_app (codes "run"))))
+    with_orders (with_nodes (with_input p.delimiters
+    (with_estimate p.estimates (with_numbers (new_app (codes "run"))))))
 
 -- the program, which wants a subcommand, before it has one
 abbrev pub new_hyperball : App

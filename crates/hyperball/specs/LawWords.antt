@@ -22,3 +22,9 @@ corrected_words = record {
 
 abbrev pub counted_words : RunWords
 counted_words = record { options = record usual_options { parts = 2 }; counted = true }
+
+abbrev pub node_words : RunWords
+node_words = record {
+  options = record usual_options { replicas = 2; keep = 0 };
+  counted = false;
+}

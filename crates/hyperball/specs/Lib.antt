@@ -1,7 +1,6 @@
 pub mod CommandLine
 pub mod Words
-pub mod Serial
-pub mod Partitions
+pub mod Options
 pub mod Whole
 pub mod Streams
 pub mod LawWords

@@ -1,10 +1,10 @@
 -- What the words of a command line say.
-use Rattle.std.specs.Prelude.{◌≡◌, ◌≢◌, ◌<◌, ◌^◌, ℕ, Bool, true, false, List, [], Option, Some}
-use Rattle.std.specs.Prelude.{IfOk, IfSome, MatchOption, Result, String, codes, map, string_bytes}
+use Rattle.std.specs.Prelude.{◌≡◌, ◌≢◌, ◌<◌, ◌^◌, ◌||◌, ℕ, Bool, true, false, List, [], Option, Some}
+use Rattle.std.specs.Prelude.{IfOk, IfSome, MatchOption, MatchResult, Result, String, is_some, codes, map, string_bytes}
 use Rattle.std.specs.Global.{Global}
 use Rattle.std.specs.List.{AllByRecursion}
 use Rattle.std.specs.Str.Parse.{IsNumeral, digits_value, without_leading_plus}
-use Rattle.clap.specs.Words.{FailsBy, Row, Text, fault_of, first_of, one_of, subcommand_of}
+use Rattle.clap.specs.Words.{FailsBy, HasKind, Row, Text, fault_of, first_of, one_of, subcommand_of}
 use Rattle.clap.specs.Words.{subcommand_rows_of}
 use Rattle.clap.specs.declared.error.Error.{Error}
 use Rattle.clap.specs.declared.parser.matches.ArgMatches.{ArgMatches}
@@ -15,10 +15,13 @@ use Rattle.ball_model.specs.declared.plan.Estimate.{Estimate}
 use Rattle.ball_model.specs.declared.plan.Estimate.TheVariants.{Raw, Corrected}
 use Rattle.edgelist.specs.declared.read.Delimiter.{Delimiter}
 use Rattle.edgelist.specs.declared.read.Delimiter.TheVariants.{Tab, Comma, Space}
-use Rattle.hyperball.specs.declared.serial.SerialOptions.{SerialOptions}
+use Rattle.hyperball.specs.declared.options.Options.{Options}
 use Rattle.hyperball.specs.declared.words.RunWords.{RunWords}
+use Rattle.hyperball.specs.declared.words.WordsError.{WordsError}
+use Rattle.hyperball.specs.declared.words.WordsError.TheVariants as words
 use Rattle.hyperball.specs.CommandLine.{Parsers, TakeNames, hyperball_app}
-use Rattle.hyperball.specs.Serial.{ArePlain, settings_of}
+use Rattle.hyperball.specs.Options.{settings_in}
+use Rattle.workers.specs.Run.{ArePlain}
 use Rattle.hyperball.specs.Whole.{sections_in}
 
 -- the words of a command line as texts
@@ -26,7 +29,7 @@ abbrev pub texts_of : List (String Global) → List Text
 texts_of words = map (λ w. string_bytes w) words
 
 -- the options where none is given
-abbrev pub usual_options : SerialOptions
+abbrev pub usual_options : Options
 usual_options = record {
   log2m = 8;
   seed = 0;
@@ -34,6 +37,10 @@ usual_options = record {
   limit = 4096;
   estimate = Raw;
   delimiter = Tab;
+  replicas = 1;
+  entries = 1048576;
+  keep = 1;
+  patience = 1000000;
 }
 
 -- a text is this number of so many bits
@@ -82,11 +89,24 @@ pub record AreOptionsOf (rows : List Row) (w : RunWords) : Type 0 where
       rows (codes "estimate") w.options.estimate
   pub delimiter : IsNamedOr usual_options.delimiter delimiter_name
       rows (codes "delimiter") w.options.delimiter
+  pub replicas : IsNumberOr usual_options.replicas 8 rows (codes "replicas") w.options.replicas
+  pub entries : IsNumberOr usual_options.entries 32 rows (codes "entries") w.options.entries
+  pub keep : IsNumberOr usual_options.keep 32 rows (codes "keep") w.options.keep
+  pub patience : IsNumberOr usual_options.patience 32 rows (codes "patience") w.options.patience
   pub counted : IsFlag rows (codes "counted") w.counted
 
 -- the subcommand is run, with these options or their defaults
 abbrev pub IsRunOf : Option (Text × List Row) → RunWords → Type 0
 IsRunOf sub w = (rows : List Row) × (sub ≡ Some (codes "run", rows)) × AreOptionsOf rows w
+
+-- a list of orders is given
+abbrev pub AreOrdersIn : List Row → Type 0
+AreOrdersIn rows =
+    is_some (first_of (codes "lose") rows) || is_some (first_of (codes "restart") rows) ≡ true
+
+-- the subcommand has a list of orders
+abbrev pub GivesOrders : Option (Text × List Row) → Type 0
+GivesOrders sub = IfSome sub (λ s. AreOrdersIn s.1)
 
 -- what the program's command finds wrong with the words
 pub record HasFaults (words : List Text) (kinds : List ErrorKind) : Type 0 where
@@ -98,12 +118,26 @@ pub record IsRun (words : List Text) (w : RunWords) : Type 0 where
   pub command : (p : Parsers) → TakeNames p →
       IsRunOf (subcommand_of (hyperball_app p) words) w
 
+-- the words have a list of orders, as some parsers read them
+pub record HasOrders (words : List Text) : Type 0 where
+  pub parsers : Parsers
+  pub take : TakeNames parsers
+  pub orders : GivesOrders (subcommand_of (hyperball_app parsers) words)
+
 -- parsers take their names, and the program's command with them reads the words so
 pub record ParsesTo (words : List Text) (result : Result ArgMatches Error) : Type 0 where
   pub parsers : Parsers
   pub take : TakeNames parsers
   pub rows : IfOk result (λ m. subcommand_rows_of m ≡ subcommand_of (hyperball_app parsers) words)
   pub faults : FailsBy (fault_of (hyperball_app parsers) words) result
+
+-- where there are such faults, the words are refused for one of them
+abbrev pub FailsFor : List ErrorKind → WordsError → Type 0
+FailsFor kinds (words.Clap e) = HasKind kinds e
+FailsFor kinds (words.Orders e) = kinds ≡ []
+
+abbrev pub FailsWith : {A : Type 0} → List ErrorKind → Result A WordsError → Type 0
+FailsWith kinds result = MatchResult result (λ a. kinds ≡ []) (FailsFor kinds)
 
 -- a mistake, and no wish for help
 abbrev pub IsMistake : ErrorKind → Type 0
@@ -118,10 +152,10 @@ pub record Reports (w : RunWords) (input : List ℕ) (old new : Option (List ℕ
   pub edges : List ℕ
   pub list : Option (List ℕ)
   pub found : sections_in w.counted input ≡ Some (edges, list)
-  pub appended : ArePlain edges list → AppendsReport (settings_of w.options) edges list old new
+  pub appended : ArePlain edges list → AppendsReport (settings_in w.options) edges list old new
 
 -- what a run with a list of counted vertices is asked
-abbrev pub listed_words : SerialOptions → RunWords
+abbrev pub listed_words : Options → RunWords
 listed_words options = record { options = options; counted = true }
 
 -- a writer of these contents is given what words ask of an input, where the reader tells its bytes

@@ -4,7 +4,8 @@ ghost use Rattle.std.specs.Prelude.{◌∷◌, [], codes};
 ghost use Rattle.clap.specs.declared.error.kind.ErrorKind.TheVariants.{DisplayHelp, InvalidValue};
 ghost use Rattle.clap.specs.declared.error.kind.ErrorKind.TheVariants.{UnknownArgument};
 ghost use Rattle.clap.specs.declared.error.kind.ErrorKind.TheVariants.{ValueValidation};
-ghost use Rattle.hyperball.specs.LawWords.{corrected_words, counted_words, log2m_words, space_words};
+ghost use Rattle.hyperball.specs.LawWords.{corrected_words, counted_words, log2m_words, node_words};
+ghost use Rattle.hyperball.specs.LawWords.{space_words};
 ghost use Rattle.hyperball.specs.Words.{HasFaults, IsRun};
 
 /// These words are read as those of run; an option that is not given has its default.
@@ -21,6 +22,10 @@ pub fn words_of_a_run()
     ensures counted { IsRun
         (codes "hyperball" ∷ codes "run" ∷ codes "--counted" ∷ codes "--parts" ∷ codes "2" ∷ [])
         counted_words }
+    ensures nodes { IsRun
+        (codes "hyperball" ∷ codes "run" ∷ codes "--replicas" ∷ codes "2" ∷ codes "--keep=0"
+        ∷ codes "--lose" ∷ codes "0.1@2" ∷ [])
+        node_words }
 {}
 
 /// These words ask for help, or are mistaken.
@@ -29,7 +34,7 @@ pub fn words_of_no_run()
         (codes "hyperball" ∷ codes "run" ∷ codes "--help" ∷ [])
         (DisplayHelp ∷ []) }
     ensures unknown { HasFaults
-        (codes "hyperball" ∷ codes "run" ∷ codes "--replicas" ∷ codes "2" ∷ [])
+        (codes "hyperball" ∷ codes "run" ∷ codes "--threads" ∷ codes "2" ∷ [])
         (UnknownArgument ∷ []) }
     ensures number { HasFaults
         (codes "hyperball" ∷ codes "run" ∷ codes "--log2m" ∷ codes "300" ∷ [])

@@ -2,9 +2,9 @@
 //!
 //! `hyperball run` reads an edge list on standard input and writes its report on standard output. This file hands the
 //! real streams to [`serve::serve`], which goes from words and bytes to bytes and a status. [`words::read_words`] gives
-//! what the words ask for, a [`words::RunWords`], and [`serial::run_serial`] goes from an edge list to its report, by
-//! [`serial::SerialOptions`]. With `--counted` the input is read whole ([`whole::read_whole`]) and cut in two
-//! ([`whole::sections`]).
+//! what the words ask for, a [`words::Said`]: the [`options::Options`] and the lists of orders ([`orders::orders_in`]).
+//! With `--counted` the input is read whole ([`whole::read_whole`]) and cut in two ([`whole::sections`]). The run itself
+//! is [`workers::run`].
 //!
 //! ```text
 //! $ printf 'a\tb\nb\tc\n' | hyperball run --log2m 4
@@ -21,9 +21,8 @@
 #![tactic(auto)]
 
 pub mod laws;
-mod pages;
-mod partitions;
-pub mod serial;
+pub mod options;
+pub mod orders;
 pub mod serve;
 #[cfg(test)]
 mod tests;

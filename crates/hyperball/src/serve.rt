@@ -9,24 +9,31 @@ ghost use Rattle.clap.specs.declared.error.kind.ErrorKind.{ErrorKind as Kind};
 ghost use Rattle.ball_model.specs.Sections.{sections_of};
 ghost use Rattle.hyperball.specs.Streams.{KeptOrFailed};
 ghost use Rattle.hyperball.specs.Whole.{ReadsFew};
-ghost use Rattle.hyperball.specs.Words.{AreMistakes, HasFaults, IsMistake, IsRun, Reports, Serves};
-ghost use Rattle.hyperball.specs.Words.{listed_words, texts_of};
-ghost use Rattle.hyperball.specs.declared.serial.SerialError.{SerialError as NoReport};
+ghost use Rattle.hyperball.specs.Options.{settings_in};
+ghost use Rattle.hyperball.specs.Words.{AreMistakes, FailsFor, HasFaults, HasOrders, IsMistake, IsRun};
+ghost use Rattle.hyperball.specs.Words.{Reports, Serves, listed_words, texts_of};
+ghost use Rattle.hyperball.specs.declared.options.Options.{Options as Asked};
+ghost use Rattle.workers.specs.Options.{settings_of};
+ghost use Rattle.workers.specs.declared.bytes.RunError.{RunError as NoReport};
 ghost use Rattle.hyperball.specs.declared.whole.WholeError.{WholeError as NoInput};
 ghost use Rattle.hyperball.specs.declared.words.RunWords.{RunWords as Run};
 
-use crate::serial::{SerialError, SerialOptions, run_serial};
+use crate::options::run_options;
+use crate::orders::OrdersError;
 use crate::whole::{WholeError, read_whole, sections};
-use crate::words::{RunWords, read_words};
+use crate::words::{Said, WordsError, read_words};
 use ball_model::{CountedRead, CountedWrite, CountingReader, put_all};
 use clap::error::ErrorKind;
-use std::alloc::Global;
+use std::alloc::{AllocGlobal, Global};
 use std::fmt::Display;
 use std::hash::RandomState;
 use std::io::Write;
 use std::random::RandomSource;
+use std::sync::Wait;
 use std::thread::Threads;
+use std::time::Clock;
 use thiserror::Error;
+use workers::{Gate, RunError, RunOptions, SleepingGate};
 
 /// The status of a run that wrote its report, or of help that was asked for.
 const DONE: u8 = 0;
@@ -51,7 +58,7 @@ enum RunFault {
     NoList,
     // The run gives no report.
     #[error("{0}")]
-    Run(SerialError),
+    Run(RunError),
 }
 
 impl From<WholeError> for RunFault {
@@ -64,12 +71,12 @@ impl From<WholeError> for RunFault {
     }
 }
 
-impl From<SerialError> for RunFault {
+impl From<RunError> for RunFault {
     ghost use Rattle.hyperball.specs.declared.serve.RunFault.TheVariants.{Run as Fault};
 
     ghost from_gives = { λ fault e. e ≡ Fault fault };
 
-    fn from(fault: SerialError) -> RunFault {
+    fn from(fault: RunError) -> RunFault {
         RunFault::Run(fault)
     }
 }
@@ -104,8 +111,8 @@ fn tell_help<W: CountedWrite, F: Write>(
     }
 }
 
-// Tells why the words are no run: help goes to the writer, and all else to the faults.
-fn tell_words<W: CountedWrite, F: Write>(
+// Tells why `clap` reads no run: help goes to the writer, and all else to the faults.
+fn tell_clap<W: CountedWrite, F: Write>(
     alloc: Global,
     error: &clap::Error,
     writer: &mut W,
@@ -132,15 +139,60 @@ fn tell_words<W: CountedWrite, F: Write>(
     }
 }
 
+// Tells a mistake in a list of orders, or that memory was refused.
+fn tell_orders<F: Write>(faults: &mut F, error: OrdersError) -> u8
+    ensures memory { error ≡ OrdersError.Memory → result ≡ 1 }
+    ensures form { error ≡ OrdersError.Form → result ≡ 2 }
+    ensures status { (result ≡ 1) ⊎ (result ≡ 2) }
+{
+    match error {
+        OrdersError::Memory => tell_fault(faults, "out of memory"),
+        OrdersError::Form => {
+            let _ = writeln!(
+                faults,
+                "hyperball: an order is P.K@S, with commas between orders"
+            );
+            MISTAKE
+        }
+    }
+}
+
+// Tells why the words are no run.
+fn tell_words<W: CountedWrite, F: Write>(
+    alloc: Global,
+    error: &WordsError,
+    writer: &mut W,
+    faults: &mut F,
+) -> u8
+    ensures status { result ≤ 2 }
+    ensures mistake { (kinds : List Kind) → FailsFor kinds error.now → AreMistakes kinds →
+        (result ≡ 2) ⊎ (result ≡ 1) }
+    ensures help { FailsFor (kind.DisplayHelp ∷ []) error.now → (result ≡ 0) ⊎ (result ≡ 1) }
+    ensures refused { FailsFor [] error.now → result ≢ 0 }
+    ensures two { result ≡ 2 → FailsFor [] error.now →
+        error.now ≡ WordsError.Orders OrdersError.Form }
+    ensures kept { result ≡ 1 →
+        KeptOrFailed W.contents W.failed_calls writer.old writer.new }
+    ensures mistaken { result ≡ 2 → Keeps (W.contents writer.old) (W.contents writer.new) }
+    ensures silent { result ≡ 0 → Keeps (F.contents faults.old) (F.contents faults.new) }
+{
+    match error {
+        WordsError::Clap(error) => tell_clap(alloc, error, writer, faults),
+        WordsError::Orders(error) => tell_orders(faults, *error),
+    }
+}
+
 // A run over a whole input, which has the list of counted vertices too, after a line of %%.
-fn run_sections<H: AllocGlobal + Threads + Sync, W: CountedWrite>(
+fn run_sections<H: AllocGlobal + Threads + Wait + Sync, W: CountedWrite, G: Gate + Sync>(
     rt: &H,
     state: RandomState,
-    options: &SerialOptions,
+    options: &RunOptions,
+    gate: &G,
     input: &[u8],
     writer: &mut W,
 ) -> Result<(), RunFault>
-    ensures done { OnOk result (Reports (listed_words options.now) input.now
+    ensures done { (o : Asked) → settings_of options.now ≡ settings_in o →
+        OnOk result (Reports (listed_words o) input.now
         (W.contents writer.old) (W.contents writer.new)) }
     ensures unlisted { sections_of input.now ≡ None → result ≡ Err RunFault.NoList }
     ensures no_list { result ≡ Err RunFault.NoList → sections_of input.now ≡ None }
@@ -155,19 +207,26 @@ fn run_sections<H: AllocGlobal + Threads + Sync, W: CountedWrite>(
         return Err(RunFault::NoList);
     };
     let mut edges = CountingReader::new(edges);
-    run_serial(rt, state, &mut edges, Some(list), writer, options)?;
+    workers::run(rt, state, &mut edges, Some(list), writer, options, gate)?;
     Ok(())
 }
 
 // A run over an input that is read whole.
-fn run_listed<H: AllocGlobal + Threads + Sync, R: CountedRead, W: CountedWrite>(
+fn run_listed<
+    H: AllocGlobal + Threads + Wait + Sync,
+    R: CountedRead,
+    W: CountedWrite,
+    G: Gate + Sync,
+>(
     rt: &H,
     state: RandomState,
-    options: &SerialOptions,
+    options: &RunOptions,
+    gate: &G,
     reader: &mut R,
     writer: &mut W,
 ) -> Result<(), RunFault>
-    ensures done { OnOk result (Serves (listed_words options.now) (R.remaining reader.old)
+    ensures done { (o : Asked) → settings_of options.now ≡ settings_in o →
+        OnOk result (Serves (listed_words o) (R.remaining reader.old)
         W.contents writer.old writer.new) }
     ensures no_list { result ≡ Err RunFault.NoList →
         IfSome (R.remaining reader.old) (λ input. sections_of input ≡ None) }
@@ -179,50 +238,78 @@ fn run_listed<H: AllocGlobal + Threads + Sync, R: CountedRead, W: CountedWrite>(
         KeptOrFailed W.contents W.failed_calls writer.old writer.new) }
 {
     let input = read_whole(rt.alloc(), reader)?;
-    run_sections(rt, state, options, &input, writer)
+    run_sections(rt, state, options, gate, &input, writer)
 }
 
-// A run of these words.
-fn run<H: AllocGlobal + RandomSource + Threads + Sync, R: CountedRead, W: CountedWrite>(
+// A run by these options, with or without a list of counted vertices.
+fn run_by<
+    H: AllocGlobal + RandomSource + Threads + Wait + Sync,
+    R: CountedRead,
+    W: CountedWrite,
+    G: Gate + Sync,
+>(
     rt: &H,
-    words: &RunWords,
+    counted: bool,
+    options: &RunOptions,
+    gate: &G,
     reader: &mut R,
     writer: &mut W,
 ) -> Result<(), RunFault>
-    ensures done { OnOk result (
-        Serves words.now (R.remaining reader.old) W.contents writer.old writer.new) }
-    ensures few { words.now.counted ≡ true →
-        ReadsFew (R.remaining reader.old) (R.remaining reader.new) }
+    ensures done { (w : Run) → settings_of options.now ≡ settings_in w.options →
+        counted ≡ w.counted →
+        OnOk result (Serves w (R.remaining reader.old) W.contents writer.old writer.new) }
+    ensures few { counted ≡ true → ReadsFew (R.remaining reader.old) (R.remaining reader.new) }
     ensures kept { OnErr result (
         KeptOrFailed W.contents W.failed_calls writer.old writer.new) }
 {
     let Ok(state) = RandomState::new(rt) else {
         return Err(RunFault::Random);
     };
-    if words.counted {
-        return run_listed(rt, state, &words.options, reader, writer);
+    if counted {
+        return run_listed(rt, state, options, gate, reader, writer);
     }
-    run_serial(rt, state, reader, None, writer, &words.options)?;
+    workers::run(rt, state, reader, None, writer, options, gate)?;
     Ok(())
+}
+
+// A run of these words.
+fn run<
+    H: AllocGlobal + Clock + RandomSource + Threads + Wait + Sync,
+    R: CountedRead,
+    W: CountedWrite,
+>(rt: &H, said: Said, reader: &mut R, writer: &mut W) -> Result<(), RunFault>
+    ensures done { OnOk result (
+        Serves said.words (R.remaining reader.old) W.contents writer.old writer.new) }
+    ensures few { said.words.counted ≡ true →
+        ReadsFew (R.remaining reader.old) (R.remaining reader.new) }
+    ensures kept { OnErr result (
+        KeptOrFailed W.contents W.failed_calls writer.old writer.new) }
+{
+    let Said { words, orders } = said;
+    let options = run_options(&words.options, orders);
+    let Ok(gate) = SleepingGate::new(rt.alloc(), rt) else {
+        return Err(RunFault::Run(RunError::Memory));
+    };
+    run_by(rt, words.counted, &options, &gate, reader, writer)
 }
 
 // The status of a run, whose fault is told.
 fn serve_run<
-    H: AllocGlobal + RandomSource + Threads + Sync,
+    H: AllocGlobal + Clock + RandomSource + Threads + Wait + Sync,
     R: CountedRead,
     W: CountedWrite,
     F: Write,
->(rt: &H, words: &RunWords, reader: &mut R, writer: &mut W, faults: &mut F) -> u8
+>(rt: &H, said: Said, reader: &mut R, writer: &mut W, faults: &mut F) -> u8
     ensures status { (result ≡ 0) ⊎ (result ≡ 1) }
     ensures done { result ≡ 0 →
-        Serves words.now (R.remaining reader.old) W.contents writer.old writer.new }
-    ensures few { words.now.counted ≡ true →
+        Serves said.words (R.remaining reader.old) W.contents writer.old writer.new }
+    ensures few { said.words.counted ≡ true →
         ReadsFew (R.remaining reader.old) (R.remaining reader.new) }
     ensures kept { result ≡ 1 →
         KeptOrFailed W.contents W.failed_calls writer.old writer.new }
     ensures silent { result ≡ 0 → Keeps (F.contents faults.old) (F.contents faults.new) }
 {
-    match run(rt, words, reader, writer) {
+    match run(rt, said, reader, writer) {
         Ok(()) => DONE,
         Err(fault) => tell_fault(faults, fault),
     }
@@ -232,10 +319,10 @@ fn serve_run<
 ///
 /// 0: the report was written, or help was asked for, whose text goes to the writer; nothing goes to `faults`. 1: a
 /// fault, told in one line on `faults`; nothing was written unless a write failed. 2: words that are refused, as `clap`
-/// tells it there; nothing was written. The first word is the program's name. With `--counted` the input is read whole,
+/// tells it there, or a list of orders that is not of its form; nothing was written. The first word is the program's name. With `--counted` the input is read whole,
 /// at most 67,108,865 bytes of it, and has the edge list, a line of exactly `%%`, and the list of counted vertices.
 pub fn serve<
-    H: AllocGlobal + RandomSource + Threads + Sync,
+    H: AllocGlobal + Clock + RandomSource + Threads + Wait + Sync,
     R: CountedRead,
     W: CountedWrite,
     F: Write,
@@ -249,14 +336,14 @@ pub fn serve<
     ensures help { HasFaults (texts_of words.now) (kind.DisplayHelp ∷ []) →
         (result ≡ 0) ⊎ (result ≡ 1) }
     ensures status { result ≤ 2 }
-    ensures two { result ≡ 2 → HasFaults (texts_of words.now) [] → ⊥ }
+    ensures two { result ≡ 2 → HasFaults (texts_of words.now) [] → HasOrders (texts_of words.now) }
     ensures two_kept { result ≡ 2 → Keeps (W.contents writer.old) (W.contents writer.new) }
     ensures one_kept { result ≡ 1 →
         KeptOrFailed W.contents W.failed_calls writer.old writer.new }
     ensures silent { result ≡ 0 → Keeps (F.contents faults.old) (F.contents faults.new) }
 {
     match read_words(rt.alloc(), words) {
-        Ok(run) => serve_run(rt, &run, reader, writer, faults),
+        Ok(said) => serve_run(rt, said, reader, writer, faults),
         Err(error) => tell_words(rt.alloc(), &error, writer, faults),
     }
 }

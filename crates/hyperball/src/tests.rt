@@ -11,8 +11,10 @@ use std::alloc::AllocError;
 use std::io::{Read, Write};
 use std::process::Abort;
 use std::random::RandomSource;
+use std::sync::Wait;
 use std::test::Fail;
 use std::thread::Threads;
+use std::time::Clock;
 
 const TWO_EDGES: &[u8] = b"superstep,0,33.803869
 superstep,1,34.851860
@@ -79,7 +81,7 @@ fn words_of<H: AllocGlobal>(rt: &H, line: &str) -> Result<Vec<String>, AllocErro
 
 // Serves words over three streams, and gives the status.
 fn serve_words<
-    H: AllocGlobal + RandomSource + Threads + Sync,
+    H: AllocGlobal + Clock + RandomSource + Threads + Wait + Sync,
     R: Read + Drop,
     W: Write + Drop,
     F: Write,
@@ -91,7 +93,7 @@ fn serve_words<
 
 // The same, of the words of a line.
 fn serve_streams<
-    H: AllocGlobal + RandomSource + Threads + Sync,
+    H: AllocGlobal + Clock + RandomSource + Threads + Wait + Sync,
     R: Read + Drop,
     W: Write + Drop,
     F: Write,
@@ -101,7 +103,7 @@ fn serve_streams<
 }
 
 // Serves words over an input.
-fn serve_input<H: AllocGlobal + RandomSource + Threads + Sync, R: Read + Drop>(
+fn serve_input<H: AllocGlobal + Clock + RandomSource + Threads + Wait + Sync, R: Read + Drop>(
     rt: &H,
     line: &str,
     input: R,
@@ -124,7 +126,7 @@ fn is_served(served: &Served, status: u8, output: &[u8], faults: &[u8]) -> bool 
 }
 
 // These words end with this status, and write and tell just this.
-fn ends<H: Abort + AllocGlobal + RandomSource + Threads + Sync>(
+fn ends<H: Abort + AllocGlobal + Clock + RandomSource + Threads + Wait + Sync>(
     rt: &H,
     status: u8,
     line: &str,

@@ -1,24 +1,27 @@
 //! The command line, read by `clap`.
 
-ghost use Rattle.std.specs.Prelude.{◌≡◌, IfOk, List, MatchOption, false, true, option_map};
+ghost use Rattle.std.specs.Prelude.{◌≡◌, [], Err, IfErr, IfOk, List, MatchOption, false, is_some, true};
+ghost use Rattle.std.specs.Prelude.{option_map};
 ghost use Rattle.clap.specs.Words.{App, FailsBy, found_of, has_subcommand, rows_of, rule_of};
 ghost use Rattle.clap.specs.Words.{subcommand_rows_of, with_rule};
 ghost use Rattle.clap.specs.declared.error.kind.ErrorKind.{ErrorKind as Kind};
 ghost use Rattle.hyperball.specs.CommandLine.{IsApp, Parsers, TakeNames, TakesNames};
 ghost use Rattle.hyperball.specs.CommandLine.{delimiter_names, estimate_names, hyperball_app};
 ghost use Rattle.hyperball.specs.CommandLine.{flag_rule, option_rule, run_app};
-ghost use Rattle.hyperball.specs.CommandLine.{with_counters, with_input, with_numbers};
+ghost use Rattle.hyperball.specs.CommandLine.{with_counters, with_input, with_nodes, with_numbers};
+ghost use Rattle.hyperball.specs.CommandLine.{with_orders};
 ghost use Rattle.hyperball.specs.declared.words.RunWords.{RunWords as Run};
-ghost use Rattle.hyperball.specs.Words.{AreOptionsOf, HasFaults, IsRun, IsRunOf, ParsesTo};
+ghost use Rattle.hyperball.specs.Words.{AreOptionsOf, AreOrdersIn, FailsWith, GivesOrders, HasFaults};
+ghost use Rattle.hyperball.specs.Words.{HasOrders, IsRun, IsRunOf, ParsesTo};
 ghost use Rattle.hyperball.specs.Words.{delimiter_name, estimate_name, texts_of};
 ghost use Rattle.ball_model.specs.declared.plan.Estimate.{Estimate as Made};
 ghost use Rattle.ball_model.specs.declared.plan.Estimate.TheVariants.{Raw};
 ghost use Rattle.edgelist.specs.declared.read.Delimiter.{Delimiter as Between};
 ghost use Rattle.edgelist.specs.declared.read.Delimiter.TheVariants.{Tab};
 
-use crate::serial::SerialOptions;
-use ball_model::Estimate;
-use ball_model::plan::GREATEST_LIMIT;
+use crate::options::{Options, Orders, USUAL};
+use crate::orders::{OrdersError, orders_in};
+use ball_model::{Estimate, NodeId};
 use clap::builder::ValueParser;
 use clap::{Arg, ArgAction, ArgMatches, Command, Error, value_parser};
 use edgelist::Delimiter;
@@ -29,16 +32,6 @@ static DELIMITERS: [&str; 3] = ["tab", "comma", "space"];
 
 /// The names that `--estimate` takes.
 static ESTIMATES: [&str; 2] = ["raw", "corrected"];
-
-/// The options that are not given: counters of 256 bytes, seed 0, one partition, the greatest limit, and raw estimates.
-const USUAL: SerialOptions = SerialOptions {
-    log2m: 8,
-    seed: 0,
-    parts: 1,
-    limit: GREATEST_LIMIT,
-    estimate: Estimate::Raw,
-    delimiter: Delimiter::Tab,
-};
 
 const ABOUT: &str = "HyperBall centralities of a directed graph, by HyperLogLog counters";
 
@@ -60,8 +53,10 @@ const RUN_AFTER: &str = "Example:
   The input is always standard input: a file is handed over by the shell, with '<'.
 
 Memory and accuracy:
-  A run takes at most about 2 * 2^log2m + 180 bytes a vertex and 9 bytes an edge, and while it reads
-  110 bytes a vertex and 11 bytes an edge. The relative error of a large set is about
+  With --keep 0 and one partition a run takes at most about 2 * 2^log2m + 180 bytes a vertex and
+  9 bytes an edge, and while it reads 110 bytes a vertex and 11 bytes an edge. Snapshots, which are
+  the default, make that three times as much. With several partitions --keep 0 takes more memory,
+  not less: nothing that they told one another is let go. The relative error of a large set is about
   1.04 / sqrt(2^log2m): 26 % at 4, 6.5 % at 8, 3.3 % at 10. A set of fewer than 2.5 * 2^log2m
   vertices is estimated too large, the more so the smaller it is, unless --estimate corrected is
   said: take it for figures that are to be near the true ones, and raw for those that
@@ -82,10 +77,27 @@ const LOG2M_HELP: &str =
 const SEED_HELP: &str = "Seed under which vertices are hashed [default: 0]";
 
 const PARTS_HELP: &str =
-    "Partitions that vertices are dealt out to, 1 to 64; the report is the same [default: 1]";
+    "Partitions, 1 to 64, each worked on by a thread; the report is the same [default: 1]";
 
 const LIMIT_HELP: &str =
     "Greatest superstep, 1 to 4096; a run ends sooner where nothing changes [default: 4096]";
+
+const REPLICAS_HELP: &str =
+    "Replicas of each partition, 1 to 4: with 2 a worker may be lost without losing the run [default: 1]";
+
+const ENTRIES_HELP: &str =
+    "Entries of the board's history, 2 to 16777216: about 2*P*P a superstep [default: 1048576]";
+
+const KEEP_HELP: &str =
+    "Supersteps from one snapshot to the next, 0 to 4096; 0 keeps none, which is less work [default: 1]";
+
+const PATIENCE_HELP: &str =
+    "Idle turns after which a worker gives up waiting, up to a millisecond each [default: 1000000]";
+
+const LOSE_HELP: &str =
+    "Workers that are lost: P.K@S is replica K of partition P at superstep S; commas between";
+
+const RESTART_HELP: &str = "Workers that start anew from what is kept, in the form of --lose";
 
 const ESTIMATE_HELP: &str =
     "raw: far too large for small sets; corrected: near the true size for all [default: raw]";
@@ -99,7 +111,7 @@ const COUNTED_HELP: &str =
 #[derive(Clone, Copy, Debug, PartialEq, Eq)]
 pub struct RunWords {
     /// The options.
-    pub options: SerialOptions,
+    pub options: Options,
     /// Whether a list of counted vertices follows the edge list.
     pub counted: bool,
 }
@@ -171,6 +183,30 @@ fn add_numbers<'a>(alloc: Global, command: Command<'a>) -> Result<Command<'a>, A
     add_option(alloc, command, "limit", LIMIT_HELP, value_parser!(u32))
 }
 
+// Adds the options of a plan's nodes.
+fn add_nodes<'a>(alloc: Global, command: Command<'a>) -> Result<Command<'a>, AllocError>
+    ensures { (app : App) → IsApp app command.entry → IfOk result (IsApp (with_nodes app)) }
+{
+    let command = add_option(alloc, command, "replicas", REPLICAS_HELP, value_parser!(u8))?;
+    let command = add_option(alloc, command, "entries", ENTRIES_HELP, value_parser!(u32))?;
+    let command = add_option(alloc, command, "keep", KEEP_HELP, value_parser!(u32))?;
+    add_option(
+        alloc,
+        command,
+        "patience",
+        PATIENCE_HELP,
+        value_parser!(u32),
+    )
+}
+
+// Adds the lists of orders.
+fn add_orders<'a>(alloc: Global, command: Command<'a>) -> Result<Command<'a>, AllocError>
+    ensures { (app : App) → IsApp app command.entry → IfOk result (IsApp (with_orders app)) }
+{
+    let command = add_option(alloc, command, "lose", LOSE_HELP, ValueParser::String)?;
+    add_option(alloc, command, "restart", RESTART_HELP, ValueParser::String)
+}
+
 // Adds the options of an input, with a parser of delimiters.
 fn add_input<'a>(
     alloc: Global,
@@ -199,7 +235,9 @@ fn run_command<'a>(
         .after_long_help(RUN_AFTER);
     let command = add_numbers(alloc, command)?;
     let command = add_option(alloc, command, "estimate", ESTIMATE_HELP, estimates)?;
-    add_input(alloc, command, delimiters)
+    let command = add_input(alloc, command, delimiters)?;
+    let command = add_nodes(alloc, command)?;
+    add_orders(alloc, command)
 }
 
 /// The program's command.
@@ -249,13 +287,17 @@ fn estimate_of(name: Option<&str>) -> Estimate
 fn options_of(matches: &ArgMatches<'_>) -> RunWords
     ensures { (w : Run) → AreOptionsOf (rows_of (found_of matches.now)) w → result ≡ w }
 {
-    let options = SerialOptions {
+    let options = Options {
         log2m: matches.get_one("log2m").unwrap_or(USUAL.log2m),
         seed: matches.get_one("seed").unwrap_or(USUAL.seed),
         parts: matches.get_one("parts").unwrap_or(USUAL.parts),
         limit: matches.get_one("limit").unwrap_or(USUAL.limit),
         estimate: estimate_of(matches.get_str("estimate")),
         delimiter: delimiter_of(matches.get_str("delimiter")),
+        replicas: matches.get_one("replicas").unwrap_or(USUAL.replicas),
+        entries: matches.get_one("entries").unwrap_or(USUAL.entries),
+        keep: matches.get_one("keep").unwrap_or(USUAL.keep),
+        patience: matches.get_one("patience").unwrap_or(USUAL.patience),
     };
     RunWords {
         options,
@@ -263,21 +305,80 @@ fn options_of(matches: &ArgMatches<'_>) -> RunWords
     }
 }
 
-// What the words of a run say.
-fn run_words(matches: &ArgMatches<'_>) -> RunWords
-    requires { has_subcommand matches.now ≡ true }
-    ensures { (w : Run) → IsRunOf (subcommand_rows_of matches.now) w → result ≡ w }
+// The orders of a list, where one is given.
+fn listed_orders(alloc: Global, text: Option<&str>) -> Result<Vec<(NodeId, u32)>, OrdersError>
+    ensures { IfErr result (λ e. e ≡ OrdersError.Form →
+        is_some (option_map (λ text. text.now) text.entry) ≡ true) }
 {
-    let (_, inner) = matches.subcommand().unwrap();
-    options_of(inner)
+    match text {
+        Some(text) => orders_in(alloc, text),
+        None => Ok(Vec::new(alloc)),
+    }
 }
 
-/// What the words of a command line say of a run. The error is why they are none.
-pub fn read_words(alloc: Global, words: &[String]) -> Result<RunWords, Error>
-    ensures run { (w : Run) → IsRun (texts_of words.now) w → IfOk result (λ said. said ≡ w) }
-    ensures faults { (kinds : List Kind) → HasFaults (texts_of words.now) kinds →
-        FailsBy kinds result }
+// The lists of orders of a run.
+fn orders_of(alloc: Global, matches: &ArgMatches<'_>) -> Result<Orders, OrdersError>
+    ensures { IfErr result (λ e. e ≡ OrdersError.Form →
+        AreOrdersIn (rows_of (found_of matches.now))) }
 {
-    let matches = parse(alloc, words)?;
-    Ok(run_words(&matches))
+    match listed_orders(alloc, matches.get_str("lose")) {
+        Err(error) => Err(error),
+        Ok(lose) => match listed_orders(alloc, matches.get_str("restart")) {
+            Err(error) => Err(error),
+            Ok(restart) => Ok(Orders { lose, restart }),
+        },
+    }
+}
+
+/// What words say: a run, and which of its replicas are lost or start anew.
+#[derive(Debug, Drop)]
+pub struct Said {
+    /// What the words of the run say.
+    pub words: RunWords,
+    /// The lists of orders.
+    pub orders: Orders,
+}
+
+/// Why words are no run.
+#[derive(Debug, Drop)]
+pub enum WordsError {
+    /// `clap` refuses them, or help is asked for.
+    Clap(Error),
+    /// A list of orders is not of its form, or memory was refused.
+    Orders(OrdersError),
+}
+
+// What the words of a run say.
+fn run_words(alloc: Global, matches: &ArgMatches<'_>) -> Result<Said, WordsError>
+    requires { has_subcommand matches.now ≡ true }
+    ensures run { (w : Run) → IsRunOf (subcommand_rows_of matches.now) w →
+        IfOk result (λ said. said.words ≡ w) }
+    ensures none { FailsWith [] result }
+    ensures form { result ≡ Err (WordsError.Orders OrdersError.Form) →
+        GivesOrders (subcommand_rows_of matches.now) }
+{
+    let (_, inner) = matches.subcommand().unwrap();
+    match orders_of(alloc, inner) {
+        Ok(orders) => Ok(Said {
+            words: options_of(inner),
+            orders,
+        }),
+        Err(error) => Err(WordsError::Orders(error)),
+    }
+}
+
+/// What the words of a command line say of a run, and its orders. The error is why they are none: lists of orders are
+/// read where `clap` finds nothing wrong.
+pub fn read_words(alloc: Global, words: &[String]) -> Result<Said, WordsError>
+    ensures run { (w : Run) → IsRun (texts_of words.now) w →
+        IfOk result (λ said. said.words ≡ w) }
+    ensures faults { (kinds : List Kind) → HasFaults (texts_of words.now) kinds →
+        FailsWith kinds result }
+    ensures form { result ≡ Err (WordsError.Orders OrdersError.Form) →
+        HasOrders (texts_of words.now) }
+{
+    match parse(alloc, words) {
+        Ok(matches) => run_words(alloc, &matches),
+        Err(error) => Err(WordsError::Clap(error)),
+    }
 }

@@ -1,11 +1,7 @@
 //! Reports of runs, and their faults.
 
 use super::*;
-use crate::serial::{SerialOptions, run_serial};
 use crate::whole::sections;
-use ball_model::Estimate;
-use edgelist::Delimiter;
-use std::hash::RandomState;
 
 const EMPTY_INPUT: &[u8] = b"superstep,0,0.000000
 superstep,1,0.000000
@@ -39,7 +35,7 @@ vertex,c,10.768000,0.000000,0.000000,1.000000,16
 ";
 
 // Each is a run that writes this and nothing else.
-pub fn all_report<H: Abort + AllocGlobal + RandomSource + Threads + Sync>(
+pub fn all_report<H: Abort + AllocGlobal + Clock + RandomSource + Threads + Wait + Sync>(
     rt: &H,
     cases: &[Case],
 ) -> Result<(), Fail> {
@@ -50,7 +46,7 @@ pub fn all_report<H: Abort + AllocGlobal + RandomSource + Threads + Sync>(
 }
 
 // Each is a run that writes nothing, and ends with this fault.
-fn all_fail<H: Abort + AllocGlobal + RandomSource + Threads + Sync>(
+fn all_fail<H: Abort + AllocGlobal + Clock + RandomSource + Threads + Wait + Sync>(
     rt: &H,
     cases: &[Case],
 ) -> Result<(), Fail> {
@@ -92,18 +88,22 @@ fn reports(rt: HostRuntime) -> Result<(), Fail> {
     all_report(&rt, &REPORTS)
 }
 
-// The report is the same for every number of partitions.
-const PARTITIONS: [&str; 6] = [
+// The report is the same for every number of partitions, and where nodes are lost or start anew.
+const PARTITIONS: [&str; 10] = [
     "hyperball run --log2m 4 --parts 1",
     "hyperball run --log2m 4 --parts 2",
     "hyperball run --log2m 4 --parts 3",
     "hyperball run --log2m 4 --parts 4",
     "hyperball run --log2m 4 --parts 5",
     "hyperball run --log2m 4 --parts 64",
+    "hyperball run --log2m 4 --parts 2 --replicas 2 --lose 0.0@1",
+    "hyperball run --log2m 4 --parts 2 --replicas 2 --lose 0.0@9,0.0@1,0.1@1",
+    "hyperball run --log2m 4 --parts 2 --restart 0.0@2",
+    "hyperball run --log2m 4 --parts 2 --restart 0.0@2 --keep 0",
 ];
 
 // The reports of small graphs do not depend on these words.
-fn reports_alike<H: Abort + AllocGlobal + RandomSource + Threads + Sync>(
+fn reports_alike<H: Abort + AllocGlobal + Clock + RandomSource + Threads + Wait + Sync>(
     rt: &H,
     line: &'static str,
 ) -> Result<(), Fail> {
@@ -195,7 +195,28 @@ const LIMIT: &[u8] = b"hyperball: limit is not from 1 to 4096\n";
 
 const PARTS: &[u8] = b"hyperball: parts is not from 1 to 64\n";
 
-const FAULTS: [Case; 14] = [
+const OPTION: &[u8] = b"hyperball: an option does not fit the job\n";
+
+const FAULTS: [Case; 24] = [
+    (
+        "hyperball run --parts 2 --replicas 2 --lose 0.0@0,0.1@0 --patience 1000",
+        b"a\tb\nb\tc\n",
+        b"hyperball: every replica of partition 0 was lost\n",
+    ),
+    (
+        "hyperball run --parts 2 --entries 4 --patience 1000",
+        b"a\tb\nb\tc\n",
+        b"hyperball: the book is full\n",
+    ),
+    // options come before the edge list, and a plan after it
+    ("hyperball run --lose 2.0@0", b"a\tb\tc\n", OPTION),
+    ("hyperball run --replicas 5", b"", OPTION),
+    ("hyperball run --replicas 0 --log2m 3", b"", OPTION),
+    ("hyperball run --entries 1", b"", OPTION),
+    ("hyperball run --keep 4097", b"", OPTION),
+    ("hyperball run --patience 0", b"", OPTION),
+    ("hyperball run --parts 0 --lose 0.0@1", b"", OPTION),
+    ("hyperball run --parts 65 --lose 64.0@1", b"", PARTS),
     (RUN, b"a\tb\nb\tc\t7\n", RECORD),
     (RUN, b"# c\n\na\tb\n\t\n", RECORD),
     ("hyperball run --log2m 0", b"a\tb\n", LOG2M),
@@ -220,45 +241,4 @@ const FAULTS: [Case; 14] = [
 #[test]
 fn faults_of_a_run(rt: HostRuntime) -> Result<(), Fail> {
     all_fail(&rt, &FAULTS)
-}
-
-const OPTIONS: SerialOptions = SerialOptions {
-    log2m: 4,
-    seed: 0,
-    parts: 3,
-    limit: 1,
-    estimate: Estimate::Raw,
-    delimiter: Delimiter::Comma,
-};
-
-// A run by these options writes a report.
-fn run_by<H: AllocGlobal + RandomSource + Threads + Sync>(
-    rt: &H,
-    options: &SerialOptions,
-    input: &[u8],
-    output: &mut Vec<u8>,
-) -> Result<bool, Fail> {
-    let state = RandomState::new(rt)?;
-    let mut reader = CountingReader::new(input);
-    let mut writer = CountingWriter::new(output);
-    let answer = run_serial(rt, state, &mut reader, None, &mut writer, options);
-    Ok(answer == Ok(()))
-}
-
-// It writes this one.
-fn reports_by<H: AllocGlobal + RandomSource + Threads + Sync>(
-    rt: &H,
-    options: &SerialOptions,
-    input: &[u8],
-    report: &[u8],
-) -> Result<bool, Fail> {
-    let mut output = Vec::new(rt.alloc());
-    let done = run_by(rt, options, input, &mut output)?;
-    Ok(done && output.as_slice() == report)
-}
-
-#[test]
-fn a_run_by_its_options(rt: HostRuntime) -> Result<(), Fail> {
-    assert!(rt; reports_by(&rt, &OPTIONS, b"a,b\nb,c\n", LIMIT_OF_ONE)?);
-    Ok(())
 }

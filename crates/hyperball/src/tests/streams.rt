@@ -3,8 +3,6 @@
 ghost use Rattle.std.specs.Prelude.{None};
 
 use super::*;
-use crate::pages::Pages;
-use ball_model::{CountedWrite, MemWriter};
 use std::io;
 use std::io::ErrorKind;
 
@@ -36,7 +34,7 @@ impl<'a> Read for Dripping<'a> {
 }
 
 // Serves words over an input a byte a call, with a failure at this call.
-fn dripped<H: AllocGlobal + RandomSource + Threads + Sync>(
+fn dripped<H: AllocGlobal + Clock + RandomSource + Threads + Wait + Sync>(
     rt: &H,
     line: &str,
     bytes: &[u8],
@@ -51,7 +49,7 @@ fn dripped<H: AllocGlobal + RandomSource + Threads + Sync>(
 }
 
 // An input a byte a call has this report.
-fn reports_dripping<H: AllocGlobal + RandomSource + Threads + Sync>(
+fn reports_dripping<H: AllocGlobal + Clock + RandomSource + Threads + Wait + Sync>(
     rt: &H,
     case: &Case,
 ) -> Result<bool, Fail> {
@@ -61,7 +59,7 @@ fn reports_dripping<H: AllocGlobal + RandomSource + Threads + Sync>(
 }
 
 // A failure at this call of the reader is told so, and nothing is written.
-fn fails_at<H: AllocGlobal + RandomSource + Threads + Sync>(
+fn fails_at<H: AllocGlobal + Clock + RandomSource + Threads + Wait + Sync>(
     rt: &H,
     case: &Case,
     call: u64,
@@ -72,7 +70,7 @@ fn fails_at<H: AllocGlobal + RandomSource + Threads + Sync>(
 }
 
 // The first call whose failure is told otherwise.
-fn first_told_otherwise<H: AllocGlobal + RandomSource + Threads + Sync>(
+fn first_told_otherwise<H: AllocGlobal + Clock + RandomSource + Threads + Wait + Sync>(
     rt: &H,
     case: &Case,
 ) -> Result<Option<u64>, Fail> {
@@ -111,7 +109,7 @@ fn a_byte_a_read(rt: HostRuntime) -> Result<(), Fail> {
 }
 
 // The first of these cases, and in it the first call, whose failure is told otherwise.
-fn first_failure_told_otherwise<H: AllocGlobal + RandomSource + Threads + Sync>(
+fn first_failure_told_otherwise<H: AllocGlobal + Clock + RandomSource + Threads + Wait + Sync>(
     rt: &H,
 ) -> Result<Option<(usize, u64)>, Fail> {
     for i in 0..DRIPPING_FAULTS.len() {
@@ -154,7 +152,7 @@ impl Write for Narrow {
 }
 
 // Serves words over the two edges into a narrow writer.
-fn serve_narrowly<H: AllocGlobal + RandomSource + Threads + Sync>(
+fn serve_narrowly<H: AllocGlobal + Clock + RandomSource + Threads + Wait + Sync>(
     rt: &H,
     line: &str,
     room: usize,
@@ -187,7 +185,7 @@ fn is_cut(served: &Served, room: usize) -> bool {
 }
 
 // Words whose text needs more room end so.
-fn fails_narrowly<H: AllocGlobal + RandomSource + Threads + Sync>(
+fn fails_narrowly<H: AllocGlobal + Clock + RandomSource + Threads + Wait + Sync>(
     rt: &H,
     line: &str,
     room: usize,
@@ -213,7 +211,7 @@ fn a_write_that_fails(rt: HostRuntime) -> Result<(), Fail> {
 }
 
 // The status of words whose fault goes to this writer, where they write nothing.
-fn told_in<H: AllocGlobal + RandomSource + Threads + Sync>(
+fn told_in<H: AllocGlobal + Clock + RandomSource + Threads + Wait + Sync>(
     rt: &H,
     line: &str,
     faults: &mut Narrow,
@@ -224,7 +222,7 @@ fn told_in<H: AllocGlobal + RandomSource + Threads + Sync>(
 }
 
 // Words whose fault has room for three bytes end with this status, where it takes them.
-fn ends_in_three<H: AllocGlobal + RandomSource + Threads + Sync>(
+fn ends_in_three<H: AllocGlobal + Clock + RandomSource + Threads + Wait + Sync>(
     rt: &H,
     line: &str,
     wanted: u8,
@@ -245,56 +243,5 @@ fn a_fault_that_cannot_be_told(rt: HostRuntime) -> Result<(), Fail> {
     for (line, status) in &IN_THREE {
         assert!(rt; ends_in_three(&rt, line, *status)?, "{line}");
     }
-    Ok(())
-}
-
-// Three pages, of which the second is empty.
-const PAGES: [&[u8]; 3] = [b"one,", b"", b"two"];
-
-// Writes the pages, each of which is taken whole.
-fn write_pages(text: &mut Pages) -> bool {
-    let mut whole = true;
-    for page in &PAGES {
-        whole &= matches!(text.write(page), Ok(count) if count == page.len());
-    }
-    whole && text.flush().is_ok()
-}
-
-// What a writer whose call `fails_at` fails takes of a text.
-fn taken_of<H: AllocGlobal>(
-    rt: &H,
-    text: &Pages,
-    fails_at: Option<u64>,
-) -> Result<(bool, Vec<u8>), Fail> {
-    let mut writer = MemWriter::with_room(rt.alloc(), 7, fails_at)?;
-    let done = text.write_to(&mut writer);
-    Ok((done, writer.into_bytes()))
-}
-
-// It takes these bytes of the pages, and all is done or not.
-fn takes<H: AllocGlobal>(
-    rt: &H,
-    text: &Pages,
-    fails_at: Option<u64>,
-    wanted: (bool, &[u8]),
-) -> Result<bool, Fail> {
-    let (done, taken) = taken_of(rt, text, fails_at)?;
-    Ok((done, taken.as_slice()) == wanted)
-}
-
-// So it is with pages that are written.
-fn takes_pages<H: AllocGlobal>(
-    rt: &H,
-    fails_at: Option<u64>,
-    wanted: (bool, &[u8]),
-) -> Result<bool, Fail> {
-    let mut text = Pages::new(rt.alloc());
-    Ok(write_pages(&mut text) && takes(rt, &text, fails_at, wanted)?)
-}
-
-#[test]
-fn a_text_in_pages(rt: HostRuntime) -> Result<(), Fail> {
-    assert!(rt; takes_pages(&rt, None, (true, b"one,two"))?);
-    assert!(rt; takes_pages(&rt, Some(2), (false, b"one,"))?);
     Ok(())
 }

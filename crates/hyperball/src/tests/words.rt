@@ -2,12 +2,14 @@
 
 use super::*;
 use crate::laws::{words_of_a_run, words_of_no_run};
-use crate::serial::{SerialError, SerialOptions};
+use crate::options::Options;
+use crate::orders::{OrdersError, orders_in};
 use crate::whole::WholeError;
-use crate::words::{RunWords, read_words};
-use ball_model::{Estimate, PlanError};
+use crate::words::{RunWords, Said, read_words};
+use ball_model::{Estimate, NodeId, PlanError};
 use edgelist::{CountedError, Delimiter, EdgeError};
 use std::fmt::Display;
+use workers::RunError;
 
 // A fault prints as this text.
 fn prints<H: AllocGlobal, F: Display>(rt: &H, fault: &F, text: &str) -> Result<bool, Fail> {
@@ -15,48 +17,62 @@ fn prints<H: AllocGlobal, F: Display>(rt: &H, fault: &F, text: &str) -> Result<b
     Ok(told.as_str() == text)
 }
 
-const FAULT_TEXTS: [(SerialError, &str); 14] = [
+const FAULT_TEXTS: [(RunError, &str); 18] = [
+    (RunError::Options, "an option does not fit the job"),
     (
-        SerialError::Edges(EdgeError::Read),
+        RunError::PartitionLost { part: 7 },
+        "every replica of partition 7 was lost",
+    ),
+    (RunError::BookFull, "the book is full"),
+    (
+        RunError::Starved {
+            node: NodeId {
+                part: 3,
+                replica: 1,
+            },
+            superstep: 5,
+            source: 2,
+        },
+        "node 3.1 waited in vain at superstep 5 for partition 2",
+    ),
+    (
+        RunError::Edges(EdgeError::Read),
         "the edge list cannot be read",
     ),
+    (RunError::Edges(EdgeError::TooManyEdges), "too many records"),
     (
-        SerialError::Edges(EdgeError::TooManyEdges),
-        "too many records",
-    ),
-    (
-        SerialError::Edges(EdgeError::Fields { number: 7 }),
+        RunError::Edges(EdgeError::Fields { number: 7 }),
         "record 7 has not one or two identifiers",
     ),
     (
-        SerialError::Edges(EdgeError::TooManyVertices),
+        RunError::Edges(EdgeError::TooManyVertices),
         "too many vertices",
     ),
-    (SerialError::Edges(EdgeError::Memory), "out of memory"),
+    (RunError::Edges(EdgeError::Memory), "out of memory"),
     (
-        SerialError::Counted(CountedError::Fields { number: 7 }),
+        RunError::Counted(CountedError::Fields { number: 7 }),
         "record 7 of the list is not one identifier",
     ),
     (
-        SerialError::Counted(CountedError::Unknown { number: 7 }),
+        RunError::Counted(CountedError::Unknown { number: 7 }),
         "record 7 of the list names no vertex",
     ),
-    (SerialError::Counted(CountedError::Memory), "out of memory"),
+    (RunError::Counted(CountedError::Memory), "out of memory"),
     (
-        SerialError::Plan(PlanError::Log2m),
+        RunError::Plan(PlanError::Log2m),
         "log2m is not from 4 to 10",
     ),
     (
-        SerialError::Plan(PlanError::Parts),
+        RunError::Plan(PlanError::Parts),
         "parts is not from 1 to 64",
     ),
     (
-        SerialError::Plan(PlanError::Limit),
+        RunError::Plan(PlanError::Limit),
         "limit is not from 1 to 4096",
     ),
-    (SerialError::Plan(PlanError::Vertices), "too many vertices"),
-    (SerialError::Memory, "out of memory"),
-    (SerialError::Write, "the output cannot be written"),
+    (RunError::Plan(PlanError::Vertices), "too many vertices"),
+    (RunError::Memory, "out of memory"),
+    (RunError::Write, "the output cannot be written"),
 ];
 
 const WHOLE_TEXTS: [(WholeError, &str); 3] = [
@@ -103,14 +119,20 @@ fn explains(text: &str, name: &str, help: &str) -> bool {
     }
 }
 
-const HELPS: [(&str, &str); 7] = [
+const HELPS: [(&str, &str); 13] = [
     ("--log2m <", "Counters of 2^log2m bytes"),
     ("--seed <", "Seed under which"),
-    ("--parts <", "Partitions that"),
+    ("--parts <", "Partitions, 1 to 64"),
     ("--limit <", "Greatest superstep"),
     ("--estimate <", "near the true size"),
     ("--delimiter <", "What stands between"),
     ("--counted", "Count only"),
+    ("--replicas <", "may be lost"),
+    ("--entries <", "Entries of the board"),
+    ("--keep <", "one snapshot to the next"),
+    ("--patience <", "Idle turns"),
+    ("--lose <", "that are lost"),
+    ("--restart <", "start anew"),
 ];
 
 // Every option is explained.
@@ -138,7 +160,10 @@ fn help_of_each_option(rt: HostRuntime) -> Result<(), Fail> {
 }
 
 // Words that ask for help get it, and nothing is told.
-fn helps<H: AllocGlobal + RandomSource + Threads + Sync>(rt: &H, line: &str) -> Result<bool, Fail> {
+fn helps<H: AllocGlobal + Clock + RandomSource + Threads + Wait + Sync>(
+    rt: &H,
+    line: &str,
+) -> Result<bool, Fail> {
     let served = serve_input(rt, line, b"a\tb\n".as_slice())?;
     Ok(served.status == 0 && served.output.len() > 100 && served.faults.is_empty())
 }
@@ -152,7 +177,7 @@ fn help_is_shown(rt: HostRuntime) -> Result<(), Fail> {
 }
 
 // The words are refused, with this at the front of what is told.
-fn refuses<H: AllocGlobal + RandomSource + Threads + Sync>(
+fn refuses<H: AllocGlobal + Clock + RandomSource + Threads + Wait + Sync>(
     rt: &H,
     line: &str,
     front: &[u8],
@@ -161,16 +186,29 @@ fn refuses<H: AllocGlobal + RandomSource + Threads + Sync>(
     Ok(served.status == 2 && served.output.is_empty() && served.faults.starts_with(front))
 }
 
-const MISTAKES: [(&str, &[u8]); 17] = [
+const ORDERS: &[u8] = b"hyperball: an order is P.K@S, with commas between orders\n";
+
+const MISTAKES: [(&str, &[u8]); 27] = [
     ("hyperball", b"error: 'hyperball' requires a subcommand"),
     (
         "hyperball replay",
         b"error: unrecognized subcommand 'replay'",
     ),
+    ("hyperball run --replicas 256", b"error: "),
+    ("hyperball run --entries -1", b"error: "),
+    ("hyperball run --keep 4294967296", b"error: "),
+    ("hyperball run --patience some", b"error: "),
     (
-        "hyperball run --replicas 2",
-        b"error: unexpected argument '--replicas'",
+        "hyperball run --lose",
+        b"error: a value is required for '--lose",
     ),
+    ("hyperball run --lose 0.0@", ORDERS),
+    ("hyperball run --lose 00.0@1", ORDERS),
+    ("hyperball run --lose 0.0@1,", ORDERS),
+    ("hyperball run --restart=", ORDERS),
+    ("hyperball run --restart 0.0@1 --lose 0@1", ORDERS),
+    // where clap refuses something too, clap tells
+    ("hyperball run --lose 0 --log2m x", b"error: "),
     (
         "hyperball run edges.tsv",
         b"error: unexpected argument 'edges.tsv'",
@@ -202,31 +240,77 @@ fn mistaken_words(rt: HostRuntime) -> Result<(), Fail> {
 }
 
 // What words of a run say.
-fn said<H: AllocGlobal>(rt: &H, line: &str) -> Result<RunWords, Fail> {
+fn said<H: AllocGlobal>(rt: &H, line: &str) -> Result<Said, Fail> {
     let words = words_of(rt, line)?;
     Ok(read_words(rt.alloc(), &words)?)
 }
 
 const SAID: RunWords = RunWords {
-    options: SerialOptions {
+    options: Options {
         log2m: 8,
         seed: 7,
         parts: 1,
         limit: 4096,
         estimate: Estimate::Corrected,
         delimiter: Delimiter::Space,
+        replicas: 2,
+        entries: 1_048_576,
+        keep: 0,
+        patience: 7,
     },
     counted: true,
 };
 
+fn node(part: u16, replica: u8) -> NodeId {
+    NodeId { part, replica }
+}
+
+// The words are read as these, with one node to be lost and two to start anew.
+fn is_said(said: &Said) -> bool {
+    said.words == SAID
+        && said.orders.lose.as_slice() == [(node(0, 1), 999_999_999)].as_slice()
+        && said.orders.restart.as_slice() == [(node(65_535, 255), 0), (node(1, 0), 10)].as_slice()
+}
+
 #[test]
 fn words_are_read(rt: HostRuntime) -> Result<(), Fail> {
-    let read = said(
+    let said = said(
         &rt,
-        "hyperball run --seed 7 --estimate corrected --delimiter space --counted",
+        "hyperball run --seed 7 --estimate corrected --delimiter space --counted --replicas 2 --keep 0 \
+        --patience 7 --lose 0.1@999999999 --restart 65535.255@0,1.0@10",
     )?;
-    assert!(rt; read == SAID);
+    assert!(rt; is_said(&said));
     words_of_a_run();
     words_of_no_run();
+    Ok(())
+}
+
+const NO_ORDERS: [&str; 16] = [
+    "",
+    ",",
+    "0.0",
+    "0@1",
+    "0.0@",
+    "00.0@1",
+    "0.0@01",
+    "0.0@1,",
+    ",0.0@1",
+    "0.0@1,,0.0@1",
+    " 0.0@1",
+    "0.0@+1",
+    "0.0.0@1",
+    "65536.0@1",
+    "0.256@1",
+    "0.0@1000000000",
+];
+
+#[test]
+fn texts_that_are_no_orders(rt: HostRuntime) -> Result<(), Fail> {
+    for text in &NO_ORDERS {
+        assert!(rt;
+            orders_in(rt.alloc(), text) == Err(OrdersError::Form),
+            "{text}"
+        );
+    }
     Ok(())
 }

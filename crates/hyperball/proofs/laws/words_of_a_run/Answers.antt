@@ -2,7 +2,7 @@ use Rattle.std.proofs.Common.{◌≡◌, List, [], ◌∷◌, codes, refl, lit<}
 use Rattle.clap.specs.Words.{Text, fault_of, subcommand_of}
 use Rattle.clap.proofs.OnLiterals.{clap_on_literals}
 use Rattle.hyperball.specs.CommandLine.{hyperball_app, run_app}
-use Rattle.hyperball.specs.LawWords.{corrected_words, counted_words, log2m_words, space_words}
+use Rattle.hyperball.specs.LawWords.{corrected_words, counted_words, log2m_words, node_words, space_words}
 use Rattle.hyperball.specs.Words.{IsRunOf}
 use Rattle.hyperball.proofs.NameLemmas.{of_names}
 use Rattle.hyperball.proofs.laws.words_of_a_run.Goals as goal
@@ -19,6 +19,32 @@ corrected_line = codes "hyperball" ∷ codes "run" ∷ codes "--estimate" ∷ co
 abbrev counted_line : List Text
 counted_line = codes "hyperball" ∷ codes "run" ∷ codes "--counted" ∷ codes "--parts" ∷ codes "2" ∷ []
 
+abbrev node_line : List Text
+node_line = codes "hyperball" ∷ codes "run" ∷ codes "--replicas" ∷ codes "2" ∷ codes "--keep=0" ∷ codes "--lose" ∷ codes "0.1@2" ∷ []
+
+pub returns-clause-nodes : goal.returns-clause-nodes
+unfolding clap_on_literals hyperball_app run_app
+returns-clause-nodes c = record {
+  accepted = record { are = of_names (λ p. fault_of (hyperball_app p) node_line ≡ []) (λ at. refl) };
+  command = of_names (λ p. IsRunOf (subcommand_of (hyperball_app p) node_line) node_words) (λ at. (
+    _,
+    refl,
+    record {
+      log2m = refl;
+      seed = refl;
+      parts = refl;
+      limit = refl;
+      estimate = refl;
+      delimiter = refl;
+      replicas = record { numeral = (lit< tt, (lit< tt, tt)); value = refl; fits = lit< tt };
+      entries = refl;
+      keep = record { numeral = (lit< tt, (lit< tt, tt)); value = refl; fits = lit< tt };
+      patience = refl;
+      counted = refl;
+    },
+  ));
+}
+
 pub returns-clause-log2m : goal.returns-clause-log2m
 unfolding clap_on_literals hyperball_app run_app
 returns-clause-log2m c = record {
@@ -33,6 +59,10 @@ returns-clause-log2m c = record {
       limit = refl;
       estimate = refl;
       delimiter = refl;
+      replicas = refl;
+      entries = refl;
+      keep = refl;
+      patience = refl;
       counted = refl;
     },
   ));
@@ -52,6 +82,10 @@ returns-clause-limit c = record {
       limit = record { numeral = (lit< tt, (lit< tt, (lit< tt, (lit< tt, (lit< tt, tt))))); value = refl; fits = lit< tt };
       estimate = refl;
       delimiter = refl;
+      replicas = refl;
+      entries = refl;
+      keep = refl;
+      patience = refl;
       counted = refl;
     },
   ));
@@ -71,6 +105,10 @@ returns-clause-estimate c = record {
       limit = refl;
       estimate = refl;
       delimiter = refl;
+      replicas = refl;
+      entries = refl;
+      keep = refl;
+      patience = refl;
       counted = refl;
     },
   ));
@@ -90,6 +128,10 @@ returns-clause-counted c = record {
       limit = refl;
       estimate = refl;
       delimiter = refl;
+      replicas = refl;
+      entries = refl;
+      keep = refl;
+      patience = refl;
       counted = refl;
     },
   ));

@@ -12,7 +12,7 @@ returns-clause-help c = record { are = of_names (λ p. fault_of (hyperball_app p
 
 pub returns-clause-unknown : goal.returns-clause-unknown
 unfolding clap_on_literals hyperball_app run_app
-returns-clause-unknown c = record { are = of_names (λ p. fault_of (hyperball_app p) (codes "hyperball" ∷ codes "run" ∷ codes "--replicas" ∷ codes "2" ∷ []) ≡ UnknownArgument ∷ []) (λ at. refl) }
+returns-clause-unknown c = record { are = of_names (λ p. fault_of (hyperball_app p) (codes "hyperball" ∷ codes "run" ∷ codes "--threads" ∷ codes "2" ∷ []) ≡ UnknownArgument ∷ []) (λ at. refl) }
 
 pub returns-clause-number : goal.returns-clause-number
 unfolding clap_on_literals hyperball_app run_app

@@ -1,9 +1,15 @@
-use Rattle.std.proofs.Common.{ℕ, List, ap, Bor}
+use Rattle.std.proofs.Common.{ℕ, List, ap, Bor, subst}
+use Rattle.std.specs.Prelude.{Some}
+use Rattle.ball_model.specs.RunText.{AppendsReport, Settings}
+use Rattle.workers.specs.Run.{ArePlain}
 use Rattle.hyperball.proofs.ReportLemmas.{cut}
 use Rattle.hyperball.proofs.serve.run_sections.Goals as goal
 
 pub returns-clause-done : goal.returns-clause-done
-returns-clause-done g c =
-    cut c.args.input.now c.in-Some.edges.now c.new-edges.result.inner.now c.in-Some.list.now c.args.options.now
-    (g.W.Write.contents c.args.writer.now) (g.W.Write.contents c.run_serial.new.writer)
-    c.in-Some.ensures (ap (λ (b : Bor (List ℕ)). b.now) c.new-edges.ensures.inner) c.in_ok-run_serial.ensures.ok
+returns-clause-done g c = λ o same.
+    let first = c.new-edges.result.inner.now in
+    let list = c.in-Some.list.now in
+    let old = g.W.Write.contents c.args.writer.now in
+    let new = g.W.Write.contents c.run.new.writer in
+    cut c.args.input.now c.in-Some.edges.now first list o old new c.in-Some.ensures (ap (λ (b : Bor (List ℕ)). b.now) c.new-edges.ensures.inner)
+    (subst (λ (s : Settings). ArePlain first (Some list) → AppendsReport s first (Some list) old new) same c.in_ok-run.ensures.ok)

@@ -1,23 +1,17 @@
-use Rattle.std.proofs.Common.{◌≡◌, inl, inr, List, [], ◌∷◌, subst, sym, true}
-use Rattle.std.specs.Prelude.{IfSome}
-use Rattle.std.specs.List.{AllByRecursion}
-use Rattle.clap.specs.Words.{IsAmong, kind_of}
-use Rattle.clap.specs.declared.error.kind.ErrorKind.{ErrorKind}
-use Rattle.hyperball.specs.Words.{IsMistake, Reports}
+use Rattle.std.proofs.Common.{◌≡◌, ap, subst, sym, true}
+use Rattle.std.specs.Prelude.{Err, IfSome}
+use Rattle.hyperball.specs.Words.{Reports}
 use Rattle.hyperball.specs.declared.words.RunWords.{RunWords}
 use Rattle.hyperball.proofs.serve.serve.Goals as goal
 
--- a kind that is one of some mistakes is a mistake
-among : (k : ErrorKind) (kinds : List ErrorKind) → IsAmong k kinds → AllByRecursion IsMistake kinds → IsMistake k
-among k [] h all = absurd h
-among k (x ∷ xs) (inl e) all = subst IsMistake (sym e) all.0
-among k (x ∷ xs) (inr h) all = among k xs h all.1
-
 pub returns-in-Err-clause-mistaken : goal.returns-in-Err-clause-mistaken
-returns-in-Err-clause-mistaken g c = λ kinds has mistakes. elim (c.in-Err.ensures.faults kinds has) [
-  | inl e ↦ inr (c.tell_words.ensures.memory e)
-  | inr h ↦ let m = among (kind_of c.in-Err.error) kinds h mistakes.1 in inl (c.tell_words.ensures.mistake m)
-]
+returns-in-Err-clause-mistaken g c = λ kinds has mistakes. c.tell_words.ensures.mistake kinds (c.in-Err.ensures.faults kinds has) mistakes
+
+pub returns-in-Err-clause-two : goal.returns-in-Err-clause-two
+returns-in-Err-clause-two g c = λ two has. c.in-Err.ensures.form (ap Err (c.tell_words.ensures.two two (c.in-Err.ensures.faults _ has)))
+
+pub returns-in-Err-clause-run : goal.returns-in-Err-clause-run
+returns-in-Err-clause-run g c = λ w is zero. absurd (c.tell_words.ensures.refused (c.in-Err.ensures.faults _ is.accepted) zero)
 
 pub returns-in-Ok-clause-run : goal.returns-in-Ok-clause-run
 returns-in-Ok-clause-run g c = λ w is zero.

@@ -9,4 +9,6 @@ returns c =
     let start : IsApp (new_app (codes "run")) c.after_long_help-command.result = record { form = search rules; local = search rules } in
     let numbers = c.in_ok-command.ensures (new_app (codes "run")) start in
     let estimate = c.in_ok-command-2.ensures (with_numbers (new_app (codes "run"))) numbers in
-    c.add_input.ensures (with_estimate c.args.estimates (with_numbers (new_app (codes "run")))) estimate
+    let input = c.in_ok-command-3.ensures (with_estimate c.args.estimates (with_numbers (new_app (codes "run")))) estimate in
+    let nodes = c.in_ok-command-4.ensures _ input in
+    c.add_orders.ensures _ nodes

@@ -1,0 +1,79 @@
+//! What the words of a run ask for.
+
+ghost use Rattle.std.specs.Prelude.{◌≡◌};
+ghost use Rattle.hyperball.specs.Options.{settings_in};
+ghost use Rattle.workers.specs.Options.{settings_of};
+
+use ball_model::plan::GREATEST_LIMIT;
+use ball_model::{Estimate, NodeId};
+use edgelist::Delimiter;
+use workers::RunOptions;
+
+/// The options that are numbers or names.
+#[derive(Clone, Copy, Debug, PartialEq, Eq)]
+pub struct Options {
+    /// The binary logarithm of the number of registers of a counter.
+    pub log2m: u8,
+    /// The seed under which vertices are hashed.
+    pub seed: u64,
+    /// The number of partitions that vertices are dealt out to.
+    pub parts: u16,
+    /// The superstep at which the run ends at the latest.
+    pub limit: u32,
+    /// How the estimates of counters are made.
+    pub estimate: Estimate,
+    /// What stands between the two fields of a line.
+    pub delimiter: Delimiter,
+    /// How many replicas each partition has.
+    pub replicas: u8,
+    /// How many entries the history of the run's board may have.
+    pub entries: u32,
+    /// Every so many supersteps a replica keeps a snapshot; none where it is 0.
+    pub keep: u32,
+    /// After so many idle turns in succession a replica gives up.
+    pub patience: u32,
+}
+
+/// The options that are not given: counters of 256 bytes, seed 0, one partition of one replica, the greatest limit, raw
+/// estimates, tabs, and a snapshot at each superstep.
+pub const USUAL: Options = Options {
+    log2m: 8,
+    seed: 0,
+    parts: 1,
+    limit: GREATEST_LIMIT,
+    estimate: Estimate::Raw,
+    delimiter: Delimiter::Tab,
+    replicas: 1,
+    entries: 1_048_576,
+    keep: 1,
+    patience: 1_000_000,
+};
+
+/// Which replicas are lost, and which start anew, each at a superstep.
+#[derive(Debug, PartialEq, Eq, Drop)]
+pub struct Orders {
+    /// Which are lost.
+    pub lose: Vec<(NodeId, u32)>,
+    /// Which start anew.
+    pub restart: Vec<(NodeId, u32)>,
+}
+
+/// The options of a run with these orders.
+pub fn run_options(options: &Options, orders: Orders) -> RunOptions
+    ensures { settings_of result ≡ settings_in options.now }
+{
+    RunOptions {
+        log2m: options.log2m,
+        seed: options.seed,
+        parts: options.parts,
+        limit: options.limit,
+        estimate: options.estimate,
+        delimiter: options.delimiter,
+        replicas: options.replicas,
+        entries: options.entries,
+        keep: options.keep,
+        patience: options.patience,
+        lose: orders.lose,
+        restart: orders.restart,
+    }
+}
