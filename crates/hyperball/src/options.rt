@@ -60,7 +60,13 @@ pub struct Orders {
 
 /// The options of a run with these orders.
 pub fn run_options(options: &Options, orders: Orders) -> RunOptions
-    ensures { settings_of result ≡ settings_in options.now }
+    ensures settings { settings_of result ≡ settings_in options.now }
+    ensures replicas { result.replicas ≡ options.now.replicas }
+    ensures entries { result.entries ≡ options.now.entries }
+    ensures keep { result.keep ≡ options.now.keep }
+    ensures patience { result.patience ≡ options.now.patience }
+    ensures lose { result.lose ≡ orders.lose }
+    ensures restart { result.restart ≡ orders.restart }
 {
     RunOptions {
         log2m: options.log2m,

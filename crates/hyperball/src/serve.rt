@@ -8,7 +8,8 @@ ghost use Rattle.clap.specs.declared.error.kind.ErrorKind.TheVariants as kind;
 ghost use Rattle.clap.specs.declared.error.kind.ErrorKind.{ErrorKind as Kind};
 ghost use Rattle.ball_model.specs.Sections.{sections_of};
 ghost use Rattle.hyperball.specs.Streams.{KeptOrFailed};
-ghost use Rattle.hyperball.specs.Whole.{ReadsFew};
+ghost use Rattle.ball_model.specs.Streams.{Rises};
+ghost use Rattle.hyperball.specs.Whole.{IsLong, ReadsFew};
 ghost use Rattle.hyperball.specs.Options.{settings_in};
 ghost use Rattle.hyperball.specs.Words.{AreMistakes, FailsFor, HasFaults, HasOrders, IsMistake, IsRun};
 ghost use Rattle.hyperball.specs.Words.{Reports, Serves, listed_words, texts_of};
@@ -233,6 +234,11 @@ fn run_listed<
     ensures listed { (f : NoReport) → result ≡ Err (RunFault.Run f) →
         IfSome (R.remaining reader.old) (λ input. sections_of input ≢ None) }
     ensures random { result ≢ Err RunFault.Random }
+    ensures size { result ≡ Err (RunFault.Input WholeError.Size) → IsLong (R.remaining reader.old) }
+    ensures read { result ≡ Err (RunFault.Input WholeError.Read) →
+        Rises (R.failed_calls reader.old) (R.failed_calls reader.new) }
+    ensures failed { Rises (R.failed_calls reader.old) (R.failed_calls reader.new) →
+        result ≡ Err (RunFault.Input WholeError.Read) }
     ensures few { ReadsFew (R.remaining reader.old) (R.remaining reader.new) }
     ensures kept { OnErr result (
         KeptOrFailed W.contents W.failed_calls writer.old writer.new) }

@@ -77,22 +77,22 @@ const LOG2M_HELP: &str =
 const SEED_HELP: &str = "Seed under which vertices are hashed [default: 0]";
 
 const PARTS_HELP: &str =
-    "Partitions, 1 to 64, each worked on by a thread; the report is the same [default: 1]";
+    "Partitions, 1 to 64. More cores: as many partitions as cores; the same report [default: 1]";
 
 const LIMIT_HELP: &str =
     "Greatest superstep, 1 to 4096; a run ends sooner where nothing changes [default: 4096]";
 
 const REPLICAS_HELP: &str =
-    "Replicas of each partition, 1 to 4: with 2 a worker may be lost without losing the run [default: 1]";
+    "Replicas of each partition, 1 to 4: with 2 a worker may be lost, and not the run [default: 1]";
 
 const ENTRIES_HELP: &str =
-    "Entries of the board's history, 2 to 16777216: about 2*P*P a superstep [default: 1048576]";
+    "Entries of the board, 2 to 16777216: about 2*P*P a superstep and replica [default: 1048576]";
 
 const KEEP_HELP: &str =
     "Supersteps from one snapshot to the next, 0 to 4096; 0 keeps none, which is less work [default: 1]";
 
 const PATIENCE_HELP: &str =
-    "Idle turns after which a worker gives up waiting, up to a millisecond each [default: 1000000]";
+    "Idle turns until a worker gives up: some 17 minutes, waited where a run cannot end [default: 1000000]";
 
 const LOSE_HELP: &str =
     "Workers that are lost: P.K@S is replica K of partition P at superstep S; commas between";
