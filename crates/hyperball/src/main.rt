@@ -38,11 +38,14 @@ fn words_of(rt: &HostRuntime) -> io::Result<Vec<String>> {
     Ok(env::args(rt)?.collect(rt.alloc())?)
 }
 
-fn main(rt: HostRuntime) -> io::Result<ExitCode> {
-    let words = words_of(&rt)?;
+fn main(rt: HostRuntime) -> ExitCode {
+    let mut faults = rt.stderr();
+    let words = match words_of(&rt) {
+        Ok(words) => words,
+        Err(error) => return ExitCode::from(serve::tell_fault(&mut faults, error)),
+    };
     let mut reader = CountingReader::new(rt.stdin());
     let mut writer = CountingWriter::new(rt.stdout());
-    let mut faults = rt.stderr();
     let status = serve::serve(&rt, &words, &mut reader, &mut writer, &mut faults);
-    Ok(ExitCode::from(status))
+    ExitCode::from(status)
 }

@@ -82,8 +82,8 @@ impl From<RunError> for RunFault {
     }
 }
 
-// Tells a fault in one line, which is dropped where it cannot be written.
-fn tell_fault<F: Write>(faults: &mut F, fault: impl Display + Drop) -> u8
+/// Tells a fault in one line, which is dropped where it cannot be written, and gives the status of a fault.
+pub fn tell_fault<F: Write>(faults: &mut F, fault: impl Display + Drop) -> u8
     ensures { result ≡ 1 }
 {
     let _ = writeln!(faults, "hyperball: {fault}");
