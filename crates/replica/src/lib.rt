@@ -107,6 +107,7 @@ impl Model for Snapshot {
 /// are equal.
 #[derive(Drop)]
 pub struct Replica {
+    // what it has at its superstep: what it tells, and what a snapshot copies
     known: Snapshot,
     targets: Targets,
     // which rows differ from what is accumulated for them
