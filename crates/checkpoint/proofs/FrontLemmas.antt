@@ -1,21 +1,19 @@
 -- The fixed fields and the digest that are read, as they are spelled.
-use Rattle.std.proofs.Common.{◌≡◌, ℕ, ◌+◌, ◌-◌, ◌<◌, ◌≤◌, List, [], ◌∷◌, ◌++◌, length, get_or, take, drop, Result, Ok, Err, refl, ap, ap₂, sym, ◌∙◌, subst, arith, append_assoc, append-nil, inl, inr}
-use Rattle.std.specs.Prelude.{Bool, true, false, not, ◌==◌, nat_lt, codes, if◌then◌else◌, ⊤}
+use Rattle.std.proofs.Common.{◌≡◌, ℕ, ◌+◌, ◌<◌, ◌≤◌, List, [], ◌∷◌, ◌++◌, length, get_or, take, drop, Result, Ok, Err, refl, ap, sym, ◌∙◌, subst, arith, append_assoc}
+use Rattle.std.specs.Prelude.{Bool, true, false, not, ◌==◌, if◌then◌else◌, ⊤}
 use Rattle.std.specs.Int.{w16, w32, to_be_bytes}
 use Rattle.std.specs.Str.{bytes_eq}
-use Rattle.std.proofs.lemmas.Slice.Eq.{bytes_eq-Decides}
-use Rattle.std.proofs.lemmas.Bool.{eqb-true, ltb-false}
-use Rattle.std.proofs.lemmas.List.{drop_more, drop-drop, take-append-drop, take_all, take_at, length-append, length-take, length-drop}
-use Rattle.sha2.specs.Sha256.{sha256}
+use Rattle.std.proofs.lemmas.Bool.{eqb-true}
+use Rattle.std.proofs.lemmas.List.{drop_more, drop-drop, take-append-drop, take_at, length-append}
 use Rattle.ball_model.specs.Job.{PartValue}
 use Rattle.ball_model.specs.State.{State}
-use Rattle.ball_model.specs.Checkpoint.{front_bytes, sealed}
+use Rattle.ball_model.specs.Checkpoint.{front_bytes}
 use Rattle.batches.specs.Kept.{field}
 use Rattle.batches.proofs.HeadLemmas.{field_2, field_4}
 use Rattle.checkpoint.specs.declared.header.Header.{Header}
 use Rattle.checkpoint.specs.declared.error.KeepError.{KeepError}
 use Rattle.checkpoint.specs.declared.error.KeepError.TheVariants as errors
-use Rattle.checkpoint.specs.Reading.{◌>>=◌, Form, needs, followed, content_form, told_body, sealed_form, seal_form, head_at, check_head, magic}
+use Rattle.checkpoint.specs.Reading.{head_at, check_head}
 use Rattle.checkpoint.proofs.ReaderLemmas.{same_bytes}
 
 -- ---- checks that pass

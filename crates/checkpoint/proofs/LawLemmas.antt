@@ -12,7 +12,7 @@ use Rattle.std.proofs.lemmas.List.Sums.{sum_by-le}
 use Rattle.std.proofs.lemmas.Nat.{shr-shr, from_be_bytes-to_be_bytes_2, from_be_bytes-to_be_bytes_4, from_be_bytes-to_be_bytes_8, mul-le}
 use Rattle.sha2.specs.Sha256.{sha256}
 use Rattle.sha2.proofs.Facts256.{length-sha256}
-use Rattle.ball_model.specs.Batches.{BatchValue, IsBatch, batch_bytes}
+use Rattle.ball_model.specs.Batches.{BatchValue, batch_bytes}
 use Rattle.ball_model.specs.Checkpoint.{mask_of, mark_byte, no_figures, sealed, front_bytes, vertex_bytes, table_bytes, held_bytes, early_bytes, kept_batches, checkpoint_bytes, first_checkpoint_bytes, without_names}
 use Rattle.ball_model.specs.Figures.{TallyValue, estimate_with}
 use Rattle.ball_model.specs.Job.{PartValue}
@@ -33,6 +33,7 @@ use Rattle.replica.proofs.RebuiltLemmas.{kept_are, table_is_told}
 use Rattle.replica.proofs.SameLemmas.{same_state}
 use Rattle.checkpoint.specs.Laws.{TextIsOne, FirstTextTellsRest, VersionsDiffer}
 use Rattle.checkpoint.specs.Parts.{heard_bytes, count_bytes}
+use Rattle.checkpoint.specs.Told.{IsOfPlan}
 use Rattle.checkpoint.proofs.TextLemmas.{mask_is, held_is, tallies_long, early_few}
 use Rattle.checkpoint.proofs.LengthLemmas.{range_long, accumulated_wide, accumulated_long, heard_long, count_long, front_long, vertex_long, table_long, batch_few}
 
@@ -80,7 +81,7 @@ same_mark false false e = refl
 same_mark true false e = absurd (omega (arith, e))
 same_mark false true e = absurd (omega (arith, e))
 
-same_flags : (xs ys : List Bool) → length xs ≡ length ys → number_of_flags xs ≡ number_of_flags ys → xs ≡ ys
+pub same_flags : (xs ys : List Bool) → length xs ≡ length ys → number_of_flags xs ≡ number_of_flags ys → xs ≡ ys
 unfolding number_of_flags
 same_flags [] [] long e = refl
 same_flags [] (y ∷ ys) long e = absurd (omega (arith, long))
@@ -91,7 +92,7 @@ same_flags (true ∷ xs) (false ∷ ys) long e = absurd (omega (arith, e))
 same_flags (false ∷ xs) (true ∷ ys) long e = absurd (omega (arith, e))
 
 -- ---- lists, one behind the other
-halves : {X : Type 0} (us vs xs ys : List X) → length us ≡ length vs → us ++ xs ≡ vs ++ ys → (us ≡ vs) × (xs ≡ ys)
+pub halves : {X : Type 0} (us vs xs ys : List X) → length us ≡ length vs → us ++ xs ≡ vs ++ ys → (us ≡ vs) × (xs ≡ ys)
 halves [] [] xs ys long e = (refl, e)
 halves [] (b ∷ vs) xs ys long e = absurd (omega (arith, long))
 halves (a ∷ us) [] xs ys long e = absurd (omega (arith, long))
@@ -126,7 +127,7 @@ same_rows w (x ∷ xs) (y ∷ ys) long fits also e =
     ap₂ (λ (n : List ℕ) (l : List (List ℕ)). n ∷ l) both.0 (same_rows w xs ys (omega (arith, long)) (λ i lt. fits (suc i) (omega (arith, lt))) (λ i lt. also (suc i) (omega (arith, lt))) both.1)
 
 -- ---- figures
-estimate_at : (v : State) → IsState v → (i : ℕ) → i < length v.part.preds → (get_or v.tallies i no_figures).last < 2 ^ 63
+pub estimate_at : (v : State) → IsState v → (i : ℕ) → i < length v.part.preds → (get_or v.tallies i no_figures).last < 2 ^ 63
 estimate_at v s i lt =
     let long = tallies_long v s in
     let row : IsCounterRow v.part.plan.log2m (get_or v.rows i []) = s.rows.row i (omega (arith, lt, s.count)) in
@@ -138,10 +139,10 @@ rising : (sums : List ℕ) (t n i : ℕ) → i + n ≡ t → ((k : ℕ) → k < 
 rising sums t zero i e h = let same : i ≡ t = omega (arith, e) in subst (λ (k : ℕ). get_or sums i 0 ≤ get_or sums k 0) same (omega arith)
 rising sums t (suc n) i e h = let one = h i (omega (arith, e)) in let rest = rising sums t n (i + 1) (omega (arith, e)) h in omega (arith, one, rest)
 
-few_vertices : (v : State) → IsState v → length v.part.preds ≤ most_vertices
+pub few_vertices : (v : State) → IsState v → length v.part.preds ≤ most_vertices
 few_vertices v s = omega (arith, s.part.preds, part_size_le v.part.plan.vertices v.part.plan.parts v.part.number, s.part.plan.vertices_to)
 
-sum_fits : (v : State) → IsState v → (i : ℕ) → get_or v.sums i 0 < 2 ^ 128
+pub sum_fits : (v : State) → IsState v → (i : ℕ) → get_or v.sums i 0 < 2 ^ 128
 sum_fits v s i =
     let few = few_vertices v s in
     let long = tallies_long v s in
@@ -215,10 +216,6 @@ same_step version v w s r e =
     same_4 v.superstep w.superstep (omega (arith, s.superstep, s.part.plan.limit_to)) (omega (arith, r.superstep, r.part.plan.limit_to)) (ap (λ (l : List ℕ). take 4 (drop 18 l)) e)
 
 -- ---- batches
-record OfPlan (plan : PlanValue) (b : BatchValue) : Type 0 where
-  batch : IsBatch b
-  plan_is : b.plan ≡ plan
-
 all_cons : {X : Type 0} (P : X → Type 0) (x : X) (xs : List X) → P x → All P xs → All P (x ∷ xs)
 all_cons P x xs p h zero d lt = p
 all_cons P x xs p h (suc k) d lt = h k d (omega (arith, lt))
@@ -229,22 +226,22 @@ slots_are P [] h = λ k d lt. absurd (omega (arith, lt))
 slots_are P (None ∷ rest) h = slots_are P rest (λ q. h (suc q))
 slots_are P (Some b ∷ rest) h = all_cons P b (batches_in rest) (h 0) (slots_are P rest (λ q. h (suc q)))
 
-early_are : (v : State) → IsState v → All (OfPlan v.part.plan) (kept_batches v.early)
+pub early_are : (v : State) → IsState v → All (IsOfPlan v.part.plan) (kept_batches v.early)
 early_are v s =
-    let level : (i : ℕ) → All (OfPlan v.part.plan) (batches_in (get_or v.early i [])) = λ i. slots_are (OfPlan v.part.plan) (get_or v.early i []) (λ q. IfSome_then (get_or (get_or v.early i []) q None) (s.early.kept i q) (λ b is. record { batch = is.batch; plan_is = is.plan_is })) in
-    subst (λ (l : List BatchValue). All (OfPlan v.part.plan) l) (sym (kept_are v.early ∙ three_levels v.early s.early.table.levels))
-    (All-append (OfPlan v.part.plan) (batches_in (get_or v.early 0 [])) _ (level 0) (All-append (OfPlan v.part.plan) (batches_in (get_or v.early 1 [])) _ (level 1) (level 2)))
+    let level : (i : ℕ) → All (IsOfPlan v.part.plan) (batches_in (get_or v.early i [])) = λ i. slots_are (IsOfPlan v.part.plan) (get_or v.early i []) (λ q. IfSome_then (get_or (get_or v.early i []) q None) (s.early.kept i q) (λ b is. record { batch = is.batch; plan_is = is.plan_is })) in
+    subst (λ (l : List BatchValue). All (IsOfPlan v.part.plan) l) (sym (kept_are v.early ∙ three_levels v.early s.early.table.levels))
+    (All-append (IsOfPlan v.part.plan) (batches_in (get_or v.early 0 [])) _ (level 0) (All-append (IsOfPlan v.part.plan) (batches_in (get_or v.early 1 [])) _ (level 1) (level 2)))
 
-agree : (p q : PlanValue) → q ≡ p → AgreesButJob p q
+pub agree : (p q : PlanValue) → q ≡ p → AgreesButJob p q
 agree p q e = e ∙ ap (λ (j : List ℕ). record p { job = j }) (sym (ap (λ (r : PlanValue). r.job) e))
 
-same_batches : (plan : PlanValue) (xs ys : List BatchValue) → length xs ≡ length ys → All (OfPlan plan) xs → All (OfPlan plan) ys → flat_map early_bytes xs ≡ flat_map early_bytes ys → xs ≡ ys
+same_batches : (plan : PlanValue) (xs ys : List BatchValue) → length xs ≡ length ys → All (IsOfPlan plan) xs → All (IsOfPlan plan) ys → flat_map early_bytes xs ≡ flat_map early_bytes ys → xs ≡ ys
 same_batches plan [] [] long p q e = refl
 same_batches plan [] (y ∷ ys) long p q e = absurd (omega (arith, long))
 same_batches plan (x ∷ xs) [] long p q e = absurd (omega (arith, long))
 same_batches plan (x ∷ xs) (y ∷ ys) long p q e =
-    let ok : OfPlan plan x = p 0 x (omega arith) in
-    let also : OfPlan plan y = q 0 y (omega arith) in
+    let ok : IsOfPlan plan x = p 0 x (omega arith) in
+    let also : IsOfPlan plan y = q 0 y (omega arith) in
     let one = halves (to_be_bytes w64 (length (batch_bytes x))) (to_be_bytes w64 (length (batch_bytes y))) (batch_bytes x ++ flat_map early_bytes xs) (batch_bytes y ++ flat_map early_bytes ys) refl e in
     let many = same_8 (length (batch_bytes x)) (length (batch_bytes y)) (omega (arith, batch_length x ok.batch, batch_few x ok.batch)) (omega (arith, batch_length y also.batch, batch_few y also.batch)) one.0 in
     let two = halves (batch_bytes x) (batch_bytes y) (flat_map early_bytes xs) (flat_map early_bytes ys) many one.1 in
@@ -270,7 +267,7 @@ number_fits (x ∷ xs) =
     flag_fits true n p r lt e = omega (arith, lt, e)
     flag_fits false n p r lt e = omega (arith, lt, e)
 
-mask_fits : (xs : List Bool) → length xs ≡ 64 → mask_of xs < 2 ^ 64
+pub mask_fits : (xs : List Bool) → length xs ≡ 64 → mask_of xs < 2 ^ 64
 mask_fits xs long = rw (sym (mask_is xs long)) (subst (λ (n : ℕ). number_of_flags xs < 2 ^ n) long (number_fits xs))
 
 same_heard : (v w : State) → length v.heard ≡ 64 → length w.heard ≡ 64 → heard_bytes v ≡ heard_bytes w → (v.heard ≡ w.heard) × (v.heard_change ≡ w.heard_change)
@@ -301,7 +298,7 @@ same_held v w s r part step e =
     let first = halves (heard_bytes v) (heard_bytes w) (acc v) (acc w) (heard_long v ∙ sym (heard_long w)) counts.0 in
     let heard = same_heard v w s.heard.count r.heard.count first.0 in
     let plans : w.part.plan ≡ v.part.plan = sym (ap (λ (p : PartValue). p.plan) part) in
-    let ours : All (OfPlan v.part.plan) (kept_batches w.early) = subst (λ (p : PlanValue). All (OfPlan p) (kept_batches w.early)) plans (early_are w r) in
+    let ours : All (IsOfPlan v.part.plan) (kept_batches w.early) = subst (λ (p : PlanValue). All (IsOfPlan p) (kept_batches w.early)) plans (early_are w r) in
     let batches = same_batches v.part.plan (kept_batches v.early) (kept_batches w.early) (same_count v w s r counts.1) (early_are v s) ours last.1 in
     let theirs : AreEarly v.part.plan v.part.number v.superstep w.early = rw (part, step) r.early in
     record {
@@ -312,7 +309,7 @@ same_held v w s r part step e =
     }
 
 -- ---- THE LAWS
-unsealed : (xs ys : List ℕ) → sealed xs ≡ sealed ys → xs ≡ ys
+pub unsealed : (xs ys : List ℕ) → sealed xs ≡ sealed ys → xs ≡ ys
 unsealed xs ys e = (halves xs ys (sha256 xs) (sha256 ys) (omega (arith, ap (λ (l : List ℕ). length l) e, length-append xs (sha256 xs), length-append ys (sha256 ys), length-sha256 xs, length-sha256 ys)) e).0
 
 pub text_is_one : TextIsOne

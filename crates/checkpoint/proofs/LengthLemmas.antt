@@ -69,7 +69,7 @@ pub accumulated_long : (v : State) → IsState v → length (flat_map (λ row. r
 accumulated_long v s =
     rows_long (2 ^ v.part.plan.log2m) v.accumulated (accumulated_wide v s) ∙ ap (λ (n : ℕ). n * 2 ^ v.part.plan.log2m) (s.accumulated.count ∙ s.count)
 
-held_long : (v : State) → IsState v → length (held_bytes v) ≡ 9 + length v.part.preds * 2 ^ v.part.plan.log2m + 2 + length (flat_map early_bytes (kept_batches v.early))
+pub held_long : (v : State) → IsState v → length (held_bytes v) ≡ 9 + length v.part.preds * 2 ^ v.part.plan.log2m + 2 + length (flat_map early_bytes (kept_batches v.early))
 held_long v s =
     let acc : List ℕ = flat_map (λ row. row) v.accumulated in
     let early : List ℕ = flat_map early_bytes (kept_batches v.early) in

@@ -8,3 +8,6 @@ pub mod HeldLemmas
 pub mod SavedLemmas
 pub mod SpelledLemmas
 pub mod FrontLemmas
+pub mod FormLemmas
+pub mod RightLemmas
+pub mod RefusalLemmas

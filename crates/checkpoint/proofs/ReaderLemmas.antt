@@ -25,7 +25,7 @@ use Rattle.batches.specs.Kept.{field}
 use Rattle.checkpoint.specs.declared.header.Header.{Header}
 use Rattle.checkpoint.specs.declared.error.KeepError.{KeepError}
 use Rattle.checkpoint.specs.declared.error.KeepError.TheVariants as errors
-use Rattle.checkpoint.specs.Reading.{◌>>=◌, Form, needs, followed, is_batch_length, greatest_batch, told_batch, batch_form, batches_form, told_batches, early_form, fixed_length, most_body, most_early, held_form, content_form, sealed_form, told_body, body_form, check_head, head_at, seal_form, Takes, Grows, Fails, Ends, Refuses, IsRead, IsOfBytes, IsOfBody}
+use Rattle.checkpoint.specs.Reading.{◌>>=◌, Form, needs, followed, is_batch_length, greatest_batch, told_batch, batch_form, batches_form, told_batches, early_form, fixed_length, most_body, most_early, held_form, content_form, sealed_form, told_body, body_form, check_head, head_at, seal_form, Takes, Grows, Fails, IsRead, IsOfBytes, IsOfBody}
 
 -- ---- calls that are sure
 after_then : (n m : ℕ) (a b c : Option ℕ) → AfterAtMost n a b → AfterAtMost m b c → AfterAtMost (n + m) a c
@@ -505,7 +505,7 @@ memory_fails {piece} form most p le = record {
 pub most-rises : (part : PartValue) (s t : ℕ) → s ≤ t → most_body part s ≤ most_body part t
 most-rises part s t le = omega (arith, le)
 
-seal-fine : (text bytes : List ℕ) → length (sha256 text) ≡ 32 → bytes ≡ sha256 text → seal_form text bytes ≡ Ok 32
+pub seal-fine : (text bytes : List ℕ) → length (sha256 text) ≡ 32 → bytes ≡ sha256 text → seal_form text bytes ≡ Ok 32
 unfolding seal_form
 seal-fine text bytes len is =
     let size : length bytes ≡ 32 = ap length is ∙ len in
@@ -540,22 +540,8 @@ pub front_kept : (n : ℕ) (whole front more : List ℕ) → whole ≡ front ++ 
 front_kept n whole front more grown len = ap (take n) grown ∙ take-append-le n front more (omega (arith, len)) ∙ take_all n front (omega (arith, len))
 
 -- a fault of the body is no failed read
-body_unread : (e : KeepError) → IsOfBody e → IsRead e → ⊥
+pub body_unread : (e : KeepError) → IsOfBody e → IsRead e → ⊥
 body_unread e of is = elim of [
   | inl memory ↦ subst IsRead memory is
   | inr shape ↦ subst IsRead shape is
 ]
-
--- what was read whole tells what no replica has, or finds no memory
-pub body_refuses : {R : Type 0} {remaining : R → Option (List ℕ)} {failed : R → ℕ} {form : Form} {most : ℕ} {a b : R} (sure : R → Option ℕ) (e : KeepError)
-    → Ends remaining failed form most a b → IsOfBody e → Refuses remaining failed sure form most a b e
-body_refuses sure e p of = record {
-  few = p.few;
-  rises = λ is. absurd (body_unread e of is);
-  counted = λ _. p.counted;
-  unsure = λ _ is. body_unread e of is;
-  due = λ bytes known told. elim of [
-    | inl memory ↦ absurd (subst IsOfBytes memory told)
-    | inr shape ↦ inr (shape, p.is_form bytes known)
-  ];
-}

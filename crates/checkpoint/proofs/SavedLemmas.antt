@@ -151,10 +151,10 @@ range_next f n =
 end_of : {X : Type 0} (xs : List X) (x d : X) (n : ℕ) → length xs ≡ n → get_or (xs ++ x ∷ []) n d ≡ x
 end_of xs x d n long = ap (λ (k : ℕ). get_or (xs ++ x ∷ []) k d) (sym long) ∙ get_or-append_seam xs x [] d
 
-more_tallies : (old new : Vertices) (tally : Tally) → new.tallies.items ≡ old.tallies.items ++ tally ∷ [] → map value_of new.tallies.items ≡ map value_of old.tallies.items ++ value_of tally ∷ []
+pub more_tallies : (old new : Vertices) (tally : Tally) → new.tallies.items ≡ old.tallies.items ++ tally ∷ [] → map value_of new.tallies.items ≡ map value_of old.tallies.items ++ value_of tally ∷ []
 more_tallies old new tally e = ap (λ (l : List Tally). map value_of l) e ∙ map-append value_of old.tallies.items (tally ∷ [])
 
-one_more : {X : Type 0} (xs ys : List X) (x : X) (n : ℕ) → ys ≡ xs ++ x ∷ [] → length xs ≡ n → length ys ≡ n + 1
+pub one_more : {X : Type 0} (xs ys : List X) (x : X) (n : ℕ) → ys ≡ xs ++ x ∷ [] → length xs ≡ n → length ys ≡ n + 1
 one_more xs ys x n e long = ap (λ l. length l) e ∙ length-append xs (x ∷ []) ∙ omega (arith, long)
 
 entry_of : (v : Vertices) (i : ℕ) (mark : Bool) (tally : TallyValue) (row : List ℕ) → get_or v.marks.items i false ≡ mark → get_or (map value_of v.tallies.items) i no_figures ≡ tally → get_or v.rows.rows i [] ≡ row → entry_bytes mark tally row ≡ entry_at v i

@@ -1,12 +1,11 @@
 -- What was read is the spelling of the replica that is made of it.
-use Rattle.std.proofs.Common.{◌≡◌, ℕ, ◌+◌, ◌<◌, ◌≤◌, List, [], ◌∷◌, ◌++◌, map, length, get_or, take, drop, refl, ap, ap₂, sym, ◌∙◌, subst, arith, append_assoc}
-use Rattle.std.specs.Prelude.{Result, Ok, Some, false, slice_index_or}
+use Rattle.std.proofs.Common.{◌≡◌, ℕ, ◌≤◌, List, [], ◌∷◌, ◌++◌, map, length, get_or, take, drop, refl, ap, ap₂, sym, ◌∙◌, arith, append_assoc}
+use Rattle.std.specs.Prelude.{false, slice_index_or}
 use Rattle.std.specs.List.{flat_map, range_with_len}
 use Rattle.std.specs.Arc.{arc_value}
 use Rattle.std.specs.Int.{w16, w64, w128, to_be_bytes}
-use Rattle.std.proofs.lemmas.List.{take-append-drop, take-take, length-take, get_or-take, get_or_append_left, take_all}
+use Rattle.std.proofs.lemmas.List.{take-append-drop, get_or-take, get_or_append_left}
 use Rattle.sha2.specs.Sha256.{sha256}
-use Rattle.ball_model.specs.Batches.{BatchValue}
 use Rattle.ball_model.specs.Checkpoint.{checkpoint_bytes, early_bytes, entry_bytes, front_bytes, held_bytes, kept_batches, mark_byte, no_figures, sealed, table_bytes, vertex_bytes}
 use Rattle.ball_model.specs.Job.{PartValue}
 use Rattle.ball_model.specs.State.{State}
@@ -15,8 +14,7 @@ use Rattle.registers.specs.Flags.{number_of_flags}
 use Rattle.replica.specs.Saved.{IsRebuilt}
 use Rattle.replica.specs.Seen.{IsState}
 use Rattle.replica.specs.declared.saved.Saved.{Saved}
-use Rattle.checkpoint.specs.declared.error.KeepError.{KeepError}
-use Rattle.checkpoint.specs.Reading.{check_head, head_at}
+use Rattle.checkpoint.specs.Reading.{head_at}
 use Rattle.checkpoint.specs.Spelling.{held_text, table_text}
 use Rattle.checkpoint.proofs.TextLemmas.{mask_is}
 

@@ -100,7 +100,7 @@ nth_none v k e =
     sym (ap (λ (o : Option BatchValue). flat_map early_bytes (option_to_list o)) (ap (λ (l : List BatchValue). slice_get l k) (kept_are v.early) ∙ sym e))
 
 -- ---- how many batches there can be
-slots_few : (slots : List (Option BatchValue)) → length (batches_in slots) ≤ length slots
+pub slots_few : (slots : List (Option BatchValue)) → length (batches_in slots) ≤ length slots
 unfolding batches_in
 slots_few [] = omega arith
 slots_few (None ∷ rest) = omega (arith, slots_few rest)

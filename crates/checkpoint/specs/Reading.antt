@@ -1,13 +1,16 @@
 -- Reading a checkpoint: what its bytes have to be, part by part, and the first refusal.
-use Rattle.std.specs.Prelude.{◌≡◌, ℕ, zero, suc, ◌+◌, ◌-◌, ◌*◌, ◌/◌, ◌%◌, ◌^◌, ◌≤◌, ◌==◌, ◌&&◌, Bool, not, if◌then◌else◌, nat_lt, nat_le, List, ◌++◌, length, take, drop, slice_index, Option, Some, Result, Ok, Err, IsOk, ◌⊎◌, ⊤}
+use Rattle.std.specs.Prelude.{◌≡◌, ◌≢◌, ℕ, zero, suc, ◌+◌, ◌-◌, ◌*◌, ◌/◌, ◌%◌, ◌^◌, ◌≤◌, ◌==◌, ◌&&◌, Bool, not, if◌then◌else◌, nat_lt, nat_le, List, ◌++◌, length, take, drop, slice_index, Option, Some, Result, Ok, Err, IsOk, ◌⊎◌, ⊤}
 use Rattle.std.specs.Int.{w16, w32, w64, from_be_bytes}
 use Rattle.std.specs.Io.KnownBytes.{Consumes, IsAtEnd}
 use Rattle.std.specs.Str.{bytes_eq}
 use Rattle.sha2.specs.Sha256.{sha256}
+use Rattle.ball_model.specs.Checkpoint.{checkpoint_bytes, first_checkpoint_bytes}
 use Rattle.ball_model.specs.Job.{PartValue}
 use Rattle.ball_model.specs.PlanValue.{PlanValue, part_size}
+use Rattle.ball_model.specs.State.{State}
 use Rattle.ball_model.specs.Streams.{AfterAtMost, AreSure, Rises, TakesAtMost}
 use Rattle.batches.specs.Kept.{field}
+use Rattle.replica.specs.Saved.{IsKeepable}
 use Rattle.checkpoint.specs.declared.error.KeepError.{KeepError}
 use Rattle.checkpoint.specs.declared.error.KeepError.TheVariants as errors
 use Rattle.checkpoint.specs.declared.header.Header.{Header}
@@ -194,13 +197,24 @@ pub record Ends {R : Type 0} (remaining : R → Option (List ℕ)) (failed : R �
   pub counted : failed new ≡ failed old
   pub is_form : (bytes : List ℕ) → remaining old ≡ Some bytes → IsOk (form bytes)
 
--- a call failed that was not sure, memory was refused, the form refuses the bytes, or they are of the form and tell what
--- no replica has
+-- the bytes are the spelling of no replica of the part, in neither version
+pub record TellNone (part : PartValue) (bytes : List ℕ) : Type 0 where
+  pub second : (v : State) → IsKeepable v → v.part ≡ part → bytes ≢ checkpoint_bytes v
+  pub first : (v : State) → IsKeepable v → v.part ≡ part → bytes ≢ first_checkpoint_bytes v
+
+-- a call failed that was not sure, memory was refused, the form of the part refuses the bytes, or they are of the form and
+-- tell what no replica has
 pub record Refuses {R : Type 0} (remaining : R → Option (List ℕ)) (failed : R → ℕ)
-    (sure : R → Option ℕ) (form : Form) (most : ℕ) (old new : R) (e : KeepError) : Type 0 where
+    (sure : R → Option ℕ) (part : PartValue) (most : ℕ) (old new : R) (e : KeepError) : Type 0 where
   pub few : TakesAtMost most (remaining old) (remaining new)
   pub rises : IsRead e → Rises (failed old) (failed new)
   pub counted : (IsRead e → ⊥) → failed new ≡ failed old
   pub unsure : AreSure (sure old) most → IsRead e → ⊥
   pub due : (bytes : List ℕ) → remaining old ≡ Some bytes → IsOfBytes e →
-      (form bytes ≡ Err e) ⊎ ((e ≡ errors.Shape) × IsOk (form bytes))
+      (sealed_form part bytes ≡ Err e)
+      ⊎ ((e ≡ errors.Shape) × IsOk (sealed_form part bytes) × TellNone part bytes)
+
+-- it is Ok and has this, but where memory was refused or a read failed
+abbrev pub IfOkButWant : {A : Type 0} → Result A KeepError → (A → Type 0) → Type 0
+IfOkButWant (Ok x) has = has x
+IfOkButWant (Err e) has = (e ≡ errors.Memory) ⊎ (e ≡ errors.Read)

@@ -1,10 +1,19 @@
--- What the bytes of a checkpoint tell of vertices, one after the other.
-use Rattle.std.specs.Prelude.{◌≡◌, ℕ, ◌≤◌, ◌<◌, Bool, false, List, [], ◌∷◌, ◌++◌, map, length, replicate, slice_index_or, slice_set}
+-- What the bytes of a checkpoint tell of vertices, one after the other, and of the batches that are held.
+use Rattle.std.specs.Prelude.{◌≡◌, ℕ, ◌^◌, ◌≤◌, ◌<◌, Bool, false, List, [], ◌∷◌, ◌++◌, map, length, replicate, slice_index_or, slice_set, Result, Ok, Err}
+use Rattle.std.specs.Arc.{arc_value}
 use Rattle.std.specs.List.{flat_map, range_with_len}
-use Rattle.ball_model.specs.Checkpoint.{entry_bytes, no_figures}
+use Rattle.ball_model.specs.Batches.{BatchValue, IsBatch}
+use Rattle.ball_model.specs.Checkpoint.{entry_bytes, kept_batches, no_figures}
+use Rattle.ball_model.specs.Figures.{TallyValue}
+use Rattle.ball_model.specs.PlanValue.{PlanValue}
+use Rattle.ball_model.specs.State.{State}
 use Rattle.ball_model.specs.Table.{Table}
 use Rattle.figures.specs.Values.{value_of}
 use Rattle.figures.specs.declared.tally.Tally.{Tally}
+use Rattle.replica.specs.Saved.{IsFigures}
+use Rattle.checkpoint.specs.declared.error.KeepError.{KeepError}
+use Rattle.checkpoint.specs.declared.error.KeepError.TheVariants as errors
+use Rattle.checkpoint.specs.declared.saved.Held.{Held}
 use Rattle.checkpoint.specs.declared.saved.Vertices.{Vertices}
 
 -- the spelling of vertex i
@@ -39,3 +48,46 @@ pub record IsAdded (old new : Vertices) (i : ℕ) (bytes rest : List ℕ) : Type
   pub tallies : new.tallies.items ≡ old.tallies.items ++ tally ∷ []
   pub rows : new.rows.rows ≡ slice_set old.rows.rows i row
   pub text : bytes ≡ entry_bytes mark (value_of tally) row ++ rest
+
+-- ---- what bytes that are a spelling tell
+-- it is Ok and has this, but where memory was refused
+abbrev pub IfOkButMemory : {A : Type 0} → Result A KeepError → (A → Type 0) → Type 0
+IfOkButMemory (Ok x) has = has x
+IfOkButMemory (Err e) has = e ≡ errors.Memory
+
+-- figures that a run can have, of an estimate that has eight bytes
+pub record IsSmall (t : TallyValue) : Type 0 where
+  pub last : t.last < 2 ^ 64
+  pub figures : IsFigures t
+
+-- vertex i is added, with its mark, its figures and its registers
+pub record AreNext (old new : Vertices) (i : ℕ) (mark : Bool) (tally : TallyValue)
+    (row : List ℕ) : Type 0 where
+  pub marks : new.marks.items ≡ old.marks.items ++ mark ∷ []
+  pub tallies : map value_of new.tallies.items ≡ map value_of old.tallies.items ++ tally ∷ []
+  pub rows : new.rows.rows ≡ slice_set old.rows.rows i row
+
+-- the vertices are those of the replica
+pub record AreOf (v : State) (vertices : Vertices) : Type 0 where
+  pub marks : vertices.marks.items ≡ v.marks
+  pub tallies : map value_of vertices.tallies.items ≡ v.tallies
+  pub rows : vertices.rows.rows ≡ v.rows
+
+-- a batch of the plan
+pub record IsOfPlan (plan : PlanValue) (b : BatchValue) : Type 0 where
+  pub batch : IsBatch b
+  pub plan_is : b.plan ≡ plan
+
+-- what is held is what the replica holds
+pub record IsHeldOf (v : State) (h : Held) : Type 0 where
+  pub heard : h.heard ≡ v.heard
+  pub change : h.heard_change ≡ v.heard_change
+  pub accumulated : h.accumulated.rows ≡ v.accumulated
+  pub early : map arc_value h.early.items ≡ kept_batches v.early
+
+-- nothing is heard, the accumulators are the rows, and nothing is kept
+pub record IsUnnamed (rows : Table) (h : Held) : Type 0 where
+  pub heard : h.heard ≡ replicate 64 false
+  pub change : h.heard_change ≡ false
+  pub accumulated : h.accumulated ≡ rows
+  pub early : h.early.items ≡ []

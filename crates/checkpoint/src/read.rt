@@ -2,12 +2,12 @@
 
 ghost use Rattle.std.specs.Prelude.{◌≡◌, ◌+◌, ◌≤◌, ℕ, List, [], Ok, Some, IfOk, OnOk, IfErr, length, take, slice_index_or};
 ghost use Rattle.std.specs.Arc.{arc_value};
-ghost use Rattle.ball_model.specs.Checkpoint.{checkpoint_bytes, sealed};
+ghost use Rattle.ball_model.specs.Checkpoint.{checkpoint_bytes, first_checkpoint_bytes, sealed, without_names};
 ghost use Rattle.ball_model.specs.State.{State};
 ghost use Rattle.ball_model.specs.Streams.{AreSure, TakesAtMost};
 ghost use Rattle.replica.specs.Saved.{Fits, IsKeepable, IsRebuilt};
 ghost use Rattle.replica.specs.Seen.{IsState};
-ghost use Rattle.checkpoint.specs.Reading.{needs, head_at, check_head, content_form, sealed_form, most_body, most_bytes, Ends, Grows, Fails, Refuses, IsRead, IsOfBytes};
+ghost use Rattle.checkpoint.specs.Reading.{needs, head_at, check_head, content_form, sealed_form, most_body, most_bytes, Ends, Grows, Fails, Refuses, IsRead, IfOkButWant};
 
 use crate::error::KeepError;
 use crate::header::{HEADER_LEN, Header, check_header, read_header};
@@ -109,8 +109,11 @@ fn read_saved<R: CountedRead>(
     ensures spelled { IfOk result (λ s. (v : State) → IsRebuilt part.now s v → IsState v →
         (bytes : List ℕ) → R.remaining reader.old ≡ Some bytes → slice_index_or bytes 4 0 ≡ 2 →
         bytes ≡ checkpoint_bytes v) }
+    ensures first { IfOk result (λ s. (v : State) → IsKeepable v → v.part ≡ part.now →
+        R.remaining reader.old ≡ Some (first_checkpoint_bytes v) →
+        IsRebuilt part.now s (without_names v)) }
     ensures refused { IfErr result (λ e. Refuses R.remaining R.failed_calls R.sure_calls
-        (sealed_form part.now) (most_bytes part.now part.now.plan.limit + 1)
+        part.now (most_bytes part.now part.now.plan.limit + 1)
         reader.old reader.new e) }
 {
     let mut text = Vec::new(alloc);
@@ -146,8 +149,13 @@ pub fn read_checkpoint<R: CountedRead>(
     // What is read of version 2 is the spelling of the replica; so what was written is read.
     ensures read { IfOk result (λ r. (bytes : List ℕ) → R.remaining reader.old ≡ Some bytes →
         slice_index_or bytes 4 0 ≡ 2 → bytes ≡ checkpoint_bytes r) }
+    // What was written of a replica of the part is read as that replica, but where memory is refused or a read fails; what
+    // version 1 wrote, as the replica without what it held.
     ensures back { (v : State) → IsKeepable v → v.part ≡ arc_value part →
-        R.remaining reader.old ≡ Some (checkpoint_bytes v) → IfOk result (λ r. r ≡ v) }
+        R.remaining reader.old ≡ Some (checkpoint_bytes v) → IfOkButWant result (λ r. r ≡ v) }
+    ensures first { (v : State) → IsKeepable v → v.part ≡ arc_value part →
+        R.remaining reader.old ≡ Some (first_checkpoint_bytes v) →
+        IfOkButWant result (λ r. r ≡ without_names v) }
     ensures keepable { IfOk result IsKeepable }
     // A read failed exactly where that is told, and none of sure calls does.
     ensures counted { OnOk result (R.failed_calls reader.new ≡ R.failed_calls reader.old) }
@@ -158,7 +166,7 @@ pub fn read_checkpoint<R: CountedRead>(
         IfErr result (λ e. IsRead e → ⊥) }
     // Which refusal it is, and what was read.
     ensures refused { IfErr result (λ e. Refuses R.remaining R.failed_calls R.sure_calls
-        (sealed_form (arc_value part)) (most_bytes (arc_value part) (arc_value part).plan.limit + 1)
+        (arc_value part) (most_bytes (arc_value part) (arc_value part).plan.limit + 1)
         reader.old reader.new e) }
 {
     let saved = read_saved(alloc, &part, reader)?;

@@ -1,8 +1,14 @@
 //! What the bytes of a checkpoint tell of a replica.
 
-ghost use Rattle.std.specs.Prelude.{◌≡◌, ◌+◌, ◌*◌, ◌^◌, ◌≤◌, ◌<◌, ◌++◌, ◌∷◌, [], ℕ, length, map, drop, replicate, slice_index_or, IfOk, OnOk, IsOk, IfErr};
-ghost use Rattle.std.specs.List.{All, flat_map};
-ghost use Rattle.ball_model.specs.Checkpoint.{early_bytes, mark_byte, entry_bytes};
+ghost use Rattle.std.specs.Prelude.{◌≡◌, ◌+◌, ◌*◌, ◌^◌, ◌≤◌, ◌<◌, ◌++◌, ◌∷◌, [], ℕ, Bool, List, length, map, drop, replicate, slice_index_or, Ok, Err, IfOk, OnOk, IsOk, IfErr};
+ghost use Rattle.std.specs.List.{All, flat_map, range_with_len};
+ghost use Rattle.ball_model.specs.Batches.{BatchValue, batch_bytes};
+ghost use Rattle.batches.specs.Reading.{GivesOrMemory};
+ghost use Rattle.ball_model.specs.Checkpoint.{early_bytes, mark_byte, entry_bytes, vertex_bytes, table_bytes, held_bytes, without_names};
+ghost use Rattle.ball_model.specs.Figures.{TallyValue};
+ghost use Rattle.ball_model.specs.State.{State};
+ghost use Rattle.replica.specs.Saved.{IsKeepable, IsRebuilt};
+ghost use Rattle.replica.specs.Seen.{IsState};
 ghost use Rattle.std.specs.Int.{w16, w64, w128, to_be_bytes};
 ghost use Rattle.std.specs.Arc.{arc_value};
 ghost use Rattle.figures.specs.Values.{value_of};
@@ -10,7 +16,7 @@ ghost use Rattle.batches.specs.Kept.{field};
 ghost use Rattle.checkpoint.specs.Reading.{IsOfBody};
 ghost use Rattle.checkpoint.specs.declared.header.TheConstants.{HEADER_LEN};
 ghost use Rattle.checkpoint.specs.Spelling.{held_text, table_text};
-ghost use Rattle.checkpoint.specs.Told.{IsAdded, AreNone, AreTold};
+ghost use Rattle.checkpoint.specs.Told.{IsAdded, AreNone, AreTold, IsSmall, IfOkButMemory, AreNext, AreOf, IsOfPlan, IsHeldOf, IsUnnamed};
 
 use crate::error::KeepError;
 use crate::header::{HEADER_LEN, Header, u16_at};
@@ -66,6 +72,8 @@ fn u128_at(bytes: &[u8], at: usize) -> u128
 // The number of eight bytes, and the bytes after it.
 fn read_u64(bytes: &[u8]) -> Result<(u64, &[u8]), KeepError>
     ensures spelled { IfOk result (λ r. bytes.now ≡ to_be_bytes w64 r.0 ++ r.1.now) }
+    ensures right { (n : ℕ) (rest : List ℕ) → n < 2 ^ 64 → bytes.now ≡ to_be_bytes w64 n ++ rest →
+        IfOkButMemory result (λ r. (r.0 ≡ n) × (r.1.now ≡ rest)) }
     ensures kind { IfErr result IsOfBody }
 {
     let (number, rest) = cut(bytes, 8)?;
@@ -75,6 +83,9 @@ fn read_u64(bytes: &[u8]) -> Result<(u64, &[u8]), KeepError>
 // The number of sixteen bytes, and the bytes after it.
 fn read_u128(bytes: &[u8]) -> Result<(u128, &[u8]), KeepError>
     ensures spelled { IfOk result (λ r. bytes.now ≡ to_be_bytes w128 r.0 ++ r.1.now) }
+    ensures right { (n : ℕ) (rest : List ℕ) → n < 2 ^ 128 →
+        bytes.now ≡ to_be_bytes w128 n ++ rest →
+        IfOkButMemory result (λ r. (r.0 ≡ n) × (r.1.now ≡ rest)) }
     ensures kind { IfErr result IsOfBody }
 {
     let (number, rest) = cut(bytes, 16)?;
@@ -99,6 +110,8 @@ fn shared(alloc: Global, batch: Batch) -> Result<Arc<Batch>, AllocError>
 // A mark of one byte.
 fn mark_of(byte: u8) -> Result<bool, KeepError>
     ensures spelled { IfOk result (λ mark. byte ≡ mark_byte mark) }
+    ensures right { (mark : Bool) → byte ≡ mark_byte mark →
+        IfOkButMemory result (λ r. r ≡ mark) }
     ensures kind { IfErr result IsOfBody }
 {
     match byte {
@@ -111,6 +124,8 @@ fn mark_of(byte: u8) -> Result<bool, KeepError>
 // The mark of the first byte, and the bytes after it.
 fn read_mark(bytes: &[u8]) -> Result<(bool, &[u8]), KeepError>
     ensures spelled { IfOk result (λ r. bytes.now ≡ mark_byte r.0 ∷ r.1.now) }
+    ensures right { (mark : Bool) (rest : List ℕ) → bytes.now ≡ mark_byte mark ∷ rest →
+        IfOkButMemory result (λ r. (r.0 ≡ mark) × (r.1.now ≡ rest)) }
     ensures kind { IfErr result IsOfBody }
 {
     let (first, rest) = cut(bytes, 1)?;
@@ -121,6 +136,9 @@ fn read_mark(bytes: &[u8]) -> Result<(bool, &[u8]), KeepError>
 fn figures_of(bytes: &[u8]) -> Result<((bool, Tally), &[u8]), KeepError>
     ensures spelled { IfOk result (λ r. bytes.now
         ≡ entry_bytes r.0.0 (value_of r.0.1) r.1.now) }
+    ensures right { (mark : Bool) (tally : TallyValue) (rest : List ℕ) → IsSmall tally →
+        bytes.now ≡ entry_bytes mark tally rest →
+        IfOkButMemory result (λ r. (r.0.0 ≡ mark) × (value_of r.0.1 ≡ tally) × (r.1.now ≡ rest)) }
     ensures kind { IfErr result IsOfBody }
 {
     let (mark, rest) = read_mark(bytes)?;
@@ -140,6 +158,10 @@ fn add_vertex<'a>(vertices: &mut Vertices, i: usize, bytes: &'a [u8]) -> Result<
         ≡ replicate vertices.old.rows.width 0 }
     ensures added { IfOk result (λ rest.
         IsAdded vertices.old vertices.new i bytes.now rest.now) }
+    ensures right { (mark : Bool) (tally : TallyValue) (row rest : List ℕ) → IsSmall tally →
+        length row ≡ vertices.old.rows.width → bytes.now ≡ entry_bytes mark tally row ++ rest →
+        IfOkButMemory result (λ r. AreNext vertices.old vertices.new i mark tally row
+        × (r.now ≡ rest)) }
     ensures width { vertices.new.rows.width ≡ vertices.old.rows.width }
     ensures count { length vertices.new.rows.rows ≡ length vertices.old.rows.rows }
     ensures kind { IfErr result IsOfBody }
@@ -157,6 +179,11 @@ fn add_vertices<'a>(vertices: &mut Vertices, bytes: &'a [u8]) -> Result<&'a [u8]
     requires { AreNone vertices.old }
     ensures told { IfOk result (λ rest.
         AreTold (length vertices.new.rows.rows) vertices.new bytes.now rest.now) }
+    ensures right { (v : State) (rest : List ℕ) → IsKeepable v →
+        length v.part.preds ≡ length vertices.old.rows.rows →
+        2 ^ v.part.plan.log2m ≡ vertices.old.rows.width →
+        bytes.now ≡ flat_map (vertex_bytes v) (range_with_len 0 (length v.part.preds)) ++ rest →
+        IfOkButMemory result (λ r. AreOf v vertices.new × (r.now ≡ rest)) }
     ensures width { vertices.new.rows.width ≡ vertices.old.rows.width }
     ensures count { length vertices.new.rows.rows ≡ length vertices.old.rows.rows }
     ensures kind { IfErr result IsOfBody }
@@ -173,7 +200,7 @@ fn no_vertices(alloc: Global, part: &Part) -> Result<Vertices, KeepError>
     ensures none { IfOk result AreNone }
     ensures width { IfOk result (λ v. v.rows.width ≡ 2 ^ part.now.plan.log2m) }
     ensures count { IfOk result (λ v. length v.rows.rows ≡ length part.now.preds) }
-    ensures kind { IfErr result IsOfBody }
+    ensures kind { IfErr result (λ e. e ≡ KeepError.Memory) }
 {
     let size = part.size();
     Ok(Vertices {
@@ -188,6 +215,9 @@ fn read_sums(alloc: Global, superstep: u32, bytes: &[u8]) -> Result<(Vec<u128>, 
     requires { superstep ≤ 4096 }
     ensures spelled { IfOk result (λ r. bytes.now
         ≡ flat_map (to_be_bytes w128) r.0.items ++ r.1.now) }
+    ensures right { (sums rest : List ℕ) → ((i : ℕ) → slice_index_or sums i 0 < 2 ^ 128) →
+        length sums ≡ superstep + 1 → bytes.now ≡ flat_map (to_be_bytes w128) sums ++ rest →
+        IfOkButMemory result (λ r. (r.0.items ≡ sums) × (r.1.now ≡ rest)) }
     ensures count { IfOk result (λ r. length r.0.items ≡ superstep + 1) }
     ensures kind { IfErr result IsOfBody }
 {
@@ -207,6 +237,11 @@ fn put_rows<'a>(rows: &mut Rows, bytes: &'a [u8]) -> Result<&'a [u8], KeepError>
     requires { All (λ row. row ≡ replicate rows.old.width 0) rows.old.rows }
     ensures spelled { IfOk result (λ rest.
         bytes.now ≡ flat_map (λ row. row) rows.new.rows ++ rest.now) }
+    ensures right { (wanted : List (List ℕ)) (rest : List ℕ) →
+        length wanted ≡ length rows.old.rows →
+        ((i : ℕ) → i < length wanted → length (slice_index_or wanted i []) ≡ rows.old.width) →
+        bytes.now ≡ flat_map (λ row. row) wanted ++ rest →
+        IfOkButMemory result (λ r. (rows.new.rows ≡ wanted) × (r.now ≡ rest)) }
     ensures width { rows.new.width ≡ rows.old.width }
     ensures count { length rows.new.rows ≡ length rows.old.rows }
     ensures kind { IfErr result IsOfBody }
@@ -220,6 +255,30 @@ fn put_rows<'a>(rows: &mut Rows, bytes: &'a [u8]) -> Result<&'a [u8], KeepError>
     Ok(rest)
 }
 
+// Why a batch is refused, as a checkpoint's reader tells it.
+fn refusal(e: BatchError) -> KeepError
+    ensures memory { (b : BatchValue) → GivesOrMemory (Err e) (Ok b) → result ≡ KeepError.Memory }
+    ensures kind { IsOfBody result }
+{
+    match e {
+        BatchError::Memory => KeepError::Memory,
+        _ => KeepError::Shape,
+    }
+}
+
+// A batch of the job.
+fn decode(alloc: Global, part: &Part, bytes: &[u8]) -> Result<Batch, KeepError>
+    ensures spelled { IfOk result (λ b. bytes.now ≡ batch_bytes b) }
+    ensures right { (b : BatchValue) → IsOfPlan part.now.plan b → bytes.now ≡ batch_bytes b →
+        IfOkButMemory result (λ r. r ≡ b) }
+    ensures kind { IfErr result IsOfBody }
+{
+    match Batch::decode(alloc, part.plan(), bytes) {
+        Ok(batch) => Ok(batch),
+        Err(e) => Err(refusal(e)),
+    }
+}
+
 // A batch of the job, and the bytes after it.
 fn read_batch<'a>(
     alloc: Global,
@@ -228,15 +287,15 @@ fn read_batch<'a>(
 ) -> Result<(Arc<Batch>, &'a [u8]), KeepError>
     ensures spelled { IfOk result (λ r.
         bytes.now ≡ early_bytes (arc_value r.0) ++ r.1.now) }
+    ensures right { (b : BatchValue) (rest : List ℕ) → IsOfPlan part.now.plan b →
+        bytes.now ≡ early_bytes b ++ rest →
+        IfOkButMemory result (λ r. (arc_value r.0 ≡ b) × (r.1.now ≡ rest)) }
     ensures kind { IfErr result IsOfBody }
 {
     let (length, after) = cut(bytes, 8)?;
     let (spelling, rest) = cut(after, u64_at(length, 0) as usize)?;
-    match Batch::decode(alloc, part.plan(), spelling) {
-        Ok(batch) => Ok((shared(alloc, batch)?, rest)),
-        Err(BatchError::Memory) => Err(KeepError::Memory),
-        Err(_) => Err(KeepError::Shape),
-    }
+    let batch = decode(alloc, part, spelling)?;
+    Ok((shared(alloc, batch)?, rest))
 }
 
 // Adds so many batches, and answers the bytes after them.
@@ -250,6 +309,9 @@ fn add_batches<'a>(
     requires { early.old.items ≡ [] }
     ensures spelled { IfOk result (λ rest.
         bytes.now ≡ flat_map early_bytes (map arc_value early.new.items) ++ rest.now) }
+    ensures right { (batches : List BatchValue) → All (IsOfPlan part.now.plan) batches →
+        length batches ≡ count → bytes.now ≡ flat_map early_bytes batches →
+        IfOkButMemory result (λ r. (map arc_value early.new.items ≡ batches) × (r.now ≡ [])) }
     ensures count { OnOk result (length early.new.items ≡ count) }
     ensures kind { IfErr result IsOfBody }
 {
@@ -266,6 +328,10 @@ fn add_batches<'a>(
 fn read_early(alloc: Global, part: &Part, bytes: &[u8]) -> Result<Vec<Arc<Batch>>, KeepError>
     ensures spelled { IfOk result (λ early. bytes.now ≡ to_be_bytes w16 (length early.items)
         ++ flat_map early_bytes (map arc_value early.items)) }
+    ensures right { (batches : List BatchValue) → All (IsOfPlan part.now.plan) batches →
+        length batches < 2 ^ 16 →
+        bytes.now ≡ to_be_bytes w16 (length batches) ++ flat_map early_bytes batches →
+        IfOkButMemory result (λ early. map arc_value early.items ≡ batches) }
     ensures kind { IfErr result IsOfBody }
 {
     let (number, after) = cut(bytes, 2)?;
@@ -290,6 +356,9 @@ fn no_rows(alloc: Global, part: &Part) -> Result<Rows, AllocError>
 fn read_held(alloc: Global, part: &Part, bytes: &[u8]) -> Result<Held, KeepError>
     ensures spelled { IfOk result (λ h. bytes.now ≡ held_text h.heard h.heard_change
         h.accumulated.rows (map arc_value h.early.items)) }
+    ensures right { (v : State) → IsState v → v.part ≡ part.now → bytes.now ≡ held_bytes v →
+        IfOkButMemory result (IsHeldOf v) }
+    ensures width { IfOk result (λ h. h.accumulated.width ≡ 2 ^ part.now.plan.log2m) }
     ensures kind { IfErr result IsOfBody }
 {
     let (fields, after) = cut(bytes, 9)?;
@@ -308,7 +377,8 @@ fn read_held(alloc: Global, part: &Part, bytes: &[u8]) -> Result<Held, KeepError
 fn nothing_held(alloc: Global, part: &Part, rows: &Rows) -> Result<Held, KeepError>
     requires width { rows.now.width ≡ 2 ^ part.now.plan.log2m }
     requires count { length rows.now.rows ≡ length part.now.preds }
-    ensures kind { IfErr result IsOfBody }
+    ensures unnamed { IfOk result (IsUnnamed rows.now) }
+    ensures kind { IfErr result (λ e. e ≡ KeepError.Memory) }
 {
     let mut accumulated = no_rows(alloc, part)?;
     accumulated.copy_from(rows);
@@ -330,6 +400,9 @@ fn read_table<'a>(
     requires { superstep ≤ 4096 }
     ensures spelled { IfOk result (λ r. bytes.now ≡ table_text r.0.marks.items
         (map value_of r.0.tallies.items) r.0.rows.rows r.1.items ++ r.2.now) }
+    ensures right { (v : State) (rest : List ℕ) → IsKeepable v → v.part ≡ part.now →
+        v.superstep ≡ superstep → bytes.now ≡ table_bytes v ++ rest →
+        IfOkButMemory result (λ r. AreOf v r.0 × (r.1.items ≡ v.sums) × (r.2.now ≡ rest)) }
     ensures width { IfOk result (λ r. r.0.rows.width ≡ 2 ^ part.now.plan.log2m) }
     ensures count { IfOk result (λ r. length r.0.rows.rows ≡ length part.now.preds) }
     ensures kind { IfErr result IsOfBody }
@@ -352,13 +425,22 @@ fn held_of(
     requires count { length rows.now.rows ≡ length part.now.preds }
     ensures spelled { version ≡ 2 → IfOk result (λ h. bytes.now ≡ held_text h.heard
         h.heard_change h.accumulated.rows (map arc_value h.early.items)) }
+    ensures right { version ≡ 2 → (v : State) → IsState v → v.part ≡ part.now →
+        bytes.now ≡ held_bytes v → IfOkButMemory result (IsHeldOf v) }
+    ensures first { version ≡ 1 → (v : State) → rows.now.rows ≡ v.rows →
+        bytes.now ≡ [] → IfOkButMemory result (IsHeldOf (without_names v)) }
+    ensures none { version ≡ 1 → OnOk result (bytes.now ≡ []) }
+    ensures unnamed { version ≡ 1 → IfOk result (IsUnnamed rows.now) }
+    ensures width { IfOk result (λ h. h.accumulated.width ≡ 2 ^ part.now.plan.log2m) }
     ensures kind { IfErr result IsOfBody }
 {
-    if version == 1 {
-        nothing_held(alloc, part, rows)
-    } else {
-        read_held(alloc, part, bytes)
+    if version != 1 {
+        return read_held(alloc, part, bytes);
     }
+    if !bytes.is_empty() {
+        return Err(KeepError::Shape);
+    }
+    nothing_held(alloc, part, rows)
 }
 
 /// What the bytes up to the digest tell of a replica of the part.
@@ -374,6 +456,15 @@ pub(crate) fn saved_of(
     ensures spelled { header.now.version ≡ 2 → IfOk result (λ s. drop HEADER_LEN text.now ≡
         table_text s.marks.items (map value_of s.tallies.items) s.rows.rows s.sums.items
         ++ held_text s.heard s.heard_change s.accumulated.rows (map arc_value s.early.items)) }
+    ensures right { header.now.version ≡ 2 → (v : State) → IsKeepable v → v.part ≡ part.now →
+        v.superstep ≡ header.now.superstep →
+        drop HEADER_LEN text.now ≡ table_bytes v ++ held_bytes v →
+        IfOkButMemory result (λ s. IsRebuilt part.now s v) }
+    ensures first { header.now.version ≡ 1 → (v : State) → IsKeepable v → v.part ≡ part.now →
+        v.superstep ≡ header.now.superstep → drop HEADER_LEN text.now ≡ table_bytes v →
+        IfOkButMemory result (λ s. IsRebuilt part.now s (without_names v)) }
+    ensures width { IfOk result (λ s. s.rows.width ≡ 2 ^ part.now.plan.log2m) }
+    ensures accumulated { IfOk result (λ s. s.accumulated.width ≡ 2 ^ part.now.plan.log2m) }
     ensures kind { IfErr result IsOfBody }
 {
     let (_front, body) = cut(text, HEADER_LEN)?;

@@ -1,24 +1,68 @@
 use Rattle.std.proofs.Common.{◌≡◌, ◌≤◌, ◌<◌, ◌∙◌, ℕ, List, Ok, length, get_or, take, drop, arith, ap, sym, subst, refl, inr}
-use Rattle.ball_model.specs.Checkpoint.{front_bytes, sealed}
+use Rattle.ball_model.specs.Checkpoint.{first_checkpoint_bytes, front_bytes, sealed, without_names}
 use Rattle.checkpoint.specs.declared.header.Header.{Header}
 use Rattle.std.proofs.lemmas.List.{length-take, take-append-drop, take-take}
 use Rattle.ball_model.specs.Job.{PartValue}
-use Rattle.checkpoint.specs.Reading.{check_head, head_at}
+use Rattle.replica.specs.Saved.{Fits}
+use Rattle.replica.proofs.KeepableLemmas.{keepable_fits}
+use Rattle.std.specs.Prelude.{Some}
+use Rattle.checkpoint.specs.Reading.{check_head, head_at, TellNone}
 use Rattle.checkpoint.proofs.FrontLemmas.{front_is}
 use Rattle.checkpoint.proofs.HeldLemmas.{front_fits}
 use Rattle.std.proofs.lemmas.Result.{err_from_is_err_and}
 use Rattle.checkpoint.specs.declared.error.KeepError.TheVariants as errors
-use Rattle.checkpoint.proofs.ReaderLemmas.{body_refuses}
+use Rattle.checkpoint.proofs.RefusalLemmas.{body_refuses, first_told, memory_not_shape, second_told, unnamed_keepable}
+use Rattle.checkpoint.proofs.RightLemmas.{never}
 use Rattle.checkpoint.proofs.SpelledLemmas.{content_is, sealed_is, version_is}
 use Rattle.checkpoint.proofs.read.read_saved.Goals as goal
 
 pub returns-in_err-saved-clause-refused : goal.returns-in_err-saved-clause-refused
 returns-in_err-saved-clause-refused g c =
+    let text = c.deref.result.now in
+    let e = c.in_err-saved.field-0.0 in
+    let head = c.in_ok-header.ensures.head ∙ ap (λ (l : List ℕ). head_at (take 54 l)) (sym c.deref.ensures.value) in
+    let none : e ≡ errors.Shape → (bytes : List ℕ) → g.R.Read.remaining c.args.reader.now ≡ Some bytes → TellNone c.args.part.now bytes = λ shape bytes known.
+    let whole = subst (λ (l : List ℕ). bytes ≡ sealed l) (sym c.deref.ensures.value) (c.in_ok-header.ensures.sealed bytes known) in
+    record {
+      second = λ v k part is.
+          let told = second_told v bytes text k.state whole is in
+          memory_not_shape e (c.in_err-saved.ensures.right (ap (λ (h : Header). h.version) head ∙ told.version_is) v k part (told.step ∙ sym (ap (λ (h : Header). h.superstep) head)) told.body_is) shape;
+      first = λ v k part is.
+          let told = first_told v bytes text k.state whole is in
+          memory_not_shape e (c.in_err-saved.ensures.first (ap (λ (h : Header). h.version) head ∙ told.version_is) v k part (told.step ∙ sym (ap (λ (h : Header). h.superstep) head)) told.body_is) shape;
+    } in
     let r = err_from_is_err_and c.from_residual-in_err-saved.result c.from_residual-in_err-saved.ensures.1 in
-    rw (r.1, r.2) (body_refuses g.R.CountedRead.sure_calls c.in_err-saved.field-0.0 c.in_ok-header.ensures.done c.in_err-saved.ensures.kind)
+    rw (r.1, r.2) (body_refuses g.R.CountedRead.sure_calls e c.in_ok-header.ensures.done c.in_err-saved.ensures.kind none)
 
 pub returns-then-not-fits-clause-refused : goal.returns-then-not-fits-clause-refused
-returns-then-not-fits-clause-refused g c = body_refuses g.R.CountedRead.sure_calls errors.Shape c.in_ok-header.ensures.done (inr refl)
+returns-then-not-fits-clause-refused g c =
+    let text = c.deref.result.now in
+    let saved = c.in_ok-saved.saved in
+    let head = c.in_ok-header.ensures.head ∙ ap (λ (l : List ℕ). head_at (take 54 l)) (sym c.deref.ensures.value) in
+    let no_fit : Fits c.args.part.now saved → ⊥ = λ fits. never (sym c.if-not-fits.true ∙ c.fits.ensures.1 fits) in
+    let none : errors.Shape ≡ errors.Shape → (bytes : List ℕ) → g.R.Read.remaining c.args.reader.now ≡ Some bytes → TellNone c.args.part.now bytes = λ shape bytes known.
+    let whole = subst (λ (l : List ℕ). bytes ≡ sealed l) (sym c.deref.ensures.value) (c.in_ok-header.ensures.sealed bytes known) in
+    record {
+      second = λ v k part is.
+          let told = second_told v bytes text k.state whole is in
+          no_fit (keepable_fits c.args.part.now saved v k
+          (c.in_ok-saved.ensures.right (ap (λ (h : Header). h.version) head ∙ told.version_is) v k part (told.step ∙ sym (ap (λ (h : Header). h.superstep) head)) told.body_is)
+          c.in_ok-saved.ensures.width c.in_ok-saved.ensures.accumulated);
+      first = λ v k part is.
+          let told = first_told v bytes text k.state whole is in
+          no_fit (keepable_fits c.args.part.now saved (without_names v) (unnamed_keepable v k)
+          (c.in_ok-saved.ensures.first (ap (λ (h : Header). h.version) head ∙ told.version_is) v k part (told.step ∙ sym (ap (λ (h : Header). h.superstep) head)) told.body_is)
+          c.in_ok-saved.ensures.width c.in_ok-saved.ensures.accumulated);
+    } in
+    body_refuses g.R.CountedRead.sure_calls errors.Shape c.in_ok-header.ensures.done (inr refl) none
+
+pub returns-clause-first : goal.returns-clause-first
+returns-clause-first g c = λ v k part known.
+    let text = c.deref.result.now in
+    let head = c.in_ok-header.ensures.head ∙ ap (λ (l : List ℕ). head_at (take 54 l)) (sym c.deref.ensures.value) in
+    let whole = subst (λ (l : List ℕ). first_checkpoint_bytes v ≡ sealed l) (sym c.deref.ensures.value) (c.in_ok-header.ensures.sealed (first_checkpoint_bytes v) known) in
+    let told = first_told v (first_checkpoint_bytes v) text k.state whole refl in
+    c.in_ok-saved.ensures.first (ap (λ (h : Header). h.version) head ∙ told.version_is) v k part (told.step ∙ sym (ap (λ (h : Header). h.superstep) head)) told.body_is
 
 pub returns-clause-spelled : goal.returns-clause-spelled
 returns-clause-spelled g c = λ v r is bytes known second.
