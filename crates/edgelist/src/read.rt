@@ -291,6 +291,8 @@ fn read_records<R: Read + Drop>(
         IsReadBy limits rs r.labels r.edges.items)) }
     ensures refused { FromStart R.remaining reader.old (λ rs.
         IfErr result (Refuses (network_from (limits_of limits) rs))) }
+    ensures last { EndsAtEnd R.remaining reader.old reader.new result }
+    ensures ends { EndsAtFault R.remaining reader.old reader.new (limits_of limits) result }
 {
     let mut reading = Reading::new(alloc, state)?;
     let read = reading.read_all(alloc, reader, row, limits);

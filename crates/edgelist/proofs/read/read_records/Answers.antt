@@ -12,6 +12,11 @@ map-err (Ok x) (Ok y) F P m p = tt
 map-err (Ok x) (Err e) F P m p = absurd m
 map-err (Err e) s F P m p = rw m p
 
+map-on : {X Y E : Type 0} (r : Result X E) (s : Result Y E) (F : X → Y → Type 0) (P : Type 0) → MatchResult r (λ x. IsOkAnd s (F x)) (λ e. s ≡ Err e) → OnOk r P → OnOk s P
+map-on (Ok x) (Ok y) F P m p = p
+map-on (Ok x) (Err e) F P m p = tt
+map-on (Err e) s F P m p = rw m tt
+
 pub returns-clause-ok : goal.returns-clause-ok
 returns-clause-ok g c = λ d text at.
     map-ok c.read_all-read.result c.map.result _ _ _ c.map.ensures.cases (c.read_all-read.ensures.ok d text at) (λ p x y post. let is : y ≡ c.read_all-read.new.self = search in rw is p)
@@ -19,3 +24,11 @@ returns-clause-ok g c = λ d text at.
 pub returns-clause-refused : goal.returns-clause-refused
 returns-clause-refused g c = λ d text at.
     map-err c.read_all-read.result c.map.result _ _ c.map.ensures.cases (c.read_all-read.ensures.refused d text at)
+
+pub returns-clause-last : goal.returns-clause-last
+returns-clause-last g c = λ d text at.
+    map-on c.read_all-read.result c.map.result _ _ c.map.ensures.cases (c.read_all-read.ensures.last d text at)
+
+pub returns-clause-ends : goal.returns-clause-ends
+returns-clause-ends g c = λ d text at.
+    map-err c.read_all-read.result c.map.result _ _ c.map.ensures.cases (c.read_all-read.ensures.ends d text at)
