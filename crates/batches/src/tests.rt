@@ -1,6 +1,9 @@
 ghost use Rattle.std.specs.Prelude.{◌≡◌, ◌∷◌, [], false, length, IfOk};
 ghost use Rattle.ball_model.specs.Batches.{ids_of};
 
+mod damage;
+mod refusals;
+
 use super::*;
 use ball_model::{BatchName, Plan, PlanError};
 use std::alloc::{AllocError, Global};

@@ -1,9 +1,11 @@
 //! What no clause says: worked edge lists, digests, and readers that fail.
 
 mod counting;
+mod damage;
 mod labels;
 mod parts;
 mod reading;
+mod refusals;
 
 use crate::{CountedError, Delimiter, EdgeError, EdgeLimits, Graph, Part, Preds, laws, read_edges};
 use ball_model::{CountingReader, PlanError};

@@ -2,6 +2,9 @@ ghost use Rattle.std.specs.Prelude.{◌≡◌, ◌<◌, ◌∷◌, [], IfOk};
 ghost use Rattle.std.specs.List.{All};
 ghost use Rattle.gapcode.specs.Lists.{AscendsFrom};
 
+mod damage;
+mod refusals;
+
 use super::*;
 use std::alloc::{AllocError, Global};
 use std::test::Fail;
@@ -366,19 +369,20 @@ fn has_text(alloc: Global, error: CodeError, wanted: &str) -> Result<bool, Fail>
     Ok(text.as_str() == wanted)
 }
 
-// The first error that has another text.
+const TEXTS: [(CodeError, &str); 6] = [
+    (CodeError::Ended, "the bits end within a code"),
+    (CodeError::TooLong, "a number has more than 64 bits"),
+    (CodeError::Range, "a number is not below the bound"),
+    (CodeError::Padding, "a bit of the padding is set"),
+    (CodeError::Trailing, "bytes after the last list"),
+    (CodeError::Memory, "out of memory"),
+];
+
+// The first error of that table that has another text.
 fn first_of_another_text(alloc: Global) -> Result<Option<CodeError>, Fail> {
-    let texts = [
-        (CodeError::Ended, "the bits end within a code"),
-        (CodeError::TooLong, "a number has more than 64 bits"),
-        (CodeError::Range, "a number is not below the bound"),
-        (CodeError::Padding, "a bit of the padding is set"),
-        (CodeError::Trailing, "bytes after the last list"),
-        (CodeError::Memory, "out of memory"),
-    ];
-    for (error, wanted) in texts {
-        if !has_text(alloc, error, wanted)? {
-            return Ok(Some(error));
+    for (error, wanted) in &TEXTS {
+        if !has_text(alloc, *error, wanted)? {
+            return Ok(Some(*error));
         }
     }
     Ok(None)

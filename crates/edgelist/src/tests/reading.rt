@@ -194,7 +194,12 @@ impl<'a> Read for Dripping<'a> {
 }
 
 // Reads an edge list with tabs a byte at a time, of so many records at most and with a failure at this call.
-fn drip(rt: &HostRuntime, bytes: &[u8], edges: u64, fails_at: u64) -> Result<Graph, EdgeError> {
+pub(super) fn drip(
+    rt: &HostRuntime,
+    bytes: &[u8],
+    edges: u64,
+    fails_at: u64,
+) -> Result<Graph, EdgeError> {
     match RandomState::new(rt) {
         Ok(state) => {
             let mut reader = CountingReader::new(Dripping {
@@ -221,7 +226,12 @@ fn drips_whole(rt: &HostRuntime) -> bool {
 }
 
 // The error of an edge list that is read a byte at a time.
-fn drip_error(rt: &HostRuntime, bytes: &[u8], edges: u64, fails_at: u64) -> Option<EdgeError> {
+pub(super) fn drip_error(
+    rt: &HostRuntime,
+    bytes: &[u8],
+    edges: u64,
+    fails_at: u64,
+) -> Option<EdgeError> {
     match drip(rt, bytes, edges, fails_at) {
         Ok(_) => None,
         Err(e) => Some(e),
