@@ -8,6 +8,7 @@ mod again;
 mod early;
 mod joins;
 mod rebuilt;
+mod refusals;
 mod shown;
 
 use super::*;

@@ -3,6 +3,8 @@
 ghost use Rattle.std.specs.Prelude.{◌≡◌, None, true};
 ghost use Rattle.std.specs.List.{All};
 
+mod refusals;
+
 use super::*;
 use ball_model::{CountedWrite, CountingReader, CountingWriter, Taken};
 use edgelist::{Delimiter, EdgeLimits, Graph, Part, read_edges};

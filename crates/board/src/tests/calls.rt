@@ -405,7 +405,32 @@ pub(super) fn is_right_board<R: Wait>(
     answers_from(rt, &board, &mut seat, graph, plan, stock, calls)
 }
 
-/// Whether a board of so many entries answers up to them, and then no more: eight posts, eight fetches, the length.
+/// How many of the batches are New when two seats post them, four each.
+fn both_post<R: Wait>(
+    rt: &R,
+    board: &Board,
+    seat: &mut Seat,
+    other: &mut Seat,
+    graph: &Graph,
+    plan: &Plan,
+    batches: &[Arc<Batch>],
+) -> usize
+    requires board { IsAt board.now seat.old }
+    requires other { IsAt board.now other.old }
+    requires job { seat.old.caller.seen.job ≡ job_of graph.now.graph plan.now }
+    requires same { other.old.caller.seen.job ≡ job_of graph.now.graph plan.now }
+    requires batches { All (λ a. IsTrueBatch (job_of graph.now.graph plan.now) (arc_value a))
+        batches.now }
+    ensures board { IsAt board.now seat.new }
+    ensures other { IsAt board.now other.new }
+{
+    let (first, rest) = batches.split_at(batches.len().min(4));
+    let news = post_all(rt, board, seat, graph, plan, first);
+    news.saturating_add(post_all(rt, board, other, graph, plan, rest))
+}
+
+/// Whether a board of so many entries answers two seats up to them, and then no more: eight posts, four by each, eight
+/// fetches by the first, and the length, of which both know.
 fn is_full_at<R: Wait>(
     rt: &R,
     board: &Board,
@@ -420,17 +445,20 @@ fn is_full_at<R: Wait>(
     requires batches { All (λ a. IsTrueBatch (job_of graph.now.graph plan.now) (arc_value a))
         batches.now }
     requires entries { 2 ≤ entries }
+    requires room { 1024 ≤ seat.old.room }
 {
     let room = entries as usize - 1;
-    let posted = post_all(rt, board, seat, graph, plan, batches);
+    let mut other = seat.split(board);
+    let posted = both_post(rt, board, seat, &mut other, graph, plan, batches);
     let found = find_all(rt, board, seat, batches);
-    let full = drop_below(rt, board, seat, 0) == Err(BoardError::BookFull);
-    let missing = fetches(rt, board, seat, name(9, 0));
+    let full = drop_below(rt, board, &mut other, 0) == Err(BoardError::BookFull);
+    let missing = fetches(rt, board, &mut other, name(9, 0));
     posted == room.min(8)
         && found == room.saturating_sub(8).min(8)
         && full == (entries < 18)
         && missing == Ok(None)
         && board.length(seat) == u64::from(entries)
+        && board.length(&mut other) == u64::from(entries)
 }
 
 /// Whether a board fills up so.

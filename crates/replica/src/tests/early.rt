@@ -257,8 +257,10 @@ fn keep(replica: &Replica, snapshot: &Snapshot, wanted: &[(u32, u16)]) -> bool {
 /// Whether partition 2 and a snapshot of it keep these batches.
 fn keeps(rt: &HostRuntime, all: &mut [Replica], wanted: &[(u32, u16)]) -> Option<bool> {
     let replica = all.get_mut(2)?;
-    let snapshot = replica.snapshot(rt.alloc()).ok()?;
-    Some(keep(replica, &snapshot, wanted))
+    match replica.snapshot(rt.alloc()) {
+        Ok(snapshot) => Some(keep(replica, &snapshot, wanted)),
+        Err(_) => None,
+    }
 }
 
 /// Whether what is kept is told by superstep, then by source, and without the batch of the replica's own superstep.

@@ -1,12 +1,18 @@
 //! Replicas that are made of what another one has.
 
+use super::joins::snapshot_of;
 use super::shown::shows_all;
 use super::*;
 
+/// A batch that is read from the bytes of this one.
+fn copied(rt: &HostRuntime, plan: &Plan, batch: &Batch) -> Option<Batch> {
+    let bytes = batch.encode(rt.alloc()).ok()?;
+    Batch::decode(rt.alloc(), plan, &bytes).ok()
+}
+
 /// The i-th of the batches of later supersteps, read from its bytes.
 fn copied_early(rt: &HostRuntime, snapshot: &Snapshot, i: u32) -> Option<Arc<Batch>> {
-    let bytes = snapshot.early(i)?.encode(rt.alloc()).ok()?;
-    let batch = Batch::decode(rt.alloc(), snapshot.plan(), &bytes).ok()?;
+    let batch = copied(rt, snapshot.plan(), snapshot.early(i)?)?;
     Arc::new(rt.alloc(), batch).ok()
 }
 
@@ -45,7 +51,7 @@ fn rebuilt(rt: &HostRuntime, part: Arc<Part>, saved: Saved) -> Option<Replica> {
 }
 
 /// The replica at a place, made again.
-fn again(rt: &HostRuntime, all: &mut [Replica], place: usize) -> Option<Replica> {
+pub fn again(rt: &HostRuntime, all: &mut [Replica], place: usize) -> Option<Replica> {
     let replica = all.get_mut(place)?;
     let part = Arc::try_clone(&replica.known.part).ok()?;
     let saved = saved_of(rt, replica)?;
@@ -53,7 +59,7 @@ fn again(rt: &HostRuntime, all: &mut [Replica], place: usize) -> Option<Replica>
 }
 
 /// Partition 0 is at superstep 1, has heard its batch, and keeps one of superstep 2.
-fn hears_and_keeps(rt: &HostRuntime, all: &mut [Replica]) -> bool {
+pub fn hears_and_keeps(rt: &HostRuntime, all: &mut [Replica]) -> bool {
     run(rt, all, 1)
         && is_new(rt, all, 1, 0)
         && is_new(rt, all, 0, 1)
@@ -63,10 +69,20 @@ fn hears_and_keeps(rt: &HostRuntime, all: &mut [Replica]) -> bool {
         && is_held(all, 0, 2, 1) == Some(true)
 }
 
-/// Whether the second replica of partition 0 tells in each reader what the first does.
-fn tell_same(rt: &HostRuntime, all: &mut [Replica]) -> Option<bool> {
-    let snapshot = all.get_mut(0)?.snapshot(rt.alloc()).ok()?;
-    Some(shows_all(all.get(2)?, &snapshot))
+/// Whether the second replica of partition 0 tells in each reader what a snapshot does.
+fn tells_same(all: &[Replica], snapshot: &Snapshot) -> bool {
+    match all.get(2) {
+        Some(replica) => shows_all(replica, snapshot),
+        None => false,
+    }
+}
+
+/// Whether it tells what the first does.
+fn tell_same(rt: &HostRuntime, all: &mut [Replica]) -> bool {
+    match snapshot_of(rt, all, 0) {
+        Some(snapshot) => tells_same(all, &snapshot),
+        None => false,
+    }
 }
 
 /// Whether the replica of partition 1, and the two of partition 0, close two supersteps and end.
@@ -82,15 +98,26 @@ fn end_together(rt: &HostRuntime, all: &mut [Replica]) -> bool {
         && has_sums(all, 2, &SUMS[0])
 }
 
-/// Whether partition 0 of two edges is made again as it was, and runs on as it does.
+/// Adds partition 0, made again.
+fn add_again(rt: &HostRuntime, all: &mut Vec<Replica>) -> Option<()> {
+    let replica = again(rt, all, 0)?;
+    all.push(replica).ok()
+}
+
+/// Whether partition 0 is made again as it was, and runs on as it does.
+fn goes_on_again(rt: &HostRuntime, all: &mut Vec<Replica>) -> [bool; 4] {
+    [
+        hears_and_keeps(rt, all),
+        add_again(rt, all).is_some() && tell_same(rt, all),
+        end_together(rt, all),
+        tell_same(rt, all),
+    ]
+}
+
+/// The same of two edges.
 fn made_again(rt: &HostRuntime) -> Option<[bool; 4]> {
     let mut all = two_edges(rt, 2, 4096)?;
-    let begun = hears_and_keeps(rt, &mut all);
-    let replica = again(rt, &mut all, 0)?;
-    all.push(replica).ok()?;
-    let same = tell_same(rt, &mut all)?;
-    let ended = end_together(rt, &mut all);
-    Some([begun, same, ended, tell_same(rt, &mut all)?])
+    Some(goes_on_again(rt, &mut all))
 }
 
 #[test]
