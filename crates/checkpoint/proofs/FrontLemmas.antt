@@ -1,6 +1,6 @@
 -- The fixed fields and the digest that are read, as they are spelled.
-use Rattle.std.proofs.Common.{◌≡◌, ℕ, ◌+◌, ◌<◌, ◌≤◌, List, [], ◌∷◌, ◌++◌, length, get_or, take, drop, Result, Ok, Err, refl, ap, sym, ◌∙◌, subst, arith, append_assoc}
-use Rattle.std.specs.Prelude.{Bool, true, false, not, ◌==◌, if◌then◌else◌, ⊤}
+use Rattle.std.proofs.Common.{◌≡◌, ℕ, ◌+◌, ◌<◌, ◌≤◌, List, [], ◌∷◌, ◌++◌, length, get_or, take, drop, Result, Ok, Err, refl, ap, sym, ◌∙◌, subst, arith, append_assoc, inl, inr}
+use Rattle.std.specs.Prelude.{Bool, true, false, not, ◌==◌, ◌&&◌, ◌⊎◌, if◌then◌else◌, ⊤}
 use Rattle.std.specs.Int.{w16, w32, to_be_bytes}
 use Rattle.std.specs.Str.{bytes_eq}
 use Rattle.std.proofs.lemmas.Bool.{eqb-true}
@@ -99,11 +99,11 @@ congr : (f : ℕ → ℕ → ℕ → ℕ → ℕ → ℕ → ℕ → ℕ → Lis
     → a0 ≡ b0 → a1 ≡ b1 → a2 ≡ b2 → a3 ≡ b3 → a4 ≡ b4 → a5 ≡ b5 → a6 ≡ b6 → a7 ≡ b7 → a8 ≡ b8 → f a0 a1 a2 a3 a4 a5 a6 a7 a8 ≡ f b0 b1 b2 b3 b4 b5 b6 b7 b8
 congr f a0 b0 a1 b1 a2 b2 a3 b3 a4 b4 a5 b5 a6 b6 a7 b7 a8 b8 e0 e1 e2 e3 e4 e5 e6 e7 e8 = cc
 
--- the fixed fields of the replica, version 2
-abbrev head_of : State → Header
-head_of v = record {
+-- the fixed fields of the replica in a version
+abbrev head_of : ℕ → State → Header
+head_of version v = record {
   magic = 0x4842434b;
-  version = 2;
+  version = version;
   log2m = v.part.plan.log2m;
   parts = v.part.plan.parts;
   partition = v.part.number;
@@ -113,29 +113,44 @@ head_of v = record {
   job = v.part.plan.job;
 }
 
-same_head : (v : State) (h : Header) (rest : List ℕ) → IsHead v.part h → h.version ≡ 2 → h.superstep ≡ v.superstep → head_then h rest ≡ head_then (head_of v) rest
-same_head v h rest is version superstep =
+same_head : (n : ℕ) (v : State) (h : Header) (rest : List ℕ) → IsHead v.part h → h.version ≡ n → h.superstep ≡ v.superstep → head_then h rest ≡ head_then (head_of n v) rest
+same_head n v h rest is version superstep =
     congr (λ x0 x1 x2 x3 x4 x5 x6 x7 x8. head_then (record { magic = x0; version = x1; log2m = x2; parts = x3; partition = x4; vertices = x5; size = x6; superstep = x7; job = x8 }) rest)
-    h.magic 0x4842434b h.version 2 h.log2m v.part.plan.log2m h.parts v.part.plan.parts h.partition v.part.number h.vertices v.part.plan.vertices h.size (length v.part.preds) h.superstep v.superstep h.job v.part.plan.job
+    h.magic 0x4842434b h.version n h.log2m v.part.plan.log2m h.parts v.part.plan.parts h.partition v.part.number h.vertices v.part.plan.vertices h.size (length v.part.preds) h.superstep v.superstep h.job v.part.plan.job
     is.magic version is.log2m is.parts is.partition is.vertices is.size superstep is.job
 
 -- the front of the replica is that of its fixed fields
-front_then : (v : State) (rest : List ℕ) → front_bytes 2 v ++ rest ≡ head_then (head_of v) rest
+front_then : (n : ℕ) (v : State) (rest : List ℕ) → front_bytes n v ++ rest ≡ head_then (head_of n v) rest
 unfolding front_bytes
-front_then v rest = simp append_assoc refl
+front_then n v rest = simp append_assoc refl
 
 -- the front has 54 bytes
-front_len : (v : State) → length v.part.plan.job ≡ 32 → length (front_bytes 2 v) ≡ 54
-front_len v job =
-    let flat : length (front_bytes 2 v ++ []) ≡ length (head_then (head_of v) []) = ap length (front_then v []) in
-    let long : length (head_then (head_of v) []) ≡ 22 + length (v.part.plan.job ++ []) = omega arith in
-    omega (arith, flat, long, length-append (front_bytes 2 v) [], length-append v.part.plan.job [], job)
+front_len : (n : ℕ) (v : State) → length v.part.plan.job ≡ 32 → length (front_bytes n v) ≡ 54
+front_len n v job =
+    let flat : length (front_bytes n v ++ []) ≡ length (head_then (head_of n v) []) = ap length (front_then n v []) in
+    let long : length (head_then (head_of n v) []) ≡ 22 + length (v.part.plan.job ++ []) = omega arith in
+    omega (arith, flat, long, length-append (front_bytes n v) [], length-append v.part.plan.job [], job)
 
 -- fixed fields that pass are those of a replica of the part
-pub front_is : (v : State) (bytes : List ℕ) → ((i : ℕ) → get_or bytes i 0 < 256) → 54 ≤ length bytes → check_head v.part (head_at bytes) ≡ Ok tt
-    → (head_at bytes).version ≡ 2 → (head_at bytes).superstep ≡ v.superstep → length v.part.plan.job ≡ 32 → take 54 bytes ≡ front_bytes 2 v
-front_is v bytes fits long passed version superstep job =
+pub front_is : (n : ℕ) (v : State) (bytes : List ℕ) → ((i : ℕ) → get_or bytes i 0 < 256) → 54 ≤ length bytes → check_head v.part (head_at bytes) ≡ Ok tt
+    → (head_at bytes).version ≡ n → (head_at bytes).superstep ≡ v.superstep → length v.part.plan.job ≡ 32 → take 54 bytes ≡ front_bytes n v
+front_is n v bytes fits long passed version superstep job =
     let rest = drop 54 bytes in
-    let whole : bytes ≡ front_bytes 2 v ++ rest =
-    head_is bytes long fits ∙ same_head v (head_at bytes) rest (head_passed v.part (head_at bytes) passed) version superstep ∙ sym (front_then v rest) in
-    ap (take 54) whole ∙ take_at (front_bytes 2 v) rest 54 (front_len v job)
+    let whole : bytes ≡ front_bytes n v ++ rest =
+    head_is bytes long fits ∙ same_head n v (head_at bytes) rest (head_passed v.part (head_at bytes) passed) version superstep ∙ sym (front_then n v rest) in
+    ap (take 54) whole ∙ take_at (front_bytes n v) rest 54 (front_len n v job)
+
+either : (a b : Bool) → (not a && not b) ≡ false → (a ≡ true) ⊎ (b ≡ true)
+either true b e = inl refl
+either false b e = inr (holds b e)
+
+-- fixed fields that pass are of one of the two versions
+pub one_or_two : (part : PartValue) (h : Header) → check_head part h ≡ Ok tt → (h.version ≡ 1) ⊎ (h.version ≡ 2)
+unfolding check_head
+one_or_two part h e =
+    let a = goes_on _ errors.Magic _ tt e in
+    let b = goes_on _ errors.Version _ tt a.1 in
+    elim (either (h.version == 1) (h.version == 2) b.0) [
+      | inl one ↦ inl (eqb-true h.version 1 one)
+      | inr two ↦ inr (eqb-true h.version 2 two)
+    ]

@@ -1,5 +1,5 @@
 -- Bytes that are read part by part.
-use Rattle.std.proofs.Common.{◌≡◌, ℕ, suc, ◌+◌, ◌-◌, ◌*◌, ◌<◌, ◌≤◌, List, [], ◌++◌, length, take, drop, Result, Ok, Err, refl, ap, sym, ◌∙◌, subst, arith, append_assoc, append-nil, inl, inr}
+use Rattle.std.proofs.Common.{◌≡◌, ℕ, zero, suc, ◌+◌, ◌-◌, ◌*◌, ◌<◌, ◌≤◌, List, [], ◌++◌, length, take, drop, Result, Ok, Err, refl, ap, sym, ◌∙◌, subst, arith, append_assoc, append-nil, inl, inr}
 use Rattle.std.specs.Prelude.{◌==◌, ◌&&◌, ◌/◌, ◌%◌, ◌^◌, Bool, true, false, not, ⊤, Option, Some, None, OnOk, IfErr}
 use Rattle.std.specs.Int.{w16, w64, Width, byte_len, from_be_bytes}
 use Rattle.std.specs.Io.KnownBytes.{Consumes, IsAtEnd}
@@ -25,7 +25,7 @@ use Rattle.batches.specs.Kept.{field}
 use Rattle.checkpoint.specs.declared.header.Header.{Header}
 use Rattle.checkpoint.specs.declared.error.KeepError.{KeepError}
 use Rattle.checkpoint.specs.declared.error.KeepError.TheVariants as errors
-use Rattle.checkpoint.specs.Reading.{◌>>=◌, Form, needs, followed, is_batch_length, greatest_batch, told_batch, batch_form, batches_form, told_batches, early_form, fixed_length, most_body, most_early, held_form, content_form, sealed_form, told_body, body_form, check_head, head_at, seal_form, Takes, Grows, Fails, IsRead, IsOfBytes, IsOfBody}
+use Rattle.checkpoint.specs.Reading.{◌>>=◌, Form, needs, followed, is_batch_length, greatest_batch, told_batch, batch_form, batches_form, told_batches, early_form, fixed_length, most_body, most_early, held_form, content_form, sealed_form, told_body, body_form, check_head, head_at, seal_form, Takes, Grows, Fails, Passes, PassesSoFar, IsRead, IsOfBytes, IsOfBody, HasHead, OnOkOrMemory}
 
 -- ---- calls that are sure
 after_then : (n m : ℕ) (a b c : Option ℕ) → AfterAtMost n a b → AfterAtMost m b c → AfterAtMost (n + m) a c
@@ -39,7 +39,7 @@ sure_rest n m None b sure p = subst (λ (o : Option ℕ). AreSure o m) (sym p) t
 sure_rest n m (Some k) None sure p = absurd p
 sure_rest n m (Some k) (Some j) sure p = omega (arith, sure, p)
 
-sure_fewer : (n m : ℕ) (a : Option ℕ) → AreSure a m → n ≤ m → AreSure a n
+pub sure_fewer : (n m : ℕ) (a : Option ℕ) → AreSure a m → n ≤ m → AreSure a n
 sure_fewer n m None sure le = tt
 sure_fewer n m (Some k) sure le = omega (arith, sure, le)
 
@@ -89,6 +89,59 @@ pub followed-err : (first : Form) (second : List ℕ → Form) (bytes : List ℕ
 unfolding followed
 followed-err first second bytes e is = rw is refl
 
+-- ---- bytes of which no check fails
+abbrev is_memory : KeepError → Type 0
+is_memory errors.Memory = ⊤
+is_memory e = ⊥
+
+-- another refusal is no want of memory
+pub not_wanting : {P : Type 0} (e : KeepError) → (is_memory e → ⊥) → e ≡ errors.Memory → P
+not_wanting e other is = absurd (other (subst is_memory (sym is) tt))
+
+-- a form that passes has no refusal but that the bytes are too few
+pub passes-as : (form other : Form) (bytes : List ℕ) → other bytes ≡ form bytes → Passes form bytes → Passes other bytes
+passes-as form other bytes same p = elim p [
+  | inl fine ↦ inl (same ∙ fine)
+  | inr short ↦ inr (same ∙ short)
+]
+
+-- after a piece that is of the first form
+pub passes-then : (first : Form) (second : List ℕ → Form) (piece rest : List ℕ) → first (piece ++ rest) ≡ Ok (length piece) → Passes (second piece) rest
+    → Passes (followed first second) (piece ++ rest)
+passes-then first second piece rest is p =
+    let at = followed-at first second piece rest is in
+    elim p [
+      | inl fine ↦ inl (at ∙ ap (λ (r : Result ℕ KeepError). r >>= λ k. Ok (length piece + k)) fine ∙ ap Ok (sym (length-append piece rest)))
+      | inr short ↦ inr (at ∙ ap (λ (r : Result ℕ KeepError). r >>= λ k. Ok (length piece + k)) short)
+    ]
+
+-- within the first form, or where it ends
+pub passes-first : (first : Form) (second : List ℕ → Form) (bytes : List ℕ) → (first bytes ≡ Ok (length bytes) → Passes (second bytes) []) → Passes first bytes
+    → Passes (followed first second) bytes
+passes-first first second bytes next p = elim p [
+  | inl fine ↦ subst (Passes (followed first second)) (append-nil bytes)
+      (passes-then first second bytes [] (ap first (append-nil bytes) ∙ fine) (next fine))
+  | inr short ↦ inr (followed-err first second bytes errors.Short short)
+]
+
+pub passes-needs : (n : ℕ) (bytes : List ℕ) → length bytes ≤ n → Passes (needs n) bytes
+passes-needs n bytes le = elim (cases_lt (length bytes) n) [
+  | inl lt ↦ inr (needs-err n bytes lt)
+  | inr ge ↦ let e : n ≡ length bytes = omega (arith, ge, le) in inl (needs-ok n bytes ge ∙ ap Ok e)
+]
+
+-- what passes so many bytes is not longer
+pub needs-within : (n : ℕ) (bytes : List ℕ) → Passes (needs n) bytes → length bytes ≤ n
+needs-within n bytes p = elim p [
+  | inl fine ↦ omega (arith, needs-takes n (length bytes) bytes fine)
+  | inr short ↦ omega (arith, (needs-refuses n errors.Short bytes short).0)
+]
+
+pub passes-batches : (plan : PlanValue) (n : ℕ) → Passes (batches_form plan n) []
+unfolding batches_form
+passes-batches plan zero = inl refl
+passes-batches plan (suc n) = inr (followed-err (batch_form plan) (λ _. batches_form plan n) [] errors.Short (followed-err (needs 8) (told_batch plan) [] errors.Short (needs-err 8 [] (omega arith))))
+
 -- ---- what is read
 pub takes_then : {R : Type 0} {remaining : R → Option (List ℕ)} {failed : R → ℕ} {sure : R → Option ℕ} (a b c : R) (xs ys : List ℕ)
     → Takes remaining failed sure a b xs → Takes remaining failed sure b c ys → Takes remaining failed sure a c (xs ++ ys)
@@ -119,30 +172,51 @@ grows_as other more same le p = record { piece = p.piece; grown = p.grown; takes
 pub few_more : (n m : ℕ) (old new : Option (List ℕ)) → TakesAtMost n old new → n ≤ m → TakesAtMost m old new
 few_more n m old new p le = record { bytes = p.bytes; consumed = p.consumed; few = omega (arith, p.few, le) }
 
+-- a piece, and then more of which no check fails
+pub so_far_then : {R : Type 0} {remaining : R → Option (List ℕ)} {failed : R → ℕ} {sure : R → Option ℕ} {a b c : R} {piece : List ℕ} {form : Form} (whole : Form)
+    → Takes remaining failed sure a b piece → ((rest : List ℕ) → Passes form rest → Passes whole (piece ++ rest))
+    → PassesSoFar form (remaining b) (remaining c) → PassesSoFar whole (remaining a) (remaining c)
+so_far_then {remaining} {a} {b} {c} {piece} whole p fine q = record {
+  bytes = piece ++ q.bytes;
+  consumed = Consumes-trans (remaining a) (remaining b) (remaining c) piece q.bytes p.consumed q.consumed;
+  passes = fine q.bytes q.passes;
+}
+
 pub fails_as : {R : Type 0} {remaining : R → Option (List ℕ)} {failed : R → ℕ} {sure : R → Option ℕ} {form : Form} {most : ℕ} {a b : R} {e : KeepError} (other : Form) (more : ℕ)
-    → ((bytes : List ℕ) → form bytes ≡ Err e → other bytes ≡ Err e) → most ≤ more → Fails remaining failed sure form most a b e → Fails remaining failed sure other more a b e
-fails_as {remaining} {sure} {most} {a} {b} other more same le p = record {
+    → ((bytes : List ℕ) → other bytes ≡ form bytes) → most ≤ more → Fails remaining failed sure form most a b e → Fails remaining failed sure other more a b e
+fails_as {remaining} {sure} {form} {most} {a} {b} other more same le p = record {
   few = few_more most more (remaining a) (remaining b) p.few le;
   rises = p.rises;
   counted = p.counted;
   unsure = λ is. p.unsure (sure_fewer most more (sure a) is le);
-  due = λ bytes known of. same bytes (p.due bytes known of);
+  wanting = λ is. let q = p.wanting is in record { bytes = q.bytes; consumed = q.consumed; passes = passes-as form other q.bytes (same q.bytes) q.passes };
+  due = λ bytes known of. same bytes ∙ p.due bytes known of;
 }
 
 -- where the first form is not there, the whole is not
 pub fails_first : {R : Type 0} {remaining : R → Option (List ℕ)} {failed : R → ℕ} {sure : R → Option ℕ} {form : Form} {most : ℕ} {a b : R} {e : KeepError} (second : List ℕ → Form) (more : ℕ)
-    → most ≤ more → Fails remaining failed sure form most a b e → Fails remaining failed sure (followed form second) more a b e
-fails_first {form} {e} second more le p = fails_as (followed form second) more (λ bytes is. followed-err form second bytes e is) le p
+    → most ≤ more → (e ≡ errors.Memory → (bytes : List ℕ) → form bytes ≡ Ok (length bytes) → Passes (second bytes) [])
+    → Fails remaining failed sure form most a b e → Fails remaining failed sure (followed form second) more a b e
+fails_first {remaining} {sure} {form} {most} {a} {b} {e} second more le next p = record {
+  few = few_more most more (remaining a) (remaining b) p.few le;
+  rises = p.rises;
+  counted = p.counted;
+  unsure = λ is. p.unsure (sure_fewer most more (sure a) is le);
+  wanting = λ is. let q = p.wanting is in record { bytes = q.bytes; consumed = q.consumed; passes = passes-first form second q.bytes (next is q.bytes) q.passes };
+  due = λ bytes known of. followed-err form second bytes e (p.due bytes known of);
+}
 
 -- a piece is read, and then the rest is not, for whatever form of the whole has this refusal then
 pub fails_then : {R : Type 0} {remaining : R → Option (List ℕ)} {failed : R → ℕ} {sure : R → Option ℕ} {a b c : R} {piece : List ℕ} {form : Form} {most : ℕ} {e : KeepError} (whole : Form) (n more : ℕ)
     → Takes remaining failed sure a b piece → length piece ≤ n → n + most ≤ more → ((rest : List ℕ) → form rest ≡ Err e → whole (piece ++ rest) ≡ Err e)
+    → (e ≡ errors.Memory → (rest : List ℕ) → Passes form rest → Passes whole (piece ++ rest))
     → Fails remaining failed sure form most b c e → Fails remaining failed sure whole more a c e
-fails_then {remaining} {failed} {sure} {a} {b} {c} {piece} {form} {most} {e} whole n more p short le same q = record {
+fails_then {remaining} {failed} {sure} {a} {b} {c} {piece} {form} {most} {e} whole n more p short le same fine q = record {
   few = record { bytes = piece ++ q.few.bytes; consumed = Consumes-trans (remaining a) (remaining b) (remaining c) piece q.few.bytes p.consumed q.few.consumed; few = omega (arith, length-append piece q.few.bytes, q.few.few, short, le) };
   rises = λ is. subst (λ k. Rises k (failed c)) p.counted (q.rises is);
   counted = λ is. q.counted is ∙ p.counted;
   unsure = λ is. q.unsure (sure_rest (length piece) most (sure a) (sure b) (sure_fewer (length piece + most) more (sure a) is (omega (arith, short, le))) p.calls);
+  wanting = λ is. so_far_then whole p (fine is) (q.wanting is);
   due = λ bytes known of.
       let l = left (remaining a) (remaining b) piece bytes p.consumed known in
       rw l.split (same l.rest (q.due l.rest l.is of));
@@ -151,18 +225,25 @@ fails_then {remaining} {failed} {sure} {a} {b} {c} {piece} {form} {most} {e} who
 pub fails_second : {R : Type 0} {remaining : R → Option (List ℕ)} {failed : R → ℕ} {sure : R → Option ℕ} {a b c : R} {form : Form} {n most : ℕ} {t u : List ℕ} {e : KeepError} (second : List ℕ → Form) (more : ℕ)
     → (p : Grows remaining failed sure form n a b t u) → n + most ≤ more → Fails remaining failed sure (second p.piece) most b c e → Fails remaining failed sure (followed form second) more a c e
 fails_second {form} {n} {e} second more p le q =
-    fails_then (followed form second) n more p.takes p.few le (λ rest is. followed-at form second p.piece rest (p.is_form rest) ∙ ap (λ (r : Result ℕ KeepError). r >>= λ k. Ok (length p.piece + k)) is) q
+    fails_then (followed form second) n more p.takes p.few le (λ rest is. followed-at form second p.piece rest (p.is_form rest) ∙ ap (λ (r : Result ℕ KeepError). r >>= λ k. Ok (length p.piece + k)) is)
+    (λ _ rest. passes-then form second p.piece rest (p.is_form rest)) q
 
 -- nothing more is read, and what stands there is refused
 pub fails_here : {R : Type 0} (remaining : R → Option (List ℕ)) (failed : R → ℕ) (sure : R → Option ℕ) (a : R) (form : Form) (most : ℕ) (e : KeepError)
-    → (IsRead e → ⊥) → ((bytes : List ℕ) → IsOfBytes e → form bytes ≡ Err e) → Fails remaining failed sure form most a a e
-fails_here remaining failed sure a form most e other refused = record {
+    → (IsRead e → ⊥) → (e ≡ errors.Memory → Passes form []) → ((bytes : List ℕ) → IsOfBytes e → form bytes ≡ Err e) → Fails remaining failed sure form most a a e
+fails_here remaining failed sure a form most e other passes refused = record {
   few = record { bytes = []; consumed = Consumes-nil (remaining a); few = omega arith };
   rises = λ is. absurd (other is);
   counted = λ _. refl;
   unsure = λ _ is. other is;
+  wanting = λ is. record { bytes = []; consumed = Consumes-nil (remaining a); passes = passes is };
   due = λ bytes known of. refused bytes of;
 }
+
+-- a piece of so many bytes stands behind a text
+abbrev pub piece_grows : {R : Type 0} {remaining : R → Option (List ℕ)} {failed : R → ℕ} {sure : R → Option ℕ} {a b : R} {piece t u : List ℕ} (n : ℕ)
+    → Takes remaining failed sure a b piece → length piece ≡ n → u ≡ t ++ piece → Grows remaining failed sure (needs n) n a b t u
+piece_grows {piece} n p len grown = record { piece = piece; grown = grown; takes = p; is_form = λ rest. needs-piece n piece rest len; few = omega (arith, len) }
 
 pub grows_then : {R : Type 0} {remaining : R → Option (List ℕ)} {failed : R → ℕ} {sure : R → Option ℕ} {a b c : R} {form : Form} {n most : ℕ} {t u v : List ℕ} (second : List ℕ → Form) (more : ℕ)
     → (p : Grows remaining failed sure form n a b t u) → n + most ≤ more → Grows remaining failed sure (second p.piece) most b c u v → Grows remaining failed sure (followed form second) more a c t v
@@ -177,6 +258,20 @@ grows_then {a} {b} {c} {form} {n} {t} second more p le q =
           ∙ ap (λ (r : Result ℕ KeepError). r >>= λ k. Ok (length one + k)) (q.is_form rest) ∙ ap Ok (sym (length-append one two));
       few = omega (arith, length-append one two, p.few, q.few, le);
     }
+
+-- so many bytes, as they are counted
+pub fails_full : {R : Type 0} {remaining : R → Option (List ℕ)} {failed : R → ℕ} {sure : R → Option ℕ} {a b : R} {e : KeepError} (n m : ℕ)
+    → m ≡ n → Fails remaining failed sure (needs m) m a b e → Fails remaining failed sure (needs n) n a b e
+fails_full {remaining} {failed} {sure} {a} {b} {e} n m is p = subst (λ (k : ℕ). Fails remaining failed sure (needs k) k a b e) is p
+
+-- a piece of so many bytes, and what follows it
+pub fails_after : {R : Type 0} {remaining : R → Option (List ℕ)} {failed : R → ℕ} {sure : R → Option ℕ} {a b c : R} {piece : List ℕ} {most : ℕ} {e : KeepError} (n : ℕ) (second : List ℕ → Form) (more : ℕ)
+    → Takes remaining failed sure a b piece → length piece ≡ n → n + most ≤ more → Fails remaining failed sure (second piece) most b c e → Fails remaining failed sure (followed (needs n) second) more a c e
+fails_after n second more p len le q = fails_second second more (piece_grows {t = []} n p len refl) le q
+
+pub grows_after : {R : Type 0} {remaining : R → Option (List ℕ)} {failed : R → ℕ} {sure : R → Option ℕ} {a b c : R} {piece t u v : List ℕ} {most : ℕ} (n : ℕ) (second : List ℕ → Form) (more : ℕ)
+    → Takes remaining failed sure a b piece → length piece ≡ n → u ≡ t ++ piece → n + most ≤ more → Grows remaining failed sure (second piece) most b c u v → Grows remaining failed sure (followed (needs n) second) more a c t v
+grows_after n second more p len grown le q = grows_then second more (piece_grows n p len grown) le q
 
 -- nothing is read
 pub grows_none : {R : Type 0} (remaining : R → Option (List ℕ)) (failed : R → ℕ) (sure : R → Option ℕ) (a : R) (t : List ℕ) (form : Form) (most : ℕ)
@@ -211,7 +306,8 @@ pub needs_fails : {R : Type 0} {remaining : R → Option (List ℕ)} {failed : R
 needs_fails {n} {m} {e} k le p q =
     let one = p.piece in
     let e1 = needs-takes n (length one) (one ++ []) (p.is_form []) in
-    fails_then (needs k) n k p.takes p.few le (λ rest is. let r = needs-refuses m e rest is in needs-err k (one ++ rest) (omega (arith, length-append one rest, e1, r.0, le)) ∙ r.1) q
+    fails_then (needs k) n k p.takes p.few le (λ rest is. let r = needs-refuses m e rest is in needs-err k (one ++ rest) (omega (arith, length-append one rest, e1, r.0, le)) ∙ r.1)
+    (λ _ rest fine. passes-needs k (one ++ rest) (omega (arith, length-append one rest, e1, needs-within m rest fine, le))) q
 
 -- the number that was read behind a text
 pub number_read : (w : Width) (at : ℕ) (t u piece : List ℕ) → at ≡ length t → u ≡ t ++ piece → length piece ≡ byte_len w → field w at u ≡ from_be_bytes w piece
@@ -271,6 +367,13 @@ walks_next {plan} {count} {i} {each} {a} {b} {c} {t} lt p q =
       few = omega (arith, length-append one two, p.few, q.few, more);
     }
 
+walk_passes : {R : Type 0} {remaining : R → Option (List ℕ)} {failed : R → ℕ} {sure : R → Option ℕ} {plan : PlanValue} {count i each : ℕ} {a b : R} {t u : List ℕ}
+    (p : Walks remaining failed sure plan count i each a b t u) (rest : List ℕ) → Passes (batches_form plan (count - i)) rest → Passes (batches_form plan count) (p.piece ++ rest)
+walk_passes p rest fine = elim fine [
+  | inl is ↦ inl (p.walk rest ∙ ap (λ (r : Result ℕ KeepError). r >>= λ k. Ok (length p.piece + k)) is ∙ ap Ok (sym (length-append p.piece rest)))
+  | inr short ↦ inr (p.walk rest ∙ ap (λ (r : Result ℕ KeepError). r >>= λ k. Ok (length p.piece + k)) short)
+]
+
 pub walks_fails : {R : Type 0} {remaining : R → Option (List ℕ)} {failed : R → ℕ} {sure : R → Option ℕ} {plan : PlanValue} {count i each : ℕ} {a b c : R} {t u : List ℕ} {e : KeepError}
     → i < count → Walks remaining failed sure plan count i each a b t u → Fails remaining failed sure (batch_form plan) each b c e → Fails remaining failed sure (batches_form plan count) (count * each) a c e
 walks_fails {plan} {count} {i} {each} {e} lt p q =
@@ -280,7 +383,9 @@ walks_fails {plan} {count} {i} {each} {e} lt p q =
     let most : i * each + each ≤ count * each = rw all (omega arith) in
     fails_then (batches_form plan count) (i * each) (count * each) p.takes p.few most (λ rest is.
     p.walk rest ∙ ap (λ (r : Result ℕ KeepError). r >>= λ k. Ok (length p.piece + k))
-    (ap (λ (j : ℕ). batches_form plan j rest) k ∙ one_more plan n rest ∙ followed-err (batch_form plan) (λ _. batches_form plan n) rest e is)) q
+    (ap (λ (j : ℕ). batches_form plan j rest) k ∙ one_more plan n rest ∙ followed-err (batch_form plan) (λ _. batches_form plan n) rest e is))
+    (λ _ rest fine. walk_passes p rest (passes-as (followed (batch_form plan) (λ _. batches_form plan n)) (batches_form plan (count - i)) rest
+    (ap (λ (j : ℕ). batches_form plan j rest) k ∙ one_more plan n rest) (passes-first (batch_form plan) (λ _. batches_form plan n) rest (λ _. passes-batches plan n) fine))) q
 
 no_more : (plan : PlanValue) (n : ℕ) (bytes : List ℕ) → n ≡ 0 → batches_form plan n bytes ≡ Ok 0
 unfolding batches_form
@@ -325,6 +430,7 @@ ended_fails remaining failed sure a b form n most k buf short ends len le few sa
   rises = λ is. absurd is;
   counted = λ _. same;
   unsure = λ _ is. is;
+  wanting = not_wanting errors.Short (λ is. is);
   due = λ bytes known _.
       let l = left (remaining a) (remaining b) (take k buf) bytes ends.consumed known in
       let none : l.rest ≡ [] = subst IsAtEnd l.is ends.last in
@@ -354,8 +460,8 @@ seal-short text bytes lt = rw (lt-ltb (length bytes) 32 lt) refl
 pub seal_differs : {R : Type 0} {remaining : R → Option (List ℕ)} {failed : R → ℕ} {sure : R → Option ℕ} {a b : R} {digest : List ℕ} (text : List ℕ)
     → Takes remaining failed sure a b digest → length digest ≡ 32 → bytes_eq digest (sha256 text) ≡ false → Fails remaining failed sure (seal_form text) 33 a b errors.Digest
 seal_differs {remaining} {failed} {sure} {b} {digest} text p len other =
-    fails_then (seal_form text) 32 33 p (omega (arith, len)) (omega arith) (λ rest _. seal-other text digest rest len other)
-    (fails_here remaining failed sure b (λ _. Err errors.Digest) 1 errors.Digest (λ is. is) (λ bytes _. refl))
+    fails_then (seal_form text) 32 33 p (omega (arith, len)) (omega arith) (λ rest _. seal-other text digest rest len other) (not_wanting errors.Digest (λ is. is))
+    (fails_here remaining failed sure b (λ _. Err errors.Digest) 1 errors.Digest (λ is. is) (not_wanting errors.Digest (λ is. is)) (λ bytes _. refl))
 
 pub seal_trails : {R : Type 0} {remaining : R → Option (List ℕ)} {failed : R → ℕ} {sure : R → Option ℕ} {a b c : R} {digest more : List ℕ} (text : List ℕ)
     → Takes remaining failed sure a b digest → length digest ≡ 32 → bytes_eq digest (sha256 text) ≡ true → Takes remaining failed sure b c more → length more ≡ 1
@@ -364,14 +470,16 @@ seal_trails {remaining} {failed} {sure} {a} {b} {c} {digest} {more} text p len s
     let size = length-append digest more in
     fails_then (seal_form text) 33 33 (takes_then a b c digest more p q) (omega (arith, size, len, one)) (omega arith)
     (λ rest _. ap (seal_form text) (append_assoc digest more rest) ∙ seal-at text digest (more ++ rest) len same (omega (arith, length-append more rest, one)))
-    (fails_here remaining failed sure c (λ _. Err errors.Trailing) 0 errors.Trailing (λ is. is) (λ bytes _. refl))
+    (not_wanting errors.Trailing (λ is. is))
+    (fails_here remaining failed sure c (λ _. Err errors.Trailing) 0 errors.Trailing (λ is. is) (not_wanting errors.Trailing (λ is. is)) (λ bytes _. refl))
 
 pub seal_unread : {R : Type 0} {remaining : R → Option (List ℕ)} {failed : R → ℕ} {sure : R → Option ℕ} {a b c : R} {digest : List ℕ} (text : List ℕ)
     → Takes remaining failed sure a b digest → length digest ≡ 32 → TakesAtMost 1 (remaining b) (remaining c) → failed b < failed c → (AreSure (sure b) 1 → ⊥)
     → Fails remaining failed sure (seal_form text) 33 a c errors.Read
 seal_unread {remaining} {failed} {sure} {a} {b} {c} {digest} text p len few rises unsure =
     fails_then {form = λ _. Ok 0} (seal_form text) 32 33 p (omega (arith, len)) (omega arith) (λ rest is. absurd (subst is_ok is tt))
-    (record { few = few; rises = λ _. rises; counted = λ is. absurd (is tt); unsure = λ is _. unsure is; due = λ bytes known is. absurd is })
+    (not_wanting errors.Read (λ is. is))
+    (record { few = few; rises = λ _. rises; counted = λ is. absurd (is tt); unsure = λ is _. unsure is; wanting = not_wanting errors.Read (λ is. is); due = λ bytes known is. absurd is })
 
 -- ---- lengths that are told
 grows-long : (n : ℕ) (t u piece : List ℕ) → u ≡ t ++ piece → needs n (piece ++ []) ≡ Ok (length piece) → length u ≡ length t + n
@@ -485,22 +593,72 @@ told-bad part piece rest e is = ap (λ (r : Result (Unit {0}) KeepError). r >>= 
 
 -- the fixed fields are refused
 pub head_fails : {R : Type 0} {remaining : R → Option (List ℕ)} {failed : R → ℕ} {sure : R → Option ℕ} {a b : R} {piece : List ℕ} (part : PartValue) (e : KeepError)
-    → Takes remaining failed sure a b piece → length piece ≡ 54 → Err e ≡ check_head part (head_at piece) → (IsRead e → ⊥) → Fails remaining failed sure (content_form part) 54 a b e
-head_fails {remaining} {failed} {sure} {a} {b} {piece} part e p len is other =
-    fails_then {form = λ _. Err e} (content_form part) 54 54 p (omega (arith, len)) (omega arith)
-    (λ rest _. followed-at (needs 54) (told_body part) piece rest (needs-piece 54 piece rest len) ∙ ap (λ (r : Result ℕ KeepError). r >>= λ k. Ok (length piece + k)) (told-bad part piece rest e is))
-    (fails_here remaining failed sure b (λ _. Err e) 0 e other (λ bytes _. refl))
+    → Takes remaining failed sure a b piece → length piece ≡ 54 → Err e ≡ check_head part (head_at piece) → (IsRead e → ⊥) → (e ≡ errors.Memory → ⊥) → Fails remaining failed sure (content_form part) 54 a b e
+head_fails {remaining} {failed} {sure} {a} {b} {piece} part e p len is other fine =
+    fails_after {most = 0} 54 (told_body part) 54 p len (omega arith)
+    (fails_here remaining failed sure b (told_body part piece) 0 e other (λ is. absurd (fine is)) (λ bytes _. told-bad part piece bytes e is))
 
--- memory is refused
+-- the fixed fields were read, and pass
+pub has_head : {R : Type 0} {remaining : R → Option (List ℕ)} {failed : R → ℕ} {sure : R → Option ℕ} {a b : R} {piece : List ℕ} (part : PartValue)
+    → Takes remaining failed sure a b piece → length piece ≡ 54 → check_head part (head_at piece) ≡ Ok tt → (bytes : List ℕ) → remaining a ≡ Some bytes → HasHead part bytes
+has_head {remaining} {a} {b} {piece} part p len passes bytes known =
+    let l = left (remaining a) (remaining b) piece bytes p.consumed known in
+    let front : take 54 bytes ≡ piece = ap (take 54) l.split ∙ ap (λ (n : ℕ). take n (piece ++ l.rest)) (sym len) ∙ take-append_seam piece l.rest in
+    record {
+      long = omega (arith, ap length l.split, length-append piece l.rest, len);
+      passes = ap (λ (t : List ℕ). check_head part (head_at t)) front ∙ passes;
+    }
+
+-- what holds anyway
+pub whatever_it_is : {A : Type 0} {has : Type 0} (r : Result A KeepError) → has → OnOkOrMemory r has
+whatever_it_is (Ok x) h = h
+whatever_it_is (Err e) h = λ _. h
+
+-- memory is refused after a piece
 pub memory_fails : {R : Type 0} {remaining : R → Option (List ℕ)} {failed : R → ℕ} {sure : R → Option ℕ} {a b : R} {piece : List ℕ} (form : Form) (most : ℕ)
-    → Takes remaining failed sure a b piece → length piece ≤ most → Fails remaining failed sure form most a b errors.Memory
-memory_fails {piece} form most p le = record {
+    → Takes remaining failed sure a b piece → length piece ≤ most → Passes form piece → Fails remaining failed sure form most a b errors.Memory
+memory_fails {piece} form most p le passes = record {
   few = record { bytes = piece; consumed = p.consumed; few = le };
   rises = λ is. absurd is;
   counted = λ _. p.counted;
   unsure = λ _ is. is;
+  wanting = λ _. record { bytes = piece; consumed = p.consumed; passes = passes };
   due = λ bytes known is. absurd is;
 }
+
+-- a call fails
+pub unread_fails : {R : Type 0} {remaining : R → Option (List ℕ)} {failed : R → ℕ} {sure : R → Option ℕ} {a b : R} (form : Form) (most : ℕ)
+    → TakesAtMost most (remaining a) (remaining b) → failed a < failed b → (AreSure (sure a) most → ⊥) → Fails remaining failed sure form most a b errors.Read
+unread_fails form most few rises unsure = record {
+  few = few;
+  rises = λ _. rises;
+  counted = λ is. absurd (is tt);
+  unsure = λ is _. unsure is;
+  wanting = not_wanting errors.Read (λ is. is);
+  due = λ bytes known is. absurd is;
+}
+
+-- nothing has come yet of what follows
+pub passes-told : (plan : PlanValue) (piece : List ℕ) → is_batch_length plan (from_be_bytes w64 piece) ≡ true → Passes (told_batch plan piece) []
+passes-told plan piece is = passes-as (needs (from_be_bytes w64 piece)) (told_batch plan piece) [] (told-needs plan piece [] (from_be_bytes w64 piece) refl is)
+    (passes-needs (from_be_bytes w64 piece) [] (omega arith))
+
+pub passes-number : (plan : PlanValue) (piece : List ℕ) → from_be_bytes w16 piece ≤ 3 * (plan.parts - 1) → Passes (told_batches plan piece) []
+passes-number plan piece le = passes-as (batches_form plan (from_be_bytes w16 piece)) (told_batches plan piece) [] (number-told plan piece [] (from_be_bytes w16 piece) refl le)
+    (passes-batches plan (from_be_bytes w16 piece))
+
+pub passes-held : (plan : PlanValue) (version : ℕ) → Passes (held_form plan version) []
+passes-held plan version = elim (cases_Bool (version == 1)) [
+  | inl first ↦ inl (held-none plan version [] (eqb-true version 1 first))
+  | inr second ↦ inr (held-some plan version [] second ∙ followed-err (needs 2) (told_batches plan) [] errors.Short (needs-err 2 [] (omega arith)))
+]
+
+pub passes-body : (part : PartValue) (piece : List ℕ) (h : Header) → head_at piece ≡ h → check_head part h ≡ Ok tt → Passes (told_body part piece) []
+passes-body part piece h is fine = passes-as (body_form part h) (told_body part piece) [] (told-body part piece [] h is fine)
+    (passes-first (needs (fixed_length part h)) (λ _. held_form part.plan h.version) [] (λ _. passes-held part.plan h.version) (passes-needs (fixed_length part h) [] (omega arith)))
+
+pub passes-seal : (text : List ℕ) → Passes (seal_form text) []
+passes-seal text = inr (seal-short text [] (omega arith))
 
 pub most-rises : (part : PartValue) (s t : ℕ) → s ≤ t → most_body part s ≤ most_body part t
 most-rises part s t le = omega (arith, le)
@@ -512,6 +670,15 @@ seal-fine text bytes len is =
     let front : take 32 bytes ≡ sha256 text = take_all 32 bytes (omega (arith, size)) ∙ is in
     let same : bytes_eq (take 32 bytes) (sha256 text) ≡ true = ap (λ (l : List ℕ). bytes_eq l (sha256 text)) front ∙ (text_same (sha256 text)) in
     rw (le-ltb (length bytes) 32 (omega (arith, size)), same, le-ltb 32 (length bytes) (omega (arith, size))) refl
+
+-- what was read is the content, and its digest behind it
+pub whole_read : {R : Type 0} {remaining : R → Option (List ℕ)} {failed : R → ℕ} {sure : R → Option ℕ} {a b : R} {most : ℕ} {t u : List ℕ} (part : PartValue) → (p : Grows remaining failed sure (content_form part) most a b t u)
+    → (text : List ℕ) → p.piece ≡ text → length (sha256 text) ≡ 32 → sealed_form part (p.piece ++ sha256 text) ≡ Ok (length (p.piece ++ sha256 text))
+whole_read part p text is len =
+    followed-at (content_form part) seal_form p.piece (sha256 text) (p.is_form (sha256 text))
+    ∙ ap (λ (l : List ℕ). seal_form l (sha256 text) >>= λ k. Ok (length p.piece + k)) is
+    ∙ ap (λ (r : Result ℕ KeepError). r >>= λ k. Ok (length p.piece + k)) (seal-fine text (sha256 text) len refl)
+    ∙ ap Ok (omega (arith, length-append p.piece (sha256 text), len))
 
 -- all bytes were read and the digest is right
 pub whole_fine : {R : Type 0} {remaining : R → Option (List ℕ)} {failed : R → ℕ} {sure : R → Option ℕ} {a b : R} {most : ℕ} {t u : List ℕ} (c : R) (part : PartValue) (text : List ℕ) → (p : Grows remaining failed sure (content_form part) most a b t u) → p.piece ≡ text

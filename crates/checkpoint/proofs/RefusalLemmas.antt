@@ -16,7 +16,7 @@ use Rattle.replica.proofs.StepLemmas.{get_or-replicate_same}
 use Rattle.checkpoint.specs.declared.header.Header.{Header}
 use Rattle.checkpoint.specs.declared.error.KeepError.{KeepError}
 use Rattle.checkpoint.specs.declared.error.KeepError.TheVariants as errors
-use Rattle.checkpoint.specs.Reading.{head_at, sealed_form, Ends, Refuses, TellNone, IsOfBytes, IsOfBody}
+use Rattle.checkpoint.specs.Reading.{head_at, sealed_form, Ends, Fails, Refuses, TellNone, IsOfBytes, IsOfBody}
 use Rattle.checkpoint.proofs.FormLemmas.{head_is_in, second_fine, first_fine}
 use Rattle.checkpoint.proofs.LawLemmas.{unsealed}
 use Rattle.checkpoint.proofs.LengthLemmas.{front_long}
@@ -99,11 +99,17 @@ body_refuses sure e p of none = record {
   rises = λ is. absurd (body_unread e of is);
   counted = λ _. p.counted;
   unsure = λ _ is. body_unread e of is;
+  wanting = λ _. record { bytes = p.few.bytes; consumed = p.few.consumed; passes = inl p.whole };
   due = λ bytes known told. elim of [
     | inl memory ↦ absurd (subst IsOfBytes memory told)
     | inr shape ↦ inr (shape, p.is_form bytes known, none shape bytes known)
   ];
 }
+
+-- what was not read whole
+pub fails_refuse : {R : Type 0} {remaining : R → Option (List ℕ)} {failed : R → ℕ} {sure : R → Option ℕ} {part : PartValue} {most : ℕ} {a b : R} {e : KeepError}
+    → Fails remaining failed sure (sealed_form part) most a b e → Refuses remaining failed sure part most a b e
+fails_refuse p = record { few = p.few; rises = p.rises; counted = p.counted; unsure = p.unsure; wanting = p.wanting; due = λ bytes known of. inl (p.due bytes known of) }
 
 -- what is not of the bytes
 pub want_of : (e : KeepError) → (IsOfBytes e → ⊥) → (e ≡ errors.Memory) ⊎ (e ≡ errors.Read)

@@ -1,12 +1,11 @@
 -- What was read is the spelling of the replica that is made of it.
-use Rattle.std.proofs.Common.{◌≡◌, ℕ, ◌≤◌, List, [], ◌∷◌, ◌++◌, map, length, get_or, take, drop, refl, ap, ap₂, sym, ◌∙◌, arith, append_assoc}
+use Rattle.std.proofs.Common.{◌≡◌, ℕ, List, [], ◌∷◌, ◌++◌, map, length, take, drop, ap, ap₂, sym, ◌∙◌, append_assoc}
 use Rattle.std.specs.Prelude.{false, slice_index_or}
 use Rattle.std.specs.List.{flat_map, range_with_len}
 use Rattle.std.specs.Arc.{arc_value}
 use Rattle.std.specs.Int.{w16, w64, w128, to_be_bytes}
-use Rattle.std.proofs.lemmas.List.{take-append-drop, get_or-take, get_or_append_left}
-use Rattle.sha2.specs.Sha256.{sha256}
-use Rattle.ball_model.specs.Checkpoint.{checkpoint_bytes, early_bytes, entry_bytes, front_bytes, held_bytes, kept_batches, mark_byte, no_figures, sealed, table_bytes, vertex_bytes}
+use Rattle.std.proofs.lemmas.List.{take-append-drop}
+use Rattle.ball_model.specs.Checkpoint.{checkpoint_bytes, early_bytes, entry_bytes, first_checkpoint_bytes, front_bytes, held_bytes, kept_batches, mark_byte, no_figures, sealed, table_bytes, vertex_bytes}
 use Rattle.ball_model.specs.Job.{PartValue}
 use Rattle.ball_model.specs.State.{State}
 use Rattle.figures.specs.Values.{value_of}
@@ -14,7 +13,6 @@ use Rattle.registers.specs.Flags.{number_of_flags}
 use Rattle.replica.specs.Saved.{IsRebuilt}
 use Rattle.replica.specs.Seen.{IsState}
 use Rattle.replica.specs.declared.saved.Saved.{Saved}
-use Rattle.checkpoint.specs.Reading.{head_at}
 use Rattle.checkpoint.specs.Spelling.{held_text, table_text}
 use Rattle.checkpoint.proofs.TextLemmas.{mask_is}
 
@@ -35,14 +33,15 @@ held_same v long =
     ∙ ap (λ (n : ℕ). (((to_be_bytes w64 n ++ mark) ++ rows) ++ count) ++ early) (mask_is v.heard long)
 
 -- the fields that were saved are those of the replica
+saved_table : (part : PartValue) (s : Saved) (v : State) → IsRebuilt part s v → IsState v → table_text s.marks.items (map value_of s.tallies.items) s.rows.rows s.sums.items ≡ table_bytes v
+saved_table part s v r is = rw (sym r.marks, sym r.tallies, sym r.rows, sym r.sums) (table_same v is.count)
+
 rest_same : (part : PartValue) (s : Saved) (v : State) → IsRebuilt part s v → IsState v
     → table_text s.marks.items (map value_of s.tallies.items) s.rows.rows s.sums.items ++ held_text s.heard s.heard_change s.accumulated.rows (map arc_value s.early.items) ≡ table_bytes v ++ held_bytes v
 rest_same part s v r is =
-    let table : table_text s.marks.items (map value_of s.tallies.items) s.rows.rows s.sums.items ≡ table_bytes v =
-    rw (sym r.marks, sym r.tallies, sym r.rows, sym r.sums) (table_same v is.count) in
     let held : held_text s.heard s.heard_change s.accumulated.rows (map arc_value s.early.items) ≡ held_bytes v =
     rw (sym r.heard, sym r.heard_change, sym r.accumulated, sym r.early) (held_same v is.heard.count) in
-    ap₂ (λ (a b : List ℕ). a ++ b) table held
+    ap₂ (λ (a b : List ℕ). a ++ b) (saved_table part s v r is) held
 
 -- the content of the text
 pub content_is : (part : PartValue) (s : Saved) (v : State) (text : List ℕ) → IsRebuilt part s v → IsState v → take 54 text ≡ front_bytes 2 v
@@ -55,14 +54,12 @@ pub sealed_is : (v : State) (bytes text : List ℕ) → bytes ≡ sealed text �
 unfolding checkpoint_bytes
 sealed_is v bytes text split is = split ∙ ap sealed is
 
--- the version of the whole is that of the front
-pub version_is : (bytes text : List ℕ) → bytes ≡ sealed text → 54 ≤ length text → get_or bytes 4 0 ≡ 2 → (head_at (take 54 text)).version ≡ 2
-unfolding head_at
-version_is bytes text split long second =
-    let whole : get_or text 4 0 ≡ get_or bytes 4 0 = sym (ap (λ (l : List ℕ). get_or l 4 0) split ∙ get_or_append_left text (sha256 text) 0 4 (omega (arith, long))) in
-    get_or-take 54 text 4 0 (omega arith) ∙ whole ∙ second
+-- the same of version 1
+pub first_content_is : (part : PartValue) (s : Saved) (v : State) (text : List ℕ) → IsRebuilt part s v → IsState v → take 54 text ≡ front_bytes 1 v
+    → drop 54 text ≡ table_text s.marks.items (map value_of s.tallies.items) s.rows.rows s.sums.items → text ≡ front_bytes 1 v ++ table_bytes v
+first_content_is part s v text r is front rest =
+    sym (take-append-drop 54 text) ∙ ap₂ (λ (a b : List ℕ). a ++ b) front (rest ∙ saved_table part s v r is)
 
--- the version of a spelling
-pub second_is : (v : State) → get_or (checkpoint_bytes v) 4 0 ≡ 2
-unfolding checkpoint_bytes front_bytes
-second_is v = refl
+pub first_sealed_is : (v : State) (bytes text : List ℕ) → bytes ≡ sealed text → text ≡ front_bytes 1 v ++ table_bytes v → bytes ≡ first_checkpoint_bytes v
+unfolding first_checkpoint_bytes
+first_sealed_is v bytes text split is = split ∙ ap sealed is

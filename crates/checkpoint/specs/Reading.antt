@@ -4,16 +4,18 @@ use Rattle.std.specs.Int.{w16, w32, w64, from_be_bytes}
 use Rattle.std.specs.Io.KnownBytes.{Consumes, IsAtEnd}
 use Rattle.std.specs.Str.{bytes_eq}
 use Rattle.sha2.specs.Sha256.{sha256}
-use Rattle.ball_model.specs.Checkpoint.{checkpoint_bytes, first_checkpoint_bytes}
+use Rattle.ball_model.specs.Checkpoint.{checkpoint_bytes, first_checkpoint_bytes, without_names}
 use Rattle.ball_model.specs.Job.{PartValue}
 use Rattle.ball_model.specs.PlanValue.{PlanValue, part_size}
 use Rattle.ball_model.specs.State.{State}
 use Rattle.ball_model.specs.Streams.{AfterAtMost, AreSure, Rises, TakesAtMost}
 use Rattle.batches.specs.Kept.{field}
+use Rattle.batches.specs.declared.header.TheConstants.{HEADER_LEN as batch_head}
 use Rattle.replica.specs.Saved.{IsKeepable}
 use Rattle.checkpoint.specs.declared.error.KeepError.{KeepError}
 use Rattle.checkpoint.specs.declared.error.KeepError.TheVariants as errors
 use Rattle.checkpoint.specs.declared.header.Header.{Header}
+use Rattle.checkpoint.specs.declared.sizes.TheConstants.{HEADER_LEN, ENTRY_LEN, SUM_LEN, HEARD_LEN, COUNT_LEN, LENGTH_LEN, DIGEST_LEN}
 
 infixl 10 ◌>>=◌
 -- a step and what follows it, or the refusal of the step
@@ -72,18 +74,18 @@ check_head part h =
 -- how many bytes there are up to the early batches: vertices and sums, and in version 2 what is heard
 abbrev pub fixed_length : PartValue → Header → ℕ
 fixed_length part h =
-    length part.preds * (33 + 2 ^ part.plan.log2m) + 16 * (h.superstep + 1)
-    + (if h.version == 1 then 0 else 9 + length part.preds * 2 ^ part.plan.log2m)
+    length part.preds * (ENTRY_LEN + 2 ^ part.plan.log2m) + SUM_LEN * (h.superstep + 1)
+    + (if h.version == 1 then 0 else HEARD_LEN + length part.preds * 2 ^ part.plan.log2m)
 
 -- the length of a batch of at most so many rows as the first partition has vertices
 unfoldable pub is_batch_length : PlanValue → ℕ → Bool
 is_batch_length plan n =
-    nat_le 54 n && ((n - 54) % (4 + 2 ^ plan.log2m) == 0)
-    && nat_le ((n - 54) / (4 + 2 ^ plan.log2m)) (part_size plan.vertices plan.parts 0)
+    nat_le batch_head n && ((n - batch_head) % (4 + 2 ^ plan.log2m) == 0)
+    && nat_le ((n - batch_head) / (4 + 2 ^ plan.log2m)) (part_size plan.vertices plan.parts 0)
 
 -- the greatest such length
 abbrev pub greatest_batch : PlanValue → ℕ
-greatest_batch plan = 54 + part_size plan.vertices plan.parts 0 * (4 + 2 ^ plan.log2m)
+greatest_batch plan = batch_head + part_size plan.vertices plan.parts 0 * (4 + 2 ^ plan.log2m)
 
 -- as many bytes as the length says
 unfoldable pub told_batch : PlanValue → List ℕ → Form
@@ -93,7 +95,7 @@ told_batch plan number rest =
 
 -- a batch, and before it its length
 abbrev pub batch_form : PlanValue → Form
-batch_form plan = followed (needs 8) (told_batch plan)
+batch_form plan = followed (needs LENGTH_LEN) (told_batch plan)
 
 unfoldable pub batches_form : PlanValue → ℕ → Form
 batches_form plan zero bytes = Ok 0
@@ -106,7 +108,7 @@ told_batches plan number rest =
     else batches_form plan (from_be_bytes w16 number) rest
 
 abbrev pub early_form : PlanValue → Form
-early_form plan = followed (needs 2) (told_batches plan)
+early_form plan = followed (needs COUNT_LEN) (told_batches plan)
 
 -- in version 2 there are early batches
 unfoldable pub held_form : PlanValue → ℕ → Form
@@ -121,7 +123,7 @@ told_body part head rest = check_head part (head_at head) >>= λ fine. body_form
 
 -- all that stands before the digest
 abbrev pub content_form : PartValue → Form
-content_form part = followed (needs 54) (told_body part)
+content_form part = followed (needs HEADER_LEN) (told_body part)
 
 -- the digest of the content, and nothing after it
 unfoldable pub seal_form : List ℕ → Form
@@ -134,18 +136,28 @@ seal_form content bytes =
 abbrev pub sealed_form : PartValue → Form
 sealed_form part = followed (content_form part) seal_form
 
+-- no check of the bytes fails: they are of the form, or more has to come
+abbrev pub Passes : Form → List ℕ → Type 0
+Passes form bytes = (form bytes ≡ Ok (length bytes)) ⊎ (form bytes ≡ Err errors.Short)
+
+-- no check of what was read fails
+pub record PassesSoFar (form : Form) (old new : Option (List ℕ)) : Type 0 where
+  pub bytes : List ℕ
+  pub consumed : Consumes old new bytes
+  pub passes : Passes form bytes
+
 -- ---- what is read at most
 abbrev pub most_early : PlanValue → ℕ
 most_early plan = 2 + 3 * (plan.parts - 1) * (8 + greatest_batch plan)
 
 abbrev pub most_body : PartValue → ℕ → ℕ
 most_body part t =
-    length part.preds * (33 + 2 ^ part.plan.log2m) + 16 * (t + 1)
-    + 9 + length part.preds * 2 ^ part.plan.log2m + most_early part.plan
+    length part.preds * (ENTRY_LEN + 2 ^ part.plan.log2m) + SUM_LEN * (t + 1)
+    + HEARD_LEN + length part.preds * 2 ^ part.plan.log2m + most_early part.plan
 
 -- the length of a checkpoint of the part at superstep t with the most and the greatest early batches
 abbrev pub most_bytes : PartValue → ℕ → ℕ
-most_bytes part t = 54 + most_body part t + 32
+most_bytes part t = HEADER_LEN + most_body part t + DIGEST_LEN
 
 -- ---- readers
 -- a read failed
@@ -180,13 +192,15 @@ pub record Grows {R : Type 0} (remaining : R → Option (List ℕ)) (failed : R 
     pub is_form : (rest : List ℕ) → form (piece ++ rest) ≡ Ok (length piece)
     pub few : length piece ≤ most
 
--- they were not: a call failed that was not sure, memory was refused, or the bytes are refused
+-- they were not: a call failed that was not sure, memory was refused where no check of what was read fails, or the bytes
+-- are refused
 pub record Fails {R : Type 0} (remaining : R → Option (List ℕ)) (failed : R → ℕ)
     (sure : R → Option ℕ) (form : Form) (most : ℕ) (old new : R) (e : KeepError) : Type 0 where
   pub few : TakesAtMost most (remaining old) (remaining new)
   pub rises : IsRead e → Rises (failed old) (failed new)
   pub counted : (IsRead e → ⊥) → failed new ≡ failed old
   pub unsure : AreSure (sure old) most → IsRead e → ⊥
+  pub wanting : e ≡ errors.Memory → PassesSoFar form (remaining old) (remaining new)
   pub due : (bytes : List ℕ) → remaining old ≡ Some bytes → IsOfBytes e → form bytes ≡ Err e
 
 -- all bytes were read, at most so many and no more, and are of the form
@@ -195,24 +209,42 @@ pub record Ends {R : Type 0} (remaining : R → Option (List ℕ)) (failed : R �
   pub few : TakesAtMost most (remaining old) (remaining new)
   pub end : IsAtEnd (remaining new)
   pub counted : failed new ≡ failed old
+  pub whole : form few.bytes ≡ Ok (length few.bytes)
   pub is_form : (bytes : List ℕ) → remaining old ≡ Some bytes → IsOk (form bytes)
+
+-- the bytes are a spelling of the replica: in version 2, or in version 1 of one that holds nothing
+abbrev pub IsSpelling : State → List ℕ → Type 0
+IsSpelling v bytes =
+    (bytes ≡ checkpoint_bytes v) ⊎ ((bytes ≡ first_checkpoint_bytes v) × (v ≡ without_names v))
 
 -- the bytes are the spelling of no replica of the part, in neither version
 pub record TellNone (part : PartValue) (bytes : List ℕ) : Type 0 where
   pub second : (v : State) → IsKeepable v → v.part ≡ part → bytes ≢ checkpoint_bytes v
   pub first : (v : State) → IsKeepable v → v.part ≡ part → bytes ≢ first_checkpoint_bytes v
 
--- a call failed that was not sure, memory was refused, the form of the part refuses the bytes, or they are of the form and
--- tell what no replica has
+-- a call failed that was not sure, memory was refused where no check of what was read fails, the form of the part refuses
+-- the bytes, or they are of the form and tell what no replica has
 pub record Refuses {R : Type 0} (remaining : R → Option (List ℕ)) (failed : R → ℕ)
     (sure : R → Option ℕ) (part : PartValue) (most : ℕ) (old new : R) (e : KeepError) : Type 0 where
   pub few : TakesAtMost most (remaining old) (remaining new)
   pub rises : IsRead e → Rises (failed old) (failed new)
   pub counted : (IsRead e → ⊥) → failed new ≡ failed old
   pub unsure : AreSure (sure old) most → IsRead e → ⊥
+  pub wanting : e ≡ errors.Memory →
+      PassesSoFar (sealed_form part) (remaining old) (remaining new)
   pub due : (bytes : List ℕ) → remaining old ≡ Some bytes → IsOfBytes e →
       (sealed_form part bytes ≡ Err e)
       ⊎ ((e ≡ errors.Shape) × IsOk (sealed_form part bytes) × TellNone part bytes)
+
+-- the fixed fields stand there, and they are those of a replica of the part
+pub record HasHead (part : PartValue) (bytes : List ℕ) : Type 0 where
+  pub long : HEADER_LEN ≤ length bytes
+  pub passes : check_head part (head_at (take HEADER_LEN bytes)) ≡ Ok tt
+
+-- where it is Ok, and where memory was refused, this is so
+abbrev pub OnOkOrMemory : {A : Type 0} → Result A KeepError → Type 0 → Type 0
+OnOkOrMemory (Ok x) has = has
+OnOkOrMemory (Err e) has = e ≡ errors.Memory → has
 
 -- it is Ok and has this, but where memory was refused or a read failed
 abbrev pub IfOkButWant : {A : Type 0} → Result A KeepError → (A → Type 0) → Type 0

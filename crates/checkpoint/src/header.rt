@@ -6,13 +6,11 @@ ghost use Rattle.batches.specs.Kept.{field};
 ghost use Rattle.checkpoint.specs.Reading.{check_head, head_at, IsRead};
 
 use crate::error::KeepError;
+use crate::sizes::HEADER_LEN;
 use edgelist::Part;
 
 /// `HBCK`.
 pub(crate) const MAGIC: u32 = 0x4842_434b;
-
-/// How many bytes the fixed fields have.
-pub(crate) const HEADER_LEN: usize = 54;
 
 /// The fixed fields, as they stand.
 #[derive(Clone, Copy)]
@@ -89,6 +87,7 @@ pub(crate) fn check_header(part: &Part, header: &Header) -> Result<(), KeepError
     ensures in_time { OnOk result (header.now.superstep ≤ part.now.plan.limit) }
     ensures small { OnOk result (header.now.superstep ≤ 4096) }
     ensures of_bytes { IfErr result (λ e. IsRead e → ⊥) }
+    ensures memory { IfErr result (λ e. e ≡ KeepError.Memory → ⊥) }
 {
     let plan = part.plan();
     if header.magic != MAGIC {

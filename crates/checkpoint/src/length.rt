@@ -7,29 +7,9 @@ ghost use Rattle.ball_model.specs.Checkpoint.{checkpoint_bytes, early_bytes, kep
 ghost use Rattle.ball_model.specs.PlanValue.{most_parts};
 ghost use Rattle.checkpoint.specs.Parts.{nth_bytes, greatest_batch};
 
+use crate::sizes::{COUNT_LEN, DIGEST_LEN, ENTRY_LEN, HEADER_LEN, HEARD_LEN, LENGTH_LEN, SUM_LEN};
 use batches::Batch;
 use replica::{Replica, Shown};
-
-/// How many bytes stand before the vertices.
-const FRONT_LEN: u64 = 54;
-
-/// How many bytes each vertex has beside its registers: a mark and its figures.
-const ENTRY_LEN: u64 = 33;
-
-/// How many bytes stand before the accumulators: what is heard, and whether it tells of a change.
-const HEARD_LEN: u64 = 9;
-
-/// How many bytes each sum has.
-const SUM_LEN: u64 = 16;
-
-/// How many bytes the number of batches has.
-const COUNT_LEN: u64 = 2;
-
-/// How many bytes the length of a batch has.
-const LENGTH_LEN: u64 = 8;
-
-/// How many bytes a SHA-256 has.
-const DIGEST_LEN: u64 = 32;
 
 /// How many bytes [`write_checkpoint`](crate::write_checkpoint) writes. It takes no memory.
 ///
@@ -43,14 +23,14 @@ pub fn checkpoint_length(replica: &Replica) -> u64
     let size = replica.rows().len() as u64;
     let width = replica.rows().width() as u64;
     let sums = replica.sums().len() as u64;
-    FRONT_LEN
-        + size * (ENTRY_LEN + width)
-        + SUM_LEN * sums
-        + HEARD_LEN
+    HEADER_LEN as u64
+        + size * (ENTRY_LEN as u64 + width)
+        + SUM_LEN as u64 * sums
+        + HEARD_LEN as u64
         + size * width
-        + COUNT_LEN
+        + COUNT_LEN as u64
         + early_length(replica)
-        + DIGEST_LEN
+        + DIGEST_LEN as u64
 }
 
 // How many bytes the batches have that are kept, each with its length before it.
@@ -73,7 +53,7 @@ fn nth_length(replica: &Replica, i: u32) -> u64
     ensures few { result ≤ greatest_batch }
 {
     match replica.early(i) {
-        Some(batch) => LENGTH_LEN + batch_length(batch),
+        Some(batch) => LENGTH_LEN as u64 + batch_length(batch),
         None => 0,
     }
 }

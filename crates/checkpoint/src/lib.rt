@@ -18,6 +18,7 @@ pub mod laws;
 pub mod length;
 pub mod read;
 mod saved;
+mod sizes;
 mod spool;
 mod stream;
 pub mod write;

@@ -1,19 +1,20 @@
 //! Reading a checkpoint.
 
-ghost use Rattle.std.specs.Prelude.{◌≡◌, ◌+◌, ◌≤◌, ℕ, List, [], Ok, Some, IfOk, OnOk, IfErr, length, take, slice_index_or};
+ghost use Rattle.std.specs.Prelude.{◌≡◌, ◌+◌, ◌≤◌, ℕ, List, [], Ok, Some, IfOk, OnOk, IfErr, length, take, ◌⊎◌};
 ghost use Rattle.std.specs.Arc.{arc_value};
 ghost use Rattle.ball_model.specs.Checkpoint.{checkpoint_bytes, first_checkpoint_bytes, sealed, without_names};
 ghost use Rattle.ball_model.specs.State.{State};
 ghost use Rattle.ball_model.specs.Streams.{AreSure, TakesAtMost};
 ghost use Rattle.replica.specs.Saved.{Fits, IsKeepable, IsRebuilt};
 ghost use Rattle.replica.specs.Seen.{IsState};
-ghost use Rattle.checkpoint.specs.Reading.{needs, head_at, check_head, content_form, sealed_form, most_body, most_bytes, Ends, Grows, Fails, Refuses, IsRead, IfOkButWant};
+ghost use Rattle.checkpoint.specs.Reading.{needs, head_at, check_head, content_form, sealed_form, most_body, most_bytes, Ends, Grows, Fails, Refuses, HasHead, IsRead, IsSpelling, IfOkButWant, OnOkOrMemory};
 
 use crate::error::KeepError;
-use crate::header::{HEADER_LEN, Header, check_header, read_header};
+use crate::header::{Header, check_header, read_header};
 use crate::saved::saved_of;
-use crate::stream::{read_body, read_seal};
-use ball_model::{CountedRead, Filled, fill};
+use crate::sizes::HEADER_LEN;
+use crate::stream::{read_body, read_full, read_seal};
+use ball_model::CountedRead;
 use edgelist::Part;
 use replica::{Replica, Saved};
 use std::alloc::Global;
@@ -33,15 +34,13 @@ fn read_head<R: CountedRead>(
     ensures checked { IfOk result (λ h. check_head part.now h ≡ Ok tt) }
     ensures in_time { IfOk result (λ h. h.superstep ≤ part.now.plan.limit) }
     ensures small { IfOk result (λ h. h.superstep ≤ 4096) }
+    ensures front { (bytes : List ℕ) → R.remaining reader.old ≡ Some bytes →
+        OnOkOrMemory result (HasHead part.now bytes) }
     ensures fails { IfErr result (λ e. Fails R.remaining R.failed_calls R.sure_calls
         (content_form part.now) HEADER_LEN reader.old reader.new e) }
 {
     let mut head = [0; HEADER_LEN];
-    match fill(reader, &mut head) {
-        Filled::Full => {}
-        Filled::Ended { count: _ } => return Err(KeepError::Short),
-        Filled::Failed => return Err(KeepError::Read),
-    }
+    read_full(reader, &mut head)?;
     let header = read_header(&head);
     check_header(part, &header)?;
     text.extend_from_slice(&head)?;
@@ -56,15 +55,17 @@ fn read_content<R: CountedRead>(
 ) -> Result<Header, KeepError>
     requires { text.old.items ≡ [] }
     ensures done { OnOk result (Grows R.remaining R.failed_calls R.sure_calls
-        (content_form part.now) (54 + most_body part.now part.now.plan.limit)
+        (content_form part.now) (HEADER_LEN + most_body part.now part.now.plan.limit)
         reader.old reader.new text.old.items text.new.items) }
     ensures head { IfOk result (λ h. h ≡ head_at (take HEADER_LEN text.new.items)) }
     ensures length { OnOk result (HEADER_LEN ≤ length text.new.items) }
     ensures checked { IfOk result (λ h. check_head part.now h ≡ Ok tt) }
     ensures in_time { IfOk result (λ h. h.superstep ≤ part.now.plan.limit) }
     ensures small { IfOk result (λ h. h.superstep ≤ 4096) }
+    ensures front { (bytes : List ℕ) → R.remaining reader.old ≡ Some bytes →
+        OnOkOrMemory result (HasHead part.now bytes) }
     ensures fails { IfErr result (λ e. Fails R.remaining R.failed_calls R.sure_calls
-        (content_form part.now) (54 + most_body part.now part.now.plan.limit)
+        (content_form part.now) (HEADER_LEN + most_body part.now part.now.plan.limit)
         reader.old reader.new e) }
 {
     let header = read_head(part, reader, text)?;
@@ -88,6 +89,8 @@ fn read_text<R: CountedRead>(
         bytes ≡ sealed text.new.items) }
     ensures in_time { IfOk result (λ h. h.superstep ≤ part.now.plan.limit) }
     ensures small { IfOk result (λ h. h.superstep ≤ 4096) }
+    ensures front { (bytes : List ℕ) → R.remaining reader.old ≡ Some bytes →
+        OnOkOrMemory result (HasHead part.now bytes) }
     ensures fails { IfErr result (λ e. Fails R.remaining R.failed_calls R.sure_calls
         (sealed_form part.now) (most_bytes part.now part.now.plan.limit + 1)
         reader.old reader.new e) }
@@ -107,11 +110,13 @@ fn read_saved<R: CountedRead>(
     ensures done { OnOk result (Ends R.remaining R.failed_calls (sealed_form part.now)
         (most_bytes part.now part.now.plan.limit + 1) reader.old reader.new) }
     ensures spelled { IfOk result (λ s. (v : State) → IsRebuilt part.now s v → IsState v →
-        (bytes : List ℕ) → R.remaining reader.old ≡ Some bytes → slice_index_or bytes 4 0 ≡ 2 →
-        bytes ≡ checkpoint_bytes v) }
+        (bytes : List ℕ) → R.remaining reader.old ≡ Some bytes →
+        (bytes ≡ checkpoint_bytes v) ⊎ (bytes ≡ first_checkpoint_bytes v)) }
     ensures first { IfOk result (λ s. (v : State) → IsKeepable v → v.part ≡ part.now →
         R.remaining reader.old ≡ Some (first_checkpoint_bytes v) →
         IsRebuilt part.now s (without_names v)) }
+    ensures front { (bytes : List ℕ) → R.remaining reader.old ≡ Some bytes →
+        OnOkOrMemory result (HasHead part.now bytes) }
     ensures refused { IfErr result (λ e. Refuses R.remaining R.failed_calls R.sure_calls
         part.now (most_bytes part.now part.now.plan.limit + 1)
         reader.old reader.new e) }
@@ -146,9 +151,9 @@ pub fn read_checkpoint<R: CountedRead>(
     // All bytes were read, their parts stand in order, and the digest is right.
     ensures whole { OnOk result (Ends R.remaining R.failed_calls (sealed_form (arc_value part))
         (most_bytes (arc_value part) (arc_value part).plan.limit + 1) reader.old reader.new) }
-    // What is read of version 2 is the spelling of the replica; so what was written is read.
-    ensures read { IfOk result (λ r. (bytes : List ℕ) → R.remaining reader.old ≡ Some bytes →
-        slice_index_or bytes 4 0 ≡ 2 → bytes ≡ checkpoint_bytes r) }
+    // What is read is a spelling of the replica: in version 2, or in version 1 of one that holds nothing.
+    ensures spelling { IfOk result (λ r. (bytes : List ℕ) → R.remaining reader.old ≡ Some bytes →
+        IsSpelling r bytes) }
     // What was written of a replica of the part is read as that replica, but where memory is refused or a read fails; what
     // version 1 wrote, as the replica without what it held.
     ensures back { (v : State) → IsKeepable v → v.part ≡ arc_value part →
@@ -164,6 +169,9 @@ pub fn read_checkpoint<R: CountedRead>(
     ensures only { AreSure (R.sure_calls reader.old)
         (most_bytes (arc_value part) (arc_value part).plan.limit + 1) →
         IfErr result (λ e. IsRead e → ⊥) }
+    // Memory is refused only after the checks of the fixed fields.
+    ensures front { (bytes : List ℕ) → R.remaining reader.old ≡ Some bytes →
+        OnOkOrMemory result (HasHead (arc_value part) bytes) }
     // Which refusal it is, and what was read.
     ensures refused { IfErr result (λ e. Refuses R.remaining R.failed_calls R.sure_calls
         (arc_value part) (most_bytes (arc_value part) (arc_value part).plan.limit + 1)

@@ -14,12 +14,13 @@ ghost use Rattle.std.specs.Arc.{arc_value};
 ghost use Rattle.figures.specs.Values.{value_of};
 ghost use Rattle.batches.specs.Kept.{field};
 ghost use Rattle.checkpoint.specs.Reading.{IsOfBody};
-ghost use Rattle.checkpoint.specs.declared.header.TheConstants.{HEADER_LEN};
+ghost use Rattle.checkpoint.specs.declared.sizes.TheConstants.{HEADER_LEN};
 ghost use Rattle.checkpoint.specs.Spelling.{held_text, table_text};
 ghost use Rattle.checkpoint.specs.Told.{IsAdded, AreNone, AreTold, IsSmall, IfOkButMemory, AreNext, AreOf, IsOfPlan, IsHeldOf, IsUnnamed};
 
 use crate::error::KeepError;
-use crate::header::{HEADER_LEN, Header, u16_at};
+use crate::header::{Header, u16_at};
+use crate::sizes::HEADER_LEN;
 use crate::stream::u64_at;
 use batches::{Batch, BatchError};
 use edgelist::Part;
@@ -456,6 +457,8 @@ pub(crate) fn saved_of(
     ensures spelled { header.now.version ≡ 2 → IfOk result (λ s. drop HEADER_LEN text.now ≡
         table_text s.marks.items (map value_of s.tallies.items) s.rows.rows s.sums.items
         ++ held_text s.heard s.heard_change s.accumulated.rows (map arc_value s.early.items)) }
+    ensures first_spelled { header.now.version ≡ 1 → IfOk result (λ s. drop HEADER_LEN text.now ≡
+        table_text s.marks.items (map value_of s.tallies.items) s.rows.rows s.sums.items) }
     ensures right { header.now.version ≡ 2 → (v : State) → IsKeepable v → v.part ≡ part.now →
         v.superstep ≡ header.now.superstep →
         drop HEADER_LEN text.now ≡ table_bytes v ++ held_bytes v →

@@ -5,10 +5,11 @@ ghost use Rattle.std.specs.Int.{w16, w64, from_be_bytes};
 ghost use Rattle.std.specs.Io.KnownBytes.{Consumes, IsAtEnd};
 ghost use Rattle.sha2.specs.Sha256.{sha256};
 ghost use Rattle.batches.specs.Kept.{field};
-ghost use Rattle.checkpoint.specs.Reading.{needs, Grows, Fails, is_batch_length, batch_form, batches_form, greatest_batch, early_form, most_early, body_form, most_body, fixed_length, seal_form};
+ghost use Rattle.checkpoint.specs.Reading.{needs, Takes, Grows, Fails, is_batch_length, batch_form, batches_form, greatest_batch, early_form, most_early, body_form, most_body, fixed_length, seal_form};
 
 use crate::error::KeepError;
-use crate::header::{Header, u16_at};
+use crate::header::Header;
+use crate::sizes::{COUNT_LEN, DIGEST_LEN, ENTRY_LEN, HEARD_LEN, LENGTH_LEN, SUM_LEN};
 use ball_model::{CountedRead, Filled, Plan, fill};
 use edgelist::Part;
 use sha2::{Digest, Sha256};
@@ -21,9 +22,24 @@ pub(crate) fn u64_at(bytes: &[u8], at: usize) -> u64
     requires { at + 8 ≤ length bytes.now }
     ensures { result ≡ field w64 at bytes.now }
 {
-    let mut number = [0; 8];
+    let mut number = [0; LENGTH_LEN];
     number.copy_from_slice(&bytes[at..at + 8]);
     u64::from_be_bytes(number)
+}
+
+// Fills a buffer.
+pub(crate) fn read_full<R: CountedRead>(reader: &mut R, buffer: &mut [u8]) -> Result<(), KeepError>
+    ensures done { OnOk result (Takes R.remaining R.failed_calls R.sure_calls
+        reader.old reader.new buffer.new) }
+    ensures fails { IfErr result (λ e. Fails R.remaining R.failed_calls R.sure_calls
+        (needs (length buffer.old)) (length buffer.old) reader.old reader.new e) }
+    ensures memory { IfErr result (λ e. e ≡ KeepError.Memory → ⊥) }
+{
+    match fill(reader, buffer) {
+        Filled::Full => Ok(()),
+        Filled::Ended { count: _ } => Err(KeepError::Short),
+        Filled::Failed => Err(KeepError::Read),
+    }
 }
 
 // Reads a piece behind the text.
@@ -40,11 +56,7 @@ fn read_piece<R: CountedRead>(
 {
     let mut buffer = [0; PIECE];
     let (piece, _) = buffer.split_at_mut(count);
-    match fill(reader, piece) {
-        Filled::Full => {}
-        Filled::Ended { count: _ } => return Err(KeepError::Short),
-        Filled::Failed => return Err(KeepError::Read),
-    }
+    read_full(reader, piece)?;
     text.extend_from_slice(piece)?;
     Ok(())
 }
@@ -74,11 +86,12 @@ fn read_more<R: CountedRead>(
 fn may_be_batch(plan: &Plan, length: u64) -> bool
     ensures { result ≡ is_batch_length plan.now length }
 {
-    if length < 54 {
+    let head = batches::HEADER_LEN as u64;
+    if length < head {
         return false;
     }
     let row = 4 + plan.width() as u64;
-    (length - 54) % row == 0 && (length - 54) / row <= u64::from(plan.part_size(0))
+    (length - head) % row == 0 && (length - head) / row <= u64::from(plan.part_size(0))
 }
 
 // Reads a batch and before it its length.
@@ -92,12 +105,13 @@ fn read_batch<R: CountedRead>(
     ensures fails { IfErr result (λ e. Fails R.remaining R.failed_calls R.sure_calls
         (batch_form plan.now) (8 + greatest_batch plan.now) reader.old reader.new e) }
 {
-    let start = text.len();
-    read_more(reader, text, 8)?;
-    let length = u64_at(text, start);
+    let mut number = [0; LENGTH_LEN];
+    read_full(reader, &mut number)?;
+    let length = u64::from_be_bytes(number);
     if !may_be_batch(plan, length) {
         return Err(KeepError::Shape);
     }
+    text.extend_from_slice(&number)?;
     read_more(reader, text, length as usize)
 }
 
@@ -132,12 +146,13 @@ fn read_early<R: CountedRead>(
     ensures fails { IfErr result (λ e. Fails R.remaining R.failed_calls R.sure_calls
         (early_form plan.now) (most_early plan.now) reader.old reader.new e) }
 {
-    let start = text.len();
-    read_more(reader, text, 2)?;
-    let count = u16_at(text, start);
+    let mut told = [0; COUNT_LEN];
+    read_full(reader, &mut told)?;
+    let count = u16::from_be_bytes(told);
     if count > 3 * (plan.parts() - 1) {
         return Err(KeepError::Shape);
     }
+    text.extend_from_slice(&told)?;
     read_batches(reader, plan, text, count)
 }
 
@@ -148,11 +163,11 @@ pub(crate) fn fixed_len(part: &Part, header: &Header) -> usize
 {
     let size = part.size() as usize;
     let width = part.plan().width();
-    let table = size * (33 + width) + 16 * (header.superstep as usize + 1);
+    let table = size * (ENTRY_LEN + width) + SUM_LEN * (header.superstep as usize + 1);
     if header.version == 1 {
         return table;
     }
-    table + 9 + size * width
+    table + HEARD_LEN + size * width
 }
 
 // Reads what follows the fixed fields, up to the digest.
@@ -186,7 +201,7 @@ pub(crate) fn read_seal<R: CountedRead>(reader: &mut R, text: &[u8]) -> Result<(
     ensures fails { IfErr result (λ e. Fails R.remaining R.failed_calls R.sure_calls
         (seal_form text.now) 33 reader.old reader.new e) }
 {
-    let mut digest = [0; 32];
+    let mut digest = [0; DIGEST_LEN];
     match fill(reader, &mut digest) {
         Filled::Full => {}
         Filled::Ended { count: _ } => return Err(KeepError::Short),

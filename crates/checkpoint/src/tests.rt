@@ -1,11 +1,15 @@
 //! What no clause says: the bytes of worked replicas.
 
+mod damage;
+mod dripping;
 mod reading;
+mod running;
+mod same;
 mod writing;
 
 use crate::laws;
 use ball_model::CountingReader;
-use edgelist::{Delimiter, EdgeLimits, Graph, read_edges};
+use edgelist::{Delimiter, EdgeLimits, Graph, Part, read_edges};
 use replica::Replica;
 use std::hash::RandomState;
 use std::sync::Arc;
@@ -21,15 +25,37 @@ fn graph(rt: &HostRuntime, text: &[u8]) -> Option<Graph> {
     read_edges(rt.alloc(), state, &mut reader, Delimiter::Tab, limits).ok()
 }
 
-/// A new replica of a partition of a graph, at 16 registers under seed 0.
-fn replica_of(rt: &HostRuntime, text: &[u8], parts: u16, partition: u16) -> Option<Replica> {
-    let graph = graph(rt, text)?;
-    let plan = graph.plan(4, 0, parts, 4096).ok()?;
+/// One of so many parts of a graph, at 16 registers under a seed.
+fn part_in(
+    rt: &HostRuntime,
+    graph: &Graph,
+    seed: u64,
+    parts: u16,
+    partition: u16,
+) -> Option<Arc<Part>> {
+    let plan = graph.plan(4, seed, parts, 4096).ok()?;
     if partition >= plan.parts() {
         return None;
     }
     let part = graph.part(rt.alloc(), &plan, partition).ok()?;
-    let part = Arc::new(rt.alloc(), part).ok()?;
+    Arc::new(rt.alloc(), part).ok()
+}
+
+/// The same of the graph of an edge list.
+fn part_of(
+    rt: &HostRuntime,
+    text: &[u8],
+    seed: u64,
+    parts: u16,
+    partition: u16,
+) -> Option<Arc<Part>> {
+    let graph = graph(rt, text)?;
+    part_in(rt, &graph, seed, parts, partition)
+}
+
+/// A new replica of a partition of a graph, at 16 registers under seed 0.
+fn replica_of(rt: &HostRuntime, text: &[u8], parts: u16, partition: u16) -> Option<Replica> {
+    let part = part_of(rt, text, 0, parts, partition)?;
     Replica::new(rt.alloc(), part).ok()
 }
 

@@ -3,7 +3,7 @@
 //! The graph has the edges a b and b c in one partition. Under seed 0 at 16 registers vertex 0 has rank 3 in register
 //! 14, vertex 1 rank 1 in register 6, vertex 2 rank 2 in register 0. The bytes are those at superstep 2.
 
-use super::graph;
+use super::part_of;
 use super::writing::{WINDOW_EDGE, writes};
 use crate::{KeepError, read_checkpoint};
 use ball_model::MemReader;
@@ -30,11 +30,8 @@ const HELD: [u8; 59] = [
 ];
 
 // The part of the two edges, under that seed.
-fn part(rt: &HostRuntime, seed: u64) -> Option<Arc<Part>> {
-    let graph = graph(rt, b"a\tb\nb\tc\n")?;
-    let plan = graph.plan(4, seed, 1, 4096).ok()?;
-    let part = graph.part(rt.alloc(), &plan, 0).ok()?;
-    Arc::new(rt.alloc(), part).ok()
+pub(super) fn part(rt: &HostRuntime, seed: u64) -> Option<Arc<Part>> {
+    part_of(rt, b"a\tb\nb\tc\n", seed, 1, 0)
 }
 
 // The fixed fields of a version, the vertices and the sums, and then what is held.
@@ -58,7 +55,11 @@ fn seal(mut bytes: Vec<u8>) -> Option<Vec<u8>> {
 }
 
 // What comes of reading the bytes as a checkpoint of the part.
-fn read(rt: &HostRuntime, part: &Arc<Part>, bytes: &[u8]) -> Option<Result<Replica, KeepError>> {
+pub(super) fn read(
+    rt: &HostRuntime,
+    part: &Arc<Part>,
+    bytes: &[u8],
+) -> Option<Result<Replica, KeepError>> {
     let part = part.clone().ok()?;
     Some(read_checkpoint(rt.alloc(), part, &mut MemReader::new(bytes, None)))
 }
@@ -69,7 +70,7 @@ fn refusal(rt: &HostRuntime, part: &Arc<Part>, bytes: &[u8]) -> Option<KeepError
 }
 
 // The bytes of both versions.
-fn both(rt: &HostRuntime, part: &Part) -> Option<(Vec<u8>, Vec<u8>)> {
+pub(super) fn both(rt: &HostRuntime, part: &Part) -> Option<(Vec<u8>, Vec<u8>)> {
     let first = seal(content(rt, part, 1, &[])?)?;
     let second = seal(content(rt, part, 2, &HELD)?)?;
     Some((first, second))
@@ -90,14 +91,18 @@ fn told(replica: &Replica) -> Option<(u32, u64, u64, u128, u32)> {
     ))
 }
 
-// Both versions are read as superstep 2.
+// So many bytes are read as superstep 2.
+fn is_read(rt: &HostRuntime, part: &Arc<Part>, bytes: &[u8], count: usize) -> Option<bool> {
+    let replica = read(rt, part, bytes)?.ok()?;
+    let wanted = (2, 12_417_153, 751_274, 1_856_191, 0);
+    Some(bytes.len() == count && told(&replica)? == wanted)
+}
+
+// Both versions are.
 fn reads(rt: &HostRuntime) -> Option<bool> {
     let part = part(rt, 0)?;
     let (first, second) = both(rt, &part)?;
-    let one = told(&read(rt, &part, &first)?.ok()?)?;
-    let two = told(&read(rt, &part, &second)?.ok()?)?;
-    let wanted = (2, 12_417_153, 751_274, 1_856_191, 0);
-    Some(first.len() == 281 && second.len() == 340 && one == wanted && two == wanted)
+    Some(is_read(rt, &part, &first, 281)? && is_read(rt, &part, &second, 340)?)
 }
 
 // Each cut of the bytes ends too early.
@@ -109,15 +114,26 @@ fn cuts(rt: &HostRuntime, part: &Arc<Part>, bytes: &[u8]) -> Option<bool> {
     Some(all)
 }
 
-// Each call of the reader that fails is told of.
+// What comes of reading where that call of the reader fails.
+fn failing_at(
+    rt: &HostRuntime,
+    part: &Arc<Part>,
+    bytes: &[u8],
+    call: u64,
+) -> Option<Option<KeepError>> {
+    let part = part.clone().ok()?;
+    let mut reader = MemReader::new(bytes, Some(call));
+    Some(read_checkpoint(rt.alloc(), part, &mut reader).err())
+}
+
+// Each call of the reader that fails is told of. They are five: fixed fields, the table, the number of batches, the
+// digest, and the end.
 fn failing(rt: &HostRuntime, part: &Arc<Part>, bytes: &[u8]) -> Option<bool> {
     let mut all = true;
-    for call in 1..5 {
-        let mut reader = MemReader::new(bytes, Some(call));
-        let result = read_checkpoint(rt.alloc(), part.clone().ok()?, &mut reader);
-        all &= result.err()? == KeepError::Read;
+    for call in 1..6 {
+        all &= failing_at(rt, part, bytes, call)? == Some(KeepError::Read);
     }
-    Some(all)
+    Some(all && failing_at(rt, part, bytes, 6)?.is_none())
 }
 
 // The bytes with another byte at a place, refused with the digest that they have.
@@ -203,17 +219,28 @@ fn faults_are_told(rt: HostRuntime) {
     assert_eq!(rt; faults(&rt), Some((true, true, true, true)));
 }
 
+// The refusal of the bytes under another seed.
+fn of_other_job(rt: &HostRuntime, bytes: &[u8]) -> Option<KeepError> {
+    let other = part(rt, 1)?;
+    refusal(rt, &other, bytes)
+}
+
+// The refusal of the bytes and one more.
+fn trailing(rt: &HostRuntime, part: &Arc<Part>, bytes: &[u8]) -> Option<KeepError> {
+    let mut more = Vec::new(rt.alloc());
+    more.extend_from_slice(bytes).ok()?;
+    more.push(0).ok()?;
+    refusal(rt, part, &more)
+}
+
 // Another seed, a changed bit of a vertex, one byte more, and a number of early batches above none.
 fn others(rt: &HostRuntime) -> Option<(KeepError, KeepError, KeepError, KeepError)> {
     let own = part(rt, 0)?;
-    let (_, mut bytes) = both(rt, &own)?;
-    let other = part(rt, 1)?;
-    let job = refusal(rt, &other, &bytes)?;
-    bytes.push(0).ok()?;
+    let bytes = seal(content(rt, &own, 2, &HELD)?)?;
     Some((
-        job,
+        of_other_job(rt, &bytes)?,
         changed(rt, &own, 60, 1)?,
-        refusal(rt, &own, &bytes)?,
+        trailing(rt, &own, &bytes)?,
         changed(rt, &own, 307, 1)?,
     ))
 }
@@ -231,29 +258,29 @@ fn others_are_refused(rt: HostRuntime) {
     );
 }
 
-// The second of two parts of the path of five vertices, whose checkpoint at superstep 0 keeps a batch of superstep 3.
-fn odd_part(rt: &HostRuntime) -> Option<Arc<Part>> {
-    let graph = graph(rt, b"a\tb\nb\tc\nc\td\nd\te\n")?;
-    let plan = graph.plan(4, 0, 2, 4096).ok()?;
-    if plan.parts() != 2 {
-        return None;
-    }
-    let part = graph.part(rt.alloc(), &plan, 1).ok()?;
-    Arc::new(rt.alloc(), part).ok()
+// One of two parts of the path of five vertices.
+pub(super) fn half(rt: &HostRuntime, partition: u16) -> Option<Arc<Part>> {
+    part_of(rt, b"a\tb\nb\tc\nc\td\nd\te\n", 0, 2, partition)
 }
 
-// Its checkpoint is read, with its early batch, and written again; each cut is too short, and one byte more trails.
+// The second one, whose checkpoint at superstep 0 keeps a batch of superstep 3.
+fn odd_part(rt: &HostRuntime) -> Option<Arc<Part>> {
+    half(rt, 1)
+}
+
+// Its checkpoint is read, with its early batch, and written again.
+fn keeps_early(rt: &HostRuntime, part: &Arc<Part>) -> Option<bool> {
+    let replica = read(rt, part, &WINDOW_EDGE)?.ok()?;
+    Some(replica.early_count() == 1 && writes(rt, &replica, &WINDOW_EDGE)?)
+}
+
+// And each cut is too short, and one byte more trails.
 fn reads_early(rt: &HostRuntime) -> Option<(bool, bool, KeepError)> {
     let part = odd_part(rt)?;
-    let replica = read(rt, &part, &WINDOW_EDGE)?.ok()?;
-    let again = replica.early_count() == 1 && writes(rt, &replica, &WINDOW_EDGE)?;
-    let mut more = Vec::new(rt.alloc());
-    more.extend_from_slice(&WINDOW_EDGE).ok()?;
-    more.push(0).ok()?;
     Some((
-        again,
+        keeps_early(rt, &part)?,
         cuts(rt, &part, &WINDOW_EDGE)?,
-        refusal(rt, &part, &more)?,
+        trailing(rt, &part, &WINDOW_EDGE)?,
     ))
 }
 
@@ -270,12 +297,13 @@ fn resealed(rt: &HostRuntime, part: &Arc<Part>, at: usize, byte: u8) -> Option<K
     refusal(rt, part, &seal(bytes)?)
 }
 
-// A length that is no batch's, a batch that is none, of superstep 0 and of 4, of source 1, to target 0, and of a source
+// A number of batches above three, a length that is no batch's, a batch that is none, of superstep 0 and of 4, of source 1, to target 0, and of a source
 // with more changed vertices than it has; and of another job.
 fn early_faults(rt: &HostRuntime) -> Option<bool> {
     let part = odd_part(rt)?;
     let mut all = true;
     for (at, byte) in [
+        (210, 4),
         (218, 55),
         (219, 0),
         (228, 0),
@@ -293,4 +321,55 @@ fn early_faults(rt: &HostRuntime) -> Option<bool> {
 #[test]
 fn untrue_early_batches_are_refused(rt: HostRuntime) {
     assert_eq!(rt; early_faults(&rt), Some(true));
+}
+
+// The checkpoint with two early batches, which tell the same of these supersteps.
+fn two_early(rt: &HostRuntime, first: u8, second: u8) -> Option<Vec<u8>> {
+    let mut bytes = Vec::new(rt.alloc());
+    bytes.extend_from_slice(&WINDOW_EDGE[..273]).ok()?;
+    bytes.extend_from_slice(&WINDOW_EDGE[211..273]).ok()?;
+    *bytes.get_mut(210)? = 2;
+    *bytes.get_mut(228)? = first;
+    *bytes.get_mut(290)? = second;
+    seal(bytes)
+}
+
+// What comes of reading it: how many early batches there are, or the refusal.
+fn read_two(rt: &HostRuntime, first: u8, second: u8) -> Option<Result<u32, KeepError>> {
+    let part = odd_part(rt)?;
+    let bytes = two_early(rt, first, second)?;
+    match read(rt, &part, &bytes)? {
+        Ok(replica) => Some(Ok(replica.early_count())),
+        Err(e) => Some(Err(e)),
+    }
+}
+
+// Early batches stand in order, and no name stands twice.
+#[test]
+fn early_batches_stand_in_order(rt: HostRuntime) {
+    assert_eq!(rt; read_two(&rt, 1, 3), Some(Ok(2)));
+    assert_eq!(rt; read_two(&rt, 3, 1), Some(Err(KeepError::Shape)));
+    assert_eq!(rt; read_two(&rt, 3, 3), Some(Err(KeepError::Shape)));
+}
+
+// What version 1 wrote is read, and written again in version 2; each cut of it is too short, and one byte more trails.
+fn reads_first(rt: &HostRuntime) -> Option<(bool, bool, KeepError)> {
+    let part = part(rt, 0)?;
+    let (first, second) = both(rt, &part)?;
+    Some((
+        is_written(rt, &part, &first, &second)?,
+        cuts(rt, &part, &first)?,
+        trailing(rt, &part, &first)?,
+    ))
+}
+
+// Whether the replica of the first bytes writes the second ones.
+fn is_written(rt: &HostRuntime, part: &Arc<Part>, first: &[u8], second: &[u8]) -> Option<bool> {
+    let replica = read(rt, part, first)?.ok()?;
+    writes(rt, &replica, second)
+}
+
+#[test]
+fn version_1_is_read(rt: HostRuntime) {
+    assert_eq!(rt; reads_first(&rt), Some((true, true, KeepError::Trailing)));
 }

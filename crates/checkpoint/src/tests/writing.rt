@@ -87,7 +87,7 @@ pub(super) const WINDOW_EDGE: [u8; 305] = [
 ];
 
 /// What a replica writes where there is so much room and that call fails: the answer, and the bytes that were taken.
-fn written(
+pub(super) fn written(
     rt: &HostRuntime,
     replica: &Replica,
     room: usize,

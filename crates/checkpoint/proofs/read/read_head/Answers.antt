@@ -1,31 +1,45 @@
-use Rattle.std.proofs.Common.{◌≡◌, ◌∙◌, ap, length, refl, arith}
+use Rattle.std.proofs.Common.{◌≡◌, Ok, ◌∙◌, ap, refl, sym, arith}
 use Rattle.std.proofs.lemmas.Result.{err_from_is_err_and}
-use Rattle.ball_model.proofs.StreamLemmas.{after_fewer}
-use Rattle.checkpoint.specs.Reading.{Takes, check_head, content_form}
-use Rattle.checkpoint.proofs.ReaderLemmas.{ended_fails, ended_good, full_good, few_more, content-short, head_fails, needs-piece}
+use Rattle.checkpoint.specs.declared.error.KeepError.TheVariants as errors
+use Rattle.checkpoint.specs.Reading.{check_head, head_at, told_body}
+use Rattle.checkpoint.proofs.ReaderLemmas.{fails_after, fails_first, fails_full, fails_here, has_head, head_fails, passes-body, piece_grows, whatever_it_is}
 use Rattle.checkpoint.proofs.read.read_head.Goals as goal
 
-pub returns-in-Ended-clause-fails : goal.returns-in-Ended-clause-fails
-returns-in-Ended-clause-fails g c =
-    let part = c.args.part.now in
-    ended_fails g.R.Read.remaining g.R.CountedRead.failed_calls g.R.CountedRead.sure_calls _ _ (content_form part) 54 54 c.in-Ended.count c.fill.new.buf (content-short part)
-    (c.in-Ended.ensures.ended c.in-Ended.count refl) (omega arith) (omega arith) (few_more _ 54 _ _ c.in-Ended.ensures.few (omega arith)) (c.in-Ended.ensures.counted (ended_good c.in-Ended.count))
+pub returns-in_err-read_full-clause-fails : goal.returns-in_err-read_full-clause-fails
+returns-in_err-read_full-clause-fails g c =
+    let p = err_from_is_err_and c.from_residual.result c.from_residual.ensures.1 in
+    rw (p.1, p.2) (fails_first (told_body c.args.part.now) 54 (omega arith) (λ is. absurd (c.in_err-read_full.ensures.memory is)) (fails_full 54 _ (omega arith) c.in_err-read_full.ensures.fails))
+
+pub returns-in_err-read_full-clause-front : goal.returns-in_err-read_full-clause-front
+returns-in_err-read_full-clause-front g c = λ bytes known.
+    let p = err_from_is_err_and c.from_residual.result c.from_residual.ensures.1 in
+    rw (p.1, p.2) (λ is. absurd (c.in_err-read_full.ensures.memory is))
 
 pub returns-in_err-check_header-clause-fails : goal.returns-in_err-check_header-clause-fails
 returns-in_err-check_header-clause-fails g c =
     let part = c.args.part.now in
-    let t : Takes g.R.Read.remaining g.R.CountedRead.failed_calls g.R.CountedRead.sure_calls c.args.reader.now c.fill.new.reader c.fill.new.buf =
-    record { consumed = c.in-Full.ensures.full refl; counted = c.in-Full.ensures.counted full_good; calls = after_fewer _ (length c.fill.new.buf) _ _ c.in-Full.ensures.sure (omega arith) } in
-    let p = err_from_is_err_and c.from_residual.result c.from_residual.ensures.1 in
-    rw (p.1, p.2) (head_fails part c.in_err-check_header.field-0.0 t (omega arith) (c.in_err-check_header.ensures.value ∙ ap (check_head part) c.read_header-header.ensures) c.in_err-check_header.ensures.of_bytes)
+    let p = err_from_is_err_and c.from_residual-in_err-check_header.result c.from_residual-in_err-check_header.ensures.1 in
+    rw (p.1, p.2) (head_fails part c.in_err-check_header.field-0.0 c.in_ok-read_full.ensures.done (omega arith) (c.in_err-check_header.ensures.value ∙ ap (check_head part) c.read_header-header.ensures)
+    c.in_err-check_header.ensures.of_bytes c.in_err-check_header.ensures.memory)
+
+pub returns-in_err-extend_from_slice-clause-fails : goal.returns-in_err-extend_from_slice-clause-fails
+returns-in_err-extend_from_slice-clause-fails g c =
+    let part = c.args.part.now in
+    let head = c.read_full.new.buffer in
+    let fine : check_head part (head_at head) ≡ Ok tt = sym (c.check_header.ensures.value ∙ ap (check_head part) c.read_header-header.ensures) ∙ c.in_ok-check_header.was in
+    let e = err_from_is_err_and c.from_residual-in_err-extend_from_slice.result c.from_residual-in_err-extend_from_slice.ensures.1 in
+    rw (e.1, e.2) (fails_after {most = 0} 54 (told_body part) 54 c.in_ok-read_full.ensures.done (omega arith) (omega arith)
+    (fails_here g.R.Read.remaining g.R.CountedRead.failed_calls g.R.CountedRead.sure_calls c.read_full.new.reader (told_body part head) 0 errors.Memory (λ no. no) (λ _. passes-body part head (head_at head) refl fine) (λ bytes no. absurd no)))
 
 pub returns-clause-done : goal.returns-clause-done
-returns-clause-done g c =
-    let len : length c.fill.new.buf ≡ 54 = omega arith in
-    record {
-      piece = c.fill.new.buf;
-      grown = c.in_ok-extend_from_slice.ensures.items;
-      takes = record { consumed = c.in-Full.ensures.full refl; counted = c.in-Full.ensures.counted full_good; calls = after_fewer _ (length c.fill.new.buf) _ _ c.in-Full.ensures.sure (omega arith) };
-      is_form = λ rest. needs-piece 54 c.fill.new.buf rest len;
-      few = omega arith;
-    }
+returns-clause-done g c = piece_grows 54 c.in_ok-read_full.ensures.done (omega arith) c.in_ok-extend_from_slice.ensures.items
+
+pub returns-clause-front : goal.returns-clause-front
+returns-clause-front g c = λ bytes known.
+    let part = c.args.part.now in
+    has_head part c.in_ok-read_full.ensures.done (omega arith) (sym (c.check_header.ensures.value ∙ ap (check_head part) c.read_header-header.ensures) ∙ c.in_ok-check_header.was) bytes known
+
+pub returns-in_err-extend_from_slice-clause-front : goal.returns-in_err-extend_from_slice-clause-front
+returns-in_err-extend_from_slice-clause-front g c = λ bytes known.
+    let part = c.args.part.now in
+    whatever_it_is _ (has_head part c.in_ok-read_full.ensures.done (omega arith) (sym (c.check_header.ensures.value ∙ ap (check_head part) c.read_header-header.ensures) ∙ c.in_ok-check_header.was) bytes known)

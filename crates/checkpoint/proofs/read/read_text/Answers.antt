@@ -7,14 +7,14 @@ use Rattle.sha2.specs.Sha256.{sha256}
 use Rattle.sha2.proofs.Facts256.{length-sha256}
 use Rattle.checkpoint.specs.declared.error.KeepError.{KeepError}
 use Rattle.checkpoint.specs.Reading.{seal_form, most_bytes}
-use Rattle.checkpoint.proofs.ReaderLemmas.{fails_first, fails_second, fails_as, whole_fine, whole_sealed}
+use Rattle.checkpoint.proofs.ReaderLemmas.{fails_first, fails_second, fails_as, passes-seal, whole_fine, whole_read, whole_sealed}
 use Rattle.checkpoint.proofs.read.read_text.Goals as goal
 
 pub returns-in_err-header-clause-fails : goal.returns-in_err-header-clause-fails
 returns-in_err-header-clause-fails g c =
     let part = c.args.part.now in
     let r = err_from_is_err_and c.from_residual.result c.from_residual.ensures.1 in
-    rw (r.1, r.2) (fails_first seal_form (most_bytes part part.plan.limit + 1) (omega arith) c.in_err-header.ensures.fails)
+    rw (r.1, r.2) (fails_first seal_form (most_bytes part part.plan.limit + 1) (omega arith) (λ _ bytes _. passes-seal bytes) c.in_err-header.ensures.fails)
 
 pub returns-in_err-read_seal-clause-fails : goal.returns-in_err-read_seal-clause-fails
 returns-in_err-read_seal-clause-fails g c =
@@ -23,7 +23,7 @@ returns-in_err-read_seal-clause-fails g c =
     let is : p.piece ≡ c.deref.result.now = sym (c.deref.ensures.value ∙ p.grown ∙ ap (λ (l : List ℕ). l ++ p.piece) c.requires) in
     let r = err_from_is_err_and c.from_residual-in_err-read_seal.result c.from_residual-in_err-read_seal.ensures.1 in
     rw (r.1, r.2) (fails_second seal_form (most_bytes part part.plan.limit + 1) p (omega arith)
-    (fails_as (seal_form p.piece) 33 (λ bytes no. ap (λ (l : List ℕ). seal_form l bytes) is ∙ no) (omega arith) c.in_err-read_seal.ensures.fails))
+    (fails_as (seal_form p.piece) 33 (λ bytes. ap (λ (l : List ℕ). seal_form l bytes) is) (omega arith) c.in_err-read_seal.ensures.fails))
 
 pub returns-clause-done : goal.returns-clause-done
 returns-clause-done g c =
@@ -39,6 +39,7 @@ returns-clause-done g c =
       };
       end = c.in_ok-read_seal.ensures.end;
       counted = c.in_ok-read_seal.ensures.counted ∙ p.takes.counted;
+      whole = whole_read part p text is (length-sha256 text);
       is_form = λ bytes known. subst (λ (r : Result ℕ KeepError). IsOk r) (sym (whole_fine c.read_seal.new.reader part text p is c.in_ok-read_seal.ensures.done c.in_ok-read_seal.ensures.end (length-sha256 text) bytes known)) refl;
     }
 

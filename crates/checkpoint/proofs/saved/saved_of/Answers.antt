@@ -2,7 +2,7 @@ use Rattle.std.proofs.Common.{List, ℕ, [], ◌++◌, ◌∙◌, ap, sym, arith
 use Rattle.std.proofs.lemmas.Result.{err_from_is_err_and}
 use Rattle.ball_model.specs.Checkpoint.{held_bytes, table_bytes}
 use Rattle.figures.specs.Values.{value_of}
-use Rattle.checkpoint.specs.declared.header.TheConstants.{HEADER_LEN}
+use Rattle.checkpoint.specs.declared.sizes.TheConstants.{HEADER_LEN}
 use Rattle.checkpoint.specs.Spelling.{table_text}
 use Rattle.checkpoint.proofs.HeldLemmas.{rest_is}
 use Rattle.checkpoint.proofs.RightLemmas.{behind_front, never}
@@ -14,6 +14,13 @@ returns-clause-spelled c = λ second.
     let table : List ℕ = table_text v.marks.items (map value_of v.tallies.items) v.rows.rows c.in_ok-vertices.sums.items in
     rest_is HEADER_LEN c.args.text.now c.in_ok-_front._front.now c.in_ok-_front.body.now c.in_ok-_front.ensures.split c.in_ok-_front.ensures.length
     ∙ c.in_ok-vertices.ensures.spelled ∙ ap (λ (l : List ℕ). table ++ l) (c.in_ok-held.ensures.spelled second)
+
+pub returns-clause-first_spelled : goal.returns-clause-first_spelled
+returns-clause-first_spelled c = λ first.
+    let v = c.in_ok-vertices.vertices in
+    let table : List ℕ = table_text v.marks.items (map value_of v.tallies.items) v.rows.rows c.in_ok-vertices.sums.items in
+    rest_is HEADER_LEN c.args.text.now c.in_ok-_front._front.now c.in_ok-_front.body.now c.in_ok-_front.ensures.split c.in_ok-_front.ensures.length
+    ∙ c.in_ok-vertices.ensures.spelled ∙ ap (λ (l : List ℕ). table ++ l) (c.in_ok-held.ensures.none first) ∙ append-nil table
 
 pub returns-clause-bytes : goal.returns-clause-bytes
 returns-clause-bytes c = λ i. omega (arith, c.type_inv.text i)

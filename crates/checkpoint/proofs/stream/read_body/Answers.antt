@@ -1,8 +1,8 @@
-use Rattle.std.proofs.Common.{◌≡◌, ◌∙◌, arith, ne_eqb}
+use Rattle.std.proofs.Common.{◌≡◌, arith, ne_eqb}
 use Rattle.std.proofs.lemmas.Result.{err_from_is_err_and}
 use Rattle.std.specs.Prelude.{◌==◌, false}
 use Rattle.checkpoint.specs.Reading.{most_body, most_early, held_form}
-use Rattle.checkpoint.proofs.ReaderLemmas.{fails_first, fails_second, fails_as, grows_then, grows_as, grows_none, held-none, held-some, fixed-most, fixed-early, on_ok_as, if_err_as}
+use Rattle.checkpoint.proofs.ReaderLemmas.{fails_first, fails_second, fails_as, grows_then, grows_as, grows_none, held-none, held-some, fixed-most, fixed-early, on_ok_as, if_err_as, passes-held}
 use Rattle.checkpoint.proofs.stream.read_body.Goals as goal
 
 pub returns-in_err-read_more-clause-fails : goal.returns-in_err-read_more-clause-fails
@@ -11,7 +11,7 @@ returns-in_err-read_more-clause-fails g c =
     let h = c.args.header.now in
     let q = rw c.fixed_len.ensures at c.in_err-read_more.ensures.fails in
     let p = err_from_is_err_and c.from_residual.result c.from_residual.ensures.1 in
-    rw (p.1, p.2) (fails_first (λ _. held_form part.plan h.version) (most_body part h.superstep) (fixed-most part h) q)
+    rw (p.1, p.2) (fails_first (λ _. held_form part.plan h.version) (most_body part h.superstep) (fixed-most part h) (λ _ bytes _. passes-held part.plan h.version) q)
 
 pub returns-then-header-eq1-clause-done : goal.returns-then-header-eq1-clause-done
 returns-then-header-eq1-clause-done g c =
@@ -39,4 +39,4 @@ returns-clause-fails g c =
     let second : (h.version == 1) ≡ false = ne_eqb h.version 1 c.if-header-eq1.false in
     let q = rw c.plan.ensures at c.read_early.ensures.fails in
     if_err_as c.read_early.result (λ e q. fails_second (λ _. held_form part.plan h.version) (most_body part h.superstep) p (fixed-early part h second)
-    (fails_as (held_form part.plan h.version) (most_early part.plan) (λ bytes no. held-some part.plan h.version bytes second ∙ no) (omega arith) q)) q
+    (fails_as (held_form part.plan h.version) (most_early part.plan) (λ bytes. held-some part.plan h.version bytes second) (omega arith) q)) q

@@ -3,7 +3,7 @@ use Rattle.std.proofs.Common.{ℕ, List, length, refl, subst, ◌∙◌, arith}
 use Rattle.sha2.specs.Sha256.{sha256}
 use Rattle.ball_model.proofs.StreamLemmas.{after_fewer}
 use Rattle.checkpoint.specs.Reading.{seal_form, Takes}
-use Rattle.checkpoint.proofs.ReaderLemmas.{ended_fails, ended_good, full_good, few_more, seal-short, seal_differs, seal_trails, seal_unread, takes_ended, same_bytes, digest_other, digest_same}
+use Rattle.checkpoint.proofs.ReaderLemmas.{ended_fails, ended_good, full_good, few_more, seal-short, seal_differs, seal_trails, seal_unread, sure_fewer, takes_ended, same_bytes, digest_other, digest_same, unread_fails}
 use Rattle.checkpoint.proofs.stream.read_seal.Goals as goal
 
 pub returns-in-Ended-clause-fails : goal.returns-in-Ended-clause-fails
@@ -11,6 +11,11 @@ returns-in-Ended-clause-fails g c =
     let text = c.args.text.now in
     ended_fails g.R.Read.remaining g.R.CountedRead.failed_calls g.R.CountedRead.sure_calls _ _ (seal_form text) 32 33 c.in-Ended.count c.fill.new.buf (seal-short text)
     (c.in-Ended.ensures.ended c.in-Ended.count refl) (omega arith) (omega arith) (few_more _ 32 _ _ c.in-Ended.ensures.few (omega arith)) (c.in-Ended.ensures.counted (ended_good c.in-Ended.count))
+
+pub returns-in-Failed-clause-fails : goal.returns-in-Failed-clause-fails
+returns-in-Failed-clause-fails g c =
+    unread_fails (seal_form c.args.text.now) 33 (few_more _ 33 _ _ c.in-Failed.ensures.few (omega arith)) (c.in-Failed.ensures.failed refl)
+    (λ is. c.in-Failed.ensures.only (sure_fewer _ 33 _ is (omega arith)) refl)
 
 pub returns-then-ne-clause-fails : goal.returns-then-ne-clause-fails
 returns-then-ne-clause-fails g c =

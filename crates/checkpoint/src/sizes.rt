@@ -1,0 +1,22 @@
+//! How many bytes the fields of a checkpoint have.
+
+/// The fixed fields.
+pub(crate) const HEADER_LEN: usize = 54;
+
+/// A vertex beside its registers: its mark and its figures.
+pub(crate) const ENTRY_LEN: usize = 33;
+
+/// Each sum.
+pub(crate) const SUM_LEN: usize = 16;
+
+/// What is heard, and whether it tells of a change.
+pub(crate) const HEARD_LEN: usize = 9;
+
+/// The number of batches.
+pub(crate) const COUNT_LEN: usize = 2;
+
+/// The length of a batch, before it.
+pub(crate) const LENGTH_LEN: usize = 8;
+
+/// The SHA-256 of all before.
+pub(crate) const DIGEST_LEN: usize = 32;

@@ -1,0 +1,73 @@
+//! Checkpoints that come a byte at a time.
+
+ghost use Rattle.std.specs.Prelude.{None};
+
+use super::reading::half;
+use super::writing::{WINDOW_EDGE, writes};
+use crate::{KeepError, read_checkpoint};
+use ball_model::CountingReader;
+use replica::Replica;
+use std::io;
+use std::io::{ErrorKind, Read};
+
+// A reader that gives a byte at a time, and whose call `fails_at` and all later ones fail.
+#[derive(Drop)]
+struct Dripping<'a> {
+    bytes: &'a [u8],
+    calls: u64,
+    fails_at: u64,
+}
+
+impl<'a> Read for Dripping<'a> {
+    ghost remaining = { λ r. None };
+
+    fn read(&mut self, buf: &mut [u8]) -> io::Result<usize> {
+        self.calls = self.calls.saturating_add(1);
+        if self.calls >= self.fails_at {
+            return Err(io::Error::from(ErrorKind::Other));
+        }
+        if buf.is_empty() {
+            return Ok(0);
+        }
+        match self.bytes.split_first() {
+            Some((first, rest)) => {
+                buf[0] = *first;
+                self.bytes = rest;
+                Ok(1)
+            }
+            None => Ok(0),
+        }
+    }
+}
+
+// The replica of the window's edge, where that call fails.
+fn drip(rt: &HostRuntime, fails_at: u64) -> Option<Result<Replica, KeepError>> {
+    let part = half(rt, 1)?;
+    let mut reader = CountingReader::new(Dripping {
+        bytes: &WINDOW_EDGE,
+        calls: 0,
+        fails_at,
+    });
+    Some(read_checkpoint(rt.alloc(), part, &mut reader))
+}
+
+// Whether each call that fails is told, the 305 of bytes and the one that finds the end.
+fn drips_fail(rt: &HostRuntime) -> Option<bool> {
+    let mut all = true;
+    for call in 1..307 {
+        all &= drip(rt, call)?.err() == Some(KeepError::Read);
+    }
+    Some(all)
+}
+
+// Whether the same is read as where all bytes come at once.
+fn drips_whole(rt: &HostRuntime) -> Option<bool> {
+    let replica = drip(rt, 307)?.ok()?;
+    writes(rt, &replica, &WINDOW_EDGE)
+}
+
+#[test]
+fn a_byte_at_a_time(rt: HostRuntime) {
+    assert_eq!(rt; drips_whole(&rt), Some(true));
+    assert_eq!(rt; drips_fail(&rt), Some(true));
+}
