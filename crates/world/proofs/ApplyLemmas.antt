@@ -24,11 +24,12 @@ use Rattle.ball_model.specs.World.{Node, World, node_at, node_of, with_node, out
 use Rattle.ball_model.specs.WorldLaws.{IsNode, IsWorld}
 use Rattle.ball_model.proofs.WorldLemmas.{node_same, node_back, stays_world}
 use Rattle.batches.specs.declared.error.BatchError.{BatchError}
+use Rattle.batches.specs.declared.error.BatchError.TheVariants as unread
 use Rattle.batches.specs.Reading.{AgreesButJob, GivesOrMemory}
 use Rattle.batches.proofs.TrueLemmas.{true_is_batch}
 use Rattle.replica.specs.Change.{IsTrueBatch}
 use Rattle.replica.proofs.LevelLemmas.{plan_is, number_is}
-use Rattle.world.specs.Shows.{SeenNode, SeenWorld, seen_at, Agree, Has, ShowsNode, Shows}
+use Rattle.world.specs.Shows.{IsMessage, SeenMessage, SeenNode, SeenWorld, message_of, seen_at, Agree, Has, ShowsNode, Shows}
 use Rattle.world.specs.Runs.{Applies, takes_memory}
 use Rattle.world.specs.Turns.{Turn, Turns, taken_turn, closed_turn, kept_turn, restarted_turn, merged_turn, merged_when}
 use Rattle.world.proofs.ShowsLemmas.{with_seen, shows_changed}
@@ -62,21 +63,21 @@ found : (j : Job) (w : World) (n : Node) (e : Event) → node_at w (node_of e) �
 found j w n e at = ap (outcome_unless j w e) at
 
 -- ---- messages
-record Sent (j : Job) (w : World) (m : ℕ) (bytes : List ℕ) : Type 0 where
+record Sent (j : Job) (w : World) (m : ℕ) (message : SeenMessage) : Type 0 where
   name : BatchName
   at : slice_get w.sent m ≡ Some name
   fits : IsName j.plan name
-  spells : bytes ≡ batch_bytes (true_batch j name)
+  spells : message ≡ message_of (true_batch j name)
 
-sent_by : (j : Job) (bytes : List ℕ) (o : Option BatchName) (w : World) (m : ℕ) → slice_get w.sent m ≡ o → IfSome o (IsName j.plan) → option_map (λ name. batch_bytes (true_batch j name)) o ≡ Some bytes → Sent j w m bytes
-sent_by j bytes None w m at fits e = absurd (cc)
-sent_by j bytes (Some name) w m at fits e = record { name = name; at = at; fits = fits; spells = ap (λ o. unwrap_or o bytes) (sym e) }
+sent_by : (j : Job) (message : SeenMessage) (o : Option BatchName) (w : World) (m : ℕ) → slice_get w.sent m ≡ o → IfSome o (IsName j.plan) → option_map (λ name. message_of (true_batch j name)) o ≡ Some message → Sent j w m message
+sent_by j message None w m at fits e = absurd (cc)
+sent_by j message (Some name) w m at fits e = record { name = name; at = at; fits = fits; spells = ap (λ o. unwrap_or o message) (sym e) }
 
 -- the message of that number was sent
-sent_at : (j : Job) (w : World) (v : SeenWorld) (m : ℕ) (bytes : List ℕ) → Shows j w v → slice_get v.messages m ≡ Some bytes → Sent j w m bytes
-sent_at j w v m bytes shows at =
-    sent_by j bytes (slice_get w.sent m) w m refl (shows.world.sent m)
-    (sym (slice_get-map (λ name. batch_bytes (true_batch j name)) w.sent m) ∙ ap (λ (l : List (List ℕ)). slice_get l m) (sym shows.messages) ∙ at)
+sent_at : (j : Job) (w : World) (v : SeenWorld) (m : ℕ) (message : SeenMessage) → Shows j w v → slice_get v.messages m ≡ Some message → Sent j w m message
+sent_at j w v m message shows at =
+    sent_by j message (slice_get w.sent m) w m refl (shows.world.sent m)
+    (sym (slice_get-map (λ name. message_of (true_batch j name)) w.sent m) ∙ ap (λ (l : List SeenMessage). slice_get l m) (sym shows.messages) ∙ at)
 
 -- ---- events that are refused
 error_in : Result Answer WorldError → WorldError
@@ -113,10 +114,10 @@ recovers w id n c (Ok u) = refl
 recovers w id n c (Err e) = refl
 
 -- memory was refused for the batch of a message that was sent
-pub want_deliver : (j : Job) (id : NodeId) (m : ℕ) (bytes : List ℕ) (old u v : SeenWorld) (s : SeenNode) → v ≡ old → u ≡ v → seen_at v id ≡ Some s → slice_get v.messages m ≡ Some bytes → Applies j (event.Deliver m id) (Err refusal.Memory) old u
-want_deliver j id m bytes old u v s here same at sent =
+pub want_deliver : (j : Job) (id : NodeId) (m : ℕ) (message : SeenMessage) (old u v : SeenWorld) (s : SeenNode) → v ≡ old → u ≡ v → seen_at v id ≡ Some s → slice_get v.messages m ≡ Some message → Applies j (event.Deliver m id) (Err refusal.Memory) old u
+want_deliver j id m message old u v s here same at sent =
     want_applies j (event.Deliver m id) old u v s here same at refl (λ w n shows is agrees.
-    let k = sent_at j w v m bytes shows sent in
+    let k = sent_at j w v m message shows sent in
     subst (λ (o : Option BatchName). IsOk (answer_in (deliver_at j w id n o))) (sym k.at) refl)
 
 -- and for a copy that was made
@@ -141,7 +142,7 @@ pub no_message : (j : Job) (id : NodeId) (m : ℕ) (old u v : SeenWorld) (s : Se
 no_message j id m old u v s here same at none =
     refused_applies j (event.Deliver m id) refusal.NoMessage old u v (λ k. absurd (cc)) here same (λ w shows.
     let n = node_here j w v id s shows at in
-    let gone : slice_get w.sent m ≡ None = map_none (λ name. batch_bytes (true_batch j name)) (slice_get w.sent m) (sym (slice_get-map (λ name. batch_bytes (true_batch j name)) w.sent m) ∙ ap (λ (l : List (List ℕ)). slice_get l m) (sym shows.messages) ∙ none) in
+    let gone : slice_get w.sent m ≡ None = map_none (λ name. message_of (true_batch j name)) (slice_get w.sent m) (sym (slice_get-map (λ name. message_of (true_batch j name)) w.sent m) ∙ ap (λ (l : List SeenMessage). slice_get l m) (sym shows.messages) ∙ none) in
     found j w n.one (event.Deliver m id) n.is ∙ ap (deliver_at j w id n.one) gone)
 
 -- there is no such copy
@@ -196,10 +197,10 @@ restart_of_world j id w a s t turns = record { turn = restarted_turn j; turns = 
 pub close_of_world : (j : Job) (id : NodeId) (w : World) (a : Answer) (s t : SeenNode) → Turns j (closed_turn j) a s t → TurnOf j (event.Close id) w a s t
 close_of_world j id w a s t turns = record { turn = closed_turn j; turns = turns; outcome = λ n at. found j w n (event.Close id) at }
 
-pub deliver_of_world : (j : Job) (id : NodeId) (m : ℕ) (w : World) (v : SeenWorld) (bytes : List ℕ) (a : Answer) (s t : SeenNode) → Shows j w v → slice_get v.messages m ≡ Some bytes →
-    ((name : BatchName) → IsName j.plan name → bytes ≡ batch_bytes (true_batch j name) → Turns j (taken_turn j name) a s t) → TurnOf j (event.Deliver m id) w a s t
-deliver_of_world j id m w v bytes a s t shows at turns =
-    let k = sent_at j w v m bytes shows at in
+pub deliver_of_world : (j : Job) (id : NodeId) (m : ℕ) (w : World) (v : SeenWorld) (message : SeenMessage) (a : Answer) (s t : SeenNode) → Shows j w v → slice_get v.messages m ≡ Some message →
+    ((name : BatchName) → IsName j.plan name → message ≡ message_of (true_batch j name) → Turns j (taken_turn j name) a s t) → TurnOf j (event.Deliver m id) w a s t
+deliver_of_world j id m w v message a s t shows at turns =
+    let k = sent_at j w v m message shows at in
     record {
       turn = taken_turn j k.name;
       turns = turns k.name k.fits k.spells;
@@ -257,14 +258,14 @@ sends : (j : Job) (w : World) (n : Node) (id : NodeId) (q : ℕ) → node_at w i
 sends j w n id q at fits = found j w n (event.Send id q) at ∙ rw fits refl
 
 sent_shows : (j : Job) (w : World) (v : SeenWorld) (n : Node) (id : NodeId) (q : ℕ) → Shows j w v → node_at w id ≡ Some n → (nat_lt q j.plan.parts && not (q == n.content.partition)) ≡ true →
-    Shows j (record w { sent = w.sent ++ name_to n q ∷ [] }) (record v { messages = v.messages ++ batch_bytes (true_batch j (name_to n q)) ∷ [] })
+    Shows j (record w { sent = w.sent ++ name_to n q ∷ [] }) (record v { messages = v.messages ++ message_of (true_batch j (name_to n q)) ∷ [] })
 unfolding node_at
 sent_shows j w v n id q shows at fits = record {
   job = shows.job;
   plan = shows.plan;
   world = subst (λ (x : World). IsWorld j x) (ap (world_in w) (sends j w n id q at fits)) (stays_world j w (event.Send id q) shows.world);
   nodes = shows.nodes;
-  messages = ap (λ (l : List (List ℕ)). l ++ batch_bytes (true_batch j (name_to n q)) ∷ []) shows.messages ∙ sym (map-append (λ name. batch_bytes (true_batch j name)) w.sent (name_to n q ∷ []));
+  messages = ap (λ (l : List SeenMessage). l ++ message_of (true_batch j (name_to n q)) ∷ []) shows.messages ∙ sym (map-append (λ name. message_of (true_batch j name)) w.sent (name_to n q ∷ []));
   copies = shows.copies;
   count = shows.count;
 }
@@ -274,7 +275,7 @@ pub record Tells (j : Job) (r : State) (q : ℕ) (b : BatchValue) : Type 0 where
   pub told : (p t : ℕ) → StandsFor j p t r → b ≡ true_batch j (record { superstep = t; source = p; target = q })
 
 pub send_applies : (j : Job) (id : NodeId) (q : ℕ) (a : Answer) (b : BatchValue) (old u v : SeenWorld) (s : SeenNode) → v ≡ old → seen_at v id ≡ Some s → q < s.replica.part.plan.parts → q ≢ s.replica.part.number → Tells j s.replica q b →
-    a ≡ sent_answer (length v.messages) b → u ≡ record v { messages = v.messages ++ batch_bytes b ∷ [] } → Applies j (event.Send id q) (Ok a) old u
+    a ≡ sent_answer (length v.messages) b → u ≡ record v { messages = v.messages ++ message_of b ∷ [] } → Applies j (event.Send id q) (Ok a) old u
 send_applies j id q a b old u v s here at below other tells said new =
     gained_applies j (event.Send id q) a old u v here (λ w shows.
     let n = node_here j w v id s shows at in
@@ -286,11 +287,11 @@ send_applies j id q a b old u v s here at below other tells said new =
     let apart : not (q == h.partition) ≡ true = ap not (ne_eqb q h.partition (λ e. other (e ∙ sym number))) in
     let fits : (nat_lt q j.plan.parts && not (q == h.partition)) ≡ true = and_from (nat_lt q j.plan.parts) (not (q == h.partition)) inside apart in
     let batch : b ≡ true_batch j (name_to n.one q) = tells.told h.partition h.superstep stands in
-    let many : length v.messages ≡ length w.sent = ap length shows.messages ∙ length-map w.sent (λ name. batch_bytes (true_batch j name)) in
+    let many : length v.messages ≡ length w.sent = ap length shows.messages ∙ length-map w.sent (λ name. message_of (true_batch j name)) in
     let answered : a ≡ sent_answer (length w.sent) (true_batch j (name_to n.one q)) = said ∙ ap (λ m. sent_answer m b) many ∙ ap (sent_answer (length w.sent)) batch in (
       record w { sent = w.sent ++ name_to n.one q ∷ [] },
       sends j w n.one id q n.is fits ∙ ap (λ (x : Answer). Ok (x, record w { sent = w.sent ++ name_to n.one q ∷ [] })) (sym answered),
-      subst (λ (x : SeenWorld). Shows j (record w { sent = w.sent ++ name_to n.one q ∷ [] }) x) (ap (λ (c : BatchValue). record v { messages = v.messages ++ batch_bytes c ∷ [] }) (sym batch) ∙ sym new) (sent_shows j w v n.one id q shows n.is fits),
+      subst (λ (x : SeenWorld). Shows j (record w { sent = w.sent ++ name_to n.one q ∷ [] }) x) (ap (λ (c : BatchValue). record v { messages = v.messages ++ message_of c ∷ [] }) (sym batch) ∙ sym new) (sent_shows j w v n.one id q shows n.is fits),
     ))
 
 -- the target is none, or the node's own partition
@@ -363,16 +364,28 @@ ok_in : BatchValue → Result BatchValue BatchError → BatchValue
 ok_in d (Ok b) = b
 ok_in d (Err e) = d
 
-pub read_gives : (j : Job) (name : BatchName) (plan : PlanValue) (b : BatchValue) (bytes : List ℕ) → IsJob j → plan ≡ j.plan → IsName j.plan name → bytes ≡ batch_bytes (true_batch j name) →
-    ((x : BatchValue) → IsBatch x → AgreesButJob plan x.plan → bytes ≡ batch_bytes x → GivesOrMemory (Ok b) (Ok x)) → b ≡ true_batch j name
+pub read_gives : (j : Job) (name : BatchName) (m : SeenMessage) (b : BatchValue) → IsJob j → IsName j.plan name → m ≡ message_of (true_batch j name) →
+    ((x : BatchValue) → IsBatch x → AgreesButJob m.plan x.plan → m.bytes ≡ batch_bytes x → GivesOrMemory (Ok b) (Ok x)) → b ≡ true_batch j name
 unfolding true_batch ok_in
-read_gives j name plan b bytes job same ok spells only =
-    let agrees : AgreesButJob plan j.plan = ap (λ (p : PlanValue). record p { job = j.plan.job }) (sym same) in
-    ap (ok_in b) (only (true_batch j name) (true_is_batch j name job ok.superstep ok.source ok.target) agrees spells)
+read_gives j name m b job ok is only =
+    let same : m.plan ≡ j.plan = ap (λ (x : SeenMessage). x.plan) is in
+    let agrees : AgreesButJob m.plan j.plan = ap (λ (p : PlanValue). record p { job = j.plan.job }) (sym same) in
+    ap (ok_in b) (only (true_batch j name) (true_is_batch j name job ok.superstep ok.source ok.target) agrees (ap (λ (x : SeenMessage). x.bytes) is))
+
+-- what was spelled is refused for want of memory alone
+wants : (e : BatchError) (b : BatchValue) → GivesOrMemory (Err e) (Ok b) → e ≡ unread.Memory
+wants unread.Memory b g = refl
+wants e b g = absurd (cc)
+
+pub only_wants : (m : SeenMessage) (e : BatchError) → IsMessage m → ((x : BatchValue) → IsBatch x → AgreesButJob m.plan x.plan → m.bytes ≡ batch_bytes x → GivesOrMemory (Err e) (Ok x)) → e ≡ unread.Memory
+only_wants m e k only =
+    let same : m.plan ≡ k.batch.plan = ap (λ (x : SeenMessage). x.plan) k.is in
+    let agrees : AgreesButJob m.plan k.batch.plan = ap (λ (p : PlanValue). record p { job = k.batch.plan.job }) (sym same) in
+    wants e k.batch (only k.batch k.is_batch agrees (ap (λ (x : SeenMessage). x.bytes) k.is))
 
 -- what a node that was found sends
 pub send_found : (j : Job) (id : NodeId) (q : ℕ) (a : Answer) (b : BatchValue) (u v : SeenWorld) (r : State) → IsNodeOf (seen_at v id) r → q < r.part.plan.parts → q ≢ r.part.number → Tells j r q b →
-    a ≡ sent_answer (length v.messages) b → u ≡ record v { messages = v.messages ++ batch_bytes b ∷ [] } → Applies j (event.Send id q) (Ok a) v u
+    a ≡ sent_answer (length v.messages) b → u ≡ record v { messages = v.messages ++ message_of b ∷ [] } → Applies j (event.Send id q) (Ok a) v u
 send_found j id q a b u v r k below other tells said new =
     send_applies j id q a b v u v k.node refl k.is
     (subst (λ (x : State). q < x.part.plan.parts) (sym k.replica) below)

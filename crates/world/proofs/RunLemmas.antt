@@ -11,7 +11,7 @@ use Rattle.ball_model.specs.declared.world.Event.TheVariants as event
 use Rattle.ball_model.specs.declared.world.Answer.{Answer}
 use Rattle.ball_model.specs.declared.world.WorldError.{WorldError}
 use Rattle.ball_model.specs.declared.world.WorldError.TheVariants as refusal
-use Rattle.ball_model.specs.Batches.{batch_bytes, true_batch}
+use Rattle.ball_model.specs.Batches.{true_batch}
 use Rattle.ball_model.specs.Graph.{in_ball, is_counted}
 use Rattle.ball_model.specs.Counter.{ball_counter, counter_of}
 use Rattle.ball_model.specs.PlanValue.{mixing_of, part_size}
@@ -26,7 +26,7 @@ use Rattle.ball_model.proofs.CounterLemmas.{counter_of-same}
 use Rattle.replica.proofs.OwnLemmas.{vertex_of, place_below, vertex_at}
 use Rattle.replica.proofs.LevelLemmas.{row_at}
 use Rattle.replica.proofs.SameLemmas.{same_replica}
-use Rattle.world.specs.Shows.{SeenNode, SeenWorld, seen_at, Agree, Has, ShowsNode, Shows}
+use Rattle.world.specs.Shows.{SeenMessage, SeenNode, SeenWorld, message_of, seen_at, Agree, Has, ShowsNode, Shows}
 use Rattle.world.specs.Runs.{Made, is_want, done_in, answered_in, RunShows, RunAnswers, AreCountedWithin, Headline, SameContentsAreSame, MessagesAreTrue, KeptComesBack}
 use Rattle.world.proofs.BridgeLemmas.{content_here}
 
@@ -124,8 +124,8 @@ same_contents j w v a b n m shows first second same =
 pub messages_true : MessagesAreTrue
 messages_true j replicas m es rs v u shows made =
     let w = run_of j (start_world j.plan replicas) (done_in es rs) in
-    ap (λ (l : List (List ℕ)). slice_get l m) (run_shows j (start_world j.plan replicas) es rs v u shows made).messages
-    ∙ slice_get-map (λ name. batch_bytes (true_batch j name)) w.sent m
+    ap (λ (l : List SeenMessage). slice_get l m) (run_shows j (start_world j.plan replicas) es rs v u shows made).messages
+    ∙ slice_get-map (λ name. message_of (true_batch j name)) w.sent m
 
 -- ---- what is kept
 -- the events that were done are among the events

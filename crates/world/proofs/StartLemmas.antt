@@ -11,7 +11,7 @@ use Rattle.ball_model.specs.Job.{Job, IsJob}
 use Rattle.ball_model.specs.State.{State}
 use Rattle.ball_model.specs.World.{Node, node_at, start_node, start_world}
 use Rattle.ball_model.proofs.WorldLemmas.{one_more, start_is_world}
-use Rattle.world.specs.Shows.{SeenNode, Agree, ShowsNode, Shows, AreStart, AreStarts}
+use Rattle.world.specs.Shows.{SeenMessage, SeenNode, Agree, ShowsNode, Shows, AreStart, AreStarts}
 
 -- none at first, and one more
 pub no_nodes : (j : Job) (p : ℕ) → AreStart j p 0 []
@@ -124,8 +124,8 @@ start_shown j replicas rows job are = record {
 }
 
 -- with nothing sent and nothing copied
-pub start_with : {M : Type 0} (j : Job) (replicas : ℕ) (rows : List (List SeenNode)) (spell : M → List ℕ) (messages : List M) (copies : List State) → messages ≡ [] → copies ≡ [] → IsJob j → AreStarts j j.plan.parts replicas rows →
-    Shows j (start_world j.plan replicas) (record { plan = j.plan; nodes = rows; messages = map spell messages; copies = copies })
-start_with j replicas rows spell messages copies none nil job are =
-    subst (λ (cs : List State). Shows j (start_world j.plan replicas) (record { plan = j.plan; nodes = rows; messages = map spell messages; copies = cs })) (sym nil)
-    (subst (λ (ms : List (List ℕ)). Shows j (start_world j.plan replicas) (record { plan = j.plan; nodes = rows; messages = ms; copies = [] })) (sym (ap (map spell) none)) (start_shown j replicas rows job are))
+pub start_with : (j : Job) (replicas : ℕ) (rows : List (List SeenNode)) (messages : List SeenMessage) (copies : List State) → messages ≡ [] → copies ≡ [] → IsJob j → AreStarts j j.plan.parts replicas rows →
+    Shows j (start_world j.plan replicas) (record { plan = j.plan; nodes = rows; messages = messages; copies = copies })
+start_with j replicas rows messages copies none nil job are =
+    subst (λ (cs : List State). Shows j (start_world j.plan replicas) (record { plan = j.plan; nodes = rows; messages = messages; copies = cs })) (sym nil)
+    (subst (λ (ms : List SeenMessage). Shows j (start_world j.plan replicas) (record { plan = j.plan; nodes = rows; messages = ms; copies = [] })) (sym none) (start_shown j replicas rows job are))

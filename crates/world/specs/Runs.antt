@@ -8,7 +8,7 @@ use Rattle.ball_model.specs.declared.world.Answer.{Answer}
 use Rattle.ball_model.specs.declared.world.Answer.TheVariants as answer
 use Rattle.ball_model.specs.declared.world.WorldError.{WorldError}
 use Rattle.ball_model.specs.declared.world.WorldError.TheVariants as refusal
-use Rattle.ball_model.specs.Batches.{batch_bytes, true_batch}
+use Rattle.ball_model.specs.Batches.{true_batch}
 use Rattle.ball_model.specs.Graph.{is_path, is_counted}
 use Rattle.ball_model.specs.Counter.{counter_of}
 use Rattle.ball_model.specs.PlanValue.{mixing_of}
@@ -16,7 +16,7 @@ use Rattle.ball_model.specs.Job.{Job}
 use Rattle.ball_model.specs.World.{World, start_world, answer_of, answers_of, after_event, run_of}
 use Rattle.ball_model.specs.WorldLaws.{SparesKept}
 use Rattle.ball_model.specs.History.{holding_in}
-use Rattle.world.specs.Shows.{SeenNode, SeenWorld, seen_at, Shows}
+use Rattle.world.specs.Shows.{SeenNode, SeenWorld, message_of, seen_at, Shows}
 
 -- the event takes memory
 abbrev pub takes_memory : Event → Bool
@@ -118,7 +118,7 @@ MessagesAreTrue =
     (j : Job) (replicas m : ℕ) (es : List Event) (rs : List (Result Answer WorldError))
     (v u : SeenWorld) → Shows j (start_world j.plan replicas) v → Made j v es rs u →
     slice_get u.messages m
-    ≡ option_map (λ name. batch_bytes (true_batch j name))
+    ≡ option_map (λ name. message_of (true_batch j name))
     (slice_get (run_of j (start_world j.plan replicas) (done_in es rs)).sent m)
 
 -- what is kept is read back: after a keep, any events but a keep of that node, and a restart, the replica is the one

@@ -3,14 +3,15 @@ use Rattle.std.specs.Prelude.{◌≡◌, ⊤, ℕ, List, [], map, length, Option
 use Rattle.std.specs.List.{slice_get}
 use Rattle.ball_model.specs.declared.names.NodeId.{NodeId}
 use Rattle.ball_model.specs.PlanValue.{PlanValue}
-use Rattle.ball_model.specs.Job.{Job, IsJob}
-use Rattle.ball_model.specs.Batches.{true_batch, batch_bytes}
+use Rattle.ball_model.specs.Job.{Job, IsJob, PartValue}
+use Rattle.ball_model.specs.Batches.{BatchValue, IsBatch, true_batch, batch_bytes}
 use Rattle.ball_model.specs.Checkpoint.{checkpoint_bytes}
 use Rattle.ball_model.specs.Join.{Holding}
 use Rattle.ball_model.specs.State.{State}
 use Rattle.ball_model.specs.Held.{HasHolding}
 use Rattle.ball_model.specs.World.{Node, World, node_at, start_node}
 use Rattle.ball_model.specs.WorldLaws.{IsWorld}
+use Rattle.replica.specs.Saved.{IsKeepable}
 use Rattle.replica.specs.Seen.{IsState}
 
 -- a node: its replica, and the bytes of its checkpoint
@@ -18,11 +19,26 @@ pub record SeenNode : Type 0 where
   pub replica : State
   pub kept : Option (List ℕ)
 
--- a world: for each partition its nodes, by replica; the messages as bytes; the copies
+-- a message: the plan of its batch, and its bytes
+pub record SeenMessage : Type 0 where
+  pub plan : PlanValue
+  pub bytes : List ℕ
+
+-- the spelling of a batch
+abbrev pub message_of : BatchValue → SeenMessage
+message_of b = record { plan = b.plan; bytes = batch_bytes b }
+
+-- the bytes spell a batch of the plan; so they are read
+pub record IsMessage (m : SeenMessage) : Type 0 where
+  pub batch : BatchValue
+  pub is_batch : IsBatch batch
+  pub is : m ≡ message_of batch
+
+-- a world: for each partition its nodes, by replica; the messages; the copies
 pub record SeenWorld : Type 0 where
   pub plan : PlanValue
   pub nodes : List (List SeenNode)
-  pub messages : List (List ℕ)
+  pub messages : List SeenMessage
   pub copies : List State
 
 -- a node, where there is one
@@ -46,6 +62,19 @@ pub record IsKept (j : Job) (h : Holding) (bytes : List ℕ) : Type 0 where
   pub has : Has j h replica
   pub bytes_are : bytes ≡ checkpoint_bytes replica
 
+-- the bytes are the checkpoint of a replica of the part which can be kept; so they are read
+pub record IsCheckpoint (part : PartValue) (bytes : List ℕ) : Type 0 where
+  pub replica : State
+  pub keepable : IsKeepable replica
+  pub part_is : replica.part ≡ part
+  pub bytes_are : bytes ≡ checkpoint_bytes replica
+
+-- the fields of a node: its replica is of its part, and so is that of what it kept
+pub record IsOfPart (part : PartValue) (replica : State)
+    (kept : Option (List ℕ)) : Type 0 where
+  pub part_is : part ≡ replica.part
+  pub kept_is : IfSome kept (IsCheckpoint part)
+
 pub record ShowsNode (j : Job) (n : Node) (s : SeenNode) : Type 0 where
   pub content : Has j n.content s.replica
   pub kept : Agree (IsKept j) n.kept s.kept
@@ -57,7 +86,7 @@ pub record Shows (j : Job) (w : World) (v : SeenWorld) : Type 0 where
   pub plan : v.plan ≡ j.plan
   pub world : IsWorld j w
   pub nodes : (id : NodeId) → Agree (ShowsNode j) (node_at w id) (seen_at v id)
-  pub messages : v.messages ≡ map (λ name. batch_bytes (true_batch j name)) w.sent
+  pub messages : v.messages ≡ map (λ name. message_of (true_batch j name)) w.sent
   pub copies : (c : ℕ) → Agree (Has j) (slice_get w.copies c) (slice_get v.copies c)
   pub count : length v.copies ≡ length w.copies
 

@@ -27,6 +27,7 @@
 mod answer;
 mod bytes;
 pub mod laws;
+mod message;
 mod node;
 pub mod replay;
 mod script;

@@ -11,13 +11,13 @@ ghost use Rattle.ball_model.specs.State.{State};
 ghost use Rattle.ball_model.specs.World.{closed_answer, start_node, taken_answer};
 ghost use Rattle.replica.specs.Change.{IsTrueBatch};
 ghost use Rattle.replica.specs.Saved.{IsKeepable};
-ghost use Rattle.world.specs.Shows.{Has, ShowsNode};
+ghost use Rattle.world.specs.Shows.{Has, IsCheckpoint, ShowsNode};
 ghost use Rattle.world.specs.Turns.{Turns, closed_turn, kept_turn, merged_turn, restarted_turn, taken_turn};
 
 use ball_model::world::Answer;
 use ball_model::{CloseError, MemReader, MemWriter, MergeError, TakeError, Taken};
 use batches::Batch;
-use checkpoint::{checkpoint_length, read_checkpoint, write_checkpoint};
+use checkpoint::{KeepError, checkpoint_length, read_checkpoint, write_checkpoint};
 use edgelist::Part;
 use replica::{Replica, Shown, Snapshot};
 use std::alloc::{AllocError, Global};
@@ -33,15 +33,16 @@ pub struct Node {
 }
 
 impl Model for Node {
-    ghost use Rattle.std.specs.Prelude.{◌≡◌, option_map};
+    ghost use Rattle.std.specs.Prelude.{option_map};
     ghost use Rattle.std.specs.Arc.{arc_value};
-    ghost use Rattle.world.specs.Shows.{SeenNode};
+    ghost use Rattle.world.specs.Shows.{IsOfPart, SeenNode};
 
     ghost Value = { SeenNode };
 
     ghost view = { λ n. record { replica = n.replica; kept = option_map (λ b. b.items) n.kept } };
 
-    ghost invariant = { λ n. arc_value n.part ≡ n.replica.part };
+    ghost invariant = { λ n. IsOfPart (arc_value n.part) n.replica
+        (option_map (λ b. b.items) n.kept) };
 }
 
 impl Node {
@@ -152,8 +153,12 @@ impl Node {
 
 // The checkpoint of a replica. The error is that memory was refused.
 fn checkpoint_of(alloc: Global, replica: &Replica) -> Result<Vec<u8>, AllocError>
-    ensures { IfOk result (λ bytes. bytes.items ≡ checkpoint_bytes replica.now) }
+    ensures bytes { IfOk result (λ bytes. bytes.items ≡ checkpoint_bytes replica.now) }
+    ensures keepable { IfOk result (λ bytes. IsCheckpoint replica.now.part bytes.items) }
 {
+    // the limits of a replica are told with its superstep, those of its figures with these
+    let _superstep = replica.superstep();
+    let _tallies = replica.tallies();
     let room = checkpoint_length(replica) as usize;
     let mut writer = MemWriter::with_room(alloc, room, None)?;
     // there is room for all of it, and no call is to fail
@@ -178,16 +183,26 @@ fn started(alloc: Global, part: Arc<Part>) -> Result<Replica, AllocError>
 
 // The replica of a checkpoint. The error is that memory was refused.
 fn read_back(alloc: Global, part: Arc<Part>, bytes: &[u8]) -> Result<Replica, AllocError>
+    requires { IsCheckpoint (arc_value part) bytes.now }
     ensures part { IfOk result (λ r. r.part ≡ arc_value part) }
     ensures back { (v : State) → IsKeepable v → v.part ≡ arc_value part →
         bytes.now ≡ checkpoint_bytes v → IfOk result (λ r. r ≡ v) }
 {
     let mut reader = MemReader::new(bytes, None);
-    // what was written is read
-    let Ok(replica) = read_checkpoint(alloc, part, &mut reader) else {
-        return Err(AllocError);
-    };
-    Ok(replica)
+    match read_checkpoint(alloc, part, &mut reader) {
+        Ok(replica) => Ok(replica),
+        Err(error) => Err(want_of(error)),
+    }
+}
+
+// The want of memory for which a checkpoint that was written in memory is not read: nothing else refuses it.
+fn want_of(error: KeepError) -> AllocError
+    requires { error ≡ KeepError.Memory }
+{
+    match error {
+        KeepError::Memory => AllocError,
+        _ => unreachable!(),
+    }
 }
 
 // What a world answers where a replica said this of a batch.

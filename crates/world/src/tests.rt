@@ -1,6 +1,8 @@
 //! What no clause says: worked lists of events over small graphs.
 
+mod refusals;
 mod replays;
+mod untrue;
 mod worlds;
 
 use super::*;

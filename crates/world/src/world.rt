@@ -1,20 +1,17 @@
 //! A cluster whose events come one at a time.
 
 ghost use Rattle.std.specs.Prelude.{◌≡◌, ◌≢◌, ◌↔◌, ◌++◌, ◌∷◌, [], None, Err, true, IfOk, IsOk, OnErr, OnOk, length, option_map};
-ghost use Rattle.std.specs.Arc.{arc_value};
 ghost use Rattle.std.specs.List.{slice_get};
 ghost use Rattle.ball_model.specs.declared.world.Event.TheVariants as event;
 ghost use Rattle.ball_model.specs.declared.world.Answer.TheVariants as answer;
 ghost use Rattle.ball_model.specs.declared.world.WorldError.TheVariants as refusal;
-ghost use Rattle.ball_model.specs.declared.names.BatchName.{BatchName as Name};
-ghost use Rattle.ball_model.specs.Batches.{batch_bytes, true_batch};
-ghost use Rattle.ball_model.specs.Held.{IsName};
 ghost use Rattle.ball_model.specs.Job.{Job, IsJob, job_of};
 ghost use Rattle.ball_model.specs.World.{World as Defined, after_event, answer_of, node_at, sent_answer, start_world};
 ghost use Rattle.replica.specs.Seen.{IsState};
 ghost use Rattle.world.specs.Runs.{Applies, takes_memory};
-ghost use Rattle.world.specs.Shows.{Agree, Has, Shows, seen_at};
+ghost use Rattle.world.specs.Shows.{Agree, Has, Shows, message_of, seen_at};
 
+use crate::message::Message;
 use crate::node::Node;
 use crate::start::start_all;
 use ball_model::world::{Answer, Event, WorldError};
@@ -24,7 +21,6 @@ use edgelist::Graph;
 use replica::{Replica, Shown, Snapshot};
 use std::alloc::{AllocError, Global};
 use std::marker::Model;
-use std::sync::Arc;
 
 /// A cluster whose events come one at a time.
 #[derive(Drop)]
@@ -32,7 +28,7 @@ pub struct World {
     plan: Plan,
     // for each partition its nodes, by replica
     nodes: Vec<Vec<Node>>,
-    messages: Vec<Vec<u8>>,
+    messages: Vec<Message>,
     copies: Vec<Snapshot>,
 }
 
@@ -45,7 +41,7 @@ impl Model for World {
     ghost view = { λ w. record {
       plan = w.plan;
       nodes = map (λ row. row.items) w.nodes.items;
-      messages = map (λ m. m.items) w.messages.items;
+      messages = w.messages.items;
       copies = w.copies.items;
     } };
 }
@@ -137,14 +133,14 @@ impl World {
     // A batch becomes a message.
     fn add_message(&mut self, alloc: Global, batch: &Batch) -> Result<Answer, AllocError>
         ensures sent { OnOk result (self.new ≡ record self.old {
-          messages = self.old.messages ++ batch_bytes batch.now ∷ [];
+          messages = self.old.messages ++ message_of batch.now ∷ [];
         }) }
         ensures answer { IfOk result (λ a. a ≡ sent_answer (length self.old.messages) batch.now) }
         ensures refused { OnErr result (self.new ≡ self.old) }
     {
         let message = self.messages.len() as u64;
-        let bytes = batch.encode(alloc)?;
-        self.messages.push(bytes)?;
+        let spelled = Message::spell(alloc, batch)?;
+        self.messages.push(spelled)?;
         Ok(Answer::Sent {
             message,
             name: batch.name(),
@@ -163,10 +159,10 @@ impl World {
         let Some(node) = nodes.get_mut(usize::from(id.replica)) else {
             return Err(WorldError::NoNode);
         };
-        let Some(bytes) = self.messages.get(message as usize) else {
+        let Some(message) = self.messages.get(message as usize) else {
             return Err(WorldError::NoMessage);
         };
-        let batch = read_message(alloc, &self.plan, bytes)?;
+        let batch = message.read(alloc)?;
         Ok(node.deliver(batch))
     }
 
@@ -275,16 +271,4 @@ fn replica_at(nodes: &[Node], replica: u8) -> Option<&Replica>
         Some(node) => Some(node.replica()),
         None => None,
     }
-}
-
-// The batch that a message spells.
-fn read_message(alloc: Global, plan: &Plan, bytes: &[u8]) -> Result<Arc<Batch>, AllocError>
-    ensures { (j : Job) (name : Name) → IsJob j → plan.now ≡ j.plan → IsName j.plan name →
-        bytes.now ≡ batch_bytes (true_batch j name) →
-        IfOk result (λ b. arc_value b ≡ true_batch j name) }
-{
-    let Ok(batch) = Batch::decode(alloc, plan, bytes) else {
-        return Err(AllocError);
-    };
-    Ok(Arc::new(alloc, batch)?)
 }

@@ -11,7 +11,7 @@ const TWO_EDGES: &[u8] = b"a\tb\nb\tc\n";
 const FOUR_EDGES: &[u8] = b"a\tb\nb\tc\nc\td\nd\te\n";
 
 // Counters of 16 registers under seed 0.
-fn options(parts: u16, replicas: u8) -> ReplayOptions {
+pub(crate) fn options(parts: u16, replicas: u8) -> ReplayOptions {
     ReplayOptions {
         log2m: 4,
         seed: 0,
@@ -25,14 +25,14 @@ fn options(parts: u16, replicas: u8) -> ReplayOptions {
 
 // A script over an edge list, and its answers.
 #[derive(Clone, Copy)]
-struct Worked {
-    edges: &'static [u8],
-    counted: Option<&'static [u8]>,
-    parts: u16,
-    replicas: u8,
-    script: &'static [u8],
-    told: Result<(), ReplayError>,
-    answers: &'static [u8],
+pub(crate) struct Worked {
+    pub edges: &'static [u8],
+    pub counted: Option<&'static [u8]>,
+    pub parts: u16,
+    pub replicas: u8,
+    pub script: &'static [u8],
+    pub told: Result<(), ReplayError>,
+    pub answers: &'static [u8],
 }
 
 // What a replay tells, and whether these were the bytes that it wrote; the writer has room for `room`.
@@ -260,7 +260,7 @@ fn restart_from_a_checkpoint(rt: HostRuntime) {
     assert!(rt; is_worked(&rt, &CHECKPOINTED));
 }
 
-static COPIED: Worked = Worked {
+pub(crate) static COPIED: Worked = Worked {
     edges: TWO_EDGES,
     counted: None,
     parts: 2,
@@ -322,7 +322,7 @@ fn recovery_from_copies(rt: HostRuntime) {
     assert!(rt; is_worked(&rt, &COPIED));
 }
 
-static THREE_PARTITIONS: Worked = Worked {
+pub(crate) static THREE_PARTITIONS: Worked = Worked {
     edges: TWO_EDGES,
     counted: None,
     parts: 3,
@@ -355,7 +355,7 @@ fn three_partitions(rt: HostRuntime) {
     assert!(rt; is_worked(&rt, &THREE_PARTITIONS));
 }
 
-static RESTARTED: Worked = Worked {
+pub(crate) static RESTARTED: Worked = Worked {
     edges: FOUR_EDGES,
     counted: None,
     parts: 2,

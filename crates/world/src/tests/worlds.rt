@@ -11,7 +11,7 @@ use replica::Shown;
 use std::alloc::Global;
 use std::hash::RandomState;
 
-const TWO_EDGES: &[u8] = b"a\tb\nb\tc\n";
+pub(crate) const TWO_EDGES: &[u8] = b"a\tb\nb\tc\n";
 
 const FOUR_EDGES: &[u8] = b"a\tb\nb\tc\nc\td\nd\te\n";
 
@@ -25,7 +25,7 @@ const STANDBY: NodeId = NodeId {
     replica: 1,
 };
 
-const B: NodeId = NodeId {
+pub(crate) const B: NodeId = NodeId {
     part: 1,
     replica: 0,
 };
@@ -63,7 +63,7 @@ struct Story {
 }
 
 /// The world of a graph.
-fn world_of(rt: &HostRuntime, text: &[u8], parts: u16, replicas: u8) -> Option<World> {
+pub(crate) fn world_of(rt: &HostRuntime, text: &[u8], parts: u16, replicas: u8) -> Option<World> {
     let limits = EdgeLimits {
         vertices: 100,
         edges: 100,
@@ -237,28 +237,33 @@ fn merged(superstep: u32) -> Result<Answer, WorldError> {
     Ok(Answer::Merged { superstep })
 }
 
-/// A copy that is behind the node which recovers from it has an early batch with a row.
-fn lesser_copy() -> [Step; 5] {
+/// A copy that is behind the node which recovers from it has early batches with rows: one of the superstep that the
+/// node has reached, and one of the next, which stays early.
+fn lesser_copy() -> [Step; 9] {
     [
-        (send(B, 0), sent(2, name(1, 1, 0), 1, 1)),
-        (deliver(2, STANDBY), took(Taken::New)),
+        (restart(A), restarted(0)),
+        (deliver(1, A), took(Taken::New)),
+        (close(A), closed(1)),
+        (deliver(3, STANDBY), took(Taken::New)),
+        (deliver(5, STANDBY), took(Taken::New)),
         (copy(STANDBY), copied(0, 0)),
         (recover(A, 0), merged(1)),
         (close(A), closed(2)),
+        (close(A), closed(3)),
     ]
 }
 
 #[test]
 fn copy_that_is_the_lesser(rt: HostRuntime) {
     let story = Story {
-        text: TWO_EDGES,
+        text: FOUR_EDGES,
         parts: 2,
         replicas: 2,
         told: 1,
-        rounds: 1,
+        rounds: 3,
         node: A,
-        vertex: 2,
-        row: [2, 0, 0, 0, 0, 0, 1, 0, 0, 0, 0, 0, 0, 0, 3, 0],
+        vertex: 4,
+        row: [2, 1, 0, 0, 0, 0, 1, 0, 0, 0, 0, 0, 0, 0, 0, 1],
     };
     assert_eq!(rt; is_so(&rt, &story, &lesser_copy()), Some(true));
 }
@@ -323,6 +328,31 @@ fn names_of_later_supersteps_stay_at_a_close(rt: HostRuntime) {
         row: [2, 0, 0, 0, 0, 0, 1, 0, 0, 0, 0, 0, 0, 0, 3, 1],
     };
     assert_eq!(rt; is_so(&rt, &story, &window_of_four()), Some(true));
+}
+
+/// The batch of superstep 1, which has a row, comes before that of superstep 0: its row waits for superstep 2.
+fn early_row() -> [Step; 4] {
+    [
+        (deliver(2, LATE), took(Taken::New)),
+        (deliver(0, LATE), took(Taken::New)),
+        (deliver(2, LATE), took(Taken::Known)),
+        (close(LATE), closed(1)),
+    ]
+}
+
+#[test]
+fn early_batch_with_a_row(rt: HostRuntime) {
+    let story = Story {
+        text: FOUR_EDGES,
+        parts: 2,
+        replicas: 2,
+        told: 1,
+        rounds: 2,
+        node: LATE,
+        vertex: 3,
+        row: [2, 0, 0, 0, 0, 0, 0, 0, 0, 0, 0, 0, 0, 0, 0, 1],
+    };
+    assert_eq!(rt; is_so(&rt, &story, &early_row()), Some(true));
 }
 
 /// Of three sources the least that is missing is told. One of them has no vertex, and is waited for all the same.

@@ -13,4 +13,4 @@ returns-in-Some-clause-turned c = λ j.
     let bytes = c.in-Some.bytes.items in
     subst (λ (s : SeenNode). IfOk c.read_back.result (λ r. Turns j (restarted_turn j) (answer.Restarted r.superstep) s (record s { replica = r })))
     (ap (λ (o : Option (Vec ℕ Global)). node v (option_map (λ (b : Vec ℕ Global). b.items) o)) (sym c.in-Some.is) ∙ c.self.view_is)
-    (if_back c.read_back.result j v bytes (λ u keeps part spells. c.read_back.ensures.back u keeps (part ∙ sym c.self.invariant ∙ sym c.in_ok-part.ensures) (c.deref.ensures.value ∙ spells)))
+    (if_back c.read_back.result j v bytes (λ u keeps part spells. c.read_back.ensures.back u keeps (part ∙ sym c.self.invariant.part_is ∙ sym c.in_ok-part.ensures) (c.deref.ensures.value ∙ spells)))

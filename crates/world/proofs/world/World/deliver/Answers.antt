@@ -1,8 +1,6 @@
-use Rattle.std.proofs.Common.{◌∙◌, ℕ, Vec, Global, refl, set, ap}
-use Rattle.std.specs.Prelude.{option_map}
+use Rattle.std.proofs.Common.{refl, set}
 use Rattle.std.specs.Arc.{arc_value}
 use Rattle.std.specs.Vec.{with_item}
-use Rattle.std.proofs.lemmas.Option.{slice_get-map}
 use Rattle.std.proofs.lemmas.Result.{err_from_is_err_and}
 use Rattle.ball_model.specs.declared.world.Event.TheVariants as event
 use Rattle.world.specs.contracts.world.World.{the_view}
@@ -32,9 +30,8 @@ returns-in_default-get c = λ j.
       node_is = something_at row c.from-2.result s (c.in-Some-get_mut.ensures.variant.0 refl) c.in-Some-get_mut.ensures.value;
     } in
     let seen = at_seen v rows c.args.id c.from.result c.from-2.result row s at in
-    let gone = lookup_none c.deref.result.now c.self.inside.messages.items c.args.message c.deref.ensures.value c.in_default-get.ensures.lookup.3 in
-    no_message j c.args.id c.args.message c.args.self.now (with_rows v (set rows c.from.result (with_item row c.from-2.result s))) v s c.self.view_is (at_same v rows c.args.id c.from.result c.from-2.result row s at) seen
-    (slice_get-map (λ (m : Vec ℕ Global). m.items) c.self.inside.messages.items c.args.message ∙ ap (option_map (λ (m : Vec ℕ Global). m.items)) gone)
+    let gone = lookup_none c.deref.result.now v.messages c.args.message c.deref.ensures.value c.in_default-get.ensures.lookup.3 in
+    no_message j c.args.id c.args.message c.args.self.now (with_rows v (set rows c.from.result (with_item row c.from-2.result s))) v s c.self.view_is (at_same v rows c.args.id c.from.result c.from-2.result row s at) seen gone
 
 pub returns-in_err-batch : goal.returns-in_err-batch
 returns-in_err-batch c = λ j.
@@ -49,11 +46,10 @@ returns-in_err-batch c = λ j.
       node_is = something_at row c.from-2.result s (c.in-Some-get_mut.ensures.variant.0 refl) c.in-Some-get_mut.ensures.value;
     } in
     let seen = at_seen v rows c.args.id c.from.result c.from-2.result row s at in
-    let m = c.in-Some-get.bytes.now in
-    let sent = lookup_some c.deref.result.now c.self.inside.messages.items c.args.message m c.deref.ensures.value c.in-Some-get.ensures.lookup.3.0 c.in-Some-get.ensures.lookup.1 in
+    let m = c.in-Some-get.message.now in
+    let sent = lookup_some c.deref.result.now v.messages c.args.message m c.deref.ensures.value c.in-Some-get.ensures.lookup.3.0 c.in-Some-get.ensures.lookup.1 in
     let p = err_from_is_err_and c.from_residual.result c.from_residual.ensures.1 in
-    rw (p.1, p.2) (want_deliver j c.args.id c.args.message m.items c.args.self.now (with_rows v (set rows c.from.result (with_item row c.from-2.result s))) v s c.self.view_is (at_same v rows c.args.id c.from.result c.from-2.result row s at) seen
-    (slice_get-map (λ (x : Vec ℕ Global). x.items) c.self.inside.messages.items c.args.message ∙ ap (option_map (λ (x : Vec ℕ Global). x.items)) sent))
+    rw (p.1, p.2) (want_deliver j c.args.id c.args.message m c.args.self.now (with_rows v (set rows c.from.result (with_item row c.from-2.result s))) v s c.self.view_is (at_same v rows c.args.id c.from.result c.from-2.result row s at) seen sent)
 
 pub returns : goal.returns
 returns c = λ j.
@@ -70,9 +66,8 @@ returns c = λ j.
     let seen = at_seen v rows c.args.id c.from.result c.from-2.result row s at in
     let t = c.deliver.new.self in
     let a = c.deliver.result in
-    let m = c.in-Some-get.bytes.now in
-    let sent = lookup_some c.deref.result.now c.self.inside.messages.items c.args.message m c.deref.ensures.value c.in-Some-get.ensures.lookup.3.0 c.in-Some-get.ensures.lookup.1 in
+    let m = c.in-Some-get.message.now in
+    let sent = lookup_some c.deref.result.now v.messages c.args.message m c.deref.ensures.value c.in-Some-get.ensures.lookup.3.0 c.in-Some-get.ensures.lookup.1 in
     turn_applies j (event.Deliver c.args.message c.args.id) a c.args.self.now (with_rows v (set rows c.from.result (with_item row c.from-2.result t))) v s t c.self.view_is (at_changed v rows c.args.id c.from.result c.from-2.result row s t at) seen
-    (λ w shows. deliver_of_world j c.args.id c.args.message w v m.items a s t shows
-    (slice_get-map (λ (x : Vec ℕ Global). x.items) c.self.inside.messages.items c.args.message ∙ ap (option_map (λ (x : Vec ℕ Global). x.items)) sent)
-    (λ name ok spells. deliver_turns j (arc_value c.in_ok-batch.batch) name a s t (c.in_ok-batch.ensures j name shows.job shows.plan ok (c.deref-2.ensures.value ∙ spells)) ok (c.deliver.ensures j)))
+    (λ w shows. deliver_of_world j c.args.id c.args.message w v m a s t shows sent
+    (λ name ok spells. deliver_turns j (arc_value c.in_ok-batch.batch) name a s t (c.in_ok-batch.ensures j name shows.job ok spells) ok (c.deliver.ensures j)))
