@@ -1,11 +1,12 @@
 -- What a node's thread is told may cross threads.
-use denote.Param.Send.{IsSend, sendable}
+use denote.Param.Send.{IsSend, IsSync, sendable}
 use Rattle.std.proofs.Crossing.{crosses}
-use Rattle.ball_model.specs.contracts.names.NodeId as node
-use Rattle.workers.specs.contracts.node.NodeOrders as orders
+use Rattle.workers.specs.contracts.job.Duty as duty
+use Rattle.workers.specs.contracts.running.Running as running
 
-pub node_send : IsSend node.the_row
-node_send = search (sendable, crosses) depth 30
+pub duty_send : IsSend duty.the_row
+duty_send = search (sendable, crosses) depth 30
 
-pub orders_send : IsSend orders.the_row
-orders_send = search (sendable, crosses) depth 30
+-- Threads may share what they know of one another's ends.
+pub running_sync : IsSync running.the_row
+running_sync = search (sendable, crosses) depth 30

@@ -2,4 +2,5 @@ pub mod Job
 pub mod Node
 pub mod Options
 pub mod Run
+pub mod Tie
 pub mod Turn

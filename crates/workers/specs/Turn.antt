@@ -1,9 +1,10 @@
 -- A superstep of a node, and how the node's replica fares.
-use Rattle.std.specs.Prelude.{◌≡◌, ◌≢◌, ⊤, ℕ, ◌<◌, ◌-◌, ◌⊎◌, Option, None}
+use Rattle.std.specs.Prelude.{◌≡◌, ◌≢◌, ⊤, ℕ, ◌<◌, ◌-◌, ◌⊎◌, max, Option, None}
 use Rattle.ball_model.specs.Job.{IsJob, PartValue, part_of}
 use Rattle.ball_model.specs.State.{State, StandsFor}
 use Rattle.ball_model.specs.Caller.{Called, CalledNothing, Caller}
-use Rattle.ball_model.specs.History.{Drop}
+use Rattle.ball_model.specs.History.{Drop, Recall}
+use Rattle.ball_model.specs.Join.{Holding}
 use Rattle.replica.specs.Level.{EndsRun, found_verdict, missing_in}
 use Rattle.replica.specs.Sent.{batch_name}
 use Rattle.workers.specs.declared.node.Fate.{Fate}
@@ -57,3 +58,14 @@ IsFate v p lose r (fate.Starved s q) w = HasStarved v s q p w
 -- at superstep s the caller drops the batches before the last superstep, or makes no call
 abbrev pub DropsBefore : Caller → ℕ → Caller → Type 0
 DropsBefore v s w = CalledNothing v w ⊎ Called v (Drop (s - 1)) w
+
+-- the caller recalled a snapshot of partition p, from superstep `least` on, and went from one superstep to the further
+-- of that and the snapshot's
+pub record HasRecalled (v : Caller) (p least before now : ℕ) (w : Caller) : Type 0 where
+  pub content : Holding
+  pub called : Called v (Recall p least content) w
+  pub superstep : now ≡ max before content.superstep
+
+-- a replica that starts again has nothing of a superstep behind its own: it is at the start, or took over a snapshot
+abbrev pub IsAnew : Caller → ℕ → ℕ → Caller → Type 0
+IsAnew v p now w = (now ≡ 0) ⊎ HasRecalled v p 0 0 now w

@@ -16,6 +16,13 @@ pub trait Gate {
 
     /// The node waits: nothing that it needs is there, and it looks again after this call.
     fn idle(&self, node: NodeId);
+
+    /// The node waits for what a partition tells; the answer is whether it may still come. Where it is false, the node
+    /// looks once more, and gives up. As given, it is an idle turn, and true.
+    fn wait_for(&self, node: NodeId, _source: u16) -> bool {
+        self.idle(node);
+        true
+    }
 }
 
 /// A gate that does nothing, save that an idle turn yields the thread.

@@ -11,8 +11,9 @@ ghost use Rattle.workers.specs.declared.options.RunOptions.{RunOptions as Asked}
 use crate::ends::{JobError, settle};
 use crate::exchange::BoardExchange;
 use crate::gate::Gate;
-use crate::node::{NodeError, NodeOrders, run_node};
+use crate::node::{NodeEnd, NodeError, NodeOrders, run_node};
 use crate::options::RunOptions;
+use crate::running::{RunGate, Running};
 use crate::told::{NodeResult, Told};
 use ball_model::{NodeId, Plan};
 use board::{Board, Seat};
@@ -51,24 +52,41 @@ fn orders_for(options: &RunOptions, node: NodeId) -> NodeOrders
     }
 }
 
-// Runs a node at its seat.
+// Whether a node has reached the end of the run.
+fn is_done(end: &NodeResult) -> bool {
+    matches!(end, Ok(NodeEnd::Done(_)))
+}
+
+// A node, and its orders.
+#[derive(Clone, Copy)]
+struct Duty {
+    node: NodeId,
+    orders: NodeOrders,
+}
+
+// Runs a node at its seat, and tells the others where it ends before the end of the run.
 fn run_at<R: AllocGlobal + Wait, G: Gate>(
     rt: &R,
     board: &Board,
     seat: Seat,
     gate: &G,
-    node: NodeId,
+    running: &Running,
     part: Arc<Part>,
-    orders: &NodeOrders,
+    duty: Duty,
 ) -> NodeResult
     requires seat { IsSeatOf board.now seat.caller.seen.job seat }
     requires job { IsJob seat.caller.seen.job }
-    requires node { node.part < seat.caller.seen.job.plan.parts }
-    requires part { arc_value part ≡ part_of seat.caller.seen.job node.part }
-    ensures { KeepsItsOrders seat.caller.seen.job node.part orders.now result }
+    requires node { duty.node.part < seat.caller.seen.job.plan.parts }
+    requires part { arc_value part ≡ part_of seat.caller.seen.job duty.node.part }
+    ensures { KeepsItsOrders seat.caller.seen.job duty.node.part duty.orders result }
 {
     let mut exchange = BoardExchange::new(board, seat);
-    run_node(rt, &mut exchange, gate, node, part, orders)
+    let gate = RunGate::new(gate, running);
+    let end = run_node(rt, &mut exchange, &gate, duty.node, part, &duty.orders);
+    if !is_done(&end) {
+        running.end(duty.node.part);
+    }
+    end
 }
 
 // Starts the thread of a node.
@@ -78,6 +96,7 @@ fn start_node<'s, 'a: 's, X, R: AllocGlobal + Threads + Wait + Sync, G: Gate + S
     board: &'a Board,
     seat: Seat,
     gate: &'a G,
+    running: &'a Running,
     part: Arc<Part>,
     told: Told,
 ) -> Child
@@ -87,16 +106,22 @@ fn start_node<'s, 'a: 's, X, R: AllocGlobal + Threads + Wait + Sync, G: Gate + S
     requires part { arc_value part ≡ part_of (job_in told) told.node.part }
     ensures { IfSome result (λ child. child.promise ≡ told) }
 {
-    let node = told.node;
-    let orders = told.orders;
+    let duty = Duty {
+        node: told.node,
+        orders: told.orders,
+    };
     let work = move || -> NodeResult
         requires seat { IsSeatOf board.now seat.caller.seen.job seat }
         requires job { IsJob seat.caller.seen.job }
-        requires node { node.part < seat.caller.seen.job.plan.parts }
-        requires part { arc_value part ≡ part_of seat.caller.seen.job node.part }
-        ensures { KeepsItsOrders seat.caller.seen.job node.part orders result }
-    { run_at(rt, board, seat, gate, node, part, &orders) };
-    scope.spawn_with(told, work).ok()
+        requires node { duty.node.part < seat.caller.seen.job.plan.parts }
+        requires part { arc_value part ≡ part_of seat.caller.seen.job duty.node.part }
+        ensures { KeepsItsOrders seat.caller.seen.job duty.node.part duty.orders result }
+    { run_at(rt, board, seat, gate, running, part, duty) };
+    let child = scope.spawn_with(told, work).ok();
+    if child.is_none() {
+        running.end(duty.node.part);
+    }
+    child
 }
 
 // Starts the threads of all nodes of a partition, whose part they share.
@@ -106,6 +131,7 @@ fn start_part<'s, 'a: 's, X, R: AllocGlobal + Threads + Wait + Sync, G: Gate + S
     board: &'a Board,
     first: &mut Seat,
     gate: &'a G,
+    running: &'a Running,
     graph: &Graph,
     plan: &Plan,
     options: &RunOptions,
@@ -132,7 +158,7 @@ fn start_part<'s, 'a: 's, X, R: AllocGlobal + Threads + Wait + Sync, G: Gate + S
         };
         let part = Arc::try_clone(&part)?;
         let seat = first.split(board);
-        children.push(start_node(rt, scope, board, seat, gate, part, told))?;
+        children.push(start_node(rt, scope, board, seat, gate, running, part, told))?;
     }
     Ok(children)
 }
@@ -157,6 +183,7 @@ fn start_all<'s, 'a: 's, X, R: AllocGlobal + Threads + Wait + Sync, G: Gate + Sy
     board: &'a Board,
     mut first: Seat,
     gate: &'a G,
+    running: &'a Running,
     graph: &Graph,
     plan: &Plan,
     options: &RunOptions,
@@ -169,10 +196,37 @@ fn start_all<'s, 'a: 's, X, R: AllocGlobal + Threads + Wait + Sync, G: Gate + Sy
 {
     let mut children = Vec::with_capacity(rt.alloc(), usize::from(plan.parts()))?;
     for p in 0..plan.parts() {
-        let own = start_part(rt, scope, board, &mut first, gate, graph, plan, options, p)?;
+        let own = start_part(
+            rt, scope, board, &mut first, gate, running, graph, plan, options, p,
+        )?;
         children.push(own)?;
     }
     Ok(children)
+}
+
+// Starts the threads of all nodes; where that fails, those that were started wait no more.
+fn start_or_stop<'s, 'a: 's, X, R: AllocGlobal + Threads + Wait + Sync, G: Gate + Sync>(
+    rt: &'a R,
+    scope: &'s Scope<'s, X>,
+    board: &'a Board,
+    first: Seat,
+    gate: &'a G,
+    running: &'a Running,
+    graph: &Graph,
+    plan: &Plan,
+    options: &RunOptions,
+) -> Result<Vec<Vec<Child>>, AllocError>
+    requires job { IsJob (job_of graph.now.graph plan.now) }
+    requires few { options.now.replicas ≤ 4 }
+    requires seat { HasSplit board.now (job_of graph.now.graph plan.now) 0 first }
+    ensures { IfOk result (λ all. AreStarted (λ child. child.promise) (λ own. own.items)
+        (job_of graph.now.graph plan.now) options.now all.items) }
+{
+    let started = start_all(rt, scope, board, first, gate, running, graph, plan, options);
+    if started.is_err() {
+        running.stop();
+    }
+    started
 }
 
 // The end of a node, once its thread has ended; a node without a thread ended for want of memory.
@@ -226,6 +280,7 @@ fn run_in<'s, 'a: 's, X, R: AllocGlobal + Threads + Wait + Sync, G: Gate + Sync>
     board: &'a Board,
     first: Seat,
     gate: &'a G,
+    running: &'a Running,
     graph: &Graph,
     plan: &Plan,
     options: &RunOptions,
@@ -236,7 +291,7 @@ fn run_in<'s, 'a: 's, X, R: AllocGlobal + Threads + Wait + Sync, G: Gate + Sync>
     ensures done { IfOk result (λ rs. AreDone (job_of graph.now.graph plan.now) rs.items) }
     ensures fault { IfErr result (IsFaultOf plan.now.parts options.now) }
 {
-    let children = start_all(rt, scope, board, first, gate, graph, plan, options)?;
+    let children = start_or_stop(rt, scope, board, first, gate, running, graph, plan, options)?;
     let ends = join_all(rt, children)?;
     settle(rt.alloc(), ends)
 }
@@ -257,6 +312,8 @@ pub fn run_job<R: AllocGlobal + Threads + Wait + Sync, G: Gate + Sync>(
 {
     let (board, first) = Board::open(rt.alloc(), graph, plan, options.entries)?;
     let board = &board;
+    let running = Running::new(rt.alloc(), plan.parts(), options.replicas)?;
+    let running = &running;
     thread::scope(
         thread::scope_env(),
         rt,
@@ -267,6 +324,6 @@ pub fn run_job<R: AllocGlobal + Threads + Wait + Sync, G: Gate + Sync>(
             ensures done { IfOk result (λ rs.
                 AreDone (job_of graph.entry.now.graph plan.entry.now) rs.items) }
             ensures fault { IfErr result (IsFaultOf plan.entry.now.parts options.entry.now) }
-        { run_in(rt, scope, board, first, gate, graph, plan, options) },
+        { run_in(rt, scope, board, first, gate, running, graph, plan, options) },
     )
 }

@@ -19,7 +19,8 @@
 //! run_node(rt, &mut exchange, &OpenGate, node, part, &orders)?     // NodeEnd::Done(replica)
 //! ```
 //!
-//! A node that waits looks at the length of the history after each idle turn. Where another node of its partition has
+//! A node that waits looks at the length of the history after each idle turn, and in a run it waits for nobody whose
+//! nodes have all ended too early: a run that cannot reach its end says so at once. Where another node of its partition has
 //! kept a snapshot of a further superstep, it takes that over and goes on from there.
 #![tactic(auto)]
 
@@ -28,16 +29,19 @@ mod ends;
 mod exchange;
 mod gate;
 mod job;
+mod laws;
 mod memory;
 mod node;
 mod options;
 mod pages;
+mod running;
 mod told;
 mod turn;
 
 pub use bytes::{RunError, run};
 pub use exchange::{BoardExchange, Exchange};
 pub use gate::{Gate, OpenGate, SleepingGate};
+pub use laws::histories_are_runs;
 pub use memory::MemoryExchange;
 pub use node::{NodeEnd, NodeError, NodeOrders, run_node};
 pub use options::RunOptions;

@@ -6,7 +6,7 @@ ghost use Rattle.ball_model.specs.Job.{IsJob, part_of};
 ghost use Rattle.ball_model.specs.Caller.{Extends, IsCaller, IsFull};
 ghost use Rattle.workers.specs.declared.node.NodeError.TheVariants.{BookFull};
 ghost use Rattle.workers.specs.Node.{FallsDue, HasToldAll, IfDone, IfLost, IfStarved, IsDone, WasMissing};
-ghost use Rattle.workers.specs.Turn.{IsFate, IsPartOf, StandsIn};
+ghost use Rattle.workers.specs.Turn.{IsAnew, IsFate, IsPartOf, StandsIn};
 ghost use Rattle.replica.specs.Sent.{batch_name};
 
 use crate::exchange::Exchange;
@@ -115,6 +115,8 @@ fn begin_anew<R: AllocGlobal + Wait, E: Exchange>(
     requires part { IsPartOf (E.caller exchange.old) node.part (arc_value part.now) }
     ensures seen { Extends (E.caller exchange.old) (E.caller exchange.new) }
     ensures stands { OnOk result (StandsIn (E.caller exchange.old) node.part replica.new) }
+    ensures anew { OnOk result (IsAnew (E.caller exchange.old) node.part replica.new.superstep
+        (E.caller exchange.new)) }
     ensures full { IfErr result (λ e. e ≡ BookFull → IsFull (E.caller exchange.new)) }
 {
     *replica = Replica::new(rt.alloc(), Arc::try_clone(part)?)?;

@@ -1,6 +1,6 @@
 //! One superstep of a node.
 
-ghost use Rattle.std.specs.Prelude.{◌≡◌, ◌≢◌, ◌⊎◌, ℕ, false, None, ◌<◌, ◌≤◌, ◌+◌, IfOk, OnOk, IfErr, Err};
+ghost use Rattle.std.specs.Prelude.{◌≡◌, ◌≢◌, ◌⊎◌, ℕ, true, false, None, ◌<◌, ◌≤◌, ◌+◌, IfOk, OnOk, IfErr, Err};
 ghost use Rattle.ball_model.specs.Caller.{Extends, IsCaller, IsFull};
 ghost use Rattle.workers.specs.declared.node.NodeError.TheVariants.{BookFull};
 ghost use Rattle.workers.specs.Node.{HasPosted, HasToldAll, WasMissing};
@@ -8,7 +8,7 @@ ghost use Rattle.ball_model.specs.Job.{Job};
 ghost use Rattle.ball_model.specs.State.{StandsFor};
 ghost use Rattle.replica.specs.Level.{EndsRun, found_verdict, missing_in};
 ghost use Rattle.workers.specs.declared.turn.Turn.TheVariants as turn;
-ghost use Rattle.workers.specs.Turn.{DropsBefore, IsFound, IsTurn, StandsIn};
+ghost use Rattle.workers.specs.Turn.{DropsBefore, HasRecalled, IsFound, IsTurn, StandsIn};
 ghost use Rattle.replica.specs.Sent.{batch_name};
 
 use crate::exchange::Exchange;
@@ -55,6 +55,8 @@ pub fn catch_up<R: AllocGlobal + Wait, E: Exchange>(
     ensures seen { Extends (E.caller exchange.old) (E.caller exchange.new) }
     ensures stands { OnOk result (StandsIn (E.caller exchange.old) node.part replica.new) }
     ensures none { IfOk result (λ found. found ≡ false → replica.new ≡ replica.old) }
+    ensures found { IfOk result (λ found. found ≡ true → HasRecalled (E.caller exchange.old) node.part
+        at_least replica.old.superstep replica.new.superstep (E.caller exchange.new)) }
     ensures full { IfErr result (λ e. e ≡ BookFull → IsFull (E.caller exchange.new)) }
 {
     let Some(snapshot) = exchange.recall(rt, node.part, at_least)? else {
@@ -163,11 +165,13 @@ fn drop_old<R: Wait, E: Exchange>(
     Ok(())
 }
 
-// Idle turns, until the history is no longer of that length, or there were so many of them; and whether it is.
+// Idle turns, until the history is no longer of that length, or nothing can come from the source any more, or there
+// were so many of them; and whether it is. (Who ends has posted before: so the length is looked at once more.)
 fn has_grown<E: Exchange, G: Gate>(
     exchange: &mut E,
     gate: &G,
     node: NodeId,
+    source: u16,
     known: u64,
     patience: u32,
 ) -> bool
@@ -175,9 +179,12 @@ fn has_grown<E: Exchange, G: Gate>(
     ensures seen { Extends (E.caller exchange.old) (E.caller exchange.new) }
 {
     for _ in 0..patience {
-        gate.idle(node);
+        let may_come = gate.wait_for(node, source);
         if exchange.length() != known {
             return true;
+        }
+        if !may_come {
+            return false;
         }
     }
     false
@@ -243,7 +250,7 @@ fn gather<R: AllocGlobal + Wait, E: Exchange, G: Gate>(
         if catch_up(rt, exchange, node, replica.superstep() + 1, replica)? {
             return Ok(Found::Further);
         }
-        if !has_grown(exchange, gate, node, length, patience) {
+        if !has_grown(exchange, gate, node, source, length, patience) {
             return Ok(Found::Missed { source });
         }
     }

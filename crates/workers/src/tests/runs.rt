@@ -92,12 +92,35 @@ fn lost_replica(rt: HostRuntime) -> Result<(), Fail> {
 }
 
 #[test]
+fn any_node_lost_at_any_superstep(rt: HostRuntime) -> Result<(), Fail> {
+    for part in 0..2u16 {
+        for replica in 0..2u8 {
+            for superstep in 0..4u32 {
+                let mut options = usual(rt.alloc(), 2, 2);
+                options.lose.push((node(part, replica), superstep))?;
+                assert!(rt; reports(&rt, &options)?);
+            }
+        }
+    }
+    Ok(())
+}
+
+#[test]
+fn least_lost_partition(rt: HostRuntime) -> Result<(), Fail> {
+    let mut options = usual(rt.alloc(), 3, 1);
+    options.lose.push((node(2, 0), 0))?;
+    options.lose.push((node(1, 0), 0))?;
+    let lost = RunError::PartitionLost { part: 1 };
+    assert!(rt; fails(&rt, &options, lost)?);
+    Ok(())
+}
+
+#[test]
 fn lost_partition(rt: HostRuntime) -> Result<(), Fail> {
     let mut options = usual(rt.alloc(), 2, 2);
-    // lost before they wait for anybody; the others wait in vain
+    // lost before they wait for anybody; nobody waits out a million idle turns for them
     options.lose.push((node(0, 0), 0))?;
     options.lose.push((node(0, 1), 0))?;
-    options.patience = 1000;
     let lost = RunError::PartitionLost { part: 0 };
     assert!(rt; fails(&rt, &options, lost)?);
     Ok(())
@@ -116,8 +139,11 @@ fn restarted_node(rt: HostRuntime) -> Result<(), Fail> {
 #[test]
 fn full_book(rt: HostRuntime) -> Result<(), Fail> {
     let mut options = usual(rt.alloc(), 2, 1);
-    options.entries = 4;
-    assert!(rt; fails(&rt, &options, RunError::BookFull)?);
+    // each of two nodes keeps, posts and fetches at each of four supersteps
+    for entries in 2..19u32 {
+        options.entries = entries;
+        assert!(rt; fails(&rt, &options, RunError::BookFull)?);
+    }
     Ok(())
 }
 

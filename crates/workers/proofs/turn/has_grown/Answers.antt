@@ -9,3 +9,6 @@ loop-preserved g c = extends_trans _ _ _ c.loop.invariant c.length.ensures.seen
 
 pub returns-then-length-known : goal.returns-then-length-known
 returns-then-length-known g c = record { seen = extends_trans _ _ _ c.loop.invariant c.length.ensures.seen }
+
+pub returns-then-not-may_come : goal.returns-then-not-may_come
+returns-then-not-may_come g c = record { seen = extends_trans _ _ _ c.loop.invariant c.length.ensures.seen }

@@ -1,0 +1,137 @@
+-- The tie of a board's history to a world: what a node does at its board is what a node of a world does.
+use Rattle.std.specs.Prelude.{◌≡◌, ◌≢◌, ⊤, ℕ, ◌<◌, ◌≤◌, List, [], ◌∷◌, ◌++◌, Some, option_map, if◌then◌else◌}
+use Rattle.ball_model.specs.declared.names.BatchName.{BatchName}
+use Rattle.ball_model.specs.declared.names.NodeId.{NodeId}
+use Rattle.ball_model.specs.declared.world.Event.{Event as Happening}
+use Rattle.ball_model.specs.Job.{Job}
+use Rattle.ball_model.specs.Join.{Holding, join_of}
+use Rattle.ball_model.specs.Steps.{Take, Close}
+use Rattle.ball_model.specs.Held.{start_holding, held_after}
+use Rattle.ball_model.specs.History.{Event, Post, Fetch, Keep, Recall, Drop, Entry, History, IsLegal, calls_by, is_new_post, is_new_keep}
+use Rattle.ball_model.specs.World.{World, start_world, node_at, run_of}
+
+-- a step of a node: a call of its board, with what it makes of the answer; a close of its superstep; a start anew,
+-- with nothing of what it held
+pub data Step : Type 0 where
+  Calls : Event → Step
+  Closes : Step
+  StartsAnew : Step
+
+-- what a node holds after a call: it takes what it fetched, and merges what it recalled
+abbrev pub after_call : Job → Holding → Event → Holding
+after_call j h (Post name r) = h
+after_call j h (Fetch name) = held_after j h (Take name)
+after_call j h (Keep c r) = h
+after_call j h (Recall p s c) = join_of h c
+after_call j h (Drop s) = h
+
+-- what a node of partition p holds after a step
+abbrev pub after_step : Job → ℕ → Holding → Step → Holding
+after_step j p h (Calls e) = after_call j h e
+after_step j p h Closes = held_after j h Close
+after_step j p h StartsAnew = start_holding j.plan p
+
+-- what it holds after a list of steps, one after the other
+unfoldable pub after_steps : Job → ℕ → Holding → List Step → Holding
+after_steps j p h [] = h
+after_steps j p h (step ∷ steps) = after_steps j p (after_step j p h step) steps
+
+-- the name of a batch that a node tells another partition
+pub record IsOwnName (j : Job) (h : Holding) (name : BatchName) : Type 0 where
+  pub superstep : name.superstep ≡ h.superstep
+  pub source : name.source ≡ h.partition
+  pub target : name.target < j.plan.parts
+  pub other : name.target ≢ h.partition
+
+-- a call that a node makes: it posts what it has to tell, keeps what it holds, and recalls for its own partition
+abbrev pub IsOwnCall : Job → Holding → Event → Type 0
+IsOwnCall j h (Post name r) = IsOwnName j h name
+IsOwnCall j h (Fetch name) = ⊤
+IsOwnCall j h (Keep c r) = c ≡ h
+IsOwnCall j h (Recall p s c) = p ≡ h.partition
+IsOwnCall j h (Drop s) = ⊤
+
+abbrev pub IsOwnStep : Job → Holding → Step → Type 0
+IsOwnStep j h (Calls e) = IsOwnCall j h e
+IsOwnStep j h Closes = ⊤
+IsOwnStep j h StartsAnew = ⊤
+
+-- each step is one that a node of partition p makes, from what it holds then
+unfoldable pub AreOwnSteps : Job → ℕ → Holding → List Step → Type 0
+AreOwnSteps j p h [] = ⊤
+AreOwnSteps j p h (step ∷ steps) = IsOwnStep j h step × AreOwnSteps j p (after_step j p h step) steps
+
+-- the calls among the steps
+unfoldable pub calls_in : List Step → List Event
+calls_in [] = []
+calls_in (Calls e ∷ steps) = e ∷ calls_in steps
+calls_in (Closes ∷ steps) = calls_in steps
+calls_in (StartsAnew ∷ steps) = calls_in steps
+
+-- from its start, by these steps with these calls, a node of partition p comes to hold c
+pub record Reaches (j : Job) (p : ℕ) (made : List Event) (steps : List Step) (c : Holding) : Type 0 where
+  pub below : p < j.plan.parts
+  pub own : AreOwnSteps j p (start_holding j.plan p) steps
+  pub calls : calls_in steps ≡ made
+  pub held : after_steps j p (start_holding j.plan p) steps ≡ c
+
+-- the calls are those of a node of some partition
+pub record AreOfNode (j : Job) (made : List Event) : Type 0 where
+  pub part : ℕ
+  pub steps : List Step
+  pub held : Holding
+  pub path : Reaches j part made steps held
+
+-- the name of what a call posted, where it was new
+abbrev pub sent_by : Event → List BatchName
+sent_by (Post name r) = if is_new_post r then name ∷ [] else []
+sent_by (Fetch name) = []
+sent_by (Keep c r) = []
+sent_by (Recall p s c) = []
+sent_by (Drop s) = []
+
+-- the content that a call kept, where it was further
+abbrev pub copied_by : Event → List Holding
+copied_by (Post name r) = []
+copied_by (Fetch name) = []
+copied_by (Keep c r) = if is_new_keep r then c ∷ [] else []
+copied_by (Recall p s c) = []
+copied_by (Drop s) = []
+
+-- the names of a history's new posts, in order
+unfoldable pub sent_in : List Entry → List BatchName
+sent_in [] = []
+sent_in (e ∷ es) = sent_by e.event ++ sent_in es
+
+-- the contents of its new keeps, in order
+unfoldable pub copied_in : List Entry → List Holding
+copied_in [] = []
+copied_in (e ∷ es) = copied_by e.event ++ copied_in es
+
+-- after these events, from that world, the node holds c, and nothing more was sent or copied
+pub record ComesTo (j : Job) (w : World) (id : NodeId) (es : List Happening) (c : Holding) : Type 0 where
+  pub sent : (run_of j w es).sent ≡ w.sent
+  pub copies : (run_of j w es).copies ≡ w.copies
+  pub content : option_map (λ n. n.content) (node_at (run_of j w es) id) ≡ Some c
+
+-- a node of the world comes to hold c by some further events
+pub record CanHold (j : Job) (w : World) (id : NodeId) (c : Holding) : Type 0 where
+  pub events : List Happening
+  pub comes : ComesTo j w id events c
+
+-- a run of a world with so many replicas of each partition: what was sent are the names of the history's new posts,
+-- what was copied are the contents of its new keeps, and what a caller's node holds is held by a node of the world
+-- after some further events, in which nothing more is sent or copied
+pub record IsRun (replicas : ℕ) (h : History) : Type 0 where
+  pub events : List Happening
+  pub sent : (run_of h.job (start_world h.job.plan replicas) events).sent ≡ sent_in h.calls
+  pub copies : (run_of h.job (start_world h.job.plan replicas) events).copies ≡ copied_in h.calls
+  pub held : (n : ℕ) (id : NodeId) (steps : List Step) (c : Holding) → id.replica < replicas →
+      Reaches h.job id.part (calls_by n h) steps c →
+      CanHold h.job (run_of h.job (start_world h.job.plan replicas) events) id c
+
+-- a legal history, in which each caller's calls are those of a node, is a run of a world. The law is the contract of
+-- a function of src/laws.rt
+abbrev pub HistoriesAreRuns : Type 0
+HistoriesAreRuns = (replicas : ℕ) (h : History) → 0 < replicas → IsLegal h →
+    ((n : ℕ) → AreOfNode h.job (calls_by n h)) → IsRun replicas h

@@ -1,0 +1,81 @@
+//! Which partitions may still tell something: what the nodes of a run know of one another's ends.
+
+use crate::gate::Gate;
+use ball_model::NodeId;
+use std::alloc::{AllocError, Global};
+use std::sync::atomic::{AtomicU32, Ordering};
+
+/// How many nodes of each partition have ended before the end of the run.
+#[derive(Drop)]
+pub struct Running {
+    ended: Vec<AtomicU32>,
+    replicas: u32,
+}
+
+impl Running {
+    /// No node has ended, of so many partitions of so many replicas. The error is that memory was refused.
+    pub fn new(alloc: Global, parts: u16, replicas: u8) -> Result<Running, AllocError> {
+        let mut ended = Vec::with_capacity(alloc, usize::from(parts))?;
+        for _ in 0..parts {
+            ended.push(AtomicU32::new(0))?;
+        }
+        Ok(Running {
+            ended,
+            replicas: u32::from(replicas),
+        })
+    }
+
+    /// A node of the partition has ended before the end of the run, or never had a thread.
+    pub fn end(&self, part: u16) {
+        if let Some(ended) = self.ended.get(usize::from(part)) {
+            ended.fetch_add(1, Ordering::SeqCst);
+        }
+    }
+
+    /// Not all nodes have threads, and there will be no further ones: nobody waits any more.
+    pub fn stop(&self) {
+        for ended in &self.ended {
+            ended.fetch_add(self.replicas, Ordering::SeqCst);
+        }
+    }
+
+    /// Whether a node of the partition goes on, or has reached the end of the run.
+    pub fn may_tell(&self, part: u16) -> bool {
+        match self.ended.get(usize::from(part)) {
+            Some(ended) => ended.load(Ordering::SeqCst) < self.replicas,
+            None => true,
+        }
+    }
+}
+
+/// The gate of a run: that of its caller, at which nobody waits for a partition whose nodes have all ended too early.
+#[derive(Clone, Copy)]
+pub struct RunGate<'a, G> {
+    gate: &'a G,
+    running: &'a Running,
+}
+
+impl<'a, G: Gate> RunGate<'a, G> {
+    /// The caller's gate, and what is known of the ends of the nodes.
+    pub fn new(gate: &'a G, running: &'a Running) -> RunGate<'a, G> {
+        RunGate { gate, running }
+    }
+}
+
+impl<'a, G: Gate> Gate for RunGate<'a, G> {
+    fn before_post(&self, node: NodeId, superstep: u32) {
+        self.gate.before_post(node, superstep);
+    }
+
+    fn after_post(&self, node: NodeId, superstep: u32) {
+        self.gate.after_post(node, superstep);
+    }
+
+    fn idle(&self, node: NodeId) {
+        self.gate.idle(node);
+    }
+
+    fn wait_for(&self, node: NodeId, source: u16) -> bool {
+        self.running.may_tell(source) && self.gate.wait_for(node, source)
+    }
+}
