@@ -1,5 +1,5 @@
 -- What `clap` reads of an option is what its words say.
-use Rattle.std.proofs.Common.{◌≡◌, ◌<◌, ◌^◌, ℕ, Bool, true, false, List, Option, Some, None, codes, refl, ap, sym, subst, ◌∙◌}
+use Rattle.std.proofs.Common.{◌≡◌, ◌<◌, ◌^◌, ℕ, Bool, true, false, List, [], Option, Some, None, codes, refl, ap, sym, subst, ◌∙◌}
 use Rattle.std.specs.Prelude.{MatchOption, Result, is_some, unwrap_or}
 use Rattle.std.specs.Str.Parse.{ParsesUnsigned}
 use Rattle.clap.specs.Words.{ReadsOne, Text, first_of, first_value, one_text, rows_of}
@@ -7,8 +7,11 @@ use Rattle.clap.specs.declared.parser.matches.Found.{Found}
 use Rattle.clap.proofs.WalkLemmas.{first_value-rows, one_text-rows}
 use Rattle.ball_model.specs.declared.plan.Estimate.{Estimate}
 use Rattle.edgelist.specs.declared.read.Delimiter.{Delimiter}
+use Rattle.hyperball.specs.declared.replay_words.ReplayWords.{ReplayWords}
 use Rattle.hyperball.specs.declared.words.RunWords.{RunWords}
-use Rattle.hyperball.specs.Words.{IsFlag, IsNamedOr, IsNumber, IsNumberOr, flag_text}
+use Rattle.ball_model.specs.declared.names.NodeId.{NodeId}
+use Rattle.hyperball.specs.Orders.{AreOrders}
+use Rattle.hyperball.specs.Words.{IsFlag, IsListed, IsNamedOr, IsNumber, IsNumberOr, flag_text}
 
 number_of : {E : Type 0} (A B : List ℕ → Result ℕ E → Type 0) (one : Option Text) (usual bits n : ℕ) (r : Option ℕ) → (one ≡ None → r ≡ None) →
     ((t : Text) → one ≡ Some t → ReadsOne (λ bs x. ParsesUnsigned bits 10 bs x × A bs x × B bs x) t r) →
@@ -46,6 +49,15 @@ pub same_words : (log2m seed parts limit : ℕ) (e : Estimate) (d : Delimiter) (
     ◌≡◌ {A = RunWords} (record { options = record { log2m = log2m; seed = seed; parts = parts; limit = limit; estimate = e; delimiter = d; replicas = replicas; entries = entries; keep = keep; patience = patience }; counted = counted }) w
 same_words log2m seed parts limit e d replicas entries keep patience counted w a b p l k g r n m q h = λ i. record { options = record { log2m = a i; seed = b i; parts = p i; limit = l i; estimate = k i; delimiter = g i; replicas = r i; entries = n i; keep = m i; patience = q i }; counted = h i }
 
+pub same_replay_words : (log2m seed parts limit replicas : ℕ) (e : Estimate) (d : Delimiter) (counted : Bool) (w : ReplayWords) → log2m ≡ w.options.log2m → seed ≡ w.options.seed → parts ≡ w.options.parts → limit ≡ w.options.limit → replicas ≡ w.options.replicas →
+    e ≡ w.options.estimate → d ≡ w.options.delimiter → counted ≡ w.counted →
+    ◌≡◌ {A = ReplayWords} (record { options = record { log2m = log2m; seed = seed; parts = parts; limit = limit; replicas = replicas; estimate = e; delimiter = d }; counted = counted }) w
+same_replay_words log2m seed parts limit replicas e d counted w a b p l r k g h = λ i. record { options = record { log2m = a i; seed = b i; parts = p i; limit = l i; replicas = r i; estimate = k i; delimiter = g i }; counted = h i }
+
 -- a text that was read is given
 pub given_is : (f : Found) (id : Text) (text : Option Text) → text ≡ first_value f id → is_some text ≡ true → is_some (first_of id (rows_of f)) ≡ true
 given_is f id text read is = subst (λ o. is_some o ≡ true) (read ∙ first_value-rows f id) is
+
+-- a list that was read is that of its option
+pub listed_is : (f : Found) (id : Text) (text : Option Text) (os : List (NodeId × ℕ)) → text ≡ first_value f id → MatchOption text (os ≡ []) (λ t. AreOrders t os) → IsListed (rows_of f) id os
+listed_is f id text os read is = subst (λ o. MatchOption o (os ≡ []) (λ t. AreOrders t os)) (read ∙ first_value-rows f id) is

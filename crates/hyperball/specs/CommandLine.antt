@@ -1,4 +1,4 @@
--- The command line: the subcommand `run` and its options.
+-- The command line: the subcommands `run` and `replay`, and their options.
 use Rattle.std.specs.Prelude.{◌≡◌, List, [], ◌∷◌, Some, codes, map, pos, true, false}
 use Rattle.clap.specs.Words.{App, Rule, Text, app_of, new_app, new_rule}
 use Rattle.clap.specs.Words.{with_rule, with_subcommand}
@@ -93,15 +93,23 @@ run_app p =
     with_orders (with_nodes (with_input p.delimiters
     (with_estimate p.estimates (with_numbers (new_app (codes "run"))))))
 
--- the program, which wants a subcommand, before it has one
+-- the subcommand `replay`
+unfoldable pub replay_app : Parsers → App
+replay_app p = with_rule
+    (with_input p.delimiters
+    (with_estimate p.estimates (with_numbers (new_app (codes "replay")))))
+    (option_rule (codes "replicas") number8)
+
+-- the program, which has a version and wants a subcommand, before it has one
 abbrev pub new_hyperball : App
 new_hyperball = record (new_app (codes "hyperball")) {
-  top = record (new_app (codes "hyperball")).top { subcommand_required = true };
+  top = record (new_app (codes "hyperball")).top { has_version = true; subcommand_required = true };
 }
 
 -- the program
 unfoldable pub hyperball_app : Parsers → App
-hyperball_app p = with_subcommand new_hyperball (run_app p).top
+hyperball_app p =
+    with_subcommand (with_subcommand new_hyperball (run_app p).top) (replay_app p).top
 
 -- a command of this form, with no argument for all subcommands
 pub record IsApp (app : App) (c : Command) : Type 0 where

@@ -1,7 +1,10 @@
 -- What some command lines say.
-use Rattle.std.specs.Prelude.{true, false}
-use Rattle.ball_model.specs.declared.plan.Estimate.TheVariants.{Corrected}
-use Rattle.edgelist.specs.declared.read.Delimiter.TheVariants.{Space}
+use Rattle.std.specs.Prelude.{ℕ, List, [], ◌∷◌, true, false}
+use Rattle.ball_model.specs.declared.names.NodeId.{NodeId}
+use Rattle.ball_model.specs.declared.plan.Estimate.TheVariants.{Corrected, Raw}
+use Rattle.edgelist.specs.declared.read.Delimiter.TheVariants.{Comma, Space, Tab}
+use Rattle.world.specs.declared.replay.ReplayOptions.{ReplayOptions}
+use Rattle.hyperball.specs.declared.replay_words.ReplayWords.{ReplayWords}
 use Rattle.hyperball.specs.declared.words.RunWords.{RunWords}
 use Rattle.hyperball.specs.Words.{usual_options}
 
@@ -28,3 +31,44 @@ node_words = record {
   options = record usual_options { replicas = 2; keep = 0 };
   counted = false;
 }
+
+abbrev pub board_words : RunWords
+board_words = record {
+  options = record usual_options { entries = 64; patience = 10 };
+  counted = false;
+}
+
+-- the options of a replay where none is given
+abbrev pub usual_replay_options : ReplayOptions
+usual_replay_options = record {
+  log2m = 8;
+  seed = 0;
+  parts = 1;
+  limit = 4096;
+  replicas = 1;
+  estimate = Raw;
+  delimiter = Tab;
+}
+
+abbrev pub usual_replay : ReplayWords
+usual_replay = record { options = usual_replay_options; counted = false }
+
+abbrev pub replayed_plan : ReplayWords
+replayed_plan = record {
+  options = record usual_replay_options { log2m = 4; parts = 3; limit = 9; replicas = 2 };
+  counted = false;
+}
+
+abbrev pub replayed_input : ReplayWords
+replayed_input = record {
+  options = record usual_replay_options { seed = 7; estimate = Corrected; delimiter = Comma };
+  counted = true;
+}
+
+-- replica 1 of partition 0 at superstep 2
+abbrev pub one_order : List (NodeId × ℕ)
+one_order = (record { part = 0; replica = 1 }, 2) ∷ []
+
+-- and replica 0 of partition 1 at superstep 3
+abbrev pub two_orders : List (NodeId × ℕ)
+two_orders = (record { part = 0; replica = 1 }, 2) ∷ (record { part = 1; replica = 0 }, 3) ∷ []

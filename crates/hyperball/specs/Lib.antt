@@ -4,3 +4,5 @@ pub mod Options
 pub mod Whole
 pub mod Streams
 pub mod LawWords
+pub mod Replaying
+pub mod Orders

@@ -1,5 +1,5 @@
 -- What the words of a command line say.
-use Rattle.std.specs.Prelude.{◌≡◌, ◌≢◌, ◌<◌, ◌^◌, ◌||◌, ℕ, Bool, true, false, List, [], Option, Some}
+use Rattle.std.specs.Prelude.{◌≡◌, ◌≢◌, ⊤, ◌<◌, ◌^◌, ◌||◌, ℕ, Bool, true, false, List, [], Option, Some}
 use Rattle.std.specs.Prelude.{IfOk, IfSome, MatchOption, MatchResult, Result, String, is_some, codes, map, string_bytes}
 use Rattle.std.specs.Global.{Global}
 use Rattle.std.specs.List.{AllByRecursion}
@@ -15,12 +15,17 @@ use Rattle.ball_model.specs.declared.plan.Estimate.{Estimate}
 use Rattle.ball_model.specs.declared.plan.Estimate.TheVariants.{Raw, Corrected}
 use Rattle.edgelist.specs.declared.read.Delimiter.{Delimiter}
 use Rattle.edgelist.specs.declared.read.Delimiter.TheVariants.{Tab, Comma, Space}
+use Rattle.ball_model.specs.declared.names.NodeId.{NodeId}
 use Rattle.hyperball.specs.declared.options.Options.{Options}
+use Rattle.hyperball.specs.declared.options.Orders.{Orders}
 use Rattle.hyperball.specs.declared.words.RunWords.{RunWords}
+use Rattle.hyperball.specs.declared.words.Wish.{Wish}
+use Rattle.hyperball.specs.declared.words.Wish.TheVariants as wish
 use Rattle.hyperball.specs.declared.words.WordsError.{WordsError}
 use Rattle.hyperball.specs.declared.words.WordsError.TheVariants as words
 use Rattle.hyperball.specs.CommandLine.{Parsers, TakeNames, hyperball_app}
 use Rattle.hyperball.specs.Options.{settings_in}
+use Rattle.hyperball.specs.Orders.{AreOrders}
 use Rattle.workers.specs.Run.{ArePlain}
 use Rattle.hyperball.specs.Whole.{sections_in}
 
@@ -108,6 +113,20 @@ AreOrdersIn rows =
 abbrev pub GivesOrders : Option (Text × List Row) → Type 0
 GivesOrders sub = IfSome sub (λ s. AreOrdersIn s.1)
 
+-- a list of orders is spelled by the value of its option; where that is not given the list is empty
+abbrev pub IsListed : List Row → Text → List (NodeId × ℕ) → Type 0
+IsListed rows id os = MatchOption (first_of id rows) (os ≡ []) (λ text. AreOrders text os)
+
+-- the lists of orders are those of the options
+pub record AreListed (rows : List Row) (orders : Orders) : Type 0 where
+  pub lose : IsListed rows (codes "lose") orders.lose.items
+  pub restart : IsListed rows (codes "restart") orders.restart.items
+
+-- a run has the orders of the subcommand's options
+abbrev pub SaysListed : Option (Text × List Row) → Wish → Type 0
+SaysListed sub (wish.Run said) = IfSome sub (λ s. AreListed s.1 said.orders)
+SaysListed sub (wish.Replay words) = ⊤
+
 -- what the program's command finds wrong with the words
 pub record HasFaults (words : List Text) (kinds : List ErrorKind) : Type 0 where
   pub are : (p : Parsers) → TakeNames p → fault_of (hyperball_app p) words ≡ kinds
@@ -123,6 +142,12 @@ pub record HasOrders (words : List Text) : Type 0 where
   pub parsers : Parsers
   pub take : TakeNames parsers
   pub orders : GivesOrders (subcommand_of (hyperball_app parsers) words)
+
+-- a run has the orders of the words, as some parsers read them
+pub record SaysOrders (words : List Text) (asked : Wish) : Type 0 where
+  pub parsers : Parsers
+  pub take : TakeNames parsers
+  pub listed : SaysListed (subcommand_of (hyperball_app parsers) words) asked
 
 -- parsers take their names, and the program's command with them reads the words so
 pub record ParsesTo (words : List Text) (result : Result ArgMatches Error) : Type 0 where

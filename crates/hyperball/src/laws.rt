@@ -1,12 +1,21 @@
 //! What real command lines are read as: the contract of each function is the law, and its body is empty.
 
-ghost use Rattle.std.specs.Prelude.{◌∷◌, [], codes};
-ghost use Rattle.clap.specs.declared.error.kind.ErrorKind.TheVariants.{DisplayHelp, InvalidValue};
+ghost use Rattle.std.specs.Prelude.{◌∷◌, [], List, codes, ℕ};
+ghost use Rattle.ball_model.specs.declared.names.NodeId.{NodeId as Node};
+ghost use Rattle.clap.specs.Words.{Text};
+ghost use Rattle.clap.specs.declared.error.kind.ErrorKind.TheVariants.{DisplayHelp, DisplayVersion};
+ghost use Rattle.clap.specs.declared.error.kind.ErrorKind.TheVariants.{InvalidValue, MissingSubcommand};
 ghost use Rattle.clap.specs.declared.error.kind.ErrorKind.TheVariants.{UnknownArgument};
 ghost use Rattle.clap.specs.declared.error.kind.ErrorKind.TheVariants.{ValueValidation};
-ghost use Rattle.hyperball.specs.LawWords.{corrected_words, counted_words, log2m_words, node_words};
-ghost use Rattle.hyperball.specs.LawWords.{space_words};
+ghost use Rattle.hyperball.specs.LawWords.{board_words, corrected_words, counted_words, log2m_words};
+ghost use Rattle.hyperball.specs.LawWords.{node_words, replayed_input, replayed_plan, space_words};
+ghost use Rattle.hyperball.specs.LawWords.{usual_replay};
+ghost use Rattle.hyperball.specs.LawWords.{one_order, two_orders};
+ghost use Rattle.hyperball.specs.Orders.{AreOrders};
+ghost use Rattle.hyperball.specs.Replaying.{AsksReplay, IsReplay};
 ghost use Rattle.hyperball.specs.Words.{HasFaults, IsRun};
+ghost use Rattle.hyperball.specs.declared.replay_words.ReplayWords.{ReplayWords as Replayed};
+ghost use Rattle.hyperball.specs.declared.words.RunWords.{RunWords as Run};
 
 /// These words are read as those of run; an option that is not given has its default.
 pub fn words_of_a_run()
@@ -26,6 +35,10 @@ pub fn words_of_a_run()
         (codes "hyperball" ∷ codes "run" ∷ codes "--replicas" ∷ codes "2" ∷ codes "--keep=0"
         ∷ codes "--lose" ∷ codes "0.1@2" ∷ [])
         node_words }
+    ensures board { IsRun
+        (codes "hyperball" ∷ codes "run" ∷ codes "--entries" ∷ codes "64" ∷ codes "--patience=10"
+        ∷ codes "--restart" ∷ codes "0.0@2" ∷ [])
+        board_words }
 {}
 
 /// These words ask for help, or are mistaken.
@@ -42,4 +55,71 @@ pub fn words_of_no_run()
     ensures name { HasFaults
         (codes "hyperball" ∷ codes "run" ∷ codes "--delimiter" ∷ codes "semicolon" ∷ [])
         (InvalidValue ∷ []) }
+{}
+
+/// These words are read as those of replay; an option that is not given has its default.
+pub fn words_of_a_replay()
+    ensures usual { IsReplay
+        (codes "hyperball" ∷ codes "replay" ∷ [])
+        usual_replay }
+    ensures plan { IsReplay
+        (codes "hyperball" ∷ codes "replay" ∷ codes "--log2m" ∷ codes "4" ∷ codes "--parts=3"
+        ∷ codes "--limit" ∷ codes "9" ∷ codes "--replicas" ∷ codes "2" ∷ [])
+        replayed_plan }
+    ensures input { IsReplay
+        (codes "hyperball" ∷ codes "replay" ∷ codes "--counted" ∷ codes "--delimiter"
+        ∷ codes "comma" ∷ codes "--estimate=corrected" ∷ codes "--seed" ∷ codes "7" ∷ [])
+        replayed_input }
+{}
+
+/// These words ask for help on replay, or are mistaken: a replay keeps what its script says, so it has no `--keep`.
+pub fn words_of_no_replay()
+    ensures help { HasFaults
+        (codes "hyperball" ∷ codes "replay" ∷ codes "--help" ∷ [])
+        (DisplayHelp ∷ []) }
+    ensures keep { HasFaults
+        (codes "hyperball" ∷ codes "replay" ∷ codes "--keep" ∷ codes "0" ∷ [])
+        (UnknownArgument ∷ []) }
+    ensures lose { HasFaults
+        (codes "hyperball" ∷ codes "replay" ∷ codes "--lose" ∷ codes "0.0@1" ∷ [])
+        (UnknownArgument ∷ []) }
+    ensures number { HasFaults
+        (codes "hyperball" ∷ codes "replay" ∷ codes "--replicas" ∷ codes "256" ∷ [])
+        (ValueValidation ∷ []) }
+    ensures name { HasFaults
+        (codes "hyperball" ∷ codes "replay" ∷ codes "--estimate" ∷ codes "best" ∷ [])
+        (InvalidValue ∷ []) }
+{}
+
+/// These words ask for the version or for help, or no command is named; the commands have no version of their own.
+pub fn words_of_no_command()
+    ensures version { HasFaults
+        (codes "hyperball" ∷ codes "--version" ∷ [])
+        (DisplayVersion ∷ []) }
+    ensures help { HasFaults
+        (codes "hyperball" ∷ codes "--help" ∷ [])
+        (DisplayHelp ∷ []) }
+    ensures none { HasFaults
+        (codes "hyperball" ∷ [])
+        (MissingSubcommand ∷ []) }
+    ensures inner { HasFaults
+        (codes "hyperball" ∷ codes "run" ∷ codes "--version" ∷ [])
+        (UnknownArgument ∷ []) }
+{}
+
+/// Words are never those of both commands, and words that are read as those of replay ask for one.
+pub fn words_of_one_command()
+    ensures run { (words : List Text) (w : Run) → IsRun words w → AsksReplay words → ⊥ }
+    ensures replay { (words : List Text) (w : Replayed) → IsReplay words w → AsksReplay words }
+{}
+
+/// These texts are lists of orders, and these are none: a superstep is wanted, without leading zeros, and no list ends
+/// with a comma.
+pub fn lists_of_orders()
+    ensures one { AreOrders (codes "0.1@2") one_order }
+    ensures two { AreOrders (codes "0.1@2,1.0@3") two_orders }
+    ensures unsaid { (os : List (Node × ℕ)) → AreOrders (codes "0.0@") os → ⊥ }
+    ensures zeros { (os : List (Node × ℕ)) → AreOrders (codes "00.0@1") os → ⊥ }
+    ensures ended { (os : List (Node × ℕ)) → AreOrders (codes "0.0@1,") os → ⊥ }
+    ensures empty { (os : List (Node × ℕ)) → AreOrders [] os → ⊥ }
 {}

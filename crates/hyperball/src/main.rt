@@ -23,6 +23,8 @@
 pub mod laws;
 pub mod options;
 pub mod orders;
+pub mod replay_words;
+pub mod replaying;
 pub mod serve;
 #[cfg(test)]
 mod tests;
@@ -30,6 +32,7 @@ pub mod whole;
 pub mod words;
 
 use ball_model::{CountingReader, CountingWriter};
+use std::io::{IsTerminal, Write};
 use std::process::ExitCode;
 use std::{env, io};
 
@@ -38,12 +41,22 @@ fn words_of(rt: &HostRuntime) -> io::Result<Vec<String>> {
     Ok(env::args(rt)?.collect(rt.alloc())?)
 }
 
+// One who is to type the input is told so. Words that ask for help, or are refused, read none.
+fn tell_terminal(rt: &HostRuntime, words: &[String]) {
+    if rt.stdin().is_terminal() && words::read_words(rt.alloc(), words).is_ok() {
+        let told =
+            "hyperball: reads its input from the terminal; Ctrl-D on a line of its own ends it";
+        let _ = writeln!(rt.stderr(), "{told}");
+    }
+}
+
 fn main(rt: HostRuntime) -> ExitCode {
     let mut faults = rt.stderr();
     let words = match words_of(&rt) {
         Ok(words) => words,
         Err(error) => return ExitCode::from(serve::tell_fault(&mut faults, error)),
     };
+    tell_terminal(&rt, &words);
     let mut reader = CountingReader::new(rt.stdin());
     let mut writer = CountingWriter::new(rt.stdout());
     let status = serve::serve(&rt, &words, &mut reader, &mut writer, &mut faults);

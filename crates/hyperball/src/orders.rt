@@ -1,5 +1,11 @@
 //! Lists of orders: which replicas are lost or start anew, each at a superstep.
 
+ghost use Rattle.std.specs.Prelude.{◌≡◌, ◌<◌, ◌^◌, IfOk, List, MatchResult, decimal, ℕ};
+ghost use Rattle.ball_model.specs.WorldText.{node_word};
+ghost use Rattle.ball_model.specs.declared.names.NodeId.{NodeId as Node};
+ghost use Rattle.hyperball.specs.Orders.{AreOrders, IsNode, IsOrder, Reads, is_plain};
+ghost use Rattle.hyperball.specs.Orders.{order_text};
+
 use ball_model::NodeId;
 use std::alloc::Global;
 
@@ -12,35 +18,78 @@ pub enum OrdersError {
     Memory,
 }
 
-// The value of decimal digits without a leading zero, where it is at most `most`.
-fn number_in(digits: &str, most: u32) -> Option<u32> {
-    let plain = digits.len() <= 9 && digits.bytes().all(|byte| byte.is_ascii_digit());
-    if !plain || (digits.len() > 1 && digits.starts_with('0')) {
+// Whether a number is written without a plus and without needless zeros.
+fn is_plain(digits: &str) -> bool
+    ensures { result ≡ is_plain digits.now }
+{
+    let bytes = digits.as_bytes();
+    match bytes.first() {
+        Some(b'+') => false,
+        Some(b'0') => bytes.len() == 1,
+        _ => true,
+    }
+}
+
+// The number of a partition.
+fn part_in(digits: &str) -> Option<u16>
+    ensures { Reads (λ n. n < 2 ^ 16) decimal digits.now result }
+{
+    if !is_plain(digits) {
+        return None;
+    }
+    digits.parse::<u16>().ok()
+}
+
+// The number of a replica.
+fn replica_in(digits: &str) -> Option<u8>
+    ensures { Reads (λ n. n < 2 ^ 8) decimal digits.now result }
+{
+    if !is_plain(digits) {
+        return None;
+    }
+    digits.parse::<u8>().ok()
+}
+
+// A superstep.
+fn superstep_in(digits: &str) -> Option<u32>
+    ensures { Reads (λ n. n < 10 ^ 9) decimal digits.now result }
+{
+    if !is_plain(digits) {
         return None;
     }
     match digits.parse::<u32>() {
-        Ok(number) if number <= most => Some(number),
+        Ok(superstep) if superstep < 1_000_000_000 => Some(superstep),
         _ => None,
     }
 }
 
 // The node of a text P.K.
-fn node_in(text: &str) -> Option<NodeId> {
+fn node_in(text: &str) -> Option<NodeId>
+    ensures { Reads IsNode node_word text.now result }
+{
     let (part, replica) = text.split_once('.')?;
-    let part = u16::try_from(number_in(part, 65_535)?).ok()?;
-    let replica = u8::try_from(number_in(replica, 255)?).ok()?;
+    let part = part_in(part)?;
+    let replica = replica_in(replica)?;
     Some(NodeId { part, replica })
 }
 
 // The order of a text P.K@S.
-fn order_in(text: &str) -> Option<(NodeId, u32)> {
+fn order_in(text: &str) -> Option<(NodeId, u32)>
+    ensures { Reads IsOrder order_text text.now result }
+{
     let (node, superstep) = text.split_once('@')?;
-    Some((node_in(node)?, number_in(superstep, 999_999_999)?))
+    let node = node_in(node)?;
+    let superstep = superstep_in(superstep)?;
+    Some((node, superstep))
 }
 
 /// The orders of a text: each P.K@S, for replica K of partition P at superstep S, with commas between them. Numbers are
 /// decimal, of at most 9 digits, without leading zeros.
-pub fn orders_in(alloc: Global, text: &str) -> Result<Vec<(NodeId, u32)>, OrdersError> {
+pub fn orders_in(alloc: Global, text: &str) -> Result<Vec<(NodeId, u32)>, OrdersError>
+    ensures ok { IfOk result (λ os. AreOrders text.now os.items) }
+    ensures read { (os : List (Node × ℕ)) → AreOrders text.now os →
+        MatchResult result (λ found. found.items ≡ os) (λ e. e ≡ OrdersError.Memory) }
+{
     let mut orders = Vec::new(alloc);
     for piece in text.split(',') {
         let Some(order) = order_in(piece) else {

@@ -1,16 +1,20 @@
 //! From words and bytes to bytes and a status.
 
-ghost use Rattle.std.specs.Prelude.{◌≡◌, ◌≢◌, ◌≤◌, ◌⊎◌, ◌∷◌, [], List, true};
+ghost use Rattle.std.specs.Prelude.{◌≡◌, ◌≢◌, ◌≤◌, ◌⊎◌, ◌∷◌, [], List, false, true};
 ghost use Rattle.std.specs.Prelude.{Err, IfSome, None, OnErr, OnOk};
-ghost use Rattle.std.specs.Io.KnownBytes.{Keeps};
+ghost use Rattle.std.specs.Io.KnownBytes.{Appends, Keeps};
 ghost use Rattle.clap.specs.Words.{kind_of};
 ghost use Rattle.clap.specs.declared.error.kind.ErrorKind.TheVariants as kind;
 ghost use Rattle.clap.specs.declared.error.kind.ErrorKind.{ErrorKind as Kind};
 ghost use Rattle.ball_model.specs.Sections.{sections_of};
 ghost use Rattle.hyperball.specs.Streams.{KeptOrFailed};
-ghost use Rattle.ball_model.specs.Streams.{Rises};
-ghost use Rattle.hyperball.specs.Whole.{IsLong, ReadsFew};
+ghost use Rattle.ball_model.specs.Streams.{Rises, TakesAtMost};
+ghost use Rattle.edgelist.specs.Reading.{CountsOne};
+ghost use Rattle.edgelist.specs.declared.read.EdgeError.TheVariants as edge_fault;
+ghost use Rattle.hyperball.specs.Whole.{IsLong, ReadsFew, most_bytes};
 ghost use Rattle.hyperball.specs.Options.{settings_in};
+ghost use Rattle.hyperball.specs.Replaying.{BeginsSome, BeginsToServe, IsReplay, ServesReplay};
+ghost use Rattle.hyperball.specs.declared.replay_words.ReplayWords.{ReplayWords as Replayed};
 ghost use Rattle.hyperball.specs.Words.{AreMistakes, FailsFor, HasFaults, HasOrders, IsMistake, IsRun};
 ghost use Rattle.hyperball.specs.Words.{Reports, Serves, listed_words, texts_of};
 ghost use Rattle.hyperball.specs.declared.options.Options.{Options as Asked};
@@ -21,8 +25,10 @@ ghost use Rattle.hyperball.specs.declared.words.RunWords.{RunWords as Run};
 
 use crate::options::run_options;
 use crate::orders::OrdersError;
+use crate::replay_words::ReplayWords;
+use crate::replaying::replay_by;
 use crate::whole::{WholeError, read_whole, sections};
-use crate::words::{Said, WordsError, read_words};
+use crate::words::{Said, Wish, WordsError, read_words};
 use ball_model::{CountedRead, CountedWrite, CountingReader, put_all};
 use clap::error::ErrorKind;
 use std::alloc::{AllocGlobal, Global};
@@ -91,13 +97,15 @@ pub fn tell_fault<F: Write>(faults: &mut F, fault: impl Display + Drop) -> u8
 }
 
 // Writes help that was asked for.
-fn tell_help<W: CountedWrite, F: Write>(
+fn tell_help<D: Display, W: CountedWrite, F: Write>(
     alloc: Global,
-    help: &clap::Error,
+    help: &D,
     writer: &mut W,
     faults: &mut F,
 ) -> u8
     ensures status { (result ≡ 0) ⊎ (result ≡ 1) }
+    ensures told { result ≡ 0 →
+        IfSome (D.output help.now) (Appends (W.contents writer.old) (W.contents writer.new)) }
     ensures kept { result ≡ 1 →
         KeptOrFailed W.contents W.failed_calls writer.old writer.new }
     ensures silent { result ≡ 0 → Keeps (F.contents faults.old) (F.contents faults.new) }
@@ -235,10 +243,14 @@ fn run_listed<
         IfSome (R.remaining reader.old) (λ input. sections_of input ≢ None) }
     ensures random { result ≢ Err RunFault.Random }
     ensures size { result ≡ Err (RunFault.Input WholeError.Size) → IsLong (R.remaining reader.old) }
+    ensures memory { result ≡ Err (RunFault.Input WholeError.Memory) →
+        TakesAtMost most_bytes (R.remaining reader.old) (R.remaining reader.new) }
     ensures read { result ≡ Err (RunFault.Input WholeError.Read) →
         Rises (R.failed_calls reader.old) (R.failed_calls reader.new) }
     ensures failed { Rises (R.failed_calls reader.old) (R.failed_calls reader.new) →
         result ≡ Err (RunFault.Input WholeError.Read) }
+    ensures sure { R.sure_calls reader.old ≡ None →
+        result ≢ Err (RunFault.Input WholeError.Read) }
     ensures few { ReadsFew (R.remaining reader.old) (R.remaining reader.new) }
     ensures kept { OnErr result (
         KeptOrFailed W.contents W.failed_calls writer.old writer.new) }
@@ -264,6 +276,27 @@ fn run_by<
     ensures done { (w : Run) → settings_of options.now ≡ settings_in w.options →
         counted ≡ w.counted →
         OnOk result (Serves w (R.remaining reader.old) W.contents writer.old writer.new) }
+    ensures random { result ≡ Err RunFault.Random →
+        Keeps (R.remaining reader.old) (R.remaining reader.new) }
+    ensures size { result ≡ Err (RunFault.Input WholeError.Size) → IsLong (R.remaining reader.old) }
+    ensures memory { result ≡ Err (RunFault.Input WholeError.Memory) →
+        TakesAtMost most_bytes (R.remaining reader.old) (R.remaining reader.new) }
+    ensures read { result ≡ Err (RunFault.Input WholeError.Read) →
+        Rises (R.failed_calls reader.old) (R.failed_calls reader.new) }
+    ensures failed { counted ≡ true →
+        Rises (R.failed_calls reader.old) (R.failed_calls reader.new) →
+        result ≡ Err (RunFault.Input WholeError.Read) }
+    ensures sure { R.sure_calls reader.old ≡ None →
+        result ≢ Err (RunFault.Input WholeError.Read) }
+    ensures no_list { result ≡ Err RunFault.NoList →
+        IfSome (R.remaining reader.old) (λ input. sections_of input ≡ None) }
+    ensures no_input { counted ≡ false → (f : NoInput) → result ≢ Err (RunFault.Input f) }
+    ensures unlisted { counted ≡ false → result ≢ Err RunFault.NoList }
+    ensures edges { counted ≡ false → result ≡ Err (RunFault.Run (RunError.Edges edge_fault.Read)) →
+        Rises (R.failed_calls reader.old) (R.failed_calls reader.new) }
+    ensures edges_failed { counted ≡ false →
+        CountsOne (R.failed_calls reader.old) (R.failed_calls reader.new) →
+        result ≡ Err (RunFault.Run (RunError.Edges edge_fault.Read)) }
     ensures few { counted ≡ true → ReadsFew (R.remaining reader.old) (R.remaining reader.new) }
     ensures kept { OnErr result (
         KeptOrFailed W.contents W.failed_calls writer.old writer.new) }
@@ -286,6 +319,27 @@ fn run<
 >(rt: &H, said: Said, reader: &mut R, writer: &mut W) -> Result<(), RunFault>
     ensures done { OnOk result (
         Serves said.words (R.remaining reader.old) W.contents writer.old writer.new) }
+    ensures random { result ≡ Err RunFault.Random →
+        Keeps (R.remaining reader.old) (R.remaining reader.new) }
+    ensures size { result ≡ Err (RunFault.Input WholeError.Size) → IsLong (R.remaining reader.old) }
+    ensures memory { result ≡ Err (RunFault.Input WholeError.Memory) →
+        TakesAtMost most_bytes (R.remaining reader.old) (R.remaining reader.new) }
+    ensures read { result ≡ Err (RunFault.Input WholeError.Read) →
+        Rises (R.failed_calls reader.old) (R.failed_calls reader.new) }
+    ensures failed { said.words.counted ≡ true →
+        Rises (R.failed_calls reader.old) (R.failed_calls reader.new) →
+        result ≡ Err (RunFault.Input WholeError.Read) }
+    ensures sure { R.sure_calls reader.old ≡ None →
+        result ≢ Err (RunFault.Input WholeError.Read) }
+    ensures no_list { result ≡ Err RunFault.NoList →
+        IfSome (R.remaining reader.old) (λ input. sections_of input ≡ None) }
+    ensures no_input { said.words.counted ≡ false → (f : NoInput) → result ≢ Err (RunFault.Input f) }
+    ensures unlisted { said.words.counted ≡ false → result ≢ Err RunFault.NoList }
+    ensures edges { said.words.counted ≡ false → result ≡ Err (RunFault.Run (RunError.Edges edge_fault.Read)) →
+        Rises (R.failed_calls reader.old) (R.failed_calls reader.new) }
+    ensures edges_failed { said.words.counted ≡ false →
+        CountsOne (R.failed_calls reader.old) (R.failed_calls reader.new) →
+        result ≡ Err (RunFault.Run (RunError.Edges edge_fault.Read)) }
     ensures few { said.words.counted ≡ true →
         ReadsFew (R.remaining reader.old) (R.remaining reader.new) }
     ensures kept { OnErr result (
@@ -321,12 +375,38 @@ fn serve_run<
     }
 }
 
+// The status of a replay, whose fault is told.
+fn serve_replay<H: AllocGlobal + RandomSource, R: CountedRead, W: CountedWrite, F: Write>(
+    rt: &H,
+    words: &ReplayWords,
+    reader: &mut R,
+    writer: &mut W,
+    faults: &mut F,
+) -> u8
+    ensures status { (result ≡ 0) ⊎ (result ≡ 1) }
+    ensures done { result ≡ 0 →
+        ServesReplay words.now (R.remaining reader.old) W.contents writer.old writer.new }
+    ensures few { ReadsFew (R.remaining reader.old) (R.remaining reader.new) }
+    ensures begun { result ≡ 1 → BeginsToServe words.now (R.remaining reader.old)
+        W.contents W.failed_calls writer.old writer.new }
+    ensures silent { result ≡ 0 → Keeps (F.contents faults.old) (F.contents faults.new) }
+{
+    match replay_by(rt, words, reader, writer) {
+        Ok(()) => DONE,
+        Err(fault) => tell_fault(faults, fault),
+    }
+}
+
 /// Does what the words of a command line say, and gives the exit status.
 ///
-/// 0: the report was written, or help was asked for, whose text goes to the writer; nothing goes to `faults`. 1: a
-/// fault, told in one line on `faults`; nothing was written unless a write failed. 2: words that are refused, as `clap`
-/// tells it there, or a list of orders that is not of its form; nothing was written. The first word is the program's name. With `--counted` the input is read whole,
-/// at most 67,108,865 bytes of it, and has the edge list, a line of exactly `%%`, and the list of counted vertices.
+/// 0: the report or the answers were written, or help was asked for, whose text goes to the writer; nothing goes to
+/// `faults`. 1: a fault, told in one line on `faults`; nothing was written unless a write failed, or memory was refused
+/// in a replay, where a beginning of the answers may stand. 2: words that are refused, as `clap` tells it there, or a
+/// list of orders that is not of its form; nothing was written.
+///
+/// The first word is the program's name. With `--counted`, and by a replay, the input is read whole, at most 67,108,865
+/// bytes of it: the edge list, a line of exactly `%%`, the list of counted vertices where there is one, and for a replay
+/// a line of `%%` behind it and the script.
 pub fn serve<
     H: AllocGlobal + Clock + RandomSource + Threads + Wait + Sync,
     R: CountedRead,
@@ -335,7 +415,11 @@ pub fn serve<
 >(rt: &H, words: &[String], reader: &mut R, writer: &mut W, faults: &mut F) -> u8
     ensures run { (w : Run) → IsRun (texts_of words.now) w → result ≡ 0 →
         Serves w (R.remaining reader.old) W.contents writer.old writer.new }
+    ensures replay { (w : Replayed) → IsReplay (texts_of words.now) w → result ≡ 0 →
+        ServesReplay w (R.remaining reader.old) W.contents writer.old writer.new }
     ensures few { (w : Run) → IsRun (texts_of words.now) w → w.counted ≡ true →
+        ReadsFew (R.remaining reader.old) (R.remaining reader.new) }
+    ensures replay_few { (w : Replayed) → IsReplay (texts_of words.now) w →
         ReadsFew (R.remaining reader.old) (R.remaining reader.new) }
     ensures mistaken { (kinds : List Kind) → HasFaults (texts_of words.now) kinds →
         AreMistakes kinds → (result ≡ 2) ⊎ (result ≡ 1) }
@@ -345,11 +429,17 @@ pub fn serve<
     ensures two { result ≡ 2 → HasFaults (texts_of words.now) [] → HasOrders (texts_of words.now) }
     ensures two_kept { result ≡ 2 → Keeps (W.contents writer.old) (W.contents writer.new) }
     ensures one_kept { result ≡ 1 →
-        KeptOrFailed W.contents W.failed_calls writer.old writer.new }
+        KeptOrFailed W.contents W.failed_calls writer.old writer.new
+        ⊎ BeginsSome (texts_of words.now) (R.remaining reader.old)
+        (W.contents writer.old) (W.contents writer.new) }
+    ensures one_begun { (w : Replayed) → IsReplay (texts_of words.now) w → result ≡ 1 →
+        BeginsToServe w (R.remaining reader.old)
+        W.contents W.failed_calls writer.old writer.new }
     ensures silent { result ≡ 0 → Keeps (F.contents faults.old) (F.contents faults.new) }
 {
     match read_words(rt.alloc(), words) {
-        Ok(said) => serve_run(rt, said, reader, writer, faults),
+        Ok(Wish::Run(said)) => serve_run(rt, said, reader, writer, faults),
+        Ok(Wish::Replay(words)) => serve_replay(rt, &words, reader, writer, faults),
         Err(error) => tell_words(rt.alloc(), &error, writer, faults),
     }
 }

@@ -1,7 +1,9 @@
 //! What no clause says: reports of runs, printed texts, statuses, and streams that fail.
 
 mod estimates;
+mod replays;
 mod runs;
+mod scripts;
 mod streams;
 mod words;
 

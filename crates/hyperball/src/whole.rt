@@ -74,6 +74,7 @@ fn read_all<R: CountedRead>(
     requires buffer { 0 < length buffer.old }
     requires start { bytes.old.items ≡ [] }
     ensures ok { OnOk result (IsWhole (R.remaining reader.old) bytes.new.items) }
+    ensures within { OnOk result (length bytes.new.items ≤ most_bytes) }
     ensures size { result ≡ Err WholeError.Size → IsLong (R.remaining reader.old) }
     ensures memory { result ≡ Err WholeError.Memory →
         TakesAtMost most_bytes (R.remaining reader.old) (R.remaining reader.new) }
@@ -100,6 +101,7 @@ fn read_all<R: CountedRead>(
 /// bytes, `Memory` only where no more than 2^26 were read.
 pub fn read_whole<R: CountedRead>(alloc: Global, reader: &mut R) -> Result<Vec<u8>, WholeError>
     ensures ok { IfOk result (λ bytes. IsWhole (R.remaining reader.old) bytes.items) }
+    ensures within { IfOk result (λ bytes. length bytes.items ≤ most_bytes) }
     ensures size { result ≡ Err WholeError.Size → IsLong (R.remaining reader.old) }
     ensures memory { result ≡ Err WholeError.Memory →
         TakesAtMost most_bytes (R.remaining reader.old) (R.remaining reader.new) }

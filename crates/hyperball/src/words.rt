@@ -1,6 +1,7 @@
 //! The command line, read by `clap`.
 
-ghost use Rattle.std.specs.Prelude.{◌≡◌, [], Err, IfErr, IfOk, List, MatchOption, false, is_some, true};
+ghost use Rattle.std.specs.Prelude.{◌≡◌, [], Err, IfErr, IfOk, IfSome, List, MatchOption};
+ghost use Rattle.std.specs.Prelude.{false, is_some, true};
 ghost use Rattle.std.specs.Prelude.{option_map};
 ghost use Rattle.clap.specs.Words.{App, FailsBy, found_of, has_subcommand, rows_of, rule_of};
 ghost use Rattle.clap.specs.Words.{subcommand_rows_of, with_rule};
@@ -11,8 +12,13 @@ ghost use Rattle.hyperball.specs.CommandLine.{flag_rule, option_rule, run_app};
 ghost use Rattle.hyperball.specs.CommandLine.{with_counters, with_input, with_nodes, with_numbers};
 ghost use Rattle.hyperball.specs.CommandLine.{with_orders};
 ghost use Rattle.hyperball.specs.declared.words.RunWords.{RunWords as Run};
-ghost use Rattle.hyperball.specs.Words.{AreOptionsOf, AreOrdersIn, FailsWith, GivesOrders, HasFaults};
-ghost use Rattle.hyperball.specs.Words.{HasOrders, IsRun, IsRunOf, ParsesTo};
+ghost use Rattle.std.specs.Prelude.{Ok};
+ghost use Rattle.hyperball.specs.Replaying.{AsksReplay, IsReplay, IsReplayOf, NamesReplay, SaysRun};
+ghost use Rattle.hyperball.specs.declared.replay_words.ReplayWords.{ReplayWords as Replayed};
+ghost use Rattle.hyperball.specs.Orders.{AreOrders};
+ghost use Rattle.hyperball.specs.Words.{AreListed, AreOptionsOf, AreOrdersIn, FailsWith, GivesOrders};
+ghost use Rattle.hyperball.specs.Words.{HasFaults, HasOrders, IsRun, IsRunOf, ParsesTo, SaysListed};
+ghost use Rattle.hyperball.specs.Words.{SaysOrders};
 ghost use Rattle.hyperball.specs.Words.{delimiter_name, estimate_name, texts_of};
 ghost use Rattle.ball_model.specs.declared.plan.Estimate.{Estimate as Made};
 ghost use Rattle.ball_model.specs.declared.plan.Estimate.TheVariants.{Raw};
@@ -21,6 +27,7 @@ ghost use Rattle.edgelist.specs.declared.read.Delimiter.TheVariants.{Tab};
 
 use crate::options::{Options, Orders, USUAL};
 use crate::orders::{OrdersError, orders_in};
+use crate::replay_words::{ReplayWords, replay_command, replay_words_of};
 use ball_model::{Estimate, NodeId};
 use clap::builder::ValueParser;
 use clap::{Arg, ArgAction, ArgMatches, Command, Error, value_parser};
@@ -32,6 +39,8 @@ static DELIMITERS: [&str; 3] = ["tab", "comma", "space"];
 
 /// The names that `--estimate` takes.
 static ESTIMATES: [&str; 2] = ["raw", "corrected"];
+
+const VERSION: &str = "0.1.0";
 
 const ABOUT: &str = "HyperBall centralities of a directed graph, by HyperLogLog counters";
 
@@ -99,7 +108,8 @@ const LOSE_HELP: &str =
 
 const RESTART_HELP: &str = "Workers that start anew from what is kept, in the form of --lose";
 
-const ESTIMATE_HELP: &str =
+/// The help of `--estimate`.
+pub const ESTIMATE_HELP: &str =
     "raw: far too large for small sets; corrected: near the true size for all [default: raw]";
 
 const DELIMITER_HELP: &str = "What stands between the two fields of a line [default: tab]";
@@ -152,8 +162,8 @@ fn delimiters<'a>() -> ValueParser<'a>
     ValueParser::Names(DELIMITERS.as_slice())
 }
 
-// Adds an option that takes a value.
-fn add_option<'a>(
+/// Adds an option that takes a value.
+pub fn add_option<'a>(
     alloc: Global,
     command: Command<'a>,
     name: &'a str,
@@ -166,8 +176,8 @@ fn add_option<'a>(
     command.arg(option(alloc, name, help, parser))
 }
 
-// Adds the options of the counters.
-fn add_counters<'a>(alloc: Global, command: Command<'a>) -> Result<Command<'a>, AllocError>
+/// Adds the options of the counters.
+pub fn add_counters<'a>(alloc: Global, command: Command<'a>) -> Result<Command<'a>, AllocError>
     ensures { (app : App) → IsApp app command.entry → IfOk result (IsApp (with_counters app)) }
 {
     let command = add_option(alloc, command, "log2m", LOG2M_HELP, value_parser!(u8))?;
@@ -207,8 +217,8 @@ fn add_orders<'a>(alloc: Global, command: Command<'a>) -> Result<Command<'a>, Al
     add_option(alloc, command, "restart", RESTART_HELP, ValueParser::String)
 }
 
-// Adds the options of an input, with a parser of delimiters.
-fn add_input<'a>(
+/// Adds the options of an input, with a parser of delimiters.
+pub fn add_input<'a>(
     alloc: Global,
     command: Command<'a>,
     delimiters: ValueParser<'a>,
@@ -245,11 +255,16 @@ pub fn command<'a>(alloc: Global) -> Result<Command<'a>, AllocError>
     ensures { IfOk result (λ c.
         (p : Parsers) × TakeNames p × IsApp (hyperball_app p) c) }
 {
-    let run = run_command(alloc, estimates(), delimiters())?;
-    Command::new(alloc, "hyperball")
+    let ways = estimates();
+    let between = delimiters();
+    let run = run_command(alloc, ways, between)?;
+    let replay = replay_command(alloc, ways, between)?;
+    let top = Command::new(alloc, "hyperball")
+        .version(VERSION)
         .about(ABOUT)
         .subcommand_required(true)
-        .subcommand(run)
+        .subcommand(run)?;
+    top.subcommand(replay)
 }
 
 // The words, as the program's command reads them.
@@ -260,8 +275,8 @@ fn parse<'a>(alloc: Global, words: &'a [String]) -> Result<ArgMatches<'a>, Error
     command(alloc)?.try_get_matches_from(words)
 }
 
-// The delimiter of that name; where none is given it is the usual one.
-fn delimiter_of(name: Option<&str>) -> Delimiter
+/// The delimiter of that name; where none is given it is the usual one.
+pub fn delimiter_of(name: Option<&str>) -> Delimiter
     ensures { (d : Between) → MatchOption (option_map (λ name. name.now) name.entry)
         (d ≡ Tab) (λ name. name ≡ delimiter_name d) → result ≡ d }
 {
@@ -272,8 +287,8 @@ fn delimiter_of(name: Option<&str>) -> Delimiter
     }
 }
 
-// The way to make estimates of that name; where none is given it is the usual one.
-fn estimate_of(name: Option<&str>) -> Estimate
+/// The way to make estimates of that name; where none is given it is the usual one.
+pub fn estimate_of(name: Option<&str>) -> Estimate
     ensures { (e : Made) → MatchOption (option_map (λ name. name.now) name.entry)
         (e ≡ Raw) (λ name. name ≡ estimate_name e) → result ≡ e }
 {
@@ -307,7 +322,10 @@ fn options_of(matches: &ArgMatches<'_>) -> RunWords
 
 // The orders of a list, where one is given.
 fn listed_orders(alloc: Global, text: Option<&str>) -> Result<Vec<(NodeId, u32)>, OrdersError>
-    ensures { IfErr result (λ e. e ≡ OrdersError.Form →
+    ensures listed { IfOk result (λ os.
+        MatchOption (option_map (λ text. text.now) text.entry)
+        (os.items ≡ []) (λ text. AreOrders text os.items)) }
+    ensures form { IfErr result (λ e. e ≡ OrdersError.Form →
         is_some (option_map (λ text. text.now) text.entry) ≡ true) }
 {
     match text {
@@ -318,7 +336,8 @@ fn listed_orders(alloc: Global, text: Option<&str>) -> Result<Vec<(NodeId, u32)>
 
 // The lists of orders of a run.
 fn orders_of(alloc: Global, matches: &ArgMatches<'_>) -> Result<Orders, OrdersError>
-    ensures { IfErr result (λ e. e ≡ OrdersError.Form →
+    ensures listed { IfOk result (AreListed (rows_of (found_of matches.now))) }
+    ensures form { IfErr result (λ e. e ≡ OrdersError.Form →
         AreOrdersIn (rows_of (found_of matches.now))) }
 {
     match listed_orders(alloc, matches.get_str("lose")) {
@@ -339,7 +358,16 @@ pub struct Said {
     pub orders: Orders,
 }
 
-/// Why words are no run.
+/// What a command line asks for.
+#[derive(Debug, Drop)]
+pub enum Wish {
+    /// A run.
+    Run(Said),
+    /// A replay.
+    Replay(ReplayWords),
+}
+
+/// Why words are no command.
 #[derive(Debug, Drop)]
 pub enum WordsError {
     /// `clap` refuses them, or help is asked for.
@@ -353,6 +381,8 @@ fn run_words(alloc: Global, matches: &ArgMatches<'_>) -> Result<Said, WordsError
     requires { has_subcommand matches.now ≡ true }
     ensures run { (w : Run) → IsRunOf (subcommand_rows_of matches.now) w →
         IfOk result (λ said. said.words ≡ w) }
+    ensures orders { IfOk result (λ said.
+        IfSome (subcommand_rows_of matches.now) (λ s. AreListed s.1 said.orders)) }
     ensures none { FailsWith [] result }
     ensures form { result ≡ Err (WordsError.Orders OrdersError.Form) →
         GivesOrders (subcommand_rows_of matches.now) }
@@ -367,18 +397,44 @@ fn run_words(alloc: Global, matches: &ArgMatches<'_>) -> Result<Said, WordsError
     }
 }
 
-/// What the words of a command line say of a run, and its orders. The error is why they are none: lists of orders are
-/// read where `clap` finds nothing wrong.
-pub fn read_words(alloc: Global, words: &[String]) -> Result<Said, WordsError>
-    ensures run { (w : Run) → IsRun (texts_of words.now) w →
-        IfOk result (λ said. said.words ≡ w) }
+// What the words of a subcommand say.
+fn wish_of(alloc: Global, matches: &ArgMatches<'_>) -> Result<Wish, WordsError>
+    requires { has_subcommand matches.now ≡ true }
+    ensures run { (w : Run) → IsRunOf (subcommand_rows_of matches.now) w →
+        IfOk result (SaysRun w) }
+    ensures replay { (w : Replayed) → IsReplayOf (subcommand_rows_of matches.now) w →
+        result ≡ Ok (Wish.Replay w) }
+    ensures asks { (w : Replayed) → result ≡ Ok (Wish.Replay w) →
+        NamesReplay (subcommand_rows_of matches.now) }
+    ensures orders { IfOk result (SaysListed (subcommand_rows_of matches.now)) }
+    ensures none { FailsWith [] result }
+    ensures form { result ≡ Err (WordsError.Orders OrdersError.Form) →
+        GivesOrders (subcommand_rows_of matches.now) }
+{
+    match matches.subcommand().unwrap() {
+        ("replay", inner) => Ok(Wish::Replay(replay_words_of(inner))),
+        _ => match run_words(alloc, matches) {
+            Ok(said) => Ok(Wish::Run(said)),
+            Err(error) => Err(error),
+        },
+    }
+}
+
+/// What the words of a command line ask for. The error is why they ask for nothing: lists of orders are read where
+/// `clap` finds nothing wrong.
+pub fn read_words(alloc: Global, words: &[String]) -> Result<Wish, WordsError>
+    ensures run { (w : Run) → IsRun (texts_of words.now) w → IfOk result (SaysRun w) }
+    ensures replay { (w : Replayed) → IsReplay (texts_of words.now) w →
+        IfOk result (λ wish. wish ≡ Wish.Replay w) }
+    ensures asks { (w : Replayed) → result ≡ Ok (Wish.Replay w) → AsksReplay (texts_of words.now) }
+    ensures orders { IfOk result (SaysOrders (texts_of words.now)) }
     ensures faults { (kinds : List Kind) → HasFaults (texts_of words.now) kinds →
         FailsWith kinds result }
     ensures form { result ≡ Err (WordsError.Orders OrdersError.Form) →
         HasOrders (texts_of words.now) }
 {
     match parse(alloc, words) {
-        Ok(matches) => run_words(alloc, &matches),
+        Ok(matches) => wish_of(alloc, &matches),
         Err(error) => Err(WordsError::Clap(error)),
     }
 }

@@ -1,11 +1,14 @@
 //! What words say, and the texts of faults, help and mistakes.
 
 use super::*;
-use crate::laws::{words_of_a_run, words_of_no_run};
+use crate::laws::{
+    lists_of_orders, words_of_a_replay, words_of_a_run, words_of_no_command, words_of_no_replay,
+    words_of_no_run, words_of_one_command,
+};
 use crate::options::Options;
 use crate::orders::{OrdersError, orders_in};
 use crate::whole::WholeError;
-use crate::words::{RunWords, Said, read_words};
+use crate::words::{RunWords, Said, Wish, read_words};
 use ball_model::{Estimate, NodeId, PlanError};
 use edgelist::{CountedError, Delimiter, EdgeError};
 use std::fmt::Display;
@@ -176,6 +179,14 @@ fn help_is_shown(rt: HostRuntime) -> Result<(), Fail> {
     Ok(())
 }
 
+#[test]
+fn version_is_told(rt: HostRuntime) -> Result<(), Fail> {
+    let served = serve_input(&rt, "hyperball --version", b"".as_slice())?;
+    assert!(rt; served.status == 0 && served.faults.is_empty());
+    assert!(rt; served.output.as_slice() == b"hyperball 0.1.0\n".as_slice());
+    Ok(())
+}
+
 // The words are refused, with this at the front of what is told.
 fn refuses<H: AllocGlobal + Clock + RandomSource + Threads + Wait + Sync>(
     rt: &H,
@@ -191,8 +202,8 @@ const ORDERS: &[u8] = b"hyperball: an order is P.K@S, with commas between orders
 const MISTAKES: [(&str, &[u8]); 27] = [
     ("hyperball", b"error: 'hyperball' requires a subcommand"),
     (
-        "hyperball replay",
-        b"error: unrecognized subcommand 'replay'",
+        "hyperball replays",
+        b"error: unrecognized subcommand 'replays'",
     ),
     ("hyperball run --replicas 256", b"error: "),
     ("hyperball run --entries -1", b"error: "),
@@ -240,7 +251,7 @@ fn mistaken_words(rt: HostRuntime) -> Result<(), Fail> {
 }
 
 // What words of a run say.
-fn said<H: AllocGlobal>(rt: &H, line: &str) -> Result<Said, Fail> {
+fn said<H: AllocGlobal>(rt: &H, line: &str) -> Result<Wish, Fail> {
     let words = words_of(rt, line)?;
     Ok(read_words(rt.alloc(), &words)?)
 }
@@ -266,7 +277,14 @@ fn node(part: u16, replica: u8) -> NodeId {
 }
 
 // The words are read as these, with one node to be lost and two to start anew.
-fn is_said(said: &Said) -> bool {
+fn is_said(wish: &Wish) -> bool {
+    match wish {
+        Wish::Run(said) => is_run(said),
+        Wish::Replay(_) => false,
+    }
+}
+
+fn is_run(said: &Said) -> bool {
     said.words == SAID
         && said.orders.lose.as_slice() == [(node(0, 1), 999_999_999)].as_slice()
         && said.orders.restart.as_slice() == [(node(65_535, 255), 0), (node(1, 0), 10)].as_slice()
@@ -282,6 +300,11 @@ fn words_are_read(rt: HostRuntime) -> Result<(), Fail> {
     assert!(rt; is_said(&said));
     words_of_a_run();
     words_of_no_run();
+    words_of_a_replay();
+    words_of_no_replay();
+    words_of_no_command();
+    words_of_one_command();
+    lists_of_orders();
     Ok(())
 }
 

@@ -1,4 +1,4 @@
-use Rattle.std.proofs.Common.{◌≡◌, ◌∙◌, subst, sym}
+use Rattle.std.proofs.Common.{◌∙◌, subst, sym}
 use Rattle.std.specs.Prelude.{OnOk}
 use Rattle.hyperball.specs.Words.{Serves}
 use Rattle.hyperball.specs.declared.words.RunWords.{RunWords}

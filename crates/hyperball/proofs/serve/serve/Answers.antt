@@ -1,7 +1,10 @@
 use Rattle.std.proofs.Common.{◌≡◌, ap, subst, sym, true}
-use Rattle.std.specs.Prelude.{Err, IfSome}
+use Rattle.std.specs.Prelude.{Err, IfSome, Ok}
+use Rattle.hyperball.specs.Replaying.{BeginsToServe, ServesReplay}
 use Rattle.hyperball.specs.Words.{Reports}
+use Rattle.hyperball.specs.declared.replay_words.ReplayWords.{ReplayWords}
 use Rattle.hyperball.specs.declared.words.RunWords.{RunWords}
+use Rattle.hyperball.proofs.ReplayLemmas.{is_replay, is_run, not_replay, not_run, some_begun}
 use Rattle.hyperball.proofs.serve.serve.Goals as goal
 
 pub returns-in-Err-clause-mistaken : goal.returns-in-Err-clause-mistaken
@@ -13,11 +16,36 @@ returns-in-Err-clause-two g c = λ two has. c.in-Err.ensures.form (ap Err (c.tel
 pub returns-in-Err-clause-run : goal.returns-in-Err-clause-run
 returns-in-Err-clause-run g c = λ w is zero. absurd (c.tell_words.ensures.refused (c.in-Err.ensures.faults _ is.accepted) zero)
 
-pub returns-in-Ok-clause-run : goal.returns-in-Ok-clause-run
-returns-in-Ok-clause-run g c = λ w is zero.
+pub returns-in-Ok-Run-clause-run : goal.returns-in-Ok-Run-clause-run
+returns-in-Ok-Run-clause-run g c = λ w is zero.
     subst (λ (v : RunWords). IfSome (g.R.Read.remaining c.args.reader.now) (λ input. Reports v input (g.W.Write.contents c.args.writer.now) (g.W.Write.contents c.serve_run.new.writer)))
-    (c.in-Ok.ensures.run w is) (c.serve_run.ensures.done zero)
+    (is_run _ _ w c.in-Ok-Run.field-0-is (c.in-Ok-Run.ensures.run w is)) (c.serve_run.ensures.done zero)
 
-pub returns-in-Ok-clause-few : goal.returns-in-Ok-clause-few
-returns-in-Ok-clause-few g c = λ w is counted.
-    c.serve_run.ensures.few (subst (λ (v : RunWords). v.counted ≡ true) (sym (c.in-Ok.ensures.run w is)) counted)
+pub returns-in-Ok-Run-clause-few : goal.returns-in-Ok-Run-clause-few
+returns-in-Ok-Run-clause-few g c = λ w is counted.
+    c.serve_run.ensures.few (subst (λ (v : RunWords). v.counted ≡ true) (sym (is_run _ _ w c.in-Ok-Run.field-0-is (c.in-Ok-Run.ensures.run w is))) counted)
+
+pub returns-in-Ok-Run-clause-replay : goal.returns-in-Ok-Run-clause-replay
+returns-in-Ok-Run-clause-replay g c = λ w is zero. absurd (not_replay _ _ w c.in-Ok-Run.field-0-is (c.in-Ok-Run.ensures.replay w is))
+
+pub returns-in-Ok-Run-clause-replay_few : goal.returns-in-Ok-Run-clause-replay_few
+returns-in-Ok-Run-clause-replay_few g c = λ w is. absurd (not_replay _ _ w c.in-Ok-Run.field-0-is (c.in-Ok-Run.ensures.replay w is))
+
+pub returns-in-Ok-Replay-clause-run : goal.returns-in-Ok-Replay-clause-run
+returns-in-Ok-Replay-clause-run g c = λ w is zero. absurd (not_run _ _ w c.in-Ok-Replay.field-0-is (c.in-Ok-Replay.ensures.run w is))
+
+pub returns-in-Ok-Replay-clause-replay : goal.returns-in-Ok-Replay-clause-replay
+returns-in-Ok-Replay-clause-replay g c = λ w is zero.
+    subst (λ (v : ReplayWords). ServesReplay v (g.R.Read.remaining c.args.reader.now) g.W.Write.contents c.args.writer.now c.serve_replay.new.writer)
+    (is_replay _ _ w c.in-Ok-Replay.field-0-is (c.in-Ok-Replay.ensures.replay w is)) (c.serve_replay.ensures.done zero)
+
+pub returns-in-Ok-Replay-clause-one_begun : goal.returns-in-Ok-Replay-clause-one_begun
+returns-in-Ok-Replay-clause-one_begun g c = λ w is one.
+    subst (λ (v : ReplayWords). BeginsToServe v (g.R.Read.remaining c.args.reader.now) g.W.Write.contents g.W.CountedWrite.failed_calls c.args.writer.now c.serve_replay.new.writer)
+    (is_replay _ _ w c.in-Ok-Replay.field-0-is (c.in-Ok-Replay.ensures.replay w is)) (c.serve_replay.ensures.begun one)
+
+pub returns-in-Ok-Replay-clause-one_kept : goal.returns-in-Ok-Replay-clause-one_kept
+returns-in-Ok-Replay-clause-one_kept g c = λ one.
+    some_begun _ (g.R.Read.remaining c.args.reader.now) (g.W.Write.contents c.args.writer.now) (g.W.Write.contents c.serve_replay.new.writer)
+    (g.W.CountedWrite.failed_calls c.args.writer.now) (g.W.CountedWrite.failed_calls c.serve_replay.new.writer) _
+    (c.in-Ok-Replay.ensures.asks _ (ap Ok c.in-Ok-Replay.field-0-is)) (c.serve_replay.ensures.begun one)

@@ -1,9 +1,8 @@
-use Rattle.std.proofs.Common.{◌≡◌, ◌∙◌, inl, inr, List, [], ◌∷◌, refl, subst, sym, true}
+use Rattle.std.proofs.Common.{inl, inr, List, [], ◌∷◌, subst, sym}
 use Rattle.std.specs.List.{AllByRecursion}
 use Rattle.clap.specs.Words.{IsAmong, kind_of}
 use Rattle.clap.specs.declared.error.kind.ErrorKind.{ErrorKind}
 use Rattle.hyperball.specs.Words.{FailsFor, IsMistake}
-use Rattle.hyperball.specs.declared.words.WordsError.{WordsError}
 use Rattle.hyperball.proofs.serve.tell_words.Goals as goal
 
 -- a kind that is one of some mistakes is a mistake

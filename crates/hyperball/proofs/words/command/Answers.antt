@@ -2,7 +2,7 @@ use Rattle.std.proofs.Common.{rules, ap, ap₂, false, Bool, ◌||◌, ◌≡◌
 use Rattle.std.proofs.lemmas.Result.{IfOk-weaker}
 use Rattle.clap.specs.Words.{App, app_of, with_subcommand}
 use Rattle.clap.specs.declared.builder.command.Command.TheViews.{out-Command as fields_of}
-use Rattle.hyperball.specs.CommandLine.{hyperball_app, new_hyperball}
+use Rattle.hyperball.specs.CommandLine.{Parsers, hyperball_app, new_hyperball}
 use Rattle.hyperball.proofs.words.command.Goals as goal
 
 pub returns : goal.returns
@@ -11,11 +11,17 @@ returns c =
     let required : app_of c.subcommand_required.result ≡ new_hyperball = search rules in
     let start : (fields_of c.subcommand_required.result).has_globals ≡ false = search rules in
     let or : Bool → Bool → Bool = λ a b. a || b in
-    IfOk-weaker c.subcommand.result _ _ (λ m h. (
-      record { estimates = c.estimates.result; delimiters = c.delimiters.result },
-      (c.estimates.ensures, c.delimiters.ensures),
+    let p : Parsers = record { estimates = c.estimates-ways.result; delimiters = c.delimiters-between.result } in
+    let run = c.in_ok-run.ensures in
+    let replay = c.in_ok-replay.ensures in
+    let top = c.in_ok-top.ensures in
+    let form = top.shape run.local ∙ ap₂ with_subcommand required (ap (λ (a : App). a.top) run.form) in
+    let local = top.globals ∙ ap₂ or start run.local in
+    IfOk-weaker c.subcommand-2.result _ _ (λ m h. (
+      p,
+      (c.estimates-ways.ensures, c.delimiters-between.ensures),
       record {
-        form = h.shape c.in_ok-run.ensures.local ∙ ap₂ with_subcommand required (ap (λ (a : App). a.top) c.in_ok-run.ensures.form);
-        local = h.globals ∙ ap₂ or start c.in_ok-run.ensures.local;
+        form = h.shape replay.local ∙ ap₂ with_subcommand form (ap (λ (a : App). a.top) replay.form);
+        local = h.globals ∙ ap₂ or local replay.local;
       },
-    )) c.subcommand.ensures
+    )) c.subcommand-2.ensures

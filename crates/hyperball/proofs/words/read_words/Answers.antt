@@ -1,20 +1,38 @@
-use Rattle.std.proofs.Common.{◌≡◌, ◌∙◌, List, Option, [], subst, sym}
+use Rattle.std.proofs.Common.{◌∙◌, List, Option, subst, sym}
+use Rattle.std.proofs.lemmas.Result.{IfOk-weaker}
 use Rattle.clap.specs.Words.{Row, Text}
 use Rattle.clap.specs.declared.error.kind.ErrorKind.{ErrorKind}
-use Rattle.hyperball.specs.Words.{FailsWith, GivesOrders, IsRunOf}
+use Rattle.hyperball.specs.Replaying.{IsReplayOf, NamesReplay}
+use Rattle.hyperball.specs.Words.{FailsWith, GivesOrders, IsRunOf, SaysListed}
+use Rattle.hyperball.proofs.WishLemmas.{is_replay}
 use Rattle.hyperball.proofs.words.read_words.Goals as goal
 
 pub returns-in-Ok-clause-run : goal.returns-in-Ok-clause-run
 returns-in-Ok-clause-run c = λ w is.
     let read = c.in-Ok.ensures.read in
-    c.run_words.ensures.run w (subst (λ (sub : Option (Text × List Row)). IsRunOf sub w) (sym read.rows) (is.command read.parsers read.take))
+    c.wish_of.ensures.run w (subst (λ (sub : Option (Text × List Row)). IsRunOf sub w) (sym read.rows) (is.command read.parsers read.take))
+
+pub returns-in-Ok-clause-replay : goal.returns-in-Ok-clause-replay
+returns-in-Ok-clause-replay c = λ w is.
+    let read = c.in-Ok.ensures.read in
+    is_replay c.wish_of.result w (c.wish_of.ensures.replay w (subst (λ (sub : Option (Text × List Row)). IsReplayOf sub w) (sym read.rows) (is.command read.parsers read.take)))
+
+pub returns-in-Ok-clause-asks : goal.returns-in-Ok-clause-asks
+returns-in-Ok-clause-asks c = λ w is.
+    let read = c.in-Ok.ensures.read in
+    record { parsers = read.parsers; take = read.take; named = subst NamesReplay read.rows (c.wish_of.ensures.asks w is) }
+
+pub returns-in-Ok-clause-orders : goal.returns-in-Ok-clause-orders
+returns-in-Ok-clause-orders c =
+    let read = c.in-Ok.ensures.read in
+    IfOk-weaker c.wish_of.result _ _ (λ asked says. record { parsers = read.parsers; take = read.take; listed = subst (λ (sub : Option (Text × List Row)). SaysListed sub asked) read.rows says }) c.wish_of.ensures.orders
 
 pub returns-in-Ok-clause-faults : goal.returns-in-Ok-clause-faults
 returns-in-Ok-clause-faults c = λ kinds has.
     let read = c.in-Ok.ensures.read in
-    subst (λ (k : List ErrorKind). FailsWith k c.run_words.result) (sym (sym (has.are read.parsers read.take) ∙ read.faults)) c.run_words.ensures.none
+    subst (λ (k : List ErrorKind). FailsWith k c.wish_of.result) (sym (sym (has.are read.parsers read.take) ∙ read.faults)) c.wish_of.ensures.none
 
 pub returns-in-Ok-clause-form : goal.returns-in-Ok-clause-form
 returns-in-Ok-clause-form c = λ is.
     let read = c.in-Ok.ensures.read in
-    record { parsers = read.parsers; take = read.take; orders = subst GivesOrders read.rows (c.run_words.ensures.form is) }
+    record { parsers = read.parsers; take = read.take; orders = subst GivesOrders read.rows (c.wish_of.ensures.form is) }

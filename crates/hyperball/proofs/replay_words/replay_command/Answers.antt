@@ -1,0 +1,13 @@
+use Rattle.std.proofs.Common.{codes, rules}
+use Rattle.clap.specs.Words.{new_app}
+use Rattle.hyperball.specs.CommandLine.{IsApp, replay_app, with_estimate, with_numbers}
+use Rattle.hyperball.proofs.replay_words.replay_command.Goals as goal
+
+pub returns : goal.returns
+unfolding replay_app
+returns c =
+    let start : IsApp (new_app (codes "replay")) c.after_long_help-command.result = record { form = search rules; local = search rules } in
+    let numbers = c.in_ok-command.ensures (new_app (codes "replay")) start in
+    let estimate = c.in_ok-command-2.ensures (with_numbers (new_app (codes "replay"))) numbers in
+    let input = c.in_ok-command-3.ensures (with_estimate c.args.estimates (with_numbers (new_app (codes "replay")))) estimate in
+    rw (c.value_parser.ensures) at (c.add_option-2.ensures _ input)

@@ -1,0 +1,124 @@
+//! The words of the second command, `hyperball replay`.
+
+ghost use Rattle.std.specs.Prelude.{◌≡◌, IfOk};
+ghost use Rattle.clap.specs.Words.{App, found_of, rows_of};
+ghost use Rattle.hyperball.specs.CommandLine.{IsApp, replay_app, with_numbers};
+ghost use Rattle.hyperball.specs.Replaying.{AreReplayOptionsOf};
+ghost use Rattle.hyperball.specs.declared.replay_words.ReplayWords.{ReplayWords as Replayed};
+
+use crate::options::USUAL;
+use crate::words::{ESTIMATE_HELP, add_counters, add_input, add_option, delimiter_of, estimate_of};
+use clap::builder::ValueParser;
+use clap::{ArgMatches, Command, value_parser};
+use std::alloc::{AllocError, Global};
+use world::replay::ReplayOptions;
+
+const ABOUT: &str = "Reads an edge list and a script on standard input and writes the answers";
+
+const LONG_ABOUT: &str =
+    "Reads an edge list, a line of exactly %%, and a script on standard input, and writes what
+each command of the script answers on standard output.
+
+A script plays a cluster by hand: the nodes are the replicas of partitions, and each command is
+one step of one node, done at once. It shows what a superstep does, what a message does that
+comes late, twice or never, and how a worker that was lost comes back.
+
+With --counted a list of counted vertices and a second line %% stand before the script.";
+
+const AFTER: &str = "Example:
+  printf 'a\\tb\\nb\\tc\\n%%%%\\nsend 0.0 1\\ndeliver 0 1.0\\nclose 1.0\\nshow 1.0\\n' |
+    hyperball replay --log2m 4 --parts 2
+  answers
+    sent 0 0 0 1 2 1
+    new
+    closed 1
+    node 1.0 1 open
+    row 1 11.780376 0.665022 0.665022 00000000000001000000000000000300
+
+Commands, one on a line, and their answers. P.K is replica K of partition P, which has every
+vertex that leaves P when divided by the number of partitions. M is a message and C a copy, each
+numbered from 0 in the order that they were made; T is a superstep.
+  send P.K Q      makes a message to partition Q of what changed at the node's superstep:
+                  sent M T P Q, how many vertices changed, how many stand in the message
+  deliver M P.K   brings a message to a node, once, again or never:
+                  new, known, old, too-early T, not-mine
+  close P.K       takes the node on by a superstep, if it holds a message of each partition:
+                  closed T, waiting Q, finished
+  keep P.K        keeps a checkpoint of the node in place of its last: kept T
+  restart P.K     sets the node back to its checkpoint, or to the start: restarted T
+  copy P.K        sets a copy of the node aside: copied C T
+  recover P.K C   joins a copy into the node: merged T, not-mine
+  show P.K        node P.K T, open or go-on or stable or limit, and T:Q for each message held;
+                  then for each vertex: row, its number, estimate, harmonic centrality, sum of
+                  distances, and its registers to base 16
+Each may also answer: refused no-node, no-target, no-message or no-copy.
+Empty lines and lines that begin with # are skipped.
+
+Exit status:
+  0  the answers were written, or help was asked for
+  1  a fault, told in one line on standard error; nothing was written, unless memory was
+     refused or the output failed, where a beginning of the answers may stand
+  2  words that are no command";
+
+const PARTS_HELP: &str = "Partitions that vertices are dealt out to, 1 to 64 [default: 1]";
+
+const LIMIT_HELP: &str = "Superstep at which nodes stop at the latest, 1 to 4096 [default: 4096]";
+
+const REPLICAS_HELP: &str = "Replicas of each partition, 1 to 4 [default: 1]";
+
+/// What the words of a replay say.
+#[derive(Clone, Copy, Debug, PartialEq, Eq)]
+pub struct ReplayWords {
+    /// The options.
+    pub options: ReplayOptions,
+    /// Whether a list of counted vertices follows the edge list.
+    pub counted: bool,
+}
+
+// Adds the options of a plan.
+fn add_plan<'a>(alloc: Global, command: Command<'a>) -> Result<Command<'a>, AllocError>
+    ensures { (app : App) → IsApp app command.entry → IfOk result (IsApp (with_numbers app)) }
+{
+    let command = add_counters(alloc, command)?;
+    let command = add_option(alloc, command, "parts", PARTS_HELP, value_parser!(u16))?;
+    add_option(alloc, command, "limit", LIMIT_HELP, value_parser!(u32))
+}
+
+/// The subcommand replay, with parsers of estimates and of delimiters.
+pub fn replay_command<'a>(
+    alloc: Global,
+    estimates: ValueParser<'a>,
+    delimiters: ValueParser<'a>,
+) -> Result<Command<'a>, AllocError>
+    ensures { IfOk result (IsApp (replay_app
+        (record { estimates = estimates.entry; delimiters = delimiters.entry }))) }
+{
+    let command = Command::new(alloc, "replay")
+        .about(ABOUT)
+        .long_about(LONG_ABOUT)
+        .after_long_help(AFTER);
+    let command = add_plan(alloc, command)?;
+    let command = add_option(alloc, command, "estimate", ESTIMATE_HELP, estimates)?;
+    let command = add_input(alloc, command, delimiters)?;
+    add_option(alloc, command, "replicas", REPLICAS_HELP, value_parser!(u8))
+}
+
+/// The options of replay. Values are as `clap` has checked them.
+pub fn replay_words_of(matches: &ArgMatches<'_>) -> ReplayWords
+    ensures { (w : Replayed) → AreReplayOptionsOf (rows_of (found_of matches.now)) w →
+        result ≡ w }
+{
+    let options = ReplayOptions {
+        log2m: matches.get_one("log2m").unwrap_or(USUAL.log2m),
+        seed: matches.get_one("seed").unwrap_or(USUAL.seed),
+        parts: matches.get_one("parts").unwrap_or(USUAL.parts),
+        limit: matches.get_one("limit").unwrap_or(USUAL.limit),
+        replicas: matches.get_one("replicas").unwrap_or(USUAL.replicas),
+        estimate: estimate_of(matches.get_str("estimate")),
+        delimiter: delimiter_of(matches.get_str("delimiter")),
+    };
+    ReplayWords {
+        options,
+        counted: matches.get_flag("counted"),
+    }
+}
