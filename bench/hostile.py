@@ -3,10 +3,10 @@
 
 Usage: bench/hostile.py [INPUTS [SECONDS]]   (1000 inputs of each kind, for at most 600 seconds each)
 
-Inputs are random bytes, and right ones with a few bytes changed, by a fixed seed. Each run has to end by itself, with
-status 0 and nothing told, or with status 1, one line of fault and nothing written. Where cc is there, refuse.c stands
-between the program and the C library: each allocation is refused in turn, and each read and each write fails in turn.
-Prints a line for each kind; the status is 1 where a run went wrong.
+Inputs are random bytes, right ones with a few bytes changed, and scripts of random commands, by a fixed seed. Each run
+has to end by itself, with status 0 and nothing told, or with status 1, one line of fault and nothing written. Where cc
+is there, refuse.c stands between the program and the C library: each allocation is refused in turn, each thread, and
+each read and each write fails in turn. Prints a line for each kind; the status is 1 where a run went wrong.
 """
 import os
 import random
@@ -21,7 +21,22 @@ PROGRAM = os.environ.get("HYPERBALL") or os.path.join(HERE, "..", "crates", "hyp
 RUN = ["run", "--log2m", "4"]
 EDGES = b"a\tb\nb\tc\n"
 REPORT = open(os.path.join(HERE, "..", "examples", "two-edges.csv"), "rb").read()
-SCRIPT = b"send 0.0 1\nsend 1.0 0\ndeliver 0 1.0\ndeliver 1 0.0\nclose 0.0\nkeep 0.0\nrestart 0.0\ncopy 0.0\nrecover 0.0 0\nshow 0.0\n"
+REPLAY = ["replay", "--log2m", "4", "--parts", "2", "--replicas", "2"]
+SCRIPT = b"""# a worker that is kept, restarted and recovered
+send 0.0 1
+send 1.0 0
+deliver 0 1.0
+deliver 1 0.0
+close 0.0
+keep 0.0
+restart 0.0
+copy 0.0
+recover 0.0 0
+recover 0.1 0
+deliver 1 0.1
+close 0.1
+show 0.1
+"""
 wrong = 0
 
 
@@ -38,8 +53,20 @@ def is_fault(status, output, faults):
     return status == 1 and not output and faults.startswith(b"hyperball: ") and faults.endswith(b"\n") and faults.count(b"\n") == 1
 
 
-def is_right(status, output, faults):
+def is_report(data, status, output, faults):
     return status == 0 and output != b"" and not faults or is_fault(status, output, faults)
+
+
+def is_replay(data, status, output, faults):
+    # A script that has no command left has no answer.
+    return status == 0 and not faults or is_fault(status, output, faults)
+
+
+def is_answered(data, status, output, faults):
+    """Each command has one answer, which begins with a line that is not that of a vertex."""
+    commands = data.split(b"%%\n")[-1].count(b"\n")
+    answers = sum(not line.startswith(b"row ") for line in output.splitlines())
+    return status == 0 and not faults and answers == commands and output.endswith(b"\n")
 
 
 def count(kind, runs, bad, note=""):
@@ -50,10 +77,33 @@ def count(kind, runs, bad, note=""):
         print("   ", *it, file=sys.stderr)
 
 
-def noise(chance):
+def noise(chance, marks=b"\t\n\r#, \"%ab01"):
     """Random bytes, of which many are those that mean something."""
-    marks = b"\t\n\r#, \"%ab01"
     return bytes(chance.choice(marks) if chance.random() < 0.6 else chance.randrange(256) for _ in range(chance.randrange(200)))
+
+
+def words_of_scripts(chance):
+    """Lines of words that mean something in a script, in any order, some of them commands."""
+    words = ("send", "deliver", "close", "keep", "restart", "copy", "recover", "show", "0.0", "1.1", "0", "1", "2", "00", "-1", "9" * 20, "#", "")
+    return "".join(" ".join(chance.choices(words, k=chance.randrange(1, 4))) + "\n" for _ in range(chance.randrange(1, 3))).encode()
+
+
+def commands(chance):
+    """Commands for two partitions of two replicas, of which some name what is not there."""
+    def node():
+        return f"{chance.choice('001112')}.{chance.choice('001112')}"
+
+    def one():
+        verb = chance.choice(("send", "send", "deliver", "deliver", "deliver", "close", "keep", "restart", "copy", "recover", "show"))
+        if verb == "send":
+            return f"send {node()} {chance.choice('01011012')}"
+        if verb == "deliver":
+            return f"deliver {chance.randrange(12)} {node()}"
+        if verb == "recover":
+            return f"recover {node()} {chance.randrange(4)}"
+        return f"{verb} {node()}"
+
+    return "".join(one() + "\n" for _ in range(chance.randrange(1, 60))).encode()
 
 
 def damaged(chance, right):
@@ -65,16 +115,35 @@ def damaged(chance, right):
     return bytes(data)
 
 
-def inputs(kind, words, right, many, seconds):
+def inputs(kind, words, make, many, seconds, holds):
     chance, bad, faults, runs, started = random.Random(kind), [], 0, 0, time.monotonic()
     while runs < many and time.monotonic() - started < seconds:
-        data = damaged(chance, right) if right else noise(chance)
+        data = make(chance)
         answer = ran(words, data)
         runs += 1
         faults += answer[0] == 1
-        if not is_right(*answer):
+        if not holds(data, *answer):
             bad.append((words, data, answer))
     count(kind, runs, bad, f"{faults} refused, {time.monotonic() - started:.0f} s")
+
+
+def all_inputs(many, seconds):
+    edges = b"# c\r\n" + EDGES + b"d\n" + EDGES
+    lists = EDGES + b"%%\r\na\n# c\nc\n"
+    scripts = EDGES + b"%%\n" + SCRIPT
+    counted = lists + b"%%\n" + SCRIPT
+    for kind, words, make, holds in (
+        ("edge lists of random bytes", RUN, noise, is_report),
+        ("edge lists with bytes changed", RUN, lambda chance: damaged(chance, edges), is_report),
+        ("counted lists of random bytes", [*RUN, "--counted"], lambda chance: EDGES + b"%%\n" + noise(chance), is_report),
+        ("counted lists with bytes changed", [*RUN, "--counted"], lambda chance: damaged(chance, lists), is_report),
+        ("scripts of random bytes", REPLAY, lambda chance: EDGES + b"%%\n" + noise(chance, b"\n #%.01senddeliverclosekeep"), is_replay),
+        ("scripts of random words", REPLAY, lambda chance: EDGES + b"%%\n" + words_of_scripts(chance), is_replay),
+        ("scripts of random commands", REPLAY, lambda chance: EDGES + b"%%\n" + commands(chance), is_answered),
+        ("scripts with bytes changed", REPLAY, lambda chance: damaged(chance, scripts), is_replay),
+        ("scripts and lists with bytes changed", [*REPLAY, "--counted"], lambda chance: damaged(chance, counted), is_replay),
+    ):
+        inputs(kind, words, make, many, seconds, holds)
 
 
 def each_call(kind, words, data, shim, variable, wanted):
@@ -97,28 +166,68 @@ def each_call(kind, words, data, shim, variable, wanted):
 
 
 def refusals(shim):
-    def memory(status, output, faults):
-        return status == 1 and not output and faults == b"hyperball: out of memory\n"
+    def memory(report):
+        # Some allocations can be done without, and of several workers of a partition another one may do the work: then
+        # the report is the same. Nobody waits for a worker that has ended.
+        def holds(status, output, faults):
+            return (status, output, faults) in [(1, b"", b"hyperball: out of memory\n"), (0, report, b"")]
+        return holds
 
-    def survived(status, output, faults):
-        # Of several workers one may want memory, and another of its partition do the work. The wait is short here, so
-        # that workers may also have waited in vain.
-        return is_fault(status, output, faults) or (status, output, faults) == (0, REPORT, b"")
+    def unwritten(whole):
+        def holds(status, output, faults):
+            return status == 1 and faults == b"hyperball: the output cannot be written\n" and whole.startswith(output) and output != whole
+        return holds
 
-    def unwritten(status, output, faults):
-        return status == 1 and faults == b"hyperball: the output cannot be written\n" and REPORT.startswith(output) and output != REPORT
+    def starved(answers):
+        # A replay writes as it goes on: a beginning of its answers may stand, up to the end of a line.
+        def holds(status, output, faults):
+            cut = status == 1 and faults == b"hyperball: out of memory\n" and answers.startswith(output) and output[-1:] in (b"", b"\n")
+            return cut or (status, output, faults) == (0, answers, b"")
+        return holds
 
     def unread(fault):
         return lambda status, output, faults: (status, output, faults) == (1, b"", fault)
 
-    each_call("memory refused: one partition", RUN, EDGES, shim, "REFUSE_ALLOC", memory)
-    each_call("memory refused: counted vertices", [*RUN, "--counted"], EDGES + b"%%\na\n", shim, "REFUSE_ALLOC", memory)
-    each_call("memory refused: four workers", [*RUN, "--parts", "2", "--replicas", "2", "--patience", "100"], EDGES, shim, "REFUSE_ALLOC", survived)
+    each_call("memory refused: one partition", RUN, EDGES, shim, "REFUSE_ALLOC", memory(REPORT))
+    counted = ran([*RUN, "--counted"], EDGES + b"%%\na\n")[1]
+    each_call("memory refused: counted vertices", [*RUN, "--counted"], EDGES + b"%%\na\n", shim, "REFUSE_ALLOC", memory(counted))
+    each_call("memory refused: four workers", [*RUN, "--parts", "2", "--replicas", "2"], EDGES, shim, "REFUSE_ALLOC", memory(REPORT))
+    each_call("a thread refused: two workers", [*RUN, "--parts", "2"], EDGES, shim, "REFUSE_THREAD", memory(REPORT))
+    each_call("a thread refused: four workers", [*RUN, "--parts", "2", "--replicas", "2"], EDGES, shim, "REFUSE_THREAD", memory(REPORT))
     each_call("reads that fail", RUN, EDGES, shim, "REFUSE_READ", unread(b"hyperball: the edge list cannot be read\n"))
     each_call("reads that fail: counted vertices", [*RUN, "--counted"], EDGES + b"%%\na\n", shim, "REFUSE_READ", unread(b"hyperball: the input cannot be read\n"))
-    each_call("writes that fail", RUN, EDGES, shim, "REFUSE_WRITE", unwritten)
-    answer = ran(RUN, EDGES, LD_PRELOAD=shim, SHORT_IO="1")
-    count("a byte a call", 1, [] if answer == (0, REPORT, b"") else [(answer,)])
+    each_call("writes that fail", RUN, EDGES, shim, "REFUSE_WRITE", unwritten(REPORT))
+    scripts = EDGES + b"%%\n" + SCRIPT
+    answers = ran(REPLAY, scripts)[1]
+    each_call("memory refused: a replay", REPLAY, scripts, shim, "REFUSE_ALLOC", starved(answers))
+    each_call("reads that fail: a replay", REPLAY, scripts, shim, "REFUSE_READ", unread(b"hyperball: the input cannot be read\n"))
+    each_call("writes that fail: a replay", REPLAY, scripts, shim, "REFUSE_WRITE", unwritten(answers))
+    for words, data, wanted in ((RUN, EDGES, REPORT), (REPLAY, scripts, answers)):
+        answer = ran(words, data, LD_PRELOAD=shim, SHORT_IO="1")
+        count(f"a byte a call: {words[0]}", 1, [] if answer == (0, wanted, b"") else [(answer,)])
+
+
+def refused_calls(shim):
+    """The tests of calls that may be refused: each passes whichever allocation is refused."""
+    for crate in ("gapcode", "batches", "edgelist", "replica", "report", "board"):
+        tests = os.path.join(HERE, "..", "crates", crate, "out", crate + "_tests")
+        name = "tests::calls::" if crate == "board" else "tests::refusals::"
+        if not os.path.exists(tests):
+            print(f"no {crate}_tests: its calls are not tried")
+            continue
+        bad, call = [], 0
+        with tempfile.TemporaryDirectory() as folder:
+            told = os.path.join(folder, "told")
+            while True:
+                call += 1
+                words = {"LD_PRELOAD": shim, "REFUSE_TELL": told, "REFUSE_ALLOC": str(call)}
+                run = subprocess.run([tests, name + "calls_where_memory_is_refused"], capture_output=True, timeout=60, env={**os.environ, **words})
+                if run.returncode != 0:
+                    bad.append((crate, call, run.stdout + run.stderr))
+                if not os.path.exists(told):
+                    break
+                os.remove(told)
+        count(f"memory refused: calls of {crate}", call, bad)
 
 
 def lost_workers():
@@ -129,10 +238,10 @@ def lost_workers():
         runs += 1
         if answer != (0, REPORT, b""):
             bad.append((lose, answer))
-    # The workers of the other partition wait in vain, for five seconds: those that are lost come to their end long before.
+    # The workers of the other partition do not wait out their patience: nobody waits for a partition that is lost.
     both = [(p, s) for p in (0, 1) for s in range(4)]
     with ThreadPoolExecutor(len(both)) as pool:
-        answers = pool.map(lambda it: ran([*four, "--lose", f"{it[0]}.0@{it[1]},{it[0]}.1@{it[1]}", "--patience", "5000"], EDGES), both)
+        answers = pool.map(lambda it: ran([*four, "--lose", f"{it[0]}.0@{it[1]},{it[0]}.1@{it[1]}"], EDGES), both)
     for (p, s), answer in zip(both, answers):
         runs += 1
         if answer != (1, b"", f"hyperball: every replica of partition {p} was lost\n".encode()):
@@ -148,12 +257,7 @@ def lost_workers():
 def main():
     many = int(sys.argv[1]) if len(sys.argv) > 1 else 1000
     seconds = float(sys.argv[2]) if len(sys.argv) > 2 else 600
-    inputs("edge lists of random bytes", RUN, b"", many, seconds)
-    inputs("edge lists with bytes changed", RUN, b"# c\r\n" + EDGES + b"d\n" + EDGES, many, seconds)
-    inputs("counted lists of random bytes", [*RUN, "--counted"], b"", many, seconds)
-    inputs("counted lists with bytes changed", [*RUN, "--counted"], EDGES + b"%%\r\na\n# c\nc\n", many, seconds)
-    if ran(["replay", "--help"], b"")[0] == 0:
-        inputs("scripts with bytes changed", ["replay", "--log2m", "4", "--parts", "2"], EDGES + b"%%\n" + SCRIPT, many, seconds)
+    all_inputs(many, seconds)
     lost_workers()
     with tempfile.TemporaryDirectory() as folder:
         shim = os.path.join(folder, "refuse.so")
@@ -162,6 +266,7 @@ def main():
         except (OSError, subprocess.CalledProcessError):
             print("no cc: refused memory and failing streams are not tried")
         else:
+            refused_calls(shim)
             refusals(shim)
     return 1 if wrong else 0
 

@@ -1,17 +1,19 @@
 /* Stands between a program and the C library (LD_PRELOAD): call number REFUSE_ALLOC of malloc and realloc is refused,
-   call number REFUSE_READ and REFUSE_WRITE fails and so do all later ones, and with SHORT_IO a read or a write moves
+   so is thread number REFUSE_THREAD, call number REFUSE_READ and REFUSE_WRITE fails and so do all later ones, and with SHORT_IO a read or a write moves
    one byte at most. REFUSE_TELL names a file that has "reached" in it where the numbered call came. */
 #define _GNU_SOURCE
 #include <dlfcn.h>
 #include <errno.h>
 #include <fcntl.h>
+#include <pthread.h>
 #include <stdlib.h>
 #include <sys/uio.h>
 #include <unistd.h>
 
-static long alloc_at, read_at, write_at, short_io, allocs, reads, writes;
+static long alloc_at, thread_at, read_at, write_at, short_io, allocs, threads, reads, writes;
 static const char *tell;
 static void *(*real_malloc)(size_t), *(*real_realloc)(void *, size_t);
+static int (*real_create)(pthread_t *, const pthread_attr_t *, void *(*)(void *), void *);
 static ssize_t (*real_read)(int, void *, size_t), (*real_write)(int, const void *, size_t);
 static ssize_t (*real_writev)(int, const struct iovec *, int);
 
@@ -20,6 +22,7 @@ static long number(const char *name) { const char *word = getenv(name); return w
 __attribute__((constructor)) static void start(void) {
     real_malloc = dlsym(RTLD_NEXT, "malloc");
     real_realloc = dlsym(RTLD_NEXT, "realloc");
+    real_create = dlsym(RTLD_NEXT, "pthread_create");
     real_read = dlsym(RTLD_NEXT, "read");
     real_write = dlsym(RTLD_NEXT, "write");
     real_writev = dlsym(RTLD_NEXT, "writev");
@@ -27,6 +30,7 @@ __attribute__((constructor)) static void start(void) {
     write_at = number("REFUSE_WRITE");
     short_io = number("SHORT_IO");
     tell = getenv("REFUSE_TELL");
+    thread_at = number("REFUSE_THREAD");
     alloc_at = number("REFUSE_ALLOC");
 }
 
@@ -58,6 +62,11 @@ void *malloc(size_t size) {
 void *realloc(void *old, size_t size) {
     if (!real_realloc) real_realloc = dlsym(RTLD_NEXT, "realloc");
     return refuses() ? NULL : real_realloc(old, size);
+}
+
+int pthread_create(pthread_t *thread, const pthread_attr_t *how, void *(*work)(void *), void *what) {
+    if (thread_at && __sync_add_and_fetch(&threads, 1) == thread_at) { reached(); return EAGAIN; }
+    return real_create(thread, how, work, what);
 }
 
 ssize_t read(int file, void *place, size_t size) {
