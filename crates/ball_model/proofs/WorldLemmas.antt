@@ -1,6 +1,6 @@
 -- Runs of a world.
 use Rattle.std.proofs.Common.{◌≡◌, ◌≢◌, ◌⊎◌, ℕ, zero, suc, ◌+◌, ◌<◌, ◌≤◌, Bool, true, false, not, ◌==◌, ◌&&◌, nat_lt, if◌then◌else◌, List, [], ◌∷◌, ◌++◌, map, get_or, set, replicate, IfSome, option_map, refl, ap, sym, ◌∙◌, subst, inl, inr, arith}
-use Rattle.std.specs.Prelude.{Option, None, Some, Result, Ok, Err, unwrap_or}
+use Rattle.std.specs.Prelude.{Option, None, Some, Result, Ok, Err, IsOk, unwrap_or}
 use Rattle.std.specs.List.{AllByRecursion, range_with_len, slice_get}
 use Rattle.std.proofs.lemmas.Bool.{cases_eq, and_parts, ltb-true, eqb-true, eqb-false, not-true}
 use Rattle.ball_model.specs.declared.names.BatchName.{BatchName}
@@ -24,8 +24,8 @@ use Rattle.ball_model.specs.Join.{Holding, content_in, join_of, merge_of}
 use Rattle.ball_model.specs.Steps.{Take, Close, content_after_close}
 use Rattle.ball_model.specs.Held.{start_holding, held_take_answer, held_after, IsHeldBy, IsName}
 use Rattle.ball_model.specs.World.{Node, World, start_node, start_world, node_at, with_node, with_content, node_of, name_to, outcome_at, outcome_unless, recover_when, recover_at, deliver_at, taken_answer, answer_in, world_in, answer_of, after_event, run_of}
-use Rattle.ball_model.specs.WorldLaws.{IsNode, IsWorld, RunsStayWorlds, SentIsInTime, LossLeavesContents, OthersStay, RepeatIsNotNew, RecoverTwiceIsOnce, SparesKept, RestartGivesKept, IsNoRestart, OnlyRestartGoesBack}
-use Rattle.ball_model.proofs.HeldLemmas.{start_held, taken_held, closed_held, joined_held, held_alike, again_held}
+use Rattle.ball_model.specs.WorldLaws.{IsNode, IsWorld, RunsStayWorlds, SentIsInTime, LossLeavesContents, OthersStay, RepeatIsNotNew, RecoverTwiceIsOnce, RecoveredIsHad, SparesKept, SparesNode, RestartGivesKept, IsNoRestart, OnlyRestartGoesBack}
+use Rattle.ball_model.proofs.HeldLemmas.{start_held, taken_held, closed_held, joined_held, held_alike, held_repeats, taken_grows, closed_grows, joined_grows, grows_through, IsHeard, taken_is_heard, heard_again, heard_grows}
 use Rattle.ball_model.proofs.JoinLemmas.{join_repeats, join_associates}
 
 -- ---- lists
@@ -162,12 +162,17 @@ own_copy false b r e = absurd (cc)
 own_copy true false r e = absurd (cc)
 own_copy true true r e = refl
 
+-- it may be held there
+copy_held : (j : Job) (p : ℕ) (n : Node) (d : Holding) (u : Unit {0}) → merge_of n.content.plan n.content.partition d.plan d.partition ≡ Ok u → IsHeldBy j d.partition d → IsHeldBy j p n.content → IsHeldBy j p d
+copy_held j p n d u is copy held =
+    let same : d.partition ≡ n.content.partition = eqb-true d.partition n.content.partition (own_copy _ (d.partition == n.content.partition) u is) in
+    subst (λ (q : ℕ). IsHeldBy j q d) (same ∙ held.partition) copy
+
 recovered_world : (j : Job) (w : World) (id : NodeId) (n : Node) (c : Holding) (r : Result (Unit {0}) MergeError) → merge_of n.content.plan n.content.partition c.plan c.partition ≡ r → IsHeldBy j c.partition c → IsWorld j w → node_at w id ≡ Some n → IsWorld j (world_in w (recover_when w id n c r))
 recovered_world j w id n c (Err e) is copy ok at = ok
 recovered_world j w id n c (Ok u) is copy ok at =
     let h = (node_is_one j w id n ok at).content in
-    let same : c.partition ≡ n.content.partition = eqb-true c.partition n.content.partition (own_copy _ (c.partition == n.content.partition) u is) in
-    with_content_world j w id n (join_of n.content c) ok at (joined_held j id.part n.content c h (subst (λ (p : ℕ). IsHeldBy j p c) (same ∙ h.partition) copy))
+    with_content_world j w id n (join_of n.content c) ok at (joined_held j id.part n.content c h (copy_held j id.part n c u is copy h))
 
 recover_world : (j : Job) (w : World) (id : NodeId) (n : Node) (o : Option Holding) → IfSome o (λ h. IsHeldBy j h.partition h) → IsWorld j w → node_at w id ≡ Some n → IsWorld j (world_in w (recover_at w id n o))
 recover_world j w id n None copy ok at = ok
@@ -302,35 +307,6 @@ unfolding took_in
 took_back (Ok s) t e = ap (took_in (Ok s)) e
 took_back (Err x) t e = ap (took_in (Err x)) e
 
-repeat_at : (j : Job) (w : World) (id : NodeId) (m : ℕ) (first : Taken) (n : Node) (o : Option BatchName) → node_at w id ≡ Some n → slice_get w.sent m ≡ o → IsWorld j w →
-    answer_of j w (event.Deliver m id) ≡ Ok (answer.Took first) →
-    (second : Taken) × (answer_of j (after_event j w (event.Deliver m id)) (event.Deliver m id) ≡ Ok (answer.Took second)) × (second ≢ taken.New)
-repeat_at j w id m first n None at sent ok is =
-    absurd (let e : no_answer refused.NoMessage ≡ ok_answer (answer.Took first) = sym (found_answer j w n (event.Deliver m id) at ∙ ap (λ o. answer_in (deliver_at j w id n o)) sent) ∙ is in cc)
-repeat_at j w id m first n (Some name) at sent ok is =
-    let named : IsName j.plan name = subst (λ (o : Option BatchName). IfSome o (IsName j.plan)) sent (ok.sent m) in
-    let held = (node_is_one j w id n ok at).content in
-    let answered : held_take_answer j n.content name ≡ Ok first = took_back (held_take_answer j n.content name) first (sym (found_answer j w n (event.Deliver m id) at ∙ ap (λ o. answer_in (deliver_at j w id n o)) sent) ∙ is) in
-    let again = again_held j id.part n.content name first held named answered in
-    let next : Node = record n { content = held_after j n.content (Take name) } in
-    let v : World = with_node w id next in
-    let after : after_event j w (event.Deliver m id) ≡ v = found_event j w n (event.Deliver m id) at ∙ ap (λ o. world_in w (deliver_at j w id n o)) sent in
-    let here : node_at v id ≡ Some next = node_same w id n next at in (
-      again.0,
-      ap (λ (u : World). answer_of j u (event.Deliver m id)) after
-          ∙ found_answer j v next (event.Deliver m id) here
-          ∙ ap (λ o. answer_in (deliver_at j v id next o)) sent
-          ∙ ap (λ r. Ok (taken_answer r)) again.1,
-      again.2,
-    )
-
-pub repeat_is_not_new : RepeatIsNotNew
-repeat_is_not_new j w id m first ok is = by (node_at w id) refl
-  where
-    by : (o : Option Node) → node_at w id ≡ o → (second : Taken) × (answer_of j (after_event j w (event.Deliver m id)) (event.Deliver m id) ≡ Ok (answer.Took second)) × (second ≢ taken.New)
-    by None at = absurd (let e : no_answer refused.NoNode ≡ ok_answer (answer.Took first) = sym (ap (λ o. answer_in (outcome_unless j w (event.Deliver m id) o)) at) ∙ is in cc)
-    by (Some n) at = repeat_at j w id m first n (slice_get w.sent m) at refl ok is
-
 -- ---- recovering twice
 twice_idle : (j : Job) (w : World) (e : Event) → after_event j w e ≡ w → after_event j (after_event j w e) e ≡ after_event j w e
 twice_idle j w e same = ap (λ (v : World). after_event j v e) same
@@ -349,8 +325,7 @@ recover_when_twice j w id c n d (Err e) at copy is ok =
 recover_when_twice j w id c n d (Ok u) at copy is ok =
     let held = (node_is_one j w id n ok at).content in
     let made : IsHeldBy j d.partition d = subst (λ (o : Option Holding). IfSome o (λ h. IsHeldBy j h.partition h)) copy (ok.copies c) in
-    let same : d.partition ≡ n.content.partition = eqb-true d.partition n.content.partition (own_copy _ (d.partition == n.content.partition) u is) in
-    let mine : IsHeldBy j id.part d = subst (λ (p : ℕ). IsHeldBy j p d) (same ∙ held.partition) made in
+    let mine : IsHeldBy j id.part d = copy_held j id.part n d u is made held in
     let next : Node = record n { content = join_of n.content d } in
     let v : World = with_node w id next in
     let after : after_event j w (event.Recover id c) ≡ v = found_event j w n (event.Recover id c) at ∙ ap (λ o. world_in w (recover_at w id n o)) copy ∙ ap (λ r. world_in w (recover_when w id n d r)) is in
@@ -374,6 +349,232 @@ recover_twice_is_once j w id c ok = by (node_at w id) refl
     by : (o : Option Node) → node_at w id ≡ o → after_event j (after_event j w (event.Recover id c)) (event.Recover id c) ≡ after_event j w (event.Recover id c)
     by None at = twice_idle j w (event.Recover id c) (ap (λ o. world_in w (outcome_unless j w (event.Recover id c) o)) at)
     by (Some n) at = recover_copy_twice j w id c n (slice_get w.copies c) at refl ok
+
+-- ---- what a node had, it has until it restarts
+-- the node has nothing less than that content: joining it changes nothing
+record HasAll (w : World) (id : NodeId) (h : Holding) : Type 0 where
+  node : Node
+  at : node_at w id ≡ Some node
+  all : join_of node.content h ≡ node.content
+
+all_with : (w : World) (id : NodeId) (n : Node) (h d : Holding) → node_at w id ≡ Some n → join_of d h ≡ d → HasAll (with_content w id n d) id h
+all_with w id n h d at all = record { node = record n { content = d }; at = node_same w id n (record n { content = d }) at; all = all }
+
+all_still : (w : World) (id : NodeId) (n : Node) (h : Holding) → node_at w id ≡ Some n → join_of n.content h ≡ n.content → HasAll w id h
+all_still w id n h at all = record { node = n; at = at; all = all }
+
+all_taken : (j : Job) (w : World) (id : NodeId) (n : Node) (h : Holding) (m : ℕ) (o : Option BatchName) → IfSome o (IsName j.plan) → IsHeldBy j id.part n.content → IsHeldBy j id.part h → node_at w id ≡ Some n → join_of n.content h ≡ n.content →
+    HasAll (world_in w (deliver_at j w id n o)) id h
+all_taken j w id n h m None named held mine at all = all_still w id n h at all
+all_taken j w id n h m (Some name) named held mine at all =
+    let d = held_after j n.content (Take name) in
+    all_with w id n h d at
+    (grows_through j id.part h n.content d mine held (taken_held j id.part n.content name held named) all (taken_grows j id.part n.content name held named))
+
+all_merged_when : (j : Job) (w : World) (id : NodeId) (n : Node) (h d : Holding) (r : Result (Unit {0}) MergeError) → merge_of n.content.plan n.content.partition d.plan d.partition ≡ r → IsHeldBy j d.partition d → IsHeldBy j id.part n.content → IsHeldBy j id.part h → node_at w id ≡ Some n → join_of n.content h ≡ n.content →
+    HasAll (world_in w (recover_when w id n d r)) id h
+all_merged_when j w id n h d (Err e) is copy held mine at all = all_still w id n h at all
+all_merged_when j w id n h d (Ok u) is copy held mine at all =
+    let own : IsHeldBy j id.part d = copy_held j id.part n d u is copy held in
+    let g = join_of n.content d in
+    all_with w id n h g at
+    (grows_through j id.part h n.content g mine held (joined_held j id.part n.content d held own) all (joined_grows j id.part n.content d held own))
+
+all_merged : (j : Job) (w : World) (id : NodeId) (n : Node) (h : Holding) (o : Option Holding) → IfSome o (λ d. IsHeldBy j d.partition d) → IsHeldBy j id.part n.content → IsHeldBy j id.part h → node_at w id ≡ Some n → join_of n.content h ≡ n.content →
+    HasAll (world_in w (recover_at w id n o)) id h
+all_merged j w id n h None copy held mine at all = all_still w id n h at all
+all_merged j w id n h (Some d) copy held mine at all = all_merged_when j w id n h d (merge_of n.content.plan n.content.partition d.plan d.partition) refl copy held mine at all
+
+all_at : (j : Job) (w : World) (n : Node) (h : Holding) (e : Event) → SparesNode (node_of e) e → IsWorld j w → IsHeldBy j (node_of e).part h → node_at w (node_of e) ≡ Some n → join_of n.content h ≡ n.content → HasAll (world_in w (outcome_at j w n e)) (node_of e) h
+unfolding node_at
+all_at j w n h (event.Send id q) spares ok mine at all = by (nat_lt q j.plan.parts && not (q == n.content.partition)) refl
+  where
+    by : (b : Bool) → (nat_lt q j.plan.parts && not (q == n.content.partition)) ≡ b → HasAll (world_in w (outcome_at j w n (event.Send id q))) id h
+    by false e = rw e (all_still w id n h at all)
+    by true e = rw e (record { node = n; at = at; all = all })
+all_at j w n h (event.Deliver m id) spares ok mine at all = all_taken j w id n h m (slice_get w.sent m) (ok.sent m) (node_is_one j w id n ok at).content mine at all
+all_at j w n h (event.Close id) spares ok mine at all =
+    let held = (node_is_one j w id n ok at).content in
+    let d = held_after j n.content Close in
+    all_with w id n h d at (grows_through j id.part h n.content d mine held (closed_held j id.part n.content held) all (closed_grows j id.part n.content held))
+all_at j w n h (event.Keep id) spares ok mine at all = record { node = record n { kept = Some n.content }; at = node_same w id n (record n { kept = Some n.content }) at; all = all }
+all_at j w n h (event.Restart id) spares ok mine at all = absurd (spares refl)
+all_at j w n h (event.Copy id) spares ok mine at all = record { node = n; at = at; all = all }
+all_at j w n h (event.Recover id c) spares ok mine at all = all_merged j w id n h (slice_get w.copies c) (ok.copies c) (node_is_one j w id n ok at).content mine at all
+all_at j w n h (event.Show id) spares ok mine at all = all_still w id n h at all
+
+all_step : (j : Job) (w : World) (id : NodeId) (h : Holding) (e : Event) → SparesNode id e → IsWorld j w → IsHeldBy j id.part h → HasAll w id h → HasAll (after_event j w e) id h
+all_step j w id h e spares ok mine k = elim (same_or_other (node_of e) id) [
+  | inl same ↦
+      let spared : SparesNode (node_of e) e = subst (λ (x : NodeId). SparesNode x e) (sym same) spares in
+      let held : IsHeldBy j (node_of e).part h = subst (λ (x : NodeId). IsHeldBy j x.part h) (sym same) mine in
+      let at : node_at w (node_of e) ≡ Some k.node = subst (λ (x : NodeId). node_at w x ≡ Some k.node) (sym same) k.at in
+      subst (λ (x : NodeId). HasAll (after_event j w e) x h) same
+      (subst (λ (v : World). HasAll v (node_of e) h) (sym (found_event j w k.node e at)) (all_at j w k.node h e spared ok held at k.all))
+  | inr ne ↦ record { node = k.node; at = others_stay j w id e ne ∙ k.at; all = k.all }
+]
+
+all_run : (j : Job) (w : World) (id : NodeId) (h : Holding) (es : List Event) → AllByRecursion (SparesNode id) es → IsWorld j w → IsHeldBy j id.part h → HasAll w id h → HasAll (run_of j w es) id h
+unfolding run_of
+all_run j w id h [] spares ok mine k = k
+all_run j w id h (e ∷ es) spares ok mine k = all_run j (after_event j w e) id h es spares.1 (stays_world j w e ok) mine (all_step j w id h e spares.0 ok mine k)
+
+-- ---- messages and copies never go away
+still_there : {X : Type 0} (xs : List X) (y x : X) (m : ℕ) → slice_get xs m ≡ Some x → slice_get (xs ++ y ∷ []) m ≡ Some x
+still_there [] y x m e = absurd (cc)
+still_there (z ∷ xs) y x zero e = e
+still_there (z ∷ xs) y x (suc m) e = still_there xs y x m e
+
+-- a message and a copy that are there
+record AreThere (w : World) (m : ℕ) (name : Option BatchName) (c : ℕ) (copy : Option Holding) : Type 0 where
+  sent : IfSome name (λ x. slice_get w.sent m ≡ Some x)
+  copied : IfSome copy (λ x. slice_get w.copies c ≡ Some x)
+
+more_sent : (xs : List BatchName) (y : BatchName) (m : ℕ) (o : Option BatchName) → IfSome o (λ x. slice_get xs m ≡ Some x) → IfSome o (λ x. slice_get (xs ++ y ∷ []) m ≡ Some x)
+more_sent xs y m None h = tt
+more_sent xs y m (Some x) h = still_there xs y x m h
+
+more_copied : (xs : List Holding) (y : Holding) (m : ℕ) (o : Option Holding) → IfSome o (λ x. slice_get xs m ≡ Some x) → IfSome o (λ x. slice_get (xs ++ y ∷ []) m ≡ Some x)
+more_copied xs y m None h = tt
+more_copied xs y m (Some x) h = still_there xs y x m h
+
+there_at : (j : Job) (w : World) (n : Node) (e : Event) (m c : ℕ) (name : Option BatchName) (copy : Option Holding) → AreThere w m name c copy → AreThere (world_in w (outcome_at j w n e)) m name c copy
+there_at j w n (event.Send id q) m c name copy k = by (nat_lt q j.plan.parts && not (q == n.content.partition)) refl
+  where
+    by : (b : Bool) → (nat_lt q j.plan.parts && not (q == n.content.partition)) ≡ b → AreThere (world_in w (outcome_at j w n (event.Send id q))) m name c copy
+    by false e = rw e k
+    by true e = rw e (record { sent = more_sent w.sent (name_to n q) m name k.sent; copied = k.copied })
+there_at j w n (event.Deliver r id) m c name copy k = by (slice_get w.sent r)
+  where
+    by : (o : Option BatchName) → AreThere (world_in w (deliver_at j w id n o)) m name c copy
+    by None = k
+    by (Some x) = record { sent = k.sent; copied = k.copied }
+there_at j w n (event.Close id) m c name copy k = record { sent = k.sent; copied = k.copied }
+there_at j w n (event.Keep id) m c name copy k = record { sent = k.sent; copied = k.copied }
+there_at j w n (event.Restart id) m c name copy k = record { sent = k.sent; copied = k.copied }
+there_at j w n (event.Copy id) m c name copy k = record { sent = k.sent; copied = more_copied w.copies n.content c copy k.copied }
+there_at j w n (event.Recover id r) m c name copy k = by (slice_get w.copies r)
+  where
+    when : (d : Holding) (r : Result (Unit {0}) MergeError) → AreThere (world_in w (recover_when w id n d r)) m name c copy
+    when d (Err e) = k
+    when d (Ok u) = record { sent = k.sent; copied = k.copied }
+
+    by : (o : Option Holding) → AreThere (world_in w (recover_at w id n o)) m name c copy
+    by None = k
+    by (Some d) = when d (merge_of n.content.plan n.content.partition d.plan d.partition)
+there_at j w n (event.Show id) m c name copy k = k
+
+there_unless : (j : Job) (w : World) (e : Event) (o : Option Node) (m c : ℕ) (name : Option BatchName) (copy : Option Holding) → AreThere w m name c copy → AreThere (world_in w (outcome_unless j w e o)) m name c copy
+there_unless j w e None m c name copy k = k
+there_unless j w e (Some n) m c name copy k = there_at j w n e m c name copy k
+
+there_run : (j : Job) (w : World) (es : List Event) (m c : ℕ) (name : Option BatchName) (copy : Option Holding) → AreThere w m name c copy → AreThere (run_of j w es) m name c copy
+unfolding run_of
+there_run j w [] m c name copy k = k
+there_run j w (e ∷ es) m c name copy k = there_run j (after_event j w e) es m c name copy (there_unless j w e (node_at w (node_of e)) m c name copy k)
+
+-- ---- a message that comes again
+repeat_in : (j : Job) (w : World) (id : NodeId) (m : ℕ) (g : Holding) (name : BatchName) → IsWorld j w → IsHeldBy j id.part g → IsHeard j name g → HasAll w id g → slice_get w.sent m ≡ Some name →
+    (second : Taken) × (answer_of j w (event.Deliver m id) ≡ Ok (answer.Took second)) × (second ≢ taken.New)
+repeat_in j w id m g name ok mine heard k sent =
+    let n = k.node in
+    let held = (node_is_one j w id n ok k.at).content in
+    let again = heard_again j n.content name (heard_grows j id.part g n.content name mine held k.all heard) in (
+      again.0,
+      found_answer j w n (event.Deliver m id) k.at
+          ∙ ap (λ o. answer_in (deliver_at j w id n o)) sent
+          ∙ ap (λ r. Ok (taken_answer r)) again.1,
+      again.2,
+    )
+
+repeat_at : (j : Job) (w : World) (id : NodeId) (m : ℕ) (first : Taken) (es : List Event) (n : Node) (o : Option BatchName) → node_at w id ≡ Some n → slice_get w.sent m ≡ o → IsWorld j w →
+    answer_of j w (event.Deliver m id) ≡ Ok (answer.Took first) → AllByRecursion (SparesNode id) es →
+    (second : Taken) × (answer_of j (run_of j (after_event j w (event.Deliver m id)) es) (event.Deliver m id) ≡ Ok (answer.Took second)) × (second ≢ taken.New)
+repeat_at j w id m first es n None at sent ok is spares =
+    absurd (let e : no_answer refused.NoMessage ≡ ok_answer (answer.Took first) = sym (found_answer j w n (event.Deliver m id) at ∙ ap (λ o. answer_in (deliver_at j w id n o)) sent) ∙ is in cc)
+repeat_at j w id m first es n (Some name) at sent ok is spares =
+    let named : IsName j.plan name = subst (λ (o : Option BatchName). IfSome o (IsName j.plan)) sent (ok.sent m) in
+    let held = (node_is_one j w id n ok at).content in
+    let answered : held_take_answer j n.content name ≡ Ok first = took_back (held_take_answer j n.content name) first (sym (found_answer j w n (event.Deliver m id) at ∙ ap (λ o. answer_in (deliver_at j w id n o)) sent) ∙ is) in
+    let g = held_after j n.content (Take name) in
+    let mine : IsHeldBy j id.part g = taken_held j id.part n.content name held named in
+    let v : World = with_content w id n g in
+    let after : after_event j w (event.Deliver m id) ≡ v = found_event j w n (event.Deliver m id) at ∙ ap (λ o. world_in w (deliver_at j w id n o)) sent in
+    let here : HasAll v id g = all_with w id n g g at (held_repeats j id.part g mine) in
+    let is_one : IsWorld j v = subst (IsWorld j) after (stays_world j w (event.Deliver m id) ok) in
+    let there : AreThere v m (Some name) 0 None = record { sent = sent; copied = tt } in
+    subst (λ (x : World). (second : Taken) × (answer_of j (run_of j x es) (event.Deliver m id) ≡ Ok (answer.Took second)) × (second ≢ taken.New)) (sym after)
+    (repeat_in j (run_of j v es) id m g name (run_stays j v es is_one) mine (taken_is_heard j id.part n.content name first held named answered)
+    (all_run j v id g es spares is_one mine here) (there_run j v es m 0 (Some name) None there).sent)
+
+pub repeat_is_not_new : RepeatIsNotNew
+repeat_is_not_new j w id m first es ok is spares = by (node_at w id) refl
+  where
+    by : (o : Option Node) → node_at w id ≡ o → (second : Taken) × (answer_of j (run_of j (after_event j w (event.Deliver m id)) es) (event.Deliver m id) ≡ Ok (answer.Took second)) × (second ≢ taken.New)
+    by None at = absurd (let e : no_answer refused.NoNode ≡ ok_answer (answer.Took first) = sym (ap (λ o. answer_in (outcome_unless j w (event.Deliver m id) o)) at) ∙ is in cc)
+    by (Some n) at = repeat_at j w id m first es n (slice_get w.sent m) at refl ok is spares
+
+-- ---- a copy that comes again
+-- nothing comes of a copy of which the node has all, or which it refuses
+had_when : (j : Job) (w : World) (id : NodeId) (n : Node) (d : Holding) (r : Result (Unit {0}) MergeError) → node_at w id ≡ Some n → join_of n.content d ≡ n.content → world_in w (recover_when w id n d r) ≡ w
+had_when j w id n d (Err e) at all = refl
+had_when j w id n d (Ok u) at all = ap (λ (h : Holding). with_node w id (record n { content = h })) all ∙ node_back w id n at
+
+-- the answer to a copy is the same at all times
+same_merge : (j : Job) (p : ℕ) (n m d : Holding) → IsHeldBy j p n → IsHeldBy j p m → merge_of n.plan n.partition d.plan d.partition ≡ merge_of m.plan m.partition d.plan d.partition
+same_merge j p n m d nb mb =
+    ap (λ (plan : PlanValue). merge_of plan n.partition d.plan d.partition) (nb.plan ∙ sym mb.plan)
+    ∙ ap (λ (q : ℕ). merge_of m.plan q d.plan d.partition) (nb.partition ∙ sym mb.partition)
+
+had_again : (j : Job) (w : World) (id : NodeId) (c : ℕ) (h d : Holding) (r : Result (Unit {0}) MergeError) → IsWorld j w → HasAll w id h → slice_get w.copies c ≡ Some d → IsHeldBy j id.part h → merge_of h.plan h.partition d.plan d.partition ≡ r → ((u : Unit {0}) → r ≡ Ok u → h ≡ d) → after_event j w (event.Recover id c) ≡ w
+had_again j w id c h d r ok k copy mine is same =
+    let n = k.node in
+    let held = (node_is_one j w id n ok k.at).content in
+    let told : merge_of n.content.plan n.content.partition d.plan d.partition ≡ r = same_merge j id.part n.content h d held mine ∙ is in
+    found_event j w n (event.Recover id c) k.at
+    ∙ ap (λ o. world_in w (recover_at w id n o)) copy
+    ∙ ap (λ r. world_in w (recover_when w id n d r)) told
+    ∙ by r same
+  where
+    by : (r : Result (Unit {0}) MergeError) → ((u : Unit {0}) → r ≡ Ok u → h ≡ d) → world_in w (recover_when w id k.node d r) ≡ w
+    by (Err e) same = refl
+    by (Ok u) same = had_when j w id k.node d (Ok u) k.at (subst (λ (x : Holding). join_of k.node.content x ≡ k.node.content) (same u refl) k.all)
+
+had_when_ok : (j : Job) (w : World) (id : NodeId) (c : ℕ) (es : List Event) (n : Node) (d : Holding) (r : Result (Unit {0}) MergeError) → node_at w id ≡ Some n → slice_get w.copies c ≡ Some d → merge_of n.content.plan n.content.partition d.plan d.partition ≡ r → IsWorld j w → AllByRecursion (SparesNode id) es →
+    after_event j (run_of j (after_event j w (event.Recover id c)) es) (event.Recover id c) ≡ run_of j (after_event j w (event.Recover id c)) es
+had_when_ok j w id c es n d (Err e) at copy is ok spares =
+    let held = (node_is_one j w id n ok at).content in
+    let after : after_event j w (event.Recover id c) ≡ w = found_event j w n (event.Recover id c) at ∙ ap (λ o. world_in w (recover_at w id n o)) copy ∙ ap (λ r. world_in w (recover_when w id n d r)) is in
+    let here : HasAll w id n.content = all_still w id n n.content at (held_repeats j id.part n.content held) in
+    let there : AreThere w 0 None c (Some d) = record { sent = tt; copied = copy } in
+    subst (λ (x : World). after_event j (run_of j x es) (event.Recover id c) ≡ run_of j x es) (sym after)
+    (had_again j (run_of j w es) id c n.content d (Err e) (run_stays j w es ok) (all_run j w id n.content es spares ok held here)
+    (there_run j w es 0 c None (Some d) there).copied held is (λ u bad. absurd (cc)))
+had_when_ok j w id c es n d (Ok u) at copy is ok spares =
+    let held = (node_is_one j w id n ok at).content in
+    let made : IsHeldBy j d.partition d = subst (λ (o : Option Holding). IfSome o (λ h. IsHeldBy j h.partition h)) copy (ok.copies c) in
+    let own : IsHeldBy j id.part d = copy_held j id.part n d u is made held in
+    let g = join_of n.content d in
+    let v : World = with_content w id n g in
+    let after : after_event j w (event.Recover id c) ≡ v = found_event j w n (event.Recover id c) at ∙ ap (λ o. world_in w (recover_at w id n o)) copy ∙ ap (λ r. world_in w (recover_when w id n d r)) is in
+    let here : HasAll v id d = all_with w id n d g at (joined_twice j id.part n.content d held own) in
+    let is_one : IsWorld j v = subst (IsWorld j) after (stays_world j w (event.Recover id c) ok) in
+    let there : AreThere v 0 None c (Some d) = record { sent = tt; copied = copy } in
+    subst (λ (x : World). after_event j (run_of j x es) (event.Recover id c) ≡ run_of j x es) (sym after)
+    (had_again j (run_of j v es) id c d d (merge_of d.plan d.partition d.plan d.partition) (run_stays j v es is_one) (all_run j v id d es spares is_one own here)
+    (there_run j v es 0 c None (Some d) there).copied own refl (λ u is. refl))
+
+had_copy : (j : Job) (w : World) (id : NodeId) (c : ℕ) (es : List Event) (n : Node) (o : Option Holding) → node_at w id ≡ Some n → slice_get w.copies c ≡ o → IsWorld j w → IsOk (answer_in (recover_at w id n o)) → AllByRecursion (SparesNode id) es →
+    after_event j (run_of j (after_event j w (event.Recover id c)) es) (event.Recover id c) ≡ run_of j (after_event j w (event.Recover id c)) es
+had_copy j w id c es n None at copy ok answered spares = absurd (cc)
+had_copy j w id c es n (Some d) at copy ok answered spares = had_when_ok j w id c es n d (merge_of n.content.plan n.content.partition d.plan d.partition) at copy refl ok spares
+
+pub recovered_is_had : RecoveredIsHad
+recovered_is_had j w id c es ok answered spares = by (node_at w id) refl answered
+  where
+    by : (o : Option Node) → node_at w id ≡ o → IsOk (answer_in (outcome_unless j w (event.Recover id c) o)) → after_event j (run_of j (after_event j w (event.Recover id c)) es) (event.Recover id c) ≡ run_of j (after_event j w (event.Recover id c)) es
+    by None at is = absurd (cc)
+    by (Some n) at is = had_copy j w id c es n (slice_get w.copies c) at refl ok is spares
 
 -- ---- what is kept
 -- the node keeps that content

@@ -1,5 +1,5 @@
 -- What the events of a world mean, in the subject's own words. Each is the contract of a function of src/world.rt.
-use Rattle.std.specs.Prelude.{◌≡◌, ◌≢◌, ⊤, ℕ, ◌≤◌, List, ◌++◌, Some, IfSome, option_map, Ok}
+use Rattle.std.specs.Prelude.{◌≡◌, ◌≢◌, ⊤, ℕ, ◌≤◌, List, ◌++◌, Some, IfSome, option_map, Ok, IsOk}
 use Rattle.std.specs.List.{AllByRecursion, slice_get}
 use Rattle.ball_model.specs.declared.names.NodeId.{NodeId}
 use Rattle.ball_model.specs.declared.names.Taken.{Taken}
@@ -46,12 +46,19 @@ abbrev pub OthersStay : Type 0
 OthersStay = (j : Job) (w : World) (id : NodeId) (e : Event) → node_of e ≢ id →
     node_at (after_event j w e) id ≡ node_at w id
 
--- a message that was taken, was known or was old is known or old when it comes again
+-- the event is no restart of that node
+abbrev pub SparesNode : NodeId → Event → Type 0
+SparesNode id (event.Restart other) = other ≢ id
+SparesNode id e = ⊤
+
+-- a message that was taken, was known or was old is known or old when it comes again, whatever happened since but a
+-- restart of the node
 abbrev pub RepeatIsNotNew : Type 0
-RepeatIsNotNew = (j : Job) (w : World) (id : NodeId) (m : ℕ) (first : Taken) → IsWorld j w →
-    answer_of j w (event.Deliver m id) ≡ Ok (answer.Took first) →
+RepeatIsNotNew = (j : Job) (w : World) (id : NodeId) (m : ℕ) (first : Taken) (es : List Event) →
+    IsWorld j w → answer_of j w (event.Deliver m id) ≡ Ok (answer.Took first) →
+    AllByRecursion (SparesNode id) es →
     (second : Taken)
-    × (answer_of j (after_event j w (event.Deliver m id)) (event.Deliver m id)
+    × (answer_of j (run_of j (after_event j w (event.Deliver m id)) es) (event.Deliver m id)
     ≡ Ok (answer.Took second))
     × (second ≢ taken.New)
 
@@ -60,6 +67,13 @@ abbrev pub RecoverTwiceIsOnce : Type 0
 RecoverTwiceIsOnce = (j : Job) (w : World) (id : NodeId) (c : ℕ) → IsWorld j w →
     after_event j (after_event j w (event.Recover id c)) (event.Recover id c)
     ≡ after_event j w (event.Recover id c)
+
+-- and so it is whatever happened since but a restart of the node: a copy that a node recovered from changes nothing
+abbrev pub RecoveredIsHad : Type 0
+RecoveredIsHad = (j : Job) (w : World) (id : NodeId) (c : ℕ) (es : List Event) → IsWorld j w →
+    IsOk (answer_of j w (event.Recover id c)) → AllByRecursion (SparesNode id) es →
+    after_event j (run_of j (after_event j w (event.Recover id c)) es) (event.Recover id c)
+    ≡ run_of j (after_event j w (event.Recover id c)) es
 
 -- the event is no keeping of that node
 abbrev pub SparesKept : NodeId → Event → Type 0

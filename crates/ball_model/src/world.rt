@@ -3,7 +3,7 @@
 
 ghost use Rattle.std.specs.Prelude.{◌≡◌};
 ghost use Rattle.ball_model.specs.Held.{StartIsHeld, TakenIsHeld, ClosedIsHeld, JoinedIsHeld, TakenIsContent, ClosedIsContent};
-ghost use Rattle.ball_model.specs.WorldLaws.{RunsStayWorlds, SentIsInTime, LossLeavesContents, OthersStay, RepeatIsNotNew, RecoverTwiceIsOnce, RestartGivesKept, OnlyRestartGoesBack};
+ghost use Rattle.ball_model.specs.WorldLaws.{RunsStayWorlds, SentIsInTime, LossLeavesContents, OthersStay, RepeatIsNotNew, RecoverTwiceIsOnce, RecoveredIsHad, RestartGivesKept, OnlyRestartGoesBack};
 ghost use Rattle.ball_model.specs.WorldExamples.{EarlyBatch, RepeatedBatch, WindowEdge, Checkpointed, Copied, ThreePartitions, LoneVertex};
 
 use crate::names::{BatchName, CloseError, MergeError, NodeId, TakeError, Taken};
@@ -133,11 +133,12 @@ pub fn nodes_stand_alone()
     ensures back { OnlyRestartGoesBack }
 {}
 
-/// What is done twice is done once: a message that comes again is [`Known`](Taken::Known) or [`Old`](Taken::Old), and
-/// recovering again from one copy changes nothing.
+/// What is done twice is done once, whatever happens between but a restart of the node: a message that comes again is
+/// [`Known`](Taken::Known) or [`Old`](Taken::Old), and recovering again from one copy changes nothing.
 pub fn twice_is_once()
     ensures repeat { RepeatIsNotNew }
     ensures recover { RecoverTwiceIsOnce }
+    ensures again { RecoveredIsHad }
 {}
 
 /// A restart gives the content that the node kept last, whatever happened since.
