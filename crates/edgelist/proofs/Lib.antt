@@ -11,6 +11,7 @@ pub mod FindLemmas
 pub mod CountLemmas
 pub mod LinksLemmas
 pub mod EdgeLemmas
+pub mod RowLemmas
 pub mod SortLemmas
 pub mod RangeLemmas
 pub mod DigestLemmas

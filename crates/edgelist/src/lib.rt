@@ -28,6 +28,7 @@ mod numbering;
 mod part;
 mod read;
 mod records;
+mod rows;
 
 pub use counting::CountedError;
 pub use graph::Graph;
