@@ -1,6 +1,6 @@
-use Rattle.std.proofs.Common.{List, length, ap, ◌∙◌, subst}
+use Rattle.std.proofs.Common.{length, ap, subst}
 use Rattle.std.specs.List.{list_any}
-use Rattle.std.specs.Prelude.{◌≡◌, ◌⊎◌, ℕ, []}
+use Rattle.std.specs.Prelude.{◌≡◌, ◌⊎◌, []}
 use Rattle.ball_model.specs.State.{State}
 use Rattle.replica.proofs.AccumulatorLemmas.{copied_kept, copied_same, state_is}
 use Rattle.replica.proofs.Progress.copied_tables.Goals as goal
