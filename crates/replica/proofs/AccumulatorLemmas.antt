@@ -1,5 +1,5 @@
 -- A replica's accumulators: kept beside its rows, or let go where the run is over.
-use Rattle.std.proofs.Common.{◌≡◌, ℕ, ◌+◌, ◌^◌, ◌<◌, ◌≤◌, Bool, true, false, List, [], ◌∷◌, length, map, get_or, refl, ap, sym, ◌∙◌, subst, arith, inl, inr}
+use Rattle.std.proofs.Common.{◌≡◌, ℕ, ◌+◌, ◌^◌, ◌<◌, ◌≤◌, Bool, true, false, List, [], ◌∷◌, length, map, get_or, refl, ap, sym, ◌∙◌, subst, arith, inl, inr, ◌⊎◌, if◌then◌else◌}
 use Rattle.std.specs.Prelude.{Option, None, Some, Ok}
 use Rattle.std.specs.Arc.{arc_value}
 use Rattle.std.specs.List.{list_any}
@@ -15,9 +15,10 @@ use Rattle.ball_model.specs.Table.{Table}
 use Rattle.ball_model.specs.Content.{close_unless, missing_of, take_of}
 use Rattle.ball_model.specs.State.{State, content_of}
 use Rattle.figures.specs.Values.{value_of}
-use Rattle.replica.specs.declared.Snapshot.TheInside as snapshot
+use Rattle.replica.specs.declared.Progress.TheInside as progress
 use Rattle.replica.specs.Level.{is_finished, is_over, level_verdict}
-use Rattle.replica.specs.Seen.{IsState, IsSnapshot, accumulators_of, state_of}
+use Rattle.replica.specs.Progress.{CanGoOn, ProgressValue}
+use Rattle.replica.specs.Seen.{IsState, IsProgress, accumulators_of, progress_of, state_of}
 use Rattle.replica.specs.Spread.{AreTouched}
 use Rattle.replica.proofs.OverLemmas.{over_later}
 use Rattle.replica.proofs.RiseLemmas.{same_registers}
@@ -42,7 +43,7 @@ all_kept rows (own ∷ rest) e = refl
 
 -- ---- the fields as they stand
 
-abbrev pub fields_of : snapshot.Inside → State
+abbrev pub fields_of : progress.Inside → State
 fields_of r = record {
   part = arc_value r.part;
   superstep = r.superstep;
@@ -57,16 +58,20 @@ fields_of r = record {
 }
 
 -- where an accumulator is kept of each row they are the state
-pub fields_are : (r : snapshot.Inside) → length r.accumulated.rows ≡ length r.rows.rows → fields_of r ≡ state_of r
+pub fields_are : (r : progress.Inside) → length r.accumulated.rows ≡ length r.rows.rows → fields_of r ≡ state_of r
 fields_are r e = ap (λ (l : List (List ℕ)). record (fields_of r) { accumulated = l }) (sym (all_kept r.rows.rows r.accumulated.rows e))
 
 -- an accumulator is kept of each row
-pub record Keeps (r : snapshot.Inside) (v : State) : Type 0 where
+pub record Keeps (r : progress.Inside) (v : State) : Type 0 where
   pub count : length r.accumulated.rows ≡ length r.rows.rows
   pub view_is : fields_of r ≡ v
   pub state : IsState (fields_of r)
 
-keeps : (r : snapshot.Inside) (v : State) → IsSnapshot r → state_of r ≡ v → length r.accumulated.rows ≡ length r.rows.rows → Keeps r v
+-- what is had, of what is had and kept
+pub state_is : {k l : ProgressValue} → k ≡ l → k.state ≡ l.state
+state_is e = ap (λ (k : ProgressValue). k.state) e
+
+keeps : (r : progress.Inside) (v : State) → IsProgress r → state_of r ≡ v → length r.accumulated.rows ≡ length r.rows.rows → Keeps r v
 keeps r v ok is count = record {
   count = count;
   view_is = fields_are r count ∙ is;
@@ -74,30 +79,41 @@ keeps r v ok is count = record {
 }
 
 -- so it is where the run goes on
-pub going_keeps : (r : snapshot.Inside) (v : State) → IsSnapshot r → state_of r ≡ v → is_over v ≡ false → Keeps r v
-going_keeps r v ok is going =
-    elim ok.kept [
-      | inl count ↦ keeps r v ok is count
-      | inr gone ↦ absurd (let bad : true ≡ false = sym gone.1 ∙ ap (λ (u : State). is_over u) is ∙ going in cc)
+pub going_keeps : (r : progress.Inside) (k : ProgressValue) → IsProgress r → CanGoOn k → progress_of r ≡ k → is_over k.state ≡ false → Keeps r k.state
+going_keeps r k ok can is going =
+    let mine : CanGoOn (progress_of r) = subst (λ (l : ProgressValue). CanGoOn l) (sym is) can in
+    elim mine.kept [
+      | inl count ↦ keeps r k.state ok (state_is is) count
+      | inr gone ↦ absurd (let bad : true ≡ false = sym gone.1 ∙ ap (λ (u : State). is_over u) (state_is is) ∙ going in cc)
     ]
 
 -- and where a batch of the superstep is new
-pub hearing_keeps : (r : snapshot.Inside) (v : State) (b : BatchValue) → IsSnapshot r → state_of r ≡ v → IsBatch b → take_of v.part.plan v.part.number (content_of v) b.plan b.name ≡ Ok taken.New → b.name.superstep ≡ v.superstep → Keeps r v
-hearing_keeps r v b ok is batch new now =
-    elim ok.kept [
-      | inl count ↦ keeps r v ok is count
-      | inr gone ↦ absurd (over_later v b batch new (subst (λ (u : State). is_over u ≡ true) is gone.1) now)
+pub hearing_keeps : (r : progress.Inside) (k : ProgressValue) (b : BatchValue) → IsProgress r → CanGoOn k → progress_of r ≡ k → IsBatch b → take_of k.state.part.plan k.state.part.number (content_of k.state) b.plan b.name ≡ Ok taken.New → b.name.superstep ≡ k.state.superstep → Keeps r k.state
+hearing_keeps r k b ok can is batch new now =
+    let mine : CanGoOn (progress_of r) = subst (λ (l : ProgressValue). CanGoOn l) (sym is) can in
+    elim mine.kept [
+      | inl count ↦ keeps r k.state ok (state_is is) count
+      | inr gone ↦ absurd (over_later k.state b batch new (subst (λ (u : State). is_over u ≡ true) (state_is is) gone.1) now)
     ]
 
 -- the fields of a replica that keeps them
-pub kept_snapshot : (r : snapshot.Inside) → IsState (fields_of r) → r.rows.width ≡ 2 ^ (arc_value r.part).plan.log2m → r.accumulated.width ≡ 2 ^ (arc_value r.part).plan.log2m → (arc_value r.part).plan.limit + 1 ≤ vec_capacity r.sums → IsSnapshot r
-kept_snapshot r st width accumulated_width room = record {
+pub kept_progress : (r : progress.Inside) → IsState (fields_of r) → r.rows.width ≡ 2 ^ (arc_value r.part).plan.log2m → r.accumulated.width ≡ 2 ^ (arc_value r.part).plan.log2m → IsProgress r
+kept_progress r st width accumulated_width = record {
   state = subst (λ (u : State). IsState u) (fields_are r st.accumulated.count) st;
   width = width;
   accumulated_width = accumulated_width;
   kept = inl st.accumulated.count;
-  room = room;
 }
+
+-- with room, a replica can go on with them
+pub can_go_on : (r : progress.Inside) → length r.accumulated.rows ≡ length r.rows.rows → (arc_value r.part).plan.limit + 1 ≤ vec_capacity r.sums → CanGoOn (progress_of r)
+can_go_on r count room = record { kept = inl count; room = room }
+
+-- the room that there was
+pub had_room : (r : progress.Inside) (k : ProgressValue) → progress_of r ≡ k → CanGoOn k → (arc_value r.part).plan.limit + 1 ≤ vec_capacity r.sums
+had_room r k is can =
+    let mine : CanGoOn (progress_of r) = subst (λ (l : ProgressValue). CanGoOn l) (sym is) can in
+    mine.room
 
 -- ---- letting them go
 
@@ -113,10 +129,27 @@ unmarked_same rows accumulated touched are none =
     ∙ sym (get_or_default rows i d [] (omega (arith, are.count))))
 
 -- so the state is as it was without them
-pub let_go_same : (r : snapshot.Inside) (kept : Table) (touched : List Bool) → kept.rows ≡ [] → AreTouched (state_of r).rows (state_of r).accumulated touched → list_any (λ mark. mark) touched ≡ false → state_of (record r { accumulated = kept }) ≡ state_of r
+pub let_go_same : (r : progress.Inside) (kept : Table) (touched : List Bool) → kept.rows ≡ [] → AreTouched (state_of r).rows (state_of r).accumulated touched → list_any (λ mark. mark) touched ≡ false → state_of (record r { accumulated = kept }) ≡ state_of r
 let_go_same r kept touched gone are none =
     ap (λ (l : List (List ℕ)). record (state_of r) { accumulated = l })
     (none_kept r.rows.rows kept.rows (ap (length {A = List ℕ}) gone) ∙ sym (unmarked_same r.rows.rows (accumulators_of r.rows.rows r.accumulated.rows) touched are none))
+
+-- ---- copying them
+
+copied_if : (b : Bool) (rows kept copy : List (List ℕ)) → copy ≡ (if b then kept else []) → (b ≡ false → accumulators_of rows kept ≡ rows) → accumulators_of rows copy ≡ accumulators_of rows kept
+copied_if true rows kept copy is same = ap (accumulators_of rows) is
+copied_if false rows kept copy is same = ap (accumulators_of rows) is ∙ none_kept rows [] refl ∙ sym (same refl)
+
+-- where no row is marked a copy without any tells the same
+pub copied_same : (v : State) (rows kept copy : List (List ℕ)) (touched : List Bool) → rows ≡ v.rows → accumulators_of rows kept ≡ v.accumulated → AreTouched v.rows v.accumulated touched → copy ≡ (if list_any (λ mark. mark) touched then kept else []) → accumulators_of v.rows copy ≡ v.accumulated
+copied_same v rows kept copy touched own all are is =
+    ap (λ (l : List (List ℕ)). accumulators_of l copy) (sym own)
+    ∙ copied_if (list_any (λ mark. mark) touched) rows kept copy is (λ none. all ∙ unmarked_same v.rows v.accumulated touched are none ∙ sym own)
+    ∙ all
+
+pub copied_kept : (b : Bool) (rows kept copy : List (List ℕ)) → copy ≡ (if b then kept else []) → (length kept ≡ length rows) ⊎ (kept ≡ []) → (length copy ≡ length rows) ⊎ (copy ≡ [])
+copied_kept true rows kept copy is all = elim all [ inl e ↦ inl (ap (length {A = List ℕ}) is ∙ e) | inr e ↦ inr (is ∙ e) ]
+copied_kept false rows kept copy is all = inr is
 
 -- ---- when the run is over
 

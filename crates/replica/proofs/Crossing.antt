@@ -8,20 +8,27 @@ use Rattle.registers.proofs.Crossing.{rows_send, rows_sync}
 use Rattle.batches.proofs.Crossing.{batch_send, batch_sync}
 use Rattle.edgelist.proofs.Crossing.{part_send, part_sync}
 use Rattle.figures.proofs.Crossing.{estimator_send, estimator_sync, tally_send, tally_sync}
+use Rattle.replica.specs.contracts.Progress as progress
 use Rattle.replica.specs.contracts.Replica as replica
 use Rattle.replica.specs.contracts.Snapshot as snapshot
 
+pub progress_send : IsSend progress.the_row
+progress_send = search (part_send, part_sync, rows_send, tally_send, batch_send, batch_sync, sendable, crosses) depth 30 fits 20000
+
+pub progress_sync : IsSync progress.the_row
+progress_sync = search (part_send, part_sync, rows_sync, tally_sync, batch_send, batch_sync, sendable, crosses) depth 30 fits 20000
+
 pub snapshot_send : IsSend snapshot.the_row
-snapshot_send = search (part_send, part_sync, rows_send, tally_send, batch_send, batch_sync, sendable, crosses) depth 30 fits 20000
+snapshot_send = search (progress_send, sendable, crosses) depth 30 fits 20000
 
 pub snapshot_sync : IsSync snapshot.the_row
-snapshot_sync = search (part_send, part_sync, rows_sync, tally_sync, batch_send, batch_sync, sendable, crosses) depth 30 fits 20000
+snapshot_sync = search (progress_sync, sendable, crosses) depth 30 fits 20000
 
 pub replica_send : IsSend replica.the_row
-replica_send = search (part_send, part_sync, rows_send, tally_send, estimator_send, batch_send, batch_sync, sendable, crosses) depth 30 fits 20000
+replica_send = search (progress_send, estimator_send, sendable, crosses) depth 30 fits 20000
 
 pub replica_sync : IsSync replica.the_row
-replica_sync = search (part_send, part_sync, rows_sync, tally_sync, estimator_sync, batch_send, batch_sync, sendable, crosses) depth 30 fits 20000
+replica_sync = search (progress_sync, estimator_sync, sendable, crosses) depth 30 fits 20000
 
 -- threads may share a snapshot
 pub shared_snapshot_send : IsSend (arc.the_row snapshot.the_row Heap.the_row ghosts)

@@ -9,14 +9,15 @@ use Rattle.ball_model.specs.PlanValue.{PlanValue}
 use Rattle.ball_model.specs.Batches.{BatchValue, IsBatch}
 use Rattle.ball_model.specs.Content.{take_of}
 use Rattle.ball_model.specs.State.{State, content_of, early_at}
-use Rattle.replica.specs.declared.Snapshot.TheInside as snapshot
+use Rattle.replica.specs.declared.Progress.TheInside as progress
 use Rattle.replica.specs.Ahead.{IsTable}
 use Rattle.replica.specs.Change.{Receives}
 use Rattle.replica.specs.Hearing.{Hears, batch_by}
 use Rattle.replica.specs.Index.{targets_of}
-use Rattle.replica.specs.Seen.{HasIndex, IsSnapshot, IsState, state_of}
+use Rattle.replica.specs.Progress.{CanGoOn, ProgressValue}
+use Rattle.replica.specs.Seen.{HasIndex, IsProgress, IsState, progress_of, state_of}
 use Rattle.replica.specs.Spread.{AreTouched, LeadInside}
-use Rattle.replica.proofs.AccumulatorLemmas.{Keeps, fields_of, fields_are, hearing_keeps}
+use Rattle.replica.proofs.AccumulatorLemmas.{Keeps, fields_of, fields_are, hearing_keeps, state_is}
 use Rattle.replica.proofs.HearLemmas.{hears_as}
 use Rattle.replica.proofs.LevelLemmas.{number_is}
 use Rattle.replica.proofs.OverLemmas.{hearing_index, kept_over}
@@ -27,7 +28,7 @@ use Rattle.replica.proofs.TakeLemmas.{IsFresh, fresh, names_heard, names_kept, s
 -- ---- a batch of the superstep
 
 -- what is known where it is new
-pub record Hearable (r : snapshot.Inside) (v : State) (b : BatchValue) (targets : List (List ℕ)) (touched : List Bool) : Type 0 where
+pub record Hearable (r : progress.Inside) (v : State) (b : BatchValue) (targets : List (List ℕ)) (touched : List Bool) : Type 0 where
   pub keeps : Keeps r v
   pub now : b.name.superstep ≡ r.superstep
   pub is_fresh : IsFresh (fields_of r) b
@@ -35,11 +36,11 @@ pub record Hearable (r : snapshot.Inside) (v : State) (b : BatchValue) (targets 
   pub inside : LeadInside (length r.accumulated.rows) targets
   pub touched_are : AreTouched r.rows.rows r.accumulated.rows touched
 
-pub hearable : (r : snapshot.Inside) (v : State) (b : BatchValue) (targets : List (List ℕ)) (touched : List Bool) (name : BatchName) → IsSnapshot r → state_of r ≡ v → IsBatch b →
-    take_of v.part.plan v.part.number (content_of v) b.plan b.name ≡ Ok taken.New → HasIndex v targets → AreTouched v.rows v.accumulated touched → name ≡ b.name → name.superstep ≡ r.superstep → Hearable r v b targets touched
-hearable r v b targets touched name ok is batch new has are named here =
+pub hearable : (r : progress.Inside) (l : ProgressValue) (b : BatchValue) (targets : List (List ℕ)) (touched : List Bool) (name : BatchName) → IsProgress r → CanGoOn l → progress_of r ≡ l → IsBatch b →
+    take_of l.state.part.plan l.state.part.number (content_of l.state) b.plan b.name ≡ Ok taken.New → HasIndex l.state targets → AreTouched l.state.rows l.state.accumulated touched → name ≡ b.name → name.superstep ≡ r.superstep → Hearable r l.state b targets touched
+hearable r l b targets touched name ok can is batch new has are named here =
     let now : b.name.superstep ≡ r.superstep = ap (λ (n : BatchName). n.superstep) (sym named) ∙ here in
-    let k = hearing_keeps r v b ok is batch new (now ∙ ap (λ (u : State). u.superstep) is) in
+    let k = hearing_keeps r l b ok can is batch new (now ∙ ap (λ (u : State). u.superstep) (state_is is)) in
     let mine = subst (λ (u : State). take_of u.part.plan u.part.number (content_of u) b.plan b.name ≡ Ok taken.New) (sym k.view_is) new in
     let index = hearing_index (fields_of r) b targets (subst (λ (u : State). HasIndex u targets) (sym k.view_is) has) batch mine now in
     record {
@@ -52,14 +53,14 @@ hearable r v b targets touched name ok is batch new has are named here =
     }
 
 -- the fields once it is heard
-abbrev pub with_heard : snapshot.Inside → List Bool → Bool → Table → snapshot.Inside
+abbrev pub with_heard : progress.Inside → List Bool → Bool → Table → progress.Inside
 with_heard r heard change accumulated = record r { heard = heard; heard_change = change; accumulated = accumulated }
 
-pub record Heard (r : snapshot.Inside) (v : State) (b : BatchValue) : Type 0 where
+pub record Heard (r : progress.Inside) (v : State) (b : BatchValue) : Type 0 where
   pub state : IsState (fields_of r)
   pub receives : Receives b v (state_of r)
 
-pub heard_now : (r : snapshot.Inside) (v : State) (b : BatchValue) (targets : List (List ℕ)) (touched heard : List Bool) (change : Bool) (accumulated : Table) → Hearable r v b targets touched →
+pub heard_now : (r : progress.Inside) (v : State) (b : BatchValue) (targets : List (List ℕ)) (touched heard : List Bool) (change : Bool) (accumulated : Table) → Hearable r v b targets touched →
     Hears b.plan.log2m targets (batch_by b.name.source (Some b)) (record { heard = r.heard; change = r.heard_change; accumulated = r.accumulated.rows }) (record { heard = heard; change = change; accumulated = accumulated.rows }) →
     Heard (with_heard r heard change accumulated) v b
 heard_now r v b targets touched heard change accumulated h hears =
@@ -94,14 +95,15 @@ heard_now r v b targets touched heard change accumulated h hears =
 later_than : (t n : ℕ) → t ≤ n → (n ≡ t → ⊥) → t < n
 later_than t n le ne = omega (arith, ne)
 
-pub record Kept (r : snapshot.Inside) (v : State) (b : BatchValue) : Type 0 where
-  pub limits : IsSnapshot r
+pub record Kept (r : progress.Inside) (v : State) (b : BatchValue) : Type 0 where
+  pub limits : IsProgress r
+  pub can : CanGoOn (progress_of r)
   pub receives : Receives b v (state_of r)
 
-pub kept_later : (r : snapshot.Inside) (v : State) (b : BatchValue) (name : BatchName) (after : List (List (Option BatchValue))) → IsSnapshot r → state_of r ≡ v → IsBatch b →
+pub kept_later : (r : progress.Inside) (v : State) (b : BatchValue) (name : BatchName) (after : List (List (Option BatchValue))) → IsProgress r → CanGoOn (progress_of r) → state_of r ≡ v → IsBatch b →
     take_of v.part.plan v.part.number (content_of v) b.plan b.name ≡ Ok taken.New → name ≡ b.name → (name.superstep ≡ r.superstep → ⊥) → ((parts : ℕ) → IsTable parts r.early → IsTable parts after) →
     ((i k : ℕ) → early_at after i k ≡ (if (i == name.superstep - r.superstep - 1) && (k == name.source) then Some b else early_at r.early i k)) → Kept (record r { early = after }) v b
-kept_later r v b name after ok is batch new named other table at =
+kept_later r v b name after ok goes is batch new named other table at =
     let s = state_of r in
     let st = ok.state in
     let f = fresh s b batch (subst (λ (u : State). take_of u.part.plan u.part.number (content_of u) b.plan b.name ≡ Ok taken.New) (sym is) new) in
@@ -126,8 +128,11 @@ kept_later r v b name after ok is batch new named other table at =
         };
         width = ok.width;
         accumulated_width = ok.accumulated_width;
-        kept = elim ok.kept [ inl count ↦ inl count | inr gone ↦ inr (gone.0, kept_over s after ∙ gone.1) ];
-        room = ok.room;
+        kept = ok.kept;
+      };
+      can = record {
+        kept = elim goes.kept [ inl count ↦ inl count | inr gone ↦ inr (gone.0, kept_over s after ∙ gone.1) ];
+        room = goes.room;
       };
       receives = subst (λ (u : State). Receives b u (state_of (record r { early = after }))) is (record {
         shown = (record { part = refl; superstep = refl; rows = refl; marks = refl; tallies = refl; sums = refl });

@@ -12,3 +12,4 @@ pub mod Merged
 pub mod Runs
 pub mod Heard
 pub mod Saved
+pub mod Progress

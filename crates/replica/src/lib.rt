@@ -64,6 +64,39 @@ use targets::Targets;
 #[cfg(test)]
 mod tests;
 
+/// What a replica or a snapshot has at a superstep. What it tells are the calls of [`Shown`].
+///
+/// Where a replica has it there is room to go on: for a sum of each superstep up to the limit, and for an accumulator
+/// of each row until the run is over. A snapshot has no more than it tells.
+#[derive(Drop)]
+pub struct Progress {
+    part: Arc<Part>,
+    superstep: u32,
+    rows: Rows,
+    marks: Vec<bool>,
+    tallies: Vec<Tally>,
+    sums: Vec<u128>,
+    // which sources of the superstep are heard
+    heard: SourceMask,
+    // whether one of them tells of a changed vertex
+    heard_change: bool,
+    // the rows, raised by those of the sources that are heard; none where none is kept, since each equals its row
+    accumulated: Rows,
+    early: Early,
+}
+
+impl Model for Progress {
+    ghost use Rattle.replica.specs.Progress.{ProgressValue};
+
+    ghost Value = { ProgressValue };
+
+    ghost use Rattle.replica.specs.Seen.{progress_of, IsProgress};
+
+    ghost view = { progress_of };
+
+    ghost invariant = { IsProgress };
+}
+
 /// What a replica has at a superstep, without the room that later supersteps take.
 ///
 /// Another replica of the partition, one that was lost, restarted or late, takes it over by
@@ -71,20 +104,7 @@ mod tests;
 /// what the replica does afterwards changes nothing here.
 #[derive(Drop)]
 pub struct Snapshot {
-    part: Arc<Part>,
-    superstep: u32,
-    rows: Rows,
-    marks: Vec<bool>,
-    tallies: Vec<Tally>,
-    // there is room for one a superstep up to the limit
-    sums: Vec<u128>,
-    // which sources of the superstep are heard
-    heard: SourceMask,
-    // whether one of them tells of a changed vertex
-    heard_change: bool,
-    // the rows, raised by those of the sources that are heard; none where they were let go, each equal to its row
-    accumulated: Rows,
-    early: Early,
+    known: Progress,
 }
 
 impl Model for Snapshot {
@@ -92,11 +112,7 @@ impl Model for Snapshot {
 
     ghost Value = { State };
 
-    ghost use Rattle.replica.specs.Seen.{state_of, IsSnapshot};
-
-    ghost view = { state_of };
-
-    ghost invariant = { IsSnapshot };
+    ghost view = { λ s. s.known.state };
 }
 
 /// One partition's state at a superstep, and the batches that it holds.
@@ -107,8 +123,8 @@ impl Model for Snapshot {
 /// are equal.
 #[derive(Drop)]
 pub struct Replica {
-    // what it has at its superstep: what it tells, and what a snapshot copies
-    known: Snapshot,
+    // what it has at its superstep: what it tells, and what a snapshot copies, with room to go on
+    known: Progress,
     targets: Targets,
     // which rows differ from what is accumulated for them
     touched: Vec<bool>,
@@ -123,7 +139,7 @@ impl Model for Replica {
 
     ghost use Rattle.replica.specs.Seen.{IsReplica};
 
-    ghost view = { λ r. r.known };
+    ghost view = { λ r. r.known.state };
 
     ghost invariant = { IsReplica };
 }

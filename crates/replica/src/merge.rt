@@ -8,19 +8,20 @@ ghost use Rattle.figures.specs.Values.{value_of};
 ghost use Rattle.replica.specs.Index.{targets_of};
 ghost use Rattle.replica.specs.Spread.{AreTouched};
 ghost use Rattle.replica.specs.Merged.{Absorbs};
+ghost use Rattle.replica.specs.Progress.{CanGoOn};
 ghost use Rattle.replica.specs.Seen.{IsState, accumulators_of};
 
 use crate::early::{Early, LEVELS};
 use crate::targets::Targets;
-use crate::{Snapshot, level, shown, step};
+use crate::{Progress, level, shown, step};
 use figures::Tally;
 use registers::{Join, Rows};
 use std::alloc::{AllocError, Global};
 
-impl Snapshot {
+impl Progress {
     /// Whether the two are of one plan and one partition.
-    pub(crate) fn is_alike(&self, other: &Snapshot) -> bool
-        ensures { IsTrue result ↔ AreAlike (holding_in self.now) (holding_in other.now) }
+    pub(crate) fn is_alike(&self, other: &Progress) -> bool
+        ensures { IsTrue result ↔ AreAlike (holding_in self.now.state) (holding_in other.now.state) }
     {
         step::is_same(self.part.plan(), other.part.plan())
             && self.part.partition() == other.part.partition()
@@ -28,7 +29,7 @@ impl Snapshot {
 
     /// The batches that are kept, shared.
     pub(crate) fn shared(&self, alloc: Global) -> Result<Early, AllocError>
-        ensures { IfOk result (λ e. e ≡ self.now.early) }
+        ensures { IfOk result (λ e. e ≡ self.now.state.early) }
     {
         self.early.share(alloc)
     }
@@ -39,19 +40,21 @@ impl Snapshot {
         alloc: Global,
         targets: &Targets,
         touched: &mut [bool],
-        other: &Snapshot,
+        other: &Progress,
         shared: &mut Early,
     ) -> Result<(), AllocError>
-        requires plan { self.old.part.plan ≡ other.now.part.plan }
-        requires number { self.old.part.number ≡ other.now.part.number }
-        requires shared { shared.old ≡ other.now.early }
-        requires index { targets.now ≡ targets_of self.old.part }
-        requires touched { AreTouched self.old.rows self.old.accumulated touched.old }
-        ensures absorbs { OnOk result (Absorbs self.old other.now self.new) }
-        ensures refused { OnErr result (self.new ≡ self.old) }
-        ensures touched { AreTouched self.new.rows self.new.accumulated touched.new }
-        ensures mine { IsState self.old }
-        ensures theirs { IsState other.now }
+        requires plan { self.old.state.part.plan ≡ other.now.state.part.plan }
+        requires number { self.old.state.part.number ≡ other.now.state.part.number }
+        requires shared { shared.old ≡ other.now.state.early }
+        requires index { targets.now ≡ targets_of self.old.state.part }
+        requires goes_on { CanGoOn self.old }
+        requires touched { AreTouched self.old.state.rows self.old.state.accumulated touched.old }
+        ensures absorbs { OnOk result (Absorbs self.old.state other.now.state self.new.state) }
+        ensures refused { OnErr result (self.new.state ≡ self.old.state) }
+        ensures goes_on { CanGoOn self.new }
+        ensures touched { AreTouched self.new.state.rows self.new.state.accumulated touched.new }
+        ensures mine { IsState self.old.state }
+        ensures theirs { IsState other.now.state }
     {
         let theirs = other.accumulators();
         if self.superstep < other.superstep {
@@ -69,21 +72,23 @@ impl Snapshot {
         alloc: Global,
         targets: &Targets,
         touched: &mut [bool],
-        other: &Snapshot,
+        other: &Progress,
         theirs: &Rows,
         shared: &mut Early,
     ) -> Result<(), AllocError>
-        requires further { self.old.superstep < other.now.superstep }
-        requires plan { self.old.part.plan ≡ other.now.part.plan }
-        requires number { self.old.part.number ≡ other.now.part.number }
-        requires theirs { theirs.now.rows ≡ other.now.accumulated }
-        requires width { theirs.now.width ≡ 2 ^ other.now.part.plan.log2m }
-        requires shared { shared.old ≡ other.now.early }
-        requires index { targets.now ≡ targets_of self.old.part }
-        requires touched { AreTouched self.old.rows self.old.accumulated touched.old }
-        ensures absorbs { OnOk result (Absorbs self.old other.now self.new) }
-        ensures refused { OnErr result (self.new ≡ self.old) }
-        ensures touched { AreTouched self.new.rows self.new.accumulated touched.new }
+        requires further { self.old.state.superstep < other.now.state.superstep }
+        requires plan { self.old.state.part.plan ≡ other.now.state.part.plan }
+        requires number { self.old.state.part.number ≡ other.now.state.part.number }
+        requires theirs { theirs.now.rows ≡ other.now.state.accumulated }
+        requires width { theirs.now.width ≡ 2 ^ other.now.state.part.plan.log2m }
+        requires shared { shared.old ≡ other.now.state.early }
+        requires index { targets.now ≡ targets_of self.old.state.part }
+        requires goes_on { CanGoOn self.old }
+        requires touched { AreTouched self.old.state.rows self.old.state.accumulated touched.old }
+        ensures absorbs { OnOk result (Absorbs self.old.state other.now.state self.new.state) }
+        ensures refused { OnErr result (self.new.state ≡ self.old.state) }
+        ensures goes_on { CanGoOn self.new }
+        ensures touched { AreTouched self.new.state.rows self.new.state.accumulated touched.new }
     {
         let ahead = gap(self.superstep, other.superstep);
         replace(alloc, theirs, &mut self.accumulated)?;
@@ -120,18 +125,20 @@ impl Snapshot {
         alloc: Global,
         targets: &Targets,
         touched: &mut [bool],
-        other: &Snapshot,
+        other: &Progress,
         shared: &mut Early,
     ) -> Result<(), AllocError>
-        requires further { other.now.superstep < self.old.superstep }
-        requires plan { self.old.part.plan ≡ other.now.part.plan }
-        requires number { self.old.part.number ≡ other.now.part.number }
-        requires shared { shared.old ≡ other.now.early }
-        requires index { targets.now ≡ targets_of self.old.part }
-        requires touched { AreTouched self.old.rows self.old.accumulated touched.old }
-        ensures absorbs { OnOk result (Absorbs self.old other.now self.new) }
-        ensures refused { OnErr result (self.new ≡ self.old) }
-        ensures touched { AreTouched self.new.rows self.new.accumulated touched.new }
+        requires further { other.now.state.superstep < self.old.state.superstep }
+        requires plan { self.old.state.part.plan ≡ other.now.state.part.plan }
+        requires number { self.old.state.part.number ≡ other.now.state.part.number }
+        requires shared { shared.old ≡ other.now.state.early }
+        requires index { targets.now ≡ targets_of self.old.state.part }
+        requires goes_on { CanGoOn self.old }
+        requires touched { AreTouched self.old.state.rows self.old.state.accumulated touched.old }
+        ensures absorbs { OnOk result (Absorbs self.old.state other.now.state self.new.state) }
+        ensures refused { OnErr result (self.new.state ≡ self.old.state) }
+        ensures goes_on { CanGoOn self.new }
+        ensures touched { AreTouched self.new.state.rows self.new.state.accumulated touched.new }
     {
         renew(alloc, &self.rows, &mut self.accumulated)?;
         let plan = *self.part.plan();
@@ -155,20 +162,22 @@ impl Snapshot {
         &mut self,
         alloc: Global,
         touched: &mut [bool],
-        other: &Snapshot,
+        other: &Progress,
         theirs: &Rows,
         shared: &mut Early,
     ) -> Result<(), AllocError>
-        requires level { self.old.superstep ≡ other.now.superstep }
-        requires plan { self.old.part.plan ≡ other.now.part.plan }
-        requires number { self.old.part.number ≡ other.now.part.number }
-        requires theirs { theirs.now.rows ≡ other.now.accumulated }
-        requires width { theirs.now.width ≡ 2 ^ other.now.part.plan.log2m }
-        requires shared { shared.old ≡ other.now.early }
-        requires touched { AreTouched self.old.rows self.old.accumulated touched.old }
-        ensures absorbs { OnOk result (Absorbs self.old other.now self.new) }
-        ensures refused { OnErr result (self.new ≡ self.old) }
-        ensures touched { AreTouched self.new.rows self.new.accumulated touched.new }
+        requires level { self.old.state.superstep ≡ other.now.state.superstep }
+        requires plan { self.old.state.part.plan ≡ other.now.state.part.plan }
+        requires number { self.old.state.part.number ≡ other.now.state.part.number }
+        requires theirs { theirs.now.rows ≡ other.now.state.accumulated }
+        requires width { theirs.now.width ≡ 2 ^ other.now.state.part.plan.log2m }
+        requires shared { shared.old ≡ other.now.state.early }
+        requires goes_on { CanGoOn self.old }
+        requires touched { AreTouched self.old.state.rows self.old.state.accumulated touched.old }
+        ensures absorbs { OnOk result (Absorbs self.old.state other.now.state self.new.state) }
+        ensures refused { OnErr result (self.new.state ≡ self.old.state) }
+        ensures goes_on { CanGoOn self.new }
+        ensures touched { AreTouched self.new.state.rows self.new.state.accumulated touched.new }
     {
         renew(alloc, &self.rows, &mut self.accumulated)?;
         let _heard = self.heard.join(alloc, &other.heard);
@@ -182,22 +191,22 @@ impl Snapshot {
 
 // The rows, the marks, the figures and the sums become those of another one.
 fn copy_shown(
-    other: &Snapshot,
+    other: &Progress,
     rows: &mut Rows,
     marks: &mut [bool],
     tallies: &mut [Tally],
     sums: &mut Vec<u128>,
 )
-    requires rows { length rows.old.rows ≡ length other.now.rows }
-    requires width { rows.old.width ≡ 2 ^ other.now.part.plan.log2m }
-    requires marks { length marks.old ≡ length other.now.marks }
-    requires tallies { length tallies.old ≡ length other.now.tallies }
-    requires sums { length other.now.sums ≤ vec_capacity sums.old }
-    ensures rows { rows.new.rows ≡ other.now.rows }
+    requires rows { length rows.old.rows ≡ length other.now.state.rows }
+    requires width { rows.old.width ≡ 2 ^ other.now.state.part.plan.log2m }
+    requires marks { length marks.old ≡ length other.now.state.marks }
+    requires tallies { length tallies.old ≡ length other.now.state.tallies }
+    requires sums { length other.now.state.sums ≤ vec_capacity sums.old }
+    ensures rows { rows.new.rows ≡ other.now.state.rows }
     ensures width { rows.new.width ≡ rows.old.width }
-    ensures marks { marks.new ≡ other.now.marks }
-    ensures tallies { map value_of tallies.new ≡ other.now.tallies }
-    ensures sums { sums.new.items ≡ other.now.sums }
+    ensures marks { marks.new ≡ other.now.state.marks }
+    ensures tallies { map value_of tallies.new ≡ other.now.state.tallies }
+    ensures sums { sums.new.items ≡ other.now.state.sums }
     ensures capacity { vec_capacity sums.new ≡ vec_capacity sums.old }
 {
     rows.copy_from(&other.rows);

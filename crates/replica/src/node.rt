@@ -30,7 +30,7 @@ ghost use Rattle.replica.specs.Runs.{HasContent, Takes, Closes, Merges};
 use crate::early::Early;
 use crate::shown::Shown;
 use crate::targets::Targets;
-use crate::{Replica, Snapshot, start, step};
+use crate::{Progress, Replica, Snapshot, start, step};
 use ball_model::{BatchName, CloseError, MergeError, Plan, TakeError, Taken, Verdict};
 use batches::Batch;
 use edgelist::Part;
@@ -172,20 +172,20 @@ impl Replica {
         if other.partition() != self.partition() {
             return Err(MergeError::NotMine);
         }
-        let Ok(()) = self.take_over(alloc, other) else {
+        let Ok(()) = self.take_over(alloc, &other.known) else {
             return Err(MergeError::Memory);
         };
         Ok(())
     }
 
-    /// Takes over what a snapshot of the same plan and partition knows. An error changes nothing.
-    pub(crate) fn take_over(&mut self, alloc: Global, other: &Snapshot) -> Result<(), AllocError>
-        requires plan { self.old.part.plan ≡ other.now.part.plan }
-        requires number { self.old.part.number ≡ other.now.part.number }
-        ensures absorbs { OnOk result (Absorbs self.old other.now self.new) }
+    /// Takes over what another one of the same plan and partition knows. An error changes nothing.
+    pub(crate) fn take_over(&mut self, alloc: Global, other: &Progress) -> Result<(), AllocError>
+        requires plan { self.old.part.plan ≡ other.now.state.part.plan }
+        requires number { self.old.part.number ≡ other.now.state.part.number }
+        ensures absorbs { OnOk result (Absorbs self.old other.now.state self.new) }
         ensures refused { OnErr result (self.new ≡ self.old) }
         ensures mine { OnOk result (IsState self.old) }
-        ensures theirs { OnOk result (IsState other.now) }
+        ensures theirs { OnOk result (IsState other.now.state) }
     {
         let mut shared = other.shared(alloc)?;
         self.absorb(alloc, other, &mut shared)
@@ -195,16 +195,16 @@ impl Replica {
     fn absorb(
         &mut self,
         alloc: Global,
-        other: &Snapshot,
+        other: &Progress,
         shared: &mut Early,
     ) -> Result<(), AllocError>
-        requires plan { self.old.part.plan ≡ other.now.part.plan }
-        requires number { self.old.part.number ≡ other.now.part.number }
-        requires shared { shared.old ≡ other.now.early }
-        ensures absorbs { OnOk result (Absorbs self.old other.now self.new) }
+        requires plan { self.old.part.plan ≡ other.now.state.part.plan }
+        requires number { self.old.part.number ≡ other.now.state.part.number }
+        requires shared { shared.old ≡ other.now.state.early }
+        ensures absorbs { OnOk result (Absorbs self.old other.now.state self.new) }
         ensures refused { OnErr result (self.new ≡ self.old) }
         ensures mine { OnOk result (IsState self.old) }
-        ensures theirs { OnOk result (IsState other.now) }
+        ensures theirs { OnOk result (IsState other.now.state) }
     {
         self.targets.renew(alloc, &self.known.part)?;
         self.known
@@ -213,16 +213,16 @@ impl Replica {
 
     /// What the replica has now.
     ///
-    /// The batches and the part are shared, the rest is a copy: 2 rows of 2^log2m registers (1 where `give_back` has
-    /// given back the accumulators) and a tally for each vertex, and room for a sum for each superstep. The error is that
-    /// memory was refused.
+    /// The batches and the part are shared, the rest is a copy: a row of 2^log2m registers and a tally for each vertex
+    /// (2 rows, where what is heard has raised one), and the sums so far. The error is that memory was refused.
     pub fn snapshot(&mut self, alloc: Global) -> Result<Snapshot, AllocError>
         ensures same { IfOk result (λ s. s ≡ self.old) }
         ensures stands { IfOk result (λ s. (j : Job) (p t : ℕ) → StandsFor j p t self.old →
             StandsFor j p t s) }
         ensures unchanged { self.new ≡ self.old }
     {
-        self.known.copied(alloc)
+        let known = self.known.copied(alloc, &self.touched)?;
+        Ok(Snapshot { known })
     }
 
     /// What the partition tells another one, `target`, of this superstep.

@@ -8,18 +8,18 @@ ghost use Rattle.ball_model.specs.Masks.{has_bit};
 ghost use Rattle.replica.specs.Sent.{sent_batch};
 ghost use Rattle.replica.specs.Seen.{IsState};
 
-use crate::{Shown, Snapshot};
+use crate::{Progress, Shown};
 use ball_model::BatchName;
 use batches::Batch;
 use std::alloc::{AllocError, Global};
 
-impl Snapshot {
+impl Progress {
     /// What the partition tells another one of this superstep, as it is read off what the replica has.
     pub(crate) fn sent(&self, alloc: Global, target: u16) -> Result<Batch, AllocError>
-        requires target { target < self.now.part.plan.parts }
+        requires target { target < self.now.state.part.plan.parts }
         ensures sent { IfOk result (λ b. b ≡
-            sent_batch self.now target (length self.now.part.preds)) }
-        ensures state { IsState self.now }
+            sent_batch self.now.state target (length self.now.state.part.preds)) }
+        ensures state { IsState self.now.state }
     {
         let name = BatchName {
             superstep: self.superstep(),
@@ -35,10 +35,10 @@ impl Snapshot {
 
     // Adds the row of vertex i, where it changed and has an edge into the batch's target.
     fn send_row(&self, batch: &mut Batch, i: u32) -> Result<(), AllocError>
-        requires place { i < length self.now.part.preds }
-        requires target { batch.old.name.target < self.now.part.plan.parts }
-        requires so_far { batch.old ≡ sent_batch self.now batch.old.name.target i }
-        ensures { OnOk result (batch.new ≡ sent_batch self.now batch.old.name.target (i + 1)) }
+        requires place { i < length self.now.state.part.preds }
+        requires target { batch.old.name.target < self.now.state.part.plan.parts }
+        requires so_far { batch.old ≡ sent_batch self.now.state batch.old.name.target i }
+        ensures { OnOk result (batch.new ≡ sent_batch self.now.state batch.old.name.target (i + 1)) }
     {
         if self.marks[i as usize] && has_edge_into(self.part.feeds(i), batch.name().target) {
             batch.push(self.part.vertex(i), self.rows.row(i as usize))?;

@@ -7,6 +7,7 @@ ghost use Rattle.ball_model.specs.Checkpoint.{kept_batches};
 ghost use Rattle.ball_model.specs.PlanValue.{greatest_limit};
 ghost use Rattle.ball_model.specs.State.{State};
 ghost use Rattle.replica.specs.Kept.{AreEarly};
+ghost use Rattle.replica.specs.Progress.{CanGoOn};
 ghost use Rattle.replica.specs.Seen.{IsState};
 ghost use Rattle.replica.specs.Level.{differences};
 ghost use Rattle.replica.specs.Saved.{Fits, IsKeepable, IsRebuilt, MayBeKept};
@@ -14,7 +15,7 @@ ghost use Rattle.replica.specs.Saved.{Fits, IsKeepable, IsRebuilt, MayBeKept};
 use crate::early::Early;
 use crate::saved::Saved;
 use crate::targets::Targets;
-use crate::{Replica, Snapshot, level, shown, start};
+use crate::{Progress, Replica, level, shown, start};
 use batches::Batch;
 use edgelist::Part;
 use registers::Rows;
@@ -59,17 +60,18 @@ fn differing(alloc: Global, rows: &Rows, accumulated: &Rows) -> Result<Vec<bool>
 }
 
 // What a replica of the part knows that has all this.
-fn known(alloc: Global, part: Arc<Part>, saved: Saved) -> Result<Snapshot, AllocError>
+fn known(alloc: Global, part: Arc<Part>, saved: Saved) -> Result<Progress, AllocError>
     requires { Fits (arc_value part) saved }
-    ensures fields { IfOk result (λ v. IsRebuilt (arc_value part) saved v) }
-    ensures keepable { IfOk result (λ v. IsKeepable v) }
+    ensures fields { IfOk result (λ k. IsRebuilt (arc_value part) saved k.state) }
+    ensures keepable { IfOk result (λ k. IsKeepable k.state) }
+    ensures goes_on { IfOk result (λ k. CanGoOn k) }
 {
     let plan = part.plan();
     // the limits of a part are told with its number
     prove!(part.partition() < plan.parts());
     let sums = with_room(alloc, plan.limit(), &saved.sums)?;
     let early = kept(alloc, &part, saved.superstep, &saved.early)?;
-    Ok(Snapshot {
+    Ok(Progress {
         part,
         superstep: saved.superstep,
         rows: saved.rows,

@@ -1,6 +1,6 @@
 //! What a replica has at a superstep.
 
-ghost use Rattle.std.specs.Prelude.{◌≡◌, ℕ, ◌<◌, ◌≤◌, ◌+◌, ◌-◌, ◌*◌, ◌/◌, ◌%◌, ◌^◌, ◌==◌, ◌&&◌, false, not, length, slice_index_or, is_some, option_map, None, [], map, count_by, IsSome, IsTrue, IfOk, ◌↔◌};
+ghost use Rattle.std.specs.Prelude.{◌≡◌, ℕ, ◌<◌, ◌≤◌, ◌+◌, ◌-◌, ◌*◌, ◌/◌, ◌%◌, ◌^◌, ◌==◌, ◌&&◌, ◌⊎◌, if◌then◌else◌, false, not, length, slice_index_or, is_some, option_map, None, [], map, count_by, IsSome, IsTrue, IfOk, ◌↔◌};
 ghost use Rattle.std.specs.Arc.{arc_value};
 ghost use Rattle.std.specs.Vec.{vec_capacity};
 ghost use Rattle.std.specs.List.{All, list_any, range_with_len, slice_get};
@@ -18,10 +18,11 @@ ghost use Rattle.replica.specs.Ahead.{early_batches, early_names, true_early};
 ghost use Rattle.replica.specs.Level.{is_changing, level_verdict, found_verdict, missing_in, nothing};
 ghost use Rattle.replica.specs.Hearing.{accumulated_by, change_by, heard_by};
 ghost use Rattle.replica.specs.Saved.{IsFigures};
-ghost use Rattle.replica.specs.Seen.{IsState, HasAccumulators, accumulators_of};
+ghost use Rattle.replica.specs.Seen.{IsState, accumulators_of};
+ghost use Rattle.replica.specs.Spread.{AreTouched};
 
 use crate::start::Tables;
-use crate::{Replica, Snapshot, level};
+use crate::{Progress, Replica, Snapshot, level};
 use ball_model::{BatchName, Plan, Verdict};
 use batches::Batch;
 use figures::Tally;
@@ -34,9 +35,9 @@ pub trait Shown {
     /// What it has.
     ghost state: { Self → State };
 
-    /// What it has, as a snapshot has it.
-    fn shown(&self) -> &Snapshot
-        ensures { result.now ≡ state self.now };
+    /// What a replica and a snapshot both have.
+    fn shown(&self) -> &Progress
+        ensures { result.now.state ≡ state self.now };
 
     /// The plan of the job.
     final fn plan(&self) -> &Plan
@@ -249,37 +250,45 @@ pub trait Shown {
     }
 }
 
+impl Shown for Progress {
+    ghost state = { λ k. k.state };
+
+    fn shown(&self) -> &Progress {
+        self
+    }
+}
+
 impl Shown for Snapshot {
     ghost state = { λ v. v };
 
-    fn shown(&self) -> &Snapshot {
-        self
+    fn shown(&self) -> &Progress {
+        &self.known
     }
 }
 
 impl Shown for Replica {
     ghost state = { λ v. v };
 
-    fn shown(&self) -> &Snapshot {
+    fn shown(&self) -> &Progress {
         &self.known
     }
 }
 
-impl Snapshot {
+impl Progress {
     // The place of a vertex of the partition.
     fn place(&self, x: u32) -> usize
-        requires vertex { x < self.now.part.plan.vertices }
-        requires own { x % self.now.part.plan.parts ≡ self.now.part.number }
-        ensures value { result ≡ x / self.now.part.plan.parts }
-        ensures below { result < length self.now.part.preds }
-        ensures state { IsState self.now }
+        requires vertex { x < self.now.state.part.plan.vertices }
+        requires own { x % self.now.state.part.plan.parts ≡ self.now.state.part.number }
+        ensures value { result ≡ x / self.now.state.part.plan.parts }
+        ensures below { result < length self.now.state.part.preds }
+        ensures state { IsState self.now.state }
     {
         (x / u32::from(self.part.plan().parts())) as usize
     }
 
     /// Whether the batch of a superstep and a source is held.
     pub(crate) fn holds_from(&self, superstep: u32, source: u16) -> bool
-        ensures { result ≡ (content_of self.now).holds superstep source }
+        ensures { result ≡ (content_of self.now.state).holds superstep source }
     {
         if superstep < self.superstep {
             return false;
@@ -293,15 +302,15 @@ impl Snapshot {
     // Whether the batch of a source is kept, so many supersteps ahead.
     fn keeps(&self, ahead: u32, source: u16) -> bool
         requires { 0 < ahead }
-        ensures { result ≡ is_some (early_at self.now.early (ahead - 1) source) }
+        ensures { result ≡ is_some (early_at self.now.state.early (ahead - 1) source) }
     {
         self.early.get((ahead - 1) as usize, source).is_some()
     }
 
     /// The accumulators, a row each: the rows themselves where no others are kept.
     pub(crate) fn accumulators(&self) -> &Rows
-        ensures value { result.now.rows ≡ self.now.accumulated }
-        ensures width { result.now.width ≡ 2 ^ self.now.part.plan.log2m }
+        ensures value { result.now.rows ≡ self.now.state.accumulated }
+        ensures width { result.now.width ≡ 2 ^ self.now.state.part.plan.log2m }
     {
         if self.accumulated.len() == 0 {
             &self.rows
@@ -312,14 +321,14 @@ impl Snapshot {
 
     // Whether some source tells of a changed vertex.
     fn is_changing(&self) -> bool
-        ensures { result ≡ is_changing self.now }
+        ensures { result ≡ is_changing self.now.state }
     {
         self.heard_change || level::any_marked(&self.marks)
     }
 
     // The verdict of a level that is held.
     pub(crate) fn level_verdict(&self) -> Verdict
-        ensures { result ≡ level_verdict self.now }
+        ensures { result ≡ level_verdict self.now.state }
     {
         if 1 <= self.superstep && !self.is_changing() {
             return Verdict::Stable;
@@ -333,7 +342,7 @@ impl Snapshot {
 
     // The verdict, as it is read off what the replica has.
     fn found_verdict(&self) -> Option<Verdict>
-        ensures { result ≡ found_verdict self.now }
+        ensures { result ≡ found_verdict self.now.state }
     {
         match self.missing() {
             Some(_) => None,
@@ -341,14 +350,15 @@ impl Snapshot {
         }
     }
 
-    /// What the replica has now, copied.
-    pub(crate) fn copied(&self, alloc: Global) -> Result<Snapshot, AllocError>
-        ensures { IfOk result (λ s. s ≡ self.now) }
+    /// The same, copied: without room for later sums, and without accumulators where each equals its row.
+    pub(crate) fn copied(&self, alloc: Global, touched: &[bool]) -> Result<Progress, AllocError>
+        requires { AreTouched self.now.state.rows self.now.state.accumulated touched.now }
+        ensures { IfOk result (λ s. s.state ≡ self.now.state) }
     {
         let part = Arc::try_clone(&self.part)?;
         let early = self.early.share(alloc)?;
-        let tables = self.copied_tables(alloc)?;
-        Ok(Snapshot {
+        let tables = self.copied_tables(alloc, touched)?;
+        Ok(Progress {
             part,
             superstep: self.superstep,
             rows: tables.rows,
@@ -363,28 +373,24 @@ impl Snapshot {
     }
 
     // The tables, copied.
-    fn copied_tables(&self, alloc: Global) -> Result<Tables, AllocError>
+    fn copied_tables(&self, alloc: Global, touched: &[bool]) -> Result<Tables, AllocError>
+        requires { AreTouched self.now.state.rows self.now.state.accumulated touched.now }
         ensures rows { IfOk result (λ t. t.rows ≡
-            record { width = 2 ^ self.now.part.plan.log2m; rows = self.now.rows }) }
-        ensures marks { IfOk result (λ t. t.marks.items ≡ self.now.marks) }
-        ensures tallies { IfOk result (λ t. map value_of t.tallies.items ≡ self.now.tallies) }
-        ensures sums { IfOk result (λ t. t.sums.items ≡ self.now.sums) }
-        ensures room { IfOk result (λ t. self.now.part.plan.limit + 1 ≤ vec_capacity t.sums) }
-        ensures width { IfOk result (λ t. t.accumulated.width ≡ 2 ^ self.now.part.plan.log2m) }
+            record { width = 2 ^ self.now.state.part.plan.log2m; rows = self.now.state.rows }) }
+        ensures marks { IfOk result (λ t. t.marks.items ≡ self.now.state.marks) }
+        ensures tallies { IfOk result (λ t. map value_of t.tallies.items ≡ self.now.state.tallies) }
+        ensures sums { IfOk result (λ t. t.sums.items ≡ self.now.state.sums) }
+        ensures width { IfOk result (λ t.
+            t.accumulated.width ≡ 2 ^ self.now.state.part.plan.log2m) }
         ensures accumulated { IfOk result (λ t.
-            accumulators_of self.now.rows t.accumulated.rows ≡ self.now.accumulated) }
-        ensures kept { IfOk result (λ t. HasAccumulators self.now t.accumulated.rows) }
-        ensures state { IsState self.now }
+            accumulators_of self.now.state.rows t.accumulated.rows ≡ self.now.state.accumulated) }
+        ensures kept { IfOk result (λ t. (length t.accumulated.rows ≡ length self.now.state.rows) ⊎
+            (t.accumulated.rows ≡ [])) }
+        ensures state { IsState self.now.state }
     {
-        let limit = self.part.plan().limit();
-        let (rows, accumulated) = copy_both(alloc, &self.rows, &self.accumulated)?;
-        let (marks, tallies, sums) = copy_figures(
-            alloc,
-            limit,
-            &self.marks,
-            &self.tallies,
-            &self.sums,
-        )?;
+        let rows = copy_rows(alloc, &self.rows)?;
+        let accumulated = copy_touched(alloc, &self.accumulated, touched)?;
+        let (marks, tallies, sums) = copy_figures(alloc, &self.marks, &self.tallies, &self.sums)?;
         Ok(Tables {
             rows,
             accumulated,
@@ -395,33 +401,32 @@ impl Snapshot {
     }
 }
 
-// The same rows and accumulators, each in a buffer of their own.
-fn copy_both(alloc: Global, rows: &Rows, accumulated: &Rows) -> Result<(Rows, Rows), AllocError>
-    ensures { IfOk result (λ both. (both.0 ≡ rows.now) × (both.1 ≡ accumulated.now)) }
+// The same accumulators in a buffer of their own, or none where no row is touched.
+fn copy_touched(alloc: Global, accumulated: &Rows, touched: &[bool]) -> Result<Rows, AllocError>
+    ensures width { IfOk result (λ copy. copy.width ≡ accumulated.now.width) }
+    ensures rows { IfOk result (λ copy. copy.rows ≡
+        (if list_any (λ mark. mark) touched.now then accumulated.now.rows else [])) }
 {
-    let copy = copy_rows(alloc, rows)?;
-    let other = copy_rows(alloc, accumulated)?;
-    Ok((copy, other))
+    if level::any_marked(touched) {
+        return copy_rows(alloc, accumulated);
+    }
+    Rows::fixed(alloc, 0, accumulated.width() as u16)
 }
 
-// The same marks, figures and sums, with room for a sum a superstep up to the limit.
+// The same marks, figures and sums.
 fn copy_figures(
     alloc: Global,
-    limit: u32,
     marks: &[bool],
     tallies: &[Tally],
     sums: &[u128],
 ) -> Result<(Vec<bool>, Vec<Tally>, Vec<u128>), AllocError>
-    requires { length sums.now ≤ limit + 1 }
     ensures marks { IfOk result (λ copy. copy.0.items ≡ marks.now) }
     ensures tallies { IfOk result (λ copy. copy.1.items ≡ tallies.now) }
     ensures sums { IfOk result (λ copy. copy.2.items ≡ sums.now) }
-    ensures room { IfOk result (λ copy. limit + 1 ≤ vec_capacity copy.2) }
 {
-    let mut copy = Vec::with_capacity(alloc, limit as usize + 1)?;
-    refill(&mut copy, sums);
-    let figures = Vec::from_slice(alloc, tallies)?;
-    Ok((Vec::from_slice(alloc, marks)?, figures, copy))
+    let sums = Vec::from_slice(alloc, sums)?;
+    let tallies = Vec::from_slice(alloc, tallies)?;
+    Ok((Vec::from_slice(alloc, marks)?, tallies, sums))
 }
 
 // The same rows in a buffer of their own.

@@ -7,10 +7,11 @@ ghost use Rattle.ball_model.specs.PlanValue.{IsPlan, greatest_limit, measure_of}
 ghost use Rattle.figures.specs.Values.{value_of};
 ghost use Rattle.replica.specs.Kept.{AreCounters};
 ghost use Rattle.replica.specs.Level.{total_of};
+ghost use Rattle.replica.specs.Progress.{CanGoOn};
 ghost use Rattle.replica.specs.Start.{Starts, first_figures, first_row, first_rows};
 
 use crate::early::Early;
-use crate::{Snapshot, level, shown};
+use crate::{Progress, level, shown};
 use ball_model::{Plan, mix, place};
 use edgelist::Part;
 use figures::{Estimator, Tally};
@@ -18,7 +19,7 @@ use registers::{Rows, SourceMask};
 use std::alloc::{AllocError, Global};
 use std::sync::Arc;
 
-/// What a snapshot has for each vertex, and the sums of all supersteps: what takes memory beside its part and batches.
+/// What a replica has for each vertex, and the sums of all supersteps: what takes memory beside its part and batches.
 #[derive(Drop)]
 pub struct Tables {
     pub rows: Rows,
@@ -159,9 +160,10 @@ fn start_tables(alloc: Global, part: &Part, estimator: &Estimator) -> Result<Tab
 }
 
 /// What a replica of the part begins with, at superstep 0.
-pub fn first(alloc: Global, part: Arc<Part>, estimator: &Estimator) -> Result<Snapshot, AllocError>
+pub fn first(alloc: Global, part: Arc<Part>, estimator: &Estimator) -> Result<Progress, AllocError>
     requires { estimator.now ≡ measure_of (arc_value part).plan }
-    ensures { IfOk result (λ r. Starts (arc_value part) r) }
+    ensures starts { IfOk result (λ r. Starts (arc_value part) r.state) }
+    ensures goes_on { IfOk result (λ r. CanGoOn r) }
 {
     let plan = part.plan();
     // the limits of a part are told with its number
@@ -169,7 +171,7 @@ pub fn first(alloc: Global, part: Arc<Part>, estimator: &Estimator) -> Result<Sn
     let early = Early::empty(alloc, plan.parts())?;
     let tables = start_tables(alloc, &part, estimator)?;
     let heard = SourceMask::empty();
-    Ok(Snapshot {
+    Ok(Progress {
         part,
         superstep: 0,
         rows: tables.rows,

@@ -15,11 +15,12 @@ ghost use Rattle.replica.specs.Level.{differences, found_close, is_over, next_ta
 ghost use Rattle.replica.specs.Change.{Advances, Receives, take_answer};
 ghost use Rattle.replica.specs.Index.{targets_of};
 ghost use Rattle.replica.specs.Spread.{AreTouched, LeadInside};
+ghost use Rattle.replica.specs.Progress.{CanGoOn};
 ghost use Rattle.replica.specs.Seen.{HasIndex, IsState};
 
 use crate::spread::spread_own;
 use crate::targets::Targets;
-use crate::{Shown, Snapshot, level};
+use crate::{Progress, Shown, level};
 use ball_model::{CloseError, Plan, TakeError, Taken, Verdict};
 use batches::Batch;
 use edgelist::Part;
@@ -27,10 +28,10 @@ use figures::{Estimator, Tally};
 use registers::{Rows, SourceMask};
 use std::sync::Arc;
 
-impl Snapshot {
+impl Progress {
     /// The answer to a batch.
     pub(crate) fn answer(&self, batch: &Batch) -> Result<Taken, TakeError>
-        ensures { result ≡ take_answer self.now batch.now }
+        ensures { result ≡ take_answer self.now.state batch.now }
     {
         let name = batch.name();
         if !is_same(self.plan(), batch.plan()) {
@@ -57,13 +58,15 @@ impl Snapshot {
 
     /// Holds a batch from now on: one of the superstep is heard, a later one is kept.
     pub(crate) fn receive(&mut self, targets: &Targets, touched: &mut [bool], batch: Arc<Batch>)
-        requires new { take_answer self.old (arc_value batch) ≡ Ok taken.New }
+        requires new { take_answer self.old.state (arc_value batch) ≡ Ok taken.New }
         requires batch { IsBatch (arc_value batch) }
-        requires index { HasIndex self.old targets.now }
-        requires touched { AreTouched self.old.rows self.old.accumulated touched.old }
-        ensures receives { Receives (arc_value batch) self.old self.new }
-        ensures over { is_over self.old ≡ true → is_over self.new ≡ true }
-        ensures touched { AreTouched self.new.rows self.new.accumulated touched.new }
+        requires index { HasIndex self.old.state targets.now }
+        requires goes_on { CanGoOn self.old }
+        requires touched { AreTouched self.old.state.rows self.old.state.accumulated touched.old }
+        ensures receives { Receives (arc_value batch) self.old.state self.new.state }
+        ensures goes_on { CanGoOn self.new }
+        ensures over { is_over self.old.state ≡ true → is_over self.new.state ≡ true }
+        ensures touched { AreTouched self.new.state.rows self.new.state.accumulated touched.new }
     {
         let name = batch.name();
         if name.superstep == self.superstep {
@@ -88,14 +91,16 @@ impl Snapshot {
         estimator: &Estimator,
         touched: &mut [bool],
     ) -> Result<u32, CloseError>
-        requires measure { estimator.now ≡ measure_of self.old.part.plan }
-        requires index { HasIndex self.old targets.now }
-        requires touched { AreTouched self.old.rows self.old.accumulated touched.old }
-        ensures exact { result ≡ found_close self.old }
-        ensures refused { OnErr result (self.new ≡ self.old) }
-        ensures advances { OnOk result (Advances self.old self.new) }
-        ensures touched { AreTouched self.new.rows self.new.accumulated touched.new }
-        ensures state { IsState self.old }
+        requires measure { estimator.now ≡ measure_of self.old.state.part.plan }
+        requires index { HasIndex self.old.state targets.now }
+        requires goes_on { CanGoOn self.old }
+        requires touched { AreTouched self.old.state.rows self.old.state.accumulated touched.old }
+        ensures exact { result ≡ found_close self.old.state }
+        ensures refused { OnErr result (self.new.state ≡ self.old.state) }
+        ensures advances { OnOk result (Advances self.old.state self.new.state) }
+        ensures goes_on { CanGoOn self.new }
+        ensures touched { AreTouched self.new.state.rows self.new.state.accumulated touched.new }
+        ensures state { IsState self.old.state }
     {
         let next = self.superstep() + 1;
         match self.missing() {
@@ -112,9 +117,11 @@ impl Snapshot {
 
     /// Lets the accumulators go where the run is over and each of them equals its row.
     pub(crate) fn settle(&mut self, touched: &[bool])
-        requires over { is_over self.old ≡ true }
-        requires touched { AreTouched self.old.rows self.old.accumulated touched.now }
-        ensures { self.new ≡ self.old }
+        requires over { is_over self.old.state ≡ true }
+        requires goes_on { CanGoOn self.old }
+        requires touched { AreTouched self.old.state.rows self.old.state.accumulated touched.now }
+        ensures same { self.new.state ≡ self.old.state }
+        ensures goes_on { CanGoOn self.new }
     {
         if !level::any_marked(touched) {
             self.accumulated.clear();
@@ -123,7 +130,7 @@ impl Snapshot {
 
     /// Whether the run is over.
     pub(crate) fn is_over(&self) -> bool
-        ensures { result ≡ is_over self.now }
+        ensures { result ≡ is_over self.now.state }
     {
         match self.missing() {
             Some(_) => false,
@@ -137,13 +144,15 @@ impl Snapshot {
     // One superstep more: what changed in the own partition is heard too, what was accumulated becomes the rows, and
     // the batches of the new superstep are heard.
     fn advance(&mut self, targets: &Targets, estimator: &Estimator, touched: &mut [bool])
-        requires measure { estimator.now ≡ measure_of self.old.part.plan }
-        requires limit { self.old.superstep < self.old.part.plan.limit }
-        requires going { is_over self.old ≡ false }
-        requires index { targets.now ≡ targets_of self.old.part }
-        requires touched { AreTouched self.old.rows self.old.accumulated touched.old }
-        ensures advances { Advances self.old self.new }
-        ensures touched { AreTouched self.new.rows self.new.accumulated touched.new }
+        requires measure { estimator.now ≡ measure_of self.old.state.part.plan }
+        requires limit { self.old.state.superstep < self.old.state.part.plan.limit }
+        requires going { is_over self.old.state ≡ false }
+        requires index { targets.now ≡ targets_of self.old.state.part }
+        requires goes_on { CanGoOn self.old }
+        requires touched { AreTouched self.old.state.rows self.old.state.accumulated touched.old }
+        ensures advances { Advances self.old.state self.new.state }
+        ensures goes_on { CanGoOn self.new }
+        ensures touched { AreTouched self.new.state.rows self.new.state.accumulated touched.new }
     {
         let plan = *self.part.plan();
         next_rows(

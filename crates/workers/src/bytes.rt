@@ -309,8 +309,8 @@ fn write_text<W: CountedWrite>(writer: &mut W, text: &Pages) -> Result<(), RunEr
 /// depend on the schedule, but the report does not: it is that of the input, whatever nodes were lost or started anew.
 ///
 /// Memory is some two times 2^log2m bytes and 32 bytes of figures a vertex and replica, as much for each snapshot that is
-/// kept, 4 bytes a vertex and an edge of the index that says whom an edge leads to, the graph and its parts, and the
-/// report.
+/// kept (or half the registers, where nothing that is heard has raised a row), 4 bytes a vertex and an edge of the index
+/// that says whom an edge leads to, the graph and its parts, and the report.
 pub fn run<T: AllocGlobal + Threads + Wait + Sync, R: CountedRead, W: CountedWrite, G: Gate + Sync>(
     rt: &T,
     state: RandomState,

@@ -428,3 +428,17 @@ fn snapshot_of_held(rt: &HostRuntime) -> Option<[bool; 4]> {
 fn snapshot_tells_its_content(rt: HostRuntime) {
     assert_eq!(rt; snapshot_of_held(&rt), Some([true; 4]));
 }
+
+/// How many accumulators a snapshot of superstep 0 keeps beside its rows, and whether it has less room for sums than
+/// its replica.
+fn snapshot_room(rt: &HostRuntime) -> Option<(usize, bool)> {
+    let mut all = two_edges(rt, 2, 4096)?;
+    let snapshot = snapshot_of(rt, &mut all, 0)?;
+    let known = &snapshot.known;
+    Some((known.accumulated.len(), known.sums.capacity() < 4097))
+}
+
+#[test]
+fn snapshot_takes_little_room(rt: HostRuntime) {
+    assert_eq!(rt; snapshot_room(&rt), Some((0, true)));
+}

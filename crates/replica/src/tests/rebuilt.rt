@@ -24,19 +24,20 @@ fn one_early(rt: &HostRuntime, snapshot: &Snapshot) -> Option<Vec<Arc<Batch>>> {
     Some(early)
 }
 
-/// All that a replica has which keeps one batch of a later superstep.
+/// All that a replica has which keeps one batch of a later superstep, and has heard one that raised a row.
 fn saved_of(rt: &HostRuntime, replica: &mut Replica) -> Option<Saved> {
     let snapshot = replica.snapshot(rt.alloc()).ok()?;
     let early = one_early(rt, &snapshot)?;
+    let known = snapshot.known;
     Some(Saved {
-        superstep: snapshot.superstep,
-        rows: snapshot.rows,
-        marks: snapshot.marks,
-        tallies: snapshot.tallies,
-        sums: snapshot.sums,
-        heard: snapshot.heard,
-        heard_change: snapshot.heard_change,
-        accumulated: snapshot.accumulated,
+        superstep: known.superstep,
+        rows: known.rows,
+        marks: known.marks,
+        tallies: known.tallies,
+        sums: known.sums,
+        heard: known.heard,
+        heard_change: known.heard_change,
+        accumulated: known.accumulated,
         early,
     })
 }

@@ -12,8 +12,8 @@ use Rattle.replica.proofs.Replica.close.Goals as goal
 exact : (c : goal.After-self-1) → c.found_close.result ≡ found_close c.args.self.now
 exact c = c.found_close.ensures.exact ∙ ap found_close c.self.view_is
 
-advances : (c : goal.After-self-1) → OnOk c.found_close.result (Advances c.args.self.now c.found_close.new.self)
-advances c = subst (λ (u : State). OnOk c.found_close.result (Advances u c.found_close.new.self)) c.self.view_is c.found_close.ensures.advances
+advances : (c : goal.After-self-1) → OnOk c.found_close.result (Advances c.args.self.now c.found_close.new.self.state)
+advances c = subst (λ (u : State). OnOk c.found_close.result (Advances u c.found_close.new.self.state)) c.self.view_is c.found_close.ensures.advances
 
 state : (c : goal.After-self-1) → IsState c.args.self.now
 state c = subst (λ (u : State). IsState u) c.self.view_is c.found_close.ensures.state
@@ -34,18 +34,18 @@ returns-clause-superstep c =
 
 pub returns-clause-names : goal.returns-clause-names
 returns-clause-names c =
-    on_ok c.found_close.result (advances c) (λ n ok a s q. advance_holds c.args.self.now c.found_close.new.self a s q)
+    on_ok c.found_close.result (advances c) (λ n ok a s q. advance_holds c.args.self.now c.found_close.new.self.state a s q)
 
 pub returns-clause-answer : goal.returns-clause-answer
 returns-clause-answer c = λ j p t h. exact c ∙ found_close-is j p t c.args.self.now h
 
 pub returns-clause-stands : goal.returns-clause-stands
 returns-clause-stands c = λ j p t h.
-    on_ok c.found_close.result (advances c) (λ n ok a. close_stands j p t n c.args.self.now c.found_close.new.self c.found_close.result h (state c) (exact c) ok a)
+    on_ok c.found_close.result (advances c) (λ n ok a. close_stands j p t n c.args.self.now c.found_close.new.self.state c.found_close.result h (state c) (exact c) ok a)
 
 pub returns-clause-step : goal.returns-clause-step
 returns-clause-step c = λ j p. record {
-  refused = subst (λ (u : State). OnErr c.found_close.result (c.found_close.new.self ≡ u)) c.self.view_is c.found_close.ensures.refused;
+  refused = subst (λ (u : State). OnErr c.found_close.result (c.found_close.new.self.state ≡ u)) c.self.view_is c.found_close.ensures.refused;
   names = returns-clause-names c;
   answer = returns-clause-answer c j p;
   stands = returns-clause-stands c j p;

@@ -14,6 +14,7 @@ invariant_of-result c =
     let is = c.in_ok-known.ensures.fields in
     let plan : c.plan.result.now ≡ part.plan = c.plan.ensures ∙ ap (λ (a : PartValue). a.plan) c.deref-2.ensures in
     record {
+      goes_on = c.in_ok-known.ensures.goes_on;
       index = inl (c.in_ok-targets.ensures ∙ ap targets_of (c.deref.ensures ∙ sym is.part_is));
       touched = rw (is.rows, is.accumulated)
           (touched_from part.plan.log2m (length s.rows.rows) s.rows.rows s.accumulated.rows c.in_ok-touched.touched.items c.requires.rows.rows c.requires.heard.accumulated refl c.in_ok-touched.ensures);
@@ -21,4 +22,4 @@ invariant_of-result c =
     }
 
 pub returns-clause-same : goal.returns-clause-same
-returns-clause-same c = λ v ok is. rebuilt_same (arc_value c.args.part) c.args.saved c.in_ok-known.known v c.in_ok-known.ensures.keepable.state ok c.in_ok-known.ensures.fields is
+returns-clause-same c = λ v ok is. rebuilt_same (arc_value c.args.part) c.args.saved c.in_ok-known.known.state v c.in_ok-known.ensures.keepable.state ok c.in_ok-known.ensures.fields is

@@ -13,8 +13,8 @@ returns-in-Ok-New-clause-step c =
     let b = arc_value c.args.batch in
     let f : c.in-Ok-New.field-0 ≡ taken.New = rw c.in-Ok-New.is at c.in-Ok-New.field-0-is in
     let e : c.answer-answer.result ≡ take_of v.part.plan v.part.number (content_of v) b.plan b.name = rw (← c.self.view_is, ← c.deref.ensures) c.answer-answer.ensures in
-    let r : Receives b v c.receive.new.self = subst (λ (u : State). Receives b u c.receive.new.self) c.self.view_is c.receive.ensures.receives in
-    takes v c.receive.new.self b c.answer-answer.result e (rw (c.in-Ok-New.is, f) r.names) r.stands
+    let r : Receives b v c.receive.new.self.state = subst (λ (u : State). Receives b u c.receive.new.self.state) c.self.view_is c.receive.ensures.receives in
+    takes v c.receive.new.self.state b c.answer-answer.result e (rw (c.in-Ok-New.is, f) r.names) r.stands
 
 -- where it is not New, the names are as before
 pub returns-in_default-clause-names : goal.returns-in_default-clause-names

@@ -3,10 +3,10 @@ use Rattle.std.specs.Arc.{arc_value}
 use Rattle.ball_model.specs.Job.{PartValue, IsPart}
 use Rattle.ball_model.specs.PlanValue.{PlanValue}
 use Rattle.ball_model.specs.State.{State}
-use Rattle.replica.specs.declared.Snapshot.TheInside as snapshot
+use Rattle.replica.specs.declared.Progress.TheInside as progress
 use Rattle.replica.specs.Kept.{AreEarly}
 use Rattle.replica.specs.Saved.{IsKeepable, IsRebuilt}
-use Rattle.replica.proofs.AccumulatorLemmas.{fields_are, kept_snapshot}
+use Rattle.replica.proofs.AccumulatorLemmas.{can_go_on, fields_are, kept_progress}
 use Rattle.replica.proofs.SavedLemmas.{rebuilt_state, rebuilt_with, state_with}
 use Rattle.replica.proofs.rebuild.known.Goals as goal
 
@@ -18,11 +18,15 @@ invariant_of-result c =
     let own : IsPart part = subst (λ (a : PartValue). IsPart a) c.deref-2.ensures c.partition.ensures.part in
     let early : AreEarly part.plan part.number s.superstep c.in_ok-early.early = subst (λ (a : PartValue). AreEarly a.plan a.number s.superstep c.in_ok-early.early) c.deref-4.ensures c.in_ok-early.ensures.early in
     let is = rebuilt_with part s c.in_ok-sums.sums.items c.in_ok-early.early (c.in_ok-sums.ensures.sums ∙ c.deref-3.ensures.value) (c.in_ok-early.ensures.batches ∙ ap (map arc_value) c.deref-5.ensures.value) in
-    kept_snapshot _ (rebuilt_state part s (state_with part s c.in_ok-sums.sums.items c.in_ok-early.early) own c.requires is early) c.requires.rows.width c.requires.heard.width
-    (omega (arith, c.in_ok-sums.ensures.room, c.limit.ensures.value, ap (λ (a : PlanValue). a.limit) plan))
+    kept_progress _ (rebuilt_state part s (state_with part s c.in_ok-sums.sums.items c.in_ok-early.early) own c.requires is early) c.requires.rows.width c.requires.heard.width
 
-abbrev made : goal.After-drop-saved-3 → snapshot.Inside
+abbrev made : goal.After-drop-saved-3 → progress.Inside
 made c = record { part = c.args.part; superstep = c.args.saved.superstep; rows = c.args.saved.rows; marks = c.args.saved.marks; tallies = c.args.saved.tallies; sums = c.in_ok-sums.sums; heard = c.args.saved.heard; heard_change = c.args.saved.heard_change; accumulated = c.args.saved.accumulated; early = c.in_ok-early.early }
+
+pub returns-clause-goes_on : goal.returns-clause-goes_on
+returns-clause-goes_on c =
+    let plan : c.plan-plan.result.now ≡ (arc_value c.args.part).plan = c.plan-plan.ensures ∙ ap (λ (a : PartValue). a.plan) c.deref.ensures in
+    can_go_on (made c) c.requires.heard.accumulated.count (omega (arith, c.in_ok-sums.ensures.room, c.limit.ensures.value, ap (λ (a : PlanValue). a.limit) plan))
 
 pub returns-clause-fields : goal.returns-clause-fields
 returns-clause-fields c =

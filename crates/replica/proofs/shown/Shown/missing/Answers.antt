@@ -4,6 +4,7 @@ use Rattle.ball_model.specs.PlanValue.{PlanValue}
 use Rattle.ball_model.specs.Job.{PartValue}
 use Rattle.ball_model.specs.Content.{missing_of}
 use Rattle.ball_model.specs.State.{State, content_of}
+use Rattle.replica.proofs.AccumulatorLemmas.{state_is}
 use Rattle.replica.proofs.AdvanceLemmas.{missing_is}
 use Rattle.replica.proofs.shown.Shown.missing.Goals as goal
 
@@ -14,4 +15,4 @@ returns g c =
     let number : c.partition.result ≡ (arc_value c.s.inside.part).number = c.partition.ensures.value ∙ ap (λ (a : PartValue). a.number) c.deref-2.ensures in
     c.least_missing.ensures
     ∙ rw (parts, number) (missing_is (arc_value c.s.inside.part).plan.parts (arc_value c.s.inside.part).number c.s.inside.superstep c.s.inside.heard c.s.inside.early)
-    ∙ ap (λ (v : State). missing_of v.part.plan.parts v.part.number (content_of v)) c.s.view_is)
+    ∙ ap (λ (v : State). missing_of v.part.plan.parts v.part.number (content_of v)) (state_is c.s.view_is))

@@ -6,6 +6,7 @@ use Rattle.figures.specs.declared.tally.Tally.{Tally}
 use Rattle.figures.specs.Values.{value_of}
 use Rattle.replica.specs.Level.{nothing}
 use Rattle.replica.specs.Seen.{IsState}
+use Rattle.replica.proofs.AccumulatorLemmas.{state_is}
 use Rattle.replica.proofs.ReadLemmas.{tally_stands, length-tallies}
 use Rattle.replica.proofs.shown.Shown.tally.Goals as goal
 
@@ -18,9 +19,9 @@ at_place v tallies x place found state are at below is =
 
 pub returns-clause-value : goal.returns-clause-value
 returns-clause-value g c =
-    rw (← c.shown-s.ensures) (at_place c.shown-s.result.now c.s.inside.tallies.items c.args.x c.place.result c.index.result.now c.place.ensures.state (ap (λ (v : State). v.tallies) c.s.view_is) c.place.ensures.value c.place.ensures.below c.index.ensures)
+    rw (← c.shown-s.ensures) (at_place c.shown-s.result.now.state c.s.inside.tallies.items c.args.x c.place.result c.index.result.now c.place.ensures.state (ap (λ (v : State). v.tallies) (state_is c.s.view_is)) c.place.ensures.value c.place.ensures.below c.index.ensures)
 
 pub returns-clause-stands : goal.returns-clause-stands
 returns-clause-stands g c = rw (← c.shown-s.ensures) (λ j p t h.
-    at_place c.shown-s.result.now c.s.inside.tallies.items c.args.x c.place.result c.index.result.now c.place.ensures.state (ap (λ (v : State). v.tallies) c.s.view_is) c.place.ensures.value c.place.ensures.below c.index.ensures
-    ∙ tally_stands j p t c.args.x c.shown-s.result.now h c.place.ensures.state (rw (← c.shown-s.ensures) at c.requires.vertex) (rw (← c.shown-s.ensures) at c.requires.own))
+    at_place c.shown-s.result.now.state c.s.inside.tallies.items c.args.x c.place.result c.index.result.now c.place.ensures.state (ap (λ (v : State). v.tallies) (state_is c.s.view_is)) c.place.ensures.value c.place.ensures.below c.index.ensures
+    ∙ tally_stands j p t c.args.x c.shown-s.result.now.state h c.place.ensures.state (rw (← c.shown-s.ensures) at c.requires.vertex) (rw (← c.shown-s.ensures) at c.requires.own))

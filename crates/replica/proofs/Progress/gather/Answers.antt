@@ -5,23 +5,23 @@ use Rattle.ball_model.specs.Table.{Table}
 use Rattle.ball_model.specs.State.{State, early_at}
 use Rattle.replica.specs.Ahead.{IsTable, either}
 use Rattle.replica.specs.Index.{targets_of}
-use Rattle.replica.specs.Seen.{IsState, IsSnapshot, state_of}
+use Rattle.replica.specs.Seen.{IsState, IsProgress, state_of}
 use Rattle.replica.specs.Spread.{AreTouched}
-use Rattle.replica.specs.declared.Snapshot.TheInside as snapshot
-use Rattle.replica.proofs.AccumulatorLemmas.{fields_of, fields_are, kept_snapshot}
+use Rattle.replica.specs.declared.Progress.TheInside as progress
+use Rattle.replica.proofs.AccumulatorLemmas.{can_go_on, fields_are, fields_of, had_room, kept_progress, state_is}
 use Rattle.replica.proofs.AdvanceLemmas.{same_early}
 use Rattle.replica.proofs.HearLemmas.{hears_as, hears_same}
 use Rattle.replica.proofs.MergeLemmas.{Meets, meets, Gathers, gathers_state, absorbs_lesser, absorbs_as, shifted_told}
 use Rattle.replica.proofs.StateLemmas.{inside_of}
-use Rattle.replica.proofs.Snapshot.gather.Goals as goal
-use Rattle.replica.proofs.Snapshot.gather.Goals.{After-other, After-fill}
+use Rattle.replica.proofs.Progress.gather.Goals as goal
+use Rattle.replica.proofs.Progress.gather.Goals.{After-other, After-fill}
 
 -- the two, and what is shared
 pair : (c : After-other) → Meets (state_of c.self.inside) (state_of c.other.inside) c.args.shared.now
-pair c = meets (state_of c.self.inside) (state_of c.other.inside) c.args.self.now c.args.other.now c.args.shared.now c.self.invariant.state c.other.invariant.state c.self.view_is c.other.view_is c.requires.plan c.requires.number c.requires.shared
+pair c = meets (state_of c.self.inside) (state_of c.other.inside) c.args.self.now.state c.args.other.now.state c.args.shared.now c.self.invariant.state c.other.invariant.state (state_is c.self.view_is) (state_is c.other.view_is) c.requires.plan c.requires.number c.requires.shared
 
 -- the fields in the end
-abbrev after : After-fill → snapshot.Inside
+abbrev after : After-fill → progress.Inside
 after c = record c.self.inside {
   heard = c.hear_early.new.heard;
   heard_change = c.hear_early.new.heard_change;
@@ -34,9 +34,9 @@ gathers c m =
     let s = state_of c.self.inside in
     let o = state_of c.other.inside in
     let own : c.plan.result.now ≡ s.part.plan = c.plan.ensures ∙ ap (λ (a : PartValue). a.plan) c.deref.ensures in
-    let index : c.args.targets.now ≡ targets_of s.part = c.requires.index ∙ ap (λ (v : State). targets_of v.part) (sym c.self.view_is) in
+    let index : c.args.targets.now ≡ targets_of s.part = c.requires.index ∙ ap (λ (v : State). targets_of v.part) (sym (state_is c.self.view_is)) in
     let gap = s.superstep - o.superstep - 1 in
-    let lt : o.superstep < s.superstep = omega (arith, c.requires.further, ap (λ (v : State). v.superstep) c.self.view_is, ap (λ (v : State). v.superstep) c.other.view_is) in
+    let lt : o.superstep < s.superstep = omega (arith, c.requires.further, ap (λ (v : State). v.superstep) (state_is c.self.view_is), ap (λ (v : State). v.superstep) (state_is c.other.view_is)) in
     let told : (i k : ℕ) → early_at c.shift.new.self i k ≡ early_at o.early (i + gap) k =
     λ i k. shifted_told s.part.plan.parts c.args.shared.now c.shift.new.self gap c.gap.result m.table c.gap.ensures c.shift.ensures.kept i k ∙ ap (λ e. early_at e (i + gap) k) m.early in
     let zero_on : 0 + gap ≡ gap = omega arith in
@@ -55,7 +55,7 @@ state_after c m = gathers_state (state_of c.self.inside) (state_of c.other.insid
 
 pub hear_early-requires-clause-inside : goal.hear_early-requires-clause-inside
 hear_early-requires-clause-inside c =
-    inside_of (state_of c.self.inside) c.args.targets.now (length c.renew.new.accumulated.rows) c.self.invariant.state (c.requires.index ∙ ap (λ (v : State). targets_of v.part) (sym c.self.view_is)) (ap (λ (t : Table). length t.rows) c.in_ok-renew.ensures.rows)
+    inside_of (state_of c.self.inside) c.args.targets.now (length c.renew.new.accumulated.rows) c.self.invariant.state (c.requires.index ∙ ap (λ (v : State). targets_of v.part) (sym (state_is c.self.view_is))) (ap (λ (t : Table). length t.rows) c.in_ok-renew.ensures.rows)
 
 pub hear_early-requires-clause-table : goal.hear_early-requires-clause-table
 hear_early-requires-clause-table c =
@@ -72,21 +72,25 @@ fill-requires c = λ n is.
     subst (λ k. IsTable k c.shift-2.new.self) same (c.shift-2.ensures.table s.part.plan.parts (c.shift.ensures.table s.part.plan.parts m.table))
 
 pub invariant_of-self : goal.invariant_of-self
-invariant_of-self c = subst (λ (t : Table). IsSnapshot (record c.self.inside { accumulated = t })) (sym c.in_err-renew.ensures.refused) c.self.invariant
+invariant_of-self c = subst (λ (t : Table). IsProgress (record c.self.inside { accumulated = t })) (sym c.in_err-renew.ensures.refused) c.self.invariant
 
 pub invariant_of-self-2 : goal.invariant_of-self-2
 invariant_of-self-2 c =
     let m = pair (goal.at.invariant_of-self-2 c).After-other in
-    kept_snapshot (after c) (state_after c m) c.self.invariant.width
+    kept_progress (after c) (state_after c m) c.self.invariant.width
     (c.hear_early.ensures.width ∙ ap (λ (t : Table). t.width) c.in_ok-renew.ensures.rows ∙ c.self.invariant.accumulated_width)
-    c.self.invariant.room
+
+pub returns-clause-goes_on : goal.returns-clause-goes_on
+returns-clause-goes_on c =
+    let m = pair (goal.at.returns-clause-goes_on c).After-other in
+    can_go_on (after c) (state_after c m).accumulated.count (had_room c.self.inside c.args.self.now c.self.view_is c.requires.goes_on)
 
 pub returns-clause-absorbs : goal.returns-clause-absorbs
 returns-clause-absorbs c =
     let s = state_of c.self.inside in
     let o = state_of c.other.inside in
     let m = pair (goal.at.returns-clause-absorbs c).After-other in
-    absorbs_as s o (fields_of (after c)) c.args.self.now c.args.other.now (state_of (after c)) c.self.view_is c.other.view_is (fields_are (after c) (state_after c m).accumulated.count)
+    absorbs_as s o (fields_of (after c)) c.args.self.now.state c.args.other.now.state (state_of (after c)) (state_is c.self.view_is) (state_is c.other.view_is) (fields_are (after c) (state_after c m).accumulated.count)
     (absorbs_lesser s.part.plan.log2m s o (fields_of (after c)) (gathers c m) refl)
 
 pub returns-clause-touched : goal.returns-clause-touched
@@ -94,6 +98,6 @@ returns-clause-touched c =
     let s = state_of c.self.inside in
     let m = pair (goal.at.returns-clause-touched c).After-other in
     let own_rows : c.renew.new.accumulated.rows ≡ s.accumulated = ap (λ (t : Table). t.rows) c.in_ok-renew.ensures.rows in
-    let mine : AreTouched s.rows s.accumulated c.args.touched.now = subst (λ (v : State). AreTouched v.rows v.accumulated c.args.touched.now) (sym c.self.view_is) c.requires.touched in
+    let mine : AreTouched s.rows s.accumulated c.args.touched.now = subst (λ (v : State). AreTouched v.rows v.accumulated c.args.touched.now) (sym (state_is c.self.view_is)) c.requires.touched in
     let here : AreTouched s.rows c.hear_early.new.accumulated.rows c.hear_early.new.touched = c.hear_early.ensures.touched s.rows (subst (λ (l : List (List ℕ)). AreTouched s.rows l c.args.touched.now) (sym own_rows) mine) in
     subst (λ (w : State). AreTouched w.rows w.accumulated c.hear_early.new.touched) (fields_are (after c) (state_after c m).accumulated.count) here

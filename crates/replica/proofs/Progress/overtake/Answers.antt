@@ -9,35 +9,35 @@ use Rattle.figures.specs.Values.{value_of}
 use Rattle.replica.specs.Ahead.{IsTable, either}
 use Rattle.replica.specs.Index.{targets_of}
 use Rattle.replica.specs.Level.{differences}
-use Rattle.replica.specs.Seen.{IsState, IsSnapshot, state_of}
+use Rattle.replica.specs.Seen.{IsState, IsProgress, state_of}
 use Rattle.replica.specs.Spread.{AreTouched}
-use Rattle.replica.specs.declared.Snapshot.TheInside as snapshot
-use Rattle.replica.proofs.AccumulatorLemmas.{fields_of, fields_are, kept_snapshot}
+use Rattle.replica.specs.declared.Progress.TheInside as progress
+use Rattle.replica.proofs.AccumulatorLemmas.{can_go_on, fields_are, fields_of, had_room, kept_progress, state_is}
 use Rattle.replica.proofs.AdvanceLemmas.{same_early}
 use Rattle.replica.proofs.HearLemmas.{hears_as, hears_same}
 use Rattle.replica.proofs.MergeLemmas.{Meets, meets, Gathers, gathers_state, absorbs_further, absorbs_as, touched_from, shifted_told}
 use Rattle.replica.proofs.ReadLemmas.{length-tallies}
 use Rattle.replica.proofs.StateLemmas.{inside_of}
-use Rattle.replica.proofs.Snapshot.overtake.Goals as goal
-use Rattle.replica.proofs.Snapshot.overtake.Goals.{After-other, After-copy_shown, After-fill}
+use Rattle.replica.proofs.Progress.overtake.Goals as goal
+use Rattle.replica.proofs.Progress.overtake.Goals.{After-other, After-copy_shown, After-fill}
 
 -- the two, and what is shared
 pair : (c : After-other) → Meets (state_of c.self.inside) (state_of c.other.inside) c.args.shared.now
-pair c = meets (state_of c.self.inside) (state_of c.other.inside) c.args.self.now c.args.other.now c.args.shared.now c.self.invariant.state c.other.invariant.state c.self.view_is c.other.view_is c.requires.plan c.requires.number c.requires.shared
+pair c = meets (state_of c.self.inside) (state_of c.other.inside) c.args.self.now.state c.args.other.now.state c.args.shared.now c.self.invariant.state c.other.invariant.state (state_is c.self.view_is) (state_is c.other.view_is) c.requires.plan c.requires.number c.requires.shared
 
 -- the accumulators of the other one
 theirs_are : (c : After-other) → c.args.theirs.now.rows ≡ (state_of c.other.inside).accumulated
-theirs_are c = c.requires.theirs ∙ sym (ap (λ (v : State). v.accumulated) c.other.view_is)
+theirs_are c = c.requires.theirs ∙ sym (ap (λ (v : State). v.accumulated) (state_is c.other.view_is))
 
 taken : (c : After-copy_shown) → c.args.theirs.now.rows ≡ (state_of c.other.inside).accumulated → c.replace.new.accumulated.rows ≡ (state_of c.other.inside).accumulated
 taken c are = ap (λ (t : Table). t.rows) c.in_ok-replace.ensures.rows ∙ are
 
 -- its rows
 copied : (c : After-copy_shown) → c.copy_shown.new.rows.rows ≡ (state_of c.other.inside).rows
-copied c = c.copy_shown.ensures.rows ∙ sym (ap (λ (v : State). v.rows) c.other.view_is)
+copied c = c.copy_shown.ensures.rows ∙ sym (ap (λ (v : State). v.rows) (state_is c.other.view_is))
 
 -- the fields in the end
-abbrev after : After-fill → snapshot.Inside
+abbrev after : After-fill → progress.Inside
 after c = record {
   part = c.self.inside.part;
   superstep = c.other.inside.superstep;
@@ -54,7 +54,7 @@ after c = record {
 pub replace-requires-clause-width : goal.replace-requires-clause-width
 replace-requires-clause-width c =
     let m = pair (goal.at.replace-requires-clause-width c).After-other in
-    c.requires.width ∙ ap (λ (v : State). 2 ^ v.part.plan.log2m) (sym c.other.view_is) ∙ ap (λ (a : PlanValue). 2 ^ a.log2m) (sym m.plan) ∙ sym c.self.invariant.accumulated_width
+    c.requires.width ∙ ap (λ (v : State). 2 ^ v.part.plan.log2m) (sym (state_is c.other.view_is)) ∙ ap (λ (a : PlanValue). 2 ^ a.log2m) (sym m.plan) ∙ sym c.self.invariant.accumulated_width
 
 pub replace-requires-clause-count : goal.replace-requires-clause-count
 replace-requires-clause-count c =
@@ -63,7 +63,7 @@ replace-requires-clause-count c =
     let m = pair g.After-other in
     elim c.self.invariant.kept [
       | inl all ↦ inl (all ∙ sym m.mine.accumulated.count ∙ m.count ∙ sym (ap (length {A = List ℕ}) (theirs_are g.After-other)))
-      | inr gone ↦ inr gone.0
+      | inr gone ↦ inr gone
     ]
 
 pub copy_shown-requires-clause-tallies : goal.copy_shown-requires-clause-tallies
@@ -71,14 +71,14 @@ copy_shown-requires-clause-tallies c =
     let s = state_of c.self.inside in
     let o = state_of c.other.inside in
     let m = pair (goal.at.copy_shown-requires-clause-tallies c).After-other in
-    omega (arith, c.self.inside.tallies.ok.0, length-tallies s m.mine, length-tallies o m.theirs, length-map c.self.inside.tallies.items value_of, m.size, ap (λ (v : State). length v.tallies) c.other.view_is)
+    omega (arith, c.self.inside.tallies.ok.0, length-tallies s m.mine, length-tallies o m.theirs, length-map c.self.inside.tallies.items value_of, m.size, ap (λ (v : State). length v.tallies) (state_is c.other.view_is))
 
 pub hear_early-requires-clause-inside : goal.hear_early-requires-clause-inside
 hear_early-requires-clause-inside c =
     let s = state_of c.self.inside in
     let g = goal.at.hear_early-requires-clause-inside c in
     let m = pair g.After-other in
-    let index : c.args.targets.now ≡ targets_of s.part = c.requires.index ∙ ap (λ (v : State). targets_of v.part) (sym c.self.view_is) in
+    let index : c.args.targets.now ≡ targets_of s.part = c.requires.index ∙ ap (λ (v : State). targets_of v.part) (sym (state_is c.self.view_is)) in
     inside_of s c.args.targets.now (length c.replace.new.accumulated.rows) m.mine index (ap (length {A = List ℕ}) (taken g.After-copy_shown (theirs_are g.After-other)) ∙ sym m.count)
 
 pub hear_early-requires-clause-table : goal.hear_early-requires-clause-table
@@ -100,9 +100,9 @@ gathers c m accumulated =
     let s = state_of c.self.inside in
     let o = state_of c.other.inside in
     let own : c.plan.result.now ≡ s.part.plan = c.plan.ensures ∙ ap (λ (a : PartValue). a.plan) c.deref.ensures in
-    let index : c.args.targets.now ≡ targets_of s.part = c.requires.index ∙ ap (λ (v : State). targets_of v.part) (sym c.self.view_is) in
+    let index : c.args.targets.now ≡ targets_of s.part = c.requires.index ∙ ap (λ (v : State). targets_of v.part) (sym (state_is c.self.view_is)) in
     let gap = o.superstep - s.superstep - 1 in
-    let lt : s.superstep < o.superstep = omega (arith, c.requires.further, ap (λ (v : State). v.superstep) c.self.view_is, ap (λ (v : State). v.superstep) c.other.view_is) in
+    let lt : s.superstep < o.superstep = omega (arith, c.requires.further, ap (λ (v : State). v.superstep) (state_is c.self.view_is), ap (λ (v : State). v.superstep) (state_is c.other.view_is)) in
     let told : (i k : ℕ) → early_at c.shift.new.self i k ≡ early_at s.early (i + gap) k =
     shifted_told s.part.plan.parts s.early c.shift.new.self gap c.gap-ahead.result m.mine.early.table c.gap-ahead.ensures c.shift.ensures.kept in
     let zero_on : 0 + gap ≡ gap = omega arith in
@@ -112,10 +112,10 @@ gathers c m accumulated =
       lt = lt;
       shown = record {
         superstep = refl;
-        rows = c.copy_shown.ensures.rows ∙ sym (ap (λ (v : State). v.rows) c.other.view_is);
-        marks = with_items_is c.self.inside.marks c.copy_shown.new.marks marks ∙ c.copy_shown.ensures.marks ∙ sym (ap (λ (v : State). v.marks) c.other.view_is);
-        tallies = ap (map value_of) (with_items_is c.self.inside.tallies c.copy_shown.new.tallies tallies) ∙ c.copy_shown.ensures.tallies ∙ sym (ap (λ (v : State). v.tallies) c.other.view_is);
-        sums = c.copy_shown.ensures.sums ∙ sym (ap (λ (v : State). v.sums) c.other.view_is);
+        rows = c.copy_shown.ensures.rows ∙ sym (ap (λ (v : State). v.rows) (state_is c.other.view_is));
+        marks = with_items_is c.self.inside.marks c.copy_shown.new.marks marks ∙ c.copy_shown.ensures.marks ∙ sym (ap (λ (v : State). v.marks) (state_is c.other.view_is));
+        tallies = ap (map value_of) (with_items_is c.self.inside.tallies c.copy_shown.new.tallies tallies) ∙ c.copy_shown.ensures.tallies ∙ sym (ap (λ (v : State). v.tallies) (state_is c.other.view_is));
+        sums = c.copy_shown.ensures.sums ∙ sym (ap (λ (v : State). v.sums) (state_is c.other.view_is));
       };
       hears = hears_same o.part.plan.log2m (targets_of s.part) (λ q. early_at c.shift.new.self 0 q) (λ q. early_at s.early gap q) _ _ (λ q. told 0 q ∙ same_early s.early (0 + gap) gap q zero_on)
           (hears_as (ap (λ (a : PlanValue). a.log2m) (own ∙ m.plan)) index refl accumulated c.hear_early.ensures.hears);
@@ -128,15 +128,21 @@ state_after : (c : After-fill) → Meets (state_of c.self.inside) (state_of c.ot
 state_after c m accumulated = gathers_state (state_of c.other.inside) (state_of c.self.inside) (fields_of (after c)) m.theirs m.mine (gathers c m accumulated) m.plan m.number m.plan m.number m.size m.mine.part
 
 pub invariant_of-self : goal.invariant_of-self
-invariant_of-self c = subst (λ (t : Table). IsSnapshot (record c.self.inside { accumulated = t })) (sym c.in_err-replace.ensures.refused) c.self.invariant
+invariant_of-self c = subst (λ (t : Table). IsProgress (record c.self.inside { accumulated = t })) (sym c.in_err-replace.ensures.refused) c.self.invariant
 
 pub invariant_of-self-2 : goal.invariant_of-self-2
 invariant_of-self-2 c =
     let g = goal.at.invariant_of-self-2 c in
     let m = pair g.After-other in
-    kept_snapshot (after c) (state_after c m (taken g.After-copy_shown (theirs_are g.After-other))) (c.copy_shown.ensures.width ∙ c.self.invariant.width)
-    (c.hear_early.ensures.width ∙ ap (λ (t : Table). t.width) c.in_ok-replace.ensures.rows ∙ c.requires.width ∙ ap (λ (v : State). 2 ^ v.part.plan.log2m) (sym c.other.view_is) ∙ ap (λ (a : PlanValue). 2 ^ a.log2m) (sym m.plan))
-    (rw c.copy_shown.ensures.capacity c.self.invariant.room)
+    kept_progress (after c) (state_after c m (taken g.After-copy_shown (theirs_are g.After-other))) (c.copy_shown.ensures.width ∙ c.self.invariant.width)
+    (c.hear_early.ensures.width ∙ ap (λ (t : Table). t.width) c.in_ok-replace.ensures.rows ∙ c.requires.width ∙ ap (λ (v : State). 2 ^ v.part.plan.log2m) (sym (state_is c.other.view_is)) ∙ ap (λ (a : PlanValue). 2 ^ a.log2m) (sym m.plan))
+
+pub returns-clause-goes_on : goal.returns-clause-goes_on
+returns-clause-goes_on c =
+    let g = goal.at.returns-clause-goes_on c in
+    let m = pair g.After-other in
+    let accumulated = taken g.After-copy_shown (theirs_are g.After-other) in
+    can_go_on (after c) (state_after c m accumulated).accumulated.count (rw c.copy_shown.ensures.capacity (had_room c.self.inside c.args.self.now c.self.view_is c.requires.goes_on))
 
 pub returns-clause-absorbs : goal.returns-clause-absorbs
 returns-clause-absorbs c =
@@ -145,7 +151,7 @@ returns-clause-absorbs c =
     let g = goal.at.returns-clause-absorbs c in
     let m = pair g.After-other in
     let accumulated = taken g.After-copy_shown (theirs_are g.After-other) in
-    absorbs_as s o (fields_of (after c)) c.args.self.now c.args.other.now (state_of (after c)) c.self.view_is c.other.view_is (fields_are (after c) (state_after c m accumulated).accumulated.count)
+    absorbs_as s o (fields_of (after c)) c.args.self.now.state c.args.other.now.state (state_of (after c)) (state_is c.self.view_is) (state_is c.other.view_is) (fields_are (after c) (state_after c m accumulated).accumulated.count)
     (absorbs_further o.part.plan.log2m s o (fields_of (after c)) (gathers c m accumulated) refl)
 
 pub returns-clause-touched : goal.returns-clause-touched
@@ -156,7 +162,7 @@ returns-clause-touched c =
     let m = pair g.After-other in
     let accumulated = taken g.After-copy_shown (theirs_are g.After-other) in
     let rows : c.copy_shown.new.rows.rows ≡ o.rows = copied g.After-copy_shown in
-    let count : length c.args.touched.now ≡ length o.rows = c.requires.touched.marks ∙ sym (ap (λ (v : State). length v.rows) c.self.view_is) ∙ m.mine.count ∙ m.size ∙ sym m.theirs.count in
+    let count : length c.args.touched.now ≡ length o.rows = c.requires.touched.marks ∙ sym (ap (λ (v : State). length v.rows) (state_is c.self.view_is)) ∙ m.mine.count ∙ m.size ∙ sym m.theirs.count in
     let n = length c.args.touched.now in
     let marks : c.mark.new.marks ≡ differences o.rows o.accumulated n = c.mark.ensures ∙ ap (λ (l : List (List ℕ)). differences l c.replace.new.accumulated.rows n) rows ∙ ap (λ (l : List (List ℕ)). differences o.rows l n) accumulated in
     let here : AreTouched c.copy_shown.new.rows.rows c.hear_early.new.accumulated.rows c.hear_early.new.touched =

@@ -1,0 +1,18 @@
+use Rattle.std.proofs.Common.{◌+◌, ap, sym, ◌∙◌, arith}
+use Rattle.replica.specs.Sent.{sent_batch}
+use Rattle.replica.proofs.SentLemmas.{sent_first, sent_target}
+use Rattle.replica.proofs.Progress.sent.Goals as goal
+
+pub loop-i-init : goal.loop-i-init
+loop-i-init c = c.in_ok-batch.ensures ∙ sent_first c.args.self.now.state c.args.target c.plan.result.now c.superstep.result c.partition.result c.changed_count.result c.plan.ensures c.superstep.ensures.value c.partition.ensures c.changed_count.ensures.value
+
+pub send_row-requires-clause-target : goal.send_row-requires-clause-target
+send_row-requires-clause-target c = omega (arith, sent_target c.args.self.now.state c.args.target c.loop-i.i c.loop-i.batch c.loop-i.invariant, c.requires)
+
+pub send_row-requires-clause-so_far : goal.send_row-requires-clause-so_far
+send_row-requires-clause-so_far c =
+    c.loop-i.invariant ∙ ap (λ n. sent_batch c.args.self.now.state n c.loop-i.i) (sym (sent_target c.args.self.now.state c.args.target c.loop-i.i c.loop-i.batch c.loop-i.invariant))
+
+pub loop-i-preserved : goal.loop-i-preserved
+loop-i-preserved c =
+    c.in_ok-send_row.ensures ∙ ap (λ n. sent_batch c.args.self.now.state n (c.loop-i.i + 1)) (sent_target c.args.self.now.state c.args.target c.loop-i.i c.loop-i.batch c.loop-i.invariant)

@@ -1,0 +1,19 @@
+-- What a replica or a snapshot has, and when a replica can go on with it.
+use Rattle.std.specs.Prelude.{◌≡◌, ℕ, ◌+◌, ◌≤◌, ◌⊎◌, true, List, [], length}
+use Rattle.ball_model.specs.State.{State}
+use Rattle.replica.specs.Level.{is_over}
+
+-- what it tells, the accumulators that it keeps beside the rows, and its room for sums
+pub record ProgressValue : Type 0 where
+  pub state : State
+  pub kept : List (List ℕ)
+  pub room : ℕ
+
+-- of each row an accumulator is kept, or they were let go where the run is over
+abbrev pub HasAccumulators : State → List (List ℕ) → Type 0
+HasAccumulators v kept = (length kept ≡ length v.rows) ⊎ ((kept ≡ []) × (is_over v ≡ true))
+
+-- a replica can go on with it: it keeps the accumulators that it raises, and has room for the sums of all supersteps
+pub record CanGoOn (k : ProgressValue) : Type 0 where
+  pub kept : HasAccumulators k.state k.kept
+  pub room : k.state.part.plan.limit + 1 ≤ k.room
