@@ -197,13 +197,23 @@ fn a_failing_writer(rt: HostRuntime) {
     assert!(rt; failures(&rt) == Some((true, true, true)));
 }
 
-/// The texts of all errors.
-#[test]
-fn texts_of_errors(rt: HostRuntime) {
-    assert!(rt; told(&rt, KeepError::Write, "the checkpoint cannot be written"));
-    assert!(rt; told(&rt, KeepError::OtherJob, "the checkpoint is of another job"));
-    assert!(rt; told(&rt, KeepError::Digest, "the digest is another one"));
-}
+/// Each error, and its text.
+const TEXTS: [(KeepError, &str); 11] = [
+    (KeepError::Write, "the checkpoint cannot be written"),
+    (KeepError::Read, "the checkpoint cannot be read"),
+    (KeepError::Short, "too few bytes"),
+    (KeepError::Magic, "not a checkpoint"),
+    (KeepError::Version, "not of version 1 or 2"),
+    (KeepError::OtherJob, "the checkpoint is of another job"),
+    (
+        KeepError::OtherPart,
+        "the checkpoint is of another partition",
+    ),
+    (KeepError::Shape, "no replica has this shape"),
+    (KeepError::Memory, "out of memory"),
+    (KeepError::Digest, "the digest is another one"),
+    (KeepError::Trailing, "bytes after the digest"),
+];
 
 /// Whether an error has that text.
 fn told(rt: &HostRuntime, error: KeepError, wanted: &str) -> bool {
@@ -211,4 +221,18 @@ fn told(rt: &HostRuntime, error: KeepError, wanted: &str) -> bool {
         Ok(text) => text.as_str() == wanted,
         Err(_) => false,
     }
+}
+
+/// Whether each has.
+fn all_told(rt: &HostRuntime) -> bool {
+    let mut all = true;
+    for (error, wanted) in TEXTS {
+        all &= told(rt, error, wanted);
+    }
+    all
+}
+
+#[test]
+fn texts_of_errors(rt: HostRuntime) {
+    assert!(rt; all_told(&rt));
 }

@@ -1,0 +1,36 @@
+//! Refused memory. A run of this test by `rt try --test --fail-alloc N` refuses any one growth of memory: then that is
+//! told, and the same bytes are read when they are read again.
+
+use super::reading::{both, half, part, read};
+use super::writing::{WINDOW_EDGE, writes};
+use crate::KeepError;
+use edgelist::Part;
+use std::sync::Arc;
+
+// Whether bytes are read as a replica that writes those, at once or after memory was refused. None where it is refused
+// outside of that.
+fn is_read_again(rt: &HostRuntime, part: &Arc<Part>, bytes: &[u8], wanted: &[u8]) -> Option<bool> {
+    match read(rt, part, bytes)? {
+        Ok(replica) => writes(rt, &replica, wanted),
+        Err(KeepError::Memory) => writes(rt, &read(rt, part, bytes)?.ok()?, wanted),
+        Err(_) => Some(false),
+    }
+}
+
+// The checkpoint with an early batch.
+fn early_again(rt: &HostRuntime) -> Option<bool> {
+    is_read_again(rt, &half(rt, 1)?, &WINDOW_EDGE, &WINDOW_EDGE)
+}
+
+// That of the two edges, in both versions.
+fn both_again(rt: &HostRuntime) -> Option<bool> {
+    let part = part(rt, 0)?;
+    let (first, second) = both(rt, &part)?;
+    Some(is_read_again(rt, &part, &first, &second)? && is_read_again(rt, &part, &second, &second)?)
+}
+
+#[test]
+fn reading_where_memory_is_refused(rt: HostRuntime) {
+    assert!(rt; early_again(&rt).unwrap_or(true));
+    assert!(rt; both_again(&rt).unwrap_or(true));
+}
