@@ -167,16 +167,16 @@ pub fn read_checkpoint<R: CountedRead>(
         R.remaining reader.old ≡ Some (first_checkpoint_bytes v) →
         IfOkButWant result (λ r. r ≡ without_names v) }
     ensures keepable { IfOk result IsKeepable }
-    // A read failed exactly where that is told, and none of sure calls does; no more is read than the fixed fields allow,
-    // and one byte.
+    // A read failed exactly where that is told, and none of sure calls does.
     ensures counted { OnOk result (R.failed_calls reader.new ≡ R.failed_calls reader.old) }
+    ensures only { AreSure (R.sure_calls reader.old)
+        (most_bytes (arc_value part) (arc_value part).plan.limit + 1) →
+        IfErr result (λ e. IsRead e → ⊥) }
+    // No more is read than any checkpoint of the part has, and than the fixed fields that were read allow, and one byte.
     ensures few { TakesAtMost (most_bytes (arc_value part) (arc_value part).plan.limit + 1)
         (R.remaining reader.old) (R.remaining reader.new) }
     ensures within { TakesWithin (allowed (arc_value part))
         (R.remaining reader.old) (R.remaining reader.new) }
-    ensures only { AreSure (R.sure_calls reader.old)
-        (most_bytes (arc_value part) (arc_value part).plan.limit + 1) →
-        IfErr result (λ e. IsRead e → ⊥) }
     // Memory is refused only after the checks of the fixed fields.
     ensures front { (bytes : List ℕ) → R.remaining reader.old ≡ Some bytes →
         OnOkOrMemory result (HasHead (arc_value part) bytes) }

@@ -2,7 +2,7 @@
 
 ghost use Rattle.std.specs.Prelude.{◌<◌};
 
-use super::reading::{both, part, read};
+use super::reading::{part, read, second};
 use crate::KeepError;
 use edgelist::Part;
 use std::sync::Arc;
@@ -66,14 +66,19 @@ fn is_told(rt: &HostRuntime, part: &Arc<Part>, bytes: &mut [u8], place: usize) -
 }
 
 // Whether each bit of all bytes does.
-fn are_told(rt: &HostRuntime) -> Option<bool> {
-    let part = part(rt, 0)?;
-    let (_, mut bytes) = both(rt, &part)?;
+fn all_told(rt: &HostRuntime, part: &Arc<Part>, bytes: &mut [u8]) -> Option<bool> {
     let mut all = true;
     for place in 0..340 {
-        all &= is_told(rt, &part, &mut bytes, place)?;
+        all &= is_told(rt, part, bytes, place)?;
     }
     Some(all)
+}
+
+// Those of the checkpoint of two edges.
+fn are_told(rt: &HostRuntime) -> Option<bool> {
+    let part = part(rt, 0)?;
+    let mut bytes = second(rt, &part)?;
+    all_told(rt, &part, &mut bytes)
 }
 
 #[test]
@@ -113,19 +118,30 @@ fn is_refused(rt: &HostRuntime, part: &Arc<Part>, bytes: &[u8], whole: &[u8]) ->
     }
 }
 
-// Whether one with bits turned, and a random one that is cut somewhere, are refused.
+// Whether bytes with bits turned, and random ones that are cut somewhere, are refused.
+fn are_both_refused(
+    rt: &HostRuntime,
+    part: &Arc<Part>,
+    bytes: &mut [u8],
+    whole: &[u8],
+    state: &mut u64,
+) -> Option<bool> {
+    scatter(bytes, state);
+    let turned = is_refused(rt, part, bytes, whole)?;
+    shake(bytes, state);
+    let len = (next(state) % 341) as usize;
+    Some(turned && is_refused(rt, part, bytes.get(..len)?, whole)?)
+}
+
+// The same of the bytes of a checkpoint.
 fn is_one_refused(
     rt: &HostRuntime,
     part: &Arc<Part>,
     whole: &[u8],
     state: &mut u64,
 ) -> Option<bool> {
-    let (_, mut bytes) = both(rt, part)?;
-    scatter(&mut bytes, state);
-    let turned = is_refused(rt, part, &bytes, whole)?;
-    shake(&mut bytes, state);
-    let len = (next(state) % 341) as usize;
-    Some(turned && is_refused(rt, part, bytes.get(..len)?, whole)?)
+    let mut bytes = second(rt, part)?;
+    are_both_refused(rt, part, &mut bytes, whole, state)
 }
 
 // Whether a thousand of both are.
@@ -141,7 +157,7 @@ fn all_refused(rt: &HostRuntime, part: &Arc<Part>, whole: &[u8]) -> Option<bool>
 // Whether those of the checkpoint of two edges are.
 fn are_refused(rt: &HostRuntime) -> Option<bool> {
     let part = part(rt, 0)?;
-    let (_, whole) = both(rt, &part)?;
+    let whole = second(rt, &part)?;
     all_refused(rt, &part, &whole)
 }
 
