@@ -2,7 +2,7 @@
 
 ghost use Rattle.std.specs.Prelude.{◌<◌};
 
-use super::reading::{part, read, second};
+use super::reading::{part, refusal, second};
 use crate::KeepError;
 use edgelist::Part;
 use std::sync::Arc;
@@ -59,7 +59,7 @@ fn is_told(rt: &HostRuntime, part: &Arc<Part>, bytes: &mut [u8], place: usize) -
     let mut all = true;
     for bit in 0..8 {
         turn(bytes, place, bit);
-        all &= read(rt, part, bytes)?.err()? == wanted(place, bit);
+        all &= refusal(rt, part, bytes)? == Some(wanted(place, bit));
         turn(bytes, place, bit);
     }
     Some(all)
@@ -112,9 +112,9 @@ fn shake(bytes: &mut [u8], state: &mut u64) {
 
 // Whether bytes are refused, and not for want of memory; or they are those of the checkpoint.
 fn is_refused(rt: &HostRuntime, part: &Arc<Part>, bytes: &[u8], whole: &[u8]) -> Option<bool> {
-    match read(rt, part, bytes)? {
-        Ok(_) => Some(bytes == whole),
-        Err(fault) => Some(fault != KeepError::Memory && fault != KeepError::Read),
+    match refusal(rt, part, bytes)? {
+        None => Some(bytes == whole),
+        Some(fault) => Some(fault != KeepError::Memory && fault != KeepError::Read),
     }
 }
 

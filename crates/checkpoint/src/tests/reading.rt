@@ -69,9 +69,18 @@ pub(super) fn read(
     Some(read_checkpoint(rt.alloc(), part, &mut MemReader::new(bytes, None)))
 }
 
+// Whether the bytes are refused, and why.
+pub(super) fn refusal(
+    rt: &HostRuntime,
+    part: &Arc<Part>,
+    bytes: &[u8],
+) -> Option<Option<KeepError>> {
+    Some(read(rt, part, bytes)?.err())
+}
+
 // The refusal of the bytes.
-fn refusal(rt: &HostRuntime, part: &Arc<Part>, bytes: &[u8]) -> Option<KeepError> {
-    read(rt, part, bytes)?.err()
+fn refused(rt: &HostRuntime, part: &Arc<Part>, bytes: &[u8]) -> Option<KeepError> {
+    refusal(rt, part, bytes)?
 }
 
 // The bytes of version 1.
@@ -124,7 +133,7 @@ fn is_second_read(rt: &HostRuntime, part: &Arc<Part>) -> Option<bool> {
 fn cuts(rt: &HostRuntime, part: &Arc<Part>, bytes: &[u8]) -> Option<bool> {
     let mut all = true;
     for n in 0..bytes.len() {
-        all &= refusal(rt, part, &bytes[..n])? == KeepError::Short;
+        all &= refused(rt, part, &bytes[..n])? == KeepError::Short;
     }
     Some(all)
 }
@@ -161,14 +170,14 @@ fn put_byte(bytes: &mut [u8], at: usize, byte: u8) -> Option<()> {
 fn changed(rt: &HostRuntime, part: &Arc<Part>, at: usize, byte: u8) -> Option<KeepError> {
     let mut bytes = second(rt, part)?;
     put_byte(&mut bytes, at, byte)?;
-    refusal(rt, part, &bytes)
+    refused(rt, part, &bytes)
 }
 
 // The same, with the right digest.
 fn sealed(rt: &HostRuntime, part: &Arc<Part>, at: usize, byte: u8) -> Option<KeepError> {
     let mut bytes = content(rt, part, 2, &HELD)?;
     put_byte(&mut bytes, at, byte)?;
-    refusal(rt, part, &seal(bytes)?)
+    refused(rt, part, &seal(bytes)?)
 }
 
 // What the body tells, each fault with the right digest: a mark, a last estimate, harm and dist above what a run has, a
@@ -240,7 +249,7 @@ fn faults_are_told(rt: HostRuntime) {
 // The refusal of the bytes under another seed.
 fn of_other_job(rt: &HostRuntime, bytes: &[u8]) -> Option<KeepError> {
     let other = part(rt, 1)?;
-    refusal(rt, &other, bytes)
+    refused(rt, &other, bytes)
 }
 
 // Adds the bytes and one more.
@@ -253,7 +262,7 @@ fn put_more(more: &mut Vec<u8>, bytes: &[u8]) -> Option<()> {
 fn trailing(rt: &HostRuntime, part: &Arc<Part>, bytes: &[u8]) -> Option<KeepError> {
     let mut more = Vec::new(rt.alloc());
     put_more(&mut more, bytes)?;
-    refusal(rt, part, &more)
+    refused(rt, part, &more)
 }
 
 // Another seed, a changed bit of a vertex, one byte more, and a number of early batches above none.
@@ -339,7 +348,7 @@ fn put_changed(bytes: &mut Vec<u8>, at: usize, byte: u8) -> Option<()> {
 fn resealed(rt: &HostRuntime, part: &Arc<Part>, at: usize, byte: u8) -> Option<KeepError> {
     let mut bytes = Vec::new(rt.alloc());
     put_changed(&mut bytes, at, byte)?;
-    refusal(rt, part, &seal(bytes)?)
+    refused(rt, part, &seal(bytes)?)
 }
 
 // A number of batches above three, a length that is no batch's, a batch that is none, of superstep 0 and of 4, of
@@ -387,14 +396,19 @@ fn two_early(rt: &HostRuntime, first: u8, second: u8) -> Option<Vec<u8>> {
     seal(bytes)
 }
 
-// What comes of reading it: how many early batches there are, or the refusal.
-fn read_two(rt: &HostRuntime, first: u8, second: u8) -> Option<Result<u32, KeepError>> {
-    let part = odd_part(rt)?;
-    let bytes = two_early(rt, first, second)?;
-    match read(rt, &part, &bytes)? {
+// What comes of reading the bytes: how many early batches there are, or the refusal.
+fn early_in(rt: &HostRuntime, part: &Arc<Part>, bytes: &[u8]) -> Option<Result<u32, KeepError>> {
+    match read(rt, part, bytes)? {
         Ok(replica) => Some(Ok(replica.early_count())),
         Err(e) => Some(Err(e)),
     }
+}
+
+// What comes of reading that one.
+fn read_two(rt: &HostRuntime, first: u8, second: u8) -> Option<Result<u32, KeepError>> {
+    let part = odd_part(rt)?;
+    let bytes = two_early(rt, first, second)?;
+    early_in(rt, &part, &bytes)
 }
 
 // Early batches stand in order, and no name stands twice.
@@ -431,7 +445,12 @@ fn is_written_second(rt: &HostRuntime, part: &Arc<Part>, first: &[u8]) -> Option
 }
 
 // Whether the replica of the first bytes writes the second ones.
-fn is_written(rt: &HostRuntime, part: &Arc<Part>, first: &[u8], second: &[u8]) -> Option<bool> {
+pub(super) fn is_written(
+    rt: &HostRuntime,
+    part: &Arc<Part>,
+    first: &[u8],
+    second: &[u8],
+) -> Option<bool> {
     let replica = read(rt, part, first)?.ok()?;
     writes(rt, &replica, second)
 }

@@ -1,20 +1,20 @@
 //! Refused memory. A run of this test by `rt try --test --fail-alloc N` refuses any one growth of memory: then that is
 //! told, and the same bytes are read when they are read again.
 
-use super::reading::{first, half, part, read, second};
-use super::writing::{WINDOW_EDGE, writes};
+use super::reading::{first, half, is_written, part, refusal, second};
+use super::writing::WINDOW_EDGE;
 use crate::KeepError;
 use edgelist::Part;
 use std::sync::Arc;
 
-// Whether bytes are read as a replica that writes those, at once or after memory was refused. None where it is refused
-// outside of that.
+// Whether bytes are read, or else memory was refused, and they are read then as a replica that writes those. None where
+// memory is refused outside of that.
 fn is_read_again(rt: &HostRuntime, part: &Arc<Part>, bytes: &[u8], wanted: &[u8]) -> Option<bool> {
-    match read(rt, part, bytes)? {
-        Ok(replica) => writes(rt, &replica, wanted),
-        Err(KeepError::Memory) => writes(rt, &read(rt, part, bytes)?.ok()?, wanted),
-        Err(_) => Some(false),
+    let fault = refusal(rt, part, bytes)?;
+    if fault == None {
+        return Some(true);
     }
+    Some(fault == Some(KeepError::Memory) && is_written(rt, part, bytes, wanted) == Some(true))
 }
 
 // The checkpoint with an early batch.
