@@ -23,9 +23,10 @@ use Rattle.ball_model.specs.Streams.{AfterAtMost, AreSure, EndsAfter, TakesAtMos
 use Rattle.ball_model.proofs.StreamLemmas.{after_none}
 use Rattle.batches.specs.Kept.{field}
 use Rattle.checkpoint.specs.declared.header.Header.{Header}
+use Rattle.checkpoint.specs.declared.sizes.TheConstants.{DIGEST_LEN, HEADER_LEN}
 use Rattle.checkpoint.specs.declared.error.KeepError.{KeepError}
 use Rattle.checkpoint.specs.declared.error.KeepError.TheVariants as errors
-use Rattle.checkpoint.specs.Reading.{◌>>=◌, Form, needs, followed, is_batch_length, greatest_batch, told_batch, batch_form, batches_form, told_batches, early_form, fixed_length, most_body, most_early, held_form, content_form, sealed_form, told_body, body_form, check_head, head_at, seal_form, Takes, Grows, Fails, Passes, PassesSoFar, IsRead, IsOfBytes, IsOfBody, HasHead, OnOkOrMemory}
+use Rattle.checkpoint.specs.Reading.{◌>>=◌, Form, needs, followed, is_batch_length, greatest_batch, told_batch, batch_form, batches_form, told_batches, early_form, fixed_length, most_after, most_body, most_early, allowed, allowed_content, TakesWithin, held_form, content_form, sealed_form, told_body, body_form, check_head, head_at, seal_form, Takes, Grows, Fails, Passes, PassesSoFar, IsRead, IsOfBytes, IsOfBody, HasHead, OnOkOrMemory}
 
 -- ---- calls that are sure
 after_then : (n m : ℕ) (a b c : Option ℕ) → AfterAtMost n a b → AfterAtMost m b c → AfterAtMost (n + m) a c
@@ -544,14 +545,50 @@ pub held-some : (plan : PlanValue) (version : ℕ) (rest : List ℕ) → (versio
 unfolding held_form
 held-some plan version rest e = rw e refl
 
-pub fixed-most : (part : PartValue) (h : Header) → fixed_length part h ≤ most_body part h.superstep
-fixed-most part h = elim (cases_Bool (h.version == 1)) [
-  | inl is ↦ rw is (omega arith)
-  | inr is ↦ rw is (omega arith)
+pub fixed-most : (part : PartValue) (h : Header) → fixed_length part h ≤ most_after part h
+fixed-most part h = omega arith
+
+pub fixed-early : (part : PartValue) (h : Header) → (h.version == 1) ≡ false → fixed_length part h + most_early part.plan ≤ most_after part h
+fixed-early part h is = rw is (omega arith)
+
+-- a checkpoint of the part at a later superstep may have more
+pub after-most : (part : PartValue) (h : Header) (t : ℕ) → h.superstep ≤ t → most_after part h ≤ most_body part t
+after-most part h t le = elim (cases_Bool (h.version == 1)) [
+  | inl is ↦ rw is (omega (arith, le))
+  | inr is ↦ rw is (omega (arith, le))
 ]
 
-pub fixed-early : (part : PartValue) (h : Header) → (h.version == 1) ≡ false → fixed_length part h + most_early part.plan ≤ most_body part h.superstep
-fixed-early part h is = rw is (omega arith)
+-- ---- what the fixed fields allow
+pub within-head : (part : PartValue) (old new : Option (List ℕ)) → TakesAtMost HEADER_LEN old new → TakesWithin (allowed_content part) old new
+within-head part old new p = record { bytes = p.bytes; consumed = p.consumed; few = omega (arith, p.few) }
+
+-- the fixed fields, and then no more than they allow
+pub content-few : (part : PartValue) (h : Header) (head more : List ℕ) → length head ≡ HEADER_LEN → head_at head ≡ h → length more ≤ most_after part h → length (head ++ more) ≤ allowed_content part (head ++ more)
+content-few part h head more len is few =
+    let front : take HEADER_LEN (head ++ more) ≡ head = take-append-le HEADER_LEN head more (omega (arith, len)) ∙ take_all HEADER_LEN head (omega (arith, len)) in
+    rw (front, is) (omega (arith, length-append head more, len, few))
+
+pub within-content : (part : PartValue) (h : Header) (a b c : Option (List ℕ)) (head : List ℕ) → length head ≡ HEADER_LEN → head_at head ≡ h → Consumes a b head → TakesAtMost (most_after part h) b c
+    → TakesWithin (allowed_content part) a c
+within-content part h a b c head len is first p = record {
+  bytes = head ++ p.bytes;
+  consumed = Consumes-trans a b c head p.bytes first p.consumed;
+  few = content-few part h head p.bytes len is p.few;
+}
+
+-- and the digest behind it, and one byte
+pub within-seal : (part : PartValue) (a b c : Option (List ℕ)) (text : List ℕ) → HEADER_LEN ≤ length text → length text ≤ allowed_content part text → Consumes a b text → TakesAtMost (DIGEST_LEN + 1) b c
+    → TakesWithin (allowed part) a c
+within-seal part a b c text long few first p =
+    let front : take HEADER_LEN (text ++ p.bytes) ≡ take HEADER_LEN text = take-append-le HEADER_LEN text p.bytes long in
+    record {
+      bytes = text ++ p.bytes;
+      consumed = Consumes-trans a b c text p.bytes first p.consumed;
+      few = rw front (omega (arith, length-append text p.bytes, p.few, few));
+    }
+
+pub within-more : (part : PartValue) (old new : Option (List ℕ)) → TakesWithin (allowed_content part) old new → TakesWithin (allowed part) old new
+within-more part old new p = record { bytes = p.bytes; consumed = p.consumed; few = omega (arith, p.few) }
 
 -- nothing more comes
 pub takes_ended : {R : Type 0} {remaining : R → Option (List ℕ)} {failed : R → ℕ} {sure : R → Option ℕ} {a b : R} {digest : List ℕ} (c : R) (k : ℕ) (buf : List ℕ) → Takes remaining failed sure a b digest
@@ -659,9 +696,6 @@ passes-body part piece h is fine = passes-as (body_form part h) (told_body part 
 
 pub passes-seal : (text : List ℕ) → Passes (seal_form text) []
 passes-seal text = inr (seal-short text [] (omega arith))
-
-pub most-rises : (part : PartValue) (s t : ℕ) → s ≤ t → most_body part s ≤ most_body part t
-most-rises part s t le = omega (arith, le)
 
 pub seal-fine : (text bytes : List ℕ) → length (sha256 text) ≡ 32 → bytes ≡ sha256 text → seal_form text bytes ≡ Ok 32
 unfolding seal_form

@@ -25,11 +25,11 @@ use Rattle.checkpoint.specs.Parts.{heard_bytes, count_bytes, nth_bytes}
 use Rattle.checkpoint.proofs.WriteLemmas.{pieces_more, pieces_split}
 
 -- ---- fields
-pub front_is : (v : State) (log2m : ℕ) (parts number vertices size step job : List ℕ) → log2m ≡ v.part.plan.log2m → parts ≡ to_be_bytes w16 v.part.plan.parts → number ≡ to_be_bytes w16 v.part.number → vertices ≡ to_be_bytes w32 v.part.plan.vertices →
+pub front_is : (v : State) (magic : List ℕ) (log2m : ℕ) (parts number vertices size step job : List ℕ) → magic ≡ to_be_bytes w32 0x4842434b → log2m ≡ v.part.plan.log2m → parts ≡ to_be_bytes w16 v.part.plan.parts → number ≡ to_be_bytes w16 v.part.number → vertices ≡ to_be_bytes w32 v.part.plan.vertices →
     size ≡ to_be_bytes w32 (length v.part.preds) → step ≡ to_be_bytes w32 v.superstep → job ≡ v.part.plan.job →
-    codes "HBCK" ++ ((2 ∷ []) ++ ((log2m ∷ []) ++ (parts ++ (number ++ (vertices ++ (size ++ (step ++ (job ++ [])))))))) ≡ front_bytes 2 v
+    magic ++ ((2 ∷ []) ++ ((log2m ∷ []) ++ (parts ++ (number ++ (vertices ++ (size ++ (step ++ (job ++ [])))))))) ≡ front_bytes 2 v
 unfolding front_bytes
-front_is v log2m parts number vertices size step job a b c d e f g = rw (a, b, c, d, e, f, g, append-nil v.part.plan.job) refl
+front_is v magic log2m parts number vertices size step job z a b c d e f g = rw (z, a, b, c, d, e, f, g, append-nil v.part.plan.job) refl
 
 pub vertex_is : (v : State) (i mark : ℕ) (last harm dist row : List ℕ) (changed : Bool) (tally : TallyValue) → mark ≡ mark_byte changed → changed ≡ get_or v.marks i false → tally ≡ get_or v.tallies i no_figures → last ≡ to_be_bytes w64 tally.last →
     harm ≡ to_be_bytes w64 tally.harm → dist ≡ to_be_bytes w128 tally.dist → row ≡ get_or v.rows i [] →

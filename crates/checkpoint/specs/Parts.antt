@@ -6,6 +6,8 @@ use Rattle.std.specs.Int.{w16, w64, to_be_bytes}
 use Rattle.ball_model.specs.Checkpoint.{mask_of, mark_byte, early_bytes, kept_batches}
 use Rattle.ball_model.specs.PlanValue.{most_vertices}
 use Rattle.ball_model.specs.State.{State}
+use Rattle.batches.specs.declared.header.TheConstants.{HEADER_LEN as batch_head}
+use Rattle.checkpoint.specs.declared.sizes.TheConstants.{LENGTH_LEN}
 
 -- which sources are heard, and whether one of them tells of a change
 unfoldable pub heard_bytes : State → List ℕ
@@ -19,6 +21,6 @@ count_bytes v = to_be_bytes w16 (length (kept_batches v.early))
 unfoldable pub nth_bytes : State → ℕ → List ℕ
 nth_bytes v i = flat_map early_bytes (option_to_list (slice_get (kept_batches v.early) i))
 
--- a batch has at most so many bytes, with its length before it
-abbrev pub greatest_batch : ℕ
-greatest_batch = 8 + (54 + most_vertices * (4 + 2 ^ 10))
+-- a batch of any plan has at most so many bytes, with its length before it
+abbrev pub longest_batch : ℕ
+longest_batch = LENGTH_LEN + (batch_head + most_vertices * (4 + 2 ^ 10))

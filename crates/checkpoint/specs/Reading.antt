@@ -128,10 +128,10 @@ content_form part = followed (needs HEADER_LEN) (told_body part)
 -- the digest of the content, and nothing after it
 unfoldable pub seal_form : List ℕ → Form
 seal_form content bytes =
-    if nat_lt (length bytes) 32 then Err errors.Short
-    else if not (bytes_eq (take 32 bytes) (sha256 content)) then Err errors.Digest
-    else if nat_lt 32 (length bytes) then Err errors.Trailing
-    else Ok 32
+    if nat_lt (length bytes) DIGEST_LEN then Err errors.Short
+    else if not (bytes_eq (take DIGEST_LEN bytes) (sha256 content)) then Err errors.Digest
+    else if nat_lt DIGEST_LEN (length bytes) then Err errors.Trailing
+    else Ok DIGEST_LEN
 
 abbrev pub sealed_form : PartValue → Form
 sealed_form part = followed (content_form part) seal_form
@@ -148,12 +148,30 @@ pub record PassesSoFar (form : Form) (old new : Option (List ℕ)) : Type 0 wher
 
 -- ---- what is read at most
 abbrev pub most_early : PlanValue → ℕ
-most_early plan = 2 + 3 * (plan.parts - 1) * (8 + greatest_batch plan)
+most_early plan = COUNT_LEN + 3 * (plan.parts - 1) * (LENGTH_LEN + greatest_batch plan)
 
 abbrev pub most_body : PartValue → ℕ → ℕ
 most_body part t =
     length part.preds * (ENTRY_LEN + 2 ^ part.plan.log2m) + SUM_LEN * (t + 1)
     + HEARD_LEN + length part.preds * 2 ^ part.plan.log2m + most_early part.plan
+
+-- how much follows these fixed fields at most, up to the digest
+abbrev pub most_after : PartValue → Header → ℕ
+most_after part h = fixed_length part h + (if h.version == 1 then 0 else most_early part.plan)
+
+-- the most that the fixed fields at the front of the bytes allow up to the digest
+abbrev pub allowed_content : PartValue → List ℕ → ℕ
+allowed_content part bytes = HEADER_LEN + most_after part (head_at (take HEADER_LEN bytes))
+
+-- and with the digest, and one byte more
+abbrev pub allowed : PartValue → List ℕ → ℕ
+allowed part bytes = allowed_content part bytes + (DIGEST_LEN + 1)
+
+-- what was read is no longer than it allows itself
+pub record TakesWithin (most : List ℕ → ℕ) (old new : Option (List ℕ)) : Type 0 where
+  pub bytes : List ℕ
+  pub consumed : Consumes old new bytes
+  pub few : length bytes ≤ most bytes
 
 -- the length of a checkpoint of the part at superstep t with the most and the greatest early batches
 abbrev pub most_bytes : PartValue → ℕ → ℕ

@@ -1,5 +1,5 @@
 -- What the bytes of a checkpoint tell of vertices, one after the other, and of the batches that are held.
-use Rattle.std.specs.Prelude.{◌≡◌, ℕ, ◌^◌, ◌≤◌, ◌<◌, Bool, false, List, [], ◌∷◌, ◌++◌, map, length, replicate, slice_index_or, slice_set, Result, Ok, Err}
+use Rattle.std.specs.Prelude.{◌≡◌, ℕ, ◌^◌, ◌≤◌, ◌<◌, Bool, false, List, [], ◌∷◌, ◌++◌, map, length, replicate, slice_index_or, slice_set, Result, Ok, Err, vec_capacity}
 use Rattle.std.specs.Arc.{arc_value}
 use Rattle.std.specs.List.{flat_map, range_with_len}
 use Rattle.ball_model.specs.Batches.{BatchValue, IsBatch}
@@ -27,6 +27,11 @@ pub record AreNone (v : Vertices) : Type 0 where
   pub marks : v.marks.items ≡ []
   pub tallies : v.tallies.items ≡ []
   pub rows : v.rows.rows ≡ replicate (length v.rows.rows) (replicate v.rows.width 0)
+
+-- there is room for the marks and the figures of all vertices
+pub record HasRoom (v : Vertices) : Type 0 where
+  pub marks : length v.rows.rows ≤ vec_capacity v.marks
+  pub tallies : length v.rows.rows ≤ vec_capacity v.tallies
 
 -- the bytes are the spelling of the first n vertices, and behind it the rest
 pub record AreTold (n : ℕ) (v : Vertices) (bytes rest : List ℕ) : Type 0 where

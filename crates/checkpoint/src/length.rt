@@ -5,7 +5,7 @@ ghost use Rattle.std.specs.List.{flat_map};
 ghost use Rattle.ball_model.specs.Batches.{batch_bytes};
 ghost use Rattle.ball_model.specs.Checkpoint.{checkpoint_bytes, early_bytes, kept_batches};
 ghost use Rattle.ball_model.specs.PlanValue.{most_parts};
-ghost use Rattle.checkpoint.specs.Parts.{nth_bytes, greatest_batch};
+ghost use Rattle.checkpoint.specs.Parts.{nth_bytes, longest_batch};
 
 use crate::sizes::{COUNT_LEN, DIGEST_LEN, ENTRY_LEN, HEADER_LEN, HEARD_LEN, LENGTH_LEN, SUM_LEN};
 use batches::Batch;
@@ -36,7 +36,7 @@ pub fn checkpoint_length(replica: &Replica) -> u64
 // How many bytes the batches have that are kept, each with its length before it.
 fn early_length(replica: &Replica) -> u64
     ensures value { result ≡ length (flat_map early_bytes (kept_batches replica.now.early)) }
-    ensures few { result ≤ 3 * most_parts * greatest_batch }
+    ensures few { result ≤ 3 * most_parts * longest_batch }
 {
     // the limits of a replica are told with its superstep
     let _superstep = replica.superstep();
@@ -50,7 +50,7 @@ fn early_length(replica: &Replica) -> u64
 // How many bytes the i-th of them has with its length before it, where there are so many.
 fn nth_length(replica: &Replica, i: u32) -> u64
     ensures value { result ≡ length (nth_bytes replica.now i) }
-    ensures few { result ≤ greatest_batch }
+    ensures few { result ≤ longest_batch }
 {
     match replica.early(i) {
         Some(batch) => LENGTH_LEN as u64 + batch_length(batch),
@@ -61,7 +61,7 @@ fn nth_length(replica: &Replica, i: u32) -> u64
 // How many bytes a batch has.
 fn batch_length(batch: &Batch) -> u64
     ensures value { result ≡ length (batch_bytes batch.now) }
-    ensures few { result + 8 ≤ greatest_batch }
+    ensures few { result + LENGTH_LEN ≤ longest_batch }
 {
     // the limits of a batch are told with its name
     let _name = batch.name();

@@ -1,13 +1,13 @@
 //! Reading a checkpoint.
 
-ghost use Rattle.std.specs.Prelude.{◌≡◌, ◌+◌, ◌≤◌, ℕ, List, [], Ok, Some, IfOk, OnOk, IfErr, length, take, ◌⊎◌};
+ghost use Rattle.std.specs.Prelude.{◌≡◌, ◌+◌, ◌≤◌, ℕ, List, [], Ok, Some, IfOk, OnOk, OnErr, IfErr, length, take, ◌⊎◌};
 ghost use Rattle.std.specs.Arc.{arc_value};
 ghost use Rattle.ball_model.specs.Checkpoint.{checkpoint_bytes, first_checkpoint_bytes, sealed, without_names};
 ghost use Rattle.ball_model.specs.State.{State};
 ghost use Rattle.ball_model.specs.Streams.{AreSure, TakesAtMost};
 ghost use Rattle.replica.specs.Saved.{Fits, IsKeepable, IsRebuilt};
 ghost use Rattle.replica.specs.Seen.{IsState};
-ghost use Rattle.checkpoint.specs.Reading.{needs, head_at, check_head, content_form, sealed_form, most_body, most_bytes, Ends, Grows, Fails, Refuses, HasHead, IsRead, IsSpelling, IfOkButWant, OnOkOrMemory};
+ghost use Rattle.checkpoint.specs.Reading.{needs, head_at, check_head, content_form, sealed_form, allowed, allowed_content, most_body, most_bytes, Ends, Grows, Fails, Refuses, HasHead, TakesWithin, IsRead, IsSpelling, IfOkButWant, OnOkOrMemory};
 
 use crate::error::KeepError;
 use crate::header::{Header, check_header, read_header};
@@ -57,6 +57,9 @@ fn read_content<R: CountedRead>(
     ensures done { OnOk result (Grows R.remaining R.failed_calls R.sure_calls
         (content_form part.now) (HEADER_LEN + most_body part.now part.now.plan.limit)
         reader.old reader.new text.old.items text.new.items) }
+    ensures few { OnOk result (length text.new.items ≤ allowed_content part.now text.new.items) }
+    ensures within { OnErr result
+        (TakesWithin (allowed_content part.now) (R.remaining reader.old) (R.remaining reader.new)) }
     ensures head { IfOk result (λ h. h ≡ head_at (take HEADER_LEN text.new.items)) }
     ensures length { OnOk result (HEADER_LEN ≤ length text.new.items) }
     ensures checked { IfOk result (λ h. check_head part.now h ≡ Ok tt) }
@@ -82,6 +85,7 @@ fn read_text<R: CountedRead>(
     requires { text.old.items ≡ [] }
     ensures done { OnOk result (Ends R.remaining R.failed_calls (sealed_form part.now)
         (most_bytes part.now part.now.plan.limit + 1) reader.old reader.new) }
+    ensures within { TakesWithin (allowed part.now) (R.remaining reader.old) (R.remaining reader.new) }
     ensures head { IfOk result (λ h. h ≡ head_at (take HEADER_LEN text.new.items)) }
     ensures length { OnOk result (HEADER_LEN ≤ length text.new.items) }
     ensures checked { IfOk result (λ h. check_head part.now h ≡ Ok tt) }
@@ -109,6 +113,7 @@ fn read_saved<R: CountedRead>(
     ensures fits { IfOk result (λ s. Fits part.now s) }
     ensures done { OnOk result (Ends R.remaining R.failed_calls (sealed_form part.now)
         (most_bytes part.now part.now.plan.limit + 1) reader.old reader.new) }
+    ensures within { TakesWithin (allowed part.now) (R.remaining reader.old) (R.remaining reader.new) }
     ensures spelled { IfOk result (λ s. (v : State) → IsRebuilt part.now s v → IsState v →
         (bytes : List ℕ) → R.remaining reader.old ≡ Some bytes →
         (bytes ≡ checkpoint_bytes v) ⊎ (bytes ≡ first_checkpoint_bytes v)) }
@@ -164,11 +169,14 @@ pub fn read_checkpoint<R: CountedRead>(
     ensures keepable { IfOk result IsKeepable }
     // A read failed exactly where that is told, and none of sure calls does.
     ensures counted { OnOk result (R.failed_calls reader.new ≡ R.failed_calls reader.old) }
-    ensures few { TakesAtMost (most_bytes (arc_value part) (arc_value part).plan.limit + 1)
-        (R.remaining reader.old) (R.remaining reader.new) }
     ensures only { AreSure (R.sure_calls reader.old)
         (most_bytes (arc_value part) (arc_value part).plan.limit + 1) →
         IfErr result (λ e. IsRead e → ⊥) }
+    // No more is read than any checkpoint of the part has, and than the fixed fields that were read allow, and one byte.
+    ensures few { TakesAtMost (most_bytes (arc_value part) (arc_value part).plan.limit + 1)
+        (R.remaining reader.old) (R.remaining reader.new) }
+    ensures within { TakesWithin (allowed (arc_value part))
+        (R.remaining reader.old) (R.remaining reader.new) }
     // Memory is refused only after the checks of the fixed fields.
     ensures front { (bytes : List ℕ) → R.remaining reader.old ≡ Some bytes →
         OnOkOrMemory result (HasHead (arc_value part) bytes) }

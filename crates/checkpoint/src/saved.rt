@@ -1,9 +1,9 @@
 //! What the bytes of a checkpoint tell of a replica.
 
-ghost use Rattle.std.specs.Prelude.{◌≡◌, ◌+◌, ◌*◌, ◌^◌, ◌≤◌, ◌<◌, ◌++◌, ◌∷◌, [], ℕ, Bool, List, length, map, drop, replicate, slice_index_or, Ok, Err, IfOk, OnOk, IsOk, IfErr};
+ghost use Rattle.std.specs.Prelude.{◌≡◌, ◌+◌, ◌*◌, ◌^◌, ◌≤◌, ◌<◌, ◌++◌, ◌∷◌, [], ℕ, Bool, List, length, map, drop, replicate, slice_index_or, Ok, Err, IfOk, OnOk, IsOk, IfErr, vec_capacity};
 ghost use Rattle.std.specs.List.{All, flat_map, range_with_len};
 ghost use Rattle.ball_model.specs.Batches.{BatchValue, batch_bytes};
-ghost use Rattle.batches.specs.Reading.{GivesOrMemory};
+ghost use Rattle.batches.specs.Reading.{GivesOrMemory, batch_at};
 ghost use Rattle.ball_model.specs.Checkpoint.{early_bytes, mark_byte, entry_bytes, vertex_bytes, table_bytes, held_bytes, without_names};
 ghost use Rattle.ball_model.specs.Figures.{TallyValue};
 ghost use Rattle.ball_model.specs.State.{State};
@@ -16,11 +16,11 @@ ghost use Rattle.batches.specs.Kept.{field};
 ghost use Rattle.checkpoint.specs.Reading.{IsOfBody};
 ghost use Rattle.checkpoint.specs.declared.sizes.TheConstants.{HEADER_LEN};
 ghost use Rattle.checkpoint.specs.Spelling.{held_text, table_text};
-ghost use Rattle.checkpoint.specs.Told.{IsAdded, AreNone, AreTold, IsSmall, IfOkButMemory, AreNext, AreOf, IsOfPlan, IsHeldOf, IsUnnamed};
+ghost use Rattle.checkpoint.specs.Told.{IsAdded, AreNone, AreTold, HasRoom, IsSmall, IfOkButMemory, AreNext, AreOf, IsOfPlan, IsHeldOf, IsUnnamed};
 
 use crate::error::KeepError;
 use crate::header::{Header, u16_at};
-use crate::sizes::HEADER_LEN;
+use crate::sizes::{COUNT_LEN, HEADER_LEN, HEARD_LEN, LENGTH_LEN};
 use crate::stream::u64_at;
 use batches::{Batch, BatchError};
 use edgelist::Part;
@@ -52,7 +52,7 @@ fn cut(bytes: &[u8], count: usize) -> Result<(&[u8], &[u8]), KeepError>
     ensures split { IfOk result (λ r. bytes.now ≡ r.0.now ++ r.1.now) }
     ensures length { IfOk result (λ r. length r.0.now ≡ count) }
     ensures only { count ≤ length bytes.now → IsOk result }
-    ensures kind { IfErr result IsOfBody }
+    ensures kind { IfErr result (λ e. e ≡ KeepError.Shape) }
 {
     if bytes.len() < count {
         return Err(KeepError::Shape);
@@ -75,7 +75,7 @@ fn read_u64(bytes: &[u8]) -> Result<(u64, &[u8]), KeepError>
     ensures spelled { IfOk result (λ r. bytes.now ≡ to_be_bytes w64 r.0 ++ r.1.now) }
     ensures right { (n : ℕ) (rest : List ℕ) → n < 2 ^ 64 → bytes.now ≡ to_be_bytes w64 n ++ rest →
         IfOkButMemory result (λ r. (r.0 ≡ n) × (r.1.now ≡ rest)) }
-    ensures kind { IfErr result IsOfBody }
+    ensures kind { IfErr result (λ e. e ≡ KeepError.Shape) }
 {
     let (number, rest) = cut(bytes, 8)?;
     Ok((u64_at(number, 0), rest))
@@ -87,7 +87,7 @@ fn read_u128(bytes: &[u8]) -> Result<(u128, &[u8]), KeepError>
     ensures right { (n : ℕ) (rest : List ℕ) → n < 2 ^ 128 →
         bytes.now ≡ to_be_bytes w128 n ++ rest →
         IfOkButMemory result (λ r. (r.0 ≡ n) × (r.1.now ≡ rest)) }
-    ensures kind { IfErr result IsOfBody }
+    ensures kind { IfErr result (λ e. e ≡ KeepError.Shape) }
 {
     let (number, rest) = cut(bytes, 16)?;
     Ok((u128_at(number, 0), rest))
@@ -113,7 +113,7 @@ fn mark_of(byte: u8) -> Result<bool, KeepError>
     ensures spelled { IfOk result (λ mark. byte ≡ mark_byte mark) }
     ensures right { (mark : Bool) → byte ≡ mark_byte mark →
         IfOkButMemory result (λ r. r ≡ mark) }
-    ensures kind { IfErr result IsOfBody }
+    ensures kind { IfErr result (λ e. e ≡ KeepError.Shape) }
 {
     match byte {
         0 => Ok(false),
@@ -127,7 +127,7 @@ fn read_mark(bytes: &[u8]) -> Result<(bool, &[u8]), KeepError>
     ensures spelled { IfOk result (λ r. bytes.now ≡ mark_byte r.0 ∷ r.1.now) }
     ensures right { (mark : Bool) (rest : List ℕ) → bytes.now ≡ mark_byte mark ∷ rest →
         IfOkButMemory result (λ r. (r.0 ≡ mark) × (r.1.now ≡ rest)) }
-    ensures kind { IfErr result IsOfBody }
+    ensures kind { IfErr result (λ e. e ≡ KeepError.Shape) }
 {
     let (first, rest) = cut(bytes, 1)?;
     Ok((mark_of(first[0])?, rest))
@@ -140,7 +140,7 @@ fn figures_of(bytes: &[u8]) -> Result<((bool, Tally), &[u8]), KeepError>
     ensures right { (mark : Bool) (tally : TallyValue) (rest : List ℕ) → IsSmall tally →
         bytes.now ≡ entry_bytes mark tally rest →
         IfOkButMemory result (λ r. (r.0.0 ≡ mark) × (value_of r.0.1 ≡ tally) × (r.1.now ≡ rest)) }
-    ensures kind { IfErr result IsOfBody }
+    ensures kind { IfErr result (λ e. e ≡ KeepError.Shape) }
 {
     let (mark, rest) = read_mark(bytes)?;
     let (last, rest) = read_u64(rest)?;
@@ -155,6 +155,9 @@ fn figures_of(bytes: &[u8]) -> Result<((bool, Tally), &[u8]), KeepError>
 // Adds the vertex with this index, whose registers are zeros so far, and answers the bytes after it.
 fn add_vertex<'a>(vertices: &mut Vertices, i: usize, bytes: &'a [u8]) -> Result<&'a [u8], KeepError>
     requires place { i < length vertices.old.rows.rows }
+    requires marks { length vertices.old.marks.items ≡ i }
+    requires tallies { length vertices.old.tallies.items ≡ i }
+    requires room { HasRoom vertices.old }
     requires zeros { slice_index_or vertices.old.rows.rows i []
         ≡ replicate vertices.old.rows.width 0 }
     ensures added { IfOk result (λ rest.
@@ -165,19 +168,21 @@ fn add_vertex<'a>(vertices: &mut Vertices, i: usize, bytes: &'a [u8]) -> Result<
         × (r.now ≡ rest)) }
     ensures width { vertices.new.rows.width ≡ vertices.old.rows.width }
     ensures count { length vertices.new.rows.rows ≡ length vertices.old.rows.rows }
-    ensures kind { IfErr result IsOfBody }
+    ensures room { HasRoom vertices.new }
+    ensures kind { IfErr result (λ e. e ≡ KeepError.Shape) }
 {
     let ((mark, tally), after) = figures_of(bytes)?;
     let (row, rest) = cut(after, vertices.rows.width())?;
-    add(&mut vertices.marks, mark)?;
-    add(&mut vertices.tallies, tally)?;
+    vertices.marks.push_reserved(mark);
+    vertices.tallies.push_reserved(tally);
     vertices.rows.raise(i, row);
     Ok(rest)
 }
 
 // Adds the vertices, ascending, where there are none yet, and answers the bytes after them.
 fn add_vertices<'a>(vertices: &mut Vertices, bytes: &'a [u8]) -> Result<&'a [u8], KeepError>
-    requires { AreNone vertices.old }
+    requires none { AreNone vertices.old }
+    requires room { HasRoom vertices.old }
     ensures told { IfOk result (λ rest.
         AreTold (length vertices.new.rows.rows) vertices.new bytes.now rest.now) }
     ensures right { (v : State) (rest : List ℕ) → IsKeepable v →
@@ -187,7 +192,7 @@ fn add_vertices<'a>(vertices: &mut Vertices, bytes: &'a [u8]) -> Result<&'a [u8]
         IfOkButMemory result (λ r. AreOf v vertices.new × (r.now ≡ rest)) }
     ensures width { vertices.new.rows.width ≡ vertices.old.rows.width }
     ensures count { length vertices.new.rows.rows ≡ length vertices.old.rows.rows }
-    ensures kind { IfErr result IsOfBody }
+    ensures kind { IfErr result (λ e. e ≡ KeepError.Shape) }
 {
     let mut rest = bytes;
     for i in 0..vertices.rows.len() {
@@ -199,6 +204,7 @@ fn add_vertices<'a>(vertices: &mut Vertices, bytes: &'a [u8]) -> Result<&'a [u8]
 // No vertices yet, with the room for all of the part.
 fn no_vertices(alloc: Global, part: &Part) -> Result<Vertices, KeepError>
     ensures none { IfOk result AreNone }
+    ensures room { IfOk result HasRoom }
     ensures width { IfOk result (λ v. v.rows.width ≡ 2 ^ part.now.plan.log2m) }
     ensures count { IfOk result (λ v. length v.rows.rows ≡ length part.now.preds) }
     ensures kind { IfErr result (λ e. e ≡ KeepError.Memory) }
@@ -209,6 +215,27 @@ fn no_vertices(alloc: Global, part: &Part) -> Result<Vertices, KeepError>
         marks: Vec::with_capacity(alloc, size as usize)?,
         tallies: Vec::with_capacity(alloc, size as usize)?,
     })
+}
+
+// Adds so many sums, for which there is room, and answers the bytes after them.
+fn add_sums<'a>(sums: &mut Vec<u128>, count: usize, bytes: &'a [u8]) -> Result<&'a [u8], KeepError>
+    requires none { sums.old.items ≡ [] }
+    requires room { count ≤ vec_capacity sums.old }
+    ensures spelled { IfOk result (λ rest. bytes.now
+        ≡ flat_map (to_be_bytes w128) sums.new.items ++ rest.now) }
+    ensures right { (wanted rest : List ℕ) → ((i : ℕ) → slice_index_or wanted i 0 < 2 ^ 128) →
+        length wanted ≡ count → bytes.now ≡ flat_map (to_be_bytes w128) wanted ++ rest →
+        IfOkButMemory result (λ r. (sums.new.items ≡ wanted) × (r.now ≡ rest)) }
+    ensures count { OnOk result (length sums.new.items ≡ count) }
+    ensures kind { IfErr result (λ e. e ≡ KeepError.Shape) }
+{
+    let mut rest = bytes;
+    for _ in 0..count {
+        let (sum, after) = read_u128(rest)?;
+        sums.push_reserved(sum);
+        rest = after;
+    }
+    Ok(rest)
 }
 
 // The sums at each superstep up to the one given, and the bytes after them.
@@ -224,12 +251,7 @@ fn read_sums(alloc: Global, superstep: u32, bytes: &[u8]) -> Result<(Vec<u128>, 
 {
     let count = superstep as usize + 1;
     let mut sums = Vec::with_capacity(alloc, count)?;
-    let mut rest = bytes;
-    for _ in 0..count {
-        let (sum, after) = read_u128(rest)?;
-        add(&mut sums, sum)?;
-        rest = after;
-    }
+    let rest = add_sums(&mut sums, count, bytes)?;
     Ok((sums, rest))
 }
 
@@ -245,7 +267,7 @@ fn put_rows<'a>(rows: &mut Rows, bytes: &'a [u8]) -> Result<&'a [u8], KeepError>
         IfOkButMemory result (λ r. (rows.new.rows ≡ wanted) × (r.now ≡ rest)) }
     ensures width { rows.new.width ≡ rows.old.width }
     ensures count { length rows.new.rows ≡ length rows.old.rows }
-    ensures kind { IfErr result IsOfBody }
+    ensures kind { IfErr result (λ e. e ≡ KeepError.Shape) }
 {
     let mut rest = bytes;
     for i in 0..rows.len() {
@@ -259,6 +281,7 @@ fn put_rows<'a>(rows: &mut Rows, bytes: &'a [u8]) -> Result<&'a [u8], KeepError>
 // Why a batch is refused, as a checkpoint's reader tells it.
 fn refusal(e: BatchError) -> KeepError
     ensures memory { (b : BatchValue) → GivesOrMemory (Err e) (Ok b) → result ≡ KeepError.Memory }
+    ensures wanting { result ≡ KeepError.Memory → e ≡ BatchError.Memory }
     ensures kind { IsOfBody result }
 {
     match e {
@@ -272,6 +295,8 @@ fn decode(alloc: Global, part: &Part, bytes: &[u8]) -> Result<Batch, KeepError>
     ensures spelled { IfOk result (λ b. bytes.now ≡ batch_bytes b) }
     ensures right { (b : BatchValue) → IsOfPlan part.now.plan b → bytes.now ≡ batch_bytes b →
         IfOkButMemory result (λ r. r ≡ b) }
+    ensures wanting { IfErr result (λ e. e ≡ KeepError.Memory →
+        IsOk (batch_at part.now.plan bytes.now)) }
     ensures kind { IfErr result IsOfBody }
 {
     match Batch::decode(alloc, part.plan(), bytes) {
@@ -293,7 +318,7 @@ fn read_batch<'a>(
         IfOkButMemory result (λ r. (arc_value r.0 ≡ b) × (r.1.now ≡ rest)) }
     ensures kind { IfErr result IsOfBody }
 {
-    let (length, after) = cut(bytes, 8)?;
+    let (length, after) = cut(bytes, LENGTH_LEN)?;
     let (spelling, rest) = cut(after, u64_at(length, 0) as usize)?;
     let batch = decode(alloc, part, spelling)?;
     Ok((shared(alloc, batch)?, rest))
@@ -335,7 +360,7 @@ fn read_early(alloc: Global, part: &Part, bytes: &[u8]) -> Result<Vec<Arc<Batch>
         IfOkButMemory result (λ early. map arc_value early.items ≡ batches) }
     ensures kind { IfErr result IsOfBody }
 {
-    let (number, after) = cut(bytes, 2)?;
+    let (number, after) = cut(bytes, COUNT_LEN)?;
     let mut early = Vec::new(alloc);
     let rest = add_batches(alloc, part, u16_at(number, 0), after, &mut early)?;
     if !rest.is_empty() {
@@ -362,7 +387,7 @@ fn read_held(alloc: Global, part: &Part, bytes: &[u8]) -> Result<Held, KeepError
     ensures width { IfOk result (λ h. h.accumulated.width ≡ 2 ^ part.now.plan.log2m) }
     ensures kind { IfErr result IsOfBody }
 {
-    let (fields, after) = cut(bytes, 9)?;
+    let (fields, after) = cut(bytes, HEARD_LEN)?;
     let heard_change = mark_of(fields[8])?;
     let mut accumulated = no_rows(alloc, part)?;
     let rest = put_rows(&mut accumulated, after)?;

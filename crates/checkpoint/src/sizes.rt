@@ -20,3 +20,6 @@ pub(crate) const LENGTH_LEN: usize = 8;
 
 /// The SHA-256 of all before.
 pub(crate) const DIGEST_LEN: usize = 32;
+
+/// How many bytes are read, or digested and written, at once, at most.
+pub(crate) const PIECE: usize = 4096;

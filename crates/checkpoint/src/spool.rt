@@ -4,15 +4,13 @@ ghost use Rattle.std.specs.Prelude.{◌≡◌, ℕ, List, ◌+◌, ◌≤◌, �
 ghost use Rattle.std.specs.List.{flat_map};
 ghost use Rattle.sha2.specs.Hashers.{Holds256};
 ghost use Rattle.sha2.specs.Sha256.{sha256};
-ghost use Rattle.checkpoint.specs.declared.spool.TheConstants.{PIECE};
+ghost use Rattle.checkpoint.specs.declared.sizes.TheConstants.{PIECE};
 ghost use Rattle.checkpoint.specs.Writing.{Hashes, Writes, Stops};
 
 use crate::error::Failed;
+use crate::sizes::PIECE;
 use ball_model::{CountedWrite, put_all};
 use sha2::{Digest, Sha256};
-
-/// How many bytes are digested and written at once, as far as there are so many.
-pub const PIECE: usize = 4096;
 
 /// Bytes that wait to be digested and written, and the digest of those before them. It takes no memory.
 #[derive(Drop)]

@@ -5,24 +5,21 @@ ghost use Rattle.std.specs.Int.{w16, w64, from_be_bytes};
 ghost use Rattle.std.specs.Io.KnownBytes.{Consumes, IsAtEnd};
 ghost use Rattle.sha2.specs.Sha256.{sha256};
 ghost use Rattle.batches.specs.Kept.{field};
-ghost use Rattle.checkpoint.specs.Reading.{needs, Takes, Grows, Fails, is_batch_length, batch_form, batches_form, greatest_batch, early_form, most_early, body_form, most_body, fixed_length, seal_form};
+ghost use Rattle.checkpoint.specs.Reading.{needs, Takes, Grows, Fails, is_batch_length, batch_form, batches_form, greatest_batch, early_form, most_early, body_form, most_after, fixed_length, seal_form};
 
 use crate::error::KeepError;
 use crate::header::Header;
-use crate::sizes::{COUNT_LEN, DIGEST_LEN, ENTRY_LEN, HEARD_LEN, LENGTH_LEN, SUM_LEN};
+use crate::sizes::{COUNT_LEN, DIGEST_LEN, ENTRY_LEN, HEARD_LEN, LENGTH_LEN, PIECE, SUM_LEN};
 use ball_model::{CountedRead, Filled, Plan, fill};
 use edgelist::Part;
 use sha2::{Digest, Sha256};
-
-/// How many bytes are read at once, at most.
-const PIECE: usize = 4096;
 
 // The big-endian number of eight bytes at a place.
 pub(crate) fn u64_at(bytes: &[u8], at: usize) -> u64
     requires { at + 8 ≤ length bytes.now }
     ensures { result ≡ field w64 at bytes.now }
 {
-    let mut number = [0; LENGTH_LEN];
+    let mut number = [0; 8];
     number.copy_from_slice(&bytes[at..at + 8]);
     u64::from_be_bytes(number)
 }
@@ -101,9 +98,9 @@ fn read_batch<R: CountedRead>(
     text: &mut Vec<u8>,
 ) -> Result<(), KeepError>
     ensures done { OnOk result (Grows R.remaining R.failed_calls R.sure_calls (batch_form plan.now)
-        (8 + greatest_batch plan.now) reader.old reader.new text.old.items text.new.items) }
+        (LENGTH_LEN + greatest_batch plan.now) reader.old reader.new text.old.items text.new.items) }
     ensures fails { IfErr result (λ e. Fails R.remaining R.failed_calls R.sure_calls
-        (batch_form plan.now) (8 + greatest_batch plan.now) reader.old reader.new e) }
+        (batch_form plan.now) (LENGTH_LEN + greatest_batch plan.now) reader.old reader.new e) }
 {
     let mut number = [0; LENGTH_LEN];
     read_full(reader, &mut number)?;
@@ -123,10 +120,10 @@ fn read_batches<R: CountedRead>(
     count: u16,
 ) -> Result<(), KeepError>
     ensures done { OnOk result (Grows R.remaining R.failed_calls R.sure_calls
-        (batches_form plan.now count) (count * (8 + greatest_batch plan.now)) reader.old reader.new
+        (batches_form plan.now count) (count * (LENGTH_LEN + greatest_batch plan.now)) reader.old reader.new
         text.old.items text.new.items) }
     ensures fails { IfErr result (λ e. Fails R.remaining R.failed_calls R.sure_calls
-        (batches_form plan.now count) (count * (8 + greatest_batch plan.now)) reader.old reader.new
+        (batches_form plan.now count) (count * (LENGTH_LEN + greatest_batch plan.now)) reader.old reader.new
         e) }
 {
     for _ in 0..count {
@@ -179,10 +176,10 @@ pub(crate) fn read_body<R: CountedRead>(
 ) -> Result<(), KeepError>
     requires { header.now.superstep ≤ 4096 }
     ensures done { OnOk result (Grows R.remaining R.failed_calls R.sure_calls
-        (body_form part.now header.now) (most_body part.now header.now.superstep)
+        (body_form part.now header.now) (most_after part.now header.now)
         reader.old reader.new text.old.items text.new.items) }
     ensures fails { IfErr result (λ e. Fails R.remaining R.failed_calls R.sure_calls
-        (body_form part.now header.now) (most_body part.now header.now.superstep)
+        (body_form part.now header.now) (most_after part.now header.now)
         reader.old reader.new e) }
 {
     read_more(reader, text, fixed_len(part, header))?;
@@ -199,7 +196,7 @@ pub(crate) fn read_seal<R: CountedRead>(reader: &mut R, text: &[u8]) -> Result<(
     ensures counted { OnOk result (R.failed_calls reader.new ≡ R.failed_calls reader.old) }
     ensures end { OnOk result (IsAtEnd (R.remaining reader.new)) }
     ensures fails { IfErr result (λ e. Fails R.remaining R.failed_calls R.sure_calls
-        (seal_form text.now) 33 reader.old reader.new e) }
+        (seal_form text.now) (DIGEST_LEN + 1) reader.old reader.new e) }
 {
     let mut digest = [0; DIGEST_LEN];
     match fill(reader, &mut digest) {

@@ -13,13 +13,11 @@ ghost use Rattle.checkpoint.specs.Spooled.{Passes, waiting};
 ghost use Rattle.checkpoint.specs.Parts.{heard_bytes, count_bytes, nth_bytes};
 
 use crate::error::{Failed, KeepError};
+use crate::header::MAGIC;
 use crate::spool::Spool;
 use ball_model::CountedWrite;
 use batches::Batch;
 use replica::{Replica, Shown};
-
-/// `HBCK`.
-const MAGIC: [u8; 4] = [0x48, 0x42, 0x43, 0x4b];
 
 /// The version that is written.
 const VERSION: u8 = 2;
@@ -88,7 +86,7 @@ fn keep_front<W: CountedWrite>(
     spool.keep_all(
         writer,
         &[
-            &MAGIC,
+            &MAGIC.to_be_bytes(),
             &[VERSION],
             &[plan.log2m()],
             &plan.parts().to_be_bytes(),

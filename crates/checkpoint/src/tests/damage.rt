@@ -2,7 +2,7 @@
 
 ghost use Rattle.std.specs.Prelude.{◌<◌};
 
-use super::reading::{both, part, read};
+use super::reading::{part, refusal, second};
 use crate::KeepError;
 use edgelist::Part;
 use std::sync::Arc;
@@ -59,21 +59,26 @@ fn is_told(rt: &HostRuntime, part: &Arc<Part>, bytes: &mut [u8], place: usize) -
     let mut all = true;
     for bit in 0..8 {
         turn(bytes, place, bit);
-        all &= read(rt, part, bytes)?.err()? == wanted(place, bit);
+        all &= refusal(rt, part, bytes)? == Some(wanted(place, bit));
         turn(bytes, place, bit);
     }
     Some(all)
 }
 
 // Whether each bit of all bytes does.
-fn are_told(rt: &HostRuntime) -> Option<bool> {
-    let part = part(rt, 0)?;
-    let (_, mut bytes) = both(rt, &part)?;
+fn all_told(rt: &HostRuntime, part: &Arc<Part>, bytes: &mut [u8]) -> Option<bool> {
     let mut all = true;
     for place in 0..340 {
-        all &= is_told(rt, &part, &mut bytes, place)?;
+        all &= is_told(rt, part, bytes, place)?;
     }
     Some(all)
+}
+
+// Those of the checkpoint of two edges.
+fn are_told(rt: &HostRuntime) -> Option<bool> {
+    let part = part(rt, 0)?;
+    let mut bytes = second(rt, &part)?;
+    all_told(rt, &part, &mut bytes)
 }
 
 #[test]
@@ -107,25 +112,36 @@ fn shake(bytes: &mut [u8], state: &mut u64) {
 
 // Whether bytes are refused, and not for want of memory; or they are those of the checkpoint.
 fn is_refused(rt: &HostRuntime, part: &Arc<Part>, bytes: &[u8], whole: &[u8]) -> Option<bool> {
-    match read(rt, part, bytes)? {
-        Ok(_) => Some(bytes == whole),
-        Err(fault) => Some(fault != KeepError::Memory && fault != KeepError::Read),
+    match refusal(rt, part, bytes)? {
+        None => Some(bytes == whole),
+        Some(fault) => Some(fault != KeepError::Memory && fault != KeepError::Read),
     }
 }
 
-// Whether one with bits turned, and a random one that is cut somewhere, are refused.
+// Whether bytes with bits turned, and random ones that are cut somewhere, are refused.
+fn are_both_refused(
+    rt: &HostRuntime,
+    part: &Arc<Part>,
+    bytes: &mut [u8],
+    whole: &[u8],
+    state: &mut u64,
+) -> Option<bool> {
+    scatter(bytes, state);
+    let turned = is_refused(rt, part, bytes, whole)?;
+    shake(bytes, state);
+    let len = (next(state) % 341) as usize;
+    Some(turned && is_refused(rt, part, bytes.get(..len)?, whole)?)
+}
+
+// The same of the bytes of a checkpoint.
 fn is_one_refused(
     rt: &HostRuntime,
     part: &Arc<Part>,
     whole: &[u8],
     state: &mut u64,
 ) -> Option<bool> {
-    let (_, mut bytes) = both(rt, part)?;
-    scatter(&mut bytes, state);
-    let turned = is_refused(rt, part, &bytes, whole)?;
-    shake(&mut bytes, state);
-    let len = (next(state) % 341) as usize;
-    Some(turned && is_refused(rt, part, bytes.get(..len)?, whole)?)
+    let mut bytes = second(rt, part)?;
+    are_both_refused(rt, part, &mut bytes, whole, state)
 }
 
 // Whether a thousand of both are.
@@ -141,7 +157,7 @@ fn all_refused(rt: &HostRuntime, part: &Arc<Part>, whole: &[u8]) -> Option<bool>
 // Whether those of the checkpoint of two edges are.
 fn are_refused(rt: &HostRuntime) -> Option<bool> {
     let part = part(rt, 0)?;
-    let (_, whole) = both(rt, &part)?;
+    let whole = second(rt, &part)?;
     all_refused(rt, &part, &whole)
 }
 

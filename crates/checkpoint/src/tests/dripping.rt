@@ -6,9 +6,11 @@ use super::reading::half;
 use super::writing::{WINDOW_EDGE, writes};
 use crate::{KeepError, read_checkpoint};
 use ball_model::CountingReader;
+use edgelist::Part;
 use replica::Replica;
 use std::io;
 use std::io::{ErrorKind, Read};
+use std::sync::Arc;
 
 // A reader that gives a byte at a time, and whose call `fails_at` and all later ones fail.
 #[derive(Drop)]
@@ -40,9 +42,9 @@ impl<'a> Read for Dripping<'a> {
     }
 }
 
-// The replica of the window's edge, where that call fails.
-fn drip(rt: &HostRuntime, fails_at: u64) -> Option<Result<Replica, KeepError>> {
-    let part = half(rt, 1)?;
+// What comes of reading the window's edge, where that call fails.
+fn drip(rt: &HostRuntime, part: &Arc<Part>, fails_at: u64) -> Option<Result<Replica, KeepError>> {
+    let part = part.clone().ok()?;
     let mut reader = CountingReader::new(Dripping {
         bytes: &WINDOW_EDGE,
         calls: 0,
@@ -52,22 +54,27 @@ fn drip(rt: &HostRuntime, fails_at: u64) -> Option<Result<Replica, KeepError>> {
 }
 
 // Whether each call that fails is told, the 305 of bytes and the one that finds the end.
-fn drips_fail(rt: &HostRuntime) -> Option<bool> {
+fn drips_fail(rt: &HostRuntime, part: &Arc<Part>) -> Option<bool> {
     let mut all = true;
     for call in 1..307 {
-        all &= drip(rt, call)?.err() == Some(KeepError::Read);
+        all &= drip(rt, part, call)?.err() == Some(KeepError::Read);
     }
     Some(all)
 }
 
 // Whether the same is read as where all bytes come at once.
-fn drips_whole(rt: &HostRuntime) -> Option<bool> {
-    let replica = drip(rt, 307)?.ok()?;
+fn drips_whole(rt: &HostRuntime, part: &Arc<Part>) -> Option<bool> {
+    let replica = drip(rt, part, 307)?.ok()?;
     writes(rt, &replica, &WINDOW_EDGE)
+}
+
+// Both, with the part of the window's edge.
+fn drips(rt: &HostRuntime) -> Option<(bool, bool)> {
+    let part = half(rt, 1)?;
+    Some((drips_whole(rt, &part)?, drips_fail(rt, &part)?))
 }
 
 #[test]
 fn a_byte_at_a_time(rt: HostRuntime) {
-    assert_eq!(rt; drips_whole(&rt), Some(true));
-    assert_eq!(rt; drips_fail(&rt), Some(true));
+    assert_eq!(rt; drips(&rt), Some((true, true)));
 }

@@ -34,16 +34,21 @@ pub(super) fn part(rt: &HostRuntime, seed: u64) -> Option<Arc<Part>> {
     part_of(rt, b"a\tb\nb\tc\n", seed, 1, 0)
 }
 
-// The fixed fields of a version, the vertices and the sums, and then what is held.
-fn content(rt: &HostRuntime, part: &Part, version: u8, held: &[u8]) -> Option<Vec<u8>> {
-    let mut bytes = Vec::new(rt.alloc());
+// Adds the fixed fields of a version, the vertices and the sums, and then what is held.
+fn put_content(bytes: &mut Vec<u8>, part: &Part, version: u8, held: &[u8]) -> Option<()> {
     bytes.extend_from_slice(b"HBCK").ok()?;
     bytes
         .extend_from_slice(&[version, 4, 0, 1, 0, 0, 0, 0, 0, 3, 0, 0, 0, 3, 0, 0, 0, 2])
         .ok()?;
     bytes.extend_from_slice(&part.plan().job()).ok()?;
     bytes.extend_from_slice(&TABLE).ok()?;
-    bytes.extend_from_slice(held).ok()?;
+    bytes.extend_from_slice(held).ok()
+}
+
+// These alone.
+fn content(rt: &HostRuntime, part: &Part, version: u8, held: &[u8]) -> Option<Vec<u8>> {
+    let mut bytes = Vec::new(rt.alloc());
+    put_content(&mut bytes, part, version, held)?;
     Some(bytes)
 }
 
@@ -64,16 +69,28 @@ pub(super) fn read(
     Some(read_checkpoint(rt.alloc(), part, &mut MemReader::new(bytes, None)))
 }
 
-// The refusal of the bytes.
-fn refusal(rt: &HostRuntime, part: &Arc<Part>, bytes: &[u8]) -> Option<KeepError> {
-    read(rt, part, bytes)?.err()
+// Whether the bytes are refused, and why.
+pub(super) fn refusal(
+    rt: &HostRuntime,
+    part: &Arc<Part>,
+    bytes: &[u8],
+) -> Option<Option<KeepError>> {
+    Some(read(rt, part, bytes)?.err())
 }
 
-// The bytes of both versions.
-pub(super) fn both(rt: &HostRuntime, part: &Part) -> Option<(Vec<u8>, Vec<u8>)> {
-    let first = seal(content(rt, part, 1, &[])?)?;
-    let second = seal(content(rt, part, 2, &HELD)?)?;
-    Some((first, second))
+// The refusal of the bytes.
+fn refused(rt: &HostRuntime, part: &Arc<Part>, bytes: &[u8]) -> Option<KeepError> {
+    refusal(rt, part, bytes)?
+}
+
+// The bytes of version 1.
+pub(super) fn first(rt: &HostRuntime, part: &Part) -> Option<Vec<u8>> {
+    seal(content(rt, part, 1, &[])?)
+}
+
+// Those of version 2.
+pub(super) fn second(rt: &HostRuntime, part: &Part) -> Option<Vec<u8>> {
+    seal(content(rt, part, 2, &HELD)?)
 }
 
 // Superstep, the figures of vertex 2, and how many names it holds.
@@ -94,22 +111,29 @@ fn told(replica: &Replica) -> Option<(u32, u64, u64, u128, u32)> {
 // So many bytes are read as superstep 2.
 fn is_read(rt: &HostRuntime, part: &Arc<Part>, bytes: &[u8], count: usize) -> Option<bool> {
     let replica = read(rt, part, bytes)?.ok()?;
-    let wanted = (2, 12_417_153, 751_274, 1_856_191, 0);
-    Some(bytes.len() == count && told(&replica)? == wanted)
+    let wanted = Some((2, 12_417_153, 751_274, 1_856_191, 0));
+    Some(bytes.len() == count && told(&replica) == wanted)
 }
 
 // Both versions are.
 fn reads(rt: &HostRuntime) -> Option<bool> {
     let part = part(rt, 0)?;
-    let (first, second) = both(rt, &part)?;
-    Some(is_read(rt, &part, &first, 281)? && is_read(rt, &part, &second, 340)?)
+    Some(is_first_read(rt, &part)? && is_second_read(rt, &part)?)
+}
+
+fn is_first_read(rt: &HostRuntime, part: &Arc<Part>) -> Option<bool> {
+    is_read(rt, part, &first(rt, part)?, 281)
+}
+
+fn is_second_read(rt: &HostRuntime, part: &Arc<Part>) -> Option<bool> {
+    is_read(rt, part, &second(rt, part)?, 340)
 }
 
 // Each cut of the bytes ends too early.
 fn cuts(rt: &HostRuntime, part: &Arc<Part>, bytes: &[u8]) -> Option<bool> {
     let mut all = true;
     for n in 0..bytes.len() {
-        all &= refusal(rt, part, &bytes[..n])? == KeepError::Short;
+        all &= refused(rt, part, &bytes[..n])? == KeepError::Short;
     }
     Some(all)
 }
@@ -136,18 +160,24 @@ fn failing(rt: &HostRuntime, part: &Arc<Part>, bytes: &[u8]) -> Option<bool> {
     Some(all && failing_at(rt, part, bytes, 6)?.is_none())
 }
 
+// Puts another byte at a place.
+fn put_byte(bytes: &mut [u8], at: usize, byte: u8) -> Option<()> {
+    *bytes.get_mut(at)? = byte;
+    Some(())
+}
+
 // The bytes with another byte at a place, refused with the digest that they have.
 fn changed(rt: &HostRuntime, part: &Arc<Part>, at: usize, byte: u8) -> Option<KeepError> {
-    let (_, mut bytes) = both(rt, part)?;
-    *bytes.get_mut(at)? = byte;
-    refusal(rt, part, &bytes)
+    let mut bytes = second(rt, part)?;
+    put_byte(&mut bytes, at, byte)?;
+    refused(rt, part, &bytes)
 }
 
 // The same, with the right digest.
 fn sealed(rt: &HostRuntime, part: &Arc<Part>, at: usize, byte: u8) -> Option<KeepError> {
     let mut bytes = content(rt, part, 2, &HELD)?;
-    *bytes.get_mut(at)? = byte;
-    refusal(rt, part, &seal(bytes)?)
+    put_byte(&mut bytes, at, byte)?;
+    refused(rt, part, &seal(bytes)?)
 }
 
 // What the body tells, each fault with the right digest: a mark, a last estimate, harm and dist above what a run has, a
@@ -176,25 +206,18 @@ fn bodies(rt: &HostRuntime, part: &Arc<Part>) -> Option<bool> {
 
 // The faults of the fixed fields.
 fn heads(rt: &HostRuntime, part: &Arc<Part>) -> Option<bool> {
-    let found = (
-        changed(rt, part, 0, b'h')?,
-        changed(rt, part, 4, 3)?,
-        changed(rt, part, 53, 0)?,
-        changed(rt, part, 9, 1)?,
-        changed(rt, part, 5, 5)?,
-        changed(rt, part, 18, 1)?,
-    );
-    Some(
-        found
-            == (
-                KeepError::Magic,
-                KeepError::Version,
-                KeepError::OtherJob,
-                KeepError::OtherPart,
-                KeepError::Shape,
-                KeepError::Shape,
-            ),
-    )
+    let mut all = true;
+    for (at, byte, wanted) in [
+        (0, b'h', KeepError::Magic),
+        (4, 3, KeepError::Version),
+        (53, 0, KeepError::OtherJob),
+        (9, 1, KeepError::OtherPart),
+        (5, 5, KeepError::Shape),
+        (18, 1, KeepError::Shape),
+    ] {
+        all &= changed(rt, part, at, byte)? == wanted;
+    }
+    Some(all)
 }
 
 #[test]
@@ -203,15 +226,19 @@ fn both_versions_are_read(rt: HostRuntime) {
 }
 
 // What comes of cuts, of failed calls, of faults of the fixed fields and of the body.
+fn faults_of(rt: &HostRuntime, part: &Arc<Part>, bytes: &[u8]) -> Option<(bool, bool, bool, bool)> {
+    Some((
+        cuts(rt, part, bytes)?,
+        failing(rt, part, bytes)?,
+        heads(rt, part)?,
+        bodies(rt, part)?,
+    ))
+}
+
 fn faults(rt: &HostRuntime) -> Option<(bool, bool, bool, bool)> {
     let part = part(rt, 0)?;
-    let (_, bytes) = both(rt, &part)?;
-    Some((
-        cuts(rt, &part, &bytes)?,
-        failing(rt, &part, &bytes)?,
-        heads(rt, &part)?,
-        bodies(rt, &part)?,
-    ))
+    let bytes = second(rt, &part)?;
+    faults_of(rt, &part, &bytes)
 }
 
 #[test]
@@ -222,27 +249,40 @@ fn faults_are_told(rt: HostRuntime) {
 // The refusal of the bytes under another seed.
 fn of_other_job(rt: &HostRuntime, bytes: &[u8]) -> Option<KeepError> {
     let other = part(rt, 1)?;
-    refusal(rt, &other, bytes)
+    refused(rt, &other, bytes)
 }
 
-// The refusal of the bytes and one more.
+// Adds the bytes and one more.
+fn put_more(more: &mut Vec<u8>, bytes: &[u8]) -> Option<()> {
+    more.extend_from_slice(bytes).ok()?;
+    more.push(0).ok()
+}
+
+// The refusal of these.
 fn trailing(rt: &HostRuntime, part: &Arc<Part>, bytes: &[u8]) -> Option<KeepError> {
     let mut more = Vec::new(rt.alloc());
-    more.extend_from_slice(bytes).ok()?;
-    more.push(0).ok()?;
-    refusal(rt, part, &more)
+    put_more(&mut more, bytes)?;
+    refused(rt, part, &more)
 }
 
 // Another seed, a changed bit of a vertex, one byte more, and a number of early batches above none.
+fn others_of(
+    rt: &HostRuntime,
+    own: &Arc<Part>,
+    bytes: &[u8],
+) -> Option<(KeepError, KeepError, KeepError, KeepError)> {
+    Some((
+        of_other_job(rt, bytes)?,
+        changed(rt, own, 60, 1)?,
+        trailing(rt, own, bytes)?,
+        changed(rt, own, 307, 1)?,
+    ))
+}
+
 fn others(rt: &HostRuntime) -> Option<(KeepError, KeepError, KeepError, KeepError)> {
     let own = part(rt, 0)?;
-    let bytes = seal(content(rt, &own, 2, &HELD)?)?;
-    Some((
-        of_other_job(rt, &bytes)?,
-        changed(rt, &own, 60, 1)?,
-        trailing(rt, &own, &bytes)?,
-        changed(rt, &own, 307, 1)?,
-    ))
+    let bytes = second(rt, &own)?;
+    others_of(rt, &own, &bytes)
 }
 
 #[test]
@@ -271,17 +311,26 @@ fn odd_part(rt: &HostRuntime) -> Option<Arc<Part>> {
 // Its checkpoint is read, with its early batch, and written again.
 fn keeps_early(rt: &HostRuntime, part: &Arc<Part>) -> Option<bool> {
     let replica = read(rt, part, &WINDOW_EDGE)?.ok()?;
-    Some(replica.early_count() == 1 && writes(rt, &replica, &WINDOW_EDGE)?)
+    writes_early(rt, &replica)
+}
+
+// Whether a replica keeps one batch, and writes these bytes.
+fn writes_early(rt: &HostRuntime, replica: &Replica) -> Option<bool> {
+    Some(replica.early_count() == 1 && writes(rt, replica, &WINDOW_EDGE)?)
 }
 
 // And each cut is too short, and one byte more trails.
+fn reads_early_of(rt: &HostRuntime, part: &Arc<Part>) -> Option<(bool, bool, KeepError)> {
+    Some((
+        keeps_early(rt, part)?,
+        cuts(rt, part, &WINDOW_EDGE)?,
+        trailing(rt, part, &WINDOW_EDGE)?,
+    ))
+}
+
 fn reads_early(rt: &HostRuntime) -> Option<(bool, bool, KeepError)> {
     let part = odd_part(rt)?;
-    Some((
-        keeps_early(rt, &part)?,
-        cuts(rt, &part, &WINDOW_EDGE)?,
-        trailing(rt, &part, &WINDOW_EDGE)?,
-    ))
+    reads_early_of(rt, &part)
 }
 
 #[test]
@@ -289,18 +338,22 @@ fn an_early_batch_is_read(rt: HostRuntime) {
     assert_eq!(rt; reads_early(&rt), Some((true, true, KeepError::Trailing)));
 }
 
-// The refusal of these bytes with another one at a place, and the right digest.
-fn resealed(rt: &HostRuntime, part: &Arc<Part>, at: usize, byte: u8) -> Option<KeepError> {
-    let mut bytes = Vec::new(rt.alloc());
+// Adds these bytes up to the digest, with another one at a place.
+fn put_changed(bytes: &mut Vec<u8>, at: usize, byte: u8) -> Option<()> {
     bytes.extend_from_slice(&WINDOW_EDGE[..273]).ok()?;
-    *bytes.get_mut(at)? = byte;
-    refusal(rt, part, &seal(bytes)?)
+    put_byte(bytes, at, byte)
 }
 
-// A number of batches above three, a length that is no batch's, a batch that is none, of superstep 0 and of 4, of source 1, to target 0, and of a source
-// with more changed vertices than it has; and of another job.
-fn early_faults(rt: &HostRuntime) -> Option<bool> {
-    let part = odd_part(rt)?;
+// The refusal of them with the right digest.
+fn resealed(rt: &HostRuntime, part: &Arc<Part>, at: usize, byte: u8) -> Option<KeepError> {
+    let mut bytes = Vec::new(rt.alloc());
+    put_changed(&mut bytes, at, byte)?;
+    refused(rt, part, &seal(bytes)?)
+}
+
+// A number of batches above three, a length that is no batch's, a batch that is none, of superstep 0 and of 4, of
+// source 1, to target 0, and of a source with more changed vertices than it has; and of another job.
+fn early_faults_of(rt: &HostRuntime, part: &Arc<Part>) -> Option<bool> {
     let mut all = true;
     for (at, byte) in [
         (210, 4),
@@ -313,9 +366,14 @@ fn early_faults(rt: &HostRuntime) -> Option<bool> {
         (268, 9),
         (233, WINDOW_EDGE[233] ^ 1),
     ] {
-        all &= resealed(rt, &part, at, byte)? == KeepError::Shape;
+        all &= resealed(rt, part, at, byte)? == KeepError::Shape;
     }
     Some(all)
+}
+
+fn early_faults(rt: &HostRuntime) -> Option<bool> {
+    let part = odd_part(rt)?;
+    early_faults_of(rt, &part)
 }
 
 #[test]
@@ -323,25 +381,34 @@ fn untrue_early_batches_are_refused(rt: HostRuntime) {
     assert_eq!(rt; early_faults(&rt), Some(true));
 }
 
-// The checkpoint with two early batches, which tell the same of these supersteps.
+// Adds two early batches in the place of one, which tell the same of these supersteps.
+fn put_two(bytes: &mut Vec<u8>, first: u8, second: u8) -> Option<()> {
+    put_changed(bytes, 210, 2)?;
+    bytes.extend_from_slice(&WINDOW_EDGE[211..273]).ok()?;
+    put_byte(bytes, 228, first)?;
+    put_byte(bytes, 290, second)
+}
+
+// The checkpoint with them.
 fn two_early(rt: &HostRuntime, first: u8, second: u8) -> Option<Vec<u8>> {
     let mut bytes = Vec::new(rt.alloc());
-    bytes.extend_from_slice(&WINDOW_EDGE[..273]).ok()?;
-    bytes.extend_from_slice(&WINDOW_EDGE[211..273]).ok()?;
-    *bytes.get_mut(210)? = 2;
-    *bytes.get_mut(228)? = first;
-    *bytes.get_mut(290)? = second;
+    put_two(&mut bytes, first, second)?;
     seal(bytes)
 }
 
-// What comes of reading it: how many early batches there are, or the refusal.
-fn read_two(rt: &HostRuntime, first: u8, second: u8) -> Option<Result<u32, KeepError>> {
-    let part = odd_part(rt)?;
-    let bytes = two_early(rt, first, second)?;
-    match read(rt, &part, &bytes)? {
+// What comes of reading the bytes: how many early batches there are, or the refusal.
+fn early_in(rt: &HostRuntime, part: &Arc<Part>, bytes: &[u8]) -> Option<Result<u32, KeepError>> {
+    match read(rt, part, bytes)? {
         Ok(replica) => Some(Ok(replica.early_count())),
         Err(e) => Some(Err(e)),
     }
+}
+
+// What comes of reading that one.
+fn read_two(rt: &HostRuntime, first: u8, second: u8) -> Option<Result<u32, KeepError>> {
+    let part = odd_part(rt)?;
+    let bytes = two_early(rt, first, second)?;
+    early_in(rt, &part, &bytes)
 }
 
 // Early batches stand in order, and no name stands twice.
@@ -353,18 +420,37 @@ fn early_batches_stand_in_order(rt: HostRuntime) {
 }
 
 // What version 1 wrote is read, and written again in version 2; each cut of it is too short, and one byte more trails.
-fn reads_first(rt: &HostRuntime) -> Option<(bool, bool, KeepError)> {
-    let part = part(rt, 0)?;
-    let (first, second) = both(rt, &part)?;
+fn reads_first_of(
+    rt: &HostRuntime,
+    part: &Arc<Part>,
+    first: &[u8],
+) -> Option<(bool, bool, KeepError)> {
     Some((
-        is_written(rt, &part, &first, &second)?,
-        cuts(rt, &part, &first)?,
-        trailing(rt, &part, &first)?,
+        is_written_second(rt, part, first)?,
+        cuts(rt, part, first)?,
+        trailing(rt, part, first)?,
     ))
 }
 
+fn reads_first(rt: &HostRuntime) -> Option<(bool, bool, KeepError)> {
+    let part = part(rt, 0)?;
+    let first = first(rt, &part)?;
+    reads_first_of(rt, &part, &first)
+}
+
+// Whether the replica of the first bytes writes those of version 2.
+fn is_written_second(rt: &HostRuntime, part: &Arc<Part>, first: &[u8]) -> Option<bool> {
+    let second = second(rt, part)?;
+    is_written(rt, part, first, &second)
+}
+
 // Whether the replica of the first bytes writes the second ones.
-fn is_written(rt: &HostRuntime, part: &Arc<Part>, first: &[u8], second: &[u8]) -> Option<bool> {
+pub(super) fn is_written(
+    rt: &HostRuntime,
+    part: &Arc<Part>,
+    first: &[u8],
+    second: &[u8],
+) -> Option<bool> {
     let replica = read(rt, part, first)?.ok()?;
     writes(rt, &replica, second)
 }

@@ -108,11 +108,16 @@ fn goes_on_beside(rt: &HostRuntime, pair: &mut Pair, steps: u32) -> Option<bool>
     beside(rt, pair, &mut other, steps)
 }
 
+/// Whether it does after these steps are done.
+fn goes_on_after(rt: &HostRuntime, pair: &mut Pair, steps: u32) -> Option<bool> {
+    run(rt, pair, steps)?;
+    goes_on_beside(rt, pair, steps)
+}
+
 /// Whether a run from the start does.
 fn goes_on(rt: &HostRuntime, steps: u32) -> Option<bool> {
     let mut pair = begun(rt)?;
-    run(rt, &mut pair, steps)?;
-    goes_on_beside(rt, &mut pair, steps)
+    goes_on_after(rt, &mut pair, steps)
 }
 
 /// Whether it does after each number of steps.
@@ -141,19 +146,18 @@ fn advance_renewed(rt: &HostRuntime, pair: &mut Pair, step: u32) -> Option<()> {
     renew(rt, pair)
 }
 
-/// A whole run of such steps.
-fn run_renewed(rt: &HostRuntime, pair: &mut Pair) -> Option<()> {
+/// Whether a whole run of such steps ends as a run does.
+fn ends_renewed(rt: &HostRuntime, pair: &mut Pair) -> Option<bool> {
     for step in 0..16 {
         advance_renewed(rt, pair, step)?;
     }
-    Some(())
+    Some(are_stable(pair))
 }
 
-/// Whether it ends as a run does.
+/// Whether one from the start does.
 fn goes_on_from_each(rt: &HostRuntime) -> Option<bool> {
     let mut pair = begun(rt)?;
-    run_renewed(rt, &mut pair)?;
-    Some(are_stable(&pair))
+    ends_renewed(rt, &mut pair)
 }
 
 #[test]

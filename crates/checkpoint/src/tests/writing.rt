@@ -108,9 +108,14 @@ pub(super) fn writes(rt: &HostRuntime, replica: &Replica, wanted: &[u8]) -> Opti
 /// The replica of the edges a to b and b to c in one partition, at superstep 2.
 fn two_edges(rt: &HostRuntime) -> Option<Replica> {
     let mut replica = replica_of(rt, b"a\tb\nb\tc\n", 1, 0)?;
-    step(&mut replica)?;
-    step(&mut replica)?;
+    twice(&mut replica)?;
     Some(replica)
+}
+
+/// Two supersteps of a replica that waits for none.
+fn twice(replica: &mut Replica) -> Option<u32> {
+    step(replica)?;
+    step(replica)
 }
 
 /// Whether its bytes are those.
@@ -143,8 +148,13 @@ fn take_early(rt: &HostRuntime, replica: &mut Replica) -> Option<bool> {
 /// Whether the batch is new to the replica, and the bytes are those then.
 fn window_edge_is_written(rt: &HostRuntime) -> Option<(bool, bool)> {
     let mut replica = replica_of(rt, b"a\tb\nb\tc\nc\td\nd\te\n", 2, 1)?;
-    let new = take_early(rt, &mut replica)?;
-    Some((new, writes(rt, &replica, &WINDOW_EDGE)?))
+    writes_taken(rt, &mut replica)
+}
+
+/// The same of a replica at superstep 0.
+fn writes_taken(rt: &HostRuntime, replica: &mut Replica) -> Option<(bool, bool)> {
+    let new = take_early(rt, replica)?;
+    Some((new, writes(rt, replica, &WINDOW_EDGE)?))
 }
 
 #[test]
@@ -183,13 +193,18 @@ fn fails_without_room(rt: &HostRuntime, replica: &Replica) -> Option<bool> {
 }
 
 /// Whether a replica writes the same after every failure.
+fn failures_of(rt: &HostRuntime, replica: &Replica) -> Option<(bool, bool, bool)> {
+    Some((
+        fails_at_each_call(rt, replica)?,
+        fails_without_room(rt, replica)?,
+        writes(rt, replica, &TWO_EDGES)?,
+    ))
+}
+
+/// Whether the one of the two edges does.
 fn failures(rt: &HostRuntime) -> Option<(bool, bool, bool)> {
     let replica = two_edges(rt)?;
-    Some((
-        fails_at_each_call(rt, &replica)?,
-        fails_without_room(rt, &replica)?,
-        writes(rt, &replica, &TWO_EDGES)?,
-    ))
+    failures_of(rt, &replica)
 }
 
 #[test]
@@ -197,13 +212,23 @@ fn a_failing_writer(rt: HostRuntime) {
     assert!(rt; failures(&rt) == Some((true, true, true)));
 }
 
-/// The texts of all errors.
-#[test]
-fn texts_of_errors(rt: HostRuntime) {
-    assert!(rt; told(&rt, KeepError::Write, "the checkpoint cannot be written"));
-    assert!(rt; told(&rt, KeepError::OtherJob, "the checkpoint is of another job"));
-    assert!(rt; told(&rt, KeepError::Digest, "the digest is another one"));
-}
+/// Each error, and its text.
+const TEXTS: [(KeepError, &str); 11] = [
+    (KeepError::Write, "the checkpoint cannot be written"),
+    (KeepError::Read, "the checkpoint cannot be read"),
+    (KeepError::Short, "too few bytes"),
+    (KeepError::Magic, "not a checkpoint"),
+    (KeepError::Version, "not of version 1 or 2"),
+    (KeepError::OtherJob, "the checkpoint is of another job"),
+    (
+        KeepError::OtherPart,
+        "the checkpoint is of another partition",
+    ),
+    (KeepError::Shape, "no replica has this shape"),
+    (KeepError::Memory, "out of memory"),
+    (KeepError::Digest, "the digest is another one"),
+    (KeepError::Trailing, "bytes after the digest"),
+];
 
 /// Whether an error has that text.
 fn told(rt: &HostRuntime, error: KeepError, wanted: &str) -> bool {
@@ -211,4 +236,18 @@ fn told(rt: &HostRuntime, error: KeepError, wanted: &str) -> bool {
         Ok(text) => text.as_str() == wanted,
         Err(_) => false,
     }
+}
+
+/// Whether each has.
+fn all_told(rt: &HostRuntime) -> bool {
+    let mut all = true;
+    for (error, wanted) in TEXTS {
+        all &= told(rt, error, wanted);
+    }
+    all
+}
+
+#[test]
+fn texts_of_errors(rt: HostRuntime) {
+    assert!(rt; all_told(&rt));
 }

@@ -1,5 +1,6 @@
 use Rattle.std.proofs.Common.{◌≡◌, ◌+◌, ◌++◌, ℕ, List, ◌∙◌, ap, refl, sym, subst, arith}
 use Rattle.std.specs.Prelude.{IsOk, Result}
+use Rattle.std.specs.Io.KnownBytes.{Consumes}
 use Rattle.std.proofs.KnownBytes.{Consumes-trans}
 use Rattle.std.proofs.lemmas.List.{length-append}
 use Rattle.std.proofs.lemmas.Result.{err_from_is_err_and}
@@ -7,7 +8,7 @@ use Rattle.sha2.specs.Sha256.{sha256}
 use Rattle.sha2.proofs.Facts256.{length-sha256}
 use Rattle.checkpoint.specs.declared.error.KeepError.{KeepError}
 use Rattle.checkpoint.specs.Reading.{seal_form, most_bytes}
-use Rattle.checkpoint.proofs.ReaderLemmas.{fails_first, fails_second, fails_as, passes-seal, whole_fine, whole_read, whole_sealed}
+use Rattle.checkpoint.proofs.ReaderLemmas.{fails_first, fails_second, fails_as, passes-seal, whole_fine, whole_read, whole_sealed, within-more, within-seal}
 use Rattle.checkpoint.proofs.read.read_text.Goals as goal
 
 pub returns-in_err-header-clause-fails : goal.returns-in_err-header-clause-fails
@@ -49,3 +50,22 @@ returns-clause-sealed g c = λ bytes known.
     let text = c.deref.result.now in
     let is : p.piece ≡ text = sym (c.deref.ensures.value ∙ p.grown ∙ ap (λ (l : List ℕ). l ++ p.piece) c.requires) in
     subst (λ (l : List ℕ). bytes ≡ l ++ sha256 l) c.deref.ensures.value (whole_sealed c.read_seal.new.reader text p is c.in_ok-read_seal.ensures.done c.in_ok-read_seal.ensures.end bytes known)
+
+pub returns-in_err-header-clause-within : goal.returns-in_err-header-clause-within
+returns-in_err-header-clause-within g c = within-more c.args.part.now _ _ c.in_err-header.ensures.within
+
+pub returns-in_err-read_seal-clause-within : goal.returns-in_err-read_seal-clause-within
+returns-in_err-read_seal-clause-within g c =
+    let p = c.in_ok-header.ensures.done in
+    let is = p.grown ∙ ap (λ (l : List ℕ). l ++ p.piece) c.requires in
+    within-seal c.args.part.now _ _ _ c.read_content.new.text.items c.in_ok-header.ensures.length c.in_ok-header.ensures.few
+    (subst (λ (l : List ℕ). Consumes (g.R.Read.remaining c.args.reader.now) (g.R.Read.remaining c.read_content.new.reader) l) (sym is) p.takes.consumed) c.in_err-read_seal.ensures.fails.few
+
+pub returns-clause-within : goal.returns-clause-within
+returns-clause-within g c =
+    let p = c.in_ok-header.ensures.done in
+    let text = c.deref.result.now in
+    let is = p.grown ∙ ap (λ (l : List ℕ). l ++ p.piece) c.requires in
+    within-seal c.args.part.now _ _ _ c.read_content.new.text.items c.in_ok-header.ensures.length c.in_ok-header.ensures.few
+    (subst (λ (l : List ℕ). Consumes (g.R.Read.remaining c.args.reader.now) (g.R.Read.remaining c.read_content.new.reader) l) (sym is) p.takes.consumed)
+    (record { bytes = sha256 text; consumed = c.in_ok-read_seal.ensures.done; few = omega (arith, length-sha256 text) })

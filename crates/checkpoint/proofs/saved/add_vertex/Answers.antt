@@ -8,10 +8,10 @@ use Rattle.checkpoint.proofs.saved.add_vertex.Goals as goal
 
 pub returns-clause-added : goal.returns-clause-added
 returns-clause-added c =
-    added_is c.args.vertices.now (record { rows = c.raise.new.self; marks = c.add.new.items; tallies = c.add-2.new.items }) c.args.i
+    added_is c.args.vertices.now (record { rows = c.raise.new.self; marks = c.push_reserved.new.self; tallies = c.push_reserved-2.new.self }) c.args.i
     c.args.bytes.now c.in_ok-mark.after.now c.in_ok-row.row.now c.in_ok-row.rest.now c.in_ok-mark.mark c.in_ok-mark.tally
     c.in_ok-mark.ensures.spelled c.in_ok-row.ensures.split (c.in_ok-row.ensures.length ∙ c.width.ensures.value) c.requires.zeros
-    c.in_ok-add.ensures c.in_ok-add-2.ensures (ap (λ (t : Table). t.rows) c.raise.ensures.raised)
+    c.push_reserved.ensures.items c.push_reserved-2.ensures.items (ap (λ (t : Table). t.rows) c.raise.ensures.raised)
 
 pub returns-in_err-mark-clause-right : goal.returns-in_err-mark-clause-right
 returns-in_err-mark-clause-right c = λ mark tally row rest small wide is.
@@ -27,7 +27,7 @@ pub returns-clause-right : goal.returns-clause-right
 returns-clause-right c = λ mark tally row rest small wide is.
     let a = c.in_ok-mark.ensures.right mark tally (row ++ rest) small is in
     let here = row_here c.args.vertices.now.rows.width c.in_ok-mark.after.now c.in_ok-row.row.now c.in_ok-row.rest.now row rest (c.in_ok-row.ensures.length ∙ c.width.ensures.value) wide c.in_ok-row.ensures.split a.2 in (
-      next_is c.args.vertices.now (record { rows = c.raise.new.self; marks = c.add.new.items; tallies = c.add-2.new.items }) c.args.i c.in_ok-mark.mark c.in_ok-mark.tally c.in_ok-row.row.now mark tally row
-          a.0 a.1 here.0 wide c.requires.zeros c.in_ok-add.ensures c.in_ok-add-2.ensures (ap (λ (t : Table). t.rows) c.raise.ensures.raised),
+      next_is c.args.vertices.now (record { rows = c.raise.new.self; marks = c.push_reserved.new.self; tallies = c.push_reserved-2.new.self }) c.args.i c.in_ok-mark.mark c.in_ok-mark.tally c.in_ok-row.row.now mark tally row
+          a.0 a.1 here.0 wide c.requires.zeros c.push_reserved.ensures.items c.push_reserved-2.ensures.items (ap (λ (t : Table). t.rows) c.raise.ensures.raised),
       here.1,
     )

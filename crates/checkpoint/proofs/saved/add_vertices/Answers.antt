@@ -13,11 +13,12 @@ pub loop-i-init : goal.loop-i-init
 loop-i-init c = record {
   count = refl;
   width = refl;
-  told = told_none c.args.vertices.now c.args.bytes.now c.requires;
-  zeros = zeros_first c.args.vertices.now c.requires;
+  told = told_none c.args.vertices.now c.args.bytes.now c.requires.none;
+  zeros = zeros_first c.args.vertices.now c.requires.none;
+  room = c.requires.room;
   right = λ v rest k count wide is. record {
-    marks = c.requires.marks;
-    tallies = ap (λ (l : List Tally). map value_of l) c.requires.tallies;
+    marks = c.requires.none.marks;
+    tallies = ap (λ (l : List Tally). map value_of l) c.requires.none.tallies;
     rows = refl;
     stand = is;
   };
@@ -34,6 +35,7 @@ loop-i-preserved c =
       width = c.in_ok-rest.ensures.width ∙ c.loop-i.invariant.width;
       told = told_more old new i c.args.bytes.now c.loop-i.rest.now c.in_ok-rest.rest.now c.loop-i.invariant.told c.in_ok-rest.ensures.added lt;
       zeros = zeros_then old new i c.loop-i.rest.now c.in_ok-rest.rest.now c.in_ok-rest.ensures.added c.in_ok-rest.ensures.width c.loop-i.invariant.zeros;
+      room = c.in_ok-rest.ensures.room;
       right = λ v rest k count wide is.
           let first = c.loop-i.invariant.right v rest k count wide is in
           let also : i < length v.part.preds = omega (arith, lt, count, c.loop-i.invariant.count) in

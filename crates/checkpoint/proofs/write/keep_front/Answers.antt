@@ -10,13 +10,14 @@ pub returns-clause-done : goal.returns-clause-done
 returns-clause-done g c =
     let v = c.args.replica.now in
     let plan = c.plan-plan.ensures in
-    let text = (front_is v c.log2m.result c.to_be_bytes.result c.to_be_bytes-2.result c.to_be_bytes-3.result c.to_be_bytes-4.result c.to_be_bytes-5.result c.job.result
+    let text = (front_is v c.to_be_bytes.result c.log2m.result c.to_be_bytes-2.result c.to_be_bytes-3.result c.to_be_bytes-4.result c.to_be_bytes-5.result c.to_be_bytes-6.result c.job.result
+    c.to_be_bytes.ensures
     (c.log2m.ensures.value ∙ ap (λ (p : PlanValue). p.log2m) plan)
-    (c.to_be_bytes.ensures ∙ ap (to_be_bytes w16) (c.parts.ensures.value ∙ ap (λ (p : PlanValue). p.parts) plan))
-    (c.to_be_bytes-2.ensures ∙ ap (to_be_bytes w16) c.partition.ensures)
-    (c.to_be_bytes-3.ensures ∙ ap (to_be_bytes w32) (c.vertices.ensures.value ∙ ap (λ (p : PlanValue). p.vertices) plan))
-    (c.to_be_bytes-4.ensures ∙ ap (to_be_bytes w32) c.size_of.ensures.size)
-    (c.to_be_bytes-5.ensures ∙ ap (to_be_bytes w32) c.superstep.ensures.value)
+    (c.to_be_bytes-2.ensures ∙ ap (to_be_bytes w16) (c.parts.ensures.value ∙ ap (λ (p : PlanValue). p.parts) plan))
+    (c.to_be_bytes-3.ensures ∙ ap (to_be_bytes w16) c.partition.ensures)
+    (c.to_be_bytes-4.ensures ∙ ap (to_be_bytes w32) (c.vertices.ensures.value ∙ ap (λ (p : PlanValue). p.vertices) plan))
+    (c.to_be_bytes-5.ensures ∙ ap (to_be_bytes w32) c.size_of.ensures.size)
+    (c.to_be_bytes-6.ensures ∙ ap (to_be_bytes w32) c.superstep.ensures.value)
     (c.job.ensures ∙ ap (λ (p : PlanValue). p.job) plan)) in
     ok_then c.keep_all.result c.keep_all.ensures.done (λ p. passes_as g.W.Write.contents g.W.CountedWrite.failed_calls g.W.CountedWrite.sure_calls g.W.CountedWrite.room _ _ _ _ _ _ text p)
 
@@ -24,12 +25,13 @@ pub returns-clause-stops : goal.returns-clause-stops
 returns-clause-stops g c =
     let v = c.args.replica.now in
     let plan = c.plan-plan.ensures in
-    let text = (front_is v c.log2m.result c.to_be_bytes.result c.to_be_bytes-2.result c.to_be_bytes-3.result c.to_be_bytes-4.result c.to_be_bytes-5.result c.job.result
+    let text = (front_is v c.to_be_bytes.result c.log2m.result c.to_be_bytes-2.result c.to_be_bytes-3.result c.to_be_bytes-4.result c.to_be_bytes-5.result c.to_be_bytes-6.result c.job.result
+    c.to_be_bytes.ensures
     (c.log2m.ensures.value ∙ ap (λ (p : PlanValue). p.log2m) plan)
-    (c.to_be_bytes.ensures ∙ ap (to_be_bytes w16) (c.parts.ensures.value ∙ ap (λ (p : PlanValue). p.parts) plan))
-    (c.to_be_bytes-2.ensures ∙ ap (to_be_bytes w16) c.partition.ensures)
-    (c.to_be_bytes-3.ensures ∙ ap (to_be_bytes w32) (c.vertices.ensures.value ∙ ap (λ (p : PlanValue). p.vertices) plan))
-    (c.to_be_bytes-4.ensures ∙ ap (to_be_bytes w32) c.size_of.ensures.size)
-    (c.to_be_bytes-5.ensures ∙ ap (to_be_bytes w32) c.superstep.ensures.value)
+    (c.to_be_bytes-2.ensures ∙ ap (to_be_bytes w16) (c.parts.ensures.value ∙ ap (λ (p : PlanValue). p.parts) plan))
+    (c.to_be_bytes-3.ensures ∙ ap (to_be_bytes w16) c.partition.ensures)
+    (c.to_be_bytes-4.ensures ∙ ap (to_be_bytes w32) (c.vertices.ensures.value ∙ ap (λ (p : PlanValue). p.vertices) plan))
+    (c.to_be_bytes-5.ensures ∙ ap (to_be_bytes w32) c.size_of.ensures.size)
+    (c.to_be_bytes-6.ensures ∙ ap (to_be_bytes w32) c.superstep.ensures.value)
     (c.job.ensures ∙ ap (λ (p : PlanValue). p.job) plan)) in
     err_then c.keep_all.result c.keep_all.ensures.stops (λ p. stops_as g.W.Write.contents g.W.CountedWrite.failed_calls g.W.CountedWrite.sure_calls g.W.CountedWrite.room _ _ _ _ _ text p)

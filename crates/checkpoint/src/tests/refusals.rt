@@ -1,0 +1,37 @@
+//! Refused memory. A run of this test by `rt try --test --fail-alloc N` refuses any one growth of memory: then that is
+//! told, and the same bytes are read when they are read again.
+
+use super::reading::{first, half, is_written, part, refusal, second};
+use super::writing::WINDOW_EDGE;
+use crate::KeepError;
+use edgelist::Part;
+use std::sync::Arc;
+
+// Whether bytes are read, or else memory was refused, and they are read then as a replica that writes those. None where
+// memory is refused outside of that.
+fn is_read_again(rt: &HostRuntime, part: &Arc<Part>, bytes: &[u8], wanted: &[u8]) -> Option<bool> {
+    let fault = refusal(rt, part, bytes)?;
+    if fault == None {
+        return Some(true);
+    }
+    Some(fault == Some(KeepError::Memory) && is_written(rt, part, bytes, wanted) == Some(true))
+}
+
+// The checkpoint with an early batch.
+fn early_again(rt: &HostRuntime) -> Option<bool> {
+    is_read_again(rt, &half(rt, 1)?, &WINDOW_EDGE, &WINDOW_EDGE)
+}
+
+// That of the two edges, in version 1.
+fn first_again(rt: &HostRuntime) -> Option<bool> {
+    let part = part(rt, 0)?;
+    let first = first(rt, &part)?;
+    let second = second(rt, &part)?;
+    is_read_again(rt, &part, &first, &second)
+}
+
+#[test]
+fn reading_where_memory_is_refused(rt: HostRuntime) {
+    assert!(rt; early_again(&rt).unwrap_or(true));
+    assert!(rt; first_again(&rt).unwrap_or(true));
+}
