@@ -3,6 +3,7 @@
 mod damage;
 mod dripping;
 mod reading;
+mod refusals;
 mod running;
 mod same;
 mod writing;
