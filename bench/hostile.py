@@ -1,15 +1,18 @@
 #!/usr/bin/env python3
 """Makes trouble for the built program: damaged inputs, refused memory, streams that fail, workers that are lost.
 
-Usage: bench/hostile.py [INPUTS [SECONDS]]   (1000 inputs of each kind, for at most 600 seconds each)
+Usage: bench/hostile.py [INPUTS [SECONDS [SEED]]]   (1000 inputs of each kind, for at most 600 seconds each, seed 0)
 
-Inputs are random bytes, right ones with a few bytes changed, and scripts of random commands, by a fixed seed. Each run
-has to end by itself, with status 0 and nothing told, or with status 1, one line of fault and nothing written. Where cc
-is there, refuse.c stands between the program and the C library: each allocation is refused in turn, each thread, and
-each read and each write fails in turn. Prints a line for each kind; the status is 1 where a run went wrong.
+Inputs are random bytes, right ones with a few bytes changed, and scripts of random commands; a kind's inputs depend on
+its name and the seed alone. Each run is a process of its own. It has to end by itself, with status 0 and nothing told,
+or with status 1, one line of fault and nothing written. Where cc is there, feed.c copies the process before its main
+is called, which spares starting it anew for each input, and refuse.c stands between the program and the C library: each
+allocation is refused in turn, each thread, and each read and each write fails in turn. Prints a line for each kind; the
+status is 1 where a run went wrong.
 """
 import os
 import random
+import struct
 import subprocess
 import sys
 import tempfile
@@ -115,19 +118,43 @@ def damaged(chance, right):
     return bytes(data)
 
 
-def inputs(kind, words, make, many, seconds, holds):
-    chance, bad, faults, runs, started = random.Random(kind), [], 0, 0, time.monotonic()
+class Fed:
+    """Runs of the same words, by copies of one process (feed.c)."""
+
+    def __init__(self, words, feed):
+        more = {**os.environ, "LD_PRELOAD": feed, "FEED": "60"}
+        self.process = subprocess.Popen([PROGRAM, *words], stdin=subprocess.PIPE, stdout=subprocess.PIPE, env=more)
+
+    def __call__(self, data):
+        self.process.stdin.write(struct.pack("<I", len(data)) + data)
+        self.process.stdin.flush()
+        status, late = self.process.stdout.read(2)
+        return "ended by a signal, or hangs" if late else status, self.text(), self.text()
+
+    def text(self):
+        return self.process.stdout.read(struct.unpack("<I", self.process.stdout.read(4))[0])
+
+    def end(self):
+        self.process.stdin.close()
+        self.process.wait()
+
+
+def inputs(kind, words, make, many, seconds, holds, seed, feed):
+    chance, bad, faults, runs, started = random.Random(f"{kind} {seed}"), [], 0, 0, time.monotonic()
+    fed = Fed(words, feed) if feed else None
     while runs < many and time.monotonic() - started < seconds:
         data = make(chance)
-        answer = ran(words, data)
+        answer = fed(data) if fed else ran(words, data)
         runs += 1
         faults += answer[0] == 1
         if not holds(data, *answer):
             bad.append((words, data, answer))
+    if fed:
+        fed.end()
     count(kind, runs, bad, f"{faults} refused, {time.monotonic() - started:.0f} s")
 
 
-def all_inputs(many, seconds):
+def all_inputs(many, seconds, seed, feed):
     edges = b"# c\r\n" + EDGES + b"d\n" + EDGES
     lists = EDGES + b"%%\r\na\n# c\nc\n"
     scripts = EDGES + b"%%\n" + SCRIPT
@@ -143,7 +170,7 @@ def all_inputs(many, seconds):
         ("scripts with bytes changed", REPLAY, lambda chance: damaged(chance, scripts), is_replay),
         ("scripts and lists with bytes changed", [*REPLAY, "--counted"], lambda chance: damaged(chance, counted), is_replay),
     ):
-        inputs(kind, words, make, many, seconds, holds)
+        inputs(kind, words, make, many, seconds, holds, seed, feed)
 
 
 def each_call(kind, words, data, shim, variable, wanted):
@@ -188,6 +215,13 @@ def refusals(shim):
     def unread(fault):
         return lambda status, output, faults: (status, output, faults) == (1, b"", fault)
 
+    def told(words):
+        # What clap tells is told whole, or not at all.
+        plain = ran(words, EDGES)
+        return lambda *answer: answer in [plain, (1, b"", b"hyperball: out of memory\n")]
+
+    for words in (["--help"], ["run", "--help"], ["--version"], ["replays"], ["run", "--log2m", "x"], ["run", "--lose", "0.0@"]):
+        each_call(f"memory refused: {' '.join(words)}", words, EDGES, shim, "REFUSE_ALLOC", told(words))
     each_call("memory refused: one partition", RUN, EDGES, shim, "REFUSE_ALLOC", memory(REPORT))
     counted = ran([*RUN, "--counted"], EDGES + b"%%\na\n")[1]
     each_call("memory refused: counted vertices", [*RUN, "--counted"], EDGES + b"%%\na\n", shim, "REFUSE_ALLOC", memory(counted))
@@ -207,13 +241,29 @@ def refusals(shim):
         count(f"a byte a call: {words[0]}", 1, [] if answer == (0, wanted, b"") else [(answer,)])
 
 
+REFUSED_CALLS = (
+    ("gapcode", "refusals::calls_where_memory_is_refused"),
+    ("batches", "refusals::calls_where_memory_is_refused"),
+    ("edgelist", "refusals::calls_where_memory_is_refused"),
+    ("replica", "refusals::calls_where_memory_is_refused"),
+    ("checkpoint", "refusals::calls_where_memory_is_refused"),
+    ("report", "refusals::calls_where_memory_is_refused"),
+    ("board", "calls::calls_where_memory_is_refused"),
+    ("board", "opened::boards_whose_memory_is_refused"),
+    ("world", "refusals::events_whose_memory_is_refused"),
+    ("world", "refusals::replays_whose_memory_is_refused"),
+    ("workers", "refusals::nodes_whose_memory_is_refused"),
+    ("workers", "refusals::a_run_whose_memory_is_refused"),
+    ("hyperball", "refusals::words_whose_memory_is_refused"),
+)
+
+
 def refused_calls(shim):
     """The tests of calls that may be refused: each passes whichever allocation is refused."""
-    for crate in ("gapcode", "batches", "edgelist", "replica", "report", "board"):
+    for crate, test in REFUSED_CALLS:
         tests = os.path.join(HERE, "..", "crates", crate, "out", crate + "_tests")
-        name = "tests::calls::" if crate == "board" else "tests::refusals::"
         if not os.path.exists(tests):
-            print(f"no {crate}_tests: its calls are not tried")
+            print(f"no {crate}_tests: {test} is not tried")
             continue
         bad, call = [], 0
         with tempfile.TemporaryDirectory() as folder:
@@ -221,13 +271,13 @@ def refused_calls(shim):
             while True:
                 call += 1
                 words = {"LD_PRELOAD": shim, "REFUSE_TELL": told, "REFUSE_ALLOC": str(call)}
-                run = subprocess.run([tests, name + "calls_where_memory_is_refused"], capture_output=True, timeout=60, env={**os.environ, **words})
+                run = subprocess.run([tests, "tests::" + test], capture_output=True, timeout=60, env={**os.environ, **words})
                 if run.returncode != 0:
                     bad.append((crate, call, run.stdout + run.stderr))
                 if not os.path.exists(told):
                     break
                 os.remove(told)
-        count(f"memory refused: calls of {crate}", call, bad)
+        count(f"memory refused: {crate}, {test.split('::')[0]}", call, bad)
 
 
 def lost_workers():
@@ -254,20 +304,29 @@ def lost_workers():
     count("lost workers", runs, bad)
 
 
+def built(folder, name):
+    """The library of one of the C files here; None where it cannot be built."""
+    library = os.path.join(folder, name + ".so")
+    try:
+        subprocess.run(["cc", "-O2", "-shared", "-fPIC", "-o", library, os.path.join(HERE, name + ".c"), "-ldl"], check=True)
+    except (OSError, subprocess.CalledProcessError):
+        return None
+    return library
+
+
 def main():
     many = int(sys.argv[1]) if len(sys.argv) > 1 else 1000
     seconds = float(sys.argv[2]) if len(sys.argv) > 2 else 600
-    all_inputs(many, seconds)
-    lost_workers()
+    seed = int(sys.argv[3]) if len(sys.argv) > 3 else 0
     with tempfile.TemporaryDirectory() as folder:
-        shim = os.path.join(folder, "refuse.so")
-        try:
-            subprocess.run(["cc", "-O2", "-shared", "-fPIC", "-o", shim, os.path.join(HERE, "refuse.c"), "-ldl"], check=True)
-        except (OSError, subprocess.CalledProcessError):
-            print("no cc: refused memory and failing streams are not tried")
-        else:
+        feed, shim = (built(folder, name) for name in ("feed", "refuse"))
+        all_inputs(many, seconds, seed, feed)
+        lost_workers()
+        if shim:
             refused_calls(shim)
             refusals(shim)
+        else:
+            print("no cc: refused memory and failing streams are not tried")
     return 1 if wrong else 0
 
 

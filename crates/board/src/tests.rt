@@ -9,6 +9,7 @@ ghost use Rattle.ball_model.specs.State.{Stands};
 ghost use Rattle.board.specs.Seats.{IsAt};
 
 mod calls;
+mod opened;
 mod threads;
 
 use super::*;

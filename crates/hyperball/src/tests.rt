@@ -1,6 +1,7 @@
 //! What no clause says: reports of runs, printed texts, statuses, and streams that fail.
 
 mod estimates;
+mod refusals;
 mod replays;
 mod runs;
 mod scripts;

@@ -1,5 +1,7 @@
 //! What no clause says: worked runs of one node and of many.
 
+mod losses;
+mod refusals;
 mod runs;
 mod texts;
 

@@ -31,7 +31,7 @@ fn first_again(rt: &HostRuntime) -> Option<bool> {
 }
 
 #[test]
-fn reading_where_memory_is_refused(rt: HostRuntime) {
+fn calls_where_memory_is_refused(rt: HostRuntime) {
     assert!(rt; early_again(&rt).unwrap_or(true));
     assert!(rt; first_again(&rt).unwrap_or(true));
 }

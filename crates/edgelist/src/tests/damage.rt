@@ -4,7 +4,7 @@ use super::reading::{drip, drip_error};
 use super::*;
 
 // The next of a row of numbers: x becomes 6364136223846793005 x + 1442695040888963407 below 2^64 (Knuth).
-fn next(state: &mut u64) -> u64 {
+pub(super) fn next(state: &mut u64) -> u64 {
     *state = state
         .wrapping_mul(6_364_136_223_846_793_005)
         .wrapping_add(1_442_695_040_888_963_407);
@@ -15,7 +15,7 @@ fn next(state: &mut u64) -> u64 {
 const MARKS: [u8; 16] = *b"\t\t\n\n\n\r#ab,\xff\0\"abb";
 
 // Fills bytes with such ones at random.
-fn scatter(bytes: &mut [u8], state: &mut u64) {
+pub(super) fn scatter(bytes: &mut [u8], state: &mut u64) {
     for byte in bytes.iter_mut() {
         *byte = MARKS[(next(state) % 16) as usize];
     }
@@ -43,7 +43,7 @@ const NINE: EdgeLimits = EdgeLimits {
 };
 
 // Whether bytes are read as graphs that are the same, or are refused for the same.
-fn is_same(rt: &HostRuntime, bytes: &[u8]) -> bool {
+pub(super) fn is_same(rt: &HostRuntime, bytes: &[u8]) -> bool {
     match read(rt, bytes, Delimiter::Tab, NINE) {
         Ok(graph) => drips_as(rt, bytes, &graph),
         Err(e) => e != EdgeError::Memory && drip_error(rt, bytes, 9, u64::MAX) == Some(e),

@@ -144,3 +144,30 @@ fn see_random(alloc: Global) -> Seen {
 fn random_lists(rt: HostRuntime) {
     assert_eq!(rt; see_random(rt.alloc()), of(28));
 }
+
+// Turns up to four bits at random.
+fn turn_some(bytes: &mut [u8], state: &mut u64) {
+    let bits = bytes.len().saturating_mul(8).max(1) as u64;
+    for _ in 0..1 + next(state) % 4 {
+        let bit = (next(state) % bits) as usize;
+        turn(bytes, bit);
+    }
+}
+
+// Reads lists of the table with up to four bits turned, a thousand times.
+fn see_some_turned(alloc: Global) -> Option<Seen> {
+    let mut state = 29;
+    let mut seen = NONE_SEEN;
+    for _ in 0..1000 {
+        let (bytes, count, bound) = SPELLED[(next(&mut state) % 4) as usize];
+        let mut copy = bytes.to_vec(alloc).ok()?;
+        turn_some(&mut copy, &mut state);
+        seen = see(alloc, &copy, count, bound, seen);
+    }
+    Some(seen)
+}
+
+#[test]
+fn lists_with_some_bits_turned(rt: HostRuntime) {
+    assert!(rt; matches!(see_some_turned(rt.alloc()), Some(Seen { same: true, .. })));
+}

@@ -82,12 +82,19 @@ fn first_told_otherwise<H: AllocGlobal + Clock + RandomSource + Threads + Wait +
     Ok(None)
 }
 
-const DRIPPING_REPORTS: [Case; 2] = [
+const REPLAY: &str = "hyperball replay --log2m 4 --parts 2";
+
+const DRIPPING_REPORTS: [Case; 3] = [
     (RUN, b"a\tb\nb\tc\n", TWO_EDGES),
     (COUNTED, b"a\tb\nb\tc\n%%\na", ONE_COUNTED),
+    (
+        REPLAY,
+        b"a\tb\nb\tc\n%%\nsend 1.0 0\n",
+        b"sent 0 0 1 0 1 1\n",
+    ),
 ];
 
-const DRIPPING_FAULTS: [Case; 2] = [
+const DRIPPING_FAULTS: [Case; 3] = [
     (
         RUN,
         b"a\tb\nb\tc\n",
@@ -96,6 +103,11 @@ const DRIPPING_FAULTS: [Case; 2] = [
     (
         COUNTED,
         b"a\tb\nb\tc\n%%\na",
+        b"hyperball: the input cannot be read\n",
+    ),
+    (
+        REPLAY,
+        b"a\tb\nb\tc\n%%\nsend 1.0 0\n",
         b"hyperball: the input cannot be read\n",
     ),
 ];
