@@ -7,7 +7,7 @@ ghost use Rattle.clap.specs.Words.{App, FailsBy, found_of, has_subcommand, rows_
 ghost use Rattle.clap.specs.Words.{subcommand_rows_of, with_rule};
 ghost use Rattle.clap.specs.declared.error.kind.ErrorKind.{ErrorKind as Kind};
 ghost use Rattle.hyperball.specs.CommandLine.{IsApp, Parsers, TakeNames, TakesNames};
-ghost use Rattle.hyperball.specs.CommandLine.{delimiter_names, estimate_names, hyperball_app};
+ghost use Rattle.hyperball.specs.CommandLine.{delimiter_names, estimate_names, hyperball_app, new_hyperball};
 ghost use Rattle.hyperball.specs.CommandLine.{flag_rule, option_rule, run_app};
 ghost use Rattle.hyperball.specs.CommandLine.{with_counters, with_input, with_nodes, with_numbers};
 ghost use Rattle.hyperball.specs.CommandLine.{with_orders};
@@ -250,6 +250,16 @@ fn run_command<'a>(
     add_orders(alloc, command)
 }
 
+// The program, before it has a subcommand.
+fn bare_command<'a>(alloc: Global) -> Command<'a>
+    ensures { IsApp new_hyperball result }
+{
+    Command::new(alloc, "hyperball")
+        .version(VERSION)
+        .about(ABOUT)
+        .subcommand_required(true)
+}
+
 /// The program's command.
 pub fn command<'a>(alloc: Global) -> Result<Command<'a>, AllocError>
     ensures { IfOk result (λ c.
@@ -259,11 +269,8 @@ pub fn command<'a>(alloc: Global) -> Result<Command<'a>, AllocError>
     let between = delimiters();
     let run = run_command(alloc, ways, between)?;
     let replay = replay_command(alloc, ways, between)?;
-    let top = Command::new(alloc, "hyperball")
-        .version(VERSION)
-        .about(ABOUT)
-        .subcommand_required(true)
-        .subcommand(run)?;
+    let bare = bare_command(alloc);
+    let top = bare.subcommand(run)?;
     top.subcommand(replay)
 }
 
