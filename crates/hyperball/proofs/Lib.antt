@@ -1,3 +1,4 @@
+pub mod Crossing
 pub mod NameLemmas
 pub mod OptionLemmas
 pub mod WishLemmas

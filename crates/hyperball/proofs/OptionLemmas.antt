@@ -49,10 +49,10 @@ pub same_words : (log2m seed parts limit : ℕ) (e : Estimate) (d : Delimiter) (
     ◌≡◌ {A = RunWords} (record { options = record { log2m = log2m; seed = seed; parts = parts; limit = limit; estimate = e; delimiter = d; replicas = replicas; entries = entries; keep = keep; patience = patience }; counted = counted }) w
 same_words log2m seed parts limit e d replicas entries keep patience counted w a b p l k g r n m q h = λ i. record { options = record { log2m = a i; seed = b i; parts = p i; limit = l i; estimate = k i; delimiter = g i; replicas = r i; entries = n i; keep = m i; patience = q i }; counted = h i }
 
-pub same_replay_words : (log2m seed parts limit replicas : ℕ) (e : Estimate) (d : Delimiter) (counted : Bool) (w : ReplayWords) → log2m ≡ w.options.log2m → seed ≡ w.options.seed → parts ≡ w.options.parts → limit ≡ w.options.limit → replicas ≡ w.options.replicas →
-    e ≡ w.options.estimate → d ≡ w.options.delimiter → counted ≡ w.counted →
-    ◌≡◌ {A = ReplayWords} (record { options = record { log2m = log2m; seed = seed; parts = parts; limit = limit; replicas = replicas; estimate = e; delimiter = d }; counted = counted }) w
-same_replay_words log2m seed parts limit replicas e d counted w a b p l r k g h = λ i. record { options = record { log2m = a i; seed = b i; parts = p i; limit = l i; replicas = r i; estimate = k i; delimiter = g i }; counted = h i }
+pub same_replay_words : (log2m seed parts limit replicas : ℕ) (e : Estimate) (d : Delimiter) (counted progress : Bool) (w : ReplayWords) → log2m ≡ w.options.log2m → seed ≡ w.options.seed → parts ≡ w.options.parts → limit ≡ w.options.limit → replicas ≡ w.options.replicas →
+    e ≡ w.options.estimate → d ≡ w.options.delimiter → counted ≡ w.counted → progress ≡ w.progress →
+    ◌≡◌ {A = ReplayWords} (record { options = record { log2m = log2m; seed = seed; parts = parts; limit = limit; replicas = replicas; estimate = e; delimiter = d }; counted = counted; progress = progress }) w
+same_replay_words log2m seed parts limit replicas e d counted progress w a b p l r k g h t = λ i. record { options = record { log2m = a i; seed = b i; parts = p i; limit = l i; replicas = r i; estimate = k i; delimiter = g i }; counted = h i; progress = t i }
 
 -- a text that was read is given
 pub given_is : (f : Found) (id : Text) (text : Option Text) → text ≡ first_value f id → is_some text ≡ true → is_some (first_of id (rows_of f)) ≡ true

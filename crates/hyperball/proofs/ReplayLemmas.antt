@@ -1,5 +1,5 @@
 -- What a replay that fails leaves.
-use Rattle.std.proofs.Common.{◌≡◌, ◌≢◌, ◌∙◌, ◌⊎◌, ℕ, List, inl, inr, refl, subst, sym}
+use Rattle.std.proofs.Common.{◌≡◌, ◌≢◌, ◌∙◌, ◌⊎◌, ℕ, Bool, List, inl, inr, refl, subst, sym}
 use Rattle.std.specs.Prelude.{Option, None, Some, IfSome}
 use Rattle.std.specs.Io.KnownBytes.{Keeps}
 use Rattle.ball_model.specs.Streams.{Rises}
@@ -7,6 +7,7 @@ use Rattle.world.specs.declared.replay.ReplayError.{ReplayError}
 use Rattle.world.specs.declared.replay.ReplayError.TheVariants as fault
 use Rattle.clap.specs.Words.{Text}
 use Rattle.hyperball.specs.Replaying.{AsksReplay, Begins, BeginsSome, FailsIn, FailsOver, Leaves, SaysRun}
+use Rattle.hyperball.specs.Words.{tells_progress}
 use Rattle.hyperball.specs.declared.replay_words.ReplayWords.{ReplayWords}
 use Rattle.hyperball.specs.declared.replaying.ReplayFault.{ReplayFault}
 use Rattle.hyperball.specs.declared.replaying.ReplayFault.TheVariants as unserved
@@ -57,6 +58,13 @@ not_replay x said w is says = let e = sym is ∙ says in absurd (cc)
 
 pub is_replay : (x : Wish) (v w : ReplayWords) → x ≡ wish.Replay v → x ≡ wish.Replay w → v ≡ w
 is_replay x v w is says = let e = sym is ∙ says in cc
+
+-- and it tells progress where that tells it
+pub run_tells : (x : Wish) (said : Said) (b : Bool) → x ≡ wish.Run said → tells_progress x ≡ b → said.progress ≡ b
+run_tells x said b is = subst (λ (y : Wish). tells_progress y ≡ b) is
+
+pub replay_tells : (x : Wish) (w : ReplayWords) (b : Bool) → x ≡ wish.Replay w → tells_progress x ≡ b → w.progress ≡ b
+replay_tells x w b is = subst (λ (y : Wish). tells_progress y ≡ b) is
 
 -- a replay that stopped, of words that ask for one
 pub some_begun : (words : List Text) (told old new : Option (List ℕ)) (a b : ℕ) (w : ReplayWords) → AsksReplay words →

@@ -87,18 +87,22 @@ with_orders app = with_rule (with_rule app
     (option_rule (codes "lose") vp.String))
     (option_rule (codes "restart") vp.String)
 
+-- a command with the flag of progress
+abbrev pub with_progress : App → App
+with_progress app = with_rule app (flag_rule (codes "progress"))
+
 -- the subcommand `run`
 unfoldable pub run_app : Parsers → App
 run_app p =
-    with_orders (with_nodes (with_input p.delimiters
-    (with_estimate p.estimates (with_numbers (new_app (codes "run"))))))
+    with_progress (with_orders (with_nodes (with_input p.delimiters
+    (with_estimate p.estimates (with_numbers (new_app (codes "run")))))))
 
 -- the subcommand `replay`
 unfoldable pub replay_app : Parsers → App
-replay_app p = with_rule
+replay_app p = with_progress (with_rule
     (with_input p.delimiters
     (with_estimate p.estimates (with_numbers (new_app (codes "replay")))))
-    (option_rule (codes "replicas") number8)
+    (option_rule (codes "replicas") number8))
 
 -- the program, which has a version and wants a subcommand, before it has one
 abbrev pub new_hyperball : App

@@ -51,18 +51,20 @@ usual_replay_options = record {
 }
 
 abbrev pub usual_replay : ReplayWords
-usual_replay = record { options = usual_replay_options; counted = false }
+usual_replay = record { options = usual_replay_options; counted = false; progress = false }
 
 abbrev pub replayed_plan : ReplayWords
 replayed_plan = record {
   options = record usual_replay_options { log2m = 4; parts = 3; limit = 9; replicas = 2 };
   counted = false;
+  progress = false;
 }
 
 abbrev pub replayed_input : ReplayWords
 replayed_input = record {
   options = record usual_replay_options { seed = 7; estimate = Corrected; delimiter = Comma };
   counted = true;
+  progress = true;
 }
 
 -- replica 1 of partition 0 at superstep 2

@@ -38,6 +38,7 @@ pub record AreReplayOptionsOf (rows : List Row) (w : ReplayWords) : Type 0 where
       rows (codes "delimiter") w.options.delimiter
   pub replicas : IsNumberOr usual_options.replicas 8 rows (codes "replicas") w.options.replicas
   pub counted : IsFlag rows (codes "counted") w.counted
+  pub progress : IsFlag rows (codes "progress") w.progress
 
 -- the subcommand is replay, with these options or their defaults
 abbrev pub IsReplayOf : Option (Text × List Row) → ReplayWords → Type 0

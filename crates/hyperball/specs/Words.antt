@@ -127,6 +127,15 @@ abbrev pub SaysListed : Option (Text × List Row) → Wish → Type 0
 SaysListed sub (wish.Run said) = IfSome sub (λ s. AreListed s.1 said.orders)
 SaysListed sub (wish.Replay words) = ⊤
 
+-- the subcommand has the flag of progress or not
+abbrev pub GivesProgress : Option (Text × List Row) → Bool → Type 0
+GivesProgress sub b = IfSome sub (λ s. IsFlag s.1 (codes "progress") b)
+
+-- whether progress is to be told
+abbrev pub tells_progress : Wish → Bool
+tells_progress (wish.Run said) = said.progress
+tells_progress (wish.Replay words) = words.progress
+
 -- what the program's command finds wrong with the words
 pub record HasFaults (words : List Text) (kinds : List ErrorKind) : Type 0 where
   pub are : (p : Parsers) → TakeNames p → fault_of (hyperball_app p) words ≡ kinds
@@ -136,6 +145,11 @@ pub record IsRun (words : List Text) (w : RunWords) : Type 0 where
   pub accepted : HasFaults words []
   pub command : (p : Parsers) → TakeNames p →
       IsRunOf (subcommand_of (hyperball_app p) words) w
+
+-- the words, where they are not refused, ask for progress or not
+pub record AsksProgress (words : List Text) (b : Bool) : Type 0 where
+  pub flag : (p : Parsers) → TakeNames p → fault_of (hyperball_app p) words ≡ [] →
+      GivesProgress (subcommand_of (hyperball_app p) words) b
 
 -- the words have a list of orders, as some parsers read them
 pub record HasOrders (words : List Text) : Type 0 where

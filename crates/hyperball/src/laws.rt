@@ -1,8 +1,9 @@
 //! What real command lines are read as: the contract of each function is the law, and its body is empty.
 
-ghost use Rattle.std.specs.Prelude.{◌∷◌, [], List, codes, ℕ};
+ghost use Rattle.std.specs.Prelude.{◌∷◌, ◌≢◌, [], List, codes, false, true, ℕ};
 ghost use Rattle.ball_model.specs.declared.names.NodeId.{NodeId as Node};
 ghost use Rattle.clap.specs.Words.{Text};
+ghost use Rattle.clap.specs.declared.error.kind.ErrorKind.{ErrorKind as Kind};
 ghost use Rattle.clap.specs.declared.error.kind.ErrorKind.TheVariants.{DisplayHelp, DisplayVersion};
 ghost use Rattle.clap.specs.declared.error.kind.ErrorKind.TheVariants.{InvalidValue, MissingSubcommand};
 ghost use Rattle.clap.specs.declared.error.kind.ErrorKind.TheVariants.{UnknownArgument};
@@ -13,7 +14,7 @@ ghost use Rattle.hyperball.specs.LawWords.{usual_replay};
 ghost use Rattle.hyperball.specs.LawWords.{one_order, two_orders};
 ghost use Rattle.hyperball.specs.Orders.{AreOrders};
 ghost use Rattle.hyperball.specs.Replaying.{AsksReplay, IsReplay};
-ghost use Rattle.hyperball.specs.Words.{HasFaults, IsRun};
+ghost use Rattle.hyperball.specs.Words.{AsksProgress, HasFaults, IsRun};
 ghost use Rattle.hyperball.specs.declared.replay_words.ReplayWords.{ReplayWords as Replayed};
 ghost use Rattle.hyperball.specs.declared.words.RunWords.{RunWords as Run};
 
@@ -68,7 +69,8 @@ pub fn words_of_a_replay()
         replayed_plan }
     ensures input { IsReplay
         (codes "hyperball" ∷ codes "replay" ∷ codes "--counted" ∷ codes "--delimiter"
-        ∷ codes "comma" ∷ codes "--estimate=corrected" ∷ codes "--seed" ∷ codes "7" ∷ [])
+        ∷ codes "comma" ∷ codes "--estimate=corrected" ∷ codes "--seed" ∷ codes "7"
+        ∷ codes "--progress" ∷ [])
         replayed_input }
 {}
 
@@ -105,6 +107,24 @@ pub fn words_of_no_command()
     ensures inner { HasFaults
         (codes "hyperball" ∷ codes "run" ∷ codes "--version" ∷ [])
         (UnknownArgument ∷ []) }
+{}
+
+/// These words ask for progress, and these do not; nor do words that are refused or ask for help. Words of a run never
+/// do both.
+pub fn words_of_progress()
+    ensures run { AsksProgress
+        (codes "hyperball" ∷ codes "run" ∷ codes "--progress" ∷ codes "--parts" ∷ codes "2" ∷ [])
+        true }
+    ensures replay { AsksProgress
+        (codes "hyperball" ∷ codes "replay" ∷ codes "--progress" ∷ [])
+        true }
+    ensures plain { AsksProgress
+        (codes "hyperball" ∷ codes "run" ∷ codes "--parts" ∷ codes "2" ∷ [])
+        false }
+    ensures refused { (words : List Text) (kinds : List Kind) → HasFaults words kinds →
+        kinds ≢ [] → AsksProgress words false }
+    ensures one { (words : List Text) (w : Run) → IsRun words w →
+        AsksProgress words true → AsksProgress words false → ⊥ }
 {}
 
 /// Words are never those of both commands, and words that are read as those of replay ask for one.

@@ -23,6 +23,7 @@
 pub mod laws;
 pub mod options;
 pub mod orders;
+pub mod progress;
 pub mod replay_words;
 pub mod replaying;
 pub mod serve;

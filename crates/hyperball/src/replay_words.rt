@@ -1,13 +1,17 @@
 //! The words of the second command, `hyperball replay`.
 
-ghost use Rattle.std.specs.Prelude.{◌≡◌, IfOk};
+ghost use Rattle.std.specs.Prelude.{◌≡◌, Bool, IfOk, codes};
 ghost use Rattle.clap.specs.Words.{App, found_of, rows_of};
 ghost use Rattle.hyperball.specs.CommandLine.{IsApp, replay_app, with_numbers};
 ghost use Rattle.hyperball.specs.Replaying.{AreReplayOptionsOf};
+ghost use Rattle.hyperball.specs.Words.{IsFlag};
 ghost use Rattle.hyperball.specs.declared.replay_words.ReplayWords.{ReplayWords as Replayed};
 
 use crate::options::USUAL;
-use crate::words::{ESTIMATE_HELP, add_counters, add_input, add_option, delimiter_of, estimate_of};
+use crate::words::{
+    ESTIMATE_HELP, add_counters, add_input, add_option, add_progress, delimiter_of, estimate_of,
+    wants_progress,
+};
 use clap::builder::ValueParser;
 use clap::{ArgMatches, Command, value_parser};
 use std::alloc::{AllocError, Global};
@@ -73,6 +77,8 @@ pub struct ReplayWords {
     pub options: ReplayOptions,
     /// Whether a list of counted vertices follows the edge list.
     pub counted: bool,
+    /// Whether progress is to be told.
+    pub progress: bool,
 }
 
 // Adds the options of a plan.
@@ -100,13 +106,16 @@ pub fn replay_command<'a>(
     let command = add_plan(alloc, command)?;
     let command = add_option(alloc, command, "estimate", ESTIMATE_HELP, estimates)?;
     let command = add_input(alloc, command, delimiters)?;
-    add_option(alloc, command, "replicas", REPLICAS_HELP, value_parser!(u8))
+    let command = add_option(alloc, command, "replicas", REPLICAS_HELP, value_parser!(u8))?;
+    add_progress(alloc, command)
 }
 
 /// The options of replay. Values are as `clap` has checked them.
 pub fn replay_words_of(matches: &ArgMatches<'_>) -> ReplayWords
-    ensures { (w : Replayed) → AreReplayOptionsOf (rows_of (found_of matches.now)) w →
+    ensures options { (w : Replayed) → AreReplayOptionsOf (rows_of (found_of matches.now)) w →
         result ≡ w }
+    ensures progress { (b : Bool) → IsFlag (rows_of (found_of matches.now)) (codes "progress") b →
+        result.progress ≡ b }
 {
     let options = ReplayOptions {
         log2m: matches.get_one("log2m").unwrap_or(USUAL.log2m),
@@ -120,5 +129,6 @@ pub fn replay_words_of(matches: &ArgMatches<'_>) -> ReplayWords
     ReplayWords {
         options,
         counted: matches.get_flag("counted"),
+        progress: wants_progress(matches),
     }
 }

@@ -11,11 +11,13 @@ ghost use Rattle.hyperball.specs.declared.whole.WholeError.{WholeError as NoInpu
 ghost use Rattle.world.specs.Replay.{list_in};
 ghost use Rattle.world.specs.declared.replay.ReplayError.{ReplayError as NoAnswers};
 
+use crate::progress::{tell_answers, tell_input};
 use crate::replay_words::ReplayWords;
 use crate::whole::{WholeError, read_whole, sections};
 use ball_model::{CountedRead, CountedWrite};
 use std::alloc::{AllocGlobal, Global};
 use std::hash::RandomState;
+use std::io::Eprint;
 use std::random::RandomSource;
 use thiserror::Error;
 use world::replay::{ReplayError, replay};
@@ -112,11 +114,12 @@ fn replay_sections<W: CountedWrite>(
     Ok(())
 }
 
-// A replay over an input that is read whole.
-fn replay_whole<R: CountedRead, W: CountedWrite>(
+// A replay over an input that is read whole, which tells how it gets on where there is a teller.
+fn replay_whole<T: Eprint, R: CountedRead, W: CountedWrite>(
     alloc: Global,
     state: RandomState,
     words: &ReplayWords,
+    teller: &Option<T>,
     reader: &mut R,
     writer: &mut W,
 ) -> Result<(), ReplayFault>
@@ -142,18 +145,22 @@ fn replay_whole<R: CountedRead, W: CountedWrite>(
     ensures few { ReadsFew (R.remaining reader.old) (R.remaining reader.new) }
 {
     let input = read_whole(alloc, reader)?;
-    replay_sections(alloc, state, words, &input, writer)
+    tell_input(teller, input.len());
+    let answer = replay_sections(alloc, state, words, &input, writer);
+    tell_answers(teller, answer.is_ok());
+    answer
 }
 
-/// A replay of these words: the answers to the script in the input.
+/// A replay of these words: the answers to the script in the input. Where there is a teller, it tells how it gets on.
 ///
 /// The faults come in the order of [`ReplayFault`]. `Random` is answered before anything is read. `Input(Read)` is
 /// answered where a call of the reader failed and nowhere else, `Input(Size)` only where there are more than 2^26 bytes,
 /// and `NoList` and `NoScript` exactly where the input, read whole, lacks that part. After `Replay(Memory)` and
 /// `Replay(Write)` a beginning of the answers may stand; after every other fault nothing was written.
-pub fn replay_by<H: AllocGlobal + RandomSource, R: CountedRead, W: CountedWrite>(
+pub fn replay_by<H: AllocGlobal + RandomSource, T: Eprint, R: CountedRead, W: CountedWrite>(
     rt: &H,
     words: &ReplayWords,
+    teller: &Option<T>,
     reader: &mut R,
     writer: &mut W,
 ) -> Result<(), ReplayFault>
@@ -182,5 +189,5 @@ pub fn replay_by<H: AllocGlobal + RandomSource, R: CountedRead, W: CountedWrite>
     let Ok(state) = RandomState::new(rt) else {
         return Err(ReplayFault::Random);
     };
-    replay_whole(rt.alloc(), state, words, reader, writer)
+    replay_whole(rt.alloc(), state, words, teller, reader, writer)
 }

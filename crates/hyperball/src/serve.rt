@@ -15,7 +15,8 @@ ghost use Rattle.hyperball.specs.Whole.{IsLong, ReadsFew, most_bytes};
 ghost use Rattle.hyperball.specs.Options.{settings_in};
 ghost use Rattle.hyperball.specs.Replaying.{BeginsSome, BeginsToServe, IsReplay, ServesReplay};
 ghost use Rattle.hyperball.specs.declared.replay_words.ReplayWords.{ReplayWords as Replayed};
-ghost use Rattle.hyperball.specs.Words.{AreMistakes, FailsFor, HasFaults, HasOrders, IsMistake, IsRun};
+ghost use Rattle.hyperball.specs.Words.{AreMistakes, AsksProgress, FailsFor, HasFaults, HasOrders};
+ghost use Rattle.hyperball.specs.Words.{IsMistake, IsRun};
 ghost use Rattle.hyperball.specs.Words.{Reports, Serves, listed_words, texts_of};
 ghost use Rattle.hyperball.specs.declared.options.Options.{Options as Asked};
 ghost use Rattle.workers.specs.Options.{settings_of};
@@ -25,6 +26,7 @@ ghost use Rattle.hyperball.specs.declared.words.RunWords.{RunWords as Run};
 
 use crate::options::run_options;
 use crate::orders::OrdersError;
+use crate::progress::{Faults, TellingGate};
 use crate::replay_words::ReplayWords;
 use crate::replaying::replay_by;
 use crate::whole::{WholeError, read_whole, sections};
@@ -34,13 +36,13 @@ use clap::error::ErrorKind;
 use std::alloc::{AllocGlobal, Global};
 use std::fmt::Display;
 use std::hash::RandomState;
-use std::io::Write;
+use std::io::{Eprint, Write};
 use std::random::RandomSource;
 use std::sync::Wait;
 use std::thread::Threads;
 use std::time::Clock;
 use thiserror::Error;
-use workers::{Gate, RunError, RunOptions, SleepingGate};
+use workers::{Gate, RunError, RunOptions};
 
 /// The status of a run that wrote its report, or of help that was asked for.
 const DONE: u8 = 0;
@@ -311,12 +313,13 @@ fn run_by<
     Ok(())
 }
 
-// A run of these words.
+// A run of these words, which tells how it gets on where there is a teller.
 fn run<
     H: AllocGlobal + Clock + RandomSource + Threads + Wait + Sync,
+    T: Eprint + Sync + Drop,
     R: CountedRead,
     W: CountedWrite,
->(rt: &H, said: Said, reader: &mut R, writer: &mut W) -> Result<(), RunFault>
+>(rt: &H, said: Said, teller: Option<T>, reader: &mut R, writer: &mut W) -> Result<(), RunFault>
     ensures done { OnOk result (
         Serves said.words (R.remaining reader.old) W.contents writer.old writer.new) }
     ensures random { result ≡ Err RunFault.Random →
@@ -345,12 +348,21 @@ fn run<
     ensures kept { OnErr result (
         KeptOrFailed W.contents W.failed_calls writer.old writer.new) }
 {
-    let Said { words, orders } = said;
+    let Said { words, orders, .. } = said;
     let options = run_options(&words.options, orders);
-    let Ok(gate) = SleepingGate::new(rt.alloc(), rt) else {
+    let Ok(gate) = TellingGate::new(rt.alloc(), rt, teller, options.parts) else {
         return Err(RunFault::Run(RunError::Memory));
     };
-    run_by(rt, words.counted, &options, &gate, reader, writer)
+    let answer = run_by(rt, words.counted, &options, &gate, reader, writer);
+    gate.after_run(answer.is_ok());
+    answer
+}
+
+// What tells progress, where it is asked for.
+fn teller_for<F: Faults>(asked: bool, faults: &mut F) -> Option<F::Teller>
+    ensures { asked ≡ false → Keeps (F.contents faults.old) (F.contents faults.new) }
+{
+    if asked { Some(faults.teller()) } else { None }
 }
 
 // The status of a run, whose fault is told.
@@ -358,7 +370,7 @@ fn serve_run<
     H: AllocGlobal + Clock + RandomSource + Threads + Wait + Sync,
     R: CountedRead,
     W: CountedWrite,
-    F: Write,
+    F: Faults,
 >(rt: &H, said: Said, reader: &mut R, writer: &mut W, faults: &mut F) -> u8
     ensures status { (result ≡ 0) ⊎ (result ≡ 1) }
     ensures done { result ≡ 0 →
@@ -367,16 +379,18 @@ fn serve_run<
         ReadsFew (R.remaining reader.old) (R.remaining reader.new) }
     ensures kept { result ≡ 1 →
         KeptOrFailed W.contents W.failed_calls writer.old writer.new }
-    ensures silent { result ≡ 0 → Keeps (F.contents faults.old) (F.contents faults.new) }
+    ensures silent { result ≡ 0 → said.progress ≡ false →
+        Keeps (F.contents faults.old) (F.contents faults.new) }
 {
-    match run(rt, said, reader, writer) {
+    let teller = teller_for(said.progress, faults);
+    match run(rt, said, teller, reader, writer) {
         Ok(()) => DONE,
         Err(fault) => tell_fault(faults, fault),
     }
 }
 
 // The status of a replay, whose fault is told.
-fn serve_replay<H: AllocGlobal + RandomSource, R: CountedRead, W: CountedWrite, F: Write>(
+fn serve_replay<H: AllocGlobal + RandomSource, R: CountedRead, W: CountedWrite, F: Faults>(
     rt: &H,
     words: &ReplayWords,
     reader: &mut R,
@@ -389,9 +403,11 @@ fn serve_replay<H: AllocGlobal + RandomSource, R: CountedRead, W: CountedWrite, 
     ensures few { ReadsFew (R.remaining reader.old) (R.remaining reader.new) }
     ensures begun { result ≡ 1 → BeginsToServe words.now (R.remaining reader.old)
         W.contents W.failed_calls writer.old writer.new }
-    ensures silent { result ≡ 0 → Keeps (F.contents faults.old) (F.contents faults.new) }
+    ensures silent { result ≡ 0 → words.now.progress ≡ false →
+        Keeps (F.contents faults.old) (F.contents faults.new) }
 {
-    match replay_by(rt, words, reader, writer) {
+    let teller = teller_for(words.progress, faults);
+    match replay_by(rt, words, &teller, reader, writer) {
         Ok(()) => DONE,
         Err(fault) => tell_fault(faults, fault),
     }
@@ -400,9 +416,9 @@ fn serve_replay<H: AllocGlobal + RandomSource, R: CountedRead, W: CountedWrite, 
 /// Does what the words of a command line say, and gives the exit status.
 ///
 /// 0: the report or the answers were written, or help was asked for, whose text goes to the writer; nothing goes to
-/// `faults`. 1: a fault, told in one line on `faults`; nothing was written unless a write failed, or memory was refused
-/// in a replay, where a beginning of the answers may stand. 2: words that are refused, as `clap` tells it there, or a
-/// list of orders that is not of its form; nothing was written.
+/// `faults`, unless `--progress` asks that progress is told there. 1: a fault, told in one line on `faults`; nothing was
+/// written unless a write failed, or memory was refused in a replay, where a beginning of the answers may stand. 2: words
+/// that are refused, as `clap` tells it there, or a list of orders that is not of its form; nothing was written.
 ///
 /// The first word is the program's name. With `--counted`, and by a replay, the input is read whole, at most 67,108,865
 /// bytes of it: the edge list, a line of exactly `%%`, the list of counted vertices where there is one, and for a replay
@@ -411,7 +427,7 @@ pub fn serve<
     H: AllocGlobal + Clock + RandomSource + Threads + Wait + Sync,
     R: CountedRead,
     W: CountedWrite,
-    F: Write,
+    F: Faults,
 >(rt: &H, words: &[String], reader: &mut R, writer: &mut W, faults: &mut F) -> u8
     ensures run { (w : Run) → IsRun (texts_of words.now) w → result ≡ 0 →
         Serves w (R.remaining reader.old) W.contents writer.old writer.new }
@@ -435,7 +451,8 @@ pub fn serve<
     ensures one_begun { (w : Replayed) → IsReplay (texts_of words.now) w → result ≡ 1 →
         BeginsToServe w (R.remaining reader.old)
         W.contents W.failed_calls writer.old writer.new }
-    ensures silent { result ≡ 0 → Keeps (F.contents faults.old) (F.contents faults.new) }
+    ensures silent { result ≡ 0 → AsksProgress (texts_of words.now) false →
+        Keeps (F.contents faults.old) (F.contents faults.new) }
 {
     match read_words(rt.alloc(), words) {
         Ok(Wish::Run(said)) => serve_run(rt, said, reader, writer, faults),

@@ -1,6 +1,7 @@
 //! What no clause says: reports of runs, printed texts, statuses, and streams that fail.
 
 mod estimates;
+mod progress;
 mod refusals;
 mod replays;
 mod runs;
@@ -8,10 +9,13 @@ mod scripts;
 mod streams;
 mod words;
 
+use crate::progress::Faults;
 use crate::serve::serve;
 use ball_model::{CountingReader, CountingWriter};
 use std::alloc::AllocError;
-use std::io::{Read, Write};
+use std::fmt::Display;
+use std::io;
+use std::io::{Eprint, Read, Write};
 use std::process::Abort;
 use std::random::RandomSource;
 use std::sync::Wait;
@@ -47,6 +51,28 @@ const COUNTED: &str = "hyperball run --log2m 4 --counted";
 
 // The words of a command line, an input, and what is written or told.
 type Case = (&'static str, &'static [u8], &'static [u8]);
+
+// Tells nobody.
+#[derive(Clone, Copy)]
+pub struct Mute;
+
+impl Eprint for Mute {
+    fn eprint<D: Display + Drop>(&self, _value: D) -> io::Result<()> {
+        Ok(())
+    }
+
+    fn eprintln<D: Display + Drop>(&self, _value: D) -> io::Result<()> {
+        Ok(())
+    }
+}
+
+impl Faults for Vec<u8> {
+    type Teller = Mute;
+
+    fn teller(&mut self) -> Mute {
+        Mute
+    }
+}
 
 // What was served.
 #[derive(Drop)]
@@ -87,7 +113,7 @@ fn serve_words<
     H: AllocGlobal + Clock + RandomSource + Threads + Wait + Sync,
     R: Read + Drop,
     W: Write + Drop,
-    F: Write,
+    F: Faults,
 >(rt: &H, words: &[String], input: R, output: W, faults: &mut F) -> u8 {
     let mut reader = CountingReader::new(input);
     let mut writer = CountingWriter::new(output);
@@ -99,7 +125,7 @@ fn serve_streams<
     H: AllocGlobal + Clock + RandomSource + Threads + Wait + Sync,
     R: Read + Drop,
     W: Write + Drop,
-    F: Write,
+    F: Faults,
 >(rt: &H, line: &str, input: R, output: W, faults: &mut F) -> Result<u8, AllocError> {
     let words = words_of(rt, line)?;
     Ok(serve_words(rt, &words, input, output, faults))

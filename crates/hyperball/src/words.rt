@@ -2,15 +2,15 @@
 
 ghost use Rattle.std.specs.Prelude.{◌≡◌, [], Err, IfErr, IfOk, IfSome, List, MatchOption};
 ghost use Rattle.std.specs.Prelude.{false, is_some, true};
-ghost use Rattle.std.specs.Prelude.{option_map};
+ghost use Rattle.std.specs.Prelude.{Bool, codes, option_map};
 ghost use Rattle.clap.specs.Words.{App, FailsBy, found_of, has_subcommand, rows_of, rule_of};
 ghost use Rattle.clap.specs.Words.{subcommand_rows_of, with_rule};
 ghost use Rattle.clap.specs.declared.error.kind.ErrorKind.{ErrorKind as Kind};
 ghost use Rattle.hyperball.specs.CommandLine.{IsApp, Parsers, TakeNames, TakesNames};
-ghost use Rattle.hyperball.specs.CommandLine.{delimiter_names, estimate_names, hyperball_app};
+ghost use Rattle.hyperball.specs.CommandLine.{delimiter_names, estimate_names, hyperball_app, new_hyperball};
 ghost use Rattle.hyperball.specs.CommandLine.{flag_rule, option_rule, run_app};
 ghost use Rattle.hyperball.specs.CommandLine.{with_counters, with_input, with_nodes, with_numbers};
-ghost use Rattle.hyperball.specs.CommandLine.{with_orders};
+ghost use Rattle.hyperball.specs.CommandLine.{with_orders, with_progress};
 ghost use Rattle.hyperball.specs.declared.words.RunWords.{RunWords as Run};
 ghost use Rattle.std.specs.Prelude.{Ok};
 ghost use Rattle.hyperball.specs.Replaying.{AsksReplay, IsReplay, IsReplayOf, NamesReplay, SaysRun};
@@ -18,7 +18,8 @@ ghost use Rattle.hyperball.specs.declared.replay_words.ReplayWords.{ReplayWords 
 ghost use Rattle.hyperball.specs.Orders.{AreOrders};
 ghost use Rattle.hyperball.specs.Words.{AreListed, AreOptionsOf, AreOrdersIn, FailsWith, GivesOrders};
 ghost use Rattle.hyperball.specs.Words.{HasFaults, HasOrders, IsRun, IsRunOf, ParsesTo, SaysListed};
-ghost use Rattle.hyperball.specs.Words.{SaysOrders};
+ghost use Rattle.hyperball.specs.Words.{AsksProgress, GivesProgress, IsFlag, SaysOrders};
+ghost use Rattle.hyperball.specs.Words.{tells_progress};
 ghost use Rattle.hyperball.specs.Words.{delimiter_name, estimate_name, texts_of};
 ghost use Rattle.ball_model.specs.declared.plan.Estimate.{Estimate as Made};
 ghost use Rattle.ball_model.specs.declared.plan.Estimate.TheVariants.{Raw};
@@ -74,6 +75,8 @@ Memory and accuracy:
 Figures:
   Harmonic centrality 0.000000 with Lin's index 1.000000: nobody else that counts gets there.
   Closeness is one by the sum of distances, so it is also 0.000000 if that sum is above a million.
+  They count who reaches a vertex; for those that it reaches, swap the two columns of the edge list.
+  An undirected graph has each edge both ways: a line 'a b' and a line 'b a'.
 
 Exit status:
   0  the report was written, or help was asked for
@@ -116,6 +119,9 @@ const DELIMITER_HELP: &str = "What stands between the two fields of a line [defa
 
 const COUNTED_HELP: &str =
     "Count only the vertices listed after the edge list and a line %%: how near are they?";
+
+const PROGRESS_HELP: &str =
+    "Tell how it gets on, in lines on standard error: what was read, each superstep, the end";
 
 /// What the words of a run say.
 #[derive(Clone, Copy, Debug, PartialEq, Eq)]
@@ -230,6 +236,13 @@ pub fn add_input<'a>(
     command.arg(flag(alloc, "counted", COUNTED_HELP))
 }
 
+/// Adds the flag of progress.
+pub fn add_progress<'a>(alloc: Global, command: Command<'a>) -> Result<Command<'a>, AllocError>
+    ensures { (app : App) → IsApp app command.entry → IfOk result (IsApp (with_progress app)) }
+{
+    command.arg(flag(alloc, "progress", PROGRESS_HELP))
+}
+
 // The subcommand run, with parsers of estimates and of delimiters.
 fn run_command<'a>(
     alloc: Global,
@@ -247,7 +260,18 @@ fn run_command<'a>(
     let command = add_option(alloc, command, "estimate", ESTIMATE_HELP, estimates)?;
     let command = add_input(alloc, command, delimiters)?;
     let command = add_nodes(alloc, command)?;
-    add_orders(alloc, command)
+    let command = add_orders(alloc, command)?;
+    add_progress(alloc, command)
+}
+
+// The program, before it has a subcommand.
+fn bare_command<'a>(alloc: Global) -> Command<'a>
+    ensures { IsApp new_hyperball result }
+{
+    Command::new(alloc, "hyperball")
+        .version(VERSION)
+        .about(ABOUT)
+        .subcommand_required(true)
 }
 
 /// The program's command.
@@ -259,11 +283,8 @@ pub fn command<'a>(alloc: Global) -> Result<Command<'a>, AllocError>
     let between = delimiters();
     let run = run_command(alloc, ways, between)?;
     let replay = replay_command(alloc, ways, between)?;
-    let top = Command::new(alloc, "hyperball")
-        .version(VERSION)
-        .about(ABOUT)
-        .subcommand_required(true)
-        .subcommand(run)?;
+    let bare = bare_command(alloc);
+    let top = bare.subcommand(run)?;
     top.subcommand(replay)
 }
 
@@ -320,6 +341,14 @@ fn options_of(matches: &ArgMatches<'_>) -> RunWords
     }
 }
 
+/// Whether progress is to be told.
+pub fn wants_progress(matches: &ArgMatches<'_>) -> bool
+    ensures { (b : Bool) → IsFlag (rows_of (found_of matches.now)) (codes "progress") b →
+        result ≡ b }
+{
+    matches.get_flag("progress")
+}
+
 // The orders of a list, where one is given.
 fn listed_orders(alloc: Global, text: Option<&str>) -> Result<Vec<(NodeId, u32)>, OrdersError>
     ensures listed { IfOk result (λ os.
@@ -349,13 +378,15 @@ fn orders_of(alloc: Global, matches: &ArgMatches<'_>) -> Result<Orders, OrdersEr
     }
 }
 
-/// What words say: a run, and which of its replicas are lost or start anew.
+/// What words say: a run, which of its replicas are lost or start anew, and whether it tells its progress.
 #[derive(Debug, Drop)]
 pub struct Said {
     /// What the words of the run say.
     pub words: RunWords,
     /// The lists of orders.
     pub orders: Orders,
+    /// Whether progress is to be told.
+    pub progress: bool,
 }
 
 /// What a command line asks for.
@@ -383,6 +414,8 @@ fn run_words(alloc: Global, matches: &ArgMatches<'_>) -> Result<Said, WordsError
         IfOk result (λ said. said.words ≡ w) }
     ensures orders { IfOk result (λ said.
         IfSome (subcommand_rows_of matches.now) (λ s. AreListed s.1 said.orders)) }
+    ensures progress { (b : Bool) → GivesProgress (subcommand_rows_of matches.now) b →
+        IfOk result (λ said. said.progress ≡ b) }
     ensures none { FailsWith [] result }
     ensures form { result ≡ Err (WordsError.Orders OrdersError.Form) →
         GivesOrders (subcommand_rows_of matches.now) }
@@ -392,6 +425,7 @@ fn run_words(alloc: Global, matches: &ArgMatches<'_>) -> Result<Said, WordsError
         Ok(orders) => Ok(Said {
             words: options_of(inner),
             orders,
+            progress: wants_progress(inner),
         }),
         Err(error) => Err(WordsError::Orders(error)),
     }
@@ -407,6 +441,8 @@ fn wish_of(alloc: Global, matches: &ArgMatches<'_>) -> Result<Wish, WordsError>
     ensures asks { (w : Replayed) → result ≡ Ok (Wish.Replay w) →
         NamesReplay (subcommand_rows_of matches.now) }
     ensures orders { IfOk result (SaysListed (subcommand_rows_of matches.now)) }
+    ensures progress { (b : Bool) → GivesProgress (subcommand_rows_of matches.now) b →
+        IfOk result (λ wish. tells_progress wish ≡ b) }
     ensures none { FailsWith [] result }
     ensures form { result ≡ Err (WordsError.Orders OrdersError.Form) →
         GivesOrders (subcommand_rows_of matches.now) }
@@ -428,6 +464,8 @@ pub fn read_words(alloc: Global, words: &[String]) -> Result<Wish, WordsError>
         IfOk result (λ wish. wish ≡ Wish.Replay w) }
     ensures asks { (w : Replayed) → result ≡ Ok (Wish.Replay w) → AsksReplay (texts_of words.now) }
     ensures orders { IfOk result (SaysOrders (texts_of words.now)) }
+    ensures progress { (b : Bool) → AsksProgress (texts_of words.now) b →
+        IfOk result (λ wish. tells_progress wish ≡ b) }
     ensures faults { (kinds : List Kind) → HasFaults (texts_of words.now) kinds →
         FailsWith kinds result }
     ensures form { result ≡ Err (WordsError.Orders OrdersError.Form) →

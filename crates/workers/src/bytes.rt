@@ -278,6 +278,7 @@ fn read_text<T: AllocGlobal + Threads + Wait + Sync, R: CountedRead, G: Gate + S
         return Err(RunError::Options);
     }
     let graph = read_graph(rt, state, reader, counted, options)?;
+    gate.after_read(graph.vertices(), graph.edges());
     report_text(rt, &graph, options, gate)
 }
 

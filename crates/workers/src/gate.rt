@@ -6,7 +6,8 @@ use std::sync::atomic::{AtomicU32, Ordering};
 use std::thread;
 use std::time::{Clock, Duration};
 
-/// What a node calls before and after each of its posts, and in each idle turn. Nothing is asked of it.
+/// What a node calls before and after each of its posts, in each idle turn, and where it has gone on; and what a run calls
+/// once it has its graph. Nothing is asked of it.
 pub trait Gate {
     /// The node is about to post a batch of the superstep.
     fn before_post(&self, node: NodeId, superstep: u32);
@@ -23,6 +24,13 @@ pub trait Gate {
         self.idle(node);
         true
     }
+
+    /// The run has read its graph, of so many vertices and edges. As given, nothing is done.
+    fn after_read(&self, _vertices: u32, _edges: u64) {}
+
+    /// The node has gone on to the superstep, at which so many vertices of its partition changed. As given, nothing is
+    /// done.
+    fn after_close(&self, _node: NodeId, _superstep: u32, _changed: u32) {}
 }
 
 /// A gate that does nothing, save that an idle turn yields the thread.

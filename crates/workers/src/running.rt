@@ -78,4 +78,12 @@ impl<'a, G: Gate> Gate for RunGate<'a, G> {
     fn wait_for(&self, node: NodeId, source: u16) -> bool {
         self.running.may_tell(source) && self.gate.wait_for(node, source)
     }
+
+    fn after_read(&self, vertices: u32, edges: u64) {
+        self.gate.after_read(vertices, edges);
+    }
+
+    fn after_close(&self, node: NodeId, superstep: u32, changed: u32) {
+        self.gate.after_close(node, superstep, changed);
+    }
 }

@@ -258,7 +258,7 @@ fn gather<R: AllocGlobal + Wait, E: Exchange, G: Gate>(
 }
 
 // Goes on from a superstep whose level is held.
-fn close(replica: &mut Replica) -> Turn
+fn close<G: Gate>(gate: &G, node: NodeId, replica: &mut Replica) -> Turn
     requires held { missing_in replica.old ≡ None }
     ensures stands { (j : Job) (p t : ℕ) → StandsFor j p t replica.old →
         StandsFor j p replica.new.superstep replica.new }
@@ -267,7 +267,10 @@ fn close(replica: &mut Replica) -> Turn
     ensures kind { (result ≡ turn.Next) ⊎ (result ≡ turn.Over) }
 {
     match replica.close() {
-        Ok(_) => Turn::Next,
+        Ok(superstep) => {
+            gate.after_close(node, superstep, replica.changed_count());
+            Turn::Next
+        }
         Err(_) => Turn::Over,
     }
 }
@@ -298,7 +301,7 @@ pub fn run_superstep<R: AllocGlobal + Wait, E: Exchange, G: Gate>(
     drop_old(rt, exchange, orders.keep, replica.superstep())?;
     Ok(
         match gather(rt, exchange, gate, node, orders.patience, replica)? {
-            Found::Level => close(replica),
+            Found::Level => close(gate, node, replica),
             Found::Further => Turn::Next,
             Found::Missed { source } => Turn::Starved { source },
         },

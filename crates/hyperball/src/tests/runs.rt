@@ -113,8 +113,8 @@ fn reports_alike<H: Abort + AllocGlobal + Clock + RandomSource + Threads + Wait 
 
 #[test]
 fn partitions(rt: HostRuntime) -> Result<(), Fail> {
-    for line in PARTITIONS {
-        reports_alike(&rt, line)?;
+    for line in &PARTITIONS {
+        reports_alike(&rt, *line)?;
     }
     Ok(())
 }

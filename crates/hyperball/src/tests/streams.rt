@@ -163,6 +163,14 @@ impl Write for Narrow {
     }
 }
 
+impl Faults for Narrow {
+    type Teller = Mute;
+
+    fn teller(&mut self) -> Mute {
+        Mute
+    }
+}
+
 // Serves words over the two edges into a narrow writer.
 fn serve_narrowly<H: AllocGlobal + Clock + RandomSource + Threads + Wait + Sync>(
     rt: &H,

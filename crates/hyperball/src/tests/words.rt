@@ -181,10 +181,14 @@ fn help_is_shown(rt: HostRuntime) -> Result<(), Fail> {
 
 #[test]
 fn version_is_told(rt: HostRuntime) -> Result<(), Fail> {
-    let served = serve_input(&rt, "hyperball --version", b"".as_slice())?;
-    assert!(rt; served.status == 0 && served.faults.is_empty());
-    assert!(rt; served.output.as_slice() == b"hyperball 0.1.0\n".as_slice());
-    Ok(())
+    ends(
+        &rt,
+        0,
+        "hyperball --version",
+        b"",
+        b"hyperball 0.1.0\n",
+        b"",
+    )
 }
 
 // The words are refused, with this at the front of what is told.

@@ -26,6 +26,7 @@ returns-clause-usual c = record {
       delimiter = refl;
       replicas = refl;
       counted = refl;
+      progress = refl;
     },
   ));
 }
@@ -49,12 +50,13 @@ returns-clause-plan c = record {
       delimiter = refl;
       replicas = record { numeral = (lit< tt, (lit< tt, tt)); value = refl; fits = lit< tt };
       counted = refl;
+      progress = refl;
     },
   ));
 }
 
 abbrev input_line : List Text
-input_line = codes "hyperball" ∷ codes "replay" ∷ codes "--counted" ∷ codes "--delimiter" ∷ codes "comma" ∷ codes "--estimate=corrected" ∷ codes "--seed" ∷ codes "7" ∷ []
+input_line = codes "hyperball" ∷ codes "replay" ∷ codes "--counted" ∷ codes "--delimiter" ∷ codes "comma" ∷ codes "--estimate=corrected" ∷ codes "--seed" ∷ codes "7" ∷ codes "--progress" ∷ []
 
 pub returns-clause-input : goal.returns-clause-input
 unfolding clap_on_literals hyperball_app replay_app run_app
@@ -72,6 +74,7 @@ returns-clause-input c = record {
       delimiter = refl;
       replicas = refl;
       counted = refl;
+      progress = refl;
     },
   ));
 }

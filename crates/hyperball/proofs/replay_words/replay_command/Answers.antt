@@ -1,6 +1,6 @@
 use Rattle.std.proofs.Common.{codes, rules}
-use Rattle.clap.specs.Words.{new_app}
-use Rattle.hyperball.specs.CommandLine.{IsApp, replay_app, with_estimate, with_numbers}
+use Rattle.clap.specs.Words.{new_app, with_rule}
+use Rattle.hyperball.specs.CommandLine.{IsApp, number8, option_rule, replay_app, with_estimate, with_input, with_numbers}
 use Rattle.hyperball.proofs.replay_words.replay_command.Goals as goal
 
 pub returns : goal.returns
@@ -10,4 +10,6 @@ returns c =
     let numbers = c.in_ok-command.ensures (new_app (codes "replay")) start in
     let estimate = c.in_ok-command-2.ensures (with_numbers (new_app (codes "replay"))) numbers in
     let input = c.in_ok-command-3.ensures (with_estimate c.args.estimates (with_numbers (new_app (codes "replay")))) estimate in
-    rw (c.value_parser.ensures) at (c.add_option-2.ensures _ input)
+    c.add_progress.ensures
+    (with_rule (with_input c.args.delimiters (with_estimate c.args.estimates (with_numbers (new_app (codes "replay"))))) (option_rule (codes "replicas") number8))
+    (rw (c.value_parser.ensures) at (c.in_ok-command-4.ensures _ input))

@@ -5,10 +5,10 @@ use Rattle.hyperball.specs.Words.{delimiter_name, estimate_name, usual_options}
 use Rattle.hyperball.proofs.OptionLemmas.{flag_is, name_is, number_is, same_replay_words}
 use Rattle.hyperball.proofs.replay_words.replay_words_of.Goals as goal
 
-pub returns : goal.returns
-returns c = λ w h.
+pub returns-clause-options : goal.returns-clause-options
+returns-clause-options c = λ w h.
     let f = found_of c.args.matches.now in
-    same_replay_words _ _ _ _ _ _ _ _ w
+    same_replay_words _ _ _ _ _ _ _ _ _ w
     (c.unwrap_or.ensures ∙ number_is (λ t r. ExplainsUnsignedError 10 t r) (λ t r. HasUnsignedDigitsIfOk t r) f (codes "log2m") 8 8 w.options.log2m c.get_one.result c.get_one.ensures.none c.get_one.ensures.value h.log2m)
     (c.unwrap_or-2.ensures ∙ number_is (λ t r. ExplainsUnsignedError 10 t r) (λ t r. HasUnsignedDigitsIfOk t r) f (codes "seed") 0 64 w.options.seed c.get_one-2.result c.get_one-2.ensures.none c.get_one-2.ensures.value h.seed)
     (c.unwrap_or-3.ensures ∙ number_is (λ t r. ExplainsUnsignedError 10 t r) (λ t r. HasUnsignedDigitsIfOk t r) f (codes "parts") 1 16 w.options.parts c.get_one-3.result c.get_one-3.ensures.none c.get_one-3.ensures.value h.parts)
@@ -17,3 +17,4 @@ returns c = λ w h.
     (c.estimate_of.ensures w.options.estimate (name_is usual_options.estimate estimate_name f (codes "estimate") w.options.estimate _ c.get_str.ensures h.estimate))
     (c.delimiter_of.ensures w.options.delimiter (name_is usual_options.delimiter delimiter_name f (codes "delimiter") w.options.delimiter _ c.get_str-2.ensures h.delimiter))
     (flag_is f (codes "counted") c.get_flag.result w.counted c.get_flag.ensures.none c.get_flag.ensures.value c.get_flag.ensures.other h.counted)
+    (c.wants_progress.ensures w.progress h.progress)

@@ -1,10 +1,10 @@
-use Rattle.std.proofs.Common.{◌≡◌, ap, subst, sym, true}
+use Rattle.std.proofs.Common.{◌≡◌, ap, false, subst, sym, true}
 use Rattle.std.specs.Prelude.{Err, IfSome, Ok}
 use Rattle.hyperball.specs.Replaying.{BeginsToServe, ServesReplay}
 use Rattle.hyperball.specs.Words.{Reports}
 use Rattle.hyperball.specs.declared.replay_words.ReplayWords.{ReplayWords}
 use Rattle.hyperball.specs.declared.words.RunWords.{RunWords}
-use Rattle.hyperball.proofs.ReplayLemmas.{is_replay, is_run, not_replay, not_run, some_begun}
+use Rattle.hyperball.proofs.ReplayLemmas.{is_replay, is_run, not_replay, not_run, replay_tells, run_tells, some_begun}
 use Rattle.hyperball.proofs.serve.serve.Goals as goal
 
 pub returns-in-Err-clause-mistaken : goal.returns-in-Err-clause-mistaken
@@ -20,6 +20,14 @@ pub returns-in-Ok-Run-clause-run : goal.returns-in-Ok-Run-clause-run
 returns-in-Ok-Run-clause-run g c = λ w is zero.
     subst (λ (v : RunWords). IfSome (g.R.Read.remaining c.args.reader.now) (λ input. Reports v input (g.W.Write.contents c.args.writer.now) (g.W.Write.contents c.serve_run.new.writer)))
     (is_run _ _ w c.in-Ok-Run.field-0-is (c.in-Ok-Run.ensures.run w is)) (c.serve_run.ensures.done zero)
+
+pub returns-in-Ok-Run-clause-silent : goal.returns-in-Ok-Run-clause-silent
+returns-in-Ok-Run-clause-silent g c = λ zero quiet.
+    c.serve_run.ensures.silent zero (run_tells _ _ false c.in-Ok-Run.field-0-is (c.in-Ok-Run.ensures.progress false quiet))
+
+pub returns-in-Ok-Replay-clause-silent : goal.returns-in-Ok-Replay-clause-silent
+returns-in-Ok-Replay-clause-silent g c = λ zero quiet.
+    c.serve_replay.ensures.silent zero (replay_tells _ _ false c.in-Ok-Replay.field-0-is (c.in-Ok-Replay.ensures.progress false quiet))
 
 pub returns-in-Ok-Run-clause-few : goal.returns-in-Ok-Run-clause-few
 returns-in-Ok-Run-clause-few g c = λ w is counted.

@@ -1,22 +1,20 @@
-use Rattle.std.proofs.Common.{rules, ap, ap₂, false, Bool, ◌||◌, ◌≡◌, ◌∙◌}
+use Rattle.std.proofs.Common.{ap, ap₂, Bool, ◌||◌, ◌≡◌, ◌∙◌}
 use Rattle.std.proofs.lemmas.Result.{IfOk-weaker}
-use Rattle.clap.specs.Words.{App, app_of, with_subcommand}
-use Rattle.clap.specs.declared.builder.command.Command.TheViews.{out-Command as fields_of}
-use Rattle.hyperball.specs.CommandLine.{Parsers, hyperball_app, new_hyperball}
+use Rattle.clap.specs.Words.{App, with_subcommand}
+use Rattle.hyperball.specs.CommandLine.{Parsers, hyperball_app}
 use Rattle.hyperball.proofs.words.command.Goals as goal
 
 pub returns : goal.returns
 unfolding hyperball_app
 returns c =
-    let required : app_of c.subcommand_required.result ≡ new_hyperball = search rules in
-    let start : (fields_of c.subcommand_required.result).has_globals ≡ false = search rules in
     let or : Bool → Bool → Bool = λ a b. a || b in
     let p : Parsers = record { estimates = c.estimates-ways.result; delimiters = c.delimiters-between.result } in
+    let bare = c.bare_command-bare.ensures in
     let run = c.in_ok-run.ensures in
     let replay = c.in_ok-replay.ensures in
     let top = c.in_ok-top.ensures in
-    let form = top.shape run.local ∙ ap₂ with_subcommand required (ap (λ (a : App). a.top) run.form) in
-    let local = top.globals ∙ ap₂ or start run.local in
+    let form = top.shape run.local ∙ ap₂ with_subcommand bare.form (ap (λ (a : App). a.top) run.form) in
+    let local = top.globals ∙ ap₂ or bare.local run.local in
     IfOk-weaker c.subcommand-2.result _ _ (λ m h. (
       p,
       (c.estimates-ways.ensures, c.delimiters-between.ensures),

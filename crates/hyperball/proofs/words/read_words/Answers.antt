@@ -3,7 +3,7 @@ use Rattle.std.proofs.lemmas.Result.{IfOk-weaker}
 use Rattle.clap.specs.Words.{Row, Text}
 use Rattle.clap.specs.declared.error.kind.ErrorKind.{ErrorKind}
 use Rattle.hyperball.specs.Replaying.{IsReplayOf, NamesReplay}
-use Rattle.hyperball.specs.Words.{FailsWith, GivesOrders, IsRunOf, SaysListed}
+use Rattle.hyperball.specs.Words.{FailsWith, GivesOrders, GivesProgress, IsRunOf, SaysListed}
 use Rattle.hyperball.proofs.WishLemmas.{is_replay}
 use Rattle.hyperball.proofs.words.read_words.Goals as goal
 
@@ -26,6 +26,11 @@ pub returns-in-Ok-clause-orders : goal.returns-in-Ok-clause-orders
 returns-in-Ok-clause-orders c =
     let read = c.in-Ok.ensures.read in
     IfOk-weaker c.wish_of.result _ _ (λ asked says. record { parsers = read.parsers; take = read.take; listed = subst (λ (sub : Option (Text × List Row)). SaysListed sub asked) read.rows says }) c.wish_of.ensures.orders
+
+pub returns-in-Ok-clause-progress : goal.returns-in-Ok-clause-progress
+returns-in-Ok-clause-progress c = λ b asks.
+    let read = c.in-Ok.ensures.read in
+    c.wish_of.ensures.progress b (subst (λ (sub : Option (Text × List Row)). GivesProgress sub b) (sym read.rows) (asks.flag read.parsers read.take read.faults))
 
 pub returns-in-Ok-clause-faults : goal.returns-in-Ok-clause-faults
 returns-in-Ok-clause-faults c = λ kinds has.

@@ -11,4 +11,5 @@ returns c =
     let estimate = c.in_ok-command-2.ensures (with_numbers (new_app (codes "run"))) numbers in
     let input = c.in_ok-command-3.ensures (with_estimate c.args.estimates (with_numbers (new_app (codes "run")))) estimate in
     let nodes = c.in_ok-command-4.ensures _ input in
-    c.add_orders.ensures _ nodes
+    let orders = c.in_ok-command-5.ensures _ nodes in
+    c.add_progress.ensures _ orders

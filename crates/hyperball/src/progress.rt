@@ -1,0 +1,205 @@
+//! What is told of how a run or a replay gets on, where that is asked for.
+//!
+//! [`Faults`] hands out what tells it, [`Progress`] says what, and a run's [`TellingGate`] says when. Each line begins
+//! with `hyperball: `, as a fault does; one that cannot be written is dropped.
+
+use ball_model::NodeId;
+use ball_model::plan::GREATEST_LIMIT;
+use std::alloc::{AllocError, Global};
+use std::io::{Eprint, Stderr, Write};
+use std::sync::atomic::{AtomicU32, AtomicU64, Ordering};
+use std::time::Clock;
+use workers::{Gate, SleepingGate};
+
+/// Where faults are told, and progress where it is asked for.
+pub trait Faults: Write {
+    /// What tells progress there, from any thread.
+    type Teller: Eprint + Sync + Drop;
+
+    /// Hands out what tells progress there. From then on no contract says what stands there.
+    fn teller(&mut self) -> Self::Teller;
+}
+
+impl Faults for Stderr {
+    type Teller = Stderr;
+
+    fn teller(&mut self) -> Stderr {
+        *self
+    }
+}
+
+// How many partitions have come to a superstep, and how many of their vertices changed at it.
+#[derive(Drop)]
+struct Superstep {
+    parts: AtomicU32,
+    changed: AtomicU64,
+}
+
+impl Superstep {
+    // No partition has come to it.
+    fn new() -> Superstep {
+        Superstep {
+            parts: AtomicU32::new(0),
+            changed: AtomicU64::new(0),
+        }
+    }
+}
+
+/// Tells how a run gets on: its graph, each superstep that all partitions have come to, and the report.
+#[derive(Drop)]
+pub struct Progress<T> {
+    teller: T,
+    // how many vertices the graph has, once it is read
+    vertices: AtomicU32,
+    // how many partitions the run has beside one
+    others: u32,
+    // the furthest superstep that a node of each partition has come to
+    reached: Vec<AtomicU32>,
+    // from superstep 0 on
+    supersteps: Vec<Superstep>,
+}
+
+impl<T: Eprint + Drop> Progress<T> {
+    /// Nothing is told yet, of a run of so many partitions. The error is that memory was refused.
+    pub fn new(alloc: Global, teller: T, parts: u16) -> Result<Progress<T>, AllocError> {
+        Ok(Progress {
+            teller,
+            vertices: AtomicU32::new(0),
+            others: u32::from(parts.saturating_sub(1)),
+            reached: at_start(alloc, parts)?,
+            supersteps: no_supersteps(alloc)?,
+        })
+    }
+
+    // The graph is read.
+    fn tell_graph(&self, vertices: u32, edges: u64) {
+        self.vertices.store(vertices, Ordering::SeqCst);
+        let _ = eprintln!(self.teller; "hyperball: {vertices} vertices and {edges} edges are read");
+    }
+
+    // A node of a partition has come to a superstep, at which so many vertices of the partition changed. The first node
+    // of the last partition to come there tells it.
+    fn come_to(&self, part: u16, superstep: u32, changed: u32) {
+        let Some(reached) = self.reached.get(usize::from(part)) else {
+            return;
+        };
+        if reached.fetch_max(superstep, Ordering::SeqCst) >= superstep {
+            return;
+        }
+        let Some(all) = self.supersteps.get(superstep as usize) else {
+            return;
+        };
+        all.changed.fetch_add(u64::from(changed), Ordering::SeqCst);
+        if all.parts.fetch_add(1, Ordering::SeqCst) == self.others {
+            self.tell_superstep(superstep, all.changed.load(Ordering::SeqCst));
+        }
+    }
+
+    // All partitions have come to a superstep.
+    fn tell_superstep(&self, superstep: u32, changed: u64) {
+        let all = self.vertices.load(Ordering::SeqCst);
+        let _ = eprintln!(self.teller;
+            "hyperball: superstep {superstep}, {changed} of {all} vertices changed"
+        );
+    }
+
+    // The report is written.
+    fn tell_report(&self) {
+        let _ = eprintln!(self.teller; "hyperball: the report is written");
+    }
+}
+
+// No node has gone on from superstep 0, of so many partitions.
+fn at_start(alloc: Global, parts: u16) -> Result<Vec<AtomicU32>, AllocError> {
+    let mut reached = Vec::with_capacity(alloc, usize::from(parts))?;
+    for _ in 0..parts {
+        reached.push(AtomicU32::new(0))?;
+    }
+    Ok(reached)
+}
+
+// No partition has come to any superstep that a run may have.
+fn no_supersteps(alloc: Global) -> Result<Vec<Superstep>, AllocError> {
+    let mut supersteps = Vec::new(alloc);
+    for _ in 0..=GREATEST_LIMIT {
+        supersteps.push(Superstep::new())?;
+    }
+    Ok(supersteps)
+}
+
+/// A gate whose idle turns sleep, and which tells how the run gets on where there is a teller.
+#[derive(Drop)]
+pub struct TellingGate<'a, C, T> {
+    sleeping: SleepingGate<'a, C>,
+    progress: Option<Progress<T>>,
+}
+
+impl<'a, C: Clock, T: Eprint + Drop> TellingGate<'a, C, T> {
+    /// A gate that sleeps by this clock, of a run of so many partitions. The error is that memory was refused.
+    pub fn new(
+        alloc: Global,
+        clock: &'a C,
+        teller: Option<T>,
+        parts: u16,
+    ) -> Result<TellingGate<'a, C, T>, AllocError> {
+        let progress = match teller {
+            Some(teller) => Some(Progress::new(alloc, teller, parts)?),
+            None => None,
+        };
+        Ok(TellingGate {
+            sleeping: SleepingGate::new(alloc, clock)?,
+            progress,
+        })
+    }
+
+    /// The run has ended, and written its report or not.
+    pub fn after_run(&self, written: bool) {
+        if let Some(progress) = &self.progress
+            && written
+        {
+            progress.tell_report();
+        }
+    }
+}
+
+impl<'a, C: Clock, T: Eprint + Drop> Gate for TellingGate<'a, C, T> {
+    fn before_post(&self, node: NodeId, superstep: u32) {
+        self.sleeping.before_post(node, superstep);
+    }
+
+    fn after_post(&self, node: NodeId, superstep: u32) {
+        self.sleeping.after_post(node, superstep);
+    }
+
+    fn idle(&self, node: NodeId) {
+        self.sleeping.idle(node);
+    }
+
+    fn after_read(&self, vertices: u32, edges: u64) {
+        if let Some(progress) = &self.progress {
+            progress.tell_graph(vertices, edges);
+        }
+    }
+
+    fn after_close(&self, node: NodeId, superstep: u32, changed: u32) {
+        if let Some(progress) = &self.progress {
+            progress.come_to(node.part, superstep, changed);
+        }
+    }
+}
+
+/// The input of a replay is read, of so many bytes.
+pub fn tell_input<T: Eprint>(teller: &Option<T>, bytes: usize) {
+    if let Some(teller) = teller {
+        let _ = eprintln!(teller; "hyperball: {bytes} bytes are read");
+    }
+}
+
+/// A replay has ended, and its answers are written or not.
+pub fn tell_answers<T: Eprint>(teller: &Option<T>, written: bool) {
+    if let Some(teller) = teller
+        && written
+    {
+        let _ = eprintln!(teller; "hyperball: the answers are written");
+    }
+}
