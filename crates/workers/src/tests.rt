@@ -1,6 +1,9 @@
 //! What no clause says: worked runs of one node and of many.
 
+mod refusals;
+mod rows;
 mod runs;
+mod schedules;
 mod texts;
 
 ghost use Rattle.std.specs.Prelude.{◌≡◌, ◌<◌, ◌≤◌, IfSome};
