@@ -1,5 +1,7 @@
 pub mod Crossing
+pub mod EndsLemmas
 pub mod JobLemmas
+pub mod PathLemmas
 pub mod ReadyLemmas
 pub mod SeenLemmas
 pub mod TieLemmas

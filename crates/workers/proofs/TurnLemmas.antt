@@ -67,7 +67,7 @@ missing_source j p t q r h is =
 pub true_shared : (j : Job) (name : BatchName) (a b : BatchValue) → a ≡ b → b ≡ true_batch j name → a ≡ true_batch j a.name
 true_shared j name a b e is = true_named j name a (e ∙ is)
 
-name_of_true : (j : Job) (name : BatchName) (a : BatchValue) → a ≡ true_batch j name → a.name ≡ name
+pub name_of_true : (j : Job) (name : BatchName) (a : BatchValue) → a ≡ true_batch j name → a.name ≡ name
 unfolding true_batch
 name_of_true j name a is = ap (λ (b : BatchValue). b.name) is
 

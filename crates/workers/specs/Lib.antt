@@ -1,3 +1,4 @@
+pub mod Ends
 pub mod Job
 pub mod Node
 pub mod Options

@@ -1,13 +1,16 @@
 -- The tie of a board's history to a world: what a node does at its board is what a node of a world does.
 use Rattle.std.specs.Prelude.{◌≡◌, ◌≢◌, ⊤, ℕ, ◌<◌, ◌≤◌, List, [], ◌∷◌, ◌++◌, Some, option_map, if◌then◌else◌}
+use mathlib.Core.List.{IsPrefix}
 use Rattle.ball_model.specs.declared.names.BatchName.{BatchName}
 use Rattle.ball_model.specs.declared.names.NodeId.{NodeId}
 use Rattle.ball_model.specs.declared.world.Event.{Event as Happening}
 use Rattle.ball_model.specs.Job.{Job}
+use Rattle.ball_model.specs.State.{State}
 use Rattle.ball_model.specs.Join.{Holding, join_of}
 use Rattle.ball_model.specs.Steps.{Take, Close}
 use Rattle.ball_model.specs.Held.{start_holding, held_after}
-use Rattle.ball_model.specs.History.{Event, Post, Fetch, Keep, Recall, Drop, Entry, History, IsLegal, calls_by, is_new_post, is_new_keep}
+use Rattle.ball_model.specs.History.{Event, Post, Fetch, Keep, Recall, Drop, Entry, History, IsLegal, calls_by, is_new_post, is_new_keep, holding_in}
+use Rattle.ball_model.specs.Caller.{Caller}
 use Rattle.ball_model.specs.World.{World, start_world, node_at, run_of}
 
 -- a step of a node: a call of its board, with what it makes of the answer; a close of its superstep; a start anew,
@@ -67,6 +70,26 @@ calls_in [] = []
 calls_in (Calls e ∷ steps) = e ∷ calls_in steps
 calls_in (Closes ∷ steps) = calls_in steps
 calls_in (StartsAnew ∷ steps) = calls_in steps
+
+-- since then the caller's own calls are those of a node of partition p, which came from one holding to the other
+pub record HasCome (v : Caller) (p : ℕ) (old new : Holding) (w : Caller) : Type 0 where
+  pub steps : List Step
+  pub own : AreOwnSteps v.seen.job p old steps
+  pub calls : calls_by v.number w.seen ≡ calls_by v.number v.seen ++ calls_in steps
+  pub held : after_steps v.seen.job p old steps ≡ new
+
+-- since then the caller's own calls are those of a node of partition p, which had that holding
+pub record HasGone (v : Caller) (p : ℕ) (old : Holding) (w : Caller) : Type 0 where
+  pub new : Holding
+  pub come : HasCome v p old new w
+
+-- since then the caller's own calls are those of a node of partition p from its start
+abbrev pub IsPath : Caller → ℕ → Caller → Type 0
+IsPath v p w = HasGone v p (start_holding v.seen.job.plan p) w
+
+-- and by them the node came to hold what that replica holds
+abbrev pub IsPathTo : Caller → ℕ → State → Caller → Type 0
+IsPathTo v p r w = HasCome v p (start_holding v.seen.job.plan p) (holding_in r) w
 
 -- from its start, by these steps with these calls, a node of partition p comes to hold c
 pub record Reaches (j : Job) (p : ℕ) (made : List Event) (steps : List Step) (c : Holding) : Type 0 where
@@ -135,3 +158,26 @@ pub record IsRun (replicas : ℕ) (h : History) : Type 0 where
 abbrev pub HistoriesAreRuns : Type 0
 HistoriesAreRuns = (replicas : ℕ) (h : History) → 0 < replicas → IsLegal h →
     ((n : ℕ) → AreOfNode h.job (calls_by n h)) → IsRun replicas h
+
+-- the calls of a caller that made none before it ran a node are those of a node; and so are the first ones of them,
+-- which are what a shorter history has
+abbrev pub PathsAreOfNodes : Type 0
+PathsAreOfNodes = (v w : Caller) (p : ℕ) (made : List Event) → p < v.seen.job.plan.parts →
+    calls_by v.number v.seen ≡ [] → IsPath v p w → IsPrefix made (calls_by v.number w.seen) →
+    AreOfNode v.seen.job made
+
+-- there is a run of a world with the messages and the copies of the history, in which the node can hold what the
+-- replica holds
+pub record IsOfRun (replicas : ℕ) (h : History) (id : NodeId) (r : State) : Type 0 where
+  pub run : IsRun replicas h
+  pub held : CanHold h.job (run_of h.job (start_world h.job.plan replicas) run.events) id
+      (holding_in r)
+
+-- what a replica holds that a caller came to, by a node that it ran, a run of a world reaches: in any legal history
+-- which has all the caller's calls, and of each other caller such as are a node's
+abbrev pub ReplicasAreOfRuns : Type 0
+ReplicasAreOfRuns = (replicas : ℕ) (h : History) (v w : Caller) (id : NodeId) (r : State) →
+    id.replica < replicas → id.part < h.job.plan.parts → IsLegal h → v.seen.job ≡ h.job →
+    calls_by v.number v.seen ≡ [] → IsPathTo v id.part r w →
+    calls_by v.number h ≡ calls_by v.number w.seen →
+    ((n : ℕ) → n ≢ v.number → AreOfNode h.job (calls_by n h)) → IsOfRun replicas h id r

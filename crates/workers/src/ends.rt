@@ -1,10 +1,11 @@
 //! What the nodes of a job say at their ends, put together.
 
-ghost use Rattle.std.specs.Prelude.{◌≡◌, ◌≤◌, ◌<◌, ◌+◌, ℕ, true, All};
-ghost use Rattle.std.specs.Prelude.{IfErr, IfOk, IfSome, OnOk, is_some, length};
+ghost use Rattle.std.specs.Prelude.{◌≡◌, ◌≢◌, ◌≤◌, ◌<◌, ◌+◌, ℕ, true, All};
+ghost use Rattle.std.specs.Prelude.{IfErr, IfOk, IfSome, OnOk, Some, is_some, length};
 ghost use Rattle.ball_model.specs.Job.{Job};
 ghost use Rattle.workers.specs.Job.{AreDone, AreEnds, AreNoted, EachAt, IsFaultOf, IsPartEnd};
 ghost use Rattle.workers.specs.Job.{IsPartitionLost, KeepsItsOrders};
+ghost use Rattle.workers.specs.Ends.{fault_of, first_fault, first_of, is_lost, no_faults, with_end, with_part};
 ghost use Rattle.workers.specs.Node.{IfDone, IsDone};
 ghost use Rattle.workers.specs.Options.{orders_for};
 ghost use Rattle.workers.specs.declared.node.NodeOrders.{NodeOrders as Orders};
@@ -66,7 +67,8 @@ pub struct Faults {
 impl Faults {
     // Nothing is noted yet.
     fn none() -> Faults
-        ensures { (parts : ℕ) (o : Asked) → AreNoted parts o result }
+        ensures noted { (parts : ℕ) (o : Asked) → AreNoted parts o result }
+        ensures exact { result ≡ no_faults }
     {
         Faults {
             lost: None,
@@ -78,7 +80,9 @@ impl Faults {
 
     // The first of them by the order of the checks.
     fn first(&self) -> JobError
-        ensures { (parts : ℕ) (o : Asked) → AreNoted parts o self.now → IsFaultOf parts o result }
+        ensures fault { (parts : ℕ) (o : Asked) → AreNoted parts o self.now →
+            IsFaultOf parts o result }
+        ensures exact { result ≡ fault_of self.now }
     {
         if let Some(part) = self.lost {
             return JobError::PartitionLost { part };
@@ -109,8 +113,8 @@ fn note(faults: &mut Faults, node: NodeId, end: &NodeResult) -> bool
         result ≡ true → is_some orders.lose ≡ true }
     ensures noted { (j : Job) (o : Asked) (p k : ℕ) → KeepsItsOrders j p (orders_for o p k) end.now →
         AreNoted j.plan.parts o faults.old → AreNoted j.plan.parts o faults.new }
-    ensures first { is_some faults.old.starved ≡ true →
-        faults.new.starved ≡ faults.old.starved }
+    ensures exact { faults.new ≡ with_end node end.now faults.old }
+    ensures told { result ≡ is_lost end.now }
 {
     match end {
         Ok(NodeEnd::Done(_)) => false,
@@ -140,7 +144,8 @@ fn note(faults: &mut Faults, node: NodeId, end: &NodeResult) -> bool
 fn note_lost(faults: &mut Faults, p: u16)
     ensures noted { (parts : ℕ) (o : Asked) → IsPartitionLost parts o p → AreNoted parts o faults.old →
         AreNoted parts o faults.new }
-    ensures first { is_some faults.old.lost ≡ true → faults.new.lost ≡ faults.old.lost }
+    ensures exact { faults.new ≡
+        record faults.old { lost = first_of faults.old.lost (Some p) } }
 {
     if faults.lost.is_none() {
         faults.lost = Some(p);
@@ -164,6 +169,7 @@ fn settle_part(p: u16, ends: Vec<NodeResult>, faults: &mut Faults) -> Option<Rep
     ensures done { (j : Job) (o : Asked) → IsPartEnd j o p ends.items → IfSome result (IsDone j p) }
     ensures noted { (j : Job) (o : Asked) → IsPartEnd j o p ends.items → p < j.plan.parts →
         AreNoted j.plan.parts o faults.old → AreNoted j.plan.parts o faults.new }
+    ensures exact { faults.new ≡ with_part p ends.items faults.old }
 {
     let mut done = None;
     let mut all_lost = true;
@@ -207,6 +213,8 @@ pub fn settle(alloc: Global, ends: Vec<Vec<NodeResult>>) -> Result<Vec<Replica>,
         IfOk result (λ rs. AreDone j rs.items) }
     ensures fault { (j : Job) (o : Asked) → AreEnds (λ own. own.items) j o ends.items →
         IfErr result (IsFaultOf j.plan.parts o) }
+    ensures first { IfErr result (λ e. e ≢ JobError.Memory →
+        e ≡ first_fault (λ own. own.items) ends.items) }
 {
     let mut faults = Faults::none();
     let mut done = Vec::with_capacity(alloc, ends.len())?;

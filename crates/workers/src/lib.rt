@@ -41,7 +41,7 @@ mod turn;
 pub use bytes::{RunError, run};
 pub use exchange::{BoardExchange, Exchange};
 pub use gate::{Gate, OpenGate, SleepingGate};
-pub use laws::histories_are_runs;
+pub use laws::{histories_are_runs, paths_are_of_nodes, replicas_are_of_runs};
 pub use memory::MemoryExchange;
 pub use node::{NodeEnd, NodeError, NodeOrders, run_node};
 pub use options::RunOptions;

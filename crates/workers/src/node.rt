@@ -1,11 +1,13 @@
 //! One node: a replica of a partition, from superstep 0 to its end.
 
-ghost use Rattle.std.specs.Prelude.{◌≡◌, ◌≢◌, ◌<◌, ◌≤◌, true, false, IfOk, OnOk, IfErr, Err, None};
+ghost use Rattle.std.specs.Prelude.{◌≡◌, ◌≢◌, ◌<◌, ◌≤◌, true, false, IfOk, OnErr, OnOk, IfErr, Err, None};
 ghost use Rattle.std.specs.Arc.{arc_value};
+ghost use Rattle.ball_model.specs.History.{holding_in};
 ghost use Rattle.ball_model.specs.Job.{IsJob, part_of};
 ghost use Rattle.ball_model.specs.Caller.{Extends, IsCaller, IsFull};
 ghost use Rattle.workers.specs.declared.node.NodeError.TheVariants.{BookFull};
 ghost use Rattle.workers.specs.Node.{FallsDue, HasToldAll, IfDone, IfLost, IfStarved, IsDone, WasMissing};
+ghost use Rattle.workers.specs.Tie.{HasCome, HasGone, IsPath, IsPathTo};
 ghost use Rattle.workers.specs.Turn.{IsAnew, IsFate, IsPartOf, StandsIn};
 ghost use Rattle.replica.specs.Sent.{batch_name};
 
@@ -117,6 +119,10 @@ fn begin_anew<R: AllocGlobal + Wait, E: Exchange>(
     ensures stands { OnOk result (StandsIn (E.caller exchange.old) node.part replica.new) }
     ensures anew { OnOk result (IsAnew (E.caller exchange.old) node.part replica.new.superstep
         (E.caller exchange.new)) }
+    ensures came { OnOk result (HasCome (E.caller exchange.old) node.part (holding_in replica.old)
+        (holding_in replica.new) (E.caller exchange.new)) }
+    ensures gone { OnErr result (HasGone (E.caller exchange.old) node.part (holding_in replica.old)
+        (E.caller exchange.new)) }
     ensures full { IfErr result (λ e. e ≡ BookFull → IsFull (E.caller exchange.new)) }
 {
     *replica = Replica::new(rt.alloc(), Arc::try_clone(part)?)?;
@@ -141,6 +147,10 @@ fn go_on<R: AllocGlobal + Wait, E: Exchange, G: Gate>(
     ensures stands { OnOk result (StandsIn (E.caller exchange.old) node.part replica.new) }
     ensures fate { IfOk result (λ fate. IsFate (E.caller exchange.old) node.part orders.now.lose
         replica.new fate (E.caller exchange.new)) }
+    ensures came { OnOk result (HasCome (E.caller exchange.old) node.part (holding_in replica.old)
+        (holding_in replica.new) (E.caller exchange.new)) }
+    ensures gone { OnErr result (HasGone (E.caller exchange.old) node.part (holding_in replica.old)
+        (E.caller exchange.new)) }
     ensures full { IfErr result (λ e. e ≡ BookFull → IsFull (E.caller exchange.new)) }
     ensures alone { (E.caller exchange.old).seen.job.plan.parts ≡ 1 → orders.now.keep ≡ 0 →
         orders.now.restart ≡ None → result ≢ Err BookFull }
@@ -203,6 +213,9 @@ pub fn run_node<R: AllocGlobal + Wait, E: Exchange, G: Gate>(
         HasToldAll (E.caller exchange.old) s node.part (E.caller exchange.new))) }
     ensures source { IfOk result (λ end. IfStarved end (λ s q.
         (q < (E.caller exchange.old).seen.job.plan.parts) × (q ≢ node.part))) }
+    ensures path { IsPath (E.caller exchange.old) node.part (E.caller exchange.new) }
+    ensures came { IfOk result (λ end. IfDone end (λ r.
+        IsPathTo (E.caller exchange.old) node.part r (E.caller exchange.new))) }
     ensures full { IfErr result (λ e. e ≡ BookFull → IsFull (E.caller exchange.new)) }
     ensures alone { (E.caller exchange.old).seen.job.plan.parts ≡ 1 →
         IfOk result (λ end. IfStarved end (λ s q. ⊥)) }

@@ -2,7 +2,9 @@
 
 mod losses;
 mod refusals;
+mod rows;
 mod runs;
+mod schedules;
 mod texts;
 
 ghost use Rattle.std.specs.Prelude.{◌≡◌, ◌<◌, ◌≤◌, IfSome};

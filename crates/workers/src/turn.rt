@@ -1,7 +1,11 @@
 //! One superstep of a node.
 
-ghost use Rattle.std.specs.Prelude.{◌≡◌, ◌≢◌, ◌⊎◌, ℕ, true, false, None, ◌<◌, ◌≤◌, ◌+◌, IfOk, OnOk, IfErr, Err};
-ghost use Rattle.ball_model.specs.Caller.{Extends, IsCaller, IsFull};
+ghost use Rattle.std.specs.Prelude.{◌≡◌, ◌≢◌, ◌⊎◌, ℕ, true, false, None, ◌<◌, ◌≤◌, ◌+◌, IfOk, OnErr, OnOk, IfErr, Err};
+ghost use Rattle.ball_model.specs.Caller.{CalledNothing, Extends, IsCaller, IsFull};
+ghost use Rattle.ball_model.specs.Held.{held_after};
+ghost use Rattle.ball_model.specs.History.{holding_in};
+ghost use Rattle.ball_model.specs.Join.{Holding};
+ghost use Rattle.ball_model.specs.Steps.{Close};
 ghost use Rattle.workers.specs.declared.node.NodeError.TheVariants.{BookFull};
 ghost use Rattle.workers.specs.Node.{HasPosted, HasToldAll, WasMissing};
 ghost use Rattle.ball_model.specs.Job.{Job};
@@ -10,6 +14,7 @@ ghost use Rattle.replica.specs.Level.{EndsRun, found_verdict, missing_in};
 ghost use Rattle.workers.specs.declared.turn.Turn.TheVariants as turn;
 ghost use Rattle.workers.specs.Turn.{DropsBefore, HasRecalled, IsFound, IsTurn, StandsIn};
 ghost use Rattle.replica.specs.Sent.{batch_name};
+ghost use Rattle.workers.specs.Tie.{HasCome, HasGone};
 
 use crate::exchange::Exchange;
 use crate::gate::Gate;
@@ -57,11 +62,17 @@ pub fn catch_up<R: AllocGlobal + Wait, E: Exchange>(
     ensures none { IfOk result (λ found. found ≡ false → replica.new ≡ replica.old) }
     ensures found { IfOk result (λ found. found ≡ true → HasRecalled (E.caller exchange.old) node.part
         at_least replica.old.superstep replica.new.superstep (E.caller exchange.new)) }
+    ensures came { OnOk result (HasCome (E.caller exchange.old) node.part (holding_in replica.old)
+        (holding_in replica.new) (E.caller exchange.new)) }
+    ensures gone { OnErr result (HasGone (E.caller exchange.old) node.part (holding_in replica.old)
+        (E.caller exchange.new)) }
     ensures full { IfErr result (λ e. e ≡ BookFull → IsFull (E.caller exchange.new)) }
 {
     let Some(snapshot) = exchange.recall(rt, node.part, at_least)? else {
         return Ok(false);
     };
+    // the limits of both are told with their supersteps
+    let _supersteps = (replica.superstep(), snapshot.superstep());
     let Ok(()) = replica.merge(rt.alloc(), &snapshot) else {
         return Err(NodeError::Memory);
     };
@@ -80,6 +91,10 @@ fn keep_snapshot<R: AllocGlobal + Wait, E: Exchange>(
     requires stands { StandsIn (E.caller exchange.old) node.part replica.old }
     ensures seen { Extends (E.caller exchange.old) (E.caller exchange.new) }
     ensures same { replica.new ≡ replica.old }
+    ensures came { OnOk result (HasCome (E.caller exchange.old) node.part (holding_in replica.old)
+        (holding_in replica.new) (E.caller exchange.new)) }
+    ensures gone { OnErr result (HasGone (E.caller exchange.old) node.part (holding_in replica.old)
+        (E.caller exchange.new)) }
     ensures full { IfErr result (λ e. e ≡ BookFull → IsFull (E.caller exchange.new)) }
     ensures never { every ≡ 0 → result ≢ Err BookFull }
 {
@@ -109,6 +124,10 @@ fn tell<R: AllocGlobal + Wait, E: Exchange, G: Gate>(
     ensures seen { Extends (E.caller exchange.old) (E.caller exchange.new) }
     ensures posted { OnOk result (HasPosted (E.caller exchange.old)
         (batch_name replica.now.superstep node.part target) (E.caller exchange.new)) }
+    ensures came { OnOk result (HasCome (E.caller exchange.old) node.part (holding_in replica.now)
+        (holding_in replica.now) (E.caller exchange.new)) }
+    ensures gone { OnErr result (HasGone (E.caller exchange.old) node.part (holding_in replica.now)
+        (E.caller exchange.new)) }
     ensures full { IfErr result (λ e. e ≡ BookFull → IsFull (E.caller exchange.new)) }
 {
     let Ok(batch) = Arc::new(rt.alloc(), replica.out(rt.alloc(), target)?) else {
@@ -133,6 +152,10 @@ fn tell_all<R: AllocGlobal + Wait, E: Exchange, G: Gate>(
     ensures seen { Extends (E.caller exchange.old) (E.caller exchange.new) }
     ensures told { OnOk result (HasToldAll (E.caller exchange.old) replica.now.superstep node.part
         (E.caller exchange.new)) }
+    ensures came { OnOk result (HasCome (E.caller exchange.old) node.part (holding_in replica.now)
+        (holding_in replica.now) (E.caller exchange.new)) }
+    ensures gone { OnErr result (HasGone (E.caller exchange.old) node.part (holding_in replica.now)
+        (E.caller exchange.new)) }
     ensures full { IfErr result (λ e. e ≡ BookFull → IsFull (E.caller exchange.new)) }
     ensures alone { (E.caller exchange.old).seen.job.plan.parts ≡ 1 → result ≢ Err BookFull }
 {
@@ -153,6 +176,8 @@ fn drop_old<R: Wait, E: Exchange>(
 ) -> Result<(), NodeError>
     requires caller { IsCaller (E.caller exchange.old) }
     ensures seen { Extends (E.caller exchange.old) (E.caller exchange.new) }
+    ensures came { (p : ℕ) (h : Holding) →
+        HasCome (E.caller exchange.old) p h h (E.caller exchange.new) }
     ensures full { IfErr result (λ e. e ≡ BookFull → IsFull (E.caller exchange.new)) }
     ensures never { every ≡ 0 → result ≢ Err BookFull }
     ensures dropped { OnOk result (DropsBefore (E.caller exchange.old) superstep
@@ -177,6 +202,7 @@ fn has_grown<E: Exchange, G: Gate>(
 ) -> bool
     requires caller { IsCaller (E.caller exchange.old) }
     ensures seen { Extends (E.caller exchange.old) (E.caller exchange.new) }
+    ensures nothing { CalledNothing (E.caller exchange.old) (E.caller exchange.new) }
 {
     for _ in 0..patience {
         let may_come = gate.wait_for(node, source);
@@ -206,6 +232,10 @@ fn find<R: Wait, E: Exchange>(
     ensures missed { IfOk result (λ found. found ≡ false →
         WasMissing (E.caller exchange.old)
         (batch_name replica.old.superstep source node.part) (E.caller exchange.new)) }
+    ensures came { OnOk result (HasCome (E.caller exchange.old) node.part (holding_in replica.old)
+        (holding_in replica.new) (E.caller exchange.new)) }
+    ensures gone { OnErr result (HasGone (E.caller exchange.old) node.part (holding_in replica.old)
+        (E.caller exchange.new)) }
     ensures full { IfErr result (λ e. e ≡ BookFull → IsFull (E.caller exchange.new)) }
 {
     let name = BatchName {
@@ -236,6 +266,10 @@ fn gather<R: AllocGlobal + Wait, E: Exchange, G: Gate>(
     ensures stands { OnOk result (StandsIn (E.caller exchange.old) node.part replica.new) }
     ensures found { IfOk result (λ found. IsFound (E.caller exchange.old) node.part
         replica.old.superstep replica.new found (E.caller exchange.new)) }
+    ensures came { OnOk result (HasCome (E.caller exchange.old) node.part (holding_in replica.old)
+        (holding_in replica.new) (E.caller exchange.new)) }
+    ensures gone { OnErr result (HasGone (E.caller exchange.old) node.part (holding_in replica.old)
+        (E.caller exchange.new)) }
     ensures full { IfErr result (λ e. e ≡ BookFull → IsFull (E.caller exchange.new)) }
     ensures alone { (E.caller exchange.old).seen.job.plan.parts ≡ 1 → result ≢ Err BookFull }
 {
@@ -262,13 +296,17 @@ fn close<G: Gate>(gate: &G, node: NodeId, replica: &mut Replica) -> Turn
     requires held { missing_in replica.old ≡ None }
     ensures stands { (j : Job) (p t : ℕ) → StandsFor j p t replica.old →
         StandsFor j p replica.new.superstep replica.new }
+    ensures held { (j : Job) (p t : ℕ) → StandsFor j p t replica.old →
+        holding_in replica.new ≡ held_after j (holding_in replica.old) Close }
     ensures over { result ≡ turn.Over → (replica.new ≡ replica.old)
         × EndsRun (found_verdict replica.new) }
     ensures kind { (result ≡ turn.Next) ⊎ (result ≡ turn.Over) }
 {
+    // the limits of a replica are told with its superstep
+    let _superstep = replica.superstep();
     match replica.close() {
-        Ok(superstep) => {
-            gate.after_close(node, superstep, replica.changed_count());
+        Ok(reached) => {
+            gate.after_close(node, reached, replica.changed_count());
             Turn::Next
         }
         Err(_) => Turn::Over,
@@ -292,6 +330,10 @@ pub fn run_superstep<R: AllocGlobal + Wait, E: Exchange, G: Gate>(
         IsTurn (E.caller exchange.old) node.part replica.new turn (E.caller exchange.new)) }
     ensures over { IfOk result (λ t. t ≡ turn.Over →
         replica.new.superstep ≡ replica.old.superstep) }
+    ensures came { OnOk result (HasCome (E.caller exchange.old) node.part (holding_in replica.old)
+        (holding_in replica.new) (E.caller exchange.new)) }
+    ensures gone { OnErr result (HasGone (E.caller exchange.old) node.part (holding_in replica.old)
+        (E.caller exchange.new)) }
     ensures full { IfErr result (λ e. e ≡ BookFull → IsFull (E.caller exchange.new)) }
     ensures alone { (E.caller exchange.old).seen.job.plan.parts ≡ 1 → orders.now.keep ≡ 0 →
         result ≢ Err BookFull }

@@ -7,7 +7,7 @@ use std::thread;
 use std::thread::Threads;
 
 /// The report of the two edges.
-pub(super) const REPORT: &[u8] = b"superstep,0,33.803869
+pub const REPORT: &[u8] = b"superstep,0,33.803869
 superstep,1,34.851860
 superstep,2,35.588471
 superstep,3,35.588471
@@ -19,7 +19,7 @@ vertex,c,12.417153,0.751274,0.538737,83.065637,13
 ";
 
 /// A run of the two edges in so many partitions of so many replicas.
-pub(super) fn usual(alloc: Global, parts: u16, replicas: u8) -> RunOptions {
+pub fn usual(alloc: Global, parts: u16, replicas: u8) -> RunOptions {
     RunOptions {
         log2m: 4,
         seed: 0,
@@ -36,12 +36,13 @@ pub(super) fn usual(alloc: Global, parts: u16, replicas: u8) -> RunOptions {
     }
 }
 
-pub(super) fn node(part: u16, replica: u8) -> NodeId {
+/// A replica of a partition.
+pub fn node(part: u16, replica: u8) -> NodeId {
     NodeId { part, replica }
 }
 
 /// Runs the two edges, and gives the answer and what was written.
-fn written<R: AllocGlobal + RandomSource + Threads + Wait + Sync, G: Gate + Sync>(
+pub fn written<R: AllocGlobal + RandomSource + Threads + Wait + Sync, G: Gate + Sync>(
     rt: &R,
     options: &RunOptions,
     gate: &G,
@@ -55,7 +56,7 @@ fn written<R: AllocGlobal + RandomSource + Threads + Wait + Sync, G: Gate + Sync
 }
 
 /// The report is written.
-pub(super) fn reports<R: AllocGlobal + RandomSource + Threads + Wait + Sync>(
+pub fn reports<R: AllocGlobal + RandomSource + Threads + Wait + Sync>(
     rt: &R,
     options: &RunOptions,
 ) -> Result<bool, Fail> {
@@ -64,7 +65,7 @@ pub(super) fn reports<R: AllocGlobal + RandomSource + Threads + Wait + Sync>(
 }
 
 /// Nothing is written, and this is the fault.
-pub(super) fn fails<R: AllocGlobal + RandomSource + Threads + Wait + Sync>(
+pub fn fails<R: AllocGlobal + RandomSource + Threads + Wait + Sync>(
     rt: &R,
     options: &RunOptions,
     fault: RunError,

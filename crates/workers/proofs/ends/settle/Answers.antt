@@ -1,6 +1,9 @@
 use Rattle.std.proofs.Common.{◌≡◌, ◌∙◌, ◌≤◌, ◌+◌, ◌&&◌, [], All, Bool, ℕ, arith, ap, length, rules, subst, sym, true}
 use Rattle.std.proofs.lemmas.List.Elements.{All-tail}
+use Rattle.std.proofs.lemmas.List.{nil_from_length}
 use Rattle.std.specs.Vec.Iter.{into_iter_items}
+use Rattle.workers.specs.Ends.{fault_of, faults_in}
+use Rattle.workers.proofs.EndsLemmas.{all_noted_more, parts_end, parts_start, with_parts}
 use Rattle.workers.proofs.JobLemmas.{SettlingAll, settling_all_more, settling_all_start}
 use Rattle.workers.proofs.ends.settle.Goals.{then-branch, else-branch}
 use Rattle.workers.proofs.ends.settle.Goals as goal
@@ -14,8 +17,9 @@ loop-own-init c =
         subst (All (λ own. length own.items ≤ 4)) (sym same) c.requires.few,
         λ j o h. subst (λ rest. SettlingAll (λ own. own.items) j o 0 rest c.none-faults.result c.in_ok-done.done.items true) (sym same)
             (subst (λ done. SettlingAll (λ own. own.items) j o 0 c.args.ends.items c.none-faults.result done true) (sym c.in_ok-done.ensures.items)
-            (settling_all_start (λ own. own.items) j o c.args.ends.items c.none-faults.result h (c.none-faults.ensures j.plan.parts o))),
+            (settling_all_start (λ own. own.items) j o c.args.ends.items c.none-faults.result h (c.none-faults.ensures.noted j.plan.parts o))),
       ),
+      parts_start (λ own. own.items) _ c.args.ends.items c.none-faults.result same c.none-faults.ensures.exact,
     )
 
 pub loop-own-preserved : goal.loop-own-preserved
@@ -34,4 +38,10 @@ loop-own-preserved c =
             (subst (λ rest. SettlingAll (λ own. own.items) j o c.loop-own.p rest c.loop-own.faults c.loop-own.done.items c.loop-own.complete) next (i.1.1 j o h))
             (c.settle_part-next.ensures.noted j o) (c.settle_part-next.ensures.done j o) c.in_ok-complete.ensures.count (c.in_ok-complete.ensures.each j) both,
       ),
+      all_noted_more (λ own. own.items) c.loop-own.p c.in-Some.own (into_iter_items c.next.new.self) c.args.ends.items c.loop-own.faults c.settle_part-next.new.faults (subst (λ rest. with_parts (λ own. own.items) c.loop-own.p rest c.loop-own.faults ≡ faults_in (λ own. own.items) c.args.ends.items) next i.2) c.settle_part-next.ensures.exact,
     )
+
+pub returns-else-complete-clause-first : goal.returns-else-complete-clause-first
+returns-else-complete-clause-first c =
+    let none : into_iter_items c.loop-own.own-iterator ≡ [] = nil_from_length _ (omega (arith, c.in-None.ensures.steps.0, c.loop-own.own-iterator.rest.ok.0)) in
+    λ _. c.first.ensures.exact ∙ ap fault_of (parts_end (λ own. own.items) c.loop-own.p _ c.args.ends.items c.loop-own.faults none c.loop-own.invariant.2)

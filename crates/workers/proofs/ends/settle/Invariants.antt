@@ -3,6 +3,8 @@ use Rattle.std.specs.Vec.Iter.{into_iter_items}
 use Rattle.ball_model.specs.Job.{Job}
 use Rattle.workers.specs.declared.options.RunOptions.{RunOptions}
 use Rattle.workers.specs.Job.{AreEnds}
+use Rattle.workers.specs.Ends.{faults_in}
+use Rattle.workers.proofs.EndsLemmas.{with_parts}
 use Rattle.workers.proofs.JobLemmas.{SettlingAll}
 use Rattle.workers.proofs.ends.settle.Given as goal
 
@@ -11,3 +13,4 @@ invariant-loop-own l = (l.p + length (into_iter_items l.own-iterator) ≡ length
     × (All (λ own. length own.items ≤ 4) (into_iter_items l.own-iterator)
     × ((j : Job) (o : RunOptions) → AreEnds (λ own. own.items) j o l.fn.ends.items →
     SettlingAll (λ own. own.items) j o l.p (into_iter_items l.own-iterator) l.faults l.done.items l.complete))
+    × (with_parts (λ own. own.items) l.p (into_iter_items l.own-iterator) l.faults ≡ faults_in (λ own. own.items) l.fn.ends.items)

@@ -1,6 +1,9 @@
-use Rattle.std.proofs.Common.{◌≡◌, ◌∙◌, ◌+◌, ◌&&◌, Bool, ℕ, arith, ap, length, subst, sym}
+use Rattle.std.proofs.Common.{◌≡◌, ◌∙◌, ◌+◌, ◌&&◌, [], Bool, ℕ, arith, ap, length, rules, subst, sym}
+use Rattle.std.proofs.lemmas.List.{nil_from_length}
 use Rattle.std.specs.Vec.Iter.{into_iter_items}
 use Rattle.workers.specs.Options.{orders_for}
+use Rattle.workers.specs.Ends.{all_lost}
+use Rattle.workers.proofs.EndsLemmas.{lost_more, noted_more, part_kept, part_lost, with_rest}
 use Rattle.workers.proofs.JobLemmas.{Settling, settling_more}
 use Rattle.workers.proofs.ends.settle_part.Goals.{then-note, else-note}
 use Rattle.workers.proofs.ends.settle_part.Goals as goal
@@ -20,4 +23,16 @@ loop-end-preserved c =
       λ j o h. settling_more j o p k c.in-Some.end (into_iter_items c.next.new.self) c.args.faults.now c.loop-end.faults c.note.new.faults c.loop-end.done c.first_done-done.result c.note.result c.loop-end.all_lost c.if-note.all_lost
           (subst (λ rest. Settling j o p k rest c.args.faults.now c.loop-end.faults c.loop-end.done c.loop-end.all_lost) next (i.1 j o h))
           (c.note.ensures.noted j o p k) (c.note.ensures.lost j p (orders_for o p k)) (c.first_done-done.ensures j p) both,
+      noted_more p k c.in-Some.end (into_iter_items c.next.new.self) c.args.ends.items c.args.faults.now c.loop-end.faults c.note.new.faults (subst (λ rest. with_rest p k rest c.loop-end.faults ≡ with_rest p 0 c.args.ends.items c.args.faults.now) next i.2) c.note.ensures.exact,
+      lost_more c.in-Some.end (into_iter_items c.next.new.self) c.args.ends.items c.loop-end.all_lost c.if-note.all_lost (subst (λ rest. (c.loop-end.all_lost && all_lost rest) ≡ all_lost c.args.ends.items) next i.3) (both ∙ ap (λ (b : Bool). b && c.loop-end.all_lost) c.note.ensures.told),
     )
+
+pub returns-then-all_lost-clause-exact : goal.returns-then-all_lost-clause-exact
+returns-then-all_lost-clause-exact c =
+    let none : into_iter_items c.loop-end.end-iterator ≡ [] = nil_from_length _ (omega (arith, c.in-None.ensures.steps.0, c.loop-end.end-iterator.rest.ok.0)) in
+    part_lost c.args.p c.loop-end.replica _ c.args.ends.items c.args.faults.now c.loop-end.faults c.note_lost.new.faults c.loop-end.all_lost none c.loop-end.invariant.2 c.loop-end.invariant.3 c.if-all_lost.true c.note_lost.ensures.exact
+
+pub returns-else-all_lost-clause-exact : goal.returns-else-all_lost-clause-exact
+returns-else-all_lost-clause-exact c =
+    let none : into_iter_items c.loop-end.end-iterator ≡ [] = nil_from_length _ (omega (arith, c.in-None.ensures.steps.0, c.loop-end.end-iterator.rest.ok.0)) in
+    part_kept c.args.p c.loop-end.replica _ c.args.ends.items c.args.faults.now c.loop-end.faults c.loop-end.all_lost none c.loop-end.invariant.2 c.loop-end.invariant.3 c.if-all_lost.false

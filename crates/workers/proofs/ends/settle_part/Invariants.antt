@@ -1,8 +1,10 @@
-use Rattle.std.proofs.Common.{◌≡◌, ◌+◌, length}
+use Rattle.std.proofs.Common.{◌≡◌, ◌+◌, ◌&&◌, length}
 use Rattle.std.specs.Vec.Iter.{into_iter_items}
 use Rattle.ball_model.specs.Job.{Job}
 use Rattle.workers.specs.declared.options.RunOptions.{RunOptions}
 use Rattle.workers.specs.Job.{IsPartEnd}
+use Rattle.workers.specs.Ends.{all_lost}
+use Rattle.workers.proofs.EndsLemmas.{with_rest}
 use Rattle.workers.proofs.JobLemmas.{Settling}
 use Rattle.workers.proofs.ends.settle_part.Given as goal
 
@@ -10,3 +12,5 @@ abbrev pub invariant-loop-end : goal.invariant-loop-end
 invariant-loop-end l = (l.replica + length (into_iter_items l.end-iterator) ≡ length l.fn.ends.items)
     × ((j : Job) (o : RunOptions) → IsPartEnd j o l.p l.fn.ends.items →
     Settling j o l.p l.replica (into_iter_items l.end-iterator) l.fn.faults l.faults l.done l.all_lost)
+    × (with_rest l.p l.replica (into_iter_items l.end-iterator) l.faults ≡ with_rest l.p 0 l.fn.ends.items l.fn.faults)
+    × ((l.all_lost && all_lost (into_iter_items l.end-iterator)) ≡ all_lost l.fn.ends.items)

@@ -1,9 +1,10 @@
-use Rattle.std.proofs.Common.{◌≡◌, ◌∙◌, ℕ, sym, subst}
+use Rattle.std.proofs.Common.{◌≡◌, ◌∙◌, ℕ, refl, sym, subst}
 use Rattle.ball_model.specs.Caller.{Caller}
 use Rattle.workers.specs.declared.turn.Turn.{Turn}
 use Rattle.workers.specs.Node.{FallsDue}
 use Rattle.workers.specs.Turn.{HasStarved, IsTurn}
-use Rattle.workers.proofs.SeenLemmas.{starved_before, told_before}
+use Rattle.workers.proofs.PathLemmas.{come_nowhere, come_then, gone_then, on_err}
+use Rattle.workers.proofs.SeenLemmas.{extends_self, extends_trans, starved_before, told_before}
 use Rattle.workers.proofs.TurnLemmas.{done_of, stands_back}
 use Rattle.workers.proofs.node.go_on.Goals as goal
 
@@ -28,3 +29,43 @@ returns-in-Starved-clause-fate g c =
     let r = c.run_superstep.new.replica in
     let turn = subst (λ (t : Turn). IsTurn (caller c.loop.exchange) p r t w) c.in-Starved.is c.in_ok-run_superstep.ensures.turn in
     subst (λ (s : ℕ). HasStarved v s q p w) (sym c.superstep-superstep-in-Starved.ensures.value) (starved_before v _ w _ q p c.loop.invariant.0 turn)
+
+pub returns-then-falls_due-clause-came : goal.returns-then-falls_due-clause-came
+returns-then-falls_due-clause-came g c = c.loop.invariant.3
+
+pub returns-in_err-begin_anew-clause-gone : goal.returns-in_err-begin_anew-clause-gone
+returns-in_err-begin_anew-clause-gone g c = on_err c.from_residual.result (gone_then _ _ _ _ _ _ c.loop.invariant.0 c.loop.invariant.3 c.in_err-begin_anew.ensures.gone)
+
+pub returns-in_err-run_superstep-clause-gone : goal.returns-in_err-run_superstep-clause-gone
+returns-in_err-run_superstep-clause-gone g c = on_err c.from_residual-in_err-run_superstep.result (gone_then _ _ _ _ _ _ c.loop.invariant.0 c.loop.invariant.3 c.in_err-run_superstep.ensures.gone)
+
+pub returns-in-Over-clause-came : goal.returns-in-Over-clause-came
+returns-in-Over-clause-came g c = come_then _ _ _ _ _ _ _ c.loop.invariant.0 c.loop.invariant.3 c.in_ok-run_superstep.ensures.came
+
+pub returns-in-Starved-clause-came : goal.returns-in-Starved-clause-came
+returns-in-Starved-clause-came g c = come_then _ _ _ _ _ _ _ c.loop.invariant.0 c.loop.invariant.3 c.in_ok-run_superstep.ensures.came
+
+pub loop-init : goal.loop-init
+loop-init g c = (extends_self _ c.requires.caller, c.requires.stands, λ h. h, come_nowhere _ _ _ _ refl)
+
+pub loop-preserved-then-falls_due-2 : goal.loop-preserved-then-falls_due-2
+loop-preserved-then-falls_due-2 g c =
+    let v : Caller = g.E.Exchange.caller c.args.exchange.now in
+    let u : Caller = g.E.Exchange.caller c.loop.exchange in
+    let i = c.loop.invariant in (
+      extends_trans v u _ i.0 c.begin_anew.ensures.seen,
+      stands_back v u c.args.node.part c.begin_anew.new.replica i.0 c.in_ok-begin_anew.ensures.stands,
+      λ _. refl,
+      come_then v u _ _ _ _ _ i.0 i.3 c.in_ok-begin_anew.ensures.came,
+    )
+
+pub loop-preserved : goal.loop-preserved
+loop-preserved g c =
+    let v : Caller = g.E.Exchange.caller c.args.exchange.now in
+    let u : Caller = g.E.Exchange.caller c.loop.exchange in
+    let i = c.loop.invariant in (
+      extends_trans v u _ i.0 c.run_superstep.ensures.seen,
+      stands_back v u c.args.node.part c.run_superstep.new.replica i.0 c.in_ok-run_superstep.ensures.stands,
+      i.2,
+      come_then v u _ _ _ _ _ i.0 i.3 c.in_ok-run_superstep.ensures.came,
+    )

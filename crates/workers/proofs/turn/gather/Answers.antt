@@ -1,10 +1,11 @@
-use Rattle.std.proofs.Common.{◌≡◌, ◌∙◌, ℕ, ap, sym, subst}
+use Rattle.std.proofs.Common.{◌≡◌, ◌∙◌, ℕ, ap, refl, sym, subst}
 use Rattle.ball_model.specs.Caller.{Caller}
 use Rattle.ball_model.specs.State.{State}
 use Rattle.replica.specs.Sent.{batch_name}
 use Rattle.workers.specs.Node.{WasMissing}
-use Rattle.workers.proofs.SeenLemmas.{extends_trans, missing_before, missing_later}
-use Rattle.workers.proofs.TurnLemmas.{missing_source, no_other}
+use Rattle.workers.proofs.PathLemmas.{come_nowhere, come_past, come_then, gone_then, on_err}
+use Rattle.workers.proofs.SeenLemmas.{extends_self, extends_trans, missing_before, missing_later}
+use Rattle.workers.proofs.TurnLemmas.{missing_source, no_other, stands_back}
 use Rattle.workers.proofs.turn.gather.Goals as goal
 
 pub returns-in_err-find-clause-alone : goal.returns-in_err-find-clause-alone
@@ -33,4 +34,69 @@ returns-then-not-has_grown-clause-found g c =
     missing_later v _ w _ (missing_before v looked _ _ before (c.in_ok-find.ensures.missed c.if-branch.false)) after in (
       record { missing = subst (λ (s : ℕ). WasMissing v (batch_name s q p) w) i.2 missed; below = source.0; other = source.1 },
       ap (λ (r : State). r.superstep) (c.in_ok-catch_up.ensures.none c.if-branch-2.false) ∙ (c.find.ensures.superstep ∙ i.2),
+    )
+
+pub returns-in_default-clause-came : goal.returns-in_default-clause-came
+returns-in_default-clause-came g c = c.loop.invariant.3
+
+pub returns-in_err-find-clause-gone : goal.returns-in_err-find-clause-gone
+returns-in_err-find-clause-gone g c =
+    let i = c.loop.invariant in
+    on_err c.from_residual.result
+    (gone_then _ _ _ _ _ _ (extends_trans _ _ _ i.0 c.length-length.ensures.seen) (come_past _ _ _ _ _ _ i.0 i.3 c.length-length.ensures.nothing) c.in_err-find.ensures.gone)
+
+pub returns-in_err-catch_up-clause-gone : goal.returns-in_err-catch_up-clause-gone
+returns-in_err-catch_up-clause-gone g c =
+    let i = c.loop.invariant in
+    let looked = extends_trans _ _ _ i.0 c.length-length.ensures.seen in
+    let found = come_then _ _ _ _ _ _ _ looked (come_past _ _ _ _ _ _ i.0 i.3 c.length-length.ensures.nothing) c.in_ok-find.ensures.came in
+    on_err c.from_residual-in_err-catch_up.result (gone_then _ _ _ _ _ _ (extends_trans _ _ _ looked c.find.ensures.seen) found c.in_err-catch_up.ensures.gone)
+
+pub returns-then-branch-2-clause-came : goal.returns-then-branch-2-clause-came
+returns-then-branch-2-clause-came g c =
+    let i = c.loop.invariant in
+    let looked = extends_trans _ _ _ i.0 c.length-length.ensures.seen in
+    let found = come_then _ _ _ _ _ _ _ looked (come_past _ _ _ _ _ _ i.0 i.3 c.length-length.ensures.nothing) c.in_ok-find.ensures.came in
+    come_then _ _ _ _ _ _ _ (extends_trans _ _ _ looked c.find.ensures.seen) found c.in_ok-catch_up.ensures.came
+
+pub returns-then-not-has_grown-clause-came : goal.returns-then-not-has_grown-clause-came
+returns-then-not-has_grown-clause-came g c =
+    let i = c.loop.invariant in
+    let looked = extends_trans _ _ _ i.0 c.length-length.ensures.seen in
+    let found = come_then _ _ _ _ _ _ _ looked (come_past _ _ _ _ _ _ i.0 i.3 c.length-length.ensures.nothing) c.in_ok-find.ensures.came in
+    let taken = extends_trans _ _ _ looked c.find.ensures.seen in
+    come_past _ _ _ _ _ _ (extends_trans _ _ _ taken c.catch_up.ensures.seen) (come_then _ _ _ _ _ _ _ taken found c.in_ok-catch_up.ensures.came) c.has_grown.ensures.nothing
+
+pub loop-init : goal.loop-init
+loop-init g c = (extends_self _ c.requires.caller, c.requires.stands, refl, come_nowhere _ _ _ _ refl)
+
+pub loop-preserved-then-branch : goal.loop-preserved-then-branch
+loop-preserved-then-branch g c =
+    let caller = g.E.Exchange.caller in
+    let v : Caller = caller c.args.exchange.now in
+    let looked : Caller = caller c.length-length.new.self in
+    let i = c.loop.invariant in
+    let before = extends_trans v _ looked i.0 c.length-length.ensures.seen in (
+      extends_trans v looked _ before c.find.ensures.seen,
+      stands_back v looked c.args.node.part c.find.new.replica before c.in_ok-find.ensures.stands,
+      c.find.ensures.superstep ∙ i.2,
+      come_then _ _ _ _ _ _ _ before (come_past _ _ _ _ _ _ i.0 i.3 c.length-length.ensures.nothing) c.in_ok-find.ensures.came,
+    )
+
+pub loop-preserved : goal.loop-preserved
+loop-preserved g c =
+    let caller = g.E.Exchange.caller in
+    let v : Caller = caller c.args.exchange.now in
+    let looked : Caller = caller c.length-length.new.self in
+    let found : Caller = caller c.find.new.exchange in
+    let caught : Caller = caller c.catch_up.new.exchange in
+    let i = c.loop.invariant in
+    let before = extends_trans v _ looked i.0 c.length-length.ensures.seen in
+    let taken = extends_trans v looked found before c.find.ensures.seen in
+    let after = extends_trans v found caught taken c.catch_up.ensures.seen in
+    let come = come_then _ _ _ _ _ _ _ before (come_past _ _ _ _ _ _ i.0 i.3 c.length-length.ensures.nothing) c.in_ok-find.ensures.came in (
+      extends_trans v caught _ after c.has_grown.ensures.seen,
+      stands_back v found c.args.node.part c.catch_up.new.replica taken c.in_ok-catch_up.ensures.stands,
+      ap (λ (r : State). r.superstep) (c.in_ok-catch_up.ensures.none c.if-branch-2.false) ∙ (c.find.ensures.superstep ∙ i.2),
+      come_past _ _ _ _ _ _ after (come_then _ _ _ _ _ _ _ taken come c.in_ok-catch_up.ensures.came) c.has_grown.ensures.nothing,
     )

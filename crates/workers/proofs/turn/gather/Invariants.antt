@@ -1,5 +1,7 @@
 use Rattle.std.proofs.Common.{◌≡◌}
 use Rattle.ball_model.specs.Caller.{Extends}
+use Rattle.ball_model.specs.History.{holding_in}
+use Rattle.workers.specs.Tie.{HasCome}
 use Rattle.workers.specs.Turn.{StandsIn}
 use Rattle.workers.proofs.turn.gather.Given as goal
 
@@ -7,3 +9,4 @@ abbrev pub invariant-loop : goal.invariant-loop
 invariant-loop g l =
     Extends (g.E.Exchange.caller l.fn.exchange) (g.E.Exchange.caller l.exchange)
     × StandsIn (g.E.Exchange.caller l.fn.exchange) l.node.part l.replica × (l.replica.superstep ≡ l.fn.replica.superstep)
+    × HasCome (g.E.Exchange.caller l.fn.exchange) l.node.part (holding_in l.fn.replica) (holding_in l.replica) (g.E.Exchange.caller l.exchange)

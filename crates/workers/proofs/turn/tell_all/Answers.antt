@@ -1,9 +1,13 @@
-use Rattle.std.proofs.Common.{◌≡◌, ◌≢◌, ◌<◌, ◌≤◌, ◌+◌, ℕ, ap, arith, sym, subst}
+use Rattle.std.proofs.Common.{◌≡◌, ◌≢◌, ◌<◌, ◌≤◌, ◌+◌, ℕ, ap, arith, refl, sym, subst}
 use Rattle.ball_model.specs.PlanValue.{PlanValue}
 use Rattle.ball_model.specs.Caller.{Caller, Extends}
 use Rattle.replica.specs.Sent.{batch_name}
 use Rattle.workers.specs.Node.{HasPosted}
-use Rattle.workers.proofs.SeenLemmas.{extends_trans, told_more}
+use Rattle.ball_model.specs.History.{holding_in}
+use Rattle.ball_model.specs.Join.{Holding}
+use Rattle.workers.specs.Tie.{HasCome}
+use Rattle.workers.proofs.PathLemmas.{come_nowhere, come_then, gone_then, on_err}
+use Rattle.workers.proofs.SeenLemmas.{extends_self, extends_trans, told_more}
 use Rattle.workers.proofs.TurnLemmas.{below_job, below_later, below_plan, no_other}
 use Rattle.workers.proofs.turn.tell_all.Goals as goal
 use Rattle.workers.proofs.turn.tell_all.Goals.{then-target-node+in_ok-tell, else-target-node}
@@ -27,13 +31,14 @@ loop-target-preserved g c =
     let s : ℕ = c.args.replica.now.superstep in
     let p : ℕ = c.args.node.part in
     let n : ℕ = c.loop-target.target in
+    let h : Holding = holding_in c.args.replica.now in
     elim c.if-target-node.branch [
       | then-target-node+in_ok-tell w ↦
-          subst (λ (k : Caller). Extends v k × ((r : ℕ) → r < n + 1 → r ≢ p → HasPosted v (batch_name s p r) k)) (sym (ap caller w.exchange-is))
-          (extends_trans v _ _ c.loop-target.invariant.0 w.tell.ensures.seen, told_more v _ _ s p n c.loop-target.invariant.0 c.loop-target.invariant.1 w.tell.ensures.seen w.in_ok-tell.ensures.posted)
+          subst (λ (k : Caller). Extends v k × ((r : ℕ) → r < n + 1 → r ≢ p → HasPosted v (batch_name s p r) k) × HasCome v p h h k) (sym (ap caller w.exchange-is))
+          (extends_trans v _ _ c.loop-target.invariant.0 w.tell.ensures.seen, told_more v _ _ s p n c.loop-target.invariant.0 c.loop-target.invariant.1 w.tell.ensures.seen w.in_ok-tell.ensures.posted, come_then v _ _ p h h h c.loop-target.invariant.0 c.loop-target.invariant.2 w.in_ok-tell.ensures.came)
       | else-target-node w ↦
-          subst (λ (k : Caller). Extends v k × ((r : ℕ) → r < n + 1 → r ≢ p → HasPosted v (batch_name s p r) k)) (sym (ap caller w.exchange-is))
-          (c.loop-target.invariant.0, λ r lt other. c.loop-target.invariant.1 r (omega (arith, lt, other, w.if-target-node.false)) other)
+          subst (λ (k : Caller). Extends v k × ((r : ℕ) → r < n + 1 → r ≢ p → HasPosted v (batch_name s p r) k) × HasCome v p h h k) (sym (ap caller w.exchange-is))
+          (c.loop-target.invariant.0, λ r lt other. c.loop-target.invariant.1 r (omega (arith, lt, other, w.if-target-node.false)) other, c.loop-target.invariant.2)
     ]
 
 pub returns-clause-told : goal.returns-clause-told
@@ -41,3 +46,12 @@ returns-clause-told g c = λ r lt other.
     let parts = ap (λ (a : PlanValue). a.parts) c.plan.ensures in
     let below : r < c.args.replica.now.part.plan.parts = below_plan _ _ _ r c.args.replica.now c.requires.stands lt in
     c.loop-target.invariant.1 r (omega (arith, below, c.loop-target-test.false, c.loop-target.auto.target-end, c.parts-target-end.ensures.value, parts)) other
+
+pub loop-target-init : goal.loop-target-init
+loop-target-init g c = (extends_self _ c.requires.caller, λ r lt other. absurd (omega (arith, lt)), come_nowhere _ _ _ _ refl)
+
+pub returns-in_err-tell-clause-gone : goal.returns-in_err-tell-clause-gone
+returns-in_err-tell-clause-gone g c = on_err c.from_residual.result (gone_then _ _ _ _ _ _ c.loop-target.invariant.0 c.loop-target.invariant.2 c.in_err-tell.ensures.gone)
+
+pub returns-clause-came : goal.returns-clause-came
+returns-clause-came g c = c.loop-target.invariant.2

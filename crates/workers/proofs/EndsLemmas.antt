@@ -1,0 +1,140 @@
+-- What is noted of the ends of nodes, one after the other, is what there is to note of all.
+use Rattle.std.proofs.Common.{◌≡◌, ℕ, ◌+◌, Bool, true, false, ◌||◌, ◌&&◌, if◌then◌else◌, List, [], ◌∷◌, refl, sym, ap, ◌∙◌}
+use Rattle.std.specs.Prelude.{Option, None, Some, Result}
+use Rattle.std.specs.List.{list_all, list_any}
+use Rattle.ball_model.specs.declared.names.NodeId.{NodeId}
+use Rattle.workers.specs.declared.ends.Faults.{Faults}
+use Rattle.workers.specs.declared.ends.Waiting.{Waiting}
+use Rattle.workers.specs.declared.node.NodeEnd.{NodeEnd}
+use Rattle.workers.specs.declared.node.NodeError.{NodeError}
+use Rattle.workers.specs.Ends.{all_lost, faults_in, first_of, first_waiting, found_full, is_lost, lacked_memory, least_lost, least_waiting, no_faults, waited, with_end, with_part}
+
+-- ---- tests and options, one behind another
+or_three : (a b c : Bool) → (a || (b || c)) ≡ ((a || b) || c)
+or_three true b c = refl
+or_three false b c = refl
+
+or_none : (a : Bool) → (a || false) ≡ a
+or_none true = refl
+or_none false = refl
+
+and_three : (a b c : Bool) → (a && (b && c)) ≡ ((b && a) && c)
+and_three true true c = refl
+and_three true false c = refl
+and_three false true c = refl
+and_three false false c = refl
+
+first_three : {A : Type 0} (a b c : Option A) → first_of a (first_of b c) ≡ first_of (first_of a b) c
+first_three None b c = refl
+first_three (Some x) b c = refl
+
+first_none : {A : Type 0} (a : Option A) → first_of a None ≡ a
+first_none None = refl
+first_none (Some x) = refl
+
+-- ---- the nodes of one partition
+-- what is noted, and then of the nodes from number k on
+abbrev pub with_rest : ℕ → ℕ → List (Result NodeEnd NodeError) → Faults → Faults
+with_rest p k rs f = record {
+  lost = f.lost;
+  full = f.full || list_any found_full rs;
+  memory = f.memory || list_any lacked_memory rs;
+  starved = first_of f.starved (first_waiting p k rs);
+}
+
+pub rest_none : (p k : ℕ) (f : Faults) → with_rest p k [] f ≡ f
+unfolding first_waiting
+rest_none p k f = λ i. record { lost = f.lost; full = or_none f.full i; memory = or_none f.memory i; starved = first_none f.starved i }
+
+pub rest_more : (p k : ℕ) (r : Result NodeEnd NodeError) (rs : List (Result NodeEnd NodeError)) (f : Faults) →
+    with_rest p k (r ∷ rs) f ≡ with_rest p (k + 1) rs (with_end (record { part = p; replica = k }) r f)
+unfolding first_waiting
+rest_more p k r rs f = λ i. record {
+  lost = f.lost;
+  full = or_three f.full (found_full r) (list_any found_full rs) i;
+  memory = or_three f.memory (lacked_memory r) (list_any lacked_memory rs) i;
+  starved = first_three f.starved (waited (record { part = p; replica = k }) r) (first_waiting p (k + 1) rs) i;
+}
+
+-- one node more: what is noted, and whether all were lost
+pub noted_more : (p k : ℕ) (r : Result NodeEnd NodeError) (rs all : List (Result NodeEnd NodeError)) (old now next : Faults) → with_rest p k (r ∷ rs) now ≡ with_rest p 0 all old →
+    next ≡ with_end (record { part = p; replica = k }) r now → with_rest p (k + 1) rs next ≡ with_rest p 0 all old
+noted_more p k r rs all old now next h is = ap (with_rest p (k + 1) rs) is ∙ (sym (rest_more p k r rs now) ∙ h)
+
+pub lost_more : (r : Result NodeEnd NodeError) (rs all : List (Result NodeEnd NodeError)) (was both : Bool) → (was && all_lost (r ∷ rs)) ≡ all_lost all → both ≡ (is_lost r && was) → (both && all_lost rs) ≡ all_lost all
+lost_more r rs all was both h is = ap (λ (b : Bool). b && all_lost rs) is ∙ (sym (and_three was (is_lost r) (all_lost rs)) ∙ h)
+
+-- ---- partitions
+-- what is noted, and then of the partitions from number p on
+abbrev pub with_parts : {V : Type 0} → (V → List (Result NodeEnd NodeError)) → ℕ → List V → Faults → Faults
+with_parts items p rest f = record {
+  lost = first_of f.lost (least_lost items p rest);
+  full = f.full || list_any (λ own. list_any found_full (items own)) rest;
+  memory = f.memory || list_any (λ own. list_any lacked_memory (items own)) rest;
+  starved = first_of f.starved (least_waiting items p rest);
+}
+
+pub parts_none : {V : Type 0} (items : V → List (Result NodeEnd NodeError)) (p : ℕ) (f : Faults) → with_parts items p [] f ≡ f
+unfolding least_lost least_waiting
+parts_none items p f = λ i. record { lost = first_none f.lost i; full = or_none f.full i; memory = or_none f.memory i; starved = first_none f.starved i }
+
+lost_first : {V : Type 0} (items : V → List (Result NodeEnd NodeError)) (p : ℕ) (rest : List V) (b : Bool) →
+    (if b then Some p else least_lost items (p + 1) rest) ≡ first_of (if b then Some p else None) (least_lost items (p + 1) rest)
+lost_first items p rest true = refl
+lost_first items p rest false = refl
+
+pub parts_more : {V : Type 0} (items : V → List (Result NodeEnd NodeError)) (p : ℕ) (own : V) (rest : List V) (f : Faults) →
+    with_parts items p (own ∷ rest) f ≡ with_parts items (p + 1) rest (with_part p (items own) f)
+unfolding least_lost least_waiting
+parts_more items p own rest f =
+    let lost : first_of f.lost (if all_lost (items own) then Some p else least_lost items (p + 1) rest) ≡ first_of (first_of f.lost (if all_lost (items own) then Some p else None)) (least_lost items (p + 1) rest) =
+    ap (first_of f.lost) (lost_first items p rest (all_lost (items own))) ∙ first_three f.lost (if all_lost (items own) then Some p else None) (least_lost items (p + 1) rest) in
+    λ i. record {
+      lost = lost i;
+      full = or_three f.full (list_any found_full (items own)) (list_any (λ o. list_any found_full (items o)) rest) i;
+      memory = or_three f.memory (list_any lacked_memory (items own)) (list_any (λ o. list_any lacked_memory (items o)) rest) i;
+      starved = first_three f.starved (first_waiting p 0 (items own)) (least_waiting items (p + 1) rest) i;
+    }
+
+pub all_noted_more : {V : Type 0} (items : V → List (Result NodeEnd NodeError)) (p : ℕ) (own : V) (rest all : List V) (now next : Faults) → with_parts items p (own ∷ rest) now ≡ faults_in items all →
+    next ≡ with_part p (items own) now → with_parts items (p + 1) rest next ≡ faults_in items all
+all_noted_more items p own rest all now next h is = ap (with_parts items (p + 1) rest) is ∙ (sym (parts_more items p own rest now) ∙ h)
+
+pub parts_start : {V : Type 0} (items : V → List (Result NodeEnd NodeError)) (rest all : List V) (f : Faults) → rest ≡ all → f ≡ no_faults → with_parts items 0 rest f ≡ faults_in items all
+parts_start items rest all f same is = ap (λ r. with_parts items 0 r f) same ∙ ap (with_parts items 0 all) is
+
+pub parts_end : {V : Type 0} (items : V → List (Result NodeEnd NodeError)) (p : ℕ) (rest all : List V) (f : Faults) → rest ≡ [] → with_parts items p rest f ≡ faults_in items all → f ≡ faults_in items all
+parts_end items p rest all f none h = sym (parts_none items p f) ∙ (ap (λ r. with_parts items p r f) (sym none) ∙ h)
+
+-- ---- a partition whose nodes are all noted
+noted_all : (p k : ℕ) (rest own : List (Result NodeEnd NodeError)) (old now : Faults) → rest ≡ [] → with_rest p k rest now ≡ with_rest p 0 own old → now ≡ with_rest p 0 own old
+noted_all p k rest own old now none h = sym (rest_none p k now) ∙ (ap (λ (r : List (Result NodeEnd NodeError)). with_rest p k r now) (sym none) ∙ h)
+
+lost_all : (rest own : List (Result NodeEnd NodeError)) (lost b : Bool) → rest ≡ [] → (lost && all_lost rest) ≡ all_lost own → lost ≡ b → all_lost own ≡ (b && true)
+lost_all rest own lost b none h is = sym h ∙ (ap (λ (r : List (Result NodeEnd NodeError)). lost && all_lost r) none ∙ ap (λ (x : Bool). x && true) is)
+
+-- what is noted, and then of a partition, where it is told whether all its nodes were lost
+abbrev with_lost : Bool → ℕ → List (Result NodeEnd NodeError) → Faults → Faults
+with_lost b p own f = record {
+  lost = first_of f.lost (if b then Some p else None);
+  full = f.full || list_any found_full own;
+  memory = f.memory || list_any lacked_memory own;
+  starved = first_of f.starved (first_waiting p 0 own);
+}
+
+pub part_lost : (p k : ℕ) (rest own : List (Result NodeEnd NodeError)) (old now next : Faults) (lost : Bool) → rest ≡ [] → with_rest p k rest now ≡ with_rest p 0 own old → (lost && all_lost rest) ≡ all_lost own → lost ≡ true →
+    next ≡ record now { lost = first_of now.lost (Some p) } → next ≡ with_part p own old
+part_lost p k rest own old now next lost none h all is noted =
+    noted
+    ∙ (ap (λ (f : Faults). record f { lost = first_of f.lost (Some p) }) (noted_all p k rest own old now none h)
+    ∙ ap (λ (b : Bool). with_lost b p own old) (sym (lost_all rest own lost true none all is)))
+
+pub part_kept : (p k : ℕ) (rest own : List (Result NodeEnd NodeError)) (old now : Faults) (lost : Bool) → rest ≡ [] → with_rest p k rest now ≡ with_rest p 0 own old → (lost && all_lost rest) ≡ all_lost own → lost ≡ false → now ≡ with_part p own old
+part_kept p k rest own old now lost none h all is =
+    let kept : with_rest p 0 own old ≡ with_lost false p own old = λ i. record {
+      lost = sym (first_none old.lost) i;
+      full = old.full || list_any found_full own;
+      memory = old.memory || list_any lacked_memory own;
+      starved = first_of old.starved (first_waiting p 0 own);
+    } in
+    noted_all p k rest own old now none h ∙ (kept ∙ ap (λ (b : Bool). with_lost b p own old) (sym (lost_all rest own lost false none all is)))

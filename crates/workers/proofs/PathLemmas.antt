@@ -1,0 +1,232 @@
+-- The path of a node: what it holds, from call to call.
+use Rattle.std.proofs.Common.{◌≡◌, ◌≢◌, ℕ, ◌<◌, false, List, [], ◌∷◌, ◌++◌, refl, sym, ap, ◌∙◌, subst, inl, inr, arith, append_assoc, append-nil}
+use Rattle.std.proofs.lemmas.Bool.{cases_eq}
+use Rattle.std.specs.Prelude.{⊤, Option, None, Some, IfNone, Result, Ok, Err, OnOk, OnErr}
+use Rattle.ball_model.specs.declared.names.BatchName.{BatchName}
+use Rattle.ball_model.specs.declared.names.Taken.{Taken}
+use Rattle.ball_model.specs.declared.names.TakeError.{TakeError}
+use Rattle.ball_model.specs.declared.names.CloseError.{CloseError}
+use Rattle.ball_model.specs.declared.names.MergeError.{MergeError}
+use Rattle.ball_model.specs.PlanValue.{PlanValue}
+use Rattle.ball_model.specs.Job.{Job}
+use Rattle.ball_model.specs.Batches.{BatchValue, true_batch}
+use Rattle.ball_model.specs.Content.{Content}
+use Rattle.ball_model.specs.Join.{Holding, content_in, holding_of, join_of}
+use Rattle.ball_model.specs.State.{State, StandsFor, content_of, further}
+use Rattle.ball_model.specs.Steps.{Call, Answer, Take, Close, Took, Closed, start_content, content_after, answers_of, content_after_all}
+use Rattle.ball_model.specs.Held.{start_holding, held_after}
+use Rattle.ball_model.specs.History.{Event, Post, Fetch, Keep, Recall, Drop, History, calls_by, holding_in}
+use Rattle.ball_model.specs.Caller.{Caller, Extends, Called, CalledNothing}
+use Rattle.ball_model.proofs.JoinLemmas.{content_back}
+use Rattle.replica.specs.Merged.{Absorbs, HoldsOfBoth, ShowsAs}
+use Rattle.replica.specs.Runs.{HasContent, Takes, Closes, Did, Made}
+use Rattle.replica.specs.Seen.{IsState}
+use Rattle.replica.specs.Sent.{batch_name}
+use Rattle.replica.proofs.HoldingLemmas.{joined_holding}
+use Rattle.replica.proofs.KeptLemmas.{true_named}
+use Rattle.replica.proofs.LevelLemmas.{plan_is, number_is}
+use Rattle.replica.proofs.RunLemmas.{has_content, made}
+use Rattle.replica.proofs.SameLemmas.{content_is_one}
+use Rattle.workers.specs.Tie.{Step, Calls, Closes as ClosesUp, StartsAnew, after_call, after_step, after_steps, IsOwnName, IsOwnCall, IsOwnStep, AreOwnSteps, calls_in, HasCome, HasGone, IsPath, IsPathTo, Reaches, AreOfNode, IsRun, PathsAreOfNodes, ReplicasAreOfRuns}
+use Rattle.workers.proofs.TieLemmas.{histories_are_runs}
+use Rattle.workers.proofs.TurnLemmas.{name_of_true}
+
+-- ---- steps, one list behind another
+after_steps-append : (j : Job) (p : ℕ) (h : Holding) (xs ys : List Step) → after_steps j p h (xs ++ ys) ≡ after_steps j p (after_steps j p h xs) ys
+unfolding after_steps
+after_steps-append j p h [] ys = refl
+after_steps-append j p h (x ∷ xs) ys = after_steps-append j p (after_step j p h x) xs ys
+
+own-append : (j : Job) (p : ℕ) (h : Holding) (xs ys : List Step) → AreOwnSteps j p h xs → AreOwnSteps j p (after_steps j p h xs) ys → AreOwnSteps j p h (xs ++ ys)
+unfolding after_steps AreOwnSteps
+own-append j p h [] ys a b = b
+own-append j p h (x ∷ xs) ys a b = (a.0, own-append j p (after_step j p h x) xs ys a.1 b)
+
+calls-append : (xs ys : List Step) → calls_in (xs ++ ys) ≡ calls_in xs ++ calls_in ys
+unfolding calls_in
+calls-append [] ys = refl
+calls-append (Calls e ∷ xs) ys = ap (λ (l : List Event). e ∷ l) (calls-append xs ys)
+calls-append (ClosesUp ∷ xs) ys = calls-append xs ys
+calls-append (StartsAnew ∷ xs) ys = calls-append xs ys
+
+-- ---- one step
+pub come_nowhere : (v w : Caller) (p : ℕ) (h : Holding) → CalledNothing v w → HasCome v p h h w
+unfolding after_steps AreOwnSteps calls_in
+come_nowhere v w p h none = record { steps = []; own = tt; calls = none ∙ sym (append-nil (calls_by v.number v.seen)); held = refl }
+
+pub come_by_call : (v w : Caller) (p : ℕ) (e : Event) (h d : Holding) → Called v e w → IsOwnCall v.seen.job h e → after_call v.seen.job h e ≡ d → HasCome v p h d w
+unfolding after_steps AreOwnSteps calls_in
+come_by_call v w p e h d called own is = record { steps = Calls e ∷ []; own = (own, tt); calls = called.own; held = is }
+
+pub come_by_close : (v : Caller) (p : ℕ) (h d : Holding) → held_after v.seen.job h Close ≡ d → HasCome v p h d v
+unfolding after_steps AreOwnSteps calls_in
+come_by_close v p h d is = record { steps = ClosesUp ∷ []; own = (tt, tt); calls = sym (append-nil (calls_by v.number v.seen)); held = is }
+
+pub come_anew : (v : Caller) (p : ℕ) (h d : Holding) → start_holding v.seen.job.plan p ≡ d → HasCome v p h d v
+unfolding after_steps AreOwnSteps calls_in
+come_anew v p h d is = record { steps = StartsAnew ∷ []; own = (tt, tt); calls = sym (append-nil (calls_by v.number v.seen)); held = is }
+
+-- ---- what is said where a call is refused
+pub on_err : {T E P : Type 0} (r : Result T E) → P → OnErr r P
+on_err (Ok x) h = tt
+on_err (Err e) h = h
+
+pub if_none : {A P : Type 0} (o : Option A) → o ≡ None → IfNone o P → P
+if_none None is h = h
+if_none (Some x) is h = absurd (cc)
+
+-- ---- one path behind another
+come_on : (j : Job) (n : ℕ) (u v w : Caller) (p : ℕ) (a b c : Holding) (steps : List Step) → u.seen.job ≡ j → u.number ≡ n → HasCome u p a b v →
+    AreOwnSteps j p b steps → calls_by n w.seen ≡ calls_by n v.seen ++ calls_in steps → after_steps j p b steps ≡ c → HasCome u p a c w
+come_on j n u v w p a b c steps job number h own calls held =
+    let here : after_steps u.seen.job p a h.steps ≡ b = h.held in
+    let own_here : AreOwnSteps u.seen.job p (after_steps u.seen.job p a h.steps) steps = subst (λ (d : Holding). AreOwnSteps u.seen.job p d steps) (sym here) (subst (λ (k : Job). AreOwnSteps k p b steps) (sym job) own) in
+    let made : calls_by u.number w.seen ≡ calls_by u.number v.seen ++ calls_in steps = subst (λ (k : ℕ). calls_by k w.seen ≡ calls_by k v.seen ++ calls_in steps) (sym number) calls in
+    let end : after_steps u.seen.job p b steps ≡ c = subst (λ (k : Job). after_steps k p b steps ≡ c) (sym job) held in
+    record {
+      steps = h.steps ++ steps;
+      own = own-append u.seen.job p a h.steps steps h.own own_here;
+      calls = made
+          ∙ (ap (λ (l : List Event). l ++ calls_in steps) h.calls
+          ∙ (append_assoc (calls_by u.number u.seen) (calls_in h.steps) (calls_in steps) ∙ ap (λ (l : List Event). calls_by u.number u.seen ++ l) (sym (calls-append h.steps steps))));
+      held = after_steps-append u.seen.job p a h.steps steps ∙ (ap (λ (d : Holding). after_steps u.seen.job p d steps) here ∙ end);
+    }
+
+pub nothing_then : (u v w : Caller) → Extends u v → CalledNothing u v → CalledNothing v w → CalledNothing u w
+nothing_then u v w e a b = subst (λ (n : ℕ). calls_by n w.seen ≡ calls_by n v.seen) e.number b ∙ a
+
+pub come_then : (u v w : Caller) (p : ℕ) (a b c : Holding) → Extends u v → HasCome u p a b v → HasCome v p b c w → HasCome u p a c w
+come_then u v w p a b c e h k = come_on v.seen.job v.number u v w p a b c k.steps (sym e.begins.job) (sym e.number) h k.own k.calls k.held
+
+-- where the caller made no call since
+pub come_past : (u v w : Caller) (p : ℕ) (a b : Holding) → Extends u v → HasCome u p a b v → CalledNothing v w → HasCome u p a b w
+come_past u v w p a b e h none = come_then u v w p a b b e h (come_nowhere v w p b none)
+
+pub gone_then : (u v w : Caller) (p : ℕ) (a b : Holding) → Extends u v → HasCome u p a b v → HasGone v p b w → HasGone u p a w
+gone_then u v w p a b e h k = record { new = k.new; come = come_then u v w p a b k.new e h k.come }
+
+pub gone : (v w : Caller) (p : ℕ) (a b : Holding) → HasCome v p a b w → HasGone v p a w
+gone v w p a b h = record { new = b; come = h }
+
+pub gone_nowhere : (v w : Caller) (p : ℕ) (h : Holding) → CalledNothing v w → HasGone v p h w
+gone_nowhere v w p h none = gone v w p h h (come_nowhere v w p h none)
+
+-- ---- what a replica holds
+held_as : (j : Job) (p : ℕ) (c : Content) (v : State) → HasContent j p c v → holding_in v ≡ holding_of j.plan p c
+held_as j p c v k =
+    ap (λ (plan : PlanValue). holding_of plan v.part.number (content_of v)) (plan_is j p c.superstep v k.stands)
+    ∙ ap (λ (n : ℕ). holding_of j.plan n (content_of v)) (number_is j p c.superstep v k.stands)
+    ∙ ap (holding_of j.plan p) (has_content j p c v k)
+
+-- at the start
+pub start_held : (j : Job) (p : ℕ) (v : State) → StandsFor j p 0 v → ((s q : ℕ) → (content_of v).holds s q ≡ false) → holding_in v ≡ start_holding j.plan p
+start_held j p v stands names =
+    let k : HasContent j p start_content v = record { stands = stands; names = names } in
+    held_as j p start_content v k
+
+-- after a call
+held_next : (j : Job) (p : ℕ) (call : Call) (answer : Answer) (v w : State) → StandsFor j p v.superstep v → IsState v → Did j p call answer v w → holding_in w ≡ held_after j (holding_in v) call
+unfolding Made answers_of content_after_all
+held_next j p call answer v w stands state did =
+    let c : Content = content_of v in
+    let h : Holding = holding_in v in
+    let plan : v.part.plan ≡ j.plan = plan_is j p v.superstep v stands in
+    let number : v.part.number ≡ p = number_is j p v.superstep v stands in
+    let back : content_in h ≡ c = content_back v.part.plan v.part.number c (content_is_one v state) in
+    let has : HasContent j p c v = record { stands = stands; names = λ s q. refl } in
+    let run = made j p (call ∷ []) (answer ∷ []) c v w has (w, did, refl) in
+    let now : holding_in w ≡ holding_of j.plan p (content_after j p c call) = held_as j p (content_after j p c call) w run.1 in
+    now
+    ∙ ap (λ (x : PlanValue). holding_of x p (content_after j p c call)) (sym plan)
+    ∙ ap (λ (n : ℕ). holding_of v.part.plan n (content_after j n c call)) (sym number)
+    ∙ ap (λ (d : Content). holding_of v.part.plan v.part.number (content_after j v.part.number d call)) (sym back)
+
+pub held_taken : (j : Job) (p : ℕ) (name : BatchName) (r : Result Taken TakeError) (v w : State) → StandsFor j p v.superstep v → IsState v → Takes j p name r v w → holding_in w ≡ held_after j (holding_in v) (Take name)
+held_taken j p name r v w stands state step = held_next j p (Take name) (Took r) v w stands state step
+
+pub held_closed : (j : Job) (p t : ℕ) (r : Result ℕ CloseError) (v w : State) → StandsFor j p t v → IsState v → Closes j p r v w → holding_in w ≡ held_after j (holding_in v) Close
+held_closed j p t r v w stands state step = held_next j p Close (Closed r) v w (subst (λ (n : ℕ). StandsFor j p n v) (sym stands.superstep) stands) state step
+
+pub held_merged : (j : Job) (p t u : ℕ) (v o w : State) → StandsFor j p t v → StandsFor j p u o → IsState v → IsState o → Absorbs v o w → holding_in w ≡ join_of (holding_in v) (holding_in o)
+held_merged j p t u v o w a b state other absorbs =
+    joined_holding v o w state other (plan_is j p t v a ∙ sym (plan_is j p u o b)) (number_is j p t v a ∙ sym (number_is j p u o b)) absorbs
+
+-- it takes what it fetched
+pub own_take : (j : Job) (p : ℕ) (name : BatchName) (b : BatchValue) (r : Result Taken TakeError) (v w : State) → StandsFor j p v.superstep v → IsState v → b ≡ true_batch j name → (b ≡ true_batch j b.name → Takes j p b.name r v w) →
+    held_after j (holding_in v) (Take name) ≡ holding_in w
+own_take j p name b r v w stands state is step =
+    let held : holding_in w ≡ held_after j (holding_in v) (Take b.name) = held_taken j p b.name r v w stands state (step (true_named j name b is)) in
+    sym (subst (λ (n : BatchName). holding_in w ≡ held_after j (holding_in v) (Take n)) (name_of_true j name b is) held)
+
+-- where it is told of the superstep, the name is one that the node tells
+pub own_post : (j : Job) (p target : ℕ) (b a : BatchValue) (v : State) → StandsFor j p v.superstep v → target < j.plan.parts → target ≢ p → a ≡ b → b ≡ true_batch j (batch_name v.superstep p target) →
+    IsOwnName j (holding_in v) a.name
+own_post j p target b a v stands below other same is =
+    let name : a.name ≡ batch_name v.superstep p target = name_of_true j (batch_name v.superstep p target) a (same ∙ is) in
+    let number : v.part.number ≡ p = number_is j p v.superstep v stands in
+    subst (λ (n : BatchName). IsOwnName j (holding_in v) n) (sym name)
+    (record { superstep = refl; source = sym number; target = below; other = λ e. other (e ∙ number) })
+
+-- ---- the calls of a caller that ran a node
+-- the first ones of a node's calls are made by the first ones of its steps
+record FirstSteps (j : Job) (p : ℕ) (h : Holding) (made : List Event) : Type 0 where
+  steps : List Step
+  own : AreOwnSteps j p h steps
+  calls : calls_in steps ≡ made
+
+no_steps : (j : Job) (p : ℕ) (h : Holding) → FirstSteps j p h []
+unfolding AreOwnSteps calls_in
+no_steps j p h = record { steps = []; own = tt; calls = refl }
+
+first_more : (j : Job) (p : ℕ) (h : Holding) (step : Step) (made : List Event) → IsOwnStep j h step → FirstSteps j p (after_step j p h step) made → FirstSteps j p h (calls_in (step ∷ []) ++ made)
+unfolding AreOwnSteps calls_in
+first_more j p h (Calls e) made own f = record { steps = Calls e ∷ f.steps; own = (own, f.own); calls = ap (λ (l : List Event). e ∷ l) f.calls }
+first_more j p h ClosesUp made own f = record { steps = ClosesUp ∷ f.steps; own = (own, f.own); calls = f.calls }
+first_more j p h StartsAnew made own f = record { steps = StartsAnew ∷ f.steps; own = (own, f.own); calls = f.calls }
+
+first_steps : (j : Job) (p : ℕ) (h : Holding) (steps : List Step) (made rest : List Event) → AreOwnSteps j p h steps → made ++ rest ≡ calls_in steps → FirstSteps j p h made
+unfolding AreOwnSteps calls_in
+first_steps j p h steps [] rest own is = no_steps j p h
+first_steps j p h [] (e ∷ made) rest own is = absurd (cc)
+first_steps j p h (Calls c ∷ steps) (e ∷ made) rest own is =
+    let both : e ∷ (made ++ rest) ≡ c ∷ calls_in steps = is in
+    let same : e ≡ c = cc both in
+    let more : made ++ rest ≡ calls_in steps = cc both in
+    subst (λ (x : Event). FirstSteps j p h (x ∷ made)) (sym same) (first_more j p h (Calls c) made own.0 (first_steps j p (after_step j p h (Calls c)) steps made rest own.1 more))
+first_steps j p h (ClosesUp ∷ steps) (e ∷ made) rest own is = first_more j p h ClosesUp (e ∷ made) own.0 (first_steps j p (after_step j p h ClosesUp) steps (e ∷ made) rest own.1 is)
+first_steps j p h (StartsAnew ∷ steps) (e ∷ made) rest own is = first_more j p h StartsAnew (e ∷ made) own.0 (first_steps j p (after_step j p h StartsAnew) steps (e ∷ made) rest own.1 is)
+
+of_node : (j : Job) (p : ℕ) (made : List Event) → p < j.plan.parts → FirstSteps j p (start_holding j.plan p) made → AreOfNode j made
+of_node j p made below f = record {
+  part = p;
+  steps = f.steps;
+  held = after_steps j p (start_holding j.plan p) f.steps;
+  path = record { below = below; own = f.own; calls = f.calls; held = refl };
+}
+
+pub paths_are_of_nodes : PathsAreOfNodes
+paths_are_of_nodes v w p made below none path begins =
+    let all : calls_by v.number w.seen ≡ calls_in path.come.steps = path.come.calls ∙ ap (λ (l : List Event). l ++ calls_in path.come.steps) none in
+    of_node v.seen.job p made below (first_steps v.seen.job p (start_holding v.seen.job.plan p) path.come.steps made begins.0 path.come.own (begins.1 ∙ all))
+
+-- the steps of a caller that came to a replica, in a history of its job with all its calls
+came_in : (h : History) (v w : Caller) (p : ℕ) (r : State) → p < h.job.plan.parts → v.seen.job ≡ h.job → calls_by v.number v.seen ≡ [] → (path : IsPathTo v p r w) → calls_by v.number h ≡ calls_by v.number w.seen →
+    Reaches h.job p (calls_by v.number h) path.steps (holding_in r)
+came_in h v w p r below job none path made = record {
+  below = below;
+  own = subst (λ (j : Job). AreOwnSteps j p (start_holding j.plan p) path.steps) job path.own;
+  calls = sym (made ∙ (path.calls ∙ ap (λ (l : List Event). l ++ calls_in path.steps) none));
+  held = subst (λ (j : Job). after_steps j p (start_holding j.plan p) path.steps ≡ holding_in r) job path.held;
+}
+
+all_nodes : (h : History) (n p : ℕ) (steps : List Step) (c : Holding) → Reaches h.job p (calls_by n h) steps c → ((m : ℕ) → m ≢ n → AreOfNode h.job (calls_by m h)) → (m : ℕ) → AreOfNode h.job (calls_by m h)
+all_nodes h n p steps c own others m = elim (cases_eq m n) [
+  | inl same ↦ subst (λ (k : ℕ). AreOfNode h.job (calls_by k h)) (sym same) (record { part = p; steps = steps; held = c; path = own })
+  | inr apart ↦ others m apart
+]
+
+pub replicas_are_of_runs : ReplicasAreOfRuns
+replicas_are_of_runs replicas h v w id r few below legal job none path made others =
+    let own : Reaches h.job id.part (calls_by v.number h) path.steps (holding_in r) = came_in h v w id.part r below job none path made in
+    let run : IsRun replicas h = histories_are_runs replicas h (omega (arith, few)) legal (all_nodes h v.number id.part path.steps (holding_in r) own others) in
+    record { run = run; held = run.held v.number id path.steps (holding_in r) few own }

@@ -1,0 +1,113 @@
+-- What the ends of all nodes say of the fault of a run: the least partition all of whose nodes were lost, and the least
+-- node that waited in vain.
+use Rattle.std.specs.Prelude.{ℕ, ◌+◌, Bool, true, false, ◌||◌, List, [], ◌∷◌, Option, None, Some, Result, Ok, Err, if◌then◌else◌}
+use Rattle.std.specs.List.{list_all, list_any}
+use Rattle.ball_model.specs.declared.names.NodeId.{NodeId}
+use Rattle.workers.specs.declared.ends.Faults.{Faults}
+use Rattle.workers.specs.declared.ends.JobError.{JobError}
+use Rattle.workers.specs.declared.ends.JobError.TheVariants as job
+use Rattle.workers.specs.declared.ends.Waiting.{Waiting}
+use Rattle.workers.specs.declared.node.NodeEnd.{NodeEnd}
+use Rattle.workers.specs.declared.node.NodeEnd.TheVariants as ends
+use Rattle.workers.specs.declared.node.NodeError.{NodeError}
+use Rattle.workers.specs.declared.node.NodeError.TheVariants as fault
+
+-- a node was lost
+abbrev pub is_lost : Result NodeEnd NodeError → Bool
+is_lost (Ok (ends.Done r)) = false
+is_lost (Ok (ends.Lost s)) = true
+is_lost (Ok (ends.Starved s q)) = false
+is_lost (Err e) = false
+
+-- it found the book full
+abbrev pub found_full : Result NodeEnd NodeError → Bool
+found_full (Ok end) = false
+found_full (Err fault.BookFull) = true
+found_full (Err fault.Memory) = false
+
+-- it was refused memory
+abbrev pub lacked_memory : Result NodeEnd NodeError → Bool
+lacked_memory (Ok end) = false
+lacked_memory (Err fault.BookFull) = false
+lacked_memory (Err fault.Memory) = true
+
+-- what it waited for in vain, if it did
+abbrev pub waited : NodeId → Result NodeEnd NodeError → Option Waiting
+waited node (Ok (ends.Done r)) = None
+waited node (Ok (ends.Lost s)) = None
+waited node (Ok (ends.Starved s q)) = Some (record { node = node; superstep = s; source = q })
+waited node (Err e) = None
+
+-- the first of two, where there is one, else the second
+abbrev pub first_of : {A : Type 0} → Option A → Option A → Option A
+first_of None other = other
+first_of (Some a) other = Some a
+
+-- all nodes of a partition were lost
+abbrev pub all_lost : List (Result NodeEnd NodeError) → Bool
+all_lost own = list_all is_lost own
+
+-- the least partition all of whose nodes were lost, where the first one has number p
+unfoldable pub least_lost : {V : Type 0} → (V → List (Result NodeEnd NodeError)) → ℕ → List V → Option ℕ
+least_lost items p [] = None
+least_lost items p (own ∷ more) =
+    if all_lost (items own) then Some p else least_lost items (p + 1) more
+
+-- the least node of partition p that waited in vain, where the first one has number k
+unfoldable pub first_waiting : ℕ → ℕ → List (Result NodeEnd NodeError) → Option Waiting
+first_waiting p k [] = None
+first_waiting p k (r ∷ more) =
+    first_of (waited (record { part = p; replica = k }) r) (first_waiting p (k + 1) more)
+
+-- the least node that waited in vain, where the first partition has number p
+unfoldable pub least_waiting : {V : Type 0} → (V → List (Result NodeEnd NodeError)) → ℕ → List V →
+    Option Waiting
+least_waiting items p [] = None
+least_waiting items p (own ∷ more) =
+    first_of (first_waiting p 0 (items own)) (least_waiting items (p + 1) more)
+
+-- nothing is noted
+abbrev pub no_faults : Faults
+no_faults = record { lost = None; full = false; memory = false; starved = None }
+
+-- what is noted, and then of one node more
+abbrev pub with_end : NodeId → Result NodeEnd NodeError → Faults → Faults
+with_end node r f = record {
+  lost = f.lost;
+  full = f.full || found_full r;
+  memory = f.memory || lacked_memory r;
+  starved = first_of f.starved (waited node r);
+}
+
+-- what is noted, and then of the nodes of partition p
+abbrev pub with_part : ℕ → List (Result NodeEnd NodeError) → Faults → Faults
+with_part p own f = record {
+  lost = first_of f.lost (if all_lost own then Some p else None);
+  full = f.full || list_any found_full own;
+  memory = f.memory || list_any lacked_memory own;
+  starved = first_of f.starved (first_waiting p 0 own);
+}
+
+-- what there is to note of all nodes
+abbrev pub faults_in : {V : Type 0} → (V → List (Result NodeEnd NodeError)) → List V → Faults
+faults_in items all = record {
+  lost = least_lost items 0 all;
+  full = list_any (λ own. list_any found_full (items own)) all;
+  memory = list_any (λ own. list_any lacked_memory (items own)) all;
+  starved = least_waiting items 0 all;
+}
+
+-- the first fault, in the order of the checks
+abbrev pub fault_by : Option ℕ → Bool → Bool → Option Waiting → JobError
+fault_by (Some p) full memory starved = job.PartitionLost p
+fault_by None true memory starved = job.BookFull
+fault_by None false true starved = job.Memory
+fault_by None false false None = job.Memory
+fault_by None false false (Some w) = job.Starved w.node w.superstep w.source
+
+abbrev pub fault_of : Faults → JobError
+fault_of f = fault_by f.lost f.full f.memory f.starved
+
+-- the first fault of all nodes, by their ends
+abbrev pub first_fault : {V : Type 0} → (V → List (Result NodeEnd NodeError)) → List V → JobError
+first_fault items all = fault_of (faults_in items all)
