@@ -21,7 +21,8 @@ use std::alloc::{AllocError, Global};
 impl Progress {
     /// Whether the two are of one plan and one partition.
     pub(crate) fn is_alike(&self, other: &Progress) -> bool
-        ensures { IsTrue result ↔ AreAlike (holding_in self.now.state) (holding_in other.now.state) }
+        ensures { IsTrue result ↔
+            AreAlike (holding_in self.now.state) (holding_in other.now.state) }
     {
         step::is_same(self.part.plan(), other.part.plan())
             && self.part.partition() == other.part.partition()

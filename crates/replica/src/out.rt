@@ -38,7 +38,8 @@ impl Progress {
         requires place { i < length self.now.state.part.preds }
         requires target { batch.old.name.target < self.now.state.part.plan.parts }
         requires so_far { batch.old ≡ sent_batch self.now.state batch.old.name.target i }
-        ensures { OnOk result (batch.new ≡ sent_batch self.now.state batch.old.name.target (i + 1)) }
+        ensures { OnOk result
+            (batch.new ≡ sent_batch self.now.state batch.old.name.target (i + 1)) }
     {
         if self.marks[i as usize] && has_edge_into(self.part.feeds(i), batch.name().target) {
             batch.push(self.part.vertex(i), self.rows.row(i as usize))?;
