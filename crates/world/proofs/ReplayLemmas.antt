@@ -41,6 +41,11 @@ told-appends contents failed a b s edges list script events world ready told pla
       appended = (told (job_over s.run.numbers starts.network) (start_world (plan_over s.run.numbers starts.network.graph) s.replicas) starts.started.shows).appended;
     }
 
+-- and no call of the writer failed
+pub told-counted : {W : Type 0} (contents : W → Option (List ℕ)) (failed : W → ℕ) (a b : W) (s : ReplaySettings) (edges : List ℕ) (list : Option (List ℕ)) (script : List ℕ) (events : List Event) (world : SeenWorld) →
+    IsReady s edges list script events world → ((j : Job) (w : World) → Shows j w world → Told contents failed a b (events_text j w events)) → failed b ≡ failed a
+told-counted contents failed a b s edges list script events world ready told = (told ready.some.job ready.some.defined ready.some.shows).counted
+
 -- a beginning of them was
 pub told-begins : {W : Type 0} (contents : W → Option (List ℕ)) (failed : W → ℕ) (a b : W) (s : ReplaySettings) (edges : List ℕ) (list : Option (List ℕ)) (script : List ℕ) (events : List Event) (world : SeenWorld) (f : TellError) →
     IsReady s edges list script events world → ((j : Job) (w : World) → Shows j w world → Stopped contents failed a b (events_text j w events) f) → ArePlain edges list →
@@ -61,6 +66,7 @@ told-fails contents failed a b s edges list script events world untold.Memory re
   refused = λ plain. ready.commands.replicas;
   no_read = λ is. absurd (cc);
   write = λ is. absurd (cc);
+  counted = λ other. (told ready.some.job ready.some.defined ready.some.shows).counted (λ is. absurd (cc));
   untouched = λ other more. absurd (other refl);
   begun = λ plain is. absurd (cc);
   memory = λ plain is. inr (told-begins contents failed a b s edges list script events world untold.Memory ready told plain);
@@ -70,6 +76,7 @@ told-fails contents failed a b s edges list script events world untold.Write rea
   refused = λ plain. let starts = ready.starts plain in (text_from s edges list events world starts, replay-is s edges list script events world ready starts);
   no_read = λ is. absurd (cc);
   write = λ is. (told ready.some.job ready.some.defined ready.some.shows).failed_one refl;
+  counted = λ other. absurd (other refl);
   untouched = λ other more. absurd (more refl);
   begun = λ plain is. told-begins contents failed a b s edges list script events world untold.Write ready told plain;
   memory = λ plain is. absurd (cc);

@@ -76,12 +76,12 @@ told-both contents failed a b c text more one two = record {
 }
 
 pub stopped-none : {W : Type 0} (contents : W → Option (List ℕ)) (failed : W → ℕ) (a : W) (text : List ℕ) (e : TellError) → e ≡ fault.Memory → Stopped contents failed a a text e
-stopped-none contents failed a text e is = record { begun = begins-none (contents a) text; failed_one = λ other. absurd (cc) }
+stopped-none contents failed a text e is = record { begun = begins-none (contents a) text; failed_one = λ other. absurd (cc); counted = λ other. refl }
 
 -- a text that was stopped, with more behind it
 pub stopped-more : {W : Type 0} (contents : W → Option (List ℕ)) (failed : W → ℕ) (a b : W) (text more : List ℕ) (e : TellError) →
     Stopped contents failed a b text e → Stopped contents failed a b (text ++ more) e
-stopped-more contents failed a b text more e one = record { begun = begins-more (contents a) (contents b) text more one.begun; failed_one = one.failed_one }
+stopped-more contents failed a b text more e one = record { begun = begins-more (contents a) (contents b) text more one.begun; failed_one = one.failed_one; counted = one.counted }
 
 -- a text, and one behind it that was stopped
 pub stopped-after : {W : Type 0} (contents : W → Option (List ℕ)) (failed : W → ℕ) (a b c : W) (text more : List ℕ) (e : TellError) →
@@ -89,6 +89,7 @@ pub stopped-after : {W : Type 0} (contents : W → Option (List ℕ)) (failed : 
 stopped-after contents failed a b c text more e one two = record {
   begun = begins-after (contents a) (contents b) (contents c) text more one.appended two.begun;
   failed_one = λ is. subst (λ n. n < failed c) one.counted (two.failed_one is);
+  counted = λ other. two.counted other ∙ one.counted;
 }
 
 -- a text, and what comes of the one behind it

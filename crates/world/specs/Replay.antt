@@ -192,13 +192,14 @@ pub record IsEarly (s : ReplaySettings) (edges : List ℕ) (list : Option (List 
 
 -- what a replay that failed says of the input, and what it leaves: nothing was written, but for want of memory and
 -- for a failed write, after which a beginning of the answers stands; the edge list is never unread; and a write failed
--- where that is said
+-- where that is said, and only there
 pub record Fails (s : ReplaySettings) (edges : List ℕ) (list : Option (List ℕ)) (script : List ℕ)
     (old new : Option (List ℕ)) (failed_old failed_new : ℕ) (e : ReplayError) : Type 0 where
   pub before : RefusesBefore s script e
   pub refused : ArePlain edges list → IsRefusal s edges list script e
   pub no_read : e ≢ fault.Edges edge_fault.Read
   pub write : e ≡ fault.Write → Rises failed_old failed_new
+  pub counted : e ≢ fault.Write → failed_new ≡ failed_old
   pub untouched : e ≢ fault.Memory → e ≢ fault.Write → Keeps old new
   pub begun : ArePlain edges list → e ≡ fault.Write →
       BeginsReplay s edges list script old new

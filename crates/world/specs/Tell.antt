@@ -1,5 +1,5 @@
 -- What is written of a text, to its end or not.
-use Rattle.std.specs.Prelude.{◌≡◌, ⊤, ℕ, List, ◌++◌, Option, Result, MatchResult}
+use Rattle.std.specs.Prelude.{◌≡◌, ◌≢◌, ⊤, ℕ, List, ◌++◌, Option, Result, MatchResult}
 use Rattle.std.specs.Io.KnownBytes.{Appends}
 use Rattle.ball_model.specs.Streams.{Rises}
 use Rattle.ball_model.specs.declared.world.Answer.{Answer}
@@ -22,11 +22,12 @@ pub record Told {W : Type 0} (contents : W → Option (List ℕ)) (failed : W �
   pub appended : Appends (contents old) (contents new) text
   pub counted : failed new ≡ failed old
 
--- it was given a beginning of the text, and where the fault is of a write a call of it failed
+-- it was given a beginning of the text; a call of it failed where the fault is of a write, and only there
 pub record Stopped {W : Type 0} (contents : W → Option (List ℕ)) (failed : W → ℕ) (old new : W)
     (text : List ℕ) (e : TellError) : Type 0 where
   pub begun : BeginsText (contents old) (contents new) text
   pub failed_one : e ≡ fault.Write → Rises (failed old) (failed new)
+  pub counted : e ≢ fault.Write → failed new ≡ failed old
 
 -- one or the other
 abbrev pub Tells : {W : Type 0} → (W → Option (List ℕ)) → (W → ℕ) → W → W → List ℕ →

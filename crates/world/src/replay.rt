@@ -271,7 +271,7 @@ fn prepare(
 ///
 /// The errors come in the order of [`ReplayError`]; the whole script is checked before anything is read or written.
 /// After `Memory` and `Write` a beginning of the answers stands, after every other error nothing. `Edges(Read)` is not
-/// answered, and `Write` only where a call of the writer failed. What is said of the edge list holds for plain bytes:
+/// answered, and `Write` exactly where a call of the writer failed. What is said of the edge list holds for plain bytes:
 /// no byte order mark at the front, and an LF after each CR.
 ///
 /// Memory is the graph, a replica for each node, 32 bytes a command, and what the events keep: the bytes of each
@@ -288,6 +288,7 @@ pub fn replay<W: CountedWrite>(
     ensures ok { ArePlain edges.now (list_in counted.entry) →
         OnOk result (AppendsReplay (replay_of options.now) edges.now (list_in counted.entry)
         script.now (W.contents writer.old) (W.contents writer.new)) }
+    ensures counted { OnOk result (W.failed_calls writer.new ≡ W.failed_calls writer.old) }
     ensures failed { IfErr result (Fails (replay_of options.now) edges.now (list_in counted.entry)
         script.now (W.contents writer.old) (W.contents writer.new)
         (W.failed_calls writer.old) (W.failed_calls writer.new)) }

@@ -2,7 +2,7 @@ use Rattle.std.proofs.Common.{◌≡◌, List, sym, subst}
 use Rattle.std.proofs.lemmas.Result.{err_from_is_err_and}
 use Rattle.ball_model.specs.declared.world.Event.{Event}
 use Rattle.world.specs.Replay.{IsReady, list_in, replay_of}
-use Rattle.world.proofs.ReplayLemmas.{told-appends, told-fails}
+use Rattle.world.proofs.ReplayLemmas.{told-appends, told-counted, told-fails}
 use Rattle.world.proofs.replay.replay.Goals as goal
 
 pub returns-in_err-tell_events-clause-failed : goal.returns-in_err-tell_events-clause-failed
@@ -15,3 +15,8 @@ pub returns-clause-ok : goal.returns-clause-ok
 returns-clause-ok g c =
     let ready = subst (λ (es : List Event). IsReady (replay_of c.args.options.now) c.args.edges.now (list_in c.args.counted) c.args.script.now es c.in_ok-events.world) (sym c.deref.ensures.value) c.in_ok-events.ensures.ok in
     told-appends g.W.Write.contents g.W.CountedWrite.failed_calls c.args.writer.now c.tell_events.new.writer (replay_of c.args.options.now) c.args.edges.now (list_in c.args.counted) c.args.script.now c.deref.result.now c.in_ok-events.world ready c.in_ok-tell_events.ensures
+
+pub returns-clause-counted : goal.returns-clause-counted
+returns-clause-counted g c =
+    let ready = subst (λ (es : List Event). IsReady (replay_of c.args.options.now) c.args.edges.now (list_in c.args.counted) c.args.script.now es c.in_ok-events.world) (sym c.deref.ensures.value) c.in_ok-events.ensures.ok in
+    told-counted g.W.Write.contents g.W.CountedWrite.failed_calls c.args.writer.now c.tell_events.new.writer (replay_of c.args.options.now) c.args.edges.now (list_in c.args.counted) c.args.script.now c.deref.result.now c.in_ok-events.world ready c.in_ok-tell_events.ensures
