@@ -11,7 +11,6 @@ pub mod FindLemmas
 pub mod CountLemmas
 pub mod LinksLemmas
 pub mod EdgeLemmas
-pub mod RowLemmas
 pub mod SortLemmas
 pub mod RangeLemmas
 pub mod DigestLemmas

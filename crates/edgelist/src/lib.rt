@@ -28,7 +28,6 @@ mod numbering;
 mod part;
 mod read;
 mod records;
-mod rows;
 
 pub use counting::CountedError;
 pub use graph::Graph;

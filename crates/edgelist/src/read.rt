@@ -263,7 +263,7 @@ impl Reading {
         Err(EdgeError::TooManyEdges)
     }
 
-    // The graph that was read. The set of labels is gone before the edges are put into rows.
+    // The graph that was read. The set of labels is gone before the edges are sorted.
     fn into_graph(self, alloc: Global) -> Result<Graph, AllocError>
         requires within { AreWithin most_vertices most_records self.labels self.edges.items }
         ensures graph { IfOk result (λ g.
