@@ -104,7 +104,7 @@ const KEEP_HELP: &str =
     "Supersteps from one snapshot to the next, 0 to 4096; 0 keeps none, which is less work [default: 1]";
 
 const PATIENCE_HELP: &str =
-    "Idle turns until a worker gives up: some 17 minutes, waited where a run cannot end [default: 1000000]";
+    "Idle turns to wait for a silent worker: 17 minutes; a lost partition ends a run at once [default: 1000000]";
 
 const LOSE_HELP: &str =
     "Workers that are lost: P.K@S is replica K of partition P at superstep S; commas between";

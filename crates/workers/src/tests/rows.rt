@@ -7,7 +7,7 @@ use edgelist::EdgeError;
 use std::thread::Threads;
 
 /// One vertex and no edge.
-const LONE: &[u8] = b"superstep,0,11.390942
+pub const LONE: &[u8] = b"superstep,0,11.390942
 superstep,1,11.390942
 end,1,stable
 gain,0.000000
@@ -32,7 +32,7 @@ vertex,c,11.680542,0.382969,2.611177,356.256149,14
 ";
 
 /// Two vertices, each with an edge to the other.
-const CYCLE: &[u8] = b"superstep,0,22.506296
+pub const CYCLE: &[u8] = b"superstep,0,22.506296
 superstep,1,23.560752
 superstep,2,23.560752
 end,2,stable
@@ -51,10 +51,36 @@ vertex,\"x,y\",11.390942,0.000000,0.000000,1.000000,15
 vertex,\"q\"\"\",11.780376,0.665022,1.503709,208.680703,14
 ";
 
+/// The two edges, of whose vertices only a is counted.
+const ONE_COUNTED: &[u8] = b"superstep,0,32.926942
+superstep,1,33.549884
+superstep,2,34.172826
+superstep,3,34.172826
+end,3,stable
+gain,0.467206
+vertex,a,11.390942,0.000000,0.000000,1.000000,15
+vertex,b,11.390942,0.622942,1.605285,208.291557,15
+vertex,c,11.390942,0.311471,0.802642,104.145778,15
+";
+
+/// The two edges, of whose vertices none is counted.
+const NONE_COUNTED: &[u8] = b"superstep,0,32.304000
+superstep,1,32.304000
+end,1,stable
+gain,0.000000
+vertex,a,10.768000,0.000000,0.000000,1.000000,16
+vertex,b,10.768000,0.000000,0.000000,1.000000,16
+vertex,c,10.768000,0.000000,0.000000,1.000000,16
+";
+
+/// The two edges with a note, one of them twice, and an edge from a vertex to itself, in lines that end with CRLF.
+const NOISY: &[u8] = b"# c\r\na\tb\r\nb\tc\r\na\tb\r\nb\tb\r\n";
+
 /// Whether a run writes this report.
 fn gives<R: AllocGlobal + RandomSource + Threads + Wait + Sync>(
     rt: &R,
     input: &[u8],
+    counted: Option<&[u8]>,
     options: &RunOptions,
     report: &[u8],
 ) -> Result<bool, Fail> {
@@ -66,7 +92,7 @@ fn gives<R: AllocGlobal + RandomSource + Threads + Wait + Sync>(
         rt,
         state,
         &mut reader,
-        None,
+        counted,
         &mut writer,
         options,
         &OpenGate,
@@ -78,6 +104,7 @@ fn gives<R: AllocGlobal + RandomSource + Threads + Wait + Sync>(
 fn gives_replicated<R: AllocGlobal + RandomSource + Threads + Wait + Sync>(
     rt: &R,
     input: &[u8],
+    counted: Option<&[u8]>,
     limit: u32,
     parts: u16,
     report: &[u8],
@@ -86,7 +113,7 @@ fn gives_replicated<R: AllocGlobal + RandomSource + Threads + Wait + Sync>(
     for replicas in 1..4u8 {
         let mut options = usual(rt.alloc(), parts, replicas);
         options.limit = limit;
-        all &= gives(rt, input, &options, report)?;
+        all &= gives(rt, input, counted, &options, report)?;
     }
     Ok(all)
 }
@@ -95,23 +122,47 @@ fn gives_replicated<R: AllocGlobal + RandomSource + Threads + Wait + Sync>(
 fn gives_everywhere<R: AllocGlobal + RandomSource + Threads + Wait + Sync>(
     rt: &R,
     input: &[u8],
+    counted: Option<&[u8]>,
     limit: u32,
     report: &[u8],
 ) -> Result<bool, Fail> {
     let mut all = true;
     for parts in 1..6u16 {
-        all &= gives_replicated(rt, input, limit, parts, report)?;
+        all &= gives_replicated(rt, input, counted, limit, parts, report)?;
     }
     Ok(all)
 }
 
 #[test]
 fn reports_of_several_graphs(rt: HostRuntime) -> Result<(), Fail> {
-    assert!(rt; gives_everywhere(&rt, b"x\n", 4096, LONE)?);
-    assert!(rt; gives_everywhere(&rt, b"", 4096, NOTHING)?);
-    assert!(rt; gives_everywhere(&rt, TWO_EDGES, 1, LIMITED)?);
-    assert!(rt; gives_everywhere(&rt, b"a\tb\nb\ta\n", 4096, CYCLE)?);
-    assert!(rt; gives_everywhere(&rt, b"x,y\tq\"\n", 4096, QUOTED)?);
+    assert!(rt; gives_everywhere(&rt, b"x\n", None, 4096, LONE)?);
+    assert!(rt; gives_everywhere(&rt, b"", None, 4096, NOTHING)?);
+    assert!(rt; gives_everywhere(&rt, TWO_EDGES, None, 1, LIMITED)?);
+    assert!(rt; gives_everywhere(&rt, b"a\tb\nb\ta\n", None, 4096, CYCLE)?);
+    assert!(rt; gives_everywhere(&rt, b"x,y\tq\"\n", None, 4096, QUOTED)?);
+    Ok(())
+}
+
+#[test]
+fn report_of_noisy_input(rt: HostRuntime) -> Result<(), Fail> {
+    assert!(rt; gives_everywhere(&rt, NOISY, None, 4096, REPORT)?);
+    Ok(())
+}
+
+/// Whether the two edges give it with a list of counted vertices.
+fn gives_counted<R: AllocGlobal + RandomSource + Threads + Wait + Sync>(
+    rt: &R,
+    counted: &[u8],
+    report: &[u8],
+) -> Result<bool, Fail> {
+    gives_everywhere(rt, TWO_EDGES, Some(counted), 4096, report)
+}
+
+#[test]
+fn reports_of_counted_vertices(rt: HostRuntime) -> Result<(), Fail> {
+    assert!(rt; gives_counted(&rt, b"a\n", ONE_COUNTED)?);
+    assert!(rt; gives_counted(&rt, b"", NONE_COUNTED)?);
+    assert!(rt; gives_counted(&rt, b"a\nb\nc\na\n", REPORT)?);
     Ok(())
 }
 

@@ -41,18 +41,28 @@ pub fn node(part: u16, replica: u8) -> NodeId {
     NodeId { part, replica }
 }
 
-/// Runs the two edges, and gives the answer and what was written.
-pub fn written<R: AllocGlobal + RandomSource + Threads + Wait + Sync, G: Gate + Sync>(
+/// Runs an edge list, and gives the answer and what was written.
+pub fn written_of<R: AllocGlobal + RandomSource + Threads + Wait + Sync, G: Gate + Sync>(
     rt: &R,
+    input: &[u8],
     options: &RunOptions,
     gate: &G,
 ) -> Result<(Result<(), RunError>, Vec<u8>), Fail> {
     let state = RandomState::new(rt)?;
     let mut output = Vec::new(rt.alloc());
-    let mut reader = CountingReader::new(TWO_EDGES);
+    let mut reader = CountingReader::new(input);
     let mut writer = CountingWriter::new(&mut output);
     let answer = run(rt, state, &mut reader, None, &mut writer, options, gate);
     Ok((answer, output))
+}
+
+/// The same of the two edges.
+pub fn written<R: AllocGlobal + RandomSource + Threads + Wait + Sync, G: Gate + Sync>(
+    rt: &R,
+    options: &RunOptions,
+    gate: &G,
+) -> Result<(Result<(), RunError>, Vec<u8>), Fail> {
+    written_of(rt, TWO_EDGES, options, gate)
 }
 
 /// The report is written.
