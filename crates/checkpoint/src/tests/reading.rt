@@ -12,6 +12,38 @@ use replica::{Replica, Shown};
 use sha2::{Digest, Sha256};
 use std::sync::Arc;
 
+// Version 1 of the two edges, as it was written. The digest is by another program.
+pub(super) const FIRST: [u8; 281] = [
+    0x48, 0x42, 0x43, 0x4b, // HBCK
+    1, 4, // version, log2m
+    0, 1, 0, 0, // parts, partition
+    0, 0, 0, 3, // vertices
+    0, 0, 0, 3, // vertices of the partition
+    0, 0, 0, 2, // superstep
+    0x7c, 0x4f, 0xec, 0x3a, 0xb1, 0xc9, 0x4e, 0xe5, 0x4b, 0x6c, 0xe8, 0xab, 0xf2, 0xac, 0x51, 0x80,
+    0x2b, 0x07, 0xb5, 0x58, 0x99, 0x2c, 0xeb, 0xe6, 0x1a, 0x88, 0x7d, 0x03, 0x4e, 0xbf, 0x03, 0x68,
+    0, // vertex 0: its mark
+    0, 0, 0, 0, 0, 173, 207, 222, // its estimate
+    0, 0, 0, 0, 0, 0, 0, 0, // its harmonic centrality
+    0, 0, 0, 0, 0, 0, 0, 0, 0, 0, 0, 0, 0, 0, 0, 0, // its sum of distances
+    0, 0, 0, 0, 0, 0, 0, 0, 0, 0, 0, 0, 0, 0, 3, 0, // its registers
+    0, // vertex 1: its mark
+    0, 0, 0, 0, 0, 179, 193, 24, // its estimate
+    0, 0, 0, 0, 0, 10, 37, 190, // its harmonic centrality
+    0, 0, 0, 0, 0, 0, 0, 0, 0, 0, 0, 0, 0, 10, 37, 190, // its sum of distances
+    0, 0, 0, 0, 0, 0, 1, 0, 0, 0, 0, 0, 0, 0, 3, 0, // its registers
+    1, // vertex 2: its mark
+    0, 0, 0, 0, 0, 189, 120, 129, // its estimate
+    0, 0, 0, 0, 0, 11, 118, 170, // its harmonic centrality
+    0, 0, 0, 0, 0, 0, 0, 0, 0, 0, 0, 0, 0, 28, 82, 191, // its sum of distances
+    2, 0, 0, 0, 0, 0, 1, 0, 0, 0, 0, 0, 0, 0, 3, 0, // its registers
+    0, 0, 0, 0, 0, 0, 0, 0, 0, 0, 0, 0, 2, 3, 206, 93, // sum at 0
+    0, 0, 0, 0, 0, 0, 0, 0, 0, 0, 0, 0, 2, 19, 204, 20, // at 1
+    0, 0, 0, 0, 0, 0, 0, 0, 0, 0, 0, 0, 2, 31, 9, 119, // at 2
+    0x0c, 0x4a, 0xeb, 0x7b, 0xc7, 0x6f, 0xdd, 0x84, 0x36, 0x0c, 0x3a, 0x39, 0xcd, 0x4d, 0x94, 0x00,
+    0x35, 0x1b, 0xcd, 0x76, 0xf5, 0xb3, 0x5f, 0x9d, 0x60, 0x9d, 0x14, 0x6b, 0x0a, 0xfd, 0x99, 0x1b,
+];
+
 // For each vertex its mark, its figures and its registers, and then the sums at 0, 1 and 2.
 const TABLE: [u8; 195] = [
     0, 0, 0, 0, 0, 0, 173, 207, 222, 0, 0, 0, 0, 0, 0, 0, 0, 0, 0, 0, 0, 0, 0, 0, 0, 0, 0, 0, 0, 0,
@@ -34,21 +66,21 @@ pub(super) fn part(rt: &HostRuntime, seed: u64) -> Option<Arc<Part>> {
     part_of(rt, b"a\tb\nb\tc\n", seed, 1, 0)
 }
 
-// Adds the fixed fields of a version, the vertices and the sums, and then what is held.
-fn put_content(bytes: &mut Vec<u8>, part: &Part, version: u8, held: &[u8]) -> Option<()> {
+// Adds the fixed fields of version 2, the vertices and the sums, and then what is held.
+fn put_content(bytes: &mut Vec<u8>, part: &Part) -> Option<()> {
     bytes.extend_from_slice(b"HBCK").ok()?;
     bytes
-        .extend_from_slice(&[version, 4, 0, 1, 0, 0, 0, 0, 0, 3, 0, 0, 0, 3, 0, 0, 0, 2])
+        .extend_from_slice(&[2, 4, 0, 1, 0, 0, 0, 0, 0, 3, 0, 0, 0, 3, 0, 0, 0, 2])
         .ok()?;
     bytes.extend_from_slice(&part.plan().job()).ok()?;
     bytes.extend_from_slice(&TABLE).ok()?;
-    bytes.extend_from_slice(held).ok()
+    bytes.extend_from_slice(&HELD).ok()
 }
 
 // These alone.
-fn content(rt: &HostRuntime, part: &Part, version: u8, held: &[u8]) -> Option<Vec<u8>> {
+fn content(rt: &HostRuntime, part: &Part) -> Option<Vec<u8>> {
     let mut bytes = Vec::new(rt.alloc());
-    put_content(&mut bytes, part, version, held)?;
+    put_content(&mut bytes, part)?;
     Some(bytes)
 }
 
@@ -83,14 +115,9 @@ fn refused(rt: &HostRuntime, part: &Arc<Part>, bytes: &[u8]) -> Option<KeepError
     refusal(rt, part, bytes)?
 }
 
-// The bytes of version 1.
-pub(super) fn first(rt: &HostRuntime, part: &Part) -> Option<Vec<u8>> {
-    seal(content(rt, part, 1, &[])?)
-}
-
-// Those of version 2.
+// The bytes of version 2.
 pub(super) fn second(rt: &HostRuntime, part: &Part) -> Option<Vec<u8>> {
-    seal(content(rt, part, 2, &HELD)?)
+    seal(content(rt, part)?)
 }
 
 // Superstep, the figures of vertex 2, and how many names it holds.
@@ -122,7 +149,7 @@ fn reads(rt: &HostRuntime) -> Option<bool> {
 }
 
 fn is_first_read(rt: &HostRuntime, part: &Arc<Part>) -> Option<bool> {
-    is_read(rt, part, &first(rt, part)?, 281)
+    is_read(rt, part, &FIRST, 281)
 }
 
 fn is_second_read(rt: &HostRuntime, part: &Arc<Part>) -> Option<bool> {
@@ -175,7 +202,7 @@ fn changed(rt: &HostRuntime, part: &Arc<Part>, at: usize, byte: u8) -> Option<Ke
 
 // The same, with the right digest.
 fn sealed(rt: &HostRuntime, part: &Arc<Part>, at: usize, byte: u8) -> Option<KeepError> {
-    let mut bytes = content(rt, part, 2, &HELD)?;
+    let mut bytes = content(rt, part)?;
     put_byte(&mut bytes, at, byte)?;
     refused(rt, part, &seal(bytes)?)
 }
@@ -420,28 +447,23 @@ fn early_batches_stand_in_order(rt: HostRuntime) {
 }
 
 // What version 1 wrote is read, and written again in version 2; each cut of it is too short, and one byte more trails.
-fn reads_first_of(
-    rt: &HostRuntime,
-    part: &Arc<Part>,
-    first: &[u8],
-) -> Option<(bool, bool, KeepError)> {
+fn reads_first_of(rt: &HostRuntime, part: &Arc<Part>) -> Option<(bool, bool, KeepError)> {
     Some((
-        is_written_second(rt, part, first)?,
-        cuts(rt, part, first)?,
-        trailing(rt, part, first)?,
+        is_written_second(rt, part)?,
+        cuts(rt, part, &FIRST)?,
+        trailing(rt, part, &FIRST)?,
     ))
 }
 
 fn reads_first(rt: &HostRuntime) -> Option<(bool, bool, KeepError)> {
     let part = part(rt, 0)?;
-    let first = first(rt, &part)?;
-    reads_first_of(rt, &part, &first)
+    reads_first_of(rt, &part)
 }
 
-// Whether the replica of the first bytes writes those of version 2.
-fn is_written_second(rt: &HostRuntime, part: &Arc<Part>, first: &[u8]) -> Option<bool> {
+// Whether the replica of version 1 writes the bytes of version 2.
+fn is_written_second(rt: &HostRuntime, part: &Arc<Part>) -> Option<bool> {
     let second = second(rt, part)?;
-    is_written(rt, part, first, &second)
+    is_written(rt, part, &FIRST, &second)
 }
 
 // Whether the replica of the first bytes writes the second ones.

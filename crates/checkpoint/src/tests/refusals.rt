@@ -1,7 +1,7 @@
 //! Refused memory. A run of this test by `rt try --test --fail-alloc N` refuses any one growth of memory: then that is
 //! told, and the same bytes are read when they are read again.
 
-use super::reading::{first, half, is_written, part, refusal, second};
+use super::reading::{FIRST, half, is_written, part, refusal, second};
 use super::writing::WINDOW_EDGE;
 use crate::KeepError;
 use edgelist::Part;
@@ -25,9 +25,8 @@ fn early_again(rt: &HostRuntime) -> Option<bool> {
 // That of the two edges, in version 1.
 fn first_again(rt: &HostRuntime) -> Option<bool> {
     let part = part(rt, 0)?;
-    let first = first(rt, &part)?;
     let second = second(rt, &part)?;
-    is_read_again(rt, &part, &first, &second)
+    is_read_again(rt, &part, &FIRST, &second)
 }
 
 #[test]
