@@ -124,7 +124,7 @@ fn ends_as_ordered<R: AllocGlobal + RandomSource + Threads + Wait + Sync>(
     let (input, report, end) = GRAPHS[(next(state) % 3) as usize];
     let options = any_options(rt.alloc(), state)?;
     let gate = Yielding {
-        number: AtomicU32::new(next(state) as u32),
+        number: AtomicU32::new((next(state) % 1_000_003) as u32),
     };
     let (answer, output) = written_of(rt, input, &options, &gate)?;
     Ok(match lost_part(&options, end) {
