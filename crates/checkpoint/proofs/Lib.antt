@@ -11,3 +11,4 @@ pub mod FrontLemmas
 pub mod FormLemmas
 pub mod RightLemmas
 pub mod RefusalLemmas
+pub mod UnnamedLemmas

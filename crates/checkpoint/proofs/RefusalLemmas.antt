@@ -51,7 +51,7 @@ unfolding first_checkpoint_bytes
 first_told v bytes text s split is = told 1 v text (table_bytes v) s (unsealed text (front_bytes 1 v ++ table_bytes v) (sym split ∙ is))
 
 -- ---- a replica that has forgotten what it held
-nothing_at : (parts i q : ℕ) → early_at (replicate 3 (replicate parts None)) i q ≡ None
+pub nothing_at : (parts i q : ℕ) → early_at (replicate 3 (replicate parts None)) i q ≡ None
 nothing_at parts zero q = get_or-replicate_same parts q None
 nothing_at parts (suc zero) q = get_or-replicate_same parts q None
 nothing_at parts (suc (suc zero)) q = get_or-replicate_same parts q None

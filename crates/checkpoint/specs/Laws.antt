@@ -1,7 +1,8 @@
 -- What the bytes of a checkpoint tell. Each is the contract of a function of src/laws.rt.
-use Rattle.std.specs.Prelude.{◌≡◌, ◌≢◌}
+use Rattle.std.specs.Prelude.{◌≡◌, ◌≢◌, ℕ, false}
 use Rattle.ball_model.specs.Checkpoint.{checkpoint_bytes, first_checkpoint_bytes, without_names}
-use Rattle.ball_model.specs.State.{State}
+use Rattle.ball_model.specs.Job.{Job}
+use Rattle.ball_model.specs.State.{State, StandsFor, content_of}
 use Rattle.replica.specs.Saved.{IsKeepable}
 
 -- no two states of a part have one text of version 2
@@ -17,3 +18,10 @@ FirstTextTellsRest = (v w : State) → IsKeepable v → IsKeepable w → v.part 
 -- no text is of both versions
 abbrev pub VersionsDiffer : Type 0
 VersionsDiffer = (v w : State) → first_checkpoint_bytes v ≢ checkpoint_bytes w
+
+-- what version 1 is read as: a replica that stands for a partition of a job at a superstep stands for them without its
+-- names too, and then it holds no batch
+abbrev pub WithoutNamesStands : Type 0
+WithoutNamesStands = (j : Job) (p t : ℕ) (v : State) → StandsFor j p t v →
+    StandsFor j p t (without_names v)
+    × ((s q : ℕ) → (content_of (without_names v)).holds s q ≡ false)

@@ -70,4 +70,5 @@ fn laws_are_called() {
     laws::text_is_one();
     laws::first_text_tells_rest();
     laws::versions_differ();
+    laws::without_names_stands();
 }
