@@ -7,7 +7,7 @@ ghost use Rattle.clap.specs.Words.{kind_of};
 ghost use Rattle.clap.specs.declared.error.kind.ErrorKind.TheVariants as kind;
 ghost use Rattle.clap.specs.declared.error.kind.ErrorKind.{ErrorKind as Kind};
 ghost use Rattle.ball_model.specs.Sections.{sections_of};
-ghost use Rattle.hyperball.specs.Streams.{KeptOrFailed};
+ghost use Rattle.hyperball.specs.Streams.{AppendsSome, KeptOrFailed};
 ghost use Rattle.ball_model.specs.Streams.{Rises, TakesAtMost};
 ghost use Rattle.edgelist.specs.Reading.{CountsOne};
 ghost use Rattle.edgelist.specs.declared.read.EdgeError.TheVariants as edge_fault;
@@ -108,6 +108,7 @@ fn tell_help<D: Display, W: CountedWrite, F: Write>(
     ensures status { (result ≡ 0) ⊎ (result ≡ 1) }
     ensures told { result ≡ 0 →
         IfSome (D.output help.now) (Appends (W.contents writer.old) (W.contents writer.new)) }
+    ensures some { result ≡ 0 → AppendsSome (W.contents writer.old) (W.contents writer.new) }
     ensures kept { result ≡ 1 →
         KeptOrFailed W.contents W.failed_calls writer.old writer.new }
     ensures silent { result ≡ 0 → Keeps (F.contents faults.old) (F.contents faults.new) }
@@ -115,6 +116,9 @@ fn tell_help<D: Display, W: CountedWrite, F: Write>(
     let Ok(text) = format!(in alloc; "{help}") else {
         return tell_fault(faults, "out of memory");
     };
+    if text.is_empty() {
+        return tell_fault(faults, "there is no help");
+    }
     if put_all(writer, text.as_bytes()) {
         DONE
     } else {
@@ -132,6 +136,8 @@ fn tell_clap<W: CountedWrite, F: Write>(
     ensures status { result ≤ 2 }
     ensures memory { kind_of error.now ≡ kind.OutOfMemory → result ≡ 1 }
     ensures help { kind_of error.now ≡ kind.DisplayHelp → (result ≡ 0) ⊎ (result ≡ 1) }
+    ensures version { kind_of error.now ≡ kind.DisplayVersion → (result ≡ 0) ⊎ (result ≡ 1) }
+    ensures some { result ≡ 0 → AppendsSome (W.contents writer.old) (W.contents writer.new) }
     ensures mistake { IsMistake (kind_of error.now) → result ≡ 2 }
     ensures kept { result ≡ 1 →
         KeptOrFailed W.contents W.failed_calls writer.old writer.new }
@@ -179,6 +185,9 @@ fn tell_words<W: CountedWrite, F: Write>(
     ensures mistake { (kinds : List Kind) → FailsFor kinds error.now → AreMistakes kinds →
         (result ≡ 2) ⊎ (result ≡ 1) }
     ensures help { FailsFor (kind.DisplayHelp ∷ []) error.now → (result ≡ 0) ⊎ (result ≡ 1) }
+    ensures version { FailsFor (kind.DisplayVersion ∷ []) error.now →
+        (result ≡ 0) ⊎ (result ≡ 1) }
+    ensures some { result ≡ 0 → AppendsSome (W.contents writer.old) (W.contents writer.new) }
     ensures refused { FailsFor [] error.now → result ≢ 0 }
     ensures two { result ≡ 2 → FailsFor [] error.now →
         error.now ≡ WordsError.Orders OrdersError.Form }
@@ -441,6 +450,10 @@ pub fn serve<
         AreMistakes kinds → (result ≡ 2) ⊎ (result ≡ 1) }
     ensures help { HasFaults (texts_of words.now) (kind.DisplayHelp ∷ []) →
         (result ≡ 0) ⊎ (result ≡ 1) }
+    ensures version { HasFaults (texts_of words.now) (kind.DisplayVersion ∷ []) →
+        (result ≡ 0) ⊎ (result ≡ 1) }
+    ensures some { (kinds : List Kind) → HasFaults (texts_of words.now) kinds → kinds ≢ [] →
+        result ≡ 0 → AppendsSome (W.contents writer.old) (W.contents writer.new) }
     ensures status { result ≤ 2 }
     ensures two { result ≡ 2 → HasFaults (texts_of words.now) [] → HasOrders (texts_of words.now) }
     ensures two_kept { result ≡ 2 → Keeps (W.contents writer.old) (W.contents writer.new) }
