@@ -67,9 +67,9 @@ Memory and accuracy:
   9 bytes an edge, and while it reads 110 bytes a vertex and 11 bytes an edge. Snapshots, which are
   the default, make that up to three times as much. With several partitions --keep 0 takes more
   memory, not less: nothing that they told one another is let go. The relative error of a large set
-  is about 1.04 / sqrt(2^log2m): 26 % at 4, 6.5 % at 8, 3.3 % at 10. A set of fewer than 2.5 * 2^log2m
-  vertices is estimated too large, the more so the smaller it is, unless --estimate corrected is
-  said: take it for figures that are to be near the true ones, and raw for those that
+  is about 1.04 / sqrt(2^log2m): 26 % at 4, 6.5 % at 8, 3.3 % at 10. A set of fewer than
+  2.5 * 2^log2m vertices is estimated too large, the more so the smaller it is, unless --estimate
+  corrected is said: take it for figures that are to be near the true ones, and raw for those that
   HyperLogLog's formula gives.
 
 Figures:
