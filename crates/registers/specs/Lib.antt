@@ -3,4 +3,5 @@ pub mod Glance
 pub mod Joined
 pub mod Laws
 pub mod Raised
+pub mod Relay
 pub mod Shape

@@ -1,0 +1,18 @@
+use Rattle.std.proofs.Common.{◌≡◌, ◌∙◌, rules, None, option_map}
+use Rattle.std.specs.Arc.{arc_value}
+use Rattle.registers.specs.Relay.{IsRelay, shown_of}
+use Rattle.registers.proofs.relay.Relay.hand_out.Goals as goal
+
+pub invariant_of-self-2 : goal.invariant_of-self-2
+unfolding shown_of
+invariant_of-self-2 c =
+    let none : c.self.inside.out ≡ None = search rules in
+    let is : IsRelay c.self.inside.own (option_map arc_value c.self.inside.behind) c.self.inside.stale.items = rw none at c.self.invariant in
+    rw c.in_ok-table.ensures.out is
+
+pub returns : goal.returns
+unfolding shown_of
+returns c =
+    let shown : shown_of c.self.inside.own c.self.inside.out ≡ c.args.self.now = c.self.view_is in
+    let none : c.self.inside.out ≡ None = search rules in
+    c.in_ok-table.ensures.out ∙ (rw none at shown)
