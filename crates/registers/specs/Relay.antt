@@ -1,5 +1,5 @@
 -- A table that is handed out and goes on in another one.
-use Rattle.std.specs.Prelude.{◌≡◌, ℕ, ◌*◌, ◌||◌, Bool, false, List, [], length, slice_index_or, Option, None, Some, IfSome}
+use Rattle.std.specs.Prelude.{◌≡◌, ◌≤◌, ℕ, ◌*◌, ◌||◌, Bool, false, List, [], length, slice_index_or, Option, None, Some, IfSome}
 use Rattle.ball_model.specs.Table.{Table}
 
 -- the table that is shown: the one that is handed out, or else the own one
@@ -25,7 +25,16 @@ pub record DifferWhere (marks : List Bool) (a b : Table) : Type 0 where
   pub same : (i : ℕ) → slice_index_or marks i false ≡ false →
       slice_index_or a.rows i [] ≡ slice_index_or b.rows i []
 
--- what a relay keeps: the table behind the one that is shown differs from it in stale rows alone
-pub record IsRelay (shown : Table) (behind : Option Table) (stale : List Bool) : Type 0 where
-  pub differs : IfSome behind (λ table. DifferWhere stale table shown)
-  pub marks : length stale ≡ length shown.rows
+-- a table, with a mark for each row
+pub record Marked : Type 0 where
+  pub table : Table
+  pub stale : List Bool
+
+-- what a relay keeps: what is shown differs from the table behind it in stale rows alone
+abbrev pub IsRelay : Table → Option Marked → Type 0
+IsRelay shown behind = IfSome behind (λ b. DifferWhere b.stale b.table shown)
+
+-- room for the registers of a table, and for a mark for each of its rows
+pub record HasRoom (table : Table) (registers marks : ℕ) : Type 0 where
+  pub all : room_for table ≤ registers
+  pub each : length table.rows ≤ marks

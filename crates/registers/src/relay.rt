@@ -1,10 +1,11 @@
 //! A table that is handed out while it goes on.
 
-ghost use Rattle.std.specs.Prelude.{◌≡◌, ◌≤◌, length, Some, option_map, IfOk, IfErr, IfSome, OnOk, OnErr};
+ghost use Rattle.std.specs.Prelude.{◌≡◌, ◌≤◌, length, Some, IfOk, IfSome, OnErr};
 ghost use Rattle.std.specs.Arc.{arc_value};
 ghost use Rattle.std.specs.Vec.{vec_capacity};
+ghost use Rattle.ball_model.specs.Table.{Table};
 ghost use Rattle.registers.specs.Joined.{AreSameShape};
-ghost use Rattle.registers.specs.Relay.{AreEither, DifferWhere, room_for};
+ghost use Rattle.registers.specs.Relay.{AreEither, DifferWhere, IsRelay, room_for};
 
 use crate::Rows;
 use std::alloc::{AllocError, Global};
@@ -24,17 +25,13 @@ pub struct Relay {
     own: Rows,
     // what is shown, where it was handed out
     out: Option<Shared>,
-    // what was shown before; it differs from what is shown in stale rows alone
-    behind: Option<Arc<Rows>>,
-    // a mark for each row
-    stale: Vec<bool>,
+    // what was shown before, where that was handed out
+    behind: Option<Behind>,
     // room that is left over
     spare: Option<Vec<u8>>,
 }
 
 impl Model for Relay {
-    ghost use Rattle.std.specs.Prelude.{option_map};
-    ghost use Rattle.std.specs.Arc.{arc_value};
     ghost use Rattle.ball_model.specs.Table.{Table};
     ghost use Rattle.registers.specs.Relay.{IsRelay, shown_of};
 
@@ -42,44 +39,58 @@ impl Model for Relay {
 
     ghost view = { λ r. shown_of r.own r.out };
 
-    ghost invariant = { λ r.
-        IsRelay (shown_of r.own r.out) (option_map arc_value r.behind) r.stale.items };
+    ghost invariant = { λ r. IsRelay (shown_of r.own r.out) r.behind };
 }
 
-// A table that is handed out, and room for another one of its shape.
+// A table that is handed out, with room for another one of its shape, and for a mark for each of its rows.
 #[derive(Drop)]
 struct Shared {
     table: Arc<Rows>,
     room: Vec<u8>,
+    marks: Vec<bool>,
 }
 
 impl Model for Shared {
-    ghost use Rattle.std.specs.Prelude.{◌≤◌};
     ghost use Rattle.std.specs.Arc.{arc_value};
     ghost use Rattle.std.specs.Vec.{vec_capacity};
     ghost use Rattle.ball_model.specs.Table.{Table};
-    ghost use Rattle.registers.specs.Relay.{room_for};
+    ghost use Rattle.registers.specs.Relay.{HasRoom};
 
     ghost Value = { Table };
 
     ghost view = { λ s. arc_value s.table };
 
-    ghost invariant = { λ s. room_for (arc_value s.table) ≤ vec_capacity s.room };
+    ghost invariant = { λ s.
+        HasRoom (arc_value s.table) (vec_capacity s.room) (vec_capacity s.marks) };
+}
+
+// A table that was handed out, and a mark for each of its rows: what is shown differs from it in stale rows alone.
+#[derive(Drop)]
+struct Behind {
+    table: Arc<Rows>,
+    stale: Vec<bool>,
+}
+
+impl Model for Behind {
+    ghost use Rattle.std.specs.Arc.{arc_value};
+    ghost use Rattle.registers.specs.Relay.{Marked};
+
+    ghost Value = { Marked };
+
+    ghost view = { λ b. record { table = arc_value b.table; stale = b.stale.items } };
 }
 
 impl Relay {
-    /// Rows that are not handed out. The error is that memory was refused, for a mark a row.
-    pub fn new(alloc: Global, rows: Rows) -> Result<Relay, AllocError>
-        ensures { IfOk result (λ relay. relay ≡ rows) }
+    /// Rows that are not handed out.
+    pub fn new(rows: Rows) -> Relay
+        ensures { result ≡ rows }
     {
-        let stale = vec![in alloc; false; rows.len()]?;
-        Ok(Relay {
+        Relay {
             own: rows,
             out: None,
             behind: None,
-            stale,
             spare: None,
-        })
+        }
     }
 
     /// The rows.
@@ -98,21 +109,23 @@ impl Relay {
         requires { DifferWhere marks.now self.old ahead.now }
         ensures { self.new ≡ ahead.now }
     {
-        add_marks(&mut self.stale, marks);
+        mark_stale(&mut self.behind, marks);
         match self.out.take() {
             None => self.own.follow(ahead, marks),
             Some(out) => {
-                let Shared { table, room } = out;
+                let Shared {
+                    table,
+                    room,
+                    marks: stale,
+                } = out;
                 go_on(
                     &mut self.own,
                     &mut self.behind,
-                    &self.stale,
                     room,
                     &mut self.spare,
                     ahead,
                 );
-                self.behind = Some(table);
-                self.stale.copy_from_slice(marks);
+                leave_behind(&mut self.behind, table, filled(stale, marks));
             }
         }
     }
@@ -140,9 +153,10 @@ impl Relay {
             return Ok(());
         }
         let room = take_room(alloc, &mut self.spare, &self.own)?;
+        let marks = Vec::with_capacity(alloc, self.own.len())?;
         let empty = Rows::fixed(alloc, 0, 0)?;
         let table = lend(alloc, &mut self.own, empty)?;
-        self.out = Some(Shared { table, room });
+        self.out = Some(Shared { table, room, marks });
         Ok(())
     }
 
@@ -161,22 +175,33 @@ impl Relay {
     /// Another relay of the same rows, which are shared with this one. The error is that memory was refused. Either
     /// way this one is as it was.
     ///
-    /// It takes a mark a row, and room for rows that is not touched unless the other one goes on.
+    /// It takes room for rows and a mark for each, which is not touched unless the other one goes on.
     pub fn copied(&mut self, alloc: Global) -> Result<Relay, AllocError>
         ensures same { self.new ≡ self.old }
         ensures copy { IfOk result (λ copy. copy ≡ self.old) }
     {
         let table = self.share(alloc)?;
         let own = Rows::fixed(alloc, 0, 0)?;
-        let stale = vec![in alloc; false; table.len()]?;
+        let marks = Vec::with_capacity(alloc, table.len())?;
         let room = Vec::with_capacity(alloc, table.size())?;
         Ok(Relay {
             own,
-            out: Some(Shared { table, room }),
+            out: Some(Shared { table, room, marks }),
             behind: None,
-            stale,
             spare: None,
         })
+    }
+}
+
+// What is marked is stale too.
+fn mark_stale(behind: &mut Option<Behind>, marks: &[bool])
+    requires { IfSome behind.old (λ b. length b.stale ≡ length marks.now) }
+    ensures { (shown ahead : Table) → IsRelay shown behind.old → DifferWhere marks.now shown ahead →
+        IsRelay ahead behind.new }
+{
+    match behind {
+        Some(behind) => add_marks(&mut behind.stale, marks),
+        None => {}
     }
 }
 
@@ -184,20 +209,17 @@ impl Relay {
 // the room otherwise.
 fn go_on(
     own: &mut Rows,
-    behind: &mut Option<Arc<Rows>>,
-    stale: &[bool],
+    behind: &mut Option<Behind>,
     room: Vec<u8>,
     spare: &mut Option<Vec<u8>>,
     ahead: &Rows,
 )
-    requires behind { IfSome (option_map arc_value behind.old) (λ table.
-        DifferWhere stale.now table ahead.now) }
+    requires behind { IsRelay ahead.now behind.old }
     requires room { room_for ahead.now ≤ vec_capacity room }
     ensures { own.new ≡ ahead.now }
 {
-    match take_back(behind) {
-        Some(mut table) => {
-            table.follow(ahead, stale);
+    match take_back(behind, ahead) {
+        Some(table) => {
             *own = table;
             *spare = Some(room);
         }
@@ -205,14 +227,37 @@ fn go_on(
     }
 }
 
-// The table in it, where nobody else holds it.
-fn take_back(held: &mut Option<Arc<Rows>>) -> Option<Rows>
-    ensures { IfSome result (λ table. option_map arc_value held.old ≡ Some table) }
+// The table behind, brought up to `ahead`, where nobody else holds it.
+fn take_back(behind: &mut Option<Behind>, ahead: &Rows) -> Option<Rows>
+    requires { IsRelay ahead.now behind.old }
+    ensures { IfSome result (λ table. table ≡ ahead.now) }
 {
-    match Arc::try_unwrap(held.take()?) {
-        Ok(table) => Some(table),
+    let Behind { table, stale } = behind.take()?;
+    match Arc::try_unwrap(table) {
+        Ok(mut table) => {
+            table.follow(ahead, &stale);
+            Some(table)
+        }
         Err(_) => None,
     }
+}
+
+// The table is the one behind from now on.
+fn leave_behind(behind: &mut Option<Behind>, table: Arc<Rows>, stale: Vec<bool>)
+    ensures { behind.new ≡ Some (record { table = arc_value table; stale = stale.items }) }
+{
+    *behind = Some(Behind { table, stale });
+}
+
+// The marks, in room that was taken for them.
+fn filled(room: Vec<bool>, marks: &[bool]) -> Vec<bool>
+    requires { length marks.now ≤ vec_capacity room }
+    ensures { result.items ≡ marks.now }
+{
+    let mut copy = room;
+    copy.clear();
+    let _ = copy.extend_from_slice(marks);
+    copy
 }
 
 // The room that is left over, where rows as many and as wide fit it, or new room for them.

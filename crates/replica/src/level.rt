@@ -21,7 +21,7 @@ use crate::targets::Targets;
 use ball_model::Plan;
 use batches::Batch;
 use figures::{Estimator, Tally};
-use registers::{Rows, SourceMask};
+use registers::{Relay, Rows, SourceMask};
 
 /// Hears a batch of the superstep: its rows are spread, and its source is heard.
 pub fn hear(
@@ -119,44 +119,13 @@ pub fn hear_early(
     }
 }
 
-/// Each marked row becomes what was accumulated for it; the others have it already.
-///
-/// Not inlined: among other loops its place would be kept on the stack, which a superstep of few changes pays for.
-#[inline(never)]
-pub fn catch_up(rows: &mut Rows, accumulated: &Rows, touched: &[bool])
-    requires width { rows.old.width ≡ accumulated.now.width }
-    requires touched { AreTouched rows.old.rows accumulated.now.rows touched.now }
-    ensures { rows.new ≡ accumulated.now }
-{
-    for i in 0..touched.len() {
-        catch_up_row(rows, accumulated, i, touched[i]);
-    }
-}
-
-// A marked row becomes what was accumulated for it; another one has it already.
-fn catch_up_row(rows: &mut Rows, accumulated: &Rows, i: usize, changed: bool)
-    requires width { rows.old.width ≡ accumulated.now.width }
-    requires count { length rows.old.rows ≡ length accumulated.now.rows }
-    requires row { i < length rows.old.rows }
-    requires above { IsAbove (slice_index_or rows.old.rows i [])
-        (slice_index_or accumulated.now.rows i []) }
-    requires differs { changed ≡ not (bytes_eq
-        (slice_index_or accumulated.now.rows i []) (slice_index_or rows.old.rows i [])) }
-    ensures { rows.new ≡ record rows.old {
-      rows = slice_set rows.old.rows i (slice_index_or accumulated.now.rows i []);
-    } }
-{
-    if changed {
-        let _raised = rows.raise(i, accumulated.row(i));
-    }
-}
-
 /// Marks the rows that differ.
-pub fn mark(old: &Rows, new: &Rows, marks: &mut [bool])
+pub fn mark(old: &Relay, new: &Rows, marks: &mut [bool])
     requires old { length old.now.rows ≡ length marks.old }
     requires new { length new.now.rows ≡ length marks.old }
     ensures { marks.new ≡ differences old.now.rows new.now.rows (length marks.old) }
 {
+    let old = old.get();
     for i in 0..marks.len() {
         marks[i] = new.row(i) != old.row(i);
     }

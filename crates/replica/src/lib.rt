@@ -54,7 +54,7 @@ mod targets;
 use early::Early;
 use edgelist::Part;
 use figures::{Estimator, Tally};
-use registers::{Rows, SourceMask};
+use registers::{Relay, Rows, SourceMask};
 pub use saved::Saved;
 pub use shown::Shown;
 use std::marker::Model;
@@ -72,7 +72,7 @@ mod tests;
 pub struct Progress {
     part: Arc<Part>,
     superstep: u32,
-    rows: Rows,
+    rows: Relay,
     marks: Vec<bool>,
     tallies: Vec<Tally>,
     sums: Vec<u128>,

@@ -15,7 +15,7 @@ use crate::early::{Early, LEVELS};
 use crate::targets::Targets;
 use crate::{Progress, level, shown, step};
 use figures::Tally;
-use registers::{Join, Rows};
+use registers::{Join, Relay, Rows};
 use std::alloc::{AllocError, Global};
 
 impl Progress {
@@ -193,7 +193,7 @@ impl Progress {
 // The rows, the marks, the figures and the sums become those of another one.
 fn copy_shown(
     other: &Progress,
-    rows: &mut Rows,
+    rows: &mut Relay,
     marks: &mut [bool],
     tallies: &mut [Tally],
     sums: &mut Vec<u128>,
@@ -210,14 +210,14 @@ fn copy_shown(
     ensures sums { sums.new.items ≡ other.now.state.sums }
     ensures capacity { vec_capacity sums.new ≡ vec_capacity sums.old }
 {
-    rows.copy_from(&other.rows);
+    rows.assign(other.rows.get());
     marks.copy_from_slice(&other.marks);
     tallies.copy_from_slice(&other.tallies);
     shown::refill(sums, &other.sums);
 }
 
 // The accumulators again, where they were let go: as the rows. An error changes nothing.
-fn renew(alloc: Global, rows: &Rows, accumulated: &mut Rows) -> Result<(), AllocError>
+fn renew(alloc: Global, rows: &Relay, accumulated: &mut Rows) -> Result<(), AllocError>
     requires width { rows.now.width ≡ accumulated.old.width }
     ensures rows { OnOk result (accumulated.new ≡ record accumulated.old {
       rows = accumulators_of rows.now.rows accumulated.old.rows;
@@ -225,7 +225,7 @@ fn renew(alloc: Global, rows: &Rows, accumulated: &mut Rows) -> Result<(), Alloc
     ensures refused { OnErr result (accumulated.new ≡ accumulated.old) }
 {
     if accumulated.len() == 0 {
-        *accumulated = shown::copy_rows(alloc, rows)?;
+        *accumulated = shown::copy_rows(alloc, rows.get())?;
     }
     Ok(())
 }

@@ -42,7 +42,7 @@ impl Progress {
             (batch.new ≡ sent_batch self.now.state batch.old.name.target (i + 1)) }
     {
         if self.marks[i as usize] && has_edge_into(self.part.feeds(i), batch.name().target) {
-            batch.push(self.part.vertex(i), self.rows.row(i as usize))?;
+            batch.push(self.part.vertex(i), self.rows.get().row(i as usize))?;
         }
         Ok(())
     }

@@ -90,7 +90,7 @@ pub trait Shown {
             result.now ≡ ball_counter (mixing_of j.plan) j.graph x t }
     {
         let s = self.shown();
-        s.rows.row(s.place(x))
+        s.rows.get().row(s.place(x))
     }
 
     /// The figures of vertex `x`, which the partition owns.
@@ -148,7 +148,7 @@ pub trait Shown {
             result.now.rows ≡ rows_of j p t }
     {
         let s = self.shown();
-        &s.rows
+        s.rows.get()
     }
 
     /// The figures of all vertices of the partition.
@@ -313,7 +313,7 @@ impl Progress {
         ensures width { result.now.width ≡ 2 ^ self.now.state.part.plan.log2m }
     {
         if self.accumulated.len() == 0 {
-            &self.rows
+            self.rows.get()
         } else {
             &self.accumulated
         }

@@ -25,7 +25,7 @@ use ball_model::{CloseError, Plan, TakeError, Taken, Verdict};
 use batches::Batch;
 use edgelist::Part;
 use figures::{Estimator, Tally};
-use registers::{Rows, SourceMask};
+use registers::{Relay, Rows, SourceMask};
 use std::sync::Arc;
 
 impl Progress {
@@ -192,7 +192,7 @@ impl Progress {
 fn next_rows(
     targets: &Targets,
     part: &Part,
-    rows: &mut Rows,
+    rows: &mut Relay,
     marks: &mut [bool],
     accumulated: &mut Rows,
     touched: &mut [bool],
@@ -213,7 +213,7 @@ fn next_rows(
         accumulated.old.rows accumulated.new.rows }
 {
     spread_own(targets, part, rows, marks, accumulated, touched);
-    level::catch_up(rows, accumulated, touched);
+    rows.follow(accumulated, touched);
     marks.copy_from_slice(touched);
     level::clear_marks(touched);
 }
@@ -222,7 +222,7 @@ fn next_rows(
 fn next_figures(
     estimator: &Estimator,
     t: u32,
-    rows: &Rows,
+    rows: &Relay,
     marks: &[bool],
     tallies: &mut [Tally],
     sums: &mut Vec<u128>,
@@ -244,7 +244,7 @@ fn next_figures(
     ensures capacity { vec_capacity sums.new ≡ vec_capacity sums.old }
 {
     let last = sums[t as usize];
-    let gain = level::step_tallies(estimator, t + 1, rows, marks, tallies);
+    let gain = level::step_tallies(estimator, t + 1, rows.get(), marks, tallies);
     sums.push_reserved(last + gain);
 }
 

@@ -1,7 +1,7 @@
-use Rattle.std.proofs.Common.{◌≡◌, rules, ap, ◌∙◌, None, Some, length, option_map}
+use Rattle.std.proofs.Common.{◌≡◌, rules, ap, ◌∙◌, None, Some, length}
 use Rattle.std.specs.Arc.{arc_value}
 use Rattle.ball_model.specs.Table.{Table}
-use Rattle.registers.specs.Relay.{IsRelay, shown_of}
+use Rattle.registers.specs.Relay.{shown_of}
 use Rattle.registers.proofs.relay.Relay.assign.Goals as goal
 
 pub copy_from-requires-clause-width : goal.copy_from-requires-clause-width
@@ -26,23 +26,7 @@ copied_into-requires c =
     let shown : shown_of c.self.inside.own c.self.inside.out ≡ c.args.self.now = c.self.view_is in
     let some : c.self.inside.out ≡ Some c.in-Some.out = search rules in
     let out : arc_value c.out.inside.table ≡ c.args.self.now = c.out.view_is ∙ (rw some at shown) in
-    rw (← c.requires.width, ← c.requires.count, ← out) c.out.invariant
-
-pub invariant_of-self : goal.invariant_of-self
-unfolding shown_of
-invariant_of-self c =
-    let shown : shown_of c.self.inside.own c.self.inside.out ≡ c.args.self.now = c.self.view_is in
-    let is : IsRelay c.args.self.now (option_map arc_value c.self.inside.behind) c.self.inside.stale.items = rw shown at c.self.invariant in
-    let gone : c.take.new.self ≡ None = search rules in
-    rw (gone, c.copy_from.ensures) (record { differs = search; marks = is.marks ∙ c.requires.count })
-
-pub invariant_of-self-in-Some : goal.invariant_of-self-in-Some
-unfolding shown_of
-invariant_of-self-in-Some c =
-    let shown : shown_of c.self.inside.own c.self.inside.out ≡ c.args.self.now = c.self.view_is in
-    let is : IsRelay c.args.self.now (option_map arc_value c.self.inside.behind) c.self.inside.stale.items = rw shown at c.self.invariant in
-    let gone : c.take.new.self ≡ None = search rules in
-    rw (gone, c.copied_into.ensures) (record { differs = search; marks = is.marks ∙ c.requires.count })
+    rw (← c.requires.width, ← c.requires.count, ← out) c.out.invariant.all
 
 pub returns-in-None : goal.returns-in-None
 unfolding shown_of

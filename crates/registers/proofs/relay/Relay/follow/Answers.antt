@@ -1,9 +1,16 @@
-use Rattle.std.proofs.Common.{rules, ◌≡◌, length, Some, None, option_map, sym, subst, ◌∙◌}
+use Rattle.std.proofs.Common.{rules, ◌≡◌, length, ◌≤◌, Some, None, sym, subst, ◌∙◌, arith}
 use Rattle.std.specs.Arc.{arc_value}
-use Rattle.std.proofs.lemmas.List.{with_items_is}
-use Rattle.registers.specs.Relay.{AreEither, DifferWhere, IsRelay, shown_of}
-use Rattle.registers.proofs.RelayLemmas.{moves, goes_on}
+use Rattle.std.specs.Vec.{vec_capacity}
+use Rattle.registers.specs.Relay.{DifferWhere, IsRelay, shown_of}
+use Rattle.registers.proofs.RelayLemmas.{as_many}
 use Rattle.registers.proofs.relay.Relay.follow.Goals as goal
+
+pub mark_stale-requires : goal.mark_stale-requires
+unfolding shown_of
+mark_stale-requires c =
+    let shown : shown_of c.self.inside.own c.self.inside.out ≡ c.args.self.now = c.self.view_is in
+    let is : IsRelay c.args.self.now c.self.inside.behind = rw shown at c.self.invariant in
+    as_many c.args.marks.now c.self.inside.behind c.args.self.now c.args.ahead.now is c.requires
 
 pub follow-requires : goal.follow-requires
 unfolding shown_of
@@ -17,13 +24,16 @@ pub invariant_of-self : goal.invariant_of-self
 unfolding shown_of
 invariant_of-self c =
     let shown : shown_of c.self.inside.own c.self.inside.out ≡ c.args.self.now = c.self.view_is in
-    let behind = option_map arc_value c.self.inside.behind in
-    let is : IsRelay c.args.self.now behind c.self.inside.stale.items = rw shown at c.self.invariant in
+    let is : IsRelay c.args.self.now c.self.inside.behind = rw shown at c.self.invariant in
     let gone : c.take.new.self ≡ None = search rules in
-    let either : AreEither c.self.inside.stale.items c.args.marks.now c.add_marks.new.marks = rw c.deref_mut.ensures.value at c.add_marks.ensures in
-    let kept : length c.add_marks.new.marks ≡ c.self.inside.stale.len = c.add_marks.ensures.long ∙ c.deref_mut.ensures.len in
-    rw (gone, with_items_is c.self.inside.stale c.add_marks.new.marks kept, c.follow.ensures)
-    (moves c.self.inside.stale.items c.args.marks.now c.add_marks.new.marks behind c.args.self.now c.args.ahead.now either is c.requires)
+    rw (gone, c.follow.ensures) (c.mark_stale.ensures c.args.self.now c.args.ahead.now is c.requires)
+
+pub go_on-requires-clause-behind : goal.go_on-requires-clause-behind
+unfolding shown_of
+go_on-requires-clause-behind c =
+    let shown : shown_of c.self.inside.own c.self.inside.out ≡ c.args.self.now = c.self.view_is in
+    let is : IsRelay c.args.self.now c.self.inside.behind = rw shown at c.self.invariant in
+    c.mark_stale.ensures c.args.self.now c.args.ahead.now is c.requires
 
 pub go_on-requires-clause-room : goal.go_on-requires-clause-room
 unfolding shown_of
@@ -31,7 +41,24 @@ go_on-requires-clause-room c =
     let shown : shown_of c.self.inside.own c.self.inside.out ≡ c.args.self.now = c.self.view_is in
     let some : c.self.inside.out ≡ Some c.in-Some.out = search rules in
     let out : arc_value c.out.inside.table ≡ c.args.self.now = c.out.view_is ∙ (rw some at shown) in
-    rw (← c.requires.width, ← c.requires.count, ← out) c.out.invariant
+    rw (← c.requires.width, ← c.requires.count, ← out) c.out.invariant.all
+
+pub filled-requires : goal.filled-requires
+unfolding shown_of
+filled-requires c =
+    let shown : shown_of c.self.inside.own c.self.inside.out ≡ c.args.self.now = c.self.view_is in
+    let some : c.self.inside.out ≡ Some c.in-Some.out = search rules in
+    let out : arc_value c.out.inside.table ≡ c.args.self.now = c.out.view_is ∙ (rw some at shown) in
+    rw (c.requires.marked, ← out) c.out.invariant.each
+
+pub invariant_of-self-in-Some : goal.invariant_of-self-in-Some
+unfolding shown_of
+invariant_of-self-in-Some c =
+    let shown : shown_of c.self.inside.own c.self.inside.out ≡ c.args.self.now = c.self.view_is in
+    let some : c.self.inside.out ≡ Some c.in-Some.out = search rules in
+    let out : arc_value c.out.inside.table ≡ c.args.self.now = c.out.view_is ∙ (rw some at shown) in
+    let gone : c.take.new.self ≡ None = search rules in
+    rw (gone, c.go_on.ensures, c.leave_behind.ensures, c.filled.ensures, out) c.requires
 
 pub returns-in-None : goal.returns-in-None
 unfolding shown_of
@@ -44,13 +71,3 @@ unfolding shown_of
 returns-in-Some c =
     let gone : c.take.new.self ≡ None = search rules in
     rw gone c.go_on.ensures
-
-pub invariant_of-self-in-Some : goal.invariant_of-self-in-Some
-unfolding shown_of
-invariant_of-self-in-Some c =
-    let shown : shown_of c.self.inside.own c.self.inside.out ≡ c.args.self.now = c.self.view_is in
-    let some : c.self.inside.out ≡ Some c.in-Some.out = search rules in
-    let out : arc_value c.out.inside.table ≡ c.args.self.now = c.out.view_is ∙ (rw some at shown) in
-    let gone : c.take.new.self ≡ None = search rules in
-    rw (gone, c.go_on.ensures, c.copy_from_slice.ensures.items, out)
-    (goes_on c.args.marks.now c.args.self.now c.args.ahead.now c.requires)

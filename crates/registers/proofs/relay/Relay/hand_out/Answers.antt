@@ -1,5 +1,4 @@
-use Rattle.std.proofs.Common.{◌≡◌, ◌∙◌, rules, None, option_map}
-use Rattle.std.specs.Arc.{arc_value}
+use Rattle.std.proofs.Common.{◌≡◌, ◌∙◌, rules, None}
 use Rattle.registers.specs.Relay.{IsRelay, shown_of}
 use Rattle.registers.proofs.relay.Relay.hand_out.Goals as goal
 
@@ -7,7 +6,7 @@ pub invariant_of-self-2 : goal.invariant_of-self-2
 unfolding shown_of
 invariant_of-self-2 c =
     let none : c.self.inside.out ≡ None = search rules in
-    let is : IsRelay c.self.inside.own (option_map arc_value c.self.inside.behind) c.self.inside.stale.items = rw none at c.self.invariant in
+    let is : IsRelay c.self.inside.own c.self.inside.behind = rw none at c.self.invariant in
     rw c.in_ok-table.ensures.out is
 
 pub returns : goal.returns
