@@ -1,5 +1,5 @@
 -- What a relay keeps.
-use Rattle.std.proofs.Common.{◌≡◌, Bool, false, List, length, slice_index_or, Option, None, Some, sym, ◌∙◌}
+use Rattle.std.proofs.Common.{◌≡◌, arith, Bool, false, List, length, slice_index_or, Option, None, Some, sym, ◌∙◌}
 use Rattle.std.specs.Prelude.{IfSome}
 use Rattle.std.proofs.lemmas.Bool.{or_parts}
 use Rattle.ball_model.specs.Table.{Table}
@@ -11,9 +11,9 @@ differ_either ms ns both a b c e d f = record {
   width = d.width ∙ f.width;
   count = d.count ∙ f.count;
   marked = e.long ∙ d.marked;
-  same = λ i unmarked.
+  same = λ i lt unmarked.
       let neither = or_parts (slice_index_or ms i false) (slice_index_or ns i false) (sym (e.set i) ∙ unmarked) in
-      d.same i neither.0 ∙ f.same i neither.1;
+      d.same i lt neither.0 ∙ f.same i (omega (arith, lt, d.count)) neither.1;
 }
 
 -- what is marked is stale too

@@ -1,5 +1,5 @@
 -- A table that is handed out and goes on in another one.
-use Rattle.std.specs.Prelude.{◌≡◌, ◌≤◌, ℕ, ◌*◌, ◌||◌, Bool, false, List, [], length, slice_index_or, Option, None, Some, IfSome}
+use Rattle.std.specs.Prelude.{◌≡◌, ◌≤◌, ◌<◌, ℕ, ◌*◌, ◌||◌, Bool, false, List, [], length, slice_index_or, Option, None, Some, IfSome}
 use Rattle.ball_model.specs.Table.{Table}
 
 -- the table that is shown: the one that is handed out, or else the own one
@@ -22,7 +22,7 @@ pub record DifferWhere (marks : List Bool) (a b : Table) : Type 0 where
   pub width : a.width ≡ b.width
   pub count : length a.rows ≡ length b.rows
   pub marked : length marks ≡ length a.rows
-  pub same : (i : ℕ) → slice_index_or marks i false ≡ false →
+  pub same : (i : ℕ) → i < length a.rows → slice_index_or marks i false ≡ false →
       slice_index_or a.rows i [] ≡ slice_index_or b.rows i []
 
 -- a table, with a mark for each row

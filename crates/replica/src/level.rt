@@ -21,7 +21,7 @@ use crate::targets::Targets;
 use ball_model::Plan;
 use batches::Batch;
 use figures::{Estimator, Tally};
-use registers::{Relay, Rows, SourceMask};
+use registers::{Rows, SourceMask};
 
 /// Hears a batch of the superstep: its rows are spread, and its source is heard.
 pub fn hear(
@@ -120,12 +120,11 @@ pub fn hear_early(
 }
 
 /// Marks the rows that differ.
-pub fn mark(old: &Relay, new: &Rows, marks: &mut [bool])
+pub fn mark(old: &Rows, new: &Rows, marks: &mut [bool])
     requires old { length old.now.rows ≡ length marks.old }
     requires new { length new.now.rows ≡ length marks.old }
     ensures { marks.new ≡ differences old.now.rows new.now.rows (length marks.old) }
 {
-    let old = old.get();
     for i in 0..marks.len() {
         marks[i] = new.row(i) != old.row(i);
     }

@@ -104,7 +104,7 @@ impl Progress {
         );
         self.heard = other.heard;
         self.heard_change = other.heard_change;
-        level::mark(&self.rows, &self.accumulated, touched);
+        level::mark(self.rows.get(), &self.accumulated, touched);
         self.early.shift(ahead);
         level::hear_early(
             targets,
@@ -183,7 +183,7 @@ impl Progress {
         renew(alloc, &self.rows, &mut self.accumulated)?;
         let _heard = self.heard.join(alloc, &other.heard);
         let _raised = self.accumulated.join(alloc, theirs);
-        level::mark(&self.rows, &self.accumulated, touched);
+        level::mark(self.rows.get(), &self.accumulated, touched);
         self.heard_change |= other.heard_change;
         self.early.fill(shared);
         Ok(())

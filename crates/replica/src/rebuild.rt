@@ -18,7 +18,7 @@ use crate::targets::Targets;
 use crate::{Progress, Replica, level, shown, start};
 use batches::Batch;
 use edgelist::Part;
-use registers::Rows;
+use registers::{Relay, Rows};
 use std::alloc::{AllocError, Global};
 use std::sync::Arc;
 
@@ -74,7 +74,7 @@ fn known(alloc: Global, part: Arc<Part>, saved: Saved) -> Result<Progress, Alloc
     Ok(Progress {
         part,
         superstep: saved.superstep,
-        rows: saved.rows,
+        rows: Relay::new(saved.rows),
         marks: saved.marks,
         tallies: saved.tallies,
         sums,

@@ -21,7 +21,7 @@ ghost use Rattle.replica.specs.Saved.{IsFigures};
 ghost use Rattle.replica.specs.Seen.{IsState, accumulators_of};
 ghost use Rattle.replica.specs.Spread.{AreTouched};
 
-use crate::start::Tables;
+use crate::start::Copies;
 use crate::{Progress, Replica, Snapshot, level};
 use ball_model::{BatchName, Plan, Verdict};
 use batches::Batch;
@@ -351,17 +351,19 @@ impl Progress {
     }
 
     /// The same, copied: without room for later sums, and without accumulators where each equals its row.
-    pub(crate) fn copied(&self, alloc: Global, touched: &[bool]) -> Result<Progress, AllocError>
-        requires { AreTouched self.now.state.rows self.now.state.accumulated touched.now }
-        ensures { IfOk result (λ s. s.state ≡ self.now.state) }
+    pub(crate) fn copied(&mut self, alloc: Global, touched: &[bool]) -> Result<Progress, AllocError>
+        requires { AreTouched self.old.state.rows self.old.state.accumulated touched.now }
+        ensures same { self.new ≡ self.old }
+        ensures copy { IfOk result (λ s. s.state ≡ self.old.state) }
     {
         let part = Arc::try_clone(&self.part)?;
         let early = self.early.share(alloc)?;
         let tables = self.copied_tables(alloc, touched)?;
+        let rows = self.rows.copied(alloc)?;
         Ok(Progress {
             part,
             superstep: self.superstep,
-            rows: tables.rows,
+            rows,
             marks: tables.marks,
             tallies: tables.tallies,
             sums: tables.sums,
@@ -372,11 +374,9 @@ impl Progress {
         })
     }
 
-    // The tables, copied.
-    fn copied_tables(&self, alloc: Global, touched: &[bool]) -> Result<Tables, AllocError>
+    // The tables but for the rows, copied.
+    fn copied_tables(&self, alloc: Global, touched: &[bool]) -> Result<Copies, AllocError>
         requires { AreTouched self.now.state.rows self.now.state.accumulated touched.now }
-        ensures rows { IfOk result (λ t. t.rows ≡
-            record { width = 2 ^ self.now.state.part.plan.log2m; rows = self.now.state.rows }) }
         ensures marks { IfOk result (λ t. t.marks.items ≡ self.now.state.marks) }
         ensures tallies { IfOk result (λ t. map value_of t.tallies.items ≡ self.now.state.tallies) }
         ensures sums { IfOk result (λ t. t.sums.items ≡ self.now.state.sums) }
@@ -388,11 +388,9 @@ impl Progress {
             (t.accumulated.rows ≡ [])) }
         ensures state { IsState self.now.state }
     {
-        let rows = copy_rows(alloc, &self.rows)?;
         let accumulated = copy_touched(alloc, &self.accumulated, touched)?;
         let (marks, tallies, sums) = copy_figures(alloc, &self.marks, &self.tallies, &self.sums)?;
-        Ok(Tables {
-            rows,
+        Ok(Copies {
             accumulated,
             marks,
             tallies,

@@ -8,7 +8,7 @@ ghost use Rattle.replica.specs.Heard.{RowIsHeard, BatchIsHeard, OwnIsHeard, Mark
 use crate::targets::Targets;
 use batches::Batch;
 use edgelist::Part;
-use registers::{LINE, Relay, Rows};
+use registers::{LINE, Rows};
 
 /// Spreads the row of vertex `z`: the accumulator of each own vertex that `z` has an edge to becomes the maximum of
 /// itself and `registers`, register by register, and each accumulator that this changes is marked.
@@ -69,7 +69,7 @@ pub fn spread_batch(targets: &Targets, batch: &Batch, accumulated: &mut Rows, to
 pub fn spread_own(
     targets: &Targets,
     part: &Part,
-    rows: &Relay,
+    rows: &Rows,
     marks: &[bool],
     accumulated: &mut Rows,
     touched: &mut [bool],
@@ -86,7 +86,6 @@ pub fn spread_own(
     ensures stands { OwnIsHeard targets.now part.now rows.now.rows marks.now
         accumulated.old.rows accumulated.new.rows }
 {
-    let rows = rows.get();
     for i in 0..part.size() {
         if marks[i as usize] {
             spread_row(

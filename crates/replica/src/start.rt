@@ -15,7 +15,7 @@ use crate::{Progress, level, shown};
 use ball_model::{Plan, mix, place};
 use edgelist::Part;
 use figures::{Estimator, Tally};
-use registers::{Rows, SourceMask};
+use registers::{Relay, Rows, SourceMask};
 use std::alloc::{AllocError, Global};
 use std::sync::Arc;
 
@@ -23,6 +23,15 @@ use std::sync::Arc;
 #[derive(Drop)]
 pub struct Tables {
     pub rows: Rows,
+    pub accumulated: Rows,
+    pub marks: Vec<bool>,
+    pub tallies: Vec<Tally>,
+    pub sums: Vec<u128>,
+}
+
+/// What a snapshot has a copy of; its rows are shared.
+#[derive(Drop)]
+pub struct Copies {
     pub accumulated: Rows,
     pub marks: Vec<bool>,
     pub tallies: Vec<Tally>,
@@ -174,7 +183,7 @@ pub fn first(alloc: Global, part: Arc<Part>, estimator: &Estimator) -> Result<Pr
     Ok(Progress {
         part,
         superstep: 0,
-        rows: tables.rows,
+        rows: Relay::new(tables.rows),
         marks: tables.marks,
         tallies: tables.tallies,
         sums: tables.sums,

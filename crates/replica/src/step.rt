@@ -212,7 +212,7 @@ fn next_rows(
     ensures stands { OwnIsHeard targets.now part.now rows.old.rows marks.old
         accumulated.old.rows accumulated.new.rows }
 {
-    spread_own(targets, part, rows, marks, accumulated, touched);
+    spread_own(targets, part, rows.get(), marks, accumulated, touched);
     rows.follow(accumulated, touched);
     marks.copy_from_slice(touched);
     level::clear_marks(touched);

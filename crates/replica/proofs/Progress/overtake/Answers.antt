@@ -164,7 +164,7 @@ returns-clause-touched c =
     let rows : c.copy_shown.new.rows.rows ≡ o.rows = copied g.After-copy_shown in
     let count : length c.args.touched.now ≡ length o.rows = c.requires.touched.marks ∙ sym (ap (λ (v : State). length v.rows) (state_is c.self.view_is)) ∙ m.mine.count ∙ m.size ∙ sym m.theirs.count in
     let n = length c.args.touched.now in
-    let marks : c.mark.new.marks ≡ differences o.rows o.accumulated n = c.mark.ensures ∙ ap (λ (l : List (List ℕ)). differences l c.replace.new.accumulated.rows n) rows ∙ ap (λ (l : List (List ℕ)). differences o.rows l n) accumulated in
+    let marks : c.mark.new.marks ≡ differences o.rows o.accumulated n = (rw c.get.ensures at c.mark.ensures) ∙ ap (λ (l : List (List ℕ)). differences l c.replace.new.accumulated.rows n) rows ∙ ap (λ (l : List (List ℕ)). differences o.rows l n) accumulated in
     let here : AreTouched c.copy_shown.new.rows.rows c.hear_early.new.accumulated.rows c.hear_early.new.touched =
     c.hear_early.ensures.touched c.copy_shown.new.rows.rows
     (rw (rows, accumulated) (touched_from o.part.plan.log2m n o.rows o.accumulated c.mark.new.marks m.theirs.rows m.theirs.accumulated count marks)) in

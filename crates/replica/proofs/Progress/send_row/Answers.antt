@@ -3,6 +3,7 @@ use Rattle.std.proofs.lemmas.Bool.{and_left, and_right}
 use Rattle.ball_model.specs.declared.names.BatchName.{BatchName}
 use Rattle.ball_model.specs.Job.{PartValue}
 use Rattle.ball_model.specs.State.{State}
+use Rattle.ball_model.specs.Table.{Table}
 use Rattle.ball_model.specs.Masks.{has_bit}
 use Rattle.replica.specs.Seen.{IsState}
 use Rattle.replica.proofs.AccumulatorLemmas.{state_is}
@@ -16,7 +17,7 @@ push-requires-clause-row c =
     let state : IsState v = subst (λ (u : State). IsState u) (state_is c.self.view_is) c.self.invariant.state in
     let part : c.deref-then-has_edge_into.result.now ≡ v.part = c.deref-then-has_edge_into.ensures ∙ ap (λ (u : State). u.part) (state_is c.self.view_is) in
     let vertex : c.vertex.result ≡ c.args.i * v.part.plan.parts + v.part.number = c.vertex.ensures.value ∙ ap (λ (a : PartValue). c.args.i * a.plan.parts + a.number) part in
-    let row : c.row.result.now ≡ get_or v.rows c.args.i [] = c.row.ensures.value ∙ ap (λ (u : State). get_or u.rows c.args.i []) (state_is c.self.view_is) in
+    let row : c.row.result.now ≡ get_or v.rows c.args.i [] = c.row.ensures.value ∙ ap (λ (t : Table). get_or t.rows c.args.i []) c.get.ensures ∙ ap (λ (u : State). get_or u.rows c.args.i []) (state_is c.self.view_is) in
     sent_fits v c.args.batch.now.name.target c.args.i c.vertex.result c.row.result.now c.args.batch.now state c.requires.so_far c.requires.place vertex row
 
 pub push-requires-clause-above : goal.push-requires-clause-above
@@ -41,7 +42,7 @@ returns-in_ok-push c =
     let v = c.args.self.now.state in
     let part : c.deref-then-has_edge_into.result.now ≡ v.part = c.deref-then-has_edge_into.ensures ∙ ap (λ (u : State). u.part) (state_is c.self.view_is) in
     let vertex : c.vertex.result ≡ c.args.i * v.part.plan.parts + v.part.number = c.vertex.ensures.value ∙ ap (λ (a : PartValue). c.args.i * a.plan.parts + a.number) part in
-    let row : c.row.result.now ≡ get_or v.rows c.args.i [] = c.row.ensures.value ∙ ap (λ (u : State). get_or u.rows c.args.i []) (state_is c.self.view_is) in
+    let row : c.row.result.now ≡ get_or v.rows c.args.i [] = c.row.ensures.value ∙ ap (λ (t : Table). get_or t.rows c.args.i []) c.get.ensures ∙ ap (λ (u : State). get_or u.rows c.args.i []) (state_is c.self.view_is) in
     let state : IsState v = subst (λ (u : State). IsState u) (state_is c.self.view_is) c.self.invariant.state in
     let marks : c.self.inside.marks.items ≡ v.marks = ap (λ (u : State). u.marks) (state_is c.self.view_is) in
     let lt : c.args.i < length v.marks = omega (arith, state.marks, c.requires.place) in

@@ -115,5 +115,5 @@ returns-clause-touched c =
     let r = raised g.After-join-raised m in
     let size : length c.args.touched.now ≡ length s.rows = c.requires.touched.marks ∙ sym (ap (λ (v : State). length v.rows) (state_is c.self.view_is)) in
     let here : AreTouched s.rows c.join-raised.new.self.rows c.mark.new.marks =
-    touched_from s.part.plan.log2m (length c.args.touched.now) s.rows c.join-raised.new.self.rows c.mark.new.marks m.mine.rows (all_on s.part.plan.log2m s.rows s.accumulated c.join-raised.new.self.rows m.mine.rows m.mine.accumulated r.rise) size c.mark.ensures in
+    touched_from s.part.plan.log2m (length c.args.touched.now) s.rows c.join-raised.new.self.rows c.mark.new.marks m.mine.rows (all_on s.part.plan.log2m s.rows s.accumulated c.join-raised.new.self.rows m.mine.rows m.mine.accumulated r.rise) size (rw c.get.ensures at c.mark.ensures) in
     subst (λ (w : State). AreTouched w.rows w.accumulated c.mark.new.marks) (fields_are (after c) (state_after c m r).accumulated.count) here

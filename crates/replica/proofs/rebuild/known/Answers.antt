@@ -18,7 +18,7 @@ invariant_of-result c =
     let own : IsPart part = subst (λ (a : PartValue). IsPart a) c.deref-2.ensures c.partition.ensures.part in
     let early : AreEarly part.plan part.number s.superstep c.in_ok-early.early = subst (λ (a : PartValue). AreEarly a.plan a.number s.superstep c.in_ok-early.early) c.deref-4.ensures c.in_ok-early.ensures.early in
     let is = rebuilt_with part s c.in_ok-sums.sums.items c.in_ok-early.early (c.in_ok-sums.ensures.sums ∙ c.deref-3.ensures.value) (c.in_ok-early.ensures.batches ∙ ap (map arc_value) c.deref-5.ensures.value) in
-    kept_progress _ (rebuilt_state part s (state_with part s c.in_ok-sums.sums.items c.in_ok-early.early) own c.requires is early) c.requires.rows.width c.requires.heard.width
+    rw c.new.ensures (kept_progress _ (rebuilt_state part s (state_with part s c.in_ok-sums.sums.items c.in_ok-early.early) own c.requires is early) c.requires.rows.width c.requires.heard.width)
 
 abbrev made : goal.After-drop-saved-3 → progress.Inside
 made c = record { part = c.args.part; superstep = c.args.saved.superstep; rows = c.args.saved.rows; marks = c.args.saved.marks; tallies = c.args.saved.tallies; sums = c.in_ok-sums.sums; heard = c.args.saved.heard; heard_change = c.args.saved.heard_change; accumulated = c.args.saved.accumulated; early = c.in_ok-early.early }
@@ -26,14 +26,14 @@ made c = record { part = c.args.part; superstep = c.args.saved.superstep; rows =
 pub returns-clause-goes_on : goal.returns-clause-goes_on
 returns-clause-goes_on c =
     let plan : c.plan-plan.result.now ≡ (arc_value c.args.part).plan = c.plan-plan.ensures ∙ ap (λ (a : PartValue). a.plan) c.deref.ensures in
-    can_go_on (made c) c.requires.heard.accumulated.count (omega (arith, c.in_ok-sums.ensures.room, c.limit.ensures.value, ap (λ (a : PlanValue). a.limit) plan))
+    rw c.new.ensures (can_go_on (made c) c.requires.heard.accumulated.count (omega (arith, c.in_ok-sums.ensures.room, c.limit.ensures.value, ap (λ (a : PlanValue). a.limit) plan)))
 
 pub returns-clause-fields : goal.returns-clause-fields
 returns-clause-fields c =
     let part = arc_value c.args.part in
     let s = c.args.saved in
     let is = rebuilt_with part s c.in_ok-sums.sums.items c.in_ok-early.early (c.in_ok-sums.ensures.sums ∙ c.deref-3.ensures.value) (c.in_ok-early.ensures.batches ∙ ap (map arc_value) c.deref-5.ensures.value) in
-    subst (λ (v : State). IsRebuilt part s v) (fields_are (made c) c.requires.heard.accumulated.count) is
+    rw c.new.ensures (subst (λ (v : State). IsRebuilt part s v) (fields_are (made c) c.requires.heard.accumulated.count) is)
 
 pub returns-clause-keepable : goal.returns-clause-keepable
 returns-clause-keepable c =
@@ -42,8 +42,8 @@ returns-clause-keepable c =
     let own : IsPart part = subst (λ (a : PartValue). IsPart a) c.deref-2.ensures c.partition.ensures.part in
     let early : AreEarly part.plan part.number s.superstep c.in_ok-early.early = subst (λ (a : PartValue). AreEarly a.plan a.number s.superstep c.in_ok-early.early) c.deref-4.ensures c.in_ok-early.ensures.early in
     let is = rebuilt_with part s c.in_ok-sums.sums.items c.in_ok-early.early (c.in_ok-sums.ensures.sums ∙ c.deref-3.ensures.value) (c.in_ok-early.ensures.batches ∙ ap (map arc_value) c.deref-5.ensures.value) in
-    subst (λ (v : State). IsKeepable v) (fields_are (made c) c.requires.heard.accumulated.count)
+    rw c.new.ensures (subst (λ (v : State). IsKeepable v) (fields_are (made c) c.requires.heard.accumulated.count)
     (record {
       state = rebuilt_state part s (state_with part s c.in_ok-sums.sums.items c.in_ok-early.early) own c.requires is early;
       figures = c.requires.figures.limits;
-    })
+    }))
