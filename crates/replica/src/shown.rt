@@ -90,7 +90,8 @@ pub trait Shown {
             result.now ≡ ball_counter (mixing_of j.plan) j.graph x t }
     {
         let s = self.shown();
-        s.rows.get().row(s.place(x))
+        let rows = s.rows.get();
+        rows.row(s.place(x))
     }
 
     /// The figures of vertex `x`, which the partition owns.
