@@ -5,7 +5,7 @@ use Rattle.std.specs.Io.KnownBytes.{Keeps}
 use Rattle.clap.specs.Words.{Row, Text, subcommand_of}
 use Rattle.ball_model.specs.Sections.{sections_of}
 use Rattle.ball_model.specs.Streams.{Rises}
-use Rattle.ball_model.specs.WorldText.{AppendsReplay}
+use Rattle.ball_model.specs.WorldText.{AppendsReplay, HasCommands}
 use Rattle.hyperball.specs.CommandLine.{Parsers, TakeNames, hyperball_app}
 use Rattle.hyperball.specs.Streams.{KeptOrFailed}
 use Rattle.hyperball.specs.Whole.{most_bytes}
@@ -87,10 +87,11 @@ abbrev pub parts_in : Bool → List ℕ → Result Parts ReplayFault
 parts_in false input = with_script (sections_of input)
 parts_in true input = with_list (sections_of input)
 
--- the answers to the script that stands in the input are appended, where the input is plain
+-- the options fit, a script stands in the input, and its answers are appended, where the input is plain
 pub record Answers (w : ReplayWords) (input : List ℕ) (old new : Option (List ℕ)) : Type 0 where
   pub parts : Parts
   pub found : parts_in w.counted input ≡ Ok parts
+  pub commands : HasCommands (replay_of w.options) parts.script
   pub appended : ArePlain parts.edges parts.list →
       AppendsReplay (replay_of w.options) parts.edges parts.list parts.script old new
 

@@ -1,7 +1,7 @@
 //! The words of the second command, `hyperball replay`.
 
 ghost use Rattle.std.specs.Prelude.{◌≡◌, Bool, IfOk, codes};
-ghost use Rattle.clap.specs.Words.{App, found_of, rows_of};
+ghost use Rattle.clap.specs.Words.{App, found_of, new_app, rows_of};
 ghost use Rattle.hyperball.specs.CommandLine.{IsApp, replay_app, with_numbers};
 ghost use Rattle.hyperball.specs.Replaying.{AreReplayOptionsOf};
 ghost use Rattle.hyperball.specs.Words.{IsFlag};
@@ -39,9 +39,9 @@ const AFTER: &str = "Example:
     node 1.0 1 open
     row 1 11.780376 0.665022 0.665022 00000000000001000000000000000300
 
-Commands, one on a line, and their answers. P.K is replica K of partition P, which has every
-vertex that leaves P when divided by the number of partitions. M is a message and C a copy, each
-numbered from 0 in the order that they were made; T is a superstep.
+Commands, one on a line with one space between words, and their answers. P.K is replica K of
+partition P, which has every vertex that leaves P when divided by the number of partitions. M is
+a message and C a copy, each numbered from 0 in the order that they were made; T is a superstep.
   send P.K Q      makes a message to partition Q of what changed at the node's superstep:
                   sent M T P Q, how many vertices changed, how many stand in the message
   deliver M P.K   brings a message to a node, once, again or never:
@@ -90,6 +90,16 @@ fn add_plan<'a>(alloc: Global, command: Command<'a>) -> Result<Command<'a>, Allo
     add_option(alloc, command, "limit", LIMIT_HELP, value_parser!(u32))
 }
 
+// The subcommand replay, before it has options.
+fn bare_replay<'a>(alloc: Global) -> Command<'a>
+    ensures { IsApp (new_app (codes "replay")) result }
+{
+    Command::new(alloc, "replay")
+        .about(ABOUT)
+        .long_about(LONG_ABOUT)
+        .after_long_help(AFTER)
+}
+
 /// The subcommand replay, with parsers of estimates and of delimiters.
 pub fn replay_command<'a>(
     alloc: Global,
@@ -99,11 +109,7 @@ pub fn replay_command<'a>(
     ensures { IfOk result (IsApp (replay_app
         (record { estimates = estimates.entry; delimiters = delimiters.entry }))) }
 {
-    let command = Command::new(alloc, "replay")
-        .about(ABOUT)
-        .long_about(LONG_ABOUT)
-        .after_long_help(AFTER);
-    let command = add_plan(alloc, command)?;
+    let command = add_plan(alloc, bare_replay(alloc))?;
     let command = add_option(alloc, command, "estimate", ESTIMATE_HELP, estimates)?;
     let command = add_input(alloc, command, delimiters)?;
     let command = add_option(alloc, command, "replicas", REPLICAS_HELP, value_parser!(u8))?;

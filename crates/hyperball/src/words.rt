@@ -4,7 +4,7 @@ ghost use Rattle.std.specs.Prelude.{◌≡◌, [], Err, IfErr, IfOk, IfSome, Lis
 ghost use Rattle.std.specs.Prelude.{false, is_some, true};
 ghost use Rattle.std.specs.Prelude.{Bool, codes, option_map};
 ghost use Rattle.clap.specs.Words.{App, FailsBy, found_of, has_subcommand, rows_of, rule_of};
-ghost use Rattle.clap.specs.Words.{subcommand_rows_of, with_rule};
+ghost use Rattle.clap.specs.Words.{new_app, subcommand_rows_of, with_rule, with_subcommand};
 ghost use Rattle.clap.specs.declared.error.kind.ErrorKind.{ErrorKind as Kind};
 ghost use Rattle.hyperball.specs.CommandLine.{IsApp, Parsers, TakeNames, TakesNames};
 ghost use Rattle.hyperball.specs.CommandLine.{delimiter_names, estimate_names, hyperball_app, new_hyperball};
@@ -243,6 +243,16 @@ pub fn add_progress<'a>(alloc: Global, command: Command<'a>) -> Result<Command<'
     command.arg(flag(alloc, "progress", PROGRESS_HELP))
 }
 
+// The subcommand run, before it has options.
+fn bare_run<'a>(alloc: Global) -> Command<'a>
+    ensures { IsApp (new_app (codes "run")) result }
+{
+    Command::new(alloc, "run")
+        .about(RUN_ABOUT)
+        .long_about(RUN_LONG_ABOUT)
+        .after_long_help(RUN_AFTER)
+}
+
 // The subcommand run, with parsers of estimates and of delimiters.
 fn run_command<'a>(
     alloc: Global,
@@ -252,11 +262,7 @@ fn run_command<'a>(
     ensures { IfOk result (IsApp (run_app
         (record { estimates = estimates.entry; delimiters = delimiters.entry }))) }
 {
-    let command = Command::new(alloc, "run")
-        .about(RUN_ABOUT)
-        .long_about(RUN_LONG_ABOUT)
-        .after_long_help(RUN_AFTER);
-    let command = add_numbers(alloc, command)?;
+    let command = add_numbers(alloc, bare_run(alloc))?;
     let command = add_option(alloc, command, "estimate", ESTIMATE_HELP, estimates)?;
     let command = add_input(alloc, command, delimiters)?;
     let command = add_nodes(alloc, command)?;
@@ -274,6 +280,19 @@ fn bare_command<'a>(alloc: Global) -> Command<'a>
         .subcommand_required(true)
 }
 
+// The program with the subcommand run alone.
+fn with_run<'a>(
+    alloc: Global,
+    estimates: ValueParser<'a>,
+    delimiters: ValueParser<'a>,
+) -> Result<Command<'a>, AllocError>
+    ensures { IfOk result (IsApp (with_subcommand new_hyperball (run_app
+        (record { estimates = estimates.entry; delimiters = delimiters.entry })).top)) }
+{
+    let run = run_command(alloc, estimates, delimiters)?;
+    bare_command(alloc).subcommand(run)
+}
+
 /// The program's command.
 pub fn command<'a>(alloc: Global) -> Result<Command<'a>, AllocError>
     ensures { IfOk result (λ c.
@@ -281,10 +300,8 @@ pub fn command<'a>(alloc: Global) -> Result<Command<'a>, AllocError>
 {
     let ways = estimates();
     let between = delimiters();
-    let run = run_command(alloc, ways, between)?;
+    let top = with_run(alloc, ways, between)?;
     let replay = replay_command(alloc, ways, between)?;
-    let bare = bare_command(alloc);
-    let top = bare.subcommand(run)?;
     top.subcommand(replay)
 }
 

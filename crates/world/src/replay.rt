@@ -5,7 +5,7 @@ ghost use Rattle.ball_model.specs.Job.{IsJob, job_of};
 ghost use Rattle.ball_model.specs.Input.{IsPlain};
 ghost use Rattle.ball_model.specs.PlanValue.{plan_of};
 ghost use Rattle.ball_model.specs.RunText.{AreRead, plan_over};
-ghost use Rattle.ball_model.specs.WorldText.{AppendsReplay};
+ghost use Rattle.ball_model.specs.WorldText.{AppendsReplay, HasCommands};
 ghost use Rattle.edgelist.specs.Counting.{RefusesList};
 ghost use Rattle.edgelist.specs.Reading.{Refuses};
 ghost use Rattle.world.specs.Replay.{AreCommands, ArePlain, Fails, IsEarly, IsOfInput, IsReady, IsStarted};
@@ -269,10 +269,10 @@ fn prepare(
 /// replica K of partition P, Q a partition, and M and C the numbers of a message and of a copy, from 0 on. Empty lines
 /// and lines that begin with `#` are skipped.
 ///
-/// The errors come in the order of [`ReplayError`]; the whole script is checked before anything is read or written.
-/// After `Memory` and `Write` a beginning of the answers stands, after every other error nothing. `Edges(Read)` is not
-/// answered, and `Write` exactly where a call of the writer failed. What is said of the edge list holds for plain bytes:
-/// no byte order mark at the front, and an LF after each CR.
+/// The errors come in the order of [`ReplayError`]; options and the whole script are checked before anything is read or
+/// written, whatever the edge list is. After `Memory` and `Write` a beginning of the answers stands, after every other
+/// error nothing. `Edges(Read)` is not answered, and `Write` exactly where a call of the writer failed. What is said of
+/// the edge list holds for plain bytes: no byte order mark at the front, and an LF after each CR.
 ///
 /// Memory is the graph, a replica for each node, 32 bytes a command, and what the events keep: the bytes of each
 /// message, a replica's rows for each copy and checkpoint, and the longest line of the answers.
@@ -288,6 +288,7 @@ pub fn replay<W: CountedWrite>(
     ensures ok { ArePlain edges.now (list_in counted.entry) →
         OnOk result (AppendsReplay (replay_of options.now) edges.now (list_in counted.entry)
         script.now (W.contents writer.old) (W.contents writer.new)) }
+    ensures commands { OnOk result (HasCommands (replay_of options.now) script.now) }
     ensures counted { OnOk result (W.failed_calls writer.new ≡ W.failed_calls writer.old) }
     ensures failed { IfErr result (Fails (replay_of options.now) edges.now (list_in counted.entry)
         script.now (W.contents writer.old) (W.contents writer.new)

@@ -1,13 +1,12 @@
-use Rattle.std.proofs.Common.{codes, rules}
+use Rattle.std.proofs.Common.{codes}
 use Rattle.clap.specs.Words.{new_app}
-use Rattle.hyperball.specs.CommandLine.{IsApp, run_app, with_estimate, with_numbers}
+use Rattle.hyperball.specs.CommandLine.{run_app, with_estimate, with_numbers}
 use Rattle.hyperball.proofs.words.run_command.Goals as goal
 
 pub returns : goal.returns
 unfolding run_app
 returns c =
-    let start : IsApp (new_app (codes "run")) c.after_long_help-command.result = record { form = search rules; local = search rules } in
-    let numbers = c.in_ok-command.ensures (new_app (codes "run")) start in
+    let numbers = c.in_ok-command.ensures (new_app (codes "run")) c.bare_run.ensures in
     let estimate = c.in_ok-command-2.ensures (with_numbers (new_app (codes "run"))) numbers in
     let input = c.in_ok-command-3.ensures (with_estimate c.args.estimates (with_numbers (new_app (codes "run")))) estimate in
     let nodes = c.in_ok-command-4.ensures _ input in

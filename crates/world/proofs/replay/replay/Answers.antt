@@ -20,3 +20,8 @@ pub returns-clause-counted : goal.returns-clause-counted
 returns-clause-counted g c =
     let ready = subst (λ (es : List Event). IsReady (replay_of c.args.options.now) c.args.edges.now (list_in c.args.counted) c.args.script.now es c.in_ok-events.world) (sym c.deref.ensures.value) c.in_ok-events.ensures.ok in
     told-counted g.W.Write.contents g.W.CountedWrite.failed_calls c.args.writer.now c.tell_events.new.writer (replay_of c.args.options.now) c.args.edges.now (list_in c.args.counted) c.args.script.now c.deref.result.now c.in_ok-events.world ready c.in_ok-tell_events.ensures
+
+pub returns-clause-commands : goal.returns-clause-commands
+returns-clause-commands g c =
+    let ready = c.in_ok-events.ensures.ok in
+    record { replicas = ready.commands.replicas; events = _; commands = ready.commands.commands }
