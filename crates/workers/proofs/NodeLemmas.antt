@@ -1,5 +1,5 @@
 -- How a node ends, by the fate of its replica.
-use Rattle.std.proofs.Common.{◌≡◌, ◌≢◌, ◌∙◌, ℕ, ◌<◌, arith, refl, sym, subst}
+use Rattle.std.proofs.Common.{◌≡◌, ◌≢◌, ◌∙◌, ℕ, ◌<◌, arith, sym}
 use Rattle.std.specs.Prelude.{Option, Result, Ok, Err, IfOk, IfErr, OnOk, OnErr}
 use Rattle.ball_model.specs.Caller.{Caller, IsFull}
 use Rattle.ball_model.specs.Held.{start_holding}

@@ -1,4 +1,4 @@
-use Rattle.std.proofs.Common.{◌≡◌, ◌∙◌, ℕ, refl, sym, subst}
+use Rattle.std.proofs.Common.{◌∙◌, ℕ, refl, sym, subst}
 use Rattle.ball_model.specs.Caller.{Caller}
 use Rattle.workers.specs.declared.turn.Turn.{Turn}
 use Rattle.workers.specs.Node.{FallsDue}

@@ -1,4 +1,4 @@
-use Rattle.std.proofs.Common.{◌≡◌, ℕ, sym, subst}
+use Rattle.std.proofs.Common.{ℕ, sym, subst}
 use Rattle.ball_model.specs.Caller.{Caller}
 use Rattle.ball_model.specs.State.{State}
 use Rattle.workers.specs.declared.turn.Found.{Found}
