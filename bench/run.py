@@ -1,12 +1,17 @@
 #!/usr/bin/env python3
 """Measures ./hyperball run: records read a second, total time, peak memory.
 
-Usage: bench/run.py [RECORDS ..]      (100000, 1000000 and 5000000 where none is given)
+Usage: bench/run.py [--parts N] [RECORDS ..]      (100000, 1000000 and 5000000 where none is given)
 
 Each line is the best of three runs over one generated edge list (bench/generate.py). Reading is timed by a run that
 ends after it: with --log2m 3, which no plan allows, the edge list is read, numbered and sorted, and the run then
 refuses the plan.
+
+With --parts N the vertices are dealt out to N partitions, from 1 to 64, of a thread each: against --parts 1, which is
+what the program does where nothing is said, it shows what the supersteps gain by more processors, and what that costs in
+memory. The graph is read by one thread in any case.
 """
+import argparse
 import os
 import subprocess
 import sys
@@ -45,10 +50,21 @@ def supersteps(path):
     return vertices, end
 
 
+def asked():
+    """The number of partitions and the sizes, by the command line."""
+    words = argparse.ArgumentParser(description=__doc__, formatter_class=argparse.RawDescriptionHelpFormatter)
+    words.add_argument("--parts", type=int, default=1, metavar="N")
+    words.add_argument("records", type=int, nargs="*", metavar="RECORDS")
+    given = words.parse_args()
+    if not 1 <= given.parts <= 64:
+        words.error("--parts is from 1 to 64")
+    return given.parts, given.records or [100_000, 1_000_000, 5_000_000]
+
+
 def main():
+    parts, sizes = asked()
     subprocess.run([PROGRAM, "--help"], stdout=subprocess.DEVNULL, check=True)
-    sizes = [int(word) for word in sys.argv[1:]] or [100_000, 1_000_000, 5_000_000]
-    print("kind       records    vertices  end  read/s     log2m  total s  peak MiB  MiB beside rows")
+    print("kind       records    vertices  end  read/s     parts  log2m  total s  peak MiB  MiB beside rows")
     for kind in ("power-law", "web"):
         for records in sizes:
             with tempfile.NamedTemporaryFile() as edges:
@@ -56,9 +72,9 @@ def main():
                 vertices, end = supersteps(edges.name)
                 reading, _ = best(["--log2m", "3"], edges.name)
                 for log2m in (4, 8):
-                    total, peak = best(["--log2m", str(log2m)], edges.name)
+                    total, peak = best(["--parts", str(parts), "--log2m", str(log2m)], edges.name)
                     beside = peak - 2 * vertices * 2**log2m / 2**20
-                    print(f"{kind:<10} {records:<10} {vertices:<9} {end:<4} {records / reading:<10.0f} {log2m:<6} {total:<8.2f} {peak:<9.0f} {beside:.0f}", flush=True)
+                    print(f"{kind:<10} {records:<10} {vertices:<9} {end:<4} {records / reading:<10.0f} {parts:<6} {log2m:<6} {total:<8.2f} {peak:<9.0f} {beside:.0f}", flush=True)
 
 
 main()

@@ -1,10 +1,8 @@
 -- What is noted of the ends of nodes, one after the other, is what there is to note of all.
 use Rattle.std.proofs.Common.{◌≡◌, ℕ, ◌+◌, Bool, true, false, ◌||◌, ◌&&◌, if◌then◌else◌, List, [], ◌∷◌, refl, sym, ap, ◌∙◌}
 use Rattle.std.specs.Prelude.{Option, None, Some, Result}
-use Rattle.std.specs.List.{list_all, list_any}
-use Rattle.ball_model.specs.declared.names.NodeId.{NodeId}
+use Rattle.std.specs.List.{list_any}
 use Rattle.workers.specs.declared.ends.Faults.{Faults}
-use Rattle.workers.specs.declared.ends.Waiting.{Waiting}
 use Rattle.workers.specs.declared.node.NodeEnd.{NodeEnd}
 use Rattle.workers.specs.declared.node.NodeError.{NodeError}
 use Rattle.workers.specs.Ends.{all_lost, faults_in, first_of, first_waiting, found_full, is_lost, lacked_memory, least_lost, least_waiting, no_faults, waited, with_end, with_part}

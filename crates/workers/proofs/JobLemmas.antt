@@ -1,7 +1,7 @@
 -- The nodes of a job: their threads, their ends, and what is put together of these.
-use Rattle.std.proofs.Common.{◌≡◌, ◌≢◌, ◌≤◌, ◌<◌, ◌+◌, ◌-◌, ◌*◌, ◌/◌, ◌^◌, ℕ, zero, suc, List, [], ◌∷◌, ◌++◌, length, Bool, true, false, ◌&&◌, refl, sym, ap, ◌∙◌, subst, arith, inl, inr, ◌⊎◌, slice_index_or, length-append}
+use Rattle.std.proofs.Common.{◌≡◌, ◌<◌, ◌+◌, ◌-◌, ◌/◌, ℕ, zero, suc, List, [], ◌∷◌, ◌++◌, length, Bool, true, false, ◌&&◌, refl, sym, ap, ◌∙◌, subst, arith, inl, inr, slice_index_or, length-append}
 use Rattle.std.specs.Prelude.{Option, None, Some, IfSome, IfOk, is_some, Result}
-use Rattle.std.proofs.lemmas.Bool.{cases_eq, and_from}
+use Rattle.std.proofs.lemmas.Bool.{cases_eq}
 use Rattle.ball_model.specs.Caller.{Caller, IsCaller}
 use Rattle.ball_model.specs.Job.{Job}
 use Rattle.ball_model.specs.State.{State}
@@ -13,7 +13,7 @@ use Rattle.workers.specs.declared.options.RunOptions.{RunOptions}
 use Rattle.workers.specs.declared.told.Told.{Told}
 use Rattle.workers.specs.Node.{IfDone, IsDone}
 use Rattle.workers.specs.Options.{order_for, orders_for}
-use Rattle.workers.specs.Job.{AreDone, AreEnds, AreNoted, AreStarted, EachAt, HasSplit, IsPartEnd, IsPartStarted, IsPartitionLost, IsTold, KeepsItsOrders}
+use Rattle.workers.specs.Job.{AreDone, AreEnds, AreNoted, AreStarted, EachAt, HasSplit, IsPartEnd, IsPartStarted, IsTold, KeepsItsOrders}
 
 -- ---- lists whose elements have what their places say
 pub each_push : {A : Type 0} (has : ℕ → A → Type 0) (k : ℕ) (xs : List A) (x : A) → EachAt has k xs → has (k + length xs) x → EachAt has k (xs ++ x ∷ [])

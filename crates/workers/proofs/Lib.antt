@@ -1,6 +1,7 @@
 pub mod Crossing
 pub mod EndsLemmas
 pub mod JobLemmas
+pub mod NodeLemmas
 pub mod PathLemmas
 pub mod ReadyLemmas
 pub mod SeenLemmas

@@ -1,24 +1,23 @@
 -- The path of a node: what it holds, from call to call.
 use Rattle.std.proofs.Common.{◌≡◌, ◌≢◌, ℕ, ◌<◌, false, List, [], ◌∷◌, ◌++◌, refl, sym, ap, ◌∙◌, subst, inl, inr, arith, append_assoc, append-nil}
 use Rattle.std.proofs.lemmas.Bool.{cases_eq}
-use Rattle.std.specs.Prelude.{⊤, Option, None, Some, IfNone, Result, Ok, Err, OnOk, OnErr}
+use Rattle.std.specs.Prelude.{Option, None, Some, IfNone, Result, Ok, Err, OnErr}
 use Rattle.ball_model.specs.declared.names.BatchName.{BatchName}
 use Rattle.ball_model.specs.declared.names.Taken.{Taken}
 use Rattle.ball_model.specs.declared.names.TakeError.{TakeError}
 use Rattle.ball_model.specs.declared.names.CloseError.{CloseError}
-use Rattle.ball_model.specs.declared.names.MergeError.{MergeError}
 use Rattle.ball_model.specs.PlanValue.{PlanValue}
 use Rattle.ball_model.specs.Job.{Job}
 use Rattle.ball_model.specs.Batches.{BatchValue, true_batch}
 use Rattle.ball_model.specs.Content.{Content}
 use Rattle.ball_model.specs.Join.{Holding, content_in, holding_of, join_of}
-use Rattle.ball_model.specs.State.{State, StandsFor, content_of, further}
+use Rattle.ball_model.specs.State.{State, StandsFor, content_of}
 use Rattle.ball_model.specs.Steps.{Call, Answer, Take, Close, Took, Closed, start_content, content_after, answers_of, content_after_all}
 use Rattle.ball_model.specs.Held.{start_holding, held_after}
-use Rattle.ball_model.specs.History.{Event, Post, Fetch, Keep, Recall, Drop, History, calls_by, holding_in}
+use Rattle.ball_model.specs.History.{Event, History, calls_by, holding_in}
 use Rattle.ball_model.specs.Caller.{Caller, Extends, Called, CalledNothing}
 use Rattle.ball_model.proofs.JoinLemmas.{content_back}
-use Rattle.replica.specs.Merged.{Absorbs, HoldsOfBoth, ShowsAs}
+use Rattle.replica.specs.Merged.{Absorbs}
 use Rattle.replica.specs.Runs.{HasContent, Takes, Closes, Did, Made}
 use Rattle.replica.specs.Seen.{IsState}
 use Rattle.replica.specs.Sent.{batch_name}
@@ -27,7 +26,7 @@ use Rattle.replica.proofs.KeptLemmas.{true_named}
 use Rattle.replica.proofs.LevelLemmas.{plan_is, number_is}
 use Rattle.replica.proofs.RunLemmas.{has_content, made}
 use Rattle.replica.proofs.SameLemmas.{content_is_one}
-use Rattle.workers.specs.Tie.{Step, Calls, Closes as ClosesUp, StartsAnew, after_call, after_step, after_steps, IsOwnName, IsOwnCall, IsOwnStep, AreOwnSteps, calls_in, HasCome, HasGone, IsPath, IsPathTo, Reaches, AreOfNode, IsRun, PathsAreOfNodes, ReplicasAreOfRuns}
+use Rattle.workers.specs.Tie.{Step, Calls, Closes as ClosesUp, StartsAnew, after_call, after_step, after_steps, IsOwnName, IsOwnCall, IsOwnStep, AreOwnSteps, calls_in, HasCome, HasGone, IsPathTo, Reaches, AreOfNode, IsRun, PathsAreOfNodes, ReplicasAreOfRuns}
 use Rattle.workers.proofs.TieLemmas.{histories_are_runs}
 use Rattle.workers.proofs.TurnLemmas.{name_of_true}
 

@@ -1,6 +1,6 @@
 -- Replicas of all partitions at the end of their run, of which there is a report.
-use Rattle.std.proofs.Common.{◌≡◌, ℕ, suc, ◌+◌, ◌<◌, ◌≤◌, [], ◌∷◌, Bool, true, ◌&&◌, ◌==◌, List, length, slice_index_or, refl, ap, arith, sym, ◌∙◌, subst, inl, inr, ◌⊎◌}
-use Rattle.std.specs.Prelude.{Option, Some}
+use Rattle.std.proofs.Common.{◌≡◌, ℕ, ◌+◌, ◌<◌, ◌≤◌, [], ◌∷◌, Bool, true, ◌&&◌, ◌==◌, List, length, slice_index_or, refl, ap, arith, sym, ◌∙◌, subst, inl, inr}
+use Rattle.std.specs.Prelude.{Option}
 use Rattle.std.proofs.lemmas.Bool.Decides.{nat_tests}
 use Rattle.std.proofs.lemmas.Bool.{and_from, eq-eqb}
 use Rattle.ball_model.specs.declared.names.Verdict.{Verdict}

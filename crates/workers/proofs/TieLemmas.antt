@@ -1,12 +1,11 @@
 -- A legal history of nodes is a run of a world: where a caller's call sends or copies something, its node is started
 -- anew, and does again what the caller did before. Messages and copies never go away, so it finds all that it needs.
-use Rattle.std.proofs.Common.{◌≡◌, ◌≢◌, ◌⊎◌, ⊎_elim, ℕ, zero, suc, ◌+◌, ◌<◌, ◌≤◌, Bool, true, false, not, ◌==◌, ◌&&◌, ◌||◌, nat_lt, if◌then◌else◌, List, [], ◌∷◌, ◌++◌, map, get_or, replicate, refl, ap, sym, ◌∙◌, subst, inl, inr, arith, append_assoc, append-nil}
-use Rattle.std.specs.Prelude.{⊤, Option, None, Some, IfSome, option_map, Result, Ok, Err}
+use Rattle.std.proofs.Common.{◌≡◌, ◌≢◌, ⊎_elim, ℕ, zero, suc, ◌+◌, ◌<◌, Bool, true, false, not, ◌==◌, ◌&&◌, nat_lt, if◌then◌else◌, List, [], ◌∷◌, ◌++◌, map, get_or, replicate, refl, ap, sym, ◌∙◌, subst, inl, inr, arith, append_assoc, append-nil}
+use Rattle.std.specs.Prelude.{⊤, Option, None, Some, IfSome, option_map, Ok}
 use Rattle.std.specs.List.{range_with_len, slice_get}
-use Rattle.std.proofs.lemmas.Bool.{cases_eq, and_parts, and_from, or_cases, eqb-true, eqb-false, eq-eqb, ne_eqb, lt-ltb, not_from_false}
+use Rattle.std.proofs.lemmas.Bool.{and_parts, and_from, or_cases, eqb-true, eq-eqb, ne_eqb, lt-ltb, not_from_false}
 use Rattle.ball_model.specs.declared.names.BatchName.{BatchName}
 use Rattle.ball_model.specs.declared.names.NodeId.{NodeId}
-use Rattle.ball_model.specs.declared.names.MergeError.{MergeError}
 use Rattle.ball_model.specs.declared.history.Posted.{Posted}
 use Rattle.ball_model.specs.declared.history.Posted.TheVariants as posted
 use Rattle.ball_model.specs.declared.history.Kept.{Kept}
@@ -18,13 +17,13 @@ use Rattle.ball_model.specs.Job.{Job}
 use Rattle.ball_model.specs.Join.{Holding, join_of, merge_of}
 use Rattle.ball_model.specs.Steps.{Take, Close}
 use Rattle.ball_model.specs.Held.{start_holding, held_after, IsHeldBy}
-use Rattle.ball_model.specs.History.{Event, Post, Fetch, Keep, Recall, Drop, Entry, History, entry, Object, empty, IsLegal, AreAnswers, IsAnswer, after, after_all, calls_by, events_by, is_new_post, is_new_keep, same_name}
+use Rattle.ball_model.specs.History.{Event, Post, Fetch, Keep, Recall, Drop, Entry, History, entry, Object, empty, AreAnswers, IsAnswer, after, after_all, calls_by, events_by, is_new_post, is_new_keep, same_name}
 use Rattle.ball_model.specs.World.{Node, World, start_node, start_world, node_at, with_node, node_of, name_to, outcome_at, outcome_unless, send_at, recover_when, recover_at, deliver_at, world_in, after_event, run_of}
-use Rattle.ball_model.specs.WorldLaws.{IsNode, IsWorld}
-use Rattle.ball_model.proofs.HistoryLemmas.{same_name-true, events_by-append, answers-front, answers-rest, after_all-append}
+use Rattle.ball_model.specs.WorldLaws.{IsWorld}
+use Rattle.ball_model.proofs.HistoryLemmas.{same_name-true, events_by-append, after_all-append}
 use Rattle.ball_model.proofs.WorldLemmas.{node_same, node_other, same_or_other, node_is_one, run_stays, start_is_world}
 use Rattle.replica.proofs.RunLemmas.{same_plan-self}
-use Rattle.workers.specs.Tie.{Step, Calls, Closes, StartsAnew, after_call, after_step, after_steps, IsOwnName, IsOwnCall, IsOwnStep, AreOwnSteps, calls_in, Reaches, AreOfNode, sent_by, copied_by, sent_in, copied_in, ComesTo, CanHold, IsRun, HistoriesAreRuns}
+use Rattle.workers.specs.Tie.{Step, Calls, Closes, StartsAnew, after_call, after_steps, IsOwnName, IsOwnCall, AreOwnSteps, calls_in, Reaches, AreOfNode, sent_by, copied_by, sent_in, copied_in, ComesTo, CanHold, HistoriesAreRuns}
 
 -- ---- lists
 -- an element of a list

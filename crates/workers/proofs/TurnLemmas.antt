@@ -1,11 +1,11 @@
 -- A replica of the caller's job, from call to call.
-use Rattle.std.proofs.Common.{◌≡◌, ◌≢◌, ◌⊎◌, ⊎_elim, ℕ, ◌+◌, ◌<◌, ◌≤◌, Bool, true, false, not, ◌==◌, ◌&&◌, Option, Some, None, IfSome, IfNone, refl, sym, ap, ◌∙◌, subst, arith, max}
+use Rattle.std.proofs.Common.{◌≡◌, ◌≢◌, ◌⊎◌, ⊎_elim, ℕ, ◌<◌, true, false, not, ◌==◌, ◌&&◌, Option, Some, IfSome, sym, ap, ◌∙◌, subst, arith}
 use Rattle.std.proofs.lemmas.Bool.{and_parts, not-true, eqb-false}
 use Rattle.ball_model.specs.declared.names.BatchName.{BatchName}
 use Rattle.ball_model.specs.declared.names.Verdict.{Verdict}
 use Rattle.ball_model.specs.declared.names.Verdict.TheVariants as verdict
 use Rattle.ball_model.specs.declared.history.Posted.{Posted}
-use Rattle.ball_model.specs.Job.{Job}
+use Rattle.ball_model.specs.Job.{IsJob, Job, PartValue, part_of}
 use Rattle.ball_model.specs.PlanValue.{PlanValue}
 use Rattle.ball_model.specs.Batches.{BatchValue, true_batch}
 use Rattle.ball_model.specs.Content.{missing_of}
@@ -22,7 +22,7 @@ use Rattle.report.proofs.EndingLemmas.{is_ended}
 use Rattle.workers.specs.declared.turn.Turn.{Turn}
 use Rattle.workers.specs.declared.turn.Turn.TheVariants as turn
 use Rattle.workers.specs.Node.{HasPosted, HasToldAll, IsDone}
-use Rattle.workers.specs.Turn.{IsTurn, StandsIn}
+use Rattle.workers.specs.Turn.{IsPartOf, IsTurn, StandsIn}
 use Rattle.workers.proofs.SeenLemmas.{posted_by_call}
 
 -- ---- the job stays
@@ -31,6 +31,13 @@ stands_later v w p r e h = subst (λ (j : Job). StandsFor j p r.superstep r) (sy
 
 pub stands_back : (v w : Caller) (p : ℕ) (r : State) → Extends v w → StandsIn w p r → StandsIn v p r
 stands_back v w p r e h = subst (λ (j : Job). StandsFor j p r.superstep r) e.begins.job h
+
+pub part_later : (v w : Caller) (p : ℕ) (x : PartValue) → Extends v w → IsPartOf v p x → IsPartOf w p x
+part_later v w p x e h = record {
+  job = subst IsJob (sym e.begins.job) h.job;
+  below = subst (λ (j : Job). p < j.plan.parts) (sym e.begins.job) h.below;
+  part = subst (λ (j : Job). x ≡ part_of j p) (sym e.begins.job) h.part;
+}
 
 -- it stands at the superstep that it is at
 pub stands_at : (j : Job) (p t : ℕ) (r : State) → StandsFor j p t r → StandsFor j p r.superstep r

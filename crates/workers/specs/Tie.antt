@@ -1,5 +1,5 @@
 -- The tie of a board's history to a world: what a node does at its board is what a node of a world does.
-use Rattle.std.specs.Prelude.{◌≡◌, ◌≢◌, ⊤, ℕ, ◌<◌, ◌≤◌, List, [], ◌∷◌, ◌++◌, Some, option_map, if◌then◌else◌}
+use Rattle.std.specs.Prelude.{◌≡◌, ◌≢◌, ⊤, ℕ, ◌<◌, List, [], ◌∷◌, ◌++◌, Some, option_map, if◌then◌else◌}
 use mathlib.Core.List.{IsPrefix}
 use Rattle.ball_model.specs.declared.names.BatchName.{BatchName}
 use Rattle.ball_model.specs.declared.names.NodeId.{NodeId}

@@ -1,14 +1,18 @@
 -- A superstep of a node, and how the node's replica fares.
-use Rattle.std.specs.Prelude.{◌≡◌, ◌≢◌, ⊤, ℕ, ◌<◌, ◌-◌, ◌⊎◌, max, Option, None}
-use Rattle.ball_model.specs.Job.{IsJob, PartValue, part_of}
+use Rattle.std.specs.Prelude.{◌≡◌, ◌≢◌, ⊤, ℕ, ◌<◌, ◌-◌, ◌⊎◌, max, Option, None, Some, Result, Ok, Err}
+use Rattle.ball_model.specs.Job.{IsJob, Job, PartValue, part_of}
 use Rattle.ball_model.specs.State.{State, StandsFor}
 use Rattle.ball_model.specs.Caller.{Called, CalledNothing, Caller}
-use Rattle.ball_model.specs.History.{Drop, Recall}
+use Rattle.ball_model.specs.History.{Drop, Recall, holding_in}
+use Rattle.ball_model.specs.Held.{start_holding}
 use Rattle.ball_model.specs.Join.{Holding}
 use Rattle.replica.specs.Level.{EndsRun, found_verdict, missing_in}
 use Rattle.replica.specs.Sent.{batch_name}
 use Rattle.workers.specs.declared.node.Fate.{Fate}
 use Rattle.workers.specs.declared.node.Fate.TheVariants as fate
+use Rattle.workers.specs.declared.node.NodeEnd.{NodeEnd}
+use Rattle.workers.specs.declared.node.NodeEnd.TheVariants as ends
+use Rattle.workers.specs.declared.node.NodeError.{NodeError}
 use Rattle.workers.specs.declared.turn.Found.{Found}
 use Rattle.workers.specs.declared.turn.Found.TheVariants as found
 use Rattle.workers.specs.declared.turn.Turn.{Turn}
@@ -30,6 +34,11 @@ pub record WasWaiting (v : Caller) (s q p : ℕ) (w : Caller) : Type 0 where
   pub missing : WasMissing v (batch_name s q p) w
   pub below : q < v.seen.job.plan.parts
   pub other : q ≢ p
+
+-- a replica of partition p at superstep 0, which holds what a node holds at its start
+pub record IsFirst (j : Job) (p : ℕ) (r : State) : Type 0 where
+  pub stands : StandsFor j p 0 r
+  pub held : holding_in r ≡ start_holding j.plan p
 
 -- what a replica, of such a superstep before, has found: its level is held; it is at a further superstep; or a batch
 -- of the level is missing
@@ -54,6 +63,19 @@ IsFate v p lose r fate.Done w =
     HasToldAll v r.superstep p w × (IsDone v.seen.job p r × (FallsDue lose r.superstep → ⊥))
 IsFate v p lose r (fate.Lost s) w = FallsDue lose s
 IsFate v p lose r (fate.Starved s q) w = HasStarved v s q p w
+
+-- how a node ends by a fate that is not to reach the end of the run
+abbrev pub early_end : Fate → Option NodeEnd
+early_end fate.Done = None
+early_end (fate.Lost s) = Some (ends.Lost s)
+early_end (fate.Starved s q) = Some (ends.Starved s q)
+
+-- how a node ends by the fate of its replica, or by the fault that it met
+abbrev pub end_with : Result Fate NodeError → State → Result NodeEnd NodeError
+end_with (Ok fate.Done) r = Ok (ends.Done r)
+end_with (Ok (fate.Lost s)) r = Ok (ends.Lost s)
+end_with (Ok (fate.Starved s q)) r = Ok (ends.Starved s q)
+end_with (Err e) r = Err e
 
 -- at superstep s the caller drops the batches before the last superstep, or makes no call
 abbrev pub DropsBefore : Caller → ℕ → Caller → Type 0

@@ -1,14 +1,14 @@
 //! One node: a replica of a partition, from superstep 0 to its end.
 
-ghost use Rattle.std.specs.Prelude.{◌≡◌, ◌≢◌, ◌<◌, ◌≤◌, true, false, IfOk, OnErr, OnOk, IfErr, Err, None};
+ghost use Rattle.std.specs.Prelude.{◌≡◌, ◌≢◌, ◌<◌, ◌≤◌, ℕ, true, false, IfOk, OnErr, OnOk, IfErr, Err, None};
 ghost use Rattle.std.specs.Arc.{arc_value};
 ghost use Rattle.ball_model.specs.History.{holding_in};
-ghost use Rattle.ball_model.specs.Job.{IsJob, part_of};
+ghost use Rattle.ball_model.specs.Job.{IsJob, Job, part_of};
 ghost use Rattle.ball_model.specs.Caller.{Extends, IsCaller, IsFull};
-ghost use Rattle.workers.specs.declared.node.NodeError.TheVariants.{BookFull};
+ghost use Rattle.workers.specs.declared.node.NodeError.TheVariants.{BookFull, Memory};
 ghost use Rattle.workers.specs.Node.{FallsDue, HasToldAll, IfDone, IfLost, IfStarved, IsDone, WasMissing};
 ghost use Rattle.workers.specs.Tie.{HasCome, HasGone, IsPath, IsPathTo};
-ghost use Rattle.workers.specs.Turn.{IsAnew, IsFate, IsPartOf, StandsIn};
+ghost use Rattle.workers.specs.Turn.{IsAnew, IsFate, IsFirst, IsPartOf, StandsIn, early_end, end_with};
 ghost use Rattle.replica.specs.Sent.{batch_name};
 
 use crate::exchange::Exchange;
@@ -18,7 +18,7 @@ use ball_model::NodeId;
 use board::BoardError;
 use edgelist::Part;
 use replica::{Replica, Shown};
-use std::alloc::{AllocError, AllocGlobal};
+use std::alloc::{AllocError, AllocGlobal, Global};
 use std::sync::{Arc, Wait};
 use thiserror::Error;
 
@@ -105,6 +105,25 @@ fn falls_due(order: Option<u32>, superstep: u32) -> bool
     }
 }
 
+// A new replica of a part.
+fn first_replica(alloc: Global, part: &Arc<Part>) -> Result<Replica, NodeError>
+    ensures first { (j : Job) (p : ℕ) → IsJob j → p < j.plan.parts → arc_value part.now ≡ part_of j p →
+        IfOk result (IsFirst j p) }
+    ensures memory { IfErr result (λ e. e ≡ Memory) }
+{
+    Ok(Replica::new(alloc, Arc::try_clone(part)?)?)
+}
+
+// A new replica of a part takes the place of the old one.
+fn renew(alloc: Global, part: &Arc<Part>, replica: &mut Replica) -> Result<(), NodeError>
+    ensures first { (j : Job) (p : ℕ) → IsJob j → p < j.plan.parts → arc_value part.now ≡ part_of j p →
+        OnOk result (IsFirst j p replica.new) }
+    ensures memory { IfErr result (λ e. e ≡ Memory) }
+{
+    *replica = first_replica(alloc, part)?;
+    Ok(())
+}
+
 // A new replica takes the place of the old one, with what is kept for the partition.
 fn begin_anew<R: AllocGlobal + Wait, E: Exchange>(
     rt: &R,
@@ -125,7 +144,7 @@ fn begin_anew<R: AllocGlobal + Wait, E: Exchange>(
         (E.caller exchange.new)) }
     ensures full { IfErr result (λ e. e ≡ BookFull → IsFull (E.caller exchange.new)) }
 {
-    *replica = Replica::new(rt.alloc(), Arc::try_clone(part)?)?;
+    renew(rt.alloc(), part, replica)?;
     catch_up(rt, exchange, node, 0, replica)?;
     Ok(())
 }
@@ -178,6 +197,24 @@ fn go_on<R: AllocGlobal + Wait, E: Exchange, G: Gate>(
     unreachable!()
 }
 
+// How a node ended whose replica is not at the end of the run.
+fn early_end(fate: Fate) -> Option<NodeEnd>
+    ensures { result ≡ early_end fate }
+{
+    match fate {
+        Fate::Done => None,
+        Fate::Lost { superstep } => Some(NodeEnd::Lost { superstep }),
+        Fate::Starved { superstep, source } => Some(NodeEnd::Starved { superstep, source }),
+    }
+}
+
+// How a node ended, by the fate of its replica.
+fn end_with(fate: Result<Fate, NodeError>, replica: Replica) -> Result<NodeEnd, NodeError>
+    ensures { result ≡ end_with fate replica }
+{
+    Ok(early_end(fate?).unwrap_or(NodeEnd::Done(replica)))
+}
+
 /// Runs a node of a partition, from superstep 0 to its end.
 ///
 /// At each superstep it is lost or starts anew where an order falls due, keeps a snapshot, tells every other partition
@@ -222,11 +259,7 @@ pub fn run_node<R: AllocGlobal + Wait, E: Exchange, G: Gate>(
     ensures alone_fits { (E.caller exchange.old).seen.job.plan.parts ≡ 1 → orders.now.keep ≡ 0 →
         orders.now.restart ≡ None → result ≢ Err BookFull }
 {
-    let mut replica = Replica::new(rt.alloc(), Arc::try_clone(&part)?)?;
-    let fate = go_on(rt, exchange, gate, node, &part, orders, &mut replica)?;
-    Ok(match fate {
-        Fate::Done => NodeEnd::Done(replica),
-        Fate::Lost { superstep } => NodeEnd::Lost { superstep },
-        Fate::Starved { superstep, source } => NodeEnd::Starved { superstep, source },
-    })
+    let mut replica = first_replica(rt.alloc(), &part)?;
+    let fate = go_on(rt, exchange, gate, node, &part, orders, &mut replica);
+    end_with(fate, replica)
 }

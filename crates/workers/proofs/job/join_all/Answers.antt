@@ -1,6 +1,6 @@
-use Rattle.std.proofs.Common.{ℕ, List, subst, sym}
+use Rattle.std.proofs.Common.{subst, sym}
 use Rattle.std.specs.Vec.Iter.{into_iter_items}
-use Rattle.workers.proofs.JobLemmas.{JoiningAll, all_joined, all_more, all_start}
+use Rattle.workers.proofs.JobLemmas.{JoiningAll, all_more}
 use Rattle.workers.proofs.job.join_all.Goals as goal
 
 pub loop-own-preserved : goal.loop-own-preserved

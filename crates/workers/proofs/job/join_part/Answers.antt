@@ -1,6 +1,6 @@
-use Rattle.std.proofs.Common.{ℕ, List, subst, sym}
+use Rattle.std.proofs.Common.{subst, sym}
 use Rattle.std.specs.Vec.Iter.{into_iter_items}
-use Rattle.workers.proofs.JobLemmas.{Joining, joined, joining_more, joining_start}
+use Rattle.workers.proofs.JobLemmas.{Joining, joining_more}
 use Rattle.workers.proofs.job.join_part.Goals as goal
 
 pub loop-child-preserved : goal.loop-child-preserved

@@ -1,4 +1,4 @@
-use Rattle.std.proofs.Common.{ℕ, arith}
+use Rattle.std.proofs.Common.{arith}
 use Rattle.ball_model.specs.Job.{Job, job_of}
 use Rattle.workers.specs.Job.{IsPartEnd}
 use Rattle.workers.proofs.JobLemmas.{each_is}

@@ -1,4 +1,4 @@
-use Rattle.std.proofs.Common.{◌≡◌, ◌+◌, ◌*◌, length}
+use Rattle.std.proofs.Common.{◌*◌}
 use Rattle.ball_model.specs.Job.{Job, job_of}
 use Rattle.workers.specs.Job.{HasSplit}
 use Rattle.workers.proofs.JobLemmas.{StartingAll}

@@ -1,6 +1,5 @@
 use Rattle.std.proofs.Common.{◌≡◌, ◌+◌, ◌*◌, ℕ, arith, ap, refl, subst, sym}
 use Rattle.ball_model.specs.Job.{Job, job_of}
-use Rattle.edgelist.specs.declared.graph.Graph.{Graph}
 use Rattle.workers.specs.Job.{HasSplit, IsTold}
 use Rattle.workers.proofs.JobLemmas.{Starting, some_weaker, split_more, starting_more}
 use Rattle.workers.proofs.job.start_part.Goals as goal

@@ -1,6 +1,6 @@
-use Rattle.std.proofs.Common.{◌≡◌, ◌+◌, ◌*◌, length}
+use Rattle.std.proofs.Common.{◌+◌, ◌*◌}
 use Rattle.ball_model.specs.Job.{Job, job_of}
-use Rattle.workers.specs.Job.{EachAt, HasSplit, IsTold}
+use Rattle.workers.specs.Job.{HasSplit}
 use Rattle.workers.proofs.JobLemmas.{Starting}
 use Rattle.workers.proofs.job.start_part.Given as goal
 

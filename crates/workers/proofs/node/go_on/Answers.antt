@@ -1,11 +1,11 @@
-use Rattle.std.proofs.Common.{◌≡◌, ◌∙◌, ℕ, refl, sym, subst}
+use Rattle.std.proofs.Common.{◌∙◌, ℕ, refl, sym, subst}
 use Rattle.ball_model.specs.Caller.{Caller}
 use Rattle.workers.specs.declared.turn.Turn.{Turn}
 use Rattle.workers.specs.Node.{FallsDue}
 use Rattle.workers.specs.Turn.{HasStarved, IsTurn}
 use Rattle.workers.proofs.PathLemmas.{come_nowhere, come_then, gone_then, on_err}
-use Rattle.workers.proofs.SeenLemmas.{extends_self, extends_trans, starved_before, told_before}
-use Rattle.workers.proofs.TurnLemmas.{done_of, stands_back}
+use Rattle.workers.proofs.SeenLemmas.{caller_of, extends_self, extends_trans, starved_before, told_before}
+use Rattle.workers.proofs.TurnLemmas.{done_of, part_later, stands_back, stands_later}
 use Rattle.workers.proofs.node.go_on.Goals as goal
 
 pub returns-in-Over-clause-fate : goal.returns-in-Over-clause-fate
@@ -69,3 +69,39 @@ loop-preserved g c =
       i.2,
       come_then v u _ _ _ _ _ i.0 i.3 c.in_ok-run_superstep.ensures.came,
     )
+
+pub begin_anew-requires-clause-caller : goal.begin_anew-requires-clause-caller
+begin_anew-requires-clause-caller g c = caller_of _ _ c.loop.invariant.0
+
+pub begin_anew-requires-clause-part : goal.begin_anew-requires-clause-part
+begin_anew-requires-clause-part g c = part_later (g.E.Exchange.caller c.args.exchange.now) (g.E.Exchange.caller c.loop.exchange) _ _ c.loop.invariant.0 c.requires.part
+
+pub run_superstep-requires-clause-caller : goal.run_superstep-requires-clause-caller
+run_superstep-requires-clause-caller g c = caller_of _ _ c.loop.invariant.0
+
+pub run_superstep-requires-clause-stands : goal.run_superstep-requires-clause-stands
+run_superstep-requires-clause-stands g c = stands_later (g.E.Exchange.caller c.args.exchange.now) (g.E.Exchange.caller c.loop.exchange) _ c.loop.replica c.loop.invariant.0 c.loop.invariant.1
+
+pub returns-then-falls_due-clause-seen : goal.returns-then-falls_due-clause-seen
+returns-then-falls_due-clause-seen g c = c.loop.invariant.0
+
+pub returns-then-falls_due-clause-stands : goal.returns-then-falls_due-clause-stands
+returns-then-falls_due-clause-stands g c = c.loop.invariant.1
+
+pub returns-in_err-begin_anew-clause-seen : goal.returns-in_err-begin_anew-clause-seen
+returns-in_err-begin_anew-clause-seen g c = extends_trans _ _ _ c.loop.invariant.0 c.begin_anew.ensures.seen
+
+pub returns-in_err-run_superstep-clause-seen : goal.returns-in_err-run_superstep-clause-seen
+returns-in_err-run_superstep-clause-seen g c = extends_trans _ _ _ c.loop.invariant.0 c.run_superstep.ensures.seen
+
+pub returns-in-Over-clause-seen : goal.returns-in-Over-clause-seen
+returns-in-Over-clause-seen g c = extends_trans _ _ _ c.loop.invariant.0 c.run_superstep.ensures.seen
+
+pub returns-in-Starved-clause-seen : goal.returns-in-Starved-clause-seen
+returns-in-Starved-clause-seen g c = extends_trans _ _ _ c.loop.invariant.0 c.run_superstep.ensures.seen
+
+pub returns-in-Over-clause-stands : goal.returns-in-Over-clause-stands
+returns-in-Over-clause-stands g c = stands_back (g.E.Exchange.caller c.args.exchange.now) (g.E.Exchange.caller c.loop.exchange) _ c.run_superstep.new.replica c.loop.invariant.0 c.in_ok-run_superstep.ensures.stands
+
+pub returns-in-Starved-clause-stands : goal.returns-in-Starved-clause-stands
+returns-in-Starved-clause-stands g c = stands_back (g.E.Exchange.caller c.args.exchange.now) (g.E.Exchange.caller c.loop.exchange) _ c.run_superstep.new.replica c.loop.invariant.0 c.in_ok-run_superstep.ensures.stands

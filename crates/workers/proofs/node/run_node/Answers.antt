@@ -1,48 +1,53 @@
-use Rattle.std.proofs.Common.{◌≡◌, ◌∙◌, refl, sym, subst}
+use Rattle.std.proofs.Common.{refl, sym, subst}
 use Rattle.ball_model.specs.Caller.{Caller}
-use Rattle.ball_model.specs.Held.{start_holding}
-use Rattle.ball_model.specs.History.{holding_in}
 use Rattle.ball_model.specs.Join.{Holding}
+use Rattle.ball_model.specs.History.{holding_in}
+use Rattle.ball_model.specs.State.{State}
 use Rattle.workers.specs.declared.node.NodeEnd.{NodeEnd}
-use Rattle.workers.specs.Node.{IfDone}
-use Rattle.workers.specs.Tie.{HasCome, HasGone, IsPathTo}
-use Rattle.workers.proofs.PathLemmas.{gone, gone_nowhere, start_held}
-use Rattle.workers.proofs.node.run_node.Goals.{in-Done, in-Lost, in-Starved}
+use Rattle.workers.specs.declared.node.NodeError.{NodeError}
+use Rattle.std.specs.Prelude.{OnErr, OnOk, Result}
+use Rattle.workers.specs.Tie.{HasCome, HasGone}
+use Rattle.workers.proofs.NodeLemmas.{EndsAs, end_fits, ended}
+use Rattle.workers.proofs.PathLemmas.{gone_nowhere}
+use Rattle.workers.proofs.TurnLemmas.{stands_at}
 use Rattle.workers.proofs.node.run_node.Goals as goal
-
-pub returns-in_err-try_clone-clause-path : goal.returns-in_err-try_clone-clause-path
-returns-in_err-try_clone-clause-path g c = gone_nowhere _ _ _ _ refl
 
 pub returns-in_err-replica-clause-path : goal.returns-in_err-replica-clause-path
 returns-in_err-replica-clause-path g c = gone_nowhere _ _ _ _ refl
 
-pub returns-in_err-fate-clause-path : goal.returns-in_err-fate-clause-path
-returns-in_err-fate-clause-path g c =
-    let v : Caller = g.E.Exchange.caller c.args.exchange.now in
-    let p = c.args.node.part in
-    let start : holding_in c.in_ok-replica.replica ≡ start_holding v.seen.job.plan p =
-    start_held v.seen.job p c.in_ok-replica.replica (c.in_ok-replica.ensures.stands v.seen.job p c.requires.job c.requires.node (c.in_ok-try_clone.ensures ∙ c.requires.part)) c.in_ok-replica.ensures.names in
-    subst (λ (h : Holding). HasGone v p h (g.E.Exchange.caller c.go_on.new.exchange)) start c.in_err-fate.ensures.gone
+pub go_on-fate-requires-clause-part : goal.go_on-fate-requires-clause-part
+go_on-fate-requires-clause-part g c = record { job = c.requires.job; below = c.requires.node; part = c.requires.part }
 
-pub returns-clause-path : goal.returns-clause-path
-returns-clause-path g c =
+pub go_on-fate-requires-clause-stands : goal.go_on-fate-requires-clause-stands
+go_on-fate-requires-clause-stands g c =
     let v : Caller = g.E.Exchange.caller c.args.exchange.now in
-    let w : Caller = g.E.Exchange.caller c.go_on.new.exchange in
-    let p = c.args.node.part in
-    let start : holding_in c.in_ok-replica.replica ≡ start_holding v.seen.job.plan p =
-    start_held v.seen.job p c.in_ok-replica.replica (c.in_ok-replica.ensures.stands v.seen.job p c.requires.job c.requires.node (c.in_ok-try_clone.ensures ∙ c.requires.part)) c.in_ok-replica.ensures.names in
-    gone v w p _ _ (subst (λ (h : Holding). HasCome v p h (holding_in c.go_on.new.replica) w) start c.in_ok-fate.ensures.came)
+    let first = c.in_ok-replica.ensures.first v.seen.job c.args.node.part c.requires.job c.requires.node c.requires.part in
+    stands_at v.seen.job c.args.node.part _ _ first.stands
 
-pub returns-clause-came : goal.returns-clause-came
-returns-clause-came g c =
+pub returns : goal.returns
+returns g c =
     let v : Caller = g.E.Exchange.caller c.args.exchange.now in
-    let w : Caller = g.E.Exchange.caller c.go_on.new.exchange in
+    let w : Caller = g.E.Exchange.caller c.go_on-fate.new.exchange in
     let p = c.args.node.part in
-    let start : holding_in c.in_ok-replica.replica ≡ start_holding v.seen.job.plan p =
-    start_held v.seen.job p c.in_ok-replica.replica (c.in_ok-replica.ensures.stands v.seen.job p c.requires.job c.requires.node (c.in_ok-try_clone.ensures ∙ c.requires.part)) c.in_ok-replica.ensures.names in
-    let come : IsPathTo v p c.go_on.new.replica w = subst (λ (h : Holding). HasCome v p h (holding_in c.go_on.new.replica) w) start c.in_ok-fate.ensures.came in
-    elim c.match-fate.branch [
-      | in-Done x ↦ subst (λ (e : NodeEnd). IfDone e (λ r. IsPathTo v p r w)) (sym x.result-is) come
-      | in-Lost x ↦ subst (λ (e : NodeEnd). IfDone e (λ r. IsPathTo v p r w)) (sym x.result-is) tt
-      | in-Starved x ↦ subst (λ (e : NodeEnd). IfDone e (λ r. IsPathTo v p r w)) (sym x.result-is) tt
-    ]
+    let r : State = c.go_on-fate.new.replica in
+    let lose = c.args.orders.now.lose in
+    let first = c.in_ok-replica.ensures.first v.seen.job p c.requires.job c.requires.node c.requires.part in
+    let came = subst (λ (h : Holding). OnOk c.go_on-fate.result (HasCome v p h (holding_in r) w)) first.held c.go_on-fate.ensures.came in
+    let gone = subst (λ (h : Holding). OnErr c.go_on-fate.result (HasGone v p h w)) first.held c.go_on-fate.ensures.gone in
+    let end : EndsAs v p lose c.end_with.result w =
+    subst (λ (e : Result NodeEnd NodeError). EndsAs v p lose e w) (sym c.end_with.ensures) (ended v p lose r c.go_on-fate.result w c.requires.node c.go_on-fate.ensures.fate came gone c.go_on-fate.ensures.full) in
+    record {
+      seen = c.go_on-fate.ensures.seen;
+      done = end.done;
+      told = end.told;
+      lost = end.lost;
+      spared = end.spared;
+      starved = end.starved;
+      starved_told = end.starved_told;
+      source = end.source;
+      path = end.path;
+      came = end.came;
+      full = end.full;
+      alone = end.alone;
+      alone_fits = λ one keep anew. end_fits c.go_on-fate.result r c.end_with.result c.end_with.ensures (c.go_on-fate.ensures.alone one keep anew);
+    }

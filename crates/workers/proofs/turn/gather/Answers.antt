@@ -1,11 +1,11 @@
-use Rattle.std.proofs.Common.{◌≡◌, ◌∙◌, ℕ, ap, refl, sym, subst}
+use Rattle.std.proofs.Common.{◌∙◌, ℕ, ap, refl, sym, subst}
 use Rattle.ball_model.specs.Caller.{Caller}
 use Rattle.ball_model.specs.State.{State}
 use Rattle.replica.specs.Sent.{batch_name}
 use Rattle.workers.specs.Node.{WasMissing}
 use Rattle.workers.proofs.PathLemmas.{come_nowhere, come_past, come_then, gone_then, on_err}
-use Rattle.workers.proofs.SeenLemmas.{extends_self, extends_trans, missing_before, missing_later}
-use Rattle.workers.proofs.TurnLemmas.{missing_source, no_other, stands_back}
+use Rattle.workers.proofs.SeenLemmas.{caller_of, extends_self, extends_trans, missing_before, missing_later}
+use Rattle.workers.proofs.TurnLemmas.{missing_source, no_other, stands_back, stands_later}
 use Rattle.workers.proofs.turn.gather.Goals as goal
 
 pub returns-in_err-find-clause-alone : goal.returns-in_err-find-clause-alone
@@ -100,3 +100,42 @@ loop-preserved g c =
       ap (λ (r : State). r.superstep) (c.in_ok-catch_up.ensures.none c.if-branch-2.false) ∙ (c.find.ensures.superstep ∙ i.2),
       come_past _ _ _ _ _ _ after (come_then _ _ _ _ _ _ _ taken come c.in_ok-catch_up.ensures.came) c.has_grown.ensures.nothing,
     )
+
+pub find-requires-clause-caller : goal.find-requires-clause-caller
+find-requires-clause-caller g c = caller_of _ _ c.length-length.ensures.seen
+
+pub find-requires-clause-stands : goal.find-requires-clause-stands
+find-requires-clause-stands g c = stands_later (g.E.Exchange.caller c.args.exchange.now) (g.E.Exchange.caller c.length-length.new.self) _ c.loop.replica (extends_trans _ _ _ c.loop.invariant.0 c.length-length.ensures.seen) c.loop.invariant.1
+
+pub catch_up-requires-clause-caller : goal.catch_up-requires-clause-caller
+catch_up-requires-clause-caller g c = caller_of _ _ c.find.ensures.seen
+
+pub catch_up-requires-clause-stands : goal.catch_up-requires-clause-stands
+catch_up-requires-clause-stands g c = stands_later (g.E.Exchange.caller c.length-length.new.self) (g.E.Exchange.caller c.find.new.exchange) _ c.find.new.replica c.find.ensures.seen c.in_ok-find.ensures.stands
+
+pub has_grown-requires : goal.has_grown-requires
+has_grown-requires g c = record { caller = caller_of _ _ c.catch_up.ensures.seen }
+
+pub returns-in_default-clause-seen : goal.returns-in_default-clause-seen
+returns-in_default-clause-seen g c = c.loop.invariant.0
+
+pub returns-in_default-clause-stands : goal.returns-in_default-clause-stands
+returns-in_default-clause-stands g c = c.loop.invariant.1
+
+pub returns-in_err-find-clause-seen : goal.returns-in_err-find-clause-seen
+returns-in_err-find-clause-seen g c = extends_trans _ _ _ (extends_trans _ _ _ c.loop.invariant.0 c.length-length.ensures.seen) c.find.ensures.seen
+
+pub returns-in_err-catch_up-clause-seen : goal.returns-in_err-catch_up-clause-seen
+returns-in_err-catch_up-clause-seen g c = extends_trans _ _ _ (extends_trans _ _ _ (extends_trans _ _ _ c.loop.invariant.0 c.length-length.ensures.seen) c.find.ensures.seen) c.catch_up.ensures.seen
+
+pub returns-then-branch-2-clause-seen : goal.returns-then-branch-2-clause-seen
+returns-then-branch-2-clause-seen g c = extends_trans _ _ _ (extends_trans _ _ _ (extends_trans _ _ _ c.loop.invariant.0 c.length-length.ensures.seen) c.find.ensures.seen) c.catch_up.ensures.seen
+
+pub returns-then-not-has_grown-clause-seen : goal.returns-then-not-has_grown-clause-seen
+returns-then-not-has_grown-clause-seen g c = extends_trans _ _ _ (extends_trans _ _ _ (extends_trans _ _ _ (extends_trans _ _ _ c.loop.invariant.0 c.length-length.ensures.seen) c.find.ensures.seen) c.catch_up.ensures.seen) c.has_grown.ensures.seen
+
+pub returns-then-branch-2-clause-stands : goal.returns-then-branch-2-clause-stands
+returns-then-branch-2-clause-stands g c = stands_back (g.E.Exchange.caller c.args.exchange.now) (g.E.Exchange.caller c.find.new.exchange) _ c.catch_up.new.replica (extends_trans _ _ _ (extends_trans _ _ _ c.loop.invariant.0 c.length-length.ensures.seen) c.find.ensures.seen) c.in_ok-catch_up.ensures.stands
+
+pub returns-then-not-has_grown-clause-stands : goal.returns-then-not-has_grown-clause-stands
+returns-then-not-has_grown-clause-stands g c = stands_back (g.E.Exchange.caller c.args.exchange.now) (g.E.Exchange.caller c.find.new.exchange) _ c.catch_up.new.replica (extends_trans _ _ _ (extends_trans _ _ _ c.loop.invariant.0 c.length-length.ensures.seen) c.find.ensures.seen) c.in_ok-catch_up.ensures.stands

@@ -1,11 +1,11 @@
-use Rattle.std.proofs.Common.{◌≡◌, ℕ, sym, subst}
+use Rattle.std.proofs.Common.{ℕ, sym, subst}
 use Rattle.ball_model.specs.Caller.{Caller}
 use Rattle.ball_model.specs.State.{State}
 use Rattle.workers.specs.declared.turn.Found.{Found}
 use Rattle.workers.specs.Node.{HasToldAll}
 use Rattle.workers.specs.Turn.{HasStarved, IsFound}
 use Rattle.workers.proofs.PathLemmas.{come_by_close, come_then, gone, gone_then, on_err}
-use Rattle.workers.proofs.SeenLemmas.{extends_trans, told_between, waiting_before}
+use Rattle.workers.proofs.SeenLemmas.{caller_of, extends_trans, told_between, waiting_before}
 use Rattle.ball_model.specs.History.{holding_in}
 use Rattle.workers.proofs.TurnLemmas.{closed_turn, stands_back, stands_later}
 use Rattle.workers.proofs.turn.run_superstep.Goals as goal
@@ -86,3 +86,30 @@ returns-in-Missed-clause-came g c =
     let seen = extends_trans _ _ _ c.keep_snapshot.ensures.seen c.tell_all.ensures.seen in
     let dropped = come_then _ _ _ _ _ _ _ seen told (c.drop_old.ensures.came c.args.node.part h) in
     come_then _ _ _ _ _ _ _ (extends_trans _ _ _ seen c.drop_old.ensures.seen) dropped c.in_ok-gather.ensures.came
+
+pub tell_all-requires-clause-caller : goal.tell_all-requires-clause-caller
+tell_all-requires-clause-caller g c = caller_of _ _ c.keep_snapshot.ensures.seen
+
+pub returns-in_err-tell_all-clause-seen : goal.returns-in_err-tell_all-clause-seen
+returns-in_err-tell_all-clause-seen g c = extends_trans _ _ _ c.keep_snapshot.ensures.seen c.tell_all.ensures.seen
+
+pub drop_old-requires : goal.drop_old-requires
+drop_old-requires g c = record { caller = caller_of _ _ c.tell_all.ensures.seen }
+
+pub returns-in_err-drop_old-clause-seen : goal.returns-in_err-drop_old-clause-seen
+returns-in_err-drop_old-clause-seen g c = extends_trans _ _ _ (extends_trans _ _ _ c.keep_snapshot.ensures.seen c.tell_all.ensures.seen) c.drop_old.ensures.seen
+
+pub gather-requires-clause-caller : goal.gather-requires-clause-caller
+gather-requires-clause-caller g c = caller_of _ _ c.drop_old.ensures.seen
+
+pub returns-in_err-gather-clause-seen : goal.returns-in_err-gather-clause-seen
+returns-in_err-gather-clause-seen g c = extends_trans _ _ _ (extends_trans _ _ _ (extends_trans _ _ _ c.keep_snapshot.ensures.seen c.tell_all.ensures.seen) c.drop_old.ensures.seen) c.gather.ensures.seen
+
+pub returns-in-Level-clause-seen : goal.returns-in-Level-clause-seen
+returns-in-Level-clause-seen g c = extends_trans _ _ _ (extends_trans _ _ _ (extends_trans _ _ _ c.keep_snapshot.ensures.seen c.tell_all.ensures.seen) c.drop_old.ensures.seen) c.gather.ensures.seen
+
+pub returns-in-Further-clause-seen : goal.returns-in-Further-clause-seen
+returns-in-Further-clause-seen g c = extends_trans _ _ _ (extends_trans _ _ _ (extends_trans _ _ _ c.keep_snapshot.ensures.seen c.tell_all.ensures.seen) c.drop_old.ensures.seen) c.gather.ensures.seen
+
+pub returns-in-Missed-clause-seen : goal.returns-in-Missed-clause-seen
+returns-in-Missed-clause-seen g c = extends_trans _ _ _ (extends_trans _ _ _ (extends_trans _ _ _ c.keep_snapshot.ensures.seen c.tell_all.ensures.seen) c.drop_old.ensures.seen) c.gather.ensures.seen

@@ -1,4 +1,4 @@
-use Rattle.std.proofs.Common.{◌≡◌, ◌≢◌, ◌<◌, ◌≤◌, ◌+◌, ℕ, ap, arith, refl, sym, subst}
+use Rattle.std.proofs.Common.{◌≢◌, ◌<◌, ◌+◌, ℕ, ap, arith, refl, sym, subst}
 use Rattle.ball_model.specs.PlanValue.{PlanValue}
 use Rattle.ball_model.specs.Caller.{Caller, Extends}
 use Rattle.replica.specs.Sent.{batch_name}
