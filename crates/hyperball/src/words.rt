@@ -121,7 +121,7 @@ const COUNTED_HELP: &str =
     "Count only the vertices listed after the edge list and a line %%: how near are they?";
 
 const PROGRESS_HELP: &str =
-    "Tell how it gets on, in lines on standard error: what was read, each superstep, the end";
+    "Tell how it gets on, in lines on standard error: what was read, each superstep of a run, the end";
 
 /// What the words of a run say.
 #[derive(Clone, Copy, Debug, PartialEq, Eq)]
