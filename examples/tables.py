@@ -9,7 +9,8 @@ Prints how many vertices and reachable pairs there are, how far apart they are, 
 wants Python's standard library alone.
 
 The sum of distances to a vertex is not in a report. It is the square of the estimate divided by Lin's index, and keeps
-its digits where closeness, which is 1 divided by it, has none left. The mean distance is that sum divided by the number
+its digits where the report's closeness, which is 1 divided by it, has none left. So closeness is that quotient here, with
+six digits that count. The mean distance is that sum divided by the number
 of other vertices that reach the vertex: the estimate less that of a vertex alone, which is N(0) divided by the number of
 vertices.
 """
@@ -28,11 +29,13 @@ class Vertex:
 
     def __init__(self, row):
         self.label, self.empty = row[1], row[6]
-        self.printed = dict(zip(FIGURES, row[2:6]))
-        self.figures = {name: Fraction(text) for name, text in self.printed.items()}
+        printed = dict(zip(FIGURES, row[2:6]))
+        self.figures = {name: Fraction(text) for name, text in printed.items()}
         reachable, lin = self.figures["reachable"], self.figures["lin"]
         lone = self.figures["harmonic"] == 0 and lin == 1
         self.distances = Fraction(0) if lone or lin == 0 else reachable * reachable / lin
+        self.figures["closeness"] = 1 / self.distances if self.distances else Fraction(0)
+        self.printed = {**printed, "closeness": f"{float(self.figures['closeness']):.6g}"}
 
     def mean_distance(self, alone):
         others = self.figures["reachable"] - alone
