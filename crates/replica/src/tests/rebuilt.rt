@@ -3,6 +3,7 @@
 use super::joins::snapshot_of;
 use super::shown::shows_all;
 use super::*;
+use crate::shown::copy_rows;
 
 /// A batch that is read from the bytes of this one.
 fn copied(rt: &HostRuntime, plan: &Plan, batch: &Batch) -> Option<Batch> {
@@ -28,10 +29,11 @@ fn one_early(rt: &HostRuntime, snapshot: &Snapshot) -> Option<Vec<Arc<Batch>>> {
 fn saved_of(rt: &HostRuntime, replica: &mut Replica) -> Option<Saved> {
     let snapshot = replica.snapshot(rt.alloc()).ok()?;
     let early = one_early(rt, &snapshot)?;
+    let rows = copy_rows(rt.alloc(), snapshot.known.rows.get()).ok()?;
     let known = snapshot.known;
     Some(Saved {
         superstep: known.superstep,
-        rows: known.rows,
+        rows,
         marks: known.marks,
         tallies: known.tallies,
         sums: known.sums,
