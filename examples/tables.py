@@ -8,11 +8,10 @@ distances, mean distance) to the folder, with header lines; labels stand in quot
 Prints how many vertices and reachable pairs there are, how far apart they are, and the first ten by each figure. It
 wants Python's standard library alone.
 
-The sum of distances to a vertex is not in a report. It is the square of the estimate divided by Lin's index, and keeps
+The sum of distances to a vertex is not in a report. It is the square of reachable divided by Lin's index, and keeps
 its digits where the report's closeness, which is 1 divided by it, has none left. So closeness is that quotient here, with
-six digits that count. The mean distance is that sum divided by the number
-of other vertices that reach the vertex: the estimate less that of a vertex alone, which is N(0) divided by the number of
-vertices.
+six digits that count. The mean distance is the sum of distances divided by the number of other vertices that reach the
+vertex: reachable less that of a vertex alone, which is N(0) divided by the number of vertices.
 """
 import csv
 import os
