@@ -24,13 +24,14 @@ def read(path):
 
 
 def effective_diameter(totals, share=0.9):
-    """The distance within which a share of all reachable pairs lies, read between two supersteps on a straight line."""
+    """The distance within which a share of all reachable pairs lies, read between two supersteps on a straight line.
+
+    None where N(0), a vertex and itself, is that share already."""
     wanted = share * totals[-1]
-    for i, total in enumerate(totals):
-        if total >= wanted:
-            before = totals[i - 1] if i else 0.0
-            return 0.0 if i == 0 else i - 1 + (wanted - before) / (total - before)
-    return float(len(totals) - 1)
+    for i, (before, total) in enumerate(zip(totals, totals[1:])):
+        if before < wanted <= total:
+            return i + (wanted - before) / (total - before)
+    return None
 
 
 def draw(totals, harmonic, out):
@@ -43,10 +44,11 @@ def draw(totals, harmonic, out):
 
     figure, (left, right) = pyplot.subplots(1, 2, figsize=(10, 4), layout="constrained")
     left.plot(range(len(totals)), totals, marker="o", color="#1f5a99")
-    diameter = effective_diameter(totals)
-    left.axvline(diameter, color="#b03a2e", linestyle="--", label=f"effective diameter {diameter:.2f}")
     left.set(title="Neighbourhood function", xlabel="distance", ylabel="pairs within the distance", ylim=(0, None))
-    left.legend(loc="lower right")
+    diameter = effective_diameter(totals)
+    if diameter is not None:
+        left.axvline(diameter, color="#b03a2e", linestyle="--", label=f"effective diameter {diameter:.2f}")
+        left.legend(loc="lower right")
     right.plot(range(1, len(harmonic) + 1), harmonic, color="#1f5a99")
     right.set(title="Harmonic centrality", xlabel="rank of the vertex", ylabel="estimate", ylim=(0, None))
     if len(harmonic) > 100:
