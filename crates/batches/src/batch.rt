@@ -86,6 +86,15 @@ impl Batch {
         Ok(())
     }
 
+    /// Takes room for so many more rows at once; the batch stays as it was. The error is that memory was refused.
+    pub fn reserve(&mut self, rows: u32) -> Result<(), AllocError>
+        ensures { self.new ≡ self.old }
+    {
+        self.ids.reserve(rows as usize)?;
+        self.registers.reserve(rows as usize * self.plan.width())?;
+        Ok(())
+    }
+
     /// The plan that the batch is for.
     pub fn plan(&self) -> &Plan
         ensures value { result.now ≡ self.now.plan }

@@ -82,6 +82,7 @@ fn two_rows(alloc: Global) -> Result<Batch, Fail>
     ensures { IfOk result (λ b. length b.rows ≡ 2) }
 {
     let mut batch = one_row(alloc)?;
+    batch.reserve(1)?;
     batch.push(2, &ROW)?;
     Ok(batch)
 }

@@ -1,9 +1,10 @@
 -- The sum of inverses and the number of empty registers, in one number.
-use Rattle.std.proofs.Common.{◌≡◌, ℕ, zero, suc, ◌+◌, ◌-◌, ◌*◌, ◌/◌, ◌%◌, ◌^◌, ◌<◌, ◌≤◌, ◌==◌, List, length, map, get_or, take, if◌then◌else◌, arith}
+use Rattle.std.proofs.Common.{◌≡◌, ℕ, zero, suc, ◌+◌, ◌-◌, ◌*◌, ◌/◌, ◌%◌, ◌^◌, ◌<◌, ◌≤◌, ◌==◌, List, length, map, get_or, take, if◌then◌else◌, ap, sym, subst, arith}
 use Rattle.std.specs.List.{range_with_len}
 use Rattle.std.proofs.lemmas.List.Sums.{sum_by-le, sum_by-take-le, sum_by_more}
 use Rattle.std.proofs.lemmas.List.FromFn.{get_or-map-range_with_len}
 use Rattle.std.proofs.Math.Nat.{pow-le-pow_right}
+use Rattle.std.proofs.lemmas.Nat.{pow-add}
 use Rattle.std.proofs.Math.Dec.{eqb-suc-zero}
 use Rattle.ball_model.specs.Figures.{inverse_sum, empty_of}
 use Rattle.ball_model.proofs.EstimateLemmas.{empty_of-few}
@@ -47,14 +48,41 @@ before_few row i short =
       omega (arith, few.1, sum_by-take-le one_where_empty row i),
     )
 
+-- what the registers before a place add
+abbrev pub so_far : List ℕ → ℕ → ℕ
+so_far row i = inverse_sum (take i row) + 2 ^ 50 * empty_of (take i row)
+
 -- with one register more
-pub total_more : (total : ℕ) (row : List ℕ) (i : ℕ) → i < length row → total ≡ inverse_sum (take i row) + 2 ^ 50 * empty_of (take i row) →
-    total + entry (get_or row i 0) ≡ inverse_sum (take (i + 1) row) + 2 ^ 50 * empty_of (take (i + 1) row)
+total_more : (total : ℕ) (row : List ℕ) (i : ℕ) → i < length row → total ≡ so_far row i → total + entry (get_or row i 0) ≡ so_far row (i + 1)
 unfolding inverse_sum
 total_more total row i lt is =
     let inverses = sum_by_more (λ r. 2 ^ (33 - r)) row i 0 lt in
     let empty = sum_by_more one_where_empty row i 0 lt in
     omega (arith, is, inverses, empty)
+
+-- the same, up to a place by another name
+more_at : (total : ℕ) (row : List ℕ) (i j : ℕ) → i < length row → j ≡ i + 1 → total ≡ so_far row i → total + entry (get_or row i 0) ≡ so_far row j
+more_at total row i j lt next is = subst (λ (n : ℕ). total + entry (get_or row i 0) ≡ so_far row n) (sym next) (total_more total row i lt is)
+
+-- with four registers more
+pub four_more : (total : ℕ) (row : List ℕ) (k i : ℕ) → i ≡ 4 * k → i + 3 < length row → total ≡ so_far row i →
+    total + ((entry (get_or row i 0) + entry (get_or row (i + 1) 0)) + (entry (get_or row (i + 2) 0) + entry (get_or row (i + 3) 0))) ≡ so_far row (4 * (k + 1))
+four_more total row k i at lt is =
+    let one = entry (get_or row i 0) in
+    let two = entry (get_or row (i + 1) 0) in
+    let three = entry (get_or row (i + 2) 0) in
+    let first = more_at total row i (i + 1) (omega arith) (omega arith) is in
+    let second = more_at (total + one) row (i + 1) (i + 2) (omega arith) (omega arith) first in
+    let third = more_at (total + one + two) row (i + 2) (i + 3) (omega arith) (omega arith) second in
+    let fourth = more_at (total + one + two + three) row (i + 3) (4 * (k + 1)) (omega arith) (omega arith) third in
+    omega (arith, fourth)
+
+-- a counter's registers can be read four at a time
+pub fours : (row : List ℕ) (log2m : ℕ) → 4 ≤ log2m → length row ≡ 2 ^ log2m → length row % 4 ≡ 0
+fours row log2m low width =
+    let more = pow-add 2 4 (log2m - 4) in
+    let same : 2 ^ log2m ≡ 2 ^ (4 + (log2m - 4)) = ap (λ n. 2 ^ n) (omega arith) in
+    omega (arith, width, more, same)
 
 -- and come apart again
 pub apart : (total inverses empty : ℕ) → total ≡ inverses + 2 ^ 50 * empty → inverses ≤ 2 ^ 43 → (total % 2 ^ 50 ≡ inverses) × (total / 2 ^ 50 ≡ empty)

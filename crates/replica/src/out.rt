@@ -27,10 +27,24 @@ impl Progress {
             target,
         };
         let mut batch = Batch::start(alloc, self.plan(), name, self.changed_count())?;
+        batch.reserve(self.count_told(target))?;
         for i in 0..self.part.size() {
             self.send_row(&mut batch, i)?;
         }
         Ok(batch)
+    }
+
+    // How many vertices changed and have an edge into a partition.
+    fn count_told(&self, target: u16) -> u32
+        requires target { target < self.now.state.part.plan.parts }
+    {
+        let mut count = 0u32;
+        for i in 0..self.part.size() {
+            if self.marks[i as usize] && has_edge_into(self.part.feeds(i), target) {
+                count += 1;
+            }
+        }
+        count
     }
 
     // Adds the row of vertex i, where it changed and has an edge into the batch's target.

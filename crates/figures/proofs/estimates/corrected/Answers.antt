@@ -3,7 +3,11 @@ use Rattle.std.proofs.Math.Nat.{pow-le-pow_right}
 use Rattle.ball_model.specs.Figures.{small_bound, estimate_of}
 use Rattle.ball_model.proofs.EstimateLemmas.{corrected_large, corrected_small}
 use Rattle.figures.proofs.SmallLemmas.{small_at, small_is}
+use Rattle.figures.proofs.SumLemmas.{fours}
 use Rattle.figures.proofs.estimates.corrected.Goals as goal
+
+pub sums-sum-requires-clause-fours : goal.sums-sum-requires-clause-fours
+sums-sum-requires-clause-fours c = fours c.args.row.now c.args.log2m c.requires.low c.requires.width
 
 pub sums-sum-requires-clause-short : goal.sums-sum-requires-clause-short
 sums-sum-requires-clause-short c =
