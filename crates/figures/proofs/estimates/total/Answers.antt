@@ -1,4 +1,4 @@
-use Rattle.std.proofs.Common.{◌≡◌, ◌+◌, ◌*◌, ◌^◌, ◌<◌, length, get_or, arith, rules}
+use Rattle.std.proofs.Common.{◌+◌, ◌*◌, get_or, arith, rules}
 use Rattle.ball_model.specs.Figures.{inverse_sum}
 use Rattle.figures.proofs.SumLemmas.{entry_few, before_few, four_more}
 use Rattle.figures.proofs.estimates.total.Goals as goal
