@@ -11,18 +11,37 @@ pub overflow_add-total : goal.overflow_add-total
 overflow_add-total c =
     let row = c.args.row.now in
     let i = 4 * c.loop-k.k in
-    omega (arith,
-      c.entry.ensures, c.entry-in-loop-k.ensures, c.entry-in-loop-k-2.ensures, c.entry-in-loop-k-3.ensures,
-      entry_few (get_or row i 0), entry_few (get_or row (i + 1) 0), entry_few (get_or row (i + 2) 0), entry_few (get_or row (i + 3) 0))
+    omega (
+      arith,
+      c.entry.ensures,
+      c.entry-in-loop-k.ensures,
+      c.entry-in-loop-k-2.ensures,
+      c.entry-in-loop-k-3.ensures,
+      entry_few (get_or row i 0),
+      entry_few (get_or row (i + 1) 0),
+      entry_few (get_or row (i + 2) 0),
+      entry_few (get_or row (i + 3) 0),
+    )
 
 pub overflow_add-total-in-loop-k : goal.overflow_add-total-in-loop-k
 overflow_add-total-in-loop-k c =
     let row = c.args.row.now in
     let i = 4 * c.loop-k.k in
     let few = before_few row i c.requires.short in
-    omega (arith, few.0, few.1, c.loop-k.invariant,
-      c.entry.ensures, c.entry-in-loop-k.ensures, c.entry-in-loop-k-2.ensures, c.entry-in-loop-k-3.ensures,
-      entry_few (get_or row i 0), entry_few (get_or row (i + 1) 0), entry_few (get_or row (i + 2) 0), entry_few (get_or row (i + 3) 0))
+    omega (
+      arith,
+      few.0,
+      few.1,
+      c.loop-k.invariant,
+      c.entry.ensures,
+      c.entry-in-loop-k.ensures,
+      c.entry-in-loop-k-2.ensures,
+      c.entry-in-loop-k-3.ensures,
+      entry_few (get_or row i 0),
+      entry_few (get_or row (i + 1) 0),
+      entry_few (get_or row (i + 2) 0),
+      entry_few (get_or row (i + 3) 0),
+    )
 
 pub loop-k-preserved : goal.loop-k-preserved
 loop-k-preserved c =

@@ -4,7 +4,7 @@ use Rattle.replica.proofs.SentLemmas.{sent_first, sent_target}
 use Rattle.replica.proofs.Progress.sent.Goals as goal
 
 pub loop-i-init : goal.loop-i-init
-loop-i-init c = c.in_ok-batch.ensures ∙ sent_first c.args.self.now.state c.args.target c.plan.result.now c.superstep.result c.partition.result c.changed_count.result c.plan.ensures c.superstep.ensures.value c.partition.ensures c.changed_count.ensures.value
+loop-i-init c = c.in_ok-reserve.ensures ∙ c.in_ok-batch.ensures ∙ sent_first c.args.self.now.state c.args.target c.plan.result.now c.superstep.result c.partition.result c.changed_count.result c.plan.ensures c.superstep.ensures.value c.partition.ensures c.changed_count.ensures.value
 
 pub send_row-requires-clause-target : goal.send_row-requires-clause-target
 send_row-requires-clause-target c = omega (arith, sent_target c.args.self.now.state c.args.target c.loop-i.i c.loop-i.batch c.loop-i.invariant, c.requires)
