@@ -1,5 +1,6 @@
 pub mod Lists
 pub mod Links
+pub mod Order
 pub mod Edges
 pub mod Labels
 pub mod Guessing
