@@ -190,16 +190,19 @@ fn node_of(event: Event) -> NodeId
     }
 }
 
-// A watch is told where a node went on.
+// A watch is told where the node of an event went on.
 fn show_close<V: Watch>(
     world: &World,
-    node: NodeId,
+    event: Event,
     outcome: Result<Answer, WorldError>,
     watch: &V,
 ) {
+    let node = node_of(event);
     if let Ok(Answer::Closed { superstep }) = outcome
         && let Some(replica) = world.node(node)
     {
+        // the limits of a replica are told with its superstep
+        let _superstep = replica.superstep();
         let vertices = replica.plan().part_size(replica.partition());
         watch.after_close(node, superstep, replica.changed_count(), vertices);
     }
@@ -223,7 +226,7 @@ fn tell_event<W: CountedWrite, V: Watch>(
     if is_want(outcome) {
         return Err(TellError::Memory);
     }
-    show_close(world, node_of(event), outcome, watch);
+    show_close(world, event, outcome, watch);
     if is_shown(outcome) {
         return tell_node(world, node_of(event), line, writer);
     }

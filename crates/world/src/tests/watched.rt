@@ -19,8 +19,10 @@ impl Digits {
     // Puts a number behind those before it.
     fn put(&self, number: u64) {
         let before = self.all.load(Ordering::SeqCst);
-        self.all
-            .store(before.wrapping_mul(10).wrapping_add(number), Ordering::SeqCst);
+        self.all.store(
+            before.wrapping_mul(10).wrapping_add(number),
+            Ordering::SeqCst,
+        );
     }
 }
 
