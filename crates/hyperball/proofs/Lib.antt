@@ -7,3 +7,4 @@ pub mod WholeLemmas
 pub mod ReportLemmas
 pub mod ReplayLemmas
 pub mod OrderLemmas
+pub mod RefusalLemmas

@@ -25,11 +25,6 @@ pub listed : (o : Option (List ℕ)) (bytes seen : List ℕ) (w : RunWords) (old
 listed None bytes seen w old new whole same done = tt
 listed (Some input) bytes seen w old new whole same done = subst (λ l. Reports w l old new) (same ∙ whole) done
 
--- a whole input that has the mark
-pub marked : (o : Option (List ℕ)) (bytes seen : List ℕ) → IsWhole o bytes → seen ≡ bytes → (sections_of seen ≡ None → ⊥) → IfSome o (λ input. sections_of input ≡ None → ⊥)
-marked None bytes seen whole same has = tt
-marked (Some input) bytes seen whole same has = subst (λ l. sections_of l ≡ None → ⊥) (same ∙ whole) has
-
 -- a run without a list, whose report was appended
 pub unlisted : (o : Option (List ℕ)) (asked : Settings) (w : RunWords) (old new : Option (List ℕ)) → asked ≡ settings_in w.options → w.counted ≡ false →
     IfSome o (λ input. ArePlain input None → AppendsReport asked input None old new) → IfSome o (λ input. Reports w input old new)

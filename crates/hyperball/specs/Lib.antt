@@ -6,3 +6,4 @@ pub mod Streams
 pub mod LawWords
 pub mod Replaying
 pub mod Orders
+pub mod Refusals

@@ -1,7 +1,7 @@
 //! What the words of a run ask for.
 
 ghost use Rattle.std.specs.Prelude.{◌≡◌};
-ghost use Rattle.hyperball.specs.Options.{settings_in};
+ghost use Rattle.hyperball.specs.Options.{options_of, settings_in};
 ghost use Rattle.workers.specs.Options.{settings_of};
 
 use ball_model::plan::GREATEST_LIMIT;
@@ -60,13 +60,8 @@ pub struct Orders {
 
 /// The options of a run with these orders.
 pub fn run_options(options: &Options, orders: Orders) -> RunOptions
+    ensures value { result ≡ options_of options.now orders }
     ensures settings { settings_of result ≡ settings_in options.now }
-    ensures replicas { result.replicas ≡ options.now.replicas }
-    ensures entries { result.entries ≡ options.now.entries }
-    ensures keep { result.keep ≡ options.now.keep }
-    ensures patience { result.patience ≡ options.now.patience }
-    ensures lose { result.lose ≡ orders.lose }
-    ensures restart { result.restart ≡ orders.restart }
 {
     RunOptions {
         log2m: options.log2m,

@@ -1,7 +1,7 @@
 //! What is told of how a run or a replay gets on, where that is asked for.
 //!
-//! [`Faults`] hands out what tells it, [`Progress`] says what, and a run's [`TellingGate`] says when. Each line begins
-//! with `hyperball: `, as a fault does; one that cannot be written is dropped.
+//! [`Faults`] hands out what tells it. Of a run [`Progress`] says what, and its [`TellingGate`] says when; a replay has a
+//! [`TellingWatch`]. Each line begins with `hyperball: `, as a fault does; one that cannot be written is dropped.
 
 use ball_model::NodeId;
 use ball_model::plan::GREATEST_LIMIT;
@@ -10,6 +10,7 @@ use std::io::{Eprint, Stderr, Write};
 use std::sync::atomic::{AtomicU32, AtomicU64, Ordering};
 use std::time::Clock;
 use workers::{Gate, SleepingGate};
+use world::watch::Watch;
 
 /// Where faults are told, and progress where it is asked for.
 pub trait Faults: Write {
@@ -72,9 +73,9 @@ impl<T: Eprint + Drop> Progress<T> {
     }
 
     // The graph is read.
-    fn tell_graph(&self, vertices: u32, edges: u64) {
+    fn note_graph(&self, vertices: u32, edges: u64) {
         self.vertices.store(vertices, Ordering::SeqCst);
-        let _ = eprintln!(self.teller; "hyperball: {vertices} vertices and {edges} edges are read");
+        tell_graph(&self.teller, vertices, edges);
     }
 
     // A node of a partition has come to a superstep, at which so many vertices of the partition changed. The first node
@@ -107,6 +108,11 @@ impl<T: Eprint + Drop> Progress<T> {
     fn tell_report(&self) {
         let _ = eprintln!(self.teller; "hyperball: the report is written");
     }
+}
+
+// A graph is read.
+fn tell_graph<T: Eprint>(teller: &T, vertices: u32, edges: u64) {
+    let _ = eprintln!(teller; "hyperball: {vertices} vertices and {edges} edges are read");
 }
 
 // No node has gone on from superstep 0, of so many partitions.
@@ -177,7 +183,7 @@ impl<'a, C: Clock, T: Eprint + Drop> Gate for TellingGate<'a, C, T> {
 
     fn after_read(&self, vertices: u32, edges: u64) {
         if let Some(progress) = &self.progress {
-            progress.tell_graph(vertices, edges);
+            progress.note_graph(vertices, edges);
         }
     }
 
@@ -188,18 +194,41 @@ impl<'a, C: Clock, T: Eprint + Drop> Gate for TellingGate<'a, C, T> {
     }
 }
 
-/// The input of a replay is read, of so many bytes.
-pub fn tell_input<T: Eprint>(teller: &Option<T>, bytes: usize) {
-    if let Some(teller) = teller {
-        let _ = eprintln!(teller; "hyperball: {bytes} bytes are read");
+/// A watch that tells how a replay gets on, where there is a teller.
+#[derive(Clone, Copy)]
+pub struct TellingWatch<'a, T> {
+    teller: &'a Option<T>,
+}
+
+impl<'a, T: Eprint> TellingWatch<'a, T> {
+    /// Nothing is told yet.
+    pub fn new(teller: &'a Option<T>) -> TellingWatch<'a, T> {
+        TellingWatch { teller }
+    }
+
+    /// The replay has ended, and written its answers or not.
+    pub fn after_replay(&self, written: bool) {
+        if let Some(teller) = self.teller
+            && written
+        {
+            let _ = eprintln!(teller; "hyperball: the answers are written");
+        }
     }
 }
 
-/// A replay has ended, and its answers are written or not.
-pub fn tell_answers<T: Eprint>(teller: &Option<T>, written: bool) {
-    if let Some(teller) = teller
-        && written
-    {
-        let _ = eprintln!(teller; "hyperball: the answers are written");
+impl<'a, T: Eprint> Watch for TellingWatch<'a, T> {
+    fn after_read(&self, vertices: u32, edges: u64) {
+        if let Some(teller) = self.teller {
+            tell_graph(teller, vertices, edges);
+        }
+    }
+
+    fn after_close(&self, node: NodeId, superstep: u32, changed: u32, vertices: u32) {
+        if let Some(teller) = self.teller {
+            let _ = eprintln!(teller;
+                "hyperball: node {}.{} at superstep {superstep}, {changed} of its {vertices} vertices changed",
+                node.part, node.replica
+            );
+        }
     }
 }

@@ -53,7 +53,7 @@ a message and C a copy, each numbered from 0 in the order that they were made; T
   copy P.K        sets a copy of the node aside: copied C T
   recover P.K C   joins a copy into the node: merged T, not-mine
   show P.K        node P.K T, open or go-on or stable or limit, and T:Q for each message held;
-                  then for each vertex: row, its number, estimate, harmonic centrality, sum of
+                  then for each vertex: row, its number, reachable, harmonic centrality, sum of
                   distances, and its registers to base 16
 Each may also answer: refused no-node, no-target, no-message or no-copy.
 Empty lines and lines that begin with # are skipped.

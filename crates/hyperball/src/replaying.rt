@@ -11,7 +11,7 @@ ghost use Rattle.hyperball.specs.declared.whole.WholeError.{WholeError as NoInpu
 ghost use Rattle.world.specs.Replay.{list_in};
 ghost use Rattle.world.specs.declared.replay.ReplayError.{ReplayError as NoAnswers};
 
-use crate::progress::{tell_answers, tell_input};
+use crate::progress::TellingWatch;
 use crate::replay_words::ReplayWords;
 use crate::whole::{WholeError, read_whole, sections};
 use ball_model::{CountedRead, CountedWrite};
@@ -20,7 +20,8 @@ use std::hash::RandomState;
 use std::io::Eprint;
 use std::random::RandomSource;
 use thiserror::Error;
-use world::replay::{ReplayError, replay};
+use world::replay::{ReplayError, replay_watched};
+use world::watch::Watch;
 
 /// Why words of a replay give no answers, or not all of them, in the order of the checks.
 #[derive(Clone, Copy, Debug, PartialEq, Eq, Error)]
@@ -93,11 +94,12 @@ fn parts_of(counted: bool, input: &[u8]) -> Result<(&[u8], Option<&[u8]>, &[u8])
 }
 
 // A replay over a whole input.
-fn replay_sections<W: CountedWrite>(
+fn replay_sections<W: CountedWrite, V: Watch>(
     alloc: Global,
     state: RandomState,
     words: &ReplayWords,
     input: &[u8],
+    watch: &V,
     writer: &mut W,
 ) -> Result<(), ReplayFault>
     ensures done { OnOk result (
@@ -110,7 +112,16 @@ fn replay_sections<W: CountedWrite>(
         result ≡ Err e }
 {
     let (edges, list, script) = parts_of(words.counted, input)?;
-    replay(alloc, state, edges, list, script, &words.options, writer)?;
+    replay_watched(
+        alloc,
+        state,
+        edges,
+        list,
+        script,
+        &words.options,
+        watch,
+        writer,
+    )?;
     Ok(())
 }
 
@@ -145,9 +156,9 @@ fn replay_whole<T: Eprint, R: CountedRead, W: CountedWrite>(
     ensures few { ReadsFew (R.remaining reader.old) (R.remaining reader.new) }
 {
     let input = read_whole(alloc, reader)?;
-    tell_input(teller, input.len());
-    let answer = replay_sections(alloc, state, words, &input, writer);
-    tell_answers(teller, answer.is_ok());
+    let watch = TellingWatch::new(teller);
+    let answer = replay_sections(alloc, state, words, &input, &watch, writer);
+    watch.after_replay(answer.is_ok());
     answer
 }
 

@@ -1,7 +1,7 @@
 //! From words and bytes to bytes and a status.
 
 ghost use Rattle.std.specs.Prelude.{◌≡◌, ◌≢◌, ◌≤◌, ◌⊎◌, ◌∷◌, [], List, false, true};
-ghost use Rattle.std.specs.Prelude.{Err, IfSome, None, OnErr, OnOk};
+ghost use Rattle.std.specs.Prelude.{Err, IfErr, IfSome, None, OnErr, OnOk, Some};
 ghost use Rattle.std.specs.Io.KnownBytes.{Appends, Keeps};
 ghost use Rattle.clap.specs.Words.{kind_of};
 ghost use Rattle.clap.specs.declared.error.kind.ErrorKind.TheVariants as kind;
@@ -12,7 +12,8 @@ ghost use Rattle.ball_model.specs.Streams.{Rises, TakesAtMost};
 ghost use Rattle.edgelist.specs.Reading.{CountsOne};
 ghost use Rattle.edgelist.specs.declared.read.EdgeError.TheVariants as edge_fault;
 ghost use Rattle.hyperball.specs.Whole.{IsLong, ReadsFew, most_bytes};
-ghost use Rattle.hyperball.specs.Options.{settings_in};
+ghost use Rattle.hyperball.specs.Options.{options_of, settings_in};
+ghost use Rattle.hyperball.specs.Refusals.{IsFault};
 ghost use Rattle.hyperball.specs.Replaying.{BeginsSome, BeginsToServe, IsReplay, ServesReplay};
 ghost use Rattle.hyperball.specs.declared.replay_words.ReplayWords.{ReplayWords as Replayed};
 ghost use Rattle.hyperball.specs.Words.{AreMistakes, AsksProgress, FailsFor, HasFaults, HasOrders};
@@ -20,7 +21,6 @@ ghost use Rattle.hyperball.specs.Words.{IsMistake, IsRun};
 ghost use Rattle.hyperball.specs.Words.{Reports, Serves, listed_words, texts_of};
 ghost use Rattle.hyperball.specs.declared.options.Options.{Options as Asked};
 ghost use Rattle.workers.specs.Options.{settings_of};
-ghost use Rattle.workers.specs.declared.bytes.RunError.{RunError as NoReport};
 ghost use Rattle.hyperball.specs.declared.whole.WholeError.{WholeError as NoInput};
 ghost use Rattle.hyperball.specs.declared.words.RunWords.{RunWords as Run};
 
@@ -56,6 +56,9 @@ const MISTAKE: u8 = 2;
 // Why words of a run give no report, in the order of the checks.
 #[derive(Clone, Copy, Debug, Error)]
 enum RunFault {
+    // There is no gate: memory was refused.
+    #[error("out of memory")]
+    Gate,
     // There are no random words to hash labels by.
     #[error("the system gives no random words")]
     Random,
@@ -215,9 +218,8 @@ fn run_sections<H: AllocGlobal + Threads + Wait + Sync, W: CountedWrite, G: Gate
         OnOk result (Reports (listed_words o) input.now
         (W.contents writer.old) (W.contents writer.new)) }
     ensures unlisted { sections_of input.now ≡ None → result ≡ Err RunFault.NoList }
-    ensures no_list { result ≡ Err RunFault.NoList → sections_of input.now ≡ None }
-    ensures listed { (f : NoReport) → result ≡ Err (RunFault.Run f) →
-        sections_of input.now ≢ None }
+    ensures refused { IfErr result (IsFault options.now true (Some input.now)) }
+    ensures gate { result ≢ Err RunFault.Gate }
     ensures random { result ≢ Err RunFault.Random }
     ensures input { (f : NoInput) → result ≢ Err (RunFault.Input f) }
     ensures kept { OnErr result (
@@ -248,10 +250,8 @@ fn run_listed<
     ensures done { (o : Asked) → settings_of options.now ≡ settings_in o →
         OnOk result (Serves (listed_words o) (R.remaining reader.old)
         W.contents writer.old writer.new) }
-    ensures no_list { result ≡ Err RunFault.NoList →
-        IfSome (R.remaining reader.old) (λ input. sections_of input ≡ None) }
-    ensures listed { (f : NoReport) → result ≡ Err (RunFault.Run f) →
-        IfSome (R.remaining reader.old) (λ input. sections_of input ≢ None) }
+    ensures refused { IfErr result (IsFault options.now true (R.remaining reader.old)) }
+    ensures gate { result ≢ Err RunFault.Gate }
     ensures random { result ≢ Err RunFault.Random }
     ensures size { result ≡ Err (RunFault.Input WholeError.Size) → IsLong (R.remaining reader.old) }
     ensures memory { result ≡ Err (RunFault.Input WholeError.Memory) →
@@ -287,6 +287,7 @@ fn run_by<
     ensures done { (w : Run) → settings_of options.now ≡ settings_in w.options →
         counted ≡ w.counted →
         OnOk result (Serves w (R.remaining reader.old) W.contents writer.old writer.new) }
+    ensures gate { result ≢ Err RunFault.Gate }
     ensures random { result ≡ Err RunFault.Random →
         Keeps (R.remaining reader.old) (R.remaining reader.new) }
     ensures size { result ≡ Err (RunFault.Input WholeError.Size) → IsLong (R.remaining reader.old) }
@@ -299,8 +300,7 @@ fn run_by<
         result ≡ Err (RunFault.Input WholeError.Read) }
     ensures sure { R.sure_calls reader.old ≡ None →
         result ≢ Err (RunFault.Input WholeError.Read) }
-    ensures no_list { result ≡ Err RunFault.NoList →
-        IfSome (R.remaining reader.old) (λ input. sections_of input ≡ None) }
+    ensures refused { IfErr result (IsFault options.now counted (R.remaining reader.old)) }
     ensures no_input { counted ≡ false → (f : NoInput) → result ≢ Err (RunFault.Input f) }
     ensures unlisted { counted ≡ false → result ≢ Err RunFault.NoList }
     ensures edges { counted ≡ false → result ≡ Err (RunFault.Run (RunError.Edges edge_fault.Read)) →
@@ -331,6 +331,8 @@ fn run<
 >(rt: &H, said: Said, teller: Option<T>, reader: &mut R, writer: &mut W) -> Result<(), RunFault>
     ensures done { OnOk result (
         Serves said.words (R.remaining reader.old) W.contents writer.old writer.new) }
+    ensures gate { result ≡ Err RunFault.Gate →
+        Keeps (R.remaining reader.old) (R.remaining reader.new) }
     ensures random { result ≡ Err RunFault.Random →
         Keeps (R.remaining reader.old) (R.remaining reader.new) }
     ensures size { result ≡ Err (RunFault.Input WholeError.Size) → IsLong (R.remaining reader.old) }
@@ -343,8 +345,8 @@ fn run<
         result ≡ Err (RunFault.Input WholeError.Read) }
     ensures sure { R.sure_calls reader.old ≡ None →
         result ≢ Err (RunFault.Input WholeError.Read) }
-    ensures no_list { result ≡ Err RunFault.NoList →
-        IfSome (R.remaining reader.old) (λ input. sections_of input ≡ None) }
+    ensures refused { IfErr result (IsFault (options_of said.words.options said.orders)
+        said.words.counted (R.remaining reader.old)) }
     ensures no_input { said.words.counted ≡ false → (f : NoInput) → result ≢ Err (RunFault.Input f) }
     ensures unlisted { said.words.counted ≡ false → result ≢ Err RunFault.NoList }
     ensures edges { said.words.counted ≡ false → result ≡ Err (RunFault.Run (RunError.Edges edge_fault.Read)) →
@@ -360,7 +362,7 @@ fn run<
     let Said { words, orders, .. } = said;
     let options = run_options(&words.options, orders);
     let Ok(gate) = TellingGate::new(rt.alloc(), rt, teller, options.parts) else {
-        return Err(RunFault::Run(RunError::Memory));
+        return Err(RunFault::Gate);
     };
     let answer = run_by(rt, words.counted, &options, &gate, reader, writer);
     gate.after_run(answer.is_ok());

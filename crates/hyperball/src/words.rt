@@ -54,9 +54,9 @@ A line with two fields is an edge from the first to the second, and a line with 
 names a vertex. Empty lines and lines that begin with # are skipped.
 
 The report is comma-separated: the neighbourhood function at each superstep, the superstep at
-which the run ended, how early pairs are reached, and of each vertex its label, the estimated
-number of vertices that reach it, harmonic centrality, closeness, Lin's index, and the number
-of registers that are empty.";
+which the run ended, how early pairs are reached, and of each vertex its label, reachable (the
+estimated number of vertices that reach it), harmonic centrality, closeness, Lin's index, and the
+number of registers that are empty.";
 
 const RUN_AFTER: &str = "Example:
   hyperball run --log2m 8 < edges.tsv > report.csv
@@ -64,13 +64,13 @@ const RUN_AFTER: &str = "Example:
 
 Memory and accuracy:
   With --keep 0 and one partition a run takes at most about 2 * 2^log2m + 180 bytes a vertex and
-  9 bytes an edge, and while it reads 110 bytes a vertex and 11 bytes an edge. Snapshots, which are
-  the default, make that up to three times as much. With several partitions --keep 0 takes more
-  memory, not less: nothing that they told one another is let go. The relative error of a large set
-  is about 1.04 / sqrt(2^log2m): 26 % at 4, 6.5 % at 8, 3.3 % at 10. A set of fewer than
-  2.5 * 2^log2m vertices is estimated too large, the more so the smaller it is, unless --estimate
-  corrected is said: take it for figures that are to be near the true ones, and raw for those that
-  HyperLogLog's formula gives.
+  9 bytes an edge, and while it reads 110 bytes a vertex and 11 bytes an edge. With snapshots, which
+  are the default, runs that were measured took 1.3 to 1.5 times as much. With several partitions
+  --keep 0 takes more memory, not less: nothing that they told one another is let go. The relative
+  error of a large set is about 1.04 / sqrt(2^log2m): 26 % at 4, 6.5 % at 8, 3.3 % at 10. A set of
+  fewer than 2.5 * 2^log2m vertices is estimated too large, the more so the smaller it is, unless
+  --estimate corrected is said: take it for figures that are to be near the true ones, and raw for
+  those that HyperLogLog's formula gives.
 
 Figures:
   Harmonic centrality 0.000000 with Lin's index 1.000000: nobody else that counts gets there.
@@ -121,7 +121,7 @@ const COUNTED_HELP: &str =
     "Count only the vertices listed after the edge list and a line %%: how near are they?";
 
 const PROGRESS_HELP: &str =
-    "Tell how it gets on, in lines on standard error: what was read, each superstep of a run, the end";
+    "Tell how it gets on, in lines on standard error: what was read, each superstep or close, the end";
 
 /// What the words of a run say.
 #[derive(Clone, Copy, Debug, PartialEq, Eq)]

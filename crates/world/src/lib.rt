@@ -18,7 +18,8 @@
 //! world.node(b)                                                 // its replica, at superstep 1
 //! ```
 //!
-//! [`replay::replay`] goes from an edge list and a script, a command on each line, to the text of the answers.
+//! [`replay::replay`] goes from an edge list and a script, a command on each line, to the text of the answers;
+//! [`replay::replay_watched`] calls a [`watch::Watch`] as it gets on.
 //!
 //! An event is refused ([`WorldError`]) where there is no such node, target, message or copy, or where memory is
 //! refused; then the world is as it was.
@@ -33,6 +34,7 @@ pub mod replay;
 mod script;
 mod start;
 mod tell;
+pub mod watch;
 mod world;
 
 pub use ball_model::world::{Answer, Event, WorldError};

@@ -16,6 +16,7 @@ use crate::World;
 use crate::bytes::Bytes;
 use crate::script::{ScriptError, read_script};
 use crate::tell::{TellError, tell_events};
+use crate::watch::{Unwatched, Watch};
 use ball_model::plan::MOST_VERTICES;
 use ball_model::world::Event;
 use ball_model::{CountedWrite, Estimate, Plan, PlanError};
@@ -243,13 +244,14 @@ fn start(alloc: Global, graph: &Graph, options: &ReplayOptions) -> Result<World,
 }
 
 // The events of a script, and the world of an edge list at its start.
-fn prepare(
+fn prepare<V: Watch>(
     alloc: Global,
     state: RandomState,
     edges: &[u8],
     counted: Option<&[u8]>,
     script: &[u8],
     options: &ReplayOptions,
+    watch: &V,
 ) -> Result<(Vec<Event>, World), ReplayError>
     ensures ok { IfOk result (λ both. IsReady (replay_of options.now) edges.now
         (list_in counted.entry) script.now both.0.items both.1) }
@@ -258,6 +260,7 @@ fn prepare(
 {
     let events = read_events(alloc, script, options)?;
     let graph = read_graph(alloc, state, edges, counted, options)?;
+    watch.after_read(graph.vertices(), graph.edges());
     let world = start(alloc, &graph, options)?;
     Ok((events, world))
 }
@@ -294,7 +297,33 @@ pub fn replay<W: CountedWrite>(
         script.now (W.contents writer.old) (W.contents writer.new)
         (W.failed_calls writer.old) (W.failed_calls writer.new)) }
 {
-    let (events, mut world) = prepare(alloc, state, edges, counted, script, options)?;
-    tell_events(alloc, &mut world, &events, writer)?;
+    replay_watched(
+        alloc, state, edges, counted, script, options, &Unwatched, writer,
+    )
+}
+
+/// The same, with a watch that is called once the edge list is read, before there is a plan, and after each close that
+/// went on. The answers and the errors are those of [`replay`].
+pub fn replay_watched<W: CountedWrite, V: Watch>(
+    alloc: Global,
+    state: RandomState,
+    edges: &[u8],
+    counted: Option<&[u8]>,
+    script: &[u8],
+    options: &ReplayOptions,
+    watch: &V,
+    writer: &mut W,
+) -> Result<(), ReplayError>
+    ensures ok { ArePlain edges.now (list_in counted.entry) →
+        OnOk result (AppendsReplay (replay_of options.now) edges.now (list_in counted.entry)
+        script.now (W.contents writer.old) (W.contents writer.new)) }
+    ensures commands { OnOk result (HasCommands (replay_of options.now) script.now) }
+    ensures counted { OnOk result (W.failed_calls writer.new ≡ W.failed_calls writer.old) }
+    ensures failed { IfErr result (Fails (replay_of options.now) edges.now (list_in counted.entry)
+        script.now (W.contents writer.old) (W.contents writer.new)
+        (W.failed_calls writer.old) (W.failed_calls writer.new)) }
+{
+    let (events, mut world) = prepare(alloc, state, edges, counted, script, options, watch)?;
+    tell_events(alloc, &mut world, &events, watch, writer)?;
     Ok(())
 }

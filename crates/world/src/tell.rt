@@ -16,6 +16,7 @@ ghost use Rattle.world.specs.Tell.{Tells, is_shown};
 
 use crate::World;
 use crate::answer::{put_answer, put_node, put_refusal, put_vertex};
+use crate::watch::Watch;
 use ball_model::world::{Answer, Event, WorldError};
 use ball_model::{CountedWrite, NodeId, put_all};
 use replica::{Replica, Shown};
@@ -189,11 +190,30 @@ fn node_of(event: Event) -> NodeId
     }
 }
 
+// A watch is told where the node of an event went on.
+fn show_close<V: Watch>(
+    world: &World,
+    event: Event,
+    outcome: Result<Answer, WorldError>,
+    watch: &V,
+) {
+    let node = node_of(event);
+    if let Ok(Answer::Closed { superstep }) = outcome
+        && let Some(replica) = world.node(node)
+    {
+        // the limits of a replica are told with its superstep
+        let _superstep = replica.superstep();
+        let vertices = replica.plan().part_size(replica.partition());
+        watch.after_close(node, superstep, replica.changed_count(), vertices);
+    }
+}
+
 // An event happens, and its answer is told.
-fn tell_event<W: CountedWrite>(
+fn tell_event<W: CountedWrite, V: Watch>(
     alloc: Global,
     world: &mut World,
     event: Event,
+    watch: &V,
     line: &mut Vec<u8>,
     writer: &mut W,
 ) -> Result<(), TellError>
@@ -206,17 +226,19 @@ fn tell_event<W: CountedWrite>(
     if is_want(outcome) {
         return Err(TellError::Memory);
     }
+    show_close(world, event, outcome, watch);
     if is_shown(outcome) {
         return tell_node(world, node_of(event), line, writer);
     }
     tell_outcome(outcome, line, writer)
 }
 
-/// Events happen one after the other, and the answer of each is told.
-pub(crate) fn tell_events<W: CountedWrite>(
+/// Events happen one after the other, and the answer of each is told. A watch is called where a node goes on.
+pub(crate) fn tell_events<W: CountedWrite, V: Watch>(
     alloc: Global,
     world: &mut World,
     events: &[Event],
+    watch: &V,
     writer: &mut W,
 ) -> Result<(), TellError>
     ensures { (j : Job) (w : Defined) → Shows j w world.old →
@@ -225,7 +247,7 @@ pub(crate) fn tell_events<W: CountedWrite>(
 {
     let mut line = Vec::new(alloc);
     for event in events {
-        tell_event(alloc, world, *event, &mut line, writer)?;
+        tell_event(alloc, world, *event, watch, &mut line, writer)?;
     }
     Ok(())
 }

@@ -4,6 +4,7 @@ mod random;
 mod refusals;
 mod replays;
 mod untrue;
+mod watched;
 mod worlds;
 
 use super::*;

@@ -1,4 +1,4 @@
-//! What is told of how a run gets on.
+//! What is told of how a run or a replay gets on.
 
 ghost use Rattle.std.specs.Prelude.{None};
 
@@ -93,6 +93,39 @@ const TOLD: [(&str, u32); 6] = [
 fn a_run_tells_its_progress(rt: HostRuntime) -> Result<(), Fail> {
     for (line, count) in &TOLD {
         let told = lines_of(&rt, line, b"a\tb\nb\tc\n")?;
+        assert!(rt; told == Some(*count), "{line}");
+    }
+    Ok(())
+}
+
+// The graph, each close that went on, and the end: the partition is at its last superstep after three closes.
+const REPLAYED: [(&str, &[u8], u32); 4] = [
+    (
+        "hyperball replay --log2m 4",
+        b"a\tb\nb\tc\n%%\nclose 0.0\n",
+        0,
+    ),
+    (
+        "hyperball replay --log2m 4 --progress",
+        b"a\tb\nb\tc\n%%\n",
+        2,
+    ),
+    (
+        "hyperball replay --progress --log2m 4",
+        b"a\tb\nb\tc\n%%\nclose 0.0\nshow 0.0\nclose 0.0\nclose 0.0\nclose 0.0\nclose 0.1\n",
+        5,
+    ),
+    (
+        "hyperball replay --log2m 4 --parts 2 --progress",
+        b"a\tb\nb\tc\n%%\nsend 0.0 1\nclose 1.0\ndeliver 0 1.0\nclose 1.0\nclose 0.0\n",
+        3,
+    ),
+];
+
+#[test]
+fn a_replay_tells_its_progress(rt: HostRuntime) -> Result<(), Fail> {
+    for (line, input, count) in &REPLAYED {
+        let told = lines_of(&rt, line, input)?;
         assert!(rt; told == Some(*count), "{line}");
     }
     Ok(())

@@ -1,8 +1,11 @@
-use Rattle.std.proofs.Common.{◌∙◌, subst, sym}
-use Rattle.std.specs.Prelude.{OnOk}
+use Rattle.std.proofs.Common.{◌∙◌, Bool, subst, sym}
+use Rattle.std.specs.Prelude.{IfErr, IfSome, OnOk}
+use Rattle.std.proofs.lemmas.Result.{err_from_is_err_and}
+use Rattle.hyperball.specs.Refusals.{IsFault, Refuses}
 use Rattle.hyperball.specs.Words.{Serves}
 use Rattle.hyperball.specs.declared.words.RunWords.{RunWords}
 use Rattle.workers.specs.Options.{settings_of}
+use Rattle.hyperball.proofs.RefusalLemmas.{refuses_edges}
 use Rattle.hyperball.proofs.ReportLemmas.{unlisted, with_list}
 use Rattle.hyperball.proofs.serve.run_by.Goals as goal
 
@@ -15,3 +18,18 @@ pub returns-clause-done : goal.returns-clause-done
 returns-clause-done g c = λ w same is.
     unlisted (g.R.Read.remaining c.args.reader.now) (settings_of c.args.options.now) w (g.W.Write.contents c.args.writer.now) (g.W.Write.contents c.run.new.writer)
     same (sym is ∙ c.if-counted.false) c.in_ok-run.ensures.ok
+
+pub returns-then-counted-clause-refused : goal.returns-then-counted-clause-refused
+returns-then-counted-clause-refused g c =
+    subst (λ (b : Bool). IfErr c.run_listed.result (IsFault c.args.options.now b (g.R.Read.remaining c.args.reader.now))) (sym c.if-counted.true) c.run_listed.ensures.refused
+
+pub returns-in_err-run-clause-refused : goal.returns-in_err-run-clause-refused
+returns-in_err-run-clause-refused g c =
+    let p = err_from_is_err_and c.from_residual.result c.from_residual.ensures.1 in
+    let told = g.R.Read.remaining c.args.reader.now in
+    let s = settings_of c.args.options.now in
+    let e = c.in_err-run.field-0.0 in
+    rw (p.1, p.2) (
+      c.in_err-run.ensures.fault,
+      subst (λ (b : Bool). IfSome told (λ input. Refuses s b input e)) (sym c.if-counted.false) (refuses_edges s told e c.in_err-run.ensures.refused),
+    )

@@ -1,6 +1,7 @@
 use Rattle.std.proofs.Common.{true}
-use Rattle.std.proofs.lemmas.Result.{on_ok_weaker}
-use Rattle.hyperball.proofs.ReportLemmas.{listed, marked}
+use Rattle.std.proofs.lemmas.Result.{IfErr-weaker, on_ok_weaker}
+use Rattle.hyperball.proofs.RefusalLemmas.{told_whole}
+use Rattle.hyperball.proofs.ReportLemmas.{listed}
 use Rattle.hyperball.proofs.serve.run_listed.Goals as goal
 
 pub returns-clause-done : goal.returns-clause-done
@@ -9,6 +10,7 @@ returns-clause-done g c = λ o same. on_ok_weaker c.run_sections.result
     (g.W.Write.contents c.args.writer.now) (g.W.Write.contents c.run_sections.new.writer) c.in_ok-input.ensures.ok c.deref.ensures.value)
     (c.run_sections.ensures.done o same)
 
-pub returns-clause-listed : goal.returns-clause-listed
-returns-clause-listed g c = λ f is. marked (g.R.Read.remaining c.args.reader.now) c.in_ok-input.input.items c.deref.result.now
-    c.in_ok-input.ensures.ok c.deref.ensures.value (c.run_sections.ensures.listed f is)
+pub returns-clause-refused : goal.returns-clause-refused
+returns-clause-refused g c = IfErr-weaker c.run_sections.result _ _
+    (λ f. told_whole c.args.options.now (g.R.Read.remaining c.args.reader.now) c.in_ok-input.input.items c.deref.result.now f c.in_ok-input.ensures.ok c.deref.ensures.value)
+    c.run_sections.ensures.refused

@@ -1,7 +1,10 @@
 use Rattle.std.proofs.Common.{ℕ, List, ap, Bor, subst}
 use Rattle.std.specs.Prelude.{Some}
+use Rattle.std.proofs.lemmas.Result.{err_from_is_err_and}
 use Rattle.ball_model.specs.RunText.{AppendsReport, Settings}
+use Rattle.workers.specs.Options.{settings_of}
 use Rattle.workers.specs.Run.{ArePlain}
+use Rattle.hyperball.proofs.RefusalLemmas.{refuses_both}
 use Rattle.hyperball.proofs.ReportLemmas.{cut}
 use Rattle.hyperball.proofs.serve.run_sections.Goals as goal
 
@@ -13,3 +16,12 @@ returns-clause-done g c = λ o same.
     let new = g.W.Write.contents c.run.new.writer in
     cut c.args.input.now c.in-Some.edges.now first list o old new c.in-Some.ensures (ap (λ (b : Bor (List ℕ)). b.now) c.new-edges.ensures.inner)
     (subst (λ (s : Settings). ArePlain first (Some list) → AppendsReport s first (Some list) old new) same c.in_ok-run.ensures.ok)
+
+pub returns-in_err-run-clause-refused : goal.returns-in_err-run-clause-refused
+returns-in_err-run-clause-refused g c =
+    let p = err_from_is_err_and c.from_residual.result c.from_residual.ensures.1 in
+    rw (p.1, p.2) (
+      c.in_err-run.ensures.fault,
+      refuses_both (settings_of c.args.options.now) c.args.input.now c.in-Some.edges.now c.new-edges.result.inner.now c.in-Some.list.now c.in_err-run.field-0.0
+          c.in-Some.ensures (ap (λ (b : Bor (List ℕ)). b.now) c.new-edges.ensures.inner) c.in_err-run.ensures.refused,
+    )

@@ -3,7 +3,7 @@ use Rattle.std.proofs.lemmas.Result.{err_from_is_err_and}
 use Rattle.ball_model.specs.declared.world.Event.{Event}
 use Rattle.world.specs.Replay.{IsReady, list_in, replay_of}
 use Rattle.world.proofs.ReplayLemmas.{told-appends, told-counted, told-fails}
-use Rattle.world.proofs.replay.replay.Goals as goal
+use Rattle.world.proofs.replay.replay_watched.Goals as goal
 
 pub returns-in_err-tell_events-clause-failed : goal.returns-in_err-tell_events-clause-failed
 returns-in_err-tell_events-clause-failed g c =

@@ -1,0 +1,27 @@
+-- What a fault of a run says of its options and of the input.
+use Rattle.std.specs.Prelude.{◌≡◌, ⊤, ℕ, Bool, List, Option, None, Some, IfSome}
+use Rattle.ball_model.specs.RunText.{Settings}
+use Rattle.hyperball.specs.Whole.{sections_in}
+use Rattle.hyperball.specs.declared.serve.RunFault.{RunFault}
+use Rattle.hyperball.specs.declared.serve.RunFault.TheVariants as fault
+use Rattle.workers.specs.Options.{settings_of}
+use Rattle.workers.specs.Run.{ArePlain, IsFaultIn, IsRefusal}
+use Rattle.workers.specs.declared.bytes.RunError.{RunError}
+use Rattle.workers.specs.declared.options.RunOptions.{RunOptions}
+
+-- this error is told of the edge list and the list of counted vertices in the input, where these are plain: it comes
+-- only where all checks before it passed
+pub record Refuses (s : Settings) (counted : Bool) (input : List ℕ) (e : RunError) : Type 0 where
+  pub edges : List ℕ
+  pub list : Option (List ℕ)
+  pub found : sections_in counted input ≡ Some (edges, list)
+  pub refused : ArePlain edges list → IsRefusal s edges list e
+
+-- what a fault says of the options, and of the input that a reader tells
+abbrev pub IsFault : RunOptions → Bool → Option (List ℕ) → RunFault → Type 0
+IsFault o counted told fault.Gate = ⊤
+IsFault o counted told fault.Random = ⊤
+IsFault o counted told (fault.Input e) = ⊤
+IsFault o counted told fault.NoList = IfSome told (λ input. sections_in counted input ≡ None)
+IsFault o counted told (fault.Run e) =
+    IsFaultIn o e × IfSome told (λ input. Refuses (settings_of o) counted input e)

@@ -1,0 +1,91 @@
+//! What a watch is told of a replay.
+
+use super::replays::options;
+use super::worlds::TWO_EDGES;
+use crate::replay::{ReplayError, replay_watched};
+use crate::watch::Watch;
+use ball_model::{MemWriter, NodeId, PlanError};
+use std::alloc::AllocGlobal;
+use std::hash::RandomState;
+use std::sync::atomic::{AtomicU64, Ordering};
+
+// The numbers of its calls, a digit each, one behind the other.
+#[derive(Drop)]
+struct Digits {
+    all: AtomicU64,
+}
+
+impl Digits {
+    // Puts a number behind those before it.
+    fn put(&self, number: u64) {
+        let before = self.all.load(Ordering::SeqCst);
+        self.all.store(
+            before.wrapping_mul(10).wrapping_add(number),
+            Ordering::SeqCst,
+        );
+    }
+}
+
+impl Watch for Digits {
+    fn after_read(&self, vertices: u32, edges: u64) {
+        self.put(u64::from(vertices));
+        self.put(edges);
+    }
+
+    fn after_close(&self, node: NodeId, superstep: u32, changed: u32, vertices: u32) {
+        self.put(u64::from(node.part));
+        self.put(u64::from(superstep));
+        self.put(u64::from(changed));
+        self.put(u64::from(vertices));
+    }
+}
+
+// Both nodes of two edges go on to superstep 1, and the second one to superstep 2. A close that does not go on tells
+// nothing.
+const SCRIPT: &[u8] = b"send 0.0 1
+send 1.0 0
+deliver 0 1.0
+close 1.0
+close 0.0
+deliver 1 0.0
+close 0.0
+show 0.0
+send 0.0 1
+deliver 2 1.0
+close 1.0
+";
+
+// What a replay of the script over two partitions tells, and the digits of what its watch is told.
+fn watched(rt: &HostRuntime, log2m: u8, script: &[u8]) -> Option<(Result<(), ReplayError>, u64)> {
+    let state = RandomState::new(rt).ok()?;
+    let mut writer = MemWriter::with_room(rt.alloc(), 4096, None).ok()?;
+    let watch = Digits {
+        all: AtomicU64::new(0),
+    };
+    let mut asked = options(2, 1);
+    asked.log2m = log2m;
+    let told = replay_watched(
+        rt.alloc(),
+        state,
+        TWO_EDGES,
+        None,
+        script,
+        &asked,
+        &watch,
+        &mut writer,
+    );
+    Some((told, watch.all.load(Ordering::SeqCst)))
+}
+
+#[test]
+fn a_watch_is_told_of_the_graph_and_of_closes(rt: HostRuntime) {
+    assert!(rt; watched(&rt, 4, SCRIPT) == Some((Ok(()), 32_1111_0112_1201)));
+}
+
+#[test]
+fn a_watch_is_told_of_a_graph_that_has_no_plan(rt: HostRuntime) {
+    let told = Err(ReplayError::Plan(PlanError::Log2m));
+    assert!(rt; watched(&rt, 3, b"") == Some((told, 32)));
+    let told = Err(ReplayError::Script { line: 1 });
+    assert!(rt; watched(&rt, 3, b"close\n") == Some((told, 0)));
+}
