@@ -1,8 +1,8 @@
 -- All nodes of a job: what they are told, and what they say at their ends.
-use Rattle.std.specs.Prelude.{◌≡◌, ◌≢◌, ⊤, ℕ, ◌+◌, ◌*◌, ◌^◌, ◌<◌, ◌≤◌, List, [], ◌∷◌, length, Option, None, is_some, true, false, Result, Err, IfOk, IfSome}
+use Rattle.std.specs.Prelude.{◌≡◌, ◌≢◌, ⊤, ℕ, ◌+◌, ◌*◌, ◌^◌, ◌<◌, ◌≤◌, List, [], ◌∷◌, length, Option, None, is_some, true, false, Result, Err, IfOk, IfSome, slice_index_or}
 use Rattle.ball_model.specs.declared.names.NodeId.{NodeId}
 use Rattle.ball_model.specs.Caller.{IsCaller}
-use Rattle.ball_model.specs.Job.{Job, job_of}
+use Rattle.ball_model.specs.Job.{Job, PartValue, job_of, part_of}
 use Rattle.ball_model.specs.State.{State}
 use Rattle.board.specs.Seats.{BoardView, SeatView, IsAt}
 use Rattle.workers.specs.declared.ends.Faults.{Faults}
@@ -30,6 +30,13 @@ pub record KeepsItsOrders (j : Job) (p : ℕ) (orders : NodeOrders)
   pub alone : j.plan.parts ≡ 1 → IfOk r (λ end. IfStarved end (λ s q. ⊥))
   pub alone_fits : j.plan.parts ≡ 1 → orders.keep ≡ 0 → orders.restart ≡ None →
       r ≢ Err fault.BookFull
+
+-- the part of each partition, where there was memory for it
+pub record AreParts {P E : Type 0} (value : P → PartValue) (j : Job)
+    (parts : List (Result P E)) : Type 0 where
+  pub count : length parts ≡ j.plan.parts
+  pub each : (p : ℕ) (d : Result P E) → p < j.plan.parts →
+      IfOk (slice_index_or parts p d) (λ part. value part ≡ part_of j p)
 
 -- a seat of the board, which has seen a history of the job
 pub record IsSeatOf (b : BoardView) (j : Job) (s : SeatView) : Type 0 where

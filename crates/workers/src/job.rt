@@ -3,7 +3,7 @@
 ghost use Rattle.std.specs.Prelude.{◌≡◌, ◌<◌, ◌≤◌, ◌+◌, ◌*◌, ℕ, true, IfOk, IfErr, IfSome};
 ghost use Rattle.std.specs.Arc.{arc_value};
 ghost use Rattle.ball_model.specs.Job.{Job, IsJob, job_of, part_of};
-ghost use Rattle.workers.specs.Job.{AreDone, AreEnds, AreStarted, HasSplit, IsFaultOf, IsPartEnd};
+ghost use Rattle.workers.specs.Job.{AreDone, AreEnds, AreParts, AreStarted, HasSplit, IsFaultOf, IsPartEnd};
 ghost use Rattle.workers.specs.Job.{IsPartStarted, IsSeatOf, IsTold, KeepsItsOrders, job_in};
 ghost use Rattle.workers.specs.Options.{are_in_limits, order_for, orders_for};
 ghost use Rattle.workers.specs.declared.options.RunOptions.{RunOptions as Asked};
@@ -27,6 +27,9 @@ use std::thread::{PromisedHandle, Scope, Threads};
 
 // The thread of a node, where there could be one.
 type Child = Option<PromisedHandle<NodeResult, Told>>;
+
+// A part that threads share, where there was memory for it.
+type SharedPart = Result<Arc<Part>, AllocError>;
 
 // The first order for a node.
 fn order_for(orders: &[(NodeId, u32)], node: NodeId) -> Option<u32>
@@ -124,7 +127,40 @@ fn start_node<'s, 'a: 's, X, R: AllocGlobal + Threads + Wait + Sync, G: Gate + S
     child
 }
 
-// Starts the threads of all nodes of a partition, whose part they share.
+// A part that threads share.
+fn shared_part(alloc: Global, graph: &Graph, plan: &Plan, p: u16) -> SharedPart
+    requires job { IsJob (job_of graph.now.graph plan.now) }
+    requires part { p < plan.now.parts }
+    ensures { IfOk result (λ part. arc_value part ≡ part_of (job_of graph.now.graph plan.now) p) }
+{
+    let part = graph.part(alloc, plan, p)?;
+    match Arc::new(alloc, part) {
+        Ok(part) => Ok(part),
+        Err(_) => Err(AllocError),
+    }
+}
+
+// The parts of all partitions, each made by a thread of its own where there could be one.
+fn shared_parts<R: AllocGlobal + Threads + Sync>(
+    rt: &R,
+    graph: &Graph,
+    plan: &Plan,
+) -> Result<Vec<SharedPart>, AllocError>
+    requires job { IsJob (job_of graph.now.graph plan.now) }
+    ensures { IfOk result (λ parts.
+        AreParts arc_value (job_of graph.now.graph plan.now) parts.items) }
+{
+    let alloc = rt.alloc();
+    let make = |p: usize| -> SharedPart
+        requires job { IsJob (job_of graph.now.graph plan.now) }
+        requires part { p < plan.now.parts }
+        ensures { IfOk result (λ part. arc_value part ≡
+            part_of (job_of graph.entry.now.graph plan.entry.now) p) }
+    { shared_part(alloc, graph, plan, p as u16) };
+    thread::map_indices(rt, alloc, usize::from(plan.parts()), &make)
+}
+
+// Starts the threads of all nodes of a partition, which share its part.
 fn start_part<'s, 'a: 's, X, R: AllocGlobal + Threads + Wait + Sync, G: Gate + Sync>(
     rt: &'a R,
     scope: &'s Scope<'s, X>,
@@ -136,18 +172,22 @@ fn start_part<'s, 'a: 's, X, R: AllocGlobal + Threads + Wait + Sync, G: Gate + S
     plan: &Plan,
     options: &RunOptions,
     p: u16,
+    part: &SharedPart,
 ) -> Result<Vec<Child>, AllocError>
     requires job { IsJob (job_of graph.now.graph plan.now) }
-    requires part { p < plan.now.parts }
+    requires number { p < plan.now.parts }
+    requires part { IfOk part.now (λ part.
+        arc_value part ≡ part_of (job_of graph.now.graph plan.now) p) }
     requires few { options.now.replicas ≤ 4 }
     requires seat { HasSplit board.now (job_of graph.now.graph plan.now) (4 * p) first.old }
     ensures seat { HasSplit board.now (job_of graph.now.graph plan.now) (4 * (p + 1)) first.new }
     ensures started { IfOk result (λ own. IsPartStarted (λ child. child.promise)
         (job_of graph.now.graph plan.now) options.now p own.items) }
 {
-    let alloc = rt.alloc();
-    let part = shared_part(alloc, graph, plan, p)?;
-    let mut children = Vec::with_capacity(alloc, usize::from(options.replicas))?;
+    let Ok(part) = part else {
+        return Err(AllocError);
+    };
+    let mut children = Vec::with_capacity(rt.alloc(), usize::from(options.replicas))?;
     for replica in 0..options.replicas {
         let node = NodeId { part: p, replica };
         let told = Told {
@@ -156,24 +196,11 @@ fn start_part<'s, 'a: 's, X, R: AllocGlobal + Threads + Wait + Sync, G: Gate + S
             node,
             orders: orders_for(options, node),
         };
-        let part = Arc::try_clone(&part)?;
+        let part = Arc::try_clone(part)?;
         let seat = first.split(board);
         children.push(start_node(rt, scope, board, seat, gate, running, part, told))?;
     }
     Ok(children)
-}
-
-// A part that threads share.
-fn shared_part(alloc: Global, graph: &Graph, plan: &Plan, p: u16) -> Result<Arc<Part>, AllocError>
-    requires job { IsJob (job_of graph.now.graph plan.now) }
-    requires part { p < plan.now.parts }
-    ensures { IfOk result (λ part. arc_value part ≡ part_of (job_of graph.now.graph plan.now) p) }
-{
-    let part = graph.part(alloc, plan, p)?;
-    match Arc::new(alloc, part) {
-        Ok(part) => Ok(part),
-        Err(_) => Err(AllocError),
-    }
 }
 
 // Starts the threads of all nodes.
@@ -194,10 +221,12 @@ fn start_all<'s, 'a: 's, X, R: AllocGlobal + Threads + Wait + Sync, G: Gate + Sy
     ensures { IfOk result (λ all. AreStarted (λ child. child.promise) (λ own. own.items)
         (job_of graph.now.graph plan.now) options.now all.items) }
 {
+    let parts = shared_parts(rt, graph, plan)?;
     let mut children = Vec::with_capacity(rt.alloc(), usize::from(plan.parts()))?;
     for p in 0..plan.parts() {
+        let part = &parts[usize::from(p)];
         let own = start_part(
-            rt, scope, board, &mut first, gate, running, graph, plan, options, p,
+            rt, scope, board, &mut first, gate, running, graph, plan, options, p, part,
         )?;
         children.push(own)?;
     }
