@@ -58,13 +58,8 @@ fn known(alloc: Global, part: Arc<Part>, saved: Saved) -> Result<Progress, Alloc
     prove!(part.partition() < plan.parts());
     let sums = with_room(alloc, plan.limit(), &saved.sums)?;
     let early = kept(alloc, &part, saved.superstep, &saved.early)?;
-    let hearing = Hearing::of(
-        alloc,
-        &saved.rows,
-        saved.heard,
-        saved.heard_change,
-        saved.accumulated,
-    )?;
+    let (heard, change, accumulated) = (saved.heard, saved.heard_change, saved.accumulated);
+    let hearing = Hearing::of(alloc, &saved.rows, heard, change, accumulated)?;
     Ok(Progress {
         part,
         superstep: saved.superstep,

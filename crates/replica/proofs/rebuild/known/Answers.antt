@@ -21,7 +21,7 @@ invariant_of-result c =
     rw c.new.ensures (kept_progress _ (rebuilt_state part s (state_with part s c.in_ok-sums.sums.items c.in_ok-early.early) own c.requires is early) c.requires.rows.width c.requires.heard.width)
 
 abbrev made : goal.After-drop-saved-3 → progress.Inside
-made c = record { part = c.args.part; superstep = c.args.saved.superstep; rows = c.args.saved.rows; marks = c.args.saved.marks; tallies = c.args.saved.tallies; sums = c.in_ok-sums.sums; heard = c.args.saved.heard; heard_change = c.args.saved.heard_change; accumulated = c.args.saved.accumulated; early = c.in_ok-early.early }
+made c = record { part = c.args.part; superstep = c.args.saved.superstep; rows = c.args.saved.rows; marks = c.args.saved.marks; tallies = c.args.saved.tallies; sums = c.in_ok-sums.sums; hearing = c.in_ok-hearing.hearing; early = c.in_ok-early.early }
 
 pub returns-clause-goes_on : goal.returns-clause-goes_on
 returns-clause-goes_on c =
