@@ -1,6 +1,6 @@
 //! What a replica has at a superstep.
 
-ghost use Rattle.std.specs.Prelude.{◌≡◌, ℕ, ◌<◌, ◌≤◌, ◌+◌, ◌-◌, ◌*◌, ◌/◌, ◌%◌, ◌^◌, ◌==◌, ◌&&◌, ◌⊎◌, if◌then◌else◌, false, not, length, slice_index_or, is_some, option_map, None, [], map, count_by, IsSome, IsTrue, IfOk, ◌↔◌};
+ghost use Rattle.std.specs.Prelude.{◌≡◌, ℕ, List, ◌<◌, ◌≤◌, ◌+◌, ◌-◌, ◌*◌, ◌/◌, ◌%◌, ◌^◌, ◌==◌, ◌&&◌, ◌⊎◌, if◌then◌else◌, false, not, length, slice_index_or, is_some, option_map, None, [], map, count_by, IsSome, IsTrue, IfOk, ◌↔◌};
 ghost use Rattle.std.specs.Arc.{arc_value};
 ghost use Rattle.std.specs.Vec.{vec_capacity};
 ghost use Rattle.std.specs.List.{All, list_any, range_with_len, slice_get};
@@ -16,10 +16,11 @@ ghost use Rattle.ball_model.specs.Content.{verdict_of};
 ghost use Rattle.ball_model.specs.State.{State, StandsFor, content_of, early_at, rows_of, tallies_of, sums_of};
 ghost use Rattle.replica.specs.Ahead.{early_batches, early_names, true_early};
 ghost use Rattle.replica.specs.Level.{is_changing, level_verdict, found_verdict, missing_in, nothing};
-ghost use Rattle.replica.specs.Hearing.{accumulated_by, change_by, heard_by};
+ghost use Rattle.replica.specs.Hearing.{KeepsAllOrNone, SaysSame, accumulated_by, change_by, heard_by};
 ghost use Rattle.replica.specs.Saved.{IsFigures};
 ghost use Rattle.replica.specs.Seen.{IsState};
 
+use crate::hearing::Hearing;
 use crate::{Progress, Replica, Snapshot, level};
 use ball_model::{BatchName, Plan, Verdict};
 use batches::Batch;
@@ -353,36 +354,60 @@ impl Progress {
     {
         let part = Arc::try_clone(&self.part)?;
         let early = self.early.share(alloc)?;
-        let hearing = self.hearing.copied(alloc)?;
-        let (marks, tallies, sums) = copy_figures(alloc, &self.marks, &self.tallies, &self.sums)?;
+        let copies = copy_rest(
+            alloc,
+            &self.hearing,
+            &self.marks,
+            &self.tallies,
+            &self.sums,
+        )?;
         let rows = self.rows.copied(alloc)?;
         Ok(Progress {
             part,
             superstep: self.superstep,
             rows,
-            marks,
-            tallies,
-            sums,
-            hearing,
+            marks: copies.marks,
+            tallies: copies.tallies,
+            sums: copies.sums,
+            hearing: copies.hearing,
             early,
         })
     }
 }
 
-// The same marks, figures and sums.
-fn copy_figures(
+// What a snapshot has a copy of; its rows, its batches and its part are shared.
+#[derive(Drop)]
+struct Copies {
+    hearing: Hearing,
+    marks: Vec<bool>,
+    tallies: Vec<Tally>,
+    sums: Vec<u128>,
+}
+
+// What is heard, marks, figures and sums, copied.
+fn copy_rest(
     alloc: Global,
+    hearing: &Hearing,
     marks: &[bool],
     tallies: &[Tally],
     sums: &[u128],
-) -> Result<(Vec<bool>, Vec<Tally>, Vec<u128>), AllocError>
-    ensures marks { IfOk result (λ copy. copy.0.items ≡ marks.now) }
-    ensures tallies { IfOk result (λ copy. copy.1.items ≡ tallies.now) }
-    ensures sums { IfOk result (λ copy. copy.2.items ≡ sums.now) }
+) -> Result<Copies, AllocError>
+    ensures hearing { IfOk result (λ copies. (rows : List (List ℕ)) →
+        KeepsAllOrNone rows hearing.now → SaysSame rows hearing.now copies.hearing) }
+    ensures marks { IfOk result (λ copies. copies.marks.items ≡ marks.now) }
+    ensures tallies { IfOk result (λ copies. copies.tallies.items ≡ tallies.now) }
+    ensures sums { IfOk result (λ copies. copies.sums.items ≡ sums.now) }
 {
+    let hearing = hearing.copied(alloc)?;
     let sums = Vec::from_slice(alloc, sums)?;
     let tallies = Vec::from_slice(alloc, tallies)?;
-    Ok((Vec::from_slice(alloc, marks)?, tallies, sums))
+    let marks = Vec::from_slice(alloc, marks)?;
+    Ok(Copies {
+        hearing,
+        marks,
+        tallies,
+        sums,
+    })
 }
 
 // The same rows in a buffer of their own.
