@@ -10,7 +10,7 @@ use Rattle.std.proofs.lemmas.Bool.{both_ways, false_from_ne_true}
 use Rattle.ball_model.specs.Batches.{BatchValue}
 use Rattle.ball_model.specs.Table.{Table}
 use Rattle.registers.specs.Laws.{max_each-repeats}
-use Rattle.replica.specs.Hearing.{Hearing, HearingValue, Hears, HearsAlso, IsQuiet, IsReady, hearing_of, KeepsAll, KeepsAllOrNone, SaysSame, accumulators_of, batch_by, batches_below, hearing_kept, let_go}
+use Rattle.replica.specs.Hearing.{Hearing, HearingValue, Hears, HearsAlso, IsQuiet, IsReady, hearing_of, KeepsAll, KeepsAllOrNone, SaysSame, accumulators_of, batch_by, batches_below, hearing_kept}
 use Rattle.replica.specs.Level.{differences}
 use Rattle.replica.specs.Spread.{AreTouched, IsAbove, LeadInside}
 use Rattle.replica.proofs.HearLemmas.{hears_as, hears_next}
@@ -56,6 +56,12 @@ accumulators_are rows a kept = elim kept [
   | inr gone ↦ inr (none_kept rows a.accumulated.rows (ap (length {A = List ℕ}) gone.0))
 ]
 
+pub accumulators_size : (rows : List (List ℕ)) (a : HearingValue) → KeepsAllOrNone rows a → length (accumulators_of rows a.accumulated.rows) ≡ length rows
+accumulators_size rows a kept = elim (accumulators_are rows a kept) [
+  | inl all ↦ ap (length {A = List ℕ}) all.0 ∙ all.1.count
+  | inr none ↦ ap (length {A = List ℕ}) none
+]
+
 -- the marks of those that differ
 pub differing_marks : (rows accumulated : List (List ℕ)) (marks : List Bool) (n : ℕ) → ((i : ℕ) → i < length rows → IsAbove (get_or rows i []) (get_or accumulated i [])) → length accumulated ≡ length rows → n ≡ length rows → marks ≡ differences rows accumulated n → AreTouched rows accumulated marks
 unfolding differences
@@ -89,20 +95,20 @@ unmarked_same rows accumulated touched are none =
     ∙ sym (get_or_default rows i d [] (omega (arith, are.count))))
 
 -- so it says the same without them
-pub bare_same : (a : HearingValue) (rows : List (List ℕ)) → list_any (λ mark. mark) a.touched ≡ false → KeepsAllOrNone rows a → SaysSame rows a (let_go a)
-bare_same a rows none kept = record {
-  heard = refl;
-  change = refl;
-  width = refl;
-  accumulated = none_kept rows [] refl ∙ elim kept [
-    | inl are ↦ sym (all_kept rows a.accumulated.rows are.count ∙ unmarked_same rows a.accumulated.rows a.touched are none)
-    | inr gone ↦ sym (none_kept rows a.accumulated.rows (ap (length {A = List ℕ}) gone.0))
-  ];
-  kept = inr (refl, refl);
+pub bare_same : (a b : HearingValue) (rows : List (List ℕ)) → list_any (λ mark. mark) a.touched ≡ false → KeepsAllOrNone rows a → b.heard ≡ a.heard → b.change ≡ a.change → b.accumulated ≡ record a.accumulated { rows = [] } → b.touched ≡ [] → SaysSame rows a b
+bare_same a b rows none kept heard change accumulated touched = record {
+  heard = heard;
+  change = change;
+  width = ap (λ (t : Table). t.width) accumulated;
+  accumulated =
+      ap (λ (t : Table). accumulators_of rows t.rows) accumulated
+      ∙ none_kept rows [] refl
+      ∙ elim kept [
+        | inl are ↦ sym (all_kept rows a.accumulated.rows are.count ∙ unmarked_same rows a.accumulated.rows a.touched are none)
+        | inr gone ↦ sym (none_kept rows a.accumulated.rows (ap (length {A = List ℕ}) gone.0))
+      ];
+  kept = inr (ap (λ (t : Table). t.rows) accumulated, touched);
 }
-
-pub itself_same : (a : HearingValue) (rows : List (List ℕ)) → KeepsAllOrNone rows a → SaysSame rows a a
-itself_same a rows kept = record { heard = refl; change = refl; width = refl; accumulated = refl; kept = kept }
 
 -- ---- hearing
 

@@ -53,10 +53,11 @@ impl Progress {
         ensures mine { IsState self.old.state }
         ensures theirs { IsState other.now.state }
     {
+        let theirs = other.superstep;
         self.hearing.renew(alloc, self.rows.get())?;
-        if self.superstep < other.superstep {
+        if self.superstep < theirs {
             self.overtake(targets, other, shared);
-        } else if other.superstep < self.superstep {
+        } else if theirs < self.superstep {
             self.gather(targets, other, shared);
         } else {
             self.unite(alloc, other, shared);

@@ -27,12 +27,10 @@ pair c = meets (fields_of c.self.inside) (state_of c.other.inside) c.args.self.n
 abbrev after : After-fill → progress.Inside
 after c = record c.self.inside { hearing = c.hear_early.new.self; early = c.fill.new.self }
 
-gathers : (c : After-fill) → Gathers (fields_of c.self.inside).part.plan.log2m (fields_of c.self.inside) (state_of c.other.inside) (fields_of (after c))
-gathers c =
+gathers : (c : After-fill) → Keeps c.self.inside c.args.self.now.state → Meets (fields_of c.self.inside) (state_of c.other.inside) c.args.shared.now → Gathers (fields_of c.self.inside).part.plan.log2m (fields_of c.self.inside) (state_of c.other.inside) (fields_of (after c))
+gathers c k m =
     let s = fields_of c.self.inside in
     let o = state_of c.other.inside in
-    let m = pair c.After-other in
-    let k = keeps c.After-other in
     let own : c.plan.result.now ≡ s.part.plan = c.plan.ensures ∙ ap (λ (a : PartValue). a.plan) c.deref.ensures in
     let index : c.args.targets.now ≡ targets_of s.part = c.requires.index ∙ ap (λ (v : State). targets_of v.part) (sym k.view_is) in
     let gap = s.superstep - o.superstep - 1 in
@@ -50,10 +48,9 @@ gathers c =
     }
 
 -- the limits, as the fields stand
-state_after : (c : After-fill) → IsState (fields_of (after c))
-state_after c =
-    let m = pair c.After-other in
-    gathers_state (fields_of c.self.inside) (state_of c.other.inside) (fields_of (after c)) m.mine m.theirs (gathers c) (sym m.plan) (sym m.number) refl refl refl m.mine.part
+state_after : (c : After-fill) → Keeps c.self.inside c.args.self.now.state → Meets (fields_of c.self.inside) (state_of c.other.inside) c.args.shared.now → IsState (fields_of (after c))
+state_after c k m =
+    gathers_state (fields_of c.self.inside) (state_of c.other.inside) (fields_of (after c)) m.mine m.theirs (gathers c k m) (sym m.plan) (sym m.number) refl refl refl m.mine.part
 
 pub hear_early-requires-clause-ready : goal.hear_early-requires-clause-ready
 hear_early-requires-clause-ready c =
@@ -79,7 +76,7 @@ fill-requires c = λ n is.
 pub invariant_of-self : goal.invariant_of-self
 invariant_of-self c =
     let at = goal.at.invariant_of-self c in
-    kept_progress (after at.After-fill) (state_after at.After-fill) c.self.invariant.width
+    kept_progress (after at.After-fill) (state_after at.After-fill (keeps at.After-other) (pair at.After-other)) c.self.invariant.width
     (c.hear_early.ensures.width ∙ c.self.invariant.accumulated_width)
     (c.hear_early.ensures.touched c.self.inside.rows.rows (keeps at.After-other).kept)
 
@@ -88,9 +85,9 @@ returns c =
     let s = fields_of c.self.inside in
     let o = state_of c.other.inside in
     let at = goal.at.returns c in
-    let count = (state_after at.After-fill).accumulated.count in
+    let count = (state_after at.After-fill (keeps at.After-other) (pair at.After-other)).accumulated.count in
     record {
       absorbs = absorbs_as s o (fields_of (after at.After-fill)) c.args.self.now.state c.args.other.now.state (state_of (after at.After-fill)) (keeps at.After-other).view_is (state_is c.other.view_is) (fields_are (after at.After-fill) count)
-          (absorbs_lesser s.part.plan.log2m s o (fields_of (after at.After-fill)) (gathers at.After-fill) refl);
+          (absorbs_lesser s.part.plan.log2m s o (fields_of (after at.After-fill)) (gathers at.After-fill (keeps at.After-other) (pair at.After-other)) refl);
       whole = record { kept = count; room = whole_room c.self.inside c.args.self.now c.self.view_is c.requires.whole };
     }

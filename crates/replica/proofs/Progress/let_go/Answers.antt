@@ -6,8 +6,9 @@ use Rattle.replica.specs.Progress.{HasAccumulators}
 use Rattle.replica.specs.Seen.{state_of}
 use Rattle.replica.proofs.AccumulatorLemmas.{had_room, said_kept, said_same, same_progress, state_is}
 use Rattle.replica.proofs.Progress.let_go.Goals as goal
+use Rattle.replica.proofs.Progress.let_go.Goals.{After-let_go}
 
-says : (c : goal.After-let_go) → SaysSame c.self.inside.rows.rows c.self.inside.hearing c.let_go.new.self
+says : (c : After-let_go) → SaysSame c.self.inside.rows.rows c.self.inside.hearing c.let_go.new.self
 says c = c.let_go.ensures c.self.inside.rows.rows c.self.invariant.kept
 
 pub invariant_of-self : goal.invariant_of-self

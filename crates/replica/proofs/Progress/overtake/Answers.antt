@@ -50,7 +50,9 @@ kept : (c : After-assign) → KeepsAll c.other.inside.rows.rows c.assign.new.sel
 kept c = rw c.get.ensures at c.assign.ensures.kept
 
 taken : (c : After-assign) → c.assign.new.self.accumulated.rows ≡ (state_of c.other.inside).accumulated
-taken c = sym (all_kept c.other.inside.rows.rows c.assign.new.self.accumulated.rows (kept c).count) ∙ (says c).accumulated
+taken c =
+    let are = kept c in
+    sym (all_kept c.other.inside.rows.rows c.assign.new.self.accumulated.rows are.count) ∙ (says c).accumulated
 
 pub copy_shown-requires-clause-tallies : goal.copy_shown-requires-clause-tallies
 copy_shown-requires-clause-tallies c =
@@ -95,15 +97,14 @@ fill-requires c = λ n is.
     let same : s.part.plan.parts ≡ n = sym (mine.sources 0 (omega arith)) ∙ is.sources 0 (omega arith) in
     subst (λ k. IsTable k c.args.shared.now) same m.table
 
-gathers : (c : After-fill) → Gathers (state_of c.other.inside).part.plan.log2m (state_of c.other.inside) (fields_of c.self.inside) (fields_of (after c))
-gathers c =
+gathers : (c : After-fill) → Keeps c.self.inside c.args.self.now.state → Meets (fields_of c.self.inside) (state_of c.other.inside) c.args.shared.now → SaysSame c.other.inside.rows.rows c.other.inside.hearing c.assign.new.self → c.assign.new.self.accumulated.rows ≡ (state_of c.other.inside).accumulated → Gathers (state_of c.other.inside).part.plan.log2m (state_of c.other.inside) (fields_of c.self.inside) (fields_of (after c))
+gathers c k m said is =
     let s = fields_of c.self.inside in
     let o = state_of c.other.inside in
-    let m = pair c.After-other in
     let own : c.plan.result.now ≡ s.part.plan = c.plan.ensures ∙ ap (λ (a : PartValue). a.plan) c.deref.ensures in
-    let index : c.args.targets.now ≡ targets_of s.part = c.requires.index ∙ ap (λ (v : State). targets_of v.part) (sym (keeps c.After-other).view_is) in
+    let index : c.args.targets.now ≡ targets_of s.part = c.requires.index ∙ ap (λ (v : State). targets_of v.part) (sym k.view_is) in
     let gap = o.superstep - s.superstep - 1 in
-    let lt : s.superstep < o.superstep = omega (arith, c.requires.further, ap (λ (v : State). v.superstep) (keeps c.After-other).view_is, ap (λ (v : State). v.superstep) (state_is c.other.view_is)) in
+    let lt : s.superstep < o.superstep = omega (arith, c.requires.further, ap (λ (v : State). v.superstep) k.view_is, ap (λ (v : State). v.superstep) (state_is c.other.view_is)) in
     let told : (i k : ℕ) → early_at c.shift.new.self i k ≡ early_at s.early (i + gap) k =
     shifted_told s.part.plan.parts s.early c.shift.new.self gap c.gap-ahead.result m.mine.early.table c.gap-ahead.ensures c.shift.ensures.kept in
     let zero_on : 0 + gap ≡ gap = omega arith in
@@ -119,23 +120,22 @@ gathers c =
         sums = c.copy_shown.ensures.sums ∙ sym (ap (λ (v : State). v.sums) (state_is c.other.view_is));
       };
       hears = hears_same o.part.plan.log2m (targets_of s.part) (λ q. early_at c.shift.new.self 0 q) (λ q. early_at s.early gap q) _ _ (λ q. told 0 q ∙ same_early s.early (0 + gap) gap q zero_on)
-          (hears_said (ap (λ (a : PlanValue). a.log2m) (own ∙ m.plan)) index (says c.After-assign).heard (says c.After-assign).change (taken c.After-assign) c.hear_early.ensures.hears);
+          (hears_said (ap (λ (a : PlanValue). a.log2m) (own ∙ m.plan)) index said.heard said.change is c.hear_early.ensures.hears);
       early = λ i q. inr (c.fill.ensures.kept i q ∙ ap (λ x. either x (early_at c.args.shared.now i q)) (c.shift-2.ensures.kept i q ∙ told (i + 1) q) ∙ ap (λ e. either (early_at s.early (i + 1 + gap) q) (early_at e i q)) m.early);
       table = subst (λ n. IsTable n c.fill.new.self) (ap (λ (a : PlanValue). a.parts) m.plan) (c.fill.ensures.table s.part.plan.parts (c.shift-2.ensures.table s.part.plan.parts (c.shift.ensures.table s.part.plan.parts m.mine.early.table)));
     }
 
 -- the limits, as the fields stand
-state_after : (c : After-fill) → IsState (fields_of (after c))
-state_after c =
-    let m = pair c.After-other in
-    gathers_state (state_of c.other.inside) (fields_of c.self.inside) (fields_of (after c)) m.theirs m.mine (gathers c) m.plan m.number m.plan m.number m.size m.mine.part
+state_after : (c : After-fill) → Keeps c.self.inside c.args.self.now.state → Meets (fields_of c.self.inside) (state_of c.other.inside) c.args.shared.now → SaysSame c.other.inside.rows.rows c.other.inside.hearing c.assign.new.self → c.assign.new.self.accumulated.rows ≡ (state_of c.other.inside).accumulated → IsState (fields_of (after c))
+state_after c k m said is =
+    gathers_state (state_of c.other.inside) (fields_of c.self.inside) (fields_of (after c)) m.theirs m.mine (gathers c k m said is) m.plan m.number m.plan m.number m.size m.mine.part
 
 pub invariant_of-self : goal.invariant_of-self
 invariant_of-self c =
     let at = goal.at.invariant_of-self c in
     let m = pair at.After-other in
-    let rows : c.copy_shown.new.rows.rows ≡ c.other.inside.rows.rows = (gathers at.After-fill).shown.rows in
-    kept_progress (after at.After-fill) (state_after at.After-fill) (c.copy_shown.ensures.width ∙ c.self.invariant.width)
+    let rows : c.copy_shown.new.rows.rows ≡ c.other.inside.rows.rows = (gathers at.After-fill (keeps at.After-other) (pair at.After-other) (says at.After-assign) (taken at.After-assign)).shown.rows in
+    kept_progress (after at.After-fill) (state_after at.After-fill (keeps at.After-other) (pair at.After-other) (says at.After-assign) (taken at.After-assign)) (c.copy_shown.ensures.width ∙ c.self.invariant.width)
     (c.hear_early.ensures.width ∙ (says at.After-assign).width ∙ c.other.invariant.accumulated_width ∙ ap (λ (a : PlanValue). 2 ^ a.log2m) (sym m.plan))
     (rw rows (c.hear_early.ensures.touched c.other.inside.rows.rows (kept at.After-assign)))
 
@@ -144,9 +144,9 @@ returns c =
     let s = fields_of c.self.inside in
     let o = state_of c.other.inside in
     let at = goal.at.returns c in
-    let count = (state_after at.After-fill).accumulated.count in
+    let count = (state_after at.After-fill (keeps at.After-other) (pair at.After-other) (says at.After-assign) (taken at.After-assign)).accumulated.count in
     record {
       absorbs = absorbs_as s o (fields_of (after at.After-fill)) c.args.self.now.state c.args.other.now.state (state_of (after at.After-fill)) (keeps at.After-other).view_is (state_is c.other.view_is) (fields_are (after at.After-fill) count)
-          (absorbs_further o.part.plan.log2m s o (fields_of (after at.After-fill)) (gathers at.After-fill) refl);
+          (absorbs_further o.part.plan.log2m s o (fields_of (after at.After-fill)) (gathers at.After-fill (keeps at.After-other) (pair at.After-other) (says at.After-assign) (taken at.After-assign)) refl);
       whole = record { kept = count; room = rw c.copy_shown.ensures.capacity (whole_room c.self.inside c.args.self.now c.self.view_is c.requires.whole) };
     }

@@ -11,33 +11,34 @@ use Rattle.replica.proofs.AccumulatorLemmas.{can_go_on, had_room, state_is}
 use Rattle.replica.proofs.OverLemmas.{kept_over, never_over}
 use Rattle.replica.proofs.ReceiveLemmas.{Hearable, Heard, Kept, hearable, heard_now, kept_later}
 use Rattle.replica.proofs.Progress.receive.Goals as goal
+use Rattle.replica.proofs.Progress.receive.Goals.{After-deref-then-name-self, After-hear, After-keep}
 
 -- a batch of the superstep can be heard
-now : (c : goal.After-deref-then-name-self) → Hearable c.self.inside c.args.self.now.state (arc_value c.args.batch) c.args.targets.now
+now : (c : After-deref-then-name-self) → Hearable c.self.inside c.args.self.now.state (arc_value c.args.batch) c.args.targets.now
 now c =
     let here : c.name-name.result.superstep ≡ c.self.inside.superstep = omega (arith, c.if-name-self.true) in
     hearable c.self.inside c.args.self.now (arc_value c.args.batch) c.args.targets.now c.name-name.result c.self.invariant c.requires.goes_on c.self.view_is c.requires.batch c.requires.new c.requires.index (c.name-name.ensures.value ∙ ap (λ (x : BatchValue). x.name) c.deref.ensures) here
 
 -- it is heard
-heard : (c : goal.After-hear) → Heard (record c.self.inside { hearing = c.hear.new.self }) c.args.self.now.state (arc_value c.args.batch)
-heard c = heard_now c.self.inside c.args.self.now.state (arc_value c.args.batch) c.args.targets.now c.hear.new.self c.self.invariant (now c.After-deref-then-name-self) (rw (← c.deref-then-name-self.ensures) c.hear.ensures)
+heard : (c : After-hear) → Hearable c.self.inside c.args.self.now.state (arc_value c.args.batch) c.args.targets.now → Heard (record c.self.inside { hearing = c.hear.new.self }) c.args.self.now.state (arc_value c.args.batch)
+heard c h = heard_now c.self.inside c.args.self.now.state (arc_value c.args.batch) c.args.targets.now c.hear.new.self c.self.invariant h (rw (← c.deref-then-name-self.ensures) c.hear.ensures)
 
 -- a later one is kept
-kept : (c : goal.After-keep) → Kept (record c.self.inside { early = c.keep.new.self }) c.args.self.now.state (arc_value c.args.batch)
+kept : (c : After-keep) → Kept (record c.self.inside { early = c.keep.new.self }) c.args.self.now.state (arc_value c.args.batch)
 kept c = kept_later c.self.inside c.args.self.now.state (arc_value c.args.batch) c.name-name.result c.keep.new.self c.self.invariant (subst (λ (k : ProgressValue). CanGoOn k) (sym c.self.view_is) c.requires.goes_on) (state_is c.self.view_is) c.requires.batch c.requires.new (c.name-name.ensures.value ∙ ap (λ (x : BatchValue). x.name) c.deref.ensures) c.if-name-self.false c.keep.ensures.table c.keep.ensures.kept
 
 pub hear-requires : goal.hear-requires
 hear-requires c = subst (λ (x : BatchValue). IsReady x.plan.log2m c.args.targets.now c.self.inside.hearing) (sym c.deref-then-name-self.ensures) (now (goal.at.hear-requires c).After-deref-then-name-self).ready
 
 pub invariant_of-self : goal.invariant_of-self
-invariant_of-self c = (heard (goal.at.invariant_of-self c).After-hear).limits
+invariant_of-self c = (heard (goal.at.invariant_of-self c).After-hear (now (goal.at.invariant_of-self c).After-deref-then-name-self)).limits
 
 pub returns-then-name-self-clause-goes_on : goal.returns-then-name-self-clause-goes_on
 returns-then-name-self-clause-goes_on c =
-    can_go_on (record c.self.inside { hearing = c.hear.new.self }) (heard (goal.at.returns-then-name-self-clause-goes_on c).After-hear).kept.count (had_room c.self.inside c.args.self.now c.self.view_is c.requires.goes_on)
+    can_go_on (record c.self.inside { hearing = c.hear.new.self }) (heard (goal.at.returns-then-name-self-clause-goes_on c).After-hear (now (goal.at.returns-then-name-self-clause-goes_on c).After-deref-then-name-self)).kept.count (had_room c.self.inside c.args.self.now c.self.view_is c.requires.goes_on)
 
 pub returns-then-name-self-clause-receives : goal.returns-then-name-self-clause-receives
-returns-then-name-self-clause-receives c = (heard (goal.at.returns-then-name-self-clause-receives c).After-hear).receives
+returns-then-name-self-clause-receives c = (heard (goal.at.returns-then-name-self-clause-receives c).After-hear (now (goal.at.returns-then-name-self-clause-receives c).After-deref-then-name-self)).receives
 
 pub returns-then-name-self-clause-over : goal.returns-then-name-self-clause-over
 returns-then-name-self-clause-over c = λ over.

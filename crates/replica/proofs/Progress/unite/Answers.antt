@@ -25,44 +25,40 @@ theirs : (c : After-accumulators) → c.accumulators.result.now.rows ≡ (state_
 theirs c = c.accumulators.ensures.value ∙ sym (ap (λ (v : State). v.accumulated) (state_is c.other.view_is))
 
 -- the accumulators, joined
-raised : (c : After-absorb) → Raises (fields_of c.self.inside) (state_of c.other.inside) c.absorb.new.self.accumulated
-raised c =
-    raises (fields_of c.self.inside) (state_of c.other.inside) c.args.shared.now c.self.inside.hearing.accumulated c.accumulators.result.now c.absorb.new.self.accumulated (pair c.After-other)
+raised : (c : After-absorb) → Meets (fields_of c.self.inside) (state_of c.other.inside) c.args.shared.now → c.accumulators.result.now.rows ≡ (state_of c.other.inside).accumulated → Raises (fields_of c.self.inside) (state_of c.other.inside) c.absorb.new.self.accumulated
+raised c m are =
+    raises (fields_of c.self.inside) (state_of c.other.inside) c.args.shared.now c.self.inside.hearing.accumulated c.accumulators.result.now c.absorb.new.self.accumulated m
     c.self.invariant.accumulated_width
     refl
-    (theirs c.After-accumulators)
+    are
     (ap (λ (a : HearingValue). a.accumulated) c.absorb.ensures)
 
 -- the fields in the end
 abbrev after : After-fill → progress.Inside
 after c = record c.self.inside { hearing = c.absorb.new.self; early = c.fill.new.self }
 
-unites : (c : After-fill) → Unites (fields_of c.self.inside) (state_of c.other.inside) (fields_of (after c))
-unites c =
+unites : (c : After-fill) → Keeps c.self.inside c.args.self.now.state → Meets (fields_of c.self.inside) (state_of c.other.inside) c.args.shared.now → Raises (fields_of c.self.inside) (state_of c.other.inside) c.absorb.new.self.accumulated → Unites (fields_of c.self.inside) (state_of c.other.inside) (fields_of (after c))
+unites c k m r =
     let s = fields_of c.self.inside in
-    let m = pair c.After-other in
     record {
-      level = ap (λ (v : State). v.superstep) (keeps c.After-other).view_is ∙ c.requires.level ∙ sym (ap (λ (v : State). v.superstep) (state_is c.other.view_is));
+      level = ap (λ (v : State). v.superstep) k.view_is ∙ c.requires.level ∙ sym (ap (λ (v : State). v.superstep) (state_is c.other.view_is));
       shown = record { superstep = refl; rows = refl; marks = refl; tallies = refl; sums = refl };
       heard = ap (λ (a : HearingValue). a.heard) c.absorb.ensures;
       change = ap (λ (a : HearingValue). a.change) c.absorb.ensures;
-      accumulated = (raised c.After-absorb).rows;
+      accumulated = r.rows;
       early = λ i q. inl (c.fill.ensures.kept i q ∙ ap (λ e. either (early_at s.early i q) (early_at e i q)) m.early);
       table = c.fill.ensures.table s.part.plan.parts m.mine.early.table;
     }
 
 -- the limits, as the fields stand
-state_after : (c : After-fill) → IsState (fields_of (after c))
-state_after c =
-    let m = pair c.After-other in
-    unites_state (fields_of c.self.inside) (state_of c.other.inside) (fields_of (after c)) m.mine m.theirs (unites c) m.plan m.number refl
+state_after : (c : After-fill) → Keeps c.self.inside c.args.self.now.state → Meets (fields_of c.self.inside) (state_of c.other.inside) c.args.shared.now → Raises (fields_of c.self.inside) (state_of c.other.inside) c.absorb.new.self.accumulated → IsState (fields_of (after c))
+state_after c k m r =
+    unites_state (fields_of c.self.inside) (state_of c.other.inside) (fields_of (after c)) m.mine m.theirs (unites c k m r) m.plan m.number refl
 
 -- those that differ from their rows are marked
-kept : (c : After-absorb) → KeepsAll c.self.inside.rows.rows c.absorb.new.self
-kept c =
+kept : (c : After-absorb) → Meets (fields_of c.self.inside) (state_of c.other.inside) c.args.shared.now → Raises (fields_of c.self.inside) (state_of c.other.inside) c.absorb.new.self.accumulated → KeepsAll c.self.inside.rows.rows c.absorb.new.self
+kept c m r =
     let s = fields_of c.self.inside in
-    let m = pair c.After-other in
-    let r = raised c in
     touched_from s.part.plan.log2m (length s.rows) s.rows c.absorb.new.self.accumulated.rows c.absorb.new.self.touched m.mine.rows (all_on s.part.plan.log2m s.rows s.accumulated c.absorb.new.self.accumulated.rows m.mine.rows m.mine.accumulated r.rise) refl
     (rw c.get.ensures at (ap (λ (a : HearingValue). a.touched) c.absorb.ensures))
 
@@ -79,7 +75,7 @@ absorb-requires c =
 pub invariant_of-self : goal.invariant_of-self
 invariant_of-self c =
     let at = goal.at.invariant_of-self c in
-    kept_progress (after at.After-fill) (state_after at.After-fill) c.self.invariant.width (raised at.After-absorb).width (kept at.After-absorb)
+    kept_progress (after at.After-fill) (state_after at.After-fill (keeps at.After-other) (pair at.After-other) (raised at.After-absorb (pair at.After-other) (theirs at.After-accumulators))) c.self.invariant.width (raised at.After-absorb (pair at.After-other) (theirs at.After-accumulators)).width (kept at.After-absorb (pair at.After-other) (raised at.After-absorb (pair at.After-other) (theirs at.After-accumulators)))
 
 pub returns : goal.returns
 returns c =
@@ -87,9 +83,9 @@ returns c =
     let o = state_of c.other.inside in
     let at = goal.at.returns c in
     let m = pair at.After-other in
-    let count = (state_after at.After-fill).accumulated.count in
+    let count = (state_after at.After-fill (keeps at.After-other) (pair at.After-other) (raised at.After-absorb (pair at.After-other) (theirs at.After-accumulators))).accumulated.count in
     record {
       absorbs = absorbs_as s o (fields_of (after at.After-fill)) c.args.self.now.state c.args.other.now.state (state_of (after at.After-fill)) (keeps at.After-other).view_is (state_is c.other.view_is) (fields_are (after at.After-fill) count)
-          (absorbs_level s o (fields_of (after at.After-fill)) m.mine m.theirs (unites at.After-fill) refl);
+          (absorbs_level s o (fields_of (after at.After-fill)) m.mine m.theirs (unites at.After-fill (keeps at.After-other) (pair at.After-other) (raised at.After-absorb (pair at.After-other) (theirs at.After-accumulators))) refl);
       whole = record { kept = count; room = whole_room c.self.inside c.args.self.now c.self.view_is c.requires.whole };
     }

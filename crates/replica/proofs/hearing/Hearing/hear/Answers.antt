@@ -9,20 +9,21 @@ use Rattle.replica.specs.Kept.{AllRise}
 use Rattle.replica.proofs.HearLemmas.{hears_one}
 use Rattle.replica.proofs.RiseLemmas.{each_rises, batch_rows}
 use Rattle.replica.proofs.hearing.Hearing.hear.Goals as goal
+use Rattle.replica.proofs.hearing.Hearing.hear.Goals.{After-name}
 
 -- what it keeps as its fields stand
-abbrev before : goal.After-name → HearingValue
+abbrev before : After-name → HearingValue
 before c = record { heard = c.self.inside.heard; change = c.self.inside.change; accumulated = c.self.inside.accumulated; touched = c.self.inside.touched.items }
 
-ready : (c : goal.After-name) → IsReady c.args.batch.now.plan.log2m c.args.targets.now (before c)
+ready : (c : After-name) → IsReady c.args.batch.now.plan.log2m c.args.targets.now (before c)
 ready c = subst (λ (a : HearingValue). IsReady c.args.batch.now.plan.log2m c.args.targets.now a) (sym c.self.view_is) c.requires
 
-rises : (c : goal.After-name) → AllRise c.args.batch.now.plan.log2m c.self.inside.accumulated.rows c.spread_batch.new.accumulated.rows
+rises : (c : After-name) → AllRise c.args.batch.now.plan.log2m c.self.inside.accumulated.rows c.spread_batch.new.accumulated.rows
 rises c =
     let b = c.args.batch.now in
     subst (λ rows. AllRise b.plan.log2m c.self.inside.accumulated.rows rows) (sym (ap (λ (t : Table). t.rows) c.spread_batch.ensures.rows)) (each_rises b.plan.log2m c.args.targets.now b.rows c.self.inside.accumulated.rows (ready c).counters (batch_rows b c.name.ensures.batch))
 
-marked : (c : goal.After-name) → (with_items c.self.inside.touched c.spread_batch.new.touched).items ≡ c.spread_batch.new.touched
+marked : (c : After-name) → (with_items c.self.inside.touched c.spread_batch.new.touched).items ≡ c.spread_batch.new.touched
 marked c = with_items_is c.self.inside.touched c.spread_batch.new.touched (omega (arith, c.spread_batch.auto.touched, c.deref_mut.ensures.len))
 
 pub invariant_of-self : goal.invariant_of-self
