@@ -4,6 +4,7 @@ use Rattle.ball_model.specs.PlanValue.{PlanValue}
 use Rattle.ball_model.specs.State.{State, early_at}
 use Rattle.replica.specs.Ahead.{either}
 use Rattle.replica.specs.Hearing.{HearingValue, KeepsAll}
+use Rattle.replica.specs.Level.{differences}
 use Rattle.replica.specs.Seen.{IsState, state_of}
 use Rattle.replica.specs.declared.Progress.TheInside as progress
 use Rattle.replica.proofs.AccumulatorLemmas.{Keeps, fields_are, fields_of, kept_progress, state_is, whole_keeps, whole_room}
@@ -60,7 +61,7 @@ kept : (c : After-absorb) → Meets (fields_of c.self.inside) (state_of c.other.
 kept c m r =
     let s = fields_of c.self.inside in
     touched_from s.part.plan.log2m (length s.rows) s.rows c.absorb.new.self.accumulated.rows c.absorb.new.self.touched m.mine.rows (all_on s.part.plan.log2m s.rows s.accumulated c.absorb.new.self.accumulated.rows m.mine.rows m.mine.accumulated r.rise) refl
-    (rw c.get.ensures at (ap (λ (a : HearingValue). a.touched) c.absorb.ensures))
+    ((rw c.get.ensures at (ap (λ (a : HearingValue). a.touched) c.absorb.ensures)) ∙ ap (λ (a : HearingValue). differences s.rows a.accumulated.rows (length s.rows)) (sym c.absorb.ensures))
 
 pub absorb-requires : goal.absorb-requires
 absorb-requires c =

@@ -66,10 +66,11 @@ returns-clause-quiet c =
     let are = marked at in
     let rows : c.follow.new.self.rows ≡ own = ap (λ (t : Table). t.rows) c.follow.ensures in
     let long : length c.clear_marks.new.marks ≡ length own = c.clear_marks.auto.marks ∙ ap (length {A = Bool}) (c.deref_mut-2.ensures.value ∙ items at) ∙ are.marks ∙ sym are.count in
-    let cleared = with_items_is (with_items c.self.inside.touched c.spread_own.new.touched) c.clear_marks.new.marks (c.clear_marks.auto.marks ∙ c.deref_mut-2.ensures.len) in
+    let touched = with_items (with_items c.self.inside.touched c.spread_own.new.touched) c.clear_marks.new.marks in
+    let cleared : touched.items ≡ c.clear_marks.new.marks = with_items_is (with_items c.self.inside.touched c.spread_own.new.touched) c.clear_marks.new.marks (c.clear_marks.auto.marks ∙ c.deref_mut-2.ensures.len) in
     record {
       heard = c.empty-self-inside.ensures;
       change = refl;
       accumulated = sym c.follow.ensures;
-      kept = subst (λ (l : List (List ℕ)). AreTouched l own _) (sym rows) (subst (λ (l : List Bool). AreTouched own own l) (sym cleared) (none_touched own c.clear_marks.new.marks long c.clear_marks.ensures));
+      kept = subst (λ (l : List (List ℕ)). AreTouched l own touched.items) (sym rows) (subst (λ (l : List Bool). AreTouched own own l) (sym cleared) (none_touched own c.clear_marks.new.marks long c.clear_marks.ensures));
     }

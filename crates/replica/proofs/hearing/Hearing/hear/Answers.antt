@@ -36,7 +36,7 @@ returns c =
     let at = (goal.at.returns c).After-name in
     let b = c.args.batch.now in
     let ok = c.name.ensures.batch in
-    subst (λ (a : HearingValue). HearsAlso b.plan.log2m c.args.targets.now (batch_by b.name.source (Some b)) a _) c.self.view_is (record {
+    subst (λ (a : HearingValue). HearsAlso b.plan.log2m c.args.targets.now (batch_by b.name.source (Some b)) a (record { heard = c.insert.new.self; change = c.self.inside.change || not (c.changed.result == 0); accumulated = c.spread_batch.new.accumulated; touched = (with_items c.self.inside.touched c.spread_batch.new.touched).items })) c.self.view_is (record {
       hears = hears_one b.plan.log2m c.args.targets.now b
           (record { heard = c.self.inside.heard; change = c.self.inside.change; accumulated = c.self.inside.accumulated.rows })
           (record { heard = c.insert.new.self; change = c.self.inside.change || not (c.changed.result == 0); accumulated = c.spread_batch.new.accumulated.rows })
