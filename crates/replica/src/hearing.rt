@@ -221,7 +221,7 @@ impl Hearing {
           change = self.old.change || other.now.change;
           accumulated = maximum_of_rows self.old.accumulated theirs.now;
           touched = differences rows.now.rows
-          (maximum_of_rows self.old.accumulated theirs.now).rows (length rows.now.rows);
+              (maximum_of_rows self.old.accumulated theirs.now).rows (length rows.now.rows);
         } }
     {
         let _heard = self.heard.join(alloc, &other.heard);

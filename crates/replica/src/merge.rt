@@ -121,12 +121,7 @@ impl Progress {
         ensures absorbs { Absorbs self.old.state other.now.state self.new.state }
         ensures whole { IsWhole self.new }
     {
-        self.hearing.absorb(
-            alloc,
-            self.rows.get(),
-            &other.hearing,
-            other.accumulators(),
-        );
+        self.hearing.absorb(alloc, self.rows.get(), &other.hearing, other.accumulators());
         self.early.fill(shared);
     }
 }

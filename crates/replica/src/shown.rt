@@ -354,13 +354,7 @@ impl Progress {
     {
         let part = Arc::try_clone(&self.part)?;
         let early = self.early.share(alloc)?;
-        let copies = copy_rest(
-            alloc,
-            &self.hearing,
-            &self.marks,
-            &self.tallies,
-            &self.sums,
-        )?;
+        let copies = copy_rest(alloc, &self.hearing, &self.marks, &self.tallies, &self.sums)?;
         let rows = self.rows.copied(alloc)?;
         Ok(Progress {
             part,
