@@ -9,14 +9,17 @@
 //! ```
 //!
 //! [`report_ready`] says whether replicas are at the end of their run, and [`write_report`] writes their report.
+//! [`write_own`] writes the lines of one partition's vertices, at the superstep that its replica has reached.
 #![tactic(auto)]
 
 pub mod laws;
 mod lines;
+mod own;
 mod parts;
 mod ready;
 mod write;
 
+pub use own::write_own;
 pub use ready::report_ready;
 pub use write::{ReportError, write_report};
 

@@ -24,15 +24,15 @@
 //! refused; then the world is as it was.
 #![tactic(auto)]
 
-mod answer;
+pub mod answer;
 mod bytes;
 pub mod laws;
 mod message;
 mod node;
 pub mod replay;
-mod script;
+pub mod script;
 mod start;
-mod tell;
+pub mod tell;
 mod world;
 
 pub use ball_model::world::{Answer, Event, WorldError};
