@@ -1,8 +1,9 @@
 //! The lines of one partition's vertices.
 
-ghost use Rattle.std.specs.Prelude.{◌≡◌, ◌≢◌, ℕ, ◌<◌, ◌≤◌, ◌+◌, ◌*◌, ◌%◌, ◌-◌, Err, IfOk, OnOk};
+ghost use Rattle.std.specs.Prelude.{◌≡◌, ◌≢◌, ℕ, ◌<◌, ◌≤◌, ◌%◌, length, Err, IfOk, OnOk};
 ghost use Rattle.std.specs.Io.KnownBytes.{Appends};
 ghost use Rattle.ball_model.specs.Counter.{ball_counter};
+ghost use Rattle.ball_model.specs.Figures.{empty_of};
 ghost use Rattle.ball_model.specs.Job.{Job};
 ghost use Rattle.ball_model.specs.PlanValue.{mixing_of, part_size};
 ghost use Rattle.ball_model.specs.State.{StandsFor};
@@ -42,8 +43,11 @@ fn figures_of(replica: &Replica, x: u32) -> Figures
     }
 }
 
-// How many registers are 0.
-fn empty_count(row: &[u8]) -> u32 {
+// How many registers of a row are 0.
+fn empty_count(row: &[u8]) -> u32
+    requires { length row.now ≤ 1024 }
+    ensures { result ≡ empty_of row.now }
+{
     row.iter().filter(|register| **register == 0).count() as u32
 }
 
