@@ -116,7 +116,7 @@ fn sized_command(verb: &[u8], word: &[u8]) -> Option<Command>
 }
 
 /// The command that a line says. Between its words stands one space.
-pub fn command(line: &[u8]) -> Option<Command>
+pub fn command_of(line: &[u8]) -> Option<Command>
     ensures { result ≡ command_in (fields 32 line.now) }
 {
     let Some((verb, word)) = cut(b' ', line) else {

@@ -247,7 +247,7 @@ fn step_in_line<R: CountedRead>(reader: &mut R, ahead: &mut ArrayVec<u8, 4>) -> 
 }
 
 /// The next byte of a section, or its end. Nothing is read behind the end.
-pub fn step<R: CountedRead>(reader: &mut R, cut: &mut Cut) -> Step
+pub fn next_step<R: CountedRead>(reader: &mut R, cut: &mut Cut) -> Step
     ensures byte { (b : ℕ) → result ≡ Step.Byte b → Gives cut.old.begins b
         (prepend_known cut.old.ahead.items (R.remaining reader.old))
         (prepend_known cut.new.ahead.items (R.remaining reader.new)) }
@@ -298,7 +298,7 @@ fn read_some<R: CountedRead>(reader: &mut R, cut: &mut Cut, buf: &mut [u8]) -> i
         (prepend_known cut.new.ahead.items (R.remaining reader.new))) result buf.new }
 {
     for i in 0..buf.len() {
-        match step(reader, cut) {
+        match next_step(reader, cut) {
             Step::Byte(byte) => buf[i] = byte,
             Step::Mark | Step::End => return Ok(i),
             Step::Failed => return told(cut, i),
@@ -368,7 +368,7 @@ pub fn skip<R: CountedRead>(reader: &mut R, cut: &mut Cut) -> Skipped
         return Skipped::Failed;
     }
     for _ in 0..u64::MAX {
-        match step(reader, cut) {
+        match next_step(reader, cut) {
             Step::Byte(_) => {}
             Step::Mark => return Skipped::Marked,
             Step::End => return Skipped::Unmarked,

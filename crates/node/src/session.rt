@@ -200,7 +200,10 @@ fn read_batch(alloc: Global, plan: &Plan, bytes: &[u8]) -> Result<Arc<Batch>, Ba
         IsDelivered j bytes.now name → IfErr result (λ e. e ≡ BatchError.Memory) }
 {
     let batch = Batch::decode(alloc, plan, bytes)?;
-    Ok(Arc::new(alloc, batch)?)
+    match Arc::new(alloc, batch) {
+        Ok(batch) => Ok(batch),
+        Err(_) => Err(BatchError::Memory),
+    }
 }
 
 // The replica of a checkpoint in memory.

@@ -19,7 +19,7 @@ mod parts;
 mod ready;
 mod write;
 
-pub use own::write_own;
+pub use own::{totals_text, write_own};
 pub use ready::report_ready;
 pub use write::{ReportError, write_report};
 

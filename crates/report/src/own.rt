@@ -1,4 +1,4 @@
-//! The lines of one partition's vertices.
+//! The lines of one partition: of its totals and of its vertices.
 
 ghost use Rattle.std.specs.Prelude.{◌≡◌, ◌≢◌, ℕ, ◌<◌, ◌≤◌, ◌%◌, length, Err, IfOk, OnOk};
 ghost use Rattle.std.specs.Io.KnownBytes.{Appends};
@@ -11,9 +11,11 @@ ghost use Rattle.ball_model.specs.Streams.{Rises};
 ghost use Rattle.ball_model.specs.Supersteps.{tally_at};
 ghost use Rattle.figures.specs.Values.{figures_of};
 ghost use Rattle.report.specs.Own.{lines_of_own, lines_of_some};
+ghost use Rattle.report.specs.Parts.{superstep_lines};
 ghost use Rattle.report.specs.Rows.{Adds, AtRow};
 
 use crate::lines::{put_vertex, rows_in, text_of};
+use crate::parts::put_supersteps;
 use crate::write::ReportError;
 use ball_model::{CountedWrite, put_all};
 use csv::Writer;
@@ -93,6 +95,15 @@ fn own_text(
 {
     let mut rows = rows_in(Vec::new(alloc));
     put_rows(&mut rows, graph, replica, from, to)?;
+    text_of(rows)
+}
+
+/// The lines of totals from superstep 0 on. The error is that memory was refused.
+pub fn totals_text(alloc: Global, totals: &[u128]) -> Result<Vec<u8>, AllocError>
+    ensures { IfOk result (λ text. text.items ≡ superstep_lines totals.now) }
+{
+    let mut rows = rows_in(Vec::new(alloc));
+    put_supersteps(&mut rows, totals)?;
     text_of(rows)
 }
 
