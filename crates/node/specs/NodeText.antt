@@ -112,10 +112,10 @@ pub record IsGivenBack (j : Job) (p : ℕ) (body : List ℕ) (h : Holding) : Typ
   pub held : IsHeldBy j p h
   pub kept : IsKept j h body
 
--- no bytes, or such a checkpoint
+-- no bytes, or some that are such a checkpoint
 abbrev pub IsStart : Job → ℕ → List ℕ → Option Holding → Type 0
 IsStart j p body None = body ≡ []
-IsStart j p body (Some h) = IsGivenBack j p body h
+IsStart j p body (Some h) = (body ≢ []) × IsGivenBack j p body h
 
 -- the bytes behind a command of partition p are what it asks for: a true batch, or a checkpoint that stands for the job
 abbrev pub Asks : Job → ℕ → Command → List ℕ → Asked → Type 0

@@ -1,5 +1,5 @@
 -- What a node says to a command, and how it is told.
-use Rattle.std.specs.Prelude.{◌≡◌, ⊤, ℕ, List, [], ◌∷◌, codes}
+use Rattle.std.specs.Prelude.{◌≡◌, ℕ, List, [], ◌∷◌, codes, decimal, Result, Ok, Err}
 use Rattle.batches.specs.declared.error.BatchError.{BatchError}
 use Rattle.batches.specs.declared.error.BatchError.TheVariants as no_batch
 use Rattle.checkpoint.specs.declared.error.KeepError.{KeepError}
@@ -7,6 +7,7 @@ use Rattle.checkpoint.specs.declared.error.KeepError.TheVariants as no_checkpoin
 use Rattle.checkpoint.specs.Reading.{greatest_batch, most_bytes}
 use Rattle.ball_model.specs.declared.world.Answer.{Answer}
 use Rattle.ball_model.specs.declared.world.Answer.TheVariants as answer
+use Rattle.ball_model.specs.Held.{IsHeldBy}
 use Rattle.ball_model.specs.Job.{Job, PartValue}
 use Rattle.ball_model.specs.Join.{Holding}
 use Rattle.ball_model.specs.State.{State}
@@ -29,10 +30,20 @@ most_body part command.Show = 0
 most_body part command.Totals = 0
 most_body part command.Figures = 0
 
--- it says that, and has that holding
-pub record TurnsTo (j : Job) (a : Answer) (h : Holding) (v : State) (r : Reply) : Type 0 where
-  pub says : r ≡ reply.Answered a
+-- it is a replica of partition p that has that holding
+pub record Holds (j : Job) (p : ℕ) (h : Holding) (v : State) : Type 0 where
+  pub held : IsHeldBy j p h
   pub has : Has j h v
+
+-- that is said, and the replica has that holding
+pub record TurnsTo (j : Job) (p : ℕ) (a : Answer) (h : Holding) (v : State) (r : Reply) : Type 0 where
+  pub says : r ≡ reply.Answered a
+  pub holds : Holds j p h v
+
+-- such a replica was made, or memory was refused
+abbrev pub GivesOrWants : (State → Type 0) → Result State KeepError → Type 0
+GivesOrWants P (Ok v) = P v
+GivesOrWants P (Err e) = e ≡ no_checkpoint.Memory
 
 -- what was found in bytes that are no batch
 abbrev pub batch_word : BatchError → List ℕ
@@ -62,24 +73,22 @@ checkpoint_word no_checkpoint.Memory = codes "memory"
 checkpoint_word no_checkpoint.Digest = codes "digest"
 checkpoint_word no_checkpoint.Trailing = codes "trailing"
 
--- it is none that a node alone does not say
-abbrev pub NotShown : Reply → Type 0
-NotShown (reply.Answered answer.Shown) = ⊥
-NotShown (reply.Answered (answer.Sent m name changed rows)) = ⊥
-NotShown (reply.Answered (answer.Copied c t)) = ⊥
-NotShown r = ⊤
-
 -- the line of an answer
 abbrev pub said_text : Answer → List ℕ
+said_text (answer.Sent m name changed rows) =
+    words_line
+    (codes "sent" ∷ decimal m ∷ decimal name.superstep ∷ decimal name.source
+    ∷ decimal name.target ∷ decimal changed ∷ decimal rows ∷ [])
 said_text (answer.Took t) = taken_line t
 said_text (answer.NotTaken r) = untaken_line r
 said_text (answer.Closed t) = number_line (codes "closed") t
 said_text (answer.NotClosed r) = unclosed_line r
 said_text (answer.Kept t) = number_line (codes "kept") t
 said_text (answer.Restarted t) = number_line (codes "restarted") t
+said_text (answer.Copied c t) = words_line (codes "copied" ∷ decimal c ∷ decimal t ∷ [])
 said_text (answer.Merged t) = number_line (codes "merged") t
 said_text (answer.NotMerged r) = unmerged_line r
-said_text a = []
+said_text answer.Shown = []
 
 -- the line of what is said
 abbrev pub reply_text : Reply → List ℕ

@@ -3,9 +3,10 @@
 ghost use Rattle.std.specs.Prelude.{◌≡◌, ◌++◌, ◌∷◌, [], OnOk, codes, decimal, length};
 ghost use Rattle.ball_model.specs.Batches.{batch_bytes};
 ghost use Rattle.ball_model.specs.WorldText.{words_line};
-ghost use Rattle.node.specs.Turns.{NotShown, batch_word, checkpoint_word, reply_text};
+ghost use Rattle.node.specs.Turns.{batch_word, checkpoint_word, reply_text, said_text};
 
 use crate::session::Reply;
+use ball_model::world::Answer;
 use batches::{Batch, BatchError};
 use checkpoint::KeepError;
 use itoa::Buffer;
@@ -58,12 +59,22 @@ fn put_refused(line: &mut Vec<u8>, word: &[u8]) -> Result<(), AllocError>
     put_line(line, b"refused".as_slice(), &[word])
 }
 
+// Adds the line of an answer. A node that is looked at has lines of its own.
+fn put_said(line: &mut Vec<u8>, answer: Answer) -> Result<(), AllocError>
+    ensures { OnOk result (line.new.items ≡ line.old.items ++ said_text answer) }
+{
+    match answer {
+        Answer::Shown => Ok(()),
+        _ => put_answer(line, answer),
+    }
+}
+
 /// Adds the line of what a node says.
 pub fn put_reply(line: &mut Vec<u8>, reply: Reply) -> Result<(), AllocError>
-    ensures { NotShown reply → OnOk result (line.new.items ≡ line.old.items ++ reply_text reply) }
+    ensures { OnOk result (line.new.items ≡ line.old.items ++ reply_text reply) }
 {
     match reply {
-        Reply::Answered(answer) => put_answer(line, answer),
+        Reply::Answered(answer) => put_said(line, answer),
         Reply::NoBatch(error) => put_refused(line, batch_word(error)),
         Reply::NoCheckpoint(error) => put_refused(line, checkpoint_word(error)),
     }

@@ -1,15 +1,18 @@
 //! Commands, one after the other, and their answers.
 
-ghost use Rattle.std.specs.Prelude.{◌≡◌, ◌≢◌, ℕ, ◌<◌, ◌%◌, Err, Ok, IfOk, IfErr, OnErr, OnOk, List, true};
-ghost use Rattle.std.specs.Io.KnownBytes.{Appends};
-ghost use Rattle.ball_model.specs.Held.{HasHolding};
-ghost use Rattle.ball_model.specs.Job.{Job, IsJob};
-ghost use Rattle.ball_model.specs.Join.{Holding};
-ghost use Rattle.ball_model.specs.State.{State};
+ghost use Rattle.std.specs.Prelude.{◌≡◌, ℕ, ◌<◌, ◌≤◌, List, ◌++◌, ◌∷◌, [], true, false, length};
+ghost use Rattle.std.specs.Prelude.{Err, IfNone, IfOk, IfSome, Ok, OnOk, Some};
+ghost use Rattle.std.specs.Io.KnownBytes.{Appends, Consumes, IsAtEnd, Keeps};
+ghost use Rattle.ball_model.specs.Input.{Network, fields};
+ghost use Rattle.ball_model.specs.Job.{IsJob, job_of};
+ghost use Rattle.ball_model.specs.Held.{start_holding};
 ghost use Rattle.ball_model.specs.Streams.{Rises};
-ghost use Rattle.node.specs.NodeText.{Asked, Request, figures_text, sent_text, totals_text};
-ghost use Rattle.node.specs.Serving.{AnswersWith, IsAnswered, Ran, Serves, Steps};
-ghost use Rattle.node.specs.Turns.{NotShown, reply_text};
+ghost use Rattle.node.specs.NodeText.{body_length, command_in, sent_text};
+ghost use Rattle.node.specs.Serving.{ReadsRequest, Serves, ServesNone, ServesOne};
+ghost use Rattle.node.specs.Serving.{Steps};
+ghost use Rattle.node.specs.Stream.{HasNoEnd};
+ghost use Rattle.node.specs.declared.command.Command.TheVariants as order;
+ghost use Rattle.node.specs.Turns.{Holds, most_body, reply_text};
 
 use crate::answers::{put_kept, put_reply, put_sent};
 use crate::command::{Command, command_of, length_of};
@@ -36,8 +39,8 @@ fn tell<W: CountedWrite>(
     line: &mut Vec<u8>,
     writer: &mut W,
 ) -> Result<(), ServeError>
-    ensures { NotShown reply → OnOk result (Appends (W.contents writer.old)
-        (W.contents writer.new) (reply_text reply)) }
+    ensures { OnOk result (Appends (W.contents writer.old) (W.contents writer.new)
+        (reply_text reply)) }
 {
     line.clear();
     put_reply(line, reply)?;
@@ -71,8 +74,9 @@ fn answer_send<W: CountedWrite>(
     line: &mut Vec<u8>,
     writer: &mut W,
 ) -> Result<(), ServeError>
-    ensures { (j : Job) (h : Holding) → HasHolding j h replica.now → OnOk result (Appends
-        (W.contents writer.old) (W.contents writer.new) (send_text j h target)) }
+    ensures { (network : Network) (body : List ℕ) → OnOk result (Steps network
+        (order.Send target) body replica.now replica.now
+        (W.contents writer.old) (W.contents writer.new)) }
 {
     if replica.plan().parts() <= target || target == replica.partition() {
         line.clear();
@@ -84,13 +88,46 @@ fn answer_send<W: CountedWrite>(
     tell_batch(alloc, &batch, line, writer)
 }
 
+// A node takes the batch that bytes spell.
+fn answer_deliver<W: CountedWrite>(
+    alloc: Global,
+    session: &mut Session,
+    body: &[u8],
+    line: &mut Vec<u8>,
+    writer: &mut W,
+) -> Result<(), ServeError>
+    ensures step { (network : Network) (n : ℕ) → OnOk result (Steps network
+        (order.Deliver n) body.now session.old session.new
+        (W.contents writer.old) (W.contents writer.new)) }
+    ensures part { session.new.part ≡ session.old.part }
+{
+    let reply = session.deliver(alloc, body)?;
+    tell(reply, line, writer)
+}
+
+// A node closes its superstep.
+fn answer_close<W: CountedWrite>(
+    session: &mut Session,
+    line: &mut Vec<u8>,
+    writer: &mut W,
+) -> Result<(), ServeError>
+    ensures step { (network : Network) (body : List ℕ) → OnOk result (Steps network
+        order.Close body session.old session.new
+        (W.contents writer.old) (W.contents writer.new)) }
+    ensures part { session.new.part ≡ session.old.part }
+{
+    let answer = session.close();
+    tell(Reply::Answered(answer), line, writer)
+}
+
 // A node gives its checkpoint.
 fn answer_keep<W: CountedWrite>(
     replica: &Replica,
     line: &mut Vec<u8>,
     writer: &mut W,
 ) -> Result<(), ServeError>
-    ensures { (j : Job) (h : Holding) → Has j h replica.now → OnOk result (GivesCheckpoint j h
+    ensures { (network : Network) (body : List ℕ) → OnOk result (Steps network
+        order.Keep body replica.now replica.now
         (W.contents writer.old) (W.contents writer.new)) }
 {
     // the limits of a replica are told with its superstep, those of its figures with these
@@ -105,17 +142,83 @@ fn answer_keep<W: CountedWrite>(
     }
 }
 
+// A node goes back to the checkpoint that bytes are, or to the start.
+fn answer_restart<W: CountedWrite>(
+    alloc: Global,
+    session: &mut Session,
+    body: &[u8],
+    line: &mut Vec<u8>,
+    writer: &mut W,
+) -> Result<(), ServeError>
+    ensures step { (network : Network) (n : ℕ) → OnOk result (Steps network
+        (order.Restart n) body.now session.old session.new
+        (W.contents writer.old) (W.contents writer.new)) }
+    ensures part { session.new.part ≡ session.old.part }
+{
+    let reply = session.restart(alloc, body)?;
+    tell(reply, line, writer)
+}
+
+// A node takes over what the checkpoint has that bytes are.
+fn answer_recover<W: CountedWrite>(
+    alloc: Global,
+    session: &mut Session,
+    body: &[u8],
+    line: &mut Vec<u8>,
+    writer: &mut W,
+) -> Result<(), ServeError>
+    ensures step { (network : Network) (n : ℕ) → OnOk result (Steps network
+        (order.Recover n) body.now session.old session.new
+        (W.contents writer.old) (W.contents writer.new)) }
+    ensures part { session.new.part ≡ session.old.part }
+{
+    let reply = session.recover(alloc, body)?;
+    tell(reply, line, writer)
+}
+
+// A node tells what it has.
+fn answer_show<W: CountedWrite>(
+    replica: &Replica,
+    line: &mut Vec<u8>,
+    writer: &mut W,
+) -> Result<(), ServeError>
+    ensures { (network : Network) (body : List ℕ) → OnOk result (Steps network
+        order.Show body replica.now replica.now
+        (W.contents writer.old) (W.contents writer.new)) }
+{
+    let part = replica.partition();
+    tell_replica(NodeId { part, replica: 0 }, replica, line, writer)?;
+    Ok(())
+}
+
 // A node tells the sums of its estimates.
 fn answer_totals<W: CountedWrite>(
     alloc: Global,
     replica: &Replica,
     writer: &mut W,
 ) -> Result<(), ServeError>
-    ensures { (j : Job) (h : Holding) → HasHolding j h replica.now → OnOk result (Appends
-        (W.contents writer.old) (W.contents writer.new) (totals_text j h)) }
+    ensures { (network : Network) (body : List ℕ) → OnOk result (Steps network
+        order.Totals body replica.now replica.now
+        (W.contents writer.old) (W.contents writer.new)) }
 {
     let text = totals_text(alloc, replica.sums())?;
     write_lines(writer, &text)?;
+    Ok(())
+}
+
+// A node tells the figures of its vertices.
+fn answer_figures<W: CountedWrite>(
+    alloc: Global,
+    graph: &Graph,
+    replica: &Replica,
+    writer: &mut W,
+) -> Result<(), ServeError>
+    requires { replica.now.part.plan.vertices ≡ graph.now.graph.vertices }
+    ensures { (body : List ℕ) → OnOk result (Steps graph.now
+        order.Figures body replica.now replica.now
+        (W.contents writer.old) (W.contents writer.new)) }
+{
+    write_own(alloc, writer, graph, replica)?;
     Ok(())
 }
 
@@ -136,22 +239,14 @@ fn answer<W: CountedWrite>(
 {
     match command {
         Command::Send { target } => answer_send(alloc, session.replica(), target, line, writer),
-        Command::Deliver { .. } => tell(session.deliver(alloc, body)?, line, writer),
-        Command::Close => tell(Reply::Answered(session.close()), line, writer),
+        Command::Deliver { .. } => answer_deliver(alloc, session, body, line, writer),
+        Command::Close => answer_close(session, line, writer),
         Command::Keep => answer_keep(session.replica(), line, writer),
-        Command::Restart { .. } => tell(session.restart(alloc, body)?, line, writer),
-        Command::Recover { .. } => tell(session.recover(alloc, body)?, line, writer),
-        Command::Show => {
-            let replica = session.replica();
-            let part = replica.partition();
-            tell_replica(NodeId { part, replica: 0 }, replica, line, writer)?;
-            Ok(())
-        }
+        Command::Restart { .. } => answer_restart(alloc, session, body, line, writer),
+        Command::Recover { .. } => answer_recover(alloc, session, body, line, writer),
+        Command::Show => answer_show(session.replica(), line, writer),
         Command::Totals => answer_totals(alloc, session.replica(), writer),
-        Command::Figures => {
-            write_own(alloc, writer, graph, session.replica())?;
-            Ok(())
-        }
+        Command::Figures => answer_figures(alloc, graph, session.replica(), writer),
     }
 }
 
@@ -162,8 +257,19 @@ fn read_command<R: CountedRead>(
     line: &mut Vec<u8>,
     number: u64,
 ) -> Result<Option<Command>, ServeError>
+    requires { line.old.items ≡ [] }
+    ensures consumed { IfOk result (λ o. IfSome o (λ _. Consumes (R.remaining reader.old)
+        (R.remaining reader.new) (line.new.items ++ 10 ∷ []))) }
+    ensures one_line { IfOk result (λ o. IfSome o (λ _. HasNoEnd line.new.items)) }
+    ensures says { IfOk result (λ o. IfSome o (λ c.
+        command_in (fields 32 line.new.items) ≡ Some c)) }
+    ensures within { IfOk result (λ o. IfSome o (λ c. body_length c ≤ most_body part.now c)) }
+    ensures none { IfOk result (λ o. IfNone o (IsAtEnd (R.remaining reader.new))) }
+    ensures kept { IfOk result (λ o. IfNone o
+        (Consumes (R.remaining reader.old) (R.remaining reader.new) [])) }
+    ensures read { result ≡ Err ServeError.Read →
+        Rises (R.failed_calls reader.old) (R.failed_calls reader.new) }
 {
-    line.clear();
     match read_line(reader, line) {
         Line::Whole => {}
         Line::None => return Ok(None),
@@ -188,6 +294,12 @@ fn read_rest<R: CountedRead>(
     body: &mut Vec<u8>,
     number: u64,
 ) -> Result<(), ServeError>
+    requires { body.old.items ≡ [] }
+    ensures consumed { OnOk result (
+        Consumes (R.remaining reader.old) (R.remaining reader.new) body.new.items) }
+    ensures length { OnOk result (length body.new.items ≡ body_length command) }
+    ensures read { result ≡ Err ServeError.Read →
+        Rises (R.failed_calls reader.old) (R.failed_calls reader.new) }
 {
     match read_body(reader, length_of(command), body) {
         Body::Whole => Ok(()),
@@ -205,6 +317,15 @@ fn read_request<R: CountedRead>(
     body: &mut Vec<u8>,
     number: u64,
 ) -> Result<Option<Command>, ServeError>
+    requires line { line.old.items ≡ [] }
+    requires body { body.old.items ≡ [] }
+    ensures some { IfOk result (λ o. IfSome o (λ c. ReadsRequest
+        (R.remaining reader.old) (R.remaining reader.new) line.new.items c body.new.items)) }
+    ensures none { IfOk result (λ o. IfNone o (IsAtEnd (R.remaining reader.new))) }
+    ensures kept { IfOk result (λ o. IfNone o
+        (Consumes (R.remaining reader.old) (R.remaining reader.new) [])) }
+    ensures read { result ≡ Err ServeError.Read →
+        Rises (R.failed_calls reader.old) (R.failed_calls reader.new) }
 {
     let Some(command) = read_command(part, reader, line, number)? else {
         return Ok(None);
@@ -215,6 +336,7 @@ fn read_request<R: CountedRead>(
 
 // Passes on what the writer holds back.
 fn flush<W: CountedWrite>(writer: &mut W) -> Result<(), ServeError>
+    ensures { Keeps (W.contents writer.old) (W.contents writer.new) }
 {
     if writer.try_flush() {
         Ok(())
@@ -232,6 +354,14 @@ fn serve_one<R: CountedRead, W: CountedWrite>(
     writer: &mut W,
     number: u64,
 ) -> Result<bool, ServeError>
+    requires { session.old.part.plan.vertices ≡ graph.now.graph.vertices }
+    ensures served { result ≡ Ok true → ServesOne graph.now (R.remaining reader.old)
+        (R.remaining reader.new) session.old session.new
+        (W.contents writer.old) (W.contents writer.new) }
+    ensures ended { result ≡ Ok false → ServesNone (R.remaining reader.old)
+        (R.remaining reader.new) session.old session.new
+        (W.contents writer.old) (W.contents writer.new) }
+    ensures part { session.new.part ≡ session.old.part }
 {
     let mut line = Vec::new(alloc);
     let mut body = Vec::new(alloc);
@@ -251,6 +381,10 @@ pub fn serve_commands<R: CountedRead, W: CountedWrite>(
     reader: &mut R,
     writer: &mut W,
 ) -> Result<(), ServeError>
+    requires { session.old.part.plan.vertices ≡ graph.now.graph.vertices }
+    ensures ok { OnOk result (Serves graph.now (R.remaining reader.old) (R.remaining reader.new)
+        session.old session.new (W.contents writer.old) (W.contents writer.new)) }
+    ensures part { session.new.part ≡ session.old.part }
 {
     for i in 0..u64::MAX {
         if !serve_one(alloc, graph, session, reader, writer, i + 1)? {
@@ -267,6 +401,11 @@ fn start(
     plan: &Plan,
     part: u16,
 ) -> Result<Session, JobError>
+    requires { IsJob (job_of graph.now.graph plan.now) }
+    ensures part { IfOk result (λ _. part < plan.now.parts) }
+    ensures start { IfOk result (Holds (job_of graph.now.graph plan.now) part
+        (start_holding plan.now part)) }
+    ensures vertices { IfOk result (λ s. s.part.plan.vertices ≡ graph.now.graph.vertices) }
 {
     if plan.parts() <= part {
         return Err(JobError::Part);

@@ -1,19 +1,18 @@
 //! A node's replica, and what it makes of commands.
 
-ghost use Rattle.std.specs.Prelude.{◌≡◌, ◌≢◌, ℕ, ◌<◌, Err, IfOk, IfErr, OnErr, [], Ok};
+ghost use Rattle.std.specs.Prelude.{◌≡◌, ◌≢◌, ℕ, ◌<◌, [], IfOk, IfErr, IsErr, OnErr, Ok};
 ghost use Rattle.std.specs.Arc.{arc_value};
 ghost use Rattle.ball_model.specs.declared.names.BatchName.{BatchName as Name};
 ghost use Rattle.ball_model.specs.declared.world.Answer.TheVariants as answer;
-ghost use Rattle.ball_model.specs.Batches.{batch_bytes, true_batch};
-ghost use Rattle.ball_model.specs.Held.{IsHeldBy, IsName, held_after, held_close_answer, held_take_answer, start_holding};
+ghost use Rattle.ball_model.specs.Batches.{true_batch};
+ghost use Rattle.ball_model.specs.Held.{IsName, held_after, held_close_answer, held_take_answer, start_holding};
 ghost use Rattle.ball_model.specs.Job.{Job, IsJob, part_of};
 ghost use Rattle.ball_model.specs.Join.{Holding, join_of};
-ghost use Rattle.ball_model.specs.State.{State};
 ghost use Rattle.ball_model.specs.Steps.{Take, Close};
 ghost use Rattle.ball_model.specs.World.{closed_answer, taken_answer};
-ghost use Rattle.world.specs.Shows.{Has, IsKept};
+ghost use Rattle.world.specs.Shows.{Has};
 ghost use Rattle.node.specs.NodeText.{IsDelivered, IsGivenBack};
-ghost use Rattle.node.specs.Turns.{Gives, IsNone, NotRefused, TurnsTo};
+ghost use Rattle.node.specs.Turns.{GivesOrWants, Holds, TurnsTo};
 ghost use Rattle.node.specs.declared.session.Reply.TheVariants as reply;
 
 use ball_model::world::Answer;
@@ -84,29 +83,39 @@ impl Session {
 
     /// Takes the batch that the bytes spell. The error is that memory was refused, and changes nothing.
     pub fn deliver(&mut self, alloc: Global, bytes: &[u8]) -> Result<Reply, AllocError>
-        ensures turned { (j : Job) (h : Holding) (name : Name) → IsHeldBy j h.partition h →
-            Has j h self.old → IsDelivered j bytes.now name →
-            IfOk result (TurnsTo j (taken_answer (held_take_answer j h name))
+        ensures turned { (j : Job) (p : ℕ) (h : Holding) (name : Name) → Holds j p h self.old →
+            IsDelivered j bytes.now name →
+            IfOk result (TurnsTo j p (taken_answer (held_take_answer j h name))
             (held_after j h (Take name)) self.new) }
         ensures part { self.new.part ≡ self.old.part }
         ensures unread { (e : BatchError) → result ≡ Ok (reply.NoBatch e) → self.new ≡ self.old }
         ensures refused { OnErr result (self.new ≡ self.old) }
     {
-        let batch = match read_batch(alloc, self.replica.plan(), bytes) {
-            Ok(batch) => batch,
-            Err(BatchError::Memory) => return Err(AllocError),
-            Err(error) => return Ok(Reply::NoBatch(error)),
-        };
+        match read_batch(alloc, self.replica.plan(), bytes) {
+            Ok(batch) => Ok(Reply::Answered(self.take(batch))),
+            Err(error) => no_batch(error),
+        }
+    }
+
+    // Takes a batch.
+    fn take(&mut self, batch: Arc<Batch>) -> Answer
+        ensures turned { (j : Job) (p : ℕ) (h : Holding) (name : Name) → Holds j p h self.old →
+            IsName j.plan name → arc_value batch ≡ true_batch j name →
+            TurnsTo j p (taken_answer (held_take_answer j h name)) (held_after j h (Take name))
+            self.new (reply.Answered result) }
+        ensures part { self.new.part ≡ self.old.part }
+    {
         let taken = self.replica.take(batch);
         // the limits of a replica are told with its superstep
         let _superstep = self.replica.superstep();
-        Ok(Reply::Answered(answer_to_take(taken)))
+        answer_to_take(taken)
     }
 
     /// Closes the superstep.
     pub fn close(&mut self) -> Answer
-        ensures turned { (j : Job) (h : Holding) → IsHeldBy j h.partition h → Has j h self.old →
-            (result ≡ closed_answer (held_close_answer j h)) × Has j (held_after j h Close) self.new }
+        ensures turned { (j : Job) (p : ℕ) (h : Holding) → Holds j p h self.old →
+            TurnsTo j p (closed_answer (held_close_answer j h)) (held_after j h Close) self.new
+            (reply.Answered result) }
         ensures part { self.new.part ≡ self.old.part }
     {
         let closed = self.replica.close();
@@ -118,30 +127,31 @@ impl Session {
     /// Goes back to the checkpoint that the bytes are, or to the start where there are none. Where the bytes are no
     /// checkpoint of the part the replica stays as it was. The error is that memory was refused, and changes nothing.
     pub fn restart(&mut self, alloc: Global, bytes: &[u8]) -> Result<Reply, AllocError>
-        ensures anew { (j : Job) (h : Holding) → Has j h self.old → bytes.now ≡ [] →
-            IfOk result (TurnsTo j (answer.Restarted (start_holding j.plan h.partition).superstep)
-            (start_holding j.plan h.partition) self.new) }
-        ensures turned { (j : Job) (h d : Holding) → Has j h self.old → bytes.now ≢ [] →
-            IsGivenBack j h.partition bytes.now d →
-            IfOk result (TurnsTo j (answer.Restarted d.superstep) d self.new) }
+        ensures anew { (j : Job) (p : ℕ) (h : Holding) → Holds j p h self.old → bytes.now ≡ [] →
+            IfOk result (TurnsTo j p (answer.Restarted (start_holding j.plan p).superstep)
+            (start_holding j.plan p) self.new) }
+        ensures turned { (j : Job) (p : ℕ) (h d : Holding) → Holds j p h self.old →
+            bytes.now ≢ [] → IsGivenBack j p bytes.now d →
+            IfOk result (TurnsTo j p (answer.Restarted d.superstep) d self.new) }
         ensures part { self.new.part ≡ self.old.part }
         ensures unread { (e : KeepError) → result ≡ Ok (reply.NoCheckpoint e) →
             self.new ≡ self.old }
         ensures refused { OnErr result (self.new ≡ self.old) }
     {
-        let replica = match self.restored(alloc, bytes) {
-            Ok(replica) => replica,
-            Err(KeepError::Memory) => return Err(AllocError),
-            Err(error) => return Ok(Reply::NoCheckpoint(error)),
-        };
-        self.replica = replica;
-        let superstep = self.replica.superstep();
-        Ok(Reply::Answered(Answer::Restarted { superstep }))
+        match self.restored(alloc, bytes) {
+            Ok(replica) => Ok(Reply::Answered(self.put(replica))),
+            Err(error) => no_checkpoint(error),
+        }
     }
 
     // The replica of a checkpoint, or of the start.
     fn restored(&self, alloc: Global, bytes: &[u8]) -> Result<Replica, KeepError>
         ensures part { IfOk result (λ r. r.part ≡ self.now.part) }
+        ensures anew { (j : Job) (p : ℕ) (h : Holding) → Holds j p h self.now → bytes.now ≡ [] →
+            GivesOrWants (Holds j p (start_holding j.plan p)) result }
+        ensures back { (j : Job) (p : ℕ) (h d : Holding) → Holds j p h self.now →
+            bytes.now ≢ [] → IsGivenBack j p bytes.now d →
+            GivesOrWants (Holds j p d) result }
     {
         let part = Arc::try_clone(&self.part)?;
         if bytes.is_empty() {
@@ -151,32 +161,87 @@ impl Session {
         }
     }
 
+    // Has that replica from now on.
+    fn put(&mut self, replica: Replica) -> Answer
+        requires { replica.part ≡ self.old.part }
+        ensures value { self.new ≡ replica }
+        ensures answer { result ≡ answer.Restarted replica.superstep }
+    {
+        self.replica = replica;
+        Answer::Restarted {
+            superstep: self.replica.superstep(),
+        }
+    }
+
     /// Takes over what the checkpoint has that the bytes are. Where they are no checkpoint of the part the replica stays
     /// as it was. The error is that memory was refused, and changes nothing.
     pub fn recover(&mut self, alloc: Global, bytes: &[u8]) -> Result<Reply, AllocError>
-        ensures turned { (j : Job) (h c : Holding) → IsHeldBy j h.partition h → Has j h self.old →
-            IsGivenBack j h.partition bytes.now c →
-            IfOk result (TurnsTo j (answer.Merged (join_of h c).superstep) (join_of h c) self.new) }
+        ensures turned { (j : Job) (p : ℕ) (h c : Holding) → Holds j p h self.old →
+            IsGivenBack j p bytes.now c →
+            IfOk result (TurnsTo j p (answer.Merged (join_of h c).superstep) (join_of h c)
+            self.new) }
         ensures part { self.new.part ≡ self.old.part }
         ensures unread { (e : KeepError) → result ≡ Ok (reply.NoCheckpoint e) →
             self.new ≡ self.old }
         ensures refused { OnErr result (self.new ≡ self.old) }
     {
         let part = Arc::try_clone(&self.part)?;
-        let mut other = match read_back(alloc, part, bytes) {
-            Ok(replica) => replica,
-            Err(KeepError::Memory) => return Err(AllocError),
-            Err(error) => return Ok(Reply::NoCheckpoint(error)),
-        };
+        match read_back(alloc, part, bytes) {
+            Ok(other) => self.take_over(alloc, other),
+            Err(error) => no_checkpoint(error),
+        }
+    }
+
+    // Takes over what another replica has.
+    fn take_over(&mut self, alloc: Global, mut other: Replica) -> Result<Reply, AllocError>
+        ensures turned { (j : Job) (p : ℕ) (h c : Holding) → Holds j p h self.old →
+            Holds j p c other →
+            IfOk result (TurnsTo j p (answer.Merged (join_of h c).superstep) (join_of h c)
+            self.new) }
+        ensures part { self.new.part ≡ self.old.part }
+        ensures kind { (e : KeepError) → result ≢ Ok (reply.NoCheckpoint e) }
+        ensures refused { OnErr result (self.new ≡ self.old) }
+    {
         let copy = other.snapshot(alloc)?;
         match self.replica.merge(alloc, &copy) {
-            Ok(()) => {
-                let superstep = self.replica.superstep();
-                Ok(Reply::Answered(Answer::Merged { superstep }))
-            }
-            Err(MergeError::Memory) => Err(AllocError),
-            Err(error) => Ok(Reply::Answered(Answer::NotMerged(error))),
+            Ok(()) => Ok(Reply::Answered(Answer::Merged {
+                superstep: self.replica.superstep(),
+            })),
+            Err(error) => unmerged(error),
         }
+    }
+}
+
+// What is said of bytes that are no batch. The error is that memory was refused.
+fn no_batch(error: BatchError) -> Result<Reply, AllocError>
+    ensures some { IfOk result (λ r. r ≡ reply.NoBatch error) }
+    ensures memory { error ≡ BatchError.Memory → IsErr result }
+{
+    match error {
+        BatchError::Memory => Err(AllocError),
+        _ => Ok(Reply::NoBatch(error)),
+    }
+}
+
+// What is said of bytes that are no checkpoint. The error is that memory was refused.
+fn no_checkpoint(error: KeepError) -> Result<Reply, AllocError>
+    ensures some { IfOk result (λ r. r ≡ reply.NoCheckpoint error) }
+    ensures memory { error ≡ KeepError.Memory → IsErr result }
+{
+    match error {
+        KeepError::Memory => Err(AllocError),
+        _ => Ok(Reply::NoCheckpoint(error)),
+    }
+}
+
+// What is said where a replica refused to merge. The error is that memory was refused.
+fn unmerged(error: MergeError) -> Result<Reply, AllocError>
+    ensures some { IfOk result (λ r. r ≡ reply.Answered (answer.NotMerged error)) }
+    ensures memory { IfOk result (λ _. error ≢ MergeError.Memory) }
+{
+    match error {
+        MergeError::Memory => Err(AllocError),
+        _ => Ok(Reply::Answered(Answer::NotMerged(error))),
     }
 }
 
@@ -209,10 +274,8 @@ fn read_batch(alloc: Global, plan: &Plan, bytes: &[u8]) -> Result<Arc<Batch>, Ba
 // The replica of a checkpoint in memory.
 fn read_back(alloc: Global, part: Arc<Part>, bytes: &[u8]) -> Result<Replica, KeepError>
     ensures part { IfOk result (λ r. r.part ≡ arc_value part) }
-    ensures back { (j : Job) (h : Holding) → part_of j h.partition ≡ arc_value part →
-        IsKept j h bytes.now → IfOk result (Has j h) }
-    ensures memory { (j : Job) (h : Holding) → part_of j h.partition ≡ arc_value part →
-        IsKept j h bytes.now → IfErr result (λ e. e ≡ KeepError.Memory) }
+    ensures back { (j : Job) (p : ℕ) (h : Holding) → arc_value part ≡ part_of j p →
+        IsGivenBack j p bytes.now h → GivesOrWants (Holds j p h) result }
 {
     let mut reader = MemReader::new(bytes, None);
     read_checkpoint(alloc, part, &mut reader)

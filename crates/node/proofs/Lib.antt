@@ -1,0 +1,4 @@
+pub mod SessionLemmas
+pub mod StepLemmas
+pub mod ServeLemmas
+pub mod SectionLemmas
