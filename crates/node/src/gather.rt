@@ -1,13 +1,19 @@
 //! The report of the checkpoints of all partitions.
 
+ghost use Rattle.std.specs.Prelude.{◌≡◌, ℕ, ◌<◌, ◌++◌, ◌∷◌, [], IfOk, OnOk, Some};
+ghost use Rattle.std.specs.Io.KnownBytes.{Consumes, IsAtEnd};
+ghost use Rattle.ball_model.specs.Job.{IsJob, job_of};
+ghost use Rattle.node.specs.Gathering.{Gathers, ReadsAll, ReadsOne, part_line, part_text};
+
 use crate::command::size;
 use crate::error::GatherError;
 use crate::input::{Body, Line, read_body, read_line};
 use crate::job::{JobOptions, part_of, read_job};
 use crate::limits::longest_checkpoint;
 use crate::section::{Next, next_of};
-use ball_model::{CountedRead, CountedWrite, MemReader, Plan};
-use checkpoint::{KeepError, read_checkpoint};
+use crate::session::read_back;
+use ball_model::{CountedRead, CountedWrite, Plan};
+use checkpoint::KeepError;
 use edgelist::{Graph, Part};
 use replica::Replica;
 use report::{report_ready, write_report};
@@ -18,6 +24,7 @@ use world::script::cut;
 
 // The length that a line `part L` tells.
 fn length_in(line: &[u8]) -> Option<u64>
+    ensures { (n : ℕ) → result ≡ Some n → line.now ++ 10 ∷ [] ≡ part_line n }
 {
     let (word, length) = cut(b' ', line)?;
     if word == b"part".as_slice() {
@@ -33,6 +40,8 @@ fn read_length<R: CountedRead>(
     reader: &mut R,
     p: u16,
 ) -> Result<u64, GatherError>
+    ensures { IfOk result (λ n.
+        Consumes (R.remaining reader.old) (R.remaining reader.new) (part_line n)) }
 {
     let mut line = Vec::new(alloc);
     match read_line(reader, &mut line) {
@@ -55,6 +64,8 @@ fn read_bytes<R: CountedRead>(
     reader: &mut R,
     part: &Part,
 ) -> Result<Vec<u8>, GatherError>
+    ensures { IfOk result (λ bytes.
+        Consumes (R.remaining reader.old) (R.remaining reader.new) (part_text bytes.items)) }
 {
     let p = part.partition();
     let length = read_length(alloc, reader, p)?;
@@ -78,10 +89,14 @@ fn read_replica<R: CountedRead>(
     p: u16,
     reader: &mut R,
 ) -> Result<Replica, GatherError>
+    requires job { IsJob (job_of graph.now.graph plan.now) }
+    requires below { p < plan.now.parts }
+    ensures { IfOk result (ReadsOne (job_of graph.now.graph plan.now) p
+        (R.remaining reader.old) (R.remaining reader.new)) }
 {
     let part = part_of(alloc, graph, plan, p)?;
     let bytes = read_bytes(alloc, reader, &part)?;
-    match read_checkpoint(alloc, part, &mut MemReader::new(&bytes, None)) {
+    match read_back(alloc, part, &bytes) {
         Ok(replica) => Ok(replica),
         Err(KeepError::Memory) => Err(GatherError::Memory),
         Err(error) => Err(GatherError::Checkpoint { part: p, error }),
@@ -95,6 +110,9 @@ fn read_replicas<R: CountedRead>(
     plan: &Plan,
     reader: &mut R,
 ) -> Result<Vec<Replica>, GatherError>
+    requires { IsJob (job_of graph.now.graph plan.now) }
+    ensures { IfOk result (λ replicas. ReadsAll (job_of graph.now.graph plan.now) plan.now.parts
+        (R.remaining reader.old) (R.remaining reader.new) replicas.items) }
 {
     let mut replicas = Vec::with_capacity(alloc, usize::from(plan.parts()))?;
     for p in 0..plan.parts() {
@@ -108,12 +126,38 @@ fn read_replicas<R: CountedRead>(
 
 // Whether the input is at its end.
 fn read_end<R: CountedRead>(reader: &mut R) -> Result<(), GatherError>
+    ensures end { OnOk result (IsAtEnd (R.remaining reader.new)) }
+    ensures kept { OnOk result (Consumes (R.remaining reader.old) (R.remaining reader.new) []) }
 {
     match next_of(reader) {
         Next::End => Ok(()),
         Next::Byte(_) => Err(GatherError::Trailing),
         Next::Failed => Err(GatherError::Read),
     }
+}
+
+/// Reads the checkpoints of all partitions of a job at the end of its run, and writes their report.
+///
+/// For each partition in order a line `part L`, and its checkpoint of L bytes.
+pub fn gather_parts<T: AllocGlobal + Threads + Sync, R: CountedRead, W: CountedWrite>(
+    rt: &T,
+    graph: &Graph,
+    plan: &Plan,
+    reader: &mut R,
+    writer: &mut W,
+) -> Result<(), GatherError>
+    requires { IsJob (job_of graph.now.graph plan.now) }
+    ensures ok { OnOk result (Gathers (job_of graph.now.graph plan.now) graph.now.labels
+        (R.remaining reader.old) (R.remaining reader.new)
+        (W.contents writer.old) (W.contents writer.new)) }
+{
+    let replicas = read_replicas(rt.alloc(), graph, plan, reader)?;
+    read_end(reader)?;
+    if !report_ready(&replicas) {
+        return Err(GatherError::NotReady);
+    }
+    write_report(rt, writer, graph, &replicas)?;
+    Ok(())
 }
 
 /// Reads a job and the checkpoints of all its partitions at the end of their run, and writes their report.
@@ -125,13 +169,6 @@ pub fn gather<T: AllocGlobal + Threads + Sync, R: CountedRead, W: CountedWrite>(
     writer: &mut W,
 ) -> Result<(), GatherError>
 {
-    let alloc = rt.alloc();
-    let (graph, plan) = read_job(alloc, state, options, reader)?;
-    let replicas = read_replicas(alloc, &graph, &plan, reader)?;
-    read_end(reader)?;
-    if !report_ready(&replicas) {
-        return Err(GatherError::NotReady);
-    }
-    write_report(rt, writer, &graph, &replicas)?;
-    Ok(())
+    let (graph, plan) = read_job(rt.alloc(), state, options, reader)?;
+    gather_parts(rt, &graph, &plan, reader, writer)
 }

@@ -3,6 +3,9 @@
 ghost use Rattle.std.specs.Prelude.{◌≡◌, ◌<◌, IfOk};
 ghost use Rattle.std.specs.Arc.{arc_value};
 ghost use Rattle.ball_model.specs.Job.{IsJob, job_of, part_of};
+ghost use Rattle.ball_model.specs.PlanValue.{plan_of};
+ghost use Rattle.ball_model.specs.RunText.{plan_over};
+ghost use Rattle.node.specs.Job.{CountsSome, IsJobRead, SaysNetwork, numbers_in, settings_in};
 
 use crate::error::JobError;
 use crate::section::{Cut, Section, Skipped, Step, next_step, skip};
@@ -48,6 +51,7 @@ fn read_graph<R: CountedRead>(
     options: &JobOptions,
     reader: &mut R,
 ) -> Result<Graph, JobError>
+    ensures { IfOk result (SaysNetwork (settings_in options.now) (R.remaining reader.old)) }
 {
     let mut cut = Cut::start();
     let graph = {
@@ -87,6 +91,7 @@ fn count_listed<R: CountedRead>(
     options: &JobOptions,
     reader: &mut R,
 ) -> Result<Graph, JobError>
+    ensures { IfOk result (CountsSome (settings_in options.now) options.now.counted graph) }
 {
     if options.counted {
         let mut list = Vec::new(alloc);
@@ -98,6 +103,8 @@ fn count_listed<R: CountedRead>(
 
 // The plan over a graph, or the first fault of the options.
 fn plan_for(graph: &Graph, options: &JobOptions) -> Result<Plan, PlanError>
+    ensures value { result ≡ plan_of (plan_over (numbers_in options.now) graph.now.graph) }
+    ensures job { IfOk result (λ plan. IsJob (job_of graph.now.graph plan)) }
 {
     let JobOptions {
         log2m,
@@ -130,6 +137,9 @@ pub fn read_job<R: CountedRead>(
     options: &JobOptions,
     reader: &mut R,
 ) -> Result<(Graph, Plan), JobError>
+    ensures read { IfOk result (λ both. IsJobRead (settings_in options.now) options.now.counted
+        (R.remaining reader.old) both.0 both.1) }
+    ensures job { IfOk result (λ both. IsJob (job_of both.0.graph both.1)) }
 {
     let graph = read_graph(alloc, state, options, reader)?;
     let graph = count_listed(alloc, graph, options, reader)?;

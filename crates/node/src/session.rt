@@ -271,8 +271,8 @@ fn read_batch(alloc: Global, plan: &Plan, bytes: &[u8]) -> Result<Arc<Batch>, Ba
     }
 }
 
-// The replica of a checkpoint in memory.
-fn read_back(alloc: Global, part: Arc<Part>, bytes: &[u8]) -> Result<Replica, KeepError>
+/// The replica of a checkpoint in memory.
+pub fn read_back(alloc: Global, part: Arc<Part>, bytes: &[u8]) -> Result<Replica, KeepError>
     ensures part { IfOk result (λ r. r.part ≡ arc_value part) }
     ensures back { (j : Job) (p : ℕ) (h : Holding) → arc_value part ≡ part_of j p →
         IsGivenBack j p bytes.now h → GivesOrWants (Holds j p h) result }
