@@ -3,6 +3,7 @@ pub mod Commands
 pub mod Section
 pub mod Stream
 pub mod Turns
+pub mod Own
 pub mod Job
 pub mod Serving
 pub mod Gathering

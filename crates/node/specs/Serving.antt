@@ -8,8 +8,6 @@ use Rattle.ball_model.specs.Join.{Holding}
 use Rattle.ball_model.specs.State.{State}
 use Rattle.world.specs.declared.tell.TellError.{TellError}
 use Rattle.world.specs.declared.tell.TellError.TheVariants as untold
-use Rattle.report.specs.declared.write.ReportError.{ReportError}
-use Rattle.report.specs.declared.write.ReportError.TheVariants as unreported
 use Rattle.node.specs.declared.command.Command.{Command}
 use Rattle.node.specs.declared.error.ServeError.{ServeError}
 use Rattle.node.specs.declared.error.ServeError.TheVariants as fault
@@ -21,10 +19,6 @@ use Rattle.node.specs.Turns.{Holds}
 abbrev pub told_tell : TellError → ServeError
 told_tell untold.Memory = fault.Memory
 told_tell untold.Write = fault.Write
-
-abbrev pub told_report : ReportError → ServeError
-told_report unreported.Memory = fault.Memory
-told_report unreported.Write = fault.Write
 
 -- ---- one answer
 

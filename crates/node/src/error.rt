@@ -131,19 +131,6 @@ impl From<TellError> for ServeError {
     }
 }
 
-impl From<ReportError> for ServeError {
-    ghost use Rattle.node.specs.Serving.{told_report};
-
-    ghost from_gives = { λ fault e. e ≡ told_report fault };
-
-    fn from(fault: ReportError) -> ServeError {
-        match fault {
-            ReportError::Memory => ServeError::Memory,
-            ReportError::Write => ServeError::Write,
-        }
-    }
-}
-
 /// Why a node answers no more, or not at all.
 #[derive(Clone, Copy, Debug, PartialEq, Eq, Error)]
 pub enum NodeError {

@@ -25,6 +25,7 @@ pub mod gather;
 pub mod input;
 pub mod job;
 pub mod limits;
+pub mod own;
 pub mod section;
 pub mod serve;
 pub mod session;

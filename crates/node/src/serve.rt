@@ -20,6 +20,7 @@ use crate::error::{JobError, NodeError, ServeError};
 use crate::input::{Body, Line, read_body, read_line};
 use crate::job::{JobOptions, part_of, read_job};
 use crate::limits::is_within;
+use crate::own::tell_own;
 use crate::session::{Reply, Session};
 use ball_model::world::WorldError;
 use ball_model::{CountedRead, CountedWrite, NodeId, Plan, put_all};
@@ -27,7 +28,7 @@ use batches::Batch;
 use checkpoint::{checkpoint_length, write_checkpoint};
 use edgelist::{Graph, Part};
 use replica::{Replica, Shown};
-use report::{totals_text, write_own};
+use report::totals_text;
 use std::alloc::Global;
 use std::hash::RandomState;
 use world::answer::put_refusal;
@@ -218,7 +219,7 @@ fn answer_figures<W: CountedWrite>(
         order.Figures body replica.now replica.now
         (W.contents writer.old) (W.contents writer.new)) }
 {
-    write_own(alloc, writer, graph, replica)?;
+    tell_own(alloc, graph, replica, writer)?;
     Ok(())
 }
 

@@ -2,4 +2,3 @@ pub mod Ready
 pub mod Parts
 pub mod Rows
 pub mod Laws
-pub mod Own

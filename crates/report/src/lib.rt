@@ -9,7 +9,7 @@
 //! ```
 //!
 //! [`report_ready`] says whether replicas are at the end of their run, and [`write_report`] writes their report.
-//! [`write_own`] writes the lines of one partition's vertices, at the superstep that its replica has reached.
+//! [`totals_text`] and [`figures_text`] give lines of it alone.
 #![tactic(auto)]
 
 pub mod laws;
@@ -19,7 +19,7 @@ mod parts;
 mod ready;
 mod write;
 
-pub use own::{totals_text, write_own};
+pub use own::{figures_text, totals_text};
 pub use ready::report_ready;
 pub use write::{ReportError, write_report};
 
