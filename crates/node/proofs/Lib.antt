@@ -2,3 +2,5 @@ pub mod SessionLemmas
 pub mod StepLemmas
 pub mod ServeLemmas
 pub mod SectionLemmas
+pub mod OwnLemmas
+pub mod CommandLemmas
