@@ -24,6 +24,7 @@ ghost use Rattle.workers.specs.declared.bytes.RunError.{RunError as NoReport};
 ghost use Rattle.hyperball.specs.declared.whole.WholeError.{WholeError as NoInput};
 ghost use Rattle.hyperball.specs.declared.words.RunWords.{RunWords as Run};
 
+use crate::node_words::NodeWords;
 use crate::options::run_options;
 use crate::orders::OrdersError;
 use crate::progress::{Faults, TellingGate};
@@ -33,6 +34,8 @@ use crate::whole::{WholeError, read_whole, sections};
 use crate::words::{Said, Wish, WordsError, read_words};
 use ball_model::{CountedRead, CountedWrite, CountingReader, put_all};
 use clap::error::ErrorKind;
+use node::gather::gather;
+use node::job::JobOptions;
 use std::alloc::{AllocGlobal, Global};
 use std::fmt::Display;
 use std::hash::RandomState;
@@ -422,6 +425,45 @@ fn serve_replay<H: AllocGlobal + RandomSource, R: CountedRead, W: CountedWrite, 
     }
 }
 
+// The status of a node, whose fault is told.
+fn serve_node<H: AllocGlobal + RandomSource, R: CountedRead, W: CountedWrite, F: Faults>(
+    rt: &H,
+    words: &NodeWords,
+    reader: &mut R,
+    writer: &mut W,
+    faults: &mut F,
+) -> u8 {
+    let Ok(state) = RandomState::new(rt) else {
+        return tell_fault(faults, "the system gives no random words");
+    };
+    match node::serve::serve_node(rt.alloc(), state, &words.options, words.part, reader, writer) {
+        Ok(()) => DONE,
+        Err(fault) => tell_fault(faults, fault),
+    }
+}
+
+// The status of a gathering, whose fault is told.
+fn serve_gather<
+    H: AllocGlobal + RandomSource + Threads + Sync,
+    R: CountedRead,
+    W: CountedWrite,
+    F: Faults,
+>(
+    rt: &H,
+    options: &JobOptions,
+    reader: &mut R,
+    writer: &mut W,
+    faults: &mut F,
+) -> u8 {
+    let Ok(state) = RandomState::new(rt) else {
+        return tell_fault(faults, "the system gives no random words");
+    };
+    match gather(rt, state, options, reader, writer) {
+        Ok(()) => DONE,
+        Err(fault) => tell_fault(faults, fault),
+    }
+}
+
 /// Does what the words of a command line say, and gives the exit status.
 ///
 /// 0: the report or the answers were written, or help was asked for, whose text goes to the writer; nothing goes to
@@ -470,6 +512,8 @@ pub fn serve<
     match read_words(rt.alloc(), words) {
         Ok(Wish::Run(said)) => serve_run(rt, said, reader, writer, faults),
         Ok(Wish::Replay(words)) => serve_replay(rt, &words, reader, writer, faults),
+        Ok(Wish::Node(words)) => serve_node(rt, &words, reader, writer, faults),
+        Ok(Wish::Gather(options)) => serve_gather(rt, &options, reader, writer, faults),
         Err(error) => tell_words(rt.alloc(), &error, writer, faults),
     }
 }

@@ -27,12 +27,16 @@ ghost use Rattle.edgelist.specs.declared.read.Delimiter.{Delimiter as Between};
 ghost use Rattle.edgelist.specs.declared.read.Delimiter.TheVariants.{Tab};
 
 use crate::options::{Options, Orders, USUAL};
+use crate::node_words::{
+    NodeWords, gather_command, job_options_of, node_command, node_words_of,
+};
 use crate::orders::{OrdersError, orders_in};
 use crate::replay_words::{ReplayWords, replay_command, replay_words_of};
 use ball_model::{Estimate, NodeId};
 use clap::builder::ValueParser;
 use clap::{Arg, ArgAction, ArgMatches, Command, Error, value_parser};
 use edgelist::Delimiter;
+use node::job::JobOptions;
 use std::alloc::{AllocError, Global};
 
 /// The names that `--delimiter` takes.
@@ -302,7 +306,11 @@ pub fn command<'a>(alloc: Global) -> Result<Command<'a>, AllocError>
     let between = delimiters();
     let top = with_run(alloc, ways, between)?;
     let replay = replay_command(alloc, ways, between)?;
-    top.subcommand(replay)
+    let top = top.subcommand(replay)?;
+    let node = node_command(alloc, ways, between)?;
+    let top = top.subcommand(node)?;
+    let gather = gather_command(alloc, ways, between)?;
+    top.subcommand(gather)
 }
 
 // The words, as the program's command reads them.
@@ -413,6 +421,10 @@ pub enum Wish {
     Run(Said),
     /// A replay.
     Replay(ReplayWords),
+    /// A node of a partition.
+    Node(NodeWords),
+    /// The report of checkpoints.
+    Gather(JobOptions),
 }
 
 /// Why words are no command.
@@ -466,6 +478,8 @@ fn wish_of(alloc: Global, matches: &ArgMatches<'_>) -> Result<Wish, WordsError>
 {
     match matches.subcommand().unwrap() {
         ("replay", inner) => Ok(Wish::Replay(replay_words_of(inner))),
+        ("node", inner) => Ok(Wish::Node(node_words_of(inner))),
+        ("gather", inner) => Ok(Wish::Gather(job_options_of(inner))),
         _ => match run_words(alloc, matches) {
             Ok(said) => Ok(Wish::Run(said)),
             Err(error) => Err(error),

@@ -4,3 +4,4 @@ pub mod ServeLemmas
 pub mod SectionLemmas
 pub mod OwnLemmas
 pub mod CommandLemmas
+pub mod GatherLemmas

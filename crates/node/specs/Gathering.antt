@@ -1,5 +1,5 @@
 -- The report of the checkpoints of all partitions.
-use Rattle.std.specs.Prelude.{◌≡◌, ℕ, ◌<◌, List, [], ◌∷◌, ◌++◌, length, Option, slice_index_or, codes, decimal}
+use Rattle.std.specs.Prelude.{◌≡◌, ⊤, ℕ, ◌+◌, List, [], ◌∷◌, ◌++◌, length, Option, codes, decimal}
 use Rattle.std.specs.List.{flat_map}
 use Rattle.std.specs.Io.KnownBytes.{Appends, Consumes, IsAtEnd}
 use Rattle.ball_model.specs.Job.{Job, part_of}
@@ -31,11 +31,11 @@ part_text body = part_line (length body) ++ body
 abbrev pub parts_text : List (List ℕ) → List ℕ
 parts_text bodies = flat_map part_text bodies
 
--- the bytes at each place are a checkpoint of the partition of that number which stands for the job
-pub record AreGivenBack (j : Job) (bodies : List (List ℕ)) : Type 0 where
-  pub count : length bodies ≡ j.plan.parts
-  pub each : (p : ℕ) → p < length bodies →
-      (h : Holding) × IsGivenBack j p (slice_index_or bodies p []) h
+-- each is a checkpoint that stands for the job, of partition p and those that follow
+unfoldable pub AreGivenBack : Job → ℕ → List (List ℕ) → Type 0
+AreGivenBack j p [] = ⊤
+AreGivenBack j p (body ∷ bodies) =
+    ((h : Holding) × IsGivenBack j p body h) × AreGivenBack j (p + 1) bodies
 
 -- all that is left of the input is checkpoints, one of each partition; and where they stand for the job, its report was
 -- appended
@@ -45,7 +45,7 @@ pub record Gathers (j : Job) (labels : List (List ℕ)) (left left' : Option (Li
   pub count : length bodies ≡ j.plan.parts
   pub consumed : Consumes left left' (parts_text bodies)
   pub end : IsAtEnd left'
-  pub report : AreGivenBack j bodies → Appends old new (job_report j labels)
+  pub report : AreGivenBack j 0 bodies → Appends old new (job_report j labels)
 
 -- ---- how checkpoints are read
 
@@ -59,12 +59,16 @@ pub record ReadsOne (j : Job) (p : ℕ) (left left' : Option (List ℕ)) (v : St
   pub consumed : Consumes left left' (part_text body)
   pub made : IsMadeOf j p body v
 
+-- such replicas were made of such bytes, of partition p and those that follow
+unfoldable pub AreMadeOf : Job → ℕ → List (List ℕ) → List State → Type 0
+AreMadeOf j p [] [] = ⊤
+AreMadeOf j p (body ∷ bodies) (v ∷ vs) = IsMadeOf j p body v × AreMadeOf j (p + 1) bodies vs
+AreMadeOf j p bodies vs = ⊥
+
 -- of the first n partitions
 pub record ReadsAll (j : Job) (n : ℕ) (left left' : Option (List ℕ))
     (replicas : List State) : Type 0 where
   pub bodies : List (List ℕ)
   pub count : length bodies ≡ n
-  pub size : length replicas ≡ n
   pub consumed : Consumes left left' (parts_text bodies)
-  pub made : (p : ℕ) (d : State) → p < n →
-      IsMadeOf j p (slice_index_or bodies p []) (slice_index_or replicas p d)
+  pub made : AreMadeOf j 0 bodies replicas

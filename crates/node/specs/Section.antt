@@ -70,8 +70,26 @@ pub record RestOf (begins : Bool) (text : List ℕ) (new : Option (List ℕ)) : 
 abbrev pub LeavesRest : Bool → Option (List ℕ) → Option (List ℕ) → Type 0
 LeavesRest begins old new = IfSome old (λ text. RestOf begins text new)
 
+-- the section has ended
+abbrev pub IsOver : Step → Type 0
+IsOver (step.Byte b) = ⊥
+IsOver step.Mark = ⊤
+IsOver step.End = ⊤
+IsOver step.Failed = ⊥
+
 abbrev pub IsByteOrEnd : Step → Type 0
 IsByteOrEnd (step.Byte b) = ⊤
 IsByteOrEnd step.Mark = ⊥
 IsByteOrEnd step.End = ⊤
 IsByteOrEnd step.Failed = ⊥
+
+-- some bytes of a section were passed: it goes on with what is left, where a line begins or not
+pub record PassedOf (begins begins' : Bool) (text : List ℕ) (new : Option (List ℕ)) : Type 0 where
+  pub front : List ℕ
+  pub rest : List ℕ
+  pub new_is : new ≡ Some rest
+  pub sections : (f r : List ℕ) → sections_from begins' rest ≡ Some (f, r) →
+      sections_from begins text ≡ Some (front ++ f, r)
+
+abbrev pub Passed : Bool → Bool → Option (List ℕ) → Option (List ℕ) → Type 0
+Passed begins begins' old new = IfSome old (λ text. PassedOf begins begins' text new)

@@ -55,7 +55,7 @@ pub fn read_line<R: CountedRead>(reader: &mut R, line: &mut Vec<u8>) -> Line
     ensures counted { result ≢ Line.Failed →
         R.failed_calls reader.new ≡ R.failed_calls reader.old }
 {
-    for _ in 0..MOST_LINE {
+    while line.len() < MOST_LINE {
         match next_of(reader) {
             Next::Byte(b'\n') => return Line::Whole,
             Next::Byte(byte) => {
@@ -84,18 +84,18 @@ pub enum Body {
 }
 
 /// Reads so many bytes into `body`, which is empty. Memory is taken as they come.
-pub fn read_body<R: CountedRead>(reader: &mut R, length: u64, body: &mut Vec<u8>) -> Body
+pub fn read_body<R: CountedRead>(reader: &mut R, size: u64, body: &mut Vec<u8>) -> Body
     requires { body.old.items ≡ [] }
     ensures whole { result ≡ Body.Whole →
         Consumes (R.remaining reader.old) (R.remaining reader.new) body.new.items }
-    ensures length { result ≡ Body.Whole → length body.new.items ≡ length }
+    ensures length { result ≡ Body.Whole → length body.new.items ≡ size }
     ensures failed { result ≡ Body.Failed →
         Rises (R.failed_calls reader.old) (R.failed_calls reader.new) }
     ensures counted { result ≢ Body.Failed →
         R.failed_calls reader.new ≡ R.failed_calls reader.old }
 {
     let mut piece = [0u8; PIECE];
-    let mut left = length;
+    let mut left = size;
     while left > 0 {
         let count = left.min(PIECE as u64) as usize;
         match fill(reader, &mut piece[..count]) {

@@ -4,12 +4,13 @@
 //! the rest of a section and tells whether it ended at a mark. Bytes are taken from the reader one at a time, so what
 //! follows the mark is still there: the reader underneath is to be a buffered one.
 
-ghost use Rattle.std.specs.Prelude.{◌≡◌, ◌≢◌, ℕ, ◌∷◌, ◌==◌, [], true, false, None, Some, option_map};
+ghost use Rattle.std.specs.Prelude.{◌≡◌, ◌≢◌, ℕ, ◌∷◌, ◌==◌, [], ◌<◌, true, false, None, Some, IfOk, IsSome, OnErr, option_map};
 ghost use Rattle.std.specs.Io.KnownBytes.{Consumes, IsAtEnd, Keeps, ReadConsumes, prepend_known};
 ghost use Rattle.std.specs.Io.{ReadsAtMost};
 ghost use Rattle.ball_model.specs.Sections.{after_line, after_mark};
 ghost use Rattle.ball_model.specs.Streams.{Rises};
-ghost use Rattle.node.specs.Section.{EndsAtMark, Gives, IsAhead, IsByteOrEnd, IsPast, LeavesRest};
+ghost use Rattle.node.specs.Section.{EndsAtMark, Gives, IsAhead, IsByteOrEnd, IsOver, IsPast};
+ghost use Rattle.node.specs.Section.{LeavesRest, Passed};
 ghost use Rattle.node.specs.Section.{is_front, is_tail, section_left};
 
 use arrayvec::ArrayVec;
@@ -246,8 +247,51 @@ fn step_in_line<R: CountedRead>(reader: &mut R, ahead: &mut ArrayVec<u8, 4>) -> 
     }
 }
 
+// A step where a line begins, or within one.
+fn step_of<R: CountedRead>(reader: &mut R, begins: bool, ahead: &mut ArrayVec<u8, 4>) -> Step
+    requires { IsAhead begins ahead.old.items }
+    ensures byte { (b : ℕ) → result ≡ Step.Byte b → Gives begins b
+        (prepend_known ahead.old.items (R.remaining reader.old))
+        (prepend_known ahead.new.items (R.remaining reader.new)) }
+    ensures ahead { (b : ℕ) → result ≡ Step.Byte b → IsAhead (b == 10) ahead.new.items }
+    ensures mark { result ≡ Step.Mark → EndsAtMark begins
+        (prepend_known ahead.old.items (R.remaining reader.old)) (R.remaining reader.new) }
+    ensures over { IsOver result → ahead.new.items ≡ [] }
+    ensures end { result ≡ Step.End →
+        IsAtEnd (prepend_known ahead.old.items (R.remaining reader.old)) }
+    ensures kept { result ≡ Step.Failed →
+        Keeps (prepend_known ahead.old.items (R.remaining reader.old))
+        (prepend_known ahead.new.items (R.remaining reader.new)) }
+    ensures still { result ≡ Step.Failed → IsAhead begins ahead.new.items }
+    ensures failed { result ≡ Step.Failed →
+        Rises (R.failed_calls reader.old) (R.failed_calls reader.new) }
+    ensures counted { result ≢ Step.Failed →
+        R.failed_calls reader.new ≡ R.failed_calls reader.old }
+{
+    if begins {
+        step_at_line(reader, ahead)
+    } else {
+        step_in_line(reader, ahead)
+    }
+}
+
 /// The next byte of a section, or its end. Nothing is read behind the end.
 pub fn next_step<R: CountedRead>(reader: &mut R, cut: &mut Cut) -> Step
+    // What is left of the section.
+    ensures given { (b : ℕ) → result ≡ Step.Byte b → Consumes
+        (section_left cut.old.ended cut.old.begins
+        (prepend_known cut.old.ahead.items (R.remaining reader.old)))
+        (section_left cut.new.ended cut.new.begins
+        (prepend_known cut.new.ahead.items (R.remaining reader.new))) (b ∷ []) }
+    ensures over { IsOver result → Consumes
+        (section_left cut.old.ended cut.old.begins
+        (prepend_known cut.old.ahead.items (R.remaining reader.old))) (Some []) [] }
+    ensures still { result ≡ Step.Failed → Keeps
+        (section_left cut.old.ended cut.old.begins
+        (prepend_known cut.old.ahead.items (R.remaining reader.old)))
+        (section_left cut.new.ended cut.new.begins
+        (prepend_known cut.new.ahead.items (R.remaining reader.new))) }
+    // What is left of the input behind it.
     ensures byte { (b : ℕ) → result ≡ Step.Byte b → Gives cut.old.begins b
         (prepend_known cut.old.ahead.items (R.remaining reader.old))
         (prepend_known cut.new.ahead.items (R.remaining reader.new)) }
@@ -255,15 +299,7 @@ pub fn next_step<R: CountedRead>(reader: &mut R, cut: &mut Cut) -> Step
     ensures open { (b : ℕ) → result ≡ Step.Byte b → cut.new.ended ≡ None }
     ensures mark { result ≡ Step.Mark → cut.old.ended ≡ None → EndsAtMark cut.old.begins
         (prepend_known cut.old.ahead.items (R.remaining reader.old)) (R.remaining reader.new) }
-    ensures marked { result ≡ Step.Mark → cut.new.ended ≡ Some true }
-    ensures end { result ≡ Step.End → cut.old.ended ≡ None →
-        IsAtEnd (prepend_known cut.old.ahead.items (R.remaining reader.old)) }
-    ensures ended { result ≡ Step.End → cut.new.ended ≡ Some false }
-    ensures kept { result ≡ Step.Failed → cut.new.begins ≡ cut.old.begins }
-    ensures still { result ≡ Step.Failed → cut.new.ended ≡ None }
-    ensures same { result ≡ Step.Failed →
-        Keeps (prepend_known cut.old.ahead.items (R.remaining reader.old))
-        (prepend_known cut.new.ahead.items (R.remaining reader.new)) }
+    ensures ended { IsOver result → IsSome cut.new.ended }
     ensures failed { result ≡ Step.Failed →
         Rises (R.failed_calls reader.old) (R.failed_calls reader.new) }
     ensures counted { result ≢ Step.Failed →
@@ -274,11 +310,7 @@ pub fn next_step<R: CountedRead>(reader: &mut R, cut: &mut Cut) -> Step
         Some(false) => return Step::End,
         None => {}
     }
-    let step = if cut.begins {
-        step_at_line(reader, &mut cut.ahead)
-    } else {
-        step_in_line(reader, &mut cut.ahead)
-    };
+    let step = step_of(reader, cut.begins, &mut cut.ahead);
     match step {
         Step::Byte(byte) => cut.begins = byte == b'\n',
         Step::Mark => cut.ended = Some(true),
@@ -309,6 +341,12 @@ fn read_some<R: CountedRead>(reader: &mut R, cut: &mut Cut, buf: &mut [u8]) -> i
 
 // What is told of a call that failed behind so many bytes: these first, and the failure at the next call.
 fn told(cut: &mut Cut, count: usize) -> io::Result<usize>
+    ensures ok { IfOk result (λ n. n ≡ count) }
+    ensures some { IfOk result (λ n. 0 < n) }
+    ensures none { OnErr result (count ≡ 0) }
+    ensures begins { cut.new.begins ≡ cut.old.begins }
+    ensures ahead { cut.new.ahead ≡ cut.old.ahead }
+    ensures ended { cut.new.ended ≡ cut.old.ended }
 {
     if count == 0 {
         return Err(io::Error::from(ErrorKind::Other));
