@@ -388,7 +388,8 @@ pub fn serve_commands<R: CountedRead, W: CountedWrite>(
     ensures part { session.new.part ≡ session.old.part }
 {
     for i in 0..u64::MAX {
-        if !serve_one(alloc, graph, session, reader, writer, i + 1)? {
+        let more = serve_one(alloc, graph, session, reader, writer, i + 1)?;
+        if !more {
             return Ok(());
         }
     }
