@@ -1,5 +1,5 @@
 -- What a call of a replica makes of its holding.
-use Rattle.std.proofs.Common.{◌≡◌, ◌≢◌, ◌∙◌, ℕ, ◌<◌, ◌==◌, Bool, true, false, not, if◌then◌else◌, List, refl, ap, sym, subst}
+use Rattle.std.proofs.Common.{◌≡◌, ◌≢◌, ◌∙◌, ℕ, ◌<◌, ◌==◌, Bool, true, false, not, if◌then◌else◌, List, refl, ap, sym, subst, ◌⊎◌, inl, inr}
 use Rattle.std.proofs.lemmas.Bool.{eq-eqb}
 use Rattle.ball_model.specs.Content.{same_plan}
 use Rattle.replica.proofs.RunLemmas.{same_plan-self}
@@ -24,6 +24,8 @@ use Rattle.ball_model.specs.World.{Node, closed_answer, taken_answer}
 use Rattle.ball_model.specs.WorldLaws.{IsNode}
 use Rattle.ball_model.proofs.HeldLemmas.{closed_held, joined_held, start_held, taken_held}
 use Rattle.checkpoint.specs.declared.error.KeepError.{KeepError}
+use Rattle.checkpoint.specs.declared.error.KeepError.TheVariants as unkept
+use Rattle.checkpoint.specs.Reading.{IfOkButWant, IsRead}
 use Rattle.replica.specs.Runs.{Takes, Closes}
 use Rattle.replica.specs.Saved.{IsKeepable}
 use Rattle.replica.specs.Seen.{IsState}
@@ -82,17 +84,21 @@ closed_turns j p h r a v w k step state said =
     }
 
 -- ---- a checkpoint
-pub given_back : (j : Job) (p : ℕ) (h : Holding) (part : State) (bytes : List ℕ) (r : Result State KeepError) → IsGivenBack j p bytes h →
-    ((v : State) → IsKeepable v → v.part ≡ part_of j p → bytes ≡ checkpoint_bytes v → GivesOrWants (λ w. w ≡ v) r) → GivesOrWants (Holds j p h) r
-given_back j p h part bytes (Ok w) g read =
+wants : (e : KeepError) → (IsRead e → ⊥) → (e ≡ unkept.Memory) ⊎ (e ≡ unkept.Read) → e ≡ unkept.Memory
+wants e sure (inl memory) = memory
+wants e sure (inr read) = absurd (sure (subst IsRead (sym read) tt))
+
+pub given_back : (j : Job) (p : ℕ) (h : Holding) (bytes : List ℕ) (r : Result State KeepError) → IsGivenBack j p bytes h → IfErr r (λ e. IsRead e → ⊥) →
+    ((v : State) → IsKeepable v → v.part ≡ part_of j p → bytes ≡ checkpoint_bytes v → IfOkButWant r (λ w. w ≡ v)) → GivesOrWants (Holds j p h) r
+given_back j p h bytes (Ok w) g sure read =
     let v = g.kept.replica in
     let has = g.kept.has in
-    let same = read v (keepable j h v has) (has.holding.stands.part ∙ ap (part_of j) g.held.partition) g.kept.bytes_are in
+    let same : w ≡ v = read v (keepable j h v has) (has.holding.stands.part ∙ ap (part_of j) g.held.partition) g.kept.bytes_are in
     record { held = g.held; has = subst (λ (x : State). Has j h x) (sym same) has }
-given_back j p h part bytes (Err e) g read =
+given_back j p h bytes (Err e) g sure read =
     let v = g.kept.replica in
     let has = g.kept.has in
-    read v (keepable j h v has) (has.holding.stands.part ∙ ap (part_of j) g.held.partition) g.kept.bytes_are
+    wants e sure (read v (keepable j h v has) (has.holding.stands.part ∙ ap (part_of j) g.held.partition) g.kept.bytes_are)
 
 -- ---- a replica that is merged
 abbrev fine : Result (Unit {0}) MergeError
