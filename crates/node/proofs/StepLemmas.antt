@@ -1,6 +1,8 @@
 -- What a command asks for, and its answer.
-use Rattle.std.proofs.Common.{◌≡◌, ◌≢◌, ◌∙◌, ℕ, ◌+◌, ◌<◌, List, [], ◌∷◌, ◌++◌, refl, ap, sym, subst}
-use Rattle.std.specs.Prelude.{Option, None, Some, Result, Ok, Err, unwrap_or, codes}
+use Rattle.std.proofs.Common.{◌≡◌, ◌≢◌, ◌∙◌, ℕ, ◌+◌, ◌<◌, ◌≤◌, ◌==◌, ◌&&◌, ◌⊎◌, inl, inr, nat_lt, Bool, true, false, not, if◌then◌else◌, List, [], ◌∷◌, ◌++◌, length, slice_index, refl, ap, sym, subst, arith}
+use Rattle.std.specs.Prelude.{Option, None, Some, Result, Ok, Err, unwrap_or, codes, decimal}
+use Rattle.std.proofs.lemmas.Bool.{eq-eqb, le-ltb, lt-ltb, ne_eqb}
+use Rattle.std.proofs.lemmas.List.FromFn.{get_or-map-range_with_len, length-map-range_with_len}
 use Rattle.ball_model.specs.declared.names.BatchName.{BatchName}
 use Rattle.ball_model.specs.declared.names.Taken.{Taken}
 use Rattle.ball_model.specs.declared.names.TakeError.{TakeError}
@@ -10,15 +12,25 @@ use Rattle.ball_model.specs.Held.{held_after, held_close_answer, held_take_answe
 use Rattle.ball_model.specs.Input.{Network}
 use Rattle.ball_model.specs.Job.{Job}
 use Rattle.ball_model.specs.Join.{Holding, join_of}
-use Rattle.ball_model.specs.State.{State}
+use Rattle.ball_model.specs.declared.world.WorldError.TheVariants as refusal
+use Rattle.ball_model.specs.Batches.{BatchValue, true_batch}
+use Rattle.ball_model.specs.Checkpoint.{checkpoint_bytes}
+use Rattle.ball_model.specs.PlanValue.{PlanValue, mixing_of}
+use Rattle.ball_model.specs.Report.{superstep_line}
+use Rattle.ball_model.specs.State.{State, StandsFor, own_vertices, sums_of}
+use Rattle.ball_model.specs.Supersteps.{total_over}
+use Rattle.replica.specs.Sent.{batch_name}
+use Rattle.replica.proofs.LevelLemmas.{number_is, plan_is}
+use Rattle.report.specs.Parts.{superstep_lines}
+use Rattle.report.proofs.VertexLemmas.{lines_same}
 use Rattle.ball_model.specs.Steps.{Take, Close}
 use Rattle.ball_model.specs.World.{closed_answer, taken_answer}
-use Rattle.ball_model.specs.WorldText.{number_line}
+use Rattle.ball_model.specs.WorldText.{number_line, refusal_line, show_text, words_line}
 use Rattle.node.specs.declared.command.Command.{Command}
 use Rattle.node.specs.declared.command.Command.TheVariants as command
 use Rattle.node.specs.declared.session.Reply.{Reply}
 use Rattle.node.specs.declared.session.Reply.TheVariants as reply
-use Rattle.node.specs.NodeText.{Answers, Asked, Asks, IsDelivered, IsGivenBack, IsStart, Send, Deliver, Closing, Keep, Restart, Recover, Show, Totals, Figures, after_asked, closed_line, took_line}
+use Rattle.node.specs.NodeText.{Answers, Asked, Asks, IsDelivered, IsGivenBack, IsStart, Send, Deliver, Closing, Keep, Restart, Recover, Show, Totals, Figures, after_asked, alone, closed_line, send_text, sent_text, took_line, totals_text}
 use Rattle.node.specs.Serving.{StepsTo}
 use Rattle.node.specs.Turns.{Holds, TurnsTo, reply_text, said_text}
 
@@ -150,3 +162,66 @@ recover_steps network n body v w r text is turned = record {
     holds : (j : Job) (p : ℕ) (h : Holding) (a : Asked) → Holds j p h v → Asks j p (command.Recover n) body a → Holds j p (after_asked j h a) w
     holds j p h (Recover c) k asks = (turned j p h c k asks).holds
     holds j p h a k asks = absurd asks
+
+-- ---- answers that leave the node as it was
+
+chosen : (t u : Bool) (x y : List ℕ) → t ≡ true → u ≡ false → (if t && not u then x else y) ≡ x
+chosen true false x y e f = refl
+chosen true true x y e f = absurd (cc)
+chosen false u x y e f = absurd (cc)
+
+unchosen : (t u : Bool) (x y : List ℕ) → t ≡ false → (if t && u then x else y) ≡ y
+unchosen true u x y e = absurd (cc)
+unchosen false u x y e = refl
+
+own_chosen : (t u : Bool) (x y : List ℕ) → u ≡ true → (if t && not u then x else y) ≡ y
+own_chosen true true x y e = refl
+own_chosen true false x y e = absurd (cc)
+own_chosen false u x y e = refl
+
+-- what is sent to another partition
+pub sends_batch : (j : Job) (p : ℕ) (h : Holding) (v : State) (q : ℕ) (b : BatchValue) → Holds j p h v → q < v.part.plan.parts → q ≢ v.part.number →
+    ((t : ℕ) → StandsFor j h.partition t v → b ≡ true_batch j (batch_name t h.partition q)) → sent_text b ≡ send_text j h q
+sends_batch j p h v q b k below other told =
+    let s = k.has.holding.stands in
+    let plan : v.part.plan ≡ j.plan = plan_is j h.partition h.superstep v s in
+    let number : v.part.number ≡ h.partition = number_is j h.partition h.superstep v s in
+    let few : nat_lt q j.plan.parts ≡ true = lt-ltb q j.plan.parts (subst (λ (x : PlanValue). q < x.parts) plan below) in
+    let apart : (q == h.partition) ≡ false = ne_eqb q h.partition (λ e. other (e ∙ sym number)) in
+    ap sent_text (told h.superstep s) ∙ sym (chosen (nat_lt q j.plan.parts) (q == h.partition) (sent_text (true_batch j (batch_name h.superstep h.partition q))) (refusal_line refusal.NoTarget) few apart)
+
+-- what is said where there is no such partition
+pub sends_nothing : (j : Job) (p : ℕ) (h : Holding) (v : State) (q : ℕ) → Holds j p h v → (v.part.plan.parts ≤ q) ⊎ (q ≡ v.part.number) → refusal_line refusal.NoTarget ≡ send_text j h q
+sends_nothing j p h v q k (inl le) =
+    let plan : v.part.plan ≡ j.plan = plan_is j h.partition h.superstep v k.has.holding.stands in
+    let many : nat_lt q j.plan.parts ≡ false = le-ltb q j.plan.parts (subst (λ (x : PlanValue). x.parts ≤ q) plan le) in
+    sym (unchosen (nat_lt q j.plan.parts) (not (q == h.partition)) _ (refusal_line refusal.NoTarget) many)
+sends_nothing j p h v q k (inr own) =
+    let number : v.part.number ≡ h.partition = number_is j h.partition h.superstep v k.has.holding.stands in
+    let same : (q == h.partition) ≡ true = eq-eqb q h.partition (own ∙ number) in
+    sym (own_chosen (nat_lt q j.plan.parts) (q == h.partition) _ (refusal_line refusal.NoTarget) same)
+
+-- a checkpoint
+pub keeps : (j : Job) (p : ℕ) (h : Holding) (v : State) (labels : List (List ℕ)) (t n : ℕ) → Holds j p h v → t ≡ v.superstep → n ≡ length (checkpoint_bytes v) →
+    Answers j labels h Keep (words_line (codes "kept" ∷ decimal t ∷ decimal n ∷ []) ++ checkpoint_bytes v)
+keeps j p h v labels t n k at long = record {
+  bytes = checkpoint_bytes v;
+  kept = record { replica = v; has = k.has; bytes_are = refl };
+  text_is =
+      ap (λ (x : ℕ). words_line (codes "kept" ∷ decimal x ∷ decimal n ∷ []) ++ checkpoint_bytes v) (at ∙ k.has.holding.stands.superstep)
+      ∙ ap (λ (x : ℕ). words_line (codes "kept" ∷ decimal h.superstep ∷ decimal x ∷ []) ++ checkpoint_bytes v) long;
+}
+
+-- the node as it is named alone
+pub named : (j : Job) (p : ℕ) (h : Holding) (v : State) (n : ℕ) → Holds j p h v → n ≡ v.part.number → show_text j (alone n) h ≡ show_text j (alone h.partition) h
+named j p h v n k is = ap (λ (x : ℕ). show_text j (alone x) h) (is ∙ number_is j h.partition h.superstep v k.has.holding.stands)
+
+-- its totals
+pub totals_are : (j : Job) (h : Holding) (sums : List ℕ) → sums ≡ sums_of j h.partition h.superstep → superstep_lines sums ≡ totals_text j h
+unfolding totals_text sums_of
+totals_are j h sums is =
+    let f : ℕ → ℕ = λ i. total_over (mixing_of j.plan) j.graph (own_vertices j h.partition) i in
+    let n : ℕ = h.superstep + 1 in
+    let long : length sums ≡ n = ap length is ∙ length-map-range_with_len f 0 n in
+    rw long (lines_same (λ i. superstep_line i (slice_index sums i)) (λ i. superstep_line i (f i)) 0 n n (omega arith)
+    (λ i lt. ap (superstep_line i) (ap (λ (l : List ℕ). slice_index l i) is ∙ get_or-map-range_with_len f 0 n i i 0 lt (omega arith))))
