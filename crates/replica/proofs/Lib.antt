@@ -7,6 +7,7 @@ pub mod EarlyLemmas
 pub mod KeptLemmas
 pub mod OptionLemmas
 pub mod HearLemmas
+pub mod HearingLemmas
 pub mod HeardLemmas
 pub mod IndexLemmas
 pub mod SpreadLemmas

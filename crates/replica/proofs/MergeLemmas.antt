@@ -201,7 +201,7 @@ maxima_at (x ∷ a) [] i lt e = absurd (omega arith)
 maxima_at (x ∷ a) (y ∷ b) zero lt e = refl
 maxima_at (x ∷ a) (y ∷ b) (suc i) lt e = maxima_at a b i (omega arith) (omega arith)
 
-length-maxima : (a b : List (List ℕ)) → length a ≡ length b → length (map (λ p. max_each p.0 p.1) (zip a b)) ≡ length a
+pub length-maxima : (a b : List (List ℕ)) → length a ≡ length b → length (map (λ p. max_each p.0 p.1) (zip a b)) ≡ length a
 length-maxima [] b e = refl
 length-maxima (x ∷ a) [] e = absurd (omega arith)
 length-maxima (x ∷ a) (y ∷ b) e = ap suc (length-maxima a b (omega arith))

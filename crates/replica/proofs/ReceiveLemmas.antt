@@ -4,7 +4,6 @@ use Rattle.std.specs.Prelude.{Option, Some, Ok}
 use Rattle.std.specs.Arc.{arc_value}
 use Rattle.ball_model.specs.declared.names.BatchName.{BatchName}
 use Rattle.ball_model.specs.declared.names.Taken.TheVariants as taken
-use Rattle.ball_model.specs.Table.{Table}
 use Rattle.ball_model.specs.PlanValue.{PlanValue}
 use Rattle.ball_model.specs.Batches.{BatchValue, IsBatch}
 use Rattle.ball_model.specs.Content.{take_of}
@@ -12,80 +11,76 @@ use Rattle.ball_model.specs.State.{State, content_of, early_at}
 use Rattle.replica.specs.declared.Progress.TheInside as progress
 use Rattle.replica.specs.Ahead.{IsTable}
 use Rattle.replica.specs.Change.{Receives}
-use Rattle.replica.specs.Hearing.{Hears, batch_by}
+use Rattle.replica.specs.Hearing.{HearingValue, HearsAlso, IsReady, KeepsAll, batch_by}
 use Rattle.replica.specs.Index.{targets_of}
 use Rattle.replica.specs.Progress.{CanGoOn, ProgressValue}
 use Rattle.replica.specs.Seen.{HasIndex, IsProgress, IsState, progress_of, state_of}
-use Rattle.replica.specs.Spread.{AreTouched, LeadInside}
-use Rattle.replica.proofs.AccumulatorLemmas.{Keeps, fields_of, fields_are, hearing_keeps, state_is}
+use Rattle.replica.proofs.AccumulatorLemmas.{Keeps, fields_of, fields_are, hearing_keeps, kept_progress, state_is}
 use Rattle.replica.proofs.HearLemmas.{hears_as}
 use Rattle.replica.proofs.LevelLemmas.{number_is}
 use Rattle.replica.proofs.OverLemmas.{hearing_index, kept_over}
 use Rattle.replica.proofs.RiseLemmas.{all_on}
-use Rattle.replica.proofs.StateLemmas.{inside_of}
+use Rattle.replica.proofs.StateLemmas.{ready_at}
 use Rattle.replica.proofs.TakeLemmas.{IsFresh, fresh, names_heard, names_kept, stands_heard, stands_kept, sources_heard, early_kept}
 
 -- ---- a batch of the superstep
 
 -- what is known where it is new
-pub record Hearable (r : progress.Inside) (v : State) (b : BatchValue) (targets : List (List ℕ)) (touched : List Bool) : Type 0 where
+pub record Hearable (r : progress.Inside) (v : State) (b : BatchValue) (targets : List (List ℕ)) : Type 0 where
   pub keeps : Keeps r v
   pub now : b.name.superstep ≡ r.superstep
   pub is_fresh : IsFresh (fields_of r) b
   pub index : targets ≡ targets_of (arc_value r.part)
-  pub inside : LeadInside (length r.accumulated.rows) targets
-  pub touched_are : AreTouched r.rows.rows r.accumulated.rows touched
+  pub ready : IsReady b.plan.log2m targets r.hearing
 
-pub hearable : (r : progress.Inside) (l : ProgressValue) (b : BatchValue) (targets : List (List ℕ)) (touched : List Bool) (name : BatchName) → IsProgress r → CanGoOn l → progress_of r ≡ l → IsBatch b →
-    take_of l.state.part.plan l.state.part.number (content_of l.state) b.plan b.name ≡ Ok taken.New → HasIndex l.state targets → AreTouched l.state.rows l.state.accumulated touched → name ≡ b.name → name.superstep ≡ r.superstep → Hearable r l.state b targets touched
-hearable r l b targets touched name ok can is batch new has are named here =
+pub hearable : (r : progress.Inside) (l : ProgressValue) (b : BatchValue) (targets : List (List ℕ)) (name : BatchName) → IsProgress r → CanGoOn l → progress_of r ≡ l → IsBatch b →
+    take_of l.state.part.plan l.state.part.number (content_of l.state) b.plan b.name ≡ Ok taken.New → HasIndex l.state targets → name ≡ b.name → name.superstep ≡ r.superstep → Hearable r l.state b targets
+hearable r l b targets name ok can is batch new has named here =
     let now : b.name.superstep ≡ r.superstep = ap (λ (n : BatchName). n.superstep) (sym named) ∙ here in
     let k = hearing_keeps r l b ok can is batch new (now ∙ ap (λ (u : State). u.superstep) (state_is is)) in
     let mine = subst (λ (u : State). take_of u.part.plan u.part.number (content_of u) b.plan b.name ≡ Ok taken.New) (sym k.view_is) new in
     let index = hearing_index (fields_of r) b targets (subst (λ (u : State). HasIndex u targets) (sym k.view_is) has) batch mine now in
+    let is_fresh = fresh (fields_of r) b batch mine in
     record {
       keeps = k;
       now = now;
-      is_fresh = fresh (fields_of r) b batch mine;
+      is_fresh = is_fresh;
       index = index;
-      inside = inside_of (fields_of r) targets (length r.accumulated.rows) k.state index refl;
-      touched_are = subst (λ (u : State). AreTouched u.rows u.accumulated touched) (sym k.view_is) are;
+      ready = subst (λ (a : PlanValue). IsReady a.log2m targets r.hearing) (sym is_fresh.plan_is) (ready_at (fields_of r) targets r.hearing k.state index refl refl ok.accumulated_width);
     }
 
--- the fields once it is heard
-abbrev pub with_heard : progress.Inside → List Bool → Bool → Table → progress.Inside
-with_heard r heard change accumulated = record r { heard = heard; heard_change = change; accumulated = accumulated }
-
 pub record Heard (r : progress.Inside) (v : State) (b : BatchValue) : Type 0 where
-  pub state : IsState (fields_of r)
+  pub limits : IsProgress r
+  pub kept : KeepsAll r.rows.rows r.hearing
   pub receives : Receives b v (state_of r)
 
-pub heard_now : (r : progress.Inside) (v : State) (b : BatchValue) (targets : List (List ℕ)) (touched heard : List Bool) (change : Bool) (accumulated : Table) → Hearable r v b targets touched →
-    Hears b.plan.log2m targets (batch_by b.name.source (Some b)) (record { heard = r.heard; change = r.heard_change; accumulated = r.accumulated.rows }) (record { heard = heard; change = change; accumulated = accumulated.rows }) →
-    Heard (with_heard r heard change accumulated) v b
-heard_now r v b targets touched heard change accumulated h hears =
+pub heard_now : (r : progress.Inside) (v : State) (b : BatchValue) (targets : List (List ℕ)) (after : HearingValue) → IsProgress r → Hearable r v b targets → HearsAlso b.plan.log2m targets (batch_by b.name.source (Some b)) r.hearing after → Heard (record r { hearing = after }) v b
+heard_now r v b targets after ok h also =
     let s = fields_of r in
-    let w = fields_of (with_heard r heard change accumulated) in
+    let w = fields_of (record r { hearing = after }) in
     let st = h.keeps.state in
-    let own = hears_as (ap (λ (a : PlanValue). a.log2m) h.is_fresh.plan_is) h.index refl refl hears in
-    let rise = all_on s.part.plan.log2m s.rows s.accumulated accumulated.rows st.rows st.accumulated own.rise in
+    let own = hears_as (ap (λ (a : PlanValue). a.log2m) h.is_fresh.plan_is) h.index refl refl also.hears in
+    let rise = all_on s.part.plan.log2m s.rows s.accumulated after.accumulated.rows st.rows st.accumulated own.rise in
+    let kept = also.touched r.rows.rows h.keeps.kept in
     record {
-      state = record {
-        part = st.part;
-        superstep = st.superstep;
-        count = st.count;
-        rows = st.rows;
-        marks = st.marks;
-        lasts = st.lasts;
-        sums = st.sums;
-        heard = sources_heard s w b h.is_fresh st hears.count hears.sources;
-        accumulated = rise;
-        early = st.early;
-      };
-      receives = subst (λ (u : State). Receives b v u) (fields_are (with_heard r heard change accumulated) rise.count)
+      limits = kept_progress (record r { hearing = after })
+          (record {
+            part = st.part;
+            superstep = st.superstep;
+            count = st.count;
+            rows = st.rows;
+            marks = st.marks;
+            lasts = st.lasts;
+            sums = st.sums;
+            heard = sources_heard s w b h.is_fresh st also.hears.count also.hears.sources;
+            accumulated = rise;
+            early = st.early;
+          }) ok.width (also.width ∙ ok.accumulated_width) kept;
+      kept = kept;
+      receives = subst (λ (u : State). Receives b v u) (fields_are (record r { hearing = after }) rise.count)
           (subst (λ (u : State). Receives b u w) h.keeps.view_is (record {
             shown = (record { part = refl; superstep = refl; rows = refl; marks = refl; tallies = refl; sums = refl });
-            names = names_heard s w b h.now refl refl hears.sources;
+            names = names_heard s w b h.now refl refl also.hears.sources;
             stands = λ j p t at. stands_heard s w b s.part.plan.log2m (record { part = refl; superstep = refl; rows = refl; marks = refl; tallies = refl; sums = refl }) h.now h.is_fresh.target refl own j p t (number_is j p t s at) at;
           }));
     }

@@ -1,5 +1,5 @@
 -- What a replica has heard of its superstep, and what becomes of it as batches are heard.
-use Rattle.std.specs.Prelude.{◌≡◌, ℕ, ◌%◌, Bool, false, not, ◌||◌, ◌&&◌, ◌==◌, List, length, map, Option, None, Some, is_some, nat_lt, IfSome, slice_index_or, if◌then◌else◌}
+use Rattle.std.specs.Prelude.{◌≡◌, ℕ, ◌%◌, ◌^◌, ◌⊎◌, Bool, false, not, ◌||◌, ◌&&◌, ◌==◌, List, [], ◌∷◌, length, map, replicate, Option, None, Some, is_some, nat_lt, IfSome, slice_index_or, if◌then◌else◌}
 use Rattle.std.specs.List.{list_any, range_with_len}
 use Rattle.ball_model.specs.Accumulated.{accumulated_of, accumulated_row}
 use Rattle.ball_model.specs.Batches.{BatchValue, true_batch, changed_count}
@@ -7,8 +7,11 @@ use Rattle.ball_model.specs.Content.{Content}
 use Rattle.ball_model.specs.Job.{Job, IsJob, part_of}
 use Rattle.ball_model.specs.PlanValue.{mixing_of}
 use Rattle.ball_model.specs.State.{State, is_heard, heard_changes}
+use Rattle.ball_model.specs.Table.{Table}
+use Rattle.replica.specs.Heard.{StayTouched}
 use Rattle.replica.specs.Index.{targets_of}
-use Rattle.replica.specs.Kept.{AllRise}
+use Rattle.replica.specs.Kept.{AllRise, AreCounters}
+use Rattle.replica.specs.Spread.{AreTouched, LeadInside}
 
 -- which sources are heard, whether one of them tells of a changed vertex, and what is accumulated for each vertex
 pub record Hearing : Type 0 where
@@ -48,10 +51,69 @@ pub record Hears (log2m : ℕ) (targets : List (List ℕ)) (told : ℕ → Optio
       IfSome (told q) (λ b. b ≡ true_batch j (record { superstep = t; source = q; target = p }))) →
       IsTrueHearing j p t a → IsTrueHearing j p t b
 
--- what a batch of the superstep tells is heard too
-abbrev pub HearsBatch : List (List ℕ) → BatchValue → Hearing → Hearing → Type 0
-HearsBatch targets b old new =
-    Hears b.plan.log2m targets (batch_by b.name.source (Some b)) old new
+-- ---- what is kept of it beside the rows
+
+-- the sources that are heard, whether one of them tells of a changed vertex, the accumulators, one of each row or none,
+-- and which of them differ from their rows
+pub record HearingValue : Type 0 where
+  pub heard : List Bool
+  pub change : Bool
+  pub accumulated : Table
+  pub touched : List Bool
+
+-- what was heard, where an accumulator is kept of each row
+abbrev pub hearing_kept : HearingValue → Hearing
+hearing_kept a = hearing_of a.heard a.change a.accumulated.rows
+
+-- the accumulators: where none are kept beside the rows, they are the rows
+unfoldable pub accumulators_of : List (List ℕ) → List (List ℕ) → List (List ℕ)
+accumulators_of rows [] = rows
+accumulators_of rows (own ∷ rest) = own ∷ rest
+
+-- an accumulator is kept of each row, and those that differ from their rows are marked
+abbrev pub KeepsAll : List (List ℕ) → HearingValue → Type 0
+KeepsAll rows a = AreTouched rows a.accumulated.rows a.touched
+
+-- or none is kept
+abbrev pub KeepsAllOrNone : List (List ℕ) → HearingValue → Type 0
+KeepsAllOrNone rows a = KeepsAll rows a ⊎ ((a.accumulated.rows ≡ []) × (a.touched ≡ []))
+
+-- the accumulators are let go
+abbrev pub let_go : HearingValue → HearingValue
+let_go a = record a {
+  accumulated = record a.accumulated { rows = [] };
+  touched = [];
+}
+
+-- nothing is heard, and what is accumulated are the rows
+pub record IsQuiet (rows : Table) (a : HearingValue) : Type 0 where
+  pub heard : a.heard ≡ replicate 64 false
+  pub change : a.change ≡ false
+  pub accumulated : a.accumulated ≡ rows
+  pub kept : KeepsAll rows.rows a
+
+-- beside these rows the two say the same, whatever they keep for it
+pub record SaysSame (rows : List (List ℕ)) (a b : HearingValue) : Type 0 where
+  pub heard : b.heard ≡ a.heard
+  pub change : b.change ≡ a.change
+  pub width : b.accumulated.width ≡ a.accumulated.width
+  pub accumulated : accumulators_of rows b.accumulated.rows
+      ≡ accumulators_of rows a.accumulated.rows
+  pub kept : KeepsAllOrNone rows b
+
+-- batches of 2^log2m registers a row can be heard by the index
+pub record IsReady (log2m : ℕ) (targets : List (List ℕ)) (a : HearingValue) : Type 0 where
+  pub sources : length a.heard ≡ 64
+  pub width : a.accumulated.width ≡ 2 ^ log2m
+  pub inside : LeadInside (length a.accumulated.rows) targets
+  pub counters : AreCounters log2m a.accumulated.rows
+
+-- what the sources tell is heard too, and those rows stay marked that differ
+pub record HearsAlso (log2m : ℕ) (targets : List (List ℕ)) (told : ℕ → Option BatchValue)
+    (a b : HearingValue) : Type 0 where
+  pub hears : Hears log2m targets told (hearing_kept a) (hearing_kept b)
+  pub width : b.accumulated.width ≡ a.accumulated.width
+  pub touched : StayTouched a.accumulated.rows a.touched b.accumulated.rows b.touched
 
 -- which of 64 sources are held of the superstep
 abbrev pub heard_by : Content → List Bool

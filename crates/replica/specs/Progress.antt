@@ -17,3 +17,8 @@ HasAccumulators v kept = (length kept ≡ length v.rows) ⊎ ((kept ≡ []) × (
 pub record CanGoOn (k : ProgressValue) : Type 0 where
   pub kept : HasAccumulators k.state k.kept
   pub room : k.state.part.plan.limit + 1 ≤ k.room
+
+-- an accumulator is kept of each row, whether the run is over or not, and there is that room
+pub record IsWhole (k : ProgressValue) : Type 0 where
+  pub kept : length k.kept ≡ length k.state.rows
+  pub room : k.state.part.plan.limit + 1 ≤ k.room

@@ -1,4 +1,4 @@
-//! What a replica does with the batches of its superstep, and with its figures.
+//! What a replica does with its marks, and with its figures.
 
 ghost use Rattle.std.specs.Prelude.{◌≡◌, ℕ, ◌<◌, ◌≤◌, ◌+◌, ◌*◌, ◌^◌, false, not, [], slice_set, length, slice_index_or, option_map, map, IfSome, count_by};
 ghost use Rattle.std.specs.List.{sum_by, list_any};
@@ -6,118 +6,12 @@ ghost use Rattle.std.specs.Str.{bytes_eq};
 ghost use Rattle.ball_model.specs.Figures.{estimate_with};
 ghost use Rattle.ball_model.specs.Laws.{IsCounterRow};
 ghost use Rattle.ball_model.specs.PlanValue.{greatest_limit};
-ghost use Rattle.ball_model.specs.State.{early_at};
 ghost use Rattle.figures.specs.Values.{value_of};
-ghost use Rattle.replica.specs.Ahead.{IsTable};
 ghost use Rattle.replica.specs.Level.{differences, next_tally, next_tallies};
-ghost use Rattle.replica.specs.Heard.{StayTouched};
-ghost use Rattle.replica.specs.Kept.{AreCounters, AreLasts, AllRise, IsFrom};
-ghost use Rattle.replica.specs.Spread.{AreTouched, IsAbove, LeadInside};
-ghost use Rattle.replica.specs.Hearing.{Hears, HearsBatch, batch_by, hearing_of};
+ghost use Rattle.replica.specs.Kept.{AreCounters, AreLasts, AllRise};
 
-use crate::early::Early;
-use crate::spread::spread_batch;
-use crate::targets::Targets;
-use ball_model::Plan;
-use batches::Batch;
 use figures::{Estimator, Tally};
-use registers::{Rows, SourceMask};
-
-/// Hears a batch of the superstep: its rows are spread, and its source is heard.
-pub fn hear(
-    targets: &Targets,
-    batch: &Batch,
-    heard: &mut SourceMask,
-    heard_change: &mut bool,
-    accumulated: &mut Rows,
-    touched: &mut [bool],
-)
-    requires sources { length heard.old ≡ 64 }
-    requires width { accumulated.old.width ≡ 2 ^ batch.now.plan.log2m }
-    requires inside { LeadInside (length accumulated.old.rows) targets.now }
-    requires count { length touched.old ≡ length accumulated.old.rows }
-    requires rows { AreCounters batch.now.plan.log2m accumulated.old.rows }
-    ensures width { accumulated.new.width ≡ accumulated.old.width }
-    ensures hears { HearsBatch targets.now batch.now
-        (hearing_of heard.old heard_change.old accumulated.old.rows)
-        (hearing_of heard.new heard_change.new accumulated.new.rows) }
-    ensures touched { StayTouched accumulated.old.rows touched.old
-        accumulated.new.rows touched.new }
-{
-    spread_batch(targets, batch, accumulated, touched);
-    heard.insert(batch.name().source);
-    *heard_change |= batch.changed() != 0;
-}
-
-// Hears the batch of a source, where there is one.
-fn hear_if(
-    targets: &Targets,
-    plan: &Plan,
-    source: u16,
-    batch: Option<&Batch>,
-    heard: &mut SourceMask,
-    heard_change: &mut bool,
-    accumulated: &mut Rows,
-    touched: &mut [bool],
-)
-    requires sources { length heard.old ≡ 64 }
-    requires width { accumulated.old.width ≡ 2 ^ plan.now.log2m }
-    requires inside { LeadInside (length accumulated.old.rows) targets.now }
-    requires count { length touched.old ≡ length accumulated.old.rows }
-    requires rows { AreCounters plan.now.log2m accumulated.old.rows }
-    requires batch { IfSome batch (λ b. IsFrom plan.now source b.now) }
-    ensures width { accumulated.new.width ≡ accumulated.old.width }
-    ensures hears { Hears plan.now.log2m targets.now
-        (batch_by source (option_map (λ b. b.now) batch.entry))
-        (hearing_of heard.old heard_change.old accumulated.old.rows)
-        (hearing_of heard.new heard_change.new accumulated.new.rows) }
-    ensures touched { StayTouched accumulated.old.rows touched.old
-        accumulated.new.rows touched.new }
-{
-    match batch {
-        Some(batch) => hear(targets, batch, heard, heard_change, accumulated, touched),
-        None => {}
-    }
-}
-
-/// Hears the batches of the next superstep, which has begun.
-pub fn hear_early(
-    targets: &Targets,
-    plan: &Plan,
-    early: &Early,
-    heard: &mut SourceMask,
-    heard_change: &mut bool,
-    accumulated: &mut Rows,
-    touched: &mut [bool],
-)
-    requires sources { length heard.old ≡ 64 }
-    requires width { accumulated.old.width ≡ 2 ^ plan.now.log2m }
-    requires inside { LeadInside (length accumulated.old.rows) targets.now }
-    requires count { length touched.old ≡ length accumulated.old.rows }
-    requires rows { AreCounters plan.now.log2m accumulated.old.rows }
-    requires table { IsTable plan.now.parts early.now }
-    requires batches { (q : ℕ) → IfSome (early_at early.now 0 q) (IsFrom plan.now q) }
-    ensures width { accumulated.new.width ≡ accumulated.old.width }
-    ensures hears { Hears plan.now.log2m targets.now (λ q. early_at early.now 0 q)
-        (hearing_of heard.old heard_change.old accumulated.old.rows)
-        (hearing_of heard.new heard_change.new accumulated.new.rows) }
-    ensures touched { StayTouched accumulated.old.rows touched.old
-        accumulated.new.rows touched.new }
-{
-    for source in 0..plan.parts() {
-        let batch = early.get(0, source);
-        hear_if(
-            targets,
-            plan,
-            source,
-            batch,
-            heard,
-            heard_change,
-            accumulated,
-            touched,
-        );
-    }
-}
+use registers::Rows;
 
 /// Marks the rows that differ.
 pub fn mark(old: &Rows, new: &Rows, marks: &mut [bool])

@@ -37,6 +37,7 @@
 #![tactic(auto)]
 
 mod early;
+mod hearing;
 mod join;
 pub mod laws;
 mod level;
@@ -54,7 +55,8 @@ mod targets;
 use early::Early;
 use edgelist::Part;
 use figures::{Estimator, Tally};
-use registers::{Relay, Rows, SourceMask};
+use hearing::Hearing;
+use registers::Relay;
 pub use saved::Saved;
 pub use shown::Shown;
 use std::marker::Model;
@@ -76,12 +78,7 @@ pub struct Progress {
     marks: Vec<bool>,
     tallies: Vec<Tally>,
     sums: Vec<u128>,
-    // which sources of the superstep are heard
-    heard: SourceMask,
-    // whether one of them tells of a changed vertex
-    heard_change: bool,
-    // the rows, raised by those of the sources that are heard; none where none is kept, since each equals its row
-    accumulated: Rows,
+    hearing: Hearing,
     early: Early,
 }
 
@@ -126,8 +123,6 @@ pub struct Replica {
     // what it has at its superstep: what it tells, and what a snapshot copies, with room to go on
     known: Progress,
     targets: Targets,
-    // which rows differ from what is accumulated for them
-    touched: Vec<bool>,
     // how estimates are made
     estimator: Estimator,
 }

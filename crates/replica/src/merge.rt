@@ -6,16 +6,15 @@ ghost use Rattle.ball_model.specs.History.{holding_in};
 ghost use Rattle.ball_model.specs.Join.{AreAlike};
 ghost use Rattle.figures.specs.Values.{value_of};
 ghost use Rattle.replica.specs.Index.{targets_of};
-ghost use Rattle.replica.specs.Spread.{AreTouched};
 ghost use Rattle.replica.specs.Merged.{Absorbs};
-ghost use Rattle.replica.specs.Progress.{CanGoOn};
-ghost use Rattle.replica.specs.Seen.{IsState, accumulators_of};
+ghost use Rattle.replica.specs.Progress.{CanGoOn, IsWhole};
+ghost use Rattle.replica.specs.Seen.{IsState};
 
 use crate::early::{Early, LEVELS};
 use crate::targets::Targets;
-use crate::{Progress, level, shown, step};
+use crate::{Progress, shown, step};
 use figures::Tally;
-use registers::{Join, Relay, Rows};
+use registers::Relay;
 use std::alloc::{AllocError, Global};
 
 impl Progress {
@@ -40,7 +39,6 @@ impl Progress {
         &mut self,
         alloc: Global,
         targets: &Targets,
-        touched: &mut [bool],
         other: &Progress,
         shared: &mut Early,
     ) -> Result<(), AllocError>
@@ -49,50 +47,36 @@ impl Progress {
         requires shared { shared.old ≡ other.now.state.early }
         requires index { targets.now ≡ targets_of self.old.state.part }
         requires goes_on { CanGoOn self.old }
-        requires touched { AreTouched self.old.state.rows self.old.state.accumulated touched.old }
         ensures absorbs { OnOk result (Absorbs self.old.state other.now.state self.new.state) }
         ensures refused { OnErr result (self.new.state ≡ self.old.state) }
         ensures goes_on { CanGoOn self.new }
-        ensures touched { AreTouched self.new.state.rows self.new.state.accumulated touched.new }
         ensures mine { IsState self.old.state }
         ensures theirs { IsState other.now.state }
     {
-        let theirs = other.accumulators();
-        if self.superstep < other.superstep {
-            self.overtake(alloc, targets, touched, other, theirs, shared)
-        } else if other.superstep < self.superstep {
-            self.gather(alloc, targets, touched, other, shared)
+        let theirs = other.superstep;
+        self.hearing.renew(alloc, self.rows.get())?;
+        if self.superstep < theirs {
+            self.overtake(targets, other, shared);
+        } else if theirs < self.superstep {
+            self.gather(targets, other, shared);
         } else {
-            self.unite(alloc, touched, other, theirs, shared)
+            self.unite(alloc, other, shared);
         }
+        Ok(())
     }
 
     // Becomes what another one is that is further; of the own batches those count that are of its superstep or later.
-    fn overtake(
-        &mut self,
-        alloc: Global,
-        targets: &Targets,
-        touched: &mut [bool],
-        other: &Progress,
-        theirs: &Rows,
-        shared: &mut Early,
-    ) -> Result<(), AllocError>
+    fn overtake(&mut self, targets: &Targets, other: &Progress, shared: &mut Early)
         requires further { self.old.state.superstep < other.now.state.superstep }
         requires plan { self.old.state.part.plan ≡ other.now.state.part.plan }
         requires number { self.old.state.part.number ≡ other.now.state.part.number }
-        requires theirs { theirs.now.rows ≡ other.now.state.accumulated }
-        requires width { theirs.now.width ≡ 2 ^ other.now.state.part.plan.log2m }
         requires shared { shared.old ≡ other.now.state.early }
         requires index { targets.now ≡ targets_of self.old.state.part }
-        requires goes_on { CanGoOn self.old }
-        requires touched { AreTouched self.old.state.rows self.old.state.accumulated touched.old }
-        ensures absorbs { OnOk result (Absorbs self.old.state other.now.state self.new.state) }
-        ensures refused { OnErr result (self.new.state ≡ self.old.state) }
-        ensures goes_on { CanGoOn self.new }
-        ensures touched { AreTouched self.new.state.rows self.new.state.accumulated touched.new }
+        requires whole { IsWhole self.old }
+        ensures absorbs { Absorbs self.old.state other.now.state self.new.state }
+        ensures whole { IsWhole self.new }
     {
         let ahead = gap(self.superstep, other.superstep);
-        replace(alloc, theirs, &mut self.accumulated)?;
         let plan = *self.part.plan();
         self.superstep = other.superstep;
         copy_shown(
@@ -102,91 +86,43 @@ impl Progress {
             &mut self.tallies,
             &mut self.sums,
         );
-        self.heard = other.heard;
-        self.heard_change = other.heard_change;
-        level::mark(self.rows.get(), &self.accumulated, touched);
+        self.hearing.assign(other.rows.get(), &other.hearing);
         self.early.shift(ahead);
-        level::hear_early(
-            targets,
-            &plan,
-            &self.early,
-            &mut self.heard,
-            &mut self.heard_change,
-            &mut self.accumulated,
-            touched,
-        );
+        self.hearing.hear_early(targets, &plan, &self.early);
         self.early.shift(1);
         self.early.fill(shared);
-        Ok(())
     }
 
     // Of the batches of another one that is behind, those of the own superstep are heard, and later ones kept.
-    fn gather(
-        &mut self,
-        alloc: Global,
-        targets: &Targets,
-        touched: &mut [bool],
-        other: &Progress,
-        shared: &mut Early,
-    ) -> Result<(), AllocError>
+    fn gather(&mut self, targets: &Targets, other: &Progress, shared: &mut Early)
         requires further { other.now.state.superstep < self.old.state.superstep }
         requires plan { self.old.state.part.plan ≡ other.now.state.part.plan }
         requires number { self.old.state.part.number ≡ other.now.state.part.number }
         requires shared { shared.old ≡ other.now.state.early }
         requires index { targets.now ≡ targets_of self.old.state.part }
-        requires goes_on { CanGoOn self.old }
-        requires touched { AreTouched self.old.state.rows self.old.state.accumulated touched.old }
-        ensures absorbs { OnOk result (Absorbs self.old.state other.now.state self.new.state) }
-        ensures refused { OnErr result (self.new.state ≡ self.old.state) }
-        ensures goes_on { CanGoOn self.new }
-        ensures touched { AreTouched self.new.state.rows self.new.state.accumulated touched.new }
+        requires whole { IsWhole self.old }
+        ensures absorbs { Absorbs self.old.state other.now.state self.new.state }
+        ensures whole { IsWhole self.new }
     {
-        renew(alloc, &self.rows, &mut self.accumulated)?;
         let plan = *self.part.plan();
         shared.shift(gap(other.superstep, self.superstep));
-        level::hear_early(
-            targets,
-            &plan,
-            shared,
-            &mut self.heard,
-            &mut self.heard_change,
-            &mut self.accumulated,
-            touched,
-        );
+        self.hearing.hear_early(targets, &plan, shared);
         shared.shift(1);
         self.early.fill(shared);
-        Ok(())
     }
 
     // What either of two at one superstep has heard and keeps.
-    fn unite(
-        &mut self,
-        alloc: Global,
-        touched: &mut [bool],
-        other: &Progress,
-        theirs: &Rows,
-        shared: &mut Early,
-    ) -> Result<(), AllocError>
+    fn unite(&mut self, alloc: Global, other: &Progress, shared: &mut Early)
         requires level { self.old.state.superstep ≡ other.now.state.superstep }
         requires plan { self.old.state.part.plan ≡ other.now.state.part.plan }
         requires number { self.old.state.part.number ≡ other.now.state.part.number }
-        requires theirs { theirs.now.rows ≡ other.now.state.accumulated }
-        requires width { theirs.now.width ≡ 2 ^ other.now.state.part.plan.log2m }
         requires shared { shared.old ≡ other.now.state.early }
-        requires goes_on { CanGoOn self.old }
-        requires touched { AreTouched self.old.state.rows self.old.state.accumulated touched.old }
-        ensures absorbs { OnOk result (Absorbs self.old.state other.now.state self.new.state) }
-        ensures refused { OnErr result (self.new.state ≡ self.old.state) }
-        ensures goes_on { CanGoOn self.new }
-        ensures touched { AreTouched self.new.state.rows self.new.state.accumulated touched.new }
+        requires whole { IsWhole self.old }
+        ensures absorbs { Absorbs self.old.state other.now.state self.new.state }
+        ensures whole { IsWhole self.new }
     {
-        renew(alloc, &self.rows, &mut self.accumulated)?;
-        let _heard = self.heard.join(alloc, &other.heard);
-        let _raised = self.accumulated.join(alloc, theirs);
-        level::mark(self.rows.get(), &self.accumulated, touched);
-        self.heard_change |= other.heard_change;
+        self.hearing.absorb(alloc, self.rows.get(), &other.hearing, other.accumulators());
         self.early.fill(shared);
-        Ok(())
     }
 }
 
@@ -214,36 +150,6 @@ fn copy_shown(
     marks.copy_from_slice(&other.marks);
     tallies.copy_from_slice(&other.tallies);
     shown::refill(sums, &other.sums);
-}
-
-// The accumulators again, where they were let go: as the rows. An error changes nothing.
-fn renew(alloc: Global, rows: &Relay, accumulated: &mut Rows) -> Result<(), AllocError>
-    requires width { rows.now.width ≡ accumulated.old.width }
-    ensures rows { OnOk result (accumulated.new ≡ record accumulated.old {
-      rows = accumulators_of rows.now.rows accumulated.old.rows;
-    }) }
-    ensures refused { OnErr result (accumulated.new ≡ accumulated.old) }
-{
-    if accumulated.len() == 0 {
-        *accumulated = shown::copy_rows(alloc, rows.get())?;
-    }
-    Ok(())
-}
-
-// The accumulators become others, in a buffer of their own again where it was let go. An error changes nothing.
-fn replace(alloc: Global, rows: &Rows, accumulated: &mut Rows) -> Result<(), AllocError>
-    requires width { rows.now.width ≡ accumulated.old.width }
-    requires count { (length accumulated.old.rows ≡ length rows.now.rows) ⊎
-        (accumulated.old.rows ≡ []) }
-    ensures rows { OnOk result (accumulated.new ≡ rows.now) }
-    ensures refused { OnErr result (accumulated.new ≡ accumulated.old) }
-{
-    if accumulated.len() == 0 {
-        *accumulated = shown::copy_rows(alloc, rows)?;
-    } else {
-        accumulated.copy_from(rows);
-    }
-    Ok(())
 }
 
 // Of how many supersteps between the two no batch counts; past all that are kept it is as many as these.

@@ -59,13 +59,11 @@ impl Replica {
         ensures { IfOk result (λ r. Starts (arc_value part) r) }
     {
         let targets = Targets::of(alloc, &part)?;
-        let touched = vec![in alloc; false; part.size() as usize]?;
         let estimator = start::estimator_of(alloc, part.plan())?;
         let known = start::first(alloc, part, &estimator)?;
         Ok(Replica {
             known,
             targets,
-            touched,
             estimator,
         })
     }
@@ -94,7 +92,7 @@ impl Replica {
             Ok(Taken::New) => {
                 // the limits of a batch are told with its name
                 let _name = batch.name();
-                self.known.receive(&self.targets, &mut self.touched, batch);
+                self.known.receive(&self.targets, batch);
                 answer
             }
             _ => answer,
@@ -126,8 +124,7 @@ impl Replica {
         // a step of a run
         ensures step { (j : Job) (p : ℕ) → Closes j p result self.old self.new }
     {
-        self.known
-            .found_close(&self.targets, &self.estimator, &mut self.touched)
+        self.known.found_close(&self.targets, &self.estimator)
     }
 
     /// Gives back the memory that a run that is over needs no more: that of the index, and that of the accumulators if
@@ -137,7 +134,7 @@ impl Replica {
         ensures { self.new ≡ self.old }
     {
         if self.known.is_over() {
-            self.known.settle(&self.touched);
+            self.known.let_go();
             self.targets.clear();
         }
     }
@@ -207,8 +204,7 @@ impl Replica {
         ensures theirs { OnOk result (IsState other.now.state) }
     {
         self.targets.renew(alloc, &self.known.part)?;
-        self.known
-            .absorb(alloc, &self.targets, &mut self.touched, other, shared)
+        self.known.absorb(alloc, &self.targets, other, shared)
     }
 
     /// What the replica has now.
@@ -221,7 +217,7 @@ impl Replica {
             StandsFor j p t s) }
         ensures unchanged { self.new ≡ self.old }
     {
-        let known = self.known.copied(alloc, &self.touched)?;
+        let known = self.known.copied(alloc)?;
         Ok(Snapshot { known })
     }
 

@@ -9,16 +9,16 @@ ghost use Rattle.ball_model.specs.State.{State};
 ghost use Rattle.replica.specs.Kept.{AreEarly};
 ghost use Rattle.replica.specs.Progress.{CanGoOn};
 ghost use Rattle.replica.specs.Seen.{IsState};
-ghost use Rattle.replica.specs.Level.{differences};
 ghost use Rattle.replica.specs.Saved.{Fits, IsKeepable, IsRebuilt, MayBeKept};
 
 use crate::early::Early;
+use crate::hearing::Hearing;
 use crate::saved::Saved;
 use crate::targets::Targets;
-use crate::{Progress, Replica, level, shown, start};
+use crate::{Progress, Replica, shown, start};
 use batches::Batch;
 use edgelist::Part;
-use registers::{Relay, Rows};
+use registers::Relay;
 use std::alloc::{AllocError, Global};
 use std::sync::Arc;
 
@@ -37,26 +37,13 @@ impl Replica {
     {
         let targets = Targets::of(alloc, &part)?;
         let estimator = start::estimator_of(alloc, part.plan())?;
-        let touched = differing(alloc, &saved.rows, &saved.accumulated)?;
         let known = known(alloc, part, saved)?;
         Ok(Replica {
             known,
             targets,
-            touched,
             estimator,
         })
     }
-}
-
-// Which rows differ.
-fn differing(alloc: Global, rows: &Rows, accumulated: &Rows) -> Result<Vec<bool>, AllocError>
-    requires { length accumulated.now.rows ≡ length rows.now.rows }
-    ensures { IfOk result (λ marks. marks.items ≡
-        differences rows.now.rows accumulated.now.rows (length rows.now.rows)) }
-{
-    let mut marks = vec![in alloc; false; rows.len()]?;
-    level::mark(rows, accumulated, &mut marks);
-    Ok(marks)
 }
 
 // What a replica of the part knows that has all this.
@@ -71,6 +58,8 @@ fn known(alloc: Global, part: Arc<Part>, saved: Saved) -> Result<Progress, Alloc
     prove!(part.partition() < plan.parts());
     let sums = with_room(alloc, plan.limit(), &saved.sums)?;
     let early = kept(alloc, &part, saved.superstep, &saved.early)?;
+    let (heard, change, accumulated) = (saved.heard, saved.heard_change, saved.accumulated);
+    let hearing = Hearing::of(alloc, &saved.rows, heard, change, accumulated)?;
     Ok(Progress {
         part,
         superstep: saved.superstep,
@@ -78,9 +67,7 @@ fn known(alloc: Global, part: Arc<Part>, saved: Saved) -> Result<Progress, Alloc
         marks: saved.marks,
         tallies: saved.tallies,
         sums,
-        heard: saved.heard,
-        heard_change: saved.heard_change,
-        accumulated: saved.accumulated,
+        hearing,
         early,
     })
 }

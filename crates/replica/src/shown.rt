@@ -1,6 +1,6 @@
 //! What a replica has at a superstep.
 
-ghost use Rattle.std.specs.Prelude.{◌≡◌, ℕ, ◌<◌, ◌≤◌, ◌+◌, ◌-◌, ◌*◌, ◌/◌, ◌%◌, ◌^◌, ◌==◌, ◌&&◌, ◌⊎◌, if◌then◌else◌, false, not, length, slice_index_or, is_some, option_map, None, [], map, count_by, IsSome, IsTrue, IfOk, ◌↔◌};
+ghost use Rattle.std.specs.Prelude.{◌≡◌, ℕ, List, ◌<◌, ◌≤◌, ◌+◌, ◌-◌, ◌*◌, ◌/◌, ◌%◌, ◌^◌, ◌==◌, ◌&&◌, ◌⊎◌, if◌then◌else◌, false, not, length, slice_index_or, is_some, option_map, None, [], map, count_by, IsSome, IsTrue, IfOk, ◌↔◌};
 ghost use Rattle.std.specs.Arc.{arc_value};
 ghost use Rattle.std.specs.Vec.{vec_capacity};
 ghost use Rattle.std.specs.List.{All, list_any, range_with_len, slice_get};
@@ -16,12 +16,11 @@ ghost use Rattle.ball_model.specs.Content.{verdict_of};
 ghost use Rattle.ball_model.specs.State.{State, StandsFor, content_of, early_at, rows_of, tallies_of, sums_of};
 ghost use Rattle.replica.specs.Ahead.{early_batches, early_names, true_early};
 ghost use Rattle.replica.specs.Level.{is_changing, level_verdict, found_verdict, missing_in, nothing};
-ghost use Rattle.replica.specs.Hearing.{accumulated_by, change_by, heard_by};
+ghost use Rattle.replica.specs.Hearing.{KeepsAllOrNone, SaysSame, accumulated_by, change_by, heard_by};
 ghost use Rattle.replica.specs.Saved.{IsFigures};
-ghost use Rattle.replica.specs.Seen.{IsState, accumulators_of};
-ghost use Rattle.replica.specs.Spread.{AreTouched};
+ghost use Rattle.replica.specs.Seen.{IsState};
 
-use crate::start::Copies;
+use crate::hearing::Hearing;
 use crate::{Progress, Replica, Snapshot, level};
 use ball_model::{BatchName, Plan, Verdict};
 use batches::Batch;
@@ -178,7 +177,8 @@ pub trait Shown {
         ensures { result ≡ missing_in (state self.now) }
     {
         let s = self.shown();
-        s.heard
+        s.hearing
+            .heard()
             .least_missing(s.part.plan().parts(), s.part.partition())
     }
 
@@ -188,7 +188,7 @@ pub trait Shown {
         ensures names { result ≡ heard_by (content_of (state self.now)) }
     {
         let s = self.shown();
-        s.heard
+        s.hearing.heard()
     }
 
     /// Whether a source that is heard tells of a changed vertex.
@@ -198,7 +198,7 @@ pub trait Shown {
             result ≡ change_by j (content_of (state self.now)) }
     {
         let s = self.shown();
-        s.heard_change
+        s.hearing.change()
     }
 
     /// The registers accumulated so far for vertex `x`, which the partition owns.
@@ -295,7 +295,7 @@ impl Progress {
             return false;
         }
         if superstep == self.superstep {
-            return source < 64 && self.heard.has(source);
+            return source < 64 && self.hearing.heard().has(source);
         }
         self.keeps(superstep - self.superstep, source)
     }
@@ -313,18 +313,14 @@ impl Progress {
         ensures value { result.now.rows ≡ self.now.state.accumulated }
         ensures width { result.now.width ≡ 2 ^ self.now.state.part.plan.log2m }
     {
-        if self.accumulated.len() == 0 {
-            self.rows.get()
-        } else {
-            &self.accumulated
-        }
+        self.hearing.accumulators(self.rows.get())
     }
 
     // Whether some source tells of a changed vertex.
     fn is_changing(&self) -> bool
         ensures { result ≡ is_changing self.now.state }
     {
-        self.heard_change || level::any_marked(&self.marks)
+        self.hearing.change() || level::any_marked(&self.marks)
     }
 
     // The verdict of a level that is held.
@@ -352,80 +348,60 @@ impl Progress {
     }
 
     /// The same, copied: without room for later sums, and without accumulators where each equals its row.
-    pub(crate) fn copied(&mut self, alloc: Global, touched: &[bool]) -> Result<Progress, AllocError>
-        requires { AreTouched self.old.state.rows self.old.state.accumulated touched.now }
+    pub(crate) fn copied(&mut self, alloc: Global) -> Result<Progress, AllocError>
         ensures same { self.new ≡ self.old }
         ensures copy { IfOk result (λ s. s.state ≡ self.old.state) }
     {
         let part = Arc::try_clone(&self.part)?;
         let early = self.early.share(alloc)?;
-        let tables = self.copied_tables(alloc, touched)?;
+        let copies = copy_rest(alloc, &self.hearing, &self.marks, &self.tallies, &self.sums)?;
         let rows = self.rows.copied(alloc)?;
         Ok(Progress {
             part,
             superstep: self.superstep,
             rows,
-            marks: tables.marks,
-            tallies: tables.tallies,
-            sums: tables.sums,
-            heard: self.heard,
-            heard_change: self.heard_change,
-            accumulated: tables.accumulated,
+            marks: copies.marks,
+            tallies: copies.tallies,
+            sums: copies.sums,
+            hearing: copies.hearing,
             early,
         })
     }
-
-    // The tables but for the rows, copied.
-    fn copied_tables(&self, alloc: Global, touched: &[bool]) -> Result<Copies, AllocError>
-        requires { AreTouched self.now.state.rows self.now.state.accumulated touched.now }
-        ensures marks { IfOk result (λ t. t.marks.items ≡ self.now.state.marks) }
-        ensures tallies { IfOk result (λ t. map value_of t.tallies.items ≡ self.now.state.tallies) }
-        ensures sums { IfOk result (λ t. t.sums.items ≡ self.now.state.sums) }
-        ensures width { IfOk result (λ t.
-            t.accumulated.width ≡ 2 ^ self.now.state.part.plan.log2m) }
-        ensures accumulated { IfOk result (λ t.
-            accumulators_of self.now.state.rows t.accumulated.rows ≡ self.now.state.accumulated) }
-        ensures kept { IfOk result (λ t. (length t.accumulated.rows ≡ length self.now.state.rows) ⊎
-            (t.accumulated.rows ≡ [])) }
-        ensures state { IsState self.now.state }
-    {
-        let accumulated = copy_touched(alloc, &self.accumulated, touched)?;
-        let (marks, tallies, sums) = copy_figures(alloc, &self.marks, &self.tallies, &self.sums)?;
-        Ok(Copies {
-            accumulated,
-            marks,
-            tallies,
-            sums,
-        })
-    }
 }
 
-// The same accumulators in a buffer of their own, or none where no row is touched.
-fn copy_touched(alloc: Global, accumulated: &Rows, touched: &[bool]) -> Result<Rows, AllocError>
-    ensures width { IfOk result (λ copy. copy.width ≡ accumulated.now.width) }
-    ensures rows { IfOk result (λ copy. copy.rows ≡
-        (if list_any (λ mark. mark) touched.now then accumulated.now.rows else [])) }
-{
-    if level::any_marked(touched) {
-        return copy_rows(alloc, accumulated);
-    }
-    Rows::fixed(alloc, 0, accumulated.width() as u16)
+// What a snapshot has a copy of; its rows, its batches and its part are shared.
+#[derive(Drop)]
+struct Copies {
+    hearing: Hearing,
+    marks: Vec<bool>,
+    tallies: Vec<Tally>,
+    sums: Vec<u128>,
 }
 
-// The same marks, figures and sums.
-fn copy_figures(
+// What is heard, marks, figures and sums, copied.
+fn copy_rest(
     alloc: Global,
+    hearing: &Hearing,
     marks: &[bool],
     tallies: &[Tally],
     sums: &[u128],
-) -> Result<(Vec<bool>, Vec<Tally>, Vec<u128>), AllocError>
-    ensures marks { IfOk result (λ copy. copy.0.items ≡ marks.now) }
-    ensures tallies { IfOk result (λ copy. copy.1.items ≡ tallies.now) }
-    ensures sums { IfOk result (λ copy. copy.2.items ≡ sums.now) }
+) -> Result<Copies, AllocError>
+    ensures hearing { IfOk result (λ copies. (rows : List (List ℕ)) →
+        KeepsAllOrNone rows hearing.now → SaysSame rows hearing.now copies.hearing) }
+    ensures marks { IfOk result (λ copies. copies.marks.items ≡ marks.now) }
+    ensures tallies { IfOk result (λ copies. copies.tallies.items ≡ tallies.now) }
+    ensures sums { IfOk result (λ copies. copies.sums.items ≡ sums.now) }
 {
+    let hearing = hearing.copied(alloc)?;
     let sums = Vec::from_slice(alloc, sums)?;
     let tallies = Vec::from_slice(alloc, tallies)?;
-    Ok((Vec::from_slice(alloc, marks)?, tallies, sums))
+    let marks = Vec::from_slice(alloc, marks)?;
+    Ok(Copies {
+        hearing,
+        marks,
+        tallies,
+        sums,
+    })
 }
 
 // The same rows in a buffer of their own.

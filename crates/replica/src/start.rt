@@ -11,11 +11,12 @@ ghost use Rattle.replica.specs.Progress.{CanGoOn};
 ghost use Rattle.replica.specs.Start.{Starts, first_figures, first_row, first_rows};
 
 use crate::early::Early;
-use crate::{Progress, level, shown};
+use crate::hearing::Hearing;
+use crate::{Progress, level};
 use ball_model::{Plan, mix, place};
 use edgelist::Part;
 use figures::{Estimator, Tally};
-use registers::{Relay, Rows, SourceMask};
+use registers::{Relay, Rows};
 use std::alloc::{AllocError, Global};
 use std::sync::Arc;
 
@@ -23,16 +24,6 @@ use std::sync::Arc;
 #[derive(Drop)]
 pub struct Tables {
     pub rows: Rows,
-    pub accumulated: Rows,
-    pub marks: Vec<bool>,
-    pub tallies: Vec<Tally>,
-    pub sums: Vec<u128>,
-}
-
-/// What a snapshot has a copy of; its rows are shared.
-#[derive(Drop)]
-pub struct Copies {
-    pub accumulated: Rows,
     pub marks: Vec<bool>,
     pub tallies: Vec<Tally>,
     pub sums: Vec<u128>,
@@ -106,18 +97,6 @@ pub fn start_tallies(
     Ok(tallies)
 }
 
-// The rows that the vertices of the part begin with, and accumulators that equal them.
-fn start_both(alloc: Global, part: &Part) -> Result<(Rows, Rows), AllocError>
-    ensures { IfOk result (λ both. (both.0 ≡ record {
-      width = 2 ^ part.now.plan.log2m;
-      rows = first_rows part.now;
-    }) × (both.1 ≡ both.0)) }
-{
-    let rows = start_rows(alloc, part)?;
-    let accumulated = shown::copy_rows(alloc, &rows)?;
-    Ok((rows, accumulated))
-}
-
 // Figures that begin with the estimates of rows, and their sum, with room for one a superstep up to the limit.
 fn start_figures(
     alloc: Global,
@@ -147,7 +126,6 @@ fn start_tables(alloc: Global, part: &Part, estimator: &Estimator) -> Result<Tab
       width = 2 ^ part.now.plan.log2m;
       rows = first_rows part.now;
     }) }
-    ensures accumulated { IfOk result (λ t. t.accumulated ≡ t.rows) }
     ensures marks { IfOk result (λ t. t.marks.items ≡ part.now.counted) }
     ensures tallies { IfOk result (λ t.
         map value_of t.tallies.items ≡
@@ -157,11 +135,10 @@ fn start_tables(alloc: Global, part: &Part, estimator: &Estimator) -> Result<Tab
     ensures room { IfOk result (λ t. part.now.plan.limit + 1 ≤ vec_capacity t.sums) }
 {
     let marks = start_marks(alloc, part)?;
-    let (rows, accumulated) = start_both(alloc, part)?;
+    let rows = start_rows(alloc, part)?;
     let (tallies, sums) = start_figures(alloc, part.plan().limit(), estimator, &rows)?;
     Ok(Tables {
         rows,
-        accumulated,
         marks,
         tallies,
         sums,
@@ -179,7 +156,7 @@ pub fn first(alloc: Global, part: Arc<Part>, estimator: &Estimator) -> Result<Pr
     prove!(part.partition() < plan.parts());
     let early = Early::empty(alloc, plan.parts())?;
     let tables = start_tables(alloc, &part, estimator)?;
-    let heard = SourceMask::empty();
+    let hearing = Hearing::start(alloc, &tables.rows)?;
     Ok(Progress {
         part,
         superstep: 0,
@@ -187,9 +164,7 @@ pub fn first(alloc: Global, part: Arc<Part>, estimator: &Estimator) -> Result<Pr
         marks: tables.marks,
         tallies: tables.tallies,
         sums: tables.sums,
-        heard,
-        heard_change: false,
-        accumulated: tables.accumulated,
+        hearing,
         early,
     })
 }

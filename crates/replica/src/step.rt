@@ -9,23 +9,19 @@ ghost use Rattle.ball_model.specs.Batches.{IsBatch};
 ghost use Rattle.ball_model.specs.Content.{same_plan};
 ghost use Rattle.ball_model.specs.PlanValue.{greatest_limit, measure_of, most_vertices};
 ghost use Rattle.figures.specs.Values.{value_of};
-ghost use Rattle.replica.specs.Heard.{OwnIsHeard};
-ghost use Rattle.replica.specs.Kept.{AllRise, AreCounters, AreLasts, AreSums};
-ghost use Rattle.replica.specs.Level.{differences, found_close, is_over, next_tallies, total_of};
+ghost use Rattle.replica.specs.Kept.{AreCounters, AreLasts, AreSums};
+ghost use Rattle.replica.specs.Level.{found_close, is_over, next_tallies, total_of};
 ghost use Rattle.replica.specs.Change.{Advances, Receives, take_answer};
 ghost use Rattle.replica.specs.Index.{targets_of};
-ghost use Rattle.replica.specs.Spread.{AreTouched, LeadInside};
 ghost use Rattle.replica.specs.Progress.{CanGoOn};
 ghost use Rattle.replica.specs.Seen.{HasIndex, IsState};
 
-use crate::spread::spread_own;
 use crate::targets::Targets;
 use crate::{Progress, Shown, level};
 use ball_model::{CloseError, Plan, TakeError, Taken, Verdict};
 use batches::Batch;
-use edgelist::Part;
 use figures::{Estimator, Tally};
-use registers::{Relay, Rows, SourceMask};
+use registers::Relay;
 use std::sync::Arc;
 
 impl Progress {
@@ -57,27 +53,18 @@ impl Progress {
     }
 
     /// Holds a batch from now on: one of the superstep is heard, a later one is kept.
-    pub(crate) fn receive(&mut self, targets: &Targets, touched: &mut [bool], batch: Arc<Batch>)
+    pub(crate) fn receive(&mut self, targets: &Targets, batch: Arc<Batch>)
         requires new { take_answer self.old.state (arc_value batch) ≡ Ok taken.New }
         requires batch { IsBatch (arc_value batch) }
         requires index { HasIndex self.old.state targets.now }
         requires goes_on { CanGoOn self.old }
-        requires touched { AreTouched self.old.state.rows self.old.state.accumulated touched.old }
         ensures receives { Receives (arc_value batch) self.old.state self.new.state }
         ensures goes_on { CanGoOn self.new }
         ensures over { is_over self.old.state ≡ true → is_over self.new.state ≡ true }
-        ensures touched { AreTouched self.new.state.rows self.new.state.accumulated touched.new }
     {
         let name = batch.name();
         if name.superstep == self.superstep {
-            level::hear(
-                targets,
-                &batch,
-                &mut self.heard,
-                &mut self.heard_change,
-                &mut self.accumulated,
-                touched,
-            );
+            self.hearing.hear(targets, &batch);
         } else {
             let level = (name.superstep - self.superstep - 1) as usize;
             self.early.keep(level, name.source, batch);
@@ -89,17 +76,14 @@ impl Progress {
         &mut self,
         targets: &Targets,
         estimator: &Estimator,
-        touched: &mut [bool],
     ) -> Result<u32, CloseError>
         requires measure { estimator.now ≡ measure_of self.old.state.part.plan }
         requires index { HasIndex self.old.state targets.now }
         requires goes_on { CanGoOn self.old }
-        requires touched { AreTouched self.old.state.rows self.old.state.accumulated touched.old }
         ensures exact { result ≡ found_close self.old.state }
         ensures refused { OnErr result (self.new.state ≡ self.old.state) }
         ensures advances { OnOk result (Advances self.old.state self.new.state) }
         ensures goes_on { CanGoOn self.new }
-        ensures touched { AreTouched self.new.state.rows self.new.state.accumulated touched.new }
         ensures state { IsState self.old.state }
     {
         let next = self.superstep() + 1;
@@ -107,7 +91,7 @@ impl Progress {
             Some(source) => Err(CloseError::Waiting { source }),
             None => match self.level_verdict() {
                 Verdict::GoOn => {
-                    self.advance(targets, estimator, touched);
+                    self.advance(targets, estimator);
                     Ok(next)
                 }
                 Verdict::Stable | Verdict::Limit => Err(CloseError::Finished),
@@ -116,16 +100,13 @@ impl Progress {
     }
 
     /// Lets the accumulators go where the run is over and each of them equals its row.
-    pub(crate) fn settle(&mut self, touched: &[bool])
+    pub(crate) fn let_go(&mut self)
         requires over { is_over self.old.state ≡ true }
         requires goes_on { CanGoOn self.old }
-        requires touched { AreTouched self.old.state.rows self.old.state.accumulated touched.now }
         ensures same { self.new.state ≡ self.old.state }
         ensures goes_on { CanGoOn self.new }
     {
-        if !level::any_marked(touched) {
-            self.accumulated.clear();
-        }
+        self.hearing.let_go();
     }
 
     /// Whether the run is over.
@@ -143,26 +124,18 @@ impl Progress {
 
     // One superstep more: what changed in the own partition is heard too, what was accumulated becomes the rows, and
     // the batches of the new superstep are heard.
-    fn advance(&mut self, targets: &Targets, estimator: &Estimator, touched: &mut [bool])
+    fn advance(&mut self, targets: &Targets, estimator: &Estimator)
         requires measure { estimator.now ≡ measure_of self.old.state.part.plan }
         requires limit { self.old.state.superstep < self.old.state.part.plan.limit }
         requires going { is_over self.old.state ≡ false }
         requires index { targets.now ≡ targets_of self.old.state.part }
         requires goes_on { CanGoOn self.old }
-        requires touched { AreTouched self.old.state.rows self.old.state.accumulated touched.old }
         ensures advances { Advances self.old.state self.new.state }
         ensures goes_on { CanGoOn self.new }
-        ensures touched { AreTouched self.new.state.rows self.new.state.accumulated touched.new }
     {
         let plan = *self.part.plan();
-        next_rows(
-            targets,
-            &self.part,
-            &mut self.rows,
-            &mut self.marks,
-            &mut self.accumulated,
-            touched,
-        );
+        self.hearing
+            .begin(targets, &self.part, &mut self.rows, &mut self.marks);
         next_figures(
             estimator,
             self.superstep,
@@ -172,50 +145,9 @@ impl Progress {
             &mut self.sums,
         );
         self.superstep += 1;
-        self.heard = SourceMask::empty();
-        self.heard_change = false;
-        level::hear_early(
-            targets,
-            &plan,
-            &self.early,
-            &mut self.heard,
-            &mut self.heard_change,
-            &mut self.accumulated,
-            touched,
-        );
+        self.hearing.hear_early(targets, &plan, &self.early);
         self.early.shift(1);
     }
-}
-
-// The rows of the next superstep: what changed in the own partition is heard too, and what was accumulated becomes the
-// rows. Those are marked that this changes.
-fn next_rows(
-    targets: &Targets,
-    part: &Part,
-    rows: &mut Relay,
-    marks: &mut [bool],
-    accumulated: &mut Rows,
-    touched: &mut [bool],
-)
-    requires width { rows.old.width ≡ accumulated.old.width }
-    requires count { length rows.old.rows ≡ length part.now.preds }
-    requires marks { length marks.old ≡ length part.now.preds }
-    requires inside { LeadInside (length accumulated.old.rows) targets.now }
-    requires counters { AreCounters part.now.plan.log2m rows.old.rows }
-    requires rise { AllRise part.now.plan.log2m rows.old.rows accumulated.old.rows }
-    requires touched { AreTouched rows.old.rows accumulated.old.rows touched.old }
-    ensures rows { rows.new ≡ accumulated.new }
-    ensures width { accumulated.new.width ≡ accumulated.old.width }
-    ensures marks { marks.new ≡ differences rows.old.rows rows.new.rows (length part.now.preds) }
-    ensures rise { AllRise part.now.plan.log2m rows.old.rows rows.new.rows }
-    ensures touched { AreTouched rows.new.rows accumulated.new.rows touched.new }
-    ensures stands { OwnIsHeard targets.now part.now rows.old.rows marks.old
-        accumulated.old.rows accumulated.new.rows }
-{
-    spread_own(targets, part, rows.get(), marks, accumulated, touched);
-    rows.follow(accumulated, touched);
-    marks.copy_from_slice(touched);
-    level::clear_marks(touched);
 }
 
 // The figures of the superstep that follows `t`, whose rows and marks are given, and the sum of its estimates.

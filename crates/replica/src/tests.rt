@@ -17,7 +17,7 @@ use ball_model::{
 };
 use batches::Batch;
 use edgelist::{Delimiter, EdgeLimits, Graph, Part, read_edges};
-use registers::{Join, reconcile};
+use registers::{Join, Rows, reconcile};
 use std::alloc::AllocError;
 use std::hash::RandomState;
 use std::mem;

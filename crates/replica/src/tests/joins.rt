@@ -435,7 +435,7 @@ fn snapshot_room(rt: &HostRuntime) -> Option<(usize, bool)> {
     let mut all = two_edges(rt, 2, 4096)?;
     let snapshot = snapshot_of(rt, &mut all, 0)?;
     let known = &snapshot.known;
-    Some((known.accumulated.len(), known.sums.capacity() < 4097))
+    Some((known.hearing.count(), known.sums.capacity() < 4097))
 }
 
 #[test]

@@ -29,17 +29,18 @@ fn one_early(rt: &HostRuntime, snapshot: &Snapshot) -> Option<Vec<Arc<Batch>>> {
 fn saved_of(rt: &HostRuntime, replica: &mut Replica) -> Option<Saved> {
     let snapshot = replica.snapshot(rt.alloc()).ok()?;
     let early = one_early(rt, &snapshot)?;
-    let rows = copy_rows(rt.alloc(), snapshot.known.rows.get()).ok()?;
     let known = snapshot.known;
+    let rows = copy_rows(rt.alloc(), known.rows.get()).ok()?;
+    let accumulated = copy_rows(rt.alloc(), known.accumulators()).ok()?;
     Some(Saved {
         superstep: known.superstep,
         rows,
         marks: known.marks,
         tallies: known.tallies,
         sums: known.sums,
-        heard: known.heard,
-        heard_change: known.heard_change,
-        accumulated: known.accumulated,
+        heard: known.hearing.heard(),
+        heard_change: known.hearing.change(),
+        accumulated,
         early,
     })
 }

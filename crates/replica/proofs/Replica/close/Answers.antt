@@ -9,13 +9,13 @@ use Rattle.replica.proofs.CloseLemmas.{waits_for, goes_on_for, ends_for, closes,
 use Rattle.replica.proofs.AdvanceLemmas.{advance_holds}
 use Rattle.replica.proofs.Replica.close.Goals as goal
 
-exact : (c : goal.After-self-1) → c.found_close.result ≡ found_close c.args.self.now
+exact : (c : goal.After-found_close) → c.found_close.result ≡ found_close c.args.self.now
 exact c = c.found_close.ensures.exact ∙ ap found_close c.self.view_is
 
-advances : (c : goal.After-self-1) → OnOk c.found_close.result (Advances c.args.self.now c.found_close.new.self.state)
+advances : (c : goal.After-found_close) → OnOk c.found_close.result (Advances c.args.self.now c.found_close.new.self.state)
 advances c = subst (λ (u : State). OnOk c.found_close.result (Advances u c.found_close.new.self.state)) c.self.view_is c.found_close.ensures.advances
 
-state : (c : goal.After-self-1) → IsState c.args.self.now
+state : (c : goal.After-found_close) → IsState c.args.self.now
 state c = subst (λ (u : State). IsState u) c.self.view_is c.found_close.ensures.state
 
 pub returns-clause-waits : goal.returns-clause-waits

@@ -1,23 +1,19 @@
-use Rattle.std.proofs.Common.{◌≡◌, length, refl, ap, sym, ◌∙◌, inl}
+use Rattle.std.proofs.Common.{◌≡◌, ap, sym, ◌∙◌, inl}
 use Rattle.std.specs.Arc.{arc_value}
 use Rattle.ball_model.specs.PlanValue.{PlanValue, measure_of}
 use Rattle.ball_model.specs.Job.{PartValue}
 use Rattle.replica.specs.Index.{targets_of}
-use Rattle.replica.proofs.MergeLemmas.{touched_from}
 use Rattle.replica.proofs.RebuiltLemmas.{rebuilt_same}
 use Rattle.replica.proofs.Replica.rebuild.Goals as goal
 
 pub invariant_of-result : goal.invariant_of-result
 invariant_of-result c =
     let part = arc_value c.args.part in
-    let s = c.args.saved in
     let is = c.in_ok-known.ensures.fields in
     let plan : c.plan.result.now ≡ part.plan = c.plan.ensures ∙ ap (λ (a : PartValue). a.plan) c.deref-2.ensures in
     record {
       goes_on = c.in_ok-known.ensures.goes_on;
       index = inl (c.in_ok-targets.ensures ∙ ap targets_of (c.deref.ensures ∙ sym is.part_is));
-      touched = rw (is.rows, is.accumulated)
-          (touched_from part.plan.log2m (length s.rows.rows) s.rows.rows s.accumulated.rows c.in_ok-touched.touched.items c.requires.rows.rows c.requires.heard.accumulated refl c.in_ok-touched.ensures);
       estimator = c.in_ok-estimator.ensures ∙ ap (λ (a : PlanValue). measure_of a) plan ∙ ap (λ (a : PartValue). measure_of a.plan) (sym is.part_is);
     }
 

@@ -7,4 +7,4 @@ use Rattle.replica.proofs.shown.Shown.heard.Goals as goal
 
 pub returns-clause-names : goal.returns-clause-names
 returns-clause-names g c =
-    rw (← c.shown-s.ensures) (ap (λ (v : State). v.heard) (state_is c.s.view_is) ∙ heard_is c.shown-s.result.now.state (subst (λ (v : State). IsState v) (state_is c.s.view_is) c.s.invariant.state))
+    rw (← c.shown-s.ensures) (c.heard.ensures ∙ ap (λ (v : State). v.heard) (state_is c.s.view_is) ∙ heard_is c.shown-s.result.now.state (subst (λ (v : State). IsState v) (state_is c.s.view_is) c.s.invariant.state))

@@ -5,4 +5,4 @@ use Rattle.replica.proofs.ReadLemmas.{change_stands}
 use Rattle.replica.proofs.shown.Shown.heard_change.Goals as goal
 
 pub returns-clause-stands : goal.returns-clause-stands
-returns-clause-stands g c = rw (← c.shown-s.ensures) (λ j p t h. ap (λ (v : State). v.heard_change) (state_is c.s.view_is) ∙ change_stands j p t c.shown-s.result.now.state h)
+returns-clause-stands g c = rw (← c.shown-s.ensures) (λ j p t h. c.change.ensures ∙ ap (λ (v : State). v.heard_change) (state_is c.s.view_is) ∙ change_stands j p t c.shown-s.result.now.state h)

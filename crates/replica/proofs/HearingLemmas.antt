@@ -1,0 +1,143 @@
+-- What is heard of a superstep, and the accumulators that are kept of it, beside the rows or none.
+use Rattle.std.proofs.Common.{◌≡◌, ℕ, not, ◌+◌, ◌^◌, ◌<◌, Bool, true, false, List, [], ◌∷◌, length, get_or, replicate, refl, ap, sym, ◌∙◌, subst, arith, inl, inr, ◌⊎◌}
+use Rattle.std.specs.Prelude.{Option}
+use Rattle.std.specs.List.{list_any}
+use Rattle.std.specs.Str.{bytes_eq}
+use Rattle.std.proofs.lemmas.List.{same_lists, get_or_default}
+use Rattle.std.proofs.lemmas.List.Folds.{list_any_at}
+use Rattle.std.proofs.lemmas.List.FromFn.{get_or-map-range_with_len}
+use Rattle.std.proofs.lemmas.Bool.{both_ways, false_from_ne_true}
+use Rattle.ball_model.specs.Batches.{BatchValue}
+use Rattle.ball_model.specs.Table.{Table}
+use Rattle.registers.specs.Laws.{max_each-repeats}
+use Rattle.replica.specs.Hearing.{Hearing, HearingValue, Hears, HearsAlso, IsQuiet, IsReady, hearing_of, KeepsAll, KeepsAllOrNone, SaysSame, accumulators_of, batch_by, batches_below, hearing_kept}
+use Rattle.replica.specs.Level.{differences}
+use Rattle.replica.specs.Spread.{AreTouched, IsAbove, LeadInside}
+use Rattle.replica.proofs.HearLemmas.{hears_as, hears_next}
+use Rattle.replica.proofs.LevelLemmas.{length-differing}
+use Rattle.replica.proofs.RiseLemmas.{rise_counters, same_registers}
+
+-- ---- rows, and what is kept beside them
+
+pub none_kept : (rows kept : List (List ℕ)) → length kept ≡ 0 → accumulators_of rows kept ≡ rows
+unfolding accumulators_of
+none_kept rows [] e = refl
+none_kept rows (own ∷ rest) e = absurd (omega arith)
+
+pub some_kept : (rows kept : List (List ℕ)) → (length kept ≡ 0 → ⊥) → accumulators_of rows kept ≡ kept
+unfolding accumulators_of
+some_kept rows [] ne = absurd (ne refl)
+some_kept rows (own ∷ rest) ne = refl
+
+pub all_kept : (rows kept : List (List ℕ)) → length kept ≡ length rows → accumulators_of rows kept ≡ kept
+unfolding accumulators_of
+all_kept [] [] e = refl
+all_kept (row ∷ rows) [] e = absurd (omega arith)
+all_kept rows (own ∷ rest) e = refl
+
+-- where there are as many as rows all are kept
+pub all_of : (rows : List (List ℕ)) (a : HearingValue) → KeepsAllOrNone rows a → length a.accumulated.rows ≡ length rows → KeepsAll rows a
+all_of rows a kept count = elim kept [
+  | inl are ↦ are
+  | inr gone ↦
+      let none : length rows ≡ 0 = sym count ∙ ap (length {A = List ℕ}) gone.0 in
+      record {
+        count = count;
+        marks = ap (length {A = Bool}) gone.1 ∙ sym none;
+        above = λ i lt. absurd (omega (arith, none, lt));
+        differ = λ i lt. absurd (omega (arith, none, lt));
+      }
+]
+
+-- all are kept, or the accumulators are the rows
+pub accumulators_are : (rows : List (List ℕ)) (a : HearingValue) → KeepsAllOrNone rows a → (accumulators_of rows a.accumulated.rows ≡ a.accumulated.rows × KeepsAll rows a) ⊎ (accumulators_of rows a.accumulated.rows ≡ rows)
+accumulators_are rows a kept = elim kept [
+  | inl are ↦ inl (all_kept rows a.accumulated.rows are.count, are)
+  | inr gone ↦ inr (none_kept rows a.accumulated.rows (ap (length {A = List ℕ}) gone.0))
+]
+
+pub accumulators_size : (rows : List (List ℕ)) (a : HearingValue) → KeepsAllOrNone rows a → length (accumulators_of rows a.accumulated.rows) ≡ length rows
+accumulators_size rows a kept = elim (accumulators_are rows a kept) [
+  | inl all ↦ ap (length {A = List ℕ}) all.0 ∙ all.1.count
+  | inr none ↦ ap (length {A = List ℕ}) none
+]
+
+-- the marks of those that differ
+pub differing_marks : (rows accumulated : List (List ℕ)) (marks : List Bool) (n : ℕ) → ((i : ℕ) → i < length rows → IsAbove (get_or rows i []) (get_or accumulated i [])) → length accumulated ≡ length rows → n ≡ length rows → marks ≡ differences rows accumulated n → AreTouched rows accumulated marks
+unfolding differences
+differing_marks rows accumulated marks n above count size is = record {
+  count = count;
+  marks = ap (length {A = Bool}) is ∙ length-differing rows accumulated n ∙ size;
+  above = above;
+  differ = λ i lt. ap (λ (l : List Bool). get_or l i false) is ∙ get_or-map-range_with_len (λ k. not (bytes_eq (get_or accumulated k []) (get_or rows k []))) 0 n i i false (omega (arith, size)) (omega arith);
+}
+
+-- those of another one, with marks of their own
+pub marked_from : (rows : List (List ℕ)) (a : HearingValue) (accumulated : List (List ℕ)) (marks : List Bool) (n : ℕ) → KeepsAllOrNone rows a → accumulated ≡ accumulators_of rows a.accumulated.rows → n ≡ length rows → marks ≡ differences rows accumulated n → AreTouched rows accumulated marks
+marked_from rows a accumulated marks n kept same size is = elim (accumulators_are rows a kept) [
+  | inl all ↦ let own : accumulated ≡ a.accumulated.rows = same ∙ all.0 in
+      differing_marks rows accumulated marks n (rw own all.1.above) (rw own all.1.count) size is
+  | inr none ↦ let own : accumulated ≡ rows = same ∙ none in
+      differing_marks rows accumulated marks n (rw own (λ i lt. max_each-repeats (get_or rows i []))) (ap (length {A = List ℕ}) own) size is
+]
+
+-- ---- letting them go
+
+no_mark : (marks : List Bool) (i : ℕ) → i < length marks → list_any (λ mark. mark) marks ≡ false → get_or marks i false ≡ false
+no_mark marks i lt none = false_from_ne_true (get_or marks i false) (λ on. both_ways (list_any (λ mark. mark) marks) none (list_any_at (λ mark. mark) marks i false lt on))
+
+-- where no row is marked, the accumulators are the rows
+unmarked_same : (rows accumulated : List (List ℕ)) (touched : List Bool) → AreTouched rows accumulated touched → list_any (λ mark. mark) touched ≡ false → accumulated ≡ rows
+unmarked_same rows accumulated touched are none =
+    same_lists accumulated rows are.count
+    (λ i d lt. get_or_default accumulated i d [] lt
+    ∙ same_registers (get_or accumulated i []) (get_or rows i []) (sym (are.differ i (omega (arith, are.count))) ∙ no_mark touched i (omega (arith, are.count, are.marks)) none)
+    ∙ sym (get_or_default rows i d [] (omega (arith, are.count))))
+
+-- so it says the same without them
+pub bare_same : (a b : HearingValue) (rows : List (List ℕ)) → list_any (λ mark. mark) a.touched ≡ false → KeepsAllOrNone rows a → b.heard ≡ a.heard → b.change ≡ a.change → b.accumulated ≡ record a.accumulated { rows = [] } → b.touched ≡ [] → SaysSame rows a b
+bare_same a b rows none kept heard change accumulated touched = record {
+  heard = heard;
+  change = change;
+  width = ap (λ (t : Table). t.width) accumulated;
+  accumulated =
+      ap (λ (t : Table). accumulators_of rows t.rows) accumulated
+      ∙ none_kept rows [] refl
+      ∙ elim kept [
+        | inl are ↦ sym (all_kept rows a.accumulated.rows are.count ∙ unmarked_same rows a.accumulated.rows a.touched are none)
+        | inr gone ↦ sym (none_kept rows a.accumulated.rows (ap (length {A = List ℕ}) gone.0))
+      ];
+  kept = inr (ap (λ (t : Table). t.rows) accumulated, touched);
+}
+
+-- ---- hearing
+
+-- one source more of those below a number
+pub also_next : (log2m : ℕ) (targets : List (List ℕ)) (told : ℕ → Option BatchValue) (n : ℕ) (a b c : HearingValue) → IsReady log2m targets a → HearsAlso log2m targets (batches_below told n) a b → HearsAlso log2m targets (batch_by n (told n)) b c →
+    HearsAlso log2m targets (batches_below told (n + 1)) a c
+also_next log2m targets told n a b c ready f g = record {
+  hears = hears_next log2m targets told n (hearing_kept a) (hearing_kept b) (hearing_kept c) ready.counters f.hears g.hears;
+  width = g.width ∙ f.width;
+  touched = λ rows are. g.touched rows (f.touched rows are);
+}
+
+-- then more can be heard
+pub ready_on : (log2m : ℕ) (targets : List (List ℕ)) (told : ℕ → Option BatchValue) (a b : HearingValue) → IsReady log2m targets a → HearsAlso log2m targets told a b → IsReady log2m targets b
+ready_on log2m targets told a b ready h = record {
+  sources = h.hears.count ∙ ready.sources;
+  width = h.width ∙ ready.width;
+  inside = subst (λ k. LeadInside k targets) (sym h.hears.rise.count) ready.inside;
+  counters = rise_counters log2m a.accumulated.rows b.accumulated.rows h.hears.rise;
+}
+
+-- the same, heard of the same
+pub hears_said : {m m' : ℕ} {targets targets' : List (List ℕ)} {told : ℕ → Option BatchValue} {heard heard' : List Bool} {change change' : Bool} {rows rows' : List (List ℕ)} {b : Hearing} → m ≡ m' → targets ≡ targets' → heard ≡ heard' → change ≡ change' → rows ≡ rows' →
+    Hears m targets told (hearing_of heard change rows) b → Hears m' targets' told (hearing_of heard' change' rows') b
+hears_said {m} {m'} {targets} {targets'} {told} {heard} {heard'} {change} {change'} {rows} {rows'} {b} p q r e s h =
+    hears_as p q r s (subst (λ (f : Bool). Hears m targets told (hearing_of heard f rows) b) e h)
+
+-- where nothing was heard before
+pub hears_quiet : {m m' : ℕ} {targets targets' : List (List ℕ)} {told : ℕ → Option BatchValue} (rows : Table) (a b : HearingValue) → m ≡ m' → targets ≡ targets' → IsQuiet rows a → Hears m targets told (hearing_kept a) (hearing_kept b) →
+    Hears m' targets' told (hearing_of (replicate 64 false) false rows.rows) (hearing_kept b)
+hears_quiet {m} {m'} {targets} {targets'} {told} rows a b p q quiet h =
+    hears_said p q quiet.heard quiet.change (ap (λ (t : Table). t.rows) quiet.accumulated) h

@@ -1,0 +1,31 @@
+use Rattle.std.proofs.Common.{◌≡◌, Bool, length, refl, ap, sym, ◌∙◌, arith}
+use Rattle.std.specs.Prelude.{Result, Ok, Err, IsOk, OnOk}
+use Rattle.std.proofs.lemmas.List.{with_items_is}
+use Rattle.ball_model.specs.Table.{Table}
+use Rattle.registers.specs.Joined.{maximum_of_rows}
+use Rattle.replica.specs.Hearing.{HearingValue}
+use Rattle.replica.proofs.MergeLemmas.{length-maxima}
+use Rattle.replica.proofs.hearing.Hearing.absorb.Goals as goal
+use Rattle.replica.proofs.hearing.Hearing.absorb.Goals.{After-deref_mut}
+
+ok_gives : {A E : Type 0} {P : Type 0} (r : Result A E) → IsOk r → OnOk r P → P
+ok_gives (Ok a) given p = p
+ok_gives (Err e) given p = absurd (cc)
+
+-- as many as before
+size : (c : After-deref_mut) → length c.join-raised.new.self.rows ≡ length c.self.inside.accumulated.rows
+size c =
+    let joined : c.join-raised.new.self ≡ maximum_of_rows c.self.inside.accumulated c.args.theirs.now = ok_gives c.join-raised.result (c.join-raised.ensures.settled refl) c.join-raised.ensures.joined in
+    ap (λ (t : Table). length t.rows) joined
+    ∙ length-maxima c.self.inside.accumulated.rows c.args.theirs.now.rows (ap (λ (a : HearingValue). length a.accumulated.rows) c.self.view_is ∙ c.requires.count)
+
+pub mark-requires-clause-new : goal.mark-requires-clause-new
+mark-requires-clause-new c = size (goal.at.mark-requires-clause-new c).After-deref_mut ∙ sym c.self.invariant ∙ sym (ap (length {A = Bool}) c.deref_mut.ensures.value)
+
+pub invariant_of-self : goal.invariant_of-self
+invariant_of-self c =
+    ap (length {A = Bool}) (with_items_is c.self.inside.touched c.mark.new.marks (c.mark.auto.marks ∙ c.deref_mut.ensures.len))
+    ∙ c.mark.auto.marks
+    ∙ ap (length {A = Bool}) c.deref_mut.ensures.value
+    ∙ c.self.invariant
+    ∙ sym (size (goal.at.invariant_of-self c).After-deref_mut)

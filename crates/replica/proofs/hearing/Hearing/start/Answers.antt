@@ -1,0 +1,20 @@
+use Rattle.std.proofs.Common.{◌≡◌, Bool, List, length, false, replicate, rules, refl, ap, sym, ◌∙◌, subst}
+use Rattle.std.proofs.lemmas.List.{length-replicate}
+use Rattle.ball_model.specs.Table.{Table}
+use Rattle.replica.specs.Spread.{AreTouched}
+use Rattle.replica.proofs.StepLemmas.{get_or-replicate_same}
+use Rattle.replica.proofs.LevelLemmas.{none_touched}
+use Rattle.replica.proofs.hearing.Hearing.start.Goals as goal
+
+pub returns : goal.returns
+returns c =
+    let rows = c.args.rows.now.rows in
+    let n = c.len.result in
+    let items : c.in_ok-touched.touched.items ≡ replicate n false = c.in_ok-touched.ensures.items_if_clones_equal (search rules) in
+    let quiet : AreTouched rows rows (replicate n false) = none_touched rows (replicate n false) (length-replicate {A = Bool} n false ∙ c.len.ensures.value) (λ q. get_or-replicate_same n q false) in
+    record {
+      heard = c.empty.ensures;
+      change = refl;
+      accumulated = c.in_ok-accumulated.ensures;
+      kept = subst (λ (t : Table). AreTouched rows t.rows c.in_ok-touched.touched.items) (sym c.in_ok-accumulated.ensures) (subst (λ (l : List Bool). AreTouched rows rows l) (sym items) quiet);
+    }

@@ -1,0 +1,303 @@
+//! What is heard of a superstep.
+
+ghost use Rattle.std.specs.Prelude.{◌≡◌, ℕ, ◌^◌, ◌<◌, ◌||◌, List, length, slice_index_or, option_map, Some, IfOk, IfSome, OnOk, OnErr};
+ghost use Rattle.ball_model.specs.State.{early_at};
+ghost use Rattle.registers.specs.Joined.{maximum_of_rows, union_of_flags};
+ghost use Rattle.replica.specs.Ahead.{IsTable};
+ghost use Rattle.replica.specs.Heard.{OwnIsHeard};
+ghost use Rattle.replica.specs.Hearing.{HearsAlso, IsQuiet, IsReady, KeepsAll, KeepsAllOrNone, SaysSame, accumulators_of, batch_by, let_go};
+ghost use Rattle.replica.specs.Kept.{AllRise, AreCounters, IsFrom};
+ghost use Rattle.replica.specs.Level.{differences};
+
+use crate::early::Early;
+use crate::level;
+use crate::shown::copy_rows;
+use crate::spread::{spread_batch, spread_own};
+use crate::targets::Targets;
+use ball_model::Plan;
+use batches::Batch;
+use edgelist::Part;
+use registers::{Join, Relay, Rows, SourceMask};
+use std::alloc::{AllocError, Global};
+use std::marker::Model;
+
+/// Of which sources a superstep's batches are heard, and what is accumulated for each row.
+#[derive(Drop)]
+pub struct Hearing {
+    // which sources are heard
+    heard: SourceMask,
+    // whether one of them tells of a changed vertex
+    change: bool,
+    // the rows, raised by those of the sources that are heard; none where none is kept, since each equals its row
+    accumulated: Rows,
+    // which of them differ from their rows
+    touched: Vec<bool>,
+}
+
+impl Model for Hearing {
+    ghost use Rattle.std.specs.Prelude.{◌≡◌, length};
+    ghost use Rattle.replica.specs.Hearing.{HearingValue};
+
+    ghost Value = { HearingValue };
+
+    ghost view = { λ h. record {
+      heard = h.heard;
+      change = h.change;
+      accumulated = h.accumulated;
+      touched = h.touched.items;
+    } };
+
+    ghost invariant = { λ h. length h.touched.items ≡ length h.accumulated.rows };
+}
+
+impl Hearing {
+    /// Nothing is heard, and what is accumulated are the rows.
+    pub fn start(alloc: Global, rows: &Rows) -> Result<Hearing, AllocError>
+        ensures { IfOk result (λ h. IsQuiet rows.now h) }
+    {
+        let accumulated = copy_rows(alloc, rows)?;
+        let touched = vec![in alloc; false; rows.len()]?;
+        Ok(Hearing {
+            heard: SourceMask::empty(),
+            change: false,
+            accumulated,
+            touched,
+        })
+    }
+
+    /// This is heard and accumulated beside the rows.
+    pub fn of(
+        alloc: Global,
+        rows: &Rows,
+        heard: SourceMask,
+        change: bool,
+        accumulated: Rows,
+    ) -> Result<Hearing, AllocError>
+        requires { length accumulated.rows ≡ length rows.now.rows }
+        ensures { IfOk result (λ h. h ≡ record {
+          heard = heard;
+          change = change;
+          accumulated = accumulated;
+          touched = differences rows.now.rows accumulated.rows (length rows.now.rows);
+        }) }
+    {
+        let mut touched = vec![in alloc; false; rows.len()]?;
+        level::mark(rows, &accumulated, &mut touched);
+        Ok(Hearing {
+            heard,
+            change,
+            accumulated,
+            touched,
+        })
+    }
+
+    /// Which sources are heard.
+    pub fn heard(&self) -> SourceMask
+        ensures { result ≡ self.now.heard }
+    {
+        self.heard
+    }
+
+    /// Whether one of them tells of a changed vertex.
+    pub fn change(&self) -> bool
+        ensures { result ≡ self.now.change }
+    {
+        self.change
+    }
+
+    /// The accumulators: the rows themselves where no others are kept.
+    pub fn accumulators<'a>(&'a self, rows: &'a Rows) -> &'a Rows
+        requires { rows.now.width ≡ self.now.accumulated.width }
+        ensures rows { result.now.rows ≡ accumulators_of rows.now.rows self.now.accumulated.rows }
+        ensures width { result.now.width ≡ rows.now.width }
+    {
+        if self.accumulated.len() == 0 {
+            rows
+        } else {
+            &self.accumulated
+        }
+    }
+
+    /// How many accumulators are kept.
+    #[cfg(test)]
+    pub fn count(&self) -> usize
+        ensures { result ≡ length self.now.accumulated.rows }
+    {
+        self.accumulated.len()
+    }
+
+    /// Hears a batch of the superstep: its rows are spread, and its source is heard.
+    pub fn hear(&mut self, targets: &Targets, batch: &Batch)
+        requires { IsReady batch.now.plan.log2m targets.now self.old }
+        ensures { HearsAlso batch.now.plan.log2m targets.now
+            (batch_by batch.now.name.source (Some batch.now)) self.old self.new }
+    {
+        spread_batch(targets, batch, &mut self.accumulated, &mut self.touched);
+        self.heard.insert(batch.name().source);
+        self.change |= batch.changed() != 0;
+    }
+
+    // Hears the batch of a source, where there is one.
+    fn hear_if(&mut self, targets: &Targets, plan: &Plan, source: u16, batch: Option<&Batch>)
+        requires ready { IsReady plan.now.log2m targets.now self.old }
+        requires batch { IfSome batch (λ b. IsFrom plan.now source b.now) }
+        ensures { HearsAlso plan.now.log2m targets.now
+            (batch_by source (option_map (λ b. b.now) batch.entry)) self.old self.new }
+    {
+        match batch {
+            Some(batch) => self.hear(targets, batch),
+            None => {}
+        }
+    }
+
+    /// Hears the batches that are kept of the next superstep, which has begun.
+    pub fn hear_early(&mut self, targets: &Targets, plan: &Plan, early: &Early)
+        requires ready { IsReady plan.now.log2m targets.now self.old }
+        requires table { IsTable plan.now.parts early.now }
+        requires batches { (q : ℕ) → IfSome (early_at early.now 0 q) (IsFrom plan.now q) }
+        ensures { HearsAlso plan.now.log2m targets.now
+            (λ q. early_at early.now 0 q) self.old self.new }
+    {
+        for source in 0..plan.parts() {
+            self.hear_if(targets, plan, source, early.get(0, source));
+        }
+    }
+
+    /// Begins the next superstep: what changed in the own partition is heard too, what is accumulated becomes the
+    /// rows, those are marked that this changes, and nothing is heard yet.
+    pub fn begin(&mut self, targets: &Targets, part: &Part, rows: &mut Relay, marks: &mut [bool])
+        requires width { rows.old.width ≡ self.old.accumulated.width }
+        requires count { length rows.old.rows ≡ length part.now.preds }
+        requires marks { length marks.old ≡ length part.now.preds }
+        requires ready { IsReady part.now.plan.log2m targets.now self.old }
+        requires counters { AreCounters part.now.plan.log2m rows.old.rows }
+        requires rise { AllRise part.now.plan.log2m rows.old.rows self.old.accumulated.rows }
+        requires kept { KeepsAll rows.old.rows self.old }
+        ensures quiet { IsQuiet rows.new self.new }
+        ensures width { rows.new.width ≡ rows.old.width }
+        ensures marks { marks.new ≡
+            differences rows.old.rows rows.new.rows (length part.now.preds) }
+        ensures rise { AllRise part.now.plan.log2m rows.old.rows rows.new.rows }
+        ensures stands { OwnIsHeard targets.now part.now rows.old.rows marks.old
+            self.old.accumulated.rows rows.new.rows }
+    {
+        spread_own(
+            targets,
+            part,
+            rows.get(),
+            marks,
+            &mut self.accumulated,
+            &mut self.touched,
+        );
+        rows.follow(&self.accumulated, &self.touched);
+        marks.copy_from_slice(&self.touched);
+        level::clear_marks(&mut self.touched);
+        self.heard = SourceMask::empty();
+        self.change = false;
+    }
+
+    /// Becomes what is heard beside the rows of another one of the same partition.
+    pub fn assign(&mut self, rows: &Rows, other: &Hearing)
+        requires width { rows.now.width ≡ self.old.accumulated.width }
+        requires same { other.now.accumulated.width ≡ self.old.accumulated.width }
+        requires count { length rows.now.rows ≡ length self.old.accumulated.rows }
+        requires kept { KeepsAllOrNone rows.now.rows other.now }
+        ensures same { SaysSame rows.now.rows other.now self.new }
+        ensures kept { KeepsAll rows.now.rows self.new }
+    {
+        self.accumulated.copy_from(other.accumulators(rows));
+        level::mark(rows, &self.accumulated, &mut self.touched);
+        self.heard = other.heard;
+        self.change = other.change;
+    }
+
+    /// Takes over what another one of the same partition and superstep has heard, with these accumulators.
+    pub fn absorb(&mut self, alloc: Global, rows: &Rows, other: &Hearing, theirs: &Rows)
+        requires width { self.old.accumulated.width ≡ theirs.now.width }
+        requires count { length self.old.accumulated.rows ≡ length theirs.now.rows }
+        requires rows { length rows.now.rows ≡ length self.old.accumulated.rows }
+        ensures { self.new ≡ record {
+          heard = union_of_flags self.old.heard other.now.heard;
+          change = self.old.change || other.now.change;
+          accumulated = maximum_of_rows self.old.accumulated theirs.now;
+          touched = differences rows.now.rows
+              (maximum_of_rows self.old.accumulated theirs.now).rows (length rows.now.rows);
+        } }
+    {
+        let _heard = self.heard.join(alloc, &other.heard);
+        let _raised = self.accumulated.join(alloc, theirs);
+        level::mark(rows, &self.accumulated, &mut self.touched);
+        self.change |= other.change;
+    }
+
+    /// The same in buffers of its own, with no accumulators where none of them differs from its row.
+    pub fn copied(&self, alloc: Global) -> Result<Hearing, AllocError>
+        ensures { IfOk result (λ copy. (rows : List (List ℕ)) →
+            KeepsAllOrNone rows self.now → SaysSame rows self.now copy) }
+    {
+        if level::any_marked(&self.touched) {
+            self.copied_whole(alloc)
+        } else {
+            self.copied_bare(alloc)
+        }
+    }
+
+    // The same in buffers of its own.
+    fn copied_whole(&self, alloc: Global) -> Result<Hearing, AllocError>
+        ensures { IfOk result (λ copy. copy ≡ self.now) }
+    {
+        let accumulated = copy_rows(alloc, &self.accumulated)?;
+        let touched = Vec::from_slice(alloc, &self.touched)?;
+        Ok(Hearing {
+            heard: self.heard,
+            change: self.change,
+            accumulated,
+            touched,
+        })
+    }
+
+    // The same without accumulators.
+    fn copied_bare(&self, alloc: Global) -> Result<Hearing, AllocError>
+        ensures { IfOk result (λ copy. copy ≡ let_go self.now) }
+    {
+        let accumulated = Rows::fixed(alloc, 0, self.accumulated.width() as u16)?;
+        Ok(Hearing {
+            heard: self.heard,
+            change: self.change,
+            accumulated,
+            touched: Vec::new(alloc),
+        })
+    }
+
+    /// Lets the accumulators go, where no row differs from what is accumulated for it.
+    pub fn let_go(&mut self)
+        ensures { (rows : List (List ℕ)) →
+            KeepsAllOrNone rows self.old → SaysSame rows self.old self.new }
+    {
+        if !level::any_marked(&self.touched) {
+            self.accumulated.clear();
+            self.touched.clear();
+            self.touched.shrink_to_fit();
+        }
+    }
+
+    /// Keeps the accumulators again that were let go. An error changes nothing.
+    pub fn renew(&mut self, alloc: Global, rows: &Rows) -> Result<(), AllocError>
+        requires width { rows.now.width ≡ self.old.accumulated.width }
+        requires kept { KeepsAllOrNone rows.now.rows self.old }
+        ensures same { OnOk result (SaysSame rows.now.rows self.old self.new) }
+        ensures kept { OnOk result (KeepsAll rows.now.rows self.new) }
+        ensures refused { OnErr result (self.new ≡ self.old) }
+    {
+        if self.accumulated.len() == 0 {
+            let Hearing {
+                accumulated,
+                touched,
+                ..
+            } = Hearing::start(alloc, rows)?;
+            self.accumulated = accumulated;
+            self.touched = touched;
+        }
+        Ok(())
+    }
+}
