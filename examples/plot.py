@@ -12,12 +12,17 @@ import sys
 def read(path):
     """The neighbourhood function N(0), N(1), .. and the harmonic centralities of a report, greatest first."""
     totals, harmonic = [], []
-    with open(path, newline="", encoding="utf-8", errors="surrogateescape") as report:
-        for row in csv.reader(report):
-            if row[0] == "superstep":
-                totals.append(float(row[2]))
-            elif row[0] == "vertex":
-                harmonic.append(float(row[3]))
+    try:
+        with open(path, newline="", encoding="utf-8", errors="surrogateescape") as report:
+            for row in csv.reader(report):
+                if row[0] == "superstep":
+                    totals.append(float(row[2]))
+                elif row[0] == "vertex":
+                    harmonic.append(float(row[3]))
+    except OSError as error:
+        sys.exit(f"plot.py: {path}: {error.strerror}")
+    except (IndexError, ValueError, csv.Error):
+        totals = []
     if not totals:
         sys.exit(f"plot.py: {path} is no report of hyperball run")
     return totals, sorted(harmonic, reverse=True)

@@ -42,14 +42,19 @@ class Vertex:
 
 
 def read(path):
-    """N(0), N(1), .. and the vertices of a report."""
+    """N(0), N(1), .. and the vertices of a report. Where it is none, or cannot be read, this is told, and all ends."""
     totals, vertices = [], []
-    with open(path, newline="", encoding="utf-8", errors="surrogateescape") as report:
-        for row in csv.reader(report):
-            if row[0] == "superstep":
-                totals.append(Fraction(row[2]))
-            elif row[0] == "vertex":
-                vertices.append(Vertex(row))
+    try:
+        with open(path, newline="", encoding="utf-8", errors="surrogateescape") as report:
+            for row in csv.reader(report):
+                if row[0] == "superstep":
+                    totals.append(Fraction(row[2]))
+                elif row[0] == "vertex":
+                    vertices.append(Vertex(row))
+    except OSError as error:
+        sys.exit(f"tables.py: {path}: {error.strerror}")
+    except (IndexError, ValueError, csv.Error):
+        totals = []
     if not totals:
         sys.exit(f"tables.py: {path} is no report of hyperball run")
     return totals, vertices
