@@ -1,7 +1,7 @@
 -- What a fault of a run says of its options and of the input.
-use Rattle.std.specs.Prelude.{◌≡◌, ⊤, ℕ, Bool, List, Option, None, Some, IfSome}
+use Rattle.std.specs.Prelude.{◌≡◌, ◌<◌, ⊤, ℕ, Bool, List, length, Option, None, Some, IfSome, Result, MatchResult}
 use Rattle.ball_model.specs.RunText.{Settings}
-use Rattle.hyperball.specs.Whole.{sections_in}
+use Rattle.hyperball.specs.Whole.{most_bytes, sections_in}
 use Rattle.hyperball.specs.declared.serve.RunFault.{RunFault}
 use Rattle.hyperball.specs.declared.serve.RunFault.TheVariants as fault
 use Rattle.workers.specs.Options.{settings_of}
@@ -25,3 +25,16 @@ IsFault o counted told (fault.Input e) = ⊤
 IsFault o counted told fault.NoList = IfSome told (λ input. sections_in counted input ≡ None)
 IsFault o counted told (fault.Run e) =
     IsFaultIn o e × IfSome told (λ input. Refuses (settings_of o) counted input e)
+
+-- the input was not read whole, or not at all
+abbrev pub IsUnreadRun : RunFault → Type 0
+IsUnreadRun fault.Gate = ⊤
+IsUnreadRun fault.Random = ⊤
+IsUnreadRun (fault.Input e) = ⊤
+IsUnreadRun fault.NoList = ⊥
+IsUnreadRun (fault.Run e) = ⊥
+
+-- a run over an input that is too long ends before it is read whole
+abbrev pub RefusesLongRun : Option (List ℕ) → Result (Unit {0}) RunFault → Type 0
+RefusesLongRun told result = IfSome told (λ input. most_bytes < length input →
+    MatchResult result (λ _. ⊥) IsUnreadRun)

@@ -13,7 +13,7 @@ ghost use Rattle.edgelist.specs.Reading.{CountsOne};
 ghost use Rattle.edgelist.specs.declared.read.EdgeError.TheVariants as edge_fault;
 ghost use Rattle.hyperball.specs.Whole.{IsLong, ReadsFew, most_bytes};
 ghost use Rattle.hyperball.specs.Options.{options_of, settings_in};
-ghost use Rattle.hyperball.specs.Refusals.{IsFault};
+ghost use Rattle.hyperball.specs.Refusals.{IsFault, RefusesLongRun};
 ghost use Rattle.hyperball.specs.Replaying.{BeginsSome, BeginsToServe, IsReplay, ServesReplay};
 ghost use Rattle.hyperball.specs.declared.replay_words.ReplayWords.{ReplayWords as Replayed};
 ghost use Rattle.hyperball.specs.Words.{AreMistakes, AsksProgress, FailsFor, HasFaults, HasOrders};
@@ -254,6 +254,7 @@ fn run_listed<
     ensures gate { result ≢ Err RunFault.Gate }
     ensures random { result ≢ Err RunFault.Random }
     ensures size { result ≡ Err (RunFault.Input WholeError.Size) → IsLong (R.remaining reader.old) }
+    ensures long { RefusesLongRun (R.remaining reader.old) result }
     ensures memory { result ≡ Err (RunFault.Input WholeError.Memory) →
         TakesAtMost most_bytes (R.remaining reader.old) (R.remaining reader.new) }
     ensures read { result ≡ Err (RunFault.Input WholeError.Read) →
@@ -291,6 +292,7 @@ fn run_by<
     ensures random { result ≡ Err RunFault.Random →
         Keeps (R.remaining reader.old) (R.remaining reader.new) }
     ensures size { result ≡ Err (RunFault.Input WholeError.Size) → IsLong (R.remaining reader.old) }
+    ensures long { counted ≡ true → RefusesLongRun (R.remaining reader.old) result }
     ensures memory { result ≡ Err (RunFault.Input WholeError.Memory) →
         TakesAtMost most_bytes (R.remaining reader.old) (R.remaining reader.new) }
     ensures read { result ≡ Err (RunFault.Input WholeError.Read) →
@@ -336,6 +338,7 @@ fn run<
     ensures random { result ≡ Err RunFault.Random →
         Keeps (R.remaining reader.old) (R.remaining reader.new) }
     ensures size { result ≡ Err (RunFault.Input WholeError.Size) → IsLong (R.remaining reader.old) }
+    ensures long { said.words.counted ≡ true → RefusesLongRun (R.remaining reader.old) result }
     ensures memory { result ≡ Err (RunFault.Input WholeError.Memory) →
         TakesAtMost most_bytes (R.remaining reader.old) (R.remaining reader.new) }
     ensures read { result ≡ Err (RunFault.Input WholeError.Read) →
