@@ -7,11 +7,12 @@ Inputs are random bytes, right ones with a few bytes changed, and scripts of ran
 its name and the seed alone. Each run is a process of its own. It has to end by itself, with status 0 and nothing told,
 or with status 1, one line of fault and nothing written. Where cc is there, feed.c copies the process before its main
 is called, which spares starting it anew for each input, and refuse.c stands between the program and the C library: each
-allocation is refused in turn, each thread, and each read and each write fails in turn. Prints a line for each kind; the
-status is 1 where a run went wrong.
+allocation is refused in turn, each thread, and each read and each write fails in turn. Under limits of the address space
+memory runs out for good. Prints a line for each kind; the status is 1 where a run went wrong.
 """
 import os
 import random
+import resource
 import struct
 import subprocess
 import sys
@@ -43,10 +44,15 @@ show 0.1
 wrong = 0
 
 
-def ran(words, data, **more):
-    """Status, output and faults of one run; a run of 60 seconds counts as one that hangs."""
+def ran(words, data, limit=None, **more):
+    """Status, output and faults of one run; a run of 60 seconds counts as one that hangs. With a limit the address space has
+    so many bytes at most: from some moment on all memory is refused, and so are threads."""
+    def limit_it():
+        resource.setrlimit(resource.RLIMIT_AS, (limit, limit))
+
+    how = {"env": {**os.environ, **more}, "preexec_fn": limit_it if limit else None}
     try:
-        run = subprocess.run([PROGRAM, *words], input=data, capture_output=True, timeout=60, env={**os.environ, **more})
+        run = subprocess.run([PROGRAM, *words], input=data, capture_output=True, timeout=60, **how)
     except subprocess.TimeoutExpired:
         return "hangs", b"", b""
     return run.returncode, run.stdout, run.stderr
@@ -247,6 +253,7 @@ REFUSED_CALLS = (
     ("edgelist", "refusals::calls_where_memory_is_refused"),
     ("replica", "refusals::calls_where_memory_is_refused"),
     ("checkpoint", "refusals::calls_where_memory_is_refused"),
+    ("checkpoint", "refusals::writing_asks_for_no_memory"),
     ("report", "refusals::calls_where_memory_is_refused"),
     ("board", "calls::calls_where_memory_is_refused"),
     ("board", "opened::boards_whose_memory_is_refused"),
@@ -272,12 +279,12 @@ def refused_calls(shim):
                 call += 1
                 words = {"LD_PRELOAD": shim, "REFUSE_TELL": told, "REFUSE_ALLOC": str(call)}
                 run = subprocess.run([tests, "tests::" + test], capture_output=True, timeout=60, env={**os.environ, **words})
-                if run.returncode != 0:
+                if run.returncode != 0 or f"test tests::{test} ... ok".encode() not in run.stdout + run.stderr:
                     bad.append((crate, call, run.stdout + run.stderr))
                 if not os.path.exists(told):
                     break
                 os.remove(told)
-        count(f"memory refused: {crate}, {test.split('::')[0]}", call, bad)
+        count(f"memory refused: {crate}, {test.split('::')[1]}", call, bad)
 
 
 def lost_workers():
@@ -304,6 +311,29 @@ def lost_workers():
     count("lost workers", runs, bad)
 
 
+def limits(many=60):
+    """Too little memory, and then enough of it; the least limit is one under which the C library is loaded."""
+    chance = random.Random("limits")
+    edges = "".join(f"{chance.randrange(20000)}\t{chance.randrange(20000)}\n" for _ in range(60000)).encode()
+    steps = (f"send 0.0 1\nsend 1.0 0\ndeliver {2 * s} 1.0\ndeliver {2 * s + 1} 0.0\nclose 0.0\nclose 1.0\ncopy 0.0\nkeep 1.0\n" for s in range(6))
+    run, replay = ["run", "--log2m", "6"], ["replay", "--log2m", "6", "--parts", "2"]
+    for kind, words, data, most in (
+        ("too little memory: one partition", run, edges, 60e6),
+        ("too little memory: four workers", [*run, "--parts", "2", "--replicas", "2"], edges, 400e6),
+        ("too little memory: a replay", replay, edges + b"%%\n" + "".join(steps).encode(), 120e6),
+    ):
+        whole, bad, cut = ran(words, data), [], 0
+        for i in range(many):
+            answer = ran(words, data, limit=int(6e6 + (most - 6e6) * i / many))
+            status, output, faults = answer
+            front = whole[1].startswith(output) and output[-1:] in (b"", b"\n") if words == replay else output == b""
+            refused = status == 1 and faults == b"hyperball: out of memory\n" and front
+            cut += refused
+            if whole[0] != 0 or not refused and answer != whole:
+                bad.append((words, i, status, faults))
+        count(kind, many, bad, f"{cut} refused")
+
+
 def built(folder, name):
     """The library of one of the C files here; None where it cannot be built."""
     library = os.path.join(folder, name + ".so")
@@ -322,6 +352,7 @@ def main():
         feed, shim = (built(folder, name) for name in ("feed", "refuse"))
         all_inputs(many, seconds, seed, feed)
         lost_workers()
+        limits()
         if shim:
             refused_calls(shim)
             refusals(shim)
