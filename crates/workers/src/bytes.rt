@@ -44,13 +44,13 @@ pub enum RunError {
     #[error("an option does not fit the job")]
     Options,
     /// The edge list is refused.
-    #[error("{0}")]
+    #[error(transparent)]
     Edges(EdgeError),
     /// The list of counted vertices is refused.
-    #[error("{0}")]
+    #[error(transparent)]
     Counted(CountedError),
     /// There is no such plan.
-    #[error("{0}")]
+    #[error(transparent)]
     Plan(PlanError),
     /// Every node of the partition was lost. It is the least such partition.
     #[error("every replica of partition {part} was lost")]
@@ -142,19 +142,19 @@ impl From<JobError> for RunError {
 // Counts only the vertices of a list, where there is one.
 fn count_listed(
     alloc: Global,
-    mut graph: Graph,
+    graph: &mut Graph,
     counted: Option<&[u8]>,
     options: &RunOptions,
-) -> Result<Graph, CountedError>
-    ensures ok { IfSome (list_in counted.entry) IsPlain → IfOk result (λ listed.
-        counted_by options.now graph counted.entry ≡ Ok listed) }
+) -> Result<(), CountedError>
+    ensures ok { IfSome (list_in counted.entry) IsPlain → OnOk result (
+        counted_by options.now graph.old counted.entry ≡ Ok graph.new) }
     ensures refused { IfSome (list_in counted.entry) IsPlain → IfErr result (
-        RefusesList (counted_by options.now graph counted.entry)) }
+        RefusesList (counted_by options.now graph.old counted.entry)) }
 {
     if let Some(list) = counted {
         graph.count_only(alloc, options.delimiter, list)?;
     }
-    Ok(graph)
+    Ok(())
 }
 
 // The graph that an edge list and a list of counted vertices say.
@@ -176,8 +176,9 @@ fn read_graph<T: AllocGlobal, R: CountedRead>(
         result ≡ Err (RunError.Edges EdgeError.Read) }
     ensures fault { IfErr result (IsFaultIn options.now) }
 {
-    let graph = read_edges(rt.alloc(), state, reader, options.delimiter, LIMITS)?;
-    Ok(count_listed(rt.alloc(), graph, counted, options)?)
+    let mut graph = read_edges(rt.alloc(), state, reader, options.delimiter, LIMITS)?;
+    count_listed(rt.alloc(), &mut graph, counted, options)?;
+    Ok(graph)
 }
 
 // The plan of a run over a graph, or the first fault of the options.

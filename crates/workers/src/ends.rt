@@ -18,7 +18,7 @@ use replica::Replica;
 use std::alloc::{AllocError, Global};
 
 /// Why a job has no replicas at its end, in the order of the checks.
-#[derive(Clone, Copy, Debug, PartialEq, Eq)]
+#[derive(Clone, Copy)]
 pub enum JobError {
     /// Every node of the partition was lost. It is the least such partition.
     PartitionLost {
@@ -187,20 +187,17 @@ fn settle_part(p: u16, ends: Vec<NodeResult>, faults: &mut Faults) -> Option<Rep
 }
 
 // Adds the replica of the next partition, where there is one, and tells whether there is.
-fn keep_done(done: &mut Vec<Replica>, next: Option<Replica>) -> Result<bool, JobError>
+fn keep_done(done: &mut Vec<Replica>, next: Option<Replica>) -> Result<bool, AllocError>
     ensures count { IfOk result (λ kept. kept ≡ true →
         length done.new.items ≡ length done.old.items + 1) }
     ensures each { (j : Job) → IfSome next (IsDone j (length done.old.items)) →
         EachAt (IsDone j) 0 done.old.items → OnOk result (EachAt (IsDone j) 0 done.new.items) }
-    ensures memory { IfErr result (λ e. e ≡ JobError.Memory) }
 {
     let Some(mut replica) = next else {
         return Ok(false);
     };
     replica.give_back();
-    let Ok(()) = done.push(replica) else {
-        return Err(JobError::Memory);
-    };
+    done.push(replica)?;
     Ok(true)
 }
 

@@ -1,5 +1,6 @@
 //! What is called round each of a node's posts, and while it waits.
 
+use crate::running::zeros;
 use ball_model::NodeId;
 use std::alloc::{AllocError, Global};
 use std::sync::atomic::{AtomicU32, Ordering};
@@ -75,7 +76,7 @@ impl<'a, C: Clock> SleepingGate<'a, C> {
     pub fn new(alloc: Global, clock: &'a C) -> Result<SleepingGate<'a, C>, AllocError> {
         Ok(SleepingGate {
             clock,
-            turns: no_turns(alloc)?,
+            turns: zeros(alloc, NODES)?,
         })
     }
 }
@@ -94,15 +95,6 @@ impl<'a, C: Clock> Gate for SleepingGate<'a, C> {
             rest(self.clock, turns.fetch_add(1, Ordering::SeqCst));
         }
     }
-}
-
-// No idle turn yet, of any node.
-fn no_turns(alloc: Global) -> Result<Vec<AtomicU32>, AllocError> {
-    let mut turns = Vec::with_capacity(alloc, NODES)?;
-    for _ in 0..NODES {
-        turns.push(AtomicU32::new(0))?;
-    }
-    Ok(turns)
 }
 
 // The place of a node among all that a run may have.

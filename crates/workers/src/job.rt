@@ -133,11 +133,7 @@ fn shared_part(alloc: Global, graph: &Graph, plan: &Plan, p: u16) -> SharedPart
     requires part { p < plan.now.parts }
     ensures { IfOk result (λ part. arc_value part ≡ part_of (job_of graph.now.graph plan.now) p) }
 {
-    let part = graph.part(alloc, plan, p)?;
-    match Arc::new(alloc, part) {
-        Ok(part) => Ok(part),
-        Err(_) => Err(AllocError),
-    }
+    Ok(Arc::new(alloc, graph.part(alloc, plan, p)?)?)
 }
 
 // The parts of all partitions, each made by a thread of its own where there could be one.

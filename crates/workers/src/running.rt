@@ -15,12 +15,8 @@ pub struct Running {
 impl Running {
     /// No node has ended, of so many partitions of so many replicas. The error is that memory was refused.
     pub fn new(alloc: Global, parts: u16, replicas: u8) -> Result<Running, AllocError> {
-        let mut ended = Vec::with_capacity(alloc, usize::from(parts))?;
-        for _ in 0..parts {
-            ended.push(AtomicU32::new(0))?;
-        }
         Ok(Running {
-            ended,
+            ended: zeros(alloc, usize::from(parts))?,
             replicas: u32::from(replicas),
         })
     }
@@ -46,6 +42,15 @@ impl Running {
             None => true,
         }
     }
+}
+
+/// So many numbers that threads share, each of them 0. The error is that memory was refused.
+pub fn zeros(alloc: Global, count: usize) -> Result<Vec<AtomicU32>, AllocError> {
+    let mut numbers = Vec::with_capacity(alloc, count)?;
+    for _ in 0..count {
+        numbers.push(AtomicU32::new(0))?;
+    }
+    Ok(numbers)
 }
 
 /// The gate of a run: that of its caller, at which nobody waits for a partition whose nodes have all ended too early.

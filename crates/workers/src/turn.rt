@@ -1,6 +1,8 @@
 //! One superstep of a node.
 
 ghost use Rattle.std.specs.Prelude.{◌≡◌, ◌≢◌, ◌⊎◌, ℕ, true, false, None, ◌<◌, ◌≤◌, ◌+◌, IfOk, OnErr, OnOk, IfErr, Err};
+ghost use Rattle.std.specs.Arc.{arc_value};
+ghost use Rattle.ball_model.specs.Batches.{true_batch};
 ghost use Rattle.ball_model.specs.Caller.{CalledNothing, Extends, IsCaller, IsFull};
 ghost use Rattle.ball_model.specs.Held.{held_after};
 ghost use Rattle.ball_model.specs.History.{holding_in};
@@ -20,8 +22,9 @@ use crate::exchange::Exchange;
 use crate::gate::Gate;
 use crate::node::{NodeError, NodeOrders};
 use ball_model::{BatchName, NodeId};
-use replica::{Replica, Shown};
-use std::alloc::AllocGlobal;
+use batches::Batch;
+use replica::{Replica, Shown, Snapshot};
+use std::alloc::{AllocError, AllocGlobal, Global};
 use std::sync::{Arc, Wait};
 
 /// What became of a superstep.
@@ -79,6 +82,14 @@ pub fn catch_up<R: AllocGlobal + Wait, E: Exchange>(
     Ok(true)
 }
 
+// A snapshot of the replica, as threads share it.
+fn shared_snapshot(alloc: Global, replica: &mut Replica) -> Result<Arc<Snapshot>, AllocError>
+    ensures same { IfOk result (λ s. arc_value s ≡ replica.old) }
+    ensures unchanged { replica.new ≡ replica.old }
+{
+    Ok(Arc::new(alloc, replica.snapshot(alloc)?)?)
+}
+
 // Keeps a snapshot at each superstep that is a multiple of `every`, and none where that is 0.
 fn keep_snapshot<R: AllocGlobal + Wait, E: Exchange>(
     rt: &R,
@@ -101,11 +112,19 @@ fn keep_snapshot<R: AllocGlobal + Wait, E: Exchange>(
     if every == 0 || replica.superstep() % every != 0 {
         return Ok(());
     }
-    let Ok(snapshot) = Arc::new(rt.alloc(), replica.snapshot(rt.alloc())?) else {
-        return Err(NodeError::Memory);
-    };
+    let snapshot = shared_snapshot(rt.alloc(), replica)?;
     exchange.keep(rt, snapshot)?;
     Ok(())
+}
+
+// What another partition is told of the superstep, as threads share it.
+fn shared_batch(alloc: Global, replica: &Replica, target: u16) -> Result<Arc<Batch>, AllocError>
+    requires target { target < replica.now.part.plan.parts }
+    requires other { target ≢ replica.now.part.number }
+    ensures { (j : Job) (p t : ℕ) → StandsFor j p t replica.now →
+        IfOk result (λ b. arc_value b ≡ true_batch j (batch_name t p target)) }
+{
+    Ok(Arc::new(alloc, replica.out(alloc, target)?)?)
 }
 
 // Tells one other partition of the superstep.
@@ -130,9 +149,7 @@ fn tell<R: AllocGlobal + Wait, E: Exchange, G: Gate>(
         (E.caller exchange.new)) }
     ensures full { IfErr result (λ e. e ≡ BookFull → IsFull (E.caller exchange.new)) }
 {
-    let Ok(batch) = Arc::new(rt.alloc(), replica.out(rt.alloc(), target)?) else {
-        return Err(NodeError::Memory);
-    };
+    let batch = shared_batch(rt.alloc(), replica, target)?;
     gate.before_post(node, replica.superstep());
     exchange.post(rt, batch)?;
     gate.after_post(node, replica.superstep());

@@ -11,4 +11,4 @@ returns-clause-each c = λ j one each.
     let old = c.args.done.now.items in
     let next = subst (λ (o : Option State). IfSome o (IsDone j (length old))) c.in-Some.is one in
     let first : length old ≡ 0 + length old = omega arith in
-    subst (EachAt (IsDone j) 0) (sym c.in-Ok.ensures.items) (each_push (IsDone j) 0 old c.give_back.new.self each (subst (λ (n : ℕ). IsDone j n c.give_back.new.self) first (subst (IsDone j (length old)) (sym c.give_back.ensures) next)))
+    subst (EachAt (IsDone j) 0) (sym c.in_ok-push.ensures.items) (each_push (IsDone j) 0 old c.give_back.new.self each (subst (λ (n : ℕ). IsDone j n c.give_back.new.self) first (subst (IsDone j (length old)) (sym c.give_back.ensures) next)))

@@ -1,4 +1,4 @@
-use Rattle.std.proofs.Common.{◌∙◌, refl, ap, sym}
+use Rattle.std.proofs.Common.{refl, ap, sym}
 use Rattle.workers.proofs.TurnLemmas.{same_stands}
 use Rattle.ball_model.specs.History.{holding_in}
 use Rattle.workers.proofs.PathLemmas.{come_nowhere, gone_nowhere, on_err, come_by_call}
@@ -7,7 +7,7 @@ use Rattle.workers.proofs.turn.keep_snapshot.Goals as goal
 pub keep-requires : goal.keep-requires
 keep-requires g c =
     let v = g.E.Exchange.caller c.args.exchange.now in
-    record { snapshot = same_stands v.seen.job c.args.node.part c.args.replica.now _ c.requires.stands (c.in-Ok.ensures.ok ∙ c.in_ok-snapshot.ensures.same) }
+    record { snapshot = same_stands v.seen.job c.args.node.part c.args.replica.now _ c.requires.stands c.in_ok-snapshot.ensures.same }
 
 pub returns-then-every-eq0-clause-came : goal.returns-then-every-eq0-clause-came
 returns-then-every-eq0-clause-came g c = come_nowhere _ _ _ _ refl
@@ -15,11 +15,8 @@ returns-then-every-eq0-clause-came g c = come_nowhere _ _ _ _ refl
 pub returns-in_err-snapshot-clause-gone : goal.returns-in_err-snapshot-clause-gone
 returns-in_err-snapshot-clause-gone g c = on_err c.from_residual.result (gone_nowhere _ _ _ _ refl)
 
-pub returns-in_default-clause-gone : goal.returns-in_default-clause-gone
-returns-in_default-clause-gone g c = gone_nowhere _ _ _ _ refl
-
 pub returns-in_err-keep-clause-gone : goal.returns-in_err-keep-clause-gone
 returns-in_err-keep-clause-gone g c = on_err c.from_residual-in_err-keep.result (gone_nowhere _ _ _ _ c.in_err-keep.ensures.refused)
 
 pub returns-clause-came : goal.returns-clause-came
-returns-clause-came g c = come_by_call _ _ _ _ _ _ c.in_ok-keep.ensures.ok (ap holding_in (c.in-Ok.ensures.ok ∙ c.in_ok-snapshot.ensures.same)) (ap holding_in (sym c.snapshot.ensures.unchanged))
+returns-clause-came g c = come_by_call _ _ _ _ _ _ c.in_ok-keep.ensures.ok (ap holding_in c.in_ok-snapshot.ensures.same) (ap holding_in (sym c.shared_snapshot.ensures.unchanged))
