@@ -1,9 +1,9 @@
-//! Refused memory, and writers that fail. A run of the first two tests can refuse any one growth: then a node ends with
+//! Refused memory, and streams that fail. A run of the first two tests can refuse any one growth: then a node ends with
 //! want of memory, a run writes nothing, and what was refused is done when it is done again.
 
-use super::runs::{REPORT, usual};
+use super::runs::{REPORT, USUAL, options_of};
 use super::*;
-use ball_model::MemWriter;
+use ball_model::{CountedWrite, MemReader, MemWriter};
 use edgelist::EdgeError;
 use std::thread::Threads;
 
@@ -24,64 +24,89 @@ fn nodes_whose_memory_is_refused(rt: HostRuntime) {
     assert!(rt; is_done(&rt, None) && is_done(&rt, Some(2)));
 }
 
-/// What a run of one partition answers, and what it wrote, where a call of the writer fails.
-fn run_until<R: AllocGlobal + RandomSource + Threads + Wait + Sync>(
-    rt: &R,
-    fails_at: Option<u64>,
-) -> Option<(Result<(), RunError>, Vec<u8>)> {
-    let state = RandomState::new(rt).ok()?;
-    let mut writer = MemWriter::with_room(rt.alloc(), 1024, fails_at).ok()?;
-    let mut reader = CountingReader::new(TWO_EDGES);
-    let options = usual(rt.alloc(), 1, 1);
-    let answer = run(
-        rt,
-        state,
-        &mut reader,
-        None,
-        &mut writer,
-        &options,
-        &OpenGate,
-    );
-    Some((answer, writer.into_bytes()))
-}
-
-/// What is seen of a run.
+/// What is written of the report of the two edges.
 #[derive(Clone, Copy, PartialEq, Eq)]
 enum Written {
+    Nothing,
+    Beginning,
     Whole,
-    Refused,
-    Unwritten,
-    Wrong,
+    Other,
 }
 
-/// A run writes its report, or nothing where memory was refused; where a write failed, a beginning of it.
+/// What of it the bytes are.
+fn written_in(bytes: &[u8]) -> Written {
+    if bytes.is_empty() {
+        return Written::Nothing;
+    }
+    if bytes == REPORT {
+        return Written::Whole;
+    }
+    if REPORT.starts_with(bytes) {
+        Written::Beginning
+    } else {
+        Written::Other
+    }
+}
+
+/// A run of one partition, where a call of the reader may fail.
+fn run_until<R: AllocGlobal + RandomSource + Threads + Wait + Sync, W: CountedWrite>(
+    rt: &R,
+    options: &RunOptions,
+    read_fails: Option<u64>,
+    writer: &mut W,
+) -> Option<Result<(), RunError>> {
+    let state = RandomState::new(rt).ok()?;
+    let mut reader = MemReader::new(TWO_EDGES, read_fails);
+    Some(run(rt, state, &mut reader, None, writer, options, &OpenGate))
+}
+
+/// What a run answers and what is written, where call `read_fails` of the reader or call `write_fails` of the writer
+/// fails; None where memory was refused before it.
 fn seen<R: AllocGlobal + RandomSource + Threads + Wait + Sync>(
     rt: &R,
-    fails_at: Option<u64>,
-) -> Written {
-    match run_until(rt, fails_at) {
-        Some((Ok(()), bytes)) if bytes.as_slice() == REPORT => Written::Whole,
-        Some((Err(RunError::Memory | RunError::Edges(EdgeError::Memory)), bytes))
-            if bytes.is_empty() => { Written::Refused }
-        Some((Err(RunError::Write), bytes))
-            if bytes.len() < REPORT.len() && REPORT.starts_with(bytes.as_slice()) => {
-            Written::Unwritten
-        }
-        Some(_) => Written::Wrong,
-        None => Written::Refused,
-    }
+    read_fails: Option<u64>,
+    write_fails: Option<u64>,
+) -> Option<(Result<(), RunError>, Written)> {
+    let options = options_of(rt.alloc(), &USUAL)?;
+    let mut writer = MemWriter::with_room(rt.alloc(), 1024, write_fails).ok()?;
+    let answer = run_until(rt, &options, read_fails, &mut writer)?;
+    let bytes = writer.into_bytes();
+    Some((answer, written_in(&bytes)))
+}
+
+/// A run that writes its report.
+const WHOLE: Option<(Result<(), RunError>, Written)> = Some((Ok(()), Written::Whole));
+
+/// Whether memory was refused, and nothing is written.
+fn is_refused(seen: Option<(Result<(), RunError>, Written)>) -> bool {
+    matches!(
+        seen,
+        None | Some((
+            Err(RunError::Memory | RunError::Edges(EdgeError::Memory)),
+            Written::Nothing
+        ))
+    )
 }
 
 #[test]
 fn a_run_whose_memory_is_refused(rt: HostRuntime) {
-    let first = seen(&rt, None);
-    let again = first == Written::Refused && seen(&rt, None) == Written::Whole;
-    assert!(rt; first == Written::Whole || again);
+    let first = seen(&rt, None, None);
+    let again = is_refused(first) && seen(&rt, None, None) == WHOLE;
+    assert!(rt; first == WHOLE || again);
 }
 
 /// The report is written by two calls: one for what stands before the vertices, and one for them.
 #[test]
 fn a_run_whose_writer_fails(rt: HostRuntime) {
-    let told = [seen(&rt, Some(1)), seen(&rt, Some(2)), seen(&rt, Some(3))];
-    assert!(rt; told == [Written::Unwritten, Written::Unwritten, Written::Whole]);
+    let fault = Err(RunError::Write);
+    let first = seen(&rt, None, Some(1)) == Some((fault, Written::Nothing));
+    let second = seen(&rt, None, Some(2)) == Some((fault, Written::Beginning));
+    assert!(rt; first && second && seen(&rt, None, Some(3)) == WHOLE);
+}
+
+/// The edge list is read by two calls: one for its bytes, and one that finds no more.
+#[test]
+fn a_run_whose_reader_fails(rt: HostRuntime) {
+    let unread = Some((Err(RunError::Edges(EdgeError::Read)), Written::Nothing));
+    assert!(rt; seen(&rt, Some(1), None) == unread && seen(&rt, Some(2), None) == unread);
 }

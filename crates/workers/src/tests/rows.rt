@@ -1,9 +1,7 @@
 //! Rows of several graphs, whose bytes are known: the same for each number of partitions and of replicas.
 
-use super::runs::{REPORT, usual};
+use super::runs::{Asked, REPORT, USUAL, reports_everywhere};
 use super::*;
-use ball_model::{CountingWriter, MemReader, MemWriter};
-use edgelist::EdgeError;
 use std::thread::Threads;
 
 /// One vertex and no edge.
@@ -76,136 +74,114 @@ vertex,c,10.768000,0.000000,0.000000,1.000000,16
 /// The two edges with a note, one of them twice, and an edge from a vertex to itself, in lines that end with CRLF.
 const NOISY: &[u8] = b"# c\r\na\tb\r\nb\tc\r\na\tb\r\nb\tb\r\n";
 
-/// Whether a run writes this report.
-fn gives<R: AllocGlobal + RandomSource + Threads + Wait + Sync>(
-    rt: &R,
-    input: &[u8],
-    counted: Option<&[u8]>,
-    options: &RunOptions,
-    report: &[u8],
-) -> Result<bool, Fail> {
-    let state = RandomState::new(rt)?;
-    let mut output = Vec::new(rt.alloc());
-    let mut reader = CountingReader::new(input);
-    let mut writer = CountingWriter::new(&mut output);
-    let answer = run(
-        rt,
-        state,
-        &mut reader,
-        counted,
-        &mut writer,
-        options,
-        &OpenGate,
-    );
-    Ok(answer == Ok(()) && output.as_slice() == report)
-}
+/// What is asked, and its report. The others have the two edges by tabs and all vertices counted.
+static ROWS: [(Asked<'static>, &[u8]); 6] = [
+    (
+        Asked {
+            input: b"x\n",
+            ..USUAL
+        },
+        LONE,
+    ),
+    (
+        Asked {
+            input: b"",
+            ..USUAL
+        },
+        NOTHING,
+    ),
+    (Asked { limit: 1, ..USUAL }, LIMITED),
+    (
+        Asked {
+            input: b"a\tb\nb\ta\n",
+            ..USUAL
+        },
+        CYCLE,
+    ),
+    (
+        Asked {
+            input: b"x,y\tq\"\n",
+            ..USUAL
+        },
+        QUOTED,
+    ),
+    (
+        Asked {
+            input: NOISY,
+            ..USUAL
+        },
+        REPORT,
+    ),
+];
 
-/// Whether one to three replicas of each of so many partitions write it.
-fn gives_replicated<R: AllocGlobal + RandomSource + Threads + Wait + Sync>(
+/// The two edges with a list of counted vertices.
+static COUNTED: [(Asked<'static>, &[u8]); 3] = [
+    (
+        Asked {
+            counted: Some(b"a\n"),
+            ..USUAL
+        },
+        ONE_COUNTED,
+    ),
+    (
+        Asked {
+            counted: Some(b""),
+            ..USUAL
+        },
+        NONE_COUNTED,
+    ),
+    (
+        Asked {
+            counted: Some(b"a\nb\nc\na\n"),
+            ..USUAL
+        },
+        REPORT,
+    ),
+];
+
+/// The two edges with another delimiter.
+static DELIMITED: [(Asked<'static>, &[u8]); 2] = [
+    (
+        Asked {
+            input: b"a,b\nb,c\n",
+            delimiter: Delimiter::Comma,
+            ..USUAL
+        },
+        REPORT,
+    ),
+    (
+        Asked {
+            input: b"a b\nb c\n",
+            delimiter: Delimiter::Space,
+            ..USUAL
+        },
+        REPORT,
+    ),
+];
+
+/// Whether each of these has its report.
+fn all_report<R: AllocGlobal + RandomSource + Threads + Wait + Sync>(
     rt: &R,
-    input: &[u8],
-    counted: Option<&[u8]>,
-    limit: u32,
-    parts: u16,
-    report: &[u8],
-) -> Result<bool, Fail> {
+    rows: &[(Asked, &[u8])],
+) -> bool {
     let mut all = true;
-    for replicas in 1..4u8 {
-        let mut options = usual(rt.alloc(), parts, replicas);
-        options.limit = limit;
-        all &= gives(rt, input, counted, &options, report)?;
+    for (asked, report) in rows {
+        all &= reports_everywhere(rt, asked, report);
     }
-    Ok(all)
-}
-
-/// Whether one to five partitions do.
-fn gives_everywhere<R: AllocGlobal + RandomSource + Threads + Wait + Sync>(
-    rt: &R,
-    input: &[u8],
-    counted: Option<&[u8]>,
-    limit: u32,
-    report: &[u8],
-) -> Result<bool, Fail> {
-    let mut all = true;
-    for parts in 1..6u16 {
-        all &= gives_replicated(rt, input, counted, limit, parts, report)?;
-    }
-    Ok(all)
+    all
 }
 
 #[test]
-fn reports_of_several_graphs(rt: HostRuntime) -> Result<(), Fail> {
-    assert!(rt; gives_everywhere(&rt, b"x\n", None, 4096, LONE)?);
-    assert!(rt; gives_everywhere(&rt, b"", None, 4096, NOTHING)?);
-    assert!(rt; gives_everywhere(&rt, TWO_EDGES, None, 1, LIMITED)?);
-    assert!(rt; gives_everywhere(&rt, b"a\tb\nb\ta\n", None, 4096, CYCLE)?);
-    assert!(rt; gives_everywhere(&rt, b"x,y\tq\"\n", None, 4096, QUOTED)?);
-    Ok(())
+fn reports_of_several_graphs(rt: HostRuntime) {
+    assert!(rt; all_report(&rt, &ROWS));
 }
 
 #[test]
-fn report_of_noisy_input(rt: HostRuntime) -> Result<(), Fail> {
-    assert!(rt; gives_everywhere(&rt, NOISY, None, 4096, REPORT)?);
-    Ok(())
-}
-
-/// Whether the two edges give it with a list of counted vertices.
-fn gives_counted<R: AllocGlobal + RandomSource + Threads + Wait + Sync>(
-    rt: &R,
-    counted: &[u8],
-    report: &[u8],
-) -> Result<bool, Fail> {
-    gives_everywhere(rt, TWO_EDGES, Some(counted), 4096, report)
+fn reports_of_counted_vertices(rt: HostRuntime) {
+    assert!(rt; all_report(&rt, &COUNTED));
 }
 
 #[test]
-fn reports_of_counted_vertices(rt: HostRuntime) -> Result<(), Fail> {
-    assert!(rt; gives_counted(&rt, b"a\n", ONE_COUNTED)?);
-    assert!(rt; gives_counted(&rt, b"", NONE_COUNTED)?);
-    assert!(rt; gives_counted(&rt, b"a\nb\nc\na\n", REPORT)?);
-    Ok(())
-}
-
-/// What a run of the two edges answers and writes, where call `read_fails` of the reader or call `write_fails` of the
-/// writer fails.
-fn failing<R: AllocGlobal + RandomSource + Threads + Wait + Sync>(
-    rt: &R,
-    read_fails: Option<u64>,
-    write_fails: Option<u64>,
-) -> Result<(Result<(), RunError>, Vec<u8>), Fail> {
-    let state = RandomState::new(rt)?;
-    let options = usual(rt.alloc(), 1, 1);
-    let mut reader = MemReader::new(TWO_EDGES, read_fails);
-    let mut writer = MemWriter::with_room(rt.alloc(), 1000, write_fails)?;
-    let answer = run(
-        rt,
-        state,
-        &mut reader,
-        None,
-        &mut writer,
-        &options,
-        &OpenGate,
-    );
-    Ok((answer, writer.into_bytes()))
-}
-
-/// Whether it answers so, and has written the report up to a place, and not whole.
-fn fails_with<R: AllocGlobal + RandomSource + Threads + Wait + Sync>(
-    rt: &R,
-    read_fails: Option<u64>,
-    write_fails: Option<u64>,
-    fault: RunError,
-) -> Result<bool, Fail> {
-    let (answer, output) = failing(rt, read_fails, write_fails)?;
-    Ok(answer == Err(fault) && output.len() < REPORT.len() && REPORT.starts_with(&output))
-}
-
-#[test]
-fn failing_streams(rt: HostRuntime) -> Result<(), Fail> {
-    let read = RunError::Edges(EdgeError::Read);
-    assert!(rt; fails_with(&rt, Some(1), None, read)?);
-    assert!(rt; fails_with(&rt, Some(2), None, read)?);
-    assert!(rt; fails_with(&rt, None, Some(1), RunError::Write)?);
-    assert!(rt; fails_with(&rt, None, Some(2), RunError::Write)?);
-    Ok(())
+fn reports_of_other_delimiters(rt: HostRuntime) {
+    assert!(rt; all_report(&rt, &DELIMITED));
 }

@@ -18,22 +18,53 @@ vertex,b,11.780376,0.665022,1.503709,208.680703,14
 vertex,c,12.417153,0.751274,0.538737,83.065637,13
 ";
 
-/// A run of the two edges in so many partitions of so many replicas.
-pub fn usual(alloc: Global, parts: u16, replicas: u8) -> RunOptions {
-    RunOptions {
+/// What is asked of a run, as plain data, and what it reads. Orders are lent, so nothing has to be let go.
+#[derive(Clone, Copy)]
+pub struct Asked<'a> {
+    pub input: &'a [u8],
+    pub counted: Option<&'a [u8]>,
+    pub delimiter: Delimiter,
+    pub parts: u16,
+    pub replicas: u8,
+    pub limit: u32,
+    pub entries: u32,
+    pub keep: u32,
+    pub lose: &'a [(NodeId, u32)],
+    pub restart: &'a [(NodeId, u32)],
+}
+
+/// The two edges in one partition of one replica.
+pub const USUAL: Asked<'static> = Asked {
+    input: TWO_EDGES,
+    counted: None,
+    delimiter: Delimiter::Tab,
+    parts: 1,
+    replicas: 1,
+    limit: 4096,
+    entries: 100000,
+    keep: 1,
+    lose: &[],
+    restart: &[],
+};
+
+/// What is asked, as the options of a run; None where memory was refused.
+pub fn options_of(alloc: Global, asked: &Asked) -> Option<RunOptions> {
+    let lose = asked.lose.to_vec(alloc).ok()?;
+    let restart = asked.restart.to_vec(alloc).ok()?;
+    Some(RunOptions {
         log2m: 4,
         seed: 0,
-        parts,
-        limit: 4096,
+        parts: asked.parts,
+        limit: asked.limit,
         estimate: Estimate::Raw,
-        delimiter: Delimiter::Tab,
-        replicas,
-        entries: 100000,
-        keep: 1,
+        delimiter: asked.delimiter,
+        replicas: asked.replicas,
+        entries: asked.entries,
+        keep: asked.keep,
         patience: 1000000,
-        lose: Vec::new(alloc),
-        restart: Vec::new(alloc),
-    }
+        lose,
+        restart,
+    })
 }
 
 /// A replica of a partition.
@@ -41,129 +72,201 @@ pub fn node(part: u16, replica: u8) -> NodeId {
     NodeId { part, replica }
 }
 
-/// Runs an edge list, and gives the answer and what was written.
-pub fn written_of<R: AllocGlobal + RandomSource + Threads + Wait + Sync, G: Gate + Sync>(
+/// A run by these options, whose report goes to the output.
+fn run_into<R: AllocGlobal + RandomSource + Threads + Wait + Sync, G: Gate + Sync>(
     rt: &R,
-    input: &[u8],
+    asked: &Asked,
     options: &RunOptions,
     gate: &G,
-) -> Result<(Result<(), RunError>, Vec<u8>), Fail> {
-    let state = RandomState::new(rt)?;
+    output: &mut Vec<u8>,
+) -> Option<Result<(), RunError>> {
+    let state = RandomState::new(rt).ok()?;
+    let mut reader = CountingReader::new(asked.input);
+    let mut writer = CountingWriter::new(output);
+    Some(run(
+        rt,
+        state,
+        &mut reader,
+        asked.counted,
+        &mut writer,
+        options,
+        gate,
+    ))
+}
+
+/// Whether a run answers so, and writes this and nothing else.
+pub fn ends_so<R: AllocGlobal + RandomSource + Threads + Wait + Sync, G: Gate + Sync>(
+    rt: &R,
+    asked: &Asked,
+    gate: &G,
+    answer: Result<(), RunError>,
+    written: &[u8],
+) -> bool {
+    let Some(options) = options_of(rt.alloc(), asked) else {
+        return false;
+    };
     let mut output = Vec::new(rt.alloc());
-    let mut reader = CountingReader::new(input);
-    let mut writer = CountingWriter::new(&mut output);
-    let answer = run(rt, state, &mut reader, None, &mut writer, options, gate);
-    Ok((answer, output))
+    let told = run_into(rt, asked, &options, gate, &mut output);
+    told == Some(answer) && output.as_slice() == written
 }
 
-/// The same of the two edges.
-pub fn written<R: AllocGlobal + RandomSource + Threads + Wait + Sync, G: Gate + Sync>(
-    rt: &R,
-    options: &RunOptions,
-    gate: &G,
-) -> Result<(Result<(), RunError>, Vec<u8>), Fail> {
-    written_of(rt, TWO_EDGES, options, gate)
-}
-
-/// The report is written.
+/// This report is written.
 pub fn reports<R: AllocGlobal + RandomSource + Threads + Wait + Sync>(
     rt: &R,
-    options: &RunOptions,
-) -> Result<bool, Fail> {
-    let (answer, output) = written(rt, options, &OpenGate)?;
-    Ok(answer == Ok(()) && output.as_slice() == REPORT)
+    asked: &Asked,
+    report: &[u8],
+) -> bool {
+    ends_so(rt, asked, &OpenGate, Ok(()), report)
 }
 
 /// Nothing is written, and this is the fault.
 pub fn fails<R: AllocGlobal + RandomSource + Threads + Wait + Sync>(
     rt: &R,
-    options: &RunOptions,
+    asked: &Asked,
     fault: RunError,
-) -> Result<bool, Fail> {
-    let (answer, output) = written(rt, options, &OpenGate)?;
-    Ok(answer == Err(fault) && output.is_empty())
+) -> bool {
+    ends_so(rt, asked, &OpenGate, Err(fault), b"")
 }
 
-#[test]
-fn five_partitions(rt: HostRuntime) -> Result<(), Fail> {
+/// One to three replicas of each of one to five partitions write this report.
+pub fn reports_everywhere<R: AllocGlobal + RandomSource + Threads + Wait + Sync>(
+    rt: &R,
+    asked: &Asked,
+    report: &[u8],
+) -> bool {
+    let mut all = true;
     for parts in 1..6u16 {
         for replicas in 1..4u8 {
-            assert!(rt; reports(&rt, &usual(rt.alloc(), parts, replicas))?);
+            let asked = Asked {
+                parts,
+                replicas,
+                ..*asked
+            };
+            all &= reports(rt, &asked, report);
         }
     }
-    Ok(())
+    all
 }
 
 #[test]
-fn lost_replica(rt: HostRuntime) -> Result<(), Fail> {
-    let mut options = usual(rt.alloc(), 2, 2);
-    options.lose.push((node(0, 0), 1))?;
-    assert!(rt; reports(&rt, &options)?);
-    Ok(())
+fn five_partitions(rt: HostRuntime) {
+    assert!(rt; reports_everywhere(&rt, &USUAL, REPORT));
 }
 
-#[test]
-fn any_node_lost_at_any_superstep(rt: HostRuntime) -> Result<(), Fail> {
-    for part in 0..2u16 {
-        for replica in 0..2u8 {
-            for superstep in 0..4u32 {
-                let mut options = usual(rt.alloc(), 2, 2);
-                options.lose.push((node(part, replica), superstep))?;
-                assert!(rt; reports(&rt, &options)?);
-            }
-        }
+/// What is asked of two partitions of two replicas each, with these orders to be lost.
+pub fn losing<'a>(lose: &'a [(NodeId, u32)]) -> Asked<'a> {
+    Asked {
+        parts: 2,
+        replicas: 2,
+        lose,
+        ..USUAL
     }
-    Ok(())
 }
 
 #[test]
-fn least_lost_partition(rt: HostRuntime) -> Result<(), Fail> {
-    let mut options = usual(rt.alloc(), 3, 1);
-    options.lose.push((node(2, 0), 0))?;
-    options.lose.push((node(1, 0), 0))?;
-    let lost = RunError::PartitionLost { part: 1 };
-    assert!(rt; fails(&rt, &options, lost)?);
-    Ok(())
+fn lost_replica(rt: HostRuntime) {
+    let orders = [(node(0, 0), 1)];
+    assert!(rt; reports(&rt, &losing(&orders), REPORT));
+}
+
+/// The report is written whichever superstep a node is lost at.
+fn reports_without<R: AllocGlobal + RandomSource + Threads + Wait + Sync>(
+    rt: &R,
+    lost: NodeId,
+) -> bool {
+    let mut all = true;
+    for superstep in 0..4u32 {
+        let orders = [(lost, superstep)];
+        all &= reports(rt, &losing(&orders), REPORT);
+    }
+    all
+}
+
+/// The four nodes of two partitions of two replicas.
+const NODES: [NodeId; 4] = [
+    NodeId {
+        part: 0,
+        replica: 0,
+    },
+    NodeId {
+        part: 0,
+        replica: 1,
+    },
+    NodeId {
+        part: 1,
+        replica: 0,
+    },
+    NodeId {
+        part: 1,
+        replica: 1,
+    },
+];
+
+#[test]
+fn any_node_lost_at_any_superstep(rt: HostRuntime) {
+    let mut all = true;
+    for lost in &NODES {
+        all &= reports_without(&rt, *lost);
+    }
+    assert!(rt; all);
 }
 
 #[test]
-fn lost_partition(rt: HostRuntime) -> Result<(), Fail> {
-    let mut options = usual(rt.alloc(), 2, 2);
+fn least_lost_partition(rt: HostRuntime) {
+    let orders = [(node(2, 0), 0), (node(1, 0), 0)];
+    let asked = Asked {
+        parts: 3,
+        replicas: 1,
+        ..losing(&orders)
+    };
+    assert!(rt; fails(&rt, &asked, RunError::PartitionLost { part: 1 }));
+}
+
+#[test]
+fn lost_partition(rt: HostRuntime) {
     // lost before they wait for anybody; nobody waits out a million idle turns for them
-    options.lose.push((node(0, 0), 0))?;
-    options.lose.push((node(0, 1), 0))?;
-    let lost = RunError::PartitionLost { part: 0 };
-    assert!(rt; fails(&rt, &options, lost)?);
-    Ok(())
+    let orders = [(node(0, 0), 0), (node(0, 1), 0)];
+    let asked = losing(&orders);
+    assert!(rt; fails(&rt, &asked, RunError::PartitionLost { part: 0 }));
 }
 
 #[test]
-fn restarted_node(rt: HostRuntime) -> Result<(), Fail> {
-    let mut options = usual(rt.alloc(), 2, 1);
-    options.restart.push((node(0, 0), 2))?;
-    assert!(rt; reports(&rt, &options)?);
-    options.keep = 0;
-    assert!(rt; reports(&rt, &options)?);
-    Ok(())
+fn restarted_node(rt: HostRuntime) {
+    let orders = [(node(0, 0), 2)];
+    let kept = Asked {
+        parts: 2,
+        restart: &orders,
+        ..USUAL
+    };
+    let unkept = Asked { keep: 0, ..kept };
+    assert!(rt; reports(&rt, &kept, REPORT) && reports(&rt, &unkept, REPORT));
 }
 
-#[test]
-fn full_book(rt: HostRuntime) -> Result<(), Fail> {
-    let mut options = usual(rt.alloc(), 2, 1);
-    // each of two nodes keeps, posts and fetches at each of four supersteps
+/// The book is full, whatever number of entries below those that two nodes make: each of them keeps, posts and fetches
+/// at each of four supersteps.
+fn fills<R: AllocGlobal + RandomSource + Threads + Wait + Sync>(rt: &R) -> bool {
+    let mut all = true;
     for entries in 2..19u32 {
-        options.entries = entries;
-        assert!(rt; fails(&rt, &options, RunError::BookFull)?);
+        let asked = Asked {
+            parts: 2,
+            entries,
+            ..USUAL
+        };
+        all &= fails(rt, &asked, RunError::BookFull);
     }
-    Ok(())
+    all
 }
 
 #[test]
-fn option_that_does_not_fit(rt: HostRuntime) -> Result<(), Fail> {
-    let mut options = usual(rt.alloc(), 2, 1);
-    options.lose.push((node(2, 0), 0))?;
-    assert!(rt; fails(&rt, &options, RunError::Options)?);
-    Ok(())
+fn full_book(rt: HostRuntime) {
+    assert!(rt; fills(&rt));
+}
+
+#[test]
+fn option_that_does_not_fit(rt: HostRuntime) {
+    let orders = [(node(2, 0), 0)];
+    let asked = losing(&orders);
+    assert!(rt; fails(&rt, &asked, RunError::Options));
 }
 
 /// A gate that holds each node's first post until so many nodes have come to theirs. A node that has waited for too
@@ -177,6 +280,21 @@ struct Rendezvous {
 }
 
 impl Rendezvous {
+    // Nobody has come.
+    fn new(nodes: u32) -> Rendezvous {
+        Rendezvous {
+            nodes,
+            posts: [
+                AtomicU32::new(0),
+                AtomicU32::new(0),
+                AtomicU32::new(0),
+                AtomicU32::new(0),
+            ],
+            entered: AtomicU32::new(0),
+            gave_up: AtomicU32::new(0),
+        }
+    }
+
     // Waits until so many nodes have come.
     fn meet(&self) {
         self.entered.fetch_add(1, Ordering::SeqCst);
@@ -187,6 +305,12 @@ impl Rendezvous {
             thread::yield_now();
         }
         self.gave_up.store(1, Ordering::SeqCst);
+    }
+
+    // All have come, and nobody gave up.
+    fn was_met(&self) -> bool {
+        let entered = self.entered.load(Ordering::SeqCst);
+        entered == self.nodes && self.gave_up.load(Ordering::SeqCst) == 0
     }
 }
 
@@ -208,30 +332,13 @@ impl Gate for Rendezvous {
 }
 
 /// No node gives up, and the report is written.
-fn meets<R: AllocGlobal + RandomSource + Threads + Wait + Sync>(
-    rt: &R,
-    parts: u16,
-) -> Result<bool, Fail> {
-    let gate = Rendezvous {
-        nodes: u32::from(parts),
-        posts: [
-            AtomicU32::new(0),
-            AtomicU32::new(0),
-            AtomicU32::new(0),
-            AtomicU32::new(0),
-        ],
-        entered: AtomicU32::new(0),
-        gave_up: AtomicU32::new(0),
-    };
-    let (answer, output) = written(rt, &usual(rt.alloc(), parts, 1), &gate)?;
-    let met = gate.entered.load(Ordering::SeqCst) == gate.nodes;
-    let all = met && gate.gave_up.load(Ordering::SeqCst) == 0;
-    Ok(all && answer == Ok(()) && output.as_slice() == REPORT)
+fn meets<R: AllocGlobal + RandomSource + Threads + Wait + Sync>(rt: &R, parts: u16) -> bool {
+    let gate = Rendezvous::new(u32::from(parts));
+    let asked = Asked { parts, ..USUAL };
+    ends_so(rt, &asked, &gate, Ok(()), REPORT) && gate.was_met()
 }
 
 #[test]
-fn rendezvous_gate(rt: HostRuntime) -> Result<(), Fail> {
-    assert!(rt; meets(&rt, 2)?);
-    assert!(rt; meets(&rt, 4)?);
-    Ok(())
+fn rendezvous_gate(rt: HostRuntime) {
+    assert!(rt; meets(&rt, 2) && meets(&rt, 4));
 }

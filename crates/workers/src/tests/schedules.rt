@@ -1,9 +1,8 @@
 //! Schedules: whatever turns the threads take, whoever is lost or starts anew, the bytes are the same.
 
 use super::rows::{CYCLE, LONE};
-use super::runs::{REPORT, node, usual, written_of};
+use super::runs::{Asked, REPORT, USUAL, ends_so, node};
 use super::*;
-use std::alloc::AllocError;
 use std::thread;
 use std::thread::Threads;
 
@@ -52,11 +51,17 @@ const GRAPHS: [(&[u8], &[u8], u32); 3] = [
     (b"x\n", LONE, 1),
 ];
 
-// A node of a run at random.
-fn any_node(state: &mut u64, options: &RunOptions) -> NodeId {
-    let part = next(state) % u64::from(options.parts).max(1);
-    let replica = next(state) % u64::from(options.replicas).max(1);
-    node(part as u16, replica as u8)
+// Orders of a run at random: the first so many of these.
+#[derive(Clone, Copy)]
+struct Orders {
+    list: [(NodeId, u32); 3],
+    count: usize,
+}
+
+impl Orders {
+    fn as_slice(&self) -> &[(NodeId, u32)] {
+        self.list.get(..self.count).unwrap_or(&[])
+    }
 }
 
 // A superstep at random, which may be behind the end.
@@ -64,50 +69,70 @@ fn any_superstep(state: &mut u64) -> u32 {
     (next(state) % 5) as u32
 }
 
-// In a third of all runs a node is lost, and in another third all nodes of a partition.
-fn lose_some(state: &mut u64, options: &mut RunOptions) -> Result<(), AllocError> {
-    let chosen = any_node(state, options);
-    match next(state) % 3 {
-        0 => options.lose.push((chosen, any_superstep(state)))?,
-        1 => {
-            for replica in 0..options.replicas {
-                options
-                    .lose
-                    .push((node(chosen.part, replica), any_superstep(state)))?;
-            }
-        }
-        _ => {}
+// In a third of all runs one replica of a partition is lost, and in another third all of them.
+fn losses(state: &mut u64, lost: NodeId, replicas: u8) -> Orders {
+    let (first, count) = match next(state) % 3 {
+        0 => (lost.replica, 1),
+        1 => (0, usize::from(replicas)),
+        _ => (0, 0),
+    };
+    Orders {
+        list: [
+            (node(lost.part, first), any_superstep(state)),
+            (node(lost.part, 1), any_superstep(state)),
+            (node(lost.part, 2), any_superstep(state)),
+        ],
+        count,
     }
-    Ok(())
 }
 
 // In half of all runs a node starts anew.
-fn restart_some(state: &mut u64, options: &mut RunOptions) -> Result<(), AllocError> {
-    let chosen = any_node(state, options);
-    if next(state) % 2 == 0 {
-        options.restart.push((chosen, any_superstep(state)))?;
+fn restarts(state: &mut u64, anew: NodeId) -> Orders {
+    Orders {
+        list: [(anew, any_superstep(state)); 3],
+        count: (next(state) % 2) as usize,
     }
-    Ok(())
+}
+
+// A node of a run at random.
+fn any_node(state: &mut u64, parts: u16, replicas: u8) -> NodeId {
+    let part = next(state) % u64::from(parts).max(1);
+    let replica = next(state) % u64::from(replicas).max(1);
+    node(part as u16, replica as u8)
+}
+
+// How many partitions and replicas a run at random has, how often it keeps, and its orders.
+#[derive(Clone, Copy)]
+struct Drawn {
+    parts: u16,
+    replicas: u8,
+    keep: u32,
+    lose: Orders,
+    restart: Orders,
 }
 
 // One to four partitions of one to three replicas: up to twelve threads, three for each of four cores.
-fn any_options(alloc: Global, state: &mut u64) -> Result<RunOptions, AllocError> {
-    let parts = 1 + next(state) % 4;
-    let replicas = 1 + next(state) % 3;
-    let mut options = usual(alloc, parts as u16, replicas as u8);
-    options.keep = (next(state) % 4) as u32;
-    lose_some(state, &mut options)?;
-    restart_some(state, &mut options)?;
-    Ok(options)
+fn draw(state: &mut u64) -> Drawn {
+    let parts = (1 + next(state) % 4) as u16;
+    let replicas = (1 + next(state) % 3) as u8;
+    let lost = any_node(state, parts, replicas);
+    let anew = any_node(state, parts, replicas);
+    Drawn {
+        parts,
+        replicas,
+        keep: (next(state) % 4) as u32,
+        lose: losses(state, lost, replicas),
+        restart: restarts(state, anew),
+    }
 }
 
 // The partition all of whose nodes are lost up to the end of the run, if there is one. Who is lost is of one partition.
-fn lost_part(options: &RunOptions, end: u32) -> Option<u16> {
-    if options.lose.len() < usize::from(options.replicas) {
+fn lost_part(asked: &Asked, end: u32) -> Option<u16> {
+    if asked.lose.len() < usize::from(asked.replicas) {
         return None;
     }
     let mut lost = None;
-    for (node, superstep) in &options.lose {
+    for (node, superstep) in asked.lose {
         if *superstep > end {
             return None;
         }
@@ -120,36 +145,46 @@ fn lost_part(options: &RunOptions, end: u32) -> Option<u16> {
 fn ends_as_ordered<R: AllocGlobal + RandomSource + Threads + Wait + Sync>(
     rt: &R,
     state: &mut u64,
-) -> Result<bool, Fail> {
+) -> bool {
     let (input, report, end) = GRAPHS[(next(state) % 3) as usize];
-    let options = any_options(rt.alloc(), state)?;
+    let run = draw(state);
+    let asked = Asked {
+        input,
+        parts: run.parts,
+        replicas: run.replicas,
+        keep: run.keep,
+        lose: run.lose.as_slice(),
+        restart: run.restart.as_slice(),
+        ..USUAL
+    };
     let gate = Yielding {
         number: AtomicU32::new((next(state) % 1_000_003) as u32),
     };
-    let (answer, output) = written_of(rt, input, &options, &gate)?;
-    Ok(match lost_part(&options, end) {
-        Some(part) => answer == Err(RunError::PartitionLost { part }) && output.is_empty(),
-        None => answer == Ok(()) && output.as_slice() == report,
-    })
+    match lost_part(&asked, end) {
+        Some(part) => ends_so(
+            rt,
+            &asked,
+            &gate,
+            Err(RunError::PartitionLost { part }),
+            b"",
+        ),
+        None => ends_so(rt, &asked, &gate, Ok(()), report),
+    }
 }
 
 // How many of so many runs do not.
-fn different<R: AllocGlobal + RandomSource + Threads + Wait + Sync>(
-    rt: &R,
-    runs: u32,
-) -> Result<u32, Fail> {
+fn different<R: AllocGlobal + RandomSource + Threads + Wait + Sync>(rt: &R, runs: u32) -> u32 {
     let mut state = 28;
     let mut others = 0u32;
     for _ in 0..runs {
-        if !ends_as_ordered(rt, &mut state)? {
+        if !ends_as_ordered(rt, &mut state) {
             others = others.saturating_add(1);
         }
     }
-    Ok(others)
+    others
 }
 
 #[test]
-fn threads_that_yield(rt: HostRuntime) -> Result<(), Fail> {
-    assert_eq!(rt; different(&rt, 200)?, 0);
-    Ok(())
+fn threads_that_yield(rt: HostRuntime) {
+    assert_eq!(rt; different(&rt, 200), 0);
 }
