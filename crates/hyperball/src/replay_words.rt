@@ -46,7 +46,7 @@ a message and C a copy, each numbered from 0 in the order that they were made; T
                   sent M T P Q, how many vertices changed, how many stand in the message
   deliver M P.K   brings a message to a node, once, again or never:
                   new, known, old, too-early T, not-mine
-  close P.K       takes the node on by a superstep, if it holds a message of each partition:
+  close P.K       takes the node on by a superstep, once it has heard every other partition:
                   closed T, waiting Q, finished
   keep P.K        keeps a checkpoint of the node in place of its last: kept T
   restart P.K     sets the node back to its checkpoint, or to the start: restarted T

@@ -54,9 +54,9 @@ A line with two fields is an edge from the first to the second, and a line with 
 names a vertex. Empty lines and lines that begin with # are skipped.
 
 The report is comma-separated: the neighbourhood function at each superstep, the superstep at
-which the run ended, how early pairs are reached, and of each vertex its label, reachable (the
-estimated number of vertices that reach it), harmonic centrality, closeness, Lin's index, and the
-number of registers that are empty.";
+which the run ended, its gain (pairs at distance i weigh 2^-i), and of each vertex its label,
+reachable (the estimated number of vertices that can reach it, itself included), harmonic
+centrality, closeness, Lin's index, and the number of registers that are empty.";
 
 const RUN_AFTER: &str = "Example:
   hyperball run --log2m 8 < edges.tsv > report.csv
@@ -74,7 +74,7 @@ Memory and accuracy:
 
 Figures:
   Harmonic centrality 0.000000 with Lin's index 1.000000: nobody else that counts gets there.
-  Closeness is one by the sum of distances, so it is also 0.000000 if that sum is above a million.
+  Closeness is 1 divided by the sum of distances: 0.000000 where that sum is above a million.
   They count who reaches a vertex; for those that it reaches, swap the two columns of the edge list.
   An undirected graph has each edge both ways: a line 'a b' and a line 'b a'.
 
