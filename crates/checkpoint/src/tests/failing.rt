@@ -77,10 +77,15 @@ fn calls_of_two_edges(rt: &HostRuntime) -> Option<u64> {
     calls(rt, &replica, &part, &TWO_EDGES)
 }
 
-/// The same of the one that keeps an early batch.
+/// The replica that keeps an early batch.
+fn early(rt: &HostRuntime, part: &Arc<Part>) -> Option<Replica> {
+    read(rt, part, &WINDOW_EDGE)?.ok()
+}
+
+/// How many are reached by it.
 fn calls_of_early(rt: &HostRuntime) -> Option<u64> {
     let part = half(rt, 1)?;
-    let replica = read(rt, &part, &WINDOW_EDGE)?.ok()?;
+    let replica = early(rt, &part)?;
     calls(rt, &replica, &part, &WINDOW_EDGE)
 }
 
@@ -99,13 +104,23 @@ fn ninety(rt: &HostRuntime) -> Option<Vec<u8>> {
     Some(text)
 }
 
-/// How many are reached by a replica of them, whose 5,963 bytes are more than one piece.
+/// How many are reached by a replica, whatever its bytes are.
+fn calls_of(rt: &HostRuntime, part: &Arc<Part>, replica: &Replica) -> Option<u64> {
+    let whole = kept(rt, replica)?;
+    calls(rt, replica, part, &whole)
+}
+
+/// The same of a replica of these vertices.
+fn calls_of_vertices(rt: &HostRuntime, text: &[u8]) -> Option<u64> {
+    let part = part_of(rt, text, 0, 1, 0)?;
+    let replica = replica_of(rt, text, 1, 0)?;
+    calls_of(rt, &part, &replica)
+}
+
+/// The same of ninety of them, whose 5,963 bytes are more than one piece.
 fn calls_of_many(rt: &HostRuntime) -> Option<u64> {
     let text = ninety(rt)?;
-    let part = part_of(rt, &text, 0, 1, 0)?;
-    let replica = replica_of(rt, &text, 1, 0)?;
-    let whole = kept(rt, &replica)?;
-    calls(rt, &replica, &part, &whole)
+    calls_of_vertices(rt, &text)
 }
 
 #[test]
