@@ -250,11 +250,13 @@ fn goes_on_after_refusals<R: Wait>(
     posted && found && kept && recalled && dropped && board.length(seat) == 6
 }
 
-/// Each call is answered, at once or when it is made again: a run of this test can refuse any one growth.
+/// Each call is answered, at once or when it is made again: a run of this test can refuse any one growth. Where that is
+/// one before the first call, all is done again.
 #[test]
 fn calls_where_memory_is_refused(rt: HostRuntime) -> Result<(), Fail> {
-    let right = is_right(&rt, rt.alloc(), Case::Calls(Calls::WhereMemoryIsRefused));
-    assert!(rt; right.unwrap_or(true));
+    let case = Case::Calls(Calls::WhereMemoryIsRefused);
+    let right = is_right(&rt, rt.alloc(), case).or(is_right(&rt, rt.alloc(), case));
+    assert_eq!(rt; right, Some(true));
     Ok(())
 }
 
@@ -405,7 +407,43 @@ pub(super) fn is_right_board<R: Wait>(
     answers_from(rt, &board, &mut seat, graph, plan, stock, calls)
 }
 
-/// How many of the batches are New when two seats post them, four each.
+/// What a post of a new name is answered where there is room for so many entries more.
+fn wanted_post(room: usize) -> Result<Posted, BoardError> {
+    if room > 0 {
+        Ok(Posted::New)
+    } else {
+        Err(BoardError::BookFull)
+    }
+}
+
+/// Whether a seat's posts of new names are answered so, where there is room for so many entries at first.
+fn posts_to<R: Wait>(
+    rt: &R,
+    board: &Board,
+    seat: &mut Seat,
+    graph: &Graph,
+    plan: &Plan,
+    batches: &[Arc<Batch>],
+    room: usize,
+) -> bool
+    requires board { IsAt board.now seat.old }
+    requires job { seat.old.caller.seen.job ≡ job_of graph.now.graph plan.now }
+    requires batches { All (λ a. IsTrueBatch (job_of graph.now.graph plan.now) (arc_value a))
+        batches.now }
+    ensures board { IsAt board.now seat.new }
+    ensures job { seat.new.caller.seen.job ≡ job_of graph.now.graph plan.now }
+{
+    let mut right = true;
+    let mut left = room;
+    for batch in batches {
+        let answer = post(rt, board, seat, graph, plan, batch);
+        right &= answer == wanted_post(left);
+        left = left.saturating_sub(1);
+    }
+    right
+}
+
+/// The same of two seats, of which the first posts four batches and the other the rest.
 fn both_post<R: Wait>(
     rt: &R,
     board: &Board,
@@ -414,7 +452,8 @@ fn both_post<R: Wait>(
     graph: &Graph,
     plan: &Plan,
     batches: &[Arc<Batch>],
-) -> usize
+    room: usize,
+) -> bool
     requires board { IsAt board.now seat.old }
     requires other { IsAt board.now other.old }
     requires job { seat.old.caller.seen.job ≡ job_of graph.now.graph plan.now }
@@ -425,12 +464,55 @@ fn both_post<R: Wait>(
     ensures other { IsAt board.now other.new }
 {
     let (first, rest) = batches.split_at(batches.len().min(4));
-    let news = post_all(rt, board, seat, graph, plan, first);
-    news.saturating_add(post_all(rt, board, other, graph, plan, rest))
+    let mine = posts_to(rt, board, seat, graph, plan, first, room);
+    let left = room.saturating_sub(4);
+    let theirs = posts_to(rt, board, other, graph, plan, rest, left);
+    mine && theirs
+}
+
+/// What a fetch is answered, by whether the name stands, where there is room for so many entries more.
+fn wanted_fetch(
+    name: BatchName,
+    stands: bool,
+    room: usize,
+) -> Result<Option<BatchName>, BoardError> {
+    if !stands {
+        Ok(None)
+    } else if room > 0 {
+        Ok(Some(name))
+    } else {
+        Err(BoardError::BookFull)
+    }
+}
+
+/// Whether a seat's fetches are answered so, where the first `posted` batches stand.
+fn fetches_to<R: Wait>(
+    rt: &R,
+    board: &Board,
+    seat: &mut Seat,
+    batches: &[Arc<Batch>],
+    posted: usize,
+    room: usize,
+) -> bool
+    requires board { IsAt board.now seat.old }
+    ensures board { IsAt board.now seat.new }
+    ensures job { seat.new.caller.seen.job ≡ seat.old.caller.seen.job }
+{
+    let mut right = true;
+    let mut standing = posted;
+    let mut left = room;
+    for batch in batches {
+        let name = batch.name();
+        let answer = fetches(rt, board, seat, name);
+        right &= answer == wanted_fetch(name, standing > 0, left);
+        standing = standing.saturating_sub(1);
+        left = left.saturating_sub(1);
+    }
+    right
 }
 
 /// Whether a board of so many entries answers two seats up to them, and then no more: eight posts, four by each, eight
-/// fetches by the first, and the length, of which both know.
+/// fetches by the first, and a floor by the other. A name that does not stand is not found, and both know of the length.
 fn is_full_at<R: Wait>(
     rt: &R,
     board: &Board,
@@ -449,12 +531,12 @@ fn is_full_at<R: Wait>(
 {
     let room = entries as usize - 1;
     let mut other = seat.split(board);
-    let posted = both_post(rt, board, seat, &mut other, graph, plan, batches);
-    let found = find_all(rt, board, seat, batches);
+    let posted = both_post(rt, board, seat, &mut other, graph, plan, batches, room);
+    let found = fetches_to(rt, board, seat, batches, room, room.saturating_sub(8));
     let full = drop_below(rt, board, &mut other, 0) == Err(BoardError::BookFull);
     let missing = fetches(rt, board, &mut other, name(9, 0));
-    posted == room.min(8)
-        && found == room.saturating_sub(8).min(8)
+    posted
+        && found
         && full == (entries < 18)
         && missing == Ok(None)
         && board.length(seat) == u64::from(entries)

@@ -24,11 +24,13 @@ fn is_opened(alloc: Global, graph: &Graph, plan: &Plan) -> bool
     }
 }
 
+/// Whether one is opened for the job: None where memory is refused before.
+fn is_opened_there(rt: &HostRuntime) -> Option<bool> {
+    let (graph, plan) = job(rt, rt.alloc(), TWO_EDGES)?;
+    Some(is_opened(rt.alloc(), &graph, &plan))
+}
+
 #[test]
 fn boards_whose_memory_is_refused(rt: HostRuntime) {
-    let right = match job(&rt, rt.alloc(), TWO_EDGES) {
-        Some((graph, plan)) => is_opened(rt.alloc(), &graph, &plan),
-        None => true,
-    };
-    assert!(rt; right);
+    assert_eq!(rt; is_opened_there(&rt).or(is_opened_there(&rt)), Some(true));
 }
