@@ -2,6 +2,7 @@
 
 mod damage;
 mod dripping;
+mod failing;
 mod reading;
 mod refusals;
 mod running;

@@ -1,8 +1,8 @@
-//! Refused memory. A run of this test by `rt try --test --fail-alloc N` refuses any one growth of memory: then that is
-//! told, and the same bytes are read when they are read again.
+//! Refused memory. A run of these tests by `rt try --test --fail-alloc N` refuses any one growth of memory: then that is
+//! told, and the same bytes are read when they are read again. Writing asks for none, so it is never refused.
 
 use super::reading::{FIRST, half, is_written, part, refusal, second};
-use super::writing::WINDOW_EDGE;
+use super::writing::{WINDOW_EDGE, two_edges_are_written, window_edge_is_written};
 use crate::KeepError;
 use edgelist::Part;
 use std::sync::Arc;
@@ -29,8 +29,20 @@ fn first_again(rt: &HostRuntime) -> Option<bool> {
     is_read_again(rt, &part, &FIRST, &second)
 }
 
+// Where memory is refused before there are bytes, all is done again, and nothing is refused.
 #[test]
 fn calls_where_memory_is_refused(rt: HostRuntime) {
-    assert!(rt; early_again(&rt).unwrap_or(true));
-    assert!(rt; first_again(&rt).unwrap_or(true));
+    let read = [
+        early_again(&rt).or(early_again(&rt)),
+        first_again(&rt).or(first_again(&rt)),
+    ];
+    assert_eq!(rt; read, [Some(true); 2]);
+}
+
+// Where memory is refused there is no replica, or no writer. Where there are both, the bytes are written.
+#[test]
+fn writing_asks_for_no_memory(rt: HostRuntime) {
+    let first = two_edges_are_written(&rt).or(two_edges_are_written(&rt));
+    let early = window_edge_is_written(&rt).or(window_edge_is_written(&rt));
+    assert!(rt; first == Some(true) && early == Some((true, true)));
 }

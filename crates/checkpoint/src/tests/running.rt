@@ -53,7 +53,7 @@ fn advance(rt: &HostRuntime, pair: &mut Pair, step: u32) -> Option<()> {
 }
 
 /// The bytes of a replica.
-fn kept(rt: &HostRuntime, replica: &Replica) -> Option<Vec<u8>> {
+pub(super) fn kept(rt: &HostRuntime, replica: &Replica) -> Option<Vec<u8>> {
     let room = checkpoint_length(replica) as usize;
     let (answer, bytes) = written(rt, replica, room, None)?;
     if answer.is_ok() { Some(bytes) } else { None }

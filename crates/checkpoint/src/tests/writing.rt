@@ -12,7 +12,7 @@ use replica::{Replica, Shown};
 use std::sync::Arc;
 
 /// The one partition of the edges a to b and b to c, at superstep 2: c alone changed there.
-const TWO_EDGES: [u8; 340] = [
+pub(super) const TWO_EDGES: [u8; 340] = [
     0x48, 0x42, 0x43, 0x4b, // HBCK
     2, 4, // version, log2m
     0, 1, 0, 0, // parts, partition
@@ -106,7 +106,7 @@ pub(super) fn writes(rt: &HostRuntime, replica: &Replica, wanted: &[u8]) -> Opti
 }
 
 /// The replica of the edges a to b and b to c in one partition, at superstep 2.
-fn two_edges(rt: &HostRuntime) -> Option<Replica> {
+pub(super) fn two_edges(rt: &HostRuntime) -> Option<Replica> {
     let mut replica = replica_of(rt, b"a\tb\nb\tc\n", 1, 0)?;
     twice(&mut replica)?;
     Some(replica)
@@ -119,7 +119,7 @@ fn twice(replica: &mut Replica) -> Option<u32> {
 }
 
 /// Whether its bytes are those.
-fn two_edges_are_written(rt: &HostRuntime) -> Option<bool> {
+pub(super) fn two_edges_are_written(rt: &HostRuntime) -> Option<bool> {
     let replica = two_edges(rt)?;
     writes(rt, &replica, &TWO_EDGES)
 }
@@ -146,7 +146,7 @@ fn take_early(rt: &HostRuntime, replica: &mut Replica) -> Option<bool> {
 }
 
 /// Whether the batch is new to the replica, and the bytes are those then.
-fn window_edge_is_written(rt: &HostRuntime) -> Option<(bool, bool)> {
+pub(super) fn window_edge_is_written(rt: &HostRuntime) -> Option<(bool, bool)> {
     let mut replica = replica_of(rt, b"a\tb\nb\tc\nc\td\nd\te\n", 2, 1)?;
     writes_taken(rt, &mut replica)
 }
@@ -160,56 +160,6 @@ fn writes_taken(rt: &HostRuntime, replica: &mut Replica) -> Option<(bool, bool)>
 #[test]
 fn bytes_of_an_early_batch(rt: HostRuntime) {
     assert!(rt; window_edge_is_written(&rt) == Some((true, true)));
-}
-
-/// Whether a replica answers that a write failed, and so many bytes went out, which are the first of those.
-fn fails(
-    rt: &HostRuntime,
-    replica: &Replica,
-    room: usize,
-    fails_at: Option<u64>,
-    count: usize,
-) -> Option<bool> {
-    let (answer, bytes) = written(rt, replica, room, fails_at)?;
-    Some(
-        answer == Err(KeepError::Write)
-            && bytes.len() == count
-            && TWO_EDGES.starts_with(bytes.as_slice()),
-    )
-}
-
-/// Whether it does where the first call fails, and where the second does, which is that of the digest.
-fn fails_at_each_call(rt: &HostRuntime, replica: &Replica) -> Option<bool> {
-    Some(fails(rt, replica, 340, Some(1), 0)? && fails(rt, replica, 340, Some(2), 308)?)
-}
-
-/// Whether it does where there is room for fewer bytes, however few.
-fn fails_without_room(rt: &HostRuntime, replica: &Replica) -> Option<bool> {
-    let mut all = true;
-    for room in 0..340 {
-        all &= fails(rt, replica, room, None, room)?;
-    }
-    Some(all)
-}
-
-/// Whether a replica writes the same after every failure.
-fn failures_of(rt: &HostRuntime, replica: &Replica) -> Option<(bool, bool, bool)> {
-    Some((
-        fails_at_each_call(rt, replica)?,
-        fails_without_room(rt, replica)?,
-        writes(rt, replica, &TWO_EDGES)?,
-    ))
-}
-
-/// Whether the one of the two edges does.
-fn failures(rt: &HostRuntime) -> Option<(bool, bool, bool)> {
-    let replica = two_edges(rt)?;
-    failures_of(rt, &replica)
-}
-
-#[test]
-fn a_failing_writer(rt: HostRuntime) {
-    assert!(rt; failures(&rt) == Some((true, true, true)));
 }
 
 /// Each error, and its text.
