@@ -1,7 +1,7 @@
 //! Refused memory, a writer that fails, and scripts that are cut.
 //!
-//! A run of these tests by `rt try --test --fail-alloc N` refuses any one growth of memory: where it meets a test of
-//! this file, that test goes on.
+//! A run of the first two tests by `rt try --test --fail-alloc N` refuses any one growth of memory: then a test goes on,
+//! and what could not be tried for want of memory is tried again.
 
 use super::replays::{COPIED, RESTARTED, THREE_PARTITIONS, Worked, options};
 use super::worlds::world_of;
@@ -146,25 +146,24 @@ fn are_answered(
     Some(rest.is_empty())
 }
 
-// Whether the events of a script are answered so. Where memory is refused before the first event there is nothing to
-// see.
-fn goes_on(rt: &HostRuntime, worked: &Worked) -> bool {
-    let Ok(mut line) = Vec::with_capacity(rt.alloc(), 128) else {
-        return true;
-    };
-    let Some(mut world) = world_of(rt, worked.edges, worked.parts, worked.replicas) else {
-        return true;
-    };
-    let Ok(events) = read_script(rt.alloc(), worked.script) else {
-        return true;
-    };
-    are_answered(&mut world, rt.alloc(), &mut line, &events, worked.answers) == Some(true)
+// Whether the events of a script are answered so: None where memory is refused before the first event.
+fn goes_on(rt: &HostRuntime, worked: &Worked) -> Option<bool> {
+    let mut line = Vec::with_capacity(rt.alloc(), 128).ok()?;
+    let mut world = world_of(rt, worked.edges, worked.parts, worked.replicas)?;
+    let events = read_script(rt.alloc(), worked.script).ok()?;
+    let right = are_answered(&mut world, rt.alloc(), &mut line, &events, worked.answers);
+    Some(right == Some(true))
+}
+
+// Whether they are, at once or when all is begun again.
+fn goes_on_once(rt: &HostRuntime, worked: &Worked) -> bool {
+    goes_on(rt, worked).or(goes_on(rt, worked)) == Some(true)
 }
 
 #[test]
 fn events_whose_memory_is_refused(rt: HostRuntime) {
-    let right = goes_on(&rt, &COPIED) && goes_on(&rt, &THREE_PARTITIONS);
-    assert!(rt; right && goes_on(&rt, &RESTARTED));
+    let right = goes_on_once(&rt, &COPIED) && goes_on_once(&rt, &THREE_PARTITIONS);
+    assert!(rt; right && goes_on_once(&rt, &RESTARTED));
 }
 
 // A replay of a beginning of a script: what it told, how much it wrote, and whether that is a beginning of the answers.
@@ -209,13 +208,32 @@ fn is_want(told: Result<(), ReplayError>) -> bool {
     )
 }
 
-// Whether all was written, or memory was refused.
-fn is_whole(rt: &HostRuntime, worked: &Worked) -> bool {
+// What is seen of a replay.
+#[derive(Clone, Copy, PartialEq, Eq)]
+enum Seen {
+    // All answers are written.
+    Whole,
+    // Memory was refused, before it or in it: then a beginning of the answers is written.
+    Refused,
+    // Anything else.
+    Wrong,
+}
+
+// What is seen of one.
+fn seen_of(rt: &HostRuntime, worked: &Worked) -> Seen {
     match replay_until(rt, worked, worked.script, None) {
-        Some(made) if made.told == Ok(()) => made.is_front && made.length == worked.answers.len(),
-        Some(made) => made.is_front && is_want(made.told),
-        None => true,
+        Some(made) if !made.is_front => Seen::Wrong,
+        Some(made) if is_want(made.told) => Seen::Refused,
+        Some(made) if made.told == Ok(()) && made.length == worked.answers.len() => Seen::Whole,
+        Some(_) => Seen::Wrong,
+        None => Seen::Refused,
     }
+}
+
+// Whether all is written, at once or when that is done again.
+fn is_whole(rt: &HostRuntime, worked: &Worked) -> bool {
+    let first = seen_of(rt, worked);
+    first == Seen::Whole || (first == Seen::Refused && seen_of(rt, worked) == Seen::Whole)
 }
 
 #[test]
@@ -225,20 +243,25 @@ fn replays_whose_memory_is_refused(rt: HostRuntime) {
 
 // Whether a writer that fails at a call has what was written before: nothing at the first, and not all.
 fn stops_at(rt: &HostRuntime, worked: &Worked, call: u64) -> bool {
-    let Some(made) = replay_until(rt, worked, worked.script, Some(call)) else {
-        return true;
-    };
-    let short = made.length < worked.answers.len() && (made.length == 0) == (call == 1);
-    made.is_front && (is_want(made.told) || (short && made.told == Err(ReplayError::Write)))
+    match replay_until(rt, worked, worked.script, Some(call)) {
+        Some(made) => {
+            let short = made.length < worked.answers.len() && (made.length == 0) == (call == 1);
+            made.is_front && short && made.told == Err(ReplayError::Write)
+        }
+        None => false,
+    }
 }
 
-// Whether it stops so at each of so many calls.
+// Whether it stops so at each of so many calls, and there is none after them.
 fn stops_at_each(rt: &HostRuntime, worked: &Worked, calls: u64) -> bool {
     let mut right = true;
     for before in 0..calls {
         right &= stops_at(rt, worked, before.saturating_add(1));
     }
-    right
+    match replay_until(rt, worked, worked.script, Some(calls.saturating_add(1))) {
+        Some(made) => right && made.told == Ok(()) && made.length == worked.answers.len(),
+        None => false,
+    }
 }
 
 // The answers are 24 lines.
@@ -251,12 +274,12 @@ fn writers_that_fail_at_a_call(rt: HostRuntime) {
 // then nothing is written.
 fn is_cut(rt: &HostRuntime, worked: &Worked, end: usize) -> bool {
     let script = worked.script.get(..end).unwrap_or_default();
-    let Some(made) = replay_until(rt, worked, script, None) else {
-        return true;
-    };
-    match made.told {
-        Err(ReplayError::Script { .. }) => made.length == 0,
-        told => made.is_front && (told == Ok(()) || is_want(told)),
+    match replay_until(rt, worked, script, None) {
+        Some(made) => match made.told {
+            Err(ReplayError::Script { .. }) => made.length == 0,
+            told => made.is_front && told == Ok(()),
+        },
+        None => false,
     }
 }
 

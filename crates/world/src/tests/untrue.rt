@@ -1,4 +1,4 @@
-//! Batches of the right form that are not true: what was sent was changed on the way.
+//! Batches of the right form that are not true, or of another job: what was sent was changed on the way.
 //!
 //! Two edges are dealt out to two partitions: node 0 has the vertices 0 and 2, node 1 has vertex 1.
 
@@ -8,7 +8,7 @@ ghost use Rattle.ball_model.specs.Job.{digest_of};
 use super::worlds::{B, TWO_EDGES, world_of};
 use super::*;
 use crate::node::Node;
-use ball_model::{CountingReader, Plan, Taken};
+use ball_model::{CloseError, CountingReader, Plan, TakeError, Taken};
 use batches::Batch;
 use edgelist::{Delimiter, EdgeLimits, Graph, read_edges};
 use replica::{Replica, Shown};
@@ -116,6 +116,45 @@ fn untrue(rt: &HostRuntime, world: &World, superstep: u8) -> Option<Vec<u8>> {
     let mut bytes = told(rt, world.node(B)?)?;
     change(&mut bytes, superstep);
     Some(bytes)
+}
+
+/// Turns the last bit of a byte.
+fn turn(bytes: &mut [u8], place: usize) {
+    if let Some(byte) = bytes.get_mut(place) {
+        *byte ^= 1;
+    }
+}
+
+/// Whether what partition 1 tells of superstep 0 is read and not taken where that byte of its digest is another one.
+fn is_of_another_job(
+    rt: &HostRuntime,
+    world: &World,
+    node: &mut Node,
+    place: usize,
+) -> Option<bool> {
+    let mut bytes = told(rt, world.node(B)?)?;
+    turn(&mut bytes, place);
+    let answer = answer_to(rt, node, &bytes)?;
+    Some(answer == Answer::NotTaken(TakeError::OtherJob))
+}
+
+/// Whether it is so of each byte, and the node still waits for that batch.
+fn are_of_another_job(rt: &HostRuntime, node: &mut Node) -> Option<bool> {
+    let world = world_of(rt, TWO_EDGES, 2, 1)?;
+    let mut all = true;
+    for place in 14..46 {
+        all &= is_of_another_job(rt, &world, node, place)?;
+    }
+    Some(all && node.close() == Answer::NotClosed(CloseError::Waiting { source: 1 }))
+}
+
+#[test]
+fn batches_of_another_job_are_not_taken(rt: HostRuntime) {
+    let right = match node(&rt) {
+        Some(mut node) => are_of_another_job(&rt, &mut node),
+        None => None,
+    };
+    assert_eq!(rt; right, Some(true));
 }
 
 /// Whether both is so.
