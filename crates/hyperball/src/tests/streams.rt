@@ -48,13 +48,13 @@ fn dripped<H: AllocGlobal + Clock + RandomSource + Threads + Wait + Sync>(
     serve_input(rt, line, input)
 }
 
-// An input a byte a call has this report.
+// An input a byte a call has this report, where the call after that which finds its end would fail.
 fn reports_dripping<H: AllocGlobal + Clock + RandomSource + Threads + Wait + Sync>(
     rt: &H,
     case: &Case,
 ) -> Result<bool, Fail> {
     let (line, bytes, report) = *case;
-    let whole = dripped(rt, line, bytes, u64::MAX)?;
+    let whole = dripped(rt, line, bytes, bytes.len() as u64 + 2)?;
     Ok(is_served(&whole, 0, report, b""))
 }
 
@@ -171,16 +171,16 @@ impl Faults for Narrow {
     }
 }
 
-// Serves words over the two edges into a narrow writer.
+// Serves words over an input into a narrow writer.
 fn serve_narrowly<H: AllocGlobal + Clock + RandomSource + Threads + Wait + Sync>(
     rt: &H,
     line: &str,
+    input: &[u8],
     room: usize,
 ) -> Result<Served, Fail> {
     let taken = Vec::new(rt.alloc());
     let mut narrow = Narrow { taken, room };
     let mut faults = Vec::new(rt.alloc());
-    let input = b"a\tb\nb\tc\n".as_slice();
     let status = serve_streams(rt, line, input, &mut narrow, &mut faults)?;
     let Narrow { taken, room: _ } = narrow;
     Ok(Served {
@@ -190,10 +190,36 @@ fn serve_narrowly<H: AllocGlobal + Clock + RandomSource + Threads + Wait + Sync>
     })
 }
 
+// Words have this output a byte a call, where there is just that room.
+fn is_written_narrowly<H: AllocGlobal + Clock + RandomSource + Threads + Wait + Sync>(
+    rt: &H,
+    case: &Case,
+) -> Result<bool, Fail> {
+    let (line, input, output) = *case;
+    let whole = serve_narrowly(rt, line, input, output.len())?;
+    Ok(is_served(&whole, 0, output, b""))
+}
+
+const NARROW_REPLAY: Case = (
+    REPLAY,
+    b"a\tb\nb\tc\n%%\nsend 1.0 0\nshow 1.0\n",
+    b"sent 0 0 1 0 1 1
+node 1.0 0 open
+row 1 11.115354 0.000000 0.000000 00000000000001000000000000000000
+",
+);
+
+const NARROW: [Case; 3] = [
+    (RUN, b"a\tb\nb\tc\n", TWO_EDGES),
+    (COUNTED, b"a\tb\nb\tc\n%%\na", ONE_COUNTED),
+    NARROW_REPLAY,
+];
+
 #[test]
 fn a_byte_a_write(rt: HostRuntime) -> Result<(), Fail> {
-    let whole = serve_narrowly(&rt, RUN, TWO_EDGES.len())?;
-    assert!(rt; is_served(&whole, 0, TWO_EDGES, b""));
+    for case in &NARROW {
+        assert!(rt; is_written_narrowly(&rt, case)?, "{}", case.0);
+    }
     Ok(())
 }
 
@@ -208,25 +234,43 @@ fn is_cut(served: &Served, room: usize) -> bool {
 fn fails_narrowly<H: AllocGlobal + Clock + RandomSource + Threads + Wait + Sync>(
     rt: &H,
     line: &str,
+    input: &[u8],
     room: usize,
 ) -> Result<bool, Fail> {
-    let served = serve_narrowly(rt, line, room)?;
+    let served = serve_narrowly(rt, line, input, room)?;
     Ok(is_cut(&served, room))
 }
 
-const NARROW: [(&str, usize); 5] = [
-    (RUN, 0),
-    (RUN, 1),
-    (RUN, 100),
-    (RUN, TWO_EDGES.len() - 1),
-    ("hyperball --help", 5),
-];
+// The same, and a beginning of this output was written.
+fn begins_narrowly<H: AllocGlobal + Clock + RandomSource + Threads + Wait + Sync>(
+    rt: &H,
+    case: &Case,
+    room: usize,
+) -> Result<bool, Fail> {
+    let (line, input, output) = *case;
+    let served = serve_narrowly(rt, line, input, room)?;
+    Ok(is_cut(&served, room) && output.starts_with(&served.output))
+}
+
+// The first call that fails of a writer that takes a byte a call, and is told otherwise.
+fn first_write_told_otherwise<H: AllocGlobal + Clock + RandomSource + Threads + Wait + Sync>(
+    rt: &H,
+    case: &Case,
+) -> Result<Option<usize>, Fail> {
+    for room in 0..case.2.len() {
+        if !begins_narrowly(rt, case, room)? {
+            return Ok(Some(room));
+        }
+    }
+    Ok(None)
+}
 
 #[test]
 fn a_write_that_fails(rt: HostRuntime) -> Result<(), Fail> {
-    for (line, room) in &NARROW {
-        assert!(rt; fails_narrowly(&rt, line, *room)?, "{line} in {room}");
+    for case in &NARROW {
+        assert_eq!(rt; first_write_told_otherwise(&rt, case)?, None, "{}", case.0);
     }
+    assert!(rt; fails_narrowly(&rt, "hyperball --help", b"", 5)?);
     Ok(())
 }
 
