@@ -3,6 +3,7 @@
 ghost use Rattle.std.specs.Prelude.{None};
 
 use super::*;
+use ball_model::MemReader;
 use std::io;
 use std::io::{ErrorKind, Read};
 
@@ -256,6 +257,31 @@ fn first_untold(rt: &HostRuntime) -> Option<u64> {
 #[test]
 fn failing_reader(rt: HostRuntime) {
     assert_eq!(rt; first_untold(&rt), None);
+}
+
+// The error of the two edges, which come at once, where that call of the reader fails.
+fn error_at_once(rt: &HostRuntime, call: u64) -> Option<EdgeError> {
+    let Ok(state) = RandomState::new(rt) else {
+        return Some(EdgeError::Memory);
+    };
+    let mut reader = MemReader::new(TWO_EDGES, Some(call));
+    match read_edges(rt.alloc(), state, &mut reader, Delimiter::Tab, LIMITS) {
+        Ok(_) => None,
+        Err(e) => Some(e),
+    }
+}
+
+#[test]
+fn failing_reader_of_all_at_once(rt: HostRuntime) {
+    // The end is asked for twice, and no call follows.
+    let told = [
+        error_at_once(&rt, 1),
+        error_at_once(&rt, 2),
+        error_at_once(&rt, 3),
+        error_at_once(&rt, 4),
+    ];
+    let read = Some(EdgeError::Read);
+    assert_eq!(rt; told, [read, read, read, None]);
 }
 
 // An edge list, the limit on records, the number of bytes up to the LF of the record that is refused, and the error.
