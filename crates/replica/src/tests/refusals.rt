@@ -111,7 +111,7 @@ fn keeping(rt: &HostRuntime) -> Option<Vec<Replica>> {
 fn copies_and_makes_again(rt: &HostRuntime) -> [Option<bool>; 2] {
     match keeping(rt) {
         Some(mut all) => [copies_first(rt, &mut all), makes_first_again(rt, &mut all)],
-        None => [None, Some(true)],
+        None => [None, None],
     }
 }
 
@@ -173,23 +173,29 @@ fn merges_apart(rt: &HostRuntime, turned: bool) -> Option<bool> {
     Some(merged && is_recovered(&behind))
 }
 
-/// Whether none of these is wrong, and at most one could not be tried for want of memory.
-fn are_right(tried: &[Option<bool>]) -> bool {
-    let wrong = tried.iter().any(|it| *it == Some(false));
-    let missed = tried.iter().filter(|it| it.is_none()).count();
-    !wrong && missed <= 1
+/// Whether each is right: None where memory was refused before it.
+fn tried(rt: &HostRuntime) -> [Option<bool>; 6] {
+    let [copied, made] = copies_and_makes_again(rt);
+    [
+        starts_there(rt),
+        copied,
+        made,
+        merges_level(rt),
+        merges_apart(rt, false),
+        merges_apart(rt, true),
+    ]
+}
+
+/// Each, and where it could not be tried, what comes of it when all is done again.
+fn tried_again(first: [Option<bool>; 6], second: [Option<bool>; 6]) -> [Option<bool>; 6] {
+    let mut all = first;
+    for i in 0..6 {
+        all[i] = all[i].or(second[i]);
+    }
+    all
 }
 
 #[test]
 fn calls_where_memory_is_refused(rt: HostRuntime) {
-    let [copied, made] = copies_and_makes_again(&rt);
-    let tried = [
-        starts_there(&rt),
-        copied,
-        made,
-        merges_level(&rt),
-        merges_apart(&rt, false),
-        merges_apart(&rt, true),
-    ];
-    assert!(rt; are_right(&tried));
+    assert_eq!(rt; tried_again(tried(&rt), tried(&rt)), [Some(true); 6]);
 }
