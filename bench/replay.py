@@ -16,9 +16,12 @@ import sys
 import tempfile
 import time
 
+from launched import environment
+
 HERE = os.path.dirname(os.path.abspath(__file__))
 PROGRAM = os.path.join(HERE, "..", "hyperball")
 BINARY = os.path.join(HERE, "..", "crates", "hyperball", "out", "hyperball")
+ENVIRONMENT = environment()
 VERTICES, EDGES, PARTS, REPLICAS = 1000, 5000, 4, 2
 WORDS = ["replay", "--log2m", "8", "--parts", str(PARTS), "--replicas", str(REPLICAS)]
 
@@ -64,7 +67,7 @@ def timed(text):
         given.write(text.encode())
         given.seek(0)
         started = time.monotonic()
-        child = subprocess.Popen([BINARY, *WORDS], stdin=given, stdout=answers)
+        child = subprocess.Popen([BINARY, *WORDS], stdin=given, stdout=answers, env=ENVIRONMENT)
         _, status, usage = os.wait4(child.pid, 0)
         seconds = time.monotonic() - started
         child.returncode = 0

@@ -18,16 +18,19 @@ import sys
 import tempfile
 import time
 
+from launched import environment
+
 HERE = os.path.dirname(os.path.abspath(__file__))
 PROGRAM = os.path.join(HERE, "..", "hyperball")
 BINARY = os.path.join(HERE, "..", "crates", "hyperball", "out", "hyperball")
+ENVIRONMENT = environment()
 
 
 def timed(words, path):
     """Seconds and peak memory (MiB) of one run, whose report is thrown away."""
     with open(path, "rb") as edges:
         started = time.monotonic()
-        child = subprocess.Popen([BINARY, "run", "--keep", "0", *words], stdin=edges, stdout=subprocess.DEVNULL, stderr=subprocess.DEVNULL)
+        child = subprocess.Popen([BINARY, "run", "--keep", "0", *words], stdin=edges, stdout=subprocess.DEVNULL, stderr=subprocess.DEVNULL, env=ENVIRONMENT)
         _, _, usage = os.wait4(child.pid, 0)
         child.returncode = 0
         return time.monotonic() - started, usage.ru_maxrss / 1024
