@@ -1,0 +1,91 @@
+-- What becomes of commands, one after the other.
+use Rattle.std.specs.Prelude.{◌≡◌, ℕ, List, [], length, Option}
+use Rattle.std.specs.List.{All}
+use Rattle.std.specs.Io.KnownBytes.{Appends, Consumes, IsAtEnd, Keeps}
+use Rattle.ball_model.specs.Input.{Network}
+use Rattle.ball_model.specs.Job.{Job}
+use Rattle.ball_model.specs.Join.{Holding}
+use Rattle.ball_model.specs.State.{State}
+use Rattle.world.specs.declared.tell.TellError.{TellError}
+use Rattle.world.specs.declared.tell.TellError.TheVariants as untold
+use Rattle.node.specs.declared.command.Command.{Command}
+use Rattle.node.specs.declared.error.ServeError.{ServeError}
+use Rattle.node.specs.declared.error.ServeError.TheVariants as fault
+use Rattle.node.specs.NodeText.{Answers, AreAnswers, AllAsk, Asked, Asks, IsRequest, Request, after_all, after_asked, request_bytes, requests_text}
+use Rattle.node.specs.Turns.{Holds}
+
+-- ---- what errors are told as
+
+abbrev pub told_tell : TellError → ServeError
+told_tell untold.Memory = fault.Memory
+told_tell untold.Write = fault.Write
+
+-- ---- one answer
+
+-- what a replica v was asked by a command and the bytes behind it is answered by the text, and makes it w: for each
+-- holding of a job that v has, and whatever these bytes ask for
+pub record StepsTo (network : Network) (c : Command) (body : List ℕ) (v w : State)
+    (text : List ℕ) : Type 0 where
+  pub answers : (j : Job) (p : ℕ) (h : Holding) (a : Asked) → j.graph ≡ network.graph →
+      Holds j p h v → Asks j p c body a → Answers j network.labels h a text
+  pub holds : (j : Job) (p : ℕ) (h : Holding) (a : Asked) → j.graph ≡ network.graph →
+      Holds j p h v → Asks j p c body a → Holds j p (after_asked j h a) w
+
+-- such a text was appended
+pub record Steps (network : Network) (c : Command) (body : List ℕ) (v w : State)
+    (old new : Option (List ℕ)) : Type 0 where
+  pub text : List ℕ
+  pub appended : Appends old new text
+  pub steps : StepsTo network c body v w text
+
+-- ---- a request: it is read, and answered
+
+-- the line of a command was read, and what follows it
+pub record ReadsRequest (left left' : Option (List ℕ)) (line : List ℕ) (c : Command)
+    (body : List ℕ) : Type 0 where
+  pub is : IsRequest (record { line = line; command = c; body = body })
+  pub consumed : Consumes left left'
+      (request_bytes (record { line = line; command = c; body = body }))
+
+pub record ServesOne (network : Network) (left left' : Option (List ℕ)) (v w : State)
+    (old new : Option (List ℕ)) : Type 0 where
+  pub request : Request
+  pub is : IsRequest request
+  pub consumed : Consumes left left' (request_bytes request)
+  pub steps : Steps network request.command request.body v w old new
+
+-- there is none
+pub record ServesNone (left left' : Option (List ℕ)) (v w : State)
+    (old new : Option (List ℕ)) : Type 0 where
+  pub end : IsAtEnd left'
+  pub consumed : Consumes left left' []
+  pub kept : Keeps old new
+  pub same : w ≡ v
+
+-- ---- many of them
+
+-- what a replica v was asked by requests, one after the other, is answered by the text, and makes it w
+pub record RunsTo (network : Network) (rs : List Request) (v w : State)
+    (text : List ℕ) : Type 0 where
+  pub answers : (j : Job) (p : ℕ) (h : Holding) (more : List Asked) → j.graph ≡ network.graph →
+      Holds j p h v → AllAsk j p rs more → AreAnswers j network.labels h more text
+  pub holds : (j : Job) (p : ℕ) (h : Holding) (more : List Asked) → j.graph ≡ network.graph →
+      Holds j p h v → AllAsk j p rs more → Holds j p (after_all j h more) w
+
+-- so many requests were read and answered
+pub record ServesSome (network : Network) (number : ℕ) (left left' : Option (List ℕ)) (v w : State)
+    (old new : Option (List ℕ)) : Type 0 where
+  pub requests : List Request
+  pub count : length requests ≡ number
+  pub each : All IsRequest requests
+  pub consumed : Consumes left left' (requests_text requests)
+  pub text : List ℕ
+  pub appended : Appends old new text
+  pub runs : RunsTo network requests v w text
+
+-- all that was left of the input is requests, and they were answered
+pub record Serves (network : Network) (left left' : Option (List ℕ)) (v w : State)
+    (old new : Option (List ℕ)) : Type 0 where
+  pub number : ℕ
+  pub some : ServesSome network number left left' v w old new
+  pub end : IsAtEnd left'

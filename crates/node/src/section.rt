@@ -1,0 +1,417 @@
+//! Sections of an input on a stream: one ends at the first line of exactly `%%`, and nothing behind that line is read.
+//!
+//! A [`Section`] is a reader of what stands before the mark, for callers that read a stream to its end; [`skip`] reads
+//! the rest of a section and tells whether it ended at a mark. Bytes are taken from the reader one at a time, so what
+//! follows the mark is still there: the reader underneath is to be a buffered one.
+
+ghost use Rattle.std.specs.Prelude.{◌≡◌, ◌≢◌, ℕ, ◌∷◌, ◌==◌, [], ◌<◌, true, false, None, Some, IfOk, IsSome, OnErr, option_map};
+ghost use Rattle.std.specs.Io.KnownBytes.{Consumes, IsAtEnd, Keeps, ReadConsumes, prepend_known};
+ghost use Rattle.std.specs.Io.{ReadsAtMost};
+ghost use Rattle.ball_model.specs.Sections.{after_line, after_mark};
+ghost use Rattle.ball_model.specs.Streams.{Rises};
+ghost use Rattle.node.specs.Section.{EndsAtMark, Gives, IsAhead, IsByteOrEnd, IsOver, IsPast};
+ghost use Rattle.node.specs.Section.{LeavesRest, Passed};
+ghost use Rattle.node.specs.Section.{is_front, is_tail, section_left};
+
+use arrayvec::ArrayVec;
+use ball_model::CountedRead;
+use std::io;
+use std::io::{ErrorKind, Read};
+
+/// What came of reading one byte.
+#[derive(Clone, Copy, Debug, PartialEq, Eq)]
+pub enum Next {
+    /// The byte.
+    Byte(u8),
+    /// There is none more.
+    End,
+    /// A call of the reader failed.
+    Failed,
+}
+
+/// The next byte of a reader.
+pub fn next_of<R: CountedRead>(reader: &mut R) -> Next
+    ensures byte { (b : ℕ) → result ≡ Next.Byte b →
+        Consumes (R.remaining reader.old) (R.remaining reader.new) (b ∷ []) }
+    ensures end { result ≡ Next.End → IsAtEnd (R.remaining reader.new) }
+    ensures kept { result ≡ Next.End →
+        Keeps (R.remaining reader.old) (R.remaining reader.new) }
+    ensures same { result ≡ Next.Failed →
+        Keeps (R.remaining reader.old) (R.remaining reader.new) }
+    ensures failed { result ≡ Next.Failed →
+        Rises (R.failed_calls reader.old) (R.failed_calls reader.new) }
+    ensures counted { result ≢ Next.Failed →
+        R.failed_calls reader.new ≡ R.failed_calls reader.old }
+{
+    let mut byte = [0u8; 1];
+    match reader.get(&mut byte) {
+        Some(0) => Next::End,
+        Some(_) => Next::Byte(byte[0]),
+        None => Next::Failed,
+    }
+}
+
+/// Where a section is read.
+#[derive(Drop)]
+pub struct Cut {
+    // a line begins at the next byte
+    begins: bool,
+    // what was read of the reader, and is next
+    ahead: ArrayVec<u8, 4>,
+    // whether the section has ended, and then whether a mark is its end
+    ended: Option<bool>,
+    // a call of the reader failed, and is still to be told
+    failed: bool,
+    ghost at_line: { IsAhead begins ahead.items },
+}
+
+impl Cut {
+    /// The start of a section.
+    pub fn start() -> Cut
+        ensures begins { result.begins ≡ true }
+        ensures ahead { result.ahead.items ≡ [] }
+        ensures ended { result.ended ≡ None }
+    {
+        Cut {
+            begins: true,
+            ahead: ArrayVec::new(),
+            ended: None,
+            failed: false,
+        }
+    }
+}
+
+// What follows the end of a line, where one stands at the front.
+fn after_line(bytes: &[u8]) -> Option<&[u8]>
+    ensures { option_map (λ rest. rest.now) result ≡ after_line bytes.now }
+{
+    if bytes.is_empty() {
+        Some(bytes)
+    } else if bytes[0] == b'\n' {
+        Some(&bytes[1..])
+    } else if bytes.len() > 1 && bytes[0] == b'\r' && bytes[1] == b'\n' {
+        Some(&bytes[2..])
+    } else {
+        None
+    }
+}
+
+// What follows a line of exactly %%, where one stands at the front.
+fn after_mark(bytes: &[u8]) -> Option<&[u8]>
+    ensures { option_map (λ rest. rest.now) result ≡ after_mark bytes.now }
+{
+    if bytes.len() > 1 && bytes[0] == b'%' && bytes[1] == b'%' {
+        after_line(&bytes[2..])
+    } else {
+        None
+    }
+}
+
+// Whether bytes may be the front of a line of %%, and are not all of it.
+fn is_front(bytes: &[u8]) -> bool
+    ensures { result ≡ is_front bytes.now }
+{
+    match bytes.len() {
+        0 => true,
+        1 => bytes[0] == b'%',
+        2 => bytes[0] == b'%' && bytes[1] == b'%',
+        3 => bytes[0] == b'%' && bytes[1] == b'%' && bytes[2] == b'\r',
+        _ => false,
+    }
+}
+
+/// What came of reading ahead.
+#[derive(Clone, Copy, Debug, PartialEq, Eq)]
+enum Looked {
+    // so far that it is known whether a mark stands there
+    Enough,
+    // to the end of the input
+    Ended,
+    // a call of the reader failed
+    Failed,
+}
+
+// Reads ahead as long as what was read may be the front of a line of %%.
+fn look<R: CountedRead>(reader: &mut R, ahead: &mut ArrayVec<u8, 4>) -> Looked
+    requires { is_front ahead.old.items ≡ true }
+    ensures same { Keeps (prepend_known ahead.old.items (R.remaining reader.old))
+        (prepend_known ahead.new.items (R.remaining reader.new)) }
+    ensures enough { result ≡ Looked.Enough → is_front ahead.new.items ≡ false }
+    ensures past { IsPast ahead.new.items }
+    ensures ended { result ≡ Looked.Ended → IsAtEnd (R.remaining reader.new) }
+    ensures front { result ≢ Looked.Enough → is_front ahead.new.items ≡ true }
+    ensures failed { result ≡ Looked.Failed →
+        Rises (R.failed_calls reader.old) (R.failed_calls reader.new) }
+    ensures counted { result ≢ Looked.Failed →
+        R.failed_calls reader.new ≡ R.failed_calls reader.old }
+{
+    while is_front(ahead) {
+        match next_of(reader) {
+            Next::Byte(byte) => ahead.push(byte),
+            Next::End => return Looked::Ended,
+            Next::Failed => return Looked::Failed,
+        }
+    }
+    Looked::Enough
+}
+
+/// What came of a step through a section.
+#[derive(Clone, Copy, Debug, PartialEq, Eq)]
+pub enum Step {
+    /// The next byte.
+    Byte(u8),
+    /// A mark stood here, and is passed.
+    Mark,
+    /// The input ended.
+    End,
+    /// A call of the reader failed.
+    Failed,
+}
+
+// The first byte that was read ahead, where there is one.
+fn first_of(ahead: &mut ArrayVec<u8, 4>) -> Step
+    requires { is_tail ahead.old.items ≡ true }
+    ensures byte { (b : ℕ) → result ≡ Step.Byte b → ahead.old.items ≡ b ∷ ahead.new.items }
+    ensures ahead { (b : ℕ) → result ≡ Step.Byte b → IsAhead (b == 10) ahead.new.items }
+    ensures end { result ≡ Step.End → ahead.old.items ≡ [] }
+    ensures kept { result ≡ Step.End → ahead.new.items ≡ [] }
+    ensures kind { IsByteOrEnd result }
+{
+    if ahead.is_empty() {
+        Step::End
+    } else {
+        Step::Byte(ahead.remove(0))
+    }
+}
+
+// A step where a line begins.
+fn step_at_line<R: CountedRead>(reader: &mut R, ahead: &mut ArrayVec<u8, 4>) -> Step
+    requires { is_front ahead.old.items ≡ true }
+    ensures byte { (b : ℕ) → result ≡ Step.Byte b → Gives true b
+        (prepend_known ahead.old.items (R.remaining reader.old))
+        (prepend_known ahead.new.items (R.remaining reader.new)) }
+    ensures ahead { (b : ℕ) → result ≡ Step.Byte b → IsAhead (b == 10) ahead.new.items }
+    ensures mark { result ≡ Step.Mark → EndsAtMark true
+        (prepend_known ahead.old.items (R.remaining reader.old)) (R.remaining reader.new) }
+    ensures marked { result ≡ Step.Mark → ahead.new.items ≡ [] }
+    ensures end { result ≡ Step.End →
+        IsAtEnd (prepend_known ahead.old.items (R.remaining reader.old)) }
+    ensures ended { result ≡ Step.End → ahead.new.items ≡ [] }
+    ensures kept { result ≡ Step.Failed →
+        Keeps (prepend_known ahead.old.items (R.remaining reader.old))
+        (prepend_known ahead.new.items (R.remaining reader.new)) }
+    ensures front { result ≡ Step.Failed → is_front ahead.new.items ≡ true }
+    ensures failed { result ≡ Step.Failed →
+        Rises (R.failed_calls reader.old) (R.failed_calls reader.new) }
+    ensures counted { result ≢ Step.Failed →
+        R.failed_calls reader.new ≡ R.failed_calls reader.old }
+{
+    match look(reader, ahead) {
+        Looked::Failed => return Step::Failed,
+        Looked::Enough | Looked::Ended => {}
+    }
+    if after_mark(ahead).is_some() {
+        ahead.clear();
+        return Step::Mark;
+    }
+    first_of(ahead)
+}
+
+// A step within a line.
+fn step_in_line<R: CountedRead>(reader: &mut R, ahead: &mut ArrayVec<u8, 4>) -> Step
+    requires { is_tail ahead.old.items ≡ true }
+    ensures byte { (b : ℕ) → result ≡ Step.Byte b → Gives false b
+        (prepend_known ahead.old.items (R.remaining reader.old))
+        (prepend_known ahead.new.items (R.remaining reader.new)) }
+    ensures ahead { (b : ℕ) → result ≡ Step.Byte b → IsAhead (b == 10) ahead.new.items }
+    ensures mark { result ≢ Step.Mark }
+    ensures end { result ≡ Step.End →
+        IsAtEnd (prepend_known ahead.old.items (R.remaining reader.old)) }
+    ensures ended { result ≡ Step.End → ahead.new.items ≡ [] }
+    ensures kept { result ≡ Step.Failed →
+        Keeps (prepend_known ahead.old.items (R.remaining reader.old))
+        (prepend_known ahead.new.items (R.remaining reader.new)) }
+    ensures front { result ≡ Step.Failed → ahead.new.items ≡ [] }
+    ensures failed { result ≡ Step.Failed →
+        Rises (R.failed_calls reader.old) (R.failed_calls reader.new) }
+    ensures counted { result ≢ Step.Failed →
+        R.failed_calls reader.new ≡ R.failed_calls reader.old }
+{
+    if !ahead.is_empty() {
+        return first_of(ahead);
+    }
+    match next_of(reader) {
+        Next::Byte(byte) => Step::Byte(byte),
+        Next::End => Step::End,
+        Next::Failed => Step::Failed,
+    }
+}
+
+// A step where a line begins, or within one.
+fn step_of<R: CountedRead>(reader: &mut R, begins: bool, ahead: &mut ArrayVec<u8, 4>) -> Step
+    requires { IsAhead begins ahead.old.items }
+    ensures byte { (b : ℕ) → result ≡ Step.Byte b → Gives begins b
+        (prepend_known ahead.old.items (R.remaining reader.old))
+        (prepend_known ahead.new.items (R.remaining reader.new)) }
+    ensures ahead { (b : ℕ) → result ≡ Step.Byte b → IsAhead (b == 10) ahead.new.items }
+    ensures mark { result ≡ Step.Mark → EndsAtMark begins
+        (prepend_known ahead.old.items (R.remaining reader.old)) (R.remaining reader.new) }
+    ensures over { IsOver result → ahead.new.items ≡ [] }
+    ensures end { result ≡ Step.End →
+        IsAtEnd (prepend_known ahead.old.items (R.remaining reader.old)) }
+    ensures kept { result ≡ Step.Failed →
+        Keeps (prepend_known ahead.old.items (R.remaining reader.old))
+        (prepend_known ahead.new.items (R.remaining reader.new)) }
+    ensures still { result ≡ Step.Failed → IsAhead begins ahead.new.items }
+    ensures failed { result ≡ Step.Failed →
+        Rises (R.failed_calls reader.old) (R.failed_calls reader.new) }
+    ensures counted { result ≢ Step.Failed →
+        R.failed_calls reader.new ≡ R.failed_calls reader.old }
+{
+    if begins {
+        step_at_line(reader, ahead)
+    } else {
+        step_in_line(reader, ahead)
+    }
+}
+
+/// The next byte of a section, or its end. Nothing is read behind the end.
+pub fn next_step<R: CountedRead>(reader: &mut R, cut: &mut Cut) -> Step
+    // What is left of the section.
+    ensures given { (b : ℕ) → result ≡ Step.Byte b → Consumes
+        (section_left cut.old.ended cut.old.begins
+        (prepend_known cut.old.ahead.items (R.remaining reader.old)))
+        (section_left cut.new.ended cut.new.begins
+        (prepend_known cut.new.ahead.items (R.remaining reader.new))) (b ∷ []) }
+    ensures over { IsOver result → Consumes
+        (section_left cut.old.ended cut.old.begins
+        (prepend_known cut.old.ahead.items (R.remaining reader.old))) (Some []) [] }
+    ensures still { result ≡ Step.Failed → Keeps
+        (section_left cut.old.ended cut.old.begins
+        (prepend_known cut.old.ahead.items (R.remaining reader.old)))
+        (section_left cut.new.ended cut.new.begins
+        (prepend_known cut.new.ahead.items (R.remaining reader.new))) }
+    // What is left of the input behind it.
+    ensures byte { (b : ℕ) → result ≡ Step.Byte b → Gives cut.old.begins b
+        (prepend_known cut.old.ahead.items (R.remaining reader.old))
+        (prepend_known cut.new.ahead.items (R.remaining reader.new)) }
+    ensures next { (b : ℕ) → result ≡ Step.Byte b → cut.new.begins ≡ (b == 10) }
+    ensures open { (b : ℕ) → result ≡ Step.Byte b → cut.new.ended ≡ None }
+    ensures mark { result ≡ Step.Mark → cut.old.ended ≡ None → EndsAtMark cut.old.begins
+        (prepend_known cut.old.ahead.items (R.remaining reader.old)) (R.remaining reader.new) }
+    ensures ended { IsOver result → IsSome cut.new.ended }
+    ensures failed { result ≡ Step.Failed →
+        Rises (R.failed_calls reader.old) (R.failed_calls reader.new) }
+    ensures counted { result ≢ Step.Failed →
+        R.failed_calls reader.new ≡ R.failed_calls reader.old }
+{
+    match cut.ended {
+        Some(true) => return Step::Mark,
+        Some(false) => return Step::End,
+        None => {}
+    }
+    let step = step_of(reader, cut.begins, &mut cut.ahead);
+    match step {
+        Step::Byte(byte) => cut.begins = byte == b'\n',
+        Step::Mark => cut.ended = Some(true),
+        Step::End => cut.ended = Some(false),
+        Step::Failed => {}
+    }
+    step
+}
+
+// Reads some bytes of a section into the front of `buf`, up to a call that fails.
+fn read_some<R: CountedRead>(reader: &mut R, cut: &mut Cut, buf: &mut [u8]) -> io::Result<usize>
+    ensures bound { ReadsAtMost result buf.new }
+    ensures bytes { ReadConsumes
+        (section_left cut.old.ended cut.old.begins
+        (prepend_known cut.old.ahead.items (R.remaining reader.old)))
+        (section_left cut.new.ended cut.new.begins
+        (prepend_known cut.new.ahead.items (R.remaining reader.new))) result buf.new }
+{
+    for i in 0..buf.len() {
+        match next_step(reader, cut) {
+            Step::Byte(byte) => buf[i] = byte,
+            Step::Mark | Step::End => return Ok(i),
+            Step::Failed => return told(cut, i),
+        }
+    }
+    Ok(buf.len())
+}
+
+// What is told of a call that failed behind so many bytes: these first, and the failure at the next call.
+fn told(cut: &mut Cut, count: usize) -> io::Result<usize>
+    ensures ok { IfOk result (λ n. n ≡ count) }
+    ensures some { IfOk result (λ n. 0 < n) }
+    ensures none { OnErr result (count ≡ 0) }
+    ensures begins { cut.new.begins ≡ cut.old.begins }
+    ensures ahead { cut.new.ahead ≡ cut.old.ahead }
+    ensures ended { cut.new.ended ≡ cut.old.ended }
+{
+    if count == 0 {
+        return Err(io::Error::from(ErrorKind::Other));
+    }
+    cut.failed = true;
+    Ok(count)
+}
+
+/// A reader of what is left of a section.
+#[derive(Drop)]
+pub struct Section<'a, R: CountedRead> {
+    reader: &'a mut R,
+    cut: &'a mut Cut,
+}
+
+impl<'a, R: CountedRead> Section<'a, R> {
+    /// The reader of a section.
+    pub fn new(reader: &'a mut R, cut: &'a mut Cut) -> Section<'a, R>
+        ensures reader { result.reader.now ≡ reader.entry.now }
+        ensures cut { result.cut.now ≡ cut.entry.now }
+    {
+        Section { reader, cut }
+    }
+}
+
+impl<'a, R: CountedRead> Read for Section<'a, R> {
+    ghost remaining = { λ s. section_left s.cut.now.ended s.cut.now.begins
+        (prepend_known s.cut.now.ahead.items (R.remaining s.reader.now)) };
+
+    fn read(&mut self, buf: &mut [u8]) -> io::Result<usize> {
+        if self.cut.failed {
+            return Err(io::Error::from(ErrorKind::Other));
+        }
+        read_some(self.reader, self.cut, buf)
+    }
+}
+
+/// What came of reading a section to its end.
+#[derive(Clone, Copy, Debug, PartialEq, Eq)]
+pub enum Skipped {
+    /// It ended at a mark, which is passed.
+    Marked,
+    /// The input ended.
+    Unmarked,
+    /// A call of the reader failed.
+    Failed,
+}
+
+/// Reads what is left of a section.
+pub fn skip<R: CountedRead>(reader: &mut R, cut: &mut Cut) -> Skipped
+    ensures marked { result ≡ Skipped.Marked → cut.old.ended ≡ None → LeavesRest cut.old.begins
+        (prepend_known cut.old.ahead.items (R.remaining reader.old)) (R.remaining reader.new) }
+    ensures failed { result ≡ Skipped.Failed →
+        Rises (R.failed_calls reader.old) (R.failed_calls reader.new) }
+{
+    if cut.failed {
+        return Skipped::Failed;
+    }
+    for _ in 0..u64::MAX {
+        match next_step(reader, cut) {
+            Step::Byte(_) => {}
+            Step::Mark => return Skipped::Marked,
+            Step::End => return Skipped::Unmarked,
+            Step::Failed => return Skipped::Failed,
+        }
+    }
+    Skipped::Unmarked
+}
