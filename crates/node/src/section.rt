@@ -399,7 +399,9 @@ pub enum Skipped {
 pub fn skip<R: CountedRead>(reader: &mut R, cut: &mut Cut) -> Skipped
     ensures marked { result ≡ Skipped.Marked → cut.old.ended ≡ None → LeavesRest cut.old.begins
         (prepend_known cut.old.ahead.items (R.remaining reader.old)) (R.remaining reader.new) }
-    ensures failed { result ≡ Skipped.Failed →
+    // A failure that a reader of the section has still to tell is told here.
+    ensures held { cut.old.failed ≡ true → result ≡ Skipped.Failed }
+    ensures failed { result ≡ Skipped.Failed → cut.old.failed ≡ false →
         Rises (R.failed_calls reader.old) (R.failed_calls reader.new) }
 {
     if cut.failed {
