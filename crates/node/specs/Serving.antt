@@ -22,21 +22,21 @@ told_tell untold.Write = fault.Write
 
 -- ---- one answer
 
--- what a replica v was asked by a command and the bytes behind it is answered by the text, and makes it w: for each
--- holding of a job that v has, and whatever these bytes ask for
-pub record StepsTo (network : Network) (c : Command) (body : List ℕ) (v w : State)
-    (text : List ℕ) : Type 0 where
-  pub answers : (j : Job) (p : ℕ) (h : Holding) (a : Asked) → j.graph ≡ network.graph →
-      Holds j p h v → Asks j p c body a → Answers j network.labels h a text
-  pub holds : (j : Job) (p : ℕ) (h : Holding) (a : Asked) → j.graph ≡ network.graph →
-      Holds j p h v → Asks j p c body a → Holds j p (after_asked j h a) w
-
--- such a text was appended
-pub record Steps (network : Network) (c : Command) (body : List ℕ) (v w : State)
+-- a text was appended that is the answer of a node of that holding
+pub record AppendsAnswer (j : Job) (labels : List (List ℕ)) (h : Holding) (a : Asked)
     (old new : Option (List ℕ)) : Type 0 where
   pub text : List ℕ
   pub appended : Appends old new text
-  pub steps : StepsTo network c body v w text
+  pub answers : Answers j labels h a text
+
+-- what a replica v was asked by a command and the bytes behind it was answered, and it is w now: so it is for each
+-- holding of a job that v has, and whatever these bytes ask for
+pub record Steps (network : Network) (c : Command) (body : List ℕ) (v w : State)
+    (old new : Option (List ℕ)) : Type 0 where
+  pub told : (j : Job) (p : ℕ) (h : Holding) (a : Asked) → j.graph ≡ network.graph →
+      Holds j p h v → Asks j p c body a → AppendsAnswer j network.labels h a old new
+  pub holds : (j : Job) (p : ℕ) (h : Holding) (a : Asked) → j.graph ≡ network.graph →
+      Holds j p h v → Asks j p c body a → Holds j p (after_asked j h a) w
 
 -- ---- a request: it is read, and answered
 
@@ -64,11 +64,18 @@ pub record ServesNone (left left' : Option (List ℕ)) (v w : State)
 
 -- ---- many of them
 
--- what a replica v was asked by requests, one after the other, is answered by the text, and makes it w
-pub record RunsTo (network : Network) (rs : List Request) (v w : State)
-    (text : List ℕ) : Type 0 where
-  pub answers : (j : Job) (p : ℕ) (h : Holding) (more : List Asked) → j.graph ≡ network.graph →
-      Holds j p h v → AllAsk j p rs more → AreAnswers j network.labels h more text
+-- a text was appended that is the answers to all that is asked
+pub record AppendsAnswers (j : Job) (labels : List (List ℕ)) (h : Holding) (more : List Asked)
+    (old new : Option (List ℕ)) : Type 0 where
+  pub text : List ℕ
+  pub appended : Appends old new text
+  pub answers : AreAnswers j labels h more text
+
+-- what a replica v was asked by requests was answered, one after the other, and it is w now
+pub record Runs (network : Network) (rs : List Request) (v w : State)
+    (old new : Option (List ℕ)) : Type 0 where
+  pub told : (j : Job) (p : ℕ) (h : Holding) (more : List Asked) → j.graph ≡ network.graph →
+      Holds j p h v → AllAsk j p rs more → AppendsAnswers j network.labels h more old new
   pub holds : (j : Job) (p : ℕ) (h : Holding) (more : List Asked) → j.graph ≡ network.graph →
       Holds j p h v → AllAsk j p rs more → Holds j p (after_all j h more) w
 
@@ -79,9 +86,7 @@ pub record ServesSome (network : Network) (number : ℕ) (left left' : Option (L
   pub count : length requests ≡ number
   pub each : All IsRequest requests
   pub consumed : Consumes left left' (requests_text requests)
-  pub text : List ℕ
-  pub appended : Appends old new text
-  pub runs : RunsTo network requests v w text
+  pub runs : Runs network requests v w old new
 
 -- all that was left of the input is requests, and they were answered
 pub record Serves (network : Network) (left left' : Option (List ℕ)) (v w : State)

@@ -35,11 +35,7 @@ fn length_in(line: &[u8]) -> Option<u64>
 }
 
 // The length of the checkpoint of partition `p` that follows.
-fn read_length<R: CountedRead>(
-    alloc: Global,
-    reader: &mut R,
-    p: u16,
-) -> Result<u64, GatherError>
+fn read_length<R: CountedRead>(alloc: Global, reader: &mut R, p: u16) -> Result<u64, GatherError>
     ensures { IfOk result (λ n.
         Consumes (R.remaining reader.old) (R.remaining reader.new) (part_line n)) }
 {
@@ -167,8 +163,7 @@ pub fn gather<T: AllocGlobal + Threads + Sync, R: CountedRead, W: CountedWrite>(
     options: &JobOptions,
     reader: &mut R,
     writer: &mut W,
-) -> Result<(), GatherError>
-{
+) -> Result<(), GatherError> {
     let (graph, plan) = read_job(rt.alloc(), state, options, reader)?;
     gather_parts(rt, &graph, &plan, reader, writer)
 }

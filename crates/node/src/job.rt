@@ -66,8 +66,7 @@ fn read_graph<R: CountedRead>(
 }
 
 // The bytes of a section, which ends at a mark.
-fn read_list<R: CountedRead>(reader: &mut R, list: &mut Vec<u8>) -> Result<(), JobError>
-{
+fn read_list<R: CountedRead>(reader: &mut R, list: &mut Vec<u8>) -> Result<(), JobError> {
     let mut cut = Cut::start();
     for _ in 0..MOST_LIST {
         match next_step(reader, &mut cut) {

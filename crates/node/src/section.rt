@@ -120,39 +120,29 @@ fn is_front(bytes: &[u8]) -> bool
     }
 }
 
-/// What came of reading ahead.
-#[derive(Clone, Copy, Debug, PartialEq, Eq)]
-enum Looked {
-    // so far that it is known whether a mark stands there
-    Enough,
-    // to the end of the input
-    Ended,
-    // a call of the reader failed
-    Failed,
-}
-
-// Reads ahead as long as what was read may be the front of a line of %%.
-fn look<R: CountedRead>(reader: &mut R, ahead: &mut ArrayVec<u8, 4>) -> Looked
+// Reads ahead as long as what was read may be the front of a line of %%, and tells whether no call failed: then it is
+// known whether a mark stands there, or the input has ended.
+fn look<R: CountedRead>(reader: &mut R, ahead: &mut ArrayVec<u8, 4>) -> bool
     requires { is_front ahead.old.items ≡ true }
     ensures same { Keeps (prepend_known ahead.old.items (R.remaining reader.old))
         (prepend_known ahead.new.items (R.remaining reader.new)) }
-    ensures enough { result ≡ Looked.Enough → is_front ahead.new.items ≡ false }
     ensures past { IsPast ahead.new.items }
-    ensures ended { result ≡ Looked.Ended → IsAtEnd (R.remaining reader.new) }
-    ensures front { result ≢ Looked.Enough → is_front ahead.new.items ≡ true }
-    ensures failed { result ≡ Looked.Failed →
+    ensures known { result ≡ true → is_front ahead.new.items ≡ true →
+        IsAtEnd (R.remaining reader.new) }
+    ensures front { result ≡ false → is_front ahead.new.items ≡ true }
+    ensures failed { result ≡ false →
         Rises (R.failed_calls reader.old) (R.failed_calls reader.new) }
-    ensures counted { result ≢ Looked.Failed →
+    ensures counted { result ≡ true →
         R.failed_calls reader.new ≡ R.failed_calls reader.old }
 {
     while is_front(ahead) {
         match next_of(reader) {
             Next::Byte(byte) => ahead.push(byte),
-            Next::End => return Looked::Ended,
-            Next::Failed => return Looked::Failed,
+            Next::End => return true,
+            Next::Failed => return false,
         }
     }
-    Looked::Enough
+    true
 }
 
 /// What came of a step through a section.
@@ -206,15 +196,16 @@ fn step_at_line<R: CountedRead>(reader: &mut R, ahead: &mut ArrayVec<u8, 4>) -> 
     ensures counted { result ≢ Step.Failed →
         R.failed_calls reader.new ≡ R.failed_calls reader.old }
 {
-    match look(reader, ahead) {
-        Looked::Failed => return Step::Failed,
-        Looked::Enough | Looked::Ended => {}
+    if !look(reader, ahead) {
+        return Step::Failed;
     }
-    if after_mark(ahead).is_some() {
-        ahead.clear();
-        return Step::Mark;
+    match after_mark(ahead) {
+        Some(_) => {
+            ahead.clear();
+            Step::Mark
+        }
+        None => first_of(ahead),
     }
-    first_of(ahead)
 }
 
 // A step within a line.

@@ -35,11 +35,7 @@ use world::answer::put_refusal;
 use world::tell::{tell_replica, write_lines};
 
 // Writes the line of what a node says.
-fn tell<W: CountedWrite>(
-    reply: Reply,
-    line: &mut Vec<u8>,
-    writer: &mut W,
-) -> Result<(), ServeError>
+fn tell<W: CountedWrite>(reply: Reply, line: &mut Vec<u8>, writer: &mut W) -> Result<(), ServeError>
     ensures { OnOk result (Appends (W.contents writer.old) (W.contents writer.new)
         (reply_text reply)) }
 {
@@ -397,12 +393,7 @@ pub fn serve_commands<R: CountedRead, W: CountedWrite>(
 }
 
 // A node of a partition of a job, at its start.
-fn start(
-    alloc: Global,
-    graph: &Graph,
-    plan: &Plan,
-    part: u16,
-) -> Result<Session, JobError>
+fn start(alloc: Global, graph: &Graph, plan: &Plan, part: u16) -> Result<Session, JobError>
     requires { IsJob (job_of graph.now.graph plan.now) }
     ensures part { IfOk result (λ _. part < plan.now.parts) }
     ensures start { IfOk result (Holds (job_of graph.now.graph plan.now) part
@@ -424,8 +415,7 @@ pub fn serve_node<R: CountedRead, W: CountedWrite>(
     part: u16,
     reader: &mut R,
     writer: &mut W,
-) -> Result<(), NodeError>
-{
+) -> Result<(), NodeError> {
     let (graph, plan) = read_job(alloc, state, options, reader)?;
     let mut session = start(alloc, &graph, &plan, part)?;
     serve_commands(alloc, &graph, &mut session, reader, writer)?;
