@@ -127,3 +127,6 @@ gathered j labels a b c x y vs s none end told = record {
   end = end;
   report = λ given. told (all_stand j s.bodies vs s.made given);
 }
+
+pub reads_part : (a b c : Option (List ℕ)) (n : ℕ) (body : List ℕ) → Consumes a b (part_line n) → Consumes b c body → length body ≡ n → Consumes a c (part_text body)
+reads_part a b c n body one two long = subst (λ (k : ℕ). Consumes a c (part_line k ++ body)) (sym long) (Consumes-trans a b c (part_line n) body one two)

@@ -92,11 +92,12 @@ fn count_listed<R: CountedRead>(
 ) -> Result<Graph, JobError>
     ensures { IfOk result (CountsSome (settings_in options.now) options.now.counted graph) }
 {
-    if options.counted {
-        let mut list = Vec::new(alloc);
-        read_list(reader, &mut list)?;
-        graph.count_only(alloc, options.delimiter, &list)?;
+    if !options.counted {
+        return Ok(graph);
     }
+    let mut list = Vec::new(alloc);
+    read_list(reader, &mut list)?;
+    graph.count_only(alloc, options.delimiter, &list)?;
     Ok(graph)
 }
 
