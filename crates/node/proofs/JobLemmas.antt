@@ -1,5 +1,5 @@
 -- The job that was read.
-use Rattle.std.proofs.Common.{◌≡◌, ◌∙◌, ℕ, ◌||◌, Bool, true, false, nat_lt, if◌then◌else◌, List, [], refl, ap, sym, subst}
+use Rattle.std.proofs.Common.{◌≡◌, ℕ, ◌==◌, ◌||◌, Bool, true, false, nat_lt, if◌then◌else◌, List, [], ◌∷◌, ◌++◌, refl, sym}
 use Rattle.std.specs.Prelude.{Option, None, Some, Result, Ok, Err}
 use Rattle.std.specs.Io.KnownBytes.{prepend_known}
 use Rattle.ball_model.specs.declared.plan.PlanError.{PlanError}
@@ -7,22 +7,53 @@ use Rattle.ball_model.specs.declared.plan.PlanError.TheVariants as fault
 use Rattle.ball_model.specs.Input.{IsPlain, Network}
 use Rattle.ball_model.specs.Counting.{counted_of}
 use Rattle.ball_model.specs.PlanValue.{PlanValue, greatest_limit, greatest_log2m, least_log2m, most_parts, most_vertices, plan_of}
-use Rattle.ball_model.specs.RunText.{Numbers, Settings, counted_in, network_in, plan_over}
-use Rattle.edgelist.specs.Records.{ForPlain}
-use Rattle.node.specs.Job.{CountsSome, IsPlanned, SaysNetwork}
-use Rattle.node.specs.Section.{front_of, section_left}
+use Rattle.ball_model.specs.RunText.{Numbers, Settings, plan_over}
+use Rattle.edgelist.specs.Given.{IsGiven}
+use Rattle.edgelist.specs.declared.pieces.EdgeReader.{EdgeReader}
+use Rattle.edgelist.specs.declared.read.Delimiter.{Delimiter}
+use Rattle.edgelist.specs.declared.read.EdgeLimits.{EdgeLimits}
+use Rattle.node.specs.Job.{CountsSome, GivesSection, IsPlanned}
+use Rattle.node.specs.Section.{EndsAtMark, Gives, Passed, ReadsSection}
+use Rattle.node.proofs.SectionLemmas.{passed_end, passed_more, passed_start}
 
--- what the section in front of the mark says
-pub says : (s : Settings) (o : Option (List ℕ)) (network : Network) → ForPlain (section_left None true (prepend_known [] o)) (λ text. network_in s text ≡ Ok network) → SaysNetwork s o network
-says s None network f = tt
-says s (Some text) network f = λ plain. f (front_of true text) refl plain
+-- ---- the edge list
+-- the bytes so far were given
+pub record GivesSoFar (limits : EdgeLimits) (delimiter : Delimiter) (begins : Bool) (left left' : Option (List ℕ)) (edges : EdgeReader) : Type 0 where
+  pub front : List ℕ
+  pub given : IsGiven limits delimiter front edges
+  pub passed : Passed front begins left left'
 
--- the list
-pub counts_all : (s : Settings) (network : Network) → CountsSome s false network network
-counts_all s network = record { list = None; given = refl; says = λ plain. refl }
+pub gives_start : (limits : EdgeLimits) (delimiter : Delimiter) (begins : Bool) (xs : List ℕ) (left : Option (List ℕ)) (edges : EdgeReader) → begins ≡ true → xs ≡ [] →
+    IsGiven limits delimiter [] edges → GivesSoFar limits delimiter begins left (prepend_known xs left) edges
+gives_start limits delimiter begins xs left edges line none given = record {
+  front = [];
+  given = given;
+  passed = passed_start begins xs left line none;
+}
 
-pub counts_listed : (s : Settings) (all network : Network) (list : List ℕ) → (IsPlain list → counted_of s.delimiter all list ≡ Ok network) → CountsSome s true all network
-counts_listed s all network list says = record { list = Some list; given = refl; says = says }
+pub gives_more : (limits : EdgeLimits) (delimiter : Delimiter) (begins next : Bool) (c : ℕ) (x y z : Option (List ℕ)) (old new : EdgeReader) → next ≡ (c == 10) →
+    GivesSoFar limits delimiter begins x y old → Gives begins c y z → ((text : List ℕ) → IsGiven limits delimiter text old → IsGiven limits delimiter (text ++ c ∷ []) new) →
+    GivesSoFar limits delimiter next x z new
+gives_more limits delimiter begins next c x y z old new same so one add = record {
+  front = so.front ++ c ∷ [];
+  given = add so.front so.given;
+  passed = passed_more so.front (so.front ++ c ∷ []) begins next c x y z same refl so.passed one;
+}
+
+pub gives_end : (limits : EdgeLimits) (delimiter : Delimiter) (begins : Bool) (x y z : Option (List ℕ)) (edges : EdgeReader) → GivesSoFar limits delimiter begins x y edges → EndsAtMark begins y z →
+    GivesSection limits delimiter x z edges
+gives_end limits delimiter begins x y z edges so ends = record {
+  front = so.front;
+  given = so.given;
+  section = passed_end so.front begins x y z so.passed ends;
+}
+
+-- ---- the list
+pub counts_all : (s : Settings) (left : Option (List ℕ)) (network : Network) → CountsSome s false left left network network
+counts_all s left network = record { list = None; given = refl; section = refl; says = λ plain. refl }
+
+pub counts_listed : (s : Settings) (left left' : Option (List ℕ)) (all network : Network) (list : List ℕ) → ReadsSection list left left' → (IsPlain list → counted_of s.delimiter all list ≡ Ok network) → CountsSome s true left left' all network
+counts_listed s left left' all network list section says = record { list = Some list; given = refl; section = section; says = says }
 
 -- the plan
 plan_test : (p q : PlanValue) (a b c d : Bool) → (if a then Err fault.Log2m else (if b then Err fault.Parts else (if c then Err fault.Limit else (if d then Err fault.Vertices else Ok p)))) ≡ Ok q → q ≡ p

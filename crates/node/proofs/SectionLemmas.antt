@@ -5,7 +5,7 @@ use Rattle.std.specs.Io.KnownBytes.{Consumes, IsAtEnd, Keeps, prepend_known}
 use Rattle.std.proofs.KnownBytes.{prepend_known-end}
 use Rattle.std.proofs.lemmas.Bool.{eqb-true}
 use Rattle.ball_model.specs.Sections.{after_line, after_mark, longer, sections_from, sections_or}
-use Rattle.node.specs.Section.{EndsAtMark, EndsOf, Gives, GivesOf, IsAhead, IsPast, LeavesRest, Passed, PassedOf, RestOf, front_in, front_of, is_front, is_tail, section_left}
+use Rattle.node.specs.Section.{EndsAtMark, EndsOf, Gives, GivesOf, IsAhead, IsPast, Passed, PassedOf, ReadsSection, SectionOf, is_front, is_tail}
 
 -- ---- two tests
 both_left : (a b : Bool) → (a && b) ≡ true → a ≡ true
@@ -149,35 +149,6 @@ ends_here (b ∷ text) rest is = record {
   sections = ap (λ (o : Option (List ℕ)). sections_or o (longer b (sections_from (b == 10) text))) is;
 }
 
--- ---- what is left of a section
-front_longer : (b : ℕ) (text rest : List ℕ) (o : Option (List ℕ × List ℕ)) → text ≡ b ∷ rest → front_in text (longer b o) ≡ b ∷ front_in rest o
-front_longer b text rest None is = is
-front_longer b text rest (Some s) is = refl
-
-pub left_gives : (begins begins' : Bool) (b : ℕ) (old new : Option (List ℕ)) → begins' ≡ (b == 10) → Gives begins b old new → Consumes (section_left None begins old) (section_left None begins' new) (b ∷ [])
-unfolding front_of
-left_gives begins begins' b None new next g = tt
-left_gives begins begins' b (Some text) new next g =
-    let front : front_of begins text ≡ b ∷ front_of (b == 10) g.rest =
-    ap (front_in text) g.sections ∙ front_longer b text g.rest (sections_from (b == 10) g.rest) g.text_is in
-    subst (λ (o : Option (List ℕ)). Consumes (Some (front_of begins text)) (section_left None begins' o) (b ∷ [])) (sym g.new_is)
-    (subst (λ (t : Bool). Consumes (Some (front_of begins text)) (Some (front_of t g.rest)) (b ∷ [])) (sym next) front)
-
-pub left_marked : (begins begins' : Bool) (old new : Option (List ℕ)) → EndsAtMark begins old new → Consumes (section_left None begins old) (Some ([])) []
-unfolding front_of
-left_marked begins begins' None new e = tt
-left_marked begins begins' (Some text) new e = ap (front_in text) e.sections
-
-pub left_ended : (begins : Bool) (old : Option (List ℕ)) → IsAtEnd old → Consumes (section_left None begins old) (Some ([])) []
-unfolding front_of sections_from
-left_ended begins None e = tt
-left_ended begins (Some text) e = subst (λ (l : List ℕ). front_of begins l ≡ []) (sym e) refl
-
--- ---- the rest of a section
-pub rest_here : (begins : Bool) (old new : Option (List ℕ)) → EndsAtMark begins old new → IfSome old (λ text. RestOf begins text new)
-rest_here begins None new e = tt
-rest_here begins (Some text) new e = record { front = []; rest = e.rest; new_is = e.new_is; sections = e.sections }
-
 -- ---- what is read ahead
 pub ahead_none : (t : Bool) (xs : List ℕ) → xs ≡ [] → IsAhead t xs
 unfolding is_tail
@@ -266,38 +237,36 @@ unmarked xs ys c (Some t) (Some u) k is none end =
 pub ended : (xs : List ℕ) (a b : Option (List ℕ)) → Keeps a (prepend_known xs b) → xs ≡ [] → (is_front xs ≡ true → IsAtEnd b) → IsAtEnd a
 ended xs a b k none end = prepend_known-end a b xs k none (end (subst (λ (l : List ℕ). is_front l ≡ true) (sym none) refl))
 
--- ---- what is left of a section stays
-pub left_kept : (begins : Bool) (old new : Option (List ℕ)) → Keeps old new → Keeps (section_left None begins old) (section_left None begins new)
-left_kept begins None new k = tt
-left_kept begins (Some t) None k = absurd k
-left_kept begins (Some t) (Some u) k = ap (front_of begins) k
-
 -- ---- many steps
-pub passed_none : (begins : Bool) (left : Option (List ℕ)) → Passed begins begins left left
-passed_none begins None = tt
-passed_none begins (Some text) = record { front = []; rest = text; new_is = refl; sections = λ f r e. e }
+pub passed_start : (begins : Bool) (xs : List ℕ) (left : Option (List ℕ)) → begins ≡ true → xs ≡ [] → Passed [] begins left (prepend_known xs left)
+passed_start begins xs None line none = tt
+passed_start begins xs (Some text) line none = record {
+  rest = xs ++ text;
+  new_is = refl;
+  sections = λ f r e.
+      subst (λ (l : List ℕ). sections_from true (l ++ text) ≡ Some (f, r)) none
+      (subst (λ (t : Bool). sections_from t (xs ++ text) ≡ Some (f, r)) line e);
+}
 
-pub passed_more : (begins mid next : Bool) (c : ℕ) (x y z : Option (List ℕ)) → next ≡ (c == 10) → Passed begins mid x y → Gives mid c y z → Passed begins next x z
-passed_more begins mid next c None y z same p g = tt
-passed_more begins mid next c (Some text) y z same p g =
-    let one : GivesOf mid c p.rest z = subst (λ (o : Option (List ℕ)). Gives mid c o z) p.new_is g in
+pub passed_more : (front more : List ℕ) (begins next : Bool) (c : ℕ) (x y z : Option (List ℕ)) → next ≡ (c == 10) → more ≡ front ++ c ∷ [] → Passed front begins x y → Gives begins c y z → Passed more next x z
+passed_more front more begins next c None y z same is p g = tt
+passed_more front more begins next c (Some text) y z same is p g =
+    let one : GivesOf begins c p.rest z = subst (λ (o : Option (List ℕ)). Gives begins c o z) p.new_is g in
     record {
-      front = p.front ++ c ∷ [];
       rest = one.rest;
       new_is = one.new_is;
       sections = λ f r e.
-          let last : sections_from mid p.rest ≡ Some (c ∷ f, r) =
+          let last : sections_from begins p.rest ≡ Some (c ∷ f, r) =
           one.sections ∙ ap (λ (t : Bool). longer c (sections_from t one.rest)) (sym same) ∙ ap (longer c) e in
-          p.sections (c ∷ f) r last ∙ ap (λ (l : List ℕ). Some (l, r)) (sym (append_assoc p.front (c ∷ []) f));
+          p.sections (c ∷ f) r last ∙ ap (λ (l : List ℕ). Some (l, r)) (sym (ap (λ (l : List ℕ). l ++ f) is ∙ append_assoc front (c ∷ []) f));
     }
 
-pub passed_end : (begins mid : Bool) (x y z : Option (List ℕ)) → Passed begins mid x y → EndsAtMark mid y z → LeavesRest begins x z
-passed_end begins mid None y z p e = tt
-passed_end begins mid (Some text) y z p e =
-    let last : EndsOf mid p.rest z = subst (λ (o : Option (List ℕ)). EndsAtMark mid o z) p.new_is e in
+pub passed_end : (front : List ℕ) (begins : Bool) (x y z : Option (List ℕ)) → Passed front begins x y → EndsAtMark begins y z → ReadsSection front x z
+passed_end front begins None y z p e = tt
+passed_end front begins (Some text) y z p e =
+    let last : EndsOf begins p.rest z = subst (λ (o : Option (List ℕ)). EndsAtMark begins o z) p.new_is e in
     record {
-      front = p.front ++ [];
       rest = last.rest;
       new_is = last.new_is;
-      sections = p.sections [] last.rest last.sections;
+      sections = p.sections [] last.rest last.sections ∙ ap (λ (l : List ℕ). Some (l, last.rest)) (append-nil front);
     }

@@ -1,18 +1,22 @@
 -- Requests, one after the other.
-use Rattle.std.proofs.Common.{◌≡◌, ◌≢◌, ◌∙◌, ℕ, ◌+◌, ◌<◌, List, [], ◌∷◌, ◌++◌, length, refl, ap, sym, subst, append_assoc, append-nil, length-append, arith}
+use Rattle.std.proofs.Common.{◌≡◌, ◌≢◌, ◌∙◌, ℕ, ◌+◌, ◌<◌, Bool, List, [], ◌∷◌, ◌++◌, length, refl, ap, sym, subst, append_assoc, append-nil, length-append, arith}
 use Rattle.std.specs.Prelude.{Option, None, Some}
 use Rattle.std.specs.List.{All, flat_map}
 use Rattle.std.specs.Io.KnownBytes.{Appends, Consumes, IsAtEnd, Keeps}
 use Rattle.std.proofs.KnownBytes.{Appends-kept, Appends-nil, Appends-trans, Consumes-nil, Consumes-trans, Keeps-refl}
 use Rattle.std.proofs.lemmas.List.Elements.{All-nil, All-push}
 use Rattle.ball_model.specs.Input.{Network, fields}
-use Rattle.ball_model.specs.Job.{Job}
+use Rattle.ball_model.specs.Held.{start_holding}
+use Rattle.ball_model.specs.Job.{Job, job_of}
 use Rattle.ball_model.specs.Join.{Holding}
+use Rattle.ball_model.specs.PlanValue.{PlanValue}
+use Rattle.ball_model.specs.RunText.{Settings}
 use Rattle.ball_model.specs.State.{State}
+use Rattle.node.specs.Job.{IsJobRead}
 use Rattle.node.specs.NodeText.{AllAsk, Answers, AreAnswers, Asked, Asks, IsRequest, Request, after_all, after_asked, body_length, command_in, request_bytes, requests_text}
 use Rattle.node.specs.declared.command.Command.{Command}
 use Rattle.node.specs.Stream.{HasNoEnd}
-use Rattle.node.specs.Serving.{AppendsAnswers, ReadsRequest, Runs, Serves, ServesNone, ServesOne, ServesSome, Steps}
+use Rattle.node.specs.Serving.{AppendsAnswers, ReadsRequest, Runs, Serves, ServesNode, ServesNone, ServesOne, ServesSome, Steps}
 use Rattle.node.specs.Turns.{Holds}
 
 -- ---- one more is asked
@@ -151,3 +155,20 @@ serves_one network a b line order body v w x y z read steps kept = record {
 
 pub serves_no_more : (a b : Option (List ℕ)) (v : State) (x : Option (List ℕ)) → IsAtEnd b → Consumes a b [] → ServesNone a b v v x x
 serves_no_more a b v x end none = record { end = end; consumed = none; kept = Keeps-refl x; same = refl }
+
+-- ---- a node from its start
+pub serves_node : (s : Settings) (counted : Bool) (p : ℕ) (network : Network) (plan : PlanValue) (left mid left' old new : Option (List ℕ)) (v w : State) →
+    IsJobRead s counted left mid network plan → p < plan.parts → Holds (job_of network.graph plan) p (start_holding plan p) v →
+    Serves network mid left' v w old new → ServesNode s counted p left left' old new
+serves_node s counted p network plan left mid left' old new v w read below holds serves = record {
+  network = network;
+  plan = plan;
+  mid = mid;
+  job = read;
+  below = below;
+  requests = serves.some.requests;
+  each = serves.some.each;
+  consumed = serves.some.consumed;
+  end = serves.end;
+  told = λ more asks. serves.some.runs.told (job_of network.graph plan) p (start_holding plan p) more refl holds asks;
+}

@@ -1,10 +1,13 @@
 -- What becomes of commands, one after the other.
-use Rattle.std.specs.Prelude.{◌≡◌, ℕ, List, [], length, Option}
+use Rattle.std.specs.Prelude.{◌≡◌, ℕ, ◌<◌, Bool, List, [], length, Option}
 use Rattle.std.specs.List.{All}
 use Rattle.std.specs.Io.KnownBytes.{Appends, Consumes, IsAtEnd, Keeps}
 use Rattle.ball_model.specs.Input.{Network}
-use Rattle.ball_model.specs.Job.{Job}
+use Rattle.ball_model.specs.Held.{start_holding}
+use Rattle.ball_model.specs.Job.{Job, job_of}
 use Rattle.ball_model.specs.Join.{Holding}
+use Rattle.ball_model.specs.PlanValue.{PlanValue}
+use Rattle.ball_model.specs.RunText.{Settings}
 use Rattle.ball_model.specs.State.{State}
 use Rattle.world.specs.declared.tell.TellError.{TellError}
 use Rattle.world.specs.declared.tell.TellError.TheVariants as untold
@@ -12,6 +15,7 @@ use Rattle.node.specs.declared.command.Command.{Command}
 use Rattle.node.specs.declared.error.ServeError.{ServeError}
 use Rattle.node.specs.declared.error.ServeError.TheVariants as fault
 use Rattle.node.specs.NodeText.{Answers, AreAnswers, AllAsk, Asked, Asks, IsRequest, Request, after_all, after_asked, request_bytes, requests_text}
+use Rattle.node.specs.Job.{IsJobRead}
 use Rattle.node.specs.Turns.{Holds}
 
 -- ---- what errors are told as
@@ -94,3 +98,21 @@ pub record Serves (network : Network) (left left' : Option (List ℕ)) (v w : St
   pub number : ℕ
   pub some : ServesSome network number left left' v w old new
   pub end : IsAtEnd left'
+
+-- ---- a node from its start
+
+-- the job of the input was read, and all that follows it is requests, which a node of partition p was asked from its
+-- start on: where each delivered batch is a true one and each checkpoint stands for the job, they were answered
+pub record ServesNode (s : Settings) (counted : Bool) (p : ℕ)
+    (left left' old new : Option (List ℕ)) : Type 0 where
+  pub network : Network
+  pub plan : PlanValue
+  pub mid : Option (List ℕ)
+  pub job : IsJobRead s counted left mid network plan
+  pub below : p < plan.parts
+  pub requests : List Request
+  pub each : All IsRequest requests
+  pub consumed : Consumes mid left' (requests_text requests)
+  pub end : IsAtEnd left'
+  pub told : (more : List Asked) → AllAsk (job_of network.graph plan) p requests more →
+      AppendsAnswers (job_of network.graph plan) network.labels (start_holding plan p) more old new

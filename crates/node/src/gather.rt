@@ -3,7 +3,8 @@
 ghost use Rattle.std.specs.Prelude.{◌≡◌, ℕ, ◌<◌, ◌++◌, ◌∷◌, [], IfOk, OnOk, Some};
 ghost use Rattle.std.specs.Io.KnownBytes.{Consumes, IsAtEnd};
 ghost use Rattle.ball_model.specs.Job.{IsJob, job_of};
-ghost use Rattle.node.specs.Gathering.{Gathers, ReadsAll, ReadsOne, part_line, part_text};
+ghost use Rattle.node.specs.Gathering.{Gathers, GathersJob, ReadsAll, ReadsOne, part_line, part_text};
+ghost use Rattle.node.specs.Job.{settings_in};
 
 use crate::command::size;
 use crate::error::GatherError;
@@ -163,7 +164,11 @@ pub fn gather<T: AllocGlobal + Threads + Sync, R: CountedRead, W: CountedWrite>(
     options: &JobOptions,
     reader: &mut R,
     writer: &mut W,
-) -> Result<(), GatherError> {
+) -> Result<(), GatherError>
+    ensures { OnOk result (GathersJob (settings_in options.now) options.now.counted
+        (R.remaining reader.old) (R.remaining reader.new)
+        (W.contents writer.old) (W.contents writer.new)) }
+{
     let (graph, plan) = read_job(rt.alloc(), state, options, reader)?;
     gather_parts(rt, &graph, &plan, reader, writer)
 }
