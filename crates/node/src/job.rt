@@ -165,8 +165,8 @@ pub fn read_job<R: CountedRead>(
         (R.remaining reader.old) (R.remaining reader.new) both.0 both.1) }
     ensures job { IfOk result (λ both. IsJob (job_of both.0.graph both.1)) }
 {
-    let graph = read_graph(alloc, state, options, reader)?;
-    let graph = count_listed(alloc, graph, options, reader)?;
+    let all = read_graph(alloc, state, options, reader)?;
+    let graph = count_listed(alloc, all, options, reader)?;
     let plan = plan_for(&graph, options)?;
     Ok((graph, plan))
 }

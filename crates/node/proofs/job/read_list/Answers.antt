@@ -1,4 +1,4 @@
-use Rattle.std.proofs.Common.{[], refl, sym, subst, List, ℕ}
+use Rattle.std.proofs.Common.{ℕ, List, sym, subst}
 use Rattle.std.specs.Io.KnownBytes.{prepend_known}
 use Rattle.node.specs.Section.{Passed}
 use Rattle.node.proofs.SectionLemmas.{passed_end, passed_more, passed_start}
@@ -10,7 +10,10 @@ loop-init g c =
     (passed_start c.start-cut.result.begins c.start-cut.result.ahead.items (g.R.Read.remaining c.args.reader.now) c.start-cut.ensures.begins c.start-cut.ensures.ahead)
 
 pub loop-preserved : goal.loop-preserved
-loop-preserved g c = ?
+loop-preserved g c =
+    passed_more c.loop.list.items c.push.new.self.items c.loop.cut.begins c.next_step.new.cut.begins c.in-Byte.byte (g.R.Read.remaining c.args.reader.now)
+    (prepend_known c.loop.cut.ahead.items (g.R.Read.remaining c.loop.reader)) (prepend_known c.next_step.new.cut.ahead.items (g.R.Read.remaining c.next_step.new.reader))
+    (c.next_step.ensures.next c.in-Byte.byte c.in-Byte.is) c.in-Ok.ensures.items c.loop.invariant (c.next_step.ensures.byte c.in-Byte.byte c.in-Byte.is)
 
 pub returns-in-Mark : goal.returns-in-Mark
 returns-in-Mark g c =
