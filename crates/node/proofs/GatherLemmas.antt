@@ -1,6 +1,6 @@
 -- Checkpoints of partitions, one after the other.
 use Rattle.std.proofs.Common.{◌≡◌, ◌∙◌, ℕ, zero, suc, ◌+◌, ◌<◌, ◌==◌, ◌&&◌, Bool, true, false, if◌then◌else◌, List, [], ◌∷◌, ◌++◌, length, get_or, refl, ap, sym, subst, append_assoc, append-nil, length-append, arith}
-use Rattle.std.specs.Prelude.{Option, None, Some, codes, decimal, nat_lt, unwrap_or, ◌^◌}
+use Rattle.std.specs.Prelude.{Option, None, Some, codes, decimal, nat_lt, ◌^◌}
 use Rattle.std.specs.Str.{bytes_eq}
 use Rattle.std.proofs.lemmas.Bool.{eqb-true}
 use Rattle.std.proofs.lemmas.Slice.Eq.{bytes_eq-Decides}
@@ -79,23 +79,23 @@ all_vertices j p n (b ∷ bodies) (v ∷ vs) job is made =
 
 -- ---- the line before a checkpoint
 same_pair : (p q : List ℕ × List ℕ) → Some p ≡ Some q → p ≡ q
-same_pair p q is = ap (λ (o : Option (List ℕ × List ℕ)). unwrap_or o p) is
+same_pair p q is = cc
 
 cut_step : (d c : ℕ) (xs a b : List ℕ) (t : Bool) (o : Option (List ℕ × List ℕ)) → (c == d) ≡ t →
     ((x y : List ℕ) → o ≡ Some (x, y) → xs ≡ x ++ d ∷ y) → (if t then Some ([], xs) else longer c o) ≡ Some (a, b) → c ∷ xs ≡ a ++ d ∷ b
 cut_step d c xs a b true o same rest is =
     let first : c ≡ d = eqb-true c d same in
-    let both : ([], xs) ≡ (a, b) = same_pair ([], xs) (a, b) is in
-    ap (λ (x : ℕ). x ∷ xs) first ∙ ap (λ (p : List ℕ × List ℕ). p.0 ++ d ∷ p.1) both
+    let both = same_pair ([], xs) (a, b) is in
+    ap (λ (x : ℕ). x ∷ xs) first ∙ ap (λ p. p.0 ++ d ∷ p.1) both
 cut_step d c xs a b false None same rest is = absurd (cc)
-cut_step d c xs a b false (Some (x, y)) same rest is =
-    let both : (c ∷ x, y) ≡ (a, b) = same_pair (c ∷ x, y) (a, b) is in
-    ap (λ (l : List ℕ). c ∷ l) (rest x y refl) ∙ ap (λ (p : List ℕ × List ℕ). p.0 ++ d ∷ p.1) both
+cut_step d c xs a b false (Some s) same rest is =
+    let both = same_pair (c ∷ s.0, s.1) (a, b) is in
+    ap (λ (l : List ℕ). c ∷ l) (rest s.0 s.1 refl) ∙ ap (λ p. p.0 ++ d ∷ p.1) both
 
 cut_split : (d : ℕ) (xs a b : List ℕ) → cut_of d xs ≡ Some (a, b) → xs ≡ a ++ d ∷ b
 unfolding cut_of
 cut_split d [] a b is = absurd (cc)
-cut_split d (c ∷ xs) a b is = cut_step d c xs a b (c == d) (cut_of d xs) refl (λ x y e. cut_split d xs x y e) is
+cut_split d (c ∷ xs) a b is = cut_step d c xs a b (c == d) (cut_of d xs) refl (cut_split d xs) is
 
 size_test : (word : List ℕ) (v n : ℕ) (t u : Bool) → u ≡ bytes_eq word (decimal v) → Some n ≡ (if t && u then Some v else None) → word ≡ decimal n
 size_test word v n true true same is =
