@@ -4,9 +4,8 @@ use Rattle.std.specs.Prelude.{Option, None, Some, codes, decimal, nat_lt, â—Œ^â—
 use Rattle.std.specs.Str.{bytes_eq}
 use Rattle.std.proofs.lemmas.Bool.{eqb-true}
 use Rattle.std.proofs.lemmas.Slice.Eq.{bytes_eq-Decides}
-use Rattle.ball_model.specs.Sections.{longer}
 use Rattle.ball_model.specs.WorldText.{value_from}
-use Rattle.world.specs.Script.{cut_of}
+use Rattle.world.specs.Script.{cut_of, longer}
 use Rattle.std.specs.List.{All}
 use Rattle.std.specs.Io.KnownBytes.{Appends, Consumes, IsAtEnd}
 use Rattle.std.proofs.KnownBytes.{Consumes-nil, Consumes-trans}
