@@ -5,3 +5,4 @@ pub mod SectionLemmas
 pub mod OwnLemmas
 pub mod CommandLemmas
 pub mod GatherLemmas
+pub mod PassLemmas

@@ -1,9 +1,12 @@
 -- The report of the checkpoints of all partitions.
-use Rattle.std.specs.Prelude.{◌≡◌, ⊤, ℕ, ◌+◌, List, [], ◌∷◌, ◌++◌, length, Option, codes, decimal}
+use Rattle.std.specs.Prelude.{◌≡◌, ⊤, ℕ, ◌+◌, Bool, List, [], ◌∷◌, ◌++◌, length, Option, Some, IfSome, codes, decimal}
 use Rattle.std.specs.List.{flat_map}
 use Rattle.std.specs.Io.KnownBytes.{Appends, Consumes, IsAtEnd}
-use Rattle.ball_model.specs.Job.{Job, part_of}
+use Rattle.ball_model.specs.Input.{IsPlain, Network}
+use Rattle.ball_model.specs.Job.{Job, job_of, part_of}
 use Rattle.ball_model.specs.Join.{Holding}
+use Rattle.ball_model.specs.PlanValue.{PlanValue}
+use Rattle.ball_model.specs.RunText.{AppendsReport, Settings}
 use Rattle.ball_model.specs.State.{State}
 use Rattle.ball_model.specs.WorldText.{words_line}
 use Rattle.report.specs.Ready.{job_report}
@@ -11,6 +14,7 @@ use Rattle.report.specs.declared.write.ReportError.{ReportError}
 use Rattle.report.specs.declared.write.ReportError.TheVariants as unreported
 use Rattle.node.specs.declared.error.GatherError.{GatherError}
 use Rattle.node.specs.declared.error.GatherError.TheVariants as fault
+use Rattle.node.specs.Job.{ReadsJobOf}
 use Rattle.node.specs.NodeText.{IsGivenBack}
 use Rattle.node.specs.Turns.{Holds}
 
@@ -72,3 +76,23 @@ pub record ReadsAll (j : Job) (n : ℕ) (left left' : Option (List ℕ))
   pub count : length bodies ≡ n
   pub consumed : Consumes left left' (parts_text bodies)
   pub made : AreMadeOf j 0 bodies replicas
+
+-- ---- a job, and what follows it
+
+-- a job was read, and all that follows it is checkpoints, one of each partition; where they stand for the job, the
+-- report that a run writes was appended
+pub record GathersJobOf (s : Settings) (counted : Bool) (text : List ℕ) (left : Option (List ℕ))
+    (old new : Option (List ℕ)) : Type 0 where
+  pub network : Network
+  pub plan : PlanValue
+  pub bodies : List (List ℕ)
+  pub job : ReadsJobOf s counted network plan text (Some (parts_text bodies))
+  pub count : length bodies ≡ plan.parts
+  pub end : IsAtEnd left
+  pub report : AreGivenBack (job_of network.graph plan) 0 bodies → IsPlain job.edges →
+      IfSome job.list IsPlain → AppendsReport s job.edges job.list old new
+
+abbrev pub GathersJob : Settings → Bool → Option (List ℕ) → Option (List ℕ) →
+    Option (List ℕ) → Option (List ℕ) → Type 0
+GathersJob s counted left left' old new =
+    IfSome left (λ text. GathersJobOf s counted text left' old new)

@@ -1,6 +1,6 @@
 -- Sections on a stream: what may be the front of a mark, and what a step through a section does.
 use Rattle.std.specs.Prelude.{◌≡◌, ⊤, ℕ, Bool, true, false, not, ◌==◌, ◌&&◌, List, [], ◌∷◌, ◌++◌, Option, None, Some, IfSome, option_map}
-use Rattle.ball_model.specs.Sections.{after_mark, longer, sections_from}
+use Rattle.ball_model.specs.Sections.{after_mark, longer, sections_from, sections_of}
 use Rattle.node.specs.declared.section.Step.{Step}
 use Rattle.node.specs.declared.section.Step.TheVariants as step
 
@@ -28,19 +28,6 @@ pub record IsPast (ahead : List ℕ) : Type 0 where
   pub tail : is_tail ahead ≡ true
   pub nothing : IfSome (after_mark ahead) (λ rest. rest ≡ [])
 
--- what is left of a section before the mark, where one stands; the flag says that a line begins here
-abbrev pub front_in : List ℕ → Option (List ℕ × List ℕ) → List ℕ
-front_in text None = text
-front_in text (Some sections) = sections.0
-
-unfoldable pub front_of : Bool → List ℕ → List ℕ
-front_of begins text = front_in text (sections_from begins text)
-
--- what is left of a section that has ended or not, of what is left of the input
-abbrev pub section_left : Option Bool → Bool → Option (List ℕ) → Option (List ℕ)
-section_left None begins left = option_map (front_of begins) left
-section_left (Some marked) begins left = Some []
-
 -- the byte was given: it is the first of what was left, and the section goes on behind it
 pub record GivesOf (begins : Bool) (b : ℕ) (text : List ℕ) (new : Option (List ℕ)) : Type 0 where
   pub rest : List ℕ
@@ -60,16 +47,6 @@ pub record EndsOf (begins : Bool) (text : List ℕ) (new : Option (List ℕ)) : 
 abbrev pub EndsAtMark : Bool → Option (List ℕ) → Option (List ℕ) → Type 0
 EndsAtMark begins old new = IfSome old (λ text. EndsOf begins text new)
 
--- what is left is what follows the mark at the end of the section
-pub record RestOf (begins : Bool) (text : List ℕ) (new : Option (List ℕ)) : Type 0 where
-  pub front : List ℕ
-  pub rest : List ℕ
-  pub new_is : new ≡ Some rest
-  pub sections : sections_from begins text ≡ Some (front, rest)
-
-abbrev pub LeavesRest : Bool → Option (List ℕ) → Option (List ℕ) → Type 0
-LeavesRest begins old new = IfSome old (λ text. RestOf begins text new)
-
 -- the section has ended
 abbrev pub IsOver : Step → Type 0
 IsOver (step.Byte b) = ⊥
@@ -83,13 +60,27 @@ IsByteOrEnd step.Mark = ⊥
 IsByteOrEnd step.End = ⊤
 IsByteOrEnd step.Failed = ⊥
 
--- some bytes of a section were passed: it goes on with what is left, where a line begins or not
-pub record PassedOf (begins begins' : Bool) (text : List ℕ) (new : Option (List ℕ)) : Type 0 where
+-- bytes of a text's first section were passed of which P holds: the section goes on with what is left, where a line
+-- begins or not
+pub record PassedOf (P : List ℕ → Type 0) (begins : Bool) (text : List ℕ)
+    (left : Option (List ℕ)) : Type 0 where
+  pub front : List ℕ
+  pub rest : List ℕ
+  pub left_is : left ≡ Some rest
+  pub sections : (f r : List ℕ) → sections_from begins rest ≡ Some (f, r) →
+      sections_of text ≡ Some (front ++ f, r)
+  pub so : P front
+
+abbrev pub Passed : (List ℕ → Type 0) → Bool → Option (List ℕ) → Option (List ℕ) → Type 0
+Passed P begins old left = IfSome old (λ text. PassedOf P begins text left)
+
+-- the first section was read up to its mark and P holds of its bytes; what follows the mark is left
+pub record EndedOf (P : List ℕ → Type 0) (text : List ℕ) (new : Option (List ℕ)) : Type 0 where
   pub front : List ℕ
   pub rest : List ℕ
   pub new_is : new ≡ Some rest
-  pub sections : (f r : List ℕ) → sections_from begins' rest ≡ Some (f, r) →
-      sections_from begins text ≡ Some (front ++ f, r)
+  pub sections : sections_of text ≡ Some (front, rest)
+  pub so : P front
 
-abbrev pub Passed : Bool → Bool → Option (List ℕ) → Option (List ℕ) → Type 0
-Passed begins begins' old new = IfSome old (λ text. PassedOf begins begins' text new)
+abbrev pub Ended : (List ℕ → Type 0) → Option (List ℕ) → Option (List ℕ) → Type 0
+Ended P old new = IfSome old (λ text. EndedOf P text new)

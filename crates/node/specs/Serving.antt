@@ -1,9 +1,12 @@
 -- What becomes of commands, one after the other.
-use Rattle.std.specs.Prelude.{◌≡◌, ℕ, List, [], length, Option}
+use Rattle.std.specs.Prelude.{◌≡◌, ◌<◌, ℕ, Bool, List, [], length, Option, Some, IfSome}
 use Rattle.std.specs.List.{All}
 use Rattle.std.specs.Io.KnownBytes.{Appends, Consumes, IsAtEnd, Keeps}
 use Rattle.ball_model.specs.Input.{Network}
-use Rattle.ball_model.specs.Job.{Job}
+use Rattle.ball_model.specs.Held.{start_holding}
+use Rattle.ball_model.specs.Job.{Job, job_of}
+use Rattle.ball_model.specs.PlanValue.{PlanValue}
+use Rattle.ball_model.specs.RunText.{Settings}
 use Rattle.ball_model.specs.Join.{Holding}
 use Rattle.ball_model.specs.State.{State}
 use Rattle.world.specs.declared.tell.TellError.{TellError}
@@ -12,6 +15,7 @@ use Rattle.node.specs.declared.command.Command.{Command}
 use Rattle.node.specs.declared.error.ServeError.{ServeError}
 use Rattle.node.specs.declared.error.ServeError.TheVariants as fault
 use Rattle.node.specs.NodeText.{Answers, AreAnswers, AllAsk, Asked, Asks, IsRequest, Request, after_all, after_asked, request_bytes, requests_text}
+use Rattle.node.specs.Job.{ReadsJobOf}
 use Rattle.node.specs.Turns.{Holds}
 
 -- ---- what errors are told as
@@ -89,3 +93,26 @@ pub record Serves (network : Network) (left left' : Option (List ℕ)) (v w : St
   pub number : ℕ
   pub some : ServesSome network number left left' v w old new
   pub end : IsAtEnd left'
+
+-- ---- a job, and what follows it
+
+-- a job was read, and all that follows it is requests; what they ask for, one after the other, is answered by the text as
+-- the job's node of partition p answers it from its start
+pub record ServesJobOf (s : Settings) (counted : Bool) (p : ℕ) (text : List ℕ)
+    (left : Option (List ℕ)) (old new : Option (List ℕ)) : Type 0 where
+  pub network : Network
+  pub plan : PlanValue
+  pub requests : List Request
+  pub job : ReadsJobOf s counted network plan text (Some (requests_text requests))
+  pub below : p < plan.parts
+  pub each : All IsRequest requests
+  pub end : IsAtEnd left
+  pub answers : List ℕ
+  pub appended : Appends old new answers
+  pub told : (asked : List Asked) → AllAsk (job_of network.graph plan) p requests asked →
+      AreAnswers (job_of network.graph plan) network.labels (start_holding plan p) asked answers
+
+abbrev pub ServesJob : Settings → Bool → ℕ → Option (List ℕ) → Option (List ℕ) →
+    Option (List ℕ) → Option (List ℕ) → Type 0
+ServesJob s counted p left left' old new =
+    IfSome left (λ text. ServesJobOf s counted p text left' old new)

@@ -40,9 +40,8 @@ pub fn length_of(command: Command) -> u64
     ensures { result ≡ body_length command }
 {
     match command {
-        Command::Deliver { length }
-        | Command::Restart { length }
-        | Command::Recover { length } => length,
+        Command::Deliver { length } | Command::Restart { length } | Command::Recover { length } =>
+            length,
         Command::Send { .. }
         | Command::Close
         | Command::Keep

@@ -2,9 +2,9 @@
 
 ghost use Rattle.std.specs.Prelude.{◌≡◌};
 
+use ball_model::PlanError;
 use checkpoint::KeepError;
 use edgelist::{CountedError, EdgeError};
-use ball_model::PlanError;
 use report::ReportError;
 use std::alloc::AllocError;
 use thiserror::Error;

@@ -3,7 +3,9 @@
 ghost use Rattle.std.specs.Prelude.{◌≡◌, ℕ, ◌<◌, ◌++◌, ◌∷◌, [], IfOk, OnOk, Some};
 ghost use Rattle.std.specs.Io.KnownBytes.{Consumes, IsAtEnd};
 ghost use Rattle.ball_model.specs.Job.{IsJob, job_of};
-ghost use Rattle.node.specs.Gathering.{Gathers, ReadsAll, ReadsOne, part_line, part_text};
+ghost use Rattle.node.specs.Gathering.{Gathers, GathersJob, ReadsAll, ReadsOne, part_line};
+ghost use Rattle.node.specs.Gathering.{part_text};
+ghost use Rattle.node.specs.Job.{settings_in};
 
 use crate::command::size;
 use crate::error::GatherError;
@@ -35,11 +37,7 @@ fn length_in(line: &[u8]) -> Option<u64>
 }
 
 // The length of the checkpoint of partition `p` that follows.
-fn read_length<R: CountedRead>(
-    alloc: Global,
-    reader: &mut R,
-    p: u16,
-) -> Result<u64, GatherError>
+fn read_length<R: CountedRead>(alloc: Global, reader: &mut R, p: u16) -> Result<u64, GatherError>
     ensures { IfOk result (λ n.
         Consumes (R.remaining reader.old) (R.remaining reader.new) (part_line n)) }
 {
@@ -168,6 +166,9 @@ pub fn gather<T: AllocGlobal + Threads + Sync, R: CountedRead, W: CountedWrite>(
     reader: &mut R,
     writer: &mut W,
 ) -> Result<(), GatherError>
+    ensures ok { OnOk result (GathersJob (settings_in options.now) options.now.counted
+        (R.remaining reader.old) (R.remaining reader.new)
+        (W.contents writer.old) (W.contents writer.new)) }
 {
     let (graph, plan) = read_job(rt.alloc(), state, options, reader)?;
     gather_parts(rt, &graph, &plan, reader, writer)

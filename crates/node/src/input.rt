@@ -63,7 +63,11 @@ pub fn read_line<R: CountedRead>(reader: &mut R, line: &mut Vec<u8>) -> Line
                     return Line::Memory;
                 };
             }
-            Next::End => return if line.is_empty() { Line::None } else { Line::Cut },
+            Next::End => return if line.is_empty() {
+                Line::None
+            } else {
+                Line::Cut
+            },
             Next::Failed => return Line::Failed,
         }
     }

@@ -1,17 +1,20 @@
 //! A job, read of an input up to a mark.
 
-ghost use Rattle.std.specs.Prelude.{◌≡◌, ◌<◌, IfOk};
+ghost use Rattle.std.specs.Prelude.{◌≡◌, ◌<◌, [], IfOk, OnOk};
 ghost use Rattle.std.specs.Arc.{arc_value};
 ghost use Rattle.ball_model.specs.Job.{IsJob, job_of, part_of};
 ghost use Rattle.ball_model.specs.PlanValue.{plan_of};
-ghost use Rattle.ball_model.specs.RunText.{plan_over};
-ghost use Rattle.node.specs.Job.{CountsSome, IsJobRead, SaysNetwork, numbers_in, settings_in};
+ghost use Rattle.ball_model.specs.Input.{IsPlain};
+ghost use Rattle.ball_model.specs.RunText.{network_in, plan_over};
+ghost use Rattle.edgelist.specs.Given.{IsGiven};
+ghost use Rattle.node.specs.Job.{CountsListed, ReadsJob, numbers_in, settings_in};
+ghost use Rattle.node.specs.Section.{Ended};
 
 use crate::error::JobError;
-use crate::section::{Cut, Section, Skipped, Step, next_step, skip};
+use crate::section::{Cut, Step, next_step};
 use ball_model::plan::MOST_VERTICES;
-use ball_model::{CountedRead, CountingReader, Estimate, Plan, PlanError};
-use edgelist::{Delimiter, EdgeLimits, Graph, MOST_RECORDS, Part, read_edges};
+use ball_model::{CountedRead, Estimate, Plan, PlanError};
+use edgelist::{Delimiter, EdgeLimits, EdgeReader, Graph, MOST_RECORDS, Part};
 use std::alloc::{AllocError, Global};
 use std::hash::RandomState;
 use std::sync::Arc;
@@ -44,6 +47,29 @@ pub struct JobOptions {
     pub counted: bool,
 }
 
+// Gives the bytes of a section to a reader of edges, up to the mark behind it.
+fn give_section<R: CountedRead>(
+    alloc: Global,
+    reader: &mut R,
+    edges: &mut EdgeReader,
+) -> Result<(), JobError>
+    ensures { (limits : EdgeLimits) (delimiter : Delimiter) →
+        IsGiven limits delimiter [] edges.old → OnOk result (Ended
+        (λ front. IsGiven limits delimiter front edges.new)
+        (R.remaining reader.old) (R.remaining reader.new)) }
+{
+    let mut cut = Cut::start();
+    for _ in 0..u64::MAX {
+        match next_step(reader, &mut cut) {
+            Step::Byte(byte) => edges.add(alloc, byte)?,
+            Step::Mark => return Ok(()),
+            Step::End => return Err(JobError::NoMark),
+            Step::Failed => return Err(JobError::Read),
+        }
+    }
+    Err(JobError::NoMark)
+}
+
 // The graph that a section says, which ends at a mark.
 fn read_graph<R: CountedRead>(
     alloc: Global,
@@ -51,22 +77,21 @@ fn read_graph<R: CountedRead>(
     options: &JobOptions,
     reader: &mut R,
 ) -> Result<Graph, JobError>
-    ensures { IfOk result (SaysNetwork (settings_in options.now) (R.remaining reader.old)) }
+    ensures { IfOk result (λ graph. Ended
+        (λ edges. IsPlain edges → network_in (settings_in options.now) edges ≡ Ok graph)
+        (R.remaining reader.old) (R.remaining reader.new)) }
 {
-    let mut cut = Cut::start();
-    let graph = {
-        let mut section = CountingReader::new(Section::new(reader, &mut cut));
-        read_edges(alloc, state, &mut section, options.delimiter, LIMITS)?
-    };
-    match skip(reader, &mut cut) {
-        Skipped::Marked => Ok(graph),
-        Skipped::Unmarked => Err(JobError::NoMark),
-        Skipped::Failed => Err(JobError::Read),
-    }
+    let mut edges = EdgeReader::new(alloc, state, options.delimiter, LIMITS)?;
+    give_section(alloc, reader, &mut edges)?;
+    let graph = edges.finish(alloc)?;
+    Ok(graph)
 }
 
-// The bytes of a section, which ends at a mark.
+// Reads the bytes of a section, which ends at a mark, into `list`, which is empty.
 fn read_list<R: CountedRead>(reader: &mut R, list: &mut Vec<u8>) -> Result<(), JobError>
+    requires { list.old.items ≡ [] }
+    ensures { OnOk result (Ended (λ front. list.new.items ≡ front)
+        (R.remaining reader.old) (R.remaining reader.new)) }
 {
     let mut cut = Cut::start();
     for _ in 0..MOST_LIST {
@@ -91,7 +116,8 @@ fn count_listed<R: CountedRead>(
     options: &JobOptions,
     reader: &mut R,
 ) -> Result<Graph, JobError>
-    ensures { IfOk result (CountsSome (settings_in options.now) options.now.counted graph) }
+    ensures { IfOk result (λ counted. CountsListed (settings_in options.now) options.now.counted
+        graph counted (R.remaining reader.old) (R.remaining reader.new)) }
 {
     if options.counted {
         let mut list = Vec::new(alloc);
@@ -137,8 +163,8 @@ pub fn read_job<R: CountedRead>(
     options: &JobOptions,
     reader: &mut R,
 ) -> Result<(Graph, Plan), JobError>
-    ensures read { IfOk result (λ both. IsJobRead (settings_in options.now) options.now.counted
-        (R.remaining reader.old) both.0 both.1) }
+    ensures read { IfOk result (λ both. ReadsJob (settings_in options.now) options.now.counted
+        both.0 both.1 (R.remaining reader.old) (R.remaining reader.new)) }
     ensures job { IfOk result (λ both. IsJob (job_of both.0.graph both.1)) }
 {
     let graph = read_graph(alloc, state, options, reader)?;

@@ -29,6 +29,5 @@ pub mod own;
 pub mod section;
 pub mod serve;
 pub mod session;
-
 #[cfg(test)]
 mod tests;

@@ -92,7 +92,13 @@ pub fn tell_own<W: CountedWrite>(
     let parts = u32::from(replica.plan().parts());
     let partition = replica.partition();
     for i in 0..replica.plan().part_size(partition) {
-        tell_vertex(alloc, graph, replica, i * parts + u32::from(partition), writer)?;
+        tell_vertex(
+            alloc,
+            graph,
+            replica,
+            i * parts + u32::from(partition),
+            writer,
+        )?;
     }
     Ok(())
 }

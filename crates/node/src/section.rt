@@ -1,22 +1,17 @@
 //! Sections of an input on a stream: one ends at the first line of exactly `%%`, and nothing behind that line is read.
 //!
-//! A [`Section`] is a reader of what stands before the mark, for callers that read a stream to its end; [`skip`] reads
-//! the rest of a section and tells whether it ended at a mark. Bytes are taken from the reader one at a time, so what
-//! follows the mark is still there: the reader underneath is to be a buffered one.
+//! [`next_step`] gives a section's bytes, one after the other, and then its end. What follows the mark is still in the
+//! reader: it is read a byte at a time, so the reader underneath is to be a buffered one.
 
-ghost use Rattle.std.specs.Prelude.{◌≡◌, ◌≢◌, ℕ, ◌∷◌, ◌==◌, [], ◌<◌, true, false, None, Some, IfOk, IsSome, OnErr, option_map};
-ghost use Rattle.std.specs.Io.KnownBytes.{Consumes, IsAtEnd, Keeps, ReadConsumes, prepend_known};
-ghost use Rattle.std.specs.Io.{ReadsAtMost};
+ghost use Rattle.std.specs.Prelude.{◌≡◌, ◌≢◌, ℕ, ◌∷◌, ◌==◌, [], true, false, option_map};
+ghost use Rattle.std.specs.Io.KnownBytes.{Consumes, IsAtEnd, Keeps, prepend_known};
 ghost use Rattle.ball_model.specs.Sections.{after_line, after_mark};
 ghost use Rattle.ball_model.specs.Streams.{Rises};
 ghost use Rattle.node.specs.Section.{EndsAtMark, Gives, IsAhead, IsByteOrEnd, IsOver, IsPast};
-ghost use Rattle.node.specs.Section.{LeavesRest, Passed};
-ghost use Rattle.node.specs.Section.{is_front, is_tail, section_left};
+ghost use Rattle.node.specs.Section.{is_front, is_tail};
 
 use arrayvec::ArrayVec;
 use ball_model::CountedRead;
-use std::io;
-use std::io::{ErrorKind, Read};
 
 /// What came of reading one byte.
 #[derive(Clone, Copy, Debug, PartialEq, Eq)]
@@ -58,10 +53,6 @@ pub struct Cut {
     begins: bool,
     // what was read of the reader, and is next
     ahead: ArrayVec<u8, 4>,
-    // whether the section has ended, and then whether a mark is its end
-    ended: Option<bool>,
-    // a call of the reader failed, and is still to be told
-    failed: bool,
     ghost at_line: { IsAhead begins ahead.items },
 }
 
@@ -70,13 +61,10 @@ impl Cut {
     pub fn start() -> Cut
         ensures begins { result.begins ≡ true }
         ensures ahead { result.ahead.items ≡ [] }
-        ensures ended { result.ended ≡ None }
     {
         Cut {
             begins: true,
             ahead: ArrayVec::new(),
-            ended: None,
-            failed: false,
         }
     }
 }
@@ -275,143 +263,24 @@ fn step_of<R: CountedRead>(reader: &mut R, begins: bool, ahead: &mut ArrayVec<u8
     }
 }
 
-/// The next byte of a section, or its end. Nothing is read behind the end.
+/// The next byte of a section, or its end. Nothing is read behind the end, after which it is not called again.
 pub fn next_step<R: CountedRead>(reader: &mut R, cut: &mut Cut) -> Step
-    // What is left of the section.
-    ensures given { (b : ℕ) → result ≡ Step.Byte b → Consumes
-        (section_left cut.old.ended cut.old.begins
-        (prepend_known cut.old.ahead.items (R.remaining reader.old)))
-        (section_left cut.new.ended cut.new.begins
-        (prepend_known cut.new.ahead.items (R.remaining reader.new))) (b ∷ []) }
-    ensures over { IsOver result → Consumes
-        (section_left cut.old.ended cut.old.begins
-        (prepend_known cut.old.ahead.items (R.remaining reader.old))) (Some []) [] }
-    ensures still { result ≡ Step.Failed → Keeps
-        (section_left cut.old.ended cut.old.begins
-        (prepend_known cut.old.ahead.items (R.remaining reader.old)))
-        (section_left cut.new.ended cut.new.begins
-        (prepend_known cut.new.ahead.items (R.remaining reader.new))) }
-    // What is left of the input behind it.
     ensures byte { (b : ℕ) → result ≡ Step.Byte b → Gives cut.old.begins b
         (prepend_known cut.old.ahead.items (R.remaining reader.old))
         (prepend_known cut.new.ahead.items (R.remaining reader.new)) }
     ensures next { (b : ℕ) → result ≡ Step.Byte b → cut.new.begins ≡ (b == 10) }
-    ensures open { (b : ℕ) → result ≡ Step.Byte b → cut.new.ended ≡ None }
-    ensures mark { result ≡ Step.Mark → cut.old.ended ≡ None → EndsAtMark cut.old.begins
+    ensures mark { result ≡ Step.Mark → EndsAtMark cut.old.begins
         (prepend_known cut.old.ahead.items (R.remaining reader.old)) (R.remaining reader.new) }
-    ensures ended { IsOver result → IsSome cut.new.ended }
+    ensures end { result ≡ Step.End →
+        IsAtEnd (prepend_known cut.old.ahead.items (R.remaining reader.old)) }
     ensures failed { result ≡ Step.Failed →
         Rises (R.failed_calls reader.old) (R.failed_calls reader.new) }
     ensures counted { result ≢ Step.Failed →
         R.failed_calls reader.new ≡ R.failed_calls reader.old }
 {
-    match cut.ended {
-        Some(true) => return Step::Mark,
-        Some(false) => return Step::End,
-        None => {}
-    }
     let step = step_of(reader, cut.begins, &mut cut.ahead);
-    match step {
-        Step::Byte(byte) => cut.begins = byte == b'\n',
-        Step::Mark => cut.ended = Some(true),
-        Step::End => cut.ended = Some(false),
-        Step::Failed => {}
+    if let Step::Byte(byte) = step {
+        cut.begins = byte == b'\n';
     }
     step
-}
-
-// Reads some bytes of a section into the front of `buf`, up to a call that fails.
-fn read_some<R: CountedRead>(reader: &mut R, cut: &mut Cut, buf: &mut [u8]) -> io::Result<usize>
-    ensures bound { ReadsAtMost result buf.new }
-    ensures bytes { ReadConsumes
-        (section_left cut.old.ended cut.old.begins
-        (prepend_known cut.old.ahead.items (R.remaining reader.old)))
-        (section_left cut.new.ended cut.new.begins
-        (prepend_known cut.new.ahead.items (R.remaining reader.new))) result buf.new }
-{
-    for i in 0..buf.len() {
-        match next_step(reader, cut) {
-            Step::Byte(byte) => buf[i] = byte,
-            Step::Mark | Step::End => return Ok(i),
-            Step::Failed => return told(cut, i),
-        }
-    }
-    Ok(buf.len())
-}
-
-// What is told of a call that failed behind so many bytes: these first, and the failure at the next call.
-fn told(cut: &mut Cut, count: usize) -> io::Result<usize>
-    ensures ok { IfOk result (λ n. n ≡ count) }
-    ensures some { IfOk result (λ n. 0 < n) }
-    ensures none { OnErr result (count ≡ 0) }
-    ensures begins { cut.new.begins ≡ cut.old.begins }
-    ensures ahead { cut.new.ahead ≡ cut.old.ahead }
-    ensures ended { cut.new.ended ≡ cut.old.ended }
-{
-    if count == 0 {
-        return Err(io::Error::from(ErrorKind::Other));
-    }
-    cut.failed = true;
-    Ok(count)
-}
-
-/// A reader of what is left of a section.
-#[derive(Drop)]
-pub struct Section<'a, R: CountedRead> {
-    reader: &'a mut R,
-    cut: &'a mut Cut,
-}
-
-impl<'a, R: CountedRead> Section<'a, R> {
-    /// The reader of a section.
-    pub fn new(reader: &'a mut R, cut: &'a mut Cut) -> Section<'a, R>
-        ensures reader { result.reader.now ≡ reader.entry.now }
-        ensures cut { result.cut.now ≡ cut.entry.now }
-    {
-        Section { reader, cut }
-    }
-}
-
-impl<'a, R: CountedRead> Read for Section<'a, R> {
-    ghost remaining = { λ s. section_left s.cut.now.ended s.cut.now.begins
-        (prepend_known s.cut.now.ahead.items (R.remaining s.reader.now)) };
-
-    fn read(&mut self, buf: &mut [u8]) -> io::Result<usize> {
-        if self.cut.failed {
-            return Err(io::Error::from(ErrorKind::Other));
-        }
-        read_some(self.reader, self.cut, buf)
-    }
-}
-
-/// What came of reading a section to its end.
-#[derive(Clone, Copy, Debug, PartialEq, Eq)]
-pub enum Skipped {
-    /// It ended at a mark, which is passed.
-    Marked,
-    /// The input ended.
-    Unmarked,
-    /// A call of the reader failed.
-    Failed,
-}
-
-/// Reads what is left of a section.
-pub fn skip<R: CountedRead>(reader: &mut R, cut: &mut Cut) -> Skipped
-    ensures marked { result ≡ Skipped.Marked → cut.old.ended ≡ None → LeavesRest cut.old.begins
-        (prepend_known cut.old.ahead.items (R.remaining reader.old)) (R.remaining reader.new) }
-    ensures failed { result ≡ Skipped.Failed →
-        Rises (R.failed_calls reader.old) (R.failed_calls reader.new) }
-{
-    if cut.failed {
-        return Skipped::Failed;
-    }
-    for _ in 0..u64::MAX {
-        match next_step(reader, cut) {
-            Step::Byte(_) => {}
-            Step::Mark => return Skipped::Marked,
-            Step::End => return Skipped::Unmarked,
-            Step::Failed => return Skipped::Failed,
-        }
-    }
-    Skipped::Unmarked
 }

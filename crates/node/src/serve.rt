@@ -8,7 +8,8 @@ ghost use Rattle.ball_model.specs.Job.{IsJob, job_of};
 ghost use Rattle.ball_model.specs.Held.{start_holding};
 ghost use Rattle.ball_model.specs.Streams.{Rises};
 ghost use Rattle.node.specs.NodeText.{body_length, command_in, sent_text};
-ghost use Rattle.node.specs.Serving.{ReadsRequest, Serves, ServesNone, ServesOne};
+ghost use Rattle.node.specs.Job.{settings_in};
+ghost use Rattle.node.specs.Serving.{ReadsRequest, Serves, ServesJob, ServesNone, ServesOne};
 ghost use Rattle.node.specs.Serving.{Steps};
 ghost use Rattle.node.specs.Stream.{HasNoEnd};
 ghost use Rattle.node.specs.declared.command.Command.TheVariants as order;
@@ -35,11 +36,7 @@ use world::answer::put_refusal;
 use world::tell::{tell_replica, write_lines};
 
 // Writes the line of what a node says.
-fn tell<W: CountedWrite>(
-    reply: Reply,
-    line: &mut Vec<u8>,
-    writer: &mut W,
-) -> Result<(), ServeError>
+fn tell<W: CountedWrite>(reply: Reply, line: &mut Vec<u8>, writer: &mut W) -> Result<(), ServeError>
     ensures { OnOk result (Appends (W.contents writer.old) (W.contents writer.new)
         (reply_text reply)) }
 {
@@ -397,12 +394,7 @@ pub fn serve_commands<R: CountedRead, W: CountedWrite>(
 }
 
 // A node of a partition of a job, at its start.
-fn start(
-    alloc: Global,
-    graph: &Graph,
-    plan: &Plan,
-    part: u16,
-) -> Result<Session, JobError>
+fn start(alloc: Global, graph: &Graph, plan: &Plan, part: u16) -> Result<Session, JobError>
     requires { IsJob (job_of graph.now.graph plan.now) }
     ensures part { IfOk result (λ _. part < plan.now.parts) }
     ensures start { IfOk result (Holds (job_of graph.now.graph plan.now) part
@@ -425,6 +417,9 @@ pub fn serve_node<R: CountedRead, W: CountedWrite>(
     reader: &mut R,
     writer: &mut W,
 ) -> Result<(), NodeError>
+    ensures ok { OnOk result (ServesJob (settings_in options.now) options.now.counted part
+        (R.remaining reader.old) (R.remaining reader.new)
+        (W.contents writer.old) (W.contents writer.new)) }
 {
     let (graph, plan) = read_job(alloc, state, options, reader)?;
     let mut session = start(alloc, &graph, &plan, part)?;

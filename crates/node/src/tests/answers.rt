@@ -2,13 +2,9 @@
 
 use super::*;
 
-const ROW_OF_A: [u8; 20] = [
-    0, 0, 0, 0, 0, 0, 0, 0, 0, 0, 0, 0, 0, 0, 0, 0, 0, 0, 3, 0,
-];
+const ROW_OF_A: [u8; 20] = [0, 0, 0, 0, 0, 0, 0, 0, 0, 0, 0, 0, 0, 0, 0, 0, 0, 0, 3, 0];
 
-const ROW_OF_B: [u8; 20] = [
-    0, 0, 0, 1, 0, 0, 0, 0, 0, 0, 1, 0, 0, 0, 0, 0, 0, 0, 0, 0,
-];
+const ROW_OF_B: [u8; 20] = [0, 0, 0, 1, 0, 0, 0, 0, 0, 0, 1, 0, 0, 0, 0, 0, 0, 0, 0, 0];
 
 #[test]
 fn a_lone_node_runs_to_its_end(rt: HostRuntime) {
@@ -31,12 +27,17 @@ vertex,x,11.390942,0.000000,0.000000,1.000000,15
 }
 
 /// Whether what a node sends begins with this line and these fixed fields, and ends with these.
-fn sends(lone: &mut Lone, alloc: Global, asked: &[u8], line: &[u8], front: &[u8], end: &[u8]) -> bool {
+fn sends(
+    lone: &mut Lone,
+    alloc: Global,
+    asked: &[u8],
+    line: &[u8],
+    front: &[u8],
+    end: &[u8],
+) -> bool {
     match answer(lone, alloc, asked) {
         Some(text) => {
-            text.starts_with(line)
-                && text[line.len()..].starts_with(front)
-                && text.ends_with(end)
+            text.starts_with(line) && text[line.len()..].starts_with(front) && text.ends_with(end)
         }
         None => false,
     }
@@ -46,8 +47,21 @@ fn sends(lone: &mut Lone, alloc: Global, asked: &[u8], line: &[u8], front: &[u8]
 fn send_the_table(a: &mut Lone, b: &mut Lone, alloc: Global) -> bool {
     let to_b = b"HBBT\x01\x04\0\0\0\0\0\0\0\x01".as_slice();
     let to_a = b"HBBT\x01\x04\0\0\0\0\0\x01\0\0".as_slice();
-    sends(a, alloc, b"send 1\n", b"sent 0 0 1 2 1 74\n", to_b, &ROW_OF_A)
-        && sends(b, alloc, b"send 0\n", b"sent 0 1 0 1 1 74\n", to_a, &ROW_OF_B)
+    sends(
+        a,
+        alloc,
+        b"send 1\n",
+        b"sent 0 0 1 2 1 74\n",
+        to_b,
+        &ROW_OF_A,
+    ) && sends(
+        b,
+        alloc,
+        b"send 0\n",
+        b"sent 0 1 0 1 1 74\n",
+        to_a,
+        &ROW_OF_B,
+    )
 }
 
 #[test]
@@ -103,7 +117,12 @@ fn goes_on(a: &mut Lone, b: &mut Lone, fresh: &mut Lone, alloc: Global) -> Optio
     let shown = answer(b, alloc, b"show\n")?;
     let mut right = says_to(fresh, alloc, b"restart ", &kept, b"restarted 0\n");
     right &= says(fresh, alloc, b"show\n", &shown);
-    right &= says(fresh, alloc, b"close\nrestart 0\n", b"closed 1\nrestarted 0\n");
+    right &= says(
+        fresh,
+        alloc,
+        b"close\nrestart 0\n",
+        b"closed 1\nrestarted 0\n",
+    );
     right &= says(fresh, alloc, b"close\n", b"waiting 0\n");
     right &= says_to(fresh, alloc, b"recover ", &kept, b"merged 0\n");
     right &= says(fresh, alloc, b"show\n", &shown);

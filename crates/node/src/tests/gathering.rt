@@ -84,7 +84,11 @@ fn gathers<T: AllocGlobal + RandomSource + Threads + Sync>(
     right &= fails(rt, &[&first], GatherError::Missing { part: 1 })?;
     right &= fails(rt, &[&first, &second, &[]], GatherError::Trailing)?;
     let error = checkpoint::KeepError::OtherPart;
-    right &= fails(rt, &[&first, &first], GatherError::Checkpoint { part: 1, error })?;
+    right &= fails(
+        rt,
+        &[&first, &first],
+        GatherError::Checkpoint { part: 1, error },
+    )?;
     Some(right)
 }
 

@@ -15,7 +15,14 @@ fn with_byte(alloc: Global, batch: &[u8], place: usize, byte: u8) -> Result<Vec<
 }
 
 /// Whether a node answers this to a batch with another byte at a place.
-fn refuses(lone: &mut Lone, alloc: Global, batch: &[u8], place: usize, byte: u8, text: &[u8]) -> bool {
+fn refuses(
+    lone: &mut Lone,
+    alloc: Global,
+    batch: &[u8],
+    place: usize,
+    byte: u8,
+    text: &[u8],
+) -> bool {
     match with_byte(alloc, batch, place, byte) {
         Ok(batch) => says_to(lone, alloc, b"deliver ", &batch, text),
         Err(_) => false,
@@ -100,15 +107,55 @@ fn ends(lone: &mut Lone, alloc: Global, asked: &[u8], text: &[u8], end: ServeErr
 
 /// Inputs at which a node gives up.
 fn gives_up(b: &mut Lone, alloc: Global) -> bool {
-    ends(b, alloc, b"close\nopen\n", b"waiting 0\n", ServeError::Command { number: 2 })
-        && ends(b, alloc, b"close now\n", b"", ServeError::Command { number: 1 })
-        && ends(b, alloc, b"\n", b"", ServeError::Command { number: 1 })
-        && ends(b, alloc, b"send 00\n", b"", ServeError::Command { number: 1 })
-        && ends(b, alloc, &[b'x'; 70], b"", ServeError::Command { number: 1 })
+    ends(
+        b,
+        alloc,
+        b"close\nopen\n",
+        b"waiting 0\n",
+        ServeError::Command { number: 2 },
+    ) && ends(
+        b,
+        alloc,
+        b"close now\n",
+        b"",
+        ServeError::Command { number: 1 },
+    ) && ends(b, alloc, b"\n", b"", ServeError::Command { number: 1 })
+        && ends(
+            b,
+            alloc,
+            b"send 00\n",
+            b"",
+            ServeError::Command { number: 1 },
+        )
+        && ends(
+            b,
+            alloc,
+            &[b'x'; 70],
+            b"",
+            ServeError::Command { number: 1 },
+        )
         && ends(b, alloc, b"close", b"", ServeError::Cut { number: 1 })
-        && ends(b, alloc, b"deliver 3\nab", b"", ServeError::Cut { number: 1 })
-        && ends(b, alloc, b"deliver 95\n", b"", ServeError::Length { number: 1 })
-        && ends(b, alloc, b"restart 99999999\n", b"", ServeError::Length { number: 1 })
+        && ends(
+            b,
+            alloc,
+            b"deliver 3\nab",
+            b"",
+            ServeError::Cut { number: 1 },
+        )
+        && ends(
+            b,
+            alloc,
+            b"deliver 95\n",
+            b"",
+            ServeError::Length { number: 1 },
+        )
+        && ends(
+            b,
+            alloc,
+            b"restart 99999999\n",
+            b"",
+            ServeError::Length { number: 1 },
+        )
 }
 
 #[test]
@@ -116,13 +163,23 @@ fn what_is_no_command_ends_a_node(rt: HostRuntime) {
     let mut right = false;
     if let Some(mut b) = node_of(&rt, TWO_EDGES, 2, 1) {
         right = gives_up(&mut b, rt.alloc());
-        right &= says(&mut b, rt.alloc(), b"send 1\nsend 2\n", b"refused no-target\nrefused no-target\n");
+        right &= says(
+            &mut b,
+            rt.alloc(),
+            b"send 1\nsend 2\n",
+            b"refused no-target\nrefused no-target\n",
+        );
     }
     assert!(rt; right);
 }
 
 /// How a node ends whose input is this.
-fn end_of(rt: &HostRuntime, counted: bool, part: u16, input: &[u8]) -> Option<Result<(), NodeError>> {
+fn end_of(
+    rt: &HostRuntime,
+    counted: bool,
+    part: u16,
+    input: &[u8],
+) -> Option<Result<(), NodeError>> {
     let state = RandomState::new(rt).ok()?;
     let mut writer = MemWriter::with_room(rt.alloc(), 4096, None).ok()?;
     let mut reader = MemReader::new(input, None);
@@ -140,6 +197,9 @@ fn an_input_that_says_no_job_is_refused(rt: HostRuntime) {
     assert_eq!(rt; end_of(&rt, true, 0, b"a\tb\n%%\na\n"), no_list);
     let no_part = Some(Err(NodeError::Job(JobError::Part)));
     assert_eq!(rt; end_of(&rt, false, 2, b"a\tb\n%%\n"), no_part);
-    assert_eq!(rt; end_of(&rt, false, 0, b"a\tb\r\n%%\r\nclose\n"), Some(Ok(())));
+    assert_eq!(rt;
+        end_of(&rt, false, 0, b"a\tb\r\n%%\r\nclose\n"),
+        Some(Ok(()))
+    );
     assert_eq!(rt; end_of(&rt, true, 0, b"a\tb\n%%\na\n%%"), Some(Ok(())));
 }
