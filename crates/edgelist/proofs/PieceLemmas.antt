@@ -1,6 +1,6 @@
 -- What of an edge list is read some lines at a time.
-use Rattle.std.proofs.Common.{◌≡◌, ◌∙◌, ◌+◌, ℕ, List, [], ◌∷◌, ◌++◌, Bool, true, false, ◌==◌, ◌&&◌, length, arith, ap, refl, sym, subst, append_assoc, inl, inr, map, Ok}
-use Rattle.std.specs.Prelude.{◌⊎◌, Option, Result}
+use Rattle.std.proofs.Common.{◌≡◌, ◌∙◌, ◌+◌, ℕ, List, [], ◌∷◌, ◌++◌, false, ◌==◌, arith, ap, refl, sym, subst, append_assoc, inl, inr, map, Ok}
+use Rattle.std.specs.Prelude.{Option}
 use Rattle.std.specs.List.{filter}
 use Rattle.std.proofs.lemmas.Bool.{cases_Bool}
 use Rattle.std.proofs.lemmas.List.{append-nil, length-append, map-append}
@@ -9,7 +9,7 @@ use Rattle.csv.specs.declared.reader.Reader.{Reader}
 use Rattle.ball_model.specs.Input.{HasLfs, IsPlain, Limits, StartsWithLf, fields, has_mark, is_record, lines, network_from, records}
 use Rattle.edgelist.specs.Pieces.{EndsLine, IsHeld, IsThrough}
 use Rattle.edgelist.specs.Records.{IsLeft, config, is_row, rows}
-use Rattle.edgelist.specs.Reading.{Adds, IsReadAs, Refuses, Stops, network_by}
+use Rattle.edgelist.specs.Reading.{Adds, Refuses, Stops, network_by}
 use Rattle.edgelist.specs.declared.edge.Edge.{Edge}
 use Rattle.edgelist.specs.declared.read.EdgeError.{EdgeError}
 use Rattle.edgelist.proofs.FaultLemmas.{clean-more, clean-none, says-network, says-refusal}

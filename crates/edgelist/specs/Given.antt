@@ -1,5 +1,5 @@
 -- What a reader of bytes was given.
-use Rattle.std.specs.Prelude.{◌≡◌, ℕ, List, [], ◌∷◌, ◌++◌, Option, None}
+use Rattle.std.specs.Prelude.{◌≡◌, ℕ, List, ◌++◌, None}
 use Rattle.ball_model.specs.Input.{IsPlain, in_force, records}
 use Rattle.edgelist.specs.Pieces.{EndsLine, IsHeld, IsThrough}
 use Rattle.edgelist.specs.Reading.{byte_of, limits_of}

@@ -3,9 +3,11 @@
 //! Whoever has a reader that goes on behind the edge list reads it byte by byte, and gives these bytes to an
 //! [`EdgeReader`]. It holds some lines at a time and never the whole edge list.
 
-ghost use Rattle.std.specs.Prelude.{◌≡◌, ◌<◌, ◌≤◌, ◌++◌, ◌∷◌, [], ℕ, List, None, Some, IfErr, IfOk, OnOk, length};
+ghost use Rattle.std.specs.Prelude.{◌≡◌, ◌≢◌, ◌<◌, ◌≤◌, ◌++◌, ◌∷◌, [], ℕ, List, None, Some, length};
+ghost use Rattle.std.specs.Prelude.{Err, IfErr, IfOk, IfSome, Ok, OnOk, Result};
 ghost use Rattle.std.proofs.Props.{props};
-ghost use Rattle.ball_model.specs.Input.{IsPlain, most_records, network_from, records};
+ghost use Rattle.ball_model.specs.Input.{IsPlain, Network, Refusal, most_records, network_from};
+ghost use Rattle.ball_model.specs.Input.{records};
 ghost use Rattle.ball_model.specs.PlanValue.{most_vertices};
 ghost use Rattle.edgelist.specs.Pieces.{IsThrough};
 ghost use Rattle.edgelist.specs.Reading.{AreWithin, Refuses, byte_of, limits_of, meaning_of};
@@ -57,6 +59,20 @@ fn read_more<R: Read + Drop>(
     Err(EdgeError::TooManyEdges)
 }
 
+// What is told of lines in memory, of which no call can fail.
+fn without_read(read: Result<u64, EdgeError>) -> Result<u64, EdgeError>
+    ensures ok { IfOk result (λ n. read ≡ Ok n) }
+    ensures refused { (says : Result Network Refusal) → IfErr read (Refuses says) →
+        IfErr result (Refuses says) }
+    ensures read { result ≢ Err EdgeError.Read }
+{
+    match read {
+        Ok(number) => Ok(number),
+        Err(EdgeError::Read) => Err(EdgeError::Memory),
+        Err(error) => Err(error),
+    }
+}
+
 // Adds the records of some lines, which follow `number` others, and tells how many there are then.
 fn read_lines(
     reading: &mut Reading,
@@ -82,10 +98,12 @@ fn read_lines(
         IsThrough (limits_of limits) number before reading.old.labels reading.old.edges.items →
         IfErr result (Refuses (network_from (limits_of limits)
         (before ++ (records (byte_of delimiter) lines.now ++ more)))) }
+    ensures read { result ≢ Err EdgeError.Read }
 {
     let mut reader = reader_of(alloc, lines, delimiter);
     let mut row = ByteRecord::new(alloc);
-    read_more(reading, alloc, &mut reader, &mut row, number, limits)
+    let read = read_more(reading, alloc, &mut reader, &mut row, number, limits);
+    without_read(read)
 }
 
 /// Reads an edge list whose bytes are given one at a time.
@@ -102,9 +120,11 @@ pub struct EdgeReader {
     failed: Option<EdgeError>,
     ghost vertices: { limits.vertices ≤ most_vertices },
     ghost edges: { limits.edges ≤ most_records },
+    ghost read: { failed ≢ Some EdgeError.Read },
     ghost few: { failed ≡ None → number ≤ limits.edges },
     ghost within: { failed ≡ None →
-        AreWithin limits.vertices number reading.labels reading.edges.items } by { Prim.hlevel props },
+        AreWithin limits.vertices number
+        reading.labels reading.edges.items } by { Prim.hlevel props },
 }
 
 impl EdgeReader {
@@ -146,6 +166,8 @@ impl EdgeReader {
         ensures refused { (limits : EdgeLimits) (delimiter : Delimiter) (text more : List ℕ) →
             IsGiven limits delimiter text self.old → EndsLine text → IsPlain (text ++ more) →
             IfErr result (Refuses (meaning_of limits delimiter (text ++ more))) }
+        ensures stays { IfErr result (λ e. self.new.failed ≡ Some e) }
+        ensures read { result ≢ Err EdgeError.Read }
     {
         match read_lines(
             &mut self.reading,
@@ -179,6 +201,9 @@ impl EdgeReader {
         ensures refused { (limits : EdgeLimits) (delimiter : Delimiter) (text more : List ℕ) →
             IsGiven limits delimiter text self.old → IsPlain (text ++ byte ∷ more) →
             IfErr result (Refuses (meaning_of limits delimiter (text ++ byte ∷ more))) }
+        ensures again { IfSome self.old.failed (λ e. result ≡ Err e) }
+        ensures stays { IfErr result (λ e. e ≢ EdgeError.Memory → self.new.failed ≡ Some e) }
+        ensures read { result ≢ Err EdgeError.Read }
     {
         if let Some(error) = self.failed {
             return Err(error);
@@ -200,6 +225,8 @@ impl EdgeReader {
         ensures refused { (limits : EdgeLimits) (delimiter : Delimiter) (text : List ℕ) →
             IsGiven limits delimiter text self → IsPlain text →
             IfErr result (Refuses (meaning_of limits delimiter text)) }
+        ensures again { IfSome self.failed (λ e. result ≡ Err e) }
+        ensures read { result ≢ Err EdgeError.Read }
     {
         if let Some(error) = self.failed {
             return Err(error);

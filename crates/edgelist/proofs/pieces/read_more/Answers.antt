@@ -1,7 +1,6 @@
 use Rattle.std.proofs.Common.{◌≡◌, arith, true, false}
 use Rattle.std.proofs.lemmas.Result.{err_from_is_err_and}
 use Rattle.csv.specs.Records.{fields_of}
-use Rattle.ball_model.specs.Input.{records, network_from}
 use Rattle.edgelist.specs.Reading.{limits_of}
 use Rattle.edgelist.proofs.PieceLemmas.{runs-end, runs-more, runs-start, runs-stop}
 use Rattle.edgelist.proofs.pieces.read_more.Goals as goal
