@@ -1,6 +1,11 @@
 -- Checkpoints of partitions, one after the other.
-use Rattle.std.proofs.Common.{◌≡◌, ◌∙◌, ℕ, zero, suc, ◌+◌, ◌<◌, List, [], ◌∷◌, ◌++◌, length, get_or, refl, ap, sym, subst, append_assoc, append-nil, length-append, arith}
-use Rattle.std.specs.Prelude.{Option}
+use Rattle.std.proofs.Common.{◌≡◌, ◌∙◌, ℕ, zero, suc, ◌+◌, ◌<◌, ◌==◌, ◌&&◌, Bool, true, false, if◌then◌else◌, List, [], ◌∷◌, ◌++◌, length, get_or, refl, ap, sym, subst, append_assoc, append-nil, length-append, arith}
+use Rattle.std.specs.Prelude.{Option, None, Some, codes, decimal, nat_lt, ◌^◌}
+use Rattle.std.specs.Str.{bytes_eq}
+use Rattle.std.proofs.lemmas.Bool.{eqb-true}
+use Rattle.std.proofs.lemmas.Slice.Eq.{bytes_eq-Decides}
+use Rattle.ball_model.specs.WorldText.{value_from}
+use Rattle.world.specs.Script.{cut_of, longer}
 use Rattle.std.specs.List.{All}
 use Rattle.std.specs.Io.KnownBytes.{Appends, Consumes, IsAtEnd}
 use Rattle.std.proofs.KnownBytes.{Consumes-nil, Consumes-trans}
@@ -8,8 +13,9 @@ use Rattle.std.proofs.lemmas.List.Elements.{All-nil, All-cons}
 use Rattle.ball_model.specs.Job.{Job, IsJob, PartValue, part_of}
 use Rattle.ball_model.specs.PlanValue.{PlanValue}
 use Rattle.ball_model.specs.State.{State, StandsFor}
-use Rattle.report.specs.Ready.{AllStand}
-use Rattle.node.specs.Gathering.{AreGivenBack, AreMadeOf, IsMadeOf, ReadsAll, ReadsOne, part_text, parts_text}
+use Rattle.report.specs.Ready.{AllStand, job_report}
+use Rattle.node.specs.Gathering.{AreGivenBack, AreMadeOf, Gathers, IsMadeOf, ReadsAll, ReadsOne, part_line, part_text, parts_text}
+use Rattle.node.specs.NodeText.{size_in}
 use Rattle.node.specs.Turns.{Holds}
 
 -- ---- one more
@@ -69,3 +75,57 @@ all_vertices j p n (b ∷ bodies) (v ∷ vs) job is made =
     All-cons (λ (v : State). v.part.plan.vertices ≡ n) v vs
     (ap (λ (x : PartValue). x.plan.vertices) made.0.part_is ∙ job.vertices ∙ sym is)
     (all_vertices j (p + 1) n bodies vs job is made.1)
+
+-- ---- the line before a checkpoint
+same_pair : (p q : List ℕ × List ℕ) → Some p ≡ Some q → p ≡ q
+same_pair p q is = cc
+
+cut_step : (d c : ℕ) (xs a b : List ℕ) (t : Bool) (o : Option (List ℕ × List ℕ)) → (c == d) ≡ t →
+    ((x y : List ℕ) → o ≡ Some (x, y) → xs ≡ x ++ d ∷ y) → (if t then Some ([], xs) else longer c o) ≡ Some (a, b) → c ∷ xs ≡ a ++ d ∷ b
+cut_step d c xs a b true o same rest is =
+    let first : c ≡ d = eqb-true c d same in
+    let both = same_pair ([], xs) (a, b) is in
+    ap (λ (x : ℕ). x ∷ xs) first ∙ ap (λ p. p.0 ++ d ∷ p.1) both
+cut_step d c xs a b false None same rest is = absurd (cc)
+cut_step d c xs a b false (Some s) same rest is =
+    let both = same_pair (c ∷ s.0, s.1) (a, b) is in
+    ap (λ (l : List ℕ). c ∷ l) (rest s.0 s.1 refl) ∙ ap (λ p. p.0 ++ d ∷ p.1) both
+
+cut_split : (d : ℕ) (xs a b : List ℕ) → cut_of d xs ≡ Some (a, b) → xs ≡ a ++ d ∷ b
+unfolding cut_of
+cut_split d [] a b is = absurd (cc)
+cut_split d (c ∷ xs) a b is = cut_step d c xs a b (c == d) (cut_of d xs) refl (cut_split d xs) is
+
+size_test : (word : List ℕ) (v n : ℕ) (t u : Bool) → u ≡ bytes_eq word (decimal v) → Some n ≡ (if t && u then Some v else None) → word ≡ decimal n
+size_test word v n true true same is =
+    let one : n ≡ v = cc in
+    (bytes_eq-Decides word (decimal v)).0 (sym same) ∙ ap decimal (sym one)
+size_test word v n true false same is = absurd (cc)
+size_test word v n false u same is = absurd (cc)
+
+size_spelled : (word : List ℕ) (n : ℕ) → Some n ≡ size_in word → word ≡ decimal n
+unfolding size_in
+size_spelled word n is = size_test word (value_from 0 word) n (nat_lt (value_from 0 word) (10 ^ 18)) (bytes_eq word (decimal (value_from 0 word))) refl is
+
+pub part_spelled : (line a b : List ℕ) (n : ℕ) → Some (a, b) ≡ cut_of 32 line → bytes_eq a (codes "part") ≡ true → Some n ≡ size_in b → line ++ 10 ∷ [] ≡ part_line n
+part_spelled line a b n is word size =
+    ap (λ (l : List ℕ). l ++ 10 ∷ []) (cut_split 32 line a b (sym is))
+    ∙ append_assoc a (32 ∷ b) (10 ∷ [])
+    ∙ ap (λ (l : List ℕ). l ++ 32 ∷ (b ++ 10 ∷ [])) ((bytes_eq-Decides a (codes "part")).0 word)
+    ∙ ap (λ (l : List ℕ). codes "part" ++ 32 ∷ (l ++ 10 ∷ [])) (size_spelled b n size)
+
+-- ---- all of them
+pub all_vertices_read : (j : Job) (n m : ℕ) (a b : Option (List ℕ)) (vs : List State) → IsJob j → n ≡ j.graph.vertices → ReadsAll j m a b vs → All (λ (v : State). v.part.plan.vertices ≡ n) vs
+all_vertices_read j n m a b vs job is s = all_vertices j 0 n s.bodies vs job is s.made
+
+pub gathered : (j : Job) (labels : List (List ℕ)) (a b c x y : Option (List ℕ)) (vs : List State) → ReadsAll j j.plan.parts a b vs → Consumes b c [] → IsAtEnd c → (AllStand j vs → Appends x y (job_report j labels)) → Gathers j labels a c x y
+gathered j labels a b c x y vs s none end told = record {
+  bodies = s.bodies;
+  count = s.count;
+  consumed = subst (Consumes a c) (append-nil (parts_text s.bodies)) (Consumes-trans a b c (parts_text s.bodies) [] s.consumed none);
+  end = end;
+  report = λ given. told (all_stand j s.bodies vs s.made given);
+}
+
+pub reads_part : (a b c : Option (List ℕ)) (n : ℕ) (body : List ℕ) → Consumes a b (part_line n) → Consumes b c body → length body ≡ n → Consumes a c (part_text body)
+reads_part a b c n body one two long = subst (λ (k : ℕ). Consumes a c (part_line k ++ body)) (sym long) (Consumes-trans a b c (part_line n) body one two)

@@ -5,4 +5,4 @@ pub mod SectionLemmas
 pub mod OwnLemmas
 pub mod CommandLemmas
 pub mod GatherLemmas
-pub mod PassLemmas
+pub mod JobLemmas

@@ -1,10 +1,11 @@
 -- What is read ahead of a section, and what a step through it does.
-use Rattle.std.proofs.Common.{◌≡◌, ◌≢◌, ◌∙◌, ℕ, ◌==◌, Bool, true, false, not, ◌&&◌, if◌then◌else◌, List, [], ◌∷◌, ◌++◌, refl, ap, sym, subst, append-nil, append_assoc}
-use Rattle.std.specs.Prelude.{Option, None, Some, IfSome, option_map}
+use Rattle.std.proofs.Common.{◌≡◌, ◌≢◌, ◌∙◌, ℕ, ◌==◌, ◌+◌, ◌<◌, Bool, true, false, not, ◌&&◌, if◌then◌else◌, List, [], ◌∷◌, ◌++◌, length, refl, ap, sym, subst, append-nil, append_assoc, arith}
+use Rattle.std.specs.Prelude.{Option, None, Some, IfSome, IsSome, option_map, remove, slice_index_or}
 use Rattle.std.specs.Io.KnownBytes.{Consumes, IsAtEnd, Keeps, prepend_known}
+use Rattle.std.proofs.KnownBytes.{prepend_known-end}
 use Rattle.std.proofs.lemmas.Bool.{eqb-true}
 use Rattle.ball_model.specs.Sections.{after_line, after_mark, longer, sections_from, sections_or}
-use Rattle.node.specs.Section.{EndsAtMark, EndsOf, Gives, GivesOf, IsAhead, IsPast, RestOf, front_in, front_of, is_front, is_tail, section_left}
+use Rattle.node.specs.Section.{EndsAtMark, EndsOf, Gives, GivesOf, IsAhead, IsPast, Passed, PassedOf, ReadsSection, SectionOf, is_front, is_tail}
 
 -- ---- two tests
 both_left : (a b : Bool) → (a && b) ≡ true → a ≡ true
@@ -148,31 +149,124 @@ ends_here (b ∷ text) rest is = record {
   sections = ap (λ (o : Option (List ℕ)). sections_or o (longer b (sections_from (b == 10) text))) is;
 }
 
--- ---- what is left of a section
-front_longer : (b : ℕ) (text rest : List ℕ) (o : Option (List ℕ × List ℕ)) → text ≡ b ∷ rest → front_in text (longer b o) ≡ b ∷ front_in rest o
-front_longer b text rest None is = is
-front_longer b text rest (Some s) is = refl
+-- ---- what is read ahead
+pub ahead_none : (t : Bool) (xs : List ℕ) → xs ≡ [] → IsAhead t xs
+unfolding is_tail
+ahead_none t xs is = subst (IsAhead t) (sym is) (record { front = λ e. refl; tail = refl })
 
-pub left_gives : (begins begins' : Bool) (b : ℕ) (old new : Option (List ℕ)) → begins' ≡ (b == 10) → Gives begins b old new → Consumes (section_left None begins old) (section_left None begins' new) (b ∷ [])
-unfolding front_of
-left_gives begins begins' b None new next g = tt
-left_gives begins begins' b (Some text) new next g =
-    let front : front_of begins text ≡ b ∷ front_of (b == 10) g.rest =
-    ap (front_in text) g.sections ∙ front_longer b text g.rest (sections_from (b == 10) g.rest) g.text_is in
-    subst (λ (o : Option (List ℕ)). Consumes (Some (front_of begins text)) (section_left None begins' o) (b ∷ [])) (sym g.new_is)
-    (subst (λ (t : Bool). Consumes (Some (front_of begins text)) (Some (front_of t g.rest)) (b ∷ [])) (sym next) front)
+pub empty_is : (xs : List ℕ) (t : Bool) → t ≡ (length xs == 0) → t ≡ true → xs ≡ []
+empty_is [] t is e = refl
+empty_is (x ∷ xs) t is e =
+    let none : length (x ∷ xs) ≡ 0 = eqb-true (length (x ∷ xs)) 0 (sym is ∙ e) in
+    absurd (omega arith)
 
-pub left_marked : (begins begins' : Bool) (old new : Option (List ℕ)) → EndsAtMark begins old new → Consumes (section_left None begins old) (Some ([])) []
-unfolding front_of
-left_marked begins begins' None new e = tt
-left_marked begins begins' (Some text) new e = ap (front_in text) e.sections
+-- the first is taken
+pub popped : (xs ys : List ℕ) (r n : ℕ) → n + 1 ≡ length xs → r ≡ slice_index_or xs 0 r → ys ≡ remove xs 0 → xs ≡ r ∷ ys
+popped [] ys r n long is rest = absurd (omega arith)
+popped (x ∷ xs) ys r n long is rest = ap (λ (h : ℕ). h ∷ xs) (sym is) ∙ ap (λ (l : List ℕ). r ∷ l) (sym rest)
 
-pub left_ended : (begins : Bool) (old : Option (List ℕ)) → IsAtEnd old → Consumes (section_left None begins old) (Some ([])) []
-unfolding front_of sections_from
-left_ended begins None e = tt
-left_ended begins (Some text) e = subst (λ (l : List ℕ). front_of begins l ≡ []) (sym e) refl
+pub popped_ahead : (xs ys : List ℕ) (r b n : ℕ) → is_tail xs ≡ true → n + 1 ≡ length xs → r ≡ slice_index_or xs 0 r → ys ≡ remove xs 0 → r ≡ b → IsAhead (b == 10) ys
+popped_ahead xs ys r b n tail long is rest same =
+    subst (λ (x : ℕ). IsAhead (x == 10) ys) same (tail_rest r ys (subst (λ (l : List ℕ). is_tail l ≡ true) (popped xs ys r n long is rest) tail))
 
--- ---- the rest of a section
-pub rest_here : (begins : Bool) (old new : Option (List ℕ)) → EndsAtMark begins old new → IfSome old (λ text. RestOf begins text new)
-rest_here begins None new e = tt
-rest_here begins (Some text) new e = record { front = []; rest = e.rest; new_is = e.new_is; sections = e.sections }
+pub gives_ahead : (b : ℕ) (xs ys : List ℕ) (left : Option (List ℕ)) → xs ≡ b ∷ ys → Gives false b (prepend_known xs left) (prepend_known ys left)
+gives_ahead b xs ys None is = tt
+gives_ahead b xs ys (Some rest) is =
+    subst (λ (l : List ℕ). GivesOf false b (l ++ rest) (Some (ys ++ rest))) (sym is) (gives_in_line b (ys ++ rest))
+
+pub gives_next : (b : ℕ) (xs : List ℕ) (old new : Option (List ℕ)) → xs ≡ [] → Consumes old new (b ∷ []) → Gives false b (prepend_known xs old) (prepend_known xs new)
+gives_next b xs None new none c = tt
+gives_next b xs (Some text) None none c = absurd c
+gives_next b xs (Some text) (Some rest) none c =
+    subst (λ (l : List ℕ). GivesOf false b (l ++ text) (Some (l ++ rest))) (sym none)
+    (subst (λ (l : List ℕ). GivesOf false b l (Some rest)) (sym c) (gives_in_line b rest))
+
+pub front_few : (xs : List ℕ) → is_front xs ≡ true → length xs < 4
+front_few [] is = omega arith
+front_few (a ∷ []) is = omega arith
+front_few (a ∷ b ∷ []) is = omega arith
+front_few (a ∷ b ∷ c ∷ []) is = omega arith
+front_few (a ∷ b ∷ c ∷ d ∷ more) is = absurd (cc)
+
+pub front_tail : (t : Bool) (xs : List ℕ) → is_front xs ≡ true → IsAhead t xs
+front_tail t xs is = record { front = λ e. is; tail = (front_past xs is).tail }
+
+pub pushed : (a b c : Option (List ℕ)) (xs ys : List ℕ) (x : ℕ) → Keeps a (prepend_known xs b) → Consumes b c (x ∷ []) → ys ≡ xs ++ x ∷ [] → Keeps a (prepend_known ys c)
+pushed None b c xs ys x k s is = tt
+pushed (Some t) None c xs ys x k s is = absurd k
+pushed (Some t) (Some u) None xs ys x k s is = absurd s
+pushed (Some t) (Some u) (Some v) xs ys x k s is =
+    ap (λ (l : List ℕ). l ++ v) is ∙ append_assoc xs (x ∷ []) v ∙ ap (λ (l : List ℕ). xs ++ l) (sym s) ∙ k
+
+pub pushed_past : (xs ys : List ℕ) (x : ℕ) → is_front xs ≡ true → ys ≡ xs ++ x ∷ [] → IsPast ys
+pushed_past xs ys x is more = subst IsPast (sym more) (past_front xs x is)
+
+pub kept_more : (a b c : Option (List ℕ)) (xs : List ℕ) → Keeps a (prepend_known xs b) → Keeps b c → Keeps a (prepend_known xs c)
+kept_more None b c xs k s = tt
+kept_more (Some t) None c xs k s = absurd k
+kept_more (Some t) (Some u) None xs k s = absurd s
+kept_more (Some t) (Some u) (Some v) xs k s = ap (λ (l : List ℕ). xs ++ l) s ∙ k
+
+-- ---- where a line begins
+onto_nil : (o : Option (List ℕ)) → onto [] o ≡ o
+onto_nil None = refl
+onto_nil (Some l) = ap Some (append-nil l)
+
+after_text : (xs u : List ℕ) (f : Bool) → is_front xs ≡ f → (f ≡ true → u ≡ []) → after_mark (xs ++ u) ≡ onto u (after_mark xs)
+after_text xs u false is end = known xs u is
+after_text xs u true is end =
+    subst (λ (l : List ℕ). after_mark (xs ++ l) ≡ onto l (after_mark xs)) (sym (end refl)) (ap after_mark (append-nil xs) ∙ sym (onto_nil (after_mark xs)))
+
+pub marked : (xs r : List ℕ) (a b : Option (List ℕ)) → Keeps a (prepend_known xs b) → IsPast xs → after_mark xs ≡ Some r → (is_front xs ≡ true → IsAtEnd b) → EndsAtMark true a b
+marked xs r None b k past is end = tt
+marked xs r (Some t) None k past is end = absurd k
+marked xs r (Some t) (Some u) k past is end =
+    let none : r ≡ [] = subst (λ (o : Option (List ℕ)). IfSome o (λ rest. rest ≡ [])) is past.nothing in
+    let here : after_mark (xs ++ u) ≡ Some u = after_text xs u (is_front xs) refl end ∙ ap (onto u) is ∙ ap (λ (l : List ℕ). Some (l ++ u)) none in
+    subst (λ (l : List ℕ). EndsOf true l (Some u)) k (ends_here (xs ++ u) u here)
+
+pub unmarked : (xs ys : List ℕ) (c : ℕ) (a b : Option (List ℕ)) → Keeps a (prepend_known xs b) → xs ≡ c ∷ ys → after_mark xs ≡ None → (is_front xs ≡ true → IsAtEnd b) → Gives true c a (prepend_known ys b)
+unmarked xs ys c None b k is none end = tt
+unmarked xs ys c (Some t) None k is none end = absurd k
+unmarked xs ys c (Some t) (Some u) k is none end =
+    let here : after_mark (c ∷ (ys ++ u)) ≡ None =
+    subst (λ (l : List ℕ). after_mark (l ++ u) ≡ None) is (after_text xs u (is_front xs) refl end ∙ ap (onto u) none) in
+    subst (λ (l : List ℕ). GivesOf true c l (Some (ys ++ u))) k
+    (subst (λ (l : List ℕ). GivesOf true c (l ++ u) (Some (ys ++ u))) (sym is) (gives_at_line c (ys ++ u) here))
+
+pub ended : (xs : List ℕ) (a b : Option (List ℕ)) → Keeps a (prepend_known xs b) → xs ≡ [] → (is_front xs ≡ true → IsAtEnd b) → IsAtEnd a
+ended xs a b k none end = prepend_known-end a b xs k none (end (subst (λ (l : List ℕ). is_front l ≡ true) (sym none) refl))
+
+-- ---- many steps
+pub passed_start : (begins : Bool) (xs : List ℕ) (left : Option (List ℕ)) → begins ≡ true → xs ≡ [] → Passed [] begins left (prepend_known xs left)
+passed_start begins xs None line none = tt
+passed_start begins xs (Some text) line none = record {
+  rest = xs ++ text;
+  new_is = refl;
+  sections = λ f r e.
+      subst (λ (l : List ℕ). sections_from true (l ++ text) ≡ Some (f, r)) none
+      (subst (λ (t : Bool). sections_from t (xs ++ text) ≡ Some (f, r)) line e);
+}
+
+pub passed_more : (front more : List ℕ) (begins next : Bool) (c : ℕ) (x y z : Option (List ℕ)) → next ≡ (c == 10) → more ≡ front ++ c ∷ [] → Passed front begins x y → Gives begins c y z → Passed more next x z
+passed_more front more begins next c None y z same is p g = tt
+passed_more front more begins next c (Some text) y z same is p g =
+    let one : GivesOf begins c p.rest z = subst (λ (o : Option (List ℕ)). Gives begins c o z) p.new_is g in
+    record {
+      rest = one.rest;
+      new_is = one.new_is;
+      sections = λ f r e.
+          let last : sections_from begins p.rest ≡ Some (c ∷ f, r) =
+          one.sections ∙ ap (λ (t : Bool). longer c (sections_from t one.rest)) (sym same) ∙ ap (longer c) e in
+          p.sections (c ∷ f) r last ∙ ap (λ (l : List ℕ). Some (l, r)) (sym (ap (λ (l : List ℕ). l ++ f) is ∙ append_assoc front (c ∷ []) f));
+    }
+
+pub passed_end : (front : List ℕ) (begins : Bool) (x y z : Option (List ℕ)) → Passed front begins x y → EndsAtMark begins y z → ReadsSection front x z
+passed_end front begins None y z p e = tt
+passed_end front begins (Some text) y z p e =
+    let last : EndsOf begins p.rest z = subst (λ (o : Option (List ℕ)). EndsAtMark begins o z) p.new_is e in
+    record {
+      rest = last.rest;
+      new_is = last.new_is;
+      sections = p.sections [] last.rest last.sections ∙ ap (λ (l : List ℕ). Some (l, last.rest)) (append-nil front);
+    }

@@ -3,7 +3,7 @@ use Rattle.std.proofs.Common.{◌≡◌, ◌≢◌, ◌∙◌, ℕ, ◌<◌, ◌
 use Rattle.std.proofs.lemmas.Bool.{eq-eqb}
 use Rattle.ball_model.specs.Content.{same_plan}
 use Rattle.replica.proofs.RunLemmas.{same_plan-self}
-use Rattle.std.specs.Prelude.{Option, None, Result, Ok, Err, IfOk, IfErr}
+use Rattle.std.specs.Prelude.{Option, None, Result, Ok, Err, IfOk, IfErr, IsErr}
 use Rattle.ball_model.specs.declared.names.BatchName.{BatchName}
 use Rattle.ball_model.specs.declared.names.Taken.{Taken}
 use Rattle.ball_model.specs.declared.names.TakeError.{TakeError}
@@ -135,3 +135,17 @@ never_unmerged j p h c v o w e m some k l =
     let said : answer.NotMerged e ≡ answer.Merged (join_of h c).superstep =
     subst (λ r. answer.NotMerged e ≡ (merged_when c (lone h) r).answer) (alike j p h c k.held l.held) both.0 in
     absurd (cc)
+
+-- ---- what is said
+pub refused_ok : {T E : Type 0} (r : Result T E) (P : T → Type 0) → IsErr r → IfOk r P
+refused_ok (Ok x) P is = absurd (cc)
+refused_ok (Err e) P is = tt
+
+pub restarted_to : (j : Job) (p : ℕ) (d : Holding) (w r : State) (a : Answer) → Holds j p d r → w ≡ r → a ≡ answer.Restarted r.superstep → TurnsTo j p (answer.Restarted d.superstep) d w (reply.Answered a)
+restarted_to j p d w r a k same is = record {
+  says = ap reply.Answered (is ∙ ap answer.Restarted k.has.holding.stands.superstep);
+  holds = subst (Holds j p d) (sym same) k;
+}
+
+pub started_holds : (j : Job) (p : ℕ) (h : Holding) (v r : State) → Holds j p h v → Has j (start_holding j.plan p) r → Holds j p (start_holding j.plan p) r
+started_holds j p h v r k has = record { held = start_held j p k.held.below; has = has }

@@ -1,6 +1,8 @@
 -- What a command asks for, and its answer.
 use Rattle.std.proofs.Common.{◌≡◌, ◌≢◌, ◌∙◌, ℕ, ◌+◌, ◌<◌, ◌≤◌, ◌==◌, ◌&&◌, ◌⊎◌, inl, inr, nat_lt, Bool, true, false, not, if◌then◌else◌, List, [], ◌∷◌, ◌++◌, length, slice_index, refl, ap, sym, subst, arith}
 use Rattle.std.specs.Prelude.{Option, None, Some, Result, Ok, Err, unwrap_or, codes, decimal}
+use Rattle.std.specs.Io.KnownBytes.{Appends}
+use Rattle.std.proofs.KnownBytes.{Appends-trans}
 use Rattle.std.proofs.lemmas.Bool.{eq-eqb, le-ltb, lt-ltb, ne_eqb}
 use Rattle.std.proofs.lemmas.List.FromFn.{get_or-map-range_with_len, length-map-range_with_len}
 use Rattle.ball_model.specs.declared.names.BatchName.{BatchName}
@@ -8,7 +10,7 @@ use Rattle.ball_model.specs.declared.names.Taken.{Taken}
 use Rattle.ball_model.specs.declared.names.TakeError.{TakeError}
 use Rattle.ball_model.specs.declared.names.CloseError.{CloseError}
 use Rattle.ball_model.specs.declared.world.Answer.TheVariants as answer
-use Rattle.ball_model.specs.Held.{held_after, held_close_answer, held_take_answer, start_holding}
+use Rattle.ball_model.specs.Held.{HasHolding, held_after, held_close_answer, held_take_answer, start_holding}
 use Rattle.ball_model.specs.Input.{Network}
 use Rattle.ball_model.specs.Job.{Job}
 use Rattle.ball_model.specs.Join.{Holding, join_of}
@@ -30,9 +32,24 @@ use Rattle.node.specs.declared.command.Command.{Command}
 use Rattle.node.specs.declared.command.Command.TheVariants as command
 use Rattle.node.specs.declared.session.Reply.{Reply}
 use Rattle.node.specs.declared.session.Reply.TheVariants as reply
-use Rattle.node.specs.NodeText.{Answers, Asked, Asks, IsDelivered, IsGivenBack, IsStart, Send, Deliver, Closing, Keep, Restart, Recover, Show, Totals, Figures, after_asked, alone, closed_line, send_text, sent_text, took_line, totals_text}
-use Rattle.node.specs.Serving.{StepsTo}
+use Rattle.node.specs.NodeText.{Answers, Asked, Asks, IsDelivered, IsGivenBack, IsStart, Send, Deliver, Closing, Keep, Restart, Recover, Show, Totals, Figures, after_asked, alone, closed_line, figures_text, send_text, sent_text, took_line, totals_text}
+use Rattle.node.specs.Serving.{AppendsAnswer, Steps}
 use Rattle.node.specs.Turns.{Holds, TurnsTo, reply_text, said_text}
+
+-- ---- an answer whose text is known
+-- what a replica v was asked by a command and the bytes behind it is answered by the text, and makes it w
+pub record StepsTo (network : Network) (c : Command) (body : List ℕ) (v w : State)
+    (text : List ℕ) : Type 0 where
+  pub answers : (j : Job) (p : ℕ) (h : Holding) (a : Asked) → j.graph ≡ network.graph →
+      Holds j p h v → Asks j p c body a → Answers j network.labels h a text
+  pub holds : (j : Job) (p : ℕ) (h : Holding) (a : Asked) → j.graph ≡ network.graph →
+      Holds j p h v → Asks j p c body a → Holds j p (after_asked j h a) w
+
+pub steps_told : (network : Network) (c : Command) (body : List ℕ) (v w : State) (text : List ℕ) (old new : Option (List ℕ)) → Appends old new text → StepsTo network c body v w text → Steps network c body v w old new
+steps_told network c body v w text old new appended s = record {
+  told = λ j p h a same k asks. record { text = text; appended = appended; answers = s.answers j p h a same k asks };
+  holds = s.holds;
+}
 
 -- ---- a command that asks for one thing
 lone_step : (network : Network) (c : Command) (body : List ℕ) (v w : State) (text : List ℕ) (b : Asked) →
@@ -79,20 +96,10 @@ pub keep_steps : (network : Network) (body : List ℕ) (v : State) (text : List 
 keep_steps network body v text answers =
     lone_step network command.Keep body v v text Keep (λ j p a is. asks_keep j p body a is) answers (λ j p h k. k)
 
-pub show_steps : (network : Network) (body : List ℕ) (v : State) (text : List ℕ) →
-    ((j : Job) (p : ℕ) (h : Holding) → j.graph ≡ network.graph → Holds j p h v → Answers j network.labels h Show text) → StepsTo network command.Show body v v text
-show_steps network body v text answers =
-    lone_step network command.Show body v v text Show (λ j p a is. asks_show j p body a is) answers (λ j p h k. k)
-
 pub totals_steps : (network : Network) (body : List ℕ) (v : State) (text : List ℕ) →
     ((j : Job) (p : ℕ) (h : Holding) → j.graph ≡ network.graph → Holds j p h v → Answers j network.labels h Totals text) → StepsTo network command.Totals body v v text
 totals_steps network body v text answers =
     lone_step network command.Totals body v v text Totals (λ j p a is. asks_totals j p body a is) answers (λ j p h k. k)
-
-pub figures_steps : (network : Network) (body : List ℕ) (v : State) (text : List ℕ) →
-    ((j : Job) (p : ℕ) (h : Holding) → j.graph ≡ network.graph → Holds j p h v → Answers j network.labels h Figures text) → StepsTo network command.Figures body v v text
-figures_steps network body v text answers =
-    lone_step network command.Figures body v v text Figures (λ j p a is. asks_figures j p body a is) answers (λ j p h k. k)
 
 -- ---- replies
 took_text : (r : Result Taken TakeError) → said_text (taken_answer r) ≡ took_line r
@@ -216,6 +223,37 @@ keeps j p h v labels t n k at long = record {
 pub named : (j : Job) (p : ℕ) (h : Holding) (v : State) (n : ℕ) → Holds j p h v → n ≡ v.part.number → show_text j (alone n) h ≡ show_text j (alone h.partition) h
 named j p h v n k is = ap (λ (x : ℕ). show_text j (alone x) h) (is ∙ number_is j h.partition h.superstep v k.has.holding.stands)
 
+pub show_told : (network : Network) (body : List ℕ) (v : State) (n : ℕ) (old new : Option (List ℕ)) → n ≡ v.part.number →
+    ((j : Job) (h : Holding) → HasHolding j h v → Appends old new (show_text j (alone n) h)) → Steps network command.Show body v v old new
+show_told network body v n old new is shown = record {
+  told = λ j p h a same k asks. told j p h a k asks;
+  holds = λ j p h a same k asks. holds j p h a k asks;
+}
+  where
+    told : (j : Job) (p : ℕ) (h : Holding) (a : Asked) → Holds j p h v → Asks j p command.Show body a → AppendsAnswer j network.labels h a old new
+    told j p h Show k asks = record { text = show_text j (alone n) h; appended = shown j h k.has.holding; answers = named j p h v n k is }
+    told j p h a k asks = absurd asks
+
+    holds : (j : Job) (p : ℕ) (h : Holding) (a : Asked) → Holds j p h v → Asks j p command.Show body a → Holds j p (after_asked j h a) v
+    holds j p h Show k asks = k
+    holds j p h a k asks = absurd asks
+
+-- the figures of its vertices
+pub figures_told : (network : Network) (body : List ℕ) (v : State) (old new : Option (List ℕ)) →
+    ((j : Job) (h : Holding) → HasHolding j h v → Appends old new (figures_text j network.labels h)) → Steps network command.Figures body v v old new
+figures_told network body v old new shown = record {
+  told = λ j p h a same k asks. told j p h a k asks;
+  holds = λ j p h a same k asks. holds j p h a k asks;
+}
+  where
+    told : (j : Job) (p : ℕ) (h : Holding) (a : Asked) → Holds j p h v → Asks j p command.Figures body a → AppendsAnswer j network.labels h a old new
+    told j p h Figures k asks = record { text = figures_text j network.labels h; appended = shown j h k.has.holding; answers = refl }
+    told j p h a k asks = absurd asks
+
+    holds : (j : Job) (p : ℕ) (h : Holding) (a : Asked) → Holds j p h v → Asks j p command.Figures body a → Holds j p (after_asked j h a) v
+    holds j p h Figures k asks = k
+    holds j p h a k asks = absurd asks
+
 -- its totals
 pub totals_are : (j : Job) (h : Holding) (sums : List ℕ) → sums ≡ sums_of j h.partition h.superstep → superstep_lines sums ≡ totals_text j h
 unfolding totals_text sums_of
@@ -225,3 +263,30 @@ totals_are j h sums is =
     let long : length sums ≡ n = ap length is ∙ length-map-range_with_len f 0 n in
     rw long (lines_same (λ i. superstep_line i (slice_index sums i)) (λ i. superstep_line i (f i)) 0 n n (omega arith)
     (λ i lt. ap (superstep_line i) (ap (λ (l : List ℕ). slice_index l i) is ∙ get_or-map-range_with_len f 0 n i i 0 lt (omega arith))))
+
+pub totals_told : (network : Network) (body : List ℕ) (v : State) (sums : List ℕ) (old new : Option (List ℕ)) →
+    ((j : Job) (p t : ℕ) → StandsFor j p t v → sums ≡ sums_of j p t) → Appends old new (superstep_lines sums) → Steps network command.Totals body v v old new
+totals_told network body v sums old new stands appended =
+    steps_told network command.Totals body v v (superstep_lines sums) old new appended
+    (totals_steps network body v (superstep_lines sums) (λ j p h same k. totals_are j h sums (stands j h.partition h.superstep k.has.holding.stands)))
+
+-- what is kept
+pub keep_told : (network : Network) (body : List ℕ) (v : State) (t n : ℕ) (line : List ℕ) (a b c : Option (List ℕ)) → t ≡ v.superstep → n ≡ length (checkpoint_bytes v) →
+    line ≡ words_line (codes "kept" ∷ decimal t ∷ decimal n ∷ []) → Appends a b line → Appends b c (checkpoint_bytes v) → Steps network command.Keep body v v a c
+keep_told network body v t n line a b c at long is one two =
+    let text : List ℕ = words_line (codes "kept" ∷ decimal t ∷ decimal n ∷ []) ++ checkpoint_bytes v in
+    steps_told network command.Keep body v v text a c
+    (Appends-trans a b c (words_line (codes "kept" ∷ decimal t ∷ decimal n ∷ [])) (checkpoint_bytes v) (subst (Appends a b) is one) two)
+    (keep_steps network body v text (λ j p h same k. keeps j p h v network.labels t n k at long))
+
+-- what is sent
+pub send_told : (network : Network) (body : List ℕ) (v : State) (q : ℕ) (b : BatchValue) (old new : Option (List ℕ)) → q < v.part.plan.parts → q ≢ v.part.number →
+    ((j : Job) (p t : ℕ) → StandsFor j p t v → b ≡ true_batch j (batch_name t p q)) → Appends old new (sent_text b) → Steps network (command.Send q) body v v old new
+send_told network body v q b old new below other stands appended =
+    steps_told network (command.Send q) body v v (sent_text b) old new appended
+    (send_steps network q body v (sent_text b) (λ j p h same k. sends_batch j p h v q b k below other (λ t s. stands j h.partition t s)))
+
+pub send_refused : (network : Network) (body : List ℕ) (v : State) (q : ℕ) (old new : Option (List ℕ)) → (v.part.plan.parts ≤ q) ⊎ (q ≡ v.part.number) → Appends old new (refusal_line refusal.NoTarget) → Steps network (command.Send q) body v v old new
+send_refused network body v q old new none appended =
+    steps_told network (command.Send q) body v v (refusal_line refusal.NoTarget) old new appended
+    (send_steps network q body v (refusal_line refusal.NoTarget) (λ j p h same k. sends_nothing j p h v q k none))

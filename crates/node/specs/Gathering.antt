@@ -1,12 +1,12 @@
 -- The report of the checkpoints of all partitions.
-use Rattle.std.specs.Prelude.{◌≡◌, ⊤, ℕ, ◌+◌, Bool, List, [], ◌∷◌, ◌++◌, length, Option, Some, IfSome, codes, decimal}
+use Rattle.std.specs.Prelude.{◌≡◌, ⊤, ℕ, ◌+◌, Bool, List, [], ◌∷◌, ◌++◌, length, Option, codes, decimal}
 use Rattle.std.specs.List.{flat_map}
 use Rattle.std.specs.Io.KnownBytes.{Appends, Consumes, IsAtEnd}
-use Rattle.ball_model.specs.Input.{IsPlain, Network}
+use Rattle.ball_model.specs.Input.{Network}
 use Rattle.ball_model.specs.Job.{Job, job_of, part_of}
 use Rattle.ball_model.specs.Join.{Holding}
 use Rattle.ball_model.specs.PlanValue.{PlanValue}
-use Rattle.ball_model.specs.RunText.{AppendsReport, Settings}
+use Rattle.ball_model.specs.RunText.{Settings}
 use Rattle.ball_model.specs.State.{State}
 use Rattle.ball_model.specs.WorldText.{words_line}
 use Rattle.report.specs.Ready.{job_report}
@@ -14,7 +14,7 @@ use Rattle.report.specs.declared.write.ReportError.{ReportError}
 use Rattle.report.specs.declared.write.ReportError.TheVariants as unreported
 use Rattle.node.specs.declared.error.GatherError.{GatherError}
 use Rattle.node.specs.declared.error.GatherError.TheVariants as fault
-use Rattle.node.specs.Job.{ReadsJobOf}
+use Rattle.node.specs.Job.{IsJobRead}
 use Rattle.node.specs.NodeText.{IsGivenBack}
 use Rattle.node.specs.Turns.{Holds}
 
@@ -50,6 +50,15 @@ pub record Gathers (j : Job) (labels : List (List ℕ)) (left left' : Option (Li
   pub consumed : Consumes left left' (parts_text bodies)
   pub end : IsAtEnd left'
   pub report : AreGivenBack j 0 bodies → Appends old new (job_report j labels)
+
+-- the job of the input was read, and all that follows it is such checkpoints
+pub record GathersJob (s : Settings) (counted : Bool)
+    (left left' old new : Option (List ℕ)) : Type 0 where
+  pub network : Network
+  pub plan : PlanValue
+  pub mid : Option (List ℕ)
+  pub job : IsJobRead s counted left mid network plan
+  pub gathers : Gathers (job_of network.graph plan) network.labels mid left' old new
 
 -- ---- how checkpoints are read
 

@@ -1,5 +1,5 @@
 -- Sections on a stream: what may be the front of a mark, and what a step through a section does.
-use Rattle.std.specs.Prelude.{◌≡◌, ⊤, ℕ, Bool, true, false, not, ◌==◌, ◌&&◌, List, [], ◌∷◌, ◌++◌, Option, None, Some, IfSome, option_map}
+use Rattle.std.specs.Prelude.{◌≡◌, ⊤, ℕ, Bool, true, false, not, ◌==◌, ◌&&◌, List, [], ◌∷◌, ◌++◌, Option, Some, IfSome}
 use Rattle.ball_model.specs.Sections.{after_mark, longer, sections_from, sections_of}
 use Rattle.node.specs.declared.section.Step.{Step}
 use Rattle.node.specs.declared.section.Step.TheVariants as step
@@ -60,27 +60,22 @@ IsByteOrEnd step.Mark = ⊥
 IsByteOrEnd step.End = ⊤
 IsByteOrEnd step.Failed = ⊥
 
--- bytes of a text's first section were passed of which P holds: the section goes on with what is left, where a line
--- begins or not
-pub record PassedOf (P : List ℕ → Type 0) (begins : Bool) (text : List ℕ)
-    (left : Option (List ℕ)) : Type 0 where
-  pub front : List ℕ
+-- some bytes of a section were passed: it goes on with what is left, where a line begins or not
+pub record PassedOf (front : List ℕ) (begins : Bool) (text : List ℕ)
+    (new : Option (List ℕ)) : Type 0 where
   pub rest : List ℕ
-  pub left_is : left ≡ Some rest
+  pub new_is : new ≡ Some rest
   pub sections : (f r : List ℕ) → sections_from begins rest ≡ Some (f, r) →
-      sections_of text ≡ Some (front ++ f, r)
-  pub so : P front
+      sections_from true text ≡ Some (front ++ f, r)
 
-abbrev pub Passed : (List ℕ → Type 0) → Bool → Option (List ℕ) → Option (List ℕ) → Type 0
-Passed P begins old left = IfSome old (λ text. PassedOf P begins text left)
+abbrev pub Passed : List ℕ → Bool → Option (List ℕ) → Option (List ℕ) → Type 0
+Passed front begins old new = IfSome old (λ text. PassedOf front begins text new)
 
--- the first section was read up to its mark and P holds of its bytes; what follows the mark is left
-pub record EndedOf (P : List ℕ → Type 0) (text : List ℕ) (new : Option (List ℕ)) : Type 0 where
-  pub front : List ℕ
+-- a section was read, and the mark behind it: what follows it is left
+pub record SectionOf (front text : List ℕ) (new : Option (List ℕ)) : Type 0 where
   pub rest : List ℕ
   pub new_is : new ≡ Some rest
   pub sections : sections_of text ≡ Some (front, rest)
-  pub so : P front
 
-abbrev pub Ended : (List ℕ → Type 0) → Option (List ℕ) → Option (List ℕ) → Type 0
-Ended P old new = IfSome old (λ text. EndedOf P text new)
+abbrev pub ReadsSection : List ℕ → Option (List ℕ) → Option (List ℕ) → Type 0
+ReadsSection front old new = IfSome old (λ text. SectionOf front text new)

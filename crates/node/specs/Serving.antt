@@ -1,13 +1,13 @@
 -- What becomes of commands, one after the other.
-use Rattle.std.specs.Prelude.{◌≡◌, ◌<◌, ℕ, Bool, List, [], length, Option, Some, IfSome}
+use Rattle.std.specs.Prelude.{◌≡◌, ℕ, ◌<◌, Bool, List, [], length, Option}
 use Rattle.std.specs.List.{All}
 use Rattle.std.specs.Io.KnownBytes.{Appends, Consumes, IsAtEnd, Keeps}
 use Rattle.ball_model.specs.Input.{Network}
 use Rattle.ball_model.specs.Held.{start_holding}
 use Rattle.ball_model.specs.Job.{Job, job_of}
+use Rattle.ball_model.specs.Join.{Holding}
 use Rattle.ball_model.specs.PlanValue.{PlanValue}
 use Rattle.ball_model.specs.RunText.{Settings}
-use Rattle.ball_model.specs.Join.{Holding}
 use Rattle.ball_model.specs.State.{State}
 use Rattle.world.specs.declared.tell.TellError.{TellError}
 use Rattle.world.specs.declared.tell.TellError.TheVariants as untold
@@ -15,7 +15,7 @@ use Rattle.node.specs.declared.command.Command.{Command}
 use Rattle.node.specs.declared.error.ServeError.{ServeError}
 use Rattle.node.specs.declared.error.ServeError.TheVariants as fault
 use Rattle.node.specs.NodeText.{Answers, AreAnswers, AllAsk, Asked, Asks, IsRequest, Request, after_all, after_asked, request_bytes, requests_text}
-use Rattle.node.specs.Job.{ReadsJobOf}
+use Rattle.node.specs.Job.{IsJobRead}
 use Rattle.node.specs.Turns.{Holds}
 
 -- ---- what errors are told as
@@ -26,21 +26,21 @@ told_tell untold.Write = fault.Write
 
 -- ---- one answer
 
--- what a replica v was asked by a command and the bytes behind it is answered by the text, and makes it w: for each
--- holding of a job that v has, and whatever these bytes ask for
-pub record StepsTo (network : Network) (c : Command) (body : List ℕ) (v w : State)
-    (text : List ℕ) : Type 0 where
-  pub answers : (j : Job) (p : ℕ) (h : Holding) (a : Asked) → j.graph ≡ network.graph →
-      Holds j p h v → Asks j p c body a → Answers j network.labels h a text
-  pub holds : (j : Job) (p : ℕ) (h : Holding) (a : Asked) → j.graph ≡ network.graph →
-      Holds j p h v → Asks j p c body a → Holds j p (after_asked j h a) w
-
--- such a text was appended
-pub record Steps (network : Network) (c : Command) (body : List ℕ) (v w : State)
+-- a text was appended that is the answer of a node of that holding
+pub record AppendsAnswer (j : Job) (labels : List (List ℕ)) (h : Holding) (a : Asked)
     (old new : Option (List ℕ)) : Type 0 where
   pub text : List ℕ
   pub appended : Appends old new text
-  pub steps : StepsTo network c body v w text
+  pub answers : Answers j labels h a text
+
+-- what a replica v was asked by a command and the bytes behind it was answered, and it is w now: so it is for each
+-- holding of a job that v has, and whatever these bytes ask for
+pub record Steps (network : Network) (c : Command) (body : List ℕ) (v w : State)
+    (old new : Option (List ℕ)) : Type 0 where
+  pub told : (j : Job) (p : ℕ) (h : Holding) (a : Asked) → j.graph ≡ network.graph →
+      Holds j p h v → Asks j p c body a → AppendsAnswer j network.labels h a old new
+  pub holds : (j : Job) (p : ℕ) (h : Holding) (a : Asked) → j.graph ≡ network.graph →
+      Holds j p h v → Asks j p c body a → Holds j p (after_asked j h a) w
 
 -- ---- a request: it is read, and answered
 
@@ -68,11 +68,18 @@ pub record ServesNone (left left' : Option (List ℕ)) (v w : State)
 
 -- ---- many of them
 
--- what a replica v was asked by requests, one after the other, is answered by the text, and makes it w
-pub record RunsTo (network : Network) (rs : List Request) (v w : State)
-    (text : List ℕ) : Type 0 where
-  pub answers : (j : Job) (p : ℕ) (h : Holding) (more : List Asked) → j.graph ≡ network.graph →
-      Holds j p h v → AllAsk j p rs more → AreAnswers j network.labels h more text
+-- a text was appended that is the answers to all that is asked
+pub record AppendsAnswers (j : Job) (labels : List (List ℕ)) (h : Holding) (more : List Asked)
+    (old new : Option (List ℕ)) : Type 0 where
+  pub text : List ℕ
+  pub appended : Appends old new text
+  pub answers : AreAnswers j labels h more text
+
+-- what a replica v was asked by requests was answered, one after the other, and it is w now
+pub record Runs (network : Network) (rs : List Request) (v w : State)
+    (old new : Option (List ℕ)) : Type 0 where
+  pub told : (j : Job) (p : ℕ) (h : Holding) (more : List Asked) → j.graph ≡ network.graph →
+      Holds j p h v → AllAsk j p rs more → AppendsAnswers j network.labels h more old new
   pub holds : (j : Job) (p : ℕ) (h : Holding) (more : List Asked) → j.graph ≡ network.graph →
       Holds j p h v → AllAsk j p rs more → Holds j p (after_all j h more) w
 
@@ -83,9 +90,7 @@ pub record ServesSome (network : Network) (number : ℕ) (left left' : Option (L
   pub count : length requests ≡ number
   pub each : All IsRequest requests
   pub consumed : Consumes left left' (requests_text requests)
-  pub text : List ℕ
-  pub appended : Appends old new text
-  pub runs : RunsTo network requests v w text
+  pub runs : Runs network requests v w old new
 
 -- all that was left of the input is requests, and they were answered
 pub record Serves (network : Network) (left left' : Option (List ℕ)) (v w : State)
@@ -94,25 +99,20 @@ pub record Serves (network : Network) (left left' : Option (List ℕ)) (v w : St
   pub some : ServesSome network number left left' v w old new
   pub end : IsAtEnd left'
 
--- ---- a job, and what follows it
+-- ---- a node from its start
 
--- a job was read, and all that follows it is requests; what they ask for, one after the other, is answered by the text as
--- the job's node of partition p answers it from its start
-pub record ServesJobOf (s : Settings) (counted : Bool) (p : ℕ) (text : List ℕ)
-    (left : Option (List ℕ)) (old new : Option (List ℕ)) : Type 0 where
+-- the job of the input was read, and all that follows it is requests, which a node of partition p was asked from its
+-- start on: where each delivered batch is a true one and each checkpoint stands for the job, they were answered
+pub record ServesNode (s : Settings) (counted : Bool) (p : ℕ)
+    (left left' old new : Option (List ℕ)) : Type 0 where
   pub network : Network
   pub plan : PlanValue
-  pub requests : List Request
-  pub job : ReadsJobOf s counted network plan text (Some (requests_text requests))
+  pub mid : Option (List ℕ)
+  pub job : IsJobRead s counted left mid network plan
   pub below : p < plan.parts
+  pub requests : List Request
   pub each : All IsRequest requests
-  pub end : IsAtEnd left
-  pub answers : List ℕ
-  pub appended : Appends old new answers
-  pub told : (asked : List Asked) → AllAsk (job_of network.graph plan) p requests asked →
-      AreAnswers (job_of network.graph plan) network.labels (start_holding plan p) asked answers
-
-abbrev pub ServesJob : Settings → Bool → ℕ → Option (List ℕ) → Option (List ℕ) →
-    Option (List ℕ) → Option (List ℕ) → Type 0
-ServesJob s counted p left left' old new =
-    IfSome left (λ text. ServesJobOf s counted p text left' old new)
+  pub consumed : Consumes mid left' (requests_text requests)
+  pub end : IsAtEnd left'
+  pub told : (more : List Asked) → AllAsk (job_of network.graph plan) p requests more →
+      AppendsAnswers (job_of network.graph plan) network.labels (start_holding plan p) more old new

@@ -4,11 +4,10 @@ ghost use Rattle.std.specs.Prelude.{◌≡◌, ◌<◌, [], IfOk, OnOk};
 ghost use Rattle.std.specs.Arc.{arc_value};
 ghost use Rattle.ball_model.specs.Job.{IsJob, job_of, part_of};
 ghost use Rattle.ball_model.specs.PlanValue.{plan_of};
-ghost use Rattle.ball_model.specs.Input.{IsPlain};
-ghost use Rattle.ball_model.specs.RunText.{network_in, plan_over};
+ghost use Rattle.ball_model.specs.RunText.{plan_over};
 ghost use Rattle.edgelist.specs.Given.{IsGiven};
-ghost use Rattle.node.specs.Job.{CountsListed, ReadsJob, numbers_in, settings_in};
-ghost use Rattle.node.specs.Section.{Ended};
+ghost use Rattle.node.specs.Job.{CountsSome, GivesSection, IsJobRead, SaysNetwork, numbers_in, settings_in};
+ghost use Rattle.node.specs.Section.{ReadsSection};
 
 use crate::error::JobError;
 use crate::section::{Cut, Step, next_step};
@@ -47,16 +46,15 @@ pub struct JobOptions {
     pub counted: bool,
 }
 
-// Gives the bytes of a section to a reader of edges, up to the mark behind it.
+// Gives a reader of edges, which was given nothing yet, the bytes of a section, which ends at a mark.
 fn give_section<R: CountedRead>(
     alloc: Global,
     reader: &mut R,
     edges: &mut EdgeReader,
 ) -> Result<(), JobError>
-    ensures { (limits : EdgeLimits) (delimiter : Delimiter) →
-        IsGiven limits delimiter [] edges.old → OnOk result (Ended
-        (λ front. IsGiven limits delimiter front edges.new)
-        (R.remaining reader.old) (R.remaining reader.new)) }
+    ensures { (delimiter : Delimiter) → IsGiven LIMITS delimiter [] edges.old →
+        OnOk result (GivesSection LIMITS delimiter
+        (R.remaining reader.old) (R.remaining reader.new) edges.new) }
 {
     let mut cut = Cut::start();
     for _ in 0..u64::MAX {
@@ -77,8 +75,7 @@ fn read_graph<R: CountedRead>(
     options: &JobOptions,
     reader: &mut R,
 ) -> Result<Graph, JobError>
-    ensures { IfOk result (λ graph. Ended
-        (λ edges. IsPlain edges → network_in (settings_in options.now) edges ≡ Ok graph)
+    ensures { IfOk result (SaysNetwork (settings_in options.now)
         (R.remaining reader.old) (R.remaining reader.new)) }
 {
     let mut edges = EdgeReader::new(alloc, state, options.delimiter, LIMITS)?;
@@ -90,7 +87,7 @@ fn read_graph<R: CountedRead>(
 // Reads the bytes of a section, which ends at a mark, into `list`, which is empty.
 fn read_list<R: CountedRead>(reader: &mut R, list: &mut Vec<u8>) -> Result<(), JobError>
     requires { list.old.items ≡ [] }
-    ensures { OnOk result (Ended (λ front. list.new.items ≡ front)
+    ensures { OnOk result (ReadsSection list.new.items
         (R.remaining reader.old) (R.remaining reader.new)) }
 {
     let mut cut = Cut::start();
@@ -116,14 +113,15 @@ fn count_listed<R: CountedRead>(
     options: &JobOptions,
     reader: &mut R,
 ) -> Result<Graph, JobError>
-    ensures { IfOk result (λ counted. CountsListed (settings_in options.now) options.now.counted
-        graph counted (R.remaining reader.old) (R.remaining reader.new)) }
+    ensures { IfOk result (CountsSome (settings_in options.now) options.now.counted
+        (R.remaining reader.old) (R.remaining reader.new) graph) }
 {
-    if options.counted {
-        let mut list = Vec::new(alloc);
-        read_list(reader, &mut list)?;
-        graph.count_only(alloc, options.delimiter, &list)?;
+    if !options.counted {
+        return Ok(graph);
     }
+    let mut list = Vec::new(alloc);
+    read_list(reader, &mut list)?;
+    graph.count_only(alloc, options.delimiter, &list)?;
     Ok(graph)
 }
 
@@ -163,12 +161,12 @@ pub fn read_job<R: CountedRead>(
     options: &JobOptions,
     reader: &mut R,
 ) -> Result<(Graph, Plan), JobError>
-    ensures read { IfOk result (λ both. ReadsJob (settings_in options.now) options.now.counted
-        both.0 both.1 (R.remaining reader.old) (R.remaining reader.new)) }
+    ensures read { IfOk result (λ both. IsJobRead (settings_in options.now) options.now.counted
+        (R.remaining reader.old) (R.remaining reader.new) both.0 both.1) }
     ensures job { IfOk result (λ both. IsJob (job_of both.0.graph both.1)) }
 {
-    let graph = read_graph(alloc, state, options, reader)?;
-    let graph = count_listed(alloc, graph, options, reader)?;
+    let all = read_graph(alloc, state, options, reader)?;
+    let graph = count_listed(alloc, all, options, reader)?;
     let plan = plan_for(&graph, options)?;
     Ok((graph, plan))
 }

@@ -1,7 +1,7 @@
 //! Sections of an input on a stream: one ends at the first line of exactly `%%`, and nothing behind that line is read.
 //!
-//! [`next_step`] gives a section's bytes, one after the other, and then its end. What follows the mark is still in the
-//! reader: it is read a byte at a time, so the reader underneath is to be a buffered one.
+//! [`next_step`] goes through a section byte by byte, and tells where it ends at a mark. Bytes are taken from the reader
+//! one at a time, so what follows the mark is still there: the reader underneath is to be a buffered one.
 
 ghost use Rattle.std.specs.Prelude.{◌≡◌, ◌≢◌, ℕ, ◌∷◌, ◌==◌, [], true, false, option_map};
 ghost use Rattle.std.specs.Io.KnownBytes.{Consumes, IsAtEnd, Keeps, prepend_known};
@@ -108,39 +108,29 @@ fn is_front(bytes: &[u8]) -> bool
     }
 }
 
-/// What came of reading ahead.
-#[derive(Clone, Copy, Debug, PartialEq, Eq)]
-enum Looked {
-    // so far that it is known whether a mark stands there
-    Enough,
-    // to the end of the input
-    Ended,
-    // a call of the reader failed
-    Failed,
-}
-
-// Reads ahead as long as what was read may be the front of a line of %%.
-fn look<R: CountedRead>(reader: &mut R, ahead: &mut ArrayVec<u8, 4>) -> Looked
+// Reads ahead as long as what was read may be the front of a line of %%, and tells whether no call failed: then it is
+// known whether a mark stands there, or the input has ended.
+fn look<R: CountedRead>(reader: &mut R, ahead: &mut ArrayVec<u8, 4>) -> bool
     requires { is_front ahead.old.items ≡ true }
     ensures same { Keeps (prepend_known ahead.old.items (R.remaining reader.old))
         (prepend_known ahead.new.items (R.remaining reader.new)) }
-    ensures enough { result ≡ Looked.Enough → is_front ahead.new.items ≡ false }
     ensures past { IsPast ahead.new.items }
-    ensures ended { result ≡ Looked.Ended → IsAtEnd (R.remaining reader.new) }
-    ensures front { result ≢ Looked.Enough → is_front ahead.new.items ≡ true }
-    ensures failed { result ≡ Looked.Failed →
+    ensures known { result ≡ true → is_front ahead.new.items ≡ true →
+        IsAtEnd (R.remaining reader.new) }
+    ensures front { result ≡ false → is_front ahead.new.items ≡ true }
+    ensures failed { result ≡ false →
         Rises (R.failed_calls reader.old) (R.failed_calls reader.new) }
-    ensures counted { result ≢ Looked.Failed →
+    ensures counted { result ≡ true →
         R.failed_calls reader.new ≡ R.failed_calls reader.old }
 {
     while is_front(ahead) {
         match next_of(reader) {
             Next::Byte(byte) => ahead.push(byte),
-            Next::End => return Looked::Ended,
-            Next::Failed => return Looked::Failed,
+            Next::End => return true,
+            Next::Failed => return false,
         }
     }
-    Looked::Enough
+    true
 }
 
 /// What came of a step through a section.
@@ -194,15 +184,16 @@ fn step_at_line<R: CountedRead>(reader: &mut R, ahead: &mut ArrayVec<u8, 4>) -> 
     ensures counted { result ≢ Step.Failed →
         R.failed_calls reader.new ≡ R.failed_calls reader.old }
 {
-    match look(reader, ahead) {
-        Looked::Failed => return Step::Failed,
-        Looked::Enough | Looked::Ended => {}
+    if !look(reader, ahead) {
+        return Step::Failed;
     }
-    if after_mark(ahead).is_some() {
-        ahead.clear();
-        return Step::Mark;
+    match after_mark(ahead) {
+        Some(_) => {
+            ahead.clear();
+            Step::Mark
+        }
+        None => first_of(ahead),
     }
-    first_of(ahead)
 }
 
 // A step within a line.
@@ -273,14 +264,21 @@ pub fn next_step<R: CountedRead>(reader: &mut R, cut: &mut Cut) -> Step
         (prepend_known cut.old.ahead.items (R.remaining reader.old)) (R.remaining reader.new) }
     ensures end { result ≡ Step.End →
         IsAtEnd (prepend_known cut.old.ahead.items (R.remaining reader.old)) }
+    ensures kept { result ≡ Step.Failed →
+        Keeps (prepend_known cut.old.ahead.items (R.remaining reader.old))
+        (prepend_known cut.new.ahead.items (R.remaining reader.new)) }
+    ensures still { result ≡ Step.Failed → cut.new.begins ≡ cut.old.begins }
     ensures failed { result ≡ Step.Failed →
         Rises (R.failed_calls reader.old) (R.failed_calls reader.new) }
     ensures counted { result ≢ Step.Failed →
         R.failed_calls reader.new ≡ R.failed_calls reader.old }
 {
     let step = step_of(reader, cut.begins, &mut cut.ahead);
-    if let Step::Byte(byte) = step {
-        cut.begins = byte == b'\n';
+    match step {
+        Step::Byte(byte) => cut.begins = byte == b'\n',
+        Step::Mark => {}
+        Step::End => {}
+        Step::Failed => {}
     }
     step
 }

@@ -9,8 +9,7 @@ ghost use Rattle.ball_model.specs.Held.{start_holding};
 ghost use Rattle.ball_model.specs.Streams.{Rises};
 ghost use Rattle.node.specs.NodeText.{body_length, command_in, sent_text};
 ghost use Rattle.node.specs.Job.{settings_in};
-ghost use Rattle.node.specs.Serving.{ReadsRequest, Serves, ServesJob, ServesNone, ServesOne};
-ghost use Rattle.node.specs.Serving.{Steps};
+ghost use Rattle.node.specs.Serving.{ReadsRequest, Serves, ServesNode, ServesNone, ServesOne, Steps};
 ghost use Rattle.node.specs.Stream.{HasNoEnd};
 ghost use Rattle.node.specs.declared.command.Command.TheVariants as order;
 ghost use Rattle.node.specs.Turns.{Holds, most_body, reply_text};
@@ -417,7 +416,7 @@ pub fn serve_node<R: CountedRead, W: CountedWrite>(
     reader: &mut R,
     writer: &mut W,
 ) -> Result<(), NodeError>
-    ensures ok { OnOk result (ServesJob (settings_in options.now) options.now.counted part
+    ensures { OnOk result (ServesNode (settings_in options.now) options.now.counted part
         (R.remaining reader.old) (R.remaining reader.new)
         (W.contents writer.old) (W.contents writer.new)) }
 {
