@@ -23,7 +23,7 @@ ghost use Rattle.hyperball.specs.Nodes.{AsksNode, IsGather, IsNode};
 ghost use Rattle.hyperball.specs.declared.node_words.NodeWords.{NodeWords as Noded};
 ghost use Rattle.node.specs.Gathering.{GathersJob};
 ghost use Rattle.node.specs.Job.{settings_in as job_settings};
-ghost use Rattle.node.specs.Serving.{ServesJob};
+ghost use Rattle.node.specs.Serving.{ServesNode};
 ghost use Rattle.node.specs.declared.job.JobOptions.{JobOptions as Gathered};
 ghost use Rattle.hyperball.specs.declared.options.Options.{Options as Asked};
 ghost use Rattle.workers.specs.Options.{settings_of};
@@ -442,7 +442,7 @@ fn serve_node<H: AllocGlobal + RandomSource, R: CountedRead, W: CountedWrite, F:
     faults: &mut F,
 ) -> u8
     ensures status { (result ≡ 0) ⊎ (result ≡ 1) }
-    ensures done { result ≡ 0 → ServesJob
+    ensures done { result ≡ 0 → ServesNode
         (job_settings words.now.options) words.now.options.counted words.now.part
         (R.remaining reader.old) (R.remaining reader.new)
         (W.contents writer.old) (W.contents writer.new) }
@@ -501,7 +501,7 @@ pub fn serve<
         Serves w (R.remaining reader.old) W.contents writer.old writer.new }
     ensures replay { (w : Replayed) → IsReplay (texts_of words.now) w → result ≡ 0 →
         ServesReplay w (R.remaining reader.old) W.contents writer.old writer.new }
-    ensures node { (w : Noded) → IsNode (texts_of words.now) w → result ≡ 0 → ServesJob
+    ensures node { (w : Noded) → IsNode (texts_of words.now) w → result ≡ 0 → ServesNode
         (job_settings w.options) w.options.counted w.part
         (R.remaining reader.old) (R.remaining reader.new)
         (W.contents writer.old) (W.contents writer.new) }

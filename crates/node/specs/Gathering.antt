@@ -85,23 +85,3 @@ pub record ReadsAll (j : Job) (n : ℕ) (left left' : Option (List ℕ))
   pub count : length bodies ≡ n
   pub consumed : Consumes left left' (parts_text bodies)
   pub made : AreMadeOf j 0 bodies replicas
-
--- ---- a job, and what follows it
-
--- a job was read, and all that follows it is checkpoints, one of each partition; where they stand for the job, the
--- report that a run writes was appended
-pub record GathersJobOf (s : Settings) (counted : Bool) (text : List ℕ) (left : Option (List ℕ))
-    (old new : Option (List ℕ)) : Type 0 where
-  pub network : Network
-  pub plan : PlanValue
-  pub bodies : List (List ℕ)
-  pub job : ReadsJobOf s counted network plan text (Some (parts_text bodies))
-  pub count : length bodies ≡ plan.parts
-  pub end : IsAtEnd left
-  pub report : AreGivenBack (job_of network.graph plan) 0 bodies → IsPlain job.edges →
-      IfSome job.list IsPlain → AppendsReport s job.edges job.list old new
-
-abbrev pub GathersJob : Settings → Bool → Option (List ℕ) → Option (List ℕ) →
-    Option (List ℕ) → Option (List ℕ) → Type 0
-GathersJob s counted left left' old new =
-    IfSome left (λ text. GathersJobOf s counted text left' old new)

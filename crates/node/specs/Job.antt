@@ -2,8 +2,7 @@
 use Rattle.std.specs.Prelude.{◌≡◌, ℕ, Bool, List, Option, None, Some, is_some, IfSome, Ok}
 use Rattle.ball_model.specs.Input.{IsPlain, Network}
 use Rattle.ball_model.specs.PlanValue.{PlanValue, plan_of}
-use Rattle.ball_model.specs.RunText.{AreRead, Numbers, Settings, counted_in, plan_over}
-use Rattle.ball_model.specs.Sections.{sections_of}
+use Rattle.ball_model.specs.RunText.{Numbers, Settings, counted_in, network_in, plan_over}
 use Rattle.edgelist.specs.Planning.{is_corrected, numbers_with}
 use Rattle.edgelist.specs.Given.{IsGiven}
 use Rattle.edgelist.specs.Reading.{byte_of}
@@ -64,8 +63,3 @@ pub record IsJobRead (s : Settings) (counted : Bool) (left left' : Option (List 
   pub edges : SaysNetwork s left mid all
   pub list : CountsSome s counted mid left' all network
   pub planned : IsPlanned s.numbers network plan
-
-abbrev pub ReadsJob : Settings → Bool → Network → PlanValue → Option (List ℕ) →
-    Option (List ℕ) → Type 0
-ReadsJob s counted network plan old new =
-    IfSome old (λ text. ReadsJobOf s counted network plan text new)

@@ -254,7 +254,7 @@ fn step_of<R: CountedRead>(reader: &mut R, begins: bool, ahead: &mut ArrayVec<u8
     }
 }
 
-/// The next byte of a section, or its end. Nothing is read behind the end, after which it is not called again.
+/// The next byte of a section, or its end. Nothing is read behind the end.
 pub fn next_step<R: CountedRead>(reader: &mut R, cut: &mut Cut) -> Step
     ensures byte { (b : ℕ) → result ≡ Step.Byte b → Gives cut.old.begins b
         (prepend_known cut.old.ahead.items (R.remaining reader.old))
