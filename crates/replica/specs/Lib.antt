@@ -13,3 +13,4 @@ pub mod Runs
 pub mod Heard
 pub mod Saved
 pub mod Progress
+pub mod Tables

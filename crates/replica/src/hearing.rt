@@ -13,11 +13,12 @@ use crate::early::Early;
 use crate::level;
 use crate::shown::copy_rows;
 use crate::spread::{spread_batch, spread_own};
+use crate::tables::Tables;
 use crate::targets::Targets;
 use ball_model::Plan;
 use batches::Batch;
 use edgelist::Part;
-use registers::{Join, Relay, Rows, SourceMask};
+use registers::{Join, Rows, SourceMask};
 use std::alloc::{AllocError, Global};
 use std::marker::Model;
 
@@ -165,32 +166,32 @@ impl Hearing {
 
     /// Begins the next superstep: what changed in the own partition is heard too, what is accumulated becomes the
     /// rows, those are marked that this changes, and nothing is heard yet.
-    pub fn begin(&mut self, targets: &Targets, part: &Part, rows: &mut Relay, marks: &mut [bool])
-        requires width { rows.old.width ≡ self.old.accumulated.width }
-        requires count { length rows.old.rows ≡ length part.now.preds }
-        requires marks { length marks.old ≡ length part.now.preds }
+    pub fn begin(&mut self, targets: &Targets, part: &Part, tables: &mut Tables)
+        requires width { tables.old.rows.width ≡ self.old.accumulated.width }
+        requires count { length tables.old.rows.rows ≡ length part.now.preds }
         requires ready { IsReady part.now.plan.log2m targets.now self.old }
-        requires counters { AreCounters part.now.plan.log2m rows.old.rows }
-        requires rise { AllRise part.now.plan.log2m rows.old.rows self.old.accumulated.rows }
-        requires kept { KeepsAll rows.old.rows self.old }
-        ensures quiet { IsQuiet rows.new self.new }
-        ensures width { rows.new.width ≡ rows.old.width }
-        ensures marks { marks.new ≡
-            differences rows.old.rows rows.new.rows (length part.now.preds) }
-        ensures rise { AllRise part.now.plan.log2m rows.old.rows rows.new.rows }
-        ensures stands { OwnIsHeard targets.now part.now rows.old.rows marks.old
-            self.old.accumulated.rows rows.new.rows }
+        requires counters { AreCounters part.now.plan.log2m tables.old.rows.rows }
+        requires rise { AllRise part.now.plan.log2m tables.old.rows.rows self.old.accumulated.rows }
+        requires kept { KeepsAll tables.old.rows.rows self.old }
+        ensures quiet { IsQuiet tables.new.rows self.new }
+        ensures tables { tables.new ≡ record tables.old {
+          rows = record tables.old.rows { rows = tables.new.rows.rows };
+          marks = differences tables.old.rows.rows tables.new.rows.rows
+              (length tables.old.rows.rows);
+        } }
+        ensures rise { AllRise part.now.plan.log2m tables.old.rows.rows tables.new.rows.rows }
+        ensures stands { OwnIsHeard targets.now part.now tables.old.rows.rows tables.old.marks
+            self.old.accumulated.rows tables.new.rows.rows }
     {
         spread_own(
             targets,
             part,
-            rows.get(),
-            marks,
+            tables.rows(),
+            tables.marks(),
             &mut self.accumulated,
             &mut self.touched,
         );
-        rows.follow(&self.accumulated, &self.touched);
-        marks.copy_from_slice(&self.touched);
+        tables.follow(&self.accumulated, &self.touched);
         level::clear_marks(&mut self.touched);
         self.heard = SourceMask::empty();
         self.change = false;

@@ -50,17 +50,18 @@ mod shown;
 mod spread;
 mod start;
 mod step;
+mod tables;
 mod targets;
 
 use early::Early;
 use edgelist::Part;
-use figures::{Estimator, Tally};
+use figures::Estimator;
 use hearing::Hearing;
-use registers::Relay;
 pub use saved::Saved;
 pub use shown::Shown;
 use std::marker::Model;
 use std::sync::Arc;
+use tables::Tables;
 use targets::Targets;
 
 #[cfg(test)]
@@ -74,10 +75,7 @@ mod tests;
 pub struct Progress {
     part: Arc<Part>,
     superstep: u32,
-    rows: Relay,
-    marks: Vec<bool>,
-    tallies: Vec<Tally>,
-    sums: Vec<u128>,
+    tables: Tables,
     hearing: Hearing,
     early: Early,
 }

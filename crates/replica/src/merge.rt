@@ -54,7 +54,7 @@ impl Progress {
         ensures theirs { IsState other.now.state }
     {
         let theirs = other.superstep;
-        self.hearing.renew(alloc, self.rows.get())?;
+        self.hearing.renew(alloc, self.tables.rows())?;
         if self.superstep < theirs {
             self.overtake(targets, other, shared);
         } else if theirs < self.superstep {
@@ -79,14 +79,8 @@ impl Progress {
         let ahead = gap(self.superstep, other.superstep);
         let plan = *self.part.plan();
         self.superstep = other.superstep;
-        copy_shown(
-            other,
-            &mut self.rows,
-            &mut self.marks,
-            &mut self.tallies,
-            &mut self.sums,
-        );
-        self.hearing.assign(other.rows.get(), &other.hearing);
+        self.tables.assign(&other.tables);
+        self.hearing.assign(other.tables.rows(), &other.hearing);
         self.early.shift(ahead);
         self.hearing.hear_early(targets, &plan, &self.early);
         self.early.shift(1);
@@ -121,35 +115,14 @@ impl Progress {
         ensures absorbs { Absorbs self.old.state other.now.state self.new.state }
         ensures whole { IsWhole self.new }
     {
-        self.hearing.absorb(alloc, self.rows.get(), &other.hearing, other.accumulators());
+        self.hearing.absorb(
+            alloc,
+            self.tables.rows(),
+            &other.hearing,
+            other.accumulators(),
+        );
         self.early.fill(shared);
     }
-}
-
-// The rows, the marks, the figures and the sums become those of another one.
-fn copy_shown(
-    other: &Progress,
-    rows: &mut Relay,
-    marks: &mut [bool],
-    tallies: &mut [Tally],
-    sums: &mut Vec<u128>,
-)
-    requires rows { length rows.old.rows ≡ length other.now.state.rows }
-    requires width { rows.old.width ≡ 2 ^ other.now.state.part.plan.log2m }
-    requires marks { length marks.old ≡ length other.now.state.marks }
-    requires tallies { length tallies.old ≡ length other.now.state.tallies }
-    requires sums { length other.now.state.sums ≤ vec_capacity sums.old }
-    ensures rows { rows.new.rows ≡ other.now.state.rows }
-    ensures width { rows.new.width ≡ rows.old.width }
-    ensures marks { marks.new ≡ other.now.state.marks }
-    ensures tallies { map value_of tallies.new ≡ other.now.state.tallies }
-    ensures sums { sums.new.items ≡ other.now.state.sums }
-    ensures capacity { vec_capacity sums.new ≡ vec_capacity sums.old }
-{
-    rows.assign(other.rows.get());
-    marks.copy_from_slice(&other.marks);
-    tallies.copy_from_slice(&other.tallies);
-    shown::refill(sums, &other.sums);
 }
 
 // Of how many supersteps between the two no batch counts; past all that are kept it is as many as these.

@@ -40,7 +40,7 @@ impl Progress {
     {
         let mut count = 0u32;
         for i in 0..self.part.size() {
-            if self.marks[i as usize] && has_edge_into(self.part.feeds(i), target) {
+            if self.tables.marks()[i as usize] && has_edge_into(self.part.feeds(i), target) {
                 count += 1;
             }
         }
@@ -55,8 +55,9 @@ impl Progress {
         ensures { OnOk result
             (batch.new ≡ sent_batch self.now.state batch.old.name.target (i + 1)) }
     {
-        if self.marks[i as usize] && has_edge_into(self.part.feeds(i), batch.name().target) {
-            batch.push(self.part.vertex(i), self.rows.get().row(i as usize))?;
+        let marks = self.tables.marks();
+        if marks[i as usize] && has_edge_into(self.part.feeds(i), batch.name().target) {
+            batch.push(self.part.vertex(i), self.tables.rows().row(i as usize))?;
         }
         Ok(())
     }

@@ -14,11 +14,11 @@ ghost use Rattle.replica.specs.Saved.{Fits, IsKeepable, IsRebuilt, MayBeKept};
 use crate::early::Early;
 use crate::hearing::Hearing;
 use crate::saved::Saved;
+use crate::tables::Tables;
 use crate::targets::Targets;
-use crate::{Progress, Replica, shown, start};
+use crate::{Progress, Replica, start};
 use batches::Batch;
 use edgelist::Part;
-use registers::Relay;
 use std::alloc::{AllocError, Global};
 use std::sync::Arc;
 
@@ -56,32 +56,18 @@ fn known(alloc: Global, part: Arc<Part>, saved: Saved) -> Result<Progress, Alloc
     let plan = part.plan();
     // the limits of a part are told with its number
     prove!(part.partition() < plan.parts());
-    let sums = with_room(alloc, plan.limit(), &saved.sums)?;
     let early = kept(alloc, &part, saved.superstep, &saved.early)?;
     let (heard, change, accumulated) = (saved.heard, saved.heard_change, saved.accumulated);
     let hearing = Hearing::of(alloc, &saved.rows, heard, change, accumulated)?;
+    let (rows, marks, tallies) = (saved.rows, saved.marks, saved.tallies);
+    let tables = Tables::of(alloc, plan.limit(), rows, marks, tallies, &saved.sums)?;
     Ok(Progress {
         part,
         superstep: saved.superstep,
-        rows: Relay::new(saved.rows),
-        marks: saved.marks,
-        tallies: saved.tallies,
-        sums,
+        tables,
         hearing,
         early,
     })
-}
-
-// The same sums, with room for one a superstep up to the limit.
-fn with_room(alloc: Global, limit: u32, sums: &[u128]) -> Result<Vec<u128>, AllocError>
-    requires limit { limit ≤ greatest_limit }
-    requires few { length sums.now ≤ limit + 1 }
-    ensures sums { IfOk result (λ copy. copy.items ≡ sums.now) }
-    ensures room { IfOk result (λ copy. limit + 1 ≤ vec_capacity copy) }
-{
-    let mut copy = Vec::with_capacity(alloc, limit as usize + 1)?;
-    shown::refill(&mut copy, sums);
-    Ok(copy)
 }
 
 // The batches, shared, each at its place.

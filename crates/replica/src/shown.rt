@@ -89,7 +89,7 @@ pub trait Shown {
             result.now ≡ ball_counter (mixing_of j.plan) j.graph x t }
     {
         let s = self.shown();
-        let rows = s.rows.get();
+        let rows = s.tables.rows();
         rows.row(s.place(x))
     }
 
@@ -103,7 +103,8 @@ pub trait Shown {
             value_of result ≡ tally_at (mixing_of j.plan) j.graph x t }
     {
         let s = self.shown();
-        s.tallies[s.place(x)]
+        let tallies = s.tables.tallies();
+        tallies[s.place(x)]
     }
 
     /// Whether vertex `x`, which the partition owns, changed at this superstep.
@@ -116,7 +117,7 @@ pub trait Shown {
             result ≡ changed_at (mixing_of j.plan) j.graph x t }
     {
         let s = self.shown();
-        s.marks[s.place(x)]
+        s.tables.marks()[s.place(x)]
     }
 
     /// How many vertices of the partition changed at this superstep.
@@ -126,7 +127,7 @@ pub trait Shown {
             result ≡ changed_count j t p }
     {
         let s = self.shown();
-        level::count_set(&s.marks) as u32
+        level::count_set(s.tables.marks()) as u32
     }
 
     /// The sum of the estimates of the partition at each superstep so far, from 0 on.
@@ -137,7 +138,7 @@ pub trait Shown {
             result.now ≡ sums_of j p t }
     {
         let s = self.shown();
-        &s.sums
+        s.tables.sums()
     }
 
     /// The registers of all vertices of the partition, a row each.
@@ -148,7 +149,7 @@ pub trait Shown {
             result.now.rows ≡ rows_of j p t }
     {
         let s = self.shown();
-        s.rows.get()
+        s.tables.rows()
     }
 
     /// The figures of all vertices of the partition.
@@ -160,7 +161,7 @@ pub trait Shown {
             map value_of result.now ≡ tallies_of j p t }
     {
         let s = self.shown();
-        &s.tallies
+        s.tables.tallies()
     }
 
     /// Whether the batch of that name is held.
@@ -313,14 +314,14 @@ impl Progress {
         ensures value { result.now.rows ≡ self.now.state.accumulated }
         ensures width { result.now.width ≡ 2 ^ self.now.state.part.plan.log2m }
     {
-        self.hearing.accumulators(self.rows.get())
+        self.hearing.accumulators(self.tables.rows())
     }
 
     // Whether some source tells of a changed vertex.
     fn is_changing(&self) -> bool
         ensures { result ≡ is_changing self.now.state }
     {
-        self.hearing.change() || level::any_marked(&self.marks)
+        self.hearing.change() || level::any_marked(self.tables.marks())
     }
 
     // The verdict of a level that is held.
@@ -354,54 +355,16 @@ impl Progress {
     {
         let part = Arc::try_clone(&self.part)?;
         let early = self.early.share(alloc)?;
-        let copies = copy_rest(alloc, &self.hearing, &self.marks, &self.tallies, &self.sums)?;
-        let rows = self.rows.copied(alloc)?;
+        let hearing = self.hearing.copied(alloc)?;
+        let tables = self.tables.copied(alloc)?;
         Ok(Progress {
             part,
             superstep: self.superstep,
-            rows,
-            marks: copies.marks,
-            tallies: copies.tallies,
-            sums: copies.sums,
-            hearing: copies.hearing,
+            tables,
+            hearing,
             early,
         })
     }
-}
-
-// What a snapshot has a copy of; its rows, its batches and its part are shared.
-#[derive(Drop)]
-struct Copies {
-    hearing: Hearing,
-    marks: Vec<bool>,
-    tallies: Vec<Tally>,
-    sums: Vec<u128>,
-}
-
-// What is heard, marks, figures and sums, copied.
-fn copy_rest(
-    alloc: Global,
-    hearing: &Hearing,
-    marks: &[bool],
-    tallies: &[Tally],
-    sums: &[u128],
-) -> Result<Copies, AllocError>
-    ensures hearing { IfOk result (λ copies. (rows : List (List ℕ)) →
-        KeepsAllOrNone rows hearing.now → SaysSame rows hearing.now copies.hearing) }
-    ensures marks { IfOk result (λ copies. copies.marks.items ≡ marks.now) }
-    ensures tallies { IfOk result (λ copies. copies.tallies.items ≡ tallies.now) }
-    ensures sums { IfOk result (λ copies. copies.sums.items ≡ sums.now) }
-{
-    let hearing = hearing.copied(alloc)?;
-    let sums = Vec::from_slice(alloc, sums)?;
-    let tallies = Vec::from_slice(alloc, tallies)?;
-    let marks = Vec::from_slice(alloc, marks)?;
-    Ok(Copies {
-        hearing,
-        marks,
-        tallies,
-        sums,
-    })
 }
 
 // The same rows in a buffer of their own.
@@ -411,16 +374,4 @@ pub(crate) fn copy_rows(alloc: Global, rows: &Rows) -> Result<Rows, AllocError>
     let mut copy = Rows::fixed(alloc, rows.len() as u32, rows.width() as u16)?;
     copy.copy_from(rows);
     Ok(copy)
-}
-
-// The sums become others, within the room that was taken for them.
-pub(crate) fn refill(sums: &mut Vec<u128>, others: &[u128])
-    requires { length others.now ≤ vec_capacity sums.old }
-    ensures items { sums.new.items ≡ others.now }
-    ensures capacity { vec_capacity sums.new ≡ vec_capacity sums.old }
-{
-    sums.clear();
-    for sum in others {
-        sums.push_reserved(*sum);
-    }
 }

@@ -10,24 +10,16 @@ ghost use Rattle.replica.specs.Level.{total_of};
 ghost use Rattle.replica.specs.Progress.{CanGoOn};
 ghost use Rattle.replica.specs.Start.{Starts, first_figures, first_row, first_rows};
 
+use crate::Progress;
 use crate::early::Early;
 use crate::hearing::Hearing;
-use crate::{Progress, level};
+use crate::tables::Tables;
 use ball_model::{Plan, mix, place};
 use edgelist::Part;
 use figures::{Estimator, Tally};
-use registers::{Relay, Rows};
+use registers::Rows;
 use std::alloc::{AllocError, Global};
 use std::sync::Arc;
-
-/// What a replica has for each vertex, and the sums of all supersteps: what takes memory beside its part and batches.
-#[derive(Drop)]
-pub struct Tables {
-    pub rows: Rows,
-    pub marks: Vec<bool>,
-    pub tallies: Vec<Tally>,
-    pub sums: Vec<u128>,
-}
 
 /// How the estimates of the plan are made.
 pub fn estimator_of(alloc: Global, plan: &Plan) -> Result<Estimator, AllocError>
@@ -97,54 +89,6 @@ pub fn start_tallies(
     Ok(tallies)
 }
 
-// Figures that begin with the estimates of rows, and their sum, with room for one a superstep up to the limit.
-fn start_figures(
-    alloc: Global,
-    limit: u32,
-    estimator: &Estimator,
-    rows: &Rows,
-) -> Result<(Vec<Tally>, Vec<u128>), AllocError>
-    requires limit { limit ≤ greatest_limit }
-    requires rows { AreCounters estimator.now.log2m rows.now.rows }
-    ensures tallies { IfOk result (λ figures.
-        map value_of figures.0.items ≡ first_figures estimator.now rows.now.rows) }
-    ensures sums { IfOk result (λ figures.
-        figures.1.items ≡ total_of estimator.now rows.now.rows ∷ []) }
-    ensures room { IfOk result (λ figures. limit + 1 ≤ vec_capacity figures.1) }
-{
-    let tallies = start_tallies(alloc, estimator, rows)?;
-    let mut sums = Vec::with_capacity(alloc, limit as usize + 1)?;
-    sums.push_reserved(level::sum_of_lasts(&tallies));
-    Ok((tallies, sums))
-}
-
-// The tables that a replica of the part begins with.
-fn start_tables(alloc: Global, part: &Part, estimator: &Estimator) -> Result<Tables, AllocError>
-    requires plan { IsPlan part.now.plan }
-    requires measure { estimator.now ≡ measure_of part.now.plan }
-    ensures rows { IfOk result (λ t. t.rows ≡ record {
-      width = 2 ^ part.now.plan.log2m;
-      rows = first_rows part.now;
-    }) }
-    ensures marks { IfOk result (λ t. t.marks.items ≡ part.now.counted) }
-    ensures tallies { IfOk result (λ t.
-        map value_of t.tallies.items ≡
-        first_figures (measure_of part.now.plan) (first_rows part.now)) }
-    ensures sums { IfOk result (λ t. t.sums.items ≡
-        total_of (measure_of part.now.plan) (first_rows part.now) ∷ []) }
-    ensures room { IfOk result (λ t. part.now.plan.limit + 1 ≤ vec_capacity t.sums) }
-{
-    let marks = start_marks(alloc, part)?;
-    let rows = start_rows(alloc, part)?;
-    let (tallies, sums) = start_figures(alloc, part.plan().limit(), estimator, &rows)?;
-    Ok(Tables {
-        rows,
-        marks,
-        tallies,
-        sums,
-    })
-}
-
 /// What a replica of the part begins with, at superstep 0.
 pub fn first(alloc: Global, part: Arc<Part>, estimator: &Estimator) -> Result<Progress, AllocError>
     requires { estimator.now ≡ measure_of (arc_value part).plan }
@@ -155,15 +99,12 @@ pub fn first(alloc: Global, part: Arc<Part>, estimator: &Estimator) -> Result<Pr
     // the limits of a part are told with its number
     prove!(part.partition() < plan.parts());
     let early = Early::empty(alloc, plan.parts())?;
-    let tables = start_tables(alloc, &part, estimator)?;
-    let hearing = Hearing::start(alloc, &tables.rows)?;
+    let tables = Tables::start(alloc, &part, estimator)?;
+    let hearing = Hearing::start(alloc, tables.rows())?;
     Ok(Progress {
         part,
         superstep: 0,
-        rows: Relay::new(tables.rows),
-        marks: tables.marks,
-        tallies: tables.tallies,
-        sums: tables.sums,
+        tables,
         hearing,
         early,
     })

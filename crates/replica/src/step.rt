@@ -134,50 +134,12 @@ impl Progress {
         ensures goes_on { CanGoOn self.new }
     {
         let plan = *self.part.plan();
-        self.hearing
-            .begin(targets, &self.part, &mut self.rows, &mut self.marks);
-        next_figures(
-            estimator,
-            self.superstep,
-            &self.rows,
-            &self.marks,
-            &mut self.tallies,
-            &mut self.sums,
-        );
+        self.hearing.begin(targets, &self.part, &mut self.tables);
+        self.tables.step(estimator, self.superstep);
         self.superstep += 1;
         self.hearing.hear_early(targets, &plan, &self.early);
         self.early.shift(1);
     }
-}
-
-// The figures of the superstep that follows `t`, whose rows and marks are given, and the sum of its estimates.
-fn next_figures(
-    estimator: &Estimator,
-    t: u32,
-    rows: &Relay,
-    marks: &[bool],
-    tallies: &mut [Tally],
-    sums: &mut Vec<u128>,
-)
-    requires to { t < greatest_limit }
-    requires few { length rows.now.rows ≤ most_vertices }
-    requires rows { AreCounters estimator.now.log2m rows.now.rows }
-    requires marks { length marks.now ≡ length rows.now.rows }
-    requires count { length tallies.old ≡ length rows.now.rows }
-    requires lasts { AreLasts estimator.now rows.now.rows marks.now (map value_of tallies.old) }
-    requires sums { AreSums t
-        (sum_by (λ tally. tally.last) (map value_of tallies.old)) sums.old.items }
-    requires room { t + 1 < vec_capacity sums.old }
-    ensures tallies { map value_of tallies.new ≡ next_tallies estimator.now (t + 1) rows.now.rows
-        (map value_of tallies.old) (length rows.now.rows) }
-    ensures sums { sums.new.items ≡ sums.old.items ++ total_of estimator.now rows.now.rows ∷ [] }
-    ensures gains { sum_by (λ tally. tally.last) (map value_of tallies.old) ≤
-        total_of estimator.now rows.now.rows }
-    ensures capacity { vec_capacity sums.new ≡ vec_capacity sums.old }
-{
-    let last = sums[t as usize];
-    let gain = level::step_tallies(estimator, t + 1, rows.get(), marks, tallies);
-    sums.push_reserved(last + gain);
 }
 
 // Whether two plans are the same.

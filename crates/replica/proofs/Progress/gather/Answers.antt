@@ -78,7 +78,7 @@ invariant_of-self c =
     let at = goal.at.invariant_of-self c in
     kept_progress (after at.After-fill) (state_after at.After-fill (keeps at.After-other) (pair at.After-other)) c.self.invariant.width
     (c.hear_early.ensures.width ∙ c.self.invariant.accumulated_width)
-    (c.hear_early.ensures.touched c.self.inside.rows.rows (keeps at.After-other).kept)
+    (c.hear_early.ensures.touched c.self.inside.tables.rows.rows (keeps at.After-other).kept)
 
 pub returns : goal.returns
 returns c =

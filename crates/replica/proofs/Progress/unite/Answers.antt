@@ -57,11 +57,11 @@ state_after c k m r =
     unites_state (fields_of c.self.inside) (state_of c.other.inside) (fields_of (after c)) m.mine m.theirs (unites c k m r) m.plan m.number refl
 
 -- those that differ from their rows are marked
-kept : (c : After-absorb) → Meets (fields_of c.self.inside) (state_of c.other.inside) c.args.shared.now → Raises (fields_of c.self.inside) (state_of c.other.inside) c.absorb.new.self.accumulated → KeepsAll c.self.inside.rows.rows c.absorb.new.self
+kept : (c : After-absorb) → Meets (fields_of c.self.inside) (state_of c.other.inside) c.args.shared.now → Raises (fields_of c.self.inside) (state_of c.other.inside) c.absorb.new.self.accumulated → KeepsAll c.self.inside.tables.rows.rows c.absorb.new.self
 kept c m r =
     let s = fields_of c.self.inside in
     touched_from s.part.plan.log2m (length s.rows) s.rows c.absorb.new.self.accumulated.rows c.absorb.new.self.touched m.mine.rows (all_on s.part.plan.log2m s.rows s.accumulated c.absorb.new.self.accumulated.rows m.mine.rows m.mine.accumulated r.rise) refl
-    ((rw c.get.ensures at (ap (λ (a : HearingValue). a.touched) c.absorb.ensures)) ∙ ap (λ (a : HearingValue). differences s.rows a.accumulated.rows (length s.rows)) (sym c.absorb.ensures))
+    ((rw c.rows.ensures at (ap (λ (a : HearingValue). a.touched) c.absorb.ensures)) ∙ ap (λ (a : HearingValue). differences s.rows a.accumulated.rows (length s.rows)) (sym c.absorb.ensures))
 
 pub absorb-requires : goal.absorb-requires
 absorb-requires c =
@@ -70,7 +70,7 @@ absorb-requires c =
     record {
       width = c.self.invariant.accumulated_width ∙ ap (λ (a : PlanValue). 2 ^ a.log2m) m.plan ∙ ap (λ (v : State). 2 ^ v.part.plan.log2m) (state_is c.other.view_is) ∙ sym c.accumulators.ensures.width;
       count = m.count ∙ sym (ap (length {A = List ℕ}) (theirs at.After-accumulators));
-      rows = ap (λ (t : Table). length t.rows) c.get.ensures ∙ sym m.mine.accumulated.count;
+      rows = ap (λ (t : Table). length t.rows) c.rows.ensures ∙ sym m.mine.accumulated.count;
     }
 
 pub invariant_of-self : goal.invariant_of-self

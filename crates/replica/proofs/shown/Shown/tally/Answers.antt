@@ -19,9 +19,9 @@ at_place v tallies x place found state are at below is =
 
 pub returns-clause-value : goal.returns-clause-value
 returns-clause-value g c =
-    rw (← c.shown-s.ensures) (at_place c.shown-s.result.now.state c.s.inside.tallies.items c.args.x c.place.result c.index.result.now c.place.ensures.state (ap (λ (v : State). v.tallies) (state_is c.s.view_is)) c.place.ensures.value c.place.ensures.below c.index.ensures)
+    rw (← c.shown-s.ensures) (at_place c.shown-s.result.now.state c.tallies.result.now c.args.x c.place.result c.index.result.now c.place.ensures.state (c.tallies.ensures ∙ ap (λ (v : State). v.tallies) (state_is c.s.view_is)) c.place.ensures.value c.place.ensures.below c.index.ensures)
 
 pub returns-clause-stands : goal.returns-clause-stands
 returns-clause-stands g c = rw (← c.shown-s.ensures) (λ j p t h.
-    at_place c.shown-s.result.now.state c.s.inside.tallies.items c.args.x c.place.result c.index.result.now c.place.ensures.state (ap (λ (v : State). v.tallies) (state_is c.s.view_is)) c.place.ensures.value c.place.ensures.below c.index.ensures
+    at_place c.shown-s.result.now.state c.tallies.result.now c.args.x c.place.result c.index.result.now c.place.ensures.state (c.tallies.ensures ∙ ap (λ (v : State). v.tallies) (state_is c.s.view_is)) c.place.ensures.value c.place.ensures.below c.index.ensures
     ∙ tally_stands j p t c.args.x c.shown-s.result.now.state h c.place.ensures.state (rw (← c.shown-s.ensures) at c.requires.vertex) (rw (← c.shown-s.ensures) at c.requires.own))

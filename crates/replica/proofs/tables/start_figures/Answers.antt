@@ -3,7 +3,7 @@ use Rattle.std.specs.List.{sum_by}
 use Rattle.figures.specs.declared.tally.Tally.{Tally}
 use Rattle.replica.specs.Level.{total_of}
 use Rattle.replica.proofs.StartLemmas.{started_total}
-use Rattle.replica.proofs.start.start_figures.Goals as goal
+use Rattle.replica.proofs.tables.start_figures.Goals as goal
 
 pub returns-clause-sums : goal.returns-clause-sums
 returns-clause-sums c =

@@ -1,6 +1,6 @@
 use Rattle.std.proofs.Common.{◌≡◌, take}
 use Rattle.std.specs.Vec.{vec_len, vec_capacity}
-use Rattle.replica.proofs.shown.refill.Given as goal
+use Rattle.replica.proofs.tables.refill.Given as goal
 
 abbrev pub invariant-loop-sum : goal.invariant-loop-sum
 invariant-loop-sum l = record {
