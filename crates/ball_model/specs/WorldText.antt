@@ -301,18 +301,6 @@ pub record HasCommands (s : ReplaySettings) (script : List ℕ) : Type 0 where
   pub events : List Event
   pub commands : script_of script ≡ Ok events
 
--- so it is, and the edge list is refused
-pub record IsReplayEdgeFault (s : ReplaySettings) (edges script : List ℕ)
-    (r : Refusal) : Type 0 where
-  pub before : HasCommands s script
-  pub refused : network_in s.run edges ≡ Err r
-
--- so it is, and the list of counted vertices is refused
-pub record IsReplayCountedFault (s : ReplaySettings) (edges : List ℕ) (list : Option (List ℕ))
-    (script : List ℕ) (r : CountedRefusal) : Type 0 where
-  pub before : HasCommands s script
-  pub refused : IsCountedFault s.run edges list r
-
 -- so it is, and there is no such plan over the network
 pub record IsReplayPlanFault (s : ReplaySettings) (edges : List ℕ) (list : Option (List ℕ))
     (script : List ℕ) (fault : PlanError) : Type 0 where

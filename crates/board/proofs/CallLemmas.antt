@@ -101,9 +101,6 @@ turn_caller was now end found book t number e =
       seen = ap (λ (x : Me (Option History) View). x.0.seen) e i;
     }
 
-pub turn_extends : (was now : Grant) (found book : History) → IsTurn was now found → IsNext was.pass.me.0.limit was.number found book → Extends (caller_of was) (seeing (caller_of was) book)
-turn_extends was now found book t h = met_extends (caller_of was) found book t.goes_on.0 t.goes_on.4 h
-
 pub turn_called : (was now : Grant) (found book : History) (e : Event) → IsTurn was now found → IsNoted was.pass.me.0.limit was.number e found book → Called (caller_of was) e (seeing (caller_of was) book)
 turn_called was now found book e t h = met_called (caller_of was) found book e t.goes_on.0 (own_before was now found t) h
 

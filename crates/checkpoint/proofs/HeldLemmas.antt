@@ -55,14 +55,6 @@ batch_added bytes rest after batches b so_far split =
     flat_map-append early_bytes batches (b ∷ []) ∙ ap (λ (l : List ℕ). flat_map early_bytes batches ++ l) (append-nil (early_bytes b)) in
     so_far ∙ ap (λ (l : List ℕ). flat_map early_bytes batches ++ l) split ∙ sym (append_assoc (flat_map early_bytes batches) (early_bytes b) after) ∙ ap (λ (l : List ℕ). l ++ after) (sym more)
 
--- a number and what it counts, and nothing after it
-pub counted_read : (bytes number after rest these : List ℕ) (n k : ℕ) → bytes ≡ number ++ after → length number ≡ 2 → ((i : ℕ) → get_or number i 0 < 256) → n ≡ field w16 0 number → k ≡ n → after ≡ these ++ rest → rest ≡ []
-    → bytes ≡ to_be_bytes w16 k ++ these
-counted_read bytes number after rest these n k split len fits is same then none =
-    let whole : take 2 number ≡ number = take_all 2 number (omega (arith, len)) in
-    let field_is : to_be_bytes w16 k ≡ number = be_bytes_2 number k len fits (same ∙ is ∙ ap (from_be_bytes w16) whole) in
-    split ∙ ap (λ (l : List ℕ). number ++ l) (then ∙ ap (λ (l : List ℕ). these ++ l) none ∙ append-nil these) ∙ ap (λ (l : List ℕ). l ++ these) (sym field_is)
-
 -- a beginning of bytes is of bytes
 pub front_fits : (bytes front rest : List ℕ) → bytes ≡ front ++ rest → ((i : ℕ) → get_or bytes i 0 < 256) → (i : ℕ) → get_or front i 0 < 256
 front_fits bytes front rest split fits i = elim (cases_lt i (length front)) [

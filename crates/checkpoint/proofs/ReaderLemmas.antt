@@ -310,12 +310,6 @@ needs_fails {n} {m} {e} k le p q =
     fails_then (needs k) n k p.takes p.few le (λ rest is. let r = needs-refuses m e rest is in needs-err k (one ++ rest) (omega (arith, length-append one rest, e1, r.0, le)) ∙ r.1)
     (λ _ rest fine. passes-needs k (one ++ rest) (omega (arith, length-append one rest, e1, needs-within m rest fine, le))) q
 
--- the number that was read behind a text
-pub number_read : (w : Width) (at : ℕ) (t u piece : List ℕ) → at ≡ length t → u ≡ t ++ piece → length piece ≡ byte_len w → field w at u ≡ from_be_bytes w piece
-number_read w at t u piece e grown len =
-    let past : drop at u ≡ piece = ap (λ (n : ℕ). drop n u) e ∙ ap (drop (length t)) grown ∙ drop-append_seam t piece in
-    ap (from_be_bytes w) (ap (take (byte_len w)) past ∙ take_all (byte_len w) piece (omega (arith, len)))
-
 -- ---- batches
 -- so many of all batches were read
 pub record Walks {R : Type 0} (remaining : R → Option (List ℕ)) (failed : R → ℕ) (sure : R → Option ℕ) (plan : PlanValue) (count i each : ℕ) (a b : R) (t u : List ℕ) : Type 0 where
@@ -486,12 +480,6 @@ seal_unread {remaining} {failed} {sure} {a} {b} {c} {digest} text p len few rise
 grows-long : (n : ℕ) (t u piece : List ℕ) → u ≡ t ++ piece → needs n (piece ++ []) ≡ Ok (length piece) → length u ≡ length t + n
 grows-long n t u piece grown is = omega (arith, ap length grown, length-append t piece, needs-takes n (length piece) (piece ++ []) is)
 
-pub grown_by : {R : Type 0} {remaining : R → Option (List ℕ)} {failed : R → ℕ} {sure : R → Option ℕ} {most : ℕ} {a b : R} {t u : List ℕ} (n : ℕ) → Grows remaining failed sure (needs n) most a b t u → length u ≡ length t + n
-grown_by {t} {u} n p = grows-long n t u p.piece p.grown (p.is_form [])
-
-pub piece_is : {R : Type 0} {remaining : R → Option (List ℕ)} {failed : R → ℕ} {sure : R → Option ℕ} {most : ℕ} {a b : R} {t u : List ℕ} (n : ℕ) → (p : Grows remaining failed sure (needs n) most a b t u) → length p.piece ≡ n
-piece_is n p = sym (needs-takes n (length p.piece) (p.piece ++ []) (p.is_form []))
-
 pub told-refused : (plan : PlanValue) (piece bytes : List ℕ) → is_batch_length plan (from_be_bytes w64 piece) ≡ false → told_batch plan piece bytes ≡ Err errors.Shape
 unfolding told_batch
 told-refused plan piece bytes is = rw is refl
@@ -616,9 +604,6 @@ pub digest_same : (digest told text : List ℕ) → false ≡ not (bytes_eq dige
 digest_same digest told text e is = ap (bytes_eq digest) (sym is) ∙ flip_false (bytes_eq digest told) e
 
 -- ---- the whole
-pub content-short : (part : PartValue) (bytes : List ℕ) → length bytes < 54 → content_form part bytes ≡ Err errors.Short
-content-short part bytes lt = followed-err (needs 54) (told_body part) bytes errors.Short (needs-err 54 bytes lt)
-
 pub told-body : (part : PartValue) (piece rest : List ℕ) (h : Header) → head_at piece ≡ h → check_head part h ≡ Ok tt → told_body part piece rest ≡ body_form part h rest
 unfolding told_body
 told-body part piece rest h is fine =

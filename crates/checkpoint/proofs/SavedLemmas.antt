@@ -107,17 +107,7 @@ pub spelt_16 : (bytes number rest : List ℕ) (n : ℕ) → bytes ≡ number ++ 
 spelt_16 bytes number rest n split long small is =
     split ∙ ap (λ (l : List ℕ). l ++ rest) (sym (be_bytes_16 number n long (small_of bytes number rest split small) (is ∙ ap (from_be_bytes w128) (take_all 16 number (omega (arith, long))))))
 
-pub spelt_1 : (bytes first rest : List ℕ) (n : ℕ) → bytes ≡ first ++ rest → length first ≡ 1 → get_or first 0 0 ≡ n → bytes ≡ n ∷ rest
-spelt_1 bytes [] rest n split long is = absurd (omega (arith, long))
-spelt_1 bytes (b ∷ []) rest n split long is = split ∙ ap (λ (k : ℕ). k ∷ rest) is
-spelt_1 bytes (b ∷ c ∷ more) rest n split long is = absurd (omega (arith, long))
-
 -- ---- a vertex
-pub entry_is : (mark : Bool) (last harm dist : ℕ) (tally : TallyValue) (bytes r1 r2 r3 rest : List ℕ) → bytes ≡ mark_byte mark ∷ r1 → r1 ≡ to_be_bytes w64 last ++ r2 → r2 ≡ to_be_bytes w64 harm ++ r3 → r3 ≡ to_be_bytes w128 dist ++ rest →
-    tally ≡ record { last = last; harm = harm; dist = dist } → bytes ≡ entry_bytes mark tally rest
-entry_is mark last harm dist tally bytes r1 r2 r3 rest a b c d e =
-    a ∙ ap (λ (l : List ℕ). mark_byte mark ∷ l) (b ∙ ap (λ (l : List ℕ). to_be_bytes w64 last ++ l) (c ∙ ap (λ (l : List ℕ). to_be_bytes w64 harm ++ l) d)) ∙ sym (ap (λ (t : TallyValue). entry_bytes mark t rest) e)
-
 entry_then : (mark : Bool) (tally : TallyValue) (row rest : List ℕ) → entry_bytes mark tally (row ++ rest) ≡ entry_bytes mark tally row ++ rest
 entry_then mark tally row rest = refl
 

@@ -194,18 +194,9 @@ pub record ReadSoFar (pieces : List (Bor (List ℕ))) (os : List (NodeId × ℕ)
   pub spelled : map (λ piece. piece.now) pieces ≡ map order_text os
   pub fit : AllByRecursion IsOrder os
 
-pub none-read : ReadSoFar [] []
-none-read = record { spelled = refl; fit = tt }
-
 fit-more : (os : List (NodeId × ℕ)) (o : NodeId × ℕ) → AllByRecursion IsOrder os → IsOrder o → AllByRecursion IsOrder (os ++ o ∷ [])
 fit-more [] o fit more = (more, tt)
 fit-more (x ∷ os) o fit more = (fit.0, fit-more os o fit.1 more)
-
-pub one-read : (pieces : List (Bor (List ℕ))) (piece : Bor (List ℕ)) (os : List (NodeId × ℕ)) (o : NodeId × ℕ) → ReadSoFar pieces os → IsOrder o × (piece.now ≡ order_text o) → ReadSoFar (pieces ++ piece ∷ []) (os ++ o ∷ [])
-one-read pieces piece os o far read = record {
-  spelled = map-append (λ piece. piece.now) pieces (piece ∷ []) ∙ ap (λ l. l ++ piece.now ∷ []) far.spelled ∙ ap (λ l. map order_text os ++ l ∷ []) read.1 ∙ sym (map-append order_text os (o ∷ []));
-  fit = fit-more os o far.fit read.0;
-}
 
 some-pieces : (text : List ℕ) (os : List (NodeId × ℕ)) → slice_split (λ b. b == 44) text ≡ map order_text os → os ≢ []
 some-pieces text os pieces none =

@@ -21,19 +21,6 @@ read_more a b c before piece after h read is few = record {
   few = few;
 }
 
--- the last piece
-pub read_last : (a b c : Option (List ℕ)) (before piece after : List ℕ) → HasRead a b before → Consumes b c piece → IsAtEnd c → after ≡ before ++ piece → IsWhole a after
-read_last a b c before piece after h read end is = Consumes-whole a c (before ++ piece) _ (Consumes-trans a b c before piece h.consumed read) end is
-
--- more bytes than an input has that is read whole
-pub read_long : (a b c : Option (List ℕ)) (before piece : List ℕ) → HasRead a b before → Consumes b c piece → most_bytes < length before + length piece → IsLong a
-read_long a b c before piece h read long = long_in a c (before ++ piece) (Consumes-trans a b c before piece h.consumed read) (omega (arith, length-append before piece, long))
-  where
-    long_in : (a c : Option (List ℕ)) (bytes : List ℕ) → Consumes a c bytes → most_bytes < length bytes → IsLong a
-    long_in None c bytes read long = tt
-    long_in (Some xs) None bytes read long = absurd read
-    long_in (Some xs) (Some rest) bytes read long = let size = ap (length {A = ℕ}) read ∙ length-append bytes rest in omega (arith, size, long)
-
 -- a piece that was not kept
 pub read_lost : (a b c : Option (List ℕ)) (before : List ℕ) (room most : ℕ) → HasRead a b before → TakesAtMost room b c → length before + room ≤ most → TakesAtMost most a c
 read_lost a b c before room most h lost fits = record {

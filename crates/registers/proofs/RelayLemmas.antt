@@ -16,12 +16,6 @@ differ_either ms ns both a b c e d f = record {
       d.same i lt neither.0 ∙ f.same i (omega (arith, lt, d.count)) neither.1;
 }
 
--- what is marked is stale too
-pub marks_stale : (stale marks both : List Bool) (table shown ahead : Table) → AreEither stale marks both →
-    IsRelay shown (Some (record { table = table; stale = stale })) → DifferWhere marks shown ahead →
-    IsRelay ahead (Some (record { table = table; stale = both }))
-marks_stale stale marks both table shown ahead e is d = differ_either stale marks both table shown ahead e is d
-
 -- there are as many stale marks as others
 pub as_many : (marks : List Bool) (behind : Option Marked) (shown ahead : Table) → IsRelay shown behind → DifferWhere marks shown ahead →
     IfSome behind (λ b. length b.stale ≡ length marks)

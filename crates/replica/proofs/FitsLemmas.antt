@@ -37,10 +37,6 @@ sources_are parts own heard long none off = record {
   other = off;
 }
 
--- none is set from parts on
-pub none_beyond : (parts own q : ℕ) (heard : List Bool) → AreSources parts own heard → parts ≤ q → get_or heard q false ≡ false
-none_beyond parts own q heard are beyond = false_from_ne_true (get_or heard q false) (λ set. omega (arith, are.below q set, beyond))
-
 -- ---- batches of later supersteps
 
 abbrev key_at : List BatchValue → ℕ → ℕ
@@ -53,15 +49,6 @@ pub record KeptSoFar (plan : PlanValue) (p t n next : ℕ) (batches : List Batch
   pub below : (k : ℕ) → k < n → get_or (map order_key batches) k 0 < next
   pub last : 0 < n → get_or (map order_key batches) (n - 1) 0 + 1 ≡ next
   pub first : n ≡ 0 → next ≡ 0
-
-pub kept_none : (plan : PlanValue) (p t : ℕ) (batches : List BatchValue) → KeptSoFar plan p t 0 0 batches
-kept_none plan p t batches = record {
-  each = λ k d lt. absurd (omega (arith, lt));
-  ascending = λ i j up lt. absurd (omega (arith, lt));
-  below = λ k lt. absurd (omega (arith, lt));
-  last = λ lt. absurd (omega (arith, lt));
-  first = λ _. refl;
-}
 
 key_is : (batches : List BatchValue) (n : ℕ) (b : BatchValue) → n < length batches → get_or batches n b ≡ b → key_at batches n ≡ order_key b
 key_is batches n b lt at = get_or-map order_key batches n b 0 lt ∙ ap order_key at

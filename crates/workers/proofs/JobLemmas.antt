@@ -31,9 +31,6 @@ pub record Joining {H : Type 0} (told : H → Told) (j : Job) (o : RunOptions) (
   pub left : EachAt (λ k child. IfSome child (λ h. IsTold j o p k (told h))) (length ends) rest
   pub given : EachAt (λ k. KeepsItsOrders j p (orders_for o p k)) 0 ends
 
-pub joining_start : {H : Type 0} (told : H → Told) (j : Job) (o : RunOptions) (p : ℕ) (children : List (Option H)) → IsPartStarted told j o p children → Joining told j o p children []
-joining_start told j o p children h = record { count = (let e : 0 + length children ≡ o.replicas = omega (arith, h.count) in e); left = h.each; given = tt }
-
 pub joining_more : {H : Type 0} (told : H → Told) (j : Job) (o : RunOptions) (p : ℕ) (child : Option H) (rest : List (Option H)) (ends : List (Result NodeEnd NodeError)) (r : Result NodeEnd NodeError) → Joining told j o p (child ∷ rest) ends →
     ((k : ℕ) → IfSome child (λ h. IsTold j o p k (told h)) → KeepsItsOrders j p (orders_for o p k) r) → Joining told j o p rest (ends ++ r ∷ [])
 joining_more told j o p child rest ends r h end =
@@ -52,9 +49,6 @@ pub record JoiningAll {H V W : Type 0} (told : H → Told) (items : V → List (
   pub left : EachAt (λ p v. IsPartStarted told j o p (items v)) (length ends) rest
   pub given : EachAt (λ p w. IsPartEnd j o p (own w)) 0 ends
 
-pub all_start : {H V W : Type 0} (told : H → Told) (items : V → List (Option H)) (own : W → List (Result NodeEnd NodeError)) (j : Job) (o : RunOptions) (children : List V) → AreStarted told items j o children → JoiningAll told items own j o children []
-all_start told items own j o children h = record { count = (let e : 0 + length children ≡ j.plan.parts = omega (arith, h.count) in e); left = h.each; given = tt }
-
 pub all_more : {H V W : Type 0} (told : H → Told) (items : V → List (Option H)) (own : W → List (Result NodeEnd NodeError)) (j : Job) (o : RunOptions) (v : V) (rest : List V) (ends : List W) (w : W) → JoiningAll told items own j o (v ∷ rest) ends →
     ((p : ℕ) → IsPartStarted told j o p (items v) → IsPartEnd j o p (own w)) → JoiningAll told items own j o rest (ends ++ w ∷ [])
 all_more told items own j o v rest ends w h end =
@@ -65,18 +59,12 @@ all_more told items own j o v rest ends w h end =
       given = each_push (λ p w. IsPartEnd j o p (own w)) 0 ends w h.given (subst (λ (p : ℕ). IsPartEnd j o p (own w)) (let e : length ends ≡ 0 + length ends = omega arith in e) (end (length ends) h.left.0));
     }
 
-pub all_joined : {H V W : Type 0} (told : H → Told) (items : V → List (Option H)) (own : W → List (Result NodeEnd NodeError)) (j : Job) (o : RunOptions) (ends : List W) → JoiningAll told items own j o [] ends → AreEnds own j o ends
-all_joined told items own j o ends h = record { count = (let e : length ends ≡ j.plan.parts = omega (arith, h.count) in e); each = h.given }
-
 -- ---- ends that are put together
 pub record Settling (j : Job) (o : RunOptions) (p k : ℕ) (rest : List (Result NodeEnd NodeError)) (old now : Faults) (done : Option State) (all_lost : Bool) : Type 0 where
   pub each : EachAt (λ i. KeepsItsOrders j p (orders_for o p i)) k rest
   pub found : IfSome done (IsDone j p)
   pub noted : AreNoted j.plan.parts o old → AreNoted j.plan.parts o now
   pub ordered : all_lost ≡ true → (i : ℕ) → i < k → is_some (order_for p i o.lose.items) ≡ true
-
-pub settling_start : (j : Job) (o : RunOptions) (p : ℕ) (ends : List (Result NodeEnd NodeError)) (f : Faults) → IsPartEnd j o p ends → Settling j o p 0 ends f f None true
-settling_start j o p ends f h = record { each = h.each; found = tt; noted = λ n. n; ordered = λ _ i lt. absurd (omega arith) }
 
 both_true : (a b : Bool) → (a && b) ≡ true → (a ≡ true) × (b ≡ true)
 both_true true b h = (refl, h)

@@ -70,9 +70,6 @@ pub told_before : (u v w : Caller) (s p : ℕ) → Extends u v → HasToldAll v 
 told_before u v w s p e h = λ r lt other. posted_before u v w _ e (h r (subst (λ (j : Job). r < j.plan.parts) (sym e.begins.job) lt) other)
 
 -- ---- a name that did not stand
-pub missing_now : (v w : Caller) (name : BatchName) → Extends v w → (board_of w.seen).stands name ≡ false → WasMissing v name w
-missing_now v w name e is = record { moment = w.seen; since = e.begins; until = begins_self w.seen; missing = is }
-
 pub missing_later : (u v w : Caller) (name : BatchName) → WasMissing u name v → Extends v w → WasMissing u name w
 missing_later u v w name h e = record { moment = h.moment; since = h.since; until = begins_trans h.moment v.seen w.seen h.until e.begins; missing = h.missing }
 

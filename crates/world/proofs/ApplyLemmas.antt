@@ -222,17 +222,6 @@ recover_of_world j id k w v d a s t shows at turns =
       outcome = λ n here. found j w n (event.Recover id k) here ∙ ap (recover_at w id n) copy.is ∙ recovered j w id n c (merge_of n.content.plan n.content.partition c.plan c.partition) here;
     }
 
--- ---- events that leave their node
--- a node is looked at
-pub show_applies : (j : Job) (id : NodeId) (v : SeenWorld) (s : SeenNode) → seen_at v id ≡ Some s → Applies j (event.Show id) (Ok answer.Shown) v v
-show_applies j id v s at = record {
-  refused = tt;
-  answer = λ w shows some. let n = node_here j w v id s shows at in sym (ap answer_in (found j w n.one (event.Show id) n.is));
-  shows = λ w shows some. let n = node_here j w v id s shows at in subst (λ (x : World). Shows j x v) (sym (ap (world_in w) (found j w n.one (event.Show id) n.is))) shows;
-  takes = λ r. absurd (cc);
-  memory = λ w shows r. absurd (cc);
-}
-
 -- ---- one message more, one copy more
 -- an event that changes no node: its outcome, and that both worlds have more
 pub gained_applies : (j : Job) (e : Event) (a : Answer) (old u v : SeenWorld) → v ≡ old → ((w : World) → Shows j w v → (x : World) × (outcome_of j w e ≡ Ok (a, x)) × Shows j x u) → Applies j e (Ok a) old u
@@ -294,19 +283,6 @@ send_applies j id q a b old u v s here at below other tells said new =
       subst (λ (x : SeenWorld). Shows j (record w { sent = w.sent ++ name_to n.one q ∷ [] }) x) (ap (λ (c : BatchValue). record v { messages = v.messages ++ message_of c ∷ [] }) (sym batch) ∙ sym new) (sent_shows j w v n.one id q shows n.is fits),
     ))
 
--- the target is none, or the node's own partition
-pub no_target : (j : Job) (id : NodeId) (q : ℕ) (old u v : SeenWorld) (s : SeenNode) → v ≡ old → u ≡ v → seen_at v id ≡ Some s → (nat_lt q s.replica.part.plan.parts && not (q == s.replica.part.number)) ≡ false → Applies j (event.Send id q) (Err refusal.NoTarget) old u
-no_target j id q old u v s here same at out =
-    refused_applies j (event.Send id q) refusal.NoTarget old u v (λ k. absurd (cc)) here same (λ w shows.
-    let n = node_here j w v id s shows at in
-    let h = n.one.content in
-    let stands = n.agrees.content.holding.stands in
-    let is : (nat_lt q j.plan.parts && not (q == h.partition)) ≡ false =
-    ap (λ p. nat_lt q j.plan.parts && not (q == p)) (sym (number_is j h.partition h.superstep s.replica stands))
-    ∙ ap (λ (plan : PlanValue). nat_lt q plan.parts && not (q == s.replica.part.number)) (sym (plan_is j h.partition h.superstep s.replica stands))
-    ∙ out in
-    found j w n.one (event.Send id q) n.is ∙ rw is refl)
-
 copied_shows : (j : Job) (w : World) (v : SeenWorld) (n : Node) (id : NodeId) (d : State) → Shows j w v → node_at w id ≡ Some n → Has j n.content d →
     Shows j (record w { copies = w.copies ++ n.content ∷ [] }) (record v { copies = v.copies ++ d ∷ [] })
 unfolding node_at
@@ -347,17 +323,6 @@ pub record IsNodeOf (o : Option SeenNode) (r : State) : Type 0 where
 pub node_of_replica : (o : Option SeenNode) (r : State) → Some r ≡ option_map (λ (n : SeenNode). n.replica) o → IsNodeOf o r
 node_of_replica None r e = absurd (cc)
 node_of_replica (Some s) r e = record { node = s; is = refl; replica = ap (λ x. unwrap_or x r) (sym e) }
-
-pub none_of_replica : (o : Option SeenNode) → option_map (λ (r : State). r) None ≡ option_map (λ (n : SeenNode). n.replica) o → o ≡ None
-none_of_replica None e = refl
-none_of_replica (Some s) e = absurd (cc)
-
--- where nodes agree, so do their replicas
-pub replicas_agree : (j : Job) (o : Option Node) (p : Option SeenNode) (r : Option State) → Agree (ShowsNode j) o p → r ≡ option_map (λ (n : SeenNode). n.replica) p → Agree (λ (n : Node) (v : State). Has j n.content v) o r
-replicas_agree j None None r h e = subst (λ (x : Option State). Agree (λ (n : Node) (v : State). Has j n.content v) None x) (sym e) tt
-replicas_agree j (Some n) (Some s) r h e = subst (λ (x : Option State). Agree (λ (n : Node) (v : State). Has j n.content v) (Some n) x) (sym e) h.content
-replicas_agree j None (Some s) r h e = absurd h
-replicas_agree j (Some n) None r h e = absurd h
 
 -- the batch of a message that was read back
 ok_in : BatchValue → Result BatchValue BatchError → BatchValue

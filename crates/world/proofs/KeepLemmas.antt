@@ -45,14 +45,6 @@ keepable j h v k =
     }
 
 -- ---- what is kept
-pub keep_turns : (j : Job) (v : State) (kept : Option (List ℕ)) (bytes : List ℕ) → bytes ≡ checkpoint_bytes v → Turns j kept_turn (answer.Kept v.superstep) (node v kept) (node v (Some bytes))
-keep_turns j v kept bytes is = record {
-  turned = λ p n fits shows. (
-    ap answer.Kept shows.content.holding.stands.superstep,
-    record { content = shows.content; kept = record { replica = v; has = shows.content; bytes_are = is } },
-  );
-}
-
 -- the content that was kept, from its bytes
 
 back : (j : Job) (p : ℕ) (n : Node) (v w : State) (bytes : List ℕ) (o : Option Holding) → n.kept ≡ o → IsNode j p n → ShowsNode j n (node v (Some bytes)) → Agree (IsKept j) o (Some bytes) → IfSome o (IsHeldBy j p) →
@@ -87,11 +79,3 @@ anew j p n v w None at fits shows agree has =
     let given : unwrap_or n.kept (start_holding j.plan n.content.partition) ≡ start_holding j.plan n.content.partition = ap (λ o. unwrap_or o (start_holding j.plan n.content.partition)) at in
     subst (λ (d : Holding). (answer.Restarted w.superstep ≡ answer.Restarted d.superstep) × ShowsNode j (record n { content = d }) (node w None)) (sym given)
     (ap answer.Restarted has.holding.stands.superstep, record { content = has; kept = shows.kept })
-
-pub fresh_turns : (j : Job) (v w : State) → ((k : Job) (p : ℕ) → IsJob k → p < k.plan.parts → v.part ≡ part_of k p → ShowsNode k (start_node k.plan p) (node w None)) →
-    Turns j (restarted_turn j) (answer.Restarted w.superstep) (node v None) (node w None)
-fresh_turns j v w start = record {
-  turned = λ p n fits shows.
-      let stands = shows.content.holding.stands in
-      anew j p n v w n.kept refl fits shows shows.kept (start j n.content.partition stands.job stands.partition stands.part).content;
-}

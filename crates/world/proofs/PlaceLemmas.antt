@@ -42,10 +42,6 @@ row_gone rows p e = sym (unwrap_or-slice_get (map (λ (row : Row). row.items) ro
 row_there : (rows : List Row) (p : ℕ) (row : Row) → slice_get rows p ≡ Some row → get_or (map (λ (r : Row). r.items) rows) p [] ≡ row.items
 row_there rows p row e = get_or_from_slice_get (map (λ (r : Row). r.items) rows) p row.items [] (slice_get-map (λ (r : Row). r.items) rows p ∙ ap (option_map (λ (r : Row). r.items)) e)
 
--- there is no such row
-pub no_row : (v : SeenWorld) (rows : List Row) (id : NodeId) (p : ℕ) → p ≡ id.part → slice_get rows p ≡ None → seen_at (with_rows v rows) id ≡ None
-no_row v rows id p is e = ap (λ (l : List SeenNode). slice_get l id.replica) (ap (λ n. get_or (map (λ (row : Row). row.items) rows) n []) (sym is) ∙ row_gone rows p e)
-
 in_row : (rows : List Row) (id : NodeId) (p k : ℕ) (row : Row) (o : Option SeenNode) → p ≡ id.part → k ≡ id.replica → slice_get rows p ≡ Some row → slice_get row.items k ≡ o → slice_get (get_or (map (λ (r : Row). r.items) rows) id.part []) id.replica ≡ o
 in_row rows id p k row o first second e there =
     ap (λ n. slice_get (get_or (map (λ (r : Row). r.items) rows) n []) id.replica) (sym first)

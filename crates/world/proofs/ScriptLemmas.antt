@@ -235,13 +235,6 @@ pub record ReadSoFar (script rest : List ℕ) (number : ℕ) (es : List Event) :
   pub meaning : script_of script ≡ then_events es (events_from number (lines rest))
   pub within : number + length rest ≤ length script + 1
 
-pub start-of : (script : List ℕ) → ReadSoFar script script 1 []
-start-of script = record { meaning = none (script_of script); within = omega arith }
-  where
-    none : (r : Result (List Event) ℕ) → r ≡ then_events [] r
-    none (Ok es) = refl
-    none (Err n) = refl
-
 then-more : (es : List Event) (e : Event) (r : Result (List Event) ℕ) (n : ℕ) → then_events es (with_command n (Some e) r) ≡ then_events (es ++ e ∷ []) r
 then-more es e (Ok more) n = ap Ok (sym (append_assoc es (e ∷ []) more))
 then-more es e (Err line) n = refl

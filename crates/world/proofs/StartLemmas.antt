@@ -13,10 +13,6 @@ use Rattle.ball_model.specs.World.{Node, node_at, start_node, start_world}
 use Rattle.ball_model.proofs.WorldLemmas.{one_more, start_is_world}
 use Rattle.world.specs.Shows.{SeenMessage, SeenNode, Agree, ShowsNode, Shows, AreStart, AreStarts}
 
--- none at first, and one more
-pub no_nodes : (j : Job) (p : ℕ) → AreStart j p 0 []
-no_nodes j p = record { count = refl; each = λ k. tt }
-
 pub node_more : (j : Job) (p n : ℕ) (nodes : List SeenNode) (s : SeenNode) → AreStart j p n nodes → ShowsNode j (start_node j.plan p) s → AreStart j p (n + 1) (nodes ++ s ∷ [])
 node_more j p n nodes s before shows = record {
   count = length-append nodes (s ∷ []) ∙ ap (λ m. m + 1) before.count;

@@ -42,9 +42,6 @@ use Rattle.world.specs.Tell.{BeginsText, Stopped, Told, Tells, is_shown}
 pub begins-none : (a : Option (List ℕ)) (text : List ℕ) → BeginsText a a text
 begins-none a text = record { front = []; rest = text; split = refl; appended = Appends-nil a }
 
-pub begins-put : (a b : Option (List ℕ)) (text : List ℕ) → PutsFront a b text → BeginsText a b text
-begins-put a b text put = record { front = put.front; rest = put.rest; split = put.split; appended = put.appended }
-
 -- a beginning of a text is one of a longer text
 pub begins-more : (a b : Option (List ℕ)) (text more : List ℕ) → BeginsText a b text → BeginsText a b (text ++ more)
 begins-more a b text more part = record {
@@ -74,9 +71,6 @@ told-both contents failed a b c text more one two = record {
   appended = Appends-trans (contents a) (contents b) (contents c) text more one.appended two.appended;
   counted = two.counted ∙ one.counted;
 }
-
-pub stopped-none : {W : Type 0} (contents : W → Option (List ℕ)) (failed : W → ℕ) (a : W) (text : List ℕ) (e : TellError) → e ≡ fault.Memory → Stopped contents failed a a text e
-stopped-none contents failed a text e is = record { begun = begins-none (contents a) text; failed_one = λ other. absurd (cc); counted = λ other. refl }
 
 -- a text that was stopped, with more behind it
 pub stopped-more : {W : Type 0} (contents : W → Option (List ℕ)) (failed : W → ℕ) (a b : W) (text more : List ℕ) (e : TellError) →
