@@ -55,15 +55,12 @@ fn part_of(
     part_in(rt, &graph, seed, parts, partition)
 }
 
-/// A new replica of a partition of a graph, at 16 registers under seed 0.
-fn replica_of(rt: &HostRuntime, text: &[u8], parts: u16, partition: u16) -> Option<Replica> {
+/// A new replica of a partition of a graph, at 16 registers under seed 0. (Tests hold replicas in boxes: a function that
+/// owns one is checked much faster.)
+fn replica_of(rt: &HostRuntime, text: &[u8], parts: u16, partition: u16) -> Option<Box<Replica>> {
     let part = part_of(rt, text, 0, parts, partition)?;
-    Replica::new(rt.alloc(), part).ok()
-}
-
-/// The next superstep of a replica that waits for none.
-fn step(replica: &mut Replica) -> Option<u32> {
-    replica.close().ok()
+    let replica = Replica::new(rt.alloc(), part).ok()?;
+    Box::new(rt.alloc(), replica).ok()
 }
 
 #[test]

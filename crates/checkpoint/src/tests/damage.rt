@@ -2,7 +2,8 @@
 
 ghost use Rattle.std.specs.Prelude.{◌<◌};
 
-use super::reading::{part, refusal, second};
+use super::reading::{part, refusal};
+use super::writing::TWO_EDGES;
 use crate::KeepError;
 use edgelist::Part;
 use std::sync::Arc;
@@ -55,30 +56,30 @@ fn wanted(place: usize, bit: u32) -> KeepError {
 }
 
 // Whether each bit of a byte that is turned gives its refusal.
-fn is_told(rt: &HostRuntime, part: &Arc<Part>, bytes: &mut [u8], place: usize) -> Option<bool> {
+fn is_told(rt: &HostRuntime, part: &Arc<Part>, bytes: &mut [u8], place: usize) -> bool {
     let mut all = true;
     for bit in 0..8 {
         turn(bytes, place, bit);
-        all &= refusal(rt, part, bytes)? == Some(wanted(place, bit));
+        all &= refusal(rt, part, bytes) == Some(Some(wanted(place, bit)));
         turn(bytes, place, bit);
     }
-    Some(all)
+    all
 }
 
-// Whether each bit of all bytes does.
-fn all_told(rt: &HostRuntime, part: &Arc<Part>, bytes: &mut [u8]) -> Option<bool> {
+// Whether each bit of all bytes of the checkpoint of two edges does.
+fn all_told(rt: &HostRuntime, part: &Arc<Part>) -> bool {
+    let mut bytes = TWO_EDGES;
     let mut all = true;
     for place in 0..340 {
-        all &= is_told(rt, part, bytes, place)?;
+        all &= is_told(rt, part, &mut bytes, place);
     }
-    Some(all)
+    all
 }
 
-// Those of the checkpoint of two edges.
+// The same with its part.
 fn are_told(rt: &HostRuntime) -> Option<bool> {
     let part = part(rt, 0)?;
-    let mut bytes = second(rt, &part)?;
-    all_told(rt, &part, &mut bytes)
+    Some(all_told(rt, &part))
 }
 
 #[test]
@@ -111,54 +112,38 @@ fn shake(bytes: &mut [u8], state: &mut u64) {
 }
 
 // Whether bytes are refused, and not for want of memory; or they are those of the checkpoint.
-fn is_refused(rt: &HostRuntime, part: &Arc<Part>, bytes: &[u8], whole: &[u8]) -> Option<bool> {
-    match refusal(rt, part, bytes)? {
-        None => Some(bytes == whole),
-        Some(fault) => Some(fault != KeepError::Memory && fault != KeepError::Read),
+fn is_refused(rt: &HostRuntime, part: &Arc<Part>, bytes: &[u8]) -> bool {
+    match refusal(rt, part, bytes) {
+        Some(Some(fault)) => fault != KeepError::Memory && fault != KeepError::Read,
+        Some(None) => bytes == TWO_EDGES.as_slice(),
+        None => false,
     }
 }
 
-// Whether bytes with bits turned, and random ones that are cut somewhere, are refused.
-fn are_both_refused(
-    rt: &HostRuntime,
-    part: &Arc<Part>,
-    bytes: &mut [u8],
-    whole: &[u8],
-    state: &mut u64,
-) -> Option<bool> {
-    scatter(bytes, state);
-    let turned = is_refused(rt, part, bytes, whole)?;
-    shake(bytes, state);
-    let len = (next(state) % 341) as usize;
-    Some(turned && is_refused(rt, part, bytes.get(..len)?, whole)?)
-}
-
-// The same of the bytes of a checkpoint.
-fn is_one_refused(
-    rt: &HostRuntime,
-    part: &Arc<Part>,
-    whole: &[u8],
-    state: &mut u64,
-) -> Option<bool> {
-    let mut bytes = second(rt, part)?;
-    are_both_refused(rt, part, &mut bytes, whole, state)
+// Whether the bytes of a checkpoint with bits turned, and random ones that are cut somewhere, are refused.
+fn are_both_refused(rt: &HostRuntime, part: &Arc<Part>, state: &mut u64) -> bool {
+    let mut bytes = TWO_EDGES;
+    scatter(&mut bytes, state);
+    let turned = is_refused(rt, part, &bytes);
+    shake(&mut bytes, state);
+    let (front, _) = bytes.split_at((next(state) % 341) as usize);
+    turned && is_refused(rt, part, front)
 }
 
 // Whether a thousand of both are.
-fn all_refused(rt: &HostRuntime, part: &Arc<Part>, whole: &[u8]) -> Option<bool> {
+fn all_refused(rt: &HostRuntime, part: &Arc<Part>) -> bool {
     let mut state = 25;
     let mut all = true;
     for _ in 0..1000 {
-        all &= is_one_refused(rt, part, whole, &mut state)?;
+        all &= are_both_refused(rt, part, &mut state);
     }
-    Some(all)
+    all
 }
 
 // Whether those of the checkpoint of two edges are.
 fn are_refused(rt: &HostRuntime) -> Option<bool> {
     let part = part(rt, 0)?;
-    let whole = second(rt, &part)?;
-    all_refused(rt, &part, &whole)
+    Some(all_refused(rt, &part))
 }
 
 #[test]

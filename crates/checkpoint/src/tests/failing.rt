@@ -32,16 +32,16 @@ fn outcome_of(
     whole: &[u8],
     answer: Result<(), KeepError>,
     bytes: &[u8],
-) -> Option<Outcome> {
+) -> Outcome {
     if answer == Ok(()) && bytes == whole {
-        return Some(Outcome::Whole);
+        return Outcome::Whole;
     }
     let is_front = bytes.len() < whole.len() && whole.starts_with(bytes);
-    let is_short = refusal(rt, part, bytes)? == Some(KeepError::Short);
+    let is_short = refusal(rt, part, bytes) == Some(Some(KeepError::Short));
     if answer == Err(KeepError::Write) && is_front && is_short {
-        Some(Outcome::Cut)
+        Outcome::Cut
     } else {
-        Some(Outcome::Wrong)
+        Outcome::Wrong
     }
 }
 
@@ -53,15 +53,17 @@ fn outcome_where(
     whole: &[u8],
     room: usize,
     fails_at: Option<u64>,
-) -> Option<Outcome> {
-    let (answer, bytes) = written(rt, replica, room, fails_at)?;
-    outcome_of(rt, part, whole, answer, &bytes)
+) -> Outcome {
+    match written(rt, replica, room, fails_at) {
+        Some((answer, bytes)) => outcome_of(rt, part, whole, answer, &bytes),
+        None => Outcome::Wrong,
+    }
 }
 
 /// How many calls of a writer are reached: each of them that fails leaves a beginning, and the one after them nothing.
 fn calls(rt: &HostRuntime, replica: &Replica, part: &Arc<Part>, whole: &[u8]) -> Option<u64> {
     for call in 1..9u64 {
-        match outcome_where(rt, replica, part, whole, whole.len(), Some(call))? {
+        match outcome_where(rt, replica, part, whole, whole.len(), Some(call)) {
             Outcome::Cut => {}
             Outcome::Whole => return Some(call.saturating_sub(1)),
             Outcome::Wrong => return None,
@@ -70,15 +72,8 @@ fn calls(rt: &HostRuntime, replica: &Replica, part: &Arc<Part>, whole: &[u8]) ->
     None
 }
 
-/// How many are reached by the replica of the two edges: its fields go out at once, and then their digest.
-fn calls_of_two_edges(rt: &HostRuntime) -> Option<u64> {
-    let part = part(rt, 0)?;
-    let replica = two_edges(rt)?;
-    calls(rt, &replica, &part, &TWO_EDGES)
-}
-
 /// The replica that keeps an early batch.
-fn early(rt: &HostRuntime, part: &Arc<Part>) -> Option<Replica> {
+fn early(rt: &HostRuntime, part: &Arc<Part>) -> Option<Box<Replica>> {
     read(rt, part, &WINDOW_EDGE)?.ok()
 }
 
@@ -89,19 +84,13 @@ fn calls_of_early(rt: &HostRuntime) -> Option<u64> {
     calls(rt, &replica, &part, &WINDOW_EDGE)
 }
 
-/// Adds a line with a vertex of that number, which is below a hundred.
-fn put_line(text: &mut Vec<u8>, number: u8) -> Option<()> {
-    text.extend_from_slice(&[b'0' + number / 10 % 10, b'0' + number % 10, b'\n'])
-        .ok()
-}
-
-/// Ninety vertices and no edge.
-fn ninety(rt: &HostRuntime) -> Option<Vec<u8>> {
-    let mut text = Vec::new(rt.alloc());
-    for number in 0..90u8 {
-        put_line(&mut text, number)?;
+/// Ninety vertices and no edge: a sign, a digit or a letter each.
+fn ninety() -> [u8; 180] {
+    let mut text = [b'\n'; 180];
+    for i in 0..90 {
+        text[2 * i] = b'$' + i as u8;
     }
-    Some(text)
+    text
 }
 
 /// How many are reached by a replica, whatever its bytes are.
@@ -119,44 +108,16 @@ fn calls_of_vertices(rt: &HostRuntime, text: &[u8]) -> Option<u64> {
 
 /// The same of ninety of them, whose 5,963 bytes are more than one piece.
 fn calls_of_many(rt: &HostRuntime) -> Option<u64> {
-    let text = ninety(rt)?;
-    calls_of_vertices(rt, &text)
-}
-
-#[test]
-fn each_call_that_fails(rt: HostRuntime) {
-    let reached = [
-        calls_of_two_edges(&rt),
-        calls_of_early(&rt),
-        calls_of_many(&rt),
-    ];
-    assert_eq!(rt; reached, [Some(2), Some(2), Some(3)]);
+    calls_of_vertices(rt, &ninety())
 }
 
 /// Whether a replica leaves a beginning wherever a writer is full, and then is written as ever.
-fn is_cut_anywhere(
-    rt: &HostRuntime,
-    replica: &Replica,
-    part: &Arc<Part>,
-    whole: &[u8],
-) -> Option<bool> {
+fn is_cut_anywhere(rt: &HostRuntime, replica: &Replica, part: &Arc<Part>, whole: &[u8]) -> bool {
     let mut all = true;
     for room in 0..whole.len() {
-        all &= outcome_where(rt, replica, part, whole, room, None)? == Outcome::Cut;
+        all &= outcome_where(rt, replica, part, whole, room, None) == Outcome::Cut;
     }
-    Some(all && outcome_where(rt, replica, part, whole, whole.len(), None)? == Outcome::Whole)
-}
-
-/// Whether that of the two edges does.
-fn two_edges_are_cut(rt: &HostRuntime) -> Option<bool> {
-    let part = part(rt, 0)?;
-    let replica = two_edges(rt)?;
-    is_cut_anywhere(rt, &replica, &part, &TWO_EDGES)
-}
-
-#[test]
-fn each_writer_that_is_full(rt: HostRuntime) {
-    assert_eq!(rt; two_edges_are_cut(&rt), Some(true));
+    all && outcome_where(rt, replica, part, whole, whole.len(), None) == Outcome::Whole
 }
 
 /// A writer that takes a byte a call, and compares it with what is wanted.
@@ -198,13 +159,28 @@ fn drips(replica: &Replica, whole: &[u8]) -> bool {
     answer == Ok(()) && slow.same && slow.wanted.is_empty()
 }
 
-/// Whether that of the two edges does.
-fn two_edges_drip(rt: &HostRuntime) -> Option<bool> {
+/// What comes of all that with the replica of the two edges, whose fields go out at once, and then their digest: how many
+/// calls are reached, whether it leaves a beginning wherever a writer is full, and whether it goes out a byte a call.
+fn writes_of_two_edges(rt: &HostRuntime) -> Option<(Option<u64>, bool, bool)> {
+    let part = part(rt, 0)?;
     let replica = two_edges(rt)?;
-    Some(drips(&replica, &TWO_EDGES))
+    Some((
+        calls(rt, &replica, &part, &TWO_EDGES),
+        is_cut_anywhere(rt, &replica, &part, &TWO_EDGES),
+        drips(&replica, &TWO_EDGES),
+    ))
+}
+
+// Each call that fails, each writer that is full, and a byte a write.
+#[test]
+fn writers_of_two_edges(rt: HostRuntime) {
+    assert_eq!(rt; writes_of_two_edges(&rt), Some((Some(2), true, true)));
 }
 
 #[test]
-fn a_byte_a_write(rt: HostRuntime) {
-    assert_eq!(rt; two_edges_drip(&rt), Some(true));
+fn each_call_that_fails(rt: HostRuntime) {
+    assert_eq!(rt;
+        [calls_of_early(&rt), calls_of_many(&rt)],
+        [Some(2), Some(3)]
+    );
 }

@@ -3,8 +3,10 @@
 //! The graph has the edges a b and b c in one partition. Under seed 0 at 16 registers vertex 0 has rank 3 in register
 //! 14, vertex 1 rank 1 in register 6, vertex 2 rank 2 in register 0. The bytes are those at superstep 2.
 
+ghost use Rattle.std.specs.Prelude.{◌≤◌, length};
+
 use super::part_of;
-use super::writing::{WINDOW_EDGE, writes};
+use super::writing::{TWO_EDGES, WINDOW_EDGE, writes};
 use crate::{KeepError, read_checkpoint};
 use ball_model::MemReader;
 use edgelist::Part;
@@ -13,7 +15,7 @@ use sha2::{Digest, Sha256};
 use std::sync::Arc;
 
 // Version 1 of the two edges, as it was written. The digest is by another program.
-pub(super) const FIRST: [u8; 281] = [
+pub(super) static FIRST: [u8; 281] = [
     0x48, 0x42, 0x43, 0x4b, // HBCK
     1, 4, // version, log2m
     0, 1, 0, 0, // parts, partition
@@ -44,51 +46,29 @@ pub(super) const FIRST: [u8; 281] = [
     0x35, 0x1b, 0xcd, 0x76, 0xf5, 0xb3, 0x5f, 0x9d, 0x60, 0x9d, 0x14, 0x6b, 0x0a, 0xfd, 0x99, 0x1b,
 ];
 
-// For each vertex its mark, its figures and its registers, and then the sums at 0, 1 and 2.
-const TABLE: [u8; 195] = [
-    0, 0, 0, 0, 0, 0, 173, 207, 222, 0, 0, 0, 0, 0, 0, 0, 0, 0, 0, 0, 0, 0, 0, 0, 0, 0, 0, 0, 0, 0,
-    0, 0, 0, 0, 0, 0, 0, 0, 0, 0, 0, 0, 0, 0, 0, 0, 0, 3, 0, 0, 0, 0, 0, 0, 0, 179, 193, 24, 0, 0,
-    0, 0, 0, 10, 37, 190, 0, 0, 0, 0, 0, 0, 0, 0, 0, 0, 0, 0, 0, 10, 37, 190, 0, 0, 0, 0, 0, 0, 1,
-    0, 0, 0, 0, 0, 0, 0, 3, 0, 1, 0, 0, 0, 0, 0, 189, 120, 129, 0, 0, 0, 0, 0, 11, 118, 170, 0, 0,
-    0, 0, 0, 0, 0, 0, 0, 0, 0, 0, 0, 28, 82, 191, 2, 0, 0, 0, 0, 0, 1, 0, 0, 0, 0, 0, 0, 0, 3, 0,
-    0, 0, 0, 0, 0, 0, 0, 0, 0, 0, 0, 0, 2, 3, 206, 93, 0, 0, 0, 0, 0, 0, 0, 0, 0, 0, 0, 0, 2, 19,
-    204, 20, 0, 0, 0, 0, 0, 0, 0, 0, 0, 0, 0, 0, 2, 31, 9, 119,
-];
-
-// No source heard, no change, for each vertex the registers accumulated, and no early batch.
-const HELD: [u8; 59] = [
-    0, 0, 0, 0, 0, 0, 0, 0, 0, 0, 0, 0, 0, 0, 0, 0, 0, 0, 0, 0, 0, 0, 0, 3, 0, 0, 0, 0, 0, 0, 0, 1,
-    0, 0, 0, 0, 0, 0, 0, 3, 0, 2, 0, 0, 0, 0, 0, 1, 0, 0, 0, 0, 0, 0, 0, 3, 0, 0, 0,
-];
-
 // The part of the two edges, under that seed.
 pub(super) fn part(rt: &HostRuntime, seed: u64) -> Option<Arc<Part>> {
     part_of(rt, b"a\tb\nb\tc\n", seed, 1, 0)
 }
 
-// Adds the fixed fields of version 2, the vertices and the sums, and then what is held.
-fn put_content(bytes: &mut Vec<u8>, part: &Part) -> Option<()> {
-    bytes.extend_from_slice(b"HBCK").ok()?;
-    bytes
-        .extend_from_slice(&[2, 4, 0, 1, 0, 0, 0, 0, 0, 3, 0, 0, 0, 3, 0, 0, 0, 2])
-        .ok()?;
-    bytes.extend_from_slice(&part.plan().job()).ok()?;
-    bytes.extend_from_slice(&TABLE).ok()?;
-    bytes.extend_from_slice(&HELD).ok()
+// The last 32 bytes become the digest of those before.
+fn seal(bytes: &mut [u8])
+    requires { 32 ≤ length bytes.old }
+{
+    let end = bytes.len() - 32;
+    let digest = Sha256::digest(&bytes[..end]);
+    bytes[end..].copy_from_slice(&digest);
 }
 
-// These alone.
-fn content(rt: &HostRuntime, part: &Part) -> Option<Vec<u8>> {
-    let mut bytes = Vec::new(rt.alloc());
-    put_content(&mut bytes, part)?;
-    Some(bytes)
-}
-
-// The bytes, and behind them their digest.
-fn seal(mut bytes: Vec<u8>) -> Option<Vec<u8>> {
-    let digest = Sha256::digest(bytes.as_slice());
-    bytes.extend_from_slice(&digest).ok()?;
-    Some(bytes)
+// What comes of reading, a replica in a box: None where memory for that is refused.
+pub(super) fn boxed(
+    rt: &HostRuntime,
+    read: Result<Replica, KeepError>,
+) -> Option<Result<Box<Replica>, KeepError>> {
+    match read {
+        Ok(replica) => Some(Ok(Box::new(rt.alloc(), replica).ok()?)),
+        Err(e) => Some(Err(e)),
+    }
 }
 
 // What comes of reading the bytes as a checkpoint of the part.
@@ -96,9 +76,12 @@ pub(super) fn read(
     rt: &HostRuntime,
     part: &Arc<Part>,
     bytes: &[u8],
-) -> Option<Result<Replica, KeepError>> {
+) -> Option<Result<Box<Replica>, KeepError>> {
     let part = part.clone().ok()?;
-    Some(read_checkpoint(rt.alloc(), part, &mut MemReader::new(bytes, None)))
+    boxed(
+        rt,
+        read_checkpoint(rt.alloc(), part, &mut MemReader::new(bytes, None)),
+    )
 }
 
 // Whether the bytes are refused, and why.
@@ -113,11 +96,6 @@ pub(super) fn refusal(
 // The refusal of the bytes.
 fn refused(rt: &HostRuntime, part: &Arc<Part>, bytes: &[u8]) -> Option<KeepError> {
     refusal(rt, part, bytes)?
-}
-
-// The bytes of version 2.
-pub(super) fn second(rt: &HostRuntime, part: &Part) -> Option<Vec<u8>> {
-    seal(content(rt, part)?)
 }
 
 // Superstep, the figures of vertex 2, and how many names it holds.
@@ -143,26 +121,21 @@ fn is_read(rt: &HostRuntime, part: &Arc<Part>, bytes: &[u8], count: usize) -> Op
 }
 
 // Both versions are.
-fn reads(rt: &HostRuntime) -> Option<bool> {
+fn reads(rt: &HostRuntime) -> Option<[bool; 2]> {
     let part = part(rt, 0)?;
-    Some(is_first_read(rt, &part)? && is_second_read(rt, &part)?)
-}
-
-fn is_first_read(rt: &HostRuntime, part: &Arc<Part>) -> Option<bool> {
-    is_read(rt, part, &FIRST, 281)
-}
-
-fn is_second_read(rt: &HostRuntime, part: &Arc<Part>) -> Option<bool> {
-    is_read(rt, part, &second(rt, part)?, 340)
+    Some([
+        is_read(rt, &part, &FIRST, 281)?,
+        is_read(rt, &part, &TWO_EDGES, 340)?,
+    ])
 }
 
 // Each cut of the bytes ends too early.
-fn cuts(rt: &HostRuntime, part: &Arc<Part>, bytes: &[u8]) -> Option<bool> {
+fn cuts(rt: &HostRuntime, part: &Arc<Part>, bytes: &[u8]) -> bool {
     let mut all = true;
     for n in 0..bytes.len() {
-        all &= refused(rt, part, &bytes[..n])? == KeepError::Short;
+        all &= refused(rt, part, &bytes[..n]) == Some(KeepError::Short);
     }
-    Some(all)
+    all
 }
 
 // What comes of reading where that call of the reader fails.
@@ -179,98 +152,105 @@ fn failing_at(
 
 // Each call of the reader that fails is told of. They are five: fixed fields, the table, the number of batches, the
 // digest, and the end.
-fn failing(rt: &HostRuntime, part: &Arc<Part>, bytes: &[u8]) -> Option<bool> {
+fn failing(rt: &HostRuntime, part: &Arc<Part>, bytes: &[u8]) -> bool {
     let mut all = true;
     for call in 1..6 {
-        all &= failing_at(rt, part, bytes, call)? == Some(KeepError::Read);
+        all &= failing_at(rt, part, bytes, call) == Some(Some(KeepError::Read));
     }
-    Some(all && failing_at(rt, part, bytes, 6)?.is_none())
+    all && failing_at(rt, part, bytes, 6) == Some(None)
 }
 
 // Puts another byte at a place.
-fn put_byte(bytes: &mut [u8], at: usize, byte: u8) -> Option<()> {
-    *bytes.get_mut(at)? = byte;
-    Some(())
+fn put_byte(bytes: &mut [u8], at: usize, byte: u8) {
+    if let Some(place) = bytes.get_mut(at) {
+        *place = byte;
+    }
 }
 
-// The bytes with another byte at a place, refused with the digest that they have.
+// The bytes of version 2 with another byte at a place, refused with the digest that they have.
 fn changed(rt: &HostRuntime, part: &Arc<Part>, at: usize, byte: u8) -> Option<KeepError> {
-    let mut bytes = second(rt, part)?;
-    put_byte(&mut bytes, at, byte)?;
+    let mut bytes = TWO_EDGES;
+    put_byte(&mut bytes, at, byte);
     refused(rt, part, &bytes)
 }
 
 // The same, with the right digest.
 fn sealed(rt: &HostRuntime, part: &Arc<Part>, at: usize, byte: u8) -> Option<KeepError> {
-    let mut bytes = content(rt, part)?;
-    put_byte(&mut bytes, at, byte)?;
-    refused(rt, part, &seal(bytes)?)
+    let mut bytes = TWO_EDGES;
+    put_byte(&mut bytes, at, byte);
+    seal(&mut bytes);
+    refused(rt, part, &bytes)
 }
 
-// What the body tells, each fault with the right digest: a mark, a last estimate, harm and dist above what a run has, a
-// register above 33, a sum below the one before it, the last sum, a source, the bit, and accumulators above 33 and
-// below the row's.
-fn bodies(rt: &HostRuntime, part: &Arc<Part>) -> Option<bool> {
+// Places and bytes there that no replica has: a mark, a last estimate, harm and dist above what a run has, a register
+// above 33, a sum below the one before it, the last sum, a source, the bit, and accumulators above 33 and below the
+// row's.
+static BODIES: [(usize, u8); 12] = [
+    (54, 2),
+    (62, 0),
+    (63, 1),
+    (71, 1),
+    (87, 34),
+    (202, 9),
+    (248, 0),
+    (256, 1),
+    (256, 2),
+    (257, 2),
+    (258, 34),
+    (272, 0),
+];
+
+// What the body tells, each fault with the right digest.
+fn bodies(rt: &HostRuntime, part: &Arc<Part>) -> bool {
     let mut all = true;
-    for (at, byte) in [
-        (54, 2),
-        (62, 0),
-        (63, 1),
-        (71, 1),
-        (87, 34),
-        (202, 9),
-        (248, 0),
-        (256, 1),
-        (256, 2),
-        (257, 2),
-        (258, 34),
-        (272, 0),
-    ] {
-        all &= sealed(rt, part, at, byte)? == KeepError::Shape;
+    for (at, byte) in &BODIES {
+        all &= sealed(rt, part, *at, *byte) == Some(KeepError::Shape);
     }
-    Some(all)
+    all
 }
+
+// Places in the fixed fields, bytes there, and their refusals.
+static HEADS: [(usize, u8, KeepError); 6] = [
+    (0, b'h', KeepError::Magic),
+    (4, 3, KeepError::Version),
+    (53, 0, KeepError::OtherJob),
+    (9, 1, KeepError::OtherPart),
+    (5, 5, KeepError::Shape),
+    (18, 1, KeepError::Shape),
+];
 
 // The faults of the fixed fields.
-fn heads(rt: &HostRuntime, part: &Arc<Part>) -> Option<bool> {
+fn heads(rt: &HostRuntime, part: &Arc<Part>) -> bool {
     let mut all = true;
-    for (at, byte, wanted) in [
-        (0, b'h', KeepError::Magic),
-        (4, 3, KeepError::Version),
-        (53, 0, KeepError::OtherJob),
-        (9, 1, KeepError::OtherPart),
-        (5, 5, KeepError::Shape),
-        (18, 1, KeepError::Shape),
-    ] {
-        all &= changed(rt, part, at, byte)? == wanted;
+    for (at, byte, wanted) in &HEADS {
+        all &= changed(rt, part, *at, *byte) == Some(*wanted);
     }
-    Some(all)
+    all
 }
 
 #[test]
 fn both_versions_are_read(rt: HostRuntime) {
-    assert_eq!(rt; reads(&rt), Some(true));
+    assert_eq!(rt; reads(&rt), Some([true; 2]));
 }
 
 // What comes of cuts, of failed calls, of faults of the fixed fields and of the body.
-fn faults_of(rt: &HostRuntime, part: &Arc<Part>, bytes: &[u8]) -> Option<(bool, bool, bool, bool)> {
-    Some((
-        cuts(rt, part, bytes)?,
-        failing(rt, part, bytes)?,
-        heads(rt, part)?,
-        bodies(rt, part)?,
-    ))
+fn faults_of(rt: &HostRuntime, part: &Arc<Part>) -> [bool; 4] {
+    [
+        cuts(rt, part, &TWO_EDGES),
+        failing(rt, part, &TWO_EDGES),
+        heads(rt, part),
+        bodies(rt, part),
+    ]
 }
 
-fn faults(rt: &HostRuntime) -> Option<(bool, bool, bool, bool)> {
+fn faults(rt: &HostRuntime) -> Option<[bool; 4]> {
     let part = part(rt, 0)?;
-    let bytes = second(rt, &part)?;
-    faults_of(rt, &part, &bytes)
+    Some(faults_of(rt, &part))
 }
 
 #[test]
 fn faults_are_told(rt: HostRuntime) {
-    assert_eq!(rt; faults(&rt), Some((true, true, true, true)));
+    assert_eq!(rt; faults(&rt), Some([true; 4]));
 }
 
 // The refusal of the bytes under another seed.
@@ -279,49 +259,40 @@ fn of_other_job(rt: &HostRuntime, bytes: &[u8]) -> Option<KeepError> {
     refused(rt, &other, bytes)
 }
 
-// Adds the bytes and one more.
-fn put_more(more: &mut Vec<u8>, bytes: &[u8]) -> Option<()> {
-    more.extend_from_slice(bytes).ok()?;
-    more.push(0).ok()
-}
-
-// The refusal of these.
-fn trailing(rt: &HostRuntime, part: &Arc<Part>, bytes: &[u8]) -> Option<KeepError> {
-    let mut more = Vec::new(rt.alloc());
-    put_more(&mut more, bytes)?;
-    refused(rt, part, &more)
+// The refusal of the bytes and one more.
+fn trailing(rt: &HostRuntime, part: &Arc<Part>, bytes: &[u8]) -> Option<KeepError>
+    requires { length bytes.now ≤ 340 }
+{
+    let mut more = [0u8; 341];
+    more[..bytes.len()].copy_from_slice(bytes);
+    refused(rt, part, &more[..bytes.len() + 1])
 }
 
 // Another seed, a changed bit of a vertex, one byte more, and a number of early batches above none.
-fn others_of(
-    rt: &HostRuntime,
-    own: &Arc<Part>,
-    bytes: &[u8],
-) -> Option<(KeepError, KeepError, KeepError, KeepError)> {
-    Some((
-        of_other_job(rt, bytes)?,
-        changed(rt, own, 60, 1)?,
-        trailing(rt, own, bytes)?,
-        changed(rt, own, 307, 1)?,
-    ))
+fn others_of(rt: &HostRuntime, own: &Arc<Part>) -> [Option<KeepError>; 4] {
+    [
+        of_other_job(rt, &TWO_EDGES),
+        changed(rt, own, 60, 1),
+        trailing(rt, own, &TWO_EDGES),
+        changed(rt, own, 307, 1),
+    ]
 }
 
-fn others(rt: &HostRuntime) -> Option<(KeepError, KeepError, KeepError, KeepError)> {
+fn others(rt: &HostRuntime) -> Option<[Option<KeepError>; 4]> {
     let own = part(rt, 0)?;
-    let bytes = second(rt, &own)?;
-    others_of(rt, &own, &bytes)
+    Some(others_of(rt, &own))
 }
 
 #[test]
 fn others_are_refused(rt: HostRuntime) {
     assert_eq!(rt;
         others(&rt),
-        Some((
-            KeepError::OtherJob,
-            KeepError::Digest,
-            KeepError::Trailing,
-            KeepError::Shape
-        ))
+        Some([
+            Some(KeepError::OtherJob),
+            Some(KeepError::Digest),
+            Some(KeepError::Trailing),
+            Some(KeepError::Shape),
+        ])
     );
 }
 
@@ -347,60 +318,60 @@ fn writes_early(rt: &HostRuntime, replica: &Replica) -> Option<bool> {
 }
 
 // And each cut is too short, and one byte more trails.
-fn reads_early_of(rt: &HostRuntime, part: &Arc<Part>) -> Option<(bool, bool, KeepError)> {
-    Some((
-        keeps_early(rt, part)?,
-        cuts(rt, part, &WINDOW_EDGE)?,
-        trailing(rt, part, &WINDOW_EDGE)?,
-    ))
+fn reads_early_of(rt: &HostRuntime, part: &Arc<Part>) -> (Option<bool>, bool, Option<KeepError>) {
+    (
+        keeps_early(rt, part),
+        cuts(rt, part, &WINDOW_EDGE),
+        trailing(rt, part, &WINDOW_EDGE),
+    )
 }
 
-fn reads_early(rt: &HostRuntime) -> Option<(bool, bool, KeepError)> {
+fn reads_early(rt: &HostRuntime) -> Option<(Option<bool>, bool, Option<KeepError>)> {
     let part = odd_part(rt)?;
-    reads_early_of(rt, &part)
+    Some(reads_early_of(rt, &part))
 }
 
 #[test]
 fn an_early_batch_is_read(rt: HostRuntime) {
-    assert_eq!(rt; reads_early(&rt), Some((true, true, KeepError::Trailing)));
+    let wanted = (Some(true), true, Some(KeepError::Trailing));
+    assert_eq!(rt; reads_early(&rt), Some(wanted));
 }
 
-// Adds these bytes up to the digest, with another one at a place.
-fn put_changed(bytes: &mut Vec<u8>, at: usize, byte: u8) -> Option<()> {
-    bytes.extend_from_slice(&WINDOW_EDGE[..273]).ok()?;
-    put_byte(bytes, at, byte)
-}
-
-// The refusal of them with the right digest.
+// The refusal of its bytes with another one at a place, and the right digest.
 fn resealed(rt: &HostRuntime, part: &Arc<Part>, at: usize, byte: u8) -> Option<KeepError> {
-    let mut bytes = Vec::new(rt.alloc());
-    put_changed(&mut bytes, at, byte)?;
-    refused(rt, part, &seal(bytes)?)
+    let mut bytes = WINDOW_EDGE;
+    put_byte(&mut bytes, at, byte);
+    seal(&mut bytes);
+    refused(rt, part, &bytes)
 }
 
-// A number of batches above three, a length that is no batch's, a batch that is none, of superstep 0 and of 4, of
-// source 1, to target 0, and of a source with more changed vertices than it has; and of another job.
-fn early_faults_of(rt: &HostRuntime, part: &Arc<Part>) -> Option<bool> {
+// Places and bytes there: a number of batches above three, a length that is no batch's, a batch that is none, of
+// superstep 0 and of 4, of source 1, to target 0, and of a source with more changed vertices than it has; and of another
+// job, whose digest begins with another bit.
+static EARLY_FAULTS: [(usize, u8); 9] = [
+    (210, 4),
+    (218, 55),
+    (219, 0),
+    (228, 0),
+    (228, 4),
+    (230, 1),
+    (232, 0),
+    (268, 9),
+    (233, 0x95 ^ 1),
+];
+
+// Each of them is told.
+fn early_faults_of(rt: &HostRuntime, part: &Arc<Part>) -> bool {
     let mut all = true;
-    for (at, byte) in [
-        (210, 4),
-        (218, 55),
-        (219, 0),
-        (228, 0),
-        (228, 4),
-        (230, 1),
-        (232, 0),
-        (268, 9),
-        (233, WINDOW_EDGE[233] ^ 1),
-    ] {
-        all &= resealed(rt, part, at, byte)? == KeepError::Shape;
+    for (at, byte) in &EARLY_FAULTS {
+        all &= resealed(rt, part, *at, *byte) == Some(KeepError::Shape);
     }
-    Some(all)
+    all
 }
 
 fn early_faults(rt: &HostRuntime) -> Option<bool> {
     let part = odd_part(rt)?;
-    early_faults_of(rt, &part)
+    Some(early_faults_of(rt, &part))
 }
 
 #[test]
@@ -408,19 +379,16 @@ fn untrue_early_batches_are_refused(rt: HostRuntime) {
     assert_eq!(rt; early_faults(&rt), Some(true));
 }
 
-// Adds two early batches in the place of one, which tell the same of these supersteps.
-fn put_two(bytes: &mut Vec<u8>, first: u8, second: u8) -> Option<()> {
-    put_changed(bytes, 210, 2)?;
-    bytes.extend_from_slice(&WINDOW_EDGE[211..273]).ok()?;
-    put_byte(bytes, 228, first)?;
-    put_byte(bytes, 290, second)
-}
-
-// The checkpoint with them.
-fn two_early(rt: &HostRuntime, first: u8, second: u8) -> Option<Vec<u8>> {
-    let mut bytes = Vec::new(rt.alloc());
-    put_two(&mut bytes, first, second)?;
-    seal(bytes)
+// The checkpoint with two early batches in the place of one, which tell the same of these supersteps.
+fn two_early(first: u8, second: u8) -> [u8; 367] {
+    let mut bytes = [0u8; 367];
+    bytes[..273].copy_from_slice(&WINDOW_EDGE[..273]);
+    bytes[273..335].copy_from_slice(&WINDOW_EDGE[211..273]);
+    bytes[210] = 2;
+    bytes[228] = first;
+    bytes[290] = second;
+    seal(&mut bytes);
+    bytes
 }
 
 // What comes of reading the bytes: how many early batches there are, or the refusal.
@@ -434,8 +402,7 @@ fn early_in(rt: &HostRuntime, part: &Arc<Part>, bytes: &[u8]) -> Option<Result<u
 // What comes of reading that one.
 fn read_two(rt: &HostRuntime, first: u8, second: u8) -> Option<Result<u32, KeepError>> {
     let part = odd_part(rt)?;
-    let bytes = two_early(rt, first, second)?;
-    early_in(rt, &part, &bytes)
+    early_in(rt, &part, &two_early(first, second))
 }
 
 // Early batches stand in order, and no name stands twice.
@@ -447,23 +414,17 @@ fn early_batches_stand_in_order(rt: HostRuntime) {
 }
 
 // What version 1 wrote is read, and written again in version 2; each cut of it is too short, and one byte more trails.
-fn reads_first_of(rt: &HostRuntime, part: &Arc<Part>) -> Option<(bool, bool, KeepError)> {
-    Some((
-        is_written_second(rt, part)?,
-        cuts(rt, part, &FIRST)?,
-        trailing(rt, part, &FIRST)?,
-    ))
+fn reads_first_of(rt: &HostRuntime, part: &Arc<Part>) -> (Option<bool>, bool, Option<KeepError>) {
+    (
+        is_written(rt, part, &FIRST, &TWO_EDGES),
+        cuts(rt, part, &FIRST),
+        trailing(rt, part, &FIRST),
+    )
 }
 
-fn reads_first(rt: &HostRuntime) -> Option<(bool, bool, KeepError)> {
+fn reads_first(rt: &HostRuntime) -> Option<(Option<bool>, bool, Option<KeepError>)> {
     let part = part(rt, 0)?;
-    reads_first_of(rt, &part)
-}
-
-// Whether the replica of version 1 writes the bytes of version 2.
-fn is_written_second(rt: &HostRuntime, part: &Arc<Part>) -> Option<bool> {
-    let second = second(rt, part)?;
-    is_written(rt, part, &FIRST, &second)
+    Some(reads_first_of(rt, &part))
 }
 
 // Whether the replica of the first bytes writes the second ones.
@@ -479,5 +440,6 @@ pub(super) fn is_written(
 
 #[test]
 fn version_1_is_read(rt: HostRuntime) {
-    assert_eq!(rt; reads_first(&rt), Some((true, true, KeepError::Trailing)));
+    let wanted = (Some(true), true, Some(KeepError::Trailing));
+    assert_eq!(rt; reads_first(&rt), Some(wanted));
 }

@@ -1,8 +1,8 @@
 //! Refused memory. A run of these tests by `rt try --test --fail-alloc N` refuses any one growth of memory: then that is
 //! told, and the same bytes are read when they are read again. Writing asks for none, so it is never refused.
 
-use super::reading::{FIRST, half, is_written, part, refusal, second};
-use super::writing::{WINDOW_EDGE, two_edges_are_written, window_edge_is_written};
+use super::reading::{FIRST, half, is_written, part, refusal};
+use super::writing::{TWO_EDGES, WINDOW_EDGE, two_edges_are_written, window_edge_is_written};
 use crate::KeepError;
 use edgelist::Part;
 use std::sync::Arc;
@@ -24,9 +24,7 @@ fn early_again(rt: &HostRuntime) -> Option<bool> {
 
 // That of the two edges, in version 1.
 fn first_again(rt: &HostRuntime) -> Option<bool> {
-    let part = part(rt, 0)?;
-    let second = second(rt, &part)?;
-    is_read_again(rt, &part, &FIRST, &second)
+    is_read_again(rt, &part(rt, 0)?, &FIRST, &TWO_EDGES)
 }
 
 // Where memory is refused before there are bytes, all is done again, and nothing is refused.

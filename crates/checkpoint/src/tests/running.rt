@@ -2,20 +2,22 @@
 //!
 //! The graph is the path of five vertices. Its last vertex changes at superstep 4, so a run is stable at 5.
 
-use super::reading::half;
+use super::reading::{half, read};
 use super::replica_of;
 use super::same::tells_same;
 use super::writing::written;
-use crate::{checkpoint_length, read_checkpoint};
-use ball_model::{MemReader, Verdict};
+use crate::checkpoint_length;
+use ball_model::Verdict;
+use batches::Batch;
+use edgelist::Part;
 use replica::{Replica, Shown};
 use std::sync::Arc;
 
 /// The replicas of both partitions.
 #[derive(Drop)]
 struct Pair {
-    even: Replica,
-    odd: Replica,
+    even: Box<Replica>,
+    odd: Box<Replica>,
 }
 
 /// Both at superstep 0.
@@ -25,31 +27,36 @@ fn begun(rt: &HostRuntime) -> Option<Pair> {
     Some(Pair { even, odd })
 }
 
-/// One tells another what changed.
-fn send(rt: &HostRuntime, from: &Replica, to: &mut Replica) -> Option<()> {
-    let target = to.partition();
+/// What one tells another of what changed.
+fn told(rt: &HostRuntime, from: &Replica, target: u16) -> Option<Arc<Batch>> {
     if target >= from.plan().parts() || target == from.partition() {
         return None;
     }
     let batch = from.out(rt.alloc(), target).ok()?;
-    let batch = Arc::new(rt.alloc(), batch).ok()?;
-    to.take(batch).ok()?;
-    Some(())
+    Arc::new(rt.alloc(), batch).ok()
+}
+
+/// One tells another what changed.
+fn send(rt: &HostRuntime, from: &Replica, to: &mut Replica) -> bool {
+    match told(rt, from, to.partition()) {
+        Some(batch) => to.take(batch).is_ok(),
+        None => false,
+    }
+}
+
+/// One goes on.
+fn closes(replica: &mut Replica) -> bool {
+    replica.close().is_ok()
 }
 
 /// A step of three for a superstep: each tells the other; the even one goes on, and tells the odd one of its next
 /// superstep, which comes early; the odd one goes on.
-fn advance(rt: &HostRuntime, pair: &mut Pair, step: u32) -> Option<()> {
-    if step % 3 == 0 {
-        send(rt, &pair.even, &mut pair.odd)?;
-        send(rt, &pair.odd, &mut pair.even)?;
-    } else if step % 3 == 1 {
-        pair.even.close().ok()?;
-        send(rt, &pair.even, &mut pair.odd)?;
-    } else {
-        pair.odd.close().ok()?;
+fn advance(rt: &HostRuntime, pair: &mut Pair, step: u32) -> bool {
+    match step % 3 {
+        0 => send(rt, &pair.even, &mut pair.odd) && send(rt, &pair.odd, &mut pair.even),
+        1 => closes(&mut pair.even) && send(rt, &pair.even, &mut pair.odd),
+        _ => closes(&mut pair.odd),
     }
-    Some(())
 }
 
 /// The bytes of a replica.
@@ -59,11 +66,15 @@ pub(super) fn kept(rt: &HostRuntime, replica: &Replica) -> Option<Vec<u8>> {
     if answer.is_ok() { Some(bytes) } else { None }
 }
 
+/// The replica that is read from bytes.
+fn read_kept(rt: &HostRuntime, part: &Arc<Part>, bytes: &[u8]) -> Option<Box<Replica>> {
+    read(rt, part, bytes)?.ok()
+}
+
 /// A replica that is read from the bytes of another one.
-fn again(rt: &HostRuntime, replica: &Replica) -> Option<Replica> {
+fn again(rt: &HostRuntime, replica: &Replica) -> Option<Box<Replica>> {
     let part = half(rt, replica.partition())?;
-    let bytes = kept(rt, replica)?;
-    read_checkpoint(rt.alloc(), part, &mut MemReader::new(&bytes, None)).ok()
+    read_kept(rt, &part, &kept(rt, replica)?)
 }
 
 /// Both, read again.
@@ -84,80 +95,77 @@ fn are_stable(pair: &Pair) -> bool {
 }
 
 /// Whether two runs are the same from a step on, at each step, and end.
-fn beside(rt: &HostRuntime, left: &mut Pair, right: &mut Pair, from: u32) -> Option<bool> {
+fn beside(rt: &HostRuntime, left: &mut Pair, right: &mut Pair, from: u32) -> bool {
     let mut same = are_same(left, right);
     for step in from..16 {
-        advance(rt, left, step)?;
-        advance(rt, right, step)?;
-        same &= are_same(left, right);
+        same &= advance(rt, left, step) && advance(rt, right, step) && are_same(left, right);
     }
-    Some(same && are_stable(left) && are_stable(right))
+    same && are_stable(left) && are_stable(right)
 }
 
 /// So many steps from the start.
-fn run(rt: &HostRuntime, pair: &mut Pair, steps: u32) -> Option<()> {
+fn run(rt: &HostRuntime, pair: &mut Pair, steps: u32) -> bool {
+    let mut all = true;
     for step in 0..steps {
-        advance(rt, pair, step)?;
+        all &= advance(rt, pair, step);
     }
-    Some(())
+    all
 }
 
 /// Whether a run goes on from checkpoints, after so many steps, as it does without.
-fn goes_on_beside(rt: &HostRuntime, pair: &mut Pair, steps: u32) -> Option<bool> {
-    let mut other = both_again(rt, pair)?;
-    beside(rt, pair, &mut other, steps)
-}
-
-/// Whether it does after these steps are done.
-fn goes_on_after(rt: &HostRuntime, pair: &mut Pair, steps: u32) -> Option<bool> {
-    run(rt, pair, steps)?;
-    goes_on_beside(rt, pair, steps)
+fn goes_on_beside(rt: &HostRuntime, pair: &mut Pair, steps: u32) -> bool {
+    match both_again(rt, pair) {
+        Some(mut other) => beside(rt, pair, &mut other, steps),
+        None => false,
+    }
 }
 
 /// Whether a run from the start does.
-fn goes_on(rt: &HostRuntime, steps: u32) -> Option<bool> {
-    let mut pair = begun(rt)?;
-    goes_on_after(rt, &mut pair, steps)
+fn goes_on(rt: &HostRuntime, steps: u32) -> bool {
+    match begun(rt) {
+        Some(mut pair) => run(rt, &mut pair, steps) && goes_on_beside(rt, &mut pair, steps),
+        None => false,
+    }
 }
 
 /// Whether it does after each number of steps.
-fn goes_on_always(rt: &HostRuntime) -> Option<bool> {
+fn goes_on_always(rt: &HostRuntime) -> bool {
     let mut all = true;
     for steps in 0..17 {
-        all &= goes_on(rt, steps)?;
+        all &= goes_on(rt, steps);
     }
-    Some(all)
+    all
 }
 
 #[test]
 fn runs_go_on_from_checkpoints(rt: HostRuntime) {
-    assert_eq!(rt; goes_on_always(&rt), Some(true));
+    assert!(rt; goes_on_always(&rt));
 }
 
 /// Both are read again, in place of those that were written.
-fn renew(rt: &HostRuntime, pair: &mut Pair) -> Option<()> {
-    *pair = both_again(rt, pair)?;
-    Some(())
-}
-
-/// A step, and then both are.
-fn advance_renewed(rt: &HostRuntime, pair: &mut Pair, step: u32) -> Option<()> {
-    advance(rt, pair, step)?;
-    renew(rt, pair)
-}
-
-/// Whether a whole run of such steps ends as a run does.
-fn ends_renewed(rt: &HostRuntime, pair: &mut Pair) -> Option<bool> {
-    for step in 0..16 {
-        advance_renewed(rt, pair, step)?;
+fn renew(rt: &HostRuntime, pair: &mut Pair) -> bool {
+    match both_again(rt, pair) {
+        Some(again) => {
+            *pair = again;
+            true
+        }
+        None => false,
     }
-    Some(are_stable(pair))
+}
+
+/// Whether a whole run, in which both are read again after each step, ends as a run does.
+fn ends_renewed(rt: &HostRuntime, pair: &mut Pair) -> bool {
+    let mut all = true;
+    for step in 0..16 {
+        all &= advance(rt, pair, step) && renew(rt, pair);
+    }
+    all && are_stable(pair)
 }
 
 /// Whether one from the start does.
 fn goes_on_from_each(rt: &HostRuntime) -> Option<bool> {
     let mut pair = begun(rt)?;
-    ends_renewed(rt, &mut pair)
+    Some(ends_renewed(rt, &mut pair))
 }
 
 #[test]

@@ -4,15 +4,15 @@
 
 ghost use Rattle.std.specs.Prelude.{◌≡◌, ◌<◌, IfSome};
 
-use super::{replica_of, step};
+use super::replica_of;
 use crate::{KeepError, checkpoint_length, write_checkpoint};
-use ball_model::{BatchName, MemWriter, Taken};
+use ball_model::{BatchName, MemWriter, Plan, Taken};
 use batches::Batch;
 use replica::{Replica, Shown};
 use std::sync::Arc;
 
 /// The one partition of the edges a to b and b to c, at superstep 2: c alone changed there.
-pub(super) const TWO_EDGES: [u8; 340] = [
+pub(super) static TWO_EDGES: [u8; 340] = [
     0x48, 0x42, 0x43, 0x4b, // HBCK
     2, 4, // version, log2m
     0, 1, 0, 0, // parts, partition
@@ -49,7 +49,7 @@ pub(super) const TWO_EDGES: [u8; 340] = [
 ];
 
 /// Partition 1 of the path a, b, c, d, e in two partitions, at superstep 0, which keeps a batch of superstep 3.
-pub(super) const WINDOW_EDGE: [u8; 305] = [
+pub(super) static WINDOW_EDGE: [u8; 305] = [
     0x48, 0x42, 0x43, 0x4b, // HBCK
     2, 4, // version, log2m
     0, 2, 0, 1, // parts, partition
@@ -106,16 +106,16 @@ pub(super) fn writes(rt: &HostRuntime, replica: &Replica, wanted: &[u8]) -> Opti
 }
 
 /// The replica of the edges a to b and b to c in one partition, at superstep 2.
-pub(super) fn two_edges(rt: &HostRuntime) -> Option<Replica> {
+pub(super) fn two_edges(rt: &HostRuntime) -> Option<Box<Replica>> {
     let mut replica = replica_of(rt, b"a\tb\nb\tc\n", 1, 0)?;
-    twice(&mut replica)?;
+    twice(&mut replica);
     Some(replica)
 }
 
 /// Two supersteps of a replica that waits for none.
-fn twice(replica: &mut Replica) -> Option<u32> {
-    step(replica)?;
-    step(replica)
+fn twice(replica: &mut Replica) {
+    let _first = replica.close();
+    let _second = replica.close();
 }
 
 /// Whether its bytes are those.
@@ -129,19 +129,23 @@ fn bytes_of_two_edges(rt: HostRuntime) {
     assert!(rt; two_edges_are_written(&rt) == Some(true));
 }
 
-/// Takes the batch of superstep 3 that tells of one changed vertex, and has no row.
-fn take_early(rt: &HostRuntime, replica: &mut Replica) -> Option<bool> {
+/// The batch of superstep 3 that tells of one changed vertex, and has no row.
+fn early_batch(rt: &HostRuntime, plan: &Plan) -> Option<Arc<Batch>> {
     let name = BatchName {
         superstep: 3,
         source: 0,
         target: 1,
     };
-    let plan = *replica.plan();
     if plan.limit() < 3 || plan.parts() != 2 || plan.part_size(0) == 0 {
         return None;
     }
-    let batch = Batch::start(rt.alloc(), &plan, name, 1).ok()?;
-    let batch = Arc::new(rt.alloc(), batch).ok()?;
+    let batch = Batch::start(rt.alloc(), plan, name, 1).ok()?;
+    Arc::new(rt.alloc(), batch).ok()
+}
+
+/// Takes that batch.
+fn take_early(rt: &HostRuntime, replica: &mut Replica) -> Option<bool> {
+    let batch = early_batch(rt, replica.plan())?;
     Some(replica.take(batch) == Ok(Taken::New))
 }
 
@@ -163,7 +167,7 @@ fn bytes_of_an_early_batch(rt: HostRuntime) {
 }
 
 /// Each error, and its text.
-const TEXTS: [(KeepError, &str); 11] = [
+static TEXTS: [(KeepError, &str); 11] = [
     (KeepError::Write, "the checkpoint cannot be written"),
     (KeepError::Read, "the checkpoint cannot be read"),
     (KeepError::Short, "too few bytes"),
@@ -191,8 +195,8 @@ fn told(rt: &HostRuntime, error: KeepError, wanted: &str) -> bool {
 /// Whether each has.
 fn all_told(rt: &HostRuntime) -> bool {
     let mut all = true;
-    for (error, wanted) in TEXTS {
-        all &= told(rt, error, wanted);
+    for (error, wanted) in &TEXTS {
+        all &= told(rt, *error, wanted);
     }
     all
 }
