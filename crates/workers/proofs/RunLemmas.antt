@@ -1,15 +1,21 @@
 -- What a run's refusals say, step by step.
-use Rattle.std.proofs.Common.{◌≡◌, ℕ, List, subst, sym}
-use Rattle.std.specs.Prelude.{Option, None, Some, Result, Ok, Err, IfOk, IfErr, OnOk}
+use Rattle.std.proofs.Common.{◌≡◌, ◌∙◌, ℕ, List, ap, nat_lt, refl, subst, sym}
+use Rattle.std.specs.Prelude.{Option, None, Some, Result, Ok, Err, IfOk, IfErr, OnOk, ◌||◌}
 use Rattle.std.specs.Io.KnownBytes.{Appends}
 use Rattle.std.specs.Borrow.{Bor}
 use Rattle.ball_model.specs.Input.{Network}
-use Rattle.ball_model.specs.RunText.{AreRead, IsReport, Numbers, Settings}
+use Rattle.ball_model.specs.PlanValue.{PlanValue, mixing_of, plan_of}
+use Rattle.ball_model.specs.Report.{report_of}
+use Rattle.ball_model.specs.RunText.{AreRead, IsReport, IsReportOf, Numbers, Settings, plan_over}
+use Rattle.ball_model.specs.declared.plan.PlanError.{PlanError}
+use Rattle.edgelist.proofs.BoolLemmas.{by_cases}
+use Rattle.workers.specs.declared.ends.JobError.{JobError}
+use Rattle.workers.specs.declared.ends.JobError.TheVariants as job
 use Rattle.workers.specs.declared.options.RunOptions.{RunOptions}
 use Rattle.workers.specs.declared.bytes.RunError.{RunError}
 use Rattle.workers.specs.declared.bytes.RunError.TheVariants as fault
 use Rattle.workers.specs.Options.{settings_of}
-use Rattle.workers.specs.Run.{AddsReport, AnswersNetwork, IsPlanned, IsRefusal, RefusesNetwork, RefusesRead, WherePlain, list_in}
+use Rattle.workers.specs.Run.{AddsReport, AnswersNetwork, HasPlan, IsRefusal, RefusesNetwork, RefusesRead, WherePlain, job_fault, list_in}
 
 -- what holds of plain bytes, and what follows from it
 pub where_weaker : (o : RunOptions) (told : Option (List ℕ)) (counted : Option (Bor (List ℕ))) (P Q : Settings → List ℕ → Option (List ℕ) → Type 0) → ((input : List ℕ) → P (settings_of o) input (list_in counted) → Q (settings_of o) input (list_in counted)) → WherePlain o told counted P → WherePlain o told counted Q
@@ -65,3 +71,30 @@ wrote o told counted contents old new text (Err e) report h = tt
 pub unwritten : {T : Type 0} (o : RunOptions) (told : Option (List ℕ)) (counted : Option (Bor (List ℕ))) (text : List ℕ) (r : Result T RunError) → WherePlain o told counted (λ s input list. IsReport s input list text) → IfErr r (λ e. e ≡ fault.Write) → WherePlain o told counted (λ s input list. IfErr r (IsRefusal s input list))
 unwritten o told counted text (Ok x) report h = where_always o told counted (λ s input list. IfErr {T = ℕ} (Ok 0) (IsRefusal s input list)) (λ s input list. tt)
 unwritten o told counted text (Err e) report h = where_weaker o told counted (λ s input list. IsReport s input list text) (λ s input list. IsRefusal s input list e) (λ input is. subst (λ (x : RunError). IsRefusal (settings_of o) input (list_in counted) x) (sym h) (record { network = is.network; read = is.read; planned = is.report.planned })) report
+
+-- the plan that is asked for, where there is one
+plan_or_fault : (p : PlanValue) → IfOk (plan_of p) (λ q. plan_of p ≡ Ok p)
+plan_or_fault p =
+    by_cases (nat_lt p.log2m 4 || nat_lt 10 p.log2m) _ (λ t. rw t tt)
+    (λ a. by_cases (nat_lt p.parts 1 || nat_lt 64 p.parts) _ (λ t. rw (a, t) tt)
+    (λ b. by_cases (nat_lt p.limit 1 || nat_lt 4096 p.limit) _ (λ t. rw (a, b, t) tt)
+    (λ d. by_cases (nat_lt 16777216 p.vertices) _ (λ t. rw (a, b, d, t) tt)
+    (λ e. rw (a, b, d, e) refl))))
+
+pub planned : (p q : PlanValue) → ◌≡◌ {A = Result PlanValue PlanError} (Ok q) (plan_of p) → plan_of p ≡ Ok p
+planned p q is = sym is ∙ (rw (← is) at (plan_or_fault p))
+
+-- a fault of the nodes, where there is a plan
+pub refuses_job : (n : Numbers) (network : Network) (e : JobError) → HasPlan n network → RefusesNetwork n network (job_fault e)
+refuses_job n network (job.PartitionLost p) h = h
+refuses_job n network job.BookFull h = h
+refuses_job n network job.Memory h = h
+refuses_job n network (job.Starved node s q) h = h
+
+-- the text under the plan that is asked for is the network's report
+pub report_planned : (n : Numbers) (network : Network) (q : PlanValue) (text : List ℕ) → ◌≡◌ {A = Result PlanValue PlanError} (Ok q) (plan_of (plan_over n network.graph)) → text ≡ report_of (mixing_of q) network.graph network.labels q.limit → IsReportOf n network text
+report_planned n network q text is h =
+    let plan : plan_of (plan_over n network.graph) ≡ Ok (plan_over n network.graph) = planned (plan_over n network.graph) q is in
+    let both : ◌≡◌ {A = Result PlanValue PlanError} (Ok q) (Ok (plan_over n network.graph)) = is ∙ plan in
+    let same : q ≡ plan_over n network.graph = cc both in
+    record { planned = plan; text_is = h ∙ ap (λ (a : PlanValue). report_of (mixing_of a) network.graph network.labels a.limit) same }
