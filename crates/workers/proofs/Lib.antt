@@ -4,6 +4,7 @@ pub mod JobLemmas
 pub mod NodeLemmas
 pub mod PathLemmas
 pub mod ReadyLemmas
+pub mod RunLemmas
 pub mod SeenLemmas
 pub mod TieLemmas
 pub mod TurnLemmas

@@ -70,6 +70,16 @@ pub on_err : {T E P : Type 0} (r : Result T E) → P → OnErr r P
 on_err (Ok x) h = tt
 on_err (Err e) h = h
 
+pub ok_is_no_err : {T E : Type 0} (x : T) (e : E) → ◌≡◌ {A = Result T E} (Ok x) (Err e) → ⊥
+ok_is_no_err x e h = absurd (cc)
+
+-- an error is the same one, whatever would have been Ok
+pub err_as : {T U E : Type 0} (e f : E) → ◌≡◌ {A = Result T E} (Err e) (Err f) → ◌≡◌ {A = Result U E} (Err e) (Err f)
+err_as e f h = let same : e ≡ f = cc in ap Err same
+
+pub err_not_as : {T U E : Type 0} (e f : E) → (◌≡◌ {A = Result T E} (Err e) (Err f) → ⊥) → ◌≡◌ {A = Result U E} (Err e) (Err f) → ⊥
+err_not_as e f h is = h (err_as e f is)
+
 pub if_none : {A P : Type 0} (o : Option A) → o ≡ None → IfNone o P → P
 if_none None is h = h
 if_none (Some x) is h = absurd (cc)

@@ -1,6 +1,6 @@
 //! All nodes of a job: a thread for each, and one board between them.
 
-ghost use Rattle.std.specs.Prelude.{◌≡◌, ◌<◌, ◌≤◌, ◌+◌, ◌*◌, ℕ, true, IfOk, IfErr, IfSome};
+ghost use Rattle.std.specs.Prelude.{◌≡◌, ◌<◌, ◌≤◌, ◌+◌, ◌*◌, ℕ, true, IfOk, IfErr, IfSome, OnOk, []};
 ghost use Rattle.std.specs.Arc.{arc_value};
 ghost use Rattle.ball_model.specs.Job.{Job, IsJob, job_of, part_of};
 ghost use Rattle.workers.specs.Job.{AreDone, AreEnds, AreParts, AreStarted, HasSplit, IsFaultOf, IsPartEnd};
@@ -199,8 +199,76 @@ fn start_part<'s, 'a: 's, X, R: AllocGlobal + Threads + Wait + Sync, G: Gate + S
     Ok(children)
 }
 
+// Starts the threads of the nodes of each partition, by its part.
+fn start_each<'s, 'a: 's, X, R: AllocGlobal + Threads + Wait + Sync, G: Gate + Sync>(
+    rt: &'a R,
+    scope: &'s Scope<'s, X>,
+    board: &'a Board,
+    first: &mut Seat,
+    gate: &'a G,
+    running: &'a Running,
+    graph: &Graph,
+    plan: &Plan,
+    options: &RunOptions,
+    parts: &[SharedPart],
+    children: &mut Vec<Vec<Child>>,
+) -> Result<(), AllocError>
+    requires job { IsJob (job_of graph.now.graph plan.now) }
+    requires few { options.now.replicas ≤ 4 }
+    requires seat { HasSplit board.now (job_of graph.now.graph plan.now) 0 first.old }
+    requires parts { AreParts arc_value (job_of graph.now.graph plan.now) parts.now }
+    requires none { children.old.items ≡ [] }
+    ensures { OnOk result (AreStarted (λ child. child.promise) (λ own. own.items)
+        (job_of graph.now.graph plan.now) options.now children.new.items) }
+{
+    for p in 0..plan.parts() {
+        let part = &parts[usize::from(p)];
+        let own = start_part(
+            rt, scope, board, first, gate, running, graph, plan, options, p, part,
+        )?;
+        children.push(own)?;
+    }
+    Ok(())
+}
+
 // Starts the threads of all nodes.
 fn start_all<'s, 'a: 's, X, R: AllocGlobal + Threads + Wait + Sync, G: Gate + Sync>(
+    rt: &'a R,
+    scope: &'s Scope<'s, X>,
+    board: &'a Board,
+    first: &mut Seat,
+    gate: &'a G,
+    running: &'a Running,
+    graph: &Graph,
+    plan: &Plan,
+    options: &RunOptions,
+) -> Result<Vec<Vec<Child>>, AllocError>
+    requires job { IsJob (job_of graph.now.graph plan.now) }
+    requires few { options.now.replicas ≤ 4 }
+    requires seat { HasSplit board.now (job_of graph.now.graph plan.now) 0 first.old }
+    ensures { IfOk result (λ all. AreStarted (λ child. child.promise) (λ own. own.items)
+        (job_of graph.now.graph plan.now) options.now all.items) }
+{
+    let parts = shared_parts(rt, graph, plan)?;
+    let mut children = Vec::with_capacity(rt.alloc(), usize::from(plan.parts()))?;
+    start_each(
+        rt,
+        scope,
+        board,
+        first,
+        gate,
+        running,
+        graph,
+        plan,
+        options,
+        &parts,
+        &mut children,
+    )?;
+    Ok(children)
+}
+
+// Starts the threads of all nodes; where that fails, those that were started wait no more.
+fn start_or_stop<'s, 'a: 's, X, R: AllocGlobal + Threads + Wait + Sync, G: Gate + Sync>(
     rt: &'a R,
     scope: &'s Scope<'s, X>,
     board: &'a Board,
@@ -217,37 +285,9 @@ fn start_all<'s, 'a: 's, X, R: AllocGlobal + Threads + Wait + Sync, G: Gate + Sy
     ensures { IfOk result (λ all. AreStarted (λ child. child.promise) (λ own. own.items)
         (job_of graph.now.graph plan.now) options.now all.items) }
 {
-    let parts = shared_parts(rt, graph, plan)?;
-    let mut children = Vec::with_capacity(rt.alloc(), usize::from(plan.parts()))?;
-    for p in 0..plan.parts() {
-        let part = &parts[usize::from(p)];
-        let own = start_part(
-            rt, scope, board, &mut first, gate, running, graph, plan, options, p, part,
-        )?;
-        children.push(own)?;
-    }
-    Ok(children)
-}
-
-// Starts the threads of all nodes; where that fails, those that were started wait no more.
-fn start_or_stop<'s, 'a: 's, X, R: AllocGlobal + Threads + Wait + Sync, G: Gate + Sync>(
-    rt: &'a R,
-    scope: &'s Scope<'s, X>,
-    board: &'a Board,
-    first: Seat,
-    gate: &'a G,
-    running: &'a Running,
-    graph: &Graph,
-    plan: &Plan,
-    options: &RunOptions,
-) -> Result<Vec<Vec<Child>>, AllocError>
-    requires job { IsJob (job_of graph.now.graph plan.now) }
-    requires few { options.now.replicas ≤ 4 }
-    requires seat { HasSplit board.now (job_of graph.now.graph plan.now) 0 first }
-    ensures { IfOk result (λ all. AreStarted (λ child. child.promise) (λ own. own.items)
-        (job_of graph.now.graph plan.now) options.now all.items) }
-{
-    let started = start_all(rt, scope, board, first, gate, running, graph, plan, options);
+    let started = start_all(
+        rt, scope, board, &mut first, gate, running, graph, plan, options,
+    );
     if started.is_err() {
         running.stop();
     }

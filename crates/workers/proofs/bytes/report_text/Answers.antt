@@ -1,10 +1,13 @@
-use Rattle.std.proofs.Common.{ℕ, subst}
+use Rattle.std.proofs.Common.{ℕ, subst, sym}
 use Rattle.std.proofs.lemmas.Result.{err_from_is_err_and}
 use Rattle.workers.specs.declared.ends.JobError.{JobError}
 use Rattle.workers.specs.declared.ends.JobError.TheVariants as job
 use Rattle.workers.specs.declared.options.RunOptions.{RunOptions}
 use Rattle.workers.specs.Job.{IsFaultOf}
+use Rattle.workers.specs.Options.{numbers_in}
 use Rattle.workers.specs.Run.{IsFaultIn, job_fault}
+use Rattle.ball_model.specs.RunText.{plan_over}
+use Rattle.workers.proofs.RunLemmas.{planned, refuses_job, report_planned}
 use Rattle.workers.proofs.bytes.report_text.Goals as goal
 
 said : (o : RunOptions) (e : JobError) → IsFaultOf o.parts o e → IsFaultIn o (job_fault e)
@@ -12,6 +15,21 @@ said o (job.PartitionLost p) h = h
 said o job.BookFull h = h
 said o job.Memory h = tt
 said o (job.Starved node s q) h = h
+
+pub returns-in_err-plan-clause-answer : goal.returns-in_err-plan-clause-answer
+returns-in_err-plan-clause-answer g c =
+    let p = err_from_is_err_and c.from_residual.result c.from_residual.ensures.1 in
+    rw (p.1, p.2) (sym c.in_err-plan.ensures.value)
+
+pub returns-in_err-text-clause-answer : goal.returns-in_err-text-clause-answer
+returns-in_err-text-clause-answer g c =
+    let n = numbers_in c.args.options.now in
+    let network = c.args.graph.now in
+    let p = err_from_is_err_and c.from_residual-in_err-text.result c.from_residual-in_err-text.ensures.1 in
+    rw (p.1, p.2) (refuses_job n network c.in_err-text.field-0.0 (planned (plan_over n network.graph) c.in_ok-plan.plan c.in_ok-plan.ensures.value))
+
+pub returns-clause-answer : goal.returns-clause-answer
+returns-clause-answer g c = report_planned (numbers_in c.args.options.now) c.args.graph.now c.in_ok-plan.plan c.in_ok-text.text c.in_ok-plan.ensures.value c.in_ok-text.ensures.ok
 
 pub returns-in_err-text-clause-fault : goal.returns-in_err-text-clause-fault
 returns-in_err-text-clause-fault g c =

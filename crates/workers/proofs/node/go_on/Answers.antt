@@ -1,9 +1,11 @@
-use Rattle.std.proofs.Common.{◌∙◌, ℕ, refl, sym, subst}
+use Rattle.std.proofs.Common.{◌∙◌, ℕ, ap, refl, sym, subst}
+use Rattle.std.proofs.lemmas.Result.{err_from_is_err_and}
 use Rattle.ball_model.specs.Caller.{Caller}
+use Rattle.ball_model.specs.Job.{Job}
 use Rattle.workers.specs.declared.turn.Turn.{Turn}
 use Rattle.workers.specs.Node.{FallsDue}
 use Rattle.workers.specs.Turn.{HasStarved, IsTurn}
-use Rattle.workers.proofs.PathLemmas.{come_nowhere, come_then, gone_then, on_err}
+use Rattle.workers.proofs.PathLemmas.{come_nowhere, come_then, err_not_as, gone_then, ok_is_no_err, on_err}
 use Rattle.workers.proofs.SeenLemmas.{caller_of, extends_self, extends_trans, starved_before, told_before}
 use Rattle.workers.proofs.TurnLemmas.{done_of, part_later, stands_back, stands_later}
 use Rattle.workers.proofs.node.go_on.Goals as goal
@@ -105,3 +107,57 @@ returns-in-Over-clause-stands g c = stands_back (g.E.Exchange.caller c.args.exch
 
 pub returns-in-Starved-clause-stands : goal.returns-in-Starved-clause-stands
 returns-in-Starved-clause-stands g c = stands_back (g.E.Exchange.caller c.args.exchange.now) (g.E.Exchange.caller c.loop.exchange) _ c.run_superstep.new.replica c.loop.invariant.0 c.in_ok-run_superstep.ensures.stands
+
+pub returns-in_err-begin_anew-clause-stands : goal.returns-in_err-begin_anew-clause-stands
+returns-in_err-begin_anew-clause-stands g c = let p = err_from_is_err_and c.from_residual.result c.from_residual.ensures.1 in rw (p.1) tt
+
+pub returns-in_err-begin_anew-clause-fate : goal.returns-in_err-begin_anew-clause-fate
+returns-in_err-begin_anew-clause-fate g c = let p = err_from_is_err_and c.from_residual.result c.from_residual.ensures.1 in rw (p.1) tt
+
+pub returns-in_err-begin_anew-clause-came : goal.returns-in_err-begin_anew-clause-came
+returns-in_err-begin_anew-clause-came g c = let p = err_from_is_err_and c.from_residual.result c.from_residual.ensures.1 in rw (p.1) tt
+
+pub returns-in_err-begin_anew-clause-full : goal.returns-in_err-begin_anew-clause-full
+returns-in_err-begin_anew-clause-full g c = let p = err_from_is_err_and c.from_residual.result c.from_residual.ensures.1 in rw (p.1, p.2) c.in_err-begin_anew.ensures.full
+
+pub returns-in_err-run_superstep-clause-stands : goal.returns-in_err-run_superstep-clause-stands
+returns-in_err-run_superstep-clause-stands g c = let p = err_from_is_err_and c.from_residual-in_err-run_superstep.result c.from_residual-in_err-run_superstep.ensures.1 in rw (p.1) tt
+
+pub returns-in_err-run_superstep-clause-fate : goal.returns-in_err-run_superstep-clause-fate
+returns-in_err-run_superstep-clause-fate g c = let p = err_from_is_err_and c.from_residual-in_err-run_superstep.result c.from_residual-in_err-run_superstep.ensures.1 in rw (p.1) tt
+
+pub returns-in_err-run_superstep-clause-came : goal.returns-in_err-run_superstep-clause-came
+returns-in_err-run_superstep-clause-came g c = let p = err_from_is_err_and c.from_residual-in_err-run_superstep.result c.from_residual-in_err-run_superstep.ensures.1 in rw (p.1) tt
+
+pub returns-in_err-run_superstep-clause-full : goal.returns-in_err-run_superstep-clause-full
+returns-in_err-run_superstep-clause-full g c = let p = err_from_is_err_and c.from_residual-in_err-run_superstep.result c.from_residual-in_err-run_superstep.ensures.1 in rw (p.1, p.2) c.in_err-run_superstep.ensures.full
+
+pub returns-in_err-run_superstep-clause-alone : goal.returns-in_err-run_superstep-clause-alone
+returns-in_err-run_superstep-clause-alone g c = λ one keep _. let p = err_from_is_err_and c.from_residual-in_err-run_superstep.result c.from_residual-in_err-run_superstep.ensures.1 in rw (p.1, p.2) (err_not_as _ _ (c.in_err-run_superstep.ensures.alone (ap (λ (j : Job). j.plan.parts) c.loop.invariant.0.begins.job ∙ one) keep))
+
+pub returns-then-falls_due-clause-gone : goal.returns-then-falls_due-clause-gone
+returns-then-falls_due-clause-gone g c = tt
+
+pub returns-then-falls_due-clause-full : goal.returns-then-falls_due-clause-full
+returns-then-falls_due-clause-full g c = tt
+
+pub returns-then-falls_due-clause-alone : goal.returns-then-falls_due-clause-alone
+returns-then-falls_due-clause-alone g c = λ _ _ _. ok_is_no_err _ _
+
+pub returns-in-Over-clause-gone : goal.returns-in-Over-clause-gone
+returns-in-Over-clause-gone g c = tt
+
+pub returns-in-Over-clause-full : goal.returns-in-Over-clause-full
+returns-in-Over-clause-full g c = tt
+
+pub returns-in-Over-clause-alone : goal.returns-in-Over-clause-alone
+returns-in-Over-clause-alone g c = λ _ _ _. ok_is_no_err _ _
+
+pub returns-in-Starved-clause-gone : goal.returns-in-Starved-clause-gone
+returns-in-Starved-clause-gone g c = tt
+
+pub returns-in-Starved-clause-full : goal.returns-in-Starved-clause-full
+returns-in-Starved-clause-full g c = tt
+
+pub returns-in-Starved-clause-alone : goal.returns-in-Starved-clause-alone
+returns-in-Starved-clause-alone g c = λ _ _ _. ok_is_no_err _ _

@@ -1,9 +1,10 @@
 use Rattle.std.proofs.Common.{◌∙◌, ℕ, ap, refl, sym, subst}
+use Rattle.std.proofs.lemmas.Result.{err_from_is_err_and}
 use Rattle.ball_model.specs.Caller.{Caller}
 use Rattle.ball_model.specs.State.{State}
 use Rattle.replica.specs.Sent.{batch_name}
 use Rattle.workers.specs.Node.{WasMissing}
-use Rattle.workers.proofs.PathLemmas.{come_nowhere, come_past, come_then, gone_then, on_err}
+use Rattle.workers.proofs.PathLemmas.{come_nowhere, come_past, come_then, gone_then, ok_is_no_err, on_err}
 use Rattle.workers.proofs.SeenLemmas.{caller_of, extends_self, extends_trans, missing_before, missing_later}
 use Rattle.workers.proofs.TurnLemmas.{missing_source, no_other, stands_back, stands_later}
 use Rattle.workers.proofs.turn.gather.Goals as goal
@@ -139,3 +140,60 @@ returns-then-branch-2-clause-stands g c = stands_back (g.E.Exchange.caller c.arg
 
 pub returns-then-not-has_grown-clause-stands : goal.returns-then-not-has_grown-clause-stands
 returns-then-not-has_grown-clause-stands g c = stands_back (g.E.Exchange.caller c.args.exchange.now) (g.E.Exchange.caller c.find.new.exchange) _ c.catch_up.new.replica (extends_trans _ _ _ (extends_trans _ _ _ c.loop.invariant.0 c.length-length.ensures.seen) c.find.ensures.seen) c.in_ok-catch_up.ensures.stands
+
+pub returns-in_err-find-clause-stands : goal.returns-in_err-find-clause-stands
+returns-in_err-find-clause-stands g c = let p = err_from_is_err_and c.from_residual.result c.from_residual.ensures.1 in rw (p.1) tt
+
+pub returns-in_err-find-clause-found : goal.returns-in_err-find-clause-found
+returns-in_err-find-clause-found g c = let p = err_from_is_err_and c.from_residual.result c.from_residual.ensures.1 in rw (p.1) tt
+
+pub returns-in_err-find-clause-came : goal.returns-in_err-find-clause-came
+returns-in_err-find-clause-came g c = let p = err_from_is_err_and c.from_residual.result c.from_residual.ensures.1 in rw (p.1) tt
+
+pub returns-in_err-find-clause-full : goal.returns-in_err-find-clause-full
+returns-in_err-find-clause-full g c = let p = err_from_is_err_and c.from_residual.result c.from_residual.ensures.1 in rw (p.1, p.2) c.in_err-find.ensures.full
+
+pub returns-in_err-catch_up-clause-stands : goal.returns-in_err-catch_up-clause-stands
+returns-in_err-catch_up-clause-stands g c = let p = err_from_is_err_and c.from_residual-in_err-catch_up.result c.from_residual-in_err-catch_up.ensures.1 in rw (p.1) tt
+
+pub returns-in_err-catch_up-clause-found : goal.returns-in_err-catch_up-clause-found
+returns-in_err-catch_up-clause-found g c = let p = err_from_is_err_and c.from_residual-in_err-catch_up.result c.from_residual-in_err-catch_up.ensures.1 in rw (p.1) tt
+
+pub returns-in_err-catch_up-clause-came : goal.returns-in_err-catch_up-clause-came
+returns-in_err-catch_up-clause-came g c = let p = err_from_is_err_and c.from_residual-in_err-catch_up.result c.from_residual-in_err-catch_up.ensures.1 in rw (p.1) tt
+
+pub returns-in_err-catch_up-clause-full : goal.returns-in_err-catch_up-clause-full
+returns-in_err-catch_up-clause-full g c = let p = err_from_is_err_and c.from_residual-in_err-catch_up.result c.from_residual-in_err-catch_up.ensures.1 in rw (p.1, p.2) c.in_err-catch_up.ensures.full
+
+pub returns-in_default-clause-gone : goal.returns-in_default-clause-gone
+returns-in_default-clause-gone g c = tt
+
+pub returns-in_default-clause-full : goal.returns-in_default-clause-full
+returns-in_default-clause-full g c = tt
+
+pub returns-in_default-clause-alone : goal.returns-in_default-clause-alone
+returns-in_default-clause-alone g c = λ _. ok_is_no_err _ _
+
+pub returns-then-branch-2-clause-gone : goal.returns-then-branch-2-clause-gone
+returns-then-branch-2-clause-gone g c = tt
+
+pub returns-then-branch-2-clause-full : goal.returns-then-branch-2-clause-full
+returns-then-branch-2-clause-full g c = tt
+
+pub returns-then-branch-2-clause-alone : goal.returns-then-branch-2-clause-alone
+returns-then-branch-2-clause-alone g c = λ _. ok_is_no_err _ _
+
+pub returns-then-not-has_grown-clause-gone : goal.returns-then-not-has_grown-clause-gone
+returns-then-not-has_grown-clause-gone g c = tt
+
+pub returns-then-not-has_grown-clause-full : goal.returns-then-not-has_grown-clause-full
+returns-then-not-has_grown-clause-full g c = tt
+
+pub returns-then-not-has_grown-clause-alone : goal.returns-then-not-has_grown-clause-alone
+returns-then-not-has_grown-clause-alone g c = λ _. ok_is_no_err _ _
+
+pub returns-in_default-clause-found : goal.returns-in_default-clause-found
+returns-in_default-clause-found g c = (sym c.missing.ensures ∙ c.in_default.is, c.loop.invariant.2)
+
+pub returns-then-branch-2-clause-found : goal.returns-then-branch-2-clause-found
+returns-then-branch-2-clause-found g c = tt

@@ -1,4 +1,5 @@
 use Rattle.std.proofs.Common.{◌≢◌, ◌<◌, ◌+◌, ℕ, ap, arith, refl, sym, subst}
+use Rattle.std.proofs.lemmas.Result.{err_from_is_err_and}
 use Rattle.ball_model.specs.PlanValue.{PlanValue}
 use Rattle.ball_model.specs.Caller.{Caller, Extends}
 use Rattle.replica.specs.Sent.{batch_name}
@@ -6,9 +7,9 @@ use Rattle.workers.specs.Node.{HasPosted}
 use Rattle.ball_model.specs.History.{holding_in}
 use Rattle.ball_model.specs.Join.{Holding}
 use Rattle.workers.specs.Tie.{HasCome}
-use Rattle.workers.proofs.PathLemmas.{come_nowhere, come_then, gone_then, on_err}
-use Rattle.workers.proofs.SeenLemmas.{extends_self, extends_trans, told_more}
-use Rattle.workers.proofs.TurnLemmas.{below_job, below_later, below_plan, no_other}
+use Rattle.workers.proofs.PathLemmas.{come_nowhere, come_then, gone_then, ok_is_no_err, on_err}
+use Rattle.workers.proofs.SeenLemmas.{caller_of, extends_self, extends_trans, told_more}
+use Rattle.workers.proofs.TurnLemmas.{below_job, below_later, below_plan, no_other, stands_later}
 use Rattle.workers.proofs.turn.tell_all.Goals as goal
 use Rattle.workers.proofs.turn.tell_all.Goals.{then-target-node+in_ok-tell, else-target-node}
 
@@ -55,3 +56,33 @@ returns-in_err-tell-clause-gone g c = on_err c.from_residual.result (gone_then _
 
 pub returns-clause-came : goal.returns-clause-came
 returns-clause-came g c = c.loop-target.invariant.2
+
+pub returns-in_err-tell-clause-seen : goal.returns-in_err-tell-clause-seen
+returns-in_err-tell-clause-seen g c = extends_trans _ _ _ c.loop-target.invariant.0 c.tell.ensures.seen
+
+pub returns-in_err-tell-clause-told : goal.returns-in_err-tell-clause-told
+returns-in_err-tell-clause-told g c = let p = err_from_is_err_and c.from_residual.result c.from_residual.ensures.1 in rw (p.1) tt
+
+pub returns-in_err-tell-clause-came : goal.returns-in_err-tell-clause-came
+returns-in_err-tell-clause-came g c = let p = err_from_is_err_and c.from_residual.result c.from_residual.ensures.1 in rw (p.1) tt
+
+pub returns-in_err-tell-clause-full : goal.returns-in_err-tell-clause-full
+returns-in_err-tell-clause-full g c = let p = err_from_is_err_and c.from_residual.result c.from_residual.ensures.1 in rw (p.1, p.2) c.in_err-tell.ensures.full
+
+pub returns-clause-seen : goal.returns-clause-seen
+returns-clause-seen g c = c.loop-target.invariant.0
+
+pub returns-clause-gone : goal.returns-clause-gone
+returns-clause-gone g c = tt
+
+pub returns-clause-full : goal.returns-clause-full
+returns-clause-full g c = tt
+
+pub returns-clause-alone : goal.returns-clause-alone
+returns-clause-alone g c = λ _. ok_is_no_err _ _
+
+pub tell-requires-clause-caller : goal.tell-requires-clause-caller
+tell-requires-clause-caller g c = caller_of _ _ c.loop-target.invariant.0
+
+pub tell-requires-clause-stands : goal.tell-requires-clause-stands
+tell-requires-clause-stands g c = stands_later (g.E.Exchange.caller c.args.exchange.now) _ c.args.node.part c.args.replica.now c.loop-target.invariant.0 c.requires.stands

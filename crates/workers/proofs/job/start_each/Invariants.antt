@@ -2,7 +2,7 @@ use Rattle.std.proofs.Common.{◌*◌}
 use Rattle.ball_model.specs.Job.{Job, job_of}
 use Rattle.workers.specs.Job.{HasSplit}
 use Rattle.workers.proofs.JobLemmas.{StartingAll}
-use Rattle.workers.proofs.job.start_all.Given as goal
+use Rattle.workers.proofs.job.start_each.Given as goal
 
 abbrev pub invariant-loop-p : goal.invariant-loop-p
 invariant-loop-p g l =

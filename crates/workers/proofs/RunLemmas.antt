@@ -1,0 +1,100 @@
+-- What a run's refusals say, step by step.
+use Rattle.std.proofs.Common.{◌≡◌, ◌∙◌, ℕ, List, ap, nat_lt, refl, subst, sym}
+use Rattle.std.specs.Prelude.{Option, None, Some, Result, Ok, Err, IfOk, IfErr, OnOk, ◌||◌}
+use Rattle.std.specs.Io.KnownBytes.{Appends}
+use Rattle.std.specs.Borrow.{Bor}
+use Rattle.ball_model.specs.Input.{Network}
+use Rattle.ball_model.specs.PlanValue.{PlanValue, mixing_of, plan_of}
+use Rattle.ball_model.specs.Report.{report_of}
+use Rattle.ball_model.specs.RunText.{AreRead, IsReport, IsReportOf, Numbers, Settings, plan_over}
+use Rattle.ball_model.specs.declared.plan.PlanError.{PlanError}
+use Rattle.edgelist.proofs.BoolLemmas.{by_cases}
+use Rattle.workers.specs.declared.ends.JobError.{JobError}
+use Rattle.workers.specs.declared.ends.JobError.TheVariants as job
+use Rattle.workers.specs.declared.options.RunOptions.{RunOptions}
+use Rattle.workers.specs.declared.bytes.RunError.{RunError}
+use Rattle.workers.specs.declared.bytes.RunError.TheVariants as fault
+use Rattle.workers.specs.Options.{settings_of}
+use Rattle.workers.specs.Run.{AddsReport, AnswersNetwork, HasPlan, IsRefusal, RefusesNetwork, RefusesRead, WherePlain, job_fault, list_in}
+
+-- what holds of plain bytes, and what follows from it
+pub where_weaker : (o : RunOptions) (told : Option (List ℕ)) (counted : Option (Bor (List ℕ))) (P Q : Settings → List ℕ → Option (List ℕ) → Type 0) → ((input : List ℕ) → P (settings_of o) input (list_in counted) → Q (settings_of o) input (list_in counted)) → WherePlain o told counted P → WherePlain o told counted Q
+where_weaker o None counted P Q f h = tt
+where_weaker o (Some input) counted P Q f h = λ plain. f input (h plain)
+
+pub where_always : (o : RunOptions) (told : Option (List ℕ)) (counted : Option (Bor (List ℕ))) (Q : Settings → List ℕ → Option (List ℕ) → Type 0) → ((s : Settings) (input : List ℕ) (list : Option (List ℕ)) → Q s input list) → WherePlain o told counted Q
+where_always o None counted Q f = tt
+where_always o (Some input) counted Q f = λ plain. f _ _ _
+
+-- what is refused before there is a network
+pub refuses_read : (s : Settings) (input : List ℕ) (list : Option (List ℕ)) (e : RunError) → RefusesRead s input list e → IsRefusal s input list e
+refuses_read s input list fault.Options h = tt
+refuses_read s input list (fault.Edges e) h = h
+refuses_read s input list (fault.Counted e) h = h
+refuses_read s input list (fault.Plan e) h = absurd h
+refuses_read s input list (fault.PartitionLost p) h = absurd h
+refuses_read s input list fault.BookFull h = absurd h
+refuses_read s input list fault.Memory h = absurd h
+refuses_read s input list (fault.Starved node r q) h = absurd h
+refuses_read s input list fault.Write h = absurd h
+
+-- what is refused over a network that was read
+pub refuses_network : (s : Settings) (input : List ℕ) (list : Option (List ℕ)) (network : Network) (e : RunError) → AreRead s input list network → RefusesNetwork s.numbers network e → IsRefusal s input list e
+refuses_network s input list network fault.Options read h = tt
+refuses_network s input list network (fault.Edges e) read h = absurd h
+refuses_network s input list network (fault.Counted e) read h = absurd h
+refuses_network s input list network (fault.Plan e) read h = record { network = network; read = read; refused = h }
+refuses_network s input list network (fault.PartitionLost p) read h = record { network = network; read = read; planned = h }
+refuses_network s input list network fault.BookFull read h = record { network = network; read = read; planned = h }
+refuses_network s input list network fault.Memory read h = record { network = network; read = read; planned = h }
+refuses_network s input list network (fault.Starved node r q) read h = record { network = network; read = read; planned = h }
+refuses_network s input list network fault.Write read h = absurd h
+
+-- the report of a network that was read, or why there is none
+pub reported : (s : Settings) (input : List ℕ) (list : Option (List ℕ)) (network : Network) (r : Result (List ℕ) RunError) → AnswersNetwork s.numbers network r → AreRead s input list network → IfOk r (IsReport s input list)
+reported s input list network (Ok text) h read = record { network = network; read = read; report = h }
+reported s input list network (Err e) h read = tt
+
+pub refused : (s : Settings) (input : List ℕ) (list : Option (List ℕ)) (network : Network) (r : Result (List ℕ) RunError) → AnswersNetwork s.numbers network r → AreRead s input list network → IfErr r (IsRefusal s input list)
+refused s input list network (Ok text) h read = tt
+refused s input list network (Err e) h read = refuses_network s input list network e read h
+
+pub never_write : (n : Numbers) (network : Network) (r : Result (List ℕ) RunError) → AnswersNetwork n network r → IfErr r (λ e. e ≡ fault.Write → ⊥)
+never_write n network (Ok text) h = tt
+never_write n network (Err e) h = λ is. subst (λ (x : RunError). RefusesNetwork n network x) is h
+
+-- the text of a report that is written, and what is said where it is not
+pub wrote : {T W : Type 0} (o : RunOptions) (told : Option (List ℕ)) (counted : Option (Bor (List ℕ))) (contents : W → Option (List ℕ)) (old new : W) (text : List ℕ) (r : Result T RunError) → WherePlain o told counted (λ s input list. IsReport s input list text) → OnOk r (Appends (contents old) (contents new) text) → OnOk r (WherePlain o told counted (AddsReport contents old new))
+wrote o told counted contents old new text (Ok x) report h = where_weaker o told counted (λ s input list. IsReport s input list text) (AddsReport contents old new) (λ input is. record { text = text; report = is; appended = h }) report
+wrote o told counted contents old new text (Err e) report h = tt
+
+pub unwritten : {T : Type 0} (o : RunOptions) (told : Option (List ℕ)) (counted : Option (Bor (List ℕ))) (text : List ℕ) (r : Result T RunError) → WherePlain o told counted (λ s input list. IsReport s input list text) → IfErr r (λ e. e ≡ fault.Write) → WherePlain o told counted (λ s input list. IfErr r (IsRefusal s input list))
+unwritten o told counted text (Ok x) report h = where_always o told counted (λ s input list. IfErr {T = ℕ} (Ok 0) (IsRefusal s input list)) (λ s input list. tt)
+unwritten o told counted text (Err e) report h = where_weaker o told counted (λ s input list. IsReport s input list text) (λ s input list. IsRefusal s input list e) (λ input is. subst (λ (x : RunError). IsRefusal (settings_of o) input (list_in counted) x) (sym h) (record { network = is.network; read = is.read; planned = is.report.planned })) report
+
+-- the plan that is asked for, where there is one
+plan_or_fault : (p : PlanValue) → IfOk (plan_of p) (λ q. plan_of p ≡ Ok p)
+plan_or_fault p =
+    by_cases (nat_lt p.log2m 4 || nat_lt 10 p.log2m) _ (λ t. rw t tt)
+    (λ a. by_cases (nat_lt p.parts 1 || nat_lt 64 p.parts) _ (λ t. rw (a, t) tt)
+    (λ b. by_cases (nat_lt p.limit 1 || nat_lt 4096 p.limit) _ (λ t. rw (a, b, t) tt)
+    (λ d. by_cases (nat_lt 16777216 p.vertices) _ (λ t. rw (a, b, d, t) tt)
+    (λ e. rw (a, b, d, e) refl))))
+
+pub planned : (p q : PlanValue) → ◌≡◌ {A = Result PlanValue PlanError} (Ok q) (plan_of p) → plan_of p ≡ Ok p
+planned p q is = sym is ∙ (rw (← is) at (plan_or_fault p))
+
+-- a fault of the nodes, where there is a plan
+pub refuses_job : (n : Numbers) (network : Network) (e : JobError) → HasPlan n network → RefusesNetwork n network (job_fault e)
+refuses_job n network (job.PartitionLost p) h = h
+refuses_job n network job.BookFull h = h
+refuses_job n network job.Memory h = h
+refuses_job n network (job.Starved node s q) h = h
+
+-- the text under the plan that is asked for is the network's report
+pub report_planned : (n : Numbers) (network : Network) (q : PlanValue) (text : List ℕ) → ◌≡◌ {A = Result PlanValue PlanError} (Ok q) (plan_of (plan_over n network.graph)) → text ≡ report_of (mixing_of q) network.graph network.labels q.limit → IsReportOf n network text
+report_planned n network q text is h =
+    let plan : plan_of (plan_over n network.graph) ≡ Ok (plan_over n network.graph) = planned (plan_over n network.graph) q is in
+    let both : ◌≡◌ {A = Result PlanValue PlanError} (Ok q) (Ok (plan_over n network.graph)) = is ∙ plan in
+    let same : q ≡ plan_over n network.graph = cc both in
+    record { planned = plan; text_is = h ∙ ap (λ (a : PlanValue). report_of (mixing_of a) network.graph network.labels a.limit) same }
