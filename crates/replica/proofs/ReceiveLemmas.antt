@@ -1,5 +1,5 @@
 -- A replica that receives a batch: one of its superstep is heard, a later one is kept.
-use Rattle.std.proofs.Common.{◌≡◌, ℕ, ◌-◌, ◌<◌, ◌≤◌, ◌==◌, ◌&&◌, Bool, List, length, refl, ap, sym, ◌∙◌, subst, arith, inl, inr, if◌then◌else◌}
+use Rattle.std.proofs.Common.{◌≡◌, ℕ, ◌+◌, ◌-◌, ◌<◌, ◌≤◌, ◌==◌, ◌&&◌, Bool, List, length, refl, ap, sym, ◌∙◌, subst, arith, inl, inr, if◌then◌else◌}
 use Rattle.std.specs.Prelude.{Option, Some, Ok}
 use Rattle.std.specs.Arc.{arc_value}
 use Rattle.ball_model.specs.declared.names.BatchName.{BatchName}
@@ -89,6 +89,33 @@ heard_now r v b targets after ok h also =
 
 later_than : (t n : ℕ) → t ≤ n → (n ≡ t → ⊥) → t < n
 later_than t n le ne = omega (arith, ne)
+
+-- a table is of one number of sources
+one_table : (m n : ℕ) (early : List (List (Option BatchValue))) → IsTable m early → IsTable n early → m ≡ n
+one_table m n early a b = sym (a.sources 0 (omega arith)) ∙ b.sources 0 (omega arith)
+
+-- it has a place
+pub record Placed (r : progress.Inside) (name : BatchName) : Type 0 where
+  pub above : r.superstep < name.superstep
+  pub near : name.superstep < r.superstep + 4
+  pub source : (parts : ℕ) → IsTable parts r.early → name.source < parts
+
+pub placed : (r : progress.Inside) (v : State) (b : BatchValue) (name : BatchName) → IsProgress r → state_of r ≡ v → IsBatch b →
+    take_of v.part.plan v.part.number (content_of v) b.plan b.name ≡ Ok taken.New → name ≡ b.name → (name.superstep ≡ r.superstep → ⊥) → Placed r name
+placed r v b name ok is batch new named other =
+    let s = state_of r in
+    let f = fresh s b batch (subst (λ (u : State). take_of u.part.plan u.part.number (content_of u) b.plan b.name ≡ Ok taken.New) (sym is) new) in
+    let at : name.superstep ≡ b.name.superstep = ap (λ (n : BatchName). n.superstep) named in
+    let from : name.source ≡ b.name.source = ap (λ (n : BatchName). n.source) named in
+    let low : r.superstep ≤ b.name.superstep = f.low in
+    let high : b.name.superstep < r.superstep + 4 = f.high in
+    record {
+      above = later_than r.superstep name.superstep (omega (arith, low, at)) other;
+      near = omega (arith, high, at);
+      source = λ parts table.
+          let same : s.part.plan.parts ≡ parts = one_table s.part.plan.parts parts r.early ok.state.early.table table in
+          omega (arith, f.below, same, from);
+    }
 
 pub record Kept (r : progress.Inside) (v : State) (b : BatchValue) : Type 0 where
   pub limits : IsProgress r

@@ -22,17 +22,17 @@ use std::alloc::AllocError;
 use std::hash::RandomState;
 use std::mem;
 
-const ROW_A: [u8; 16] = [0, 0, 0, 0, 0, 0, 0, 0, 0, 0, 0, 0, 0, 0, 3, 0];
+static ROW_A: [u8; 16] = [0, 0, 0, 0, 0, 0, 0, 0, 0, 0, 0, 0, 0, 0, 3, 0];
 
-const ROW_B: [u8; 16] = [0, 0, 0, 0, 0, 0, 1, 0, 0, 0, 0, 0, 0, 0, 0, 0];
+static ROW_B: [u8; 16] = [0, 0, 0, 0, 0, 0, 1, 0, 0, 0, 0, 0, 0, 0, 0, 0];
 
-const ROW_C: [u8; 16] = [2, 0, 0, 0, 0, 0, 0, 0, 0, 0, 0, 0, 0, 0, 0, 0];
+static ROW_C: [u8; 16] = [2, 0, 0, 0, 0, 0, 0, 0, 0, 0, 0, 0, 0, 0, 0, 0];
 
-const ROW_AB: [u8; 16] = [0, 0, 0, 0, 0, 0, 1, 0, 0, 0, 0, 0, 0, 0, 3, 0];
+static ROW_AB: [u8; 16] = [0, 0, 0, 0, 0, 0, 1, 0, 0, 0, 0, 0, 0, 0, 3, 0];
 
-const ROW_BC: [u8; 16] = [2, 0, 0, 0, 0, 0, 1, 0, 0, 0, 0, 0, 0, 0, 0, 0];
+static ROW_BC: [u8; 16] = [2, 0, 0, 0, 0, 0, 1, 0, 0, 0, 0, 0, 0, 0, 0, 0];
 
-const ROW_ABC: [u8; 16] = [2, 0, 0, 0, 0, 0, 1, 0, 0, 0, 0, 0, 0, 0, 3, 0];
+static ROW_ABC: [u8; 16] = [2, 0, 0, 0, 0, 0, 1, 0, 0, 0, 0, 0, 0, 0, 3, 0];
 
 /// A graph of an edge list with tabs, whose vertices are all counted.
 fn graph(rt: &HostRuntime, text: &[u8]) -> Option<Graph> {
@@ -269,7 +269,7 @@ fn two_edges(rt: &HostRuntime, parts: u16, limit: u32) -> Option<Vec<Replica>> {
 }
 
 /// What each partition tells the other at each superstep of two edges.
-const TOLD: [((u32, u32, u32, Option<u32>), (u32, u32, u32, Option<u32>)); 4] = [
+static TOLD: [((u32, u32, u32, Option<u32>), (u32, u32, u32, Option<u32>)); 4] = [
     ((0, 2, 1, Some(0)), (0, 1, 1, Some(1))),
     ((1, 1, 0, None), (1, 1, 1, Some(1))),
     ((2, 1, 0, None), (2, 0, 0, None)),
@@ -290,8 +290,8 @@ fn tells(
 /// close each superstep but the last, which no replica closes.
 fn tells_all(rt: &HostRuntime, all: &mut [Replica]) -> (bool, bool, bool) {
     let mut right = (true, true, true);
-    for (first, second) in TOLD {
-        right.0 &= tells(rt, all, first, second);
+    for (first, second) in &TOLD {
+        right.0 &= tells(rt, all, *first, *second);
         right.1 &= exchange(rt, all);
         right.2 &= close_all(all) == (first.0 < 3);
     }
@@ -316,7 +316,7 @@ fn written(rt: &HostRuntime, all: &[Replica], source: usize, target: usize) -> O
 
 /// What partition 0 of two edges tells partition 1 of superstep 0: vertices 0 and 2 are changed, and 0 has an edge to
 /// a vertex of partition 1. The digest is the SHA-256 of the 47 bytes of the job.
-const BYTES: [u8; 74] = [
+static BYTES: [u8; 74] = [
     0x48, 0x42, 0x42, 0x54, // HBBT
     1, 4, // version, log2m
     0, 0, 0, 0, // superstep
@@ -417,7 +417,7 @@ fn supersteps_of_two_edges(rt: HostRuntime) {
 }
 
 /// The sums of the two partitions of two edges at superstep 3.
-const SUMS: [[u128; 4]; 2] = [
+static SUMS: [[u128; 4]; 2] = [
     [22_688_515, 23_071_484, 23_808_095, 23_808_095],
     [11_115_354, 11_780_376, 11_780_376, 11_780_376],
 ];

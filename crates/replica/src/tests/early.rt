@@ -1,5 +1,6 @@
 //! Batches that come early, are not true, or are not for the replica; and counted vertices.
 
+use super::joins::copy_of;
 use super::*;
 
 /// Whether a replica has heard partition 1 at its superstep.
@@ -257,9 +258,9 @@ fn keep(replica: &Replica, snapshot: &Snapshot, wanted: &[(u32, u16)]) -> bool {
 /// Whether partition 2 and a snapshot of it keep these batches.
 fn keeps(rt: &HostRuntime, all: &mut [Replica], wanted: &[(u32, u16)]) -> Option<bool> {
     let replica = all.get_mut(2)?;
-    match replica.snapshot(rt.alloc()) {
-        Ok(snapshot) => Some(keep(replica, &snapshot, wanted)),
-        Err(_) => None,
+    match copy_of(rt, replica) {
+        Some(snapshot) => Some(keep(replica, &snapshot, wanted)),
+        None => None,
     }
 }
 

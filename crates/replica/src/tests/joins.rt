@@ -3,9 +3,15 @@
 use super::shown::shows_all;
 use super::*;
 
+/// What a replica has, in a box: a function that owns a snapshot is checked much slower.
+pub fn copy_of(rt: &HostRuntime, replica: &mut Replica) -> Option<Box<Snapshot>> {
+    let snapshot = replica.snapshot(rt.alloc()).ok()?;
+    Box::new(rt.alloc(), snapshot).ok()
+}
+
 /// What the replica at a place has.
-pub fn snapshot_of(rt: &HostRuntime, all: &mut [Replica], place: usize) -> Option<Snapshot> {
-    all.get_mut(place)?.snapshot(rt.alloc()).ok()
+pub fn snapshot_of(rt: &HostRuntime, all: &mut [Replica], place: usize) -> Option<Box<Snapshot>> {
+    copy_of(rt, all.get_mut(place)?)
 }
 
 /// The answer of the replica at a place to a snapshot.

@@ -25,13 +25,19 @@ fn one_early(rt: &HostRuntime, snapshot: &Snapshot) -> Option<Vec<Arc<Batch>>> {
     Some(early)
 }
 
+/// Copies of rows and of accumulators.
+fn copied_rows(rt: &HostRuntime, snapshot: &Snapshot) -> Option<(Rows, Rows)> {
+    let rows = copy_rows(rt.alloc(), snapshot.known.rows.get()).ok()?;
+    let accumulated = copy_rows(rt.alloc(), snapshot.known.accumulators()).ok()?;
+    Some((rows, accumulated))
+}
+
 /// All that a replica has which keeps one batch of a later superstep, and has heard one that raised a row.
 fn saved_of(rt: &HostRuntime, replica: &mut Replica) -> Option<Saved> {
     let snapshot = replica.snapshot(rt.alloc()).ok()?;
     let early = one_early(rt, &snapshot)?;
+    let (rows, accumulated) = copied_rows(rt, &snapshot)?;
     let known = snapshot.known;
-    let rows = copy_rows(rt.alloc(), known.rows.get()).ok()?;
-    let accumulated = copy_rows(rt.alloc(), known.accumulators()).ok()?;
     Some(Saved {
         superstep: known.superstep,
         rows,
@@ -46,16 +52,16 @@ fn saved_of(rt: &HostRuntime, replica: &mut Replica) -> Option<Saved> {
 }
 
 /// A replica that is made of it, where it fits the part.
-fn rebuilt(rt: &HostRuntime, part: Arc<Part>, saved: Saved) -> Option<Replica> {
-    if saved.fits(&part) {
-        Replica::rebuild(rt.alloc(), part, saved).ok()
-    } else {
-        None
+fn rebuilt(rt: &HostRuntime, part: Arc<Part>, saved: Saved) -> Option<Box<Replica>> {
+    if !saved.fits(&part) {
+        return None;
     }
+    let replica = Replica::rebuild(rt.alloc(), part, saved).ok()?;
+    Box::new(rt.alloc(), replica).ok()
 }
 
 /// The replica at a place, made again.
-pub fn again(rt: &HostRuntime, all: &mut [Replica], place: usize) -> Option<Replica> {
+pub fn again(rt: &HostRuntime, all: &mut [Replica], place: usize) -> Option<Box<Replica>> {
     let replica = all.get_mut(place)?;
     let part = Arc::try_clone(&replica.known.part).ok()?;
     let saved = saved_of(rt, replica)?;
@@ -105,7 +111,7 @@ fn end_together(rt: &HostRuntime, all: &mut [Replica]) -> bool {
 /// Adds partition 0, made again.
 fn add_again(rt: &HostRuntime, all: &mut Vec<Replica>) -> Option<()> {
     let replica = again(rt, all, 0)?;
-    all.push(replica).ok()
+    all.push(Box::into_inner(replica)).ok()
 }
 
 /// Whether partition 0 is made again as it was, and runs on as it does.

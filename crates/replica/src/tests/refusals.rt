@@ -1,7 +1,7 @@
 //! Refused memory. A run of this test can refuse any one growth: then a call that is refused leaves all as it was, and
 //! is answered when it is made again.
 
-use super::joins::{apart, has_level, held_and_not, is_recovered, snapshot_of};
+use super::joins::{apart, copy_of, has_level, held_and_not, is_recovered, snapshot_of};
 use super::rebuilt::{again, hears_and_keeps};
 use super::shown::shows_all;
 use super::*;
@@ -12,12 +12,13 @@ fn is_first(replica: &Replica) -> bool {
 }
 
 /// A new replica of a part, which others have still.
-fn made(rt: &HostRuntime, part: &Arc<Part>) -> Option<Replica> {
+fn made(rt: &HostRuntime, part: &Arc<Part>) -> Option<Box<Replica>> {
     let part = Arc::try_clone(part).ok()?;
-    Replica::new(rt.alloc(), part).ok()
+    let replica = Replica::new(rt.alloc(), part).ok()?;
+    Box::new(rt.alloc(), replica).ok()
 }
 
-/// Whether a new replica of a part is the first: None where memory was refused.
+/// Whether it is the first: None where memory was refused.
 fn is_started(rt: &HostRuntime, part: &Arc<Part>) -> Option<bool> {
     match made(rt, part) {
         Some(replica) => Some(is_first(&replica)),
@@ -47,7 +48,7 @@ fn starts_there(rt: &HostRuntime) -> Option<bool> {
 
 /// Whether a replica has a snapshot that tells what it tells: None where memory was refused.
 fn is_copied(rt: &HostRuntime, replica: &mut Replica) -> Option<bool> {
-    let copy = replica.snapshot(rt.alloc()).ok()?;
+    let copy = copy_of(rt, replica)?;
     Some(shows_all(replica, &copy))
 }
 

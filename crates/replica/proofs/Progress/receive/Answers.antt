@@ -9,7 +9,7 @@ use Rattle.replica.specs.Progress.{CanGoOn, ProgressValue}
 use Rattle.replica.specs.Seen.{state_of}
 use Rattle.replica.proofs.AccumulatorLemmas.{can_go_on, had_room, state_is}
 use Rattle.replica.proofs.OverLemmas.{kept_over, never_over}
-use Rattle.replica.proofs.ReceiveLemmas.{Hearable, Heard, Kept, hearable, heard_now, kept_later}
+use Rattle.replica.proofs.ReceiveLemmas.{Hearable, Heard, Kept, Placed, hearable, heard_now, kept_later, placed}
 use Rattle.replica.proofs.Progress.receive.Goals as goal
 use Rattle.replica.proofs.Progress.receive.Goals.{After-deref-then-name-self, After-hear, After-keep}
 
@@ -58,3 +58,19 @@ returns-else-name-self-clause-receives c = (kept (goal.at.returns-else-name-self
 pub returns-else-name-self-clause-over : goal.returns-else-name-self-clause-over
 returns-else-name-self-clause-over c = λ over.
     kept_over (state_of c.self.inside) c.keep.new.self ∙ subst (λ (u : State). is_over u ≡ true) (sym (state_is c.self.view_is)) over
+
+pub overflow_sub-level : goal.overflow_sub-level
+overflow_sub-level c =
+    omega (arith, (placed c.self.inside c.args.self.now.state (arc_value c.args.batch) c.name-name.result c.self.invariant (state_is c.self.view_is) c.requires.batch c.requires.new (c.name-name.ensures.value ∙ ap (λ (x : BatchValue). x.name) c.deref.ensures) c.if-name-self.false).above)
+
+pub overflow_sub-level-else-name-self : goal.overflow_sub-level-else-name-self
+overflow_sub-level-else-name-self c =
+    omega (arith, (placed c.self.inside c.args.self.now.state (arc_value c.args.batch) c.name-name.result c.self.invariant (state_is c.self.view_is) c.requires.batch c.requires.new (c.name-name.ensures.value ∙ ap (λ (x : BatchValue). x.name) c.deref.ensures) c.if-name-self.false).above)
+
+pub keep-requires-clause-level : goal.keep-requires-clause-level
+keep-requires-clause-level c =
+    omega (arith, (placed c.self.inside c.args.self.now.state (arc_value c.args.batch) c.name-name.result c.self.invariant (state_is c.self.view_is) c.requires.batch c.requires.new (c.name-name.ensures.value ∙ ap (λ (x : BatchValue). x.name) c.deref.ensures) c.if-name-self.false).near)
+
+pub keep-requires-clause-source : goal.keep-requires-clause-source
+keep-requires-clause-source c =
+    (placed c.self.inside c.args.self.now.state (arc_value c.args.batch) c.name-name.result c.self.invariant (state_is c.self.view_is) c.requires.batch c.requires.new (c.name-name.ensures.value ∙ ap (λ (x : BatchValue). x.name) c.deref.ensures) c.if-name-self.false).source
