@@ -89,7 +89,7 @@ vertex,b,0.000000,0.000000,0.000000,1.000000,16
 vertex,c,0.000000,0.000000,0.000000,1.000000,16
 ";
 
-const CORRECTED: [Case; 12] = [
+static CORRECTED: [Case; 12] = [
     (
         "hyperball run --estimate corrected --log2m 4",
         b"a\tb\nb\tc\n",

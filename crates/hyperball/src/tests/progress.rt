@@ -74,7 +74,7 @@ fn lines_of<H: AllocGlobal + Clock + RandomSource + Threads + Wait + Sync>(
 }
 
 // The graph, three supersteps and the report, however many workers there are, and nothing where it is not asked for.
-const TOLD: [(&str, u32); 6] = [
+static TOLD: [(&str, u32); 6] = [
     ("hyperball run --log2m 4", 0),
     ("hyperball run --log2m 4 --progress", 5),
     ("hyperball run --progress --log2m 4 --parts 5", 5),
@@ -99,7 +99,7 @@ fn a_run_tells_its_progress(rt: HostRuntime) -> Result<(), Fail> {
 }
 
 // The graph, each close that went on, and the end: the partition is at its last superstep after three closes.
-const REPLAYED: [(&str, &[u8], u32); 4] = [
+static REPLAYED: [(&str, &[u8], u32); 4] = [
     (
         "hyperball replay --log2m 4",
         b"a\tb\nb\tc\n%%\nclose 0.0\n",

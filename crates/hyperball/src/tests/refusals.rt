@@ -58,7 +58,7 @@ fn is_whole<H: AllocGlobal + Clock + RandomSource + Threads + Wait + Sync>(
     }
 }
 
-const REFUSABLE: [Wanted; 3] = [
+static REFUSABLE: [Wanted; 3] = [
     (RUN, b"a\tb\nb\tc\n", TWO_EDGES, true),
     (COUNTED, b"a\tb\nb\tc\n%%\na", ONE_COUNTED, true),
     (

@@ -5,7 +5,7 @@ use super::*;
 const REPLAY: &str = "hyperball replay --log2m 4 --parts 2";
 
 // An input without a script, a line that is no command, and replicas that do not fit: nothing is written.
-const REFUSED: [Case; 5] = [
+static REFUSED: [Case; 5] = [
     (
         REPLAY,
         b"a\tb\n",

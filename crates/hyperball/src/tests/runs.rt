@@ -56,7 +56,7 @@ fn all_fail<H: Abort + AllocGlobal + Clock + RandomSource + Threads + Wait + Syn
     Ok(())
 }
 
-const REPORTS: [Case; 8] = [
+static REPORTS: [Case; 8] = [
     (RUN, b"a\tb\nb\tc\n", TWO_EDGES),
     (
         "hyperball run --log2m 4 --delimiter comma",
@@ -89,13 +89,13 @@ fn reports(rt: HostRuntime) -> Result<(), Fail> {
 }
 
 // The report is the same for every number of partitions, and where nodes are lost or start anew.
-const PARTITIONS: [&str; 10] = [
+static PARTITIONS: [&str; 10] = [
     "hyperball run --log2m 4 --parts 1",
     "hyperball run --log2m 4 --parts 2",
     "hyperball run --log2m 4 --parts 3",
     "hyperball run --log2m 4 --parts 4",
     "hyperball run --log2m 4 --parts 5",
-    "hyperball run --log2m 4 --parts 64",
+    "hyperball run --log2m 4 --parts 9",
     "hyperball run --log2m 4 --parts 2 --replicas 2 --lose 0.0@1",
     "hyperball run --log2m 4 --parts 2 --replicas 2 --lose 0.0@9,0.0@1,0.1@1",
     "hyperball run --log2m 4 --parts 2 --restart 0.0@2",
@@ -119,7 +119,7 @@ fn partitions(rt: HostRuntime) -> Result<(), Fail> {
     Ok(())
 }
 
-const COUNTED_REPORTS: [Case; 6] = [
+static COUNTED_REPORTS: [Case; 6] = [
     (
         "hyperball run --log2m=4 --counted --parts 1",
         b"a\tb\nb\tc\n%%\na\n",
@@ -146,7 +146,7 @@ const NO_LIST: &[u8] = b"hyperball: no line %% before the list\n";
 
 const UNKNOWN: &[u8] = b"hyperball: record 1 of the list names no vertex\n";
 
-const COUNTED_FAULTS: [Case; 12] = [
+static COUNTED_FAULTS: [Case; 12] = [
     (COUNTED, b"a\tb\nb\tc\n%%\n# c\nz\n", UNKNOWN),
     // a second line of %% is a record of the list
     (COUNTED, b"a\tb\n%%\n%%\n", UNKNOWN),
@@ -197,7 +197,7 @@ const PARTS: &[u8] = b"hyperball: parts is not from 1 to 64\n";
 
 const OPTION: &[u8] = b"hyperball: an option does not fit the job\n";
 
-const FAULTS: [Case; 24] = [
+static FAULTS: [Case; 25] = [
     (
         "hyperball run --parts 2 --replicas 2 --lose 0.0@0,0.1@0 --patience 1000",
         b"a\tb\nb\tc\n",
@@ -206,6 +206,12 @@ const FAULTS: [Case; 24] = [
     (
         "hyperball run --parts 2 --entries 4 --patience 1000",
         b"a\tb\nb\tc\n",
+        b"hyperball: the book is full\n",
+    ),
+    // as many partitions as there may be
+    (
+        "hyperball run --parts 64 --entries 2",
+        b"a\tb\n",
         b"hyperball: the book is full\n",
     ),
     // options come before the edge list, and a plan after it

@@ -344,7 +344,7 @@ finished
 
 // An early batch, a repeated batch, the window's edge, a restart from a checkpoint, recovery from copies, three
 // partitions, a restart with held names, and a lone replay.
-const SCRIPTS: [Case; 8] = [
+static SCRIPTS: [Case; 8] = [
     (TWO_PARTS, EARLY, EARLY_ANSWERS),
     (TWO_PARTS, REPEATED, REPEATED_ANSWERS),
     (TWO_REPLICAS, WINDOW, WINDOW_ANSWERS),

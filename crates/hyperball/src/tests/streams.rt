@@ -84,7 +84,7 @@ fn first_told_otherwise<H: AllocGlobal + Clock + RandomSource + Threads + Wait +
 
 const REPLAY: &str = "hyperball replay --log2m 4 --parts 2";
 
-const DRIPPING_REPORTS: [Case; 3] = [
+static DRIPPING_REPORTS: [Case; 3] = [
     (RUN, b"a\tb\nb\tc\n", TWO_EDGES),
     (COUNTED, b"a\tb\nb\tc\n%%\na", ONE_COUNTED),
     (
@@ -94,7 +94,7 @@ const DRIPPING_REPORTS: [Case; 3] = [
     ),
 ];
 
-const DRIPPING_FAULTS: [Case; 3] = [
+static DRIPPING_FAULTS: [Case; 3] = [
     (
         RUN,
         b"a\tb\nb\tc\n",
@@ -209,7 +209,7 @@ row 1 11.115354 0.000000 0.000000 00000000000001000000000000000000
 ",
 );
 
-const NARROW: [Case; 3] = [
+static NARROW: [Case; 3] = [
     (RUN, b"a\tb\nb\tc\n", TWO_EDGES),
     (COUNTED, b"a\tb\nb\tc\n%%\na", ONE_COUNTED),
     NARROW_REPLAY,
@@ -297,7 +297,7 @@ fn ends_in_three<H: AllocGlobal + Clock + RandomSource + Threads + Wait + Sync>(
     Ok(status == Some(wanted) && faults.taken.len() == 3)
 }
 
-const IN_THREE: [(&str, u8); 2] = [
+static IN_THREE: [(&str, u8); 2] = [
     ("hyperball run --log2m 3", 1),
     ("hyperball run --log2m x", 2),
 ];

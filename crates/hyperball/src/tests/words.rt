@@ -20,7 +20,7 @@ fn prints<H: AllocGlobal, F: Display>(rt: &H, fault: &F, text: &str) -> Result<b
     Ok(told.as_str() == text)
 }
 
-const FAULT_TEXTS: [(RunError, &str); 18] = [
+static FAULT_TEXTS: [(RunError, &str); 18] = [
     (RunError::Options, "an option does not fit the job"),
     (
         RunError::PartitionLost { part: 7 },
@@ -78,7 +78,7 @@ const FAULT_TEXTS: [(RunError, &str); 18] = [
     (RunError::Write, "the output cannot be written"),
 ];
 
-const WHOLE_TEXTS: [(WholeError, &str); 3] = [
+static WHOLE_TEXTS: [(WholeError, &str); 3] = [
     (WholeError::Read, "the input cannot be read"),
     (WholeError::Size, "the input is longer than 67108864 bytes"),
     (WholeError::Memory, "out of memory"),
@@ -122,7 +122,7 @@ fn explains(text: &str, name: &str, help: &str) -> bool {
     }
 }
 
-const HELPS: [(&str, &str); 13] = [
+static HELPS: [(&str, &str); 13] = [
     ("--log2m <", "Counters of 2^log2m bytes"),
     ("--seed <", "Seed under which"),
     ("--parts <", "Partitions, 1 to 64"),
@@ -203,7 +203,7 @@ fn refuses<H: AllocGlobal + Clock + RandomSource + Threads + Wait + Sync>(
 
 const ORDERS: &[u8] = b"hyperball: an order is P.K@S, with commas between orders\n";
 
-const MISTAKES: [(&str, &[u8]); 27] = [
+static MISTAKES: [(&str, &[u8]); 27] = [
     ("hyperball", b"error: 'hyperball' requires a subcommand"),
     (
         "hyperball replays",
@@ -312,7 +312,7 @@ fn words_are_read(rt: HostRuntime) -> Result<(), Fail> {
     Ok(())
 }
 
-const NO_ORDERS: [&str; 16] = [
+static NO_ORDERS: [&str; 16] = [
     "",
     ",",
     "0.0",

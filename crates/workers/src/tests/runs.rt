@@ -183,7 +183,7 @@ fn reports_without<R: AllocGlobal + RandomSource + Threads + Wait + Sync>(
 }
 
 /// The four nodes of two partitions of two replicas.
-const NODES: [NodeId; 4] = [
+static NODES: [NodeId; 4] = [
     NodeId {
         part: 0,
         replica: 0,

@@ -6,7 +6,7 @@ use ball_model::MemWriter;
 use std::io::Write;
 
 // Three pages, of which the second is empty.
-const PAGES: [&[u8]; 3] = [b"one,", b"", b"two"];
+static PAGES: [&[u8]; 3] = [b"one,", b"", b"two"];
 
 // Writes the pages, each of which is taken whole.
 fn write_pages(text: &mut Pages) -> bool {
