@@ -1,0 +1,174 @@
+-- Requests, one after the other.
+use Rattle.std.proofs.Common.{◌≡◌, ◌≢◌, ◌∙◌, ℕ, ◌+◌, ◌<◌, Bool, List, [], ◌∷◌, ◌++◌, length, refl, ap, sym, subst, append_assoc, append-nil, length-append, arith}
+use Rattle.std.specs.Prelude.{Option, None, Some}
+use Rattle.std.specs.List.{All, flat_map}
+use Rattle.std.specs.Io.KnownBytes.{Appends, Consumes, IsAtEnd, Keeps}
+use Rattle.std.proofs.KnownBytes.{Appends-kept, Appends-nil, Appends-trans, Consumes-nil, Consumes-trans, Keeps-refl}
+use Rattle.std.proofs.lemmas.List.Elements.{All-nil, All-push}
+use Rattle.ball_model.specs.Input.{Network, fields}
+use Rattle.ball_model.specs.Held.{start_holding}
+use Rattle.ball_model.specs.Job.{Job, job_of}
+use Rattle.ball_model.specs.Join.{Holding}
+use Rattle.ball_model.specs.PlanValue.{PlanValue}
+use Rattle.ball_model.specs.RunText.{Settings}
+use Rattle.ball_model.specs.State.{State}
+use Rattle.node.specs.Job.{IsJobRead}
+use Rattle.node.specs.NodeText.{AllAsk, Answers, AreAnswers, Asked, Asks, IsRequest, Request, after_all, after_asked, body_length, command_in, request_bytes, requests_text}
+use Rattle.node.specs.declared.command.Command.{Command}
+use Rattle.node.specs.Stream.{HasNoEnd}
+use Rattle.node.specs.Serving.{AppendsAnswers, ReadsRequest, Runs, Serves, ServesNode, ServesNone, ServesOne, ServesSome, Steps}
+use Rattle.node.specs.Turns.{Holds}
+
+-- ---- one more is asked
+pub record LastAsk (j : Job) (p : ℕ) (rs : List Request) (r : Request) (more : List Asked) : Type 0 where
+  pub front : List Asked
+  pub last : Asked
+  pub is : more ≡ front ++ last ∷ []
+  pub asks : AllAsk j p rs front
+  pub asks_last : Asks j p r.command r.body last
+
+last_ask : (j : Job) (p : ℕ) (rs : List Request) (r : Request) (more : List Asked) → AllAsk j p (rs ++ r ∷ []) more → LastAsk j p rs r more
+unfolding AllAsk
+last_ask j p [] r [] asks = absurd asks
+last_ask j p [] r (a ∷ []) asks = record { front = []; last = a; is = refl; asks = tt; asks_last = asks.0 }
+last_ask j p [] r (a ∷ b ∷ more) asks = absurd asks.1
+last_ask j p (q ∷ rs) r [] asks = absurd asks
+last_ask j p (q ∷ rs) r (a ∷ more) asks =
+    let k = last_ask j p rs r more asks.1 in
+    record { front = a ∷ k.front; last = k.last; is = ap (λ (l : List Asked). a ∷ l) k.is; asks = (asks.0, k.asks); asks_last = k.asks_last }
+
+after_last : (j : Job) (h : Holding) (front : List Asked) (last : Asked) → after_all j h (front ++ last ∷ []) ≡ after_asked j (after_all j h front) last
+unfolding after_all
+after_last j h [] last = refl
+after_last j h (a ∷ front) last = after_last j (after_asked j h a) front last
+
+answers_last : (j : Job) (labels : List (List ℕ)) (h : Holding) (front : List Asked) (last : Asked) (text more : List ℕ) →
+    AreAnswers j labels h front text → Answers j labels (after_all j h front) last more → AreAnswers j labels h (front ++ last ∷ []) (text ++ more)
+unfolding AreAnswers after_all
+answers_last j labels h [] last text more told said =
+    (more, ([], (ap (λ (l : List ℕ). l ++ more) told ∙ sym (append-nil more), (said, refl))))
+answers_last j labels h (a ∷ front) last text more told said =
+    (told.0, (told.1.0 ++ more, (ap (λ (l : List ℕ). l ++ more) told.1.1.0 ∙ append_assoc told.0 told.1.0 more, (told.1.1.1.0, answers_last j labels (after_asked j h a) front last told.1.0 more told.1.1.1.1 said))))
+
+-- ---- runs
+runs_none : (network : Network) (v : State) (old : Option (List ℕ)) → Runs network [] v v old old
+unfolding AllAsk AreAnswers after_all
+runs_none network v old = record {
+  told = λ j p h more same k asks. none j p h more k asks;
+  holds = λ j p h more same k asks. still j p h more k asks;
+}
+  where
+    none : (j : Job) (p : ℕ) (h : Holding) (more : List Asked) → Holds j p h v → AllAsk j p [] more → AppendsAnswers j network.labels h more old old
+    none j p h [] k asks = record { text = []; appended = Appends-nil old; answers = refl }
+    none j p h (a ∷ more) k asks = absurd asks
+
+    still : (j : Job) (p : ℕ) (h : Holding) (more : List Asked) → Holds j p h v → AllAsk j p [] more → Holds j p (after_all j h more) v
+    still j p h [] k asks = k
+    still j p h (a ∷ more) k asks = absurd asks
+
+runs_more : (network : Network) (rs : List Request) (r : Request) (v w u : State) (x y z : Option (List ℕ)) → Runs network rs v w x y → Steps network r.command r.body w u y z → Runs network (rs ++ r ∷ []) v u x z
+runs_more network rs r v w u x y z runs steps = record {
+  told = λ j p h asked same k asks.
+      let l = last_ask j p rs r asked asks in
+      let then = runs.holds j p h l.front same k l.asks in
+      let one = runs.told j p h l.front same k l.asks in
+      let two = steps.told j p (after_all j h l.front) l.last same then l.asks_last in
+      record {
+        text = one.text ++ two.text;
+        appended = Appends-trans x y z one.text two.text one.appended two.appended;
+        answers =
+            subst (λ (q : List Asked). AreAnswers j network.labels h q (one.text ++ two.text)) (sym l.is)
+            (answers_last j network.labels h l.front l.last one.text two.text one.answers two.answers);
+      };
+  holds = λ j p h asked same k asks.
+      let l = last_ask j p rs r asked asks in
+      let then = runs.holds j p h l.front same k l.asks in
+      subst (λ (q : List Asked). Holds j p (after_all j h q) u) (sym l.is)
+      (subst (λ (q : Holding). Holds j p q u) (sym (after_last j h l.front l.last)) (steps.holds j p (after_all j h l.front) l.last same then l.asks_last));
+}
+
+-- ---- the texts of requests
+texts_last : (rs : List Request) (r : Request) → requests_text (rs ++ r ∷ []) ≡ requests_text rs ++ request_bytes r
+texts_last [] r = append-nil (request_bytes r)
+texts_last (q ∷ rs) r = ap (λ (l : List ℕ). request_bytes q ++ l) (texts_last rs r) ∙ sym (append_assoc (request_bytes q) (requests_text rs) (request_bytes r))
+
+pub serves_none : (network : Network) (left : Option (List ℕ)) (v : State) (old : Option (List ℕ)) → ServesSome network 0 left left v v old old
+serves_none network left v old = record {
+  requests = [];
+  count = refl;
+  each = All-nil IsRequest;
+  consumed = Consumes-nil left;
+  runs = runs_none network v old;
+}
+
+pub serves_more : (network : Network) (n m : ℕ) (a b c : Option (List ℕ)) (v w u : State) (x y z : Option (List ℕ)) → m ≡ n + 1 →
+    ServesSome network n a b v w x y → ServesOne network b c w u y z → ServesSome network m a c v u x z
+serves_more network n m a b c v w u x y z next s o = record {
+  requests = s.requests ++ o.request ∷ [];
+  count = length-append s.requests (o.request ∷ []) ∙ ap (λ (k : ℕ). k + 1) s.count ∙ sym next;
+  each = All-push IsRequest s.requests o.request s.each o.is;
+  consumed = subst (Consumes a c) (sym (texts_last s.requests o.request)) (Consumes-trans a b c (requests_text s.requests) (request_bytes o.request) s.consumed o.consumed);
+  runs = runs_more network s.requests o.request v w u x y z s.runs o.steps;
+}
+
+-- the end of the input
+pub serves_end : (network : Network) (n : ℕ) (a b c : Option (List ℕ)) (v w u : State) (x y z : Option (List ℕ)) → ServesSome network n a b v w x y → ServesNone b c w u y z → Serves network a c v u x z
+serves_end network n a b c v w u x y z s o = record {
+  number = n;
+  some = record {
+    requests = s.requests;
+    count = s.count;
+    each = s.each;
+    consumed = subst (Consumes a c) (append-nil (requests_text s.requests)) (Consumes-trans a b c (requests_text s.requests) [] s.consumed o.consumed);
+    runs = record {
+      told = λ j p h more same k asks.
+          let one = s.runs.told j p h more same k asks in
+          record { text = one.text; appended = Appends-kept x y z one.text one.appended o.kept; answers = one.answers };
+      holds = λ j p h more same k asks. subst (λ (q : State). Holds j p (after_all j h more) q) (sym o.same) (s.runs.holds j p h more same k asks);
+    };
+  };
+  end = o.end;
+}
+
+-- ---- a request
+pub reads_request : (a b c : Option (List ℕ)) (line : List ℕ) (order : Command) (body : List ℕ) → Consumes a b (line ++ 10 ∷ []) → Consumes b c body →
+    HasNoEnd line → command_in (fields 32 line) ≡ Some order → length body ≡ body_length order → ReadsRequest a c line order body
+reads_request a b c line order body one two none says long = record {
+  is = record { one_line = none; says = says; length = long };
+  consumed = subst (Consumes a c) (append_assoc line (10 ∷ []) body) (Consumes-trans a b c (line ++ 10 ∷ []) body one two);
+}
+
+-- it was answered, and the answer was passed on
+pub serves_one : (network : Network) (a b : Option (List ℕ)) (line : List ℕ) (order : Command) (body : List ℕ) (v w : State) (x y z : Option (List ℕ)) →
+    ReadsRequest a b line order body → Steps network order body v w x y → Keeps y z → ServesOne network a b v w x z
+serves_one network a b line order body v w x y z read steps kept = record {
+  request = record { line = line; command = order; body = body };
+  is = read.is;
+  consumed = read.consumed;
+  steps = record {
+    told = λ j p h asked same k asks.
+        let one = steps.told j p h asked same k asks in
+        record { text = one.text; appended = Appends-kept x y z one.text one.appended kept; answers = one.answers };
+    holds = steps.holds;
+  };
+}
+
+pub serves_no_more : (a b : Option (List ℕ)) (v : State) (x : Option (List ℕ)) → IsAtEnd b → Consumes a b [] → ServesNone a b v v x x
+serves_no_more a b v x end none = record { end = end; consumed = none; kept = Keeps-refl x; same = refl }
+
+-- ---- a node from its start
+pub serves_node : (s : Settings) (counted : Bool) (p : ℕ) (network : Network) (plan : PlanValue) (left mid left' old new : Option (List ℕ)) (v w : State) →
+    IsJobRead s counted left mid network plan → p < plan.parts → Holds (job_of network.graph plan) p (start_holding plan p) v →
+    Serves network mid left' v w old new → ServesNode s counted p left left' old new
+serves_node s counted p network plan left mid left' old new v w read below holds serves = record {
+  network = network;
+  plan = plan;
+  mid = mid;
+  job = read;
+  below = below;
+  requests = serves.some.requests;
+  each = serves.some.each;
+  consumed = serves.some.consumed;
+  end = serves.end;
+  told = λ more asks. serves.some.runs.told (job_of network.graph plan) p (start_holding plan p) more refl holds asks;
+}

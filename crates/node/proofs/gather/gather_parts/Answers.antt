@@ -1,0 +1,15 @@
+use Rattle.std.proofs.Common.{◌∙◌, refl, subst, sym}
+use Rattle.ball_model.specs.Job.{Job, job_of}
+use Rattle.node.proofs.GatherLemmas.{all_vertices_read, gathered}
+use Rattle.node.proofs.gather.gather_parts.Goals as goal
+
+pub write_report-requires-clause-graph : goal.write_report-requires-clause-graph
+write_report-requires-clause-graph g c = ?
+
+pub returns : goal.returns
+returns g c =
+    let j : Job = job_of c.args.graph.now.graph c.args.plan.now in
+    gathered j c.args.graph.now.labels (g.R.Read.remaining c.args.reader.now) (g.R.Read.remaining c.read_replicas-replicas.new.reader) (g.R.Read.remaining c.read_end.new.reader)
+    (g.W.Write.contents c.args.writer.now) (g.W.Write.contents c.write_report.new.writer) c.in_ok-replicas.replicas.items
+    c.in_ok-replicas.ensures c.in_ok-read_end.ensures.kept c.in_ok-read_end.ensures.end
+    (λ stand. ?)

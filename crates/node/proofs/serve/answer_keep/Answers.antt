@@ -1,0 +1,9 @@
+use Rattle.std.proofs.Common.{List, ℕ}
+use Rattle.node.proofs.StepLemmas.{keep_told}
+use Rattle.node.proofs.serve.answer_keep.Goals as goal
+
+pub returns-in-Ok : goal.returns-in-Ok
+returns-in-Ok g c = λ network body.
+    keep_told network body c.args.replica.now c.superstep-superstep.result c.checkpoint_length.result c.deref.result.now
+    (g.W.Write.contents c.args.writer.now) (g.W.Write.contents c.write_lines.new.writer) (g.W.Write.contents c.write_checkpoint.new.writer)
+    c.superstep-superstep.ensures.value c.checkpoint_length.ensures ? c.in_ok-write_lines.ensures.appended c.in-Ok.ensures.done
