@@ -7,6 +7,7 @@ ghost use Rattle.ball_model.specs.Input.{Network, fields};
 ghost use Rattle.ball_model.specs.Job.{IsJob, job_of};
 ghost use Rattle.ball_model.specs.Held.{start_holding};
 ghost use Rattle.ball_model.specs.Streams.{Rises};
+ghost use Rattle.ball_model.specs.WorldText.{refusal_line};
 ghost use Rattle.node.specs.NodeText.{body_length, command_in, sent_text};
 ghost use Rattle.node.specs.Job.{settings_in};
 ghost use Rattle.node.specs.Serving.{ReadsRequest, Serves, ServesNode, ServesNone, ServesOne, Steps};
@@ -63,6 +64,17 @@ fn tell_batch<W: CountedWrite>(
     Ok(())
 }
 
+// Writes that there is no such partition to be told anything.
+fn tell_no_target<W: CountedWrite>(line: &mut Vec<u8>, writer: &mut W) -> Result<(), ServeError>
+    ensures { OnOk result (Appends (W.contents writer.old) (W.contents writer.new)
+        (refusal_line WorldError.NoTarget)) }
+{
+    line.clear();
+    put_refusal(line, WorldError::NoTarget)?;
+    write_lines(writer, line)?;
+    Ok(())
+}
+
 // A node tells another partition the batch of its superstep, where there is such a one.
 fn answer_send<W: CountedWrite>(
     alloc: Global,
@@ -75,11 +87,11 @@ fn answer_send<W: CountedWrite>(
         (order.Send target) body replica.now replica.now
         (W.contents writer.old) (W.contents writer.new)) }
 {
-    if replica.plan().parts() <= target || target == replica.partition() {
-        line.clear();
-        put_refusal(line, WorldError::NoTarget)?;
-        write_lines(writer, line)?;
-        return Ok(());
+    if replica.plan().parts() <= target {
+        return tell_no_target(line, writer);
+    }
+    if target == replica.partition() {
+        return tell_no_target(line, writer);
     }
     let batch = replica.out(alloc, target)?;
     tell_batch(alloc, &batch, line, writer)

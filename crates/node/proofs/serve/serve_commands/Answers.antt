@@ -1,4 +1,4 @@
-use Rattle.std.proofs.Common.{◌≡◌, ◌∙◌, ◌+◌, true, false, refl, ap, rules}
+use Rattle.std.proofs.Common.{◌≡◌, ◌∙◌, ◌+◌, true, false, refl, ap}
 use Rattle.std.specs.Prelude.{Ok}
 use Rattle.node.proofs.ServeLemmas.{serves_end, serves_more, serves_none}
 use Rattle.node.proofs.serve.serve_commands.Goals as goal
@@ -11,7 +11,7 @@ loop-i-init g c = record {
 
 pub loop-i-preserved : goal.loop-i-preserved
 loop-i-preserved g c =
-    let more : c.in_ok-more.more ≡ true = search rules in
+    let more : c.in_ok-more.more ≡ true = search c.if-not-more.false in
     record {
       some =
           serves_more c.args.graph.now c.loop-i.i (c.loop-i.i + 1)
@@ -24,7 +24,7 @@ loop-i-preserved g c =
 
 pub returns-then-not-more-clause-ok : goal.returns-then-not-more-clause-ok
 returns-then-not-more-clause-ok g c =
-    let last : c.in_ok-more.more ≡ false = search rules in
+    let last : c.in_ok-more.more ≡ false = search c.if-not-more.true in
     serves_end c.args.graph.now c.loop-i.i
     (g.R.Read.remaining c.args.reader.now) (g.R.Read.remaining c.loop-i.reader) (g.R.Read.remaining c.serve_one-more.new.reader)
     c.args.session.now c.loop-i.session c.serve_one-more.new.session
