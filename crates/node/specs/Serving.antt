@@ -1,10 +1,10 @@
 -- What becomes of commands, one after the other.
-use Rattle.std.specs.Prelude.{◌≡◌, ℕ, ◌<◌, Bool, List, [], length, Option}
+use Rattle.std.specs.Prelude.{◌≡◌, ◌≢◌, ⊤, ◌⊎◌, ℕ, ◌+◌, ◌<◌, ◌≤◌, Bool, List, [], ◌∷◌, ◌++◌, length, Option, None, Some}
 use Rattle.std.specs.List.{All}
 use Rattle.std.specs.Io.KnownBytes.{Appends, Consumes, IsAtEnd, Keeps}
-use Rattle.ball_model.specs.Input.{Network}
+use Rattle.ball_model.specs.Input.{Network, fields}
 use Rattle.ball_model.specs.Held.{start_holding}
-use Rattle.ball_model.specs.Job.{Job, job_of}
+use Rattle.ball_model.specs.Job.{Job, PartValue, job_of}
 use Rattle.ball_model.specs.Join.{Holding}
 use Rattle.ball_model.specs.PlanValue.{PlanValue}
 use Rattle.ball_model.specs.RunText.{Settings}
@@ -14,9 +14,10 @@ use Rattle.world.specs.declared.tell.TellError.TheVariants as untold
 use Rattle.node.specs.declared.command.Command.{Command}
 use Rattle.node.specs.declared.error.ServeError.{ServeError}
 use Rattle.node.specs.declared.error.ServeError.TheVariants as fault
-use Rattle.node.specs.NodeText.{Answers, AreAnswers, AllAsk, Asked, Asks, IsRequest, Request, after_all, after_asked, request_bytes, requests_text}
+use Rattle.node.specs.NodeText.{Answers, AreAnswers, AllAsk, Asked, Asks, IsRequest, Request, after_all, after_asked, body_length, command_in, request_bytes, requests_text}
 use Rattle.node.specs.Job.{IsJobRead}
-use Rattle.node.specs.Turns.{Holds}
+use Rattle.node.specs.Stream.{HasNoEnd, most_line}
+use Rattle.node.specs.Turns.{Holds, most_body}
 
 -- ---- what errors are told as
 
@@ -66,6 +67,62 @@ pub record ServesNone (left left' : Option (List ℕ)) (v w : State)
   pub kept : Keeps old new
   pub same : w ≡ v
 
+-- ---- what is no request
+
+-- a line that says no command, or one that is longer than any command
+pub record NoCommand (left left' : Option (List ℕ)) : Type 0 where
+  pub line : List ℕ
+  pub one_line : HasNoEnd line
+  pub read : (Consumes left left' (line ++ 10 ∷ []) × (command_in (fields 32 line) ≡ None))
+      ⊎ (Consumes left left' line × (most_line ≤ length line))
+
+-- the line of a command behind which more bytes are announced than the part allows
+pub record TooLong (part : PartValue) (left left' : Option (List ℕ)) : Type 0 where
+  pub line : List ℕ
+  pub one_line : HasNoEnd line
+  pub command : Command
+  pub says : command_in (fields 32 line) ≡ Some command
+  pub beyond : most_body part command < body_length command
+  pub consumed : Consumes left left' (line ++ 10 ∷ [])
+
+-- a command with fewer bytes behind its line than it announces
+pub record IsCutBody (front : List ℕ) : Type 0 where
+  pub line : List ℕ
+  pub one_line : HasNoEnd line
+  pub command : Command
+  pub says : command_in (fields 32 line) ≡ Some command
+  pub body : List ℕ
+  pub fewer : length body < body_length command
+  pub front_is : front ≡ line ++ 10 ∷ body
+
+-- the input ended within a request
+pub record CutShort (left left' : Option (List ℕ)) : Type 0 where
+  pub front : List ℕ
+  pub some : front ≢ []
+  pub within : HasNoEnd front ⊎ IsCutBody front
+  pub consumed : Consumes left left' front
+  pub end : IsAtEnd left'
+
+-- the request of that number cannot be read for what it says; of other faults nothing is said
+abbrev pub IsNoRequest : PartValue → ℕ → ServeError → Option (List ℕ) → Option (List ℕ) → Type 0
+IsNoRequest part n (fault.Command k) left left' = (k ≡ n) × NoCommand left left'
+IsNoRequest part n (fault.Length k) left left' = (k ≡ n) × TooLong part left left'
+IsNoRequest part n (fault.Cut k) left left' = (k ≡ n) × CutShort left left'
+IsNoRequest part n fault.TooMany left left' = ⊤
+IsNoRequest part n fault.Memory left left' = ⊤
+IsNoRequest part n fault.Read left left' = ⊤
+IsNoRequest part n fault.Write left left' = ⊤
+
+-- the fault is none of what a request says
+abbrev pub IsOfMachine : ServeError → Type 0
+IsOfMachine (fault.Command k) = ⊥
+IsOfMachine (fault.Length k) = ⊥
+IsOfMachine (fault.Cut k) = ⊥
+IsOfMachine fault.TooMany = ⊤
+IsOfMachine fault.Memory = ⊤
+IsOfMachine fault.Read = ⊤
+IsOfMachine fault.Write = ⊤
+
 -- ---- many of them
 
 -- a text was appended that is the answers to all that is asked
@@ -91,6 +148,14 @@ pub record ServesSome (network : Network) (number : ℕ) (left left' : Option (L
   pub each : All IsRequest requests
   pub consumed : Consumes left left' (requests_text requests)
   pub runs : Runs network requests v w old new
+
+-- such a request stopped a node that had answered all before it
+pub record Stops (network : Network) (part : PartValue) (e : ServeError)
+    (left left' : Option (List ℕ)) (v w : State) (old new : Option (List ℕ)) : Type 0 where
+  pub number : ℕ
+  pub mid : Option (List ℕ)
+  pub some : ServesSome network number left mid v w old new
+  pub at : IsNoRequest part (number + 1) e mid left'
 
 -- all that was left of the input is requests, and they were answered
 pub record Serves (network : Network) (left left' : Option (List ℕ)) (v w : State)

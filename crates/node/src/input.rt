@@ -4,7 +4,7 @@ ghost use Rattle.std.specs.Prelude.{◌≡◌, ◌≢◌, ◌≤◌, ◌++◌, �
 ghost use Rattle.std.specs.Io.KnownBytes.{Consumes, IsAtEnd};
 ghost use Rattle.std.specs.List.{All};
 ghost use Rattle.ball_model.specs.Streams.{Rises};
-ghost use Rattle.node.specs.Stream.{HasNoEnd, most_line};
+ghost use Rattle.node.specs.Stream.{CutsBody, HasNoEnd, most_line};
 
 use crate::section::{Next, next_of};
 use ball_model::{CountedRead, Filled, fill};
@@ -93,6 +93,8 @@ pub fn read_body<R: CountedRead>(reader: &mut R, size: u64, body: &mut Vec<u8>) 
     ensures whole { result ≡ Body.Whole →
         Consumes (R.remaining reader.old) (R.remaining reader.new) body.new.items }
     ensures length { result ≡ Body.Whole → length body.new.items ≡ size }
+    ensures cut { result ≡ Body.Cut →
+        CutsBody size (R.remaining reader.old) (R.remaining reader.new) }
     ensures failed { result ≡ Body.Failed →
         Rises (R.failed_calls reader.old) (R.failed_calls reader.new) }
     ensures counted { result ≢ Body.Failed →

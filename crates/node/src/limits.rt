@@ -1,6 +1,6 @@
 //! How many bytes may follow a command.
 
-ghost use Rattle.std.specs.Prelude.{◌≡◌, ◌≤◌, true};
+ghost use Rattle.std.specs.Prelude.{◌≡◌, ◌<◌, ◌≤◌, true, false};
 ghost use Rattle.checkpoint.specs.Reading.{greatest_batch, most_bytes};
 ghost use Rattle.node.specs.NodeText.{body_length};
 ghost use Rattle.node.specs.Turns.{most_body};
@@ -49,7 +49,8 @@ pub fn longest_checkpoint(part: &Part) -> u64
 
 /// Whether no more bytes are announced behind a command than a batch or a checkpoint of the part has at most.
 pub fn is_within(part: &Part, command: Command) -> bool
-    ensures { result ≡ true → body_length command ≤ most_body part.now command }
+    ensures within { result ≡ true → body_length command ≤ most_body part.now command }
+    ensures beyond { result ≡ false → most_body part.now command < body_length command }
 {
     match command {
         Command::Deliver { length } => length <= longest_batch(part.plan()),

@@ -1,7 +1,7 @@
 //! Commands, one after the other, and their answers.
 
 ghost use Rattle.std.specs.Prelude.{◌≡◌, ℕ, ◌<◌, ◌≤◌, List, ◌++◌, ◌∷◌, [], true, false, length};
-ghost use Rattle.std.specs.Prelude.{Err, IfNone, IfOk, IfSome, Ok, OnOk, Some};
+ghost use Rattle.std.specs.Prelude.{◌⊎◌, Err, IfErr, IfNone, IfOk, IfSome, Ok, OnOk, Some};
 ghost use Rattle.std.specs.Io.KnownBytes.{Appends, Consumes, IsAtEnd, Keeps};
 ghost use Rattle.ball_model.specs.Input.{Network, fields};
 ghost use Rattle.ball_model.specs.Job.{IsJob, job_of};
@@ -10,8 +10,9 @@ ghost use Rattle.ball_model.specs.Streams.{Rises};
 ghost use Rattle.ball_model.specs.WorldText.{refusal_line};
 ghost use Rattle.node.specs.NodeText.{body_length, command_in, sent_text};
 ghost use Rattle.node.specs.Job.{settings_in};
-ghost use Rattle.node.specs.Serving.{ReadsRequest, Serves, ServesNode, ServesNone, ServesOne, Steps};
-ghost use Rattle.node.specs.Stream.{HasNoEnd};
+ghost use Rattle.node.specs.Serving.{IsNoRequest, IsOfMachine, ReadsRequest, Serves, ServesNode, ServesNone, ServesOne};
+ghost use Rattle.node.specs.Serving.{Steps, Stops};
+ghost use Rattle.node.specs.Stream.{CutsBody, HasNoEnd};
 ghost use Rattle.node.specs.declared.command.Command.TheVariants as order;
 ghost use Rattle.node.specs.Turns.{Holds, most_body, reply_text};
 
@@ -37,8 +38,9 @@ use world::tell::{tell_replica, write_lines};
 
 // Writes the line of what a node says.
 fn tell<W: CountedWrite>(reply: Reply, line: &mut Vec<u8>, writer: &mut W) -> Result<(), ServeError>
-    ensures { OnOk result (Appends (W.contents writer.old) (W.contents writer.new)
+    ensures done { OnOk result (Appends (W.contents writer.old) (W.contents writer.new)
         (reply_text reply)) }
+    ensures kind { IfErr result IsOfMachine }
 {
     line.clear();
     put_reply(line, reply)?;
@@ -53,8 +55,9 @@ fn tell_batch<W: CountedWrite>(
     line: &mut Vec<u8>,
     writer: &mut W,
 ) -> Result<(), ServeError>
-    ensures { OnOk result (Appends (W.contents writer.old) (W.contents writer.new)
+    ensures done { OnOk result (Appends (W.contents writer.old) (W.contents writer.new)
         (sent_text batch.now)) }
+    ensures kind { IfErr result IsOfMachine }
 {
     line.clear();
     put_sent(line, batch)?;
@@ -83,9 +86,10 @@ fn answer_send<W: CountedWrite>(
     line: &mut Vec<u8>,
     writer: &mut W,
 ) -> Result<(), ServeError>
-    ensures { (network : Network) (body : List ℕ) → OnOk result (Steps network
+    ensures done { (network : Network) (body : List ℕ) → OnOk result (Steps network
         (order.Send target) body replica.now replica.now
         (W.contents writer.old) (W.contents writer.new)) }
+    ensures kind { IfErr result IsOfMachine }
 {
     if replica.plan().parts() <= target {
         return tell_no_target(line, writer);
@@ -109,6 +113,7 @@ fn answer_deliver<W: CountedWrite>(
         (order.Deliver n) body.now session.old session.new
         (W.contents writer.old) (W.contents writer.new)) }
     ensures part { session.new.part ≡ session.old.part }
+    ensures kind { IfErr result IsOfMachine }
 {
     let reply = session.deliver(alloc, body)?;
     tell(reply, line, writer)
@@ -124,6 +129,7 @@ fn answer_close<W: CountedWrite>(
         order.Close body session.old session.new
         (W.contents writer.old) (W.contents writer.new)) }
     ensures part { session.new.part ≡ session.old.part }
+    ensures kind { IfErr result IsOfMachine }
 {
     let answer = session.close();
     tell(Reply::Answered(answer), line, writer)
@@ -135,9 +141,10 @@ fn answer_keep<W: CountedWrite>(
     line: &mut Vec<u8>,
     writer: &mut W,
 ) -> Result<(), ServeError>
-    ensures { (network : Network) (body : List ℕ) → OnOk result (Steps network
+    ensures done { (network : Network) (body : List ℕ) → OnOk result (Steps network
         order.Keep body replica.now replica.now
         (W.contents writer.old) (W.contents writer.new)) }
+    ensures kind { IfErr result IsOfMachine }
 {
     // the limits of a replica are told with its superstep, those of its figures with these
     let superstep = replica.superstep();
@@ -163,6 +170,7 @@ fn answer_restart<W: CountedWrite>(
         (order.Restart n) body.now session.old session.new
         (W.contents writer.old) (W.contents writer.new)) }
     ensures part { session.new.part ≡ session.old.part }
+    ensures kind { IfErr result IsOfMachine }
 {
     let reply = session.restart(alloc, body)?;
     tell(reply, line, writer)
@@ -180,6 +188,7 @@ fn answer_recover<W: CountedWrite>(
         (order.Recover n) body.now session.old session.new
         (W.contents writer.old) (W.contents writer.new)) }
     ensures part { session.new.part ≡ session.old.part }
+    ensures kind { IfErr result IsOfMachine }
 {
     let reply = session.recover(alloc, body)?;
     tell(reply, line, writer)
@@ -191,9 +200,10 @@ fn answer_show<W: CountedWrite>(
     line: &mut Vec<u8>,
     writer: &mut W,
 ) -> Result<(), ServeError>
-    ensures { (network : Network) (body : List ℕ) → OnOk result (Steps network
+    ensures done { (network : Network) (body : List ℕ) → OnOk result (Steps network
         order.Show body replica.now replica.now
         (W.contents writer.old) (W.contents writer.new)) }
+    ensures kind { IfErr result IsOfMachine }
 {
     let part = replica.partition();
     tell_replica(NodeId { part, replica: 0 }, replica, line, writer)?;
@@ -206,9 +216,10 @@ fn answer_totals<W: CountedWrite>(
     replica: &Replica,
     writer: &mut W,
 ) -> Result<(), ServeError>
-    ensures { (network : Network) (body : List ℕ) → OnOk result (Steps network
+    ensures done { (network : Network) (body : List ℕ) → OnOk result (Steps network
         order.Totals body replica.now replica.now
         (W.contents writer.old) (W.contents writer.new)) }
+    ensures kind { IfErr result IsOfMachine }
 {
     let text = totals_text(alloc, replica.sums())?;
     write_lines(writer, &text)?;
@@ -223,9 +234,10 @@ fn answer_figures<W: CountedWrite>(
     writer: &mut W,
 ) -> Result<(), ServeError>
     requires { replica.now.part.plan.vertices ≡ graph.now.graph.vertices }
-    ensures { (body : List ℕ) → OnOk result (Steps graph.now
+    ensures done { (body : List ℕ) → OnOk result (Steps graph.now
         order.Figures body replica.now replica.now
         (W.contents writer.old) (W.contents writer.new)) }
+    ensures kind { IfErr result IsOfMachine }
 {
     tell_own(alloc, graph, replica, writer)?;
     Ok(())
@@ -245,6 +257,7 @@ fn answer<W: CountedWrite>(
     ensures step { OnOk result (Steps graph.now command body.now session.old session.new
         (W.contents writer.old) (W.contents writer.new)) }
     ensures part { session.new.part ≡ session.old.part }
+    ensures kind { IfErr result IsOfMachine }
 {
     match command {
         Command::Send { target } => answer_send(alloc, session.replica(), target, line, writer),
@@ -278,6 +291,8 @@ fn read_command<R: CountedRead>(
         (Consumes (R.remaining reader.old) (R.remaining reader.new) [])) }
     ensures read { result ≡ Err ServeError.Read →
         Rises (R.failed_calls reader.old) (R.failed_calls reader.new) }
+    ensures stopped { IfErr result (λ e. IsNoRequest part.now number e
+        (R.remaining reader.old) (R.remaining reader.new)) }
 {
     match read_line(reader, line) {
         Line::Whole => {}
@@ -309,6 +324,9 @@ fn read_rest<R: CountedRead>(
     ensures length { OnOk result (length body.new.items ≡ body_length command) }
     ensures read { result ≡ Err ServeError.Read →
         Rises (R.failed_calls reader.old) (R.failed_calls reader.new) }
+    ensures cut { result ≡ Err (ServeError.Cut number) → CutsBody (body_length command)
+        (R.remaining reader.old) (R.remaining reader.new) }
+    ensures kind { IfErr result (λ e. (e ≡ ServeError.Cut number) ⊎ IsOfMachine e) }
 {
     match read_body(reader, length_of(command), body) {
         Body::Whole => Ok(()),
@@ -335,6 +353,8 @@ fn read_request<R: CountedRead>(
         (Consumes (R.remaining reader.old) (R.remaining reader.new) [])) }
     ensures read { result ≡ Err ServeError.Read →
         Rises (R.failed_calls reader.old) (R.failed_calls reader.new) }
+    ensures stopped { IfErr result (λ e. IsNoRequest part.now number e
+        (R.remaining reader.old) (R.remaining reader.new)) }
 {
     let Some(command) = read_command(part, reader, line, number)? else {
         return Ok(None);
@@ -345,7 +365,8 @@ fn read_request<R: CountedRead>(
 
 // Passes on what the writer holds back.
 fn flush<W: CountedWrite>(writer: &mut W) -> Result<(), ServeError>
-    ensures { Keeps (W.contents writer.old) (W.contents writer.new) }
+    ensures done { Keeps (W.contents writer.old) (W.contents writer.new) }
+    ensures kind { IfErr result IsOfMachine }
 {
     if writer.try_flush() {
         Ok(())
@@ -371,6 +392,11 @@ fn serve_one<R: CountedRead, W: CountedWrite>(
         (R.remaining reader.new) session.old session.new
         (W.contents writer.old) (W.contents writer.new) }
     ensures part { session.new.part ≡ session.old.part }
+    ensures stopped { IfErr result (λ e. IsNoRequest session.old.part number e
+        (R.remaining reader.old) (R.remaining reader.new)) }
+    ensures kept { IfErr result (λ e. (IsOfMachine e → ⊥) →
+        Keeps (W.contents writer.old) (W.contents writer.new)) }
+    ensures same { IfErr result (λ e. (IsOfMachine e → ⊥) → session.new ≡ session.old) }
 {
     let mut line = Vec::new(alloc);
     let mut body = Vec::new(alloc);
@@ -394,6 +420,10 @@ pub fn serve_commands<R: CountedRead, W: CountedWrite>(
     ensures ok { OnOk result (Serves graph.now (R.remaining reader.old) (R.remaining reader.new)
         session.old session.new (W.contents writer.old) (W.contents writer.new)) }
     ensures part { session.new.part ≡ session.old.part }
+    // What was answered before a request that cannot be read stands.
+    ensures stopped { IfErr result (λ e. (IsOfMachine e → ⊥) → Stops graph.now session.old.part e
+        (R.remaining reader.old) (R.remaining reader.new)
+        session.old session.new (W.contents writer.old) (W.contents writer.new)) }
 {
     for i in 0..u64::MAX {
         let more = serve_one(alloc, graph, session, reader, writer, i + 1)?;
