@@ -104,7 +104,7 @@ class Run:
         self.client, self.words, self.job, self.strike = client, words, job, strike
         self.program, self.every, self.parts = asked.program, asked.keep, range(asked.parts)
         self.name = uuid4().hex
-        self.shared = client.scatter(job, broadcast=True, hash=False)
+        self.shared = None  # the job, on all workers
         self.place = {}  # of each partition the worker
         self.at = {}  # and the superstep that its node has reached, as far as is known
         self.kept = {}  # and its checkpoint, by the workers that have it
@@ -131,6 +131,8 @@ class Run:
             except TimeoutError:
                 if self.lost():
                     raise Gone from None
+            except CancelledError as error:  # what they rest on is gone
+                raise Gone from error
         for error in [future.exception() for future in futures if future.status != "finished"]:
             if isinstance(error, Gone):
                 self.place.pop(error.args[0], None)
@@ -154,6 +156,8 @@ class Run:
     def revive(self):
         """Starts the nodes that are not there, each on the worker that has the fewest, from what is kept."""
         parts, alive = self.lost(), self.workers()
+        if self.shared is None or self.shared.status != "finished":
+            self.shared = self.client.scatter(self.job, broadcast=True, hash=False)
         kept = {part: [copy for worker, copy in self.kept.get(part, {}).items() if worker in alive] for part in parts}
         if any(part in self.kept and not kept[part] for part in parts):  # no copy is left: all begin again
             parts, kept, self.kept = list(self.parts), dict.fromkeys(self.parts, []), {}
