@@ -7,7 +7,7 @@ use Rattle.std.proofs.KnownBytes.{Appends-kept, Appends-nil, Appends-trans, Cons
 use Rattle.std.proofs.lemmas.List.Elements.{All-nil, All-push}
 use Rattle.ball_model.specs.Input.{Network, fields}
 use Rattle.ball_model.specs.Held.{start_holding}
-use Rattle.ball_model.specs.Job.{Job, PartValue, job_of}
+use Rattle.ball_model.specs.Job.{Job, PartValue, job_of, part_of}
 use Rattle.ball_model.specs.Join.{Holding}
 use Rattle.ball_model.specs.PlanValue.{PlanValue}
 use Rattle.ball_model.specs.RunText.{Settings}
@@ -18,8 +18,9 @@ use Rattle.node.specs.declared.command.Command.{Command}
 use Rattle.node.specs.declared.error.ServeError.{ServeError}
 use Rattle.node.specs.declared.error.ServeError.TheVariants as fault
 use Rattle.node.specs.Stream.{CutsBody, HasNoEnd, most_line}
-use Rattle.node.specs.Serving.{AppendsAnswers, CutShort, IsCutBody, IsNoRequest, IsOfMachine, NoCommand, ReadsRequest, Runs, Serves, ServesNode, ServesNone, ServesOne, ServesSome, Steps, Stops, TooLong, told_tell}
+use Rattle.node.specs.Serving.{AppendsAnswers, CutShort, IsCutBody, IsNoRequest, IsOfMachine, NoCommand, ReadsRequest, Runs, Serves, ServesNode, ServesNone, ServesOne, ServesSome, Steps, Stops, StopsNode, TooLong, told_tell}
 use Rattle.node.specs.Turns.{Holds, most_body}
+use Rattle.node.proofs.SessionLemmas.{part_held}
 use Rattle.world.specs.declared.tell.TellError.{TellError}
 use Rattle.world.specs.declared.tell.TellError.TheVariants as untold
 
@@ -239,3 +240,26 @@ serves_node s counted p network plan left mid left' old new v w read below holds
   end = serves.end;
   told = λ more asks. serves.some.runs.told (job_of network.graph plan) p (start_holding plan p) more refl holds asks;
 }
+
+-- a request stopped it
+pub stops_node : (s : Settings) (counted : Bool) (p : ℕ) (e : ServeError) (network : Network) (plan : PlanValue) (left mid left' old new : Option (List ℕ)) (v w : State) →
+    IsJobRead s counted left mid network plan → p < plan.parts → Holds (job_of network.graph plan) p (start_holding plan p) v →
+    Stops network v.part e mid left' v w old new → StopsNode s counted p e left left' old new
+stops_node s counted p e network plan left mid left' old new v w read below holds stops =
+    let j : Job = job_of network.graph plan in
+    let same : v.part ≡ part_of j p = part_held j p (start_holding plan p) v holds in
+    record {
+      network = network;
+      plan = plan;
+      mid = mid;
+      job = read;
+      below = below;
+      requests = stops.some.requests;
+      each = stops.some.each;
+      rest = stops.mid;
+      consumed = stops.some.consumed;
+      told = λ more asks. stops.some.runs.told j p (start_holding plan p) more refl holds asks;
+      at =
+          subst (λ (k : ℕ). IsNoRequest (part_of j p) (k + 1) e stops.mid left') (sym stops.some.count)
+          (subst (λ (q : PartValue). IsNoRequest q (stops.number + 1) e stops.mid left') same stops.at);
+    }

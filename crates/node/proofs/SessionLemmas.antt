@@ -117,15 +117,15 @@ alike j p h c k l =
     ∙ ap (λ (x : ℕ). merge_of j.plan p j.plan x) l.partition
     ∙ two_tests (same_plan j.plan j.plan) (p == p) (same_plan-self j.plan) (eq-eqb p p refl)
 
-pub merged_turns : (j : Job) (p : ℕ) (h c : Holding) (v o w : State) → MergesWith o v w (Ok tt) → Holds j p h v → Holds j p c o → IsState w →
-    TurnsTo j p (answer.Merged (join_of h c).superstep) (join_of h c) w (reply.Answered (answer.Merged w.superstep))
-merged_turns j p h c v o w m k l state =
+pub merged_turns : (j : Job) (p : ℕ) (h c : Holding) (v o w : State) (n : ℕ) → MergesWith o v w (Ok tt) → Holds j p h v → Holds j p c o → IsState w → n ≡ w.superstep →
+    TurnsTo j p (answer.Merged (join_of h c).superstep) (join_of h c) w (reply.Answered (answer.Merged n))
+merged_turns j p h c v o w n m k l state at =
     let both = (recover_turns j c v o w None m l.has state).turned p (lone h) (fits j p h k.held) (shows j h v k.has) in
     let is = alike j p h c k.held l.held in
     let done : (answer.Merged w.superstep ≡ answer.Merged (join_of h c).superstep) × ShowsNode j (lone (join_of h c)) (node w None) =
     subst (λ r. (answer.Merged w.superstep ≡ (merged_when c (lone h) r).answer) × ShowsNode j (merged_when c (lone h) r).node (node w None)) is both in
     record {
-      says = ap reply.Answered done.0;
+      says = ap reply.Answered (ap answer.Merged at ∙ done.0);
       holds = record { held = joined_held j p h c k.held l.held; has = done.1.content };
     }
 

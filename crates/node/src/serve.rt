@@ -11,7 +11,9 @@ ghost use Rattle.ball_model.specs.WorldText.{refusal_line};
 ghost use Rattle.node.specs.NodeText.{body_length, command_in, sent_text};
 ghost use Rattle.node.specs.Job.{settings_in};
 ghost use Rattle.node.specs.Serving.{IsNoRequest, IsOfMachine, ReadsRequest, Serves, ServesNode, ServesNone, ServesOne};
-ghost use Rattle.node.specs.Serving.{Steps, Stops};
+ghost use Rattle.node.specs.Serving.{Steps, Stops, StopsNode};
+ghost use Rattle.node.specs.declared.error.JobError.{JobError as NoJob};
+ghost use Rattle.node.specs.declared.error.ServeError.{ServeError as Fault};
 ghost use Rattle.node.specs.Stream.{CutsBody, HasNoEnd};
 ghost use Rattle.node.specs.declared.command.Command.TheVariants as order;
 ghost use Rattle.node.specs.Turns.{Holds, most_body, reply_text};
@@ -458,9 +460,17 @@ pub fn serve_node<R: CountedRead, W: CountedWrite>(
     reader: &mut R,
     writer: &mut W,
 ) -> Result<(), NodeError>
-    ensures { OnOk result (ServesNode (settings_in options.now) options.now.counted part
+    ensures served { OnOk result (ServesNode (settings_in options.now) options.now.counted part
         (R.remaining reader.old) (R.remaining reader.new)
         (W.contents writer.old) (W.contents writer.new)) }
+    // What was answered before a request that cannot be read stands.
+    ensures stopped { (e : Fault) → result ≡ Err (NodeError.Serve e) → (IsOfMachine e → ⊥) →
+        StopsNode (settings_in options.now) options.now.counted part e
+        (R.remaining reader.old) (R.remaining reader.new)
+        (W.contents writer.old) (W.contents writer.new) }
+    // Where there is no job nothing is answered.
+    ensures jobless { (e : NoJob) → result ≡ Err (NodeError.Job e) →
+        Keeps (W.contents writer.old) (W.contents writer.new) }
 {
     let (graph, plan) = read_job(alloc, state, options, reader)?;
     let mut session = start(alloc, &graph, &plan, part)?;

@@ -2,8 +2,8 @@ use Rattle.node.specs.Job.{settings_in}
 use Rattle.node.proofs.ServeLemmas.{serves_node}
 use Rattle.node.proofs.serve.serve_node.Goals as goal
 
-pub returns : goal.returns
-returns g c =
+pub returns-clause-served : goal.returns-clause-served
+returns-clause-served g c =
     serves_node (settings_in c.args.options.now) c.args.options.now.counted c.args.part c.in_ok-graph.graph c.in_ok-graph.plan
     (g.R.Read.remaining c.args.reader.now) (g.R.Read.remaining c.read_job-graph.new.reader) (g.R.Read.remaining c.serve_commands.new.reader)
     (g.W.Write.contents c.args.writer.now) (g.W.Write.contents c.serve_commands.new.writer)

@@ -20,6 +20,5 @@ returns-in-Ok-clause-turned c = λ j p h d k l.
       shown = c.merge.ensures.shown;
       stands = c.merge.ensures.stands;
     } in
-    let done = merged_turns j p h d v o w (subst (λ (r : Result (Unit {0}) MergeError). MergesWith o v w r) c.in-Ok.is merges)
-    (subst (λ (s : State). Holds j p h s) (sym c.self.view_is) k) (subst (λ (s : State). Holds j p d s) (sym c.in_ok-copy.ensures.same) l) c.superstep.ensures.state in
-    ?
+    merged_turns j p h d v o w c.superstep.result (subst (λ (r : Result (Unit {0}) MergeError). MergesWith o v w r) c.in-Ok.is merges)
+    (subst (λ (s : State). Holds j p h s) (sym c.self.view_is) k) (subst (λ (s : State). Holds j p d s) (sym c.in_ok-copy.ensures.same) l) c.superstep.ensures.state c.superstep.ensures.value
