@@ -51,9 +51,9 @@ answers_last : (j : Job) (labels : List (List ℕ)) (h : Holding) (front : List 
     AreAnswers j labels h front text → Answers j labels (after_all j h front) last more → AreAnswers j labels h (front ++ last ∷ []) (text ++ more)
 unfolding AreAnswers after_all
 answers_last j labels h [] last text more told said =
-    (more, ([], (ap (λ (l : List ℕ). l ++ more) told ∙ sym (append-nil more), (said, refl))))
+    (more, [], ap (λ (l : List ℕ). l ++ more) told ∙ sym (append-nil more), said, refl)
 answers_last j labels h (a ∷ front) last text more told said =
-    (told.0, (told.1.0 ++ more, (ap (λ (l : List ℕ). l ++ more) told.1.1.0 ∙ append_assoc told.0 told.1.0 more, (told.1.1.1.0, answers_last j labels (after_asked j h a) front last told.1.0 more told.1.1.1.1 said))))
+    (told.0, told.1 ++ more, ap (λ (l : List ℕ). l ++ more) told.2 ∙ append_assoc told.0 told.1 more, told.3, answers_last j labels (after_asked j h a) front last told.1 more told.4 said)
 
 -- ---- runs
 runs_none : (network : Network) (v : State) (old : Option (List ℕ)) → Runs network [] v v old old

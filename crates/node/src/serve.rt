@@ -71,8 +71,9 @@ fn tell_batch<W: CountedWrite>(
 
 // Writes that there is no such partition to be told anything.
 fn tell_no_target<W: CountedWrite>(line: &mut Vec<u8>, writer: &mut W) -> Result<(), ServeError>
-    ensures { OnOk result (Appends (W.contents writer.old) (W.contents writer.new)
+    ensures done { OnOk result (Appends (W.contents writer.old) (W.contents writer.new)
         (refusal_line WorldError.NoTarget)) }
+    ensures kind { IfErr result IsOfMachine }
 {
     line.clear();
     put_refusal(line, WorldError::NoTarget)?;

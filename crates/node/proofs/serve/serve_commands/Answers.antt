@@ -15,9 +15,9 @@ loop-i-preserved g c =
     record {
       some =
           serves_more c.args.graph.now c.loop-i.i (c.loop-i.i + 1)
-          (g.R.Read.remaining c.args.reader.now) (g.R.Read.remaining c.loop-i.reader) (g.R.Read.remaining c.serve_one-more.new.reader)
-          c.args.session.now c.loop-i.session c.serve_one-more.new.session
-          (g.W.Write.contents c.args.writer.now) (g.W.Write.contents c.loop-i.writer) (g.W.Write.contents c.serve_one-more.new.writer)
+          (g.R.Read.remaining c.args.reader.now) (g.R.Read.remaining c.loop-i.reader) (g.R.Read.remaining c.serve_one.new.reader)
+          c.args.session.now c.loop-i.session c.serve_one.new.session
+          (g.W.Write.contents c.args.writer.now) (g.W.Write.contents c.loop-i.writer) (g.W.Write.contents c.serve_one.new.writer)
           refl c.loop-i.invariant.some (c.in_ok-more.ensures.served (ap Ok more));
       part = c.in_ok-more.ensures.part ∙ c.loop-i.invariant.part;
     }
@@ -26,7 +26,7 @@ pub returns-then-not-more-clause-ok : goal.returns-then-not-more-clause-ok
 returns-then-not-more-clause-ok g c =
     let last : c.in_ok-more.more ≡ false = search c.if-not-more.true in
     serves_end c.args.graph.now c.loop-i.i
-    (g.R.Read.remaining c.args.reader.now) (g.R.Read.remaining c.loop-i.reader) (g.R.Read.remaining c.serve_one-more.new.reader)
-    c.args.session.now c.loop-i.session c.serve_one-more.new.session
-    (g.W.Write.contents c.args.writer.now) (g.W.Write.contents c.loop-i.writer) (g.W.Write.contents c.serve_one-more.new.writer)
+    (g.R.Read.remaining c.args.reader.now) (g.R.Read.remaining c.loop-i.reader) (g.R.Read.remaining c.serve_one.new.reader)
+    c.args.session.now c.loop-i.session c.serve_one.new.session
+    (g.W.Write.contents c.args.writer.now) (g.W.Write.contents c.loop-i.writer) (g.W.Write.contents c.serve_one.new.writer)
     c.loop-i.invariant.some (c.in_ok-more.ensures.ended (ap Ok last))

@@ -5,7 +5,7 @@ use Rattle.node.proofs.serve.serve_node.Goals as goal
 pub returns-clause-served : goal.returns-clause-served
 returns-clause-served g c =
     serves_node (settings_in c.args.options.now) c.args.options.now.counted c.args.part c.in_ok-graph.graph c.in_ok-graph.plan
-    (g.R.Read.remaining c.args.reader.now) (g.R.Read.remaining c.read_job-graph.new.reader) (g.R.Read.remaining c.serve_commands.new.reader)
+    (g.R.Read.remaining c.args.reader.now) (g.R.Read.remaining c.read_job.new.reader) (g.R.Read.remaining c.serve_commands.new.reader)
     (g.W.Write.contents c.args.writer.now) (g.W.Write.contents c.serve_commands.new.writer)
     c.in_ok-session.session c.serve_commands.new.session
     c.in_ok-graph.ensures.read c.in_ok-session.ensures.part c.in_ok-session.ensures.start c.in_ok-serve_commands.ensures.ok
