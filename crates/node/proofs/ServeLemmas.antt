@@ -1,6 +1,6 @@
 -- Requests, one after the other.
 use Rattle.std.proofs.Common.{◌≡◌, ◌≢◌, ◌∙◌, ◌⊎◌, inl, inr, ℕ, ◌+◌, ◌<◌, ◌≤◌, Bool, List, [], ◌∷◌, ◌++◌, length, refl, ap, sym, subst, append_assoc, append-nil, length-append, arith}
-use Rattle.std.specs.Prelude.{Option, None, Some}
+use Rattle.std.specs.Prelude.{Option, None, Some, Result, Err}
 use Rattle.std.specs.List.{All, flat_map}
 use Rattle.std.specs.Io.KnownBytes.{Appends, Consumes, IsAtEnd, Keeps}
 use Rattle.std.proofs.KnownBytes.{Appends-kept, Appends-nil, Appends-trans, Consumes-nil, Consumes-trans, Keeps-refl}
@@ -17,6 +17,8 @@ use Rattle.node.specs.NodeText.{AllAsk, Answers, AreAnswers, Asked, Asks, IsRequ
 use Rattle.node.specs.declared.command.Command.{Command}
 use Rattle.node.specs.declared.error.ServeError.{ServeError}
 use Rattle.node.specs.declared.error.ServeError.TheVariants as fault
+use Rattle.node.specs.declared.error.NodeError.{NodeError}
+use Rattle.node.specs.declared.error.NodeError.TheVariants as node_fault
 use Rattle.node.specs.Stream.{CutsBody, HasNoEnd, most_line}
 use Rattle.node.specs.Serving.{AppendsAnswers, CutShort, IsCutBody, IsNoRequest, IsOfMachine, NoCommand, ReadsRequest, Runs, Serves, ServesNode, ServesNone, ServesOne, ServesSome, Steps, Stops, StopsNode, TooLong, told_tell}
 use Rattle.node.specs.Turns.{Holds, most_body}
@@ -263,3 +265,15 @@ stops_node s counted p e network plan left mid left' old new v w read below hold
           subst (λ (k : ℕ). IsNoRequest (part_of j p) (k + 1) e stops.mid left') (sym stops.some.count)
           (subst (λ (q : PartValue). IsNoRequest q (stops.number + 1) e stops.mid left') same stops.at);
     }
+
+same_fault : (d e : ServeError) → Err {T = Unit {0}} (node_fault.Serve d) ≡ Err (node_fault.Serve e) → d ≡ e
+same_fault d e is = cc
+
+pub node_stops : (s : Settings) (counted : Bool) (p : ℕ) (network : Network) (plan : PlanValue) (left mid left' old new : Option (List ℕ)) (v w : State) (d : ServeError) →
+    IsJobRead s counted left mid network plan → p < plan.parts → Holds (job_of network.graph plan) p (start_holding plan p) v →
+    ((IsOfMachine d → ⊥) → Stops network v.part d mid left' v w old new) →
+    (e : ServeError) → Err {T = Unit {0}} (node_fault.Serve d) ≡ Err (node_fault.Serve e) → (IsOfMachine e → ⊥) → StopsNode s counted p e left left' old new
+node_stops s counted p network plan left mid left' old new v w d read below holds stops e is some =
+    let same : d ≡ e = same_fault d e is in
+    subst (λ (k : ServeError). StopsNode s counted p k left left' old new) same
+    (stops_node s counted p d network plan left mid left' old new v w read below holds (stops (λ machine. some (subst IsOfMachine same machine))))

@@ -354,8 +354,6 @@ fn read_request<R: CountedRead>(
     ensures none { IfOk result (λ o. IfNone o (IsAtEnd (R.remaining reader.new))) }
     ensures kept { IfOk result (λ o. IfNone o
         (Consumes (R.remaining reader.old) (R.remaining reader.new) [])) }
-    ensures read { result ≡ Err ServeError.Read →
-        Rises (R.failed_calls reader.old) (R.failed_calls reader.new) }
     ensures stopped { IfErr result (λ e. IsNoRequest part.now number e
         (R.remaining reader.old) (R.remaining reader.new)) }
 {

@@ -282,7 +282,17 @@ fn read_batch(alloc: Global, plan: &Plan, bytes: &[u8]) -> Result<Arc<Batch>, Ba
     ensures memory { (j : Job) (name : Name) → IsJob j → plan.now ≡ j.plan →
         IsDelivered j bytes.now name → IfErr result (λ e. e ≡ BatchError.Memory) }
 {
-    let batch = Batch::decode(alloc, plan, bytes)?;
+    match Batch::decode(alloc, plan, bytes) {
+        Ok(batch) => shared(alloc, batch),
+        Err(error) => Err(error),
+    }
+}
+
+// A batch, to be shared. The error is that memory was refused.
+fn shared(alloc: Global, batch: Batch) -> Result<Arc<Batch>, BatchError>
+    ensures given { IfOk result (λ b. arc_value b ≡ batch) }
+    ensures memory { IfErr result (λ e. e ≡ BatchError.Memory) }
+{
     match Arc::new(alloc, batch) {
         Ok(batch) => Ok(batch),
         Err(_) => Err(BatchError::Memory),

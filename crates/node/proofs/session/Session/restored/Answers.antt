@@ -1,8 +1,8 @@
-use Rattle.std.proofs.Common.{rules, ◌≡◌, ◌∙◌, ap, sym}
+use Rattle.std.proofs.Common.{◌≡◌, ◌∙◌, ap, sym}
 use Rattle.std.specs.Arc.{arc_value}
 use Rattle.ball_model.specs.Job.{part_of}
 use Rattle.ball_model.specs.State.{State}
-use Rattle.node.proofs.SessionLemmas.{job_held, part_held, started_holds}
+use Rattle.node.proofs.SessionLemmas.{job_held, no_bytes, part_held, started_holds}
 use Rattle.node.proofs.session.Session.restored.Goals as goal
 
 pub returns-in_ok-started-clause-anew : goal.returns-in_ok-started-clause-anew
@@ -16,4 +16,4 @@ returns-else-is_empty-clause-back c = λ j p h d k some given.
     c.read_back.ensures.back j p d part given
 
 pub returns-in_ok-started-clause-back : goal.returns-in_ok-started-clause-back
-returns-in_ok-started-clause-back c = λ j p h d k some given. absurd (some (search c.if-is_empty.true))
+returns-in_ok-started-clause-back c = λ j p h d k some given. absurd (some (no_bytes c.args.bytes.now (sym c.is_empty.ensures ∙ c.if-is_empty.true)))
