@@ -128,7 +128,7 @@ pub struct EdgeReader {
 }
 
 impl EdgeReader {
-    ghost use Rattle.edgelist.specs.Given.{IsGiven};
+    ghost use Rattle.edgelist.specs.Given.{HasFailed, IsGiven};
     ghost use Rattle.edgelist.specs.Pieces.{EndsLine};
 
     /// Nothing was given yet. The only error is that memory was refused.
@@ -166,7 +166,7 @@ impl EdgeReader {
         ensures refused { (limits : EdgeLimits) (delimiter : Delimiter) (text more : List ℕ) →
             IsGiven limits delimiter text self.old → EndsLine text → IsPlain (text ++ more) →
             IfErr result (Refuses (meaning_of limits delimiter (text ++ more))) }
-        ensures stays { IfErr result (λ e. self.new.failed ≡ Some e) }
+        ensures stays { IfErr result (λ e. HasFailed e self.new) }
         ensures read { result ≢ Err EdgeError.Read }
     {
         match read_lines(
@@ -192,8 +192,7 @@ impl EdgeReader {
 
     /// Takes the next byte of the edge list.
     ///
-    /// A refusal is that of the whole edge list, whatever follows; from then on each call answers it. After want of
-    /// memory the byte may be taken or not.
+    /// A refusal is that of the whole edge list, whatever follows. After an error each call answers that error.
     pub fn add(&mut self, alloc: Global, byte: u8) -> Result<(), EdgeError>
         ensures ok { (limits : EdgeLimits) (delimiter : Delimiter) (text : List ℕ) →
             IsGiven limits delimiter text self.old →
@@ -201,14 +200,15 @@ impl EdgeReader {
         ensures refused { (limits : EdgeLimits) (delimiter : Delimiter) (text more : List ℕ) →
             IsGiven limits delimiter text self.old → IsPlain (text ++ byte ∷ more) →
             IfErr result (Refuses (meaning_of limits delimiter (text ++ byte ∷ more))) }
-        ensures again { IfSome self.old.failed (λ e. result ≡ Err e) }
-        ensures stays { IfErr result (λ e. e ≢ EdgeError.Memory → self.new.failed ≡ Some e) }
+        ensures again { (e : EdgeError) → HasFailed e self.old → result ≡ Err e }
+        ensures stays { IfErr result (λ e. HasFailed e self.new) }
         ensures read { result ≢ Err EdgeError.Read }
     {
         if let Some(error) = self.failed {
             return Err(error);
         }
         let Ok(()) = self.lines.push(byte) else {
+            self.failed = Some(EdgeError::Memory);
             return Err(EdgeError::Memory);
         };
         if byte == b'\n' && self.lines.len() >= ENOUGH {
@@ -225,7 +225,7 @@ impl EdgeReader {
         ensures refused { (limits : EdgeLimits) (delimiter : Delimiter) (text : List ℕ) →
             IsGiven limits delimiter text self → IsPlain text →
             IfErr result (Refuses (meaning_of limits delimiter text)) }
-        ensures again { IfSome self.failed (λ e. result ≡ Err e) }
+        ensures again { (e : EdgeError) → HasFailed e self → result ≡ Err e }
         ensures read { result ≢ Err EdgeError.Read }
     {
         if let Some(error) = self.failed {
