@@ -12,6 +12,7 @@ ghost use Rattle.ball_model.specs.PlanValue.{most_vertices};
 ghost use Rattle.edgelist.specs.Pieces.{IsThrough};
 ghost use Rattle.edgelist.specs.Reading.{AreWithin, Refuses, byte_of, limits_of, meaning_of};
 ghost use Rattle.edgelist.specs.Records.{FromStart};
+ghost use Rattle.edgelist.specs.declared.read.EdgeError.TheVariants as refused;
 
 use crate::graph::Graph;
 use crate::read::{Delimiter, EdgeError, EdgeLimits, MOST_RECORDS, Reading, next_row};
@@ -120,7 +121,7 @@ pub struct EdgeReader {
     failed: Option<EdgeError>,
     ghost vertices: { limits.vertices ≤ most_vertices },
     ghost edges: { limits.edges ≤ most_records },
-    ghost read: { failed ≢ Some EdgeError.Read },
+    ghost read: { failed ≢ Some refused.Read },
     ghost few: { failed ≡ None → number ≤ limits.edges },
     ghost within: { failed ≡ None →
         AreWithin limits.vertices number
