@@ -19,4 +19,4 @@ cut_short size left n a b c body buf some count within ends = record {
 pub returns-in-Ended-clause-cut : goal.returns-in-Ended-clause-cut
 returns-in-Ended-clause-cut g c = λ is.
     cut_short c.args.size c.loop-left.left c.in-Ended.count (g.R.Read.remaining c.args.reader.now) (g.R.Read.remaining c.loop-left.reader) (g.R.Read.remaining c.fill.new.reader)
-    c.loop-left.body.items c.fill.new.buf c.loop-left.invariant.consumed c.loop-left.invariant.count (omega arith) (c.in-Ended.ensures.ended c.in-Ended.count refl)
+    c.loop-left.body.items c.fill.new.buf c.loop-left.invariant.consumed c.loop-left.invariant.count (omega (arith, length-take c.min-count.result c.loop-left.piece)) (c.in-Ended.ensures.ended c.in-Ended.count refl)
