@@ -12,6 +12,7 @@ ghost use Rattle.ball_model.specs.PlanValue.{most_vertices};
 ghost use Rattle.edgelist.specs.Pieces.{IsThrough};
 ghost use Rattle.edgelist.specs.Reading.{AreWithin, Refuses, byte_of, limits_of, meaning_of};
 ghost use Rattle.edgelist.specs.Records.{FromStart};
+ghost use Rattle.edgelist.specs.declared.read.EdgeError.TheVariants as refused;
 
 use crate::graph::Graph;
 use crate::read::{Delimiter, EdgeError, EdgeLimits, MOST_RECORDS, Reading, next_row};
@@ -120,7 +121,7 @@ pub struct EdgeReader {
     failed: Option<EdgeError>,
     ghost vertices: { limits.vertices ≤ most_vertices },
     ghost edges: { limits.edges ≤ most_records },
-    ghost read: { failed ≢ Some EdgeError.Read },
+    ghost read: { failed ≢ Some refused.Read },
     ghost few: { failed ≡ None → number ≤ limits.edges },
     ghost within: { failed ≡ None →
         AreWithin limits.vertices number
@@ -128,7 +129,7 @@ pub struct EdgeReader {
 }
 
 impl EdgeReader {
-    ghost use Rattle.edgelist.specs.Given.{IsGiven};
+    ghost use Rattle.edgelist.specs.Given.{HasFailed, IsGiven};
     ghost use Rattle.edgelist.specs.Pieces.{EndsLine};
 
     /// Nothing was given yet. The only error is that memory was refused.
@@ -166,7 +167,7 @@ impl EdgeReader {
         ensures refused { (limits : EdgeLimits) (delimiter : Delimiter) (text more : List ℕ) →
             IsGiven limits delimiter text self.old → EndsLine text → IsPlain (text ++ more) →
             IfErr result (Refuses (meaning_of limits delimiter (text ++ more))) }
-        ensures stays { IfErr result (λ e. self.new.failed ≡ Some e) }
+        ensures stays { IfErr result (λ e. HasFailed e self.new) }
         ensures read { result ≢ Err EdgeError.Read }
     {
         match read_lines(
@@ -192,8 +193,7 @@ impl EdgeReader {
 
     /// Takes the next byte of the edge list.
     ///
-    /// A refusal is that of the whole edge list, whatever follows; from then on each call answers it. After want of
-    /// memory the byte may be taken or not.
+    /// A refusal is that of the whole edge list, whatever follows. After an error each call answers that error.
     pub fn add(&mut self, alloc: Global, byte: u8) -> Result<(), EdgeError>
         ensures ok { (limits : EdgeLimits) (delimiter : Delimiter) (text : List ℕ) →
             IsGiven limits delimiter text self.old →
@@ -201,14 +201,15 @@ impl EdgeReader {
         ensures refused { (limits : EdgeLimits) (delimiter : Delimiter) (text more : List ℕ) →
             IsGiven limits delimiter text self.old → IsPlain (text ++ byte ∷ more) →
             IfErr result (Refuses (meaning_of limits delimiter (text ++ byte ∷ more))) }
-        ensures again { IfSome self.old.failed (λ e. result ≡ Err e) }
-        ensures stays { IfErr result (λ e. e ≢ EdgeError.Memory → self.new.failed ≡ Some e) }
+        ensures again { (e : EdgeError) → HasFailed e self.old → result ≡ Err e }
+        ensures stays { IfErr result (λ e. HasFailed e self.new) }
         ensures read { result ≢ Err EdgeError.Read }
     {
         if let Some(error) = self.failed {
             return Err(error);
         }
         let Ok(()) = self.lines.push(byte) else {
+            self.failed = Some(EdgeError::Memory);
             return Err(EdgeError::Memory);
         };
         if byte == b'\n' && self.lines.len() >= ENOUGH {
@@ -225,7 +226,7 @@ impl EdgeReader {
         ensures refused { (limits : EdgeLimits) (delimiter : Delimiter) (text : List ℕ) →
             IsGiven limits delimiter text self → IsPlain text →
             IfErr result (Refuses (meaning_of limits delimiter text)) }
-        ensures again { IfSome self.failed (λ e. result ≡ Err e) }
+        ensures again { (e : EdgeError) → HasFailed e self → result ≡ Err e }
         ensures read { result ≢ Err EdgeError.Read }
     {
         if let Some(error) = self.failed {

@@ -14,8 +14,8 @@ loop-p-init g c =
 pub loop-p-preserved : goal.loop-p-preserved
 loop-p-preserved g c =
     let j : Job = job_of c.args.graph.now.graph c.args.plan.now in
-    subst (λ (l : List State). ReadsAll j (c.loop-p.p + 1) (g.R.Read.remaining c.args.reader.now) (g.R.Read.remaining c.read_replica-replica.new.reader) l) (sym c.in-Ok.ensures.items)
-    (reads_more j c.loop-p.p (c.loop-p.p + 1) (g.R.Read.remaining c.args.reader.now) (g.R.Read.remaining c.loop-p.reader) (g.R.Read.remaining c.read_replica-replica.new.reader)
+    subst (λ (l : List State). ReadsAll j (c.loop-p.p + 1) (g.R.Read.remaining c.args.reader.now) (g.R.Read.remaining c.read_replica.new.reader) l) (sym c.in-Ok.ensures.items)
+    (reads_more j c.loop-p.p (c.loop-p.p + 1) (g.R.Read.remaining c.args.reader.now) (g.R.Read.remaining c.loop-p.reader) (g.R.Read.remaining c.read_replica.new.reader)
     c.loop-p.replicas.items c.in_ok-replica.replica refl c.loop-p.invariant c.in_ok-replica.ensures)
 
 pub returns : goal.returns

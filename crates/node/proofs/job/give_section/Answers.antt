@@ -13,7 +13,7 @@ loop-preserved g c = λ delimiter given.
     gives_more LIMITS delimiter c.loop.cut.begins c.next_step.new.cut.begins c.in-Byte.byte (g.R.Read.remaining c.args.reader.now)
     (prepend_known c.loop.cut.ahead.items (g.R.Read.remaining c.loop.reader)) (prepend_known c.next_step.new.cut.ahead.items (g.R.Read.remaining c.next_step.new.reader))
     c.loop.edges c.add.new.self (c.next_step.ensures.next c.in-Byte.byte c.in-Byte.is) (c.loop.invariant delimiter given) (c.next_step.ensures.byte c.in-Byte.byte c.in-Byte.is)
-    (λ text of. c.in_ok-add.ensures.ok LIMITS delimiter text of)
+    (λ text of. c.in_ok-add-in-Byte.ensures.ok LIMITS delimiter text of)
 
 pub returns-in-Mark : goal.returns-in-Mark
 returns-in-Mark g c = λ delimiter given.
