@@ -1,6 +1,6 @@
 -- Requests, one after the other.
 use Rattle.std.proofs.Common.{◌≡◌, ◌≢◌, ◌∙◌, ◌⊎◌, inl, inr, ℕ, ◌+◌, ◌<◌, ◌≤◌, Bool, List, [], ◌∷◌, ◌++◌, length, refl, ap, sym, subst, append_assoc, append-nil, length-append, arith}
-use Rattle.std.specs.Prelude.{Option, None, Some, Result, Err}
+use Rattle.std.specs.Prelude.{Option, None, Some, Result, Err, IfSome}
 use Rattle.std.specs.List.{All, flat_map}
 use Rattle.std.specs.Io.KnownBytes.{Appends, Consumes, IsAtEnd, Keeps}
 use Rattle.std.proofs.KnownBytes.{Appends-kept, Appends-nil, Appends-trans, Consumes-nil, Consumes-trans, Keeps-refl}
@@ -152,6 +152,9 @@ stops_at network part e n m a b c v w u x y z next s same_part at kept same = re
 }
 
 -- ---- a request
+pub at_some : {A : Type 0} (o : Option A) (x : A) (P : A → Type 0) → o ≡ Some x → IfSome o P → P x
+at_some {A} o x P is h = subst (λ (q : Option A). IfSome q P) is h
+
 pub reads_request : (a b c : Option (List ℕ)) (line : List ℕ) (order : Command) (body : List ℕ) → Consumes a b (line ++ 10 ∷ []) → Consumes b c body →
     HasNoEnd line → command_in (fields 32 line) ≡ Some order → length body ≡ body_length order → ReadsRequest a c line order body
 reads_request a b c line order body one two none says long = record {
@@ -266,13 +269,13 @@ stops_node s counted p e network plan left mid left' old new v w read below hold
           (subst (λ (q : PartValue). IsNoRequest q (stops.number + 1) e stops.mid left') same stops.at);
     }
 
-same_fault : (d e : ServeError) → Err {T = Unit {0}} (node_fault.Serve d) ≡ Err (node_fault.Serve e) → d ≡ e
+same_fault : (d e : ServeError) → ◌≡◌ {A = Result (Unit {0}) NodeError} (Err (node_fault.Serve d)) (Err (node_fault.Serve e)) → d ≡ e
 same_fault d e is = cc
 
 pub node_stops : (s : Settings) (counted : Bool) (p : ℕ) (network : Network) (plan : PlanValue) (left mid left' old new : Option (List ℕ)) (v w : State) (d : ServeError) →
     IsJobRead s counted left mid network plan → p < plan.parts → Holds (job_of network.graph plan) p (start_holding plan p) v →
     ((IsOfMachine d → ⊥) → Stops network v.part d mid left' v w old new) →
-    (e : ServeError) → Err {T = Unit {0}} (node_fault.Serve d) ≡ Err (node_fault.Serve e) → (IsOfMachine e → ⊥) → StopsNode s counted p e left left' old new
+    (e : ServeError) → ◌≡◌ {A = Result (Unit {0}) NodeError} (Err (node_fault.Serve d)) (Err (node_fault.Serve e)) → (IsOfMachine e → ⊥) → StopsNode s counted p e left left' old new
 node_stops s counted p network plan left mid left' old new v w d read below holds stops e is some =
     let same : d ≡ e = same_fault d e is in
     subst (λ (k : ServeError). StopsNode s counted p k left left' old new) same

@@ -19,10 +19,10 @@ returns-then-parts-target-clause-done g c = λ network body.
 pub returns-then-target-partition-clause-done : goal.returns-then-target-partition-clause-done
 returns-then-target-partition-clause-done g c = λ network body.
     let own : c.args.target ≡ c.args.replica.now.part.number = c.if-target-partition.true ∙ c.partition.ensures in
-    on_ok_weaker c.tell_no_target.result
-    (λ (told : Appends (g.W.Write.contents c.args.writer.now) (g.W.Write.contents c.tell_no_target.new.writer) (refusal_line refusal.NoTarget)).
-    send_refused network body c.args.replica.now c.args.target (g.W.Write.contents c.args.writer.now) (g.W.Write.contents c.tell_no_target.new.writer) (inr own) told)
-    c.tell_no_target.ensures.done
+    on_ok_weaker c.tell_no_target-then-target-partition.result
+    (λ (told : Appends (g.W.Write.contents c.args.writer.now) (g.W.Write.contents c.tell_no_target-then-target-partition.new.writer) (refusal_line refusal.NoTarget)).
+    send_refused network body c.args.replica.now c.args.target (g.W.Write.contents c.args.writer.now) (g.W.Write.contents c.tell_no_target-then-target-partition.new.writer) (inr own) told)
+    c.tell_no_target-then-target-partition.ensures.done
 
 pub returns-clause-done : goal.returns-clause-done
 returns-clause-done g c = λ network body.

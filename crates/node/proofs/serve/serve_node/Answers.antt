@@ -13,7 +13,7 @@ returns-clause-served g c =
 
 pub returns-in_err-serve_commands-clause-stopped : goal.returns-in_err-serve_commands-clause-stopped
 returns-in_err-serve_commands-clause-stopped g c =
-    let p = err_from_is_err_and c.from_residual.result c.from_residual.ensures.1 in
+    let p = err_from_is_err_and c.from_residual-in_err-serve_commands.result c.from_residual-in_err-serve_commands.ensures.1 in
     rw (p.1, p.2)
     (node_stops (settings_in c.args.options.now) c.args.options.now.counted c.args.part c.in_ok-graph.graph c.in_ok-graph.plan
     (g.R.Read.remaining c.args.reader.now) (g.R.Read.remaining c.read_job.new.reader) (g.R.Read.remaining c.serve_commands.new.reader)
