@@ -6,3 +6,4 @@ pub mod OwnLemmas
 pub mod CommandLemmas
 pub mod GatherLemmas
 pub mod JobLemmas
+pub mod AnswerLemmas

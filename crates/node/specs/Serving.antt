@@ -4,7 +4,7 @@ use Rattle.std.specs.List.{All}
 use Rattle.std.specs.Io.KnownBytes.{Appends, Consumes, IsAtEnd, Keeps}
 use Rattle.ball_model.specs.Input.{Network, fields}
 use Rattle.ball_model.specs.Held.{start_holding}
-use Rattle.ball_model.specs.Job.{Job, PartValue, job_of}
+use Rattle.ball_model.specs.Job.{Job, PartValue, job_of, part_of}
 use Rattle.ball_model.specs.Join.{Holding}
 use Rattle.ball_model.specs.PlanValue.{PlanValue}
 use Rattle.ball_model.specs.RunText.{Settings}
@@ -181,3 +181,19 @@ pub record ServesNode (s : Settings) (counted : Bool) (p : ℕ)
   pub end : IsAtEnd left'
   pub told : (more : List Asked) → AllAsk (job_of network.graph plan) p requests more →
       AppendsAnswers (job_of network.graph plan) network.labels (start_holding plan p) more old new
+
+-- the job of the input was read, and such a request stopped a node of partition p that had answered all before it
+pub record StopsNode (s : Settings) (counted : Bool) (p : ℕ) (e : ServeError)
+    (left left' old new : Option (List ℕ)) : Type 0 where
+  pub network : Network
+  pub plan : PlanValue
+  pub mid : Option (List ℕ)
+  pub job : IsJobRead s counted left mid network plan
+  pub below : p < plan.parts
+  pub requests : List Request
+  pub each : All IsRequest requests
+  pub rest : Option (List ℕ)
+  pub consumed : Consumes mid rest (requests_text requests)
+  pub told : (more : List Asked) → AllAsk (job_of network.graph plan) p requests more →
+      AppendsAnswers (job_of network.graph plan) network.labels (start_holding plan p) more old new
+  pub at : IsNoRequest (part_of (job_of network.graph plan) p) (length requests + 1) e rest left'

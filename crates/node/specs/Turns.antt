@@ -1,5 +1,7 @@
 -- What a node says to a command, and how it is told.
-use Rattle.std.specs.Prelude.{◌≡◌, ℕ, List, [], ◌∷◌, codes, decimal, Result, Ok, Err}
+use Rattle.std.specs.Prelude.{◌≡◌, ℕ, List, [], ◌∷◌, codes, decimal, Result, Ok, Err, IsErr}
+use Rattle.ball_model.specs.declared.names.MergeError.{MergeError}
+use Rattle.ball_model.specs.declared.names.MergeError.TheVariants as unmerged
 use Rattle.batches.specs.declared.error.BatchError.{BatchError}
 use Rattle.batches.specs.declared.error.BatchError.TheVariants as no_batch
 use Rattle.checkpoint.specs.declared.error.KeepError.{KeepError}
@@ -44,6 +46,12 @@ pub record TurnsTo (j : Job) (p : ℕ) (a : Answer) (h : Holding) (v : State) (r
 abbrev pub GivesOrWants : (State → Type 0) → Result State KeepError → Type 0
 GivesOrWants P (Ok v) = P v
 GivesOrWants P (Err e) = e ≡ no_checkpoint.Memory
+
+-- what is said of a merge, after which the replica is at superstep t, but where memory was refused
+abbrev pub SaysMerged : {E : Type 0} → Result (Unit {0}) MergeError → ℕ → Result Reply E → Type 0
+SaysMerged (Ok u) t said = said ≡ Ok (reply.Answered (answer.Merged t))
+SaysMerged (Err unmerged.Memory) t said = IsErr said
+SaysMerged (Err e) t said = said ≡ Ok (reply.Answered (answer.NotMerged e))
 
 -- what was found in bytes that are no batch
 abbrev pub batch_word : BatchError → List ℕ

@@ -1,6 +1,6 @@
 //! How many bytes may follow a command.
 
-ghost use Rattle.std.specs.Prelude.{◌≡◌, ◌<◌, ◌≤◌, true, false};
+ghost use Rattle.std.specs.Prelude.{◌≡◌, ◌<◌, ◌≤◌, ◌^◌, true, false};
 ghost use Rattle.checkpoint.specs.Reading.{greatest_batch, most_bytes};
 ghost use Rattle.node.specs.NodeText.{body_length};
 ghost use Rattle.node.specs.Turns.{most_body};
@@ -30,9 +30,11 @@ const LENGTH_LEN: u64 = 8;
 
 /// The most bytes of a batch of a plan: those of one of all vertices of partition 0, which has the most.
 pub fn longest_batch(plan: &Plan) -> u64
-    ensures { result ≡ greatest_batch plan.now }
+    ensures value { result ≡ greatest_batch plan.now }
+    ensures few { result ≤ 2 ^ 43 }
 {
-    HEADER_LEN as u64 + u64::from(plan.part_size(0)) * (ID_LEN + plan.width() as u64)
+    let width = plan.width() as u64;
+    HEADER_LEN as u64 + u64::from(plan.part_size(0)) * (ID_LEN + width)
 }
 
 /// The most bytes of a checkpoint of a part: at the last superstep, with the most early batches, each the longest.
@@ -43,7 +45,8 @@ pub fn longest_checkpoint(part: &Part) -> u64
     let size = u64::from(part.size());
     let width = plan.width() as u64;
     let sums = SUM_LEN * (u64::from(plan.limit()) + 1);
-    let early = 3 * (u64::from(plan.parts()) - 1) * (LENGTH_LEN + longest_batch(plan));
+    let others = u64::from(plan.parts()) - 1;
+    let early = 3 * others * (LENGTH_LEN + longest_batch(plan));
     FIXED_LEN + size * (ENTRY_LEN + width) + sums + HELD_LEN + size * width + early
 }
 

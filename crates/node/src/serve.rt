@@ -11,7 +11,9 @@ ghost use Rattle.ball_model.specs.WorldText.{refusal_line};
 ghost use Rattle.node.specs.NodeText.{body_length, command_in, sent_text};
 ghost use Rattle.node.specs.Job.{settings_in};
 ghost use Rattle.node.specs.Serving.{IsNoRequest, IsOfMachine, ReadsRequest, Serves, ServesNode, ServesNone, ServesOne};
-ghost use Rattle.node.specs.Serving.{Steps, Stops};
+ghost use Rattle.node.specs.Serving.{Steps, Stops, StopsNode};
+ghost use Rattle.node.specs.declared.error.JobError.{JobError as NoJob};
+ghost use Rattle.node.specs.declared.error.ServeError.{ServeError as Fault};
 ghost use Rattle.node.specs.Stream.{CutsBody, HasNoEnd};
 ghost use Rattle.node.specs.declared.command.Command.TheVariants as order;
 ghost use Rattle.node.specs.Turns.{Holds, most_body, reply_text};
@@ -69,8 +71,9 @@ fn tell_batch<W: CountedWrite>(
 
 // Writes that there is no such partition to be told anything.
 fn tell_no_target<W: CountedWrite>(line: &mut Vec<u8>, writer: &mut W) -> Result<(), ServeError>
-    ensures { OnOk result (Appends (W.contents writer.old) (W.contents writer.new)
+    ensures done { OnOk result (Appends (W.contents writer.old) (W.contents writer.new)
         (refusal_line WorldError.NoTarget)) }
+    ensures kind { IfErr result IsOfMachine }
 {
     line.clear();
     put_refusal(line, WorldError::NoTarget)?;
@@ -351,8 +354,6 @@ fn read_request<R: CountedRead>(
     ensures none { IfOk result (λ o. IfNone o (IsAtEnd (R.remaining reader.new))) }
     ensures kept { IfOk result (λ o. IfNone o
         (Consumes (R.remaining reader.old) (R.remaining reader.new) [])) }
-    ensures read { result ≡ Err ServeError.Read →
-        Rises (R.failed_calls reader.old) (R.failed_calls reader.new) }
     ensures stopped { IfErr result (λ e. IsNoRequest part.now number e
         (R.remaining reader.old) (R.remaining reader.new)) }
 {
@@ -458,9 +459,17 @@ pub fn serve_node<R: CountedRead, W: CountedWrite>(
     reader: &mut R,
     writer: &mut W,
 ) -> Result<(), NodeError>
-    ensures { OnOk result (ServesNode (settings_in options.now) options.now.counted part
+    ensures served { OnOk result (ServesNode (settings_in options.now) options.now.counted part
         (R.remaining reader.old) (R.remaining reader.new)
         (W.contents writer.old) (W.contents writer.new)) }
+    // What was answered before a request that cannot be read stands.
+    ensures stopped { (e : Fault) → result ≡ Err (NodeError.Serve e) → (IsOfMachine e → ⊥) →
+        StopsNode (settings_in options.now) options.now.counted part e
+        (R.remaining reader.old) (R.remaining reader.new)
+        (W.contents writer.old) (W.contents writer.new) }
+    // Where there is no job nothing is answered.
+    ensures jobless { (e : NoJob) → result ≡ Err (NodeError.Job e) →
+        Keeps (W.contents writer.old) (W.contents writer.new) }
 {
     let (graph, plan) = read_job(alloc, state, options, reader)?;
     let mut session = start(alloc, &graph, &plan, part)?;

@@ -12,7 +12,7 @@ ghost use Rattle.ball_model.specs.Steps.{Take, Close};
 ghost use Rattle.ball_model.specs.World.{closed_answer, taken_answer};
 ghost use Rattle.world.specs.Shows.{Has};
 ghost use Rattle.node.specs.NodeText.{IsDelivered, IsGivenBack};
-ghost use Rattle.node.specs.Turns.{GivesOrWants, Holds, TurnsTo};
+ghost use Rattle.node.specs.Turns.{GivesOrWants, Holds, SaysMerged, TurnsTo};
 ghost use Rattle.node.specs.declared.session.Reply.TheVariants as reply;
 
 use ball_model::world::Answer;
@@ -20,7 +20,7 @@ use ball_model::{CloseError, MemReader, MergeError, Plan, TakeError, Taken};
 use batches::{Batch, BatchError};
 use checkpoint::{KeepError, read_checkpoint};
 use edgelist::Part;
-use replica::{Replica, Shown};
+use replica::{Replica, Shown, Snapshot};
 use std::alloc::{AllocError, Global};
 use std::marker::Model;
 use std::sync::Arc;
@@ -193,7 +193,7 @@ impl Session {
     }
 
     // Takes over what another replica has.
-    fn take_over(&mut self, alloc: Global, mut other: Replica) -> Result<Reply, AllocError>
+    fn take_over(&mut self, alloc: Global, other: Replica) -> Result<Reply, AllocError>
         ensures turned { (j : Job) (p : ℕ) (h c : Holding) → Holds j p h self.old →
             Holds j p c other →
             IfOk result (TurnsTo j p (answer.Merged (join_of h c).superstep) (join_of h c)
@@ -202,14 +202,31 @@ impl Session {
         ensures kind { (e : KeepError) → result ≢ Ok (reply.NoCheckpoint e) }
         ensures refused { OnErr result (self.new ≡ self.old) }
     {
-        let copy = other.snapshot(alloc)?;
-        match self.replica.merge(alloc, &copy) {
-            Ok(()) => Ok(Reply::Answered(Answer::Merged {
-                superstep: self.replica.superstep(),
-            })),
-            Err(error) => unmerged(error),
-        }
+        let copy = snapshot_of(alloc, other)?;
+        self.merge(alloc, &copy)
     }
+
+    // Merges a snapshot.
+    fn merge(&mut self, alloc: Global, copy: &Snapshot) -> Result<Reply, AllocError>
+        ensures turned { (j : Job) (p : ℕ) (h c : Holding) → Holds j p h self.old →
+            Holds j p c copy.now →
+            IfOk result (TurnsTo j p (answer.Merged (join_of h c).superstep) (join_of h c)
+            self.new) }
+        ensures part { self.new.part ≡ self.old.part }
+        ensures kind { (e : KeepError) → result ≢ Ok (reply.NoCheckpoint e) }
+        ensures refused { OnErr result (self.new ≡ self.old) }
+    {
+        let merged = self.replica.merge(alloc, copy);
+        let superstep = self.replica.superstep();
+        answer_to_merge(merged, superstep)
+    }
+}
+
+// A snapshot of a replica, which is let go.
+fn snapshot_of(alloc: Global, mut replica: Replica) -> Result<Snapshot, AllocError>
+    ensures { IfOk result (λ s. s ≡ replica) }
+{
+    replica.snapshot(alloc)
 }
 
 // What is said of bytes that are no batch. The error is that memory was refused.
@@ -234,14 +251,15 @@ fn no_checkpoint(error: KeepError) -> Result<Reply, AllocError>
     }
 }
 
-// What is said where a replica refused to merge. The error is that memory was refused.
-fn unmerged(error: MergeError) -> Result<Reply, AllocError>
-    ensures some { IfOk result (λ r. r ≡ reply.Answered (answer.NotMerged error)) }
-    ensures memory { IfOk result (λ _. error ≢ MergeError.Memory) }
+// What a world answers where a replica that is at that superstep now said this of a merge. The error is that memory was
+// refused.
+fn answer_to_merge(merged: Result<(), MergeError>, superstep: u32) -> Result<Reply, AllocError>
+    ensures { SaysMerged merged superstep result }
 {
-    match error {
-        MergeError::Memory => Err(AllocError),
-        _ => Ok(Reply::Answered(Answer::NotMerged(error))),
+    match merged {
+        Ok(()) => Ok(Reply::Answered(Answer::Merged { superstep })),
+        Err(MergeError::Memory) => Err(AllocError),
+        Err(error) => Ok(Reply::Answered(Answer::NotMerged(error))),
     }
 }
 
@@ -264,7 +282,17 @@ fn read_batch(alloc: Global, plan: &Plan, bytes: &[u8]) -> Result<Arc<Batch>, Ba
     ensures memory { (j : Job) (name : Name) → IsJob j → plan.now ≡ j.plan →
         IsDelivered j bytes.now name → IfErr result (λ e. e ≡ BatchError.Memory) }
 {
-    let batch = Batch::decode(alloc, plan, bytes)?;
+    match Batch::decode(alloc, plan, bytes) {
+        Ok(batch) => shared(alloc, batch),
+        Err(error) => Err(error),
+    }
+}
+
+// A batch, to be shared. The error is that memory was refused.
+fn shared(alloc: Global, batch: Batch) -> Result<Arc<Batch>, BatchError>
+    ensures given { IfOk result (λ b. arc_value b ≡ batch) }
+    ensures memory { IfErr result (λ e. e ≡ BatchError.Memory) }
+{
     match Arc::new(alloc, batch) {
         Ok(batch) => Ok(batch),
         Err(_) => Err(BatchError::Memory),

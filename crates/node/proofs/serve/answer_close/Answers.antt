@@ -16,4 +16,4 @@ returns-clause-step g c = λ network body.
     (λ (told : Appends (g.W.Write.contents c.args.writer.now) (g.W.Write.contents c.tell.new.writer) text).
     steps_told network order.Close body c.args.session.now c.close-answer.new.self text (g.W.Write.contents c.args.writer.now) (g.W.Write.contents c.tell.new.writer) told
     (close_steps network body c.args.session.now c.close-answer.new.self r text refl c.close-answer.ensures.turned))
-    c.tell.ensures
+    c.tell.ensures.done

@@ -4,8 +4,8 @@ use Rattle.ball_model.specs.WorldText.{words_line}
 use Rattle.node.proofs.StepLemmas.{keep_told}
 use Rattle.node.proofs.serve.answer_keep.Goals as goal
 
-pub returns-in-Ok : goal.returns-in-Ok
-returns-in-Ok g c = λ network body.
+pub returns-in-Ok-clause-done : goal.returns-in-Ok-clause-done
+returns-in-Ok-clause-done g c = λ network body.
     keep_told network body c.args.replica.now c.superstep-superstep.result c.checkpoint_length.result c.deref.result.now
     (g.W.Write.contents c.args.writer.now) (g.W.Write.contents c.write_lines.new.writer) (g.W.Write.contents c.write_checkpoint.new.writer)
     c.superstep-superstep.ensures.value c.checkpoint_length.ensures

@@ -13,6 +13,6 @@ returns-clause-step g c = λ network n.
     let text : List ℕ = reply_text r in
     on_ok_weaker c.tell.result
     (λ (told : Appends (g.W.Write.contents c.args.writer.now) (g.W.Write.contents c.tell.new.writer) text).
-    steps_told network (order.Restart n) c.args.body.now c.args.session.now c.restart-reply.new.self text (g.W.Write.contents c.args.writer.now) (g.W.Write.contents c.tell.new.writer) told
-    (restart_steps network n c.args.body.now c.args.session.now c.restart-reply.new.self r text refl c.in_ok-reply.ensures.anew c.in_ok-reply.ensures.turned))
-    c.tell.ensures
+    steps_told network (order.Restart n) c.args.body.now c.args.session.now c.restart.new.self text (g.W.Write.contents c.args.writer.now) (g.W.Write.contents c.tell.new.writer) told
+    (restart_steps network n c.args.body.now c.args.session.now c.restart.new.self r text refl c.in_ok-reply.ensures.anew c.in_ok-reply.ensures.turned))
+    c.tell.ensures.done
