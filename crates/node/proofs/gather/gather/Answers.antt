@@ -15,4 +15,4 @@ returns g c =
       job = c.in_ok-graph.ensures.read;
       gathers = gathers;
     })
-    c.gather_parts.ensures
+    c.gather_parts.ensures.ok
