@@ -10,4 +10,4 @@ returns-clause-served g c = λ is.
     c.args.session.now c.answer.new.session (g.W.Write.contents c.args.writer.now) (g.W.Write.contents c.answer.new.writer) (g.W.Write.contents c.flush.new.writer)
     (at_some _ _ (λ (k : Command). ReadsRequest (g.R.Read.remaining c.args.reader.now) (g.R.Read.remaining c.read_request.new.reader) c.read_request.new.line.items k c.read_request.new.body.items) c.in-Some.is c.in_ok-command.ensures.some)
     (subst (λ (l : List ℕ). Steps c.args.graph.now c.in-Some.command l c.args.session.now c.answer.new.session (g.W.Write.contents c.args.writer.now) (g.W.Write.contents c.answer.new.writer)) c.deref.ensures.value c.in_ok-answer.ensures.step)
-    c.flush.ensures
+    c.flush.ensures.done
