@@ -16,7 +16,9 @@ write_report-requires-clause-graph g c κs within =
 pub returns : goal.returns
 returns g c =
     let j : Job = job_of c.args.graph.now.graph c.args.plan.now in
-    record { ok = gathered j c.args.graph.now.labels (g.R.Read.remaining c.args.reader.now) (g.R.Read.remaining c.read_replicas.new.reader) (g.R.Read.remaining c.read_end.new.reader)
-    (g.W.Write.contents c.args.writer.now) (g.W.Write.contents c.write_report.new.writer) c.in_ok-replicas.replicas.items
-    c.in_ok-replicas.ensures c.in_ok-read_end.ensures.kept c.in_ok-read_end.ensures.end
-    (λ stand. c.in_ok-write_report.ensures.ok j refl (subst (AllStand j) (sym c.deref-2.ensures.value) stand)); }
+    record {
+      ok = gathered j c.args.graph.now.labels (g.R.Read.remaining c.args.reader.now) (g.R.Read.remaining c.read_replicas.new.reader) (g.R.Read.remaining c.read_end.new.reader)
+          (g.W.Write.contents c.args.writer.now) (g.W.Write.contents c.write_report.new.writer) c.in_ok-replicas.replicas.items
+          c.in_ok-replicas.ensures c.in_ok-read_end.ensures.kept c.in_ok-read_end.ensures.end
+          (λ stand. c.in_ok-write_report.ensures.ok j refl (subst (AllStand j) (sym c.deref-2.ensures.value) stand));
+    }
