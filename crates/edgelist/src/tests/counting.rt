@@ -52,65 +52,57 @@ fn first_wrong(rt: &HostRuntime, text: &[u8], lists: &[List<'_>]) -> Option<usiz
     None
 }
 
+// One vertex; all of them, one twice and in another order; none; comments, empty lines and both ends of lines.
+static LISTS: [List<'static>; 5] = [
+    (b"a", b"0", Ok(())),
+    (b"b\nc\na\nb\n", b"012", Ok(())),
+    (b"", b"", Ok(())),
+    (b"# a\n\nc\r\n", b"2", Ok(())),
+    (b"a\n# b", b"0", Ok(())),
+];
+
 #[test]
 fn counted_lists(rt: HostRuntime) {
-    // One vertex; all of them, one twice and in another order; none; comments, empty lines and both ends of lines.
-    let wrong = first_wrong(
-        &rt,
-        TWO_EDGES,
-        &[
-            (b"a", b"0", Ok(())),
-            (b"b\nc\na\nb\n", b"012", Ok(())),
-            (b"", b"", Ok(())),
-            (b"# a\n\nc\r\n", b"2", Ok(())),
-            (b"a\n# b", b"0", Ok(())),
-        ],
-    );
-    assert_eq!(rt; wrong, None);
+    assert_eq!(rt; first_wrong(&rt, TWO_EDGES, &LISTS), None);
 }
+
+// Comments and empty lines have no number, and a refused list leaves all vertices counted.
+static REFUSED: [List<'static>; 6] = [
+    (b"# c\nz", b"012", Err(CountedError::Unknown { number: 1 })),
+    (b"a\tb", b"012", Err(CountedError::Fields { number: 1 })),
+    (
+        b"a\n\n\t\n",
+        b"012",
+        Err(CountedError::Fields { number: 2 }),
+    ),
+    (
+        b"a\nz\na\tb",
+        b"012",
+        Err(CountedError::Unknown { number: 2 }),
+    ),
+    (
+        b"c\na\tb\nz",
+        b"012",
+        Err(CountedError::Fields { number: 2 }),
+    ),
+    (b"a\n \n", b"012", Err(CountedError::Unknown { number: 2 })),
+];
 
 #[test]
 fn refused_lists(rt: HostRuntime) {
-    // Comments and empty lines have no number, and a refused list leaves all vertices counted.
-    let wrong = first_wrong(
-        &rt,
-        TWO_EDGES,
-        &[
-            (b"# c\nz", b"012", Err(CountedError::Unknown { number: 1 })),
-            (b"a\tb", b"012", Err(CountedError::Fields { number: 1 })),
-            (
-                b"a\n\n\t\n",
-                b"012",
-                Err(CountedError::Fields { number: 2 }),
-            ),
-            (
-                b"a\nz\na\tb",
-                b"012",
-                Err(CountedError::Unknown { number: 2 }),
-            ),
-            (
-                b"c\na\tb\nz",
-                b"012",
-                Err(CountedError::Fields { number: 2 }),
-            ),
-            (b"a\n \n", b"012", Err(CountedError::Unknown { number: 2 })),
-        ],
-    );
-    assert_eq!(rt; wrong, None);
+    assert_eq!(rt; first_wrong(&rt, TWO_EDGES, &REFUSED), None);
 }
+
+// Labels that begin alike, with quotes, of bytes that are no text, and of one space.
+static ODD_LISTS: [List<'static>; 2] = [
+    (b"\"x\n\xff\xc0\nab\n", b"024", Ok(())),
+    (b" \nabcdefghijklmn\ny\"\"z\nabc\na", b"13567", Ok(())),
+];
 
 #[test]
 fn lists_of_odd_labels(rt: HostRuntime) {
-    // Labels that begin alike, with quotes, of bytes that are no text, and of one space.
-    let wrong = first_wrong(
-        &rt,
-        b"\"x\ty\"\"z\n\xff\xc0\t \nab\tabc\na\tabcdefghijklmn\n",
-        &[
-            (b"\"x\n\xff\xc0\nab\n", b"024", Ok(())),
-            (b" \nabcdefghijklmn\ny\"\"z\nabc\na", b"13567", Ok(())),
-        ],
-    );
-    assert_eq!(rt; wrong, None);
+    let text = b"\"x\ty\"\"z\n\xff\xc0\t \nab\tabc\na\tabcdefghijklmn\n";
+    assert_eq!(rt; first_wrong(&rt, text, &ODD_LISTS), None);
 }
 
 // The answers to three lists in turn: the second is refused and leaves the first in force, and the third replaces it.
@@ -247,20 +239,21 @@ fn says(alloc: Global, error: CountedError, wanted: &str) -> bool {
     }
 }
 
+static TEXTS: [(CountedError, &str); 3] = [
+    (
+        CountedError::Fields { number: 2 },
+        "record 2 of the list is not one identifier",
+    ),
+    (
+        CountedError::Unknown { number: 3 },
+        "record 3 of the list names no vertex",
+    ),
+    (CountedError::Memory, "out of memory"),
+];
+
 #[test]
 fn counted_error_texts(rt: HostRuntime) {
-    let cases: [(CountedError, &str); 3] = [
-        (
-            CountedError::Fields { number: 2 },
-            "record 2 of the list is not one identifier",
-        ),
-        (
-            CountedError::Unknown { number: 3 },
-            "record 3 of the list names no vertex",
-        ),
-        (CountedError::Memory, "out of memory"),
-    ];
-    for (error, wanted) in cases {
-        assert!(rt; says(rt.alloc(), error, wanted), "{wanted}");
+    for (error, wanted) in &TEXTS {
+        assert!(rt; says(rt.alloc(), *error, wanted), "{wanted}");
     }
 }

@@ -12,7 +12,7 @@ pub(super) fn next(state: &mut u64) -> u64 {
 }
 
 /// Bytes that mean something in an edge list, and some that do not.
-const MARKS: [u8; 16] = *b"\t\t\n\n\n\r#ab,\xff\0\"abb";
+static MARKS: [u8; 16] = *b"\t\t\n\n\n\r#ab,\xff\0\"abb";
 
 // Fills bytes with such ones at random.
 pub(super) fn scatter(bytes: &mut [u8], state: &mut u64) {

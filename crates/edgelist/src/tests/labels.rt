@@ -64,13 +64,13 @@ fn linked(rt: &HostRuntime, labels: &[&[u8]]) -> Option<u32> {
 
 // More labels of one group of guesses than it has entries: each new one drives another out, and every label is looked
 // up again once it was driven out. In whatever groups they are, the graph is the same.
-const CROWD: [&[u8]; 9] = [
+static CROWD: [&[u8]; 9] = [
     b"v25384", b"v28164", b"v28810", b"v32731", b"v35511", b"v42649", b"v45429", b"v49907",
     b"v50997",
 ];
 
 // The same of labels of 11 bytes, the most that are guessed at.
-const LONG_CROWD: [&[u8]; 9] = [
+static LONG_CROWD: [&[u8]; 9] = [
     b"vertex03514",
     b"vertex03813",
     b"vertex11519",

@@ -120,23 +120,21 @@ fn first_other(rt: &HostRuntime, text: &[u8], masks: &[Mask]) -> Option<usize> {
     None
 }
 
+// Vertices 0 to 9, and edges from 0 to 1, 7 and 8, from 8 to 0, and from 9 to 7. Of 8 partitions: vertices 0 and 8, then
+// 1 and 9: partition 7 is that of vertex 7, and partition 0 that of vertex 8. Of 9: vertices 0 and 9, then 8: partition
+// 8 is that of vertex 8.
+static MASKS: [Mask; 7] = [
+    (8, 0, 0, 2, 0b1000_0011),
+    (8, 0, 1, 2, 0b1),
+    (8, 1, 0, 2, 0),
+    (8, 1, 1, 2, 0b1000_0000),
+    (9, 0, 0, 2, 0b1_1000_0010),
+    (9, 0, 1, 2, 0b1000_0000),
+    (9, 8, 0, 1, 0b1),
+];
+
 #[test]
 fn masks_of_8_and_9_partitions(rt: HostRuntime) {
-    // Vertices 0 to 9, and edges from 0 to 1, 7 and 8, from 8 to 0, and from 9 to 7. Of 8 partitions: vertices 0 and 8,
-    // then 1 and 9: partition 7 is that of vertex 7, and partition 0 that of vertex 8. Of 9: vertices 0 and 9, then 8:
-    // partition 8 is that of vertex 8.
-    let other = first_other(
-        &rt,
-        b"a\nb\nc\nd\ne\nf\ng\nh\ni\nj\na\tb\na\th\na\ti\ni\ta\nj\th\n",
-        &[
-            (8, 0, 0, 2, 0b1000_0011),
-            (8, 0, 1, 2, 0b1),
-            (8, 1, 0, 2, 0),
-            (8, 1, 1, 2, 0b1000_0000),
-            (9, 0, 0, 2, 0b1_1000_0010),
-            (9, 0, 1, 2, 0b1000_0000),
-            (9, 8, 0, 1, 0b1),
-        ],
-    );
-    assert_eq!(rt; other, None);
+    let text = b"a\nb\nc\nd\ne\nf\ng\nh\ni\nj\na\tb\na\th\na\ti\ni\ta\nj\th\n";
+    assert_eq!(rt; first_other(&rt, text, &MASKS), None);
 }

@@ -17,27 +17,25 @@ fn first_misread(rt: &HostRuntime, cases: &[(&[u8], &[u8])]) -> Option<usize> {
     None
 }
 
+// Two edges; a comment, both ends of lines, a double and a self-loop; no end of the last line, and a comment in its
+// place; other delimiters; one vertex, and none.
+static LINES: [(&[u8], &[u8]); 8] = [
+    (TWO_EDGES, b"a\nb 0\nc 1\n"),
+    (
+        b"# c\r\na\tb\r\nb\tc\r\na\tb\r\nb\tb\r\n",
+        b"a\nb 0 1\nc 1\n",
+    ),
+    (b"a\tb\nb\tc", b"a\nb 0\nc 1\n"),
+    (b"a\tb\nb\tc\n# end", b"a\nb 0\nc 1\n"),
+    (b"a,b c\n", b"a,b c\n"),
+    (b"x", b"x\n"),
+    (b"", b""),
+    (b"#", b""),
+];
+
 #[test]
 fn lines_and_fields(rt: HostRuntime) {
-    // Two edges; a comment, both ends of lines, a double and a self-loop; no end of the last line, and a comment in
-    // its place; other delimiters; one vertex, and none.
-    let misread = first_misread(
-        &rt,
-        &[
-            (TWO_EDGES, b"a\nb 0\nc 1\n"),
-            (
-                b"# c\r\na\tb\r\nb\tc\r\na\tb\r\nb\tb\r\n",
-                b"a\nb 0 1\nc 1\n",
-            ),
-            (b"a\tb\nb\tc", b"a\nb 0\nc 1\n"),
-            (b"a\tb\nb\tc\n# end", b"a\nb 0\nc 1\n"),
-            (b"a,b c\n", b"a,b c\n"),
-            (b"x", b"x\n"),
-            (b"", b""),
-            (b"#", b""),
-        ],
-    );
-    assert_eq!(rt; misread, None);
+    assert_eq!(rt; first_misread(&rt, &LINES), None);
 }
 
 #[test]
@@ -75,55 +73,61 @@ fn first_wrong(rt: &HostRuntime, cases: &[Refusal<'_>]) -> Option<usize> {
     None
 }
 
+// A comment in place of a last line is not counted among the records.
+static LIMITED: [Refusal<'static>; 7] = [
+    (TWO_EDGES, 3, 2, None),
+    (TWO_EDGES, 2, 9, Some(EdgeError::TooManyVertices)),
+    (b"a\tb\nc\td\n", 2, 9, Some(EdgeError::TooManyVertices)),
+    (b"a\nb\nc\n", 2, 9, Some(EdgeError::TooManyVertices)),
+    (b"a\nb\na\n", 2, 9, None),
+    (TWO_EDGES, 9, 1, Some(EdgeError::TooManyEdges)),
+    (b"a\tb\nb\tc\n# end", 9, 2, None),
+];
+
 #[test]
 fn limits(rt: HostRuntime) {
-    // A comment in place of a last line is not counted among the records.
-    let wrong = first_wrong(
-        &rt,
-        &[
-            (TWO_EDGES, 3, 2, None),
-            (TWO_EDGES, 2, 9, Some(EdgeError::TooManyVertices)),
-            (b"a\tb\nc\td\n", 2, 9, Some(EdgeError::TooManyVertices)),
-            (b"a\nb\nc\n", 2, 9, Some(EdgeError::TooManyVertices)),
-            (b"a\nb\na\n", 2, 9, None),
-            (TWO_EDGES, 9, 1, Some(EdgeError::TooManyEdges)),
-            (b"a\tb\nb\tc\n# end", 9, 2, None),
-        ],
-    );
-    assert_eq!(rt; wrong, None);
+    assert_eq!(rt; first_wrong(&rt, &LIMITED), None);
 }
+
+// The number of records is tested before the fields, and the fields before the number of vertices. Neither comments nor
+// empty lines are numbered; doubles and single labels are.
+static ORDERED: [Refusal<'static>; 4] = [
+    (
+        b"a\tb\nb\tc\t7\n",
+        9,
+        9,
+        Some(EdgeError::Fields { number: 2 }),
+    ),
+    (b"a\tb\nb\tc\t7\n", 9, 1, Some(EdgeError::TooManyEdges)),
+    (
+        b"a\tb\nc\td\t7\n",
+        2,
+        9,
+        Some(EdgeError::Fields { number: 2 }),
+    ),
+    (
+        b"# c\n\na\tb\na\tb\nd\n\n\tc\n",
+        9,
+        9,
+        Some(EdgeError::Fields { number: 4 }),
+    ),
+];
 
 #[test]
 fn order_of_checks(rt: HostRuntime) {
-    // The number of records is tested before the fields, and the fields before the number of vertices. Neither
-    // comments nor empty lines are numbered; doubles and single labels are.
-    let second = Some(EdgeError::Fields { number: 2 });
-    let fourth = Some(EdgeError::Fields { number: 4 });
-    let wrong = first_wrong(
-        &rt,
-        &[
-            (b"a\tb\nb\tc\t7\n", 9, 9, second),
-            (b"a\tb\nb\tc\t7\n", 9, 1, Some(EdgeError::TooManyEdges)),
-            (b"a\tb\nc\td\t7\n", 2, 9, second),
-            (b"# c\n\na\tb\na\tb\nd\n\n\tc\n", 9, 9, fourth),
-        ],
-    );
-    assert_eq!(rt; wrong, None);
+    assert_eq!(rt; first_wrong(&rt, &ORDERED), None);
 }
+
+static EMPTY: [Refusal<'static>; 4] = [
+    (b"\tb\n", 9, 9, Some(EdgeError::Fields { number: 1 })),
+    (b"a\t\n", 9, 9, Some(EdgeError::Fields { number: 1 })),
+    (b"\t", 9, 9, Some(EdgeError::Fields { number: 1 })),
+    (b"a\tb\t\n", 9, 9, Some(EdgeError::Fields { number: 1 })),
+];
 
 #[test]
 fn empty_fields(rt: HostRuntime) {
-    let first = Some(EdgeError::Fields { number: 1 });
-    let wrong = first_wrong(
-        &rt,
-        &[
-            (b"\tb\n", 9, 9, first),
-            (b"a\t\n", 9, 9, first),
-            (b"\t", 9, 9, first),
-            (b"a\tb\t\n", 9, 9, first),
-        ],
-    );
-    assert_eq!(rt; wrong, None);
+    assert_eq!(rt; first_wrong(&rt, &EMPTY), None);
 }
 
 // The number of edges of an edge list with tabs.
@@ -147,20 +151,21 @@ fn says(alloc: Global, error: EdgeError, wanted: &str) -> bool {
     }
 }
 
+static TEXTS: [(EdgeError, &str); 5] = [
+    (EdgeError::Read, "the edge list cannot be read"),
+    (EdgeError::TooManyEdges, "too many records"),
+    (
+        EdgeError::Fields { number: 2 },
+        "record 2 has not one or two identifiers",
+    ),
+    (EdgeError::TooManyVertices, "too many vertices"),
+    (EdgeError::Memory, "out of memory"),
+];
+
 #[test]
 fn error_texts(rt: HostRuntime) {
-    let cases: [(EdgeError, &str); 5] = [
-        (EdgeError::Read, "the edge list cannot be read"),
-        (EdgeError::TooManyEdges, "too many records"),
-        (
-            EdgeError::Fields { number: 2 },
-            "record 2 has not one or two identifiers",
-        ),
-        (EdgeError::TooManyVertices, "too many vertices"),
-        (EdgeError::Memory, "out of memory"),
-    ];
-    for (error, wanted) in cases {
-        assert!(rt; says(rt.alloc(), error, wanted), "{wanted}");
+    for (error, wanted) in &TEXTS {
+        assert!(rt; says(rt.alloc(), *error, wanted), "{wanted}");
     }
 }
 
@@ -306,16 +311,14 @@ fn first_asking(rt: &HostRuntime, stops: &[Stop<'_>]) -> Option<usize> {
     None
 }
 
+// A record is refused once its LF was read, and no call follows: one that would fail is not made.
+static STOPS: [Stop<'static>; 3] = [
+    (b"a\tb\tc\nd\te\n", 9, 6, EdgeError::Fields { number: 1 }),
+    (b"a\tb\n\td\ne\tf\n", 9, 7, EdgeError::Fields { number: 2 }),
+    (b"a\tb\nc\td\ne\tf\n", 1, 8, EdgeError::TooManyEdges),
+];
+
 #[test]
 fn nothing_after_a_refusal(rt: HostRuntime) {
-    // A record is refused once its LF was read, and no call follows: one that would fail is not made.
-    let asking = first_asking(
-        &rt,
-        &[
-            (b"a\tb\tc\nd\te\n", 9, 6, EdgeError::Fields { number: 1 }),
-            (b"a\tb\n\td\ne\tf\n", 9, 7, EdgeError::Fields { number: 2 }),
-            (b"a\tb\nc\td\ne\tf\n", 1, 8, EdgeError::TooManyEdges),
-        ],
-    );
-    assert_eq!(rt; asking, None);
+    assert_eq!(rt; first_asking(&rt, &STOPS), None);
 }
