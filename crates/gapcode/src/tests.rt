@@ -121,7 +121,7 @@ fn refusal(alloc: Global, bytes: &[u8], count: usize, bound: u32) -> Option<Code
 }
 
 // Bytes, how many lists they are read as, the bound, and what refuses them.
-const REFUSED: [(&[u8], usize, u32, CodeError); 15] = [
+static REFUSED: [(&[u8], usize, u32, CodeError); 15] = [
     (&[0x51], 1, 9, CodeError::Padding),
     (&[0x50, 0], 1, 9, CodeError::Trailing),
     (&[0x51, 0], 1, 9, CodeError::Padding),
@@ -369,7 +369,7 @@ fn has_text(alloc: Global, error: CodeError, wanted: &str) -> Result<bool, Fail>
     Ok(text.as_str() == wanted)
 }
 
-const TEXTS: [(CodeError, &str); 6] = [
+static TEXTS: [(CodeError, &str); 6] = [
     (CodeError::Ended, "the bits end within a code"),
     (CodeError::TooLong, "a number has more than 64 bits"),
     (CodeError::Range, "a number is not below the bound"),

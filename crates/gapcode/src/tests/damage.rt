@@ -4,7 +4,7 @@ use super::*;
 
 /// Bytes of lists, how many lists they are, and a bound: lists [], [0] and [1]; list [0, 2, 5]; lists of one great
 /// element.
-const SPELLED: [(&[u8], usize, u32); 4] = [
+static SPELLED: [(&[u8], usize, u32); 4] = [
     (&THREE, 3, 9),
     (&[0x25, 0x30], 1, 6),
     (&[0x40, 0, 0, 0x10, 0, 0, 0], 1, 16_777_216),

@@ -36,7 +36,7 @@ fn are_read_back(alloc: Global) -> Result<bool, CodeError> {
 }
 
 /// The list of the greatest element below the greatest bound.
-const FAR: [u8; 9] = [0x40, 0, 0, 0, 0x3f, 0xff, 0xff, 0xff, 0xc0];
+static FAR: [u8; 9] = [0x40, 0, 0, 0, 0x3f, 0xff, 0xff, 0xff, 0xc0];
 
 // Whether places are kept.
 fn are_kept_far(alloc: Global) -> Result<bool, CodeError> {
