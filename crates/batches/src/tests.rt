@@ -327,7 +327,7 @@ fn text(alloc: Global, error: BatchError) -> Result<String, Fail> {
     Ok(format!(in alloc; "{error}")?)
 }
 
-const TEXTS: [(BatchError, &str); 11] = [
+static TEXTS: [(BatchError, &str); 11] = [
     (BatchError::Short, "too few bytes"),
     (BatchError::Magic, "not a batch"),
     (BatchError::Version, "not of version 1"),
