@@ -70,7 +70,7 @@ fn plan_with(log2m: u8, parts: u16, limit: u32, vertices: u32) -> Result<Plan, P
 }
 
 // Numbers of a plan, and what they are refused for: of two faults, for the one that is checked first.
-const CHECKED: [(u8, u16, u32, u32, Option<PlanError>); 9] = [
+static CHECKED: [(u8, u16, u32, u32, Option<PlanError>); 9] = [
     (3, 0, 1, 0, Some(PlanError::Log2m)),
     (11, 1, 1, 0, Some(PlanError::Log2m)),
     (4, 0, 0, 0, Some(PlanError::Parts)),
@@ -150,7 +150,7 @@ fn more_parts_than_vertices(rt: HostRuntime) -> Result<(), Fail> {
     Ok(())
 }
 
-const TEXTS: [(PlanError, &str); 4] = [
+static TEXTS: [(PlanError, &str); 4] = [
     (PlanError::Log2m, "log2m is not from 4 to 10"),
     (PlanError::Parts, "parts is not from 1 to 64"),
     (PlanError::Limit, "limit is not from 1 to 4096"),
@@ -541,7 +541,7 @@ fn put_in_room(
 }
 
 // The room, the call that fails, whether all is put, the failures, and what is held.
-const IN_ROOM: [(usize, Option<u64>, bool, u64, &[u8]); 5] = [
+static IN_ROOM: [(usize, Option<u64>, bool, u64, &[u8]); 5] = [
     (5, None, true, 0, b"abcde"),
     (5, Some(3), true, 0, b"abcde"),
     (5, Some(2), false, 1, b"ab"),
@@ -551,10 +551,10 @@ const IN_ROOM: [(usize, Option<u64>, bool, u64, &[u8]); 5] = [
 
 // The first room that takes otherwise.
 fn first_otherwise(alloc: Global) -> Result<Option<usize>, AllocError> {
-    for (room, fails_at, all, failures, held) in IN_ROOM {
-        let (told, bytes) = put_in_room(alloc, room, fails_at)?;
-        if told != (all, true, failures) || bytes.as_slice() != held {
-            return Ok(Some(room));
+    for (room, fails_at, all, failures, held) in &IN_ROOM {
+        let (told, bytes) = put_in_room(alloc, *room, *fails_at)?;
+        if told != (*all, true, *failures) || bytes.as_slice() != *held {
+            return Ok(Some(*room));
         }
     }
     Ok(None)
