@@ -232,14 +232,14 @@ fn three_tallies() -> [Tally; 3] {
 }
 
 // The figures of three vertices with those tallies, whose rows differ too; the estimates are the tallies'.
-const THREE: [(u64, u64, u64, u128, u32); 3] = [
+static THREE: [(u64, u64, u64, u128, u32); 3] = [
     (0, 0, 0, 1_000_000, 16),
     (5, 0, 0, 1_000_000, 15),
     (11_680_542, 382_969, 2_611_177, 356_256_149, 14),
 ];
 
 // The same, of the raw estimates of the rows.
-const RAW_THREE: [(u64, u64, u64, u128, u32); 3] = [
+static RAW_THREE: [(u64, u64, u64, u128, u32); 3] = [
     (10_768_000, 0, 0, 1_000_000, 16),
     (11_390_942, 0, 0, 1_000_000, 15),
     (11_680_542, 382_969, 2_611_177, 356_256_149, 14),
