@@ -69,7 +69,7 @@ vertex,g,14.981565,1.491561,0.067351,15.116905,9
 vertex,h,16.026790,1.470800,0.046512,11.947143,8
 ";
 
-const WORKED: [Worked; 4] = [
+static WORKED: [Worked; 4] = [
     (b"x\n", 1, LONE_VERTEX),
     (b"a\tb\nb\ta\n", 2, TWO_CYCLE),
     (b"x,y\tq\"\n", 2, QUOTED_LABELS),
@@ -296,7 +296,7 @@ fn ready_together<H: AllocGlobal + RandomSource>(
 
 // The limit and the superstep of the first and of the second replica, and whether they are ready together: of one plan
 // at the end they are; of two plans, before the end, or at two supersteps they are not.
-const TOGETHER: [((u32, u32), (u32, u32), bool); 6] = [
+static TOGETHER: [((u32, u32), (u32, u32), bool); 6] = [
     ((4096, 3), (4096, 3), true),
     ((3, 3), (3, 3), true),
     ((4096, 3), (3, 3), false),
@@ -375,7 +375,7 @@ fn two_edges_in<H: AllocGlobal + RandomSource + Threads + Sync>(
 }
 
 // The report goes out in two pieces, and a failure of either is told.
-const CALLS: [(u32, Result<(), ReportError>); 3] = [
+static CALLS: [(u32, Result<(), ReportError>); 3] = [
     (0, Err(ReportError::Write)),
     (1, Err(ReportError::Write)),
     (2, Ok(())),
@@ -394,7 +394,7 @@ fn prints<H: AllocGlobal>(rt: &H, error: ReportError, text: &str) -> Option<bool
     Some(told.as_str() == text)
 }
 
-const TEXTS: [(ReportError, &str); 2] = [
+static TEXTS: [(ReportError, &str); 2] = [
     (ReportError::Memory, "out of memory"),
     (ReportError::Write, "the output cannot be written"),
 ];
