@@ -17,7 +17,7 @@ fn next(state: &mut u64) -> u64 {
 }
 
 /// Lines for two partitions of two replicas, of which some name what may not be there.
-const LINES: [&[u8]; 32] = [
+static LINES: [&[u8]; 32] = [
     b"send 0.0 1\n",
     b"send 0.0 1\n",
     b"send 0.1 1\n",
@@ -53,7 +53,7 @@ const LINES: [&[u8]; 32] = [
 ];
 
 /// Bytes that mean something in a script, and some that do not.
-const MARKS: [u8; 16] = *b"\n\n \r#.01019sdk\0\xff";
+static MARKS: [u8; 16] = *b"\n\n \r#.01019sdk\0\xff";
 
 // Puts up to 24 lines into a script.
 fn fill(script: &mut Vec<u8>, state: &mut u64) -> Result<(), AllocError> {
