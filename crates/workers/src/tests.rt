@@ -8,12 +8,14 @@ mod schedules;
 mod texts;
 
 ghost use Rattle.std.specs.Prelude.{◌≡◌, ◌<◌, ◌≤◌, IfSome};
-ghost use Rattle.ball_model.specs.Job.{IsJob, job_of};
+ghost use Rattle.std.specs.Arc.{arc_value};
+ghost use Rattle.ball_model.specs.Caller.{IsCaller};
+ghost use Rattle.ball_model.specs.Job.{IsJob, job_of, part_of};
 ghost use Rattle.board.specs.Seats.{least_entries, most_entries};
 
 use super::*;
 use ball_model::{CountingReader, NodeId, Plan, Verdict};
-use edgelist::{Delimiter, EdgeLimits, Graph, read_edges};
+use edgelist::{Delimiter, EdgeLimits, Graph, Part, read_edges};
 use replica::Shown;
 use std::alloc::{AllocGlobal, Global};
 use std::hash::RandomState;
@@ -49,6 +51,50 @@ enum Outcome {
     NoMemory,
 }
 
+/// The part of a partition, as threads share it.
+fn shared_part(alloc: Global, graph: &Graph, plan: &Plan, p: u16) -> Option<Arc<Part>>
+    requires job { IsJob (job_of graph.now.graph plan.now) }
+    requires part { p < plan.now.parts }
+    ensures { IfSome result (λ part. arc_value part ≡ part_of (job_of graph.now.graph plan.now) p) }
+{
+    let Ok(part) = graph.part(alloc, plan, p) else {
+        return None;
+    };
+    let Ok(shared) = Arc::new(alloc, part) else {
+        return None;
+    };
+    Some(shared)
+}
+
+/// How a node ends, as plain data.
+fn outcome_of(end: &Result<NodeEnd, NodeError>) -> Outcome {
+    match end {
+        Ok(end) => told(end),
+        Err(NodeError::BookFull) => Outcome::Full,
+        Err(NodeError::Memory) => Outcome::NoMemory,
+    }
+}
+
+/// How a node of the job ends at a board of its own.
+fn runs_at<R: AllocGlobal + Wait, G: Gate>(
+    rt: &R,
+    exchange: &mut MemoryExchange,
+    graph: &Graph,
+    plan: &Plan,
+    node: NodeId,
+    part: Arc<Part>,
+    orders: &NodeOrders,
+    gate: &G,
+) -> Outcome
+    requires caller { IsCaller exchange.old.seat.caller }
+    requires seen { exchange.old.seat.caller.seen.job ≡ job_of graph.now.graph plan.now }
+    requires job { IsJob (job_of graph.now.graph plan.now) }
+    requires node { node.part < plan.now.parts }
+    requires part { arc_value part ≡ part_of (job_of graph.now.graph plan.now) node.part }
+{
+    outcome_of(&run_node(rt, exchange, gate, node, part, orders))
+}
+
 /// How a node of the job ends that is alone at a board of so many entries.
 fn alone<R: AllocGlobal + Wait, G: Gate>(
     rt: &R,
@@ -63,21 +109,13 @@ fn alone<R: AllocGlobal + Wait, G: Gate>(
     requires node { node.part < plan.now.parts }
     requires entries { (least_entries ≤ entries) × (entries ≤ most_entries) }
 {
-    let alloc = rt.alloc();
-    let Ok(mut exchange) = MemoryExchange::open(alloc, graph, plan, entries) else {
+    let Some(part) = shared_part(rt.alloc(), graph, plan, node.part) else {
         return Outcome::NoMemory;
     };
-    let Ok(part) = graph.part(alloc, plan, node.part) else {
+    let Ok(mut exchange) = MemoryExchange::open(rt.alloc(), graph, plan, entries) else {
         return Outcome::NoMemory;
     };
-    let Ok(part) = Arc::new(alloc, part) else {
-        return Outcome::NoMemory;
-    };
-    match run_node(rt, &mut exchange, gate, node, part, orders) {
-        Ok(end) => told(&end),
-        Err(NodeError::BookFull) => Outcome::Full,
-        Err(NodeError::Memory) => Outcome::NoMemory,
-    }
+    runs_at(rt, &mut exchange, graph, plan, node, part, orders, gate)
 }
 
 /// An end as plain data.
