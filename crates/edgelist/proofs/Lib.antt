@@ -7,6 +7,8 @@ pub mod FaultLemmas
 pub mod LineLemmas
 pub mod RecordLemmas
 pub mod LoopLemmas
+pub mod PieceLemmas
+pub mod GivenLemmas
 pub mod FindLemmas
 pub mod CountLemmas
 pub mod LinksLemmas

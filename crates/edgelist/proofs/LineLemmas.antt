@@ -42,7 +42,7 @@ rows-reached cfg s xs (r ∷ rs) t ys h =
     rows-next cfg s [] [] xs ∙ rw (h.1, h.2) (ap (λ (l : List (List (List ℕ))). h.0.0 ∷ l) (rows-reached cfg h.0.1 h.0.2 rs t ys h.3))
 
 -- a text has a first line, and a line a first field
-lines-some : (xs : List ℕ) → (h : List ℕ) × (t : List (List ℕ)) × (lines xs ≡ h ∷ t)
+pub lines-some : (xs : List ℕ) → (h : List ℕ) × (t : List (List ℕ)) × (lines xs ≡ h ∷ t)
 unfolding lines
 lines-some [] = ([], [], refl)
 lines-some (c ∷ rest) = elim (cases_Bool (c == 10)) [

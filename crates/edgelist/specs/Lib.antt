@@ -11,3 +11,5 @@ pub mod Counting
 pub mod Planning
 pub mod Laws
 pub mod Feeding
+pub mod Pieces
+pub mod Given

@@ -12,6 +12,8 @@
 //! let plan = graph.plan(8, 0, 1, 4096)?;
 //! let part = graph.part(alloc, &plan, 0)?;
 //! ```
+//!
+//! Where something follows the edge list, its reader gives the bytes of the edge list to an [`EdgeReader`].
 #![tactic(auto)]
 
 mod build;
@@ -26,6 +28,7 @@ mod lists;
 mod masks;
 mod numbering;
 mod part;
+mod pieces;
 mod read;
 mod records;
 
@@ -33,6 +36,7 @@ pub use counting::CountedError;
 pub use graph::Graph;
 pub use lists::Preds;
 pub use part::Part;
+pub use pieces::EdgeReader;
 pub use read::{Delimiter, EdgeError, EdgeLimits, MOST_RECORDS, read_edges};
 
 #[cfg(test)]

@@ -89,7 +89,7 @@ pub const MOST_RECORDS: u64 = 67_108_864;
 
 // The labels so far, numbered by first appearance, and the edges.
 #[derive(Drop)]
-struct Reading {
+pub(crate) struct Reading {
     labels: Numbering,
     edges: Vec<Edge>,
 }
@@ -118,7 +118,10 @@ fn fields_in<'a>(row: &'a ByteRecord) -> Option<(&'a [u8], Option<&'a [u8]>)>
 }
 
 // Reads one record more, and tells whether there was one.
-fn next_row<R: Read + Drop>(reader: &mut Reader<R>, row: &mut ByteRecord) -> Result<bool, EdgeError>
+pub(crate) fn next_row<R: Read + Drop>(
+    reader: &mut Reader<R>,
+    row: &mut ByteRecord,
+) -> Result<bool, EdgeError>
     ensures one { IfOk result (λ more. more ≡ true →
         ReadsOne R.remaining reader.old reader.new (fields_of row.new)) }
     ensures end { IfOk result (λ more. more ≡ false →
@@ -139,7 +142,7 @@ fn push_edge(edges: &mut Vec<Edge>, target: u32, source: u32) -> Result<(), Allo
 
 impl Reading {
     // No labels and no edges.
-    fn new(alloc: Global, state: RandomState) -> Result<Reading, AllocError>
+    pub(crate) fn new(alloc: Global, state: RandomState) -> Result<Reading, AllocError>
         ensures labels { IfOk result (λ r. r.labels ≡ []) }
         ensures edges { IfOk result (λ r. r.edges.items ≡ []) }
     {
@@ -198,7 +201,7 @@ impl Reading {
     }
 
     // Adds the record that follows `number` others.
-    fn add(
+    pub(crate) fn add(
         &mut self,
         alloc: Global,
         row: &ByteRecord,
@@ -264,7 +267,7 @@ impl Reading {
     }
 
     // The graph that was read. The set of labels is gone before the edges are sorted.
-    fn into_graph(self, alloc: Global) -> Result<Graph, AllocError>
+    pub(crate) fn into_graph(self, alloc: Global) -> Result<Graph, AllocError>
         requires within { AreWithin most_vertices most_records self.labels self.edges.items }
         ensures graph { IfOk result (λ g.
             g.graph ≡ graph_of_edges (length self.labels) self.edges.items) }

@@ -5,10 +5,14 @@ mod counting;
 mod damage;
 mod labels;
 mod parts;
+mod pieces;
 mod reading;
 mod refusals;
 
-use crate::{CountedError, Delimiter, EdgeError, EdgeLimits, Graph, Part, Preds, laws, read_edges};
+use crate::{
+    CountedError, Delimiter, EdgeError, EdgeLimits, EdgeReader, Graph, Part, Preds, laws,
+    read_edges,
+};
 use ball_model::{CountingReader, PlanError};
 use std::alloc::{AllocError, Global};
 use std::hash::RandomState;

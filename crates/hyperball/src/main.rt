@@ -21,6 +21,7 @@
 #![tactic(auto)]
 
 pub mod laws;
+pub mod node_words;
 pub mod options;
 pub mod orders;
 pub mod progress;
@@ -33,7 +34,7 @@ pub mod whole;
 pub mod words;
 
 use ball_model::{CountingReader, CountingWriter};
-use std::io::{IsTerminal, Write};
+use std::io::{BufReader, IsTerminal, Write};
 use std::process::ExitCode;
 use std::{env, io};
 
@@ -58,7 +59,11 @@ fn main(rt: HostRuntime) -> ExitCode {
         Err(error) => return ExitCode::from(serve::tell_fault(&mut faults, error)),
     };
     tell_terminal(&rt, &words);
-    let mut reader = CountingReader::new(rt.stdin());
+    let stdin = match BufReader::new(rt.alloc(), rt.stdin()) {
+        Ok(stdin) => stdin,
+        Err(error) => return ExitCode::from(serve::tell_fault(&mut faults, error)),
+    };
+    let mut reader = CountingReader::new(stdin);
     let mut writer = CountingWriter::new(rt.stdout());
     let status = serve::serve(&rt, &words, &mut reader, &mut writer, &mut faults);
     ExitCode::from(status)

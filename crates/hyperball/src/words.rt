@@ -19,13 +19,17 @@ ghost use Rattle.hyperball.specs.Orders.{AreOrders};
 ghost use Rattle.hyperball.specs.Words.{AreListed, AreOptionsOf, AreOrdersIn, FailsWith, GivesOrders};
 ghost use Rattle.hyperball.specs.Words.{HasFaults, HasOrders, IsRun, IsRunOf, ParsesTo, SaysListed};
 ghost use Rattle.hyperball.specs.Words.{AsksProgress, GivesProgress, IsFlag, SaysOrders};
-ghost use Rattle.hyperball.specs.Words.{tells_progress};
+ghost use Rattle.hyperball.specs.Words.{SaysProgress};
+ghost use Rattle.hyperball.specs.Nodes.{AsksNode, IsGather, IsGatherOf, IsNode, IsNodeOf, NamesNode};
+ghost use Rattle.hyperball.specs.declared.node_words.NodeWords.{NodeWords as Noded};
+ghost use Rattle.node.specs.declared.job.JobOptions.{JobOptions as Gathered};
 ghost use Rattle.hyperball.specs.Words.{delimiter_name, estimate_name, texts_of};
 ghost use Rattle.ball_model.specs.declared.plan.Estimate.{Estimate as Made};
 ghost use Rattle.ball_model.specs.declared.plan.Estimate.TheVariants.{Raw};
 ghost use Rattle.edgelist.specs.declared.read.Delimiter.{Delimiter as Between};
 ghost use Rattle.edgelist.specs.declared.read.Delimiter.TheVariants.{Tab};
 
+use crate::node_words::{NodeWords, gather_command, job_options_of, node_command, node_words_of};
 use crate::options::{Options, Orders, USUAL};
 use crate::orders::{OrdersError, orders_in};
 use crate::replay_words::{ReplayWords, replay_command, replay_words_of};
@@ -33,6 +37,7 @@ use ball_model::{Estimate, NodeId};
 use clap::builder::ValueParser;
 use clap::{Arg, ArgAction, ArgMatches, Command, Error, value_parser};
 use edgelist::Delimiter;
+use node::job::JobOptions;
 use std::alloc::{AllocError, Global};
 
 /// The names that `--delimiter` takes.
@@ -302,7 +307,11 @@ pub fn command<'a>(alloc: Global) -> Result<Command<'a>, AllocError>
     let between = delimiters();
     let top = with_run(alloc, ways, between)?;
     let replay = replay_command(alloc, ways, between)?;
-    top.subcommand(replay)
+    let top = top.subcommand(replay)?;
+    let node = node_command(alloc, ways, between)?;
+    let top = top.subcommand(node)?;
+    let gather = gather_command(alloc, ways, between)?;
+    top.subcommand(gather)
 }
 
 // The words, as the program's command reads them.
@@ -413,6 +422,10 @@ pub enum Wish {
     Run(Said),
     /// A replay.
     Replay(ReplayWords),
+    /// A node of a partition.
+    Node(NodeWords),
+    /// The report of checkpoints.
+    Gather(JobOptions),
 }
 
 /// Why words are no command.
@@ -457,15 +470,23 @@ fn wish_of(alloc: Global, matches: &ArgMatches<'_>) -> Result<Wish, WordsError>
         result ≡ Ok (Wish.Replay w) }
     ensures asks { (w : Replayed) → result ≡ Ok (Wish.Replay w) →
         NamesReplay (subcommand_rows_of matches.now) }
+    ensures node { (w : Noded) → IsNodeOf (subcommand_rows_of matches.now) w →
+        result ≡ Ok (Wish.Node w) }
+    ensures gather { (o : Gathered) → IsGatherOf (subcommand_rows_of matches.now) o →
+        result ≡ Ok (Wish.Gather o) }
+    ensures names_node { (w : Noded) → result ≡ Ok (Wish.Node w) →
+        NamesNode (subcommand_rows_of matches.now) }
     ensures orders { IfOk result (SaysListed (subcommand_rows_of matches.now)) }
     ensures progress { (b : Bool) → GivesProgress (subcommand_rows_of matches.now) b →
-        IfOk result (λ wish. tells_progress wish ≡ b) }
+        IfOk result (SaysProgress b) }
     ensures none { FailsWith [] result }
     ensures form { result ≡ Err (WordsError.Orders OrdersError.Form) →
         GivesOrders (subcommand_rows_of matches.now) }
 {
     match matches.subcommand().unwrap() {
         ("replay", inner) => Ok(Wish::Replay(replay_words_of(inner))),
+        ("node", inner) => Ok(Wish::Node(node_words_of(inner))),
+        ("gather", inner) => Ok(Wish::Gather(job_options_of(inner))),
         _ => match run_words(alloc, matches) {
             Ok(said) => Ok(Wish::Run(said)),
             Err(error) => Err(error),
@@ -480,9 +501,14 @@ pub fn read_words(alloc: Global, words: &[String]) -> Result<Wish, WordsError>
     ensures replay { (w : Replayed) → IsReplay (texts_of words.now) w →
         IfOk result (λ wish. wish ≡ Wish.Replay w) }
     ensures asks { (w : Replayed) → result ≡ Ok (Wish.Replay w) → AsksReplay (texts_of words.now) }
+    ensures node { (w : Noded) → IsNode (texts_of words.now) w →
+        IfOk result (λ wish. wish ≡ Wish.Node w) }
+    ensures gather { (o : Gathered) → IsGather (texts_of words.now) o →
+        IfOk result (λ wish. wish ≡ Wish.Gather o) }
+    ensures asks_node { (w : Noded) → result ≡ Ok (Wish.Node w) → AsksNode (texts_of words.now) }
     ensures orders { IfOk result (SaysOrders (texts_of words.now)) }
     ensures progress { (b : Bool) → AsksProgress (texts_of words.now) b →
-        IfOk result (λ wish. tells_progress wish ≡ b) }
+        IfOk result (SaysProgress b) }
     ensures faults { (kinds : List Kind) → HasFaults (texts_of words.now) kinds →
         FailsWith kinds result }
     ensures form { result ≡ Err (WordsError.Orders OrdersError.Form) →

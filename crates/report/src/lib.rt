@@ -9,14 +9,17 @@
 //! ```
 //!
 //! [`report_ready`] says whether replicas are at the end of their run, and [`write_report`] writes their report.
+//! [`totals_text`] and [`figures_text`] give lines of it alone.
 #![tactic(auto)]
 
 pub mod laws;
 mod lines;
+mod own;
 mod parts;
 mod ready;
 mod write;
 
+pub use own::{figures_text, totals_text};
 pub use ready::report_ready;
 pub use write::{ReportError, write_report};
 

@@ -95,7 +95,7 @@ pub(crate) fn figures<T: AllocGlobal + Threads + Sync>(
 }
 
 // The rows of all supersteps.
-fn put_supersteps(rows: &mut Writer<Vec<u8>>, totals: &[u128]) -> Result<(), AllocError>
+pub(crate) fn put_supersteps(rows: &mut Writer<Vec<u8>>, totals: &[u128]) -> Result<(), AllocError>
     requires { AtRow rows.old }
     ensures row { OnOk result (AtRow rows.new) }
     ensures text { OnOk result (Adds rows.old rows.new (superstep_lines totals.now)) }

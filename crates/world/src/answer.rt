@@ -38,8 +38,8 @@ fn put_spaced(line: &mut Vec<u8>, words: &[&[u8]]) -> Result<(), AllocError>
     Ok(())
 }
 
-// Adds a line of words.
-fn put_line(line: &mut Vec<u8>, first: &[u8], words: &[&[u8]]) -> Result<(), AllocError>
+/// Adds a line of words.
+pub fn put_line(line: &mut Vec<u8>, first: &[u8], words: &[&[u8]]) -> Result<(), AllocError>
     ensures { OnOk result (line.new.items ≡
         line.old.items ++ words_line (first.now ∷ map (λ word. word.now) words.now)) }
 {
@@ -110,7 +110,7 @@ fn put_unmerged(line: &mut Vec<u8>, error: MergeError) -> Result<(), AllocError>
 }
 
 /// Adds the line of a refused event. Want of memory has none.
-pub(crate) fn put_refusal(line: &mut Vec<u8>, error: WorldError) -> Result<(), AllocError>
+pub fn put_refusal(line: &mut Vec<u8>, error: WorldError) -> Result<(), AllocError>
     ensures { OnOk result (line.new.items ≡ line.old.items ++ refusal_line error) }
 {
     let refused = b"refused".as_slice();
@@ -165,7 +165,7 @@ fn put_copied(line: &mut Vec<u8>, copy: u64, superstep: u32) -> Result<(), Alloc
 }
 
 /// Adds the line of an answer. A node that is looked at has lines of its own.
-pub(crate) fn put_answer(line: &mut Vec<u8>, answer: Answer) -> Result<(), AllocError>
+pub fn put_answer(line: &mut Vec<u8>, answer: Answer) -> Result<(), AllocError>
     ensures { (j : Job) (w : Defined) (e : Happening) → answer ≢ told.Shown →
         OnOk result (line.new.items ≡ line.old.items ++ answer_text j w e answer) }
 {
@@ -244,7 +244,7 @@ fn put_names(line: &mut Vec<u8>, replica: &Replica) -> Result<(), AllocError>
 }
 
 /// Adds the line of a node: its superstep, its verdict, and the names that it holds.
-pub(crate) fn put_node(line: &mut Vec<u8>, id: NodeId, replica: &Replica) -> Result<(), AllocError>
+pub fn put_node(line: &mut Vec<u8>, id: NodeId, replica: &Replica) -> Result<(), AllocError>
     ensures { (j : Job) (h : Holding) → HasHolding j h replica.now →
         OnOk result (line.new.items ≡ line.old.items ++ node_line j id h) }
 {
@@ -302,7 +302,7 @@ fn put_row(line: &mut Vec<u8>, x: u32, tally: Tally, row: &[u8]) -> Result<(), A
 }
 
 /// Adds the line of vertex `x`, which the replica's partition owns.
-pub(crate) fn put_vertex(line: &mut Vec<u8>, replica: &Replica, x: u32) -> Result<(), AllocError>
+pub fn put_vertex(line: &mut Vec<u8>, replica: &Replica, x: u32) -> Result<(), AllocError>
     requires vertex { x < replica.now.part.plan.vertices }
     requires own { x % replica.now.part.plan.parts ≡ replica.now.part.number }
     ensures { (j : Job) (h : Holding) → HasHolding j h replica.now →

@@ -25,15 +25,15 @@
 //! refused; then the world is as it was.
 #![tactic(auto)]
 
-mod answer;
+pub mod answer;
 mod bytes;
 pub mod laws;
 mod message;
 mod node;
 pub mod replay;
-mod script;
+pub mod script;
 mod start;
-mod tell;
+pub mod tell;
 pub mod watch;
 mod world;
 

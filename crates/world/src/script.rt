@@ -35,8 +35,8 @@ impl From<AllocError> for ScriptError {
     }
 }
 
-// What stands before the first such byte, and what follows it.
-fn cut(byte: u8, text: &[u8]) -> Option<(&[u8], &[u8])>
+/// What stands before the first such byte, and what follows it.
+pub fn cut(byte: u8, text: &[u8]) -> Option<(&[u8], &[u8])>
     ensures { option_map (λ s. (s.0.now, s.1.now)) result ≡ cut_of byte text.now }
 {
     for i in 0..text.len() {
@@ -70,8 +70,8 @@ fn number(word: &[u8]) -> Option<u64>
     }
 }
 
-// The number of a partition.
-fn part(word: &[u8]) -> Option<u16>
+/// The number of a partition.
+pub fn part(word: &[u8]) -> Option<u16>
     ensures { result ≡ part_in word.now }
 {
     match number(word) {

@@ -24,7 +24,7 @@ use std::alloc::{AllocError, Global};
 
 /// Why not all answers are written.
 #[derive(Clone, Copy, Debug, PartialEq, Eq)]
-pub(crate) enum TellError {
+pub enum TellError {
     /// Memory was refused.
     Memory,
     /// A write failed.
@@ -41,8 +41,8 @@ impl From<AllocError> for TellError {
     }
 }
 
-// Writes lines.
-fn write_lines<W: CountedWrite>(writer: &mut W, lines: &[u8]) -> Result<(), TellError>
+/// Writes lines.
+pub fn write_lines<W: CountedWrite>(writer: &mut W, lines: &[u8]) -> Result<(), TellError>
     ensures { Tells W.contents W.failed_calls writer.old writer.new lines.now result }
 {
     if put_all(writer, lines) {
@@ -104,8 +104,8 @@ fn tell_head<W: CountedWrite>(
     write_lines(writer, line)
 }
 
-// Tells a node: its line, and a line for each of its vertices.
-fn tell_replica<W: CountedWrite>(
+/// Tells a node: its line, and a line for each of its vertices.
+pub fn tell_replica<W: CountedWrite>(
     id: NodeId,
     replica: &Replica,
     line: &mut Vec<u8>,

@@ -284,7 +284,7 @@ fn node(part: u16, replica: u8) -> NodeId {
 fn is_said(wish: &Wish) -> bool {
     match wish {
         Wish::Run(said) => is_run(said),
-        Wish::Replay(_) => false,
+        Wish::Replay(_) | Wish::Node(_) | Wish::Gather(_) => false,
     }
 }
 

@@ -1,0 +1,153 @@
+-- What of an edge list is read some lines at a time.
+use Rattle.std.proofs.Common.{◌≡◌, ◌∙◌, ◌+◌, ℕ, List, [], ◌∷◌, ◌++◌, false, ◌==◌, arith, ap, refl, sym, subst, append_assoc, inl, inr, map, Ok}
+use Rattle.std.specs.Prelude.{Option}
+use Rattle.std.specs.List.{filter}
+use Rattle.std.proofs.lemmas.Bool.{cases_Bool}
+use Rattle.std.proofs.lemmas.List.{append-nil, length-append, map-append}
+use Rattle.std.proofs.lemmas.List.Elements.{filter-append}
+use Rattle.csv.specs.declared.reader.Reader.{Reader}
+use Rattle.ball_model.specs.Input.{HasLfs, IsPlain, Limits, StartsWithLf, fields, has_mark, is_record, lines, network_from, records}
+use Rattle.edgelist.specs.Pieces.{EndsLine, IsHeld, IsThrough}
+use Rattle.edgelist.specs.Records.{IsLeft, config, is_row, rows}
+use Rattle.edgelist.specs.Reading.{Adds, Refuses, Stops, network_by}
+use Rattle.edgelist.specs.declared.edge.Edge.{Edge}
+use Rattle.edgelist.specs.declared.read.EdgeError.{EdgeError}
+use Rattle.edgelist.proofs.FaultLemmas.{clean-more, clean-none, says-network, says-refusal}
+use Rattle.edgelist.proofs.LineLemmas.{lines-some}
+use Rattle.edgelist.proofs.NetworkLemmas.{read-none}
+
+abbrev Records : Type 0
+Records = List (List (List ℕ))
+
+-- ---- records of more than one piece
+
+pub through-none : (limits : Limits) → IsThrough limits 0 [] [] []
+through-none limits = record { count = refl; so = read-none; clean = clean-none limits }
+
+-- a record more that was added
+pub through-more : (limits : Limits) (n : ℕ) (rs : Records) (f : List (List ℕ)) (labels labels' : List (List ℕ)) (edges edges' : List Edge) →
+    IsThrough limits n rs labels edges → Adds limits n f labels edges labels' edges' → IsThrough limits (n + 1) (rs ++ f ∷ []) labels' edges'
+through-more limits n rs f labels labels' edges edges' t adds = record {
+  count = omega (arith, length-append rs (f ∷ []), t.count);
+  so = adds.reads rs t.so;
+  clean = clean-more limits rs f t.clean (rw t.count (adds.passes rs t.count t.so));
+}
+
+-- some records of a text were read after others
+pub record Runs {R : Type 0} (rem : R → Option (List ℕ)) (d : ℕ) (limits : Limits) (n : ℕ) (before : Records) (text : List ℕ) (rdr : Reader R) (labels : List (List ℕ)) (edges : List Edge) : Type 0 where
+  pub past : Records
+  pub at : IsLeft rem d text past rdr
+  pub through : IsThrough limits n (before ++ past) labels edges
+
+pub runs-start : {R : Type 0} (rem : R → Option (List ℕ)) (d : ℕ) (limits : Limits) (n : ℕ) (before : Records) (text : List ℕ) (rdr : Reader R) (labels : List (List ℕ)) (edges : List Edge) →
+    IsLeft rem d text [] rdr → IsThrough limits n before labels edges → Runs rem d limits n before text rdr labels edges
+runs-start rem d limits n before text rdr labels edges at t = record {
+  past = [];
+  at = at;
+  through = subst (λ (rs : Records). IsThrough limits n rs labels edges) (sym (append-nil before)) t;
+}
+
+pub runs-more : {R : Type 0} (rem : R → Option (List ℕ)) (d : ℕ) (limits : Limits) (n : ℕ) (before : Records) (text : List ℕ) (a b : Reader R) (labels labels' : List (List ℕ)) (edges edges' : List Edge) (f : List (List ℕ)) (runs : Runs rem d limits n before text a labels edges) →
+    IsLeft rem d text (runs.past ++ f ∷ []) b → Adds limits n f labels edges labels' edges' → Runs rem d limits (n + 1) before text b labels' edges'
+runs-more rem d limits n before text a b labels labels' edges edges' f runs at adds = record {
+  past = runs.past ++ f ∷ [];
+  at = at;
+  through = subst (λ (rs : Records). IsThrough limits (n + 1) rs labels' edges') (append_assoc before runs.past (f ∷ []))
+      (through-more limits n (before ++ runs.past) f labels labels' edges edges' runs.through adds);
+}
+
+pub runs-end : {R : Type 0} (rem : R → Option (List ℕ)) (d : ℕ) (limits : Limits) (n : ℕ) (before : Records) (text : List ℕ) (a : Reader R) (labels : List (List ℕ)) (edges : List Edge) (runs : Runs rem d limits n before text a labels edges) →
+    records d text ≡ runs.past → IsThrough limits n (before ++ records d text) labels edges
+runs-end rem d limits n before text a labels edges runs whole =
+    subst (λ (rs : Records). IsThrough limits n (before ++ rs) labels edges) (sym whole) runs.through
+
+-- three lists behind one another
+four : (a b c d e : Records) → a ++ (((b ++ c) ++ d) ++ e) ≡ (a ++ b) ++ (c ++ (d ++ e))
+four a b c d e = rw (append_assoc (b ++ c) d e, append_assoc b c (d ++ e), append_assoc a b (c ++ (d ++ e))) refl
+
+-- a record more that was refused, whatever follows
+pub runs-stop : {R : Type 0} (rem : R → Option (List ℕ)) (d : ℕ) (limits : Limits) (n : ℕ) (before more : Records) (text : List ℕ) (a b : Reader R) (labels : List (List ℕ)) (edges : List Edge) (f : List (List ℕ)) (e : EdgeError) (runs : Runs rem d limits n before text a labels edges) →
+    IsLeft rem d text (runs.past ++ f ∷ []) b → Stops limits n f labels edges e → Refuses (network_from limits (before ++ (records d text ++ more))) e
+runs-stop rem d limits n before more text a b labels edges f e runs at stops =
+    let left = filter is_row (rows (config d) b.state [] [] at.left) in
+    let whole : before ++ (records d text ++ more) ≡ (before ++ runs.past) ++ f ∷ (left ++ more) =
+    ap (λ (rs : Records). before ++ (rs ++ more)) at.all ∙ four before runs.past (f ∷ []) left more in
+    let t = runs.through in
+    rw whole (says-refusal limits (before ++ runs.past) f (left ++ more) e t.clean (rw t.count (stops.at (before ++ runs.past) (left ++ more) t.count t.so)))
+
+-- the network of all records
+pub through-network : (limits : Limits) (n : ℕ) (rs : Records) (labels : List (List ℕ)) (edges : List Edge) → IsThrough limits n rs labels edges → network_from limits rs ≡ Ok (network_by labels edges)
+through-network limits n rs labels edges t = says-network limits rs labels edges t.clean t.so
+
+-- ---- lines of more than one piece
+
+lines-joined : (a b : List ℕ) → lines (a ++ 10 ∷ b) ≡ lines a ++ lines b
+unfolding lines
+lines-joined [] b = refl
+lines-joined (c ∷ a) b =
+    let ih = lines-joined a b in
+    elim (cases_Bool (c == 10)) [
+      | inl e ↦ rw e (ap (λ (ls : List (List ℕ)). [] ∷ ls) ih)
+      | inr e ↦ elim (cases_Bool (c == 13)) [
+        | inl r ↦ rw (e, r) ih
+        | inr r ↦
+            let (h, t, at) = lines-some a in
+            rw (e, r, ih, at) refl
+      ]
+    ]
+
+pub records-joined : (d : ℕ) (a b : List ℕ) → EndsLine a → records d (a ++ b) ≡ records d a ++ records d b
+unfolding lines
+records-joined d a b (inl e) = rw e refl
+records-joined d a b (inr (f, e)) =
+    let all : lines (a ++ b) ≡ lines f ++ lines b = rw (e, append_assoc f (10 ∷ []) b) (lines-joined f b) in
+    let first : records d a ≡ map (fields d) (filter is_record (lines f)) = rw (e, lines-joined f [], filter-append is_record (lines f) ([] ∷ []), append-nil (filter is_record (lines f))) refl in
+    rw (all, first, filter-append is_record (lines f) (lines b), map-append (fields d) (filter is_record (lines f)) (filter is_record (lines b))) refl
+
+-- a line that is empty is no record
+pub records-behind : (d : ℕ) (a : List ℕ) → records d (10 ∷ a) ≡ records d a
+unfolding lines
+records-behind d a = refl
+
+-- ---- plain pieces
+
+lfs-behind : (a b : List ℕ) → HasLfs (a ++ b) → HasLfs b
+lfs-behind [] b h = h
+lfs-behind (c ∷ a) b h = lfs-behind a b h.1
+
+starts-front : (a b : List ℕ) → StartsWithLf (a ++ 10 ∷ b) → StartsWithLf (a ++ 10 ∷ [])
+starts-front [] b h = refl
+starts-front (c ∷ a) b h = h
+
+lfs-front : (a b : List ℕ) → HasLfs (a ++ 10 ∷ b) → HasLfs (a ++ 10 ∷ [])
+lfs-front [] b h = ((λ e. absurd (cc)), tt)
+lfs-front (c ∷ a) b h = ((λ e. starts-front a b (h.0 e)), lfs-front a b h.1)
+
+mark-front : (a b : List ℕ) → has_mark (a ++ b) ≡ false → has_mark a ≡ false
+mark-front [] b e = refl
+mark-front (x ∷ []) b e = refl
+mark-front (x ∷ y ∷ []) b e = refl
+mark-front (x ∷ y ∷ z ∷ a) b e = e
+
+pub mark-behind : (a : List ℕ) → has_mark (10 ∷ a) ≡ false
+mark-behind [] = refl
+mark-behind (x ∷ []) = refl
+mark-behind (x ∷ y ∷ a) = refl
+
+-- whole lines at the front of a plain text are plain
+pub plain-front : (a b : List ℕ) → EndsLine a → IsPlain (a ++ b) → IsPlain a
+plain-front a b (inl e) p = rw e (record { unmarked = refl; ends = tt })
+plain-front a b (inr (f, e)) p = record {
+  unmarked = mark-front a b p.unmarked;
+  ends = rw e (lfs-front f b (rw (e, append_assoc f (10 ∷ []) b) at p.ends));
+}
+
+-- what is held of a plain text is plain
+pub plain-held : (done left lines : List ℕ) → IsHeld done left lines → IsPlain (done ++ left) → IsPlain lines
+plain-held done left lines (inl h) p = rw (h.1) (rw h.0 at p)
+plain-held done left lines (inr h) p = rw h (record { unmarked = mark-behind left; ends = ((λ e. absurd (cc)), lfs-behind done left p.ends) })
+
+-- and its records are the others
+pub records-held : (d : ℕ) (done left lines : List ℕ) → EndsLine done → IsHeld done left lines → records d (done ++ left) ≡ records d done ++ records d lines
+records-held d done left lines ends (inl h) = rw h.1 (records-joined d done left ends)
+records-held d done left lines ends (inr h) = rw (h, records-behind d left) (records-joined d done left ends)

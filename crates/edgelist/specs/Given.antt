@@ -1,0 +1,27 @@
+-- What a reader of bytes was given.
+use Rattle.std.specs.Prelude.{◌≡◌, ℕ, List, ◌++◌, None, Some}
+use Rattle.ball_model.specs.Input.{IsPlain, in_force, records}
+use Rattle.edgelist.specs.Pieces.{EndsLine, IsHeld, IsThrough}
+use Rattle.edgelist.specs.Reading.{byte_of, limits_of}
+use Rattle.edgelist.specs.declared.pieces.EdgeReader.{EdgeReader}
+use Rattle.edgelist.specs.declared.read.Delimiter.{Delimiter}
+use Rattle.edgelist.specs.declared.read.EdgeError.{EdgeError}
+use Rattle.edgelist.specs.declared.read.EdgeLimits.{EdgeLimits}
+
+-- the reader was given the text, of which whole lines were read and the rest is held
+pub record IsGiven (limits : EdgeLimits) (delimiter : Delimiter) (text : List ℕ)
+    (reader : EdgeReader) : Type 0 where
+  pub none : reader.failed ≡ None
+  pub delimiter_is : reader.delimiter ≡ delimiter
+  pub limits_are : limits_of reader.limits ≡ in_force (limits_of limits)
+  pub done : List ℕ
+  pub left : List ℕ
+  pub text_is : text ≡ done ++ left
+  pub ends : EndsLine done
+  pub held : IsHeld done left reader.lines.items
+  pub through : IsPlain done → IsThrough (limits_of reader.limits) reader.number
+      (records (byte_of delimiter) done) reader.reading.labels reader.reading.edges.items
+
+-- the reader answered that error, and answers it to each call that follows
+abbrev pub HasFailed : EdgeError → EdgeReader → Type 0
+HasFailed error reader = reader.failed ≡ Some error

@@ -1,0 +1,247 @@
+//! Edge lists whose bytes are given one after the other.
+//!
+//! Whoever has a reader that goes on behind the edge list reads it byte by byte, and gives these bytes to an
+//! [`EdgeReader`]. It holds some lines at a time and never the whole edge list.
+
+ghost use Rattle.std.specs.Prelude.{◌≡◌, ◌≢◌, ◌<◌, ◌≤◌, ◌++◌, ◌∷◌, [], ℕ, List, None, Some, length};
+ghost use Rattle.std.specs.Prelude.{Err, IfErr, IfOk, IfSome, Ok, OnOk, Result};
+ghost use Rattle.std.proofs.Props.{props};
+ghost use Rattle.ball_model.specs.Input.{IsPlain, Network, Refusal, most_records, network_from};
+ghost use Rattle.ball_model.specs.Input.{records};
+ghost use Rattle.ball_model.specs.PlanValue.{most_vertices};
+ghost use Rattle.edgelist.specs.Pieces.{IsThrough};
+ghost use Rattle.edgelist.specs.Reading.{AreWithin, Refuses, byte_of, limits_of, meaning_of};
+ghost use Rattle.edgelist.specs.Records.{FromStart};
+ghost use Rattle.edgelist.specs.declared.read.EdgeError.TheVariants as refused;
+
+use crate::graph::Graph;
+use crate::read::{Delimiter, EdgeError, EdgeLimits, MOST_RECORDS, Reading, next_row};
+use crate::records::reader_of;
+use ball_model::plan::MOST_VERTICES;
+use csv::{ByteRecord, Reader};
+use std::alloc::Global;
+use std::hash::RandomState;
+use std::io::Read;
+
+// So many bytes are held before their lines are read.
+const ENOUGH: usize = 65_536;
+
+// Adds all records that are left, which follow `number` others, and tells how many there are then.
+fn read_more<R: Read + Drop>(
+    reading: &mut Reading,
+    alloc: Global,
+    reader: &mut Reader<R>,
+    row: &mut ByteRecord,
+    number: u64,
+    limits: EdgeLimits,
+) -> Result<u64, EdgeError>
+    requires few { limits.edges ≤ most_records }
+    requires number { number ≤ limits.edges }
+    requires within { AreWithin limits.vertices number
+        reading.old.labels reading.old.edges.items }
+    ensures number { IfOk result (λ n. n ≤ limits.edges) }
+    ensures within { IfOk result (λ n. AreWithin limits.vertices n
+        reading.new.labels reading.new.edges.items) }
+    ensures ok { FromStart R.remaining reader.old (λ rs. (before : List (List (List ℕ))) →
+        IsThrough (limits_of limits) number before reading.old.labels reading.old.edges.items →
+        IfOk result (λ n. IsThrough (limits_of limits) n (before ++ rs)
+        reading.new.labels reading.new.edges.items)) }
+    ensures refused { FromStart R.remaining reader.old (λ rs. (before more : List (List (List ℕ))) →
+        IsThrough (limits_of limits) number before reading.old.labels reading.old.edges.items →
+        IfErr result (Refuses (network_from (limits_of limits) (before ++ (rs ++ more))))) }
+{
+    for n in number..limits.edges + 1 {
+        let more = next_row(reader, row)?;
+        if !more {
+            return Ok(n);
+        }
+        reading.add(alloc, row, n, limits)?;
+    }
+    Err(EdgeError::TooManyEdges)
+}
+
+// What is told of lines in memory, of which no call can fail.
+fn without_read(read: Result<u64, EdgeError>) -> Result<u64, EdgeError>
+    ensures ok { IfOk result (λ n. read ≡ Ok n) }
+    ensures refused { (says : Result Network Refusal) → IfErr read (Refuses says) →
+        IfErr result (Refuses says) }
+    ensures read { result ≢ Err EdgeError.Read }
+{
+    match read {
+        Ok(number) => Ok(number),
+        Err(EdgeError::Read) => Err(EdgeError::Memory),
+        Err(error) => Err(error),
+    }
+}
+
+// Adds the records of some lines, which follow `number` others, and tells how many there are then.
+fn read_lines(
+    reading: &mut Reading,
+    alloc: Global,
+    lines: &[u8],
+    delimiter: Delimiter,
+    number: u64,
+    limits: EdgeLimits,
+) -> Result<u64, EdgeError>
+    requires few { limits.edges ≤ most_records }
+    requires number { number ≤ limits.edges }
+    requires within { AreWithin limits.vertices number
+        reading.old.labels reading.old.edges.items }
+    ensures number { IfOk result (λ n. n ≤ limits.edges) }
+    ensures within { IfOk result (λ n. AreWithin limits.vertices n
+        reading.new.labels reading.new.edges.items) }
+    ensures ok { (before : List (List (List ℕ))) → IsPlain lines.now →
+        IsThrough (limits_of limits) number before reading.old.labels reading.old.edges.items →
+        IfOk result (λ n. IsThrough (limits_of limits) n
+        (before ++ records (byte_of delimiter) lines.now)
+        reading.new.labels reading.new.edges.items) }
+    ensures refused { (before more : List (List (List ℕ))) → IsPlain lines.now →
+        IsThrough (limits_of limits) number before reading.old.labels reading.old.edges.items →
+        IfErr result (Refuses (network_from (limits_of limits)
+        (before ++ (records (byte_of delimiter) lines.now ++ more)))) }
+    ensures read { result ≢ Err EdgeError.Read }
+{
+    let mut reader = reader_of(alloc, lines, delimiter);
+    let mut row = ByteRecord::new(alloc);
+    let read = read_more(reading, alloc, &mut reader, &mut row, number, limits);
+    without_read(read)
+}
+
+/// Reads an edge list whose bytes are given one at a time.
+#[derive(Drop)]
+pub struct EdgeReader {
+    delimiter: Delimiter,
+    limits: EdgeLimits,
+    reading: Reading,
+    // how many records were read
+    number: u64,
+    // the bytes that were given and not read, behind an LF where others were read before
+    lines: Vec<u8>,
+    // what was refused before
+    failed: Option<EdgeError>,
+    ghost vertices: { limits.vertices ≤ most_vertices },
+    ghost edges: { limits.edges ≤ most_records },
+    ghost read: { failed ≢ Some refused.Read },
+    ghost few: { failed ≡ None → number ≤ limits.edges },
+    ghost within: { failed ≡ None →
+        AreWithin limits.vertices number
+        reading.labels reading.edges.items } by { Prim.hlevel props },
+}
+
+impl EdgeReader {
+    ghost use Rattle.edgelist.specs.Given.{HasFailed, IsGiven};
+    ghost use Rattle.edgelist.specs.Pieces.{EndsLine};
+
+    /// Nothing was given yet. The only error is that memory was refused.
+    pub fn new(
+        alloc: Global,
+        state: RandomState,
+        delimiter: Delimiter,
+        limits: EdgeLimits,
+    ) -> Result<EdgeReader, EdgeError>
+        ensures ok { IfOk result (IsGiven limits delimiter []) }
+        ensures memory { IfErr result (λ e. e ≡ EdgeError.Memory) }
+    {
+        let limits = EdgeLimits {
+            vertices: limits.vertices.min(MOST_VERTICES),
+            edges: limits.edges.min(MOST_RECORDS),
+        };
+        let reading = Reading::new(alloc, state)?;
+        Ok(EdgeReader {
+            delimiter,
+            limits,
+            reading,
+            number: 0,
+            lines: Vec::new(alloc),
+            failed: None,
+        })
+    }
+
+    // Reads the lines that are held.
+    fn read_held(&mut self, alloc: Global) -> Result<(), EdgeError>
+        requires none { self.old.failed ≡ None }
+        requires some { 0 < length self.old.lines.items }
+        ensures ok { (limits : EdgeLimits) (delimiter : Delimiter) (text : List ℕ) →
+            IsGiven limits delimiter text self.old → EndsLine text →
+            OnOk result (IsGiven limits delimiter text self.new) }
+        ensures refused { (limits : EdgeLimits) (delimiter : Delimiter) (text more : List ℕ) →
+            IsGiven limits delimiter text self.old → EndsLine text → IsPlain (text ++ more) →
+            IfErr result (Refuses (meaning_of limits delimiter (text ++ more))) }
+        ensures stays { IfErr result (λ e. HasFailed e self.new) }
+        ensures read { result ≢ Err EdgeError.Read }
+    {
+        match read_lines(
+            &mut self.reading,
+            alloc,
+            &self.lines,
+            self.delimiter,
+            self.number,
+            self.limits,
+        ) {
+            Ok(number) => {
+                self.number = number;
+                self.lines.truncate(1);
+                self.lines[0] = b'\n';
+                Ok(())
+            }
+            Err(error) => {
+                self.failed = Some(error);
+                Err(error)
+            }
+        }
+    }
+
+    /// Takes the next byte of the edge list.
+    ///
+    /// A refusal is that of the whole edge list, whatever follows. After an error each call answers that error.
+    pub fn add(&mut self, alloc: Global, byte: u8) -> Result<(), EdgeError>
+        ensures ok { (limits : EdgeLimits) (delimiter : Delimiter) (text : List ℕ) →
+            IsGiven limits delimiter text self.old →
+            OnOk result (IsGiven limits delimiter (text ++ byte ∷ []) self.new) }
+        ensures refused { (limits : EdgeLimits) (delimiter : Delimiter) (text more : List ℕ) →
+            IsGiven limits delimiter text self.old → IsPlain (text ++ byte ∷ more) →
+            IfErr result (Refuses (meaning_of limits delimiter (text ++ byte ∷ more))) }
+        ensures again { (e : EdgeError) → HasFailed e self.old → result ≡ Err e }
+        ensures stays { IfErr result (λ e. HasFailed e self.new) }
+        ensures read { result ≢ Err EdgeError.Read }
+    {
+        if let Some(error) = self.failed {
+            return Err(error);
+        }
+        let Ok(()) = self.lines.push(byte) else {
+            self.failed = Some(EdgeError::Memory);
+            return Err(EdgeError::Memory);
+        };
+        if byte == b'\n' && self.lines.len() >= ENOUGH {
+            return self.read_held(alloc);
+        }
+        Ok(())
+    }
+
+    /// The graph of what was given, with every vertex counted.
+    pub fn finish(self, alloc: Global) -> Result<Graph, EdgeError>
+        ensures ok { (limits : EdgeLimits) (delimiter : Delimiter) (text : List ℕ) →
+            IsGiven limits delimiter text self → IsPlain text →
+            IfOk result (λ g. meaning_of limits delimiter text ≡ Ok g) }
+        ensures refused { (limits : EdgeLimits) (delimiter : Delimiter) (text : List ℕ) →
+            IsGiven limits delimiter text self → IsPlain text →
+            IfErr result (Refuses (meaning_of limits delimiter text)) }
+        ensures again { (e : EdgeError) → HasFailed e self → result ≡ Err e }
+        ensures read { result ≢ Err EdgeError.Read }
+    {
+        if let Some(error) = self.failed {
+            return Err(error);
+        }
+        let EdgeReader {
+            delimiter,
+            limits,
+            mut reading,
+            number,
+            lines,
+            failed: _,
+        } = self;
+        read_lines(&mut reading, alloc, &lines, delimiter, number, limits)?;
+        let graph = reading.into_graph(alloc)?;
+        Ok(graph)
+    }
+}

@@ -1,0 +1,22 @@
+use Rattle.std.proofs.lemmas.Result.{err_from_is_err_and}
+use Rattle.node.specs.Job.{settings_in}
+use Rattle.node.proofs.ServeLemmas.{node_stops, serves_node}
+use Rattle.node.proofs.serve.serve_node.Goals as goal
+
+pub returns-clause-served : goal.returns-clause-served
+returns-clause-served g c =
+    serves_node (settings_in c.args.options.now) c.args.options.now.counted c.args.part c.in_ok-graph.graph c.in_ok-graph.plan
+    (g.R.Read.remaining c.args.reader.now) (g.R.Read.remaining c.read_job.new.reader) (g.R.Read.remaining c.serve_commands.new.reader)
+    (g.W.Write.contents c.args.writer.now) (g.W.Write.contents c.serve_commands.new.writer)
+    c.in_ok-session.session c.serve_commands.new.session
+    c.in_ok-graph.ensures.read c.in_ok-session.ensures.part c.in_ok-session.ensures.start c.in_ok-serve_commands.ensures.ok
+
+pub returns-in_err-serve_commands-clause-stopped : goal.returns-in_err-serve_commands-clause-stopped
+returns-in_err-serve_commands-clause-stopped g c =
+    let p = err_from_is_err_and c.from_residual-in_err-serve_commands.result c.from_residual-in_err-serve_commands.ensures.1 in
+    rw (p.1, p.2)
+    (node_stops (settings_in c.args.options.now) c.args.options.now.counted c.args.part c.in_ok-graph.graph c.in_ok-graph.plan
+    (g.R.Read.remaining c.args.reader.now) (g.R.Read.remaining c.read_job.new.reader) (g.R.Read.remaining c.serve_commands.new.reader)
+    (g.W.Write.contents c.args.writer.now) (g.W.Write.contents c.serve_commands.new.writer)
+    c.in_ok-session.session c.serve_commands.new.session _
+    c.in_ok-graph.ensures.read c.in_ok-session.ensures.part c.in_ok-session.ensures.start c.in_err-serve_commands.ensures.stopped)

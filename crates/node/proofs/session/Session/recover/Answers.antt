@@ -1,0 +1,20 @@
+use Rattle.std.proofs.Common.{◌≡◌, ◌∙◌, ap, sym}
+use Rattle.std.specs.Arc.{arc_value}
+use Rattle.ball_model.specs.declared.world.Answer.TheVariants as answer
+use Rattle.ball_model.specs.Job.{part_of}
+use Rattle.ball_model.specs.Join.{join_of}
+use Rattle.ball_model.specs.State.{State}
+use Rattle.node.specs.Turns.{TurnsTo}
+use Rattle.node.proofs.SessionLemmas.{part_held, refused_ok}
+use Rattle.node.proofs.session.Session.recover.Goals as goal
+
+pub returns-in-Ok-clause-turned : goal.returns-in-Ok-clause-turned
+returns-in-Ok-clause-turned c = λ j p h d k given.
+    let part : arc_value c.in_ok-part.part ≡ part_of j p = c.in_ok-part.ensures ∙ c.self.invariant ∙ ap (λ (s : State). s.part) c.self.view_is ∙ part_held j p h c.args.self.now k in
+    c.take_over.ensures.turned j p h d k (c.in-Ok.ensures.back j p d part given)
+
+pub returns-in-Err-clause-turned : goal.returns-in-Err-clause-turned
+returns-in-Err-clause-turned c = λ j p h d k given.
+    let part : arc_value c.in_ok-part.part ≡ part_of j p = c.in_ok-part.ensures ∙ c.self.invariant ∙ ap (λ (s : State). s.part) c.self.view_is ∙ part_held j p h c.args.self.now k in
+    refused_ok c.no_checkpoint.result (TurnsTo j p (answer.Merged (join_of h d).superstep) (join_of h d) c.args.self.now)
+    (c.no_checkpoint.ensures.memory (c.in-Err.ensures.back j p d part given))

@@ -1,0 +1,9 @@
+pub mod NodeText
+pub mod Commands
+pub mod Section
+pub mod Stream
+pub mod Turns
+pub mod Own
+pub mod Job
+pub mod Serving
+pub mod Gathering
