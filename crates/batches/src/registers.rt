@@ -8,7 +8,7 @@ ghost use Rattle.batches.specs.Held.{flat_of, LieIn};
 
 use crate::header::put_u32;
 use crate::rows::{push_row, row_of};
-use std::alloc::AllocError;
+use std::alloc::{AllocError, Global};
 use std::sync::Arc;
 
 /// The registers of rows.
@@ -35,12 +35,17 @@ pub fn row_in(registers: &Registers, width: usize, i: usize) -> &[u8]
 }
 
 // The rows of `width` registers at some places of a table, one after another.
-fn copied(table: &[u8], width: usize, places: &Vec<u32>) -> Result<Vec<u8>, AllocError>
-    requires { All (λ p. (p + 1) * width ≤ length table.now) places.now.items }
-    ensures { IfOk result (λ own. own.items ≡ flat_at width table.now places.now.items) }
+fn copied(
+    alloc: Global,
+    table: &[u8],
+    width: usize,
+    places: &[u32],
+) -> Result<Vec<u8>, AllocError>
+    requires { All (λ p. (p + 1) * width ≤ length table.now) places.now }
+    ensures { IfOk result (λ own. own.items ≡ flat_at width table.now places.now) }
 {
-    let mut own = Vec::new(*places.allocator());
-    for place in places.as_slice() {
+    let mut own = Vec::new(alloc);
+    for place in places {
         own.extend_from_slice(row_of(table, width, *place as usize))?;
     }
     Ok(own)
@@ -66,7 +71,7 @@ pub fn push_onto(
     match registers {
         Registers::Own(own) => push_row(ids, own, id, row),
         Registers::Shared(table, places) => {
-            let mut own = copied(table, width, places)?;
+            let mut own = copied(*places.allocator(), table, width, places)?;
             push_row(ids, &mut own, id, row)?;
             *registers = Registers::Own(own);
             Ok(())
