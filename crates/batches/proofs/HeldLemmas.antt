@@ -30,7 +30,7 @@ behind : (p m : ℕ) → (p + 1) * m ≡ p * m + m
 behind p m = let e : p + 1 ≡ suc p = omega arith in ap (λ (n : ℕ). n * m) e ∙ suc-mul p m
 
 -- a row of a table has m registers
-place-length : (m p : ℕ) (table : List ℕ) → (p + 1) * m ≤ length table → length (take m (drop (p * m) table)) ≡ m
+pub place-length : (m p : ℕ) (table : List ℕ) → (p + 1) * m ≤ length table → length (take m (drop (p * m) table)) ≡ m
 place-length m p table lies = length-take-le m (drop (p * m) table) (omega (arith, length-drop (p * m) table, behind p m, lies))
 
 -- the places after the first lie in the table too
