@@ -1,6 +1,6 @@
 //! Batches over one table.
 
-ghost use Rattle.std.specs.Prelude.{◌≡◌, ◌≤◌, ◌<◌, ◌∷◌, [], length, IfOk};
+ghost use Rattle.std.specs.Prelude.{◌≡◌, ◌+◌, ◌≤◌, ◌<◌, ◌∷◌, [], false, length, IfOk, OnOk};
 ghost use Rattle.std.specs.List.{All};
 ghost use Rattle.std.specs.Arc.{arc_value};
 ghost use Rattle.ball_model.specs.Batches.{IsBatch, ids_of};
@@ -13,15 +13,51 @@ const FIRST: [u8; 16] = [1, 0, 0, 0, 0, 0, 0, 0, 0, 0, 0, 0, 0, 0, 0, 0];
 const SECOND: [u8; 16] = [0, 2, 0, 0, 0, 0, 0, 0, 0, 0, 0, 0, 0, 0, 0, 0];
 const THIRD: [u8; 16] = [0, 0, 3, 0, 0, 0, 0, 0, 0, 0, 0, 0, 0, 0, 0, 33];
 
+// Appends a row of the table.
+fn add(rows: &mut Vec<u8>, row: &[u8; 16]) -> Result<(), AllocError>
+    requires ranks { All (λ r. r ≤ 33) rows.old.items }
+    requires row { All (λ r. r ≤ 33) row.now }
+    ensures length { OnOk result (length rows.new.items ≡ length rows.old.items + 16) }
+    ensures ranks { OnOk result (All (λ r. r ≤ 33) rows.new.items) }
+{
+    rows.extend_from_slice(row)
+}
+
 /// A table of these rows.
 fn table(alloc: Global) -> Result<Vec<u8>, AllocError>
     ensures length { IfOk result (λ t. length t.items ≡ 48) }
     ensures ranks { IfOk result (λ t. All (λ r. r ≤ 33) t.items) }
 {
-    let mut rows = FIRST.to_vec(alloc)?;
-    rows.extend_from_slice(&SECOND)?;
-    rows.extend_from_slice(&THIRD)?;
+    let mut rows = Vec::new(alloc);
+    add(&mut rows, &FIRST)?;
+    add(&mut rows, &SECOND)?;
+    add(&mut rows, &THIRD)?;
     Ok(rows)
+}
+
+/// Two numbers.
+fn two(alloc: Global, first: u32, second: u32) -> Result<Vec<u32>, AllocError>
+    ensures { IfOk result (λ v. v.items ≡ first ∷ second ∷ []) }
+{
+    let mut numbers = Vec::new(alloc);
+    numbers.push(first)?;
+    numbers.push(second)?;
+    Ok(numbers)
+}
+
+/// A plan of five vertices in two partitions.
+fn five() -> Result<Plan, PlanError>
+    ensures { IfOk result (λ p. p ≡ record {
+      log2m = 4;
+      seed = 0;
+      parts = 2;
+      limit = 4096;
+      vertices = 5;
+      corrected = false;
+      job = JOB;
+    }) }
+{
+    Plan::new(4, 0, 2, 4096, 5, JOB)
 }
 
 /// A batch with no rows, of a source with vertices 0, 2 and 4, which are all changed.
@@ -32,7 +68,7 @@ fn none(alloc: Global) -> Result<Batch, Fail>
     ensures name { IfOk result (λ b. (b.name.source ≡ 0) × (b.changed ≡ 3)) }
     ensures rows { IfOk result (λ b. b.rows ≡ []) }
 {
-    let plan = Plan::new(4, 0, 2, 4096, 5, JOB)?;
+    let plan = five()?;
     let batch = Batch::start(alloc, &plan, NAME, 3)?;
     let _ = batch.count();
     Ok(batch)
@@ -56,8 +92,8 @@ fn over(
     ensures name { IfOk result (λ b. (b.name.source ≡ 0) × (b.changed ≡ 3)) }
     ensures rows { IfOk result (λ b. ids_of b.rows ≡ 0 ∷ 2 ∷ []) }
 {
-    let ids = [0, 2].to_vec(alloc)?;
-    let places = [first, second].to_vec(alloc)?;
+    let ids = two(alloc, 0, 2)?;
+    let places = two(alloc, first, second)?;
     Ok(Batch::sharing(
         like.plan(),
         like.name(),

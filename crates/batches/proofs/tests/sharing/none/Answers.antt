@@ -1,0 +1,9 @@
+use Rattle.std.proofs.Common.{◌≡◌, ◌∙◌, ap, arith}
+use Rattle.ball_model.specs.PlanValue.{PlanValue, part_size}
+use Rattle.ball_model.proofs.PartLemmas.{part_size-is}
+use Rattle.batches.proofs.tests.sharing.none.Goals as goal
+
+pub start-requires-clause-changed : goal.start-requires-clause-changed
+start-requires-clause-changed c =
+    let size : part_size c.in_ok-plan.plan.vertices c.in_ok-plan.plan.parts 0 ≡ 3 = ap (λ (p : PlanValue). part_size p.vertices p.parts 0) c.in_ok-plan.ensures ∙ part_size-is 5 2 0 (omega arith) in
+    omega (arith, size)
