@@ -104,6 +104,14 @@ fn over(
     ))
 }
 
+/// A table of these rows, to be shared.
+fn shared(alloc: Global) -> Result<Arc<Vec<u8>>, AllocError>
+    ensures length { IfOk result (λ t. length (arc_value t).items ≡ 48) }
+    ensures ranks { IfOk result (λ t. All (λ r. r ≤ 33) (arc_value t).items) }
+{
+    Ok(Arc::new(alloc, table(alloc)?)?)
+}
+
 /// Two batches over one table.
 fn pair(alloc: Global, like: &Batch) -> Result<(Batch, Batch), AllocError>
     requires plan { (like.now.plan.log2m ≡ 4) × (like.now.plan.parts ≡ 2) × (like.now.plan.vertices ≡ 5) }
@@ -114,7 +122,7 @@ fn pair(alloc: Global, like: &Batch) -> Result<(Batch, Batch), AllocError>
     ensures rows { IfOk result (λ b. ids_of b.0.rows ≡ 0 ∷ 2 ∷ []) }
     ensures other { IfOk result (λ b. ids_of b.1.rows ≡ 0 ∷ 2 ∷ []) }
 {
-    let table = Arc::new(alloc, table(alloc)?)?;
+    let table = shared(alloc)?;
     let one = over(alloc, like, Arc::try_clone(&table)?, 2, 0)?;
     let other = over(alloc, like, table, 1, 1)?;
     Ok((one, other))
@@ -135,6 +143,12 @@ fn told(batch: &Batch, first: &[u8], second: &[u8]) -> (u32, [bool; 4])
     )
 }
 
+/// Whether two batches have the same bytes.
+fn are_same(alloc: Global, one: &Batch, other: &Batch) -> Result<bool, AllocError> {
+    let bytes = one.encode(alloc)?;
+    Ok(bytes.as_slice() == other.encode(alloc)?.as_slice())
+}
+
 /// Whether the batch is written as the one without rows is once the rows are added.
 fn is_written(alloc: Global, batch: &Batch, like: &mut Batch) -> Result<bool, AllocError>
     requires plan { (like.old.plan.log2m ≡ 4) × (like.old.plan.parts ≡ 2) × (like.old.plan.vertices ≡ 5) }
@@ -143,15 +157,17 @@ fn is_written(alloc: Global, batch: &Batch, like: &mut Batch) -> Result<bool, Al
 {
     like.push(0, &THIRD)?;
     like.push(2, &FIRST)?;
-    let bytes = batch.encode(alloc)?;
-    Ok(bytes.as_slice() == like.encode(alloc)?.as_slice())
+    are_same(alloc, batch, like)
 }
+
+/// What is told of two batches, and of a row.
+type Pushed = ((u32, [bool; 4]), (u32, [bool; 4]), bool);
 
 /// What is told of both batches once the first has a row more, and whether that is the row.
 fn told_of_pushed(
     one: &mut Batch,
     other: &Batch,
-) -> Result<((u32, [bool; 4]), (u32, [bool; 4]), bool), AllocError>
+) -> Result<Pushed, AllocError>
     requires plan { (one.old.plan.log2m ≡ 4) × (one.old.plan.parts ≡ 2) × (one.old.plan.vertices ≡ 5) }
     requires name { (one.old.name.source ≡ 0) × (one.old.changed ≡ 3) }
     requires rows { ids_of one.old.rows ≡ 0 ∷ 2 ∷ [] }
@@ -165,13 +181,37 @@ fn told_of_pushed(
     ))
 }
 
+/// What is told of the first batch, whether it is written as its rows are, and what is told of both once the first has
+/// a row more.
+fn told_of_all(
+    alloc: Global,
+    like: &mut Batch,
+    both: &mut (Batch, Batch),
+) -> Result<((u32, [bool; 4]), bool, Pushed), AllocError>
+    requires plan { (like.old.plan.log2m ≡ 4) × (like.old.plan.parts ≡ 2) × (like.old.plan.vertices ≡ 5) }
+    requires name { (like.old.name.source ≡ 0) × (like.old.changed ≡ 3) }
+    requires none { like.old.rows ≡ [] }
+    requires same_plan { (both.old.0.plan.log2m ≡ 4) × (both.old.0.plan.parts ≡ 2) × (both.old.0.plan.vertices ≡ 5) }
+    requires same_name { (both.old.0.name.source ≡ 0) × (both.old.0.changed ≡ 3) }
+    requires rows { ids_of both.old.0.rows ≡ 0 ∷ 2 ∷ [] }
+    requires other { ids_of both.old.1.rows ≡ 0 ∷ 2 ∷ [] }
+{
+    let before = told(&both.0, &THIRD, &FIRST);
+    let same = is_written(alloc, &both.0, like)?;
+    let after = told_of_pushed(&mut both.0, &both.1)?;
+    Ok((before, same, after))
+}
+
+/// The same of two batches over one table.
+fn told_of_shared(alloc: Global) -> Result<((u32, [bool; 4]), bool, Pushed), Fail> {
+    let mut like = none(alloc)?;
+    let mut both = pair(alloc, &like)?;
+    Ok(told_of_all(alloc, &mut like, &mut both)?)
+}
+
 #[test]
 fn batches_share_a_table(rt: HostRuntime) -> Result<(), Fail> {
-    let mut like = none(rt.alloc())?;
-    let (mut one, other) = pair(rt.alloc(), &like)?;
-    let before = told(&one, &THIRD, &FIRST);
-    let same = is_written(rt.alloc(), &one, &mut like)?;
-    let after = told_of_pushed(&mut one, &other)?;
-    assert_eq!(rt; (before, same, after), ((2, [true; 4]), true, ((3, [true; 4]), (2, [true; 4]), true)));
+    let pushed = ((3, [true; 4]), (2, [true; 4]), true);
+    assert_eq!(rt; told_of_shared(rt.alloc())?, ((2, [true; 4]), true, pushed));
     Ok(())
 }
