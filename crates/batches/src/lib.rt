@@ -5,6 +5,9 @@
 //! [`BatchError`], the first check that fails. Bytes that pass are the spelling of a batch within its limits, so a
 //! replica may rest on these limits whatever it is sent.
 //!
+//! The rows of a batch are its own, or lie in a table that several batches share ([`Batch::sharing`]): then a row is
+//! kept once for all its targets.
+//!
 //! ```text
 //! let mut batch = Batch::start(alloc, &plan, name, 2)?;   // 2 vertices of its source are changed
 //! batch.push(0, &row)?;                                   // vertex 0 has an edge into the target

@@ -203,10 +203,22 @@ fn told_of_all(
 }
 
 /// The same of two batches over one table.
+fn told_of_pair(
+    alloc: Global,
+    like: &mut Batch,
+) -> Result<((u32, [bool; 4]), bool, Pushed), AllocError>
+    requires plan { (like.old.plan.log2m ≡ 4) × (like.old.plan.parts ≡ 2) × (like.old.plan.vertices ≡ 5) }
+    requires name { (like.old.name.source ≡ 0) × (like.old.changed ≡ 3) }
+    requires none { like.old.rows ≡ [] }
+{
+    let mut both = pair(alloc, like)?;
+    told_of_all(alloc, like, &mut both)
+}
+
+/// The same, for a batch with no rows.
 fn told_of_shared(alloc: Global) -> Result<((u32, [bool; 4]), bool, Pushed), Fail> {
     let mut like = none(alloc)?;
-    let mut both = pair(alloc, &like)?;
-    Ok(told_of_all(alloc, &mut like, &mut both)?)
+    Ok(told_of_pair(alloc, &mut like)?)
 }
 
 #[test]
