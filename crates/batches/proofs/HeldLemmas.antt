@@ -108,10 +108,10 @@ at_place : (w i : ℕ) (table places : List ℕ) → All (λ p. (p + 1) * w ≤ 
 at_place w i table places lie positive room =
     let len = flat_at-length w table places lie in
     let lt : i < length places =
-      elim (cases_lt i (length places)) [
-        | inl less ↦ less
-        | inr most ↦ let much = mul-le-mul_right w most in absurd (omega (arith, much, len, room, behind i w, positive))
-      ] in
+    elim (cases_lt i (length places)) [
+      | inl less ↦ less
+      | inr most ↦ let much = mul-le-mul_right w most in absurd (omega (arith, much, len, room, behind i w, positive))
+    ] in
     record { inside = lt; lies = lie i 0 lt; is = sym (flat_at-row w i table places lie lt) }
 
 pub row_at_place : (w i : ℕ) (r : Registers) (table : SharedTable) (places : Places) → Shared table places ≡ r → LieIn w r → 0 < w → (i + 1) * w ≤ length (flat_of w r)
@@ -206,5 +206,5 @@ pub held_row : (plan : PlanValue) (name : BatchName) (changed w i : ℕ) (ids : 
 held_row plan name changed w i ids r b width view held lt =
     let a = held_of plan name changed ids r in
     let same : take (2 ^ plan.log2m) (drop (i * 2 ^ plan.log2m) (flat_of (2 ^ plan.log2m) r)) ≡ get_or (registers_of a.rows) i [] =
-      sym (kept-registers a i ids (flat_of (2 ^ plan.log2m) r) (held_kept plan name changed ids r held) (held_lt a b i view lt)) in
+    sym (kept-registers a i ids (flat_of (2 ^ plan.log2m) r) (held_kept plan name changed ids r held) (held_lt a b i view lt)) in
     rw width (same ∙ ap (λ (x : BatchValue). get_or (registers_of x.rows) i []) view)

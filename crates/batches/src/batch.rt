@@ -86,10 +86,18 @@ impl Batch {
         requires places { All
             (λ p. (p + 1) * 2 ^ plan.now.log2m ≤ length (arc_value table).items) places.items }
         requires count { length ids.items ≡ length places.items }
-        requires batch { IsBatch (record { plan = plan.now; name = name; changed = changed;
-            rows = rows_at (2 ^ plan.now.log2m) (arc_value table).items ids.items places.items }) }
-        ensures { result ≡ record { plan = plan.now; name = name; changed = changed;
-            rows = rows_at (2 ^ plan.now.log2m) (arc_value table).items ids.items places.items } }
+        requires batch { IsBatch (record {
+          plan = plan.now;
+          name = name;
+          changed = changed;
+          rows = rows_at (2 ^ plan.now.log2m) (arc_value table).items ids.items places.items;
+        }) }
+        ensures { result ≡ record {
+          plan = plan.now;
+          name = name;
+          changed = changed;
+          rows = rows_at (2 ^ plan.now.log2m) (arc_value table).items ids.items places.items;
+        } }
     {
         Batch {
             plan: *plan,

@@ -35,12 +35,7 @@ pub fn row_in(registers: &Registers, width: usize, i: usize) -> &[u8]
 }
 
 // The rows of `width` registers at some places of a table, one after another.
-fn copied(
-    alloc: Global,
-    table: &[u8],
-    width: usize,
-    places: &[u32],
-) -> Result<Vec<u8>, AllocError>
+fn copied(alloc: Global, table: &[u8], width: usize, places: &[u32]) -> Result<Vec<u8>, AllocError>
     requires { All (λ p. (p + 1) * width ≤ length table.now) places.now }
     ensures { IfOk result (λ own. own.items ≡ flat_at width table.now places.now) }
 {

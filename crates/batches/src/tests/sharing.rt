@@ -10,7 +10,9 @@ use std::sync::Arc;
 
 /// The rows of the table.
 const FIRST: [u8; 16] = [1, 0, 0, 0, 0, 0, 0, 0, 0, 0, 0, 0, 0, 0, 0, 0];
+
 const SECOND: [u8; 16] = [0, 2, 0, 0, 0, 0, 0, 0, 0, 0, 0, 0, 0, 0, 0, 0];
+
 const THIRD: [u8; 16] = [0, 0, 3, 0, 0, 0, 0, 0, 0, 0, 0, 0, 0, 0, 0, 33];
 
 // Appends a row of the table.
@@ -94,14 +96,7 @@ fn over(
 {
     let ids = two(alloc, 0, 2)?;
     let places = two(alloc, first, second)?;
-    Ok(Batch::sharing(
-        like.plan(),
-        like.name(),
-        like.changed(),
-        table,
-        ids,
-        places,
-    ))
+    Ok(Batch::sharing(like.plan(), like.name(), like.changed(), table, ids, places))
 }
 
 /// A table of these rows, to be shared.
@@ -164,10 +159,7 @@ fn is_written(alloc: Global, batch: &Batch, like: &mut Batch) -> Result<bool, Al
 type Pushed = ((u32, [bool; 4]), (u32, [bool; 4]), bool);
 
 /// What is told of both batches once the first has a row more, and whether that is the row.
-fn told_of_pushed(
-    one: &mut Batch,
-    other: &Batch,
-) -> Result<Pushed, AllocError>
+fn told_of_pushed(one: &mut Batch, other: &Batch) -> Result<Pushed, AllocError>
     requires plan { (one.old.plan.log2m ≡ 4) × (one.old.plan.parts ≡ 2) × (one.old.plan.vertices ≡ 5) }
     requires name { (one.old.name.source ≡ 0) × (one.old.changed ≡ 3) }
     requires rows { ids_of one.old.rows ≡ 0 ∷ 2 ∷ [] }

@@ -18,12 +18,12 @@ two_is like table p q is log2m parts vertices source changed len ranks lt_p lt_q
     let row : ℕ → List ℕ = λ (place : ℕ). take m (drop (place * m) table) in
     let lies : (place : ℕ) → place < 3 → (place + 1) * m ≤ length table = λ (place : ℕ) (lt : place < 3). rw wide (omega arith) in
     let fits : (z place : ℕ) → z < 5 → z % 2 ≡ 0 → place < 3 → IsRow like.plan like.name.source (z, row place) =
-      λ (z place : ℕ) (lt_z : z < 5) (even : z % 2 ≡ 0) (lt : place < 3). record {
-        vertex = rw vertices lt_z;
-        own = rw (parts, source) even;
-        width = place-length m place table (lies place lt);
-        ranks = All-take (λ r. r ≤ 33) m (drop (place * m) table) (All-drop (λ r. r ≤ 33) (place * m) table ranks);
-      } in
+    λ (z place : ℕ) (lt_z : z < 5) (even : z % 2 ≡ 0) (lt : place < 3). record {
+      vertex = rw vertices lt_z;
+      own = rw (parts, source) even;
+      width = place-length m place table (lies place lt);
+      ranks = All-take (λ r. r ≤ 33) m (drop (place * m) table) (All-drop (λ r. r ≤ 33) (place * m) table ranks);
+    } in
     let none : IsBatch (seen like.plan like.name like.changed []) = record {
       plan = is.plan;
       superstep = is.superstep;
@@ -35,7 +35,7 @@ two_is like table p q is log2m parts vertices source changed len ranks lt_p lt_q
       rows = λ k d lt. absurd (omega arith);
     } in
     let one : IsBatch (seen like.plan like.name like.changed ((0, row p) ∷ [])) =
-      batch-push (seen like.plan like.name like.changed []) 0 (row p) none (fits 0 p (omega arith) refl lt_p) (λ k d lt. absurd (omega arith)) (omega arith) in
+    batch-push (seen like.plan like.name like.changed []) 0 (row p) none (fits 0 p (omega arith) refl lt_p) (λ k d lt. absurd (omega arith)) (omega arith) in
     let above : All (λ before. before < 2) (0 ∷ []) = All-push (λ before. before < 2) [] 0 (λ k d lt. absurd (omega arith)) (omega arith) in
     batch-push (seen like.plan like.name like.changed ((0, row p) ∷ [])) 2 (row q) one (fits 2 q (omega arith) refl lt_q) above (omega arith)
 
