@@ -14,7 +14,7 @@ use Rattle.ball_model.specs.declared.names.BatchName.{BatchName}
 use Rattle.ball_model.specs.PlanValue.{PlanValue}
 use Rattle.ball_model.specs.Batches.{BatchValue, IsRow, IsBatch, ids_of, registers_of, row_bytes}
 use Rattle.batches.specs.declared.registers.Registers.{Registers}
-use Rattle.batches.specs.declared.registers.Registers.TheVariants.{Own, Shared}
+use Rattle.batches.specs.declared.registers.Registers.TheVariants.{Shared}
 use Rattle.batches.specs.Kept.{paired_rows, rows_at, flat_at, batch_of, IsKept}
 use Rattle.batches.specs.Held.{flat_of, LieIn, held_of, IsHeld}
 use Rattle.batches.proofs.KeptLemmas.{Kept, kept-room, kept-registers, pushed, seen}

@@ -1,8 +1,7 @@
 use Rattle.std.proofs.Common.{arith, ◌≡◌, ◌∙◌, ◌*◌, sym, ap, get_or, ℕ, List, take, drop}
 use Rattle.std.specs.Arc.{arc_value}
 use Rattle.std.proofs.lemmas.List.{get_or_default}
-use Rattle.batches.specs.Held.{flat_of}
-use Rattle.batches.proofs.HeldLemmas.{IsAt, row_at_place}
+use Rattle.batches.proofs.HeldLemmas.{row_at_place}
 use Rattle.batches.proofs.registers.row_in.Goals as goal
 
 pub index-requires : goal.index-requires

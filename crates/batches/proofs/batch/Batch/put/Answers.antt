@@ -1,4 +1,4 @@
-use Rattle.std.proofs.Common.{ap, ◌∙◌, ◌^◌}
+use Rattle.std.proofs.Common.{ap, ◌^◌}
 use Rattle.ball_model.specs.Batches.{BatchValue}
 use Rattle.batches.specs.Held.{flat_of}
 use Rattle.batches.proofs.KeptLemmas.{kept_of}

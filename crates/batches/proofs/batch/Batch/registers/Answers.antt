@@ -1,6 +1,6 @@
 use Rattle.std.proofs.Common.{◌≡◌, ◌^◌, ◌≤◌, sym, ap, ◌∙◌, get_or, [], length, ℕ, List, subst}
 use Rattle.std.specs.List.{All}
-use Rattle.ball_model.specs.Batches.{BatchValue, registers_of}
+use Rattle.ball_model.specs.Batches.{registers_of}
 use Rattle.batches.specs.Held.{flat_of}
 use Rattle.batches.proofs.KeptLemmas.{kept_of, kept-width, kept-ranks}
 use Rattle.batches.proofs.HeldLemmas.{held_room, held_row}

@@ -1,5 +1,5 @@
-use Rattle.std.proofs.Common.{refl, ◌^◌, ◌∙◌}
-use Rattle.batches.proofs.HeldLemmas.{stays_held, stays_seen}
+use Rattle.std.proofs.Common.{refl, ◌^◌}
+use Rattle.batches.proofs.HeldLemmas.{stays_held}
 use Rattle.batches.proofs.batch.Batch.reserve.Goals as goal
 
 pub invariant_of-self-in_err-reserve-2 : goal.invariant_of-self-in_err-reserve-2
