@@ -3,6 +3,7 @@ pub mod RowLemmas
 pub mod CheckLemmas
 pub mod LoopLemmas
 pub mod KeptLemmas
+pub mod HeldLemmas
 pub mod WholeLemmas
 pub mod TrueLemmas
 pub mod Crossing

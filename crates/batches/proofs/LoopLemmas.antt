@@ -86,25 +86,6 @@ read_none m count ids registers body e =
     let all : count - 0 ≡ count = omega arith in
     rw (e, all) refl
 
--- one row more is spelled
-pub put_next : (m i : ℕ) (ids rest row after out one two total : List ℕ) → i < length ids
-    → out ++ flat_map row_bytes (paired_rows m (drop i ids) rest) ≡ total → length rest ≡ (length ids - i) * m
-    → row ≡ take m rest → after ≡ drop m rest → one ≡ out ++ to_be_bytes w32 (get_or ids i 0) → two ≡ one ++ row
-    → record { so_far : two ++ flat_map row_bytes (paired_rows m (drop (i + 1) ids) after) ≡ total; room : length after ≡ (length ids - (i + 1)) * m }
-unfolding paired_rows
-put_next m i ids rest row after out one two total lt so_far room is_row is_after is_one is_two =
-    let left = length ids - (i + 1) in
-    let k : length ids - i ≡ suc left = omega arith in
-    let long : (length ids - i) * m ≡ left * m + m = ap (λ (n : ℕ). n * m) k ∙ suc-mul left m in
-    let later = flat_map row_bytes (paired_rows m (drop (i + 1) ids) (drop m rest)) in
-    let id = to_be_bytes w32 (get_or ids i 0) in
-    let more : drop i ids ≡ get_or ids i 0 ∷ drop (i + 1) ids = drop_more ids i 0 lt in
-    let step : flat_map row_bytes (paired_rows m (drop i ids) rest) ≡ (id ++ take m rest) ++ later = rw more refl in
-    record {
-      so_far = rw (is_two, is_one, is_row, is_after) (ap (λ (t : List ℕ). t ++ later) (append_assoc out id (take m rest)) ∙ append_assoc out (id ++ take m rest) later ∙ ap (λ (t : List ℕ). out ++ t) (sym step) ∙ so_far);
-      room = rw is_after (omega (arith, length-drop m rest, room, long));
-    }
-
 -- all rows are spelled
 pub put_done : (m i : ℕ) (ids rest out total : List ℕ) → length ids ≤ i → out ++ flat_map row_bytes (paired_rows m (drop i ids) rest) ≡ total → out ≡ total
 unfolding paired_rows

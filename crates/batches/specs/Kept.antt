@@ -1,5 +1,5 @@
 -- Rows of registers, as they lie in memory and in bytes.
-use Rattle.std.specs.Prelude.{◌≡◌, ℕ, zero, suc, ◌+◌, ◌*◌, ◌^◌, List, [], ◌∷◌, length, take, drop}
+use Rattle.std.specs.Prelude.{◌≡◌, ℕ, zero, suc, ◌+◌, ◌*◌, ◌^◌, List, [], ◌∷◌, ◌++◌, length, take, drop}
 use Rattle.std.specs.Int.{Width, w32, byte_len, from_be_bytes}
 use Rattle.ball_model.specs.declared.names.BatchName.{BatchName}
 use Rattle.ball_model.specs.PlanValue.{PlanValue}
@@ -9,6 +9,18 @@ use Rattle.ball_model.specs.Batches.{BatchValue, IsBatch}
 unfoldable pub paired_rows : ℕ → List ℕ → List ℕ → List (ℕ × List ℕ)
 paired_rows m [] registers = []
 paired_rows m (id ∷ ids) registers = (id, take m registers) ∷ paired_rows m ids (drop m registers)
+
+-- the rows of some vertices, whose registers are those at some places of a table, m to a place
+unfoldable pub rows_at : ℕ → List ℕ → List ℕ → List ℕ → List (ℕ × List ℕ)
+rows_at m table [] places = []
+rows_at m table (id ∷ ids) [] = []
+rows_at m table (id ∷ ids) (place ∷ places) =
+    (id, take m (drop (place * m) table)) ∷ rows_at m table ids places
+
+-- the registers at some places of a table, m to a place, one row after another
+unfoldable pub flat_at : ℕ → List ℕ → List ℕ → List ℕ
+flat_at m table [] = []
+flat_at m table (place ∷ places) = take m (drop (place * m) table) ++ flat_at m table places
 
 -- the batch of these fields, whose rows are kept as vertices and registers
 abbrev pub batch_of : PlanValue → BatchName → ℕ → List ℕ → List ℕ → BatchValue

@@ -1,18 +1,21 @@
 //! Batches.
 
 ghost use Rattle.std.specs.Prelude.{◌≡◌, ◌+◌, ◌*◌, ◌^◌, ◌<◌, ◌≤◌, ◌++◌, ◌∷◌, [], length, option_map, slice_index, slice_index_or, drop, IfOk, IfSome, OnOk, OnErr, Ok};
+ghost use Rattle.std.specs.Arc.{arc_value};
 ghost use Rattle.std.specs.List.{All};
 ghost use Rattle.ball_model.specs.PlanValue.{part_size};
 ghost use Rattle.ball_model.specs.Batches.{BatchValue, IsRow, IsBatch, ids_of, registers_of, find_row, header_bytes, batch_bytes};
-ghost use Rattle.batches.specs.Kept.{first_rows};
+ghost use Rattle.batches.specs.Kept.{first_rows, rows_at};
 ghost use Rattle.batches.specs.Reading.{check_at, batch_from, batch_at, GivesOrMemory, AgreesButJob};
 
 use crate::error::BatchError;
 use crate::header::{HEADER_LEN, Header, MAGIC, VERSION, check_header, read_header, spell_header};
-use crate::rows::{ID_LEN, check_body, check_len, push_row, put_rows, read_rows, row_of};
+use crate::registers::{Registers, push_onto, put_rows, reserve, row_in};
+use crate::rows::{ID_LEN, check_body, check_len, read_rows};
 use ball_model::{BatchName, Plan};
 use std::alloc::{AllocError, Global};
 use std::marker::Model;
+use std::sync::Arc;
 
 /// For how many rows a new batch takes room at once.
 const FIRST_ROWS: u32 = 4;
@@ -28,20 +31,19 @@ pub struct Batch {
     name: BatchName,
     changed: u32,
     ids: Vec<u32>,
-    registers: Vec<u8>,
+    registers: Registers,
 }
 
 impl Model for Batch {
     ghost use Rattle.ball_model.specs.Batches.{BatchValue};
-    ghost use Rattle.batches.specs.Kept.{batch_of, IsKept};
+    ghost use Rattle.batches.specs.Held.{held_of, IsHeld};
 
     ghost Value = { BatchValue };
 
-    ghost view = { λ b. batch_of b.plan b.name b.changed b.ids.items b.registers.items };
+    ghost view = { λ b. held_of b.plan b.name b.changed b.ids.items b.registers };
 
-    ghost invariant = { λ b. IsKept
-        (batch_of b.plan b.name b.changed b.ids.items b.registers.items)
-        b.ids.items b.registers.items };
+    ghost invariant = { λ b. IsHeld
+        (held_of b.plan b.name b.changed b.ids.items b.registers) b.ids.items b.registers };
 }
 
 impl Batch {
@@ -67,8 +69,35 @@ impl Batch {
             name,
             changed,
             ids: Vec::with_capacity(alloc, first)?,
-            registers: Vec::with_capacity(alloc, first * plan.width())?,
+            registers: Registers::Own(Vec::with_capacity(alloc, first * plan.width())?),
         })
+    }
+
+    /// A batch whose rows lie in a table that other batches share: row `i` is of vertex `ids[i]`, and its 2^log2m
+    /// registers are those at place `places[i]` of the table. It takes no memory.
+    pub fn sharing(
+        plan: &Plan,
+        name: BatchName,
+        changed: u32,
+        table: Arc<Vec<u8>>,
+        ids: Vec<u32>,
+        places: Vec<u32>,
+    ) -> Batch
+        requires places { All
+            (λ p. (p + 1) * 2 ^ plan.now.log2m ≤ length (arc_value table).items) places.items }
+        requires count { length ids.items ≡ length places.items }
+        requires batch { IsBatch (record { plan = plan.now; name = name; changed = changed;
+            rows = rows_at (2 ^ plan.now.log2m) (arc_value table).items ids.items places.items }) }
+        ensures { result ≡ record { plan = plan.now; name = name; changed = changed;
+            rows = rows_at (2 ^ plan.now.log2m) (arc_value table).items ids.items places.items } }
+    {
+        Batch {
+            plan: *plan,
+            name,
+            changed,
+            ids,
+            registers: Registers::Shared(table, places),
+        }
     }
 
     /// Adds the row of a vertex of the source, above those of the rows so far: 2^log2m registers of at most 33.
@@ -82,7 +111,8 @@ impl Batch {
             ≡ record self.old { rows = self.old.rows ++ (id, registers.now) ∷ [] }) }
         ensures err { OnErr result (self.new ≡ self.old) }
     {
-        push_row(&mut self.ids, &mut self.registers, id, registers)?;
+        let width = self.plan.width();
+        push_onto(&mut self.ids, &mut self.registers, width, id, registers)?;
         Ok(())
     }
 
@@ -91,7 +121,8 @@ impl Batch {
         ensures { self.new ≡ self.old }
     {
         self.ids.reserve(rows as usize)?;
-        self.registers.reserve(rows as usize * self.plan.width())?;
+        let width = self.plan.width();
+        reserve(&mut self.registers, rows as usize * width)?;
         Ok(())
     }
 
@@ -143,7 +174,7 @@ impl Batch {
         ensures width { length result.now ≡ 2 ^ self.now.plan.log2m }
         ensures ranks { All (λ r. r ≤ 33) result.now }
     {
-        row_of(&self.registers, self.plan.width(), i as usize)
+        row_in(&self.registers, self.plan.width(), i as usize)
     }
 
     /// The 2^log2m registers of a vertex, where it has a row. It takes the logarithm of the number of rows.
@@ -258,6 +289,6 @@ fn read(alloc: Global, plan: &Plan, header: &Header, bytes: &[u8]) -> Result<Bat
         name: header.name,
         changed: header.changed,
         ids,
-        registers,
+        registers: Registers::Own(registers),
     })
 }

@@ -21,6 +21,7 @@ mod batch;
 mod error;
 mod header;
 pub mod laws;
+mod registers;
 mod rows;
 
 pub use batch::Batch;

@@ -9,7 +9,7 @@ ghost use Rattle.batches.specs.Kept.{field, row_at, first_rows, paired_rows};
 ghost use Rattle.batches.specs.Reading.{check_length, check_row, check_rows};
 
 use crate::error::BatchError;
-use crate::header::{put_u32, u32_at};
+use crate::header::u32_at;
 use ball_model::Plan;
 use std::alloc::{AllocError, Global};
 
@@ -166,25 +166,4 @@ pub fn read_rows(
     let mut registers = Vec::with_capacity(alloc, count as usize * width)?;
     read_each(&mut ids, &mut registers, width, count, body)?;
     Ok((ids, registers))
-}
-
-/// Appends rows of `width` registers as bytes.
-pub fn put_rows(
-    out: &mut Vec<u8>,
-    width: usize,
-    ids: &[u32],
-    registers: &[u8],
-) -> Result<(), AllocError>
-    requires { length registers.now ≡ length ids.now * width }
-    ensures { OnOk result (out.new.items
-        ≡ out.old.items ++ flat_map row_bytes (paired_rows width ids.now registers.now)) }
-{
-    let mut rest = registers;
-    for id in ids {
-        let (row, after) = rest.split_at(width);
-        put_u32(out, *id)?;
-        out.extend_from_slice(row)?;
-        rest = after;
-    }
-    Ok(())
 }

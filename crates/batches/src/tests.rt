@@ -3,6 +3,7 @@ ghost use Rattle.ball_model.specs.Batches.{ids_of};
 
 mod damage;
 mod refusals;
+mod sharing;
 
 use super::*;
 use ball_model::{BatchName, Plan, PlanError};
