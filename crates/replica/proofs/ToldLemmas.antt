@@ -98,18 +98,20 @@ sent_none v target = refl
 
 -- ---- what is told, vertex by vertex
 
+told_nothing : (v : State) (target : ℕ) → IsTold v target 0 [] [] 0
+told_nothing v target = record {
+  rows = rows_at-none (width_of v) (changed_registers v) ∙ sym (sent_none v target);
+  count = refl;
+  within = All-nil (λ p. (p + 1) * width_of v ≤ length (changed_registers v));
+  before = omega (arith, ap length (changed_none v));
+  few = omega arith;
+}
+
 -- of no vertex
-pub told_none : (v : State) (target : ℕ) (ids places : List ℕ) → ids ≡ [] → places ≡ [] → IsTold v target 0 ids places 0
-told_none v target ids places no_ids no_places =
-    let P : List ℕ → List ℕ → Type 0 = λ a b. IsTold v target 0 a b 0 in
-    let none : IsTold v target 0 [] [] 0 = record {
-      rows = rows_at-none (width_of v) (changed_registers v) ∙ sym (sent_none v target);
-      count = refl;
-      within = All-nil (λ p. (p + 1) * width_of v ≤ length (changed_registers v));
-      before = omega (arith, ap length (changed_none v));
-      few = omega arith;
-    } in
-    subst (λ (a : List ℕ). P a places) (sym no_ids) (subst (λ (b : List ℕ). P [] b) (sym no_places) none)
+pub told_none : (v : State) (target changed : ℕ) (ids places : List ℕ) → ids ≡ [] → places ≡ [] → changed ≡ 0 → IsTold v target 0 ids places changed
+told_none v target changed ids places no_ids no_places none =
+    subst (λ (n : ℕ). IsTold v target 0 ids places n) (sym none)
+    (subst (λ (a : List ℕ). IsTold v target 0 a places 0) (sym no_ids) (subst (λ (b : List ℕ). IsTold v target 0 [] b 0) (sym no_places) (told_nothing v target)))
 
 sent_same : (v : State) (target n : ℕ) → sent_row v target n ≡ [] → sent_rows v target (n + 1) ≡ sent_rows v target n
 sent_same v target n none = sent_more v target n ∙ ap (λ (l : List (ℕ × List ℕ)). sent_rows v target n ++ l) none ∙ append-nil (sent_rows v target n)
@@ -157,9 +159,9 @@ told_one v target n changed id ids places s lt is on fed vertex =
     let one : sent_row v target n ≡ (id, get_or v.rows n []) ∷ [] = rw (on, fed, vertex) refl in
     record {
       rows = rows_at-push m table ids places id changed is.count
-      ∙ ap (λ (l : List (ℕ × List ℕ)). l ++ (id, take m (drop (changed * m) table)) ∷ []) is.rows
-      ∙ ap (λ (r : List ℕ). sent_rows v target n ++ (id, r) ∷ []) row
-      ∙ sym (sent_more v target n ∙ ap (λ (l : List (ℕ × List ℕ)). sent_rows v target n ++ l) one);
+          ∙ ap (λ (l : List (ℕ × List ℕ)). l ++ (id, take m (drop (changed * m) table)) ∷ []) is.rows
+          ∙ ap (λ (r : List ℕ). sent_rows v target n ++ (id, r) ∷ []) row
+          ∙ sym (sent_more v target n ∙ ap (λ (l : List (ℕ × List ℕ)). sent_rows v target n ++ l) one);
       count = omega (arith, is.count, length-append ids (id ∷ []), length-append places (changed ∷ []));
       within = All-push (λ p. (p + 1) * m ≤ length table) places changed is.within lies.within;
       before = counted v target n changed ids places s lt is on;

@@ -1,6 +1,6 @@
 //! What a replica tells the other partitions.
 
-ghost use Rattle.std.specs.Prelude.{◌≡◌, ◌≢◌, ℕ, ◌<◌, ◌+◌, ◌*◌, ◌%◌, ◌==◌, ◌++◌, IfOk, OnOk, IsOk, false, slice_index, slice_index_or, length};
+ghost use Rattle.std.specs.Prelude.{◌≡◌, ◌≢◌, ℕ, ◌<◌, ◌+◌, ◌*◌, ◌%◌, ◌==◌, ◌++◌, [], IfOk, OnOk, IsOk, false, slice_index, slice_index_or, length};
 ghost use Rattle.std.specs.Arc.{arc_value};
 ghost use Rattle.ball_model.specs.Job.{Job};
 ghost use Rattle.ball_model.specs.Batches.{true_batch};
@@ -103,12 +103,7 @@ impl Progress {
         ensures { IfOk result (λ told. IsTold self.now.state target
             (length self.now.state.part.preds) told.ids.items told.places.items told.changed) }
     {
-        let room = self.count_told(target) as usize;
-        let mut told = Told {
-            ids: Vec::with_capacity(alloc, room)?,
-            places: Vec::with_capacity(alloc, room)?,
-            changed: 0,
-        };
+        let mut told = nothing_told(alloc, self.count_told(target) as usize)?;
         for i in 0..self.part.size() {
             self.tell_row(&mut told, target, i)?;
         }
@@ -163,6 +158,19 @@ impl Progress {
         }
         Ok(())
     }
+}
+
+// What is told of no vertex, with room for so many rows.
+fn nothing_told(alloc: Global, room: usize) -> Result<Told, AllocError>
+    ensures ids { IfOk result (λ told. told.ids.items ≡ []) }
+    ensures places { IfOk result (λ told. told.places.items ≡ []) }
+    ensures changed { IfOk result (λ told. told.changed ≡ 0) }
+{
+    Ok(Told {
+        ids: Vec::with_capacity(alloc, room)?,
+        places: Vec::with_capacity(alloc, room)?,
+        changed: 0,
+    })
 }
 
 // Whether bit `target` of a feed mask is set.
