@@ -14,6 +14,7 @@ pub mod SpreadLemmas
 pub mod TargetLemmas
 pub mod ReadLemmas
 pub mod SentLemmas
+pub mod ToldLemmas
 pub mod CallLemmas
 pub mod RunLemmas
 pub mod FigureLemmas

@@ -124,7 +124,7 @@ below_if : (t : Bool) (x : ℕ × List ℕ) (b : ℕ) → x.0 < b → AllByRecur
 below_if true x b lt = (lt, tt)
 below_if false x b lt = tt
 
-sent_below : (v : State) (target n : ℕ) → 1 ≤ v.part.plan.parts → AllByRecursion (λ row. row.0 < n * v.part.plan.parts + v.part.number) (sent_rows v target n)
+pub sent_below : (v : State) (target n : ℕ) → 1 ≤ v.part.plan.parts → AllByRecursion (λ row. row.0 < n * v.part.plan.parts + v.part.number) (sent_rows v target n)
 unfolding sent_rows
 sent_below v target zero some = tt
 sent_below v target (suc n) some =
@@ -138,7 +138,7 @@ sent_below v target (suc n) some =
     subst (λ (k : ℕ). AllByRecursion (λ row. row.0 < k * p + v.part.number) (sent_rows v target k)) e
     (subst (λ (l : List (ℕ × List ℕ)). AllByRecursion (λ row. row.0 < bound) l) (sym (sent_more v target n)) both)
 
-ids_below : (xs : List (ℕ × List ℕ)) (b : ℕ) → AllByRecursion (λ row. row.0 < b) xs → (k d : ℕ) → k < length (ids_of xs) → get_or (ids_of xs) k d < b
+pub ids_below : (xs : List (ℕ × List ℕ)) (b : ℕ) → AllByRecursion (λ row. row.0 < b) xs → (k d : ℕ) → k < length (ids_of xs) → get_or (ids_of xs) k d < b
 ids_below [] b h k d lt = absurd (omega arith)
 ids_below (x ∷ xs) b h zero d lt = h.0
 ids_below (x ∷ xs) b h (suc k) d lt = ids_below xs b h.1 k d (omega arith)
@@ -162,7 +162,7 @@ count_if : (b : Bool) (rest short : List Bool) → set_count short ≤ set_count
 count_if true rest short le = omega arith
 count_if false rest short le = le
 
-count_take : (n : ℕ) (marks : List Bool) → set_count (take n marks) ≤ set_count marks
+pub count_take : (n : ℕ) (marks : List Bool) → set_count (take n marks) ≤ set_count marks
 count_take zero marks = omega arith
 count_take (suc n) [] = omega arith
 count_take (suc n) (m ∷ marks) = count_if m marks (take n marks) (count_take n marks)
@@ -171,7 +171,7 @@ count_next : (marks : List Bool) (n : ℕ) → n < length marks → set_count (t
 count_next marks n lt =
     ap set_count (take_more marks n false lt) ∙ ap (length {A = Bool}) (filter-append (λ mark. mark) (take n marks) (get_or marks n false ∷ [])) ∙ length-append (filter (λ mark. mark) (take n marks)) (filter (λ mark. mark) (get_or marks n false ∷ []))
 
-sent_short : (v : State) (target n : ℕ) → n ≤ length v.marks → length (sent_rows v target n) ≤ set_count (take n v.marks)
+pub sent_short : (v : State) (target n : ℕ) → n ≤ length v.marks → length (sent_rows v target n) ≤ set_count (take n v.marks)
 unfolding sent_rows
 sent_short v target zero le = omega arith
 sent_short v target (suc n) le =

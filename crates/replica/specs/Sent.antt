@@ -1,10 +1,11 @@
 -- What a replica tells another partition of its superstep.
-use Rattle.std.specs.Prelude.{ℕ, ◌+◌, ◌*◌, false, ◌&&◌, List, [], ◌∷◌, if◌then◌else◌, slice_index, slice_index_or}
-use Rattle.std.specs.List.{range_with_len, flat_map, count_by}
+use Rattle.std.specs.Prelude.{◌≡◌, ℕ, ◌+◌, ◌*◌, ◌^◌, ◌≤◌, false, ◌&&◌, List, [], ◌∷◌, if◌then◌else◌, length, slice_index, slice_index_or}
+use Rattle.std.specs.List.{range_with_len, flat_map, count_by, All}
 use Rattle.ball_model.specs.declared.names.BatchName.{BatchName}
 use Rattle.ball_model.specs.Batches.{BatchValue}
 use Rattle.ball_model.specs.Masks.{has_bit}
 use Rattle.ball_model.specs.State.{State}
+use Rattle.batches.specs.Kept.{rows_at}
 
 -- vertex i and its registers, where it changed and has an edge into the target
 abbrev pub sent_row : State → ℕ → ℕ → List (ℕ × List ℕ)
@@ -29,3 +30,23 @@ sent_batch v target n = record {
   changed = count_by (λ mark. mark) v.marks;
   rows = sent_rows v target n;
 }
+
+-- the registers of vertex i, where it changed
+abbrev pub changed_row : State → ℕ → List ℕ
+changed_row v i = if slice_index_or v.marks i false then slice_index_or v.rows i [] else []
+
+-- those of the first n vertices, one row after the other
+unfoldable pub changed_rows : State → ℕ → List ℕ
+changed_rows v n = flat_map (λ i. changed_row v i) (range_with_len 0 n)
+
+-- the registers of all vertices that changed, one row after the other
+abbrev pub changed_registers : State → List ℕ
+changed_registers v = changed_rows v (length v.part.preds)
+
+-- of the first n vertices so many changed, and what is sent of them are the rows of these vertices at these places
+pub record IsTold (v : State) (target n : ℕ) (ids places : List ℕ) (changed : ℕ) : Type 0 where
+  pub rows : rows_at (2 ^ v.part.plan.log2m) (changed_registers v) ids places ≡ sent_rows v target n
+  pub count : length ids ≡ length places
+  pub within : All (λ p. (p + 1) * 2 ^ v.part.plan.log2m ≤ length (changed_registers v)) places
+  pub before : changed * 2 ^ v.part.plan.log2m ≡ length (changed_rows v n)
+  pub few : changed ≤ n

@@ -5,7 +5,8 @@
 //! batch of superstep t of every other partition, those without rows too. Then [`Shown::verdict`] says whether the
 //! run goes on, and [`Replica::close`] makes the rows of t + 1: each is raised by those of its predecessors that
 //! changed at t, and by no other, since an unchanged row has nothing new to say. [`Replica::out`] is what the
-//! partition tells another one of t, and [`Replica::take`] holds what it is told. What a replica and a snapshot of it
+//! partition tells another one of t ([`Replica::out_of`] tells the same over a table of the rows that changed, which
+//! all batches of t share), and [`Replica::take`] holds what it is told. What a replica and a snapshot of it
 //! tell of what they have are the calls of one trait, [`Shown`].
 //!
 //! What a replica stands for is a definition of `ball_model`: all that it has is what the definitions say of its
@@ -32,8 +33,8 @@
 //! replica.close()                                    // Ok(1), the superstep that it is at now
 //! ```
 //!
-//! Only [`Replica::new`], [`Replica::rebuild`], [`Replica::out`], [`Replica::snapshot`], [`Replica::merge`] and a join
-//! take memory.
+//! Only [`Replica::new`], [`Replica::rebuild`], [`Replica::out`], [`Replica::changed_rows`], [`Replica::out_of`],
+//! [`Replica::snapshot`], [`Replica::merge`] and a join take memory.
 #![tactic(auto)]
 
 mod early;

@@ -1,5 +1,5 @@
-//! A replica: what it knows, and the room in which it goes on. Only its making, `out`, `snapshot` and `merge` take
-//! memory.
+//! A replica: what it knows, and the room in which it goes on. Only its making, `out`, `changed_rows`, `out_of`,
+//! `snapshot` and `merge` take memory.
 
 ghost use Rattle.std.specs.Prelude.{◌≡◌, ◌≢◌, ℕ, ◌<◌, ◌≤◌, ◌+◌, ◌*◌, ◌/◌, ◌%◌, ◌^◌, ◌==◌, ◌&&◌, ◌⊎◌, true, false, length, slice_index_or, option_map, None, [], map, max, count_by, IsSome, IsTrue, OnOk, OnErr, IfOk, Ok, Err, ◌↔◌};
 ghost use Rattle.std.specs.Arc.{arc_value};
@@ -22,7 +22,7 @@ ghost use Rattle.replica.specs.Change.{HoldsAfter, take_answer};
 ghost use Rattle.replica.specs.Hearing.{accumulated_by, change_by, heard_by};
 ghost use Rattle.replica.specs.Level.{EndsRun, found_verdict, missing_in};
 ghost use Rattle.replica.specs.Merged.{Absorbs, HoldsOfBoth, ShowsAs, merge_answer};
-ghost use Rattle.replica.specs.Sent.{batch_name, sent_batch};
+ghost use Rattle.replica.specs.Sent.{batch_name, changed_registers, sent_batch};
 ghost use Rattle.replica.specs.Start.{Starts};
 ghost use Rattle.replica.specs.Seen.{IsState};
 ghost use Rattle.replica.specs.Runs.{HasContent, Takes, Closes, Merges};
@@ -234,5 +234,33 @@ impl Replica {
             IfOk result (λ b. b ≡ true_batch j (batch_name t p target)) }
     {
         self.known.sent(alloc, target)
+    }
+
+    /// The registers of the vertices that changed at this superstep, one row after the other.
+    ///
+    /// As a shared table they are what [`Replica::out_of`] is asked with for each target.
+    pub fn changed_rows(&self, alloc: Global) -> Result<Vec<u8>, AllocError>
+        ensures { IfOk result (λ rows. rows.items ≡ changed_registers self.now) }
+    {
+        self.known.changed_rows(alloc)
+    }
+
+    /// What [`Replica::out`] tells `target`, with its registers in the table of those that changed, which all batches of
+    /// the superstep share: it takes memory for a vertex and a place a row, and copies no register.
+    pub fn out_of(
+        &self,
+        alloc: Global,
+        table: &Arc<Vec<u8>>,
+        target: u16,
+    ) -> Result<Batch, AllocError>
+        requires target { target < self.now.part.plan.parts }
+        requires other { target ≢ self.now.part.number }
+        requires table { (arc_value table.now).items ≡ changed_registers self.now }
+        ensures value { IfOk result (λ b. b ≡
+            sent_batch self.now target (length self.now.part.preds)) }
+        ensures stands { (j : Job) (p t : ℕ) → StandsFor j p t self.now →
+            IfOk result (λ b. b ≡ true_batch j (batch_name t p target)) }
+    {
+        self.known.sent_of(alloc, table, target)
     }
 }

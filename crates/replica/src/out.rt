@@ -1,17 +1,28 @@
 //! What a replica tells the other partitions.
 
-ghost use Rattle.std.specs.Prelude.{◌≡◌, ◌≢◌, ℕ, ◌<◌, ◌+◌, ◌*◌, ◌%◌, ◌==◌, IfOk, OnOk, IsOk, false, slice_index, slice_index_or, length};
+ghost use Rattle.std.specs.Prelude.{◌≡◌, ◌≢◌, ℕ, ◌<◌, ◌+◌, ◌*◌, ◌%◌, ◌==◌, ◌++◌, [], IfOk, OnOk, IsOk, false, slice_index, slice_index_or, length};
+ghost use Rattle.std.specs.Arc.{arc_value};
 ghost use Rattle.ball_model.specs.Job.{Job};
 ghost use Rattle.ball_model.specs.Batches.{true_batch};
 ghost use Rattle.ball_model.specs.State.{StandsFor};
 ghost use Rattle.ball_model.specs.Masks.{has_bit};
-ghost use Rattle.replica.specs.Sent.{sent_batch};
+ghost use Rattle.replica.specs.Sent.{IsTold, changed_registers, changed_row, changed_rows, sent_batch};
 ghost use Rattle.replica.specs.Seen.{IsState};
 
 use crate::{Progress, Shown};
 use ball_model::BatchName;
 use batches::Batch;
 use std::alloc::{AllocError, Global};
+use std::sync::Arc;
+
+// What another partition is told, as vertices and the places of their rows among those that changed, and how many of
+// the vertices so far changed.
+#[derive(Drop)]
+struct Told {
+    ids: Vec<u32>,
+    places: Vec<u32>,
+    changed: u32,
+}
 
 impl Progress {
     /// What the partition tells another one of this superstep, as it is read off what the replica has.
@@ -32,6 +43,93 @@ impl Progress {
             self.send_row(&mut batch, i)?;
         }
         Ok(batch)
+    }
+
+    /// The registers of the vertices that changed, one row after the other.
+    pub(crate) fn changed_rows(&self, alloc: Global) -> Result<Vec<u8>, AllocError>
+        ensures { IfOk result (λ out. out.items ≡ changed_registers self.now.state) }
+    {
+        let room = self.changed_count() as usize * self.plan().width();
+        let mut out = Vec::with_capacity(alloc, room)?;
+        for i in 0..self.part.size() {
+            self.add_row(&mut out, i)?;
+        }
+        Ok(out)
+    }
+
+    // Appends the registers of vertex i, where it changed.
+    fn add_row(&self, out: &mut Vec<u8>, i: u32) -> Result<(), AllocError>
+        requires { i < length self.now.state.part.preds }
+        ensures { OnOk result (out.new.items ≡ out.old.items ++ changed_row self.now.state i) }
+    {
+        if self.marks[i as usize] {
+            out.extend_from_slice(self.rows.get().row(i as usize))?;
+        }
+        Ok(())
+    }
+
+    /// What [`Progress::sent`] is, where the registers of the vertices that changed lie in the table.
+    pub(crate) fn sent_of(
+        &self,
+        alloc: Global,
+        table: &Arc<Vec<u8>>,
+        target: u16,
+    ) -> Result<Batch, AllocError>
+        requires target { target < self.now.state.part.plan.parts }
+        requires table { (arc_value table.now).items ≡ changed_registers self.now.state }
+        ensures { IfOk result (λ b. b ≡
+            sent_batch self.now.state target (length self.now.state.part.preds)) }
+    {
+        let name = BatchName {
+            superstep: self.superstep(),
+            source: self.partition(),
+            target,
+        };
+        let told = self.told(alloc, target)?;
+        let table = Arc::try_clone(table)?;
+        Ok(Batch::sharing(
+            self.plan(),
+            name,
+            self.changed_count(),
+            table,
+            told.ids,
+            told.places,
+        ))
+    }
+
+    // The vertices that changed and have an edge into a partition, with the places of their rows.
+    fn told(&self, alloc: Global, target: u16) -> Result<Told, AllocError>
+        requires target { target < self.now.state.part.plan.parts }
+        ensures { IfOk result (λ told. IsTold self.now.state target
+            (length self.now.state.part.preds) told.ids.items told.places.items told.changed) }
+    {
+        let mut told = nothing_told(alloc, self.count_told(target) as usize)?;
+        for i in 0..self.part.size() {
+            self.tell_row(&mut told, target, i)?;
+        }
+        Ok(told)
+    }
+
+    // Counts vertex i, where it changed, and adds it and the place of its row, where it has an edge into the target too.
+    fn tell_row(&self, told: &mut Told, target: u16, i: u32) -> Result<(), AllocError>
+        requires place { i < length self.now.state.part.preds }
+        requires target { target < self.now.state.part.plan.parts }
+        requires so_far { IsTold self.now.state target i
+            told.old.ids.items told.old.places.items told.old.changed }
+        ensures { OnOk result (IsTold self.now.state target (i + 1)
+            told.new.ids.items told.new.places.items told.new.changed) }
+    {
+        if !self.marks[i as usize] {
+            return Ok(());
+        }
+        let place = told.changed;
+        told.changed += 1;
+        if !has_edge_into(self.part.feeds(i), target) {
+            return Ok(());
+        }
+        told.ids.push(self.part.vertex(i))?;
+        told.places.push(place)?;
+        Ok(())
     }
 
     // How many vertices changed and have an edge into a partition.
@@ -60,6 +158,19 @@ impl Progress {
         }
         Ok(())
     }
+}
+
+// What is told of no vertex, with room for so many rows.
+fn nothing_told(alloc: Global, room: usize) -> Result<Told, AllocError>
+    ensures ids { IfOk result (λ told. told.ids.items ≡ []) }
+    ensures places { IfOk result (λ told. told.places.items ≡ []) }
+    ensures changed { IfOk result (λ told. told.changed ≡ 0) }
+{
+    Ok(Told {
+        ids: Vec::with_capacity(alloc, room)?,
+        places: Vec::with_capacity(alloc, room)?,
+        changed: 0,
+    })
 }
 
 // Whether bit `target` of a feed mask is set.

@@ -10,6 +10,7 @@ mod joins;
 mod rebuilt;
 mod refusals;
 mod shown;
+mod table;
 
 use super::*;
 use ball_model::{

@@ -15,7 +15,7 @@ ghost use Rattle.ball_model.specs.State.{StandsFor};
 ghost use Rattle.replica.specs.Level.{EndsRun, found_verdict, missing_in};
 ghost use Rattle.workers.specs.declared.turn.Turn.TheVariants as turn;
 ghost use Rattle.workers.specs.Turn.{DropsBefore, HasRecalled, IsFound, IsTurn, StandsIn};
-ghost use Rattle.replica.specs.Sent.{batch_name};
+ghost use Rattle.replica.specs.Sent.{batch_name, changed_registers};
 ghost use Rattle.workers.specs.Tie.{HasCome, HasGone};
 
 use crate::exchange::Exchange;
@@ -117,14 +117,27 @@ fn keep_snapshot<R: AllocGlobal + Wait, E: Exchange>(
     Ok(())
 }
 
+// The registers of the vertices that changed, as the batches of the superstep share them.
+fn shared_table(alloc: Global, replica: &Replica) -> Result<Arc<Vec<u8>>, AllocError>
+    ensures { IfOk result (λ table. (arc_value table).items ≡ changed_registers replica.now) }
+{
+    Ok(Arc::new(alloc, replica.changed_rows(alloc)?)?)
+}
+
 // What another partition is told of the superstep, as threads share it.
-fn shared_batch(alloc: Global, replica: &Replica, target: u16) -> Result<Arc<Batch>, AllocError>
+fn shared_batch(
+    alloc: Global,
+    replica: &Replica,
+    table: &Arc<Vec<u8>>,
+    target: u16,
+) -> Result<Arc<Batch>, AllocError>
     requires target { target < replica.now.part.plan.parts }
     requires other { target ≢ replica.now.part.number }
+    requires table { (arc_value table.now).items ≡ changed_registers replica.now }
     ensures { (j : Job) (p t : ℕ) → StandsFor j p t replica.now →
         IfOk result (λ b. arc_value b ≡ true_batch j (batch_name t p target)) }
 {
-    Ok(Arc::new(alloc, replica.out(alloc, target)?)?)
+    Ok(Arc::new(alloc, replica.out_of(alloc, table, target)?)?)
 }
 
 // Tells one other partition of the superstep.
@@ -134,12 +147,14 @@ fn tell<R: AllocGlobal + Wait, E: Exchange, G: Gate>(
     gate: &G,
     node: NodeId,
     replica: &Replica,
+    table: &Arc<Vec<u8>>,
     target: u16,
 ) -> Result<(), NodeError>
     requires caller { IsCaller (E.caller exchange.old) }
     requires stands { StandsIn (E.caller exchange.old) node.part replica.now }
     requires target { target < (E.caller exchange.old).seen.job.plan.parts }
     requires other { target ≢ node.part }
+    requires table { (arc_value table.now).items ≡ changed_registers replica.now }
     ensures seen { Extends (E.caller exchange.old) (E.caller exchange.new) }
     ensures posted { OnOk result (HasPosted (E.caller exchange.old)
         (batch_name replica.now.superstep node.part target) (E.caller exchange.new)) }
@@ -149,14 +164,45 @@ fn tell<R: AllocGlobal + Wait, E: Exchange, G: Gate>(
         (E.caller exchange.new)) }
     ensures full { IfErr result (λ e. e ≡ BookFull → IsFull (E.caller exchange.new)) }
 {
-    let batch = shared_batch(rt.alloc(), replica, target)?;
+    let batch = shared_batch(rt.alloc(), replica, table, target)?;
     gate.before_post(node, replica.superstep());
     exchange.post(rt, batch)?;
     gate.after_post(node, replica.superstep());
     Ok(())
 }
 
-// Tells every other partition of the superstep.
+// Tells every other partition of the superstep, where the registers of the vertices that changed lie in the table.
+fn tell_each<R: AllocGlobal + Wait, E: Exchange, G: Gate>(
+    rt: &R,
+    exchange: &mut E,
+    gate: &G,
+    node: NodeId,
+    replica: &Replica,
+    table: &Arc<Vec<u8>>,
+) -> Result<(), NodeError>
+    requires caller { IsCaller (E.caller exchange.old) }
+    requires stands { StandsIn (E.caller exchange.old) node.part replica.now }
+    requires table { (arc_value table.now).items ≡ changed_registers replica.now }
+    ensures seen { Extends (E.caller exchange.old) (E.caller exchange.new) }
+    ensures told { OnOk result (HasToldAll (E.caller exchange.old) replica.now.superstep node.part
+        (E.caller exchange.new)) }
+    ensures came { OnOk result (HasCome (E.caller exchange.old) node.part (holding_in replica.now)
+        (holding_in replica.now) (E.caller exchange.new)) }
+    ensures gone { OnErr result (HasGone (E.caller exchange.old) node.part (holding_in replica.now)
+        (E.caller exchange.new)) }
+    ensures full { IfErr result (λ e. e ≡ BookFull → IsFull (E.caller exchange.new)) }
+    ensures alone { (E.caller exchange.old).seen.job.plan.parts ≡ 1 → result ≢ Err BookFull }
+{
+    for target in 0..replica.plan().parts() {
+        if target != node.part {
+            tell(rt, exchange, gate, node, replica, table, target)?;
+        }
+    }
+    Ok(())
+}
+
+// Tells every other partition of the superstep. The registers of the vertices that changed are copied once, into a
+// table that all batches share; a partition that is alone copies nothing.
 fn tell_all<R: AllocGlobal + Wait, E: Exchange, G: Gate>(
     rt: &R,
     exchange: &mut E,
@@ -176,12 +222,11 @@ fn tell_all<R: AllocGlobal + Wait, E: Exchange, G: Gate>(
     ensures full { IfErr result (λ e. e ≡ BookFull → IsFull (E.caller exchange.new)) }
     ensures alone { (E.caller exchange.old).seen.job.plan.parts ≡ 1 → result ≢ Err BookFull }
 {
-    for target in 0..replica.plan().parts() {
-        if target != node.part {
-            tell(rt, exchange, gate, node, replica, target)?;
-        }
+    if replica.plan().parts() == 1 {
+        return Ok(());
     }
-    Ok(())
+    let table = shared_table(rt.alloc(), replica)?;
+    tell_each(rt, exchange, gate, node, replica, &table)
 }
 
 // Where every superstep is kept, drops the batches that nobody needs any more.

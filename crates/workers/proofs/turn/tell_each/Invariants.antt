@@ -4,7 +4,7 @@ use Rattle.ball_model.specs.History.{holding_in}
 use Rattle.replica.specs.Sent.{batch_name}
 use Rattle.workers.specs.Node.{HasPosted}
 use Rattle.workers.specs.Tie.{HasCome}
-use Rattle.workers.proofs.turn.tell_all.Given as goal
+use Rattle.workers.proofs.turn.tell_each.Given as goal
 
 abbrev pub invariant-loop-target : goal.invariant-loop-target
 invariant-loop-target g l =

@@ -1,0 +1,11 @@
+use Rattle.std.proofs.Common.{◌≡◌, length, subst}
+use Rattle.std.specs.Prelude.{IfOk}
+use Rattle.ball_model.specs.State.{State}
+use Rattle.replica.specs.Sent.{sent_batch}
+use Rattle.replica.proofs.ToldLemmas.{true_told}
+use Rattle.replica.proofs.Replica.out_of.Goals as goal
+
+pub returns-clause-stands : goal.returns-clause-stands
+returns-clause-stands c =
+    let sent = subst (λ (u : State). IfOk c.sent_of.result (λ b. b ≡ sent_batch u c.args.target (length u.part.preds))) c.self.view_is c.sent_of.ensures in
+    true_told c.args.self.now c.args.target c.sent_of.result c.requires.target sent
