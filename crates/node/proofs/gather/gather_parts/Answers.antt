@@ -11,14 +11,12 @@ write_report-requires-clause-graph g c κs within =
     let j : Job = job_of c.args.graph.now.graph c.args.plan.now in
     subst (All (λ (v : State). v.part.plan.vertices ≡ c.args.graph.now.graph.vertices)) (sym c.deref-2.ensures.value)
     (all_vertices_read j c.args.graph.now.graph.vertices c.args.plan.now.parts (g.R.Read.remaining c.args.reader.now) (g.R.Read.remaining c.read_replicas.new.reader) c.in_ok-replicas.replicas.items
-    c.requires refl c.in_ok-replicas.ensures)
+    c.requires refl c.in_ok-replicas.ensures.read)
 
-pub returns : goal.returns
-returns g c =
+pub returns-clause-ok : goal.returns-clause-ok
+returns-clause-ok g c =
     let j : Job = job_of c.args.graph.now.graph c.args.plan.now in
-    record {
-      ok = gathered j c.args.graph.now.labels (g.R.Read.remaining c.args.reader.now) (g.R.Read.remaining c.read_replicas.new.reader) (g.R.Read.remaining c.read_end.new.reader)
-          (g.W.Write.contents c.args.writer.now) (g.W.Write.contents c.write_report.new.writer) c.in_ok-replicas.replicas.items
-          c.in_ok-replicas.ensures c.in_ok-read_end.ensures.kept c.in_ok-read_end.ensures.end
-          (λ stand. c.in_ok-write_report.ensures.ok j refl (subst (AllStand j) (sym c.deref-2.ensures.value) stand));
-    }
+    gathered j c.args.graph.now.labels (g.R.Read.remaining c.args.reader.now) (g.R.Read.remaining c.read_replicas.new.reader) (g.R.Read.remaining c.read_end.new.reader)
+    (g.W.Write.contents c.args.writer.now) (g.W.Write.contents c.write_report.new.writer) c.in_ok-replicas.replicas.items
+    c.in_ok-replicas.ensures.read c.in_ok-read_end.ensures.kept c.in_ok-read_end.ensures.end
+    (λ stand. c.in_ok-write_report.ensures.ok j refl (subst (AllStand j) (sym c.deref-2.ensures.value) stand))

@@ -1,7 +1,7 @@
 use Rattle.node.proofs.GatherLemmas.{reads_part}
 use Rattle.node.proofs.gather.read_bytes.Goals as goal
 
-pub returns-in-Whole : goal.returns-in-Whole
-returns-in-Whole g c =
+pub returns-in-Whole-clause-read : goal.returns-in-Whole-clause-read
+returns-in-Whole-clause-read g c =
     reads_part (g.R.Read.remaining c.args.reader.now) (g.R.Read.remaining c.read_length.new.reader) (g.R.Read.remaining c.read_body.new.reader)
-    c.in_ok-length.length c.read_body.new.body.items c.in_ok-length.ensures (c.read_body.ensures.whole c.in-Whole.is) (c.read_body.ensures.length c.in-Whole.is)
+    c.in_ok-length.length c.read_body.new.body.items c.in_ok-length.ensures.read (c.read_body.ensures.whole c.in-Whole.is) (c.read_body.ensures.length c.in-Whole.is)

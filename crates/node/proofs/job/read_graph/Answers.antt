@@ -1,9 +1,9 @@
 use Rattle.node.specs.declared.job.TheConstants.{LIMITS}
 use Rattle.node.proofs.job.read_graph.Goals as goal
 
-pub returns : goal.returns
-returns g c =
-    let s = c.in_ok-give_section.ensures c.args.options.now.delimiter c.in_ok-edges.ensures.ok in
+pub returns-clause-says : goal.returns-clause-says
+returns-clause-says g c =
+    let s = c.in_ok-give_section.ensures.given c.args.options.now.delimiter c.in_ok-edges.ensures.ok in
     record {
       input = s.front;
       section = s.section;
