@@ -6,8 +6,8 @@ use Rattle.node.specs.declared.job.TheConstants.{LIMITS}
 use Rattle.node.proofs.JobLemmas.{GivesSoFar}
 use Rattle.node.proofs.job.give_section.Given as goal
 
-abbrev pub invariant-loop-_count : goal.invariant-loop-_count
-invariant-loop-_count g l = record {
+abbrev pub invariant-loop-count : goal.invariant-loop-count
+invariant-loop-count g l = record {
   so :
       (delimiter : Delimiter) → IsGiven LIMITS delimiter [] l.initial.edges →
       GivesSoFar LIMITS delimiter l._count l.cut.begins (g.R.Read.remaining l.initial.reader) (prepend_known l.cut.ahead.items (g.R.Read.remaining l.reader)) l.edges;
