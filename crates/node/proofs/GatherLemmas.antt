@@ -1,6 +1,6 @@
 -- Checkpoints of partitions, one after the other.
 use Rattle.std.proofs.Common.{◌≡◌, ◌≢◌, ◌∙◌, ◌⊎◌, inl, inr, ℕ, zero, suc, ◌+◌, ◌<◌, ◌≤◌, ◌==◌, ◌&&◌, Bool, true, false, if◌then◌else◌, List, [], ◌∷◌, ◌++◌, length, get_or, refl, ap, sym, subst, append_assoc, append-nil, length-append, arith}
-use Rattle.std.specs.Prelude.{Option, None, Some, codes, decimal, nat_lt, ◌^◌}
+use Rattle.std.specs.Prelude.{Result, Err, Ok, IfErr, Option, None, Some, codes, decimal, nat_lt, ◌^◌}
 use Rattle.std.specs.Str.{bytes_eq}
 use Rattle.std.proofs.lemmas.Bool.{eqb-true}
 use Rattle.std.proofs.lemmas.Slice.Eq.{bytes_eq-Decides}
@@ -20,12 +20,13 @@ use Rattle.ball_model.specs.Input.{Network}
 use Rattle.ball_model.specs.Job.{job_of}
 use Rattle.ball_model.specs.RunText.{Settings}
 use Rattle.checkpoint.specs.declared.error.KeepError.{KeepError}
+use Rattle.checkpoint.specs.declared.error.KeepError.TheVariants as unkept
 use Rattle.checkpoint.specs.Reading.{most_bytes}
 use Rattle.report.specs.Ready.{are_ready}
 use Rattle.node.specs.declared.error.GatherError.{GatherError}
 use Rattle.node.specs.declared.error.GatherError.TheVariants as fault
 use Rattle.node.specs.declared.error.JobError.{JobError}
-use Rattle.node.specs.NoReport.{AreUnready, BytesFollow, EndsWithin, GathersFront, HasNoReport, IsCutPart, IsMissing, IsNoReplica, IsNoReport, IsOther, IsTooLong, NoPartLine, StopsAfterJob, StopsAtPart, WritesFront, WritesFrontOfJob, part_length}
+use Rattle.node.specs.NoReport.{AreUnready, BytesFollow, EndsWithin, GathersFront, HasNoReport, IsCutPart, IsMissing, IsNoReplica, IsNoReport, IsOther, IsTooLong, NoPartLine, StopsAfterJob, StopsAtPart, WritesFront, WritesFrontOfJob, part_length, told_kept}
 use Rattle.node.specs.Job.{IsJobRead}
 use Rattle.node.specs.NoJob.{IsNoJob}
 use Rattle.node.specs.Refusals.{IsNoCheckpoint}
@@ -221,3 +222,26 @@ pub front_of_job : (s : Settings) (counted : Bool) (network : Network) (plan : P
     WritesFront (job_of network.graph plan) network.labels b c x y → WritesFrontOfJob s counted a c x y
 front_of_job s counted network plan a b c x y job (inl kept) = inl kept
 front_of_job s counted network plan a b c x y job (inr front) = inr (record { network = network; plan = plan; mid = b; job = job; gathers = front })
+
+-- ---- faults that do not come
+pub never_written : {T : Type 0} (part : PartValue) (a b : Option (List ℕ)) (r : Result T GatherError) → IfErr r (IsNoReplica part a b) → r ≢ Err fault.Write
+never_written part a b (Ok x) unread is = absurd (cc)
+never_written part a b (Err e) unread is = let same : e ≡ fault.Write = cc in absurd (subst (IsNoReplica part a b) same unread)
+
+pub never_job : {T : Type 0} (j : Job) (a b : Option (List ℕ)) (r : Result T GatherError) (x : JobError) → IfErr r (IsNoReport j a b) → r ≢ Err (fault.Job x)
+never_job j a b (Ok y) x unread is = absurd (cc)
+never_job j a b (Err e) x unread is = let same : e ≡ fault.Job x = cc in absurd (subst (IsNoReport j a b) same unread)
+
+-- ---- what is told of bytes that are no checkpoint
+pub told_other : (p : ℕ) (part : PartValue) (a b : Option (List ℕ)) (body : List ℕ) (e : KeepError) → p ≡ part.number → Consumes a b (part_text body) → (e ≢ unkept.Memory → IsNoCheckpoint part body e) → IsNoReplica part a b (told_kept p e)
+told_other p part a b body unkept.Memory same read named = tt
+told_other p part a b body unkept.Write same read named = other_part p part a b body unkept.Write same read (named (λ e. absurd (cc)))
+told_other p part a b body unkept.Read same read named = other_part p part a b body unkept.Read same read (named (λ e. absurd (cc)))
+told_other p part a b body unkept.Short same read named = other_part p part a b body unkept.Short same read (named (λ e. absurd (cc)))
+told_other p part a b body unkept.Magic same read named = other_part p part a b body unkept.Magic same read (named (λ e. absurd (cc)))
+told_other p part a b body unkept.Version same read named = other_part p part a b body unkept.Version same read (named (λ e. absurd (cc)))
+told_other p part a b body unkept.OtherJob same read named = other_part p part a b body unkept.OtherJob same read (named (λ e. absurd (cc)))
+told_other p part a b body unkept.OtherPart same read named = other_part p part a b body unkept.OtherPart same read (named (λ e. absurd (cc)))
+told_other p part a b body unkept.Shape same read named = other_part p part a b body unkept.Shape same read (named (λ e. absurd (cc)))
+told_other p part a b body unkept.Digest same read named = other_part p part a b body unkept.Digest same read (named (λ e. absurd (cc)))
+told_other p part a b body unkept.Trailing same read named = other_part p part a b body unkept.Trailing same read (named (λ e. absurd (cc)))

@@ -10,6 +10,7 @@ use Rattle.ball_model.specs.State.{State}
 use Rattle.ball_model.specs.Streams.{PutsFront}
 use Rattle.checkpoint.specs.Reading.{most_bytes}
 use Rattle.checkpoint.specs.declared.error.KeepError.{KeepError}
+use Rattle.checkpoint.specs.declared.error.KeepError.TheVariants as unkept
 use Rattle.report.specs.Ready.{are_ready, job_report}
 use Rattle.world.specs.Script.{cut_of}
 use Rattle.node.specs.declared.error.GatherError.{GatherError}
@@ -70,6 +71,11 @@ pub record IsOther (part : PartValue) (left left' : Option (List ℕ)) (e : Keep
   pub body : List ℕ
   pub consumed : Consumes left left' (part_text body)
   pub no_checkpoint : IsNoCheckpoint part body e
+
+-- what a refusal of a checkpoint of partition p is told as
+abbrev pub told_kept : ℕ → KeepError → GatherError
+told_kept p unkept.Memory = fault.Memory
+told_kept p e = fault.Checkpoint p e
 
 -- the checkpoint of the part was not read, for this fault; of want of memory and a failed read nothing is said
 abbrev pub IsNoReplica : PartValue → Option (List ℕ) → Option (List ℕ) → GatherError → Type 0

@@ -8,7 +8,7 @@ ghost use Rattle.ball_model.specs.State.{State};
 ghost use Rattle.ball_model.specs.Streams.{Rises};
 ghost use Rattle.node.specs.Gathering.{Gathers, GathersJob, ReadsAll, ReadsOne, part_line, part_text};
 ghost use Rattle.node.specs.NoReport.{HasNoReport, IsNoReplica, IsNoReport, WritesFront, WritesFrontOfJob};
-ghost use Rattle.node.specs.NoReport.{IsUnwritten, part_length};
+ghost use Rattle.node.specs.NoReport.{IsUnwritten, part_length, told_kept};
 ghost use Rattle.node.specs.Job.{settings_in};
 ghost use Rattle.node.specs.declared.error.JobError.TheVariants as no_job;
 
@@ -102,6 +102,17 @@ fn read_bytes<R: CountedRead>(
     }
 }
 
+// What a refusal of the checkpoint of partition `p` is told as.
+fn told(p: u16, error: KeepError) -> GatherError
+    ensures told { result ≡ told_kept p error }
+    ensures read { result ≢ GatherError.Read }
+{
+    match error {
+        KeepError::Memory => GatherError::Memory,
+        _ => GatherError::Checkpoint { part: p, error },
+    }
+}
+
 // The replica of the checkpoint of partition `p` that follows.
 fn read_replica<R: CountedRead>(
     alloc: Global,
@@ -125,8 +136,7 @@ fn read_replica<R: CountedRead>(
     let bytes = read_bytes(alloc, reader, &part)?;
     match read_back(alloc, part, &bytes) {
         Ok(replica) => Ok(replica),
-        Err(KeepError::Memory) => Err(GatherError::Memory),
-        Err(error) => Err(GatherError::Checkpoint { part: p, error }),
+        Err(error) => Err(told(p, error)),
     }
 }
 
@@ -142,6 +152,7 @@ fn read_replicas<R: CountedRead>(
         plan.now.parts (R.remaining reader.old) (R.remaining reader.new) replicas.items) }
     ensures refused { IfErr result (IsNoReport (job_of graph.now.graph plan.now)
         (R.remaining reader.old) (R.remaining reader.new)) }
+    ensures unwritten { result ≢ Err GatherError.Write }
     ensures failed { result ≡ Err GatherError.Read →
         Rises (R.failed_calls reader.old) (R.failed_calls reader.new) }
     ensures counted { result ≢ Err GatherError.Read →
@@ -164,6 +175,7 @@ fn read_end<R: CountedRead>(reader: &mut R) -> Result<(), GatherError>
     ensures refused { (j : Job) (replicas : List State) (left : Option (List ℕ)) →
         ReadsAll j j.plan.parts left (R.remaining reader.old) replicas →
         IfErr result (IsNoReport j left (R.remaining reader.new)) }
+    ensures unwritten { result ≢ Err GatherError.Write }
     ensures failed { result ≡ Err GatherError.Read →
         Rises (R.failed_calls reader.old) (R.failed_calls reader.new) }
     ensures counted { result ≢ Err GatherError.Read →
