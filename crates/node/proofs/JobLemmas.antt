@@ -2,6 +2,10 @@
 use Rattle.std.proofs.Common.{◌≡◌, ◌≢◌, ◌∙◌, ℕ, ◌+◌, ◌≤◌, ◌==◌, ◌||◌, Bool, true, false, nat_lt, if◌then◌else◌, List, [], ◌∷◌, ◌++◌, length, length-append, arith, refl, ap, sym, subst}
 use Rattle.std.specs.Prelude.{Option, None, Some, IfErr, IfSome, Result, Ok, Err}
 use Rattle.std.specs.Io.KnownBytes.{IsAtEnd, prepend_known}
+use Rattle.std.specs.Prelude.{IsErrAnd}
+use Rattle.std.proofs.Common.{◌⊎◌, inl, inr}
+use Rattle.node.specs.declared.error.NodeError.{NodeError}
+use Rattle.node.specs.declared.error.NodeError.TheVariants as nonode
 use Rattle.ball_model.specs.declared.plan.PlanError.{PlanError}
 use Rattle.ball_model.specs.declared.plan.PlanError.TheVariants as fault
 use Rattle.ball_model.specs.Input.{IsPlain, Network, Refusal}
@@ -19,8 +23,8 @@ use Rattle.edgelist.specs.declared.read.Delimiter.{Delimiter}
 use Rattle.edgelist.specs.declared.read.EdgeLimits.{EdgeLimits}
 use Rattle.node.specs.declared.error.JobError.{JobError}
 use Rattle.node.specs.declared.error.JobError.TheVariants as nojob
-use Rattle.node.specs.Job.{CountsSome, GivesSection, IsPlanned, SaysNetwork}
-use Rattle.node.specs.NoJob.{HasNoCount, HasNoPlan, IsNoJob, IsNoNetwork, IsRefused, IsUncounted, IsUnlisted}
+use Rattle.node.specs.Job.{CountsSome, GivesSection, IsJobRead, IsPlanned, SaysNetwork}
+use Rattle.node.specs.NoJob.{HasNoCount, HasNoNode, HasNoPlan, IsNoJob, IsNoNetwork, IsNoStart, IsRefused, IsUncounted, IsUnlisted}
 use Rattle.node.specs.Section.{EndsAtMark, Gives, HasNoMark, Passed, ReadsSection, before_mark}
 use Rattle.node.proofs.SectionLemmas.{GoesOn, passed_end, passed_more, passed_next, passed_over, passed_start, section_before}
 
@@ -147,3 +151,17 @@ no_count s counted x y z all e asked edges is = absurd is
 pub no_plan : (s : Settings) (counted : Bool) (x y z : Option (List ℕ)) (all network : Network) (e : PlanError) → SaysNetwork s x y all → CountsSome s counted y z all network →
     Err e ≡ plan_of (plan_over s.numbers network.graph) → IsNoJob s counted x z (nojob.Plan e)
 no_plan s counted x y z all network e edges list is = record { all = all; network = network; mid = y; edges = edges; list = list; refused = sym is }
+
+-- ---- a node of the job
+pub no_start : (s : Settings) (counted : Bool) (p : ℕ) (x y : Option (List ℕ)) (network : Network) (plan : PlanValue) (e : JobError) → IsJobRead s counted x y network plan → IsNoStart plan p e →
+    HasNoNode s counted p x y e
+no_start s counted p x y network plan nojob.Part job no_part = inr (refl, record { network = network; plan = plan; job = job; beyond = no_part })
+no_start s counted p x y network plan nojob.Memory job no_part = inl tt
+no_start s counted p x y network plan e job no_part = absurd no_part
+
+pub told_job : {T : Type 0} (r : Result T NodeError) (x : JobError) (P : JobError → Type 0) → IsErrAnd r (λ y. y ≡ nonode.Job x) → P x → (e : JobError) → r ≡ Err (nonode.Job e) → P e
+told_job (Ok u) x P is p e same = absurd is
+told_job (Err y) x P is p e same = let one : x ≡ e = cc in subst P one p
+
+pub never_read : (plan : PlanValue) (p : ℕ) (e : JobError) → IsNoStart plan p e → e ≢ nojob.Read
+never_read plan p e start is = absurd (subst (IsNoStart plan p) is start)

@@ -1,8 +1,8 @@
 -- Why an input says no job.
-use Rattle.std.specs.Prelude.{◌≡◌, ◌≢◌, ⊤, ℕ, ◌-◌, ◌^◌, ◌<◌, ◌≤◌, Bool, true, List, length, Option, Result, Err, IfSome}
+use Rattle.std.specs.Prelude.{◌≡◌, ◌≢◌, ⊤, ◌⊎◌, ℕ, ◌-◌, ◌^◌, ◌<◌, ◌≤◌, Bool, true, List, length, Option, Result, Err, IfSome}
 use Rattle.ball_model.specs.Counting.{counted_of}
 use Rattle.ball_model.specs.Input.{IsPlain, Network, Refusal}
-use Rattle.ball_model.specs.PlanValue.{plan_of}
+use Rattle.ball_model.specs.PlanValue.{PlanValue, plan_of}
 use Rattle.ball_model.specs.RunText.{Settings, network_in, plan_over}
 use Rattle.ball_model.specs.declared.plan.PlanError.{PlanError}
 use Rattle.edgelist.specs.Counting.{RefusesList}
@@ -13,7 +13,7 @@ use Rattle.edgelist.specs.declared.read.EdgeError.TheVariants as unread
 use Rattle.node.specs.declared.error.JobError.{JobError}
 use Rattle.node.specs.declared.error.JobError.TheVariants as fault
 use Rattle.node.specs.declared.job.TheConstants.{MOST_LIST}
-use Rattle.node.specs.Job.{CountsSome, SaysNetwork}
+use Rattle.node.specs.Job.{CountsSome, IsJobRead, SaysNetwork}
 use Rattle.node.specs.Section.{HasNoMark, before_mark}
 
 -- ---- the edge list
@@ -82,3 +82,23 @@ IsNoJob s counted left left' (fault.Plan e) = HasNoPlan s counted left left' e
 IsNoJob s counted left left' fault.Part = ⊥
 IsNoJob s counted left left' fault.Memory = ⊤
 IsNoJob s counted left left' fault.Read = ⊤
+
+-- ---- a node of the job
+-- it has no partition p; of want of memory nothing is said
+abbrev pub IsNoStart : PlanValue → ℕ → JobError → Type 0
+IsNoStart plan p fault.Part = plan.parts ≤ p
+IsNoStart plan p fault.Memory = ⊤
+IsNoStart plan p e = ⊥
+
+-- the job of the input was read, and it has no partition p
+pub record HasNoPart (s : Settings) (counted : Bool) (p : ℕ)
+    (left left' : Option (List ℕ)) : Type 0 where
+  pub network : Network
+  pub plan : PlanValue
+  pub job : IsJobRead s counted left left' network plan
+  pub beyond : plan.parts ≤ p
+
+-- the input says no job, or one without that partition
+abbrev pub HasNoNode : Settings → Bool → ℕ → Option (List ℕ) → Option (List ℕ) → JobError → Type 0
+HasNoNode s counted p left left' e =
+    IsNoJob s counted left left' e ⊎ ((e ≡ fault.Part) × HasNoPart s counted p left left')
