@@ -1,13 +1,13 @@
 -- Checkpoints of partitions, one after the other.
-use Rattle.std.proofs.Common.{◌≡◌, ◌∙◌, ℕ, zero, suc, ◌+◌, ◌<◌, ◌==◌, ◌&&◌, Bool, true, false, if◌then◌else◌, List, [], ◌∷◌, ◌++◌, length, get_or, refl, ap, sym, subst, append_assoc, append-nil, length-append, arith}
-use Rattle.std.specs.Prelude.{Option, None, Some, codes, decimal, nat_lt, ◌^◌}
+use Rattle.std.proofs.Common.{◌≡◌, ◌≢◌, ◌∙◌, ◌⊎◌, inl, inr, ℕ, zero, suc, ◌+◌, ◌<◌, ◌≤◌, ◌==◌, ◌&&◌, Bool, true, false, if◌then◌else◌, List, [], ◌∷◌, ◌++◌, length, get_or, refl, ap, sym, subst, append_assoc, append-nil, length-append, arith}
+use Rattle.std.specs.Prelude.{Result, Err, Ok, IfErr, Option, None, Some, codes, decimal, nat_lt, ◌^◌}
 use Rattle.std.specs.Str.{bytes_eq}
 use Rattle.std.proofs.lemmas.Bool.{eqb-true}
 use Rattle.std.proofs.lemmas.Slice.Eq.{bytes_eq-Decides}
 use Rattle.ball_model.specs.WorldText.{value_from}
 use Rattle.world.specs.Script.{cut_of, longer}
 use Rattle.std.specs.List.{All}
-use Rattle.std.specs.Io.KnownBytes.{Appends, Consumes, IsAtEnd}
+use Rattle.std.specs.Io.KnownBytes.{Appends, Consumes, IsAtEnd, Keeps}
 use Rattle.std.proofs.KnownBytes.{Consumes-nil, Consumes-trans}
 use Rattle.std.proofs.lemmas.List.Elements.{All-nil, All-cons}
 use Rattle.ball_model.specs.Job.{Job, IsJob, PartValue, part_of}
@@ -15,6 +15,22 @@ use Rattle.ball_model.specs.PlanValue.{PlanValue}
 use Rattle.ball_model.specs.State.{State, StandsFor}
 use Rattle.report.specs.Ready.{AllStand, job_report}
 use Rattle.node.specs.Gathering.{AreGivenBack, AreMadeOf, Gathers, IsMadeOf, ReadsAll, ReadsOne, part_line, part_text, parts_text}
+use Rattle.ball_model.specs.Streams.{PutsFront}
+use Rattle.ball_model.specs.Input.{Network}
+use Rattle.ball_model.specs.Job.{job_of}
+use Rattle.ball_model.specs.RunText.{Settings}
+use Rattle.checkpoint.specs.declared.error.KeepError.{KeepError}
+use Rattle.checkpoint.specs.declared.error.KeepError.TheVariants as unkept
+use Rattle.checkpoint.specs.Reading.{most_bytes}
+use Rattle.report.specs.Ready.{are_ready}
+use Rattle.node.specs.declared.error.GatherError.{GatherError}
+use Rattle.node.specs.declared.error.GatherError.TheVariants as fault
+use Rattle.node.specs.declared.error.JobError.{JobError}
+use Rattle.node.specs.NoReport.{AreUnready, BytesFollow, EndsWithin, GathersFront, HasNoReport, IsCutPart, IsMissing, IsNoReplica, IsNoReport, IsOther, IsTooLong, NoPartLine, StopsAfterJob, StopsAtPart, WritesFront, WritesFrontOfJob, part_length, told_kept}
+use Rattle.node.specs.Job.{IsJobRead}
+use Rattle.node.specs.NoJob.{IsNoJob}
+use Rattle.node.specs.Refusals.{IsNoCheckpoint}
+use Rattle.node.specs.Stream.{CutsBody, HasNoEnd, most_line}
 use Rattle.node.specs.NodeText.{size_in}
 use Rattle.node.specs.Turns.{Holds}
 
@@ -129,3 +145,103 @@ gathered j labels a b c x y vs s none end told = record {
 
 pub reads_part : (a b c : Option (List ℕ)) (n : ℕ) (body : List ℕ) → Consumes a b (part_line n) → Consumes b c body → length body ≡ n → Consumes a c (part_text body)
 reads_part a b c n body one two long = subst (λ (k : ℕ). Consumes a c (part_line k ++ body)) (sym long) (Consumes-trans a b c (part_line n) body one two)
+
+-- ---- why there is no replica
+pub is_missing : (n m : ℕ) (a b : Option (List ℕ)) → n ≡ m → IsAtEnd b → Consumes a b [] → (n ≡ m) × IsMissing a b
+is_missing n m a b same end none = (same, record { end = end; consumed = none })
+
+pub no_part_line : (n m : ℕ) (a b : Option (List ℕ)) (line : List ℕ) → n ≡ m → Consumes a b (line ++ 10 ∷ []) → HasNoEnd line → None ≡ part_length line → (n ≡ m) × NoPartLine a b
+no_part_line n m a b line same read one none = (same, record { line = line; one_line = one; read = inl (read, sym none) })
+
+pub long_part_line : (n m : ℕ) (a b : Option (List ℕ)) (line : List ℕ) → n ≡ m → Consumes a b line → HasNoEnd line → most_line ≤ length line → (n ≡ m) × NoPartLine a b
+long_part_line n m a b line same read one great = (same, record { line = line; one_line = one; read = inr (read, great) })
+
+pub cut_part_line : (n m : ℕ) (a b : Option (List ℕ)) (line : List ℕ) → n ≡ m → Consumes a b line → IsAtEnd b → line ≢ [] → HasNoEnd line → (n ≡ m) × EndsWithin a b
+cut_part_line n m a b line same read end some one = (same, record { front = line; some = some; within = inl one; consumed = read; end = end })
+
+some_line : (line rest : List ℕ) → (line ++ 10 ∷ []) ++ rest ≢ []
+some_line [] rest is = absurd (cc)
+some_line (c ∷ line) rest is = absurd (cc)
+
+part_some : (n : ℕ) (rest : List ℕ) → part_line n ++ rest ≢ []
+part_some n rest is = absurd (cc)
+
+pub cut_part_body : (n m size : ℕ) (a b c : Option (List ℕ)) → n ≡ m → Consumes a b (part_line size) → CutsBody size b c → (n ≡ m) × EndsWithin a c
+cut_part_body n m size a b c same line cut = (
+  same,
+  record {
+    front = part_line size ++ cut.bytes;
+    some = part_some size cut.bytes;
+    within = inr (record { size = size; body = cut.bytes; fewer = cut.fewer; front_is = refl });
+    consumed = Consumes-trans a b c (part_line size) cut.bytes line cut.consumed;
+    end = cut.end;
+  },
+)
+
+pub too_long_part : (n size most : ℕ) (part : PartValue) (a b : Option (List ℕ)) → n ≡ part.number → Consumes a b (part_line size) → most ≡ most_bytes part part.plan.limit → most < size → (n ≡ part.number) × IsTooLong part a b
+too_long_part n size most part a b same line is beyond = (same, record { size = size; consumed = line; beyond = subst (λ (k : ℕ). k < size) is beyond })
+
+pub other_part : (n : ℕ) (part : PartValue) (a b : Option (List ℕ)) (body : List ℕ) (e : KeepError) → n ≡ part.number → Consumes a b (part_text body) → IsNoCheckpoint part body e → (n ≡ part.number) × IsOther part a b e
+other_part n part a b body e same read other = (same, record { body = body; consumed = read; no_checkpoint = other })
+
+-- ---- why there is no report
+pub stops_at_part : (j : Job) (a b : Option (List ℕ)) (e : GatherError) → StopsAtPart j a b e → IsNoReport j a b e
+stops_at_part j a b (fault.Job e) s = absurd s.at
+stops_at_part j a b (fault.Missing p) s = s
+stops_at_part j a b (fault.Line p) s = s
+stops_at_part j a b (fault.Length p) s = s
+stops_at_part j a b (fault.Cut p) s = s
+stops_at_part j a b (fault.Checkpoint p e) s = s
+stops_at_part j a b fault.Trailing s = absurd s.at
+stops_at_part j a b fault.NotReady s = absurd s.at
+stops_at_part j a b fault.Memory s = tt
+stops_at_part j a b fault.Read s = tt
+stops_at_part j a b fault.Write s = tt
+
+pub stops_at : (j : Job) (p : ℕ) (a b c : Option (List ℕ)) (vs : List State) (e : GatherError) → p < j.plan.parts → ReadsAll j p a b vs → IsNoReplica (part_of j p) b c e → IsNoReport j a c e
+stops_at j p a b c vs e below before at = stops_at_part j a c e (record { p = p; below = below; replicas = vs; mid = b; before = before; at = at })
+
+pub bytes_follow : (j : Job) (a b c : Option (List ℕ)) (vs : List State) (byte : ℕ) → ReadsAll j j.plan.parts a b vs → Consumes b c (byte ∷ []) → BytesFollow j a c
+bytes_follow j a b c vs byte before read = record { replicas = vs; mid = b; before = before; byte = byte; consumed = read }
+
+pub are_unready : (j : Job) (a b c : Option (List ℕ)) (vs : List State) → ReadsAll j j.plan.parts a b vs → IsAtEnd c → Consumes b c [] → are_ready vs ≡ false → AreUnready j a c
+are_unready j a b c vs before end none unready = record { replicas = vs; mid = b; before = before; end = record { end = end; consumed = none }; unready = unready }
+
+-- ---- what was written
+pub gathered_front : (j : Job) (labels : List (List ℕ)) (a b c x y : Option (List ℕ)) (vs : List State) → ReadsAll j j.plan.parts a b vs → Consumes b c [] → IsAtEnd c →
+    (AllStand j vs → PutsFront x y (job_report j labels)) → WritesFront j labels a c x y
+gathered_front j labels a b c x y vs s none end told = inr (record {
+  bodies = s.bodies;
+  count = s.count;
+  consumed = subst (Consumes a c) (append-nil (parts_text s.bodies)) (Consumes-trans a b c (parts_text s.bodies) [] s.consumed none);
+  end = end;
+  front = λ given. told (all_stand j s.bodies vs s.made given);
+})
+
+pub front_of_job : (s : Settings) (counted : Bool) (network : Network) (plan : PlanValue) (a b c x y : Option (List ℕ)) → IsJobRead s counted a b network plan →
+    WritesFront (job_of network.graph plan) network.labels b c x y → WritesFrontOfJob s counted a c x y
+front_of_job s counted network plan a b c x y job (inl kept) = inl kept
+front_of_job s counted network plan a b c x y job (inr front) = inr (record { network = network; plan = plan; mid = b; job = job; gathers = front })
+
+-- ---- faults that do not come
+pub never_written : {T : Type 0} (part : PartValue) (a b : Option (List ℕ)) (r : Result T GatherError) → IfErr r (IsNoReplica part a b) → r ≢ Err fault.Write
+never_written part a b (Ok x) unread is = absurd (cc)
+never_written part a b (Err e) unread is = let same : e ≡ fault.Write = cc in absurd (subst (IsNoReplica part a b) same unread)
+
+pub never_job : {T : Type 0} (j : Job) (a b : Option (List ℕ)) (r : Result T GatherError) (x : JobError) → IfErr r (IsNoReport j a b) → r ≢ Err (fault.Job x)
+never_job j a b (Ok y) x unread is = absurd (cc)
+never_job j a b (Err e) x unread is = let same : e ≡ fault.Job x = cc in absurd (subst (IsNoReport j a b) same unread)
+
+-- ---- what is told of bytes that are no checkpoint
+pub told_other : (p : ℕ) (part : PartValue) (a b : Option (List ℕ)) (body : List ℕ) (e : KeepError) → p ≡ part.number → Consumes a b (part_text body) → (e ≢ unkept.Memory → IsNoCheckpoint part body e) → IsNoReplica part a b (told_kept p e)
+told_other p part a b body unkept.Memory same read named = tt
+told_other p part a b body unkept.Write same read named = other_part p part a b body unkept.Write same read (named (λ e. absurd (cc)))
+told_other p part a b body unkept.Read same read named = other_part p part a b body unkept.Read same read (named (λ e. absurd (cc)))
+told_other p part a b body unkept.Short same read named = other_part p part a b body unkept.Short same read (named (λ e. absurd (cc)))
+told_other p part a b body unkept.Magic same read named = other_part p part a b body unkept.Magic same read (named (λ e. absurd (cc)))
+told_other p part a b body unkept.Version same read named = other_part p part a b body unkept.Version same read (named (λ e. absurd (cc)))
+told_other p part a b body unkept.OtherJob same read named = other_part p part a b body unkept.OtherJob same read (named (λ e. absurd (cc)))
+told_other p part a b body unkept.OtherPart same read named = other_part p part a b body unkept.OtherPart same read (named (λ e. absurd (cc)))
+told_other p part a b body unkept.Shape same read named = other_part p part a b body unkept.Shape same read (named (λ e. absurd (cc)))
+told_other p part a b body unkept.Digest same read named = other_part p part a b body unkept.Digest same read (named (λ e. absurd (cc)))
+told_other p part a b body unkept.Trailing same read named = other_part p part a b body unkept.Trailing same read (named (λ e. absurd (cc)))

@@ -1,11 +1,11 @@
 -- What is read ahead of a section, and what a step through it does.
-use Rattle.std.proofs.Common.{◌≡◌, ◌≢◌, ◌∙◌, ℕ, ◌==◌, ◌+◌, ◌<◌, Bool, true, false, not, ◌&&◌, if◌then◌else◌, List, [], ◌∷◌, ◌++◌, length, refl, ap, sym, subst, append-nil, append_assoc, arith}
+use Rattle.std.proofs.Common.{◌≡◌, ◌≢◌, ◌∙◌, ℕ, ◌==◌, ◌+◌, ◌<◌, Bool, true, false, not, ◌&&◌, if◌then◌else◌, List, [], ◌∷◌, ◌++◌, length, refl, ap, sym, subst, append-nil, append_assoc, length-append, arith}
 use Rattle.std.specs.Prelude.{Option, None, Some, IfSome, IsSome, option_map, remove, slice_index_or}
 use Rattle.std.specs.Io.KnownBytes.{Consumes, IsAtEnd, Keeps, prepend_known}
 use Rattle.std.proofs.KnownBytes.{prepend_known-end}
 use Rattle.std.proofs.lemmas.Bool.{eqb-true}
-use Rattle.ball_model.specs.Sections.{after_line, after_mark, longer, sections_from, sections_or}
-use Rattle.node.specs.Section.{EndsAtMark, EndsOf, Gives, GivesOf, IsAhead, IsPast, Passed, PassedOf, ReadsSection, SectionOf, is_front, is_tail}
+use Rattle.ball_model.specs.Sections.{after_line, after_mark, longer, sections_from, sections_of, sections_or}
+use Rattle.node.specs.Section.{EndsAtMark, EndsOf, Gives, GivesOf, HasNoMark, IsAhead, IsPast, Passed, PassedOf, ReadsSection, SectionOf, before_mark, first_or, is_front, is_tail, prefixed}
 
 -- ---- two tests
 both_left : (a b : Bool) → (a && b) ≡ true → a ≡ true
@@ -238,15 +238,25 @@ pub ended : (xs : List ℕ) (a b : Option (List ℕ)) → Keeps a (prepend_known
 ended xs a b k none end = prepend_known-end a b xs k none (end (subst (λ (l : List ℕ). is_front l ≡ true) (sym none) refl))
 
 -- ---- many steps
+prefixed_nil : (o : Option (List ℕ × List ℕ)) → o ≡ prefixed [] o
+prefixed_nil None = refl
+prefixed_nil (Some s) = refl
+
 pub passed_start : (begins : Bool) (xs : List ℕ) (left : Option (List ℕ)) → begins ≡ true → xs ≡ [] → Passed [] begins left (prepend_known xs left)
 passed_start begins xs None line none = tt
 passed_start begins xs (Some text) line none = record {
   rest = xs ++ text;
   new_is = refl;
-  sections = λ f r e.
-      subst (λ (l : List ℕ). sections_from true (l ++ text) ≡ Some (f, r)) none
-      (subst (λ (t : Bool). sections_from t (xs ++ text) ≡ Some (f, r)) line e);
+  text_is = ap (λ (l : List ℕ). l ++ text) (sym none);
+  sections =
+      ap (λ (l : List ℕ). sections_from true (l ++ text)) (sym none)
+      ∙ ap (λ (t : Bool). sections_from t (xs ++ text)) (sym line)
+      ∙ prefixed_nil (sections_from begins (xs ++ text));
 }
+
+prefixed_longer : (front more : List ℕ) (c : ℕ) (o : Option (List ℕ × List ℕ)) → more ≡ front ++ c ∷ [] → prefixed front (longer c o) ≡ prefixed more o
+prefixed_longer front more c None is = refl
+prefixed_longer front more c (Some s) is = ap (λ (l : List ℕ). Some (l, s.1)) (sym (ap (λ (l : List ℕ). l ++ s.0) is ∙ append_assoc front (c ∷ []) s.0))
 
 pub passed_more : (front more : List ℕ) (begins next : Bool) (c : ℕ) (x y z : Option (List ℕ)) → next ≡ (c == 10) → more ≡ front ++ c ∷ [] → Passed front begins x y → Gives begins c y z → Passed more next x z
 passed_more front more begins next c None y z same is p g = tt
@@ -255,10 +265,13 @@ passed_more front more begins next c (Some text) y z same is p g =
     record {
       rest = one.rest;
       new_is = one.new_is;
-      sections = λ f r e.
-          let last : sections_from begins p.rest ≡ Some (c ∷ f, r) =
-          one.sections ∙ ap (λ (t : Bool). longer c (sections_from t one.rest)) (sym same) ∙ ap (longer c) e in
-          p.sections (c ∷ f) r last ∙ ap (λ (l : List ℕ). Some (l, r)) (sym (ap (λ (l : List ℕ). l ++ f) is ∙ append_assoc front (c ∷ []) f));
+      text_is =
+          p.text_is ∙ ap (λ (l : List ℕ). front ++ l) one.text_is
+          ∙ sym (ap (λ (l : List ℕ). l ++ one.rest) is ∙ append_assoc front (c ∷ []) one.rest);
+      sections =
+          p.sections
+          ∙ ap (prefixed front) (one.sections ∙ ap (λ (t : Bool). longer c (sections_from t one.rest)) (sym same))
+          ∙ prefixed_longer front more c (sections_from next one.rest) is;
     }
 
 pub passed_end : (front : List ℕ) (begins : Bool) (x y z : Option (List ℕ)) → Passed front begins x y → EndsAtMark begins y z → ReadsSection front x z
@@ -268,5 +281,53 @@ passed_end front begins (Some text) y z p e =
     record {
       rest = last.rest;
       new_is = last.new_is;
-      sections = p.sections [] last.rest last.sections ∙ ap (λ (l : List ℕ). Some (l, last.rest)) (append-nil front);
+      sections = p.sections ∙ ap (prefixed front) last.sections ∙ ap (λ (l : List ℕ). Some (l, last.rest)) (append-nil front);
     }
+
+-- ---- a section that does not end
+-- the input is over
+pub passed_over : (front : List ℕ) (begins : Bool) (x y : Option (List ℕ)) → Passed front begins x y → IsAtEnd y → HasNoMark x
+unfolding sections_from
+passed_over front begins None y p end = tt
+passed_over front begins (Some text) y p end =
+    let none : p.rest ≡ [] = subst IsAtEnd p.new_is end in
+    p.sections ∙ ap (λ (l : List ℕ). prefixed front (sections_from begins l)) none
+
+-- what was passed is the front of what stands before the mark
+before_passed : (front text rest : List ℕ) (o : Option (List ℕ × List ℕ)) → text ≡ front ++ rest → sections_of text ≡ prefixed front o → before_mark text ≡ front ++ first_or rest o
+before_passed front text rest None is sections = ap (first_or text) sections ∙ is
+before_passed front text rest (Some s) is sections = ap (first_or text) sections
+
+first_longer : (c : ℕ) (rest : List ℕ) (o : Option (List ℕ × List ℕ)) → first_or (c ∷ rest) (longer c o) ≡ c ∷ first_or rest o
+first_longer c rest None = refl
+first_longer c rest (Some s) = refl
+
+-- so much of it
+pub passed_many : (n : ℕ) (front : List ℕ) (begins : Bool) (x y : Option (List ℕ)) → n < length front → Passed front begins x y → IfSome x (λ text. n < length (before_mark text))
+passed_many n front begins None y many p = tt
+passed_many n front begins (Some text) y many p =
+    let o = sections_from begins p.rest in
+    let is = ap length (before_passed front text p.rest o p.text_is p.sections) ∙ length-append front (first_or p.rest o) in
+    omega (arith, is)
+
+-- and the next byte
+pub record GoesOn (front : List ℕ) (c : ℕ) (text : List ℕ) : Type 0 where
+  pub more : List ℕ
+  pub before_is : before_mark text ≡ front ++ c ∷ more
+
+pub passed_next : (front : List ℕ) (begins : Bool) (c : ℕ) (x y z : Option (List ℕ)) → Passed front begins x y → Gives begins c y z → IfSome x (GoesOn front c)
+passed_next front begins c None y z p g = tt
+passed_next front begins c (Some text) y z p g =
+    let one : GivesOf begins c p.rest z = subst (λ (o : Option (List ℕ)). Gives begins c o z) p.new_is g in
+    let o = sections_from (c == 10) one.rest in
+    record {
+      more = first_or one.rest o;
+      before_is =
+          before_passed front text (c ∷ one.rest) (longer c o) (p.text_is ∙ ap (λ (l : List ℕ). front ++ l) one.text_is) (p.sections ∙ ap (prefixed front) one.sections)
+          ∙ ap (λ (l : List ℕ). front ++ l) (first_longer c one.rest o);
+    }
+
+-- a section that was read is what stands before the mark
+pub section_before : (front : List ℕ) (x z : Option (List ℕ)) → ReadsSection front x z → IfSome x (λ text. before_mark text ≡ front)
+section_before front None z s = tt
+section_before front (Some text) z s = ap (first_or text) s.sections

@@ -3,7 +3,7 @@ use Rattle.std.proofs.Common.{◌≡◌, ◌≢◌, ◌∙◌, ℕ, ◌<◌, ◌
 use Rattle.std.proofs.lemmas.Bool.{eq-eqb, eqb-true}
 use Rattle.ball_model.specs.Content.{same_plan}
 use Rattle.replica.proofs.RunLemmas.{same_plan-self}
-use Rattle.std.specs.Prelude.{Option, None, Result, Ok, Err, IfOk, IfErr, IsErr, OnErr}
+use Rattle.std.specs.Prelude.{Option, None, Result, Ok, Err, IfOk, IfErr, IsErr, IsOk, OnErr}
 use Rattle.ball_model.specs.declared.names.BatchName.{BatchName}
 use Rattle.ball_model.specs.declared.names.Taken.{Taken}
 use Rattle.ball_model.specs.declared.names.TakeError.{TakeError}
@@ -25,7 +25,8 @@ use Rattle.ball_model.specs.WorldLaws.{IsNode}
 use Rattle.ball_model.proofs.HeldLemmas.{closed_held, joined_held, start_held, taken_held}
 use Rattle.checkpoint.specs.declared.error.KeepError.{KeepError}
 use Rattle.checkpoint.specs.declared.error.KeepError.TheVariants as unkept
-use Rattle.checkpoint.specs.Reading.{IfOkButWant, IsRead}
+use Rattle.checkpoint.specs.Reading.{IfOkButWant, IsOfBytes, IsRead, TellNone, sealed_form}
+use Rattle.ball_model.specs.Job.{PartValue}
 use Rattle.replica.specs.Runs.{Takes, Closes}
 use Rattle.replica.specs.Saved.{IsKeepable}
 use Rattle.replica.specs.Seen.{IsState}
@@ -39,7 +40,8 @@ use Rattle.node.specs.declared.session.Reply.{Reply}
 use Rattle.node.specs.declared.session.Reply.TheVariants as reply
 use Rattle.node.specs.NodeText.{IsDelivered, IsGivenBack}
 use Rattle.node.specs.Turns.{GivesOrWants, Holds, SaysMerged, TurnsTo}
-use Rattle.batches.specs.Reading.{AgreesButJob, GivesOrMemory}
+use Rattle.node.specs.Refusals.{IsAnswered, IsNoCheckpoint, SaysOfBatch, SaysOfCheckpoint}
+use Rattle.batches.specs.Reading.{AgreesButJob, GivesOrMemory, batch_at}
 use Rattle.batches.specs.declared.error.BatchError.{BatchError}
 use Rattle.batches.specs.declared.error.BatchError.TheVariants as unread
 use Rattle.batches.proofs.TrueLemmas.{true_is_batch}
@@ -203,3 +205,44 @@ begun j p v below has = record { held = start_held j p below; has = has }
 pub no_bytes : (xs : List ℕ) → (length xs == 0) ≡ true → xs ≡ []
 no_bytes [] is = refl
 no_bytes (x ∷ xs) is = let none : length (x ∷ xs) ≡ 0 = eqb-true (length (x ∷ xs)) 0 is in absurd (omega arith)
+
+-- ---- what is said of other bytes
+pub over_said : {E : Type 0} (r : Result (Unit {0}) MergeError) (t : ℕ) (said : Result Reply E) → SaysMerged r t said → IfOk said IsAnswered
+over_said (Ok u) t said says = subst (λ q. IfOk q IsAnswered) (sym says) tt
+over_said (Err unmerged.Memory) t (Ok x) says = absurd (cc)
+over_said (Err unmerged.Memory) t (Err y) says = tt
+over_said (Err unmerged.OtherJob) t said says = subst (λ q. IfOk q IsAnswered) (sym says) tt
+over_said (Err unmerged.NotMine) t said says = subst (λ q. IfOk q IsAnswered) (sym says) tt
+
+pub spelled_ok : (b : BatchValue) (due : Result BatchValue BatchError) → GivesOrMemory (Ok b) due → IsOk due
+spelled_ok b (Ok x) gives = refl
+spelled_ok b (Err e) gives = absurd (cc)
+
+pub spelled_not : (e : BatchError) (due : Result BatchValue BatchError) → GivesOrMemory (Err e) due → e ≢ unread.Memory → due ≡ Err e
+spelled_not unread.Memory due gives some = absurd (some refl)
+spelled_not e due gives some = sym gives
+
+pub says_no_batch : {E : Type 0} (plan : PlanValue) (bytes : List ℕ) (e : BatchError) (r : Result Reply E) → IfOk r (λ x. x ≡ reply.NoBatch e) → IfOk r (λ x. e ≢ unread.Memory) →
+    (e ≢ unread.Memory → batch_at plan bytes ≡ Err e) → IfOk r (SaysOfBatch plan bytes)
+says_no_batch plan bytes e (Ok x) is some tells = subst (SaysOfBatch plan bytes) (sym is) (tells some)
+says_no_batch plan bytes e (Err y) is some tells = tt
+
+pub says_no_checkpoint : {E : Type 0} (part : PartValue) (bytes : List ℕ) (e : KeepError) (r : Result Reply E) → IfOk r (λ x. x ≡ reply.NoCheckpoint e) → IfOk r (λ x. e ≢ unkept.Memory) →
+    (e ≢ unkept.Memory → IsNoCheckpoint part bytes e) → IfOk r (SaysOfCheckpoint part bytes)
+says_no_checkpoint part bytes e (Ok x) is some tells = subst (SaysOfCheckpoint part bytes) (sym is) (tells some)
+says_no_checkpoint part bytes e (Err y) is some tells = tt
+
+pub says_checkpoint : {E : Type 0} (part : PartValue) (bytes : List ℕ) (r : Result Reply E) → IfOk r IsAnswered → IsOk (sealed_form part bytes) → IfOk r (SaysOfCheckpoint part bytes)
+says_checkpoint part bytes (Ok (reply.Answered a)) is whole = whole
+says_checkpoint part bytes (Ok (reply.NoBatch e)) is whole = absurd is
+says_checkpoint part bytes (Ok (reply.NoCheckpoint e)) is whole = absurd is
+says_checkpoint part bytes (Err y) is whole = tt
+
+of_bytes : (e : KeepError) → e ≢ unkept.Memory → (IsRead e → ⊥) → IsOfBytes e
+of_bytes unkept.Memory some sure = absurd (some refl)
+of_bytes unkept.Read some sure = absurd (sure tt)
+of_bytes e some sure = tt
+
+pub no_checkpoint_in : (part : PartValue) (bytes : List ℕ) (e : KeepError) → e ≢ unkept.Memory → (IsRead e → ⊥) →
+    (IsOfBytes e → (sealed_form part bytes ≡ Err e) ⊎ ((e ≡ unkept.Shape) × IsOk (sealed_form part bytes) × TellNone part bytes)) → IsNoCheckpoint part bytes e
+no_checkpoint_in part bytes e some sure due = record { of_bytes = of_bytes e some sure; due = due (of_bytes e some sure) }

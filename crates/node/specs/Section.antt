@@ -1,5 +1,5 @@
 -- Sections on a stream: what may be the front of a mark, and what a step through a section does.
-use Rattle.std.specs.Prelude.{◌≡◌, ⊤, ℕ, Bool, true, false, not, ◌==◌, ◌&&◌, List, [], ◌∷◌, ◌++◌, Option, Some, IfSome}
+use Rattle.std.specs.Prelude.{◌≡◌, ⊤, ℕ, Bool, true, false, not, ◌==◌, ◌&&◌, List, [], ◌∷◌, ◌++◌, Option, None, Some, IfSome}
 use Rattle.ball_model.specs.Sections.{after_mark, longer, sections_from, sections_of}
 use Rattle.node.specs.declared.section.Step.{Step}
 use Rattle.node.specs.declared.section.Step.TheVariants as step
@@ -60,13 +60,18 @@ IsByteOrEnd step.Mark = ⊥
 IsByteOrEnd step.End = ⊤
 IsByteOrEnd step.Failed = ⊥
 
+-- bytes in front of a section
+abbrev pub prefixed : List ℕ → Option (List ℕ × List ℕ) → Option (List ℕ × List ℕ)
+prefixed front None = None
+prefixed front (Some sections) = Some (front ++ sections.0, sections.1)
+
 -- some bytes of a section were passed: it goes on with what is left, where a line begins or not
 pub record PassedOf (front : List ℕ) (begins : Bool) (text : List ℕ)
     (new : Option (List ℕ)) : Type 0 where
   pub rest : List ℕ
   pub new_is : new ≡ Some rest
-  pub sections : (f r : List ℕ) → sections_from begins rest ≡ Some (f, r) →
-      sections_from true text ≡ Some (front ++ f, r)
+  pub text_is : text ≡ front ++ rest
+  pub sections : sections_from true text ≡ prefixed front (sections_from begins rest)
 
 abbrev pub Passed : List ℕ → Bool → Option (List ℕ) → Option (List ℕ) → Type 0
 Passed front begins old new = IfSome old (λ text. PassedOf front begins text new)
@@ -79,3 +84,16 @@ pub record SectionOf (front text : List ℕ) (new : Option (List ℕ)) : Type 0 
 
 abbrev pub ReadsSection : List ℕ → Option (List ℕ) → Option (List ℕ) → Type 0
 ReadsSection front old new = IfSome old (λ text. SectionOf front text new)
+
+-- ---- a section that does not end
+-- no line of exactly %% is left
+abbrev pub HasNoMark : Option (List ℕ) → Type 0
+HasNoMark left = IfSome left (λ text. sections_of text ≡ None)
+
+abbrev pub first_or : List ℕ → Option (List ℕ × List ℕ) → List ℕ
+first_or text None = text
+first_or text (Some sections) = sections.0
+
+-- what stands before the first line of exactly %%, or all where there is none
+abbrev pub before_mark : List ℕ → List ℕ
+before_mark text = first_or text (sections_of text)

@@ -19,6 +19,9 @@ pub enum JobError {
     /// No line of %% ends the edge list.
     #[error("no line %% behind the edge list")]
     NoMark,
+    /// No line of %% is within the first 2^64 - 1 bytes.
+    #[error("the edge list is longer than 18446744073709551614 bytes")]
+    EdgesSize,
     /// No line of %% ends the list of counted vertices.
     #[error("no line %% behind the list")]
     NoListMark,

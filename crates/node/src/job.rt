@@ -1,12 +1,15 @@
 //! A job, read of an input up to a mark.
 
-ghost use Rattle.std.specs.Prelude.{◌≡◌, ◌<◌, [], IfOk, OnOk};
+ghost use Rattle.std.specs.Prelude.{◌≡◌, ◌≢◌, ◌<◌, ◌≤◌, [], Err, IfErr, IfOk, IsErr, OnOk, length, true};
 ghost use Rattle.std.specs.Arc.{arc_value};
 ghost use Rattle.ball_model.specs.Job.{IsJob, job_of, part_of};
 ghost use Rattle.ball_model.specs.PlanValue.{plan_of};
-ghost use Rattle.ball_model.specs.RunText.{plan_over};
+ghost use Rattle.ball_model.specs.RunText.{network_in, plan_over};
+ghost use Rattle.ball_model.specs.Streams.{Rises};
 ghost use Rattle.edgelist.specs.Given.{IsGiven};
+ghost use Rattle.edgelist.specs.Reading.{meaning_of};
 ghost use Rattle.node.specs.Job.{CountsSome, GivesSection, IsJobRead, SaysNetwork, numbers_in, settings_in};
+ghost use Rattle.node.specs.NoJob.{IsNoJob, IsNoNetwork, IsUncounted, IsUnlisted};
 ghost use Rattle.node.specs.Section.{ReadsSection};
 
 use crate::error::JobError;
@@ -52,12 +55,18 @@ fn give_section<R: CountedRead>(
     reader: &mut R,
     edges: &mut EdgeReader,
 ) -> Result<(), JobError>
-    ensures { (delimiter : Delimiter) → IsGiven LIMITS delimiter [] edges.old →
+    ensures given { (delimiter : Delimiter) → IsGiven LIMITS delimiter [] edges.old →
         OnOk result (GivesSection LIMITS delimiter
         (R.remaining reader.old) (R.remaining reader.new) edges.new) }
+    ensures refused { (delimiter : Delimiter) → IsGiven LIMITS delimiter [] edges.old →
+        IfErr result (IsNoNetwork (meaning_of LIMITS delimiter) (R.remaining reader.old)) }
+    ensures failed { result ≡ Err JobError.Read →
+        Rises (R.failed_calls reader.old) (R.failed_calls reader.new) }
+    ensures counted { result ≢ Err JobError.Read →
+        R.failed_calls reader.new ≡ R.failed_calls reader.old }
 {
     let mut cut = Cut::start();
-    for _ in 0..u64::MAX {
+    for _count in 0..u64::MAX {
         match next_step(reader, &mut cut) {
             Step::Byte(byte) => edges.add(alloc, byte)?,
             Step::Mark => return Ok(()),
@@ -65,7 +74,7 @@ fn give_section<R: CountedRead>(
             Step::Failed => return Err(JobError::Read),
         }
     }
-    Err(JobError::NoMark)
+    Err(JobError::EdgesSize)
 }
 
 // The graph that a section says, which ends at a mark.
@@ -75,8 +84,14 @@ fn read_graph<R: CountedRead>(
     options: &JobOptions,
     reader: &mut R,
 ) -> Result<Graph, JobError>
-    ensures { IfOk result (SaysNetwork (settings_in options.now)
+    ensures says { IfOk result (SaysNetwork (settings_in options.now)
         (R.remaining reader.old) (R.remaining reader.new)) }
+    ensures refused { IfErr result (IsNoNetwork (network_in (settings_in options.now))
+        (R.remaining reader.old)) }
+    ensures failed { result ≡ Err JobError.Read →
+        Rises (R.failed_calls reader.old) (R.failed_calls reader.new) }
+    ensures counted { result ≢ Err JobError.Read →
+        R.failed_calls reader.new ≡ R.failed_calls reader.old }
 {
     let mut edges = EdgeReader::new(alloc, state, options.delimiter, LIMITS)?;
     give_section(alloc, reader, &mut edges)?;
@@ -87,11 +102,17 @@ fn read_graph<R: CountedRead>(
 // Reads the bytes of a section, which ends at a mark, into `list`, which is empty.
 fn read_list<R: CountedRead>(reader: &mut R, list: &mut Vec<u8>) -> Result<(), JobError>
     requires { list.old.items ≡ [] }
-    ensures { OnOk result (ReadsSection list.new.items
+    ensures read { OnOk result (ReadsSection list.new.items
         (R.remaining reader.old) (R.remaining reader.new)) }
+    ensures few { OnOk result (length list.new.items ≤ MOST_LIST) }
+    ensures refused { IfErr result (IsUnlisted (R.remaining reader.old)) }
+    ensures failed { result ≡ Err JobError.Read →
+        Rises (R.failed_calls reader.old) (R.failed_calls reader.new) }
+    ensures counted { result ≢ Err JobError.Read →
+        R.failed_calls reader.new ≡ R.failed_calls reader.old }
 {
     let mut cut = Cut::start();
-    for _ in 0..MOST_LIST {
+    while list.len() <= MOST_LIST {
         match next_step(reader, &mut cut) {
             Step::Byte(byte) => {
                 let Ok(()) = list.push(byte) else {
@@ -113,8 +134,15 @@ fn count_listed<R: CountedRead>(
     options: &JobOptions,
     reader: &mut R,
 ) -> Result<Graph, JobError>
-    ensures { IfOk result (CountsSome (settings_in options.now) options.now.counted
+    ensures counts { IfOk result (CountsSome (settings_in options.now) options.now.counted
         (R.remaining reader.old) (R.remaining reader.new) graph) }
+    ensures asked { IsErr result → options.now.counted ≡ true }
+    ensures refused { IfErr result (IsUncounted (settings_in options.now)
+        (R.remaining reader.old) graph) }
+    ensures failed { result ≡ Err JobError.Read →
+        Rises (R.failed_calls reader.old) (R.failed_calls reader.new) }
+    ensures counted { result ≢ Err JobError.Read →
+        R.failed_calls reader.new ≡ R.failed_calls reader.old }
 {
     if !options.counted {
         return Ok(graph);
@@ -155,6 +183,9 @@ pub fn part_of(alloc: Global, graph: &Graph, plan: &Plan, p: u16) -> Result<Arc<
 }
 
 /// The graph and the plan of a job, read up to the mark behind it.
+///
+/// The edge list is refused as soon as its lines say so, and for a line that is missing behind it only where nothing
+/// else is refused; then the list is, and then the plan. Memory is taken as bytes come, and may be refused at each.
 pub fn read_job<R: CountedRead>(
     alloc: Global,
     state: RandomState,
@@ -164,6 +195,14 @@ pub fn read_job<R: CountedRead>(
     ensures read { IfOk result (λ both. IsJobRead (settings_in options.now) options.now.counted
         (R.remaining reader.old) (R.remaining reader.new) both.0 both.1) }
     ensures job { IfOk result (λ both. IsJob (job_of both.0.graph both.1)) }
+    // Which refusal it is.
+    ensures refused { IfErr result (IsNoJob (settings_in options.now) options.now.counted
+        (R.remaining reader.old) (R.remaining reader.new)) }
+    // A call failed exactly where that is told.
+    ensures failed { result ≡ Err JobError.Read →
+        Rises (R.failed_calls reader.old) (R.failed_calls reader.new) }
+    ensures counted { result ≢ Err JobError.Read →
+        R.failed_calls reader.new ≡ R.failed_calls reader.old }
 {
     let all = read_graph(alloc, state, options, reader)?;
     let graph = count_listed(alloc, all, options, reader)?;

@@ -10,6 +10,7 @@ ghost use Rattle.ball_model.specs.Streams.{Rises};
 ghost use Rattle.ball_model.specs.WorldText.{refusal_line};
 ghost use Rattle.node.specs.NodeText.{body_length, command_in, sent_text};
 ghost use Rattle.node.specs.Job.{settings_in};
+ghost use Rattle.node.specs.NoJob.{HasNoNode, IsNoStart};
 ghost use Rattle.node.specs.Serving.{IsNoRequest, IsOfMachine, ReadsRequest, Serves, ServesNode, ServesNone, ServesOne};
 ghost use Rattle.node.specs.Serving.{Steps, Stops, StopsNode};
 ghost use Rattle.node.specs.declared.error.JobError.{JobError as NoJob};
@@ -442,6 +443,7 @@ fn start(alloc: Global, graph: &Graph, plan: &Plan, part: u16) -> Result<Session
     ensures start { IfOk result (Holds (job_of graph.now.graph plan.now) part
         (start_holding plan.now part)) }
     ensures vertices { IfOk result (λ s. s.part.plan.vertices ≡ graph.now.graph.vertices) }
+    ensures refused { IfErr result (IsNoStart plan.now part) }
 {
     if plan.parts() <= part {
         return Err(JobError::Part);
@@ -450,7 +452,8 @@ fn start(alloc: Global, graph: &Graph, plan: &Plan, part: u16) -> Result<Session
     Ok(Session::start(alloc, part)?)
 }
 
-/// Reads a job, and answers the commands for the node of one of its partitions.
+/// Reads a job, and answers the commands for the node of one of its partitions. That there is no such partition is told
+/// behind all other faults of the job.
 pub fn serve_node<R: CountedRead, W: CountedWrite>(
     alloc: Global,
     state: RandomState,
@@ -470,6 +473,12 @@ pub fn serve_node<R: CountedRead, W: CountedWrite>(
     // Where there is no job nothing is answered.
     ensures jobless { (e : NoJob) → result ≡ Err (NodeError.Job e) →
         Keeps (W.contents writer.old) (W.contents writer.new) }
+    // Which refusal it is.
+    ensures refused { (e : NoJob) → result ≡ Err (NodeError.Job e) →
+        HasNoNode (settings_in options.now) options.now.counted part
+        (R.remaining reader.old) (R.remaining reader.new) e }
+    ensures unread { result ≡ Err (NodeError.Job JobError.Read) →
+        Rises (R.failed_calls reader.old) (R.failed_calls reader.new) }
 {
     let (graph, plan) = read_job(alloc, state, options, reader)?;
     let mut session = start(alloc, &graph, &plan, part)?;

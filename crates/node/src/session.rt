@@ -1,6 +1,6 @@
 //! A node's replica, and what it makes of commands.
 
-ghost use Rattle.std.specs.Prelude.{◌≡◌, ◌≢◌, ℕ, ◌<◌, [], IfOk, IfErr, IsErr, OnErr, Ok};
+ghost use Rattle.std.specs.Prelude.{◌≡◌, ◌≢◌, ℕ, ◌<◌, [], Err, IfOk, IfErr, IsErr, IsOk, OnErr, OnOk, Ok};
 ghost use Rattle.std.specs.Arc.{arc_value};
 ghost use Rattle.ball_model.specs.declared.names.BatchName.{BatchName as Name};
 ghost use Rattle.ball_model.specs.declared.world.Answer.TheVariants as answer;
@@ -10,8 +10,11 @@ ghost use Rattle.ball_model.specs.Job.{Job, IsJob, part_of};
 ghost use Rattle.ball_model.specs.Join.{Holding, join_of};
 ghost use Rattle.ball_model.specs.Steps.{Take, Close};
 ghost use Rattle.ball_model.specs.World.{closed_answer, taken_answer};
+ghost use Rattle.batches.specs.Reading.{batch_at};
+ghost use Rattle.checkpoint.specs.Reading.{sealed_form};
 ghost use Rattle.world.specs.Shows.{Has};
 ghost use Rattle.node.specs.NodeText.{IsDelivered, IsGivenBack};
+ghost use Rattle.node.specs.Refusals.{IsAnswered, IsNoCheckpoint, SaysOfBatch, SaysOfCheckpoint};
 ghost use Rattle.node.specs.Turns.{GivesOrWants, Holds, SaysMerged, TurnsTo};
 ghost use Rattle.node.specs.declared.session.Reply.TheVariants as reply;
 
@@ -88,6 +91,8 @@ impl Session {
             IfOk result (TurnsTo j p (taken_answer (held_take_answer j h name))
             (held_after j h (Take name)) self.new) }
         ensures part { self.new.part ≡ self.old.part }
+        // Which refusal it is where the bytes spell no batch of the plan.
+        ensures named { IfOk result (SaysOfBatch self.old.part.plan bytes.now) }
         ensures unread { (e : BatchError) → result ≡ Ok (reply.NoBatch e) → self.new ≡ self.old }
         ensures refused { OnErr result (self.new ≡ self.old) }
     {
@@ -134,6 +139,10 @@ impl Session {
             bytes.now ≢ [] → IsGivenBack j p bytes.now d →
             IfOk result (TurnsTo j p (answer.Restarted d.superstep) d self.new) }
         ensures part { self.new.part ≡ self.old.part }
+        // Which refusal it is where the bytes are no checkpoint of the part.
+        ensures named { bytes.now ≢ [] →
+            IfOk result (SaysOfCheckpoint self.old.part bytes.now) }
+        ensures started { bytes.now ≡ [] → IfOk result IsAnswered }
         ensures unread { (e : KeepError) → result ≡ Ok (reply.NoCheckpoint e) →
             self.new ≡ self.old }
         ensures refused { OnErr result (self.new ≡ self.old) }
@@ -152,6 +161,10 @@ impl Session {
         ensures back { (j : Job) (p : ℕ) (h d : Holding) → Holds j p h self.now →
             bytes.now ≢ [] → IsGivenBack j p bytes.now d →
             GivesOrWants (Holds j p d) result }
+        ensures whole { bytes.now ≢ [] → OnOk result (IsOk (sealed_form self.now.part bytes.now)) }
+        ensures named { bytes.now ≢ [] → IfErr result (λ e. e ≢ KeepError.Memory →
+            IsNoCheckpoint self.now.part bytes.now e) }
+        ensures started { bytes.now ≡ [] → IfErr result (λ e. e ≡ KeepError.Memory) }
     {
         let part = Arc::try_clone(&self.part)?;
         if bytes.is_empty() {
@@ -181,6 +194,8 @@ impl Session {
             IfOk result (TurnsTo j p (answer.Merged (join_of h c).superstep) (join_of h c)
             self.new) }
         ensures part { self.new.part ≡ self.old.part }
+        // Which refusal it is where the bytes are no checkpoint of the part.
+        ensures named { IfOk result (SaysOfCheckpoint self.old.part bytes.now) }
         ensures unread { (e : KeepError) → result ≡ Ok (reply.NoCheckpoint e) →
             self.new ≡ self.old }
         ensures refused { OnErr result (self.new ≡ self.old) }
@@ -200,6 +215,7 @@ impl Session {
             self.new) }
         ensures part { self.new.part ≡ self.old.part }
         ensures kind { (e : KeepError) → result ≢ Ok (reply.NoCheckpoint e) }
+        ensures said { IfOk result IsAnswered }
         ensures refused { OnErr result (self.new ≡ self.old) }
     {
         let copy = snapshot_of(alloc, other)?;
@@ -214,6 +230,7 @@ impl Session {
             self.new) }
         ensures part { self.new.part ≡ self.old.part }
         ensures kind { (e : KeepError) → result ≢ Ok (reply.NoCheckpoint e) }
+        ensures said { IfOk result IsAnswered }
         ensures refused { OnErr result (self.new ≡ self.old) }
     {
         let merged = self.replica.merge(alloc, copy);
@@ -232,6 +249,7 @@ fn snapshot_of(alloc: Global, mut replica: Replica) -> Result<Snapshot, AllocErr
 // What is said of bytes that are no batch. The error is that memory was refused.
 fn no_batch(error: BatchError) -> Result<Reply, AllocError>
     ensures some { IfOk result (λ r. r ≡ reply.NoBatch error) }
+    ensures other { IfOk result (λ _. error ≢ BatchError.Memory) }
     ensures memory { error ≡ BatchError.Memory → IsErr result }
 {
     match error {
@@ -243,6 +261,7 @@ fn no_batch(error: BatchError) -> Result<Reply, AllocError>
 // What is said of bytes that are no checkpoint. The error is that memory was refused.
 fn no_checkpoint(error: KeepError) -> Result<Reply, AllocError>
     ensures some { IfOk result (λ r. r ≡ reply.NoCheckpoint error) }
+    ensures other { IfOk result (λ _. error ≢ KeepError.Memory) }
     ensures memory { error ≡ KeepError.Memory → IsErr result }
 {
     match error {
@@ -281,6 +300,9 @@ fn read_batch(alloc: Global, plan: &Plan, bytes: &[u8]) -> Result<Arc<Batch>, Ba
         IsDelivered j bytes.now name → IfOk result (λ b. arc_value b ≡ true_batch j name) }
     ensures memory { (j : Job) (name : Name) → IsJob j → plan.now ≡ j.plan →
         IsDelivered j bytes.now name → IfErr result (λ e. e ≡ BatchError.Memory) }
+    ensures spells { OnOk result (IsOk (batch_at plan.now bytes.now)) }
+    ensures named { IfErr result (λ e. e ≢ BatchError.Memory →
+        batch_at plan.now bytes.now ≡ Err e) }
 {
     match Batch::decode(alloc, plan, bytes) {
         Ok(batch) => shared(alloc, batch),
@@ -304,6 +326,10 @@ pub fn read_back(alloc: Global, part: Arc<Part>, bytes: &[u8]) -> Result<Replica
     ensures part { IfOk result (λ r. r.part ≡ arc_value part) }
     ensures back { (j : Job) (p : ℕ) (h : Holding) → arc_value part ≡ part_of j p →
         IsGivenBack j p bytes.now h → GivesOrWants (Holds j p h) result }
+    // Which refusal it is, and when it is none.
+    ensures whole { OnOk result (IsOk (sealed_form (arc_value part) bytes.now)) }
+    ensures named { IfErr result (λ e. e ≢ KeepError.Memory →
+        IsNoCheckpoint (arc_value part) bytes.now e) }
 {
     let mut reader = MemReader::new(bytes, None);
     read_checkpoint(alloc, part, &mut reader)

@@ -102,3 +102,43 @@ fn checkpoints_give_the_report(rt: HostRuntime) {
     };
     assert!(rt; right == Some(true));
 }
+
+/// What is gathered of the edge list and these bytes is nothing, and ends so.
+fn stops<T: AllocGlobal + RandomSource + Threads + Sync>(
+    rt: &T,
+    bytes: &[u8],
+    end: GatherError,
+) -> Option<bool> {
+    let mut input = Vec::new(rt.alloc());
+    input.extend_from_slice(TWO_EDGES).ok()?;
+    input.extend_from_slice(bytes).ok()?;
+    match gathered(rt, &input)? {
+        (text, Err(error)) => Some(text.is_empty() && error == end),
+        _ => Some(false),
+    }
+}
+
+/// Bytes behind the mark that are no checkpoint of partition 0.
+static NO_CHECKPOINTS: [(&[u8], GatherError); 8] = [
+    (b"", GatherError::Missing { part: 0 }),
+    (b"part", GatherError::Cut { part: 0 }),
+    (b"part 3\nHB", GatherError::Cut { part: 0 }),
+    (b"part x\n", GatherError::Line { part: 0 }),
+    (b"part 03\nHBC", GatherError::Line { part: 0 }),
+    (&[b'p'; 70], GatherError::Line { part: 0 }),
+    (b"part 99999999\n", GatherError::Length { part: 0 }),
+    (
+        b"part 3\nHBC",
+        GatherError::Checkpoint {
+            part: 0,
+            error: checkpoint::KeepError::Short,
+        },
+    ),
+];
+
+#[test]
+fn what_is_no_checkpoint_is_named(rt: HostRuntime) {
+    for (bytes, end) in NO_CHECKPOINTS {
+        assert!(rt; stops(&rt, bytes, end) == Some(true));
+    }
+}

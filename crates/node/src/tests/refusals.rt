@@ -3,6 +3,8 @@
 use super::*;
 use crate::error::{JobError, NodeError};
 use crate::serve::serve_node;
+use ball_model::PlanError;
+use edgelist::{CountedError, EdgeError};
 
 /// A batch with another byte at a place.
 fn with_byte(alloc: Global, batch: &[u8], place: usize, byte: u8) -> Result<Vec<u8>, AllocError> {
@@ -173,6 +175,11 @@ fn what_is_no_command_ends_a_node(rt: HostRuntime) {
     assert!(rt; right);
 }
 
+/// How a node ends whose input is this, of partition 0 of two.
+fn first_of(rt: &HostRuntime, counted: bool, input: &[u8], end: JobError) -> bool {
+    end_of(rt, counted, 0, input) == Some(Err(NodeError::Job(end)))
+}
+
 /// How a node ends whose input is this.
 fn end_of(
     rt: &HostRuntime,
@@ -202,4 +209,30 @@ fn an_input_that_says_no_job_is_refused(rt: HostRuntime) {
         Some(Ok(()))
     );
     assert_eq!(rt; end_of(&rt, true, 0, b"a\tb\n%%\na\n%%"), Some(Ok(())));
+}
+
+#[test]
+fn what_is_refused_of_a_job_is_named(rt: HostRuntime) {
+    let three = JobError::Edges(EdgeError::Fields { number: 2 });
+    assert!(rt; first_of(&rt, false, b"a\tb\nb\tc\td\n%%\n", three));
+    let two = JobError::Counted(CountedError::Fields { number: 1 });
+    assert!(rt; first_of(&rt, true, b"a\tb\n%%\na\tb\n%%\n", two));
+    let unknown = JobError::Counted(CountedError::Unknown { number: 2 });
+    assert!(rt; first_of(&rt, true, b"a\tb\n%%\nb\nc\n%%\n", unknown));
+}
+
+/// How a node of a plan of so many partitions ends.
+fn plan_of(rt: &HostRuntime, parts: u16) -> Option<Result<(), NodeError>> {
+    let state = RandomState::new(rt).ok()?;
+    let mut writer = MemWriter::with_room(rt.alloc(), 64, None).ok()?;
+    let mut reader = MemReader::new(TWO_EDGES, None);
+    let options = options(parts);
+    Some(serve_node(rt.alloc(), state, &options, 0, &mut reader, &mut writer))
+}
+
+#[test]
+fn a_job_without_a_plan_is_refused(rt: HostRuntime) {
+    let parts = Some(Err(NodeError::Job(JobError::Plan(PlanError::Parts))));
+    assert!(rt; plan_of(&rt, 0) == parts);
+    assert!(rt; plan_of(&rt, 65) == parts);
 }

@@ -3,6 +3,7 @@ use Rattle.ball_model.specs.State.{State}
 use Rattle.world.proofs.NodeLemmas.{MergesWith}
 use Rattle.node.specs.Turns.{Holds}
 use Rattle.node.proofs.SessionLemmas.{over_part, over_refused, over_turns}
+use Rattle.node.proofs.SessionLemmas.{over_said}
 use Rattle.node.proofs.session.Session.merge.Goals as goal
 
 pub returns-clause-turned : goal.returns-clause-turned
@@ -22,3 +23,6 @@ returns-clause-turned c = λ j p h d k l.
 
 pub returns-clause-kind : goal.returns-clause-kind
 returns-clause-kind c = λ e. over_part c.merge-merged.result c.superstep-superstep.result c.answer_to_merge.result e c.answer_to_merge.ensures
+
+pub returns-clause-said : goal.returns-clause-said
+returns-clause-said c = over_said c.merge-merged.result c.superstep-superstep.result c.answer_to_merge.result c.answer_to_merge.ensures
