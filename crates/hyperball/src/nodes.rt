@@ -32,16 +32,6 @@ pub enum NodeFault {
     Node(NodeError),
 }
 
-impl From<NodeError> for NodeFault {
-    ghost use Rattle.hyperball.specs.declared.nodes.NodeFault.TheVariants.{Node};
-
-    ghost from_gives = { λ fault e. e ≡ Node fault };
-
-    fn from(fault: NodeError) -> NodeFault {
-        NodeFault::Node(fault)
-    }
-}
-
 /// Why no report is gathered, or not all of it, in the order of the checks.
 #[derive(Clone, Copy, Debug, PartialEq, Eq, Error)]
 pub enum GatherFault {
@@ -51,16 +41,6 @@ pub enum GatherFault {
     /// The report is not gathered.
     #[error("{0}")]
     Gather(GatherError),
-}
-
-impl From<GatherError> for GatherFault {
-    ghost use Rattle.hyperball.specs.declared.nodes.GatherFault.TheVariants.{Gather};
-
-    ghost from_gives = { λ fault e. e ≡ Gather fault };
-
-    fn from(fault: GatherError) -> GatherFault {
-        GatherFault::Gather(fault)
-    }
 }
 
 /// A node of these words, which answers the commands in the input until that ends.
@@ -92,15 +72,17 @@ pub fn node_by<H: AllocGlobal + RandomSource, R: CountedRead, W: CountedWrite>(
     let Ok(state) = RandomState::new(rt) else {
         return Err(NodeFault::Random);
     };
-    serve_node(
+    match serve_node(
         rt.alloc(),
         state,
         &words.options,
         words.part,
         reader,
         writer,
-    )?;
-    Ok(())
+    ) {
+        Ok(()) => Ok(()),
+        Err(fault) => Err(NodeFault::Node(fault)),
+    }
 }
 
 /// The report of the checkpoints in the input, of all partitions of a job. Without random words nothing is read, and
@@ -122,6 +104,8 @@ pub fn gather_by<H: AllocGlobal + RandomSource + Threads + Sync, R: CountedRead,
     let Ok(state) = RandomState::new(rt) else {
         return Err(GatherFault::Random);
     };
-    gather(rt, state, options, reader, writer)?;
-    Ok(())
+    match gather(rt, state, options, reader, writer) {
+        Ok(()) => Ok(()),
+        Err(fault) => Err(GatherFault::Gather(fault)),
+    }
 }
