@@ -289,17 +289,18 @@ fn bare_command<'a>(alloc: Global) -> Command<'a>
         .subcommand_required(true)
 }
 
-// The program with the subcommand run alone.
-fn with_run<'a>(
-    alloc: Global,
-    estimates: ValueParser<'a>,
-    delimiters: ValueParser<'a>,
+// Adds a subcommand, where there is one.
+fn add_command<'a>(
+    command: Command<'a>,
+    inner: Result<Command<'a>, AllocError>,
 ) -> Result<Command<'a>, AllocError>
-    ensures { IfOk result (IsApp (with_subcommand new_hyperball (run_app
-        (record { estimates = estimates.entry; delimiters = delimiters.entry })).top)) }
+    ensures { (app sub : App) → IsApp app command.entry → IfOk inner.entry (IsApp sub) →
+        IfOk result (IsApp (with_subcommand app sub.top)) }
 {
-    let run = run_command(alloc, estimates, delimiters)?;
-    bare_command(alloc).subcommand(run)
+    match inner {
+        Ok(inner) => command.subcommand(inner),
+        Err(error) => Err(error),
+    }
 }
 
 /// The program's command.
@@ -309,13 +310,10 @@ pub fn command<'a>(alloc: Global) -> Result<Command<'a>, AllocError>
 {
     let ways = estimates();
     let between = delimiters();
-    let top = with_run(alloc, ways, between)?;
-    let replay = replay_command(alloc, ways, between)?;
-    let top = top.subcommand(replay)?;
-    let node = node_command(alloc, ways, between)?;
-    let top = top.subcommand(node)?;
-    let gather = gather_command(alloc, ways, between)?;
-    top.subcommand(gather)
+    let top = add_command(bare_command(alloc), run_command(alloc, ways, between))?;
+    let top = add_command(top, replay_command(alloc, ways, between))?;
+    let top = add_command(top, node_command(alloc, ways, between))?;
+    add_command(top, gather_command(alloc, ways, between))
 }
 
 // The words, as the program's command reads them.

@@ -1,4 +1,4 @@
-use Rattle.std.proofs.Common.{◌≡◌, List, Option, Some, ap, codes, refl, subst}
+use Rattle.std.proofs.Common.{◌≡◌, List, Option, Some, ap, arith, codes, refl, slice_index, subst}
 use Rattle.std.specs.Prelude.{option_map}
 use Rattle.clap.specs.Words.{Row, Text}
 use Rattle.hyperball.specs.CommandLine.{Parsers}
@@ -29,7 +29,7 @@ replay_node : codes "replay" ≡ codes "node" → ⊥
 replay_node same = absurd (cc)
 
 replay_gather : codes "replay" ≡ codes "gather" → ⊥
-replay_gather same = absurd (cc)
+replay_gather same = let bad : 114 ≡ 103 = ap (λ (t : Text). slice_index t 0) same in absurd (omega arith)
 
 -- some parsers
 abbrev some_parsers : Parsers

@@ -21,7 +21,7 @@ job_in w = record {
 pub returns : goal.returns
 returns c = λ w h.
     let f = found_of c.args.matches.now in
-    let job : c.job_options_of.result ≡ job_in w = c.job_options_of.ensures (job_in w) (record {
+    let job : c.job_options_of-job.result ≡ job_in w = c.job_options_of-job.ensures (job_in w) (record {
       log2m = h.log2m;
       seed = h.seed;
       parts = h.parts;
