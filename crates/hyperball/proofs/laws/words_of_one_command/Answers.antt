@@ -29,7 +29,7 @@ replay_node : codes "replay" ≡ codes "node" → ⊥
 replay_node same = absurd (cc)
 
 replay_gather : codes "replay" ≡ codes "gather" → ⊥
-replay_gather same = let bad : 114 ≡ 103 = ap (λ (t : Text). slice_index t 0) same in absurd (omega arith)
+replay_gather same = let bad : 114 ≡ 103 = ap (λ (t : Text). slice_index t 0) same in absurd (omega (arith, bad))
 
 -- some parsers
 abbrev some_parsers : Parsers
