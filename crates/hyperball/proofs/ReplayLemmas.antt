@@ -6,7 +6,7 @@ use Rattle.ball_model.specs.Streams.{Rises}
 use Rattle.world.specs.declared.replay.ReplayError.{ReplayError}
 use Rattle.world.specs.declared.replay.ReplayError.TheVariants as fault
 use Rattle.clap.specs.Words.{Text}
-use Rattle.hyperball.specs.Nodes.{AsksNode}
+use Rattle.hyperball.specs.Nodes.{AsksGather, AsksNode}
 use Rattle.hyperball.specs.Replaying.{AsksReplay, Begins, BeginsSome, FailsIn, FailsOver, Leaves, SaysRun}
 use Rattle.hyperball.specs.Words.{SaysProgress}
 use Rattle.hyperball.specs.declared.replay_words.ReplayWords.{ReplayWords}
@@ -69,6 +69,6 @@ replay_tells x w b is = subst (SaysProgress b) is
 
 -- a replay that stopped, of words that ask for one
 pub some_begun : (words : List Text) (told old new : Option (List ℕ)) (a b : ℕ) (w : ReplayWords) → AsksReplay words →
-    (Keeps old new ⊎ Rises a b) ⊎ IfSome told (λ input. Begins w input old new) → (Keeps old new ⊎ Rises a b) ⊎ (BeginsSome words told old new ⊎ AsksNode words)
+    (Keeps old new ⊎ Rises a b) ⊎ IfSome told (λ input. Begins w input old new) → (Keeps old new ⊎ Rises a b) ⊎ (BeginsSome words told old new ⊎ (AsksNode words ⊎ AsksGather words))
 some_begun words told old new a b w asks (inl left) = inl left
 some_begun words told old new a b w asks (inr begun) = inr (inl (record { asks = asks; words_of = w; begun = begun }))

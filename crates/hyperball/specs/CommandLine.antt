@@ -91,22 +91,18 @@ with_orders app = with_rule (with_rule app
 abbrev pub with_progress : App → App
 with_progress app = with_rule app (flag_rule (codes "progress"))
 
--- the subcommand `run`
-unfoldable pub run_app : Parsers → App
-run_app p =
-    with_progress (with_orders (with_nodes (with_input p.delimiters
-    (with_estimate p.estimates (with_numbers (new_app (codes "run")))))))
-
--- the subcommand `replay`
-unfoldable pub replay_app : Parsers → App
-replay_app p = with_progress (with_rule
-    (with_input p.delimiters
-    (with_estimate p.estimates (with_numbers (new_app (codes "replay")))))
-    (option_rule (codes "replicas") number8))
-
 -- a command with the options of a job
 abbrev pub with_job : Parsers → App → App
 with_job p app = with_input p.delimiters (with_estimate p.estimates (with_numbers app))
+
+-- the subcommand `run`
+unfoldable pub run_app : Parsers → App
+run_app p = with_progress (with_orders (with_nodes (with_job p (new_app (codes "run")))))
+
+-- the subcommand `replay`
+unfoldable pub replay_app : Parsers → App
+replay_app p =
+    with_progress (with_rule (with_job p (new_app (codes "replay"))) (option_rule (codes "replicas") number8))
 
 -- the subcommand `node`
 unfoldable pub node_app : Parsers → App

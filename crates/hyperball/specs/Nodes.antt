@@ -45,8 +45,18 @@ pub record IsGather (words : List Text) (o : JobOptions) : Type 0 where
 abbrev pub NamesNode : Option (Text × List Row) → Type 0
 NamesNode sub = option_map (λ s. s.0) sub ≡ Some (codes "node")
 
+-- the subcommand is gather
+abbrev pub NamesGather : Option (Text × List Row) → Type 0
+NamesGather sub = option_map (λ s. s.0) sub ≡ Some (codes "gather")
+
 -- the words ask for a node, as some parsers read them
 pub record AsksNode (words : List Text) : Type 0 where
   pub parsers : Parsers
   pub take : TakeNames parsers
   pub named : NamesNode (subcommand_of (hyperball_app parsers) words)
+
+-- the words ask for the report of checkpoints, as some parsers read them
+pub record AsksGather (words : List Text) : Type 0 where
+  pub parsers : Parsers
+  pub take : TakeNames parsers
+  pub named : NamesGather (subcommand_of (hyperball_app parsers) words)

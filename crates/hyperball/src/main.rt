@@ -1,10 +1,12 @@
 //! HyperBall centralities of a directed graph, from the command line.
 //!
 //! `hyperball run` reads an edge list on standard input and writes its report on standard output; `hyperball replay`
-//! plays a script over one ([`replaying`]). This file hands the real streams to [`serve::serve`], which goes from words
-//! and bytes to bytes and a status. [`words::read_words`] gives what the words ask for, a [`words::Wish`]: of a run the
-//! [`options::Options`] and the lists of orders ([`orders::orders_in`]). With `--counted` the input is read whole
-//! ([`whole::read_whole`]) and cut in two ([`whole::sections`]). The run itself is [`workers::run`].
+//! plays a script over one ([`replaying`]); `hyperball node` is one partition's node that answers commands, and
+//! `hyperball gather` writes the report of the checkpoints of all partitions ([`nodes`]). This file hands the real
+//! streams to [`serve::serve`], which goes from words and bytes to bytes and a status. [`words::read_words`] gives what
+//! the words ask for, a [`words::Wish`]: of a run the [`options::Options`] and the lists of orders
+//! ([`orders::orders_in`]). With `--counted` a run reads its input whole ([`whole::read_whole`]) and cuts it in two
+//! ([`whole::sections`]). The run itself is [`workers::run`].
 //!
 //! ```text
 //! $ printf 'a\tb\nb\tc\n' | hyperball run --log2m 4
@@ -20,8 +22,10 @@
 //! ```
 #![tactic(auto)]
 
+pub mod job_words;
 pub mod laws;
 pub mod node_words;
+pub mod nodes;
 pub mod options;
 pub mod orders;
 pub mod progress;

@@ -1,46 +1,57 @@
 //! The words of the commands `hyperball node` and `hyperball gather`.
 
 ghost use Rattle.std.specs.Prelude.{◌≡◌, IfOk, codes};
-ghost use Rattle.clap.specs.Words.{App, found_of, new_app, rows_of};
-ghost use Rattle.hyperball.specs.CommandLine.{IsApp, gather_app, node_app, with_job};
-ghost use Rattle.hyperball.specs.Nodes.{AreJobOptionsOf, AreNodeOptionsOf};
+ghost use Rattle.clap.specs.Words.{found_of, new_app, rows_of};
+ghost use Rattle.hyperball.specs.CommandLine.{IsApp, gather_app, node_app};
+ghost use Rattle.hyperball.specs.Nodes.{AreNodeOptionsOf};
 ghost use Rattle.hyperball.specs.declared.node_words.NodeWords.{NodeWords as Asked};
-ghost use Rattle.node.specs.declared.job.JobOptions.{JobOptions as Wanted};
 
-use crate::options::USUAL;
-use crate::words::{ESTIMATE_HELP, add_counters, add_input, add_option, delimiter_of, estimate_of};
+use crate::job_words::{PARTS_HELP, add_job, job_options_of};
+use crate::words::add_option;
 use clap::builder::ValueParser;
 use clap::{ArgMatches, Command, value_parser};
 use node::job::JobOptions;
 use std::alloc::{AllocError, Global};
 
 const NODE_ABOUT: &str =
-    "Reads a job and commands on standard input, and answers as one partition's node";
+    "Is one partition's node of a job that several machines share, and answers commands";
 
 const NODE_LONG_ABOUT: &str =
-    "Reads an edge list, a line of exactly %%, and commands on standard input, and answers each on
-standard output before it reads the next: one partition's node of a job, whose batches and
-checkpoints an engine carries, as Dask, Slurm or a shell.
+    "Is one partition's node of a job, for a graph that no single machine is to hold. On one machine
+'hyperball run' does the whole job.
 
-With --counted a list of counted vertices and a second line %% stand before the commands.";
+An engine that people already have (Dask, Slurm, a shell with ssh) starts a node for each
+partition, brings each the batches of the others, and keeps their checkpoints. Whatever it
+loses, repeats, delays or starts anew, the figures are the same.
 
-const NODE_AFTER: &str =
-    "Commands, one on a line, and their answers. T is a superstep, P and Q are partitions, L is a number
-of bytes that follow the line.
-  send Q        what partition Q is told of the node's superstep: sent T P Q, how many vertices
-                changed, how many stand in the batch, L, and L bytes; refused no-target
-  deliver L     and L bytes, a batch: new, known, old, too-early T, not-mine, own-partition,
-                other-job, or refused and what was found in it
-  close         takes the node on by a superstep, if it holds a batch of each partition:
-                closed T, waiting Q, finished
-  keep          kept T L, and L bytes: the node's checkpoint
-  restart L     and L bytes, a checkpoint: restarted T, or refused and what was found in it.
-                restart 0: the node at its start
-  recover L     and L bytes, a checkpoint of another node of the partition: merged T
-  show          the node and its vertices, as in replay
-  totals        superstep,i,N for each superstep so far, of this partition alone
-  figures       the report's lines of this partition's vertices
-The end of the input ends the node.
+Reads an edge list, a line of exactly %%, and commands on standard input, and answers each on
+standard output before it reads the next. With --counted a list of counted vertices and a second
+line %% stand before the commands. All nodes of a job get the same input up to there, and the
+same options but --part.";
+
+const NODE_AFTER: &str = "Example, of a job of one partition:
+  printf 'a\\tb\\nb\\tc\\n%%%%\\nclose\\ntotals\\n' | hyperball node --log2m 4
+  answers
+    closed 1
+    superstep,0,33.803869
+    superstep,1,34.851860
+
+Commands, one on a line, and their answers. T is a superstep, P and Q are partitions, and L is how
+many bytes follow the line.
+  send Q        what partition Q is to be told of the superstep: sent T P Q, how many vertices
+                changed, how many stand in the batch, L, and then the batch; refused no-target
+  deliver L     with a batch behind it, once, again or late: new, known, old, too-early T,
+                not-mine, own-partition, other-job; or refused, and what was found in it
+  close         goes on to the next superstep, once each other partition was heard:
+                closed T, waiting Q, or finished where the run is over
+  keep          gives the checkpoint of the node: kept T L, and then the checkpoint
+  restart L     goes back to the checkpoint behind it, and to the start where L is 0:
+                restarted T; or refused, and what was found in it
+  recover L     takes over what the checkpoint behind it has: merged T, or refused as above
+  show          tells the node and its vertices, as in a script of 'hyperball replay'
+  totals        tells the sum of its vertices' estimates at each superstep so far
+  figures       tells the report's lines of its vertices
+Where the input ends the node ends. When all are finished, 'hyperball gather' writes the report.
 
 Exit status:
   0  all commands were answered, or help was asked for
@@ -48,18 +59,27 @@ Exit status:
   2  words that are no command";
 
 const GATHER_ABOUT: &str =
-    "Reads a job and the checkpoints of its end on standard input, and writes its report";
+    "Writes the report of a job from the checkpoints that its nodes gave at the end";
 
 const GATHER_LONG_ABOUT: &str =
-    "Reads an edge list, a line of exactly %%, and for each partition in order a line 'part L' and L
-bytes, the checkpoint of its node at the end of the run, on standard input, and writes the
-report that 'hyperball run' writes.
+    "Writes the report of a job that nodes have run ('hyperball node'), on standard output: the one
+that 'hyperball run' writes.
 
-With --counted a list of counted vertices and a second line %% stand before the checkpoints.";
+Reads an edge list, a line of exactly %%, and for each partition in order a line 'part L' and the L
+bytes of the checkpoint that its node gave when it was finished, on standard input. With --counted
+a list of counted vertices and a second line %% stand before the checkpoints. Edge list, list and
+options are those of the nodes.";
 
-const PARTS_HELP: &str = "Partitions that vertices are dealt out to, 1 to 64 [default: 1]";
+const GATHER_AFTER: &str = "Example, of two partitions whose nodes gave 0.hbck and 1.hbck:
+  { cat edges.tsv; echo %%
+    for p in 0 1; do echo part $(wc -c < $p.hbck); cat $p.hbck; done; } |
+    hyperball gather --parts 2 > report.csv
 
-const LIMIT_HELP: &str = "Superstep at which nodes stop at the latest, 1 to 4096 [default: 4096]";
+Exit status:
+  0  the report was written, or help was asked for
+  1  a fault, told in one line on standard error; nothing was written, unless memory was
+     refused or the output failed, where a beginning of the report may stand
+  2  words that are no command";
 
 const PART_HELP: &str = "The partition that the node is of, from 0 on [default: 0]";
 
@@ -70,23 +90,6 @@ pub struct NodeWords {
     pub options: JobOptions,
     /// Its partition.
     pub part: u16,
-}
-
-// Adds the options of a job, with parsers of estimates and of delimiters.
-fn add_job<'a>(
-    alloc: Global,
-    command: Command<'a>,
-    estimates: ValueParser<'a>,
-    delimiters: ValueParser<'a>,
-) -> Result<Command<'a>, AllocError>
-    ensures { (app : App) → IsApp app command.entry → IfOk result (IsApp (with_job
-        (record { estimates = estimates.entry; delimiters = delimiters.entry }) app)) }
-{
-    let command = add_counters(alloc, command)?;
-    let command = add_option(alloc, command, "parts", PARTS_HELP, value_parser!(u16))?;
-    let command = add_option(alloc, command, "limit", LIMIT_HELP, value_parser!(u32))?;
-    let command = add_option(alloc, command, "estimate", ESTIMATE_HELP, estimates)?;
-    add_input(alloc, command, delimiters)
 }
 
 // The subcommand node, before it has options.
@@ -106,6 +109,7 @@ fn bare_gather<'a>(alloc: Global) -> Command<'a>
     Command::new(alloc, "gather")
         .about(GATHER_ABOUT)
         .long_about(GATHER_LONG_ABOUT)
+        .after_long_help(GATHER_AFTER)
 }
 
 /// The subcommand node, with parsers of estimates and of delimiters.
@@ -117,7 +121,7 @@ pub fn node_command<'a>(
     ensures { IfOk result (IsApp (node_app
         (record { estimates = estimates.entry; delimiters = delimiters.entry }))) }
 {
-    let command = add_job(alloc, bare_node(alloc), estimates, delimiters)?;
+    let command = add_job(alloc, bare_node(alloc), PARTS_HELP, estimates, delimiters)?;
     add_option(alloc, command, "part", PART_HELP, value_parser!(u16))
 }
 
@@ -130,22 +134,7 @@ pub fn gather_command<'a>(
     ensures { IfOk result (IsApp (gather_app
         (record { estimates = estimates.entry; delimiters = delimiters.entry }))) }
 {
-    add_job(alloc, bare_gather(alloc), estimates, delimiters)
-}
-
-/// The options of a job. Values are as `clap` has checked them.
-pub fn job_options_of(matches: &ArgMatches<'_>) -> JobOptions
-    ensures { (o : Wanted) → AreJobOptionsOf (rows_of (found_of matches.now)) o → result ≡ o }
-{
-    JobOptions {
-        log2m: matches.get_one("log2m").unwrap_or(USUAL.log2m),
-        seed: matches.get_one("seed").unwrap_or(USUAL.seed),
-        parts: matches.get_one("parts").unwrap_or(USUAL.parts),
-        limit: matches.get_one("limit").unwrap_or(USUAL.limit),
-        estimate: estimate_of(matches.get_str("estimate")),
-        delimiter: delimiter_of(matches.get_str("delimiter")),
-        counted: matches.get_flag("counted"),
-    }
+    add_job(alloc, bare_gather(alloc), PARTS_HELP, estimates, delimiters)
 }
 
 /// What the words of a node say. Values are as `clap` has checked them.

@@ -19,7 +19,7 @@ ghost use Rattle.hyperball.specs.declared.replay_words.ReplayWords.{ReplayWords 
 ghost use Rattle.hyperball.specs.Words.{AreMistakes, AsksProgress, FailsFor, HasFaults, HasOrders};
 ghost use Rattle.hyperball.specs.Words.{IsMistake, IsRun};
 ghost use Rattle.hyperball.specs.Words.{Reports, Serves, listed_words, texts_of};
-ghost use Rattle.hyperball.specs.Nodes.{AsksNode, IsGather, IsNode};
+ghost use Rattle.hyperball.specs.Nodes.{AsksGather, AsksNode, IsGather, IsNode};
 ghost use Rattle.hyperball.specs.declared.node_words.NodeWords.{NodeWords as Noded};
 ghost use Rattle.node.specs.Gathering.{GathersJob};
 ghost use Rattle.node.specs.Job.{settings_in as job_settings};
@@ -31,6 +31,7 @@ ghost use Rattle.hyperball.specs.declared.whole.WholeError.{WholeError as NoInpu
 ghost use Rattle.hyperball.specs.declared.words.RunWords.{RunWords as Run};
 
 use crate::node_words::NodeWords;
+use crate::nodes::{gather_by, node_by};
 use crate::options::run_options;
 use crate::orders::OrdersError;
 use crate::progress::{Faults, TellingGate};
@@ -40,7 +41,6 @@ use crate::whole::{WholeError, read_whole, sections};
 use crate::words::{Said, Wish, WordsError, read_words};
 use ball_model::{CountedRead, CountedWrite, CountingReader, put_all};
 use clap::error::ErrorKind;
-use node::gather::gather;
 use node::job::JobOptions;
 use std::alloc::{AllocGlobal, Global};
 use std::fmt::Display;
@@ -451,17 +451,7 @@ fn serve_node<H: AllocGlobal + RandomSource, R: CountedRead, W: CountedWrite, F:
         (W.contents writer.old) (W.contents writer.new) }
     ensures silent { result ≡ 0 → Keeps (F.contents faults.old) (F.contents faults.new) }
 {
-    let Ok(state) = RandomState::new(rt) else {
-        return tell_fault(faults, "the system gives no random words");
-    };
-    match node::serve::serve_node(
-        rt.alloc(),
-        state,
-        &words.options,
-        words.part,
-        reader,
-        writer,
-    ) {
+    match node_by(rt, words, reader, writer) {
         Ok(()) => DONE,
         Err(fault) => tell_fault(faults, fault),
     }
@@ -473,11 +463,15 @@ fn serve_gather<
     R: CountedRead,
     W: CountedWrite,
     F: Faults,
->(rt: &H, options: &JobOptions, reader: &mut R, writer: &mut W, faults: &mut F) -> u8 {
-    let Ok(state) = RandomState::new(rt) else {
-        return tell_fault(faults, "the system gives no random words");
-    };
-    match gather(rt, state, options, reader, writer) {
+>(rt: &H, options: &JobOptions, reader: &mut R, writer: &mut W, faults: &mut F) -> u8
+    ensures status { (result ≡ 0) ⊎ (result ≡ 1) }
+    ensures done { result ≡ 0 → GathersJob
+        (job_settings options.now) options.now.counted
+        (R.remaining reader.old) (R.remaining reader.new)
+        (W.contents writer.old) (W.contents writer.new) }
+    ensures silent { result ≡ 0 → Keeps (F.contents faults.old) (F.contents faults.new) }
+{
+    match gather_by(rt, options, reader, writer) {
         Ok(()) => DONE,
         Err(fault) => tell_fault(faults, fault),
     }
@@ -487,9 +481,9 @@ fn serve_gather<
 ///
 /// 0: the report or the answers were written, or help was asked for, whose text goes to the writer; nothing goes to
 /// `faults`, unless `--progress` asks that progress is told there. 1: a fault, told in one line on `faults`; nothing was
-/// written unless a write failed, or memory was refused in a replay, where a beginning of the answers may stand, or by a
-/// node, where what it has answered stands. 2: words that are refused, as `clap` tells it there, or a list of orders that
-/// is not of its form; nothing was written.
+/// written unless a write failed, or memory was refused in a replay or for the report of checkpoints, where a beginning
+/// may stand, or by a node, where what it has answered stands. 2: words that are refused, as `clap` tells it there, or a
+/// list of orders that is not of its form; nothing was written.
 ///
 /// The first word is the program's name. With `--counted`, and by a replay, the input is read whole, at most 67,108,865
 /// bytes of it: the edge list, a line of exactly `%%`, the list of counted vertices where there is one, and for a replay
@@ -529,7 +523,8 @@ pub fn serve<
     ensures one_kept { result ≡ 1 →
         KeptOrFailed W.contents W.failed_calls writer.old writer.new
         ⊎ (BeginsSome (texts_of words.now) (R.remaining reader.old)
-        (W.contents writer.old) (W.contents writer.new) ⊎ AsksNode (texts_of words.now)) }
+        (W.contents writer.old) (W.contents writer.new)
+        ⊎ (AsksNode (texts_of words.now) ⊎ AsksGather (texts_of words.now))) }
     ensures one_begun { (w : Replayed) → IsReplay (texts_of words.now) w → result ≡ 1 →
         BeginsToServe w (R.remaining reader.old)
         W.contents W.failed_calls writer.old writer.new }

@@ -7,4 +7,4 @@ pub returns : goal.returns
 unfolding node_app
 returns c =
     let job = c.in_ok-command.ensures (new_app (codes "node")) c.bare_node.ensures in
-    rw (← c.value_parser.ensures) (c.add_option.ensures _ job)
+    rw (c.value_parser.ensures) at (c.add_option.ensures _ job)

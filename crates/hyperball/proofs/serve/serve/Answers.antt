@@ -1,4 +1,4 @@
-use Rattle.std.proofs.Common.{◌≡◌, ap, false, inr, subst, sym, true}
+use Rattle.std.proofs.Common.{◌≡◌, ap, false, inl, inr, subst, sym, true}
 use Rattle.std.specs.Prelude.{Err, IfSome, Ok}
 use Rattle.hyperball.specs.Replaying.{BeginsToServe, ServesReplay}
 use Rattle.hyperball.specs.Words.{Reports}
@@ -122,7 +122,7 @@ pub returns-in-Ok-Node-clause-gather : goal.returns-in-Ok-Node-clause-gather
 returns-in-Ok-Node-clause-gather g c = λ w is zero. absurd (node_no_gather _ _ w c.in-Ok-Node.field-0-is (c.in-Ok-Node.ensures.gather w is))
 
 pub returns-in-Ok-Node-clause-one_kept : goal.returns-in-Ok-Node-clause-one_kept
-returns-in-Ok-Node-clause-one_kept g c = λ one. inr (inr (c.in-Ok-Node.ensures.asks_node _ (ap Ok c.in-Ok-Node.field-0-is)))
+returns-in-Ok-Node-clause-one_kept g c = λ one. inr (inr (inl (c.in-Ok-Node.ensures.asks_node _ (ap Ok c.in-Ok-Node.field-0-is))))
 
 pub returns-in-Ok-Gather-clause-gather : goal.returns-in-Ok-Gather-clause-gather
 returns-in-Ok-Gather-clause-gather g c = λ w is zero.
@@ -132,3 +132,6 @@ returns-in-Ok-Gather-clause-gather g c = λ w is zero.
 
 pub returns-in-Ok-Gather-clause-node : goal.returns-in-Ok-Gather-clause-node
 returns-in-Ok-Gather-clause-node g c = λ w is zero. absurd (node_no_gather _ w _ (c.in-Ok-Gather.ensures.node w is) c.in-Ok-Gather.field-0-is)
+
+pub returns-in-Ok-Gather-clause-one_kept : goal.returns-in-Ok-Gather-clause-one_kept
+returns-in-Ok-Gather-clause-one_kept g c = λ one. inr (inr (inr (c.in-Ok-Gather.ensures.asks_gather _ (ap Ok c.in-Ok-Gather.field-0-is))))

@@ -2,7 +2,7 @@ use Rattle.std.proofs.Common.{◌∙◌, List, Option, subst, sym}
 use Rattle.std.proofs.lemmas.Result.{IfOk-weaker}
 use Rattle.clap.specs.Words.{Row, Text}
 use Rattle.clap.specs.declared.error.kind.ErrorKind.{ErrorKind}
-use Rattle.hyperball.specs.Nodes.{IsGatherOf, IsNodeOf, NamesNode}
+use Rattle.hyperball.specs.Nodes.{IsGatherOf, IsNodeOf, NamesGather, NamesNode}
 use Rattle.hyperball.specs.Replaying.{IsReplayOf, NamesReplay}
 use Rattle.hyperball.specs.Words.{FailsWith, GivesOrders, GivesProgress, IsRunOf, SaysListed}
 use Rattle.hyperball.proofs.WishLemmas.{is_gather, is_node, is_replay}
@@ -57,3 +57,8 @@ pub returns-in-Ok-clause-asks_node : goal.returns-in-Ok-clause-asks_node
 returns-in-Ok-clause-asks_node c = λ w is.
     let read = c.in-Ok.ensures.read in
     record { parsers = read.parsers; take = read.take; named = subst NamesNode read.rows (c.wish_of.ensures.names_node w is) }
+
+pub returns-in-Ok-clause-asks_gather : goal.returns-in-Ok-clause-asks_gather
+returns-in-Ok-clause-asks_gather c = λ o is.
+    let read = c.in-Ok.ensures.read in
+    record { parsers = read.parsers; take = read.take; named = subst NamesGather read.rows (c.wish_of.ensures.names_gather o is) }

@@ -3,7 +3,7 @@ use Rattle.std.specs.Str.Parse.{ExplainsUnsignedError, HasUnsignedDigitsIfOk}
 use Rattle.clap.specs.Words.{found_of}
 use Rattle.hyperball.specs.Words.{delimiter_name, estimate_name, usual_options}
 use Rattle.hyperball.proofs.OptionLemmas.{flag_is, name_is, number_is, same_job_options}
-use Rattle.hyperball.proofs.node_words.job_options_of.Goals as goal
+use Rattle.hyperball.proofs.job_words.job_options_of.Goals as goal
 
 pub returns : goal.returns
 returns c = λ o h.
