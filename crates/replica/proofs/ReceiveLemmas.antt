@@ -1,5 +1,5 @@
 -- A replica that receives a batch: one of its superstep is heard, a later one is kept.
-use Rattle.std.proofs.Common.{◌≡◌, ℕ, ◌+◌, ◌-◌, ◌<◌, ◌≤◌, ◌==◌, ◌&&◌, Bool, List, length, refl, ap, sym, ◌∙◌, subst, arith, inl, inr, if◌then◌else◌}
+use Rattle.std.proofs.Common.{◌≡◌, ℕ, ◌+◌, ◌-◌, ◌<◌, ◌≤◌, ◌==◌, ◌&&◌, List, refl, ap, sym, ◌∙◌, subst, arith, inl, inr, if◌then◌else◌}
 use Rattle.std.specs.Prelude.{Option, Some, Ok}
 use Rattle.std.specs.Arc.{arc_value}
 use Rattle.ball_model.specs.declared.names.BatchName.{BatchName}
@@ -14,7 +14,7 @@ use Rattle.replica.specs.Change.{Receives}
 use Rattle.replica.specs.Hearing.{HearingValue, HearsAlso, IsReady, KeepsAll, batch_by}
 use Rattle.replica.specs.Index.{targets_of}
 use Rattle.replica.specs.Progress.{CanGoOn, ProgressValue}
-use Rattle.replica.specs.Seen.{HasIndex, IsProgress, IsState, progress_of, state_of}
+use Rattle.replica.specs.Seen.{HasIndex, IsProgress, progress_of, state_of}
 use Rattle.replica.proofs.AccumulatorLemmas.{Keeps, fields_of, fields_are, hearing_keeps, kept_progress, state_is}
 use Rattle.replica.proofs.HearLemmas.{hears_as}
 use Rattle.replica.proofs.LevelLemmas.{number_is}

@@ -3,7 +3,6 @@ use Rattle.ball_model.specs.PlanValue.{PlanValue}
 use Rattle.ball_model.specs.Job.{PartValue}
 use Rattle.ball_model.specs.State.{State, early_at}
 use Rattle.replica.specs.Ahead.{IsTable, either}
-use Rattle.replica.specs.Hearing.{KeepsAll}
 use Rattle.replica.specs.Index.{targets_of}
 use Rattle.replica.specs.Seen.{IsState, state_of}
 use Rattle.replica.specs.declared.Progress.TheInside as progress

@@ -1,8 +1,7 @@
-use Rattle.std.proofs.Common.{◌≡◌, true, ap, sym, ◌∙◌, subst, inl, inr}
+use Rattle.std.proofs.Common.{◌≡◌, ap, ◌∙◌, inl, inr}
 use Rattle.ball_model.specs.State.{State}
 use Rattle.replica.specs.Hearing.{SaysSame}
 use Rattle.replica.specs.Level.{is_over}
-use Rattle.replica.specs.Progress.{HasAccumulators}
 use Rattle.replica.specs.Seen.{state_of}
 use Rattle.replica.proofs.AccumulatorLemmas.{had_room, said_kept, said_same, same_progress, state_is}
 use Rattle.replica.proofs.Progress.let_go.Goals as goal

@@ -1,13 +1,12 @@
-use Rattle.std.proofs.Common.{◌≡◌, ℕ, ◌+◌, ◌-◌, ◌<◌, List, ◌^◌, length, map, refl, ap, sym, ◌∙◌, subst, arith, inl, inr}
+use Rattle.std.proofs.Common.{◌≡◌, ℕ, ◌+◌, ◌-◌, ◌<◌, ◌^◌, length, map, refl, ap, sym, ◌∙◌, subst, arith, inr}
 use Rattle.std.proofs.lemmas.List.{length-map, with_items_is}
 use Rattle.std.specs.Vec.{with_items}
-use Rattle.ball_model.specs.Table.{Table}
 use Rattle.ball_model.specs.PlanValue.{PlanValue}
 use Rattle.ball_model.specs.Job.{PartValue}
 use Rattle.ball_model.specs.State.{State, early_at}
 use Rattle.figures.specs.Values.{value_of}
 use Rattle.replica.specs.Ahead.{IsTable, either}
-use Rattle.replica.specs.Hearing.{KeepsAll, KeepsAllOrNone, SaysSame}
+use Rattle.replica.specs.Hearing.{KeepsAll, SaysSame}
 use Rattle.replica.specs.Index.{targets_of}
 use Rattle.replica.specs.Seen.{IsState, state_of}
 use Rattle.replica.specs.declared.Progress.TheInside as progress

@@ -9,7 +9,7 @@ use Rattle.replica.specs.Progress.{CanGoOn, ProgressValue}
 use Rattle.replica.specs.Seen.{state_of}
 use Rattle.replica.proofs.AccumulatorLemmas.{can_go_on, had_room, state_is}
 use Rattle.replica.proofs.OverLemmas.{kept_over, never_over}
-use Rattle.replica.proofs.ReceiveLemmas.{Hearable, Heard, Kept, Placed, hearable, heard_now, kept_later, placed}
+use Rattle.replica.proofs.ReceiveLemmas.{Hearable, Heard, Kept, hearable, heard_now, kept_later, placed}
 use Rattle.replica.proofs.Progress.receive.Goals as goal
 use Rattle.replica.proofs.Progress.receive.Goals.{After-deref-then-name-self, After-hear, After-keep}
 

@@ -1,7 +1,6 @@
-use Rattle.std.proofs.Common.{◌≡◌, ◌+◌, ◌*◌, ◌<◌, true, false, length, get_or, ap, ◌∙◌, arith, refl, subst}
+use Rattle.std.proofs.Common.{◌≡◌, ◌+◌, ◌*◌, ◌<◌, true, false, length, ap, ◌∙◌, arith, refl, subst}
 use Rattle.ball_model.specs.Job.{PartValue}
 use Rattle.ball_model.specs.State.{State}
-use Rattle.ball_model.specs.Masks.{has_bit}
 use Rattle.replica.specs.Seen.{IsState}
 use Rattle.replica.proofs.AccumulatorLemmas.{state_is}
 use Rattle.replica.proofs.SentLemmas.{mark_of, bit_of}

@@ -1,6 +1,5 @@
 use Rattle.std.proofs.Common.{◌≡◌, Bool, List, false, ap, sym, ◌∙◌}
 use Rattle.std.specs.List.{list_any}
-use Rattle.ball_model.specs.Table.{Table}
 use Rattle.replica.specs.Hearing.{HearingValue}
 use Rattle.replica.proofs.HearingLemmas.{bare_same}
 use Rattle.replica.proofs.StartLemmas.{if_made}

@@ -1,4 +1,4 @@
-use Rattle.std.proofs.Common.{◌≡◌, ◌||◌, ◌==◌, not, Bool, List, Some, length, refl, ap, ◌∙◌, sym, subst, set, arith}
+use Rattle.std.proofs.Common.{◌≡◌, ◌||◌, ◌==◌, not, Bool, List, Some, length, ap, ◌∙◌, sym, subst, set, arith}
 use Rattle.std.specs.Vec.{with_items}
 use Rattle.std.proofs.lemmas.List.{with_items_is}
 use Rattle.ball_model.specs.declared.names.BatchName.{BatchName}
