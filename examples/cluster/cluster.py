@@ -64,14 +64,26 @@ def with_node(run, part, work):
 
 
 def start(run, part, program, words, job, kept):
-    """Starts a partition's node from its checkpoint, or at superstep 0. The superstep that it has reached."""
+    """Starts a partition's node from its checkpoint, or at superstep 0."""
     nodes()[run, part] = Node(program, [*words, "--part", str(part)], job)
     with_node(run, part, lambda node: node.ask(f"restart {len(kept)}", "restarted", body=kept))
-    return nodes()[run, part].superstep
 
 
-def give(run, part, command, word):
-    return with_node(run, part, lambda node: node.ask(command, word))
+def reached(run, part):
+    return with_node(run, part, lambda node: node.superstep)
+
+
+def send(run, part, superstep, target):
+    """The batch of that superstep. Where it was lost since, and the node has gone on, the node has to begin again."""
+    def work(node):
+        if node.superstep != superstep:
+            raise Gone(part)
+        return node.ask(f"send {target}", "sent")
+    return with_node(run, part, work)
+
+
+def keep(run, part):
+    return with_node(run, part, lambda node: node.ask("keep", "kept"))
 
 
 def deliver(run, part, batch):
@@ -134,7 +146,7 @@ class Run:
             except CancelledError as error:  # what they rest on is gone
                 raise Gone from error
         for error in [future.exception() for future in futures if future.status != "finished"]:
-            if isinstance(error, Gone):
+            if isinstance(error, Gone) and error.args:
                 self.place.pop(error.args[0], None)
             if not isinstance(error, (Gone, KilledWorker, CancelledError)):
                 raise error
@@ -165,15 +177,15 @@ class Run:
         for part in parts:
             self.moved += self.place.pop(part, None) is not None
             self.place[part] = min(alive, key=list(self.place.values()).count)
-        self.at.update(self.values({
-            part: self.ask(part, start, self.program, self.words, self.shared, *(kept[part] or [b""])[:1])
-            for part in parts}))
+        self.done([self.ask(part, start, self.program, self.words, self.shared, *(kept[part] or [b""])[:1])
+                   for part in parts])
+        self.at = self.values({part: self.ask(part, reached) for part in self.parts})
 
     def superstep(self):
         """The nodes that are least far go on by a superstep. Whether any did."""
         t = min(self.at.values())
         behind = [part for part in self.parts if self.at[part] == t]
-        sent = {(t, source, target): self.ask(source, give, f"send {target}", "sent")
+        sent = {(t, source, target): self.ask(source, send, t, target)
                 for source in behind for target in self.parts
                 if source != target and (t, source, target) not in self.batches}
         self.strike(t, 0)
@@ -190,7 +202,7 @@ class Run:
 
     def keep(self):
         """Keeps a checkpoint of each node on two other workers, and lets go the batches that no node needs again."""
-        given = {part: self.ask(part, give, "keep", "kept") for part in self.parts}
+        given = {part: self.ask(part, keep) for part in self.parts}
         self.done(list(given.values()))
         alive, kept = self.workers(), {}
         for part in self.parts:
@@ -203,7 +215,7 @@ class Run:
 
     def gather(self):
         """Writes the report of a run that has ended. The status of `hyperball gather`."""
-        given = {part: self.ask(part, give, "keep", "kept") for part in self.parts}
+        given = {part: self.ask(part, keep) for part in self.parts}
         self.done(list(given.values()))
         process = subprocess.Popen([self.program, "gather", *self.words], stdin=subprocess.PIPE)
         try:
