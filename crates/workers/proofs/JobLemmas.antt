@@ -13,7 +13,7 @@ use Rattle.workers.specs.declared.options.RunOptions.{RunOptions}
 use Rattle.workers.specs.declared.told.Told.{Told}
 use Rattle.workers.specs.Node.{IfDone, IsDone}
 use Rattle.workers.specs.Options.{order_for, orders_for}
-use Rattle.workers.specs.Job.{AreDone, AreEnds, AreNoted, AreStarted, EachAt, HasSplit, IsPartEnd, IsPartStarted, IsTold, KeepsItsOrders}
+use Rattle.workers.specs.Job.{AreDone, AreEnds, AreNoted, EachAt, HasSplit, IsPartEnd, IsPartStarted, IsTold, KeepsItsOrders}
 
 -- ---- lists whose elements have what their places say
 pub each_push : {A : Type 0} (has : ℕ → A → Type 0) (k : ℕ) (xs : List A) (x : A) → EachAt has k xs → has (k + length xs) x → EachAt has k (xs ++ x ∷ [])

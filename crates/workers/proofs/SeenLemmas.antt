@@ -1,9 +1,9 @@
 -- What a caller has seen goes on, and so does what is said of it.
-use Rattle.std.proofs.Common.{◌≡◌, ◌≢◌, ℕ, ◌<◌, ◌+◌, inl, inr, arith, List, [], ◌∷◌, ◌++◌, false, refl, sym, ap, ◌∙◌, subst, append_assoc}
+use Rattle.std.proofs.Common.{◌≡◌, ◌≢◌, ℕ, ◌<◌, ◌+◌, inl, inr, arith, List, [], ◌∷◌, ◌++◌, refl, sym, ap, ◌∙◌, subst, append_assoc}
 use Rattle.ball_model.specs.declared.names.BatchName.{BatchName}
 use Rattle.ball_model.specs.declared.history.Posted.{Posted}
 use Rattle.ball_model.specs.Job.{Job}
-use Rattle.ball_model.specs.History.{Event, Post, History, Begins, events_by, calls_by, board_of}
+use Rattle.ball_model.specs.History.{Event, Post, History, Begins, events_by, calls_by}
 use Rattle.ball_model.specs.Caller.{Caller, IsCaller, Extends, Called}
 use Rattle.ball_model.proofs.HistoryLemmas.{begins_self, begins_trans, events_by-append}
 use Rattle.std.proofs.lemmas.Bool.{cases_eq}
