@@ -94,15 +94,21 @@ fn says_to(lone: &mut Lone, alloc: Global, command: &[u8], bytes: &[u8], text: &
     }
 }
 
+/// What follows the first line of a text.
+fn after_line(text: &[u8]) -> Option<&[u8]> {
+    for (i, byte) in text.iter().enumerate() {
+        if *byte == b'\n' {
+            return text.get(i..)?.get(1..);
+        }
+    }
+    None
+}
+
 /// The bytes behind the line that a node answers to a command.
 fn given(lone: &mut Lone, alloc: Global, asked: &[u8]) -> Option<Vec<u8>> {
     let text = answer(lone, alloc, asked)?;
-    let mut start = 0;
-    while start < text.len() && text[start] != b'\n' {
-        start += 1;
-    }
     let mut bytes = Vec::new(alloc);
-    bytes.extend_from_slice(text.get(start + 1..)?).ok()?;
+    bytes.extend_from_slice(after_line(&text)?).ok()?;
     Some(bytes)
 }
 

@@ -26,6 +26,14 @@ vertex,x,11.390942,0.000000,0.000000,1.000000,15
     assert!(rt; right);
 }
 
+/// Whether a text is this line, behind it bytes with this front, and ends with these.
+fn is_of(text: &[u8], line: &[u8], front: &[u8], end: &[u8]) -> bool {
+    match text.get(line.len()..) {
+        Some(rest) => text.starts_with(line) && rest.starts_with(front) && text.ends_with(end),
+        None => false,
+    }
+}
+
 /// Whether what a node sends begins with this line and these fixed fields, and ends with these.
 fn sends(
     lone: &mut Lone,
@@ -36,9 +44,7 @@ fn sends(
     end: &[u8],
 ) -> bool {
     match answer(lone, alloc, asked) {
-        Some(text) => {
-            text.starts_with(line) && text[line.len()..].starts_with(front) && text.ends_with(end)
-        }
+        Some(text) => is_of(&text, line, front, end),
         None => false,
     }
 }

@@ -16,6 +16,22 @@ fn with_byte(alloc: Global, batch: &[u8], place: usize, byte: u8) -> Result<Vec<
     Ok(text)
 }
 
+/// So many bytes at the front, or all where there are fewer.
+fn front_of(bytes: &[u8], count: usize) -> &[u8] {
+    match bytes.get(..count) {
+        Some(front) => front,
+        None => bytes,
+    }
+}
+
+/// Another byte than that at a place.
+fn other_at(bytes: &[u8], place: usize) -> u8 {
+    match bytes.get(place) {
+        Some(byte) => *byte ^ 1,
+        None => 0,
+    }
+}
+
 /// Whether a node answers this to a batch with another byte at a place.
 fn refuses(
     lone: &mut Lone,
@@ -31,27 +47,43 @@ fn refuses(
     }
 }
 
-/// What node 1 of two says of damaged batches of node 0: the whole one has 74 bytes.
+/// What node 1 of two says of a batch of node 0 whose fixed fields are damaged: the whole one has 74 bytes.
+fn damaged_fields(b: &mut Lone, alloc: Global, batch: &[u8]) -> bool {
+    let mut right = says_to(b, alloc, b"deliver ", &[], b"refused short\n");
+    right &= says_to(
+        b,
+        alloc,
+        b"deliver ",
+        front_of(batch, 73),
+        b"refused short\n",
+    );
+    right &= refuses(b, alloc, batch, 0, b'h', b"refused magic\n");
+    right &= refuses(b, alloc, batch, 4, 2, b"refused version\n");
+    right &= refuses(b, alloc, batch, 5, 5, b"refused size\n");
+    right &= refuses(b, alloc, batch, 13, 2, b"refused name\n");
+    right &= refuses(b, alloc, batch, 49, 3, b"refused count\n");
+    right &= refuses(b, alloc, batch, 53, 0, b"refused trailing\n");
+    right
+}
+
+/// What it says of one with other names or rows, and of the whole one.
+fn damaged_rows(b: &mut Lone, alloc: Global, batch: &[u8]) -> bool {
+    let mut right = refuses(b, alloc, batch, 57, 1, b"refused vertex\n");
+    right &= refuses(b, alloc, batch, 58, 34, b"refused rank\n");
+    right &= refuses(b, alloc, batch, 14, other_at(batch, 14), b"other-job\n");
+    right &= refuses(b, alloc, batch, 13, 0, b"not-mine\n");
+    right &= refuses(b, alloc, batch, 9, 4, b"too-early 3\n");
+    right &= says_to(b, alloc, b"deliver ", batch, b"new\n");
+    right &= says_to(b, alloc, b"deliver ", batch, b"known\n");
+    right &= says(b, alloc, b"close\n", b"closed 1\n");
+    right &= says_to(b, alloc, b"deliver ", batch, b"old\n");
+    right
+}
+
+/// What it says of all these.
 fn damaged_batches(a: &mut Lone, b: &mut Lone, alloc: Global) -> Option<bool> {
     let batch = given(a, alloc, b"send 1\n")?;
-    let mut right = says_to(b, alloc, b"deliver ", &[], b"refused short\n");
-    right &= says_to(b, alloc, b"deliver ", &batch[..73], b"refused short\n");
-    right &= refuses(b, alloc, &batch, 0, b'h', b"refused magic\n");
-    right &= refuses(b, alloc, &batch, 4, 2, b"refused version\n");
-    right &= refuses(b, alloc, &batch, 5, 5, b"refused size\n");
-    right &= refuses(b, alloc, &batch, 13, 2, b"refused name\n");
-    right &= refuses(b, alloc, &batch, 49, 3, b"refused count\n");
-    right &= refuses(b, alloc, &batch, 53, 0, b"refused trailing\n");
-    right &= refuses(b, alloc, &batch, 57, 1, b"refused vertex\n");
-    right &= refuses(b, alloc, &batch, 58, 34, b"refused rank\n");
-    right &= refuses(b, alloc, &batch, 14, batch[14] ^ 1, b"other-job\n");
-    right &= refuses(b, alloc, &batch, 13, 0, b"not-mine\n");
-    right &= refuses(b, alloc, &batch, 9, 4, b"too-early 3\n");
-    right &= says_to(b, alloc, b"deliver ", &batch, b"new\n");
-    right &= says_to(b, alloc, b"deliver ", &batch, b"known\n");
-    right &= says(b, alloc, b"close\n", b"closed 1\n");
-    right &= says_to(b, alloc, b"deliver ", &batch, b"old\n");
-    Some(right)
+    Some(damaged_fields(b, alloc, &batch) && damaged_rows(b, alloc, &batch))
 }
 
 #[test]
@@ -71,12 +103,18 @@ fn damaged_checkpoints(a: &mut Lone, b: &mut Lone, alloc: Global) -> Option<bool
     let shown = answer(b, alloc, b"show\n")?;
     let mut right = says_to(a, alloc, b"restart ", &kept, b"refused other-part\n");
     right &= says_to(a, alloc, b"recover ", &kept, b"refused other-part\n");
-    right &= says_to(b, alloc, b"restart ", &kept[..53], b"refused short\n");
+    right &= says_to(
+        b,
+        alloc,
+        b"restart ",
+        front_of(&kept, 53),
+        b"refused short\n",
+    );
     right &= says_to(b, alloc, b"recover ", &[], b"refused short\n");
     for (place, byte, text) in [
         (0, b'h', b"refused magic\n".as_slice()),
         (4, 3, b"refused version\n".as_slice()),
-        (22, kept[22] ^ 1, b"refused other-job\n".as_slice()),
+        (22, other_at(&kept, 22), b"refused other-job\n".as_slice()),
         (5, 5, b"refused shape\n".as_slice()),
         (54, 0, b"refused digest\n".as_slice()),
     ] {
@@ -102,8 +140,8 @@ fn damaged_checkpoints_are_named(rt: HostRuntime) {
 /// Whether a node answers this to commands and then ends so.
 fn ends(lone: &mut Lone, alloc: Global, asked: &[u8], text: &[u8], end: ServeError) -> bool {
     match told(lone, alloc, asked) {
-        Some((said, Err(error))) => said.as_slice() == text && error == end,
-        _ => false,
+        Some((said, ended)) => said.as_slice() == text && ended == Err(end),
+        None => false,
     }
 }
 
