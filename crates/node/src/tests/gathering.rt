@@ -3,6 +3,9 @@
 use super::*;
 use crate::error::GatherError;
 use crate::gather::gather;
+use std::alloc::AllocGlobal;
+use std::random::RandomSource;
+use std::thread::Threads;
 
 static REPORT: &[u8] = b"superstep,0,33.803869
 superstep,1,34.851860
@@ -16,7 +19,10 @@ vertex,c,12.417153,0.751274,0.538737,83.065637,13
 ";
 
 /// What is gathered of an input, and how that ends.
-fn gathered(rt: &HostRuntime, input: &[u8]) -> Option<(Vec<u8>, Result<(), GatherError>)> {
+fn gathered<T: AllocGlobal + RandomSource + Threads + Sync>(
+    rt: &T,
+    input: &[u8],
+) -> Option<(Vec<u8>, Result<(), GatherError>)> {
     let state = RandomState::new(rt).ok()?;
     let mut writer = MemWriter::with_room(rt.alloc(), 4096, None).ok()?;
     let mut reader = MemReader::new(input, None);
@@ -25,7 +31,7 @@ fn gathered(rt: &HostRuntime, input: &[u8]) -> Option<(Vec<u8>, Result<(), Gathe
 }
 
 /// Whether the report is gathered of an input.
-fn reports(rt: &HostRuntime, input: &[u8]) -> bool {
+fn reports<T: AllocGlobal + RandomSource + Threads + Sync>(rt: &T, input: &[u8]) -> bool {
     match gathered(rt, input) {
         Some((text, Ok(()))) => text.as_slice() == REPORT,
         _ => false,
@@ -33,7 +39,11 @@ fn reports(rt: &HostRuntime, input: &[u8]) -> bool {
 }
 
 /// Whether nothing is gathered of an input, and this is told.
-fn stops(rt: &HostRuntime, input: &[u8], end: GatherError) -> bool {
+fn stops<T: AllocGlobal + RandomSource + Threads + Sync>(
+    rt: &T,
+    input: &[u8],
+    end: GatherError,
+) -> bool {
     match gathered(rt, input) {
         Some((text, Err(error))) => text.is_empty() && error == end,
         _ => false,
@@ -56,7 +66,7 @@ fn input_of(alloc: Global, parts: &[&[u8]]) -> Result<Vec<u8>, AllocError> {
 }
 
 /// Whether checkpoints give the report.
-fn gathers(rt: &HostRuntime, parts: &[&[u8]]) -> bool {
+fn gathers<T: AllocGlobal + RandomSource + Threads + Sync>(rt: &T, parts: &[&[u8]]) -> bool {
     match input_of(rt.alloc(), parts) {
         Ok(input) => reports(rt, &input),
         Err(_) => false,
@@ -64,41 +74,67 @@ fn gathers(rt: &HostRuntime, parts: &[&[u8]]) -> bool {
 }
 
 /// Whether checkpoints give none, and this is told.
-fn fails(rt: &HostRuntime, parts: &[&[u8]], end: GatherError) -> bool {
+fn fails<T: AllocGlobal + RandomSource + Threads + Sync>(
+    rt: &T,
+    parts: &[&[u8]],
+    end: GatherError,
+) -> bool {
     match input_of(rt.alloc(), parts) {
         Ok(input) => stops(rt, &input, end),
         Err(_) => false,
     }
 }
 
-/// Whether the checkpoints of a run give its report, and one of the start does not.
-fn of_a_run(rt: &HostRuntime, early: &[u8], first: &[u8], second: &[u8]) -> bool {
-    gathers(rt, &[first, second]) && fails(rt, &[early, second], GatherError::NotReady)
+/// Checkpoints of two nodes.
+#[derive(Drop)]
+struct Kept {
+    early: Vec<u8>,
+    first: Vec<u8>,
+    second: Vec<u8>,
+}
+
+/// Those of the end of a run, and one of its start.
+fn kept_in_a_run(rt: &HostRuntime) -> Option<Kept> {
+    let inputs = whole_run(rt)?;
+    Some(Kept {
+        early: given(rt, 0, TWO_EDGES, b"keep\n")?,
+        first: given(rt, 0, &inputs.first, b"keep\n")?,
+        second: given(rt, 1, &inputs.second, b"keep\n")?,
+    })
+}
+
+/// Whether those of the end give the report, and one of the start does not.
+fn of_a_run<T: AllocGlobal + RandomSource + Threads + Sync>(rt: &T, kept: &Kept) -> bool {
+    gathers(rt, &[&kept.first, &kept.second])
+        && fails(rt, &[&kept.early, &kept.second], GatherError::NotReady)
 }
 
 /// Whether one is wanted of each partition.
-fn of_each_part(rt: &HostRuntime, first: &[u8], second: &[u8]) -> bool {
+fn of_each_part<T: AllocGlobal + RandomSource + Threads + Sync>(rt: &T, kept: &Kept) -> bool {
     let other = GatherError::Checkpoint {
         part: 1,
         error: checkpoint::KeepError::OtherPart,
     };
-    fails(rt, &[first], GatherError::Missing { part: 1 })
-        && fails(rt, &[first, second, &[]], GatherError::Trailing)
-        && fails(rt, &[first, first], other)
+    fails(rt, &[&kept.first], GatherError::Missing { part: 1 })
+        && fails(rt, &[&kept.first, &kept.second, &[]], GatherError::Trailing)
+        && fails(rt, &[&kept.first, &kept.first], other)
 }
 
-/// Whether all that is so of the checkpoints of two nodes.
-fn all_gathered(rt: &HostRuntime) -> Option<bool> {
-    let early = given(rt, 0, TWO_EDGES, b"keep\n")?;
-    let inputs = whole_run(rt)?;
-    let first = given(rt, 0, &inputs.first, b"keep\n")?;
-    let second = given(rt, 1, &inputs.second, b"keep\n")?;
-    Some(of_a_run(rt, &early, &first, &second) && of_each_part(rt, &first, &second))
+/// Whether all that is so.
+fn all_gathered<T: AllocGlobal + RandomSource + Threads + Sync>(
+    rt: &T,
+    kept: Option<Kept>,
+) -> bool {
+    match kept {
+        Some(kept) => of_a_run(rt, &kept) && of_each_part(rt, &kept),
+        None => false,
+    }
 }
 
 #[test]
 fn checkpoints_give_the_report(rt: HostRuntime) {
-    assert!(rt; all_gathered(&rt) == Some(true));
+    let kept = kept_in_a_run(&rt);
+    assert!(rt; all_gathered(&rt, kept));
 }
 
 /// Inputs behind whose mark no checkpoint of partition 0 stands.
@@ -129,7 +165,7 @@ static NO_CHECKPOINTS: [(&[u8], GatherError); 8] = [
 ];
 
 /// Whether each is named.
-fn all_stop(rt: &HostRuntime) -> bool {
+fn all_stop<T: AllocGlobal + RandomSource + Threads + Sync>(rt: &T) -> bool {
     for (input, end) in &NO_CHECKPOINTS {
         if !stops(rt, input, *end) {
             return false;
