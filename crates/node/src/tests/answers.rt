@@ -2,14 +2,9 @@
 
 use super::*;
 
-const ROW_OF_A: [u8; 20] = [0, 0, 0, 0, 0, 0, 0, 0, 0, 0, 0, 0, 0, 0, 0, 0, 0, 0, 3, 0];
+static LONE: &[u8] = b"x\n%%\nshow\nclose\nshow\nclose\ntotals\nfigures\n";
 
-const ROW_OF_B: [u8; 20] = [0, 0, 0, 1, 0, 0, 0, 0, 0, 0, 1, 0, 0, 0, 0, 0, 0, 0, 0, 0];
-
-#[test]
-fn a_lone_node_runs_to_its_end(rt: HostRuntime) {
-    let asked = b"show\nclose\nshow\nclose\ntotals\nfigures\n";
-    let said = b"node 0.0 0 go-on
+static LONE_SAYS: &[u8] = b"node 0.0 0 go-on
 row 0 11.390942 0.000000 0.000000 00000000000000000000000000000300
 closed 1
 node 0.0 1 stable
@@ -19,126 +14,125 @@ superstep,0,11.390942
 superstep,1,11.390942
 vertex,x,11.390942,0.000000,0.000000,1.000000,15
 ";
-    let right = match node_of(&rt, b"x\n%%\n", 1, 0) {
-        Some(mut node) => says(&mut node, rt.alloc(), asked, said),
-        None => false,
-    };
-    assert!(rt; right);
+
+/// Whether the node of one partition answers all of that.
+fn lone_runs(rt: &HostRuntime) -> bool {
+    match serve(rt, &options(1, false), 0, LONE) {
+        Some((text, Ok(()))) => text.as_slice() == LONE_SAYS,
+        _ => false,
+    }
 }
 
-/// Whether what a node sends begins with this line and these fixed fields, and ends with these.
-fn sends(
-    lone: &mut Lone,
-    alloc: Global,
-    asked: &[u8],
-    line: &[u8],
-    front: &[u8],
-    end: &[u8],
-) -> bool {
-    match answer(lone, alloc, asked) {
-        Some(text) => {
-            text.starts_with(line) && text[line.len()..].starts_with(front) && text.ends_with(end)
-        }
+#[test]
+fn a_lone_node_runs_to_its_end(rt: HostRuntime) {
+    assert!(rt; lone_runs(&rt));
+}
+
+/// What is sent at superstep 0: who sends and what is asked, then the line with the fields up to the job's digest, and
+/// the only row.
+static SENT: [(u16, &[u8], &[u8], &[u8]); 2] = [
+    (
+        0,
+        b"a\tb\nb\tc\n%%\nsend 1\n",
+        b"sent 0 0 1 2 1 74\nHBBT\x01\x04\0\0\0\0\0\0\0\x01",
+        b"\0\0\0\0\0\0\0\0\0\0\0\0\0\0\0\0\0\0\x03\0",
+    ),
+    (
+        1,
+        b"a\tb\nb\tc\n%%\nsend 0\n",
+        b"sent 0 1 0 1 1 74\nHBBT\x01\x04\0\0\0\0\0\x01\0\0",
+        b"\0\0\0\x01\0\0\0\0\0\0\x01\0\0\0\0\0\0\0\0\0",
+    ),
+];
+
+/// Whether what a node writes has this front and this end.
+fn sends(rt: &HostRuntime, part: u16, input: &[u8], front: &[u8], end: &[u8]) -> bool {
+    match text_of(rt, part, input) {
+        Some(text) => text.len() == 92 && text.starts_with(front) && text.ends_with(end),
         None => false,
     }
 }
 
-/// Whether two nodes send the batches of the table.
-fn send_the_table(a: &mut Lone, b: &mut Lone, alloc: Global) -> bool {
-    let to_b = b"HBBT\x01\x04\0\0\0\0\0\0\0\x01".as_slice();
-    let to_a = b"HBBT\x01\x04\0\0\0\0\0\x01\0\0".as_slice();
-    sends(
-        a,
-        alloc,
-        b"send 1\n",
-        b"sent 0 0 1 2 1 74\n",
-        to_b,
-        &ROW_OF_A,
-    ) && sends(
-        b,
-        alloc,
-        b"send 0\n",
-        b"sent 0 1 0 1 1 74\n",
-        to_a,
-        &ROW_OF_B,
-    )
+/// Whether the nodes send all that.
+fn all_sent(rt: &HostRuntime) -> bool {
+    for (part, input, front, end) in &SENT {
+        if !sends(rt, *part, input, front, end) {
+            return false;
+        }
+    }
+    true
 }
 
 #[test]
 fn two_nodes_send_the_bytes_of_the_table(rt: HostRuntime) {
-    let a = node_of(&rt, TWO_EDGES, 2, 0);
-    let b = node_of(&rt, TWO_EDGES, 2, 1);
-    let right = match (a, b) {
-        (Some(mut a), Some(mut b)) => send_the_table(&mut a, &mut b, rt.alloc()),
-        _ => false,
-    };
-    assert!(rt; right);
+    assert!(rt; all_sent(&rt));
 }
 
-/// Two nodes run to the end of their job, and tell their figures.
-fn run_to_the_end(a: &mut Lone, b: &mut Lone, alloc: Global) -> bool {
-    let mut right = true;
-    for closed in [b"closed 1\n", b"closed 2\n", b"closed 3\n", b"finished\n"] {
-        right &= round(a, b, alloc).is_some();
-        right &= says(a, alloc, b"close\n", closed) && says(b, alloc, b"close\n", closed);
-    }
-    right
-}
-
-/// What the first of them tells at the end.
-fn tells_its_figures(a: &mut Lone, alloc: Global) -> bool {
-    let said = b"superstep,0,22.688515
+static RUN_SAYS: &[u8] = b"new
+closed 1
+new
+closed 2
+new
+closed 3
+new
+finished
+superstep,0,22.688515
 superstep,1,23.071484
 superstep,2,23.808095
 superstep,3,23.808095
 vertex,a,11.390942,0.000000,0.000000,1.000000,15
 vertex,c,12.417153,0.751274,0.538737,83.065637,13
 ";
-    says(a, alloc, b"totals\nfigures\n", said)
+
+/// Whether the first of two nodes answers that at the end of a run.
+fn pair_runs(rt: &HostRuntime) -> Option<bool> {
+    let inputs = whole_run(rt)?;
+    let asked = joined(rt.alloc(), &[&inputs.first, b"totals\nfigures\n"]).ok()?;
+    Some(says(rt, 0, &asked, RUN_SAYS))
 }
 
 #[test]
 fn two_nodes_run_to_the_end(rt: HostRuntime) {
-    let a = node_of(&rt, TWO_EDGES, 2, 0);
-    let b = node_of(&rt, TWO_EDGES, 2, 1);
-    let right = match (a, b) {
-        (Some(mut a), Some(mut b)) => {
-            run_to_the_end(&mut a, &mut b, rt.alloc()) && tells_its_figures(&mut a, rt.alloc())
-        }
-        _ => false,
-    };
-    assert!(rt; right);
+    assert!(rt; pair_runs(&rt) == Some(true));
 }
 
-/// A node that has heard the other and not yet closed gives a checkpoint, and a new one goes on from it.
-fn goes_on(a: &mut Lone, b: &mut Lone, fresh: &mut Lone, alloc: Global) -> Option<bool> {
-    round(a, b, alloc)?;
-    let kept = given(b, alloc, b"keep\n")?;
-    let shown = answer(b, alloc, b"show\n")?;
-    let mut right = says_to(fresh, alloc, b"restart ", &kept, b"restarted 0\n");
-    right &= says(fresh, alloc, b"show\n", &shown);
-    right &= says(
-        fresh,
-        alloc,
-        b"close\nrestart 0\n",
-        b"closed 1\nrestarted 0\n",
-    );
-    right &= says(fresh, alloc, b"close\n", b"waiting 0\n");
-    right &= says_to(fresh, alloc, b"recover ", &kept, b"merged 0\n");
-    right &= says(fresh, alloc, b"show\n", &shown);
-    Some(right)
+/// The input of a node that has heard the other, and has not closed.
+fn heard(rt: &HostRuntime) -> Option<Vec<u8>> {
+    let batch = given(rt, 0, TWO_EDGES, b"send 1\n")?;
+    let mut input = joined(rt.alloc(), &[TWO_EDGES]).ok()?;
+    add_bytes(&mut input, b"deliver ", &batch).ok()?;
+    Some(input)
+}
+
+/// The input of a new one that goes on from a checkpoint, goes back to the start, and takes the checkpoint over.
+fn going_on(alloc: Global, kept: &[u8]) -> Result<Vec<u8>, AllocError> {
+    let mut input = joined(alloc, &[TWO_EDGES])?;
+    add_bytes(&mut input, b"restart ", kept)?;
+    add_all(&mut input, &[b"show\nclose\nrestart 0\nclose\n"])?;
+    add_bytes(&mut input, b"recover ", kept)?;
+    add_all(&mut input, &[b"show\n"])?;
+    Ok(input)
+}
+
+/// What it writes, where the one that gave the checkpoint shows this.
+fn gone_on(alloc: Global, shown: &[u8]) -> Result<Vec<u8>, AllocError> {
+    let mut text = joined(alloc, &[b"restarted 0\n", shown])?;
+    add_all(&mut text, &[b"closed 1\nrestarted 0\nwaiting 0\n"])?;
+    add_all(&mut text, &[b"merged 0\n", shown])?;
+    Ok(text)
+}
+
+/// Whether a new node goes on so.
+fn goes_on(rt: &HostRuntime) -> Option<bool> {
+    let input = heard(rt)?;
+    let kept = given(rt, 1, &input, b"keep\n")?;
+    let shown = answer(rt, 1, &input, b"show\n")?;
+    let asked = going_on(rt.alloc(), &kept).ok()?;
+    let text = gone_on(rt.alloc(), &shown).ok()?;
+    Some(says(rt, 1, &asked, &text))
 }
 
 #[test]
 fn a_new_node_goes_on_from_a_checkpoint(rt: HostRuntime) {
-    let a = node_of(&rt, TWO_EDGES, 2, 0);
-    let b = node_of(&rt, TWO_EDGES, 2, 1);
-    let fresh = node_of(&rt, TWO_EDGES, 2, 1);
-    let right = match (a, b, fresh) {
-        (Some(mut a), Some(mut b), Some(mut fresh)) => {
-            goes_on(&mut a, &mut b, &mut fresh, rt.alloc())
-        }
-        _ => None,
-    };
-    assert!(rt; right == Some(true));
+    assert!(rt; goes_on(&rt) == Some(true));
 }

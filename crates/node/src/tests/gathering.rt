@@ -7,7 +7,7 @@ use std::alloc::AllocGlobal;
 use std::random::RandomSource;
 use std::thread::Threads;
 
-const REPORT: &[u8] = b"superstep,0,33.803869
+static REPORT: &[u8] = b"superstep,0,33.803869
 superstep,1,34.851860
 superstep,2,35.588471
 superstep,3,35.588471
@@ -18,7 +18,7 @@ vertex,b,11.780376,0.665022,1.503709,208.680703,14
 vertex,c,12.417153,0.751274,0.538737,83.065637,13
 ";
 
-/// What is gathered of an input.
+/// What is gathered of an input, and how that ends.
 fn gathered<T: AllocGlobal + RandomSource + Threads + Sync>(
     rt: &T,
     input: &[u8],
@@ -26,109 +26,137 @@ fn gathered<T: AllocGlobal + RandomSource + Threads + Sync>(
     let state = RandomState::new(rt).ok()?;
     let mut writer = MemWriter::with_room(rt.alloc(), 4096, None).ok()?;
     let mut reader = MemReader::new(input, None);
-    let end = gather(rt, state, &options(2), &mut reader, &mut writer);
+    let end = gather(rt, state, &options(2, false), &mut reader, &mut writer);
     Some((writer.into_bytes(), end))
 }
 
-/// The edge list, the mark, and the checkpoints of nodes.
-fn input_of(alloc: Global, parts: &[&[u8]]) -> Option<Vec<u8>> {
-    let mut text = Vec::new(alloc);
-    text.extend_from_slice(TWO_EDGES).ok()?;
-    for part in parts {
-        let piece = with_bytes(alloc, b"part ", part).ok()?;
-        text.extend_from_slice(&piece).ok()?;
+/// Whether the report is gathered of an input.
+fn reports<T: AllocGlobal + RandomSource + Threads + Sync>(rt: &T, input: &[u8]) -> bool {
+    match gathered(rt, input) {
+        Some((text, Ok(()))) => text.as_slice() == REPORT,
+        _ => false,
     }
-    Some(text)
 }
 
-/// Whether this is how a gathering of checkpoints ends.
+/// Whether nothing is gathered of an input, and this is told.
+fn stops<T: AllocGlobal + RandomSource + Threads + Sync>(
+    rt: &T,
+    input: &[u8],
+    end: GatherError,
+) -> bool {
+    match gathered(rt, input) {
+        Some((text, Err(error))) => text.is_empty() && error == end,
+        _ => false,
+    }
+}
+
+/// Adds checkpoints, each behind its line.
+fn add_parts(input: &mut Vec<u8>, parts: &[&[u8]]) -> Result<(), AllocError> {
+    for part in parts {
+        add_bytes(input, b"part ", part)?;
+    }
+    Ok(())
+}
+
+/// The edge list, the mark, and checkpoints.
+fn input_of(alloc: Global, parts: &[&[u8]]) -> Result<Vec<u8>, AllocError> {
+    let mut input = joined(alloc, &[TWO_EDGES])?;
+    add_parts(&mut input, parts)?;
+    Ok(input)
+}
+
+/// Whether checkpoints give the report.
+fn gathers<T: AllocGlobal + RandomSource + Threads + Sync>(rt: &T, parts: &[&[u8]]) -> bool {
+    match input_of(rt.alloc(), parts) {
+        Ok(input) => reports(rt, &input),
+        Err(_) => false,
+    }
+}
+
+/// Whether checkpoints give none, and this is told.
 fn fails<T: AllocGlobal + RandomSource + Threads + Sync>(
     rt: &T,
     parts: &[&[u8]],
     end: GatherError,
-) -> Option<bool> {
-    let input = input_of(rt.alloc(), parts)?;
-    match gathered(rt, &input)? {
-        (text, Err(error)) => Some(text.is_empty() && error == end),
-        _ => Some(false),
+) -> bool {
+    match input_of(rt.alloc(), parts) {
+        Ok(input) => stops(rt, &input, end),
+        Err(_) => false,
     }
 }
 
-/// Two nodes run to the end of their job.
-fn run(a: &mut Lone, b: &mut Lone, alloc: Global) -> Option<()> {
-    for _ in 0..4 {
-        round(a, b, alloc)?;
-        answer(a, alloc, b"close\n")?;
-        answer(b, alloc, b"close\n")?;
-    }
-    Some(())
+/// Checkpoints of two nodes.
+#[derive(Drop)]
+struct Kept {
+    early: Vec<u8>,
+    first: Vec<u8>,
+    second: Vec<u8>,
 }
 
-/// Whether the checkpoints of the end of a run give its report, and others do not.
-fn gathers<T: AllocGlobal + RandomSource + Threads + Sync>(
-    rt: &T,
-    a: &mut Lone,
-    b: &mut Lone,
-) -> Option<bool> {
-    let alloc = rt.alloc();
-    let early = given(a, alloc, b"keep\n")?;
-    run(a, b, alloc)?;
-    let first = given(a, alloc, b"keep\n")?;
-    let second = given(b, alloc, b"keep\n")?;
-    let input = input_of(alloc, &[&first, &second])?;
-    let mut right = match gathered(rt, &input)? {
-        (text, Ok(())) => text.as_slice() == REPORT,
-        _ => false,
+/// Those of the end of a run, and one of its start.
+fn kept_in_a_run(rt: &HostRuntime) -> Option<Kept> {
+    let inputs = whole_run(rt)?;
+    Some(Kept {
+        early: given(rt, 0, TWO_EDGES, b"keep\n")?,
+        first: given(rt, 0, &inputs.first, b"keep\n")?,
+        second: given(rt, 1, &inputs.second, b"keep\n")?,
+    })
+}
+
+/// Whether those of the end give the report, and one of the start does not.
+fn of_a_run<T: AllocGlobal + RandomSource + Threads + Sync>(rt: &T, kept: &Kept) -> bool {
+    gathers(rt, &[&kept.first, &kept.second])
+        && fails(rt, &[&kept.early, &kept.second], GatherError::NotReady)
+}
+
+/// Whether one is wanted of each partition.
+fn of_each_part<T: AllocGlobal + RandomSource + Threads + Sync>(rt: &T, kept: &Kept) -> bool {
+    let other = GatherError::Checkpoint {
+        part: 1,
+        error: checkpoint::KeepError::OtherPart,
     };
-    right &= fails(rt, &[&early, &second], GatherError::NotReady)?;
-    right &= fails(rt, &[&first], GatherError::Missing { part: 1 })?;
-    right &= fails(rt, &[&first, &second, &[]], GatherError::Trailing)?;
-    let error = checkpoint::KeepError::OtherPart;
-    right &= fails(
-        rt,
-        &[&first, &first],
-        GatherError::Checkpoint { part: 1, error },
-    )?;
-    Some(right)
+    fails(rt, &[&kept.first], GatherError::Missing { part: 1 })
+        && fails(rt, &[&kept.first, &kept.second, &[]], GatherError::Trailing)
+        && fails(rt, &[&kept.first, &kept.first], other)
+}
+
+/// Whether all that is so.
+fn all_gathered<T: AllocGlobal + RandomSource + Threads + Sync>(
+    rt: &T,
+    kept: Option<Kept>,
+) -> bool {
+    match kept {
+        Some(kept) => of_a_run(rt, &kept) && of_each_part(rt, &kept),
+        None => false,
+    }
 }
 
 #[test]
 fn checkpoints_give_the_report(rt: HostRuntime) {
-    let a = node_of(&rt, TWO_EDGES, 2, 0);
-    let b = node_of(&rt, TWO_EDGES, 2, 1);
-    let right = match (a, b) {
-        (Some(mut a), Some(mut b)) => gathers(&rt, &mut a, &mut b),
-        _ => None,
-    };
-    assert!(rt; right == Some(true));
+    let kept = kept_in_a_run(&rt);
+    assert!(rt; all_gathered(&rt, kept));
 }
 
-/// What is gathered of the edge list and these bytes is nothing, and ends so.
-fn stops<T: AllocGlobal + RandomSource + Threads + Sync>(
-    rt: &T,
-    bytes: &[u8],
-    end: GatherError,
-) -> Option<bool> {
-    let mut input = Vec::new(rt.alloc());
-    input.extend_from_slice(TWO_EDGES).ok()?;
-    input.extend_from_slice(bytes).ok()?;
-    match gathered(rt, &input)? {
-        (text, Err(error)) => Some(text.is_empty() && error == end),
-        _ => Some(false),
-    }
-}
-
-/// Bytes behind the mark that are no checkpoint of partition 0.
+/// Inputs behind whose mark no checkpoint of partition 0 stands.
 static NO_CHECKPOINTS: [(&[u8], GatherError); 8] = [
-    (b"", GatherError::Missing { part: 0 }),
-    (b"part", GatherError::Cut { part: 0 }),
-    (b"part 3\nHB", GatherError::Cut { part: 0 }),
-    (b"part x\n", GatherError::Line { part: 0 }),
-    (b"part 03\nHBC", GatherError::Line { part: 0 }),
-    (&[b'p'; 70], GatherError::Line { part: 0 }),
-    (b"part 99999999\n", GatherError::Length { part: 0 }),
+    (b"a\tb\nb\tc\n%%\n", GatherError::Missing { part: 0 }),
+    (b"a\tb\nb\tc\n%%\npart", GatherError::Cut { part: 0 }),
+    (b"a\tb\nb\tc\n%%\npart 3\nHB", GatherError::Cut { part: 0 }),
+    (b"a\tb\nb\tc\n%%\npart x\n", GatherError::Line { part: 0 }),
     (
-        b"part 3\nHBC",
+        b"a\tb\nb\tc\n%%\npart 03\nHBC",
+        GatherError::Line { part: 0 },
+    ),
+    (
+        b"a\tb\nb\tc\n%%\nparts of a line that is longer than any line of a command or of a checkpoint may be",
+        GatherError::Line { part: 0 },
+    ),
+    (
+        b"a\tb\nb\tc\n%%\npart 99999999\n",
+        GatherError::Length { part: 0 },
+    ),
+    (
+        b"a\tb\nb\tc\n%%\npart 3\nHBC",
         GatherError::Checkpoint {
             part: 0,
             error: checkpoint::KeepError::Short,
@@ -136,9 +164,17 @@ static NO_CHECKPOINTS: [(&[u8], GatherError); 8] = [
     ),
 ];
 
+/// Whether each is named.
+fn all_stop<T: AllocGlobal + RandomSource + Threads + Sync>(rt: &T) -> bool {
+    for (input, end) in &NO_CHECKPOINTS {
+        if !stops(rt, input, *end) {
+            return false;
+        }
+    }
+    true
+}
+
 #[test]
 fn what_is_no_checkpoint_is_named(rt: HostRuntime) {
-    for (bytes, end) in NO_CHECKPOINTS {
-        assert!(rt; stops(&rt, bytes, end) == Some(true));
-    }
+    assert!(rt; all_stop(&rt));
 }

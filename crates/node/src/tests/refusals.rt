@@ -1,238 +1,297 @@
 //! Bytes that are damaged or cut, and inputs that are no commands.
 
 use super::*;
-use crate::error::{JobError, NodeError};
-use crate::serve::serve_node;
+use crate::error::{JobError, ServeError};
 use ball_model::PlanError;
 use edgelist::{CountedError, EdgeError};
 
-/// A batch with another byte at a place.
-fn with_byte(alloc: Global, batch: &[u8], place: usize, byte: u8) -> Result<Vec<u8>, AllocError> {
-    let mut text = Vec::new(alloc);
-    text.extend_from_slice(batch)?;
-    if let Some(old) = text.get_mut(place) {
-        *old = byte;
+/// Bytes in which one has other bits.
+fn damaged(alloc: Global, bytes: &[u8], place: usize, bits: u8) -> Result<Vec<u8>, AllocError> {
+    let mut text = joined(alloc, &[bytes])?;
+    if let Some(byte) = text.get_mut(place) {
+        *byte ^= bits;
     }
     Ok(text)
 }
 
-/// Whether a node answers this to a batch with another byte at a place.
-fn refuses(
-    lone: &mut Lone,
-    alloc: Global,
-    batch: &[u8],
-    place: usize,
-    byte: u8,
-    text: &[u8],
-) -> bool {
-    match with_byte(alloc, batch, place, byte) {
-        Ok(batch) => says_to(lone, alloc, b"deliver ", &batch, text),
-        Err(_) => false,
+/// So many bytes at the front, or all where there are fewer.
+fn front_of(bytes: &[u8], count: usize) -> &[u8] {
+    match bytes.get(..count) {
+        Some(front) => front,
+        None => bytes,
     }
 }
 
-/// What node 1 of two says of damaged batches of node 0: the whole one has 74 bytes.
-fn damaged_batches(a: &mut Lone, b: &mut Lone, alloc: Global) -> Option<bool> {
-    let batch = given(a, alloc, b"send 1\n")?;
-    let mut right = says_to(b, alloc, b"deliver ", &[], b"refused short\n");
-    right &= says_to(b, alloc, b"deliver ", &batch[..73], b"refused short\n");
-    right &= refuses(b, alloc, &batch, 0, b'h', b"refused magic\n");
-    right &= refuses(b, alloc, &batch, 4, 2, b"refused version\n");
-    right &= refuses(b, alloc, &batch, 5, 5, b"refused size\n");
-    right &= refuses(b, alloc, &batch, 13, 2, b"refused name\n");
-    right &= refuses(b, alloc, &batch, 49, 3, b"refused count\n");
-    right &= refuses(b, alloc, &batch, 53, 0, b"refused trailing\n");
-    right &= refuses(b, alloc, &batch, 57, 1, b"refused vertex\n");
-    right &= refuses(b, alloc, &batch, 58, 34, b"refused rank\n");
-    right &= refuses(b, alloc, &batch, 14, batch[14] ^ 1, b"other-job\n");
-    right &= refuses(b, alloc, &batch, 13, 0, b"not-mine\n");
-    right &= refuses(b, alloc, &batch, 9, 4, b"too-early 3\n");
-    right &= says_to(b, alloc, b"deliver ", &batch, b"new\n");
-    right &= says_to(b, alloc, b"deliver ", &batch, b"known\n");
-    right &= says(b, alloc, b"close\n", b"closed 1\n");
-    right &= says_to(b, alloc, b"deliver ", &batch, b"old\n");
-    Some(right)
+/// Adds a command that is followed by damaged bytes, once for each damage.
+fn add_damaged(
+    alloc: Global,
+    input: &mut Vec<u8>,
+    command: &[u8],
+    bytes: &[u8],
+    damages: &[(usize, u8)],
+) -> Result<(), AllocError> {
+    for (place, bits) in damages {
+        let other = damaged(alloc, bytes, *place, *bits)?;
+        add_bytes(input, command, &other)?;
+    }
+    Ok(())
+}
+
+/// Where a batch is damaged: magic, version, log2m, target (2), count (3 of 2), rows (none), the row's vertex (1), its
+/// first register (34), the digest, the target (0) and the superstep (4).
+static BATCH_DAMAGES: [(usize, u8); 11] = [
+    (0, 32),
+    (4, 3),
+    (5, 1),
+    (13, 3),
+    (49, 1),
+    (53, 1),
+    (57, 1),
+    (58, 34),
+    (14, 1),
+    (13, 1),
+    (9, 4),
+];
+
+static BATCH_SAYS: &[u8] = b"refused short
+refused short
+refused magic
+refused version
+refused size
+refused name
+refused count
+refused trailing
+refused vertex
+refused rank
+other-job
+not-mine
+too-early 3
+new
+known
+closed 1
+old
+";
+
+/// The input of a node that is brought damaged batches, one of them without its last byte, and then the whole one.
+fn damaged_batches(alloc: Global, batch: &[u8]) -> Result<Vec<u8>, AllocError> {
+    let mut input = joined(alloc, &[TWO_EDGES, b"deliver 0\n"])?;
+    add_bytes(&mut input, b"deliver ", front_of(batch, 73))?;
+    add_damaged(alloc, &mut input, b"deliver ", batch, &BATCH_DAMAGES)?;
+    add_bytes(&mut input, b"deliver ", batch)?;
+    add_turn(&mut input, batch)?;
+    add_bytes(&mut input, b"deliver ", batch)?;
+    Ok(input)
+}
+
+/// Whether node 1 of two names what is wrong with a batch of node 0.
+fn names_batches(rt: &HostRuntime) -> Option<bool> {
+    let batch = given(rt, 0, TWO_EDGES, b"send 1\n")?;
+    let input = damaged_batches(rt.alloc(), &batch).ok()?;
+    Some(says(rt, 1, &input, BATCH_SAYS))
 }
 
 #[test]
 fn damaged_batches_are_named(rt: HostRuntime) {
-    let a = node_of(&rt, TWO_EDGES, 2, 0);
-    let b = node_of(&rt, TWO_EDGES, 2, 1);
-    let right = match (a, b) {
-        (Some(mut a), Some(mut b)) => damaged_batches(&mut a, &mut b, rt.alloc()),
-        _ => None,
-    };
-    assert!(rt; right == Some(true));
+    assert!(rt; names_batches(&rt) == Some(true));
 }
 
-/// What a node says of damaged checkpoints, of another partition's and of its own batch.
-fn damaged_checkpoints(a: &mut Lone, b: &mut Lone, alloc: Global) -> Option<bool> {
-    let kept = given(b, alloc, b"keep\n")?;
-    let shown = answer(b, alloc, b"show\n")?;
-    let mut right = says_to(a, alloc, b"restart ", &kept, b"refused other-part\n");
-    right &= says_to(a, alloc, b"recover ", &kept, b"refused other-part\n");
-    right &= says_to(b, alloc, b"restart ", &kept[..53], b"refused short\n");
-    right &= says_to(b, alloc, b"recover ", &[], b"refused short\n");
-    for (place, byte, text) in [
-        (0, b'h', b"refused magic\n".as_slice()),
-        (4, 3, b"refused version\n".as_slice()),
-        (22, kept[22] ^ 1, b"refused other-job\n".as_slice()),
-        (5, 5, b"refused shape\n".as_slice()),
-        (54, 0, b"refused digest\n".as_slice()),
-    ] {
-        let damaged = with_byte(alloc, &kept, place, byte).ok()?;
-        right &= says_to(b, alloc, b"restart ", &damaged, text);
-        right &= says_to(b, alloc, b"recover ", &damaged, text);
+/// Where a checkpoint is damaged: magic, version (3), log2m, the digest of the job, and the first mark.
+static CHECKPOINT_DAMAGES: [(usize, u8); 5] = [(0, 32), (4, 1), (22, 1), (5, 1), (54, 1)];
+
+static CHECKPOINT_SAYS: &[u8] = b"refused short
+refused magic
+refused version
+refused other-job
+refused shape
+refused digest
+";
+
+/// Adds a command that is followed by the front of a checkpoint, and then by damaged ones.
+fn add_checkpoints(
+    alloc: Global,
+    input: &mut Vec<u8>,
+    command: &[u8],
+    kept: &[u8],
+) -> Result<(), AllocError> {
+    add_bytes(input, command, front_of(kept, 53))?;
+    add_damaged(alloc, input, command, kept, &CHECKPOINT_DAMAGES)
+}
+
+/// The input of a node that is given damaged checkpoints, and then shows what it has.
+fn damaged_checkpoints(alloc: Global, kept: &[u8]) -> Result<Vec<u8>, AllocError> {
+    let mut input = joined(alloc, &[TWO_EDGES])?;
+    add_checkpoints(alloc, &mut input, b"restart ", kept)?;
+    add_checkpoints(alloc, &mut input, b"recover ", kept)?;
+    add_all(&mut input, &[b"recover 0\nshow\n"])?;
+    Ok(input)
+}
+
+/// Whether a node names what is wrong with its checkpoint, and stays as it was.
+fn names_checkpoints(rt: &HostRuntime, kept: &[u8]) -> Option<bool> {
+    let shown = answer(rt, 1, TWO_EDGES, b"show\n")?;
+    let input = damaged_checkpoints(rt.alloc(), kept).ok()?;
+    let both = joined(rt.alloc(), &[CHECKPOINT_SAYS, CHECKPOINT_SAYS]).ok()?;
+    let text = joined(rt.alloc(), &[&both, b"refused short\n", &shown]).ok()?;
+    Some(says(rt, 1, &input, &text))
+}
+
+/// The input of a node that is given the checkpoint of another.
+fn of_another(alloc: Global, kept: &[u8]) -> Result<Vec<u8>, AllocError> {
+    let mut input = joined(alloc, &[TWO_EDGES])?;
+    add_bytes(&mut input, b"restart ", kept)?;
+    add_bytes(&mut input, b"recover ", kept)?;
+    Ok(input)
+}
+
+/// Whether another node refuses it.
+fn refuses_another(rt: &HostRuntime, kept: &[u8]) -> bool {
+    match of_another(rt.alloc(), kept) {
+        Ok(input) => says(rt, 0, &input, b"refused other-part\nrefused other-part\n"),
+        Err(_) => false,
     }
-    right &= says(b, alloc, b"show\n", &shown);
-    Some(right)
+}
+
+/// Whether all that is so of the checkpoint of node 1.
+fn checkpoints_named(rt: &HostRuntime) -> Option<bool> {
+    let kept = given(rt, 1, TWO_EDGES, b"keep\n")?;
+    Some(names_checkpoints(rt, &kept)? && refuses_another(rt, &kept))
 }
 
 #[test]
 fn damaged_checkpoints_are_named(rt: HostRuntime) {
-    let a = node_of(&rt, TWO_EDGES, 2, 0);
-    let b = node_of(&rt, TWO_EDGES, 2, 1);
-    let right = match (a, b) {
-        (Some(mut a), Some(mut b)) => damaged_checkpoints(&mut a, &mut b, rt.alloc()),
-        _ => None,
-    };
-    assert!(rt; right == Some(true));
+    assert!(rt; checkpoints_named(&rt) == Some(true));
 }
 
-/// Whether a node answers this to commands and then ends so.
-fn ends(lone: &mut Lone, alloc: Global, asked: &[u8], text: &[u8], end: ServeError) -> bool {
-    match told(lone, alloc, asked) {
-        Some((said, Err(error))) => said.as_slice() == text && error == end,
+/// Commands at which a node gives up, what it answered before, and how it ends.
+static GIVEN_UP: [(&[u8], &[u8], ServeError); 9] = [
+    (
+        b"close\nopen\n",
+        b"waiting 0\n",
+        ServeError::Command { number: 2 },
+    ),
+    (b"close now\n", b"", ServeError::Command { number: 1 }),
+    (b"\n", b"", ServeError::Command { number: 1 }),
+    (b"send 00\n", b"", ServeError::Command { number: 1 }),
+    (
+        b"commands of a line that is longer than any line of a command or of a checkpoint may be",
+        b"",
+        ServeError::Command { number: 1 },
+    ),
+    (b"close", b"", ServeError::Cut { number: 1 }),
+    (b"deliver 3\nab", b"", ServeError::Cut { number: 1 }),
+    (b"deliver 95\n", b"", ServeError::Length { number: 1 }),
+    (b"restart 99999999\n", b"", ServeError::Length { number: 1 }),
+];
+
+/// Whether a node writes this to an input and then ends so.
+fn ends(rt: &HostRuntime, input: &[u8], text: &[u8], end: ServeError) -> bool {
+    match serve(rt, &options(2, false), 1, input) {
+        Some((said, Err(NodeError::Serve(error)))) => said.as_slice() == text && error == end,
         _ => false,
     }
 }
 
-/// Inputs at which a node gives up.
-fn gives_up(b: &mut Lone, alloc: Global) -> bool {
-    ends(
-        b,
-        alloc,
-        b"close\nopen\n",
-        b"waiting 0\n",
-        ServeError::Command { number: 2 },
-    ) && ends(
-        b,
-        alloc,
-        b"close now\n",
-        b"",
-        ServeError::Command { number: 1 },
-    ) && ends(b, alloc, b"\n", b"", ServeError::Command { number: 1 })
-        && ends(
-            b,
-            alloc,
-            b"send 00\n",
-            b"",
-            ServeError::Command { number: 1 },
-        )
-        && ends(
-            b,
-            alloc,
-            &[b'x'; 70],
-            b"",
-            ServeError::Command { number: 1 },
-        )
-        && ends(b, alloc, b"close", b"", ServeError::Cut { number: 1 })
-        && ends(
-            b,
-            alloc,
-            b"deliver 3\nab",
-            b"",
-            ServeError::Cut { number: 1 },
-        )
-        && ends(
-            b,
-            alloc,
-            b"deliver 95\n",
-            b"",
-            ServeError::Length { number: 1 },
-        )
-        && ends(
-            b,
-            alloc,
-            b"restart 99999999\n",
-            b"",
-            ServeError::Length { number: 1 },
-        )
+/// The same of commands behind the job.
+fn gives_up(rt: &HostRuntime, commands: &[u8], text: &[u8], end: ServeError) -> bool {
+    match joined(rt.alloc(), &[TWO_EDGES, commands]) {
+        Ok(input) => ends(rt, &input, text, end),
+        Err(_) => false,
+    }
+}
+
+/// Whether a node gives up at each of these.
+fn all_give_up(rt: &HostRuntime) -> bool {
+    for (commands, text, end) in &GIVEN_UP {
+        if !gives_up(rt, commands, text, *end) {
+            return false;
+        }
+    }
+    true
 }
 
 #[test]
 fn what_is_no_command_ends_a_node(rt: HostRuntime) {
-    let mut right = false;
-    if let Some(mut b) = node_of(&rt, TWO_EDGES, 2, 1) {
-        right = gives_up(&mut b, rt.alloc());
-        right &= says(
-            &mut b,
-            rt.alloc(),
-            b"send 1\nsend 2\n",
-            b"refused no-target\nrefused no-target\n",
-        );
-    }
-    assert!(rt; right);
+    assert!(rt; all_give_up(&rt));
 }
 
-/// How a node ends whose input is this, of partition 0 of two.
-fn first_of(rt: &HostRuntime, counted: bool, input: &[u8], end: JobError) -> bool {
-    end_of(rt, counted, 0, input) == Some(Err(NodeError::Job(end)))
+#[test]
+fn only_others_are_sent_to(rt: HostRuntime) {
+    let asked = b"a\tb\nb\tc\n%%\nsend 1\nsend 2\n";
+    assert!(rt; says(&rt, 1, asked, b"refused no-target\nrefused no-target\n"));
 }
 
-/// How a node ends whose input is this.
-fn end_of(
+/// Inputs that say no job: whether a list is counted, the partition, and what is refused.
+static NO_JOBS: [(bool, u16, &[u8], JobError); 7] = [
+    (false, 0, b"a\tb\n", JobError::NoMark),
+    (false, 0, b"a\tb\n%%x\n%\n", JobError::NoMark),
+    (true, 0, b"a\tb\n%%\na\n", JobError::NoListMark),
+    (false, 2, b"a\tb\n%%\n", JobError::Part),
+    (
+        false,
+        0,
+        b"a\tb\nb\tc\td\n%%\n",
+        JobError::Edges(EdgeError::Fields { number: 2 }),
+    ),
+    (
+        true,
+        0,
+        b"a\tb\n%%\na\tb\n%%\n",
+        JobError::Counted(CountedError::Fields { number: 1 }),
+    ),
+    (
+        true,
+        0,
+        b"a\tb\n%%\nb\nc\n%%\n",
+        JobError::Counted(CountedError::Unknown { number: 2 }),
+    ),
+];
+
+/// Whether a node writes nothing, and tells that it has no such job.
+fn has_no_job(
     rt: &HostRuntime,
-    counted: bool,
+    options: &JobOptions,
     part: u16,
     input: &[u8],
-) -> Option<Result<(), NodeError>> {
-    let state = RandomState::new(rt).ok()?;
-    let mut writer = MemWriter::with_room(rt.alloc(), 4096, None).ok()?;
-    let mut reader = MemReader::new(input, None);
-    let mut options = options(2);
-    options.counted = counted;
-    Some(serve_node(rt.alloc(), state, &options, part, &mut reader, &mut writer))
+    end: JobError,
+) -> bool {
+    match serve(rt, options, part, input) {
+        Some((text, Err(NodeError::Job(error)))) => text.is_empty() && error == end,
+        _ => false,
+    }
+}
+
+/// Whether all those are refused.
+fn all_jobs_refused(rt: &HostRuntime) -> bool {
+    for (counted, part, input, end) in &NO_JOBS {
+        if !has_no_job(rt, &options(2, *counted), *part, input, *end) {
+            return false;
+        }
+    }
+    true
 }
 
 #[test]
 fn an_input_that_says_no_job_is_refused(rt: HostRuntime) {
-    let no_mark = Some(Err(NodeError::Job(JobError::NoMark)));
-    assert_eq!(rt; end_of(&rt, false, 0, b"a\tb\n"), no_mark);
-    assert_eq!(rt; end_of(&rt, false, 0, b"a\tb\n%%x\n%\n"), no_mark);
-    let no_list = Some(Err(NodeError::Job(JobError::NoListMark)));
-    assert_eq!(rt; end_of(&rt, true, 0, b"a\tb\n%%\na\n"), no_list);
-    let no_part = Some(Err(NodeError::Job(JobError::Part)));
-    assert_eq!(rt; end_of(&rt, false, 2, b"a\tb\n%%\n"), no_part);
-    assert_eq!(rt;
-        end_of(&rt, false, 0, b"a\tb\r\n%%\r\nclose\n"),
-        Some(Ok(()))
-    );
-    assert_eq!(rt; end_of(&rt, true, 0, b"a\tb\n%%\na\n%%"), Some(Ok(())));
+    assert!(rt; all_jobs_refused(&rt));
+}
+
+/// Whether a node that is asked for nothing ends well.
+fn is_served(rt: &HostRuntime, counted: bool, input: &[u8], text: &[u8]) -> bool {
+    match serve(rt, &options(2, counted), 0, input) {
+        Some((said, Ok(()))) => said.as_slice() == text,
+        _ => false,
+    }
 }
 
 #[test]
-fn what_is_refused_of_a_job_is_named(rt: HostRuntime) {
-    let three = JobError::Edges(EdgeError::Fields { number: 2 });
-    assert!(rt; first_of(&rt, false, b"a\tb\nb\tc\td\n%%\n", three));
-    let two = JobError::Counted(CountedError::Fields { number: 1 });
-    assert!(rt; first_of(&rt, true, b"a\tb\n%%\na\tb\n%%\n", two));
-    let unknown = JobError::Counted(CountedError::Unknown { number: 2 });
-    assert!(rt; first_of(&rt, true, b"a\tb\n%%\nb\nc\n%%\n", unknown));
-}
-
-/// How a node of a plan of so many partitions ends.
-fn plan_of(rt: &HostRuntime, parts: u16) -> Option<Result<(), NodeError>> {
-    let state = RandomState::new(rt).ok()?;
-    let mut writer = MemWriter::with_room(rt.alloc(), 64, None).ok()?;
-    let mut reader = MemReader::new(TWO_EDGES, None);
-    let options = options(parts);
-    Some(serve_node(rt.alloc(), state, &options, 0, &mut reader, &mut writer))
+fn lines_may_end_otherwise(rt: HostRuntime) {
+    assert!(rt; is_served(&rt, false, b"a\tb\r\n%%\r\nclose\n", b"waiting 1\n"));
+    assert!(rt; is_served(&rt, true, b"a\tb\n%%\na\n%%", b""));
 }
 
 #[test]
 fn a_job_without_a_plan_is_refused(rt: HostRuntime) {
-    let parts = Some(Err(NodeError::Job(JobError::Plan(PlanError::Parts))));
-    assert!(rt; plan_of(&rt, 0) == parts);
-    assert!(rt; plan_of(&rt, 65) == parts);
+    let end = JobError::Plan(PlanError::Parts);
+    assert!(rt; has_no_job(&rt, &options(0, false), 0, TWO_EDGES, end));
+    assert!(rt; has_no_job(&rt, &options(65, false), 0, TWO_EDGES, end));
 }
