@@ -1,11 +1,13 @@
 //! One partition's node that answers commands, and the report of checkpoints: the words of `hyperball node` and
 //! `hyperball gather`, done.
 
-ghost use Rattle.std.specs.Prelude.{◌≡◌, Err, OnOk};
+ghost use Rattle.std.specs.Prelude.{◌≡◌, Err, OnErr, OnOk};
 ghost use Rattle.std.specs.Io.KnownBytes.{Keeps};
 ghost use Rattle.node.specs.Gathering.{GathersJob};
 ghost use Rattle.node.specs.Job.{settings_in};
+ghost use Rattle.node.specs.NoReport.{IsUnwritten, WritesFrontOfJob};
 ghost use Rattle.node.specs.Serving.{IsOfMachine, ServesNode, StopsNode};
+ghost use Rattle.node.specs.declared.error.GatherError.{GatherError as NoReport};
 ghost use Rattle.node.specs.declared.error.JobError.{JobError as NoJob};
 ghost use Rattle.node.specs.declared.error.ServeError.{ServeError as NoAnswer};
 
@@ -94,6 +96,13 @@ pub fn gather_by<H: AllocGlobal + RandomSource + Threads + Sync, R: CountedRead,
     writer: &mut W,
 ) -> Result<(), GatherFault>
     ensures gathered { OnOk result (GathersJob (settings_in options.now) options.now.counted
+        (R.remaining reader.old) (R.remaining reader.new)
+        (W.contents writer.old) (W.contents writer.new)) }
+    // Nothing was written, or a beginning of the report where memory was refused or a write failed.
+    ensures kept { (e : NoReport) → result ≡ Err (GatherFault.Gather e) → IsUnwritten e →
+        Keeps (W.contents writer.old) (W.contents writer.new) }
+    ensures front { OnErr result (
+        WritesFrontOfJob (settings_in options.now) options.now.counted
         (R.remaining reader.old) (R.remaining reader.new)
         (W.contents writer.old) (W.contents writer.new)) }
     ensures random { result ≡ Err GatherFault.Random →

@@ -23,6 +23,7 @@ ghost use Rattle.hyperball.specs.Nodes.{AsksGather, AsksNode, IsGather, IsNode};
 ghost use Rattle.hyperball.specs.declared.node_words.NodeWords.{NodeWords as Noded};
 ghost use Rattle.node.specs.Gathering.{GathersJob};
 ghost use Rattle.node.specs.Job.{settings_in as job_settings};
+ghost use Rattle.node.specs.NoReport.{GathersFrontOfJob, WritesFrontOfJob};
 ghost use Rattle.node.specs.Serving.{ServesNode};
 ghost use Rattle.node.specs.declared.job.JobOptions.{JobOptions as Gathered};
 ghost use Rattle.hyperball.specs.declared.options.Options.{Options as Asked};
@@ -469,6 +470,10 @@ fn serve_gather<
         (job_settings options.now) options.now.counted
         (R.remaining reader.old) (R.remaining reader.new)
         (W.contents writer.old) (W.contents writer.new) }
+    ensures begun { result ≡ 1 → WritesFrontOfJob
+        (job_settings options.now) options.now.counted
+        (R.remaining reader.old) (R.remaining reader.new)
+        (W.contents writer.old) (W.contents writer.new) }
     ensures silent { result ≡ 0 → Keeps (F.contents faults.old) (F.contents faults.new) }
 {
     match gather_by(rt, options, reader, writer) {
@@ -528,6 +533,10 @@ pub fn serve<
     ensures one_begun { (w : Replayed) → IsReplay (texts_of words.now) w → result ≡ 1 →
         BeginsToServe w (R.remaining reader.old)
         W.contents W.failed_calls writer.old writer.new }
+    ensures gather_begun { (o : Gathered) → IsGather (texts_of words.now) o → result ≡ 1 →
+        KeptOrFailed W.contents W.failed_calls writer.old writer.new ⊎ GathersFrontOfJob
+        (job_settings o) o.counted (R.remaining reader.old) (R.remaining reader.new)
+        (W.contents writer.old) (W.contents writer.new) }
     ensures silent { result ≡ 0 → AsksProgress (texts_of words.now) false →
         Keeps (F.contents faults.old) (F.contents faults.new) }
 {

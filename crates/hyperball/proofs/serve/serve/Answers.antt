@@ -7,6 +7,7 @@ use Rattle.hyperball.specs.declared.words.RunWords.{RunWords}
 use Rattle.hyperball.proofs.ReplayLemmas.{is_replay, is_run, not_replay, not_run, replay_tells, run_tells, some_begun}
 use Rattle.node.specs.Gathering.{GathersJob}
 use Rattle.node.specs.Job.{settings_in}
+use Rattle.node.specs.NoReport.{GathersFrontOfJob}
 use Rattle.node.specs.Serving.{ServesNode}
 use Rattle.node.specs.declared.job.JobOptions.{JobOptions}
 use Rattle.hyperball.specs.declared.node_words.NodeWords.{NodeWords}
@@ -135,3 +136,21 @@ returns-in-Ok-Gather-clause-node g c = λ w is zero. absurd (node_no_gather _ w 
 
 pub returns-in-Ok-Gather-clause-one_kept : goal.returns-in-Ok-Gather-clause-one_kept
 returns-in-Ok-Gather-clause-one_kept g c = λ one. inr (inr (inr (c.in-Ok-Gather.ensures.asks_gather _ (ap Ok c.in-Ok-Gather.field-0-is))))
+
+pub returns-in-Ok-Run-clause-gather_begun : goal.returns-in-Ok-Run-clause-gather_begun
+returns-in-Ok-Run-clause-gather_begun g c = λ w is one. absurd (run_no_gather _ _ w c.in-Ok-Run.field-0-is (c.in-Ok-Run.ensures.gather w is))
+
+pub returns-in-Ok-Replay-clause-gather_begun : goal.returns-in-Ok-Replay-clause-gather_begun
+returns-in-Ok-Replay-clause-gather_begun g c = λ w is one. absurd (replay_no_gather _ _ w c.in-Ok-Replay.field-0-is (c.in-Ok-Replay.ensures.gather w is))
+
+pub returns-in-Ok-Node-clause-gather_begun : goal.returns-in-Ok-Node-clause-gather_begun
+returns-in-Ok-Node-clause-gather_begun g c = λ w is one. absurd (node_no_gather _ _ w c.in-Ok-Node.field-0-is (c.in-Ok-Node.ensures.gather w is))
+
+pub returns-in-Ok-Gather-clause-gather_begun : goal.returns-in-Ok-Gather-clause-gather_begun
+returns-in-Ok-Gather-clause-gather_begun g c = λ w is one. elim (c.serve_gather.ensures.begun one) [
+  | inl keeps ↦ inl (inl keeps)
+  | inr front ↦ inr (
+    subst (λ (v : JobOptions). GathersFrontOfJob (settings_in v) v.counted (g.R.Read.remaining c.args.reader.now) (g.R.Read.remaining c.serve_gather.new.reader)
+    (g.W.Write.contents c.args.writer.now) (g.W.Write.contents c.serve_gather.new.writer))
+    (same_gather _ _ w c.in-Ok-Gather.field-0-is (c.in-Ok-Gather.ensures.gather w is)) front)
+]
