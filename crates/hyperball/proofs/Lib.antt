@@ -8,3 +8,4 @@ pub mod ReportLemmas
 pub mod ReplayLemmas
 pub mod OrderLemmas
 pub mod RefusalLemmas
+pub mod NodeLemmas

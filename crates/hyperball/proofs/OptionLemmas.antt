@@ -7,6 +7,7 @@ use Rattle.clap.specs.declared.parser.matches.Found.{Found}
 use Rattle.clap.proofs.WalkLemmas.{first_value-rows, one_text-rows}
 use Rattle.ball_model.specs.declared.plan.Estimate.{Estimate}
 use Rattle.edgelist.specs.declared.read.Delimiter.{Delimiter}
+use Rattle.node.specs.declared.job.JobOptions.{JobOptions}
 use Rattle.hyperball.specs.declared.replay_words.ReplayWords.{ReplayWords}
 use Rattle.hyperball.specs.declared.words.RunWords.{RunWords}
 use Rattle.ball_model.specs.declared.names.NodeId.{NodeId}
@@ -53,6 +54,11 @@ pub same_replay_words : (log2m seed parts limit replicas : ℕ) (e : Estimate) (
     e ≡ w.options.estimate → d ≡ w.options.delimiter → counted ≡ w.counted → progress ≡ w.progress →
     ◌≡◌ {A = ReplayWords} (record { options = record { log2m = log2m; seed = seed; parts = parts; limit = limit; replicas = replicas; estimate = e; delimiter = d }; counted = counted; progress = progress }) w
 same_replay_words log2m seed parts limit replicas e d counted progress w a b p l r k g h t = λ i. record { options = record { log2m = a i; seed = b i; parts = p i; limit = l i; replicas = r i; estimate = k i; delimiter = g i }; counted = h i; progress = t i }
+
+pub same_job_options : (log2m seed parts limit : ℕ) (e : Estimate) (d : Delimiter) (counted : Bool) (o : JobOptions) → log2m ≡ o.log2m → seed ≡ o.seed → parts ≡ o.parts → limit ≡ o.limit →
+    e ≡ o.estimate → d ≡ o.delimiter → counted ≡ o.counted →
+    ◌≡◌ {A = JobOptions} (record { log2m = log2m; seed = seed; parts = parts; limit = limit; estimate = e; delimiter = d; counted = counted }) o
+same_job_options log2m seed parts limit e d counted o a b p l k g h = λ i. record { log2m = a i; seed = b i; parts = p i; limit = l i; estimate = k i; delimiter = g i; counted = h i }
 
 -- a text that was read is given
 pub given_is : (f : Found) (id : Text) (text : Option Text) → text ≡ first_value f id → is_some text ≡ true → is_some (first_of id (rows_of f)) ≡ true

@@ -6,8 +6,9 @@ use Rattle.ball_model.specs.Streams.{Rises}
 use Rattle.world.specs.declared.replay.ReplayError.{ReplayError}
 use Rattle.world.specs.declared.replay.ReplayError.TheVariants as fault
 use Rattle.clap.specs.Words.{Text}
+use Rattle.hyperball.specs.Nodes.{AsksGather, AsksNode}
 use Rattle.hyperball.specs.Replaying.{AsksReplay, Begins, BeginsSome, FailsIn, FailsOver, Leaves, SaysRun}
-use Rattle.hyperball.specs.Words.{tells_progress}
+use Rattle.hyperball.specs.Words.{SaysProgress}
 use Rattle.hyperball.specs.declared.replay_words.ReplayWords.{ReplayWords}
 use Rattle.hyperball.specs.declared.replaying.ReplayFault.{ReplayFault}
 use Rattle.hyperball.specs.declared.replaying.ReplayFault.TheVariants as unserved
@@ -46,7 +47,7 @@ stops told w old new a b (unserved.Replay e) fails left = elim (which e) [
   ]
 ]
 
--- what a command line asks for is a run or a replay
+-- what a command line asks for is one thing
 pub is_run : (x : Wish) (said : Said) (w : RunWords) → x ≡ wish.Run said → SaysRun w x → said.words ≡ w
 is_run x said w is says = subst (SaysRun w) is says
 
@@ -60,14 +61,14 @@ pub is_replay : (x : Wish) (v w : ReplayWords) → x ≡ wish.Replay v → x ≡
 is_replay x v w is says = let e = sym is ∙ says in cc
 
 -- and it tells progress where that tells it
-pub run_tells : (x : Wish) (said : Said) (b : Bool) → x ≡ wish.Run said → tells_progress x ≡ b → said.progress ≡ b
-run_tells x said b is = subst (λ (y : Wish). tells_progress y ≡ b) is
+pub run_tells : (x : Wish) (said : Said) (b : Bool) → x ≡ wish.Run said → SaysProgress b x → said.progress ≡ b
+run_tells x said b is = subst (SaysProgress b) is
 
-pub replay_tells : (x : Wish) (w : ReplayWords) (b : Bool) → x ≡ wish.Replay w → tells_progress x ≡ b → w.progress ≡ b
-replay_tells x w b is = subst (λ (y : Wish). tells_progress y ≡ b) is
+pub replay_tells : (x : Wish) (w : ReplayWords) (b : Bool) → x ≡ wish.Replay w → SaysProgress b x → w.progress ≡ b
+replay_tells x w b is = subst (SaysProgress b) is
 
 -- a replay that stopped, of words that ask for one
 pub some_begun : (words : List Text) (told old new : Option (List ℕ)) (a b : ℕ) (w : ReplayWords) → AsksReplay words →
-    (Keeps old new ⊎ Rises a b) ⊎ IfSome told (λ input. Begins w input old new) → (Keeps old new ⊎ Rises a b) ⊎ BeginsSome words told old new
+    (Keeps old new ⊎ Rises a b) ⊎ IfSome told (λ input. Begins w input old new) → (Keeps old new ⊎ Rises a b) ⊎ (BeginsSome words told old new ⊎ (AsksNode words ⊎ AsksGather words))
 some_begun words told old new a b w asks (inl left) = inl left
-some_begun words told old new a b w asks (inr begun) = inr (record { asks = asks; words_of = w; begun = begun })
+some_begun words told old new a b w asks (inr begun) = inr (inl (record { asks = asks; words_of = w; begun = begun }))

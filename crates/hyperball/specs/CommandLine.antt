@@ -1,4 +1,4 @@
--- The command line: the subcommands `run` and `replay`, and their options.
+-- The command line: the subcommands `run`, `replay`, `node` and `gather`, and their options.
 use Rattle.std.specs.Prelude.{◌≡◌, List, [], ◌∷◌, Some, codes, map, pos, true, false}
 use Rattle.clap.specs.Words.{App, Rule, Text, app_of, new_app, new_rule}
 use Rattle.clap.specs.Words.{with_rule, with_subcommand}
@@ -91,18 +91,26 @@ with_orders app = with_rule (with_rule app
 abbrev pub with_progress : App → App
 with_progress app = with_rule app (flag_rule (codes "progress"))
 
+-- a command with the options of a job
+abbrev pub with_job : Parsers → App → App
+with_job p app = with_input p.delimiters (with_estimate p.estimates (with_numbers app))
+
 -- the subcommand `run`
 unfoldable pub run_app : Parsers → App
-run_app p =
-    with_progress (with_orders (with_nodes (with_input p.delimiters
-    (with_estimate p.estimates (with_numbers (new_app (codes "run")))))))
+run_app p = with_progress (with_orders (with_nodes (with_job p (new_app (codes "run")))))
 
 -- the subcommand `replay`
 unfoldable pub replay_app : Parsers → App
-replay_app p = with_progress (with_rule
-    (with_input p.delimiters
-    (with_estimate p.estimates (with_numbers (new_app (codes "replay")))))
-    (option_rule (codes "replicas") number8))
+replay_app p =
+    with_progress (with_rule (with_job p (new_app (codes "replay"))) (option_rule (codes "replicas") number8))
+
+-- the subcommand `node`
+unfoldable pub node_app : Parsers → App
+node_app p = with_rule (with_job p (new_app (codes "node"))) (option_rule (codes "part") number16)
+
+-- the subcommand `gather`
+unfoldable pub gather_app : Parsers → App
+gather_app p = with_job p (new_app (codes "gather"))
 
 -- the program, which has a version and wants a subcommand, before it has one
 abbrev pub new_hyperball : App
@@ -113,7 +121,9 @@ new_hyperball = record (new_app (codes "hyperball")) {
 -- the program
 unfoldable pub hyperball_app : Parsers → App
 hyperball_app p =
-    with_subcommand (with_subcommand new_hyperball (run_app p).top) (replay_app p).top
+    with_subcommand (with_subcommand
+    (with_subcommand (with_subcommand new_hyperball (run_app p).top) (replay_app p).top)
+    (node_app p).top) (gather_app p).top
 
 -- a command of this form, with no argument for all subcommands
 pub record IsApp (app : App) (c : Command) : Type 0 where

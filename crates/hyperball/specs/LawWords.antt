@@ -4,6 +4,8 @@ use Rattle.ball_model.specs.declared.names.NodeId.{NodeId}
 use Rattle.ball_model.specs.declared.plan.Estimate.TheVariants.{Corrected, Raw}
 use Rattle.edgelist.specs.declared.read.Delimiter.TheVariants.{Comma, Space, Tab}
 use Rattle.world.specs.declared.replay.ReplayOptions.{ReplayOptions}
+use Rattle.node.specs.declared.job.JobOptions.{JobOptions}
+use Rattle.hyperball.specs.declared.node_words.NodeWords.{NodeWords}
 use Rattle.hyperball.specs.declared.replay_words.ReplayWords.{ReplayWords}
 use Rattle.hyperball.specs.declared.words.RunWords.{RunWords}
 use Rattle.hyperball.specs.Words.{usual_options}
@@ -74,3 +76,24 @@ one_order = (record { part = 0; replica = 1 }, 2) ∷ []
 -- and replica 0 of partition 1 at superstep 3
 abbrev pub two_orders : List (NodeId × ℕ)
 two_orders = (record { part = 0; replica = 1 }, 2) ∷ (record { part = 1; replica = 0 }, 3) ∷ []
+
+-- the options of a job where none is given
+abbrev pub usual_job : JobOptions
+usual_job = record {
+  log2m = 8;
+  seed = 0;
+  parts = 1;
+  limit = 4096;
+  estimate = Raw;
+  delimiter = Tab;
+  counted = false;
+}
+
+abbrev pub usual_node : NodeWords
+usual_node = record { options = usual_job; part = 0 }
+
+abbrev pub third_node : NodeWords
+third_node = record { options = record usual_job { log2m = 4; parts = 3; counted = true }; part = 2 }
+
+abbrev pub gathered_job : JobOptions
+gathered_job = record usual_job { parts = 3; estimate = Corrected; delimiter = Comma }

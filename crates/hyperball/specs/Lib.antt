@@ -7,3 +7,4 @@ pub mod LawWords
 pub mod Replaying
 pub mod Orders
 pub mod Refusals
+pub mod Nodes

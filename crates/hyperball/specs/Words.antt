@@ -126,15 +126,19 @@ pub record AreListed (rows : List Row) (orders : Orders) : Type 0 where
 abbrev pub SaysListed : Option (Text × List Row) → Wish → Type 0
 SaysListed sub (wish.Run said) = IfSome sub (λ s. AreListed s.1 said.orders)
 SaysListed sub (wish.Replay words) = ⊤
+SaysListed sub (wish.Node words) = ⊤
+SaysListed sub (wish.Gather options) = ⊤
 
 -- the subcommand has the flag of progress or not
 abbrev pub GivesProgress : Option (Text × List Row) → Bool → Type 0
 GivesProgress sub b = IfSome sub (λ s. IsFlag s.1 (codes "progress") b)
 
--- whether progress is to be told
-abbrev pub tells_progress : Wish → Bool
-tells_progress (wish.Run said) = said.progress
-tells_progress (wish.Replay words) = words.progress
+-- progress is to be told or not; a node and a gathering tell none
+abbrev pub SaysProgress : Bool → Wish → Type 0
+SaysProgress b (wish.Run said) = said.progress ≡ b
+SaysProgress b (wish.Replay words) = words.progress ≡ b
+SaysProgress b (wish.Node words) = ⊤
+SaysProgress b (wish.Gather options) = ⊤
 
 -- what the program's command finds wrong with the words
 pub record HasFaults (words : List Text) (kinds : List ErrorKind) : Type 0 where

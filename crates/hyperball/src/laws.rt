@@ -10,13 +10,16 @@ ghost use Rattle.clap.specs.declared.error.kind.ErrorKind.TheVariants.{UnknownAr
 ghost use Rattle.clap.specs.declared.error.kind.ErrorKind.TheVariants.{ValueValidation};
 ghost use Rattle.hyperball.specs.LawWords.{board_words, corrected_words, counted_words, log2m_words};
 ghost use Rattle.hyperball.specs.LawWords.{node_words, replayed_input, replayed_plan, space_words};
-ghost use Rattle.hyperball.specs.LawWords.{usual_replay};
+ghost use Rattle.hyperball.specs.LawWords.{gathered_job, third_node, usual_node, usual_replay};
 ghost use Rattle.hyperball.specs.LawWords.{one_order, two_orders};
 ghost use Rattle.hyperball.specs.Orders.{AreOrders};
+ghost use Rattle.hyperball.specs.Nodes.{AsksGather, AsksNode, IsGather, IsNode};
 ghost use Rattle.hyperball.specs.Replaying.{AsksReplay, IsReplay};
 ghost use Rattle.hyperball.specs.Words.{AsksProgress, HasFaults, IsRun};
+ghost use Rattle.hyperball.specs.declared.node_words.NodeWords.{NodeWords as Noded};
 ghost use Rattle.hyperball.specs.declared.replay_words.ReplayWords.{ReplayWords as Replayed};
 ghost use Rattle.hyperball.specs.declared.words.RunWords.{RunWords as Run};
+ghost use Rattle.node.specs.declared.job.JobOptions.{JobOptions as Gathered};
 
 /// These words are read as those of run; an option that is not given has its default.
 pub fn words_of_a_run()
@@ -93,6 +96,37 @@ pub fn words_of_no_replay()
         (InvalidValue ∷ []) }
 {}
 
+/// These words are read as those of node and of gather; an option that is not given has its default.
+pub fn words_of_a_node()
+    ensures usual { IsNode
+        (codes "hyperball" ∷ codes "node" ∷ [])
+        usual_node }
+    ensures third { IsNode
+        (codes "hyperball" ∷ codes "node" ∷ codes "--log2m" ∷ codes "4" ∷ codes "--parts=3"
+        ∷ codes "--part" ∷ codes "2" ∷ codes "--counted" ∷ [])
+        third_node }
+    ensures gather { IsGather
+        (codes "hyperball" ∷ codes "gather" ∷ codes "--parts=3" ∷ codes "--estimate"
+        ∷ codes "corrected" ∷ codes "--delimiter=comma" ∷ [])
+        gathered_job }
+{}
+
+/// These words ask for help on node or gather, or are mistaken: a report is of all partitions, and a node is one replica.
+pub fn words_of_no_node()
+    ensures help { HasFaults
+        (codes "hyperball" ∷ codes "node" ∷ codes "--help" ∷ [])
+        (DisplayHelp ∷ []) }
+    ensures part { HasFaults
+        (codes "hyperball" ∷ codes "gather" ∷ codes "--part" ∷ codes "0" ∷ [])
+        (UnknownArgument ∷ []) }
+    ensures replicas { HasFaults
+        (codes "hyperball" ∷ codes "node" ∷ codes "--replicas" ∷ codes "2" ∷ [])
+        (UnknownArgument ∷ []) }
+    ensures number { HasFaults
+        (codes "hyperball" ∷ codes "node" ∷ codes "--part" ∷ codes "65536" ∷ [])
+        (ValueValidation ∷ []) }
+{}
+
 /// These words ask for the version or for help, or no command is named; the commands have no version of their own.
 pub fn words_of_no_command()
     ensures version { HasFaults
@@ -127,10 +161,18 @@ pub fn words_of_progress()
         AsksProgress words true → AsksProgress words false → ⊥ }
 {}
 
-/// Words are never those of both commands, and words that are read as those of replay ask for one.
+/// Words of a run or a replay are those of no other command, and words that are read as those of a command ask for it.
 pub fn words_of_one_command()
     ensures run { (words : List Text) (w : Run) → IsRun words w → AsksReplay words → ⊥ }
+    ensures run_node { (words : List Text) (w : Run) → IsRun words w → AsksNode words → ⊥ }
+    ensures run_gather { (words : List Text) (w : Run) → IsRun words w → AsksGather words → ⊥ }
     ensures replay { (words : List Text) (w : Replayed) → IsReplay words w → AsksReplay words }
+    ensures replay_node { (words : List Text) (w : Replayed) → IsReplay words w →
+        AsksNode words → ⊥ }
+    ensures replay_gather { (words : List Text) (w : Replayed) → IsReplay words w →
+        AsksGather words → ⊥ }
+    ensures node { (words : List Text) (w : Noded) → IsNode words w → AsksNode words }
+    ensures gather { (words : List Text) (o : Gathered) → IsGather words o → AsksGather words }
 {}
 
 /// These texts are lists of orders, and these are none: a superstep is wanted, without leading zeros, and no list ends

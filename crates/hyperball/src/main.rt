@@ -1,10 +1,12 @@
 //! HyperBall centralities of a directed graph, from the command line.
 //!
 //! `hyperball run` reads an edge list on standard input and writes its report on standard output; `hyperball replay`
-//! plays a script over one ([`replaying`]). This file hands the real streams to [`serve::serve`], which goes from words
-//! and bytes to bytes and a status. [`words::read_words`] gives what the words ask for, a [`words::Wish`]: of a run the
-//! [`options::Options`] and the lists of orders ([`orders::orders_in`]). With `--counted` the input is read whole
-//! ([`whole::read_whole`]) and cut in two ([`whole::sections`]). The run itself is [`workers::run`].
+//! plays a script over one ([`replaying`]); `hyperball node` is one partition's node that answers commands, and
+//! `hyperball gather` writes the report of the checkpoints of all partitions ([`nodes`]). This file hands the real
+//! streams to [`serve::serve`], which goes from words and bytes to bytes and a status. [`words::read_words`] gives what
+//! the words ask for, a [`words::Wish`]: of a run the [`options::Options`] and the lists of orders
+//! ([`orders::orders_in`]). With `--counted` a run reads its input whole ([`whole::read_whole`]) and cuts it in two
+//! ([`whole::sections`]). The run itself is [`workers::run`].
 //!
 //! ```text
 //! $ printf 'a\tb\nb\tc\n' | hyperball run --log2m 4
@@ -20,7 +22,10 @@
 //! ```
 #![tactic(auto)]
 
+pub mod job_words;
 pub mod laws;
+pub mod node_words;
+pub mod nodes;
 pub mod options;
 pub mod orders;
 pub mod progress;
@@ -33,7 +38,7 @@ pub mod whole;
 pub mod words;
 
 use ball_model::{CountingReader, CountingWriter};
-use std::io::{IsTerminal, Write};
+use std::io::{BufReader, IsTerminal, Write};
 use std::process::ExitCode;
 use std::{env, io};
 
@@ -58,7 +63,11 @@ fn main(rt: HostRuntime) -> ExitCode {
         Err(error) => return ExitCode::from(serve::tell_fault(&mut faults, error)),
     };
     tell_terminal(&rt, &words);
-    let mut reader = CountingReader::new(rt.stdin());
+    let stdin = match BufReader::new(rt.alloc(), rt.stdin()) {
+        Ok(stdin) => stdin,
+        Err(error) => return ExitCode::from(serve::tell_fault(&mut faults, error)),
+    };
+    let mut reader = CountingReader::new(stdin);
     let mut writer = CountingWriter::new(rt.stdout());
     let status = serve::serve(&rt, &words, &mut reader, &mut writer, &mut faults);
     ExitCode::from(status)

@@ -7,11 +7,9 @@ ghost use Rattle.hyperball.specs.Replaying.{AreReplayOptionsOf};
 ghost use Rattle.hyperball.specs.Words.{IsFlag};
 ghost use Rattle.hyperball.specs.declared.replay_words.ReplayWords.{ReplayWords as Replayed};
 
+use crate::job_words::{PARTS_HELP, add_job, job_options_of};
 use crate::options::USUAL;
-use crate::words::{
-    ESTIMATE_HELP, add_counters, add_input, add_option, add_progress, delimiter_of, estimate_of,
-    wants_progress,
-};
+use crate::words::{add_option, add_progress, wants_progress};
 use clap::builder::ValueParser;
 use clap::{ArgMatches, Command, value_parser};
 use std::alloc::{AllocError, Global};
@@ -64,10 +62,6 @@ Exit status:
      refused or the output failed, where a beginning of the answers may stand
   2  words that are no command";
 
-const PARTS_HELP: &str = "Partitions that vertices are dealt out to, 1 to 64 [default: 1]";
-
-const LIMIT_HELP: &str = "Superstep at which nodes stop at the latest, 1 to 4096 [default: 4096]";
-
 const REPLICAS_HELP: &str = "Replicas of each partition, 1 to 4 [default: 1]";
 
 /// What the words of a replay say.
@@ -79,15 +73,6 @@ pub struct ReplayWords {
     pub counted: bool,
     /// Whether progress is to be told.
     pub progress: bool,
-}
-
-// Adds the options of a plan.
-fn add_plan<'a>(alloc: Global, command: Command<'a>) -> Result<Command<'a>, AllocError>
-    ensures { (app : App) → IsApp app command.entry → IfOk result (IsApp (with_numbers app)) }
-{
-    let command = add_counters(alloc, command)?;
-    let command = add_option(alloc, command, "parts", PARTS_HELP, value_parser!(u16))?;
-    add_option(alloc, command, "limit", LIMIT_HELP, value_parser!(u32))
 }
 
 // The subcommand replay, before it has options.
@@ -109,9 +94,7 @@ pub fn replay_command<'a>(
     ensures { IfOk result (IsApp (replay_app
         (record { estimates = estimates.entry; delimiters = delimiters.entry }))) }
 {
-    let command = add_plan(alloc, bare_replay(alloc))?;
-    let command = add_option(alloc, command, "estimate", ESTIMATE_HELP, estimates)?;
-    let command = add_input(alloc, command, delimiters)?;
+    let command = add_job(alloc, bare_replay(alloc), PARTS_HELP, estimates, delimiters)?;
     let command = add_option(alloc, command, "replicas", REPLICAS_HELP, value_parser!(u8))?;
     add_progress(alloc, command)
 }
@@ -123,18 +106,19 @@ pub fn replay_words_of(matches: &ArgMatches<'_>) -> ReplayWords
     ensures progress { (b : Bool) → IsFlag (rows_of (found_of matches.now)) (codes "progress") b →
         result.progress ≡ b }
 {
+    let job = job_options_of(matches);
     let options = ReplayOptions {
-        log2m: matches.get_one("log2m").unwrap_or(USUAL.log2m),
-        seed: matches.get_one("seed").unwrap_or(USUAL.seed),
-        parts: matches.get_one("parts").unwrap_or(USUAL.parts),
-        limit: matches.get_one("limit").unwrap_or(USUAL.limit),
+        log2m: job.log2m,
+        seed: job.seed,
+        parts: job.parts,
+        limit: job.limit,
         replicas: matches.get_one("replicas").unwrap_or(USUAL.replicas),
-        estimate: estimate_of(matches.get_str("estimate")),
-        delimiter: delimiter_of(matches.get_str("delimiter")),
+        estimate: job.estimate,
+        delimiter: job.delimiter,
     };
     ReplayWords {
         options,
-        counted: matches.get_flag("counted"),
+        counted: job.counted,
         progress: wants_progress(matches),
     }
 }

@@ -19,11 +19,20 @@ ghost use Rattle.hyperball.specs.declared.replay_words.ReplayWords.{ReplayWords 
 ghost use Rattle.hyperball.specs.Words.{AreMistakes, AsksProgress, FailsFor, HasFaults, HasOrders};
 ghost use Rattle.hyperball.specs.Words.{IsMistake, IsRun};
 ghost use Rattle.hyperball.specs.Words.{Reports, Serves, listed_words, texts_of};
+ghost use Rattle.hyperball.specs.Nodes.{AsksGather, AsksNode, IsGather, IsNode};
+ghost use Rattle.hyperball.specs.declared.node_words.NodeWords.{NodeWords as Noded};
+ghost use Rattle.node.specs.Gathering.{GathersJob};
+ghost use Rattle.node.specs.Job.{settings_in as job_settings};
+ghost use Rattle.node.specs.NoReport.{GathersFrontOfJob, WritesFrontOfJob};
+ghost use Rattle.node.specs.Serving.{ServesNode};
+ghost use Rattle.node.specs.declared.job.JobOptions.{JobOptions as Gathered};
 ghost use Rattle.hyperball.specs.declared.options.Options.{Options as Asked};
 ghost use Rattle.workers.specs.Options.{settings_of};
 ghost use Rattle.hyperball.specs.declared.whole.WholeError.{WholeError as NoInput};
 ghost use Rattle.hyperball.specs.declared.words.RunWords.{RunWords as Run};
 
+use crate::node_words::NodeWords;
+use crate::nodes::{gather_by, node_by};
 use crate::options::run_options;
 use crate::orders::OrdersError;
 use crate::progress::{Faults, TellingGate};
@@ -33,6 +42,7 @@ use crate::whole::{WholeError, read_whole, sections};
 use crate::words::{Said, Wish, WordsError, read_words};
 use ball_model::{CountedRead, CountedWrite, CountingReader, put_all};
 use clap::error::ErrorKind;
+use node::job::JobOptions;
 use std::alloc::{AllocGlobal, Global};
 use std::fmt::Display;
 use std::hash::RandomState;
@@ -427,12 +437,58 @@ fn serve_replay<H: AllocGlobal + RandomSource, R: CountedRead, W: CountedWrite, 
     }
 }
 
+// The status of a node, whose fault is told.
+fn serve_node<H: AllocGlobal + RandomSource, R: CountedRead, W: CountedWrite, F: Faults>(
+    rt: &H,
+    words: &NodeWords,
+    reader: &mut R,
+    writer: &mut W,
+    faults: &mut F,
+) -> u8
+    ensures status { (result ≡ 0) ⊎ (result ≡ 1) }
+    ensures done { result ≡ 0 → ServesNode
+        (job_settings words.now.options) words.now.options.counted words.now.part
+        (R.remaining reader.old) (R.remaining reader.new)
+        (W.contents writer.old) (W.contents writer.new) }
+    ensures silent { result ≡ 0 → Keeps (F.contents faults.old) (F.contents faults.new) }
+{
+    match node_by(rt, words, reader, writer) {
+        Ok(()) => DONE,
+        Err(fault) => tell_fault(faults, fault),
+    }
+}
+
+// The status of a gathering, whose fault is told.
+fn serve_gather<
+    H: AllocGlobal + RandomSource + Threads + Sync,
+    R: CountedRead,
+    W: CountedWrite,
+    F: Faults,
+>(rt: &H, options: &JobOptions, reader: &mut R, writer: &mut W, faults: &mut F) -> u8
+    ensures status { (result ≡ 0) ⊎ (result ≡ 1) }
+    ensures done { result ≡ 0 → GathersJob
+        (job_settings options.now) options.now.counted
+        (R.remaining reader.old) (R.remaining reader.new)
+        (W.contents writer.old) (W.contents writer.new) }
+    ensures begun { result ≡ 1 → WritesFrontOfJob
+        (job_settings options.now) options.now.counted
+        (R.remaining reader.old) (R.remaining reader.new)
+        (W.contents writer.old) (W.contents writer.new) }
+    ensures silent { result ≡ 0 → Keeps (F.contents faults.old) (F.contents faults.new) }
+{
+    match gather_by(rt, options, reader, writer) {
+        Ok(()) => DONE,
+        Err(fault) => tell_fault(faults, fault),
+    }
+}
+
 /// Does what the words of a command line say, and gives the exit status.
 ///
 /// 0: the report or the answers were written, or help was asked for, whose text goes to the writer; nothing goes to
 /// `faults`, unless `--progress` asks that progress is told there. 1: a fault, told in one line on `faults`; nothing was
-/// written unless a write failed, or memory was refused in a replay, where a beginning of the answers may stand. 2: words
-/// that are refused, as `clap` tells it there, or a list of orders that is not of its form; nothing was written.
+/// written unless a write failed, or memory was refused in a replay or for the report of checkpoints, where a beginning
+/// may stand, or by a node, where what it has answered stands. 2: words that are refused, as `clap` tells it there, or a
+/// list of orders that is not of its form; nothing was written.
 ///
 /// The first word is the program's name. With `--counted`, and by a replay, the input is read whole, at most 67,108,865
 /// bytes of it: the edge list, a line of exactly `%%`, the list of counted vertices where there is one, and for a replay
@@ -447,6 +503,13 @@ pub fn serve<
         Serves w (R.remaining reader.old) W.contents writer.old writer.new }
     ensures replay { (w : Replayed) → IsReplay (texts_of words.now) w → result ≡ 0 →
         ServesReplay w (R.remaining reader.old) W.contents writer.old writer.new }
+    ensures node { (w : Noded) → IsNode (texts_of words.now) w → result ≡ 0 → ServesNode
+        (job_settings w.options) w.options.counted w.part
+        (R.remaining reader.old) (R.remaining reader.new)
+        (W.contents writer.old) (W.contents writer.new) }
+    ensures gather { (o : Gathered) → IsGather (texts_of words.now) o → result ≡ 0 → GathersJob
+        (job_settings o) o.counted (R.remaining reader.old) (R.remaining reader.new)
+        (W.contents writer.old) (W.contents writer.new) }
     ensures few { (w : Run) → IsRun (texts_of words.now) w → w.counted ≡ true →
         ReadsFew (R.remaining reader.old) (R.remaining reader.new) }
     ensures replay_few { (w : Replayed) → IsReplay (texts_of words.now) w →
@@ -464,17 +527,24 @@ pub fn serve<
     ensures two_kept { result ≡ 2 → Keeps (W.contents writer.old) (W.contents writer.new) }
     ensures one_kept { result ≡ 1 →
         KeptOrFailed W.contents W.failed_calls writer.old writer.new
-        ⊎ BeginsSome (texts_of words.now) (R.remaining reader.old)
-        (W.contents writer.old) (W.contents writer.new) }
+        ⊎ (BeginsSome (texts_of words.now) (R.remaining reader.old)
+        (W.contents writer.old) (W.contents writer.new)
+        ⊎ (AsksNode (texts_of words.now) ⊎ AsksGather (texts_of words.now))) }
     ensures one_begun { (w : Replayed) → IsReplay (texts_of words.now) w → result ≡ 1 →
         BeginsToServe w (R.remaining reader.old)
         W.contents W.failed_calls writer.old writer.new }
+    ensures gather_begun { (o : Gathered) → IsGather (texts_of words.now) o → result ≡ 1 →
+        KeptOrFailed W.contents W.failed_calls writer.old writer.new ⊎ GathersFrontOfJob
+        (job_settings o) o.counted (R.remaining reader.old) (R.remaining reader.new)
+        (W.contents writer.old) (W.contents writer.new) }
     ensures silent { result ≡ 0 → AsksProgress (texts_of words.now) false →
         Keeps (F.contents faults.old) (F.contents faults.new) }
 {
     match read_words(rt.alloc(), words) {
         Ok(Wish::Run(said)) => serve_run(rt, said, reader, writer, faults),
         Ok(Wish::Replay(words)) => serve_replay(rt, &words, reader, writer, faults),
+        Ok(Wish::Node(words)) => serve_node(rt, &words, reader, writer, faults),
+        Ok(Wish::Gather(options)) => serve_gather(rt, &options, reader, writer, faults),
         Err(error) => tell_words(rt.alloc(), &error, writer, faults),
     }
 }

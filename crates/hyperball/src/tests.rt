@@ -1,6 +1,7 @@
 //! What no clause says: reports of runs, printed texts, statuses, and streams that fail.
 
 mod estimates;
+mod nodes;
 mod progress;
 mod refusals;
 mod replays;

@@ -19,13 +19,19 @@ ghost use Rattle.hyperball.specs.Orders.{AreOrders};
 ghost use Rattle.hyperball.specs.Words.{AreListed, AreOptionsOf, AreOrdersIn, FailsWith, GivesOrders};
 ghost use Rattle.hyperball.specs.Words.{HasFaults, HasOrders, IsRun, IsRunOf, ParsesTo, SaysListed};
 ghost use Rattle.hyperball.specs.Words.{AsksProgress, GivesProgress, IsFlag, SaysOrders};
-ghost use Rattle.hyperball.specs.Words.{tells_progress};
+ghost use Rattle.hyperball.specs.Words.{SaysProgress};
+ghost use Rattle.hyperball.specs.Nodes.{AsksGather, AsksNode, IsGather, IsGatherOf, IsNode, IsNodeOf};
+ghost use Rattle.hyperball.specs.Nodes.{NamesGather, NamesNode};
+ghost use Rattle.hyperball.specs.declared.node_words.NodeWords.{NodeWords as Noded};
+ghost use Rattle.node.specs.declared.job.JobOptions.{JobOptions as Gathered};
 ghost use Rattle.hyperball.specs.Words.{delimiter_name, estimate_name, texts_of};
 ghost use Rattle.ball_model.specs.declared.plan.Estimate.{Estimate as Made};
 ghost use Rattle.ball_model.specs.declared.plan.Estimate.TheVariants.{Raw};
 ghost use Rattle.edgelist.specs.declared.read.Delimiter.{Delimiter as Between};
 ghost use Rattle.edgelist.specs.declared.read.Delimiter.TheVariants.{Tab};
 
+use crate::job_words::{add_job, job_options_of};
+use crate::node_words::{NodeWords, gather_command, node_command, node_words_of};
 use crate::options::{Options, Orders, USUAL};
 use crate::orders::{OrdersError, orders_in};
 use crate::replay_words::{ReplayWords, replay_command, replay_words_of};
@@ -33,6 +39,7 @@ use ball_model::{Estimate, NodeId};
 use clap::builder::ValueParser;
 use clap::{Arg, ArgAction, ArgMatches, Command, Error, value_parser};
 use edgelist::Delimiter;
+use node::job::JobOptions;
 use std::alloc::{AllocError, Global};
 
 /// The names that `--delimiter` takes.
@@ -182,20 +189,24 @@ pub fn add_option<'a>(
     command.arg(option(alloc, name, help, parser))
 }
 
-/// Adds the options of the counters.
-pub fn add_counters<'a>(alloc: Global, command: Command<'a>) -> Result<Command<'a>, AllocError>
+// Adds the options of the counters.
+fn add_counters<'a>(alloc: Global, command: Command<'a>) -> Result<Command<'a>, AllocError>
     ensures { (app : App) → IsApp app command.entry → IfOk result (IsApp (with_counters app)) }
 {
     let command = add_option(alloc, command, "log2m", LOG2M_HELP, value_parser!(u8))?;
     add_option(alloc, command, "seed", SEED_HELP, value_parser!(u64))
 }
 
-// Adds the options of a plan.
-fn add_numbers<'a>(alloc: Global, command: Command<'a>) -> Result<Command<'a>, AllocError>
+/// Adds the options of a plan, with the help of `--parts`.
+pub fn add_numbers<'a>(
+    alloc: Global,
+    command: Command<'a>,
+    parts_help: &'a str,
+) -> Result<Command<'a>, AllocError>
     ensures { (app : App) → IsApp app command.entry → IfOk result (IsApp (with_numbers app)) }
 {
     let command = add_counters(alloc, command)?;
-    let command = add_option(alloc, command, "parts", PARTS_HELP, value_parser!(u16))?;
+    let command = add_option(alloc, command, "parts", parts_help, value_parser!(u16))?;
     add_option(alloc, command, "limit", LIMIT_HELP, value_parser!(u32))
 }
 
@@ -262,9 +273,7 @@ fn run_command<'a>(
     ensures { IfOk result (IsApp (run_app
         (record { estimates = estimates.entry; delimiters = delimiters.entry }))) }
 {
-    let command = add_numbers(alloc, bare_run(alloc))?;
-    let command = add_option(alloc, command, "estimate", ESTIMATE_HELP, estimates)?;
-    let command = add_input(alloc, command, delimiters)?;
+    let command = add_job(alloc, bare_run(alloc), PARTS_HELP, estimates, delimiters)?;
     let command = add_nodes(alloc, command)?;
     let command = add_orders(alloc, command)?;
     add_progress(alloc, command)
@@ -280,17 +289,18 @@ fn bare_command<'a>(alloc: Global) -> Command<'a>
         .subcommand_required(true)
 }
 
-// The program with the subcommand run alone.
-fn with_run<'a>(
-    alloc: Global,
-    estimates: ValueParser<'a>,
-    delimiters: ValueParser<'a>,
+// Adds a subcommand, where there is one.
+fn add_command<'a>(
+    command: Command<'a>,
+    inner: Result<Command<'a>, AllocError>,
 ) -> Result<Command<'a>, AllocError>
-    ensures { IfOk result (IsApp (with_subcommand new_hyperball (run_app
-        (record { estimates = estimates.entry; delimiters = delimiters.entry })).top)) }
+    ensures { (app sub : App) → IsApp app command.entry → IfOk inner.entry (IsApp sub) →
+        IfOk result (IsApp (with_subcommand app sub.top)) }
 {
-    let run = run_command(alloc, estimates, delimiters)?;
-    bare_command(alloc).subcommand(run)
+    match inner {
+        Ok(inner) => command.subcommand(inner),
+        Err(error) => Err(error),
+    }
 }
 
 /// The program's command.
@@ -300,9 +310,10 @@ pub fn command<'a>(alloc: Global) -> Result<Command<'a>, AllocError>
 {
     let ways = estimates();
     let between = delimiters();
-    let top = with_run(alloc, ways, between)?;
-    let replay = replay_command(alloc, ways, between)?;
-    top.subcommand(replay)
+    let top = add_command(bare_command(alloc), run_command(alloc, ways, between))?;
+    let top = add_command(top, replay_command(alloc, ways, between))?;
+    let top = add_command(top, node_command(alloc, ways, between))?;
+    add_command(top, gather_command(alloc, ways, between))
 }
 
 // The words, as the program's command reads them.
@@ -340,13 +351,14 @@ pub fn estimate_of(name: Option<&str>) -> Estimate
 fn options_of(matches: &ArgMatches<'_>) -> RunWords
     ensures { (w : Run) → AreOptionsOf (rows_of (found_of matches.now)) w → result ≡ w }
 {
+    let job = job_options_of(matches);
     let options = Options {
-        log2m: matches.get_one("log2m").unwrap_or(USUAL.log2m),
-        seed: matches.get_one("seed").unwrap_or(USUAL.seed),
-        parts: matches.get_one("parts").unwrap_or(USUAL.parts),
-        limit: matches.get_one("limit").unwrap_or(USUAL.limit),
-        estimate: estimate_of(matches.get_str("estimate")),
-        delimiter: delimiter_of(matches.get_str("delimiter")),
+        log2m: job.log2m,
+        seed: job.seed,
+        parts: job.parts,
+        limit: job.limit,
+        estimate: job.estimate,
+        delimiter: job.delimiter,
         replicas: matches.get_one("replicas").unwrap_or(USUAL.replicas),
         entries: matches.get_one("entries").unwrap_or(USUAL.entries),
         keep: matches.get_one("keep").unwrap_or(USUAL.keep),
@@ -354,7 +366,7 @@ fn options_of(matches: &ArgMatches<'_>) -> RunWords
     };
     RunWords {
         options,
-        counted: matches.get_flag("counted"),
+        counted: job.counted,
     }
 }
 
@@ -413,6 +425,10 @@ pub enum Wish {
     Run(Said),
     /// A replay.
     Replay(ReplayWords),
+    /// A node of a partition.
+    Node(NodeWords),
+    /// The report of checkpoints.
+    Gather(JobOptions),
 }
 
 /// Why words are no command.
@@ -457,15 +473,25 @@ fn wish_of(alloc: Global, matches: &ArgMatches<'_>) -> Result<Wish, WordsError>
         result ≡ Ok (Wish.Replay w) }
     ensures asks { (w : Replayed) → result ≡ Ok (Wish.Replay w) →
         NamesReplay (subcommand_rows_of matches.now) }
+    ensures node { (w : Noded) → IsNodeOf (subcommand_rows_of matches.now) w →
+        result ≡ Ok (Wish.Node w) }
+    ensures gather { (o : Gathered) → IsGatherOf (subcommand_rows_of matches.now) o →
+        result ≡ Ok (Wish.Gather o) }
+    ensures names_node { (w : Noded) → result ≡ Ok (Wish.Node w) →
+        NamesNode (subcommand_rows_of matches.now) }
+    ensures names_gather { (o : Gathered) → result ≡ Ok (Wish.Gather o) →
+        NamesGather (subcommand_rows_of matches.now) }
     ensures orders { IfOk result (SaysListed (subcommand_rows_of matches.now)) }
     ensures progress { (b : Bool) → GivesProgress (subcommand_rows_of matches.now) b →
-        IfOk result (λ wish. tells_progress wish ≡ b) }
+        IfOk result (SaysProgress b) }
     ensures none { FailsWith [] result }
     ensures form { result ≡ Err (WordsError.Orders OrdersError.Form) →
         GivesOrders (subcommand_rows_of matches.now) }
 {
     match matches.subcommand().unwrap() {
         ("replay", inner) => Ok(Wish::Replay(replay_words_of(inner))),
+        ("node", inner) => Ok(Wish::Node(node_words_of(inner))),
+        ("gather", inner) => Ok(Wish::Gather(job_options_of(inner))),
         _ => match run_words(alloc, matches) {
             Ok(said) => Ok(Wish::Run(said)),
             Err(error) => Err(error),
@@ -480,9 +506,16 @@ pub fn read_words(alloc: Global, words: &[String]) -> Result<Wish, WordsError>
     ensures replay { (w : Replayed) → IsReplay (texts_of words.now) w →
         IfOk result (λ wish. wish ≡ Wish.Replay w) }
     ensures asks { (w : Replayed) → result ≡ Ok (Wish.Replay w) → AsksReplay (texts_of words.now) }
+    ensures node { (w : Noded) → IsNode (texts_of words.now) w →
+        IfOk result (λ wish. wish ≡ Wish.Node w) }
+    ensures gather { (o : Gathered) → IsGather (texts_of words.now) o →
+        IfOk result (λ wish. wish ≡ Wish.Gather o) }
+    ensures asks_node { (w : Noded) → result ≡ Ok (Wish.Node w) → AsksNode (texts_of words.now) }
+    ensures asks_gather { (o : Gathered) → result ≡ Ok (Wish.Gather o) →
+        AsksGather (texts_of words.now) }
     ensures orders { IfOk result (SaysOrders (texts_of words.now)) }
     ensures progress { (b : Bool) → AsksProgress (texts_of words.now) b →
-        IfOk result (λ wish. tells_progress wish ≡ b) }
+        IfOk result (SaysProgress b) }
     ensures faults { (kinds : List Kind) → HasFaults (texts_of words.now) kinds →
         FailsWith kinds result }
     ensures form { result ≡ Err (WordsError.Orders OrdersError.Form) →

@@ -58,13 +58,19 @@ fn is_whole<H: AllocGlobal + Clock + RandomSource + Threads + Wait + Sync>(
     }
 }
 
-static REFUSABLE: [Wanted; 3] = [
+static REFUSABLE: [Wanted; 4] = [
     (RUN, b"a\tb\nb\tc\n", TWO_EDGES, true),
     (COUNTED, b"a\tb\nb\tc\n%%\na", ONE_COUNTED, true),
     (
         "hyperball replay --log2m 4 --parts 2 --replicas 2",
         b"a\tb\nb\tc\n%%\nsend 1.0 0\ndeliver 0 0.1\nkeep 0.1\nclose 0.1\nrestart 0.1\ncopy 0.1\n",
         b"sent 0 0 1 0 1 1\nnew\nkept 0\nclosed 1\nrestarted 0\ncopied 0 0\n",
+        false,
+    ),
+    (
+        "hyperball node --log2m 4",
+        b"a\tb\nb\tc\n%%\nclose\ntotals\nrestart 0\n",
+        b"closed 1\nsuperstep,0,33.803869\nsuperstep,1,34.851860\nrestarted 0\n",
         false,
     ),
 ];

@@ -2,8 +2,8 @@
 
 use super::*;
 use crate::laws::{
-    lists_of_orders, words_of_a_replay, words_of_a_run, words_of_no_command, words_of_no_replay,
-    words_of_no_run, words_of_one_command,
+    lists_of_orders, words_of_a_node, words_of_a_replay, words_of_a_run, words_of_no_command,
+    words_of_no_node, words_of_no_replay, words_of_no_run, words_of_one_command,
 };
 use crate::options::Options;
 use crate::orders::{OrdersError, orders_in};
@@ -171,9 +171,17 @@ fn helps<H: AllocGlobal + Clock + RandomSource + Threads + Wait + Sync>(
     Ok(served.status == 0 && served.output.len() > 100 && served.faults.is_empty())
 }
 
+static HELPED: [&str; 5] = [
+    "hyperball --help",
+    "hyperball help",
+    "hyperball run --help",
+    "hyperball node --help",
+    "hyperball gather --help",
+];
+
 #[test]
 fn help_is_shown(rt: HostRuntime) -> Result<(), Fail> {
-    for line in ["hyperball --help", "hyperball run --help", "hyperball help"] {
+    for line in &HELPED {
         assert!(rt; helps(&rt, line)?, "{line}");
     }
     Ok(())
@@ -203,7 +211,7 @@ fn refuses<H: AllocGlobal + Clock + RandomSource + Threads + Wait + Sync>(
 
 const ORDERS: &[u8] = b"hyperball: an order is P.K@S, with commas between orders\n";
 
-static MISTAKES: [(&str, &[u8]); 27] = [
+static MISTAKES: [(&str, &[u8]); 31] = [
     ("hyperball", b"error: 'hyperball' requires a subcommand"),
     (
         "hyperball replays",
@@ -244,6 +252,16 @@ static MISTAKES: [(&str, &[u8]); 27] = [
     ("hyperball run --delimiter semicolon", b"error: "),
     ("hyperball run --delimiter Tab", b"error: "),
     ("hyperball run --delimiter ,", b"error: "),
+    ("hyperball node --part 65536", b"error: "),
+    ("hyperball node --part -1", b"error: "),
+    (
+        "hyperball node --replicas 2",
+        b"error: unexpected argument '--replicas'",
+    ),
+    (
+        "hyperball gather --part 0",
+        b"error: unexpected argument '--part'",
+    ),
 ];
 
 #[test]
@@ -284,7 +302,7 @@ fn node(part: u16, replica: u8) -> NodeId {
 fn is_said(wish: &Wish) -> bool {
     match wish {
         Wish::Run(said) => is_run(said),
-        Wish::Replay(_) => false,
+        Wish::Replay(_) | Wish::Node(_) | Wish::Gather(_) => false,
     }
 }
 
@@ -306,6 +324,8 @@ fn words_are_read(rt: HostRuntime) -> Result<(), Fail> {
     words_of_no_run();
     words_of_a_replay();
     words_of_no_replay();
+    words_of_a_node();
+    words_of_no_node();
     words_of_no_command();
     words_of_one_command();
     lists_of_orders();

@@ -1,7 +1,7 @@
 use Rattle.std.proofs.Common.{◌≡◌, List, [], ◌∷◌, codes, refl, lit<}
 use Rattle.clap.specs.Words.{Text, fault_of, subcommand_of}
 use Rattle.clap.proofs.OnLiterals.{clap_on_literals}
-use Rattle.hyperball.specs.CommandLine.{hyperball_app, replay_app, run_app}
+use Rattle.hyperball.specs.CommandLine.{gather_app, hyperball_app, node_app, replay_app, run_app}
 use Rattle.hyperball.specs.LawWords.{board_words, corrected_words, counted_words, log2m_words, node_words, space_words}
 use Rattle.hyperball.specs.Words.{IsRunOf}
 use Rattle.hyperball.proofs.NameLemmas.{of_names}
@@ -23,7 +23,7 @@ abbrev node_line : List Text
 node_line = codes "hyperball" ∷ codes "run" ∷ codes "--replicas" ∷ codes "2" ∷ codes "--keep=0" ∷ codes "--lose" ∷ codes "0.1@2" ∷ []
 
 pub returns-clause-nodes : goal.returns-clause-nodes
-unfolding clap_on_literals hyperball_app replay_app run_app
+unfolding clap_on_literals hyperball_app gather_app node_app replay_app run_app
 returns-clause-nodes c = record {
   accepted = record { are = of_names (λ p. fault_of (hyperball_app p) node_line ≡ []) (λ at. refl) };
   command = of_names (λ p. IsRunOf (subcommand_of (hyperball_app p) node_line) node_words) (λ at. (
@@ -46,7 +46,7 @@ returns-clause-nodes c = record {
 }
 
 pub returns-clause-log2m : goal.returns-clause-log2m
-unfolding clap_on_literals hyperball_app replay_app run_app
+unfolding clap_on_literals hyperball_app gather_app node_app replay_app run_app
 returns-clause-log2m c = record {
   accepted = record { are = of_names (λ p. fault_of (hyperball_app p) log2m_line ≡ []) (λ at. refl) };
   command = of_names (λ p. IsRunOf (subcommand_of (hyperball_app p) log2m_line) log2m_words) (λ at. (
@@ -69,7 +69,7 @@ returns-clause-log2m c = record {
 }
 
 pub returns-clause-limit : goal.returns-clause-limit
-unfolding clap_on_literals hyperball_app replay_app run_app
+unfolding clap_on_literals hyperball_app gather_app node_app replay_app run_app
 returns-clause-limit c = record {
   accepted = record { are = of_names (λ p. fault_of (hyperball_app p) space_line ≡ []) (λ at. refl) };
   command = of_names (λ p. IsRunOf (subcommand_of (hyperball_app p) space_line) space_words) (λ at. (
@@ -92,7 +92,7 @@ returns-clause-limit c = record {
 }
 
 pub returns-clause-estimate : goal.returns-clause-estimate
-unfolding clap_on_literals hyperball_app replay_app run_app
+unfolding clap_on_literals hyperball_app gather_app node_app replay_app run_app
 returns-clause-estimate c = record {
   accepted = record { are = of_names (λ p. fault_of (hyperball_app p) corrected_line ≡ []) (λ at. refl) };
   command = of_names (λ p. IsRunOf (subcommand_of (hyperball_app p) corrected_line) corrected_words) (λ at. (
@@ -115,7 +115,7 @@ returns-clause-estimate c = record {
 }
 
 pub returns-clause-counted : goal.returns-clause-counted
-unfolding clap_on_literals hyperball_app replay_app run_app
+unfolding clap_on_literals hyperball_app gather_app node_app replay_app run_app
 returns-clause-counted c = record {
   accepted = record { are = of_names (λ p. fault_of (hyperball_app p) counted_line ≡ []) (λ at. refl) };
   command = of_names (λ p. IsRunOf (subcommand_of (hyperball_app p) counted_line) counted_words) (λ at. (
@@ -141,7 +141,7 @@ abbrev board_line : List Text
 board_line = codes "hyperball" ∷ codes "run" ∷ codes "--entries" ∷ codes "64" ∷ codes "--patience=10" ∷ codes "--restart" ∷ codes "0.0@2" ∷ []
 
 pub returns-clause-board : goal.returns-clause-board
-unfolding clap_on_literals hyperball_app replay_app run_app
+unfolding clap_on_literals hyperball_app gather_app node_app replay_app run_app
 returns-clause-board c = record {
   accepted = record { are = of_names (λ p. fault_of (hyperball_app p) board_line ≡ []) (λ at. refl) };
   command = of_names (λ p. IsRunOf (subcommand_of (hyperball_app p) board_line) board_words) (λ at. (

@@ -2,26 +2,26 @@ use Rattle.std.proofs.Common.{◌≡◌, [], ◌∷◌, codes, refl}
 use Rattle.clap.specs.Words.{fault_of}
 use Rattle.clap.specs.declared.error.kind.ErrorKind.TheVariants.{DisplayHelp, InvalidValue, UnknownArgument, ValueValidation}
 use Rattle.clap.proofs.OnLiterals.{clap_on_literals}
-use Rattle.hyperball.specs.CommandLine.{hyperball_app, replay_app, run_app}
+use Rattle.hyperball.specs.CommandLine.{gather_app, hyperball_app, node_app, replay_app, run_app}
 use Rattle.hyperball.proofs.NameLemmas.{of_names}
 use Rattle.hyperball.proofs.laws.words_of_no_replay.Goals as goal
 
 pub returns-clause-help : goal.returns-clause-help
-unfolding clap_on_literals hyperball_app replay_app run_app
+unfolding clap_on_literals hyperball_app gather_app node_app replay_app run_app
 returns-clause-help c = record { are = of_names (λ p. fault_of (hyperball_app p) (codes "hyperball" ∷ codes "replay" ∷ codes "--help" ∷ []) ≡ DisplayHelp ∷ []) (λ at. refl) }
 
 pub returns-clause-keep : goal.returns-clause-keep
-unfolding clap_on_literals hyperball_app replay_app run_app
+unfolding clap_on_literals hyperball_app gather_app node_app replay_app run_app
 returns-clause-keep c = record { are = of_names (λ p. fault_of (hyperball_app p) (codes "hyperball" ∷ codes "replay" ∷ codes "--keep" ∷ codes "0" ∷ []) ≡ UnknownArgument ∷ []) (λ at. refl) }
 
 pub returns-clause-lose : goal.returns-clause-lose
-unfolding clap_on_literals hyperball_app replay_app run_app
+unfolding clap_on_literals hyperball_app gather_app node_app replay_app run_app
 returns-clause-lose c = record { are = of_names (λ p. fault_of (hyperball_app p) (codes "hyperball" ∷ codes "replay" ∷ codes "--lose" ∷ codes "0.0@1" ∷ []) ≡ UnknownArgument ∷ []) (λ at. refl) }
 
 pub returns-clause-number : goal.returns-clause-number
-unfolding clap_on_literals hyperball_app replay_app run_app
+unfolding clap_on_literals hyperball_app gather_app node_app replay_app run_app
 returns-clause-number c = record { are = of_names (λ p. fault_of (hyperball_app p) (codes "hyperball" ∷ codes "replay" ∷ codes "--replicas" ∷ codes "256" ∷ []) ≡ ValueValidation ∷ []) (λ at. refl) }
 
 pub returns-clause-name : goal.returns-clause-name
-unfolding clap_on_literals hyperball_app replay_app run_app
+unfolding clap_on_literals hyperball_app gather_app node_app replay_app run_app
 returns-clause-name c = record { are = of_names (λ p. fault_of (hyperball_app p) (codes "hyperball" ∷ codes "replay" ∷ codes "--estimate" ∷ codes "best" ∷ []) ≡ InvalidValue ∷ []) (λ at. refl) }

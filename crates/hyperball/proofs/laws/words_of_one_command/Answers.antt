@@ -1,26 +1,76 @@
-use Rattle.std.proofs.Common.{◌≡◌, List, Option, Some, ap, codes, refl, subst}
+use Rattle.std.proofs.Common.{◌≡◌, List, Option, Some, ap, arith, codes, refl, slice_index, subst}
 use Rattle.std.specs.Prelude.{option_map}
 use Rattle.clap.specs.Words.{Row, Text}
-use Rattle.hyperball.specs.Replaying.{NamesReplay}
+use Rattle.hyperball.specs.CommandLine.{Parsers}
 use Rattle.hyperball.proofs.NameLemmas.{parsers_at}
 use Rattle.hyperball.proofs.laws.words_of_one_command.Goals as goal
 
-two_names : codes "run" ≡ codes "replay" → ⊥
-two_names same = absurd (cc)
+-- the name of a subcommand
+abbrev name_of : Option (Text × List Row) → Option Text
+name_of sub = option_map (λ s. s.0) sub
 
-names_run : (sub : Option (Text × List Row)) (rows : List Row) → sub ≡ Some (codes "run", rows) → NamesReplay sub → ⊥
-names_run sub rows is named = two_names (some_of _ _ (subst NamesReplay is named))
-  where
-    some_of : (s t : Text) → Some s ≡ Some t → s ≡ t
-    some_of s t same = cc
+some_of : (s t : Text) → Some s ≡ Some t → s ≡ t
+some_of s t same = cc
+
+one_name : (name other : Text) → (name ≡ other → ⊥) → (sub : Option (Text × List Row)) (rows : List Row) → sub ≡ Some (name, rows) → name_of sub ≡ Some other → ⊥
+one_name name other differ sub rows is named =
+    differ (some_of _ _ (subst (λ (o : Option (Text × List Row)). name_of o ≡ Some other) is named))
+
+run_replay : codes "run" ≡ codes "replay" → ⊥
+run_replay same = absurd (cc)
+
+run_node : codes "run" ≡ codes "node" → ⊥
+run_node same = absurd (cc)
+
+run_gather : codes "run" ≡ codes "gather" → ⊥
+run_gather same = absurd (cc)
+
+replay_node : codes "replay" ≡ codes "node" → ⊥
+replay_node same = absurd (cc)
+
+replay_gather : codes "replay" ≡ codes "gather" → ⊥
+replay_gather same = let bad : 114 ≡ 103 = ap (λ (t : Text). slice_index t 0) same in absurd (omega (arith, bad))
+
+-- some parsers
+abbrev some_parsers : Parsers
+some_parsers = parsers_at (record { estimates = (0, 0); raw = (0, 0); corrected = (0, 0); delimiters = (0, 0); tab = (0, 0); comma = (0, 0); space = (0, 0) })
 
 pub returns-clause-run : goal.returns-clause-run
 returns-clause-run c = λ words w is asks.
     let run = is.command asks.parsers asks.take in
-    names_run _ run.0 run.1 asks.named
+    one_name _ _ run_replay _ run.0 run.1 asks.named
+
+pub returns-clause-run_node : goal.returns-clause-run_node
+returns-clause-run_node c = λ words w is asks.
+    let run = is.command asks.parsers asks.take in
+    one_name _ _ run_node _ run.0 run.1 asks.named
+
+pub returns-clause-run_gather : goal.returns-clause-run_gather
+returns-clause-run_gather c = λ words w is asks.
+    let run = is.command asks.parsers asks.take in
+    one_name _ _ run_gather _ run.0 run.1 asks.named
+
+pub returns-clause-replay_node : goal.returns-clause-replay_node
+returns-clause-replay_node c = λ words w is asks.
+    let replay = is.command asks.parsers asks.take in
+    one_name _ _ replay_node _ replay.0 replay.1 asks.named
+
+pub returns-clause-replay_gather : goal.returns-clause-replay_gather
+returns-clause-replay_gather c = λ words w is asks.
+    let replay = is.command asks.parsers asks.take in
+    one_name _ _ replay_gather _ replay.0 replay.1 asks.named
 
 pub returns-clause-replay : goal.returns-clause-replay
 returns-clause-replay c = λ words w is.
-    let p = parsers_at (record { estimates = (0, 0); raw = (0, 0); corrected = (0, 0); delimiters = (0, 0); tab = (0, 0); comma = (0, 0); space = (0, 0) }) in
-    let replay = is.command p (refl, refl) in
-    record { parsers = p; take = (refl, refl); named = ap (λ (o : Option (Text × List Row)). option_map (λ s. s.0) o) replay.1 }
+    let replay = is.command some_parsers (refl, refl) in
+    record { parsers = some_parsers; take = (refl, refl); named = ap (λ (o : Option (Text × List Row)). name_of o) replay.1 }
+
+pub returns-clause-node : goal.returns-clause-node
+returns-clause-node c = λ words w is.
+    let node = is.command some_parsers (refl, refl) in
+    record { parsers = some_parsers; take = (refl, refl); named = ap (λ (o : Option (Text × List Row)). name_of o) node.1 }
+
+pub returns-clause-gather : goal.returns-clause-gather
+returns-clause-gather c = λ words o is.
+    let gather = is.command some_parsers (refl, refl) in
+    record { parsers = some_parsers; take = (refl, refl); named = ap (λ (o : Option (Text × List Row)). name_of o) gather.1 }

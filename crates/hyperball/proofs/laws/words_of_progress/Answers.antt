@@ -2,7 +2,7 @@ use Rattle.std.proofs.Common.{◌≡◌, ◌∙◌, List, Option, [], ◌∷◌,
 use Rattle.std.specs.Prelude.{MatchOption, None, Some}
 use Rattle.clap.specs.Words.{Row, Text, subcommand_of}
 use Rattle.clap.proofs.OnLiterals.{clap_on_literals}
-use Rattle.hyperball.specs.CommandLine.{hyperball_app, replay_app, run_app}
+use Rattle.hyperball.specs.CommandLine.{gather_app, hyperball_app, node_app, replay_app, run_app}
 use Rattle.hyperball.specs.Words.{GivesProgress, flag_text}
 use Rattle.hyperball.proofs.NameLemmas.{of_names, parsers_at}
 use Rattle.hyperball.proofs.laws.words_of_progress.Goals as goal
@@ -11,7 +11,7 @@ abbrev run_line : List Text
 run_line = codes "hyperball" ∷ codes "run" ∷ codes "--progress" ∷ codes "--parts" ∷ codes "2" ∷ []
 
 pub returns-clause-run : goal.returns-clause-run
-unfolding clap_on_literals hyperball_app replay_app run_app
+unfolding clap_on_literals hyperball_app gather_app node_app replay_app run_app
 returns-clause-run c = record {
   flag = λ p take accepted. of_names (λ q. GivesProgress (subcommand_of (hyperball_app q) run_line) true) (λ at. refl) p take;
 }
@@ -20,7 +20,7 @@ abbrev replay_line : List Text
 replay_line = codes "hyperball" ∷ codes "replay" ∷ codes "--progress" ∷ []
 
 pub returns-clause-replay : goal.returns-clause-replay
-unfolding clap_on_literals hyperball_app replay_app run_app
+unfolding clap_on_literals hyperball_app gather_app node_app replay_app run_app
 returns-clause-replay c = record {
   flag = λ p take accepted. of_names (λ q. GivesProgress (subcommand_of (hyperball_app q) replay_line) true) (λ at. refl) p take;
 }
@@ -29,7 +29,7 @@ abbrev plain_line : List Text
 plain_line = codes "hyperball" ∷ codes "run" ∷ codes "--parts" ∷ codes "2" ∷ []
 
 pub returns-clause-plain : goal.returns-clause-plain
-unfolding clap_on_literals hyperball_app replay_app run_app
+unfolding clap_on_literals hyperball_app gather_app node_app replay_app run_app
 returns-clause-plain c = record {
   flag = λ p take accepted. of_names (λ q. GivesProgress (subcommand_of (hyperball_app q) plain_line) false) (λ at. refl) p take;
 }

@@ -1,20 +1,42 @@
-use Rattle.std.proofs.Common.{◌∙◌, codes}
+use Rattle.std.proofs.Common.{◌≡◌, ◌∙◌, ap, codes}
 use Rattle.std.specs.Str.Parse.{ExplainsUnsignedError, HasUnsignedDigitsIfOk}
 use Rattle.clap.specs.Words.{found_of}
-use Rattle.hyperball.specs.Words.{delimiter_name, estimate_name, usual_options}
-use Rattle.hyperball.proofs.OptionLemmas.{flag_is, name_is, number_is, same_replay_words}
+use Rattle.node.specs.declared.job.JobOptions.{JobOptions}
+use Rattle.hyperball.specs.declared.replay_words.ReplayWords.{ReplayWords}
+use Rattle.hyperball.proofs.OptionLemmas.{number_is, same_replay_words}
 use Rattle.hyperball.proofs.replay_words.replay_words_of.Goals as goal
+
+-- the options of its job
+abbrev job_in : ReplayWords → JobOptions
+job_in w = record {
+  log2m = w.options.log2m;
+  seed = w.options.seed;
+  parts = w.options.parts;
+  limit = w.options.limit;
+  estimate = w.options.estimate;
+  delimiter = w.options.delimiter;
+  counted = w.counted;
+}
 
 pub returns-clause-options : goal.returns-clause-options
 returns-clause-options c = λ w h.
     let f = found_of c.args.matches.now in
+    let job : c.job_options_of-job.result ≡ job_in w = c.job_options_of-job.ensures (job_in w) (record {
+      log2m = h.log2m;
+      seed = h.seed;
+      parts = h.parts;
+      limit = h.limit;
+      estimate = h.estimate;
+      delimiter = h.delimiter;
+      counted = h.counted;
+    }) in
     same_replay_words _ _ _ _ _ _ _ _ _ w
-    (c.unwrap_or.ensures ∙ number_is (λ t r. ExplainsUnsignedError 10 t r) (λ t r. HasUnsignedDigitsIfOk t r) f (codes "log2m") 8 8 w.options.log2m c.get_one.result c.get_one.ensures.none c.get_one.ensures.value h.log2m)
-    (c.unwrap_or-2.ensures ∙ number_is (λ t r. ExplainsUnsignedError 10 t r) (λ t r. HasUnsignedDigitsIfOk t r) f (codes "seed") 0 64 w.options.seed c.get_one-2.result c.get_one-2.ensures.none c.get_one-2.ensures.value h.seed)
-    (c.unwrap_or-3.ensures ∙ number_is (λ t r. ExplainsUnsignedError 10 t r) (λ t r. HasUnsignedDigitsIfOk t r) f (codes "parts") 1 16 w.options.parts c.get_one-3.result c.get_one-3.ensures.none c.get_one-3.ensures.value h.parts)
-    (c.unwrap_or-4.ensures ∙ number_is (λ t r. ExplainsUnsignedError 10 t r) (λ t r. HasUnsignedDigitsIfOk t r) f (codes "limit") 4096 32 w.options.limit c.get_one-4.result c.get_one-4.ensures.none c.get_one-4.ensures.value h.limit)
-    (c.unwrap_or-5.ensures ∙ number_is (λ t r. ExplainsUnsignedError 10 t r) (λ t r. HasUnsignedDigitsIfOk t r) f (codes "replicas") 1 8 w.options.replicas c.get_one-5.result c.get_one-5.ensures.none c.get_one-5.ensures.value h.replicas)
-    (c.estimate_of.ensures w.options.estimate (name_is usual_options.estimate estimate_name f (codes "estimate") w.options.estimate _ c.get_str.ensures h.estimate))
-    (c.delimiter_of.ensures w.options.delimiter (name_is usual_options.delimiter delimiter_name f (codes "delimiter") w.options.delimiter _ c.get_str-2.ensures h.delimiter))
-    (flag_is f (codes "counted") c.get_flag.result w.counted c.get_flag.ensures.none c.get_flag.ensures.value c.get_flag.ensures.other h.counted)
+    (ap (λ (o : JobOptions). o.log2m) job)
+    (ap (λ (o : JobOptions). o.seed) job)
+    (ap (λ (o : JobOptions). o.parts) job)
+    (ap (λ (o : JobOptions). o.limit) job)
+    (c.unwrap_or.ensures ∙ number_is (λ t r. ExplainsUnsignedError 10 t r) (λ t r. HasUnsignedDigitsIfOk t r) f (codes "replicas") 1 8 w.options.replicas c.get_one.result c.get_one.ensures.none c.get_one.ensures.value h.replicas)
+    (ap (λ (o : JobOptions). o.estimate) job)
+    (ap (λ (o : JobOptions). o.delimiter) job)
+    (ap (λ (o : JobOptions). o.counted) job)
     (c.wants_progress.ensures w.progress h.progress)

@@ -1,10 +1,17 @@
-use Rattle.std.proofs.Common.{◌≡◌, ap, false, subst, sym, true}
+use Rattle.std.proofs.Common.{◌≡◌, ap, false, inl, inr, subst, sym, true}
 use Rattle.std.specs.Prelude.{Err, IfSome, Ok}
 use Rattle.hyperball.specs.Replaying.{BeginsToServe, ServesReplay}
 use Rattle.hyperball.specs.Words.{Reports}
 use Rattle.hyperball.specs.declared.replay_words.ReplayWords.{ReplayWords}
 use Rattle.hyperball.specs.declared.words.RunWords.{RunWords}
 use Rattle.hyperball.proofs.ReplayLemmas.{is_replay, is_run, not_replay, not_run, replay_tells, run_tells, some_begun}
+use Rattle.node.specs.Gathering.{GathersJob}
+use Rattle.node.specs.Job.{settings_in}
+use Rattle.node.specs.NoReport.{GathersFrontOfJob}
+use Rattle.node.specs.Serving.{ServesNode}
+use Rattle.node.specs.declared.job.JobOptions.{JobOptions}
+use Rattle.hyperball.specs.declared.node_words.NodeWords.{NodeWords}
+use Rattle.hyperball.proofs.NodeLemmas.{gather_no_replay, gather_no_run, node_no_gather, node_no_replay, node_no_run, replay_no_gather, replay_no_node, run_no_gather, run_no_node, same_gather, same_node}
 use Rattle.hyperball.proofs.serve.serve.Goals as goal
 
 pub returns-in-Err-clause-mistaken : goal.returns-in-Err-clause-mistaken
@@ -57,3 +64,93 @@ returns-in-Ok-Replay-clause-one_kept g c = λ one.
     some_begun _ (g.R.Read.remaining c.args.reader.now) (g.W.Write.contents c.args.writer.now) (g.W.Write.contents c.serve_replay.new.writer)
     (g.W.CountedWrite.failed_calls c.args.writer.now) (g.W.CountedWrite.failed_calls c.serve_replay.new.writer) _
     (c.in-Ok-Replay.ensures.asks _ (ap Ok c.in-Ok-Replay.field-0-is)) (c.serve_replay.ensures.begun one)
+
+pub returns-in-Ok-Run-clause-node : goal.returns-in-Ok-Run-clause-node
+returns-in-Ok-Run-clause-node g c = λ w is zero. absurd (run_no_node _ _ w c.in-Ok-Run.field-0-is (c.in-Ok-Run.ensures.node w is))
+
+pub returns-in-Ok-Run-clause-gather : goal.returns-in-Ok-Run-clause-gather
+returns-in-Ok-Run-clause-gather g c = λ w is zero. absurd (run_no_gather _ _ w c.in-Ok-Run.field-0-is (c.in-Ok-Run.ensures.gather w is))
+
+pub returns-in-Ok-Replay-clause-node : goal.returns-in-Ok-Replay-clause-node
+returns-in-Ok-Replay-clause-node g c = λ w is zero. absurd (replay_no_node _ _ w c.in-Ok-Replay.field-0-is (c.in-Ok-Replay.ensures.node w is))
+
+pub returns-in-Ok-Replay-clause-gather : goal.returns-in-Ok-Replay-clause-gather
+returns-in-Ok-Replay-clause-gather g c = λ w is zero. absurd (replay_no_gather _ _ w c.in-Ok-Replay.field-0-is (c.in-Ok-Replay.ensures.gather w is))
+
+pub returns-in-Ok-Node-clause-run : goal.returns-in-Ok-Node-clause-run
+returns-in-Ok-Node-clause-run g c = λ w is zero. absurd (node_no_run _ _ w c.in-Ok-Node.field-0-is (c.in-Ok-Node.ensures.run w is))
+
+pub returns-in-Ok-Node-clause-replay : goal.returns-in-Ok-Node-clause-replay
+returns-in-Ok-Node-clause-replay g c = λ w is zero. absurd (node_no_replay _ _ w c.in-Ok-Node.field-0-is (c.in-Ok-Node.ensures.replay w is))
+
+pub returns-in-Ok-Node-clause-few : goal.returns-in-Ok-Node-clause-few
+returns-in-Ok-Node-clause-few g c = λ w is counted. absurd (node_no_run _ _ w c.in-Ok-Node.field-0-is (c.in-Ok-Node.ensures.run w is))
+
+pub returns-in-Ok-Node-clause-replay_few : goal.returns-in-Ok-Node-clause-replay_few
+returns-in-Ok-Node-clause-replay_few g c = λ w is. absurd (node_no_replay _ _ w c.in-Ok-Node.field-0-is (c.in-Ok-Node.ensures.replay w is))
+
+pub returns-in-Ok-Node-clause-one_begun : goal.returns-in-Ok-Node-clause-one_begun
+returns-in-Ok-Node-clause-one_begun g c = λ w is one. absurd (node_no_replay _ _ w c.in-Ok-Node.field-0-is (c.in-Ok-Node.ensures.replay w is))
+
+pub returns-in-Ok-Node-clause-silent : goal.returns-in-Ok-Node-clause-silent
+returns-in-Ok-Node-clause-silent g c = λ zero quiet. c.serve_node.ensures.silent zero
+
+pub returns-in-Ok-Gather-clause-run : goal.returns-in-Ok-Gather-clause-run
+returns-in-Ok-Gather-clause-run g c = λ w is zero. absurd (gather_no_run _ _ w c.in-Ok-Gather.field-0-is (c.in-Ok-Gather.ensures.run w is))
+
+pub returns-in-Ok-Gather-clause-replay : goal.returns-in-Ok-Gather-clause-replay
+returns-in-Ok-Gather-clause-replay g c = λ w is zero. absurd (gather_no_replay _ _ w c.in-Ok-Gather.field-0-is (c.in-Ok-Gather.ensures.replay w is))
+
+pub returns-in-Ok-Gather-clause-few : goal.returns-in-Ok-Gather-clause-few
+returns-in-Ok-Gather-clause-few g c = λ w is counted. absurd (gather_no_run _ _ w c.in-Ok-Gather.field-0-is (c.in-Ok-Gather.ensures.run w is))
+
+pub returns-in-Ok-Gather-clause-replay_few : goal.returns-in-Ok-Gather-clause-replay_few
+returns-in-Ok-Gather-clause-replay_few g c = λ w is. absurd (gather_no_replay _ _ w c.in-Ok-Gather.field-0-is (c.in-Ok-Gather.ensures.replay w is))
+
+pub returns-in-Ok-Gather-clause-one_begun : goal.returns-in-Ok-Gather-clause-one_begun
+returns-in-Ok-Gather-clause-one_begun g c = λ w is one. absurd (gather_no_replay _ _ w c.in-Ok-Gather.field-0-is (c.in-Ok-Gather.ensures.replay w is))
+
+pub returns-in-Ok-Gather-clause-silent : goal.returns-in-Ok-Gather-clause-silent
+returns-in-Ok-Gather-clause-silent g c = λ zero quiet. c.serve_gather.ensures.silent zero
+
+pub returns-in-Ok-Node-clause-node : goal.returns-in-Ok-Node-clause-node
+returns-in-Ok-Node-clause-node g c = λ w is zero.
+    subst (λ (v : NodeWords). ServesNode (settings_in v.options) v.options.counted v.part (g.R.Read.remaining c.args.reader.now) (g.R.Read.remaining c.serve_node.new.reader)
+    (g.W.Write.contents c.args.writer.now) (g.W.Write.contents c.serve_node.new.writer))
+    (same_node _ _ w c.in-Ok-Node.field-0-is (c.in-Ok-Node.ensures.node w is)) (c.serve_node.ensures.done zero)
+
+pub returns-in-Ok-Node-clause-gather : goal.returns-in-Ok-Node-clause-gather
+returns-in-Ok-Node-clause-gather g c = λ w is zero. absurd (node_no_gather _ _ w c.in-Ok-Node.field-0-is (c.in-Ok-Node.ensures.gather w is))
+
+pub returns-in-Ok-Node-clause-one_kept : goal.returns-in-Ok-Node-clause-one_kept
+returns-in-Ok-Node-clause-one_kept g c = λ one. inr (inr (inl (c.in-Ok-Node.ensures.asks_node _ (ap Ok c.in-Ok-Node.field-0-is))))
+
+pub returns-in-Ok-Gather-clause-gather : goal.returns-in-Ok-Gather-clause-gather
+returns-in-Ok-Gather-clause-gather g c = λ w is zero.
+    subst (λ (v : JobOptions). GathersJob (settings_in v) v.counted (g.R.Read.remaining c.args.reader.now) (g.R.Read.remaining c.serve_gather.new.reader)
+    (g.W.Write.contents c.args.writer.now) (g.W.Write.contents c.serve_gather.new.writer))
+    (same_gather _ _ w c.in-Ok-Gather.field-0-is (c.in-Ok-Gather.ensures.gather w is)) (c.serve_gather.ensures.done zero)
+
+pub returns-in-Ok-Gather-clause-node : goal.returns-in-Ok-Gather-clause-node
+returns-in-Ok-Gather-clause-node g c = λ w is zero. absurd (node_no_gather _ w _ (c.in-Ok-Gather.ensures.node w is) c.in-Ok-Gather.field-0-is)
+
+pub returns-in-Ok-Gather-clause-one_kept : goal.returns-in-Ok-Gather-clause-one_kept
+returns-in-Ok-Gather-clause-one_kept g c = λ one. inr (inr (inr (c.in-Ok-Gather.ensures.asks_gather _ (ap Ok c.in-Ok-Gather.field-0-is))))
+
+pub returns-in-Ok-Run-clause-gather_begun : goal.returns-in-Ok-Run-clause-gather_begun
+returns-in-Ok-Run-clause-gather_begun g c = λ w is one. absurd (run_no_gather _ _ w c.in-Ok-Run.field-0-is (c.in-Ok-Run.ensures.gather w is))
+
+pub returns-in-Ok-Replay-clause-gather_begun : goal.returns-in-Ok-Replay-clause-gather_begun
+returns-in-Ok-Replay-clause-gather_begun g c = λ w is one. absurd (replay_no_gather _ _ w c.in-Ok-Replay.field-0-is (c.in-Ok-Replay.ensures.gather w is))
+
+pub returns-in-Ok-Node-clause-gather_begun : goal.returns-in-Ok-Node-clause-gather_begun
+returns-in-Ok-Node-clause-gather_begun g c = λ w is one. absurd (node_no_gather _ _ w c.in-Ok-Node.field-0-is (c.in-Ok-Node.ensures.gather w is))
+
+pub returns-in-Ok-Gather-clause-gather_begun : goal.returns-in-Ok-Gather-clause-gather_begun
+returns-in-Ok-Gather-clause-gather_begun g c = λ w is one. elim (c.serve_gather.ensures.begun one) [
+  | inl keeps ↦ inl (inl keeps)
+  | inr front ↦ inr (
+    subst (λ (v : JobOptions). GathersFrontOfJob (settings_in v) v.counted (g.R.Read.remaining c.args.reader.now) (g.R.Read.remaining c.serve_gather.new.reader)
+    (g.W.Write.contents c.args.writer.now) (g.W.Write.contents c.serve_gather.new.writer))
+    (same_gather _ _ w c.in-Ok-Gather.field-0-is (c.in-Ok-Gather.ensures.gather w is)) front)
+]

@@ -1,21 +1,13 @@
-use Rattle.std.proofs.Common.{ap, ap₂, Bool, ◌||◌, ◌∙◌}
 use Rattle.std.proofs.lemmas.Result.{IfOk-weaker}
-use Rattle.clap.specs.Words.{App, with_subcommand}
-use Rattle.hyperball.specs.CommandLine.{Parsers, hyperball_app}
+use Rattle.hyperball.specs.CommandLine.{Parsers, gather_app, hyperball_app, new_hyperball, node_app, replay_app, run_app}
 use Rattle.hyperball.proofs.words.command.Goals as goal
 
 pub returns : goal.returns
 unfolding hyperball_app
 returns c =
-    let or : Bool → Bool → Bool = λ a b. a || b in
     let p : Parsers = record { estimates = c.estimates-ways.result; delimiters = c.delimiters-between.result } in
-    let top = c.in_ok-top.ensures in
-    let replay = c.in_ok-replay.ensures in
-    IfOk-weaker c.subcommand.result _ _ (λ m h. (
-      p,
-      (c.estimates-ways.ensures, c.delimiters-between.ensures),
-      record {
-        form = h.shape replay.local ∙ ap₂ with_subcommand top.form (ap (λ (a : App). a.top) replay.form);
-        local = h.globals ∙ ap₂ or top.local replay.local;
-      },
-    )) c.subcommand.ensures
+    let run = c.in_ok-top.ensures new_hyperball (run_app p) c.bare_command.ensures c.run_command.ensures in
+    let replay = c.in_ok-top-2.ensures _ (replay_app p) run c.replay_command.ensures in
+    let node = c.in_ok-top-3.ensures _ (node_app p) replay c.node_command.ensures in
+    IfOk-weaker c.add_command-4.result _ _ (λ m h. (p, (c.estimates-ways.ensures, c.delimiters-between.ensures), h))
+    (c.add_command-4.ensures _ (gather_app p) node c.gather_command.ensures)

@@ -3,17 +3,17 @@ use Rattle.std.proofs.lemmas.Result.{IfOk-weaker}
 use Rattle.clap.specs.Words.{App, is_simple, is_simple_and_free, subcommand_of, FailsBy, fault_of}
 use Rattle.clap.proofs.CallerLemmas.{subcommand_required}
 use Rattle.clap.proofs.OnLiterals.{clap_on_literals}
-use Rattle.hyperball.specs.CommandLine.{Parsers, TakeNames, hyperball_app, replay_app, run_app}
+use Rattle.hyperball.specs.CommandLine.{Parsers, TakeNames, gather_app, hyperball_app, node_app, replay_app, run_app}
 use Rattle.hyperball.specs.Words.{texts_of}
 use Rattle.hyperball.proofs.NameLemmas.{of_names, parsers_at}
 use Rattle.hyperball.proofs.words.parse.Goals as goal
 
 simple : (p : Parsers) → TakeNames p → is_simple (hyperball_app p) ≡ true
-unfolding clap_on_literals hyperball_app replay_app run_app
+unfolding clap_on_literals hyperball_app gather_app node_app replay_app run_app
 simple = of_names (λ p. is_simple (hyperball_app p) ≡ true) (λ at. refl)
 
 free : (p : Parsers) → TakeNames p → is_simple_and_free (hyperball_app p) ≡ true
-unfolding clap_on_literals hyperball_app replay_app run_app
+unfolding clap_on_literals hyperball_app gather_app node_app replay_app run_app
 free = of_names (λ p. is_simple_and_free (hyperball_app p) ≡ true) (λ at. refl)
 
 pub returns-in_err-command-clause-read : goal.returns-in_err-command-clause-read

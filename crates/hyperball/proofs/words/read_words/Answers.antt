@@ -2,9 +2,10 @@ use Rattle.std.proofs.Common.{◌∙◌, List, Option, subst, sym}
 use Rattle.std.proofs.lemmas.Result.{IfOk-weaker}
 use Rattle.clap.specs.Words.{Row, Text}
 use Rattle.clap.specs.declared.error.kind.ErrorKind.{ErrorKind}
+use Rattle.hyperball.specs.Nodes.{IsGatherOf, IsNodeOf, NamesGather, NamesNode}
 use Rattle.hyperball.specs.Replaying.{IsReplayOf, NamesReplay}
 use Rattle.hyperball.specs.Words.{FailsWith, GivesOrders, GivesProgress, IsRunOf, SaysListed}
-use Rattle.hyperball.proofs.WishLemmas.{is_replay}
+use Rattle.hyperball.proofs.WishLemmas.{is_gather, is_node, is_replay}
 use Rattle.hyperball.proofs.words.read_words.Goals as goal
 
 pub returns-in-Ok-clause-run : goal.returns-in-Ok-clause-run
@@ -41,3 +42,23 @@ pub returns-in-Ok-clause-form : goal.returns-in-Ok-clause-form
 returns-in-Ok-clause-form c = λ is.
     let read = c.in-Ok.ensures.read in
     record { parsers = read.parsers; take = read.take; orders = subst GivesOrders read.rows (c.wish_of.ensures.form is) }
+
+pub returns-in-Ok-clause-node : goal.returns-in-Ok-clause-node
+returns-in-Ok-clause-node c = λ w is.
+    let read = c.in-Ok.ensures.read in
+    is_node c.wish_of.result w (c.wish_of.ensures.node w (subst (λ (sub : Option (Text × List Row)). IsNodeOf sub w) (sym read.rows) (is.command read.parsers read.take)))
+
+pub returns-in-Ok-clause-gather : goal.returns-in-Ok-clause-gather
+returns-in-Ok-clause-gather c = λ o is.
+    let read = c.in-Ok.ensures.read in
+    is_gather c.wish_of.result o (c.wish_of.ensures.gather o (subst (λ (sub : Option (Text × List Row)). IsGatherOf sub o) (sym read.rows) (is.command read.parsers read.take)))
+
+pub returns-in-Ok-clause-asks_node : goal.returns-in-Ok-clause-asks_node
+returns-in-Ok-clause-asks_node c = λ w is.
+    let read = c.in-Ok.ensures.read in
+    record { parsers = read.parsers; take = read.take; named = subst NamesNode read.rows (c.wish_of.ensures.names_node w is) }
+
+pub returns-in-Ok-clause-asks_gather : goal.returns-in-Ok-clause-asks_gather
+returns-in-Ok-clause-asks_gather c = λ o is.
+    let read = c.in-Ok.ensures.read in
+    record { parsers = read.parsers; take = read.take; named = subst NamesGather read.rows (c.wish_of.ensures.names_gather o is) }

@@ -1,0 +1,62 @@
+-- What the words of a node and of a gathering say.
+use Rattle.std.specs.Prelude.{◌≡◌, ◌⊎◌, ℕ, List, [], Option, Some, option_map, codes}
+use Rattle.clap.specs.Words.{Row, Text, subcommand_of}
+use Rattle.node.specs.declared.job.JobOptions.{JobOptions}
+use Rattle.hyperball.specs.CommandLine.{Parsers, TakeNames, hyperball_app}
+use Rattle.hyperball.specs.Words.{HasFaults, IsFlag, IsNamedOr, IsNumberOr}
+use Rattle.hyperball.specs.Words.{delimiter_name, estimate_name, usual_options}
+use Rattle.hyperball.specs.declared.node_words.NodeWords.{NodeWords}
+
+-- the options of a job have these values
+pub record AreJobOptionsOf (rows : List Row) (o : JobOptions) : Type 0 where
+  pub log2m : IsNumberOr usual_options.log2m 8 rows (codes "log2m") o.log2m
+  pub seed : IsNumberOr usual_options.seed 64 rows (codes "seed") o.seed
+  pub parts : IsNumberOr usual_options.parts 16 rows (codes "parts") o.parts
+  pub limit : IsNumberOr usual_options.limit 32 rows (codes "limit") o.limit
+  pub estimate : IsNamedOr usual_options.estimate estimate_name rows (codes "estimate") o.estimate
+  pub delimiter : IsNamedOr usual_options.delimiter delimiter_name
+      rows (codes "delimiter") o.delimiter
+  pub counted : IsFlag rows (codes "counted") o.counted
+
+-- and the partition
+pub record AreNodeOptionsOf (rows : List Row) (w : NodeWords) : Type 0 where
+  pub options : AreJobOptionsOf rows w.options
+  pub part : IsNumberOr 0 16 rows (codes "part") w.part
+
+-- the subcommand is node or gather, with these options or their defaults
+abbrev pub IsNodeOf : Option (Text × List Row) → NodeWords → Type 0
+IsNodeOf sub w = (rows : List Row) × (sub ≡ Some (codes "node", rows)) × AreNodeOptionsOf rows w
+
+abbrev pub IsGatherOf : Option (Text × List Row) → JobOptions → Type 0
+IsGatherOf sub o = (rows : List Row) × (sub ≡ Some (codes "gather", rows)) × AreJobOptionsOf rows o
+
+-- the words are read as those of node, with these options or their defaults
+pub record IsNode (words : List Text) (w : NodeWords) : Type 0 where
+  pub accepted : HasFaults words []
+  pub command : (p : Parsers) → TakeNames p → IsNodeOf (subcommand_of (hyperball_app p) words) w
+
+-- the words are read as those of gather, with these options or their defaults
+pub record IsGather (words : List Text) (o : JobOptions) : Type 0 where
+  pub accepted : HasFaults words []
+  pub command : (p : Parsers) → TakeNames p →
+      IsGatherOf (subcommand_of (hyperball_app p) words) o
+
+-- the subcommand is node
+abbrev pub NamesNode : Option (Text × List Row) → Type 0
+NamesNode sub = option_map (λ s. s.0) sub ≡ Some (codes "node")
+
+-- the subcommand is gather
+abbrev pub NamesGather : Option (Text × List Row) → Type 0
+NamesGather sub = option_map (λ s. s.0) sub ≡ Some (codes "gather")
+
+-- the words ask for a node, as some parsers read them
+pub record AsksNode (words : List Text) : Type 0 where
+  pub parsers : Parsers
+  pub take : TakeNames parsers
+  pub named : NamesNode (subcommand_of (hyperball_app parsers) words)
+
+-- the words ask for the report of checkpoints, as some parsers read them
+pub record AsksGather (words : List Text) : Type 0 where
+  pub parsers : Parsers
+  pub take : TakeNames parsers
+  pub named : NamesGather (subcommand_of (hyperball_app parsers) words)

@@ -1,0 +1,148 @@
+//! The words of the commands `hyperball node` and `hyperball gather`.
+
+ghost use Rattle.std.specs.Prelude.{◌≡◌, IfOk, codes};
+ghost use Rattle.clap.specs.Words.{found_of, new_app, rows_of};
+ghost use Rattle.hyperball.specs.CommandLine.{IsApp, gather_app, node_app};
+ghost use Rattle.hyperball.specs.Nodes.{AreNodeOptionsOf};
+ghost use Rattle.hyperball.specs.declared.node_words.NodeWords.{NodeWords as Asked};
+
+use crate::job_words::{PARTS_HELP, add_job, job_options_of};
+use crate::words::add_option;
+use clap::builder::ValueParser;
+use clap::{ArgMatches, Command, value_parser};
+use node::job::JobOptions;
+use std::alloc::{AllocError, Global};
+
+const NODE_ABOUT: &str =
+    "Is one partition's node of a job that several machines share, and answers commands";
+
+const NODE_LONG_ABOUT: &str =
+    "Is one partition's node of a job, for a graph that no single machine is to hold. On one machine
+'hyperball run' does the whole job.
+
+An engine that people already have (Dask, Slurm, a shell with ssh) starts a node for each
+partition, brings each the batches of the others, and keeps their checkpoints. Whatever it
+loses, repeats, delays or starts anew, the figures are the same.
+
+Reads an edge list, a line of exactly %%, and commands on standard input, and answers each on
+standard output before it reads the next. With --counted a list of counted vertices and a second
+line %% stand before the commands. All nodes of a job get the same input up to there, and the
+same options but --part.";
+
+const NODE_AFTER: &str = "Example, of a job of one partition:
+  printf 'a\\tb\\nb\\tc\\n%%%%\\nclose\\ntotals\\n' | hyperball node --log2m 4
+  answers
+    closed 1
+    superstep,0,33.803869
+    superstep,1,34.851860
+
+Commands, one on a line, and their answers. T is a superstep, P and Q are partitions, and L is how
+many bytes follow the line.
+  send Q        what partition Q is to be told of the superstep: sent T P Q, how many vertices
+                changed, how many stand in the batch, L, and then the batch; refused no-target
+  deliver L     with a batch behind it, once, again or late: new, known, old, too-early T,
+                not-mine, own-partition, other-job; or refused, and what was found in it
+  close         goes on to the next superstep, once each other partition was heard:
+                closed T, waiting Q, or finished where the run is over
+  keep          gives the checkpoint of the node: kept T L, and then the checkpoint
+  restart L     goes back to the checkpoint behind it, and to the start where L is 0:
+                restarted T; or refused, and what was found in it
+  recover L     takes over what the checkpoint behind it has: merged T, or refused as above
+  show          tells the node and its vertices, as in a script of 'hyperball replay'
+  totals        tells the sum of its vertices' estimates at each superstep so far
+  figures       tells the report's lines of its vertices
+Where the input ends the node ends. When all are finished, 'hyperball gather' writes the report.
+
+Exit status:
+  0  all commands were answered, or help was asked for
+  1  a fault, told in one line on standard error; what was answered before stands
+  2  words that are no command";
+
+const GATHER_ABOUT: &str =
+    "Writes the report of a job from the checkpoints that its nodes gave at the end";
+
+const GATHER_LONG_ABOUT: &str =
+    "Writes the report of a job that nodes have run ('hyperball node'), on standard output: the one
+that 'hyperball run' writes.
+
+Reads an edge list, a line of exactly %%, and for each partition in order a line 'part L' and the L
+bytes of the checkpoint that its node gave when it was finished, on standard input. With --counted
+a list of counted vertices and a second line %% stand before the checkpoints. Edge list, list and
+options are those of the nodes.";
+
+const GATHER_AFTER: &str = "Example, of two partitions whose nodes gave 0.hbck and 1.hbck:
+  { cat edges.tsv; echo %%
+    for p in 0 1; do echo part $(wc -c < $p.hbck); cat $p.hbck; done; } |
+    hyperball gather --parts 2 > report.csv
+
+Exit status:
+  0  the report was written, or help was asked for
+  1  a fault, told in one line on standard error; nothing was written, unless memory was
+     refused or the output failed, where a beginning of the report may stand
+  2  words that are no command";
+
+const PART_HELP: &str = "The partition that the node is of, from 0 on [default: 0]";
+
+/// What the words of a node say.
+#[derive(Clone, Copy, Debug, PartialEq, Eq)]
+pub struct NodeWords {
+    /// The options of its job.
+    pub options: JobOptions,
+    /// Its partition.
+    pub part: u16,
+}
+
+// The subcommand node, before it has options.
+fn bare_node<'a>(alloc: Global) -> Command<'a>
+    ensures { IsApp (new_app (codes "node")) result }
+{
+    Command::new(alloc, "node")
+        .about(NODE_ABOUT)
+        .long_about(NODE_LONG_ABOUT)
+        .after_long_help(NODE_AFTER)
+}
+
+// The subcommand gather, before it has options.
+fn bare_gather<'a>(alloc: Global) -> Command<'a>
+    ensures { IsApp (new_app (codes "gather")) result }
+{
+    Command::new(alloc, "gather")
+        .about(GATHER_ABOUT)
+        .long_about(GATHER_LONG_ABOUT)
+        .after_long_help(GATHER_AFTER)
+}
+
+/// The subcommand node, with parsers of estimates and of delimiters.
+pub fn node_command<'a>(
+    alloc: Global,
+    estimates: ValueParser<'a>,
+    delimiters: ValueParser<'a>,
+) -> Result<Command<'a>, AllocError>
+    ensures { IfOk result (IsApp (node_app
+        (record { estimates = estimates.entry; delimiters = delimiters.entry }))) }
+{
+    let command = add_job(alloc, bare_node(alloc), PARTS_HELP, estimates, delimiters)?;
+    add_option(alloc, command, "part", PART_HELP, value_parser!(u16))
+}
+
+/// The subcommand gather, with parsers of estimates and of delimiters.
+pub fn gather_command<'a>(
+    alloc: Global,
+    estimates: ValueParser<'a>,
+    delimiters: ValueParser<'a>,
+) -> Result<Command<'a>, AllocError>
+    ensures { IfOk result (IsApp (gather_app
+        (record { estimates = estimates.entry; delimiters = delimiters.entry }))) }
+{
+    add_job(alloc, bare_gather(alloc), PARTS_HELP, estimates, delimiters)
+}
+
+/// What the words of a node say. Values are as `clap` has checked them.
+pub fn node_words_of(matches: &ArgMatches<'_>) -> NodeWords
+    ensures { (w : Asked) → AreNodeOptionsOf (rows_of (found_of matches.now)) w → result ≡ w }
+{
+    NodeWords {
+        options: job_options_of(matches),
+        part: matches.get_one("part").unwrap_or(0),
+    }
+}

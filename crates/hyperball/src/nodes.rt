@@ -1,0 +1,120 @@
+//! One partition's node that answers commands, and the report of checkpoints: the words of `hyperball node` and
+//! `hyperball gather`, done.
+
+ghost use Rattle.std.specs.Prelude.{◌≡◌, Err, OnErr, OnOk};
+ghost use Rattle.std.specs.Io.KnownBytes.{Keeps};
+ghost use Rattle.node.specs.Gathering.{GathersJob};
+ghost use Rattle.node.specs.Job.{settings_in};
+ghost use Rattle.node.specs.NoReport.{IsUnwritten, WritesFrontOfJob};
+ghost use Rattle.node.specs.Serving.{IsOfMachine, ServesNode, StopsNode};
+ghost use Rattle.node.specs.declared.error.GatherError.{GatherError as NoReport};
+ghost use Rattle.node.specs.declared.error.JobError.{JobError as NoJob};
+ghost use Rattle.node.specs.declared.error.ServeError.{ServeError as NoAnswer};
+
+use crate::node_words::NodeWords;
+use ball_model::{CountedRead, CountedWrite};
+use node::error::{GatherError, NodeError};
+use node::gather::gather;
+use node::job::JobOptions;
+use node::serve::serve_node;
+use std::alloc::AllocGlobal;
+use std::hash::RandomState;
+use std::random::RandomSource;
+use std::thread::Threads;
+use thiserror::Error;
+
+/// Why a node answers no more, or not at all, in the order of the checks.
+#[derive(Clone, Copy, Debug, PartialEq, Eq, Error)]
+pub enum NodeFault {
+    /// There are no random words to hash labels by.
+    #[error("the system gives no random words")]
+    Random,
+    /// The node gives up.
+    #[error("{0}")]
+    Node(NodeError),
+}
+
+/// Why no report is gathered, or not all of it, in the order of the checks.
+#[derive(Clone, Copy, Debug, PartialEq, Eq, Error)]
+pub enum GatherFault {
+    /// There are no random words to hash labels by.
+    #[error("the system gives no random words")]
+    Random,
+    /// The report is not gathered.
+    #[error("{0}")]
+    Gather(GatherError),
+}
+
+/// A node of these words, which answers the commands in the input until that ends.
+///
+/// Without random words nothing is read, and nothing answered; where there is no job, nothing is answered; what was
+/// answered before a request that cannot be read stands.
+pub fn node_by<H: AllocGlobal + RandomSource, R: CountedRead, W: CountedWrite>(
+    rt: &H,
+    words: &NodeWords,
+    reader: &mut R,
+    writer: &mut W,
+) -> Result<(), NodeFault>
+    ensures served { OnOk result (ServesNode
+        (settings_in words.now.options) words.now.options.counted words.now.part
+        (R.remaining reader.old) (R.remaining reader.new)
+        (W.contents writer.old) (W.contents writer.new)) }
+    ensures stopped { (e : NoAnswer) → result ≡ Err (NodeFault.Node (NodeError.Serve e)) →
+        (IsOfMachine e → ⊥) → StopsNode
+        (settings_in words.now.options) words.now.options.counted words.now.part e
+        (R.remaining reader.old) (R.remaining reader.new)
+        (W.contents writer.old) (W.contents writer.new) }
+    ensures jobless { (e : NoJob) → result ≡ Err (NodeFault.Node (NodeError.Job e)) →
+        Keeps (W.contents writer.old) (W.contents writer.new) }
+    ensures random { result ≡ Err NodeFault.Random →
+        Keeps (W.contents writer.old) (W.contents writer.new) }
+    ensures unread { result ≡ Err NodeFault.Random →
+        Keeps (R.remaining reader.old) (R.remaining reader.new) }
+{
+    let Ok(state) = RandomState::new(rt) else {
+        return Err(NodeFault::Random);
+    };
+    match serve_node(
+        rt.alloc(),
+        state,
+        &words.options,
+        words.part,
+        reader,
+        writer,
+    ) {
+        Ok(()) => Ok(()),
+        Err(fault) => Err(NodeFault::Node(fault)),
+    }
+}
+
+/// The report of the checkpoints in the input, of all partitions of a job. Without random words nothing is read, and
+/// nothing written.
+pub fn gather_by<H: AllocGlobal + RandomSource + Threads + Sync, R: CountedRead, W: CountedWrite>(
+    rt: &H,
+    options: &JobOptions,
+    reader: &mut R,
+    writer: &mut W,
+) -> Result<(), GatherFault>
+    ensures gathered { OnOk result (GathersJob (settings_in options.now) options.now.counted
+        (R.remaining reader.old) (R.remaining reader.new)
+        (W.contents writer.old) (W.contents writer.new)) }
+    // Nothing was written, or a beginning of the report where memory was refused or a write failed.
+    ensures kept { (e : NoReport) → result ≡ Err (GatherFault.Gather e) → IsUnwritten e →
+        Keeps (W.contents writer.old) (W.contents writer.new) }
+    ensures front { OnErr result (
+        WritesFrontOfJob (settings_in options.now) options.now.counted
+        (R.remaining reader.old) (R.remaining reader.new)
+        (W.contents writer.old) (W.contents writer.new)) }
+    ensures random { result ≡ Err GatherFault.Random →
+        Keeps (W.contents writer.old) (W.contents writer.new) }
+    ensures unread { result ≡ Err GatherFault.Random →
+        Keeps (R.remaining reader.old) (R.remaining reader.new) }
+{
+    let Ok(state) = RandomState::new(rt) else {
+        return Err(GatherFault::Random);
+    };
+    match gather(rt, state, options, reader, writer) {
+        Ok(()) => Ok(()),
+        Err(fault) => Err(GatherFault::Gather(fault)),
+    }
+}

@@ -1,0 +1,167 @@
+-- The job that was read.
+use Rattle.std.proofs.Common.{◌≡◌, ◌≢◌, ◌∙◌, ℕ, ◌+◌, ◌≤◌, ◌==◌, ◌||◌, Bool, true, false, nat_lt, if◌then◌else◌, List, [], ◌∷◌, ◌++◌, length, length-append, arith, refl, ap, sym, subst}
+use Rattle.std.specs.Prelude.{Option, None, Some, IfErr, IfSome, Result, Ok, Err}
+use Rattle.std.specs.Io.KnownBytes.{IsAtEnd, prepend_known}
+use Rattle.std.specs.Prelude.{IsErrAnd}
+use Rattle.std.proofs.Common.{◌⊎◌, inl, inr}
+use Rattle.node.specs.declared.error.NodeError.{NodeError}
+use Rattle.node.specs.declared.error.NodeError.TheVariants as nonode
+use Rattle.ball_model.specs.declared.plan.PlanError.{PlanError}
+use Rattle.ball_model.specs.declared.plan.PlanError.TheVariants as fault
+use Rattle.ball_model.specs.Input.{IsPlain, Network, Refusal}
+use Rattle.ball_model.specs.Counting.{CountedRefusal, counted_of}
+use Rattle.ball_model.specs.PlanValue.{PlanValue, greatest_limit, greatest_log2m, least_log2m, most_parts, most_vertices, plan_of}
+use Rattle.ball_model.specs.RunText.{Numbers, Settings, network_in, plan_over}
+use Rattle.edgelist.specs.Counting.{RefusesList}
+use Rattle.edgelist.specs.Reading.{Refuses}
+use Rattle.edgelist.specs.declared.counting.CountedError.{CountedError}
+use Rattle.edgelist.specs.declared.read.EdgeError.{EdgeError}
+use Rattle.edgelist.specs.declared.read.EdgeError.TheVariants as unread
+use Rattle.edgelist.specs.Given.{IsGiven}
+use Rattle.edgelist.specs.declared.pieces.EdgeReader.{EdgeReader}
+use Rattle.edgelist.specs.declared.read.Delimiter.{Delimiter}
+use Rattle.edgelist.specs.declared.read.EdgeLimits.{EdgeLimits}
+use Rattle.node.specs.declared.error.JobError.{JobError}
+use Rattle.node.specs.declared.error.JobError.TheVariants as nojob
+use Rattle.node.specs.Job.{CountsSome, GivesSection, IsJobRead, IsPlanned, SaysNetwork}
+use Rattle.node.specs.NoJob.{HasNoCount, HasNoNode, HasNoPlan, IsNoJob, IsNoNetwork, IsNoStart, IsRefused, IsUncounted, IsUnlisted}
+use Rattle.node.specs.Section.{EndsAtMark, Gives, HasNoMark, Passed, ReadsSection, before_mark}
+use Rattle.node.proofs.SectionLemmas.{GoesOn, passed_end, passed_more, passed_next, passed_over, passed_start, section_before}
+
+-- ---- the edge list
+-- so many bytes were given
+pub record GivesSoFar (limits : EdgeLimits) (delimiter : Delimiter) (count : ℕ) (begins : Bool) (left left' : Option (List ℕ)) (edges : EdgeReader) : Type 0 where
+  pub front : List ℕ
+  pub long : length front ≡ count
+  pub given : IsGiven limits delimiter front edges
+  pub passed : Passed front begins left left'
+
+pub gives_start : (limits : EdgeLimits) (delimiter : Delimiter) (begins : Bool) (xs : List ℕ) (left : Option (List ℕ)) (edges : EdgeReader) → begins ≡ true → xs ≡ [] →
+    IsGiven limits delimiter [] edges → GivesSoFar limits delimiter 0 begins left (prepend_known xs left) edges
+gives_start limits delimiter begins xs left edges line none given = record {
+  front = [];
+  long = refl;
+  given = given;
+  passed = passed_start begins xs left line none;
+}
+
+pub gives_more : (limits : EdgeLimits) (delimiter : Delimiter) (n m : ℕ) (begins next : Bool) (c : ℕ) (x y z : Option (List ℕ)) (old new : EdgeReader) → next ≡ (c == 10) → m ≡ n + 1 →
+    GivesSoFar limits delimiter n begins x y old → Gives begins c y z → ((text : List ℕ) → IsGiven limits delimiter text old → IsGiven limits delimiter (text ++ c ∷ []) new) →
+    GivesSoFar limits delimiter m next x z new
+gives_more limits delimiter n m begins next c x y z old new same more so one add = record {
+  front = so.front ++ c ∷ [];
+  long = length-append so.front (c ∷ []) ∙ ap (λ (k : ℕ). k + 1) so.long ∙ sym more;
+  given = add so.front so.given;
+  passed = passed_more so.front (so.front ++ c ∷ []) begins next c x y z same refl so.passed one;
+}
+
+pub gives_end : (limits : EdgeLimits) (delimiter : Delimiter) (n : ℕ) (begins : Bool) (x y z : Option (List ℕ)) (edges : EdgeReader) → GivesSoFar limits delimiter n begins x y edges → EndsAtMark begins y z →
+    GivesSection limits delimiter x z edges
+gives_end limits delimiter n begins x y z edges so ends = record {
+  front = so.front;
+  given = so.given;
+  section = passed_end so.front begins x y z so.passed ends;
+}
+
+-- ---- the list
+pub counts_all : (s : Settings) (left : Option (List ℕ)) (network : Network) → CountsSome s false left left network network
+counts_all s left network = record { list = None; given = refl; section = refl; says = λ plain. refl }
+
+pub counts_listed : (s : Settings) (left left' : Option (List ℕ)) (all network : Network) (list : List ℕ) → ReadsSection list left left' → (IsPlain list → counted_of s.delimiter all list ≡ Ok network) → CountsSome s true left left' all network
+counts_listed s left left' all network list section says = record { list = Some list; given = refl; section = section; says = says }
+
+-- the plan
+plan_test : (p q : PlanValue) (a b c d : Bool) → (if a then Err fault.Log2m else (if b then Err fault.Parts else (if c then Err fault.Limit else (if d then Err fault.Vertices else Ok p)))) ≡ Ok q → q ≡ p
+plan_test p q true b c d is = absurd (cc)
+plan_test p q false true c d is = absurd (cc)
+plan_test p q false false true d is = absurd (cc)
+plan_test p q false false false true is = absurd (cc)
+plan_test p q false false false false is = cc
+
+plan_same : (p q : PlanValue) → plan_of p ≡ Ok q → q ≡ p
+plan_same p q is =
+    plan_test p q (nat_lt p.log2m least_log2m || nat_lt greatest_log2m p.log2m) (nat_lt p.parts 1 || nat_lt most_parts p.parts)
+    (nat_lt p.limit 1 || nat_lt greatest_limit p.limit) (nat_lt most_vertices p.vertices) is
+
+pub planned : (n : Numbers) (network : Network) (plan : PlanValue) → Ok plan ≡ plan_of (plan_over n network.graph) → IsPlanned n network plan
+planned n network plan is = record { plan_is = plan_same (plan_over n network.graph) plan (sym is); planned = sym is }
+
+-- ---- why there is no job
+-- what stands before the mark begins so, and is refused whatever follows
+refused_front : (says : List ℕ → Result Network Refusal) (front : List ℕ) (c : ℕ) (x : Option (List ℕ)) (e : EdgeError) → e ≢ unread.Read → IfSome x (GoesOn front c) →
+    ((more : List ℕ) → IsPlain (front ++ c ∷ more) → Refuses (says (front ++ c ∷ more)) e) → IsRefused says x e
+refused_front says front c None e some goes tells = record { read = some; refuses = tt }
+refused_front says front c (Some text) e some goes tells = record {
+  read = some;
+  refuses = subst (λ (l : List ℕ). IsPlain l → Refuses (says l) e) (sym goes.before_is) (tells goes.more);
+}
+
+pub refused_in : (says : List ℕ → Result Network Refusal) (limits : EdgeLimits) (delimiter : Delimiter) (n : ℕ) (begins : Bool) (c : ℕ) (x y z : Option (List ℕ)) (old : EdgeReader) (e : EdgeError) → e ≢ unread.Read →
+    GivesSoFar limits delimiter n begins x y old → Gives begins c y z →
+    ((text more : List ℕ) → IsGiven limits delimiter text old → IsPlain (text ++ c ∷ more) → Refuses (says (text ++ c ∷ more)) e) → IsNoNetwork says x (nojob.Edges e)
+refused_in says limits delimiter n begins c x y z old e some so one tells =
+    refused_front says so.front c x e some (passed_next so.front begins c x y z so.passed one) (λ more. tells so.front more so.given)
+
+-- the whole is refused
+pub refused_whole : (says : List ℕ → Result Network Refusal) (front : List ℕ) (x z : Option (List ℕ)) (e : EdgeError) → e ≢ unread.Read → ReadsSection front x z →
+    (IsPlain front → Refuses (says front) e) → IsNoNetwork says x (nojob.Edges e)
+refused_whole says front None z e some section tells = record { read = some; refuses = tt }
+refused_whole says front (Some text) z e some section tells = record {
+  read = some;
+  refuses = subst (λ (l : List ℕ). IsPlain l → Refuses (says l) e) (sym (section_before front (Some text) z section)) tells;
+}
+
+pub no_mark : (limits : EdgeLimits) (delimiter : Delimiter) (n : ℕ) (begins : Bool) (x y : Option (List ℕ)) (edges : EdgeReader) → GivesSoFar limits delimiter n begins x y edges → IsAtEnd y → HasNoMark x
+no_mark limits delimiter n begins x y edges so end = passed_over so.front begins x y so.passed end
+
+pub too_many : (limits : EdgeLimits) (delimiter : Delimiter) (n : ℕ) (begins : Bool) (x y : Option (List ℕ)) (edges : EdgeReader) → GivesSoFar limits delimiter n begins x y edges → IfSome x (λ text. n ≤ length text)
+too_many limits delimiter n begins None y edges so = tt
+too_many limits delimiter n begins (Some text) y edges so =
+    let p = so.passed in
+    let is = ap length p.text_is ∙ length-append so.front p.rest in
+    let long = so.long in
+    omega (arith, is, long)
+
+pub uncounted : (s : Settings) (all : Network) (list : List ℕ) (x z : Option (List ℕ)) (e : CountedError) → ReadsSection list x z → (IsPlain list → RefusesList (counted_of s.delimiter all list) e) →
+    IsUncounted s x all (nojob.Counted e)
+uncounted s all list None z e section tells = tt
+uncounted s all list (Some text) z e section tells =
+    subst (λ (l : List ℕ). IsPlain l → RefusesList (counted_of s.delimiter all l) e) (sym (section_before list (Some text) z section)) tells
+
+pub unlisted : (s : Settings) (all : Network) (x : Option (List ℕ)) (e : JobError) → IsUnlisted x e → IsUncounted s x all e
+unlisted s all x (nojob.Counted e) is = absurd is
+unlisted s all x e is = is
+
+pub no_network : (s : Settings) (counted : Bool) (x z : Option (List ℕ)) (e : JobError) → IsNoNetwork (network_in s) x e → IsNoJob s counted x z e
+no_network s counted x z (nojob.Edges e) is = is
+no_network s counted x z nojob.NoMark is = is
+no_network s counted x z nojob.EdgesSize is = is
+no_network s counted x z nojob.Memory is = tt
+no_network s counted x z nojob.Read is = tt
+no_network s counted x z e is = absurd is
+
+pub no_count : (s : Settings) (counted : Bool) (x y z : Option (List ℕ)) (all : Network) (e : JobError) → counted ≡ true → SaysNetwork s x y all → IsUncounted s y all e → IsNoJob s counted x z e
+no_count s counted x y z all nojob.NoListMark asked edges is = record { asked = asked; all = all; mid = y; edges = edges; refused = is }
+no_count s counted x y z all nojob.ListSize asked edges is = record { asked = asked; all = all; mid = y; edges = edges; refused = is }
+no_count s counted x y z all (nojob.Counted e) asked edges is = record { asked = asked; all = all; mid = y; edges = edges; refused = is }
+no_count s counted x y z all nojob.Memory asked edges is = tt
+no_count s counted x y z all nojob.Read asked edges is = tt
+no_count s counted x y z all e asked edges is = absurd is
+
+pub no_plan : (s : Settings) (counted : Bool) (x y z : Option (List ℕ)) (all network : Network) (e : PlanError) → SaysNetwork s x y all → CountsSome s counted y z all network →
+    Err e ≡ plan_of (plan_over s.numbers network.graph) → IsNoJob s counted x z (nojob.Plan e)
+no_plan s counted x y z all network e edges list is = record { all = all; network = network; mid = y; edges = edges; list = list; refused = sym is }
+
+-- ---- a node of the job
+pub no_start : (s : Settings) (counted : Bool) (p : ℕ) (x y : Option (List ℕ)) (network : Network) (plan : PlanValue) (e : JobError) → IsJobRead s counted x y network plan → IsNoStart plan p e →
+    HasNoNode s counted p x y e
+no_start s counted p x y network plan nojob.Part job no_part = inr (refl, record { network = network; plan = plan; job = job; beyond = no_part })
+no_start s counted p x y network plan nojob.Memory job no_part = inl tt
+no_start s counted p x y network plan e job no_part = absurd no_part
+
+pub told_job : {T : Type 0} (r : Result T NodeError) (x : JobError) (P : JobError → Type 0) → IsErrAnd r (λ y. y ≡ nonode.Job x) → P x → (e : JobError) → r ≡ Err (nonode.Job e) → P e
+told_job (Ok u) x P is p e same = absurd is
+told_job (Err y) x P is p e same = let one : x ≡ e = cc in subst P one p
+
+pub never_read : (plan : PlanValue) (p : ℕ) (e : JobError) → IsNoStart plan p e → e ≢ nojob.Read
+never_read plan p e start is = absurd (subst (IsNoStart plan p) is start)

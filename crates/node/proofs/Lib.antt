@@ -1,0 +1,9 @@
+pub mod SessionLemmas
+pub mod StepLemmas
+pub mod ServeLemmas
+pub mod SectionLemmas
+pub mod OwnLemmas
+pub mod CommandLemmas
+pub mod GatherLemmas
+pub mod JobLemmas
+pub mod AnswerLemmas

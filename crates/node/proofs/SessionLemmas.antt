@@ -1,0 +1,248 @@
+-- What a call of a replica makes of its holding.
+use Rattle.std.proofs.Common.{◌≡◌, ◌≢◌, ◌∙◌, ℕ, ◌<◌, ◌==◌, Bool, true, false, not, if◌then◌else◌, List, [], ◌∷◌, length, arith, refl, ap, sym, subst, ◌⊎◌, inl, inr}
+use Rattle.std.proofs.lemmas.Bool.{eq-eqb, eqb-true}
+use Rattle.ball_model.specs.Content.{same_plan}
+use Rattle.replica.proofs.RunLemmas.{same_plan-self}
+use Rattle.std.specs.Prelude.{Option, None, Result, Ok, Err, IfOk, IfErr, IsErr, IsOk, OnErr}
+use Rattle.ball_model.specs.declared.names.BatchName.{BatchName}
+use Rattle.ball_model.specs.declared.names.Taken.{Taken}
+use Rattle.ball_model.specs.declared.names.TakeError.{TakeError}
+use Rattle.ball_model.specs.declared.names.CloseError.{CloseError}
+use Rattle.ball_model.specs.declared.names.MergeError.{MergeError}
+use Rattle.ball_model.specs.declared.names.MergeError.TheVariants as unmerged
+use Rattle.ball_model.specs.declared.world.Answer.{Answer}
+use Rattle.ball_model.specs.declared.world.Answer.TheVariants as answer
+use Rattle.ball_model.specs.Batches.{BatchValue, IsBatch, IsTrueBatch, batch_bytes, true_batch}
+use Rattle.ball_model.specs.Checkpoint.{checkpoint_bytes}
+use Rattle.ball_model.specs.Held.{IsHeldBy, IsName, held_after, held_close_answer, held_take_answer, start_holding}
+use Rattle.ball_model.specs.Job.{Job, IsJob, part_of}
+use Rattle.ball_model.specs.Join.{Holding, join_of, merge_of}
+use Rattle.ball_model.specs.PlanValue.{PlanValue}
+use Rattle.ball_model.specs.State.{State}
+use Rattle.ball_model.specs.Steps.{Take, Close}
+use Rattle.ball_model.specs.World.{Node, closed_answer, taken_answer}
+use Rattle.ball_model.specs.WorldLaws.{IsNode}
+use Rattle.ball_model.proofs.HeldLemmas.{closed_held, joined_held, start_held, taken_held}
+use Rattle.checkpoint.specs.declared.error.KeepError.{KeepError}
+use Rattle.checkpoint.specs.declared.error.KeepError.TheVariants as unkept
+use Rattle.checkpoint.specs.Reading.{IfOkButWant, IsOfBytes, IsRead, TellNone, sealed_form}
+use Rattle.ball_model.specs.Job.{PartValue}
+use Rattle.replica.specs.Runs.{Takes, Closes}
+use Rattle.replica.specs.Saved.{IsKeepable}
+use Rattle.replica.specs.Seen.{IsState}
+use Rattle.replica.proofs.LevelLemmas.{plan_is}
+use Rattle.world.specs.Shows.{Has, IsKept, ShowsNode}
+use Rattle.world.specs.Turns.{Turns, closed_turn, merged_turn, merged_when, taken_turn}
+use Rattle.world.proofs.KeepLemmas.{keepable}
+use Rattle.ball_model.specs.State.{StandsFor, content_of}
+use Rattle.world.proofs.NodeLemmas.{MergesWith, close_turns, node, recover_turns, start_shows, take_turns, unmerged_turns}
+use Rattle.node.specs.declared.session.Reply.{Reply}
+use Rattle.node.specs.declared.session.Reply.TheVariants as reply
+use Rattle.node.specs.NodeText.{IsDelivered, IsGivenBack}
+use Rattle.node.specs.Turns.{GivesOrWants, Holds, SaysMerged, TurnsTo}
+use Rattle.node.specs.Refusals.{IsAnswered, IsNoCheckpoint, SaysOfBatch, SaysOfCheckpoint}
+use Rattle.batches.specs.Reading.{AgreesButJob, GivesOrMemory, batch_at}
+use Rattle.batches.specs.declared.error.BatchError.{BatchError}
+use Rattle.batches.specs.declared.error.BatchError.TheVariants as unread
+use Rattle.batches.proofs.TrueLemmas.{true_is_batch}
+
+-- ---- a replica as a node of a world, which has kept nothing
+abbrev pub lone : Holding → Node
+lone h = record { content = h; kept = None }
+
+fits : (j : Job) (p : ℕ) (h : Holding) → IsHeldBy j p h → IsNode j p (lone h)
+fits j p h held = record { content = held; kept = tt }
+
+shows : (j : Job) (h : Holding) (v : State) → Has j h v → ShowsNode j (lone h) (node v None)
+shows j h v has = record { content = has; kept = tt }
+
+-- the plan of a replica that has a holding
+pub plan_held : (j : Job) (p : ℕ) (h : Holding) (v : State) → Holds j p h v → v.part.plan ≡ j.plan
+plan_held j p h v k = plan_is j h.partition h.superstep v k.has.holding.stands
+
+pub job_held : (j : Job) (p : ℕ) (h : Holding) (v : State) → Holds j p h v → IsJob j
+job_held j p h v k = k.has.holding.stands.job
+
+-- its part
+pub part_held : (j : Job) (p : ℕ) (h : Holding) (v : State) → Holds j p h v → v.part ≡ part_of j p
+part_held j p h v k = k.has.holding.stands.part ∙ ap (part_of j) k.held.partition
+
+pub taken_turns : (j : Job) (p : ℕ) (h : Holding) (name : BatchName) (b : BatchValue) (r : Result Taken TakeError) (a : Answer) (v w : State) → Holds j p h v → IsName j.plan name → b ≡ true_batch j name →
+    ((k : Job) (q : ℕ) → IsTrueBatch k b → Takes k q b.name r v w) → IsState w → a ≡ taken_answer r →
+    TurnsTo j p (taken_answer (held_take_answer j h name)) (held_after j h (Take name)) w (reply.Answered a)
+unfolding true_batch
+taken_turns j p h name b r a v w k named is step state said =
+    let same : b.name ≡ name = ap (λ (x : BatchValue). x.name) is in
+    let true : IsTrueBatch j b = is ∙ ap (true_batch j) (sym same) in
+    let takes : (q : ℕ) → Takes j q name r v w = λ q. subst (λ (n : BatchName). Takes j q n r v w) same (step j q true) in
+    let both = (take_turns j name r a v w None takes state said).turned p (lone h) (fits j p h k.held) (shows j h v k.has) in
+    record {
+      says = ap reply.Answered both.0;
+      holds = record { held = taken_held j p h name k.held named; has = both.1.content };
+    }
+
+pub closed_turns : (j : Job) (p : ℕ) (h : Holding) (r : Result ℕ CloseError) (a : Answer) (v w : State) → Holds j p h v → ((k : Job) (q : ℕ) → Closes k q r v w) → IsState w → a ≡ closed_answer r →
+    TurnsTo j p (closed_answer (held_close_answer j h)) (held_after j h Close) w (reply.Answered a)
+closed_turns j p h r a v w k step state said =
+    let both = (close_turns j r a v w None step state said).turned p (lone h) (fits j p h k.held) (shows j h v k.has) in
+    record {
+      says = ap reply.Answered both.0;
+      holds = record { held = closed_held j p h k.held; has = both.1.content };
+    }
+
+-- ---- a checkpoint
+wants : (e : KeepError) → (IsRead e → ⊥) → (e ≡ unkept.Memory) ⊎ (e ≡ unkept.Read) → e ≡ unkept.Memory
+wants e sure (inl memory) = memory
+wants e sure (inr read) = absurd (sure (subst IsRead (sym read) tt))
+
+pub given_back : (j : Job) (p : ℕ) (h : Holding) (bytes : List ℕ) (r : Result State KeepError) → IsGivenBack j p bytes h → IfErr r (λ e. IsRead e → ⊥) →
+    ((v : State) → IsKeepable v → v.part ≡ part_of j p → bytes ≡ checkpoint_bytes v → IfOkButWant r (λ w. w ≡ v)) → GivesOrWants (Holds j p h) r
+given_back j p h bytes (Ok w) g sure read =
+    let v = g.kept.replica in
+    let has = g.kept.has in
+    let same : w ≡ v = read v (keepable j h v has) (has.holding.stands.part ∙ ap (part_of j) g.held.partition) g.kept.bytes_are in
+    record { held = g.held; has = subst (λ (x : State). Has j h x) (sym same) has }
+given_back j p h bytes (Err e) g sure read =
+    let v = g.kept.replica in
+    let has = g.kept.has in
+    wants e sure (read v (keepable j h v has) (has.holding.stands.part ∙ ap (part_of j) g.held.partition) g.kept.bytes_are)
+
+-- ---- a replica that is merged
+abbrev fine : Result (Unit {0}) MergeError
+fine = Ok tt
+
+two_tests : (b c : Bool) → b ≡ true → c ≡ true → (if not b then Err unmerged.OtherJob else (if not c then Err unmerged.NotMine else fine)) ≡ fine
+two_tests true true e f = refl
+two_tests true false e f = absurd (cc)
+two_tests false c e f = absurd (cc)
+
+alike : (j : Job) (p : ℕ) (h c : Holding) → IsHeldBy j p h → IsHeldBy j p c → merge_of h.plan h.partition c.plan c.partition ≡ fine
+alike j p h c k l =
+    ap (λ (x : PlanValue). merge_of x h.partition c.plan c.partition) k.plan
+    ∙ ap (λ (x : PlanValue). merge_of j.plan h.partition x c.partition) l.plan
+    ∙ ap (λ (x : ℕ). merge_of j.plan x j.plan c.partition) k.partition
+    ∙ ap (λ (x : ℕ). merge_of j.plan p j.plan x) l.partition
+    ∙ two_tests (same_plan j.plan j.plan) (p == p) (same_plan-self j.plan) (eq-eqb p p refl)
+
+pub merged_turns : (j : Job) (p : ℕ) (h c : Holding) (v o w : State) (n : ℕ) → MergesWith o v w (Ok tt) → Holds j p h v → Holds j p c o → IsState w → n ≡ w.superstep →
+    TurnsTo j p (answer.Merged (join_of h c).superstep) (join_of h c) w (reply.Answered (answer.Merged n))
+merged_turns j p h c v o w n m k l state at =
+    let both = (recover_turns j c v o w None m l.has state).turned p (lone h) (fits j p h k.held) (shows j h v k.has) in
+    let is = alike j p h c k.held l.held in
+    let done : (answer.Merged w.superstep ≡ answer.Merged (join_of h c).superstep) × ShowsNode j (lone (join_of h c)) (node w None) =
+    subst (λ r. (answer.Merged w.superstep ≡ (merged_when c (lone h) r).answer) × ShowsNode j (merged_when c (lone h) r).node (node w None)) is both in
+    record {
+      says = ap reply.Answered (ap answer.Merged at ∙ done.0);
+      holds = record { held = joined_held j p h c k.held l.held; has = done.1.content };
+    }
+
+pub never_unmerged : (j : Job) (p : ℕ) (h c : Holding) (v o w : State) (e : MergeError) → MergesWith o v w (Err e) → e ≢ unmerged.Memory → Holds j p h v → Holds j p c o → ⊥
+never_unmerged j p h c v o w e m some k l =
+    let both = (unmerged_turns j c v o w e None m some l.has).turned p (lone h) (fits j p h k.held) (shows j h v k.has) in
+    let said : answer.NotMerged e ≡ answer.Merged (join_of h c).superstep =
+    subst (λ r. answer.NotMerged e ≡ (merged_when c (lone h) r).answer) (alike j p h c k.held l.held) both.0 in
+    absurd (cc)
+
+-- memory was refused
+pub refused_ok : {T E : Type 0} (r : Result T E) (P : T → Type 0) → IsErr r → IfOk r P
+refused_ok (Ok x) P is = absurd (cc)
+refused_ok (Err e) P is = tt
+
+-- whatever is said of a merge
+pub over_turns : {E : Type 0} (j : Job) (p : ℕ) (h c : Holding) (v o w : State) (r : Result (Unit {0}) MergeError) (t : ℕ) (said : Result Reply E) →
+    MergesWith o v w r → SaysMerged r t said → t ≡ w.superstep → IsState w → Holds j p h v → Holds j p c o →
+    IfOk said (TurnsTo j p (answer.Merged (join_of h c).superstep) (join_of h c) w)
+over_turns j p h c v o w (Ok u) t said m says at state k l =
+    subst (λ q. IfOk q (TurnsTo j p (answer.Merged (join_of h c).superstep) (join_of h c) w)) (sym says) (merged_turns j p h c v o w t m k l state at)
+over_turns j p h c v o w (Err unmerged.Memory) t said m says at state k l = refused_ok said (TurnsTo j p (answer.Merged (join_of h c).superstep) (join_of h c) w) says
+over_turns j p h c v o w (Err unmerged.OtherJob) t said m says at state k l = absurd (never_unmerged j p h c v o w unmerged.OtherJob m (λ e. absurd (cc)) k l)
+over_turns j p h c v o w (Err unmerged.NotMine) t said m says at state k l = absurd (never_unmerged j p h c v o w unmerged.NotMine m (λ e. absurd (cc)) k l)
+
+pub over_part : {E : Type 0} (r : Result (Unit {0}) MergeError) (t : ℕ) (said : Result Reply E) (e : KeepError) → SaysMerged r t said → said ≢ Ok (reply.NoCheckpoint e)
+over_part (Ok u) t said e says is = absurd (cc)
+over_part (Err unmerged.Memory) t (Ok x) e says is = absurd (cc)
+over_part (Err unmerged.Memory) t (Err y) e says is = absurd (cc)
+over_part (Err unmerged.OtherJob) t said e says is = absurd (cc)
+over_part (Err unmerged.NotMine) t said e says is = absurd (cc)
+
+pub over_refused : {E : Type 0} (v w : State) (r : Result (Unit {0}) MergeError) (t : ℕ) (said : Result Reply E) → OnErr r (w ≡ v) → SaysMerged r t said → OnErr said (w ≡ v)
+over_refused v w (Ok u) t said still says = subst (λ q. OnErr q (w ≡ v)) (sym says) tt
+over_refused v w (Err unmerged.Memory) t (Ok x) still says = tt
+over_refused v w (Err unmerged.Memory) t (Err y) still says = still
+over_refused v w (Err unmerged.OtherJob) t said still says = subst (λ q. OnErr q (w ≡ v)) (sym says) tt
+over_refused v w (Err unmerged.NotMine) t said still says = subst (λ q. OnErr q (w ≡ v)) (sym says) tt
+
+-- ---- a batch that was delivered
+pub delivered_read : (j : Job) (name : BatchName) (plan : PlanValue) (bytes : List ℕ) (r : Result BatchValue BatchError) → IsJob j → plan ≡ j.plan → IsDelivered j bytes name →
+    ((b : BatchValue) → IsBatch b → AgreesButJob plan b.plan → bytes ≡ batch_bytes b → GivesOrMemory r (Ok b)) → GivesOrMemory r (Ok (true_batch j name))
+unfolding true_batch
+delivered_read j name plan bytes r job same d only =
+    only (true_batch j name) (true_is_batch j name job d.named.superstep d.named.source d.named.target) (subst (λ (q : PlanValue). AgreesButJob q j.plan) (sym same) refl) d.spelled
+
+pub read_true : (b x : BatchValue) → GivesOrMemory (Ok b) (Ok x) → b ≡ x
+read_true b x gives = cc
+
+pub read_wants : (e : BatchError) (x : BatchValue) → GivesOrMemory (Err e) (Ok x) → e ≡ unread.Memory
+read_wants unread.Memory x gives = refl
+read_wants e x gives = absurd (cc)
+
+-- ---- what is said
+pub restarted_to : (j : Job) (p : ℕ) (d : Holding) (w r : State) (a : Answer) → Holds j p d r → w ≡ r → a ≡ answer.Restarted r.superstep → TurnsTo j p (answer.Restarted d.superstep) d w (reply.Answered a)
+restarted_to j p d w r a k same is = record {
+  says = ap reply.Answered (is ∙ ap answer.Restarted k.has.holding.stands.superstep);
+  holds = subst (Holds j p d) (sym same) k;
+}
+
+pub started_holds : (j : Job) (p : ℕ) (h : Holding) (v r : State) → Holds j p h v → Has j (start_holding j.plan p) r → Holds j p (start_holding j.plan p) r
+started_holds j p h v r k has = record { held = start_held j p k.held.below; has = has }
+
+pub start_has : (j : Job) (p : ℕ) (v : State) → StandsFor j p 0 v → ((s q : ℕ) → (content_of v).holds s q ≡ false) → IsState v → Has j (start_holding j.plan p) v
+start_has j p v stands names state = (start_shows j p v stands names state).content
+
+pub begun : (j : Job) (p : ℕ) (v : State) → p < j.plan.parts → Has j (start_holding j.plan p) v → Holds j p (start_holding j.plan p) v
+begun j p v below has = record { held = start_held j p below; has = has }
+
+pub no_bytes : (xs : List ℕ) → (length xs == 0) ≡ true → xs ≡ []
+no_bytes [] is = refl
+no_bytes (x ∷ xs) is = let none : length (x ∷ xs) ≡ 0 = eqb-true (length (x ∷ xs)) 0 is in absurd (omega arith)
+
+-- ---- what is said of other bytes
+pub over_said : {E : Type 0} (r : Result (Unit {0}) MergeError) (t : ℕ) (said : Result Reply E) → SaysMerged r t said → IfOk said IsAnswered
+over_said (Ok u) t said says = subst (λ q. IfOk q IsAnswered) (sym says) tt
+over_said (Err unmerged.Memory) t (Ok x) says = absurd (cc)
+over_said (Err unmerged.Memory) t (Err y) says = tt
+over_said (Err unmerged.OtherJob) t said says = subst (λ q. IfOk q IsAnswered) (sym says) tt
+over_said (Err unmerged.NotMine) t said says = subst (λ q. IfOk q IsAnswered) (sym says) tt
+
+pub spelled_ok : (b : BatchValue) (due : Result BatchValue BatchError) → GivesOrMemory (Ok b) due → IsOk due
+spelled_ok b (Ok x) gives = refl
+spelled_ok b (Err e) gives = absurd (cc)
+
+pub spelled_not : (e : BatchError) (due : Result BatchValue BatchError) → GivesOrMemory (Err e) due → e ≢ unread.Memory → due ≡ Err e
+spelled_not unread.Memory due gives some = absurd (some refl)
+spelled_not e due gives some = sym gives
+
+pub says_no_batch : {E : Type 0} (plan : PlanValue) (bytes : List ℕ) (e : BatchError) (r : Result Reply E) → IfOk r (λ x. x ≡ reply.NoBatch e) → IfOk r (λ x. e ≢ unread.Memory) →
+    (e ≢ unread.Memory → batch_at plan bytes ≡ Err e) → IfOk r (SaysOfBatch plan bytes)
+says_no_batch plan bytes e (Ok x) is some tells = subst (SaysOfBatch plan bytes) (sym is) (tells some)
+says_no_batch plan bytes e (Err y) is some tells = tt
+
+pub says_no_checkpoint : {E : Type 0} (part : PartValue) (bytes : List ℕ) (e : KeepError) (r : Result Reply E) → IfOk r (λ x. x ≡ reply.NoCheckpoint e) → IfOk r (λ x. e ≢ unkept.Memory) →
+    (e ≢ unkept.Memory → IsNoCheckpoint part bytes e) → IfOk r (SaysOfCheckpoint part bytes)
+says_no_checkpoint part bytes e (Ok x) is some tells = subst (SaysOfCheckpoint part bytes) (sym is) (tells some)
+says_no_checkpoint part bytes e (Err y) is some tells = tt
+
+pub says_checkpoint : {E : Type 0} (part : PartValue) (bytes : List ℕ) (r : Result Reply E) → IfOk r IsAnswered → IsOk (sealed_form part bytes) → IfOk r (SaysOfCheckpoint part bytes)
+says_checkpoint part bytes (Ok (reply.Answered a)) is whole = whole
+says_checkpoint part bytes (Ok (reply.NoBatch e)) is whole = absurd is
+says_checkpoint part bytes (Ok (reply.NoCheckpoint e)) is whole = absurd is
+says_checkpoint part bytes (Err y) is whole = tt
+
+of_bytes : (e : KeepError) → e ≢ unkept.Memory → (IsRead e → ⊥) → IsOfBytes e
+of_bytes unkept.Memory some sure = absurd (some refl)
+of_bytes unkept.Read some sure = absurd (sure tt)
+of_bytes e some sure = tt
+
+pub no_checkpoint_in : (part : PartValue) (bytes : List ℕ) (e : KeepError) → e ≢ unkept.Memory → (IsRead e → ⊥) →
+    (IsOfBytes e → (sealed_form part bytes ≡ Err e) ⊎ ((e ≡ unkept.Shape) × IsOk (sealed_form part bytes) × TellNone part bytes)) → IsNoCheckpoint part bytes e
+no_checkpoint_in part bytes e some sure due = record { of_bytes = of_bytes e some sure; due = due (of_bytes e some sure) }

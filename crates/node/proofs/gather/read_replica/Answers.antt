@@ -1,0 +1,35 @@
+use Rattle.std.proofs.Common.{◌∙◌, List, ℕ, sym, subst}
+use Rattle.ball_model.specs.Job.{Job, job_of}
+use Rattle.node.specs.NodeText.{IsGivenBack}
+use Rattle.std.proofs.Common.{◌≡◌, ◌≢◌, refl}
+use Rattle.std.specs.Arc.{arc_value}
+use Rattle.ball_model.specs.Job.{PartValue, part_of}
+use Rattle.checkpoint.specs.declared.error.KeepError.TheVariants as unkept
+use Rattle.node.specs.Refusals.{IsNoCheckpoint}
+use Rattle.node.proofs.GatherLemmas.{told_other}
+use Rattle.node.proofs.gather.read_replica.Goals as goal
+
+pub returns-in-Ok-clause-read : goal.returns-in-Ok-clause-read
+returns-in-Ok-clause-read g c =
+    let j : Job = job_of c.args.graph.now.graph c.args.plan.now in
+    record {
+      body = c.in_ok-bytes.bytes.items;
+      consumed = c.in_ok-bytes.ensures.read;
+      made = record {
+        part_is = c.in-Ok.ensures.part ∙ c.in_ok-part.ensures;
+        back = λ h given.
+            c.in-Ok.ensures.back j c.args.p h c.in_ok-part.ensures
+            (subst (λ (l : List ℕ). IsGivenBack j c.args.p l h) (sym c.deref-2.ensures.value) given);
+      };
+    }
+
+pub returns-clause-refused : goal.returns-clause-refused
+unfolding part_of
+returns-clause-refused g c =
+    let j : Job = job_of c.args.graph.now.graph c.args.plan.now in
+    rw (c.told.ensures.told)
+    (told_other c.args.p (part_of j c.args.p) (g.R.Read.remaining c.args.reader.now) (g.R.Read.remaining c.read_bytes.new.reader) c.in_ok-bytes.bytes.items c.in-Err.error refl
+    c.in_ok-bytes.ensures.read
+    (λ some.
+    subst (λ (l : List ℕ). IsNoCheckpoint (part_of j c.args.p) l c.in-Err.error) c.deref-2.ensures.value
+    (subst (λ (x : PartValue). IsNoCheckpoint x c.deref-2.result.now c.in-Err.error) c.in_ok-part.ensures (c.in-Err.ensures.named some))))

@@ -1,0 +1,12 @@
+use Rattle.node.specs.Job.{numbers_in}
+use Rattle.node.proofs.JobLemmas.{planned}
+use Rattle.node.proofs.job.read_job.Goals as goal
+
+pub returns-clause-read : goal.returns-clause-read
+returns-clause-read g c = record {
+  all = c.in_ok-all.all;
+  mid = g.R.Read.remaining c.read_graph.new.reader;
+  edges = c.in_ok-all.ensures.says;
+  list = c.in_ok-graph.ensures.counts;
+  planned = planned (numbers_in c.args.options.now) c.in_ok-graph.graph c.in_ok-plan.plan c.in_ok-plan.ensures.value;
+}

@@ -1,0 +1,10 @@
+use Rattle.std.proofs.Common.{◌≡◌}
+use Rattle.node.specs.Serving.{ServesSome}
+use Rattle.node.proofs.serve.serve_commands.Given as goal
+
+abbrev pub invariant-loop-i : goal.invariant-loop-i
+invariant-loop-i g l = record {
+  some : ServesSome l.graph l.i (g.R.Read.remaining l.initial.reader) (g.R.Read.remaining l.reader) l.initial.session l.session
+      (g.W.Write.contents l.initial.writer) (g.W.Write.contents l.writer);
+  part : l.session.part ≡ l.initial.session.part;
+}

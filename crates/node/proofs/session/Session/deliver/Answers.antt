@@ -1,0 +1,36 @@
+use Rattle.std.proofs.Common.{◌≡◌, ◌∙◌, ℕ, ap, sym, subst, rules}
+use Rattle.ball_model.specs.Job.{Job}
+use Rattle.ball_model.specs.Held.{held_after, held_take_answer}
+use Rattle.ball_model.specs.Steps.{Take}
+use Rattle.ball_model.specs.World.{taken_answer}
+use Rattle.ball_model.specs.PlanValue.{PlanValue}
+use Rattle.ball_model.specs.State.{State}
+use Rattle.node.specs.Turns.{Holds, TurnsTo}
+use Rattle.node.proofs.SessionLemmas.{job_held, plan_held, refused_ok}
+use Rattle.std.specs.Prelude.{IfOk, IsOk}
+use Rattle.batches.specs.Reading.{batch_at}
+use Rattle.node.specs.Refusals.{SaysOfBatch}
+use Rattle.node.proofs.SessionLemmas.{says_no_batch}
+use Rattle.node.proofs.session.Session.deliver.Goals as goal
+
+pub returns-in-Ok-clause-turned : goal.returns-in-Ok-clause-turned
+returns-in-Ok-clause-turned c = λ j p h name k d.
+    let plan : c.plan.result.now ≡ j.plan = c.plan.ensures ∙ ap (λ (s : State). s.part.plan) c.self.view_is ∙ plan_held j p h c.args.self.now k in
+    c.take.ensures.turned j p h name k d.named (c.in-Ok.ensures.given j name (job_held j p h c.args.self.now k) plan d)
+
+pub returns-in-Err-clause-turned : goal.returns-in-Err-clause-turned
+returns-in-Err-clause-turned c = λ j p h name k d.
+    let plan : c.plan.result.now ≡ j.plan = c.plan.ensures ∙ ap (λ (s : State). s.part.plan) c.self.view_is ∙ plan_held j p h c.args.self.now k in
+    refused_ok c.no_batch.result (TurnsTo j p (taken_answer (held_take_answer j h name)) (held_after j h (Take name)) c.args.self.now)
+    (c.no_batch.ensures.memory (c.in-Err.ensures.memory j name (job_held j p h c.args.self.now k) plan d))
+
+pub returns-in-Ok-clause-named : goal.returns-in-Ok-clause-named
+returns-in-Ok-clause-named c =
+    let plan : c.plan.result.now ≡ c.args.self.now.part.plan = c.plan.ensures ∙ ap (λ (s : State). s.part.plan) c.self.view_is in
+    subst (λ (q : PlanValue). IsOk (batch_at q c.args.bytes.now)) plan c.in-Ok.ensures.spells
+
+pub returns-in-Err-clause-named : goal.returns-in-Err-clause-named
+returns-in-Err-clause-named c =
+    let plan : c.plan.result.now ≡ c.args.self.now.part.plan = c.plan.ensures ∙ ap (λ (s : State). s.part.plan) c.self.view_is in
+    subst (λ (q : PlanValue). IfOk c.no_batch.result (SaysOfBatch q c.args.bytes.now)) plan
+    (says_no_batch c.plan.result.now c.args.bytes.now c.in-Err.error c.no_batch.result c.no_batch.ensures.some c.no_batch.ensures.other c.in-Err.ensures.named)

@@ -1,0 +1,24 @@
+use Rattle.std.proofs.Common.{◌∙◌}
+use Rattle.std.specs.Prelude.{Err, Ok}
+use Rattle.std.proofs.lemmas.Result.{IfOk-weaker}
+use Rattle.ball_model.specs.Batches.{true_batch}
+use Rattle.node.proofs.SessionLemmas.{delivered_read, read_true, read_wants}
+use Rattle.node.proofs.SessionLemmas.{spelled_not, spelled_ok}
+use Rattle.batches.specs.Reading.{batch_at}
+use Rattle.node.proofs.session.read_batch.Goals as goal
+
+pub returns-in-Err-clause-memory : goal.returns-in-Err-clause-memory
+returns-in-Err-clause-memory c = λ j name job plan d.
+    read_wants c.in-Err.error (true_batch j name) (delivered_read j name c.args.plan.now c.args.bytes.now (Err c.in-Err.error) job plan d c.in-Err.ensures.only)
+
+pub returns-in-Ok-clause-memory : goal.returns-in-Ok-clause-memory
+returns-in-Ok-clause-memory c = λ j name job plan d. c.shared.ensures.memory
+
+pub returns-in-Ok-clause-given : goal.returns-in-Ok-clause-given
+returns-in-Ok-clause-given c = λ j name job plan d.
+    IfOk-weaker c.shared.result _ _
+    (λ b is. is ∙ read_true c.in-Ok.batch (true_batch j name) (delivered_read j name c.args.plan.now c.args.bytes.now (Ok c.in-Ok.batch) job plan d c.in-Ok.ensures.only))
+    c.shared.ensures.given
+
+pub returns-in-Err-clause-named : goal.returns-in-Err-clause-named
+returns-in-Err-clause-named c = spelled_not c.in-Err.error (batch_at c.args.plan.now c.args.bytes.now) c.in-Err.ensures.exact

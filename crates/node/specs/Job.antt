@@ -1,0 +1,65 @@
+-- The job that is asked for, over what is read of an input up to the marks.
+use Rattle.std.specs.Prelude.{◌≡◌, ℕ, Bool, List, Option, None, Some, is_some, IfSome, Ok}
+use Rattle.ball_model.specs.Input.{IsPlain, Network}
+use Rattle.ball_model.specs.PlanValue.{PlanValue, plan_of}
+use Rattle.ball_model.specs.RunText.{Numbers, Settings, counted_in, network_in, plan_over}
+use Rattle.edgelist.specs.Planning.{is_corrected, numbers_with}
+use Rattle.edgelist.specs.Given.{IsGiven}
+use Rattle.edgelist.specs.Reading.{byte_of}
+use Rattle.edgelist.specs.declared.pieces.EdgeReader.{EdgeReader}
+use Rattle.edgelist.specs.declared.read.Delimiter.{Delimiter}
+use Rattle.edgelist.specs.declared.read.EdgeLimits.{EdgeLimits}
+use Rattle.node.specs.declared.job.JobOptions.{JobOptions}
+use Rattle.node.specs.Section.{ReadsSection}
+
+-- ---- what is asked
+
+abbrev pub numbers_in : JobOptions → Numbers
+numbers_in o = numbers_with (is_corrected o.estimate) o.log2m o.seed o.parts o.limit
+
+abbrev pub settings_in : JobOptions → Settings
+settings_in o = record { numbers = numbers_in o; delimiter = byte_of o.delimiter }
+
+-- ---- what is read
+
+-- a section was read and given to a reader of edges
+pub record GivesSection (limits : EdgeLimits) (delimiter : Delimiter)
+    (left left' : Option (List ℕ)) (edges : EdgeReader) : Type 0 where
+  pub front : List ℕ
+  pub given : IsGiven limits delimiter front edges
+  pub section : ReadsSection front left left'
+
+-- the edge list in front of the mark was read, and says that network
+pub record SaysNetwork (s : Settings) (left left' : Option (List ℕ))
+    (network : Network) : Type 0 where
+  pub input : List ℕ
+  pub section : ReadsSection input left left'
+  pub says : IsPlain input → network_in s input ≡ Ok network
+
+-- a list was read, where there is one
+abbrev pub ReadsList : Option (List ℕ) → Option (List ℕ) → Option (List ℕ) → Type 0
+ReadsList None left left' = left' ≡ left
+ReadsList (Some list) left left' = ReadsSection list left left'
+
+-- with a list of counted vertices or without one, it says that of the network
+pub record CountsSome (s : Settings) (counted : Bool) (left left' : Option (List ℕ))
+    (all network : Network) : Type 0 where
+  pub list : Option (List ℕ)
+  pub given : is_some list ≡ counted
+  pub section : ReadsList list left left'
+  pub says : IfSome list IsPlain → counted_in s all list ≡ Ok network
+
+-- there is such a plan over the network
+pub record IsPlanned (n : Numbers) (network : Network) (plan : PlanValue) : Type 0 where
+  pub plan_is : plan ≡ plan_over n network.graph
+  pub planned : plan_of (plan_over n network.graph) ≡ Ok plan
+
+-- the job of the input: the network that the edge list and the list of counted vertices say, and its plan; what follows
+-- the mark behind them is left
+pub record IsJobRead (s : Settings) (counted : Bool) (left left' : Option (List ℕ))
+    (network : Network) (plan : PlanValue) : Type 0 where
+  pub all : Network
+  pub mid : Option (List ℕ)
+  pub edges : SaysNetwork s left mid all
+  pub list : CountsSome s counted mid left' all network
+  pub planned : IsPlanned s.numbers network plan

@@ -1,0 +1,12 @@
+pub mod NodeText
+pub mod Commands
+pub mod Section
+pub mod Stream
+pub mod Turns
+pub mod Refusals
+pub mod Own
+pub mod Job
+pub mod NoJob
+pub mod Serving
+pub mod Gathering
+pub mod NoReport

@@ -1,0 +1,104 @@
+-- Why an input says no job.
+use Rattle.std.specs.Prelude.{◌≡◌, ◌≢◌, ⊤, ◌⊎◌, ℕ, ◌-◌, ◌^◌, ◌<◌, ◌≤◌, Bool, true, List, length, Option, Result, Err, IfSome}
+use Rattle.ball_model.specs.Counting.{counted_of}
+use Rattle.ball_model.specs.Input.{IsPlain, Network, Refusal}
+use Rattle.ball_model.specs.PlanValue.{PlanValue, plan_of}
+use Rattle.ball_model.specs.RunText.{Settings, network_in, plan_over}
+use Rattle.ball_model.specs.declared.plan.PlanError.{PlanError}
+use Rattle.edgelist.specs.Counting.{RefusesList}
+use Rattle.edgelist.specs.Reading.{Refuses}
+use Rattle.edgelist.specs.declared.counting.CountedError.{CountedError}
+use Rattle.edgelist.specs.declared.read.EdgeError.{EdgeError}
+use Rattle.edgelist.specs.declared.read.EdgeError.TheVariants as unread
+use Rattle.node.specs.declared.error.JobError.{JobError}
+use Rattle.node.specs.declared.error.JobError.TheVariants as fault
+use Rattle.node.specs.declared.job.TheConstants.{MOST_LIST}
+use Rattle.node.specs.Job.{CountsSome, IsJobRead, SaysNetwork}
+use Rattle.node.specs.Section.{HasNoMark, before_mark}
+
+-- ---- the edge list
+-- what stands before the mark is refused for that, and not for a failed read
+pub record IsRefused (says : List ℕ → Result Network Refusal) (left : Option (List ℕ))
+    (e : EdgeError) : Type 0 where
+  pub read : e ≢ unread.Read
+  pub refuses : IfSome left (λ text. IsPlain (before_mark text) →
+      Refuses (says (before_mark text)) e)
+
+-- so it is refused, or there is no mark; of want of memory and a failed read nothing is said
+abbrev pub IsNoNetwork : (List ℕ → Result Network Refusal) → Option (List ℕ) → JobError → Type 0
+IsNoNetwork says left (fault.Edges e) = IsRefused says left e
+IsNoNetwork says left fault.NoMark = HasNoMark left
+IsNoNetwork says left fault.EdgesSize = IfSome left (λ text. 2 ^ 64 - 1 ≤ length text)
+IsNoNetwork says left fault.Memory = ⊤
+IsNoNetwork says left fault.Read = ⊤
+IsNoNetwork says left e = ⊥
+
+-- ---- the list of counted vertices
+-- there is no mark behind the list, or it is too long
+abbrev pub IsUnlisted : Option (List ℕ) → JobError → Type 0
+IsUnlisted left fault.NoListMark = HasNoMark left
+IsUnlisted left fault.ListSize = IfSome left (λ text. MOST_LIST < length (before_mark text))
+IsUnlisted left fault.Memory = ⊤
+IsUnlisted left fault.Read = ⊤
+IsUnlisted left e = ⊥
+
+-- or it is refused for what it says of a network
+abbrev pub IsUncounted : Settings → Option (List ℕ) → Network → JobError → Type 0
+IsUncounted s left all (fault.Counted e) =
+    IfSome left (λ text. IsPlain (before_mark text) →
+    RefusesList (counted_of s.delimiter all (before_mark text)) e)
+IsUncounted s left all e = IsUnlisted left e
+
+-- the edge list says a network, and the list behind it is refused so
+pub record HasNoCount (s : Settings) (counted : Bool) (left : Option (List ℕ))
+    (e : JobError) : Type 0 where
+  pub asked : counted ≡ true
+  pub all : Network
+  pub mid : Option (List ℕ)
+  pub edges : SaysNetwork s left mid all
+  pub refused : IsUncounted s mid all e
+
+-- ---- the plan
+-- there is no such plan over the network of both
+pub record HasNoPlan (s : Settings) (counted : Bool) (left left' : Option (List ℕ))
+    (e : PlanError) : Type 0 where
+  pub all : Network
+  pub network : Network
+  pub mid : Option (List ℕ)
+  pub edges : SaysNetwork s left mid all
+  pub list : CountsSome s counted mid left' all network
+  pub refused : plan_of (plan_over s.numbers network.graph) ≡ Err e
+
+-- ---- the job
+-- the input says no job, for this fault
+abbrev pub IsNoJob : Settings → Bool → Option (List ℕ) → Option (List ℕ) → JobError → Type 0
+IsNoJob s counted left left' (fault.Edges e) = IsRefused (network_in s) left e
+IsNoJob s counted left left' fault.NoMark = HasNoMark left
+IsNoJob s counted left left' fault.EdgesSize = IsNoNetwork (network_in s) left fault.EdgesSize
+IsNoJob s counted left left' fault.NoListMark = HasNoCount s counted left fault.NoListMark
+IsNoJob s counted left left' fault.ListSize = HasNoCount s counted left fault.ListSize
+IsNoJob s counted left left' (fault.Counted e) = HasNoCount s counted left (fault.Counted e)
+IsNoJob s counted left left' (fault.Plan e) = HasNoPlan s counted left left' e
+IsNoJob s counted left left' fault.Part = ⊥
+IsNoJob s counted left left' fault.Memory = ⊤
+IsNoJob s counted left left' fault.Read = ⊤
+
+-- ---- a node of the job
+-- it has no partition p; of want of memory nothing is said
+abbrev pub IsNoStart : PlanValue → ℕ → JobError → Type 0
+IsNoStart plan p fault.Part = plan.parts ≤ p
+IsNoStart plan p fault.Memory = ⊤
+IsNoStart plan p e = ⊥
+
+-- the job of the input was read, and it has no partition p
+pub record HasNoPart (s : Settings) (counted : Bool) (p : ℕ)
+    (left left' : Option (List ℕ)) : Type 0 where
+  pub network : Network
+  pub plan : PlanValue
+  pub job : IsJobRead s counted left left' network plan
+  pub beyond : plan.parts ≤ p
+
+-- the input says no job, or one without that partition
+abbrev pub HasNoNode : Settings → Bool → ℕ → Option (List ℕ) → Option (List ℕ) → JobError → Type 0
+HasNoNode s counted p left left' e =
+    IsNoJob s counted left left' e ⊎ ((e ≡ fault.Part) × HasNoPart s counted p left left')

@@ -1,0 +1,99 @@
+-- Sections on a stream: what may be the front of a mark, and what a step through a section does.
+use Rattle.std.specs.Prelude.{◌≡◌, ⊤, ℕ, Bool, true, false, not, ◌==◌, ◌&&◌, List, [], ◌∷◌, ◌++◌, Option, None, Some, IfSome}
+use Rattle.ball_model.specs.Sections.{after_mark, longer, sections_from, sections_of}
+use Rattle.node.specs.declared.section.Step.{Step}
+use Rattle.node.specs.declared.section.Step.TheVariants as step
+
+-- the bytes may be the front of a line of %%, and are not all of it
+abbrev pub is_front : List ℕ → Bool
+is_front [] = true
+is_front (a ∷ []) = a == 37
+is_front (a ∷ b ∷ []) = (a == 37) && (b == 37)
+is_front (a ∷ b ∷ c ∷ []) = (a == 37) && (b == 37) && (c == 13)
+is_front (a ∷ b ∷ c ∷ d ∷ more) = false
+
+-- an LF stands only at the end
+unfoldable pub is_tail : List ℕ → Bool
+is_tail [] = true
+is_tail (a ∷ []) = true
+is_tail (a ∷ b ∷ more) = not (a == 10) && is_tail (b ∷ more)
+
+-- what was read ahead: where a line begins, the front of a mark
+pub record IsAhead (begins : Bool) (ahead : List ℕ) : Type 0 where
+  pub front : begins ≡ true → is_front ahead ≡ true
+  pub tail : is_tail ahead ≡ true
+
+-- what was read ahead up to the first byte that tells whether a mark stands there
+pub record IsPast (ahead : List ℕ) : Type 0 where
+  pub tail : is_tail ahead ≡ true
+  pub nothing : IfSome (after_mark ahead) (λ rest. rest ≡ [])
+
+-- the byte was given: it is the first of what was left, and the section goes on behind it
+pub record GivesOf (begins : Bool) (b : ℕ) (text : List ℕ) (new : Option (List ℕ)) : Type 0 where
+  pub rest : List ℕ
+  pub new_is : new ≡ Some rest
+  pub text_is : text ≡ b ∷ rest
+  pub sections : sections_from begins text ≡ longer b (sections_from (b == 10) rest)
+
+abbrev pub Gives : Bool → ℕ → Option (List ℕ) → Option (List ℕ) → Type 0
+Gives begins b old new = IfSome old (λ text. GivesOf begins b text new)
+
+-- the section ended at a mark, behind which that is left
+pub record EndsOf (begins : Bool) (text : List ℕ) (new : Option (List ℕ)) : Type 0 where
+  pub rest : List ℕ
+  pub new_is : new ≡ Some rest
+  pub sections : sections_from begins text ≡ Some ([], rest)
+
+abbrev pub EndsAtMark : Bool → Option (List ℕ) → Option (List ℕ) → Type 0
+EndsAtMark begins old new = IfSome old (λ text. EndsOf begins text new)
+
+-- the section has ended
+abbrev pub IsOver : Step → Type 0
+IsOver (step.Byte b) = ⊥
+IsOver step.Mark = ⊤
+IsOver step.End = ⊤
+IsOver step.Failed = ⊥
+
+abbrev pub IsByteOrEnd : Step → Type 0
+IsByteOrEnd (step.Byte b) = ⊤
+IsByteOrEnd step.Mark = ⊥
+IsByteOrEnd step.End = ⊤
+IsByteOrEnd step.Failed = ⊥
+
+-- bytes in front of a section
+abbrev pub prefixed : List ℕ → Option (List ℕ × List ℕ) → Option (List ℕ × List ℕ)
+prefixed front None = None
+prefixed front (Some sections) = Some (front ++ sections.0, sections.1)
+
+-- some bytes of a section were passed: it goes on with what is left, where a line begins or not
+pub record PassedOf (front : List ℕ) (begins : Bool) (text : List ℕ)
+    (new : Option (List ℕ)) : Type 0 where
+  pub rest : List ℕ
+  pub new_is : new ≡ Some rest
+  pub text_is : text ≡ front ++ rest
+  pub sections : sections_from true text ≡ prefixed front (sections_from begins rest)
+
+abbrev pub Passed : List ℕ → Bool → Option (List ℕ) → Option (List ℕ) → Type 0
+Passed front begins old new = IfSome old (λ text. PassedOf front begins text new)
+
+-- a section was read, and the mark behind it: what follows it is left
+pub record SectionOf (front text : List ℕ) (new : Option (List ℕ)) : Type 0 where
+  pub rest : List ℕ
+  pub new_is : new ≡ Some rest
+  pub sections : sections_of text ≡ Some (front, rest)
+
+abbrev pub ReadsSection : List ℕ → Option (List ℕ) → Option (List ℕ) → Type 0
+ReadsSection front old new = IfSome old (λ text. SectionOf front text new)
+
+-- ---- a section that does not end
+-- no line of exactly %% is left
+abbrev pub HasNoMark : Option (List ℕ) → Type 0
+HasNoMark left = IfSome left (λ text. sections_of text ≡ None)
+
+abbrev pub first_or : List ℕ → Option (List ℕ × List ℕ) → List ℕ
+first_or text None = text
+first_or text (Some sections) = sections.0
+
+-- what stands before the first line of exactly %%, or all where there is none
+abbrev pub before_mark : List ℕ → List ℕ
+before_mark text = first_or text (sections_of text)

@@ -1,0 +1,199 @@
+-- What becomes of commands, one after the other.
+use Rattle.std.specs.Prelude.{◌≡◌, ◌≢◌, ⊤, ◌⊎◌, ℕ, ◌+◌, ◌<◌, ◌≤◌, Bool, List, [], ◌∷◌, ◌++◌, length, Option, None, Some}
+use Rattle.std.specs.List.{All}
+use Rattle.std.specs.Io.KnownBytes.{Appends, Consumes, IsAtEnd, Keeps}
+use Rattle.ball_model.specs.Input.{Network, fields}
+use Rattle.ball_model.specs.Held.{start_holding}
+use Rattle.ball_model.specs.Job.{Job, PartValue, job_of, part_of}
+use Rattle.ball_model.specs.Join.{Holding}
+use Rattle.ball_model.specs.PlanValue.{PlanValue}
+use Rattle.ball_model.specs.RunText.{Settings}
+use Rattle.ball_model.specs.State.{State}
+use Rattle.world.specs.declared.tell.TellError.{TellError}
+use Rattle.world.specs.declared.tell.TellError.TheVariants as untold
+use Rattle.node.specs.declared.command.Command.{Command}
+use Rattle.node.specs.declared.error.ServeError.{ServeError}
+use Rattle.node.specs.declared.error.ServeError.TheVariants as fault
+use Rattle.node.specs.NodeText.{Answers, AreAnswers, AllAsk, Asked, Asks, IsRequest, Request, after_all, after_asked, body_length, command_in, request_bytes, requests_text}
+use Rattle.node.specs.Job.{IsJobRead}
+use Rattle.node.specs.Stream.{HasNoEnd, most_line}
+use Rattle.node.specs.Turns.{Holds, most_body}
+
+-- ---- what errors are told as
+
+abbrev pub told_tell : TellError → ServeError
+told_tell untold.Memory = fault.Memory
+told_tell untold.Write = fault.Write
+
+-- ---- one answer
+
+-- a text was appended that is the answer of a node of that holding
+pub record AppendsAnswer (j : Job) (labels : List (List ℕ)) (h : Holding) (a : Asked)
+    (old new : Option (List ℕ)) : Type 0 where
+  pub text : List ℕ
+  pub appended : Appends old new text
+  pub answers : Answers j labels h a text
+
+-- what a replica v was asked by a command and the bytes behind it was answered, and it is w now: so it is for each
+-- holding of a job that v has, and whatever these bytes ask for
+pub record Steps (network : Network) (c : Command) (body : List ℕ) (v w : State)
+    (old new : Option (List ℕ)) : Type 0 where
+  pub told : (j : Job) (p : ℕ) (h : Holding) (a : Asked) → j.graph ≡ network.graph →
+      Holds j p h v → Asks j p c body a → AppendsAnswer j network.labels h a old new
+  pub holds : (j : Job) (p : ℕ) (h : Holding) (a : Asked) → j.graph ≡ network.graph →
+      Holds j p h v → Asks j p c body a → Holds j p (after_asked j h a) w
+
+-- ---- a request: it is read, and answered
+
+-- the line of a command was read, and what follows it
+pub record ReadsRequest (left left' : Option (List ℕ)) (line : List ℕ) (c : Command)
+    (body : List ℕ) : Type 0 where
+  pub is : IsRequest (record { line = line; command = c; body = body })
+  pub consumed : Consumes left left'
+      (request_bytes (record { line = line; command = c; body = body }))
+
+pub record ServesOne (network : Network) (left left' : Option (List ℕ)) (v w : State)
+    (old new : Option (List ℕ)) : Type 0 where
+  pub request : Request
+  pub is : IsRequest request
+  pub consumed : Consumes left left' (request_bytes request)
+  pub steps : Steps network request.command request.body v w old new
+
+-- there is none
+pub record ServesNone (left left' : Option (List ℕ)) (v w : State)
+    (old new : Option (List ℕ)) : Type 0 where
+  pub end : IsAtEnd left'
+  pub consumed : Consumes left left' []
+  pub kept : Keeps old new
+  pub same : w ≡ v
+
+-- ---- what is no request
+
+-- a line that says no command, or one that is longer than any command
+pub record NoCommand (left left' : Option (List ℕ)) : Type 0 where
+  pub line : List ℕ
+  pub one_line : HasNoEnd line
+  pub read : (Consumes left left' (line ++ 10 ∷ []) × (command_in (fields 32 line) ≡ None))
+      ⊎ (Consumes left left' line × (most_line ≤ length line))
+
+-- the line of a command behind which more bytes are announced than the part allows
+pub record TooLong (part : PartValue) (left left' : Option (List ℕ)) : Type 0 where
+  pub line : List ℕ
+  pub one_line : HasNoEnd line
+  pub command : Command
+  pub says : command_in (fields 32 line) ≡ Some command
+  pub beyond : most_body part command < body_length command
+  pub consumed : Consumes left left' (line ++ 10 ∷ [])
+
+-- a command with fewer bytes behind its line than it announces
+pub record IsCutBody (front : List ℕ) : Type 0 where
+  pub line : List ℕ
+  pub one_line : HasNoEnd line
+  pub command : Command
+  pub says : command_in (fields 32 line) ≡ Some command
+  pub body : List ℕ
+  pub fewer : length body < body_length command
+  pub front_is : front ≡ line ++ 10 ∷ body
+
+-- the input ended within a request
+pub record CutShort (left left' : Option (List ℕ)) : Type 0 where
+  pub front : List ℕ
+  pub some : front ≢ []
+  pub within : HasNoEnd front ⊎ IsCutBody front
+  pub consumed : Consumes left left' front
+  pub end : IsAtEnd left'
+
+-- the request of that number cannot be read for what it says; of other faults nothing is said
+abbrev pub IsNoRequest : PartValue → ℕ → ServeError → Option (List ℕ) → Option (List ℕ) → Type 0
+IsNoRequest part n (fault.Command k) left left' = (k ≡ n) × NoCommand left left'
+IsNoRequest part n (fault.Length k) left left' = (k ≡ n) × TooLong part left left'
+IsNoRequest part n (fault.Cut k) left left' = (k ≡ n) × CutShort left left'
+IsNoRequest part n fault.TooMany left left' = ⊤
+IsNoRequest part n fault.Memory left left' = ⊤
+IsNoRequest part n fault.Read left left' = ⊤
+IsNoRequest part n fault.Write left left' = ⊤
+
+-- the fault is none of what a request says
+abbrev pub IsOfMachine : ServeError → Type 0
+IsOfMachine (fault.Command k) = ⊥
+IsOfMachine (fault.Length k) = ⊥
+IsOfMachine (fault.Cut k) = ⊥
+IsOfMachine fault.TooMany = ⊤
+IsOfMachine fault.Memory = ⊤
+IsOfMachine fault.Read = ⊤
+IsOfMachine fault.Write = ⊤
+
+-- ---- many of them
+
+-- a text was appended that is the answers to all that is asked
+pub record AppendsAnswers (j : Job) (labels : List (List ℕ)) (h : Holding) (more : List Asked)
+    (old new : Option (List ℕ)) : Type 0 where
+  pub text : List ℕ
+  pub appended : Appends old new text
+  pub answers : AreAnswers j labels h more text
+
+-- what a replica v was asked by requests was answered, one after the other, and it is w now
+pub record Runs (network : Network) (rs : List Request) (v w : State)
+    (old new : Option (List ℕ)) : Type 0 where
+  pub told : (j : Job) (p : ℕ) (h : Holding) (more : List Asked) → j.graph ≡ network.graph →
+      Holds j p h v → AllAsk j p rs more → AppendsAnswers j network.labels h more old new
+  pub holds : (j : Job) (p : ℕ) (h : Holding) (more : List Asked) → j.graph ≡ network.graph →
+      Holds j p h v → AllAsk j p rs more → Holds j p (after_all j h more) w
+
+-- so many requests were read and answered
+pub record ServesSome (network : Network) (number : ℕ) (left left' : Option (List ℕ)) (v w : State)
+    (old new : Option (List ℕ)) : Type 0 where
+  pub requests : List Request
+  pub count : length requests ≡ number
+  pub each : All IsRequest requests
+  pub consumed : Consumes left left' (requests_text requests)
+  pub runs : Runs network requests v w old new
+
+-- such a request stopped a node that had answered all before it
+pub record Stops (network : Network) (part : PartValue) (e : ServeError)
+    (left left' : Option (List ℕ)) (v w : State) (old new : Option (List ℕ)) : Type 0 where
+  pub number : ℕ
+  pub mid : Option (List ℕ)
+  pub some : ServesSome network number left mid v w old new
+  pub at : IsNoRequest part (number + 1) e mid left'
+
+-- all that was left of the input is requests, and they were answered
+pub record Serves (network : Network) (left left' : Option (List ℕ)) (v w : State)
+    (old new : Option (List ℕ)) : Type 0 where
+  pub number : ℕ
+  pub some : ServesSome network number left left' v w old new
+  pub end : IsAtEnd left'
+
+-- ---- a node from its start
+
+-- the job of the input was read, and all that follows it is requests, which a node of partition p was asked from its
+-- start on: where each delivered batch is a true one and each checkpoint stands for the job, they were answered
+pub record ServesNode (s : Settings) (counted : Bool) (p : ℕ)
+    (left left' old new : Option (List ℕ)) : Type 0 where
+  pub network : Network
+  pub plan : PlanValue
+  pub mid : Option (List ℕ)
+  pub job : IsJobRead s counted left mid network plan
+  pub below : p < plan.parts
+  pub requests : List Request
+  pub each : All IsRequest requests
+  pub consumed : Consumes mid left' (requests_text requests)
+  pub end : IsAtEnd left'
+  pub told : (more : List Asked) → AllAsk (job_of network.graph plan) p requests more →
+      AppendsAnswers (job_of network.graph plan) network.labels (start_holding plan p) more old new
+
+-- the job of the input was read, and such a request stopped a node of partition p that had answered all before it
+pub record StopsNode (s : Settings) (counted : Bool) (p : ℕ) (e : ServeError)
+    (left left' old new : Option (List ℕ)) : Type 0 where
+  pub network : Network
+  pub plan : PlanValue
+  pub mid : Option (List ℕ)
+  pub job : IsJobRead s counted left mid network plan
+  pub below : p < plan.parts
+  pub requests : List Request
+  pub each : All IsRequest requests
+  pub rest : Option (List ℕ)
+  pub consumed : Consumes mid rest (requests_text requests)
+  pub told : (more : List Asked) → AllAsk (job_of network.graph plan) p requests more →
+      AppendsAnswers (job_of network.graph plan) network.labels (start_holding plan p) more old new
+  pub at : IsNoRequest (part_of (job_of network.graph plan) p) (length requests + 1) e rest left'

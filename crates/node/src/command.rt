@@ -1,0 +1,128 @@
+//! Commands of a node: a line of one word or two.
+
+ghost use Rattle.std.specs.Prelude.{◌≡◌, min, option_map};
+ghost use Rattle.ball_model.specs.Input.{fields};
+ghost use Rattle.ball_model.specs.WorldText.{value_from};
+ghost use Rattle.node.specs.NodeText.{body_length, command_in, lone_command, size_in, sized_command};
+ghost use Rattle.node.specs.Commands.{most_size};
+
+use itoa::Buffer;
+use world::script::{cut, part};
+
+/// Lengths are below it: they have at most 18 digits.
+const MOST: u64 = 1_000_000_000_000_000_000;
+
+/// What a node is told to do. Behind the line of some commands follow so many bytes.
+#[derive(Clone, Copy, Debug, PartialEq, Eq)]
+pub enum Command {
+    /// It tells another partition the batch of its superstep.
+    Send { target: u16 },
+    /// It takes the batch that the bytes spell.
+    Deliver { length: u64 },
+    /// It closes its superstep.
+    Close,
+    /// It gives its checkpoint.
+    Keep,
+    /// It goes back to the checkpoint that the bytes are, or to the start where there are none.
+    Restart { length: u64 },
+    /// It takes over what the checkpoint has that the bytes are.
+    Recover { length: u64 },
+    /// It tells what it has.
+    Show,
+    /// It tells the sums of its estimates.
+    Totals,
+    /// It tells the figures of its vertices.
+    Figures,
+}
+
+/// How many bytes follow the line of a command.
+pub fn length_of(command: Command) -> u64
+    ensures { result ≡ body_length command }
+{
+    match command {
+        Command::Deliver { length } | Command::Restart { length } | Command::Recover { length } =>
+            length,
+        Command::Send { .. }
+        | Command::Close
+        | Command::Keep
+        | Command::Show
+        | Command::Totals
+        | Command::Figures => 0,
+    }
+}
+
+// The value of digits, or `MOST` where it is not below that.
+fn value(word: &[u8]) -> u64
+    ensures { result ≡ min (value_from 0 word.now) most_size }
+{
+    let mut value = 0u64;
+    for byte in word {
+        value = (value * 10 + u64::from(byte.saturating_sub(b'0'))).min(MOST);
+    }
+    value
+}
+
+/// The length that a word spells.
+pub fn size(word: &[u8]) -> Option<u64>
+    ensures { result ≡ size_in word.now }
+{
+    let value = value(word);
+    if value < MOST && word == Buffer::new().format(value).as_bytes() {
+        Some(value)
+    } else {
+        None
+    }
+}
+
+// The command of one word.
+fn lone_command(verb: &[u8]) -> Option<Command>
+    ensures { result ≡ lone_command verb.now }
+{
+    if verb == b"close".as_slice() {
+        Some(Command::Close)
+    } else if verb == b"keep".as_slice() {
+        Some(Command::Keep)
+    } else if verb == b"show".as_slice() {
+        Some(Command::Show)
+    } else if verb == b"totals".as_slice() {
+        Some(Command::Totals)
+    } else if verb == b"figures".as_slice() {
+        Some(Command::Figures)
+    } else {
+        None
+    }
+}
+
+// The command of a word and a number.
+fn sized_command(verb: &[u8], word: &[u8]) -> Option<Command>
+    ensures { result ≡ sized_command verb.now word.now }
+{
+    if verb == b"send".as_slice() {
+        let target = part(word)?;
+        Some(Command::Send { target })
+    } else if verb == b"deliver".as_slice() {
+        let length = size(word)?;
+        Some(Command::Deliver { length })
+    } else if verb == b"restart".as_slice() {
+        let length = size(word)?;
+        Some(Command::Restart { length })
+    } else if verb == b"recover".as_slice() {
+        let length = size(word)?;
+        Some(Command::Recover { length })
+    } else {
+        None
+    }
+}
+
+/// The command that a line says. Between its words stands one space.
+pub fn command_of(line: &[u8]) -> Option<Command>
+    ensures { result ≡ command_in (fields 32 line.now) }
+{
+    let Some((verb, word)) = cut(b' ', line) else {
+        return lone_command(line);
+    };
+    match cut(b' ', word) {
+        None => sized_command(verb, word),
+        Some(_) => None,
+    }
+}

@@ -1,0 +1,237 @@
+//! Why a node or a gathering gives up.
+
+ghost use Rattle.std.specs.Prelude.{◌≡◌};
+
+use ball_model::PlanError;
+use checkpoint::KeepError;
+use edgelist::{CountedError, EdgeError};
+use report::ReportError;
+use std::alloc::AllocError;
+use thiserror::Error;
+use world::tell::TellError;
+
+/// Why there is no job, in the order of the checks.
+#[derive(Clone, Copy, Debug, PartialEq, Eq, Error)]
+pub enum JobError {
+    /// The edge list is refused.
+    #[error("{0}")]
+    Edges(EdgeError),
+    /// No line of %% ends the edge list.
+    #[error("no line %% behind the edge list")]
+    NoMark,
+    /// No line of %% is within the first 2^64 - 1 bytes.
+    #[error("the edge list is longer than 18446744073709551614 bytes")]
+    EdgesSize,
+    /// No line of %% ends the list of counted vertices.
+    #[error("no line %% behind the list")]
+    NoListMark,
+    /// The list of counted vertices has more than 2^26 bytes.
+    #[error("the list is longer than 67108864 bytes")]
+    ListSize,
+    /// The list of counted vertices is refused.
+    #[error("{0}")]
+    Counted(CountedError),
+    /// There is no such plan.
+    #[error("{0}")]
+    Plan(PlanError),
+    /// There is no such partition.
+    #[error("there is no such partition")]
+    Part,
+    /// Memory was refused.
+    #[error("out of memory")]
+    Memory,
+    /// A call of the reader failed.
+    #[error("the input cannot be read")]
+    Read,
+}
+
+impl From<EdgeError> for JobError {
+    ghost use Rattle.node.specs.declared.error.JobError.TheVariants.{Edges};
+
+    ghost from_gives = { λ fault e. e ≡ Edges fault };
+
+    fn from(fault: EdgeError) -> JobError {
+        JobError::Edges(fault)
+    }
+}
+
+impl From<CountedError> for JobError {
+    ghost use Rattle.node.specs.declared.error.JobError.TheVariants.{Counted};
+
+    ghost from_gives = { λ fault e. e ≡ Counted fault };
+
+    fn from(fault: CountedError) -> JobError {
+        JobError::Counted(fault)
+    }
+}
+
+impl From<PlanError> for JobError {
+    ghost use Rattle.node.specs.declared.error.JobError.TheVariants.{Plan};
+
+    ghost from_gives = { λ fault e. e ≡ Plan fault };
+
+    fn from(fault: PlanError) -> JobError {
+        JobError::Plan(fault)
+    }
+}
+
+impl From<AllocError> for JobError {
+    ghost use Rattle.node.specs.declared.error.JobError.TheVariants.{Memory};
+
+    ghost from_gives = { λ _ e. e ≡ Memory };
+
+    fn from(_fault: AllocError) -> JobError {
+        JobError::Memory
+    }
+}
+
+/// Why a node that has a job answers no more. Commands are numbered from 1 on.
+#[derive(Clone, Copy, Debug, PartialEq, Eq, Error)]
+pub enum ServeError {
+    /// The line is no command.
+    #[error("command {number} is no command")]
+    Command { number: u64 },
+    /// More bytes are announced than a batch or a checkpoint of the job has at most.
+    #[error("command {number} has too long a body")]
+    Length { number: u64 },
+    /// The input ends within the command.
+    #[error("the input ends within command {number}")]
+    Cut { number: u64 },
+    /// There are more commands than can be numbered.
+    #[error("too many commands")]
+    TooMany,
+    /// Memory was refused.
+    #[error("out of memory")]
+    Memory,
+    /// A call of the reader failed.
+    #[error("the input cannot be read")]
+    Read,
+    /// A write failed.
+    #[error("the output cannot be written")]
+    Write,
+}
+
+impl From<AllocError> for ServeError {
+    ghost use Rattle.node.specs.declared.error.ServeError.TheVariants.{Memory};
+
+    ghost from_gives = { λ _ e. e ≡ Memory };
+
+    fn from(_fault: AllocError) -> ServeError {
+        ServeError::Memory
+    }
+}
+
+impl From<TellError> for ServeError {
+    ghost use Rattle.node.specs.Serving.{told_tell};
+
+    ghost from_gives = { λ fault e. e ≡ told_tell fault };
+
+    fn from(fault: TellError) -> ServeError {
+        match fault {
+            TellError::Memory => ServeError::Memory,
+            TellError::Write => ServeError::Write,
+        }
+    }
+}
+
+/// Why a node answers no more, or not at all.
+#[derive(Clone, Copy, Debug, PartialEq, Eq, Error)]
+pub enum NodeError {
+    /// It has no job.
+    #[error("{0}")]
+    Job(JobError),
+    /// It gives up its commands.
+    #[error("{0}")]
+    Serve(ServeError),
+}
+
+impl From<JobError> for NodeError {
+    ghost use Rattle.node.specs.declared.error.NodeError.TheVariants.{Job};
+
+    ghost from_gives = { λ fault e. e ≡ Job fault };
+
+    fn from(fault: JobError) -> NodeError {
+        NodeError::Job(fault)
+    }
+}
+
+impl From<ServeError> for NodeError {
+    ghost use Rattle.node.specs.declared.error.NodeError.TheVariants.{Serve};
+
+    ghost from_gives = { λ fault e. e ≡ Serve fault };
+
+    fn from(fault: ServeError) -> NodeError {
+        NodeError::Serve(fault)
+    }
+}
+
+/// Why no report is gathered, or not all of it.
+#[derive(Clone, Copy, Debug, PartialEq, Eq, Error)]
+pub enum GatherError {
+    /// There is no job.
+    #[error("{0}")]
+    Job(JobError),
+    /// The input ends before the checkpoint of this partition.
+    #[error("no checkpoint of partition {part}")]
+    Missing { part: u16 },
+    /// No line `part L` is before the checkpoint of this partition.
+    #[error("no line before the checkpoint of partition {part}")]
+    Line { part: u16 },
+    /// More bytes are announced than a checkpoint of the partition has at most.
+    #[error("too long a checkpoint of partition {part}")]
+    Length { part: u16 },
+    /// The input ends within the checkpoint of this partition.
+    #[error("the input ends within the checkpoint of partition {part}")]
+    Cut { part: u16 },
+    /// The bytes are no checkpoint of this partition of the job.
+    #[error("partition {part}: {error}")]
+    Checkpoint { part: u16, error: KeepError },
+    /// Bytes follow the checkpoint of the last partition.
+    #[error("bytes after the last checkpoint")]
+    Trailing,
+    /// The checkpoints are not all of the end of a run.
+    #[error("the checkpoints are not those of the end of a run")]
+    NotReady,
+    /// Memory was refused.
+    #[error("out of memory")]
+    Memory,
+    /// A call of the reader failed.
+    #[error("the input cannot be read")]
+    Read,
+    /// A write failed.
+    #[error("the output cannot be written")]
+    Write,
+}
+
+impl From<JobError> for GatherError {
+    ghost use Rattle.node.specs.declared.error.GatherError.TheVariants.{Job};
+
+    ghost from_gives = { λ fault e. e ≡ Job fault };
+
+    fn from(fault: JobError) -> GatherError {
+        GatherError::Job(fault)
+    }
+}
+
+impl From<AllocError> for GatherError {
+    ghost use Rattle.node.specs.declared.error.GatherError.TheVariants.{Memory};
+
+    ghost from_gives = { λ _ e. e ≡ Memory };
+
+    fn from(_fault: AllocError) -> GatherError {
+        GatherError::Memory
+    }
+}
+
+impl From<ReportError> for GatherError {
+    ghost use Rattle.node.specs.Gathering.{told_report};
+
+    ghost from_gives = { λ fault e. e ≡ told_report fault };
+
+    fn from(fault: ReportError) -> GatherError {
+        match fault {
+            ReportError::Memory => GatherError::Memory,
+            ReportError::Write => GatherError::Write,
+        }
+    }
+}

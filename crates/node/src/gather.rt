@@ -1,0 +1,270 @@
+//! The report of the checkpoints of all partitions.
+
+ghost use Rattle.std.specs.Prelude.{◌≡◌, ◌≢◌, ℕ, ◌<◌, List, ◌++◌, ◌∷◌, [], Option, Some};
+ghost use Rattle.std.specs.Prelude.{Err, IfErr, IfOk, OnErr, OnOk};
+ghost use Rattle.std.specs.Io.KnownBytes.{Consumes, IsAtEnd, Keeps};
+ghost use Rattle.ball_model.specs.Job.{Job, IsJob, job_of, part_of};
+ghost use Rattle.ball_model.specs.State.{State};
+ghost use Rattle.ball_model.specs.Streams.{Rises};
+ghost use Rattle.node.specs.Gathering.{Gathers, GathersJob, ReadsAll, ReadsOne, part_line, part_text};
+ghost use Rattle.node.specs.NoReport.{HasNoReport, IsNoReplica, IsNoReport, WritesFront, WritesFrontOfJob};
+ghost use Rattle.node.specs.NoReport.{IsUnwritten, part_length, told_kept};
+ghost use Rattle.node.specs.Job.{settings_in};
+ghost use Rattle.node.specs.declared.error.JobError.TheVariants as no_job;
+
+use crate::command::size;
+use crate::error::GatherError;
+use crate::input::{Body, Line, read_body, read_line};
+use crate::job::{JobOptions, part_of, read_job};
+use crate::limits::longest_checkpoint;
+use crate::section::{Next, next_of};
+use crate::session::read_back;
+use ball_model::{CountedRead, CountedWrite, Plan};
+use checkpoint::KeepError;
+use edgelist::{Graph, Part};
+use replica::Replica;
+use report::{report_ready, write_report};
+use std::alloc::{AllocGlobal, Global};
+use std::hash::RandomState;
+use std::thread::Threads;
+use world::script::cut;
+
+// The length that a line `part L` tells.
+fn length_in(line: &[u8]) -> Option<u64>
+    ensures value { result ≡ part_length line.now }
+    ensures spelled { (n : ℕ) → result ≡ Some n → line.now ++ 10 ∷ [] ≡ part_line n }
+{
+    let (word, length) = cut(b' ', line)?;
+    if word == b"part".as_slice() {
+        size(length)
+    } else {
+        None
+    }
+}
+
+// The length of the checkpoint of the part that follows.
+fn read_length<R: CountedRead>(
+    alloc: Global,
+    reader: &mut R,
+    part: &Part,
+) -> Result<u64, GatherError>
+    ensures read { IfOk result (λ n.
+        Consumes (R.remaining reader.old) (R.remaining reader.new) (part_line n)) }
+    ensures refused { IfErr result
+        (IsNoReplica part.now (R.remaining reader.old) (R.remaining reader.new)) }
+    ensures failed { result ≡ Err GatherError.Read →
+        Rises (R.failed_calls reader.old) (R.failed_calls reader.new) }
+    ensures counted { result ≢ Err GatherError.Read →
+        R.failed_calls reader.new ≡ R.failed_calls reader.old }
+{
+    let p = part.partition();
+    let mut line = Vec::new(alloc);
+    match read_line(reader, &mut line) {
+        Line::Whole => {}
+        Line::None => return Err(GatherError::Missing { part: p }),
+        Line::Cut => return Err(GatherError::Cut { part: p }),
+        Line::Long => return Err(GatherError::Line { part: p }),
+        Line::Memory => return Err(GatherError::Memory),
+        Line::Failed => return Err(GatherError::Read),
+    }
+    match length_in(&line) {
+        Some(length) => Ok(length),
+        None => Err(GatherError::Line { part: p }),
+    }
+}
+
+// The bytes of the checkpoint of the part that follows.
+fn read_bytes<R: CountedRead>(
+    alloc: Global,
+    reader: &mut R,
+    part: &Part,
+) -> Result<Vec<u8>, GatherError>
+    ensures read { IfOk result (λ bytes.
+        Consumes (R.remaining reader.old) (R.remaining reader.new) (part_text bytes.items)) }
+    ensures refused { IfErr result
+        (IsNoReplica part.now (R.remaining reader.old) (R.remaining reader.new)) }
+    ensures failed { result ≡ Err GatherError.Read →
+        Rises (R.failed_calls reader.old) (R.failed_calls reader.new) }
+    ensures counted { result ≢ Err GatherError.Read →
+        R.failed_calls reader.new ≡ R.failed_calls reader.old }
+{
+    let p = part.partition();
+    let length = read_length(alloc, reader, part)?;
+    if longest_checkpoint(part) < length {
+        return Err(GatherError::Length { part: p });
+    }
+    let mut bytes = Vec::new(alloc);
+    match read_body(reader, length, &mut bytes) {
+        Body::Whole => Ok(bytes),
+        Body::Cut => Err(GatherError::Cut { part: p }),
+        Body::Memory => Err(GatherError::Memory),
+        Body::Failed => Err(GatherError::Read),
+    }
+}
+
+// What a refusal of the checkpoint of partition `p` is told as.
+fn told(p: u16, error: KeepError) -> GatherError
+    ensures told { result ≡ told_kept p error }
+    ensures read { result ≢ GatherError.Read }
+{
+    match error {
+        KeepError::Memory => GatherError::Memory,
+        _ => GatherError::Checkpoint { part: p, error },
+    }
+}
+
+// The replica of the checkpoint of partition `p` that follows.
+fn read_replica<R: CountedRead>(
+    alloc: Global,
+    graph: &Graph,
+    plan: &Plan,
+    p: u16,
+    reader: &mut R,
+) -> Result<Replica, GatherError>
+    requires job { IsJob (job_of graph.now.graph plan.now) }
+    requires below { p < plan.now.parts }
+    ensures read { IfOk result (ReadsOne (job_of graph.now.graph plan.now) p
+        (R.remaining reader.old) (R.remaining reader.new)) }
+    ensures refused { IfErr result (IsNoReplica (part_of (job_of graph.now.graph plan.now) p)
+        (R.remaining reader.old) (R.remaining reader.new)) }
+    ensures failed { result ≡ Err GatherError.Read →
+        Rises (R.failed_calls reader.old) (R.failed_calls reader.new) }
+    ensures counted { result ≢ Err GatherError.Read →
+        R.failed_calls reader.new ≡ R.failed_calls reader.old }
+{
+    let part = part_of(alloc, graph, plan, p)?;
+    let bytes = read_bytes(alloc, reader, &part)?;
+    match read_back(alloc, part, &bytes) {
+        Ok(replica) => Ok(replica),
+        Err(error) => Err(told(p, error)),
+    }
+}
+
+// The replicas of the checkpoints of all partitions.
+fn read_replicas<R: CountedRead>(
+    alloc: Global,
+    graph: &Graph,
+    plan: &Plan,
+    reader: &mut R,
+) -> Result<Vec<Replica>, GatherError>
+    requires { IsJob (job_of graph.now.graph plan.now) }
+    ensures read { IfOk result (λ replicas. ReadsAll (job_of graph.now.graph plan.now)
+        plan.now.parts (R.remaining reader.old) (R.remaining reader.new) replicas.items) }
+    ensures refused { IfErr result (IsNoReport (job_of graph.now.graph plan.now)
+        (R.remaining reader.old) (R.remaining reader.new)) }
+    ensures unwritten { result ≢ Err GatherError.Write }
+    ensures failed { result ≡ Err GatherError.Read →
+        Rises (R.failed_calls reader.old) (R.failed_calls reader.new) }
+    ensures counted { result ≢ Err GatherError.Read →
+        R.failed_calls reader.new ≡ R.failed_calls reader.old }
+{
+    let mut replicas = Vec::with_capacity(alloc, usize::from(plan.parts()))?;
+    for p in 0..plan.parts() {
+        let replica = read_replica(alloc, graph, plan, p, reader)?;
+        let Ok(()) = replicas.push(replica) else {
+            return Err(GatherError::Memory);
+        };
+    }
+    Ok(replicas)
+}
+
+// Whether the input is at its end.
+fn read_end<R: CountedRead>(reader: &mut R) -> Result<(), GatherError>
+    ensures end { OnOk result (IsAtEnd (R.remaining reader.new)) }
+    ensures kept { OnOk result (Consumes (R.remaining reader.old) (R.remaining reader.new) []) }
+    ensures refused { (j : Job) (replicas : List State) (left : Option (List ℕ)) →
+        ReadsAll j j.plan.parts left (R.remaining reader.old) replicas →
+        IfErr result (IsNoReport j left (R.remaining reader.new)) }
+    ensures unwritten { result ≢ Err GatherError.Write }
+    ensures failed { result ≡ Err GatherError.Read →
+        Rises (R.failed_calls reader.old) (R.failed_calls reader.new) }
+    ensures counted { result ≢ Err GatherError.Read →
+        R.failed_calls reader.new ≡ R.failed_calls reader.old }
+{
+    match next_of(reader) {
+        Next::End => Ok(()),
+        Next::Byte(_) => Err(GatherError::Trailing),
+        Next::Failed => Err(GatherError::Read),
+    }
+}
+
+/// Reads the checkpoints of all partitions of a job at the end of its run, and writes their report.
+///
+/// For each partition in order a line `part L`, and its checkpoint of L bytes. They are checked as they come, each whole
+/// before the next is read; then that nothing follows, and then that all are of the end of one run. Nothing is written
+/// before that. Memory is taken as bytes come, and may be refused at each; where it is refused or a write fails while the
+/// report is written, a beginning of it was written.
+pub fn gather_parts<T: AllocGlobal + Threads + Sync, R: CountedRead, W: CountedWrite>(
+    rt: &T,
+    graph: &Graph,
+    plan: &Plan,
+    reader: &mut R,
+    writer: &mut W,
+) -> Result<(), GatherError>
+    requires { IsJob (job_of graph.now.graph plan.now) }
+    ensures ok { OnOk result (Gathers (job_of graph.now.graph plan.now) graph.now.labels
+        (R.remaining reader.old) (R.remaining reader.new)
+        (W.contents writer.old) (W.contents writer.new)) }
+    // Which refusal it is.
+    ensures refused { IfErr result (IsNoReport (job_of graph.now.graph plan.now)
+        (R.remaining reader.old) (R.remaining reader.new)) }
+    // Nothing was written, or a beginning of the report where memory was refused or a write failed.
+    ensures kept { IfErr result (λ e. IsUnwritten e →
+        Keeps (W.contents writer.old) (W.contents writer.new)) }
+    ensures front { OnErr result (WritesFront (job_of graph.now.graph plan.now) graph.now.labels
+        (R.remaining reader.old) (R.remaining reader.new)
+        (W.contents writer.old) (W.contents writer.new)) }
+    // A call failed exactly where that is told.
+    ensures failed { result ≡ Err GatherError.Read →
+        Rises (R.failed_calls reader.old) (R.failed_calls reader.new) }
+    ensures counted { result ≢ Err GatherError.Read →
+        R.failed_calls reader.new ≡ R.failed_calls reader.old }
+    ensures write { result ≡ Err GatherError.Write →
+        Rises (W.failed_calls writer.old) (W.failed_calls writer.new) }
+    ensures written { result ≢ Err GatherError.Write →
+        W.failed_calls writer.new ≡ W.failed_calls writer.old }
+{
+    let replicas = read_replicas(rt.alloc(), graph, plan, reader)?;
+    read_end(reader)?;
+    if !report_ready(&replicas) {
+        return Err(GatherError::NotReady);
+    }
+    write_report(rt, writer, graph, &replicas)?;
+    Ok(())
+}
+
+/// Reads a job and the checkpoints of all its partitions at the end of their run, and writes their report.
+pub fn gather<T: AllocGlobal + Threads + Sync, R: CountedRead, W: CountedWrite>(
+    rt: &T,
+    state: RandomState,
+    options: &JobOptions,
+    reader: &mut R,
+    writer: &mut W,
+) -> Result<(), GatherError>
+    ensures ok { OnOk result (GathersJob (settings_in options.now) options.now.counted
+        (R.remaining reader.old) (R.remaining reader.new)
+        (W.contents writer.old) (W.contents writer.new)) }
+    // Which refusal it is.
+    ensures refused { IfErr result (HasNoReport (settings_in options.now) options.now.counted
+        (R.remaining reader.old) (R.remaining reader.new)) }
+    // Nothing was written, or a beginning of the report where memory was refused or a write failed.
+    ensures kept { IfErr result (λ e. IsUnwritten e →
+        Keeps (W.contents writer.old) (W.contents writer.new)) }
+    ensures front { OnErr result (WritesFrontOfJob (settings_in options.now) options.now.counted
+        (R.remaining reader.old) (R.remaining reader.new)
+        (W.contents writer.old) (W.contents writer.new)) }
+    // A call failed exactly where that is told.
+    ensures failed { result ≡ Err GatherError.Read →
+        Rises (R.failed_calls reader.old) (R.failed_calls reader.new) }
+    ensures unread { result ≡ Err (GatherError.Job no_job.Read) →
+        Rises (R.failed_calls reader.old) (R.failed_calls reader.new) }
+    ensures counted { result ≢ Err GatherError.Read → result ≢ Err (GatherError.Job no_job.Read) →
+        R.failed_calls reader.new ≡ R.failed_calls reader.old }
+    ensures write { result ≡ Err GatherError.Write →
+        Rises (W.failed_calls writer.old) (W.failed_calls writer.new) }
+    ensures written { result ≢ Err GatherError.Write →
+        W.failed_calls writer.new ≡ W.failed_calls writer.old }
+{
+    let (graph, plan) = read_job(rt.alloc(), state, options, reader)?;
+    gather_parts(rt, &graph, &plan, reader, writer)
+}

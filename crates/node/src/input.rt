@@ -1,0 +1,119 @@
+//! Lines and bodies of an input.
+
+ghost use Rattle.std.specs.Prelude.{◌≡◌, ◌≢◌, ◌≤◌, ◌++◌, ◌∷◌, [], length};
+ghost use Rattle.std.specs.Io.KnownBytes.{Consumes, IsAtEnd};
+ghost use Rattle.std.specs.List.{All};
+ghost use Rattle.ball_model.specs.Streams.{Rises};
+ghost use Rattle.node.specs.Stream.{CutsBody, HasNoEnd, most_line};
+
+use crate::section::{Next, next_of};
+use ball_model::{CountedRead, Filled, fill};
+
+// The most bytes of a line: no command is as long.
+const MOST_LINE: usize = 64;
+
+// How many bytes of a body are read at once.
+const PIECE: usize = 4096;
+
+/// What came of reading a line.
+#[derive(Clone, Copy, Debug, PartialEq, Eq)]
+pub enum Line {
+    /// It was read, and the LF behind it.
+    Whole,
+    /// The input is at its end.
+    None,
+    /// The input ended within it.
+    Cut,
+    /// It is longer than any command.
+    Long,
+    /// Memory was refused.
+    Memory,
+    /// A call of the reader failed.
+    Failed,
+}
+
+/// Reads the bytes before the next LF into `line`, which is empty, and the LF.
+pub fn read_line<R: CountedRead>(reader: &mut R, line: &mut Vec<u8>) -> Line
+    requires { line.old.items ≡ [] }
+    ensures whole { result ≡ Line.Whole → Consumes (R.remaining reader.old)
+        (R.remaining reader.new) (line.new.items ++ 10 ∷ []) }
+    ensures one { result ≡ Line.Whole → HasNoEnd line.new.items }
+    ensures none { result ≡ Line.None →
+        Consumes (R.remaining reader.old) (R.remaining reader.new) [] }
+    ensures end { result ≡ Line.None → IsAtEnd (R.remaining reader.new) }
+    ensures cut { result ≡ Line.Cut →
+        Consumes (R.remaining reader.old) (R.remaining reader.new) line.new.items }
+    ensures over { result ≡ Line.Cut → IsAtEnd (R.remaining reader.new) }
+    ensures some { result ≡ Line.Cut → line.new.items ≢ [] }
+    ensures part { result ≡ Line.Cut → HasNoEnd line.new.items }
+    ensures long { result ≡ Line.Long →
+        Consumes (R.remaining reader.old) (R.remaining reader.new) line.new.items }
+    ensures no_end { result ≡ Line.Long → HasNoEnd line.new.items }
+    ensures great { result ≡ Line.Long → most_line ≤ length line.new.items }
+    ensures failed { result ≡ Line.Failed →
+        Rises (R.failed_calls reader.old) (R.failed_calls reader.new) }
+    ensures counted { result ≢ Line.Failed →
+        R.failed_calls reader.new ≡ R.failed_calls reader.old }
+{
+    while line.len() < MOST_LINE {
+        match next_of(reader) {
+            Next::Byte(b'\n') => return Line::Whole,
+            Next::Byte(byte) => {
+                let Ok(()) = line.push(byte) else {
+                    return Line::Memory;
+                };
+            }
+            Next::End => return if line.is_empty() {
+                Line::None
+            } else {
+                Line::Cut
+            },
+            Next::Failed => return Line::Failed,
+        }
+    }
+    Line::Long
+}
+
+/// What came of reading a body.
+#[derive(Clone, Copy, Debug, PartialEq, Eq)]
+pub enum Body {
+    /// It was read.
+    Whole,
+    /// The input ended within it.
+    Cut,
+    /// Memory was refused.
+    Memory,
+    /// A call of the reader failed.
+    Failed,
+}
+
+/// Reads so many bytes into `body`, which is empty. Memory is taken as they come.
+pub fn read_body<R: CountedRead>(reader: &mut R, size: u64, body: &mut Vec<u8>) -> Body
+    requires { body.old.items ≡ [] }
+    ensures whole { result ≡ Body.Whole →
+        Consumes (R.remaining reader.old) (R.remaining reader.new) body.new.items }
+    ensures length { result ≡ Body.Whole → length body.new.items ≡ size }
+    ensures cut { result ≡ Body.Cut →
+        CutsBody size (R.remaining reader.old) (R.remaining reader.new) }
+    ensures failed { result ≡ Body.Failed →
+        Rises (R.failed_calls reader.old) (R.failed_calls reader.new) }
+    ensures counted { result ≢ Body.Failed →
+        R.failed_calls reader.new ≡ R.failed_calls reader.old }
+{
+    let mut piece = [0u8; PIECE];
+    let mut left = size;
+    while left > 0 {
+        let count = left.min(PIECE as u64) as usize;
+        match fill(reader, &mut piece[..count]) {
+            Filled::Full => {
+                let Ok(()) = body.extend_from_slice(&piece[..count]) else {
+                    return Body::Memory;
+                };
+            }
+            Filled::Ended { .. } => return Body::Cut,
+            Filled::Failed => return Body::Failed,
+        }
+        left -= count as u64;
+    }
+    Body::Whole
+}

@@ -1,0 +1,211 @@
+//! A job, read of an input up to a mark.
+
+ghost use Rattle.std.specs.Prelude.{◌≡◌, ◌≢◌, ◌<◌, ◌≤◌, [], Err, IfErr, IfOk, IsErr, OnOk, length, true};
+ghost use Rattle.std.specs.Arc.{arc_value};
+ghost use Rattle.ball_model.specs.Job.{IsJob, job_of, part_of};
+ghost use Rattle.ball_model.specs.PlanValue.{plan_of};
+ghost use Rattle.ball_model.specs.RunText.{network_in, plan_over};
+ghost use Rattle.ball_model.specs.Streams.{Rises};
+ghost use Rattle.edgelist.specs.Given.{IsGiven};
+ghost use Rattle.edgelist.specs.Reading.{meaning_of};
+ghost use Rattle.node.specs.Job.{CountsSome, GivesSection, IsJobRead, SaysNetwork, numbers_in, settings_in};
+ghost use Rattle.node.specs.NoJob.{IsNoJob, IsNoNetwork, IsUncounted, IsUnlisted};
+ghost use Rattle.node.specs.Section.{ReadsSection};
+
+use crate::error::JobError;
+use crate::section::{Cut, Step, next_step};
+use ball_model::plan::MOST_VERTICES;
+use ball_model::{CountedRead, Estimate, Plan, PlanError};
+use edgelist::{Delimiter, EdgeLimits, EdgeReader, Graph, MOST_RECORDS, Part};
+use std::alloc::{AllocError, Global};
+use std::hash::RandomState;
+use std::sync::Arc;
+
+// What is read at most of an edge list.
+const LIMITS: EdgeLimits = EdgeLimits {
+    vertices: MOST_VERTICES,
+    edges: MOST_RECORDS,
+};
+
+// The most bytes of a list of counted vertices.
+const MOST_LIST: usize = 67_108_864;
+
+/// What is asked of a job.
+#[derive(Clone, Copy, Debug, PartialEq, Eq)]
+pub struct JobOptions {
+    /// The binary logarithm of the number of registers of a counter.
+    pub log2m: u8,
+    /// The seed under which vertices are hashed.
+    pub seed: u64,
+    /// The number of partitions that vertices are dealt out to.
+    pub parts: u16,
+    /// The superstep at which a node stops at the latest.
+    pub limit: u32,
+    /// How the estimates of counters are made.
+    pub estimate: Estimate,
+    /// What stands between the two fields of a line of the edge list.
+    pub delimiter: Delimiter,
+    /// Whether a list of counted vertices, and a line of %%, stand behind the edge list.
+    pub counted: bool,
+}
+
+// Gives a reader of edges, which was given nothing yet, the bytes of a section, which ends at a mark.
+fn give_section<R: CountedRead>(
+    alloc: Global,
+    reader: &mut R,
+    edges: &mut EdgeReader,
+) -> Result<(), JobError>
+    ensures given { (delimiter : Delimiter) → IsGiven LIMITS delimiter [] edges.old →
+        OnOk result (GivesSection LIMITS delimiter
+        (R.remaining reader.old) (R.remaining reader.new) edges.new) }
+    ensures refused { (delimiter : Delimiter) → IsGiven LIMITS delimiter [] edges.old →
+        IfErr result (IsNoNetwork (meaning_of LIMITS delimiter) (R.remaining reader.old)) }
+    ensures failed { result ≡ Err JobError.Read →
+        Rises (R.failed_calls reader.old) (R.failed_calls reader.new) }
+    ensures counted { result ≢ Err JobError.Read →
+        R.failed_calls reader.new ≡ R.failed_calls reader.old }
+{
+    let mut cut = Cut::start();
+    for _count in 0..u64::MAX {
+        match next_step(reader, &mut cut) {
+            Step::Byte(byte) => edges.add(alloc, byte)?,
+            Step::Mark => return Ok(()),
+            Step::End => return Err(JobError::NoMark),
+            Step::Failed => return Err(JobError::Read),
+        }
+    }
+    Err(JobError::EdgesSize)
+}
+
+// The graph that a section says, which ends at a mark.
+fn read_graph<R: CountedRead>(
+    alloc: Global,
+    state: RandomState,
+    options: &JobOptions,
+    reader: &mut R,
+) -> Result<Graph, JobError>
+    ensures says { IfOk result (SaysNetwork (settings_in options.now)
+        (R.remaining reader.old) (R.remaining reader.new)) }
+    ensures refused { IfErr result (IsNoNetwork (network_in (settings_in options.now))
+        (R.remaining reader.old)) }
+    ensures failed { result ≡ Err JobError.Read →
+        Rises (R.failed_calls reader.old) (R.failed_calls reader.new) }
+    ensures counted { result ≢ Err JobError.Read →
+        R.failed_calls reader.new ≡ R.failed_calls reader.old }
+{
+    let mut edges = EdgeReader::new(alloc, state, options.delimiter, LIMITS)?;
+    give_section(alloc, reader, &mut edges)?;
+    let graph = edges.finish(alloc)?;
+    Ok(graph)
+}
+
+// Reads the bytes of a section, which ends at a mark, into `list`, which is empty.
+fn read_list<R: CountedRead>(reader: &mut R, list: &mut Vec<u8>) -> Result<(), JobError>
+    requires { list.old.items ≡ [] }
+    ensures read { OnOk result (ReadsSection list.new.items
+        (R.remaining reader.old) (R.remaining reader.new)) }
+    ensures few { OnOk result (length list.new.items ≤ MOST_LIST) }
+    ensures refused { IfErr result (IsUnlisted (R.remaining reader.old)) }
+    ensures failed { result ≡ Err JobError.Read →
+        Rises (R.failed_calls reader.old) (R.failed_calls reader.new) }
+    ensures counted { result ≢ Err JobError.Read →
+        R.failed_calls reader.new ≡ R.failed_calls reader.old }
+{
+    let mut cut = Cut::start();
+    while list.len() <= MOST_LIST {
+        match next_step(reader, &mut cut) {
+            Step::Byte(byte) => {
+                let Ok(()) = list.push(byte) else {
+                    return Err(JobError::Memory);
+                };
+            }
+            Step::Mark => return Ok(()),
+            Step::End => return Err(JobError::NoListMark),
+            Step::Failed => return Err(JobError::Read),
+        }
+    }
+    Err(JobError::ListSize)
+}
+
+// Counts only the vertices of a list, where there is one.
+fn count_listed<R: CountedRead>(
+    alloc: Global,
+    mut graph: Graph,
+    options: &JobOptions,
+    reader: &mut R,
+) -> Result<Graph, JobError>
+    ensures counts { IfOk result (CountsSome (settings_in options.now) options.now.counted
+        (R.remaining reader.old) (R.remaining reader.new) graph) }
+    ensures asked { IsErr result → options.now.counted ≡ true }
+    ensures refused { IfErr result (IsUncounted (settings_in options.now)
+        (R.remaining reader.old) graph) }
+    ensures failed { result ≡ Err JobError.Read →
+        Rises (R.failed_calls reader.old) (R.failed_calls reader.new) }
+    ensures counted { result ≢ Err JobError.Read →
+        R.failed_calls reader.new ≡ R.failed_calls reader.old }
+{
+    if !options.counted {
+        return Ok(graph);
+    }
+    let mut list = Vec::new(alloc);
+    read_list(reader, &mut list)?;
+    graph.count_only(alloc, options.delimiter, &list)?;
+    Ok(graph)
+}
+
+// The plan over a graph, or the first fault of the options.
+fn plan_for(graph: &Graph, options: &JobOptions) -> Result<Plan, PlanError>
+    ensures value { result ≡ plan_of (plan_over (numbers_in options.now) graph.now.graph) }
+    ensures job { IfOk result (λ plan. IsJob (job_of graph.now.graph plan)) }
+{
+    let JobOptions {
+        log2m,
+        seed,
+        parts,
+        limit,
+        ..
+    } = *options;
+    match options.estimate {
+        Estimate::Raw => graph.plan(log2m, seed, parts, limit),
+        Estimate::Corrected => graph.corrected_plan(log2m, seed, parts, limit),
+    }
+}
+
+/// A partition's part of a job.
+pub fn part_of(alloc: Global, graph: &Graph, plan: &Plan, p: u16) -> Result<Arc<Part>, AllocError>
+    requires job { IsJob (job_of graph.now.graph plan.now) }
+    requires below { p < plan.now.parts }
+    ensures { IfOk result (λ part. arc_value part ≡ part_of (job_of graph.now.graph plan.now) p) }
+{
+    let part = graph.part(alloc, plan, p)?;
+    let part = Arc::new(alloc, part)?;
+    Ok(part)
+}
+
+/// The graph and the plan of a job, read up to the mark behind it.
+///
+/// The edge list is refused as soon as its lines say so, and for a line that is missing behind it only where nothing
+/// else is refused; then the list is, and then the plan. Memory is taken as bytes come, and may be refused at each.
+pub fn read_job<R: CountedRead>(
+    alloc: Global,
+    state: RandomState,
+    options: &JobOptions,
+    reader: &mut R,
+) -> Result<(Graph, Plan), JobError>
+    ensures read { IfOk result (λ both. IsJobRead (settings_in options.now) options.now.counted
+        (R.remaining reader.old) (R.remaining reader.new) both.0 both.1) }
+    ensures job { IfOk result (λ both. IsJob (job_of both.0.graph both.1)) }
+    // Which refusal it is.
+    ensures refused { IfErr result (IsNoJob (settings_in options.now) options.now.counted
+        (R.remaining reader.old) (R.remaining reader.new)) }
+    // A call failed exactly where that is told.
+    ensures failed { result ≡ Err JobError.Read →
+        Rises (R.failed_calls reader.old) (R.failed_calls reader.new) }
+    ensures counted { result ≢ Err JobError.Read →
+        R.failed_calls reader.new ≡ R.failed_calls reader.old }
+{
+    let all = read_graph(alloc, state, options, reader)?;
+    let graph = count_listed(alloc, all, options, reader)?;
+    let plan = plan_for(&graph, options)?;
+    Ok((graph, plan))
+}

@@ -1,0 +1,104 @@
+//! The lines of one partition's vertices, as a report has them.
+
+ghost use Rattle.std.specs.Prelude.{◌≡◌, ℕ, ◌<◌, ◌≤◌, ◌%◌, IfOk, OnOk, length};
+ghost use Rattle.std.specs.Io.KnownBytes.{Appends};
+ghost use Rattle.ball_model.specs.Figures.{empty_of};
+ghost use Rattle.ball_model.specs.Held.{HasHolding};
+ghost use Rattle.ball_model.specs.Job.{Job};
+ghost use Rattle.ball_model.specs.Join.{Holding};
+ghost use Rattle.ball_model.specs.PlanValue.{mixing_of};
+ghost use Rattle.ball_model.specs.Report.{vertex_text};
+ghost use Rattle.node.specs.NodeText.{figures_text};
+ghost use Rattle.node.specs.Own.{true_figures};
+
+use ball_model::CountedWrite;
+use edgelist::Graph;
+use figures::{Figures, closeness, lin};
+use replica::{Replica, Shown};
+use report::figures_text;
+use std::alloc::{AllocError, Global};
+use world::tell::{TellError, write_lines};
+
+// How many registers of a row are 0.
+fn empty_count(row: &[u8]) -> u32
+    requires { length row.now ≤ 1024 }
+    ensures { result ≡ empty_of row.now }
+{
+    row.iter().filter(|register| **register == 0).count() as u32
+}
+
+// The figures of vertex `x`, which the replica's partition owns.
+fn figures_of(replica: &Replica, x: u32) -> Figures
+    requires vertex { x < replica.now.part.plan.vertices }
+    requires own { x % replica.now.part.plan.parts ≡ replica.now.part.number }
+    ensures { (j : Job) (h : Holding) → HasHolding j h replica.now →
+        result ≡ true_figures j h.superstep x }
+{
+    // the limits of a replica are told with its superstep
+    let _superstep = replica.superstep();
+    let tally = replica.tally(x);
+    Figures {
+        estimate: tally.last,
+        harmonic: tally.harm,
+        closeness: closeness(tally.dist),
+        lin: lin(tally.last, tally.dist),
+        empty: empty_count(replica.row(x)),
+    }
+}
+
+// The line of vertex `x`, which the replica's partition owns.
+fn line_of(alloc: Global, graph: &Graph, replica: &Replica, x: u32) -> Result<Vec<u8>, AllocError>
+    requires vertex { x < replica.now.part.plan.vertices }
+    requires own { x % replica.now.part.plan.parts ≡ replica.now.part.number }
+    requires graph { replica.now.part.plan.vertices ≡ graph.now.graph.vertices }
+    ensures { (j : Job) (h : Holding) → HasHolding j h replica.now → IfOk result (λ text.
+        text.items ≡ vertex_text (mixing_of j.plan) j.graph graph.now.labels h.superstep x) }
+{
+    figures_text(alloc, graph.label(x), figures_of(replica, x))
+}
+
+// Writes the line of vertex `x`, which the replica's partition owns.
+fn tell_vertex<W: CountedWrite>(
+    alloc: Global,
+    graph: &Graph,
+    replica: &Replica,
+    x: u32,
+    writer: &mut W,
+) -> Result<(), TellError>
+    requires vertex { x < replica.now.part.plan.vertices }
+    requires own { x % replica.now.part.plan.parts ≡ replica.now.part.number }
+    requires graph { replica.now.part.plan.vertices ≡ graph.now.graph.vertices }
+    ensures { (j : Job) (h : Holding) → HasHolding j h replica.now → OnOk result (Appends
+        (W.contents writer.old) (W.contents writer.new)
+        (vertex_text (mixing_of j.plan) j.graph graph.now.labels h.superstep x)) }
+{
+    let text = line_of(alloc, graph, replica, x)?;
+    write_lines(writer, &text)
+}
+
+/// Writes the lines of a partition's vertices, ascending, of the superstep that its replica has reached.
+pub fn tell_own<W: CountedWrite>(
+    alloc: Global,
+    graph: &Graph,
+    replica: &Replica,
+    writer: &mut W,
+) -> Result<(), TellError>
+    requires { replica.now.part.plan.vertices ≡ graph.now.graph.vertices }
+    ensures { (j : Job) (h : Holding) → HasHolding j h replica.now → OnOk result (Appends
+        (W.contents writer.old) (W.contents writer.new) (figures_text j graph.now.labels h)) }
+{
+    // the limits of a replica are told with its superstep
+    let _superstep = replica.superstep();
+    let parts = u32::from(replica.plan().parts());
+    let partition = replica.partition();
+    for i in 0..replica.plan().part_size(partition) {
+        tell_vertex(
+            alloc,
+            graph,
+            replica,
+            i * parts + u32::from(partition),
+            writer,
+        )?;
+    }
+    Ok(())
+}

@@ -1,0 +1,487 @@
+//! Commands, one after the other, and their answers.
+
+ghost use Rattle.std.specs.Prelude.{◌≡◌, ℕ, ◌<◌, ◌≤◌, List, ◌++◌, ◌∷◌, [], true, false, length};
+ghost use Rattle.std.specs.Prelude.{◌⊎◌, Err, IfErr, IfNone, IfOk, IfSome, Ok, OnOk, Some};
+ghost use Rattle.std.specs.Io.KnownBytes.{Appends, Consumes, IsAtEnd, Keeps};
+ghost use Rattle.ball_model.specs.Input.{Network, fields};
+ghost use Rattle.ball_model.specs.Job.{IsJob, job_of};
+ghost use Rattle.ball_model.specs.Held.{start_holding};
+ghost use Rattle.ball_model.specs.Streams.{Rises};
+ghost use Rattle.ball_model.specs.WorldText.{refusal_line};
+ghost use Rattle.node.specs.NodeText.{body_length, command_in, sent_text};
+ghost use Rattle.node.specs.Job.{settings_in};
+ghost use Rattle.node.specs.NoJob.{HasNoNode, IsNoStart};
+ghost use Rattle.node.specs.Serving.{IsNoRequest, IsOfMachine, ReadsRequest, Serves, ServesNode, ServesNone, ServesOne};
+ghost use Rattle.node.specs.Serving.{Steps, Stops, StopsNode};
+ghost use Rattle.node.specs.declared.error.JobError.{JobError as NoJob};
+ghost use Rattle.node.specs.declared.error.ServeError.{ServeError as Fault};
+ghost use Rattle.node.specs.Stream.{CutsBody, HasNoEnd};
+ghost use Rattle.node.specs.declared.command.Command.TheVariants as order;
+ghost use Rattle.node.specs.Turns.{Holds, most_body, reply_text};
+
+use crate::answers::{put_kept, put_reply, put_sent};
+use crate::command::{Command, command_of, length_of};
+use crate::error::{JobError, NodeError, ServeError};
+use crate::input::{Body, Line, read_body, read_line};
+use crate::job::{JobOptions, part_of, read_job};
+use crate::limits::is_within;
+use crate::own::tell_own;
+use crate::session::{Reply, Session};
+use ball_model::world::WorldError;
+use ball_model::{CountedRead, CountedWrite, NodeId, Plan, put_all};
+use batches::Batch;
+use checkpoint::{checkpoint_length, write_checkpoint};
+use edgelist::{Graph, Part};
+use replica::{Replica, Shown};
+use report::totals_text;
+use std::alloc::Global;
+use std::hash::RandomState;
+use world::answer::put_refusal;
+use world::tell::{tell_replica, write_lines};
+
+// Writes the line of what a node says.
+fn tell<W: CountedWrite>(reply: Reply, line: &mut Vec<u8>, writer: &mut W) -> Result<(), ServeError>
+    ensures done { OnOk result (Appends (W.contents writer.old) (W.contents writer.new)
+        (reply_text reply)) }
+    ensures kind { IfErr result IsOfMachine }
+{
+    line.clear();
+    put_reply(line, reply)?;
+    write_lines(writer, line)?;
+    Ok(())
+}
+
+// Writes a batch.
+fn tell_batch<W: CountedWrite>(
+    alloc: Global,
+    batch: &Batch,
+    line: &mut Vec<u8>,
+    writer: &mut W,
+) -> Result<(), ServeError>
+    ensures done { OnOk result (Appends (W.contents writer.old) (W.contents writer.new)
+        (sent_text batch.now)) }
+    ensures kind { IfErr result IsOfMachine }
+{
+    line.clear();
+    put_sent(line, batch)?;
+    let bytes = batch.encode(alloc)?;
+    write_lines(writer, line)?;
+    write_lines(writer, &bytes)?;
+    Ok(())
+}
+
+// Writes that there is no such partition to be told anything.
+fn tell_no_target<W: CountedWrite>(line: &mut Vec<u8>, writer: &mut W) -> Result<(), ServeError>
+    ensures done { OnOk result (Appends (W.contents writer.old) (W.contents writer.new)
+        (refusal_line WorldError.NoTarget)) }
+    ensures kind { IfErr result IsOfMachine }
+{
+    line.clear();
+    put_refusal(line, WorldError::NoTarget)?;
+    write_lines(writer, line)?;
+    Ok(())
+}
+
+// A node tells another partition the batch of its superstep, where there is such a one.
+fn answer_send<W: CountedWrite>(
+    alloc: Global,
+    replica: &Replica,
+    target: u16,
+    line: &mut Vec<u8>,
+    writer: &mut W,
+) -> Result<(), ServeError>
+    ensures done { (network : Network) (body : List ℕ) → OnOk result (Steps network
+        (order.Send target) body replica.now replica.now
+        (W.contents writer.old) (W.contents writer.new)) }
+    ensures kind { IfErr result IsOfMachine }
+{
+    if replica.plan().parts() <= target {
+        return tell_no_target(line, writer);
+    }
+    if target == replica.partition() {
+        return tell_no_target(line, writer);
+    }
+    let batch = replica.out(alloc, target)?;
+    tell_batch(alloc, &batch, line, writer)
+}
+
+// A node takes the batch that bytes spell.
+fn answer_deliver<W: CountedWrite>(
+    alloc: Global,
+    session: &mut Session,
+    body: &[u8],
+    line: &mut Vec<u8>,
+    writer: &mut W,
+) -> Result<(), ServeError>
+    ensures step { (network : Network) (n : ℕ) → OnOk result (Steps network
+        (order.Deliver n) body.now session.old session.new
+        (W.contents writer.old) (W.contents writer.new)) }
+    ensures part { session.new.part ≡ session.old.part }
+    ensures kind { IfErr result IsOfMachine }
+{
+    let reply = session.deliver(alloc, body)?;
+    tell(reply, line, writer)
+}
+
+// A node closes its superstep.
+fn answer_close<W: CountedWrite>(
+    session: &mut Session,
+    line: &mut Vec<u8>,
+    writer: &mut W,
+) -> Result<(), ServeError>
+    ensures step { (network : Network) (body : List ℕ) → OnOk result (Steps network
+        order.Close body session.old session.new
+        (W.contents writer.old) (W.contents writer.new)) }
+    ensures part { session.new.part ≡ session.old.part }
+    ensures kind { IfErr result IsOfMachine }
+{
+    let answer = session.close();
+    tell(Reply::Answered(answer), line, writer)
+}
+
+// A node gives its checkpoint.
+fn answer_keep<W: CountedWrite>(
+    replica: &Replica,
+    line: &mut Vec<u8>,
+    writer: &mut W,
+) -> Result<(), ServeError>
+    ensures done { (network : Network) (body : List ℕ) → OnOk result (Steps network
+        order.Keep body replica.now replica.now
+        (W.contents writer.old) (W.contents writer.new)) }
+    ensures kind { IfErr result IsOfMachine }
+{
+    // the limits of a replica are told with its superstep, those of its figures with these
+    let superstep = replica.superstep();
+    let _tallies = replica.tallies();
+    line.clear();
+    put_kept(line, superstep, checkpoint_length(replica))?;
+    write_lines(writer, line)?;
+    match write_checkpoint(replica, writer) {
+        Ok(()) => Ok(()),
+        Err(_) => Err(ServeError::Write),
+    }
+}
+
+// A node goes back to the checkpoint that bytes are, or to the start.
+fn answer_restart<W: CountedWrite>(
+    alloc: Global,
+    session: &mut Session,
+    body: &[u8],
+    line: &mut Vec<u8>,
+    writer: &mut W,
+) -> Result<(), ServeError>
+    ensures step { (network : Network) (n : ℕ) → OnOk result (Steps network
+        (order.Restart n) body.now session.old session.new
+        (W.contents writer.old) (W.contents writer.new)) }
+    ensures part { session.new.part ≡ session.old.part }
+    ensures kind { IfErr result IsOfMachine }
+{
+    let reply = session.restart(alloc, body)?;
+    tell(reply, line, writer)
+}
+
+// A node takes over what the checkpoint has that bytes are.
+fn answer_recover<W: CountedWrite>(
+    alloc: Global,
+    session: &mut Session,
+    body: &[u8],
+    line: &mut Vec<u8>,
+    writer: &mut W,
+) -> Result<(), ServeError>
+    ensures step { (network : Network) (n : ℕ) → OnOk result (Steps network
+        (order.Recover n) body.now session.old session.new
+        (W.contents writer.old) (W.contents writer.new)) }
+    ensures part { session.new.part ≡ session.old.part }
+    ensures kind { IfErr result IsOfMachine }
+{
+    let reply = session.recover(alloc, body)?;
+    tell(reply, line, writer)
+}
+
+// A node tells what it has.
+fn answer_show<W: CountedWrite>(
+    replica: &Replica,
+    line: &mut Vec<u8>,
+    writer: &mut W,
+) -> Result<(), ServeError>
+    ensures done { (network : Network) (body : List ℕ) → OnOk result (Steps network
+        order.Show body replica.now replica.now
+        (W.contents writer.old) (W.contents writer.new)) }
+    ensures kind { IfErr result IsOfMachine }
+{
+    let part = replica.partition();
+    tell_replica(NodeId { part, replica: 0 }, replica, line, writer)?;
+    Ok(())
+}
+
+// A node tells the sums of its estimates.
+fn answer_totals<W: CountedWrite>(
+    alloc: Global,
+    replica: &Replica,
+    writer: &mut W,
+) -> Result<(), ServeError>
+    ensures done { (network : Network) (body : List ℕ) → OnOk result (Steps network
+        order.Totals body replica.now replica.now
+        (W.contents writer.old) (W.contents writer.new)) }
+    ensures kind { IfErr result IsOfMachine }
+{
+    let text = totals_text(alloc, replica.sums())?;
+    write_lines(writer, &text)?;
+    Ok(())
+}
+
+// A node tells the figures of its vertices.
+fn answer_figures<W: CountedWrite>(
+    alloc: Global,
+    graph: &Graph,
+    replica: &Replica,
+    writer: &mut W,
+) -> Result<(), ServeError>
+    requires { replica.now.part.plan.vertices ≡ graph.now.graph.vertices }
+    ensures done { (body : List ℕ) → OnOk result (Steps graph.now
+        order.Figures body replica.now replica.now
+        (W.contents writer.old) (W.contents writer.new)) }
+    ensures kind { IfErr result IsOfMachine }
+{
+    tell_own(alloc, graph, replica, writer)?;
+    Ok(())
+}
+
+// A node does what a command says, and tells it.
+fn answer<W: CountedWrite>(
+    alloc: Global,
+    graph: &Graph,
+    session: &mut Session,
+    command: Command,
+    body: &[u8],
+    line: &mut Vec<u8>,
+    writer: &mut W,
+) -> Result<(), ServeError>
+    requires { session.old.part.plan.vertices ≡ graph.now.graph.vertices }
+    ensures step { OnOk result (Steps graph.now command body.now session.old session.new
+        (W.contents writer.old) (W.contents writer.new)) }
+    ensures part { session.new.part ≡ session.old.part }
+    ensures kind { IfErr result IsOfMachine }
+{
+    match command {
+        Command::Send { target } => answer_send(alloc, session.replica(), target, line, writer),
+        Command::Deliver { .. } => answer_deliver(alloc, session, body, line, writer),
+        Command::Close => answer_close(session, line, writer),
+        Command::Keep => answer_keep(session.replica(), line, writer),
+        Command::Restart { .. } => answer_restart(alloc, session, body, line, writer),
+        Command::Recover { .. } => answer_recover(alloc, session, body, line, writer),
+        Command::Show => answer_show(session.replica(), line, writer),
+        Command::Totals => answer_totals(alloc, session.replica(), writer),
+        Command::Figures => answer_figures(alloc, graph, session.replica(), writer),
+    }
+}
+
+// Reads the line of a command. None: the input is at its end.
+fn read_command<R: CountedRead>(
+    part: &Part,
+    reader: &mut R,
+    line: &mut Vec<u8>,
+    number: u64,
+) -> Result<Option<Command>, ServeError>
+    requires { line.old.items ≡ [] }
+    ensures consumed { IfOk result (λ o. IfSome o (λ _. Consumes (R.remaining reader.old)
+        (R.remaining reader.new) (line.new.items ++ 10 ∷ []))) }
+    ensures one_line { IfOk result (λ o. IfSome o (λ _. HasNoEnd line.new.items)) }
+    ensures says { IfOk result (λ o. IfSome o (λ c.
+        command_in (fields 32 line.new.items) ≡ Some c)) }
+    ensures within { IfOk result (λ o. IfSome o (λ c. body_length c ≤ most_body part.now c)) }
+    ensures none { IfOk result (λ o. IfNone o (IsAtEnd (R.remaining reader.new))) }
+    ensures kept { IfOk result (λ o. IfNone o
+        (Consumes (R.remaining reader.old) (R.remaining reader.new) [])) }
+    ensures read { result ≡ Err ServeError.Read →
+        Rises (R.failed_calls reader.old) (R.failed_calls reader.new) }
+    ensures stopped { IfErr result (λ e. IsNoRequest part.now number e
+        (R.remaining reader.old) (R.remaining reader.new)) }
+{
+    match read_line(reader, line) {
+        Line::Whole => {}
+        Line::None => return Ok(None),
+        Line::Cut => return Err(ServeError::Cut { number }),
+        Line::Long => return Err(ServeError::Command { number }),
+        Line::Memory => return Err(ServeError::Memory),
+        Line::Failed => return Err(ServeError::Read),
+    }
+    let Some(command) = command_of(line) else {
+        return Err(ServeError::Command { number });
+    };
+    if !is_within(part, command) {
+        return Err(ServeError::Length { number });
+    }
+    Ok(Some(command))
+}
+
+// Reads what follows the line of a command.
+fn read_rest<R: CountedRead>(
+    reader: &mut R,
+    command: Command,
+    body: &mut Vec<u8>,
+    number: u64,
+) -> Result<(), ServeError>
+    requires { body.old.items ≡ [] }
+    ensures consumed { OnOk result (
+        Consumes (R.remaining reader.old) (R.remaining reader.new) body.new.items) }
+    ensures length { OnOk result (length body.new.items ≡ body_length command) }
+    ensures read { result ≡ Err ServeError.Read →
+        Rises (R.failed_calls reader.old) (R.failed_calls reader.new) }
+    ensures cut { result ≡ Err (ServeError.Cut number) → CutsBody (body_length command)
+        (R.remaining reader.old) (R.remaining reader.new) }
+    ensures kind { IfErr result (λ e. (e ≡ ServeError.Cut number) ⊎ IsOfMachine e) }
+{
+    match read_body(reader, length_of(command), body) {
+        Body::Whole => Ok(()),
+        Body::Cut => Err(ServeError::Cut { number }),
+        Body::Memory => Err(ServeError::Memory),
+        Body::Failed => Err(ServeError::Read),
+    }
+}
+
+// Reads a request. None: the input is at its end.
+fn read_request<R: CountedRead>(
+    part: &Part,
+    reader: &mut R,
+    line: &mut Vec<u8>,
+    body: &mut Vec<u8>,
+    number: u64,
+) -> Result<Option<Command>, ServeError>
+    requires line { line.old.items ≡ [] }
+    requires body { body.old.items ≡ [] }
+    ensures some { IfOk result (λ o. IfSome o (λ c. ReadsRequest
+        (R.remaining reader.old) (R.remaining reader.new) line.new.items c body.new.items)) }
+    ensures none { IfOk result (λ o. IfNone o (IsAtEnd (R.remaining reader.new))) }
+    ensures kept { IfOk result (λ o. IfNone o
+        (Consumes (R.remaining reader.old) (R.remaining reader.new) [])) }
+    ensures stopped { IfErr result (λ e. IsNoRequest part.now number e
+        (R.remaining reader.old) (R.remaining reader.new)) }
+{
+    let Some(command) = read_command(part, reader, line, number)? else {
+        return Ok(None);
+    };
+    read_rest(reader, command, body, number)?;
+    Ok(Some(command))
+}
+
+// Passes on what the writer holds back.
+fn flush<W: CountedWrite>(writer: &mut W) -> Result<(), ServeError>
+    ensures done { Keeps (W.contents writer.old) (W.contents writer.new) }
+    ensures kind { IfErr result IsOfMachine }
+{
+    if writer.try_flush() {
+        Ok(())
+    } else {
+        Err(ServeError::Write)
+    }
+}
+
+// Reads a request, does what it says and answers it, and tells whether there was one.
+fn serve_one<R: CountedRead, W: CountedWrite>(
+    alloc: Global,
+    graph: &Graph,
+    session: &mut Session,
+    reader: &mut R,
+    writer: &mut W,
+    number: u64,
+) -> Result<bool, ServeError>
+    requires { session.old.part.plan.vertices ≡ graph.now.graph.vertices }
+    ensures served { result ≡ Ok true → ServesOne graph.now (R.remaining reader.old)
+        (R.remaining reader.new) session.old session.new
+        (W.contents writer.old) (W.contents writer.new) }
+    ensures ended { result ≡ Ok false → ServesNone (R.remaining reader.old)
+        (R.remaining reader.new) session.old session.new
+        (W.contents writer.old) (W.contents writer.new) }
+    ensures part { session.new.part ≡ session.old.part }
+    ensures stopped { IfErr result (λ e. IsNoRequest session.old.part number e
+        (R.remaining reader.old) (R.remaining reader.new)) }
+    ensures kept { IfErr result (λ e. (IsOfMachine e → ⊥) →
+        Keeps (W.contents writer.old) (W.contents writer.new)) }
+    ensures same { IfErr result (λ e. (IsOfMachine e → ⊥) → session.new ≡ session.old) }
+{
+    let mut line = Vec::new(alloc);
+    let mut body = Vec::new(alloc);
+    let Some(command) = read_request(session.part(), reader, &mut line, &mut body, number)? else {
+        return Ok(false);
+    };
+    answer(alloc, graph, session, command, &body, &mut line, writer)?;
+    flush(writer)?;
+    Ok(true)
+}
+
+/// Answers commands until the input ends. Each answer is passed on before the next command is read.
+pub fn serve_commands<R: CountedRead, W: CountedWrite>(
+    alloc: Global,
+    graph: &Graph,
+    session: &mut Session,
+    reader: &mut R,
+    writer: &mut W,
+) -> Result<(), ServeError>
+    requires { session.old.part.plan.vertices ≡ graph.now.graph.vertices }
+    ensures ok { OnOk result (Serves graph.now (R.remaining reader.old) (R.remaining reader.new)
+        session.old session.new (W.contents writer.old) (W.contents writer.new)) }
+    ensures part { session.new.part ≡ session.old.part }
+    // What was answered before a request that cannot be read stands.
+    ensures stopped { IfErr result (λ e. (IsOfMachine e → ⊥) → Stops graph.now session.old.part e
+        (R.remaining reader.old) (R.remaining reader.new)
+        session.old session.new (W.contents writer.old) (W.contents writer.new)) }
+{
+    for i in 0..u64::MAX {
+        let more = serve_one(alloc, graph, session, reader, writer, i + 1)?;
+        if !more {
+            return Ok(());
+        }
+    }
+    Err(ServeError::TooMany)
+}
+
+// A node of a partition of a job, at its start.
+fn start(alloc: Global, graph: &Graph, plan: &Plan, part: u16) -> Result<Session, JobError>
+    requires { IsJob (job_of graph.now.graph plan.now) }
+    ensures part { IfOk result (λ _. part < plan.now.parts) }
+    ensures start { IfOk result (Holds (job_of graph.now.graph plan.now) part
+        (start_holding plan.now part)) }
+    ensures vertices { IfOk result (λ s. s.part.plan.vertices ≡ graph.now.graph.vertices) }
+    ensures refused { IfErr result (IsNoStart plan.now part) }
+{
+    if plan.parts() <= part {
+        return Err(JobError::Part);
+    }
+    let part = part_of(alloc, graph, plan, part)?;
+    Ok(Session::start(alloc, part)?)
+}
+
+/// Reads a job, and answers the commands for the node of one of its partitions. That there is no such partition is told
+/// behind all other faults of the job.
+pub fn serve_node<R: CountedRead, W: CountedWrite>(
+    alloc: Global,
+    state: RandomState,
+    options: &JobOptions,
+    part: u16,
+    reader: &mut R,
+    writer: &mut W,
+) -> Result<(), NodeError>
+    ensures served { OnOk result (ServesNode (settings_in options.now) options.now.counted part
+        (R.remaining reader.old) (R.remaining reader.new)
+        (W.contents writer.old) (W.contents writer.new)) }
+    // What was answered before a request that cannot be read stands.
+    ensures stopped { (e : Fault) → result ≡ Err (NodeError.Serve e) → (IsOfMachine e → ⊥) →
+        StopsNode (settings_in options.now) options.now.counted part e
+        (R.remaining reader.old) (R.remaining reader.new)
+        (W.contents writer.old) (W.contents writer.new) }
+    // Where there is no job nothing is answered.
+    ensures jobless { (e : NoJob) → result ≡ Err (NodeError.Job e) →
+        Keeps (W.contents writer.old) (W.contents writer.new) }
+    // Which refusal it is.
+    ensures refused { (e : NoJob) → result ≡ Err (NodeError.Job e) →
+        HasNoNode (settings_in options.now) options.now.counted part
+        (R.remaining reader.old) (R.remaining reader.new) e }
+    ensures unread { result ≡ Err (NodeError.Job JobError.Read) →
+        Rises (R.failed_calls reader.old) (R.failed_calls reader.new) }
+{
+    let (graph, plan) = read_job(alloc, state, options, reader)?;
+    let mut session = start(alloc, &graph, &plan, part)?;
+    serve_commands(alloc, &graph, &mut session, reader, writer)?;
+    Ok(())
+}

@@ -1,0 +1,356 @@
+//! A node's replica, and what it makes of commands.
+
+ghost use Rattle.std.specs.Prelude.{◌≡◌, ◌≢◌, ℕ, ◌<◌, [], Err, IfOk, IfErr, IsErr, IsOk, OnErr, OnOk, Ok};
+ghost use Rattle.std.specs.Arc.{arc_value};
+ghost use Rattle.ball_model.specs.declared.names.BatchName.{BatchName as Name};
+ghost use Rattle.ball_model.specs.declared.world.Answer.TheVariants as answer;
+ghost use Rattle.ball_model.specs.Batches.{true_batch};
+ghost use Rattle.ball_model.specs.Held.{IsName, held_after, held_close_answer, held_take_answer, start_holding};
+ghost use Rattle.ball_model.specs.Job.{Job, IsJob, part_of};
+ghost use Rattle.ball_model.specs.Join.{Holding, join_of};
+ghost use Rattle.ball_model.specs.Steps.{Take, Close};
+ghost use Rattle.ball_model.specs.World.{closed_answer, taken_answer};
+ghost use Rattle.batches.specs.Reading.{batch_at};
+ghost use Rattle.checkpoint.specs.Reading.{sealed_form};
+ghost use Rattle.world.specs.Shows.{Has};
+ghost use Rattle.node.specs.NodeText.{IsDelivered, IsGivenBack};
+ghost use Rattle.node.specs.Refusals.{IsAnswered, IsNoCheckpoint, SaysOfBatch, SaysOfCheckpoint};
+ghost use Rattle.node.specs.Turns.{GivesOrWants, Holds, SaysMerged, TurnsTo};
+ghost use Rattle.node.specs.declared.session.Reply.TheVariants as reply;
+
+use ball_model::world::Answer;
+use ball_model::{CloseError, MemReader, MergeError, Plan, TakeError, Taken};
+use batches::{Batch, BatchError};
+use checkpoint::{KeepError, read_checkpoint};
+use edgelist::Part;
+use replica::{Replica, Shown, Snapshot};
+use std::alloc::{AllocError, Global};
+use std::marker::Model;
+use std::sync::Arc;
+
+/// What a node says to a command.
+#[derive(Clone, Copy, Debug, PartialEq, Eq)]
+pub enum Reply {
+    /// What a world answers to such an event.
+    Answered(Answer),
+    /// The bytes are no batch of the job's plan.
+    NoBatch(BatchError),
+    /// The bytes are no checkpoint of the partition.
+    NoCheckpoint(KeepError),
+}
+
+/// A node: a replica of its part.
+#[derive(Drop)]
+pub struct Session {
+    part: Arc<Part>,
+    replica: Replica,
+}
+
+impl Model for Session {
+    ghost use Rattle.std.specs.Prelude.{◌≡◌};
+    ghost use Rattle.std.specs.Arc.{arc_value};
+    ghost use Rattle.ball_model.specs.State.{State};
+
+    ghost Value = { State };
+
+    ghost view = { λ s. s.replica };
+
+    ghost invariant = { λ s. arc_value s.part ≡ s.replica.part };
+}
+
+impl Session {
+    /// A node of the part at superstep 0. The error is that memory was refused.
+    pub fn start(alloc: Global, part: Arc<Part>) -> Result<Session, AllocError>
+        ensures part { IfOk result (λ s. s.part ≡ arc_value part) }
+        ensures start { IfOk result (λ s. (j : Job) (p : ℕ) → IsJob j → p < j.plan.parts →
+            arc_value part ≡ part_of j p → Has j (start_holding j.plan p) s) }
+    {
+        let own = Arc::try_clone(&part)?;
+        let replica = started(alloc, part)?;
+        Ok(Session { part: own, replica })
+    }
+
+    /// The part.
+    pub fn part(&self) -> &Part
+        ensures { result.now ≡ self.now.part }
+    {
+        &self.part
+    }
+
+    /// The replica.
+    pub fn replica(&self) -> &Replica
+        ensures { result.now ≡ self.now }
+    {
+        &self.replica
+    }
+
+    /// Takes the batch that the bytes spell. The error is that memory was refused, and changes nothing.
+    pub fn deliver(&mut self, alloc: Global, bytes: &[u8]) -> Result<Reply, AllocError>
+        ensures turned { (j : Job) (p : ℕ) (h : Holding) (name : Name) → Holds j p h self.old →
+            IsDelivered j bytes.now name →
+            IfOk result (TurnsTo j p (taken_answer (held_take_answer j h name))
+            (held_after j h (Take name)) self.new) }
+        ensures part { self.new.part ≡ self.old.part }
+        // Which refusal it is where the bytes spell no batch of the plan.
+        ensures named { IfOk result (SaysOfBatch self.old.part.plan bytes.now) }
+        ensures unread { (e : BatchError) → result ≡ Ok (reply.NoBatch e) → self.new ≡ self.old }
+        ensures refused { OnErr result (self.new ≡ self.old) }
+    {
+        match read_batch(alloc, self.replica.plan(), bytes) {
+            Ok(batch) => Ok(Reply::Answered(self.take(batch))),
+            Err(error) => no_batch(error),
+        }
+    }
+
+    // Takes a batch.
+    fn take(&mut self, batch: Arc<Batch>) -> Answer
+        ensures turned { (j : Job) (p : ℕ) (h : Holding) (name : Name) → Holds j p h self.old →
+            IsName j.plan name → arc_value batch ≡ true_batch j name →
+            TurnsTo j p (taken_answer (held_take_answer j h name)) (held_after j h (Take name))
+            self.new (reply.Answered result) }
+        ensures part { self.new.part ≡ self.old.part }
+    {
+        let taken = self.replica.take(batch);
+        // the limits of a replica are told with its superstep
+        let _superstep = self.replica.superstep();
+        answer_to_take(taken)
+    }
+
+    /// Closes the superstep.
+    pub fn close(&mut self) -> Answer
+        ensures turned { (j : Job) (p : ℕ) (h : Holding) → Holds j p h self.old →
+            TurnsTo j p (closed_answer (held_close_answer j h)) (held_after j h Close) self.new
+            (reply.Answered result) }
+        ensures part { self.new.part ≡ self.old.part }
+    {
+        let closed = self.replica.close();
+        // the limits of a replica are told with its superstep
+        let _superstep = self.replica.superstep();
+        answer_to_close(closed)
+    }
+
+    /// Goes back to the checkpoint that the bytes are, or to the start where there are none. Where the bytes are no
+    /// checkpoint of the part the replica stays as it was. The error is that memory was refused, and changes nothing.
+    pub fn restart(&mut self, alloc: Global, bytes: &[u8]) -> Result<Reply, AllocError>
+        ensures anew { (j : Job) (p : ℕ) (h : Holding) → Holds j p h self.old → bytes.now ≡ [] →
+            IfOk result (TurnsTo j p (answer.Restarted (start_holding j.plan p).superstep)
+            (start_holding j.plan p) self.new) }
+        ensures turned { (j : Job) (p : ℕ) (h d : Holding) → Holds j p h self.old →
+            bytes.now ≢ [] → IsGivenBack j p bytes.now d →
+            IfOk result (TurnsTo j p (answer.Restarted d.superstep) d self.new) }
+        ensures part { self.new.part ≡ self.old.part }
+        // Which refusal it is where the bytes are no checkpoint of the part.
+        ensures named { bytes.now ≢ [] →
+            IfOk result (SaysOfCheckpoint self.old.part bytes.now) }
+        ensures started { bytes.now ≡ [] → IfOk result IsAnswered }
+        ensures unread { (e : KeepError) → result ≡ Ok (reply.NoCheckpoint e) →
+            self.new ≡ self.old }
+        ensures refused { OnErr result (self.new ≡ self.old) }
+    {
+        match self.restored(alloc, bytes) {
+            Ok(replica) => Ok(Reply::Answered(self.put(replica))),
+            Err(error) => no_checkpoint(error),
+        }
+    }
+
+    // The replica of a checkpoint, or of the start.
+    fn restored(&self, alloc: Global, bytes: &[u8]) -> Result<Replica, KeepError>
+        ensures part { IfOk result (λ r. r.part ≡ self.now.part) }
+        ensures anew { (j : Job) (p : ℕ) (h : Holding) → Holds j p h self.now → bytes.now ≡ [] →
+            GivesOrWants (Holds j p (start_holding j.plan p)) result }
+        ensures back { (j : Job) (p : ℕ) (h d : Holding) → Holds j p h self.now →
+            bytes.now ≢ [] → IsGivenBack j p bytes.now d →
+            GivesOrWants (Holds j p d) result }
+        ensures whole { bytes.now ≢ [] → OnOk result (IsOk (sealed_form self.now.part bytes.now)) }
+        ensures named { bytes.now ≢ [] → IfErr result (λ e. e ≢ KeepError.Memory →
+            IsNoCheckpoint self.now.part bytes.now e) }
+        ensures started { bytes.now ≡ [] → IfErr result (λ e. e ≡ KeepError.Memory) }
+    {
+        let part = Arc::try_clone(&self.part)?;
+        if bytes.is_empty() {
+            Ok(started(alloc, part)?)
+        } else {
+            read_back(alloc, part, bytes)
+        }
+    }
+
+    // Has that replica from now on.
+    fn put(&mut self, replica: Replica) -> Answer
+        requires { replica.part ≡ self.old.part }
+        ensures value { self.new ≡ replica }
+        ensures answer { result ≡ answer.Restarted replica.superstep }
+    {
+        self.replica = replica;
+        Answer::Restarted {
+            superstep: self.replica.superstep(),
+        }
+    }
+
+    /// Takes over what the checkpoint has that the bytes are. Where they are no checkpoint of the part the replica stays
+    /// as it was. The error is that memory was refused, and changes nothing.
+    pub fn recover(&mut self, alloc: Global, bytes: &[u8]) -> Result<Reply, AllocError>
+        ensures turned { (j : Job) (p : ℕ) (h c : Holding) → Holds j p h self.old →
+            IsGivenBack j p bytes.now c →
+            IfOk result (TurnsTo j p (answer.Merged (join_of h c).superstep) (join_of h c)
+            self.new) }
+        ensures part { self.new.part ≡ self.old.part }
+        // Which refusal it is where the bytes are no checkpoint of the part.
+        ensures named { IfOk result (SaysOfCheckpoint self.old.part bytes.now) }
+        ensures unread { (e : KeepError) → result ≡ Ok (reply.NoCheckpoint e) →
+            self.new ≡ self.old }
+        ensures refused { OnErr result (self.new ≡ self.old) }
+    {
+        let part = Arc::try_clone(&self.part)?;
+        match read_back(alloc, part, bytes) {
+            Ok(other) => self.take_over(alloc, other),
+            Err(error) => no_checkpoint(error),
+        }
+    }
+
+    // Takes over what another replica has.
+    fn take_over(&mut self, alloc: Global, other: Replica) -> Result<Reply, AllocError>
+        ensures turned { (j : Job) (p : ℕ) (h c : Holding) → Holds j p h self.old →
+            Holds j p c other →
+            IfOk result (TurnsTo j p (answer.Merged (join_of h c).superstep) (join_of h c)
+            self.new) }
+        ensures part { self.new.part ≡ self.old.part }
+        ensures kind { (e : KeepError) → result ≢ Ok (reply.NoCheckpoint e) }
+        ensures said { IfOk result IsAnswered }
+        ensures refused { OnErr result (self.new ≡ self.old) }
+    {
+        let copy = snapshot_of(alloc, other)?;
+        self.merge(alloc, &copy)
+    }
+
+    // Merges a snapshot.
+    fn merge(&mut self, alloc: Global, copy: &Snapshot) -> Result<Reply, AllocError>
+        ensures turned { (j : Job) (p : ℕ) (h c : Holding) → Holds j p h self.old →
+            Holds j p c copy.now →
+            IfOk result (TurnsTo j p (answer.Merged (join_of h c).superstep) (join_of h c)
+            self.new) }
+        ensures part { self.new.part ≡ self.old.part }
+        ensures kind { (e : KeepError) → result ≢ Ok (reply.NoCheckpoint e) }
+        ensures said { IfOk result IsAnswered }
+        ensures refused { OnErr result (self.new ≡ self.old) }
+    {
+        let merged = self.replica.merge(alloc, copy);
+        let superstep = self.replica.superstep();
+        answer_to_merge(merged, superstep)
+    }
+}
+
+// A snapshot of a replica, which is let go.
+fn snapshot_of(alloc: Global, mut replica: Replica) -> Result<Snapshot, AllocError>
+    ensures { IfOk result (λ s. s ≡ replica) }
+{
+    replica.snapshot(alloc)
+}
+
+// What is said of bytes that are no batch. The error is that memory was refused.
+fn no_batch(error: BatchError) -> Result<Reply, AllocError>
+    ensures some { IfOk result (λ r. r ≡ reply.NoBatch error) }
+    ensures other { IfOk result (λ _. error ≢ BatchError.Memory) }
+    ensures memory { error ≡ BatchError.Memory → IsErr result }
+{
+    match error {
+        BatchError::Memory => Err(AllocError),
+        _ => Ok(Reply::NoBatch(error)),
+    }
+}
+
+// What is said of bytes that are no checkpoint. The error is that memory was refused.
+fn no_checkpoint(error: KeepError) -> Result<Reply, AllocError>
+    ensures some { IfOk result (λ r. r ≡ reply.NoCheckpoint error) }
+    ensures other { IfOk result (λ _. error ≢ KeepError.Memory) }
+    ensures memory { error ≡ KeepError.Memory → IsErr result }
+{
+    match error {
+        KeepError::Memory => Err(AllocError),
+        _ => Ok(Reply::NoCheckpoint(error)),
+    }
+}
+
+// What a world answers where a replica that is at that superstep now said this of a merge. The error is that memory was
+// refused.
+fn answer_to_merge(merged: Result<(), MergeError>, superstep: u32) -> Result<Reply, AllocError>
+    ensures { SaysMerged merged superstep result }
+{
+    match merged {
+        Ok(()) => Ok(Reply::Answered(Answer::Merged { superstep })),
+        Err(MergeError::Memory) => Err(AllocError),
+        Err(error) => Ok(Reply::Answered(Answer::NotMerged(error))),
+    }
+}
+
+// A replica of the part at superstep 0. The error is that memory was refused.
+fn started(alloc: Global, part: Arc<Part>) -> Result<Replica, AllocError>
+    ensures part { IfOk result (λ r. r.part ≡ arc_value part) }
+    ensures start { IfOk result (λ r. (j : Job) (p : ℕ) → IsJob j → p < j.plan.parts →
+        arc_value part ≡ part_of j p → Has j (start_holding j.plan p) r) }
+{
+    let replica = Replica::new(alloc, part)?;
+    // the limits of a replica are told with its superstep
+    let _superstep = replica.superstep();
+    Ok(replica)
+}
+
+// The batch that bytes spell, to be shared.
+fn read_batch(alloc: Global, plan: &Plan, bytes: &[u8]) -> Result<Arc<Batch>, BatchError>
+    ensures given { (j : Job) (name : Name) → IsJob j → plan.now ≡ j.plan →
+        IsDelivered j bytes.now name → IfOk result (λ b. arc_value b ≡ true_batch j name) }
+    ensures memory { (j : Job) (name : Name) → IsJob j → plan.now ≡ j.plan →
+        IsDelivered j bytes.now name → IfErr result (λ e. e ≡ BatchError.Memory) }
+    ensures spells { OnOk result (IsOk (batch_at plan.now bytes.now)) }
+    ensures named { IfErr result (λ e. e ≢ BatchError.Memory →
+        batch_at plan.now bytes.now ≡ Err e) }
+{
+    match Batch::decode(alloc, plan, bytes) {
+        Ok(batch) => shared(alloc, batch),
+        Err(error) => Err(error),
+    }
+}
+
+// A batch, to be shared. The error is that memory was refused.
+fn shared(alloc: Global, batch: Batch) -> Result<Arc<Batch>, BatchError>
+    ensures given { IfOk result (λ b. arc_value b ≡ batch) }
+    ensures memory { IfErr result (λ e. e ≡ BatchError.Memory) }
+{
+    match Arc::new(alloc, batch) {
+        Ok(batch) => Ok(batch),
+        Err(_) => Err(BatchError::Memory),
+    }
+}
+
+/// The replica of a checkpoint in memory.
+pub fn read_back(alloc: Global, part: Arc<Part>, bytes: &[u8]) -> Result<Replica, KeepError>
+    ensures part { IfOk result (λ r. r.part ≡ arc_value part) }
+    ensures back { (j : Job) (p : ℕ) (h : Holding) → arc_value part ≡ part_of j p →
+        IsGivenBack j p bytes.now h → GivesOrWants (Holds j p h) result }
+    // Which refusal it is, and when it is none.
+    ensures whole { OnOk result (IsOk (sealed_form (arc_value part) bytes.now)) }
+    ensures named { IfErr result (λ e. e ≢ KeepError.Memory →
+        IsNoCheckpoint (arc_value part) bytes.now e) }
+{
+    let mut reader = MemReader::new(bytes, None);
+    read_checkpoint(alloc, part, &mut reader)
+}
+
+// What a world answers where a replica said this of a batch.
+fn answer_to_take(taken: Result<Taken, TakeError>) -> Answer
+    ensures { result ≡ taken_answer taken }
+{
+    match taken {
+        Ok(taken) => Answer::Took(taken),
+        Err(error) => Answer::NotTaken(error),
+    }
+}
+
+// What a world answers where a replica said this of a close.
+fn answer_to_close(closed: Result<u32, CloseError>) -> Answer
+    ensures { result ≡ closed_answer closed }
+{
+    match closed {
+        Ok(superstep) => Answer::Closed { superstep },
+        Err(error) => Answer::NotClosed(error),
+    }
+}
