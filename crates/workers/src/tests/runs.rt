@@ -61,7 +61,8 @@ pub fn options_of(alloc: Global, asked: &Asked) -> Option<RunOptions> {
         replicas: asked.replicas,
         entries: asked.entries,
         keep: asked.keep,
-        patience: 1000000,
+        // who waits out its patience for a partition that is lost ends in no test's time
+        patience: u32::MAX,
         lose,
         restart,
     })
