@@ -1,5 +1,5 @@
 -- Checkpoints of partitions, one after the other.
-use Rattle.std.proofs.Common.{◌≡◌, ◌≢◌, ◌∙◌, ◌⊎◌, inl, inr, ℕ, zero, suc, ◌+◌, ◌<◌, ◌≤◌, ◌==◌, ◌&&◌, Bool, true, false, if◌then◌else◌, List, [], ◌∷◌, ◌++◌, length, get_or, refl, ap, sym, subst, append_assoc, append-nil, length-append, arith}
+use Rattle.std.proofs.Common.{◌≡◌, ◌≢◌, ◌∙◌, inl, inr, ℕ, zero, suc, ◌+◌, ◌<◌, ◌≤◌, ◌==◌, ◌&&◌, Bool, true, false, if◌then◌else◌, List, [], ◌∷◌, ◌++◌, length, get_or, refl, ap, sym, subst, append_assoc, append-nil, length-append, arith}
 use Rattle.std.specs.Prelude.{Result, Err, Ok, IfErr, Option, None, Some, codes, decimal, nat_lt, ◌^◌}
 use Rattle.std.specs.Str.{bytes_eq}
 use Rattle.std.proofs.lemmas.Bool.{eqb-true}
@@ -7,7 +7,7 @@ use Rattle.std.proofs.lemmas.Slice.Eq.{bytes_eq-Decides}
 use Rattle.ball_model.specs.WorldText.{value_from}
 use Rattle.world.specs.Script.{cut_of, longer}
 use Rattle.std.specs.List.{All}
-use Rattle.std.specs.Io.KnownBytes.{Appends, Consumes, IsAtEnd, Keeps}
+use Rattle.std.specs.Io.KnownBytes.{Appends, Consumes, IsAtEnd}
 use Rattle.std.proofs.KnownBytes.{Consumes-nil, Consumes-trans}
 use Rattle.std.proofs.lemmas.List.Elements.{All-nil, All-cons}
 use Rattle.ball_model.specs.Job.{Job, IsJob, PartValue, part_of}
@@ -26,13 +26,11 @@ use Rattle.report.specs.Ready.{are_ready}
 use Rattle.node.specs.declared.error.GatherError.{GatherError}
 use Rattle.node.specs.declared.error.GatherError.TheVariants as fault
 use Rattle.node.specs.declared.error.JobError.{JobError}
-use Rattle.node.specs.NoReport.{AreUnready, BytesFollow, EndsWithin, GathersFront, HasNoReport, IsCutPart, IsMissing, IsNoReplica, IsNoReport, IsOther, IsTooLong, NoPartLine, StopsAfterJob, StopsAtPart, WritesFront, WritesFrontOfJob, part_length, told_kept}
+use Rattle.node.specs.NoReport.{AreUnready, BytesFollow, EndsWithin, IsMissing, IsNoReplica, IsNoReport, IsOther, IsTooLong, NoPartLine, StopsAtPart, WritesFront, WritesFrontOfJob, part_length, told_kept}
 use Rattle.node.specs.Job.{IsJobRead}
-use Rattle.node.specs.NoJob.{IsNoJob}
 use Rattle.node.specs.Refusals.{IsNoCheckpoint}
 use Rattle.node.specs.Stream.{CutsBody, HasNoEnd, most_line}
 use Rattle.node.specs.NodeText.{size_in}
-use Rattle.node.specs.Turns.{Holds}
 
 -- ---- one more
 parts_last : (bodies : List (List ℕ)) (body : List ℕ) → parts_text (bodies ++ body ∷ []) ≡ parts_text bodies ++ part_text body

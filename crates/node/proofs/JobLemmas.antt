@@ -1,15 +1,15 @@
 -- The job that was read.
 use Rattle.std.proofs.Common.{◌≡◌, ◌≢◌, ◌∙◌, ℕ, ◌+◌, ◌≤◌, ◌==◌, ◌||◌, Bool, true, false, nat_lt, if◌then◌else◌, List, [], ◌∷◌, ◌++◌, length, length-append, arith, refl, ap, sym, subst}
-use Rattle.std.specs.Prelude.{Option, None, Some, IfErr, IfSome, Result, Ok, Err}
+use Rattle.std.specs.Prelude.{Option, None, Some, IfSome, Result, Ok, Err}
 use Rattle.std.specs.Io.KnownBytes.{IsAtEnd, prepend_known}
 use Rattle.std.specs.Prelude.{IsErrAnd}
-use Rattle.std.proofs.Common.{◌⊎◌, inl, inr}
+use Rattle.std.proofs.Common.{inl, inr}
 use Rattle.node.specs.declared.error.NodeError.{NodeError}
 use Rattle.node.specs.declared.error.NodeError.TheVariants as nonode
 use Rattle.ball_model.specs.declared.plan.PlanError.{PlanError}
 use Rattle.ball_model.specs.declared.plan.PlanError.TheVariants as fault
 use Rattle.ball_model.specs.Input.{IsPlain, Network, Refusal}
-use Rattle.ball_model.specs.Counting.{CountedRefusal, counted_of}
+use Rattle.ball_model.specs.Counting.{counted_of}
 use Rattle.ball_model.specs.PlanValue.{PlanValue, greatest_limit, greatest_log2m, least_log2m, most_parts, most_vertices, plan_of}
 use Rattle.ball_model.specs.RunText.{Numbers, Settings, network_in, plan_over}
 use Rattle.edgelist.specs.Counting.{RefusesList}
@@ -24,8 +24,8 @@ use Rattle.edgelist.specs.declared.read.EdgeLimits.{EdgeLimits}
 use Rattle.node.specs.declared.error.JobError.{JobError}
 use Rattle.node.specs.declared.error.JobError.TheVariants as nojob
 use Rattle.node.specs.Job.{CountsSome, GivesSection, IsJobRead, IsPlanned, SaysNetwork}
-use Rattle.node.specs.NoJob.{HasNoCount, HasNoNode, HasNoPlan, IsNoJob, IsNoNetwork, IsNoStart, IsRefused, IsUncounted, IsUnlisted}
-use Rattle.node.specs.Section.{EndsAtMark, Gives, HasNoMark, Passed, ReadsSection, before_mark}
+use Rattle.node.specs.NoJob.{HasNoNode, IsNoJob, IsNoNetwork, IsNoStart, IsRefused, IsUncounted, IsUnlisted}
+use Rattle.node.specs.Section.{EndsAtMark, Gives, HasNoMark, Passed, ReadsSection}
 use Rattle.node.proofs.SectionLemmas.{GoesOn, passed_end, passed_more, passed_next, passed_over, passed_start, section_before}
 
 -- ---- the edge list

@@ -1,16 +1,14 @@
 -- The lines of one partition's vertices, one after the other.
-use Rattle.std.proofs.Common.{◌≡◌, ◌∙◌, ℕ, ◌+◌, List, ◌++◌, map, refl}
+use Rattle.std.proofs.Common.{◌≡◌, ℕ, ◌+◌, List, refl}
 use Rattle.std.specs.Prelude.{Option}
-use Rattle.std.specs.List.{flat_map, range_with_len}
 use Rattle.std.specs.Io.KnownBytes.{Appends}
-use Rattle.ball_model.specs.Figures.{TallyValue, empty_of}
+use Rattle.ball_model.specs.Figures.{empty_of}
 use Rattle.ball_model.specs.Counter.{ball_counter}
 use Rattle.ball_model.specs.Job.{Job}
 use Rattle.ball_model.specs.PlanValue.{mixing_of}
 use Rattle.ball_model.specs.Report.{vertex_line}
 use Rattle.ball_model.specs.Supersteps.{estimate_at, tally_at}
 use Rattle.report.specs.Parts.{figures_line}
-use Rattle.world.specs.Tell.{Told}
 use Rattle.world.proofs.TellLemmas.{first-texts, told-next}
 use Rattle.node.specs.Own.{true_figures}
 

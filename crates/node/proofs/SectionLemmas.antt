@@ -1,11 +1,11 @@
 -- What is read ahead of a section, and what a step through it does.
-use Rattle.std.proofs.Common.{◌≡◌, ◌≢◌, ◌∙◌, ℕ, ◌==◌, ◌+◌, ◌<◌, Bool, true, false, not, ◌&&◌, if◌then◌else◌, List, [], ◌∷◌, ◌++◌, length, refl, ap, sym, subst, append-nil, append_assoc, length-append, arith}
-use Rattle.std.specs.Prelude.{Option, None, Some, IfSome, IsSome, option_map, remove, slice_index_or}
+use Rattle.std.proofs.Common.{◌≡◌, ◌∙◌, ℕ, ◌==◌, ◌+◌, ◌<◌, Bool, true, false, not, ◌&&◌, if◌then◌else◌, List, [], ◌∷◌, ◌++◌, length, refl, ap, sym, subst, append-nil, append_assoc, length-append, arith}
+use Rattle.std.specs.Prelude.{Option, None, Some, IfSome, option_map, remove, slice_index_or}
 use Rattle.std.specs.Io.KnownBytes.{Consumes, IsAtEnd, Keeps, prepend_known}
 use Rattle.std.proofs.KnownBytes.{prepend_known-end}
 use Rattle.std.proofs.lemmas.Bool.{eqb-true}
 use Rattle.ball_model.specs.Sections.{after_line, after_mark, longer, sections_from, sections_of, sections_or}
-use Rattle.node.specs.Section.{EndsAtMark, EndsOf, Gives, GivesOf, HasNoMark, IsAhead, IsPast, Passed, PassedOf, ReadsSection, SectionOf, before_mark, first_or, is_front, is_tail, prefixed}
+use Rattle.node.specs.Section.{EndsAtMark, EndsOf, Gives, GivesOf, HasNoMark, IsAhead, IsPast, Passed, ReadsSection, before_mark, first_or, is_front, is_tail, prefixed}
 
 -- ---- two tests
 both_left : (a b : Bool) → (a && b) ≡ true → a ≡ true

@@ -1,8 +1,7 @@
 -- Requests, one after the other.
-use Rattle.std.proofs.Common.{◌≡◌, ◌≢◌, ◌∙◌, ◌⊎◌, inl, inr, ℕ, ◌+◌, ◌<◌, ◌≤◌, Bool, List, [], ◌∷◌, ◌++◌, length, refl, ap, sym, subst, append_assoc, append-nil, length-append, arith}
+use Rattle.std.proofs.Common.{◌≡◌, ◌≢◌, ◌∙◌, ◌⊎◌, inl, inr, ℕ, ◌+◌, ◌^◌, ◌<◌, ◌≤◌, Bool, List, [], ◌∷◌, ◌++◌, length, refl, ap, sym, subst, append_assoc, append-nil, length-append}
 use Rattle.std.specs.Prelude.{Option, None, Some, Result, Err, IfSome}
-use Rattle.std.specs.List.{All, flat_map}
-use Rattle.std.specs.Io.KnownBytes.{Appends, Consumes, IsAtEnd, Keeps}
+use Rattle.std.specs.Io.KnownBytes.{Consumes, IsAtEnd, Keeps}
 use Rattle.std.proofs.KnownBytes.{Appends-kept, Appends-nil, Appends-trans, Consumes-nil, Consumes-trans, Keeps-refl}
 use Rattle.std.proofs.lemmas.List.Elements.{All-nil, All-push}
 use Rattle.ball_model.specs.Input.{Network, fields}
@@ -20,7 +19,7 @@ use Rattle.node.specs.declared.error.ServeError.TheVariants as fault
 use Rattle.node.specs.declared.error.NodeError.{NodeError}
 use Rattle.node.specs.declared.error.NodeError.TheVariants as node_fault
 use Rattle.node.specs.Stream.{CutsBody, HasNoEnd, most_line}
-use Rattle.node.specs.Serving.{AppendsAnswers, CutShort, IsCutBody, IsNoRequest, IsOfMachine, NoCommand, ReadsRequest, Runs, Serves, ServesNode, ServesNone, ServesOne, ServesSome, Steps, Stops, StopsNode, TooLong, told_tell}
+use Rattle.node.specs.Serving.{AppendsAnswers, CutShort, IsNoRequest, IsOfMachine, NoCommand, ReadsRequest, Runs, Serves, ServesNode, ServesNone, ServesOne, ServesSome, Steps, Stops, StopsNode, TooLong, told_tell}
 use Rattle.node.specs.Turns.{Holds, most_body}
 use Rattle.node.proofs.SessionLemmas.{part_held}
 use Rattle.world.specs.declared.tell.TellError.{TellError}
@@ -151,6 +150,11 @@ stops_at network part e n m a b c v w u x y z next s same_part at kept same = re
   at = subst (λ (k : ℕ). IsNoRequest part k e b c) next (subst (λ (q : PartValue). IsNoRequest q m e b c) same_part at);
 }
 
+-- numbers are at their end
+pub stops_counting : (network : Network) (part : PartValue) (n : ℕ) (a b : Option (List ℕ)) (v w : State) (x y : Option (List ℕ)) → 2 ^ 64 ≤ n + 1 →
+    ServesSome network n a b v w x y → Stops network part fault.TooMany a b v w x y
+stops_counting network part n a b v w x y most s = record { number = n; mid = b; some = s; at = (most, refl) }
+
 -- ---- a request
 pub at_some : {A : Type 0} (o : Option A) (x : A) (P : A → Type 0) → o ≡ Some x → IfSome o P → P x
 at_some {A} o x P is h = subst (λ (q : Option A). IfSome q P) is h
@@ -190,7 +194,7 @@ pub machine_stops : (part : PartValue) (n : ℕ) (e : ServeError) (a b : Option 
 machine_stops part n (fault.Command k) a b is = absurd is
 machine_stops part n (fault.Length k) a b is = absurd is
 machine_stops part n (fault.Cut k) a b is = absurd is
-machine_stops part n fault.TooMany a b is = tt
+machine_stops part n fault.TooMany a b is = absurd is
 machine_stops part n fault.Memory a b is = tt
 machine_stops part n fault.Read a b is = tt
 machine_stops part n fault.Write a b is = tt

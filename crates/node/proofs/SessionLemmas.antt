@@ -3,7 +3,7 @@ use Rattle.std.proofs.Common.{◌≡◌, ◌≢◌, ◌∙◌, ℕ, ◌<◌, ◌
 use Rattle.std.proofs.lemmas.Bool.{eq-eqb, eqb-true}
 use Rattle.ball_model.specs.Content.{same_plan}
 use Rattle.replica.proofs.RunLemmas.{same_plan-self}
-use Rattle.std.specs.Prelude.{Option, None, Result, Ok, Err, IfOk, IfErr, IsErr, IsOk, OnErr}
+use Rattle.std.specs.Prelude.{None, Result, Ok, Err, IfOk, IfErr, IsErr, IsOk, OnErr}
 use Rattle.ball_model.specs.declared.names.BatchName.{BatchName}
 use Rattle.ball_model.specs.declared.names.Taken.{Taken}
 use Rattle.ball_model.specs.declared.names.TakeError.{TakeError}
@@ -31,8 +31,8 @@ use Rattle.replica.specs.Runs.{Takes, Closes}
 use Rattle.replica.specs.Saved.{IsKeepable}
 use Rattle.replica.specs.Seen.{IsState}
 use Rattle.replica.proofs.LevelLemmas.{plan_is}
-use Rattle.world.specs.Shows.{Has, IsKept, ShowsNode}
-use Rattle.world.specs.Turns.{Turns, closed_turn, merged_turn, merged_when, taken_turn}
+use Rattle.world.specs.Shows.{Has, ShowsNode}
+use Rattle.world.specs.Turns.{merged_when}
 use Rattle.world.proofs.KeepLemmas.{keepable}
 use Rattle.ball_model.specs.State.{StandsFor, content_of}
 use Rattle.world.proofs.NodeLemmas.{MergesWith, close_turns, node, recover_turns, start_shows, take_turns, unmerged_turns}

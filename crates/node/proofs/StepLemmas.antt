@@ -1,6 +1,6 @@
 -- What a command asks for, and its answer.
 use Rattle.std.proofs.Common.{◌≡◌, ◌≢◌, ◌∙◌, ℕ, ◌+◌, ◌<◌, ◌≤◌, ◌==◌, ◌&&◌, ◌⊎◌, inl, inr, nat_lt, Bool, true, false, not, if◌then◌else◌, List, [], ◌∷◌, ◌++◌, length, slice_index, refl, ap, sym, subst, arith}
-use Rattle.std.specs.Prelude.{Option, None, Some, Result, Ok, Err, unwrap_or, codes, decimal}
+use Rattle.std.specs.Prelude.{Option, None, Some, Result, Ok, Err, codes, decimal}
 use Rattle.std.specs.Io.KnownBytes.{Appends}
 use Rattle.std.proofs.KnownBytes.{Appends-trans}
 use Rattle.std.proofs.lemmas.Bool.{eq-eqb, le-ltb, lt-ltb, ne_eqb}
@@ -31,8 +31,7 @@ use Rattle.ball_model.specs.WorldText.{number_line, refusal_line, show_text, wor
 use Rattle.node.specs.declared.command.Command.{Command}
 use Rattle.node.specs.declared.command.Command.TheVariants as command
 use Rattle.node.specs.declared.session.Reply.{Reply}
-use Rattle.node.specs.declared.session.Reply.TheVariants as reply
-use Rattle.node.specs.NodeText.{Answers, Asked, Asks, IsDelivered, IsGivenBack, IsStart, Send, Deliver, Closing, Keep, Restart, Recover, Show, Totals, Figures, after_asked, alone, closed_line, figures_text, send_text, sent_text, took_line, totals_text}
+use Rattle.node.specs.NodeText.{Answers, Asked, Asks, IsDelivered, IsGivenBack, Send, Deliver, Closing, Keep, Restart, Recover, Show, Totals, Figures, after_asked, alone, closed_line, figures_text, send_text, sent_text, took_line, totals_text}
 use Rattle.node.specs.Serving.{AppendsAnswer, Steps}
 use Rattle.node.specs.Turns.{Holds, TurnsTo, reply_text, said_text}
 

@@ -7,7 +7,6 @@ use Rattle.ball_model.specs.RunText.{Settings, network_in, plan_over}
 use Rattle.ball_model.specs.declared.plan.PlanError.{PlanError}
 use Rattle.edgelist.specs.Counting.{RefusesList}
 use Rattle.edgelist.specs.Reading.{Refuses}
-use Rattle.edgelist.specs.declared.counting.CountedError.{CountedError}
 use Rattle.edgelist.specs.declared.read.EdgeError.{EdgeError}
 use Rattle.edgelist.specs.declared.read.EdgeError.TheVariants as unread
 use Rattle.node.specs.declared.error.JobError.{JobError}

@@ -21,7 +21,7 @@ use Rattle.node.specs.Job.{IsJobRead}
 use Rattle.node.specs.NoJob.{IsNoJob}
 use Rattle.node.specs.NodeText.{size_in}
 use Rattle.node.specs.Refusals.{IsNoCheckpoint}
-use Rattle.node.specs.Stream.{CutsBody, HasNoEnd, most_line}
+use Rattle.node.specs.Stream.{HasNoEnd, most_line}
 
 -- ---- the line before a checkpoint
 abbrev pub length_behind : Option (List ℕ × List ℕ) → Option ℕ

@@ -1,5 +1,5 @@
 -- A node alone, driven by a text: commands as lines and bytes, and what they are answered, over one node of a world.
-use Rattle.std.specs.Prelude.{◌≡◌, ◌≢◌, ⊤, ◌⊎◌, ℕ, ◌+◌, ◌^◌, ◌<◌, ◌&&◌, nat_lt, not, ◌==◌, List, [], ◌∷◌, ◌++◌, map, length, Option, None, Some, option_map, unwrap_or, Result, Ok, Err, if◌then◌else◌, codes, decimal}
+use Rattle.std.specs.Prelude.{◌≡◌, ◌≢◌, ⊤, ℕ, ◌+◌, ◌^◌, ◌&&◌, nat_lt, not, ◌==◌, List, [], ◌∷◌, ◌++◌, length, Option, None, Some, option_map, unwrap_or, Result, Ok, Err, if◌then◌else◌, codes, decimal}
 use Rattle.std.specs.List.{All, flat_map, range_with_len}
 use Rattle.std.specs.Str.{bytes_eq}
 use Rattle.ball_model.specs.declared.names.BatchName.{BatchName}

@@ -1,5 +1,5 @@
 -- What becomes of commands, one after the other.
-use Rattle.std.specs.Prelude.{◌≡◌, ◌≢◌, ⊤, ◌⊎◌, ℕ, ◌+◌, ◌<◌, ◌≤◌, Bool, List, [], ◌∷◌, ◌++◌, length, Option, None, Some}
+use Rattle.std.specs.Prelude.{◌≡◌, ◌≢◌, ⊤, ◌⊎◌, ℕ, ◌+◌, ◌^◌, ◌<◌, ◌≤◌, Bool, List, [], ◌∷◌, ◌++◌, length, Option, None, Some}
 use Rattle.std.specs.List.{All}
 use Rattle.std.specs.Io.KnownBytes.{Appends, Consumes, IsAtEnd, Keeps}
 use Rattle.ball_model.specs.Input.{Network, fields}
@@ -103,22 +103,22 @@ pub record CutShort (left left' : Option (List ℕ)) : Type 0 where
   pub consumed : Consumes left left' front
   pub end : IsAtEnd left'
 
--- the request of that number cannot be read for what it says; of other faults nothing is said
+-- the request of that number cannot be read for what it says, or numbers end before it; of other faults nothing is said
 abbrev pub IsNoRequest : PartValue → ℕ → ServeError → Option (List ℕ) → Option (List ℕ) → Type 0
 IsNoRequest part n (fault.Command k) left left' = (k ≡ n) × NoCommand left left'
 IsNoRequest part n (fault.Length k) left left' = (k ≡ n) × TooLong part left left'
 IsNoRequest part n (fault.Cut k) left left' = (k ≡ n) × CutShort left left'
-IsNoRequest part n fault.TooMany left left' = ⊤
+IsNoRequest part n fault.TooMany left left' = (2 ^ 64 ≤ n) × (left' ≡ left)
 IsNoRequest part n fault.Memory left left' = ⊤
 IsNoRequest part n fault.Read left left' = ⊤
 IsNoRequest part n fault.Write left left' = ⊤
 
--- the fault is none of what a request says
+-- the fault is want of memory or a failed call
 abbrev pub IsOfMachine : ServeError → Type 0
 IsOfMachine (fault.Command k) = ⊥
 IsOfMachine (fault.Length k) = ⊥
 IsOfMachine (fault.Cut k) = ⊥
-IsOfMachine fault.TooMany = ⊤
+IsOfMachine fault.TooMany = ⊥
 IsOfMachine fault.Memory = ⊤
 IsOfMachine fault.Read = ⊤
 IsOfMachine fault.Write = ⊤

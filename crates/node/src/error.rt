@@ -111,16 +111,6 @@ pub enum ServeError {
     Write,
 }
 
-impl From<AllocError> for ServeError {
-    ghost use Rattle.node.specs.declared.error.ServeError.TheVariants.{Memory};
-
-    ghost from_gives = { λ _ e. e ≡ Memory };
-
-    fn from(_fault: AllocError) -> ServeError {
-        ServeError::Memory
-    }
-}
-
 impl From<TellError> for ServeError {
     ghost use Rattle.node.specs.Serving.{told_tell};
 

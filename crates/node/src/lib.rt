@@ -29,5 +29,6 @@ pub mod own;
 pub mod section;
 pub mod serve;
 pub mod session;
+pub mod show;
 #[cfg(test)]
 mod tests;

@@ -1,6 +1,6 @@
 //! The lines of one partition's vertices, as a report has them.
 
-ghost use Rattle.std.specs.Prelude.{◌≡◌, ℕ, ◌<◌, ◌≤◌, ◌%◌, IfOk, OnOk, length};
+ghost use Rattle.std.specs.Prelude.{◌≡◌, ◌≢◌, ℕ, ◌<◌, ◌≤◌, ◌%◌, Err, IfOk, OnOk, length};
 ghost use Rattle.std.specs.Io.KnownBytes.{Appends};
 ghost use Rattle.ball_model.specs.Figures.{empty_of};
 ghost use Rattle.ball_model.specs.Held.{HasHolding};
@@ -8,6 +8,7 @@ ghost use Rattle.ball_model.specs.Job.{Job};
 ghost use Rattle.ball_model.specs.Join.{Holding};
 ghost use Rattle.ball_model.specs.PlanValue.{mixing_of};
 ghost use Rattle.ball_model.specs.Report.{vertex_text};
+ghost use Rattle.ball_model.specs.Streams.{Rises};
 ghost use Rattle.node.specs.NodeText.{figures_text};
 ghost use Rattle.node.specs.Own.{true_figures};
 
@@ -68,9 +69,13 @@ fn tell_vertex<W: CountedWrite>(
     requires vertex { x < replica.now.part.plan.vertices }
     requires own { x % replica.now.part.plan.parts ≡ replica.now.part.number }
     requires graph { replica.now.part.plan.vertices ≡ graph.now.graph.vertices }
-    ensures { (j : Job) (h : Holding) → HasHolding j h replica.now → OnOk result (Appends
+    ensures done { (j : Job) (h : Holding) → HasHolding j h replica.now → OnOk result (Appends
         (W.contents writer.old) (W.contents writer.new)
         (vertex_text (mixing_of j.plan) j.graph graph.now.labels h.superstep x)) }
+    ensures write { result ≡ Err TellError.Write →
+        Rises (W.failed_calls writer.old) (W.failed_calls writer.new) }
+    ensures written { result ≢ Err TellError.Write →
+        W.failed_calls writer.new ≡ W.failed_calls writer.old }
 {
     let text = line_of(alloc, graph, replica, x)?;
     write_lines(writer, &text)
@@ -84,8 +89,13 @@ pub fn tell_own<W: CountedWrite>(
     writer: &mut W,
 ) -> Result<(), TellError>
     requires { replica.now.part.plan.vertices ≡ graph.now.graph.vertices }
-    ensures { (j : Job) (h : Holding) → HasHolding j h replica.now → OnOk result (Appends
+    ensures done { (j : Job) (h : Holding) → HasHolding j h replica.now → OnOk result (Appends
         (W.contents writer.old) (W.contents writer.new) (figures_text j graph.now.labels h)) }
+    // A call failed exactly where that is told.
+    ensures write { result ≡ Err TellError.Write →
+        Rises (W.failed_calls writer.old) (W.failed_calls writer.new) }
+    ensures written { result ≢ Err TellError.Write →
+        W.failed_calls writer.new ≡ W.failed_calls writer.old }
 {
     // the limits of a replica are told with its superstep
     let _superstep = replica.superstep();

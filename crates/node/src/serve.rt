@@ -1,6 +1,6 @@
 //! Commands, one after the other, and their answers.
 
-ghost use Rattle.std.specs.Prelude.{◌≡◌, ℕ, ◌<◌, ◌≤◌, List, ◌++◌, ◌∷◌, [], true, false, length};
+ghost use Rattle.std.specs.Prelude.{◌≡◌, ◌≢◌, ℕ, ◌<◌, ◌≤◌, List, ◌++◌, ◌∷◌, [], true, false, length};
 ghost use Rattle.std.specs.Prelude.{◌⊎◌, Err, IfErr, IfNone, IfOk, IfSome, Ok, OnOk, Some};
 ghost use Rattle.std.specs.Io.KnownBytes.{Appends, Consumes, IsAtEnd, Keeps};
 ghost use Rattle.ball_model.specs.Input.{Network, fields};
@@ -27,8 +27,9 @@ use crate::job::{JobOptions, part_of, read_job};
 use crate::limits::is_within;
 use crate::own::tell_own;
 use crate::session::{Reply, Session};
+use crate::show::tell_shown;
 use ball_model::world::WorldError;
-use ball_model::{CountedRead, CountedWrite, NodeId, Plan, put_all};
+use ball_model::{CountedRead, CountedWrite, NodeId, Plan};
 use batches::Batch;
 use checkpoint::{checkpoint_length, write_checkpoint};
 use edgelist::{Graph, Part};
@@ -37,13 +38,16 @@ use report::totals_text;
 use std::alloc::Global;
 use std::hash::RandomState;
 use world::answer::put_refusal;
-use world::tell::{tell_replica, write_lines};
+use world::tell::{TellError, write_lines};
 
 // Writes the line of what a node says.
-fn tell<W: CountedWrite>(reply: Reply, line: &mut Vec<u8>, writer: &mut W) -> Result<(), ServeError>
+fn tell<W: CountedWrite>(reply: Reply, line: &mut Vec<u8>, writer: &mut W) -> Result<(), TellError>
     ensures done { OnOk result (Appends (W.contents writer.old) (W.contents writer.new)
         (reply_text reply)) }
-    ensures kind { IfErr result IsOfMachine }
+    ensures write { result ≡ Err TellError.Write →
+        Rises (W.failed_calls writer.old) (W.failed_calls writer.new) }
+    ensures written { result ≢ Err TellError.Write →
+        W.failed_calls writer.new ≡ W.failed_calls writer.old }
 {
     line.clear();
     put_reply(line, reply)?;
@@ -57,10 +61,13 @@ fn tell_batch<W: CountedWrite>(
     batch: &Batch,
     line: &mut Vec<u8>,
     writer: &mut W,
-) -> Result<(), ServeError>
+) -> Result<(), TellError>
     ensures done { OnOk result (Appends (W.contents writer.old) (W.contents writer.new)
         (sent_text batch.now)) }
-    ensures kind { IfErr result IsOfMachine }
+    ensures write { result ≡ Err TellError.Write →
+        Rises (W.failed_calls writer.old) (W.failed_calls writer.new) }
+    ensures written { result ≢ Err TellError.Write →
+        W.failed_calls writer.new ≡ W.failed_calls writer.old }
 {
     line.clear();
     put_sent(line, batch)?;
@@ -71,10 +78,13 @@ fn tell_batch<W: CountedWrite>(
 }
 
 // Writes that there is no such partition to be told anything.
-fn tell_no_target<W: CountedWrite>(line: &mut Vec<u8>, writer: &mut W) -> Result<(), ServeError>
+fn tell_no_target<W: CountedWrite>(line: &mut Vec<u8>, writer: &mut W) -> Result<(), TellError>
     ensures done { OnOk result (Appends (W.contents writer.old) (W.contents writer.new)
         (refusal_line WorldError.NoTarget)) }
-    ensures kind { IfErr result IsOfMachine }
+    ensures write { result ≡ Err TellError.Write →
+        Rises (W.failed_calls writer.old) (W.failed_calls writer.new) }
+    ensures written { result ≢ Err TellError.Write →
+        W.failed_calls writer.new ≡ W.failed_calls writer.old }
 {
     line.clear();
     put_refusal(line, WorldError::NoTarget)?;
@@ -89,11 +99,14 @@ fn answer_send<W: CountedWrite>(
     target: u16,
     line: &mut Vec<u8>,
     writer: &mut W,
-) -> Result<(), ServeError>
+) -> Result<(), TellError>
     ensures done { (network : Network) (body : List ℕ) → OnOk result (Steps network
         (order.Send target) body replica.now replica.now
         (W.contents writer.old) (W.contents writer.new)) }
-    ensures kind { IfErr result IsOfMachine }
+    ensures write { result ≡ Err TellError.Write →
+        Rises (W.failed_calls writer.old) (W.failed_calls writer.new) }
+    ensures written { result ≢ Err TellError.Write →
+        W.failed_calls writer.new ≡ W.failed_calls writer.old }
 {
     if replica.plan().parts() <= target {
         return tell_no_target(line, writer);
@@ -112,12 +125,15 @@ fn answer_deliver<W: CountedWrite>(
     body: &[u8],
     line: &mut Vec<u8>,
     writer: &mut W,
-) -> Result<(), ServeError>
+) -> Result<(), TellError>
     ensures step { (network : Network) (n : ℕ) → OnOk result (Steps network
         (order.Deliver n) body.now session.old session.new
         (W.contents writer.old) (W.contents writer.new)) }
     ensures part { session.new.part ≡ session.old.part }
-    ensures kind { IfErr result IsOfMachine }
+    ensures write { result ≡ Err TellError.Write →
+        Rises (W.failed_calls writer.old) (W.failed_calls writer.new) }
+    ensures written { result ≢ Err TellError.Write →
+        W.failed_calls writer.new ≡ W.failed_calls writer.old }
 {
     let reply = session.deliver(alloc, body)?;
     tell(reply, line, writer)
@@ -128,12 +144,15 @@ fn answer_close<W: CountedWrite>(
     session: &mut Session,
     line: &mut Vec<u8>,
     writer: &mut W,
-) -> Result<(), ServeError>
+) -> Result<(), TellError>
     ensures step { (network : Network) (body : List ℕ) → OnOk result (Steps network
         order.Close body session.old session.new
         (W.contents writer.old) (W.contents writer.new)) }
     ensures part { session.new.part ≡ session.old.part }
-    ensures kind { IfErr result IsOfMachine }
+    ensures write { result ≡ Err TellError.Write →
+        Rises (W.failed_calls writer.old) (W.failed_calls writer.new) }
+    ensures written { result ≢ Err TellError.Write →
+        W.failed_calls writer.new ≡ W.failed_calls writer.old }
 {
     let answer = session.close();
     tell(Reply::Answered(answer), line, writer)
@@ -144,11 +163,14 @@ fn answer_keep<W: CountedWrite>(
     replica: &Replica,
     line: &mut Vec<u8>,
     writer: &mut W,
-) -> Result<(), ServeError>
+) -> Result<(), TellError>
     ensures done { (network : Network) (body : List ℕ) → OnOk result (Steps network
         order.Keep body replica.now replica.now
         (W.contents writer.old) (W.contents writer.new)) }
-    ensures kind { IfErr result IsOfMachine }
+    ensures write { result ≡ Err TellError.Write →
+        Rises (W.failed_calls writer.old) (W.failed_calls writer.new) }
+    ensures written { result ≢ Err TellError.Write →
+        W.failed_calls writer.new ≡ W.failed_calls writer.old }
 {
     // the limits of a replica are told with its superstep, those of its figures with these
     let superstep = replica.superstep();
@@ -158,7 +180,7 @@ fn answer_keep<W: CountedWrite>(
     write_lines(writer, line)?;
     match write_checkpoint(replica, writer) {
         Ok(()) => Ok(()),
-        Err(_) => Err(ServeError::Write),
+        Err(_) => Err(TellError::Write),
     }
 }
 
@@ -169,12 +191,15 @@ fn answer_restart<W: CountedWrite>(
     body: &[u8],
     line: &mut Vec<u8>,
     writer: &mut W,
-) -> Result<(), ServeError>
+) -> Result<(), TellError>
     ensures step { (network : Network) (n : ℕ) → OnOk result (Steps network
         (order.Restart n) body.now session.old session.new
         (W.contents writer.old) (W.contents writer.new)) }
     ensures part { session.new.part ≡ session.old.part }
-    ensures kind { IfErr result IsOfMachine }
+    ensures write { result ≡ Err TellError.Write →
+        Rises (W.failed_calls writer.old) (W.failed_calls writer.new) }
+    ensures written { result ≢ Err TellError.Write →
+        W.failed_calls writer.new ≡ W.failed_calls writer.old }
 {
     let reply = session.restart(alloc, body)?;
     tell(reply, line, writer)
@@ -187,12 +212,15 @@ fn answer_recover<W: CountedWrite>(
     body: &[u8],
     line: &mut Vec<u8>,
     writer: &mut W,
-) -> Result<(), ServeError>
+) -> Result<(), TellError>
     ensures step { (network : Network) (n : ℕ) → OnOk result (Steps network
         (order.Recover n) body.now session.old session.new
         (W.contents writer.old) (W.contents writer.new)) }
     ensures part { session.new.part ≡ session.old.part }
-    ensures kind { IfErr result IsOfMachine }
+    ensures write { result ≡ Err TellError.Write →
+        Rises (W.failed_calls writer.old) (W.failed_calls writer.new) }
+    ensures written { result ≢ Err TellError.Write →
+        W.failed_calls writer.new ≡ W.failed_calls writer.old }
 {
     let reply = session.recover(alloc, body)?;
     tell(reply, line, writer)
@@ -203,14 +231,17 @@ fn answer_show<W: CountedWrite>(
     replica: &Replica,
     line: &mut Vec<u8>,
     writer: &mut W,
-) -> Result<(), ServeError>
+) -> Result<(), TellError>
     ensures done { (network : Network) (body : List ℕ) → OnOk result (Steps network
         order.Show body replica.now replica.now
         (W.contents writer.old) (W.contents writer.new)) }
-    ensures kind { IfErr result IsOfMachine }
+    ensures write { result ≡ Err TellError.Write →
+        Rises (W.failed_calls writer.old) (W.failed_calls writer.new) }
+    ensures written { result ≢ Err TellError.Write →
+        W.failed_calls writer.new ≡ W.failed_calls writer.old }
 {
     let part = replica.partition();
-    tell_replica(NodeId { part, replica: 0 }, replica, line, writer)?;
+    tell_shown(NodeId { part, replica: 0 }, replica, line, writer)?;
     Ok(())
 }
 
@@ -219,11 +250,14 @@ fn answer_totals<W: CountedWrite>(
     alloc: Global,
     replica: &Replica,
     writer: &mut W,
-) -> Result<(), ServeError>
+) -> Result<(), TellError>
     ensures done { (network : Network) (body : List ℕ) → OnOk result (Steps network
         order.Totals body replica.now replica.now
         (W.contents writer.old) (W.contents writer.new)) }
-    ensures kind { IfErr result IsOfMachine }
+    ensures write { result ≡ Err TellError.Write →
+        Rises (W.failed_calls writer.old) (W.failed_calls writer.new) }
+    ensures written { result ≢ Err TellError.Write →
+        W.failed_calls writer.new ≡ W.failed_calls writer.old }
 {
     let text = totals_text(alloc, replica.sums())?;
     write_lines(writer, &text)?;
@@ -236,12 +270,15 @@ fn answer_figures<W: CountedWrite>(
     graph: &Graph,
     replica: &Replica,
     writer: &mut W,
-) -> Result<(), ServeError>
+) -> Result<(), TellError>
     requires { replica.now.part.plan.vertices ≡ graph.now.graph.vertices }
     ensures done { (body : List ℕ) → OnOk result (Steps graph.now
         order.Figures body replica.now replica.now
         (W.contents writer.old) (W.contents writer.new)) }
-    ensures kind { IfErr result IsOfMachine }
+    ensures write { result ≡ Err TellError.Write →
+        Rises (W.failed_calls writer.old) (W.failed_calls writer.new) }
+    ensures written { result ≢ Err TellError.Write →
+        W.failed_calls writer.new ≡ W.failed_calls writer.old }
 {
     tell_own(alloc, graph, replica, writer)?;
     Ok(())
@@ -256,12 +293,15 @@ fn answer<W: CountedWrite>(
     body: &[u8],
     line: &mut Vec<u8>,
     writer: &mut W,
-) -> Result<(), ServeError>
+) -> Result<(), TellError>
     requires { session.old.part.plan.vertices ≡ graph.now.graph.vertices }
     ensures step { OnOk result (Steps graph.now command body.now session.old session.new
         (W.contents writer.old) (W.contents writer.new)) }
     ensures part { session.new.part ≡ session.old.part }
-    ensures kind { IfErr result IsOfMachine }
+    ensures write { result ≡ Err TellError.Write →
+        Rises (W.failed_calls writer.old) (W.failed_calls writer.new) }
+    ensures written { result ≢ Err TellError.Write →
+        W.failed_calls writer.new ≡ W.failed_calls writer.old }
 {
     match command {
         Command::Send { target } => answer_send(alloc, session.replica(), target, line, writer),
@@ -295,6 +335,9 @@ fn read_command<R: CountedRead>(
         (Consumes (R.remaining reader.old) (R.remaining reader.new) [])) }
     ensures read { result ≡ Err ServeError.Read →
         Rises (R.failed_calls reader.old) (R.failed_calls reader.new) }
+    ensures counted { result ≢ Err ServeError.Read →
+        R.failed_calls reader.new ≡ R.failed_calls reader.old }
+    ensures unwritten { result ≢ Err ServeError.Write }
     ensures stopped { IfErr result (λ e. IsNoRequest part.now number e
         (R.remaining reader.old) (R.remaining reader.new)) }
 {
@@ -328,6 +371,9 @@ fn read_rest<R: CountedRead>(
     ensures length { OnOk result (length body.new.items ≡ body_length command) }
     ensures read { result ≡ Err ServeError.Read →
         Rises (R.failed_calls reader.old) (R.failed_calls reader.new) }
+    ensures counted { result ≢ Err ServeError.Read →
+        R.failed_calls reader.new ≡ R.failed_calls reader.old }
+    ensures unwritten { result ≢ Err ServeError.Write }
     ensures cut { result ≡ Err (ServeError.Cut number) → CutsBody (body_length command)
         (R.remaining reader.old) (R.remaining reader.new) }
     ensures kind { IfErr result (λ e. (e ≡ ServeError.Cut number) ⊎ IsOfMachine e) }
@@ -355,6 +401,11 @@ fn read_request<R: CountedRead>(
     ensures none { IfOk result (λ o. IfNone o (IsAtEnd (R.remaining reader.new))) }
     ensures kept { IfOk result (λ o. IfNone o
         (Consumes (R.remaining reader.old) (R.remaining reader.new) [])) }
+    ensures read { result ≡ Err ServeError.Read →
+        Rises (R.failed_calls reader.old) (R.failed_calls reader.new) }
+    ensures counted { result ≢ Err ServeError.Read →
+        R.failed_calls reader.new ≡ R.failed_calls reader.old }
+    ensures unwritten { result ≢ Err ServeError.Write }
     ensures stopped { IfErr result (λ e. IsNoRequest part.now number e
         (R.remaining reader.old) (R.remaining reader.new)) }
 {
@@ -366,14 +417,17 @@ fn read_request<R: CountedRead>(
 }
 
 // Passes on what the writer holds back.
-fn flush<W: CountedWrite>(writer: &mut W) -> Result<(), ServeError>
+fn flush<W: CountedWrite>(writer: &mut W) -> Result<(), TellError>
     ensures done { Keeps (W.contents writer.old) (W.contents writer.new) }
-    ensures kind { IfErr result IsOfMachine }
+    ensures write { result ≡ Err TellError.Write →
+        Rises (W.failed_calls writer.old) (W.failed_calls writer.new) }
+    ensures written { result ≢ Err TellError.Write →
+        W.failed_calls writer.new ≡ W.failed_calls writer.old }
 {
     if writer.try_flush() {
         Ok(())
     } else {
-        Err(ServeError::Write)
+        Err(TellError::Write)
     }
 }
 
@@ -399,6 +453,14 @@ fn serve_one<R: CountedRead, W: CountedWrite>(
     ensures kept { IfErr result (λ e. (IsOfMachine e → ⊥) →
         Keeps (W.contents writer.old) (W.contents writer.new)) }
     ensures same { IfErr result (λ e. (IsOfMachine e → ⊥) → session.new ≡ session.old) }
+    ensures read { result ≡ Err ServeError.Read →
+        Rises (R.failed_calls reader.old) (R.failed_calls reader.new) }
+    ensures counted { result ≢ Err ServeError.Read →
+        R.failed_calls reader.new ≡ R.failed_calls reader.old }
+    ensures write { result ≡ Err ServeError.Write →
+        Rises (W.failed_calls writer.old) (W.failed_calls writer.new) }
+    ensures written { result ≢ Err ServeError.Write →
+        W.failed_calls writer.new ≡ W.failed_calls writer.old }
 {
     let mut line = Vec::new(alloc);
     let mut body = Vec::new(alloc);
@@ -426,6 +488,15 @@ pub fn serve_commands<R: CountedRead, W: CountedWrite>(
     ensures stopped { IfErr result (λ e. (IsOfMachine e → ⊥) → Stops graph.now session.old.part e
         (R.remaining reader.old) (R.remaining reader.new)
         session.old session.new (W.contents writer.old) (W.contents writer.new)) }
+    // A call failed exactly where that is told.
+    ensures read { result ≡ Err ServeError.Read →
+        Rises (R.failed_calls reader.old) (R.failed_calls reader.new) }
+    ensures counted { result ≢ Err ServeError.Read →
+        R.failed_calls reader.new ≡ R.failed_calls reader.old }
+    ensures write { result ≡ Err ServeError.Write →
+        Rises (W.failed_calls writer.old) (W.failed_calls writer.new) }
+    ensures written { result ≢ Err ServeError.Write →
+        W.failed_calls writer.new ≡ W.failed_calls writer.old }
 {
     for i in 0..u64::MAX {
         let more = serve_one(alloc, graph, session, reader, writer, i + 1)?;
@@ -477,8 +548,18 @@ pub fn serve_node<R: CountedRead, W: CountedWrite>(
     ensures refused { (e : NoJob) → result ≡ Err (NodeError.Job e) →
         HasNoNode (settings_in options.now) options.now.counted part
         (R.remaining reader.old) (R.remaining reader.new) e }
+    // A call failed exactly where that is told.
+    ensures read { result ≡ Err (NodeError.Serve ServeError.Read) →
+        Rises (R.failed_calls reader.old) (R.failed_calls reader.new) }
     ensures unread { result ≡ Err (NodeError.Job JobError.Read) →
         Rises (R.failed_calls reader.old) (R.failed_calls reader.new) }
+    ensures counted { result ≢ Err (NodeError.Serve ServeError.Read) →
+        result ≢ Err (NodeError.Job JobError.Read) →
+        R.failed_calls reader.new ≡ R.failed_calls reader.old }
+    ensures write { result ≡ Err (NodeError.Serve ServeError.Write) →
+        Rises (W.failed_calls writer.old) (W.failed_calls writer.new) }
+    ensures written { result ≢ Err (NodeError.Serve ServeError.Write) →
+        W.failed_calls writer.new ≡ W.failed_calls writer.old }
 {
     let (graph, plan) = read_job(alloc, state, options, reader)?;
     let mut session = start(alloc, &graph, &plan, part)?;

@@ -45,8 +45,8 @@ fn stops<T: AllocGlobal + RandomSource + Threads + Sync>(
     end: GatherError,
 ) -> bool {
     match gathered(rt, input) {
-        Some((text, Err(error))) => text.is_empty() && error == end,
-        _ => false,
+        Some((text, result)) => text.is_empty() && result == Err(end),
+        None => false,
     }
 }
 

@@ -186,8 +186,8 @@ static GIVEN_UP: [(&[u8], &[u8], ServeError); 9] = [
 /// Whether a node writes this to an input and then ends so.
 fn ends(rt: &HostRuntime, input: &[u8], text: &[u8], end: ServeError) -> bool {
     match serve(rt, &options(2, false), 1, input) {
-        Some((said, Err(NodeError::Serve(error)))) => said.as_slice() == text && error == end,
-        _ => false,
+        Some((said, result)) => said.as_slice() == text && result == Err(NodeError::Serve(end)),
+        None => false,
     }
 }
 
@@ -255,8 +255,8 @@ fn has_no_job(
     end: JobError,
 ) -> bool {
     match serve(rt, options, part, input) {
-        Some((text, Err(NodeError::Job(error)))) => text.is_empty() && error == end,
-        _ => false,
+        Some((text, result)) => text.is_empty() && result == Err(NodeError::Job(end)),
+        None => false,
     }
 }
 

@@ -1,11 +1,10 @@
-use Rattle.std.specs.Prelude.{OnOk}
 use Rattle.std.proofs.lemmas.Result.{on_ok_weaker}
 use Rattle.ball_model.specs.Job.{job_of}
 use Rattle.node.specs.Gathering.{Gathers}
 use Rattle.std.proofs.Common.{refl, inl, inr}
 use Rattle.std.proofs.lemmas.Result.{IfErr-weaker, err_from_is_err_and, on_err_weaker}
 use Rattle.node.specs.Job.{settings_in}
-use Rattle.node.specs.NoReport.{HasNoReport, IsNoReport, WritesFront, WritesFrontOfJob}
+use Rattle.node.specs.NoReport.{HasNoReport, IsNoReport, WritesFront}
 use Rattle.node.proofs.GatherLemmas.{front_of_job, never_job}
 use Rattle.node.proofs.gather.gather.Goals as goal
 

@@ -1,13 +1,12 @@
-use Rattle.std.proofs.Common.{◌≡◌, ◌∙◌, List, ap, refl, subst, sym}
+use Rattle.std.proofs.Common.{◌≡◌, ◌∙◌, ap, refl, subst, sym}
 use Rattle.node.specs.declared.error.GatherError.TheVariants as fault
 use Rattle.std.specs.List.{All}
 use Rattle.ball_model.specs.Job.{Job, job_of}
 use Rattle.ball_model.specs.State.{State}
 use Rattle.report.specs.Ready.{AllStand}
 use Rattle.node.proofs.GatherLemmas.{all_vertices_read, gathered}
-use Rattle.std.specs.Prelude.{Err, OnErr}
+use Rattle.std.specs.Prelude.{Err}
 use Rattle.std.proofs.lemmas.Result.{err_from_is_err_and}
-use Rattle.node.specs.NoReport.{WritesFront}
 use Rattle.node.proofs.GatherLemmas.{gathered_front}
 use Rattle.node.proofs.gather.gather_parts.Goals as goal
 

@@ -1,10 +1,8 @@
 use Rattle.std.proofs.Common.{◌∙◌, List, ℕ, sym, subst}
 use Rattle.ball_model.specs.Job.{Job, job_of}
 use Rattle.node.specs.NodeText.{IsGivenBack}
-use Rattle.std.proofs.Common.{◌≡◌, ◌≢◌, refl}
-use Rattle.std.specs.Arc.{arc_value}
+use Rattle.std.proofs.Common.{refl}
 use Rattle.ball_model.specs.Job.{PartValue, part_of}
-use Rattle.checkpoint.specs.declared.error.KeepError.TheVariants as unkept
 use Rattle.node.specs.Refusals.{IsNoCheckpoint}
 use Rattle.node.proofs.GatherLemmas.{told_other}
 use Rattle.node.proofs.gather.read_replica.Goals as goal

@@ -1,5 +1,4 @@
-use Rattle.std.proofs.Common.{◌≡◌, Bool, true, false, List, ℕ, sym, subst}
-use Rattle.ball_model.specs.Input.{IsPlain}
+use Rattle.std.proofs.Common.{◌≡◌, Bool, true, false, sym, subst}
 use Rattle.node.specs.Job.{CountsSome, settings_in}
 use Rattle.node.proofs.JobLemmas.{counts_all, counts_listed}
 use Rattle.node.proofs.job.count_listed.Goals as goal

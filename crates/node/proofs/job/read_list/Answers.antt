@@ -1,9 +1,8 @@
 use Rattle.std.proofs.Common.{◌≡◌, ◌∙◌, ℕ, List, sym, subst, refl}
 use Rattle.std.specs.Io.KnownBytes.{prepend_known}
 use Rattle.node.specs.Section.{Passed}
-use Rattle.node.specs.declared.job.TheConstants.{MOST_LIST}
 use Rattle.node.specs.declared.section.Step.TheVariants as step
-use Rattle.node.proofs.SectionLemmas.{passed_end, passed_many, passed_more, passed_over, passed_start}
+use Rattle.node.proofs.SectionLemmas.{passed_end, passed_more, passed_over, passed_start}
 use Rattle.node.proofs.job.read_list.Goals as goal
 
 pub loop-cut-init : goal.loop-cut-init

@@ -1,4 +1,4 @@
-use Rattle.std.proofs.Common.{◌≡◌, ◌*◌, ◌+◌, ◌≤◌, ◌^◌, arith}
+use Rattle.std.proofs.Common.{◌+◌, ◌≤◌, ◌^◌, arith}
 use Rattle.std.proofs.Math.Nat.{pow-le-pow_right}
 use Rattle.std.proofs.lemmas.Nat.{mul-le}
 use Rattle.node.proofs.limits.longest_batch.Goals as goal

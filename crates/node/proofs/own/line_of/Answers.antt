@@ -1,10 +1,8 @@
-use Rattle.std.proofs.Common.{◌≡◌, ◌∙◌, ap, List, ℕ}
-use Rattle.std.specs.Prelude.{[], slice_index_or, Vec}
+use Rattle.std.proofs.Common.{◌∙◌, ap, List, ℕ}
+use Rattle.std.specs.Prelude.{[], slice_index_or}
 use Rattle.std.proofs.lemmas.Result.{IfOk-weaker}
 use Rattle.ball_model.specs.Report.{vertex_text}
 use Rattle.report.specs.Parts.{figures_line}
-use Rattle.figures.specs.declared.ends.Figures.{Figures}
-use Rattle.node.specs.Own.{true_figures}
 use Rattle.node.proofs.OwnLemmas.{line_is}
 use Rattle.node.proofs.own.line_of.Goals as goal
 

@@ -1,4 +1,4 @@
-use Rattle.std.proofs.Common.{◌+◌, ◌*◌}
+use Rattle.std.proofs.Common.{◌≡◌, ◌+◌, ◌*◌}
 use Rattle.std.specs.Io.KnownBytes.{Appends}
 use Rattle.ball_model.specs.Held.{HasHolding}
 use Rattle.ball_model.specs.Job.{Job}
@@ -10,7 +10,9 @@ use Rattle.node.proofs.own.tell_own.Given as goal
 
 -- the lines of the first vertices were written
 abbrev pub invariant-loop-i : goal.invariant-loop-i
-invariant-loop-i g l =
-    (j : Job) (h : Holding) → HasHolding j h l.replica →
-    Appends (g.W.Write.contents l.initial.writer) (g.W.Write.contents l.writer)
-    (first-texts (vertex_text (mixing_of j.plan) j.graph l.graph.labels h.superstep) (λ i. i * l.parts + l.partition) l.i)
+invariant-loop-i g l = record {
+  done : (j : Job) (h : Holding) → HasHolding j h l.replica →
+      Appends (g.W.Write.contents l.initial.writer) (g.W.Write.contents l.writer)
+      (first-texts (vertex_text (mixing_of j.plan) j.graph l.graph.labels h.superstep) (λ i. i * l.parts + l.partition) l.i);
+  written : g.W.CountedWrite.failed_calls l.writer ≡ g.W.CountedWrite.failed_calls l.initial.writer;
+}

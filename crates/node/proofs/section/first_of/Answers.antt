@@ -1,4 +1,4 @@
-use Rattle.std.proofs.Common.{◌≡◌, ℕ, length}
+use Rattle.std.proofs.Common.{◌≡◌, length}
 use Rattle.node.proofs.SectionLemmas.{popped_ahead}
 use Rattle.node.proofs.section.first_of.Goals as goal
 

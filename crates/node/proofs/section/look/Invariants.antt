@@ -1,4 +1,4 @@
-use Rattle.std.proofs.Common.{◌≡◌, ◌-◌, ◌≤◌, length}
+use Rattle.std.proofs.Common.{◌≡◌, ◌-◌, length}
 use Rattle.std.specs.Io.KnownBytes.{Keeps, prepend_known}
 use Rattle.node.specs.Section.{IsPast}
 use Rattle.node.proofs.section.look.Given as goal

@@ -1,5 +1,5 @@
-use Rattle.std.proofs.Common.{◌≡◌, true, ℕ, List}
-use Rattle.std.specs.Prelude.{Option, None, Some}
+use Rattle.std.proofs.Common.{◌≡◌, true}
+use Rattle.std.specs.Prelude.{None, Some}
 use Rattle.std.specs.Io.KnownBytes.{prepend_known}
 use Rattle.ball_model.specs.Sections.{after_mark}
 use Rattle.node.proofs.SectionLemmas.{ended, marked, unmarked}

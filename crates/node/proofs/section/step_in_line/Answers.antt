@@ -1,4 +1,4 @@
-use Rattle.std.proofs.Common.{◌≡◌, ◌∙◌, true, [], List, ℕ, ap}
+use Rattle.std.proofs.Common.{◌≡◌, ◌∙◌, true, ap}
 use Rattle.node.proofs.SectionLemmas.{empty_is, gives_ahead, gives_next}
 use Rattle.node.specs.declared.section.Next.TheVariants as next
 use Rattle.node.proofs.section.step_in_line.Goals as goal

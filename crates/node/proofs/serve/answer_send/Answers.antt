@@ -1,4 +1,4 @@
-use Rattle.std.proofs.Common.{◌≡◌, ◌≢◌, ◌∙◌, ◌<◌, ◌≤◌, ℕ, List, inl, inr, arith, sym, subst, ap}
+use Rattle.std.proofs.Common.{◌≡◌, ◌≢◌, ◌∙◌, ◌<◌, ◌≤◌, ℕ, inl, inr, sym, subst, ap}
 use Rattle.std.specs.Io.KnownBytes.{Appends}
 use Rattle.std.proofs.lemmas.Result.{on_ok_weaker}
 use Rattle.ball_model.specs.PlanValue.{PlanValue}

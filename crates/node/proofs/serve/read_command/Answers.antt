@@ -1,5 +1,5 @@
 use Rattle.std.proofs.Common.{refl}
-use Rattle.node.proofs.ServeLemmas.{cut_line, long_line, no_command, too_long}
+use Rattle.node.proofs.ServeLemmas.{cut_line, long_line}
 use Rattle.node.proofs.serve.read_command.Goals as goal
 
 pub returns-in-Cut-clause-stopped : goal.returns-in-Cut-clause-stopped

@@ -1,13 +1,15 @@
 use Rattle.std.proofs.lemmas.Result.{err_from_is_err_and}
-use Rattle.std.proofs.Common.{◌≡◌, ◌∙◌, ◌+◌, true, false, refl, ap}
+use Rattle.std.proofs.Common.{◌≡◌, ◌∙◌, ◌+◌, true, false, refl, ap, arith}
 use Rattle.std.specs.Prelude.{Ok}
-use Rattle.node.proofs.ServeLemmas.{serves_end, serves_more, serves_none, stops_at}
+use Rattle.node.proofs.ServeLemmas.{serves_end, serves_more, serves_none, stops_at, stops_counting}
 use Rattle.node.proofs.serve.serve_commands.Goals as goal
 
 pub loop-i-init : goal.loop-i-init
 loop-i-init g c = record {
   some = serves_none c.args.graph.now (g.R.Read.remaining c.args.reader.now) c.args.session.now (g.W.Write.contents c.args.writer.now);
   part = refl;
+  counted = refl;
+  written = refl;
 }
 
 pub loop-i-preserved : goal.loop-i-preserved
@@ -21,6 +23,8 @@ loop-i-preserved g c =
           (g.W.Write.contents c.args.writer.now) (g.W.Write.contents c.loop-i.writer) (g.W.Write.contents c.serve_one.new.writer)
           refl c.loop-i.invariant.some (c.in_ok-more.ensures.served (ap Ok more));
       part = c.in_ok-more.ensures.part ∙ c.loop-i.invariant.part;
+      counted = c.in_ok-more.ensures.counted (λ e. absurd (cc)) ∙ c.loop-i.invariant.counted;
+      written = c.in_ok-more.ensures.written (λ e. absurd (cc)) ∙ c.loop-i.invariant.written;
     }
 
 pub returns-then-not-more-clause-ok : goal.returns-then-not-more-clause-ok
@@ -40,3 +44,9 @@ returns-in_err-more-clause-stopped g c =
     c.args.session.now c.loop-i.session c.serve_one.new.session
     (g.W.Write.contents c.args.writer.now) (g.W.Write.contents c.loop-i.writer) (g.W.Write.contents c.serve_one.new.writer)
     refl c.loop-i.invariant.some c.loop-i.invariant.part c.in_err-more.ensures.stopped (c.in_err-more.ensures.kept some) (c.in_err-more.ensures.same some))
+
+pub returns-clause-stopped : goal.returns-clause-stopped
+returns-clause-stopped g c = λ some.
+    stops_counting c.args.graph.now c.args.session.now.part c.loop-i.i (g.R.Read.remaining c.args.reader.now) (g.R.Read.remaining c.loop-i.reader)
+    c.args.session.now c.loop-i.session (g.W.Write.contents c.args.writer.now) (g.W.Write.contents c.loop-i.writer)
+    (omega (arith, c.loop-i-test.false)) c.loop-i.invariant.some

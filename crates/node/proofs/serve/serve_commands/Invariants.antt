@@ -7,4 +7,6 @@ invariant-loop-i g l = record {
   some : ServesSome l.graph l.i (g.R.Read.remaining l.initial.reader) (g.R.Read.remaining l.reader) l.initial.session l.session
       (g.W.Write.contents l.initial.writer) (g.W.Write.contents l.writer);
   part : l.session.part ≡ l.initial.session.part;
+  counted : g.R.CountedRead.failed_calls l.reader ≡ g.R.CountedRead.failed_calls l.initial.reader;
+  written : g.W.CountedWrite.failed_calls l.writer ≡ g.W.CountedWrite.failed_calls l.initial.writer;
 }

@@ -1,4 +1,4 @@
-use Rattle.std.proofs.Common.{◌≡◌, subst, arith}
+use Rattle.std.proofs.Common.{arith}
 use Rattle.ball_model.specs.Job.{job_of}
 use Rattle.node.proofs.SessionLemmas.{begun}
 use Rattle.node.proofs.serve.start.Goals as goal

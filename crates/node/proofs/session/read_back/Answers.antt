@@ -4,7 +4,6 @@ use Rattle.std.specs.Arc.{arc_value}
 use Rattle.ball_model.specs.Streams.{AreSure}
 use Rattle.checkpoint.specs.Reading.{most_bytes}
 use Rattle.node.proofs.SessionLemmas.{given_back}
-use Rattle.node.proofs.SessionLemmas.{no_checkpoint_in}
 use Rattle.node.proofs.session.read_back.Goals as goal
 
 pub returns-clause-back : goal.returns-clause-back

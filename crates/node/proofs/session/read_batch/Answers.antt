@@ -3,7 +3,7 @@ use Rattle.std.specs.Prelude.{Err, Ok}
 use Rattle.std.proofs.lemmas.Result.{IfOk-weaker}
 use Rattle.ball_model.specs.Batches.{true_batch}
 use Rattle.node.proofs.SessionLemmas.{delivered_read, read_true, read_wants}
-use Rattle.node.proofs.SessionLemmas.{spelled_not, spelled_ok}
+use Rattle.node.proofs.SessionLemmas.{spelled_not}
 use Rattle.batches.specs.Reading.{batch_at}
 use Rattle.node.proofs.session.read_batch.Goals as goal
 

@@ -1,4 +1,3 @@
-use Rattle.std.proofs.Common.{◌≡◌}
 use Rattle.node.proofs.SessionLemmas.{start_has}
 use Rattle.node.proofs.session.started.Goals as goal
 

@@ -1,11 +1,10 @@
-use Rattle.std.proofs.Common.{◌≡◌, ◌∙◌, ℕ, ap, sym, subst, rules}
-use Rattle.ball_model.specs.Job.{Job}
+use Rattle.std.proofs.Common.{◌≡◌, ◌∙◌, ap, subst}
 use Rattle.ball_model.specs.Held.{held_after, held_take_answer}
 use Rattle.ball_model.specs.Steps.{Take}
 use Rattle.ball_model.specs.World.{taken_answer}
 use Rattle.ball_model.specs.PlanValue.{PlanValue}
 use Rattle.ball_model.specs.State.{State}
-use Rattle.node.specs.Turns.{Holds, TurnsTo}
+use Rattle.node.specs.Turns.{TurnsTo}
 use Rattle.node.proofs.SessionLemmas.{job_held, plan_held, refused_ok}
 use Rattle.std.specs.Prelude.{IfOk, IsOk}
 use Rattle.batches.specs.Reading.{batch_at}

@@ -2,7 +2,7 @@ use Rattle.std.proofs.Common.{sym, subst}
 use Rattle.ball_model.specs.State.{State}
 use Rattle.world.proofs.NodeLemmas.{MergesWith}
 use Rattle.node.specs.Turns.{Holds}
-use Rattle.node.proofs.SessionLemmas.{over_part, over_refused, over_turns}
+use Rattle.node.proofs.SessionLemmas.{over_part, over_turns}
 use Rattle.node.proofs.SessionLemmas.{over_said}
 use Rattle.node.proofs.session.Session.merge.Goals as goal
 

@@ -1,4 +1,3 @@
-use Rattle.std.proofs.Common.{◌≡◌}
 use Rattle.ball_model.specs.declared.world.Answer.TheVariants as answer
 use Rattle.ball_model.specs.Held.{start_holding}
 use Rattle.node.specs.Turns.{TurnsTo}

@@ -1,0 +1,16 @@
+use Rattle.std.specs.List.{flat_map}
+use Rattle.std.specs.Io.KnownBytes.{Appends}
+use Rattle.std.proofs.KnownBytes.{Appends-trans}
+use Rattle.std.proofs.lemmas.Result.{on_ok_weaker}
+use Rattle.ball_model.specs.State.{own_vertices}
+use Rattle.ball_model.specs.WorldText.{node_line, row_text, show_text}
+use Rattle.node.proofs.show.tell_shown.Goals as goal
+
+pub returns-clause-done : goal.returns-clause-done
+unfolding show_text
+returns-clause-done g c = λ j h has.
+    on_ok_weaker c.tell_rows.result
+    (λ (rows : Appends (g.W.Write.contents c.tell_head.new.writer) (g.W.Write.contents c.tell_rows.new.writer) (flat_map (row_text j h.superstep) (own_vertices j h.partition))).
+    Appends-trans (g.W.Write.contents c.args.writer.now) (g.W.Write.contents c.tell_head.new.writer) (g.W.Write.contents c.tell_rows.new.writer)
+    (node_line j c.args.id h) (flat_map (row_text j h.superstep) (own_vertices j h.partition)) (c.in_ok-tell_head.ensures.done j h has) rows)
+    (c.tell_rows.ensures.done j h has)

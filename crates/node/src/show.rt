@@ -1,0 +1,101 @@
+//! What a node has, told line by line: as a world tells it, and a failed call is told whatever the node holds.
+
+ghost use Rattle.std.specs.Prelude.{◌≡◌, ◌≢◌, ◌<◌, ◌%◌, Err, OnOk};
+ghost use Rattle.std.specs.List.{flat_map};
+ghost use Rattle.std.specs.Io.KnownBytes.{Appends};
+ghost use Rattle.ball_model.specs.Held.{HasHolding};
+ghost use Rattle.ball_model.specs.Job.{Job};
+ghost use Rattle.ball_model.specs.Join.{Holding};
+ghost use Rattle.ball_model.specs.State.{own_vertices};
+ghost use Rattle.ball_model.specs.Streams.{Rises};
+ghost use Rattle.ball_model.specs.WorldText.{node_line, row_text, show_text};
+
+use ball_model::{CountedWrite, NodeId};
+use replica::{Replica, Shown};
+use world::answer::{put_node, put_vertex};
+use world::tell::{TellError, write_lines};
+
+// Writes the line of a node.
+fn tell_head<W: CountedWrite>(
+    id: NodeId,
+    replica: &Replica,
+    line: &mut Vec<u8>,
+    writer: &mut W,
+) -> Result<(), TellError>
+    ensures done { (j : Job) (h : Holding) → HasHolding j h replica.now → OnOk result (
+        Appends (W.contents writer.old) (W.contents writer.new) (node_line j id h)) }
+    ensures write { result ≡ Err TellError.Write →
+        Rises (W.failed_calls writer.old) (W.failed_calls writer.new) }
+    ensures written { result ≢ Err TellError.Write →
+        W.failed_calls writer.new ≡ W.failed_calls writer.old }
+{
+    line.clear();
+    put_node(line, id, replica)?;
+    write_lines(writer, line)?;
+    Ok(())
+}
+
+// Writes the line of vertex `x`, which the replica's partition owns.
+fn tell_row<W: CountedWrite>(
+    replica: &Replica,
+    x: u32,
+    line: &mut Vec<u8>,
+    writer: &mut W,
+) -> Result<(), TellError>
+    requires vertex { x < replica.now.part.plan.vertices }
+    requires own { x % replica.now.part.plan.parts ≡ replica.now.part.number }
+    ensures done { (j : Job) (h : Holding) → HasHolding j h replica.now → OnOk result (
+        Appends (W.contents writer.old) (W.contents writer.new) (row_text j h.superstep x)) }
+    ensures write { result ≡ Err TellError.Write →
+        Rises (W.failed_calls writer.old) (W.failed_calls writer.new) }
+    ensures written { result ≢ Err TellError.Write →
+        W.failed_calls writer.new ≡ W.failed_calls writer.old }
+{
+    line.clear();
+    put_vertex(line, replica, x)?;
+    write_lines(writer, line)?;
+    Ok(())
+}
+
+// Writes the lines of all vertices of a node.
+fn tell_rows<W: CountedWrite>(
+    replica: &Replica,
+    line: &mut Vec<u8>,
+    writer: &mut W,
+) -> Result<(), TellError>
+    ensures done { (j : Job) (h : Holding) → HasHolding j h replica.now → OnOk result (
+        Appends (W.contents writer.old) (W.contents writer.new)
+        (flat_map (row_text j h.superstep) (own_vertices j h.partition))) }
+    ensures write { result ≡ Err TellError.Write →
+        Rises (W.failed_calls writer.old) (W.failed_calls writer.new) }
+    ensures written { result ≢ Err TellError.Write →
+        W.failed_calls writer.new ≡ W.failed_calls writer.old }
+{
+    // the limits of a replica are told with its superstep
+    let _superstep = replica.superstep();
+    let parts = u32::from(replica.plan().parts());
+    let partition = replica.partition();
+    for i in 0..replica.plan().part_size(partition) {
+        tell_row(replica, i * parts + u32::from(partition), line, writer)?;
+    }
+    Ok(())
+}
+
+/// Writes what a node has: its line, and a line for each of its vertices.
+pub fn tell_shown<W: CountedWrite>(
+    id: NodeId,
+    replica: &Replica,
+    line: &mut Vec<u8>,
+    writer: &mut W,
+) -> Result<(), TellError>
+    ensures done { (j : Job) (h : Holding) → HasHolding j h replica.now → OnOk result (
+        Appends (W.contents writer.old) (W.contents writer.new) (show_text j id h)) }
+    // A call failed exactly where that is told.
+    ensures write { result ≡ Err TellError.Write →
+        Rises (W.failed_calls writer.old) (W.failed_calls writer.new) }
+    ensures written { result ≢ Err TellError.Write →
+        W.failed_calls writer.new ≡ W.failed_calls writer.old }
+{
+    tell_head(id, replica, line, writer)?;
+    tell_rows(replica, line, writer)
+}
