@@ -6,7 +6,7 @@ ghost use Rattle.hyperball.specs.CommandLine.{IsApp, gather_app, node_app};
 ghost use Rattle.hyperball.specs.Nodes.{AreNodeOptionsOf};
 ghost use Rattle.hyperball.specs.declared.node_words.NodeWords.{NodeWords as Asked};
 
-use crate::job_words::{PARTS_HELP, add_job, job_options_of};
+use crate::job_words::{add_job, job_options_of};
 use crate::words::add_option;
 use clap::builder::ValueParser;
 use clap::{ArgMatches, Command, value_parser};
@@ -17,8 +17,8 @@ const NODE_ABOUT: &str =
     "Is one partition's node of a job that several machines share, and answers commands";
 
 const NODE_LONG_ABOUT: &str =
-    "Is one partition's node of a job, for a graph that no single machine is to hold. On one machine
-'hyperball run' does the whole job.
+    "Is one partition's node of a job, for a graph whose counters do not fit into one machine. Where
+they do, 'hyperball run' does the whole job, and sooner.
 
 An engine that people already have (Dask, Slurm, a shell with ssh) starts a node for each
 partition, brings each the batches of the others, and keeps their checkpoints. Whatever it
@@ -53,6 +53,11 @@ many bytes follow the line.
   figures       tells the report's lines of its vertices
 Where the input ends the node ends. When all are finished, 'hyperball gather' writes the report.
 
+Memory and accuracy:
+  A node keeps the counters of its own vertices alone, 2 * 2^log2m bytes each. But it reads the
+  whole edge list, and keeps that, packed, with all labels. What reading takes, how near figures
+  are to the true ones and what they mean is told by 'hyperball run --help'.
+
 Exit status:
   0  all commands were answered, or help was asked for
   1  a fault, told in one line on standard error; what was answered before stands
@@ -75,13 +80,25 @@ const GATHER_AFTER: &str = "Example, of two partitions whose nodes gave 0.hbck a
     for p in 0 1; do echo part $(wc -c < $p.hbck); cat $p.hbck; done; } |
     hyperball gather --parts 2 > report.csv
 
+Memory:
+  It keeps the counters of all vertices, 2 * 2^log2m bytes each, and the edge list as a node does.
+  Where they do not fit into one machine, totals and figures of each node tell its own part of the
+  report ('hyperball node --help').
+
 Exit status:
   0  the report was written, or help was asked for
   1  a fault, told in one line on standard error; nothing was written, unless memory was
      refused or the output failed, where a beginning of the report may stand
   2  words that are no command";
 
-const PART_HELP: &str = "The partition that the node is of, from 0 on [default: 0]";
+const NODE_PARTS_HELP: &str =
+    "Partitions of the job, 1 to 64, each with a node of its own; for all nodes the same [default: 1]";
+
+const GATHER_PARTS_HELP: &str =
+    "Partitions of the job, 1 to 64: so many checkpoints follow the edge list [default: 1]";
+
+const PART_HELP: &str =
+    "Partition of this node, from 0 on: each node of a job has another one [default: 0]";
 
 /// What the words of a node say.
 #[derive(Clone, Copy, Debug, PartialEq, Eq)]
@@ -121,7 +138,13 @@ pub fn node_command<'a>(
     ensures { IfOk result (IsApp (node_app
         (record { estimates = estimates.entry; delimiters = delimiters.entry }))) }
 {
-    let command = add_job(alloc, bare_node(alloc), PARTS_HELP, estimates, delimiters)?;
+    let command = add_job(
+        alloc,
+        bare_node(alloc),
+        NODE_PARTS_HELP,
+        estimates,
+        delimiters,
+    )?;
     add_option(alloc, command, "part", PART_HELP, value_parser!(u16))
 }
 
@@ -134,7 +157,13 @@ pub fn gather_command<'a>(
     ensures { IfOk result (IsApp (gather_app
         (record { estimates = estimates.entry; delimiters = delimiters.entry }))) }
 {
-    add_job(alloc, bare_gather(alloc), PARTS_HELP, estimates, delimiters)
+    add_job(
+        alloc,
+        bare_gather(alloc),
+        GATHER_PARTS_HELP,
+        estimates,
+        delimiters,
+    )
 }
 
 /// What the words of a node say. Values are as `clap` has checked them.

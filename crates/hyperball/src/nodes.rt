@@ -1,15 +1,19 @@
 //! One partition's node that answers commands, and the report of checkpoints: the words of `hyperball node` and
 //! `hyperball gather`, done.
 
-ghost use Rattle.std.specs.Prelude.{◌≡◌, Err, OnErr, OnOk};
+ghost use Rattle.std.specs.Prelude.{◌≡◌, ◌≢◌, Err, OnErr, OnOk};
 ghost use Rattle.std.specs.Io.KnownBytes.{Keeps};
+ghost use Rattle.ball_model.specs.Streams.{Rises};
 ghost use Rattle.node.specs.Gathering.{GathersJob};
 ghost use Rattle.node.specs.Job.{settings_in};
-ghost use Rattle.node.specs.NoReport.{IsUnwritten, WritesFrontOfJob};
+ghost use Rattle.node.specs.NoJob.{HasNoNode};
+ghost use Rattle.node.specs.NoReport.{HasNoReport, IsUnwritten, WritesFrontOfJob};
 ghost use Rattle.node.specs.Serving.{IsOfMachine, ServesNode, StopsNode};
 ghost use Rattle.node.specs.declared.error.GatherError.{GatherError as NoReport};
 ghost use Rattle.node.specs.declared.error.JobError.{JobError as NoJob};
+ghost use Rattle.node.specs.declared.error.JobError.TheVariants as no_job;
 ghost use Rattle.node.specs.declared.error.ServeError.{ServeError as NoAnswer};
+ghost use Rattle.node.specs.declared.error.ServeError.TheVariants as no_answer;
 
 use crate::node_words::NodeWords;
 use ball_model::{CountedRead, CountedWrite};
@@ -66,6 +70,22 @@ pub fn node_by<H: AllocGlobal + RandomSource, R: CountedRead, W: CountedWrite>(
         (W.contents writer.old) (W.contents writer.new) }
     ensures jobless { (e : NoJob) → result ≡ Err (NodeFault.Node (NodeError.Job e)) →
         Keeps (W.contents writer.old) (W.contents writer.new) }
+    // Which refusal it is.
+    ensures refused { (e : NoJob) → result ≡ Err (NodeFault.Node (NodeError.Job e)) → HasNoNode
+        (settings_in words.now.options) words.now.options.counted words.now.part
+        (R.remaining reader.old) (R.remaining reader.new) e }
+    // A call failed exactly where that is told.
+    ensures read { result ≡ Err (NodeFault.Node (NodeError.Serve no_answer.Read)) →
+        Rises (R.failed_calls reader.old) (R.failed_calls reader.new) }
+    ensures read_job { result ≡ Err (NodeFault.Node (NodeError.Job no_job.Read)) →
+        Rises (R.failed_calls reader.old) (R.failed_calls reader.new) }
+    ensures counted { result ≢ Err (NodeFault.Node (NodeError.Serve no_answer.Read)) →
+        result ≢ Err (NodeFault.Node (NodeError.Job no_job.Read)) →
+        R.failed_calls reader.new ≡ R.failed_calls reader.old }
+    ensures write { result ≡ Err (NodeFault.Node (NodeError.Serve no_answer.Write)) →
+        Rises (W.failed_calls writer.old) (W.failed_calls writer.new) }
+    ensures written { result ≢ Err (NodeFault.Node (NodeError.Serve no_answer.Write)) →
+        W.failed_calls writer.new ≡ W.failed_calls writer.old }
     ensures random { result ≡ Err NodeFault.Random →
         Keeps (W.contents writer.old) (W.contents writer.new) }
     ensures unread { result ≡ Err NodeFault.Random →
@@ -98,6 +118,22 @@ pub fn gather_by<H: AllocGlobal + RandomSource + Threads + Sync, R: CountedRead,
     ensures gathered { OnOk result (GathersJob (settings_in options.now) options.now.counted
         (R.remaining reader.old) (R.remaining reader.new)
         (W.contents writer.old) (W.contents writer.new)) }
+    // Which refusal it is.
+    ensures refused { (e : NoReport) → result ≡ Err (GatherFault.Gather e) → HasNoReport
+        (settings_in options.now) options.now.counted
+        (R.remaining reader.old) (R.remaining reader.new) e }
+    // A call failed exactly where that is told.
+    ensures read { result ≡ Err (GatherFault.Gather GatherError.Read) →
+        Rises (R.failed_calls reader.old) (R.failed_calls reader.new) }
+    ensures read_job { result ≡ Err (GatherFault.Gather (GatherError.Job no_job.Read)) →
+        Rises (R.failed_calls reader.old) (R.failed_calls reader.new) }
+    ensures counted { result ≢ Err (GatherFault.Gather GatherError.Read) →
+        result ≢ Err (GatherFault.Gather (GatherError.Job no_job.Read)) →
+        R.failed_calls reader.new ≡ R.failed_calls reader.old }
+    ensures write { result ≡ Err (GatherFault.Gather GatherError.Write) →
+        Rises (W.failed_calls writer.old) (W.failed_calls writer.new) }
+    ensures written { result ≢ Err (GatherFault.Gather GatherError.Write) →
+        W.failed_calls writer.new ≡ W.failed_calls writer.old }
     // Nothing was written, or a beginning of the report where memory was refused or a write failed.
     ensures kept { (e : NoReport) → result ≡ Err (GatherFault.Gather e) → IsUnwritten e →
         Keeps (W.contents writer.old) (W.contents writer.new) }

@@ -450,6 +450,9 @@ fn serve_node<H: AllocGlobal + RandomSource, R: CountedRead, W: CountedWrite, F:
         (job_settings words.now.options) words.now.options.counted words.now.part
         (R.remaining reader.old) (R.remaining reader.new)
         (W.contents writer.old) (W.contents writer.new) }
+    // It is done only where no call failed.
+    ensures read { result ≡ 0 → R.failed_calls reader.new ≡ R.failed_calls reader.old }
+    ensures written { result ≡ 0 → W.failed_calls writer.new ≡ W.failed_calls writer.old }
     ensures silent { result ≡ 0 → Keeps (F.contents faults.old) (F.contents faults.new) }
 {
     match node_by(rt, words, reader, writer) {
@@ -470,6 +473,9 @@ fn serve_gather<
         (job_settings options.now) options.now.counted
         (R.remaining reader.old) (R.remaining reader.new)
         (W.contents writer.old) (W.contents writer.new) }
+    // It is done only where no call failed.
+    ensures read { result ≡ 0 → R.failed_calls reader.new ≡ R.failed_calls reader.old }
+    ensures written { result ≡ 0 → W.failed_calls writer.new ≡ W.failed_calls writer.old }
     ensures begun { result ≡ 1 → WritesFrontOfJob
         (job_settings options.now) options.now.counted
         (R.remaining reader.old) (R.remaining reader.new)
@@ -510,6 +516,15 @@ pub fn serve<
     ensures gather { (o : Gathered) → IsGather (texts_of words.now) o → result ≡ 0 → GathersJob
         (job_settings o) o.counted (R.remaining reader.old) (R.remaining reader.new)
         (W.contents writer.old) (W.contents writer.new) }
+    // A node and a gathering are done only where no call failed.
+    ensures node_read { (w : Noded) → IsNode (texts_of words.now) w → result ≡ 0 →
+        R.failed_calls reader.new ≡ R.failed_calls reader.old }
+    ensures node_written { (w : Noded) → IsNode (texts_of words.now) w → result ≡ 0 →
+        W.failed_calls writer.new ≡ W.failed_calls writer.old }
+    ensures gather_read { (o : Gathered) → IsGather (texts_of words.now) o → result ≡ 0 →
+        R.failed_calls reader.new ≡ R.failed_calls reader.old }
+    ensures gather_written { (o : Gathered) → IsGather (texts_of words.now) o → result ≡ 0 →
+        W.failed_calls writer.new ≡ W.failed_calls writer.old }
     ensures few { (w : Run) → IsRun (texts_of words.now) w → w.counted ≡ true →
         ReadsFew (R.remaining reader.old) (R.remaining reader.new) }
     ensures replay_few { (w : Replayed) → IsReplay (texts_of words.now) w →

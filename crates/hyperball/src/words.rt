@@ -108,7 +108,7 @@ const ENTRIES_HELP: &str =
     "Entries of the board, 2 to 16777216: about 2*P*P a superstep and replica [default: 1048576]";
 
 const KEEP_HELP: &str =
-    "Supersteps from one snapshot to the next, 0 to 4096; 0 keeps none, which is less work [default: 1]";
+    "Supersteps from one snapshot to the next, 0 to 4096; 0: none, less work if parts is 1 [default: 1]";
 
 const PATIENCE_HELP: &str =
     "Idle turns to wait for a silent worker: 17 minutes; a lost partition ends a run at once [default: 1000000]";

@@ -347,15 +347,23 @@ fn a_node_gives_up_by_name(rt: HostRuntime) -> Result<(), Fail> {
     all_give_up(&rt)
 }
 
+// A byte, of which these bits are others where it is damaged.
+fn byte_of(byte: u8, damaged: bool, bits: u8) -> u8 {
+    if damaged { byte ^ bits } else { byte }
+}
+
+// Adds the bytes of a batch, of which the one at this place has other bits.
+fn add_bytes(batch: &[u8], at: usize, bits: u8, input: &mut Vec<u8>) -> Result<(), AllocError> {
+    for i in 0..batch.len() {
+        input.push(byte_of(batch[i], i == at, bits))?;
+    }
+    Ok(())
+}
+
 // Adds a command `deliver`, and a batch of 74 bytes behind it in which one byte has other bits.
 fn add_damaged(batch: &[u8], at: usize, bits: u8, input: &mut Vec<u8>) -> Result<(), AllocError> {
     input.extend_from_slice(b"deliver 74\n".as_slice())?;
-    let start = input.len();
-    input.extend_from_slice(batch)?;
-    if let Some(byte) = input.get_mut(start + at) {
-        *byte ^= bits;
-    }
-    Ok(())
+    add_bytes(batch, at, bits, input)
 }
 
 // Adds a batch once for each of these places and bits.

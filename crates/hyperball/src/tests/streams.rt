@@ -84,7 +84,9 @@ fn first_told_otherwise<H: AllocGlobal + Clock + RandomSource + Threads + Wait +
 
 const REPLAY: &str = "hyperball replay --log2m 4 --parts 2";
 
-static DRIPPING_REPORTS: [Case; 3] = [
+const NODE: &str = "hyperball node --log2m 4";
+
+static DRIPPING_REPORTS: [Case; 4] = [
     (RUN, b"a\tb\nb\tc\n", TWO_EDGES),
     (COUNTED, b"a\tb\nb\tc\n%%\na", ONE_COUNTED),
     (
@@ -92,9 +94,10 @@ static DRIPPING_REPORTS: [Case; 3] = [
         b"a\tb\nb\tc\n%%\nsend 1.0 0\n",
         b"sent 0 0 1 0 1 1\n",
     ),
+    (NODE, b"a\tb\nb\tc\n%%\nclose\n", b"closed 1\n"),
 ];
 
-static DRIPPING_FAULTS: [Case; 3] = [
+static DRIPPING_FAULTS: [Case; 5] = [
     (
         RUN,
         b"a\tb\nb\tc\n",
@@ -108,6 +111,16 @@ static DRIPPING_FAULTS: [Case; 3] = [
     (
         REPLAY,
         b"a\tb\nb\tc\n%%\nsend 1.0 0\n",
+        b"hyperball: the input cannot be read\n",
+    ),
+    (
+        NODE,
+        b"a\tb\nb\tc\n%%\n",
+        b"hyperball: the input cannot be read\n",
+    ),
+    (
+        "hyperball gather --log2m 4",
+        b"a\tb\nb\tc\n%%\npart 99\nHBCK",
         b"hyperball: the input cannot be read\n",
     ),
 ];
@@ -209,10 +222,15 @@ row 1 11.115354 0.000000 0.000000 00000000000001000000000000000000
 ",
 );
 
-static NARROW: [Case; 3] = [
+static NARROW: [Case; 4] = [
     (RUN, b"a\tb\nb\tc\n", TWO_EDGES),
     (COUNTED, b"a\tb\nb\tc\n%%\na", ONE_COUNTED),
     NARROW_REPLAY,
+    (
+        NODE,
+        b"a\tb\nb\tc\n%%\nclose\nsend 0\nclose\n",
+        b"closed 1\nrefused no-target\nclosed 2\n",
+    ),
 ];
 
 #[test]
@@ -266,10 +284,23 @@ fn first_write_told_otherwise<H: AllocGlobal + Clock + RandomSource + Threads + 
 }
 
 #[test]
-fn a_write_that_fails(rt: HostRuntime) -> Result<(), Fail> {
-    for case in &NARROW {
-        assert_eq!(rt; first_write_told_otherwise(&rt, case)?, None, "{}", case.0);
-    }
+fn a_write_of_a_report_that_fails(rt: HostRuntime) -> Result<(), Fail> {
+    assert_eq!(rt; first_write_told_otherwise(&rt, &NARROW[0])?, None);
+    Ok(())
+}
+
+#[test]
+fn a_write_of_a_counted_report_that_fails(rt: HostRuntime) -> Result<(), Fail> {
+    assert!(rt; begins_narrowly(&rt, &NARROW[1], 0)?);
+    assert!(rt; begins_narrowly(&rt, &NARROW[1], 1)?);
+    assert!(rt; begins_narrowly(&rt, &NARROW[1], 200)?);
+    Ok(())
+}
+
+#[test]
+fn a_write_of_answers_that_fails(rt: HostRuntime) -> Result<(), Fail> {
+    assert_eq!(rt; first_write_told_otherwise(&rt, &NARROW[2])?, None);
+    assert_eq!(rt; first_write_told_otherwise(&rt, &NARROW[3])?, None);
     assert!(rt; fails_narrowly(&rt, "hyperball --help", b"", 5)?);
     Ok(())
 }

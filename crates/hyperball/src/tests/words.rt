@@ -122,7 +122,9 @@ fn explains(text: &str, name: &str, help: &str) -> bool {
     }
 }
 
-static HELPS: [(&str, &str); 13] = [
+// What stands behind what in the help of a run: its example, and each option.
+static HELPS: [(&str, &str); 14] = [
+    ("hyperball run --log2m 8 <", " edges.tsv > report.csv"),
     ("--log2m <", "Counters of 2^log2m bytes"),
     ("--seed <", "Seed under which"),
     ("--parts <", "Partitions, 1 to 64"),
@@ -138,27 +140,65 @@ static HELPS: [(&str, &str); 13] = [
     ("--restart <", "start anew"),
 ];
 
-// Every option is explained.
-fn explains_all(text: &str) -> bool {
-    let mut all = text.contains("hyperball run --log2m 8 < edges.tsv > report.csv");
-    for (name, help) in &HELPS {
+// The same of a node.
+static NODE_HELPS: [(&str, &str); 11] = [
+    ("| hyperball node --log2m 4", "closed 1"),
+    ("--log2m <", "Counters of 2^log2m bytes"),
+    ("--seed <", "Seed under which"),
+    ("--parts <", "each with a node of its own"),
+    ("--limit <", "Greatest superstep"),
+    ("--estimate <", "near the true size"),
+    ("--delimiter <", "What stands between"),
+    ("--counted\n ", "Count only"),
+    ("--part <", "Partition of this node"),
+    ("send Q ", "sent T P Q"),
+    ("recover L ", "merged T"),
+];
+
+// The same of a gathering.
+static GATHER_HELPS: [(&str, &str); 8] = [
+    ("hyperball gather --parts 2", " > report.csv"),
+    ("--log2m <", "Counters of 2^log2m bytes"),
+    ("--seed <", "Seed under which"),
+    ("--parts <", "so many checkpoints"),
+    ("--limit <", "Greatest superstep"),
+    ("--estimate <", "near the true size"),
+    ("--delimiter <", "What stands between"),
+    ("--counted\n ", "Count only"),
+];
+
+// All of these are explained.
+fn explains_all(text: &str, helps: &[(&str, &str)]) -> bool {
+    let mut all = true;
+    for (name, help) in helps {
         all &= explains(text, name, help);
     }
     all
 }
 
-// This is a text that explains every option.
-fn is_help(bytes: &[u8]) -> bool {
+// This is a text that explains all of these.
+fn is_help(bytes: &[u8], helps: &[(&str, &str)]) -> bool {
     match str::from_utf8(bytes) {
-        Ok(text) => explains_all(text),
+        Ok(text) => explains_all(text, helps),
         Err(_) => false,
     }
 }
 
+// Words that ask for help get a text that explains all of these.
+fn explained<H: AllocGlobal + Clock + RandomSource + Threads + Wait + Sync>(
+    rt: &H,
+    line: &str,
+    helps: &[(&str, &str)],
+) -> Result<bool, Fail> {
+    let served = serve_input(rt, line, b"".as_slice())?;
+    Ok(is_help(&served.output, helps))
+}
+
 #[test]
 fn help_of_each_option(rt: HostRuntime) -> Result<(), Fail> {
-    let served = serve_input(&rt, "hyperball run --help", b"".as_slice())?;
-    assert!(rt; is_help(&served.output));
+    assert!(rt; explained(&rt, "hyperball run --help", &HELPS)?);
+    assert!(rt; explained(&rt, "hyperball node --help", &NODE_HELPS)?);
+    assert!(rt; explained(&rt, "hyperball gather --help", &GATHER_HELPS)?);
     Ok(())
 }
 

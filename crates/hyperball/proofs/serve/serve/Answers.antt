@@ -150,7 +150,67 @@ pub returns-in-Ok-Gather-clause-gather_begun : goal.returns-in-Ok-Gather-clause-
 returns-in-Ok-Gather-clause-gather_begun g c = λ w is one. elim (c.serve_gather.ensures.begun one) [
   | inl keeps ↦ inl (inl keeps)
   | inr front ↦ inr (
-    subst (λ (v : JobOptions). GathersFrontOfJob (settings_in v) v.counted (g.R.Read.remaining c.args.reader.now) (g.R.Read.remaining c.serve_gather.new.reader)
-    (g.W.Write.contents c.args.writer.now) (g.W.Write.contents c.serve_gather.new.writer))
-    (same_gather _ _ w c.in-Ok-Gather.field-0-is (c.in-Ok-Gather.ensures.gather w is)) front)
+      subst (λ (v : JobOptions). GathersFrontOfJob (settings_in v) v.counted (g.R.Read.remaining c.args.reader.now) (g.R.Read.remaining c.serve_gather.new.reader)
+      (g.W.Write.contents c.args.writer.now) (g.W.Write.contents c.serve_gather.new.writer))
+      (same_gather _ _ w c.in-Ok-Gather.field-0-is (c.in-Ok-Gather.ensures.gather w is)) front)
 ]
+
+pub returns-in-Err-clause-node_read : goal.returns-in-Err-clause-node_read
+returns-in-Err-clause-node_read g c = λ w is zero. absurd (c.tell_words.ensures.refused (c.in-Err.ensures.faults _ is.accepted) zero)
+
+pub returns-in-Ok-Run-clause-node_read : goal.returns-in-Ok-Run-clause-node_read
+returns-in-Ok-Run-clause-node_read g c = λ w is zero. absurd (run_no_node _ _ w c.in-Ok-Run.field-0-is (c.in-Ok-Run.ensures.node w is))
+
+pub returns-in-Ok-Replay-clause-node_read : goal.returns-in-Ok-Replay-clause-node_read
+returns-in-Ok-Replay-clause-node_read g c = λ w is zero. absurd (replay_no_node _ _ w c.in-Ok-Replay.field-0-is (c.in-Ok-Replay.ensures.node w is))
+
+pub returns-in-Ok-Gather-clause-node_read : goal.returns-in-Ok-Gather-clause-node_read
+returns-in-Ok-Gather-clause-node_read g c = λ w is zero. absurd (node_no_gather _ w _ (c.in-Ok-Gather.ensures.node w is) c.in-Ok-Gather.field-0-is)
+
+pub returns-in-Ok-Node-clause-node_read : goal.returns-in-Ok-Node-clause-node_read
+returns-in-Ok-Node-clause-node_read g c = λ w is zero. c.serve_node.ensures.read zero
+
+pub returns-in-Err-clause-gather_read : goal.returns-in-Err-clause-gather_read
+returns-in-Err-clause-gather_read g c = λ w is zero. absurd (c.tell_words.ensures.refused (c.in-Err.ensures.faults _ is.accepted) zero)
+
+pub returns-in-Ok-Run-clause-gather_read : goal.returns-in-Ok-Run-clause-gather_read
+returns-in-Ok-Run-clause-gather_read g c = λ w is zero. absurd (run_no_gather _ _ w c.in-Ok-Run.field-0-is (c.in-Ok-Run.ensures.gather w is))
+
+pub returns-in-Ok-Replay-clause-gather_read : goal.returns-in-Ok-Replay-clause-gather_read
+returns-in-Ok-Replay-clause-gather_read g c = λ w is zero. absurd (replay_no_gather _ _ w c.in-Ok-Replay.field-0-is (c.in-Ok-Replay.ensures.gather w is))
+
+pub returns-in-Ok-Node-clause-gather_read : goal.returns-in-Ok-Node-clause-gather_read
+returns-in-Ok-Node-clause-gather_read g c = λ w is zero. absurd (node_no_gather _ _ w c.in-Ok-Node.field-0-is (c.in-Ok-Node.ensures.gather w is))
+
+pub returns-in-Ok-Gather-clause-gather_read : goal.returns-in-Ok-Gather-clause-gather_read
+returns-in-Ok-Gather-clause-gather_read g c = λ w is zero. c.serve_gather.ensures.read zero
+
+pub returns-in-Err-clause-node_written : goal.returns-in-Err-clause-node_written
+returns-in-Err-clause-node_written g c = λ w is zero. absurd (c.tell_words.ensures.refused (c.in-Err.ensures.faults _ is.accepted) zero)
+
+pub returns-in-Ok-Run-clause-node_written : goal.returns-in-Ok-Run-clause-node_written
+returns-in-Ok-Run-clause-node_written g c = λ w is zero. absurd (run_no_node _ _ w c.in-Ok-Run.field-0-is (c.in-Ok-Run.ensures.node w is))
+
+pub returns-in-Ok-Replay-clause-node_written : goal.returns-in-Ok-Replay-clause-node_written
+returns-in-Ok-Replay-clause-node_written g c = λ w is zero. absurd (replay_no_node _ _ w c.in-Ok-Replay.field-0-is (c.in-Ok-Replay.ensures.node w is))
+
+pub returns-in-Ok-Gather-clause-node_written : goal.returns-in-Ok-Gather-clause-node_written
+returns-in-Ok-Gather-clause-node_written g c = λ w is zero. absurd (node_no_gather _ w _ (c.in-Ok-Gather.ensures.node w is) c.in-Ok-Gather.field-0-is)
+
+pub returns-in-Ok-Node-clause-node_written : goal.returns-in-Ok-Node-clause-node_written
+returns-in-Ok-Node-clause-node_written g c = λ w is zero. c.serve_node.ensures.written zero
+
+pub returns-in-Err-clause-gather_written : goal.returns-in-Err-clause-gather_written
+returns-in-Err-clause-gather_written g c = λ w is zero. absurd (c.tell_words.ensures.refused (c.in-Err.ensures.faults _ is.accepted) zero)
+
+pub returns-in-Ok-Run-clause-gather_written : goal.returns-in-Ok-Run-clause-gather_written
+returns-in-Ok-Run-clause-gather_written g c = λ w is zero. absurd (run_no_gather _ _ w c.in-Ok-Run.field-0-is (c.in-Ok-Run.ensures.gather w is))
+
+pub returns-in-Ok-Replay-clause-gather_written : goal.returns-in-Ok-Replay-clause-gather_written
+returns-in-Ok-Replay-clause-gather_written g c = λ w is zero. absurd (replay_no_gather _ _ w c.in-Ok-Replay.field-0-is (c.in-Ok-Replay.ensures.gather w is))
+
+pub returns-in-Ok-Node-clause-gather_written : goal.returns-in-Ok-Node-clause-gather_written
+returns-in-Ok-Node-clause-gather_written g c = λ w is zero. absurd (node_no_gather _ _ w c.in-Ok-Node.field-0-is (c.in-Ok-Node.ensures.gather w is))
+
+pub returns-in-Ok-Gather-clause-gather_written : goal.returns-in-Ok-Gather-clause-gather_written
+returns-in-Ok-Gather-clause-gather_written g c = λ w is zero. c.serve_gather.ensures.written zero
