@@ -9,9 +9,9 @@
 //! b   c
 //! %%
 //! send 1         -> sent 0 0 1 2 1 74, and 74 bytes
-//! deliver 54     and 54 bytes -> new
+//! deliver 74     and 74 bytes -> new
 //! close          -> closed 1
-//! keep           -> kept 1 227, and 227 bytes
+//! keep           -> kept 1 259, and 259 bytes
 //! ```
 //!
 //! What a node answers is a function of the commands over one node of the world's definition: the same replica as a
