@@ -277,7 +277,7 @@ def main():
         if "--counted" in asked.words and not re.search(rb"^%%\r?$", text, re.MULTILINE):
             raise Refused("no line %% before the list")  # a node would wait for one
         with nullcontext(asked.scheduler) if asked.scheduler else LocalCluster(
-                asked.workers or 4, threads_per_worker=1, memory_limit=None, dashboard_address=None,
+                asked.workers or 4, threads_per_worker=1, memory_limit=None, dashboard_address=":0",
                 silence_logs=logging.CRITICAL) as cluster, Client(cluster) as client:
             client.wait_for_workers(asked.workers or 1)
             run = Run(client, asked, text + (b"\n%%\n" if text and not text.endswith(b"\n") else b"%%\n"))
