@@ -270,6 +270,8 @@ def main():
     logging.disable()  # Dask's own words on what is lost
     signal.signal(signal.SIGTERM, lambda *_: sys.exit(1))  # nodes are ended first
     try:
+        if asked.parts < 1:
+            raise Refused("parts is not from 1 to 64")
         if not shutil.which(asked.program):
             raise Refused(f"{asked.program}: no such program")
         with open(asked.input, "rb") as file:
