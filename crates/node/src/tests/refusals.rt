@@ -221,9 +221,21 @@ fn only_others_are_sent_to(rt: HostRuntime) {
 }
 
 /// Inputs that say no job: whether a list is counted, the partition, and what is refused.
-static NO_JOBS: [(bool, u16, &[u8], JobError); 7] = [
+static NO_JOBS: [(bool, u16, &[u8], JobError); 9] = [
     (false, 0, b"a\tb\n", JobError::NoMark),
     (false, 0, b"a\tb\n%%x\n%\n", JobError::NoMark),
+    (
+        false,
+        0,
+        b"a\tb\tc\n",
+        JobError::Edges(EdgeError::Fields { number: 1 }),
+    ),
+    (
+        false,
+        0,
+        b"a\tb\nb\tc\td",
+        JobError::Edges(EdgeError::Fields { number: 2 }),
+    ),
     (true, 0, b"a\tb\n%%\na\n", JobError::NoListMark),
     (false, 2, b"a\tb\n%%\n", JobError::Part),
     (
