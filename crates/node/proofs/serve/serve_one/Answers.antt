@@ -8,6 +8,6 @@ pub returns-clause-served : goal.returns-clause-served
 returns-clause-served g c = λ is.
     serves_one c.args.graph.now (g.R.Read.remaining c.args.reader.now) (g.R.Read.remaining c.read_request.new.reader) c.read_request.new.line.items c.in-Some.command c.read_request.new.body.items
     c.args.session.now c.answer.new.session (g.W.Write.contents c.args.writer.now) (g.W.Write.contents c.answer.new.writer) (g.W.Write.contents c.flush.new.writer)
-    (at_some _ _ (λ (k : Command). ReadsRequest (g.R.Read.remaining c.args.reader.now) (g.R.Read.remaining c.read_request.new.reader) c.read_request.new.line.items k c.read_request.new.body.items) c.in-Some.is c.in_ok-command.ensures.some)
+    (at_some _ _ (λ (k : Command). ReadsRequest c.args.session.now.part (g.R.Read.remaining c.args.reader.now) (g.R.Read.remaining c.read_request.new.reader) c.read_request.new.line.items k c.read_request.new.body.items) c.in-Some.is c.in_ok-command.ensures.some)
     (subst (λ (l : List ℕ). Steps c.args.graph.now c.in-Some.command l c.args.session.now c.answer.new.session (g.W.Write.contents c.args.writer.now) (g.W.Write.contents c.answer.new.writer)) c.deref.ensures.value c.in_ok-answer.ensures.step)
     c.flush.ensures.done
