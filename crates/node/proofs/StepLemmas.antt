@@ -31,7 +31,7 @@ use Rattle.ball_model.specs.WorldText.{number_line, refusal_line, show_text, wor
 use Rattle.node.specs.declared.command.Command.{Command}
 use Rattle.node.specs.declared.command.Command.TheVariants as command
 use Rattle.node.specs.declared.session.Reply.{Reply}
-use Rattle.node.specs.NodeText.{Answers, Asked, Asks, IsDelivered, IsGivenBack, Send, Deliver, Closing, Keep, Restart, Recover, NoBatch, NoCheckpoint, Show, Totals, Figures, after_asked, alone, closed_line, figures_text, send_text, sent_text, took_line, totals_text}
+use Rattle.node.specs.NodeText.{Answers, Asked, Asks, IsDelivered, IsGivenBack, Send, Deliver, Closing, Keep, Restart, Recover, IsNotFor, NoBatch, NotFor, NoCheckpoint, Show, Totals, Figures, after_asked, alone, closed_line, figures_text, send_text, sent_text, took_line, totals_text}
 use Rattle.node.specs.Serving.{AppendsAnswer, Steps}
 use Rattle.node.specs.Turns.{Holds, TurnsTo, reply_text, said_text}
 use Rattle.ball_model.specs.Job.{PartValue, part_of}
@@ -39,6 +39,10 @@ use Rattle.batches.specs.declared.error.BatchError.{BatchError}
 use Rattle.checkpoint.specs.declared.error.KeepError.{KeepError}
 use Rattle.node.specs.declared.session.Reply.TheVariants as reply
 use Rattle.node.specs.Refusals.{SaysOfBatch, SaysOfCheckpoint}
+use Rattle.ball_model.specs.Content.{Content, is_new, take_of}
+use Rattle.ball_model.specs.State.{content_of}
+use Rattle.batches.specs.Reading.{batch_at}
+use Rattle.replica.specs.Change.{take_answer}
 use Rattle.node.proofs.SessionLemmas.{no_batch_said, no_checkpoint_said, part_held, plan_held}
 
 -- ---- an answer whose text is known
@@ -122,11 +126,23 @@ close_steps network body v w r text is turned =
     (λ j p h same k. is ∙ ap reply_text (turned j p h k).says ∙ closed_text (held_close_answer j h))
     (λ j p h k. (turned j p h k).holds)
 
+-- a replica refuses a batch that is not for its partition
+not_for_answer : (j : Job) (p : ℕ) (h : Holding) (v : State) (body : List ℕ) (e : TakeError) → Holds j p h v → (d : IsNotFor j p body e) → take_answer v d.batch ≡ Err e
+not_for_answer j p h v body e k d =
+    ap (λ (q : PlanValue). take_of q v.part.number (content_of v) d.batch.plan d.batch.name) (plan_held j p h v k)
+    ∙ ap (λ (n : ℕ). take_of j.plan n (content_of v) d.batch.plan d.batch.name) (number_is j h.partition h.superstep v k.has.holding.stands ∙ k.held.partition)
+    ∙ d.refused (content_of v)
+
+not_for_spelled : (j : Job) (p : ℕ) (h : Holding) (v : State) (body : List ℕ) (e : TakeError) → Holds j p h v → (d : IsNotFor j p body e) → batch_at v.part.plan body ≡ Ok d.batch
+not_for_spelled j p h v body e k d = ap (λ (q : PlanValue). batch_at q body) (plan_held j p h v k) ∙ d.spelled
+
 pub deliver_steps : (network : Network) (n : ℕ) (body : List ℕ) (v w : State) (r : Reply) (text : List ℕ) → text ≡ reply_text r →
     ((j : Job) (p : ℕ) (h : Holding) (name : BatchName) → Holds j p h v → IsDelivered j body name → TurnsTo j p (taken_answer (held_take_answer j h name)) (held_after j h (Take name)) w r) →
     SaysOfBatch v.part.plan body r → ((e : BatchError) → r ≡ reply.NoBatch e → w ≡ v) →
+    ((b : BatchValue) → batch_at v.part.plan body ≡ Ok b → r ≡ reply.Answered (taken_answer (take_answer v b))) →
+    ((b : BatchValue) → batch_at v.part.plan body ≡ Ok b → is_new (take_answer v b) ≡ false → w ≡ v) →
     StepsTo network (command.Deliver n) body v w text
-deliver_steps network n body v w r text is turned said still = record {
+deliver_steps network n body v w r text is turned said still answered same_new = record {
   answers = λ j p h a same k asks. says j p h a k asks;
   holds = λ j p h a same k asks. holds j p h a k asks;
 }
@@ -137,11 +153,16 @@ deliver_steps network n body v w r text is turned said still = record {
     says : (j : Job) (p : ℕ) (h : Holding) (a : Asked) → Holds j p h v → Asks j p (command.Deliver n) body a → Answers j network.labels h a text
     says j p h (Deliver name) k asks = is ∙ ap reply_text (turned j p h name k asks).says ∙ took_text (held_take_answer j h name)
     says j p h (NoBatch e) k asks = is ∙ ap reply_text (none j p h e k asks)
+    says j p h (NotFor e) k asks =
+        is ∙ ap reply_text (answered asks.batch (not_for_spelled j p h v body e k asks))
+        ∙ ap (λ (t : Result Taken TakeError). said_text (taken_answer t)) (not_for_answer j p h v body e k asks)
     says j p h a k asks = absurd asks
 
     holds : (j : Job) (p : ℕ) (h : Holding) (a : Asked) → Holds j p h v → Asks j p (command.Deliver n) body a → Holds j p (after_asked j h a) w
     holds j p h (Deliver name) k asks = (turned j p h name k asks).holds
     holds j p h (NoBatch e) k asks = subst (Holds j p h) (sym (still e (none j p h e k asks))) k
+    holds j p h (NotFor e) k asks =
+        subst (Holds j p h) (sym (same_new asks.batch (not_for_spelled j p h v body e k asks) (ap is_new (not_for_answer j p h v body e k asks)))) k
     holds j p h a k asks = absurd asks
 
 pub restart_steps : (network : Network) (n : ℕ) (body : List ℕ) (v w : State) (r : Reply) (text : List ℕ) → text ≡ reply_text r →

@@ -9,6 +9,7 @@ use Rattle.ball_model.specs.declared.names.TakeError.{TakeError}
 use Rattle.ball_model.specs.declared.names.CloseError.{CloseError}
 use Rattle.ball_model.specs.declared.world.WorldError.TheVariants as refusal
 use Rattle.ball_model.specs.Batches.{BatchValue, batch_bytes, true_batch}
+use Rattle.ball_model.specs.Content.{Content, take_of}
 use Rattle.ball_model.specs.Held.{IsHeldBy, IsName, held_after, held_close_answer, held_take_answer, start_holding}
 use Rattle.ball_model.specs.Input.{fields}
 use Rattle.ball_model.specs.Job.{Job, PartValue, part_of}
@@ -108,6 +109,7 @@ pub data Asked : Type 0 where
   Restart : Option Holding → Asked
   Recover : Holding → Asked
   NoBatch : BatchError → Asked
+  NotFor : TakeError → Asked
   NoCheckpoint : KeepError → Asked
   Show : Asked
   Totals : Asked
@@ -117,6 +119,12 @@ pub data Asked : Type 0 where
 pub record IsDelivered (j : Job) (body : List ℕ) (name : BatchName) : Type 0 where
   pub named : IsName j.plan name
   pub spelled : body ≡ batch_bytes (true_batch j name)
+
+-- the bytes spell a batch that partition p refuses so whatever it holds: one of another job, of another target, or its own
+pub record IsNotFor (j : Job) (p : ℕ) (body : List ℕ) (e : TakeError) : Type 0 where
+  pub batch : BatchValue
+  pub spelled : batch_at j.plan body ≡ Ok batch
+  pub refused : (c : Content) → take_of j.plan p c batch.plan batch.name ≡ Err e
 
 -- the bytes are a checkpoint of partition p that stands for that holding
 pub record IsGivenBack (j : Job) (p : ℕ) (body : List ℕ) (h : Holding) : Type 0 where
@@ -133,11 +141,12 @@ abbrev pub IsOtherStart : Job → ℕ → List ℕ → KeepError → Type 0
 IsOtherStart j p body e = (body ≢ []) × IsNoCheckpoint (part_of j p) body e
 
 -- the bytes behind a command of partition p are what it asks for: a true batch, or a checkpoint that stands for the job; or
--- they are no batch of the plan, or no checkpoint of the part
+-- they are no batch of the plan, or one that is not for the partition, or no checkpoint of the part
 abbrev pub Asks : Job → ℕ → Command → List ℕ → Asked → Type 0
 Asks j p (command.Send q) body (Send r) = q ≡ r
 Asks j p (command.Deliver n) body (Deliver name) = IsDelivered j body name
 Asks j p (command.Deliver n) body (NoBatch e) = batch_at j.plan body ≡ Err e
+Asks j p (command.Deliver n) body (NotFor e) = IsNotFor j p body e
 Asks j p command.Close body Closing = ⊤
 Asks j p command.Keep body Keep = ⊤
 Asks j p (command.Restart n) body (Restart o) = IsStart j p body o
@@ -228,6 +237,7 @@ Answers j labels h (Restart o) text =
 Answers j labels h (Recover c) text =
     text ≡ number_line (codes "merged") (join_of h c).superstep
 Answers j labels h (NoBatch e) text = text ≡ refused_line (batch_word e)
+Answers j labels h (NotFor e) text = text ≡ untaken_line e
 Answers j labels h (NoCheckpoint e) text = text ≡ refused_line (checkpoint_word e)
 Answers j labels h Show text = text ≡ show_text j (alone h.partition) h
 Answers j labels h Totals text = text ≡ totals_text j h
@@ -242,6 +252,7 @@ after_asked j h Keep = h
 after_asked j h (Restart o) = unwrap_or o (start_holding j.plan h.partition)
 after_asked j h (Recover c) = join_of h c
 after_asked j h (NoBatch e) = h
+after_asked j h (NotFor e) = h
 after_asked j h (NoCheckpoint e) = h
 after_asked j h Show = h
 after_asked j h Totals = h
