@@ -25,7 +25,7 @@ use Rattle.node.specs.declared.error.JobError.{JobError}
 use Rattle.node.specs.declared.error.JobError.TheVariants as nojob
 use Rattle.node.specs.Job.{CountsSome, GivesAll, GivesEdges, GivesSection, IsJobRead, IsPlanned, SaysNetwork}
 use Rattle.node.specs.NoJob.{HasNoNode, IsNoJob, IsNoNetwork, IsNoStart, IsRefused, IsUncounted, IsUnlisted, LacksMark}
-use Rattle.node.specs.Section.{EndsAtMark, Gives, HasNoMark, Passed, ReadsSection, first_or}
+use Rattle.node.specs.Section.{EndsAtMark, Gives, Passed, ReadsSection, first_or}
 use Rattle.node.proofs.SectionLemmas.{GoesOn, passed_end, passed_more, passed_next, passed_over, passed_start, passed_whole, section_before}
 
 -- ---- the edge list

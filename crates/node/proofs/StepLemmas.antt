@@ -39,7 +39,7 @@ use Rattle.batches.specs.declared.error.BatchError.{BatchError}
 use Rattle.checkpoint.specs.declared.error.KeepError.{KeepError}
 use Rattle.node.specs.declared.session.Reply.TheVariants as reply
 use Rattle.node.specs.Refusals.{SaysOfBatch, SaysOfCheckpoint}
-use Rattle.ball_model.specs.Content.{Content, is_new, take_of}
+use Rattle.ball_model.specs.Content.{is_new, take_of}
 use Rattle.ball_model.specs.State.{content_of}
 use Rattle.batches.specs.Reading.{batch_at}
 use Rattle.replica.specs.Change.{take_answer}

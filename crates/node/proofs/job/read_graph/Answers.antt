@@ -1,5 +1,5 @@
 use Rattle.node.specs.declared.job.TheConstants.{LIMITS}
-use Rattle.std.proofs.Common.{ap, subst, true, false, Bool}
+use Rattle.std.proofs.Common.{ap, subst, Bool}
 use Rattle.std.specs.Prelude.{Err}
 use Rattle.std.proofs.lemmas.Result.{err_from_is_err_and}
 use Rattle.ball_model.specs.RunText.{network_in}

@@ -10,8 +10,6 @@ use Rattle.std.specs.Prelude.{IfOk, IsOk}
 use Rattle.batches.specs.Reading.{batch_at}
 use Rattle.node.specs.Refusals.{SaysOfBatch}
 use Rattle.node.proofs.SessionLemmas.{no_other_said, says_no_batch, spelled_ok, spelled_same}
-use Rattle.std.proofs.Common.{sym, false}
-use Rattle.std.specs.Prelude.{Ok, Err}
 use Rattle.std.specs.Arc.{arc_value}
 use Rattle.ball_model.specs.Batches.{BatchValue}
 use Rattle.ball_model.specs.Content.{is_new}
