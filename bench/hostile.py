@@ -26,6 +26,8 @@ RUN = ["run", "--log2m", "4"]
 EDGES = b"a\tb\nb\tc\n"
 REPORT = open(os.path.join(HERE, "..", "examples", "two-edges.csv"), "rb").read()
 REPLAY = ["replay", "--log2m", "4", "--parts", "2", "--replicas", "2"]
+NODE = ["node", "--log2m", "4", "--parts", "2"]
+GATHER = ["gather", "--log2m", "4", "--parts", "2"]
 SCRIPT = b"""# a worker that is kept, restarted and recovered
 send 0.0 1
 send 1.0 0
@@ -86,6 +88,27 @@ def count(kind, runs, bad, note=""):
         print("   ", *it, file=sys.stderr)
 
 
+def is_node(data, status, output, faults):
+    """What a node has answered before a fault stands."""
+    return status == 0 and not faults or is_fault(status, b"", faults)
+
+
+def lines_of(data):
+    """The lines of commands, or of answers, without the bytes that follow some of them."""
+    at = 0
+    while at < len(data):
+        end = data.index(b"\n", at)
+        line = data[at:end]
+        at = end + 1 + (int(line.split()[-1]) if line.startswith((b"deliver ", b"sent ")) else 0)
+        yield line
+
+
+def is_obeyed(data, status, output, faults):
+    """Each command has one answer."""
+    commands, answers = (sum(1 for _ in lines_of(it)) for it in (data.partition(b"%%\n")[2], output))
+    return status == 0 and not faults and answers == commands
+
+
 def noise(chance, marks=b"\t\n\r#, \"%ab01"):
     """Random bytes, of which many are those that mean something."""
     return bytes(chance.choice(marks) if chance.random() < 0.6 else chance.randrange(256) for _ in range(chance.randrange(200)))
@@ -113,6 +136,50 @@ def commands(chance):
         return f"{verb} {node()}"
 
     return "".join(one() + "\n" for _ in range(chance.randrange(1, 60))).encode()
+
+
+def sized(word, body):
+    return b"%s %d\n%s" % (word, len(body), body)
+
+
+def told_last(words, commands):
+    """The bytes behind the last answer of a node, which is one of sent or kept."""
+    output, at, last = ran(words, EDGES + b"%%\n" + commands)[1], 0, b""
+    while at < len(output):
+        line, at = output[at:output.index(b"\n", at)], output.index(b"\n", at) + 1
+        size = int(line.split()[-1]) if line.startswith((b"sent ", b"kept ")) else 0
+        last, at = output[at:at + size], at + size
+    return last
+
+
+def node_parts():
+    """A batch to partition 0, commands for its node that all have a right answer, and the checkpoints of both nodes at the
+    end."""
+    other = [*NODE, "--part", "1"]
+    batch = told_last(other, b"send 0\n")
+    to_each, said = [b"", b""], [b"", b""]
+    for superstep in range(4):
+        for p, words in enumerate((NODE, other)):
+            said[p] = told_last(words, to_each[p] + b"send %d\n" % (1 - p))
+        for p in (0, 1):
+            to_each[p] += sized(b"deliver", said[1 - p]) + b"close\n"
+    kept = [told_last(words, to_each[p] + b"keep\n") for p, words in enumerate((NODE, other))]
+    start = told_last(NODE, b"keep\n")
+    commands = b"send 1\n" + to_each[0] + b"keep\n" + sized(b"restart", start) + sized(b"recover", kept[0]) + b"show\ntotals\nfigures\n"
+    return batch, commands, kept
+
+
+def orders(chance, batch):
+    """Commands for a node, whose bodies are as long as they say, and mostly no batch of the job."""
+    def one():
+        verb = chance.choice(("send", "deliver", "deliver", "close"))
+        if verb == "send":
+            return f"send {chance.choice('0112')}\n".encode()
+        if verb == "deliver":
+            return sized(b"deliver", chance.choice((batch, damaged(chance, batch), noise(chance)))[:len(batch)])
+        return b"close\n"
+
+    return EDGES + b"%%\n" + b"".join(one() for _ in range(chance.randrange(1, 60)))
 
 
 def damaged(chance, right):
@@ -165,6 +232,9 @@ def all_inputs(many, seconds, seed, feed):
     lists = EDGES + b"%%\r\na\n# c\nc\n"
     scripts = EDGES + b"%%\n" + SCRIPT
     counted = lists + b"%%\n" + SCRIPT
+    batch, asked, kept = node_parts()
+    nodes = EDGES + b"%%\n" + asked
+    gathered = EDGES + b"%%\n" + b"".join(sized(b"part", it) for it in kept)
     for kind, words, make, holds in (
         ("edge lists of random bytes", RUN, noise, is_report),
         ("edge lists with bytes changed", RUN, lambda chance: damaged(chance, edges), is_report),
@@ -175,6 +245,10 @@ def all_inputs(many, seconds, seed, feed):
         ("scripts of random commands", REPLAY, lambda chance: EDGES + b"%%\n" + commands(chance), is_answered),
         ("scripts with bytes changed", REPLAY, lambda chance: damaged(chance, scripts), is_replay),
         ("scripts and lists with bytes changed", [*REPLAY, "--counted"], lambda chance: damaged(chance, counted), is_replay),
+        ("commands of random bytes", NODE, lambda chance: EDGES + b"%%\n" + noise(chance, b"\n 0123senddeliverclosekeeprestart"), is_node),
+        ("commands with right and wrong batches", NODE, lambda chance: orders(chance, batch), is_obeyed),
+        ("commands and bodies with bytes changed", NODE, lambda chance: damaged(chance, nodes), is_node),
+        ("checkpoints of all with bytes changed", GATHER, lambda chance: damaged(chance, gathered), is_report),
     ):
         inputs(kind, words, make, many, seconds, holds, seed, feed)
 
@@ -218,6 +292,13 @@ def refusals(shim):
             return cut or (status, output, faults) == (0, answers, b"")
         return holds
 
+    def cut_short(answers):
+        # A node writes as it goes on: a beginning of its answers stands.
+        def holds(status, output, faults):
+            cut = status == 1 and faults == b"hyperball: out of memory\n" and answers.startswith(output)
+            return cut or (status, output, faults) == (0, answers, b"")
+        return holds
+
     def unread(fault):
         return lambda status, output, faults: (status, output, faults) == (1, b"", fault)
 
@@ -242,7 +323,17 @@ def refusals(shim):
     each_call("memory refused: a replay", REPLAY, scripts, shim, "REFUSE_ALLOC", starved(answers))
     each_call("reads that fail: a replay", REPLAY, scripts, shim, "REFUSE_READ", unread(b"hyperball: the input cannot be read\n"))
     each_call("writes that fail: a replay", REPLAY, scripts, shim, "REFUSE_WRITE", unwritten(answers))
-    for words, data, wanted in ((RUN, EDGES, REPORT), (REPLAY, scripts, answers)):
+    _, asked, kept = node_parts()
+    asked = EDGES + b"%%\n" + asked
+    obeyed = ran(NODE, asked)[1]
+    gathered = EDGES + b"%%\n" + b"".join(sized(b"part", it) for it in kept)
+    each_call("memory refused: a node", NODE, asked, shim, "REFUSE_ALLOC", cut_short(obeyed))
+    each_call("memory refused: a gathering", GATHER, gathered, shim, "REFUSE_ALLOC", starved(REPORT))
+    each_call("reads that fail: a node", NODE, asked, shim, "REFUSE_READ", unread(b"hyperball: the input cannot be read\n"))
+    each_call("reads that fail: a gathering", GATHER, gathered, shim, "REFUSE_READ", unread(b"hyperball: the input cannot be read\n"))
+    each_call("writes that fail: a node", NODE, asked, shim, "REFUSE_WRITE", unwritten(obeyed))
+    each_call("writes that fail: a gathering", GATHER, gathered, shim, "REFUSE_WRITE", unwritten(REPORT))
+    for words, data, wanted in ((RUN, EDGES, REPORT), (REPLAY, scripts, answers), (NODE, asked, obeyed), (GATHER, gathered, REPORT)):
         answer = ran(words, data, LD_PRELOAD=shim, SHORT_IO="1")
         count(f"a byte a call: {words[0]}", 1, [] if answer == (0, wanted, b"") else [(answer,)])
 

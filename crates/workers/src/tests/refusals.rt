@@ -104,9 +104,13 @@ fn a_run_whose_writer_fails(rt: HostRuntime) {
     assert!(rt; first && second && seen(&rt, None, Some(3)) == WHOLE);
 }
 
-/// The edge list is read by two calls: one for its bytes, and one that finds no more.
+/// The edge list is read by three calls: one for its bytes, and two that find no more.
 #[test]
 fn a_run_whose_reader_fails(rt: HostRuntime) {
     let unread = Some((Err(RunError::Edges(EdgeError::Read)), Written::Nothing));
-    assert!(rt; seen(&rt, Some(1), None) == unread && seen(&rt, Some(2), None) == unread);
+    let mut right = seen(&rt, Some(4), None) == WHOLE;
+    for call in 1..=3u64 {
+        right &= seen(&rt, Some(call), None) == unread;
+    }
+    assert!(rt; right);
 }

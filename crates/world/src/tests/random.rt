@@ -1,5 +1,5 @@
-//! Scripts of random commands, as they are and with some bytes changed: each is refused as a whole, or each of its commands
-//! is answered.
+//! Scripts of random commands, as they are and with some bytes changed, and of random bytes: each is refused as a whole, or
+//! each of its commands is answered.
 
 use super::replays::options;
 use super::worlds::TWO_EDGES;
@@ -60,6 +60,15 @@ fn fill(script: &mut Vec<u8>, state: &mut u64) -> Result<(), AllocError> {
     script.clear();
     for _ in 0..next(state) % 25 {
         script.extend_from_slice(LINES[(next(state) % 32) as usize])?;
+    }
+    Ok(())
+}
+
+// Puts up to 64 bytes into a script.
+fn fill_anyhow(script: &mut Vec<u8>, state: &mut u64) -> Result<(), AllocError> {
+    script.clear();
+    for _ in 0..next(state) % 65 {
+        script.push(MARKS[(next(state) % 16) as usize])?;
     }
     Ok(())
 }
@@ -149,15 +158,18 @@ fn see_both(rt: &HostRuntime, script: &mut Vec<u8>, state: &mut u64, seen: Seen)
     see(rt, script, seen)
 }
 
+// No script is seen yet.
+const NONE: Seen = Seen {
+    answered: 0,
+    refused: 0,
+    right: true,
+};
+
 // A thousand of both.
 fn see_all(rt: &HostRuntime) -> Option<Seen> {
     let mut state = 32;
     let mut script = Vec::new(rt.alloc());
-    let mut seen = Seen {
-        answered: 0,
-        refused: 0,
-        right: true,
-    };
+    let mut seen = NONE;
     for _ in 0..1000 {
         seen = see_both(rt, &mut script, &mut state, seen)?;
     }
@@ -169,6 +181,28 @@ fn see_all(rt: &HostRuntime) -> Option<Seen> {
 fn random_scripts(rt: HostRuntime) {
     let right = match see_all(&rt) {
         Some(seen) => seen.right && seen.answered > 1000 && seen.refused > 100,
+        None => false,
+    };
+    assert!(rt; right);
+}
+
+// A thousand of random bytes.
+fn see_any(rt: &HostRuntime) -> Option<Seen> {
+    let mut state = 33;
+    let mut script = Vec::new(rt.alloc());
+    let mut seen = NONE;
+    for _ in 0..1000 {
+        fill_anyhow(&mut script, &mut state).ok()?;
+        seen = see(rt, &script, seen)?;
+    }
+    Some(seen)
+}
+
+// Nearly all are refused.
+#[test]
+fn scripts_of_random_bytes(rt: HostRuntime) {
+    let right = match see_any(&rt) {
+        Some(seen) => seen.right && seen.refused > 800,
         None => false,
     };
     assert!(rt; right);
