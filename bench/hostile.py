@@ -5,7 +5,7 @@ Usage: bench/hostile.py [INPUTS [SECONDS [SEED]]]   (1000 inputs of each kind, f
 
 Inputs are random bytes, right ones with a few bytes changed, and scripts of random commands; a kind's inputs depend on
 its name and the seed alone. Each run is a process of its own. It has to end by itself, with status 0 and nothing told,
-or with status 1, one line of fault and nothing written. Where cc is there, feed.c copies the process before its main
+or with status 1, one line of fault and nothing written (but what a node has answered). Where cc is there, feed.c copies the process before its main
 is called, which spares starting it anew for each input, and refuse.c stands between the program and the C library: each
 allocation is refused in turn, each thread, and each read and each write fails in turn. Under limits of the address space
 memory runs out for good. Prints a line for each kind; the status is 1 where a run went wrong.
@@ -94,18 +94,23 @@ def is_node(data, status, output, faults):
 
 
 def lines_of(data):
-    """The lines of commands, or of answers, without the bytes that follow some of them."""
+    """The lines of commands, or of answers, without the bytes that follow some of them. A ValueError where one is cut."""
     at = 0
     while at < len(data):
         end = data.index(b"\n", at)
         line = data[at:end]
         at = end + 1 + (int(line.split()[-1]) if line.startswith((b"deliver ", b"sent ")) else 0)
+        if at > len(data):
+            raise ValueError(line)
         yield line
 
 
 def is_obeyed(data, status, output, faults):
-    """Each command has one answer."""
-    commands, answers = (sum(1 for _ in lines_of(it)) for it in (data.partition(b"%%\n")[2], output))
+    """Each command has one answer, and it is whole."""
+    try:
+        commands, answers = (sum(1 for _ in lines_of(it)) for it in (data.partition(b"%%\n")[2], output))
+    except ValueError:
+        return False
     return status == 0 and not faults and answers == commands
 
 
@@ -299,15 +304,16 @@ def refusals(shim):
             return cut or (status, output, faults) == (0, answers, b"")
         return holds
 
-    def unread(fault):
-        return lambda status, output, faults: (status, output, faults) == (1, b"", fault)
+    def unread(fault, answers=b""):
+        # (a node has answered the commands that it has read)
+        return lambda status, output, faults: status == 1 and faults == fault and answers.startswith(output)
 
     def told(words):
         # What clap tells is told whole, or not at all.
         plain = ran(words, EDGES)
         return lambda *answer: answer in [plain, (1, b"", b"hyperball: out of memory\n")]
 
-    for words in (["--help"], ["run", "--help"], ["--version"], ["replays"], ["run", "--log2m", "x"], ["run", "--lose", "0.0@"]):
+    for words in (["--help"], ["run", "--help"], ["node", "--help"], ["gather", "--help"], ["--version"], ["replays"], ["run", "--log2m", "x"], ["run", "--lose", "0.0@"]):
         each_call(f"memory refused: {' '.join(words)}", words, EDGES, shim, "REFUSE_ALLOC", told(words))
     each_call("memory refused: one partition", RUN, EDGES, shim, "REFUSE_ALLOC", memory(REPORT))
     counted = ran([*RUN, "--counted"], EDGES + b"%%\na\n")[1]
@@ -329,7 +335,7 @@ def refusals(shim):
     gathered = EDGES + b"%%\n" + b"".join(sized(b"part", it) for it in kept)
     each_call("memory refused: a node", NODE, asked, shim, "REFUSE_ALLOC", cut_short(obeyed))
     each_call("memory refused: a gathering", GATHER, gathered, shim, "REFUSE_ALLOC", starved(REPORT))
-    each_call("reads that fail: a node", NODE, asked, shim, "REFUSE_READ", unread(b"hyperball: the input cannot be read\n"))
+    each_call("reads that fail: a node", NODE, asked, shim, "REFUSE_READ", unread(b"hyperball: the input cannot be read\n", obeyed))
     each_call("reads that fail: a gathering", GATHER, gathered, shim, "REFUSE_READ", unread(b"hyperball: the input cannot be read\n"))
     each_call("writes that fail: a node", NODE, asked, shim, "REFUSE_WRITE", unwritten(obeyed))
     each_call("writes that fail: a gathering", GATHER, gathered, shim, "REFUSE_WRITE", unwritten(REPORT))
