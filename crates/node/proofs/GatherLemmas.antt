@@ -14,7 +14,7 @@ use Rattle.ball_model.specs.Job.{Job, IsJob, PartValue, part_of}
 use Rattle.ball_model.specs.PlanValue.{PlanValue}
 use Rattle.ball_model.specs.State.{State, StandsFor}
 use Rattle.report.specs.Ready.{AllStand, job_report}
-use Rattle.node.specs.Gathering.{AreGivenBack, AreMadeOf, Gathers, IsMadeOf, ReadsAll, ReadsOne, part_line, part_text, parts_text}
+use Rattle.node.specs.Gathering.{AreGivenBack, AreMadeOf, AreParts, Gathers, IsMadeOf, ReadsAll, ReadsOne, part_line, part_text, parts_text}
 use Rattle.ball_model.specs.Streams.{PutsFront}
 use Rattle.ball_model.specs.Input.{Network}
 use Rattle.ball_model.specs.Job.{job_of}
@@ -55,6 +55,14 @@ reads_more j n m a b c vs v next s o = record {
   consumed = subst (Consumes a c) (sym (parts_last s.bodies o.body)) (Consumes-trans a b c (parts_text s.bodies) (part_text o.body) s.consumed o.consumed);
   made = made_last j 0 n s.bodies vs o.body v (let count = s.count in omega arith) s.made o.made;
 }
+
+-- each is a checkpoint
+parts_made : (j : Job) (p : ℕ) (bodies : List (List ℕ)) (vs : List State) → AreMadeOf j p bodies vs → AreParts j p bodies
+unfolding AreMadeOf AreParts
+parts_made j p [] [] made = tt
+parts_made j p [] (v ∷ vs) made = absurd made
+parts_made j p (b ∷ bodies) [] made = absurd made
+parts_made j p (b ∷ bodies) (v ∷ vs) made = (made.0.is, parts_made j (p + 1) bodies vs made.1)
 
 -- ---- what the replicas stand for
 stands : (j : Job) (p : ℕ) (body : List ℕ) (v : State) → IsMadeOf j p body v → (g : AreGivenBack j p (body ∷ [])) → StandsFor j p v.superstep v
@@ -138,6 +146,7 @@ gathered j labels a b c x y vs s none end told = record {
   count = s.count;
   consumed = subst (Consumes a c) (append-nil (parts_text s.bodies)) (Consumes-trans a b c (parts_text s.bodies) [] s.consumed none);
   end = end;
+  parts = parts_made j 0 s.bodies vs s.made;
   report = λ given. told (all_stand j s.bodies vs s.made given);
 }
 
@@ -213,6 +222,7 @@ gathered_front j labels a b c x y vs s none end told = inr (record {
   count = s.count;
   consumed = subst (Consumes a c) (append-nil (parts_text s.bodies)) (Consumes-trans a b c (parts_text s.bodies) [] s.consumed none);
   end = end;
+  parts = parts_made j 0 s.bodies vs s.made;
   front = λ given. told (all_stand j s.bodies vs s.made given);
 })
 

@@ -2,7 +2,7 @@
 use Rattle.std.proofs.Common.{◌≡◌, ◌≢◌, ◌∙◌, ℕ, ◌+◌, ◌≤◌, ◌==◌, ◌||◌, Bool, true, false, nat_lt, if◌then◌else◌, List, [], ◌∷◌, ◌++◌, length, length-append, arith, refl, ap, sym, subst}
 use Rattle.std.specs.Prelude.{Option, None, Some, IfSome, Result, Ok, Err}
 use Rattle.std.specs.Io.KnownBytes.{IsAtEnd, prepend_known}
-use Rattle.std.specs.Prelude.{IsErrAnd}
+use Rattle.std.specs.Prelude.{IsErrAnd, IsOk}
 use Rattle.std.proofs.Common.{inl, inr}
 use Rattle.node.specs.declared.error.NodeError.{NodeError}
 use Rattle.node.specs.declared.error.NodeError.TheVariants as nonode
@@ -23,10 +23,10 @@ use Rattle.edgelist.specs.declared.read.Delimiter.{Delimiter}
 use Rattle.edgelist.specs.declared.read.EdgeLimits.{EdgeLimits}
 use Rattle.node.specs.declared.error.JobError.{JobError}
 use Rattle.node.specs.declared.error.JobError.TheVariants as nojob
-use Rattle.node.specs.Job.{CountsSome, GivesSection, IsJobRead, IsPlanned, SaysNetwork}
-use Rattle.node.specs.NoJob.{HasNoNode, IsNoJob, IsNoNetwork, IsNoStart, IsRefused, IsUncounted, IsUnlisted}
-use Rattle.node.specs.Section.{EndsAtMark, Gives, HasNoMark, Passed, ReadsSection}
-use Rattle.node.proofs.SectionLemmas.{GoesOn, passed_end, passed_more, passed_next, passed_over, passed_start, section_before}
+use Rattle.node.specs.Job.{CountsSome, GivesAll, GivesEdges, GivesSection, IsJobRead, IsPlanned, SaysNetwork}
+use Rattle.node.specs.NoJob.{HasNoNode, IsNoJob, IsNoNetwork, IsNoStart, IsRefused, IsUncounted, IsUnlisted, LacksMark}
+use Rattle.node.specs.Section.{EndsAtMark, Gives, Passed, ReadsSection, first_or}
+use Rattle.node.proofs.SectionLemmas.{GoesOn, passed_end, passed_more, passed_next, passed_over, passed_start, passed_whole, section_before}
 
 -- ---- the edge list
 -- so many bytes were given
@@ -111,8 +111,41 @@ refused_whole says front (Some text) z e some section tells = record {
   refuses = subst (λ (l : List ℕ). IsPlain l → Refuses (says l) e) (sym (section_before front (Some text) z section)) tells;
 }
 
-pub no_mark : (limits : EdgeLimits) (delimiter : Delimiter) (n : ℕ) (begins : Bool) (x y : Option (List ℕ)) (edges : EdgeReader) → GivesSoFar limits delimiter n begins x y edges → IsAtEnd y → HasNoMark x
-no_mark limits delimiter n begins x y edges so end = passed_over so.front begins x y so.passed end
+-- all was given, where there is no mark
+pub gives_all : (limits : EdgeLimits) (delimiter : Delimiter) (n : ℕ) (begins : Bool) (x y : Option (List ℕ)) (edges : EdgeReader) → GivesSoFar limits delimiter n begins x y edges → IsAtEnd y → GivesAll limits delimiter x edges
+gives_all limits delimiter n begins x y edges so end = record {
+  front = so.front;
+  given = so.given;
+  none = passed_over so.front begins x y so.passed end;
+  whole = passed_whole so.front begins x y so.passed end;
+}
+
+-- and it is refused
+refused_all : (says : List ℕ → Result Network Refusal) (limits : EdgeLimits) (delimiter : Delimiter) (x : Option (List ℕ)) (edges : EdgeReader) (e : EdgeError) → e ≢ unread.Read → (s : GivesAll limits delimiter x edges) →
+    (IsPlain s.front → Refuses (says s.front) e) → IsNoNetwork says x (nojob.Edges e)
+refused_all says limits delimiter None edges e some s tells = record { read = some; refuses = tt }
+refused_all says limits delimiter (Some text) edges e some s tells = record {
+  read = some;
+  refuses = subst (λ (l : List ℕ). IsPlain l → Refuses (says l) e) (sym (ap (first_or text) s.none ∙ s.whole)) tells;
+}
+
+pub refused_edges : (says : List ℕ → Result Network Refusal) (limits : EdgeLimits) (delimiter : Delimiter) (x z : Option (List ℕ)) (edges : EdgeReader) (marked : Bool) (e : EdgeError) → e ≢ unread.Read →
+    GivesEdges limits delimiter x z edges marked → ((text : List ℕ) → IsGiven limits delimiter text edges → IsPlain text → Refuses (says text) e) → IsNoNetwork says x (nojob.Edges e)
+refused_edges says limits delimiter x z edges true e some s tells = refused_whole says s.front x z e some s.section (tells s.front s.given)
+refused_edges says limits delimiter x z edges false e some s tells = refused_all says limits delimiter x edges e some s (tells s.front s.given)
+
+says_fine : (r : Result Network Refusal) (n : Network) → r ≡ Ok n → IsOk r
+says_fine (Ok m) n is = refl
+says_fine (Err e) n is = absurd (cc)
+
+-- or it says a network, and only the mark is missing
+pub lacks_mark : (says : List ℕ → Result Network Refusal) (limits : EdgeLimits) (delimiter : Delimiter) (x : Option (List ℕ)) (edges : EdgeReader) (n : Network) → (s : GivesAll limits delimiter x edges) →
+    (IsPlain s.front → says s.front ≡ Ok n) → LacksMark says x
+lacks_mark says limits delimiter None edges n s tells = record { none = tt; fine = tt }
+lacks_mark says limits delimiter (Some text) edges n s tells = record {
+  none = s.none;
+  fine = subst (λ (l : List ℕ). IsPlain l → IsOk (says l)) (sym s.whole) (λ plain. says_fine (says s.front) n (tells plain));
+}
 
 pub too_many : (limits : EdgeLimits) (delimiter : Delimiter) (n : ℕ) (begins : Bool) (x y : Option (List ℕ)) (edges : EdgeReader) → GivesSoFar limits delimiter n begins x y edges → IfSome x (λ text. n ≤ length text)
 too_many limits delimiter n begins None y edges so = tt

@@ -293,6 +293,12 @@ passed_over front begins (Some text) y p end =
     let none : p.rest ≡ [] = subst IsAtEnd p.new_is end in
     p.sections ∙ ap (λ (l : List ℕ). prefixed front (sections_from begins l)) none
 
+pub passed_whole : (front : List ℕ) (begins : Bool) (x y : Option (List ℕ)) → Passed front begins x y → IsAtEnd y → IfSome x (λ text. text ≡ front)
+passed_whole front begins None y p end = tt
+passed_whole front begins (Some text) y p end =
+    let none : p.rest ≡ [] = subst IsAtEnd p.new_is end in
+    p.text_is ∙ ap (λ (l : List ℕ). front ++ l) none ∙ append-nil front
+
 -- what was passed is the front of what stands before the mark
 before_passed : (front text rest : List ℕ) (o : Option (List ℕ × List ℕ)) → text ≡ front ++ rest → sections_of text ≡ prefixed front o → before_mark text ≡ front ++ first_or rest o
 before_passed front text rest None is sections = ap (first_or text) sections ∙ is

@@ -1,5 +1,5 @@
 -- The job that is asked for, over what is read of an input up to the marks.
-use Rattle.std.specs.Prelude.{◌≡◌, ℕ, Bool, List, Option, None, Some, is_some, IfSome, Ok}
+use Rattle.std.specs.Prelude.{◌≡◌, ℕ, Bool, true, false, List, Option, None, Some, is_some, IfSome, Ok}
 use Rattle.ball_model.specs.Input.{IsPlain, Network}
 use Rattle.ball_model.specs.PlanValue.{PlanValue, plan_of}
 use Rattle.ball_model.specs.RunText.{Numbers, Settings, counted_in, network_in, plan_over}
@@ -10,7 +10,7 @@ use Rattle.edgelist.specs.declared.pieces.EdgeReader.{EdgeReader}
 use Rattle.edgelist.specs.declared.read.Delimiter.{Delimiter}
 use Rattle.edgelist.specs.declared.read.EdgeLimits.{EdgeLimits}
 use Rattle.node.specs.declared.job.JobOptions.{JobOptions}
-use Rattle.node.specs.Section.{ReadsSection}
+use Rattle.node.specs.Section.{HasNoMark, ReadsSection}
 
 -- ---- what is asked
 
@@ -28,6 +28,20 @@ pub record GivesSection (limits : EdgeLimits) (delimiter : Delimiter)
   pub front : List ℕ
   pub given : IsGiven limits delimiter front edges
   pub section : ReadsSection front left left'
+
+-- all was read, where no mark is, and given to a reader of edges
+pub record GivesAll (limits : EdgeLimits) (delimiter : Delimiter) (left : Option (List ℕ))
+    (edges : EdgeReader) : Type 0 where
+  pub front : List ℕ
+  pub given : IsGiven limits delimiter front edges
+  pub none : HasNoMark left
+  pub whole : IfSome left (λ text. text ≡ front)
+
+-- a section was given, up to a mark or up to the end
+abbrev pub GivesEdges : EdgeLimits → Delimiter → Option (List ℕ) → Option (List ℕ) → EdgeReader →
+    Bool → Type 0
+GivesEdges limits delimiter left left' edges true = GivesSection limits delimiter left left' edges
+GivesEdges limits delimiter left left' edges false = GivesAll limits delimiter left edges
 
 -- the edge list in front of the mark was read, and says that network
 pub record SaysNetwork (s : Settings) (left left' : Option (List ℕ))

@@ -1,5 +1,5 @@
 -- Why an input says no job.
-use Rattle.std.specs.Prelude.{◌≡◌, ◌≢◌, ⊤, ◌⊎◌, ℕ, ◌-◌, ◌^◌, ◌<◌, ◌≤◌, Bool, true, List, length, Option, Result, Err, IfSome}
+use Rattle.std.specs.Prelude.{◌≡◌, ◌≢◌, ⊤, ◌⊎◌, ℕ, ◌-◌, ◌^◌, ◌<◌, ◌≤◌, Bool, true, List, length, Option, Result, Err, IfSome, IsOk}
 use Rattle.ball_model.specs.Counting.{counted_of}
 use Rattle.ball_model.specs.Input.{IsPlain, Network, Refusal}
 use Rattle.ball_model.specs.PlanValue.{PlanValue, plan_of}
@@ -23,10 +23,16 @@ pub record IsRefused (says : List ℕ → Result Network Refusal) (left : Option
   pub refuses : IfSome left (λ text. IsPlain (before_mark text) →
       Refuses (says (before_mark text)) e)
 
+-- there is no mark, and all that there is says a network
+pub record LacksMark (says : List ℕ → Result Network Refusal) (left : Option (List ℕ)) : Type 0
+  where
+    pub none : HasNoMark left
+    pub fine : IfSome left (λ text. IsPlain text → IsOk (says text))
+
 -- so it is refused, or there is no mark; of want of memory and a failed read nothing is said
 abbrev pub IsNoNetwork : (List ℕ → Result Network Refusal) → Option (List ℕ) → JobError → Type 0
 IsNoNetwork says left (fault.Edges e) = IsRefused says left e
-IsNoNetwork says left fault.NoMark = HasNoMark left
+IsNoNetwork says left fault.NoMark = LacksMark says left
 IsNoNetwork says left fault.EdgesSize = IfSome left (λ text. 2 ^ 64 - 1 ≤ length text)
 IsNoNetwork says left fault.Memory = ⊤
 IsNoNetwork says left fault.Read = ⊤
@@ -72,7 +78,7 @@ pub record HasNoPlan (s : Settings) (counted : Bool) (left left' : Option (List 
 -- the input says no job, for this fault
 abbrev pub IsNoJob : Settings → Bool → Option (List ℕ) → Option (List ℕ) → JobError → Type 0
 IsNoJob s counted left left' (fault.Edges e) = IsRefused (network_in s) left e
-IsNoJob s counted left left' fault.NoMark = HasNoMark left
+IsNoJob s counted left left' fault.NoMark = LacksMark (network_in s) left
 IsNoJob s counted left left' fault.EdgesSize = IsNoNetwork (network_in s) left fault.EdgesSize
 IsNoJob s counted left left' fault.NoListMark = HasNoCount s counted left fault.NoListMark
 IsNoJob s counted left left' fault.ListSize = HasNoCount s counted left fault.ListSize
