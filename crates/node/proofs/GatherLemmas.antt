@@ -1,5 +1,5 @@
 -- Checkpoints of partitions, one after the other.
-use Rattle.std.proofs.Common.{◌≡◌, ◌≢◌, ◌∙◌, inl, inr, ℕ, zero, suc, ◌+◌, ◌<◌, ◌≤◌, ◌==◌, ◌&&◌, Bool, true, false, if◌then◌else◌, List, [], ◌∷◌, ◌++◌, length, get_or, refl, ap, sym, subst, append_assoc, append-nil, length-append, arith}
+use Rattle.std.proofs.Common.{◌≡◌, ◌≢◌, ◌∙◌, inl, inr, ℕ, zero, suc, ◌+◌, ◌<◌, ◌==◌, ◌&&◌, Bool, true, false, if◌then◌else◌, List, [], ◌∷◌, ◌++◌, length, get_or, refl, ap, sym, subst, append_assoc, append-nil, length-append, arith}
 use Rattle.std.specs.Prelude.{Result, Err, Ok, IfErr, Option, None, Some, codes, decimal, nat_lt, ◌^◌}
 use Rattle.std.specs.Str.{bytes_eq}
 use Rattle.std.proofs.lemmas.Bool.{eqb-true}
@@ -21,15 +21,13 @@ use Rattle.ball_model.specs.Job.{job_of}
 use Rattle.ball_model.specs.RunText.{Settings}
 use Rattle.checkpoint.specs.declared.error.KeepError.{KeepError}
 use Rattle.checkpoint.specs.declared.error.KeepError.TheVariants as unkept
-use Rattle.checkpoint.specs.Reading.{most_bytes}
-use Rattle.report.specs.Ready.{are_ready}
 use Rattle.node.specs.declared.error.GatherError.{GatherError}
 use Rattle.node.specs.declared.error.GatherError.TheVariants as fault
 use Rattle.node.specs.declared.error.JobError.{JobError}
-use Rattle.node.specs.NoReport.{AreUnready, BytesFollow, EndsWithin, IsMissing, IsNoReplica, IsNoReport, IsOther, IsTooLong, NoPartLine, StopsAtPart, WritesFront, WritesFrontOfJob, part_length, told_kept}
+use Rattle.node.specs.NoReport.{EndsWithin, IsNoReplica, IsNoReport, IsOther, StopsAtPart, WritesFront, WritesFrontOfJob, told_kept}
 use Rattle.node.specs.Job.{IsJobRead}
 use Rattle.node.specs.Refusals.{IsNoCheckpoint}
-use Rattle.node.specs.Stream.{CutsBody, HasNoEnd, most_line}
+use Rattle.node.specs.Stream.{CutsBody}
 use Rattle.node.specs.NodeText.{size_in}
 
 -- ---- one more
@@ -154,22 +152,6 @@ pub reads_part : (a b c : Option (List ℕ)) (n : ℕ) (body : List ℕ) → Con
 reads_part a b c n body one two long = subst (λ (k : ℕ). Consumes a c (part_line k ++ body)) (sym long) (Consumes-trans a b c (part_line n) body one two)
 
 -- ---- why there is no replica
-pub is_missing : (n m : ℕ) (a b : Option (List ℕ)) → n ≡ m → IsAtEnd b → Consumes a b [] → (n ≡ m) × IsMissing a b
-is_missing n m a b same end none = (same, record { end = end; consumed = none })
-
-pub no_part_line : (n m : ℕ) (a b : Option (List ℕ)) (line : List ℕ) → n ≡ m → Consumes a b (line ++ 10 ∷ []) → HasNoEnd line → None ≡ part_length line → (n ≡ m) × NoPartLine a b
-no_part_line n m a b line same read one none = (same, record { line = line; one_line = one; read = inl (read, sym none) })
-
-pub long_part_line : (n m : ℕ) (a b : Option (List ℕ)) (line : List ℕ) → n ≡ m → Consumes a b line → HasNoEnd line → most_line ≤ length line → (n ≡ m) × NoPartLine a b
-long_part_line n m a b line same read one great = (same, record { line = line; one_line = one; read = inr (read, great) })
-
-pub cut_part_line : (n m : ℕ) (a b : Option (List ℕ)) (line : List ℕ) → n ≡ m → Consumes a b line → IsAtEnd b → line ≢ [] → HasNoEnd line → (n ≡ m) × EndsWithin a b
-cut_part_line n m a b line same read end some one = (same, record { front = line; some = some; within = inl one; consumed = read; end = end })
-
-some_line : (line rest : List ℕ) → (line ++ 10 ∷ []) ++ rest ≢ []
-some_line [] rest is = absurd (cc)
-some_line (c ∷ line) rest is = absurd (cc)
-
 part_some : (n : ℕ) (rest : List ℕ) → part_line n ++ rest ≢ []
 part_some n rest is = absurd (cc)
 
@@ -184,9 +166,6 @@ cut_part_body n m size a b c same line cut = (
     end = cut.end;
   },
 )
-
-pub too_long_part : (n size most : ℕ) (part : PartValue) (a b : Option (List ℕ)) → n ≡ part.number → Consumes a b (part_line size) → most ≡ most_bytes part part.plan.limit → most < size → (n ≡ part.number) × IsTooLong part a b
-too_long_part n size most part a b same line is beyond = (same, record { size = size; consumed = line; beyond = subst (λ (k : ℕ). k < size) is beyond })
 
 pub other_part : (n : ℕ) (part : PartValue) (a b : Option (List ℕ)) (body : List ℕ) (e : KeepError) → n ≡ part.number → Consumes a b (part_text body) → IsNoCheckpoint part body e → (n ≡ part.number) × IsOther part a b e
 other_part n part a b body e same read other = (same, record { body = body; consumed = read; no_checkpoint = other })
@@ -207,12 +186,6 @@ stops_at_part j a b fault.Write s = tt
 
 pub stops_at : (j : Job) (p : ℕ) (a b c : Option (List ℕ)) (vs : List State) (e : GatherError) → p < j.plan.parts → ReadsAll j p a b vs → IsNoReplica (part_of j p) b c e → IsNoReport j a c e
 stops_at j p a b c vs e below before at = stops_at_part j a c e (record { p = p; below = below; replicas = vs; mid = b; before = before; at = at })
-
-pub bytes_follow : (j : Job) (a b c : Option (List ℕ)) (vs : List State) (byte : ℕ) → ReadsAll j j.plan.parts a b vs → Consumes b c (byte ∷ []) → BytesFollow j a c
-bytes_follow j a b c vs byte before read = record { replicas = vs; mid = b; before = before; byte = byte; consumed = read }
-
-pub are_unready : (j : Job) (a b c : Option (List ℕ)) (vs : List State) → ReadsAll j j.plan.parts a b vs → IsAtEnd c → Consumes b c [] → are_ready vs ≡ false → AreUnready j a c
-are_unready j a b c vs before end none unready = record { replicas = vs; mid = b; before = before; end = record { end = end; consumed = none }; unready = unready }
 
 -- ---- what was written
 pub gathered_front : (j : Job) (labels : List (List ℕ)) (a b c x y : Option (List ℕ)) (vs : List State) → ReadsAll j j.plan.parts a b vs → Consumes b c [] → IsAtEnd c →

@@ -6,15 +6,12 @@ use Rattle.std.specs.Prelude.{IsErrAnd, IsOk}
 use Rattle.std.proofs.Common.{inl, inr}
 use Rattle.node.specs.declared.error.NodeError.{NodeError}
 use Rattle.node.specs.declared.error.NodeError.TheVariants as nonode
-use Rattle.ball_model.specs.declared.plan.PlanError.{PlanError}
 use Rattle.ball_model.specs.declared.plan.PlanError.TheVariants as fault
 use Rattle.ball_model.specs.Input.{IsPlain, Network, Refusal}
 use Rattle.ball_model.specs.Counting.{counted_of}
 use Rattle.ball_model.specs.PlanValue.{PlanValue, greatest_limit, greatest_log2m, least_log2m, most_parts, most_vertices, plan_of}
-use Rattle.ball_model.specs.RunText.{Numbers, Settings, network_in, plan_over}
-use Rattle.edgelist.specs.Counting.{RefusesList}
+use Rattle.ball_model.specs.RunText.{Numbers, Settings, plan_over}
 use Rattle.edgelist.specs.Reading.{Refuses}
-use Rattle.edgelist.specs.declared.counting.CountedError.{CountedError}
 use Rattle.edgelist.specs.declared.read.EdgeError.{EdgeError}
 use Rattle.edgelist.specs.declared.read.EdgeError.TheVariants as unread
 use Rattle.edgelist.specs.Given.{IsGiven}
@@ -23,8 +20,9 @@ use Rattle.edgelist.specs.declared.read.Delimiter.{Delimiter}
 use Rattle.edgelist.specs.declared.read.EdgeLimits.{EdgeLimits}
 use Rattle.node.specs.declared.error.JobError.{JobError}
 use Rattle.node.specs.declared.error.JobError.TheVariants as nojob
-use Rattle.node.specs.Job.{CountsSome, GivesAll, GivesEdges, GivesSection, IsJobRead, IsPlanned, SaysNetwork}
-use Rattle.node.specs.NoJob.{HasNoNode, IsNoJob, IsNoNetwork, IsNoStart, IsRefused, IsUncounted, IsUnlisted, LacksMark}
+use Rattle.node.specs.Job.{CountsSome, GivesAll, GivesEdges, GivesSection, IsJobRead, IsPlanned}
+use Rattle.node.specs.NoJob.{HasNoNode, IsNoNetwork, IsNoStart, IsRefused, LacksListMark, LacksMark}
+use Rattle.node.specs.declared.job.TheConstants.{MOST_LIST}
 use Rattle.node.specs.Section.{EndsAtMark, Gives, Passed, ReadsSection, first_or}
 use Rattle.node.proofs.SectionLemmas.{GoesOn, passed_end, passed_more, passed_next, passed_over, passed_start, passed_whole, section_before}
 
@@ -65,10 +63,11 @@ gives_end limits delimiter n begins x y z edges so ends = record {
 
 -- ---- the list
 pub counts_all : (s : Settings) (left : Option (List ℕ)) (network : Network) → CountsSome s false left left network network
-counts_all s left network = record { list = None; given = refl; section = refl; says = λ plain. refl }
+counts_all s left network = record { list = None; given = refl; section = refl; few = tt; says = λ plain. refl }
 
-pub counts_listed : (s : Settings) (left left' : Option (List ℕ)) (all network : Network) (list : List ℕ) → ReadsSection list left left' → (IsPlain list → counted_of s.delimiter all list ≡ Ok network) → CountsSome s true left left' all network
-counts_listed s left left' all network list section says = record { list = Some list; given = refl; section = section; says = says }
+pub counts_listed : (s : Settings) (left left' : Option (List ℕ)) (all network : Network) (list : List ℕ) → ReadsSection list left left' → length list ≤ MOST_LIST → (IsPlain list → counted_of s.delimiter all list ≡ Ok network) →
+    CountsSome s true left left' all network
+counts_listed s left left' all network list section few says = record { list = Some list; given = refl; section = section; few = few; says = says }
 
 -- the plan
 plan_test : (p q : PlanValue) (a b c d : Bool) → (if a then Err fault.Log2m else (if b then Err fault.Parts else (if c then Err fault.Limit else (if d then Err fault.Vertices else Ok p)))) ≡ Ok q → q ≡ p
@@ -155,35 +154,13 @@ too_many limits delimiter n begins (Some text) y edges so =
     let long = so.long in
     omega (arith, is, long)
 
-pub uncounted : (s : Settings) (all : Network) (list : List ℕ) (x z : Option (List ℕ)) (e : CountedError) → ReadsSection list x z → (IsPlain list → RefusesList (counted_of s.delimiter all list) e) →
-    IsUncounted s x all (nojob.Counted e)
-uncounted s all list None z e section tells = tt
-uncounted s all list (Some text) z e section tells =
-    subst (λ (l : List ℕ). IsPlain l → RefusesList (counted_of s.delimiter all l) e) (sym (section_before list (Some text) z section)) tells
-
-pub unlisted : (s : Settings) (all : Network) (x : Option (List ℕ)) (e : JobError) → IsUnlisted x e → IsUncounted s x all e
-unlisted s all x (nojob.Counted e) is = absurd is
-unlisted s all x e is = is
-
-pub no_network : (s : Settings) (counted : Bool) (x z : Option (List ℕ)) (e : JobError) → IsNoNetwork (network_in s) x e → IsNoJob s counted x z e
-no_network s counted x z (nojob.Edges e) is = is
-no_network s counted x z nojob.NoMark is = is
-no_network s counted x z nojob.EdgesSize is = is
-no_network s counted x z nojob.Memory is = tt
-no_network s counted x z nojob.Read is = tt
-no_network s counted x z e is = absurd is
-
-pub no_count : (s : Settings) (counted : Bool) (x y z : Option (List ℕ)) (all : Network) (e : JobError) → counted ≡ true → SaysNetwork s x y all → IsUncounted s y all e → IsNoJob s counted x z e
-no_count s counted x y z all nojob.NoListMark asked edges is = record { asked = asked; all = all; mid = y; edges = edges; refused = is }
-no_count s counted x y z all nojob.ListSize asked edges is = record { asked = asked; all = all; mid = y; edges = edges; refused = is }
-no_count s counted x y z all (nojob.Counted e) asked edges is = record { asked = asked; all = all; mid = y; edges = edges; refused = is }
-no_count s counted x y z all nojob.Memory asked edges is = tt
-no_count s counted x y z all nojob.Read asked edges is = tt
-no_count s counted x y z all e asked edges is = absurd is
-
-pub no_plan : (s : Settings) (counted : Bool) (x y z : Option (List ℕ)) (all network : Network) (e : PlanError) → SaysNetwork s x y all → CountsSome s counted y z all network →
-    Err e ≡ plan_of (plan_over s.numbers network.graph) → IsNoJob s counted x z (nojob.Plan e)
-no_plan s counted x y z all network e edges list is = record { all = all; network = network; mid = y; edges = edges; list = list; refused = sym is }
+-- all was read, where there is no mark
+pub lacks_list_mark : (list : List ℕ) (begins : Bool) (x y : Option (List ℕ)) → Passed list begins x y → IsAtEnd y → length list ≤ MOST_LIST → LacksListMark x
+lacks_list_mark list begins x y p end few = record { none = passed_over list begins x y p end; few = few_read x (passed_whole list begins x y p end) }
+  where
+    few_read : (o : Option (List ℕ)) → IfSome o (λ text. text ≡ list) → IfSome o (λ text. length text ≤ MOST_LIST)
+    few_read None is = tt
+    few_read (Some text) is = subst (λ (l : List ℕ). length l ≤ MOST_LIST) (sym is) few
 
 -- ---- a node of the job
 pub no_start : (s : Settings) (counted : Bool) (p : ℕ) (x y : Option (List ℕ)) (network : Network) (plan : PlanValue) (e : JobError) → IsJobRead s counted x y network plan → IsNoStart plan p e →
@@ -195,6 +172,3 @@ no_start s counted p x y network plan e job no_part = absurd no_part
 pub told_job : {T : Type 0} (r : Result T NodeError) (x : JobError) (P : JobError → Type 0) → IsErrAnd r (λ y. y ≡ nonode.Job x) → P x → (e : JobError) → r ≡ Err (nonode.Job e) → P e
 told_job (Ok u) x P is p e same = absurd is
 told_job (Err y) x P is p e same = let one : x ≡ e = cc in subst P one p
-
-pub never_read : (plan : PlanValue) (p : ℕ) (e : JobError) → IsNoStart plan p e → e ≢ nojob.Read
-never_read plan p e start is = absurd (subst (IsNoStart plan p) is start)

@@ -1,8 +1,8 @@
 -- Requests, one after the other.
 use Rattle.std.proofs.Common.{◌≡◌, ◌≢◌, ◌∙◌, ◌⊎◌, inl, inr, ℕ, ◌+◌, ◌^◌, ◌<◌, ◌≤◌, Bool, List, [], ◌∷◌, ◌++◌, length, refl, ap, sym, subst, append_assoc, append-nil, length-append}
-use Rattle.std.specs.Prelude.{Option, None, Some, Result, Err, IfSome}
+use Rattle.std.specs.Prelude.{Option, Some, Result, Err, IfSome}
 use Rattle.std.specs.Io.KnownBytes.{Consumes, IsAtEnd, Keeps}
-use Rattle.std.proofs.KnownBytes.{Appends-kept, Appends-nil, Appends-trans, Consumes-nil, Consumes-trans, Keeps-refl}
+use Rattle.std.proofs.KnownBytes.{Appends-kept, Appends-nil, Appends-trans, Consumes-nil, Consumes-trans}
 use Rattle.std.proofs.lemmas.List.Elements.{All-nil, All-push}
 use Rattle.std.specs.List.{All}
 use Rattle.ball_model.specs.Input.{Network, fields}
@@ -20,11 +20,9 @@ use Rattle.node.specs.declared.error.ServeError.TheVariants as fault
 use Rattle.node.specs.declared.error.NodeError.{NodeError}
 use Rattle.node.specs.declared.error.NodeError.TheVariants as node_fault
 use Rattle.node.specs.Stream.{CutsBody, HasNoEnd, most_line}
-use Rattle.node.specs.Serving.{AppendsAnswers, CutShort, IsNoRequest, IsOfMachine, NoCommand, ReadsRequest, Runs, Serves, ServesNode, ServesNone, ServesOne, ServesSome, Steps, Stops, StopsNode, TooLong, told_tell}
+use Rattle.node.specs.Serving.{AppendsAnswers, CutShort, IsNoRequest, IsOfMachine, NoCommand, ReadsRequest, Runs, Serves, ServesNode, ServesNone, ServesOne, ServesSome, Steps, Stops, StopsNode}
 use Rattle.node.specs.Turns.{Holds, most_body}
 use Rattle.node.proofs.SessionLemmas.{part_held}
-use Rattle.world.specs.declared.tell.TellError.{TellError}
-use Rattle.world.specs.declared.tell.TellError.TheVariants as untold
 
 -- ---- one more is asked
 pub record LastAsk (j : Job) (p : ℕ) (rs : List Request) (r : Request) (more : List Asked) : Type 0 where
@@ -188,14 +186,7 @@ serves_one network a b line order body v w x y z read steps kept = record {
   };
 }
 
-pub serves_no_more : (a b : Option (List ℕ)) (v : State) (x : Option (List ℕ)) → IsAtEnd b → Consumes a b [] → ServesNone a b v v x x
-serves_no_more a b v x end none = record { end = end; consumed = none; kept = Keeps-refl x; same = refl }
-
 -- ---- what is no request
-pub told_machine : (f : TellError) → IsOfMachine (told_tell f)
-told_machine untold.Memory = tt
-told_machine untold.Write = tt
-
 -- of other faults nothing is said
 pub machine_stops : (part : PartValue) (n : ℕ) (e : ServeError) (a b : Option (List ℕ)) → IsOfMachine e → IsNoRequest part n e a b
 machine_stops part n (fault.Command k) a b is = absurd is
@@ -206,15 +197,8 @@ machine_stops part n fault.Memory a b is = tt
 machine_stops part n fault.Read a b is = tt
 machine_stops part n fault.Write a b is = tt
 
-pub no_command : (a b : Option (List ℕ)) (line : List ℕ) → Consumes a b (line ++ 10 ∷ []) → HasNoEnd line → command_in (fields 32 line) ≡ None → NoCommand a b
-no_command a b line read none says = record { line = line; one_line = none; read = inl (read, says) }
-
 pub long_line : (a b : Option (List ℕ)) (line : List ℕ) → Consumes a b line → HasNoEnd line → most_line ≤ length line → NoCommand a b
 long_line a b line read none great = record { line = line; one_line = none; read = inr (read, great) }
-
-pub too_long : (part : PartValue) (a b : Option (List ℕ)) (line : List ℕ) (order : Command) → Consumes a b (line ++ 10 ∷ []) → HasNoEnd line → command_in (fields 32 line) ≡ Some order →
-    most_body part order < body_length order → TooLong part a b
-too_long part a b line order read none says beyond = record { line = line; one_line = none; command = order; says = says; beyond = beyond; consumed = read }
 
 pub cut_line : (a b : Option (List ℕ)) (line : List ℕ) → Consumes a b line → IsAtEnd b → line ≢ [] → HasNoEnd line → CutShort a b
 cut_line a b line read end some none = record { front = line; some = some; within = inl none; consumed = read; end = end }

@@ -3,7 +3,7 @@ use Rattle.std.proofs.Common.{◌≡◌, ◌≢◌, ◌∙◌, ℕ, ◌<◌, ◌
 use Rattle.std.proofs.lemmas.Bool.{eq-eqb, eqb-true}
 use Rattle.ball_model.specs.Content.{same_plan}
 use Rattle.replica.proofs.RunLemmas.{same_plan-self}
-use Rattle.std.specs.Prelude.{Option, None, Some, Result, Ok, Err, IfOk, IfErr, IsErr, IsOk, OnErr, OnOk}
+use Rattle.std.specs.Prelude.{Option, None, Some, Result, Ok, Err, IfOk, IfErr, IsErr, IsOk, OnOk}
 use Rattle.ball_model.specs.declared.names.BatchName.{BatchName}
 use Rattle.ball_model.specs.declared.names.Taken.{Taken}
 use Rattle.ball_model.specs.declared.names.TakeError.{TakeError}
@@ -25,7 +25,7 @@ use Rattle.ball_model.specs.WorldLaws.{IsNode}
 use Rattle.ball_model.proofs.HeldLemmas.{closed_held, joined_held, start_held, taken_held}
 use Rattle.checkpoint.specs.declared.error.KeepError.{KeepError}
 use Rattle.checkpoint.specs.declared.error.KeepError.TheVariants as unkept
-use Rattle.checkpoint.specs.Reading.{Ends, IfOkButWant, IsOfBytes, IsRead, IsSpelling, TellNone, sealed_form}
+use Rattle.checkpoint.specs.Reading.{Ends, IfOkButWant, IsRead, IsSpelling, TellNone, sealed_form}
 use Rattle.ball_model.specs.Job.{PartValue}
 use Rattle.replica.specs.Runs.{Takes, Closes}
 use Rattle.replica.specs.Saved.{IsKeepable}
@@ -165,13 +165,6 @@ over_part (Err unmerged.Memory) t (Err y) e says is = absurd (cc)
 over_part (Err unmerged.OtherJob) t said e says is = absurd (cc)
 over_part (Err unmerged.NotMine) t said e says is = absurd (cc)
 
-pub over_refused : {E : Type 0} (v w : State) (r : Result (Unit {0}) MergeError) (t : ℕ) (said : Result Reply E) → OnErr r (w ≡ v) → SaysMerged r t said → OnErr said (w ≡ v)
-over_refused v w (Ok u) t said still says = subst (λ q. OnErr q (w ≡ v)) (sym says) tt
-over_refused v w (Err unmerged.Memory) t (Ok x) still says = tt
-over_refused v w (Err unmerged.Memory) t (Err y) still says = still
-over_refused v w (Err unmerged.OtherJob) t said still says = subst (λ q. OnErr q (w ≡ v)) (sym says) tt
-over_refused v w (Err unmerged.NotMine) t said still says = subst (λ q. OnErr q (w ≡ v)) (sym says) tt
-
 -- ---- a batch that was delivered
 pub delivered_read : (j : Job) (name : BatchName) (plan : PlanValue) (bytes : List ℕ) (r : Result BatchValue BatchError) → IsJob j → plan ≡ j.plan → IsDelivered j bytes name →
     ((b : BatchValue) → IsBatch b → AgreesButJob plan b.plan → bytes ≡ batch_bytes b → GivesOrMemory r (Ok b)) → GivesOrMemory r (Ok (true_batch j name))
@@ -255,14 +248,10 @@ says_checkpoint part bytes (Ok (reply.NoBatch e)) is whole = absurd is
 says_checkpoint part bytes (Ok (reply.NoCheckpoint e)) is whole = absurd is
 says_checkpoint part bytes (Err y) is whole = tt
 
-of_bytes : (e : KeepError) → e ≢ unkept.Memory → (IsRead e → ⊥) → IsOfBytes e
-of_bytes unkept.Memory some sure = absurd (some refl)
-of_bytes unkept.Read some sure = absurd (sure tt)
-of_bytes e some sure = tt
-
-pub no_checkpoint_in : (part : PartValue) (bytes : List ℕ) (e : KeepError) → e ≢ unkept.Memory → (IsRead e → ⊥) →
-    (IsOfBytes e → (sealed_form part bytes ≡ Err e) ⊎ ((e ≡ unkept.Shape) × IsOk (sealed_form part bytes) × TellNone part bytes)) → IsNoCheckpoint part bytes e
-no_checkpoint_in part bytes e some sure due = record { of_bytes = of_bytes e some sure; due = due (of_bytes e some sure) }
+-- and then it is no answer
+pub never_answered : {E : Type 0} (e : KeepError) (r : Result Reply E) (P : Reply → Type 0) → IfOk r (λ x. x ≡ reply.NoCheckpoint e) → IfOk r (λ x. IsAnswered x → P x)
+never_answered e (Ok x) P is = λ answered. absurd (subst IsAnswered is answered)
+never_answered e (Err y) P is = tt
 
 -- ---- what is read of bytes
 pub form_told : {R : Type 0} (remaining : R → Option (List ℕ)) (failed : R → ℕ) (part : PartValue) (most : ℕ) (old new : R) (bytes : List ℕ) (r : Result State KeepError) → remaining old ≡ Some bytes →

@@ -83,17 +83,9 @@ asks_keep : (j : Job) (p : ℕ) (body : List ℕ) (a : Asked) → Asks j p comma
 asks_keep j p body Keep is = refl
 asks_keep j p body a is = absurd is
 
-asks_show : (j : Job) (p : ℕ) (body : List ℕ) (a : Asked) → Asks j p command.Show body a → a ≡ Show
-asks_show j p body Show is = refl
-asks_show j p body a is = absurd is
-
 asks_totals : (j : Job) (p : ℕ) (body : List ℕ) (a : Asked) → Asks j p command.Totals body a → a ≡ Totals
 asks_totals j p body Totals is = refl
 asks_totals j p body a is = absurd is
-
-asks_figures : (j : Job) (p : ℕ) (body : List ℕ) (a : Asked) → Asks j p command.Figures body a → a ≡ Figures
-asks_figures j p body Figures is = refl
-asks_figures j p body a is = absurd is
 
 pub send_steps : (network : Network) (q : ℕ) (body : List ℕ) (v : State) (text : List ℕ) →
     ((j : Job) (p : ℕ) (h : Holding) → j.graph ≡ network.graph → Holds j p h v → Answers j network.labels h (Send q) text) → StepsTo network (command.Send q) body v v text

@@ -1,5 +1,5 @@
 -- The job that is asked for, over what is read of an input up to the marks.
-use Rattle.std.specs.Prelude.{◌≡◌, ℕ, Bool, true, false, List, Option, None, Some, is_some, IfSome, Ok}
+use Rattle.std.specs.Prelude.{◌≡◌, ℕ, ◌≤◌, Bool, true, false, List, length, Option, None, Some, is_some, IfSome, Ok}
 use Rattle.ball_model.specs.Input.{IsPlain, Network}
 use Rattle.ball_model.specs.PlanValue.{PlanValue, plan_of}
 use Rattle.ball_model.specs.RunText.{Numbers, Settings, counted_in, network_in, plan_over}
@@ -10,6 +10,7 @@ use Rattle.edgelist.specs.declared.pieces.EdgeReader.{EdgeReader}
 use Rattle.edgelist.specs.declared.read.Delimiter.{Delimiter}
 use Rattle.edgelist.specs.declared.read.EdgeLimits.{EdgeLimits}
 use Rattle.node.specs.declared.job.JobOptions.{JobOptions}
+use Rattle.node.specs.declared.job.TheConstants.{MOST_LIST}
 use Rattle.node.specs.Section.{HasNoMark, ReadsSection}
 
 -- ---- what is asked
@@ -55,12 +56,14 @@ abbrev pub ReadsList : Option (List ℕ) → Option (List ℕ) → Option (List 
 ReadsList None left left' = left' ≡ left
 ReadsList (Some list) left left' = ReadsSection list left left'
 
--- with a list of counted vertices or without one, it says that of the network
+-- with a list of counted vertices, which has no more bytes than a list may have, or without one, it says that of the
+-- network
 pub record CountsSome (s : Settings) (counted : Bool) (left left' : Option (List ℕ))
     (all network : Network) : Type 0 where
   pub list : Option (List ℕ)
   pub given : is_some list ≡ counted
   pub section : ReadsList list left left'
+  pub few : IfSome list (λ bytes. length bytes ≤ MOST_LIST)
   pub says : IfSome list IsPlain → counted_in s all list ≡ Ok network
 
 -- there is such a plan over the network

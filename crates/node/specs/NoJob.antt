@@ -7,13 +7,14 @@ use Rattle.ball_model.specs.RunText.{Settings, network_in, plan_over}
 use Rattle.ball_model.specs.declared.plan.PlanError.{PlanError}
 use Rattle.edgelist.specs.Counting.{RefusesList}
 use Rattle.edgelist.specs.Reading.{Refuses}
+use Rattle.edgelist.specs.declared.counting.CountedError.{CountedError}
 use Rattle.edgelist.specs.declared.read.EdgeError.{EdgeError}
 use Rattle.edgelist.specs.declared.read.EdgeError.TheVariants as unread
 use Rattle.node.specs.declared.error.JobError.{JobError}
 use Rattle.node.specs.declared.error.JobError.TheVariants as fault
 use Rattle.node.specs.declared.job.TheConstants.{MOST_LIST}
 use Rattle.node.specs.Job.{CountsSome, IsJobRead, SaysNetwork}
-use Rattle.node.specs.Section.{HasNoMark, before_mark}
+use Rattle.node.specs.Section.{HasNoMark, ReadsSection, before_mark}
 
 -- ---- the edge list
 -- what stands before the mark is refused for that, and not for a failed read
@@ -39,19 +40,30 @@ IsNoNetwork says left fault.Read = ⊤
 IsNoNetwork says left e = ⊥
 
 -- ---- the list of counted vertices
--- there is no mark behind the list, or it is too long
+-- there is no mark, and no more bytes than a list may have: whatever they say
+pub record LacksListMark (left : Option (List ℕ)) : Type 0 where
+  pub none : HasNoMark left
+  pub few : IfSome left (λ text. length text ≤ MOST_LIST)
+
+-- so it is, or more bytes than a list may have stand before a mark
 abbrev pub IsUnlisted : Option (List ℕ) → JobError → Type 0
-IsUnlisted left fault.NoListMark = HasNoMark left
+IsUnlisted left fault.NoListMark = LacksListMark left
 IsUnlisted left fault.ListSize = IfSome left (λ text. MOST_LIST < length (before_mark text))
 IsUnlisted left fault.Memory = ⊤
 IsUnlisted left fault.Read = ⊤
 IsUnlisted left e = ⊥
 
--- or it is refused for what it says of a network
+-- a list stands before a mark, and is refused for what it says of a network
+pub record IsMiscounted (s : Settings) (left : Option (List ℕ)) (all : Network)
+    (e : CountedError) : Type 0 where
+  pub list : List ℕ
+  pub left' : Option (List ℕ)
+  pub section : ReadsSection list left left'
+  pub few : length list ≤ MOST_LIST
+  pub refuses : IsPlain list → RefusesList (counted_of s.delimiter all list) e
+
 abbrev pub IsUncounted : Settings → Option (List ℕ) → Network → JobError → Type 0
-IsUncounted s left all (fault.Counted e) =
-    IfSome left (λ text. IsPlain (before_mark text) →
-    RefusesList (counted_of s.delimiter all (before_mark text)) e)
+IsUncounted s left all (fault.Counted e) = IsMiscounted s left all e
 IsUncounted s left all e = IsUnlisted left e
 
 -- the edge list says a network, and the list behind it is refused so

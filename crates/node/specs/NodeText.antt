@@ -83,8 +83,8 @@ pub record Request : Type 0 where
   pub command : Command
   pub body : List ℕ
 
--- the line, which has no LF and fewer than 64 bytes, says the command, and as many bytes follow it as the command tells,
--- which are no more than a batch or a checkpoint of the part has at most
+-- the line, which has no LF and fewer than 64 bytes, says the command, and as many bytes follow it as the command
+-- tells, which are no more than a batch or a checkpoint of the part has at most
 pub record IsRequest (part : PartValue) (r : Request) : Type 0 where
   pub one_line : All (λ b. b ≢ 10) r.line
   pub short : length r.line < most_line
@@ -120,7 +120,8 @@ pub record IsDelivered (j : Job) (body : List ℕ) (name : BatchName) : Type 0 w
   pub named : IsName j.plan name
   pub spelled : body ≡ batch_bytes (true_batch j name)
 
--- the bytes spell a batch that partition p refuses so whatever it holds: one of another job, of another target, or its own
+-- the bytes spell a batch that partition p refuses so whatever it holds: one of another job, of another target, or its
+-- own
 pub record IsNotFor (j : Job) (p : ℕ) (body : List ℕ) (e : TakeError) : Type 0 where
   pub batch : BatchValue
   pub spelled : batch_at j.plan body ≡ Ok batch
@@ -140,8 +141,8 @@ IsStart j p body (Some h) = (body ≢ []) × IsGivenBack j p body h
 abbrev pub IsOtherStart : Job → ℕ → List ℕ → KeepError → Type 0
 IsOtherStart j p body e = (body ≢ []) × IsNoCheckpoint (part_of j p) body e
 
--- the bytes behind a command of partition p are what it asks for: a true batch, or a checkpoint that stands for the job; or
--- they are no batch of the plan, or one that is not for the partition, or no checkpoint of the part
+-- the bytes behind a command of partition p are what it asks for: a true batch, or a checkpoint that stands for the
+-- job; or they are no batch of the plan, or one that is not for the partition, or no checkpoint of the part
 abbrev pub Asks : Job → ℕ → Command → List ℕ → Asked → Type 0
 Asks j p (command.Send q) body (Send r) = q ≡ r
 Asks j p (command.Deliver n) body (Deliver name) = IsDelivered j body name

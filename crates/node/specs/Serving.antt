@@ -167,8 +167,8 @@ pub record Serves (network : Network) (left left' : Option (List ℕ)) (v w : St
 -- ---- a node from its start
 
 -- the job of the input was read, and all that follows it is requests, which a node of partition p was asked from its
--- start on: where each delivered batch is a true one, or none for the partition, and each checkpoint stands for the job, or is none of the
--- partition, they were answered
+-- start on: where each delivered batch is a true one, or none for the partition, and each checkpoint stands for the
+-- job, or is none of the partition, they were answered
 pub record ServesNode (s : Settings) (counted : Bool) (p : ℕ)
     (left left' old new : Option (List ℕ)) : Type 0 where
   pub network : Network

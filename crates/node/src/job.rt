@@ -188,8 +188,9 @@ pub fn part_of(alloc: Global, graph: &Graph, plan: &Plan, p: u16) -> Result<Arc<
 
 /// The graph and the plan of a job, read up to the mark behind it.
 ///
-/// The edge list is refused as soon as its lines say so, and for a line that is missing behind it only where nothing
-/// else is refused; then the list is, and then the plan. Memory is taken as bytes come, and may be refused at each.
+/// The edge list is refused as it comes. That no mark is behind it is told once all of it is read, and says a network;
+/// that none is behind the list of counted vertices, whatever that says. Then the list is refused, and then the plan.
+/// Memory is taken as bytes come, and may be refused at each.
 pub fn read_job<R: CountedRead>(
     alloc: Global,
     state: RandomState,

@@ -155,6 +155,11 @@ impl Session {
         ensures named { bytes.now ≢ [] →
             IfOk result (SaysOfCheckpoint self.old.part bytes.now) }
         ensures started { bytes.now ≡ [] → IfOk result IsAnswered }
+        // Whichever checkpoint of the part they are: the replica is what they spell, and its superstep is told.
+        ensures spelled { bytes.now ≢ [] → IfOk result (λ r. IsAnswered r →
+            IsSpelling self.new bytes.now) }
+        ensures answer { IfOk result (λ r. IsAnswered r →
+            r ≡ reply.Answered (answer.Restarted self.new.superstep)) }
         ensures unread { (e : KeepError) → result ≡ Ok (reply.NoCheckpoint e) →
             self.new ≡ self.old }
         ensures refused { OnErr result (self.new ≡ self.old) }
@@ -173,6 +178,7 @@ impl Session {
         ensures back { (j : Job) (p : ℕ) (h d : Holding) → Holds j p h self.now →
             bytes.now ≢ [] → IsGivenBack j p bytes.now d →
             GivesOrWants (Holds j p d) result }
+        ensures spells { bytes.now ≢ [] → IfOk result (λ r. IsSpelling r bytes.now) }
         ensures whole { bytes.now ≢ [] → OnOk result (IsCheckpoint self.now.part bytes.now) }
         ensures named { bytes.now ≢ [] → IfErr result (λ e. e ≢ KeepError.Memory →
             IsNoCheckpoint self.now.part bytes.now e) }

@@ -298,7 +298,7 @@ fn only_others_are_sent_to(rt: HostRuntime) {
 }
 
 /// Inputs that say no job: whether a list is counted, the partition, and what is refused.
-static NO_JOBS: [(bool, u16, &[u8], JobError); 9] = [
+static NO_JOBS: [(bool, u16, &[u8], JobError); 10] = [
     (false, 0, b"a\tb\n", JobError::NoMark),
     (false, 0, b"a\tb\n%%x\n%\n", JobError::NoMark),
     (
@@ -314,6 +314,7 @@ static NO_JOBS: [(bool, u16, &[u8], JobError); 9] = [
         JobError::Edges(EdgeError::Fields { number: 2 }),
     ),
     (true, 0, b"a\tb\n%%\na\n", JobError::NoListMark),
+    (true, 0, b"a\tb\n%%\nx\nclose\n", JobError::NoListMark),
     (false, 2, b"a\tb\n%%\n", JobError::Part),
     (
         false,

@@ -35,3 +35,6 @@ returns-else-is_empty-clause-named c = λ some.
 
 pub returns-in_ok-started-clause-whole : goal.returns-in_ok-started-clause-whole
 returns-in_ok-started-clause-whole c = λ some. absurd (some (no_bytes c.args.bytes.now (sym c.is_empty.ensures ∙ c.if-is_empty.true)))
+
+pub returns-in_ok-started-clause-spells : goal.returns-in_ok-started-clause-spells
+returns-in_ok-started-clause-spells c = λ some. absurd (some (no_bytes c.args.bytes.now (sym c.is_empty.ensures ∙ c.if-is_empty.true)))
