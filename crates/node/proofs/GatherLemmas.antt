@@ -1,5 +1,5 @@
 -- Checkpoints of partitions, one after the other.
-use Rattle.std.proofs.Common.{◌≡◌, ◌≢◌, ◌∙◌, inl, inr, ℕ, zero, suc, ◌+◌, ◌<◌, ◌≤◌, ◌==◌, ◌&&◌, Bool, true, false, if◌then◌else◌, List, [], ◌∷◌, ◌++◌, length, get_or, refl, ap, sym, subst, append_assoc, append-nil, length-append, arith}
+use Rattle.std.proofs.Common.{◌≡◌, ◌≢◌, ◌∙◌, inl, inr, ℕ, zero, suc, ◌+◌, ◌<◌, ◌==◌, ◌&&◌, Bool, true, false, if◌then◌else◌, List, [], ◌∷◌, ◌++◌, length, get_or, refl, ap, sym, subst, append_assoc, append-nil, length-append, arith}
 use Rattle.std.specs.Prelude.{Result, Err, Ok, IfErr, Option, None, Some, codes, decimal, nat_lt, ◌^◌}
 use Rattle.std.specs.Str.{bytes_eq}
 use Rattle.std.proofs.lemmas.Bool.{eqb-true}
@@ -14,22 +14,20 @@ use Rattle.ball_model.specs.Job.{Job, IsJob, PartValue, part_of}
 use Rattle.ball_model.specs.PlanValue.{PlanValue}
 use Rattle.ball_model.specs.State.{State, StandsFor}
 use Rattle.report.specs.Ready.{AllStand, job_report}
-use Rattle.node.specs.Gathering.{AreGivenBack, AreMadeOf, Gathers, IsMadeOf, ReadsAll, ReadsOne, part_line, part_text, parts_text}
+use Rattle.node.specs.Gathering.{AreGivenBack, AreMadeOf, AreParts, Gathers, IsMadeOf, ReadsAll, ReadsOne, part_line, part_text, parts_text}
 use Rattle.ball_model.specs.Streams.{PutsFront}
 use Rattle.ball_model.specs.Input.{Network}
 use Rattle.ball_model.specs.Job.{job_of}
 use Rattle.ball_model.specs.RunText.{Settings}
 use Rattle.checkpoint.specs.declared.error.KeepError.{KeepError}
 use Rattle.checkpoint.specs.declared.error.KeepError.TheVariants as unkept
-use Rattle.checkpoint.specs.Reading.{most_bytes}
-use Rattle.report.specs.Ready.{are_ready}
 use Rattle.node.specs.declared.error.GatherError.{GatherError}
 use Rattle.node.specs.declared.error.GatherError.TheVariants as fault
 use Rattle.node.specs.declared.error.JobError.{JobError}
-use Rattle.node.specs.NoReport.{AreUnready, BytesFollow, EndsWithin, IsMissing, IsNoReplica, IsNoReport, IsOther, IsTooLong, NoPartLine, StopsAtPart, WritesFront, WritesFrontOfJob, part_length, told_kept}
+use Rattle.node.specs.NoReport.{EndsWithin, IsNoReplica, IsNoReport, IsOther, StopsAtPart, WritesFront, WritesFrontOfJob, told_kept}
 use Rattle.node.specs.Job.{IsJobRead}
 use Rattle.node.specs.Refusals.{IsNoCheckpoint}
-use Rattle.node.specs.Stream.{CutsBody, HasNoEnd, most_line}
+use Rattle.node.specs.Stream.{CutsBody}
 use Rattle.node.specs.NodeText.{size_in}
 
 -- ---- one more
@@ -55,6 +53,14 @@ reads_more j n m a b c vs v next s o = record {
   consumed = subst (Consumes a c) (sym (parts_last s.bodies o.body)) (Consumes-trans a b c (parts_text s.bodies) (part_text o.body) s.consumed o.consumed);
   made = made_last j 0 n s.bodies vs o.body v (let count = s.count in omega arith) s.made o.made;
 }
+
+-- each is a checkpoint
+parts_made : (j : Job) (p : ℕ) (bodies : List (List ℕ)) (vs : List State) → AreMadeOf j p bodies vs → AreParts j p bodies
+unfolding AreMadeOf AreParts
+parts_made j p [] [] made = tt
+parts_made j p [] (v ∷ vs) made = absurd made
+parts_made j p (b ∷ bodies) [] made = absurd made
+parts_made j p (b ∷ bodies) (v ∷ vs) made = (made.0.is, parts_made j (p + 1) bodies vs made.1)
 
 -- ---- what the replicas stand for
 stands : (j : Job) (p : ℕ) (body : List ℕ) (v : State) → IsMadeOf j p body v → (g : AreGivenBack j p (body ∷ [])) → StandsFor j p v.superstep v
@@ -138,6 +144,7 @@ gathered j labels a b c x y vs s none end told = record {
   count = s.count;
   consumed = subst (Consumes a c) (append-nil (parts_text s.bodies)) (Consumes-trans a b c (parts_text s.bodies) [] s.consumed none);
   end = end;
+  parts = parts_made j 0 s.bodies vs s.made;
   report = λ given. told (all_stand j s.bodies vs s.made given);
 }
 
@@ -145,22 +152,6 @@ pub reads_part : (a b c : Option (List ℕ)) (n : ℕ) (body : List ℕ) → Con
 reads_part a b c n body one two long = subst (λ (k : ℕ). Consumes a c (part_line k ++ body)) (sym long) (Consumes-trans a b c (part_line n) body one two)
 
 -- ---- why there is no replica
-pub is_missing : (n m : ℕ) (a b : Option (List ℕ)) → n ≡ m → IsAtEnd b → Consumes a b [] → (n ≡ m) × IsMissing a b
-is_missing n m a b same end none = (same, record { end = end; consumed = none })
-
-pub no_part_line : (n m : ℕ) (a b : Option (List ℕ)) (line : List ℕ) → n ≡ m → Consumes a b (line ++ 10 ∷ []) → HasNoEnd line → None ≡ part_length line → (n ≡ m) × NoPartLine a b
-no_part_line n m a b line same read one none = (same, record { line = line; one_line = one; read = inl (read, sym none) })
-
-pub long_part_line : (n m : ℕ) (a b : Option (List ℕ)) (line : List ℕ) → n ≡ m → Consumes a b line → HasNoEnd line → most_line ≤ length line → (n ≡ m) × NoPartLine a b
-long_part_line n m a b line same read one great = (same, record { line = line; one_line = one; read = inr (read, great) })
-
-pub cut_part_line : (n m : ℕ) (a b : Option (List ℕ)) (line : List ℕ) → n ≡ m → Consumes a b line → IsAtEnd b → line ≢ [] → HasNoEnd line → (n ≡ m) × EndsWithin a b
-cut_part_line n m a b line same read end some one = (same, record { front = line; some = some; within = inl one; consumed = read; end = end })
-
-some_line : (line rest : List ℕ) → (line ++ 10 ∷ []) ++ rest ≢ []
-some_line [] rest is = absurd (cc)
-some_line (c ∷ line) rest is = absurd (cc)
-
 part_some : (n : ℕ) (rest : List ℕ) → part_line n ++ rest ≢ []
 part_some n rest is = absurd (cc)
 
@@ -175,9 +166,6 @@ cut_part_body n m size a b c same line cut = (
     end = cut.end;
   },
 )
-
-pub too_long_part : (n size most : ℕ) (part : PartValue) (a b : Option (List ℕ)) → n ≡ part.number → Consumes a b (part_line size) → most ≡ most_bytes part part.plan.limit → most < size → (n ≡ part.number) × IsTooLong part a b
-too_long_part n size most part a b same line is beyond = (same, record { size = size; consumed = line; beyond = subst (λ (k : ℕ). k < size) is beyond })
 
 pub other_part : (n : ℕ) (part : PartValue) (a b : Option (List ℕ)) (body : List ℕ) (e : KeepError) → n ≡ part.number → Consumes a b (part_text body) → IsNoCheckpoint part body e → (n ≡ part.number) × IsOther part a b e
 other_part n part a b body e same read other = (same, record { body = body; consumed = read; no_checkpoint = other })
@@ -199,12 +187,6 @@ stops_at_part j a b fault.Write s = tt
 pub stops_at : (j : Job) (p : ℕ) (a b c : Option (List ℕ)) (vs : List State) (e : GatherError) → p < j.plan.parts → ReadsAll j p a b vs → IsNoReplica (part_of j p) b c e → IsNoReport j a c e
 stops_at j p a b c vs e below before at = stops_at_part j a c e (record { p = p; below = below; replicas = vs; mid = b; before = before; at = at })
 
-pub bytes_follow : (j : Job) (a b c : Option (List ℕ)) (vs : List State) (byte : ℕ) → ReadsAll j j.plan.parts a b vs → Consumes b c (byte ∷ []) → BytesFollow j a c
-bytes_follow j a b c vs byte before read = record { replicas = vs; mid = b; before = before; byte = byte; consumed = read }
-
-pub are_unready : (j : Job) (a b c : Option (List ℕ)) (vs : List State) → ReadsAll j j.plan.parts a b vs → IsAtEnd c → Consumes b c [] → are_ready vs ≡ false → AreUnready j a c
-are_unready j a b c vs before end none unready = record { replicas = vs; mid = b; before = before; end = record { end = end; consumed = none }; unready = unready }
-
 -- ---- what was written
 pub gathered_front : (j : Job) (labels : List (List ℕ)) (a b c x y : Option (List ℕ)) (vs : List State) → ReadsAll j j.plan.parts a b vs → Consumes b c [] → IsAtEnd c →
     (AllStand j vs → PutsFront x y (job_report j labels)) → WritesFront j labels a c x y
@@ -213,6 +195,7 @@ gathered_front j labels a b c x y vs s none end told = inr (record {
   count = s.count;
   consumed = subst (Consumes a c) (append-nil (parts_text s.bodies)) (Consumes-trans a b c (parts_text s.bodies) [] s.consumed none);
   end = end;
+  parts = parts_made j 0 s.bodies vs s.made;
   front = λ given. told (all_stand j s.bodies vs s.made given);
 })
 

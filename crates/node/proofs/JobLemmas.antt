@@ -2,19 +2,16 @@
 use Rattle.std.proofs.Common.{◌≡◌, ◌≢◌, ◌∙◌, ℕ, ◌+◌, ◌≤◌, ◌==◌, ◌||◌, Bool, true, false, nat_lt, if◌then◌else◌, List, [], ◌∷◌, ◌++◌, length, length-append, arith, refl, ap, sym, subst}
 use Rattle.std.specs.Prelude.{Option, None, Some, IfSome, Result, Ok, Err}
 use Rattle.std.specs.Io.KnownBytes.{IsAtEnd, prepend_known}
-use Rattle.std.specs.Prelude.{IsErrAnd}
+use Rattle.std.specs.Prelude.{IsErrAnd, IsOk}
 use Rattle.std.proofs.Common.{inl, inr}
 use Rattle.node.specs.declared.error.NodeError.{NodeError}
 use Rattle.node.specs.declared.error.NodeError.TheVariants as nonode
-use Rattle.ball_model.specs.declared.plan.PlanError.{PlanError}
 use Rattle.ball_model.specs.declared.plan.PlanError.TheVariants as fault
 use Rattle.ball_model.specs.Input.{IsPlain, Network, Refusal}
 use Rattle.ball_model.specs.Counting.{counted_of}
 use Rattle.ball_model.specs.PlanValue.{PlanValue, greatest_limit, greatest_log2m, least_log2m, most_parts, most_vertices, plan_of}
-use Rattle.ball_model.specs.RunText.{Numbers, Settings, network_in, plan_over}
-use Rattle.edgelist.specs.Counting.{RefusesList}
+use Rattle.ball_model.specs.RunText.{Numbers, Settings, plan_over}
 use Rattle.edgelist.specs.Reading.{Refuses}
-use Rattle.edgelist.specs.declared.counting.CountedError.{CountedError}
 use Rattle.edgelist.specs.declared.read.EdgeError.{EdgeError}
 use Rattle.edgelist.specs.declared.read.EdgeError.TheVariants as unread
 use Rattle.edgelist.specs.Given.{IsGiven}
@@ -23,10 +20,11 @@ use Rattle.edgelist.specs.declared.read.Delimiter.{Delimiter}
 use Rattle.edgelist.specs.declared.read.EdgeLimits.{EdgeLimits}
 use Rattle.node.specs.declared.error.JobError.{JobError}
 use Rattle.node.specs.declared.error.JobError.TheVariants as nojob
-use Rattle.node.specs.Job.{CountsSome, GivesSection, IsJobRead, IsPlanned, SaysNetwork}
-use Rattle.node.specs.NoJob.{HasNoNode, IsNoJob, IsNoNetwork, IsNoStart, IsRefused, IsUncounted, IsUnlisted}
-use Rattle.node.specs.Section.{EndsAtMark, Gives, HasNoMark, Passed, ReadsSection}
-use Rattle.node.proofs.SectionLemmas.{GoesOn, passed_end, passed_more, passed_next, passed_over, passed_start, section_before}
+use Rattle.node.specs.Job.{CountsSome, GivesAll, GivesEdges, GivesSection, IsJobRead, IsPlanned}
+use Rattle.node.specs.NoJob.{HasNoNode, IsNoNetwork, IsNoStart, IsRefused, LacksListMark, LacksMark}
+use Rattle.node.specs.declared.job.TheConstants.{MOST_LIST}
+use Rattle.node.specs.Section.{EndsAtMark, Gives, Passed, ReadsSection, first_or}
+use Rattle.node.proofs.SectionLemmas.{GoesOn, passed_end, passed_more, passed_next, passed_over, passed_start, passed_whole, section_before}
 
 -- ---- the edge list
 -- so many bytes were given
@@ -65,10 +63,11 @@ gives_end limits delimiter n begins x y z edges so ends = record {
 
 -- ---- the list
 pub counts_all : (s : Settings) (left : Option (List ℕ)) (network : Network) → CountsSome s false left left network network
-counts_all s left network = record { list = None; given = refl; section = refl; says = λ plain. refl }
+counts_all s left network = record { list = None; given = refl; section = refl; few = tt; says = λ plain. refl }
 
-pub counts_listed : (s : Settings) (left left' : Option (List ℕ)) (all network : Network) (list : List ℕ) → ReadsSection list left left' → (IsPlain list → counted_of s.delimiter all list ≡ Ok network) → CountsSome s true left left' all network
-counts_listed s left left' all network list section says = record { list = Some list; given = refl; section = section; says = says }
+pub counts_listed : (s : Settings) (left left' : Option (List ℕ)) (all network : Network) (list : List ℕ) → ReadsSection list left left' → length list ≤ MOST_LIST → (IsPlain list → counted_of s.delimiter all list ≡ Ok network) →
+    CountsSome s true left left' all network
+counts_listed s left left' all network list section few says = record { list = Some list; given = refl; section = section; few = few; says = says }
 
 -- the plan
 plan_test : (p q : PlanValue) (a b c d : Bool) → (if a then Err fault.Log2m else (if b then Err fault.Parts else (if c then Err fault.Limit else (if d then Err fault.Vertices else Ok p)))) ≡ Ok q → q ≡ p
@@ -111,8 +110,41 @@ refused_whole says front (Some text) z e some section tells = record {
   refuses = subst (λ (l : List ℕ). IsPlain l → Refuses (says l) e) (sym (section_before front (Some text) z section)) tells;
 }
 
-pub no_mark : (limits : EdgeLimits) (delimiter : Delimiter) (n : ℕ) (begins : Bool) (x y : Option (List ℕ)) (edges : EdgeReader) → GivesSoFar limits delimiter n begins x y edges → IsAtEnd y → HasNoMark x
-no_mark limits delimiter n begins x y edges so end = passed_over so.front begins x y so.passed end
+-- all was given, where there is no mark
+pub gives_all : (limits : EdgeLimits) (delimiter : Delimiter) (n : ℕ) (begins : Bool) (x y : Option (List ℕ)) (edges : EdgeReader) → GivesSoFar limits delimiter n begins x y edges → IsAtEnd y → GivesAll limits delimiter x edges
+gives_all limits delimiter n begins x y edges so end = record {
+  front = so.front;
+  given = so.given;
+  none = passed_over so.front begins x y so.passed end;
+  whole = passed_whole so.front begins x y so.passed end;
+}
+
+-- and it is refused
+refused_all : (says : List ℕ → Result Network Refusal) (limits : EdgeLimits) (delimiter : Delimiter) (x : Option (List ℕ)) (edges : EdgeReader) (e : EdgeError) → e ≢ unread.Read → (s : GivesAll limits delimiter x edges) →
+    (IsPlain s.front → Refuses (says s.front) e) → IsNoNetwork says x (nojob.Edges e)
+refused_all says limits delimiter None edges e some s tells = record { read = some; refuses = tt }
+refused_all says limits delimiter (Some text) edges e some s tells = record {
+  read = some;
+  refuses = subst (λ (l : List ℕ). IsPlain l → Refuses (says l) e) (sym (ap (first_or text) s.none ∙ s.whole)) tells;
+}
+
+pub refused_edges : (says : List ℕ → Result Network Refusal) (limits : EdgeLimits) (delimiter : Delimiter) (x z : Option (List ℕ)) (edges : EdgeReader) (marked : Bool) (e : EdgeError) → e ≢ unread.Read →
+    GivesEdges limits delimiter x z edges marked → ((text : List ℕ) → IsGiven limits delimiter text edges → IsPlain text → Refuses (says text) e) → IsNoNetwork says x (nojob.Edges e)
+refused_edges says limits delimiter x z edges true e some s tells = refused_whole says s.front x z e some s.section (tells s.front s.given)
+refused_edges says limits delimiter x z edges false e some s tells = refused_all says limits delimiter x edges e some s (tells s.front s.given)
+
+says_fine : (r : Result Network Refusal) (n : Network) → r ≡ Ok n → IsOk r
+says_fine (Ok m) n is = refl
+says_fine (Err e) n is = absurd (cc)
+
+-- or it says a network, and only the mark is missing
+pub lacks_mark : (says : List ℕ → Result Network Refusal) (limits : EdgeLimits) (delimiter : Delimiter) (x : Option (List ℕ)) (edges : EdgeReader) (n : Network) → (s : GivesAll limits delimiter x edges) →
+    (IsPlain s.front → says s.front ≡ Ok n) → LacksMark says x
+lacks_mark says limits delimiter None edges n s tells = record { none = tt; fine = tt }
+lacks_mark says limits delimiter (Some text) edges n s tells = record {
+  none = s.none;
+  fine = subst (λ (l : List ℕ). IsPlain l → IsOk (says l)) (sym s.whole) (λ plain. says_fine (says s.front) n (tells plain));
+}
 
 pub too_many : (limits : EdgeLimits) (delimiter : Delimiter) (n : ℕ) (begins : Bool) (x y : Option (List ℕ)) (edges : EdgeReader) → GivesSoFar limits delimiter n begins x y edges → IfSome x (λ text. n ≤ length text)
 too_many limits delimiter n begins None y edges so = tt
@@ -122,35 +154,13 @@ too_many limits delimiter n begins (Some text) y edges so =
     let long = so.long in
     omega (arith, is, long)
 
-pub uncounted : (s : Settings) (all : Network) (list : List ℕ) (x z : Option (List ℕ)) (e : CountedError) → ReadsSection list x z → (IsPlain list → RefusesList (counted_of s.delimiter all list) e) →
-    IsUncounted s x all (nojob.Counted e)
-uncounted s all list None z e section tells = tt
-uncounted s all list (Some text) z e section tells =
-    subst (λ (l : List ℕ). IsPlain l → RefusesList (counted_of s.delimiter all l) e) (sym (section_before list (Some text) z section)) tells
-
-pub unlisted : (s : Settings) (all : Network) (x : Option (List ℕ)) (e : JobError) → IsUnlisted x e → IsUncounted s x all e
-unlisted s all x (nojob.Counted e) is = absurd is
-unlisted s all x e is = is
-
-pub no_network : (s : Settings) (counted : Bool) (x z : Option (List ℕ)) (e : JobError) → IsNoNetwork (network_in s) x e → IsNoJob s counted x z e
-no_network s counted x z (nojob.Edges e) is = is
-no_network s counted x z nojob.NoMark is = is
-no_network s counted x z nojob.EdgesSize is = is
-no_network s counted x z nojob.Memory is = tt
-no_network s counted x z nojob.Read is = tt
-no_network s counted x z e is = absurd is
-
-pub no_count : (s : Settings) (counted : Bool) (x y z : Option (List ℕ)) (all : Network) (e : JobError) → counted ≡ true → SaysNetwork s x y all → IsUncounted s y all e → IsNoJob s counted x z e
-no_count s counted x y z all nojob.NoListMark asked edges is = record { asked = asked; all = all; mid = y; edges = edges; refused = is }
-no_count s counted x y z all nojob.ListSize asked edges is = record { asked = asked; all = all; mid = y; edges = edges; refused = is }
-no_count s counted x y z all (nojob.Counted e) asked edges is = record { asked = asked; all = all; mid = y; edges = edges; refused = is }
-no_count s counted x y z all nojob.Memory asked edges is = tt
-no_count s counted x y z all nojob.Read asked edges is = tt
-no_count s counted x y z all e asked edges is = absurd is
-
-pub no_plan : (s : Settings) (counted : Bool) (x y z : Option (List ℕ)) (all network : Network) (e : PlanError) → SaysNetwork s x y all → CountsSome s counted y z all network →
-    Err e ≡ plan_of (plan_over s.numbers network.graph) → IsNoJob s counted x z (nojob.Plan e)
-no_plan s counted x y z all network e edges list is = record { all = all; network = network; mid = y; edges = edges; list = list; refused = sym is }
+-- all was read, where there is no mark
+pub lacks_list_mark : (list : List ℕ) (begins : Bool) (x y : Option (List ℕ)) → Passed list begins x y → IsAtEnd y → length list ≤ MOST_LIST → LacksListMark x
+lacks_list_mark list begins x y p end few = record { none = passed_over list begins x y p end; few = few_read x (passed_whole list begins x y p end) }
+  where
+    few_read : (o : Option (List ℕ)) → IfSome o (λ text. text ≡ list) → IfSome o (λ text. length text ≤ MOST_LIST)
+    few_read None is = tt
+    few_read (Some text) is = subst (λ (l : List ℕ). length l ≤ MOST_LIST) (sym is) few
 
 -- ---- a node of the job
 pub no_start : (s : Settings) (counted : Bool) (p : ℕ) (x y : Option (List ℕ)) (network : Network) (plan : PlanValue) (e : JobError) → IsJobRead s counted x y network plan → IsNoStart plan p e →
@@ -162,6 +172,3 @@ no_start s counted p x y network plan e job no_part = absurd no_part
 pub told_job : {T : Type 0} (r : Result T NodeError) (x : JobError) (P : JobError → Type 0) → IsErrAnd r (λ y. y ≡ nonode.Job x) → P x → (e : JobError) → r ≡ Err (nonode.Job e) → P e
 told_job (Ok u) x P is p e same = absurd is
 told_job (Err y) x P is p e same = let one : x ≡ e = cc in subst P one p
-
-pub never_read : (plan : PlanValue) (p : ℕ) (e : JobError) → IsNoStart plan p e → e ≢ nojob.Read
-never_read plan p e start is = absurd (subst (IsNoStart plan p) is start)

@@ -1,5 +1,5 @@
 -- What is read ahead of a section, and what a step through it does.
-use Rattle.std.proofs.Common.{◌≡◌, ◌∙◌, ℕ, ◌==◌, ◌+◌, ◌<◌, Bool, true, false, not, ◌&&◌, if◌then◌else◌, List, [], ◌∷◌, ◌++◌, length, refl, ap, sym, subst, append-nil, append_assoc, length-append, arith}
+use Rattle.std.proofs.Common.{◌≡◌, ◌∙◌, ℕ, ◌==◌, ◌+◌, Bool, true, false, not, ◌&&◌, if◌then◌else◌, List, [], ◌∷◌, ◌++◌, length, refl, ap, sym, subst, append-nil, append_assoc, arith}
 use Rattle.std.specs.Prelude.{Option, None, Some, IfSome, option_map, remove, slice_index_or}
 use Rattle.std.specs.Io.KnownBytes.{Consumes, IsAtEnd, Keeps, prepend_known}
 use Rattle.std.proofs.KnownBytes.{prepend_known-end}
@@ -181,13 +181,6 @@ gives_next b xs (Some text) (Some rest) none c =
     subst (λ (l : List ℕ). GivesOf false b (l ++ text) (Some (l ++ rest))) (sym none)
     (subst (λ (l : List ℕ). GivesOf false b l (Some rest)) (sym c) (gives_in_line b rest))
 
-pub front_few : (xs : List ℕ) → is_front xs ≡ true → length xs < 4
-front_few [] is = omega arith
-front_few (a ∷ []) is = omega arith
-front_few (a ∷ b ∷ []) is = omega arith
-front_few (a ∷ b ∷ c ∷ []) is = omega arith
-front_few (a ∷ b ∷ c ∷ d ∷ more) is = absurd (cc)
-
 pub front_tail : (t : Bool) (xs : List ℕ) → is_front xs ≡ true → IsAhead t xs
 front_tail t xs is = record { front = λ e. is; tail = (front_past xs is).tail }
 
@@ -200,12 +193,6 @@ pushed (Some t) (Some u) (Some v) xs ys x k s is =
 
 pub pushed_past : (xs ys : List ℕ) (x : ℕ) → is_front xs ≡ true → ys ≡ xs ++ x ∷ [] → IsPast ys
 pushed_past xs ys x is more = subst IsPast (sym more) (past_front xs x is)
-
-pub kept_more : (a b c : Option (List ℕ)) (xs : List ℕ) → Keeps a (prepend_known xs b) → Keeps b c → Keeps a (prepend_known xs c)
-kept_more None b c xs k s = tt
-kept_more (Some t) None c xs k s = absurd k
-kept_more (Some t) (Some u) None xs k s = absurd s
-kept_more (Some t) (Some u) (Some v) xs k s = ap (λ (l : List ℕ). xs ++ l) s ∙ k
 
 -- ---- where a line begins
 onto_nil : (o : Option (List ℕ)) → onto [] o ≡ o
@@ -293,6 +280,12 @@ passed_over front begins (Some text) y p end =
     let none : p.rest ≡ [] = subst IsAtEnd p.new_is end in
     p.sections ∙ ap (λ (l : List ℕ). prefixed front (sections_from begins l)) none
 
+pub passed_whole : (front : List ℕ) (begins : Bool) (x y : Option (List ℕ)) → Passed front begins x y → IsAtEnd y → IfSome x (λ text. text ≡ front)
+passed_whole front begins None y p end = tt
+passed_whole front begins (Some text) y p end =
+    let none : p.rest ≡ [] = subst IsAtEnd p.new_is end in
+    p.text_is ∙ ap (λ (l : List ℕ). front ++ l) none ∙ append-nil front
+
 -- what was passed is the front of what stands before the mark
 before_passed : (front text rest : List ℕ) (o : Option (List ℕ × List ℕ)) → text ≡ front ++ rest → sections_of text ≡ prefixed front o → before_mark text ≡ front ++ first_or rest o
 before_passed front text rest None is sections = ap (first_or text) sections ∙ is
@@ -301,14 +294,6 @@ before_passed front text rest (Some s) is sections = ap (first_or text) sections
 first_longer : (c : ℕ) (rest : List ℕ) (o : Option (List ℕ × List ℕ)) → first_or (c ∷ rest) (longer c o) ≡ c ∷ first_or rest o
 first_longer c rest None = refl
 first_longer c rest (Some s) = refl
-
--- so much of it
-pub passed_many : (n : ℕ) (front : List ℕ) (begins : Bool) (x y : Option (List ℕ)) → n < length front → Passed front begins x y → IfSome x (λ text. n < length (before_mark text))
-passed_many n front begins None y many p = tt
-passed_many n front begins (Some text) y many p =
-    let o = sections_from begins p.rest in
-    let is = ap length (before_passed front text p.rest o p.text_is p.sections) ∙ length-append front (first_or p.rest o) in
-    omega (arith, is)
 
 -- and the next byte
 pub record GoesOn (front : List ℕ) (c : ℕ) (text : List ℕ) : Type 0 where

@@ -1,9 +1,10 @@
 -- Requests, one after the other.
 use Rattle.std.proofs.Common.{◌≡◌, ◌≢◌, ◌∙◌, ◌⊎◌, inl, inr, ℕ, ◌+◌, ◌^◌, ◌<◌, ◌≤◌, Bool, List, [], ◌∷◌, ◌++◌, length, refl, ap, sym, subst, append_assoc, append-nil, length-append}
-use Rattle.std.specs.Prelude.{Option, None, Some, Result, Err, IfSome}
+use Rattle.std.specs.Prelude.{Option, Some, Result, Err, IfSome}
 use Rattle.std.specs.Io.KnownBytes.{Consumes, IsAtEnd, Keeps}
-use Rattle.std.proofs.KnownBytes.{Appends-kept, Appends-nil, Appends-trans, Consumes-nil, Consumes-trans, Keeps-refl}
+use Rattle.std.proofs.KnownBytes.{Appends-kept, Appends-nil, Appends-trans, Consumes-nil, Consumes-trans}
 use Rattle.std.proofs.lemmas.List.Elements.{All-nil, All-push}
+use Rattle.std.specs.List.{All}
 use Rattle.ball_model.specs.Input.{Network, fields}
 use Rattle.ball_model.specs.Held.{start_holding}
 use Rattle.ball_model.specs.Job.{Job, PartValue, job_of, part_of}
@@ -19,11 +20,9 @@ use Rattle.node.specs.declared.error.ServeError.TheVariants as fault
 use Rattle.node.specs.declared.error.NodeError.{NodeError}
 use Rattle.node.specs.declared.error.NodeError.TheVariants as node_fault
 use Rattle.node.specs.Stream.{CutsBody, HasNoEnd, most_line}
-use Rattle.node.specs.Serving.{AppendsAnswers, CutShort, IsNoRequest, IsOfMachine, NoCommand, ReadsRequest, Runs, Serves, ServesNode, ServesNone, ServesOne, ServesSome, Steps, Stops, StopsNode, TooLong, told_tell}
+use Rattle.node.specs.Serving.{AppendsAnswers, CutShort, IsNoRequest, IsOfMachine, NoCommand, ReadsRequest, Runs, Serves, ServesNode, ServesNone, ServesOne, ServesSome, Steps, Stops, StopsNode}
 use Rattle.node.specs.Turns.{Holds, most_body}
 use Rattle.node.proofs.SessionLemmas.{part_held}
-use Rattle.world.specs.declared.tell.TellError.{TellError}
-use Rattle.world.specs.declared.tell.TellError.TheVariants as untold
 
 -- ---- one more is asked
 pub record LastAsk (j : Job) (p : ℕ) (rs : List Request) (r : Request) (more : List Asked) : Type 0 where
@@ -102,17 +101,17 @@ pub serves_none : (network : Network) (left : Option (List ℕ)) (v : State) (ol
 serves_none network left v old = record {
   requests = [];
   count = refl;
-  each = All-nil IsRequest;
+  each = All-nil (IsRequest v.part);
   consumed = Consumes-nil left;
   runs = runs_none network v old;
 }
 
-pub serves_more : (network : Network) (n m : ℕ) (a b c : Option (List ℕ)) (v w u : State) (x y z : Option (List ℕ)) → m ≡ n + 1 →
+pub serves_more : (network : Network) (n m : ℕ) (a b c : Option (List ℕ)) (v w u : State) (x y z : Option (List ℕ)) → m ≡ n + 1 → w.part ≡ v.part →
     ServesSome network n a b v w x y → ServesOne network b c w u y z → ServesSome network m a c v u x z
-serves_more network n m a b c v w u x y z next s o = record {
+serves_more network n m a b c v w u x y z next same s o = record {
   requests = s.requests ++ o.request ∷ [];
   count = length-append s.requests (o.request ∷ []) ∙ ap (λ (k : ℕ). k + 1) s.count ∙ sym next;
-  each = All-push IsRequest s.requests o.request s.each o.is;
+  each = All-push (IsRequest v.part) s.requests o.request s.each (subst (λ (q : PartValue). IsRequest q o.request) same o.is);
   consumed = subst (Consumes a c) (sym (texts_last s.requests o.request)) (Consumes-trans a b c (requests_text s.requests) (request_bytes o.request) s.consumed o.consumed);
   runs = runs_more network s.requests o.request v w u x y z s.runs o.steps;
 }
@@ -159,16 +158,22 @@ stops_counting network part n a b v w x y most s = record { number = n; mid = b;
 pub at_some : {A : Type 0} (o : Option A) (x : A) (P : A → Type 0) → o ≡ Some x → IfSome o P → P x
 at_some {A} o x P is h = subst (λ (q : Option A). IfSome q P) is h
 
-pub reads_request : (a b c : Option (List ℕ)) (line : List ℕ) (order : Command) (body : List ℕ) → Consumes a b (line ++ 10 ∷ []) → Consumes b c body →
-    HasNoEnd line → command_in (fields 32 line) ≡ Some order → length body ≡ body_length order → ReadsRequest a c line order body
-reads_request a b c line order body one two none says long = record {
-  is = record { one_line = none; says = says; length = long };
+pub reads_request : (part : PartValue) (a b c : Option (List ℕ)) (line : List ℕ) (order : Command) (body : List ℕ) → Consumes a b (line ++ 10 ∷ []) → Consumes b c body →
+    HasNoEnd line → length line < most_line → command_in (fields 32 line) ≡ Some order → body_length order ≤ most_body part order → length body ≡ body_length order → ReadsRequest part a c line order body
+reads_request part a b c line order body one two none short says within long = record {
+  is = record {
+    one_line = none;
+    short = short;
+    says = says;
+    length_is = long;
+    within = subst (λ (n : ℕ). n ≤ most_body part order) (sym long) within;
+  };
   consumed = subst (Consumes a c) (append_assoc line (10 ∷ []) body) (Consumes-trans a b c (line ++ 10 ∷ []) body one two);
 }
 
 -- it was answered, and the answer was passed on
 pub serves_one : (network : Network) (a b : Option (List ℕ)) (line : List ℕ) (order : Command) (body : List ℕ) (v w : State) (x y z : Option (List ℕ)) →
-    ReadsRequest a b line order body → Steps network order body v w x y → Keeps y z → ServesOne network a b v w x z
+    ReadsRequest v.part a b line order body → Steps network order body v w x y → Keeps y z → ServesOne network a b v w x z
 serves_one network a b line order body v w x y z read steps kept = record {
   request = record { line = line; command = order; body = body };
   is = read.is;
@@ -181,14 +186,7 @@ serves_one network a b line order body v w x y z read steps kept = record {
   };
 }
 
-pub serves_no_more : (a b : Option (List ℕ)) (v : State) (x : Option (List ℕ)) → IsAtEnd b → Consumes a b [] → ServesNone a b v v x x
-serves_no_more a b v x end none = record { end = end; consumed = none; kept = Keeps-refl x; same = refl }
-
 -- ---- what is no request
-pub told_machine : (f : TellError) → IsOfMachine (told_tell f)
-told_machine untold.Memory = tt
-told_machine untold.Write = tt
-
 -- of other faults nothing is said
 pub machine_stops : (part : PartValue) (n : ℕ) (e : ServeError) (a b : Option (List ℕ)) → IsOfMachine e → IsNoRequest part n e a b
 machine_stops part n (fault.Command k) a b is = absurd is
@@ -199,15 +197,8 @@ machine_stops part n fault.Memory a b is = tt
 machine_stops part n fault.Read a b is = tt
 machine_stops part n fault.Write a b is = tt
 
-pub no_command : (a b : Option (List ℕ)) (line : List ℕ) → Consumes a b (line ++ 10 ∷ []) → HasNoEnd line → command_in (fields 32 line) ≡ None → NoCommand a b
-no_command a b line read none says = record { line = line; one_line = none; read = inl (read, says) }
-
 pub long_line : (a b : Option (List ℕ)) (line : List ℕ) → Consumes a b line → HasNoEnd line → most_line ≤ length line → NoCommand a b
 long_line a b line read none great = record { line = line; one_line = none; read = inr (read, great) }
-
-pub too_long : (part : PartValue) (a b : Option (List ℕ)) (line : List ℕ) (order : Command) → Consumes a b (line ++ 10 ∷ []) → HasNoEnd line → command_in (fields 32 line) ≡ Some order →
-    most_body part order < body_length order → TooLong part a b
-too_long part a b line order read none says beyond = record { line = line; one_line = none; command = order; says = says; beyond = beyond; consumed = read }
 
 pub cut_line : (a b : Option (List ℕ)) (line : List ℕ) → Consumes a b line → IsAtEnd b → line ≢ [] → HasNoEnd line → CutShort a b
 cut_line a b line read end some none = record { front = line; some = some; within = inl none; consumed = read; end = end }
@@ -244,7 +235,7 @@ serves_node s counted p network plan left mid left' old new v w read below holds
   job = read;
   below = below;
   requests = serves.some.requests;
-  each = serves.some.each;
+  each = subst (λ (q : PartValue). All (IsRequest q) serves.some.requests) (part_held (job_of network.graph plan) p (start_holding plan p) v holds) serves.some.each;
   consumed = serves.some.consumed;
   end = serves.end;
   told = λ more asks. serves.some.runs.told (job_of network.graph plan) p (start_holding plan p) more refl holds asks;
@@ -264,7 +255,7 @@ stops_node s counted p e network plan left mid left' old new v w read below hold
       job = read;
       below = below;
       requests = stops.some.requests;
-      each = stops.some.each;
+      each = subst (λ (q : PartValue). All (IsRequest q) stops.some.requests) same stops.some.each;
       rest = stops.mid;
       consumed = stops.some.consumed;
       told = λ more asks. stops.some.runs.told j p (start_holding plan p) more refl holds asks;

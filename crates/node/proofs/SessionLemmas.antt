@@ -3,7 +3,7 @@ use Rattle.std.proofs.Common.{◌≡◌, ◌≢◌, ◌∙◌, ℕ, ◌<◌, ◌
 use Rattle.std.proofs.lemmas.Bool.{eq-eqb, eqb-true}
 use Rattle.ball_model.specs.Content.{same_plan}
 use Rattle.replica.proofs.RunLemmas.{same_plan-self}
-use Rattle.std.specs.Prelude.{None, Result, Ok, Err, IfOk, IfErr, IsErr, IsOk, OnErr}
+use Rattle.std.specs.Prelude.{Option, None, Some, Result, Ok, Err, IfOk, IfErr, IsErr, IsOk, OnOk}
 use Rattle.ball_model.specs.declared.names.BatchName.{BatchName}
 use Rattle.ball_model.specs.declared.names.Taken.{Taken}
 use Rattle.ball_model.specs.declared.names.TakeError.{TakeError}
@@ -25,7 +25,7 @@ use Rattle.ball_model.specs.WorldLaws.{IsNode}
 use Rattle.ball_model.proofs.HeldLemmas.{closed_held, joined_held, start_held, taken_held}
 use Rattle.checkpoint.specs.declared.error.KeepError.{KeepError}
 use Rattle.checkpoint.specs.declared.error.KeepError.TheVariants as unkept
-use Rattle.checkpoint.specs.Reading.{IfOkButWant, IsOfBytes, IsRead, TellNone, sealed_form}
+use Rattle.checkpoint.specs.Reading.{Ends, IfOkButWant, IsRead, IsSpelling, TellNone, sealed_form}
 use Rattle.ball_model.specs.Job.{PartValue}
 use Rattle.replica.specs.Runs.{Takes, Closes}
 use Rattle.replica.specs.Saved.{IsKeepable}
@@ -40,7 +40,7 @@ use Rattle.node.specs.declared.session.Reply.{Reply}
 use Rattle.node.specs.declared.session.Reply.TheVariants as reply
 use Rattle.node.specs.NodeText.{IsDelivered, IsGivenBack}
 use Rattle.node.specs.Turns.{GivesOrWants, Holds, SaysMerged, TurnsTo}
-use Rattle.node.specs.Refusals.{IsAnswered, IsNoCheckpoint, SaysOfBatch, SaysOfCheckpoint}
+use Rattle.node.specs.Refusals.{IsAnswered, IsCheckpoint, IsNoCheckpoint, SaysOfBatch, SaysOfCheckpoint}
 use Rattle.batches.specs.Reading.{AgreesButJob, GivesOrMemory, batch_at}
 use Rattle.batches.specs.declared.error.BatchError.{BatchError}
 use Rattle.batches.specs.declared.error.BatchError.TheVariants as unread
@@ -165,13 +165,6 @@ over_part (Err unmerged.Memory) t (Err y) e says is = absurd (cc)
 over_part (Err unmerged.OtherJob) t said e says is = absurd (cc)
 over_part (Err unmerged.NotMine) t said e says is = absurd (cc)
 
-pub over_refused : {E : Type 0} (v w : State) (r : Result (Unit {0}) MergeError) (t : ℕ) (said : Result Reply E) → OnErr r (w ≡ v) → SaysMerged r t said → OnErr said (w ≡ v)
-over_refused v w (Ok u) t said still says = subst (λ q. OnErr q (w ≡ v)) (sym says) tt
-over_refused v w (Err unmerged.Memory) t (Ok x) still says = tt
-over_refused v w (Err unmerged.Memory) t (Err y) still says = still
-over_refused v w (Err unmerged.OtherJob) t said still says = subst (λ q. OnErr q (w ≡ v)) (sym says) tt
-over_refused v w (Err unmerged.NotMine) t said still says = subst (λ q. OnErr q (w ≡ v)) (sym says) tt
-
 -- ---- a batch that was delivered
 pub delivered_read : (j : Job) (name : BatchName) (plan : PlanValue) (bytes : List ℕ) (r : Result BatchValue BatchError) → IsJob j → plan ≡ j.plan → IsDelivered j bytes name →
     ((b : BatchValue) → IsBatch b → AgreesButJob plan b.plan → bytes ≡ batch_bytes b → GivesOrMemory r (Ok b)) → GivesOrMemory r (Ok (true_batch j name))
@@ -214,9 +207,26 @@ over_said (Err unmerged.Memory) t (Err y) says = tt
 over_said (Err unmerged.OtherJob) t said says = subst (λ q. IfOk q IsAnswered) (sym says) tt
 over_said (Err unmerged.NotMine) t said says = subst (λ q. IfOk q IsAnswered) (sym says) tt
 
-pub spelled_ok : (b : BatchValue) (due : Result BatchValue BatchError) → GivesOrMemory (Ok b) due → IsOk due
-spelled_ok b (Ok x) gives = refl
-spelled_ok b (Err e) gives = absurd (cc)
+pub spelled_as : (b x : BatchValue) (due : Result BatchValue BatchError) → GivesOrMemory (Ok b) due → x ≡ b → due ≡ Ok x
+spelled_as b x (Ok y) gives is = cc
+spelled_as b x (Err e) gives is = absurd (cc)
+
+pub spelled_ok : (b : BatchValue) (due : Result BatchValue BatchError) → due ≡ Ok b → IsOk due
+spelled_ok b (Ok x) is = refl
+spelled_ok b (Err e) is = absurd (cc)
+
+pub spelled_same : (b x : BatchValue) (due : Result BatchValue BatchError) → due ≡ Ok x → due ≡ Ok b → x ≡ b
+spelled_same b x due one two = cc
+
+pub not_both : {A E : Type 0} (r : Result A E) (e : E) → IsOk r → r ≡ Err e → ⊥
+not_both (Ok x) e ok is = absurd (cc)
+not_both (Err y) e ok is = absurd (cc)
+
+-- a batch is not told to be none
+pub no_other_said : {E : Type 0} (b : BatchValue) (e : BatchError) (due : Result BatchValue BatchError) (r : Result Reply E) (P : Reply → Type 0) → IfOk r (λ x. e ≢ unread.Memory) →
+    (e ≢ unread.Memory → due ≡ Err e) → due ≡ Ok b → IfOk r P
+no_other_said b e due (Ok x) P some tells is = absurd (not_both due e (spelled_ok b due is) (tells some))
+no_other_said b e due (Err y) P some tells is = tt
 
 pub spelled_not : (e : BatchError) (due : Result BatchValue BatchError) → GivesOrMemory (Err e) due → e ≢ unread.Memory → due ≡ Err e
 spelled_not unread.Memory due gives some = absurd (some refl)
@@ -232,17 +242,50 @@ pub says_no_checkpoint : {E : Type 0} (part : PartValue) (bytes : List ℕ) (e :
 says_no_checkpoint part bytes e (Ok x) is some tells = subst (SaysOfCheckpoint part bytes) (sym is) (tells some)
 says_no_checkpoint part bytes e (Err y) is some tells = tt
 
-pub says_checkpoint : {E : Type 0} (part : PartValue) (bytes : List ℕ) (r : Result Reply E) → IfOk r IsAnswered → IsOk (sealed_form part bytes) → IfOk r (SaysOfCheckpoint part bytes)
+pub says_checkpoint : {E : Type 0} (part : PartValue) (bytes : List ℕ) (r : Result Reply E) → IfOk r IsAnswered → IsCheckpoint part bytes → IfOk r (SaysOfCheckpoint part bytes)
 says_checkpoint part bytes (Ok (reply.Answered a)) is whole = whole
 says_checkpoint part bytes (Ok (reply.NoBatch e)) is whole = absurd is
 says_checkpoint part bytes (Ok (reply.NoCheckpoint e)) is whole = absurd is
 says_checkpoint part bytes (Err y) is whole = tt
 
-of_bytes : (e : KeepError) → e ≢ unkept.Memory → (IsRead e → ⊥) → IsOfBytes e
-of_bytes unkept.Memory some sure = absurd (some refl)
-of_bytes unkept.Read some sure = absurd (sure tt)
-of_bytes e some sure = tt
+-- and then it is no answer
+pub never_answered : {E : Type 0} (e : KeepError) (r : Result Reply E) (P : Reply → Type 0) → IfOk r (λ x. x ≡ reply.NoCheckpoint e) → IfOk r (λ x. IsAnswered x → P x)
+never_answered e (Ok x) P is = λ answered. absurd (subst IsAnswered is answered)
+never_answered e (Err y) P is = tt
 
-pub no_checkpoint_in : (part : PartValue) (bytes : List ℕ) (e : KeepError) → e ≢ unkept.Memory → (IsRead e → ⊥) →
-    (IsOfBytes e → (sealed_form part bytes ≡ Err e) ⊎ ((e ≡ unkept.Shape) × IsOk (sealed_form part bytes) × TellNone part bytes)) → IsNoCheckpoint part bytes e
-no_checkpoint_in part bytes e some sure due = record { of_bytes = of_bytes e some sure; due = due (of_bytes e some sure) }
+-- ---- what is read of bytes
+pub form_told : {R : Type 0} (remaining : R → Option (List ℕ)) (failed : R → ℕ) (part : PartValue) (most : ℕ) (old new : R) (bytes : List ℕ) (r : Result State KeepError) → remaining old ≡ Some bytes →
+    OnOk r (Ends remaining failed (sealed_form part) most old new) → OnOk r (IsOk (sealed_form part bytes))
+form_told remaining failed part most old new bytes (Ok v) is ends = ends.is_form bytes is
+form_told remaining failed part most old new bytes (Err e) is ends = tt
+
+pub checkpoint_told : (part : PartValue) (bytes : List ℕ) (r : Result State KeepError) → IfOk r (λ v. v.part ≡ part) → IfOk r IsKeepable → IfOk r (λ v. IsSpelling v bytes) → OnOk r (IsOk (sealed_form part bytes)) →
+    OnOk r (IsCheckpoint part bytes)
+checkpoint_told part bytes (Ok v) own keeps spells form = record { form = form; replica = v; keepable = keeps; part_is = own; spells = spells }
+checkpoint_told part bytes (Err e) own keeps spells form = tt
+
+-- ---- which refusal it is
+pub no_batch_said : (plan : PlanValue) (body : List ℕ) (e : BatchError) (r : Reply) → SaysOfBatch plan body r → batch_at plan body ≡ Err e → r ≡ reply.NoBatch e
+no_batch_said plan body e (reply.Answered a) says is = absurd (not_both (batch_at plan body) e says is)
+no_batch_said plan body e (reply.NoBatch d) says is = let same : d ≡ e = cc (says, is) in ap reply.NoBatch same
+no_batch_said plan body e (reply.NoCheckpoint d) says is = absurd says
+
+tells_some : (part : PartValue) (body : List ℕ) (v : State) → IsKeepable v → v.part ≡ part → IsSpelling v body → TellNone part body → ⊥
+tells_some part body v keeps own (inl second) none = none.second v keeps own second
+tells_some part body v keeps own (inr first) none = none.first v keeps own first.0
+
+no_checkpoint_due : (part : PartValue) (body : List ℕ) (e : KeepError) → IsCheckpoint part body → (sealed_form part body ≡ Err e) ⊎ ((e ≡ unkept.Shape) × IsOk (sealed_form part body) × TellNone part body) → ⊥
+no_checkpoint_due part body e k (inl form) = not_both (sealed_form part body) e k.form form
+no_checkpoint_due part body e k (inr other) = tells_some part body k.replica k.keepable k.part_is k.spells other.2
+
+same_due : (part : PartValue) (body : List ℕ) (d e : KeepError) → (sealed_form part body ≡ Err d) ⊎ ((d ≡ unkept.Shape) × IsOk (sealed_form part body) × TellNone part body) →
+    (sealed_form part body ≡ Err e) ⊎ ((e ≡ unkept.Shape) × IsOk (sealed_form part body) × TellNone part body) → d ≡ e
+same_due part body d e (inl one) (inl two) = cc (one, two)
+same_due part body d e (inl one) (inr two) = absurd (not_both (sealed_form part body) d two.1 one)
+same_due part body d e (inr one) (inl two) = absurd (not_both (sealed_form part body) e one.1 two)
+same_due part body d e (inr one) (inr two) = one.0 ∙ sym two.0
+
+pub no_checkpoint_said : (part : PartValue) (body : List ℕ) (e : KeepError) (r : Reply) → SaysOfCheckpoint part body r → IsNoCheckpoint part body e → r ≡ reply.NoCheckpoint e
+no_checkpoint_said part body e (reply.Answered a) says other = absurd (no_checkpoint_due part body e says other.due)
+no_checkpoint_said part body e (reply.NoBatch d) says other = absurd says
+no_checkpoint_said part body e (reply.NoCheckpoint d) says other = ap reply.NoCheckpoint (same_due part body d e says.due other.due)

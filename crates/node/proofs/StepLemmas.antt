@@ -31,9 +31,19 @@ use Rattle.ball_model.specs.WorldText.{number_line, refusal_line, show_text, wor
 use Rattle.node.specs.declared.command.Command.{Command}
 use Rattle.node.specs.declared.command.Command.TheVariants as command
 use Rattle.node.specs.declared.session.Reply.{Reply}
-use Rattle.node.specs.NodeText.{Answers, Asked, Asks, IsDelivered, IsGivenBack, Send, Deliver, Closing, Keep, Restart, Recover, Show, Totals, Figures, after_asked, alone, closed_line, figures_text, send_text, sent_text, took_line, totals_text}
+use Rattle.node.specs.NodeText.{Answers, Asked, Asks, IsDelivered, IsGivenBack, Send, Deliver, Closing, Keep, Restart, Recover, IsNotFor, NoBatch, NotFor, NoCheckpoint, Show, Totals, Figures, after_asked, alone, closed_line, figures_text, send_text, sent_text, took_line, totals_text}
 use Rattle.node.specs.Serving.{AppendsAnswer, Steps}
 use Rattle.node.specs.Turns.{Holds, TurnsTo, reply_text, said_text}
+use Rattle.ball_model.specs.Job.{PartValue, part_of}
+use Rattle.batches.specs.declared.error.BatchError.{BatchError}
+use Rattle.checkpoint.specs.declared.error.KeepError.{KeepError}
+use Rattle.node.specs.declared.session.Reply.TheVariants as reply
+use Rattle.node.specs.Refusals.{SaysOfBatch, SaysOfCheckpoint}
+use Rattle.ball_model.specs.Content.{is_new, take_of}
+use Rattle.ball_model.specs.State.{content_of}
+use Rattle.batches.specs.Reading.{batch_at}
+use Rattle.replica.specs.Change.{take_answer}
+use Rattle.node.proofs.SessionLemmas.{no_batch_said, no_checkpoint_said, part_held, plan_held}
 
 -- ---- an answer whose text is known
 -- what a replica v was asked by a command and the bytes behind it is answered by the text, and makes it w
@@ -73,17 +83,9 @@ asks_keep : (j : Job) (p : ℕ) (body : List ℕ) (a : Asked) → Asks j p comma
 asks_keep j p body Keep is = refl
 asks_keep j p body a is = absurd is
 
-asks_show : (j : Job) (p : ℕ) (body : List ℕ) (a : Asked) → Asks j p command.Show body a → a ≡ Show
-asks_show j p body Show is = refl
-asks_show j p body a is = absurd is
-
 asks_totals : (j : Job) (p : ℕ) (body : List ℕ) (a : Asked) → Asks j p command.Totals body a → a ≡ Totals
 asks_totals j p body Totals is = refl
 asks_totals j p body a is = absurd is
-
-asks_figures : (j : Job) (p : ℕ) (body : List ℕ) (a : Asked) → Asks j p command.Figures body a → a ≡ Figures
-asks_figures j p body Figures is = refl
-asks_figures j p body a is = absurd is
 
 pub send_steps : (network : Network) (q : ℕ) (body : List ℕ) (v : State) (text : List ℕ) →
     ((j : Job) (p : ℕ) (h : Holding) → j.graph ≡ network.graph → Holds j p h v → Answers j network.labels h (Send q) text) → StepsTo network (command.Send q) body v v text
@@ -116,57 +118,94 @@ close_steps network body v w r text is turned =
     (λ j p h same k. is ∙ ap reply_text (turned j p h k).says ∙ closed_text (held_close_answer j h))
     (λ j p h k. (turned j p h k).holds)
 
+-- a replica refuses a batch that is not for its partition
+not_for_answer : (j : Job) (p : ℕ) (h : Holding) (v : State) (body : List ℕ) (e : TakeError) → Holds j p h v → (d : IsNotFor j p body e) → take_answer v d.batch ≡ Err e
+not_for_answer j p h v body e k d =
+    ap (λ (q : PlanValue). take_of q v.part.number (content_of v) d.batch.plan d.batch.name) (plan_held j p h v k)
+    ∙ ap (λ (n : ℕ). take_of j.plan n (content_of v) d.batch.plan d.batch.name) (number_is j h.partition h.superstep v k.has.holding.stands ∙ k.held.partition)
+    ∙ d.refused (content_of v)
+
+not_for_spelled : (j : Job) (p : ℕ) (h : Holding) (v : State) (body : List ℕ) (e : TakeError) → Holds j p h v → (d : IsNotFor j p body e) → batch_at v.part.plan body ≡ Ok d.batch
+not_for_spelled j p h v body e k d = ap (λ (q : PlanValue). batch_at q body) (plan_held j p h v k) ∙ d.spelled
+
 pub deliver_steps : (network : Network) (n : ℕ) (body : List ℕ) (v w : State) (r : Reply) (text : List ℕ) → text ≡ reply_text r →
     ((j : Job) (p : ℕ) (h : Holding) (name : BatchName) → Holds j p h v → IsDelivered j body name → TurnsTo j p (taken_answer (held_take_answer j h name)) (held_after j h (Take name)) w r) →
+    SaysOfBatch v.part.plan body r → ((e : BatchError) → r ≡ reply.NoBatch e → w ≡ v) →
+    ((b : BatchValue) → batch_at v.part.plan body ≡ Ok b → r ≡ reply.Answered (taken_answer (take_answer v b))) →
+    ((b : BatchValue) → batch_at v.part.plan body ≡ Ok b → is_new (take_answer v b) ≡ false → w ≡ v) →
     StepsTo network (command.Deliver n) body v w text
-deliver_steps network n body v w r text is turned = record {
+deliver_steps network n body v w r text is turned said still answered same_new = record {
   answers = λ j p h a same k asks. says j p h a k asks;
   holds = λ j p h a same k asks. holds j p h a k asks;
 }
   where
+    none : (j : Job) (p : ℕ) (h : Holding) (e : BatchError) → Holds j p h v → Asks j p (command.Deliver n) body (NoBatch e) → r ≡ reply.NoBatch e
+    none j p h e k asks = no_batch_said j.plan body e r (subst (λ (q : PlanValue). SaysOfBatch q body r) (plan_held j p h v k) said) asks
+
     says : (j : Job) (p : ℕ) (h : Holding) (a : Asked) → Holds j p h v → Asks j p (command.Deliver n) body a → Answers j network.labels h a text
     says j p h (Deliver name) k asks = is ∙ ap reply_text (turned j p h name k asks).says ∙ took_text (held_take_answer j h name)
+    says j p h (NoBatch e) k asks = is ∙ ap reply_text (none j p h e k asks)
+    says j p h (NotFor e) k asks =
+        is ∙ ap reply_text (answered asks.batch (not_for_spelled j p h v body e k asks))
+        ∙ ap (λ (t : Result Taken TakeError). said_text (taken_answer t)) (not_for_answer j p h v body e k asks)
     says j p h a k asks = absurd asks
 
     holds : (j : Job) (p : ℕ) (h : Holding) (a : Asked) → Holds j p h v → Asks j p (command.Deliver n) body a → Holds j p (after_asked j h a) w
     holds j p h (Deliver name) k asks = (turned j p h name k asks).holds
+    holds j p h (NoBatch e) k asks = subst (Holds j p h) (sym (still e (none j p h e k asks))) k
+    holds j p h (NotFor e) k asks =
+        subst (Holds j p h) (sym (same_new asks.batch (not_for_spelled j p h v body e k asks) (ap is_new (not_for_answer j p h v body e k asks)))) k
     holds j p h a k asks = absurd asks
 
 pub restart_steps : (network : Network) (n : ℕ) (body : List ℕ) (v w : State) (r : Reply) (text : List ℕ) → text ≡ reply_text r →
     ((j : Job) (p : ℕ) (h : Holding) → Holds j p h v → body ≡ [] → TurnsTo j p (answer.Restarted (start_holding j.plan p).superstep) (start_holding j.plan p) w r) →
     ((j : Job) (p : ℕ) (h d : Holding) → Holds j p h v → body ≢ [] → IsGivenBack j p body d → TurnsTo j p (answer.Restarted d.superstep) d w r) →
+    (body ≢ [] → SaysOfCheckpoint v.part body r) → ((e : KeepError) → r ≡ reply.NoCheckpoint e → w ≡ v) →
     StepsTo network (command.Restart n) body v w text
-restart_steps network n body v w r text is anew turned = record {
+restart_steps network n body v w r text is anew turned said still = record {
   answers = λ j p h a same k asks. says j p h a k asks;
   holds = λ j p h a same k asks. holds j p h a k asks;
 }
   where
+    none : (j : Job) (p : ℕ) (h : Holding) (e : KeepError) → Holds j p h v → Asks j p (command.Restart n) body (NoCheckpoint e) → r ≡ reply.NoCheckpoint e
+    none j p h e k asks =
+        no_checkpoint_said (part_of j p) body e r (subst (λ (q : PartValue). SaysOfCheckpoint q body r) (part_held j p h v k) (said asks.0)) asks.1
+
     says : (j : Job) (p : ℕ) (h : Holding) (a : Asked) → Holds j p h v → Asks j p (command.Restart n) body a → Answers j network.labels h a text
     says j p h (Restart None) k asks =
         is ∙ ap reply_text (anew j p h k asks).says
         ∙ ap (λ (q : ℕ). number_line (codes "restarted") (start_holding j.plan q).superstep) (sym k.held.partition)
     says j p h (Restart (Some d)) k asks = is ∙ ap reply_text (turned j p h d k asks.0 asks.1).says
+    says j p h (NoCheckpoint e) k asks = is ∙ ap reply_text (none j p h e k asks)
     says j p h a k asks = absurd asks
 
     holds : (j : Job) (p : ℕ) (h : Holding) (a : Asked) → Holds j p h v → Asks j p (command.Restart n) body a → Holds j p (after_asked j h a) w
     holds j p h (Restart None) k asks = subst (λ (q : ℕ). Holds j p (start_holding j.plan q) w) (sym k.held.partition) (anew j p h k asks).holds
     holds j p h (Restart (Some d)) k asks = (turned j p h d k asks.0 asks.1).holds
+    holds j p h (NoCheckpoint e) k asks = subst (Holds j p h) (sym (still e (none j p h e k asks))) k
     holds j p h a k asks = absurd asks
 
 pub recover_steps : (network : Network) (n : ℕ) (body : List ℕ) (v w : State) (r : Reply) (text : List ℕ) → text ≡ reply_text r →
     ((j : Job) (p : ℕ) (h c : Holding) → Holds j p h v → IsGivenBack j p body c → TurnsTo j p (answer.Merged (join_of h c).superstep) (join_of h c) w r) →
+    SaysOfCheckpoint v.part body r → ((e : KeepError) → r ≡ reply.NoCheckpoint e → w ≡ v) →
     StepsTo network (command.Recover n) body v w text
-recover_steps network n body v w r text is turned = record {
+recover_steps network n body v w r text is turned said still = record {
   answers = λ j p h a same k asks. says j p h a k asks;
   holds = λ j p h a same k asks. holds j p h a k asks;
 }
   where
+    none : (j : Job) (p : ℕ) (h : Holding) (e : KeepError) → Holds j p h v → Asks j p (command.Recover n) body (NoCheckpoint e) → r ≡ reply.NoCheckpoint e
+    none j p h e k asks =
+        no_checkpoint_said (part_of j p) body e r (subst (λ (q : PartValue). SaysOfCheckpoint q body r) (part_held j p h v k) said) asks
+
     says : (j : Job) (p : ℕ) (h : Holding) (a : Asked) → Holds j p h v → Asks j p (command.Recover n) body a → Answers j network.labels h a text
     says j p h (Recover c) k asks = is ∙ ap reply_text (turned j p h c k asks).says
+    says j p h (NoCheckpoint e) k asks = is ∙ ap reply_text (none j p h e k asks)
     says j p h a k asks = absurd asks
 
     holds : (j : Job) (p : ℕ) (h : Holding) (a : Asked) → Holds j p h v → Asks j p (command.Recover n) body a → Holds j p (after_asked j h a) w
     holds j p h (Recover c) k asks = (turned j p h c k asks).holds
+    holds j p h (NoCheckpoint e) k asks = subst (Holds j p h) (sym (still e (none j p h e k asks))) k
     holds j p h a k asks = absurd asks
 
 -- ---- answers that leave the node as it was

@@ -1,5 +1,5 @@
 -- The report of the checkpoints of all partitions.
-use Rattle.std.specs.Prelude.{◌≡◌, ⊤, ℕ, ◌+◌, Bool, List, [], ◌∷◌, ◌++◌, length, Option, codes, decimal}
+use Rattle.std.specs.Prelude.{◌≡◌, ⊤, ℕ, ◌+◌, ◌≤◌, Bool, List, [], ◌∷◌, ◌++◌, length, Option, codes, decimal}
 use Rattle.std.specs.List.{flat_map}
 use Rattle.std.specs.Io.KnownBytes.{Appends, Consumes, IsAtEnd}
 use Rattle.ball_model.specs.Input.{Network}
@@ -9,6 +9,8 @@ use Rattle.ball_model.specs.PlanValue.{PlanValue}
 use Rattle.ball_model.specs.RunText.{Settings}
 use Rattle.ball_model.specs.State.{State}
 use Rattle.ball_model.specs.WorldText.{words_line}
+use Rattle.checkpoint.specs.Reading.{IsSpelling, most_bytes}
+use Rattle.replica.specs.Saved.{IsKeepable}
 use Rattle.report.specs.Ready.{job_report}
 use Rattle.report.specs.declared.write.ReportError.{ReportError}
 use Rattle.report.specs.declared.write.ReportError.TheVariants as unreported
@@ -16,6 +18,7 @@ use Rattle.node.specs.declared.error.GatherError.{GatherError}
 use Rattle.node.specs.declared.error.GatherError.TheVariants as fault
 use Rattle.node.specs.Job.{IsJobRead}
 use Rattle.node.specs.NodeText.{IsGivenBack}
+use Rattle.node.specs.Refusals.{IsCheckpoint}
 use Rattle.node.specs.Turns.{Holds}
 
 abbrev pub told_report : ReportError → GatherError
@@ -41,12 +44,23 @@ AreGivenBack j p [] = ⊤
 AreGivenBack j p (body ∷ bodies) =
     ((h : Holding) × IsGivenBack j p body h) × AreGivenBack j (p + 1) bodies
 
+-- it is a checkpoint of partition p, and no longer than any
+pub record IsPart (j : Job) (p : ℕ) (body : List ℕ) : Type 0 where
+  pub few : length body ≤ most_bytes (part_of j p) (part_of j p).plan.limit
+  pub checkpoint : IsCheckpoint (part_of j p) body
+
+-- so is each, of partition p and those that follow
+unfoldable pub AreParts : Job → ℕ → List (List ℕ) → Type 0
+AreParts j p [] = ⊤
+AreParts j p (body ∷ bodies) = IsPart j p body × AreParts j (p + 1) bodies
+
 -- all that is left of the input is checkpoints, one of each partition; and where they stand for the job, its report was
 -- appended
 pub record Gathers (j : Job) (labels : List (List ℕ)) (left left' : Option (List ℕ))
     (old new : Option (List ℕ)) : Type 0 where
   pub bodies : List (List ℕ)
   pub count : length bodies ≡ j.plan.parts
+  pub parts : AreParts j 0 bodies
   pub consumed : Consumes left left' (parts_text bodies)
   pub end : IsAtEnd left'
   pub report : AreGivenBack j 0 bodies → Appends old new (job_report j labels)
@@ -62,9 +76,12 @@ pub record GathersJob (s : Settings) (counted : Bool)
 
 -- ---- how checkpoints are read
 
--- a replica of partition p was made of these bytes
+-- a replica of partition p was made of these bytes, which are a spelling of it
 pub record IsMadeOf (j : Job) (p : ℕ) (body : List ℕ) (v : State) : Type 0 where
   pub part_is : v.part ≡ part_of j p
+  pub is : IsPart j p body
+  pub keepable : IsKeepable v
+  pub spells : IsSpelling v body
   pub back : (h : Holding) → IsGivenBack j p body h → Holds j p h v
 
 pub record ReadsOne (j : Job) (p : ℕ) (left left' : Option (List ℕ)) (v : State) : Type 0 where

@@ -1,5 +1,5 @@
 -- The job that is asked for, over what is read of an input up to the marks.
-use Rattle.std.specs.Prelude.{◌≡◌, ℕ, Bool, List, Option, None, Some, is_some, IfSome, Ok}
+use Rattle.std.specs.Prelude.{◌≡◌, ℕ, ◌≤◌, Bool, true, false, List, length, Option, None, Some, is_some, IfSome, Ok}
 use Rattle.ball_model.specs.Input.{IsPlain, Network}
 use Rattle.ball_model.specs.PlanValue.{PlanValue, plan_of}
 use Rattle.ball_model.specs.RunText.{Numbers, Settings, counted_in, network_in, plan_over}
@@ -10,7 +10,8 @@ use Rattle.edgelist.specs.declared.pieces.EdgeReader.{EdgeReader}
 use Rattle.edgelist.specs.declared.read.Delimiter.{Delimiter}
 use Rattle.edgelist.specs.declared.read.EdgeLimits.{EdgeLimits}
 use Rattle.node.specs.declared.job.JobOptions.{JobOptions}
-use Rattle.node.specs.Section.{ReadsSection}
+use Rattle.node.specs.declared.job.TheConstants.{MOST_LIST}
+use Rattle.node.specs.Section.{HasNoMark, ReadsSection}
 
 -- ---- what is asked
 
@@ -29,6 +30,20 @@ pub record GivesSection (limits : EdgeLimits) (delimiter : Delimiter)
   pub given : IsGiven limits delimiter front edges
   pub section : ReadsSection front left left'
 
+-- all was read, where no mark is, and given to a reader of edges
+pub record GivesAll (limits : EdgeLimits) (delimiter : Delimiter) (left : Option (List ℕ))
+    (edges : EdgeReader) : Type 0 where
+  pub front : List ℕ
+  pub given : IsGiven limits delimiter front edges
+  pub none : HasNoMark left
+  pub whole : IfSome left (λ text. text ≡ front)
+
+-- a section was given, up to a mark or up to the end
+abbrev pub GivesEdges : EdgeLimits → Delimiter → Option (List ℕ) → Option (List ℕ) → EdgeReader →
+    Bool → Type 0
+GivesEdges limits delimiter left left' edges true = GivesSection limits delimiter left left' edges
+GivesEdges limits delimiter left left' edges false = GivesAll limits delimiter left edges
+
 -- the edge list in front of the mark was read, and says that network
 pub record SaysNetwork (s : Settings) (left left' : Option (List ℕ))
     (network : Network) : Type 0 where
@@ -41,12 +56,14 @@ abbrev pub ReadsList : Option (List ℕ) → Option (List ℕ) → Option (List 
 ReadsList None left left' = left' ≡ left
 ReadsList (Some list) left left' = ReadsSection list left left'
 
--- with a list of counted vertices or without one, it says that of the network
+-- with a list of counted vertices, which has no more bytes than a list may have, or without one, it says that of the
+-- network
 pub record CountsSome (s : Settings) (counted : Bool) (left left' : Option (List ℕ))
     (all network : Network) : Type 0 where
   pub list : Option (List ℕ)
   pub given : is_some list ≡ counted
   pub section : ReadsList list left left'
+  pub few : IfSome list (λ bytes. length bytes ≤ MOST_LIST)
   pub says : IfSome list IsPlain → counted_in s all list ≡ Ok network
 
 -- there is such a plan over the network

@@ -1,5 +1,5 @@
 -- Why an input says no job.
-use Rattle.std.specs.Prelude.{◌≡◌, ◌≢◌, ⊤, ◌⊎◌, ℕ, ◌-◌, ◌^◌, ◌<◌, ◌≤◌, Bool, true, List, length, Option, Result, Err, IfSome}
+use Rattle.std.specs.Prelude.{◌≡◌, ◌≢◌, ⊤, ◌⊎◌, ℕ, ◌-◌, ◌^◌, ◌<◌, ◌≤◌, Bool, true, List, length, Option, Result, Err, IfSome, IsOk}
 use Rattle.ball_model.specs.Counting.{counted_of}
 use Rattle.ball_model.specs.Input.{IsPlain, Network, Refusal}
 use Rattle.ball_model.specs.PlanValue.{PlanValue, plan_of}
@@ -7,13 +7,14 @@ use Rattle.ball_model.specs.RunText.{Settings, network_in, plan_over}
 use Rattle.ball_model.specs.declared.plan.PlanError.{PlanError}
 use Rattle.edgelist.specs.Counting.{RefusesList}
 use Rattle.edgelist.specs.Reading.{Refuses}
+use Rattle.edgelist.specs.declared.counting.CountedError.{CountedError}
 use Rattle.edgelist.specs.declared.read.EdgeError.{EdgeError}
 use Rattle.edgelist.specs.declared.read.EdgeError.TheVariants as unread
 use Rattle.node.specs.declared.error.JobError.{JobError}
 use Rattle.node.specs.declared.error.JobError.TheVariants as fault
 use Rattle.node.specs.declared.job.TheConstants.{MOST_LIST}
 use Rattle.node.specs.Job.{CountsSome, IsJobRead, SaysNetwork}
-use Rattle.node.specs.Section.{HasNoMark, before_mark}
+use Rattle.node.specs.Section.{HasNoMark, ReadsSection, before_mark}
 
 -- ---- the edge list
 -- what stands before the mark is refused for that, and not for a failed read
@@ -23,29 +24,46 @@ pub record IsRefused (says : List ℕ → Result Network Refusal) (left : Option
   pub refuses : IfSome left (λ text. IsPlain (before_mark text) →
       Refuses (says (before_mark text)) e)
 
+-- there is no mark, and all that there is says a network
+pub record LacksMark (says : List ℕ → Result Network Refusal) (left : Option (List ℕ)) : Type 0
+  where
+    pub none : HasNoMark left
+    pub fine : IfSome left (λ text. IsPlain text → IsOk (says text))
+
 -- so it is refused, or there is no mark; of want of memory and a failed read nothing is said
 abbrev pub IsNoNetwork : (List ℕ → Result Network Refusal) → Option (List ℕ) → JobError → Type 0
 IsNoNetwork says left (fault.Edges e) = IsRefused says left e
-IsNoNetwork says left fault.NoMark = HasNoMark left
+IsNoNetwork says left fault.NoMark = LacksMark says left
 IsNoNetwork says left fault.EdgesSize = IfSome left (λ text. 2 ^ 64 - 1 ≤ length text)
 IsNoNetwork says left fault.Memory = ⊤
 IsNoNetwork says left fault.Read = ⊤
 IsNoNetwork says left e = ⊥
 
 -- ---- the list of counted vertices
--- there is no mark behind the list, or it is too long
+-- there is no mark, and no more bytes than a list may have: whatever they say
+pub record LacksListMark (left : Option (List ℕ)) : Type 0 where
+  pub none : HasNoMark left
+  pub few : IfSome left (λ text. length text ≤ MOST_LIST)
+
+-- so it is, or more bytes than a list may have stand before a mark
 abbrev pub IsUnlisted : Option (List ℕ) → JobError → Type 0
-IsUnlisted left fault.NoListMark = HasNoMark left
+IsUnlisted left fault.NoListMark = LacksListMark left
 IsUnlisted left fault.ListSize = IfSome left (λ text. MOST_LIST < length (before_mark text))
 IsUnlisted left fault.Memory = ⊤
 IsUnlisted left fault.Read = ⊤
 IsUnlisted left e = ⊥
 
--- or it is refused for what it says of a network
+-- a list stands before a mark, and is refused for what it says of a network
+pub record IsMiscounted (s : Settings) (left : Option (List ℕ)) (all : Network)
+    (e : CountedError) : Type 0 where
+  pub list : List ℕ
+  pub left' : Option (List ℕ)
+  pub section : ReadsSection list left left'
+  pub few : length list ≤ MOST_LIST
+  pub refuses : IsPlain list → RefusesList (counted_of s.delimiter all list) e
+
 abbrev pub IsUncounted : Settings → Option (List ℕ) → Network → JobError → Type 0
-IsUncounted s left all (fault.Counted e) =
-    IfSome left (λ text. IsPlain (before_mark text) →
-    RefusesList (counted_of s.delimiter all (before_mark text)) e)
+IsUncounted s left all (fault.Counted e) = IsMiscounted s left all e
 IsUncounted s left all e = IsUnlisted left e
 
 -- the edge list says a network, and the list behind it is refused so
@@ -72,7 +90,7 @@ pub record HasNoPlan (s : Settings) (counted : Bool) (left left' : Option (List 
 -- the input says no job, for this fault
 abbrev pub IsNoJob : Settings → Bool → Option (List ℕ) → Option (List ℕ) → JobError → Type 0
 IsNoJob s counted left left' (fault.Edges e) = IsRefused (network_in s) left e
-IsNoJob s counted left left' fault.NoMark = HasNoMark left
+IsNoJob s counted left left' fault.NoMark = LacksMark (network_in s) left
 IsNoJob s counted left left' fault.EdgesSize = IsNoNetwork (network_in s) left fault.EdgesSize
 IsNoJob s counted left left' fault.NoListMark = HasNoCount s counted left fault.NoListMark
 IsNoJob s counted left left' fault.ListSize = HasNoCount s counted left fault.ListSize

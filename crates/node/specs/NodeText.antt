@@ -1,5 +1,5 @@
 -- A node alone, driven by a text: commands as lines and bytes, and what they are answered, over one node of a world.
-use Rattle.std.specs.Prelude.{◌≡◌, ◌≢◌, ⊤, ℕ, ◌+◌, ◌^◌, ◌&&◌, nat_lt, not, ◌==◌, List, [], ◌∷◌, ◌++◌, length, Option, None, Some, option_map, unwrap_or, Result, Ok, Err, if◌then◌else◌, codes, decimal}
+use Rattle.std.specs.Prelude.{◌≡◌, ◌≢◌, ⊤, ℕ, ◌+◌, ◌^◌, ◌<◌, ◌≤◌, ◌&&◌, nat_lt, not, ◌==◌, List, [], ◌∷◌, ◌++◌, length, Option, None, Some, option_map, unwrap_or, Result, Ok, Err, if◌then◌else◌, codes, decimal}
 use Rattle.std.specs.List.{All, flat_map, range_with_len}
 use Rattle.std.specs.Str.{bytes_eq}
 use Rattle.ball_model.specs.declared.names.BatchName.{BatchName}
@@ -9,9 +9,10 @@ use Rattle.ball_model.specs.declared.names.TakeError.{TakeError}
 use Rattle.ball_model.specs.declared.names.CloseError.{CloseError}
 use Rattle.ball_model.specs.declared.world.WorldError.TheVariants as refusal
 use Rattle.ball_model.specs.Batches.{BatchValue, batch_bytes, true_batch}
+use Rattle.ball_model.specs.Content.{Content, take_of}
 use Rattle.ball_model.specs.Held.{IsHeldBy, IsName, held_after, held_close_answer, held_take_answer, start_holding}
 use Rattle.ball_model.specs.Input.{fields}
-use Rattle.ball_model.specs.Job.{Job}
+use Rattle.ball_model.specs.Job.{Job, PartValue, part_of}
 use Rattle.ball_model.specs.Join.{Holding, join_of}
 use Rattle.ball_model.specs.PlanValue.{mixing_of}
 use Rattle.ball_model.specs.Report.{superstep_line, vertex_text}
@@ -19,9 +20,15 @@ use Rattle.ball_model.specs.State.{own_vertices}
 use Rattle.ball_model.specs.Steps.{Take, Close}
 use Rattle.ball_model.specs.Supersteps.{total_over}
 use Rattle.ball_model.specs.WorldText.{number_line, part_in, refusal_line, show_text, taken_line, unclosed_line, untaken_line, value_from, words_line}
+use Rattle.batches.specs.Reading.{batch_at}
+use Rattle.batches.specs.declared.error.BatchError.{BatchError}
+use Rattle.checkpoint.specs.declared.error.KeepError.{KeepError}
 use Rattle.world.specs.Shows.{IsKept}
 use Rattle.node.specs.declared.command.Command.{Command}
 use Rattle.node.specs.declared.command.Command.TheVariants as command
+use Rattle.node.specs.Refusals.{IsNoCheckpoint}
+use Rattle.node.specs.Stream.{most_line}
+use Rattle.node.specs.Turns.{batch_word, checkpoint_word, most_body}
 
 -- ---- commands as lines
 
@@ -76,11 +83,14 @@ pub record Request : Type 0 where
   pub command : Command
   pub body : List ℕ
 
--- the line, which has no LF, says the command, and as many bytes follow it as the command tells
-pub record IsRequest (r : Request) : Type 0 where
+-- the line, which has no LF and fewer than 64 bytes, says the command, and as many bytes follow it as the command
+-- tells, which are no more than a batch or a checkpoint of the part has at most
+pub record IsRequest (part : PartValue) (r : Request) : Type 0 where
   pub one_line : All (λ b. b ≢ 10) r.line
+  pub short : length r.line < most_line
   pub says : command_in (fields 32 r.line) ≡ Some r.command
-  pub length : length r.body ≡ body_length r.command
+  pub length_is : length r.body ≡ body_length r.command
+  pub within : length r.body ≤ most_body part r.command
 
 abbrev pub request_bytes : Request → List ℕ
 request_bytes r = r.line ++ 10 ∷ r.body
@@ -98,6 +108,9 @@ pub data Asked : Type 0 where
   Keep : Asked
   Restart : Option Holding → Asked
   Recover : Holding → Asked
+  NoBatch : BatchError → Asked
+  NotFor : TakeError → Asked
+  NoCheckpoint : KeepError → Asked
   Show : Asked
   Totals : Asked
   Figures : Asked
@@ -106,6 +119,13 @@ pub data Asked : Type 0 where
 pub record IsDelivered (j : Job) (body : List ℕ) (name : BatchName) : Type 0 where
   pub named : IsName j.plan name
   pub spelled : body ≡ batch_bytes (true_batch j name)
+
+-- the bytes spell a batch that partition p refuses so whatever it holds: one of another job, of another target, or its
+-- own
+pub record IsNotFor (j : Job) (p : ℕ) (body : List ℕ) (e : TakeError) : Type 0 where
+  pub batch : BatchValue
+  pub spelled : batch_at j.plan body ≡ Ok batch
+  pub refused : (c : Content) → take_of j.plan p c batch.plan batch.name ≡ Err e
 
 -- the bytes are a checkpoint of partition p that stands for that holding
 pub record IsGivenBack (j : Job) (p : ℕ) (body : List ℕ) (h : Holding) : Type 0 where
@@ -117,14 +137,23 @@ abbrev pub IsStart : Job → ℕ → List ℕ → Option Holding → Type 0
 IsStart j p body None = body ≡ []
 IsStart j p body (Some h) = (body ≢ []) × IsGivenBack j p body h
 
--- the bytes behind a command of partition p are what it asks for: a true batch, or a checkpoint that stands for the job
+-- some bytes that are no checkpoint of partition p, for that refusal
+abbrev pub IsOtherStart : Job → ℕ → List ℕ → KeepError → Type 0
+IsOtherStart j p body e = (body ≢ []) × IsNoCheckpoint (part_of j p) body e
+
+-- the bytes behind a command of partition p are what it asks for: a true batch, or a checkpoint that stands for the
+-- job; or they are no batch of the plan, or one that is not for the partition, or no checkpoint of the part
 abbrev pub Asks : Job → ℕ → Command → List ℕ → Asked → Type 0
 Asks j p (command.Send q) body (Send r) = q ≡ r
 Asks j p (command.Deliver n) body (Deliver name) = IsDelivered j body name
+Asks j p (command.Deliver n) body (NoBatch e) = batch_at j.plan body ≡ Err e
+Asks j p (command.Deliver n) body (NotFor e) = IsNotFor j p body e
 Asks j p command.Close body Closing = ⊤
 Asks j p command.Keep body Keep = ⊤
 Asks j p (command.Restart n) body (Restart o) = IsStart j p body o
+Asks j p (command.Restart n) body (NoCheckpoint e) = IsOtherStart j p body e
 Asks j p (command.Recover n) body (Recover h) = IsGivenBack j p body h
+Asks j p (command.Recover n) body (NoCheckpoint e) = IsNoCheckpoint (part_of j p) body e
 Asks j p command.Show body Show = ⊤
 Asks j p command.Totals body Totals = ⊤
 Asks j p command.Figures body Figures = ⊤
@@ -165,6 +194,10 @@ send_text j h q =
     }))
     else refusal_line refusal.NoTarget
 
+-- what is said of bytes that were refused
+abbrev pub refused_line : List ℕ → List ℕ
+refused_line word = words_line (codes "refused" ∷ word ∷ [])
+
 -- a checkpoint that is given: its superstep, its length, and its bytes
 abbrev pub kept_text : ℕ → List ℕ → List ℕ
 kept_text t bytes =
@@ -204,6 +237,9 @@ Answers j labels h (Restart o) text =
     (unwrap_or o (start_holding j.plan h.partition)).superstep
 Answers j labels h (Recover c) text =
     text ≡ number_line (codes "merged") (join_of h c).superstep
+Answers j labels h (NoBatch e) text = text ≡ refused_line (batch_word e)
+Answers j labels h (NotFor e) text = text ≡ untaken_line e
+Answers j labels h (NoCheckpoint e) text = text ≡ refused_line (checkpoint_word e)
 Answers j labels h Show text = text ≡ show_text j (alone h.partition) h
 Answers j labels h Totals text = text ≡ totals_text j h
 Answers j labels h Figures text = text ≡ figures_text j labels h
@@ -216,6 +252,9 @@ after_asked j h Closing = held_after j h Close
 after_asked j h Keep = h
 after_asked j h (Restart o) = unwrap_or o (start_holding j.plan h.partition)
 after_asked j h (Recover c) = join_of h c
+after_asked j h (NoBatch e) = h
+after_asked j h (NotFor e) = h
+after_asked j h (NoCheckpoint e) = h
 after_asked j h Show = h
 after_asked j h Totals = h
 after_asked j h Figures = h

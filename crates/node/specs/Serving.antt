@@ -46,16 +46,16 @@ pub record Steps (network : Network) (c : Command) (body : List ℕ) (v w : Stat
 -- ---- a request: it is read, and answered
 
 -- the line of a command was read, and what follows it
-pub record ReadsRequest (left left' : Option (List ℕ)) (line : List ℕ) (c : Command)
-    (body : List ℕ) : Type 0 where
-  pub is : IsRequest (record { line = line; command = c; body = body })
+pub record ReadsRequest (part : PartValue) (left left' : Option (List ℕ)) (line : List ℕ)
+    (c : Command) (body : List ℕ) : Type 0 where
+  pub is : IsRequest part (record { line = line; command = c; body = body })
   pub consumed : Consumes left left'
       (request_bytes (record { line = line; command = c; body = body }))
 
 pub record ServesOne (network : Network) (left left' : Option (List ℕ)) (v w : State)
     (old new : Option (List ℕ)) : Type 0 where
   pub request : Request
-  pub is : IsRequest request
+  pub is : IsRequest v.part request
   pub consumed : Consumes left left' (request_bytes request)
   pub steps : Steps network request.command request.body v w old new
 
@@ -145,7 +145,7 @@ pub record ServesSome (network : Network) (number : ℕ) (left left' : Option (L
     (old new : Option (List ℕ)) : Type 0 where
   pub requests : List Request
   pub count : length requests ≡ number
-  pub each : All IsRequest requests
+  pub each : All (IsRequest v.part) requests
   pub consumed : Consumes left left' (requests_text requests)
   pub runs : Runs network requests v w old new
 
@@ -167,7 +167,8 @@ pub record Serves (network : Network) (left left' : Option (List ℕ)) (v w : St
 -- ---- a node from its start
 
 -- the job of the input was read, and all that follows it is requests, which a node of partition p was asked from its
--- start on: where each delivered batch is a true one and each checkpoint stands for the job, they were answered
+-- start on: where each delivered batch is a true one, or none for the partition, and each checkpoint stands for the
+-- job, or is none of the partition, they were answered
 pub record ServesNode (s : Settings) (counted : Bool) (p : ℕ)
     (left left' old new : Option (List ℕ)) : Type 0 where
   pub network : Network
@@ -176,7 +177,7 @@ pub record ServesNode (s : Settings) (counted : Bool) (p : ℕ)
   pub job : IsJobRead s counted left mid network plan
   pub below : p < plan.parts
   pub requests : List Request
-  pub each : All IsRequest requests
+  pub each : All (IsRequest (part_of (job_of network.graph plan) p)) requests
   pub consumed : Consumes mid left' (requests_text requests)
   pub end : IsAtEnd left'
   pub told : (more : List Asked) → AllAsk (job_of network.graph plan) p requests more →
@@ -191,7 +192,7 @@ pub record StopsNode (s : Settings) (counted : Bool) (p : ℕ) (e : ServeError)
   pub job : IsJobRead s counted left mid network plan
   pub below : p < plan.parts
   pub requests : List Request
-  pub each : All IsRequest requests
+  pub each : All (IsRequest (part_of (job_of network.graph plan) p)) requests
   pub rest : Option (List ℕ)
   pub consumed : Consumes mid rest (requests_text requests)
   pub told : (more : List Asked) → AllAsk (job_of network.graph plan) p requests more →

@@ -1,11 +1,12 @@
 //! The report of the checkpoints of all partitions.
 
-ghost use Rattle.std.specs.Prelude.{◌≡◌, ◌≢◌, ℕ, ◌<◌, List, ◌++◌, ◌∷◌, [], Option, Some};
+ghost use Rattle.std.specs.Prelude.{◌≡◌, ◌≢◌, ℕ, ◌<◌, ◌≤◌, length, List, ◌++◌, ◌∷◌, [], Option, Some};
 ghost use Rattle.std.specs.Prelude.{Err, IfErr, IfOk, OnErr, OnOk};
 ghost use Rattle.std.specs.Io.KnownBytes.{Consumes, IsAtEnd, Keeps};
 ghost use Rattle.ball_model.specs.Job.{Job, IsJob, job_of, part_of};
 ghost use Rattle.ball_model.specs.State.{State};
 ghost use Rattle.ball_model.specs.Streams.{Rises};
+ghost use Rattle.checkpoint.specs.Reading.{most_bytes};
 ghost use Rattle.node.specs.Gathering.{Gathers, GathersJob, ReadsAll, ReadsOne, part_line, part_text};
 ghost use Rattle.node.specs.NoReport.{HasNoReport, IsNoReplica, IsNoReport, WritesFront, WritesFrontOfJob};
 ghost use Rattle.node.specs.NoReport.{IsUnwritten, part_length, told_kept};
@@ -81,6 +82,8 @@ fn read_bytes<R: CountedRead>(
 ) -> Result<Vec<u8>, GatherError>
     ensures read { IfOk result (λ bytes.
         Consumes (R.remaining reader.old) (R.remaining reader.new) (part_text bytes.items)) }
+    ensures few { IfOk result (λ bytes.
+        length bytes.items ≤ most_bytes part.now part.now.plan.limit) }
     ensures refused { IfErr result
         (IsNoReplica part.now (R.remaining reader.old) (R.remaining reader.new)) }
     ensures failed { result ≡ Err GatherError.Read →

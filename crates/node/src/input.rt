@@ -1,6 +1,6 @@
 //! Lines and bodies of an input.
 
-ghost use Rattle.std.specs.Prelude.{◌≡◌, ◌≢◌, ◌≤◌, ◌++◌, ◌∷◌, [], length};
+ghost use Rattle.std.specs.Prelude.{◌≡◌, ◌≢◌, ◌<◌, ◌≤◌, ◌++◌, ◌∷◌, [], length};
 ghost use Rattle.std.specs.Io.KnownBytes.{Consumes, IsAtEnd};
 ghost use Rattle.std.specs.List.{All};
 ghost use Rattle.ball_model.specs.Streams.{Rises};
@@ -38,6 +38,7 @@ pub fn read_line<R: CountedRead>(reader: &mut R, line: &mut Vec<u8>) -> Line
     ensures whole { result ≡ Line.Whole → Consumes (R.remaining reader.old)
         (R.remaining reader.new) (line.new.items ++ 10 ∷ []) }
     ensures one { result ≡ Line.Whole → HasNoEnd line.new.items }
+    ensures short { result ≡ Line.Whole → length line.new.items < most_line }
     ensures none { result ≡ Line.None →
         Consumes (R.remaining reader.old) (R.remaining reader.new) [] }
     ensures end { result ≡ Line.None → IsAtEnd (R.remaining reader.new) }

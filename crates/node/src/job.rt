@@ -8,7 +8,7 @@ ghost use Rattle.ball_model.specs.RunText.{network_in, plan_over};
 ghost use Rattle.ball_model.specs.Streams.{Rises};
 ghost use Rattle.edgelist.specs.Given.{IsGiven};
 ghost use Rattle.edgelist.specs.Reading.{meaning_of};
-ghost use Rattle.node.specs.Job.{CountsSome, GivesSection, IsJobRead, SaysNetwork, numbers_in, settings_in};
+ghost use Rattle.node.specs.Job.{CountsSome, GivesEdges, IsJobRead, SaysNetwork, numbers_in, settings_in};
 ghost use Rattle.node.specs.NoJob.{IsNoJob, IsNoNetwork, IsUncounted, IsUnlisted};
 ghost use Rattle.node.specs.Section.{ReadsSection};
 
@@ -49,14 +49,14 @@ pub struct JobOptions {
     pub counted: bool,
 }
 
-// Gives a reader of edges, which was given nothing yet, the bytes of a section, which ends at a mark.
+// Gives a reader of edges, which was given nothing yet, the bytes of a section, and tells whether a mark ends it.
 fn give_section<R: CountedRead>(
     alloc: Global,
     reader: &mut R,
     edges: &mut EdgeReader,
-) -> Result<(), JobError>
+) -> Result<bool, JobError>
     ensures given { (delimiter : Delimiter) → IsGiven LIMITS delimiter [] edges.old →
-        OnOk result (GivesSection LIMITS delimiter
+        IfOk result (GivesEdges LIMITS delimiter
         (R.remaining reader.old) (R.remaining reader.new) edges.new) }
     ensures refused { (delimiter : Delimiter) → IsGiven LIMITS delimiter [] edges.old →
         IfErr result (IsNoNetwork (meaning_of LIMITS delimiter) (R.remaining reader.old)) }
@@ -69,8 +69,8 @@ fn give_section<R: CountedRead>(
     for _count in 0..u64::MAX {
         match next_step(reader, &mut cut) {
             Step::Byte(byte) => edges.add(alloc, byte)?,
-            Step::Mark => return Ok(()),
-            Step::End => return Err(JobError::NoMark),
+            Step::Mark => return Ok(true),
+            Step::End => return Ok(false),
             Step::Failed => return Err(JobError::Read),
         }
     }
@@ -94,9 +94,13 @@ fn read_graph<R: CountedRead>(
         R.failed_calls reader.new ≡ R.failed_calls reader.old }
 {
     let mut edges = EdgeReader::new(alloc, state, options.delimiter, LIMITS)?;
-    give_section(alloc, reader, &mut edges)?;
+    let marked = give_section(alloc, reader, &mut edges)?;
     let graph = edges.finish(alloc)?;
-    Ok(graph)
+    if marked {
+        Ok(graph)
+    } else {
+        Err(JobError::NoMark)
+    }
 }
 
 // Reads the bytes of a section, which ends at a mark, into `list`, which is empty.
@@ -184,8 +188,9 @@ pub fn part_of(alloc: Global, graph: &Graph, plan: &Plan, p: u16) -> Result<Arc<
 
 /// The graph and the plan of a job, read up to the mark behind it.
 ///
-/// The edge list is refused as soon as its lines say so, and for a line that is missing behind it only where nothing
-/// else is refused; then the list is, and then the plan. Memory is taken as bytes come, and may be refused at each.
+/// The edge list is refused as it comes. That no mark is behind it is told once all of it is read, and says a network;
+/// that none is behind the list of counted vertices, whatever that says. Then the list is refused, and then the plan.
+/// Memory is taken as bytes come, and may be refused at each.
 pub fn read_job<R: CountedRead>(
     alloc: Global,
     state: RandomState,

@@ -15,7 +15,7 @@ ghost use Rattle.node.specs.Serving.{IsNoRequest, IsOfMachine, ReadsRequest, Ser
 ghost use Rattle.node.specs.Serving.{Steps, Stops, StopsNode};
 ghost use Rattle.node.specs.declared.error.JobError.{JobError as NoJob};
 ghost use Rattle.node.specs.declared.error.ServeError.{ServeError as Fault};
-ghost use Rattle.node.specs.Stream.{CutsBody, HasNoEnd};
+ghost use Rattle.node.specs.Stream.{CutsBody, HasNoEnd, most_line};
 ghost use Rattle.node.specs.declared.command.Command.TheVariants as order;
 ghost use Rattle.node.specs.Turns.{Holds, most_body, reply_text};
 
@@ -327,6 +327,7 @@ fn read_command<R: CountedRead>(
     ensures consumed { IfOk result (λ o. IfSome o (λ _. Consumes (R.remaining reader.old)
         (R.remaining reader.new) (line.new.items ++ 10 ∷ []))) }
     ensures one_line { IfOk result (λ o. IfSome o (λ _. HasNoEnd line.new.items)) }
+    ensures short { IfOk result (λ o. IfSome o (λ _. length line.new.items < most_line)) }
     ensures says { IfOk result (λ o. IfSome o (λ c.
         command_in (fields 32 line.new.items) ≡ Some c)) }
     ensures within { IfOk result (λ o. IfSome o (λ c. body_length c ≤ most_body part.now c)) }
@@ -396,7 +397,7 @@ fn read_request<R: CountedRead>(
 ) -> Result<Option<Command>, ServeError>
     requires line { line.old.items ≡ [] }
     requires body { body.old.items ≡ [] }
-    ensures some { IfOk result (λ o. IfSome o (λ c. ReadsRequest
+    ensures some { IfOk result (λ o. IfSome o (λ c. ReadsRequest part.now
         (R.remaining reader.old) (R.remaining reader.new) line.new.items c body.new.items)) }
     ensures none { IfOk result (λ o. IfNone o (IsAtEnd (R.remaining reader.new))) }
     ensures kept { IfOk result (λ o. IfNone o

@@ -1,6 +1,6 @@
 //! A node's replica, and what it makes of commands.
 
-ghost use Rattle.std.specs.Prelude.{◌≡◌, ◌≢◌, ℕ, ◌<◌, [], Err, IfOk, IfErr, IsErr, IsOk, OnErr, OnOk, Ok};
+ghost use Rattle.std.specs.Prelude.{◌≡◌, ◌≢◌, ℕ, ◌<◌, [], Err, IfOk, IfErr, IsErr, IsOk, OnErr, OnOk, Ok, false};
 ghost use Rattle.std.specs.Arc.{arc_value};
 ghost use Rattle.ball_model.specs.declared.names.BatchName.{BatchName as Name};
 ghost use Rattle.ball_model.specs.declared.world.Answer.TheVariants as answer;
@@ -11,10 +11,14 @@ ghost use Rattle.ball_model.specs.Join.{Holding, join_of};
 ghost use Rattle.ball_model.specs.Steps.{Take, Close};
 ghost use Rattle.ball_model.specs.World.{closed_answer, taken_answer};
 ghost use Rattle.batches.specs.Reading.{batch_at};
-ghost use Rattle.checkpoint.specs.Reading.{sealed_form};
+ghost use Rattle.ball_model.specs.Batches.{BatchValue};
+ghost use Rattle.ball_model.specs.Content.{is_new};
+ghost use Rattle.checkpoint.specs.Reading.{IsSpelling};
+ghost use Rattle.replica.specs.Change.{take_answer};
+ghost use Rattle.replica.specs.Saved.{IsKeepable};
 ghost use Rattle.world.specs.Shows.{Has};
 ghost use Rattle.node.specs.NodeText.{IsDelivered, IsGivenBack};
-ghost use Rattle.node.specs.Refusals.{IsAnswered, IsNoCheckpoint, SaysOfBatch, SaysOfCheckpoint};
+ghost use Rattle.node.specs.Refusals.{IsAnswered, IsCheckpoint, IsNoCheckpoint, SaysOfBatch, SaysOfCheckpoint};
 ghost use Rattle.node.specs.Turns.{GivesOrWants, Holds, SaysMerged, TurnsTo};
 ghost use Rattle.node.specs.declared.session.Reply.TheVariants as reply;
 
@@ -94,6 +98,11 @@ impl Session {
         // Which refusal it is where the bytes spell no batch of the plan.
         ensures named { IfOk result (SaysOfBatch self.old.part.plan bytes.now) }
         ensures unread { (e : BatchError) → result ≡ Ok (reply.NoBatch e) → self.new ≡ self.old }
+        // Whichever batch of the plan it is: of which job, and of which partitions.
+        ensures answer { (b : BatchValue) → batch_at self.old.part.plan bytes.now ≡ Ok b →
+            IfOk result (λ r. r ≡ reply.Answered (taken_answer (take_answer self.old b))) }
+        ensures unchanged { (b : BatchValue) → batch_at self.old.part.plan bytes.now ≡ Ok b →
+            is_new (take_answer self.old b) ≡ false → self.new ≡ self.old }
         ensures refused { OnErr result (self.new ≡ self.old) }
     {
         match read_batch(alloc, self.replica.plan(), bytes) {
@@ -109,6 +118,9 @@ impl Session {
             TurnsTo j p (taken_answer (held_take_answer j h name)) (held_after j h (Take name))
             self.new (reply.Answered result) }
         ensures part { self.new.part ≡ self.old.part }
+        ensures answer { result ≡ taken_answer (take_answer self.old (arc_value batch)) }
+        ensures unchanged { is_new (take_answer self.old (arc_value batch)) ≡ false →
+            self.new ≡ self.old }
     {
         let taken = self.replica.take(batch);
         // the limits of a replica are told with its superstep
@@ -143,6 +155,11 @@ impl Session {
         ensures named { bytes.now ≢ [] →
             IfOk result (SaysOfCheckpoint self.old.part bytes.now) }
         ensures started { bytes.now ≡ [] → IfOk result IsAnswered }
+        // Whichever checkpoint of the part they are: the replica is what they spell, and its superstep is told.
+        ensures spelled { bytes.now ≢ [] → IfOk result (λ r. IsAnswered r →
+            IsSpelling self.new bytes.now) }
+        ensures answer { IfOk result (λ r. IsAnswered r →
+            r ≡ reply.Answered (answer.Restarted self.new.superstep)) }
         ensures unread { (e : KeepError) → result ≡ Ok (reply.NoCheckpoint e) →
             self.new ≡ self.old }
         ensures refused { OnErr result (self.new ≡ self.old) }
@@ -161,7 +178,8 @@ impl Session {
         ensures back { (j : Job) (p : ℕ) (h d : Holding) → Holds j p h self.now →
             bytes.now ≢ [] → IsGivenBack j p bytes.now d →
             GivesOrWants (Holds j p d) result }
-        ensures whole { bytes.now ≢ [] → OnOk result (IsOk (sealed_form self.now.part bytes.now)) }
+        ensures spells { bytes.now ≢ [] → IfOk result (λ r. IsSpelling r bytes.now) }
+        ensures whole { bytes.now ≢ [] → OnOk result (IsCheckpoint self.now.part bytes.now) }
         ensures named { bytes.now ≢ [] → IfErr result (λ e. e ≢ KeepError.Memory →
             IsNoCheckpoint self.now.part bytes.now e) }
         ensures started { bytes.now ≡ [] → IfErr result (λ e. e ≡ KeepError.Memory) }
@@ -300,7 +318,7 @@ fn read_batch(alloc: Global, plan: &Plan, bytes: &[u8]) -> Result<Arc<Batch>, Ba
         IsDelivered j bytes.now name → IfOk result (λ b. arc_value b ≡ true_batch j name) }
     ensures memory { (j : Job) (name : Name) → IsJob j → plan.now ≡ j.plan →
         IsDelivered j bytes.now name → IfErr result (λ e. e ≡ BatchError.Memory) }
-    ensures spells { OnOk result (IsOk (batch_at plan.now bytes.now)) }
+    ensures spells { IfOk result (λ b. batch_at plan.now bytes.now ≡ Ok (arc_value b)) }
     ensures named { IfErr result (λ e. e ≢ BatchError.Memory →
         batch_at plan.now bytes.now ≡ Err e) }
 {
@@ -326,8 +344,11 @@ pub fn read_back(alloc: Global, part: Arc<Part>, bytes: &[u8]) -> Result<Replica
     ensures part { IfOk result (λ r. r.part ≡ arc_value part) }
     ensures back { (j : Job) (p : ℕ) (h : Holding) → arc_value part ≡ part_of j p →
         IsGivenBack j p bytes.now h → GivesOrWants (Holds j p h) result }
+    // What is read is a spelling of the replica.
+    ensures keepable { IfOk result IsKeepable }
+    ensures spells { IfOk result (λ r. IsSpelling r bytes.now) }
     // Which refusal it is, and when it is none.
-    ensures whole { OnOk result (IsOk (sealed_form (arc_value part) bytes.now)) }
+    ensures whole { OnOk result (IsCheckpoint (arc_value part) bytes.now) }
     ensures named { IfErr result (λ e. e ≢ KeepError.Memory →
         IsNoCheckpoint (arc_value part) bytes.now e) }
 {

@@ -95,6 +95,55 @@ fn damaged_batches_are_named(rt: HostRuntime) {
     assert!(rt; names_batches(&rt) == Some(true));
 }
 
+/// The input of a node that is brought a batch whose only row stands there twice, and then shows what it has.
+fn repeated_row(alloc: Global, batch: &[u8]) -> Result<Vec<u8>, AllocError> {
+    // two rows in place of one
+    let told = damaged(alloc, batch, 53, 3)?;
+    let both = joined(alloc, &[&told, after_front(batch, 54)])?;
+    let mut input = joined(alloc, &[TWO_EDGES])?;
+    add_bytes(&mut input, b"deliver ", &both)?;
+    add_all(&mut input, &[b"show\n"])?;
+    Ok(input)
+}
+
+/// Whether node 1 of two refuses a batch of node 0 whose rows are out of order, and stays as it was.
+fn names_order(rt: &HostRuntime) -> Option<bool> {
+    let batch = given(rt, 0, TWO_EDGES, b"send 1\n")?;
+    let shown = answer(rt, 1, TWO_EDGES, b"show\n")?;
+    let input = repeated_row(rt.alloc(), &batch).ok()?;
+    let text = joined(rt.alloc(), &[b"refused order\n", &shown]).ok()?;
+    Some(says(rt, 1, &input, &text))
+}
+
+#[test]
+fn rows_out_of_order_are_named(rt: HostRuntime) {
+    assert!(rt; names_order(&rt) == Some(true));
+}
+
+/// The input of a node that is brought its own batch, told to itself.
+fn own_batch(alloc: Global, batch: &[u8]) -> Result<Vec<u8>, AllocError> {
+    // the target is 1 in place of 0
+    let own = damaged(alloc, batch, 13, 1)?;
+    let mut input = joined(alloc, &[TWO_EDGES])?;
+    add_bytes(&mut input, b"deliver ", &own)?;
+    add_all(&mut input, &[b"show\n"])?;
+    Ok(input)
+}
+
+/// Whether node 1 of two refuses what it would tell itself, and stays as it was.
+fn names_own(rt: &HostRuntime) -> Option<bool> {
+    let batch = given(rt, 1, TWO_EDGES, b"send 0\n")?;
+    let shown = answer(rt, 1, TWO_EDGES, b"show\n")?;
+    let input = own_batch(rt.alloc(), &batch).ok()?;
+    let text = joined(rt.alloc(), &[b"own-partition\n", &shown]).ok()?;
+    Some(says(rt, 1, &input, &text))
+}
+
+#[test]
+fn an_own_batch_is_refused(rt: HostRuntime) {
+    assert!(rt; names_own(&rt) == Some(true));
+}
+
 /// Where a checkpoint is damaged: magic, version (3), log2m, the digest of the job, and the first mark.
 static CHECKPOINT_DAMAGES: [(usize, u8); 5] = [(0, 32), (4, 1), (22, 1), (5, 1), (54, 1)];
 
@@ -133,6 +182,34 @@ fn names_checkpoints(rt: &HostRuntime, kept: &[u8]) -> Option<bool> {
     let both = joined(rt.alloc(), &[CHECKPOINT_SAYS, CHECKPOINT_SAYS]).ok()?;
     let text = joined(rt.alloc(), &[&both, b"refused short\n", &shown]).ok()?;
     Some(says(rt, 1, &input, &text))
+}
+
+/// The input of a node that is given its checkpoint and one byte more, and then shows what it has.
+fn longer(alloc: Global, kept: &[u8]) -> Result<Vec<u8>, AllocError> {
+    let more = joined(alloc, &[kept, b"x"])?;
+    let mut input = joined(alloc, &[TWO_EDGES])?;
+    add_bytes(&mut input, b"restart ", &more)?;
+    add_bytes(&mut input, b"recover ", &more)?;
+    add_all(&mut input, &[b"show\n"])?;
+    Ok(input)
+}
+
+/// Whether a node refuses that, and stays as it was.
+fn names_longer(rt: &HostRuntime) -> Option<bool> {
+    let kept = given(rt, 1, TWO_EDGES, b"keep\n")?;
+    let shown = answer(rt, 1, TWO_EDGES, b"show\n")?;
+    let input = longer(rt.alloc(), &kept).ok()?;
+    let text = joined(
+        rt.alloc(),
+        &[b"refused trailing\nrefused trailing\n", &shown],
+    )
+    .ok()?;
+    Some(says(rt, 1, &input, &text))
+}
+
+#[test]
+fn bytes_behind_a_checkpoint_are_named(rt: HostRuntime) {
+    assert!(rt; names_longer(&rt) == Some(true));
 }
 
 /// The input of a node that is given the checkpoint of another.
@@ -221,10 +298,23 @@ fn only_others_are_sent_to(rt: HostRuntime) {
 }
 
 /// Inputs that say no job: whether a list is counted, the partition, and what is refused.
-static NO_JOBS: [(bool, u16, &[u8], JobError); 7] = [
+static NO_JOBS: [(bool, u16, &[u8], JobError); 10] = [
     (false, 0, b"a\tb\n", JobError::NoMark),
     (false, 0, b"a\tb\n%%x\n%\n", JobError::NoMark),
+    (
+        false,
+        0,
+        b"a\tb\tc\n",
+        JobError::Edges(EdgeError::Fields { number: 1 }),
+    ),
+    (
+        false,
+        0,
+        b"a\tb\nb\tc\td",
+        JobError::Edges(EdgeError::Fields { number: 2 }),
+    ),
     (true, 0, b"a\tb\n%%\na\n", JobError::NoListMark),
+    (true, 0, b"a\tb\n%%\nx\nclose\n", JobError::NoListMark),
     (false, 2, b"a\tb\n%%\n", JobError::Part),
     (
         false,

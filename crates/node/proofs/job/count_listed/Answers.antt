@@ -14,4 +14,4 @@ returns-clause-counts g c =
     let on : c.args.options.now.counted ≡ true = search c.if-not-options.false in
     subst (λ (t : Bool). CountsSome (settings_in c.args.options.now) t (g.R.Read.remaining c.args.reader.now) (g.R.Read.remaining c.read_list.new.reader) c.args.graph c.count_only.new.self) (sym on)
     (counts_listed (settings_in c.args.options.now) (g.R.Read.remaining c.args.reader.now) (g.R.Read.remaining c.read_list.new.reader) c.args.graph c.count_only.new.self c.read_list.new.list.items
-    c.in_ok-read_list.ensures.read (λ plain. (rw c.deref.ensures.value at c.in_ok-count_only.ensures.ok) plain))
+    c.in_ok-read_list.ensures.read c.in_ok-read_list.ensures.few (λ plain. (rw c.deref.ensures.value at c.in_ok-count_only.ensures.ok) plain))

@@ -5,7 +5,7 @@ use Rattle.std.proofs.lemmas.Result.{err_from_is_err_and}
 use Rattle.edgelist.specs.Reading.{meaning_of}
 use Rattle.node.specs.declared.job.TheConstants.{LIMITS}
 use Rattle.node.specs.declared.section.Step.TheVariants as step
-use Rattle.node.proofs.JobLemmas.{gives_end, gives_more, gives_start, no_mark, refused_in, too_many}
+use Rattle.node.proofs.JobLemmas.{gives_all, gives_end, gives_more, gives_start, refused_in, too_many}
 use Rattle.node.proofs.job.give_section.Goals as goal
 
 pub loop-count-init : goal.loop-count-init
@@ -40,9 +40,9 @@ returns-in_err-add-in-Byte-clause-refused g c = λ delimiter given.
     c.loop-count.edges _ (λ e. c.in_err-add-in-Byte.ensures.read (ap Err e)) (c.loop-count.invariant.so delimiter given) (c.next_step.ensures.byte c.in-Byte.byte c.in-Byte.is)
     (λ text more of plain. c.in_err-add-in-Byte.ensures.refused LIMITS delimiter text more of plain))
 
-pub returns-in-End-clause-refused : goal.returns-in-End-clause-refused
-returns-in-End-clause-refused g c = λ delimiter given.
-    no_mark LIMITS delimiter c.loop-count._count c.loop-count.cut.begins (g.R.Read.remaining c.args.reader.now) (prepend_known c.loop-count.cut.ahead.items (g.R.Read.remaining c.loop-count.reader))
+pub returns-in-End-clause-given : goal.returns-in-End-clause-given
+returns-in-End-clause-given g c = λ delimiter given.
+    gives_all LIMITS delimiter c.loop-count._count c.loop-count.cut.begins (g.R.Read.remaining c.args.reader.now) (prepend_known c.loop-count.cut.ahead.items (g.R.Read.remaining c.loop-count.reader))
     c.loop-count.edges (c.loop-count.invariant.so delimiter given) (c.next_step.ensures.end c.in-End.is)
 
 pub returns-clause-refused : goal.returns-clause-refused

@@ -1,25 +1,35 @@
 use Rattle.node.specs.declared.job.TheConstants.{LIMITS}
-use Rattle.std.proofs.Common.{ap}
+use Rattle.std.proofs.Common.{ap, subst, Bool}
 use Rattle.std.specs.Prelude.{Err}
 use Rattle.std.proofs.lemmas.Result.{err_from_is_err_and}
 use Rattle.ball_model.specs.RunText.{network_in}
-use Rattle.node.specs.Job.{settings_in}
-use Rattle.node.proofs.JobLemmas.{refused_whole}
+use Rattle.node.specs.Job.{GivesEdges, settings_in}
+use Rattle.node.proofs.JobLemmas.{lacks_mark, refused_edges}
 use Rattle.node.proofs.job.read_graph.Goals as goal
 
-pub returns-clause-says : goal.returns-clause-says
-returns-clause-says g c =
-    let s = c.in_ok-give_section.ensures.given c.args.options.now.delimiter c.in_ok-edges.ensures.ok in
+pub returns-then-marked-clause-says : goal.returns-then-marked-clause-says
+returns-then-marked-clause-says g c =
+    let s =
+    subst (λ (b : Bool). GivesEdges LIMITS c.args.options.now.delimiter (g.R.Read.remaining c.args.reader.now) (g.R.Read.remaining c.give_section.new.reader) c.give_section.new.edges b) c.if-marked.true
+    (c.in_ok-marked.ensures.given c.args.options.now.delimiter c.in_ok-edges.ensures.ok) in
     record {
       input = s.front;
       section = s.section;
       says = λ plain. c.in_ok-graph.ensures.ok LIMITS c.args.options.now.delimiter s.front s.given plain;
     }
 
+pub returns-else-marked-clause-refused : goal.returns-else-marked-clause-refused
+returns-else-marked-clause-refused g c =
+    let s =
+    subst (λ (b : Bool). GivesEdges LIMITS c.args.options.now.delimiter (g.R.Read.remaining c.args.reader.now) (g.R.Read.remaining c.give_section.new.reader) c.give_section.new.edges b) c.if-marked.false
+    (c.in_ok-marked.ensures.given c.args.options.now.delimiter c.in_ok-edges.ensures.ok) in
+    lacks_mark (network_in (settings_in c.args.options.now)) LIMITS c.args.options.now.delimiter (g.R.Read.remaining c.args.reader.now) c.give_section.new.edges c.in_ok-graph.graph s
+    (λ plain. c.in_ok-graph.ensures.ok LIMITS c.args.options.now.delimiter s.front s.given plain)
+
 pub returns-in_err-graph-clause-refused : goal.returns-in_err-graph-clause-refused
 returns-in_err-graph-clause-refused g c =
-    let s = c.in_ok-give_section.ensures.given c.args.options.now.delimiter c.in_ok-edges.ensures.ok in
     let p = err_from_is_err_and c.from_residual-in_err-graph.result c.from_residual-in_err-graph.ensures.1 in
     rw (p.1, p.2)
-    (refused_whole (network_in (settings_in c.args.options.now)) s.front (g.R.Read.remaining c.args.reader.now) (g.R.Read.remaining c.give_section.new.reader) _
-    (λ e. c.in_err-graph.ensures.read (ap Err e)) s.section (λ plain. c.in_err-graph.ensures.refused LIMITS c.args.options.now.delimiter s.front s.given plain))
+    (refused_edges (network_in (settings_in c.args.options.now)) LIMITS c.args.options.now.delimiter (g.R.Read.remaining c.args.reader.now) (g.R.Read.remaining c.give_section.new.reader) c.give_section.new.edges c.in_ok-marked.marked _
+    (λ e. c.in_err-graph.ensures.read (ap Err e)) (c.in_ok-marked.ensures.given c.args.options.now.delimiter c.in_ok-edges.ensures.ok)
+    (λ text given plain. c.in_err-graph.ensures.refused LIMITS c.args.options.now.delimiter text given plain))

@@ -1,8 +1,9 @@
-use Rattle.std.proofs.Common.{◌≡◌, ◌∙◌, ℕ, List, sym, subst, refl}
+use Rattle.std.proofs.Common.{◌≡◌, ◌∙◌, ℕ, List, arith, sym, subst, refl}
 use Rattle.std.specs.Io.KnownBytes.{prepend_known}
 use Rattle.node.specs.Section.{Passed}
 use Rattle.node.specs.declared.section.Step.TheVariants as step
-use Rattle.node.proofs.SectionLemmas.{passed_end, passed_more, passed_over, passed_start}
+use Rattle.node.proofs.JobLemmas.{lacks_list_mark}
+use Rattle.node.proofs.SectionLemmas.{passed_end, passed_more, passed_start}
 use Rattle.node.proofs.job.read_list.Goals as goal
 
 pub loop-cut-init : goal.loop-cut-init
@@ -29,5 +30,5 @@ returns-in-Mark-clause-read g c =
 
 pub returns-in-End-clause-refused : goal.returns-in-End-clause-refused
 returns-in-End-clause-refused g c =
-    passed_over c.loop-cut.list.items c.loop-cut.cut.begins (g.R.Read.remaining c.args.reader.now) (prepend_known c.loop-cut.cut.ahead.items (g.R.Read.remaining c.loop-cut.reader))
-    c.loop-cut.invariant.passed (c.next_step.ensures.end c.in-End.is)
+    lacks_list_mark c.loop-cut.list.items c.loop-cut.cut.begins (g.R.Read.remaining c.args.reader.now) (prepend_known c.loop-cut.cut.ahead.items (g.R.Read.remaining c.loop-cut.reader))
+    c.loop-cut.invariant.passed (c.next_step.ensures.end c.in-End.is) (omega (arith, c.loop-cut-test.true, c.len.ensures))

@@ -1,4 +1,5 @@
-use Rattle.std.proofs.Common.{ℕ, List, refl}
+use Rattle.std.proofs.Common.{ℕ, List, ap, refl}
+use Rattle.std.specs.Prelude.{Ok}
 use Rattle.std.proofs.lemmas.Result.{on_ok_weaker}
 use Rattle.std.specs.Io.KnownBytes.{Appends}
 use Rattle.node.specs.Turns.{reply_text}
@@ -14,5 +15,7 @@ returns-clause-step g c = λ network n.
     on_ok_weaker c.tell.result
     (λ (told : Appends (g.W.Write.contents c.args.writer.now) (g.W.Write.contents c.tell.new.writer) text).
     steps_told network (order.Deliver n) c.args.body.now c.args.session.now c.deliver.new.self text (g.W.Write.contents c.args.writer.now) (g.W.Write.contents c.tell.new.writer) told
-    (deliver_steps network n c.args.body.now c.args.session.now c.deliver.new.self r text refl c.in_ok-reply.ensures.turned))
+    (deliver_steps network n c.args.body.now c.args.session.now c.deliver.new.self r text refl c.in_ok-reply.ensures.turned
+    c.in_ok-reply.ensures.named (λ e same. c.in_ok-reply.ensures.unread e (ap Ok same))
+    c.in_ok-reply.ensures.answer c.in_ok-reply.ensures.unchanged))
     c.tell.ensures.done

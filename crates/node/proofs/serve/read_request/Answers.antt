@@ -1,9 +1,10 @@
-use Rattle.std.proofs.Common.{◌≡◌, ◌++◌, ◌∷◌, [], ap}
+use Rattle.std.proofs.Common.{◌≡◌, ◌<◌, ◌≤◌, ◌++◌, ◌∷◌, [], ap, length}
 use Rattle.std.specs.Prelude.{Err, Some}
 use Rattle.std.specs.Io.KnownBytes.{Consumes}
 use Rattle.ball_model.specs.Input.{fields}
-use Rattle.node.specs.NodeText.{command_in}
-use Rattle.node.specs.Stream.{HasNoEnd}
+use Rattle.node.specs.NodeText.{body_length, command_in}
+use Rattle.node.specs.Stream.{HasNoEnd, most_line}
+use Rattle.node.specs.Turns.{most_body}
 use Rattle.node.specs.declared.command.Command.{Command}
 use Rattle.std.proofs.lemmas.Result.{err_from_is_err_and}
 use Rattle.node.proofs.ServeLemmas.{at_some, reads_request, rest_stops}
@@ -11,9 +12,12 @@ use Rattle.node.proofs.serve.read_request.Goals as goal
 
 pub returns-clause-some : goal.returns-clause-some
 returns-clause-some g c =
-    reads_request (g.R.Read.remaining c.args.reader.now) (g.R.Read.remaining c.read_command.new.reader) (g.R.Read.remaining c.read_rest.new.reader)
+    reads_request c.args.part.now (g.R.Read.remaining c.args.reader.now) (g.R.Read.remaining c.read_command.new.reader) (g.R.Read.remaining c.read_rest.new.reader)
     c.read_command.new.line.items c.in-Some.command c.read_rest.new.body.items
-    (at_some _ _ (λ (k : Command). Consumes (g.R.Read.remaining c.args.reader.now) (g.R.Read.remaining c.read_command.new.reader) (c.read_command.new.line.items ++ 10 ∷ [])) c.in-Some.is c.in_ok-command.ensures.consumed) c.in_ok-read_rest.ensures.consumed (at_some _ _ (λ (k : Command). HasNoEnd c.read_command.new.line.items) c.in-Some.is c.in_ok-command.ensures.one_line) (at_some _ _ (λ (k : Command). command_in (fields 32 c.read_command.new.line.items) ≡ Some k) c.in-Some.is c.in_ok-command.ensures.says) c.in_ok-read_rest.ensures.length
+    (at_some _ _ (λ (k : Command). Consumes (g.R.Read.remaining c.args.reader.now) (g.R.Read.remaining c.read_command.new.reader) (c.read_command.new.line.items ++ 10 ∷ [])) c.in-Some.is c.in_ok-command.ensures.consumed) c.in_ok-read_rest.ensures.consumed (at_some _ _ (λ (k : Command). HasNoEnd c.read_command.new.line.items) c.in-Some.is c.in_ok-command.ensures.one_line)
+    (at_some _ _ (λ (k : Command). length c.read_command.new.line.items < most_line) c.in-Some.is c.in_ok-command.ensures.short)
+    (at_some _ _ (λ (k : Command). command_in (fields 32 c.read_command.new.line.items) ≡ Some k) c.in-Some.is c.in_ok-command.ensures.says)
+    (at_some _ _ (λ (k : Command). body_length k ≤ most_body c.args.part.now k) c.in-Some.is c.in_ok-command.ensures.within) c.in_ok-read_rest.ensures.length
 
 pub returns-in_err-read_rest-clause-stopped : goal.returns-in_err-read_rest-clause-stopped
 returns-in_err-read_rest-clause-stopped g c =

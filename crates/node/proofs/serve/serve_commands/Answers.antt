@@ -21,7 +21,7 @@ loop-i-preserved g c =
           (g.R.Read.remaining c.args.reader.now) (g.R.Read.remaining c.loop-i.reader) (g.R.Read.remaining c.serve_one.new.reader)
           c.args.session.now c.loop-i.session c.serve_one.new.session
           (g.W.Write.contents c.args.writer.now) (g.W.Write.contents c.loop-i.writer) (g.W.Write.contents c.serve_one.new.writer)
-          refl c.loop-i.invariant.some (c.in_ok-more.ensures.served (ap Ok more));
+          refl c.loop-i.invariant.part c.loop-i.invariant.some (c.in_ok-more.ensures.served (ap Ok more));
       part = c.in_ok-more.ensures.part ∙ c.loop-i.invariant.part;
       counted = c.in_ok-more.ensures.counted (λ e. absurd (cc)) ∙ c.loop-i.invariant.counted;
       written = c.in_ok-more.ensures.written (λ e. absurd (cc)) ∙ c.loop-i.invariant.written;

@@ -1,4 +1,5 @@
 use Rattle.std.proofs.Common.{List, ℕ, subst}
+use Rattle.ball_model.specs.Job.{PartValue}
 use Rattle.node.specs.Serving.{ReadsRequest, Steps}
 use Rattle.node.specs.declared.command.Command.{Command}
 use Rattle.node.proofs.ServeLemmas.{at_some, serves_one}
@@ -8,6 +9,7 @@ pub returns-clause-served : goal.returns-clause-served
 returns-clause-served g c = λ is.
     serves_one c.args.graph.now (g.R.Read.remaining c.args.reader.now) (g.R.Read.remaining c.read_request.new.reader) c.read_request.new.line.items c.in-Some.command c.read_request.new.body.items
     c.args.session.now c.answer.new.session (g.W.Write.contents c.args.writer.now) (g.W.Write.contents c.answer.new.writer) (g.W.Write.contents c.flush.new.writer)
-    (at_some _ _ (λ (k : Command). ReadsRequest (g.R.Read.remaining c.args.reader.now) (g.R.Read.remaining c.read_request.new.reader) c.read_request.new.line.items k c.read_request.new.body.items) c.in-Some.is c.in_ok-command.ensures.some)
+    (subst (λ (q : PartValue). ReadsRequest q (g.R.Read.remaining c.args.reader.now) (g.R.Read.remaining c.read_request.new.reader) c.read_request.new.line.items c.in-Some.command c.read_request.new.body.items) c.part.ensures
+    (at_some _ _ (λ (k : Command). ReadsRequest c.part.result.now (g.R.Read.remaining c.args.reader.now) (g.R.Read.remaining c.read_request.new.reader) c.read_request.new.line.items k c.read_request.new.body.items) c.in-Some.is c.in_ok-command.ensures.some))
     (subst (λ (l : List ℕ). Steps c.args.graph.now c.in-Some.command l c.args.session.now c.answer.new.session (g.W.Write.contents c.args.writer.now) (g.W.Write.contents c.answer.new.writer)) c.deref.ensures.value c.in_ok-answer.ensures.step)
     c.flush.ensures.done

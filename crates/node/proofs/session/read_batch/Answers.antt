@@ -3,7 +3,8 @@ use Rattle.std.specs.Prelude.{Err, Ok}
 use Rattle.std.proofs.lemmas.Result.{IfOk-weaker}
 use Rattle.ball_model.specs.Batches.{true_batch}
 use Rattle.node.proofs.SessionLemmas.{delivered_read, read_true, read_wants}
-use Rattle.node.proofs.SessionLemmas.{spelled_not}
+use Rattle.std.specs.Arc.{arc_value}
+use Rattle.node.proofs.SessionLemmas.{spelled_as, spelled_not}
 use Rattle.batches.specs.Reading.{batch_at}
 use Rattle.node.proofs.session.read_batch.Goals as goal
 
@@ -22,3 +23,7 @@ returns-in-Ok-clause-given c = λ j name job plan d.
 
 pub returns-in-Err-clause-named : goal.returns-in-Err-clause-named
 returns-in-Err-clause-named c = spelled_not c.in-Err.error (batch_at c.args.plan.now c.args.bytes.now) c.in-Err.ensures.exact
+
+pub returns-in-Ok-clause-spells : goal.returns-in-Ok-clause-spells
+returns-in-Ok-clause-spells c =
+    IfOk-weaker c.shared.result _ _ (λ b is. spelled_as c.in-Ok.batch (arc_value b) (batch_at c.args.plan.now c.args.bytes.now) c.in-Ok.ensures.exact is) c.shared.ensures.given

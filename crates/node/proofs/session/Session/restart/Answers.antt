@@ -2,7 +2,11 @@ use Rattle.ball_model.specs.declared.world.Answer.TheVariants as answer
 use Rattle.ball_model.specs.Held.{start_holding}
 use Rattle.node.specs.Turns.{TurnsTo}
 use Rattle.node.proofs.SessionLemmas.{refused_ok, restarted_to}
-use Rattle.node.proofs.SessionLemmas.{says_no_checkpoint}
+use Rattle.std.proofs.Common.{ap, sym, subst, ◌∙◌}
+use Rattle.ball_model.specs.State.{State}
+use Rattle.checkpoint.specs.Reading.{IsSpelling}
+use Rattle.node.specs.declared.session.Reply.TheVariants as reply
+use Rattle.node.proofs.SessionLemmas.{never_answered, says_no_checkpoint}
 use Rattle.node.proofs.session.Session.restart.Goals as goal
 
 pub returns-in-Ok-clause-anew : goal.returns-in-Ok-clause-anew
@@ -29,3 +33,16 @@ returns-in-Ok-clause-named c = λ some. c.in-Ok.ensures.whole some
 pub returns-in-Err-clause-named : goal.returns-in-Err-clause-named
 returns-in-Err-clause-named c = λ some.
     says_no_checkpoint c.args.self.now.part c.args.bytes.now c.in-Err.error c.no_checkpoint.result c.no_checkpoint.ensures.some c.no_checkpoint.ensures.other (c.in-Err.ensures.named some)
+
+pub returns-in-Ok-clause-spelled : goal.returns-in-Ok-clause-spelled
+returns-in-Ok-clause-spelled c = λ some answered. subst (λ (v : State). IsSpelling v c.args.bytes.now) (sym c.put.ensures.value) (c.in-Ok.ensures.spells some)
+
+pub returns-in-Ok-clause-answer : goal.returns-in-Ok-clause-answer
+returns-in-Ok-clause-answer c = λ answered.
+    ap reply.Answered (c.put.ensures.answer ∙ ap (λ (v : State). answer.Restarted v.superstep) (sym c.put.ensures.value))
+
+pub returns-in-Err-clause-spelled : goal.returns-in-Err-clause-spelled
+returns-in-Err-clause-spelled c = λ some. never_answered c.in-Err.error c.no_checkpoint.result _ c.no_checkpoint.ensures.some
+
+pub returns-in-Err-clause-answer : goal.returns-in-Err-clause-answer
+returns-in-Err-clause-answer c = never_answered c.in-Err.error c.no_checkpoint.result _ c.no_checkpoint.ensures.some

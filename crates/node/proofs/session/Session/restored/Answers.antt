@@ -4,11 +4,10 @@ use Rattle.ball_model.specs.Job.{part_of}
 use Rattle.ball_model.specs.State.{State}
 use Rattle.node.proofs.SessionLemmas.{job_held, no_bytes, part_held, started_holds}
 use Rattle.std.proofs.Common.{subst}
-use Rattle.std.specs.Prelude.{IfErr, IsOk, OnOk}
+use Rattle.std.specs.Prelude.{IfErr, OnOk}
 use Rattle.ball_model.specs.Job.{PartValue}
-use Rattle.checkpoint.specs.Reading.{sealed_form}
 use Rattle.checkpoint.specs.declared.error.KeepError.TheVariants as unkept
-use Rattle.node.specs.Refusals.{IsNoCheckpoint}
+use Rattle.node.specs.Refusals.{IsCheckpoint, IsNoCheckpoint}
 use Rattle.node.proofs.session.Session.restored.Goals as goal
 
 pub returns-in_ok-started-clause-anew : goal.returns-in_ok-started-clause-anew
@@ -27,7 +26,7 @@ returns-in_ok-started-clause-back c = λ j p h d k some given. absurd (some (no_
 pub returns-else-is_empty-clause-whole : goal.returns-else-is_empty-clause-whole
 returns-else-is_empty-clause-whole c = λ some.
     let part : arc_value c.in_ok-part.part ≡ c.args.self.now.part = c.in_ok-part.ensures ∙ c.self.invariant ∙ ap (λ (s : State). s.part) c.self.view_is in
-    subst (λ (x : PartValue). OnOk c.read_back.result (IsOk (sealed_form x c.args.bytes.now))) part c.read_back.ensures.whole
+    subst (λ (x : PartValue). OnOk c.read_back.result (IsCheckpoint x c.args.bytes.now)) part c.read_back.ensures.whole
 
 pub returns-else-is_empty-clause-named : goal.returns-else-is_empty-clause-named
 returns-else-is_empty-clause-named c = λ some.
@@ -36,3 +35,6 @@ returns-else-is_empty-clause-named c = λ some.
 
 pub returns-in_ok-started-clause-whole : goal.returns-in_ok-started-clause-whole
 returns-in_ok-started-clause-whole c = λ some. absurd (some (no_bytes c.args.bytes.now (sym c.is_empty.ensures ∙ c.if-is_empty.true)))
+
+pub returns-in_ok-started-clause-spells : goal.returns-in_ok-started-clause-spells
+returns-in_ok-started-clause-spells c = λ some. absurd (some (no_bytes c.args.bytes.now (sym c.is_empty.ensures ∙ c.if-is_empty.true)))
