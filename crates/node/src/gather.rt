@@ -20,6 +20,7 @@ use crate::job::{JobOptions, part_of, read_job};
 use crate::limits::longest_checkpoint;
 use crate::section::{Next, next_of};
 use crate::session::read_back;
+use crate::watched::show_turn;
 use ball_model::{CountedRead, CountedWrite, Plan};
 use checkpoint::KeepError;
 use edgelist::{Graph, Part};
@@ -29,6 +30,7 @@ use std::alloc::{AllocGlobal, Global};
 use std::hash::RandomState;
 use std::thread::Threads;
 use world::script::cut;
+use world::watch::Watch;
 
 // The length that a line `part L` tells.
 fn length_in(line: &[u8]) -> Option<u64>
@@ -143,11 +145,12 @@ fn read_replica<R: CountedRead>(
     }
 }
 
-// The replicas of the checkpoints of all partitions.
-fn read_replicas<R: CountedRead>(
+// The replicas of the checkpoints of all partitions. A watch is told of each.
+fn read_replicas<R: CountedRead, V: Watch>(
     alloc: Global,
     graph: &Graph,
     plan: &Plan,
+    watch: &V,
     reader: &mut R,
 ) -> Result<Vec<Replica>, GatherError>
     requires { IsJob (job_of graph.now.graph plan.now) }
@@ -164,6 +167,7 @@ fn read_replicas<R: CountedRead>(
     let mut replicas = Vec::with_capacity(alloc, usize::from(plan.parts()))?;
     for p in 0..plan.parts() {
         let replica = read_replica(alloc, graph, plan, p, reader)?;
+        show_turn(&replica, watch);
         let Ok(()) = replicas.push(replica) else {
             return Err(GatherError::Memory);
         };
@@ -196,11 +200,13 @@ fn read_end<R: CountedRead>(reader: &mut R) -> Result<(), GatherError>
 /// For each partition in order a line `part L`, and its checkpoint of L bytes. They are checked as they come, each whole
 /// before the next is read; then that nothing follows, and then that all are of the end of one run. Nothing is written
 /// before that. Memory is taken as bytes come, and may be refused at each; where it is refused or a write fails while the
-/// report is written, a beginning of it was written.
-pub fn gather_parts<T: AllocGlobal + Threads + Sync, R: CountedRead, W: CountedWrite>(
+/// report is written, a beginning of it was written. The watch is told of each checkpoint that was read, as of a close
+/// that went on to its superstep.
+pub fn gather_parts<T: AllocGlobal + Threads + Sync, R: CountedRead, W: CountedWrite, V: Watch>(
     rt: &T,
     graph: &Graph,
     plan: &Plan,
+    watch: &V,
     reader: &mut R,
     writer: &mut W,
 ) -> Result<(), GatherError>
@@ -227,7 +233,7 @@ pub fn gather_parts<T: AllocGlobal + Threads + Sync, R: CountedRead, W: CountedW
     ensures written { result ≢ Err GatherError.Write →
         W.failed_calls writer.new ≡ W.failed_calls writer.old }
 {
-    let replicas = read_replicas(rt.alloc(), graph, plan, reader)?;
+    let replicas = read_replicas(rt.alloc(), graph, plan, watch, reader)?;
     read_end(reader)?;
     if !report_ready(&replicas) {
         return Err(GatherError::NotReady);
@@ -236,11 +242,13 @@ pub fn gather_parts<T: AllocGlobal + Threads + Sync, R: CountedRead, W: CountedW
     Ok(())
 }
 
-/// Reads a job and the checkpoints of all its partitions at the end of their run, and writes their report.
-pub fn gather<T: AllocGlobal + Threads + Sync, R: CountedRead, W: CountedWrite>(
+/// Reads a job and the checkpoints of all its partitions at the end of their run, and writes their report. The watch is
+/// called once the job is read, and told of each checkpoint.
+pub fn gather<T: AllocGlobal + Threads + Sync, R: CountedRead, W: CountedWrite, V: Watch>(
     rt: &T,
     state: RandomState,
     options: &JobOptions,
+    watch: &V,
     reader: &mut R,
     writer: &mut W,
 ) -> Result<(), GatherError>
@@ -269,5 +277,6 @@ pub fn gather<T: AllocGlobal + Threads + Sync, R: CountedRead, W: CountedWrite>(
         W.failed_calls writer.new ≡ W.failed_calls writer.old }
 {
     let (graph, plan) = read_job(rt.alloc(), state, options, reader)?;
-    gather_parts(rt, &graph, &plan, reader, writer)
+    watch.after_read(graph.vertices(), graph.edges());
+    gather_parts(rt, &graph, &plan, watch, reader, writer)
 }

@@ -15,7 +15,8 @@
 //! ```
 //!
 //! What a node answers is a function of the commands over one node of the world's definition: the same replica as a
-//! [`world::World`] has, whose batches and checkpoints are kept by others.
+//! [`world::World`] has, whose batches and checkpoints are kept by others. Both calls have a [`world::watch::Watch`] that
+//! they call as they get on.
 #![tactic(auto)]
 
 pub mod answers;
@@ -32,3 +33,4 @@ pub mod session;
 pub mod show;
 #[cfg(test)]
 mod tests;
+mod watched;

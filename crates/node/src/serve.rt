@@ -28,6 +28,7 @@ use crate::limits::is_within;
 use crate::own::tell_own;
 use crate::session::{Reply, Session};
 use crate::show::tell_shown;
+use crate::watched::show_close;
 use ball_model::world::WorldError;
 use ball_model::{CountedRead, CountedWrite, NodeId, Plan};
 use batches::Batch;
@@ -39,6 +40,7 @@ use std::alloc::Global;
 use std::hash::RandomState;
 use world::answer::put_refusal;
 use world::tell::{TellError, write_lines};
+use world::watch::Watch;
 
 // Writes the line of what a node says.
 fn tell<W: CountedWrite>(reply: Reply, line: &mut Vec<u8>, writer: &mut W) -> Result<(), TellError>
@@ -139,9 +141,10 @@ fn answer_deliver<W: CountedWrite>(
     tell(reply, line, writer)
 }
 
-// A node closes its superstep.
-fn answer_close<W: CountedWrite>(
+// A node closes its superstep. A watch is told where it went on.
+fn answer_close<W: CountedWrite, V: Watch>(
     session: &mut Session,
+    watch: &V,
     line: &mut Vec<u8>,
     writer: &mut W,
 ) -> Result<(), TellError>
@@ -155,6 +158,7 @@ fn answer_close<W: CountedWrite>(
         W.failed_calls writer.new ≡ W.failed_calls writer.old }
 {
     let answer = session.close();
+    show_close(session.replica(), answer, watch);
     tell(Reply::Answered(answer), line, writer)
 }
 
@@ -285,12 +289,13 @@ fn answer_figures<W: CountedWrite>(
 }
 
 // A node does what a command says, and tells it.
-fn answer<W: CountedWrite>(
+fn answer<W: CountedWrite, V: Watch>(
     alloc: Global,
     graph: &Graph,
     session: &mut Session,
     command: Command,
     body: &[u8],
+    watch: &V,
     line: &mut Vec<u8>,
     writer: &mut W,
 ) -> Result<(), TellError>
@@ -306,7 +311,7 @@ fn answer<W: CountedWrite>(
     match command {
         Command::Send { target } => answer_send(alloc, session.replica(), target, line, writer),
         Command::Deliver { .. } => answer_deliver(alloc, session, body, line, writer),
-        Command::Close => answer_close(session, line, writer),
+        Command::Close => answer_close(session, watch, line, writer),
         Command::Keep => answer_keep(session.replica(), line, writer),
         Command::Restart { .. } => answer_restart(alloc, session, body, line, writer),
         Command::Recover { .. } => answer_recover(alloc, session, body, line, writer),
@@ -433,10 +438,11 @@ fn flush<W: CountedWrite>(writer: &mut W) -> Result<(), TellError>
 }
 
 // Reads a request, does what it says and answers it, and tells whether there was one.
-fn serve_one<R: CountedRead, W: CountedWrite>(
+fn serve_one<R: CountedRead, W: CountedWrite, V: Watch>(
     alloc: Global,
     graph: &Graph,
     session: &mut Session,
+    watch: &V,
     reader: &mut R,
     writer: &mut W,
     number: u64,
@@ -468,16 +474,20 @@ fn serve_one<R: CountedRead, W: CountedWrite>(
     let Some(command) = read_request(session.part(), reader, &mut line, &mut body, number)? else {
         return Ok(false);
     };
-    answer(alloc, graph, session, command, &body, &mut line, writer)?;
+    answer(
+        alloc, graph, session, command, &body, watch, &mut line, writer,
+    )?;
     flush(writer)?;
     Ok(true)
 }
 
-/// Answers commands until the input ends. Each answer is passed on before the next command is read.
-pub fn serve_commands<R: CountedRead, W: CountedWrite>(
+/// Answers commands until the input ends. Each answer is passed on before the next command is read. The watch is called
+/// where the node went on by a close, before that is answered.
+pub fn serve_commands<R: CountedRead, W: CountedWrite, V: Watch>(
     alloc: Global,
     graph: &Graph,
     session: &mut Session,
+    watch: &V,
     reader: &mut R,
     writer: &mut W,
 ) -> Result<(), ServeError>
@@ -500,7 +510,7 @@ pub fn serve_commands<R: CountedRead, W: CountedWrite>(
         W.failed_calls writer.new ≡ W.failed_calls writer.old }
 {
     for i in 0..u64::MAX {
-        let more = serve_one(alloc, graph, session, reader, writer, i + 1)?;
+        let more = serve_one(alloc, graph, session, watch, reader, writer, i + 1)?;
         if !more {
             return Ok(());
         }
@@ -525,12 +535,13 @@ fn start(alloc: Global, graph: &Graph, plan: &Plan, part: u16) -> Result<Session
 }
 
 /// Reads a job, and answers the commands for the node of one of its partitions. That there is no such partition is told
-/// behind all other faults of the job.
-pub fn serve_node<R: CountedRead, W: CountedWrite>(
+/// behind all other faults of the job. The watch is called once the job is read, and where the node went on by a close.
+pub fn serve_node<R: CountedRead, W: CountedWrite, V: Watch>(
     alloc: Global,
     state: RandomState,
     options: &JobOptions,
     part: u16,
+    watch: &V,
     reader: &mut R,
     writer: &mut W,
 ) -> Result<(), NodeError>
@@ -563,7 +574,8 @@ pub fn serve_node<R: CountedRead, W: CountedWrite>(
         W.failed_calls writer.new ≡ W.failed_calls writer.old }
 {
     let (graph, plan) = read_job(alloc, state, options, reader)?;
+    watch.after_read(graph.vertices(), graph.edges());
     let mut session = start(alloc, &graph, &plan, part)?;
-    serve_commands(alloc, &graph, &mut session, reader, writer)?;
+    serve_commands(alloc, &graph, &mut session, watch, reader, writer)?;
     Ok(())
 }

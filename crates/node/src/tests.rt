@@ -5,6 +5,7 @@
 mod answers;
 mod gathering;
 mod refusals;
+mod watched;
 
 use crate::error::NodeError;
 use crate::job::JobOptions;
@@ -13,6 +14,7 @@ use ball_model::{Estimate, MemReader, MemWriter};
 use edgelist::Delimiter;
 use std::alloc::{AllocError, Global};
 use std::hash::RandomState;
+use world::watch::Unwatched;
 
 static TWO_EDGES: &[u8] = b"a\tb\nb\tc\n%%\n";
 
@@ -39,7 +41,15 @@ fn serve(
     let state = RandomState::new(rt).ok()?;
     let mut writer = MemWriter::with_room(rt.alloc(), 65_536, None).ok()?;
     let mut reader = MemReader::new(input, None);
-    let end = serve_node(rt.alloc(), state, options, part, &mut reader, &mut writer);
+    let end = serve_node(
+        rt.alloc(),
+        state,
+        options,
+        part,
+        &Unwatched,
+        &mut reader,
+        &mut writer,
+    );
     Some((writer.into_bytes(), end))
 }
 

@@ -26,7 +26,14 @@ fn gathered<T: AllocGlobal + RandomSource + Threads + Sync>(
     let state = RandomState::new(rt).ok()?;
     let mut writer = MemWriter::with_room(rt.alloc(), 4096, None).ok()?;
     let mut reader = MemReader::new(input, None);
-    let end = gather(rt, state, &options(2, false), &mut reader, &mut writer);
+    let end = gather(
+        rt,
+        state,
+        &options(2, false),
+        &Unwatched,
+        &mut reader,
+        &mut writer,
+    );
     Some((writer.into_bytes(), end))
 }
 

@@ -1,0 +1,23 @@
+//! What a watch is told of a replica.
+
+use ball_model::NodeId;
+use ball_model::world::Answer;
+use replica::{Replica, Shown};
+use world::watch::Watch;
+
+/// A watch is told that a replica, the only one of its partition, has gone on to its superstep.
+pub fn show_turn<V: Watch>(replica: &Replica, watch: &V) {
+    // the limits of a replica are told with its superstep
+    let superstep = replica.superstep();
+    let part = replica.partition();
+    let vertices = replica.plan().part_size(part);
+    let node = NodeId { part, replica: 0 };
+    watch.after_close(node, superstep, replica.changed_count(), vertices);
+}
+
+/// The same, where that is the answer to a close.
+pub fn show_close<V: Watch>(replica: &Replica, answer: Answer, watch: &V) {
+    if let Answer::Closed { .. } = answer {
+        show_turn(replica, watch);
+    }
+}
