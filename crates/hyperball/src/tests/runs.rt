@@ -146,7 +146,7 @@ const NO_LIST: &[u8] = b"hyperball: no line %% before the list\n";
 
 const UNKNOWN: &[u8] = b"hyperball: record 1 of the list names no vertex\n";
 
-static COUNTED_FAULTS: [Case; 12] = [
+static COUNTED_FAULTS: [Case; 13] = [
     (COUNTED, b"a\tb\nb\tc\n%%\n# c\nz\n", UNKNOWN),
     // a second line of %% is a record of the list
     (COUNTED, b"a\tb\n%%\n%%\n", UNKNOWN),
@@ -165,6 +165,8 @@ static COUNTED_FAULTS: [Case; 12] = [
     // no list comes before the faults of the options and of the edge list
     ("hyperball run --log2m 3 --counted", b"a\tb\tc\n", NO_LIST),
     ("hyperball run --log2m 3 --counted", b"a\tb\n%%\n", LOG2M),
+    // a fault of the edge list is told as that
+    (COUNTED, b"a\tb\nb\tc\t7\n%%\na\n", RECORD),
 ];
 
 #[test]
