@@ -161,7 +161,7 @@ pub fn words_of_progress()
         AsksProgress words true → AsksProgress words false → ⊥ }
 {}
 
-/// Words of a run or a replay are those of no other command, and words that are read as those of a command ask for it.
+/// Words of a command are those of no other, and words that are read as those of a command ask for it.
 pub fn words_of_one_command()
     ensures run { (words : List Text) (w : Run) → IsRun words w → AsksReplay words → ⊥ }
     ensures run_node { (words : List Text) (w : Run) → IsRun words w → AsksNode words → ⊥ }
@@ -172,7 +172,13 @@ pub fn words_of_one_command()
     ensures replay_gather { (words : List Text) (w : Replayed) → IsReplay words w →
         AsksGather words → ⊥ }
     ensures node { (words : List Text) (w : Noded) → IsNode words w → AsksNode words }
+    ensures node_replay { (words : List Text) (w : Noded) → IsNode words w → AsksReplay words → ⊥ }
+    ensures node_gather { (words : List Text) (w : Noded) → IsNode words w → AsksGather words → ⊥ }
     ensures gather { (words : List Text) (o : Gathered) → IsGather words o → AsksGather words }
+    ensures gather_replay { (words : List Text) (o : Gathered) → IsGather words o →
+        AsksReplay words → ⊥ }
+    ensures gather_node { (words : List Text) (o : Gathered) → IsGather words o →
+        AsksNode words → ⊥ }
 {}
 
 /// These texts are lists of orders, and these are none: a superstep is wanted, without leading zeros, and no list ends

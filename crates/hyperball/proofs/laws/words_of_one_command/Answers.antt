@@ -1,4 +1,4 @@
-use Rattle.std.proofs.Common.{◌≡◌, List, Option, Some, ap, arith, codes, refl, slice_index, subst}
+use Rattle.std.proofs.Common.{◌≡◌, List, Option, Some, ap, arith, codes, refl, slice_index, subst, sym}
 use Rattle.std.specs.Prelude.{option_map}
 use Rattle.clap.specs.Words.{Row, Text}
 use Rattle.hyperball.specs.CommandLine.{Parsers}
@@ -30,6 +30,12 @@ replay_node same = absurd (cc)
 
 replay_gather : codes "replay" ≡ codes "gather" → ⊥
 replay_gather same = let bad : 114 ≡ 103 = ap (λ (t : Text). slice_index t 0) same in absurd (omega (arith, bad))
+
+node_replay : codes "node" ≡ codes "replay" → ⊥
+node_replay same = absurd (cc)
+
+node_gather : codes "node" ≡ codes "gather" → ⊥
+node_gather same = absurd (cc)
 
 -- some parsers
 abbrev some_parsers : Parsers
@@ -74,3 +80,23 @@ pub returns-clause-gather : goal.returns-clause-gather
 returns-clause-gather c = λ words o is.
     let gather = is.command some_parsers (refl, refl) in
     record { parsers = some_parsers; take = (refl, refl); named = ap (λ (o : Option (Text × List Row)). name_of o) gather.1 }
+
+pub returns-clause-node_replay : goal.returns-clause-node_replay
+returns-clause-node_replay c = λ words w is asks.
+    let node = is.command asks.parsers asks.take in
+    one_name _ _ node_replay _ node.0 node.1 asks.named
+
+pub returns-clause-node_gather : goal.returns-clause-node_gather
+returns-clause-node_gather c = λ words w is asks.
+    let node = is.command asks.parsers asks.take in
+    one_name _ _ node_gather _ node.0 node.1 asks.named
+
+pub returns-clause-gather_replay : goal.returns-clause-gather_replay
+returns-clause-gather_replay c = λ words o is asks.
+    let gather = is.command asks.parsers asks.take in
+    one_name _ _ (λ same. replay_gather (sym same)) _ gather.0 gather.1 asks.named
+
+pub returns-clause-gather_node : goal.returns-clause-gather_node
+returns-clause-gather_node c = λ words o is asks.
+    let gather = is.command asks.parsers asks.take in
+    one_name _ _ (λ same. node_gather (sym same)) _ gather.0 gather.1 asks.named
