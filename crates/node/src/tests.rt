@@ -3,6 +3,7 @@
 //! A node is served anew for each input, so what it was told before stands at the front of that.
 
 mod answers;
+mod flushed;
 mod gathering;
 mod refusals;
 mod watched;
