@@ -13,7 +13,7 @@ use Rattle.std.proofs.lemmas.List.Elements.{All-nil, All-cons}
 use Rattle.ball_model.specs.Job.{Job, IsJob, PartValue, part_of}
 use Rattle.ball_model.specs.PlanValue.{PlanValue}
 use Rattle.ball_model.specs.State.{State, StandsFor}
-use Rattle.report.specs.Ready.{AllStand, job_report}
+use Rattle.report.specs.Ready.{AllStand, are_ready, job_report}
 use Rattle.node.specs.Gathering.{AreGivenBack, AreMadeOf, AreParts, Gathers, IsMadeOf, ReadsAll, ReadsOne, part_line, part_text, parts_text}
 use Rattle.ball_model.specs.Streams.{PutsFront}
 use Rattle.ball_model.specs.Input.{Network}
@@ -138,13 +138,15 @@ part_spelled line a b n is word size =
 pub all_vertices_read : (j : Job) (n m : ℕ) (a b : Option (List ℕ)) (vs : List State) → IsJob j → n ≡ j.graph.vertices → ReadsAll j m a b vs → All (λ (v : State). v.part.plan.vertices ≡ n) vs
 all_vertices_read j n m a b vs job is s = all_vertices j 0 n s.bodies vs job is s.made
 
-pub gathered : (j : Job) (labels : List (List ℕ)) (a b c x y : Option (List ℕ)) (vs : List State) → ReadsAll j j.plan.parts a b vs → Consumes b c [] → IsAtEnd c → (AllStand j vs → Appends x y (job_report j labels)) → Gathers j labels a c x y
-gathered j labels a b c x y vs s none end told = record {
+pub gathered : (j : Job) (labels : List (List ℕ)) (a b c x y : Option (List ℕ)) (vs : List State) → ReadsAll j j.plan.parts a b vs → are_ready vs ≡ true → Consumes b c [] → IsAtEnd c →
+    (AllStand j vs → Appends x y (job_report j labels)) → Gathers j labels a c x y
+gathered j labels a b c x y vs s ready none end told = record {
   bodies = s.bodies;
   count = s.count;
   consumed = subst (Consumes a c) (append-nil (parts_text s.bodies)) (Consumes-trans a b c (parts_text s.bodies) [] s.consumed none);
   end = end;
   parts = parts_made j 0 s.bodies vs s.made;
+  ready = record { replicas = vs; made = s.made; ready = ready };
   report = λ given. told (all_stand j s.bodies vs s.made given);
 }
 
@@ -188,14 +190,15 @@ pub stops_at : (j : Job) (p : ℕ) (a b c : Option (List ℕ)) (vs : List State)
 stops_at j p a b c vs e below before at = stops_at_part j a c e (record { p = p; below = below; replicas = vs; mid = b; before = before; at = at })
 
 -- ---- what was written
-pub gathered_front : (j : Job) (labels : List (List ℕ)) (a b c x y : Option (List ℕ)) (vs : List State) → ReadsAll j j.plan.parts a b vs → Consumes b c [] → IsAtEnd c →
+pub gathered_front : (j : Job) (labels : List (List ℕ)) (a b c x y : Option (List ℕ)) (vs : List State) → ReadsAll j j.plan.parts a b vs → are_ready vs ≡ true → Consumes b c [] → IsAtEnd c →
     (AllStand j vs → PutsFront x y (job_report j labels)) → WritesFront j labels a c x y
-gathered_front j labels a b c x y vs s none end told = inr (record {
+gathered_front j labels a b c x y vs s ready none end told = inr (record {
   bodies = s.bodies;
   count = s.count;
   consumed = subst (Consumes a c) (append-nil (parts_text s.bodies)) (Consumes-trans a b c (parts_text s.bodies) [] s.consumed none);
   end = end;
   parts = parts_made j 0 s.bodies vs s.made;
+  ready = record { replicas = vs; made = s.made; ready = ready };
   front = λ given. told (all_stand j s.bodies vs s.made given);
 })
 

@@ -1,5 +1,5 @@
 -- The report of the checkpoints of all partitions.
-use Rattle.std.specs.Prelude.{◌≡◌, ⊤, ℕ, ◌+◌, ◌≤◌, Bool, List, [], ◌∷◌, ◌++◌, length, Option, codes, decimal}
+use Rattle.std.specs.Prelude.{◌≡◌, ⊤, ℕ, ◌+◌, ◌≤◌, Bool, true, List, [], ◌∷◌, ◌++◌, length, Option, codes, decimal}
 use Rattle.std.specs.List.{flat_map}
 use Rattle.std.specs.Io.KnownBytes.{Appends, Consumes, IsAtEnd}
 use Rattle.ball_model.specs.Input.{Network}
@@ -11,7 +11,7 @@ use Rattle.ball_model.specs.State.{State}
 use Rattle.ball_model.specs.WorldText.{words_line}
 use Rattle.checkpoint.specs.Reading.{IsSpelling, most_bytes}
 use Rattle.replica.specs.Saved.{IsKeepable}
-use Rattle.report.specs.Ready.{job_report}
+use Rattle.report.specs.Ready.{are_ready, job_report}
 use Rattle.report.specs.declared.write.ReportError.{ReportError}
 use Rattle.report.specs.declared.write.ReportError.TheVariants as unreported
 use Rattle.node.specs.declared.error.GatherError.{GatherError}
@@ -54,13 +54,35 @@ unfoldable pub AreParts : Job → ℕ → List (List ℕ) → Type 0
 AreParts j p [] = ⊤
 AreParts j p (body ∷ bodies) = IsPart j p body × AreParts j (p + 1) bodies
 
--- all that is left of the input is checkpoints, one of each partition; and where they stand for the job, its report was
--- appended
+-- a replica of partition p was made of these bytes, which are a spelling of it
+pub record IsMadeOf (j : Job) (p : ℕ) (body : List ℕ) (v : State) : Type 0 where
+  pub part_is : v.part ≡ part_of j p
+  pub is : IsPart j p body
+  pub keepable : IsKeepable v
+  pub spells : IsSpelling v body
+  pub back : (h : Holding) → IsGivenBack j p body h → Holds j p h v
+
+-- such replicas were made of such bytes, of partition p and those that follow
+unfoldable pub AreMadeOf : Job → ℕ → List (List ℕ) → List State → Type 0
+AreMadeOf j p [] [] = ⊤
+AreMadeOf j p (body ∷ bodies) (v ∷ vs) = IsMadeOf j p body v × AreMadeOf j (p + 1) bodies vs
+AreMadeOf j p bodies vs = ⊥
+
+-- replicas were made of them, and these are ready to be reported: they are at one superstep, and each finds that the run
+-- has ended
+pub record AreOfAnEnd (j : Job) (bodies : List (List ℕ)) : Type 0 where
+  pub replicas : List State
+  pub made : AreMadeOf j 0 bodies replicas
+  pub ready : are_ready replicas ≡ true
+
+-- all that is left of the input is checkpoints, one of each partition, of the end of a run; and where they stand for the
+-- job, its report was appended
 pub record Gathers (j : Job) (labels : List (List ℕ)) (left left' : Option (List ℕ))
     (old new : Option (List ℕ)) : Type 0 where
   pub bodies : List (List ℕ)
   pub count : length bodies ≡ j.plan.parts
   pub parts : AreParts j 0 bodies
+  pub ready : AreOfAnEnd j bodies
   pub consumed : Consumes left left' (parts_text bodies)
   pub end : IsAtEnd left'
   pub report : AreGivenBack j 0 bodies → Appends old new (job_report j labels)
@@ -76,24 +98,11 @@ pub record GathersJob (s : Settings) (counted : Bool)
 
 -- ---- how checkpoints are read
 
--- a replica of partition p was made of these bytes, which are a spelling of it
-pub record IsMadeOf (j : Job) (p : ℕ) (body : List ℕ) (v : State) : Type 0 where
-  pub part_is : v.part ≡ part_of j p
-  pub is : IsPart j p body
-  pub keepable : IsKeepable v
-  pub spells : IsSpelling v body
-  pub back : (h : Holding) → IsGivenBack j p body h → Holds j p h v
-
+-- one, and the line before it
 pub record ReadsOne (j : Job) (p : ℕ) (left left' : Option (List ℕ)) (v : State) : Type 0 where
   pub body : List ℕ
   pub consumed : Consumes left left' (part_text body)
   pub made : IsMadeOf j p body v
-
--- such replicas were made of such bytes, of partition p and those that follow
-unfoldable pub AreMadeOf : Job → ℕ → List (List ℕ) → List State → Type 0
-AreMadeOf j p [] [] = ⊤
-AreMadeOf j p (body ∷ bodies) (v ∷ vs) = IsMadeOf j p body v × AreMadeOf j (p + 1) bodies vs
-AreMadeOf j p bodies vs = ⊥
 
 -- of the first n partitions
 pub record ReadsAll (j : Job) (n : ℕ) (left left' : Option (List ℕ))

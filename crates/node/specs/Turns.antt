@@ -9,11 +9,14 @@ use Rattle.checkpoint.specs.declared.error.KeepError.TheVariants as no_checkpoin
 use Rattle.checkpoint.specs.Reading.{greatest_batch, most_bytes}
 use Rattle.ball_model.specs.declared.world.Answer.{Answer}
 use Rattle.ball_model.specs.declared.world.Answer.TheVariants as answer
+use Rattle.ball_model.specs.Batches.{BatchValue}
+use Rattle.ball_model.specs.Content.{is_new}
 use Rattle.ball_model.specs.Held.{IsHeldBy}
 use Rattle.ball_model.specs.Job.{Job, PartValue}
 use Rattle.ball_model.specs.Join.{Holding}
-use Rattle.ball_model.specs.State.{State}
+use Rattle.ball_model.specs.State.{SameShown, State}
 use Rattle.ball_model.specs.WorldText.{number_line, taken_line, unclosed_line, unmerged_line, untaken_line, words_line}
+use Rattle.replica.specs.Change.{HoldsAfter, take_answer}
 use Rattle.world.specs.Shows.{Has}
 use Rattle.node.specs.declared.command.Command.{Command}
 use Rattle.node.specs.declared.command.Command.TheVariants as command
@@ -41,6 +44,12 @@ pub record Holds (j : Job) (p : ℕ) (h : Holding) (v : State) : Type 0 where
 pub record TurnsTo (j : Job) (p : ℕ) (a : Answer) (h : Holding) (v : State) (r : Reply) : Type 0 where
   pub says : r ≡ reply.Answered a
   pub holds : Holds j p h v
+
+-- a replica v was brought the batch, true or not, and is w: it shows what it showed, and holds what it held, and the
+-- batch's name where that was new
+pub record IsBrought (b : BatchValue) (v w : State) : Type 0 where
+  pub shown : SameShown w v
+  pub names : HoldsAfter (is_new (take_answer v b)) b.name v w
 
 -- such a replica was made, or memory was refused
 abbrev pub GivesOrWants : (State → Type 0) → Result State KeepError → Type 0

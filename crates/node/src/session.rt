@@ -19,7 +19,7 @@ ghost use Rattle.replica.specs.Saved.{IsKeepable};
 ghost use Rattle.world.specs.Shows.{Has};
 ghost use Rattle.node.specs.NodeText.{IsDelivered, IsGivenBack};
 ghost use Rattle.node.specs.Refusals.{IsAnswered, IsCheckpoint, IsNoCheckpoint, SaysOfBatch, SaysOfCheckpoint};
-ghost use Rattle.node.specs.Turns.{GivesOrWants, Holds, SaysMerged, TurnsTo};
+ghost use Rattle.node.specs.Turns.{GivesOrWants, Holds, IsBrought, SaysMerged, TurnsTo};
 ghost use Rattle.node.specs.declared.session.Reply.TheVariants as reply;
 
 use ball_model::world::Answer;
@@ -103,6 +103,8 @@ impl Session {
             IfOk result (λ r. r ≡ reply.Answered (taken_answer (take_answer self.old b))) }
         ensures unchanged { (b : BatchValue) → batch_at self.old.part.plan bytes.now ≡ Ok b →
             is_new (take_answer self.old b) ≡ false → self.new ≡ self.old }
+        ensures brought { (b : BatchValue) → batch_at self.old.part.plan bytes.now ≡ Ok b →
+            IfOk result (λ _. IsBrought b self.old self.new) }
         ensures refused { OnErr result (self.new ≡ self.old) }
     {
         match read_batch(alloc, self.replica.plan(), bytes) {
@@ -121,6 +123,7 @@ impl Session {
         ensures answer { result ≡ taken_answer (take_answer self.old (arc_value batch)) }
         ensures unchanged { is_new (take_answer self.old (arc_value batch)) ≡ false →
             self.new ≡ self.old }
+        ensures brought { IsBrought (arc_value batch) self.old self.new }
     {
         let taken = self.replica.take(batch);
         // the limits of a replica are told with its superstep

@@ -4,7 +4,7 @@ use Rattle.ball_model.specs.Steps.{Take}
 use Rattle.ball_model.specs.World.{taken_answer}
 use Rattle.ball_model.specs.PlanValue.{PlanValue}
 use Rattle.ball_model.specs.State.{State}
-use Rattle.node.specs.Turns.{TurnsTo}
+use Rattle.node.specs.Turns.{IsBrought, TurnsTo}
 use Rattle.node.proofs.SessionLemmas.{job_held, plan_held, refused_ok}
 use Rattle.std.specs.Prelude.{IfOk, IsOk}
 use Rattle.batches.specs.Reading.{batch_at}
@@ -55,6 +55,19 @@ returns-in-Ok-clause-unchanged c = λ b is old.
 
 pub returns-in-Err-clause-answer : goal.returns-in-Err-clause-answer
 returns-in-Err-clause-answer c = λ b is.
+    let plan : c.plan.result.now ≡ c.args.self.now.part.plan = c.plan.ensures ∙ ap (λ (s : State). s.part.plan) c.self.view_is in
+    no_other_said b c.in-Err.error (batch_at c.plan.result.now c.args.bytes.now) c.no_batch.result _ c.no_batch.ensures.other c.in-Err.ensures.named
+    (ap (λ (q : PlanValue). batch_at q c.args.bytes.now) plan ∙ is)
+
+pub returns-in-Ok-clause-brought : goal.returns-in-Ok-clause-brought
+returns-in-Ok-clause-brought c = λ b is.
+    let plan : c.plan.result.now ≡ c.args.self.now.part.plan = c.plan.ensures ∙ ap (λ (s : State). s.part.plan) c.self.view_is in
+    let same : arc_value c.in-Ok.batch ≡ b =
+    spelled_same b (arc_value c.in-Ok.batch) (batch_at c.plan.result.now c.args.bytes.now) c.in-Ok.ensures.spells (ap (λ (q : PlanValue). batch_at q c.args.bytes.now) plan ∙ is) in
+    subst (λ (x : BatchValue). IsBrought x c.args.self.now c.take.new.self) same c.take.ensures.brought
+
+pub returns-in-Err-clause-brought : goal.returns-in-Err-clause-brought
+returns-in-Err-clause-brought c = λ b is.
     let plan : c.plan.result.now ≡ c.args.self.now.part.plan = c.plan.ensures ∙ ap (λ (s : State). s.part.plan) c.self.view_is in
     no_other_said b c.in-Err.error (batch_at c.plan.result.now c.args.bytes.now) c.no_batch.result _ c.no_batch.ensures.other c.in-Err.ensures.named
     (ap (λ (q : PlanValue). batch_at q c.args.bytes.now) plan ∙ is)
