@@ -39,9 +39,11 @@ class Node:
 
     def __init__(self, program, part, words):
         self.part, self.lock = part, Lock()
-        pipes = dict.fromkeys(("stdin", "stdout", "stderr"), subprocess.PIPE)
+        # (a file, as nobody would empty a pipe: with --progress a node tells a line a superstep there)
+        self.faults = tempfile.TemporaryFile()
+        pipes = dict.fromkeys(("stdin", "stdout"), subprocess.PIPE)
         try:
-            self.process = subprocess.Popen([program, "node", "--part", str(part), *words], **pipes)
+            self.process = subprocess.Popen([program, "node", "--part", str(part), *words], stderr=self.faults, **pipes)
         except OSError as error:
             raise Refused(f"{program}: {error.strerror}") from error
 
@@ -61,7 +63,8 @@ class Node:
                 return words, body
             if self.process.wait() < 0:
                 raise Gone(self.part)
-            raise Refused(self.process.stderr.readline().decode().strip())
+            self.faults.seek(0)
+            raise Refused(self.faults.read().decode().strip().rpartition("\n")[2])
 
 
 def here(run):
