@@ -30,6 +30,10 @@ parsers_at p = record {
   delimiters = names_in p.delimiters (at p.tab (codes "tab") ∷ at p.comma (codes "comma") ∷ at p.space (codes "space") ∷ []);
 }
 
+-- some parsers
+abbrev pub some_parsers : Parsers
+some_parsers = parsers_at (record { estimates = (0, 0); raw = (0, 0); corrected = (0, 0); delimiters = (0, 0); tab = (0, 0); comma = (0, 0); space = (0, 0) })
+
 -- two names
 two : (P : ValueParser → Type 0) → ((list a b : ℕ × ℕ) → P (names_in list (at a (codes "raw") ∷ at b (codes "corrected") ∷ []))) → (list : ℕ × ℕ) (names : List (Bor Text)) → map (λ name. name.now) names ≡ estimate_names → P (names_in list names)
 two P h list [] e = absurd (cc)

@@ -8,6 +8,8 @@ use Rattle.clap.proofs.WalkLemmas.{first_value-rows, one_text-rows}
 use Rattle.ball_model.specs.declared.plan.Estimate.{Estimate}
 use Rattle.edgelist.specs.declared.read.Delimiter.{Delimiter}
 use Rattle.node.specs.declared.job.JobOptions.{JobOptions}
+use Rattle.hyperball.specs.declared.node_words.GatherWords.{GatherWords}
+use Rattle.hyperball.specs.declared.node_words.NodeWords.{NodeWords}
 use Rattle.hyperball.specs.declared.replay_words.ReplayWords.{ReplayWords}
 use Rattle.hyperball.specs.declared.words.RunWords.{RunWords}
 use Rattle.ball_model.specs.declared.names.NodeId.{NodeId}
@@ -59,6 +61,12 @@ pub same_job_options : (log2m seed parts limit : ℕ) (e : Estimate) (d : Delimi
     e ≡ o.estimate → d ≡ o.delimiter → counted ≡ o.counted →
     ◌≡◌ {A = JobOptions} (record { log2m = log2m; seed = seed; parts = parts; limit = limit; estimate = e; delimiter = d; counted = counted }) o
 same_job_options log2m seed parts limit e d counted o a b p l k g h = λ i. record { log2m = a i; seed = b i; parts = p i; limit = l i; estimate = k i; delimiter = g i; counted = h i }
+
+pub same_node_words : (o : JobOptions) (part : ℕ) (progress : Bool) (w : NodeWords) → o ≡ w.options → part ≡ w.part → progress ≡ w.progress → ◌≡◌ {A = NodeWords} (record { options = o; part = part; progress = progress }) w
+same_node_words o part progress w a p t = λ i. record { options = a i; part = p i; progress = t i }
+
+pub same_gather_words : (o : JobOptions) (progress : Bool) (w : GatherWords) → o ≡ w.options → progress ≡ w.progress → ◌≡◌ {A = GatherWords} (record { options = o; progress = progress }) w
+same_gather_words o progress w a t = λ i. record { options = a i; progress = t i }
 
 -- a text that was read is given
 pub given_is : (f : Found) (id : Text) (text : Option Text) → text ≡ first_value f id → is_some text ≡ true → is_some (first_of id (rows_of f)) ≡ true

@@ -1,13 +1,13 @@
 -- Inputs that are read whole, and their sections.
 use Rattle.std.proofs.Common.{◌≡◌, ◌∙◌, ℕ, suc, ◌+◌, ◌-◌, ◌<◌, ◌≤◌, Bool, true, false, ◌==◌, if◌then◌else◌, List, [], ◌∷◌, ◌++◌, length, take, drop, slice_index, refl, ap, arith, sym, append_assoc, append-nil, length-append}
 use Rattle.std.specs.Prelude.{Option, None, Some, option_map}
-use Rattle.std.specs.Io.KnownBytes.{Consumes, IsAtEnd}
+use Rattle.std.specs.Io.KnownBytes.{Consumes}
 use Rattle.std.proofs.Math.Seq.{drop-cons, take-suc}
 use Rattle.std.proofs.lemmas.List.{drop_all, length-drop, length-take, take_all}
-use Rattle.std.proofs.KnownBytes.{Consumes-trans, Consumes-whole}
+use Rattle.std.proofs.KnownBytes.{Consumes-trans}
 use Rattle.ball_model.specs.Sections.{after_mark, longer, sections_from}
 use Rattle.ball_model.specs.Streams.{TakesAtMost}
-use Rattle.hyperball.specs.Whole.{IsLong, IsWhole, most_bytes}
+use Rattle.hyperball.specs.Whole.{most_bytes}
 
 -- what was read so far
 pub record HasRead (old new : Option (List ℕ)) (bytes : List ℕ) : Type 0 where

@@ -1,7 +1,7 @@
 -- What words ask for.
 use Rattle.std.proofs.Common.{◌≡◌, Ok, refl, subst, sym}
 use Rattle.std.specs.Prelude.{IfOk, Result}
-use Rattle.node.specs.declared.job.JobOptions.{JobOptions}
+use Rattle.hyperball.specs.declared.node_words.GatherWords.{GatherWords}
 use Rattle.hyperball.specs.declared.node_words.NodeWords.{NodeWords}
 use Rattle.hyperball.specs.declared.replay_words.ReplayWords.{ReplayWords}
 use Rattle.hyperball.specs.declared.words.Wish.{Wish}
@@ -16,5 +16,5 @@ is_replay r w is = subst (λ (o : Result Wish WordsError). IfOk o (λ found. fou
 pub is_node : (r : Result Wish WordsError) (w : NodeWords) → r ≡ Ok (wish.Node w) → IfOk r (λ found. found ≡ wish.Node w)
 is_node r w is = subst (λ (o : Result Wish WordsError). IfOk o (λ found. found ≡ wish.Node w)) (sym is) refl
 
-pub is_gather : (r : Result Wish WordsError) (o : JobOptions) → r ≡ Ok (wish.Gather o) → IfOk r (λ found. found ≡ wish.Gather o)
-is_gather r o is = subst (λ (x : Result Wish WordsError). IfOk x (λ found. found ≡ wish.Gather o)) (sym is) refl
+pub is_gather : (r : Result Wish WordsError) (w : GatherWords) → r ≡ Ok (wish.Gather w) → IfOk r (λ found. found ≡ wish.Gather w)
+is_gather r w is = subst (λ (o : Result Wish WordsError). IfOk o (λ found. found ≡ wish.Gather w)) (sym is) refl

@@ -106,11 +106,12 @@ replay_app p =
 
 -- the subcommand `node`
 unfoldable pub node_app : Parsers → App
-node_app p = with_rule (with_job p (new_app (codes "node"))) (option_rule (codes "part") number16)
+node_app p = with_progress
+    (with_rule (with_job p (new_app (codes "node"))) (option_rule (codes "part") number16))
 
 -- the subcommand `gather`
 unfoldable pub gather_app : Parsers → App
-gather_app p = with_job p (new_app (codes "gather"))
+gather_app p = with_progress (with_job p (new_app (codes "gather")))
 
 -- the program, which has a version and wants a subcommand, before it has one
 abbrev pub new_hyperball : App

@@ -5,6 +5,7 @@ use Rattle.ball_model.specs.declared.plan.Estimate.TheVariants.{Corrected, Raw}
 use Rattle.edgelist.specs.declared.read.Delimiter.TheVariants.{Comma, Space, Tab}
 use Rattle.world.specs.declared.replay.ReplayOptions.{ReplayOptions}
 use Rattle.node.specs.declared.job.JobOptions.{JobOptions}
+use Rattle.hyperball.specs.declared.node_words.GatherWords.{GatherWords}
 use Rattle.hyperball.specs.declared.node_words.NodeWords.{NodeWords}
 use Rattle.hyperball.specs.declared.replay_words.ReplayWords.{ReplayWords}
 use Rattle.hyperball.specs.declared.words.RunWords.{RunWords}
@@ -90,10 +91,23 @@ usual_job = record {
 }
 
 abbrev pub usual_node : NodeWords
-usual_node = record { options = usual_job; part = 0 }
+usual_node = record { options = usual_job; part = 0; progress = false }
 
 abbrev pub third_node : NodeWords
-third_node = record { options = record usual_job { log2m = 4; parts = 3; counted = true }; part = 2 }
+third_node = record {
+  options = record usual_job { log2m = 4; parts = 3; counted = true };
+  part = 2;
+  progress = false;
+}
 
-abbrev pub gathered_job : JobOptions
-gathered_job = record usual_job { parts = 3; estimate = Corrected; delimiter = Comma }
+abbrev pub telling_node : NodeWords
+telling_node = record { options = usual_job; part = 0; progress = true }
+
+abbrev pub gathered_job : GatherWords
+gathered_job = record {
+  options = record usual_job { parts = 3; estimate = Corrected; delimiter = Comma };
+  progress = false;
+}
+
+abbrev pub telling_gathering : GatherWords
+telling_gathering = record { options = usual_job; progress = true }

@@ -1,10 +1,11 @@
 -- What the words of a node and of a gathering say.
-use Rattle.std.specs.Prelude.{◌≡◌, ◌⊎◌, ℕ, List, [], Option, Some, option_map, codes}
+use Rattle.std.specs.Prelude.{◌≡◌, List, [], Option, Some, option_map, codes}
 use Rattle.clap.specs.Words.{Row, Text, subcommand_of}
 use Rattle.node.specs.declared.job.JobOptions.{JobOptions}
 use Rattle.hyperball.specs.CommandLine.{Parsers, TakeNames, hyperball_app}
 use Rattle.hyperball.specs.Words.{HasFaults, IsFlag, IsNamedOr, IsNumberOr}
 use Rattle.hyperball.specs.Words.{delimiter_name, estimate_name, usual_options}
+use Rattle.hyperball.specs.declared.node_words.GatherWords.{GatherWords}
 use Rattle.hyperball.specs.declared.node_words.NodeWords.{NodeWords}
 
 -- the options of a job have these values
@@ -18,17 +19,24 @@ pub record AreJobOptionsOf (rows : List Row) (o : JobOptions) : Type 0 where
       rows (codes "delimiter") o.delimiter
   pub counted : IsFlag rows (codes "counted") o.counted
 
--- and the partition
+-- and the partition of a node, and whether it tells its progress
 pub record AreNodeOptionsOf (rows : List Row) (w : NodeWords) : Type 0 where
   pub options : AreJobOptionsOf rows w.options
   pub part : IsNumberOr 0 16 rows (codes "part") w.part
+  pub progress : IsFlag rows (codes "progress") w.progress
+
+-- and whether a gathering tells its progress
+pub record AreGatherOptionsOf (rows : List Row) (w : GatherWords) : Type 0 where
+  pub options : AreJobOptionsOf rows w.options
+  pub progress : IsFlag rows (codes "progress") w.progress
 
 -- the subcommand is node or gather, with these options or their defaults
 abbrev pub IsNodeOf : Option (Text × List Row) → NodeWords → Type 0
 IsNodeOf sub w = (rows : List Row) × (sub ≡ Some (codes "node", rows)) × AreNodeOptionsOf rows w
 
-abbrev pub IsGatherOf : Option (Text × List Row) → JobOptions → Type 0
-IsGatherOf sub o = (rows : List Row) × (sub ≡ Some (codes "gather", rows)) × AreJobOptionsOf rows o
+abbrev pub IsGatherOf : Option (Text × List Row) → GatherWords → Type 0
+IsGatherOf sub w =
+    (rows : List Row) × (sub ≡ Some (codes "gather", rows)) × AreGatherOptionsOf rows w
 
 -- the words are read as those of node, with these options or their defaults
 pub record IsNode (words : List Text) (w : NodeWords) : Type 0 where
@@ -36,10 +44,10 @@ pub record IsNode (words : List Text) (w : NodeWords) : Type 0 where
   pub command : (p : Parsers) → TakeNames p → IsNodeOf (subcommand_of (hyperball_app p) words) w
 
 -- the words are read as those of gather, with these options or their defaults
-pub record IsGather (words : List Text) (o : JobOptions) : Type 0 where
+pub record IsGather (words : List Text) (w : GatherWords) : Type 0 where
   pub accepted : HasFaults words []
   pub command : (p : Parsers) → TakeNames p →
-      IsGatherOf (subcommand_of (hyperball_app p) words) o
+      IsGatherOf (subcommand_of (hyperball_app p) words) w
 
 -- the subcommand is node
 abbrev pub NamesNode : Option (Text × List Row) → Type 0

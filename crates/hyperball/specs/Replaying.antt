@@ -26,7 +26,7 @@ abbrev pub SaysRun : RunWords → Wish → Type 0
 SaysRun w (wish.Run said) = said.words ≡ w
 SaysRun w (wish.Replay words) = ⊥
 SaysRun w (wish.Node words) = ⊥
-SaysRun w (wish.Gather options) = ⊥
+SaysRun w (wish.Gather words) = ⊥
 
 -- the options have these values
 pub record AreReplayOptionsOf (rows : List Row) (w : ReplayWords) : Type 0 where

@@ -127,18 +127,18 @@ abbrev pub SaysListed : Option (Text × List Row) → Wish → Type 0
 SaysListed sub (wish.Run said) = IfSome sub (λ s. AreListed s.1 said.orders)
 SaysListed sub (wish.Replay words) = ⊤
 SaysListed sub (wish.Node words) = ⊤
-SaysListed sub (wish.Gather options) = ⊤
+SaysListed sub (wish.Gather words) = ⊤
 
 -- the subcommand has the flag of progress or not
 abbrev pub GivesProgress : Option (Text × List Row) → Bool → Type 0
 GivesProgress sub b = IfSome sub (λ s. IsFlag s.1 (codes "progress") b)
 
--- progress is to be told or not; a node and a gathering tell none
+-- progress is to be told or not
 abbrev pub SaysProgress : Bool → Wish → Type 0
 SaysProgress b (wish.Run said) = said.progress ≡ b
 SaysProgress b (wish.Replay words) = words.progress ≡ b
-SaysProgress b (wish.Node words) = ⊤
-SaysProgress b (wish.Gather options) = ⊤
+SaysProgress b (wish.Node words) = words.progress ≡ b
+SaysProgress b (wish.Gather words) = words.progress ≡ b
 
 -- what the program's command finds wrong with the words
 pub record HasFaults (words : List Text) (kinds : List ErrorKind) : Type 0 where

@@ -10,16 +10,17 @@ ghost use Rattle.clap.specs.declared.error.kind.ErrorKind.TheVariants.{UnknownAr
 ghost use Rattle.clap.specs.declared.error.kind.ErrorKind.TheVariants.{ValueValidation};
 ghost use Rattle.hyperball.specs.LawWords.{board_words, corrected_words, counted_words, log2m_words};
 ghost use Rattle.hyperball.specs.LawWords.{node_words, replayed_input, replayed_plan, space_words};
-ghost use Rattle.hyperball.specs.LawWords.{gathered_job, third_node, usual_node, usual_replay};
+ghost use Rattle.hyperball.specs.LawWords.{gathered_job, telling_gathering, telling_node};
+ghost use Rattle.hyperball.specs.LawWords.{third_node, usual_node, usual_replay};
 ghost use Rattle.hyperball.specs.LawWords.{one_order, two_orders};
 ghost use Rattle.hyperball.specs.Orders.{AreOrders};
 ghost use Rattle.hyperball.specs.Nodes.{AsksGather, AsksNode, IsGather, IsNode};
 ghost use Rattle.hyperball.specs.Replaying.{AsksReplay, IsReplay};
 ghost use Rattle.hyperball.specs.Words.{AsksProgress, HasFaults, IsRun};
+ghost use Rattle.hyperball.specs.declared.node_words.GatherWords.{GatherWords as Gathered};
 ghost use Rattle.hyperball.specs.declared.node_words.NodeWords.{NodeWords as Noded};
 ghost use Rattle.hyperball.specs.declared.replay_words.ReplayWords.{ReplayWords as Replayed};
 ghost use Rattle.hyperball.specs.declared.words.RunWords.{RunWords as Run};
-ghost use Rattle.node.specs.declared.job.JobOptions.{JobOptions as Gathered};
 
 /// These words are read as those of run; an option that is not given has its default.
 pub fn words_of_a_run()
@@ -109,6 +110,12 @@ pub fn words_of_a_node()
         (codes "hyperball" ∷ codes "gather" ∷ codes "--parts=3" ∷ codes "--estimate"
         ∷ codes "corrected" ∷ codes "--delimiter=comma" ∷ [])
         gathered_job }
+    ensures telling { IsNode
+        (codes "hyperball" ∷ codes "node" ∷ codes "--progress" ∷ [])
+        telling_node }
+    ensures telling_gather { IsGather
+        (codes "hyperball" ∷ codes "gather" ∷ codes "--progress" ∷ [])
+        telling_gathering }
 {}
 
 /// These words ask for help on node or gather, or are mistaken: a report is of all partitions, and a node is one replica.
@@ -143,8 +150,8 @@ pub fn words_of_no_command()
         (UnknownArgument ∷ []) }
 {}
 
-/// These words ask for progress, and these do not; nor do words that are refused or ask for help. Words of a run never
-/// do both.
+/// These words ask for progress, and these do not; nor do words that are refused or ask for help. Words of a command
+/// never do both.
 pub fn words_of_progress()
     ensures run { AsksProgress
         (codes "hyperball" ∷ codes "run" ∷ codes "--progress" ∷ codes "--parts" ∷ codes "2" ∷ [])
@@ -152,12 +159,30 @@ pub fn words_of_progress()
     ensures replay { AsksProgress
         (codes "hyperball" ∷ codes "replay" ∷ codes "--progress" ∷ [])
         true }
+    ensures node { AsksProgress
+        (codes "hyperball" ∷ codes "node" ∷ codes "--progress" ∷ [])
+        true }
+    ensures gather { AsksProgress
+        (codes "hyperball" ∷ codes "gather" ∷ codes "--progress" ∷ [])
+        true }
     ensures plain { AsksProgress
         (codes "hyperball" ∷ codes "run" ∷ codes "--parts" ∷ codes "2" ∷ [])
+        false }
+    ensures plain_node { AsksProgress
+        (codes "hyperball" ∷ codes "node" ∷ [])
+        false }
+    ensures plain_gather { AsksProgress
+        (codes "hyperball" ∷ codes "gather" ∷ codes "--parts=3" ∷ [])
         false }
     ensures refused { (words : List Text) (kinds : List Kind) → HasFaults words kinds →
         kinds ≢ [] → AsksProgress words false }
     ensures one { (words : List Text) (w : Run) → IsRun words w →
+        AsksProgress words true → AsksProgress words false → ⊥ }
+    ensures one_replay { (words : List Text) (w : Replayed) → IsReplay words w →
+        AsksProgress words true → AsksProgress words false → ⊥ }
+    ensures one_node { (words : List Text) (w : Noded) → IsNode words w →
+        AsksProgress words true → AsksProgress words false → ⊥ }
+    ensures one_gather { (words : List Text) (w : Gathered) → IsGather words w →
         AsksProgress words true → AsksProgress words false → ⊥ }
 {}
 
@@ -174,10 +199,10 @@ pub fn words_of_one_command()
     ensures node { (words : List Text) (w : Noded) → IsNode words w → AsksNode words }
     ensures node_replay { (words : List Text) (w : Noded) → IsNode words w → AsksReplay words → ⊥ }
     ensures node_gather { (words : List Text) (w : Noded) → IsNode words w → AsksGather words → ⊥ }
-    ensures gather { (words : List Text) (o : Gathered) → IsGather words o → AsksGather words }
-    ensures gather_replay { (words : List Text) (o : Gathered) → IsGather words o →
+    ensures gather { (words : List Text) (w : Gathered) → IsGather words w → AsksGather words }
+    ensures gather_replay { (words : List Text) (w : Gathered) → IsGather words w →
         AsksReplay words → ⊥ }
-    ensures gather_node { (words : List Text) (o : Gathered) → IsGather words o →
+    ensures gather_node { (words : List Text) (w : Gathered) → IsGather words w →
         AsksNode words → ⊥ }
 {}
 

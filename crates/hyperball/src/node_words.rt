@@ -1,13 +1,15 @@
 //! The words of the commands `hyperball node` and `hyperball gather`.
 
-ghost use Rattle.std.specs.Prelude.{◌≡◌, IfOk, codes};
+ghost use Rattle.std.specs.Prelude.{◌≡◌, Bool, IfOk, codes};
 ghost use Rattle.clap.specs.Words.{found_of, new_app, rows_of};
 ghost use Rattle.hyperball.specs.CommandLine.{IsApp, gather_app, node_app};
-ghost use Rattle.hyperball.specs.Nodes.{AreNodeOptionsOf};
-ghost use Rattle.hyperball.specs.declared.node_words.NodeWords.{NodeWords as Asked};
+ghost use Rattle.hyperball.specs.Nodes.{AreGatherOptionsOf, AreNodeOptionsOf};
+ghost use Rattle.hyperball.specs.Words.{IsFlag};
+ghost use Rattle.hyperball.specs.declared.node_words.GatherWords.{GatherWords as Gathered};
+ghost use Rattle.hyperball.specs.declared.node_words.NodeWords.{NodeWords as Noded};
 
 use crate::job_words::{add_job, job_options_of};
-use crate::words::add_option;
+use crate::words::{add_option, add_progress, wants_progress};
 use clap::builder::ValueParser;
 use clap::{ArgMatches, Command, value_parser};
 use node::job::JobOptions;
@@ -107,6 +109,17 @@ pub struct NodeWords {
     pub options: JobOptions,
     /// Its partition.
     pub part: u16,
+    /// Whether progress is to be told.
+    pub progress: bool,
+}
+
+/// What the words of a gathering say.
+#[derive(Clone, Copy, Debug, PartialEq, Eq)]
+pub struct GatherWords {
+    /// The options of its job.
+    pub options: JobOptions,
+    /// Whether progress is to be told.
+    pub progress: bool,
 }
 
 // The subcommand node, before it has options.
@@ -145,7 +158,8 @@ pub fn node_command<'a>(
         estimates,
         delimiters,
     )?;
-    add_option(alloc, command, "part", PART_HELP, value_parser!(u16))
+    let command = add_option(alloc, command, "part", PART_HELP, value_parser!(u16))?;
+    add_progress(alloc, command)
 }
 
 /// The subcommand gather, with parsers of estimates and of delimiters.
@@ -157,21 +171,38 @@ pub fn gather_command<'a>(
     ensures { IfOk result (IsApp (gather_app
         (record { estimates = estimates.entry; delimiters = delimiters.entry }))) }
 {
-    add_job(
+    let command = add_job(
         alloc,
         bare_gather(alloc),
         GATHER_PARTS_HELP,
         estimates,
         delimiters,
-    )
+    )?;
+    add_progress(alloc, command)
 }
 
 /// What the words of a node say. Values are as `clap` has checked them.
 pub fn node_words_of(matches: &ArgMatches<'_>) -> NodeWords
-    ensures { (w : Asked) → AreNodeOptionsOf (rows_of (found_of matches.now)) w → result ≡ w }
+    ensures options { (w : Noded) → AreNodeOptionsOf (rows_of (found_of matches.now)) w →
+        result ≡ w }
+    ensures progress { (b : Bool) → IsFlag (rows_of (found_of matches.now)) (codes "progress") b →
+        result.progress ≡ b }
 {
     NodeWords {
         options: job_options_of(matches),
         part: matches.get_one("part").unwrap_or(0),
+        progress: wants_progress(matches),
     }
+}
+
+/// What the words of a gathering say. Values are as `clap` has checked them.
+pub fn gather_words_of(matches: &ArgMatches<'_>) -> GatherWords
+    ensures options { (w : Gathered) → AreGatherOptionsOf (rows_of (found_of matches.now)) w →
+        result ≡ w }
+    ensures progress { (b : Bool) → IsFlag (rows_of (found_of matches.now)) (codes "progress") b →
+        result.progress ≡ b }
+{
+    let options = job_options_of(matches);
+    let progress = wants_progress(matches);
+    GatherWords { options, progress }
 }

@@ -15,14 +15,15 @@ ghost use Rattle.node.specs.declared.error.JobError.TheVariants as no_job;
 ghost use Rattle.node.specs.declared.error.ServeError.{ServeError as NoAnswer};
 ghost use Rattle.node.specs.declared.error.ServeError.TheVariants as no_answer;
 
-use crate::node_words::NodeWords;
+use crate::node_words::{GatherWords, NodeWords};
+use crate::progress::TellingWatch;
 use ball_model::{CountedRead, CountedWrite};
 use node::error::{GatherError, NodeError};
 use node::gather::gather;
-use node::job::JobOptions;
 use node::serve::serve_node;
 use std::alloc::AllocGlobal;
 use std::hash::RandomState;
+use std::io::Eprint;
 use std::random::RandomSource;
 use std::thread::Threads;
 use thiserror::Error;
@@ -49,13 +50,15 @@ pub enum GatherFault {
     Gather(GatherError),
 }
 
-/// A node of these words, which answers the commands in the input until that ends.
+/// A node of these words, which answers the commands in the input until that ends. Where there is a teller, it tells
+/// how the node gets on.
 ///
 /// Without random words nothing is read, and nothing answered; where there is no job, nothing is answered; what was
 /// answered before a request that cannot be read stands.
-pub fn node_by<H: AllocGlobal + RandomSource, R: CountedRead, W: CountedWrite>(
+pub fn node_by<H: AllocGlobal + RandomSource, T: Eprint, R: CountedRead, W: CountedWrite>(
     rt: &H,
     words: &NodeWords,
+    teller: &Option<T>,
     reader: &mut R,
     writer: &mut W,
 ) -> Result<(), NodeFault>
@@ -94,33 +97,45 @@ pub fn node_by<H: AllocGlobal + RandomSource, R: CountedRead, W: CountedWrite>(
     let Ok(state) = RandomState::new(rt) else {
         return Err(NodeFault::Random);
     };
+    let watch = TellingWatch::new(teller);
     match serve_node(
         rt.alloc(),
         state,
         &words.options,
         words.part,
+        &watch,
         reader,
         writer,
     ) {
-        Ok(()) => Ok(()),
+        Ok(()) => {
+            watch.after_commands();
+            Ok(())
+        }
         Err(fault) => Err(NodeFault::Node(fault)),
     }
 }
 
-/// The report of the checkpoints in the input, of all partitions of a job. Without random words nothing is read, and
-/// nothing written.
-pub fn gather_by<H: AllocGlobal + RandomSource + Threads + Sync, R: CountedRead, W: CountedWrite>(
+/// The report of the checkpoints in the input, of all partitions of a job. Where there is a teller, it tells how the
+/// gathering gets on. Without random words nothing is read, and nothing written.
+pub fn gather_by<
+    H: AllocGlobal + RandomSource + Threads + Sync,
+    T: Eprint,
+    R: CountedRead,
+    W: CountedWrite,
+>(
     rt: &H,
-    options: &JobOptions,
+    words: &GatherWords,
+    teller: &Option<T>,
     reader: &mut R,
     writer: &mut W,
 ) -> Result<(), GatherFault>
-    ensures gathered { OnOk result (GathersJob (settings_in options.now) options.now.counted
+    ensures gathered { OnOk result (GathersJob
+        (settings_in words.now.options) words.now.options.counted
         (R.remaining reader.old) (R.remaining reader.new)
         (W.contents writer.old) (W.contents writer.new)) }
     // Which refusal it is.
     ensures refused { (e : NoReport) → result ≡ Err (GatherFault.Gather e) → HasNoReport
-        (settings_in options.now) options.now.counted
+        (settings_in words.now.options) words.now.options.counted
         (R.remaining reader.old) (R.remaining reader.new) e }
     // A call failed exactly where that is told.
     ensures read { result ≡ Err (GatherFault.Gather GatherError.Read) →
@@ -138,7 +153,7 @@ pub fn gather_by<H: AllocGlobal + RandomSource + Threads + Sync, R: CountedRead,
     ensures kept { (e : NoReport) → result ≡ Err (GatherFault.Gather e) → IsUnwritten e →
         Keeps (W.contents writer.old) (W.contents writer.new) }
     ensures front { OnErr result (
-        WritesFrontOfJob (settings_in options.now) options.now.counted
+        WritesFrontOfJob (settings_in words.now.options) words.now.options.counted
         (R.remaining reader.old) (R.remaining reader.new)
         (W.contents writer.old) (W.contents writer.new)) }
     ensures random { result ≡ Err GatherFault.Random →
@@ -149,8 +164,12 @@ pub fn gather_by<H: AllocGlobal + RandomSource + Threads + Sync, R: CountedRead,
     let Ok(state) = RandomState::new(rt) else {
         return Err(GatherFault::Random);
     };
-    match gather(rt, state, options, reader, writer) {
-        Ok(()) => Ok(()),
+    let watch = TellingWatch::new(teller);
+    match gather(rt, state, &words.options, &watch, reader, writer) {
+        Ok(()) => {
+            watch.after_gathering();
+            Ok(())
+        }
         Err(fault) => Err(GatherFault::Gather(fault)),
     }
 }

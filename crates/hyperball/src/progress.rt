@@ -1,7 +1,8 @@
-//! What is told of how a run or a replay gets on, where that is asked for.
+//! What is told of how a command gets on, where that is asked for.
 //!
-//! [`Faults`] hands out what tells it. Of a run [`Progress`] says what, and its [`TellingGate`] says when; a replay has a
-//! [`TellingWatch`]. Each line begins with `hyperball: `, as a fault does; one that cannot be written is dropped.
+//! [`Faults`] hands out what tells it. Of a run [`Progress`] says what, and its [`TellingGate`] says when; a replay, a
+//! node and a gathering have a [`TellingWatch`]. Each line begins with `hyperball: `, as a fault does; one that cannot be
+//! written is dropped.
 
 use ball_model::NodeId;
 use ball_model::plan::GREATEST_LIMIT;
@@ -194,7 +195,7 @@ impl<'a, C: Clock, T: Eprint + Drop> Gate for TellingGate<'a, C, T> {
     }
 }
 
-/// A watch that tells how a replay gets on, where there is a teller.
+/// A watch that tells how a replay, a node or a gathering gets on, where there is a teller.
 #[derive(Clone, Copy)]
 pub struct TellingWatch<'a, T> {
     teller: &'a Option<T>,
@@ -208,10 +209,25 @@ impl<'a, T: Eprint> TellingWatch<'a, T> {
 
     /// The replay has ended, and written its answers or not.
     pub fn after_replay(&self, written: bool) {
-        if let Some(teller) = self.teller
-            && written
-        {
-            let _ = eprintln!(teller; "hyperball: the answers are written");
+        if written {
+            self.tell_end("the answers are written");
+        }
+    }
+
+    /// The node has answered all commands.
+    pub fn after_commands(&self) {
+        self.tell_end("the commands are answered");
+    }
+
+    /// The gathering has written its report.
+    pub fn after_gathering(&self) {
+        self.tell_end("the report is written");
+    }
+
+    // All is done.
+    fn tell_end(&self, line: &str) {
+        if let Some(teller) = self.teller {
+            let _ = eprintln!(teller; "hyperball: {line}");
         }
     }
 }

@@ -20,18 +20,18 @@ ghost use Rattle.hyperball.specs.Words.{AreMistakes, AsksProgress, FailsFor, Has
 ghost use Rattle.hyperball.specs.Words.{IsMistake, IsRun};
 ghost use Rattle.hyperball.specs.Words.{Reports, Serves, listed_words, texts_of};
 ghost use Rattle.hyperball.specs.Nodes.{AsksGather, AsksNode, IsGather, IsNode};
+ghost use Rattle.hyperball.specs.declared.node_words.GatherWords.{GatherWords as Gathered};
 ghost use Rattle.hyperball.specs.declared.node_words.NodeWords.{NodeWords as Noded};
 ghost use Rattle.node.specs.Gathering.{GathersJob};
 ghost use Rattle.node.specs.Job.{settings_in as job_settings};
 ghost use Rattle.node.specs.NoReport.{GathersFrontOfJob, WritesFrontOfJob};
 ghost use Rattle.node.specs.Serving.{ServesNode};
-ghost use Rattle.node.specs.declared.job.JobOptions.{JobOptions as Gathered};
 ghost use Rattle.hyperball.specs.declared.options.Options.{Options as Asked};
 ghost use Rattle.workers.specs.Options.{settings_of};
 ghost use Rattle.hyperball.specs.declared.whole.WholeError.{WholeError as NoInput};
 ghost use Rattle.hyperball.specs.declared.words.RunWords.{RunWords as Run};
 
-use crate::node_words::NodeWords;
+use crate::node_words::{GatherWords, NodeWords};
 use crate::nodes::{gather_by, node_by};
 use crate::options::run_options;
 use crate::orders::OrdersError;
@@ -42,7 +42,6 @@ use crate::whole::{WholeError, read_whole, sections};
 use crate::words::{Said, Wish, WordsError, read_words};
 use ball_model::{CountedRead, CountedWrite, CountingReader, put_all};
 use clap::error::ErrorKind;
-use node::job::JobOptions;
 use std::alloc::{AllocGlobal, Global};
 use std::fmt::Display;
 use std::hash::RandomState;
@@ -453,9 +452,11 @@ fn serve_node<H: AllocGlobal + RandomSource, R: CountedRead, W: CountedWrite, F:
     // It is done only where no call failed.
     ensures read { result ≡ 0 → R.failed_calls reader.new ≡ R.failed_calls reader.old }
     ensures written { result ≡ 0 → W.failed_calls writer.new ≡ W.failed_calls writer.old }
-    ensures silent { result ≡ 0 → Keeps (F.contents faults.old) (F.contents faults.new) }
+    ensures silent { result ≡ 0 → words.now.progress ≡ false →
+        Keeps (F.contents faults.old) (F.contents faults.new) }
 {
-    match node_by(rt, words, reader, writer) {
+    let teller = teller_for(words.progress, faults);
+    match node_by(rt, words, &teller, reader, writer) {
         Ok(()) => DONE,
         Err(fault) => tell_fault(faults, fault),
     }
@@ -467,22 +468,24 @@ fn serve_gather<
     R: CountedRead,
     W: CountedWrite,
     F: Faults,
->(rt: &H, options: &JobOptions, reader: &mut R, writer: &mut W, faults: &mut F) -> u8
+>(rt: &H, words: &GatherWords, reader: &mut R, writer: &mut W, faults: &mut F) -> u8
     ensures status { (result ≡ 0) ⊎ (result ≡ 1) }
     ensures done { result ≡ 0 → GathersJob
-        (job_settings options.now) options.now.counted
+        (job_settings words.now.options) words.now.options.counted
         (R.remaining reader.old) (R.remaining reader.new)
         (W.contents writer.old) (W.contents writer.new) }
     // It is done only where no call failed.
     ensures read { result ≡ 0 → R.failed_calls reader.new ≡ R.failed_calls reader.old }
     ensures written { result ≡ 0 → W.failed_calls writer.new ≡ W.failed_calls writer.old }
     ensures begun { result ≡ 1 → WritesFrontOfJob
-        (job_settings options.now) options.now.counted
+        (job_settings words.now.options) words.now.options.counted
         (R.remaining reader.old) (R.remaining reader.new)
         (W.contents writer.old) (W.contents writer.new) }
-    ensures silent { result ≡ 0 → Keeps (F.contents faults.old) (F.contents faults.new) }
+    ensures silent { result ≡ 0 → words.now.progress ≡ false →
+        Keeps (F.contents faults.old) (F.contents faults.new) }
 {
-    match gather_by(rt, options, reader, writer) {
+    let teller = teller_for(words.progress, faults);
+    match gather_by(rt, words, &teller, reader, writer) {
         Ok(()) => DONE,
         Err(fault) => tell_fault(faults, fault),
     }
@@ -513,17 +516,18 @@ pub fn serve<
         (job_settings w.options) w.options.counted w.part
         (R.remaining reader.old) (R.remaining reader.new)
         (W.contents writer.old) (W.contents writer.new) }
-    ensures gather { (o : Gathered) → IsGather (texts_of words.now) o → result ≡ 0 → GathersJob
-        (job_settings o) o.counted (R.remaining reader.old) (R.remaining reader.new)
+    ensures gather { (w : Gathered) → IsGather (texts_of words.now) w → result ≡ 0 → GathersJob
+        (job_settings w.options) w.options.counted
+        (R.remaining reader.old) (R.remaining reader.new)
         (W.contents writer.old) (W.contents writer.new) }
     // A node and a gathering are done only where no call failed.
     ensures node_read { (w : Noded) → IsNode (texts_of words.now) w → result ≡ 0 →
         R.failed_calls reader.new ≡ R.failed_calls reader.old }
     ensures node_written { (w : Noded) → IsNode (texts_of words.now) w → result ≡ 0 →
         W.failed_calls writer.new ≡ W.failed_calls writer.old }
-    ensures gather_read { (o : Gathered) → IsGather (texts_of words.now) o → result ≡ 0 →
+    ensures gather_read { (w : Gathered) → IsGather (texts_of words.now) w → result ≡ 0 →
         R.failed_calls reader.new ≡ R.failed_calls reader.old }
-    ensures gather_written { (o : Gathered) → IsGather (texts_of words.now) o → result ≡ 0 →
+    ensures gather_written { (w : Gathered) → IsGather (texts_of words.now) w → result ≡ 0 →
         W.failed_calls writer.new ≡ W.failed_calls writer.old }
     ensures few { (w : Run) → IsRun (texts_of words.now) w → w.counted ≡ true →
         ReadsFew (R.remaining reader.old) (R.remaining reader.new) }
@@ -548,9 +552,10 @@ pub fn serve<
     ensures one_begun { (w : Replayed) → IsReplay (texts_of words.now) w → result ≡ 1 →
         BeginsToServe w (R.remaining reader.old)
         W.contents W.failed_calls writer.old writer.new }
-    ensures gather_begun { (o : Gathered) → IsGather (texts_of words.now) o → result ≡ 1 →
+    ensures gather_begun { (w : Gathered) → IsGather (texts_of words.now) w → result ≡ 1 →
         KeptOrFailed W.contents W.failed_calls writer.old writer.new ⊎ GathersFrontOfJob
-        (job_settings o) o.counted (R.remaining reader.old) (R.remaining reader.new)
+        (job_settings w.options) w.options.counted
+        (R.remaining reader.old) (R.remaining reader.new)
         (W.contents writer.old) (W.contents writer.new) }
     ensures silent { result ≡ 0 → AsksProgress (texts_of words.now) false →
         Keeps (F.contents faults.old) (F.contents faults.new) }
@@ -559,7 +564,7 @@ pub fn serve<
         Ok(Wish::Run(said)) => serve_run(rt, said, reader, writer, faults),
         Ok(Wish::Replay(words)) => serve_replay(rt, &words, reader, writer, faults),
         Ok(Wish::Node(words)) => serve_node(rt, &words, reader, writer, faults),
-        Ok(Wish::Gather(options)) => serve_gather(rt, &options, reader, writer, faults),
+        Ok(Wish::Gather(words)) => serve_gather(rt, &words, reader, writer, faults),
         Err(error) => tell_words(rt.alloc(), &error, writer, faults),
     }
 }

@@ -22,8 +22,8 @@ ghost use Rattle.hyperball.specs.Words.{AsksProgress, GivesProgress, IsFlag, Say
 ghost use Rattle.hyperball.specs.Words.{SaysProgress};
 ghost use Rattle.hyperball.specs.Nodes.{AsksGather, AsksNode, IsGather, IsGatherOf, IsNode, IsNodeOf};
 ghost use Rattle.hyperball.specs.Nodes.{NamesGather, NamesNode};
+ghost use Rattle.hyperball.specs.declared.node_words.GatherWords.{GatherWords as Gathered};
 ghost use Rattle.hyperball.specs.declared.node_words.NodeWords.{NodeWords as Noded};
-ghost use Rattle.node.specs.declared.job.JobOptions.{JobOptions as Gathered};
 ghost use Rattle.hyperball.specs.Words.{delimiter_name, estimate_name, texts_of};
 ghost use Rattle.ball_model.specs.declared.plan.Estimate.{Estimate as Made};
 ghost use Rattle.ball_model.specs.declared.plan.Estimate.TheVariants.{Raw};
@@ -31,7 +31,9 @@ ghost use Rattle.edgelist.specs.declared.read.Delimiter.{Delimiter as Between};
 ghost use Rattle.edgelist.specs.declared.read.Delimiter.TheVariants.{Tab};
 
 use crate::job_words::{add_job, job_options_of};
-use crate::node_words::{NodeWords, gather_command, node_command, node_words_of};
+use crate::node_words::{
+    GatherWords, NodeWords, gather_command, gather_words_of, node_command, node_words_of,
+};
 use crate::options::{Options, Orders, USUAL};
 use crate::orders::{OrdersError, orders_in};
 use crate::replay_words::{ReplayWords, replay_command, replay_words_of};
@@ -39,7 +41,6 @@ use ball_model::{Estimate, NodeId};
 use clap::builder::ValueParser;
 use clap::{Arg, ArgAction, ArgMatches, Command, Error, value_parser};
 use edgelist::Delimiter;
-use node::job::JobOptions;
 use std::alloc::{AllocError, Global};
 
 /// The names that `--delimiter` takes.
@@ -128,7 +129,7 @@ const COUNTED_HELP: &str =
     "Count only the vertices listed after the edge list and a line %%: how near are they?";
 
 const PROGRESS_HELP: &str =
-    "Tell how it gets on, in lines on standard error: what was read, each superstep or close, the end";
+    "Tell how it gets on, in lines on standard error: what was read, each superstep, close or checkpoint, the end";
 
 /// What the words of a run say.
 #[derive(Clone, Copy, Debug, PartialEq, Eq)]
@@ -428,7 +429,7 @@ pub enum Wish {
     /// A node of a partition.
     Node(NodeWords),
     /// The report of checkpoints.
-    Gather(JobOptions),
+    Gather(GatherWords),
 }
 
 /// Why words are no command.
@@ -475,11 +476,11 @@ fn wish_of(alloc: Global, matches: &ArgMatches<'_>) -> Result<Wish, WordsError>
         NamesReplay (subcommand_rows_of matches.now) }
     ensures node { (w : Noded) → IsNodeOf (subcommand_rows_of matches.now) w →
         result ≡ Ok (Wish.Node w) }
-    ensures gather { (o : Gathered) → IsGatherOf (subcommand_rows_of matches.now) o →
-        result ≡ Ok (Wish.Gather o) }
+    ensures gather { (w : Gathered) → IsGatherOf (subcommand_rows_of matches.now) w →
+        result ≡ Ok (Wish.Gather w) }
     ensures names_node { (w : Noded) → result ≡ Ok (Wish.Node w) →
         NamesNode (subcommand_rows_of matches.now) }
-    ensures names_gather { (o : Gathered) → result ≡ Ok (Wish.Gather o) →
+    ensures names_gather { (w : Gathered) → result ≡ Ok (Wish.Gather w) →
         NamesGather (subcommand_rows_of matches.now) }
     ensures orders { IfOk result (SaysListed (subcommand_rows_of matches.now)) }
     ensures progress { (b : Bool) → GivesProgress (subcommand_rows_of matches.now) b →
@@ -491,7 +492,7 @@ fn wish_of(alloc: Global, matches: &ArgMatches<'_>) -> Result<Wish, WordsError>
     match matches.subcommand().unwrap() {
         ("replay", inner) => Ok(Wish::Replay(replay_words_of(inner))),
         ("node", inner) => Ok(Wish::Node(node_words_of(inner))),
-        ("gather", inner) => Ok(Wish::Gather(job_options_of(inner))),
+        ("gather", inner) => Ok(Wish::Gather(gather_words_of(inner))),
         _ => match run_words(alloc, matches) {
             Ok(said) => Ok(Wish::Run(said)),
             Err(error) => Err(error),
@@ -508,10 +509,10 @@ pub fn read_words(alloc: Global, words: &[String]) -> Result<Wish, WordsError>
     ensures asks { (w : Replayed) → result ≡ Ok (Wish.Replay w) → AsksReplay (texts_of words.now) }
     ensures node { (w : Noded) → IsNode (texts_of words.now) w →
         IfOk result (λ wish. wish ≡ Wish.Node w) }
-    ensures gather { (o : Gathered) → IsGather (texts_of words.now) o →
-        IfOk result (λ wish. wish ≡ Wish.Gather o) }
+    ensures gather { (w : Gathered) → IsGather (texts_of words.now) w →
+        IfOk result (λ wish. wish ≡ Wish.Gather w) }
     ensures asks_node { (w : Noded) → result ≡ Ok (Wish.Node w) → AsksNode (texts_of words.now) }
-    ensures asks_gather { (o : Gathered) → result ≡ Ok (Wish.Gather o) →
+    ensures asks_gather { (w : Gathered) → result ≡ Ok (Wish.Gather w) →
         AsksGather (texts_of words.now) }
     ensures orders { IfOk result (SaysOrders (texts_of words.now)) }
     ensures progress { (b : Bool) → AsksProgress (texts_of words.now) b →

@@ -221,6 +221,61 @@ fn the_report_is_gathered(rt: HostRuntime) -> Result<(), Fail> {
     ends(&rt, 1, GATHER, &input, b"", told)
 }
 
+// Adds what a node is asked that is brought these batches, and gives its checkpoint at the end.
+fn add_asked<H: AllocGlobal>(
+    rt: &H,
+    send: &[u8],
+    brought: &[&[u8]],
+    input: &mut Vec<u8>,
+) -> Result<(), AllocError> {
+    input.extend_from_slice(b"a\tb\nb\tc\n%%\n".as_slice())?;
+    add_supersteps(rt, send, brought, input)?;
+    input.extend_from_slice(b"keep\n".as_slice())?;
+    Ok(())
+}
+
+// What such a node writes.
+fn kept_at_end<H: AllocGlobal + Clock + RandomSource + Threads + Wait + Sync>(
+    rt: &H,
+    line: &str,
+    send: &[u8],
+    brought: &[&[u8]],
+) -> Result<Served, AllocError> {
+    let mut input = Vec::new(rt.alloc());
+    add_asked(rt, send, brought, &mut input)?;
+    serve_input(rt, line, input.as_slice())
+}
+
+// Adds a checkpoint, behind its line.
+fn add_part<H: AllocGlobal>(rt: &H, kept: &[u8], input: &mut Vec<u8>) -> Result<(), AllocError> {
+    let line = format!(in rt.alloc(); "part {}\n", kept.len())?;
+    input.extend_from_slice(line.as_bytes())?;
+    input.extend_from_slice(kept)?;
+    Ok(())
+}
+
+// Adds the checkpoint of a node at the end, where it is brought these batches.
+fn add_kept<H: AllocGlobal + Clock + RandomSource + Threads + Wait + Sync>(
+    rt: &H,
+    line: &str,
+    send: &[u8],
+    brought: &[&[u8]],
+    input: &mut Vec<u8>,
+) -> Result<(), AllocError> {
+    let served = kept_at_end(rt, line, send, brought)?;
+    add_part(rt, kept_in(&served.output), input)
+}
+
+/// Adds what a gathering of the two nodes reads.
+pub fn add_both_kept<H: AllocGlobal + Clock + RandomSource + Threads + Wait + Sync>(
+    rt: &H,
+    input: &mut Vec<u8>,
+) -> Result<(), AllocError> {
+    input.extend_from_slice(b"a\tb\nb\tc\n%%\n".as_slice())?;
+    add_kept(rt, NODE_0, b"send 1\n", &SECOND_BATCHES, input)?;
+    add_kept(rt, NODE_1, b"send 0\n", &FIRST_BATCHES, input)
+}
+
 // Where a list stands behind the edge list, it alone is counted.
 #[test]
 fn a_node_counts_a_list(rt: HostRuntime) -> Result<(), Fail> {

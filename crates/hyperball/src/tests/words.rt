@@ -3,14 +3,16 @@
 use super::*;
 use crate::laws::{
     lists_of_orders, words_of_a_node, words_of_a_replay, words_of_a_run, words_of_no_command,
-    words_of_no_node, words_of_no_replay, words_of_no_run, words_of_one_command,
+    words_of_no_node, words_of_no_replay, words_of_no_run, words_of_one_command, words_of_progress,
 };
+use crate::node_words::{GatherWords, NodeWords};
 use crate::options::Options;
 use crate::orders::{OrdersError, orders_in};
 use crate::whole::WholeError;
 use crate::words::{RunWords, Said, Wish, read_words};
 use ball_model::{Estimate, NodeId, PlanError};
 use edgelist::{CountedError, Delimiter, EdgeError};
+use node::job::JobOptions;
 use std::fmt::Display;
 use workers::RunError;
 
@@ -123,7 +125,7 @@ fn explains(text: &str, name: &str, help: &str) -> bool {
 }
 
 // What stands behind what in the help of a run: its example, and each option.
-static HELPS: [(&str, &str); 14] = [
+static HELPS: [(&str, &str); 15] = [
     ("hyperball run --log2m 8 <", " edges.tsv > report.csv"),
     ("--log2m <", "Counters of 2^log2m bytes"),
     ("--seed <", "Seed under which"),
@@ -138,10 +140,11 @@ static HELPS: [(&str, &str); 14] = [
     ("--patience <", "Idle turns"),
     ("--lose <", "that are lost"),
     ("--restart <", "start anew"),
+    ("--progress", "each superstep"),
 ];
 
 // The same of a node.
-static NODE_HELPS: [(&str, &str); 11] = [
+static NODE_HELPS: [(&str, &str); 12] = [
     ("| hyperball node --log2m 4", "closed 1"),
     ("--log2m <", "Counters of 2^log2m bytes"),
     ("--seed <", "Seed under which"),
@@ -151,12 +154,13 @@ static NODE_HELPS: [(&str, &str); 11] = [
     ("--delimiter <", "What stands between"),
     ("--counted\n ", "Count only"),
     ("--part <", "Partition of this node"),
+    ("--progress", "close or checkpoint"),
     ("send Q ", "sent T P Q"),
     ("recover L ", "merged T"),
 ];
 
 // The same of a gathering.
-static GATHER_HELPS: [(&str, &str); 8] = [
+static GATHER_HELPS: [(&str, &str); 9] = [
     ("hyperball gather --parts 2", " > report.csv"),
     ("--log2m <", "Counters of 2^log2m bytes"),
     ("--seed <", "Seed under which"),
@@ -165,6 +169,7 @@ static GATHER_HELPS: [(&str, &str); 8] = [
     ("--estimate <", "near the true size"),
     ("--delimiter <", "What stands between"),
     ("--counted\n ", "Count only"),
+    ("--progress", "close or checkpoint"),
 ];
 
 // All of these are explained.
@@ -251,7 +256,7 @@ fn refuses<H: AllocGlobal + Clock + RandomSource + Threads + Wait + Sync>(
 
 const ORDERS: &[u8] = b"hyperball: an order is P.K@S, with commas between orders\n";
 
-static MISTAKES: [(&str, &[u8]); 31] = [
+static MISTAKES: [(&str, &[u8]); 33] = [
     ("hyperball", b"error: 'hyperball' requires a subcommand"),
     (
         "hyperball replays",
@@ -302,6 +307,8 @@ static MISTAKES: [(&str, &[u8]); 31] = [
         "hyperball gather --part 0",
         b"error: unexpected argument '--part'",
     ),
+    ("hyperball node --progress=1", b"error: "),
+    ("hyperball gather --progress=1", b"error: "),
 ];
 
 #[test]
@@ -368,7 +375,85 @@ fn words_are_read(rt: HostRuntime) -> Result<(), Fail> {
     words_of_no_node();
     words_of_no_command();
     words_of_one_command();
+    words_of_progress();
     lists_of_orders();
+    Ok(())
+}
+
+// The options of a job where none is given.
+const JOB: JobOptions = JobOptions {
+    log2m: 8,
+    seed: 0,
+    parts: 1,
+    limit: 4096,
+    estimate: Estimate::Raw,
+    delimiter: Delimiter::Tab,
+    counted: false,
+};
+
+// The words are read as those of a node of this partition, which tells its progress or not.
+fn is_node(wish: &Wish, part: u16, progress: bool) -> bool {
+    match wish {
+        Wish::Node(words) => {
+            *words
+                == NodeWords {
+                    options: JOB,
+                    part,
+                    progress,
+                }
+        }
+        Wish::Run(_) | Wish::Replay(_) | Wish::Gather(_) => false,
+    }
+}
+
+// The same of a gathering.
+fn is_gathering(wish: &Wish, progress: bool) -> bool {
+    match wish {
+        Wish::Gather(words) => {
+            *words
+                == GatherWords {
+                    options: JOB,
+                    progress,
+                }
+        }
+        Wish::Run(_) | Wish::Replay(_) | Wish::Node(_) => false,
+    }
+}
+
+// The words of a line are read so.
+fn says_node<H: AllocGlobal>(rt: &H, line: &str, part: u16, progress: bool) -> Result<bool, Fail> {
+    Ok(is_node(&said(rt, line)?, part, progress))
+}
+
+fn says_gathering<H: AllocGlobal>(rt: &H, line: &str, progress: bool) -> Result<bool, Fail> {
+    Ok(is_gathering(&said(rt, line)?, progress))
+}
+
+// Words of a node or of a gathering that ask for progress or not.
+static NODE_WORDS: [(&str, u16, bool); 3] = [
+    ("hyperball node", 0, false),
+    ("hyperball node --part 3", 3, false),
+    ("hyperball node --progress --part 3", 3, true),
+];
+
+static GATHER_WORDS: [(&str, bool); 2] = [
+    ("hyperball gather", false),
+    ("hyperball gather --progress", true),
+];
+
+#[test]
+fn words_of_nodes_are_read(rt: HostRuntime) -> Result<(), Fail> {
+    for (line, part, progress) in &NODE_WORDS {
+        assert!(rt; says_node(&rt, line, *part, *progress)?, "{line}");
+    }
+    Ok(())
+}
+
+#[test]
+fn words_of_gatherings_are_read(rt: HostRuntime) -> Result<(), Fail> {
+    for (line, progress) in &GATHER_WORDS {
+        assert!(rt; says_gathering(&rt, line, *progress)?, "{line}");
+    }
     Ok(())
 }
 

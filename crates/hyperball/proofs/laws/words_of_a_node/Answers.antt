@@ -2,7 +2,7 @@ use Rattle.std.proofs.Common.{◌≡◌, List, [], ◌∷◌, codes, refl, lit<}
 use Rattle.clap.specs.Words.{Text, fault_of, subcommand_of}
 use Rattle.clap.proofs.OnLiterals.{clap_on_literals}
 use Rattle.hyperball.specs.CommandLine.{gather_app, hyperball_app, node_app, replay_app, run_app}
-use Rattle.hyperball.specs.LawWords.{gathered_job, third_node, usual_node}
+use Rattle.hyperball.specs.LawWords.{gathered_job, telling_gathering, telling_node, third_node, usual_node}
 use Rattle.hyperball.specs.Nodes.{IsGatherOf, IsNodeOf}
 use Rattle.hyperball.proofs.NameLemmas.{of_names}
 use Rattle.hyperball.proofs.laws.words_of_a_node.Goals as goal
@@ -20,6 +20,7 @@ returns-clause-usual c = record {
     record {
       options = record { log2m = refl; seed = refl; parts = refl; limit = refl; estimate = refl; delimiter = refl; counted = refl };
       part = refl;
+      progress = refl;
     },
   ));
 }
@@ -45,6 +46,7 @@ returns-clause-third c = record {
         counted = refl;
       };
       part = record { numeral = (lit< tt, (lit< tt, tt)); value = refl; fits = lit< tt };
+      progress = refl;
     },
   ));
 }
@@ -60,13 +62,51 @@ returns-clause-gather c = record {
     _,
     refl,
     record {
-      log2m = refl;
-      seed = refl;
-      parts = record { numeral = (lit< tt, (lit< tt, tt)); value = refl; fits = lit< tt };
-      limit = refl;
-      estimate = refl;
-      delimiter = refl;
-      counted = refl;
+      options = record {
+        log2m = refl;
+        seed = refl;
+        parts = record { numeral = (lit< tt, (lit< tt, tt)); value = refl; fits = lit< tt };
+        limit = refl;
+        estimate = refl;
+        delimiter = refl;
+        counted = refl;
+      };
+      progress = refl;
+    },
+  ));
+}
+
+abbrev telling_line : List Text
+telling_line = codes "hyperball" ∷ codes "node" ∷ codes "--progress" ∷ []
+
+pub returns-clause-telling : goal.returns-clause-telling
+unfolding clap_on_literals hyperball_app gather_app node_app replay_app run_app
+returns-clause-telling c = record {
+  accepted = record { are = of_names (λ p. fault_of (hyperball_app p) telling_line ≡ []) (λ at. refl) };
+  command = of_names (λ p. IsNodeOf (subcommand_of (hyperball_app p) telling_line) telling_node) (λ at. (
+    _,
+    refl,
+    record {
+      options = record { log2m = refl; seed = refl; parts = refl; limit = refl; estimate = refl; delimiter = refl; counted = refl };
+      part = refl;
+      progress = refl;
+    },
+  ));
+}
+
+abbrev telling_gather_line : List Text
+telling_gather_line = codes "hyperball" ∷ codes "gather" ∷ codes "--progress" ∷ []
+
+pub returns-clause-telling_gather : goal.returns-clause-telling_gather
+unfolding clap_on_literals hyperball_app gather_app node_app replay_app run_app
+returns-clause-telling_gather c = record {
+  accepted = record { are = of_names (λ p. fault_of (hyperball_app p) telling_gather_line ≡ []) (λ at. refl) };
+  command = of_names (λ p. IsGatherOf (subcommand_of (hyperball_app p) telling_gather_line) telling_gathering) (λ at. (
+    _,
+    refl,
+    record {
+      options = record { log2m = refl; seed = refl; parts = refl; limit = refl; estimate = refl; delimiter = refl; counted = refl };
+      progress = refl;
     },
   ));
 }

@@ -1,8 +1,7 @@
 use Rattle.std.proofs.Common.{◌≡◌, List, Option, Some, ap, arith, codes, refl, slice_index, subst, sym}
 use Rattle.std.specs.Prelude.{option_map}
 use Rattle.clap.specs.Words.{Row, Text}
-use Rattle.hyperball.specs.CommandLine.{Parsers}
-use Rattle.hyperball.proofs.NameLemmas.{parsers_at}
+use Rattle.hyperball.proofs.NameLemmas.{some_parsers}
 use Rattle.hyperball.proofs.laws.words_of_one_command.Goals as goal
 
 -- the name of a subcommand
@@ -36,10 +35,6 @@ node_replay same = absurd (cc)
 
 node_gather : codes "node" ≡ codes "gather" → ⊥
 node_gather same = absurd (cc)
-
--- some parsers
-abbrev some_parsers : Parsers
-some_parsers = parsers_at (record { estimates = (0, 0); raw = (0, 0); corrected = (0, 0); delimiters = (0, 0); tab = (0, 0); comma = (0, 0); space = (0, 0) })
 
 pub returns-clause-run : goal.returns-clause-run
 returns-clause-run c = λ words w is asks.
@@ -77,7 +72,7 @@ returns-clause-node c = λ words w is.
     record { parsers = some_parsers; take = (refl, refl); named = ap (λ (o : Option (Text × List Row)). name_of o) node.1 }
 
 pub returns-clause-gather : goal.returns-clause-gather
-returns-clause-gather c = λ words o is.
+returns-clause-gather c = λ words w is.
     let gather = is.command some_parsers (refl, refl) in
     record { parsers = some_parsers; take = (refl, refl); named = ap (λ (o : Option (Text × List Row)). name_of o) gather.1 }
 
@@ -92,11 +87,11 @@ returns-clause-node_gather c = λ words w is asks.
     one_name _ _ node_gather _ node.0 node.1 asks.named
 
 pub returns-clause-gather_replay : goal.returns-clause-gather_replay
-returns-clause-gather_replay c = λ words o is asks.
+returns-clause-gather_replay c = λ words w is asks.
     let gather = is.command asks.parsers asks.take in
     one_name _ _ (λ same. replay_gather (sym same)) _ gather.0 gather.1 asks.named
 
 pub returns-clause-gather_node : goal.returns-clause-gather_node
-returns-clause-gather_node c = λ words o is asks.
+returns-clause-gather_node c = λ words w is asks.
     let gather = is.command asks.parsers asks.take in
     one_name _ _ (λ same. node_gather (sym same)) _ gather.0 gather.1 asks.named

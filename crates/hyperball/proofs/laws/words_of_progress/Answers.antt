@@ -3,8 +3,8 @@ use Rattle.std.specs.Prelude.{MatchOption, None, Some}
 use Rattle.clap.specs.Words.{Row, Text, subcommand_of}
 use Rattle.clap.proofs.OnLiterals.{clap_on_literals}
 use Rattle.hyperball.specs.CommandLine.{gather_app, hyperball_app, node_app, replay_app, run_app}
-use Rattle.hyperball.specs.Words.{GivesProgress, flag_text}
-use Rattle.hyperball.proofs.NameLemmas.{of_names, parsers_at}
+use Rattle.hyperball.specs.Words.{AsksProgress, GivesProgress, HasFaults, flag_text}
+use Rattle.hyperball.proofs.NameLemmas.{of_names, some_parsers}
 use Rattle.hyperball.proofs.laws.words_of_progress.Goals as goal
 
 abbrev run_line : List Text
@@ -25,6 +25,24 @@ returns-clause-replay c = record {
   flag = λ p take accepted. of_names (λ q. GivesProgress (subcommand_of (hyperball_app q) replay_line) true) (λ at. refl) p take;
 }
 
+abbrev node_line : List Text
+node_line = codes "hyperball" ∷ codes "node" ∷ codes "--progress" ∷ []
+
+pub returns-clause-node : goal.returns-clause-node
+unfolding clap_on_literals hyperball_app gather_app node_app replay_app run_app
+returns-clause-node c = record {
+  flag = λ p take accepted. of_names (λ q. GivesProgress (subcommand_of (hyperball_app q) node_line) true) (λ at. refl) p take;
+}
+
+abbrev gather_line : List Text
+gather_line = codes "hyperball" ∷ codes "gather" ∷ codes "--progress" ∷ []
+
+pub returns-clause-gather : goal.returns-clause-gather
+unfolding clap_on_literals hyperball_app gather_app node_app replay_app run_app
+returns-clause-gather c = record {
+  flag = λ p take accepted. of_names (λ q. GivesProgress (subcommand_of (hyperball_app q) gather_line) true) (λ at. refl) p take;
+}
+
 abbrev plain_line : List Text
 plain_line = codes "hyperball" ∷ codes "run" ∷ codes "--parts" ∷ codes "2" ∷ []
 
@@ -32,6 +50,24 @@ pub returns-clause-plain : goal.returns-clause-plain
 unfolding clap_on_literals hyperball_app gather_app node_app replay_app run_app
 returns-clause-plain c = record {
   flag = λ p take accepted. of_names (λ q. GivesProgress (subcommand_of (hyperball_app q) plain_line) false) (λ at. refl) p take;
+}
+
+abbrev plain_node_line : List Text
+plain_node_line = codes "hyperball" ∷ codes "node" ∷ []
+
+pub returns-clause-plain_node : goal.returns-clause-plain_node
+unfolding clap_on_literals hyperball_app gather_app node_app replay_app run_app
+returns-clause-plain_node c = record {
+  flag = λ p take accepted. of_names (λ q. GivesProgress (subcommand_of (hyperball_app q) plain_node_line) false) (λ at. refl) p take;
+}
+
+abbrev plain_gather_line : List Text
+plain_gather_line = codes "hyperball" ∷ codes "gather" ∷ codes "--parts=3" ∷ []
+
+pub returns-clause-plain_gather : goal.returns-clause-plain_gather
+unfolding clap_on_literals hyperball_app gather_app node_app replay_app run_app
+returns-clause-plain_gather c = record {
+  flag = λ p take accepted. of_names (λ q. GivesProgress (subcommand_of (hyperball_app q) plain_gather_line) false) (λ at. refl) p take;
 }
 
 pub returns-clause-refused : goal.returns-clause-refused
@@ -46,11 +82,30 @@ both : (one : Option Text) → MatchOption one (true ≡ false) (λ text. text �
 both None asked plain = absurd (cc)
 both (Some text) asked plain = different (sym asked ∙ plain)
 
+-- accepted words of a subcommand
+never_both : (words : List Text) (name : Text) (rows : List Row) → HasFaults words [] → subcommand_of (hyperball_app some_parsers) words ≡ Some (name, rows) → AsksProgress words true → AsksProgress words false → ⊥
+never_both words name rows accepted is asked plain =
+    let none = accepted.are some_parsers (refl, refl) in
+    both _
+    (subst (λ (sub : Option (Text × List Row)). GivesProgress sub true) is (asked.flag some_parsers (refl, refl) none))
+    (subst (λ (sub : Option (Text × List Row)). GivesProgress sub false) is (plain.flag some_parsers (refl, refl) none))
+
 pub returns-clause-one : goal.returns-clause-one
 returns-clause-one c = λ words w is asked plain.
-    let p = parsers_at (record { estimates = (0, 0); raw = (0, 0); corrected = (0, 0); delimiters = (0, 0); tab = (0, 0); comma = (0, 0); space = (0, 0) }) in
-    let run = is.command p (refl, refl) in
-    let accepted = is.accepted.are p (refl, refl) in
-    both _
-    (subst (λ (sub : Option (Text × List Row)). GivesProgress sub true) run.1 (asked.flag p (refl, refl) accepted))
-    (subst (λ (sub : Option (Text × List Row)). GivesProgress sub false) run.1 (plain.flag p (refl, refl) accepted))
+    let command = is.command some_parsers (refl, refl) in
+    never_both _ _ command.0 is.accepted command.1 asked plain
+
+pub returns-clause-one_replay : goal.returns-clause-one_replay
+returns-clause-one_replay c = λ words w is asked plain.
+    let command = is.command some_parsers (refl, refl) in
+    never_both _ _ command.0 is.accepted command.1 asked plain
+
+pub returns-clause-one_node : goal.returns-clause-one_node
+returns-clause-one_node c = λ words w is asked plain.
+    let command = is.command some_parsers (refl, refl) in
+    never_both _ _ command.0 is.accepted command.1 asked plain
+
+pub returns-clause-one_gather : goal.returns-clause-one_gather
+returns-clause-one_gather c = λ words w is asked plain.
+    let command = is.command some_parsers (refl, refl) in
+    never_both _ _ command.0 is.accepted command.1 asked plain

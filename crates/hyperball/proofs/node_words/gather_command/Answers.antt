@@ -5,4 +5,6 @@ use Rattle.hyperball.proofs.node_words.gather_command.Goals as goal
 
 pub returns : goal.returns
 unfolding gather_app
-returns c = c.add_job.ensures (new_app (codes "gather")) c.bare_gather.ensures
+returns c =
+    let job = c.in_ok-command.ensures (new_app (codes "gather")) c.bare_gather.ensures in
+    c.add_progress.ensures _ job

@@ -9,9 +9,9 @@ use Rattle.node.specs.Gathering.{GathersJob}
 use Rattle.node.specs.Job.{settings_in}
 use Rattle.node.specs.NoReport.{GathersFrontOfJob}
 use Rattle.node.specs.Serving.{ServesNode}
-use Rattle.node.specs.declared.job.JobOptions.{JobOptions}
+use Rattle.hyperball.specs.declared.node_words.GatherWords.{GatherWords}
 use Rattle.hyperball.specs.declared.node_words.NodeWords.{NodeWords}
-use Rattle.hyperball.proofs.NodeLemmas.{gather_no_replay, gather_no_run, node_no_gather, node_no_replay, node_no_run, replay_no_gather, replay_no_node, run_no_gather, run_no_node, same_gather, same_node}
+use Rattle.hyperball.proofs.NodeLemmas.{gather_no_replay, gather_no_run, gather_tells, node_no_gather, node_no_replay, node_no_run, node_tells, replay_no_gather, replay_no_node, run_no_gather, run_no_node, same_gather, same_node}
 use Rattle.hyperball.proofs.serve.serve.Goals as goal
 
 pub returns-in-Err-clause-mistaken : goal.returns-in-Err-clause-mistaken
@@ -93,7 +93,8 @@ pub returns-in-Ok-Node-clause-one_begun : goal.returns-in-Ok-Node-clause-one_beg
 returns-in-Ok-Node-clause-one_begun g c = λ w is one. absurd (node_no_replay _ _ w c.in-Ok-Node.field-0-is (c.in-Ok-Node.ensures.replay w is))
 
 pub returns-in-Ok-Node-clause-silent : goal.returns-in-Ok-Node-clause-silent
-returns-in-Ok-Node-clause-silent g c = λ zero quiet. c.serve_node.ensures.silent zero
+returns-in-Ok-Node-clause-silent g c = λ zero quiet.
+    c.serve_node.ensures.silent zero (node_tells _ _ false c.in-Ok-Node.field-0-is (c.in-Ok-Node.ensures.progress false quiet))
 
 pub returns-in-Ok-Gather-clause-run : goal.returns-in-Ok-Gather-clause-run
 returns-in-Ok-Gather-clause-run g c = λ w is zero. absurd (gather_no_run _ _ w c.in-Ok-Gather.field-0-is (c.in-Ok-Gather.ensures.run w is))
@@ -111,7 +112,8 @@ pub returns-in-Ok-Gather-clause-one_begun : goal.returns-in-Ok-Gather-clause-one
 returns-in-Ok-Gather-clause-one_begun g c = λ w is one. absurd (gather_no_replay _ _ w c.in-Ok-Gather.field-0-is (c.in-Ok-Gather.ensures.replay w is))
 
 pub returns-in-Ok-Gather-clause-silent : goal.returns-in-Ok-Gather-clause-silent
-returns-in-Ok-Gather-clause-silent g c = λ zero quiet. c.serve_gather.ensures.silent zero
+returns-in-Ok-Gather-clause-silent g c = λ zero quiet.
+    c.serve_gather.ensures.silent zero (gather_tells _ _ false c.in-Ok-Gather.field-0-is (c.in-Ok-Gather.ensures.progress false quiet))
 
 pub returns-in-Ok-Node-clause-node : goal.returns-in-Ok-Node-clause-node
 returns-in-Ok-Node-clause-node g c = λ w is zero.
@@ -127,7 +129,7 @@ returns-in-Ok-Node-clause-one_kept g c = λ one. inr (inr (inl (c.in-Ok-Node.ens
 
 pub returns-in-Ok-Gather-clause-gather : goal.returns-in-Ok-Gather-clause-gather
 returns-in-Ok-Gather-clause-gather g c = λ w is zero.
-    subst (λ (v : JobOptions). GathersJob (settings_in v) v.counted (g.R.Read.remaining c.args.reader.now) (g.R.Read.remaining c.serve_gather.new.reader)
+    subst (λ (v : GatherWords). GathersJob (settings_in v.options) v.options.counted (g.R.Read.remaining c.args.reader.now) (g.R.Read.remaining c.serve_gather.new.reader)
     (g.W.Write.contents c.args.writer.now) (g.W.Write.contents c.serve_gather.new.writer))
     (same_gather _ _ w c.in-Ok-Gather.field-0-is (c.in-Ok-Gather.ensures.gather w is)) (c.serve_gather.ensures.done zero)
 
@@ -150,7 +152,7 @@ pub returns-in-Ok-Gather-clause-gather_begun : goal.returns-in-Ok-Gather-clause-
 returns-in-Ok-Gather-clause-gather_begun g c = λ w is one. elim (c.serve_gather.ensures.begun one) [
   | inl keeps ↦ inl (inl keeps)
   | inr front ↦ inr (
-      subst (λ (v : JobOptions). GathersFrontOfJob (settings_in v) v.counted (g.R.Read.remaining c.args.reader.now) (g.R.Read.remaining c.serve_gather.new.reader)
+      subst (λ (v : GatherWords). GathersFrontOfJob (settings_in v.options) v.options.counted (g.R.Read.remaining c.args.reader.now) (g.R.Read.remaining c.serve_gather.new.reader)
       (g.W.Write.contents c.args.writer.now) (g.W.Write.contents c.serve_gather.new.writer))
       (same_gather _ _ w c.in-Ok-Gather.field-0-is (c.in-Ok-Gather.ensures.gather w is)) front)
 ]

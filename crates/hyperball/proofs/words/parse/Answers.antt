@@ -5,7 +5,7 @@ use Rattle.clap.proofs.CallerLemmas.{subcommand_required}
 use Rattle.clap.proofs.OnLiterals.{clap_on_literals}
 use Rattle.hyperball.specs.CommandLine.{Parsers, TakeNames, gather_app, hyperball_app, node_app, replay_app, run_app}
 use Rattle.hyperball.specs.Words.{texts_of}
-use Rattle.hyperball.proofs.NameLemmas.{of_names, parsers_at}
+use Rattle.hyperball.proofs.NameLemmas.{of_names, some_parsers}
 use Rattle.hyperball.proofs.words.parse.Goals as goal
 
 simple : (p : Parsers) → TakeNames p → is_simple (hyperball_app p) ≡ true
@@ -18,7 +18,7 @@ free = of_names (λ p. is_simple_and_free (hyperball_app p) ≡ true) (λ at. re
 
 pub returns-in_err-command-clause-read : goal.returns-in_err-command-clause-read
 returns-in_err-command-clause-read c = record {
-  parsers = parsers_at (record { estimates = (0, 0); raw = (0, 0); corrected = (0, 0); delimiters = (0, 0); tab = (0, 0); comma = (0, 0); space = (0, 0) });
+  parsers = some_parsers;
   take = (refl, refl);
   rows = search rules;
   faults = search rules;

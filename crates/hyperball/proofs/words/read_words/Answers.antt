@@ -49,9 +49,9 @@ returns-in-Ok-clause-node c = λ w is.
     is_node c.wish_of.result w (c.wish_of.ensures.node w (subst (λ (sub : Option (Text × List Row)). IsNodeOf sub w) (sym read.rows) (is.command read.parsers read.take)))
 
 pub returns-in-Ok-clause-gather : goal.returns-in-Ok-clause-gather
-returns-in-Ok-clause-gather c = λ o is.
+returns-in-Ok-clause-gather c = λ w is.
     let read = c.in-Ok.ensures.read in
-    is_gather c.wish_of.result o (c.wish_of.ensures.gather o (subst (λ (sub : Option (Text × List Row)). IsGatherOf sub o) (sym read.rows) (is.command read.parsers read.take)))
+    is_gather c.wish_of.result w (c.wish_of.ensures.gather w (subst (λ (sub : Option (Text × List Row)). IsGatherOf sub w) (sym read.rows) (is.command read.parsers read.take)))
 
 pub returns-in-Ok-clause-asks_node : goal.returns-in-Ok-clause-asks_node
 returns-in-Ok-clause-asks_node c = λ w is.
@@ -59,6 +59,6 @@ returns-in-Ok-clause-asks_node c = λ w is.
     record { parsers = read.parsers; take = read.take; named = subst NamesNode read.rows (c.wish_of.ensures.names_node w is) }
 
 pub returns-in-Ok-clause-asks_gather : goal.returns-in-Ok-clause-asks_gather
-returns-in-Ok-clause-asks_gather c = λ o is.
+returns-in-Ok-clause-asks_gather c = λ w is.
     let read = c.in-Ok.ensures.read in
-    record { parsers = read.parsers; take = read.take; named = subst NamesGather read.rows (c.wish_of.ensures.names_gather o is) }
+    record { parsers = read.parsers; take = read.take; named = subst NamesGather read.rows (c.wish_of.ensures.names_gather w is) }
