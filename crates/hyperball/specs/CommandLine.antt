@@ -106,8 +106,8 @@ replay_app p =
 
 -- the subcommand `node`
 unfoldable pub node_app : Parsers → App
-node_app p =
-    with_progress (with_rule (with_job p (new_app (codes "node"))) (option_rule (codes "part") number16))
+node_app p = with_progress
+    (with_rule (with_job p (new_app (codes "node"))) (option_rule (codes "part") number16))
 
 -- the subcommand `gather`
 unfoldable pub gather_app : Parsers → App

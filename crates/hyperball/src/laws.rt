@@ -10,8 +10,8 @@ ghost use Rattle.clap.specs.declared.error.kind.ErrorKind.TheVariants.{UnknownAr
 ghost use Rattle.clap.specs.declared.error.kind.ErrorKind.TheVariants.{ValueValidation};
 ghost use Rattle.hyperball.specs.LawWords.{board_words, corrected_words, counted_words, log2m_words};
 ghost use Rattle.hyperball.specs.LawWords.{node_words, replayed_input, replayed_plan, space_words};
-ghost use Rattle.hyperball.specs.LawWords.{gathered_job, telling_gathering, telling_node, third_node};
-ghost use Rattle.hyperball.specs.LawWords.{usual_node, usual_replay};
+ghost use Rattle.hyperball.specs.LawWords.{gathered_job, telling_gathering, telling_node};
+ghost use Rattle.hyperball.specs.LawWords.{third_node, usual_node, usual_replay};
 ghost use Rattle.hyperball.specs.LawWords.{one_order, two_orders};
 ghost use Rattle.hyperball.specs.Orders.{AreOrders};
 ghost use Rattle.hyperball.specs.Nodes.{AsksGather, AsksNode, IsGather, IsNode};

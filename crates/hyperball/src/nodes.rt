@@ -50,8 +50,8 @@ pub enum GatherFault {
     Gather(GatherError),
 }
 
-/// A node of these words, which answers the commands in the input until that ends. Where there is a teller, it tells how
-/// the node gets on.
+/// A node of these words, which answers the commands in the input until that ends. Where there is a teller, it tells
+/// how the node gets on.
 ///
 /// Without random words nothing is read, and nothing answered; where there is no job, nothing is answered; what was
 /// answered before a request that cannot be read stands.
@@ -129,7 +129,8 @@ pub fn gather_by<
     reader: &mut R,
     writer: &mut W,
 ) -> Result<(), GatherFault>
-    ensures gathered { OnOk result (GathersJob (settings_in words.now.options) words.now.options.counted
+    ensures gathered { OnOk result (GathersJob
+        (settings_in words.now.options) words.now.options.counted
         (R.remaining reader.old) (R.remaining reader.new)
         (W.contents writer.old) (W.contents writer.new)) }
     // Which refusal it is.

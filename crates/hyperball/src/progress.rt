@@ -1,7 +1,7 @@
 //! What is told of how a command gets on, where that is asked for.
 //!
-//! [`Faults`] hands out what tells it. Of a run [`Progress`] says what, and its [`TellingGate`] says when; a replay, a node
-//! and a gathering have a [`TellingWatch`]. Each line begins with `hyperball: `, as a fault does; one that cannot be
+//! [`Faults`] hands out what tells it. Of a run [`Progress`] says what, and its [`TellingGate`] says when; a replay, a
+//! node and a gathering have a [`TellingWatch`]. Each line begins with `hyperball: `, as a fault does; one that cannot be
 //! written is dropped.
 
 use ball_model::NodeId;
