@@ -28,25 +28,15 @@ impl Write for Holding {
 
 // How often a node of two that answers all commands passes something on, and whether something waits at the end.
 fn passed_on(rt: &HostRuntime, input: &[u8]) -> Option<(u32, bool)> {
-    let state = RandomState::new(rt).ok()?;
-    let mut reader = MemReader::new(input, None);
     let mut writer = CountingWriter::new(Holding {
         waits: false,
         passed: 0,
     });
-    let end = serve_node(
-        rt.alloc(),
-        state,
-        &options(2, false),
-        0,
-        &Unwatched,
-        &mut reader,
-        &mut writer,
-    );
+    let end = end_of(rt, &options(2, false), 0, input, &Unwatched, &mut writer);
     let held = writer.into_inner();
     match end {
-        Ok(()) => Some((held.passed, held.waits)),
-        Err(_) => None,
+        Some(Ok(())) => Some((held.passed, held.waits)),
+        _ => None,
     }
 }
 

@@ -1,14 +1,13 @@
 //! What a watch is told of a node and of a gathering.
 
+use super::gathering::{Gathering, REPORT, gathers};
+use super::vectors::*;
 use super::*;
-use crate::error::GatherError;
-use crate::gather::gather;
 use ball_model::NodeId;
 use std::alloc::AllocGlobal;
 use std::random::RandomSource;
 use std::sync::atomic::{AtomicU64, Ordering};
 use std::thread::Threads;
-use world::watch::Watch;
 
 /// The numbers of its calls, a digit each, one behind the other.
 #[derive(Drop)]
@@ -53,42 +52,21 @@ impl Watch for Digits {
     }
 }
 
-/// What a node writes to an input, where all commands are answered, and what its watch is told.
-fn watched_node(
-    rt: &HostRuntime,
-    options: &JobOptions,
-    part: u16,
-    input: &[u8],
-) -> Option<(Vec<u8>, u64)> {
-    let state = RandomState::new(rt).ok()?;
-    let mut writer = MemWriter::with_room(rt.alloc(), 4096, None).ok()?;
-    let mut reader = MemReader::new(input, None);
-    let watch = Digits::new();
-    serve_node(
-        rt.alloc(),
-        state,
-        options,
-        part,
-        &watch,
-        &mut reader,
-        &mut writer,
-    )
-    .ok()?;
-    Some((writer.into_bytes(), watch.told()))
-}
-
 /// A node that goes on, starts anew, and runs to its end. The counter of b takes over that of a at superstep 1, which has
 /// other registers; at superstep 2 nothing changes.
-static ANEW: &[u8] = b"a\tb\n%%\nclose\nrestart 0\nclose\nclose\nclose\n";
-
-static ANEW_SAYS: &[u8] = b"closed 1\nrestarted 0\nclosed 1\nclosed 2\nfinished\n";
+static ANEW: Case = Case {
+    parts: 1,
+    counted: false,
+    part: 0,
+    input: &[b"a\tb\n%%\nclose\nrestart 0\nclose\nclose\nclose\n"],
+    text: &[b"closed 1\nrestarted 0\nclosed 1\nclosed 2\nfinished\n"],
+    end: Ok(()),
+};
 
 /// Whether its watch is told of two vertices and one edge, and of the three closes that went on.
 fn node_is_watched(rt: &HostRuntime) -> bool {
-    match watched_node(rt, &options(1, false), 0, ANEW) {
-        Some((text, told)) => text.as_slice() == ANEW_SAYS && told == 21_0112_0112_0202,
-        None => false,
-    }
+    let watch = Digits::new();
+    holds(rt, &ANEW, &watch) && watch.told() == 21_0112_0112_0202
 }
 
 #[test]
@@ -96,41 +74,27 @@ fn a_watch_is_told_of_a_node_that_goes_on(rt: HostRuntime) {
     assert!(rt; node_is_watched(&rt));
 }
 
-/// The input of a gathering of two nodes at the end of their run, where a and c are of the first, and b of the second.
-fn both_kept(rt: &HostRuntime) -> Option<Vec<u8>> {
-    let inputs = whole_run(rt)?;
-    let first = given(rt, 0, &inputs.first, b"keep\n")?;
-    let second = given(rt, 1, &inputs.second, b"keep\n")?;
-    let mut input = joined(rt.alloc(), &[TWO_EDGES]).ok()?;
-    add_bytes(&mut input, b"part ", &first).ok()?;
-    add_bytes(&mut input, b"part ", &second).ok()?;
-    Some(input)
-}
+/// A gathering of two nodes at the end of their run, where a and c are of the first, and b of the second.
+static BOTH_KEPT: Gathering = Gathering {
+    input: &[
+        TWO_EDGES,
+        b"part 291\n",
+        FIRST_END,
+        b"part 226\n",
+        SECOND_END,
+    ],
+    text: REPORT,
+    end: Ok(()),
+};
 
-/// How a gathering of an input ends, and what its watch is told.
-fn watched_gathering<T: AllocGlobal + RandomSource + Threads + Sync>(
-    rt: &T,
-    input: Option<Vec<u8>>,
-) -> Option<(Result<(), GatherError>, u64)> {
-    let input = input?;
-    let state = RandomState::new(rt).ok()?;
-    let mut writer = MemWriter::with_room(rt.alloc(), 4096, None).ok()?;
-    let mut reader = MemReader::new(&input, None);
+/// Whether its watch is told of three vertices and two edges, and of the two checkpoints.
+fn gathering_is_watched<T: AllocGlobal + RandomSource + Threads + Sync>(rt: &T) -> bool {
     let watch = Digits::new();
-    let end = gather(
-        rt,
-        state,
-        &options(2, false),
-        &watch,
-        &mut reader,
-        &mut writer,
-    );
-    Some((end, watch.told()))
+    gathers(rt, &BOTH_KEPT, &watch) && watch.told() == 32_0302_1301
 }
 
 // The counter of a reaches b at superstep 1 and c at superstep 2. At superstep 3 nothing changes, and the run ends.
 #[test]
 fn a_watch_is_told_of_checkpoints(rt: HostRuntime) {
-    let input = both_kept(&rt);
-    assert!(rt; watched_gathering(&rt, input) == Some((Ok(()), 32_0302_1301)));
+    assert!(rt; gathering_is_watched(&rt));
 }
