@@ -30,26 +30,31 @@ pub(super) struct Gathering {
     pub(super) end: Result<(), GatherError>,
 }
 
+/// How a gathering ends that reads this. What it writes goes to the writer.
+fn end_of_gathering<T: AllocGlobal + RandomSource + Threads + Sync, V: Watch>(
+    rt: &T,
+    input: &[u8],
+    watch: &V,
+    writer: &mut MemWriter,
+) -> Option<Result<(), GatherError>> {
+    let state = RandomState::new(rt).ok()?;
+    let mut reader = MemReader::new(input, None);
+    Some(gather(rt, state, &options(2, false), watch, &mut reader, writer))
+}
+
 /// Whether a gathering that reads this writes and ends as the case says.
 fn gives<T: AllocGlobal + RandomSource + Threads + Sync, V: Watch>(
     rt: &T,
     case: &Gathering,
     input: &[u8],
     watch: &V,
-) -> Option<bool> {
-    let state = RandomState::new(rt).ok()?;
-    let mut writer = MemWriter::with_room(rt.alloc(), 4096, None).ok()?;
-    let mut reader = MemReader::new(input, None);
-    let end = gather(
-        rt,
-        state,
-        &options(2, false),
-        watch,
-        &mut reader,
-        &mut writer,
-    );
+) -> bool {
+    let Ok(mut writer) = MemWriter::with_room(rt.alloc(), 4096, None) else {
+        return false;
+    };
+    let end = end_of_gathering(rt, input, watch, &mut writer);
     let text = writer.into_bytes();
-    Some(end == case.end && text.as_slice() == case.text)
+    end == Some(case.end) && text.as_slice() == case.text
 }
 
 /// Whether a case is as it says.
@@ -59,7 +64,7 @@ pub(super) fn gathers<T: AllocGlobal + RandomSource + Threads + Sync, V: Watch>(
     watch: &V,
 ) -> bool {
     match joined(rt.alloc(), case.input) {
-        Ok(input) => gives(rt, case, &input, watch) == Some(true),
+        Ok(input) => gives(rt, case, &input, watch),
         Err(_) => false,
     }
 }
