@@ -1,7 +1,7 @@
 //! What no clause says: worked answers as bytes, and inputs that are damaged or cut. Counters have 16 registers under
 //! seed 0. Two edges lead from a to b and from b to c; in two partitions a and c are of the first, and b of the second.
-//! Batches and checkpoints are literals that another program prints ([`vectors`]), and all other answers were worked by
-//! hand. A node is served anew for each input, so what it was told before stands at the front of that.
+//! Batches and checkpoints are literals that `bench/vectors.py` prints ([`vectors`]). Other answers are by hand, or of the
+//! same figures. A node is served anew for each input, so what it was told before stands at the front of that.
 
 mod answers;
 mod flushed;
