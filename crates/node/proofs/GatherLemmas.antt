@@ -46,13 +46,17 @@ pub reads_none : (j : Job) (left : Option (List ℕ)) → ReadsAll j 0 left left
 unfolding AreMadeOf
 reads_none j left = record { bodies = []; count = refl; consumed = Consumes-nil left; made = tt }
 
-pub reads_more : (j : Job) (n m : ℕ) (a b c : Option (List ℕ)) (vs : List State) (v : State) → m ≡ n + 1 → ReadsAll j n a b vs → ReadsOne j n b c v → ReadsAll j m a c (vs ++ v ∷ [])
+reads_more : (j : Job) (n m : ℕ) (a b c : Option (List ℕ)) (vs : List State) (v : State) → m ≡ n + 1 → ReadsAll j n a b vs → ReadsOne j n b c v → ReadsAll j m a c (vs ++ v ∷ [])
 reads_more j n m a b c vs v next s o = record {
   bodies = s.bodies ++ o.body ∷ [];
   count = length-append s.bodies (o.body ∷ []) ∙ ap (λ (k : ℕ). k + 1) s.count ∙ sym next;
   consumed = subst (Consumes a c) (sym (parts_last s.bodies o.body)) (Consumes-trans a b c (parts_text s.bodies) (part_text o.body) s.consumed o.consumed);
   made = made_last j 0 n s.bodies vs o.body v (let count = s.count in omega arith) s.made o.made;
 }
+
+-- and so is a list that is these
+pub reads_added : (j : Job) (n : ℕ) (a b c : Option (List ℕ)) (vs ws : List State) (v : State) → ws ≡ vs ++ v ∷ [] → ReadsAll j n a b vs → ReadsOne j n b c v → ReadsAll j (n + 1) a c ws
+reads_added j n a b c vs ws v is s o = subst (ReadsAll j (n + 1) a c) (sym is) (reads_more j n (n + 1) a b c vs v refl s o)
 
 -- nothing more was taken
 pub reads_kept : (j : Job) (n : ℕ) (a b c : Option (List ℕ)) (vs : List State) → ReadsAll j n a b vs → Consumes b c [] → ReadsAll j n a c vs

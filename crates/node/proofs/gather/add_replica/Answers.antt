@@ -1,17 +1,12 @@
-use Rattle.std.proofs.Common.{ℕ, ◌+◌, List, refl, sym, subst}
 use Rattle.std.proofs.lemmas.Result.{err_from_is_err_and}
 use Rattle.ball_model.specs.Job.{Job, job_of, part_of}
-use Rattle.ball_model.specs.State.{State}
-use Rattle.node.specs.Gathering.{ReadsAll}
-use Rattle.node.proofs.GatherLemmas.{never_written, reads_more, stops_at}
+use Rattle.node.proofs.GatherLemmas.{never_written, reads_added, stops_at}
 use Rattle.node.proofs.gather.add_replica.Goals as goal
 
 pub returns-clause-read : goal.returns-clause-read
 returns-clause-read g c = λ left before.
-    let j : Job = job_of c.args.graph.now.graph c.args.plan.now in
-    subst (λ (l : List State). ReadsAll j (c.args.p + 1) left (g.R.Read.remaining c.read_replica.new.reader) l) (sym c.in-Ok.ensures.items)
-    (reads_more j c.args.p (c.args.p + 1) left (g.R.Read.remaining c.args.reader.now) (g.R.Read.remaining c.read_replica.new.reader)
-    c.args.replicas.now.items c.in_ok-replica.replica refl before c.in_ok-replica.ensures.read)
+    reads_added (job_of c.args.graph.now.graph c.args.plan.now) c.args.p left (g.R.Read.remaining c.args.reader.now) (g.R.Read.remaining c.read_replica.new.reader)
+    c.args.replicas.now.items _ c.in_ok-replica.replica c.in-Ok.ensures.items before c.in_ok-replica.ensures.read
 
 pub returns-in_err-replica-clause-refused : goal.returns-in_err-replica-clause-refused
 returns-in_err-replica-clause-refused g c = λ left before.

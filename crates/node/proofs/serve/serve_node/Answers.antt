@@ -1,5 +1,4 @@
 use Rattle.std.proofs.Common.{◌∙◌, Option, List, ℕ, inl, sym, subst}
-use Rattle.std.proofs.lemmas.Result.{on_ok_weaker}
 use Rattle.node.specs.Job.{IsJobRead, settings_in}
 use Rattle.node.specs.NoJob.{HasNoNode}
 use Rattle.node.specs.declared.error.JobError.{JobError}

@@ -1,7 +1,4 @@
-use Rattle.std.specs.Prelude.{Result}
-use Rattle.std.proofs.Common.{subst}
 use Rattle.node.specs.NoJob.{IsNoStart}
-use Rattle.node.specs.declared.error.JobError.{JobError}
 use Rattle.node.proofs.JobLemmas.{told_job}
 use Rattle.node.proofs.ServeLemmas.{node_stops, serves_node}
 use Rattle.node.proofs.serve.serve_part.Goals as goal
