@@ -24,7 +24,7 @@ use Rattle.checkpoint.specs.declared.error.KeepError.TheVariants as unkept
 use Rattle.node.specs.declared.error.GatherError.{GatherError}
 use Rattle.node.specs.declared.error.GatherError.TheVariants as fault
 use Rattle.node.specs.declared.error.JobError.{JobError}
-use Rattle.node.specs.NoReport.{EndsWithin, IsNoReplica, IsNoReport, IsOther, StopsAtPart, WritesFront, WritesFrontOfJob, told_kept}
+use Rattle.node.specs.NoReport.{AreUnready, EndsWithin, IsNoReplica, IsNoReport, IsOther, StopsAtPart, WritesFront, WritesFrontOfJob, told_kept}
 use Rattle.node.specs.Job.{IsJobRead}
 use Rattle.node.specs.Refusals.{IsNoCheckpoint}
 use Rattle.node.specs.Stream.{CutsBody}
@@ -46,12 +46,25 @@ pub reads_none : (j : Job) (left : Option (List ℕ)) → ReadsAll j 0 left left
 unfolding AreMadeOf
 reads_none j left = record { bodies = []; count = refl; consumed = Consumes-nil left; made = tt }
 
-pub reads_more : (j : Job) (n m : ℕ) (a b c : Option (List ℕ)) (vs : List State) (v : State) → m ≡ n + 1 → ReadsAll j n a b vs → ReadsOne j n b c v → ReadsAll j m a c (vs ++ v ∷ [])
+reads_more : (j : Job) (n m : ℕ) (a b c : Option (List ℕ)) (vs : List State) (v : State) → m ≡ n + 1 → ReadsAll j n a b vs → ReadsOne j n b c v → ReadsAll j m a c (vs ++ v ∷ [])
 reads_more j n m a b c vs v next s o = record {
   bodies = s.bodies ++ o.body ∷ [];
   count = length-append s.bodies (o.body ∷ []) ∙ ap (λ (k : ℕ). k + 1) s.count ∙ sym next;
   consumed = subst (Consumes a c) (sym (parts_last s.bodies o.body)) (Consumes-trans a b c (parts_text s.bodies) (part_text o.body) s.consumed o.consumed);
   made = made_last j 0 n s.bodies vs o.body v (let count = s.count in omega arith) s.made o.made;
+}
+
+-- and so is a list that is these
+pub reads_added : (j : Job) (n : ℕ) (a b c : Option (List ℕ)) (vs ws : List State) (v : State) → ws ≡ vs ++ v ∷ [] → ReadsAll j n a b vs → ReadsOne j n b c v → ReadsAll j (n + 1) a c ws
+reads_added j n a b c vs ws v is s o = subst (ReadsAll j (n + 1) a c) (sym is) (reads_more j n (n + 1) a b c vs v refl s o)
+
+-- nothing more was taken
+pub reads_kept : (j : Job) (n : ℕ) (a b c : Option (List ℕ)) (vs : List State) → ReadsAll j n a b vs → Consumes b c [] → ReadsAll j n a c vs
+reads_kept j n a b c vs s none = record {
+  bodies = s.bodies;
+  count = s.count;
+  consumed = subst (Consumes a c) (append-nil (parts_text s.bodies)) (Consumes-trans a b c (parts_text s.bodies) [] s.consumed none);
+  made = s.made;
 }
 
 -- each is a checkpoint
@@ -138,12 +151,12 @@ part_spelled line a b n is word size =
 pub all_vertices_read : (j : Job) (n m : ℕ) (a b : Option (List ℕ)) (vs : List State) → IsJob j → n ≡ j.graph.vertices → ReadsAll j m a b vs → All (λ (v : State). v.part.plan.vertices ≡ n) vs
 all_vertices_read j n m a b vs job is s = all_vertices j 0 n s.bodies vs job is s.made
 
-pub gathered : (j : Job) (labels : List (List ℕ)) (a b c x y : Option (List ℕ)) (vs : List State) → ReadsAll j j.plan.parts a b vs → are_ready vs ≡ true → Consumes b c [] → IsAtEnd c →
+pub gathered : (j : Job) (labels : List (List ℕ)) (a c x y : Option (List ℕ)) (vs : List State) → ReadsAll j j.plan.parts a c vs → are_ready vs ≡ true → IsAtEnd c →
     (AllStand j vs → Appends x y (job_report j labels)) → Gathers j labels a c x y
-gathered j labels a b c x y vs s ready none end told = record {
+gathered j labels a c x y vs s ready end told = record {
   bodies = s.bodies;
   count = s.count;
-  consumed = subst (Consumes a c) (append-nil (parts_text s.bodies)) (Consumes-trans a b c (parts_text s.bodies) [] s.consumed none);
+  consumed = s.consumed;
   end = end;
   parts = parts_made j 0 s.bodies vs s.made;
   ready = record { replicas = vs; made = s.made; ready = ready };
@@ -189,13 +202,16 @@ stops_at_part j a b fault.Write s = tt
 pub stops_at : (j : Job) (p : ℕ) (a b c : Option (List ℕ)) (vs : List State) (e : GatherError) → p < j.plan.parts → ReadsAll j p a b vs → IsNoReplica (part_of j p) b c e → IsNoReport j a c e
 stops_at j p a b c vs e below before at = stops_at_part j a c e (record { p = p; below = below; replicas = vs; mid = b; before = before; at = at })
 
+pub unready : (j : Job) (a c : Option (List ℕ)) (vs : List State) → ReadsAll j j.plan.parts a c vs → IsAtEnd c → are_ready vs ≡ false → AreUnready j a c
+unready j a c vs before end not_ready = record { replicas = vs; mid = c; before = before; end = record { end = end; consumed = Consumes-nil c }; unready = not_ready }
+
 -- ---- what was written
-pub gathered_front : (j : Job) (labels : List (List ℕ)) (a b c x y : Option (List ℕ)) (vs : List State) → ReadsAll j j.plan.parts a b vs → are_ready vs ≡ true → Consumes b c [] → IsAtEnd c →
+pub gathered_front : (j : Job) (labels : List (List ℕ)) (a c x y : Option (List ℕ)) (vs : List State) → ReadsAll j j.plan.parts a c vs → are_ready vs ≡ true → IsAtEnd c →
     (AllStand j vs → PutsFront x y (job_report j labels)) → WritesFront j labels a c x y
-gathered_front j labels a b c x y vs s ready none end told = inr (record {
+gathered_front j labels a c x y vs s ready end told = inr (record {
   bodies = s.bodies;
   count = s.count;
-  consumed = subst (Consumes a c) (append-nil (parts_text s.bodies)) (Consumes-trans a b c (parts_text s.bodies) [] s.consumed none);
+  consumed = s.consumed;
   end = end;
   parts = parts_made j 0 s.bodies vs s.made;
   ready = record { replicas = vs; made = s.made; ready = ready };

@@ -13,7 +13,7 @@ use Rattle.ball_model.specs.declared.names.MergeError.TheVariants as unmerged
 use Rattle.ball_model.specs.declared.world.Answer.{Answer}
 use Rattle.ball_model.specs.declared.world.Answer.TheVariants as answer
 use Rattle.ball_model.specs.Batches.{BatchValue, IsBatch, IsTrueBatch, batch_bytes, true_batch}
-use Rattle.ball_model.specs.Checkpoint.{checkpoint_bytes}
+use Rattle.ball_model.specs.Checkpoint.{checkpoint_bytes, first_checkpoint_bytes, without_names}
 use Rattle.ball_model.specs.Held.{IsHeldBy, IsName, held_after, held_close_answer, held_take_answer, start_holding}
 use Rattle.ball_model.specs.Job.{Job, IsJob, part_of}
 use Rattle.ball_model.specs.Join.{Holding, join_of, merge_of}
@@ -95,17 +95,24 @@ wants : (e : KeepError) → (IsRead e → ⊥) → (e ≡ unkept.Memory) ⊎ (e 
 wants e sure (inl memory) = memory
 wants e sure (inr read) = absurd (sure (subst IsRead (sym read) tt))
 
+-- of either version that replica is read, or something was wanting
+read_as : (v : State) (bytes : List ℕ) (r : Result State KeepError) → IsSpelling v bytes → (bytes ≡ checkpoint_bytes v → IfOkButWant r (λ w. w ≡ v)) →
+    (bytes ≡ first_checkpoint_bytes v → IfOkButWant r (λ w. w ≡ without_names v)) → IfOkButWant r (λ w. w ≡ v)
+read_as v bytes r (inl is) second first = second is
+read_as v bytes r (inr is) second first = subst (λ (x : State). IfOkButWant r (λ w. w ≡ x)) (sym is.1) (first is.0)
+
+holds_read : (j : Job) (p : ℕ) (h : Holding) (v : State) (r : Result State KeepError) → IsHeldBy j p h → Has j h v → IfErr r (λ e. IsRead e → ⊥) → IfOkButWant r (λ w. w ≡ v) →
+    GivesOrWants (Holds j p h) r
+holds_read j p h v (Ok w) held has sure same = record { held = held; has = subst (λ (x : State). Has j h x) (sym same) has }
+holds_read j p h v (Err e) held has sure want = wants e sure want
+
 pub given_back : (j : Job) (p : ℕ) (h : Holding) (bytes : List ℕ) (r : Result State KeepError) → IsGivenBack j p bytes h → IfErr r (λ e. IsRead e → ⊥) →
-    ((v : State) → IsKeepable v → v.part ≡ part_of j p → bytes ≡ checkpoint_bytes v → IfOkButWant r (λ w. w ≡ v)) → GivesOrWants (Holds j p h) r
-given_back j p h bytes (Ok w) g sure read =
-    let v = g.kept.replica in
-    let has = g.kept.has in
-    let same : w ≡ v = read v (keepable j h v has) (has.holding.stands.part ∙ ap (part_of j) g.held.partition) g.kept.bytes_are in
-    record { held = g.held; has = subst (λ (x : State). Has j h x) (sym same) has }
-given_back j p h bytes (Err e) g sure read =
-    let v = g.kept.replica in
-    let has = g.kept.has in
-    wants e sure (read v (keepable j h v has) (has.holding.stands.part ∙ ap (part_of j) g.held.partition) g.kept.bytes_are)
+    ((v : State) → IsKeepable v → v.part ≡ part_of j p → bytes ≡ checkpoint_bytes v → IfOkButWant r (λ w. w ≡ v)) →
+    ((v : State) → IsKeepable v → v.part ≡ part_of j p → bytes ≡ first_checkpoint_bytes v → IfOkButWant r (λ w. w ≡ without_names v)) → GivesOrWants (Holds j p h) r
+given_back j p h bytes r g sure second first =
+    let keeps : IsKeepable g.replica = keepable j h g.replica g.has in
+    let own : g.replica.part ≡ part_of j p = g.has.holding.stands.part ∙ ap (part_of j) g.held.partition in
+    holds_read j p h g.replica r g.held g.has sure (read_as g.replica bytes r g.spells (second g.replica keeps own) (first g.replica keeps own))
 
 -- ---- a replica that is merged
 abbrev fine : Result (Unit {0}) MergeError

@@ -16,14 +16,15 @@ use Rattle.ball_model.specs.Job.{Job, PartValue, part_of}
 use Rattle.ball_model.specs.Join.{Holding, join_of}
 use Rattle.ball_model.specs.PlanValue.{mixing_of}
 use Rattle.ball_model.specs.Report.{superstep_line, vertex_text}
-use Rattle.ball_model.specs.State.{own_vertices}
+use Rattle.ball_model.specs.State.{State, own_vertices}
 use Rattle.ball_model.specs.Steps.{Take, Close}
 use Rattle.ball_model.specs.Supersteps.{total_over}
 use Rattle.ball_model.specs.WorldText.{number_line, part_in, refusal_line, show_text, taken_line, unclosed_line, untaken_line, value_from, words_line}
 use Rattle.batches.specs.Reading.{batch_at}
 use Rattle.batches.specs.declared.error.BatchError.{BatchError}
+use Rattle.checkpoint.specs.Reading.{IsSpelling}
 use Rattle.checkpoint.specs.declared.error.KeepError.{KeepError}
-use Rattle.world.specs.Shows.{IsKept}
+use Rattle.world.specs.Shows.{Has, IsKept}
 use Rattle.node.specs.declared.command.Command.{Command}
 use Rattle.node.specs.declared.command.Command.TheVariants as command
 use Rattle.node.specs.Refusals.{IsNoCheckpoint}
@@ -127,10 +128,13 @@ pub record IsNotFor (j : Job) (p : ℕ) (body : List ℕ) (e : TakeError) : Type
   pub spelled : batch_at j.plan body ≡ Ok batch
   pub refused : (c : Content) → take_of j.plan p c batch.plan batch.name ≡ Err e
 
--- the bytes are a checkpoint of partition p that stands for that holding
+-- the bytes are a checkpoint of partition p that stands for that holding: the spelling, in version 1 or 2, of a replica
+-- that has it (what version 1 spells holds no batches)
 pub record IsGivenBack (j : Job) (p : ℕ) (body : List ℕ) (h : Holding) : Type 0 where
   pub held : IsHeldBy j p h
-  pub kept : IsKept j h body
+  pub replica : State
+  pub has : Has j h replica
+  pub spells : IsSpelling replica body
 
 -- no bytes, or some that are such a checkpoint
 abbrev pub IsStart : Job → ℕ → List ℕ → Option Holding → Type 0

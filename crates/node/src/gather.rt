@@ -1,6 +1,6 @@
 //! The report of the checkpoints of all partitions.
 
-ghost use Rattle.std.specs.Prelude.{◌≡◌, ◌≢◌, ℕ, ◌<◌, ◌≤◌, length, List, ◌++◌, ◌∷◌, [], Option, Some};
+ghost use Rattle.std.specs.Prelude.{◌≡◌, ◌≢◌, ℕ, ◌+◌, ◌<◌, ◌≤◌, length, List, ◌++◌, ◌∷◌, [], Option, Some};
 ghost use Rattle.std.specs.Prelude.{Err, IfErr, IfOk, OnErr, OnOk};
 ghost use Rattle.std.specs.Io.KnownBytes.{Consumes, IsAtEnd, Keeps};
 ghost use Rattle.ball_model.specs.Job.{Job, IsJob, job_of, part_of};
@@ -45,12 +45,13 @@ fn length_in(line: &[u8]) -> Option<u64>
     }
 }
 
-// The length of the checkpoint of the part that follows.
+// The length of the checkpoint of the part that follows. Its line is read into `line`, which is empty.
 fn read_length<R: CountedRead>(
-    alloc: Global,
     reader: &mut R,
     part: &Part,
+    line: &mut Vec<u8>,
 ) -> Result<u64, GatherError>
+    requires { line.old.items ≡ [] }
     ensures read { IfOk result (λ n.
         Consumes (R.remaining reader.old) (R.remaining reader.new) (part_line n)) }
     ensures refused { IfErr result
@@ -61,8 +62,7 @@ fn read_length<R: CountedRead>(
         R.failed_calls reader.new ≡ R.failed_calls reader.old }
 {
     let p = part.partition();
-    let mut line = Vec::new(alloc);
-    match read_line(reader, &mut line) {
+    match read_line(reader, line) {
         Line::Whole => {}
         Line::None => return Err(GatherError::Missing { part: p }),
         Line::Cut => return Err(GatherError::Cut { part: p }),
@@ -70,22 +70,23 @@ fn read_length<R: CountedRead>(
         Line::Memory => return Err(GatherError::Memory),
         Line::Failed => return Err(GatherError::Read),
     }
-    match length_in(&line) {
+    match length_in(line) {
         Some(length) => Ok(length),
         None => Err(GatherError::Line { part: p }),
     }
 }
 
-// The bytes of the checkpoint of the part that follows.
+// The bytes of the checkpoint of the part that follows, into `bytes`, which is empty.
 fn read_bytes<R: CountedRead>(
-    alloc: Global,
     reader: &mut R,
     part: &Part,
-) -> Result<Vec<u8>, GatherError>
-    ensures read { IfOk result (λ bytes.
-        Consumes (R.remaining reader.old) (R.remaining reader.new) (part_text bytes.items)) }
-    ensures few { IfOk result (λ bytes.
-        length bytes.items ≤ most_bytes part.now part.now.plan.limit) }
+    bytes: &mut Vec<u8>,
+) -> Result<(), GatherError>
+    requires { bytes.old.items ≡ [] }
+    ensures read { OnOk result (
+        Consumes (R.remaining reader.old) (R.remaining reader.new) (part_text bytes.new.items)) }
+    ensures few { OnOk result (
+        length bytes.new.items ≤ most_bytes part.now part.now.plan.limit) }
     ensures refused { IfErr result
         (IsNoReplica part.now (R.remaining reader.old) (R.remaining reader.new)) }
     ensures failed { result ≡ Err GatherError.Read →
@@ -94,13 +95,13 @@ fn read_bytes<R: CountedRead>(
         R.failed_calls reader.new ≡ R.failed_calls reader.old }
 {
     let p = part.partition();
-    let length = read_length(alloc, reader, part)?;
+    let length = read_length(reader, part, bytes)?;
     if longest_checkpoint(part) < length {
         return Err(GatherError::Length { part: p });
     }
-    let mut bytes = Vec::new(alloc);
-    match read_body(reader, length, &mut bytes) {
-        Body::Whole => Ok(bytes),
+    bytes.clear();
+    match read_body(reader, length, bytes) {
+        Body::Whole => Ok(()),
         Body::Cut => Err(GatherError::Cut { part: p }),
         Body::Memory => Err(GatherError::Memory),
         Body::Failed => Err(GatherError::Read),
@@ -138,41 +139,45 @@ fn read_replica<R: CountedRead>(
         R.failed_calls reader.new ≡ R.failed_calls reader.old }
 {
     let part = part_of(alloc, graph, plan, p)?;
-    let bytes = read_bytes(alloc, reader, &part)?;
+    let mut bytes = Vec::new(alloc);
+    read_bytes(reader, &part, &mut bytes)?;
     match read_back(alloc, part, &bytes) {
         Ok(replica) => Ok(replica),
         Err(error) => Err(told(p, error)),
     }
 }
 
-// The replicas of the checkpoints of all partitions. A watch is told of each.
-fn read_replicas<R: CountedRead, V: Watch>(
+// Adds the replica of the checkpoint of partition `p` that follows to those before it. A watch is told of it.
+fn add_replica<R: CountedRead, V: Watch>(
     alloc: Global,
     graph: &Graph,
     plan: &Plan,
+    p: u16,
     watch: &V,
     reader: &mut R,
-) -> Result<Vec<Replica>, GatherError>
-    requires { IsJob (job_of graph.now.graph plan.now) }
-    ensures read { IfOk result (λ replicas. ReadsAll (job_of graph.now.graph plan.now)
-        plan.now.parts (R.remaining reader.old) (R.remaining reader.new) replicas.items) }
-    ensures refused { IfErr result (IsNoReport (job_of graph.now.graph plan.now)
-        (R.remaining reader.old) (R.remaining reader.new)) }
+    replicas: &mut Vec<Replica>,
+) -> Result<(), GatherError>
+    requires job { IsJob (job_of graph.now.graph plan.now) }
+    requires below { p < plan.now.parts }
+    ensures read { (left : Option (List ℕ)) → ReadsAll (job_of graph.now.graph plan.now) p
+        left (R.remaining reader.old) replicas.old.items →
+        OnOk result (ReadsAll (job_of graph.now.graph plan.now) (p + 1)
+        left (R.remaining reader.new) replicas.new.items) }
+    ensures refused { (left : Option (List ℕ)) → ReadsAll (job_of graph.now.graph plan.now) p
+        left (R.remaining reader.old) replicas.old.items →
+        IfErr result (IsNoReport (job_of graph.now.graph plan.now) left (R.remaining reader.new)) }
     ensures unwritten { result ≢ Err GatherError.Write }
     ensures failed { result ≡ Err GatherError.Read →
         Rises (R.failed_calls reader.old) (R.failed_calls reader.new) }
     ensures counted { result ≢ Err GatherError.Read →
         R.failed_calls reader.new ≡ R.failed_calls reader.old }
 {
-    let mut replicas = Vec::with_capacity(alloc, usize::from(plan.parts()))?;
-    for p in 0..plan.parts() {
-        let replica = read_replica(alloc, graph, plan, p, reader)?;
-        show_turn(&replica, watch);
-        let Ok(()) = replicas.push(replica) else {
-            return Err(GatherError::Memory);
-        };
-    }
-    Ok(replicas)
+    let replica = read_replica(alloc, graph, plan, p, reader)?;
+    show_turn(&replica, watch);
+    let Ok(()) = replicas.push(replica) else {
+        return Err(GatherError::Memory);
+    };
+    Ok(())
 }
 
 // Whether the input is at its end.
@@ -193,6 +198,35 @@ fn read_end<R: CountedRead>(reader: &mut R) -> Result<(), GatherError>
         Next::Byte(_) => Err(GatherError::Trailing),
         Next::Failed => Err(GatherError::Read),
     }
+}
+
+// Reads the replicas of the checkpoints of all partitions into `replicas`, which is empty, up to the end of the input. A
+// watch is told of each.
+fn read_replicas<R: CountedRead, V: Watch>(
+    alloc: Global,
+    graph: &Graph,
+    plan: &Plan,
+    watch: &V,
+    reader: &mut R,
+    replicas: &mut Vec<Replica>,
+) -> Result<(), GatherError>
+    requires job { IsJob (job_of graph.now.graph plan.now) }
+    requires none { replicas.old.items ≡ [] }
+    ensures read { OnOk result (ReadsAll (job_of graph.now.graph plan.now)
+        plan.now.parts (R.remaining reader.old) (R.remaining reader.new) replicas.new.items) }
+    ensures end { OnOk result (IsAtEnd (R.remaining reader.new)) }
+    ensures refused { IfErr result (IsNoReport (job_of graph.now.graph plan.now)
+        (R.remaining reader.old) (R.remaining reader.new)) }
+    ensures unwritten { result ≢ Err GatherError.Write }
+    ensures failed { result ≡ Err GatherError.Read →
+        Rises (R.failed_calls reader.old) (R.failed_calls reader.new) }
+    ensures counted { result ≢ Err GatherError.Read →
+        R.failed_calls reader.new ≡ R.failed_calls reader.old }
+{
+    for p in 0..plan.parts() {
+        add_replica(alloc, graph, plan, p, watch, reader, replicas)?;
+    }
+    read_end(reader)
 }
 
 /// Reads the checkpoints of all partitions of a job at the end of its run, and writes their report.
@@ -233,8 +267,8 @@ pub fn gather_parts<T: AllocGlobal + Threads + Sync, R: CountedRead, W: CountedW
     ensures written { result ≢ Err GatherError.Write →
         W.failed_calls writer.new ≡ W.failed_calls writer.old }
 {
-    let replicas = read_replicas(rt.alloc(), graph, plan, watch, reader)?;
-    read_end(reader)?;
+    let mut replicas = Vec::new(rt.alloc());
+    read_replicas(rt.alloc(), graph, plan, watch, reader, &mut replicas)?;
     if !report_ready(&replicas) {
         return Err(GatherError::NotReady);
     }
@@ -278,5 +312,7 @@ pub fn gather<T: AllocGlobal + Threads + Sync, R: CountedRead, W: CountedWrite, 
 {
     let (graph, plan) = read_job(rt.alloc(), state, options, reader)?;
     watch.after_read(graph.vertices(), graph.edges());
-    gather_parts(rt, &graph, &plan, watch, reader, writer)
+    let gathered = gather_parts(rt, &graph, &plan, watch, reader, writer);
+    drop(graph);
+    gathered
 }

@@ -96,11 +96,11 @@ fn read_graph<R: CountedRead>(
     let mut edges = EdgeReader::new(alloc, state, options.delimiter, LIMITS)?;
     let marked = give_section(alloc, reader, &mut edges)?;
     let graph = edges.finish(alloc)?;
-    if marked {
-        Ok(graph)
-    } else {
-        Err(JobError::NoMark)
+    if !marked {
+        drop(graph);
+        return Err(JobError::NoMark);
     }
+    Ok(graph)
 }
 
 // Reads the bytes of a section, which ends at a mark, into `list`, which is empty.
@@ -134,27 +134,27 @@ fn read_list<R: CountedRead>(reader: &mut R, list: &mut Vec<u8>) -> Result<(), J
 // Counts only the vertices of a list, where there is one.
 fn count_listed<R: CountedRead>(
     alloc: Global,
-    mut graph: Graph,
+    graph: &mut Graph,
     options: &JobOptions,
     reader: &mut R,
-) -> Result<Graph, JobError>
-    ensures counts { IfOk result (CountsSome (settings_in options.now) options.now.counted
-        (R.remaining reader.old) (R.remaining reader.new) graph) }
+) -> Result<(), JobError>
+    ensures counts { OnOk result (CountsSome (settings_in options.now) options.now.counted
+        (R.remaining reader.old) (R.remaining reader.new) graph.old graph.new) }
     ensures asked { IsErr result → options.now.counted ≡ true }
     ensures refused { IfErr result (IsUncounted (settings_in options.now)
-        (R.remaining reader.old) graph) }
+        (R.remaining reader.old) graph.old) }
     ensures failed { result ≡ Err JobError.Read →
         Rises (R.failed_calls reader.old) (R.failed_calls reader.new) }
     ensures counted { result ≢ Err JobError.Read →
         R.failed_calls reader.new ≡ R.failed_calls reader.old }
 {
     if !options.counted {
-        return Ok(graph);
+        return Ok(());
     }
     let mut list = Vec::new(alloc);
     read_list(reader, &mut list)?;
     graph.count_only(alloc, options.delimiter, &list)?;
-    Ok(graph)
+    Ok(())
 }
 
 // The plan over a graph, or the first fault of the options.
@@ -209,8 +209,8 @@ pub fn read_job<R: CountedRead>(
     ensures counted { result ≢ Err JobError.Read →
         R.failed_calls reader.new ≡ R.failed_calls reader.old }
 {
-    let all = read_graph(alloc, state, options, reader)?;
-    let graph = count_listed(alloc, all, options, reader)?;
+    let mut graph = read_graph(alloc, state, options, reader)?;
+    count_listed(alloc, &mut graph, options, reader)?;
     let plan = plan_for(&graph, options)?;
     Ok((graph, plan))
 }

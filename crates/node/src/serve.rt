@@ -1,15 +1,16 @@
 //! Commands, one after the other, and their answers.
 
-ghost use Rattle.std.specs.Prelude.{◌≡◌, ◌≢◌, ℕ, ◌<◌, ◌≤◌, List, ◌++◌, ◌∷◌, [], true, false, length};
+ghost use Rattle.std.specs.Prelude.{◌≡◌, ◌≢◌, ℕ, ◌<◌, ◌≤◌, Bool, Option, List, ◌++◌, ◌∷◌, [], true, false, length};
 ghost use Rattle.std.specs.Prelude.{◌⊎◌, Err, IfErr, IfNone, IfOk, IfSome, Ok, OnOk, Some};
 ghost use Rattle.std.specs.Io.KnownBytes.{Appends, Consumes, IsAtEnd, Keeps};
 ghost use Rattle.ball_model.specs.Input.{Network, fields};
 ghost use Rattle.ball_model.specs.Job.{IsJob, job_of};
 ghost use Rattle.ball_model.specs.Held.{start_holding};
+ghost use Rattle.ball_model.specs.RunText.{Settings};
 ghost use Rattle.ball_model.specs.Streams.{Rises};
 ghost use Rattle.ball_model.specs.WorldText.{refusal_line};
 ghost use Rattle.node.specs.NodeText.{body_length, command_in, sent_text};
-ghost use Rattle.node.specs.Job.{settings_in};
+ghost use Rattle.node.specs.Job.{IsJobRead, settings_in};
 ghost use Rattle.node.specs.NoJob.{HasNoNode, IsNoStart};
 ghost use Rattle.node.specs.Serving.{IsNoRequest, IsOfMachine, ReadsRequest, Serves, ServesNode, ServesNone, ServesOne};
 ghost use Rattle.node.specs.Serving.{Steps, Stops, StopsNode};
@@ -534,6 +535,49 @@ fn start(alloc: Global, graph: &Graph, plan: &Plan, part: u16) -> Result<Session
     Ok(Session::start(alloc, part)?)
 }
 
+// Answers the commands for the node of a partition of a job, from its start on: whatever input the job was read from.
+fn serve_part<R: CountedRead, W: CountedWrite, V: Watch>(
+    alloc: Global,
+    graph: &Graph,
+    plan: &Plan,
+    part: u16,
+    watch: &V,
+    reader: &mut R,
+    writer: &mut W,
+) -> Result<(), NodeError>
+    requires { IsJob (job_of graph.now.graph plan.now) }
+    ensures served { (s : Settings) (counted : Bool) (left : Option (List ℕ)) →
+        IsJobRead s counted left (R.remaining reader.old) graph.now plan.now →
+        OnOk result (ServesNode s counted part left (R.remaining reader.new)
+        (W.contents writer.old) (W.contents writer.new)) }
+    ensures stopped { (s : Settings) (counted : Bool) (left : Option (List ℕ)) →
+        IsJobRead s counted left (R.remaining reader.old) graph.now plan.now →
+        (e : Fault) → result ≡ Err (NodeError.Serve e) → (IsOfMachine e → ⊥) →
+        StopsNode s counted part e left (R.remaining reader.new)
+        (W.contents writer.old) (W.contents writer.new) }
+    ensures jobless { (e : NoJob) → result ≡ Err (NodeError.Job e) →
+        Keeps (W.contents writer.old) (W.contents writer.new) }
+    ensures same { (e : NoJob) → result ≡ Err (NodeError.Job e) →
+        R.remaining reader.new ≡ R.remaining reader.old }
+    ensures refused { (e : NoJob) → result ≡ Err (NodeError.Job e) → IsNoStart plan.now part e }
+    ensures read { result ≡ Err (NodeError.Serve ServeError.Read) →
+        Rises (R.failed_calls reader.old) (R.failed_calls reader.new) }
+    ensures counted { result ≢ Err (NodeError.Serve ServeError.Read) →
+        R.failed_calls reader.new ≡ R.failed_calls reader.old }
+    ensures write { result ≡ Err (NodeError.Serve ServeError.Write) →
+        Rises (W.failed_calls writer.old) (W.failed_calls writer.new) }
+    ensures written { result ≢ Err (NodeError.Serve ServeError.Write) →
+        W.failed_calls writer.new ≡ W.failed_calls writer.old }
+{
+    let mut session = start(alloc, graph, plan, part)?;
+    let served = serve_commands(alloc, graph, &mut session, watch, reader, writer);
+    drop(session);
+    match served {
+        Ok(()) => Ok(()),
+        Err(error) => Err(NodeError::Serve(error)),
+    }
+}
+
 /// Reads a job, and answers the commands for the node of one of its partitions. That there is no such partition is told
 /// behind all other faults of the job. The watch is called once the job is read, and where the node went on by a close.
 pub fn serve_node<R: CountedRead, W: CountedWrite, V: Watch>(
@@ -575,7 +619,7 @@ pub fn serve_node<R: CountedRead, W: CountedWrite, V: Watch>(
 {
     let (graph, plan) = read_job(alloc, state, options, reader)?;
     watch.after_read(graph.vertices(), graph.edges());
-    let mut session = start(alloc, &graph, &plan, part)?;
-    serve_commands(alloc, &graph, &mut session, watch, reader, writer)?;
-    Ok(())
+    let served = serve_part(alloc, &graph, &plan, part, watch, reader, writer);
+    drop(graph);
+    served
 }

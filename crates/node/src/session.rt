@@ -30,6 +30,7 @@ use edgelist::Part;
 use replica::{Replica, Shown, Snapshot};
 use std::alloc::{AllocError, Global};
 use std::marker::Model;
+use std::mem;
 use std::sync::Arc;
 
 /// What a node says to a command.
@@ -201,7 +202,7 @@ impl Session {
         ensures value { self.new ≡ replica }
         ensures answer { result ≡ answer.Restarted replica.superstep }
     {
-        self.replica = replica;
+        drop(mem::replace(&mut self.replica, replica));
         Answer::Restarted {
             superstep: self.replica.superstep(),
         }
@@ -240,7 +241,9 @@ impl Session {
         ensures refused { OnErr result (self.new ≡ self.old) }
     {
         let copy = snapshot_of(alloc, other)?;
-        self.merge(alloc, &copy)
+        let merged = self.merge(alloc, &copy);
+        drop(copy);
+        merged
     }
 
     // Merges a snapshot.
@@ -264,7 +267,9 @@ impl Session {
 fn snapshot_of(alloc: Global, mut replica: Replica) -> Result<Snapshot, AllocError>
     ensures { IfOk result (λ s. s ≡ replica) }
 {
-    replica.snapshot(alloc)
+    let copy = replica.snapshot(alloc);
+    drop(replica);
+    copy
 }
 
 // What is said of bytes that are no batch. The error is that memory was refused.

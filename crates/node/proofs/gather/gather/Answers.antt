@@ -10,16 +10,16 @@ use Rattle.node.proofs.gather.gather.Goals as goal
 
 pub returns-clause-ok : goal.returns-clause-ok
 returns-clause-ok g c =
-    on_ok_weaker c.gather_parts.result
-    (λ (gathers : Gathers (job_of c.in_ok-graph.graph.graph c.in_ok-graph.plan) c.in_ok-graph.graph.labels (g.R.Read.remaining c.read_job.new.reader) (g.R.Read.remaining c.gather_parts.new.reader)
-    (g.W.Write.contents c.args.writer.now) (g.W.Write.contents c.gather_parts.new.writer)). record {
+    on_ok_weaker c.gather_parts-gathered.result
+    (λ (gathers : Gathers (job_of c.in_ok-graph.graph.graph c.in_ok-graph.plan) c.in_ok-graph.graph.labels (g.R.Read.remaining c.read_job.new.reader) (g.R.Read.remaining c.gather_parts-gathered.new.reader)
+    (g.W.Write.contents c.args.writer.now) (g.W.Write.contents c.gather_parts-gathered.new.writer)). record {
       network = c.in_ok-graph.graph;
       plan = c.in_ok-graph.plan;
       mid = g.R.Read.remaining c.read_job.new.reader;
       job = c.in_ok-graph.ensures.read;
       gathers = gathers;
     })
-    c.gather_parts.ensures.ok
+    c.gather_parts-gathered.ensures.ok
 
 pub returns-in_err-graph-clause-refused : goal.returns-in_err-graph-clause-refused
 returns-in_err-graph-clause-refused g c =
@@ -28,9 +28,9 @@ returns-in_err-graph-clause-refused g c =
 
 pub returns-clause-refused : goal.returns-clause-refused
 returns-clause-refused g c =
-    IfErr-weaker c.gather_parts.result
-    (IsNoReport (job_of c.in_ok-graph.graph.graph c.in_ok-graph.plan) (g.R.Read.remaining c.read_job.new.reader) (g.R.Read.remaining c.gather_parts.new.reader))
-    (HasNoReport (settings_in c.args.options.now) c.args.options.now.counted (g.R.Read.remaining c.args.reader.now) (g.R.Read.remaining c.gather_parts.new.reader))
+    IfErr-weaker c.gather_parts-gathered.result
+    (IsNoReport (job_of c.in_ok-graph.graph.graph c.in_ok-graph.plan) (g.R.Read.remaining c.read_job.new.reader) (g.R.Read.remaining c.gather_parts-gathered.new.reader))
+    (HasNoReport (settings_in c.args.options.now) c.args.options.now.counted (g.R.Read.remaining c.args.reader.now) (g.R.Read.remaining c.gather_parts-gathered.new.reader))
     (λ e refused. inr (record {
       network = c.in_ok-graph.graph;
       plan = c.in_ok-graph.plan;
@@ -38,18 +38,18 @@ returns-clause-refused g c =
       job = c.in_ok-graph.ensures.read;
       refused = refused;
     }))
-    c.gather_parts.ensures.refused
+    c.gather_parts-gathered.ensures.refused
 
 pub returns-clause-front : goal.returns-clause-front
 returns-clause-front g c =
-    on_err_weaker c.gather_parts.result
-    (λ (front : WritesFront (job_of c.in_ok-graph.graph.graph c.in_ok-graph.plan) c.in_ok-graph.graph.labels (g.R.Read.remaining c.read_job.new.reader) (g.R.Read.remaining c.gather_parts.new.reader)
-    (g.W.Write.contents c.args.writer.now) (g.W.Write.contents c.gather_parts.new.writer)).
+    on_err_weaker c.gather_parts-gathered.result
+    (λ (front : WritesFront (job_of c.in_ok-graph.graph.graph c.in_ok-graph.plan) c.in_ok-graph.graph.labels (g.R.Read.remaining c.read_job.new.reader) (g.R.Read.remaining c.gather_parts-gathered.new.reader)
+    (g.W.Write.contents c.args.writer.now) (g.W.Write.contents c.gather_parts-gathered.new.writer)).
     front_of_job (settings_in c.args.options.now) c.args.options.now.counted c.in_ok-graph.graph c.in_ok-graph.plan
-    (g.R.Read.remaining c.args.reader.now) (g.R.Read.remaining c.read_job.new.reader) (g.R.Read.remaining c.gather_parts.new.reader)
-    (g.W.Write.contents c.args.writer.now) (g.W.Write.contents c.gather_parts.new.writer) c.in_ok-graph.ensures.read front)
-    c.gather_parts.ensures.front
+    (g.R.Read.remaining c.args.reader.now) (g.R.Read.remaining c.read_job.new.reader) (g.R.Read.remaining c.gather_parts-gathered.new.reader)
+    (g.W.Write.contents c.args.writer.now) (g.W.Write.contents c.gather_parts-gathered.new.writer) c.in_ok-graph.ensures.read front)
+    c.gather_parts-gathered.ensures.front
 
 pub returns-clause-unread : goal.returns-clause-unread
 returns-clause-unread g c = λ is.
-    absurd (never_job (job_of c.in_ok-graph.graph.graph c.in_ok-graph.plan) (g.R.Read.remaining c.read_job.new.reader) (g.R.Read.remaining c.gather_parts.new.reader) c.gather_parts.result _ c.gather_parts.ensures.refused is)
+    absurd (never_job (job_of c.in_ok-graph.graph.graph c.in_ok-graph.plan) (g.R.Read.remaining c.read_job.new.reader) (g.R.Read.remaining c.gather_parts-gathered.new.reader) c.gather_parts-gathered.result _ c.gather_parts-gathered.ensures.refused is)

@@ -13,14 +13,14 @@ pub returns-in-Ok-clause-read : goal.returns-in-Ok-clause-read
 returns-in-Ok-clause-read g c =
     let j : Job = job_of c.args.graph.now.graph c.args.plan.now in
     record {
-      body = c.in_ok-bytes.bytes.items;
-      consumed = c.in_ok-bytes.ensures.read;
+      body = c.read_bytes.new.bytes.items;
+      consumed = c.in_ok-read_bytes.ensures.read;
       made = record {
         part_is = c.in-Ok.ensures.part ∙ c.in_ok-part.ensures;
         is = record {
-          few = subst (λ (q : PartValue). length c.in_ok-bytes.bytes.items ≤ most_bytes q q.plan.limit) (c.deref.ensures ∙ c.in_ok-part.ensures) c.in_ok-bytes.ensures.few;
+          few = subst (λ (q : PartValue). length c.read_bytes.new.bytes.items ≤ most_bytes q q.plan.limit) (c.deref.ensures ∙ c.in_ok-part.ensures) c.in_ok-read_bytes.ensures.few;
           checkpoint =
-              subst (λ (q : PartValue). IsCheckpoint q c.in_ok-bytes.bytes.items) c.in_ok-part.ensures
+              subst (λ (q : PartValue). IsCheckpoint q c.read_bytes.new.bytes.items) c.in_ok-part.ensures
               (subst (λ (l : List ℕ). IsCheckpoint (arc_value c.in_ok-part.part) l) c.deref-2.ensures.value c.in-Ok.ensures.whole);
         };
         keepable = c.in-Ok.ensures.keepable;
@@ -36,8 +36,8 @@ unfolding part_of
 returns-clause-refused g c =
     let j : Job = job_of c.args.graph.now.graph c.args.plan.now in
     rw (c.told.ensures.told)
-    (told_other c.args.p (part_of j c.args.p) (g.R.Read.remaining c.args.reader.now) (g.R.Read.remaining c.read_bytes.new.reader) c.in_ok-bytes.bytes.items c.in-Err.error refl
-    c.in_ok-bytes.ensures.read
+    (told_other c.args.p (part_of j c.args.p) (g.R.Read.remaining c.args.reader.now) (g.R.Read.remaining c.read_bytes.new.reader) c.read_bytes.new.bytes.items c.in-Err.error refl
+    c.in_ok-read_bytes.ensures.read
     (λ some.
     subst (λ (l : List ℕ). IsNoCheckpoint (part_of j c.args.p) l c.in-Err.error) c.deref-2.ensures.value
     (subst (λ (x : PartValue). IsNoCheckpoint x c.deref-2.result.now c.in-Err.error) c.in_ok-part.ensures (c.in-Err.ensures.named some))))

@@ -1,5 +1,5 @@
 use Rattle.node.specs.declared.job.TheConstants.{LIMITS}
-use Rattle.std.proofs.Common.{ap, subst, Bool}
+use Rattle.std.proofs.Common.{◌≡◌, ap, subst, Bool, true, false}
 use Rattle.std.specs.Prelude.{Err}
 use Rattle.std.proofs.lemmas.Result.{err_from_is_err_and}
 use Rattle.ball_model.specs.RunText.{network_in}
@@ -7,10 +7,11 @@ use Rattle.node.specs.Job.{GivesEdges, settings_in}
 use Rattle.node.proofs.JobLemmas.{lacks_mark, refused_edges}
 use Rattle.node.proofs.job.read_graph.Goals as goal
 
-pub returns-then-marked-clause-says : goal.returns-then-marked-clause-says
-returns-then-marked-clause-says g c =
+pub returns-clause-says : goal.returns-clause-says
+returns-clause-says g c =
+    let marked : c.in_ok-marked.marked ≡ true = search c.if-not-marked.false in
     let s =
-    subst (λ (b : Bool). GivesEdges LIMITS c.args.options.now.delimiter (g.R.Read.remaining c.args.reader.now) (g.R.Read.remaining c.give_section.new.reader) c.give_section.new.edges b) c.if-marked.true
+    subst (λ (b : Bool). GivesEdges LIMITS c.args.options.now.delimiter (g.R.Read.remaining c.args.reader.now) (g.R.Read.remaining c.give_section.new.reader) c.give_section.new.edges b) marked
     (c.in_ok-marked.ensures.given c.args.options.now.delimiter c.in_ok-edges.ensures.ok) in
     record {
       input = s.front;
@@ -18,10 +19,11 @@ returns-then-marked-clause-says g c =
       says = λ plain. c.in_ok-graph.ensures.ok LIMITS c.args.options.now.delimiter s.front s.given plain;
     }
 
-pub returns-else-marked-clause-refused : goal.returns-else-marked-clause-refused
-returns-else-marked-clause-refused g c =
+pub returns-then-not-marked-clause-refused : goal.returns-then-not-marked-clause-refused
+returns-then-not-marked-clause-refused g c =
+    let unmarked : c.in_ok-marked.marked ≡ false = search c.if-not-marked.true in
     let s =
-    subst (λ (b : Bool). GivesEdges LIMITS c.args.options.now.delimiter (g.R.Read.remaining c.args.reader.now) (g.R.Read.remaining c.give_section.new.reader) c.give_section.new.edges b) c.if-marked.false
+    subst (λ (b : Bool). GivesEdges LIMITS c.args.options.now.delimiter (g.R.Read.remaining c.args.reader.now) (g.R.Read.remaining c.give_section.new.reader) c.give_section.new.edges b) unmarked
     (c.in_ok-marked.ensures.given c.args.options.now.delimiter c.in_ok-edges.ensures.ok) in
     lacks_mark (network_in (settings_in c.args.options.now)) LIMITS c.args.options.now.delimiter (g.R.Read.remaining c.args.reader.now) c.give_section.new.edges c.in_ok-graph.graph s
     (λ plain. c.in_ok-graph.ensures.ok LIMITS c.args.options.now.delimiter s.front s.given plain)

@@ -12,6 +12,7 @@ returns-clause-back c = λ j p h is given.
     given_back j p h c.args.bytes.now c.read_checkpoint.result given
     (c.read_checkpoint.ensures.only (subst (λ (o : Option ℕ). AreSure o (most_bytes (arc_value c.args.part) (arc_value c.args.part).plan.limit + 1)) (sym c.new-reader.ensures.good) tt))
     (λ v keeps part spells. c.read_checkpoint.ensures.back v keeps (part ∙ sym is) (ap Some (c.new-reader.ensures.left ∙ spells)))
+    (λ v keeps part spells. c.read_checkpoint.ensures.first v keeps (part ∙ sym is) (ap Some (c.new-reader.ensures.left ∙ spells)))
 
 pub returns-clause-spells : goal.returns-clause-spells
 returns-clause-spells c =

@@ -1,0 +1,23 @@
+use Rattle.std.proofs.lemmas.Result.{err_from_is_err_and}
+use Rattle.ball_model.specs.Job.{Job, job_of, part_of}
+use Rattle.node.proofs.GatherLemmas.{never_written, reads_added, stops_at}
+use Rattle.node.proofs.gather.add_replica.Goals as goal
+
+pub returns-clause-read : goal.returns-clause-read
+returns-clause-read g c = λ left before.
+    reads_added (job_of c.args.graph.now.graph c.args.plan.now) c.args.p left (g.R.Read.remaining c.args.reader.now) (g.R.Read.remaining c.read_replica.new.reader)
+    c.args.replicas.now.items _ c.in_ok-replica.replica c.in-Ok.ensures.items before c.in_ok-replica.ensures.read
+
+pub returns-in_err-replica-clause-refused : goal.returns-in_err-replica-clause-refused
+returns-in_err-replica-clause-refused g c = λ left before.
+    let j : Job = job_of c.args.graph.now.graph c.args.plan.now in
+    let p = err_from_is_err_and c.from_residual.result c.from_residual.ensures.1 in
+    rw (p.1, p.2)
+    (stops_at j c.args.p left (g.R.Read.remaining c.args.reader.now) (g.R.Read.remaining c.read_replica.new.reader) c.args.replicas.now.items _ c.requires.below before c.in_err-replica.ensures.refused)
+
+pub returns-in_err-replica-clause-unwritten : goal.returns-in_err-replica-clause-unwritten
+returns-in_err-replica-clause-unwritten g c =
+    let j : Job = job_of c.args.graph.now.graph c.args.plan.now in
+    let p = err_from_is_err_and c.from_residual.result c.from_residual.ensures.1 in
+    never_written (part_of j c.args.p) (g.R.Read.remaining c.args.reader.now) (g.R.Read.remaining c.read_replica.new.reader) c.from_residual.result
+    (rw (p.1, p.2) c.in_err-replica.ensures.refused)
