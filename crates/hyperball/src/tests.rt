@@ -17,15 +17,16 @@ use crate::serve::serve;
 use ball_model::{CountingReader, CountingWriter};
 use fakes::{Compared, Given, Lines, Told};
 use std::alloc::{AllocError, Global};
+use std::process::Abort;
 use std::random::RandomSource;
 use std::sync::Wait;
 use std::thread::Threads;
 use std::time::Clock;
 
 /// All that the program has of its machine.
-trait Host: AllocGlobal + Clock + RandomSource + Threads + Wait + Sync {}
+trait Host: Abort + AllocGlobal + Clock + RandomSource + Threads + Wait + Sync {}
 
-impl<H: AllocGlobal + Clock + RandomSource + Threads + Wait + Sync> Host for H {}
+impl<H: Abort + AllocGlobal + Clock + RandomSource + Threads + Wait + Sync> Host for H {}
 
 /// Some bytes in pieces, none of which is empty.
 type Pieces = &'static [&'static [u8]];
@@ -170,22 +171,17 @@ fn ends<H: Host>(rt: &H, case: &Case) -> bool {
     ends_in(rt, case, &OPEN)
 }
 
-/// The words of the first case that ends otherwise.
-fn first_other<H: Host>(rt: &H, cases: &[Case]) -> Option<&'static str> {
+/// Each of these cases ends as it says.
+fn all_end<H: Host>(rt: &H, cases: &[Case]) {
     for case in cases {
-        if !ends(rt, case) {
-            return Some(case.0);
-        }
+        assert!(rt; ends(rt, case), "{}", case.0);
     }
-    None
 }
 
-/// The first of these lines whose words end otherwise than those of the case.
-fn first_unlike<H: Host>(rt: &H, lines: &[&'static str], case: &Case) -> Option<&'static str> {
+/// The words of each of these lines end as the case says.
+fn all_end_alike<H: Host>(rt: &H, lines: &[&'static str], case: &Case) {
     for line in lines {
-        if !ends(rt, &(*line, case.1, case.2, case.3, case.4)) {
-            return Some(*line);
-        }
+        let alike = (*line, case.1, case.2, case.3, case.4);
+        assert!(rt; ends(rt, &alike), "{line}");
     }
-    None
 }

@@ -178,7 +178,7 @@ static CORRECTED: [Case; 12] = [
 
 #[test]
 fn corrected_reports(rt: HostRuntime) {
-    assert_eq!(rt; first_other(&rt, &CORRECTED), None);
+    all_end(&rt, &CORRECTED);
 }
 
 // A tree of 31 vertices, in which each inner one has edges from two others: the ball of its root has 1, 3, 7, 15 and 31

@@ -10,19 +10,70 @@ use std::io;
 use std::io::{Eprint, ErrorKind, Read, Write};
 use std::sync::atomic::{AtomicU32, Ordering};
 
-// The first piece, and the others.
-fn cut(pieces: Pieces) -> (&'static [u8], Pieces) {
-    match pieces.split_first() {
-        Some((next, others)) => (*next, others),
-        None => (&[], &[]),
+/// A place in a text that stands in pieces.
+#[derive(Clone, Copy)]
+struct Cursor {
+    // the piece of number 0, and those behind it
+    first: &'static [u8],
+    others: Pieces,
+    piece: usize,
+    byte: usize,
+}
+
+impl Cursor {
+    // The start of pieces.
+    fn new(pieces: Pieces) -> Cursor {
+        Cursor {
+            first: &[],
+            others: pieces,
+            piece: 1,
+            byte: 0,
+        }
+    }
+
+    // The start of one piece, which may be empty.
+    fn of(text: &'static [u8]) -> Cursor {
+        Cursor {
+            first: text,
+            others: &[],
+            piece: usize::from(text.is_empty()),
+            byte: 0,
+        }
+    }
+
+    // The piece in which it is; at the end of the text an empty one.
+    fn piece(&self) -> &'static [u8] {
+        match self.piece.checked_sub(1) {
+            None => self.first,
+            Some(place) => match self.others.get(place) {
+                Some(piece) => *piece,
+                None => &[],
+            },
+        }
+    }
+
+    // What is left of that piece.
+    fn rest(&self) -> &'static [u8] {
+        match self.piece().get(self.byte..) {
+            Some(rest) => rest,
+            None => &[],
+        }
+    }
+
+    // Goes on by some bytes of that piece, at its end to the next piece.
+    fn advance(&mut self, count: usize) {
+        self.byte = self.byte.saturating_add(count);
+        if self.byte >= self.piece().len() {
+            self.piece = self.piece.saturating_add(1);
+            self.byte = 0;
+        }
     }
 }
 
 /// A reader that gives pieces, so many bytes a call at most, and fails after so many calls.
 #[derive(Drop)]
 pub struct Given {
-    piece: &'static [u8],
-    others: Pieces,
+    place: Cursor,
     step: usize,
     calls: u64,
 }
@@ -31,19 +82,9 @@ impl Given {
     /// Nothing is read yet.
     pub fn new(input: Pieces, flow: &Flow) -> Given {
         Given {
-            piece: &[],
-            others: input,
+            place: Cursor::new(input),
             step: flow.step,
             calls: flow.reads,
-        }
-    }
-
-    // Takes the next piece where there is no more of the last one.
-    fn turn(&mut self) {
-        if self.piece.is_empty() {
-            let (next, others) = cut(self.others);
-            self.piece = next;
-            self.others = others;
         }
     }
 }
@@ -56,11 +97,11 @@ impl Read for Given {
             return Err(io::Error::from(ErrorKind::Other));
         }
         self.calls -= 1;
-        self.turn();
-        let count = self.piece.len().min(self.step).min(buf.len());
-        let (front, rest) = self.piece.split_at(count);
+        let rest = self.place.rest();
+        let count = rest.len().min(self.step).min(buf.len());
+        let (front, _) = rest.split_at(count);
         buf[..count].copy_from_slice(front);
-        self.piece = rest;
+        self.place.advance(count);
         Ok(count)
     }
 }
@@ -69,10 +110,7 @@ impl Read for Given {
 /// it has room for.
 #[derive(Clone, Copy)]
 pub struct Compared {
-    piece: &'static [u8],
-    // what has not come of that piece
-    left: &'static [u8],
-    others: Pieces,
+    place: Cursor,
     step: usize,
     room: usize,
     taken: usize,
@@ -82,12 +120,10 @@ pub struct Compared {
 }
 
 impl Compared {
-    /// Nothing has come yet.
-    pub fn new(wanted: Pieces, step: usize, room: usize) -> Compared {
+    // Nothing has come yet of what is wanted from this place on.
+    fn from(place: Cursor, step: usize, room: usize) -> Compared {
         Compared {
-            piece: &[],
-            left: &[],
-            others: wanted,
+            place,
             step,
             room,
             taken: 0,
@@ -96,13 +132,14 @@ impl Compared {
         }
     }
 
-    /// The same of one piece, with calls that move all of their bytes.
-    pub fn with_piece(piece: &'static [u8], room: usize) -> Compared {
-        Compared {
-            piece,
-            left: piece,
-            ..Compared::new(&[], usize::MAX, room)
-        }
+    /// These pieces are wanted, and nothing has come yet.
+    pub fn new(wanted: Pieces, step: usize, room: usize) -> Compared {
+        Compared::from(Cursor::new(wanted), step, room)
+    }
+
+    /// The same of one piece, which may be empty, with calls that move all of their bytes.
+    pub fn of(wanted: &'static [u8], room: usize) -> Compared {
+        Compared::from(Cursor::of(wanted), usize::MAX, room)
     }
 
     /// How many bytes have come.
@@ -117,7 +154,7 @@ impl Compared {
 
     /// Whether what came has all pieces in it, one behind the other.
     pub fn has_all(&self) -> bool {
-        self.left.is_empty() && self.others.is_empty()
+        self.place.rest().is_empty()
     }
 
     /// Whether what came begins with what is wanted.
@@ -130,24 +167,13 @@ impl Compared {
         self.has_all() && self.is_front()
     }
 
-    // Turns to the next piece where the last one has come.
-    fn turn(&mut self) {
-        if self.left.is_empty() {
-            let (next, others) = cut(self.others);
-            self.piece = next;
-            self.left = next;
-            self.others = others;
-        }
-    }
-
     // Compares a byte. A piece that does not go on so is looked for anew.
     fn take(&mut self, byte: u8) {
-        self.turn();
-        match self.left.split_first() {
-            Some((first, rest)) if *first == byte => self.left = rest,
+        match self.place.rest().first() {
+            Some(wanted) if *wanted == byte => self.place.advance(1),
             Some(_) => {
                 self.differs = true;
-                self.left = self.piece;
+                self.place.byte = 0;
             }
             None => self.exceeds = true,
         }
@@ -202,8 +228,8 @@ impl Lines {
     fn next(&self) -> Compared {
         let place = self.told.fetch_add(1, Ordering::SeqCst) as usize;
         match self.wanted.get(place) {
-            Some(wanted) => Compared::with_piece(*wanted, usize::MAX),
-            None => Compared::with_piece(b"no more\n", usize::MAX),
+            Some(wanted) => Compared::of(*wanted, usize::MAX),
+            None => Compared::of(b"no more\n", usize::MAX),
         }
     }
 }
@@ -236,8 +262,8 @@ impl<'a> Told<'a> {
     /// Nothing is told yet.
     pub fn new(wanted: &'static [u8], room: usize, lines: &'a Lines) -> Told<'a> {
         Told {
-            text: Compared::with_piece(wanted, room),
-            refused: Compared::with_piece(NO_MEMORY, usize::MAX),
+            text: Compared::of(wanted, room),
+            refused: Compared::of(NO_MEMORY, usize::MAX),
             lines,
         }
     }

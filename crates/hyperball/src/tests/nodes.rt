@@ -78,7 +78,7 @@ static SENDING: [Case; 2] = [
 
 #[test]
 fn two_nodes_send_the_batches_of_the_table(rt: HostRuntime) {
-    assert_eq!(rt; first_other(&rt, &SENDING), None);
+    all_end(&rt, &SENDING);
 }
 
 static TAKING: [Case; 1] = [(
@@ -96,7 +96,7 @@ static TAKING: [Case; 1] = [(
 
 #[test]
 fn a_node_takes_the_batch_of_another(rt: HostRuntime) {
-    assert_eq!(rt; first_other(&rt, &TAKING), None);
+    all_end(&rt, &TAKING);
 }
 
 /// A node gives its checkpoint at superstep 1. New ones go on from that, or take it over; a report is not made of it.
@@ -133,7 +133,7 @@ static GOING_ON: [Case; 4] = [
 
 #[test]
 fn a_new_node_goes_on_from_a_checkpoint(rt: HostRuntime) {
-    assert_eq!(rt; first_other(&rt, &GOING_ON), None);
+    all_end(&rt, &GOING_ON);
 }
 
 /// What a gathering of the two nodes reads.
@@ -186,7 +186,7 @@ static GATHERING: [Case; 5] = [
 
 #[test]
 fn the_report_is_gathered(rt: HostRuntime) {
-    assert_eq!(rt; first_other(&rt, &GATHERING), None);
+    all_end(&rt, &GATHERING);
 }
 
 /// Where a list stands behind the edge list, it alone is counted.
@@ -209,7 +209,7 @@ static LISTED: [Case; 2] = [
 
 #[test]
 fn a_node_counts_a_list(rt: HostRuntime) {
-    assert_eq!(rt; first_other(&rt, &LISTED), None);
+    all_end(&rt, &LISTED);
 }
 
 /// Inputs at which a node or a gathering gives up: what was answered before stands.
@@ -330,7 +330,7 @@ static GIVEN_UP: [Case; 16] = [
 
 #[test]
 fn a_node_gives_up_by_name(rt: HostRuntime) {
-    assert_eq!(rt; first_other(&rt, &GIVEN_UP), None);
+    all_end(&rt, &GIVEN_UP);
 }
 
 /// What stands before the digest of the job in the batch of superstep 0 from partition 0 to 1, behind its command.
@@ -425,7 +425,7 @@ old
 
 #[test]
 fn a_node_names_what_is_wrong_with_a_batch(rt: HostRuntime) {
-    assert_eq!(rt; first_other(&rt, &DAMAGED), None);
+    all_end(&rt, &DAMAGED);
 }
 
 /// A batch is no checkpoint; and what another partition keeps is not this one's.
@@ -462,5 +462,5 @@ static NO_CHECKPOINTS: [Case; 4] = [
 
 #[test]
 fn a_node_names_what_is_wrong_with_a_checkpoint(rt: HostRuntime) {
-    assert_eq!(rt; first_other(&rt, &NO_CHECKPOINTS), None);
+    all_end(&rt, &NO_CHECKPOINTS);
 }

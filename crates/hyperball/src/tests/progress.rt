@@ -14,14 +14,11 @@ fn tells<H: Host>(rt: &H, telling: &Telling) -> bool {
     }
 }
 
-/// The words of the first case in which something else is told.
-fn first_told_otherwise<H: Host>(rt: &H, tellings: &[Telling]) -> Option<&'static str> {
+/// Each of these cases ends as it says, and just such lines are told.
+fn all_tell<H: Host>(rt: &H, tellings: &[Telling]) {
     for telling in tellings {
-        if !tells(rt, telling) {
-            return Some((telling.0).0);
-        }
+        assert!(rt; tells(rt, telling), "{}", (telling.0).0);
     }
-    None
 }
 
 const READ: &[u8] = b"hyperball: 3 vertices and 2 edges are read\n";
@@ -101,7 +98,7 @@ static TOLD: [Telling; 6] = [
 
 #[test]
 fn a_run_tells_its_progress(rt: HostRuntime) {
-    assert_eq!(rt; first_told_otherwise(&rt, &TOLD), None);
+    all_tell(&rt, &TOLD);
 }
 
 /// Closes of the only partition.
@@ -180,7 +177,7 @@ refused no-node
 
 #[test]
 fn a_replay_tells_its_progress(rt: HostRuntime) {
-    assert_eq!(rt; first_told_otherwise(&rt, &REPLAYED), None);
+    all_tell(&rt, &REPLAYED);
 }
 
 const ANSWERED: &[u8] = b"hyperball: the commands are answered\n";
@@ -234,7 +231,7 @@ static NODES: [Telling; 4] = [
 
 #[test]
 fn a_node_tells_its_progress(rt: HostRuntime) {
-    assert_eq!(rt; first_told_otherwise(&rt, &NODES), None);
+    all_tell(&rt, &NODES);
 }
 
 /// A gathering tells the graph, each checkpoint, and the end, and nothing where it is not asked for.
@@ -259,5 +256,5 @@ static GATHERINGS: [Telling; 2] = [
 
 #[test]
 fn a_gathering_tells_its_progress(rt: HostRuntime) {
-    assert_eq!(rt; first_told_otherwise(&rt, &GATHERINGS), None);
+    all_tell(&rt, &GATHERINGS);
 }

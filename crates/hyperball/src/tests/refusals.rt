@@ -49,9 +49,7 @@ static REFUSABLE: [Case; 9] = [
 
 #[test]
 fn words_whose_memory_is_refused(rt: HostRuntime) {
-    let mut right = true;
     for case in &REFUSABLE {
-        right &= is_served_again(&rt, case);
+        assert!(rt; is_served_again(&rt, case), "{}", case.0);
     }
-    assert!(rt; right);
 }

@@ -77,7 +77,7 @@ static REPORTS: [Case; 8] = [
 
 #[test]
 fn reports(rt: HostRuntime) {
-    assert_eq!(rt; first_other(&rt, &REPORTS), None);
+    all_end(&rt, &REPORTS);
 }
 
 // The report is the same for every number of partitions, and where nodes are lost or start anew.
@@ -100,8 +100,8 @@ static EMPTY_REPORT: Case = (RUN, &[], 0, &[EMPTY_INPUT], b"");
 
 #[test]
 fn partitions(rt: HostRuntime) {
-    assert_eq!(rt; first_unlike(&rt, &PARTITIONS, &EDGES_REPORT), None);
-    assert_eq!(rt; first_unlike(&rt, &PARTITIONS, &EMPTY_REPORT), None);
+    all_end_alike(&rt, &PARTITIONS, &EDGES_REPORT);
+    all_end_alike(&rt, &PARTITIONS, &EMPTY_REPORT);
 }
 
 // Each of the four nodes of two partitions is lost at each superstep.
@@ -126,7 +126,7 @@ static LOST: [&str; 16] = [
 
 #[test]
 fn any_node_lost_at_any_superstep(rt: HostRuntime) {
-    assert_eq!(rt; first_unlike(&rt, &LOST, &EDGES_REPORT), None);
+    all_end_alike(&rt, &LOST, &EDGES_REPORT);
 }
 
 // Both nodes of a partition are lost at a superstep.
@@ -164,8 +164,8 @@ static PARTITION_LOST: [Case; 2] = [
 
 #[test]
 fn both_nodes_lost_at_any_superstep(rt: HostRuntime) {
-    assert_eq!(rt; first_unlike(&rt, &BOTH_LOST[0], &PARTITION_LOST[0]), None);
-    assert_eq!(rt; first_unlike(&rt, &BOTH_LOST[1], &PARTITION_LOST[1]), None);
+    all_end_alike(&rt, &BOTH_LOST[0], &PARTITION_LOST[0]);
+    all_end_alike(&rt, &BOTH_LOST[1], &PARTITION_LOST[1]);
 }
 
 static COUNTED_REPORTS: [Case; 6] = [
@@ -198,7 +198,7 @@ static COUNTED_REPORTS: [Case; 6] = [
 
 #[test]
 fn counted_reports(rt: HostRuntime) {
-    assert_eq!(rt; first_other(&rt, &COUNTED_REPORTS), None);
+    all_end(&rt, &COUNTED_REPORTS);
 }
 
 const NO_LIST: &[u8] = b"hyperball: no line %% before the list\n";
@@ -244,7 +244,7 @@ static COUNTED_FAULTS: [Case; 13] = [
 
 #[test]
 fn counted_faults(rt: HostRuntime) {
-    assert_eq!(rt; first_other(&rt, &COUNTED_FAULTS), None);
+    all_end(&rt, &COUNTED_FAULTS);
 }
 
 // Whether the first line of %% cuts the input into these two.
@@ -345,5 +345,5 @@ static FAULTS: [Case; 25] = [
 
 #[test]
 fn faults_of_a_run(rt: HostRuntime) {
-    assert_eq!(rt; first_other(&rt, &FAULTS), None);
+    all_end(&rt, &FAULTS);
 }

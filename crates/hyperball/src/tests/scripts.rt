@@ -296,5 +296,5 @@ static SCRIPTS: [Case; 8] = [
 
 #[test]
 fn scripts_are_answered(rt: HostRuntime) {
-    assert_eq!(rt; first_other(&rt, &SCRIPTS), None);
+    all_end(&rt, &SCRIPTS);
 }

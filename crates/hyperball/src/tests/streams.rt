@@ -31,8 +31,8 @@ fn writing(room: usize) -> Flow {
     }
 }
 
-/// Whether a case ends so over such streams, or with a beginning of its output.
-fn is_cut_in<H: Host>(rt: &H, case: &Case, flow: &Flow) -> Option<usize> {
+/// How many bytes were written where a case ends so over such streams, or with a beginning of its output.
+fn cut_in<H: Host>(rt: &H, case: &Case, flow: &Flow) -> Option<usize> {
     let end = end_in(rt, case, flow)?;
     (is_told(case, &end) && end.output.is_front()).then_some(end.output.taken())
 }
@@ -58,16 +58,18 @@ static READ: [Case; 5] = [
 
 /// Whether a case ends as it says where just the reads that it needs go well.
 fn is_read<H: Host>(rt: &H, case: &Case) -> bool {
-    ends_in(rt, case, &reading(length_of(case.1) as u64 + 1))
+    ends_in(
+        rt,
+        case,
+        &reading((length_of(case.1) as u64).saturating_add(1)),
+    )
 }
 
 #[test]
 fn a_byte_a_read(rt: HostRuntime) {
-    let mut right = true;
     for case in &READ {
-        right &= is_read(&rt, case);
+        assert!(rt; is_read(&rt, case), "{}", case.0);
     }
-    assert!(rt; right);
 }
 
 const UNREAD: &[u8] = b"hyperball: the input cannot be read\n";
@@ -93,29 +95,19 @@ static READS_THAT_FAIL: [Case; 5] = [
     ),
 ];
 
-/// The first call whose failure is told otherwise.
-fn first_read_told_otherwise<H: Host>(rt: &H, case: &Case) -> Option<u64> {
+/// The failure of each read is told as the case says.
+fn each_read_fails<H: Host>(rt: &H, case: &Case) {
     for reads in 0..=length_of(case.1) as u64 {
-        if is_cut_in(rt, case, &reading(reads)).is_none() {
-            return Some(reads);
-        }
+        let cut = cut_in(rt, case, &reading(reads));
+        assert!(rt; cut.is_some(), "{}, read {reads}", case.0);
     }
-    None
-}
-
-/// The words of the first case in which the failure of a call is told otherwise, and the call.
-fn first_other_read<H: Host>(rt: &H) -> Option<(&'static str, u64)> {
-    for case in &READS_THAT_FAIL {
-        if let Some(call) = first_read_told_otherwise(rt, case) {
-            return Some((case.0, call));
-        }
-    }
-    None
 }
 
 #[test]
 fn a_read_that_fails(rt: HostRuntime) {
-    assert_eq!(rt; first_other_read(&rt), None);
+    for case in &READS_THAT_FAIL {
+        each_read_fails(&rt, case);
+    }
 }
 
 /// What is written a byte a call.
@@ -152,49 +144,25 @@ fn is_written<H: Host>(rt: &H, case: &Case) -> bool {
 
 #[test]
 fn a_byte_a_write(rt: HostRuntime) {
-    let mut right = true;
     for case in &WRITTEN {
-        right &= is_written(&rt, case);
+        assert!(rt; is_written(&rt, case), "{}", case.0);
     }
-    assert!(rt; right);
 }
 
-/// The least room below that which a case needs where something else is told than that its output cannot be written, or
-/// other bytes find room.
-fn first_write_told_otherwise<H: Host>(rt: &H, case: &Case) -> Option<usize> {
+/// Whatever room there is below that which a case needs is filled, and then this is told.
+fn each_write_fails<H: Host>(rt: &H, case: &Case) {
     let failing = (case.0, case.1, 1, case.3, UNWRITTEN);
     for room in 0..length_of(case.3) {
-        if is_cut_in(rt, &failing, &writing(room)) != Some(room) {
-            return Some(room);
-        }
+        let cut = cut_in(rt, &failing, &writing(room));
+        assert!(rt; cut == Some(room), "{}, room {room}", case.0);
     }
-    None
 }
 
 #[test]
-fn a_write_of_a_report_that_fails(rt: HostRuntime) {
-    assert_eq!(rt; first_write_told_otherwise(&rt, &WRITTEN[0]), None);
-}
-
-#[test]
-fn a_write_of_a_counted_report_that_fails(rt: HostRuntime) {
-    assert_eq!(rt; first_write_told_otherwise(&rt, &WRITTEN[1]), None);
-}
-
-/// The words of the first case of answers, of a gathered report or of help in which a write that fails is told otherwise,
-/// and the room.
-fn first_other_write<H: Host>(rt: &H) -> Option<(&'static str, usize)> {
-    for case in &WRITTEN[2..] {
-        if let Some(room) = first_write_told_otherwise(rt, case) {
-            return Some((case.0, room));
-        }
+fn a_write_that_fails(rt: HostRuntime) {
+    for case in &WRITTEN {
+        each_write_fails(&rt, case);
     }
-    None
-}
-
-#[test]
-fn a_write_of_answers_that_fails(rt: HostRuntime) {
-    assert_eq!(rt; first_other_write(&rt), None);
 }
 
 /// Faults that have room for three bytes: what is told then.

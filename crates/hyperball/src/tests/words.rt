@@ -19,7 +19,7 @@ use workers::RunError;
 
 /// Whether a fault prints as this text.
 fn prints<F: Display>(fault: &F, text: &'static str) -> bool {
-    let mut told = Compared::with_piece(text.as_bytes(), usize::MAX);
+    let mut told = Compared::of(text.as_bytes(), usize::MAX);
     write!(told, "{fault}").is_ok() && told.is_whole()
 }
 
@@ -87,20 +87,17 @@ static WHOLE_TEXTS: [(WholeError, &str); 3] = [
     (WholeError::Memory, "out of memory"),
 ];
 
-/// The first of these texts that its fault does not print as.
-fn first_other_text<F: Display>(texts: &[(F, &'static str)]) -> Option<&'static str> {
+/// Each fault prints as its text.
+fn all_print<H: Host, F: Display>(rt: &H, texts: &[(F, &'static str)]) {
     for (fault, text) in texts {
-        if !prints(fault, *text) {
-            return Some(*text);
-        }
+        assert!(rt; prints(fault, *text), "{text}");
     }
-    None
 }
 
 #[test]
 fn texts_of_faults(rt: HostRuntime) {
-    assert_eq!(rt; first_other_text(&FAULT_TEXTS), None);
-    assert_eq!(rt; first_other_text(&WHOLE_TEXTS), None);
+    all_print(&rt, &FAULT_TEXTS);
+    all_print(&rt, &WHOLE_TEXTS);
 }
 
 /// What is in the help of a run, one behind the other: each option and its help, and its example.
@@ -214,11 +211,9 @@ fn explains<H: Host>(rt: &H, case: &Case) -> bool {
 
 #[test]
 fn help_of_each_option(rt: HostRuntime) {
-    let mut all = true;
     for case in &HELPED {
-        all &= explains(&rt, case);
+        assert!(rt; explains(&rt, case), "{}", case.0);
     }
-    assert!(rt; all);
 }
 
 /// Words that ask for the version.
@@ -228,7 +223,7 @@ static VERSIONS: [Case; 1] = [VERSION];
 
 #[test]
 fn version_is_told(rt: HostRuntime) {
-    assert_eq!(rt; first_other(&rt, &VERSIONS), None);
+    all_end(&rt, &VERSIONS);
 }
 
 /// What is told of a text that is no list of orders.
@@ -436,7 +431,7 @@ static MISTAKES: [Case; 33] = [
 
 #[test]
 fn mistaken_words(rt: HostRuntime) {
-    assert_eq!(rt; first_other(&rt, &MISTAKES), None);
+    all_end(&rt, &MISTAKES);
 }
 
 /// What the words of a run say below.
@@ -576,19 +571,11 @@ static READINGS: [(&str, Reading); 6] = [
     ),
 ];
 
-/// The first of these lines that is read otherwise.
-fn first_misread(alloc: Global) -> Option<&'static str> {
-    for (line, reading) in &READINGS {
-        if !says(alloc, *line, reading) {
-            return Some(*line);
-        }
-    }
-    None
-}
-
 #[test]
 fn words_are_read(rt: HostRuntime) {
-    assert_eq!(rt; first_misread(rt.alloc()), None);
+    for (line, reading) in &READINGS {
+        assert!(rt; says(rt.alloc(), *line, reading), "{line}");
+    }
 }
 
 #[test]
@@ -631,9 +618,7 @@ fn is_no_list(alloc: Global, text: &str) -> bool {
 
 #[test]
 fn texts_that_are_no_orders(rt: HostRuntime) {
-    let mut all = true;
     for text in &NO_ORDERS {
-        all &= is_no_list(rt.alloc(), *text);
+        assert!(rt; is_no_list(rt.alloc(), *text), "{text}");
     }
-    assert!(rt; all);
 }
