@@ -159,10 +159,29 @@ fn each_write_fails<H: Host>(rt: &H, case: &Case) {
 }
 
 #[test]
-fn a_write_that_fails(rt: HostRuntime) {
-    for case in &WRITTEN {
-        each_write_fails(&rt, case);
-    }
+fn a_write_of_a_report_that_fails(rt: HostRuntime) {
+    each_write_fails(&rt, &WRITTEN[0]);
+}
+
+#[test]
+fn a_write_of_a_counted_report_that_fails(rt: HostRuntime) {
+    each_write_fails(&rt, &WRITTEN[1]);
+}
+
+#[test]
+fn a_write_of_answers_that_fails(rt: HostRuntime) {
+    each_write_fails(&rt, &WRITTEN[2]);
+    each_write_fails(&rt, &WRITTEN[3]);
+}
+
+#[test]
+fn a_write_of_a_gathered_report_that_fails(rt: HostRuntime) {
+    each_write_fails(&rt, &WRITTEN[4]);
+}
+
+#[test]
+fn a_write_of_the_version_that_fails(rt: HostRuntime) {
+    each_write_fails(&rt, &WRITTEN[5]);
 }
 
 /// Faults that have room for three bytes: what is told then.
