@@ -130,17 +130,19 @@ fn end_of<H: Host>(rt: &H, words: &[String], case: &Case, flow: &Flow, lines: &L
     }
 }
 
-/// How a case ends over such streams, where progress is told to these lines. None: memory is refused before.
+/// The same of the words of a case, where progress is told to these lines. None: memory is refused before.
 fn served<H: Host>(rt: &H, case: &Case, flow: &Flow, lines: &Lines) -> Option<End> {
     let words = words_of(rt.alloc(), case.0).ok()?;
     Some(end_of(rt, &words, case, flow, lines))
 }
 
-/// How a case ends over such streams, where no progress is to be told.
-fn end_in<H: Host>(rt: &H, case: &Case, flow: &Flow) -> Option<End> {
-    let lines = Lines::new(&[]);
-    let end = served(rt, case, flow, &lines)?;
-    lines.are_told().then_some(end)
+/// How a case ends over such streams, where just these lines of progress are told.
+fn end_in<H: Host>(rt: &H, case: &Case, flow: &Flow, wanted: Pieces) -> Option<End> {
+    let lines = Lines::new(wanted);
+    match served(rt, case, flow, &lines) {
+        Some(end) if lines.are_told() => Some(end),
+        _ => None,
+    }
 }
 
 /// Whether the status is that of the case, and just what it says was told.
@@ -160,7 +162,7 @@ fn is_right(case: &Case, end: &End) -> bool {
 
 /// Whether a case ends as it says over such streams.
 fn ends_in<H: Host>(rt: &H, case: &Case, flow: &Flow) -> bool {
-    match end_in(rt, case, flow) {
+    match end_in(rt, case, flow, &[]) {
         Some(end) => is_right(case, &end),
         None => false,
     }
@@ -178,10 +180,14 @@ fn all_end<H: Host>(rt: &H, cases: &[Case]) {
     }
 }
 
+/// Whether the words of a line end as the case says.
+fn ends_alike<H: Host>(rt: &H, line: &'static str, case: &Case) -> bool {
+    ends(rt, &(line, case.1, case.2, case.3, case.4))
+}
+
 /// The words of each of these lines end as the case says.
 fn all_end_alike<H: Host>(rt: &H, lines: &[&'static str], case: &Case) {
     for line in lines {
-        let alike = (*line, case.1, case.2, case.3, case.4);
-        assert!(rt; ends(rt, &alike), "{line}");
+        assert!(rt; ends_alike(rt, *line, case), "{line}");
     }
 }

@@ -7,9 +7,8 @@ type Telling = (Case, Pieces);
 
 /// Whether a case ends as it says, and just such lines are told.
 fn tells<H: Host>(rt: &H, telling: &Telling) -> bool {
-    let lines = Lines::new(telling.1);
-    match served(rt, &telling.0, &OPEN, &lines) {
-        Some(end) => is_right(&telling.0, &end) && lines.are_told(),
+    match end_in(rt, &telling.0, &OPEN, telling.1) {
+        Some(end) => is_right(&telling.0, &end),
         None => false,
     }
 }

@@ -12,7 +12,7 @@ fn is_refused(case: &Case, end: &End) -> bool {
 
 /// Whether words are served, at once or when they are served again.
 fn is_served_again<H: Host>(rt: &H, case: &Case) -> bool {
-    match end_in(rt, case, &OPEN) {
+    match end_in(rt, case, &OPEN, &[]) {
         Some(end) if is_right(case, &end) => true,
         Some(end) => is_refused(case, &end) && ends(rt, case),
         None => ends(rt, case),

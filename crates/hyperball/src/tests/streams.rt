@@ -31,10 +31,9 @@ fn writing(room: usize) -> Flow {
     }
 }
 
-/// How many bytes were written where a case ends so over such streams, or with a beginning of its output.
-fn cut_in<H: Host>(rt: &H, case: &Case, flow: &Flow) -> Option<usize> {
-    let end = end_in(rt, case, flow)?;
-    (is_told(case, &end) && end.output.is_front()).then_some(end.output.taken())
+/// Whether what was told is that of the case, and what was written a beginning.
+fn is_cut(case: &Case, end: &End) -> bool {
+    is_told(case, end) && end.output.is_front()
 }
 
 const REPLAY: &str = "hyperball replay --log2m 4 --parts 2";
@@ -95,11 +94,18 @@ static READS_THAT_FAIL: [Case; 5] = [
     ),
 ];
 
+/// Whether a case ends so where so many reads go well.
+fn is_cut_after<H: Host>(rt: &H, case: &Case, reads: u64) -> bool {
+    match end_in(rt, case, &reading(reads), &[]) {
+        Some(end) => is_cut(case, &end),
+        None => false,
+    }
+}
+
 /// The failure of each read is told as the case says.
 fn each_read_fails<H: Host>(rt: &H, case: &Case) {
     for reads in 0..=length_of(case.1) as u64 {
-        let cut = cut_in(rt, case, &reading(reads));
-        assert!(rt; cut.is_some(), "{}, read {reads}", case.0);
+        assert!(rt; is_cut_after(rt, case, reads), "{reads} reads");
     }
 }
 
@@ -149,12 +155,19 @@ fn a_byte_a_write(rt: HostRuntime) {
     }
 }
 
-/// Whatever room there is below that which a case needs is filled, and then this is told.
-fn each_write_fails<H: Host>(rt: &H, case: &Case) {
+/// Whether so much room is filled, and then it is told that the output cannot be written.
+fn is_cut_at<H: Host>(rt: &H, case: &Case, room: usize) -> bool {
     let failing = (case.0, case.1, 1, case.3, UNWRITTEN);
+    match end_in(rt, &failing, &writing(room), &[]) {
+        Some(end) => is_cut(&failing, &end) && end.output.taken() == room,
+        None => false,
+    }
+}
+
+/// So it is with all room below that which a case needs.
+fn each_write_fails<H: Host>(rt: &H, case: &Case) {
     for room in 0..length_of(case.3) {
-        let cut = cut_in(rt, &failing, &writing(room));
-        assert!(rt; cut == Some(room), "{}, room {room}", case.0);
+        assert!(rt; is_cut_at(rt, case, room), "room for {room} bytes");
     }
 }
 

@@ -203,7 +203,7 @@ static HELPED: [Case; 5] = [
 
 /// Whether words that ask for help get it, with all of this in it.
 fn explains<H: Host>(rt: &H, case: &Case) -> bool {
-    match end_in(rt, case, &OPEN) {
+    match end_in(rt, case, &OPEN, &[]) {
         Some(end) => is_told(case, &end) && end.output.has_all(),
         None => false,
     }
