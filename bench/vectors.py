@@ -169,6 +169,8 @@ def halves(digest):
 
 # Literals.
 
+WIDTH = 100  # of a line in the layout of `rt fmt`
+
 
 def spelled(byte):
     return f"\\x{byte:02x}" if byte else "\\0"
@@ -186,11 +188,11 @@ def literal(groups):
 def constant(name, about, groups):
     """A constant of these groups behind its comment, and with its length in that."""
     length = sum(len(group) for group in groups)
-    comment = "".join(f"/// {line}\n" for line in about.format(length=length).splitlines())
     text = literal(groups)
-    left = f"pub(super) const {name}: &[u8] ="
-    between = " " if len(left) + len(text.split("\n")[0]) < 100 else "\n    "
-    return f"{comment}{left}{between}{text};\n"
+    front = f"pub(super) const {name}: &[u8] ="
+    # where the first line is too long, `rt fmt` wants the literal on a line of its own
+    gap = " " if len(front) + 1 + text.index("\n") <= WIDTH else "\n    "
+    return f"/// {about.format(length=length)}\n{front}{gap}{text};\n"
 
 
 HEAD = """\
