@@ -1,7 +1,8 @@
 #!/usr/bin/env python3
-"""Writes the batches and checkpoints that the tests of crate `node` bring to nodes and gatherings, and want of them.
+"""Writes the batches and checkpoints that tests bring to nodes and gatherings, and want of them.
 
 Usage: vectors.py > crates/node/src/tests/vectors.rt
+       vectors.py hyperball > crates/hyperball/src/tests/vectors.rt
 
 All is made from docs/DEFINITIONS.md (balls, hashes, counters, figures) and docs/FORMATS.md (the bytes) by the standard
 library alone, and nothing of it by the program: where a node answers the same bytes, two programs agree. The job has
@@ -10,6 +11,7 @@ partitions: a and c are of partition 0, and b of partition 1.
 """
 import hashlib
 import struct
+import sys
 
 EDGES = [(0, 1), (1, 2)]
 VERTICES = 3
@@ -18,6 +20,7 @@ REGISTERS = 1 << LOG2M
 SEED = 0
 PARTS = 2
 LIMIT = 4096
+COUNTED = [0, 1, 2]  # the vertices that are counted
 END = 3  # the superstep at which nothing changes any more
 
 MILLION = 1_000_000
@@ -58,7 +61,7 @@ def ball(vertex, superstep):
 def counter(vertex, superstep):
     """The registers: the greatest rank of a member of the ball that falls into each."""
     registers = [0] * REGISTERS
-    for member in ball(vertex, superstep):
+    for member in sorted(ball(vertex, superstep).intersection(COUNTED)):
         hashed = hash_of(member)
         registers[index_of(hashed)] = max(registers[index_of(hashed)], rank_of(hashed))
     return registers
@@ -119,9 +122,12 @@ def accumulated(vertex, superstep, heard):
 
 
 def job_digest():
-    text = struct.pack(">4sBQHIIQ", b"HBJ1", LOG2M, SEED, PARTS, LIMIT, VERTICES, len(EDGES))
+    listed = len(COUNTED) < VERTICES
+    text = struct.pack(">4sBQHIIQ", b"HBJ2" if listed else b"HBJ1", LOG2M, SEED, PARTS, LIMIT, VERTICES, len(EDGES))
     for source, target in sorted(EDGES, key=lambda edge: (edge[1], edge[0])):
         text += struct.pack(">II", source, target)
+    if listed:
+        text += struct.pack(f">{1 + len(COUNTED)}I", len(COUNTED), *COUNTED)
     return hashlib.sha256(text).digest()
 
 
@@ -155,6 +161,27 @@ def checkpoint(part, superstep, heard):
     groups += [bytes(accumulated(vertex, superstep, heard)) for vertex in own]
     groups.append(struct.pack(">H", 0))
     return groups + halves(hashlib.sha256(b"".join(groups)).digest())
+
+
+def path_with_early(supersteps):
+    """Partition 1 of the path a, b, c, d, e in two partitions at superstep 0, which keeps a batch of each of these
+    supersteps. Each tells of one changed vertex and has no row, as no true one does: `TWO_EARLY` of crate `checkpoint`
+    is `b"".join(path_with_early([2, 3]))`."""
+    edges = [(0, 1), (1, 2), (2, 3), (3, 4)]
+    text = struct.pack(">4sBQHIIQ", b"HBJ1", LOG2M, SEED, PARTS, LIMIT, 5, len(edges))
+    job = hashlib.sha256(text + b"".join(struct.pack(">II", *edge) for edge in edges)).digest()
+    own = [1, 3]
+    groups = [struct.pack(">4sBBHHIII", b"HBCK", 2, LOG2M, PARTS, 1, 5, len(own), 0), job]
+    for vertex in own:
+        groups.append(struct.pack(">BQQ16x", 1, estimate(vertex, 0), 0) + bytes(counter(vertex, 0)))
+    groups.append(sum(estimate(vertex, 0) for vertex in own).to_bytes(16, "big") + bytes(9))
+    groups += [bytes(counter(vertex, 0)) for vertex in own]
+    groups.append(struct.pack(">H", len(supersteps)))
+    for superstep in supersteps:
+        head = struct.pack(">4sBBIHH", b"HBBT", 1, LOG2M, superstep, 0, 1)
+        early = head + job + struct.pack(">II", 1, 0)
+        groups.append(struct.pack(">Q", len(early)) + early)
+    return [*groups, hashlib.sha256(b"".join(groups)).digest()]
 
 
 def halves(digest):
@@ -240,7 +267,47 @@ def all_pieces():
     yield constant("START_REST", "What follows the first mark in `SECOND_START`: {length} bytes.", start[4:])
 
 
+# The tests of crate `hyperball`.
+
+
+PROGRAM_HEAD = """\
+//! Batches and checkpoints of two edges, from a to b and from b to c, in two partitions, of which a and c are of the
+//! first, and b of the second; and checkpoints of the same edges in one partition. Counters have 16 registers under seed
+//! 0. `bench/vectors.py hyperball` prints this file, from the definitions and the formats alone: nothing of it comes from
+//! the program. It says what stands on each line.
+"""
+
+
+def program_vectors():
+    """What the tests of crate `hyperball` bring to nodes and gatherings, and want of them."""
+    global PARTS, COUNTED
+    yield from all_batches()
+    for name, part, superstep, heard, about in [
+        ("SECOND_START", 1, 0, [], "Partition 1 at its start"),
+        ("FIRST_END", 0, END, [1], "Partition 0 at the end"),
+        ("SECOND_END", 1, END, [0], "Partition 1 at the end"),
+    ]:
+        yield constant(name, about + ": {length} bytes.", checkpoint(part, superstep, heard))
+    digest = job_digest()
+    other = bytes([digest[0] ^ 1]) + digest[1:]
+    yield constant("JOB", "The digest of the job in two partitions: {length} bytes.", halves(digest))
+    yield constant("OTHER_JOB", "The same with one bit changed: {length} bytes.", halves(other))
+    PARTS = 1
+    for name, superstep, about in [
+        ("LONE_STEP", 1, "The only partition at superstep 1"),
+        ("LONE_END", END, "The only partition at the end"),
+    ]:
+        yield constant(name, about + ": {length} bytes.", checkpoint(0, superstep, []))
+    COUNTED = [0]
+    about = "The only partition at the end, where a alone is counted: {length} bytes."
+    yield constant("LISTED_END", about, checkpoint(0, END, []))
+
+
 def main():
+    if sys.argv[1:] == ["hyperball"]:
+        print(PROGRAM_HEAD)
+        print("\n".join(program_vectors()), end="")
+        return
     print(HEAD)
     print("\n".join([*all_batches(), *all_checkpoints(), *all_pieces()]), end="")
 

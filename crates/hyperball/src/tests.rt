@@ -1,6 +1,8 @@
-//! What no clause says: reports of runs, printed texts, statuses, and streams that fail.
+//! What no clause says: reports of runs, printed texts, statuses, and streams that fail. A case is constant data: words,
+//! an input, and what comes of them. What is written and told is compared as it comes, and kept nowhere.
 
 mod estimates;
+mod fakes;
 mod nodes;
 mod progress;
 mod refusals;
@@ -8,23 +10,39 @@ mod replays;
 mod runs;
 mod scripts;
 mod streams;
+mod vectors;
 mod words;
 
-use crate::progress::Faults;
 use crate::serve::serve;
 use ball_model::{CountingReader, CountingWriter};
-use std::alloc::AllocError;
-use std::fmt::Display;
-use std::io;
-use std::io::{Eprint, Read, Write};
+use fakes::{Compared, Given, Lines, Told};
+use std::alloc::{AllocError, Global};
 use std::process::Abort;
 use std::random::RandomSource;
 use std::sync::Wait;
-use std::test::Fail;
 use std::thread::Threads;
 use std::time::Clock;
 
-const TWO_EDGES: &[u8] = b"superstep,0,33.803869
+/// All that the program has of its machine.
+trait Host: Abort + AllocGlobal + Clock + RandomSource + Threads + Wait + Sync {}
+
+impl<H: Abort + AllocGlobal + Clock + RandomSource + Threads + Wait + Sync> Host for H {}
+
+/// Some bytes in pieces, none of which is empty.
+type Pieces = &'static [&'static [u8]];
+
+/// The words of a command line, an input, the status, what is written, and what is told: of words that are refused
+/// (status 2) the beginning.
+type Case = (&'static str, Pieces, u8, Pieces, &'static [u8]);
+
+/// Two edges, from a to b and from b to c.
+const EDGES: &[u8] = b"a\tb\nb\tc\n";
+
+/// The same with the mark that ends them.
+const MARKED: &[u8] = b"a\tb\nb\tc\n%%\n";
+
+/// The report of the two edges.
+const REPORT: &[u8] = b"superstep,0,33.803869
 superstep,1,34.851860
 superstep,2,35.588471
 superstep,3,35.588471
@@ -35,6 +53,7 @@ vertex,b,11.780376,0.665022,1.503709,208.680703,14
 vertex,c,12.417153,0.751274,0.538737,83.065637,13
 ";
 
+/// The same where a alone is counted.
 const ONE_COUNTED: &[u8] = b"superstep,0,32.926942
 superstep,1,33.549884
 superstep,2,34.172826
@@ -50,121 +69,125 @@ const RUN: &str = "hyperball run --log2m 4";
 
 const COUNTED: &str = "hyperball run --log2m 4 --counted";
 
-// The words of a command line, an input, and what is written or told.
-type Case = (&'static str, &'static [u8], &'static [u8]);
+const NO_MEMORY: &[u8] = b"hyperball: out of memory\n";
 
-// Tells nobody.
+const UNWRITTEN: &[u8] = b"hyperball: the output cannot be written\n";
+
+/// How bytes flow: how many bytes a call moves at most, how many reads go well, and how many bytes of the output and
+/// of the faults find room.
 #[derive(Clone, Copy)]
-pub struct Mute;
-
-impl Eprint for Mute {
-    fn eprint<D: Display + Drop>(&self, _value: D) -> io::Result<()> {
-        Ok(())
-    }
-
-    fn eprintln<D: Display + Drop>(&self, _value: D) -> io::Result<()> {
-        Ok(())
-    }
+struct Flow {
+    step: usize,
+    reads: u64,
+    room: usize,
+    told: usize,
 }
 
-impl Faults for Vec<u8> {
-    type Teller = Mute;
+/// Streams that never fail.
+static OPEN: Flow = Flow {
+    step: usize::MAX,
+    reads: u64::MAX,
+    room: usize::MAX,
+    told: usize::MAX,
+};
 
-    fn teller(&mut self) -> Mute {
-        Mute
-    }
-}
-
-// What was served.
-#[derive(Drop)]
-struct Served {
+/// How words ended: the status, what was written, what was told, and the same beside what is told of refused memory.
+#[derive(Clone, Copy)]
+struct End {
     status: u8,
-    output: Vec<u8>,
-    faults: Vec<u8>,
+    output: Compared,
+    faults: Compared,
+    refused: Compared,
 }
 
-// Adds a word.
-fn add_word<H: AllocGlobal>(rt: &H, word: &str, words: &mut Vec<String>) -> Result<(), AllocError> {
-    let word = String::from_str(rt.alloc(), word)?;
-    words.push(word)?;
-    Ok(())
-}
-
-// Adds the words of a line.
-fn add_words<H: AllocGlobal>(
-    rt: &H,
-    line: &str,
-    words: &mut Vec<String>,
-) -> Result<(), AllocError> {
+/// Adds the words of a line.
+fn add_words(alloc: Global, line: &str, words: &mut Vec<String>) -> Result<(), AllocError> {
     for word in line.split_whitespace() {
-        add_word(rt, word, words)?;
+        words.push(String::from_str(alloc, word)?)?;
     }
     Ok(())
 }
 
-// The words as the program gets them.
-fn words_of<H: AllocGlobal>(rt: &H, line: &str) -> Result<Vec<String>, AllocError> {
-    let mut words = Vec::new(rt.alloc());
-    add_words(rt, line, &mut words)?;
+/// The words of a line, as the program gets them.
+fn words_of(alloc: Global, line: &str) -> Result<Vec<String>, AllocError> {
+    let mut words = Vec::new(alloc);
+    add_words(alloc, line, &mut words)?;
     Ok(words)
 }
 
-// Serves words over three streams, and gives the status.
-fn serve_words<
-    H: AllocGlobal + Clock + RandomSource + Threads + Wait + Sync,
-    R: Read + Drop,
-    W: Write + Drop,
-    F: Faults,
->(rt: &H, words: &[String], input: R, output: W, faults: &mut F) -> u8 {
-    let mut reader = CountingReader::new(input);
-    let mut writer = CountingWriter::new(output);
-    serve(rt, words, &mut reader, &mut writer, faults)
-}
-
-// The same, of the words of a line.
-fn serve_streams<
-    H: AllocGlobal + Clock + RandomSource + Threads + Wait + Sync,
-    R: Read + Drop,
-    W: Write + Drop,
-    F: Faults,
->(rt: &H, line: &str, input: R, output: W, faults: &mut F) -> Result<u8, AllocError> {
-    let words = words_of(rt, line)?;
-    Ok(serve_words(rt, &words, input, output, faults))
-}
-
-// Serves words over an input.
-fn serve_input<H: AllocGlobal + Clock + RandomSource + Threads + Wait + Sync, R: Read + Drop>(
-    rt: &H,
-    line: &str,
-    input: R,
-) -> Result<Served, AllocError> {
-    let mut output = Vec::new(rt.alloc());
-    let mut faults = Vec::new(rt.alloc());
-    let status = serve_streams(rt, line, input, &mut output, &mut faults)?;
-    Ok(Served {
+/// How these words end over the input of a case.
+fn end_of<H: Host>(rt: &H, words: &[String], case: &Case, flow: &Flow, lines: &Lines) -> End {
+    let mut reader = CountingReader::new(Given::new(case.1, flow));
+    let mut output = Compared::new(case.3, flow.step, flow.room);
+    let mut writer = CountingWriter::new(&mut output);
+    let mut told = Told::new(case.4, flow.told, lines);
+    let status = serve(rt, words, &mut reader, &mut writer, &mut told);
+    End {
         status,
         output,
-        faults,
-    })
+        faults: told.text,
+        refused: told.refused,
+    }
 }
 
-// Just this was told and written.
-fn is_served(served: &Served, status: u8, output: &[u8], faults: &[u8]) -> bool {
-    served.status == status
-        && served.output.as_slice() == output
-        && served.faults.as_slice() == faults
+/// The same of the words of a case, where progress is told to these lines. None: memory is refused before.
+fn served<H: Host>(rt: &H, case: &Case, flow: &Flow, lines: &Lines) -> Option<End> {
+    let words = words_of(rt.alloc(), case.0).ok()?;
+    Some(end_of(rt, &words, case, flow, lines))
 }
 
-// These words end with this status, and write and tell just this.
-fn ends<H: Abort + AllocGlobal + Clock + RandomSource + Threads + Wait + Sync>(
-    rt: &H,
-    status: u8,
-    line: &str,
-    input: &[u8],
-    output: &[u8],
-    faults: &[u8],
-) -> Result<(), Fail> {
-    let served = serve_input(rt, line, input)?;
-    assert!(rt; is_served(&served, status, output, faults), "{line}");
-    Ok(())
+/// How a case ends over such streams, where just these lines of progress are told.
+fn end_in<H: Host>(rt: &H, case: &Case, flow: &Flow, wanted: Pieces) -> Option<End> {
+    let lines = Lines::new(wanted);
+    match served(rt, case, flow, &lines) {
+        Some(end) if lines.are_told() => Some(end),
+        _ => None,
+    }
+}
+
+/// Whether the status is that of the case, and just what it says was told.
+fn is_told(case: &Case, end: &End) -> bool {
+    let told = if case.2 == 2 {
+        end.faults.begins()
+    } else {
+        end.faults.is_whole()
+    };
+    told && end.status == case.2
+}
+
+/// Whether a case ended as it says.
+fn is_right(case: &Case, end: &End) -> bool {
+    is_told(case, end) && end.output.is_whole()
+}
+
+/// Whether a case ends as it says over such streams.
+fn ends_in<H: Host>(rt: &H, case: &Case, flow: &Flow) -> bool {
+    match end_in(rt, case, flow, &[]) {
+        Some(end) => is_right(case, &end),
+        None => false,
+    }
+}
+
+/// Whether a case ends as it says.
+fn ends<H: Host>(rt: &H, case: &Case) -> bool {
+    ends_in(rt, case, &OPEN)
+}
+
+/// Each of these cases ends as it says.
+fn all_end<H: Host>(rt: &H, cases: &[Case]) {
+    for case in cases {
+        assert!(rt; ends(rt, case), "{}", case.0);
+    }
+}
+
+/// Whether the words of a line end as the case says.
+fn ends_alike<H: Host>(rt: &H, line: &'static str, case: &Case) -> bool {
+    ends(rt, &(line, case.1, case.2, case.3, case.4))
+}
+
+/// The words of each of these lines end as the case says.
+fn all_end_alike<H: Host>(rt: &H, lines: &[&'static str], case: &Case) {
+    for line in lines {
+        assert!(rt; ends_alike(rt, *line, case), "{line}");
+    }
 }

@@ -1,7 +1,6 @@
 //! Reports with corrected estimates, worked by hand: k of m places are taken after m/m, m/(m-1), .. m/(m-k+1) draws, each
 //! rounded down to a millionth.
 
-use super::runs::all_report;
 use super::*;
 
 const TWO_EDGES_4: &[u8] = b"superstep,0,3.000000
@@ -92,70 +91,94 @@ vertex,c,0.000000,0.000000,0.000000,1.000000,16
 static CORRECTED: [Case; 12] = [
     (
         "hyperball run --estimate corrected --log2m 4",
-        b"a\tb\nb\tc\n",
-        TWO_EDGES_4,
+        &[EDGES],
+        0,
+        &[TWO_EDGES_4],
+        b"",
     ),
     (
         "hyperball run --estimate corrected --log2m 4 --parts 2",
-        b"a\tb\nb\tc\n",
-        TWO_EDGES_4,
+        &[EDGES],
+        0,
+        &[TWO_EDGES_4],
+        b"",
     ),
     (
         "hyperball run --estimate corrected --log2m 4",
-        b"a\tb\nb\ta\n",
-        TWO_CYCLE_4,
+        &[b"a\tb\nb\ta\n"],
+        0,
+        &[TWO_CYCLE_4],
+        b"",
     ),
     (
         "hyperball run --estimate corrected --log2m 4",
-        b"a\n",
-        LONE_VERTEX_4,
+        &[b"a\n"],
+        0,
+        &[LONE_VERTEX_4],
+        b"",
     ),
     (
         "hyperball run --estimate corrected --log2m 4 --counted",
-        b"a\tb\nb\tc\n%%\na\n",
-        ONE_COUNTED_4,
+        &[b"a\tb\nb\tc\n%%\na\n"],
+        0,
+        &[ONE_COUNTED_4],
+        b"",
     ),
     (
         "hyperball run --estimate corrected --log2m 8",
-        b"a\tb\nb\tc\n",
-        TWO_EDGES_8,
+        &[EDGES],
+        0,
+        &[TWO_EDGES_8],
+        b"",
     ),
     (
         "hyperball run --estimate corrected --log2m 8 --parts 2",
-        b"a\tb\nb\tc\n",
-        TWO_EDGES_8,
+        &[EDGES],
+        0,
+        &[TWO_EDGES_8],
+        b"",
     ),
     (
         "hyperball run --estimate corrected --log2m 8",
-        b"a\tb\nb\ta\n",
-        TWO_CYCLE_8,
+        &[b"a\tb\nb\ta\n"],
+        0,
+        &[TWO_CYCLE_8],
+        b"",
     ),
     (
         "hyperball run --estimate corrected --log2m 8",
-        b"a\n",
-        LONE_VERTEX_8,
+        &[b"a\n"],
+        0,
+        &[LONE_VERTEX_8],
+        b"",
     ),
     (
         "hyperball run --estimate corrected --log2m 8 --counted",
-        b"a\tb\nb\tc\n%%\na\n",
-        ONE_COUNTED_8,
+        &[b"a\tb\nb\tc\n%%\na\n"],
+        0,
+        &[ONE_COUNTED_8],
+        b"",
     ),
     (
         "hyperball run --estimate corrected --log2m 4 --counted --parts 2",
-        b"a\tb\nb\tc\n%%\n",
-        NONE_COUNTED_4,
+        &[b"a\tb\nb\tc\n%%\n"],
+        0,
+        &[NONE_COUNTED_4],
+        b"",
     ),
     // raw estimates are the usual ones
     (
         "hyperball run --estimate raw --log2m 4",
-        b"a\tb\nb\tc\n",
-        TWO_EDGES,
+        &[EDGES],
+        0,
+        &[REPORT],
+        b"",
     ),
 ];
 
 #[test]
-fn corrected_reports(rt: HostRuntime) -> Result<(), Fail> {
-    all_report(&rt, &CORRECTED)
+fn corrected_reports(rt: HostRuntime) {
+    all_end(&rt, &CORRECTED);
 }
 
 // A tree of 31 vertices, in which each inner one has edges from two others: the ball of its root has 1, 3, 7, 15 and 31
@@ -179,9 +202,23 @@ gain,28.572018
 vertex,0,43.411149,14.392103,0.006990,13.174041,0
 ";
 
+static CROSSING: [Case; 1] = [(
+    "hyperball run --estimate corrected --log2m 4",
+    &[TREE],
+    0,
+    &[TREE_FRONT],
+    b"",
+)];
+
+/// Whether a report begins as the case says.
+fn begins<H: Host>(rt: &H, case: &Case) -> bool {
+    match end_in(rt, case, &OPEN, &[]) {
+        Some(end) => is_told(case, &end) && end.output.begins(),
+        None => false,
+    }
+}
+
 #[test]
-fn estimates_that_cross_the_bound(rt: HostRuntime) -> Result<(), Fail> {
-    let served = serve_input(&rt, "hyperball run --estimate corrected --log2m 4", TREE)?;
-    assert!(rt; served.status == 0 && served.output.starts_with(TREE_FRONT));
-    Ok(())
+fn estimates_that_cross_the_bound(rt: HostRuntime) {
+    assert!(rt; begins(&rt, &CROSSING[0]));
 }

@@ -1,296 +1,259 @@
 //! What is told of how a command gets on.
 
-ghost use Rattle.std.specs.Prelude.{None};
-
-use super::nodes::add_both_kept;
 use super::*;
-use std::alloc::Global;
-use std::sync::atomic::{AtomicU32, Ordering};
 
-// Counts lines that begin as all lines of the program do.
-#[derive(Drop)]
-pub struct Lines {
-    alloc: Global,
-    count: AtomicU32,
-}
+/// A case, and what the lines of progress begin with.
+type Telling = (Case, Pieces);
 
-impl Eprint for Lines {
-    fn eprint<D: Display + Drop>(&self, _value: D) -> io::Result<()> {
-        Ok(())
-    }
-
-    fn eprintln<D: Display + Drop>(&self, value: D) -> io::Result<()> {
-        let line = format!(in self.alloc; "{value}")?;
-        if line.starts_with("hyperball: ") {
-            self.count.fetch_add(1, Ordering::SeqCst);
-        }
-        Ok(())
+/// Whether a case ends as it says, and just such lines are told.
+fn tells<H: Host>(rt: &H, telling: &Telling) -> bool {
+    match end_in(rt, &telling.0, &OPEN, telling.1) {
+        Some(end) => is_right(&telling.0, &end),
+        None => false,
     }
 }
 
-// Drops faults, and has lines of progress told by this.
-#[derive(Drop)]
-pub struct Told<'a, L> {
-    lines: &'a L,
-}
-
-impl<'a, L> Write for Told<'a, L> {
-    ghost contents = { λ w. None };
-
-    fn write(&mut self, buf: &[u8]) -> io::Result<usize> {
-        Ok(buf.len())
-    }
-
-    fn flush(&mut self) -> io::Result<()> {
-        Ok(())
+/// Each of these cases ends as it says, and just such lines are told.
+fn all_tell<H: Host>(rt: &H, tellings: &[Telling]) {
+    for telling in tellings {
+        assert!(rt; tells(rt, telling), "{}", (telling.0).0);
     }
 }
 
-impl<'a, L: Eprint + Sync> Faults for Told<'a, L> {
-    type Teller = &'a L;
+const READ: &[u8] = b"hyperball: 3 vertices and 2 edges are read\n";
 
-    fn teller(&mut self) -> &'a L {
-        self.lines
-    }
-}
+const REPORTED: &[u8] = b"hyperball: the report is written\n";
 
-// How many lines of progress are told of words that are served with status 0.
-fn lines_of<H: AllocGlobal + Clock + RandomSource + Threads + Wait + Sync>(
-    rt: &H,
-    line: &str,
-    input: &[u8],
-) -> Result<Option<u32>, Fail> {
-    let lines = Lines {
-        alloc: rt.alloc(),
-        count: AtomicU32::new(0),
-    };
-    let mut output = Vec::new(rt.alloc());
-    let mut faults = Told { lines: &lines };
-    let status = serve_streams(rt, line, input, &mut output, &mut faults)?;
-    Ok(if status == 0 {
-        Some(lines.count.load(Ordering::SeqCst))
-    } else {
-        None
-    })
-}
-
-// The graph, three supersteps and the report, however many workers there are, and nothing where it is not asked for.
-static TOLD: [(&str, u32); 6] = [
-    ("hyperball run --log2m 4", 0),
-    ("hyperball run --log2m 4 --progress", 5),
-    ("hyperball run --progress --log2m 4 --parts 5", 5),
-    (
-        "hyperball run --log2m 4 --parts 2 --replicas 2 --progress --lose 0.0@1",
-        5,
-    ),
-    (
-        "hyperball run --log2m 4 --parts 2 --progress --restart 0.0@2",
-        5,
-    ),
-    ("hyperball run --log2m 4 --limit 1 --progress", 3),
+/// What a run of the two edges tells.
+const RUN_LINES: Pieces = &[
+    READ,
+    b"hyperball: superstep 1, 2 of 3 vertices changed\n",
+    b"hyperball: superstep 2, 1 of 3 vertices changed\n",
+    b"hyperball: superstep 3, 0 of 3 vertices changed\n",
+    REPORTED,
 ];
 
-#[test]
-fn a_run_tells_its_progress(rt: HostRuntime) -> Result<(), Fail> {
-    for (line, count) in &TOLD {
-        let told = lines_of(&rt, line, b"a\tb\nb\tc\n")?;
-        assert!(rt; told == Some(*count), "{line}");
-    }
-    Ok(())
-}
+const LINE: &[u8] = b"hyperball: ";
 
-// The graph, each close that went on, and the end: the partition is at its last superstep after three closes.
-static REPLAYED: [(&str, &[u8], u32); 4] = [
+/// The graph, three supersteps and the report, however many workers there are, and nothing where it is not asked for. Of
+/// several workers a partition two lines may change places.
+static TOLD: [Telling; 6] = [
+    ((RUN, &[EDGES], 0, &[REPORT], b""), &[]),
     (
-        "hyperball replay --log2m 4",
-        b"a\tb\nb\tc\n%%\nclose 0.0\n",
-        0,
+        (
+            "hyperball run --log2m 4 --progress",
+            &[EDGES],
+            0,
+            &[REPORT],
+            b"",
+        ),
+        RUN_LINES,
     ),
     (
-        "hyperball replay --log2m 4 --progress",
-        b"a\tb\nb\tc\n%%\n",
-        2,
+        (
+            "hyperball run --progress --log2m 4 --parts 5",
+            &[EDGES],
+            0,
+            &[REPORT],
+            b"",
+        ),
+        RUN_LINES,
     ),
     (
-        "hyperball replay --progress --log2m 4",
-        b"a\tb\nb\tc\n%%\nclose 0.0\nshow 0.0\nclose 0.0\nclose 0.0\nclose 0.0\nclose 0.1\n",
-        5,
+        (
+            "hyperball run --log2m 4 --parts 2 --replicas 2 --progress --lose 0.0@1",
+            &[EDGES],
+            0,
+            &[REPORT],
+            b"",
+        ),
+        &[LINE, LINE, LINE, LINE, LINE],
     ),
     (
-        "hyperball replay --log2m 4 --parts 2 --progress",
-        b"a\tb\nb\tc\n%%\nsend 0.0 1\nclose 1.0\ndeliver 0 1.0\nclose 1.0\nclose 0.0\n",
-        3,
+        (
+            "hyperball run --log2m 4 --parts 2 --progress --restart 0.0@2",
+            &[EDGES],
+            0,
+            &[REPORT],
+            b"",
+        ),
+        RUN_LINES,
+    ),
+    (
+        (
+            "hyperball run --log2m 4 --limit 1 --progress",
+            &[EDGES],
+            0,
+            &[runs::LIMIT_OF_ONE],
+            b"",
+        ),
+        &[
+            READ,
+            b"hyperball: superstep 1, 2 of 3 vertices changed\n",
+            REPORTED,
+        ],
     ),
 ];
 
 #[test]
-fn a_replay_tells_its_progress(rt: HostRuntime) -> Result<(), Fail> {
-    for (line, input, count) in &REPLAYED {
-        let told = lines_of(&rt, line, input)?;
-        assert!(rt; told == Some(*count), "{line}");
-    }
-    Ok(())
+fn a_run_tells_its_progress(rt: HostRuntime) {
+    all_tell(&rt, &TOLD);
 }
 
-// Compares lines with those that are wanted, one after the other.
-#[derive(Drop)]
-pub struct Wanted {
-    alloc: Global,
-    lines: &'static [&'static str],
-    // how many of them were told, and how many others
-    told: AtomicU32,
-    others: AtomicU32,
-}
+/// Closes of the only partition.
+const LONE_1: &[u8] = b"hyperball: node 0.0 at superstep 1, 2 of its 3 vertices changed\n";
 
-impl Wanted {
-    // The line is the next that is wanted.
-    fn is_next(&self, line: &str) -> bool {
-        match self.lines.get(self.told.load(Ordering::SeqCst) as usize) {
-            Some(wanted) => line == *wanted,
-            None => false,
-        }
-    }
+const LONE_2: &[u8] = b"hyperball: node 0.0 at superstep 2, 1 of its 3 vertices changed\n";
 
-    // All were told, and nothing else.
-    fn are_told(&self) -> bool {
-        self.told.load(Ordering::SeqCst) as usize == self.lines.len()
-            && self.others.load(Ordering::SeqCst) == 0
-    }
-}
+const LONE_3: &[u8] = b"hyperball: node 0.0 at superstep 3, 0 of its 3 vertices changed\n";
 
-impl Eprint for Wanted {
-    fn eprint<D: Display + Drop>(&self, _value: D) -> io::Result<()> {
-        self.others.fetch_add(1, Ordering::SeqCst);
-        Ok(())
-    }
+const WRITTEN: &[u8] = b"hyperball: the answers are written\n";
 
-    fn eprintln<D: Display + Drop>(&self, value: D) -> io::Result<()> {
-        let line = format!(in self.alloc; "{value}")?;
-        if self.is_next(&line) {
-            self.told.fetch_add(1, Ordering::SeqCst);
-        } else {
-            self.others.fetch_add(1, Ordering::SeqCst);
-        }
-        Ok(())
-    }
-}
-
-// A status, the words of a command line, an input, what is written, and the lines of progress.
-type Telling<'a> = (
-    u8,
-    &'static str,
-    &'a [u8],
-    &'static [u8],
-    &'static [&'static str],
-);
-
-// The words end with the status and write the output, where progress is told to this.
-fn answers<H: AllocGlobal + Clock + RandomSource + Threads + Wait + Sync>(
-    rt: &H,
-    telling: &Telling<'_>,
-    wanted: &Wanted,
-) -> Result<bool, AllocError> {
-    let (status, line, input, output, _) = *telling;
-    let mut written = Vec::new(rt.alloc());
-    let mut faults = Told { lines: wanted };
-    let found = serve_streams(rt, line, input, &mut written, &mut faults)?;
-    Ok(found == status && written.as_slice() == output)
-}
-
-// And they tell just these lines.
-fn tells<H: AllocGlobal + Clock + RandomSource + Threads + Wait + Sync>(
-    rt: &H,
-    telling: &Telling<'_>,
-) -> Result<bool, AllocError> {
-    let wanted = Wanted {
-        alloc: rt.alloc(),
-        lines: telling.4,
-        told: AtomicU32::new(0),
-        others: AtomicU32::new(0),
-    };
-    Ok(answers(rt, telling, &wanted)? && wanted.are_told())
-}
-
-// A node tells the graph, each close that went on, and the end, where it comes to that.
-static NODES: [Telling<'static>; 4] = [
+/// The graph, each close that went on, and the end: the partition is at its last superstep after three closes.
+static REPLAYED: [Telling; 4] = [
     (
-        0,
-        "hyperball node --log2m 4",
-        b"a\tb\nb\tc\n%%\nclose\n",
-        b"closed 1\n",
+        (
+            "hyperball replay --log2m 4",
+            &[MARKED, b"close 0.0\n"],
+            0,
+            &[b"closed 1\n"],
+            b"",
+        ),
         &[],
     ),
     (
-        0,
-        "hyperball node --progress --log2m 4",
-        b"a\tb\nb\tc\n%%\nclose\nclose\nrestart 0\nclose\nclose\nclose\nclose\n",
-        b"closed 1\nclosed 2\nrestarted 0\nclosed 1\nclosed 2\nclosed 3\nfinished\n",
-        &[
-            "hyperball: 3 vertices and 2 edges are read",
-            "hyperball: node 0.0 at superstep 1, 2 of its 3 vertices changed",
-            "hyperball: node 0.0 at superstep 2, 1 of its 3 vertices changed",
-            "hyperball: node 0.0 at superstep 1, 2 of its 3 vertices changed",
-            "hyperball: node 0.0 at superstep 2, 1 of its 3 vertices changed",
-            "hyperball: node 0.0 at superstep 3, 0 of its 3 vertices changed",
-            "hyperball: the commands are answered",
-        ],
+        (
+            "hyperball replay --log2m 4 --progress",
+            &[MARKED],
+            0,
+            &[],
+            b"",
+        ),
+        &[READ, WRITTEN],
     ),
     (
-        1,
-        "hyperball node --log2m 4 --progress",
-        b"a\tb\nb\tc\n%%\nclose\nopen\nclose\n",
-        b"closed 1\n",
-        &[
-            "hyperball: 3 vertices and 2 edges are read",
-            "hyperball: node 0.0 at superstep 1, 2 of its 3 vertices changed",
-        ],
+        (
+            "hyperball replay --progress --log2m 4",
+            &[
+                MARKED,
+                b"close 0.0\nshow 0.0\nclose 0.0\nclose 0.0\nclose 0.0\nclose 0.1\n",
+            ],
+            0,
+            &[
+                b"closed 1
+node 0.0 1 go-on
+row 0 11.390942 0.000000 0.000000 00000000000000000000000000000300
+row 1 11.780376 0.665022 0.665022 00000000000001000000000000000300
+row 2 11.680542 0.382969 0.382969 02000000000001000000000000000000
+closed 2
+closed 3
+finished
+refused no-node
+",
+            ],
+            b"",
+        ),
+        &[READ, LONE_1, LONE_2, LONE_3, WRITTEN],
     ),
     (
-        0,
-        "hyperball node --log2m 4 --parts 2 --part 1 --progress",
-        b"a\tb\nb\tc\n%%\nclose\n",
-        b"waiting 0\n",
+        (
+            "hyperball replay --log2m 4 --parts 2 --progress",
+            &[
+                MARKED,
+                b"send 0.0 1\nclose 1.0\ndeliver 0 1.0\nclose 1.0\nclose 0.0\n",
+            ],
+            0,
+            &[b"sent 0 0 0 1 2 1\nwaiting 0\nnew\nclosed 1\nwaiting 1\n"],
+            b"",
+        ),
         &[
-            "hyperball: 3 vertices and 2 edges are read",
-            "hyperball: the commands are answered",
+            READ,
+            b"hyperball: node 1.0 at superstep 1, 1 of its 1 vertices changed\n",
+            WRITTEN,
         ],
     ),
 ];
 
 #[test]
-fn a_node_tells_its_progress(rt: HostRuntime) -> Result<(), Fail> {
-    for telling in &NODES {
-        assert!(rt; tells(&rt, telling)?, "{}", telling.1);
-    }
-    Ok(())
+fn a_replay_tells_its_progress(rt: HostRuntime) {
+    all_tell(&rt, &REPLAYED);
 }
 
-const GATHER: &str = "hyperball gather --log2m 4 --parts 2";
+const ANSWERED: &[u8] = b"hyperball: the commands are answered\n";
 
-const GATHER_TELLING: &str = "hyperball gather --log2m 4 --parts 2 --progress";
-
-static GATHERED: [&str; 4] = [
-    "hyperball: 3 vertices and 2 edges are read",
-    "hyperball: node 0.0 at superstep 3, 0 of its 2 vertices changed",
-    "hyperball: node 1.0 at superstep 3, 0 of its 1 vertices changed",
-    "hyperball: the report is written",
+/// A node tells the graph, each close that went on, and the end, where it comes to that.
+static NODES: [Telling; 4] = [
+    (
+        (
+            "hyperball node --log2m 4",
+            &[MARKED, b"close\n"],
+            0,
+            &[b"closed 1\n"],
+            b"",
+        ),
+        &[],
+    ),
+    (
+        (
+            "hyperball node --progress --log2m 4",
+            &[
+                MARKED,
+                b"close\nclose\nrestart 0\nclose\nclose\nclose\nclose\n",
+            ],
+            0,
+            &[b"closed 1\nclosed 2\nrestarted 0\nclosed 1\nclosed 2\nclosed 3\nfinished\n"],
+            b"",
+        ),
+        &[READ, LONE_1, LONE_2, LONE_1, LONE_2, LONE_3, ANSWERED],
+    ),
+    (
+        (
+            "hyperball node --log2m 4 --progress",
+            &[MARKED, b"close\nopen\nclose\n"],
+            1,
+            &[b"closed 1\n"],
+            b"hyperball: command 2 is no command\n",
+        ),
+        &[READ, LONE_1],
+    ),
+    (
+        (
+            "hyperball node --log2m 4 --parts 2 --part 1 --progress",
+            &[MARKED, b"close\n"],
+            0,
+            &[b"waiting 0\n"],
+            b"",
+        ),
+        &[READ, ANSWERED],
+    ),
 ];
 
-// A gathering of this input tells the graph, each checkpoint, and the end, and nothing where it is not asked for.
-fn gathers<H: AllocGlobal + Clock + RandomSource + Threads + Wait + Sync>(
-    rt: &H,
-    input: &[u8],
-) -> Result<bool, AllocError> {
-    Ok(
-        tells(rt, &(0, GATHER, input, TWO_EDGES, &[]))?
-            && tells(rt, &(0, GATHER_TELLING, input, TWO_EDGES, &GATHERED))?,
-    )
+#[test]
+fn a_node_tells_its_progress(rt: HostRuntime) {
+    all_tell(&rt, &NODES);
 }
 
+/// A gathering tells the graph, each checkpoint, and the end, and nothing where it is not asked for.
+static GATHERINGS: [Telling; 2] = [
+    (nodes::GATHERED, &[]),
+    (
+        (
+            "hyperball gather --log2m 4 --parts 2 --progress",
+            nodes::BOTH_KEPT,
+            0,
+            &[REPORT],
+            b"",
+        ),
+        &[
+            READ,
+            b"hyperball: node 0.0 at superstep 3, 0 of its 2 vertices changed\n",
+            b"hyperball: node 1.0 at superstep 3, 0 of its 1 vertices changed\n",
+            REPORTED,
+        ],
+    ),
+];
+
 #[test]
-fn a_gathering_tells_its_progress(rt: HostRuntime) -> Result<(), Fail> {
-    let mut input = Vec::new(rt.alloc());
-    add_both_kept(&rt, &mut input)?;
-    assert!(rt; gathers(&rt, &input)?);
-    Ok(())
+fn a_gathering_tells_its_progress(rt: HostRuntime) {
+    all_tell(&rt, &GATHERINGS);
 }

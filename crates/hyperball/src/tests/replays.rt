@@ -8,43 +8,42 @@ const REPLAY: &str = "hyperball replay --log2m 4 --parts 2";
 static REFUSED: [Case; 5] = [
     (
         REPLAY,
-        b"a\tb\n",
+        &[b"a\tb\n"],
+        1,
+        &[],
         b"hyperball: no line %% before the script\n",
     ),
     (
         "hyperball replay --counted",
-        b"a\tb\n",
+        &[b"a\tb\n"],
+        1,
+        &[],
         b"hyperball: no line %% before the list\n",
     ),
     (
         "hyperball replay --counted",
-        b"a\tb\n%%\na\n",
+        &[b"a\tb\n%%\na\n"],
+        1,
+        &[],
         b"hyperball: no line %% before the script\n",
     ),
     (
         REPLAY,
-        b"a\tb\n%%\nshow 0.0\nsend 0.0\n",
+        &[b"a\tb\n%%\nshow 0.0\nsend 0.0\n"],
+        1,
+        &[],
         b"hyperball: line 2 of the script is no command\n",
     ),
     (
         "hyperball replay --replicas 5",
-        b"a\tb\n%%\nshow 0.0\n",
+        &[b"a\tb\n%%\nshow 0.0\n"],
+        1,
+        &[],
         b"hyperball: an option does not fit the job\n",
     ),
 ];
 
-// Each is refused with this text.
-fn all_refused<H: Abort + AllocGlobal + Clock + RandomSource + Threads + Wait + Sync>(
-    rt: &H,
-    cases: &[Case],
-) -> Result<(), Fail> {
-    for (line, input, told) in cases {
-        ends(rt, 1, line, input, b"", told)?;
-    }
-    Ok(())
-}
-
 #[test]
-fn a_replay_is_refused_in_order(rt: HostRuntime) -> Result<(), Fail> {
-    all_refused(&rt, &REFUSED)
+fn a_replay_is_refused_in_order(rt: HostRuntime) {
+    all_end(&rt, &REFUSED);
 }

@@ -10,10 +10,7 @@ const THREE_PARTS: &str = "hyperball replay --log2m 4 --parts 3 --replicas 2";
 
 const ONE_PART: &str = "hyperball replay --log2m 4";
 
-const EARLY: &[u8] = b"a\tb
-b\tc
-%%
-send 0.0 1
+const EARLY: &[u8] = b"send 0.0 1
 send 1.0 0
 deliver 1 0.0
 close 0.0
@@ -40,10 +37,7 @@ row 1 11.780376 0.665022 0.665022 00000000000001000000000000000300
 closed 2
 ";
 
-const REPEATED: &[u8] = b"a\tb
-b\tc
-%%
-send 0.0 1
+const REPEATED: &[u8] = b"send 0.0 1
 deliver 0 1.0
 deliver 0 1.0
 deliver 0 1.0
@@ -135,10 +129,7 @@ row 1 11.115354 0.000000 0.000000 00000000000001000000000000000000
 row 3 11.115354 0.000000 0.000000 00000000000000000000000000000001
 ";
 
-const RESTARTED: &[u8] = b"a\tb
-b\tc
-%%
-send 0.0 1
+const RESTARTED: &[u8] = b"send 0.0 1
 send 1.0 0
 deliver 0 1.0
 deliver 1 0.0
@@ -176,10 +167,7 @@ new
 closed 2
 ";
 
-const COPIES: &[u8] = b"a\tb
-b\tc
-%%
-send 0.0 1
+const COPIES: &[u8] = b"send 0.0 1
 send 1.0 0
 deliver 0 1.0
 deliver 1 0.0
@@ -229,10 +217,7 @@ not-mine
 closed 3
 ";
 
-const THREE: &[u8] = b"a\tb
-b\tc
-%%
-send 0.0 2
+const THREE: &[u8] = b"send 0.0 2
 send 1.0 2
 deliver 0 2.0
 deliver 1 2.1
@@ -253,72 +238,14 @@ node 2.0 1 open
 row 2 11.680542 0.382969 0.382969 02000000000001000000000000000000
 ";
 
-const HELD: &[u8] = b"a\tb
-b\tc
-c\td
-d\te
-%%
-send 0.0 1
-send 1.1 0
-deliver 0 1.1
-deliver 1 0.0
-close 0.0
-close 1.1
-send 0.0 1
-send 1.1 0
-deliver 2 1.1
-deliver 3 0.0
-close 0.0
-close 1.1
-send 0.0 1
-send 1.1 0
-deliver 4 1.1
-deliver 5 0.0
-close 0.0
-close 1.1
-send 0.0 1
-send 1.1 0
-deliver 7 0.0
-close 0.0
-send 0.0 1
-deliver 8 1.0
-deliver 6 1.0
-show 1.0
-keep 1.0
+// What is asked behind the script of the window.
+const HELD: &[u8] = b"keep 1.0
 restart 1.0
 show 1.0
 deliver 6 1.0
 ";
 
-const HELD_ANSWERS: &[u8] = b"sent 0 0 0 1 3 2
-sent 1 0 1 0 2 2
-new
-new
-closed 1
-closed 1
-sent 2 1 0 1 2 1
-sent 3 1 1 0 2 2
-new
-new
-closed 2
-closed 2
-sent 4 2 0 1 2 1
-sent 5 2 1 0 1 1
-new
-new
-closed 3
-closed 3
-sent 6 3 0 1 1 0
-sent 7 3 1 0 1 1
-new
-closed 4
-sent 8 4 0 1 1 0
-too-early 3
-new
-node 1.0 0 open 3:0
-row 1 11.115354 0.000000 0.000000 00000000000001000000000000000000
-row 3 11.115354 0.000000 0.000000 00000000000000000000000000000001
-kept 0
+const HELD_ANSWERS: &[u8] = b"kept 0
 restarted 0
 node 1.0 0 open 3:0
 row 1 11.115354 0.000000 0.000000 00000000000001000000000000000000
@@ -345,17 +272,29 @@ finished
 // An early batch, a repeated batch, the window's edge, a restart from a checkpoint, recovery from copies, three
 // partitions, a restart with held names, and a lone replay.
 static SCRIPTS: [Case; 8] = [
-    (TWO_PARTS, EARLY, EARLY_ANSWERS),
-    (TWO_PARTS, REPEATED, REPEATED_ANSWERS),
-    (TWO_REPLICAS, WINDOW, WINDOW_ANSWERS),
-    (TWO_PARTS, RESTARTED, RESTARTED_ANSWERS),
-    (TWO_REPLICAS, COPIES, COPIES_ANSWERS),
-    (THREE_PARTS, THREE, THREE_ANSWERS),
-    (TWO_REPLICAS, HELD, HELD_ANSWERS),
-    (ONE_PART, LONE, LONE_ANSWERS),
+    (TWO_PARTS, &[MARKED, EARLY], 0, &[EARLY_ANSWERS], b""),
+    (TWO_PARTS, &[MARKED, REPEATED], 0, &[REPEATED_ANSWERS], b""),
+    (TWO_REPLICAS, &[WINDOW], 0, &[WINDOW_ANSWERS], b""),
+    (
+        TWO_PARTS,
+        &[MARKED, RESTARTED],
+        0,
+        &[RESTARTED_ANSWERS],
+        b"",
+    ),
+    (TWO_REPLICAS, &[MARKED, COPIES], 0, &[COPIES_ANSWERS], b""),
+    (THREE_PARTS, &[MARKED, THREE], 0, &[THREE_ANSWERS], b""),
+    (
+        TWO_REPLICAS,
+        &[WINDOW, HELD],
+        0,
+        &[WINDOW_ANSWERS, HELD_ANSWERS],
+        b"",
+    ),
+    (ONE_PART, &[LONE], 0, &[LONE_ANSWERS], b""),
 ];
 
 #[test]
-fn scripts_are_answered(rt: HostRuntime) -> Result<(), Fail> {
-    runs::all_report(&rt, &SCRIPTS)
+fn scripts_are_answered(rt: HostRuntime) {
+    all_end(&rt, &SCRIPTS);
 }

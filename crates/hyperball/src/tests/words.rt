@@ -9,17 +9,18 @@ use crate::node_words::{GatherWords, NodeWords};
 use crate::options::Options;
 use crate::orders::{OrdersError, orders_in};
 use crate::whole::WholeError;
-use crate::words::{RunWords, Said, Wish, read_words};
+use crate::words::{RunWords, Wish, read_words};
 use ball_model::{Estimate, NodeId, PlanError};
 use edgelist::{CountedError, Delimiter, EdgeError};
 use node::job::JobOptions;
 use std::fmt::Display;
+use std::io::Write;
 use workers::RunError;
 
-// A fault prints as this text.
-fn prints<H: AllocGlobal, F: Display>(rt: &H, fault: &F, text: &str) -> Result<bool, Fail> {
-    let told = format!(in rt.alloc(); "{fault}")?;
-    Ok(told.as_str() == text)
+/// Whether a fault prints as this text.
+fn prints<F: Display>(fault: &F, text: &'static str) -> bool {
+    let mut told = Compared::of(text.as_bytes(), usize::MAX);
+    write!(told, "{fault}").is_ok() && told.is_whole()
 }
 
 static FAULT_TEXTS: [(RunError, &str); 18] = [
@@ -86,245 +87,354 @@ static WHOLE_TEXTS: [(WholeError, &str); 3] = [
     (WholeError::Memory, "out of memory"),
 ];
 
-// The first of these texts that its fault does not print as.
-fn first_other_text<'a, H: AllocGlobal, F: Display>(
-    rt: &H,
-    texts: &[(F, &'a str)],
-) -> Result<Option<&'a str>, Fail> {
+/// Each fault prints as its text.
+fn all_print<H: Host, F: Display>(rt: &H, texts: &[(F, &'static str)]) {
     for (fault, text) in texts {
-        if !prints(rt, fault, text)? {
-            return Ok(Some(*text));
-        }
-    }
-    Ok(None)
-}
-
-// The same of both tables.
-fn first_other_of_all<H: AllocGlobal>(rt: &H) -> Result<Option<&'static str>, Fail> {
-    match first_other_text(rt, &FAULT_TEXTS)? {
-        Some(text) => Ok(Some(text)),
-        None => first_other_text(rt, &WHOLE_TEXTS),
+        assert!(rt; prints(fault, *text), "{text}");
     }
 }
 
 #[test]
-fn texts_of_faults(rt: HostRuntime) -> Result<(), Fail> {
-    assert_eq!(rt; first_other_of_all(&rt)?, None);
-    Ok(())
+fn texts_of_faults(rt: HostRuntime) {
+    all_print(&rt, &FAULT_TEXTS);
+    all_print(&rt, &WHOLE_TEXTS);
 }
 
-// The help of an option stands behind its name.
-fn explains(text: &str, name: &str, help: &str) -> bool {
-    match text.split_once(name) {
-        Some((_, after)) => match after.split_once("--") {
-            Some((own, _)) => own.contains(help),
-            None => after.contains(help),
-        },
+/// What is in the help of a run, one behind the other: each option and its help, and its example.
+const RUN_HELP: Pieces = &[
+    b"--log2m <",
+    b"Counters of 2^log2m bytes",
+    b"--seed <",
+    b"Seed under which",
+    b"--parts <",
+    b"Partitions, 1 to 64",
+    b"--limit <",
+    b"Greatest superstep",
+    b"--estimate <",
+    b"near the true size",
+    b"--delimiter <",
+    b"What stands between",
+    b"--counted",
+    b"Count only",
+    b"--replicas <",
+    b"may be lost",
+    b"--entries <",
+    b"Entries of the board",
+    b"--keep <",
+    b"one snapshot to the next",
+    b"--patience <",
+    b"Idle turns",
+    b"--lose <",
+    b"that are lost",
+    b"--restart <",
+    b"start anew",
+    b"--progress",
+    b"each superstep",
+    b"hyperball run --log2m 8 < edges.tsv > report.csv",
+];
+
+/// The same of a node.
+const NODE_HELP: Pieces = &[
+    b"--log2m <",
+    b"Counters of 2^log2m bytes",
+    b"--seed <",
+    b"Seed under which",
+    b"--parts <",
+    b"each with a node of its own",
+    b"--limit <",
+    b"Greatest superstep",
+    b"--estimate <",
+    b"near the true size",
+    b"--delimiter <",
+    b"What stands between",
+    b"--counted\n ",
+    b"Count only",
+    b"--part <",
+    b"Partition of this node",
+    b"--progress",
+    b"close or checkpoint",
+    b"| hyperball node --log2m 4",
+    b"closed 1",
+    b"send Q ",
+    b"sent T P Q",
+    b"recover L ",
+    b"merged T",
+];
+
+/// The same of a gathering.
+const GATHER_HELP: Pieces = &[
+    b"--log2m <",
+    b"Counters of 2^log2m bytes",
+    b"--seed <",
+    b"Seed under which",
+    b"--parts <",
+    b"so many checkpoints",
+    b"--limit <",
+    b"Greatest superstep",
+    b"--estimate <",
+    b"near the true size",
+    b"--delimiter <",
+    b"What stands between",
+    b"--counted\n ",
+    b"Count only",
+    b"--progress",
+    b"close or checkpoint",
+    b"hyperball gather --parts 2 > report.csv",
+];
+
+/// The same of the program: its commands.
+const PROGRAM_HELP: Pieces = &[
+    b"centralities of a directed graph",
+    b"hyperball <",
+    b"run ",
+    b"replay ",
+    b"node ",
+    b"gather ",
+];
+
+/// Words that ask for help.
+static HELPED: [Case; 5] = [
+    ("hyperball --help", &[b"a\tb\n"], 0, PROGRAM_HELP, b""),
+    ("hyperball help", &[b"a\tb\n"], 0, PROGRAM_HELP, b""),
+    ("hyperball run --help", &[b"a\tb\n"], 0, RUN_HELP, b""),
+    ("hyperball node --help", &[b"a\tb\n"], 0, NODE_HELP, b""),
+    ("hyperball gather --help", &[b"a\tb\n"], 0, GATHER_HELP, b""),
+];
+
+/// Whether words that ask for help get it, with all of this in it.
+fn explains<H: Host>(rt: &H, case: &Case) -> bool {
+    match end_in(rt, case, &OPEN, &[]) {
+        Some(end) => is_told(case, &end) && end.output.has_all(),
         None => false,
     }
 }
 
-// What stands behind what in the help of a run: its example, and each option.
-static HELPS: [(&str, &str); 15] = [
-    ("hyperball run --log2m 8 <", " edges.tsv > report.csv"),
-    ("--log2m <", "Counters of 2^log2m bytes"),
-    ("--seed <", "Seed under which"),
-    ("--parts <", "Partitions, 1 to 64"),
-    ("--limit <", "Greatest superstep"),
-    ("--estimate <", "near the true size"),
-    ("--delimiter <", "What stands between"),
-    ("--counted", "Count only"),
-    ("--replicas <", "may be lost"),
-    ("--entries <", "Entries of the board"),
-    ("--keep <", "one snapshot to the next"),
-    ("--patience <", "Idle turns"),
-    ("--lose <", "that are lost"),
-    ("--restart <", "start anew"),
-    ("--progress", "each superstep"),
-];
-
-// The same of a node.
-static NODE_HELPS: [(&str, &str); 12] = [
-    ("| hyperball node --log2m 4", "closed 1"),
-    ("--log2m <", "Counters of 2^log2m bytes"),
-    ("--seed <", "Seed under which"),
-    ("--parts <", "each with a node of its own"),
-    ("--limit <", "Greatest superstep"),
-    ("--estimate <", "near the true size"),
-    ("--delimiter <", "What stands between"),
-    ("--counted\n ", "Count only"),
-    ("--part <", "Partition of this node"),
-    ("--progress", "close or checkpoint"),
-    ("send Q ", "sent T P Q"),
-    ("recover L ", "merged T"),
-];
-
-// The same of a gathering.
-static GATHER_HELPS: [(&str, &str); 9] = [
-    ("hyperball gather --parts 2", " > report.csv"),
-    ("--log2m <", "Counters of 2^log2m bytes"),
-    ("--seed <", "Seed under which"),
-    ("--parts <", "so many checkpoints"),
-    ("--limit <", "Greatest superstep"),
-    ("--estimate <", "near the true size"),
-    ("--delimiter <", "What stands between"),
-    ("--counted\n ", "Count only"),
-    ("--progress", "close or checkpoint"),
-];
-
-// All of these are explained.
-fn explains_all(text: &str, helps: &[(&str, &str)]) -> bool {
-    let mut all = true;
-    for (name, help) in helps {
-        all &= explains(text, name, help);
-    }
-    all
-}
-
-// This is a text that explains all of these.
-fn is_help(bytes: &[u8], helps: &[(&str, &str)]) -> bool {
-    match str::from_utf8(bytes) {
-        Ok(text) => explains_all(text, helps),
-        Err(_) => false,
+#[test]
+fn help_of_each_option(rt: HostRuntime) {
+    for case in &HELPED {
+        assert!(rt; explains(&rt, case), "{}", case.0);
     }
 }
 
-// Words that ask for help get a text that explains all of these.
-fn explained<H: AllocGlobal + Clock + RandomSource + Threads + Wait + Sync>(
-    rt: &H,
-    line: &str,
-    helps: &[(&str, &str)],
-) -> Result<bool, Fail> {
-    let served = serve_input(rt, line, b"".as_slice())?;
-    Ok(is_help(&served.output, helps))
-}
+/// Words that ask for the version.
+pub const VERSION: Case = ("hyperball --version", &[], 0, &[b"hyperball 0.1.0\n"], b"");
+
+static VERSIONS: [Case; 1] = [VERSION];
 
 #[test]
-fn help_of_each_option(rt: HostRuntime) -> Result<(), Fail> {
-    assert!(rt; explained(&rt, "hyperball run --help", &HELPS)?);
-    assert!(rt; explained(&rt, "hyperball node --help", &NODE_HELPS)?);
-    assert!(rt; explained(&rt, "hyperball gather --help", &GATHER_HELPS)?);
-    Ok(())
+fn version_is_told(rt: HostRuntime) {
+    all_end(&rt, &VERSIONS);
 }
 
-// Words that ask for help get it, and nothing is told.
-fn helps<H: AllocGlobal + Clock + RandomSource + Threads + Wait + Sync>(
-    rt: &H,
-    line: &str,
-) -> Result<bool, Fail> {
-    let served = serve_input(rt, line, b"a\tb\n".as_slice())?;
-    Ok(served.status == 0 && served.output.len() > 100 && served.faults.is_empty())
-}
+/// What is told of a text that is no list of orders.
+pub const ORDERS: &[u8] = b"hyperball: an order is P.K@S, with commas between orders\n";
 
-static HELPED: [&str; 5] = [
-    "hyperball --help",
-    "hyperball help",
-    "hyperball run --help",
-    "hyperball node --help",
-    "hyperball gather --help",
-];
-
-#[test]
-fn help_is_shown(rt: HostRuntime) -> Result<(), Fail> {
-    for line in &HELPED {
-        assert!(rt; helps(&rt, line)?, "{line}");
-    }
-    Ok(())
-}
-
-#[test]
-fn version_is_told(rt: HostRuntime) -> Result<(), Fail> {
-    ends(
-        &rt,
-        0,
-        "hyperball --version",
-        b"",
-        b"hyperball 0.1.0\n",
-        b"",
-    )
-}
-
-// The words are refused, with this at the front of what is told.
-fn refuses<H: AllocGlobal + Clock + RandomSource + Threads + Wait + Sync>(
-    rt: &H,
-    line: &str,
-    front: &[u8],
-) -> Result<bool, Fail> {
-    let served = serve_input(rt, line, b"a\tb\n".as_slice())?;
-    Ok(served.status == 2 && served.output.is_empty() && served.faults.starts_with(front))
-}
-
-const ORDERS: &[u8] = b"hyperball: an order is P.K@S, with commas between orders\n";
-
-static MISTAKES: [(&str, &[u8]); 33] = [
-    ("hyperball", b"error: 'hyperball' requires a subcommand"),
+/// Words that are refused.
+static MISTAKES: [Case; 33] = [
+    (
+        "hyperball",
+        &[b"a\tb\n"],
+        2,
+        &[],
+        b"error: 'hyperball' requires a subcommand",
+    ),
     (
         "hyperball replays",
+        &[b"a\tb\n"],
+        2,
+        &[],
         b"error: unrecognized subcommand 'replays'",
     ),
-    ("hyperball run --replicas 256", b"error: "),
-    ("hyperball run --entries -1", b"error: "),
-    ("hyperball run --keep 4294967296", b"error: "),
-    ("hyperball run --patience some", b"error: "),
+    (
+        "hyperball run --replicas 256",
+        &[b"a\tb\n"],
+        2,
+        &[],
+        b"error: ",
+    ),
+    (
+        "hyperball run --entries -1",
+        &[b"a\tb\n"],
+        2,
+        &[],
+        b"error: ",
+    ),
+    (
+        "hyperball run --keep 4294967296",
+        &[b"a\tb\n"],
+        2,
+        &[],
+        b"error: ",
+    ),
+    (
+        "hyperball run --patience some",
+        &[b"a\tb\n"],
+        2,
+        &[],
+        b"error: ",
+    ),
     (
         "hyperball run --lose",
+        &[b"a\tb\n"],
+        2,
+        &[],
         b"error: a value is required for '--lose",
     ),
-    ("hyperball run --lose 0.0@", ORDERS),
-    ("hyperball run --lose 00.0@1", ORDERS),
-    ("hyperball run --lose 0.0@1,", ORDERS),
-    ("hyperball run --restart=", ORDERS),
-    ("hyperball run --restart 0.0@1 --lose 0@1", ORDERS),
+    ("hyperball run --lose 0.0@", &[b"a\tb\n"], 2, &[], ORDERS),
+    ("hyperball run --lose 00.0@1", &[b"a\tb\n"], 2, &[], ORDERS),
+    ("hyperball run --lose 0.0@1,", &[b"a\tb\n"], 2, &[], ORDERS),
+    ("hyperball run --restart=", &[b"a\tb\n"], 2, &[], ORDERS),
+    (
+        "hyperball run --restart 0.0@1 --lose 0@1",
+        &[b"a\tb\n"],
+        2,
+        &[],
+        ORDERS,
+    ),
     // where clap refuses something too, clap tells
-    ("hyperball run --lose 0 --log2m x", b"error: "),
+    (
+        "hyperball run --lose 0 --log2m x",
+        &[b"a\tb\n"],
+        2,
+        &[],
+        b"error: ",
+    ),
     (
         "hyperball run edges.tsv",
+        &[b"a\tb\n"],
+        2,
+        &[],
         b"error: unexpected argument 'edges.tsv'",
     ),
     (
         "hyperball run --log2m",
+        &[b"a\tb\n"],
+        2,
+        &[],
         b"error: a value is required for '--log2m",
     ),
-    ("hyperball run --counted=1", b"error: "),
-    ("hyperball run --log2m 256", b"error: "),
-    ("hyperball run --log2m -1", b"error: "),
-    ("hyperball run --log2m four", b"error: "),
-    ("hyperball run --parts 65536", b"error: "),
-    ("hyperball run --limit 4294967296", b"error: "),
-    ("hyperball run --seed 18446744073709551616", b"error: "),
-    ("hyperball run --estimate linear", b"error: "),
-    ("hyperball run --estimate Raw", b"error: "),
-    ("hyperball run --delimiter semicolon", b"error: "),
-    ("hyperball run --delimiter Tab", b"error: "),
-    ("hyperball run --delimiter ,", b"error: "),
-    ("hyperball node --part 65536", b"error: "),
-    ("hyperball node --part -1", b"error: "),
+    (
+        "hyperball run --counted=1",
+        &[b"a\tb\n"],
+        2,
+        &[],
+        b"error: ",
+    ),
+    (
+        "hyperball run --log2m 256",
+        &[b"a\tb\n"],
+        2,
+        &[],
+        b"error: ",
+    ),
+    ("hyperball run --log2m -1", &[b"a\tb\n"], 2, &[], b"error: "),
+    (
+        "hyperball run --log2m four",
+        &[b"a\tb\n"],
+        2,
+        &[],
+        b"error: ",
+    ),
+    (
+        "hyperball run --parts 65536",
+        &[b"a\tb\n"],
+        2,
+        &[],
+        b"error: ",
+    ),
+    (
+        "hyperball run --limit 4294967296",
+        &[b"a\tb\n"],
+        2,
+        &[],
+        b"error: ",
+    ),
+    (
+        "hyperball run --seed 18446744073709551616",
+        &[b"a\tb\n"],
+        2,
+        &[],
+        b"error: ",
+    ),
+    (
+        "hyperball run --estimate linear",
+        &[b"a\tb\n"],
+        2,
+        &[],
+        b"error: ",
+    ),
+    (
+        "hyperball run --estimate Raw",
+        &[b"a\tb\n"],
+        2,
+        &[],
+        b"error: ",
+    ),
+    (
+        "hyperball run --delimiter semicolon",
+        &[b"a\tb\n"],
+        2,
+        &[],
+        b"error: ",
+    ),
+    (
+        "hyperball run --delimiter Tab",
+        &[b"a\tb\n"],
+        2,
+        &[],
+        b"error: ",
+    ),
+    (
+        "hyperball run --delimiter ,",
+        &[b"a\tb\n"],
+        2,
+        &[],
+        b"error: ",
+    ),
+    (
+        "hyperball node --part 65536",
+        &[b"a\tb\n"],
+        2,
+        &[],
+        b"error: ",
+    ),
+    ("hyperball node --part -1", &[b"a\tb\n"], 2, &[], b"error: "),
     (
         "hyperball node --replicas 2",
+        &[b"a\tb\n"],
+        2,
+        &[],
         b"error: unexpected argument '--replicas'",
     ),
     (
         "hyperball gather --part 0",
+        &[b"a\tb\n"],
+        2,
+        &[],
         b"error: unexpected argument '--part'",
     ),
-    ("hyperball node --progress=1", b"error: "),
-    ("hyperball gather --progress=1", b"error: "),
+    (
+        "hyperball node --progress=1",
+        &[b"a\tb\n"],
+        2,
+        &[],
+        b"error: ",
+    ),
+    (
+        "hyperball gather --progress=1",
+        &[b"a\tb\n"],
+        2,
+        &[],
+        b"error: ",
+    ),
 ];
 
 #[test]
-fn mistaken_words(rt: HostRuntime) -> Result<(), Fail> {
-    for (line, front) in &MISTAKES {
-        assert!(rt; refuses(&rt, line, front)?, "{line}");
-    }
-    Ok(())
+fn mistaken_words(rt: HostRuntime) {
+    all_end(&rt, &MISTAKES);
 }
 
-// What words of a run say.
-fn said<H: AllocGlobal>(rt: &H, line: &str) -> Result<Wish, Fail> {
-    let words = words_of(rt, line)?;
-    Ok(read_words(rt.alloc(), &words)?)
-}
-
+/// What the words of a run say below.
 const SAID: RunWords = RunWords {
     options: Options {
         log2m: 8,
@@ -341,46 +451,7 @@ const SAID: RunWords = RunWords {
     counted: true,
 };
 
-fn node(part: u16, replica: u8) -> NodeId {
-    NodeId { part, replica }
-}
-
-// The words are read as these, with one node to be lost and two to start anew.
-fn is_said(wish: &Wish) -> bool {
-    match wish {
-        Wish::Run(said) => is_run(said),
-        Wish::Replay(_) | Wish::Node(_) | Wish::Gather(_) => false,
-    }
-}
-
-fn is_run(said: &Said) -> bool {
-    said.words == SAID
-        && said.orders.lose.as_slice() == [(node(0, 1), 999_999_999)].as_slice()
-        && said.orders.restart.as_slice() == [(node(65_535, 255), 0), (node(1, 0), 10)].as_slice()
-}
-
-#[test]
-fn words_are_read(rt: HostRuntime) -> Result<(), Fail> {
-    let said = said(
-        &rt,
-        "hyperball run --seed 7 --estimate corrected --delimiter space --counted --replicas 2 --keep 0 \
-        --patience 7 --lose 0.1@999999999 --restart 65535.255@0,1.0@10",
-    )?;
-    assert!(rt; is_said(&said));
-    words_of_a_run();
-    words_of_no_run();
-    words_of_a_replay();
-    words_of_no_replay();
-    words_of_a_node();
-    words_of_no_node();
-    words_of_no_command();
-    words_of_one_command();
-    words_of_progress();
-    lists_of_orders();
-    Ok(())
-}
-
-// The options of a job where none is given.
+/// The options of a job where none is given.
 const JOB: JobOptions = JobOptions {
     log2m: 8,
     seed: 0,
@@ -391,70 +462,134 @@ const JOB: JobOptions = JobOptions {
     counted: false,
 };
 
-// The words are read as those of a node of this partition, which tells its progress or not.
-fn is_node(wish: &Wish, part: u16, progress: bool) -> bool {
-    match wish {
-        Wish::Node(words) => {
-            *words
-                == NodeWords {
-                    options: JOB,
-                    part,
-                    progress,
-                }
+/// What words are read as: a run has lists of nodes that are lost and that start anew.
+enum Reading {
+    Run(RunWords, &'static [(NodeId, u32)], &'static [(NodeId, u32)]),
+    Node(NodeWords),
+    Gather(GatherWords),
+}
+
+/// Whether words are read so.
+fn is_read_as(wish: &Wish, reading: &Reading) -> bool {
+    match (wish, reading) {
+        (Wish::Run(said), Reading::Run(words, lost, restarted)) => {
+            said.words == *words
+                && said.orders.lose.as_slice() == *lost
+                && said.orders.restart.as_slice() == *restarted
         }
-        Wish::Run(_) | Wish::Replay(_) | Wish::Gather(_) => false,
+        (Wish::Node(words), Reading::Node(wanted)) => words == wanted,
+        (Wish::Gather(words), Reading::Gather(wanted)) => words == wanted,
+        _ => false,
     }
 }
 
-// The same of a gathering.
-fn is_gathering(wish: &Wish, progress: bool) -> bool {
-    match wish {
-        Wish::Gather(words) => {
-            *words
-                == GatherWords {
-                    options: JOB,
-                    progress,
-                }
-        }
-        Wish::Run(_) | Wish::Replay(_) | Wish::Node(_) => false,
+/// Whether these words say so.
+fn say(alloc: Global, words: &[String], reading: &Reading) -> bool {
+    match read_words(alloc, words) {
+        Ok(wish) => is_read_as(&wish, reading),
+        Err(_) => false,
     }
 }
 
-// The words of a line are read so.
-fn says_node<H: AllocGlobal>(rt: &H, line: &str, part: u16, progress: bool) -> Result<bool, Fail> {
-    Ok(is_node(&said(rt, line)?, part, progress))
+/// Whether the words of a line say so.
+fn says(alloc: Global, line: &str, reading: &Reading) -> bool {
+    match words_of(alloc, line) {
+        Ok(words) => say(alloc, &words, reading),
+        Err(_) => false,
+    }
 }
 
-fn says_gathering<H: AllocGlobal>(rt: &H, line: &str, progress: bool) -> Result<bool, Fail> {
-    Ok(is_gathering(&said(rt, line)?, progress))
-}
-
-// Words of a node or of a gathering that ask for progress or not.
-static NODE_WORDS: [(&str, u16, bool); 3] = [
-    ("hyperball node", 0, false),
-    ("hyperball node --part 3", 3, false),
-    ("hyperball node --progress --part 3", 3, true),
-];
-
-static GATHER_WORDS: [(&str, bool); 2] = [
-    ("hyperball gather", false),
-    ("hyperball gather --progress", true),
+/// Words, and what they are read as.
+static READINGS: [(&str, Reading); 6] = [
+    (
+        "hyperball run --seed 7 --estimate corrected --delimiter space --counted --replicas 2 --keep 0 \
+        --patience 7 --lose 0.1@999999999 --restart 65535.255@0,1.0@10",
+        Reading::Run(
+            SAID,
+            &[(
+                NodeId {
+                    part: 0,
+                    replica: 1,
+                },
+                999_999_999,
+            )],
+            &[
+                (
+                    NodeId {
+                        part: 65_535,
+                        replica: 255,
+                    },
+                    0,
+                ),
+                (
+                    NodeId {
+                        part: 1,
+                        replica: 0,
+                    },
+                    10,
+                ),
+            ],
+        ),
+    ),
+    (
+        "hyperball node",
+        Reading::Node(NodeWords {
+            options: JOB,
+            part: 0,
+            progress: false,
+        }),
+    ),
+    (
+        "hyperball node --part 3",
+        Reading::Node(NodeWords {
+            options: JOB,
+            part: 3,
+            progress: false,
+        }),
+    ),
+    (
+        "hyperball node --progress --part 3",
+        Reading::Node(NodeWords {
+            options: JOB,
+            part: 3,
+            progress: true,
+        }),
+    ),
+    (
+        "hyperball gather",
+        Reading::Gather(GatherWords {
+            options: JOB,
+            progress: false,
+        }),
+    ),
+    (
+        "hyperball gather --progress",
+        Reading::Gather(GatherWords {
+            options: JOB,
+            progress: true,
+        }),
+    ),
 ];
 
 #[test]
-fn words_of_nodes_are_read(rt: HostRuntime) -> Result<(), Fail> {
-    for (line, part, progress) in &NODE_WORDS {
-        assert!(rt; says_node(&rt, line, *part, *progress)?, "{line}");
+fn words_are_read(rt: HostRuntime) {
+    for (line, reading) in &READINGS {
+        assert!(rt; says(rt.alloc(), *line, reading), "{line}");
     }
-    Ok(())
 }
 
 #[test]
-fn words_of_gatherings_are_read(rt: HostRuntime) -> Result<(), Fail> {
-    for (line, progress) in &GATHER_WORDS {
-        assert!(rt; says_gathering(&rt, line, *progress)?, "{line}");
-    }
-    Ok(())
+fn laws_are_called() {
+    words_of_a_run();
+    words_of_no_run();
+    words_of_a_replay();
+    words_of_no_replay();
+    words_of_a_node();
+    words_of_no_node();
+    words_of_no_command();
+    words_of_one_command();
+    words_of_progress();
+    lists_of_orders();
 }
 
 static NO_ORDERS: [&str; 16] = [
@@ -476,13 +611,14 @@ static NO_ORDERS: [&str; 16] = [
     "0.0@1000000000",
 ];
 
+/// Whether a text is no list of orders.
+fn is_no_list(alloc: Global, text: &str) -> bool {
+    matches!(orders_in(alloc, text), Err(OrdersError::Form))
+}
+
 #[test]
-fn texts_that_are_no_orders(rt: HostRuntime) -> Result<(), Fail> {
+fn texts_that_are_no_orders(rt: HostRuntime) {
     for text in &NO_ORDERS {
-        assert!(rt;
-            orders_in(rt.alloc(), text) == Err(OrdersError::Form),
-            "{text}"
-        );
+        assert!(rt; is_no_list(rt.alloc(), *text), "{text}");
     }
-    Ok(())
 }
