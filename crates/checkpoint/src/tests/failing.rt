@@ -1,42 +1,31 @@
 //! Writers that fail at a call, that are full, and that take a byte a call.
 
-ghost use Rattle.std.specs.Prelude.{None};
-
 use super::reading::{fault, read};
 use super::worked::{TWO_EARLY, TWO_EDGES};
-use super::writing::written;
+use super::writing::{writes, written};
 use super::{half, part_of, replica_of, whole};
-use crate::{KeepError, checkpoint_length, write_checkpoint};
-use ball_model::{CountingWriter, MemReader};
+use crate::{KeepError, checkpoint_length};
+use ball_model::MemReader;
 use edgelist::Part;
 use replica::Replica;
-use std::io;
-use std::io::Write;
 use std::sync::Arc;
 
 /// Whether a failed write is told, and fewer bytes went out than the replica has: too few to be read.
-fn is_cut(
-    rt: &HostRuntime,
-    part: &Arc<Part>,
-    replica: &Replica,
-    room: usize,
-    fails_at: Option<u64>,
-) -> bool {
-    match written(rt, replica, room, fails_at) {
-        Some((answer, bytes)) => {
-            answer == Err(KeepError::Write)
-                && (bytes.len() as u64) < checkpoint_length(replica)
-                && fault(rt, part, &bytes) == Some(KeepError::Short)
-        }
-        None => false,
-    }
+fn is_cut(rt: &HostRuntime, part: &Arc<Part>, replica: &Replica, room: usize, good: u64) -> bool {
+    let mut bytes = [0; 5000];
+    let (room, _) = bytes.split_at_mut(room.min(5000));
+    let (answer, count) = written(replica, room, usize::MAX, good);
+    let (text, _) = bytes.split_at(count.min(5000));
+    answer == Err(KeepError::Write)
+        && (count as u64) < checkpoint_length(replica)
+        && fault(rt, part, text) == Some(KeepError::Short)
 }
 
 /// Whether a replica is cut by each of so many calls of a writer that fails, and by none behind them.
 fn calls(rt: &HostRuntime, part: &Arc<Part>, replica: &Replica, calls: u64) -> bool {
     let mut all = true;
-    for call in 1..9 {
-        all &= is_cut(rt, part, replica, 10_000, Some(call)) == (call <= calls);
+    for good in 0..8 {
+        all &= is_cut(rt, part, replica, 5000, good) == (good < calls);
     }
     all
 }
@@ -45,36 +34,9 @@ fn calls(rt: &HostRuntime, part: &Arc<Part>, replica: &Replica, calls: u64) -> b
 fn rooms(rt: &HostRuntime, part: &Arc<Part>, replica: &Replica, length: usize) -> bool {
     let mut all = true;
     for room in 0..400 {
-        all &= is_cut(rt, part, replica, room, None) == (room < length);
+        all &= is_cut(rt, part, replica, room, u64::MAX) == (room < length);
     }
     all
-}
-
-/// A writer that takes a byte a call.
-#[derive(Drop)]
-struct Slow<'a> {
-    room: &'a mut [u8],
-}
-
-impl<'a> Write for Slow<'a> {
-    ghost contents = { λ w. None };
-
-    fn write(&mut self, buf: &[u8]) -> io::Result<usize> {
-        let (front, _) = buf.split_at(buf.len().min(1));
-        Write::write(&mut self.room, front)
-    }
-
-    fn flush(&mut self) -> io::Result<()> {
-        Ok(())
-    }
-}
-
-/// Whether it writes the same a byte a call, and no more.
-fn drips(replica: &Replica, wanted: &[u8]) -> bool {
-    let mut bytes = [0; 400];
-    let (room, _) = bytes.split_at_mut(wanted.len().min(400));
-    let answer = write_checkpoint(replica, &mut CountingWriter::new(Slow { room }));
-    answer == Ok(()) && bytes.starts_with(wanted)
 }
 
 /// Whether all that holds of the replica that is read from these bytes. Its fields go out at once, and then their digest.
@@ -83,7 +45,7 @@ fn are_cut(rt: &HostRuntime, part: &Arc<Part>, bytes: &[u8]) -> bool {
         Ok(replica) => {
             calls(rt, part, &replica, 2)
                 && rooms(rt, part, &replica, bytes.len())
-                && drips(&replica, bytes)
+                && writes(&replica, bytes, 1)
         }
         Err(_) => false,
     }

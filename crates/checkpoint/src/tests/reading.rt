@@ -37,18 +37,22 @@ impl<'a> Read for Sips<'a> {
     }
 }
 
-/// What comes of reading a checkpoint of the part, a replica in a box.
+/// What was read, with a replica in a box.
+fn boxed(rt: &HostRuntime, read: Result<Replica, KeepError>) -> Result<Box<Replica>, KeepError> {
+    match read {
+        Ok(replica) => Box::new(rt.alloc(), replica).ok().ok_or(KeepError::Memory),
+        Err(e) => Err(e),
+    }
+}
+
+/// What comes of reading a checkpoint of the part.
 pub(super) fn read<R: CountedRead>(
     rt: &HostRuntime,
     part: &Arc<Part>,
     reader: &mut R,
 ) -> Result<Box<Replica>, KeepError> {
     let part = Arc::try_clone(part)?;
-    let replica = read_checkpoint(rt.alloc(), part, reader)?;
-    match Box::new(rt.alloc(), replica) {
-        Ok(boxed) => Ok(boxed),
-        Err(_) => Err(KeepError::Memory),
-    }
+    boxed(rt, read_checkpoint(rt.alloc(), part, reader))
 }
 
 /// Why the bytes are refused.
@@ -87,19 +91,16 @@ fn cuts(rt: &HostRuntime, part: &Arc<Part>, bytes: &[u8]) -> bool {
 }
 
 /// Whether the replica of the first bytes writes the second ones.
-pub(super) fn is_written(
-    rt: &HostRuntime,
-    part: &Arc<Part>,
-    first: &[u8],
-    second: &[u8],
-) -> Option<bool> {
-    let replica = read(rt, part, &mut MemReader::new(first, None)).ok()?;
-    writes(rt, &replica, second)
+pub(super) fn is_written(rt: &HostRuntime, part: &Arc<Part>, first: &[u8], second: &[u8]) -> bool {
+    match read(rt, part, &mut MemReader::new(first, None)) {
+        Ok(replica) => writes(&replica, second, usize::MAX),
+        Err(_) => false,
+    }
 }
 
 /// Whether all that holds of a checkpoint, which is read by so many calls.
 fn is_read(rt: &HostRuntime, part: &Arc<Part>, first: &[u8], second: &[u8], calls: u64) -> bool {
-    is_written(rt, part, first, second) == Some(true)
+    is_written(rt, part, first, second)
         && cuts(rt, part, first)
         && fails(rt, part, first, usize::MAX, calls)
         && fails(rt, part, first, 1, first.len() as u64 + 1)

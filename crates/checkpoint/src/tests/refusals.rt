@@ -12,9 +12,7 @@ use std::sync::Arc;
 /// Whether bytes are read, or else memory was refused, and they are read then as a replica that writes those.
 fn is_read_again(rt: &HostRuntime, part: &Arc<Part>, bytes: &[u8], wanted: &[u8]) -> bool {
     match fault(rt, part, bytes) {
-        Some(told) => {
-            told == KeepError::Memory && is_written(rt, part, bytes, wanted) == Some(true)
-        }
+        Some(told) => told == KeepError::Memory && is_written(rt, part, bytes, wanted),
         None => true,
     }
 }
@@ -32,7 +30,7 @@ fn calls_where_memory_is_refused(rt: HostRuntime) {
     assert!(rt; both_again(&rt).or(both_again(&rt)) == Some(true));
 }
 
-// Where memory is refused there is no replica, or no writer. Where there are both, the bytes are written.
+// Where memory is refused there is no replica. Where there is one, the bytes are written.
 #[test]
 fn writing_asks_for_no_memory(rt: HostRuntime) {
     assert!(rt; edges_are_written(&rt).or(edges_are_written(&rt)) == Some(true));

@@ -1,4 +1,4 @@
-//! Worked checkpoints, as FORMATS.md spells them: by another program, which makes each digest too.
+//! Worked checkpoints, as FORMATS.md spells them: by other programs (`bench/vectors.py`), which make each digest too.
 //!
 //! Hashes are those under seed 0 at 16 registers: vertex 0 has rank 3 in register 14, vertex 1 rank 1 in register 6,
 //! vertex 2 rank 2 in register 0, vertex 3 rank 1 in register 15.
@@ -70,44 +70,6 @@ pub(super) static FIRST: [u8; 281] = [
     0, 0, 0, 0, 0, 0, 0, 0, 0, 0, 0, 0, 2, 31, 9, 119, // at 2
     0x0c, 0x4a, 0xeb, 0x7b, 0xc7, 0x6f, 0xdd, 0x84, 0x36, 0x0c, 0x3a, 0x39, 0xcd, 0x4d, 0x94, 0x00,
     0x35, 0x1b, 0xcd, 0x76, 0xf5, 0xb3, 0x5f, 0x9d, 0x60, 0x9d, 0x14, 0x6b, 0x0a, 0xfd, 0x99, 0x1b,
-];
-
-/// Partition 1 of the path a, b, c, d, e in two partitions, at superstep 0, which keeps a batch of superstep 3.
-pub(super) static WINDOW_EDGE: [u8; 305] = [
-    0x48, 0x42, 0x43, 0x4b, // HBCK
-    2, 4, // version, log2m
-    0, 2, 0, 1, // parts, partition
-    0, 0, 0, 5, // vertices
-    0, 0, 0, 2, // vertices of the partition
-    0, 0, 0, 0, // superstep
-    0x95, 0x27, 0x45, 0xe7, 0xab, 0xd9, 0x7d, 0x56, 0x33, 0x04, 0xe8, 0xec, 0x8d, 0x76, 0xfc, 0x6e,
-    0x79, 0x3b, 0xea, 0x8d, 0x10, 0x5e, 0xb0, 0x92, 0x45, 0x2c, 0xd9, 0x71, 0xe1, 0x39, 0x19, 0x51,
-    1, // vertex 1: its mark
-    0, 0, 0, 0, 0, 169, 155, 90, // its estimate
-    0, 0, 0, 0, 0, 0, 0, 0, // its harmonic centrality
-    0, 0, 0, 0, 0, 0, 0, 0, 0, 0, 0, 0, 0, 0, 0, 0, // its sum of distances
-    0, 0, 0, 0, 0, 0, 1, 0, 0, 0, 0, 0, 0, 0, 0, 0, // its registers
-    1, // vertex 3: its mark
-    0, 0, 0, 0, 0, 169, 155, 90, // its estimate
-    0, 0, 0, 0, 0, 0, 0, 0, // its harmonic centrality
-    0, 0, 0, 0, 0, 0, 0, 0, 0, 0, 0, 0, 0, 0, 0, 0, // its sum of distances
-    0, 0, 0, 0, 0, 0, 0, 0, 0, 0, 0, 0, 0, 0, 0, 1, // its registers
-    0, 0, 0, 0, 0, 0, 0, 0, 0, 0, 0, 0, 1, 83, 54, 180, // sum at 0
-    0, 0, 0, 0, 0, 0, 0, 0, 0, // heard, and whether a change is
-    0, 0, 0, 0, 0, 0, 1, 0, 0, 0, 0, 0, 0, 0, 0, 0, // accumulated: vertex 1
-    0, 0, 0, 0, 0, 0, 0, 0, 0, 0, 0, 0, 0, 0, 0, 1, // vertex 3
-    0, 1, // batches
-    0, 0, 0, 0, 0, 0, 0, 54, // length of the batch
-    0x48, 0x42, 0x42, 0x54, // HBBT
-    1, 4, // version, log2m
-    0, 0, 0, 3, // superstep
-    0, 0, 0, 1, // source, target
-    0x95, 0x27, 0x45, 0xe7, 0xab, 0xd9, 0x7d, 0x56, 0x33, 0x04, 0xe8, 0xec, 0x8d, 0x76, 0xfc, 0x6e,
-    0x79, 0x3b, 0xea, 0x8d, 0x10, 0x5e, 0xb0, 0x92, 0x45, 0x2c, 0xd9, 0x71, 0xe1, 0x39, 0x19, 0x51,
-    0, 0, 0, 1, // changed
-    0, 0, 0, 0, // rows
-    0x48, 0x99, 0xf3, 0x5d, 0x2f, 0x8f, 0xff, 0x7f, 0x47, 0x0f, 0x54, 0x83, 0xef, 0x04, 0xd1, 0xa2,
-    0xa6, 0xcc, 0x59, 0xed, 0x4c, 0xca, 0x75, 0x8d, 0x69, 0xdd, 0xeb, 0xd8, 0xcb, 0xef, 0x9d, 0xd9,
 ];
 
 /// Partition 1 of the path a, b, c, d, e in two partitions, at superstep 0, which keeps batches of supersteps 2 and 3.

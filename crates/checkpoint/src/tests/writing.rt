@@ -1,45 +1,71 @@
 //! Replicas that are written: the bytes of worked ones, and those of a run that goes on from its checkpoints.
 
+ghost use Rattle.std.specs.Prelude.{None};
+
 use super::reading::read;
 use super::worked::{TWO_EARLY, TWO_EDGES};
 use super::{half, replica_of, whole};
 use crate::{KeepError, checkpoint_length, write_checkpoint};
-use ball_model::{MemReader, MemWriter, Plan, Taken, Verdict};
+use ball_model::{CountingWriter, MemReader, Plan, Taken, Verdict};
 use batches::Batch;
 use edgelist::Part;
 use replica::{Replica, Shown};
+use std::io;
+use std::io::{ErrorKind, Write};
 use std::sync::Arc;
 
-/// What a replica writes where there is so much room and that call fails: the answer, and the bytes that were taken.
+/// A writer into so much room, which takes at most so many bytes a call, and fails after so many calls.
+#[derive(Drop)]
+struct Sips<'a> {
+    room: &'a mut [u8],
+    most: usize,
+    good: u64,
+}
+
+impl<'a> Write for Sips<'a> {
+    ghost contents = { λ w. None };
+
+    fn write(&mut self, buf: &[u8]) -> io::Result<usize> {
+        if self.good == 0 {
+            return Err(io::Error::from(ErrorKind::Other));
+        }
+        self.good -= 1;
+        let (front, _) = buf.split_at(buf.len().min(self.most));
+        Write::write(&mut self.room, front)
+    }
+
+    fn flush(&mut self) -> io::Result<()> {
+        Ok(())
+    }
+}
+
+/// What a replica writes into such a writer: the answer, and how many bytes were taken.
 pub(super) fn written(
-    rt: &HostRuntime,
     replica: &Replica,
-    room: usize,
-    fails_at: Option<u64>,
-) -> Option<(Result<(), KeepError>, Vec<u8>)> {
-    let mut writer = MemWriter::with_room(rt.alloc(), room, fails_at).ok()?;
-    let answer = write_checkpoint(replica, &mut writer);
-    Some((answer, writer.into_bytes()))
+    room: &mut [u8],
+    most: usize,
+    good: u64,
+) -> (Result<(), KeepError>, usize) {
+    let length = room.len();
+    let mut sips = Sips { room, most, good };
+    let answer = write_checkpoint(replica, &mut CountingWriter::new(&mut sips));
+    (answer, length.saturating_sub(sips.room.len()))
 }
 
-/// Whether a replica writes these bytes, as many as are told before. None where memory for a writer is refused.
-pub(super) fn writes(rt: &HostRuntime, replica: &Replica, wanted: &[u8]) -> Option<bool> {
+/// Whether a replica writes these bytes, as many as are told before, by so many a call.
+pub(super) fn writes(replica: &Replica, wanted: &[u8], most: usize) -> bool {
+    let mut bytes = [0; 400];
+    let out = written(replica, &mut bytes, most, u64::MAX);
     let length = checkpoint_length(replica);
-    let (answer, bytes) = written(rt, replica, wanted.len(), None)?;
-    Some(answer == Ok(()) && bytes.as_slice() == wanted && length == wanted.len() as u64)
-}
-
-/// The bytes of a replica.
-fn kept(rt: &HostRuntime, replica: &Replica) -> Option<Vec<u8>> {
-    let room = checkpoint_length(replica) as usize;
-    let (answer, bytes) = written(rt, replica, room, None)?;
-    if answer.is_ok() { Some(bytes) } else { None }
+    out == (Ok(()), wanted.len()) && bytes.starts_with(wanted) && length == wanted.len() as u64
 }
 
 /// A replica that is read from the bytes of another one.
 fn again(rt: &HostRuntime, part: &Arc<Part>, replica: &Replica) -> Option<Box<Replica>> {
-    let bytes = kept(rt, replica)?;
-    read(rt, part, &mut MemReader::new(&bytes, None)).ok()
+    let mut bytes = [0; 400];
+    let (_, count) = written(replica, &mut bytes, usize::MAX, u64::MAX);
+    let (text, _) = bytes.split_at(count.min(400));
+    read(rt, part, &mut MemReader::new(text, None)).ok()
 }
 
 /// Whether one is read in the place of another, and goes on.
@@ -58,7 +84,7 @@ fn runs(rt: &HostRuntime, part: &Arc<Part>, replica: &mut Box<Replica>) -> Optio
     if !renews(rt, part, replica) || !renews(rt, part, replica) {
         return None;
     }
-    let right = writes(rt, replica, &TWO_EDGES)?;
+    let right = writes(replica, &TWO_EDGES, usize::MAX);
     Some(right && replica.close() == Ok(3) && replica.verdict() == Some(Verdict::Stable))
 }
 
@@ -83,11 +109,12 @@ fn takes(rt: &HostRuntime, replica: &mut Replica, bytes: &[u8]) -> bool {
 }
 
 /// Whether a replica writes those bytes, once it has taken a batch of superstep 3 and one of superstep 2. Both tell of one
-/// changed vertex and have no row: what no partition tells. None where memory for one is refused.
+/// changed vertex and have no row: what no partition tells. None where memory for
+/// one is refused.
 fn writes_early(rt: &HostRuntime, replica: &mut Replica) -> Option<bool> {
     let later = takes(rt, replica, &TWO_EARLY[281..335]);
     if later && takes(rt, replica, &TWO_EARLY[219..273]) {
-        writes(rt, replica, &TWO_EARLY)
+        Some(writes(replica, &TWO_EARLY, usize::MAX))
     } else {
         None
     }
