@@ -24,7 +24,7 @@ use std::random::RandomSource;
 use std::sync::{Arc, Wait};
 use std::thread;
 use std::thread::Threads;
-use threads::{Crowd, is_right_crowd};
+use threads::is_right_crowd;
 
 const TWO_EDGES: &[u8] = b"a\tb\nb\tc\n";
 
@@ -49,9 +49,9 @@ fn job<R: RandomSource>(rt: &R, alloc: Global, text: &[u8]) -> Option<(Graph, Pl
 }
 
 /// A replica of a partition at superstep 0.
-fn replica(alloc: Global, graph: &Graph, plan: &Plan, p: u16) -> Option<Replica>
+fn replica(alloc: Global, graph: &Graph, plan: &Plan, p: u16) -> Option<Box<Replica>>
     requires { IsJob (job_of graph.now.graph plan.now) }
-    ensures { IfSome result (λ r. Stands (job_of graph.now.graph plan.now) r) }
+    ensures { IfSome result (λ r. Stands (job_of graph.now.graph plan.now) r.value) }
 {
     if p >= plan.parts() {
         return None;
@@ -65,7 +65,10 @@ fn replica(alloc: Global, graph: &Graph, plan: &Plan, p: u16) -> Option<Replica>
     let Ok(replica) = Replica::new(alloc, shared) else {
         return None;
     };
-    Some(replica)
+    let Ok(boxed) = Box::new(alloc, replica) else {
+        return None;
+    };
+    Some(boxed)
 }
 
 /// What a replica tells a partition.
@@ -111,11 +114,12 @@ fn snapshot_of(
     Some(shared)
 }
 
-/// What seats post and keep: what partition 0 tells the others, and what it has.
+/// What seats post and keep: what partition 0 tells the others, and what it has. And the floor that they raise.
 #[derive(Drop)]
 struct Stock {
     batches: Vec<Arc<Batch>>,
     snapshot: Arc<Snapshot>,
+    floor: u32,
 }
 
 /// Adds what a replica tells a partition.
@@ -161,7 +165,13 @@ fn add_batches(
 }
 
 /// The four batches, and the snapshot.
-fn stock_by(alloc: Global, graph: &Graph, plan: &Plan, from: &mut Replica) -> Option<Stock>
+fn stock_by(
+    alloc: Global,
+    graph: &Graph,
+    plan: &Plan,
+    from: &mut Replica,
+    floor: u32,
+) -> Option<Stock>
     requires { Stands (job_of graph.now.graph plan.now) from.old }
     ensures batches { IfSome result
         (λ s. All (λ a. IsTrueBatch (job_of graph.now.graph plan.now) (arc_value a))
@@ -172,11 +182,15 @@ fn stock_by(alloc: Global, graph: &Graph, plan: &Plan, from: &mut Replica) -> Op
     let mut batches = Vec::new(alloc);
     add_batches(alloc, graph, plan, from, &mut batches)?;
     let snapshot = snapshot_of(alloc, graph, plan, from)?;
-    Some(Stock { batches, snapshot })
+    Some(Stock {
+        batches,
+        snapshot,
+        floor,
+    })
 }
 
 /// Those of a new replica.
-fn stock_of(alloc: Global, graph: &Graph, plan: &Plan) -> Option<Stock>
+fn stock_of(alloc: Global, graph: &Graph, plan: &Plan, floor: u32) -> Option<Stock>
     requires { IsJob (job_of graph.now.graph plan.now) }
     ensures batches { IfSome result
         (λ s. All (λ a. IsTrueBatch (job_of graph.now.graph plan.now) (arc_value a))
@@ -185,7 +199,7 @@ fn stock_of(alloc: Global, graph: &Graph, plan: &Plan) -> Option<Stock>
         (λ s. Stands (job_of graph.now.graph plan.now) (arc_value s.snapshot)) }
 {
     let mut first = replica(alloc, graph, plan, 0)?;
-    stock_by(alloc, graph, plan, &mut first)
+    stock_by(alloc, graph, plan, &mut first, floor)
 }
 
 /// A seat posts a batch, and has it still.
@@ -328,7 +342,18 @@ enum Case {
     Refusals,
     ManyEntries,
     Full,
-    Threads(Crowd),
+    // so many others beside the first, and their floor
+    Threads(u8, u32),
+}
+
+impl Case {
+    /// The floor that is raised.
+    fn floor(self) -> u32 {
+        match self {
+            Case::Threads(_, floor) => floor,
+            _ => 0,
+        }
+    }
 }
 
 /// Whether a new board of so many entries, and its first seat, do right.
@@ -354,7 +379,9 @@ fn does_right<R: Threads + Wait + Sync>(
         Case::Refusals => goes_on_after_refusals(rt, board, &mut seat, graph, plan, stock),
         Case::ManyEntries => takes_many(rt, board, &mut seat, graph, plan, stock, entries),
         Case::Full => Some(is_full(rt, board, &mut seat, graph, plan, stock, entries)),
-        Case::Threads(them) => Some(is_right_crowd(rt, board, seat, graph, plan, stock, them)),
+        Case::Threads(others, _) => {
+            Some(is_right_crowd(rt, board, seat, graph, plan, stock, others))
+        }
     }
 }
 
@@ -390,7 +417,7 @@ fn is_right_at<R: Threads + Wait + Sync>(
     requires job { IsJob (job_of graph.now.graph plan.now) }
     requires entries { (2 ≤ entries) × (entries ≤ 2 ^ 24) }
 {
-    let stock = stock_of(alloc, graph, plan)?;
+    let stock = stock_of(alloc, graph, plan, case.floor())?;
     is_right_with(rt, alloc, graph, plan, &stock, entries, case)
 }
 

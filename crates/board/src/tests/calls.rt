@@ -145,13 +145,16 @@ pub(super) fn goes_on_after_refusals<R: Wait>(
     Some(right && board.length(seat) == 9)
 }
 
+/// Whether it is so at a new board.
+fn refusals<R: RandomSource + Threads + Wait + Sync>(rt: &R, alloc: Global) -> Option<bool> {
+    is_right(rt, alloc, 16, Case::Refusals)
+}
+
 /// Each call is answered, at once or when it is made again: a run of this test can refuse any one growth. Where that is
 /// one before the first call, all is done again.
 #[test]
 fn calls_where_memory_is_refused(rt: HostRuntime) {
-    let first = is_right(&rt, rt.alloc(), 16, Case::Refusals);
-    let right = first.or(is_right(&rt, rt.alloc(), 16, Case::Refusals));
-    assert!(rt; right == Some(true));
+    assert!(rt; refusals(&rt, rt.alloc()).or(refusals(&rt, rt.alloc())) == Some(true));
 }
 
 /// How many of so many posts of one batch are answered Known.
@@ -334,20 +337,21 @@ pub(super) fn is_full<R: Wait>(
         &stock.batches,
         room,
     );
-    let lengths = [board.length(seat), board.length(&mut other)];
-    filled && lengths == [u64::from(entries); 2]
+    let first = board.length(seat);
+    let second = board.length(&mut other);
+    filled && first == second && first == u64::from(entries)
 }
 
 /// Whether a board fills up so at each number of entries from 2 to 18.
-fn all_fill_up(rt: &HostRuntime) -> bool {
+fn all_fill_up<R: RandomSource + Threads + Wait + Sync>(rt: &R, alloc: Global) -> bool {
     let mut all = true;
     for entries in 2..19 {
-        all &= is_right(rt, rt.alloc(), entries, Case::Full) == Some(true);
+        all &= is_right(rt, alloc, entries, Case::Full) == Some(true);
     }
     all
 }
 
 #[test]
 fn full_books(rt: HostRuntime) {
-    assert!(rt; all_fill_up(&rt));
+    assert!(rt; all_fill_up(&rt, rt.alloc()));
 }

@@ -10,13 +10,6 @@ ghost use Rattle.board.specs.Seats.{IsAt};
 
 use super::*;
 
-/// So many threads and one more at a board, each of which raises the floor to this superstep.
-#[derive(Clone, Copy)]
-pub(super) struct Crowd {
-    pub(super) others: u8,
-    pub(super) floor: u32,
-}
-
 /// What a crowd of threads did: names and snapshots that were New, entries that were added, and whether all else was
 /// right.
 #[derive(Clone, Copy)]
@@ -76,19 +69,18 @@ fn leaves_none<R: Wait>(
     seat: &mut Seat,
     graph: &Graph,
     plan: &Plan,
-    batches: &[Arc<Batch>],
-    floor: u32,
+    stock: &Stock,
 ) -> (bool, u64)
     requires board { IsAt board.now seat.old }
     requires job { seat.old.caller.seen.job ≡ job_of graph.now.graph plan.now }
     requires batches { All (λ a. IsTrueBatch (job_of graph.now.graph plan.now) (arc_value a))
-        batches.now }
+        stock.now.batches.items }
     ensures board { IsAt board.now seat.new }
 {
-    let dropped = drop_below(rt, board, seat, floor) == Ok(());
-    let found = find_all(rt, board, seat, batches);
-    let late = post_all(rt, board, seat, graph, plan, batches);
-    let wanted = if floor > 0 { 0 } else { 4 };
+    let dropped = drop_below(rt, board, seat, stock.floor) == Ok(());
+    let found = find_all(rt, board, seat, &stock.batches);
+    let late = post_all(rt, board, seat, graph, plan, &stock.batches);
+    let wanted = if stock.floor > 0 { 0 } else { 4 };
     (
         dropped && found == wanted && late == 0,
         (found as u64).wrapping_add(5),
@@ -103,7 +95,6 @@ fn work<R: Wait>(
     graph: &Graph,
     plan: &Plan,
     stock: &Stock,
-    floor: u32,
 ) -> Done
     requires board { IsAt board.now seat }
     requires job { seat.caller.seen.job ≡ job_of graph.now.graph plan.now }
@@ -113,7 +104,7 @@ fn work<R: Wait>(
 {
     let before = board.length(&mut seat);
     let mut done = post_and_keep(rt, board, &mut seat, graph, plan, stock);
-    let (right, more) = leaves_none(rt, board, &mut seat, graph, plan, &stock.batches, floor);
+    let (right, more) = leaves_none(rt, board, &mut seat, graph, plan, stock);
     done.entries = done.entries.wrapping_add(more);
     done.right &= right && before.wrapping_add(done.entries) <= board.length(&mut seat);
     done
@@ -128,7 +119,6 @@ fn crowd<R: Threads + Wait + Sync>(
     plan: &Plan,
     stock: &Stock,
     others: u8,
-    floor: u32,
 ) -> Done
     requires board { IsAt board.now seat }
     requires job { seat.caller.seen.job ≡ job_of graph.now.graph plan.now }
@@ -138,7 +128,7 @@ fn crowd<R: Threads + Wait + Sync>(
     requires room { (seat.room ≤ 2 ^ 63) × (others * 2 ^ 53 ≤ seat.room) }
 {
     if others == 0 {
-        return work(rt, board, seat, graph, plan, stock, floor);
+        return work(rt, board, seat, graph, plan, stock);
     }
     let other = seat.split(board);
     let fewer = others - 1;
@@ -152,7 +142,7 @@ fn crowd<R: Threads + Wait + Sync>(
                 stock.now.batches.items }
             requires snapshot { Stands (job_of graph.now.graph plan.now)
                 (arc_value stock.now.snapshot) }
-        { work(rt, board, other, graph, plan, stock, floor) },
+        { work(rt, board, other, graph, plan, stock) },
         || -> Done
             requires board { IsAt board.now seat }
             requires job { seat.caller.seen.job ≡ job_of graph.now.graph plan.now }
@@ -162,7 +152,7 @@ fn crowd<R: Threads + Wait + Sync>(
             requires snapshot { Stands (job_of graph.now.graph plan.now)
                 (arc_value stock.now.snapshot) }
             requires room { (seat.room ≤ 2 ^ 63) × (fewer * 2 ^ 53 ≤ seat.room) }
-        { crowd(rt, board, seat, graph, plan, stock, fewer, floor) },
+        { crowd(rt, board, seat, graph, plan, stock, fewer) },
     );
     one.and(rest)
 }
@@ -176,7 +166,7 @@ pub(super) fn is_right_crowd<R: Threads + Wait + Sync>(
     graph: &Graph,
     plan: &Plan,
     stock: &Stock,
-    them: Crowd,
+    others: u8,
 ) -> bool
     requires board { IsAt board.now seat }
     requires job { seat.caller.seen.job ≡ job_of graph.now.graph plan.now }
@@ -186,24 +176,30 @@ pub(super) fn is_right_crowd<R: Threads + Wait + Sync>(
     requires snapshot { Stands (job_of graph.now.graph plan.now) (arc_value stock.now.snapshot) }
 {
     let mut last = seat.split(board);
-    let done = crowd(rt, board, seat, graph, plan, stock, them.others, them.floor);
+    let done = crowd(rt, board, seat, graph, plan, stock, others);
     let once = done.news == 4 && done.kept == 1;
     done.right && once && board.length(&mut last) == done.entries.wrapping_add(1)
 }
 
 /// Whether so many threads and one more do right.
-fn is_right_of(rt: &HostRuntime, others: u8, floor: u32) -> bool {
-    let case = Case::Threads(Crowd { others, floor });
-    is_right(rt, rt.alloc(), 10_000, case) == Some(true)
+fn is_right_of<R: RandomSource + Threads + Wait + Sync>(
+    rt: &R,
+    alloc: Global,
+    others: u8,
+    floor: u32,
+) -> bool {
+    is_right(rt, alloc, 10_000, Case::Threads(others, floor)) == Some(true)
 }
 
 /// Nothing is dropped, so each finds all that stands.
 #[test]
 fn two_threads_post(rt: HostRuntime) {
-    assert!(rt; is_right_of(&rt, 1, 0));
+    assert!(rt; is_right_of(&rt, rt.alloc(), 1, 0));
 }
 
 #[test]
 fn threads_at_one_board(rt: HostRuntime) {
-    assert!(rt; is_right_of(&rt, 3, 4) && is_right_of(&rt, 7, 4) && is_right_of(&rt, 15, 4));
+    let four = is_right_of(&rt, rt.alloc(), 3, 4);
+    let eight = is_right_of(&rt, rt.alloc(), 7, 4);
+    assert!(rt; four && eight && is_right_of(&rt, rt.alloc(), 15, 4));
 }
