@@ -49,9 +49,9 @@ fn job<R: RandomSource>(rt: &R, alloc: Global, text: &[u8]) -> Option<(Graph, Pl
 }
 
 /// A replica of a partition at superstep 0.
-fn replica(alloc: Global, graph: &Graph, plan: &Plan, p: u16) -> Option<Box<Replica>>
+fn replica(alloc: Global, graph: &Graph, plan: &Plan, p: u16) -> Option<Replica>
     requires { IsJob (job_of graph.now.graph plan.now) }
-    ensures { IfSome result (λ r. Stands (job_of graph.now.graph plan.now) r.value) }
+    ensures { IfSome result (λ r. Stands (job_of graph.now.graph plan.now) r) }
 {
     if p >= plan.parts() {
         return None;
@@ -65,10 +65,7 @@ fn replica(alloc: Global, graph: &Graph, plan: &Plan, p: u16) -> Option<Box<Repl
     let Ok(replica) = Replica::new(alloc, shared) else {
         return None;
     };
-    let Ok(boxed) = Box::new(alloc, replica) else {
-        return None;
-    };
-    Some(boxed)
+    Some(replica)
 }
 
 /// What a replica tells a partition.

@@ -9,10 +9,14 @@ mod writing;
 
 use crate::laws;
 use ball_model::CountingReader;
+use damage::are_told;
 use edgelist::{Delimiter, EdgeLimits, Graph, Part, read_edges};
+use failing::{VERTICES, are_cut, many_are_cut};
+use reading::{early_is_read, edges_are_read};
 use replica::Replica;
 use std::hash::RandomState;
 use std::sync::Arc;
+use worked::{TWO_EARLY, TWO_EDGES};
 
 /// A graph of an edge list with tabs.
 fn graph(rt: &HostRuntime, text: &[u8]) -> Option<Graph> {
@@ -55,6 +59,27 @@ fn half(rt: &HostRuntime) -> Option<Arc<Part>> {
 fn replica_of(rt: &HostRuntime, part: &Arc<Part>) -> Option<Box<Replica>> {
     let replica = Replica::new(rt.alloc(), part.clone().ok()?).ok()?;
     Box::new(rt.alloc(), replica).ok()
+}
+
+/// Whether all that the tests tell of the two edges holds: read whole, cut, damaged, and written into writers that fail.
+fn edges_hold(rt: &HostRuntime, part: &Arc<Part>) -> bool {
+    edges_are_read(rt, part) && are_told(rt, part) && are_cut(rt, part, &TWO_EDGES)
+}
+
+/// And of the early batches.
+fn early_holds(rt: &HostRuntime, part: &Arc<Part>) -> bool {
+    early_is_read(rt, part) && are_cut(rt, part, &TWO_EARLY)
+}
+
+/// Both, and what is told of a replica that goes out in pieces.
+fn all_hold(rt: &HostRuntime) -> Option<bool> {
+    let both = edges_hold(rt, &whole(rt)?) && early_holds(rt, &half(rt)?);
+    Some(both && many_are_cut(rt, &part_of(rt, VERTICES, 1, 0)?))
+}
+
+#[test]
+fn worked_checkpoints(rt: HostRuntime) {
+    assert!(rt; all_hold(&rt) == Some(true));
 }
 
 #[test]

@@ -70,10 +70,12 @@ fn scatter(bytes: &mut [u8], state: &mut u64) {
     }
 }
 
-/// Makes all bytes behind the fixed fields random.
+/// Makes all bits behind the fixed fields random.
 fn shake(bytes: &mut [u8], state: &mut u64) {
-    for byte in bytes.iter_mut().skip(54) {
-        *byte = (next(state) % 256) as u8;
+    for bit in 432..2720 {
+        if next(state) % 2 == 0 {
+            turn(bytes, bit);
+        }
     }
 }
 

@@ -1,9 +1,8 @@
 //! Writers that fail at a call, that are full, and that take a byte a call.
 
 use super::reading::{fault, read};
-use super::worked::{TWO_EARLY, TWO_EDGES};
+use super::replica_of;
 use super::writing::{writes, written};
-use super::{half, part_of, replica_of, whole};
 use crate::{KeepError, checkpoint_length};
 use ball_model::MemReader;
 use edgelist::Part;
@@ -40,7 +39,7 @@ fn rooms(rt: &HostRuntime, part: &Arc<Part>, replica: &Replica, length: usize) -
 }
 
 /// Whether all that holds of the replica that is read from these bytes. Its fields go out at once, and then their digest.
-fn are_cut(rt: &HostRuntime, part: &Arc<Part>, bytes: &[u8]) -> bool {
+pub(super) fn are_cut(rt: &HostRuntime, part: &Arc<Part>, bytes: &[u8]) -> bool {
     match read(rt, part, &mut MemReader::new(bytes, None)) {
         Ok(replica) => {
             calls(rt, part, &replica, 2)
@@ -52,25 +51,14 @@ fn are_cut(rt: &HostRuntime, part: &Arc<Part>, bytes: &[u8]) -> bool {
 }
 
 /// Sixty-two vertices and no edge: their 4,111 bytes before the digest are more than one piece.
-static VERTICES: &[u8] =
+pub(super) static VERTICES: &[u8] =
     b"0\n1\n2\n3\n4\n5\n6\n7\n8\n9\nA\nB\nC\nD\nE\nF\nG\nH\nI\nJ\nK\nL\nM\nN\nO\nP\nQ\nR\nS\nT\nU\n\
     V\nW\nX\nY\nZ\na\nb\nc\nd\ne\nf\ng\nh\ni\nj\nk\nl\nm\nn\no\np\nq\nr\ns\nt\nu\nv\nw\nx\ny\nz\n";
 
 /// Whether those go out in three calls.
-fn many_are_cut(rt: &HostRuntime, part: &Arc<Part>) -> bool {
+pub(super) fn many_are_cut(rt: &HostRuntime, part: &Arc<Part>) -> bool {
     match replica_of(rt, part) {
         Some(replica) => calls(rt, part, &replica, 3),
         None => false,
     }
-}
-
-/// Whether the two edges are cut, the early batches, and those vertices.
-fn all_are_cut(rt: &HostRuntime) -> Option<bool> {
-    let two = are_cut(rt, &whole(rt)?, &TWO_EDGES) && are_cut(rt, &half(rt)?, &TWO_EARLY);
-    Some(two && many_are_cut(rt, &part_of(rt, VERTICES, 1, 0)?))
-}
-
-#[test]
-fn writers_that_fail(rt: HostRuntime) {
-    assert!(rt; all_are_cut(&rt) == Some(true));
 }

@@ -3,10 +3,8 @@
 
 ghost use Rattle.std.specs.Prelude.{None};
 
-use super::damage::are_told;
 use super::worked::{FIRST, TWO_EARLY, TWO_EDGES};
 use super::writing::writes;
-use super::{half, whole};
 use crate::{CountedRead, KeepError, read_checkpoint};
 use ball_model::{CountingReader, MemReader};
 use edgelist::Part;
@@ -174,28 +172,17 @@ static EARLY: [(usize, u8); 11] = [
     (290, 1),
 ];
 
-/// Whether the checkpoints of the two edges are right.
-fn edges_are_read(rt: &HostRuntime, part: &Arc<Part>) -> bool {
+/// Whether all that is read of the two edges, in both versions, is told.
+pub(super) fn edges_are_read(rt: &HostRuntime, part: &Arc<Part>) -> bool {
     let mut bytes = TWO_EDGES;
     is_read(rt, part, &FIRST, &TWO_EDGES, 4)
         && is_read(rt, part, &TWO_EDGES, &TWO_EDGES, 5)
         && trails(rt, part)
         && are_none(rt, part, &mut bytes, &BODIES)
-        && are_told(rt, part)
 }
 
-/// Whether that with early batches is.
-fn early_is_read(rt: &HostRuntime, part: &Arc<Part>) -> bool {
+/// Whether all that is read of the early batches is.
+pub(super) fn early_is_read(rt: &HostRuntime, part: &Arc<Part>) -> bool {
     let mut bytes = TWO_EARLY;
     is_read(rt, part, &TWO_EARLY, &TWO_EARLY, 9) && are_none(rt, part, &mut bytes, &EARLY)
-}
-
-/// Both.
-fn both_are_read(rt: &HostRuntime) -> Option<bool> {
-    Some(edges_are_read(rt, &whole(rt)?) && early_is_read(rt, &half(rt)?))
-}
-
-#[test]
-fn worked_checkpoints_are_read(rt: HostRuntime) {
-    assert!(rt; both_are_read(&rt) == Some(true));
 }
