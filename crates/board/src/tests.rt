@@ -15,17 +15,16 @@ mod threads;
 use super::*;
 use ball_model::{BatchName, CountingReader, Kept, Plan, Posted};
 use batches::Batch;
-use calls::{Calls, all_fill_up, is_right_board};
+use calls::{goes_on_after_refusals, is_full, takes_many};
 use edgelist::{Delimiter, EdgeLimits, Graph, read_edges};
 use replica::{Replica, Shown, Snapshot};
 use std::alloc::Global;
 use std::hash::RandomState;
 use std::random::RandomSource;
 use std::sync::{Arc, Wait};
-use std::test::Fail;
 use std::thread;
 use std::thread::Threads;
-use threads::{is_right_crowd, threads_post_all};
+use threads::is_right_crowd;
 
 const TWO_EDGES: &[u8] = b"a\tb\nb\tc\n";
 
@@ -40,12 +39,12 @@ fn graph_of<R: RandomSource>(rt: &R, alloc: Global, text: &[u8]) -> Option<Graph
     read_edges(alloc, state, &mut reader, Delimiter::Tab, limits).ok()
 }
 
-/// A graph, and a plan of two partitions.
+/// A graph, and a plan of five partitions.
 fn job<R: RandomSource>(rt: &R, alloc: Global, text: &[u8]) -> Option<(Graph, Plan)>
     ensures { IfSome result (λ r. IsJob (job_of r.0.graph r.1)) }
 {
     let graph = graph_of(rt, alloc, text)?;
-    let plan = graph.plan(4, 0, 2, 4096).ok()?;
+    let plan = graph.plan(4, 0, 5, 4096).ok()?;
     Some((graph, plan))
 }
 
@@ -112,51 +111,15 @@ fn snapshot_of(
     Some(shared)
 }
 
-/// A replica takes what another one tells it.
-fn tell(alloc: Global, graph: &Graph, plan: &Plan, from: &Replica, to: &mut Replica) -> Option<()>
-    requires from { Stands (job_of graph.now.graph plan.now) from.now }
-    requires to { Stands (job_of graph.now.graph plan.now) to.old }
-    ensures { OnSome result (Stands (job_of graph.now.graph plan.now) to.new) }
-{
-    let batch = told(alloc, graph, plan, from, to.partition())?;
-    let Ok(_) = to.take(batch) else {
-        return None;
-    };
-    Some(())
-}
-
-/// Both partitions tell one another of their superstep, and close it.
-fn advance(
-    alloc: Global,
-    graph: &Graph,
-    plan: &Plan,
-    first: &mut Replica,
-    second: &mut Replica,
-) -> Option<()>
-    requires first { Stands (job_of graph.now.graph plan.now) first.old }
-    requires second { Stands (job_of graph.now.graph plan.now) second.old }
-    ensures first { OnSome result (Stands (job_of graph.now.graph plan.now) first.new) }
-    ensures second { OnSome result (Stands (job_of graph.now.graph plan.now) second.new) }
-{
-    tell(alloc, graph, plan, first, second)?;
-    tell(alloc, graph, plan, second, first)?;
-    let Ok(_) = first.close() else {
-        return None;
-    };
-    let Ok(_) = second.close() else {
-        return None;
-    };
-    Some(())
-}
-
-/// What seats post and keep: the batches of both partitions, and the snapshots of partition 0.
+/// What seats post and keep: what partition 0 tells the others, and what it has. And the floor that they raise.
 #[derive(Drop)]
 struct Stock {
     batches: Vec<Arc<Batch>>,
-    snapshots: Vec<Arc<Snapshot>>,
+    snapshot: Arc<Snapshot>,
+    floor: u32,
 }
 
-/// Adds what a partition tells the other.
+/// Adds what a replica tells a partition.
 fn add_batch(
     alloc: Global,
     graph: &Graph,
@@ -178,150 +141,62 @@ fn add_batch(
     Some(())
 }
 
-/// Adds what a replica has.
-fn add_snapshot(
+/// Adds what it tells each of four partitions.
+fn add_batches(
+    alloc: Global,
+    graph: &Graph,
+    plan: &Plan,
+    from: &Replica,
+    batches: &mut Vec<Arc<Batch>>,
+) -> Option<()>
+    requires from { Stands (job_of graph.now.graph plan.now) from.now }
+    requires batches { All (λ a. IsTrueBatch (job_of graph.now.graph plan.now) (arc_value a))
+        batches.old.items }
+    ensures { OnSome result
+        (All (λ a. IsTrueBatch (job_of graph.now.graph plan.now) (arc_value a)) batches.new.items) }
+{
+    for target in 1..5u16 {
+        add_batch(alloc, graph, plan, from, target, batches)?;
+    }
+    Some(())
+}
+
+/// The four batches, and the snapshot.
+fn stock_by(
     alloc: Global,
     graph: &Graph,
     plan: &Plan,
     from: &mut Replica,
-    snapshots: &mut Vec<Arc<Snapshot>>,
-) -> Option<()>
-    requires from { Stands (job_of graph.now.graph plan.now) from.old }
-    requires snapshots { All (λ a. Stands (job_of graph.now.graph plan.now) (arc_value a))
-        snapshots.old.items }
-    ensures added { OnSome result
-        (All (λ a. Stands (job_of graph.now.graph plan.now) (arc_value a)) snapshots.new.items) }
-    ensures unchanged { from.new ≡ from.old }
+    floor: u32,
+) -> Option<Stock>
+    requires { Stands (job_of graph.now.graph plan.now) from.old }
+    ensures batches { IfSome result
+        (λ s. All (λ a. IsTrueBatch (job_of graph.now.graph plan.now) (arc_value a))
+        s.batches.items) }
+    ensures snapshot { IfSome result
+        (λ s. Stands (job_of graph.now.graph plan.now) (arc_value s.snapshot)) }
 {
+    let mut batches = Vec::new(alloc);
+    add_batches(alloc, graph, plan, from, &mut batches)?;
     let snapshot = snapshot_of(alloc, graph, plan, from)?;
-    let Ok(()) = snapshots.push(snapshot) else {
-        return None;
-    };
-    Some(())
+    Some(Stock {
+        batches,
+        snapshot,
+        floor,
+    })
 }
 
-/// Adds what both partitions tell, and what partition 0 has.
-fn add_superstep(
-    alloc: Global,
-    graph: &Graph,
-    plan: &Plan,
-    first: &mut Replica,
-    second: &Replica,
-    stock: &mut Stock,
-) -> Option<()>
-    requires first { Stands (job_of graph.now.graph plan.now) first.old }
-    requires second { Stands (job_of graph.now.graph plan.now) second.now }
-    requires batches { All (λ a. IsTrueBatch (job_of graph.now.graph plan.now) (arc_value a))
-        stock.old.batches.items }
-    requires snapshots { All (λ a. Stands (job_of graph.now.graph plan.now) (arc_value a))
-        stock.old.snapshots.items }
-    ensures batches { OnSome result (All
-        (λ a. IsTrueBatch (job_of graph.now.graph plan.now) (arc_value a))
-        stock.new.batches.items) }
-    ensures snapshots { OnSome result (All
-        (λ a. Stands (job_of graph.now.graph plan.now) (arc_value a)) stock.new.snapshots.items) }
-    ensures unchanged { first.new ≡ first.old }
-{
-    add_batch(alloc, graph, plan, first, 1, &mut stock.batches)?;
-    add_batch(alloc, graph, plan, second, 0, &mut stock.batches)?;
-    add_snapshot(alloc, graph, plan, first, &mut stock.snapshots)
-}
-
-/// Adds what both partitions tell at supersteps 0 to 3, and what partition 0 has there.
-fn add_four_supersteps(
-    alloc: Global,
-    graph: &Graph,
-    plan: &Plan,
-    first: &mut Replica,
-    second: &mut Replica,
-    stock: &mut Stock,
-) -> Option<()>
-    requires first { Stands (job_of graph.now.graph plan.now) first.old }
-    requires second { Stands (job_of graph.now.graph plan.now) second.old }
-    requires batches { All (λ a. IsTrueBatch (job_of graph.now.graph plan.now) (arc_value a))
-        stock.old.batches.items }
-    requires snapshots { All (λ a. Stands (job_of graph.now.graph plan.now) (arc_value a))
-        stock.old.snapshots.items }
-    ensures batches { OnSome result (All
-        (λ a. IsTrueBatch (job_of graph.now.graph plan.now) (arc_value a))
-        stock.new.batches.items) }
-    ensures snapshots { OnSome result (All
-        (λ a. Stands (job_of graph.now.graph plan.now) (arc_value a)) stock.new.snapshots.items) }
-{
-    for superstep in 0..4u32 {
-        if superstep > 0 {
-            advance(alloc, graph, plan, first, second)?;
-        }
-        add_superstep(alloc, graph, plan, first, second, stock)?;
-    }
-    Some(())
-}
-
-/// Adds the same, by a replica of partition 1 that is made for it.
-fn add_by(
-    alloc: Global,
-    graph: &Graph,
-    plan: &Plan,
-    first: &mut Replica,
-    stock: &mut Stock,
-) -> Option<()>
-    requires job { IsJob (job_of graph.now.graph plan.now) }
-    requires first { Stands (job_of graph.now.graph plan.now) first.old }
-    requires batches { All (λ a. IsTrueBatch (job_of graph.now.graph plan.now) (arc_value a))
-        stock.old.batches.items }
-    requires snapshots { All (λ a. Stands (job_of graph.now.graph plan.now) (arc_value a))
-        stock.old.snapshots.items }
-    ensures batches { OnSome result (All
-        (λ a. IsTrueBatch (job_of graph.now.graph plan.now) (arc_value a))
-        stock.new.batches.items) }
-    ensures snapshots { OnSome result (All
-        (λ a. Stands (job_of graph.now.graph plan.now) (arc_value a)) stock.new.snapshots.items) }
-{
-    let mut second = replica(alloc, graph, plan, 1)?;
-    add_four_supersteps(alloc, graph, plan, first, &mut second, stock)
-}
-
-/// Fills a stock.
-fn fill(alloc: Global, graph: &Graph, plan: &Plan, stock: &mut Stock) -> Option<()>
-    requires job { IsJob (job_of graph.now.graph plan.now) }
-    requires batches { All (λ a. IsTrueBatch (job_of graph.now.graph plan.now) (arc_value a))
-        stock.old.batches.items }
-    requires snapshots { All (λ a. Stands (job_of graph.now.graph plan.now) (arc_value a))
-        stock.old.snapshots.items }
-    ensures batches { OnSome result (All
-        (λ a. IsTrueBatch (job_of graph.now.graph plan.now) (arc_value a))
-        stock.new.batches.items) }
-    ensures snapshots { OnSome result (All
-        (λ a. Stands (job_of graph.now.graph plan.now) (arc_value a)) stock.new.snapshots.items) }
-{
-    let mut first = replica(alloc, graph, plan, 0)?;
-    add_by(alloc, graph, plan, &mut first, stock)
-}
-
-/// The eight batches of supersteps 0 to 3, and the four snapshots.
-fn stock_of(alloc: Global, graph: &Graph, plan: &Plan) -> Option<Stock>
+/// Those of a new replica.
+fn stock_of(alloc: Global, graph: &Graph, plan: &Plan, floor: u32) -> Option<Stock>
     requires { IsJob (job_of graph.now.graph plan.now) }
     ensures batches { IfSome result
         (λ s. All (λ a. IsTrueBatch (job_of graph.now.graph plan.now) (arc_value a))
         s.batches.items) }
-    ensures snapshots { IfSome result
-        (λ s. All (λ a. Stands (job_of graph.now.graph plan.now) (arc_value a)) s.snapshots.items) }
+    ensures snapshot { IfSome result
+        (λ s. Stands (job_of graph.now.graph plan.now) (arc_value s.snapshot)) }
 {
-    let mut stock = Stock {
-        batches: Vec::new(alloc),
-        snapshots: Vec::new(alloc),
-    };
-    fill(alloc, graph, plan, &mut stock)?;
-    Some(stock)
-}
-
-/// A name from partition 0 to 1 or back.
-fn name(superstep: u32, source: u16) -> BatchName {
-    BatchName {
-        superstep,
-        source,
-        target: 1 - source.min(1),
-    }
+    let mut first = replica(alloc, graph, plan, 0)?;
+    stock_by(alloc, graph, plan, &mut first, floor)
 }
 
 /// A seat posts a batch, and has it still.
@@ -367,39 +242,39 @@ fn keep<R: Wait>(
     board.keep(rt, seat, copy)
 }
 
-/// The name of the batch that is fetched.
+/// Whether a batch of this name is fetched.
 fn fetches<R: Wait>(
     rt: &R,
     board: &Board,
     seat: &mut Seat,
     name: BatchName,
-) -> Result<Option<BatchName>, BoardError>
+) -> Result<bool, BoardError>
     requires board { IsAt board.now seat.old }
     ensures board { IsAt board.now seat.new }
     ensures job { seat.new.caller.seen.job ≡ seat.old.caller.seen.job }
-    ensures room { seat.new.room ≡ seat.old.room }
 {
-    match board.fetch(rt, seat, name)? {
-        Some(batch) => Ok(Some(batch.name())),
-        None => Ok(None),
+    match board.fetch(rt, seat, name) {
+        Ok(Some(batch)) => Ok(batch.name() == name),
+        Ok(None) => Ok(false),
+        Err(e) => Err(e),
     }
 }
 
-/// The superstep of the snapshot that is recalled.
+/// Whether a snapshot of partition 0 is recalled that is so far.
 fn recalls<R: Wait>(
     rt: &R,
     board: &Board,
     seat: &mut Seat,
-    part: u16,
     at_least: u32,
-) -> Result<Option<u32>, BoardError>
+) -> Result<bool, BoardError>
     requires board { IsAt board.now seat.old }
     ensures board { IsAt board.now seat.new }
     ensures job { seat.new.caller.seen.job ≡ seat.old.caller.seen.job }
 {
-    match board.recall(rt, seat, part, at_least)? {
-        Some(snapshot) => Ok(Some(snapshot.superstep())),
-        None => Ok(None),
+    match board.recall(rt, seat, 0, at_least) {
+        Ok(Some(snapshot)) => Ok(snapshot.superstep() >= at_least),
+        Ok(None) => Ok(false),
+        Err(e) => Err(e),
     }
 }
 
@@ -437,7 +312,7 @@ fn find_all<R: Wait>(rt: &R, board: &Board, seat: &mut Seat, batches: &[Arc<Batc
     let mut found = 0usize;
     for batch in batches {
         let name = batch.name();
-        if fetches(rt, board, seat, name) == Ok(Some(name)) {
+        if fetches(rt, board, seat, name) == Ok(true) {
             found = found.saturating_add(1);
         }
     }
@@ -461,57 +336,99 @@ fn drop_below<R: Wait>(
 /// What a board is tried with.
 #[derive(Clone, Copy)]
 enum Case {
-    Calls(Calls),
-    FullBooks,
-    TwoThreads,
-    Crowd(u8),
+    Refusals,
+    ManyEntries,
+    Full,
+    // so many others beside the first, and their floor
+    Threads(u8, u32),
 }
 
-/// Whether boards do right in a case, with what there is in stock.
+impl Case {
+    /// The floor that is raised.
+    fn floor(self) -> u32 {
+        match self {
+            Case::Threads(_, floor) => floor,
+            _ => 0,
+        }
+    }
+}
+
+/// Whether a new board of so many entries, and its first seat, do right.
+fn does_right<R: Threads + Wait + Sync>(
+    rt: &R,
+    board: &Board,
+    mut seat: Seat,
+    graph: &Graph,
+    plan: &Plan,
+    stock: &Stock,
+    entries: u32,
+    case: Case,
+) -> Option<bool>
+    requires board { IsAt board.now seat }
+    requires job { seat.caller.seen.job ≡ job_of graph.now.graph plan.now }
+    requires room { seat.room ≡ 2 ^ 63 }
+    requires entries { 2 ≤ entries }
+    requires batches { All (λ a. IsTrueBatch (job_of graph.now.graph plan.now) (arc_value a))
+        stock.now.batches.items }
+    requires snapshot { Stands (job_of graph.now.graph plan.now) (arc_value stock.now.snapshot) }
+{
+    match case {
+        Case::Refusals => goes_on_after_refusals(rt, board, &mut seat, graph, plan, stock),
+        Case::ManyEntries => takes_many(rt, board, &mut seat, graph, plan, stock, entries),
+        Case::Full => Some(is_full(rt, board, &mut seat, graph, plan, stock, entries)),
+        Case::Threads(others, _) => {
+            Some(is_right_crowd(rt, board, seat, graph, plan, stock, others))
+        }
+    }
+}
+
+/// Whether a board of a job does right in a case, with what there is in stock.
 fn is_right_with<R: Threads + Wait + Sync>(
     rt: &R,
     alloc: Global,
     graph: &Graph,
     plan: &Plan,
     stock: &Stock,
+    entries: u32,
     case: Case,
 ) -> Option<bool>
     requires job { IsJob (job_of graph.now.graph plan.now) }
+    requires entries { (2 ≤ entries) × (entries ≤ 2 ^ 24) }
     requires batches { All (λ a. IsTrueBatch (job_of graph.now.graph plan.now) (arc_value a))
         stock.now.batches.items }
-    requires snapshots { All (λ a. Stands (job_of graph.now.graph plan.now) (arc_value a))
-        stock.now.snapshots.items }
+    requires snapshot { Stands (job_of graph.now.graph plan.now) (arc_value stock.now.snapshot) }
 {
-    match case {
-        Case::Calls(calls) => is_right_board(rt, alloc, graph, plan, stock, calls),
-        Case::FullBooks => all_fill_up(rt, alloc, graph, plan, &stock.batches),
-        Case::TwoThreads => threads_post_all(rt, alloc, graph, plan, stock),
-        Case::Crowd(others) => is_right_crowd(rt, alloc, graph, plan, stock, others),
-    }
+    let (board, seat) = Board::open(alloc, graph, plan, entries).ok()?;
+    does_right(rt, &board, seat, graph, plan, stock, entries, case)
 }
 
-/// Whether boards of a job do right in a case.
+/// Whether one does, with a new stock.
 fn is_right_at<R: Threads + Wait + Sync>(
     rt: &R,
     alloc: Global,
     graph: &Graph,
     plan: &Plan,
+    entries: u32,
     case: Case,
 ) -> Option<bool>
-    requires { IsJob (job_of graph.now.graph plan.now) }
+    requires job { IsJob (job_of graph.now.graph plan.now) }
+    requires entries { (2 ≤ entries) × (entries ≤ 2 ^ 24) }
 {
-    let stock = stock_of(alloc, graph, plan)?;
-    is_right_with(rt, alloc, graph, plan, &stock, case)
+    let stock = stock_of(alloc, graph, plan, case.floor())?;
+    is_right_with(rt, alloc, graph, plan, &stock, entries, case)
 }
 
-/// Whether boards do right in a case: None where memory was refused.
+/// Whether a board of so many entries does right in a case: None where memory was refused.
 fn is_right<R: RandomSource + Threads + Wait + Sync>(
     rt: &R,
     alloc: Global,
+    entries: u32,
     case: Case,
-) -> Option<bool> {
+) -> Option<bool>
+    requires { (2 ≤ entries) × (entries ≤ 2 ^ 24) }
+{
     let (graph, plan) = job(rt, alloc, TWO_EDGES)?;
-    is_right_at(rt, alloc, &graph, &plan, case)
+    is_right_at(rt, alloc, &graph, &plan, entries, case)
 }
 
 /// Whether an error has this text: None where memory was refused.
@@ -522,12 +439,7 @@ fn has_text(alloc: Global, error: BoardError, wanted: &str) -> Option<bool> {
 
 #[test]
 fn errors_have_texts(rt: HostRuntime) {
-    assert_eq!(rt;
-        has_text(rt.alloc(), BoardError::BookFull, "the book is full"),
-        Some(true)
-    );
-    assert_eq!(rt;
-        has_text(rt.alloc(), BoardError::Memory, "out of memory"),
-        Some(true)
-    );
+    let full = has_text(rt.alloc(), BoardError::BookFull, "the book is full");
+    let memory = has_text(rt.alloc(), BoardError::Memory, "out of memory");
+    assert!(rt; full == Some(true) && memory == Some(true));
 }

@@ -1,20 +1,22 @@
-//! What no clause says: the bytes of worked replicas.
+//! What no clause says: the bytes of worked replicas, streams that fail, and refused memory.
 
 mod damage;
-mod dripping;
 mod failing;
 mod reading;
 mod refusals;
-mod running;
-mod same;
+mod worked;
 mod writing;
 
 use crate::laws;
 use ball_model::CountingReader;
+use damage::are_told;
 use edgelist::{Delimiter, EdgeLimits, Graph, Part, read_edges};
+use failing::{VERTICES, are_cut, many_are_cut};
+use reading::{early_is_read, edges_are_read};
 use replica::Replica;
 use std::hash::RandomState;
 use std::sync::Arc;
+use worked::{TWO_EARLY, TWO_EDGES};
 
 /// A graph of an edge list with tabs.
 fn graph(rt: &HostRuntime, text: &[u8]) -> Option<Graph> {
@@ -27,15 +29,9 @@ fn graph(rt: &HostRuntime, text: &[u8]) -> Option<Graph> {
     read_edges(rt.alloc(), state, &mut reader, Delimiter::Tab, limits).ok()
 }
 
-/// One of so many parts of a graph, at 16 registers under a seed.
-fn part_in(
-    rt: &HostRuntime,
-    graph: &Graph,
-    seed: u64,
-    parts: u16,
-    partition: u16,
-) -> Option<Arc<Part>> {
-    let plan = graph.plan(4, seed, parts, 4096).ok()?;
+/// One of so many parts of a graph, at 16 registers under seed 0.
+fn part_in(rt: &HostRuntime, graph: &Graph, parts: u16, partition: u16) -> Option<Arc<Part>> {
+    let plan = graph.plan(4, 0, parts, 4096).ok()?;
     if partition >= plan.parts() {
         return None;
     }
@@ -44,23 +40,46 @@ fn part_in(
 }
 
 /// The same of the graph of an edge list.
-fn part_of(
-    rt: &HostRuntime,
-    text: &[u8],
-    seed: u64,
-    parts: u16,
-    partition: u16,
-) -> Option<Arc<Part>> {
+fn part_of(rt: &HostRuntime, text: &[u8], parts: u16, partition: u16) -> Option<Arc<Part>> {
     let graph = graph(rt, text)?;
-    part_in(rt, &graph, seed, parts, partition)
+    part_in(rt, &graph, parts, partition)
 }
 
-/// A new replica of a partition of a graph, at 16 registers under seed 0. (Tests hold replicas in boxes: a function that
-/// owns one is checked much faster.)
-fn replica_of(rt: &HostRuntime, text: &[u8], parts: u16, partition: u16) -> Option<Box<Replica>> {
-    let part = part_of(rt, text, 0, parts, partition)?;
-    let replica = Replica::new(rt.alloc(), part).ok()?;
+/// The one part of the edges a to b and b to c.
+fn whole(rt: &HostRuntime) -> Option<Arc<Part>> {
+    part_of(rt, b"a\tb\nb\tc\n", 1, 0)
+}
+
+/// The second of two parts of the path of five vertices.
+fn half(rt: &HostRuntime) -> Option<Arc<Part>> {
+    part_of(rt, b"a\tb\nb\tc\nc\td\nd\te\n", 2, 1)
+}
+
+/// A new replica of a part. (Tests hold replicas in boxes: a function that owns one is checked much faster.)
+fn replica_of(rt: &HostRuntime, part: &Arc<Part>) -> Option<Box<Replica>> {
+    let replica = Replica::new(rt.alloc(), part.clone().ok()?).ok()?;
     Box::new(rt.alloc(), replica).ok()
+}
+
+/// Whether all that the tests tell of the two edges holds: read whole, cut, damaged, and written into writers that fail.
+fn edges_hold(rt: &HostRuntime, part: &Arc<Part>) -> bool {
+    edges_are_read(rt, part) && are_told(rt, part) && are_cut(rt, part, &TWO_EDGES)
+}
+
+/// And of the early batches.
+fn early_holds(rt: &HostRuntime, part: &Arc<Part>) -> bool {
+    early_is_read(rt, part) && are_cut(rt, part, &TWO_EARLY)
+}
+
+/// Both, and what is told of a replica that goes out in pieces.
+fn all_hold(rt: &HostRuntime) -> Option<bool> {
+    let both = edges_hold(rt, &whole(rt)?) && early_holds(rt, &half(rt)?);
+    Some(both && many_are_cut(rt, &part_of(rt, VERTICES, 1, 0)?))
+}
+
+#[test]
+fn worked_checkpoints(rt: HostRuntime) {
+    assert!(rt; all_hold(&rt) == Some(true));
 }
 
 #[test]

@@ -10,160 +10,9 @@ ghost use Rattle.board.specs.Seats.{IsAt};
 
 use super::*;
 
-/// A seat posts the batches of one source, and comes back with how many were New.
-fn post_from<R: Wait>(
-    rt: &R,
-    board: &Board,
-    mut seat: Seat,
-    graph: &Graph,
-    plan: &Plan,
-    batches: &[Arc<Batch>],
-    source: u16,
-) -> (usize, Seat)
-    requires board { IsAt board.now seat }
-    requires job { seat.caller.seen.job ≡ job_of graph.now.graph plan.now }
-    requires batches { All (λ a. IsTrueBatch (job_of graph.now.graph plan.now) (arc_value a))
-        batches.now }
-    ensures { IsAt board.now result.1 }
-{
-    let mut news = 0usize;
-    for batch in batches {
-        if batch.name().source == source {
-            let reply = post(rt, board, &mut seat, graph, plan, batch);
-            news = news.saturating_add(usize::from(reply == Ok(Posted::New)));
-        }
-    }
-    (news, seat)
-}
-
-/// Two threads post four batches each; then the length, how many of the eight are found, and the length again.
-fn two_post<R: Threads + Wait + Sync>(
-    rt: &R,
-    board: &Board,
-    mut a: Seat,
-    graph: &Graph,
-    plan: &Plan,
-    stock: &Stock,
-) -> bool
-    requires board { IsAt board.now a }
-    requires job { a.caller.seen.job ≡ job_of graph.now.graph plan.now }
-    requires room { 1024 ≤ a.room }
-    requires batches { All (λ a. IsTrueBatch (job_of graph.now.graph plan.now) (arc_value a))
-        stock.now.batches.items }
-    requires snapshots { All (λ a. Stands (job_of graph.now.graph plan.now) (arc_value a))
-        stock.now.snapshots.items }
-{
-    let b = a.split(board);
-    let (one, two) = thread::join(
-        rt,
-        || -> (usize, Seat)
-            requires board { IsAt board.now a }
-            requires job { a.caller.seen.job ≡ job_of graph.now.graph plan.now }
-            requires batches { All
-                (λ a. IsTrueBatch (job_of graph.now.graph plan.now) (arc_value a))
-                stock.now.batches.items }
-            requires snapshots { All (λ a. Stands (job_of graph.now.graph plan.now) (arc_value a))
-                stock.now.snapshots.items }
-            ensures { IsAt board.entry.now result.1 }
-        { post_from(rt, board, a, graph, plan, &stock.batches, 0) },
-        || -> (usize, Seat)
-            requires board { IsAt board.now b }
-            requires job { b.caller.seen.job ≡ job_of graph.now.graph plan.now }
-            requires batches { All
-                (λ a. IsTrueBatch (job_of graph.now.graph plan.now) (arc_value a))
-                stock.now.batches.items }
-            requires snapshots { All (λ a. Stands (job_of graph.now.graph plan.now) (arc_value a))
-                stock.now.snapshots.items }
-            ensures { IsAt board.entry.now result.1 }
-        { post_from(rt, board, b, graph, plan, &stock.batches, 1) },
-    );
-    let (mine, mut a) = one;
-    let (theirs, b) = two;
-    board.join(&mut a, b);
-    let length = board.length(&mut a);
-    let found = find_all(rt, board, &mut a, &stock.batches);
-    let all = (mine, theirs, length, found, board.length(&mut a));
-    all == (4, 4, 9, 8, 17)
-}
-
-/// Two threads at a new board do so.
-pub(super) fn threads_post_all<R: Threads + Wait + Sync>(
-    rt: &R,
-    alloc: Global,
-    graph: &Graph,
-    plan: &Plan,
-    stock: &Stock,
-) -> Option<bool>
-    requires job { IsJob (job_of graph.now.graph plan.now) }
-    requires batches { All (λ a. IsTrueBatch (job_of graph.now.graph plan.now) (arc_value a))
-        stock.now.batches.items }
-    requires snapshots { All (λ a. Stands (job_of graph.now.graph plan.now) (arc_value a))
-        stock.now.snapshots.items }
-{
-    let (board, seat) = Board::open(alloc, graph, plan, 17).ok()?;
-    Some(two_post(rt, &board, seat, graph, plan, stock))
-}
-
-#[test]
-fn two_threads_post(rt: HostRuntime) -> Result<(), Fail> {
-    let right = is_right(&rt, rt.alloc(), Case::TwoThreads);
-    assert_eq!(rt; right, Some(true));
-    Ok(())
-}
-
-/// Whether a snapshot of partition 0 that a seat keeps is New, and whether what it recalls then is at least as far.
-fn keep_one<R: Wait>(
-    rt: &R,
-    board: &Board,
-    seat: &mut Seat,
-    graph: &Graph,
-    plan: &Plan,
-    snapshot: &Arc<Snapshot>,
-) -> (bool, bool)
-    requires board { IsAt board.now seat.old }
-    requires job { seat.old.caller.seen.job ≡ job_of graph.now.graph plan.now }
-    requires snapshot { Stands (job_of graph.now.graph plan.now) (arc_value snapshot.now) }
-    ensures board { IsAt board.now seat.new }
-    ensures job { seat.new.caller.seen.job ≡ job_of graph.now.graph plan.now }
-{
-    let superstep = snapshot.superstep();
-    let new = keep(rt, board, seat, graph, plan, snapshot) == Ok(Kept::New);
-    let far = match recalls(rt, board, seat, 0, superstep) {
-        Ok(Some(found)) => found >= superstep,
-        _ => false,
-    };
-    (new, far)
-}
-
-/// How many of the snapshots are New when a seat keeps them, and how many times it recalls one as far as it just kept.
-fn keep_all<R: Wait>(
-    rt: &R,
-    board: &Board,
-    seat: &mut Seat,
-    graph: &Graph,
-    plan: &Plan,
-    snapshots: &[Arc<Snapshot>],
-) -> (usize, usize)
-    requires board { IsAt board.now seat.old }
-    requires job { seat.old.caller.seen.job ≡ job_of graph.now.graph plan.now }
-    requires snapshots { All (λ a. Stands (job_of graph.now.graph plan.now) (arc_value a))
-        snapshots.now }
-    ensures board { IsAt board.now seat.new }
-    ensures job { seat.new.caller.seen.job ≡ job_of graph.now.graph plan.now }
-{
-    let mut news = 0usize;
-    let mut recalled = 0usize;
-    for snapshot in snapshots {
-        let (new, far) = keep_one(rt, board, seat, graph, plan, snapshot);
-        news = news.saturating_add(usize::from(new));
-        recalled = recalled.saturating_add(usize::from(far));
-    }
-    (news, recalled)
-}
-
 /// What a crowd of threads did: names and snapshots that were New, entries that were added, and whether all else was
 /// right.
-#[derive(Clone, Copy, Debug, PartialEq, Eq)]
+#[derive(Clone, Copy)]
 struct Done {
     news: u64,
     kept: u64,
@@ -183,40 +32,8 @@ impl Done {
     }
 }
 
-/// Whether nothing is found or New from then on that the floor is above all batches, and no snapshot is so far.
-fn leaves_none<R: Wait>(
-    rt: &R,
-    board: &Board,
-    seat: &mut Seat,
-    graph: &Graph,
-    plan: &Plan,
-    batches: &[Arc<Batch>],
-) -> bool
-    requires board { IsAt board.now seat.old }
-    requires job { seat.old.caller.seen.job ≡ job_of graph.now.graph plan.now }
-    requires batches { All (λ a. IsTrueBatch (job_of graph.now.graph plan.now) (arc_value a))
-        batches.now }
-    ensures board { IsAt board.now seat.new }
-{
-    let further = recalls(rt, board, seat, 0, 4);
-    let dropped = drop_below(rt, board, seat, 4);
-    let after = find_all(rt, board, seat, batches);
-    let late = post_all(rt, board, seat, graph, plan, batches);
-    further == Ok(None) && dropped == Ok(()) && after == 0 && late == 0
-}
-
-/// How many entries a seat adds that posts the stock twice and finds so many batches, recalls each snapshot that it keeps,
-/// and raises the floor.
-fn entries_added(stock: &Stock, found: u64) -> u64 {
-    let posts = stock.batches.len() as u64;
-    let keeps = stock.snapshots.len() as u64;
-    let twice = posts.wrapping_add(keeps).wrapping_mul(2);
-    twice.wrapping_add(found).wrapping_add(1)
-}
-
-/// A seat posts all batches and fetches all that it finds; it keeps the snapshots in their order, and recalls after each
-/// one.
-fn post_and_keep_all<R: Wait>(
+/// A seat posts all batches, fetches those that it finds, keeps the snapshot and recalls one.
+fn post_and_keep<R: Wait>(
     rt: &R,
     board: &Board,
     seat: &mut Seat,
@@ -228,24 +45,49 @@ fn post_and_keep_all<R: Wait>(
     requires job { seat.old.caller.seen.job ≡ job_of graph.now.graph plan.now }
     requires batches { All (λ a. IsTrueBatch (job_of graph.now.graph plan.now) (arc_value a))
         stock.now.batches.items }
-    requires snapshots { All (λ a. Stands (job_of graph.now.graph plan.now) (arc_value a))
-        stock.now.snapshots.items }
+    requires snapshot { Stands (job_of graph.now.graph plan.now) (arc_value stock.now.snapshot) }
     ensures board { IsAt board.now seat.new }
     ensures job { seat.new.caller.seen.job ≡ job_of graph.now.graph plan.now }
 {
-    let news = post_all(rt, board, seat, graph, plan, &stock.batches) as u64;
-    let found = find_all(rt, board, seat, &stock.batches) as u64;
-    let (kept, recalled) = keep_all(rt, board, seat, graph, plan, &stock.snapshots);
+    let news = post_all(rt, board, seat, graph, plan, &stock.batches);
+    let found = find_all(rt, board, seat, &stock.batches);
+    let kept = keep(rt, board, seat, graph, plan, &stock.snapshot) == Ok(Kept::New);
+    let right = recalls(rt, board, seat, 0) == Ok(true);
     Done {
-        news,
-        kept: kept as u64,
-        entries: entries_added(stock, found),
-        right: recalled == stock.snapshots.len(),
+        news: news as u64,
+        kept: u64::from(kept),
+        entries: (found as u64).wrapping_add(6),
+        right,
     }
 }
 
-/// A seat posts all batches and fetches all that it finds; it keeps the snapshots in their order, and recalls after each
-/// one; and it raises the floor above all batches: from then on none is found, and none is New.
+/// A seat raises the floor, and then fetches all batches that it finds and posts all: above them none is found, else each
+/// is, and none is New. The number is that of the entries.
+fn leaves_none<R: Wait>(
+    rt: &R,
+    board: &Board,
+    seat: &mut Seat,
+    graph: &Graph,
+    plan: &Plan,
+    stock: &Stock,
+) -> (bool, u64)
+    requires board { IsAt board.now seat.old }
+    requires job { seat.old.caller.seen.job ≡ job_of graph.now.graph plan.now }
+    requires batches { All (λ a. IsTrueBatch (job_of graph.now.graph plan.now) (arc_value a))
+        stock.now.batches.items }
+    ensures board { IsAt board.now seat.new }
+{
+    let dropped = drop_below(rt, board, seat, stock.floor) == Ok(());
+    let found = find_all(rt, board, seat, &stock.batches);
+    let late = post_all(rt, board, seat, graph, plan, &stock.batches);
+    let wanted = if stock.floor > 0 { 0 } else { 4 };
+    (
+        dropped && found == wanted && late == 0,
+        (found as u64).wrapping_add(5),
+    )
+}
+
+/// A seat does both.
 fn work<R: Wait>(
     rt: &R,
     board: &Board,
@@ -258,14 +100,13 @@ fn work<R: Wait>(
     requires job { seat.caller.seen.job ≡ job_of graph.now.graph plan.now }
     requires batches { All (λ a. IsTrueBatch (job_of graph.now.graph plan.now) (arc_value a))
         stock.now.batches.items }
-    requires snapshots { All (λ a. Stands (job_of graph.now.graph plan.now) (arc_value a))
-        stock.now.snapshots.items }
+    requires snapshot { Stands (job_of graph.now.graph plan.now) (arc_value stock.now.snapshot) }
 {
     let before = board.length(&mut seat);
-    let mut done = post_and_keep_all(rt, board, &mut seat, graph, plan, stock);
-    let none = leaves_none(rt, board, &mut seat, graph, plan, &stock.batches);
-    let length = board.length(&mut seat);
-    done.right &= none && before.wrapping_add(done.entries) <= length;
+    let mut done = post_and_keep(rt, board, &mut seat, graph, plan, stock);
+    let (right, more) = leaves_none(rt, board, &mut seat, graph, plan, stock);
+    done.entries = done.entries.wrapping_add(more);
+    done.right &= right && before.wrapping_add(done.entries) <= board.length(&mut seat);
     done
 }
 
@@ -283,8 +124,7 @@ fn crowd<R: Threads + Wait + Sync>(
     requires job { seat.caller.seen.job ≡ job_of graph.now.graph plan.now }
     requires batches { All (λ a. IsTrueBatch (job_of graph.now.graph plan.now) (arc_value a))
         stock.now.batches.items }
-    requires snapshots { All (λ a. Stands (job_of graph.now.graph plan.now) (arc_value a))
-        stock.now.snapshots.items }
+    requires snapshot { Stands (job_of graph.now.graph plan.now) (arc_value stock.now.snapshot) }
     requires room { (seat.room ≤ 2 ^ 63) × (others * 2 ^ 53 ≤ seat.room) }
 {
     if others == 0 {
@@ -300,8 +140,8 @@ fn crowd<R: Threads + Wait + Sync>(
             requires batches { All
                 (λ a. IsTrueBatch (job_of graph.now.graph plan.now) (arc_value a))
                 stock.now.batches.items }
-            requires snapshots { All (λ a. Stands (job_of graph.now.graph plan.now) (arc_value a))
-                stock.now.snapshots.items }
+            requires snapshot { Stands (job_of graph.now.graph plan.now)
+                (arc_value stock.now.snapshot) }
         { work(rt, board, other, graph, plan, stock) },
         || -> Done
             requires board { IsAt board.now seat }
@@ -309,17 +149,17 @@ fn crowd<R: Threads + Wait + Sync>(
             requires batches { All
                 (λ a. IsTrueBatch (job_of graph.now.graph plan.now) (arc_value a))
                 stock.now.batches.items }
-            requires snapshots { All (λ a. Stands (job_of graph.now.graph plan.now) (arc_value a))
-                stock.now.snapshots.items }
+            requires snapshot { Stands (job_of graph.now.graph plan.now)
+                (arc_value stock.now.snapshot) }
             requires room { (seat.room ≤ 2 ^ 63) × (fewer * 2 ^ 53 ≤ seat.room) }
         { crowd(rt, board, seat, graph, plan, stock, fewer) },
     );
     one.and(rest)
 }
 
-/// Whether so many threads and one more at one board did right: each name and each snapshot is New once, and each call
-/// that adds an entry is one.
-fn does_right<R: Threads + Wait + Sync>(
+/// Whether a crowd at a new board did right: each name and the snapshot is New once, and each call that adds an entry is
+/// one.
+pub(super) fn is_right_crowd<R: Threads + Wait + Sync>(
     rt: &R,
     board: &Board,
     mut seat: Seat,
@@ -333,43 +173,33 @@ fn does_right<R: Threads + Wait + Sync>(
     requires room { seat.room ≡ 2 ^ 63 }
     requires batches { All (λ a. IsTrueBatch (job_of graph.now.graph plan.now) (arc_value a))
         stock.now.batches.items }
-    requires snapshots { All (λ a. Stands (job_of graph.now.graph plan.now) (arc_value a))
-        stock.now.snapshots.items }
+    requires snapshot { Stands (job_of graph.now.graph plan.now) (arc_value stock.now.snapshot) }
 {
     let mut last = seat.split(board);
     let done = crowd(rt, board, seat, graph, plan, stock, others);
-    let length = board.length(&mut last);
-    let once = done.news == 8 && done.kept == 4;
-    done.right && once && length == done.entries.wrapping_add(1)
+    let once = done.news == 4 && done.kept == 1;
+    done.right && once && board.length(&mut last) == done.entries.wrapping_add(1)
 }
 
-/// Whether they do right at a new board.
-pub(super) fn is_right_crowd<R: Threads + Wait + Sync>(
+/// Whether so many threads and one more do right.
+fn is_right_of<R: RandomSource + Threads + Wait + Sync>(
     rt: &R,
     alloc: Global,
-    graph: &Graph,
-    plan: &Plan,
-    stock: &Stock,
     others: u8,
-) -> Option<bool>
-    requires job { IsJob (job_of graph.now.graph plan.now) }
-    requires batches { All (λ a. IsTrueBatch (job_of graph.now.graph plan.now) (arc_value a))
-        stock.now.batches.items }
-    requires snapshots { All (λ a. Stands (job_of graph.now.graph plan.now) (arc_value a))
-        stock.now.snapshots.items }
-{
-    let (board, seat) = Board::open(alloc, graph, plan, 10000).ok()?;
-    Some(does_right(rt, &board, seat, graph, plan, stock, others))
+    floor: u32,
+) -> bool {
+    is_right(rt, alloc, 10_000, Case::Threads(others, floor)) == Some(true)
+}
+
+/// Nothing is dropped, so each finds all that stands.
+#[test]
+fn two_threads_post(rt: HostRuntime) {
+    assert!(rt; is_right_of(&rt, rt.alloc(), 1, 0));
 }
 
 #[test]
-fn threads_at_one_board(rt: HostRuntime) -> Result<(), Fail> {
-    let four = is_right(&rt, rt.alloc(), Case::Crowd(3));
-    let eight = is_right(&rt, rt.alloc(), Case::Crowd(7));
-    let sixteen = is_right(&rt, rt.alloc(), Case::Crowd(15));
-    assert_eq!(rt;
-        (four, eight, sixteen),
-        (Some(true), Some(true), Some(true))
-    );
-    Ok(())
+fn threads_at_one_board(rt: HostRuntime) {
+    let four = is_right_of(&rt, rt.alloc(), 3, 4);
+    let eight = is_right_of(&rt, rt.alloc(), 7, 4);
+    assert!(rt; four && eight && is_right_of(&rt, rt.alloc(), 15, 4));
 }

@@ -1,186 +1,64 @@
 //! Writers that fail at a call, that are full, and that take a byte a call.
 
-ghost use Rattle.std.specs.Prelude.{None};
-
-use super::reading::{half, part, read, refusal};
-use super::running::kept;
-use super::writing::{TWO_EDGES, WINDOW_EDGE, two_edges, written};
-use super::{part_of, replica_of};
-use crate::{KeepError, write_checkpoint};
-use ball_model::CountingWriter;
+use super::reading::{fault, read};
+use super::replica_of;
+use super::writing::{writes, written};
+use crate::{KeepError, checkpoint_length};
+use ball_model::MemReader;
 use edgelist::Part;
 use replica::Replica;
-use std::io;
-use std::io::Write;
 use std::sync::Arc;
 
-/// What comes of writing a replica.
-#[derive(Clone, Copy, PartialEq, Eq)]
-enum Outcome {
-    /// All of its bytes went out.
-    Whole,
-    /// A failed write is told, and fewer bytes went out: the first ones, too short to be read.
-    Cut,
-    /// Anything else.
-    Wrong,
+/// Whether a failed write is told, and fewer bytes went out than the replica has: too few to be read.
+fn is_cut(rt: &HostRuntime, part: &Arc<Part>, replica: &Replica, room: usize, good: u64) -> bool {
+    let mut bytes = [0; 5000];
+    let (room, _) = bytes.split_at_mut(room.min(5000));
+    let (answer, count) = written(replica, room, usize::MAX, good);
+    let (text, _) = bytes.split_at(count.min(5000));
+    answer == Err(KeepError::Write)
+        && (count as u64) < checkpoint_length(replica)
+        && fault(rt, part, text) == Some(KeepError::Short)
 }
 
-/// What came of it, by the answer and by what went out.
-fn outcome_of(
-    rt: &HostRuntime,
-    part: &Arc<Part>,
-    whole: &[u8],
-    answer: Result<(), KeepError>,
-    bytes: &[u8],
-) -> Outcome {
-    if answer == Ok(()) && bytes == whole {
-        return Outcome::Whole;
-    }
-    let is_front = bytes.len() < whole.len() && whole.starts_with(bytes);
-    let is_short = refusal(rt, part, bytes) == Some(Some(KeepError::Short));
-    if answer == Err(KeepError::Write) && is_front && is_short {
-        Outcome::Cut
-    } else {
-        Outcome::Wrong
-    }
-}
-
-/// What comes of it where there is so much room and that call fails.
-fn outcome_where(
-    rt: &HostRuntime,
-    replica: &Replica,
-    part: &Arc<Part>,
-    whole: &[u8],
-    room: usize,
-    fails_at: Option<u64>,
-) -> Outcome {
-    match written(rt, replica, room, fails_at) {
-        Some((answer, bytes)) => outcome_of(rt, part, whole, answer, &bytes),
-        None => Outcome::Wrong,
-    }
-}
-
-/// How many calls of a writer are reached: each of them that fails leaves a beginning, and the one after them nothing.
-fn calls(rt: &HostRuntime, replica: &Replica, part: &Arc<Part>, whole: &[u8]) -> Option<u64> {
-    for call in 1..9u64 {
-        match outcome_where(rt, replica, part, whole, whole.len(), Some(call)) {
-            Outcome::Cut => {}
-            Outcome::Whole => return Some(call.saturating_sub(1)),
-            Outcome::Wrong => return None,
-        }
-    }
-    None
-}
-
-/// The replica that keeps an early batch.
-fn early(rt: &HostRuntime, part: &Arc<Part>) -> Option<Box<Replica>> {
-    read(rt, part, &WINDOW_EDGE)?.ok()
-}
-
-/// How many are reached by it.
-fn calls_of_early(rt: &HostRuntime) -> Option<u64> {
-    let part = half(rt, 1)?;
-    let replica = early(rt, &part)?;
-    calls(rt, &replica, &part, &WINDOW_EDGE)
-}
-
-/// Ninety vertices and no edge: a sign, a digit or a letter each.
-fn ninety() -> [u8; 180] {
-    let mut text = [b'\n'; 180];
-    for i in 0..90 {
-        text[2 * i] = b'$' + i as u8;
-    }
-    text
-}
-
-/// How many are reached by a replica, whatever its bytes are.
-fn calls_of(rt: &HostRuntime, part: &Arc<Part>, replica: &Replica) -> Option<u64> {
-    let whole = kept(rt, replica)?;
-    calls(rt, replica, part, &whole)
-}
-
-/// The same of a replica of these vertices.
-fn calls_of_vertices(rt: &HostRuntime, text: &[u8]) -> Option<u64> {
-    let part = part_of(rt, text, 0, 1, 0)?;
-    let replica = replica_of(rt, text, 1, 0)?;
-    calls_of(rt, &part, &replica)
-}
-
-/// The same of ninety of them, whose 5,963 bytes are more than one piece.
-fn calls_of_many(rt: &HostRuntime) -> Option<u64> {
-    calls_of_vertices(rt, &ninety())
-}
-
-/// Whether a replica leaves a beginning wherever a writer is full, and then is written as ever.
-fn is_cut_anywhere(rt: &HostRuntime, replica: &Replica, part: &Arc<Part>, whole: &[u8]) -> bool {
+/// Whether a replica is cut by each of so many calls of a writer that fails, and by none behind them.
+fn calls(rt: &HostRuntime, part: &Arc<Part>, replica: &Replica, calls: u64) -> bool {
     let mut all = true;
-    for room in 0..whole.len() {
-        all &= outcome_where(rt, replica, part, whole, room, None) == Outcome::Cut;
+    for good in 0..8 {
+        all &= is_cut(rt, part, replica, 5000, good) == (good < calls);
     }
-    all && outcome_where(rt, replica, part, whole, whole.len(), None) == Outcome::Whole
+    all
 }
 
-/// A writer that takes a byte a call, and compares it with what is wanted.
-#[derive(Drop)]
-struct Slow<'a> {
-    wanted: &'a [u8],
-    same: bool,
+/// Whether it is by each writer with less room than it takes.
+fn rooms(rt: &HostRuntime, part: &Arc<Part>, replica: &Replica, length: usize) -> bool {
+    let mut all = true;
+    for room in 0..400 {
+        all &= is_cut(rt, part, replica, room, u64::MAX) == (room < length);
+    }
+    all
 }
 
-impl<'a> Write for Slow<'a> {
-    ghost contents = { λ w. None };
-
-    fn write(&mut self, buf: &[u8]) -> io::Result<usize> {
-        let Some(byte) = buf.first() else {
-            return Ok(0);
-        };
-        match self.wanted.split_first() {
-            Some((first, rest)) => {
-                self.same &= *first == *byte;
-                self.wanted = rest;
-            }
-            None => self.same = false,
+/// Whether all that holds of the replica that is read from these bytes. Its fields go out at once, and then their digest.
+pub(super) fn are_cut(rt: &HostRuntime, part: &Arc<Part>, bytes: &[u8]) -> bool {
+    match read(rt, part, &mut MemReader::new(bytes, None)) {
+        Ok(replica) => {
+            calls(rt, part, &replica, 2)
+                && rooms(rt, part, &replica, bytes.len())
+                && writes(&replica, bytes, 1)
         }
-        Ok(1)
-    }
-
-    fn flush(&mut self) -> io::Result<()> {
-        Ok(())
+        Err(_) => false,
     }
 }
 
-/// Whether a replica writes the same a byte a call.
-fn drips(replica: &Replica, whole: &[u8]) -> bool {
-    let mut slow = Slow {
-        wanted: whole,
-        same: true,
-    };
-    let answer = write_checkpoint(replica, &mut CountingWriter::new(&mut slow));
-    answer == Ok(()) && slow.same && slow.wanted.is_empty()
-}
+/// Sixty-two vertices and no edge: their 4,111 bytes before the digest are more than one piece.
+pub(super) static VERTICES: &[u8] =
+    b"0\n1\n2\n3\n4\n5\n6\n7\n8\n9\nA\nB\nC\nD\nE\nF\nG\nH\nI\nJ\nK\nL\nM\nN\nO\nP\nQ\nR\nS\nT\nU\n\
+    V\nW\nX\nY\nZ\na\nb\nc\nd\ne\nf\ng\nh\ni\nj\nk\nl\nm\nn\no\np\nq\nr\ns\nt\nu\nv\nw\nx\ny\nz\n";
 
-/// What comes of all that with the replica of the two edges, whose fields go out at once, and then their digest: how many
-/// calls are reached, whether it leaves a beginning wherever a writer is full, and whether it goes out a byte a call.
-fn writes_of_two_edges(rt: &HostRuntime) -> Option<(Option<u64>, bool, bool)> {
-    let part = part(rt, 0)?;
-    let replica = two_edges(rt)?;
-    Some((
-        calls(rt, &replica, &part, &TWO_EDGES),
-        is_cut_anywhere(rt, &replica, &part, &TWO_EDGES),
-        drips(&replica, &TWO_EDGES),
-    ))
-}
-
-// Each call that fails, each writer that is full, and a byte a write.
-#[test]
-fn writers_of_two_edges(rt: HostRuntime) {
-    assert_eq!(rt; writes_of_two_edges(&rt), Some((Some(2), true, true)));
-}
-
-#[test]
-fn each_call_that_fails(rt: HostRuntime) {
-    assert_eq!(rt;
-        [calls_of_early(&rt), calls_of_many(&rt)],
-        [Some(2), Some(3)]
-    );
+/// Whether those go out in three calls.
+pub(super) fn many_are_cut(rt: &HostRuntime, part: &Arc<Part>) -> bool {
+    match replica_of(rt, part) {
+        Some(replica) => calls(rt, part, &replica, 3),
+        None => false,
+    }
 }

@@ -1,169 +1,130 @@
-//! The bytes of worked replicas. Hashes are those under seed 0 at 16 registers: vertex 0 has rank 3 in register 14,
-//! vertex 1 rank 1 in register 6, vertex 2 rank 2 in register 0, vertex 3 rank 1 in register 15. Each digest is the
-//! SHA-256 of what stands before it, by another program.
+//! Replicas that are written: the bytes of worked ones, and those of a run that goes on from its checkpoints.
 
-ghost use Rattle.std.specs.Prelude.{◌≡◌, ◌<◌, IfSome};
+ghost use Rattle.std.specs.Prelude.{None};
 
-use super::replica_of;
+use super::reading::read;
+use super::worked::{TWO_EARLY, TWO_EDGES};
+use super::{half, replica_of, whole};
 use crate::{KeepError, checkpoint_length, write_checkpoint};
-use ball_model::{BatchName, MemWriter, Plan, Taken};
+use ball_model::{CountingWriter, MemReader, Plan, Taken, Verdict};
 use batches::Batch;
+use edgelist::Part;
 use replica::{Replica, Shown};
+use std::io;
+use std::io::{ErrorKind, Write};
 use std::sync::Arc;
 
-/// The one partition of the edges a to b and b to c, at superstep 2: c alone changed there.
-pub(super) static TWO_EDGES: [u8; 340] = [
-    0x48, 0x42, 0x43, 0x4b, // HBCK
-    2, 4, // version, log2m
-    0, 1, 0, 0, // parts, partition
-    0, 0, 0, 3, // vertices
-    0, 0, 0, 3, // vertices of the partition
-    0, 0, 0, 2, // superstep
-    0x7c, 0x4f, 0xec, 0x3a, 0xb1, 0xc9, 0x4e, 0xe5, 0x4b, 0x6c, 0xe8, 0xab, 0xf2, 0xac, 0x51, 0x80,
-    0x2b, 0x07, 0xb5, 0x58, 0x99, 0x2c, 0xeb, 0xe6, 0x1a, 0x88, 0x7d, 0x03, 0x4e, 0xbf, 0x03, 0x68,
-    0, // vertex 0: its mark
-    0, 0, 0, 0, 0, 173, 207, 222, // its estimate
-    0, 0, 0, 0, 0, 0, 0, 0, // its harmonic centrality
-    0, 0, 0, 0, 0, 0, 0, 0, 0, 0, 0, 0, 0, 0, 0, 0, // its sum of distances
-    0, 0, 0, 0, 0, 0, 0, 0, 0, 0, 0, 0, 0, 0, 3, 0, // its registers
-    0, // vertex 1: its mark
-    0, 0, 0, 0, 0, 179, 193, 24, // its estimate
-    0, 0, 0, 0, 0, 10, 37, 190, // its harmonic centrality
-    0, 0, 0, 0, 0, 0, 0, 0, 0, 0, 0, 0, 0, 10, 37, 190, // its sum of distances
-    0, 0, 0, 0, 0, 0, 1, 0, 0, 0, 0, 0, 0, 0, 3, 0, // its registers
-    1, // vertex 2: its mark
-    0, 0, 0, 0, 0, 189, 120, 129, // its estimate
-    0, 0, 0, 0, 0, 11, 118, 170, // its harmonic centrality
-    0, 0, 0, 0, 0, 0, 0, 0, 0, 0, 0, 0, 0, 28, 82, 191, // its sum of distances
-    2, 0, 0, 0, 0, 0, 1, 0, 0, 0, 0, 0, 0, 0, 3, 0, // its registers
-    0, 0, 0, 0, 0, 0, 0, 0, 0, 0, 0, 0, 2, 3, 206, 93, // sum at 0
-    0, 0, 0, 0, 0, 0, 0, 0, 0, 0, 0, 0, 2, 19, 204, 20, // at 1
-    0, 0, 0, 0, 0, 0, 0, 0, 0, 0, 0, 0, 2, 31, 9, 119, // at 2
-    0, 0, 0, 0, 0, 0, 0, 0, 0, // heard, and whether a change is
-    0, 0, 0, 0, 0, 0, 0, 0, 0, 0, 0, 0, 0, 0, 3, 0, // accumulated: vertex 0
-    0, 0, 0, 0, 0, 0, 1, 0, 0, 0, 0, 0, 0, 0, 3, 0, // vertex 1
-    2, 0, 0, 0, 0, 0, 1, 0, 0, 0, 0, 0, 0, 0, 3, 0, // vertex 2
-    0, 0, // batches
-    0x4f, 0x38, 0xb3, 0x5f, 0x48, 0xb3, 0x69, 0x46, 0x89, 0x8b, 0x52, 0x9f, 0x48, 0xab, 0x24, 0xf3,
-    0xad, 0x74, 0x16, 0x00, 0x13, 0x09, 0x4f, 0x55, 0x2e, 0x75, 0x27, 0x6b, 0xa0, 0x2b, 0xcc, 0x0f,
-];
+/// A writer into so much room, which takes at most so many bytes a call, and fails after so many calls.
+#[derive(Drop)]
+struct Sips<'a> {
+    room: &'a mut [u8],
+    most: usize,
+    good: u64,
+}
 
-/// Partition 1 of the path a, b, c, d, e in two partitions, at superstep 0, which keeps a batch of superstep 3.
-pub(super) static WINDOW_EDGE: [u8; 305] = [
-    0x48, 0x42, 0x43, 0x4b, // HBCK
-    2, 4, // version, log2m
-    0, 2, 0, 1, // parts, partition
-    0, 0, 0, 5, // vertices
-    0, 0, 0, 2, // vertices of the partition
-    0, 0, 0, 0, // superstep
-    0x95, 0x27, 0x45, 0xe7, 0xab, 0xd9, 0x7d, 0x56, 0x33, 0x04, 0xe8, 0xec, 0x8d, 0x76, 0xfc, 0x6e,
-    0x79, 0x3b, 0xea, 0x8d, 0x10, 0x5e, 0xb0, 0x92, 0x45, 0x2c, 0xd9, 0x71, 0xe1, 0x39, 0x19, 0x51,
-    1, // vertex 1: its mark
-    0, 0, 0, 0, 0, 169, 155, 90, // its estimate
-    0, 0, 0, 0, 0, 0, 0, 0, // its harmonic centrality
-    0, 0, 0, 0, 0, 0, 0, 0, 0, 0, 0, 0, 0, 0, 0, 0, // its sum of distances
-    0, 0, 0, 0, 0, 0, 1, 0, 0, 0, 0, 0, 0, 0, 0, 0, // its registers
-    1, // vertex 3: its mark
-    0, 0, 0, 0, 0, 169, 155, 90, // its estimate
-    0, 0, 0, 0, 0, 0, 0, 0, // its harmonic centrality
-    0, 0, 0, 0, 0, 0, 0, 0, 0, 0, 0, 0, 0, 0, 0, 0, // its sum of distances
-    0, 0, 0, 0, 0, 0, 0, 0, 0, 0, 0, 0, 0, 0, 0, 1, // its registers
-    0, 0, 0, 0, 0, 0, 0, 0, 0, 0, 0, 0, 1, 83, 54, 180, // sum at 0
-    0, 0, 0, 0, 0, 0, 0, 0, 0, // heard, and whether a change is
-    0, 0, 0, 0, 0, 0, 1, 0, 0, 0, 0, 0, 0, 0, 0, 0, // accumulated: vertex 1
-    0, 0, 0, 0, 0, 0, 0, 0, 0, 0, 0, 0, 0, 0, 0, 1, // vertex 3
-    0, 1, // batches
-    0, 0, 0, 0, 0, 0, 0, 54, // length of the batch
-    0x48, 0x42, 0x42, 0x54, // HBBT
-    1, 4, // version, log2m
-    0, 0, 0, 3, // superstep
-    0, 0, 0, 1, // source, target
-    0x95, 0x27, 0x45, 0xe7, 0xab, 0xd9, 0x7d, 0x56, 0x33, 0x04, 0xe8, 0xec, 0x8d, 0x76, 0xfc, 0x6e,
-    0x79, 0x3b, 0xea, 0x8d, 0x10, 0x5e, 0xb0, 0x92, 0x45, 0x2c, 0xd9, 0x71, 0xe1, 0x39, 0x19, 0x51,
-    0, 0, 0, 1, // changed
-    0, 0, 0, 0, // rows
-    0x48, 0x99, 0xf3, 0x5d, 0x2f, 0x8f, 0xff, 0x7f, 0x47, 0x0f, 0x54, 0x83, 0xef, 0x04, 0xd1, 0xa2,
-    0xa6, 0xcc, 0x59, 0xed, 0x4c, 0xca, 0x75, 0x8d, 0x69, 0xdd, 0xeb, 0xd8, 0xcb, 0xef, 0x9d, 0xd9,
-];
+impl<'a> Write for Sips<'a> {
+    ghost contents = { λ w. None };
 
-/// What a replica writes where there is so much room and that call fails: the answer, and the bytes that were taken.
+    fn write(&mut self, buf: &[u8]) -> io::Result<usize> {
+        if self.good == 0 {
+            return Err(io::Error::from(ErrorKind::Other));
+        }
+        self.good -= 1;
+        let (front, _) = buf.split_at(buf.len().min(self.most));
+        Write::write(&mut self.room, front)
+    }
+
+    fn flush(&mut self) -> io::Result<()> {
+        Ok(())
+    }
+}
+
+/// What a replica writes into such a writer: the answer, and how many bytes were taken.
 pub(super) fn written(
-    rt: &HostRuntime,
     replica: &Replica,
-    room: usize,
-    fails_at: Option<u64>,
-) -> Option<(Result<(), KeepError>, Vec<u8>)> {
-    let mut writer = MemWriter::with_room(rt.alloc(), room, fails_at).ok()?;
-    let answer = write_checkpoint(replica, &mut writer);
-    Some((answer, writer.into_bytes()))
+    room: &mut [u8],
+    most: usize,
+    good: u64,
+) -> (Result<(), KeepError>, usize) {
+    let length = room.len();
+    let mut sips = Sips { room, most, good };
+    let answer = write_checkpoint(replica, &mut CountingWriter::new(&mut sips));
+    (answer, length.saturating_sub(sips.room.len()))
 }
 
-/// Whether a replica writes these bytes, as many as are told before.
-pub(super) fn writes(rt: &HostRuntime, replica: &Replica, wanted: &[u8]) -> Option<bool> {
+/// Whether a replica writes these bytes, as many as are told before, by so many a call.
+pub(super) fn writes(replica: &Replica, wanted: &[u8], most: usize) -> bool {
+    let mut bytes = [0; 400];
+    let out = written(replica, &mut bytes, most, u64::MAX);
     let length = checkpoint_length(replica);
-    let (answer, bytes) = written(rt, replica, wanted.len(), None)?;
-    Some(answer == Ok(()) && bytes.as_slice() == wanted && length == wanted.len() as u64)
+    out == (Ok(()), wanted.len()) && bytes.starts_with(wanted) && length == wanted.len() as u64
 }
 
-/// The replica of the edges a to b and b to c in one partition, at superstep 2.
-pub(super) fn two_edges(rt: &HostRuntime) -> Option<Box<Replica>> {
-    let mut replica = replica_of(rt, b"a\tb\nb\tc\n", 1, 0)?;
-    twice(&mut replica);
-    Some(replica)
+/// A replica that is read from the bytes of another one.
+fn again(rt: &HostRuntime, part: &Arc<Part>, replica: &Replica) -> Option<Box<Replica>> {
+    let mut bytes = [0; 400];
+    let (_, count) = written(replica, &mut bytes, usize::MAX, u64::MAX);
+    let (text, _) = bytes.split_at(count.min(400));
+    read(rt, part, &mut MemReader::new(text, None)).ok()
 }
 
-/// Two supersteps of a replica that waits for none.
-fn twice(replica: &mut Replica) {
-    let _first = replica.close();
-    let _second = replica.close();
+/// Whether one is read in the place of another, and goes on.
+fn renews(rt: &HostRuntime, part: &Arc<Part>, replica: &mut Box<Replica>) -> bool {
+    match again(rt, part, replica) {
+        Some(again) => {
+            *replica = again;
+            replica.close().is_ok()
+        }
+        None => false,
+    }
 }
 
-/// Whether its bytes are those.
-pub(super) fn two_edges_are_written(rt: &HostRuntime) -> Option<bool> {
-    let replica = two_edges(rt)?;
-    writes(rt, &replica, &TWO_EDGES)
-}
-
-#[test]
-fn bytes_of_two_edges(rt: HostRuntime) {
-    assert!(rt; two_edges_are_written(&rt) == Some(true));
-}
-
-/// The batch of superstep 3 that tells of one changed vertex, and has no row.
-fn early_batch(rt: &HostRuntime, plan: &Plan) -> Option<Arc<Batch>> {
-    let name = BatchName {
-        superstep: 3,
-        source: 0,
-        target: 1,
-    };
-    if plan.limit() < 3 || plan.parts() != 2 || plan.part_size(0) == 0 {
+/// Whether the two edges go on so from superstep 0 to the bytes of superstep 2, and then to the end of the run.
+fn runs(rt: &HostRuntime, part: &Arc<Part>, replica: &mut Box<Replica>) -> Option<bool> {
+    if !renews(rt, part, replica) || !renews(rt, part, replica) {
         return None;
     }
-    let batch = Batch::start(rt.alloc(), plan, name, 1).ok()?;
-    Arc::new(rt.alloc(), batch).ok()
+    let right = writes(replica, &TWO_EDGES, usize::MAX);
+    Some(right && replica.close() == Ok(3) && replica.verdict() == Some(Verdict::Stable))
 }
 
-/// Takes that batch.
-fn take_early(rt: &HostRuntime, replica: &mut Replica) -> Option<bool> {
-    let batch = early_batch(rt, replica.plan())?;
-    Some(replica.take(batch) == Ok(Taken::New))
+/// Whether a new replica of them does.
+pub(super) fn edges_are_written(rt: &HostRuntime) -> Option<bool> {
+    let part = whole(rt)?;
+    let mut replica = replica_of(rt, &part)?;
+    runs(rt, &part, &mut replica)
 }
 
-/// Whether the batch is new to the replica, and the bytes are those then.
-pub(super) fn window_edge_is_written(rt: &HostRuntime) -> Option<(bool, bool)> {
-    let mut replica = replica_of(rt, b"a\tb\nb\tc\nc\td\nd\te\n", 2, 1)?;
-    writes_taken(rt, &mut replica)
+/// The batch that these bytes spell.
+fn batch(rt: &HostRuntime, plan: &Plan, bytes: &[u8]) -> Option<Arc<Batch>> {
+    Arc::new(rt.alloc(), Batch::decode(rt.alloc(), plan, bytes).ok()?).ok()
 }
 
-/// The same of a replica at superstep 0.
-fn writes_taken(rt: &HostRuntime, replica: &mut Replica) -> Option<(bool, bool)> {
-    let new = take_early(rt, replica)?;
-    Some((new, writes(rt, replica, &WINDOW_EDGE)?))
+/// Whether it is new.
+fn takes(rt: &HostRuntime, replica: &mut Replica, bytes: &[u8]) -> bool {
+    match batch(rt, replica.plan(), bytes) {
+        Some(batch) => replica.take(batch) == Ok(Taken::New),
+        None => false,
+    }
 }
 
-#[test]
-fn bytes_of_an_early_batch(rt: HostRuntime) {
-    assert!(rt; window_edge_is_written(&rt) == Some((true, true)));
+/// Whether a replica writes those bytes, once it has taken a batch of superstep 3 and one of superstep 2. Both tell of one
+/// changed vertex and have no row: what no partition tells. None where memory for
+/// one is refused.
+fn writes_early(rt: &HostRuntime, replica: &mut Replica) -> Option<bool> {
+    let later = takes(rt, replica, &TWO_EARLY[281..335]);
+    if later && takes(rt, replica, &TWO_EARLY[219..273]) {
+        Some(writes(replica, &TWO_EARLY, usize::MAX))
+    } else {
+        None
+    }
+}
+
+/// Whether that of the second of two parts does.
+pub(super) fn early_is_written(rt: &HostRuntime) -> Option<bool> {
+    let part = half(rt)?;
+    let mut replica = replica_of(rt, &part)?;
+    writes_early(rt, &mut replica)
 }
 
 /// Each error, and its text.
