@@ -1,7 +1,9 @@
 //! Replicas that are made of what another one has.
 
-use super::joins::snapshot_of;
-use super::shown::shows_all;
+use super::facts::Fact::*;
+use super::jobs::TWO_EDGES;
+use super::script::Step::{self, *};
+use super::script::play;
 use super::*;
 use crate::shown::copy_rows;
 
@@ -61,76 +63,57 @@ fn rebuilt(rt: &HostRuntime, part: Arc<Part>, saved: Saved) -> Option<Box<Replic
 }
 
 /// The replica at a place, made again.
-pub fn again(rt: &HostRuntime, all: &mut [Replica], place: usize) -> Option<Box<Replica>> {
+fn again(rt: &HostRuntime, all: &mut [Replica], place: usize) -> Option<Box<Replica>> {
     let replica = all.get_mut(place)?;
     let part = Arc::try_clone(&replica.known.part).ok()?;
     let saved = saved_of(rt, replica)?;
     rebuilt(rt, part, saved)
 }
 
+/// Whether it is added: None where memory was refused.
+pub fn add_again(rt: &HostRuntime, all: &mut Vec<Replica>, place: usize) -> Option<bool> {
+    let replica = again(rt, all, place)?;
+    all.push(Box::into_inner(replica)).ok()?;
+    Some(true)
+}
+
 /// Partition 0 is at superstep 1, has heard its batch, and keeps one of superstep 2.
-pub fn hears_and_keeps(rt: &HostRuntime, all: &mut [Replica]) -> bool {
-    run(rt, all, 1)
-        && is_new(rt, all, 1, 0)
-        && is_new(rt, all, 0, 1)
-        && closes(all, 1, Ok(2))
-        && is_new(rt, all, 1, 0)
-        && has_accumulated(all, 2, &ROW_ABC)
-        && is_held(all, 0, 2, 1) == Some(true)
-}
+pub const HEARS_AND_KEEPS: [Step; 8] = [
+    Add(TWO_EDGES),
+    Round(0, 2),
+    Tell(1, 0),
+    Tell(0, 1),
+    Close(1, Ok(2)),
+    Tell(1, 0),
+    See(0, Accumulated(2, ROW_ABC)),
+    See(0, Holds(2, 1, true)),
+];
 
-/// Whether the second replica of partition 0 tells in each reader what a snapshot does.
-fn tells_same(all: &[Replica], snapshot: &Snapshot) -> bool {
-    match all.get(2) {
-        Some(replica) => shows_all(replica, snapshot),
-        None => false,
-    }
-}
+/// Made again it tells the same, and runs on as it does.
+const RUNS_ON: [Step; 18] = [
+    Again(0),
+    Keep(0, None),
+    Shows(2, 0),
+    Close(0, Ok(2)),
+    Close(2, Ok(2)),
+    Tell(2, 1),
+    Close(0, Ok(3)),
+    Close(1, Ok(3)),
+    Close(2, Ok(3)),
+    Tell(1, 0),
+    Tell(1, 2),
+    Tell(0, 1),
+    See(0, Says(Some(Verdict::Stable))),
+    See(1, Says(Some(Verdict::Stable))),
+    See(2, Says(Some(Verdict::Stable))),
+    See(2, Sums(&SUMS_OF_FIRST)),
+    Keep(0, None),
+    Shows(2, 1),
+];
 
-/// Whether it tells what the first does.
-fn tell_same(rt: &HostRuntime, all: &mut [Replica]) -> bool {
-    match snapshot_of(rt, all, 0) {
-        Some(snapshot) => tells_same(all, &snapshot),
-        None => false,
-    }
-}
-
-/// Whether the replica of partition 1, and the two of partition 0, close two supersteps and end.
-fn end_together(rt: &HostRuntime, all: &mut [Replica]) -> bool {
-    closes(all, 0, Ok(2))
-        && closes(all, 2, Ok(2))
-        && is_new(rt, all, 2, 1)
-        && close_all(all)
-        && is_new(rt, all, 1, 0)
-        && is_new(rt, all, 1, 2)
-        && is_new(rt, all, 0, 1)
-        && all_say(all, Some(Verdict::Stable))
-        && has_sums(all, 2, &SUMS[0])
-}
-
-/// Adds partition 0, made again.
-fn add_again(rt: &HostRuntime, all: &mut Vec<Replica>) -> Option<()> {
-    let replica = again(rt, all, 0)?;
-    all.push(Box::into_inner(replica)).ok()
-}
-
-/// Whether partition 0 is made again as it was, and runs on as it does.
-fn goes_on_again(rt: &HostRuntime, all: &mut Vec<Replica>) -> [bool; 4] {
-    [
-        hears_and_keeps(rt, all),
-        add_again(rt, all).is_some() && tell_same(rt, all),
-        end_together(rt, all),
-        tell_same(rt, all),
-    ]
-}
-
-/// The same of two edges.
-fn made_again(rt: &HostRuntime) -> Option<[bool; 4]> {
-    let mut all = two_edges(rt, 2, 4096)?;
-    Some(goes_on_again(rt, &mut all))
-}
+static REBUILT: [&[Step]; 2] = [&HEARS_AND_KEEPS, &RUNS_ON];
 
 #[test]
 fn replica_is_rebuilt(rt: HostRuntime) {
-    assert_eq!(rt; made_again(&rt), Some([true; 4]));
+    assert_eq!(rt; play(&rt, &REBUILT), None);
 }

@@ -3,7 +3,7 @@
 use super::*;
 
 /// The figures of a tally.
-fn figures(tally: Tally) -> (u64, u64, u128) {
+pub fn figures(tally: Tally) -> (u64, u64, u128) {
     (tally.last, tally.harm, tally.dist)
 }
 
@@ -116,19 +116,32 @@ fn shows_heard(replica: &Replica, snapshot: &Snapshot) -> bool {
         && holds_names(replica, snapshot)
 }
 
-/// Whether a replica tells what a snapshot does of its level, of what it has heard, of the batches that it keeps, of
-/// all rows, figures and sums, and of each vertex.
-pub fn shows_each(replica: &Replica, snapshot: &Snapshot) -> [bool; 5] {
-    [
-        shows_level(replica, snapshot),
-        shows_heard(replica, snapshot),
-        shows_early(replica, snapshot),
-        shows_tables(replica, snapshot),
-        shows_vertices(replica, snapshot),
-    ]
+/// Whether each reader of a replica tells what that of a snapshot does: of its level, of what it has heard, of the
+/// batches that it keeps, of all rows, figures and sums, and of each vertex.
+pub fn shows_all(replica: &Replica, snapshot: &Snapshot) -> bool {
+    shows_level(replica, snapshot)
+        && shows_heard(replica, snapshot)
+        && shows_early(replica, snapshot)
+        && shows_tables(replica, snapshot)
+        && shows_vertices(replica, snapshot)
 }
 
-/// Whether each reader of a replica tells what that of a snapshot does.
-pub fn shows_all(replica: &Replica, snapshot: &Snapshot) -> bool {
-    shows_each(replica, snapshot) == [true; 5]
+/// Whether a snapshot is of superstep 0 of partition 0 by this plan, and has the batch of partition 1.
+pub fn is_first_of(plan: &Plan, snapshot: &Snapshot) -> bool {
+    let name = BatchName {
+        superstep: 0,
+        source: 1,
+        target: 0,
+    };
+    let early = BatchName {
+        superstep: 1,
+        ..name
+    };
+    let elsewhere = BatchName { target: 1, ..name };
+    snapshot.plan() == plan
+        && snapshot.partition() == 0
+        && snapshot.superstep() == 0
+        && snapshot.holds(name)
+        && !snapshot.holds(early)
+        && !snapshot.holds(elsewhere)
 }
