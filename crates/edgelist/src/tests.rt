@@ -1,6 +1,5 @@
 //! What no clause says: worked edge lists, digests, and readers that fail.
 
-mod changed;
 mod counting;
 mod damage;
 mod labels;
@@ -9,13 +8,18 @@ mod pieces;
 mod reading;
 mod refusals;
 
+ghost use Rattle.std.specs.Prelude.{None};
+
 use crate::{
     CountedError, Delimiter, EdgeError, EdgeLimits, EdgeReader, Graph, Part, Preds, laws,
     read_edges,
 };
 use ball_model::{CountingReader, PlanError};
+use sha2::{Digest, Sha256};
 use std::alloc::{AllocError, Global};
 use std::hash::RandomState;
+use std::io;
+use std::io::{ErrorKind, Read};
 
 /// No limits but those that are always in force.
 const LIMITS: EdgeLimits = EdgeLimits {
@@ -26,28 +30,58 @@ const LIMITS: EdgeLimits = EdgeLimits {
 /// Two edges, with tabs.
 const TWO_EDGES: &[u8] = b"a\tb\nb\tc\n";
 
-/// The job digest of the two edges with log2m 4, seed 0, two partitions and a limit of 4096: SHA-256, by another
-/// program, of the 47 bytes 48424a31 04 0000000000000000 0002 00001000 00000003 0000000000000002 00000000 00000001
-/// 00000001 00000002.
-const TWO_EDGES_DIGEST: [u8; 32] = [
-    0xe4, 0x87, 0x78, 0x82, 0x8d, 0xfe, 0xa5, 0x0f, 0x8c, 0x6f, 0x4c, 0x3f, 0x13, 0xc9, 0x4f, 0xf2,
-    0xeb, 0xd3, 0x33, 0xd7, 0xa4, 0x76, 0x10, 0x77, 0x8d, 0x84, 0xb6, 0xc7, 0xed, 0x7a, 0x08, 0xd3,
-];
+/// The lines of their graph, as `shown` has them.
+const TWO_LINES: &[u8] = b"a\nb 0\nc 1\n";
 
-/// Reads an edge list from memory.
+/// A reader that gives so many bytes at a time at most, and of which so many calls succeed.
+#[derive(Drop)]
+struct Stepping<'a> {
+    bytes: &'a [u8],
+    step: usize,
+    good: u64,
+}
+
+impl<'a> Read for Stepping<'a> {
+    ghost remaining = { λ r. None };
+
+    fn read(&mut self, buf: &mut [u8]) -> io::Result<usize> {
+        if self.good == 0 {
+            return Err(io::Error::from(ErrorKind::Other));
+        }
+        self.good -= 1;
+        let most = self.step.min(buf.len());
+        Read::read(&mut self.bytes, &mut buf[..most])
+    }
+}
+
+/// Gives all bytes at once.
+fn at_once<'a>(bytes: &'a [u8]) -> Stepping<'a> {
+    Stepping {
+        bytes,
+        step: usize::MAX,
+        good: u64::MAX,
+    }
+}
+
+/// Reads an edge list.
 fn read(
     rt: &HostRuntime,
-    text: &[u8],
+    reader: Stepping<'_>,
     delimiter: Delimiter,
     limits: EdgeLimits,
 ) -> Result<Graph, EdgeError> {
     match RandomState::new(rt) {
         Ok(state) => {
-            let mut reader = CountingReader::new(text);
+            let mut reader = CountingReader::new(reader);
             read_edges(rt.alloc(), state, &mut reader, delimiter, limits)
         }
         Err(_) => Err(EdgeError::Memory),
     }
+}
+
+/// Reads an edge list with tabs.
+fn tabs(rt: &HostRuntime, text: &[u8]) -> Result<Graph, EdgeError> {
+    read(rt, at_once(text), Delimiter::Tab, LIMITS)
 }
 
 /// The last digit of a number.
@@ -55,74 +89,71 @@ fn digit(v: u32) -> u8 {
     b'0' + (v % 10) as u8
 }
 
-/// A space and the last digit of a vertex.
-fn push_vertex(text: &mut Vec<u8>, v: u32) -> Result<(), AllocError> {
-    text.push(b' ')?;
-    text.push(digit(v))?;
-    Ok(())
-}
-
-/// A space and the last digit of each vertex.
-fn push_vertices(text: &mut Vec<u8>, vertices: Preds<'_>) -> Result<(), AllocError> {
-    for v in vertices {
-        push_vertex(text, v)?;
+/// Adds a line for a vertex: its label, and a space and the last digit of each predecessor.
+fn add_line(hasher: &mut Sha256, label: &[u8], preds: Preds<'_>) {
+    hasher.update(label);
+    for y in preds {
+        hasher.update(&[b' ', digit(y)]);
     }
-    Ok(())
+    hasher.update(b"\n");
 }
 
-/// A line for a vertex: its label and its predecessors.
-fn push_line(text: &mut Vec<u8>, graph: &Graph, v: u32) -> Result<(), AllocError> {
-    if v < graph.vertices() {
-        text.extend_from_slice(graph.label(v))?;
-        push_vertices(text, graph.preds(v))?;
-    }
-    text.push(b'\n')?;
-    Ok(())
-}
-
-/// A line for each vertex.
-fn show(alloc: Global, graph: &Graph) -> Result<Vec<u8>, AllocError> {
-    let mut text = Vec::new(alloc);
+/// The hash of the lines of a graph, one for each vertex.
+fn shown(graph: &Graph) -> [u8; 32] {
+    let mut hasher = Sha256::new();
     for v in 0..graph.vertices() {
-        push_line(&mut text, graph, v)?;
+        add_line(&mut hasher, graph.label(v), graph.preds(v));
     }
-    Ok(text)
+    hasher.finalize()
 }
 
-/// Whether a graph is shown so.
-fn is_shown(alloc: Global, graph: &Graph, wanted: &[u8]) -> bool {
-    match show(alloc, graph) {
-        Ok(text) => text.as_slice() == wanted,
-        Err(_) => false,
+/// A text in pieces, each repeated so many times.
+type Pieces<'a> = &'a [(&'a [u8], usize)];
+
+/// The hash of a text.
+fn hash(pieces: Pieces<'_>) -> [u8; 32] {
+    let mut hasher = Sha256::new();
+    for (piece, count) in pieces {
+        for _ in 0..*count {
+            hasher.update(*piece);
+        }
     }
+    hasher.finalize()
 }
 
-/// Whether an edge list is read as the graph that is shown so.
-fn reads(rt: &HostRuntime, text: &[u8], delimiter: Delimiter, wanted: &[u8]) -> bool {
-    match read(rt, text, delimiter, LIMITS) {
-        Ok(graph) => is_shown(rt.alloc(), &graph, wanted),
-        Err(_) => false,
-    }
-}
+/// What is told of an edge list: the hash of its graph's lines, or an error.
+type Told = Result<[u8; 32], EdgeError>;
 
-/// Whether an edge list with tabs is read as the graph that is shown so.
-fn tabs(rt: &HostRuntime, text: &[u8], wanted: &[u8]) -> bool {
-    reads(rt, text, Delimiter::Tab, wanted)
-}
-
-/// The job digest of a graph with 2 partitions, or the fault of its plan.
-fn job_of(graph: &Graph, log2m: u8) -> Result<[u8; 32], PlanError> {
-    match graph.plan(log2m, 0, 2, 4096) {
-        Ok(plan) => Ok(plan.job()),
+/// What is told of an edge list that a reader gives.
+fn told(rt: &HostRuntime, reader: Stepping<'_>, delimiter: Delimiter, limits: EdgeLimits) -> Told {
+    match read(rt, reader, delimiter, limits) {
+        Ok(graph) => Ok(shown(&graph)),
         Err(e) => Err(e),
     }
 }
 
-/// That of the job with corrected estimates.
-fn corrected_job_of(graph: &Graph) -> Result<[u8; 32], PlanError> {
-    match graph.corrected_plan(4, 0, 2, 4096) {
-        Ok(plan) => Ok(plan.job()),
+/// What should be told, with the lines in pieces.
+fn told_of(wanted: Result<Pieces<'_>, EdgeError>) -> Told {
+    match wanted {
+        Ok(lines) => Ok(hash(lines)),
         Err(e) => Err(e),
+    }
+}
+
+/// Whether these are the predecessors.
+fn are_preds(mut preds: Preds<'_>, wanted: &[u32]) -> bool {
+    let mut right = true;
+    for y in wanted {
+        right &= preds.next() == Some(*y);
+    }
+    right && preds.next() == None
+}
+
+/// Counts just the vertices of a list, where there is one, and tells whether that was done.
+fn count(alloc: Global, graph: &mut Graph, list: Option<&[u8]>) -> bool {
+    match list {
+        Some(list) => graph.count_only(alloc, Delimiter::Tab, list) == Ok(()),
+        None => true,
     }
 }
 
@@ -135,6 +166,42 @@ fn part_of(alloc: Global, graph: &Graph, parts: u16, p: u16) -> Option<Part> {
         return None;
     }
     graph.part(alloc, &plan, p).ok()
+}
+
+/// The texts of all errors, a line each.
+const TEXTS: &str = "the edge list cannot be read
+too many records
+record 2 has not one or two identifiers
+too many vertices
+out of memory
+record 2 of the list is not one identifier
+record 3 of the list names no vertex
+out of memory";
+
+/// Whether the errors have these texts.
+fn are_texts(alloc: Global, texts: &str) -> bool {
+    let faults = [
+        EdgeError::Read,
+        EdgeError::TooManyEdges,
+        EdgeError::Fields { number: 2 },
+        EdgeError::TooManyVertices,
+        EdgeError::Memory,
+    ];
+    let [read, edges, fields, vertices, memory] = faults;
+    let list = CountedError::Fields { number: 2 };
+    let unknown = CountedError::Unknown { number: 3 };
+    match format!(in alloc;
+        "{read}\n{edges}\n{fields}\n{vertices}\n{memory}\n{list}\n{unknown}\n{}",
+        CountedError::Memory
+    ) {
+        Ok(text) => text.as_str() == texts,
+        Err(_) => false,
+    }
+}
+
+#[test]
+fn error_texts(rt: HostRuntime) {
+    assert!(rt; are_texts(rt.alloc(), TEXTS));
 }
 
 #[test]

@@ -1,10 +1,9 @@
-//! Random bytes as edge lists: read a byte at a time they are what they are when they are read at once.
+//! Edge lists and lists of counted vertices of random bytes, and some of which a few bytes are changed.
 
-use super::reading::{drip, drip_error};
 use super::*;
 
 // The next of a row of numbers: x becomes 6364136223846793005 x + 1442695040888963407 below 2^64 (Knuth).
-pub(super) fn next(state: &mut u64) -> u64 {
+fn next(state: &mut u64) -> u64 {
     *state = state
         .wrapping_mul(6_364_136_223_846_793_005)
         .wrapping_add(1_442_695_040_888_963_407);
@@ -14,26 +13,25 @@ pub(super) fn next(state: &mut u64) -> u64 {
 /// Bytes that mean something in an edge list, and some that do not.
 static MARKS: [u8; 16] = *b"\t\t\n\n\n\r#ab,\xff\0\"abb";
 
+// The next of them at random.
+fn mark(state: &mut u64) -> u8 {
+    MARKS[(next(state) % 16) as usize]
+}
+
 // Fills bytes with such ones at random.
-pub(super) fn scatter(bytes: &mut [u8], state: &mut u64) {
+fn scatter(bytes: &mut [u8], state: &mut u64) {
     for byte in bytes.iter_mut() {
-        *byte = MARKS[(next(state) % 16) as usize];
+        *byte = mark(state);
     }
 }
 
-// Whether two graphs have the same lines.
-fn are_same(alloc: Global, left: &Graph, right: &Graph) -> bool {
-    match show(alloc, left) {
-        Ok(text) => is_shown(alloc, right, &text),
-        Err(_) => false,
-    }
-}
-
-// Whether bytes are read a byte at a time as this graph.
-fn drips_as(rt: &HostRuntime, bytes: &[u8], graph: &Graph) -> bool {
-    match drip(rt, bytes, 9, u64::MAX) {
-        Ok(other) => are_same(rt.alloc(), graph, &other),
-        Err(_) => false,
+// Changes up to four bytes at random, each to one that may mean something.
+fn change(bytes: &mut [u8], state: &mut u64) {
+    for _ in 0..1 + next(state) % 4 {
+        let place = (next(state) % 27) as usize;
+        if place < bytes.len() {
+            bytes[place] = mark(state);
+        }
     }
 }
 
@@ -42,31 +40,96 @@ const NINE: EdgeLimits = EdgeLimits {
     edges: 9,
 };
 
-// Whether bytes are read as graphs that are the same, or are refused for the same.
-pub(super) fn is_same(rt: &HostRuntime, bytes: &[u8]) -> bool {
-    match read(rt, bytes, Delimiter::Tab, NINE) {
-        Ok(graph) => drips_as(rt, bytes, &graph),
-        Err(e) => e != EdgeError::Memory && drip_error(rt, bytes, 9, u64::MAX) == Some(e),
-    }
+// Whether bytes are told alike where they are read at once and a byte at a time.
+fn is_same(rt: &HostRuntime, bytes: &[u8]) -> bool {
+    let slow = Stepping {
+        bytes,
+        step: 1,
+        good: u64::MAX,
+    };
+    let at_once = told(rt, at_once(bytes), Delimiter::Tab, NINE);
+    at_once != Err(EdgeError::Memory) && told(rt, slow, Delimiter::Tab, NINE) == at_once
 }
 
-// How many of a thousand random lists of up to 31 bytes are not read in the same way.
-fn different(rt: &HostRuntime) -> u32 {
-    let mut state = 28;
-    let mut others = 0u32;
-    let mut bytes = [0u8; 31];
+// An edge list with a comment, both ends of lines and a double.
+const EDGES: [u8; 27] = *b"# c\r\na\tb\nb\tc\r\nd\na\tb\n\nbc\ta\nc";
+
+#[test]
+fn edge_lists_with_some_bytes_changed(rt: HostRuntime) {
+    let mut state = 30;
     for _ in 0..1000 {
-        let len = (next(&mut state) % 32) as usize;
-        scatter(&mut bytes, &mut state);
-        let (front, _) = bytes.split_at(len);
-        if !is_same(rt, front) {
-            others = others.saturating_add(1);
-        }
+        let mut bytes = EDGES;
+        change(&mut bytes, &mut state);
+        assert!(rt; is_same(&rt, &bytes));
     }
-    others
 }
 
 #[test]
-fn random_lists(rt: HostRuntime) {
-    assert_eq!(rt; different(&rt), 0);
+fn random_edge_lists(rt: HostRuntime) {
+    let mut state = 28;
+    for _ in 0..1000 {
+        let mut bytes = [0u8; 31];
+        scatter(&mut bytes, &mut state);
+        let (front, _) = bytes.split_at((next(&mut state) % 32) as usize);
+        assert!(rt; is_same(&rt, front));
+    }
+}
+
+// The labels of the two edges.
+const LABELS: [u8; 3] = *b"abc";
+
+// Which of their vertices are counted.
+fn counted(graph: &Graph) -> [bool; 3] {
+    let mut counted = [false; 3];
+    for v in 0..graph.vertices().min(3) {
+        counted[v as usize] = graph.counted(v);
+    }
+    counted
+}
+
+// Whether just those are counted that a list has, or after a refusal those that were before.
+fn is_answered(alloc: Global, graph: &mut Graph, list: &[u8]) -> bool {
+    let before = counted(graph);
+    let answer = graph.count_only(alloc, Delimiter::Tab, list);
+    let after = counted(graph);
+    let mut right = answer != Err(CountedError::Memory);
+    for v in 0..3 {
+        right &= if answer.is_ok() {
+            !after[v] || list.contains(&LABELS[v])
+        } else {
+            after[v] == before[v]
+        };
+    }
+    right
+}
+
+// A list of counted vertices of the two edges.
+const LIST: [u8; 14] = *b"# x\r\nb\nc\n\nb\r\na";
+
+// The same of a thousand of these lists with some bytes changed, and of a thousand of up to 14 random bytes.
+fn are_answered(alloc: Global, graph: &mut Graph) -> bool {
+    let mut state = 31;
+    let mut right = true;
+    for _ in 0..1000 {
+        let mut list = LIST;
+        change(&mut list, &mut state);
+        right &= is_answered(alloc, graph, &list);
+        scatter(&mut list, &mut state);
+        let (front, _) = list.split_at((next(&mut state) % 15) as usize);
+        right &= is_answered(alloc, graph, front);
+    }
+    right
+}
+
+// The same on the two edges.
+fn are_answered_there(rt: &HostRuntime) -> bool {
+    match tabs(rt, TWO_EDGES) {
+        Ok(mut graph) => are_answered(rt.alloc(), &mut graph),
+        Err(_) => false,
+    }
+}
+
+#[test]
+fn counted_lists_with_some_bytes_changed(rt: HostRuntime) {
+    assert!(rt; are_answered_there(&rt));
 }

@@ -1,143 +1,106 @@
-//! Labels: short and long ones, such as share their guesses, and many.
+//! Labels: many, and such as share their guesses.
 
+use super::pieces::{Case, is_told};
 use super::*;
 
-// Adds an edge between two labels.
-fn push_edge(text: &mut Vec<u8>, source: &[u8], target: &[u8]) -> Result<(), AllocError> {
-    text.extend_from_slice(source)?;
-    text.push(b'\t')?;
-    text.extend_from_slice(target)?;
-    text.push(b'\n')?;
-    Ok(())
-}
-
-// An edge from each label to the next and from the last to the first, and then one from each to itself.
-fn ring(alloc: Global, labels: &[&[u8]]) -> Result<Vec<u8>, AllocError> {
-    let mut text = Vec::new(alloc);
-    for i in 0..labels.len() {
-        push_edge(&mut text, labels[i], labels[(i + 1) % labels.len()])?;
-    }
-    for label in labels {
-        push_edge(&mut text, label, label)?;
-    }
-    Ok(text)
-}
-
-// Whether vertex i has this label, and as predecessors just the vertex before and itself.
-fn is_linked(graph: &Graph, i: u32, label: &[u8]) -> bool {
-    if i >= graph.vertices() {
-        return false;
-    }
-    let last = graph.vertices() - 1;
-    let (first, second) = if i > 0 { (i - 1, i) } else { (0, last) };
-    let mut preds = graph.preds(i);
-    graph.label(i) == label
-        && preds.next() == Some(first)
-        && preds.next() == Some(second)
-        && preds.next() == None
-}
-
-// How many vertices of a ring of these labels are as they should be.
-fn count_linked(graph: &Graph, labels: &[&[u8]]) -> u32 {
-    let mut right = 0u32;
-    for i in 0..graph.vertices() {
-        if labels
-            .get(i as usize)
-            .is_some_and(|label| is_linked(graph, i, label))
-        {
-            right = right.saturating_add(1);
-        }
-    }
-    right
-}
-
-// The same of the ring that is read from its text.
-fn linked(rt: &HostRuntime, labels: &[&[u8]]) -> Option<u32> {
-    let Ok(text) = ring(rt.alloc(), labels) else {
-        return None;
-    };
-    match read(rt, &text, Delimiter::Tab, LIMITS) {
-        Ok(graph) => Some(count_linked(&graph, labels)),
-        Err(_) => None,
-    }
-}
-
-// More labels of one group of guesses than it has entries: each new one drives another out, and every label is looked
-// up again once it was driven out. In whatever groups they are, the graph is the same.
-static CROWD: [&[u8]; 9] = [
-    b"v25384", b"v28164", b"v28810", b"v32731", b"v35511", b"v42649", b"v45429", b"v49907",
-    b"v50997",
-];
-
-// The same of labels of 11 bytes, the most that are guessed at.
-static LONG_CROWD: [&[u8]; 9] = [
-    b"vertex03514",
-    b"vertex03813",
-    b"vertex11519",
-    b"vertex25539",
-    b"vertex25627",
-    b"vertex28072",
-    b"vertex36689",
-    b"vertex38066",
-    b"vertex43531",
+// Rings: an edge from each label to the next and from the last to the first, and then one from each to itself. More
+// labels of one group of guesses than it has entries: each new one drives another out, and every label is looked up
+// again once it was driven out; of 6 bytes, and of 11, the most that are guessed at. In whatever groups they are, the
+// graph is the same. Labels of zeros, which differ in length alone. Labels of 11 and of 12 bytes.
+static RINGS: [Case<'static>; 4] = [
+    (
+        &[
+            (
+                b"v25384\tv28164\nv28164\tv28810\nv28810\tv32731\nv32731\tv35511\n",
+                1,
+            ),
+            (
+                b"v35511\tv42649\nv42649\tv45429\nv45429\tv49907\nv49907\tv50997\n",
+                1,
+            ),
+            (
+                b"v50997\tv25384\nv25384\tv25384\nv28164\tv28164\nv28810\tv28810\n",
+                1,
+            ),
+            (
+                b"v32731\tv32731\nv35511\tv35511\nv42649\tv42649\nv45429\tv45429\n",
+                1,
+            ),
+            (b"v49907\tv49907\nv50997\tv50997\n", 1),
+        ],
+        Ok(&[
+            (
+                b"v25384 0 8\nv28164 0 1\nv28810 1 2\nv32731 2 3\nv35511 3 4\n",
+                1,
+            ),
+            (b"v42649 4 5\nv45429 5 6\nv49907 6 7\nv50997 7 8\n", 1),
+        ]),
+    ),
+    (
+        &[
+            (
+                b"vertex03514\tvertex03813\nvertex03813\tvertex11519\nvertex11519\tvertex25539\n",
+                1,
+            ),
+            (
+                b"vertex25539\tvertex25627\nvertex25627\tvertex28072\nvertex28072\tvertex36689\n",
+                1,
+            ),
+            (
+                b"vertex36689\tvertex38066\nvertex38066\tvertex43531\nvertex43531\tvertex03514\n",
+                1,
+            ),
+            (
+                b"vertex03514\tvertex03514\nvertex03813\tvertex03813\nvertex11519\tvertex11519\n",
+                1,
+            ),
+            (
+                b"vertex25539\tvertex25539\nvertex25627\tvertex25627\nvertex28072\tvertex28072\n",
+                1,
+            ),
+            (
+                b"vertex36689\tvertex36689\nvertex38066\tvertex38066\nvertex43531\tvertex43531\n",
+                1,
+            ),
+        ],
+        Ok(&[
+            (
+                b"vertex03514 0 8\nvertex03813 0 1\nvertex11519 1 2\nvertex25539 2 3\n",
+                1,
+            ),
+            (
+                b"vertex25627 3 4\nvertex28072 4 5\nvertex36689 5 6\nvertex38066 6 7\n",
+                1,
+            ),
+            (b"vertex43531 7 8\n", 1),
+        ]),
+    ),
+    (
+        &[(
+            b"\0\t\0\0\n\0\0\t\0\0\0\n\0\0\0\t\0\n\0\t\0\n\0\0\t\0\0\n\0\0\0\t\0\0\0\n",
+            1,
+        )],
+        Ok(&[(b"\0 0 2\n\0\0 0 1\n\0\0\0 1 2\n", 1)]),
+    ),
+    (
+        &[
+            (
+                b"vertex-0709\tvertex-07090\nvertex-07090\tvertex-07091\nvertex-07091\tvertex-0709\n",
+                1,
+            ),
+            (
+                b"vertex-0709\tvertex-0709\nvertex-07090\tvertex-07090\nvertex-07091\tvertex-07091\n",
+                1,
+            ),
+        ],
+        Ok(&[(b"vertex-0709 0 2\nvertex-07090 0 1\nvertex-07091 1 2\n", 1)]),
+    ),
 ];
 
 #[test]
 fn labels_of_one_guess(rt: HostRuntime) {
-    assert_eq!(rt; linked(&rt, &CROWD), Some(9));
-}
-
-#[test]
-fn long_labels_of_one_guess(rt: HostRuntime) {
-    assert_eq!(rt; linked(&rt, &LONG_CROWD), Some(9));
-}
-
-#[test]
-fn labels_of_zeros(rt: HostRuntime) {
-    // They differ in length alone.
-    assert_eq!(rt; linked(&rt, &[b"\0", b"\0\0", b"\0\0\0"]), Some(3));
-}
-
-#[test]
-fn labels_of_11_and_12_bytes(rt: HostRuntime) {
-    // Labels of more than 11 bytes are not guessed at.
-    assert_eq!(rt;
-        linked(&rt, &[b"vertex-0709", b"vertex-07090", b"vertex-07091"]),
-        Some(3)
-    );
-}
-
-// A label of 299 times the one byte and once the other.
-fn push_long(text: &mut Vec<u8>, byte: u8, last: u8) -> Result<(), AllocError> {
-    for _ in 0..299 {
-        text.push(byte)?;
-    }
-    text.push(last)?;
-    Ok(())
-}
-
-// Two labels of 300 bytes with one byte between them.
-fn push_two_long(text: &mut Vec<u8>, between: u8) -> Result<(), AllocError> {
-    push_long(text, b'x', b'y')?;
-    text.push(between)?;
-    push_long(text, b'x', b'z')
-}
-
-// An edge of labels of 300 bytes, and how its graph is shown.
-fn long_labels(alloc: Global) -> Result<(Vec<u8>, Vec<u8>), AllocError> {
-    let mut text = Vec::new(alloc);
-    push_two_long(&mut text, b'\t')?;
-    let mut wanted = Vec::new(alloc);
-    push_two_long(&mut wanted, b'\n')?;
-    wanted.extend_from_slice(b" 0\n")?;
-    Ok((text, wanted))
-}
-
-#[test]
-fn labels_of_300_bytes(rt: HostRuntime) {
-    match long_labels(rt.alloc()) {
-        Ok((text, wanted)) => assert!(rt; tabs(&rt, &text, &wanted)),
-        Err(_) => assert!(rt; false),
+    for case in &RINGS {
+        assert!(rt; is_told(&rt, case));
     }
 }
 
@@ -153,58 +116,46 @@ fn six_digits(v: u32) -> [u8; 6] {
     ]
 }
 
-// The edges from each number below a count to the next.
+// The edge from a number to the next.
+fn edge(v: u32) -> [u8; 14] {
+    let [a, b, c, d, e, f] = six_digits(v);
+    let [g, h, i, j, k, l] = six_digits(v.saturating_add(1));
+    [a, b, c, d, e, f, b'\t', g, h, i, j, k, l, b'\n']
+}
+
+// The edges from each number below a count to the next, twice.
 fn push_path(text: &mut Vec<u8>, count: u32) -> Result<(), AllocError> {
-    for v in 0..count {
-        push_edge(text, &six_digits(v), &six_digits(v.saturating_add(1)))?;
+    for _ in 0..2 {
+        for v in 0..count {
+            text.extend_from_slice(&edge(v))?;
+        }
     }
     Ok(())
 }
 
-// A path, each of whose edges stands twice.
-fn path(alloc: Global, count: u32) -> Result<Vec<u8>, AllocError> {
-    let mut text = Vec::new(alloc);
-    push_path(&mut text, count)?;
-    push_path(&mut text, count)?;
-    Ok(text)
-}
-
-// Whether the label of a vertex is its number, and its one predecessor the vertex before.
-fn is_next(graph: &Graph, v: u32) -> bool {
-    if v < 1 || v >= graph.vertices() {
-        return false;
-    }
-    let mut preds = graph.preds(v);
-    graph.label(v) == six_digits(v).as_slice()
-        && preds.next() == Some(v - 1)
-        && preds.next() == None
-}
-
-// How many vertices of a path are as they should be.
-fn count_next(graph: &Graph) -> u32 {
-    let mut right = 0u32;
+// Whether each vertex has its number as a label and the one before as its predecessor; vertex 0 has none.
+fn is_path(graph: &Graph) -> bool {
+    let mut right = true;
     for v in 0..graph.vertices() {
-        if is_next(graph, v) {
-            right = right.saturating_add(1);
-        }
+        let before = [v.saturating_sub(1)];
+        let (wanted, _) = before.split_at(v.min(1) as usize);
+        right &= graph.label(v) == six_digits(v).as_slice() && are_preds(graph.preds(v), wanted);
     }
     right
 }
 
-// The same of a path with so many edges, read from its text.
-fn next_of(rt: &HostRuntime, count: u32) -> Option<u32> {
-    let Ok(text) = path(rt.alloc(), count) else {
-        return None;
-    };
-    match read(rt, &text, Delimiter::Tab, LIMITS) {
-        Ok(graph) => Some(count_next(&graph)),
-        Err(_) => None,
+// Whether a path with so many edges is read.
+fn reads_path(rt: &HostRuntime, count: u32) -> bool {
+    let mut text = Vec::new(rt.alloc());
+    let is_there = push_path(&mut text, count).is_ok();
+    match tabs(rt, &text) {
+        Ok(graph) => is_there && graph.edges() == u64::from(count) && is_path(&graph),
+        Err(_) => false,
     }
 }
 
 #[test]
 fn many_labels(rt: HostRuntime) {
     // More labels than the table of guesses has entries at first, so that it grows; each is then looked up again.
-    // Vertex 0 has no predecessor.
-    assert_eq!(rt; next_of(&rt, 140_000), Some(140_000));
+    assert!(rt; reads_path(&rt, 140_000));
 }

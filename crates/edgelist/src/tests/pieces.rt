@@ -2,13 +2,19 @@
 
 use super::*;
 
-/// A reader of edges with tabs.
-fn reader(rt: &HostRuntime) -> Option<EdgeReader> {
-    let state = RandomState::new(rt).ok()?;
-    EdgeReader::new(rt.alloc(), state, Delimiter::Tab, LIMITS).ok()
+// A reader of edges.
+fn reader(
+    rt: &HostRuntime,
+    delimiter: Delimiter,
+    limits: EdgeLimits,
+) -> Result<EdgeReader, EdgeError> {
+    match RandomState::new(rt) {
+        Ok(state) => EdgeReader::new(rt.alloc(), state, delimiter, limits),
+        Err(_) => Err(EdgeError::Memory),
+    }
 }
 
-/// Gives bytes to a reader, up to the first that is refused.
+// Gives bytes to a reader, up to the first that is refused.
 fn give(alloc: Global, edges: &mut EdgeReader, text: &[u8]) -> Result<(), EdgeError> {
     for byte in text {
         edges.add(alloc, *byte)?;
@@ -16,78 +22,91 @@ fn give(alloc: Global, edges: &mut EdgeReader, text: &[u8]) -> Result<(), EdgeEr
     Ok(())
 }
 
-/// The graph of a text that is given to a reader.
-fn given(rt: &HostRuntime, text: &[u8]) -> Result<Graph, EdgeError> {
-    let Some(mut edges) = reader(rt) else {
-        return Err(EdgeError::Memory);
-    };
+// What a reader tells at the end.
+fn finished(alloc: Global, edges: EdgeReader) -> Told {
+    match edges.finish(alloc) {
+        Ok(graph) => Ok(shown(&graph)),
+        Err(e) => Err(e),
+    }
+}
+
+// What is told of a text that is given to a reader.
+pub(super) fn given(
+    rt: &HostRuntime,
+    text: &[u8],
+    delimiter: Delimiter,
+    limits: EdgeLimits,
+) -> Told {
+    let mut edges = reader(rt, delimiter, limits)?;
     give(rt.alloc(), &mut edges, text)?;
-    edges.finish(rt.alloc())
+    finished(rt.alloc(), edges)
 }
 
-/// Whether a text that is given to a reader is read as the graph that is shown so.
-fn gives(rt: &HostRuntime, text: &[u8], wanted: &[u8]) -> bool {
-    match given(rt, text) {
-        Ok(graph) => is_shown(rt.alloc(), &graph, wanted),
-        Err(_) => false,
-    }
-}
-
-/// So many lines of an edge from a to b, 4 bytes each, and more text.
-fn lines_and(alloc: Global, count: usize, more: &[u8]) -> Result<Vec<u8>, AllocError> {
-    let mut text = Vec::new(alloc);
-    for _ in 0..count {
-        text.extend_from_slice(b"a\tb\n")?;
-    }
-    text.extend_from_slice(more)?;
-    Ok(text)
-}
-
-#[test]
-fn few_bytes_are_read_at_the_end(rt: HostRuntime) {
-    assert!(rt; gives(&rt, TWO_EDGES, b"a\nb 0\nc 1\n"));
-    assert!(rt; gives(&rt, b"a\tb\r\n# x\r\n\r\nb\tc", b"a\nb 0\nc 1\n"));
-    assert!(rt; gives(&rt, b"", b""));
-    assert!(rt; gives(&rt, b"\n#", b""));
-}
-
-#[test]
-fn many_lines_are_read_in_between(rt: HostRuntime) -> Result<(), AllocError> {
-    // 16,384 lines of 4 bytes are read at once, 40,000 in three times.
-    for count in [16_383, 16_384, 16_385, 40_000] {
-        let text = lines_and(rt.alloc(), count, b"b\tc\n# end")?;
-        assert!(rt; gives(&rt, &text, b"a\nb 0\nc 1\n"));
+// Adds the pieces of a text.
+fn push_pieces(text: &mut Vec<u8>, pieces: Pieces<'_>) -> Result<(), AllocError> {
+    for (piece, count) in pieces {
+        for _ in 0..*count {
+            text.extend_from_slice(*piece)?;
+        }
     }
     Ok(())
 }
 
-// What would be a byte order mark at the front of a text is an ordinary label behind it.
-#[test]
-fn a_later_mark_is_a_label(rt: HostRuntime) -> Result<(), AllocError> {
-    let text = lines_and(rt.alloc(), 16_384, b"\xef\xbb\xbfx\n")?;
-    assert!(rt; gives(&rt, &text, b"a\nb 0\n\xef\xbb\xbfx\n"));
-    assert!(rt; tabs(&rt, &text, b"a\nb 0\n\xef\xbb\xbfx\n"));
-    Ok(())
+// An edge list with tabs, and the lines of its graph or the error.
+pub(super) type Case<'a> = (Pieces<'a>, Result<Pieces<'a>, EdgeError>);
+
+// Whether a long edge list is told so, at once and where its bytes are given one after the other.
+pub(super) fn is_told(rt: &HostRuntime, case: &Case<'_>) -> bool {
+    let (pieces, wanted) = *case;
+    let mut text = Vec::new(rt.alloc());
+    let is_there = push_pieces(&mut text, pieces).is_ok();
+    let wanted = told_of(wanted);
+    is_there
+        && given(rt, &text, Delimiter::Tab, LIMITS) == wanted
+        && told(rt, at_once(&text), Delimiter::Tab, LIMITS) == wanted
 }
 
-// Whether a reader that refused a record answers that from then on.
-fn stays_refused(rt: &HostRuntime, text: &[u8], fault: EdgeError) -> bool {
-    let Some(mut edges) = reader(rt) else {
-        return false;
-    };
-    let alloc = rt.alloc();
-    give(alloc, &mut edges, text) == Err(fault)
-        && edges.add(alloc, b'x') == Err(fault)
-        && edges.finish(alloc).err() == Some(fault)
-}
+// 16,384 lines of 4 bytes are read at once, 40,000 in three times. What would be a byte order mark at the front of a
+// text is an ordinary label behind it. A record is refused at the end, or at the 16,384th line that follows it. Labels
+// of 300 bytes.
+static LONG: [Case<'static>; 8] = [
+    (
+        &[(b"a\tb\n", 16_383), (b"b\tc\n# end", 1)],
+        Ok(&[(TWO_LINES, 1)]),
+    ),
+    (
+        &[(b"a\tb\n", 16_384), (b"b\tc\n# end", 1)],
+        Ok(&[(TWO_LINES, 1)]),
+    ),
+    (
+        &[(b"a\tb\n", 16_385), (b"b\tc\n# end", 1)],
+        Ok(&[(TWO_LINES, 1)]),
+    ),
+    (
+        &[(b"a\tb\n", 40_000), (b"b\tc\n# end", 1)],
+        Ok(&[(TWO_LINES, 1)]),
+    ),
+    (
+        &[(b"a\tb\n", 16_384), (b"\xef\xbb\xbfx\n", 1)],
+        Ok(&[(b"a\nb 0\n\xef\xbb\xbfx\n", 1)]),
+    ),
+    (
+        &[(b"a\tb\n", 16_384), (b"a\tb\tc\n", 1)],
+        Err(EdgeError::Fields { number: 16_385 }),
+    ),
+    (
+        &[(b"a\tb\n", 16_384), (b"a\tb\tc\n", 1), (b"a\tb\n", 16_384)],
+        Err(EdgeError::Fields { number: 16_385 }),
+    ),
+    (
+        &[(b"x", 299), (b"y\t", 1), (b"x", 299), (b"z", 1)],
+        Ok(&[(b"x", 299), (b"y\n", 1), (b"x", 299), (b"z 0\n", 1)]),
+    ),
+];
 
 #[test]
-fn a_refusal_stays(rt: HostRuntime) -> Result<(), AllocError> {
-    // Record 16,385 is refused at the 16,384th line that follows it.
-    let mut text = lines_and(rt.alloc(), 16_384, b"a\tb\tc\n")?;
-    let more = lines_and(rt.alloc(), 16_384, b"")?;
-    assert!(rt; given(&rt, &text).err() == Some(EdgeError::Fields { number: 16_385 }));
-    text.extend_from_slice(&more)?;
-    assert!(rt; stays_refused(&rt, &text, EdgeError::Fields { number: 16_385 }));
-    Ok(())
+fn long_edge_lists(rt: HostRuntime) {
+    for case in &LONG {
+        assert!(rt; is_told(&rt, case));
+    }
 }

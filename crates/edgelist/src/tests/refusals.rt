@@ -1,55 +1,32 @@
 //! Refused memory. A run of this test can refuse any one growth: then a call that is refused leaves all as it was, and
 //! is answered when it is made again.
 
+use super::counting::counts;
 use super::*;
 
-// Whether a graph is that of the two edges.
-fn has_two_edges(graph: &Graph) -> bool {
-    graph.vertices() == 3 && graph.edges() == 2 && graph.label(1) == b"b".as_slice()
+// Whether both of two calls read the two edges, or just one was refused for want of memory.
+fn are_answered(first: Told, second: Told) -> bool {
+    let read = Ok(hash(&[(TWO_LINES, 1)]));
+    let refused = Err(EdgeError::Memory);
+    (first == read && second == read)
+        || (first == read && second == refused)
+        || (first == refused && second == read)
 }
 
-// Whether the two edges are read.
-fn is_read(rt: &HostRuntime) -> Result<bool, EdgeError> {
-    match read(rt, TWO_EDGES, Delimiter::Tab, LIMITS) {
-        Ok(graph) => Ok(has_two_edges(&graph)),
-        Err(e) => Err(e),
-    }
-}
-
-// Whether both calls were answered, or just one was refused for want of memory.
-fn are_answered(first: Result<bool, EdgeError>, second: Result<bool, EdgeError>) -> bool {
-    matches!(
-        (first, second),
-        (Ok(true), Ok(true))
-            | (Err(EdgeError::Memory), Ok(true))
-            | (Ok(true), Err(EdgeError::Memory))
-    )
-}
-
-// How many vertices are counted of the first three, where all of them are there.
-fn counted(graph: &Graph) -> [bool; 3] {
-    if graph.vertices() != 3 {
-        return [false; 3];
-    }
-    [graph.counted(0), graph.counted(1), graph.counted(2)]
+// What is told of the two edges.
+fn told_there(rt: &HostRuntime) -> Told {
+    told(rt, at_once(TWO_EDGES), Delimiter::Tab, LIMITS)
 }
 
 // Whether a list of just the last vertex is answered: at once, or after a refusal that left all counted.
 fn is_counted(alloc: Global, graph: &mut Graph) -> bool {
     let first = graph.count_only(alloc, Delimiter::Tab, b"c");
     if first == Err(CountedError::Memory) {
-        return counted(graph) == [true; 3]
+        counts(graph, b"012")
             && graph.count_only(alloc, Delimiter::Tab, b"c") == Ok(())
-            && counted(graph) == [false, false, true];
-    }
-    first == Ok(()) && counted(graph) == [false, false, true]
-}
-
-// The same on the two edges.
-fn is_counted_there(rt: &HostRuntime) -> Option<bool> {
-    match read(rt, TWO_EDGES, Delimiter::Tab, LIMITS) {
-        Ok(mut graph) => Some(is_counted(rt.alloc(), &mut graph)),
-        Err(_) => None,
+            && counts(graph, b"2")
+    } else {
+        first == Ok(()) && counts(graph, b"2")
     }
 }
 
@@ -58,10 +35,13 @@ fn has_part(alloc: Global, graph: &Graph) -> bool {
     part_of(alloc, graph, 2, 1).is_some()
 }
 
-// Whether parts are made of the two edges: one of two calls at least.
-fn is_parted(rt: &HostRuntime) -> Option<bool> {
-    match read(rt, TWO_EDGES, Delimiter::Tab, LIMITS) {
-        Ok(graph) => Some(has_part(rt.alloc(), &graph) || has_part(rt.alloc(), &graph)),
+// Whether a list is answered on the two edges, and a part is made by one of two calls at least.
+fn is_answered_there(rt: &HostRuntime) -> Option<bool> {
+    let alloc = rt.alloc();
+    match tabs(rt, TWO_EDGES) {
+        Ok(mut graph) => Some(
+            is_counted(alloc, &mut graph) && (has_part(alloc, &graph) || has_part(alloc, &graph)),
+        ),
         Err(_) => None,
     }
 }
@@ -69,10 +49,6 @@ fn is_parted(rt: &HostRuntime) -> Option<bool> {
 // Where memory is refused before there is a graph, all is done again, and nothing is refused.
 #[test]
 fn calls_where_memory_is_refused(rt: HostRuntime) {
-    let answered = [
-        Some(are_answered(is_read(&rt), is_read(&rt))),
-        is_counted_there(&rt).or(is_counted_there(&rt)),
-        is_parted(&rt).or(is_parted(&rt)),
-    ];
-    assert_eq!(rt; answered, [Some(true); 3]);
+    assert!(rt; are_answered(told_there(&rt), told_there(&rt)));
+    assert!(rt; is_answered_there(&rt).or(is_answered_there(&rt)) == Some(true));
 }
