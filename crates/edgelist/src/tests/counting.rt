@@ -76,8 +76,12 @@ fn jobs(graph: &Graph) -> Result<[[u8; 32]; 2], PlanError> {
     Ok([raw.job(), corrected.job()])
 }
 
-// The same of an edge list with tabs and of a list.
-fn has_jobs(rt: &HostRuntime, text: &[u8], list: Option<&[u8]>, wanted: [[u8; 32]; 2]) -> bool {
+// An edge list with tabs, a list, and the job digests of its graph then.
+type Jobs<'a> = (&'a [u8], Option<&'a [u8]>, [[u8; 32]; 2]);
+
+// Whether a graph has these job digests once a list was read.
+fn has_jobs(rt: &HostRuntime, case: &Jobs<'_>) -> bool {
+    let (text, list, wanted) = *case;
     match tabs(rt, text) {
         Ok(mut graph) => count(rt.alloc(), &mut graph, list) && jobs(&graph) == Ok(wanted),
         Err(_) => false,
@@ -115,10 +119,16 @@ const FIRST_DIGESTS: [[u8; 32]; 2] = [
     ],
 ];
 
+// An edge that stands twice is one, and a list of all vertices is none.
+static JOBS: [Jobs<'static>; 3] = [
+    (b"a\tb\nb\tc\na\tb\n", None, TWO_EDGES_DIGESTS),
+    (TWO_EDGES, Some(b"a\nb\nc\na"), TWO_EDGES_DIGESTS),
+    (TWO_EDGES, Some(b"a"), FIRST_DIGESTS),
+];
+
 #[test]
 fn job_digests(rt: HostRuntime) {
-    // An edge that stands twice is one, and a list of all vertices is none.
-    assert!(rt; has_jobs(&rt, b"a\tb\nb\tc\na\tb\n", None, TWO_EDGES_DIGESTS));
-    assert!(rt; has_jobs(&rt, TWO_EDGES, Some(b"a\nb\nc\na"), TWO_EDGES_DIGESTS));
-    assert!(rt; has_jobs(&rt, TWO_EDGES, Some(b"a"), FIRST_DIGESTS));
+    for case in &JOBS {
+        assert!(rt; has_jobs(&rt, case));
+    }
 }

@@ -23,7 +23,7 @@ use Delimiter::{Comma, Space, Tab};
 
 // A comment, both ends of lines, a double and a self-loop; no end of the last line, and a comment in its place; one
 // vertex, and none; other delimiters; quotes, bytes that are no text, and one space.
-static LINES: [Case<'static>; 13] = [
+static CASES: [Case<'static>; 28] = [
     (TWO_EDGES, Tab, 9, 9, Ok(TWO_LINES)),
     (
         b"# c\r\na\tb\r\nb\tc\r\na\tb\r\nb\tb\r\n",
@@ -31,6 +31,13 @@ static LINES: [Case<'static>; 13] = [
         9,
         9,
         Ok(b"a\nb 0 1\nc 1\n"),
+    ),
+    (
+        b"a\tb\nb\tc\na\tb\nb\tb\nd\n",
+        Tab,
+        9,
+        9,
+        Ok(b"a\nb 0 1\nc 1\nd\n"),
     ),
     (b"a\tb\r\n# x\r\n\r\nb\tc", Tab, 9, 9, Ok(TWO_LINES)),
     (b"a\tb\nb\tc", Tab, 9, 9, Ok(TWO_LINES)),
@@ -49,11 +56,8 @@ static LINES: [Case<'static>; 13] = [
         9,
         Ok(b"\"x\nq\" 0\ny\"\"z\n\xff\xc0\n  3\n"),
     ),
-];
-
-// Limits; the number of records is tested before the fields, and the fields before the number of vertices. Neither
-// comments nor empty lines are numbered; doubles and single labels are. No field is empty.
-static REFUSED: [Case<'static>; 14] = [
+    // Limits; the number of records is tested before the fields, and the fields before the number of vertices.
+    // Neither comments nor empty lines are numbered; doubles and single labels are. No field is empty.
     (TWO_EDGES, Tab, 3, 2, Ok(TWO_LINES)),
     (TWO_EDGES, Tab, 2, 9, Err(EdgeError::TooManyVertices)),
     (b"a\tb\nc\td\n", Tab, 2, 9, Err(EdgeError::TooManyVertices)),
@@ -90,7 +94,7 @@ static REFUSED: [Case<'static>; 14] = [
 
 #[test]
 fn worked_edge_lists(rt: HostRuntime) {
-    for case in LINES.iter().chain(REFUSED.iter()) {
+    for case in &CASES {
         assert!(rt; is_told(&rt, case));
     }
 }
