@@ -6,7 +6,6 @@ mod fakes;
 mod nodes;
 mod progress;
 mod refusals;
-mod replays;
 mod runs;
 mod scripts;
 mod streams;
@@ -91,9 +90,11 @@ static OPEN: Flow = Flow {
     told: usize::MAX,
 };
 
-/// How words ended: the status, what was written, what was told, and the same beside what is told of refused memory.
+/// How words ended: whether they were served, and told just the lines of progress that are wanted; the status; what was
+/// written; what was told, and the same beside what is told of refused memory.
 #[derive(Clone, Copy)]
 struct End {
+    served: bool,
     status: u8,
     output: Compared,
     faults: Compared,
@@ -123,6 +124,7 @@ fn end_of<H: Host>(rt: &H, words: &[String], case: &Case, flow: &Flow, lines: &L
     let mut told = Told::new(case.4, flow.told, lines);
     let status = serve(rt, words, &mut reader, &mut writer, &mut told);
     End {
+        served: true,
         status,
         output,
         faults: told.text,
@@ -130,19 +132,32 @@ fn end_of<H: Host>(rt: &H, words: &[String], case: &Case, flow: &Flow, lines: &L
     }
 }
 
-/// The same of the words of a case, where progress is told to these lines. None: memory is refused before.
-fn served<H: Host>(rt: &H, case: &Case, flow: &Flow, lines: &Lines) -> Option<End> {
-    let words = words_of(rt.alloc(), case.0).ok()?;
-    Some(end_of(rt, &words, case, flow, lines))
+/// The end of words that nobody serves.
+fn no_end() -> End {
+    let nothing = Compared::of(b"", 0);
+    End {
+        served: false,
+        status: 0,
+        output: nothing,
+        faults: nothing,
+        refused: nothing,
+    }
 }
 
-/// How a case ends over such streams, where just these lines of progress are told.
-fn end_in<H: Host>(rt: &H, case: &Case, flow: &Flow, wanted: Pieces) -> Option<End> {
-    let lines = Lines::new(wanted);
-    match served(rt, case, flow, &lines) {
-        Some(end) if lines.are_told() => Some(end),
-        _ => None,
+/// The same of the words of a case. They are not served where memory is refused before.
+fn served<H: Host>(rt: &H, case: &Case, flow: &Flow, lines: &Lines) -> End {
+    match words_of(rt.alloc(), case.0) {
+        Ok(words) => end_of(rt, &words, case, flow, lines),
+        Err(_) => no_end(),
     }
+}
+
+/// How a case ends over such streams, where these lines of progress are wanted.
+fn end_in<H: Host>(rt: &H, case: &Case, flow: &Flow, wanted: Pieces) -> End {
+    let lines = Lines::new(wanted);
+    let mut end = served(rt, case, flow, &lines);
+    end.served &= lines.are_told();
+    end
 }
 
 /// Whether the status is that of the case, and just what it says was told.
@@ -152,7 +167,7 @@ fn is_told(case: &Case, end: &End) -> bool {
     } else {
         end.faults.is_whole()
     };
-    told && end.status == case.2
+    told && end.served && end.status == case.2
 }
 
 /// Whether a case ended as it says.
@@ -162,10 +177,7 @@ fn is_right(case: &Case, end: &End) -> bool {
 
 /// Whether a case ends as it says over such streams.
 fn ends_in<H: Host>(rt: &H, case: &Case, flow: &Flow) -> bool {
-    match end_in(rt, case, flow, &[]) {
-        Some(end) => is_right(case, &end),
-        None => false,
-    }
+    is_right(case, &end_in(rt, case, flow, &[]))
 }
 
 /// Whether a case ends as it says.

@@ -212,10 +212,8 @@ static CROSSING: [Case; 1] = [(
 
 /// Whether a report begins as the case says.
 fn begins<H: Host>(rt: &H, case: &Case) -> bool {
-    match end_in(rt, case, &OPEN, &[]) {
-        Some(end) => is_told(case, &end) && end.output.begins(),
-        None => false,
-    }
+    let end = end_in(rt, case, &OPEN, &[]);
+    is_told(case, &end) && end.output.begins()
 }
 
 #[test]

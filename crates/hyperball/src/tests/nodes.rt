@@ -13,9 +13,24 @@ const NODE_1: &str = "hyperball node --log2m 4 --parts 2 --part 1";
 
 const GATHER: &str = "hyperball gather --log2m 4";
 
-/// Each of two nodes is asked for its batch, is brought that of the other, and closes its superstep, up to the end. Vertex
-/// c changes at superstep 1 and 2, and has no row.
-static SENDING: [Case; 2] = [
+pub const GATHER_BOTH: &str = "hyperball gather --log2m 4 --parts 2";
+
+/// What a gathering of the two nodes reads.
+pub const BOTH_KEPT: Pieces = &[MARKED, b"part 291\n", FIRST_END, b"part 226\n", SECOND_END];
+
+/// The report of that.
+pub const GATHERED: Case = (GATHER_BOTH, BOTH_KEPT, 0, &[REPORT], b"");
+
+/// What stands before the digest of the job in the batch of superstep 0 from partition 0 to 1, behind its command.
+const FRONT: &[u8] = b"deliver 74\nHBBT\x01\x04\0\0\0\0\0\0\0\x01";
+
+/// What stands behind the digest: two vertices changed, of which one has a row, that of vertex 0, and its registers.
+const ROW: &[u8] = b"\0\0\0\x02\0\0\0\x01\0\0\0\0\0\0\0\0\0\0\0\0\0\0\0\0\0\0\x03\0";
+
+/// Nodes and gatherings that do what they are asked.
+static ANSWERS: [Case; 14] = [
+    // Each of two nodes is asked for its batch, is brought that of the other, and closes its superstep, up to the end. Vertex
+    // c changes at superstep 1 and 2, and has no row.
     (
         NODE_0,
         &[
@@ -74,33 +89,20 @@ static SENDING: [Case; 2] = [
         ],
         b"",
     ),
-];
-
-#[test]
-fn two_nodes_send_the_batches_of_the_table(rt: HostRuntime) {
-    all_end(&rt, &SENDING);
-}
-
-static TAKING: [Case; 1] = [(
-    NODE_1,
-    &[
-        MARKED,
-        b"close\ndeliver 74\n",
-        FIRST_TELLS_0,
-        b"close\nclose\n",
-    ],
-    0,
-    &[b"waiting 0\nnew\nclosed 1\nwaiting 0\n"],
-    b"",
-)];
-
-#[test]
-fn a_node_takes_the_batch_of_another(rt: HostRuntime) {
-    all_end(&rt, &TAKING);
-}
-
-/// A node gives its checkpoint at superstep 1. New ones go on from that, or take it over; a report is not made of it.
-static GOING_ON: [Case; 4] = [
+    // a node takes the batch of another
+    (
+        NODE_1,
+        &[
+            MARKED,
+            b"close\ndeliver 74\n",
+            FIRST_TELLS_0,
+            b"close\nclose\n",
+        ],
+        0,
+        &[b"waiting 0\nnew\nclosed 1\nwaiting 0\n"],
+        b"",
+    ),
+    // A node gives its checkpoint at superstep 1. New ones go on from that, or take it over; a report is not made of it.
     (
         NODE,
         &[MARKED, b"close\nkeep\n"],
@@ -129,27 +131,7 @@ static GOING_ON: [Case; 4] = [
         &[],
         b"hyperball: the checkpoints are not those of the end of a run\n",
     ),
-];
-
-#[test]
-fn a_new_node_goes_on_from_a_checkpoint(rt: HostRuntime) {
-    all_end(&rt, &GOING_ON);
-}
-
-/// What a gathering of the two nodes reads.
-pub const BOTH_KEPT: Pieces = &[MARKED, b"part 291\n", FIRST_END, b"part 226\n", SECOND_END];
-
-/// The report of that.
-pub const GATHERED: Case = (
-    "hyperball gather --log2m 4 --parts 2",
-    BOTH_KEPT,
-    0,
-    &[REPORT],
-    b"",
-);
-
-/// A node gives its checkpoint at the end. The report is made of that, with nothing behind it, and of no other job's.
-static GATHERING: [Case; 5] = [
+    // A node gives its checkpoint at the end. The report is made of that, with nothing behind it, and of no other job's.
     (
         NODE,
         &[MARKED, b"close\nclose\nclose\nclose\nkeep\n"],
@@ -182,15 +164,7 @@ static GATHERING: [Case; 5] = [
         b"hyperball: partition 0: the checkpoint is of another job\n",
     ),
     GATHERED,
-];
-
-#[test]
-fn the_report_is_gathered(rt: HostRuntime) {
-    all_end(&rt, &GATHERING);
-}
-
-/// Where a list stands behind the edge list, it alone is counted.
-static LISTED: [Case; 2] = [
+    // Where a list stands behind the edge list, it alone is counted.
     (
         "hyperball node --log2m 4 --counted",
         &[MARKED, b"a\n%%\nclose\nclose\nclose\nkeep\n"],
@@ -208,12 +182,13 @@ static LISTED: [Case; 2] = [
 ];
 
 #[test]
-fn a_node_counts_a_list(rt: HostRuntime) {
-    all_end(&rt, &LISTED);
+fn nodes_and_gatherings(rt: HostRuntime) {
+    all_end(&rt, &ANSWERS);
 }
 
-/// Inputs at which a node or a gathering gives up: what was answered before stands.
-static GIVEN_UP: [Case; 16] = [
+/// Inputs at which nodes and gatherings give up, and batches and checkpoints that they refuse.
+static REFUSALS: [Case; 21] = [
+    // Inputs at which a node or a gathering gives up: what was answered before stands.
     (
         NODE,
         &[b"a\tb\n"],
@@ -326,83 +301,70 @@ static GIVEN_UP: [Case; 16] = [
         &[],
         b"hyperball: partition 0: too few bytes\n",
     ),
-];
-
-#[test]
-fn a_node_gives_up_by_name(rt: HostRuntime) {
-    all_end(&rt, &GIVEN_UP);
-}
-
-/// What stands before the digest of the job in the batch of superstep 0 from partition 0 to 1, behind its command.
-const FRONT: &[u8] = b"deliver 74\nHBBT\x01\x04\0\0\0\0\0\0\0\x01";
-
-/// What stands behind the digest: two vertices changed, of which one has a row, that of vertex 0, and its registers.
-const ROW: &[u8] = b"\0\0\0\x02\0\0\0\x01\0\0\0\0\0\0\0\0\0\0\0\0\0\0\0\0\0\0\x03\0";
-
-/// A node is brought that batch with one byte changed after the other, and then as it is.
-static DAMAGED: [Case; 1] = [(
-    NODE_1,
-    &[
-        MARKED,
-        // magic
-        b"deliver 74\nhBBT\x01\x04\0\0\0\0\0\0\0\x01",
-        JOB,
-        ROW,
-        // version
-        b"deliver 74\nHBBT\x02\x04\0\0\0\0\0\0\0\x01",
-        JOB,
-        ROW,
-        // log2m
-        b"deliver 74\nHBBT\x01\x05\0\0\0\0\0\0\0\x01",
-        JOB,
-        ROW,
-        // target: 2
-        b"deliver 74\nHBBT\x01\x04\0\0\0\0\0\0\0\x02",
-        JOB,
-        ROW,
-        // target: 0
-        b"deliver 74\nHBBT\x01\x04\0\0\0\0\0\0\0\0",
-        JOB,
-        ROW,
-        // changed: 3 of 2
-        FRONT,
-        JOB,
-        b"\0\0\0\x03\0\0\0\x01\0\0\0\0\0\0\0\0\0\0\0\0\0\0\0\0\0\0\x03\0",
-        // rows: 2
-        FRONT,
-        JOB,
-        b"\0\0\0\x02\0\0\0\x02\0\0\0\0\0\0\0\0\0\0\0\0\0\0\0\0\0\0\x03\0",
-        // rows: none
-        FRONT,
-        JOB,
-        b"\0\0\0\x02\0\0\0\0\0\0\0\0\0\0\0\0\0\0\0\0\0\0\0\0\0\0\x03\0",
-        // the row's vertex: 1
-        FRONT,
-        JOB,
-        b"\0\0\0\x02\0\0\0\x01\0\0\0\x01\0\0\0\0\0\0\0\0\0\0\0\0\0\0\x03\0",
-        // its last register: 34
-        FRONT,
-        JOB,
-        b"\0\0\0\x02\0\0\0\x01\0\0\0\0\0\0\0\0\0\0\0\0\0\0\0\0\0\0\x03\x22",
-        // digest
-        FRONT,
-        OTHER_JOB,
-        ROW,
-        // superstep: 4
-        b"deliver 74\nHBBT\x01\x04\0\0\0\x04\0\0\0\x01",
-        JOB,
-        ROW,
-        // none
-        b"deliver 74\n",
-        FIRST_TELLS_0,
-        b"deliver 74\n",
-        FIRST_TELLS_0,
-        b"close\ndeliver 74\n",
-        FIRST_TELLS_0,
-    ],
-    0,
-    &[
-        b"refused magic
+    // A node is brought that batch with one byte changed after the other, and then as it is.
+    (
+        NODE_1,
+        &[
+            MARKED,
+            // magic
+            b"deliver 74\nhBBT\x01\x04\0\0\0\0\0\0\0\x01",
+            JOB,
+            ROW,
+            // version
+            b"deliver 74\nHBBT\x02\x04\0\0\0\0\0\0\0\x01",
+            JOB,
+            ROW,
+            // log2m
+            b"deliver 74\nHBBT\x01\x05\0\0\0\0\0\0\0\x01",
+            JOB,
+            ROW,
+            // target: 2
+            b"deliver 74\nHBBT\x01\x04\0\0\0\0\0\0\0\x02",
+            JOB,
+            ROW,
+            // target: 0
+            b"deliver 74\nHBBT\x01\x04\0\0\0\0\0\0\0\0",
+            JOB,
+            ROW,
+            // changed: 3 of 2
+            FRONT,
+            JOB,
+            b"\0\0\0\x03\0\0\0\x01\0\0\0\0\0\0\0\0\0\0\0\0\0\0\0\0\0\0\x03\0",
+            // rows: 2
+            FRONT,
+            JOB,
+            b"\0\0\0\x02\0\0\0\x02\0\0\0\0\0\0\0\0\0\0\0\0\0\0\0\0\0\0\x03\0",
+            // rows: none
+            FRONT,
+            JOB,
+            b"\0\0\0\x02\0\0\0\0\0\0\0\0\0\0\0\0\0\0\0\0\0\0\0\0\0\0\x03\0",
+            // the row's vertex: 1
+            FRONT,
+            JOB,
+            b"\0\0\0\x02\0\0\0\x01\0\0\0\x01\0\0\0\0\0\0\0\0\0\0\0\0\0\0\x03\0",
+            // its last register: 34
+            FRONT,
+            JOB,
+            b"\0\0\0\x02\0\0\0\x01\0\0\0\0\0\0\0\0\0\0\0\0\0\0\0\0\0\0\x03\x22",
+            // digest
+            FRONT,
+            OTHER_JOB,
+            ROW,
+            // superstep: 4
+            b"deliver 74\nHBBT\x01\x04\0\0\0\x04\0\0\0\x01",
+            JOB,
+            ROW,
+            // none
+            b"deliver 74\n",
+            FIRST_TELLS_0,
+            b"deliver 74\n",
+            FIRST_TELLS_0,
+            b"close\ndeliver 74\n",
+            FIRST_TELLS_0,
+        ],
+        0,
+        &[
+            b"refused magic
 refused version
 refused size
 refused name
@@ -419,17 +381,10 @@ known
 closed 1
 old
 ",
-    ],
-    b"",
-)];
-
-#[test]
-fn a_node_names_what_is_wrong_with_a_batch(rt: HostRuntime) {
-    all_end(&rt, &DAMAGED);
-}
-
-/// A batch is no checkpoint; and what another partition keeps is not this one's.
-static NO_CHECKPOINTS: [Case; 4] = [
+        ],
+        b"",
+    ),
+    // A batch is no checkpoint; and what another partition keeps is not this one's.
     (
         NODE,
         &[MARKED, b"restart 74\n", FIRST_TELLS_0, b"close\n"],
@@ -461,6 +416,6 @@ static NO_CHECKPOINTS: [Case; 4] = [
 ];
 
 #[test]
-fn a_node_names_what_is_wrong_with_a_checkpoint(rt: HostRuntime) {
-    all_end(&rt, &NO_CHECKPOINTS);
+fn what_a_node_refuses(rt: HostRuntime) {
+    all_end(&rt, &REFUSALS);
 }

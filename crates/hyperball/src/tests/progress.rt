@@ -7,10 +7,8 @@ type Telling = (Case, Pieces);
 
 /// Whether a case ends as it says, and just such lines are told.
 fn tells<H: Host>(rt: &H, telling: &Telling) -> bool {
-    match end_in(rt, &telling.0, &OPEN, telling.1) {
-        Some(end) => is_right(&telling.0, &end),
-        None => false,
-    }
+    let end = end_in(rt, &telling.0, &OPEN, telling.1);
+    is_right(&telling.0, &end)
 }
 
 /// Each of these cases ends as it says, and just such lines are told.
@@ -35,9 +33,21 @@ const RUN_LINES: Pieces = &[
 
 const LINE: &[u8] = b"hyperball: ";
 
-/// The graph, three supersteps and the report, however many workers there are, and nothing where it is not asked for. Of
-/// several workers a partition two lines may change places.
-static TOLD: [Telling; 6] = [
+/// Closes of the only partition.
+const LONE_1: &[u8] = b"hyperball: node 0.0 at superstep 1, 2 of its 3 vertices changed\n";
+
+const LONE_2: &[u8] = b"hyperball: node 0.0 at superstep 2, 1 of its 3 vertices changed\n";
+
+const LONE_3: &[u8] = b"hyperball: node 0.0 at superstep 3, 0 of its 3 vertices changed\n";
+
+const WRITTEN: &[u8] = b"hyperball: the answers are written\n";
+
+const ANSWERED: &[u8] = b"hyperball: the commands are answered\n";
+
+/// What commands tell.
+static TELLINGS: [Telling; 16] = [
+    // The graph, three supersteps and the report, however many workers there are, and nothing where it is not asked for. Of
+    // several workers a partition two lines may change places.
     ((RUN, &[EDGES], 0, &[REPORT], b""), &[]),
     (
         (
@@ -93,24 +103,7 @@ static TOLD: [Telling; 6] = [
             REPORTED,
         ],
     ),
-];
-
-#[test]
-fn a_run_tells_its_progress(rt: HostRuntime) {
-    all_tell(&rt, &TOLD);
-}
-
-/// Closes of the only partition.
-const LONE_1: &[u8] = b"hyperball: node 0.0 at superstep 1, 2 of its 3 vertices changed\n";
-
-const LONE_2: &[u8] = b"hyperball: node 0.0 at superstep 2, 1 of its 3 vertices changed\n";
-
-const LONE_3: &[u8] = b"hyperball: node 0.0 at superstep 3, 0 of its 3 vertices changed\n";
-
-const WRITTEN: &[u8] = b"hyperball: the answers are written\n";
-
-/// The graph, each close that went on, and the end: the partition is at its last superstep after three closes.
-static REPLAYED: [Telling; 4] = [
+    // The graph, each close that went on, and the end: the partition is at its last superstep after three closes.
     (
         (
             "hyperball replay --log2m 4",
@@ -172,17 +165,7 @@ refused no-node
             WRITTEN,
         ],
     ),
-];
-
-#[test]
-fn a_replay_tells_its_progress(rt: HostRuntime) {
-    all_tell(&rt, &REPLAYED);
-}
-
-const ANSWERED: &[u8] = b"hyperball: the commands are answered\n";
-
-/// A node tells the graph, each close that went on, and the end, where it comes to that.
-static NODES: [Telling; 4] = [
+    // A node tells the graph, each close that went on, and the end, where it comes to that.
     (
         (
             "hyperball node --log2m 4",
@@ -226,15 +209,7 @@ static NODES: [Telling; 4] = [
         ),
         &[READ, ANSWERED],
     ),
-];
-
-#[test]
-fn a_node_tells_its_progress(rt: HostRuntime) {
-    all_tell(&rt, &NODES);
-}
-
-/// A gathering tells the graph, each checkpoint, and the end, and nothing where it is not asked for.
-static GATHERINGS: [Telling; 2] = [
+    // A gathering tells the graph, each checkpoint, and the end, and nothing where it is not asked for.
     (nodes::GATHERED, &[]),
     (
         (
@@ -254,6 +229,6 @@ static GATHERINGS: [Telling; 2] = [
 ];
 
 #[test]
-fn a_gathering_tells_its_progress(rt: HostRuntime) {
-    all_tell(&rt, &GATHERINGS);
+fn commands_tell_their_progress(rt: HostRuntime) {
+    all_tell(&rt, &TELLINGS);
 }

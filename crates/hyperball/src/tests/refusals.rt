@@ -3,20 +3,17 @@
 
 use super::*;
 
-/// Whether memory was refused, and a beginning of the output was written: none of it by a run.
+/// Whether memory was refused: before words are served, or with a beginning of the output, none of it by a run.
 fn is_refused(case: &Case, end: &End) -> bool {
     let is_run = case.0.starts_with("hyperball run");
     let right = end.output.is_front() && (end.output.taken() == 0 || !is_run);
-    right && end.status == 1 && end.refused.is_whole()
+    !end.served || right && end.status == 1 && end.refused.is_whole()
 }
 
 /// Whether words are served, at once or when they are served again.
 fn is_served_again<H: Host>(rt: &H, case: &Case) -> bool {
-    match end_in(rt, case, &OPEN, &[]) {
-        Some(end) if is_right(case, &end) => true,
-        Some(end) => is_refused(case, &end) && ends(rt, case),
-        None => ends(rt, case),
-    }
+    let end = end_in(rt, case, &OPEN, &[]);
+    is_right(case, &end) || is_refused(case, &end) && ends(rt, case)
 }
 
 static REFUSABLE: [Case; 9] = [

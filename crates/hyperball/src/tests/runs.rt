@@ -1,7 +1,6 @@
 //! Reports of runs, and their faults.
 
 use super::*;
-use crate::whole::sections;
 
 const EMPTY_INPUT: &[u8] = b"superstep,0,0.000000
 superstep,1,0.000000
@@ -34,7 +33,67 @@ vertex,b,10.768000,0.000000,0.000000,1.000000,16
 vertex,c,10.768000,0.000000,0.000000,1.000000,16
 ";
 
-static REPORTS: [Case; 8] = [
+const NO_LIST: &[u8] = b"hyperball: no line %% before the list\n";
+
+const UNKNOWN: &[u8] = b"hyperball: record 1 of the list names no vertex\n";
+
+const RECORD: &[u8] = b"hyperball: record 2 has not one or two identifiers\n";
+
+const LOG2M: &[u8] = b"hyperball: log2m is not from 4 to 10\n";
+
+const LIMIT: &[u8] = b"hyperball: limit is not from 1 to 4096\n";
+
+const PARTS: &[u8] = b"hyperball: parts is not from 1 to 64\n";
+
+const OPTION: &[u8] = b"hyperball: an option does not fit the job\n";
+
+const LOST_0: &[u8] = b"hyperball: every replica of partition 0 was lost\n";
+
+const LOST_1: &[u8] = b"hyperball: every replica of partition 1 was lost\n";
+
+// The report is the same for every number of partitions, and where nodes are lost or start anew.
+static PARTITIONS: [&str; 26] = [
+    "hyperball run --log2m 4 --parts 1",
+    "hyperball run --log2m 4 --parts 2",
+    "hyperball run --log2m 4 --parts 3",
+    "hyperball run --log2m 4 --parts 4",
+    "hyperball run --log2m 4 --parts 5",
+    "hyperball run --log2m 4 --parts 9",
+    "hyperball run --log2m 4 --parts 2 --replicas 2 --lose 0.0@1",
+    "hyperball run --log2m 4 --parts 2 --replicas 2 --lose 0.0@9,0.0@1,0.1@1",
+    "hyperball run --log2m 4 --parts 2 --restart 0.0@2",
+    "hyperball run --log2m 4 --parts 2 --restart 0.0@2 --keep 0",
+    // each of the four nodes of two partitions is lost at each superstep
+    "hyperball run --log2m 4 --parts 2 --replicas 2 --lose 0.0@0",
+    "hyperball run --log2m 4 --parts 2 --replicas 2 --lose 0.0@1",
+    "hyperball run --log2m 4 --parts 2 --replicas 2 --lose 0.0@2",
+    "hyperball run --log2m 4 --parts 2 --replicas 2 --lose 0.0@3",
+    "hyperball run --log2m 4 --parts 2 --replicas 2 --lose 0.1@0",
+    "hyperball run --log2m 4 --parts 2 --replicas 2 --lose 0.1@1",
+    "hyperball run --log2m 4 --parts 2 --replicas 2 --lose 0.1@2",
+    "hyperball run --log2m 4 --parts 2 --replicas 2 --lose 0.1@3",
+    "hyperball run --log2m 4 --parts 2 --replicas 2 --lose 1.0@0",
+    "hyperball run --log2m 4 --parts 2 --replicas 2 --lose 1.0@1",
+    "hyperball run --log2m 4 --parts 2 --replicas 2 --lose 1.0@2",
+    "hyperball run --log2m 4 --parts 2 --replicas 2 --lose 1.0@3",
+    "hyperball run --log2m 4 --parts 2 --replicas 2 --lose 1.1@0",
+    "hyperball run --log2m 4 --parts 2 --replicas 2 --lose 1.1@1",
+    "hyperball run --log2m 4 --parts 2 --replicas 2 --lose 1.1@2",
+    "hyperball run --log2m 4 --parts 2 --replicas 2 --lose 1.1@3",
+];
+
+static EDGES_REPORT: Case = (RUN, &[EDGES], 0, &[REPORT], b"");
+
+static EMPTY_REPORT: Case = (RUN, &[], 0, &[EMPTY_INPUT], b"");
+
+#[test]
+fn partitions(rt: HostRuntime) {
+    all_end_alike(&rt, &PARTITIONS, &EDGES_REPORT);
+    all_end_alike(&rt, &PARTITIONS, &EMPTY_REPORT);
+}
+
+/// Runs that report.
+static REPORTED: [Case; 15] = [
     (RUN, &[EDGES], 0, &[REPORT], b""),
     (
         "hyperball run --log2m 4 --delimiter comma",
@@ -73,102 +132,8 @@ static REPORTS: [Case; 8] = [
         &[LIMIT_OF_ONE],
         b"",
     ),
-];
-
-#[test]
-fn reports(rt: HostRuntime) {
-    all_end(&rt, &REPORTS);
-}
-
-// The report is the same for every number of partitions, and where nodes are lost or start anew.
-static PARTITIONS: [&str; 10] = [
-    "hyperball run --log2m 4 --parts 1",
-    "hyperball run --log2m 4 --parts 2",
-    "hyperball run --log2m 4 --parts 3",
-    "hyperball run --log2m 4 --parts 4",
-    "hyperball run --log2m 4 --parts 5",
-    "hyperball run --log2m 4 --parts 9",
-    "hyperball run --log2m 4 --parts 2 --replicas 2 --lose 0.0@1",
-    "hyperball run --log2m 4 --parts 2 --replicas 2 --lose 0.0@9,0.0@1,0.1@1",
-    "hyperball run --log2m 4 --parts 2 --restart 0.0@2",
-    "hyperball run --log2m 4 --parts 2 --restart 0.0@2 --keep 0",
-];
-
-static EDGES_REPORT: Case = (RUN, &[EDGES], 0, &[REPORT], b"");
-
-static EMPTY_REPORT: Case = (RUN, &[], 0, &[EMPTY_INPUT], b"");
-
-#[test]
-fn partitions(rt: HostRuntime) {
-    all_end_alike(&rt, &PARTITIONS, &EDGES_REPORT);
-    all_end_alike(&rt, &PARTITIONS, &EMPTY_REPORT);
-}
-
-// Each of the four nodes of two partitions is lost at each superstep.
-static LOST: [&str; 16] = [
-    "hyperball run --log2m 4 --parts 2 --replicas 2 --lose 0.0@0",
-    "hyperball run --log2m 4 --parts 2 --replicas 2 --lose 0.0@1",
-    "hyperball run --log2m 4 --parts 2 --replicas 2 --lose 0.0@2",
-    "hyperball run --log2m 4 --parts 2 --replicas 2 --lose 0.0@3",
-    "hyperball run --log2m 4 --parts 2 --replicas 2 --lose 0.1@0",
-    "hyperball run --log2m 4 --parts 2 --replicas 2 --lose 0.1@1",
-    "hyperball run --log2m 4 --parts 2 --replicas 2 --lose 0.1@2",
-    "hyperball run --log2m 4 --parts 2 --replicas 2 --lose 0.1@3",
-    "hyperball run --log2m 4 --parts 2 --replicas 2 --lose 1.0@0",
-    "hyperball run --log2m 4 --parts 2 --replicas 2 --lose 1.0@1",
-    "hyperball run --log2m 4 --parts 2 --replicas 2 --lose 1.0@2",
-    "hyperball run --log2m 4 --parts 2 --replicas 2 --lose 1.0@3",
-    "hyperball run --log2m 4 --parts 2 --replicas 2 --lose 1.1@0",
-    "hyperball run --log2m 4 --parts 2 --replicas 2 --lose 1.1@1",
-    "hyperball run --log2m 4 --parts 2 --replicas 2 --lose 1.1@2",
-    "hyperball run --log2m 4 --parts 2 --replicas 2 --lose 1.1@3",
-];
-
-#[test]
-fn any_node_lost_at_any_superstep(rt: HostRuntime) {
-    all_end_alike(&rt, &LOST, &EDGES_REPORT);
-}
-
-// Both nodes of a partition are lost at a superstep.
-static BOTH_LOST: [[&str; 4]; 2] = [
-    [
-        "hyperball run --log2m 4 --parts 2 --replicas 2 --lose 0.0@0,0.1@0",
-        "hyperball run --log2m 4 --parts 2 --replicas 2 --lose 0.0@1,0.1@1",
-        "hyperball run --log2m 4 --parts 2 --replicas 2 --lose 0.0@2,0.1@2",
-        "hyperball run --log2m 4 --parts 2 --replicas 2 --lose 0.0@3,0.1@3",
-    ],
-    [
-        "hyperball run --log2m 4 --parts 2 --replicas 2 --lose 1.0@0,1.1@0",
-        "hyperball run --log2m 4 --parts 2 --replicas 2 --lose 1.0@1,1.1@1",
-        "hyperball run --log2m 4 --parts 2 --replicas 2 --lose 1.0@2,1.1@2",
-        "hyperball run --log2m 4 --parts 2 --replicas 2 --lose 1.0@3,1.1@3",
-    ],
-];
-
-static PARTITION_LOST: [Case; 2] = [
-    (
-        RUN,
-        &[EDGES],
-        1,
-        &[],
-        b"hyperball: every replica of partition 0 was lost\n",
-    ),
-    (
-        RUN,
-        &[EDGES],
-        1,
-        &[],
-        b"hyperball: every replica of partition 1 was lost\n",
-    ),
-];
-
-#[test]
-fn both_nodes_lost_at_any_superstep(rt: HostRuntime) {
-    all_end_alike(&rt, &BOTH_LOST[0], &PARTITION_LOST[0]);
-    all_end_alike(&rt, &BOTH_LOST[1], &PARTITION_LOST[1]);
-}
-
-static COUNTED_REPORTS: [Case; 6] = [
+    // with a list of counted vertices
+    (COUNTED, &[b"%%"], 0, &[EMPTY_INPUT], b""),
     (
         "hyperball run --log2m=4 --counted --parts 1",
         &[MARKED, b"a\n"],
@@ -197,80 +162,69 @@ static COUNTED_REPORTS: [Case; 6] = [
 ];
 
 #[test]
-fn counted_reports(rt: HostRuntime) {
-    all_end(&rt, &COUNTED_REPORTS);
+fn reports(rt: HostRuntime) {
+    all_end(&rt, &REPORTED);
 }
 
-const NO_LIST: &[u8] = b"hyperball: no line %% before the list\n";
-
-const UNKNOWN: &[u8] = b"hyperball: record 1 of the list names no vertex\n";
-
-static COUNTED_FAULTS: [Case; 13] = [
-    (COUNTED, &[MARKED, b"# c\nz\n"], 1, &[], UNKNOWN),
-    // a second line of %% is a record of the list
-    (COUNTED, &[b"a\tb\n%%\n%%\n"], 1, &[], UNKNOWN),
+/// Runs that fail.
+static FAILING: [Case; 47] = [
+    // both nodes of a partition are lost at a superstep
     (
-        COUNTED,
-        &[MARKED, b"a\tb\n"],
+        "hyperball run --parts 2 --replicas 2 --lose 0.0@0,0.1@0",
+        &[EDGES],
         1,
         &[],
-        b"hyperball: record 1 of the list is not one identifier\n",
-    ),
-    (COUNTED, &[EDGES], 1, &[], NO_LIST),
-    (COUNTED, &[], 1, &[], NO_LIST),
-    (COUNTED, &[b"a\tb\n%%%\n"], 1, &[], NO_LIST),
-    (COUNTED, &[b"a\tb\n %%\n"], 1, &[], NO_LIST),
-    (COUNTED, &[b"a\tb%%\n"], 1, &[], NO_LIST),
-    (COUNTED, &[b"%% \na\n"], 1, &[], NO_LIST),
-    (COUNTED, &[b"%%\r"], 1, &[], NO_LIST),
-    // no list comes before the faults of the options and of the edge list
-    (
-        "hyperball run --log2m 3 --counted",
-        &[b"a\tb\tc\n"],
-        1,
-        &[],
-        NO_LIST,
+        LOST_0,
     ),
     (
-        "hyperball run --log2m 3 --counted",
-        &[b"a\tb\n%%\n"],
+        "hyperball run --parts 2 --replicas 2 --lose 0.0@1,0.1@1",
+        &[EDGES],
         1,
         &[],
-        LOG2M,
+        LOST_0,
     ),
-    // a fault of the edge list is told as that
-    (COUNTED, &[b"a\tb\nb\tc\t7\n%%\na\n"], 1, &[], RECORD),
-];
-
-#[test]
-fn counted_faults(rt: HostRuntime) {
-    all_end(&rt, &COUNTED_FAULTS);
-}
-
-// Whether the first line of %% cuts the input into these two.
-fn is_cut_into(input: &[u8], edges: &[u8], list: &[u8]) -> bool {
-    match sections(input) {
-        Some((before, after)) => before == edges && after == list,
-        None => false,
-    }
-}
-
-#[test]
-fn sections_of_inputs(rt: HostRuntime) {
-    assert!(rt; is_cut_into(b"a\n%%\n%%\nb", b"a\n", b"%%\nb") && is_cut_into(b"%%", b"", b""));
-}
-
-const RECORD: &[u8] = b"hyperball: record 2 has not one or two identifiers\n";
-
-const LOG2M: &[u8] = b"hyperball: log2m is not from 4 to 10\n";
-
-const LIMIT: &[u8] = b"hyperball: limit is not from 1 to 4096\n";
-
-const PARTS: &[u8] = b"hyperball: parts is not from 1 to 64\n";
-
-const OPTION: &[u8] = b"hyperball: an option does not fit the job\n";
-
-static FAULTS: [Case; 25] = [
+    (
+        "hyperball run --parts 2 --replicas 2 --lose 0.0@2,0.1@2",
+        &[EDGES],
+        1,
+        &[],
+        LOST_0,
+    ),
+    (
+        "hyperball run --parts 2 --replicas 2 --lose 0.0@3,0.1@3",
+        &[EDGES],
+        1,
+        &[],
+        LOST_0,
+    ),
+    (
+        "hyperball run --parts 2 --replicas 2 --lose 1.0@0,1.1@0",
+        &[EDGES],
+        1,
+        &[],
+        LOST_1,
+    ),
+    (
+        "hyperball run --parts 2 --replicas 2 --lose 1.0@1,1.1@1",
+        &[EDGES],
+        1,
+        &[],
+        LOST_1,
+    ),
+    (
+        "hyperball run --parts 2 --replicas 2 --lose 1.0@2,1.1@2",
+        &[EDGES],
+        1,
+        &[],
+        LOST_1,
+    ),
+    (
+        "hyperball run --parts 2 --replicas 2 --lose 1.0@3,1.1@3",
+        &[EDGES],
+        1,
+        &[],
+        LOST_1,
+    ),
     (
         "hyperball run --parts 2 --replicas 2 --lose 0.0@0,0.1@0 --patience 1000",
         &[EDGES],
@@ -341,9 +295,45 @@ static FAULTS: [Case; 25] = [
         &[],
         LOG2M,
     ),
+    // with a list of counted vertices
+    (COUNTED, &[b"a\n%%\n%%\nb"], 1, &[], UNKNOWN),
+    (COUNTED, &[MARKED, b"# c\nz\n"], 1, &[], UNKNOWN),
+    // a second line of %% is a record of the list
+    (COUNTED, &[b"a\tb\n%%\n%%\n"], 1, &[], UNKNOWN),
+    (
+        COUNTED,
+        &[MARKED, b"a\tb\n"],
+        1,
+        &[],
+        b"hyperball: record 1 of the list is not one identifier\n",
+    ),
+    (COUNTED, &[EDGES], 1, &[], NO_LIST),
+    (COUNTED, &[], 1, &[], NO_LIST),
+    (COUNTED, &[b"a\tb\n%%%\n"], 1, &[], NO_LIST),
+    (COUNTED, &[b"a\tb\n %%\n"], 1, &[], NO_LIST),
+    (COUNTED, &[b"a\tb%%\n"], 1, &[], NO_LIST),
+    (COUNTED, &[b"%% \na\n"], 1, &[], NO_LIST),
+    (COUNTED, &[b"%%\r"], 1, &[], NO_LIST),
+    // no list comes before the faults of the options and of the edge list
+    (
+        "hyperball run --log2m 3 --counted",
+        &[b"a\tb\tc\n"],
+        1,
+        &[],
+        NO_LIST,
+    ),
+    (
+        "hyperball run --log2m 3 --counted",
+        &[b"a\tb\n%%\n"],
+        1,
+        &[],
+        LOG2M,
+    ),
+    // a fault of the edge list is told as that
+    (COUNTED, &[b"a\tb\nb\tc\t7\n%%\na\n"], 1, &[], RECORD),
 ];
 
 #[test]
 fn faults_of_a_run(rt: HostRuntime) {
-    all_end(&rt, &FAULTS);
+    all_end(&rt, &FAILING);
 }

@@ -269,9 +269,46 @@ row 0 11.390942 0.000000 0.000000 00000000000000000000000000000300
 finished
 ";
 
-// An early batch, a repeated batch, the window's edge, a restart from a checkpoint, recovery from copies, three
-// partitions, a restart with held names, and a lone replay.
-static SCRIPTS: [Case; 8] = [
+/// Scripts, and what is no replay.
+static REPLAYS: [Case; 13] = [
+    // An input without a script, a line that is no command, and replicas that do not fit: nothing is written.
+    (
+        TWO_PARTS,
+        &[b"a\tb\n"],
+        1,
+        &[],
+        b"hyperball: no line %% before the script\n",
+    ),
+    (
+        "hyperball replay --counted",
+        &[b"a\tb\n"],
+        1,
+        &[],
+        b"hyperball: no line %% before the list\n",
+    ),
+    (
+        "hyperball replay --counted",
+        &[b"a\tb\n%%\na\n"],
+        1,
+        &[],
+        b"hyperball: no line %% before the script\n",
+    ),
+    (
+        TWO_PARTS,
+        &[b"a\tb\n%%\nshow 0.0\nsend 0.0\n"],
+        1,
+        &[],
+        b"hyperball: line 2 of the script is no command\n",
+    ),
+    (
+        "hyperball replay --replicas 5",
+        &[b"a\tb\n%%\nshow 0.0\n"],
+        1,
+        &[],
+        b"hyperball: an option does not fit the job\n",
+    ),
+    // An early batch, a repeated batch, the window's edge, a restart from a checkpoint, recovery from copies, three
+    // partitions, a restart with held names, and a lone replay.
     (TWO_PARTS, &[MARKED, EARLY], 0, &[EARLY_ANSWERS], b""),
     (TWO_PARTS, &[MARKED, REPEATED], 0, &[REPEATED_ANSWERS], b""),
     (TWO_REPLICAS, &[WINDOW], 0, &[WINDOW_ANSWERS], b""),
@@ -296,5 +333,5 @@ static SCRIPTS: [Case; 8] = [
 
 #[test]
 fn scripts_are_answered(rt: HostRuntime) {
-    all_end(&rt, &SCRIPTS);
+    all_end(&rt, &REPLAYS);
 }

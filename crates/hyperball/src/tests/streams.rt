@@ -31,88 +31,67 @@ fn writing(room: usize) -> Flow {
     }
 }
 
-/// Whether what was told is that of the case, and what was written a beginning.
-fn is_cut(case: &Case, end: &End) -> bool {
-    is_told(case, end) && end.output.is_front()
-}
-
 const REPLAY: &str = "hyperball replay --log2m 4 --parts 2";
 
 const NODE: &str = "hyperball node --log2m 4";
 
-/// What is read a byte a call: the call after that which finds the end would fail.
-static READ: [Case; 5] = [
-    (RUN, &[EDGES], 0, &[REPORT], b""),
-    (COUNTED, &[EDGES, b"%%\na"], 0, &[ONE_COUNTED], b""),
-    (
-        REPLAY,
-        &[MARKED, b"send 1.0 0\n"],
-        0,
-        &[b"sent 0 0 1 0 1 1\n"],
-        b"",
-    ),
-    (NODE, &[MARKED, b"close\n"], 0, &[b"closed 1\n"], b""),
-    nodes::GATHERED,
-];
-
-/// Whether a case ends as it says where just the reads that it needs go well.
-fn is_read<H: Host>(rt: &H, case: &Case) -> bool {
-    ends_in(
-        rt,
-        case,
-        &reading((length_of(case.1) as u64).saturating_add(1)),
-    )
-}
-
-#[test]
-fn a_byte_a_read(rt: HostRuntime) {
-    for case in &READ {
-        assert!(rt; is_read(&rt, case), "{}", case.0);
-    }
-}
-
 const UNREAD: &[u8] = b"hyperball: the input cannot be read\n";
 
-/// What is told where a read fails, and what may be written before.
-static READS_THAT_FAIL: [Case; 5] = [
+/// What is read a byte a call: how that ends, and how it ends where a read fails, with what may be written before.
+static READ: [(Case, Case); 5] = [
     (
-        RUN,
-        &[EDGES],
-        1,
-        &[],
-        b"hyperball: the edge list cannot be read\n",
+        (RUN, &[EDGES], 0, &[REPORT], b""),
+        (
+            RUN,
+            &[EDGES],
+            1,
+            &[],
+            b"hyperball: the edge list cannot be read\n",
+        ),
     ),
-    (COUNTED, &[EDGES, b"%%\na"], 1, &[], UNREAD),
-    (REPLAY, &[MARKED, b"send 1.0 0\n"], 1, &[], UNREAD),
-    (NODE, &[MARKED, b"close\n"], 1, &[b"closed 1\n"], UNREAD),
     (
-        "hyperball gather --log2m 4 --parts 2",
-        nodes::BOTH_KEPT,
-        1,
-        &[],
-        UNREAD,
+        (COUNTED, &[EDGES, b"%%\na"], 0, &[ONE_COUNTED], b""),
+        (COUNTED, &[EDGES, b"%%\na"], 1, &[], UNREAD),
+    ),
+    (
+        (
+            REPLAY,
+            &[MARKED, b"send 1.0 0\n"],
+            0,
+            &[b"sent 0 0 1 0 1 1\n"],
+            b"",
+        ),
+        (REPLAY, &[MARKED, b"send 1.0 0\n"], 1, &[], UNREAD),
+    ),
+    (
+        (NODE, &[MARKED, b"close\n"], 0, &[b"closed 1\n"], b""),
+        (NODE, &[MARKED, b"close\n"], 1, &[b"closed 1\n"], UNREAD),
+    ),
+    (
+        nodes::GATHERED,
+        (nodes::GATHER_BOTH, nodes::BOTH_KEPT, 1, &[], UNREAD),
     ),
 ];
 
-/// Whether a case ends so where so many reads go well.
-fn is_cut_after<H: Host>(rt: &H, case: &Case, reads: u64) -> bool {
-    match end_in(rt, case, &reading(reads), &[]) {
-        Some(end) => is_cut(case, &end),
-        None => false,
-    }
+/// Whether what is read ends so where so many reads go well: all are needed, and the one that finds the end.
+fn ends_after<H: Host>(rt: &H, whole: &Case, cut: &Case, reads: u64) -> bool {
+    let is_read = reads > length_of(whole.1) as u64;
+    let case = if is_read { whole } else { cut };
+    let end = end_in(rt, case, &reading(reads), &[]);
+    is_told(case, &end) && end.output.is_front() && (!is_read || end.output.has_all())
 }
 
-/// The failure of each read is told as the case says.
-fn each_read_fails<H: Host>(rt: &H, case: &Case) {
-    for reads in 0..=length_of(case.1) as u64 {
-        assert!(rt; is_cut_after(rt, case, reads), "{reads} reads");
+/// Each read is needed, and its failure is told.
+fn each_read_counts<H: Host>(rt: &H, whole: &Case, cut: &Case) {
+    for reads in 0..(length_of(whole.1) as u64).saturating_add(2) {
+        assert!(rt; ends_after(rt, whole, cut, reads), "{reads} reads");
     }
 }
 
 #[test]
 fn a_read_that_fails(rt: HostRuntime) {
-    for case in &READS_THAT_FAIL {
-        each_read_fails(&rt, case);
+    for (whole, cut) in &READ {
+        each_read_counts(&rt, whole, cut);
     }
 }
 
@@ -143,58 +122,40 @@ row 1 11.115354 0.000000 0.000000 00000000000001000000000000000000
     words::VERSION,
 ];
 
-/// Whether a case ends as it says where there is just the room that it needs.
-fn is_written<H: Host>(rt: &H, case: &Case) -> bool {
-    ends_in(rt, case, &writing(length_of(case.3)))
+/// Whether so much room is filled, and it is told that the output cannot be written where that is too little.
+fn fills<H: Host>(rt: &H, case: &Case, room: usize) -> bool {
+    let (status, fault) = if room < length_of(case.3) {
+        (1, UNWRITTEN)
+    } else {
+        (case.2, case.4)
+    };
+    let wanted = (case.0, case.1, status, case.3, fault);
+    let end = end_in(rt, &wanted, &writing(room), &[]);
+    is_told(&wanted, &end) && end.output.is_front() && end.output.taken() == room
 }
 
-#[test]
-fn a_byte_a_write(rt: HostRuntime) {
-    for case in &WRITTEN {
-        assert!(rt; is_written(&rt, case), "{}", case.0);
-    }
-}
-
-/// Whether so much room is filled, and then it is told that the output cannot be written.
-fn is_cut_at<H: Host>(rt: &H, case: &Case, room: usize) -> bool {
-    let failing = (case.0, case.1, 1, case.3, UNWRITTEN);
-    match end_in(rt, &failing, &writing(room), &[]) {
-        Some(end) => is_cut(&failing, &end) && end.output.taken() == room,
-        None => false,
-    }
-}
-
-/// So it is with all room below that which a case needs.
-fn each_write_fails<H: Host>(rt: &H, case: &Case) {
-    for room in 0..length_of(case.3) {
-        assert!(rt; is_cut_at(rt, case, room), "room for {room} bytes");
+/// So it is with all room up to that which a case needs.
+fn each_byte_counts<H: Host>(rt: &H, case: &Case) {
+    for room in 0..length_of(case.3).saturating_add(1) {
+        assert!(rt; fills(rt, case, room), "room for {room} bytes");
     }
 }
 
 #[test]
 fn a_write_of_a_report_that_fails(rt: HostRuntime) {
-    each_write_fails(&rt, &WRITTEN[0]);
+    each_byte_counts(&rt, &WRITTEN[0]);
 }
 
 #[test]
 fn a_write_of_a_counted_report_that_fails(rt: HostRuntime) {
-    each_write_fails(&rt, &WRITTEN[1]);
+    each_byte_counts(&rt, &WRITTEN[1]);
 }
 
 #[test]
 fn a_write_of_answers_that_fails(rt: HostRuntime) {
-    each_write_fails(&rt, &WRITTEN[2]);
-    each_write_fails(&rt, &WRITTEN[3]);
-}
-
-#[test]
-fn a_write_of_a_gathered_report_that_fails(rt: HostRuntime) {
-    each_write_fails(&rt, &WRITTEN[4]);
-}
-
-#[test]
-fn a_write_of_the_version_that_fails(rt: HostRuntime) {
-    each_write_fails(&rt, &WRITTEN[5]);
+    for case in &WRITTEN[2..] {
+        each_byte_counts(&rt, case);
+    }
 }
 
 /// Faults that have room for three bytes: what is told then.

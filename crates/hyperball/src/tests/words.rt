@@ -203,10 +203,8 @@ static HELPED: [Case; 5] = [
 
 /// Whether words that ask for help get it, with all of this in it.
 fn explains<H: Host>(rt: &H, case: &Case) -> bool {
-    match end_in(rt, case, &OPEN, &[]) {
-        Some(end) => is_told(case, &end) && end.output.has_all(),
-        None => false,
-    }
+    let end = end_in(rt, case, &OPEN, &[]);
+    is_told(case, &end) && end.output.has_all()
 }
 
 #[test]
@@ -219,18 +217,12 @@ fn help_of_each_option(rt: HostRuntime) {
 /// Words that ask for the version.
 pub const VERSION: Case = ("hyperball --version", &[], 0, &[b"hyperball 0.1.0\n"], b"");
 
-static VERSIONS: [Case; 1] = [VERSION];
-
-#[test]
-fn version_is_told(rt: HostRuntime) {
-    all_end(&rt, &VERSIONS);
-}
-
 /// What is told of a text that is no list of orders.
 pub const ORDERS: &[u8] = b"hyperball: an order is P.K@S, with commas between orders\n";
 
-/// Words that are refused.
-static MISTAKES: [Case; 33] = [
+/// Words that ask for the version, or are refused.
+static MISTAKES: [Case; 34] = [
+    VERSION,
     (
         "hyperball",
         &[b"a\tb\n"],
