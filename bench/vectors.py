@@ -167,6 +167,8 @@ def path_with_early(supersteps):
     """Partition 1 of the path a, b, c, d, e in two partitions at superstep 0, which keeps a batch of each of these
     supersteps. Each tells of one changed vertex and has no row, as no true one does: `TWO_EARLY` of crate `checkpoint`
     is `b"".join(path_with_early([2, 3]))`."""
+    global COUNTED
+    before, COUNTED = COUNTED, range(5)
     edges = [(0, 1), (1, 2), (2, 3), (3, 4)]
     text = struct.pack(">4sBQHIIQ", b"HBJ1", LOG2M, SEED, PARTS, LIMIT, 5, len(edges))
     job = hashlib.sha256(text + b"".join(struct.pack(">II", *edge) for edge in edges)).digest()
@@ -181,6 +183,7 @@ def path_with_early(supersteps):
         head = struct.pack(">4sBBIHH", b"HBBT", 1, LOG2M, superstep, 0, 1)
         early = head + job + struct.pack(">II", 1, 0)
         groups.append(struct.pack(">Q", len(early)) + early)
+    COUNTED = before
     return [*groups, hashlib.sha256(b"".join(groups)).digest()]
 
 
