@@ -1,4 +1,4 @@
-use Rattle.std.proofs.Common.{◌≡◌, ◌∙◌, ◌+◌, ◌<◌, ◌∷◌, ◌++◌, [], ℕ, List, length, refl, sym, ap, subst, arith}
+use Rattle.std.proofs.Common.{◌≡◌, ◌∙◌, ◌+◌, ◌<◌, ◌∷◌, ◌++◌, [], ℕ, List, length, map, refl, sym, ap, subst, arith}
 use Rattle.std.specs.List.{sum_by}
 use Rattle.std.proofs.lemmas.List.{map-append}
 use Rattle.std.proofs.lemmas.List.Sums.{sum_by-append, sum_by-cons}
@@ -64,3 +64,14 @@ loop-x-preserved c =
 
 pub of-requires : goal.of-requires
 of-requires c = record { total = c.loop-x.invariant.total ∙ ap (λ (ls : List (List ℕ)). sum_by length ls) (sym c.finish.ensures); few = omega (arith, c.loop-x.invariant.room, c.vertices-x-end.ensures.few_edges) }
+
+pub nonzero_rem-x : goal.nonzero_rem-x
+nonzero_rem-x c = c.requires
+
+pub preds-requires : goal.preds-requires
+preds-requires c = omega (arith, c.loop-x-test.true, c.vertices-x-end.ensures.count)
+
+pub returns : goal.returns
+returns c =
+    let at : c.loop-x.x ≡ c.args.graph.now.graph.vertices = omega (arith, c.loop-x-test.false, c.loop-x.auto.x-end, c.vertices-x-end.ensures.count) in
+    c.of.ensures ∙ c.finish.ensures ∙ c.loop-x.invariant.lists ∙ ap (λ (n : ℕ). map (preds_of c.args.graph.now.graph) (vertices_of n c.args.parts c.args.p)) at
