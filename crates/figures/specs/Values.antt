@@ -1,7 +1,7 @@
 -- What a tally of the program says, as the definitions say it, and the figures that are made of it.
-use Rattle.std.specs.Prelude.{◌≡◌, ℕ, ◌+◌, ◌-◌, ◌^◌, ◌≤◌, Bool, true, min, List, [], map, take, drop, slice_index_or}
+use Rattle.std.specs.Prelude.{◌≡◌, ℕ, ◌+◌, ◌-◌, ◌*◌, ◌/◌, ◌%◌, ◌^◌, ◌≤◌, Bool, true, min, List, [], map, take, drop, slice_index_or}
 use Rattle.std.specs.List.{range_with_len, zip}
-use Rattle.ball_model.specs.Figures.{TallyValue, tally_of, closeness_of, lin_of, empty_of, estimate_of, draws_of, small_bound}
+use Rattle.ball_model.specs.Figures.{TallyValue, tally_of, closeness_of, lin_of, empty_of, estimate_of, inverse_sum, draws_of, small_bound}
 use Rattle.figures.specs.declared.tally.Tally.{Tally}
 use Rattle.figures.specs.declared.ends.Figures.{Figures}
 
@@ -16,6 +16,17 @@ IsTallyAt e t tally = value_of tally ≡ tally_of e t
 -- what small sets of each number of empty registers are estimated at, of m registers
 unfoldable pub small_table : ℕ → List ℕ
 small_table m = map (λ z. min (draws_of m z) (small_bound m)) (range_with_len 0 (m + 1))
+
+-- the weight of a counter, which its estimates are made of: the sum of 2^(33 - r) over its registers r, and 2^50 for each
+-- that is 0
+abbrev pub weight_of : List ℕ → ℕ
+weight_of row = inverse_sum row + 2 ^ 50 * empty_of row
+
+-- it may be the weight of a counter of 2^log2m registers
+pub record IsWeight (log2m weight : ℕ) : Type 0 where
+  pub least : 2 ^ log2m ≤ weight % 2 ^ 50
+  pub greatest : weight % 2 ^ 50 ≤ 2 ^ 43
+  pub empty : weight / 2 ^ 50 ≤ 2 ^ log2m
 
 -- the fields of an estimator: 16 to 1024 registers, and what small sets are estimated at where they are corrected
 pub record IsEstimator (log2m : ℕ) (corrected : Bool) (small : List ℕ) : Type 0 where

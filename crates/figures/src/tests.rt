@@ -3,6 +3,7 @@ ghost use Rattle.std.specs.List.{All};
 
 use super::*;
 use registers::Rows;
+use std::alloc::Global;
 use std::ops::Range;
 use std::test::Fail;
 use std::thread::Threads;
@@ -42,6 +43,36 @@ fn one_vertex_among_128_registers(rt: HostRuntime) {
     let mut row = [0u8; 128];
     row[113] = 4;
     assert_eq!(rt; estimate_in(7, &row), Some(92_230_136));
+}
+
+// Of a counter that becomes another one, where both are of 2^log2m ranks: its weight and its raw estimate, before and
+// after.
+fn carried(alloc: Global, log2m: u8, old: &[u8], new: &[u8]) -> Option<[u64; 4]> {
+    let is_size = (4..=10).contains(&log2m);
+    let are_ranks = old.iter().all(|r| *r <= 33) && new.iter().all(|r| *r <= 33);
+    if is_size && are_ranks && old.len() == 1 << log2m && new.len() == 1 << log2m {
+        let estimator = Estimator::raw(alloc, log2m);
+        let before = weight(log2m, old);
+        let after = moved_weight(log2m, before, old, new);
+        let first = estimator.estimate_of(before);
+        Some([before, first, after, estimator.estimate_of(after)])
+    } else {
+        None
+    }
+}
+
+// 128 * (2^33 + 2^50), and 127 * (2^33 + 2^50) + 2^29 once one of 128 registers is 4.
+#[test]
+fn a_weight_that_is_carried_forward(rt: HostRuntime) {
+    let mut row = [0u8; 128];
+    row[113] = 4;
+    let told = [
+        144_116_287_587_483_648,
+        91_554_623,
+        142_990_379_627_577_344,
+        92_230_136,
+    ];
+    assert_eq!(rt; carried(rt.alloc(), 7, &[0; 128], &row), Some(told));
 }
 
 // The estimates of 2^log2m registers that are all 0, and all 33, are these.
