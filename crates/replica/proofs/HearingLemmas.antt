@@ -9,6 +9,7 @@ use Rattle.std.proofs.lemmas.List.FromFn.{get_or-map-range_with_len}
 use Rattle.std.proofs.lemmas.Bool.{both_ways, false_from_ne_true}
 use Rattle.ball_model.specs.Batches.{BatchValue}
 use Rattle.ball_model.specs.Table.{Table}
+use Rattle.registers.specs.Relay.{DifferWhere}
 use Rattle.registers.specs.Laws.{max_each-repeats}
 use Rattle.replica.specs.Hearing.{Hearing, HearingValue, Hears, HearsAlso, IsQuiet, IsReady, hearing_of, KeepsAll, KeepsAllOrNone, SaysSame, accumulators_of, batch_by, batches_below, hearing_kept}
 use Rattle.replica.specs.Level.{differences}
@@ -80,6 +81,16 @@ marked_from rows a accumulated marks n kept same size is = elim (accumulators_ar
   | inr none ↦ let own : accumulated ≡ rows = same ∙ none in
       differing_marks rows accumulated marks n (rw own (λ i lt. max_each-repeats (get_or rows i []))) (ap (length {A = List ℕ}) own) size is
 ]
+
+-- rows differ from what is accumulated for them at most where they are touched
+pub differ_where : (rows accumulated : Table) (touched : List Bool) → rows.width ≡ accumulated.width → AreTouched rows.rows accumulated.rows touched →
+    DifferWhere touched rows accumulated
+differ_where rows accumulated touched width is = record {
+  width = width;
+  count = sym is.count;
+  marked = is.marks;
+  same = λ i lt unmarked. sym (same_registers (get_or accumulated.rows i []) (get_or rows.rows i []) (sym (is.differ i lt) ∙ unmarked));
+}
 
 -- ---- letting them go
 

@@ -10,6 +10,7 @@ pub mod HearLemmas
 pub mod HearingLemmas
 pub mod HeardLemmas
 pub mod IndexLemmas
+pub mod WeightLemmas
 pub mod SpreadLemmas
 pub mod TargetLemmas
 pub mod ReadLemmas

@@ -163,32 +163,55 @@ impl Hearing {
         }
     }
 
-    /// Begins the next superstep: what changed in the own partition is heard too, what is accumulated becomes the
-    /// rows, those are marked that this changes, and nothing is heard yet.
-    pub fn begin(&mut self, targets: &Targets, part: &Part, rows: &mut Relay, marks: &mut [bool])
-        requires width { rows.old.width ≡ self.old.accumulated.width }
-        requires count { length rows.old.rows ≡ length part.now.preds }
-        requires marks { length marks.old ≡ length part.now.preds }
+    /// What is accumulated, a row each: what the rows become.
+    pub fn ahead(&self) -> &Rows
+        ensures { result.now ≡ self.now.accumulated }
+    {
+        &self.accumulated
+    }
+
+    /// Which of the accumulators differ from their rows.
+    pub fn touched(&self) -> &[bool]
+        ensures { result.now ≡ self.now.touched }
+    {
+        &self.touched
+    }
+
+    /// What changed in the own partition is heard too: then the accumulators are the rows of the next superstep.
+    pub fn hear_own(&mut self, targets: &Targets, part: &Part, rows: &Rows, marks: &[bool])
+        requires width { rows.now.width ≡ self.old.accumulated.width }
+        requires count { length rows.now.rows ≡ length part.now.preds }
+        requires marks { length marks.now ≡ length part.now.preds }
         requires ready { IsReady part.now.plan.log2m targets.now self.old }
-        requires counters { AreCounters part.now.plan.log2m rows.old.rows }
-        requires rise { AllRise part.now.plan.log2m rows.old.rows self.old.accumulated.rows }
-        requires kept { KeepsAll rows.old.rows self.old }
-        ensures quiet { IsQuiet rows.new self.new }
-        ensures width { rows.new.width ≡ rows.old.width }
-        ensures marks { marks.new ≡
-            differences rows.old.rows rows.new.rows (length part.now.preds) }
-        ensures rise { AllRise part.now.plan.log2m rows.old.rows rows.new.rows }
-        ensures stands { OwnIsHeard targets.now part.now rows.old.rows marks.old
-            self.old.accumulated.rows rows.new.rows }
+        requires counters { AreCounters part.now.plan.log2m rows.now.rows }
+        requires rise { AllRise part.now.plan.log2m rows.now.rows self.old.accumulated.rows }
+        requires kept { KeepsAll rows.now.rows self.old }
+        ensures width { self.new.accumulated.width ≡ self.old.accumulated.width }
+        ensures kept { KeepsAll rows.now.rows self.new }
+        ensures rise { AllRise part.now.plan.log2m rows.now.rows self.new.accumulated.rows }
+        ensures stands { OwnIsHeard targets.now part.now rows.now.rows marks.now
+            self.old.accumulated.rows self.new.accumulated.rows }
     {
         spread_own(
             targets,
             part,
-            rows.get(),
+            rows,
             marks,
             &mut self.accumulated,
             &mut self.touched,
         );
+    }
+
+    /// Begins the next superstep: what is accumulated becomes the rows, those are marked that this changes, and nothing
+    /// is heard yet.
+    pub fn begin(&mut self, rows: &mut Relay, marks: &mut [bool])
+        requires width { rows.old.width ≡ self.old.accumulated.width }
+        requires marks { length marks.old ≡ length rows.old.rows }
+        requires kept { KeepsAll rows.old.rows self.old }
+        ensures quiet { IsQuiet rows.new self.new }
+        ensures rows { rows.new ≡ self.old.accumulated }
+        ensures marks { marks.new ≡ self.old.touched }
+    {
         rows.follow(&self.accumulated, &self.touched);
         marks.copy_from_slice(&self.touched);
         level::clear_marks(&mut self.touched);

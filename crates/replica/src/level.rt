@@ -6,11 +6,12 @@ ghost use Rattle.std.specs.Str.{bytes_eq};
 ghost use Rattle.ball_model.specs.Figures.{estimate_with};
 ghost use Rattle.ball_model.specs.Laws.{IsCounterRow};
 ghost use Rattle.ball_model.specs.PlanValue.{greatest_limit};
-ghost use Rattle.figures.specs.Values.{value_of};
-ghost use Rattle.replica.specs.Level.{differences, next_tally, next_tallies};
+ghost use Rattle.figures.specs.Values.{value_of, weight_of};
+ghost use Rattle.registers.specs.Relay.{DifferWhere};
+ghost use Rattle.replica.specs.Level.{differences, next_tally, next_tallies, weights_of};
 ghost use Rattle.replica.specs.Kept.{AreCounters, AreLasts, AllRise};
 
-use figures::{Estimator, Tally};
+use figures::{Estimator, Tally, moved_weight};
 use registers::Rows;
 
 /// Marks the rows that differ.
@@ -33,44 +34,64 @@ pub fn clear_marks(marks: &mut [bool])
     }
 }
 
-/// The figures at superstep `t` of all rows, whose marks say which of them changed; the answer is what the sum of the
-/// last estimates has gained. Figures of rows that did not change stay as they are.
+/// The figures at superstep `t` of the rows ahead, from which the rows before differ where they are marked; the answer
+/// is what the sum of the last estimates has gained. Weights are carried forward, and figures of rows that did not change
+/// stay as they are.
 #[inline(never)]
 pub fn step_tallies(
     estimator: &Estimator,
     t: u32,
     rows: &Rows,
+    ahead: &Rows,
     marks: &[bool],
+    weights: &mut [u64],
     tallies: &mut [Tally],
 ) -> u128
     requires from { 0 < t }
     requires to { t ≤ greatest_limit }
     requires rows { AreCounters estimator.now.log2m rows.now.rows }
-    requires marks { length marks.now ≡ length rows.now.rows }
-    requires count { length tallies.old ≡ length rows.now.rows }
-    requires lasts { AreLasts estimator.now rows.now.rows marks.now (map value_of tallies.old) }
-    ensures tallies { map value_of tallies.new ≡ next_tallies estimator.now t rows.now.rows
-        (map value_of tallies.old) (length rows.now.rows) }
+    requires ahead { AreCounters estimator.now.log2m ahead.now.rows }
+    requires differ { DifferWhere marks.now rows.now ahead.now }
+    requires weights { weights.old ≡ weights_of rows.now.rows }
+    requires count { length tallies.old ≡ length ahead.now.rows }
+    requires lasts { AreLasts estimator.now ahead.now.rows marks.now (map value_of tallies.old) }
+    ensures tallies { map value_of tallies.new ≡ next_tallies estimator.now t ahead.now.rows
+        (map value_of tallies.old) (length ahead.now.rows) }
+    ensures weights { weights.new ≡ weights_of ahead.now.rows }
     ensures gain { sum_by (λ tally. tally.last) tallies.new ≡
         sum_by (λ tally. tally.last) tallies.old + result }
 {
     let mut gain = 0;
-    for (i, tally) in tallies.iter_mut().enumerate() {
-        gain += step_tally(estimator, t, rows.row(i), marks[i], tally);
+    for i in 0..tallies.len() {
+        let (row, next) = (rows.row(i), ahead.row(i));
+        let (weight, tally) = (&mut weights[i], &mut tallies[i]);
+        gain += step_tally(estimator, t, row, next, marks[i], weight, tally);
     }
     gain
 }
 
-// The figures at superstep `t` of a row; the answer is what its estimate has gained. Where the row has not changed,
-// they stay as they are.
-fn step_tally(estimator: &Estimator, t: u32, row: &[u8], changed: bool, tally: &mut Tally) -> u128
+// The figures at superstep `t` of a row that has become the one ahead; the answer is what its estimate has gained. Where
+// the row has not changed, they stay as they are.
+fn step_tally(
+    estimator: &Estimator,
+    t: u32,
+    row: &[u8],
+    ahead: &[u8],
+    changed: bool,
+    weight: &mut u64,
+    tally: &mut Tally,
+) -> u128
     requires from { 0 < t }
     requires to { t ≤ greatest_limit }
     requires row { IsCounterRow estimator.now.log2m row.now }
-    requires grown { tally.old.last ≤ estimate_with estimator.now row.now }
-    requires same { changed ≡ false → tally.old.last ≡ estimate_with estimator.now row.now }
+    requires ahead { IsCounterRow estimator.now.log2m ahead.now }
+    requires weight { weight.old ≡ weight_of row.now }
+    requires grown { tally.old.last ≤ estimate_with estimator.now ahead.now }
+    requires same { changed ≡ false → tally.old.last ≡ estimate_with estimator.now ahead.now }
+    requires still { changed ≡ false → row.now ≡ ahead.now }
     ensures value { value_of tally.new ≡
-        next_tally t (value_of tally.old) (estimate_with estimator.now row.now) }
+        next_tally t (value_of tally.old) (estimate_with estimator.now ahead.now) }
+    ensures weight { weight.new ≡ weight_of ahead.now }
     ensures gain { tally.new.last ≡ tally.old.last + result }
     ensures small { result < 2 ^ 64 }
 {
@@ -78,7 +99,8 @@ fn step_tally(estimator: &Estimator, t: u32, row: &[u8], changed: bool, tally: &
         return 0;
     }
     let before = tally.last;
-    tally.step(t, estimator.estimate(row));
+    *weight = moved_weight(estimator.log2m(), *weight, row, ahead);
+    tally.step(t, estimator.estimate_of(*weight));
     u128::from(tally.last - before)
 }
 

@@ -52,6 +52,7 @@ mod spread;
 mod start;
 mod step;
 mod targets;
+mod weights;
 
 use early::Early;
 use edgelist::Part;
@@ -97,9 +98,9 @@ impl Model for Progress {
 
 /// What a replica has at a superstep, without the room that later supersteps take.
 ///
-/// Another replica of the partition, one that was lost, restarted or late, takes it over by
-/// [`Replica::merge`]. Batches are shared with the replica that it is of, the rest is a copy:
-/// what the replica does afterwards changes nothing here.
+/// Another replica of the partition, one that was lost, restarted or late, takes it over by [`Replica::merge`]. Rows,
+/// batches and the part are shared with the replica that it is of, the rest is a copy: what the replica does afterwards
+/// changes nothing here.
 #[derive(Drop)]
 pub struct Snapshot {
     known: Progress,
@@ -115,9 +116,9 @@ impl Model for Snapshot {
 
 /// One partition's state at a superstep, and the batches that it holds.
 ///
-/// Its memory is taken when it is made: two rows of 2^log2m bytes and a tally for each vertex, 4 bytes for each edge
-/// into the partition, a slot for each source and each of three supersteps, and a sum for each superstep up to the
-/// limit. Where the run is over, [`Replica::give_back`] gives back that of the edges, and one of the two rows if they
+/// Its memory is taken when it is made: two rows of 2^log2m bytes, a tally and the weight that its estimate is made of
+/// for each vertex, 4 bytes for each edge into the partition, a slot for each source and each of three supersteps, and a sum
+/// for each superstep up to the limit. Where the run is over, [`Replica::give_back`] gives back that of the edges, and one of the two rows if they
 /// are equal.
 #[derive(Drop)]
 pub struct Replica {
@@ -126,6 +127,8 @@ pub struct Replica {
     targets: Targets,
     // how estimates are made
     estimator: Estimator,
+    // the weight of each row, which its estimate is made of
+    weights: Vec<u64>,
 }
 
 impl Model for Replica {

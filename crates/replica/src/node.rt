@@ -11,7 +11,7 @@ ghost use Rattle.ball_model.specs.Counter.{ball_counter};
 ghost use Rattle.ball_model.specs.Change.{changed_at};
 ghost use Rattle.ball_model.specs.Laws.{IsCounterRow};
 ghost use Rattle.ball_model.specs.Supersteps.{tally_at};
-ghost use Rattle.ball_model.specs.PlanValue.{mixing_of, vertices_of};
+ghost use Rattle.ball_model.specs.PlanValue.{measure_of, mixing_of, vertices_of};
 ghost use Rattle.ball_model.specs.Job.{Job, IsJob, part_of};
 ghost use Rattle.ball_model.specs.Batches.{IsTrueBatch, changed_count, true_batch};
 ghost use Rattle.ball_model.specs.Content.{Content, is_new, verdict_of, close_of, after_close};
@@ -24,7 +24,8 @@ ghost use Rattle.replica.specs.Level.{EndsRun, found_verdict, missing_in};
 ghost use Rattle.replica.specs.Merged.{Absorbs, HoldsOfBoth, ShowsAs, merge_answer};
 ghost use Rattle.replica.specs.Sent.{batch_name, changed_registers, sent_batch};
 ghost use Rattle.replica.specs.Start.{Starts};
-ghost use Rattle.replica.specs.Seen.{IsState};
+ghost use Rattle.replica.specs.Progress.{CanGoOn};
+ghost use Rattle.replica.specs.Seen.{HasIndex, IsState};
 ghost use Rattle.replica.specs.Runs.{HasContent, Takes, Closes, Merges};
 
 use crate::early::Early;
@@ -34,7 +35,7 @@ use crate::{Progress, Replica, Snapshot, start, step};
 use ball_model::{BatchName, CloseError, MergeError, Plan, TakeError, Taken, Verdict};
 use batches::Batch;
 use edgelist::Part;
-use figures::Tally;
+use figures::{Estimator, Tally};
 use registers::{Rows, SourceMask};
 use std::alloc::{AllocError, Global};
 use std::sync::Arc;
@@ -54,6 +55,27 @@ impl Replica {
         Replica::started(alloc, part)
     }
 
+    /// A replica that has this, with the index of its part; estimates are made as its plan says.
+    pub(crate) fn of(
+        alloc: Global,
+        known: Progress,
+        targets: Targets,
+        estimator: Estimator,
+    ) -> Result<Replica, AllocError>
+        requires goes_on { CanGoOn known }
+        requires index { HasIndex known.state targets }
+        requires measure { estimator ≡ measure_of known.state.part.plan }
+        ensures { IfOk result (λ r. r ≡ known.state) }
+    {
+        let weights = known.weights(alloc)?;
+        Ok(Replica {
+            known,
+            targets,
+            estimator,
+            weights,
+        })
+    }
+
     // A replica of the part at superstep 0.
     fn started(alloc: Global, part: Arc<Part>) -> Result<Replica, AllocError>
         ensures { IfOk result (λ r. Starts (arc_value part) r) }
@@ -61,11 +83,7 @@ impl Replica {
         let targets = Targets::of(alloc, &part)?;
         let estimator = start::estimator_of(alloc, part.plan())?;
         let known = start::first(alloc, part, &estimator)?;
-        Ok(Replica {
-            known,
-            targets,
-            estimator,
-        })
+        Replica::of(alloc, known, targets, estimator)
     }
 
     /// Holds a batch from now on, or says why not. It takes no memory, and waits for nobody.
@@ -124,7 +142,8 @@ impl Replica {
         // a step of a run
         ensures step { (j : Job) (p : ℕ) → Closes j p result self.old self.new }
     {
-        self.known.found_close(&self.targets, &self.estimator)
+        self.known
+            .found_close(&self.targets, &self.estimator, &mut self.weights)
     }
 
     /// Gives back the memory that a run that is over needs no more: that of the index, and that of the accumulators if
@@ -204,13 +223,16 @@ impl Replica {
         ensures theirs { OnOk result (IsState other.now.state) }
     {
         self.targets.renew(alloc, &self.known.part)?;
-        self.known.absorb(alloc, &self.targets, other, shared)
+        self.known.absorb(alloc, &self.targets, other, shared)?;
+        self.known.weigh_again(&mut self.weights);
+        Ok(())
     }
 
     /// What the replica has now.
     ///
-    /// The batches and the part are shared, the rest is a copy: a row of 2^log2m registers and a tally for each vertex
-    /// (2 rows, where what is heard has raised one), and the sums so far. The error is that memory was refused.
+    /// Rows, batches and the part are shared; a tally and a mark for each vertex and the sums so far are copied, and where
+    /// what is heard has raised a row, the accumulators. Room for a table of rows is taken, in which the replica goes on
+    /// while somebody holds this one. The error is that memory was refused.
     pub fn snapshot(&mut self, alloc: Global) -> Result<Snapshot, AllocError>
         ensures same { IfOk result (λ s. s ≡ self.old) }
         ensures stands { IfOk result (λ s. (j : Job) (p t : ℕ) → StandsFor j p t self.old →

@@ -38,11 +38,7 @@ impl Replica {
         let targets = Targets::of(alloc, &part)?;
         let estimator = start::estimator_of(alloc, part.plan())?;
         let known = known(alloc, part, saved)?;
-        Ok(Replica {
-            known,
-            targets,
-            estimator,
-        })
+        Replica::of(alloc, known, targets, estimator)
     }
 }
 

@@ -8,20 +8,23 @@ ghost use Rattle.ball_model.specs.declared.names.Taken.TheVariants as taken;
 ghost use Rattle.ball_model.specs.Batches.{IsBatch};
 ghost use Rattle.ball_model.specs.Content.{same_plan};
 ghost use Rattle.ball_model.specs.PlanValue.{greatest_limit, measure_of, most_vertices};
+ghost use Rattle.ball_model.specs.Figures.{estimate_with};
 ghost use Rattle.figures.specs.Values.{value_of};
-ghost use Rattle.replica.specs.Kept.{AreCounters, AreLasts, AreSums};
-ghost use Rattle.replica.specs.Level.{found_close, is_over, next_tallies, total_of};
+ghost use Rattle.replica.specs.Hearing.{KeepsAll};
+ghost use Rattle.replica.specs.Kept.{AllRise, AreCounters, AreSums};
+ghost use Rattle.replica.specs.Level.{found_close, is_over, next_tallies, total_of, weights_of};
 ghost use Rattle.replica.specs.Change.{Advances, Receives, take_answer};
 ghost use Rattle.replica.specs.Index.{targets_of};
 ghost use Rattle.replica.specs.Progress.{CanGoOn};
 ghost use Rattle.replica.specs.Seen.{HasIndex, IsState};
 
+use crate::hearing::Hearing;
 use crate::targets::Targets;
 use crate::{Progress, Shown, level};
 use ball_model::{CloseError, Plan, TakeError, Taken, Verdict};
 use batches::Batch;
 use figures::{Estimator, Tally};
-use registers::Relay;
+use registers::Rows;
 use std::sync::Arc;
 
 impl Progress {
@@ -71,18 +74,21 @@ impl Progress {
         }
     }
 
-    /// Closes the superstep, as what the replica has says.
+    /// Closes the superstep, as what the replica has says. Weights are carried forward.
     pub(crate) fn found_close(
         &mut self,
         targets: &Targets,
         estimator: &Estimator,
+        weights: &mut [u64],
     ) -> Result<u32, CloseError>
         requires measure { estimator.now ≡ measure_of self.old.state.part.plan }
         requires index { HasIndex self.old.state targets.now }
+        requires weights { weights.old ≡ weights_of self.old.state.rows }
         requires goes_on { CanGoOn self.old }
         ensures exact { result ≡ found_close self.old.state }
         ensures refused { OnErr result (self.new.state ≡ self.old.state) }
         ensures advances { OnOk result (Advances self.old.state self.new.state) }
+        ensures weights { weights.new ≡ weights_of self.new.state.rows }
         ensures goes_on { CanGoOn self.new }
         ensures state { IsState self.old.state }
     {
@@ -91,7 +97,7 @@ impl Progress {
             Some(source) => Err(CloseError::Waiting { source }),
             None => match self.level_verdict() {
                 Verdict::GoOn => {
-                    self.advance(targets, estimator);
+                    self.advance(targets, estimator, weights);
                     Ok(next)
                 }
                 Verdict::Stable | Verdict::Limit => Err(CloseError::Finished),
@@ -124,59 +130,73 @@ impl Progress {
 
     // One superstep more: what changed in the own partition is heard too, what was accumulated becomes the rows, and
     // the batches of the new superstep are heard.
-    fn advance(&mut self, targets: &Targets, estimator: &Estimator)
+    fn advance(&mut self, targets: &Targets, estimator: &Estimator, weights: &mut [u64])
         requires measure { estimator.now ≡ measure_of self.old.state.part.plan }
         requires limit { self.old.state.superstep < self.old.state.part.plan.limit }
         requires going { is_over self.old.state ≡ false }
         requires index { targets.now ≡ targets_of self.old.state.part }
+        requires weights { weights.old ≡ weights_of self.old.state.rows }
         requires goes_on { CanGoOn self.old }
         ensures advances { Advances self.old.state self.new.state }
+        ensures weights { weights.new ≡ weights_of self.new.state.rows }
         ensures goes_on { CanGoOn self.new }
     {
         let plan = *self.part.plan();
         self.hearing
-            .begin(targets, &self.part, &mut self.rows, &mut self.marks);
+            .hear_own(targets, &self.part, self.rows.get(), &self.marks);
         next_figures(
             estimator,
             self.superstep,
-            &self.rows,
-            &self.marks,
+            self.rows.get(),
+            &self.hearing,
+            weights,
             &mut self.tallies,
             &mut self.sums,
         );
+        self.hearing.begin(&mut self.rows, &mut self.marks);
         self.superstep += 1;
         self.hearing.hear_early(targets, &plan, &self.early);
         self.early.shift(1);
     }
 }
 
-// The figures of the superstep that follows `t`, whose rows and marks are given, and the sum of its estimates.
+// The figures of the superstep that follows `t`, whose rows are the accumulators, and the sum of its estimates.
 fn next_figures(
     estimator: &Estimator,
     t: u32,
-    rows: &Relay,
-    marks: &[bool],
+    rows: &Rows,
+    hearing: &Hearing,
+    weights: &mut [u64],
     tallies: &mut [Tally],
     sums: &mut Vec<u128>,
 )
     requires to { t < greatest_limit }
     requires few { length rows.now.rows ≤ most_vertices }
     requires rows { AreCounters estimator.now.log2m rows.now.rows }
-    requires marks { length marks.now ≡ length rows.now.rows }
+    requires rise { AllRise estimator.now.log2m rows.now.rows hearing.now.accumulated.rows }
+    requires width { rows.now.width ≡ hearing.now.accumulated.width }
+    requires kept { KeepsAll rows.now.rows hearing.now }
+    requires weights { weights.old ≡ weights_of rows.now.rows }
     requires count { length tallies.old ≡ length rows.now.rows }
-    requires lasts { AreLasts estimator.now rows.now.rows marks.now (map value_of tallies.old) }
+    requires lasts { map (λ tally. tally.last) (map value_of tallies.old) ≡
+        map (estimate_with estimator.now) rows.now.rows }
     requires sums { AreSums t
         (sum_by (λ tally. tally.last) (map value_of tallies.old)) sums.old.items }
     requires room { t + 1 < vec_capacity sums.old }
-    ensures tallies { map value_of tallies.new ≡ next_tallies estimator.now (t + 1) rows.now.rows
-        (map value_of tallies.old) (length rows.now.rows) }
-    ensures sums { sums.new.items ≡ sums.old.items ++ total_of estimator.now rows.now.rows ∷ [] }
+    ensures tallies { map value_of tallies.new ≡
+        next_tallies estimator.now (t + 1) hearing.now.accumulated.rows
+        (map value_of tallies.old) (length hearing.now.accumulated.rows) }
+    ensures weights { weights.new ≡ weights_of hearing.now.accumulated.rows }
+    ensures sums { sums.new.items ≡
+        sums.old.items ++ total_of estimator.now hearing.now.accumulated.rows ∷ [] }
     ensures gains { sum_by (λ tally. tally.last) (map value_of tallies.old) ≤
-        total_of estimator.now rows.now.rows }
+        total_of estimator.now hearing.now.accumulated.rows }
     ensures capacity { vec_capacity sums.new ≡ vec_capacity sums.old }
 {
     let last = sums[t as usize];
-    let gain = level::step_tallies(estimator, t + 1, rows.get(), marks, tallies);
+    let ahead = hearing.ahead();
+    let marks = hearing.touched();
+    let gain = level::step_tallies(estimator, t + 1, rows, ahead, marks, weights, tallies);
     sums.push_reserved(last + gain);
 }
 
