@@ -8,7 +8,7 @@ use Rattle.std.proofs.lemmas.Grind.{flat_map-append, take-set_at}
 use Rattle.std.proofs.Math.ListN.{drop_of_length-le}
 use Rattle.std.proofs.lemmas.Bool.{cases_lt}
 use Rattle.std.proofs.lemmas.List.{length-map, take_all, take-append-drop, length-take, length-set, drop_more, get_or_append_left, get_or_past, get_or-set_other}
-use Rattle.std.proofs.lemmas.Nat.{be_bytes_2, be_bytes_8}
+use Rattle.std.proofs.lemmas.Nat.{be_bytes_8}
 use Rattle.ball_model.specs.Batches.{BatchValue, batch_bytes}
 use Rattle.ball_model.specs.Checkpoint.{early_bytes, entry_bytes, mark_byte, no_figures}
 use Rattle.ball_model.specs.Counter.{max_each}

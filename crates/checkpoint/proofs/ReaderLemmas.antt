@@ -1,7 +1,7 @@
 -- Bytes that are read part by part.
-use Rattle.std.proofs.Common.{◌≡◌, ℕ, zero, suc, ◌+◌, ◌-◌, ◌*◌, ◌<◌, ◌≤◌, List, [], ◌++◌, length, take, drop, Result, Ok, Err, refl, ap, sym, ◌∙◌, subst, arith, append_assoc, append-nil, inl, inr}
+use Rattle.std.proofs.Common.{◌≡◌, ℕ, zero, suc, ◌+◌, ◌-◌, ◌*◌, ◌<◌, ◌≤◌, List, [], ◌++◌, length, take, Result, Ok, Err, refl, ap, sym, ◌∙◌, subst, arith, append_assoc, append-nil, inl, inr}
 use Rattle.std.specs.Prelude.{◌==◌, ◌&&◌, ◌/◌, ◌%◌, ◌^◌, Bool, true, false, not, ⊤, Option, Some, None, OnOk, IfErr}
-use Rattle.std.specs.Int.{w16, w64, Width, byte_len, from_be_bytes}
+use Rattle.std.specs.Int.{w16, w64, from_be_bytes}
 use Rattle.std.specs.Io.KnownBytes.{Consumes, IsAtEnd}
 use Rattle.std.proofs.KnownBytes.{Consumes-nil, Consumes-trans}
 use Rattle.std.proofs.Math.Seq.{take-append_seam, drop-append_seam}
@@ -21,7 +21,6 @@ use Rattle.ball_model.specs.declared.streams.Filled.TheVariants as filled
 use Rattle.ball_model.specs.Job.{PartValue}
 use Rattle.ball_model.specs.Streams.{AfterAtMost, AreSure, EndsAfter, TakesAtMost, Rises}
 use Rattle.ball_model.proofs.StreamLemmas.{after_none}
-use Rattle.batches.specs.Kept.{field}
 use Rattle.checkpoint.specs.declared.header.Header.{Header}
 use Rattle.checkpoint.specs.declared.sizes.TheConstants.{DIGEST_LEN, HEADER_LEN}
 use Rattle.checkpoint.specs.declared.error.KeepError.{KeepError}

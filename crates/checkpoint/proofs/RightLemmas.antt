@@ -10,7 +10,7 @@ use Rattle.std.proofs.Math.Seq.{take-suc}
 use Rattle.std.proofs.lemmas.Grind.{take-set_at}
 use Rattle.std.proofs.lemmas.List.{drop_more, length-append, length-drop, length-map, take_all}
 use Rattle.std.proofs.lemmas.List.FromFn.{length-range_with_len, get_or-range_with_len}
-use Rattle.std.proofs.lemmas.Nat.{from_be_bytes-to_be_bytes_8}
+use Rattle.std.proofs.lemmas.Nat.{from_be_bytes-to_be_bytes_2, from_be_bytes-to_be_bytes_8}
 use Rattle.ball_model.specs.Batches.{BatchValue, IsBatch, batch_bytes}
 use Rattle.ball_model.specs.Counter.{max_each}
 use Rattle.ball_model.specs.Checkpoint.{early_bytes, entry_bytes, held_bytes, kept_batches, mark_byte, mask_of, no_figures, table_bytes, vertex_bytes, without_names}
@@ -47,6 +47,29 @@ pub right_16 : (m n : ℕ) (bytes here rest : List ℕ) → m < 2 ^ 128 → n < 
 right_16 m n bytes here rest few also read is =
     let both = halves (to_be_bytes w128 m) (to_be_bytes w128 n) here rest refl (sym read ∙ is) in
     (same_16 m n few also both.0, both.1)
+
+-- a number of two bytes, and what is behind it
+pub count_here : (n count : ℕ) (bytes number after more : List ℕ) → n < 2 ^ 16 → bytes ≡ number ++ after → length number ≡ 2 → count ≡ field w16 0 number → bytes ≡ to_be_bytes w16 n ++ more → (n ≡ count) × (after ≡ more)
+count_here n count bytes number after more few split len is whole =
+    let both = halves number (to_be_bytes w16 n) after more len (sym split ∙ whole) in
+    let same : count ≡ n = is ∙ ap (from_be_bytes w16) (take_all 2 number (omega (arith, len)) ∙ both.0) ∙ from_be_bytes-to_be_bytes_2 n (omega (arith, few)) in
+    (sym same, both.1)
+
+-- the first byte of a vertex is its mark
+pub entry_front : (bytes entry here : List ℕ) (mark : Bool) (tally : TallyValue) (rest : List ℕ) → bytes ≡ entry ++ here → length entry ≡ 33 → bytes ≡ entry_bytes mark tally rest → get_or entry 0 0 ≡ mark_byte mark
+entry_front bytes [] here mark tally rest split long is = absurd (omega (arith, long))
+entry_front bytes (x ∷ entry) here mark tally rest split long is = ap (λ (l : List ℕ). get_or l 0 0) (sym split ∙ is)
+
+-- and its figures, and the bytes after them
+pub entry_right : (bytes here : List ℕ) (first last harm dist : ℕ) (mark : Bool) (tally : TallyValue) (rest : List ℕ) → IsSmall tally → last < 2 ^ 64 → harm < 2 ^ 64 → dist < 2 ^ 128
+    → bytes ≡ first ∷ (to_be_bytes w64 last ++ (to_be_bytes w64 harm ++ (to_be_bytes w128 dist ++ here))) → bytes ≡ entry_bytes mark tally rest
+    → (last ≡ tally.last) × (harm ≡ tally.harm) × (dist ≡ tally.dist) × (here ≡ rest)
+entry_right bytes here first last harm dist mark tally rest small few_last few_harm few_dist read is =
+    let behind : List ℕ = to_be_bytes w128 tally.dist ++ rest in
+    let a = right_8 last tally.last _ (to_be_bytes w64 harm ++ (to_be_bytes w128 dist ++ here)) (to_be_bytes w64 tally.harm ++ behind) few_last small.last refl (ap (drop 1) (sym read ∙ is)) in
+    let b = right_8 harm tally.harm _ (to_be_bytes w128 dist ++ here) behind few_harm (omega (arith, small.last, small.figures.harm)) refl a.1 in
+    let d = right_16 dist tally.dist _ here rest few_dist (omega (arith, small.last, small.figures.dist)) refl b.1 in
+    (a.0, b.0, d.0, d.1)
 
 -- ---- one item after another
 -- what stands here are the items from the i-th on, and more behind them

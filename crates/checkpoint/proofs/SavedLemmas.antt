@@ -1,15 +1,16 @@
 -- What is read of a checkpoint's bytes is what was spelled.
-use Rattle.std.proofs.Common.{◌≡◌, ℕ, zero, suc, ◌+◌, ◌*◌, ◌/◌, ◌%◌, ◌^◌, ◌<◌, ◌≤◌, Bool, false, List, [], ◌∷◌, ◌++◌, map, length, get_or, set, replicate, refl, ap, ap₂, sym, ◌∙◌, subst, arith, append_assoc}
+use Rattle.std.proofs.Common.{◌≡◌, ℕ, zero, suc, ◌+◌, ◌*◌, ◌/◌, ◌%◌, ◌^◌, ◌<◌, ◌≤◌, Bool, false, List, [], ◌∷◌, ◌++◌, map, length, get_or, set, replicate, refl, ap, ap₂, sym, ◌∙◌, subst, arith, append_assoc, take, drop}
 use Rattle.std.specs.List.{flat_map, range_with_len}
 use Rattle.std.specs.Int.{w64, w128, to_be_bytes, from_be_bytes}
 use Rattle.std.proofs.Math.Nat.{zero-max}
 use Rattle.std.proofs.lemmas.Nat.{be_bytes_8, shr-shr}
-use Rattle.std.proofs.lemmas.List.{take_all, length-append, length-map, map-append, append-nil, get_or_append_left, get_or-set_other, get_or-set_same, get_or-replicate, length-set}
+use Rattle.std.proofs.lemmas.List.{take_all, take-append-drop, drop-drop, length-take, length-drop, length-replicate, length-append, length-map, map-append, append-nil, get_or_append_left, get_or-set_other, get_or-set_same, get_or-replicate, length-set}
 use Rattle.std.proofs.Math.Seq.{get_or-append_seam}
 use Rattle.std.proofs.lemmas.Grind.{flat_map-append}
 use Rattle.ball_model.specs.Counter.{max_each}
-use Rattle.ball_model.specs.Checkpoint.{mark_byte, entry_bytes, no_figures}
+use Rattle.ball_model.specs.Checkpoint.{entry_bytes, no_figures}
 use Rattle.ball_model.specs.Figures.{TallyValue}
+use Rattle.ball_model.specs.Table.{Table}
 use Rattle.ball_model.proofs.PartLemmas.{range_more}
 use Rattle.figures.specs.Values.{value_of}
 use Rattle.figures.specs.declared.tally.Tally.{Tally}
@@ -99,13 +100,45 @@ small_of : (bytes number rest : List ℕ) → bytes ≡ number ++ rest → ((i :
 small_of bytes number rest split small =
     small_front number rest (subst (λ (l : List ℕ). (i : ℕ) → get_or l i 0 < 256) split small)
 
-pub spelt_8 : (bytes number rest : List ℕ) (n : ℕ) → bytes ≡ number ++ rest → length number ≡ 8 → ((i : ℕ) → get_or bytes i 0 < 256) → n ≡ field w64 0 number → bytes ≡ to_be_bytes w64 n ++ rest
-spelt_8 bytes number rest n split long small is =
-    split ∙ ap (λ (l : List ℕ). l ++ rest) (sym (be_bytes_8 number n long (small_of bytes number rest split small) (is ∙ ap (from_be_bytes w64) (take_all 8 number (omega (arith, long))))))
-
 pub spelt_16 : (bytes number rest : List ℕ) (n : ℕ) → bytes ≡ number ++ rest → length number ≡ 16 → ((i : ℕ) → get_or bytes i 0 < 256) → n ≡ field w128 0 number → bytes ≡ to_be_bytes w128 n ++ rest
 spelt_16 bytes number rest n split long small is =
     split ∙ ap (λ (l : List ℕ). l ++ rest) (sym (be_bytes_16 number n long (small_of bytes number rest split small) (is ∙ ap (from_be_bytes w128) (take_all 16 number (omega (arith, long))))))
+
+-- the front of small numbers, and what is behind it
+small_within : (k : ℕ) (bytes : List ℕ) → ((i : ℕ) → get_or bytes i 0 < 256) → (i : ℕ) → get_or (take k bytes) i 0 < 256
+small_within zero bytes small i = omega arith
+small_within (suc k) [] small i = omega arith
+small_within (suc k) (x ∷ bytes) small zero = small 0
+small_within (suc k) (x ∷ bytes) small (suc i) = small_within k bytes (λ j. small (suc j)) i
+
+small_behind : (k : ℕ) (bytes : List ℕ) → ((i : ℕ) → get_or bytes i 0 < 256) → (i : ℕ) → get_or (drop k bytes) i 0 < 256
+small_behind zero bytes small = small
+small_behind (suc k) [] small = small
+small_behind (suc k) (x ∷ bytes) small = small_behind k bytes (λ i. small (suc i))
+
+-- three numbers that stand in 32 bytes
+figures_spelt : (bytes : List ℕ) (last harm dist : ℕ) → length bytes ≡ 32 → ((i : ℕ) → get_or bytes i 0 < 256) → last ≡ field w64 0 bytes → harm ≡ field w64 8 bytes → dist ≡ field w128 16 bytes → bytes ≡ to_be_bytes w64 last ++ (to_be_bytes w64 harm ++ to_be_bytes w128 dist)
+figures_spelt bytes last harm dist long small a b d =
+    let behind : drop 8 (drop 8 bytes) ≡ drop 16 bytes = drop-drop 8 8 bytes in
+    let first : to_be_bytes w64 last ≡ take 8 bytes = be_bytes_8 (take 8 bytes) last (omega (arith, long, length-take 8 bytes)) (small_within 8 bytes small) a in
+    let second : to_be_bytes w64 harm ≡ take 8 (drop 8 bytes) = be_bytes_8 (take 8 (drop 8 bytes)) harm (omega (arith, long, length-take 8 (drop 8 bytes), length-drop 8 bytes)) (small_within 8 (drop 8 bytes) (small_behind 8 bytes small)) b in
+    let sixteen : length (drop 16 bytes) ≡ 16 = omega (arith, long, length-drop 16 bytes) in
+    let third : to_be_bytes w128 dist ≡ drop 16 bytes = be_bytes_16 (drop 16 bytes) dist sixteen (small_behind 16 bytes small) (d ∙ ap (from_be_bytes w128) (take_all 16 (drop 16 bytes) (omega (arith, sixteen)))) in
+    sym (take-append-drop 8 bytes) ∙ ap₂ (λ (x y : List ℕ). x ++ y) (sym first) (sym (take-append-drop 8 (drop 8 bytes)) ∙ ap₂ (λ (x y : List ℕ). x ++ y) (sym second) (behind ∙ sym third))
+
+-- the fields of a vertex, which stand in 33 bytes
+pub entry_spelt : (bytes entry rest : List ℕ) (last harm dist : ℕ) → bytes ≡ entry ++ rest → length entry ≡ 33 → ((i : ℕ) → get_or bytes i 0 < 256) → last ≡ field w64 1 entry → harm ≡ field w64 9 entry → dist ≡ field w128 17 entry
+    → bytes ≡ get_or entry 0 0 ∷ (to_be_bytes w64 last ++ (to_be_bytes w64 harm ++ (to_be_bytes w128 dist ++ rest)))
+entry_spelt bytes [] rest last harm dist split long small a b d = absurd (omega (arith, long))
+entry_spelt bytes (x ∷ entry) rest last harm dist split long small a b d =
+    split ∙ ap (λ (l : List ℕ). x ∷ (l ++ rest)) (figures_spelt entry last harm dist (omega (arith, long)) (λ i. small_of bytes (x ∷ entry) rest split small (suc i)) a b d)
+
+-- ---- rows that are zeros
+pub zeros_count : (t : Table) (n w : ℕ) → t ≡ record { width = w; rows = replicate n (replicate w 0) } → length t.rows ≡ n
+zeros_count t n w is = ap (λ (u : Table). length u.rows) is ∙ length-replicate n (replicate w 0)
+
+pub zeros_are : (t : Table) (n w : ℕ) → t ≡ record { width = w; rows = replicate n (replicate w 0) } → t.rows ≡ replicate (length t.rows) (replicate t.width 0)
+zeros_are t n w is = ap (λ (u : Table). u.rows) is ∙ ap₂ (λ (k v : ℕ). replicate k (replicate v 0)) (sym (zeros_count t n w is)) (sym (ap (λ (u : Table). u.width) is))
 
 -- ---- a vertex
 entry_then : (mark : Bool) (tally : TallyValue) (row rest : List ℕ) → entry_bytes mark tally (row ++ rest) ≡ entry_bytes mark tally row ++ rest

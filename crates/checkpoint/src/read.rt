@@ -63,7 +63,6 @@ fn read_content<R: CountedRead>(
     ensures head { IfOk result (λ h. h ≡ head_at (take HEADER_LEN text.new.items)) }
     ensures length { OnOk result (HEADER_LEN ≤ length text.new.items) }
     ensures checked { IfOk result (λ h. check_head part.now h ≡ Ok tt) }
-    ensures in_time { IfOk result (λ h. h.superstep ≤ part.now.plan.limit) }
     ensures small { IfOk result (λ h. h.superstep ≤ 4096) }
     ensures front { (bytes : List ℕ) → R.remaining reader.old ≡ Some bytes →
         OnOkOrMemory result (HasHead part.now bytes) }
@@ -91,7 +90,6 @@ fn read_text<R: CountedRead>(
     ensures checked { IfOk result (λ h. check_head part.now h ≡ Ok tt) }
     ensures sealed { OnOk result ((bytes : List ℕ) → R.remaining reader.old ≡ Some bytes →
         bytes ≡ sealed text.new.items) }
-    ensures in_time { IfOk result (λ h. h.superstep ≤ part.now.plan.limit) }
     ensures small { IfOk result (λ h. h.superstep ≤ 4096) }
     ensures front { (bytes : List ℕ) → R.remaining reader.old ≡ Some bytes →
         OnOkOrMemory result (HasHead part.now bytes) }

@@ -9,7 +9,7 @@ ghost use Rattle.ball_model.specs.Figures.{TallyValue};
 ghost use Rattle.ball_model.specs.State.{State};
 ghost use Rattle.replica.specs.Saved.{IsKeepable, IsRebuilt};
 ghost use Rattle.replica.specs.Seen.{IsState};
-ghost use Rattle.std.specs.Int.{w16, w64, w128, to_be_bytes};
+ghost use Rattle.std.specs.Int.{w16, w128, to_be_bytes};
 ghost use Rattle.std.specs.Arc.{arc_value};
 ghost use Rattle.figures.specs.Values.{value_of};
 ghost use Rattle.batches.specs.Kept.{field};
@@ -20,7 +20,7 @@ ghost use Rattle.checkpoint.specs.Told.{IsAdded, AreNone, AreTold, HasRoom, IsSm
 
 use crate::error::KeepError;
 use crate::header::{Header, u16_at};
-use crate::sizes::{COUNT_LEN, HEADER_LEN, HEARD_LEN, LENGTH_LEN};
+use crate::sizes::{COUNT_LEN, ENTRY_LEN, HEADER_LEN, HEARD_LEN, LENGTH_LEN};
 use crate::stream::u64_at;
 use batches::{Batch, BatchError};
 use edgelist::Part;
@@ -70,17 +70,6 @@ fn u128_at(bytes: &[u8], at: usize) -> u128
     u128::from_be_bytes(number)
 }
 
-// The number of eight bytes, and the bytes after it.
-fn read_u64(bytes: &[u8]) -> Result<(u64, &[u8]), KeepError>
-    ensures spelled { IfOk result (λ r. bytes.now ≡ to_be_bytes w64 r.0 ++ r.1.now) }
-    ensures right { (n : ℕ) (rest : List ℕ) → n < 2 ^ 64 → bytes.now ≡ to_be_bytes w64 n ++ rest →
-        IfOkButMemory result (λ r. (r.0 ≡ n) × (r.1.now ≡ rest)) }
-    ensures kind { IfErr result (λ e. e ≡ KeepError.Shape) }
-{
-    let (number, rest) = cut(bytes, 8)?;
-    Ok((u64_at(number, 0), rest))
-}
-
 // The number of sixteen bytes, and the bytes after it.
 fn read_u128(bytes: &[u8]) -> Result<(u128, &[u8]), KeepError>
     ensures spelled { IfOk result (λ r. bytes.now ≡ to_be_bytes w128 r.0 ++ r.1.now) }
@@ -122,17 +111,6 @@ fn mark_of(byte: u8) -> Result<bool, KeepError>
     }
 }
 
-// The mark of the first byte, and the bytes after it.
-fn read_mark(bytes: &[u8]) -> Result<(bool, &[u8]), KeepError>
-    ensures spelled { IfOk result (λ r. bytes.now ≡ mark_byte r.0 ∷ r.1.now) }
-    ensures right { (mark : Bool) (rest : List ℕ) → bytes.now ≡ mark_byte mark ∷ rest →
-        IfOkButMemory result (λ r. (r.0 ≡ mark) × (r.1.now ≡ rest)) }
-    ensures kind { IfErr result (λ e. e ≡ KeepError.Shape) }
-{
-    let (first, rest) = cut(bytes, 1)?;
-    Ok((mark_of(first[0])?, rest))
-}
-
 // The mark and the figures of a vertex, and the bytes after them.
 fn figures_of(bytes: &[u8]) -> Result<((bool, Tally), &[u8]), KeepError>
     ensures spelled { IfOk result (λ r. bytes.now
@@ -142,10 +120,11 @@ fn figures_of(bytes: &[u8]) -> Result<((bool, Tally), &[u8]), KeepError>
         IfOkButMemory result (λ r. (r.0.0 ≡ mark) × (value_of r.0.1 ≡ tally) × (r.1.now ≡ rest)) }
     ensures kind { IfErr result (λ e. e ≡ KeepError.Shape) }
 {
-    let (mark, rest) = read_mark(bytes)?;
-    let (last, rest) = read_u64(rest)?;
-    let (harm, rest) = read_u64(rest)?;
-    let (dist, rest) = read_u128(rest)?;
+    let (entry, rest) = cut(bytes, ENTRY_LEN)?;
+    let mark = mark_of(entry[0])?;
+    let last = u64_at(entry, 1);
+    let harm = u64_at(entry, 9);
+    let dist = u128_at(entry, 17);
     match Tally::of(last, harm, dist) {
         Some(tally) => Ok(((mark, tally), rest)),
         None => Err(KeepError::Shape),
@@ -202,12 +181,11 @@ fn add_vertices<'a>(vertices: &mut Vertices, bytes: &'a [u8]) -> Result<&'a [u8]
 }
 
 // No vertices yet, with the room for all of the part.
-fn no_vertices(alloc: Global, part: &Part) -> Result<Vertices, KeepError>
+fn no_vertices(alloc: Global, part: &Part) -> Result<Vertices, AllocError>
     ensures none { IfOk result AreNone }
     ensures room { IfOk result HasRoom }
     ensures width { IfOk result (λ v. v.rows.width ≡ 2 ^ part.now.plan.log2m) }
     ensures count { IfOk result (λ v. length v.rows.rows ≡ length part.now.preds) }
-    ensures kind { IfErr result (λ e. e ≡ KeepError.Memory) }
 {
     let size = part.size();
     Ok(Vertices {
@@ -290,17 +268,17 @@ fn refusal(e: BatchError) -> KeepError
     }
 }
 
-// A batch of the job.
-fn decode(alloc: Global, part: &Part, bytes: &[u8]) -> Result<Batch, KeepError>
-    ensures spelled { IfOk result (λ b. bytes.now ≡ batch_bytes b) }
+// A batch of the job, which may be shared.
+fn decode(alloc: Global, part: &Part, bytes: &[u8]) -> Result<Arc<Batch>, KeepError>
+    ensures spelled { IfOk result (λ b. bytes.now ≡ batch_bytes (arc_value b)) }
     ensures right { (b : BatchValue) → IsOfPlan part.now.plan b → bytes.now ≡ batch_bytes b →
-        IfOkButMemory result (λ r. r ≡ b) }
+        IfOkButMemory result (λ r. arc_value r ≡ b) }
     ensures wanting { IfErr result (λ e. e ≡ KeepError.Memory →
         IsOk (batch_at part.now.plan bytes.now)) }
     ensures kind { IfErr result IsOfBody }
 {
     match Batch::decode(alloc, part.plan(), bytes) {
-        Ok(batch) => Ok(batch),
+        Ok(batch) => Ok(shared(alloc, batch)?),
         Err(e) => Err(refusal(e)),
     }
 }
@@ -320,8 +298,7 @@ fn read_batch<'a>(
 {
     let (length, after) = cut(bytes, LENGTH_LEN)?;
     let (spelling, rest) = cut(after, u64_at(length, 0) as usize)?;
-    let batch = decode(alloc, part, spelling)?;
-    Ok((shared(alloc, batch)?, rest))
+    Ok((decode(alloc, part, spelling)?, rest))
 }
 
 // Adds so many batches, and answers the bytes after them.

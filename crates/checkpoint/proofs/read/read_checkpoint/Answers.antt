@@ -5,7 +5,8 @@ use Rattle.ball_model.specs.Checkpoint.{checkpoint_bytes, without_names}
 use Rattle.ball_model.specs.Job.{PartValue}
 use Rattle.replica.specs.Saved.{IsRebuilt}
 use Rattle.checkpoint.specs.declared.error.KeepError.TheVariants as errors
-use Rattle.checkpoint.specs.Reading.{HasHead, Refuses, most_bytes}
+use Rattle.checkpoint.specs.Reading.{Ends, HasHead, Refuses, TakesWithin, allowed, most_bytes, sealed_form}
+use Rattle.checkpoint.proofs.ReaderLemmas.{whatever_it_is}
 use Rattle.checkpoint.proofs.LawLemmas.{text_is_one, versions_differ}
 use Rattle.checkpoint.proofs.RefusalLemmas.{body_refuses, first_wants, memory_not_shape, second_wants, unnamed_keepable}
 use Rattle.checkpoint.proofs.read.read_checkpoint.Goals as goal
@@ -57,3 +58,77 @@ returns-clause-first g c = λ v keepable part known.
 pub returns-clause-front : goal.returns-clause-front
 returns-clause-front g c = λ bytes known.
     subst (λ (p : PartValue). HasHead p bytes) c.deref.ensures (c.in_ok-saved.ensures.front bytes known)
+
+pub returns-in_err-saved-clause-within : goal.returns-in_err-saved-clause-within
+returns-in_err-saved-clause-within g c =
+    subst (λ (p : PartValue). TakesWithin (allowed p) (g.R.Read.remaining c.args.reader.now) (g.R.Read.remaining c.read_saved.new.reader)) c.deref.ensures c.in_err-saved.ensures.within
+
+pub returns-in_err-saved-clause-refused : goal.returns-in_err-saved-clause-refused
+returns-in_err-saved-clause-refused g c =
+    let e = err_from_is_err_and c.from_residual.result c.from_residual.ensures.1 in
+    rw (e.1, e.2) (subst (λ (p : PartValue). Refuses g.R.Read.remaining g.R.CountedRead.failed_calls g.R.CountedRead.sure_calls p (most_bytes p p.plan.limit + 1) c.args.reader.now c.read_saved.new.reader c.in_err-saved.field-0.0)
+    c.deref.ensures c.in_err-saved.ensures.refused)
+
+pub returns-in_err-rebuild-clause-within : goal.returns-in_err-rebuild-clause-within
+returns-in_err-rebuild-clause-within g c =
+    subst (λ (p : PartValue). TakesWithin (allowed p) (g.R.Read.remaining c.args.reader.now) (g.R.Read.remaining c.read_saved.new.reader)) c.deref.ensures c.in_ok-saved.ensures.within
+
+pub returns-in_err-rebuild-clause-front : goal.returns-in_err-rebuild-clause-front
+returns-in_err-rebuild-clause-front g c = λ bytes known.
+    whatever_it_is _ (subst (λ (p : PartValue). HasHead p bytes) c.deref.ensures (c.in_ok-saved.ensures.front bytes known))
+
+pub returns-clause-whole : goal.returns-clause-whole
+returns-clause-whole g c =
+    subst (λ (p : PartValue). Ends g.R.Read.remaining g.R.CountedRead.failed_calls (sealed_form p) (most_bytes p p.plan.limit + 1) c.args.reader.now c.read_saved.new.reader) c.deref.ensures c.in_ok-saved.ensures.done
+
+pub returns-clause-within : goal.returns-clause-within
+returns-clause-within g c =
+    subst (λ (p : PartValue). TakesWithin (allowed p) (g.R.Read.remaining c.args.reader.now) (g.R.Read.remaining c.read_saved.new.reader)) c.deref.ensures c.in_ok-saved.ensures.within
+
+pub returns-in_err-saved-clause-only : goal.returns-in_err-saved-clause-only
+returns-in_err-saved-clause-only g c = λ sure.
+    let e = err_from_is_err_and c.from_residual.result c.from_residual.ensures.1 in
+    let refused = subst (λ (p : PartValue). Refuses g.R.Read.remaining g.R.CountedRead.failed_calls g.R.CountedRead.sure_calls p (most_bytes p p.plan.limit + 1) c.args.reader.now c.read_saved.new.reader c.in_err-saved.field-0.0) c.deref.ensures c.in_err-saved.ensures.refused in
+    rw (e.1, e.2) (refused.unsure sure)
+
+pub returns-in_err-saved-clause-few : goal.returns-in_err-saved-clause-few
+returns-in_err-saved-clause-few g c =
+    let refused = subst (λ (p : PartValue). Refuses g.R.Read.remaining g.R.CountedRead.failed_calls g.R.CountedRead.sure_calls p (most_bytes p p.plan.limit + 1) c.args.reader.now c.read_saved.new.reader c.in_err-saved.field-0.0) c.deref.ensures c.in_err-saved.ensures.refused in
+    refused.few
+
+pub returns-in_err-rebuild-clause-only : goal.returns-in_err-rebuild-clause-only
+returns-in_err-rebuild-clause-only g c = λ sure.
+    let e = err_from_is_err_and c.from_residual-in_err-rebuild.result c.from_residual-in_err-rebuild.ensures.1 in
+    rw (e.1, e.2) (λ no. no)
+
+pub returns-in_err-rebuild-clause-few : goal.returns-in_err-rebuild-clause-few
+returns-in_err-rebuild-clause-few g c =
+    let ends = subst (λ (p : PartValue). Ends g.R.Read.remaining g.R.CountedRead.failed_calls (sealed_form p) (most_bytes p p.plan.limit + 1) c.args.reader.now c.read_saved.new.reader) c.deref.ensures c.in_ok-saved.ensures.done in
+    ends.few
+
+pub returns-in_err-rebuild-clause-back : goal.returns-in_err-rebuild-clause-back
+returns-in_err-rebuild-clause-back g c = λ v keepable part known.
+    let e = err_from_is_err_and c.from_residual-in_err-rebuild.result c.from_residual-in_err-rebuild.ensures.1 in
+    rw (e.1, e.2) (inl refl)
+
+pub returns-in_err-rebuild-clause-first : goal.returns-in_err-rebuild-clause-first
+returns-in_err-rebuild-clause-first g c = λ v keepable part known.
+    let e = err_from_is_err_and c.from_residual-in_err-rebuild.result c.from_residual-in_err-rebuild.ensures.1 in
+    rw (e.1, e.2) (inl refl)
+
+pub returns-clause-part : goal.returns-clause-part
+returns-clause-part g c = c.in_ok-rebuild.ensures.fields.part_is
+
+pub returns-clause-keepable : goal.returns-clause-keepable
+returns-clause-keepable g c = c.in_ok-rebuild.ensures.keepable
+
+pub returns-clause-counted : goal.returns-clause-counted
+returns-clause-counted g c = c.in_ok-saved.ensures.done.counted
+
+pub returns-clause-only : goal.returns-clause-only
+returns-clause-only g c = λ sure. tt
+
+pub returns-clause-few : goal.returns-clause-few
+returns-clause-few g c =
+    let ends = subst (λ (p : PartValue). Ends g.R.Read.remaining g.R.CountedRead.failed_calls (sealed_form p) (most_bytes p p.plan.limit + 1) c.args.reader.now c.read_saved.new.reader) c.deref.ensures c.in_ok-saved.ensures.done in
+    ends.few

@@ -1,8 +1,9 @@
 use Rattle.std.proofs.Common.{◌≡◌, ◌≤◌, ◌+◌, ◌++◌, ℕ, List, length, ◌∙◌, ap, refl, sym, subst, arith}
+use Rattle.std.proofs.lemmas.List.{length-append}
 use Rattle.std.proofs.lemmas.Result.{err_from_is_err_and}
 use Rattle.checkpoint.specs.declared.sizes.TheConstants.{HEADER_LEN}
 use Rattle.checkpoint.specs.Reading.{allowed_content, content_form, head_at, told_body, most_body}
-use Rattle.checkpoint.proofs.ReaderLemmas.{fails_second, fails_as, grows_then, grows_as, told-body, after-most, content-few, front_kept, within-content, within-head}
+use Rattle.checkpoint.proofs.ReaderLemmas.{fails_second, fails_as, grows_then, grows_as, told-body, after-most, content-few, front_kept, whatever_it_is, within-content, within-head}
 use Rattle.checkpoint.proofs.read.read_content.Goals as goal
 
 pub returns-in_err-header-clause-fails : goal.returns-in_err-header-clause-fails
@@ -60,3 +61,25 @@ returns-clause-few g c =
     let is : head_at p.piece ≡ h = sym (c.in_ok-header.ensures.head ∙ ap head_at grown) in
     let whole = q.grown ∙ ap (λ (l : List ℕ). l ++ q.piece) grown in
     subst (λ (l : List ℕ). length l ≤ allowed_content part l) (sym whole) (content-few part h p.piece q.piece (sym (ap length grown) ∙ c.in_ok-header.ensures.length) is q.few)
+
+pub returns-in_err-header-clause-front : goal.returns-in_err-header-clause-front
+returns-in_err-header-clause-front g c = λ bytes known.
+    let r = err_from_is_err_and c.from_residual.result c.from_residual.ensures.1 in
+    rw (r.1, r.2) (c.in_err-header.ensures.front bytes known)
+
+pub returns-in_err-read_body-clause-front : goal.returns-in_err-read_body-clause-front
+returns-in_err-read_body-clause-front g c = λ bytes known. whatever_it_is _ (c.in_ok-header.ensures.front bytes known)
+
+pub returns-clause-front : goal.returns-clause-front
+returns-clause-front g c = λ bytes known. c.in_ok-header.ensures.front bytes known
+
+pub returns-clause-length : goal.returns-clause-length
+returns-clause-length g c =
+    let q = c.in_ok-read_body.ensures.done in
+    omega (arith, ap (λ (l : List ℕ). length l) q.grown, length-append c.read_head.new.text.items q.piece, c.in_ok-header.ensures.length)
+
+pub returns-clause-checked : goal.returns-clause-checked
+returns-clause-checked g c = c.in_ok-header.ensures.checked
+
+pub returns-clause-small : goal.returns-clause-small
+returns-clause-small g c = c.in_ok-header.ensures.small

@@ -1,4 +1,4 @@
-use Rattle.std.proofs.Common.{◌≡◌, Ok, ◌∙◌, ap, refl, sym, arith}
+use Rattle.std.proofs.Common.{◌≡◌, ◌++◌, ℕ, List, Ok, ◌∙◌, ap, refl, sym, arith}
 use Rattle.std.proofs.lemmas.Result.{err_from_is_err_and}
 use Rattle.checkpoint.specs.declared.error.KeepError.TheVariants as errors
 use Rattle.checkpoint.specs.Reading.{check_head, head_at, told_body}
@@ -43,3 +43,20 @@ pub returns-in_err-extend_from_slice-clause-front : goal.returns-in_err-extend_f
 returns-in_err-extend_from_slice-clause-front g c = λ bytes known.
     let part = c.args.part.now in
     whatever_it_is _ (has_head part c.in_ok-read_full.ensures.done (omega arith) (sym (c.check_header.ensures.value ∙ ap (check_head part) c.read_header-header.ensures) ∙ c.in_ok-check_header.was) bytes known)
+
+pub returns-in_err-check_header-clause-front : goal.returns-in_err-check_header-clause-front
+returns-in_err-check_header-clause-front g c = λ bytes known.
+    let p = err_from_is_err_and c.from_residual-in_err-check_header.result c.from_residual-in_err-check_header.ensures.1 in
+    rw (p.1, p.2) (λ is. absurd (c.in_err-check_header.ensures.memory is))
+
+pub returns-clause-head : goal.returns-clause-head
+returns-clause-head g c = c.read_header-header.ensures ∙ ap head_at (sym (c.in_ok-extend_from_slice.ensures.items ∙ ap (λ (l : List ℕ). l ++ c.read_full.new.buffer) c.requires))
+
+pub returns-clause-checked : goal.returns-clause-checked
+returns-clause-checked g c = sym c.check_header.ensures.value ∙ c.in_ok-check_header.was
+
+pub returns-clause-in_time : goal.returns-clause-in_time
+returns-clause-in_time g c = c.in_ok-check_header.ensures.in_time
+
+pub returns-clause-small : goal.returns-clause-small
+returns-clause-small g c = c.in_ok-check_header.ensures.small

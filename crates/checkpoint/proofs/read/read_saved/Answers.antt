@@ -14,6 +14,7 @@ use Rattle.checkpoint.specs.declared.error.KeepError.TheVariants as errors
 use Rattle.checkpoint.proofs.RefusalLemmas.{body_refuses, fails_refuse, first_told, memory_not_shape, second_told, unnamed_keepable}
 use Rattle.checkpoint.proofs.RightLemmas.{never}
 use Rattle.checkpoint.proofs.SpelledLemmas.{content_is, first_content_is, first_sealed_is, sealed_is}
+use Rattle.checkpoint.proofs.ReaderLemmas.{whatever_it_is}
 use Rattle.checkpoint.proofs.read.read_saved.Goals as goal
 
 pub returns-in_err-header-clause-refused : goal.returns-in_err-header-clause-refused
@@ -87,3 +88,35 @@ returns-clause-spelled g c = λ v r is bytes known.
       | inl one ↦ inr (first_sealed_is v bytes text whole (first_content_is c.args.part.now c.in_ok-saved.saved v text r is (front 1 one) (c.in_ok-saved.ensures.first_spelled (ap (λ (h : Header). h.version) head ∙ one))))
       | inr two ↦ inl (sealed_is v bytes text whole (content_is c.args.part.now c.in_ok-saved.saved v text r is (front 2 two) (c.in_ok-saved.ensures.spelled (ap (λ (h : Header). h.version) head ∙ two))))
     ]
+
+pub returns-in_err-header-clause-within : goal.returns-in_err-header-clause-within
+returns-in_err-header-clause-within g c = c.in_err-header.ensures.within
+
+pub returns-in_err-header-clause-front : goal.returns-in_err-header-clause-front
+returns-in_err-header-clause-front g c = λ bytes known.
+    let r = err_from_is_err_and c.from_residual.result c.from_residual.ensures.1 in
+    rw (r.1, r.2) (c.in_err-header.ensures.front bytes known)
+
+pub returns-in_err-saved-clause-within : goal.returns-in_err-saved-clause-within
+returns-in_err-saved-clause-within g c = c.in_ok-header.ensures.within
+
+pub returns-in_err-saved-clause-front : goal.returns-in_err-saved-clause-front
+returns-in_err-saved-clause-front g c = λ bytes known. whatever_it_is _ (c.in_ok-header.ensures.front bytes known)
+
+pub returns-then-not-fits-clause-within : goal.returns-then-not-fits-clause-within
+returns-then-not-fits-clause-within g c = c.in_ok-header.ensures.within
+
+pub returns-then-not-fits-clause-front : goal.returns-then-not-fits-clause-front
+returns-then-not-fits-clause-front g c = λ bytes known _. c.in_ok-header.ensures.front bytes known
+
+pub returns-clause-fits : goal.returns-clause-fits
+returns-clause-fits g c = c.fits.ensures.0 c.if-not-fits.false
+
+pub returns-clause-done : goal.returns-clause-done
+returns-clause-done g c = c.in_ok-header.ensures.done
+
+pub returns-clause-within : goal.returns-clause-within
+returns-clause-within g c = c.in_ok-header.ensures.within
+
+pub returns-clause-front : goal.returns-clause-front
+returns-clause-front g c = λ bytes known. c.in_ok-header.ensures.front bytes known

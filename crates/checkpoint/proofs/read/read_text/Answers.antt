@@ -8,7 +8,7 @@ use Rattle.sha2.specs.Sha256.{sha256}
 use Rattle.sha2.proofs.Facts256.{length-sha256}
 use Rattle.checkpoint.specs.declared.error.KeepError.{KeepError}
 use Rattle.checkpoint.specs.Reading.{seal_form, most_bytes}
-use Rattle.checkpoint.proofs.ReaderLemmas.{fails_first, fails_second, fails_as, passes-seal, whole_fine, whole_read, whole_sealed, within-more, within-seal}
+use Rattle.checkpoint.proofs.ReaderLemmas.{fails_first, fails_second, fails_as, passes-seal, whatever_it_is, whole_fine, whole_read, whole_sealed, within-more, within-seal}
 use Rattle.checkpoint.proofs.read.read_text.Goals as goal
 
 pub returns-in_err-header-clause-fails : goal.returns-in_err-header-clause-fails
@@ -69,3 +69,26 @@ returns-clause-within g c =
     within-seal c.args.part.now _ _ _ c.read_content.new.text.items c.in_ok-header.ensures.length c.in_ok-header.ensures.few
     (subst (λ (l : List ℕ). Consumes (g.R.Read.remaining c.args.reader.now) (g.R.Read.remaining c.read_content.new.reader) l) (sym is) p.takes.consumed)
     (record { bytes = sha256 text; consumed = c.in_ok-read_seal.ensures.done; few = omega (arith, length-sha256 text) })
+
+pub returns-in_err-header-clause-front : goal.returns-in_err-header-clause-front
+returns-in_err-header-clause-front g c = λ bytes known.
+    let r = err_from_is_err_and c.from_residual.result c.from_residual.ensures.1 in
+    rw (r.1, r.2) (c.in_err-header.ensures.front bytes known)
+
+pub returns-in_err-read_seal-clause-front : goal.returns-in_err-read_seal-clause-front
+returns-in_err-read_seal-clause-front g c = λ bytes known. whatever_it_is _ (c.in_ok-header.ensures.front bytes known)
+
+pub returns-clause-front : goal.returns-clause-front
+returns-clause-front g c = λ bytes known. c.in_ok-header.ensures.front bytes known
+
+pub returns-clause-head : goal.returns-clause-head
+returns-clause-head g c = c.in_ok-header.ensures.head
+
+pub returns-clause-length : goal.returns-clause-length
+returns-clause-length g c = c.in_ok-header.ensures.length
+
+pub returns-clause-checked : goal.returns-clause-checked
+returns-clause-checked g c = c.in_ok-header.ensures.checked
+
+pub returns-clause-small : goal.returns-clause-small
+returns-clause-small g c = c.in_ok-header.ensures.small

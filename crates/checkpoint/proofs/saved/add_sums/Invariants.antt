@@ -1,4 +1,4 @@
-use Rattle.std.proofs.Common.{◌≡◌, ◌++◌, ◌+◌, ◌^◌, ◌<◌, ◌≤◌, ℕ, List, length, get_or, take}
+use Rattle.std.proofs.Common.{◌≡◌, ◌++◌, ◌^◌, ◌<◌, ◌≤◌, ℕ, List, length, get_or, take}
 use Rattle.std.specs.List.{flat_map}
 use Rattle.std.specs.Vec.{vec_capacity}
 use Rattle.std.specs.Int.{w128, to_be_bytes}

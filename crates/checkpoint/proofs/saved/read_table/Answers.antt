@@ -1,4 +1,4 @@
-use Rattle.std.proofs.Common.{◌≡◌, ◌++◌, ◌∙◌, ◌^◌, ◌+◌, ℕ, length, map, ap, sym}
+use Rattle.std.proofs.Common.{◌≡◌, ◌++◌, ◌∙◌, ◌^◌, ◌+◌, ℕ, length, map, refl, ap, sym}
 use Rattle.std.specs.List.{flat_map}
 use Rattle.std.specs.Int.{w128, to_be_bytes}
 use Rattle.std.proofs.lemmas.Result.{err_from_is_err_and}
@@ -17,7 +17,7 @@ returns-clause-spelled c =
 pub returns-in_err-vertices-clause-right : goal.returns-in_err-vertices-clause-right
 returns-in_err-vertices-clause-right c = λ v rest k part step is.
     let p = err_from_is_err_and c.from_residual.result c.from_residual.ensures.1 in
-    rw (p.1, p.2) c.in_err-vertices.ensures.kind
+    rw (p.1, p.2) refl
 
 pub returns-in_err-after-clause-right : goal.returns-in_err-after-clause-right
 returns-in_err-after-clause-right c = λ v rest k part step is.

@@ -5,7 +5,7 @@ use Rattle.replica.proofs.RebuiltLemmas.{kept_are}
 use Rattle.std.specs.List.{flat_map}
 use Rattle.ball_model.specs.Checkpoint.{early_bytes, kept_batches}
 use Rattle.checkpoint.proofs.WriteLemmas.{on_err}
-use Rattle.checkpoint.proofs.SpoolLemmas.{passes_as, passes_next, stops_next}
+use Rattle.checkpoint.proofs.SpoolLemmas.{passes_as, passes_none, passes_next, stops_next}
 use Rattle.checkpoint.proofs.TextLemmas.{early_more, early_split}
 use Rattle.checkpoint.proofs.write.keep_early.Goals as goal
 
@@ -25,3 +25,6 @@ returns-clause-done g c =
     let v = c.args.replica.now in
     let all : length (kept_batches v.early) ≤ c.loop-i.i = omega (arith, c.early_count-i-end.ensures.value, ap (λ (l : List BatchValue). length l) (kept_are v.early)) in
     passes_as g.W.Write.contents g.W.CountedWrite.failed_calls g.W.CountedWrite.sure_calls g.W.CountedWrite.room _ _ _ _ _ _ (ap (flat_map early_bytes) (take_all c.loop-i.i (kept_batches v.early) all)) c.loop-i.invariant
+
+pub loop-i-init : goal.loop-i-init
+loop-i-init g c = passes_none g.W.Write.contents g.W.CountedWrite.failed_calls g.W.CountedWrite.sure_calls g.W.CountedWrite.room _ _

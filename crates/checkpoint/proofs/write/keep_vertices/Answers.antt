@@ -4,7 +4,7 @@ use Rattle.std.proofs.lemmas.List.{take_all}
 use Rattle.std.proofs.lemmas.List.FromFn.{length-range_with_len}
 use Rattle.ball_model.specs.Checkpoint.{vertex_bytes}
 use Rattle.checkpoint.proofs.WriteLemmas.{on_err}
-use Rattle.checkpoint.proofs.SpoolLemmas.{passes_as, passes_next, stops_next}
+use Rattle.checkpoint.proofs.SpoolLemmas.{passes_as, passes_none, passes_next, stops_next}
 use Rattle.checkpoint.proofs.TextLemmas.{range_more, range_split}
 use Rattle.checkpoint.proofs.write.keep_vertices.Goals as goal
 
@@ -26,3 +26,6 @@ returns-clause-done g c =
     let v = c.args.replica.now in
     let all : length (range_with_len 0 (length v.part.preds)) ≤ c.loop-i.i = omega (arith, c.size_of-i-end.ensures.size, length-range_with_len 0 (length v.part.preds)) in
     passes_as g.W.Write.contents g.W.CountedWrite.failed_calls g.W.CountedWrite.sure_calls g.W.CountedWrite.room _ _ _ _ _ _ (ap (flat_map (vertex_bytes v)) (take_all c.loop-i.i (range_with_len 0 (length v.part.preds)) all)) c.loop-i.invariant
+
+pub loop-i-init : goal.loop-i-init
+loop-i-init g c = passes_none g.W.Write.contents g.W.CountedWrite.failed_calls g.W.CountedWrite.sure_calls g.W.CountedWrite.room _ _

@@ -1,5 +1,5 @@
 use Rattle.checkpoint.proofs.WriteLemmas.{on_err, ok_then, err_then, stops_first, stops_then}
-use Rattle.checkpoint.proofs.SpoolLemmas.{passes_all}
+use Rattle.checkpoint.proofs.SpoolLemmas.{passes_all, passes_put, passes_waiting}
 use Rattle.checkpoint.proofs.spool.Spool.keep.Goals as goal
 
 pub returns-in_err-put_out-clause-stops : goal.returns-in_err-put_out-clause-stops
@@ -16,3 +16,11 @@ pub returns-clause-stops : goal.returns-clause-stops
 returns-clause-stops g c =
     err_then c.put.result c.put.ensures.stops
     (λ stops. stops_then g.W.Write.contents g.W.CountedWrite.failed_calls g.W.CountedWrite.sure_calls g.W.CountedWrite.room _ _ _ _ _ c.in_ok-put_out.ensures.done stops)
+
+pub returns-then-bytes-self-clause-done : goal.returns-then-bytes-self-clause-done
+returns-then-bytes-self-clause-done g c = passes_waiting g.W.Write.contents g.W.CountedWrite.failed_calls g.W.CountedWrite.sure_calls g.W.CountedWrite.room _ _ _ _ c.push.ensures.waiting c.push.ensures.hasher
+
+pub returns-then-bytes-le-PIECE-clause-done : goal.returns-then-bytes-le-PIECE-clause-done
+returns-then-bytes-le-PIECE-clause-done g c =
+    let first = c.in_ok-put_out.ensures in
+    passes_put g.W.Write.contents g.W.CountedWrite.failed_calls g.W.CountedWrite.sure_calls g.W.CountedWrite.room _ _ c.args.self.now c.put_out.new.self _ _ first.done first.digested first.empty c.push-then-bytes-le-PIECE.ensures.waiting c.push-then-bytes-le-PIECE.ensures.hasher
