@@ -4,5 +4,6 @@ pub mod ViewLemmas
 pub mod MoveLemmas
 pub mod SeatLemmas
 pub mod CallLemmas
+pub mod GivenLemmas
 pub mod Crossing
 pub mod TestLemmas

@@ -48,10 +48,24 @@ fn job<R: RandomSource>(rt: &R, alloc: Global, text: &[u8]) -> Option<(Graph, Pl
     Some((graph, plan))
 }
 
-/// A replica of a partition at superstep 0.
-fn replica(alloc: Global, graph: &Graph, plan: &Plan, p: u16) -> Option<Replica>
+/// A value that may be shared.
+fn share<T: Drop>(alloc: Global, value: T) -> Option<Arc<T>>
+    ensures { IfSome result (λ a. arc_value a ≡ value) }
+{
+    Arc::new(alloc, value).ok()
+}
+
+/// A value in a box.
+fn boxed<T: Drop>(alloc: Global, value: T) -> Option<Box<T>>
+    ensures { IfSome result (λ b. b.value ≡ value) }
+{
+    Box::new(alloc, value).ok()
+}
+
+/// A replica of a partition at superstep 0. (It is in a box: a function that owns one is checked much faster.)
+fn replica(alloc: Global, graph: &Graph, plan: &Plan, p: u16) -> Option<Box<Replica>>
     requires { IsJob (job_of graph.now.graph plan.now) }
-    ensures { IfSome result (λ r. Stands (job_of graph.now.graph plan.now) r) }
+    ensures { IfSome result (λ r. Stands (job_of graph.now.graph plan.now) r.value) }
 {
     if p >= plan.parts() {
         return None;
@@ -59,13 +73,11 @@ fn replica(alloc: Global, graph: &Graph, plan: &Plan, p: u16) -> Option<Replica>
     let Ok(part) = graph.part(alloc, plan, p) else {
         return None;
     };
-    let Ok(shared) = Arc::new(alloc, part) else {
-        return None;
-    };
+    let shared = share(alloc, part)?;
     let Ok(replica) = Replica::new(alloc, shared) else {
         return None;
     };
-    Some(replica)
+    boxed(alloc, replica)
 }
 
 /// What a replica tells a partition.
@@ -85,10 +97,7 @@ fn told(
     let Ok(batch) = from.out(alloc, target) else {
         return None;
     };
-    let Ok(shared) = Arc::new(alloc, batch) else {
-        return None;
-    };
-    Some(shared)
+    share(alloc, batch)
 }
 
 /// What a replica has.
@@ -105,10 +114,7 @@ fn snapshot_of(
     let Ok(snapshot) = from.snapshot(alloc) else {
         return None;
     };
-    let Ok(shared) = Arc::new(alloc, snapshot) else {
-        return None;
-    };
-    Some(shared)
+    share(alloc, snapshot)
 }
 
 /// What seats post and keep: what partition 0 tells the others, and what it has. And the floor that they raise.

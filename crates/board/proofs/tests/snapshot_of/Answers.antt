@@ -1,4 +1,5 @@
 use Rattle.std.proofs.Common.{sym, ◌∙◌, subst}
+use Rattle.std.proofs.lemmas.Option.{IfSome_then}
 use Rattle.ball_model.specs.Job.{Job}
 use Rattle.ball_model.specs.State.{Stands}
 use Rattle.board.proofs.tests.snapshot_of.Goals as goal
@@ -6,4 +7,4 @@ use Rattle.board.proofs.tests.snapshot_of.Goals as goal
 pub returns-clause-value : goal.returns-clause-value
 returns-clause-value c =
     let j : Job = record { graph = c.args.graph.now.graph; plan = c.args.plan.now } in
-    subst (Stands j) (sym (c.in-Ok-new.ensures.ok ∙ c.in-Ok.ensures.same)) c.requires
+    IfSome_then c.share.result c.share.ensures (λ a same. subst (Stands j) (sym (same ∙ c.in-Ok.ensures.same)) c.requires)
