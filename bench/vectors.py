@@ -142,11 +142,11 @@ def batch(superstep, source, target):
     return groups
 
 
-def checkpoint(part, superstep, heard):
-    """All that a node has at a superstep which has heard these others of it, and keeps no batches of later ones."""
+def figures_of(version, part, superstep):
+    """What both versions of a checkpoint tell of a partition's vertices at a superstep."""
     own = vertices_of(part)
     groups = [
-        struct.pack(">4sBBHHIII", b"HBCK", 2, LOG2M, PARTS, part, VERTICES, len(own), superstep),
+        struct.pack(">4sBBHHIII", b"HBCK", version, LOG2M, PARTS, part, VERTICES, len(own), superstep),
         *halves(job_digest()),
     ]
     for vertex in own:
@@ -156,11 +156,26 @@ def checkpoint(part, superstep, heard):
         groups.append(bytes(counter(vertex, superstep)))
     for earlier in range(superstep + 1):
         groups.append(sum(estimate(vertex, earlier) for vertex in own).to_bytes(16, "big"))
+    return groups
+
+
+def sealed(groups):
+    return groups + halves(hashlib.sha256(b"".join(groups)).digest())
+
+
+def checkpoint(part, superstep, heard):
+    """All that a node has at a superstep which has heard these others of it, and keeps no batches of later ones."""
+    groups = figures_of(2, part, superstep)
     change = any(changed_count(source, superstep) for source in heard)
     groups.append(struct.pack(">QB", sum(1 << source for source in heard), change))
-    groups += [bytes(accumulated(vertex, superstep, heard)) for vertex in own]
+    groups += [bytes(accumulated(vertex, superstep, heard)) for vertex in vertices_of(part)]
     groups.append(struct.pack(">H", 0))
-    return groups + halves(hashlib.sha256(b"".join(groups)).digest())
+    return sealed(groups)
+
+
+def old_checkpoint(part, superstep):
+    """The same in version 1, which does not tell what was heard."""
+    return sealed(figures_of(1, part, superstep))
 
 
 def path_with_early(supersteps):
@@ -230,7 +245,8 @@ HEAD = """\
 //! A checkpoint has a line for what stands before the digest of the job, and two for that. Four follow for each vertex:
 //! its mark, its estimate and harmonic centrality, its sum of distances, its registers. Then comes a line for the sum of
 //! the estimates at each superstep, one for what is heard and whether a change is, one for the registers accumulated of
-//! each vertex, one for the number of batches, and two for the SHA-256 of all that.
+//! each vertex, one for the number of batches, and two for the SHA-256 of all that. In version 1 those behind the sums
+//! are missing, but for the last two.
 """
 
 BATCH_NAMES = ["FIRST_TELLS", "SECOND_TELLS"]
@@ -252,6 +268,18 @@ def all_checkpoints():
         ("SECOND_END", 1, END, [0], "Partition 1 at the end"),
     ]:
         yield constant(name, about + ": {length} bytes.", checkpoint(part, superstep, heard))
+
+
+def old_checkpoints():
+    """Checkpoints of version 1: of both partitions, and of the same edges in one partition."""
+    global PARTS
+    for part, name in enumerate(["OLD_FIRST_END", "OLD_SECOND_END"]):
+        about = f"Partition {part} at the end, in version 1: {{length}} bytes."
+        yield constant(name, about, old_checkpoint(part, END))
+    before, PARTS = PARTS, 1
+    about = "The only partition at the end of the same edges in one partition, in version 1: {length} bytes."
+    yield constant("OLD_LONE_END", about, old_checkpoint(0, END))
+    PARTS = before
 
 
 def all_pieces():
@@ -312,7 +340,7 @@ def main():
         print("\n".join(program_vectors()), end="")
         return
     print(HEAD)
-    print("\n".join([*all_batches(), *all_checkpoints(), *all_pieces()]), end="")
+    print("\n".join([*all_batches(), *all_checkpoints(), *old_checkpoints(), *all_pieces()]), end="")
 
 
 if __name__ == "__main__":

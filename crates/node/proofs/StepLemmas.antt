@@ -1,6 +1,6 @@
 -- What a command asks for, and its answer.
 use Rattle.std.proofs.Common.{◌≡◌, ◌≢◌, ◌∙◌, ℕ, ◌+◌, ◌<◌, ◌≤◌, ◌==◌, ◌&&◌, ◌⊎◌, inl, inr, nat_lt, Bool, true, false, not, if◌then◌else◌, List, [], ◌∷◌, ◌++◌, length, slice_index, refl, ap, sym, subst, arith}
-use Rattle.std.specs.Prelude.{Option, None, Some, Result, Ok, Err, codes, decimal}
+use Rattle.std.specs.Prelude.{Option, None, Some, Result, Ok, Err, OnOk, codes, decimal}
 use Rattle.std.specs.Io.KnownBytes.{Appends}
 use Rattle.std.proofs.KnownBytes.{Appends-trans}
 use Rattle.std.proofs.lemmas.Bool.{eq-eqb, le-ltb, lt-ltb, ne_eqb}
@@ -28,6 +28,8 @@ use Rattle.report.proofs.VertexLemmas.{lines_same}
 use Rattle.ball_model.specs.Steps.{Take, Close}
 use Rattle.ball_model.specs.World.{closed_answer, taken_answer}
 use Rattle.ball_model.specs.WorldText.{number_line, refusal_line, show_text, words_line}
+use Rattle.world.specs.declared.tell.TellError.{TellError}
+use Rattle.world.specs.Tell.{Tells}
 use Rattle.node.specs.declared.command.Command.{Command}
 use Rattle.node.specs.declared.command.Command.TheVariants as command
 use Rattle.node.specs.declared.session.Reply.{Reply}
@@ -292,6 +294,17 @@ figures_told network body v old new shown = record {
     holds j p h Figures k asks = k
     holds j p h a k asks = absurd asks
 
+-- the same, of what came of telling them to a replica w, which is v
+pub show_answered : (network : Network) (body : List ℕ) (v w : State) (n : ℕ) (old new : Option (List ℕ)) (r : Result (Unit {0}) TellError) → w ≡ v → n ≡ w.part.number →
+    ((j : Job) (h : Holding) → HasHolding j h w → OnOk r (Appends old new (show_text j (alone n) h))) → OnOk r (Steps network command.Show body v v old new)
+show_answered network body v w n old new (Ok u) same is shown = subst (λ (s : State). Steps network command.Show body s s old new) same (show_told network body w n old new is shown)
+show_answered network body v w n old new (Err e) same is shown = tt
+
+pub figures_answered : (network : Network) (body : List ℕ) (v w : State) (old new : Option (List ℕ)) (r : Result (Unit {0}) TellError) → w ≡ v →
+    ((j : Job) (h : Holding) → HasHolding j h w → OnOk r (Appends old new (figures_text j network.labels h))) → OnOk r (Steps network command.Figures body v v old new)
+figures_answered network body v w old new (Ok u) same shown = subst (λ (s : State). Steps network command.Figures body s s old new) same (figures_told network body w old new shown)
+figures_answered network body v w old new (Err e) same shown = tt
+
 -- its totals
 pub totals_are : (j : Job) (h : Holding) (sums : List ℕ) → sums ≡ sums_of j h.partition h.superstep → superstep_lines sums ≡ totals_text j h
 unfolding totals_text sums_of
@@ -307,6 +320,12 @@ pub totals_told : (network : Network) (body : List ℕ) (v : State) (sums : List
 totals_told network body v sums old new stands appended =
     steps_told network command.Totals body v v (superstep_lines sums) old new appended
     (totals_steps network body v (superstep_lines sums) (λ j p h same k. totals_are j h sums (stands j h.partition h.superstep k.has.holding.stands)))
+
+pub totals_answered : {W : Type 0} (contents : W → Option (List ℕ)) (failed : W → ℕ) (network : Network) (body : List ℕ) (v : State) (sums text : List ℕ) (old new : W) (r : Result (Unit {0}) TellError) →
+    ((j : Job) (p t : ℕ) → StandsFor j p t v → sums ≡ sums_of j p t) → text ≡ superstep_lines sums → Tells contents failed old new text r → OnOk r (Steps network command.Totals body v v (contents old) (contents new))
+totals_answered contents failed network body v sums text old new (Ok u) stands is told =
+    totals_told network body v sums (contents old) (contents new) stands (subst (Appends (contents old) (contents new)) is told.appended)
+totals_answered contents failed network body v sums text old new (Err e) stands is told = tt
 
 -- what is kept
 pub keep_told : (network : Network) (body : List ℕ) (v : State) (t n : ℕ) (line : List ℕ) (a b c : Option (List ℕ)) → t ≡ v.superstep → n ≡ length (checkpoint_bytes v) →

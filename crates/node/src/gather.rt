@@ -26,7 +26,7 @@ use checkpoint::KeepError;
 use edgelist::{Graph, Part};
 use replica::Replica;
 use report::{report_ready, write_report};
-use std::alloc::{AllocGlobal, Global};
+use std::alloc::{AllocError, AllocGlobal, Global};
 use std::hash::RandomState;
 use std::thread::Threads;
 use world::script::cut;
@@ -147,6 +147,14 @@ fn read_replica<R: CountedRead>(
     }
 }
 
+// Adds a replica to others. The error is that memory was refused.
+fn put(replicas: &mut Vec<Replica>, replica: Replica) -> Result<(), AllocError>
+    ensures { OnOk result (replicas.new.items ≡ replicas.old.items ++ replica ∷ []) }
+{
+    replicas.push(replica)?;
+    Ok(())
+}
+
 // Adds the replica of the checkpoint of partition `p` that follows to those before it. A watch is told of it.
 fn add_replica<R: CountedRead, V: Watch>(
     alloc: Global,
@@ -174,9 +182,7 @@ fn add_replica<R: CountedRead, V: Watch>(
 {
     let replica = read_replica(alloc, graph, plan, p, reader)?;
     show_turn(&replica, watch);
-    let Ok(()) = replicas.push(replica) else {
-        return Err(GatherError::Memory);
-    };
+    put(replicas, replica)?;
     Ok(())
 }
 

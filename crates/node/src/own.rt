@@ -1,12 +1,12 @@
 //! The lines of one partition's vertices, as a report has them.
 
-ghost use Rattle.std.specs.Prelude.{◌≡◌, ◌≢◌, ℕ, ◌<◌, ◌≤◌, ◌%◌, Err, IfOk, OnOk, length};
+ghost use Rattle.std.specs.Prelude.{◌≡◌, ◌≢◌, ℕ, ◌+◌, ◌*◌, ◌<◌, ◌≤◌, ◌%◌, Err, IfOk, OnOk, length};
 ghost use Rattle.std.specs.Io.KnownBytes.{Appends};
 ghost use Rattle.ball_model.specs.Figures.{empty_of};
 ghost use Rattle.ball_model.specs.Held.{HasHolding};
 ghost use Rattle.ball_model.specs.Job.{Job};
 ghost use Rattle.ball_model.specs.Join.{Holding};
-ghost use Rattle.ball_model.specs.PlanValue.{mixing_of};
+ghost use Rattle.ball_model.specs.PlanValue.{mixing_of, part_size};
 ghost use Rattle.ball_model.specs.Report.{vertex_text};
 ghost use Rattle.ball_model.specs.Streams.{Rises};
 ghost use Rattle.node.specs.NodeText.{figures_text};
@@ -81,6 +81,20 @@ fn tell_vertex<W: CountedWrite>(
     write_lines(writer, &text)
 }
 
+// Vertex `i` of the replica's partition, counted from 0.
+pub(crate) fn own_vertex(replica: &Replica, i: u32) -> u32
+    requires { i < part_size replica.now.part.plan.vertices replica.now.part.plan.parts
+        replica.now.part.number }
+    ensures value { result ≡ i * replica.now.part.plan.parts + replica.now.part.number }
+    ensures vertex { result < replica.now.part.plan.vertices }
+    ensures own { result % replica.now.part.plan.parts ≡ replica.now.part.number }
+{
+    // the limits of a replica are told with its superstep
+    let _superstep = replica.superstep();
+    let parts = u32::from(replica.plan().parts());
+    i * parts + u32::from(replica.partition())
+}
+
 /// Writes the lines of a partition's vertices, ascending, of the superstep that its replica has reached.
 pub fn tell_own<W: CountedWrite>(
     alloc: Global,
@@ -99,16 +113,9 @@ pub fn tell_own<W: CountedWrite>(
 {
     // the limits of a replica are told with its superstep
     let _superstep = replica.superstep();
-    let parts = u32::from(replica.plan().parts());
     let partition = replica.partition();
     for i in 0..replica.plan().part_size(partition) {
-        tell_vertex(
-            alloc,
-            graph,
-            replica,
-            i * parts + u32::from(partition),
-            writer,
-        )?;
+        tell_vertex(alloc, graph, replica, own_vertex(replica, i), writer)?;
     }
     Ok(())
 }

@@ -54,8 +54,7 @@ fn tell<W: CountedWrite>(reply: Reply, line: &mut Vec<u8>, writer: &mut W) -> Re
 {
     line.clear();
     put_reply(line, reply)?;
-    write_lines(writer, line)?;
-    Ok(())
+    write_lines(writer, line)
 }
 
 // Writes a batch.
@@ -76,8 +75,7 @@ fn tell_batch<W: CountedWrite>(
     put_sent(line, batch)?;
     let bytes = batch.encode(alloc)?;
     write_lines(writer, line)?;
-    write_lines(writer, &bytes)?;
-    Ok(())
+    write_lines(writer, &bytes)
 }
 
 // Writes that there is no such partition to be told anything.
@@ -91,8 +89,7 @@ fn tell_no_target<W: CountedWrite>(line: &mut Vec<u8>, writer: &mut W) -> Result
 {
     line.clear();
     put_refusal(line, WorldError::NoTarget)?;
-    write_lines(writer, line)?;
-    Ok(())
+    write_lines(writer, line)
 }
 
 // A node tells another partition the batch of its superstep, where there is such a one.
@@ -231,25 +228,6 @@ fn answer_recover<W: CountedWrite>(
     tell(reply, line, writer)
 }
 
-// A node tells what it has.
-fn answer_show<W: CountedWrite>(
-    replica: &Replica,
-    line: &mut Vec<u8>,
-    writer: &mut W,
-) -> Result<(), TellError>
-    ensures done { (network : Network) (body : List ℕ) → OnOk result (Steps network
-        order.Show body replica.now replica.now
-        (W.contents writer.old) (W.contents writer.new)) }
-    ensures write { result ≡ Err TellError.Write →
-        Rises (W.failed_calls writer.old) (W.failed_calls writer.new) }
-    ensures written { result ≢ Err TellError.Write →
-        W.failed_calls writer.new ≡ W.failed_calls writer.old }
-{
-    let part = replica.partition();
-    tell_shown(NodeId { part, replica: 0 }, replica, line, writer)?;
-    Ok(())
-}
-
 // A node tells the sums of its estimates.
 fn answer_totals<W: CountedWrite>(
     alloc: Global,
@@ -265,28 +243,7 @@ fn answer_totals<W: CountedWrite>(
         W.failed_calls writer.new ≡ W.failed_calls writer.old }
 {
     let text = totals_text(alloc, replica.sums())?;
-    write_lines(writer, &text)?;
-    Ok(())
-}
-
-// A node tells the figures of its vertices.
-fn answer_figures<W: CountedWrite>(
-    alloc: Global,
-    graph: &Graph,
-    replica: &Replica,
-    writer: &mut W,
-) -> Result<(), TellError>
-    requires { replica.now.part.plan.vertices ≡ graph.now.graph.vertices }
-    ensures done { (body : List ℕ) → OnOk result (Steps graph.now
-        order.Figures body replica.now replica.now
-        (W.contents writer.old) (W.contents writer.new)) }
-    ensures write { result ≡ Err TellError.Write →
-        Rises (W.failed_calls writer.old) (W.failed_calls writer.new) }
-    ensures written { result ≢ Err TellError.Write →
-        W.failed_calls writer.new ≡ W.failed_calls writer.old }
-{
-    tell_own(alloc, graph, replica, writer)?;
-    Ok(())
+    write_lines(writer, &text)
 }
 
 // A node does what a command says, and tells it.
@@ -316,9 +273,13 @@ fn answer<W: CountedWrite, V: Watch>(
         Command::Keep => answer_keep(session.replica(), line, writer),
         Command::Restart { .. } => answer_restart(alloc, session, body, line, writer),
         Command::Recover { .. } => answer_recover(alloc, session, body, line, writer),
-        Command::Show => answer_show(session.replica(), line, writer),
+        Command::Show => {
+            let replica = session.replica();
+            let part = replica.partition();
+            tell_shown(NodeId { part, replica: 0 }, replica, line, writer)
+        }
         Command::Totals => answer_totals(alloc, session.replica(), writer),
-        Command::Figures => answer_figures(alloc, graph, session.replica(), writer),
+        Command::Figures => tell_own(alloc, graph, session.replica(), writer),
     }
 }
 

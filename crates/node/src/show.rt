@@ -8,32 +8,13 @@ ghost use Rattle.ball_model.specs.Job.{Job};
 ghost use Rattle.ball_model.specs.Join.{Holding};
 ghost use Rattle.ball_model.specs.State.{own_vertices};
 ghost use Rattle.ball_model.specs.Streams.{Rises};
-ghost use Rattle.ball_model.specs.WorldText.{node_line, row_text, show_text};
+ghost use Rattle.ball_model.specs.WorldText.{row_text, show_text};
 
+use crate::own::own_vertex;
 use ball_model::{CountedWrite, NodeId};
 use replica::{Replica, Shown};
 use world::answer::{put_node, put_vertex};
 use world::tell::{TellError, write_lines};
-
-// Writes the line of a node.
-fn tell_head<W: CountedWrite>(
-    id: NodeId,
-    replica: &Replica,
-    line: &mut Vec<u8>,
-    writer: &mut W,
-) -> Result<(), TellError>
-    ensures done { (j : Job) (h : Holding) → HasHolding j h replica.now → OnOk result (
-        Appends (W.contents writer.old) (W.contents writer.new) (node_line j id h)) }
-    ensures write { result ≡ Err TellError.Write →
-        Rises (W.failed_calls writer.old) (W.failed_calls writer.new) }
-    ensures written { result ≢ Err TellError.Write →
-        W.failed_calls writer.new ≡ W.failed_calls writer.old }
-{
-    line.clear();
-    put_node(line, id, replica)?;
-    write_lines(writer, line)?;
-    Ok(())
-}
 
 // Writes the line of vertex `x`, which the replica's partition owns.
 fn tell_row<W: CountedWrite>(
@@ -53,8 +34,7 @@ fn tell_row<W: CountedWrite>(
 {
     line.clear();
     put_vertex(line, replica, x)?;
-    write_lines(writer, line)?;
-    Ok(())
+    write_lines(writer, line)
 }
 
 // Writes the lines of all vertices of a node.
@@ -73,10 +53,9 @@ fn tell_rows<W: CountedWrite>(
 {
     // the limits of a replica are told with its superstep
     let _superstep = replica.superstep();
-    let parts = u32::from(replica.plan().parts());
     let partition = replica.partition();
     for i in 0..replica.plan().part_size(partition) {
-        tell_row(replica, i * parts + u32::from(partition), line, writer)?;
+        tell_row(replica, own_vertex(replica, i), line, writer)?;
     }
     Ok(())
 }
@@ -96,6 +75,8 @@ pub fn tell_shown<W: CountedWrite>(
     ensures written { result ≢ Err TellError.Write →
         W.failed_calls writer.new ≡ W.failed_calls writer.old }
 {
-    tell_head(id, replica, line, writer)?;
+    line.clear();
+    put_node(line, id, replica)?;
+    write_lines(writer, line)?;
     tell_rows(replica, line, writer)
 }

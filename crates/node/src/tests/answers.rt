@@ -139,9 +139,15 @@ fn two_nodes_run_to_the_end(rt: HostRuntime) {
     assert!(rt; all_hold(&rt, &RUN));
 }
 
+/// Partition 1 at superstep 3, where nobody is heard.
+const OLD_SHOWN: &[u8] = b"node 1.0 3 open
+row 1 11.780376 0.665022 0.665022 00000000000001000000000000000300
+";
+
 /// A node gives its checkpoint at the start, of each partition, and once it has heard the other. A new one goes on from
-/// that, goes back to the start, and takes the checkpoint over.
-static GOING_ON: [Case; 4] = [
+/// that, goes back to the start, and takes the checkpoint over. New ones go on from one of version 1, which has heard
+/// nobody, and take it over.
+static GOING_ON: [Case; 6] = [
     Case {
         parts: 2,
         counted: false,
@@ -196,6 +202,36 @@ node 1.0 0 go-on 0:0
 row 1 11.115354 0.000000 0.000000 00000000000001000000000000000000
 ",
         ],
+        end: Ok(()),
+    },
+    Case {
+        parts: 2,
+        counted: false,
+        part: 1,
+        input: &[
+            TWO_EDGES,
+            b"restart 199\n",
+            OLD_SECOND_END,
+            b"show\ndeliver 54\n",
+            FIRST_TELLS_3,
+            b"close\n",
+        ],
+        text: &[b"restarted 3\n", OLD_SHOWN, b"new\nfinished\n"],
+        end: Ok(()),
+    },
+    Case {
+        parts: 2,
+        counted: false,
+        part: 1,
+        input: &[
+            TWO_EDGES,
+            b"recover 199\n",
+            OLD_SECOND_END,
+            b"show\ndeliver 54\n",
+            FIRST_TELLS_3,
+            b"close\n",
+        ],
+        text: &[b"merged 3\n", OLD_SHOWN, b"new\nfinished\n"],
         end: Ok(()),
     },
 ];

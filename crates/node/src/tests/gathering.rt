@@ -20,8 +20,10 @@ vertex,b,11.780376,0.665022,1.503709,208.680703,14
 vertex,c,12.417153,0.751274,0.538737,83.065637,13
 ";
 
-/// What is gathered of checkpoints in two partitions. The input stands in pieces.
+/// What is gathered of checkpoints. The input stands in pieces.
 pub(super) struct Gathering {
+    /// The number of partitions.
+    pub(super) parts: u16,
     /// What is read.
     pub(super) input: &'static [&'static [u8]],
     /// The report.
@@ -33,13 +35,14 @@ pub(super) struct Gathering {
 /// How a gathering ends that reads this. What it writes goes to the writer.
 fn end_of_gathering<T: AllocGlobal + RandomSource + Threads + Sync, V: Watch>(
     rt: &T,
+    parts: u16,
     input: &[u8],
     watch: &V,
     writer: &mut MemWriter,
 ) -> Option<Result<(), GatherError>> {
     let state = RandomState::new(rt).ok()?;
     let mut reader = MemReader::new(input, None);
-    Some(gather(rt, state, &options(2, false), watch, &mut reader, writer))
+    Some(gather(rt, state, &options(parts, false), watch, &mut reader, writer))
 }
 
 /// Whether a gathering that reads this writes and ends as the case says.
@@ -52,7 +55,7 @@ fn gives<T: AllocGlobal + RandomSource + Threads + Sync, V: Watch>(
     let Ok(mut writer) = MemWriter::with_room(rt.alloc(), 4096, None) else {
         return false;
     };
-    let end = end_of_gathering(rt, input, watch, &mut writer);
+    let end = end_of_gathering(rt, case.parts, input, watch, &mut writer);
     let text = writer.into_bytes();
     end == Some(case.end) && text.as_slice() == case.text
 }
@@ -82,9 +85,11 @@ fn all_gathered<T: AllocGlobal + RandomSource + Threads + Sync>(
     true
 }
 
-/// Those of the end give the report, and one of the start does not. One is wanted of each partition.
-static KEPT: [Gathering; 5] = [
+/// Those of the end give the report, and one of the start does not. One is wanted of each partition, and of no other job.
+/// What version 1 spells has heard nobody: it is at its end where it is the only partition.
+static KEPT: [Gathering; 8] = [
     Gathering {
+        parts: 2,
         input: &[
             TWO_EDGES,
             b"part 291\n",
@@ -96,6 +101,7 @@ static KEPT: [Gathering; 5] = [
         end: Ok(()),
     },
     Gathering {
+        parts: 2,
         input: &[
             TWO_EDGES,
             b"part 243\n",
@@ -107,11 +113,13 @@ static KEPT: [Gathering; 5] = [
         end: Err(GatherError::NotReady),
     },
     Gathering {
+        parts: 2,
         input: &[TWO_EDGES, b"part 291\n", FIRST_END],
         text: b"",
         end: Err(GatherError::Missing { part: 1 }),
     },
     Gathering {
+        parts: 2,
         input: &[
             TWO_EDGES,
             b"part 291\n",
@@ -124,6 +132,7 @@ static KEPT: [Gathering; 5] = [
         end: Err(GatherError::Trailing),
     },
     Gathering {
+        parts: 2,
         input: &[
             TWO_EDGES,
             b"part 291\n",
@@ -137,6 +146,33 @@ static KEPT: [Gathering; 5] = [
             error: checkpoint::KeepError::OtherPart,
         }),
     },
+    Gathering {
+        parts: 2,
+        input: &[b"a\tb\na\tc\n%%\n", b"part 291\n", FIRST_END],
+        text: b"",
+        end: Err(GatherError::Checkpoint {
+            part: 0,
+            error: checkpoint::KeepError::OtherJob,
+        }),
+    },
+    Gathering {
+        parts: 2,
+        input: &[
+            TWO_EDGES,
+            b"part 248\n",
+            OLD_FIRST_END,
+            b"part 199\n",
+            OLD_SECOND_END,
+        ],
+        text: b"",
+        end: Err(GatherError::NotReady),
+    },
+    Gathering {
+        parts: 1,
+        input: &[TWO_EDGES, b"part 297\n", OLD_LONE_END],
+        text: REPORT,
+        end: Ok(()),
+    },
 ];
 
 #[test]
@@ -147,31 +183,37 @@ fn checkpoints_give_the_report(rt: HostRuntime) {
 /// Inputs behind whose mark no checkpoint of partition 0 stands.
 static NO_CHECKPOINTS: [Gathering; 8] = [
     Gathering {
+        parts: 2,
         input: &[TWO_EDGES],
         text: b"",
         end: Err(GatherError::Missing { part: 0 }),
     },
     Gathering {
+        parts: 2,
         input: &[TWO_EDGES, b"part"],
         text: b"",
         end: Err(GatherError::Cut { part: 0 }),
     },
     Gathering {
+        parts: 2,
         input: &[TWO_EDGES, b"part 3\nHB"],
         text: b"",
         end: Err(GatherError::Cut { part: 0 }),
     },
     Gathering {
+        parts: 2,
         input: &[TWO_EDGES, b"part x\n"],
         text: b"",
         end: Err(GatherError::Line { part: 0 }),
     },
     Gathering {
+        parts: 2,
         input: &[TWO_EDGES, b"part 03\nHBC"],
         text: b"",
         end: Err(GatherError::Line { part: 0 }),
     },
     Gathering {
+        parts: 2,
         input: &[
             TWO_EDGES,
             b"parts of a line that is longer than any line of a command or of a checkpoint may be",
@@ -180,11 +222,13 @@ static NO_CHECKPOINTS: [Gathering; 8] = [
         end: Err(GatherError::Line { part: 0 }),
     },
     Gathering {
+        parts: 2,
         input: &[TWO_EDGES, b"part 99999999\n"],
         text: b"",
         end: Err(GatherError::Length { part: 0 }),
     },
     Gathering {
+        parts: 2,
         input: &[TWO_EDGES, b"part 3\nHBC"],
         text: b"",
         end: Err(GatherError::Checkpoint {

@@ -175,7 +175,7 @@ refused digest
 ";
 
 /// A node is given damaged checkpoints to go back to, and such to take over, and then shows what it has: the front of one,
-/// one of another magic, version, job, size, and mark. Another node is given a whole one.
+/// one of another magic, version, job, size, and mark. So is another node, which is given a whole one.
 static DAMAGED_CHECKPOINTS: [Case; 2] = [
     Case {
         parts: 2,
@@ -252,8 +252,16 @@ static DAMAGED_CHECKPOINTS: [Case; 2] = [
             SECOND_START,
             b"recover 178\n",
             SECOND_START,
+            b"show\n",
         ],
-        text: &[b"refused other-part\nrefused other-part\n"],
+        text: &[
+            b"refused other-part
+refused other-part
+node 0.0 0 open
+row 0 11.390942 0.000000 0.000000 00000000000000000000000000000300
+row 2 11.297573 0.000000 0.000000 02000000000000000000000000000000
+",
+        ],
         end: Ok(()),
     },
 ];

@@ -8,7 +8,8 @@
 //! A checkpoint has a line for what stands before the digest of the job, and two for that. Four follow for each vertex:
 //! its mark, its estimate and harmonic centrality, its sum of distances, its registers. Then comes a line for the sum of
 //! the estimates at each superstep, one for what is heard and whether a change is, one for the registers accumulated of
-//! each vertex, one for the number of batches, and two for the SHA-256 of all that.
+//! each vertex, one for the number of batches, and two for the SHA-256 of all that. In version 1 those behind the sums
+//! are missing, but for the last two.
 
 /// What partition 0 tells the other of superstep 0: 74 bytes.
 pub(super) const FIRST_TELLS_0: &[u8] = b"HBBT\x01\x04\0\0\0\0\0\0\0\x01\
@@ -151,6 +152,63 @@ pub(super) const SECOND_END: &[u8] = b"HBCK\x02\x04\0\x02\0\x01\0\0\0\x03\0\0\0\
 \0\0\
 \x7d\x61\x96\xfa\xeb\x42\xe7\xdc\x55\xdb\xcf\x5b\x8e\x67\x79\x95\
 \x30\xe5\x9e\x0b\x21\xed\x68\x7b\x62\xee\xc9\xdd\xf0\x1d\x5d\xa4";
+
+/// Partition 0 at the end, in version 1: 248 bytes.
+pub(super) const OLD_FIRST_END: &[u8] = b"HBCK\x01\x04\0\x02\0\0\0\0\0\x03\0\0\0\x02\0\0\0\x03\
+\xe4\x87\x78\x82\x8d\xfe\xa5\x0f\x8c\x6f\x4c\x3f\x13\xc9\x4f\xf2\
+\xeb\xd3\x33\xd7\xa4\x76\x10\x77\x8d\x84\xb6\xc7\xed\x7a\x08\xd3\
+\0\
+\0\0\0\0\0\xad\xcf\xde\0\0\0\0\0\0\0\0\
+\0\0\0\0\0\0\0\0\0\0\0\0\0\0\0\0\
+\0\0\0\0\0\0\0\0\0\0\0\0\0\0\x03\0\
+\0\
+\0\0\0\0\0\xbd\x78\x81\0\0\0\0\0\x0b\x76\xaa\
+\0\0\0\0\0\0\0\0\0\0\0\0\0\x1c\x52\xbf\
+\x02\0\0\0\0\0\x01\0\0\0\0\0\0\0\x03\0\
+\0\0\0\0\0\0\0\0\0\0\0\0\x01\x5a\x33\x03\
+\0\0\0\0\0\0\0\0\0\0\0\0\x01\x60\x0a\xfc\
+\0\0\0\0\0\0\0\0\0\0\0\0\x01\x6b\x48\x5f\
+\0\0\0\0\0\0\0\0\0\0\0\0\x01\x6b\x48\x5f\
+\x91\x9d\x74\xf0\x91\xdf\x17\x3d\x86\x81\x92\x5c\x5b\x88\x32\x75\
+\xd7\x5b\x88\xf6\xff\x0e\xbf\xdf\x68\x51\xc6\xa1\xb3\x76\x50\x22";
+
+/// Partition 1 at the end, in version 1: 199 bytes.
+pub(super) const OLD_SECOND_END: &[u8] = b"HBCK\x01\x04\0\x02\0\x01\0\0\0\x03\0\0\0\x01\0\0\0\x03\
+\xe4\x87\x78\x82\x8d\xfe\xa5\x0f\x8c\x6f\x4c\x3f\x13\xc9\x4f\xf2\
+\xeb\xd3\x33\xd7\xa4\x76\x10\x77\x8d\x84\xb6\xc7\xed\x7a\x08\xd3\
+\0\
+\0\0\0\0\0\xb3\xc1\x18\0\0\0\0\0\x0a\x25\xbe\
+\0\0\0\0\0\0\0\0\0\0\0\0\0\x0a\x25\xbe\
+\0\0\0\0\0\0\x01\0\0\0\0\0\0\0\x03\0\
+\0\0\0\0\0\0\0\0\0\0\0\0\0\xa9\x9b\x5a\
+\0\0\0\0\0\0\0\0\0\0\0\0\0\xb3\xc1\x18\
+\0\0\0\0\0\0\0\0\0\0\0\0\0\xb3\xc1\x18\
+\0\0\0\0\0\0\0\0\0\0\0\0\0\xb3\xc1\x18\
+\x08\xbd\xd8\xce\x96\x74\xe7\xfe\xaa\x27\x36\xf6\x18\xbc\xa6\x45\
+\xf3\x60\x5e\x6b\xe1\xc9\x23\x66\x82\xb3\x26\x38\x9d\x83\xb6\xed";
+
+/// The only partition at the end of the same edges in one partition, in version 1: 297 bytes.
+pub(super) const OLD_LONE_END: &[u8] = b"HBCK\x01\x04\0\x01\0\0\0\0\0\x03\0\0\0\x03\0\0\0\x03\
+\x7c\x4f\xec\x3a\xb1\xc9\x4e\xe5\x4b\x6c\xe8\xab\xf2\xac\x51\x80\
+\x2b\x07\xb5\x58\x99\x2c\xeb\xe6\x1a\x88\x7d\x03\x4e\xbf\x03\x68\
+\0\
+\0\0\0\0\0\xad\xcf\xde\0\0\0\0\0\0\0\0\
+\0\0\0\0\0\0\0\0\0\0\0\0\0\0\0\0\
+\0\0\0\0\0\0\0\0\0\0\0\0\0\0\x03\0\
+\0\
+\0\0\0\0\0\xb3\xc1\x18\0\0\0\0\0\x0a\x25\xbe\
+\0\0\0\0\0\0\0\0\0\0\0\0\0\x0a\x25\xbe\
+\0\0\0\0\0\0\x01\0\0\0\0\0\0\0\x03\0\
+\0\
+\0\0\0\0\0\xbd\x78\x81\0\0\0\0\0\x0b\x76\xaa\
+\0\0\0\0\0\0\0\0\0\0\0\0\0\x1c\x52\xbf\
+\x02\0\0\0\0\0\x01\0\0\0\0\0\0\0\x03\0\
+\0\0\0\0\0\0\0\0\0\0\0\0\x02\x03\xce\x5d\
+\0\0\0\0\0\0\0\0\0\0\0\0\x02\x13\xcc\x14\
+\0\0\0\0\0\0\0\0\0\0\0\0\x02\x1f\x09\x77\
+\0\0\0\0\0\0\0\0\0\0\0\0\x02\x1f\x09\x77\
+\x8a\x95\x8f\x0c\xc0\xd5\xde\xee\xe2\xe4\x2b\x96\x21\xdf\xaa\xee\
+\x51\x8f\x36\xe7\x72\x3a\xec\x68\x38\xea\x77\xe6\x72\x75\x4a\x9d";
 
 /// The digest of the job: 32 bytes.
 pub(super) const JOB: &[u8] = b"\xe4\x87\x78\x82\x8d\xfe\xa5\x0f\x8c\x6f\x4c\x3f\x13\xc9\x4f\xf2\

@@ -76,6 +76,7 @@ fn a_watch_is_told_of_a_node_that_goes_on(rt: HostRuntime) {
 
 /// A gathering of two nodes at the end of their run, where a and c are of the first, and b of the second.
 static BOTH_KEPT: Gathering = Gathering {
+    parts: 2,
     input: &[
         TWO_EDGES,
         b"part 291\n",

@@ -6,7 +6,7 @@ use Rattle.node.proofs.gather.add_replica.Goals as goal
 pub returns-clause-read : goal.returns-clause-read
 returns-clause-read g c = λ left before.
     reads_added (job_of c.args.graph.now.graph c.args.plan.now) c.args.p left (g.R.Read.remaining c.args.reader.now) (g.R.Read.remaining c.read_replica.new.reader)
-    c.args.replicas.now.items _ c.in_ok-replica.replica c.in-Ok.ensures.items before c.in_ok-replica.ensures.read
+    c.args.replicas.now.items _ c.in_ok-replica.replica c.in_ok-put.ensures before c.in_ok-replica.ensures.read
 
 pub returns-in_err-replica-clause-refused : goal.returns-in_err-replica-clause-refused
 returns-in_err-replica-clause-refused g c = λ left before.

@@ -1,45 +1,29 @@
-use Rattle.std.proofs.Common.{◌≡◌, ◌∙◌, ◌+◌, ◌*◌, ap, sym, subst, arith}
+use Rattle.std.proofs.Common.{◌≡◌, ◌∙◌, ◌+◌, ◌*◌, refl, sym, subst, arith}
 use Rattle.std.specs.List.{flat_map}
 use Rattle.std.specs.Io.KnownBytes.{Appends}
-use Rattle.ball_model.specs.PlanValue.{PlanValue, mixing_of}
+use Rattle.ball_model.specs.PlanValue.{mixing_of}
 use Rattle.ball_model.specs.Report.{vertex_text}
-use Rattle.world.proofs.TellLemmas.{own-is, vertex-below, vertex-fits}
 use Rattle.node.specs.NodeText.{figures_text}
-use Rattle.node.proofs.OwnLemmas.{lines_next}
+use Rattle.world.proofs.TellLemmas.{own-is}
+use Rattle.node.proofs.OwnLemmas.{is_own, lines_next}
 use Rattle.node.proofs.own.tell_own.Goals as goal
 
-pub overflow_mul-i : goal.overflow_mul-i
-overflow_mul-i g c =
-    let parts = c.from-parts.ensures ∙ c.parts.ensures.value ∙ ap (λ (l : PlanValue). l.parts) c.plan.ensures in
-    let below = vertex-below c.args.replica.now c.from-parts.result c.partition-partition.result c.partition-partition.result c.part_size-i-end.result c.loop-i.i c.plan-2.result.now c.superstep-superstep.ensures.state parts c.partition-partition.ensures c.plan-2.ensures c.part_size-i-end.ensures c.partition-partition.ensures c.loop-i-test.true in
-    let fits = (vertex-fits c.args.replica.now (c.loop-i.i * c.from-parts.result) c.partition-partition.result c.superstep-superstep.ensures.state below).0 in
-    omega (arith, fits)
-
-pub overflow_add-i : goal.overflow_add-i
-overflow_add-i g c =
-    let parts = c.from-parts.ensures ∙ c.parts.ensures.value ∙ ap (λ (l : PlanValue). l.parts) c.plan.ensures in
-    let below = vertex-below c.args.replica.now c.from-parts.result c.from.result c.partition-partition.result c.part_size-i-end.result c.loop-i.i c.plan-2.result.now c.superstep-superstep.ensures.state parts (c.from.ensures ∙ c.partition-partition.ensures) c.plan-2.ensures c.part_size-i-end.ensures c.partition-partition.ensures c.loop-i-test.true in
-    let fits = (vertex-fits c.args.replica.now (c.loop-i.i * c.from-parts.result) c.from.result c.superstep-superstep.ensures.state below).1 in
-    omega (arith, fits)
-
-pub tell_vertex-requires-clause-vertex : goal.tell_vertex-requires-clause-vertex
-tell_vertex-requires-clause-vertex g c =
-    let parts = c.from-parts.ensures ∙ c.parts.ensures.value ∙ ap (λ (l : PlanValue). l.parts) c.plan.ensures in
-    vertex-below c.args.replica.now c.from-parts.result c.from.result c.partition-partition.result c.part_size-i-end.result c.loop-i.i c.plan-2.result.now c.superstep-superstep.ensures.state parts (c.from.ensures ∙ c.partition-partition.ensures) c.plan-2.ensures c.part_size-i-end.ensures c.partition-partition.ensures c.loop-i-test.true
+pub own_vertex-requires : goal.own_vertex-requires
+own_vertex-requires g c =
+    is_own c.args.replica.now c.part_size-i-end.result c.partition-partition.result c.loop-i.i c.plan.result.now c.plan.ensures c.part_size-i-end.ensures c.partition-partition.ensures c.loop-i-test.true
 
 pub loop-i-preserved : goal.loop-i-preserved
 loop-i-preserved g c = record {
   done = λ j h has.
       lines_next (g.W.Write.contents c.args.writer.now) (g.W.Write.contents c.loop-i.writer) (g.W.Write.contents c.tell_vertex.new.writer)
-      (vertex_text (mixing_of j.plan) j.graph c.args.graph.now.labels h.superstep) (λ i. i * c.from-parts.result + c.partition-partition.result) c.loop-i.i (c.loop-i.i * c.from-parts.result + c.from.result)
-      (ap (λ p. c.loop-i.i * c.from-parts.result + p) c.from.ensures) (c.loop-i.invariant.done j h has) (c.in_ok-tell_vertex.ensures.done j h has);
+      (vertex_text (mixing_of j.plan) j.graph c.args.graph.now.labels h.superstep) (λ i. i * c.args.replica.now.part.plan.parts + c.args.replica.now.part.number) c.loop-i.i c.own_vertex.result
+      c.own_vertex.ensures.value (c.loop-i.invariant.done j h has) (c.in_ok-tell_vertex.ensures.done j h has);
   written = c.in_ok-tell_vertex.ensures.written (λ e. absurd (cc)) ∙ c.loop-i.invariant.written;
 }
 
 pub returns-clause-done : goal.returns-clause-done
 unfolding figures_text
 returns-clause-done g c = λ j h has.
-    let parts = c.from-parts.ensures ∙ c.parts.ensures.value ∙ ap (λ (l : PlanValue). l.parts) c.plan.ensures in
     let last : c.loop-i.i ≡ c.part_size-i-end.result = omega (arith, c.loop-i.auto.i-end, c.loop-i-test.false) in
-    let own = own-is j h c.args.replica.now c.from-parts.result c.partition-partition.result c.partition-partition.result c.loop-i.i c.plan-2.result.now has parts c.partition-partition.ensures c.plan-2.ensures (last ∙ c.part_size-i-end.ensures) c.partition-partition.ensures in
+    let own = own-is j h c.args.replica.now c.args.replica.now.part.plan.parts c.args.replica.now.part.number c.partition-partition.result c.loop-i.i c.plan.result.now has refl refl c.plan.ensures (last ∙ c.part_size-i-end.ensures) c.partition-partition.ensures in
     subst (λ l. Appends (g.W.Write.contents c.args.writer.now) (g.W.Write.contents c.loop-i.writer) (flat_map (vertex_text (mixing_of j.plan) j.graph c.args.graph.now.labels h.superstep) l)) (sym own) (c.loop-i.invariant.done j h has)

@@ -12,6 +12,6 @@ abbrev pub invariant-loop-i : goal.invariant-loop-i
 invariant-loop-i g l = record {
   done : (j : Job) (h : Holding) → HasHolding j h l.replica →
       Appends (g.W.Write.contents l.initial.writer) (g.W.Write.contents l.writer)
-      (first-texts (row_text j h.superstep) (λ i. i * l.parts + l.partition) l.i);
+      (first-texts (row_text j h.superstep) (λ i. i * l.replica.part.plan.parts + l.replica.part.number) l.i);
   written : g.W.CountedWrite.failed_calls l.writer ≡ g.W.CountedWrite.failed_calls l.initial.writer;
 }
