@@ -4,6 +4,7 @@ use Rattle.std.specs.Prelude.{IfOk, Result}
 use Rattle.hyperball.specs.declared.node_words.GatherWords.{GatherWords}
 use Rattle.hyperball.specs.declared.node_words.NodeWords.{NodeWords}
 use Rattle.hyperball.specs.declared.replay_words.ReplayWords.{ReplayWords}
+use Rattle.hyperball.specs.declared.words.Said.{Said}
 use Rattle.hyperball.specs.declared.words.Wish.{Wish}
 use Rattle.hyperball.specs.declared.words.Wish.TheVariants as wish
 use Rattle.hyperball.specs.declared.words.WordsError.{WordsError}
@@ -18,3 +19,10 @@ is_node r w is = subst (λ (o : Result Wish WordsError). IfOk o (λ found. found
 
 pub is_gather : (r : Result Wish WordsError) (w : GatherWords) → r ≡ Ok (wish.Gather w) → IfOk r (λ found. found ≡ wish.Gather w)
 is_gather r w is = subst (λ (o : Result Wish WordsError). IfOk o (λ found. found ≡ wish.Gather w)) (sym is) refl
+
+-- what follows from each wish follows
+pub each_wish : {A : Type 0} → (x : Wish) → ((said : Said) → x ≡ wish.Run said → A) → ((w : ReplayWords) → x ≡ wish.Replay w → A) → ((w : NodeWords) → x ≡ wish.Node w → A) → ((w : GatherWords) → x ≡ wish.Gather w → A) → A
+each_wish (wish.Run said) run replay node gather = run said refl
+each_wish (wish.Replay w) run replay node gather = replay w refl
+each_wish (wish.Node w) run replay node gather = node w refl
+each_wish (wish.Gather w) run replay node gather = gather w refl

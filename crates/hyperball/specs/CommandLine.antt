@@ -1,5 +1,5 @@
 -- The command line: the subcommands `run`, `replay`, `node` and `gather`, and their options.
-use Rattle.std.specs.Prelude.{◌≡◌, List, [], ◌∷◌, Some, codes, map, pos, true, false}
+use Rattle.std.specs.Prelude.{◌≡◌, List, [], ◌∷◌, Option, None, Some, codes, map, pos, true, false}
 use Rattle.clap.specs.Words.{App, Rule, Text, app_of, new_app, new_rule}
 use Rattle.clap.specs.Words.{with_rule, with_subcommand}
 use Rattle.clap.specs.declared.builder.action.ArgAction.TheVariants.{SetTrue}
@@ -7,6 +7,7 @@ use Rattle.clap.specs.declared.builder.command.Command.{Command}
 use Rattle.clap.specs.declared.builder.command.Command.TheViews.{out-Command as fields_of}
 use Rattle.clap.specs.declared.builder.value_parser.ValueParser.{ValueParser}
 use Rattle.clap.specs.declared.builder.value_parser.ValueParser.TheVariants as vp
+use Rattle.hyperball.specs.declared.arguments.Argument.{Argument}
 
 -- what stands between the two fields of a line, by name
 abbrev pub delimiter_names : List Text
@@ -37,6 +38,20 @@ option_rule name parser = record (new_rule name) { long = Some name; parser = So
 -- a flag: its long name
 abbrev pub flag_rule : Text → Rule
 flag_rule name = record (new_rule name) { long = Some name; action = Some SetTrue }
+
+-- an option where a parser reads its value, and a flag where none does
+abbrev pub named_rule : Text → Option ValueParser → Rule
+named_rule name (Some parser) = option_rule name parser
+named_rule name None = flag_rule name
+
+-- the rule of an argument
+abbrev pub rule_in : Argument → Rule
+rule_in a = named_rule a.name.now a.parser
+
+-- a command with these arguments, one after the other
+unfoldable pub with_arguments : List Argument → App → App
+with_arguments [] app = app
+with_arguments (a ∷ rest) app = with_arguments rest (with_rule app (rule_in a))
 
 -- numbers of 8, 16, 32 and 64 bits
 abbrev pub number8 : ValueParser

@@ -22,6 +22,7 @@
 //! ```
 #![tactic(auto)]
 
+pub mod arguments;
 pub mod job_words;
 pub mod laws;
 pub mod node_words;

@@ -1,15 +1,16 @@
 //! The words of the commands `hyperball node` and `hyperball gather`.
 
 ghost use Rattle.std.specs.Prelude.{◌≡◌, Bool, IfOk, codes};
-ghost use Rattle.clap.specs.Words.{found_of, new_app, rows_of};
+ghost use Rattle.clap.specs.Words.{found_of, rows_of};
 ghost use Rattle.hyperball.specs.CommandLine.{IsApp, gather_app, node_app};
 ghost use Rattle.hyperball.specs.Nodes.{AreGatherOptionsOf, AreNodeOptionsOf};
 ghost use Rattle.hyperball.specs.Words.{IsFlag};
 ghost use Rattle.hyperball.specs.declared.node_words.GatherWords.{GatherWords as Gathered};
 ghost use Rattle.hyperball.specs.declared.node_words.NodeWords.{NodeWords as Noded};
 
-use crate::job_words::{add_job, job_options_of};
-use crate::words::{add_option, add_progress, wants_progress};
+use crate::arguments::{Texts, option, progress, subcommand_of};
+use crate::job_words::{job_arguments, job_options_of};
+use crate::words::wants_progress;
 use clap::builder::ValueParser;
 use clap::{ArgMatches, Command, value_parser};
 use node::job::JobOptions;
@@ -103,7 +104,7 @@ const PART_HELP: &str =
     "Partition of this node, from 0 on: each node of a job has another one [default: 0]";
 
 /// What the words of a node say.
-#[derive(Clone, Copy, Debug, PartialEq, Eq)]
+#[derive(Clone, Copy, PartialEq, Eq)]
 pub struct NodeWords {
     /// The options of its job.
     pub options: JobOptions,
@@ -114,32 +115,12 @@ pub struct NodeWords {
 }
 
 /// What the words of a gathering say.
-#[derive(Clone, Copy, Debug, PartialEq, Eq)]
+#[derive(Clone, Copy, PartialEq, Eq)]
 pub struct GatherWords {
     /// The options of its job.
     pub options: JobOptions,
     /// Whether progress is to be told.
     pub progress: bool,
-}
-
-// The subcommand node, before it has options.
-fn bare_node<'a>(alloc: Global) -> Command<'a>
-    ensures { IsApp (new_app (codes "node")) result }
-{
-    Command::new(alloc, "node")
-        .about(NODE_ABOUT)
-        .long_about(NODE_LONG_ABOUT)
-        .after_long_help(NODE_AFTER)
-}
-
-// The subcommand gather, before it has options.
-fn bare_gather<'a>(alloc: Global) -> Command<'a>
-    ensures { IsApp (new_app (codes "gather")) result }
-{
-    Command::new(alloc, "gather")
-        .about(GATHER_ABOUT)
-        .long_about(GATHER_LONG_ABOUT)
-        .after_long_help(GATHER_AFTER)
 }
 
 /// The subcommand node, with parsers of estimates and of delimiters.
@@ -151,15 +132,15 @@ pub fn node_command<'a>(
     ensures { IfOk result (IsApp (node_app
         (record { estimates = estimates.entry; delimiters = delimiters.entry }))) }
 {
-    let command = add_job(
-        alloc,
-        bare_node(alloc),
-        NODE_PARTS_HELP,
-        estimates,
-        delimiters,
-    )?;
-    let command = add_option(alloc, command, "part", PART_HELP, value_parser!(u16))?;
-    add_progress(alloc, command)
+    let texts = Texts {
+        name: "node",
+        about: NODE_ABOUT,
+        long_about: NODE_LONG_ABOUT,
+        after_help: NODE_AFTER,
+    };
+    let job = job_arguments(NODE_PARTS_HELP, estimates, delimiters);
+    let part = option("part", PART_HELP, value_parser!(u16));
+    subcommand_of(alloc, &texts, &job, &[part, progress()])
 }
 
 /// The subcommand gather, with parsers of estimates and of delimiters.
@@ -171,14 +152,14 @@ pub fn gather_command<'a>(
     ensures { IfOk result (IsApp (gather_app
         (record { estimates = estimates.entry; delimiters = delimiters.entry }))) }
 {
-    let command = add_job(
-        alloc,
-        bare_gather(alloc),
-        GATHER_PARTS_HELP,
-        estimates,
-        delimiters,
-    )?;
-    add_progress(alloc, command)
+    let texts = Texts {
+        name: "gather",
+        about: GATHER_ABOUT,
+        long_about: GATHER_LONG_ABOUT,
+        after_help: GATHER_AFTER,
+    };
+    let job = job_arguments(GATHER_PARTS_HELP, estimates, delimiters);
+    subcommand_of(alloc, &texts, &job, &[progress()])
 }
 
 /// What the words of a node say. Values are as `clap` has checked them.

@@ -29,24 +29,24 @@ use std::thread::Threads;
 use thiserror::Error;
 
 /// Why a node answers no more, or not at all, in the order of the checks.
-#[derive(Clone, Copy, Debug, PartialEq, Eq, Error)]
+#[derive(Clone, Copy, Debug, Error)]
 pub enum NodeFault {
     /// There are no random words to hash labels by.
     #[error("the system gives no random words")]
     Random,
     /// The node gives up.
-    #[error("{0}")]
+    #[error(transparent)]
     Node(NodeError),
 }
 
 /// Why no report is gathered, or not all of it, in the order of the checks.
-#[derive(Clone, Copy, Debug, PartialEq, Eq, Error)]
+#[derive(Clone, Copy, Debug, Error)]
 pub enum GatherFault {
     /// There are no random words to hash labels by.
     #[error("the system gives no random words")]
     Random,
     /// The report is not gathered.
-    #[error("{0}")]
+    #[error(transparent)]
     Gather(GatherError),
 }
 

@@ -10,7 +10,7 @@ use edgelist::Delimiter;
 use workers::RunOptions;
 
 /// The options that are numbers or names.
-#[derive(Clone, Copy, Debug, PartialEq, Eq)]
+#[derive(Clone, Copy, PartialEq, Eq)]
 pub struct Options {
     /// The binary logarithm of the number of registers of a counter.
     pub log2m: u8,
@@ -50,7 +50,7 @@ pub const USUAL: Options = Options {
 };
 
 /// Which replicas are lost, and which start anew, each at a superstep.
-#[derive(Debug, PartialEq, Eq, Drop)]
+#[derive(Drop)]
 pub struct Orders {
     /// Which are lost.
     pub lose: Vec<(NodeId, u32)>,

@@ -10,7 +10,7 @@ use ball_model::NodeId;
 use std::alloc::Global;
 
 /// Why a text is no list of orders.
-#[derive(Clone, Copy, Debug, PartialEq, Eq)]
+#[derive(Clone, Copy)]
 pub enum OrdersError {
     /// It is not of the form.
     Form,

@@ -1,15 +1,16 @@
 //! The words of the second command, `hyperball replay`.
 
 ghost use Rattle.std.specs.Prelude.{◌≡◌, Bool, IfOk, codes};
-ghost use Rattle.clap.specs.Words.{App, found_of, new_app, rows_of};
-ghost use Rattle.hyperball.specs.CommandLine.{IsApp, replay_app, with_numbers};
+ghost use Rattle.clap.specs.Words.{found_of, rows_of};
+ghost use Rattle.hyperball.specs.CommandLine.{IsApp, replay_app};
 ghost use Rattle.hyperball.specs.Replaying.{AreReplayOptionsOf};
 ghost use Rattle.hyperball.specs.Words.{IsFlag};
 ghost use Rattle.hyperball.specs.declared.replay_words.ReplayWords.{ReplayWords as Replayed};
 
-use crate::job_words::{PARTS_HELP, add_job, job_options_of};
+use crate::arguments::{Texts, option, progress, subcommand_of};
+use crate::job_words::{PARTS_HELP, job_arguments, job_options_of};
 use crate::options::USUAL;
-use crate::words::{add_option, add_progress, wants_progress};
+use crate::words::wants_progress;
 use clap::builder::ValueParser;
 use clap::{ArgMatches, Command, value_parser};
 use std::alloc::{AllocError, Global};
@@ -65,7 +66,7 @@ Exit status:
 const REPLICAS_HELP: &str = "Replicas of each partition, 1 to 4 [default: 1]";
 
 /// What the words of a replay say.
-#[derive(Clone, Copy, Debug, PartialEq, Eq)]
+#[derive(Clone, Copy)]
 pub struct ReplayWords {
     /// The options.
     pub options: ReplayOptions,
@@ -73,16 +74,6 @@ pub struct ReplayWords {
     pub counted: bool,
     /// Whether progress is to be told.
     pub progress: bool,
-}
-
-// The subcommand replay, before it has options.
-fn bare_replay<'a>(alloc: Global) -> Command<'a>
-    ensures { IsApp (new_app (codes "replay")) result }
-{
-    Command::new(alloc, "replay")
-        .about(ABOUT)
-        .long_about(LONG_ABOUT)
-        .after_long_help(AFTER)
 }
 
 /// The subcommand replay, with parsers of estimates and of delimiters.
@@ -94,9 +85,15 @@ pub fn replay_command<'a>(
     ensures { IfOk result (IsApp (replay_app
         (record { estimates = estimates.entry; delimiters = delimiters.entry }))) }
 {
-    let command = add_job(alloc, bare_replay(alloc), PARTS_HELP, estimates, delimiters)?;
-    let command = add_option(alloc, command, "replicas", REPLICAS_HELP, value_parser!(u8))?;
-    add_progress(alloc, command)
+    let texts = Texts {
+        name: "replay",
+        about: ABOUT,
+        long_about: LONG_ABOUT,
+        after_help: AFTER,
+    };
+    let job = job_arguments(PARTS_HELP, estimates, delimiters);
+    let replicas = option("replicas", REPLICAS_HELP, value_parser!(u8));
+    subcommand_of(alloc, &texts, &job, &[replicas, progress()])
 }
 
 /// The options of replay. Values are as `clap` has checked them.

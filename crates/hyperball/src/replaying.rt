@@ -24,13 +24,13 @@ use world::replay::{ReplayError, replay_watched};
 use world::watch::Watch;
 
 /// Why words of a replay give no answers, or not all of them, in the order of the checks.
-#[derive(Clone, Copy, Debug, PartialEq, Eq, Error)]
+#[derive(Clone, Copy, Debug, Error)]
 pub enum ReplayFault {
     /// There are no random words to hash labels by.
     #[error("the system gives no random words")]
     Random,
     /// The input is not read whole.
-    #[error("{0}")]
+    #[error(transparent)]
     Input(WholeError),
     /// There is no list of counted vertices.
     #[error("no line %% before the list")]
@@ -39,7 +39,7 @@ pub enum ReplayFault {
     #[error("no line %% before the script")]
     NoScript,
     /// The replay gives no answers, or not all of them.
-    #[error("{0}")]
+    #[error(transparent)]
     Replay(ReplayError),
 }
 

@@ -14,11 +14,11 @@ ghost use Rattle.edgelist.specs.declared.read.EdgeError.TheVariants as edge_faul
 ghost use Rattle.hyperball.specs.Whole.{IsLong, ReadsFew, most_bytes};
 ghost use Rattle.hyperball.specs.Options.{options_of, settings_in};
 ghost use Rattle.hyperball.specs.Refusals.{IsFault, RefusesLongRun};
-ghost use Rattle.hyperball.specs.Replaying.{BeginsSome, BeginsToServe, IsReplay, ServesReplay};
+ghost use Rattle.hyperball.specs.Replaying.{BeginsSome, BeginsToServe, IsReplay, SaysRun, ServesReplay};
 ghost use Rattle.hyperball.specs.declared.replay_words.ReplayWords.{ReplayWords as Replayed};
 ghost use Rattle.hyperball.specs.Words.{AreMistakes, AsksProgress, FailsFor, HasFaults, HasOrders};
 ghost use Rattle.hyperball.specs.Words.{IsMistake, IsRun};
-ghost use Rattle.hyperball.specs.Words.{Reports, Serves, listed_words, texts_of};
+ghost use Rattle.hyperball.specs.Words.{Reports, SaysProgress, Serves, listed_words, texts_of};
 ghost use Rattle.hyperball.specs.Nodes.{AsksGather, AsksNode, IsGather, IsNode};
 ghost use Rattle.hyperball.specs.declared.node_words.GatherWords.{GatherWords as Gathered};
 ghost use Rattle.hyperball.specs.declared.node_words.NodeWords.{NodeWords as Noded};
@@ -30,6 +30,7 @@ ghost use Rattle.hyperball.specs.declared.options.Options.{Options as Asked};
 ghost use Rattle.workers.specs.Options.{settings_of};
 ghost use Rattle.hyperball.specs.declared.whole.WholeError.{WholeError as NoInput};
 ghost use Rattle.hyperball.specs.declared.words.RunWords.{RunWords as Run};
+ghost use Rattle.hyperball.specs.declared.words.Said.{Said as Asking};
 
 use crate::node_words::{GatherWords, NodeWords};
 use crate::nodes::{gather_by, node_by};
@@ -72,13 +73,13 @@ enum RunFault {
     #[error("the system gives no random words")]
     Random,
     // The input is not read whole.
-    #[error("{0}")]
+    #[error(transparent)]
     Input(WholeError),
     // There is no list of counted vertices.
     #[error("no line %% before the list")]
     NoList,
     // The run gives no report.
-    #[error("{0}")]
+    #[error(transparent)]
     Run(RunError),
 }
 
@@ -491,6 +492,58 @@ fn serve_gather<
     }
 }
 
+// Does what words ask for, and gives the exit status.
+fn serve_wish<
+    H: AllocGlobal + Clock + RandomSource + Threads + Wait + Sync,
+    R: CountedRead,
+    W: CountedWrite,
+    F: Faults,
+>(rt: &H, wish: Wish, reader: &mut R, writer: &mut W, faults: &mut F) -> u8
+    ensures status { (result ≡ 0) ⊎ (result ≡ 1) }
+    ensures run { (w : Run) → SaysRun w wish → result ≡ 0 →
+        Serves w (R.remaining reader.old) W.contents writer.old writer.new }
+    ensures few { (w : Run) → SaysRun w wish → w.counted ≡ true →
+        ReadsFew (R.remaining reader.old) (R.remaining reader.new) }
+    ensures kept { (said : Asking) → wish ≡ Wish.Run said → result ≡ 1 →
+        KeptOrFailed W.contents W.failed_calls writer.old writer.new }
+    ensures replay { (w : Replayed) → wish ≡ Wish.Replay w → result ≡ 0 →
+        ServesReplay w (R.remaining reader.old) W.contents writer.old writer.new }
+    ensures replay_few { (w : Replayed) → wish ≡ Wish.Replay w →
+        ReadsFew (R.remaining reader.old) (R.remaining reader.new) }
+    ensures begun { (w : Replayed) → wish ≡ Wish.Replay w → result ≡ 1 →
+        BeginsToServe w (R.remaining reader.old)
+        W.contents W.failed_calls writer.old writer.new }
+    ensures node { (w : Noded) → wish ≡ Wish.Node w → result ≡ 0 → ServesNode
+        (job_settings w.options) w.options.counted w.part
+        (R.remaining reader.old) (R.remaining reader.new)
+        (W.contents writer.old) (W.contents writer.new) }
+    ensures node_read { (w : Noded) → wish ≡ Wish.Node w → result ≡ 0 →
+        R.failed_calls reader.new ≡ R.failed_calls reader.old }
+    ensures node_written { (w : Noded) → wish ≡ Wish.Node w → result ≡ 0 →
+        W.failed_calls writer.new ≡ W.failed_calls writer.old }
+    ensures gather { (w : Gathered) → wish ≡ Wish.Gather w → result ≡ 0 → GathersJob
+        (job_settings w.options) w.options.counted
+        (R.remaining reader.old) (R.remaining reader.new)
+        (W.contents writer.old) (W.contents writer.new) }
+    ensures gather_read { (w : Gathered) → wish ≡ Wish.Gather w → result ≡ 0 →
+        R.failed_calls reader.new ≡ R.failed_calls reader.old }
+    ensures gather_written { (w : Gathered) → wish ≡ Wish.Gather w → result ≡ 0 →
+        W.failed_calls writer.new ≡ W.failed_calls writer.old }
+    ensures gather_begun { (w : Gathered) → wish ≡ Wish.Gather w → result ≡ 1 → WritesFrontOfJob
+        (job_settings w.options) w.options.counted
+        (R.remaining reader.old) (R.remaining reader.new)
+        (W.contents writer.old) (W.contents writer.new) }
+    ensures silent { result ≡ 0 → SaysProgress false wish →
+        Keeps (F.contents faults.old) (F.contents faults.new) }
+{
+    match wish {
+        Wish::Run(said) => serve_run(rt, said, reader, writer, faults),
+        Wish::Replay(words) => serve_replay(rt, &words, reader, writer, faults),
+        Wish::Node(words) => serve_node(rt, &words, reader, writer, faults),
+        Wish::Gather(words) => serve_gather(rt, &words, reader, writer, faults),
+    }
+}
+
 /// Does what the words of a command line say, and gives the exit status.
 ///
 /// 0: the report or the answers were written, or help was asked for, whose text goes to the writer; nothing goes to
@@ -561,10 +614,7 @@ pub fn serve<
         Keeps (F.contents faults.old) (F.contents faults.new) }
 {
     match read_words(rt.alloc(), words) {
-        Ok(Wish::Run(said)) => serve_run(rt, said, reader, writer, faults),
-        Ok(Wish::Replay(words)) => serve_replay(rt, &words, reader, writer, faults),
-        Ok(Wish::Node(words)) => serve_node(rt, &words, reader, writer, faults),
-        Ok(Wish::Gather(words)) => serve_gather(rt, &words, reader, writer, faults),
+        Ok(wish) => serve_wish(rt, wish, reader, writer, faults),
         Err(error) => tell_words(rt.alloc(), &error, writer, faults),
     }
 }

@@ -17,7 +17,7 @@ const MOST: usize = 67_108_864;
 const PIECE: usize = 65_536;
 
 /// Why an input is not read whole, in the order of the checks.
-#[derive(Clone, Copy, Debug, PartialEq, Eq, Error)]
+#[derive(Clone, Copy, Debug, Error)]
 pub enum WholeError {
     /// A read failed.
     #[error("the input cannot be read")]

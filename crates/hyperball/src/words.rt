@@ -3,14 +3,13 @@
 ghost use Rattle.std.specs.Prelude.{◌≡◌, [], Err, IfErr, IfOk, IfSome, List, MatchOption};
 ghost use Rattle.std.specs.Prelude.{false, is_some, true};
 ghost use Rattle.std.specs.Prelude.{Bool, codes, option_map};
-ghost use Rattle.clap.specs.Words.{App, FailsBy, found_of, has_subcommand, rows_of, rule_of};
-ghost use Rattle.clap.specs.Words.{new_app, subcommand_rows_of, with_rule, with_subcommand};
+ghost use Rattle.clap.specs.Words.{App, FailsBy, found_of, has_subcommand, rows_of};
+ghost use Rattle.clap.specs.Words.{subcommand_rows_of, with_subcommand};
 ghost use Rattle.clap.specs.declared.error.kind.ErrorKind.{ErrorKind as Kind};
 ghost use Rattle.hyperball.specs.CommandLine.{IsApp, Parsers, TakeNames, TakesNames};
 ghost use Rattle.hyperball.specs.CommandLine.{delimiter_names, estimate_names, hyperball_app, new_hyperball};
-ghost use Rattle.hyperball.specs.CommandLine.{flag_rule, option_rule, run_app};
-ghost use Rattle.hyperball.specs.CommandLine.{with_counters, with_input, with_nodes, with_numbers};
-ghost use Rattle.hyperball.specs.CommandLine.{with_orders, with_progress};
+ghost use Rattle.hyperball.specs.CommandLine.{run_app, with_arguments, with_nodes, with_orders};
+ghost use Rattle.hyperball.specs.CommandLine.{with_progress};
 ghost use Rattle.hyperball.specs.declared.words.RunWords.{RunWords as Run};
 ghost use Rattle.std.specs.Prelude.{Ok};
 ghost use Rattle.hyperball.specs.Replaying.{AsksReplay, IsReplay, IsReplayOf, NamesReplay, SaysRun};
@@ -30,7 +29,8 @@ ghost use Rattle.ball_model.specs.declared.plan.Estimate.TheVariants.{Raw};
 ghost use Rattle.edgelist.specs.declared.read.Delimiter.{Delimiter as Between};
 ghost use Rattle.edgelist.specs.declared.read.Delimiter.TheVariants.{Tab};
 
-use crate::job_words::{add_job, job_options_of};
+use crate::arguments::{Argument, Texts, option, progress, subcommand_of};
+use crate::job_words::{job_arguments, job_options_of};
 use crate::node_words::{
     GatherWords, NodeWords, gather_command, gather_words_of, node_command, node_words_of,
 };
@@ -39,7 +39,7 @@ use crate::orders::{OrdersError, orders_in};
 use crate::replay_words::{ReplayWords, replay_command, replay_words_of};
 use ball_model::{Estimate, NodeId};
 use clap::builder::ValueParser;
-use clap::{Arg, ArgAction, ArgMatches, Command, Error, value_parser};
+use clap::{ArgMatches, Command, Error, value_parser};
 use edgelist::Delimiter;
 use std::alloc::{AllocError, Global};
 
@@ -91,16 +91,8 @@ Exit status:
   1  a fault, told in one line on standard error; nothing was written, or the output failed
   2  words that are no command";
 
-const LOG2M_HELP: &str =
-    "Counters of 2^log2m bytes, 4 to 10; error about 1.04/sqrt(2^log2m) [default: 8]";
-
-const SEED_HELP: &str = "Seed under which vertices are hashed [default: 0]";
-
 const PARTS_HELP: &str =
     "Partitions, 1 to 64. More cores: as many partitions as cores; the same report [default: 1]";
-
-const LIMIT_HELP: &str =
-    "Greatest superstep, 1 to 4096; a run ends sooner where nothing changes [default: 4096]";
 
 const REPLICAS_HELP: &str =
     "Replicas of each partition, 1 to 4: with 2 a worker may be lost, and not the run [default: 1]";
@@ -119,47 +111,13 @@ const LOSE_HELP: &str =
 
 const RESTART_HELP: &str = "Workers that start anew from what is kept, in the form of --lose";
 
-/// The help of `--estimate`.
-pub const ESTIMATE_HELP: &str =
-    "raw: far too large for small sets; corrected: near the true size for all [default: raw]";
-
-const DELIMITER_HELP: &str = "What stands between the two fields of a line [default: tab]";
-
-const COUNTED_HELP: &str =
-    "Count only the vertices listed after the edge list and a line %%: how near are they?";
-
-const PROGRESS_HELP: &str =
-    "Tell how it gets on, in lines on standard error: what was read, each superstep, close or checkpoint, the end";
-
 /// What the words of a run say.
-#[derive(Clone, Copy, Debug, PartialEq, Eq)]
+#[derive(Clone, Copy, PartialEq, Eq)]
 pub struct RunWords {
     /// The options.
     pub options: Options,
     /// Whether a list of counted vertices follows the edge list.
     pub counted: bool,
-}
-
-// An option that takes a value.
-fn option<'a>(alloc: Global, name: &'a str, help: &'a str, parser: ValueParser<'a>) -> Arg<'a>
-    ensures rule { rule_of result ≡ option_rule name.entry.now parser.entry }
-    ensures local { result.global ≡ false }
-{
-    Arg::new(alloc, name)
-        .long(name)
-        .help(help)
-        .value_parser(parser)
-}
-
-// An option that takes none.
-fn flag<'a>(alloc: Global, name: &'a str, help: &'a str) -> Arg<'a>
-    ensures rule { rule_of result ≡ flag_rule name.entry.now }
-    ensures local { result.global ≡ false }
-{
-    Arg::new(alloc, name)
-        .long(name)
-        .help(help)
-        .action(ArgAction::SetTrue)
 }
 
 // One of the names of the ways to make estimates.
@@ -176,93 +134,20 @@ fn delimiters<'a>() -> ValueParser<'a>
     ValueParser::Names(DELIMITERS.as_slice())
 }
 
-/// Adds an option that takes a value.
-pub fn add_option<'a>(
-    alloc: Global,
-    command: Command<'a>,
-    name: &'a str,
-    help: &'a str,
-    parser: ValueParser<'a>,
-) -> Result<Command<'a>, AllocError>
-    ensures { (app : App) → IsApp app command.entry →
-        IfOk result (IsApp (with_rule app (option_rule name.entry.now parser.entry))) }
+// The arguments of run behind those of its job.
+fn run_arguments<'a>() -> [Argument<'a>; 7]
+    ensures { (app : App) → with_arguments result app ≡
+        with_progress (with_orders (with_nodes app)) }
 {
-    command.arg(option(alloc, name, help, parser))
-}
-
-// Adds the options of the counters.
-fn add_counters<'a>(alloc: Global, command: Command<'a>) -> Result<Command<'a>, AllocError>
-    ensures { (app : App) → IsApp app command.entry → IfOk result (IsApp (with_counters app)) }
-{
-    let command = add_option(alloc, command, "log2m", LOG2M_HELP, value_parser!(u8))?;
-    add_option(alloc, command, "seed", SEED_HELP, value_parser!(u64))
-}
-
-/// Adds the options of a plan, with the help of `--parts`.
-pub fn add_numbers<'a>(
-    alloc: Global,
-    command: Command<'a>,
-    parts_help: &'a str,
-) -> Result<Command<'a>, AllocError>
-    ensures { (app : App) → IsApp app command.entry → IfOk result (IsApp (with_numbers app)) }
-{
-    let command = add_counters(alloc, command)?;
-    let command = add_option(alloc, command, "parts", parts_help, value_parser!(u16))?;
-    add_option(alloc, command, "limit", LIMIT_HELP, value_parser!(u32))
-}
-
-// Adds the options of a plan's nodes.
-fn add_nodes<'a>(alloc: Global, command: Command<'a>) -> Result<Command<'a>, AllocError>
-    ensures { (app : App) → IsApp app command.entry → IfOk result (IsApp (with_nodes app)) }
-{
-    let command = add_option(alloc, command, "replicas", REPLICAS_HELP, value_parser!(u8))?;
-    let command = add_option(alloc, command, "entries", ENTRIES_HELP, value_parser!(u32))?;
-    let command = add_option(alloc, command, "keep", KEEP_HELP, value_parser!(u32))?;
-    add_option(
-        alloc,
-        command,
-        "patience",
-        PATIENCE_HELP,
-        value_parser!(u32),
-    )
-}
-
-// Adds the lists of orders.
-fn add_orders<'a>(alloc: Global, command: Command<'a>) -> Result<Command<'a>, AllocError>
-    ensures { (app : App) → IsApp app command.entry → IfOk result (IsApp (with_orders app)) }
-{
-    let command = add_option(alloc, command, "lose", LOSE_HELP, ValueParser::String)?;
-    add_option(alloc, command, "restart", RESTART_HELP, ValueParser::String)
-}
-
-/// Adds the options of an input, with a parser of delimiters.
-pub fn add_input<'a>(
-    alloc: Global,
-    command: Command<'a>,
-    delimiters: ValueParser<'a>,
-) -> Result<Command<'a>, AllocError>
-    ensures { (app : App) → IsApp app command.entry →
-        IfOk result (IsApp (with_input delimiters.entry app)) }
-{
-    let command = add_option(alloc, command, "delimiter", DELIMITER_HELP, delimiters)?;
-    command.arg(flag(alloc, "counted", COUNTED_HELP))
-}
-
-/// Adds the flag of progress.
-pub fn add_progress<'a>(alloc: Global, command: Command<'a>) -> Result<Command<'a>, AllocError>
-    ensures { (app : App) → IsApp app command.entry → IfOk result (IsApp (with_progress app)) }
-{
-    command.arg(flag(alloc, "progress", PROGRESS_HELP))
-}
-
-// The subcommand run, before it has options.
-fn bare_run<'a>(alloc: Global) -> Command<'a>
-    ensures { IsApp (new_app (codes "run")) result }
-{
-    Command::new(alloc, "run")
-        .about(RUN_ABOUT)
-        .long_about(RUN_LONG_ABOUT)
-        .after_long_help(RUN_AFTER)
+    [
+        option("replicas", REPLICAS_HELP, value_parser!(u8)),
+        option("entries", ENTRIES_HELP, value_parser!(u32)),
+        option("keep", KEEP_HELP, value_parser!(u32)),
+        option("patience", PATIENCE_HELP, value_parser!(u32)),
+        option("lose", LOSE_HELP, ValueParser::String),
+        option("restart", RESTART_HELP, ValueParser::String),
+        progress(),
+    ]
 }
 
 // The subcommand run, with parsers of estimates and of delimiters.
@@ -274,10 +159,14 @@ fn run_command<'a>(
     ensures { IfOk result (IsApp (run_app
         (record { estimates = estimates.entry; delimiters = delimiters.entry }))) }
 {
-    let command = add_job(alloc, bare_run(alloc), PARTS_HELP, estimates, delimiters)?;
-    let command = add_nodes(alloc, command)?;
-    let command = add_orders(alloc, command)?;
-    add_progress(alloc, command)
+    let texts = Texts {
+        name: "run",
+        about: RUN_ABOUT,
+        long_about: RUN_LONG_ABOUT,
+        after_help: RUN_AFTER,
+    };
+    let job = job_arguments(PARTS_HELP, estimates, delimiters);
+    subcommand_of(alloc, &texts, &job, &run_arguments())
 }
 
 // The program, before it has a subcommand.
@@ -409,7 +298,7 @@ fn orders_of(alloc: Global, matches: &ArgMatches<'_>) -> Result<Orders, OrdersEr
 }
 
 /// What words say: a run, which of its replicas are lost or start anew, and whether it tells its progress.
-#[derive(Debug, Drop)]
+#[derive(Drop)]
 pub struct Said {
     /// What the words of the run say.
     pub words: RunWords,
@@ -420,7 +309,7 @@ pub struct Said {
 }
 
 /// What a command line asks for.
-#[derive(Debug, Drop)]
+#[derive(Drop)]
 pub enum Wish {
     /// A run.
     Run(Said),
@@ -433,7 +322,7 @@ pub enum Wish {
 }
 
 /// Why words are no command.
-#[derive(Debug, Drop)]
+#[derive(Drop)]
 pub enum WordsError {
     /// `clap` refuses them, or help is asked for.
     Clap(Error),

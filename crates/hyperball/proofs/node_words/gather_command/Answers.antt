@@ -1,10 +1,8 @@
 use Rattle.std.proofs.Common.{codes}
 use Rattle.clap.specs.Words.{new_app}
-use Rattle.hyperball.specs.CommandLine.{gather_app}
+use Rattle.hyperball.specs.CommandLine.{gather_app, with_arguments}
 use Rattle.hyperball.proofs.node_words.gather_command.Goals as goal
 
 pub returns : goal.returns
-unfolding gather_app
-returns c =
-    let job = c.in_ok-command.ensures (new_app (codes "gather")) c.bare_gather.ensures in
-    c.add_progress.ensures _ job
+unfolding gather_app with_arguments
+returns c = rw (c.job_arguments-job.ensures (new_app (codes "gather")), c.progress.ensures) at c.subcommand_of.ensures

@@ -1,5 +1,5 @@
 use Rattle.std.proofs.Common.{rules}
-use Rattle.hyperball.proofs.replay_words.bare_replay.Goals as goal
+use Rattle.hyperball.proofs.arguments.bare.Goals as goal
 
 pub returns : goal.returns
 returns c = record { form = search rules; local = search rules }

@@ -1,0 +1,91 @@
+use Rattle.std.proofs.Common.{◌≡◌, subst, sym, true}
+use Rattle.std.specs.Prelude.{IfSome}
+use Rattle.node.specs.Gathering.{GathersJob}
+use Rattle.node.specs.Job.{settings_in}
+use Rattle.node.specs.NoReport.{WritesFrontOfJob}
+use Rattle.node.specs.Serving.{ServesNode}
+use Rattle.hyperball.specs.Replaying.{BeginsToServe, ServesReplay}
+use Rattle.hyperball.specs.Words.{Reports}
+use Rattle.hyperball.specs.declared.node_words.GatherWords.{GatherWords}
+use Rattle.hyperball.specs.declared.node_words.NodeWords.{NodeWords}
+use Rattle.hyperball.specs.declared.replay_words.ReplayWords.{ReplayWords}
+use Rattle.hyperball.specs.declared.words.RunWords.{RunWords}
+use Rattle.hyperball.proofs.NodeLemmas.{gather_no_replay, gather_no_run, gather_tells, node_no_gather, node_no_replay, node_no_run, node_tells, replay_no_gather, replay_no_node, run_no_gather, run_no_node, same_gather, same_node}
+use Rattle.hyperball.proofs.ReplayLemmas.{is_replay, is_run, not_replay, not_run, replay_tells, run_tells}
+use Rattle.hyperball.proofs.serve.serve_wish.Goals as goal
+
+pub returns-in-Run : goal.returns-in-Run
+returns-in-Run g c = record {
+  status = c.serve_run.ensures.status;
+  run = λ w says zero. subst (λ (v : RunWords). IfSome (g.R.Read.remaining c.args.reader.now) (λ input. Reports v input (g.W.Write.contents c.args.writer.now) (g.W.Write.contents c.serve_run.new.writer))) (is_run _ _ w c.in-Run.is says) (c.serve_run.ensures.done zero);
+  few = λ w says counted. c.serve_run.ensures.few (subst (λ (v : RunWords). v.counted ≡ true) (sym (is_run _ _ w c.in-Run.is says)) counted);
+  kept = λ said is one. c.serve_run.ensures.kept one;
+  replay = λ w is zero. absurd (not_replay _ _ w c.in-Run.is is);
+  replay_few = λ w is. absurd (not_replay _ _ w c.in-Run.is is);
+  begun = λ w is one. absurd (not_replay _ _ w c.in-Run.is is);
+  node = λ w is zero. absurd (run_no_node _ _ w c.in-Run.is is);
+  node_read = λ w is zero. absurd (run_no_node _ _ w c.in-Run.is is);
+  node_written = λ w is zero. absurd (run_no_node _ _ w c.in-Run.is is);
+  gather = λ w is zero. absurd (run_no_gather _ _ w c.in-Run.is is);
+  gather_read = λ w is zero. absurd (run_no_gather _ _ w c.in-Run.is is);
+  gather_written = λ w is zero. absurd (run_no_gather _ _ w c.in-Run.is is);
+  gather_begun = λ w is one. absurd (run_no_gather _ _ w c.in-Run.is is);
+  silent = λ zero quiet. c.serve_run.ensures.silent zero (run_tells _ _ _ c.in-Run.is quiet);
+}
+
+pub returns-in-Replay : goal.returns-in-Replay
+returns-in-Replay g c = record {
+  status = c.serve_replay.ensures.status;
+  run = λ w says zero. absurd (not_run _ _ w c.in-Replay.is says);
+  few = λ w says counted. absurd (not_run _ _ w c.in-Replay.is says);
+  kept = λ said is one. absurd (not_replay _ said _ is c.in-Replay.is);
+  replay = λ w is zero. subst (λ (v : ReplayWords). ServesReplay v (g.R.Read.remaining c.args.reader.now) g.W.Write.contents c.args.writer.now c.serve_replay.new.writer) (is_replay _ _ w c.in-Replay.is is) (c.serve_replay.ensures.done zero);
+  replay_few = λ w is. c.serve_replay.ensures.few;
+  begun = λ w is one. subst (λ (v : ReplayWords). BeginsToServe v (g.R.Read.remaining c.args.reader.now) g.W.Write.contents g.W.CountedWrite.failed_calls c.args.writer.now c.serve_replay.new.writer) (is_replay _ _ w c.in-Replay.is is) (c.serve_replay.ensures.begun one);
+  node = λ w is zero. absurd (replay_no_node _ _ w c.in-Replay.is is);
+  node_read = λ w is zero. absurd (replay_no_node _ _ w c.in-Replay.is is);
+  node_written = λ w is zero. absurd (replay_no_node _ _ w c.in-Replay.is is);
+  gather = λ w is zero. absurd (replay_no_gather _ _ w c.in-Replay.is is);
+  gather_read = λ w is zero. absurd (replay_no_gather _ _ w c.in-Replay.is is);
+  gather_written = λ w is zero. absurd (replay_no_gather _ _ w c.in-Replay.is is);
+  gather_begun = λ w is one. absurd (replay_no_gather _ _ w c.in-Replay.is is);
+  silent = λ zero quiet. c.serve_replay.ensures.silent zero (replay_tells _ _ _ c.in-Replay.is quiet);
+}
+
+pub returns-in-Node : goal.returns-in-Node
+returns-in-Node g c = record {
+  status = c.serve_node.ensures.status;
+  run = λ w says zero. absurd (node_no_run _ _ w c.in-Node.is says);
+  few = λ w says counted. absurd (node_no_run _ _ w c.in-Node.is says);
+  kept = λ said is one. absurd (run_no_node _ said _ is c.in-Node.is);
+  replay = λ w is zero. absurd (node_no_replay _ _ w c.in-Node.is is);
+  replay_few = λ w is. absurd (node_no_replay _ _ w c.in-Node.is is);
+  begun = λ w is one. absurd (node_no_replay _ _ w c.in-Node.is is);
+  node = λ w is zero. subst (λ (v : NodeWords). ServesNode (settings_in v.options) v.options.counted v.part (g.R.Read.remaining c.args.reader.now) (g.R.Read.remaining c.serve_node.new.reader) (g.W.Write.contents c.args.writer.now) (g.W.Write.contents c.serve_node.new.writer)) (same_node _ _ w c.in-Node.is is) (c.serve_node.ensures.done zero);
+  node_read = λ w is zero. c.serve_node.ensures.read zero;
+  node_written = λ w is zero. c.serve_node.ensures.written zero;
+  gather = λ w is zero. absurd (node_no_gather _ _ w c.in-Node.is is);
+  gather_read = λ w is zero. absurd (node_no_gather _ _ w c.in-Node.is is);
+  gather_written = λ w is zero. absurd (node_no_gather _ _ w c.in-Node.is is);
+  gather_begun = λ w is one. absurd (node_no_gather _ _ w c.in-Node.is is);
+  silent = λ zero quiet. c.serve_node.ensures.silent zero (node_tells _ _ _ c.in-Node.is quiet);
+}
+
+pub returns-in-Gather : goal.returns-in-Gather
+returns-in-Gather g c = record {
+  status = c.serve_gather.ensures.status;
+  run = λ w says zero. absurd (gather_no_run _ _ w c.in-Gather.is says);
+  few = λ w says counted. absurd (gather_no_run _ _ w c.in-Gather.is says);
+  kept = λ said is one. absurd (run_no_gather _ said _ is c.in-Gather.is);
+  replay = λ w is zero. absurd (gather_no_replay _ _ w c.in-Gather.is is);
+  replay_few = λ w is. absurd (gather_no_replay _ _ w c.in-Gather.is is);
+  begun = λ w is one. absurd (gather_no_replay _ _ w c.in-Gather.is is);
+  node = λ w is zero. absurd (node_no_gather _ w _ is c.in-Gather.is);
+  node_read = λ w is zero. absurd (node_no_gather _ w _ is c.in-Gather.is);
+  node_written = λ w is zero. absurd (node_no_gather _ w _ is c.in-Gather.is);
+  gather = λ w is zero. subst (λ (v : GatherWords). GathersJob (settings_in v.options) v.options.counted (g.R.Read.remaining c.args.reader.now) (g.R.Read.remaining c.serve_gather.new.reader) (g.W.Write.contents c.args.writer.now) (g.W.Write.contents c.serve_gather.new.writer)) (same_gather _ _ w c.in-Gather.is is) (c.serve_gather.ensures.done zero);
+  gather_read = λ w is zero. c.serve_gather.ensures.read zero;
+  gather_written = λ w is zero. c.serve_gather.ensures.written zero;
+  gather_begun = λ w is one. subst (λ (v : GatherWords). WritesFrontOfJob (settings_in v.options) v.options.counted (g.R.Read.remaining c.args.reader.now) (g.R.Read.remaining c.serve_gather.new.reader) (g.W.Write.contents c.args.writer.now) (g.W.Write.contents c.serve_gather.new.writer)) (same_gather _ _ w c.in-Gather.is is) (c.serve_gather.ensures.begun one);
+  silent = λ zero quiet. c.serve_gather.ensures.silent zero (gather_tells _ _ _ c.in-Gather.is quiet);
+}

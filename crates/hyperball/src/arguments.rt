@@ -1,0 +1,116 @@
+//! The subcommands, as what help tells of them and as tables of their arguments.
+
+ghost use Rattle.std.specs.Prelude.{◌≡◌, IfOk, codes, false};
+ghost use Rattle.clap.specs.Words.{App, new_app, rule_of};
+ghost use Rattle.hyperball.specs.CommandLine.{IsApp, flag_rule, option_rule, rule_in};
+ghost use Rattle.hyperball.specs.CommandLine.{with_arguments};
+
+use clap::builder::ValueParser;
+use clap::{Arg, ArgAction, Command};
+use std::alloc::{AllocError, Global};
+
+const PROGRESS_HELP: &str =
+    "Tell how it gets on, in lines on standard error: what was read, each superstep, close or checkpoint, the end";
+
+/// An argument of a command: an option whose value is read by a parser, or a flag, which has no value.
+#[derive(Clone, Copy)]
+pub struct Argument<'a> {
+    name: &'a str,
+    help: &'a str,
+    parser: Option<ValueParser<'a>>,
+}
+
+/// The name of a subcommand, and what help tells of it.
+#[derive(Clone, Copy)]
+pub struct Texts<'a> {
+    /// Its name.
+    pub name: &'a str,
+    /// What it does, in a line.
+    pub about: &'a str,
+    /// What it does, at length.
+    pub long_about: &'a str,
+    /// What stands behind its arguments.
+    pub after_help: &'a str,
+}
+
+/// An option that takes a value.
+pub fn option<'a>(name: &'a str, help: &'a str, parser: ValueParser<'a>) -> Argument<'a>
+    ensures { rule_in result ≡ option_rule name.entry.now parser.entry }
+{
+    Argument {
+        name,
+        help,
+        parser: Some(parser),
+    }
+}
+
+/// An option that takes none.
+pub fn flag<'a>(name: &'a str, help: &'a str) -> Argument<'a>
+    ensures { rule_in result ≡ flag_rule name.entry.now }
+{
+    Argument {
+        name,
+        help,
+        parser: None,
+    }
+}
+
+/// The flag of progress.
+pub fn progress<'a>() -> Argument<'a>
+    ensures { rule_in result ≡ flag_rule (codes "progress") }
+{
+    flag("progress", PROGRESS_HELP)
+}
+
+// The argument, as `clap` has it.
+fn arg_of<'a>(alloc: Global, argument: &Argument<'a>) -> Arg<'a>
+    ensures rule { rule_of result ≡ rule_in argument.entry.now }
+    ensures local { result.global ≡ false }
+{
+    let arg = Arg::new(alloc, argument.name)
+        .long(argument.name)
+        .help(argument.help);
+    match argument.parser {
+        Some(parser) => arg.value_parser(parser),
+        None => arg.action(ArgAction::SetTrue),
+    }
+}
+
+// Adds arguments to a command, one after the other.
+fn add_arguments<'a>(
+    alloc: Global,
+    mut command: Command<'a>,
+    arguments: &[Argument<'a>],
+) -> Result<Command<'a>, AllocError>
+    ensures { (app : App) → IsApp app command.entry →
+        IfOk result (IsApp (with_arguments arguments.entry.now app)) }
+{
+    for argument in arguments {
+        command = command.arg(arg_of(alloc, argument))?;
+    }
+    Ok(command)
+}
+
+// A subcommand of these texts, before it has arguments.
+fn bare<'a>(alloc: Global, texts: &Texts<'a>) -> Command<'a>
+    ensures { IsApp (new_app texts.entry.now.name.now) result }
+{
+    Command::new(alloc, texts.name)
+        .about(texts.about)
+        .long_about(texts.long_about)
+        .after_long_help(texts.after_help)
+}
+
+/// The subcommand of these texts, with some arguments and with others behind them.
+pub fn subcommand_of<'a>(
+    alloc: Global,
+    texts: &Texts<'a>,
+    first: &[Argument<'a>],
+    others: &[Argument<'a>],
+) -> Result<Command<'a>, AllocError>
+    ensures { IfOk result (IsApp (with_arguments others.entry.now
+        (with_arguments first.entry.now (new_app texts.entry.now.name.now)))) }
+{
+    let command = add_arguments(alloc, bare(alloc, texts), first)?;
+    add_arguments(alloc, command, others)
+}
