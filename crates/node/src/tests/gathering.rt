@@ -42,7 +42,14 @@ fn end_of_gathering<T: AllocGlobal + RandomSource + Threads + Sync, V: Watch>(
 ) -> Option<Result<(), GatherError>> {
     let state = RandomState::new(rt).ok()?;
     let mut reader = MemReader::new(input, None);
-    Some(gather(rt, state, &options(parts, false), watch, &mut reader, writer))
+    Some(gather(
+        rt,
+        state,
+        &options(parts, false),
+        watch,
+        &mut reader,
+        writer,
+    ))
 }
 
 /// Whether a gathering that reads this writes and ends as the case says.

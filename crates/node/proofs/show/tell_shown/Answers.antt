@@ -14,6 +14,6 @@ returns-clause-done g c = λ j h has.
     on_ok_weaker c.tell_rows.result
     (λ (rows : Appends (g.W.Write.contents c.write_lines.new.writer) (g.W.Write.contents c.tell_rows.new.writer) (flat_map (row_text j h.superstep) (own_vertices j h.partition))).
     Appends-trans (g.W.Write.contents c.args.writer.now) (g.W.Write.contents c.write_lines.new.writer) (g.W.Write.contents c.tell_rows.new.writer)
-    (node_line j c.args.id h) (flat_map (row_text j h.superstep) (own_vertices j h.partition)) 
+    (node_line j c.args.id h) (flat_map (row_text j h.superstep) (own_vertices j h.partition))
     (subst (Appends (g.W.Write.contents c.args.writer.now) (g.W.Write.contents c.write_lines.new.writer)) line c.in_ok-write_lines.ensures.appended) rows)
     (c.tell_rows.ensures.done j h has)
