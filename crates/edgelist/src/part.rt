@@ -7,7 +7,7 @@ ghost use Rattle.std.specs.List.{All, sum_by};
 ghost use Rattle.gapcode.specs.Lists.{AscendsFrom};
 ghost use Rattle.ball_model.specs.Graph.{preds_of, is_counted};
 ghost use Rattle.ball_model.specs.PlanValue.{most_parts, vertices_of, part_size};
-ghost use Rattle.ball_model.specs.Job.{Job, IsPart, digest_of, feed_mask, feeds_into, part_of};
+ghost use Rattle.ball_model.specs.Job.{Job, IsPart, digest_of, feed_mask, feeds_into, job_of, part_of};
 ghost use Rattle.ball_model.specs.Masks.{has_bit};
 ghost use Rattle.edgelist.specs.Feeding.{AreMasks, masks_of, width_of, edges_into};
 
@@ -290,7 +290,7 @@ impl Graph {
         requires vertices { plan.now.vertices ≡ self.now.graph.vertices }
         requires digest { plan.now.job ≡ digest_of plan.now self.now.graph }
         ensures { IfOk result (λ part. part ≡
-            part_of (record { graph = self.now.graph; plan = plan.now }) p) }
+            part_of (job_of self.now.graph plan.now) p) }
     {
         let lists = part_lists(alloc, self, u32::from(plan.parts()), u32::from(p))?;
         let feeds = own_feeds(alloc, self, plan, p)?;

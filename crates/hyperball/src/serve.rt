@@ -41,7 +41,7 @@ use crate::replay_words::ReplayWords;
 use crate::replaying::replay_by;
 use crate::whole::{WholeError, read_whole, sections};
 use crate::words::{Said, Wish, WordsError, read_words};
-use ball_model::{CountedRead, CountedWrite, CountingReader, put_all};
+use ball_model::{CountedRead, CountedWrite, put_all};
 use clap::error::ErrorKind;
 use std::alloc::{AllocGlobal, Global};
 use std::fmt::Display;
@@ -53,6 +53,7 @@ use std::thread::Threads;
 use std::time::Clock;
 use thiserror::Error;
 use workers::{Gate, RunError, RunOptions};
+use world::bytes::Bytes;
 
 /// The status of a run that wrote its report, or of help that was asked for.
 const DONE: u8 = 0;
@@ -232,13 +233,14 @@ fn run_sections<H: AllocGlobal + Threads + Wait + Sync, W: CountedWrite, G: Gate
     ensures gate { result ≢ Err RunFault.Gate }
     ensures random { result ≢ Err RunFault.Random }
     ensures input { (f : NoInput) → result ≢ Err (RunFault.Input f) }
+    ensures edges { result ≢ Err (RunFault.Run (RunError.Edges edge_fault.Read)) }
     ensures kept { OnErr result (
         KeptOrFailed W.contents W.failed_calls writer.old writer.new) }
 {
     let Some((edges, list)) = sections(input) else {
         return Err(RunFault::NoList);
     };
-    let mut edges = CountingReader::new(edges);
+    let mut edges = Bytes::new(edges);
     workers::run(rt, state, &mut edges, Some(list), writer, options, gate)?;
     Ok(())
 }
@@ -273,6 +275,7 @@ fn run_listed<
         result ≡ Err (RunFault.Input WholeError.Read) }
     ensures sure { R.sure_calls reader.old ≡ None →
         result ≢ Err (RunFault.Input WholeError.Read) }
+    ensures edges { result ≢ Err (RunFault.Run (RunError.Edges edge_fault.Read)) }
     ensures few { ReadsFew (R.remaining reader.old) (R.remaining reader.new) }
     ensures kept { OnErr result (
         KeptOrFailed W.contents W.failed_calls writer.old writer.new) }
@@ -320,6 +323,8 @@ fn run_by<
     ensures edges_failed { counted ≡ false →
         CountsOne (R.failed_calls reader.old) (R.failed_calls reader.new) →
         result ≡ Err (RunFault.Run (RunError.Edges edge_fault.Read)) }
+    ensures edges_whole { counted ≡ true →
+        result ≢ Err (RunFault.Run (RunError.Edges edge_fault.Read)) }
     ensures few { counted ≡ true → ReadsFew (R.remaining reader.old) (R.remaining reader.new) }
     ensures kept { OnErr result (
         KeptOrFailed W.contents W.failed_calls writer.old writer.new) }
@@ -367,6 +372,8 @@ fn run<
     ensures edges_failed { said.words.counted ≡ false →
         CountsOne (R.failed_calls reader.old) (R.failed_calls reader.new) →
         result ≡ Err (RunFault.Run (RunError.Edges edge_fault.Read)) }
+    ensures edges_whole { said.words.counted ≡ true →
+        result ≢ Err (RunFault.Run (RunError.Edges edge_fault.Read)) }
     ensures few { said.words.counted ≡ true →
         ReadsFew (R.remaining reader.old) (R.remaining reader.new) }
     ensures kept { OnErr result (
