@@ -1,15 +1,13 @@
 -- A replica's accumulators: kept beside its rows, or let go where the run is over.
-use Rattle.std.proofs.Common.{◌≡◌, ℕ, ◌+◌, ◌^◌, ◌≤◌, true, false, List, [], length, map, refl, ap, sym, ◌∙◌, subst, inl, inr, ◌⊎◌}
+use Rattle.std.proofs.Common.{◌≡◌, ℕ, ◌+◌, ◌^◌, ◌≤◌, true, false, List, [], length, refl, ap, sym, ◌∙◌, subst, inl, inr, ◌⊎◌}
 use Rattle.std.specs.Prelude.{Option, None, Some, Ok}
 use Rattle.std.specs.Arc.{arc_value}
-use Rattle.std.specs.Vec.{vec_capacity}
 use Rattle.ball_model.specs.declared.names.Taken.TheVariants as taken
 use Rattle.ball_model.specs.declared.names.Verdict.{Verdict}
 use Rattle.ball_model.specs.declared.names.Verdict.TheVariants as verdict
 use Rattle.ball_model.specs.Batches.{BatchValue, IsBatch}
 use Rattle.ball_model.specs.Content.{close_unless, missing_of, take_of}
 use Rattle.ball_model.specs.State.{State, content_of}
-use Rattle.figures.specs.Values.{value_of}
 use Rattle.replica.specs.declared.Progress.TheInside as progress
 use Rattle.replica.specs.Level.{is_finished, is_over, level_verdict}
 use Rattle.replica.specs.Hearing.{HearingValue, KeepsAll, KeepsAllOrNone, SaysSame}
@@ -24,10 +22,10 @@ abbrev pub fields_of : progress.Inside → State
 fields_of r = record {
   part = arc_value r.part;
   superstep = r.superstep;
-  rows = r.rows.rows;
-  marks = r.marks.items;
-  tallies = map value_of r.tallies.items;
-  sums = r.sums.items;
+  rows = r.tables.rows.rows;
+  marks = r.tables.marks;
+  tallies = r.tables.tallies;
+  sums = r.tables.sums;
   heard = r.hearing.heard;
   heard_change = r.hearing.change;
   accumulated = r.hearing.accumulated.rows;
@@ -35,12 +33,12 @@ fields_of r = record {
 }
 
 -- where an accumulator is kept of each row they are the state
-pub fields_are : (r : progress.Inside) → length r.hearing.accumulated.rows ≡ length r.rows.rows → fields_of r ≡ state_of r
-fields_are r e = ap (λ (l : List (List ℕ)). record (fields_of r) { accumulated = l }) (sym (all_kept r.rows.rows r.hearing.accumulated.rows e))
+pub fields_are : (r : progress.Inside) → length r.hearing.accumulated.rows ≡ length r.tables.rows.rows → fields_of r ≡ state_of r
+fields_are r e = ap (λ (l : List (List ℕ)). record (fields_of r) { accumulated = l }) (sym (all_kept r.tables.rows.rows r.hearing.accumulated.rows e))
 
 -- an accumulator is kept of each row
 pub record Keeps (r : progress.Inside) (v : State) : Type 0 where
-  pub kept : KeepsAll r.rows.rows r.hearing
+  pub kept : KeepsAll r.tables.rows.rows r.hearing
   pub view_is : fields_of r ≡ v
   pub state : IsState (fields_of r)
 
@@ -48,9 +46,9 @@ pub record Keeps (r : progress.Inside) (v : State) : Type 0 where
 pub state_is : {k l : ProgressValue} → k ≡ l → k.state ≡ l.state
 state_is e = ap (λ (k : ProgressValue). k.state) e
 
-keeps : (r : progress.Inside) (v : State) → IsProgress r → state_of r ≡ v → length r.hearing.accumulated.rows ≡ length r.rows.rows → Keeps r v
+keeps : (r : progress.Inside) (v : State) → IsProgress r → state_of r ≡ v → length r.hearing.accumulated.rows ≡ length r.tables.rows.rows → Keeps r v
 keeps r v ok is count = record {
-  kept = all_of r.rows.rows r.hearing ok.kept count;
+  kept = all_of r.tables.rows.rows r.hearing ok.kept count;
   view_is = fields_are r count ∙ is;
   state = subst (λ (u : State). IsState u) (sym (fields_are r count)) ok.state;
 }
@@ -78,7 +76,7 @@ hearing_keeps r k b ok can is batch new now =
     ]
 
 -- the fields of a replica that keeps them
-pub kept_progress : (r : progress.Inside) → IsState (fields_of r) → r.rows.width ≡ 2 ^ (arc_value r.part).plan.log2m → r.hearing.accumulated.width ≡ 2 ^ (arc_value r.part).plan.log2m → KeepsAll r.rows.rows r.hearing → IsProgress r
+pub kept_progress : (r : progress.Inside) → IsState (fields_of r) → r.tables.rows.width ≡ 2 ^ (arc_value r.part).plan.log2m → r.hearing.accumulated.width ≡ 2 ^ (arc_value r.part).plan.log2m → KeepsAll r.tables.rows.rows r.hearing → IsProgress r
 kept_progress r st width accumulated_width kept = record {
   state = subst (λ (u : State). IsState u) (fields_are r st.accumulated.count) st;
   width = width;
@@ -87,16 +85,16 @@ kept_progress r st width accumulated_width kept = record {
 }
 
 -- with room, a replica can go on with them
-pub can_go_on : (r : progress.Inside) → length r.hearing.accumulated.rows ≡ length r.rows.rows → (arc_value r.part).plan.limit + 1 ≤ vec_capacity r.sums → CanGoOn (progress_of r)
+pub can_go_on : (r : progress.Inside) → length r.hearing.accumulated.rows ≡ length r.tables.rows.rows → (arc_value r.part).plan.limit + 1 ≤ r.tables.room → CanGoOn (progress_of r)
 can_go_on r count room = record { kept = inl count; room = room }
 
 -- the room that there was
-pub had_room : (r : progress.Inside) (k : ProgressValue) → progress_of r ≡ k → CanGoOn k → (arc_value r.part).plan.limit + 1 ≤ vec_capacity r.sums
+pub had_room : (r : progress.Inside) (k : ProgressValue) → progress_of r ≡ k → CanGoOn k → (arc_value r.part).plan.limit + 1 ≤ r.tables.room
 had_room r k is can =
     let mine : CanGoOn (progress_of r) = subst (λ (l : ProgressValue). CanGoOn l) (sym is) can in
     mine.room
 
-pub whole_room : (r : progress.Inside) (k : ProgressValue) → progress_of r ≡ k → IsWhole k → (arc_value r.part).plan.limit + 1 ≤ vec_capacity r.sums
+pub whole_room : (r : progress.Inside) (k : ProgressValue) → progress_of r ≡ k → IsWhole k → (arc_value r.part).plan.limit + 1 ≤ r.tables.room
 whole_room r k is whole =
     let mine : IsWhole (progress_of r) = subst (λ (l : ProgressValue). IsWhole l) (sym is) whole in
     mine.room
@@ -104,11 +102,11 @@ whole_room r k is whole =
 -- ---- saying the same
 
 -- the state, where something else is heard that says the same
-pub said_same : (r : progress.Inside) (a : HearingValue) → SaysSame r.rows.rows r.hearing a → state_of (record r { hearing = a }) ≡ state_of r
+pub said_same : (r : progress.Inside) (a : HearingValue) → SaysSame r.tables.rows.rows r.hearing a → state_of (record r { hearing = a }) ≡ state_of r
 said_same r a same = λ i. record (state_of r) { heard = same.heard i; heard_change = same.change i; accumulated = same.accumulated i }
 
 -- its limits
-pub same_progress : (r : progress.Inside) (a : HearingValue) → IsProgress r → SaysSame r.rows.rows r.hearing a → IsProgress (record r { hearing = a })
+pub same_progress : (r : progress.Inside) (a : HearingValue) → IsProgress r → SaysSame r.tables.rows.rows r.hearing a → IsProgress (record r { hearing = a })
 same_progress r a ok same = record {
   state = subst (λ (u : State). IsState u) (sym (said_same r a same)) ok.state;
   width = ok.width;

@@ -11,12 +11,19 @@ use Rattle.figures.proofs.Crossing.{estimator_send, estimator_sync, tally_send, 
 use Rattle.replica.specs.contracts.Progress as progress
 use Rattle.replica.specs.contracts.Replica as replica
 use Rattle.replica.specs.contracts.Snapshot as snapshot
+use Rattle.replica.specs.contracts.tables.Tables as tables
+
+pub tables_send : IsSend tables.the_row
+tables_send = search (rows_send, rows_sync, tally_send, sendable, crosses) depth 30 fits 20000
+
+pub tables_sync : IsSync tables.the_row
+tables_sync = search (rows_send, rows_sync, tally_sync, sendable, crosses) depth 30 fits 20000
 
 pub progress_send : IsSend progress.the_row
-progress_send = search (part_send, part_sync, rows_send, tally_send, batch_send, batch_sync, sendable, crosses) depth 30 fits 20000
+progress_send = search (part_send, part_sync, rows_send, tables_send, batch_send, batch_sync, sendable, crosses) depth 30 fits 20000
 
 pub progress_sync : IsSync progress.the_row
-progress_sync = search (part_send, part_sync, rows_sync, tally_sync, batch_send, batch_sync, sendable, crosses) depth 30 fits 20000
+progress_sync = search (part_send, part_sync, rows_sync, tables_sync, batch_send, batch_sync, sendable, crosses) depth 30 fits 20000
 
 pub snapshot_send : IsSend snapshot.the_row
 snapshot_send = search (progress_send, sendable, crosses) depth 30 fits 20000

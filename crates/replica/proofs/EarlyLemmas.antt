@@ -1,5 +1,5 @@
 -- Slots of batches, and the table that they are.
-use Rattle.std.proofs.Common.{◌≡◌, ℕ, zero, suc, ◌+◌, ◌-◌, ◌*◌, ◌<◌, ◌≤◌, ◌==◌, Bool, true, false, ◌&&◌, List, [], ◌∷◌, ◌++◌, length, map, get_or, set, take, drop, replicate, option_map, refl, ap, arith, sym, ◌∙◌, inl, inr, if◌then◌else◌, length-drop}
+use Rattle.std.proofs.Common.{◌≡◌, ℕ, zero, suc, ◌+◌, ◌-◌, ◌*◌, ◌<◌, ◌≤◌, ◌==◌, Bool, true, false, ◌&&◌, List, [], ◌∷◌, ◌++◌, length, map, get_or, set, take, drop, replicate, option_map, refl, ap, arith, sym, ◌∙◌, inl, inr, if◌then◌else◌, length-drop, min}
 use Rattle.std.specs.Prelude.{Option, Some, None}
 use Rattle.std.specs.List.{range_with_len}
 use Rattle.std.proofs.lemmas.Bool.{cases_lt, eq-eqb, and_from, eqb-true}
@@ -199,3 +199,14 @@ empty_at parts n i q =
 -- two tables of as many sources
 pub as_many : (a b : ℕ) (slots : List (Option BatchValue)) → IsTable a (table_of b slots) → b ≡ a
 as_many a b slots is = sym ((table_is b slots).sources 0 (omega arith)) ∙ is.sources 0 (omega arith)
+
+-- past all that is kept it makes no difference how far
+pub past_gap : (parts : ℕ) (early : List (List (Option BatchValue))) (i a q : ℕ) → IsTable parts early → early_at early (i + min a 3) q ≡ early_at early (i + a) q
+past_gap parts early i a q is =
+    elim (cases_lt a 3) [
+      | inl few ↦ let e : i + min a 3 ≡ i + a = omega arith in ap (λ n. early_at early n q) e
+      | inr many ↦ no_level early (i + min a 3) q (omega (arith, is.levels)) ∙ sym (no_level early (i + a) q (omega (arith, is.levels)))
+    ]
+
+pub shifted_told : (parts : ℕ) (early shifted : List (List (Option BatchValue))) (a gap : ℕ) → IsTable parts early → gap ≡ min a 3 → ((i k : ℕ) → early_at shifted i k ≡ early_at early (i + gap) k) → (i k : ℕ) → early_at shifted i k ≡ early_at early (i + a) k
+shifted_told parts early shifted a gap is at told i k = told i k ∙ ap (λ n. early_at early (i + n) k) at ∙ past_gap parts early i a k is

@@ -14,7 +14,7 @@ use Rattle.registers.specs.Laws.{max_each-repeats}
 use Rattle.replica.specs.Hearing.{Hearing, HearingValue, Hears, HearsAlso, IsQuiet, IsReady, hearing_of, KeepsAll, KeepsAllOrNone, SaysSame, accumulators_of, batch_by, batches_below, hearing_kept}
 use Rattle.replica.specs.Level.{differences}
 use Rattle.replica.specs.Spread.{AreTouched, IsAbove, LeadInside}
-use Rattle.replica.proofs.HearLemmas.{hears_as, hears_next}
+use Rattle.replica.proofs.HearLemmas.{hears_as, hears_next, hears_same}
 use Rattle.replica.proofs.LevelLemmas.{length-differing}
 use Rattle.replica.proofs.RiseLemmas.{rise_counters, same_registers}
 
@@ -131,6 +131,10 @@ also_next log2m targets told n a b c ready f g = record {
   width = g.width ∙ f.width;
   touched = λ rows are. g.touched rows (f.touched rows are);
 }
+
+-- the same that is told
+pub also_same : (log2m : ℕ) (targets : List (List ℕ)) (told other : ℕ → Option BatchValue) (a b : HearingValue) → ((q : ℕ) → told q ≡ other q) → HearsAlso log2m targets told a b → HearsAlso log2m targets other a b
+also_same log2m targets told other a b same h = record { hears = hears_same log2m targets told other (hearing_kept a) (hearing_kept b) same h.hears; width = h.width; touched = h.touched }
 
 -- then more can be heard
 pub ready_on : (log2m : ℕ) (targets : List (List ℕ)) (told : ℕ → Option BatchValue) (a b : HearingValue) → IsReady log2m targets a → HearsAlso log2m targets told a b → IsReady log2m targets b

@@ -8,7 +8,7 @@ use Rattle.ball_model.specs.Join.{AreAlike, join_of, holding_of}
 use Rattle.ball_model.specs.State.{State, content_of}
 use Rattle.ball_model.proofs.JoinLemmas.{holding_is_one, holding_of_joined}
 use Rattle.replica.specs.Seen.{IsState}
-use Rattle.replica.specs.Merged.{Absorbs}
+use Rattle.replica.specs.Merged.{Absorbs, TakesIn}
 use Rattle.replica.proofs.MergeLemmas.{further_superstep}
 use Rattle.replica.proofs.SameLemmas.{content_is_one}
 
@@ -31,6 +31,6 @@ joined_holding v o w sv so plan number a =
     own ∙ is ∙ ap (λ h. join_of (holding_in v) h) other
 
 -- and where it could not, nothing is said
-pub joined_if : {A E : Type 0} (r : Result A E) (v o w : State) → v.part.plan ≡ o.part.plan → v.part.number ≡ o.part.number → OnOk r (IsState v) → OnOk r (IsState o) → OnOk r (Absorbs v o w) → OnOk r (holding_in w ≡ join_of (holding_in v) (holding_in o))
-joined_if (Ok x) v o w plan number sv so a = joined_holding v o w sv so plan number a
-joined_if (Err e) v o w plan number sv so a = tt
+pub joined_if : {A E : Type 0} (r : Result A E) (v o w : State) → v.part.plan ≡ o.part.plan → v.part.number ≡ o.part.number → OnOk r (TakesIn v o w) → OnOk r (holding_in w ≡ join_of (holding_in v) (holding_in o))
+joined_if (Ok x) v o w plan number t = joined_holding v o w t.mine t.theirs plan number t.absorbs
+joined_if (Err e) v o w plan number t = tt

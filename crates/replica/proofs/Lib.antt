@@ -32,9 +32,12 @@ pub mod MergeLemmas
 pub mod HoldingLemmas
 pub mod OverLemmas
 pub mod AccumulatorLemmas
+pub mod TablesLemmas
+pub mod AbsorbLemmas
 pub mod Crossing
 pub mod ReceiveLemmas
 pub mod SavedLemmas
 pub mod RebuiltLemmas
 pub mod FitsLemmas
 pub mod KeepableLemmas
+pub mod MadeLemmas

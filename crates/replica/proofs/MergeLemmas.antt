@@ -1,5 +1,5 @@
 -- What two replicas of one partition know, taken together.
-use Rattle.std.proofs.Common.{◌≡◌, ℕ, zero, suc, ◌+◌, ◌-◌, ◌%◌, ◌^◌, ◌<◌, ◌≤◌, max, min, ◌==◌, nat_le, not, Bool, true, false, ◌&&◌, ◌||◌, if◌then◌else◌, List, [], ◌∷◌, length, map, get_or, refl, ap, arith, sym, ◌∙◌, inl, inr, subst, is_some, IfSome, ◌⊎◌}
+use Rattle.std.proofs.Common.{◌≡◌, ℕ, zero, suc, ◌+◌, ◌-◌, ◌%◌, ◌^◌, ◌<◌, ◌≤◌, max, ◌==◌, nat_le, not, Bool, true, false, ◌&&◌, ◌||◌, if◌then◌else◌, List, [], ◌∷◌, length, map, get_or, refl, ap, arith, sym, ◌∙◌, inl, inr, subst, is_some, IfSome, ◌⊎◌}
 use Rattle.std.specs.Prelude.{Option, Some, None}
 use Rattle.std.specs.List.{zip}
 use Rattle.std.specs.Str.{bytes_eq}
@@ -24,7 +24,7 @@ use Rattle.replica.specs.Merged.{ShowsAs, Absorbs}
 use Rattle.replica.specs.Seen.{IsState}
 use Rattle.replica.specs.Spread.{AreTouched}
 use Rattle.replica.proofs.AdvanceLemmas.{holds_now, holds_before, holds_later, same_early, true_at}
-use Rattle.replica.proofs.EarlyLemmas.{no_level, no_source}
+use Rattle.replica.proofs.EarlyLemmas.{no_source}
 use Rattle.replica.proofs.HearLemmas.{any_or, any_same}
 use Rattle.replica.proofs.RiseLemmas.{max_rises, all_on, rise_counters}
 use Rattle.replica.proofs.StateLemmas.{sources_more}
@@ -62,17 +62,6 @@ none_of a b c e p q = elim e [
 ]
 
 -- ---- one is further
-
--- past all that is kept it makes no difference how far
-pub past_gap : (parts : ℕ) (early : List (List (Option BatchValue))) (i a q : ℕ) → IsTable parts early → early_at early (i + min a 3) q ≡ early_at early (i + a) q
-past_gap parts early i a q is =
-    elim (cases_lt a 3) [
-      | inl few ↦ let e : i + min a 3 ≡ i + a = omega arith in same_early early (i + min a 3) (i + a) q e
-      | inr many ↦ no_level early (i + min a 3) q (omega (arith, is.levels)) ∙ sym (no_level early (i + a) q (omega (arith, is.levels)))
-    ]
-
-pub shifted_told : (parts : ℕ) (early shifted : List (List (Option BatchValue))) (a gap : ℕ) → IsTable parts early → gap ≡ min a 3 → ((i k : ℕ) → early_at shifted i k ≡ early_at early (i + gap) k) → (i k : ℕ) → early_at shifted i k ≡ early_at early (i + a) k
-shifted_told parts early shifted a gap is at told i k = told i k ∙ ap (λ n. early_at early (i + n) k) at ∙ past_gap parts early i a k is
 
 -- f, the further one, has also heard and kept what l did
 pub record Gathers (log2m : ℕ) (f l w : State) : Type 0 where

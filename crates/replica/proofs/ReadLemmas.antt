@@ -24,11 +24,11 @@ use Rattle.replica.proofs.LevelLemmas.{plan_is, number_is, row_at, mark_at}
 use Rattle.replica.proofs.FigureLemmas.{tally_in}
 
 -- a vertex of the partition of a job
-record IsAt (j : Job) (p x : ℕ) : Type 0 where
+record IsOwnAt (j : Job) (p x : ℕ) : Type 0 where
   place : x / j.plan.parts < part_size j.graph.vertices j.plan.parts p
   vertex : vertex_of j.plan.parts p (x / j.plan.parts) ≡ x
 
-is_at : (j : Job) (p t x : ℕ) (v : State) → StandsFor j p t v → IsState v → x < v.part.plan.vertices → x % v.part.plan.parts ≡ v.part.number → IsAt j p x
+is_at : (j : Job) (p t x : ℕ) (v : State) → StandsFor j p t v → IsState v → x < v.part.plan.vertices → x % v.part.plan.parts ≡ v.part.number → IsOwnAt j p x
 is_at j p t x v h state lt own =
     let plan = plan_is j p t v h in
     let parts : v.part.plan.parts ≡ j.plan.parts = ap (λ (a : PlanValue). a.parts) plan in

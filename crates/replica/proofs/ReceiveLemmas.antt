@@ -51,7 +51,7 @@ hearable r l b targets name ok can is batch new has named here =
 
 pub record Heard (r : progress.Inside) (v : State) (b : BatchValue) : Type 0 where
   pub limits : IsProgress r
-  pub kept : KeepsAll r.rows.rows r.hearing
+  pub kept : KeepsAll r.tables.rows.rows r.hearing
   pub receives : Receives b v (state_of r)
 
 pub heard_now : (r : progress.Inside) (v : State) (b : BatchValue) (targets : List (List ℕ)) (after : HearingValue) → IsProgress r → Hearable r v b targets → HearsAlso b.plan.log2m targets (batch_by b.name.source (Some b)) r.hearing after → Heard (record r { hearing = after }) v b
@@ -61,7 +61,7 @@ heard_now r v b targets after ok h also =
     let st = h.keeps.state in
     let own = hears_as (ap (λ (a : PlanValue). a.log2m) h.is_fresh.plan_is) h.index refl refl also.hears in
     let rise = all_on s.part.plan.log2m s.rows s.accumulated after.accumulated.rows st.rows st.accumulated own.rise in
-    let kept = also.touched r.rows.rows h.keeps.kept in
+    let kept = also.touched r.tables.rows.rows h.keeps.kept in
     record {
       limits = kept_progress (record r { hearing = after })
           (record {

@@ -1,9 +1,6 @@
 -- Batches put at their places, and read off them again.
 use Rattle.std.proofs.Common.{◌≡◌, ◌≢◌, ℕ, zero, suc, ◌+◌, ◌-◌, ◌*◌, ◌<◌, ◌≤◌, ◌==◌, ◌&&◌, true, false, List, [], ◌∷◌, ◌++◌, length, map, get_or, set, take, refl, ap, sym, ◌∙◌, subst, arith, inl, inr, ◌⊎◌, if◌then◌else◌, is_some, IfSome, append_assoc}
 use Rattle.std.specs.Prelude.{Option, Some, None}
-use Rattle.std.specs.Arc.{arc_value}
-use Rattle.figures.specs.Values.{value_of}
-use Rattle.ball_model.specs.Checkpoint.{kept_batches}
 use Rattle.std.proofs.Math.Seq.{take-suc}
 use Rattle.std.proofs.lemmas.Bool.{cases_eq, eq-eqb, ne_eqb}
 use Rattle.std.proofs.lemmas.List.{same_lists, get_or_default, get_or-set_same, get_or-set_other, length-set, append-nil, get_or-map, length-map, take_all}
@@ -155,35 +152,6 @@ rebuilt_state part s v ok fits is early = record {
   heard = rw (is.heard, is.part_is) fits.heard.heard;
   accumulated = rw (is.rows, is.accumulated, is.part_is) fits.heard.accumulated;
   early = rw (is.part_is, is.superstep) early;
-}
-
--- what is made of it, where its sums and its batches are in other places
-abbrev pub state_with : PartValue → Saved → List ℕ → List (List (Option BatchValue)) → State
-state_with part s sums early = record {
-  part = part;
-  superstep = s.superstep;
-  rows = s.rows.rows;
-  marks = s.marks.items;
-  tallies = map value_of s.tallies.items;
-  sums = sums;
-  heard = s.heard;
-  heard_change = s.heard_change;
-  accumulated = s.accumulated.rows;
-  early = early;
-}
-
-pub rebuilt_with : (part : PartValue) (s : Saved) (sums : List ℕ) (early : List (List (Option BatchValue))) → sums ≡ s.sums.items → kept_batches early ≡ map arc_value s.early.items → IsRebuilt part s (state_with part s sums early)
-rebuilt_with part s sums early same kept = record {
-  part_is = refl;
-  superstep = refl;
-  rows = refl;
-  marks = refl;
-  tallies = refl;
-  sums = same;
-  heard = refl;
-  heard_change = refl;
-  accumulated = refl;
-  early = kept;
 }
 
 -- ---- one batch after the other

@@ -2,14 +2,15 @@
 use Rattle.std.proofs.Common.{◌≡◌, ℕ, zero, suc, ◌<◌, ◌≢◌, Bool, true, false, not, ◌||◌, ◌==◌, List, [], ◌∷◌, ◌++◌, if◌then◌else◌, max, length, get_or, set, drop, refl, ap, ap₂, arith, sym, ◌∙◌, inl, inr, subst, ◌↔◌}
 use Rattle.std.specs.List.{All}
 use Rattle.std.specs.Str.{bytes_eq}
-use Rattle.std.proofs.lemmas.Bool.{cases_eq, or_right, ne_eqb, eq-eqb, false_from_ne_true}
+use Rattle.std.proofs.lemmas.Bool.{cases_eq, cases_lt, or_right, ne_eqb, eq-eqb, false_from_ne_true}
 use Rattle.std.proofs.lemmas.Slice.Eq.{bytes_eq-Decides}
-use Rattle.std.proofs.lemmas.List.{get_or-set_same, get_or-set_other, length-set, same_lists, get_or_default}
+use Rattle.std.proofs.lemmas.List.{get_or-set_same, get_or-set_other, length-set, same_lists, get_or_default, get_or_past}
 use Rattle.std.proofs.lemmas.List.Folds.{list_any_at, list_any-append}
 use Rattle.std.proofs.lemmas.List.FromFn.{get_or-map-range_with_len, length-map-range_with_len}
 use Rattle.std.proofs.lemmas.Bool.Decides.{not_from_Decides}
 use Rattle.ball_model.specs.Counter.{max_each}
-use Rattle.replica.specs.Spread.{stands_in, row_after, rows_after, touched_at, AreTouched}
+use Rattle.ball_model.specs.Table.{Table}
+use Rattle.replica.specs.Spread.{stands_in, row_after, rows_after, touched_at, AreTouched, CanRaise, CanSpread, LeadInside}
 
 max_twice : (xs ys : List ℕ) → max_each (max_each xs ys) ys ≡ max_each xs ys
 max_twice [] ys = refl
@@ -268,3 +269,24 @@ touched-spread places src rows acc new old marks is count tells ok =
           tells i (omega (arith, ok.count)) ∙ ap (λ b. b || not (bytes_eq (get_or new i []) (get_or acc i []))) (ok.differ i lt)
           ∙ raised_marked (stands_in places i) (get_or rows i []) (get_or acc i []) src (get_or new i []) (ok.above i lt) (at i lt ∙ to_row places src acc i);
     }
+
+-- ---- what raising asks for
+
+-- the first places can be raised, where rows are as many and as wide
+pub raise_first : (block left registers : List ℕ) (count : ℕ) (rows : Table) (touched : List Bool) → All (λ i. i < count) (block ++ left) → length rows.rows ≡ count → length registers ≡ rows.width → length touched ≡ length rows.rows → CanRaise block registers rows touched
+raise_first block left registers count rows touched all size wide marks = record {
+  inside = λ k d lt. let at : get_or block k d < count = all_first (λ i. i < count) block left all k d lt in omega (arith, at, size);
+  width = wide;
+  marks = marks;
+}
+
+-- the places that the index has for a vertex
+pub lead_to : (n z : ℕ) (targets : List (List ℕ)) → LeadInside n targets → All (λ i. i < n) (get_or targets z [])
+lead_to n z targets inside = elim (cases_lt z (length targets)) [
+  | inl lt ↦ inside z [] lt
+  | inr out ↦ subst (λ (l : List ℕ). All (λ i. i < n) l) (sym (get_or_past targets z [] out)) (λ k d lt. absurd (omega (arith, lt)))
+]
+
+-- the index leads into as many rows
+pub spread_on : (targets : List (List ℕ)) (count : ℕ) (rows : Table) (touched : List Bool) → LeadInside count targets → length rows.rows ≡ count → length touched ≡ count → CanSpread targets rows touched
+spread_on targets count rows touched inside size marks = record { inside = subst (λ n. LeadInside n targets) (sym size) inside; marks = marks ∙ sym size }

@@ -4,10 +4,6 @@ use Rattle.std.proofs.lemmas.List.{same_lists, get_or-map, get_or_default, lengt
 use Rattle.figures.specs.Values.{weight_of}
 use Rattle.replica.specs.Level.{weights_of}
 
--- of a row
-pub weight_at : (rows : List (List ℕ)) (weights : List ℕ) (i : ℕ) (d : ℕ) → weights ≡ weights_of rows → i < length rows → get_or weights i d ≡ weight_of (get_or rows i [])
-weight_at rows weights i d are lt = ap (λ (l : List ℕ). get_or l i d) are ∙ get_or-map weight_of rows i [] d lt
-
 -- where there are as many as rows
 pub weights_count : (rows : List (List ℕ)) (weights : List ℕ) → weights ≡ weights_of rows → length weights ≡ length rows
 weights_count rows weights are = ap (length {A = ℕ}) are ∙ length-map rows weight_of

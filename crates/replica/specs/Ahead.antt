@@ -1,12 +1,12 @@
 -- Batches of supersteps to come, by how far they are ahead and by source.
-use Rattle.std.specs.Prelude.{◌≡◌, ℕ, ◌+◌, ◌*◌, ◌<◌, List, [], map, length, Option, None, Some, option_map, slice_index_or, drop, ◌++◌, replicate, nat_lt}
+use Rattle.std.specs.Prelude.{◌≡◌, ℕ, ◌+◌, ◌*◌, ◌<◌, ◌==◌, ◌&&◌, if◌then◌else◌, List, [], map, length, Option, None, Some, option_map, slice_index_or, drop, ◌++◌, replicate, nat_lt}
 use Rattle.std.specs.List.{range_with_len, filter, flat_map, slice_get}
 use Rattle.std.specs.Option.{option_to_list}
 use Rattle.ball_model.specs.declared.names.BatchName.{BatchName}
 use Rattle.ball_model.specs.Batches.{BatchValue, true_batch}
 use Rattle.ball_model.specs.Content.{names_of}
 use Rattle.ball_model.specs.Job.{Job}
-use Rattle.ball_model.specs.State.{State, content_of}
+use Rattle.ball_model.specs.State.{State, content_of, early_at}
 
 -- slots, one for each of three supersteps and each source, as a table
 unfoldable pub table_of : ℕ → List (Option BatchValue) → List (List (Option BatchValue))
@@ -19,6 +19,27 @@ pub record IsTable (parts : ℕ) (early : List (List (Option BatchValue))) : Typ
   pub levels : length early ≡ 3
   pub sources : (i : ℕ) → i < 3 → length (slice_index_or early i []) ≡ parts
 
+-- and none is kept
+pub record IsEmptyTable (parts : ℕ) (early : List (List (Option BatchValue))) : Type 0 where
+  pub table : IsTable parts early
+  pub none : (i q : ℕ) → early_at early i q ≡ None
+
+-- a place for each source as before
+abbrev pub StaysTable : List (List (Option BatchValue)) → List (List (Option BatchValue)) → Type 0
+StaysTable early later = (parts : ℕ) → IsTable parts early → IsTable parts later
+
+-- so many supersteps are gone
+pub record ComesNearer (count : ℕ) (early later : List (List (Option BatchValue))) : Type 0 where
+  pub kept : (i k : ℕ) → early_at later i k ≡ early_at early (i + count) k
+  pub table : StaysTable early later
+
+-- a batch is kept too
+pub record KeepsAlso (level source : ℕ) (b : BatchValue)
+    (early later : List (List (Option BatchValue))) : Type 0 where
+  pub kept : (i k : ℕ) → early_at later i k ≡
+      (if (i == level) && (k == source) then Some b else early_at early i k)
+  pub table : StaysTable early later
+
 -- the batches that follow the first slots
 abbrev pub slots_after : ℕ → List (Option BatchValue) → List (Option BatchValue)
 slots_after count slots = drop count slots ++ replicate count None
@@ -27,6 +48,11 @@ slots_after count slots = drop count slots ++ replicate count None
 abbrev pub either : Option BatchValue → Option BatchValue → Option BatchValue
 either None other = other
 either (Some b) other = Some b
+
+-- where there was none, that of the other one is kept
+pub record KeepsEither (early other later : List (List (Option BatchValue))) : Type 0 where
+  pub kept : (i k : ℕ) → early_at later i k ≡ either (early_at early i k) (early_at other i k)
+  pub table : StaysTable early later
 
 -- what either keeps at each place; where both do, that of the first
 unfoldable pub union_of_slots : List (Option BatchValue) → List (Option BatchValue) →

@@ -1,16 +1,17 @@
 -- What a replica has heard of its superstep, and what becomes of it as batches are heard.
-use Rattle.std.specs.Prelude.{◌≡◌, ℕ, ◌%◌, ◌^◌, ◌⊎◌, Bool, false, not, ◌||◌, ◌&&◌, ◌==◌, List, [], ◌∷◌, length, map, replicate, Option, None, is_some, nat_lt, IfSome, slice_index_or, if◌then◌else◌}
+use Rattle.std.specs.Prelude.{◌≡◌, ℕ, ◌+◌, ◌%◌, ◌^◌, ◌⊎◌, Bool, false, not, ◌||◌, ◌&&◌, ◌==◌, List, [], ◌∷◌, length, map, replicate, Option, None, is_some, nat_lt, IfSome, slice_index_or, if◌then◌else◌}
 use Rattle.std.specs.List.{list_any, range_with_len}
 use Rattle.ball_model.specs.Accumulated.{accumulated_of, accumulated_row}
 use Rattle.ball_model.specs.Batches.{BatchValue, true_batch, changed_count}
 use Rattle.ball_model.specs.Content.{Content}
 use Rattle.ball_model.specs.Job.{Job, IsJob, part_of}
-use Rattle.ball_model.specs.PlanValue.{mixing_of}
-use Rattle.ball_model.specs.State.{State, is_heard, heard_changes}
+use Rattle.ball_model.specs.PlanValue.{PlanValue, mixing_of, most_parts}
+use Rattle.ball_model.specs.State.{State, early_at, is_heard, heard_changes}
 use Rattle.ball_model.specs.Table.{Table}
+use Rattle.replica.specs.Ahead.{IsTable}
 use Rattle.replica.specs.Heard.{StayTouched}
 use Rattle.replica.specs.Index.{targets_of}
-use Rattle.replica.specs.Kept.{AllRise, AreCounters}
+use Rattle.replica.specs.Kept.{AllRise, AreCounters, AreOfPlan}
 use Rattle.replica.specs.Spread.{AreTouched, LeadInside}
 
 -- which sources are heard, whether one of them tells of a changed vertex, and what is accumulated for each vertex
@@ -85,12 +86,33 @@ let_go a = record a {
   touched = [];
 }
 
+-- there are as many accumulators as rows, and as others
+pub record CanJoin (own theirs : Table) (a : HearingValue) : Type 0 where
+  pub width : a.accumulated.width ≡ theirs.width
+  pub count : length a.accumulated.rows ≡ length theirs.rows
+  pub rows : length own.rows ≡ length a.accumulated.rows
+
 -- nothing is heard, and what is accumulated are the rows
 pub record IsQuiet (rows : Table) (a : HearingValue) : Type 0 where
-  pub heard : a.heard ≡ replicate 64 false
+  pub heard : a.heard ≡ replicate most_parts false
   pub change : a.change ≡ false
   pub accumulated : a.accumulated ≡ rows
   pub kept : KeepsAll rows.rows a
+
+-- b has room for what a says beside these rows
+pub record CanFill (own : Table) (a b : HearingValue) : Type 0 where
+  pub width : own.width ≡ b.accumulated.width
+  pub same : a.accumulated.width ≡ b.accumulated.width
+  pub count : length own.rows ≡ length b.accumulated.rows
+  pub kept : KeepsAllOrNone own.rows a
+
+-- what a says beside these rows, with an accumulator of each
+pub record Fills (rows : Table) (a b : HearingValue) : Type 0 where
+  pub heard : b.heard ≡ a.heard
+  pub change : b.change ≡ a.change
+  pub width : b.accumulated.width ≡ rows.width
+  pub accumulated : b.accumulated.rows ≡ accumulators_of rows.rows a.accumulated.rows
+  pub kept : KeepsAll rows.rows b
 
 -- beside these rows the two say the same, whatever they keep for it
 pub record SaysSame (rows : List (List ℕ)) (a b : HearingValue) : Type 0 where
@@ -103,7 +125,7 @@ pub record SaysSame (rows : List (List ℕ)) (a b : HearingValue) : Type 0 where
 
 -- batches of 2^log2m registers a row can be heard by the index
 pub record IsReady (log2m : ℕ) (targets : List (List ℕ)) (a : HearingValue) : Type 0 where
-  pub sources : length a.heard ≡ 64
+  pub sources : length a.heard ≡ most_parts
   pub width : a.accumulated.width ≡ 2 ^ log2m
   pub inside : LeadInside (length a.accumulated.rows) targets
   pub counters : AreCounters log2m a.accumulated.rows
@@ -115,9 +137,22 @@ pub record HearsAlso (log2m : ℕ) (targets : List (List ℕ)) (told : ℕ → O
   pub width : b.accumulated.width ≡ a.accumulated.width
   pub touched : StayTouched a.accumulated.rows a.touched b.accumulated.rows b.touched
 
--- which of 64 sources are held of the superstep
+-- the batches that are kept can be heard
+pub record CanHear (plan : PlanValue) (targets : List (List ℕ))
+    (early : List (List (Option BatchValue))) (a : HearingValue) : Type 0 where
+  pub ready : IsReady plan.log2m targets a
+  pub kept : AreOfPlan plan early
+
+-- those of the superstep after the next ones that passed are heard, and only later ones are left
+pub record HearsEarly (log2m : ℕ) (targets : List (List ℕ)) (passed : ℕ)
+    (early left : List (List (Option BatchValue))) (a b : HearingValue) : Type 0 where
+  pub also : HearsAlso log2m targets (λ q. early_at early passed q) a b
+  pub kept : (i q : ℕ) → early_at left i q ≡ early_at early (i + 1 + passed) q
+  pub table : (parts : ℕ) → IsTable parts early → IsTable parts left
+
+-- which sources are held of the superstep
 abbrev pub heard_by : Content → List Bool
-heard_by c = map (λ q. c.holds c.superstep q) (range_with_len 0 64)
+heard_by c = map (λ q. c.holds c.superstep q) (range_with_len 0 most_parts)
 
 -- a partition that is held of the superstep has a vertex that is changed there
 abbrev pub change_by : Job → Content → Bool

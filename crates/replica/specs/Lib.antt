@@ -6,6 +6,7 @@ pub mod Spread
 pub mod Hearing
 pub mod Change
 pub mod Start
+pub mod Tables
 pub mod Seen
 pub mod Sent
 pub mod Merged

@@ -1,9 +1,12 @@
 -- What two replicas of one partition make of what they have: merging, over plain data.
-use Rattle.std.specs.Prelude.{◌≡◌, ℕ, Result, max}
+use Rattle.std.specs.Prelude.{◌≡◌, ℕ, List, Option, Result, max}
 use Rattle.ball_model.specs.declared.names.MergeError.{MergeError}
+use Rattle.ball_model.specs.Batches.{BatchValue}
 use Rattle.ball_model.specs.Job.{Job}
 use Rattle.ball_model.specs.Join.{union_of, merge_of}
 use Rattle.ball_model.specs.State.{State, StandsFor, content_of, further}
+use Rattle.replica.specs.Progress.{IsWhole, ProgressValue}
+use Rattle.replica.specs.Seen.{IsState}
 
 -- the superstep, the rows, the marks, the figures and the sums are those of another replica
 pub record ShowsAs (v w : State) : Type 0 where
@@ -22,6 +25,12 @@ abbrev pub HoldsOfBoth : State → State → State → Type 0
 HoldsOfBoth v o w =
     (s q : ℕ) → (content_of w).holds s q ≡ (union_of (content_of v) (content_of o)).holds s q
 
+-- two of one plan and one partition; these are the batches that the other one keeps
+pub record CanAbsorb (v o : State) (shared : List (List (Option BatchValue))) : Type 0 where
+  pub plan : v.part.plan ≡ o.part.plan
+  pub number : v.part.number ≡ o.part.number
+  pub batches : shared ≡ o.early
+
 -- w is v once it has taken over what o knows
 pub record Absorbs (v o w : State) : Type 0 where
   pub part : w.part ≡ v.part
@@ -29,3 +38,20 @@ pub record Absorbs (v o w : State) : Type 0 where
   pub names : HoldsOfBoth v o w
   pub stands : (j : Job) (p t u : ℕ) → StandsFor j p t v → StandsFor j p u o →
       StandsFor j p (max t u) w
+
+-- and it keeps an accumulator of each row
+pub record CanTakeOver (k l : ProgressValue) (shared : List (List (Option BatchValue))) :
+    Type 0 where
+  pub two : CanAbsorb k.state l.state shared
+  pub whole : IsWhole k
+
+-- w is v once it has taken over what o knows, where both keep the limits of every replica
+pub record TakesIn (v o w : State) : Type 0 where
+  pub absorbs : Absorbs v o w
+  pub mine : IsState v
+  pub theirs : IsState o
+
+-- k has taken over what l knows, and keeps an accumulator of each row
+pub record TakesOver (k l new : ProgressValue) : Type 0 where
+  pub absorbs : Absorbs k.state l.state new.state
+  pub whole : IsWhole new

@@ -11,6 +11,7 @@ use Rattle.ball_model.specs.PlanValue.{PlanValue, greatest_limit, measure_of, mo
 use Rattle.ball_model.specs.State.{State}
 use Rattle.replica.specs.declared.saved.Saved.{Saved}
 use Rattle.replica.specs.Kept.{AreCounters, AllRise, AreSums, AreSources}
+use Rattle.replica.specs.Progress.{CanGoOn, ProgressValue}
 use Rattle.replica.specs.Seen.{IsState}
 
 -- figures that a run can have
@@ -84,6 +85,12 @@ pub record IsRebuilt (part : PartValue) (s : Saved) (v : State) : Type 0 where
   pub heard_change : v.heard_change ≡ s.heard_change
   pub accumulated : v.accumulated ≡ s.accumulated.rows
   pub early : kept_batches v.early ≡ map arc_value s.early.items
+
+-- what a replica of the part has that is made of it: with room, a replica can go on with it
+pub record IsRemade (part : PartValue) (s : Saved) (k : ProgressValue) : Type 0 where
+  pub fields : IsRebuilt part s k.state
+  pub keepable : IsKeepable k.state
+  pub goes_on : CanGoOn k
 
 -- what a replica can have, in rows of its width, fits its part. It is the contract of a function of src/laws.rt.
 abbrev pub HadFits : Type 0

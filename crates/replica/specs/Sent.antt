@@ -50,3 +50,9 @@ pub record IsTold (v : State) (target n : ℕ) (ids places : List ℕ) (changed 
   pub within : All (λ p. (p + 1) * 2 ^ v.part.plan.log2m ≤ length (changed_registers v)) places
   pub before : changed * 2 ^ v.part.plan.log2m ≡ length (changed_rows v n)
   pub few : changed ≤ n
+
+-- nothing is told, and no vertex so far changed
+pub record IsNothingTold (ids places : List ℕ) (changed : ℕ) : Type 0 where
+  pub no_ids : ids ≡ []
+  pub no_places : places ≡ []
+  pub none : changed ≡ 0

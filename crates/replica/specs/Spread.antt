@@ -54,6 +54,17 @@ touched_at marks old new i =
 abbrev pub LeadInside : ℕ → List (List ℕ) → Type 0
 LeadInside count targets = All (λ places. All (λ i. i < count) places) targets
 
+-- rows at these places can be raised by the registers, and marked
+pub record CanRaise (places registers : List ℕ) (rows : Table) (touched : List Bool) : Type 0 where
+  pub inside : All (λ i. i < length rows.rows) places
+  pub width : length registers ≡ rows.width
+  pub marks : length touched ≡ length rows.rows
+
+-- rows can be raised and marked wherever the index leads
+pub record CanSpread (targets : List (List ℕ)) (rows : Table) (touched : List Bool) : Type 0 where
+  pub inside : LeadInside (length rows.rows) targets
+  pub marks : length touched ≡ length rows.rows
+
 -- no register is below that of the row
 abbrev pub IsAbove : List ℕ → List ℕ → Type 0
 IsAbove row accumulated = max_each row accumulated ≡ accumulated

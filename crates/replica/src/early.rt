@@ -1,11 +1,15 @@
 //! Batches of supersteps to come.
 
-ghost use Rattle.std.specs.Prelude.{◌≡◌, ℕ, ◌<◌, ◌≤◌, ◌+◌, ◌*◌, ◌==◌, ◌&&◌, replicate, length, option_map, slice_index_or, slice_set, None, Some, [], map, IfOk, if◌then◌else◌};
+ghost use Rattle.std.specs.Prelude.{◌≡◌, ℕ, ◌<◌, ◌≤◌, ◌+◌, ◌*◌, ◌==◌, ◌&&◌, replicate, length};
+ghost use Rattle.std.specs.Prelude.{option_map, slice_index_or, slice_set, None, Some, [], map};
+ghost use Rattle.std.specs.Prelude.{IfOk, if◌then◌else◌};
 ghost use Rattle.std.specs.Arc.{arc_value};
 ghost use Rattle.ball_model.specs.State.{early_at};
 ghost use Rattle.std.specs.List.{slice_get, flat_map};
 ghost use Rattle.std.specs.Option.{option_to_list};
-ghost use Rattle.replica.specs.Ahead.{IsTable, either, union_of_slots, slots_after, batches_in, early_batches};
+ghost use Rattle.replica.specs.Ahead.{ComesNearer, IsEmptyTable, IsTable, KeepsAlso, KeepsEither};
+ghost use Rattle.replica.specs.Ahead.{StaysTable, either, union_of_slots, slots_after, batches_in};
+ghost use Rattle.replica.specs.Ahead.{early_batches};
 
 use batches::Batch;
 use std::alloc::{AllocError, Global};
@@ -41,8 +45,7 @@ impl Model for Early {
 impl Early {
     /// Room for the batches of so many sources.
     pub fn empty(alloc: Global, parts: u16) -> Result<Early, AllocError>
-        ensures table { IfOk result (λ e. IsTable parts e) }
-        ensures none { IfOk result (λ e. (i q : ℕ) → early_at e i q ≡ None) }
+        ensures { IfOk result (IsEmptyTable parts) }
     {
         let parts = usize::from(parts);
         let slots = empty_slots(alloc, LEVELS * parts)?;
@@ -81,10 +84,7 @@ impl Early {
     pub fn keep(&mut self, level: usize, source: u16, batch: Arc<Batch>)
         requires level { level < 3 }
         requires source { (parts : ℕ) → IsTable parts self.old → source < parts }
-        ensures kept { (i k : ℕ) →
-            early_at self.new i k ≡ (if (i == level) && (k == source)
-            then Some (arc_value batch) else early_at self.old i k) }
-        ensures table { (parts : ℕ) → IsTable parts self.old → IsTable parts self.new }
+        ensures { KeepsAlso level source (arc_value batch) self.old self.new }
     {
         let place = level * self.parts + usize::from(source);
         put(&mut self.slots, place, batch);
@@ -93,18 +93,15 @@ impl Early {
     /// So many supersteps go, and the others come nearer.
     pub fn shift(&mut self, count: usize)
         requires { count ≤ 3 }
-        ensures kept { (i k : ℕ) → early_at self.new i k ≡ early_at self.old (i + count) k }
-        ensures table { (parts : ℕ) → IsTable parts self.old → IsTable parts self.new }
+        ensures { ComesNearer count self.old self.new }
     {
         shift_slots(&mut self.slots, count * self.parts);
     }
 
     /// Where there is no batch, that of the other one comes.
     pub fn fill(&mut self, other: &mut Early)
-        requires { (parts : ℕ) → IsTable parts self.old → IsTable parts other.old }
-        ensures kept { (i k : ℕ) →
-            early_at self.new i k ≡ either (early_at self.old i k) (early_at other.old i k) }
-        ensures table { (parts : ℕ) → IsTable parts self.old → IsTable parts self.new }
+        requires { StaysTable self.old other.old }
+        ensures { KeepsEither self.old other.old self.new }
     {
         fill_slots(&mut self.slots, &mut other.slots);
     }

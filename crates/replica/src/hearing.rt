@@ -1,18 +1,21 @@
 //! What is heard of a superstep.
 
-ghost use Rattle.std.specs.Prelude.{◌≡◌, ℕ, ◌^◌, ◌<◌, ◌||◌, List, length, slice_index_or, option_map, Some, IfOk, IfSome, OnOk, OnErr};
+ghost use Rattle.std.specs.Prelude.{◌≡◌, ℕ, ◌^◌, ◌<◌, ◌||◌, List, length, slice_index_or};
+ghost use Rattle.std.specs.Prelude.{option_map, Some, IfOk, IfSome, OnOk, OnErr};
 ghost use Rattle.ball_model.specs.State.{early_at};
 ghost use Rattle.registers.specs.Joined.{maximum_of_rows, union_of_flags};
-ghost use Rattle.replica.specs.Ahead.{IsTable};
-ghost use Rattle.replica.specs.Heard.{OwnIsHeard};
-ghost use Rattle.replica.specs.Hearing.{HearsAlso, IsQuiet, IsReady, KeepsAll, KeepsAllOrNone, SaysSame, accumulators_of, batch_by, let_go};
-ghost use Rattle.replica.specs.Kept.{AllRise, AreCounters, IsFrom};
+ghost use Rattle.replica.specs.Hearing.{CanFill, CanHear, CanJoin, Fills, HearsAlso, HearsEarly};
+ghost use Rattle.replica.specs.Hearing.{IsQuiet, IsReady, KeepsAll, KeepsAllOrNone, SaysSame};
+ghost use Rattle.replica.specs.Hearing.{accumulators_of, batch_by, let_go};
+ghost use Rattle.replica.specs.Kept.{IsFrom};
 ghost use Rattle.replica.specs.Level.{differences};
+ghost use Rattle.replica.specs.Tables.{CanHearOwn, HearsOwn};
 
-use crate::early::Early;
+use crate::early::{Early, LEVELS};
 use crate::level;
 use crate::shown::copy_rows;
 use crate::spread::{spread_batch, spread_own};
+use crate::tables::Tables;
 use crate::targets::Targets;
 use ball_model::Plan;
 use batches::Batch;
@@ -82,7 +85,7 @@ impl Hearing {
         }) }
     {
         let mut touched = vec![in alloc; false; rows.len()]?;
-        level::mark(rows, &accumulated, &mut touched);
+        level::mark_differences(rows, &accumulated, &mut touched);
         Ok(Hearing {
             heard,
             change,
@@ -150,11 +153,21 @@ impl Hearing {
         }
     }
 
-    /// Hears the batches that are kept of the next superstep, which has begun.
-    pub fn hear_early(&mut self, targets: &Targets, plan: &Plan, early: &Early)
-        requires ready { IsReady plan.now.log2m targets.now self.old }
-        requires table { IsTable plan.now.parts early.now }
-        requires batches { (q : ℕ) → IfSome (early_at early.now 0 q) (IsFrom plan.now q) }
+    /// Hears the batches that are kept of a superstep that has begun, the one after the next ones that passed. Only
+    /// those of later ones are left.
+    pub fn hear_early(&mut self, targets: &Targets, plan: &Plan, early: &mut Early, passed: u32)
+        requires { CanHear plan.now targets.now early.old self.old }
+        ensures { HearsEarly plan.now.log2m targets.now passed early.old early.new
+            self.old self.new }
+    {
+        early.shift(passed.min(LEVELS as u32) as usize);
+        self.hear_each(targets, plan, early);
+        early.shift(1);
+    }
+
+    // Hears the batches that are kept of the next superstep, which has begun.
+    fn hear_each(&mut self, targets: &Targets, plan: &Plan, early: &Early)
+        requires { CanHear plan.now targets.now early.now self.old }
         ensures { HearsAlso plan.now.log2m targets.now
             (λ q. early_at early.now 0 q) self.old self.new }
     {
@@ -178,25 +191,15 @@ impl Hearing {
     }
 
     /// What changed in the own partition is heard too: then the accumulators are the rows of the next superstep.
-    pub fn hear_own(&mut self, targets: &Targets, part: &Part, rows: &Rows, marks: &[bool])
-        requires width { rows.now.width ≡ self.old.accumulated.width }
-        requires count { length rows.now.rows ≡ length part.now.preds }
-        requires marks { length marks.now ≡ length part.now.preds }
-        requires ready { IsReady part.now.plan.log2m targets.now self.old }
-        requires counters { AreCounters part.now.plan.log2m rows.now.rows }
-        requires rise { AllRise part.now.plan.log2m rows.now.rows self.old.accumulated.rows }
-        requires kept { KeepsAll rows.now.rows self.old }
-        ensures width { self.new.accumulated.width ≡ self.old.accumulated.width }
-        ensures kept { KeepsAll rows.now.rows self.new }
-        ensures rise { AllRise part.now.plan.log2m rows.now.rows self.new.accumulated.rows }
-        ensures stands { OwnIsHeard targets.now part.now rows.now.rows marks.now
-            self.old.accumulated.rows self.new.accumulated.rows }
+    pub fn hear_own(&mut self, targets: &Targets, part: &Part, tables: &Tables)
+        requires { CanHearOwn part.now targets.now tables.now self.old }
+        ensures { HearsOwn part.now targets.now tables.now self.old self.new }
     {
         spread_own(
             targets,
             part,
-            rows,
-            marks,
+            tables.rows(),
+            tables.marks(),
             &mut self.accumulated,
             &mut self.touched,
         );
@@ -221,24 +224,18 @@ impl Hearing {
 
     /// Becomes what is heard beside the rows of another one of the same partition.
     pub fn assign(&mut self, rows: &Rows, other: &Hearing)
-        requires width { rows.now.width ≡ self.old.accumulated.width }
-        requires same { other.now.accumulated.width ≡ self.old.accumulated.width }
-        requires count { length rows.now.rows ≡ length self.old.accumulated.rows }
-        requires kept { KeepsAllOrNone rows.now.rows other.now }
-        ensures same { SaysSame rows.now.rows other.now self.new }
-        ensures kept { KeepsAll rows.now.rows self.new }
+        requires { CanFill rows.now other.now self.old }
+        ensures { Fills rows.now other.now self.new }
     {
         self.accumulated.copy_from(other.accumulators(rows));
-        level::mark(rows, &self.accumulated, &mut self.touched);
+        level::mark_differences(rows, &self.accumulated, &mut self.touched);
         self.heard = other.heard;
         self.change = other.change;
     }
 
     /// Takes over what another one of the same partition and superstep has heard, with these accumulators.
     pub fn absorb(&mut self, alloc: Global, rows: &Rows, other: &Hearing, theirs: &Rows)
-        requires width { self.old.accumulated.width ≡ theirs.now.width }
-        requires count { length self.old.accumulated.rows ≡ length theirs.now.rows }
-        requires rows { length rows.now.rows ≡ length self.old.accumulated.rows }
+        requires { CanJoin rows.now theirs.now self.old }
         ensures { self.new ≡ record {
           heard = union_of_flags self.old.heard other.now.heard;
           change = self.old.change || other.now.change;
@@ -249,7 +246,7 @@ impl Hearing {
     {
         let _heard = self.heard.join(alloc, &other.heard);
         let _raised = self.accumulated.join(alloc, theirs);
-        level::mark(rows, &self.accumulated, &mut self.touched);
+        level::mark_differences(rows, &self.accumulated, &mut self.touched);
         self.change |= other.change;
     }
 

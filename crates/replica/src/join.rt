@@ -5,7 +5,8 @@ ghost use Rattle.ball_model.specs.History.{holding_in};
 ghost use Rattle.ball_model.specs.Job.{Job};
 ghost use Rattle.ball_model.specs.Join.{Holding, AreAlike, join_of};
 ghost use Rattle.ball_model.specs.State.{StandsFor, further};
-ghost use Rattle.ball_model.proofs.JoinLemmas.{join_commutes, join_associates, join_repeats, alike_turns, alike_through, join_stays_alike};
+ghost use Rattle.ball_model.proofs.JoinLemmas.{join_commutes, join_associates, join_repeats};
+ghost use Rattle.ball_model.proofs.JoinLemmas.{alike_turns, alike_through, join_stays_alike};
 ghost use Rattle.replica.specs.Merged.{HoldsOfBoth, ShowsAs};
 
 use crate::Replica;
@@ -27,7 +28,7 @@ impl Join for Replica {
 
     /// Whether the two are of one plan and one partition.
     fn alike(&self, other: &Replica) -> bool {
-        self.known.is_alike(&other.known)
+        self.progress.is_alike(&other.progress)
     }
 
     /// Takes over what `other` knows, as [`Replica::merge`] does with a snapshot of it.
@@ -47,7 +48,7 @@ impl Join for Replica {
         ensures stands { (j : Job) (p t u : ℕ) → StandsFor j p t self.old →
             StandsFor j p u other.now → OnOk result (StandsFor j p (max t u) self.new) }
     {
-        self.take_over(alloc, &other.known)
+        self.take_over(alloc, &other.progress)
     }
 
     ghost commutative = { join_commutes };

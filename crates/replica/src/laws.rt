@@ -1,6 +1,8 @@
 //! What a replica promises over whole runs: the contract of each function is the law, and its body is empty.
 
-ghost use Rattle.replica.specs.Runs.{RunStands, RunAnswers, RunIsInTime, StableIsQuiet, StableReaches, OverIsAtEnd, HoldsItsWindow, SameContentIsSame, SameCallsAlike};
+ghost use Rattle.replica.specs.Runs.{RunStands, RunAnswers, RunIsInTime, StableIsQuiet};
+ghost use Rattle.replica.specs.Runs.{StableReaches, OverIsAtEnd, HoldsItsWindow, SameContentIsSame};
+ghost use Rattle.replica.specs.Runs.{SameCallsAlike};
 ghost use Rattle.replica.specs.Saved.{HadFits};
 
 /// End to end, without faults.

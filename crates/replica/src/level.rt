@@ -1,21 +1,21 @@
 //! What a replica does with its marks, and with its figures.
 
-ghost use Rattle.std.specs.Prelude.{◌≡◌, ℕ, ◌<◌, ◌≤◌, ◌+◌, ◌*◌, ◌^◌, false, not, [], slice_set, length, slice_index_or, option_map, map, IfSome, count_by};
+ghost use Rattle.std.specs.Prelude.{◌≡◌, ℕ, ◌<◌, ◌≤◌, ◌+◌, ◌*◌, ◌^◌, false, not, [], slice_set};
+ghost use Rattle.std.specs.Prelude.{length, slice_index_or, option_map, map, IfSome, count_by};
 ghost use Rattle.std.specs.List.{sum_by, list_any};
 ghost use Rattle.std.specs.Str.{bytes_eq};
 ghost use Rattle.ball_model.specs.Figures.{estimate_with};
 ghost use Rattle.ball_model.specs.Laws.{IsCounterRow};
 ghost use Rattle.ball_model.specs.PlanValue.{greatest_limit};
 ghost use Rattle.figures.specs.Values.{value_of, weight_of};
-ghost use Rattle.registers.specs.Relay.{DifferWhere};
 ghost use Rattle.replica.specs.Level.{differences, next_tally, next_tallies, weights_of};
-ghost use Rattle.replica.specs.Kept.{AreCounters, AreLasts, AllRise};
+ghost use Rattle.replica.specs.Tables.{CanBeStepped};
 
 use figures::{Estimator, Tally, moved_weight};
 use registers::Rows;
 
 /// Marks the rows that differ.
-pub fn mark(old: &Rows, new: &Rows, marks: &mut [bool])
+pub fn mark_differences(old: &Rows, new: &Rows, marks: &mut [bool])
     requires old { length old.now.rows ≡ length marks.old }
     requires new { length new.now.rows ≡ length marks.old }
     ensures { marks.new ≡ differences old.now.rows new.now.rows (length marks.old) }
@@ -47,14 +47,8 @@ pub fn step_tallies(
     weights: &mut [u64],
     tallies: &mut [Tally],
 ) -> u128
-    requires from { 0 < t }
-    requires to { t ≤ greatest_limit }
-    requires rows { AreCounters estimator.now.log2m rows.now.rows }
-    requires ahead { AreCounters estimator.now.log2m ahead.now.rows }
-    requires differ { DifferWhere marks.now rows.now ahead.now }
-    requires weights { weights.old ≡ weights_of rows.now.rows }
-    requires count { length tallies.old ≡ length ahead.now.rows }
-    requires lasts { AreLasts estimator.now ahead.now.rows marks.now (map value_of tallies.old) }
+    requires { CanBeStepped estimator.now t rows.now ahead.now marks.now weights.old
+        (map value_of tallies.old) }
     ensures tallies { map value_of tallies.new ≡ next_tallies estimator.now t ahead.now.rows
         (map value_of tallies.old) (length ahead.now.rows) }
     ensures weights { weights.new ≡ weights_of ahead.now.rows }

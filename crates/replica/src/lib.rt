@@ -51,18 +51,19 @@ mod shown;
 mod spread;
 mod start;
 mod step;
+mod tables;
 mod targets;
 mod weights;
 
 use early::Early;
 use edgelist::Part;
-use figures::{Estimator, Tally};
+use figures::Estimator;
 use hearing::Hearing;
-use registers::Relay;
 pub use saved::Saved;
 pub use shown::Shown;
 use std::marker::Model;
 use std::sync::Arc;
+use tables::Tables;
 use targets::Targets;
 
 #[cfg(test)]
@@ -76,10 +77,7 @@ mod tests;
 pub struct Progress {
     part: Arc<Part>,
     superstep: u32,
-    rows: Relay,
-    marks: Vec<bool>,
-    tallies: Vec<Tally>,
-    sums: Vec<u128>,
+    tables: Tables,
     hearing: Hearing,
     early: Early,
 }
@@ -103,7 +101,7 @@ impl Model for Progress {
 /// changes nothing here.
 #[derive(Drop)]
 pub struct Snapshot {
-    known: Progress,
+    progress: Progress,
 }
 
 impl Model for Snapshot {
@@ -111,7 +109,7 @@ impl Model for Snapshot {
 
     ghost Value = { State };
 
-    ghost view = { λ s. s.known.state };
+    ghost view = { λ s. s.progress.state };
 }
 
 /// One partition's state at a superstep, and the batches that it holds.
@@ -123,7 +121,7 @@ impl Model for Snapshot {
 #[derive(Drop)]
 pub struct Replica {
     // what it has at its superstep: what it tells, and what a snapshot copies, with room to go on
-    known: Progress,
+    progress: Progress,
     targets: Targets,
     // how estimates are made
     estimator: Estimator,
@@ -138,7 +136,7 @@ impl Model for Replica {
 
     ghost use Rattle.replica.specs.Seen.{IsReplica};
 
-    ghost view = { λ r. r.known.state };
+    ghost view = { λ r. r.progress.state };
 
     ghost invariant = { IsReplica };
 }

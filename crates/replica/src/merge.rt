@@ -1,20 +1,16 @@
 //! What is taken over from another replica of the partition.
 
-ghost use Rattle.std.specs.Prelude.{◌≡◌, ◌↔◌, ◌⊎◌, ◌-◌, ◌<◌, ◌≤◌, ◌^◌, [], length, map, min, IfOk, IsTrue, OnErr, OnOk};
-ghost use Rattle.std.specs.Vec.{vec_capacity};
+ghost use Rattle.std.specs.Prelude.{◌≡◌, ◌↔◌, ◌<◌, IfOk, IsTrue, OnErr, OnOk};
 ghost use Rattle.ball_model.specs.History.{holding_in};
 ghost use Rattle.ball_model.specs.Join.{AreAlike};
-ghost use Rattle.figures.specs.Values.{value_of};
 ghost use Rattle.replica.specs.Index.{targets_of};
-ghost use Rattle.replica.specs.Merged.{Absorbs};
+ghost use Rattle.replica.specs.Merged.{CanAbsorb, CanTakeOver, TakesIn, TakesOver};
 ghost use Rattle.replica.specs.Progress.{CanGoOn, IsWhole};
 ghost use Rattle.replica.specs.Seen.{IsState};
 
-use crate::early::{Early, LEVELS};
+use crate::early::Early;
 use crate::targets::Targets;
-use crate::{Progress, shown, step};
-use figures::Tally;
-use registers::Relay;
+use crate::{Progress, step};
 use std::alloc::{AllocError, Global};
 
 impl Progress {
@@ -42,19 +38,15 @@ impl Progress {
         other: &Progress,
         shared: &mut Early,
     ) -> Result<(), AllocError>
-        requires plan { self.old.state.part.plan ≡ other.now.state.part.plan }
-        requires number { self.old.state.part.number ≡ other.now.state.part.number }
-        requires shared { shared.old ≡ other.now.state.early }
+        requires two { CanAbsorb self.old.state other.now.state shared.old }
         requires index { targets.now ≡ targets_of self.old.state.part }
         requires goes_on { CanGoOn self.old }
-        ensures absorbs { OnOk result (Absorbs self.old.state other.now.state self.new.state) }
+        ensures taken { OnOk result (TakesIn self.old.state other.now.state self.new.state) }
         ensures refused { OnErr result (self.new.state ≡ self.old.state) }
         ensures goes_on { CanGoOn self.new }
-        ensures mine { IsState self.old.state }
-        ensures theirs { IsState other.now.state }
     {
         let theirs = other.superstep;
-        self.hearing.renew(alloc, self.rows.get())?;
+        self.hearing.renew(alloc, self.tables.rows())?;
         if self.superstep < theirs {
             self.overtake(targets, other, shared);
         } else if theirs < self.superstep {
@@ -68,94 +60,45 @@ impl Progress {
     // Becomes what another one is that is further; of the own batches those count that are of its superstep or later.
     fn overtake(&mut self, targets: &Targets, other: &Progress, shared: &mut Early)
         requires further { self.old.state.superstep < other.now.state.superstep }
-        requires plan { self.old.state.part.plan ≡ other.now.state.part.plan }
-        requires number { self.old.state.part.number ≡ other.now.state.part.number }
-        requires shared { shared.old ≡ other.now.state.early }
+        requires can { CanTakeOver self.old other.now shared.old }
         requires index { targets.now ≡ targets_of self.old.state.part }
-        requires whole { IsWhole self.old }
-        ensures absorbs { Absorbs self.old.state other.now.state self.new.state }
-        ensures whole { IsWhole self.new }
+        ensures { TakesOver self.old other.now self.new }
     {
-        let ahead = gap(self.superstep, other.superstep);
         let plan = *self.part.plan();
+        let passed = other.superstep - self.superstep - 1;
         self.superstep = other.superstep;
-        copy_shown(
-            other,
-            &mut self.rows,
-            &mut self.marks,
-            &mut self.tallies,
-            &mut self.sums,
-        );
-        self.hearing.assign(other.rows.get(), &other.hearing);
-        self.early.shift(ahead);
-        self.hearing.hear_early(targets, &plan, &self.early);
-        self.early.shift(1);
+        self.tables.assign(&other.tables);
+        self.hearing.assign(other.tables.rows(), &other.hearing);
+        self.hearing
+            .hear_early(targets, &plan, &mut self.early, passed);
         self.early.fill(shared);
     }
 
     // Of the batches of another one that is behind, those of the own superstep are heard, and later ones kept.
     fn gather(&mut self, targets: &Targets, other: &Progress, shared: &mut Early)
         requires further { other.now.state.superstep < self.old.state.superstep }
-        requires plan { self.old.state.part.plan ≡ other.now.state.part.plan }
-        requires number { self.old.state.part.number ≡ other.now.state.part.number }
-        requires shared { shared.old ≡ other.now.state.early }
+        requires can { CanTakeOver self.old other.now shared.old }
         requires index { targets.now ≡ targets_of self.old.state.part }
-        requires whole { IsWhole self.old }
-        ensures absorbs { Absorbs self.old.state other.now.state self.new.state }
-        ensures whole { IsWhole self.new }
+        ensures { TakesOver self.old other.now self.new }
     {
         let plan = *self.part.plan();
-        shared.shift(gap(other.superstep, self.superstep));
-        self.hearing.hear_early(targets, &plan, shared);
-        shared.shift(1);
+        let passed = self.superstep - other.superstep - 1;
+        self.hearing.hear_early(targets, &plan, shared, passed);
         self.early.fill(shared);
     }
 
     // What either of two at one superstep has heard and keeps.
     fn unite(&mut self, alloc: Global, other: &Progress, shared: &mut Early)
         requires level { self.old.state.superstep ≡ other.now.state.superstep }
-        requires plan { self.old.state.part.plan ≡ other.now.state.part.plan }
-        requires number { self.old.state.part.number ≡ other.now.state.part.number }
-        requires shared { shared.old ≡ other.now.state.early }
-        requires whole { IsWhole self.old }
-        ensures absorbs { Absorbs self.old.state other.now.state self.new.state }
-        ensures whole { IsWhole self.new }
+        requires can { CanTakeOver self.old other.now shared.old }
+        ensures { TakesOver self.old other.now self.new }
     {
-        self.hearing.absorb(alloc, self.rows.get(), &other.hearing, other.accumulators());
+        self.hearing.absorb(
+            alloc,
+            self.tables.rows(),
+            &other.hearing,
+            other.accumulators(),
+        );
         self.early.fill(shared);
     }
-}
-
-// The rows, the marks, the figures and the sums become those of another one.
-fn copy_shown(
-    other: &Progress,
-    rows: &mut Relay,
-    marks: &mut [bool],
-    tallies: &mut [Tally],
-    sums: &mut Vec<u128>,
-)
-    requires rows { length rows.old.rows ≡ length other.now.state.rows }
-    requires width { rows.old.width ≡ 2 ^ other.now.state.part.plan.log2m }
-    requires marks { length marks.old ≡ length other.now.state.marks }
-    requires tallies { length tallies.old ≡ length other.now.state.tallies }
-    requires sums { length other.now.state.sums ≤ vec_capacity sums.old }
-    ensures rows { rows.new.rows ≡ other.now.state.rows }
-    ensures width { rows.new.width ≡ rows.old.width }
-    ensures marks { marks.new ≡ other.now.state.marks }
-    ensures tallies { map value_of tallies.new ≡ other.now.state.tallies }
-    ensures sums { sums.new.items ≡ other.now.state.sums }
-    ensures capacity { vec_capacity sums.new ≡ vec_capacity sums.old }
-{
-    rows.assign(other.rows.get());
-    marks.copy_from_slice(&other.marks);
-    tallies.copy_from_slice(&other.tallies);
-    shown::refill(sums, &other.sums);
-}
-
-// Of how many supersteps between the two no batch counts; past all that are kept it is as many as these.
-fn gap(behind: u32, ahead: u32) -> usize
-    requires { behind < ahead }
-    ensures { result ≡ min (ahead - behind - 1) 3 }
-{
-    (ahead - behind - 1).min(LEVELS as u32) as usize
 }

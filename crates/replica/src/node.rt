@@ -1,7 +1,10 @@
 //! A replica: what it knows, and the room in which it goes on. Only its making, `out`, `changed_rows`, `out_of`,
 //! `snapshot` and `merge` take memory.
 
-ghost use Rattle.std.specs.Prelude.{◌≡◌, ◌≢◌, ℕ, ◌<◌, ◌≤◌, ◌+◌, ◌*◌, ◌/◌, ◌%◌, ◌^◌, ◌==◌, ◌&&◌, ◌⊎◌, true, false, length, slice_index_or, option_map, None, [], map, max, count_by, IsSome, IsTrue, OnOk, OnErr, IfOk, Ok, Err, ◌↔◌};
+ghost use Rattle.std.specs.Prelude.{◌≡◌, ◌≢◌, ℕ, ◌<◌, ◌≤◌, ◌+◌, ◌*◌, ◌/◌, ◌%◌, ◌^◌, ◌==◌, ◌&&◌};
+ghost use Rattle.std.specs.Prelude.{◌⊎◌, true, false, length, slice_index_or, option_map, None, []};
+ghost use Rattle.std.specs.Prelude.{map, max, count_by, IsSome, IsTrue, OnOk, OnErr, IfOk, Ok, Err};
+ghost use Rattle.std.specs.Prelude.{◌↔◌};
 ghost use Rattle.std.specs.Arc.{arc_value};
 ghost use Rattle.std.specs.List.{list_any, slice_get};
 ghost use Rattle.ball_model.specs.declared.names.CloseError.TheVariants as waits;
@@ -15,13 +18,14 @@ ghost use Rattle.ball_model.specs.PlanValue.{measure_of, mixing_of, vertices_of}
 ghost use Rattle.ball_model.specs.Job.{Job, IsJob, part_of};
 ghost use Rattle.ball_model.specs.Batches.{IsTrueBatch, changed_count, true_batch};
 ghost use Rattle.ball_model.specs.Content.{Content, is_new, verdict_of, close_of, after_close};
-ghost use Rattle.ball_model.specs.State.{SameShown, StandsFor, content_of, further, rows_of, tallies_of, sums_of};
+ghost use Rattle.ball_model.specs.State.{SameShown, StandsFor, content_of, further, rows_of};
+ghost use Rattle.ball_model.specs.State.{tallies_of, sums_of};
 ghost use Rattle.figures.specs.Values.{value_of};
 ghost use Rattle.replica.specs.Ahead.{early_batches, early_names, true_early};
 ghost use Rattle.replica.specs.Change.{HoldsAfter, take_answer};
 ghost use Rattle.replica.specs.Hearing.{accumulated_by, change_by, heard_by};
 ghost use Rattle.replica.specs.Level.{EndsRun, found_verdict, missing_in};
-ghost use Rattle.replica.specs.Merged.{Absorbs, HoldsOfBoth, ShowsAs, merge_answer};
+ghost use Rattle.replica.specs.Merged.{CanAbsorb, TakesIn, HoldsOfBoth, ShowsAs, merge_answer};
 ghost use Rattle.replica.specs.Sent.{batch_name, changed_registers, sent_batch};
 ghost use Rattle.replica.specs.Start.{Starts};
 ghost use Rattle.replica.specs.Progress.{CanGoOn};
@@ -55,21 +59,20 @@ impl Replica {
         Replica::started(alloc, part)
     }
 
-    /// A replica that has this, with the index of its part; estimates are made as its plan says.
+    /// A replica that has this; estimates are made as its plan says.
     pub(crate) fn of(
         alloc: Global,
-        known: Progress,
-        targets: Targets,
+        progress: Progress,
         estimator: Estimator,
     ) -> Result<Replica, AllocError>
-        requires goes_on { CanGoOn known }
-        requires index { HasIndex known.state targets }
-        requires measure { estimator ≡ measure_of known.state.part.plan }
-        ensures { IfOk result (λ r. r ≡ known.state) }
+        requires goes_on { CanGoOn progress }
+        requires measure { estimator ≡ measure_of progress.state.part.plan }
+        ensures { IfOk result (λ r. r ≡ progress.state) }
     {
-        let weights = known.weights(alloc)?;
+        let targets = Targets::of(alloc, &progress.part)?;
+        let weights = progress.weights(alloc)?;
         Ok(Replica {
-            known,
+            progress,
             targets,
             estimator,
             weights,
@@ -80,10 +83,9 @@ impl Replica {
     fn started(alloc: Global, part: Arc<Part>) -> Result<Replica, AllocError>
         ensures { IfOk result (λ r. Starts (arc_value part) r) }
     {
-        let targets = Targets::of(alloc, &part)?;
         let estimator = start::estimator_of(alloc, part.plan())?;
-        let known = start::first(alloc, part, &estimator)?;
-        Replica::of(alloc, known, targets, estimator)
+        let progress = start::first(alloc, part, &estimator)?;
+        Replica::of(alloc, progress, estimator)
     }
 
     /// Holds a batch from now on, or says why not. It takes no memory, and waits for nobody.
@@ -105,12 +107,12 @@ impl Replica {
         ensures step { (j : Job) (p : ℕ) → IsTrueBatch j (arc_value batch) →
             Takes j p (arc_value batch).name result self.old self.new }
     {
-        let answer = self.known.answer(&batch);
+        let answer = self.progress.answer(&batch);
         match answer {
             Ok(Taken::New) => {
                 // the limits of a batch are told with its name
                 let _name = batch.name();
-                self.known.receive(&self.targets, batch);
+                self.progress.receive(&self.targets, batch);
                 answer
             }
             _ => answer,
@@ -142,7 +144,7 @@ impl Replica {
         // a step of a run
         ensures step { (j : Job) (p : ℕ) → Closes j p result self.old self.new }
     {
-        self.known
+        self.progress
             .found_close(&self.targets, &self.estimator, &mut self.weights)
     }
 
@@ -152,8 +154,8 @@ impl Replica {
     pub fn give_back(&mut self)
         ensures { self.new ≡ self.old }
     {
-        if self.known.is_over() {
-            self.known.let_go();
+        if self.progress.is_over() {
+            self.progress.let_go();
             self.targets.clear();
         }
     }
@@ -188,7 +190,7 @@ impl Replica {
         if other.partition() != self.partition() {
             return Err(MergeError::NotMine);
         }
-        let Ok(()) = self.take_over(alloc, &other.known) else {
+        let Ok(()) = self.take_over(alloc, &other.progress) else {
             return Err(MergeError::Memory);
         };
         Ok(())
@@ -198,10 +200,8 @@ impl Replica {
     pub(crate) fn take_over(&mut self, alloc: Global, other: &Progress) -> Result<(), AllocError>
         requires plan { self.old.part.plan ≡ other.now.state.part.plan }
         requires number { self.old.part.number ≡ other.now.state.part.number }
-        ensures absorbs { OnOk result (Absorbs self.old other.now.state self.new) }
+        ensures taken { OnOk result (TakesIn self.old other.now.state self.new) }
         ensures refused { OnErr result (self.new ≡ self.old) }
-        ensures mine { OnOk result (IsState self.old) }
-        ensures theirs { OnOk result (IsState other.now.state) }
     {
         let mut shared = other.shared(alloc)?;
         self.absorb(alloc, other, &mut shared)
@@ -214,17 +214,13 @@ impl Replica {
         other: &Progress,
         shared: &mut Early,
     ) -> Result<(), AllocError>
-        requires plan { self.old.part.plan ≡ other.now.state.part.plan }
-        requires number { self.old.part.number ≡ other.now.state.part.number }
-        requires shared { shared.old ≡ other.now.state.early }
-        ensures absorbs { OnOk result (Absorbs self.old other.now.state self.new) }
+        requires { CanAbsorb self.old other.now.state shared.old }
+        ensures taken { OnOk result (TakesIn self.old other.now.state self.new) }
         ensures refused { OnErr result (self.new ≡ self.old) }
-        ensures mine { OnOk result (IsState self.old) }
-        ensures theirs { OnOk result (IsState other.now.state) }
     {
-        self.targets.renew(alloc, &self.known.part)?;
-        self.known.absorb(alloc, &self.targets, other, shared)?;
-        self.known.weigh_again(&mut self.weights);
+        self.targets.renew(alloc, &self.progress.part)?;
+        self.progress.absorb(alloc, &self.targets, other, shared)?;
+        self.progress.weigh_again(&mut self.weights);
         Ok(())
     }
 
@@ -239,8 +235,8 @@ impl Replica {
             StandsFor j p t s) }
         ensures unchanged { self.new ≡ self.old }
     {
-        let known = self.known.copied(alloc)?;
-        Ok(Snapshot { known })
+        let progress = self.progress.copied(alloc)?;
+        Ok(Snapshot { progress })
     }
 
     /// What the partition tells another one, `target`, of this superstep.
@@ -255,7 +251,7 @@ impl Replica {
         ensures stands { (j : Job) (p t : ℕ) → StandsFor j p t self.now →
             IfOk result (λ b. b ≡ true_batch j (batch_name t p target)) }
     {
-        self.known.sent(alloc, target)
+        self.progress.sent(alloc, target)
     }
 
     /// The registers of the vertices that changed at this superstep, one row after the other.
@@ -264,7 +260,7 @@ impl Replica {
     pub fn changed_rows(&self, alloc: Global) -> Result<Vec<u8>, AllocError>
         ensures { IfOk result (λ rows. rows.items ≡ changed_registers self.now) }
     {
-        self.known.changed_rows(alloc)
+        self.progress.changed_rows(alloc)
     }
 
     /// What [`Replica::out`] tells `target`, with its registers in the table of those that changed, which all batches of
@@ -283,6 +279,6 @@ impl Replica {
         ensures stands { (j : Job) (p t : ℕ) → StandsFor j p t self.now →
             IfOk result (λ b. b ≡ true_batch j (batch_name t p target)) }
     {
-        self.known.sent_of(alloc, table, target)
+        self.progress.sent_of(alloc, table, target)
     }
 }

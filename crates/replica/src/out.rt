@@ -1,12 +1,15 @@
 //! What a replica tells the other partitions.
 
-ghost use Rattle.std.specs.Prelude.{◌≡◌, ◌≢◌, ℕ, ◌<◌, ◌+◌, ◌*◌, ◌%◌, ◌==◌, ◌++◌, [], IfOk, OnOk, IsOk, false, slice_index, slice_index_or, length};
+ghost use Rattle.std.specs.Prelude.{◌≡◌, ◌≢◌, ℕ, ◌<◌, ◌+◌, ◌*◌, ◌%◌, ◌==◌, ◌++◌, [], IfOk, OnOk};
+ghost use Rattle.std.specs.Prelude.{IsOk, false, slice_index, slice_index_or, length};
 ghost use Rattle.std.specs.Arc.{arc_value};
 ghost use Rattle.ball_model.specs.Job.{Job};
 ghost use Rattle.ball_model.specs.Batches.{true_batch};
+ghost use Rattle.ball_model.specs.PlanValue.{most_parts};
 ghost use Rattle.ball_model.specs.State.{StandsFor};
 ghost use Rattle.ball_model.specs.Masks.{has_bit};
-ghost use Rattle.replica.specs.Sent.{IsTold, changed_registers, changed_row, changed_rows, sent_batch};
+ghost use Rattle.replica.specs.Sent.{IsNothingTold, IsTold, changed_registers, changed_row};
+ghost use Rattle.replica.specs.Sent.{changed_rows, sent_batch};
 ghost use Rattle.replica.specs.Seen.{IsState};
 
 use crate::{Progress, Shown};
@@ -18,13 +21,39 @@ use std::sync::Arc;
 // What another partition is told, as vertices and the places of their rows among those that changed, and how many of
 // the vertices so far changed.
 #[derive(Drop)]
-struct Told {
+struct ToldVertices {
     ids: Vec<u32>,
     places: Vec<u32>,
     changed: u32,
 }
 
 impl Progress {
+    // Vertex i.
+    fn vertex(&self, i: u32) -> u32
+        requires { i < length self.now.state.part.preds }
+        ensures { result ≡ i * self.now.state.part.plan.parts + self.now.state.part.number }
+    {
+        self.part.vertex(i)
+    }
+
+    // Whether vertex i changed.
+    fn is_marked(&self, i: u32) -> bool
+        requires { i < length self.now.state.part.preds }
+        ensures value { result ≡ slice_index_or self.now.state.marks i false }
+        ensures state { IsState self.now.state }
+    {
+        self.tables.marks()[i as usize]
+    }
+
+    // Whether vertex i has an edge into a partition.
+    fn feeds_into(&self, i: u32, target: u16) -> bool
+        requires place { i < length self.now.state.part.preds }
+        requires target { target < self.now.state.part.plan.parts }
+        ensures { result ≡ has_bit (slice_index_or self.now.state.part.feeds i 0) target }
+    {
+        has_edge_into(self.part.feeds(i), target)
+    }
+
     /// What the partition tells another one of this superstep, as it is read off what the replica has.
     pub(crate) fn sent(&self, alloc: Global, target: u16) -> Result<Batch, AllocError>
         requires target { target < self.now.state.part.plan.parts }
@@ -62,8 +91,8 @@ impl Progress {
         requires { i < length self.now.state.part.preds }
         ensures { OnOk result (out.new.items ≡ out.old.items ++ changed_row self.now.state i) }
     {
-        if self.marks[i as usize] {
-            out.extend_from_slice(self.rows.get().row(i as usize))?;
+        if self.is_marked(i) {
+            out.extend_from_slice(self.rows().row(i as usize))?;
         }
         Ok(())
     }
@@ -85,7 +114,7 @@ impl Progress {
             source: self.partition(),
             target,
         };
-        let told = self.told(alloc, target)?;
+        let told = self.told_vertices(alloc, target)?;
         let table = Arc::try_clone(table)?;
         Ok(Batch::sharing(
             self.plan(),
@@ -98,7 +127,7 @@ impl Progress {
     }
 
     // The vertices that changed and have an edge into a partition, with the places of their rows.
-    fn told(&self, alloc: Global, target: u16) -> Result<Told, AllocError>
+    fn told_vertices(&self, alloc: Global, target: u16) -> Result<ToldVertices, AllocError>
         requires target { target < self.now.state.part.plan.parts }
         ensures { IfOk result (λ told. IsTold self.now.state target
             (length self.now.state.part.preds) told.ids.items told.places.items told.changed) }
@@ -111,7 +140,7 @@ impl Progress {
     }
 
     // Counts vertex i, where it changed, and adds it and the place of its row, where it has an edge into the target too.
-    fn tell_row(&self, told: &mut Told, target: u16, i: u32) -> Result<(), AllocError>
+    fn tell_row(&self, told: &mut ToldVertices, target: u16, i: u32) -> Result<(), AllocError>
         requires place { i < length self.now.state.part.preds }
         requires target { target < self.now.state.part.plan.parts }
         requires so_far { IsTold self.now.state target i
@@ -119,15 +148,15 @@ impl Progress {
         ensures { OnOk result (IsTold self.now.state target (i + 1)
             told.new.ids.items told.new.places.items told.new.changed) }
     {
-        if !self.marks[i as usize] {
+        if !self.is_marked(i) {
             return Ok(());
         }
         let place = told.changed;
         told.changed += 1;
-        if !has_edge_into(self.part.feeds(i), target) {
+        if !self.feeds_into(i, target) {
             return Ok(());
         }
-        told.ids.push(self.part.vertex(i))?;
+        told.ids.push(self.vertex(i))?;
         told.places.push(place)?;
         Ok(())
     }
@@ -138,7 +167,7 @@ impl Progress {
     {
         let mut count = 0u32;
         for i in 0..self.part.size() {
-            if self.marks[i as usize] && has_edge_into(self.part.feeds(i), target) {
+            if self.is_marked(i) && self.feeds_into(i, target) {
                 count += 1;
             }
         }
@@ -153,20 +182,18 @@ impl Progress {
         ensures { OnOk result
             (batch.new ≡ sent_batch self.now.state batch.old.name.target (i + 1)) }
     {
-        if self.marks[i as usize] && has_edge_into(self.part.feeds(i), batch.name().target) {
-            batch.push(self.part.vertex(i), self.rows.get().row(i as usize))?;
+        if self.is_marked(i) && self.feeds_into(i, batch.name().target) {
+            batch.push(self.vertex(i), self.rows().row(i as usize))?;
         }
         Ok(())
     }
 }
 
 // What is told of no vertex, with room for so many rows.
-fn nothing_told(alloc: Global, room: usize) -> Result<Told, AllocError>
-    ensures ids { IfOk result (λ told. told.ids.items ≡ []) }
-    ensures places { IfOk result (λ told. told.places.items ≡ []) }
-    ensures changed { IfOk result (λ told. told.changed ≡ 0) }
+fn nothing_told(alloc: Global, room: usize) -> Result<ToldVertices, AllocError>
+    ensures { IfOk result (λ told. IsNothingTold told.ids.items told.places.items told.changed) }
 {
-    Ok(Told {
+    Ok(ToldVertices {
         ids: Vec::with_capacity(alloc, room)?,
         places: Vec::with_capacity(alloc, room)?,
         changed: 0,
@@ -175,7 +202,7 @@ fn nothing_told(alloc: Global, room: usize) -> Result<Told, AllocError>
 
 // Whether bit `target` of a feed mask is set.
 fn has_edge_into(feeds: u64, target: u16) -> bool
-    requires { target < 64 }
+    requires { target < most_parts }
     ensures { result ≡ has_bit feeds target }
 {
     (feeds >> target) % 2 == 1

@@ -4,21 +4,19 @@ ghost use Rattle.std.specs.Prelude.{◌≡◌, ℕ, ◌+◌, ◌≤◌, map, len
 ghost use Rattle.std.specs.Arc.{arc_value};
 ghost use Rattle.std.specs.Vec.{vec_capacity};
 ghost use Rattle.ball_model.specs.Checkpoint.{kept_batches};
-ghost use Rattle.ball_model.specs.PlanValue.{greatest_limit};
 ghost use Rattle.ball_model.specs.State.{State};
 ghost use Rattle.replica.specs.Kept.{AreEarly};
-ghost use Rattle.replica.specs.Progress.{CanGoOn};
 ghost use Rattle.replica.specs.Seen.{IsState};
-ghost use Rattle.replica.specs.Saved.{Fits, IsKeepable, IsRebuilt, MayBeKept};
+ghost use Rattle.replica.specs.Saved.{Fits, IsKeepable, IsRebuilt, IsRemade, MayBeKept};
 
 use crate::early::Early;
 use crate::hearing::Hearing;
 use crate::saved::Saved;
-use crate::targets::Targets;
-use crate::{Progress, Replica, shown, start};
+use crate::tables::{self, Tables};
+use crate::{Progress, Replica, start};
+use ball_model::Plan;
 use batches::Batch;
 use edgelist::Part;
-use registers::Relay;
 use std::alloc::{AllocError, Global};
 use std::sync::Arc;
 
@@ -35,48 +33,41 @@ impl Replica {
         ensures same { IfOk result (λ r. (v : State) → IsState v →
             IsRebuilt (arc_value part) saved v → r ≡ v) }
     {
-        let targets = Targets::of(alloc, &part)?;
         let estimator = start::estimator_of(alloc, part.plan())?;
-        let known = known(alloc, part, saved)?;
-        Replica::of(alloc, known, targets, estimator)
+        let progress = rebuilt(alloc, part, saved)?;
+        Replica::of(alloc, progress, estimator)
     }
 }
 
 // What a replica of the part knows that has all this.
-fn known(alloc: Global, part: Arc<Part>, saved: Saved) -> Result<Progress, AllocError>
+fn rebuilt(alloc: Global, part: Arc<Part>, saved: Saved) -> Result<Progress, AllocError>
     requires { Fits (arc_value part) saved }
-    ensures fields { IfOk result (λ k. IsRebuilt (arc_value part) saved k.state) }
-    ensures keepable { IfOk result (λ k. IsKeepable k.state) }
-    ensures goes_on { IfOk result (λ k. CanGoOn k) }
+    ensures { IfOk result (λ k. IsRemade (arc_value part) saved k) }
 {
     let plan = part.plan();
     // the limits of a part are told with its number
     prove!(part.partition() < plan.parts());
-    let sums = with_room(alloc, plan.limit(), &saved.sums)?;
+    let sums = with_room(alloc, plan, &saved.sums)?;
     let early = kept(alloc, &part, saved.superstep, &saved.early)?;
     let (heard, change, accumulated) = (saved.heard, saved.heard_change, saved.accumulated);
     let hearing = Hearing::of(alloc, &saved.rows, heard, change, accumulated)?;
     Ok(Progress {
         part,
         superstep: saved.superstep,
-        rows: Relay::new(saved.rows),
-        marks: saved.marks,
-        tallies: saved.tallies,
-        sums,
+        tables: Tables::of(saved.rows, saved.marks, saved.tallies, sums),
         hearing,
         early,
     })
 }
 
 // The same sums, with room for one a superstep up to the limit.
-fn with_room(alloc: Global, limit: u32, sums: &[u128]) -> Result<Vec<u128>, AllocError>
-    requires limit { limit ≤ greatest_limit }
-    requires few { length sums.now ≤ limit + 1 }
+fn with_room(alloc: Global, plan: &Plan, sums: &[u128]) -> Result<Vec<u128>, AllocError>
+    requires { length sums.now ≤ plan.now.limit + 1 }
     ensures sums { IfOk result (λ copy. copy.items ≡ sums.now) }
-    ensures room { IfOk result (λ copy. limit + 1 ≤ vec_capacity copy) }
+    ensures room { IfOk result (λ copy. plan.now.limit + 1 ≤ vec_capacity copy) }
 {
-    let mut copy = Vec::with_capacity(alloc, limit as usize + 1)?;
-    shown::refill(&mut copy, sums);
+    let mut copy = Vec::with_capacity(alloc, plan.limit() as usize + 1)?;
+    tables::refill(&mut copy, sums);
     Ok(copy)
 }
 

@@ -1,6 +1,7 @@
 //! What a checkpoint tells of a replica.
 
-ghost use Rattle.std.specs.Prelude.{◌≡◌, ◌≢◌, ◌↔◌, ℕ, ◌+◌, ◌*◌, ◌^◌, ◌<◌, ◌≤◌, IsTrue, true, false, map, length, slice_index_or, []};
+ghost use Rattle.std.specs.Prelude.{◌≡◌, ◌≢◌, ◌↔◌, ℕ, ◌+◌, ◌*◌, ◌^◌, ◌<◌, ◌≤◌, IsTrue, true, false};
+ghost use Rattle.std.specs.Prelude.{map, length, slice_index_or, []};
 ghost use Rattle.std.specs.Arc.{arc_value};
 ghost use Rattle.std.specs.List.{All};
 ghost use Rattle.ball_model.specs.PlanValue.{most_parts};
@@ -9,6 +10,8 @@ ghost use Rattle.replica.specs.Saved.{Fits, HasRows, HasFigures, HasHeard, MayKe
 
 use crate::level::sum_of_lasts;
 use crate::step::is_same;
+use ball_model::Plan;
+use ball_model::plan::MOST_PARTS;
 use batches::Batch;
 use edgelist::Part;
 use figures::{Tally, are_last};
@@ -65,7 +68,7 @@ impl Saved {
             && self.rows.width() == width
             && self.rows.len() == size
             && self.marks.len() == size
-            && are_counters(&self.rows, part.plan().log2m())
+            && are_counters(&self.rows, part.plan())
     }
 
     // Whether all else fits too.
@@ -98,17 +101,17 @@ impl Saved {
         are_sources(part.plan().parts(), part.partition(), self.heard)
             && self.accumulated.width() == width
             && self.accumulated.len() == self.rows.len()
-            && all_rise(&self.rows, &self.accumulated, part.plan().log2m())
+            && all_rise(&self.rows, &self.accumulated, part.plan())
     }
 }
 
 // Whether each row has registers of at most 33.
-fn are_counters(rows: &Rows, log2m: u8) -> bool
-    requires from { 4 ≤ log2m }
-    requires to { log2m ≤ 10 }
-    requires width { rows.now.width ≡ 2 ^ log2m }
-    ensures { IsTrue result ↔ AreCounters log2m rows.now.rows }
+fn are_counters(rows: &Rows, plan: &Plan) -> bool
+    requires { rows.now.width ≡ 2 ^ plan.now.log2m }
+    ensures { IsTrue result ↔ AreCounters plan.now.log2m rows.now.rows }
 {
+    // the limits of a plan are told with its number of registers
+    let _log2m = plan.log2m();
     for i in 0..rows.len() {
         if !are_ranks(rows.row(i)) {
             return false;
@@ -153,7 +156,7 @@ fn are_sources(parts: u16, own: u16, heard: SourceMask) -> bool
 {
     // that a mask has 64 flags is told with its bits
     let _bits = heard.bits();
-    for q in parts..64 {
+    for q in parts..MOST_PARTS {
         if heard.has(q) {
             return false;
         }
@@ -162,14 +165,14 @@ fn are_sources(parts: u16, own: u16, heard: SourceMask) -> bool
 }
 
 // Whether each row has become a counter's row in which no register fell.
-fn all_rise(rows: &Rows, accumulated: &Rows, log2m: u8) -> bool
-    requires from { 4 ≤ log2m }
-    requires to { log2m ≤ 10 }
+fn all_rise(rows: &Rows, accumulated: &Rows, plan: &Plan) -> bool
     requires count { length accumulated.now.rows ≡ length rows.now.rows }
-    requires width { rows.now.width ≡ 2 ^ log2m }
-    requires same { accumulated.now.width ≡ 2 ^ log2m }
-    ensures { IsTrue result ↔ AllRise log2m rows.now.rows accumulated.now.rows }
+    requires width { rows.now.width ≡ 2 ^ plan.now.log2m }
+    requires same { accumulated.now.width ≡ 2 ^ plan.now.log2m }
+    ensures { IsTrue result ↔ AllRise plan.now.log2m rows.now.rows accumulated.now.rows }
 {
+    // the limits of a plan are told with its number of registers
+    let _log2m = plan.log2m();
     for i in 0..rows.len() {
         if !rises(rows.row(i), accumulated.row(i)) {
             return false;

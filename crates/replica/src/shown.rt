@@ -1,6 +1,9 @@
 //! What a replica has at a superstep.
 
-ghost use Rattle.std.specs.Prelude.{◌≡◌, ℕ, List, ◌<◌, ◌≤◌, ◌+◌, ◌-◌, ◌*◌, ◌/◌, ◌%◌, ◌^◌, ◌==◌, ◌&&◌, ◌⊎◌, if◌then◌else◌, false, not, length, slice_index_or, is_some, option_map, None, [], map, count_by, IsSome, IsTrue, IfOk, ◌↔◌};
+ghost use Rattle.std.specs.Prelude.{◌≡◌, ℕ, List, ◌<◌, ◌≤◌, ◌+◌, ◌-◌, ◌*◌, ◌/◌, ◌%◌, ◌^◌, ◌==◌};
+ghost use Rattle.std.specs.Prelude.{◌&&◌, ◌⊎◌, if◌then◌else◌, false, not, length, slice_index_or};
+ghost use Rattle.std.specs.Prelude.{is_some, option_map, None, [], map, count_by, IsSome, IsTrue};
+ghost use Rattle.std.specs.Prelude.{IfOk, ◌↔◌};
 ghost use Rattle.std.specs.Arc.{arc_value};
 ghost use Rattle.std.specs.Vec.{vec_capacity};
 ghost use Rattle.std.specs.List.{All, list_any, range_with_len, slice_get};
@@ -13,15 +16,18 @@ ghost use Rattle.ball_model.specs.Supersteps.{tally_at};
 ghost use Rattle.ball_model.specs.Job.{Job, IsJob};
 ghost use Rattle.ball_model.specs.Batches.{changed_count};
 ghost use Rattle.ball_model.specs.Content.{verdict_of};
-ghost use Rattle.ball_model.specs.State.{State, StandsFor, content_of, early_at, rows_of, tallies_of, sums_of};
+ghost use Rattle.ball_model.specs.State.{State, StandsFor, content_of, early_at, rows_of};
+ghost use Rattle.ball_model.specs.State.{tallies_of, sums_of};
 ghost use Rattle.replica.specs.Ahead.{early_batches, early_names, true_early};
-ghost use Rattle.replica.specs.Level.{is_changing, level_verdict, found_verdict, missing_in, nothing};
-ghost use Rattle.replica.specs.Hearing.{KeepsAllOrNone, SaysSame, accumulated_by, change_by, heard_by};
+ghost use Rattle.replica.specs.Level.{is_changing, level_verdict, found_verdict, missing_in};
+ghost use Rattle.replica.specs.Level.{nothing};
+ghost use Rattle.replica.specs.Hearing.{KeepsAllOrNone, SaysSame, accumulated_by, change_by};
+ghost use Rattle.replica.specs.Hearing.{heard_by};
 ghost use Rattle.replica.specs.Saved.{IsFigures};
 ghost use Rattle.replica.specs.Seen.{IsState};
 
-use crate::hearing::Hearing;
 use crate::{Progress, Replica, Snapshot, level};
+use ball_model::plan::MOST_PARTS;
 use ball_model::{BatchName, Plan, Verdict};
 use batches::Batch;
 use figures::Tally;
@@ -89,8 +95,8 @@ pub trait Shown {
             result.now ≡ ball_counter (mixing_of j.plan) j.graph x t }
     {
         let s = self.shown();
-        let rows = s.rows.get();
-        rows.row(s.place(x))
+        let rows = s.tables.rows();
+        rows.row(s.own_place(x))
     }
 
     /// The figures of vertex `x`, which the partition owns.
@@ -103,7 +109,7 @@ pub trait Shown {
             value_of result ≡ tally_at (mixing_of j.plan) j.graph x t }
     {
         let s = self.shown();
-        s.tallies[s.place(x)]
+        s.tables.tallies()[s.own_place(x)]
     }
 
     /// Whether vertex `x`, which the partition owns, changed at this superstep.
@@ -116,7 +122,7 @@ pub trait Shown {
             result ≡ changed_at (mixing_of j.plan) j.graph x t }
     {
         let s = self.shown();
-        s.marks[s.place(x)]
+        s.tables.marks()[s.own_place(x)]
     }
 
     /// How many vertices of the partition changed at this superstep.
@@ -126,7 +132,7 @@ pub trait Shown {
             result ≡ changed_count j t p }
     {
         let s = self.shown();
-        level::count_set(&s.marks) as u32
+        level::count_set(s.tables.marks()) as u32
     }
 
     /// The sum of the estimates of the partition at each superstep so far, from 0 on.
@@ -137,7 +143,7 @@ pub trait Shown {
             result.now ≡ sums_of j p t }
     {
         let s = self.shown();
-        &s.sums
+        s.tables.sums()
     }
 
     /// The registers of all vertices of the partition, a row each.
@@ -148,7 +154,7 @@ pub trait Shown {
             result.now.rows ≡ rows_of j p t }
     {
         let s = self.shown();
-        s.rows.get()
+        s.tables.rows()
     }
 
     /// The figures of all vertices of the partition.
@@ -160,7 +166,7 @@ pub trait Shown {
             map value_of result.now ≡ tallies_of j p t }
     {
         let s = self.shown();
-        &s.tallies
+        s.tables.tallies()
     }
 
     /// Whether the batch of that name is held.
@@ -212,7 +218,7 @@ pub trait Shown {
             result.now ≡ accumulated_by j (content_of (state self.now)) x }
     {
         let s = self.shown();
-        s.accumulators().row(s.place(x))
+        s.accumulators().row(s.own_place(x))
     }
 
     /// How many batches of later supersteps are kept. It takes time in proportion to three slots for each partition.
@@ -263,7 +269,7 @@ impl Shown for Snapshot {
     ghost state = { λ v. v };
 
     fn shown(&self) -> &Progress {
-        &self.known
+        &self.progress
     }
 }
 
@@ -271,13 +277,13 @@ impl Shown for Replica {
     ghost state = { λ v. v };
 
     fn shown(&self) -> &Progress {
-        &self.known
+        &self.progress
     }
 }
 
 impl Progress {
     // The place of a vertex of the partition.
-    fn place(&self, x: u32) -> usize
+    fn own_place(&self, x: u32) -> usize
         requires vertex { x < self.now.state.part.plan.vertices }
         requires own { x % self.now.state.part.plan.parts ≡ self.now.state.part.number }
         ensures value { result ≡ x / self.now.state.part.plan.parts }
@@ -295,7 +301,7 @@ impl Progress {
             return false;
         }
         if superstep == self.superstep {
-            return source < 64 && self.hearing.heard().has(source);
+            return source < MOST_PARTS && self.hearing.heard().has(source);
         }
         self.keeps(superstep - self.superstep, source)
     }
@@ -313,14 +319,14 @@ impl Progress {
         ensures value { result.now.rows ≡ self.now.state.accumulated }
         ensures width { result.now.width ≡ 2 ^ self.now.state.part.plan.log2m }
     {
-        self.hearing.accumulators(self.rows.get())
+        self.hearing.accumulators(self.tables.rows())
     }
 
     // Whether some source tells of a changed vertex.
     fn is_changing(&self) -> bool
         ensures { result ≡ is_changing self.now.state }
     {
-        self.hearing.change() || level::any_marked(&self.marks)
+        self.hearing.change() || level::any_marked(self.tables.marks())
     }
 
     // The verdict of a level that is held.
@@ -354,54 +360,16 @@ impl Progress {
     {
         let part = Arc::try_clone(&self.part)?;
         let early = self.early.share(alloc)?;
-        let copies = copy_rest(alloc, &self.hearing, &self.marks, &self.tallies, &self.sums)?;
-        let rows = self.rows.copied(alloc)?;
+        let hearing = self.hearing.copied(alloc)?;
+        let tables = self.tables.copied(alloc)?;
         Ok(Progress {
             part,
             superstep: self.superstep,
-            rows,
-            marks: copies.marks,
-            tallies: copies.tallies,
-            sums: copies.sums,
-            hearing: copies.hearing,
+            tables,
+            hearing,
             early,
         })
     }
-}
-
-// What a snapshot has a copy of; its rows, its batches and its part are shared.
-#[derive(Drop)]
-struct Copies {
-    hearing: Hearing,
-    marks: Vec<bool>,
-    tallies: Vec<Tally>,
-    sums: Vec<u128>,
-}
-
-// What is heard, marks, figures and sums, copied.
-fn copy_rest(
-    alloc: Global,
-    hearing: &Hearing,
-    marks: &[bool],
-    tallies: &[Tally],
-    sums: &[u128],
-) -> Result<Copies, AllocError>
-    ensures hearing { IfOk result (λ copies. (rows : List (List ℕ)) →
-        KeepsAllOrNone rows hearing.now → SaysSame rows hearing.now copies.hearing) }
-    ensures marks { IfOk result (λ copies. copies.marks.items ≡ marks.now) }
-    ensures tallies { IfOk result (λ copies. copies.tallies.items ≡ tallies.now) }
-    ensures sums { IfOk result (λ copies. copies.sums.items ≡ sums.now) }
-{
-    let hearing = hearing.copied(alloc)?;
-    let sums = Vec::from_slice(alloc, sums)?;
-    let tallies = Vec::from_slice(alloc, tallies)?;
-    let marks = Vec::from_slice(alloc, marks)?;
-    Ok(Copies {
-        hearing,
-        marks,
-        tallies,
-        sums,
-    })
 }
 
 // The same rows in a buffer of their own.
@@ -411,16 +379,4 @@ pub(crate) fn copy_rows(alloc: Global, rows: &Rows) -> Result<Rows, AllocError>
     let mut copy = Rows::fixed(alloc, rows.len() as u32, rows.width() as u16)?;
     copy.copy_from(rows);
     Ok(copy)
-}
-
-// The sums become others, within the room that was taken for them.
-pub(crate) fn refill(sums: &mut Vec<u128>, others: &[u128])
-    requires { length others.now ≤ vec_capacity sums.old }
-    ensures items { sums.new.items ≡ others.now }
-    ensures capacity { vec_capacity sums.new ≡ vec_capacity sums.old }
-{
-    sums.clear();
-    for sum in others {
-        sums.push_reserved(*sum);
-    }
 }

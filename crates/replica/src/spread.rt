@@ -2,8 +2,9 @@
 
 ghost use Rattle.std.specs.Prelude.{◌≡◌, ◌^◌, ◌<◌, length, slice_index_or, []};
 ghost use Rattle.std.specs.List.{All};
-ghost use Rattle.replica.specs.Spread.{raised_at, raised_by, own_rows, LeadInside};
-ghost use Rattle.replica.specs.Heard.{RowIsHeard, BatchIsHeard, OwnIsHeard, MarksBefore, MarksChanges, StayTouched};
+ghost use Rattle.replica.specs.Spread.{CanRaise, CanSpread, raised_at, raised_by, own_rows};
+ghost use Rattle.replica.specs.Heard.{RowIsHeard, BatchIsHeard, OwnIsHeard, MarksBefore};
+ghost use Rattle.replica.specs.Heard.{MarksChanges, StayTouched};
 
 use crate::targets::Targets;
 use batches::Batch;
@@ -23,8 +24,7 @@ pub fn spread_row(
     touched: &mut [bool],
 )
     requires width { length registers.now ≡ accumulated.old.width }
-    requires inside { LeadInside (length accumulated.old.rows) targets.now }
-    requires marks { length touched.old ≡ length accumulated.old.rows }
+    requires room { CanSpread targets.now accumulated.old touched.old }
     ensures rows { accumulated.new ≡
         raised_at (slice_index_or targets.now z []) registers.now accumulated.old }
     ensures marks { MarksChanges touched.old accumulated.old.rows accumulated.new.rows touched.new }
@@ -42,8 +42,7 @@ pub fn spread_row(
 /// the vertices of q. It takes no memory, and time in proportion to the edges of its rows' vertices into the part.
 pub fn spread_batch(targets: &Targets, batch: &Batch, accumulated: &mut Rows, touched: &mut [bool])
     requires width { 2 ^ batch.now.plan.log2m ≡ accumulated.old.width }
-    requires inside { LeadInside (length accumulated.old.rows) targets.now }
-    requires marks { length touched.old ≡ length accumulated.old.rows }
+    requires room { CanSpread targets.now accumulated.old touched.old }
     ensures rows { accumulated.new ≡ raised_by targets.now batch.now.rows accumulated.old }
     ensures touched { StayTouched accumulated.old.rows touched.old
         accumulated.new.rows touched.new }
@@ -77,8 +76,7 @@ pub fn spread_own(
     requires width { rows.now.width ≡ accumulated.old.width }
     requires count { length rows.now.rows ≡ length part.now.preds }
     requires marks { length marks.now ≡ length part.now.preds }
-    requires inside { LeadInside (length accumulated.old.rows) targets.now }
-    requires touched { length touched.old ≡ length accumulated.old.rows }
+    requires room { CanSpread targets.now accumulated.old touched.old }
     ensures rows { accumulated.new ≡
         raised_by targets.now (own_rows part.now rows.now.rows marks.now) accumulated.old }
     ensures touched { StayTouched accumulated.old.rows touched.old
@@ -108,9 +106,7 @@ const BLOCK: usize = 8;
 // It takes no memory, and touches no other row. The rows of a block that are wider than a line of the cache are
 // glanced at first, so that they are fetched side by side.
 fn raise_places(places: &[u32], registers: &[u8], accumulated: &mut Rows, touched: &mut [bool])
-    requires places { All (λ i. i < length accumulated.old.rows) places.now }
-    requires width { length registers.now ≡ accumulated.old.width }
-    requires marks { length touched.old ≡ length accumulated.old.rows }
+    requires { CanRaise places.now registers.now accumulated.old touched.old }
     ensures rows { accumulated.new ≡ raised_at places.now registers.now accumulated.old }
     ensures marks { MarksChanges touched.old accumulated.old.rows accumulated.new.rows touched.new }
 {
@@ -123,9 +119,7 @@ fn raise_places(places: &[u32], registers: &[u8], accumulated: &mut Rows, touche
 // Marks the rows at these places that are seen at a glance to rise, where rows are wider than a line of the cache.
 // So each row that is marked here is one that spreading marks.
 fn mark_seen(places: &[u32], registers: &[u8], accumulated: &Rows, touched: &mut [bool])
-    requires places { All (λ i. i < length accumulated.now.rows) places.now }
-    requires width { length registers.now ≡ accumulated.now.width }
-    requires marks { length touched.old ≡ length accumulated.now.rows }
+    requires { CanRaise places.now registers.now accumulated.now touched.old }
     ensures { MarksBefore places.now registers.now accumulated.now.rows touched.old touched.new }
 {
     if registers.len() <= LINE {
@@ -133,7 +127,7 @@ fn mark_seen(places: &[u32], registers: &[u8], accumulated: &Rows, touched: &mut
     }
     for place in places {
         let i = *place as usize;
-        let seen = accumulated.glance(i, registers);
+        let seen = accumulated.is_seen_less(i, registers);
         touched[i] |= seen;
     }
 }
@@ -141,9 +135,7 @@ fn mark_seen(places: &[u32], registers: &[u8], accumulated: &Rows, touched: &mut
 // The rows at the places of a block become the maximum of themselves and `registers`, one after the other, and each
 // row that this changes is marked.
 fn raise_block(places: &[u32], registers: &[u8], accumulated: &mut Rows, touched: &mut [bool])
-    requires places { All (λ i. i < length accumulated.old.rows) places.now }
-    requires width { length registers.now ≡ accumulated.old.width }
-    requires marks { length touched.old ≡ length accumulated.old.rows }
+    requires { CanRaise places.now registers.now accumulated.old touched.old }
     ensures rows { accumulated.new ≡ raised_at places.now registers.now accumulated.old }
     ensures marks { MarksChanges touched.old accumulated.old.rows accumulated.new.rows touched.new }
 {

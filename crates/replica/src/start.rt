@@ -1,6 +1,7 @@
 //! What a replica begins with.
 
-ghost use Rattle.std.specs.Prelude.{◌≡◌, ℕ, ◌<◌, ◌≤◌, ◌+◌, ◌*◌, ◌^◌, length, map, replicate, slice_index_or, slice_set, [], ◌∷◌, IfOk};
+ghost use Rattle.std.specs.Prelude.{◌≡◌, ℕ, ◌<◌, ◌≤◌, ◌+◌, ◌*◌, ◌^◌, length, map, replicate};
+ghost use Rattle.std.specs.Prelude.{slice_index_or, slice_set, [], ◌∷◌, IfOk};
 ghost use Rattle.std.specs.Arc.{arc_value};
 ghost use Rattle.std.specs.Vec.{vec_capacity};
 ghost use Rattle.ball_model.specs.PlanValue.{IsPlan, greatest_limit, measure_of};
@@ -8,26 +9,18 @@ ghost use Rattle.figures.specs.Values.{value_of};
 ghost use Rattle.replica.specs.Kept.{AreCounters};
 ghost use Rattle.replica.specs.Level.{total_of};
 ghost use Rattle.replica.specs.Progress.{CanGoOn};
-ghost use Rattle.replica.specs.Start.{Starts, first_figures, first_row, first_rows};
+ghost use Rattle.replica.specs.Start.{IsEmptyAt, Starts, first_figures, first_row, first_rows};
 
 use crate::early::Early;
 use crate::hearing::Hearing;
+use crate::tables::Tables;
 use crate::{Progress, level};
 use ball_model::{Plan, mix, place};
 use edgelist::Part;
 use figures::{Estimator, Tally};
-use registers::{Relay, Rows};
+use registers::Rows;
 use std::alloc::{AllocError, Global};
 use std::sync::Arc;
-
-/// What a replica has for each vertex, and the sums of all supersteps: what takes memory beside its part and batches.
-#[derive(Drop)]
-pub struct Tables {
-    pub rows: Rows,
-    pub marks: Vec<bool>,
-    pub tallies: Vec<Tally>,
-    pub sums: Vec<u128>,
-}
 
 /// How the estimates of the plan are made.
 pub fn estimator_of(alloc: Global, plan: &Plan) -> Result<Estimator, AllocError>
@@ -42,10 +35,7 @@ pub fn estimator_of(alloc: Global, plan: &Plan) -> Result<Estimator, AllocError>
 
 // The row of vertex i, which is empty, becomes that of the vertex alone, where it is counted.
 fn start_row(part: &Part, i: u32, rows: &mut Rows)
-    requires place { i < length part.now.preds }
-    requires count { length rows.old.rows ≡ length part.now.preds }
-    requires width { rows.old.width ≡ 2 ^ part.now.plan.log2m }
-    requires empty { slice_index_or rows.old.rows i [] ≡ replicate (2 ^ part.now.plan.log2m) 0 }
+    requires { IsEmptyAt part.now i rows.old }
     ensures { rows.new ≡
         record rows.old { rows = slice_set rows.old.rows i (first_row part.now i) } }
 {
@@ -97,52 +87,24 @@ pub fn start_tallies(
     Ok(tallies)
 }
 
-// Figures that begin with the estimates of rows, and their sum, with room for one a superstep up to the limit.
-fn start_figures(
+/// Figures that begin with the estimates of rows, and their sum, with room for one a superstep up to the limit.
+pub fn start_figures(
     alloc: Global,
-    limit: u32,
+    plan: &Plan,
     estimator: &Estimator,
     rows: &Rows,
 ) -> Result<(Vec<Tally>, Vec<u128>), AllocError>
-    requires limit { limit ≤ greatest_limit }
-    requires rows { AreCounters estimator.now.log2m rows.now.rows }
+    requires { AreCounters estimator.now.log2m rows.now.rows }
     ensures tallies { IfOk result (λ figures.
         map value_of figures.0.items ≡ first_figures estimator.now rows.now.rows) }
     ensures sums { IfOk result (λ figures.
         figures.1.items ≡ total_of estimator.now rows.now.rows ∷ []) }
-    ensures room { IfOk result (λ figures. limit + 1 ≤ vec_capacity figures.1) }
+    ensures room { IfOk result (λ figures. plan.now.limit + 1 ≤ vec_capacity figures.1) }
 {
     let tallies = start_tallies(alloc, estimator, rows)?;
-    let mut sums = Vec::with_capacity(alloc, limit as usize + 1)?;
+    let mut sums = Vec::with_capacity(alloc, plan.limit() as usize + 1)?;
     sums.push_reserved(level::sum_of_lasts(&tallies));
     Ok((tallies, sums))
-}
-
-// The tables that a replica of the part begins with.
-fn start_tables(alloc: Global, part: &Part, estimator: &Estimator) -> Result<Tables, AllocError>
-    requires plan { IsPlan part.now.plan }
-    requires measure { estimator.now ≡ measure_of part.now.plan }
-    ensures rows { IfOk result (λ t. t.rows ≡ record {
-      width = 2 ^ part.now.plan.log2m;
-      rows = first_rows part.now;
-    }) }
-    ensures marks { IfOk result (λ t. t.marks.items ≡ part.now.counted) }
-    ensures tallies { IfOk result (λ t.
-        map value_of t.tallies.items ≡
-        first_figures (measure_of part.now.plan) (first_rows part.now)) }
-    ensures sums { IfOk result (λ t. t.sums.items ≡
-        total_of (measure_of part.now.plan) (first_rows part.now) ∷ []) }
-    ensures room { IfOk result (λ t. part.now.plan.limit + 1 ≤ vec_capacity t.sums) }
-{
-    let marks = start_marks(alloc, part)?;
-    let rows = start_rows(alloc, part)?;
-    let (tallies, sums) = start_figures(alloc, part.plan().limit(), estimator, &rows)?;
-    Ok(Tables {
-        rows,
-        marks,
-        tallies,
-        sums,
-    })
 }
 
 /// What a replica of the part begins with, at superstep 0.
@@ -155,15 +117,12 @@ pub fn first(alloc: Global, part: Arc<Part>, estimator: &Estimator) -> Result<Pr
     // the limits of a part are told with its number
     prove!(part.partition() < plan.parts());
     let early = Early::empty(alloc, plan.parts())?;
-    let tables = start_tables(alloc, &part, estimator)?;
-    let hearing = Hearing::start(alloc, &tables.rows)?;
+    let tables = Tables::start(alloc, &part, estimator)?;
+    let hearing = Hearing::start(alloc, tables.rows())?;
     Ok(Progress {
         part,
         superstep: 0,
-        rows: Relay::new(tables.rows),
-        marks: tables.marks,
-        tallies: tables.tallies,
-        sums: tables.sums,
+        tables,
         hearing,
         early,
     })

@@ -1,30 +1,21 @@
 //! How what a replica has changes, superstep by superstep.
 
-ghost use Rattle.std.specs.Prelude.{◌≡◌, true, false, ℕ, ◌<◌, ◌≤◌, ◌+◌, ◌*◌, ◌++◌, ◌∷◌, [], length, map, Ok, OnOk, OnErr};
+ghost use Rattle.std.specs.Prelude.{◌≡◌, true, Ok, OnOk, OnErr};
 ghost use Rattle.std.specs.Arc.{arc_value};
-ghost use Rattle.std.specs.List.{sum_by};
-ghost use Rattle.std.specs.Vec.{vec_capacity};
 ghost use Rattle.ball_model.specs.declared.names.Taken.TheVariants as taken;
+ghost use Rattle.ball_model.specs.declared.names.Verdict.TheVariants as verdict;
 ghost use Rattle.ball_model.specs.Batches.{IsBatch};
 ghost use Rattle.ball_model.specs.Content.{same_plan};
-ghost use Rattle.ball_model.specs.PlanValue.{greatest_limit, measure_of, most_vertices};
-ghost use Rattle.ball_model.specs.Figures.{estimate_with};
-ghost use Rattle.figures.specs.Values.{value_of};
-ghost use Rattle.replica.specs.Hearing.{KeepsAll};
-ghost use Rattle.replica.specs.Kept.{AllRise, AreCounters, AreSums};
-ghost use Rattle.replica.specs.Level.{found_close, is_over, next_tallies, total_of, weights_of};
+ghost use Rattle.replica.specs.Level.{found_close, is_over, level_verdict};
 ghost use Rattle.replica.specs.Change.{Advances, Receives, take_answer};
-ghost use Rattle.replica.specs.Index.{targets_of};
 ghost use Rattle.replica.specs.Progress.{CanGoOn};
-ghost use Rattle.replica.specs.Seen.{HasIndex, IsState};
+ghost use Rattle.replica.specs.Seen.{GoesOn, HasIndex, IsState};
 
-use crate::hearing::Hearing;
 use crate::targets::Targets;
-use crate::{Progress, Shown, level};
+use crate::{Progress, Shown};
 use ball_model::{CloseError, Plan, TakeError, Taken, Verdict};
 use batches::Batch;
-use figures::{Estimator, Tally};
-use registers::Rows;
+use figures::Estimator;
 use std::sync::Arc;
 
 impl Progress {
@@ -81,15 +72,11 @@ impl Progress {
         estimator: &Estimator,
         weights: &mut [u64],
     ) -> Result<u32, CloseError>
-        requires measure { estimator.now ≡ measure_of self.old.state.part.plan }
-        requires index { HasIndex self.old.state targets.now }
-        requires weights { weights.old ≡ weights_of self.old.state.rows }
-        requires goes_on { CanGoOn self.old }
+        requires { GoesOn self.old targets.now estimator.now weights.old }
         ensures exact { result ≡ found_close self.old.state }
         ensures refused { OnErr result (self.new.state ≡ self.old.state) }
         ensures advances { OnOk result (Advances self.old.state self.new.state) }
-        ensures weights { weights.new ≡ weights_of self.new.state.rows }
-        ensures goes_on { CanGoOn self.new }
+        ensures goes_on { GoesOn self.new targets.now estimator.now weights.new }
         ensures state { IsState self.old.state }
     {
         let next = self.superstep() + 1;
@@ -131,73 +118,18 @@ impl Progress {
     // One superstep more: what changed in the own partition is heard too, what was accumulated becomes the rows, and
     // the batches of the new superstep are heard.
     fn advance(&mut self, targets: &Targets, estimator: &Estimator, weights: &mut [u64])
-        requires measure { estimator.now ≡ measure_of self.old.state.part.plan }
-        requires limit { self.old.state.superstep < self.old.state.part.plan.limit }
-        requires going { is_over self.old.state ≡ false }
-        requires index { targets.now ≡ targets_of self.old.state.part }
-        requires weights { weights.old ≡ weights_of self.old.state.rows }
-        requires goes_on { CanGoOn self.old }
+        requires goes_on { GoesOn self.old targets.now estimator.now weights.old }
+        requires going { level_verdict self.old.state ≡ verdict.GoOn }
         ensures advances { Advances self.old.state self.new.state }
-        ensures weights { weights.new ≡ weights_of self.new.state.rows }
-        ensures goes_on { CanGoOn self.new }
+        ensures goes_on { GoesOn self.new targets.now estimator.now weights.new }
     {
         let plan = *self.part.plan();
-        self.hearing
-            .hear_own(targets, &self.part, self.rows.get(), &self.marks);
-        next_figures(
-            estimator,
-            self.superstep,
-            self.rows.get(),
-            &self.hearing,
-            weights,
-            &mut self.tallies,
-            &mut self.sums,
-        );
-        self.hearing.begin(&mut self.rows, &mut self.marks);
+        self.hearing.hear_own(targets, &self.part, &self.tables);
+        self.tables
+            .next(estimator, self.superstep, &mut self.hearing, weights);
         self.superstep += 1;
-        self.hearing.hear_early(targets, &plan, &self.early);
-        self.early.shift(1);
+        self.hearing.hear_early(targets, &plan, &mut self.early, 0);
     }
-}
-
-// The figures of the superstep that follows `t`, whose rows are the accumulators, and the sum of its estimates.
-fn next_figures(
-    estimator: &Estimator,
-    t: u32,
-    rows: &Rows,
-    hearing: &Hearing,
-    weights: &mut [u64],
-    tallies: &mut [Tally],
-    sums: &mut Vec<u128>,
-)
-    requires to { t < greatest_limit }
-    requires few { length rows.now.rows ≤ most_vertices }
-    requires rows { AreCounters estimator.now.log2m rows.now.rows }
-    requires rise { AllRise estimator.now.log2m rows.now.rows hearing.now.accumulated.rows }
-    requires width { rows.now.width ≡ hearing.now.accumulated.width }
-    requires kept { KeepsAll rows.now.rows hearing.now }
-    requires weights { weights.old ≡ weights_of rows.now.rows }
-    requires count { length tallies.old ≡ length rows.now.rows }
-    requires lasts { map (λ tally. tally.last) (map value_of tallies.old) ≡
-        map (estimate_with estimator.now) rows.now.rows }
-    requires sums { AreSums t
-        (sum_by (λ tally. tally.last) (map value_of tallies.old)) sums.old.items }
-    requires room { t + 1 < vec_capacity sums.old }
-    ensures tallies { map value_of tallies.new ≡
-        next_tallies estimator.now (t + 1) hearing.now.accumulated.rows
-        (map value_of tallies.old) (length hearing.now.accumulated.rows) }
-    ensures weights { weights.new ≡ weights_of hearing.now.accumulated.rows }
-    ensures sums { sums.new.items ≡
-        sums.old.items ++ total_of estimator.now hearing.now.accumulated.rows ∷ [] }
-    ensures gains { sum_by (λ tally. tally.last) (map value_of tallies.old) ≤
-        total_of estimator.now hearing.now.accumulated.rows }
-    ensures capacity { vec_capacity sums.new ≡ vec_capacity sums.old }
-{
-    let last = sums[t as usize];
-    let ahead = hearing.ahead();
-    let marks = hearing.touched();
-    let gain = level::step_tallies(estimator, t + 1, rows, ahead, marks, weights, tallies);
-    sums.push_reserved(last + gain);
 }
 
 // Whether two plans are the same.

@@ -23,6 +23,7 @@ use ball_model::{
 };
 use batches::Batch;
 use edgelist::{Delimiter, EdgeLimits, Graph, Part, read_edges};
+use figures::Tally;
 use registers::{Join, Rows, reconcile};
 use std::alloc::AllocError;
 use std::hash::RandomState;

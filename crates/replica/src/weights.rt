@@ -14,7 +14,7 @@ impl Progress {
     pub(crate) fn weights(&self, alloc: Global) -> Result<Vec<u64>, AllocError>
         ensures { IfOk result (λ weights. weights.items ≡ weights_of self.now.state.rows) }
     {
-        weights_of(alloc, self.plan().log2m(), self.rows.get())
+        weights_of(alloc, self.plan().log2m(), self.tables.rows())
     }
 
     /// The same, in place of the weights of other rows.
@@ -22,7 +22,7 @@ impl Progress {
         requires { length weights.old ≡ length self.now.state.part.preds }
         ensures { weights.new ≡ weights_of self.now.state.rows }
     {
-        weigh_rows(self.plan().log2m(), self.rows.get(), weights);
+        weigh_rows(self.plan().log2m(), self.tables.rows(), weights);
     }
 }
 

@@ -29,8 +29,8 @@ fn one_early(rt: &HostRuntime, snapshot: &Snapshot) -> Option<Vec<Arc<Batch>>> {
 
 /// Copies of rows and of accumulators.
 fn copied_rows(rt: &HostRuntime, snapshot: &Snapshot) -> Option<(Rows, Rows)> {
-    let rows = copy_rows(rt.alloc(), snapshot.known.rows.get()).ok()?;
-    let accumulated = copy_rows(rt.alloc(), snapshot.known.accumulators()).ok()?;
+    let rows = copy_rows(rt.alloc(), snapshot.progress.tables.rows()).ok()?;
+    let accumulated = copy_rows(rt.alloc(), snapshot.progress.accumulators()).ok()?;
     Some((rows, accumulated))
 }
 
@@ -39,15 +39,16 @@ fn saved_of(rt: &HostRuntime, replica: &mut Replica) -> Option<Saved> {
     let snapshot = replica.snapshot(rt.alloc()).ok()?;
     let early = one_early(rt, &snapshot)?;
     let (rows, accumulated) = copied_rows(rt, &snapshot)?;
-    let known = snapshot.known;
+    let progress = &snapshot.progress;
+    let tables = &progress.tables;
     Some(Saved {
-        superstep: known.superstep,
+        superstep: progress.superstep,
         rows,
-        marks: known.marks,
-        tallies: known.tallies,
-        sums: known.sums,
-        heard: known.hearing.heard(),
-        heard_change: known.hearing.change(),
+        marks: Vec::from_slice(rt.alloc(), tables.marks()).ok()?,
+        tallies: Vec::from_slice(rt.alloc(), tables.tallies()).ok()?,
+        sums: Vec::from_slice(rt.alloc(), tables.sums()).ok()?,
+        heard: progress.hearing.heard(),
+        heard_change: progress.hearing.change(),
         accumulated,
         early,
     })
@@ -65,7 +66,7 @@ fn rebuilt(rt: &HostRuntime, part: Arc<Part>, saved: Saved) -> Option<Box<Replic
 /// The replica at a place, made again.
 fn again(rt: &HostRuntime, all: &mut [Replica], place: usize) -> Option<Box<Replica>> {
     let replica = all.get_mut(place)?;
-    let part = Arc::try_clone(&replica.known.part).ok()?;
+    let part = Arc::try_clone(&replica.progress.part).ok()?;
     let saved = saved_of(rt, replica)?;
     rebuilt(rt, part, saved)
 }

@@ -149,8 +149,8 @@ fn is_first(world: &World, place: usize, kept: usize) -> bool {
 fn is_small(world: &World, kept: usize) -> bool {
     match world.kept.get(kept) {
         Some(snapshot) => {
-            let known = &snapshot.known;
-            known.hearing.count() == 0 && known.sums.capacity() < 4097
+            let progress = &snapshot.progress;
+            progress.hearing.count() == 0 && progress.tables.room() < 4097
         }
         None => false,
     }

@@ -7,8 +7,8 @@ use Rattle.replica.proofs.AccumulatorLemmas.{had_room, said_kept, said_same, sam
 use Rattle.replica.proofs.Progress.let_go.Goals as goal
 use Rattle.replica.proofs.Progress.let_go.Goals.{After-let_go}
 
-says : (c : After-let_go) → SaysSame c.self.inside.rows.rows c.self.inside.hearing c.let_go.new.self
-says c = c.let_go.ensures c.self.inside.rows.rows c.self.invariant.kept
+says : (c : After-let_go) → SaysSame c.self.inside.tables.rows.rows c.self.inside.hearing c.let_go.new.self
+says c = c.let_go.ensures c.self.inside.tables.rows.rows c.self.invariant.kept
 
 pub invariant_of-self : goal.invariant_of-self
 invariant_of-self c = same_progress c.self.inside c.let_go.new.self c.self.invariant (says (goal.at.invariant_of-self c).After-let_go)
@@ -20,7 +20,7 @@ returns c =
     record {
       same = state;
       goes_on = record {
-        kept = elim (said_kept c.self.inside.rows.rows c.let_go.new.self same.kept) [
+        kept = elim (said_kept c.self.inside.tables.rows.rows c.let_go.new.self same.kept) [
           | inl all ↦ inl all
           | inr gone ↦ inr (gone, ap (λ (u : State). is_over u) state ∙ c.requires.over)
         ];

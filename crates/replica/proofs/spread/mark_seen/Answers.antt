@@ -9,7 +9,7 @@ pub loop-place-preserved : goal.loop-place-preserved
 loop-place-preserved c =
     let k = c.loop-place.place-index in
     let p = get_or c.args.places.now k 0 in
-    let inside : p < length c.args.accumulated.now.rows = c.requires.places k 0 c.loop-place-test.true in
+    let inside : p < length c.args.accumulated.now.rows = c.requires.inside k 0 c.loop-place-test.true in
     λ i lt.
-    touched-seen c.args.places.now c.args.registers.now k c.args.accumulated.now.rows p c.args.touched.now c.loop-place.touched c.glance-seen.result c.loop-place-test.true refl inside
-    (omega (arith, c.loop-place.auto.touched, c.requires.marks)) c.glance-seen.ensures.rises c.loop-place.invariant i lt
+    touched-seen c.args.places.now c.args.registers.now k c.args.accumulated.now.rows p c.args.touched.now c.loop-place.touched c.is_seen_less-seen.result c.loop-place-test.true refl inside
+    (omega (arith, c.loop-place.auto.touched, c.requires.marks)) c.is_seen_less-seen.ensures.rises c.loop-place.invariant i lt

@@ -14,7 +14,7 @@ loop-place-init c = record {
 pub raise-raised-requires-clause-row : goal.raise-raised-requires-clause-row
 raise-raised-requires-clause-row c =
     let rows = ap (λ (t : Table). t.rows) c.loop-place.invariant.rows in
-    let within : get_or c.args.places.now c.loop-place.place-index 0 < length c.args.accumulated.now.rows = c.requires.places c.loop-place.place-index 0 c.loop-place-test.true in
+    let within : get_or c.args.places.now c.loop-place.place-index 0 < length c.args.accumulated.now.rows = c.requires.inside c.loop-place.place-index 0 c.loop-place-test.true in
     rw (rows, length-spread (take c.loop-place.place-index c.args.places.now) c.args.registers.now c.args.accumulated.now.rows) within
 
 pub loop-place-preserved : goal.loop-place-preserved
@@ -28,7 +28,7 @@ loop-place-preserved c =
     let after = take (k + 1) places in
     let rows = ap (λ (t : Table). t.rows) c.loop-place.invariant.rows in
     let width = ap (λ (t : Table). t.width) c.loop-place.invariant.rows in
-    let lt : p < length old = c.requires.places k 0 c.loop-place-test.true in
+    let lt : p < length old = c.requires.inside k 0 c.loop-place-test.true in
     let adds : (i : ℕ) → stands_in after i ≡ (stands_in before i || (p == i)) = λ i. list_any_more (λ y. y == i) places k 0 c.loop-place-test.true in
     record {
       rows = c.raise-raised.ensures.raised ∙ rw (rows, width, spread-more before after src p old lt adds) refl;

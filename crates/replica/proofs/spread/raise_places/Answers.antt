@@ -3,7 +3,7 @@ use Rattle.std.proofs.lemmas.List.{nil_from_length}
 use Rattle.std.specs.Slice.Iter.{chunks_rest}
 use Rattle.ball_model.specs.Table.{Table}
 use Rattle.replica.specs.Spread.{rows_after, touched_at}
-use Rattle.replica.proofs.SpreadLemmas.{spread-none, spread-append, length-spread, touched-none, touched-append, all_first, all_last}
+use Rattle.replica.proofs.SpreadLemmas.{spread-none, spread-append, length-spread, touched-none, touched-append, all_last, raise_first}
 use Rattle.replica.proofs.spread.raise_places.Goals as goal
 
 -- a table is its width and its rows
@@ -16,36 +16,22 @@ loop-block-init c =
     record {
       can_next = search rules;
       is_finite = tt;
-      inside = rw rest c.requires.places;
+      inside = rw rest c.requires.inside;
       width = refl;
       count = refl;
       rows = ap (λ (places : List ℕ). rows_after places c.args.registers.now c.args.accumulated.now.rows) rest;
       marks = λ i lt. ap (λ (places : List ℕ). touched_at c.args.touched.now c.args.accumulated.now.rows (rows_after places c.args.registers.now c.args.accumulated.now.rows) i) rest;
     }
 
-pub mark_seen-requires-clause-places : goal.mark_seen-requires-clause-places
-mark_seen-requires-clause-places c =
+pub mark_seen-requires : goal.mark_seen-requires
+mark_seen-requires c =
     let inv = c.loop-block.invariant in
-    let block = c.in-Some.block.now in
-    let all = rw c.in-Some.ensures.steps.1.0 at inv.inside in
-    λ k d lt.
-    let inside : get_or block k d < length c.args.accumulated.now.rows = all_first (λ i. i < length c.args.accumulated.now.rows) block (chunks_rest c.next.new.self) all k d lt in
-    omega (arith, inside, inv.count)
+    raise_first c.in-Some.block.now (chunks_rest c.next.new.self) c.args.registers.now (length c.args.accumulated.now.rows) c.loop-block.accumulated c.loop-block.touched (rw c.in-Some.ensures.steps.1.0 at inv.inside) inv.count (c.requires.width ∙ sym inv.width) (omega (arith, c.loop-block.auto.touched, c.requires.marks, inv.count))
 
-pub mark_seen-requires-clause-marks : goal.mark_seen-requires-clause-marks
-mark_seen-requires-clause-marks c = omega (arith, c.loop-block.auto.touched, c.requires.marks, c.loop-block.invariant.count)
-
-pub raise_block-requires-clause-places : goal.raise_block-requires-clause-places
-raise_block-requires-clause-places c =
+pub raise_block-requires : goal.raise_block-requires
+raise_block-requires c =
     let inv = c.loop-block.invariant in
-    let block = c.in-Some.block.now in
-    let all = rw c.in-Some.ensures.steps.1.0 at inv.inside in
-    λ k d lt.
-    let inside : get_or block k d < length c.args.accumulated.now.rows = all_first (λ i. i < length c.args.accumulated.now.rows) block (chunks_rest c.next.new.self) all k d lt in
-    omega (arith, inside, inv.count)
-
-pub raise_block-requires-clause-marks : goal.raise_block-requires-clause-marks
-raise_block-requires-clause-marks c = omega (arith, c.loop-block.auto.touched, c.mark_seen.auto.touched, c.requires.marks, c.loop-block.invariant.count)
+    raise_first c.in-Some.block.now (chunks_rest c.next.new.self) c.args.registers.now (length c.args.accumulated.now.rows) c.loop-block.accumulated c.mark_seen.new.touched (rw c.in-Some.ensures.steps.1.0 at inv.inside) inv.count (c.requires.width ∙ sym inv.width) (omega (arith, c.loop-block.auto.touched, c.mark_seen.auto.touched, c.requires.marks, inv.count))
 
 pub loop-block-preserved : goal.loop-block-preserved
 loop-block-preserved c =

@@ -3,6 +3,7 @@ use Rattle.std.proofs.lemmas.List.{get_or-map, take_more, take_all}
 use Rattle.ball_model.specs.Table.{Table}
 use Rattle.ball_model.specs.Batches.{BatchValue}
 use Rattle.replica.proofs.HeardLemmas.{spread-batch, spread_each-none, spread_each-more, length-spread_each}
+use Rattle.replica.proofs.SpreadLemmas.{spread_on}
 use Rattle.replica.proofs.spread.spread_batch.Goals as goal
 
 pub loop-k-init : goal.loop-k-init
@@ -11,18 +12,10 @@ loop-k-init c = record {
   touched = λ rows h. h;
 }
 
-pub spread_row-requires-clause-inside : goal.spread_row-requires-clause-inside
-spread_row-requires-clause-inside c =
-    let count : length c.loop-k.accumulated.rows ≡ length c.args.accumulated.now.rows =
-    ap (λ (t : Table). length t.rows) c.loop-k.invariant.rows ∙ length-spread_each c.args.targets.now (take c.loop-k.k c.args.batch.now.rows) c.args.accumulated.now.rows in
-    λ z d lt k e less. let at : get_or (get_or c.args.targets.now z d) k e < length c.loop-k.accumulated.rows = omega (arith, count, c.requires.inside z d lt k e less) in at
-
-pub spread_row-requires-clause-marks : goal.spread_row-requires-clause-marks
-spread_row-requires-clause-marks c =
-    let count : length c.loop-k.accumulated.rows ≡ length c.args.accumulated.now.rows =
-    ap (λ (t : Table). length t.rows) c.loop-k.invariant.rows ∙ length-spread_each c.args.targets.now (take c.loop-k.k c.args.batch.now.rows) c.args.accumulated.now.rows in
-    let at : length c.loop-k.touched ≡ length c.loop-k.accumulated.rows = omega (arith, count, c.loop-k.auto.touched, c.requires.marks) in
-    at
+pub spread_row-requires-clause-room : goal.spread_row-requires-clause-room
+spread_row-requires-clause-room c =
+    let count = ap (λ (t : Table). length t.rows) c.loop-k.invariant.rows ∙ length-spread_each c.args.targets.now (take c.loop-k.k c.args.batch.now.rows) c.args.accumulated.now.rows in
+    spread_on c.args.targets.now (length c.args.accumulated.now.rows) c.loop-k.accumulated c.loop-k.touched c.requires.room.inside count (omega (arith, c.loop-k.auto.touched, c.requires.room.marks))
 
 pub loop-k-preserved : goal.loop-k-preserved
 loop-k-preserved c =

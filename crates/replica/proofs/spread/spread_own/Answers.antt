@@ -1,7 +1,8 @@
-use Rattle.std.proofs.Common.{◌≡◌, ◌+◌, ◌*◌, ℕ, List, [], length, get_or, ap, arith, ◌∙◌}
+use Rattle.std.proofs.Common.{◌+◌, ◌*◌, ℕ, List, [], length, get_or, ap, arith, ◌∙◌}
 use Rattle.ball_model.specs.Table.{Table}
 use Rattle.replica.specs.Spread.{marked_rows}
 use Rattle.replica.proofs.HeardLemmas.{own_stands, spread_each-none, spread_each-more, length-spread_each, marked-none, marked-yes, marked-no}
+use Rattle.replica.proofs.SpreadLemmas.{spread_on}
 use Rattle.replica.proofs.spread.spread_own.Goals as goal
 use Rattle.replica.proofs.spread.spread_own.Goals.{then-marks-i, else-marks-i}
 
@@ -14,19 +15,11 @@ loop-i-init c =
       touched = λ own h. h;
     }
 
-pub spread_row-requires-clause-inside : goal.spread_row-requires-clause-inside
-spread_row-requires-clause-inside c =
+pub spread_row-requires-clause-room : goal.spread_row-requires-clause-room
+spread_row-requires-clause-room c =
     let part = c.args.part.now in
-    let count : length c.loop-i.accumulated.rows ≡ length c.args.accumulated.now.rows =
-    ap (λ (t : Table). length t.rows) c.loop-i.invariant.rows ∙ length-spread_each c.args.targets.now (marked_rows part.plan.parts part.number c.args.rows.now.rows c.args.marks.now c.loop-i.i) c.args.accumulated.now.rows in
-    λ z d lt k e less. omega (arith, count, c.requires.inside z d lt k e less)
-
-pub spread_row-requires-clause-marks : goal.spread_row-requires-clause-marks
-spread_row-requires-clause-marks c =
-    let part = c.args.part.now in
-    let count : length c.loop-i.accumulated.rows ≡ length c.args.accumulated.now.rows =
-    ap (λ (t : Table). length t.rows) c.loop-i.invariant.rows ∙ length-spread_each c.args.targets.now (marked_rows part.plan.parts part.number c.args.rows.now.rows c.args.marks.now c.loop-i.i) c.args.accumulated.now.rows in
-    omega (arith, count, c.loop-i.auto.touched, c.requires.touched)
+    let count = ap (λ (t : Table). length t.rows) c.loop-i.invariant.rows ∙ length-spread_each c.args.targets.now (marked_rows part.plan.parts part.number c.args.rows.now.rows c.args.marks.now c.loop-i.i) c.args.accumulated.now.rows in
+    spread_on c.args.targets.now (length c.args.accumulated.now.rows) c.loop-i.accumulated c.loop-i.touched c.requires.room.inside count (omega (arith, c.loop-i.auto.touched, c.requires.room.marks))
 
 pub loop-i-preserved : goal.loop-i-preserved
 loop-i-preserved c =

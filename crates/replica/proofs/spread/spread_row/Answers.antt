@@ -1,8 +1,11 @@
-use Rattle.std.proofs.Common.{[], get_or, ap, arith, ◌∙◌}
+use Rattle.std.proofs.Common.{[], length, get_or, ap, arith, ◌∙◌}
 use Rattle.ball_model.specs.Table.{Table}
-use Rattle.replica.proofs.SpreadLemmas.{touched-spread}
+use Rattle.replica.proofs.SpreadLemmas.{lead_to, touched-spread}
 use Rattle.replica.proofs.HeardLemmas.{accumulated_of-spread}
 use Rattle.replica.proofs.spread.spread_row.Goals as goal
+
+pub raise_places-requires : goal.raise_places-requires
+raise_places-requires c = rw c.places.ensures (record { inside = lead_to (length c.args.accumulated.now.rows) c.args.z c.args.targets.now c.requires.room.inside; width = c.requires.width; marks = c.requires.room.marks })
 
 pub returns-clause-stands : goal.returns-clause-stands
 returns-clause-stands c = λ j p t heard job index changed true_row stands.

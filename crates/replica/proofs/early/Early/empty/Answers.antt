@@ -4,9 +4,8 @@ use Rattle.replica.specs.Ahead.{table_of, IsTable}
 use Rattle.replica.proofs.EarlyLemmas.{empty_at, table_is}
 use Rattle.replica.proofs.early.Early.empty.Goals as goal
 
-pub returns-clause-table : goal.returns-clause-table
-returns-clause-table c =
-    subst (λ n. IsTable n (table_of c.from-parts.result (map (option_map arc_value) c.in_ok-slots.slots.items))) c.from-parts.ensures (table_is c.from-parts.result (map (option_map arc_value) c.in_ok-slots.slots.items))
-
-pub returns-clause-none : goal.returns-clause-none
-returns-clause-none c = λ i q. rw c.in_ok-slots.ensures (empty_at c.from-parts.result _ i q)
+pub returns : goal.returns
+returns c = record {
+  table = subst (λ n. IsTable n (table_of c.from-parts.result (map (option_map arc_value) c.in_ok-slots.slots.items))) c.from-parts.ensures (table_is c.from-parts.result (map (option_map arc_value) c.in_ok-slots.slots.items));
+  none = λ i q. rw c.in_ok-slots.ensures (empty_at c.from-parts.result _ i q);
+}

@@ -13,19 +13,19 @@ put-requires c =
     let lt : c.args.source < c.self.inside.parts = c.requires.source c.self.inside.parts (subst (λ (e : List (List (Option BatchValue))). IsTable c.self.inside.parts e) c.self.view_is (table_is c.self.inside.parts (map (option_map arc_value) c.self.inside.slots.items))) in
     omega (arith, place_fits c.self.inside.parts c.args.level c.args.source c.requires.level lt, c.deref_mut.ensures.len, c.self.inside.slots.ok.0, c.self.invariant, c.from.ensures)
 
-pub returns-clause-kept : goal.returns-clause-kept
-returns-clause-kept c = λ i k.
-    let lt : c.args.source < c.self.inside.parts = c.requires.source c.self.inside.parts (subst (λ (e : List (List (Option BatchValue))). IsTable c.self.inside.parts e) c.self.view_is (table_is c.self.inside.parts (map (option_map arc_value) c.self.inside.slots.items))) in
-    let F = option_map (arc_value {X = BatchValue}) in
-    let size : length c.put.new.slots ≡ c.self.inside.slots.len = omega (arith, c.put.auto.slots, c.deref_mut.ensures.len, c.self.inside.slots.ok.0) in
-    let slots = map F c.self.inside.slots.items in
-    let long : length slots ≡ 3 * c.self.inside.parts = length-map c.self.inside.slots.items F ∙ c.self.invariant in
-    rw (with_items_is c.self.inside.slots c.put.new.slots size, c.put.ensures, c.deref_mut.ensures.value, c.from.ensures)
-    (kept_at c.self.inside.parts c.args.level c.args.source slots (arc_value c.args.batch) c.requires.level lt long i k
-    ∙ rw c.self.view_is refl)
-
-pub returns-clause-table : goal.returns-clause-table
-returns-clause-table c = λ parts is.
-    let slots = map (option_map arc_value) c.self.inside.slots.items in
-    let same : c.self.inside.parts ≡ parts = as_many parts c.self.inside.parts slots (subst (λ (e : List (List (Option BatchValue))). IsTable parts e) (sym c.self.view_is) is) in
-    subst (λ n. IsTable n (table_of c.self.inside.parts (map (option_map arc_value) (with_items c.self.inside.slots c.put.new.slots).items))) same (table_is c.self.inside.parts (map (option_map arc_value) (with_items c.self.inside.slots c.put.new.slots).items))
+pub returns : goal.returns
+returns c = record {
+  kept = λ i k.
+      let lt : c.args.source < c.self.inside.parts = c.requires.source c.self.inside.parts (subst (λ (e : List (List (Option BatchValue))). IsTable c.self.inside.parts e) c.self.view_is (table_is c.self.inside.parts (map (option_map arc_value) c.self.inside.slots.items))) in
+      let F = option_map (arc_value {X = BatchValue}) in
+      let size : length c.put.new.slots ≡ c.self.inside.slots.len = omega (arith, c.put.auto.slots, c.deref_mut.ensures.len, c.self.inside.slots.ok.0) in
+      let slots = map F c.self.inside.slots.items in
+      let long : length slots ≡ 3 * c.self.inside.parts = length-map c.self.inside.slots.items F ∙ c.self.invariant in
+      rw (with_items_is c.self.inside.slots c.put.new.slots size, c.put.ensures, c.deref_mut.ensures.value, c.from.ensures)
+      (kept_at c.self.inside.parts c.args.level c.args.source slots (arc_value c.args.batch) c.requires.level lt long i k
+      ∙ rw c.self.view_is refl);
+  table = λ parts is.
+      let slots = map (option_map arc_value) c.self.inside.slots.items in
+      let same : c.self.inside.parts ≡ parts = as_many parts c.self.inside.parts slots (subst (λ (e : List (List (Option BatchValue))). IsTable parts e) (sym c.self.view_is) is) in
+      subst (λ n. IsTable n (table_of c.self.inside.parts (map (option_map arc_value) (with_items c.self.inside.slots c.put.new.slots).items))) same (table_is c.self.inside.parts (map (option_map arc_value) (with_items c.self.inside.slots c.put.new.slots).items));
+}

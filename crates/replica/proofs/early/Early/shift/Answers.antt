@@ -9,17 +9,17 @@ use Rattle.replica.specs.Ahead.{table_of, IsTable}
 use Rattle.replica.proofs.EarlyLemmas.{shift_at, table_is, as_many}
 use Rattle.replica.proofs.early.Early.shift.Goals as goal
 
-pub returns-clause-kept : goal.returns-clause-kept
-returns-clause-kept c = λ i k.
-    let F = option_map (arc_value {X = BatchValue}) in
-    let size : length c.shift_slots.new.slots ≡ c.self.inside.slots.len = omega (arith, c.shift_slots.auto.slots, c.deref_mut.ensures.len, c.self.inside.slots.ok.0) in
-    let slots = map F c.self.inside.slots.items in
-    let long : length slots ≡ 3 * c.self.inside.parts = length-map c.self.inside.slots.items F ∙ c.self.invariant in
-    rw (with_items_is c.self.inside.slots c.shift_slots.new.slots size, c.shift_slots.ensures, c.deref_mut.ensures.value)
-    (shift_at c.self.inside.parts c.args.count slots long i k ∙ ap (λ e. early_at e (i + c.args.count) k) c.self.view_is)
-
-pub returns-clause-table : goal.returns-clause-table
-returns-clause-table c = λ parts is.
-    let slots = map (option_map arc_value) c.self.inside.slots.items in
-    let same : c.self.inside.parts ≡ parts = as_many parts c.self.inside.parts slots (subst (λ (e : List (List (Option BatchValue))). IsTable parts e) (sym c.self.view_is) is) in
-    subst (λ n. IsTable n (table_of c.self.inside.parts (map (option_map arc_value) (with_items c.self.inside.slots c.shift_slots.new.slots).items))) same (table_is c.self.inside.parts (map (option_map arc_value) (with_items c.self.inside.slots c.shift_slots.new.slots).items))
+pub returns : goal.returns
+returns c = record {
+  kept = λ i k.
+      let F = option_map (arc_value {X = BatchValue}) in
+      let size : length c.shift_slots.new.slots ≡ c.self.inside.slots.len = omega (arith, c.shift_slots.auto.slots, c.deref_mut.ensures.len, c.self.inside.slots.ok.0) in
+      let slots = map F c.self.inside.slots.items in
+      let long : length slots ≡ 3 * c.self.inside.parts = length-map c.self.inside.slots.items F ∙ c.self.invariant in
+      rw (with_items_is c.self.inside.slots c.shift_slots.new.slots size, c.shift_slots.ensures, c.deref_mut.ensures.value)
+      (shift_at c.self.inside.parts c.args.count slots long i k ∙ ap (λ e. early_at e (i + c.args.count) k) c.self.view_is);
+  table = λ parts is.
+      let slots = map (option_map arc_value) c.self.inside.slots.items in
+      let same : c.self.inside.parts ≡ parts = as_many parts c.self.inside.parts slots (subst (λ (e : List (List (Option BatchValue))). IsTable parts e) (sym c.self.view_is) is) in
+      subst (λ n. IsTable n (table_of c.self.inside.parts (map (option_map arc_value) (with_items c.self.inside.slots c.shift_slots.new.slots).items))) same (table_is c.self.inside.parts (map (option_map arc_value) (with_items c.self.inside.slots c.shift_slots.new.slots).items));
+}

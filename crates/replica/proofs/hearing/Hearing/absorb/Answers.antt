@@ -19,13 +19,13 @@ size c =
     ap (λ (t : Table). length t.rows) joined
     ∙ length-maxima c.self.inside.accumulated.rows c.args.theirs.now.rows (ap (λ (a : HearingValue). length a.accumulated.rows) c.self.view_is ∙ c.requires.count)
 
-pub mark-requires-clause-new : goal.mark-requires-clause-new
-mark-requires-clause-new c = size (goal.at.mark-requires-clause-new c).After-deref_mut ∙ sym c.self.invariant ∙ sym (ap (length {A = Bool}) c.deref_mut.ensures.value)
+pub mark_differences-requires-clause-new : goal.mark_differences-requires-clause-new
+mark_differences-requires-clause-new c = size (goal.at.mark_differences-requires-clause-new c).After-deref_mut ∙ sym c.self.invariant ∙ sym (ap (length {A = Bool}) c.deref_mut.ensures.value)
 
 pub invariant_of-self : goal.invariant_of-self
 invariant_of-self c =
-    ap (length {A = Bool}) (with_items_is c.self.inside.touched c.mark.new.marks (c.mark.auto.marks ∙ c.deref_mut.ensures.len))
-    ∙ c.mark.auto.marks
+    ap (length {A = Bool}) (with_items_is c.self.inside.touched c.mark_differences.new.marks (c.mark_differences.auto.marks ∙ c.deref_mut.ensures.len))
+    ∙ c.mark_differences.auto.marks
     ∙ ap (length {A = Bool}) c.deref_mut.ensures.value
     ∙ c.self.invariant
     ∙ sym (size (goal.at.invariant_of-self c).After-deref_mut)

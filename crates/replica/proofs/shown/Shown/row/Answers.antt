@@ -6,6 +6,6 @@ use Rattle.replica.proofs.shown.Shown.row.Goals as goal
 
 pub returns-clause-stands : goal.returns-clause-stands
 returns-clause-stands g c = rw (← c.shown-s.ensures) (λ j p t h.
-    let rows : c.s.inside.rows.rows ≡ c.shown-s.result.now.state.rows = ap (λ (v : State). v.rows) (state_is c.s.view_is) in
-    let value : c.row.result.now ≡ get_or c.shown-s.result.now.state.rows (c.args.x / c.shown-s.result.now.state.part.plan.parts) [] = c.row.ensures.value ∙ rw (c.get-rows.ensures, rows, c.place.ensures.value) refl in
-    value ∙ row_stands j p t c.args.x c.shown-s.result.now.state h c.place.ensures.state (rw (← c.shown-s.ensures) at c.requires.vertex) (rw (← c.shown-s.ensures) at c.requires.own))
+    let rows : c.s.inside.tables.rows.rows ≡ c.shown-s.result.now.state.rows = ap (λ (v : State). v.rows) (state_is c.s.view_is) in
+    let value : c.row.result.now ≡ get_or c.shown-s.result.now.state.rows (c.args.x / c.shown-s.result.now.state.part.plan.parts) [] = c.row.ensures.value ∙ rw (c.rows-rows.ensures, rows, c.own_place.ensures.value) refl in
+    value ∙ row_stands j p t c.args.x c.shown-s.result.now.state h c.own_place.ensures.state (rw (← c.shown-s.ensures) at c.requires.vertex) (rw (← c.shown-s.ensures) at c.requires.own))

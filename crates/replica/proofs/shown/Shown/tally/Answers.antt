@@ -11,17 +11,16 @@ use Rattle.replica.proofs.ReadLemmas.{tally_stands, length-tallies}
 use Rattle.replica.proofs.shown.Shown.tally.Goals as goal
 
 -- the figures at a place
-at_place : (v : State) (tallies : List Tally) (x place : ℕ) (found : Tally) → IsState v → map value_of tallies ≡ v.tallies → place ≡ x / v.part.plan.parts → place < length v.part.preds → found ≡ get_or tallies place found →
-    value_of found ≡ get_or v.tallies (x / v.part.plan.parts) nothing
+at_place : (v : State) (tallies : List Tally) (x place : ℕ) (found : Tally) → IsState v → map value_of tallies ≡ v.tallies → place ≡ x / v.part.plan.parts → place < length v.part.preds → found ≡ get_or tallies place found → value_of found ≡ get_or v.tallies (x / v.part.plan.parts) nothing
 at_place v tallies x place found state are at below is =
     let inside : place < length tallies = omega (arith, below, length-tallies v state, ap (length {A = TallyValue}) are, length-map tallies value_of) in
     ap value_of is ∙ sym (get_or-map value_of tallies place found nothing inside) ∙ rw (are, at) refl
 
 pub returns-clause-value : goal.returns-clause-value
 returns-clause-value g c =
-    rw (← c.shown-s.ensures) (at_place c.shown-s.result.now.state c.s.inside.tallies.items c.args.x c.place.result c.index.result.now c.place.ensures.state (ap (λ (v : State). v.tallies) (state_is c.s.view_is)) c.place.ensures.value c.place.ensures.below c.index.ensures)
+    rw (← c.shown-s.ensures) (at_place c.shown-s.result.now.state c.tallies.result.now c.args.x c.own_place.result c.index-tallies-own_place.result c.own_place.ensures.state (c.tallies.ensures ∙ ap (λ (v : State). v.tallies) (state_is c.s.view_is)) c.own_place.ensures.value c.own_place.ensures.below c.index-tallies-own_place.is)
 
 pub returns-clause-stands : goal.returns-clause-stands
 returns-clause-stands g c = rw (← c.shown-s.ensures) (λ j p t h.
-    at_place c.shown-s.result.now.state c.s.inside.tallies.items c.args.x c.place.result c.index.result.now c.place.ensures.state (ap (λ (v : State). v.tallies) (state_is c.s.view_is)) c.place.ensures.value c.place.ensures.below c.index.ensures
-    ∙ tally_stands j p t c.args.x c.shown-s.result.now.state h c.place.ensures.state (rw (← c.shown-s.ensures) at c.requires.vertex) (rw (← c.shown-s.ensures) at c.requires.own))
+    at_place c.shown-s.result.now.state c.tallies.result.now c.args.x c.own_place.result c.index-tallies-own_place.result c.own_place.ensures.state (c.tallies.ensures ∙ ap (λ (v : State). v.tallies) (state_is c.s.view_is)) c.own_place.ensures.value c.own_place.ensures.below c.index-tallies-own_place.is
+    ∙ tally_stands j p t c.args.x c.shown-s.result.now.state h c.own_place.ensures.state (rw (← c.shown-s.ensures) at c.requires.vertex) (rw (← c.shown-s.ensures) at c.requires.own))

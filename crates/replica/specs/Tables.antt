@@ -1,0 +1,101 @@
+-- What a replica has for each vertex, and the sums of its estimates: as plain data, and what becomes of it.
+use Rattle.std.specs.Prelude.{◌≡◌, ℕ, ◌+◌, ◌^◌, ◌<◌, ◌≤◌, Bool, List, ◌∷◌, [], ◌++◌, map, length}
+use Rattle.std.specs.List.{sum_by}
+use Rattle.ball_model.specs.Figures.{TallyValue, Measure, estimate_with}
+use Rattle.ball_model.specs.Job.{PartValue}
+use Rattle.ball_model.specs.PlanValue.{greatest_limit, measure_of, most_vertices}
+use Rattle.ball_model.specs.Table.{Table}
+use Rattle.registers.specs.Joined.{AreSameShape}
+use Rattle.registers.specs.Relay.{DifferWhere}
+use Rattle.replica.specs.Heard.{OwnIsHeard}
+use Rattle.replica.specs.Hearing.{HearingValue, IsQuiet, KeepsAll}
+use Rattle.replica.specs.Kept.{AllRise, AreCounters, AreLasts, AreSums}
+use Rattle.replica.specs.Level.{differences, next_tallies, total_of, weights_of}
+use Rattle.replica.specs.Spread.{LeadInside}
+use Rattle.replica.specs.Start.{first_figures, first_rows}
+
+-- the rows, which of them changed, their figures, the sums of the estimates of all supersteps so far, and the room for
+-- sums
+pub record TablesValue : Type 0 where
+  pub rows : Table
+  pub marks : List Bool
+  pub tallies : List TallyValue
+  pub sums : List ℕ
+  pub room : ℕ
+
+-- a mark and figures for each row
+pub record HasEach (a : TablesValue) : Type 0 where
+  pub marks : length a.marks ≡ length a.rows.rows
+  pub tallies : length a.tallies ≡ length a.rows.rows
+
+-- what a replica of the part begins with
+pub record AreFirst (part : PartValue) (a : TablesValue) : Type 0 where
+  pub rows : a.rows ≡ record { width = 2 ^ part.plan.log2m; rows = first_rows part }
+  pub marks : a.marks ≡ part.counted
+  pub tallies : a.tallies ≡ first_figures (measure_of part.plan) (first_rows part)
+  pub sums : a.sums ≡ total_of (measure_of part.plan) (first_rows part) ∷ []
+  pub room : part.plan.limit + 1 ≤ a.room
+
+-- b has room for what a has
+pub record HasRoomFor (a b : TablesValue) : Type 0 where
+  pub rows : AreSameShape b.rows a.rows
+  pub sums : length a.sums ≤ b.room
+
+-- ---- one superstep more
+
+-- the accumulators are the rows, raised, and those are marked that differ from their rows
+pub record AreAhead (log2m : ℕ) (rows : Table) (h : HearingValue) : Type 0 where
+  pub counters : AreCounters log2m rows.rows
+  pub rise : AllRise log2m rows.rows h.accumulated.rows
+  pub width : rows.width ≡ h.accumulated.width
+  pub kept : KeepsAll rows.rows h
+
+-- figures can be stepped to those of superstep t, of the rows ahead, from which the rows differ where they are marked
+pub record CanBeStepped (m : Measure) (t : ℕ) (old new : Table) (marks : List Bool)
+    (own : List ℕ) (tallies : List TallyValue) : Type 0 where
+  pub from : 0 < t
+  pub to : t ≤ greatest_limit
+  pub rows : AreCounters m.log2m old.rows
+  pub ahead : AreCounters m.log2m new.rows
+  pub differ : DifferWhere marks old new
+  pub weights : own ≡ weights_of old.rows
+  pub count : length tallies ≡ length new.rows
+  pub lasts : AreLasts m new.rows marks tallies
+
+-- the tables of superstep t can go on to the accumulators
+pub record CanStep (m : Measure) (t : ℕ) (a : TablesValue) (h : HearingValue) (own : List ℕ) :
+    Type 0 where
+  pub to : t < greatest_limit
+  pub few : length a.rows.rows ≤ most_vertices
+  pub ahead : AreAhead m.log2m a.rows h
+  pub lasts : map (λ tally. tally.last) a.tallies ≡ map (estimate_with m) a.rows.rows
+  pub sums : AreSums t (sum_by (λ tally. tally.last) a.tallies) a.sums
+  pub room : t + 1 < a.room
+  pub weights : own ≡ weights_of a.rows.rows
+
+-- they went on: the accumulators are the rows, of which nothing is heard yet
+pub record Steps (m : Measure) (t : ℕ) (a b : TablesValue) (h g : HearingValue) (own : List ℕ)
+    : Type 0 where
+  pub rows : b.rows ≡ h.accumulated
+  pub marks : b.marks ≡ differences a.rows.rows h.accumulated.rows (length a.rows.rows)
+  pub tallies : b.tallies ≡
+      next_tallies m (t + 1) h.accumulated.rows a.tallies (length a.rows.rows)
+  pub sums : b.sums ≡ a.sums ++ total_of m h.accumulated.rows ∷ []
+  pub gains : sum_by (λ tally. tally.last) a.tallies ≤ total_of m h.accumulated.rows
+  pub room : b.room ≡ a.room
+  pub quiet : IsQuiet b.rows g
+  pub weights : own ≡ weights_of b.rows.rows
+
+-- what changed in the own partition can be heard too
+pub record CanHearOwn (part : PartValue) (targets : List (List ℕ)) (a : TablesValue)
+    (h : HearingValue) : Type 0 where
+  pub count : length a.rows.rows ≡ length part.preds
+  pub marks : length a.marks ≡ length part.preds
+  pub inside : LeadInside (length h.accumulated.rows) targets
+  pub ahead : AreAhead part.plan.log2m a.rows h
+
+-- it is heard too
+pub record HearsOwn (part : PartValue) (targets : List (List ℕ)) (a : TablesValue)
+    (h g : HearingValue) : Type 0 where
+  pub ahead : AreAhead part.plan.log2m a.rows g
+  pub stands : OwnIsHeard targets part a.rows.rows a.marks h.accumulated.rows g.accumulated.rows

@@ -1,0 +1,177 @@
+//! What a replica has for each vertex, and the sums of its estimates.
+
+ghost use Rattle.std.specs.Prelude.{◌≡◌, ◌≤◌, length, map, IfOk};
+ghost use Rattle.std.specs.Vec.{vec_capacity};
+ghost use Rattle.ball_model.specs.PlanValue.{measure_of};
+ghost use Rattle.figures.specs.Values.{value_of};
+ghost use Rattle.replica.specs.Tables.{AreFirst, CanStep, HasEach, HasRoomFor, Steps, TablesValue};
+
+use crate::hearing::Hearing;
+use crate::{level, start};
+use edgelist::Part;
+use figures::{Estimator, Tally};
+use registers::{Relay, Rows};
+use std::alloc::{AllocError, Global};
+use std::marker::Model;
+
+/// The rows of a superstep, which of them changed there, their figures, and the sums of their estimates at each
+/// superstep so far.
+#[derive(Drop)]
+pub struct Tables {
+    rows: Relay,
+    marks: Vec<bool>,
+    tallies: Vec<Tally>,
+    // where a replica has them there is room for a sum of each superstep up to the limit
+    sums: Vec<u128>,
+}
+
+impl Model for Tables {
+    ghost use Rattle.replica.specs.Tables.{TablesValue};
+
+    ghost Value = { TablesValue };
+
+    ghost use Rattle.replica.specs.Seen.{AreTables, tables_of};
+
+    ghost view = { tables_of };
+
+    ghost invariant = { AreTables };
+}
+
+impl Tables {
+    /// What a replica of the part begins with, with room for the sums of all supersteps.
+    pub fn start(alloc: Global, part: &Part, estimator: &Estimator) -> Result<Tables, AllocError>
+        requires { estimator.now ≡ measure_of part.now.plan }
+        ensures { IfOk result (AreFirst part.now) }
+    {
+        // the limits of a part are told with its number
+        prove!(part.partition() < part.plan().parts());
+        let marks = start::start_marks(alloc, part)?;
+        let rows = start::start_rows(alloc, part)?;
+        let (tallies, sums) = start::start_figures(alloc, part.plan(), estimator, &rows)?;
+        Ok(Tables::of(rows, marks, tallies, sums))
+    }
+
+    /// These, with a mark and figures for each row.
+    pub fn of(rows: Rows, marks: Vec<bool>, tallies: Vec<Tally>, sums: Vec<u128>) -> Tables
+        requires marks { length marks.items ≡ length rows.rows }
+        requires tallies { length tallies.items ≡ length rows.rows }
+        ensures { result ≡ record {
+          rows = rows;
+          marks = marks.items;
+          tallies = map value_of tallies.items;
+          sums = sums.items;
+          room = vec_capacity sums;
+        } }
+    {
+        Tables {
+            rows: Relay::new(rows),
+            marks,
+            tallies,
+            sums,
+        }
+    }
+
+    /// The rows.
+    pub fn rows(&self) -> &Rows
+        ensures { result.now ≡ self.now.rows }
+    {
+        self.rows.get()
+    }
+
+    /// Which of them changed.
+    pub fn marks(&self) -> &[bool]
+        ensures { result.now ≡ self.now.marks }
+    {
+        &self.marks
+    }
+
+    /// Their figures.
+    pub fn tallies(&self) -> &[Tally]
+        ensures { map value_of result.now ≡ self.now.tallies }
+    {
+        &self.tallies
+    }
+
+    /// The sum of their estimates at each superstep so far.
+    pub fn sums(&self) -> &[u128]
+        ensures { result.now ≡ self.now.sums }
+    {
+        &self.sums
+    }
+
+    /// For how many sums there is room.
+    #[cfg(test)]
+    pub fn room(&self) -> usize
+        ensures { result ≡ self.now.room }
+    {
+        self.sums.capacity()
+    }
+
+    /// Goes on from superstep `t`: what is accumulated of it becomes the rows, the figures and the sums follow, and
+    /// nothing is heard yet. Weights are carried forward.
+    pub fn next(
+        &mut self,
+        estimator: &Estimator,
+        t: u32,
+        hearing: &mut Hearing,
+        weights: &mut [u64],
+    )
+        requires { CanStep estimator.now t self.old hearing.old weights.old }
+        ensures { Steps estimator.now t self.old self.new hearing.old hearing.new weights.new }
+    {
+        let last = self.sums[t as usize];
+        let rows = self.rows.get();
+        let (ahead, marks) = (hearing.ahead(), hearing.touched());
+        let gain = level::step_tallies(
+            estimator,
+            t + 1,
+            rows,
+            ahead,
+            marks,
+            weights,
+            &mut self.tallies,
+        );
+        self.sums.push_reserved(last + gain);
+        hearing.begin(&mut self.rows, &mut self.marks);
+    }
+
+    /// The same: rows are shared, the rest is copied, with no room for later sums.
+    pub fn copied(&mut self, alloc: Global) -> Result<Tables, AllocError>
+        ensures same { self.new ≡ self.old }
+        ensures copy { IfOk result (λ t. t ≡ record self.old { room = t.room }) }
+    {
+        let sums = Vec::from_slice(alloc, &self.sums)?;
+        let tallies = Vec::from_slice(alloc, &self.tallies)?;
+        let marks = Vec::from_slice(alloc, &self.marks)?;
+        let rows = self.rows.copied(alloc)?;
+        Ok(Tables {
+            rows,
+            marks,
+            tallies,
+            sums,
+        })
+    }
+
+    /// They become those of another one, within the room that was taken for sums.
+    pub fn assign(&mut self, other: &Tables)
+        requires { HasRoomFor other.now self.old }
+        ensures { self.new ≡ record other.now { room = self.old.room } }
+    {
+        self.rows.assign(other.rows.get());
+        self.marks.copy_from_slice(&other.marks);
+        self.tallies.copy_from_slice(&other.tallies);
+        refill(&mut self.sums, &other.sums);
+    }
+}
+
+/// The sums become others, within the room that was taken for them.
+pub fn refill(sums: &mut Vec<u128>, others: &[u128])
+    requires { length others.now ≤ vec_capacity sums.old }
+    ensures items { sums.new.items ≡ others.now }
+    ensures capacity { vec_capacity sums.new ≡ vec_capacity sums.old }
+{
+    sums.clear();
+    for sum in others {
+        sums.push_reserved(*sum);
+    }
+}
