@@ -1,3 +1,4 @@
+pub mod BoolLemmas
 pub mod GreatestLemmas
 pub mod HashLemmas
 pub mod PathLemmas

@@ -11,6 +11,7 @@ use Rattle.ball_model.specs.Greatest.{greatest}
 use Rattle.ball_model.specs.Hash.{hash_of, index_of, tail_of, rank_of, floor_log2}
 use Rattle.ball_model.specs.Graph.{Graph, IsGraph, is_path, in_ball, is_counted}
 use Rattle.ball_model.specs.Counter.{Mixing, register_of, counter_of, ball_counter}
+use Rattle.ball_model.proofs.BoolLemmas.{by_cases}
 use Rattle.ball_model.proofs.GreatestLemmas.{greatest-bounds, greatest-least}
 use Rattle.ball_model.proofs.PathLemmas.{in_ball-grows, in_ball-found, in_ball-finds, path_here}
 use Rattle.ball_model.proofs.CounterLemmas.{register_of-same, counter_of-same}
@@ -77,10 +78,6 @@ ball_zero g x y ok lt =
     subst (λ (k : ℕ). in_ball g x 0 k ≡ true) (sym e) (in_ball-found g x 0 x (x ∷ []) ok lt (path_here g x) (omega arith)))
 
 -- the counter of one vertex
-by_cases : (b : Bool) (P : Type 0) → (b ≡ true → P) → (b ≡ false → P) → P
-by_cases true P y n = y refl
-by_cases false P y n = n refl
-
 pub register_of-one : (m : Mixing) (n x j : ℕ) → x < n → register_of m n (λ y. y == x) j ≡ (if (index_of m.log2m (hash_of m.seed x) == j) then rank_of m.log2m (hash_of m.seed x) else 0)
 unfolding register_of
 register_of-one m n x j lt =

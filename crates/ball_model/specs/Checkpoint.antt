@@ -7,6 +7,7 @@ use Rattle.std.specs.Int.{w16, w32, w64, w128, to_be_bytes}
 use Rattle.sha2.specs.Sha256.{sha256}
 use Rattle.ball_model.specs.Figures.{TallyValue}
 use Rattle.ball_model.specs.Batches.{BatchValue, batch_bytes}
+use Rattle.ball_model.specs.PlanValue.{most_parts}
 use Rattle.ball_model.specs.State.{State}
 
 -- a mark: 1 where it is set, else 0
@@ -16,7 +17,7 @@ mark_byte mark = if mark then 1 else 0
 -- sources as a number: bit q is set where source q is among them
 unfoldable pub mask_of : List Bool → ℕ
 mask_of sources =
-    sum_by (λ q. if slice_index_or sources q false then 2 ^ q else 0) (range_with_len 0 64)
+    sum_by (λ q. if slice_index_or sources q false then 2 ^ q else 0) (range_with_len 0 most_parts)
 
 -- no figures
 abbrev pub no_figures : TallyValue
@@ -80,7 +81,7 @@ first_checkpoint_bytes v = sealed (front_bytes 1 v ++ table_bytes v)
 -- the replica without the batches that it holds, and with nothing accumulated beside its rows
 abbrev pub without_names : State → State
 without_names v = record v {
-  heard = replicate 64 false;
+  heard = replicate most_parts false;
   heard_change = false;
   accumulated = v.rows;
   early = replicate 3 (replicate v.part.plan.parts None);

@@ -27,13 +27,12 @@ use Rattle.ball_model.specs.Counter.{ball_counter}
 use Rattle.ball_model.specs.Figures.{TallyValue, fixed6_of}
 use Rattle.ball_model.specs.Supersteps.{tally_at}
 use Rattle.ball_model.specs.PlanValue.{mixing_of, plan_of}
-use Rattle.ball_model.specs.Job.{Job}
+use Rattle.ball_model.specs.Job.{Job, job_of}
 use Rattle.ball_model.specs.Content.{verdict_of}
 use Rattle.ball_model.specs.Join.{Holding, content_in}
 use Rattle.ball_model.specs.State.{own_vertices}
-use Rattle.ball_model.specs.Input.{Network, Refusal, fields, is_record}
-use Rattle.ball_model.specs.Counting.{CountedRefusal}
-use Rattle.ball_model.specs.RunText.{Numbers, Settings, network_in, plan_over, AreRead, IsCountedFault, IsPlanFault}
+use Rattle.ball_model.specs.Input.{Network, fields, is_record}
+use Rattle.ball_model.specs.RunText.{Numbers, Settings, plan_over, AreRead, IsPlanFault}
 use Rattle.ball_model.specs.World.{World, Node, start_world, node_at, node_of, answer_of, after_event}
 
 -- ---- scripts
@@ -259,7 +258,7 @@ pub record AreReplicas (replicas : ℕ) : Type 0 where
 
 -- the job that is asked for over a network
 abbrev pub job_over : Numbers → Network → Job
-job_over n network = record { graph = network.graph; plan = plan_over n network.graph }
+job_over n network = job_of network.graph (plan_over n network.graph)
 
 -- there is such a job over the network, and the text is what the events answer from the start of its world
 pub record IsReplayOf (n : Numbers) (replicas : ℕ) (network : Network) (events : List Event)

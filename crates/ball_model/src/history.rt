@@ -1,6 +1,8 @@
 //! Replies of a board, and the laws of its histories: the contract of each law is the law, and its body is empty.
 
-ghost use Rattle.ball_model.specs.History.{StandingIsPosted, PostedStands, KeptNeverGoesBack, FloorNeverGoesDown, NothingBelowFloor, BeginningIsLegal, LastIsAnswer};
+ghost use Rattle.ball_model.specs.History.{StandingIsPosted, PostedStands, KeptNeverGoesBack};
+ghost use Rattle.ball_model.specs.History.{FloorNeverGoesDown, NothingBelowFloor, BeginningIsLegal};
+ghost use Rattle.ball_model.specs.History.{LastIsAnswer};
 
 /// What became of a batch that was posted.
 #[derive(Clone, Copy, Debug, PartialEq, Eq)]

@@ -1,8 +1,20 @@
 //! Laws of the definitions: the contract of each function is the law, and its body is empty.
 
-ghost use Rattle.ball_model.specs.Laws.{BallIsPaths, RegisterIsBound, RegisterIsLeastBound, UnionIsMaximum, EmptyIsZero, CounterIsWide, RegistersAreRanks, CounterGrows, CounterIsBound, CounterIsLeastBound, StartIsCounted, StartIsNotEmpty, QuietStays, ChangedSuffice, ChangeComesFromChange, EndIsWithin, EndIsLeast, EndIsReached, EstimateGrows, EstimateFits, NoneIsNothing, OneIsOne, DrawsAdd, LargeIsRaw, SmallIsSmall, CountersAreApart, TalliesFit, PartIsStrided, JoinCommutes, JoinAssociates, JoinRepeats, JoinIsUnion};
-ghost use Rattle.ball_model.specs.InputLaws.{AllAreCounted, NamedAreCounted, AllNamedAreAll, LfEndsLine, CrLfEndsLine, EndEndsLine, MarkDivides, FirstMarkDivides};
-ghost use Rattle.ball_model.specs.AccumulatedLaws.{AccumulatorStarts, AccumulatorEnds, AccumulatorsJoin, AccumulatorSteps};
+ghost use Rattle.ball_model.specs.Laws.{BallIsPaths, RegisterIsBound, RegisterIsLeastBound};
+ghost use Rattle.ball_model.specs.Laws.{UnionIsMaximum, EmptyIsZero, CounterIsWide};
+ghost use Rattle.ball_model.specs.Laws.{RegistersAreRanks, CounterGrows, CounterIsBound};
+ghost use Rattle.ball_model.specs.Laws.{CounterIsLeastBound, StartIsCounted, StartIsNotEmpty};
+ghost use Rattle.ball_model.specs.Laws.{QuietStays, ChangedSuffice, ChangeComesFromChange};
+ghost use Rattle.ball_model.specs.Laws.{EndIsWithin, EndIsLeast, EndIsReached, EstimateGrows};
+ghost use Rattle.ball_model.specs.Laws.{EstimateFits, NoneIsNothing, OneIsOne, DrawsAdd};
+ghost use Rattle.ball_model.specs.Laws.{LargeIsRaw, SmallIsSmall, CountersAreApart, TalliesFit};
+ghost use Rattle.ball_model.specs.Laws.{PartIsStrided, JoinCommutes, JoinAssociates, JoinRepeats};
+ghost use Rattle.ball_model.specs.Laws.{JoinIsUnion};
+ghost use Rattle.ball_model.specs.InputLaws.{AllAreCounted, NamedAreCounted, AllNamedAreAll};
+ghost use Rattle.ball_model.specs.InputLaws.{LfEndsLine, CrLfEndsLine, EndEndsLine, MarkDivides};
+ghost use Rattle.ball_model.specs.InputLaws.{FirstMarkDivides};
+ghost use Rattle.ball_model.specs.AccumulatedLaws.{AccumulatorStarts, AccumulatorEnds};
+ghost use Rattle.ball_model.specs.AccumulatedLaws.{AccumulatorsJoin, AccumulatorSteps};
 
 /// The ball of x at t has the vertices with a path of at most t edges to x.
 pub fn ball_is_paths()

@@ -1,6 +1,8 @@
 //! Streams over memory, which tell their bytes and fail at a call that is chosen.
 
-ghost use Rattle.std.specs.Prelude.{◌≡◌, ℕ, ◌+◌, ◌-◌, ◌<◌, ◌≤◌, ◌⊎◌, min, None, Some, OnOk, OnErr, IfOk, IfSome, IfNone, IsOk, IsErr, length, [], take, true, option_map, vec_len, vec_capacity};
+ghost use Rattle.std.specs.Prelude.{◌≡◌, ℕ, ◌+◌, ◌-◌, ◌<◌, ◌≤◌, ◌⊎◌, min, None, Some, OnOk, OnErr};
+ghost use Rattle.std.specs.Prelude.{IfOk, IfSome, IfNone, IsOk, IsErr, length, [], take, true};
+ghost use Rattle.std.specs.Prelude.{option_map, vec_len, vec_capacity};
 ghost use Rattle.std.specs.Io.KnownBytes.{ReadConsumes, WriteAppends, Keeps};
 ghost use Rattle.std.specs.Io.{ReadsAtMost, WritesAtMost};
 ghost use Rattle.ball_model.specs.Streams.{Gets, Puts, after_call};
@@ -65,7 +67,7 @@ impl<'a> CountedRead for MemReader<'a> {
     ghost sure_calls = { λ r. r.good };
 
     fn failures(&self) -> u64 {
-        self.failures.told()
+        self.failures.count()
     }
 
     fn get(&mut self, buf: &mut [u8]) -> Option<usize>
@@ -175,7 +177,7 @@ impl CountedWrite for MemWriter {
     ghost room = { λ w. w.room };
 
     fn failures(&self) -> u64 {
-        self.failures.told()
+        self.failures.count()
     }
 
     fn put(&mut self, bytes: &[u8]) -> Option<usize>

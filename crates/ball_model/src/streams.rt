@@ -3,12 +3,13 @@
 //! No contract can say what a file, a pipe or a terminal gives or takes. But a program can say that it answers
 //! 'cannot be read' only where a call of its reader really failed: by a reader that counts its failed calls.
 
-ghost use Rattle.std.specs.Prelude.{◌≡◌, ◌≢◌, ℕ, ◌+◌, ◌-◌, ◌^◌, min, OnOk, OnErr, ◌<◌, ◌≤◌, ◌⊎◌, IfOk, IfSome, IfNone, Option, None, Some, length, true, false};
+ghost use Rattle.std.specs.Prelude.{◌≡◌, ◌≢◌, ℕ, ◌+◌, ◌-◌, ◌^◌, min, OnOk, OnErr, ◌<◌, ◌≤◌, ◌⊎◌};
+ghost use Rattle.std.specs.Prelude.{IfOk, IfSome, IfNone, Option, None, Some, length, true, false};
 ghost use Rattle.std.specs.Borrow.{ftrue};
 ghost use Rattle.std.specs.Io.KnownBytes.{ReadConsumes, WriteAppends, Keeps, Appends, Consumes};
 ghost use Rattle.std.specs.Io.{ReadsAtMost, WritesAtMost};
-ghost use Rattle.ball_model.specs.Streams.{Gets, Puts, PutsFront, EndsAfter, AfterAtMost, AreSure, after_call};
-ghost use Rattle.ball_model.specs.Streams.{TakesAtMost};
+ghost use Rattle.ball_model.specs.Streams.{Gets, Puts, PutsFront, EndsAfter, AfterAtMost, AreSure};
+ghost use Rattle.ball_model.specs.Streams.{after_call, TakesAtMost};
 
 use std::io;
 use std::io::{Read, Write};
@@ -140,7 +141,7 @@ impl FailedCalls {
     }
 
     // The number, or `u64::MAX` where it is greater.
-    pub(crate) fn told(&self) -> u64
+    pub(crate) fn count(&self) -> u64
         ensures { result ≡ min self.now (2 ^ 64 - 1) }
     {
         self.told
@@ -192,7 +193,7 @@ impl<R: Read + Drop> CountedRead for CountingReader<R> {
     ghost sure_calls = { λ _. Some 0 };
 
     fn failures(&self) -> u64 {
-        self.failures.told()
+        self.failures.count()
     }
 
     fn get(&mut self, buf: &mut [u8]) -> Option<usize> {
@@ -276,7 +277,7 @@ impl<W: Write + Drop> CountedWrite for CountingWriter<W> {
     ghost room = { λ _. 0 };
 
     fn failures(&self) -> u64 {
-        self.failures.told()
+        self.failures.count()
     }
 
     fn put(&mut self, bytes: &[u8]) -> Option<usize> {

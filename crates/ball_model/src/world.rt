@@ -2,9 +2,13 @@
 //! is empty.
 
 ghost use Rattle.std.specs.Prelude.{◌≡◌};
-ghost use Rattle.ball_model.specs.Held.{StartIsHeld, TakenIsHeld, ClosedIsHeld, JoinedIsHeld, TakenIsContent, ClosedIsContent};
-ghost use Rattle.ball_model.specs.WorldLaws.{RunsStayWorlds, SentIsInTime, LossLeavesContents, OthersStay, RepeatIsNotNew, RecoverTwiceIsOnce, RecoveredIsHad, RestartGivesKept, OnlyRestartGoesBack};
-ghost use Rattle.ball_model.specs.WorldExamples.{EarlyBatch, RepeatedBatch, WindowEdge, Checkpointed, Copied, ThreePartitions, LoneVertex};
+ghost use Rattle.ball_model.specs.Held.{StartIsHeld, TakenIsHeld, ClosedIsHeld, JoinedIsHeld};
+ghost use Rattle.ball_model.specs.Held.{TakenIsContent, ClosedIsContent};
+ghost use Rattle.ball_model.specs.WorldLaws.{RunsStayWorlds, SentIsInTime, LossLeavesContents};
+ghost use Rattle.ball_model.specs.WorldLaws.{OthersStay, RepeatIsNotNew, RecoverTwiceIsOnce};
+ghost use Rattle.ball_model.specs.WorldLaws.{RecoveredIsHad, RestartGivesKept, OnlyRestartGoesBack};
+ghost use Rattle.ball_model.specs.WorldExamples.{EarlyBatch, RepeatedBatch, WindowEdge};
+ghost use Rattle.ball_model.specs.WorldExamples.{Checkpointed, Copied, ThreePartitions, LoneVertex};
 
 use crate::names::{BatchName, CloseError, MergeError, NodeId, TakeError, Taken};
 use std::alloc::AllocError;

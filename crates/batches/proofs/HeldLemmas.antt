@@ -98,13 +98,13 @@ shared_kept plan name changed table ids places lie count batch = record {
 }
 
 -- row i of a batch over a table
-pub record IsAt (w i : ℕ) (flat table places : List ℕ) : Type 0 where
+pub record IsRowAt (w i : ℕ) (flat table places : List ℕ) : Type 0 where
   pub inside : i < length places
   pub lies : (get_or places i 0 + 1) * w ≤ length table
   pub is : take w (drop (get_or places i 0 * w) table) ≡ take w (drop (i * w) flat)
 
 at_place : (w i : ℕ) (table places : List ℕ) → All (λ p. (p + 1) * w ≤ length table) places → 0 < w → (i + 1) * w ≤ length (flat_at w table places)
-    → IsAt w i (flat_at w table places) table places
+    → IsRowAt w i (flat_at w table places) table places
 at_place w i table places lie positive room =
     let len = flat_at-length w table places lie in
     let lt : i < length places =
@@ -115,9 +115,9 @@ at_place w i table places lie positive room =
     record { inside = lt; lies = lie i 0 lt; is = sym (flat_at-row w i table places lie lt) }
 
 pub row_at_place : (w i : ℕ) (r : Registers) (table : SharedTable) (places : Places) → Shared table places ≡ r → LieIn w r → 0 < w → (i + 1) * w ≤ length (flat_of w r)
-    → IsAt w i (flat_of w r) (arc_value table).items places.items
+    → IsRowAt w i (flat_of w r) (arc_value table).items places.items
 row_at_place w i r table places same lie positive room =
-    let P : Registers → Type 0 = λ x. IsAt w i (flat_of w x) (arc_value table).items places.items in
+    let P : Registers → Type 0 = λ x. IsRowAt w i (flat_of w x) (arc_value table).items places.items in
     let lie' = subst (LieIn w) (sym same) lie in
     let room' = subst (λ (x : Registers). (i + 1) * w ≤ length (flat_of w x)) (sym same) room in
     subst P same (at_place w i (arc_value table).items places.items lie' positive room')

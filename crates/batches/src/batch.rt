@@ -1,12 +1,16 @@
 //! Batches.
 
-ghost use Rattle.std.specs.Prelude.{◌≡◌, ◌+◌, ◌*◌, ◌^◌, ◌<◌, ◌≤◌, ◌++◌, ◌∷◌, [], length, option_map, slice_index, slice_index_or, drop, IfOk, IfSome, OnOk, OnErr, Ok};
+ghost use Rattle.std.specs.Prelude.{◌≡◌, ◌+◌, ◌*◌, ◌^◌, ◌<◌, ◌≤◌, ◌++◌, ◌∷◌, [], length};
+ghost use Rattle.std.specs.Prelude.{option_map, slice_index, slice_index_or, drop, IfOk, IfSome};
+ghost use Rattle.std.specs.Prelude.{OnOk, OnErr, Ok};
 ghost use Rattle.std.specs.Arc.{arc_value};
 ghost use Rattle.std.specs.List.{All};
 ghost use Rattle.ball_model.specs.PlanValue.{part_size};
-ghost use Rattle.ball_model.specs.Batches.{BatchValue, IsRow, IsBatch, ids_of, registers_of, find_row, header_bytes, batch_bytes};
+ghost use Rattle.ball_model.specs.Batches.{BatchValue, IsRow, IsBatch, ids_of, registers_of};
+ghost use Rattle.ball_model.specs.Batches.{find_row, header_bytes, batch_bytes};
 ghost use Rattle.batches.specs.Kept.{first_rows, rows_at};
-ghost use Rattle.batches.specs.Reading.{check_at, batch_from, batch_at, GivesOrMemory, AgreesButJob};
+ghost use Rattle.batches.specs.Reading.{check_at, batch_from, batch_at, GivesOrMemory};
+ghost use Rattle.batches.specs.Reading.{AgreesButJob};
 
 use crate::error::BatchError;
 use crate::header::{HEADER_LEN, Header, MAGIC, VERSION, check_header, read_header, spell_header};

@@ -1,6 +1,7 @@
 //! Laws of batches and of their bytes: the contract of each function is the law, and its body is empty.
 
-ghost use Rattle.batches.specs.Laws.{SpellingIsRead, SpellingIsOne, BatchIsOne, SpellingHasLength, TrueIsBatch};
+ghost use Rattle.batches.specs.Laws.{SpellingIsRead, SpellingIsOne, BatchIsOne, SpellingHasLength};
+ghost use Rattle.batches.specs.Laws.{TrueIsBatch};
 
 /// Reading the bytes of a batch gives that batch back.
 pub fn spelling_is_read()

@@ -1,6 +1,7 @@
 //! Rows of a batch, in memory and as bytes.
 
-ghost use Rattle.std.specs.Prelude.{◌≡◌, ◌+◌, ◌-◌, ◌*◌, ◌^◌, ◌≤◌, ◌<◌, ◌++◌, ◌∷◌, [], length, take, drop, max, nat_lt, IfOk, OnOk, OnErr, Ok};
+ghost use Rattle.std.specs.Prelude.{◌≡◌, ◌+◌, ◌-◌, ◌*◌, ◌^◌, ◌≤◌, ◌<◌, ◌++◌, ◌∷◌, [], length, take};
+ghost use Rattle.std.specs.Prelude.{drop, max, nat_lt, IfOk, OnOk, OnErr, Ok};
 ghost use Rattle.std.specs.Result.{result_and};
 ghost use Rattle.std.specs.List.{list_any, flat_map, fold};
 ghost use Rattle.std.specs.Int.{w32};

@@ -7,7 +7,7 @@ use lib.ListN.{get_elem?}
 use lib.Seq.{set-get_or}
 use Rattle.atomic_table.specs.Table.{State, Me, keeps, Allows, Splits, Joins, opening}
 use Rattle.atomic_table.proofs.Lists.{set_else, at_longer}
-use Rattle.board.specs.View.{View, Told, spent_view}
+use Rattle.board.specs.View.{View, EndedSeat, spent_view}
 use Rattle.ball_model.specs.History.{History, Begins, entries_of, events_by, calls_by, IsLegal}
 use Rattle.board.specs.Rule.{room_of, tickets_of, IsNotOf, Fits, Apart, IsKeptSafe, IsLocked, at_look, Counted, share, keeper, newcomer, with_news, first_view}
 use Rattle.ball_model.proofs.HistoryLemmas.{begins_self, calls_by-none}
@@ -195,14 +195,14 @@ tells id v other w idle idle' live live' s h at ne at' =
         unused = f.unused;
         out = f.out;
         turn = λ e. absurd (omega arith);
-        told = λ t e. let q : record { number = w.number; seen = w.seen } ≡ t = cc e in subst (λ (t : Told). Begins t.seen h.log × (calls_by t.number h.log ≡ calls_by t.number t.seen) × IsNotOf t.number v) q (g.begins live', g.own live', not_v);
+        told = λ t e. let q : record { number = w.number; seen = w.seen } ≡ t = cc e in subst (λ (t : EndedSeat). Begins t.seen h.log × (calls_by t.number h.log ≡ calls_by t.number t.seen) × IsNotOf t.number v) q (g.begins live', g.own live', not_v);
       } (λ j x _ e. h.each j x e) j x e);
       apart = λ j k x y n e e'. apart_set_on (λ _. Unit {0}) views other spent_view
           (λ j k x y _ _ nj nk n e e'. apart_set_on (λ i. i ≢ other) s.views id u (λ j k x y _ _ _ _ n e e'. h.apart j k x y n e e') (λ j x q n e.
           let a = h.apart id j v x (λ q. n (sym q)) at e in
           let b = h.apart j id x v n e at in
           let c = h.apart other j w x (λ r. q (sym r)) at_w e in (
-            record { numbers = a.numbers; tickets = λ p. absurd (omega arith); told = λ t e. let q : record { number = w.number; seen = w.seen } ≡ t = cc e in subst (λ (t : Told). IsNotOf t.number x) q (⊎_elim (λ (a : w.number + w.room ≤ x.number). inl (omega arith)) (λ (a : x.number + x.room ≤ w.number). inr (omega arith)) c.numbers) },
+            record { numbers = a.numbers; tickets = λ p. absurd (omega arith); told = λ t e. let q : record { number = w.number; seen = w.seen } ≡ t = cc e in subst (λ (t : EndedSeat). IsNotOf t.number x) q (⊎_elim (λ (a : w.number + w.room ≤ x.number). inl (omega arith)) (λ (a : x.number + x.room ≤ w.number). inr (omega arith)) c.numbers) },
             record { numbers = b.numbers; tickets = λ _ p. absurd (omega arith); told = b.told },
           )) j k x y nj nk n e e')
           (λ j x _ q e. (

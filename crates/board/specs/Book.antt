@@ -10,7 +10,7 @@ use Rattle.ball_model.specs.declared.history.Kept.TheVariants as replies
 use Rattle.ball_model.specs.declared.history.Posted.{Posted}
 use Rattle.ball_model.specs.declared.history.Posted.TheVariants as posted
 use Rattle.ball_model.specs.declared.names.BatchName.{BatchName}
-use Rattle.ball_model.specs.Job.{Job}
+use Rattle.ball_model.specs.Job.{Job, job_of}
 use Rattle.ball_model.specs.Join.{Holding}
 use Rattle.ball_model.specs.Batches.{BatchValue, true_batch}
 use Rattle.ball_model.specs.State.{State, StandsFor}
@@ -44,7 +44,7 @@ HasPlace c = (vec_len c.sheet < vec_capacity c.sheet) × (c.entries + 1 < 2 ^ 32
 abbrev pub history_of : Inside → History
 history_of b =
     record {
-      job = record { graph = b.graph.value.graph; plan = b.plan.value };
+      job = job_of b.graph.value.graph b.plan.value;
       calls = calls_in b.calls;
     }
 

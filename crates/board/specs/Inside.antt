@@ -1,7 +1,6 @@
 -- What the fields of a seat and of a board are.
 use Rattle.std.specs.Prelude.{◌≡◌, ℕ, ◌+◌, ◌^◌, ◌<◌, ◌≤◌, [], ◌∷◌, Option, None}
 use Rattle.atomic_table.specs.Table.{Me}
-use Rattle.atomic_table.specs.Seated.{TableId}
 use Rattle.board.specs.View.{View}
 use Rattle.board.specs.declared.board.Board.TheInside as board
 use Rattle.board.specs.declared.seat.Seat.TheInside as seat

@@ -4,7 +4,7 @@ use mathlib.Core.Option.{some, none}
 use lib.ListN.{get_elem?}
 use Rattle.atomic_table.specs.Table.{State, Me, Step}
 use Rattle.ball_model.specs.History.{History, Begins, IsLegal, entries_of, calls_by}
-use Rattle.board.specs.View.{View, Told}
+use Rattle.board.specs.View.{View, EndedSeat}
 
 -- what f gives of all views together
 abbrev pub total : (View → ℕ) → List View → ℕ
@@ -42,14 +42,14 @@ pub record Fits (limit : ℕ) (log : History) (next serving : ℕ) (v : View) : 
   pub unused : (k : ℕ) → v.number < k → k < v.number + v.room → calls_by k log ≡ []
   pub out : 0 < v.stage → (0 < v.room) × (serving ≤ v.ticket) × (v.ticket < next)
   pub turn : v.stage ≡ 2 → (v.ticket ≡ serving) × (v.seen ≡ log)
-  pub told : (t : Told) → v.told ≡ Some t →
+  pub told : (t : EndedSeat) → v.told ≡ Some t →
       Begins t.seen log × (calls_by t.number log ≡ calls_by t.number t.seen) × IsNotOf t.number v
 
 -- two seats have no number in common, and no ticket; the number that one was told of is none of the other's
 pub record Apart (v w : View) : Type 0 where
   pub numbers : (v.number + v.room ≤ w.number) ⊎ (w.number + w.room ≤ v.number)
   pub tickets : 0 < v.stage → 0 < w.stage → v.ticket ≢ w.ticket
-  pub told : (t : Told) → v.told ≡ Some t → IsNotOf t.number w
+  pub told : (t : EndedSeat) → v.told ≡ Some t → IsNotOf t.number w
 
 -- the book is at home, or out with the seat whose turn it is
 abbrev pub IsKeptSafe : History → State (Option History) View → Type 0
@@ -159,13 +159,17 @@ at_look v log =
 abbrev pub Counted : At → Sat → ℕ → Sat → Type 0
 Counted st m found m' =
     (log : History) × GoesOn m.0 log × (entries_of log ≡ found)
-    × ((t : Told) → m.0.told ≡ Some t →
+    × ((t : EndedSeat) → m.0.told ≡ Some t →
     Begins t.seen log × (calls_by t.number log ≡ calls_by t.number t.seen))
     × (m' ≡ (at_look m.0 log, m.1))
 
+-- a seat that has fewer numbers than that makes no other; a new one is given one in so many
+abbrev pub least_room : ℕ
+least_room = 1024
+
 -- how many numbers a new seat is given
 abbrev pub share : ℕ → ℕ
-share room = room / 1024
+share room = room / least_room
 
 abbrev pub keeper : View → View
 keeper v =

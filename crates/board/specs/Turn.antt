@@ -2,7 +2,7 @@
 use Rattle.std.specs.Prelude.{◌≡◌, ◌≢◌, ℕ, ◌≤◌, Some}
 use Rattle.atomic_table.specs.Seated.{TableId}
 use Rattle.ball_model.specs.History.{History, Begins, IsLegal, entries_of, calls_by}
-use Rattle.board.specs.View.{Told, View}
+use Rattle.board.specs.View.{EndedSeat, View}
 
 -- three words and one slot
 abbrev pub IsSized : TableId → Type 0
@@ -10,7 +10,7 @@ IsSized z = (z.words ≡ 3) × (z.slots ≡ 1)
 
 -- what the seat was told of another begins the history, where the other has made no call since
 abbrev pub HasNews : View → History → Type 0
-HasNews v log = (t : Told) → v.told ≡ Some t →
+HasNews v log = (t : EndedSeat) → v.told ≡ Some t →
     Begins t.seen log × (calls_by t.number log ≡ calls_by t.number t.seen)
 
 -- the seat's number, those that it may give, what it was told and its limit are as they were

@@ -1,13 +1,17 @@
 //! A history that threads share.
 
-ghost use Rattle.std.specs.Prelude.{◌≡◌, ◌≤◌, ◌^◌, [], IfOk, OnOk, IfErr, OnErr, IfSome, IfNone, is_some, true};
+ghost use Rattle.std.specs.Prelude.{◌≡◌, ◌≤◌, ◌^◌, [], IfOk, OnOk, IfErr, OnErr, IfSome, IfNone};
+ghost use Rattle.std.specs.Prelude.{is_some, true};
 ghost use Rattle.std.specs.Arc.{arc_value};
 ghost use Rattle.board.specs.declared.error.BoardError.TheVariants.{BookFull, Memory};
 ghost use Rattle.ball_model.specs.Job.{IsJob, job_of};
 ghost use Rattle.ball_model.specs.Batches.{IsTrueBatch, true_batch};
 ghost use Rattle.ball_model.specs.State.{Stands, StandsFor};
-ghost use Rattle.ball_model.specs.History.{Post, Fetch, Keep, Recall, Drop, Begins, IsLegal, start_history, entries_of, calls_by, board_of, holding_in, is_kept_from};
-ghost use Rattle.ball_model.specs.Caller.{IsCaller, Extends, Called, CalledNothing, IsFull, HasRoom, IsAsFar};
+ghost use Rattle.ball_model.specs.History.{Post, Fetch, Keep, Recall, Drop, Begins, IsLegal};
+ghost use Rattle.ball_model.specs.History.{start_history, entries_of, calls_by, board_of};
+ghost use Rattle.ball_model.specs.History.{holding_in, is_kept_from};
+ghost use Rattle.ball_model.specs.Caller.{IsCaller, Extends, Called, CalledNothing, IsFull};
+ghost use Rattle.ball_model.specs.Caller.{HasRoom, IsAsFar};
 ghost use Rattle.board.specs.Seats.{IsAt, KeepsItsNumbers, least_entries, most_entries};
 ghost use Rattle.board.specs.Rule.{first_view};
 ghost use Rattle.board.specs.Turn.{IsSized};

@@ -1,14 +1,19 @@
 //! A history, and what it leaves: what lies in the slot of a board, or a board of one caller.
 
-ghost use Rattle.std.specs.Prelude.{◌≡◌, ◌<◌, ◌≤◌, cond, nat_lt, IsTrue, IsFalse, true, false, None, Some, length, replicate, slice_get, slice_index_or, is_some, option_map, IfErr, IfOk, OnOk, OnErr, IfSome, IfNone, Err};
+ghost use Rattle.std.specs.Prelude.{◌≡◌, ◌<◌, ◌≤◌, cond, nat_lt, IsTrue, IsFalse, true, false};
+ghost use Rattle.std.specs.Prelude.{None, Some, length, replicate, slice_get, slice_index_or};
+ghost use Rattle.std.specs.Prelude.{is_some, option_map, IfErr, IfOk, OnOk, OnErr, IfSome, IfNone};
+ghost use Rattle.std.specs.Prelude.{Err};
 ghost use Rattle.std.specs.Arc.{arc_value};
 ghost use Rattle.std.specs.BTreeMap.{get};
 ghost use Rattle.board.specs.declared.error.BoardError.TheVariants.{BookFull, Memory};
 ghost use Rattle.ball_model.specs.Job.{job_of};
 ghost use Rattle.ball_model.specs.Batches.{IsTrueBatch};
 ghost use Rattle.ball_model.specs.State.{Stands};
-ghost use Rattle.ball_model.specs.History.{Post, Keep, Drop, IsLegal, start_history, entries_of, board_of, holding_in, is_further, is_kept_from};
-ghost use Rattle.board.specs.Noted.{AreDropped, IsFetched, IsNoted, IsNext, IsRecalled, by_name, displaced_by};
+ghost use Rattle.ball_model.specs.History.{Post, Keep, Drop, IsLegal, start_history, entries_of};
+ghost use Rattle.ball_model.specs.History.{board_of, holding_in, is_further, is_kept_from};
+ghost use Rattle.board.specs.Noted.{AreDropped, IsFetched, IsNoted, IsNext, IsRecalled, by_name};
+ghost use Rattle.board.specs.Noted.{displaced_by};
 ghost use Rattle.board.specs.Book.{held_at, IsPut, kept_after, reply_in, reply_to};
 
 use crate::calls::Calls;

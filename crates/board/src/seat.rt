@@ -1,8 +1,9 @@
 //! The right to use a board.
 
-ghost use Rattle.std.specs.Prelude.{◌≡◌, ◌+◌, ◌-◌, ◌/◌, ◌≤◌, []};
+ghost use Rattle.std.specs.Prelude.{◌≡◌, ◌+◌, ◌-◌, ◌≤◌, []};
 ghost use Rattle.ball_model.specs.History.{calls_by};
 ghost use Rattle.ball_model.specs.Caller.{IsCaller};
+ghost use Rattle.board.specs.Rule.{least_room, share};
 ghost use Rattle.board.specs.Seats.{IsAt, SharesNumbers};
 
 use crate::board::Board;
@@ -50,12 +51,12 @@ impl Seat {
     /// 1,024. It takes no memory, and waits for nobody.
     pub fn split(&mut self, board: &Board) -> Seat
         requires board { IsAt board.now self.old }
-        requires room { 1024 ≤ self.old.room }
+        requires room { least_room ≤ self.old.room }
         ensures kept { SharesNumbers self.old self.new }
-        ensures left { self.new.room ≡ self.old.room - self.old.room / 1024 }
+        ensures left { self.new.room ≡ self.old.room - share self.old.room }
         ensures board { IsAt board.now result }
         ensures number { result.caller.number ≡ self.old.caller.number + self.new.room }
-        ensures room { result.room ≡ self.old.room / 1024 }
+        ensures room { result.room ≡ share self.old.room }
         ensures seen { result.caller.seen ≡ self.old.caller.seen }
         ensures legal { IsCaller result.caller }
         ensures unused { calls_by result.caller.number result.caller.seen ≡ [] }

@@ -23,12 +23,12 @@ use Rattle.checkpoint.proofs.LengthLemmas.{front_long}
 use Rattle.checkpoint.proofs.ReaderLemmas.{body_unread}
 
 -- ---- what the content of a spelling tells
-pub record IsTold (version : ℕ) (v : State) (text body : List ℕ) : Type 0 where
+pub record IsWritten (version : ℕ) (v : State) (text body : List ℕ) : Type 0 where
   pub version_is : (head_at (take 54 text)).version ≡ version
   pub step : v.superstep ≡ (head_at (take 54 text)).superstep
   pub body_is : drop 54 text ≡ body
 
-told : (version : ℕ) (v : State) (text body : List ℕ) → IsState v → text ≡ front_bytes version v ++ body → IsTold version v text body
+told : (version : ℕ) (v : State) (text body : List ℕ) → IsState v → text ≡ front_bytes version v ++ body → IsWritten version v text body
 told version v text body s is =
     let front = front_bytes version v in
     let long = front_long version v s in
@@ -40,13 +40,13 @@ told version v text body s is =
       body_is = ap (drop 54) is ∙ subst (λ (n : ℕ). drop n (front ++ body) ≡ body) long (drop-append_seam front body);
     }
 
-pub second_told : (v : State) (bytes text : List ℕ) → IsState v → bytes ≡ sealed text → bytes ≡ checkpoint_bytes v → IsTold 2 v text (table_bytes v ++ held_bytes v)
+pub second_told : (v : State) (bytes text : List ℕ) → IsState v → bytes ≡ sealed text → bytes ≡ checkpoint_bytes v → IsWritten 2 v text (table_bytes v ++ held_bytes v)
 unfolding checkpoint_bytes
 second_told v bytes text s split is =
     told 2 v text (table_bytes v ++ held_bytes v) s
     (unsealed text ((front_bytes 2 v ++ table_bytes v) ++ held_bytes v) (sym split ∙ is) ∙ append_assoc (front_bytes 2 v) (table_bytes v) (held_bytes v))
 
-pub first_told : (v : State) (bytes text : List ℕ) → IsState v → bytes ≡ sealed text → bytes ≡ first_checkpoint_bytes v → IsTold 1 v text (table_bytes v)
+pub first_told : (v : State) (bytes text : List ℕ) → IsState v → bytes ≡ sealed text → bytes ≡ first_checkpoint_bytes v → IsWritten 1 v text (table_bytes v)
 unfolding first_checkpoint_bytes
 first_told v bytes text s split is = told 1 v text (table_bytes v) s (unsealed text (front_bytes 1 v ++ table_bytes v) (sym split ∙ is))
 

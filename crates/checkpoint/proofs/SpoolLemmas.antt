@@ -8,7 +8,8 @@ use Rattle.sha2.specs.Hashers.{Holds256}
 use Rattle.sha2.specs.Sha256.{sha256}
 use Rattle.ball_model.specs.Checkpoint.{sealed}
 use Rattle.checkpoint.specs.declared.spool.Spool.{Spool}
-use Rattle.checkpoint.specs.Writing.{Hashes, Writes, Stops}
+use Rattle.edgelist.specs.Planning.{Hashes}
+use Rattle.checkpoint.specs.Writing.{Writes, Stops}
 use Rattle.checkpoint.specs.Spooled.{Passes, waiting}
 use Rattle.checkpoint.proofs.WriteLemmas.{writes_none, writes_then, stops_first, stops_then, hashes_then, hashes_none, pieces_split, pieces_more}
 

@@ -59,8 +59,8 @@ range_more f n k lt =
     let at : get_or (range_with_len 0 n) k 0 ≡ k = get_or-range_with_len 0 n k 0 lt ∙ omega arith in
     sym (pieces_more f (range_with_len 0 n) k 0 (omega (arith, lt, length-range_with_len 0 n)) ∙ ap (λ (i : ℕ). flat_map f (take k (range_with_len 0 n)) ++ f i) at)
 
-pub range_split : (f : ℕ → List ℕ) (n k : ℕ) → k < n → (flat_map f (take k (range_with_len 0 n)) ++ f k) ++ flat_map f (drop (suc k) (range_with_len 0 n)) ≡ flat_map f (range_with_len 0 n)
-range_split f n k lt =
+pub range_pieces : (f : ℕ → List ℕ) (n k : ℕ) → k < n → (flat_map f (take k (range_with_len 0 n)) ++ f k) ++ flat_map f (drop (suc k) (range_with_len 0 n)) ≡ flat_map f (range_with_len 0 n)
+range_pieces f n k lt =
     let at : get_or (range_with_len 0 n) k 0 ≡ k = get_or-range_with_len 0 n k 0 lt ∙ omega arith in
     append_assoc (flat_map f (take k (range_with_len 0 n))) (f k) (flat_map f (drop (suc k) (range_with_len 0 n)))
     ∙ sym (pieces_split f (range_with_len 0 n) k 0 (omega (arith, lt, length-range_with_len 0 n)) ∙ ap (λ (i : ℕ). flat_map f (take k (range_with_len 0 n)) ++ (f i ++ flat_map f (drop (suc k) (range_with_len 0 n)))) at)

@@ -10,7 +10,8 @@ use Rattle.sha2.specs.declared.Sha256.{Sha256}
 use Rattle.sha2.specs.Hashers.{Holds256}
 use Rattle.ball_model.specs.Streams.{AfterAtMost, AreSure}
 use Rattle.ball_model.proofs.StreamLemmas.{after_none}
-use Rattle.checkpoint.specs.Writing.{Hashes, Writes, Stops}
+use Rattle.edgelist.specs.Planning.{Hashes}
+use Rattle.checkpoint.specs.Writing.{Writes, Stops}
 
 -- ---- calls that are sure
 after_then : (n m : ℕ) (a b c : Option ℕ) → AfterAtMost n a b → AfterAtMost m b c → AfterAtMost (n + m) a c

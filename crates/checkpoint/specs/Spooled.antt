@@ -1,7 +1,8 @@
 -- What is on its way to a writer.
 use Rattle.std.specs.Prelude.{◌≡◌, ◌++◌, ℕ, List, Option, take}
 use Rattle.checkpoint.specs.declared.spool.Spool.{Spool}
-use Rattle.checkpoint.specs.Writing.{Hashes, Writes}
+use Rattle.edgelist.specs.Planning.{Hashes}
+use Rattle.checkpoint.specs.Writing.{Writes}
 
 -- the bytes that wait
 abbrev pub waiting : Spool → List ℕ

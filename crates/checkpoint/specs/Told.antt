@@ -5,7 +5,7 @@ use Rattle.std.specs.List.{flat_map, range_with_len}
 use Rattle.ball_model.specs.Batches.{BatchValue, IsBatch}
 use Rattle.ball_model.specs.Checkpoint.{entry_bytes, kept_batches, no_figures}
 use Rattle.ball_model.specs.Figures.{TallyValue}
-use Rattle.ball_model.specs.PlanValue.{PlanValue}
+use Rattle.ball_model.specs.PlanValue.{PlanValue, most_parts}
 use Rattle.ball_model.specs.State.{State}
 use Rattle.ball_model.specs.Table.{Table}
 use Rattle.figures.specs.Values.{value_of}
@@ -92,7 +92,7 @@ pub record IsHeldOf (v : State) (h : Held) : Type 0 where
 
 -- nothing is heard, the accumulators are the rows, and nothing is kept
 pub record IsUnnamed (rows : Table) (h : Held) : Type 0 where
-  pub heard : h.heard ≡ replicate 64 false
+  pub heard : h.heard ≡ replicate most_parts false
   pub change : h.heard_change ≡ false
   pub accumulated : h.accumulated ≡ rows
   pub early : h.early.items ≡ []

@@ -1,13 +1,7 @@
 -- What is written, and digested as it is written.
-use Rattle.std.specs.Prelude.{◌≡◌, ◌-◌, ◌≤◌, ◌++◌, ℕ, List, Option, length}
+use Rattle.std.specs.Prelude.{◌≡◌, ◌-◌, ◌≤◌, ℕ, List, Option, length}
 use Rattle.std.specs.Io.KnownBytes.{Appends}
-use Rattle.sha2.specs.declared.Sha256.{Sha256}
-use Rattle.sha2.specs.Hashers.{Holds256}
 use Rattle.ball_model.specs.Streams.{AfterAtMost, AreSure, PutsFront, Rises}
-
--- the hasher was given these bytes more
-abbrev pub Hashes : Sha256 → Sha256 → List ℕ → Type 0
-Hashes old new bytes = (m : List ℕ) → Holds256 old m → Holds256 new (m ++ bytes)
 
 -- a writer that tells its bytes, its failed calls, and which calls are sure, took the bytes
 pub record Writes {W : Type 0} (contents : W → Option (List ℕ)) (failed : W → ℕ)

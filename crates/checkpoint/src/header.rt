@@ -2,6 +2,7 @@
 
 ghost use Rattle.std.specs.Prelude.{◌≡◌, ◌+◌, ◌≤◌, length, take, drop, OnOk, IfErr};
 ghost use Rattle.std.specs.Int.{w16, w32, w64, from_be_bytes};
+ghost use Rattle.ball_model.specs.PlanValue.{greatest_limit};
 ghost use Rattle.batches.specs.Kept.{field};
 ghost use Rattle.checkpoint.specs.Reading.{check_head, head_at, IsRead};
 
@@ -85,7 +86,7 @@ pub(crate) fn read_header(bytes: &[u8]) -> Header
 pub(crate) fn check_header(part: &Part, header: &Header) -> Result<(), KeepError>
     ensures value { result ≡ check_head part.now header.now }
     ensures in_time { OnOk result (header.now.superstep ≤ part.now.plan.limit) }
-    ensures small { OnOk result (header.now.superstep ≤ 4096) }
+    ensures small { OnOk result (header.now.superstep ≤ greatest_limit) }
     ensures of_bytes { IfErr result (λ e. IsRead e → ⊥) }
     ensures memory { IfErr result (λ e. e ≡ KeepError.Memory → ⊥) }
 {

@@ -1,6 +1,7 @@
 //! Laws of the bytes of checkpoints: the contract of each function is the law, and its body is empty.
 
-ghost use Rattle.checkpoint.specs.Laws.{TextIsOne, FirstTextTellsRest, VersionsDiffer, WithoutNamesStands};
+ghost use Rattle.checkpoint.specs.Laws.{TextIsOne, FirstTextTellsRest, VersionsDiffer};
+ghost use Rattle.checkpoint.specs.Laws.{WithoutNamesStands};
 
 /// No two states of a part have one text of version 2: what a replica writes tells all that it has.
 pub fn text_is_one()

@@ -1,13 +1,19 @@
 //! Reading a checkpoint.
 
-ghost use Rattle.std.specs.Prelude.{◌≡◌, ◌+◌, ◌≤◌, ℕ, List, [], Ok, Some, IfOk, OnOk, OnErr, IfErr, length, take, ◌⊎◌};
+ghost use Rattle.std.specs.Prelude.{◌≡◌, ◌+◌, ◌≤◌, ℕ, List, [], Ok, Some, IfOk, OnOk, OnErr, IfErr};
+ghost use Rattle.std.specs.Prelude.{length, take, ◌⊎◌};
 ghost use Rattle.std.specs.Arc.{arc_value};
-ghost use Rattle.ball_model.specs.Checkpoint.{checkpoint_bytes, first_checkpoint_bytes, sealed, without_names};
+ghost use Rattle.ball_model.specs.Checkpoint.{checkpoint_bytes, first_checkpoint_bytes, sealed};
+ghost use Rattle.ball_model.specs.Checkpoint.{without_names};
+ghost use Rattle.ball_model.specs.PlanValue.{greatest_limit};
 ghost use Rattle.ball_model.specs.State.{State};
 ghost use Rattle.ball_model.specs.Streams.{AreSure, TakesAtMost};
 ghost use Rattle.replica.specs.Saved.{Fits, IsKeepable, IsRebuilt};
 ghost use Rattle.replica.specs.Seen.{IsState};
-ghost use Rattle.checkpoint.specs.Reading.{needs, head_at, check_head, content_form, sealed_form, allowed, allowed_content, most_body, most_bytes, Ends, Grows, Fails, Refuses, HasHead, TakesWithin, IsRead, IsSpelling, IfOkButWant, OnOkOrMemory};
+ghost use Rattle.checkpoint.specs.Reading.{needs, head_at, check_head, content_form, sealed_form};
+ghost use Rattle.checkpoint.specs.Reading.{allowed, allowed_content, most_body, most_bytes, Ends};
+ghost use Rattle.checkpoint.specs.Reading.{Grows, Fails, Refuses, HasHead, TakesWithin, IsRead};
+ghost use Rattle.checkpoint.specs.Reading.{IsSpelling, IfOkButWant, OnOkOrMemory};
 
 use crate::error::KeepError;
 use crate::header::{Header, check_header, read_header};
@@ -33,7 +39,7 @@ fn read_head<R: CountedRead>(
     ensures length { OnOk result (length text.new.items ≡ HEADER_LEN) }
     ensures checked { IfOk result (λ h. check_head part.now h ≡ Ok tt) }
     ensures in_time { IfOk result (λ h. h.superstep ≤ part.now.plan.limit) }
-    ensures small { IfOk result (λ h. h.superstep ≤ 4096) }
+    ensures small { IfOk result (λ h. h.superstep ≤ greatest_limit) }
     ensures front { (bytes : List ℕ) → R.remaining reader.old ≡ Some bytes →
         OnOkOrMemory result (HasHead part.now bytes) }
     ensures fails { IfErr result (λ e. Fails R.remaining R.failed_calls R.sure_calls
@@ -63,7 +69,7 @@ fn read_content<R: CountedRead>(
     ensures head { IfOk result (λ h. h ≡ head_at (take HEADER_LEN text.new.items)) }
     ensures length { OnOk result (HEADER_LEN ≤ length text.new.items) }
     ensures checked { IfOk result (λ h. check_head part.now h ≡ Ok tt) }
-    ensures small { IfOk result (λ h. h.superstep ≤ 4096) }
+    ensures small { IfOk result (λ h. h.superstep ≤ greatest_limit) }
     ensures front { (bytes : List ℕ) → R.remaining reader.old ≡ Some bytes →
         OnOkOrMemory result (HasHead part.now bytes) }
     ensures fails { IfErr result (λ e. Fails R.remaining R.failed_calls R.sure_calls
@@ -90,7 +96,7 @@ fn read_text<R: CountedRead>(
     ensures checked { IfOk result (λ h. check_head part.now h ≡ Ok tt) }
     ensures sealed { OnOk result ((bytes : List ℕ) → R.remaining reader.old ≡ Some bytes →
         bytes ≡ sealed text.new.items) }
-    ensures small { IfOk result (λ h. h.superstep ≤ 4096) }
+    ensures small { IfOk result (λ h. h.superstep ≤ greatest_limit) }
     ensures front { (bytes : List ℕ) → R.remaining reader.old ≡ Some bytes →
         OnOkOrMemory result (HasHead part.now bytes) }
     ensures fails { IfErr result (λ e. Fails R.remaining R.failed_calls R.sure_calls

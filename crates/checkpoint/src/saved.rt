@@ -1,11 +1,15 @@
 //! What the bytes of a checkpoint tell of a replica.
 
-ghost use Rattle.std.specs.Prelude.{◌≡◌, ◌+◌, ◌*◌, ◌^◌, ◌≤◌, ◌<◌, ◌++◌, ◌∷◌, [], ℕ, Bool, List, length, map, drop, replicate, slice_index_or, Ok, Err, IfOk, OnOk, IsOk, IfErr, vec_capacity};
+ghost use Rattle.std.specs.Prelude.{◌≡◌, ◌+◌, ◌*◌, ◌^◌, ◌≤◌, ◌<◌, ◌++◌, ◌∷◌, [], ℕ, Bool, List};
+ghost use Rattle.std.specs.Prelude.{length, map, drop, replicate, slice_index_or, Ok, Err, IfOk};
+ghost use Rattle.std.specs.Prelude.{OnOk, IsOk, IfErr, vec_capacity};
 ghost use Rattle.std.specs.List.{All, flat_map, range_with_len};
 ghost use Rattle.ball_model.specs.Batches.{BatchValue, batch_bytes};
 ghost use Rattle.batches.specs.Reading.{GivesOrMemory, batch_at};
-ghost use Rattle.ball_model.specs.Checkpoint.{early_bytes, mark_byte, entry_bytes, vertex_bytes, table_bytes, held_bytes, without_names};
+ghost use Rattle.ball_model.specs.Checkpoint.{early_bytes, mark_byte, entry_bytes, vertex_bytes};
+ghost use Rattle.ball_model.specs.Checkpoint.{table_bytes, held_bytes, without_names};
 ghost use Rattle.ball_model.specs.Figures.{TallyValue};
+ghost use Rattle.ball_model.specs.PlanValue.{greatest_limit};
 ghost use Rattle.ball_model.specs.State.{State};
 ghost use Rattle.replica.specs.Saved.{IsKeepable, IsRebuilt};
 ghost use Rattle.replica.specs.Seen.{IsState};
@@ -16,7 +20,8 @@ ghost use Rattle.batches.specs.Kept.{field};
 ghost use Rattle.checkpoint.specs.Reading.{IsOfBody};
 ghost use Rattle.checkpoint.specs.declared.sizes.TheConstants.{HEADER_LEN};
 ghost use Rattle.checkpoint.specs.Spelling.{held_text, table_text};
-ghost use Rattle.checkpoint.specs.Told.{IsAdded, AreNone, AreTold, HasRoom, IsSmall, IfOkButMemory, AreNext, AreOf, IsOfPlan, IsHeldOf, IsUnnamed};
+ghost use Rattle.checkpoint.specs.Told.{IsAdded, AreNone, AreTold, HasRoom, IsSmall, IfOkButMemory};
+ghost use Rattle.checkpoint.specs.Told.{AreNext, AreOf, IsOfPlan, IsHeldOf, IsUnnamed};
 
 use crate::error::KeepError;
 use crate::header::{Header, u16_at};
@@ -218,7 +223,7 @@ fn add_sums<'a>(sums: &mut Vec<u128>, count: usize, bytes: &'a [u8]) -> Result<&
 
 // The sums at each superstep up to the one given, and the bytes after them.
 fn read_sums(alloc: Global, superstep: u32, bytes: &[u8]) -> Result<(Vec<u128>, &[u8]), KeepError>
-    requires { superstep ≤ 4096 }
+    requires { superstep ≤ greatest_limit }
     ensures spelled { IfOk result (λ r. bytes.now
         ≡ flat_map (to_be_bytes w128) r.0.items ++ r.1.now) }
     ensures right { (sums rest : List ℕ) → ((i : ℕ) → slice_index_or sums i 0 < 2 ^ 128) →
@@ -400,7 +405,7 @@ fn read_table<'a>(
     superstep: u32,
     bytes: &'a [u8],
 ) -> Result<(Vertices, Vec<u128>, &'a [u8]), KeepError>
-    requires { superstep ≤ 4096 }
+    requires { superstep ≤ greatest_limit }
     ensures spelled { IfOk result (λ r. bytes.now ≡ table_text r.0.marks.items
         (map value_of r.0.tallies.items) r.0.rows.rows r.1.items ++ r.2.now) }
     ensures right { (v : State) (rest : List ℕ) → IsKeepable v → v.part ≡ part.now →
@@ -453,7 +458,7 @@ pub(crate) fn saved_of(
     header: &Header,
     text: &[u8],
 ) -> Result<Saved, KeepError>
-    requires { header.now.superstep ≤ 4096 }
+    requires { header.now.superstep ≤ greatest_limit }
     ensures superstep { IfOk result (λ s. s.superstep ≡ header.now.superstep) }
     ensures bytes { OnOk result ((i : ℕ) → slice_index_or text.now i 0 < 256) }
     ensures spelled { header.now.version ≡ 2 → IfOk result (λ s. drop HEADER_LEN text.now ≡

@@ -1,11 +1,15 @@
 //! The bytes of a checkpoint, as they come from a reader.
 
-ghost use Rattle.std.specs.Prelude.{◌≡◌, ◌+◌, ◌-◌, ◌*◌, ◌^◌, ◌≤◌, ◌<◌, length, take, drop, OnOk, IfErr, IfOk, ℕ};
+ghost use Rattle.std.specs.Prelude.{◌≡◌, ◌+◌, ◌-◌, ◌*◌, ◌^◌, ◌≤◌, ◌<◌, length, take, drop, OnOk};
+ghost use Rattle.std.specs.Prelude.{IfErr, IfOk, ℕ};
 ghost use Rattle.std.specs.Int.{w16, w64, from_be_bytes};
 ghost use Rattle.std.specs.Io.KnownBytes.{Consumes, IsAtEnd};
 ghost use Rattle.sha2.specs.Sha256.{sha256};
+ghost use Rattle.ball_model.specs.PlanValue.{greatest_limit};
 ghost use Rattle.batches.specs.Kept.{field};
-ghost use Rattle.checkpoint.specs.Reading.{needs, Takes, Grows, Fails, is_batch_length, batch_form, batches_form, greatest_batch, early_form, most_early, body_form, most_after, fixed_length, seal_form};
+ghost use Rattle.checkpoint.specs.Reading.{needs, Takes, Grows, Fails, is_batch_length, batch_form};
+ghost use Rattle.checkpoint.specs.Reading.{batches_form, greatest_batch, early_form, most_early};
+ghost use Rattle.checkpoint.specs.Reading.{body_form, most_after, fixed_length, seal_form};
 
 use crate::error::KeepError;
 use crate::header::Header;
@@ -155,7 +159,7 @@ fn read_early<R: CountedRead>(
 
 // How many bytes follow the fixed fields, up to the number of early batches.
 pub(crate) fn fixed_len(part: &Part, header: &Header) -> usize
-    requires { header.now.superstep ≤ 4096 }
+    requires { header.now.superstep ≤ greatest_limit }
     ensures { result ≡ fixed_length part.now header.now }
 {
     let size = part.size() as usize;
@@ -174,7 +178,7 @@ pub(crate) fn read_body<R: CountedRead>(
     header: &Header,
     text: &mut Vec<u8>,
 ) -> Result<(), KeepError>
-    requires { header.now.superstep ≤ 4096 }
+    requires { header.now.superstep ≤ greatest_limit }
     ensures done { OnOk result (Grows R.remaining R.failed_calls R.sure_calls
         (body_form part.now header.now) (most_after part.now header.now)
         reader.old reader.new text.old.items text.new.items) }

@@ -1,11 +1,13 @@
 //! A checkpoint, written field by field.
 
-ghost use Rattle.std.specs.Prelude.{◌≡◌, ℕ, ◌<◌, ◌≤◌, ◌%◌, ◌/◌, ◌++◌, length, IfErr, IsOk, OnOk, OnErr};
+ghost use Rattle.std.specs.Prelude.{◌≡◌, ℕ, ◌<◌, ◌≤◌, ◌%◌, ◌/◌, ◌++◌, length, IfErr, IsOk, OnOk};
+ghost use Rattle.std.specs.Prelude.{OnErr};
 ghost use Rattle.std.specs.List.{flat_map, range_with_len};
 ghost use Rattle.std.specs.Int.{w128, to_be_bytes};
 ghost use Rattle.std.specs.Io.KnownBytes.{Appends};
 ghost use Rattle.ball_model.specs.Batches.{row_bytes};
-ghost use Rattle.ball_model.specs.Checkpoint.{front_bytes, vertex_bytes, table_bytes, held_bytes, early_bytes, kept_batches, checkpoint_bytes};
+ghost use Rattle.ball_model.specs.Checkpoint.{front_bytes, vertex_bytes, table_bytes, held_bytes};
+ghost use Rattle.ball_model.specs.Checkpoint.{early_bytes, kept_batches, checkpoint_bytes};
 ghost use Rattle.ball_model.specs.Streams.{AreSure, PutsFront};
 ghost use Rattle.replica.specs.Seen.{IsState};
 ghost use Rattle.checkpoint.specs.Writing.{Writes, Stops};

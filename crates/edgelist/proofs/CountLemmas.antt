@@ -20,7 +20,7 @@ use Rattle.edgelist.specs.declared.counting.CountedError.{CountedError}
 use Rattle.edgelist.specs.declared.counting.CountedError.TheVariants as refused
 use Rattle.std.proofs.Math.Bool.{or-false, or-true}
 use Rattle.std.proofs.Math.Seq.{get_or-append_seam}
-use Rattle.edgelist.proofs.BoolLemmas.{by_cases}
+use Rattle.ball_model.proofs.BoolLemmas.{by_cases}
 use Rattle.edgelist.proofs.LabelLemmas.{text_same}
 use Rattle.edgelist.proofs.NetworkLemmas.{Apart, apart-at}
 use Rattle.edgelist.proofs.RangeLemmas.{filter_range-same}

@@ -18,7 +18,7 @@ use Rattle.ball_model.proofs.MaskLemmas.{bit, mask-is, mask-bit}
 use Rattle.ball_model.specs.Masks.{has_bit}
 use Rattle.edgelist.specs.Feeding.{AreMasks}
 use Rattle.std.proofs.Math.Bool.{or-false, or-true}
-use Rattle.edgelist.proofs.BoolLemmas.{by_cases}
+use Rattle.ball_model.proofs.BoolLemmas.{by_cases}
 use Rattle.edgelist.proofs.RangeLemmas.{copies-at}
 
 -- no edges, no bits

@@ -11,7 +11,7 @@ use Rattle.edgelist.specs.Guessing.{bytes_after, word_of, IsShort, StandsAt, Tel
 use Rattle.edgelist.specs.declared.numbering.Entry.{Entry}
 use Rattle.edgelist.specs.declared.numbering.LabelWord.{LabelWord}
 use Rattle.edgelist.specs.Reading.{with_label}
-use Rattle.edgelist.proofs.BoolLemmas.{by_cases}
+use Rattle.ball_model.proofs.BoolLemmas.{by_cases}
 use Rattle.edgelist.proofs.LabelLemmas.{text_same}
 use Rattle.edgelist.proofs.RangeLemmas.{copies-at}
 

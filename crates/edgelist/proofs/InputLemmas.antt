@@ -12,7 +12,7 @@ use Rattle.ball_model.specs.Graph.{Graph, IsGraph, is_edge}
 use Rattle.ball_model.specs.Input.{distinct, labels_of, leads, network_of}
 use Rattle.edgelist.specs.Laws.{LabelsAreDistinct, LabelsAreInOrder, LabelsAreFields, EdgesAreNamed, EdgesStandOnce, DeclaringAddsNoEdge, joins, label_at, vertex_at}
 use Rattle.edgelist.specs.Links.{AllAscend, graph_of}
-use Rattle.edgelist.proofs.BoolLemmas.{by_cases}
+use Rattle.ball_model.proofs.BoolLemmas.{by_cases}
 use Rattle.edgelist.proofs.LabelLemmas.{text_same, text-flip, place-within, place-none, present}
 use Rattle.edgelist.proofs.LinksLemmas.{any_edges, edges_by, graph_of-IsGraph}
 use Rattle.edgelist.proofs.NetworkLemmas.{apart-labels, apart-at}

@@ -1,4 +1,3 @@
-pub mod BoolLemmas
 pub mod CutLemmas
 pub mod FormLemmas
 pub mod LabelLemmas

@@ -14,7 +14,7 @@ use Rattle.std.specs.Cmp.{both_ways}
 use Rattle.edgelist.specs.Edges.{AllBelow, edge_of, graph_of_edges}
 use Rattle.edgelist.specs.declared.edge.Edge.{Edge}
 use Rattle.edgelist.specs.Reading.{with_label, Link, link_in, links_in, link_of, IsReadAs, AddsEdge}
-use Rattle.edgelist.proofs.BoolLemmas.{by_cases}
+use Rattle.ball_model.proofs.BoolLemmas.{by_cases}
 use Rattle.edgelist.proofs.LabelLemmas.{text_same}
 use Rattle.edgelist.proofs.RangeLemmas.{filter_range-same}
 

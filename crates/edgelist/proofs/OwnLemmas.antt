@@ -13,7 +13,7 @@ use Rattle.edgelist.specs.Links.{AllAscend, graph_of}
 use Rattle.edgelist.proofs.LinksLemmas.{ascends-below, preds_of-graph}
 use Rattle.gapcode.specs.Lists.{AscendsFrom}
 use Rattle.edgelist.proofs.EdgeLemmas.{filter-ascends, ascends-from}
-use Rattle.edgelist.proofs.BoolLemmas.{by_cases}
+use Rattle.ball_model.proofs.BoolLemmas.{by_cases}
 use Rattle.edgelist.proofs.DigestLemmas.{edges_to}
 
 -- one number more is a vertex of the partition, or none

@@ -9,7 +9,7 @@ use Rattle.ball_model.specs.Job.{IsJob, digest_of, digest_bytes, job_bytes}
 use Rattle.ball_model.specs.RunText.{Numbers, plan_over}
 use Rattle.edgelist.specs.Planning.{bare_plan}
 use Rattle.std.proofs.lemmas.Bool.{or_parts, ltb-false}
-use Rattle.edgelist.proofs.BoolLemmas.{by_cases}
+use Rattle.ball_model.proofs.BoolLemmas.{by_cases}
 
 abbrev IsGood : PlanValue → PlanValue → Type 0
 IsGood p q = IsPlan q × (q ≡ p)

@@ -1,6 +1,8 @@
 //! Lists of the vertices that alone are counted.
 
-ghost use Rattle.std.specs.Prelude.{◌≡◌, ◌+◌, ◌^◌, ◌<◌, ◌≤◌, ℕ, List, Bool, [], ◌∷◌, ◌++◌, length, replicate, slice_index_or, if◌then◌else◌, None, OnOk, IfOk, IfErr, IfSome, IfNone, false, true};
+ghost use Rattle.std.specs.Prelude.{◌≡◌, ◌+◌, ◌^◌, ◌<◌, ◌≤◌, ℕ, List, Bool, [], ◌∷◌, ◌++◌, length};
+ghost use Rattle.std.specs.Prelude.{replicate, slice_index_or, if◌then◌else◌, None, OnOk, IfOk};
+ghost use Rattle.std.specs.Prelude.{IfErr, IfSome, IfNone, false, true};
 ghost use Rattle.std.specs.List.{IsDistinct};
 ghost use Rattle.std.specs.Str.{bytes_eq};
 ghost use Rattle.csv.specs.Records.{fields_of};
@@ -10,7 +12,8 @@ ghost use Rattle.edgelist.specs.Links.{marked_vertices};
 ghost use Rattle.edgelist.specs.Reading.{byte_of};
 ghost use Rattle.edgelist.specs.Records.{FromStart, ReadsNone, ReadsOne};
 ghost use Rattle.edgelist.specs.declared.counting.CountedError.TheVariants.{Memory};
-ghost use Rattle.edgelist.specs.Counting.{ListFaultIs, record_fault, MarksAre, MarksOne, SaysMarks, SaysRefusal};
+ghost use Rattle.edgelist.specs.Counting.{ListFaultIs, record_fault, MarksAre, MarksOne, SaysMarks};
+ghost use Rattle.edgelist.specs.Counting.{SaysRefusal};
 
 use crate::index::Index;
 use crate::labels::Labels;
@@ -71,7 +74,7 @@ fn name<'a>(row: &'a ByteRecord) -> Option<&'a [u8]>
 }
 
 // Marks the vertex that a record names, which follows `number` others.
-fn mark(
+fn mark_vertex(
     marks: &mut [bool],
     index: &Index<'_>,
     row: &ByteRecord,
@@ -130,7 +133,7 @@ fn mark_all<R: Read + Drop>(
         if !more {
             return Ok(());
         }
-        mark(marks, index, row, number)?;
+        mark_vertex(marks, index, row, number)?;
     }
     Ok(())
 }

@@ -1,6 +1,7 @@
 //! Laws of edge lists: the contract of each function is the law, and its body is empty.
 
-ghost use Rattle.edgelist.specs.Laws.{LabelsAreDistinct, LabelsAreInOrder, LabelsAreFields, EdgesAreNamed, EdgesStandOnce, DeclaringAddsNoEdge};
+ghost use Rattle.edgelist.specs.Laws.{LabelsAreDistinct, LabelsAreInOrder, LabelsAreFields};
+ghost use Rattle.edgelist.specs.Laws.{EdgesAreNamed, EdgesStandOnce, DeclaringAddsNoEdge};
 
 /// No two vertices have one label.
 pub fn labels_are_distinct()

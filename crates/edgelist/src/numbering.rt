@@ -1,9 +1,12 @@
 //! Labels that are numbered by first appearance.
 
-ghost use Rattle.std.specs.Prelude.{◌≡◌, ◌+◌, ◌*◌, ◌^◌, ◌<◌, ◌≤◌, ℕ, List, length, map, replicate, slice_index_or, [], true, false, IfOk, IfSome, IfNone, IsOk, OnOk, OnErr};
+ghost use Rattle.std.specs.Prelude.{◌≡◌, ◌+◌, ◌*◌, ◌^◌, ◌<◌, ◌≤◌, ℕ, List, length, map, replicate};
+ghost use Rattle.std.specs.Prelude.{slice_index_or, [], true, false, IfOk, IfSome, IfNone, IsOk};
+ghost use Rattle.std.specs.Prelude.{OnOk, OnErr};
 ghost use Rattle.std.specs.List.{IsDistinct};
 ghost use Rattle.std.specs.Str.{bytes_eq};
-ghost use Rattle.edgelist.specs.Guessing.{AreTold, IsShort, StandsAt, Tells, blank_entry, bytes_after, told_word, word_of};
+ghost use Rattle.edgelist.specs.Guessing.{AreTold, IsShort, StandsAt, Tells, blank_entry};
+ghost use Rattle.edgelist.specs.Guessing.{bytes_after, told_word, word_of};
 ghost use Rattle.edgelist.specs.Labels.{texts};
 ghost use Rattle.edgelist.specs.Reading.{has_label, with_label};
 
@@ -131,7 +134,7 @@ fn guess(entries: &[Entry], word: LabelWord) -> Option<usize>
 
 // The place in a group for one more entry: the first that is blank, or else that of its first
 // entry.
-fn place(entries: &[Entry], start: usize) -> usize {
+fn entry_place(entries: &[Entry], start: usize) -> usize {
     for i in start..entries.len().min(start.saturating_add(GROUP)) {
         if entries[i].high == 0 {
             return i;
@@ -145,14 +148,14 @@ fn put(entries: &mut [Entry], entry: Entry)
     ensures { (labels : List (List ℕ)) → AreTold labels entries.old → Tells labels entry
         → AreTold labels entries.new }
 {
-    let place = place(entries, group(entry.word(), entries.len()));
+    let place = entry_place(entries, group(entry.word(), entries.len()));
     if place < entries.len() {
         entries[place] = entry;
     }
 }
 
 // Puts the entries of a smaller table into theirs.
-fn put_all(entries: &mut [Entry], smaller: &[Entry])
+fn put_entries(entries: &mut [Entry], smaller: &[Entry])
     ensures { (labels : List (List ℕ)) → AreTold labels smaller.now → AreTold labels entries.old
         → AreTold labels entries.new }
 {
@@ -300,7 +303,7 @@ impl Numbering {
         let count = self.entries.len();
         if self.len() >= count {
             let mut entries = blank(alloc, count.saturating_mul(4))?;
-            put_all(&mut entries, &self.entries);
+            put_entries(&mut entries, &self.entries);
             self.entries = entries;
         }
         Ok(())

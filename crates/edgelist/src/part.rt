@@ -1,13 +1,14 @@
 //! What a partition is told of its graph.
 
-ghost use Rattle.std.specs.Prelude.{◌≡◌, ◌+◌, ◌*◌, ◌^◌, ◌<◌, ◌≤◌, ◌++◌, ◌∷◌, [], ℕ, List};
-ghost use Rattle.std.specs.Prelude.{false, length, map, slice_index, slice_index_or, IfOk, OnOk};
+ghost use Rattle.std.specs.Prelude.{◌≡◌, ◌+◌, ◌*◌, ◌^◌, ◌<◌, ◌≤◌, ◌++◌, ◌∷◌, [], ℕ, List, false};
+ghost use Rattle.std.specs.Prelude.{length, map, slice_index, slice_index_or, IfOk, OnOk};
 ghost use Rattle.std.specs.Arc.{arc_value};
 ghost use Rattle.std.specs.List.{All, sum_by};
 ghost use Rattle.gapcode.specs.Lists.{AscendsFrom};
 ghost use Rattle.ball_model.specs.Graph.{preds_of, is_counted};
 ghost use Rattle.ball_model.specs.PlanValue.{most_parts, vertices_of, part_size};
-ghost use Rattle.ball_model.specs.Job.{Job, IsPart, digest_of, feed_mask, feeds_into, part_of};
+ghost use Rattle.ball_model.specs.Job.{Job, IsPart, digest_of, feed_mask, feeds_into, job_of};
+ghost use Rattle.ball_model.specs.Job.{part_of};
 ghost use Rattle.ball_model.specs.Masks.{has_bit};
 ghost use Rattle.edgelist.specs.Feeding.{AreMasks, masks_of, width_of, edges_into};
 
@@ -200,7 +201,7 @@ fn part_lists(alloc: Global, graph: &Graph, parts: u32, p: u32) -> Result<Arc<Li
 }
 
 // Marks that an edge leads from a vertex of partition `p` into the partition of its target.
-fn mark(feeds: &mut Masks, plan: &Plan, p: u16, source: u32, target: u32)
+fn mark_edge(feeds: &mut Masks, plan: &Plan, p: u16, source: u32, target: u32)
     requires part { p < plan.now.parts }
     requires size { length (masks_of feeds.old) ≡ part_size plan.now.vertices plan.now.parts p }
     requires room { plan.now.parts ≤ width_of feeds.old }
@@ -231,12 +232,12 @@ fn mark_row(feeds: &mut Masks, plan: &Plan, p: u16, sources: Preds<'_>, target: 
     ensures room { width_of feeds.new ≡ width_of feeds.old }
 {
     for source in sources {
-        mark(feeds, plan, p, source, target);
+        mark_edge(feeds, plan, p, source, target);
     }
 }
 
 // Marks all edges of a graph.
-fn mark_all(feeds: &mut Masks, plan: &Plan, p: u16, graph: &Graph)
+fn mark_edges(feeds: &mut Masks, plan: &Plan, p: u16, graph: &Graph)
     requires part { p < plan.now.parts }
     requires size { length (masks_of feeds.old) ≡ part_size plan.now.vertices plan.now.parts p }
     requires room { plan.now.parts ≤ width_of feeds.old }
@@ -262,7 +263,7 @@ fn own_feeds(alloc: Global, graph: &Graph, plan: &Plan, p: u16) -> Result<Masks,
 {
     let bits = u32::from(plan.parts());
     let mut feeds = Masks::zeros(alloc, plan.part_size(p) as usize, bits)?;
-    mark_all(&mut feeds, plan, p, graph);
+    mark_edges(&mut feeds, plan, p, graph);
     Ok(feeds)
 }
 
@@ -290,7 +291,7 @@ impl Graph {
         requires vertices { plan.now.vertices ≡ self.now.graph.vertices }
         requires digest { plan.now.job ≡ digest_of plan.now self.now.graph }
         ensures { IfOk result (λ part. part ≡
-            part_of (record { graph = self.now.graph; plan = plan.now }) p) }
+            part_of (job_of self.now.graph plan.now) p) }
     {
         let lists = part_lists(alloc, self, u32::from(plan.parts()), u32::from(p))?;
         let feeds = own_feeds(alloc, self, plan, p)?;

@@ -1,16 +1,23 @@
 //! Reading edge lists.
 
-ghost use Rattle.std.specs.Prelude.{◌≡◌, ◌≢◌, ◌≤◌, ◌<◌, ◌+◌, ◌-◌, ◌^◌, ℕ, List, Result, true, false, Some, Ok, Err, IfSome, IfNone, OnSome, IfOk, IfErr, OnOk, OnErr, length, option_copied, slice_index_or, [], ◌∷◌, ◌++◌};
+ghost use Rattle.std.specs.Prelude.{◌≡◌, ◌≢◌, ◌≤◌, ◌<◌, ◌+◌, ◌-◌, ◌^◌, ℕ, List, Result, true};
+ghost use Rattle.std.specs.Prelude.{false, Some, Ok, Err, IfSome, IfNone, OnSome, IfOk, IfErr};
+ghost use Rattle.std.specs.Prelude.{OnOk, OnErr, length, option_copied, slice_index_or, [], ◌∷◌};
+ghost use Rattle.std.specs.Prelude.{◌++◌};
 ghost use Rattle.std.specs.Io.KnownBytes.{ReadConsumes};
 ghost use Rattle.std.specs.Io.{ReadsAtMost};
 ghost use Rattle.csv.specs.Records.{fields_of};
 ghost use Rattle.csv.specs.Reading.{is_io, error_kind};
 ghost use Rattle.ball_model.specs.PlanValue.{most_vertices};
-ghost use Rattle.ball_model.specs.Input.{Network, Refusal, IsPlain, most_records, records, has_form, network_from, input_of};
+ghost use Rattle.ball_model.specs.Input.{Network, Refusal, IsPlain, most_records, records};
+ghost use Rattle.ball_model.specs.Input.{has_form, network_from, input_of};
 ghost use Rattle.edgelist.specs.Edges.{edge_of, graph_of_edges};
 ghost use Rattle.edgelist.specs.declared.read.EdgeError.TheVariants.{Memory};
 ghost use Rattle.edgelist.specs.Records.{ForPlain, FromStart, ReadsNone, ReadsOne};
-ghost use Rattle.edgelist.specs.Reading.{byte_of, limits_of, meaning_of, meaning_within, CountsOne, IsReadBy, Refuses, edge_error, fields_with, with_label, AreWithin, AddsEdge, Exceeds, Adds, Stops, EndsAtEnd, EndsAtFault};
+ghost use Rattle.edgelist.specs.Reading.{byte_of, limits_of, meaning_of, meaning_within, CountsOne};
+ghost use Rattle.edgelist.specs.Reading.{IsReadBy, Refuses, edge_error, fields_with, with_label};
+ghost use Rattle.edgelist.specs.Reading.{AreWithin, AddsEdge, Exceeds, Adds, Stops, EndsAtEnd};
+ghost use Rattle.edgelist.specs.Reading.{EndsAtFault};
 
 use crate::edge::Edge;
 use crate::graph::Graph;
@@ -366,8 +373,8 @@ impl<'a, R: CountedRead> Read for Counted<'a, R> {
     }
 }
 
-// What is told of a graph that was read: `Read` where a call of the reader failed, and nowhere else.
-fn told(read: Result<Graph, EdgeError>, failed: bool) -> Result<Graph, EdgeError>
+// What is answered of a graph that was read: `Read` where a call of the reader failed, and nowhere else.
+fn read_answer(read: Result<Graph, EdgeError>, failed: bool) -> Result<Graph, EdgeError>
     ensures ok { IfOk result (λ g. read ≡ Ok g) }
     ensures refused { (says : Result Network Refusal) → IfErr read (Refuses says) →
         IfErr result (Refuses says) }
@@ -428,5 +435,5 @@ pub fn read_edges<R: CountedRead>(
         limits,
     );
     let failed = reader.failures() > before;
-    told(result, failed)
+    read_answer(result, failed)
 }

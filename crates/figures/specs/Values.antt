@@ -58,6 +58,6 @@ abbrev pub items_between : {A : Type 0} → ℕ → ℕ → List A → List A
 items_between start end items = take (end - start) (drop start items)
 
 -- the figures are those of the estimate, the row and the tally at place i, where a tally that is not there is d
-abbrev pub IsAt : ℕ → List (List ℕ) → List Tally → ℕ → Tally → Figures → Type 0
-IsAt e rows tallies i d figures =
+abbrev pub AreFiguresAt : ℕ → List (List ℕ) → List Tally → ℕ → Tally → Figures → Type 0
+AreFiguresAt e rows tallies i d figures =
     figures ≡ figures_of e (slice_index_or rows i []) (value_of (slice_index_or tallies i d))

@@ -1,11 +1,11 @@
 //! The figures of many vertices, in threads.
 
-ghost use Rattle.std.specs.Prelude.{◌≡◌, ◌≤◌, ◌<◌, ◌^◌, [], IfOk};
-ghost use Rattle.std.specs.Prelude.{length, map, slice_index_or};
+ghost use Rattle.std.specs.Prelude.{◌≡◌, ◌≤◌, ◌<◌, ◌^◌, [], IfOk, length, map, slice_index_or};
 ghost use Rattle.std.specs.List.{All};
 ghost use Rattle.ball_model.specs.Figures.{estimate_of};
 ghost use Rattle.figures.specs.declared.tally.Tally.{Tally};
-ghost use Rattle.figures.specs.Values.{IsAt, figures_from, items_between, raw_figures_from, value_of};
+ghost use Rattle.figures.specs.Values.{AreFiguresAt, figures_from, items_between, raw_figures_from};
+ghost use Rattle.figures.specs.Values.{value_of};
 
 use super::{Tally, closeness, estimate, lin};
 use rayon::prelude::*;
@@ -60,7 +60,7 @@ pub fn final_figures(
                 requires width { rows.now.width ≡ 2 ^ log2m }
                 requires ranks { All (λ r. r ≤ 33) (slice_index_or rows.now.rows i []) }
                 ensures { (d : Tally) →
-                    IsAt (estimate_of log2m (slice_index_or rows.entry.now.rows i []))
+                    AreFiguresAt (estimate_of log2m (slice_index_or rows.entry.now.rows i []))
                     rows.entry.now.rows tallies.entry.now i d result }
             { figures_at(estimate(log2m, rows.row(i)), rows, tallies, i) },
         )
@@ -86,7 +86,7 @@ pub fn figures_within(
             |i: usize| -> Figures
                 requires tally { i < length tallies.now }
                 requires row { i < length rows.now.rows }
-                ensures { (d : Tally) → IsAt (slice_index_or tallies.entry.now i d).last
+                ensures { (d : Tally) → AreFiguresAt (slice_index_or tallies.entry.now i d).last
                     rows.entry.now.rows tallies.entry.now i d result }
             { figures_at(tallies[i].last, rows, tallies, i) },
         )
@@ -97,7 +97,7 @@ pub fn figures_within(
 fn figures_at(estimate: u64, rows: &Rows, tallies: &[Tally], i: usize) -> Figures
     requires tally { i < length tallies.now }
     requires row { i < length rows.now.rows }
-    ensures { (d : Tally) → IsAt estimate rows.now.rows tallies.now i d result }
+    ensures { (d : Tally) → AreFiguresAt estimate rows.now.rows tallies.now i d result }
 {
     let tally = tallies[i];
     Figures {

@@ -1,6 +1,7 @@
 //! Whether last estimates are those of their rows.
 
-ghost use Rattle.std.specs.Prelude.{◌≡◌, ◌↔◌, ℕ, ◌<◌, ◌≤◌, ◌^◌, true, IsTrue, length, map, [], slice_index_or};
+ghost use Rattle.std.specs.Prelude.{◌≡◌, ◌↔◌, ℕ, ◌<◌, ◌≤◌, ◌^◌, true, IsTrue, length, map, []};
+ghost use Rattle.std.specs.Prelude.{slice_index_or};
 ghost use Rattle.std.specs.List.{All};
 ghost use Rattle.ball_model.specs.Figures.{estimate_with};
 ghost use Rattle.figures.specs.Values.{small_table, value_of};

@@ -3,7 +3,8 @@
 ghost use Rattle.std.specs.Prelude.{◌≡◌, ◌+◌, ◌-◌, ◌*◌, ◌<◌, ◌≤◌, ◌^◌, ◌%◌, length, take, IfOk, Ok};
 ghost use Rattle.std.specs.Result.{result_and};
 ghost use Rattle.gapcode.specs.Bits.{bits_of, bits_from, number_of};
-ghost use Rattle.gapcode.specs.Lists.{elements_at, list_at, lists_at, all_of, after, from_place, first_of_byte, end_at};
+ghost use Rattle.gapcode.specs.Lists.{elements_at, list_at, lists_at, all_of, after, from_place};
+ghost use Rattle.gapcode.specs.Lists.{first_of_byte, end_at};
 
 use crate::code::code_from;
 use crate::error::CodeError;

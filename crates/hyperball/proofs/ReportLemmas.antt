@@ -1,9 +1,8 @@
 -- What is reported of the sections of an input.
 use Rattle.std.proofs.Common.{◌≡◌, ◌∙◌, ℕ, Bool, List, false, true, ap, sym, subst}
 use Rattle.std.specs.Prelude.{Option, None, Some, IfSome, option_map}
-use Rattle.ball_model.specs.RunText.{AppendsReport, Settings}
+use Rattle.ball_model.specs.RunText.{AppendsReport, ArePlain, Settings}
 use Rattle.ball_model.specs.Sections.{sections_of}
-use Rattle.workers.specs.Run.{ArePlain}
 use Rattle.hyperball.specs.Options.{settings_in}
 use Rattle.hyperball.specs.Whole.{IsWhole, sections_in}
 use Rattle.hyperball.specs.Words.{Reports, listed_words}

@@ -1,5 +1,6 @@
 -- What some command lines say.
 use Rattle.std.specs.Prelude.{ℕ, List, [], ◌∷◌, true, false}
+use Rattle.ball_model.specs.PlanValue.{greatest_limit}
 use Rattle.ball_model.specs.declared.names.NodeId.{NodeId}
 use Rattle.ball_model.specs.declared.plan.Estimate.TheVariants.{Corrected, Raw}
 use Rattle.edgelist.specs.declared.read.Delimiter.TheVariants.{Comma, Space, Tab}
@@ -47,7 +48,7 @@ usual_replay_options = record {
   log2m = 8;
   seed = 0;
   parts = 1;
-  limit = 4096;
+  limit = greatest_limit;
   replicas = 1;
   estimate = Raw;
   delimiter = Tab;
@@ -84,7 +85,7 @@ usual_job = record {
   log2m = 8;
   seed = 0;
   parts = 1;
-  limit = 4096;
+  limit = greatest_limit;
   estimate = Raw;
   delimiter = Tab;
   counted = false;

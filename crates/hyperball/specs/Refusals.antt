@@ -1,11 +1,11 @@
 -- What a fault of a run says of its options and of the input.
 use Rattle.std.specs.Prelude.{◌≡◌, ◌<◌, ⊤, ℕ, Bool, List, length, Option, None, Some, IfSome, Result, MatchResult}
-use Rattle.ball_model.specs.RunText.{Settings}
+use Rattle.ball_model.specs.RunText.{ArePlain, Settings}
 use Rattle.hyperball.specs.Whole.{most_bytes, sections_in}
 use Rattle.hyperball.specs.declared.serve.RunFault.{RunFault}
 use Rattle.hyperball.specs.declared.serve.RunFault.TheVariants as fault
 use Rattle.workers.specs.Options.{settings_of}
-use Rattle.workers.specs.Run.{ArePlain, IsFaultIn, IsRefusal}
+use Rattle.workers.specs.Run.{IsFaultIn, IsRunRefusal}
 use Rattle.workers.specs.declared.bytes.RunError.{RunError}
 use Rattle.workers.specs.declared.options.RunOptions.{RunOptions}
 
@@ -15,7 +15,7 @@ pub record Refuses (s : Settings) (counted : Bool) (input : List ℕ) (e : RunEr
   pub edges : List ℕ
   pub list : Option (List ℕ)
   pub found : sections_in counted input ≡ Some (edges, list)
-  pub refused : ArePlain edges list → IsRefusal s edges list e
+  pub refused : ArePlain edges list → IsRunRefusal s edges list e
 
 -- what a fault says of the options, and of the input that a reader tells
 abbrev pub IsFault : RunOptions → Bool → Option (List ℕ) → RunFault → Type 0

@@ -3,6 +3,7 @@ use Rattle.std.specs.Prelude.{◌≡◌, ◌≢◌, ⊤, ◌⊎◌, ◌<◌, ℕ
 use Rattle.std.specs.Prelude.{[], option_map, Result, Ok, Err, MatchResult, codes}
 use Rattle.std.specs.Io.KnownBytes.{Keeps}
 use Rattle.clap.specs.Words.{Row, Text, subcommand_of}
+use Rattle.ball_model.specs.RunText.{ArePlain}
 use Rattle.ball_model.specs.Sections.{sections_of}
 use Rattle.ball_model.specs.Streams.{Rises}
 use Rattle.ball_model.specs.WorldText.{AppendsReplay, HasCommands}
@@ -17,7 +18,7 @@ use Rattle.hyperball.specs.declared.replaying.ReplayFault.TheVariants as fault
 use Rattle.hyperball.specs.declared.words.RunWords.{RunWords}
 use Rattle.hyperball.specs.declared.words.Wish.{Wish}
 use Rattle.hyperball.specs.declared.words.Wish.TheVariants as wish
-use Rattle.world.specs.Replay.{ArePlain, BeginsReplay, Fails, replay_of}
+use Rattle.world.specs.Replay.{BeginsReplay, Fails, replay_of}
 use Rattle.world.specs.declared.replay.ReplayError.{ReplayError}
 use Rattle.world.specs.declared.replay.ReplayError.TheVariants as unanswered
 

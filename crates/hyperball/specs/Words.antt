@@ -10,7 +10,8 @@ use Rattle.clap.specs.declared.error.Error.{Error}
 use Rattle.clap.specs.declared.parser.matches.ArgMatches.{ArgMatches}
 use Rattle.clap.specs.declared.error.kind.ErrorKind.{ErrorKind}
 use Rattle.clap.specs.declared.error.kind.ErrorKind.TheVariants as kind
-use Rattle.ball_model.specs.RunText.{AppendsReport}
+use Rattle.ball_model.specs.PlanValue.{greatest_limit}
+use Rattle.ball_model.specs.RunText.{AppendsReport, ArePlain}
 use Rattle.ball_model.specs.declared.plan.Estimate.{Estimate}
 use Rattle.ball_model.specs.declared.plan.Estimate.TheVariants.{Raw, Corrected}
 use Rattle.edgelist.specs.declared.read.Delimiter.{Delimiter}
@@ -26,7 +27,6 @@ use Rattle.hyperball.specs.declared.words.WordsError.TheVariants as words
 use Rattle.hyperball.specs.CommandLine.{Parsers, TakeNames, hyperball_app}
 use Rattle.hyperball.specs.Options.{settings_in}
 use Rattle.hyperball.specs.Orders.{AreOrders}
-use Rattle.workers.specs.Run.{ArePlain}
 use Rattle.hyperball.specs.Whole.{sections_in}
 
 -- the words of a command line as texts
@@ -39,7 +39,7 @@ usual_options = record {
   log2m = 8;
   seed = 0;
   parts = 1;
-  limit = 4096;
+  limit = greatest_limit;
   estimate = Raw;
   delimiter = Tab;
   replicas = 1;

@@ -3,8 +3,7 @@
 ghost use Rattle.std.specs.Prelude.{◌≡◌, ◌<◌, ◌^◌, IfOk, List, MatchResult, decimal, ℕ};
 ghost use Rattle.ball_model.specs.WorldText.{node_word};
 ghost use Rattle.ball_model.specs.declared.names.NodeId.{NodeId as Node};
-ghost use Rattle.hyperball.specs.Orders.{AreOrders, IsNode, IsOrder, Reads, is_plain};
-ghost use Rattle.hyperball.specs.Orders.{order_text};
+ghost use Rattle.hyperball.specs.Orders.{AreOrders, IsNode, IsOrder, Reads, is_plain, order_text};
 
 use ball_model::NodeId;
 use std::alloc::Global;

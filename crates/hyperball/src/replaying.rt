@@ -2,13 +2,13 @@
 
 ghost use Rattle.std.specs.Prelude.{◌≡◌, ◌≢◌, Err, IfErr, IfOk, None, Ok, OnOk, true};
 ghost use Rattle.std.specs.Io.KnownBytes.{Keeps};
+ghost use Rattle.ball_model.specs.RunText.{list_in};
 ghost use Rattle.ball_model.specs.Streams.{Rises, TakesAtMost};
 ghost use Rattle.hyperball.specs.Replaying.{Answers, FailsOver, FailsReplay, Leaves, RefusesLack};
 ghost use Rattle.hyperball.specs.Replaying.{RefusesLong, ServesReplay, parts_in};
 ghost use Rattle.hyperball.specs.Whole.{IsLong, ReadsFew, most_bytes};
 ghost use Rattle.hyperball.specs.declared.replaying.ReplayFault.{ReplayFault as Fault};
 ghost use Rattle.hyperball.specs.declared.whole.WholeError.{WholeError as NoInput};
-ghost use Rattle.world.specs.Replay.{list_in};
 ghost use Rattle.world.specs.declared.replay.ReplayError.{ReplayError as NoAnswers};
 
 use crate::progress::TellingWatch;

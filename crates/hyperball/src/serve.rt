@@ -1,7 +1,7 @@
 //! From words and bytes to bytes and a status.
 
-ghost use Rattle.std.specs.Prelude.{◌≡◌, ◌≢◌, ◌≤◌, ◌⊎◌, ◌∷◌, [], List, false, true};
-ghost use Rattle.std.specs.Prelude.{Err, IfErr, IfSome, None, OnErr, OnOk, Some};
+ghost use Rattle.std.specs.Prelude.{◌≡◌, ◌≢◌, ◌≤◌, ◌⊎◌, ◌∷◌, [], List, false, true, Err, IfErr};
+ghost use Rattle.std.specs.Prelude.{IfSome, None, OnErr, OnOk, Some};
 ghost use Rattle.std.specs.Io.KnownBytes.{Appends, Keeps};
 ghost use Rattle.clap.specs.Words.{kind_of};
 ghost use Rattle.clap.specs.declared.error.kind.ErrorKind.TheVariants as kind;
@@ -14,11 +14,12 @@ ghost use Rattle.edgelist.specs.declared.read.EdgeError.TheVariants as edge_faul
 ghost use Rattle.hyperball.specs.Whole.{IsLong, ReadsFew, most_bytes};
 ghost use Rattle.hyperball.specs.Options.{options_of, settings_in};
 ghost use Rattle.hyperball.specs.Refusals.{IsFault, RefusesLongRun};
-ghost use Rattle.hyperball.specs.Replaying.{BeginsSome, BeginsToServe, IsReplay, SaysRun, ServesReplay};
+ghost use Rattle.hyperball.specs.Replaying.{BeginsSome, BeginsToServe, IsReplay, SaysRun};
+ghost use Rattle.hyperball.specs.Replaying.{ServesReplay};
 ghost use Rattle.hyperball.specs.declared.replay_words.ReplayWords.{ReplayWords as Replayed};
 ghost use Rattle.hyperball.specs.Words.{AreMistakes, AsksProgress, FailsFor, HasFaults, HasOrders};
-ghost use Rattle.hyperball.specs.Words.{IsMistake, IsRun};
-ghost use Rattle.hyperball.specs.Words.{Reports, SaysProgress, Serves, listed_words, texts_of};
+ghost use Rattle.hyperball.specs.Words.{IsMistake, IsRun, Reports, SaysProgress, Serves};
+ghost use Rattle.hyperball.specs.Words.{listed_words, texts_of};
 ghost use Rattle.hyperball.specs.Nodes.{AsksGather, AsksNode, IsGather, IsNode};
 ghost use Rattle.hyperball.specs.declared.node_words.GatherWords.{GatherWords as Gathered};
 ghost use Rattle.hyperball.specs.declared.node_words.NodeWords.{NodeWords as Noded};
@@ -41,7 +42,7 @@ use crate::replay_words::ReplayWords;
 use crate::replaying::replay_by;
 use crate::whole::{WholeError, read_whole, sections};
 use crate::words::{Said, Wish, WordsError, read_words};
-use ball_model::{CountedRead, CountedWrite, CountingReader, put_all};
+use ball_model::{CountedRead, CountedWrite, put_all};
 use clap::error::ErrorKind;
 use std::alloc::{AllocGlobal, Global};
 use std::fmt::Display;
@@ -53,6 +54,7 @@ use std::thread::Threads;
 use std::time::Clock;
 use thiserror::Error;
 use workers::{Gate, RunError, RunOptions};
+use world::bytes::Bytes;
 
 /// The status of a run that wrote its report, or of help that was asked for.
 const DONE: u8 = 0;
@@ -232,13 +234,14 @@ fn run_sections<H: AllocGlobal + Threads + Wait + Sync, W: CountedWrite, G: Gate
     ensures gate { result ≢ Err RunFault.Gate }
     ensures random { result ≢ Err RunFault.Random }
     ensures input { (f : NoInput) → result ≢ Err (RunFault.Input f) }
+    ensures edges { result ≢ Err (RunFault.Run (RunError.Edges edge_fault.Read)) }
     ensures kept { OnErr result (
         KeptOrFailed W.contents W.failed_calls writer.old writer.new) }
 {
     let Some((edges, list)) = sections(input) else {
         return Err(RunFault::NoList);
     };
-    let mut edges = CountingReader::new(edges);
+    let mut edges = Bytes::new(edges);
     workers::run(rt, state, &mut edges, Some(list), writer, options, gate)?;
     Ok(())
 }
@@ -273,6 +276,7 @@ fn run_listed<
         result ≡ Err (RunFault.Input WholeError.Read) }
     ensures sure { R.sure_calls reader.old ≡ None →
         result ≢ Err (RunFault.Input WholeError.Read) }
+    ensures edges { result ≢ Err (RunFault.Run (RunError.Edges edge_fault.Read)) }
     ensures few { ReadsFew (R.remaining reader.old) (R.remaining reader.new) }
     ensures kept { OnErr result (
         KeptOrFailed W.contents W.failed_calls writer.old writer.new) }
@@ -320,6 +324,8 @@ fn run_by<
     ensures edges_failed { counted ≡ false →
         CountsOne (R.failed_calls reader.old) (R.failed_calls reader.new) →
         result ≡ Err (RunFault.Run (RunError.Edges edge_fault.Read)) }
+    ensures edges_whole { counted ≡ true →
+        result ≢ Err (RunFault.Run (RunError.Edges edge_fault.Read)) }
     ensures few { counted ≡ true → ReadsFew (R.remaining reader.old) (R.remaining reader.new) }
     ensures kept { OnErr result (
         KeptOrFailed W.contents W.failed_calls writer.old writer.new) }
@@ -367,6 +373,8 @@ fn run<
     ensures edges_failed { said.words.counted ≡ false →
         CountsOne (R.failed_calls reader.old) (R.failed_calls reader.new) →
         result ≡ Err (RunFault.Run (RunError.Edges edge_fault.Read)) }
+    ensures edges_whole { said.words.counted ≡ true →
+        result ≢ Err (RunFault.Run (RunError.Edges edge_fault.Read)) }
     ensures few { said.words.counted ≡ true →
         ReadsFew (R.remaining reader.old) (R.remaining reader.new) }
     ensures kept { OnErr result (

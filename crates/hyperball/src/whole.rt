@@ -1,7 +1,7 @@
 //! Inputs that are read whole, and cut into sections by a line of exactly `%%`.
 
-ghost use Rattle.std.specs.Prelude.{◌≡◌, ◌≢◌, ◌<◌, ◌≤◌, ◌+◌, ◌++◌, if◌then◌else◌, [], length};
-ghost use Rattle.std.specs.Prelude.{Err, IfErr, IfOk, OnOk, None, option_map};
+ghost use Rattle.std.specs.Prelude.{◌≡◌, ◌≢◌, ◌<◌, ◌≤◌, ◌+◌, ◌++◌, if◌then◌else◌, [], length, Err};
+ghost use Rattle.std.specs.Prelude.{IfErr, IfOk, OnOk, None, option_map};
 ghost use Rattle.ball_model.specs.Streams.{Rises, TakesAtMost};
 ghost use Rattle.ball_model.specs.Sections.{after_line, after_mark, sections_of};
 ghost use Rattle.hyperball.specs.Whole.{IsLong, IsWhole, ReadsFew, most_bytes};

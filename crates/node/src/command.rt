@@ -3,7 +3,8 @@
 ghost use Rattle.std.specs.Prelude.{◌≡◌, min, option_map};
 ghost use Rattle.ball_model.specs.Input.{fields};
 ghost use Rattle.ball_model.specs.WorldText.{value_from};
-ghost use Rattle.node.specs.NodeText.{body_length, command_in, lone_command, size_in, sized_command};
+ghost use Rattle.node.specs.NodeText.{body_length, command_in, lone_command, size_in};
+ghost use Rattle.node.specs.NodeText.{sized_command};
 ghost use Rattle.node.specs.Commands.{most_size};
 
 use itoa::Buffer;

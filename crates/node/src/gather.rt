@@ -1,15 +1,16 @@
 //! The report of the checkpoints of all partitions.
 
-ghost use Rattle.std.specs.Prelude.{◌≡◌, ◌≢◌, ℕ, ◌+◌, ◌<◌, ◌≤◌, length, List, ◌++◌, ◌∷◌, [], Option, Some};
-ghost use Rattle.std.specs.Prelude.{Err, IfErr, IfOk, OnErr, OnOk};
+ghost use Rattle.std.specs.Prelude.{◌≡◌, ◌≢◌, ℕ, ◌+◌, ◌<◌, ◌≤◌, length, List, ◌++◌, ◌∷◌, []};
+ghost use Rattle.std.specs.Prelude.{Option, Some, Err, IfErr, IfOk, OnErr, OnOk};
 ghost use Rattle.std.specs.Io.KnownBytes.{Consumes, IsAtEnd, Keeps};
 ghost use Rattle.ball_model.specs.Job.{Job, IsJob, job_of, part_of};
 ghost use Rattle.ball_model.specs.State.{State};
 ghost use Rattle.ball_model.specs.Streams.{Rises};
 ghost use Rattle.checkpoint.specs.Reading.{most_bytes};
-ghost use Rattle.node.specs.Gathering.{Gathers, GathersJob, ReadsAll, ReadsOne, part_line, part_text};
-ghost use Rattle.node.specs.NoReport.{HasNoReport, IsNoReplica, IsNoReport, WritesFront, WritesFrontOfJob};
-ghost use Rattle.node.specs.NoReport.{IsUnwritten, part_length, told_kept};
+ghost use Rattle.node.specs.Gathering.{Gathers, GathersJob, ReadsAll, ReadsOne, part_line};
+ghost use Rattle.node.specs.Gathering.{part_text};
+ghost use Rattle.node.specs.NoReport.{HasNoReport, IsNoReplica, IsNoReport, WritesFront};
+ghost use Rattle.node.specs.NoReport.{WritesFrontOfJob, IsUnwritten, part_length, told_kept};
 ghost use Rattle.node.specs.Job.{settings_in};
 ghost use Rattle.node.specs.declared.error.JobError.TheVariants as no_job;
 
@@ -109,7 +110,7 @@ fn read_bytes<R: CountedRead>(
 }
 
 // What a refusal of the checkpoint of partition `p` is told as.
-fn told(p: u16, error: KeepError) -> GatherError
+fn checkpoint_fault(p: u16, error: KeepError) -> GatherError
     ensures told { result ≡ told_kept p error }
     ensures read { result ≢ GatherError.Read }
 {
@@ -143,7 +144,7 @@ fn read_replica<R: CountedRead>(
     read_bytes(reader, &part, &mut bytes)?;
     match read_back(alloc, part, &bytes) {
         Ok(replica) => Ok(replica),
-        Err(error) => Err(told(p, error)),
+        Err(error) => Err(checkpoint_fault(p, error)),
     }
 }
 

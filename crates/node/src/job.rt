@@ -1,6 +1,7 @@
 //! A job, read of an input up to a mark.
 
-ghost use Rattle.std.specs.Prelude.{◌≡◌, ◌≢◌, ◌<◌, ◌≤◌, [], Err, IfErr, IfOk, IsErr, OnOk, length, true};
+ghost use Rattle.std.specs.Prelude.{◌≡◌, ◌≢◌, ◌<◌, ◌≤◌, [], Err, IfErr, IfOk, IsErr, OnOk, length};
+ghost use Rattle.std.specs.Prelude.{true};
 ghost use Rattle.std.specs.Arc.{arc_value};
 ghost use Rattle.ball_model.specs.Job.{IsJob, job_of, part_of};
 ghost use Rattle.ball_model.specs.PlanValue.{plan_of};
@@ -8,7 +9,8 @@ ghost use Rattle.ball_model.specs.RunText.{network_in, plan_over};
 ghost use Rattle.ball_model.specs.Streams.{Rises};
 ghost use Rattle.edgelist.specs.Given.{IsGiven};
 ghost use Rattle.edgelist.specs.Reading.{meaning_of};
-ghost use Rattle.node.specs.Job.{CountsSome, GivesEdges, IsJobRead, SaysNetwork, numbers_in, settings_in};
+ghost use Rattle.node.specs.Job.{CountsSome, GivesEdges, IsJobRead, SaysNetwork, numbers_in};
+ghost use Rattle.node.specs.Job.{settings_in};
 ghost use Rattle.node.specs.NoJob.{IsNoJob, IsNoNetwork, IsUncounted, IsUnlisted};
 ghost use Rattle.node.specs.Section.{ReadsSection};
 
@@ -78,7 +80,7 @@ fn give_section<R: CountedRead>(
 }
 
 // The graph that a section says, which ends at a mark.
-fn read_graph<R: CountedRead>(
+fn read_edge_section<R: CountedRead>(
     alloc: Global,
     state: RandomState,
     options: &JobOptions,
@@ -209,7 +211,7 @@ pub fn read_job<R: CountedRead>(
     ensures counted { result ≢ Err JobError.Read →
         R.failed_calls reader.new ≡ R.failed_calls reader.old }
 {
-    let mut graph = read_graph(alloc, state, options, reader)?;
+    let mut graph = read_edge_section(alloc, state, options, reader)?;
     count_listed(alloc, &mut graph, options, reader)?;
     let plan = plan_for(&graph, options)?;
     Ok((graph, plan))

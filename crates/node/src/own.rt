@@ -1,12 +1,13 @@
 //! The lines of one partition's vertices, as a report has them.
 
-ghost use Rattle.std.specs.Prelude.{◌≡◌, ◌≢◌, ℕ, ◌+◌, ◌*◌, ◌<◌, ◌≤◌, ◌%◌, Err, IfOk, OnOk, length};
+ghost use Rattle.std.specs.Prelude.{◌≡◌, ◌≢◌, ℕ, ◌+◌, ◌*◌, ◌<◌, ◌≤◌, ◌%◌, ◌^◌, Err, IfOk, OnOk};
+ghost use Rattle.std.specs.Prelude.{length};
 ghost use Rattle.std.specs.Io.KnownBytes.{Appends};
 ghost use Rattle.ball_model.specs.Figures.{empty_of};
 ghost use Rattle.ball_model.specs.Held.{HasHolding};
 ghost use Rattle.ball_model.specs.Job.{Job};
 ghost use Rattle.ball_model.specs.Join.{Holding};
-ghost use Rattle.ball_model.specs.PlanValue.{mixing_of, part_size};
+ghost use Rattle.ball_model.specs.PlanValue.{greatest_log2m, mixing_of, part_size};
 ghost use Rattle.ball_model.specs.Report.{vertex_text};
 ghost use Rattle.ball_model.specs.Streams.{Rises};
 ghost use Rattle.node.specs.NodeText.{figures_text};
@@ -22,7 +23,7 @@ use world::tell::{TellError, write_lines};
 
 // How many registers of a row are 0.
 fn empty_count(row: &[u8]) -> u32
-    requires { length row.now ≤ 1024 }
+    requires { length row.now ≤ 2 ^ greatest_log2m }
     ensures { result ≡ empty_of row.now }
 {
     row.iter().filter(|register| **register == 0).count() as u32

@@ -1,7 +1,8 @@
 //! Commands, one after the other, and their answers.
 
-ghost use Rattle.std.specs.Prelude.{◌≡◌, ◌≢◌, ℕ, ◌<◌, ◌≤◌, Bool, Option, List, ◌++◌, ◌∷◌, [], true, false, length};
-ghost use Rattle.std.specs.Prelude.{◌⊎◌, Err, IfErr, IfNone, IfOk, IfSome, Ok, OnOk, Some};
+ghost use Rattle.std.specs.Prelude.{◌≡◌, ◌≢◌, ℕ, ◌<◌, ◌≤◌, Bool, Option, List, ◌++◌, ◌∷◌, [], true};
+ghost use Rattle.std.specs.Prelude.{false, length, ◌⊎◌, Err, IfErr, IfNone, IfOk, IfSome, Ok, OnOk};
+ghost use Rattle.std.specs.Prelude.{Some};
 ghost use Rattle.std.specs.Io.KnownBytes.{Appends, Consumes, IsAtEnd, Keeps};
 ghost use Rattle.ball_model.specs.Input.{Network, fields};
 ghost use Rattle.ball_model.specs.Job.{IsJob, job_of};
@@ -12,8 +13,8 @@ ghost use Rattle.ball_model.specs.WorldText.{refusal_line};
 ghost use Rattle.node.specs.NodeText.{body_length, command_in, sent_text};
 ghost use Rattle.node.specs.Job.{IsJobRead, settings_in};
 ghost use Rattle.node.specs.NoJob.{HasNoNode, IsNoStart};
-ghost use Rattle.node.specs.Serving.{IsNoRequest, IsOfMachine, ReadsRequest, Serves, ServesNode, ServesNone, ServesOne};
-ghost use Rattle.node.specs.Serving.{Steps, Stops, StopsNode};
+ghost use Rattle.node.specs.Serving.{IsNoRequest, IsOfMachine, ReadsRequest, Serves, ServesNode};
+ghost use Rattle.node.specs.Serving.{ServesNone, ServesOne, Steps, Stops, StopsNode};
 ghost use Rattle.node.specs.declared.error.JobError.{JobError as NoJob};
 ghost use Rattle.node.specs.declared.error.ServeError.{ServeError as Fault};
 ghost use Rattle.node.specs.Stream.{CutsBody, HasNoEnd, most_line};

@@ -1,24 +1,26 @@
 //! A node's replica, and what it makes of commands.
 
-ghost use Rattle.std.specs.Prelude.{◌≡◌, ◌≢◌, ℕ, ◌<◌, [], Err, IfOk, IfErr, IsErr, IsOk, OnErr, OnOk, Ok, false};
+ghost use Rattle.std.specs.Prelude.{◌≡◌, ◌≢◌, ℕ, ◌<◌, [], Err, IfOk, IfErr, IsErr, IsOk, OnErr};
+ghost use Rattle.std.specs.Prelude.{OnOk, Ok, false};
 ghost use Rattle.std.specs.Arc.{arc_value};
 ghost use Rattle.ball_model.specs.declared.names.BatchName.{BatchName as Name};
 ghost use Rattle.ball_model.specs.declared.world.Answer.TheVariants as answer;
-ghost use Rattle.ball_model.specs.Batches.{true_batch};
-ghost use Rattle.ball_model.specs.Held.{IsName, held_after, held_close_answer, held_take_answer, start_holding};
+ghost use Rattle.ball_model.specs.Batches.{true_batch, BatchValue};
+ghost use Rattle.ball_model.specs.Held.{IsName, held_after, held_close_answer, held_take_answer};
+ghost use Rattle.ball_model.specs.Held.{start_holding};
 ghost use Rattle.ball_model.specs.Job.{Job, IsJob, part_of};
 ghost use Rattle.ball_model.specs.Join.{Holding, join_of};
 ghost use Rattle.ball_model.specs.Steps.{Take, Close};
 ghost use Rattle.ball_model.specs.World.{closed_answer, taken_answer};
 ghost use Rattle.batches.specs.Reading.{batch_at};
-ghost use Rattle.ball_model.specs.Batches.{BatchValue};
 ghost use Rattle.ball_model.specs.Content.{is_new};
 ghost use Rattle.checkpoint.specs.Reading.{IsSpelling};
 ghost use Rattle.replica.specs.Change.{take_answer};
 ghost use Rattle.replica.specs.Saved.{IsKeepable};
 ghost use Rattle.world.specs.Shows.{Has};
 ghost use Rattle.node.specs.NodeText.{IsDelivered, IsGivenBack};
-ghost use Rattle.node.specs.Refusals.{IsAnswered, IsCheckpoint, IsNoCheckpoint, SaysOfBatch, SaysOfCheckpoint};
+ghost use Rattle.node.specs.Refusals.{IsAnswered, IsCheckpoint, IsNoCheckpoint, SaysOfBatch};
+ghost use Rattle.node.specs.Refusals.{SaysOfCheckpoint};
 ghost use Rattle.node.specs.Turns.{GivesOrWants, Holds, IsBrought, SaysMerged, TurnsTo};
 ghost use Rattle.node.specs.declared.session.Reply.TheVariants as reply;
 

@@ -11,7 +11,7 @@ use Rattle.ball_model.specs.Figures.{fixed6_of}
 use Rattle.ball_model.specs.Streams.{PutsFront}
 use Rattle.ball_model.specs.Report.{end_line, field_text, line_text, more_text}
 use Rattle.report.specs.Parts.{figures_at, figures_line, head_text, vertices_text}
-use Rattle.report.proofs.TextLemmas.{range_split}
+use Rattle.replica.proofs.CountingLemmas.{range_split}
 
 -- an error leaves this
 pub on_err : {T E P : Type 0} (r : Result T E) → P → OnErr r P

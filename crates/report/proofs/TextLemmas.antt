@@ -1,19 +1,9 @@
 -- Lines, one after another.
-use Rattle.std.proofs.Common.{◌≡◌, ℕ, zero, suc, ◌+◌, List, [], ◌∷◌, ◌++◌, refl, ap, arith, ◌∙◌, append_assoc}
+use Rattle.std.proofs.Common.{◌≡◌, ℕ, ◌+◌, List, [], ◌∷◌, ◌++◌, ap, ◌∙◌, append_assoc}
 use Rattle.std.specs.List.{flat_map, range_with_len}
 use Rattle.std.proofs.lemmas.List.{append-nil}
 use Rattle.std.proofs.lemmas.Grind.{flat_map-append}
-
--- numbers from a on, up to and from a number between
-pub range_split : (a n k : ℕ) → range_with_len a (n + k) ≡ range_with_len a n ++ range_with_len (a + n) k
-range_split a zero k =
-    let none : zero + k ≡ k = omega arith in
-    let here : a + zero ≡ a = omega arith in
-    rw (none, here) refl
-range_split a (suc n) k =
-    let count : suc n + k ≡ suc (n + k) = omega arith in
-    let at : a + suc n ≡ a + 1 + n = omega arith in
-    rw (count, at) (ap (λ (rest : List ℕ). a ∷ rest) (range_split (a + 1) n k))
+use Rattle.replica.proofs.CountingLemmas.{range_split}
 
 -- more lines
 pub lines_more : (f : ℕ → List ℕ) (a n k : ℕ) (start text lines : List ℕ) → text ≡ start ++ flat_map f (range_with_len a n) → lines ≡ flat_map f (range_with_len (a + n) k) →

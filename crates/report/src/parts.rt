@@ -1,7 +1,7 @@
 //! The parts of a report: totals and figures of all partitions, and their text.
 
-ghost use Rattle.std.specs.Prelude.{◌≡◌, ℕ, ◌≤◌, ◌<◌, ◌+◌, ◌-◌, ◌++◌, ◌^◌, IfOk, OnOk};
-ghost use Rattle.std.specs.Prelude.{length, map, slice_index, slice_index_or, []};
+ghost use Rattle.std.specs.Prelude.{◌≡◌, ℕ, ◌≤◌, ◌<◌, ◌+◌, ◌-◌, ◌++◌, ◌^◌, IfOk, OnOk, length, map};
+ghost use Rattle.std.specs.Prelude.{slice_index, slice_index_or, []};
 ghost use Rattle.std.specs.List.{All, flat_map, range_with_len};
 ghost use Rattle.ball_model.specs.Report.{superstep_line};
 ghost use Rattle.report.specs.Parts.{HasPlace, HasSize, figures_among, figures_at, head_text};

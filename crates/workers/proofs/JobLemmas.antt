@@ -10,10 +10,10 @@ use Rattle.workers.specs.declared.ends.Faults.{Faults}
 use Rattle.workers.specs.declared.node.NodeEnd.{NodeEnd}
 use Rattle.workers.specs.declared.node.NodeError.{NodeError}
 use Rattle.workers.specs.declared.options.RunOptions.{RunOptions}
-use Rattle.workers.specs.declared.told.Told.{Told}
+use Rattle.workers.specs.declared.assignment.Assignment.{Assignment}
 use Rattle.workers.specs.Node.{IfDone, IsDone}
 use Rattle.workers.specs.Options.{order_for, orders_for}
-use Rattle.workers.specs.Job.{AreDone, AreEnds, AreNoted, EachAt, HasSplit, IsPartEnd, IsPartStarted, IsTold, KeepsItsOrders}
+use Rattle.workers.specs.Job.{AreDone, AreEnds, AreNoted, EachAt, HasSplit, IsAssigned, IsPartEnd, IsPartStarted, KeepsItsOrders}
 
 -- ---- lists whose elements have what their places say
 pub each_push : {A : Type 0} (has : ℕ → A → Type 0) (k : ℕ) (xs : List A) (x : A) → EachAt has k xs → has (k + length xs) x → EachAt has k (xs ++ x ∷ [])
@@ -26,36 +26,36 @@ each_is has k (y ∷ ys) zero d h lt = subst (λ (n : ℕ). has n y) (let e : k 
 each_is has k (y ∷ ys) (suc i) d h lt = subst (λ (n : ℕ). has n (slice_index_or ys i d)) (let e : k + 1 + i ≡ k + suc i = omega arith in e) (each_is has (k + 1) ys i d h.1 (omega (arith, lt)))
 
 -- ---- threads that are joined
-pub record Joining {H : Type 0} (told : H → Told) (j : Job) (o : RunOptions) (p : ℕ) (rest : List (Option H)) (ends : List (Result NodeEnd NodeError)) : Type 0 where
+pub record Joining {H : Type 0} (assigned : H → Assignment) (j : Job) (o : RunOptions) (p : ℕ) (rest : List (Option H)) (ends : List (Result NodeEnd NodeError)) : Type 0 where
   pub count : length ends + length rest ≡ o.replicas
-  pub left : EachAt (λ k child. IfSome child (λ h. IsTold j o p k (told h))) (length ends) rest
+  pub left : EachAt (λ k child. IfSome child (λ h. IsAssigned j o p k (assigned h))) (length ends) rest
   pub given : EachAt (λ k. KeepsItsOrders j p (orders_for o p k)) 0 ends
 
-pub joining_more : {H : Type 0} (told : H → Told) (j : Job) (o : RunOptions) (p : ℕ) (child : Option H) (rest : List (Option H)) (ends : List (Result NodeEnd NodeError)) (r : Result NodeEnd NodeError) → Joining told j o p (child ∷ rest) ends →
-    ((k : ℕ) → IfSome child (λ h. IsTold j o p k (told h)) → KeepsItsOrders j p (orders_for o p k) r) → Joining told j o p rest (ends ++ r ∷ [])
-joining_more told j o p child rest ends r h end =
+pub joining_more : {H : Type 0} (assigned : H → Assignment) (j : Job) (o : RunOptions) (p : ℕ) (child : Option H) (rest : List (Option H)) (ends : List (Result NodeEnd NodeError)) (r : Result NodeEnd NodeError) → Joining assigned j o p (child ∷ rest) ends →
+    ((k : ℕ) → IfSome child (λ h. IsAssigned j o p k (assigned h)) → KeepsItsOrders j p (orders_for o p k) r) → Joining assigned j o p rest (ends ++ r ∷ [])
+joining_more assigned j o p child rest ends r h end =
     let more : length (ends ++ r ∷ []) ≡ length ends + 1 = length-append ends (r ∷ []) in
     record {
       count = omega (arith, more, h.count);
-      left = subst (λ (n : ℕ). EachAt (λ k child. IfSome child (λ h. IsTold j o p k (told h))) n rest) (sym more) h.left.1;
+      left = subst (λ (n : ℕ). EachAt (λ k child. IfSome child (λ h. IsAssigned j o p k (assigned h))) n rest) (sym more) h.left.1;
       given = each_push (λ k. KeepsItsOrders j p (orders_for o p k)) 0 ends r h.given (subst (λ (k : ℕ). KeepsItsOrders j p (orders_for o p k) r) (let e : length ends ≡ 0 + length ends = omega arith in e) (end (length ends) h.left.0));
     }
 
-pub joined : {H : Type 0} (told : H → Told) (j : Job) (o : RunOptions) (p : ℕ) (ends : List (Result NodeEnd NodeError)) → Joining told j o p [] ends → IsPartEnd j o p ends
-joined told j o p ends h = record { count = (let e : length ends ≡ o.replicas = omega (arith, h.count) in e); each = h.given }
+pub joined : {H : Type 0} (assigned : H → Assignment) (j : Job) (o : RunOptions) (p : ℕ) (ends : List (Result NodeEnd NodeError)) → Joining assigned j o p [] ends → IsPartEnd j o p ends
+joined assigned j o p ends h = record { count = (let e : length ends ≡ o.replicas = omega (arith, h.count) in e); each = h.given }
 
-pub record JoiningAll {H V W : Type 0} (told : H → Told) (items : V → List (Option H)) (own : W → List (Result NodeEnd NodeError)) (j : Job) (o : RunOptions) (rest : List V) (ends : List W) : Type 0 where
+pub record JoiningAll {H V W : Type 0} (assigned : H → Assignment) (items : V → List (Option H)) (own : W → List (Result NodeEnd NodeError)) (j : Job) (o : RunOptions) (rest : List V) (ends : List W) : Type 0 where
   pub count : length ends + length rest ≡ j.plan.parts
-  pub left : EachAt (λ p v. IsPartStarted told j o p (items v)) (length ends) rest
+  pub left : EachAt (λ p v. IsPartStarted assigned j o p (items v)) (length ends) rest
   pub given : EachAt (λ p w. IsPartEnd j o p (own w)) 0 ends
 
-pub all_more : {H V W : Type 0} (told : H → Told) (items : V → List (Option H)) (own : W → List (Result NodeEnd NodeError)) (j : Job) (o : RunOptions) (v : V) (rest : List V) (ends : List W) (w : W) → JoiningAll told items own j o (v ∷ rest) ends →
-    ((p : ℕ) → IsPartStarted told j o p (items v) → IsPartEnd j o p (own w)) → JoiningAll told items own j o rest (ends ++ w ∷ [])
-all_more told items own j o v rest ends w h end =
+pub all_more : {H V W : Type 0} (assigned : H → Assignment) (items : V → List (Option H)) (own : W → List (Result NodeEnd NodeError)) (j : Job) (o : RunOptions) (v : V) (rest : List V) (ends : List W) (w : W) → JoiningAll assigned items own j o (v ∷ rest) ends →
+    ((p : ℕ) → IsPartStarted assigned j o p (items v) → IsPartEnd j o p (own w)) → JoiningAll assigned items own j o rest (ends ++ w ∷ [])
+all_more assigned items own j o v rest ends w h end =
     let more : length (ends ++ w ∷ []) ≡ length ends + 1 = length-append ends (w ∷ []) in
     record {
       count = omega (arith, more, h.count);
-      left = subst (λ (n : ℕ). EachAt (λ p v. IsPartStarted told j o p (items v)) n rest) (sym more) h.left.1;
+      left = subst (λ (n : ℕ). EachAt (λ p v. IsPartStarted assigned j o p (items v)) n rest) (sym more) h.left.1;
       given = each_push (λ p w. IsPartEnd j o p (own w)) 0 ends w h.given (subst (λ (p : ℕ). IsPartEnd j o p (own w)) (let e : length ends ≡ 0 + length ends = omega arith in e) (end (length ends) h.left.0));
     }
 
@@ -135,22 +135,22 @@ split_more b j n v w h kept left =
       most = omega (arith, left, most);
     }
 
-pub record Starting {H : Type 0} (told : H → Told) (j : Job) (o : RunOptions) (p n : ℕ) (children : List (Option H)) : Type 0 where
+pub record Starting {H : Type 0} (assigned : H → Assignment) (j : Job) (o : RunOptions) (p n : ℕ) (children : List (Option H)) : Type 0 where
   pub count : length children ≡ n
-  pub each : EachAt (λ k child. IfSome child (λ h. IsTold j o p k (told h))) 0 children
+  pub each : EachAt (λ k child. IfSome child (λ h. IsAssigned j o p k (assigned h))) 0 children
 
-pub starting_more : {H : Type 0} (told : H → Told) (j : Job) (o : RunOptions) (p n : ℕ) (children : List (Option H)) (child : Option H) → Starting told j o p n children → IfSome child (λ h. IsTold j o p n (told h)) → Starting told j o p (n + 1) (children ++ child ∷ [])
-starting_more told j o p n children child h one = record {
+pub starting_more : {H : Type 0} (assigned : H → Assignment) (j : Job) (o : RunOptions) (p n : ℕ) (children : List (Option H)) (child : Option H) → Starting assigned j o p n children → IfSome child (λ h. IsAssigned j o p n (assigned h)) → Starting assigned j o p (n + 1) (children ++ child ∷ [])
+starting_more assigned j o p n children child h one = record {
   count = length-append children (child ∷ []) ∙ ap (λ (k : ℕ). k + 1) h.count;
-  each = each_push (λ k child. IfSome child (λ h. IsTold j o p k (told h))) 0 children child h.each (subst (λ (k : ℕ). IfSome child (λ h. IsTold j o p k (told h))) (let e : n ≡ 0 + length children = omega (arith, h.count) in e) one);
+  each = each_push (λ k child. IfSome child (λ h. IsAssigned j o p k (assigned h))) 0 children child h.each (subst (λ (k : ℕ). IfSome child (λ h. IsAssigned j o p k (assigned h))) (let e : n ≡ 0 + length children = omega (arith, h.count) in e) one);
 }
 
-pub record StartingAll {H V : Type 0} (told : H → Told) (items : V → List (Option H)) (j : Job) (o : RunOptions) (n : ℕ) (children : List V) : Type 0 where
+pub record StartingAll {H V : Type 0} (assigned : H → Assignment) (items : V → List (Option H)) (j : Job) (o : RunOptions) (n : ℕ) (children : List V) : Type 0 where
   pub count : length children ≡ n
-  pub each : EachAt (λ p own. IsPartStarted told j o p (items own)) 0 children
+  pub each : EachAt (λ p own. IsPartStarted assigned j o p (items own)) 0 children
 
-pub starting_all_more : {H V : Type 0} (told : H → Told) (items : V → List (Option H)) (j : Job) (o : RunOptions) (n : ℕ) (children : List V) (own : V) → StartingAll told items j o n children → IsPartStarted told j o n (items own) → StartingAll told items j o (n + 1) (children ++ own ∷ [])
-starting_all_more told items j o n children own h one = record {
+pub starting_all_more : {H V : Type 0} (assigned : H → Assignment) (items : V → List (Option H)) (j : Job) (o : RunOptions) (n : ℕ) (children : List V) (own : V) → StartingAll assigned items j o n children → IsPartStarted assigned j o n (items own) → StartingAll assigned items j o (n + 1) (children ++ own ∷ [])
+starting_all_more assigned items j o n children own h one = record {
   count = length-append children (own ∷ []) ∙ ap (λ (k : ℕ). k + 1) h.count;
-  each = each_push (λ p own. IsPartStarted told j o p (items own)) 0 children own h.each (subst (λ (p : ℕ). IsPartStarted told j o p (items own)) (let e : n ≡ 0 + length children = omega (arith, h.count) in e) one);
+  each = each_push (λ p own. IsPartStarted assigned j o p (items own)) 0 children own h.each (subst (λ (p : ℕ). IsPartStarted assigned j o p (items own)) (let e : n ≡ 0 + length children = omega (arith, h.count) in e) one);
 }

@@ -6,16 +6,16 @@ use Rattle.std.specs.Borrow.{Bor}
 use Rattle.ball_model.specs.Input.{Network}
 use Rattle.ball_model.specs.PlanValue.{PlanValue, mixing_of, plan_of}
 use Rattle.ball_model.specs.Report.{report_of}
-use Rattle.ball_model.specs.RunText.{AreRead, IsReport, IsReportOf, Numbers, Settings, plan_over}
+use Rattle.ball_model.specs.RunText.{AreRead, HasPlan, IsReport, IsReportOf, Numbers, Settings, list_in, plan_over}
 use Rattle.ball_model.specs.declared.plan.PlanError.{PlanError}
-use Rattle.edgelist.proofs.BoolLemmas.{by_cases}
+use Rattle.ball_model.proofs.BoolLemmas.{by_cases}
 use Rattle.workers.specs.declared.ends.JobError.{JobError}
 use Rattle.workers.specs.declared.ends.JobError.TheVariants as job
 use Rattle.workers.specs.declared.options.RunOptions.{RunOptions}
 use Rattle.workers.specs.declared.bytes.RunError.{RunError}
 use Rattle.workers.specs.declared.bytes.RunError.TheVariants as fault
 use Rattle.workers.specs.Options.{settings_of}
-use Rattle.workers.specs.Run.{AddsReport, AnswersNetwork, HasPlan, IsRefusal, RefusesNetwork, RefusesRead, WherePlain, job_fault, list_in}
+use Rattle.workers.specs.Run.{AddsReport, AnswersNetwork, IsRunRefusal, RefusesNetwork, RefusesRead, WherePlain, job_fault}
 
 -- what holds of plain bytes, and what follows from it
 pub where_weaker : (o : RunOptions) (told : Option (List ℕ)) (counted : Option (Bor (List ℕ))) (P Q : Settings → List ℕ → Option (List ℕ) → Type 0) → ((input : List ℕ) → P (settings_of o) input (list_in counted) → Q (settings_of o) input (list_in counted)) → WherePlain o told counted P → WherePlain o told counted Q
@@ -27,7 +27,7 @@ where_always o None counted Q f = tt
 where_always o (Some input) counted Q f = λ plain. f _ _ _
 
 -- what is refused before there is a network
-pub refuses_read : (s : Settings) (input : List ℕ) (list : Option (List ℕ)) (e : RunError) → RefusesRead s input list e → IsRefusal s input list e
+pub refuses_read : (s : Settings) (input : List ℕ) (list : Option (List ℕ)) (e : RunError) → RefusesRead s input list e → IsRunRefusal s input list e
 refuses_read s input list fault.Options h = tt
 refuses_read s input list (fault.Edges e) h = h
 refuses_read s input list (fault.Counted e) h = h
@@ -39,7 +39,7 @@ refuses_read s input list (fault.Starved node r q) h = absurd h
 refuses_read s input list fault.Write h = absurd h
 
 -- what is refused over a network that was read
-pub refuses_network : (s : Settings) (input : List ℕ) (list : Option (List ℕ)) (network : Network) (e : RunError) → AreRead s input list network → RefusesNetwork s.numbers network e → IsRefusal s input list e
+pub refuses_network : (s : Settings) (input : List ℕ) (list : Option (List ℕ)) (network : Network) (e : RunError) → AreRead s input list network → RefusesNetwork s.numbers network e → IsRunRefusal s input list e
 refuses_network s input list network fault.Options read h = tt
 refuses_network s input list network (fault.Edges e) read h = absurd h
 refuses_network s input list network (fault.Counted e) read h = absurd h
@@ -55,7 +55,7 @@ pub reported : (s : Settings) (input : List ℕ) (list : Option (List ℕ)) (net
 reported s input list network (Ok text) h read = record { network = network; read = read; report = h }
 reported s input list network (Err e) h read = tt
 
-pub refused : (s : Settings) (input : List ℕ) (list : Option (List ℕ)) (network : Network) (r : Result (List ℕ) RunError) → AnswersNetwork s.numbers network r → AreRead s input list network → IfErr r (IsRefusal s input list)
+pub refused : (s : Settings) (input : List ℕ) (list : Option (List ℕ)) (network : Network) (r : Result (List ℕ) RunError) → AnswersNetwork s.numbers network r → AreRead s input list network → IfErr r (IsRunRefusal s input list)
 refused s input list network (Ok text) h read = tt
 refused s input list network (Err e) h read = refuses_network s input list network e read h
 
@@ -68,9 +68,9 @@ pub wrote : {T W : Type 0} (o : RunOptions) (told : Option (List ℕ)) (counted 
 wrote o told counted contents old new text (Ok x) report h = where_weaker o told counted (λ s input list. IsReport s input list text) (AddsReport contents old new) (λ input is. record { text = text; report = is; appended = h }) report
 wrote o told counted contents old new text (Err e) report h = tt
 
-pub unwritten : {T : Type 0} (o : RunOptions) (told : Option (List ℕ)) (counted : Option (Bor (List ℕ))) (text : List ℕ) (r : Result T RunError) → WherePlain o told counted (λ s input list. IsReport s input list text) → IfErr r (λ e. e ≡ fault.Write) → WherePlain o told counted (λ s input list. IfErr r (IsRefusal s input list))
-unwritten o told counted text (Ok x) report h = where_always o told counted (λ s input list. IfErr {T = ℕ} (Ok 0) (IsRefusal s input list)) (λ s input list. tt)
-unwritten o told counted text (Err e) report h = where_weaker o told counted (λ s input list. IsReport s input list text) (λ s input list. IsRefusal s input list e) (λ input is. subst (λ (x : RunError). IsRefusal (settings_of o) input (list_in counted) x) (sym h) (record { network = is.network; read = is.read; planned = is.report.planned })) report
+pub unwritten : {T : Type 0} (o : RunOptions) (told : Option (List ℕ)) (counted : Option (Bor (List ℕ))) (text : List ℕ) (r : Result T RunError) → WherePlain o told counted (λ s input list. IsReport s input list text) → IfErr r (λ e. e ≡ fault.Write) → WherePlain o told counted (λ s input list. IfErr r (IsRunRefusal s input list))
+unwritten o told counted text (Ok x) report h = where_always o told counted (λ s input list. IfErr {T = ℕ} (Ok 0) (IsRunRefusal s input list)) (λ s input list. tt)
+unwritten o told counted text (Err e) report h = where_weaker o told counted (λ s input list. IsReport s input list text) (λ s input list. IsRunRefusal s input list e) (λ input is. subst (λ (x : RunError). IsRunRefusal (settings_of o) input (list_in counted) x) (sym h) (record { network = is.network; read = is.read; planned = is.report.planned })) report
 
 -- the plan that is asked for, where there is one
 plan_or_fault : (p : PlanValue) → IfOk (plan_of p) (λ q. plan_of p ≡ Ok p)

@@ -13,7 +13,7 @@ use Rattle.workers.specs.declared.node.NodeError.{NodeError}
 use Rattle.workers.specs.declared.node.NodeError.TheVariants as fault
 use Rattle.workers.specs.declared.node.NodeOrders.{NodeOrders}
 use Rattle.workers.specs.declared.options.RunOptions.{RunOptions}
-use Rattle.workers.specs.declared.told.Told.{Told}
+use Rattle.workers.specs.declared.assignment.Assignment.{Assignment}
 use Rattle.workers.specs.Node.{FallsDue, IfDone, IfLost, IfStarved, IsDone}
 use Rattle.workers.specs.Options.{order_for, orders_for}
 
@@ -51,14 +51,14 @@ pub record HasSplit (b : BoardView) (j : Job) (splits : ℕ) (s : SeatView) : Ty
   pub most : s.room ≤ 2 ^ 63
 
 -- the job of a node that is told so
-abbrev pub job_in : Told → Job
-job_in told = job_of told.graph.value.graph told.plan
+abbrev pub job_in : Assignment → Job
+job_in assigned = job_of assigned.graph.value.graph assigned.plan
 
 -- what is told to node k of partition p
-pub record IsTold (j : Job) (o : RunOptions) (p k : ℕ) (told : Told) : Type 0 where
-  pub job : job_in told ≡ j
-  pub part : told.node.part ≡ p
-  pub orders : told.orders ≡ orders_for o p k
+pub record IsAssigned (j : Job) (o : RunOptions) (p k : ℕ) (assigned : Assignment) : Type 0 where
+  pub job : job_in assigned ≡ j
+  pub part : assigned.node.part ≡ p
+  pub orders : assigned.orders ≡ orders_for o p k
 
 -- the ends of the nodes of partition p
 pub record IsPartEnd (j : Job) (o : RunOptions) (p : ℕ)
@@ -77,16 +77,16 @@ abbrev pub AllOrdered : ℕ → ℕ → List (NodeId × ℕ) → Type 0
 AllOrdered replicas p orders = (k : ℕ) → k < replicas → is_some (order_for p k orders) ≡ true
 
 -- the threads of partition p's nodes, each told what its node is told
-pub record IsPartStarted {H : Type 0} (told : H → Told) (j : Job) (o : RunOptions) (p : ℕ)
+pub record IsPartStarted {H : Type 0} (assigned : H → Assignment) (j : Job) (o : RunOptions) (p : ℕ)
     (children : List (Option H)) : Type 0 where
   pub count : length children ≡ o.replicas
-  pub each : EachAt (λ k child. IfSome child (λ h. IsTold j o p k (told h))) 0 children
+  pub each : EachAt (λ k child. IfSome child (λ h. IsAssigned j o p k (assigned h))) 0 children
 
 -- the threads of all nodes, by partition
-pub record AreStarted {H V : Type 0} (told : H → Told) (items : V → List (Option H)) (j : Job)
+pub record AreStarted {H V : Type 0} (assigned : H → Assignment) (items : V → List (Option H)) (j : Job)
     (o : RunOptions) (children : List V) : Type 0 where
   pub count : length children ≡ j.plan.parts
-  pub each : EachAt (λ p own. IsPartStarted told j o p (items own)) 0 children
+  pub each : EachAt (λ p own. IsPartStarted assigned j o p (items own)) 0 children
 
 -- a partition of so many, each replica of which was to be lost
 pub record IsPartitionLost (parts : ℕ) (o : RunOptions) (p : ℕ) : Type 0 where

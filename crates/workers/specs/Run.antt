@@ -1,12 +1,12 @@
 -- A run: what is asked of it, and what its refusals say of the input.
-use Rattle.std.specs.Prelude.{◌≡◌, ⊤, ℕ, false, List, Option, option_map, Result, Ok, Err, IfSome}
+use Rattle.std.specs.Prelude.{◌≡◌, ⊤, ℕ, false, List, Option, Result, Ok, Err, IfSome}
 use Rattle.std.specs.Prelude.{MatchResult}
 use Rattle.std.specs.Borrow.{Bor}
 use Rattle.ball_model.specs.PlanValue.{plan_of}
-use Rattle.ball_model.specs.Input.{IsPlain, Network}
+use Rattle.ball_model.specs.Input.{Network}
 use Rattle.ball_model.specs.Counting.{CountedRefusal}
-use Rattle.ball_model.specs.RunText.{AppendsReport, AreRead, IsPlanFault, IsReportOf, Numbers}
-use Rattle.ball_model.specs.RunText.{Settings, counted_in, network_in, plan_over}
+use Rattle.ball_model.specs.RunText.{AppendsReport, ArePlain, AreRead, HasPlan, IsPlanFault, IsReportOf}
+use Rattle.ball_model.specs.RunText.{Numbers, Settings, counted_in, list_in, network_in, plan_over}
 use Rattle.edgelist.specs.Reading.{Refuses}
 use Rattle.edgelist.specs.Counting.{RefusesList}
 use Rattle.edgelist.specs.declared.counting.CountedError.{CountedError}
@@ -17,14 +17,6 @@ use Rattle.workers.specs.declared.bytes.RunError.{RunError}
 use Rattle.workers.specs.declared.bytes.RunError.TheVariants as fault
 use Rattle.workers.specs.Job.{IsFaultOf}
 use Rattle.workers.specs.Options.{are_in_limits, settings_of}
-
--- the bytes of a list of counted vertices, where there is one
-abbrev pub list_in : Option (Bor (List ℕ)) → Option (List ℕ)
-list_in counted = option_map (λ list. list.now) counted
-
--- the edge list and the list are plain
-abbrev pub ArePlain : List ℕ → Option (List ℕ) → Type 0
-ArePlain input list = IsPlain input × IfSome list IsPlain
 
 -- where a reader tells its bytes, and these and the list are plain, this holds of what is asked
 abbrev pub WherePlain : RunOptions → Option (List ℕ) → Option (Bor (List ℕ)) →
@@ -48,10 +40,6 @@ pub record IsListRefusal
   pub all : Network
   pub read : network_in s input ≡ Ok all
   pub refused : RefusesList (counted_in s all list) e
-
--- there is a plan of these numbers over the network
-abbrev pub HasPlan : Numbers → Network → Type 0
-HasPlan n network = plan_of (plan_over n network.graph) ≡ Ok (plan_over n network.graph)
 
 -- both say a network, over which there is such a plan
 pub record IsPlanned (s : Settings) (input : List ℕ) (list : Option (List ℕ)) : Type 0 where
@@ -79,16 +67,16 @@ IsFaultIn o (fault.Starved node s q) = IsFaultOf o.parts o (job.Starved node s q
 IsFaultIn o fault.Write = ⊤
 
 -- what a refusal says of the input: each comes only where all checks before it passed
-abbrev pub IsRefusal : Settings → List ℕ → Option (List ℕ) → RunError → Type 0
-IsRefusal s input list fault.Options = ⊤
-IsRefusal s input list (fault.Edges e) = Refuses (network_in s input) e
-IsRefusal s input list (fault.Counted e) = IsListRefusal s input list e
-IsRefusal s input list (fault.Plan e) = IsPlanFault s input list e
-IsRefusal s input list (fault.PartitionLost p) = IsPlanned s input list
-IsRefusal s input list fault.BookFull = IsPlanned s input list
-IsRefusal s input list fault.Memory = IsPlanned s input list
-IsRefusal s input list (fault.Starved node r q) = IsPlanned s input list
-IsRefusal s input list fault.Write = IsPlanned s input list
+abbrev pub IsRunRefusal : Settings → List ℕ → Option (List ℕ) → RunError → Type 0
+IsRunRefusal s input list fault.Options = ⊤
+IsRunRefusal s input list (fault.Edges e) = Refuses (network_in s input) e
+IsRunRefusal s input list (fault.Counted e) = IsListRefusal s input list e
+IsRunRefusal s input list (fault.Plan e) = IsPlanFault s input list e
+IsRunRefusal s input list (fault.PartitionLost p) = IsPlanned s input list
+IsRunRefusal s input list fault.BookFull = IsPlanned s input list
+IsRunRefusal s input list fault.Memory = IsPlanned s input list
+IsRunRefusal s input list (fault.Starved node r q) = IsPlanned s input list
+IsRunRefusal s input list fault.Write = IsPlanned s input list
 
 -- what a refusal says of the network, as far as it was read
 abbrev pub RefusesRead : Settings → List ℕ → Option (List ℕ) → RunError → Type 0

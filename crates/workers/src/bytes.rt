@@ -1,19 +1,20 @@
 //! A run from bytes to bytes: a thread for each node, and all processors for the figures.
 
-ghost use Rattle.std.specs.Prelude.{◌≡◌, ◌≢◌, Ok, Err, true, false, OnOk, OnErr, IfOk, IfErr, IfSome};
+ghost use Rattle.std.specs.Prelude.{◌≡◌, ◌≢◌, Ok, Err, true, false, OnOk, OnErr, IfOk, IfErr};
+ghost use Rattle.std.specs.Prelude.{IfSome};
 ghost use Rattle.std.specs.Io.KnownBytes.{Appends, Keeps};
 ghost use Rattle.ball_model.specs.Job.{IsJob, job_of};
 ghost use Rattle.ball_model.specs.Input.{IsPlain};
 ghost use Rattle.ball_model.specs.PlanValue.{mixing_of, plan_of};
 ghost use Rattle.ball_model.specs.Report.{report_of};
-ghost use Rattle.ball_model.specs.RunText.{AreRead, IsReport, plan_over};
+ghost use Rattle.ball_model.specs.RunText.{AreRead, IsReport, list_in, plan_over};
 ghost use Rattle.ball_model.specs.Streams.{Rises};
 ghost use Rattle.edgelist.specs.Counting.{RefusesList};
 ghost use Rattle.edgelist.specs.Reading.{CountsOne};
 ghost use Rattle.workers.specs.Job.{AreDone, IsFaultOf};
 ghost use Rattle.workers.specs.Options.{are_in_limits, numbers_in};
-ghost use Rattle.workers.specs.Run.{AddsReport, AnswersNetwork, IsFaultIn, IsRefusal};
-ghost use Rattle.workers.specs.Run.{RefusesRead, WherePlain, counted_by, list_in};
+ghost use Rattle.workers.specs.Run.{AddsReport, AnswersNetwork, IsFaultIn, IsRunRefusal};
+ghost use Rattle.workers.specs.Run.{RefusesRead, WherePlain, counted_by};
 
 use crate::ends::JobError;
 use crate::gate::Gate;
@@ -158,7 +159,7 @@ fn count_listed(
 }
 
 // The graph that an edge list and a list of counted vertices say.
-fn read_graph<T: AllocGlobal, R: CountedRead>(
+fn read_network<T: AllocGlobal, R: CountedRead>(
     rt: &T,
     state: RandomState,
     reader: &mut R,
@@ -267,7 +268,7 @@ fn read_text<T: AllocGlobal + Threads + Wait + Sync, R: CountedRead, G: Gate + S
     ensures ok { WherePlain options.now (R.remaining reader.old) counted.entry
         (λ s input list. IfOk result (IsReport s input list)) }
     ensures refused { WherePlain options.now (R.remaining reader.old) counted.entry
-        (λ s input list. IfErr result (IsRefusal s input list)) }
+        (λ s input list. IfErr result (IsRunRefusal s input list)) }
     ensures kind { IfErr result (λ e. e ≢ RunError.Write) }
     ensures read { result ≡ Err (RunError.Edges EdgeError.Read) →
         Rises (R.failed_calls reader.old) (R.failed_calls reader.new) }
@@ -278,7 +279,7 @@ fn read_text<T: AllocGlobal + Threads + Wait + Sync, R: CountedRead, G: Gate + S
     if !options.are_in_limits() {
         return Err(RunError::Options);
     }
-    let graph = read_graph(rt, state, reader, counted, options)?;
+    let graph = read_network(rt, state, reader, counted, options)?;
     gate.after_read(graph.vertices(), graph.edges());
     report_text(rt, &graph, options, gate)
 }
@@ -325,7 +326,7 @@ pub fn run<T: AllocGlobal + Threads + Wait + Sync, R: CountedRead, W: CountedWri
     ensures ok { OnOk result (WherePlain options.now (R.remaining reader.old) counted.entry
         (AddsReport W.contents writer.old writer.new)) }
     ensures refused { WherePlain options.now (R.remaining reader.old) counted.entry
-        (λ s input list. IfErr result (IsRefusal s input list)) }
+        (λ s input list. IfErr result (IsRunRefusal s input list)) }
     ensures read { result ≡ Err (RunError.Edges EdgeError.Read) →
         Rises (R.failed_calls reader.old) (R.failed_calls reader.new) }
     ensures failed { CountsOne (R.failed_calls reader.old) (R.failed_calls reader.new) →

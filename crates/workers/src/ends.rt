@@ -1,18 +1,20 @@
 //! What the nodes of a job say at their ends, put together.
 
-ghost use Rattle.std.specs.Prelude.{◌≡◌, ◌≢◌, ◌≤◌, ◌<◌, ◌+◌, ℕ, true, All};
-ghost use Rattle.std.specs.Prelude.{IfErr, IfOk, IfSome, OnOk, Some, is_some, length};
+ghost use Rattle.std.specs.Prelude.{◌≡◌, ◌≢◌, ◌≤◌, ◌<◌, ◌+◌, ℕ, true, All, IfErr, IfOk, IfSome};
+ghost use Rattle.std.specs.Prelude.{OnOk, Some, is_some, length};
 ghost use Rattle.ball_model.specs.Job.{Job};
+ghost use Rattle.ball_model.specs.PlanValue.{most_parts};
 ghost use Rattle.workers.specs.Job.{AreDone, AreEnds, AreNoted, EachAt, IsFaultOf, IsPartEnd};
 ghost use Rattle.workers.specs.Job.{IsPartitionLost, KeepsItsOrders};
-ghost use Rattle.workers.specs.Ends.{fault_of, first_fault, first_of, is_lost, no_faults, with_end, with_part};
+ghost use Rattle.workers.specs.Ends.{fault_of, first_fault, first_of, is_lost, no_faults, with_end};
+ghost use Rattle.workers.specs.Ends.{with_part};
 ghost use Rattle.workers.specs.Node.{IfDone, IsDone};
 ghost use Rattle.workers.specs.Options.{orders_for};
 ghost use Rattle.workers.specs.declared.node.NodeOrders.{NodeOrders as Orders};
 ghost use Rattle.workers.specs.declared.options.RunOptions.{RunOptions as Asked};
 
+use crate::assignment::NodeResult;
 use crate::node::{NodeEnd, NodeError};
-use crate::told::NodeResult;
 use ball_model::NodeId;
 use replica::Replica;
 use std::alloc::{AllocError, Global};
@@ -205,7 +207,7 @@ fn keep_done(done: &mut Vec<Replica>, next: Option<Replica>) -> Result<bool, All
 /// none, the error is the first fault of all nodes.
 pub fn settle(alloc: Global, ends: Vec<Vec<NodeResult>>) -> Result<Vec<Replica>, JobError>
     requires few { All (λ own. length own.items ≤ 4) ends.items }
-    requires parts { length ends.items ≤ 64 }
+    requires parts { length ends.items ≤ most_parts }
     ensures done { (j : Job) (o : Asked) → AreEnds (λ own. own.items) j o ends.items →
         IfOk result (λ rs. AreDone j rs.items) }
     ensures fault { (j : Job) (o : Asked) → AreEnds (λ own. own.items) j o ends.items →

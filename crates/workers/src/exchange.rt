@@ -5,9 +5,11 @@ ghost use Rattle.std.specs.Arc.{arc_value};
 ghost use Rattle.board.specs.declared.error.BoardError.TheVariants.{BookFull, Memory};
 ghost use Rattle.ball_model.specs.Batches.{IsTrueBatch, true_batch};
 ghost use Rattle.ball_model.specs.State.{Stands, StandsFor};
-ghost use Rattle.ball_model.specs.History.{Post, Fetch, Keep, Recall, Drop, board_of, entries_of, holding_in, is_kept_from};
+ghost use Rattle.ball_model.specs.History.{Post, Fetch, Keep, Recall, Drop, board_of, entries_of};
+ghost use Rattle.ball_model.specs.History.{holding_in, is_kept_from};
 ghost use Rattle.board.specs.Seats.{IsAt};
-ghost use Rattle.ball_model.specs.Caller.{Called, CalledNothing, Caller, Extends, HasRoom, IsAsFar, IsFull};
+ghost use Rattle.ball_model.specs.Caller.{Called, CalledNothing, Caller, Extends, HasRoom, IsAsFar};
+ghost use Rattle.ball_model.specs.Caller.{IsFull};
 
 use ball_model::{BatchName, Kept, Posted};
 use batches::Batch;

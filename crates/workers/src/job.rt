@@ -1,20 +1,22 @@
 //! All nodes of a job: a thread for each, and one board between them.
 
-ghost use Rattle.std.specs.Prelude.{◌≡◌, ◌<◌, ◌≤◌, ◌+◌, ◌*◌, ℕ, true, IfOk, IfErr, IfSome, OnOk, []};
+ghost use Rattle.std.specs.Prelude.{◌≡◌, ◌<◌, ◌≤◌, ◌+◌, ◌*◌, ℕ, true, IfOk, IfErr, IfSome, OnOk};
+ghost use Rattle.std.specs.Prelude.{[]};
 ghost use Rattle.std.specs.Arc.{arc_value};
 ghost use Rattle.ball_model.specs.Job.{Job, IsJob, job_of, part_of};
-ghost use Rattle.workers.specs.Job.{AreDone, AreEnds, AreParts, AreStarted, HasSplit, IsFaultOf, IsPartEnd};
-ghost use Rattle.workers.specs.Job.{IsPartStarted, IsSeatOf, IsTold, KeepsItsOrders, job_in};
+ghost use Rattle.workers.specs.Job.{AreDone, AreEnds, AreParts, AreStarted, HasSplit, IsFaultOf};
+ghost use Rattle.workers.specs.Job.{IsPartEnd, IsAssigned, IsPartStarted, IsSeatOf, KeepsItsOrders};
+ghost use Rattle.workers.specs.Job.{job_in};
 ghost use Rattle.workers.specs.Options.{are_in_limits, order_for, orders_for};
 ghost use Rattle.workers.specs.declared.options.RunOptions.{RunOptions as Asked};
 
+use crate::assignment::{Assignment, NodeResult};
 use crate::ends::{JobError, settle};
 use crate::exchange::BoardExchange;
 use crate::gate::Gate;
 use crate::node::{NodeEnd, NodeError, NodeOrders, run_node};
 use crate::options::RunOptions;
 use crate::running::{RunGate, Running};
-use crate::told::{NodeResult, Told};
 use ball_model::{NodeId, Plan};
 use board::{Board, Seat};
 use edgelist::{Graph, Part};
@@ -26,7 +28,7 @@ use std::thread;
 use std::thread::{PromisedHandle, Scope, Threads};
 
 // The thread of a node, where there could be one.
-type Child = Option<PromisedHandle<NodeResult, Told>>;
+type Child = Option<PromisedHandle<NodeResult, Assignment>>;
 
 // A part that threads share, where there was memory for it.
 type SharedPart = Result<Arc<Part>, AllocError>;
@@ -101,17 +103,17 @@ fn start_node<'s, 'a: 's, X, R: AllocGlobal + Threads + Wait + Sync, G: Gate + S
     gate: &'a G,
     running: &'a Running,
     part: Arc<Part>,
-    told: Told,
+    assigned: Assignment,
 ) -> Child
-    requires seat { IsSeatOf board.now (job_in told) seat }
-    requires job { IsJob (job_in told) }
-    requires node { told.node.part < (job_in told).plan.parts }
-    requires part { arc_value part ≡ part_of (job_in told) told.node.part }
-    ensures { IfSome result (λ child. child.promise ≡ told) }
+    requires seat { IsSeatOf board.now (job_in assigned) seat }
+    requires job { IsJob (job_in assigned) }
+    requires node { assigned.node.part < (job_in assigned).plan.parts }
+    requires part { arc_value part ≡ part_of (job_in assigned) assigned.node.part }
+    ensures { IfSome result (λ child. child.promise ≡ assigned) }
 {
     let duty = Duty {
-        node: told.node,
-        orders: told.orders,
+        node: assigned.node,
+        orders: assigned.orders,
     };
     let work = move || -> NodeResult
         requires seat { IsSeatOf board.now seat.caller.seen.job seat }
@@ -120,7 +122,7 @@ fn start_node<'s, 'a: 's, X, R: AllocGlobal + Threads + Wait + Sync, G: Gate + S
         requires part { arc_value part ≡ part_of seat.caller.seen.job duty.node.part }
         ensures { KeepsItsOrders seat.caller.seen.job duty.node.part duty.orders result }
     { run_at(rt, board, seat, gate, running, part, duty) };
-    let child = scope.spawn_with(told, work).ok();
+    let child = scope.spawn_with(assigned, work).ok();
     if child.is_none() {
         running.end(duty.node.part);
     }
@@ -186,7 +188,7 @@ fn start_part<'s, 'a: 's, X, R: AllocGlobal + Threads + Wait + Sync, G: Gate + S
     let mut children = Vec::with_capacity(rt.alloc(), usize::from(options.replicas))?;
     for replica in 0..options.replicas {
         let node = NodeId { part: p, replica };
-        let told = Told {
+        let assigned = Assignment {
             graph: Snapshot::of(graph),
             plan: *plan,
             node,
@@ -194,7 +196,7 @@ fn start_part<'s, 'a: 's, X, R: AllocGlobal + Threads + Wait + Sync, G: Gate + S
         };
         let part = Arc::try_clone(part)?;
         let seat = first.split(board);
-        children.push(start_node(rt, scope, board, seat, gate, running, part, told))?;
+        children.push(start_node(rt, scope, board, seat, gate, running, part, assigned))?;
     }
     Ok(children)
 }
@@ -296,7 +298,7 @@ fn start_or_stop<'s, 'a: 's, X, R: AllocGlobal + Threads + Wait + Sync, G: Gate 
 
 // The end of a node, once its thread has ended; a node without a thread ended for want of memory.
 fn end_of<R: Threads>(rt: &R, child: Child) -> NodeResult
-    ensures { (j : Job) (o : Asked) (p k : ℕ) → IfSome child (λ h. IsTold j o p k h.promise) →
+    ensures { (j : Job) (o : Asked) (p k : ℕ) → IfSome child (λ h. IsAssigned j o p k h.promise) →
         KeepsItsOrders j p (orders_for o p k) result }
 {
     match child {

@@ -24,6 +24,7 @@
 //! kept a snapshot of a further superstep, it takes that over and goes on from there.
 #![tactic(auto)]
 
+mod assignment;
 mod bytes;
 mod ends;
 mod exchange;
@@ -35,7 +36,6 @@ mod node;
 mod options;
 mod pages;
 mod running;
-mod told;
 mod turn;
 
 pub use bytes::{RunError, run};

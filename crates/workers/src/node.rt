@@ -1,14 +1,17 @@
 //! One node: a replica of a partition, from superstep 0 to its end.
 
-ghost use Rattle.std.specs.Prelude.{◌≡◌, ◌≢◌, ◌<◌, ◌≤◌, ℕ, true, false, IfOk, OnErr, OnOk, IfErr, Err, None};
+ghost use Rattle.std.specs.Prelude.{◌≡◌, ◌≢◌, ◌<◌, ◌≤◌, ℕ, true, false, IfOk, OnErr, OnOk, IfErr};
+ghost use Rattle.std.specs.Prelude.{Err, None};
 ghost use Rattle.std.specs.Arc.{arc_value};
 ghost use Rattle.ball_model.specs.History.{holding_in};
 ghost use Rattle.ball_model.specs.Job.{IsJob, Job, part_of};
 ghost use Rattle.ball_model.specs.Caller.{Extends, IsCaller, IsFull};
 ghost use Rattle.workers.specs.declared.node.NodeError.TheVariants.{BookFull, Memory};
-ghost use Rattle.workers.specs.Node.{FallsDue, HasToldAll, IfDone, IfLost, IfStarved, IsDone, WasMissing};
+ghost use Rattle.workers.specs.Node.{FallsDue, HasToldAll, IfDone, IfLost, IfStarved, IsDone};
+ghost use Rattle.workers.specs.Node.{WasMissing};
 ghost use Rattle.workers.specs.Tie.{HasCome, HasGone, IsPath, IsPathTo};
-ghost use Rattle.workers.specs.Turn.{IsAnew, IsFate, IsFirst, IsPartOf, StandsIn, early_end, end_with};
+ghost use Rattle.workers.specs.Turn.{IsAnew, IsFate, IsFirst, IsPartOf, StandsIn, early_end};
+ghost use Rattle.workers.specs.Turn.{end_with};
 ghost use Rattle.replica.specs.Sent.{batch_name};
 
 use crate::exchange::Exchange;
@@ -115,7 +118,7 @@ fn first_replica(alloc: Global, part: &Arc<Part>) -> Result<Replica, NodeError>
 }
 
 // A new replica of a part takes the place of the old one.
-fn renew(alloc: Global, part: &Arc<Part>, replica: &mut Replica) -> Result<(), NodeError>
+fn replace_replica(alloc: Global, part: &Arc<Part>, replica: &mut Replica) -> Result<(), NodeError>
     ensures first { (j : Job) (p : ℕ) → IsJob j → p < j.plan.parts → arc_value part.now ≡ part_of j p →
         OnOk result (IsFirst j p replica.new) }
     ensures memory { IfErr result (λ e. e ≡ Memory) }
@@ -144,7 +147,7 @@ fn begin_anew<R: AllocGlobal + Wait, E: Exchange>(
         (E.caller exchange.new)) }
     ensures full { IfErr result (λ e. e ≡ BookFull → IsFull (E.caller exchange.new)) }
 {
-    renew(rt.alloc(), part, replica)?;
+    replace_replica(rt.alloc(), part, replica)?;
     catch_up(rt, exchange, node, 0, replica)?;
     Ok(())
 }

@@ -3,6 +3,7 @@
 ghost use Rattle.std.specs.Prelude.{◌≡◌};
 ghost use Rattle.workers.specs.Options.{are_all_named, are_in_limits, is_named};
 
+use ball_model::plan::GREATEST_LIMIT;
 use ball_model::{Estimate, NodeId};
 use edgelist::Delimiter;
 
@@ -14,9 +15,6 @@ const LEAST_ENTRIES: u32 = 2;
 
 /// The most entries that the board's history may have.
 const MOST_ENTRIES: u32 = 1 << 24;
-
-/// The greatest number of supersteps from one snapshot to the next.
-const MOST_KEEP: u32 = 4096;
 
 /// What is asked of a run.
 #[derive(Debug, PartialEq, Eq, Drop)]
@@ -74,7 +72,7 @@ impl RunOptions {
     {
         (1..=MOST_REPLICAS).contains(&self.replicas)
             && (LEAST_ENTRIES..=MOST_ENTRIES).contains(&self.entries)
-            && self.keep <= MOST_KEEP
+            && self.keep <= GREATEST_LIMIT
             && self.patience >= 1
             && are_all_named(self.parts, self.replicas, &self.lose)
             && are_all_named(self.parts, self.replicas, &self.restart)

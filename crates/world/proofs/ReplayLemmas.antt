@@ -3,12 +3,12 @@ use Rattle.std.proofs.Common.{◌≡◌, ℕ, List, Option, refl, inl, inr}
 use Rattle.std.specs.Io.KnownBytes.{Appends}
 use Rattle.ball_model.specs.declared.world.Event.{Event}
 use Rattle.ball_model.specs.Job.{Job}
-use Rattle.ball_model.specs.RunText.{plan_over}
+use Rattle.ball_model.specs.RunText.{ArePlain, plan_over}
 use Rattle.ball_model.specs.World.{World, start_world}
 use Rattle.ball_model.specs.WorldText.{AppendsReplay, HasCommands, IsReplay, ReplaySettings, events_text, job_over}
 use Rattle.world.specs.declared.tell.TellError.{TellError}
 use Rattle.world.specs.declared.tell.TellError.TheVariants as untold
-use Rattle.world.specs.Replay.{ArePlain, BeginsReplay, Fails, IsReady, StartsFrom, told_tell}
+use Rattle.world.specs.Replay.{BeginsReplay, Fails, IsReady, StartsFrom, told_tell}
 use Rattle.world.specs.Shows.{SeenWorld, Shows}
 use Rattle.world.specs.Tell.{Stopped, Told}
 

@@ -1,13 +1,14 @@
 -- A replay: what is asked of it, and what its refusals say of the input.
-use Rattle.std.specs.Prelude.{◌≡◌, ◌≢◌, ⊤, ℕ, List, Option, option_map, Result, Ok, Err, IfSome, ◌⊎◌}
+use Rattle.std.specs.Prelude.{◌≡◌, ◌≢◌, ⊤, ℕ, List, Option, Result, Ok, Err, ◌⊎◌}
 use Rattle.std.specs.Borrow.{Bor}
 use Rattle.std.specs.Io.KnownBytes.{Keeps}
 use Rattle.ball_model.specs.declared.world.Event.{Event}
 use Rattle.ball_model.specs.PlanValue.{plan_of}
 use Rattle.ball_model.specs.Job.{Job}
-use Rattle.ball_model.specs.Input.{IsPlain, Network, Refusal}
+use Rattle.ball_model.specs.Input.{Network, Refusal}
 use Rattle.ball_model.specs.Counting.{CountedRefusal}
-use Rattle.ball_model.specs.RunText.{AreRead, Numbers, Settings, counted_in, network_in, plan_over}
+use Rattle.ball_model.specs.RunText.{ArePlain, AreRead, HasPlan, Numbers, Settings}
+use Rattle.ball_model.specs.RunText.{counted_in, list_in, network_in, plan_over}
 use Rattle.ball_model.specs.Streams.{Rises}
 use Rattle.ball_model.specs.World.{World, start_world}
 use Rattle.ball_model.specs.WorldText.{AreReplicas, HasCommands, IsReplay, IsReplayPlanFault}
@@ -38,14 +39,6 @@ settings_of o = record { numbers = numbers_in o; delimiter = byte_of o.delimiter
 
 abbrev pub replay_of : ReplayOptions → ReplaySettings
 replay_of o = record { run = settings_of o; replicas = o.replicas }
-
--- the bytes of a list of counted vertices, where there is one
-abbrev pub list_in : Option (Bor (List ℕ)) → Option (List ℕ)
-list_in counted = option_map (λ list. list.now) counted
-
--- the edge list and the list are plain
-abbrev pub ArePlain : List ℕ → Option (List ℕ) → Type 0
-ArePlain edges list = IsPlain edges × IfSome list IsPlain
 
 -- what an edge list says under the options, and a list of counted vertices of that
 abbrev pub network_by : ReplayOptions → List ℕ → Result Network Refusal
@@ -113,10 +106,6 @@ RefusesNetwork s edges list (fault.Plan e) = ⊥
 RefusesNetwork s edges list fault.Memory = ⊥
 RefusesNetwork s edges list fault.Write = ⊥
 
--- there is a plan of these numbers over the network
-abbrev pub HasPlan : Numbers → Network → Type 0
-HasPlan n network = plan_of (plan_over n network.graph) ≡ Ok (plan_over n network.graph)
-
 -- there is such a plan, and that is the start of its world
 pub record IsStarted (n : Numbers) (replicas : ℕ) (network : Network) (world : SeenWorld) : Type 0 where
   pub planned : HasPlan n network
@@ -134,16 +123,16 @@ RefusesStart n network fault.Write = ⊥
 
 -- what a refusal says of the whole input: each comes only where all checks before it passed, and a failed write only
 -- of a replay that has a text
-abbrev pub IsRefusal : ReplaySettings → List ℕ → Option (List ℕ) → List ℕ → ReplayError → Type 0
-IsRefusal s edges list script fault.Options = AreReplicas s.replicas → ⊥
-IsRefusal s edges list script (fault.Script n) = IsScriptFault s script n
-IsRefusal s edges list script (fault.Edges e) =
+abbrev pub IsReplayRefusal : ReplaySettings → List ℕ → Option (List ℕ) → List ℕ → ReplayError → Type 0
+IsReplayRefusal s edges list script fault.Options = AreReplicas s.replicas → ⊥
+IsReplayRefusal s edges list script (fault.Script n) = IsScriptFault s script n
+IsReplayRefusal s edges list script (fault.Edges e) =
     HasCommands s script × Refuses (network_in s.run edges) e
-IsRefusal s edges list script (fault.Counted e) =
+IsReplayRefusal s edges list script (fault.Counted e) =
     HasCommands s script × IsListRefusal s.run edges list e
-IsRefusal s edges list script (fault.Plan e) = IsReplayPlanFault s edges list script e
-IsRefusal s edges list script fault.Memory = AreReplicas s.replicas
-IsRefusal s edges list script fault.Write = (text : List ℕ) × IsReplay s edges list script text
+IsReplayRefusal s edges list script (fault.Plan e) = IsReplayPlanFault s edges list script e
+IsReplayRefusal s edges list script fault.Memory = AreReplicas s.replicas
+IsReplayRefusal s edges list script fault.Write = (text : List ℕ) × IsReplay s edges list script text
 
 -- what it says of the options and the script alone, whatever the edge list is
 abbrev pub RefusesBefore : ReplaySettings → List ℕ → ReplayError → Type 0
@@ -188,7 +177,7 @@ pub record IsEarly (s : ReplaySettings) (edges : List ℕ) (list : Option (List 
   pub before : RefusesBefore s script e
   pub no_read : e ≢ fault.Edges edge_fault.Read
   pub no_write : e ≢ fault.Write
-  pub refused : ArePlain edges list → IsRefusal s edges list script e
+  pub refused : ArePlain edges list → IsReplayRefusal s edges list script e
 
 -- what a replay that failed says of the input, and what it leaves: nothing was written, but for want of memory and
 -- for a failed write, after which a beginning of the answers stands; the edge list is never unread; and a write failed
@@ -196,7 +185,7 @@ pub record IsEarly (s : ReplaySettings) (edges : List ℕ) (list : Option (List 
 pub record Fails (s : ReplaySettings) (edges : List ℕ) (list : Option (List ℕ)) (script : List ℕ)
     (old new : Option (List ℕ)) (failed_old failed_new : ℕ) (e : ReplayError) : Type 0 where
   pub before : RefusesBefore s script e
-  pub refused : ArePlain edges list → IsRefusal s edges list script e
+  pub refused : ArePlain edges list → IsReplayRefusal s edges list script e
   pub no_read : e ≢ fault.Edges edge_fault.Read
   pub write : e ≡ fault.Write → Rises failed_old failed_new
   pub counted : e ≢ fault.Write → failed_new ≡ failed_old

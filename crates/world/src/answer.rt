@@ -1,6 +1,7 @@
 //! The text of what a world answers, a line at a time.
 
-ghost use Rattle.std.specs.Prelude.{◌≡◌, ◌≢◌, ◌++◌, ◌∷◌, ◌/◌, ◌%◌, ◌+◌, ◌<◌, ◌≤◌, [], ℕ, IfOk, OnOk, Option, codes, decimal, length, map};
+ghost use Rattle.std.specs.Prelude.{◌≡◌, ◌≢◌, ◌++◌, ◌∷◌, ◌/◌, ◌%◌, ◌+◌, ◌<◌, ◌≤◌, [], ℕ, IfOk};
+ghost use Rattle.std.specs.Prelude.{OnOk, Option, codes, decimal, length, map};
 ghost use Rattle.std.specs.List.{flat_map};
 ghost use Rattle.figures.specs.Values.{value_of};
 ghost use Rattle.ball_model.specs.declared.names.BatchName.{BatchName as Name};
@@ -10,10 +11,11 @@ ghost use Rattle.ball_model.specs.Job.{Job};
 ghost use Rattle.ball_model.specs.Join.{Holding};
 ghost use Rattle.ball_model.specs.Held.{HasHolding};
 ghost use Rattle.ball_model.specs.World.{World as Defined};
-ghost use Rattle.ball_model.specs.WorldText.{answer_text, held_word, hex_digit, node_line, node_word};
-ghost use Rattle.ball_model.specs.WorldText.{number_line, refusal_line, registers_word, row_line};
-ghost use Rattle.ball_model.specs.WorldText.{row_text, taken_line, unclosed_line, unmerged_line};
-ghost use Rattle.ball_model.specs.WorldText.{untaken_line, verdict_word, word_line, words_line};
+ghost use Rattle.ball_model.specs.WorldText.{answer_text, held_word, hex_digit, node_line};
+ghost use Rattle.ball_model.specs.WorldText.{node_word, number_line, refusal_line, registers_word};
+ghost use Rattle.ball_model.specs.WorldText.{row_line, row_text, taken_line, unclosed_line};
+ghost use Rattle.ball_model.specs.WorldText.{unmerged_line, untaken_line, verdict_word, word_line};
+ghost use Rattle.ball_model.specs.WorldText.{words_line};
 ghost use Rattle.world.specs.Answer.{names_at, names_in, spaced};
 
 use ball_model::world::{Answer, WorldError};

@@ -8,15 +8,15 @@ use ball_model::CountedRead;
 use std::io;
 use std::io::Read;
 
-/// A reader of bytes in memory.
+/// A reader of bytes in memory. No call of it fails, and its contract says so.
 #[derive(Drop)]
-pub(crate) struct Bytes<'a> {
+pub struct Bytes<'a> {
     left: &'a [u8],
 }
 
 impl<'a> Bytes<'a> {
-    // A reader of these bytes.
-    pub(crate) fn new(bytes: &'a [u8]) -> Bytes<'a>
+    /// A reader of these bytes.
+    pub fn new(bytes: &'a [u8]) -> Bytes<'a>
         ensures { result.left.now ≡ bytes.now }
     {
         Bytes { left: bytes }

@@ -1,6 +1,7 @@
 //! What a world promises over whole runs: the contract of each function is the law, and its body is empty.
 
-ghost use Rattle.world.specs.Runs.{RunShows, RunAnswers, Headline, SameContentsAreSame, MessagesAreTrue, KeptComesBack, RecoversInAnyOrder};
+ghost use Rattle.world.specs.Runs.{RunShows, RunAnswers, Headline, SameContentsAreSame};
+ghost use Rattle.world.specs.Runs.{MessagesAreTrue, KeptComesBack, RecoversInAnyOrder};
 
 /// For every list of sends, deliveries, losses, repeats, closes, checkpoints, restarts, copies and recoveries, in any
 /// order, each replica at superstep t holds for each of its vertices the HyperLogLog registers of exactly the counted

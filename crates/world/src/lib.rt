@@ -26,7 +26,7 @@
 #![tactic(auto)]
 
 pub mod answer;
-mod bytes;
+pub mod bytes;
 pub mod laws;
 mod message;
 mod node;

@@ -12,7 +12,8 @@ ghost use Rattle.ball_model.specs.World.{closed_answer, start_node, taken_answer
 ghost use Rattle.replica.specs.Change.{IsTrueBatch};
 ghost use Rattle.replica.specs.Saved.{IsKeepable};
 ghost use Rattle.world.specs.Shows.{Has, IsCheckpoint, ShowsNode};
-ghost use Rattle.world.specs.Turns.{Turns, closed_turn, kept_turn, merged_turn, restarted_turn, taken_turn};
+ghost use Rattle.world.specs.Turns.{Turns, closed_turn, kept_turn, merged_turn, restarted_turn};
+ghost use Rattle.world.specs.Turns.{taken_turn};
 
 use ball_model::world::Answer;
 use ball_model::{CloseError, MemReader, MemWriter, MergeError, TakeError, Taken};

@@ -4,12 +4,12 @@ ghost use Rattle.std.specs.Prelude.{◌≡◌, ◌≢◌, Ok, Err, IfErr, IfOk, 
 ghost use Rattle.ball_model.specs.Job.{IsJob, job_of};
 ghost use Rattle.ball_model.specs.Input.{IsPlain};
 ghost use Rattle.ball_model.specs.PlanValue.{plan_of};
-ghost use Rattle.ball_model.specs.RunText.{AreRead, plan_over};
+ghost use Rattle.ball_model.specs.RunText.{ArePlain, AreRead, list_in, plan_over};
 ghost use Rattle.ball_model.specs.WorldText.{AppendsReplay, HasCommands};
 ghost use Rattle.edgelist.specs.Counting.{RefusesList};
 ghost use Rattle.edgelist.specs.Reading.{Refuses};
-ghost use Rattle.world.specs.Replay.{AreCommands, ArePlain, Fails, IsEarly, IsOfInput, IsReady, IsStarted};
-ghost use Rattle.world.specs.Replay.{RefusesNetwork, RefusesScript, RefusesStart, counted_by, list_in};
+ghost use Rattle.world.specs.Replay.{AreCommands, Fails, IsEarly, IsOfInput, IsReady, IsStarted};
+ghost use Rattle.world.specs.Replay.{RefusesNetwork, RefusesScript, RefusesStart, counted_by};
 ghost use Rattle.world.specs.Replay.{network_by, numbers_in, replay_of, settings_of};
 
 use crate::World;
@@ -199,7 +199,7 @@ fn count_listed(
 }
 
 // The graph that an edge list and a list of counted vertices say.
-fn read_graph(
+fn read_network(
     alloc: Global,
     state: RandomState,
     edges: &[u8],
@@ -259,7 +259,7 @@ fn prepare<V: Watch>(
         (IsEarly (replay_of options.now) edges.now (list_in counted.entry) script.now) }
 {
     let events = read_events(alloc, script, options)?;
-    let graph = read_graph(alloc, state, edges, counted, options)?;
+    let graph = read_network(alloc, state, edges, counted, options)?;
     watch.after_read(graph.vertices(), graph.edges());
     let world = start(alloc, &graph, options)?;
     Ok((events, world))

@@ -1,10 +1,12 @@
 //! Scripts: events as lines of words.
 
-ghost use Rattle.std.specs.Prelude.{◌≡◌, ◌<◌, ◌∷◌, [], Ok, Some, None, IfErr, IfOk, OnOk, length, min, option_map};
+ghost use Rattle.std.specs.Prelude.{◌≡◌, ◌<◌, ◌∷◌, [], Ok, Some, None, IfErr, IfOk, OnOk, length};
+ghost use Rattle.std.specs.Prelude.{min, option_map};
 ghost use Rattle.std.specs.Str.Lines.{lines, strip_carriage_return};
 ghost use Rattle.ball_model.specs.Input.{fields, is_record};
-ghost use Rattle.ball_model.specs.WorldText.{command_of, node_from, node_in, number_in, of_both, one_command};
-ghost use Rattle.ball_model.specs.WorldText.{part_in, replica_in, script_of, two_command, value_from};
+ghost use Rattle.ball_model.specs.WorldText.{command_of, node_from, node_in, number_in, of_both};
+ghost use Rattle.ball_model.specs.WorldText.{one_command, part_in, replica_in, script_of};
+ghost use Rattle.ball_model.specs.WorldText.{two_command, value_from};
 ghost use Rattle.ball_model.specs.declared.world.Event.TheVariants as event;
 ghost use Rattle.world.specs.Script.{RefusesLine, RefusesScript, added, cut_of, most};
 

@@ -1,12 +1,14 @@
 //! A cluster whose events come one at a time.
 
-ghost use Rattle.std.specs.Prelude.{◌≡◌, ◌≢◌, ◌↔◌, ◌++◌, ◌∷◌, [], None, Err, true, IfOk, IsOk, OnErr, OnOk, length, option_map};
+ghost use Rattle.std.specs.Prelude.{◌≡◌, ◌≢◌, ◌↔◌, ◌++◌, ◌∷◌, [], None, Err, true, IfOk, IsOk};
+ghost use Rattle.std.specs.Prelude.{OnErr, OnOk, length, option_map};
 ghost use Rattle.std.specs.List.{slice_get};
 ghost use Rattle.ball_model.specs.declared.world.Event.TheVariants as event;
 ghost use Rattle.ball_model.specs.declared.world.Answer.TheVariants as answer;
 ghost use Rattle.ball_model.specs.declared.world.WorldError.TheVariants as refusal;
 ghost use Rattle.ball_model.specs.Job.{Job, IsJob, job_of};
-ghost use Rattle.ball_model.specs.World.{World as Defined, after_event, answer_of, node_at, sent_answer, start_world};
+ghost use Rattle.ball_model.specs.World.{World as Defined, after_event, answer_of, node_at};
+ghost use Rattle.ball_model.specs.World.{sent_answer, start_world};
 ghost use Rattle.replica.specs.Seen.{IsState};
 ghost use Rattle.world.specs.Runs.{Applies, takes_memory};
 ghost use Rattle.world.specs.Shows.{Agree, Has, Shows, message_of, seen_at};

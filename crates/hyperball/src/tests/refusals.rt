@@ -3,10 +3,13 @@
 
 use super::*;
 
-/// Whether memory was refused: before words are served, or with a beginning of the output, none of it by a run.
+/// Whether memory was refused: before words are served, or with nothing written, or with a beginning of what a replay, a
+/// node or a gathering writes.
 fn is_refused(case: &Case, end: &End) -> bool {
-    let is_run = case.0.starts_with("hyperball run");
-    let right = end.output.is_front() && (end.output.taken() == 0 || !is_run);
+    let writes_on = case.0.starts_with("hyperball replay ")
+        || case.0.starts_with("hyperball node ")
+        || case.0.starts_with("hyperball gather ");
+    let right = end.output.is_front() && (end.output.taken() == 0 || writes_on);
     !end.served || right && end.status == 1 && end.refused.is_whole()
 }
 

@@ -5,7 +5,7 @@ use Rattle.std.proofs.lemmas.List.FromFn.{length-range_with_len}
 use Rattle.ball_model.specs.Checkpoint.{vertex_bytes}
 use Rattle.checkpoint.proofs.WriteLemmas.{on_err}
 use Rattle.checkpoint.proofs.SpoolLemmas.{passes_as, passes_none, passes_next, stops_next}
-use Rattle.checkpoint.proofs.TextLemmas.{range_more, range_split}
+use Rattle.checkpoint.proofs.TextLemmas.{range_more, range_pieces}
 use Rattle.checkpoint.proofs.write.keep_vertices.Goals as goal
 
 pub returns-in_err-keep_vertex-clause-stops : goal.returns-in_err-keep_vertex-clause-stops
@@ -13,7 +13,7 @@ returns-in_err-keep_vertex-clause-stops g c =
     let v = c.args.replica.now in
     let lt : c.loop-i.i < length v.part.preds = omega arith in
     on_err c.from_residual.result
-    (stops_next g.W.Write.contents g.W.CountedWrite.failed_calls g.W.CountedWrite.sure_calls g.W.CountedWrite.room _ _ _ _ _ _ _ (flat_map (vertex_bytes v) (drop (suc c.loop-i.i) (range_with_len 0 (length v.part.preds)))) _ (range_split (vertex_bytes v) (length v.part.preds) c.loop-i.i lt) c.loop-i.invariant c.in_err-keep_vertex.ensures.stops)
+    (stops_next g.W.Write.contents g.W.CountedWrite.failed_calls g.W.CountedWrite.sure_calls g.W.CountedWrite.room _ _ _ _ _ _ _ (flat_map (vertex_bytes v) (drop (suc c.loop-i.i) (range_with_len 0 (length v.part.preds)))) _ (range_pieces (vertex_bytes v) (length v.part.preds) c.loop-i.i lt) c.loop-i.invariant c.in_err-keep_vertex.ensures.stops)
 
 pub loop-i-preserved : goal.loop-i-preserved
 loop-i-preserved g c =

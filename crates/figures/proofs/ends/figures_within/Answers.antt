@@ -6,7 +6,7 @@ use Rattle.rayon.proofs.ToStd.{nat_range-All}
 use Rattle.ball_model.specs.Figures.{TallyValue}
 use Rattle.figures.specs.declared.tally.Tally.{Tally}
 use Rattle.figures.specs.declared.ends.Figures.{Figures}
-use Rattle.figures.specs.Values.{IsAt, figures_of, figures_from, value_of}
+use Rattle.figures.specs.Values.{AreFiguresAt, figures_of, figures_from, value_of}
 use Rattle.figures.proofs.PlaceLemmas.{an_item, part_of, take_within, zipped_at, zipped_length}
 use Rattle.figures.proofs.ends.figures_within.Goals as goal
 
@@ -38,7 +38,7 @@ returns g c =
     let whole : List Figures = map (λ p. of p.0 p.1) (zip rows (map value_of tallies)) in
     let long : length whole ≡ length rows = zipped_length of value_of rows tallies c.requires.count in
     let at_end : last ≡ min c.args.places.end (length whole) = omega arith in
-    let is = λ (i : ℕ) (y : Figures). (d : Tally) → IsAt (get_or tallies i d).last rows tallies i d y in
+    let is = λ (i : ℕ) (y : Figures). (d : Tally) → AreFiguresAt (get_or tallies i d).last rows tallies i d y in
     IfOk-then c.collect.result _ _ c.collect.ensures (λ v h.
     let chain = rw (c.map.ensures.base, c.map.ensures.f) at h.1 in
     let places = chain.1 ∙ (λ i. nat_range (ends.0 i) (ends.1 i)) in

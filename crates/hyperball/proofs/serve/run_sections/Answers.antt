@@ -1,20 +1,20 @@
-use Rattle.std.proofs.Common.{ℕ, List, ap, Bor, subst}
+use Rattle.std.proofs.Common.{arith, subst}
 use Rattle.std.specs.Prelude.{Some}
 use Rattle.std.proofs.lemmas.Result.{err_from_is_err_and}
-use Rattle.ball_model.specs.RunText.{AppendsReport, Settings}
+use Rattle.ball_model.specs.RunText.{AppendsReport, ArePlain, Settings}
+use Rattle.ball_model.specs.Streams.{Rises}
 use Rattle.workers.specs.Options.{settings_of}
-use Rattle.workers.specs.Run.{ArePlain}
 use Rattle.hyperball.proofs.RefusalLemmas.{refuses_both}
 use Rattle.hyperball.proofs.ReportLemmas.{cut}
 use Rattle.hyperball.proofs.serve.run_sections.Goals as goal
 
 pub returns-clause-done : goal.returns-clause-done
 returns-clause-done g c = λ o same.
-    let first = c.new-edges.result.inner.now in
+    let first = c.new-edges.result.left.now in
     let list = c.in-Some.list.now in
     let old = g.W.Write.contents c.args.writer.now in
     let new = g.W.Write.contents c.run.new.writer in
-    cut c.args.input.now c.in-Some.edges.now first list o old new c.in-Some.ensures (ap (λ (b : Bor (List ℕ)). b.now) c.new-edges.ensures.inner)
+    cut c.args.input.now c.in-Some.edges.now first list o old new c.in-Some.ensures c.new-edges.ensures
     (subst (λ (s : Settings). ArePlain first (Some list) → AppendsReport s first (Some list) old new) same c.in_ok-run.ensures.ok)
 
 pub returns-in_err-run-clause-refused : goal.returns-in_err-run-clause-refused
@@ -22,6 +22,14 @@ returns-in_err-run-clause-refused g c =
     let p = err_from_is_err_and c.from_residual.result c.from_residual.ensures.1 in
     rw (p.1, p.2) (
       c.in_err-run.ensures.fault,
-      refuses_both (settings_of c.args.options.now) c.args.input.now c.in-Some.edges.now c.new-edges.result.inner.now c.in-Some.list.now c.in_err-run.field-0.0
-          c.in-Some.ensures (ap (λ (b : Bor (List ℕ)). b.now) c.new-edges.ensures.inner) c.in_err-run.ensures.refused,
+      refuses_both (settings_of c.args.options.now) c.args.input.now c.in-Some.edges.now c.new-edges.result.left.now c.in-Some.list.now c.in_err-run.field-0.0
+          c.in-Some.ensures c.new-edges.ensures c.in_err-run.ensures.refused,
     )
+
+pub returns-in_err-run-clause-edges : goal.returns-in_err-run-clause-edges
+returns-in_err-run-clause-edges g c = λ told.
+    let p = err_from_is_err_and c.from_residual.result c.from_residual.ensures.1 in
+    let first = p.1 in
+    let second = p.2 in
+    let bad : Rises 0 0 = c.in_err-run.ensures.read (cc) in
+    absurd (omega (arith, bad))

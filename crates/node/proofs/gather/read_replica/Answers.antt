@@ -35,7 +35,7 @@ pub returns-clause-refused : goal.returns-clause-refused
 unfolding part_of
 returns-clause-refused g c =
     let j : Job = job_of c.args.graph.now.graph c.args.plan.now in
-    rw (c.told.ensures.told)
+    rw (c.checkpoint_fault.ensures.told)
     (told_other c.args.p (part_of j c.args.p) (g.R.Read.remaining c.args.reader.now) (g.R.Read.remaining c.read_bytes.new.reader) c.read_bytes.new.bytes.items c.in-Err.error refl
     c.in_ok-read_bytes.ensures.read
     (λ some.

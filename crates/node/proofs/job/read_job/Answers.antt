@@ -5,7 +5,7 @@ use Rattle.node.proofs.job.read_job.Goals as goal
 pub returns-clause-read : goal.returns-clause-read
 returns-clause-read g c = record {
   all = c.in_ok-graph.graph;
-  mid = g.R.Read.remaining c.read_graph.new.reader;
+  mid = g.R.Read.remaining c.read_edge_section.new.reader;
   edges = c.in_ok-graph.ensures.says;
   list = c.in_ok-count_listed.ensures.counts;
   planned = planned (numbers_in c.args.options.now) c.count_listed.new.graph c.in_ok-plan.plan c.in_ok-plan.ensures.value;

@@ -1,7 +1,8 @@
 use Rattle.std.proofs.Common.{◌≡◌, List, sym, subst}
 use Rattle.std.proofs.lemmas.Result.{err_from_is_err_and}
 use Rattle.ball_model.specs.declared.world.Event.{Event}
-use Rattle.world.specs.Replay.{IsReady, list_in, replay_of}
+use Rattle.ball_model.specs.RunText.{list_in}
+use Rattle.world.specs.Replay.{IsReady, replay_of}
 use Rattle.world.proofs.ReplayLemmas.{told-appends, told-counted, told-fails}
 use Rattle.world.proofs.replay.replay_watched.Goals as goal
 

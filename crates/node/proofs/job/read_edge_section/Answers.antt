@@ -5,7 +5,7 @@ use Rattle.std.proofs.lemmas.Result.{err_from_is_err_and}
 use Rattle.ball_model.specs.RunText.{network_in}
 use Rattle.node.specs.Job.{GivesEdges, settings_in}
 use Rattle.node.proofs.JobLemmas.{lacks_mark, refused_edges}
-use Rattle.node.proofs.job.read_graph.Goals as goal
+use Rattle.node.proofs.job.read_edge_section.Goals as goal
 
 pub returns-clause-says : goal.returns-clause-says
 returns-clause-says g c =

@@ -1,6 +1,6 @@
 use Rattle.edgelist.proofs.CountLemmas.{marks-more, passes-known}
 use Rattle.csv.specs.Records.{fields_of}
-use Rattle.edgelist.proofs.counting.mark.Goals as goal
+use Rattle.edgelist.proofs.counting.mark_vertex.Goals as goal
 
 pub returns-clause-marks : goal.returns-clause-marks
 returns-clause-marks c = λ past are.

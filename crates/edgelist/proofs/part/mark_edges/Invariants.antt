@@ -2,7 +2,7 @@ use Rattle.std.proofs.Common.{◌≡◌, [], length}
 use Rattle.std.specs.List.{flat_map, range_with_len}
 use Rattle.edgelist.specs.Feeding.{AreMasks, masks_of, width_of}
 use Rattle.edgelist.proofs.DigestLemmas.{edges_to}
-use Rattle.edgelist.proofs.part.mark_all.Given as goal
+use Rattle.edgelist.proofs.part.mark_edges.Given as goal
 
 abbrev pub invariant-loop-target : goal.invariant-loop-target
 invariant-loop-target l = record {

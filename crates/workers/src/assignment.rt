@@ -11,14 +11,14 @@ pub type NodeResult = Result<NodeEnd, NodeError>;
 
 /// A node of a job, and what it is told.
 #[derive(Drop)]
-pub struct Told {
+pub struct Assignment {
     pub graph: Snapshot<Graph>,
     pub plan: Plan,
     pub node: NodeId,
     pub orders: NodeOrders,
 }
 
-impl Promise<NodeResult> for Told {
+impl Promise<NodeResult> for Assignment {
     ghost use Rattle.ball_model.specs.Job.{job_of};
     ghost use Rattle.workers.specs.Job.{KeepsItsOrders};
 

@@ -2,7 +2,7 @@ use Rattle.std.proofs.Common.{◌≡◌, ◌∙◌, ◌+◌, ◌*◌, ◌/◌, �
 use Rattle.std.proofs.Math.Nat.{div-add-mod}
 use Rattle.edgelist.specs.Feeding.{masks_of}
 use Rattle.edgelist.proofs.FeedLemmas.{place-within, masks-own, masks-other}
-use Rattle.edgelist.proofs.part.mark.Goals as goal
+use Rattle.edgelist.proofs.part.mark_edge.Goals as goal
 
 pub set_bit-requires-clause-index : goal.set_bit-requires-clause-index
 set_bit-requires-clause-index c =
