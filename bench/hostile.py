@@ -2,13 +2,15 @@
 """Makes trouble for the built program: damaged inputs, refused memory, streams that fail, workers that are lost.
 
 Usage: bench/hostile.py [INPUTS [SECONDS [SEED]]]   (1000 inputs of each kind, for at most 600 seconds each, seed 0)
+       bench/hostile.py refused   (refused memory, failing streams and lost workers alone, as the gate has it)
 
 Inputs are random bytes, right ones with a few bytes changed, and scripts of random commands; a kind's inputs depend on
 its name and the seed alone. Each run is a process of its own. It has to end by itself, with status 0 and nothing told,
-or with status 1, one line of fault and nothing written (but what a node has answered). Where cc is there, feed.c copies the process before its main
-is called, which spares starting it anew for each input, and refuse.c stands between the program and the C library: each
-allocation is refused in turn, each thread, and each read and each write fails in turn. Under limits of the address space
-memory runs out for good. Prints a line for each kind; the status is 1 where a run went wrong.
+or with status 1, one line of fault and nothing written (but what a node has answered). Where cc is there, feed.c copies
+the process before its main is called, which spares starting it anew for each input, and refuse.c stands between the
+program and the C library: each allocation is refused in turn, each thread, and each read and each write fails in turn.
+The tests of refused calls that the gate built are run so, too. Under limits of the address space memory runs out for
+good. Prints a line for each kind; the status is 1 where a run went wrong, or a test is not there.
 """
 import os
 import random
@@ -94,15 +96,15 @@ def is_node(data, status, output, faults):
 
 
 def lines_of(data):
-    """The lines of commands, or of answers, without the bytes that follow some of them. A ValueError where one is cut."""
+    """The lines of commands, or of answers, each with the bytes that follow it. A ValueError where one is cut."""
     at = 0
     while at < len(data):
         end = data.index(b"\n", at)
-        line = data[at:end]
-        at = end + 1 + (int(line.split()[-1]) if line.startswith((b"deliver ", b"sent ")) else 0)
+        line, body = data[at:end], end + 1
+        at = body + (int(line.split()[-1]) if line.startswith((b"deliver ", b"sent ", b"kept ")) else 0)
         if at > len(data):
             raise ValueError(line)
-        yield line
+        yield line, data[body:at]
 
 
 def is_obeyed(data, status, output, faults):
@@ -149,12 +151,8 @@ def sized(word, body):
 
 def told_last(words, commands):
     """The bytes behind the last answer of a node, which is one of sent or kept."""
-    output, at, last = ran(words, EDGES + b"%%\n" + commands)[1], 0, b""
-    while at < len(output):
-        line, at = output[at:output.index(b"\n", at)], output.index(b"\n", at) + 1
-        size = int(line.split()[-1]) if line.startswith((b"sent ", b"kept ")) else 0
-        last, at = output[at:at + size], at + size
-    return last
+    *_, (_, body) = lines_of(ran(words, EDGES + b"%%\n" + commands)[1])
+    return body
 
 
 def node_parts():
@@ -263,7 +261,7 @@ def each_call(kind, words, data, shim, variable, wanted):
     bad, call = [], 0
     with tempfile.TemporaryDirectory() as folder:
         told = os.path.join(folder, "told")
-        while True:
+        while len(bad) < 5:
             call += 1
             answer = ran(words, data, LD_PRELOAD=shim, REFUSE_TELL=told, **{variable: str(call)})
             if not os.path.exists(told):
@@ -362,22 +360,31 @@ REFUSED_CALLS = (
 )
 
 
+def test_ran(crate, test, **more):
+    """Status, output and faults of a test as the gate built it. There has to be one of this very name."""
+    tests = os.path.join(HERE, "..", "crates", crate, "out", crate + "_tests")
+    try:
+        run = subprocess.run([tests, "tests::" + test], capture_output=True, timeout=60, env={**os.environ, **more})
+    except FileNotFoundError:
+        return "not there", b"", b""
+    except subprocess.TimeoutExpired:
+        return "hangs", b"", b""
+    return run.returncode, run.stdout, run.stderr
+
+
 def refused_calls(shim):
-    """The tests of calls that may be refused: each passes whichever allocation is refused."""
+    """The tests of calls that may be refused: each tells that it passed, whichever allocation is refused."""
     for crate, test in REFUSED_CALLS:
-        tests = os.path.join(HERE, "..", "crates", crate, "out", crate + "_tests")
-        if not os.path.exists(tests):
-            print(f"no {crate}_tests: {test} is not tried")
-            continue
-        bad, call = [], 0
+        plain, bad, call = test_ran(crate, test), [], 0
+        if plain != (0, b"\ntest result: ok\n", b""):
+            bad.append((crate, test, "nothing refused", *plain))
         with tempfile.TemporaryDirectory() as folder:
             told = os.path.join(folder, "told")
-            while True:
+            while len(bad) < 5:
                 call += 1
-                words = {"LD_PRELOAD": shim, "REFUSE_TELL": told, "REFUSE_ALLOC": str(call)}
-                run = subprocess.run([tests, "tests::" + test], capture_output=True, timeout=60, env={**os.environ, **words})
-                if run.returncode != 0:
-                    bad.append((crate, call, run.stdout + run.stderr))
+                answer = test_ran(crate, test, LD_PRELOAD=shim, REFUSE_TELL=told, REFUSE_ALLOC=str(call))
+                if answer != plain:
+                    bad.append((crate, test, call, *answer))
                 if not os.path.exists(told):
                     break
                 os.remove(told)
@@ -442,14 +449,14 @@ def built(folder, name):
 
 
 def main():
-    many = int(sys.argv[1]) if len(sys.argv) > 1 else 1000
-    seconds = float(sys.argv[2]) if len(sys.argv) > 2 else 600
-    seed = int(sys.argv[3]) if len(sys.argv) > 3 else 0
+    words = sys.argv[1:]
     with tempfile.TemporaryDirectory() as folder:
-        feed, shim = (built(folder, name) for name in ("feed", "refuse"))
-        all_inputs(many, seconds, seed, feed)
+        shim = built(folder, "refuse")
+        if words != ["refused"]:
+            many, seconds, seed = words + ["1000", "600", "0"][len(words):]
+            all_inputs(int(many), float(seconds), int(seed), built(folder, "feed"))
+            limits()
         lost_workers()
-        limits()
         if shim:
             refused_calls(shim)
             refusals(shim)

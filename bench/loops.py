@@ -14,16 +14,20 @@ import tempfile
 import time
 
 TOP = os.path.join(os.path.dirname(os.path.abspath(__file__)), "..")
-# Crate, file, test, inputs in a round, and what else is changed: counts that hold for a thousand rounds alone.
+# Crate, file, test, inputs in a round, and what else is changed: counts that hold for a thousand rounds alone. (ROUNDS
+# stands for how many there are.)
 LOOPS = {
     "decode": ("batches", "damage", "random_batches", 2, [("read: 354,", "read: seen.read,")]),
-    "lists": ("gapcode", "damage", "random_lists", 1, [("assert_eq!(rt; see_random(rt.alloc()), of(28))", "assert!(rt; see_random(rt.alloc()).same)")]),
+    "lists": ("gapcode", "damage", "random_lists", 1,
+              [("assert_eq!(rt; see_random(rt.alloc()), of(28))", "assert!(rt; see_random(rt.alloc()).same)")]),
     "lists-changed": ("gapcode", "damage", "lists_with_some_bits_turned", 1, []),
     "checkpoints": ("checkpoint", "damage", "random_checkpoints", 2, []),
-    "scripts": ("world", "random", "random_scripts", 2, []),
-    "edges": ("edgelist", "damage", "random_lists", 2, []),
-    "edges-changed": ("edgelist", "changed", "edge_lists_with_some_bytes_changed", 2, []),
-    "counted-changed": ("edgelist", "changed", "counted_lists_with_some_bytes_changed", 2, []),
+    "scripts": ("world", "random", "random_scripts", 2,
+                [("seen.answered > 1000 && seen.refused > 100", "seen.answered >= ROUNDS && seen.refused > 0")]),
+    "scripts-any": ("world", "random", "scripts_of_random_bytes", 1, [("seen.refused > 800", "seen.refused > 0")]),
+    "edges": ("edgelist", "damage", "random_edge_lists", 1, []),
+    "edges-changed": ("edgelist", "damage", "edge_lists_with_some_bytes_changed", 1, []),
+    "counted-changed": ("edgelist", "damage", "counted_lists_with_some_bytes_changed", 2, []),
 }
 
 
@@ -38,7 +42,7 @@ def copied(folder, crate, rounds, seed, file, more):
     for old, new in [("0..1000 {", f"0..{rounds} {{"), ("let mut state = ", f"let mut state = {seed}0000"), *more]:
         if old not in now:
             sys.exit(f"{crate}, {file}: no {old}")
-        now = now.replace(old, new)
+        now = now.replace(old, new.replace("ROUNDS", str(rounds)))
     with open(source, "w") as text:
         text.write(now)
     return place
