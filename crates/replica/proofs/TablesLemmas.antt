@@ -72,14 +72,6 @@ tables_alike n a b mine other parts is =
 pub ahead_of : (r : progress.Inside) (v : State) → IsProgress r → Keeps r v → AreAhead (arc_value r.part).plan.log2m r.tables.rows r.hearing
 ahead_of r v ok k = record { counters = k.state.rows; rise = k.state.accumulated; width = ok.width ∙ sym ok.accumulated_width; kept = k.kept }
 
-pub can_hear_own : (r : progress.Inside) (v : State) (targets : List (List ℕ)) → IsProgress r → Keeps r v → targets ≡ targets_of (arc_value r.part) → CanHearOwn (arc_value r.part) targets r.tables r.hearing
-can_hear_own r v targets ok k index = record {
-  count = k.state.count;
-  marks = k.state.marks;
-  inside = inside_of (fields_of r) targets (length r.hearing.accumulated.rows) k.state index refl;
-  ahead = ahead_of r v ok k;
-}
-
 pub can_hear : (r : progress.Inside) (v : State) (plan : PlanValue) (targets : List (List ℕ)) (early : List (List (Option BatchValue))) → IsProgress r → Keeps r v → plan ≡ (arc_value r.part).plan → targets ≡ targets_of (arc_value r.part) → AreOfPlan (arc_value r.part).plan early → CanHear plan targets early r.hearing
 can_hear r v plan targets early ok k own index kept = rw own (record {
   ready = ready_at (fields_of r) targets r.hearing k.state index refl refl ok.accumulated_width;
@@ -110,6 +102,14 @@ goes r k targets m weights ok can is going =
       weights = can.weights ∙ ap (λ (v : State). weights_of v.rows) (sym all.view_is);
       room = had_room r k is can.goes_on;
     }
+
+pub can_hear_own : (r : progress.Inside) (v : State) (targets : List (List ℕ)) (m : Measure) (weights : List ℕ) → Goes r v targets m weights → CanHearOwn (arc_value r.part) targets r.tables r.hearing
+can_hear_own r v targets m weights g = record {
+  count = g.keeps.state.count;
+  marks = g.keeps.state.marks;
+  inside = inside_of (fields_of r) targets (length r.hearing.accumulated.rows) g.keeps.state g.index refl;
+  ahead = ahead_of r v g.limits g.keeps;
+}
 
 pub can_step : (r : progress.Inside) (v : State) (targets : List (List ℕ)) (m : Measure) (own : HearingValue) (weights : List ℕ) → Goes r v targets m weights → AreAhead (arc_value r.part).plan.log2m r.tables.rows own → CanStep m r.superstep r.tables own weights
 can_step r v targets m own weights g ahead =

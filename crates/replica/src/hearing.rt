@@ -4,9 +4,10 @@ ghost use Rattle.std.specs.Prelude.{◌≡◌, ℕ, ◌^◌, ◌<◌, ◌||◌, 
 ghost use Rattle.std.specs.Prelude.{option_map, Some, IfOk, IfSome, OnOk, OnErr};
 ghost use Rattle.ball_model.specs.State.{early_at};
 ghost use Rattle.registers.specs.Joined.{maximum_of_rows, union_of_flags};
-ghost use Rattle.replica.specs.Hearing.{CanFill, CanHear, CanJoin, Fills, HearsAlso, HearsEarly};
-ghost use Rattle.replica.specs.Hearing.{IsQuiet, IsReady, KeepsAll, KeepsAllOrNone, SaysSame};
-ghost use Rattle.replica.specs.Hearing.{accumulators_of, batch_by, let_go};
+ghost use Rattle.replica.specs.Hearing.{Begins, CanBegin, CanFill, CanHear, CanJoin, CanRenew};
+ghost use Rattle.replica.specs.Hearing.{Renews, Fills, HearsAlso, HearsEarly, IsQuiet, IsReady};
+ghost use Rattle.replica.specs.Hearing.{KeepsAll, KeepsAllOrNone, SaysSame, accumulators_of};
+ghost use Rattle.replica.specs.Hearing.{batch_by, let_go};
 ghost use Rattle.replica.specs.Kept.{IsFrom};
 ghost use Rattle.replica.specs.Level.{differences};
 ghost use Rattle.replica.specs.Tables.{CanHearOwn, HearsOwn};
@@ -208,12 +209,8 @@ impl Hearing {
     /// Begins the next superstep: what is accumulated becomes the rows, those are marked that this changes, and nothing
     /// is heard yet.
     pub fn begin(&mut self, rows: &mut Relay, marks: &mut [bool])
-        requires width { rows.old.width ≡ self.old.accumulated.width }
-        requires marks { length marks.old ≡ length rows.old.rows }
-        requires kept { KeepsAll rows.old.rows self.old }
-        ensures quiet { IsQuiet rows.new self.new }
-        ensures rows { rows.new ≡ self.old.accumulated }
-        ensures marks { marks.new ≡ self.old.touched }
+        requires { CanBegin rows.old marks.old self.old }
+        ensures { Begins self.old self.new rows.new marks.new }
     {
         rows.follow(&self.accumulated, &self.touched);
         marks.copy_from_slice(&self.touched);
@@ -303,10 +300,8 @@ impl Hearing {
 
     /// Keeps the accumulators again that were let go. An error changes nothing.
     pub fn renew(&mut self, alloc: Global, rows: &Rows) -> Result<(), AllocError>
-        requires width { rows.now.width ≡ self.old.accumulated.width }
-        requires kept { KeepsAllOrNone rows.now.rows self.old }
-        ensures same { OnOk result (SaysSame rows.now.rows self.old self.new) }
-        ensures kept { OnOk result (KeepsAll rows.now.rows self.new) }
+        requires { CanRenew rows.now self.old }
+        ensures renewed { OnOk result (Renews rows.now.rows self.old self.new) }
         ensures refused { OnErr result (self.new ≡ self.old) }
     {
         if self.accumulated.len() == 0 {

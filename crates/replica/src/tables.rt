@@ -72,6 +72,7 @@ impl Tables {
     }
 
     /// The rows.
+    #[inline]
     pub fn rows(&self) -> &Rows
         ensures { result.now ≡ self.now.rows }
     {
@@ -79,6 +80,7 @@ impl Tables {
     }
 
     /// Which of them changed.
+    #[inline]
     pub fn marks(&self) -> &[bool]
         ensures { result.now ≡ self.now.marks }
     {
@@ -86,6 +88,7 @@ impl Tables {
     }
 
     /// Their figures.
+    #[inline]
     pub fn tallies(&self) -> &[Tally]
         ensures { map value_of result.now ≡ self.now.tallies }
     {
@@ -93,6 +96,7 @@ impl Tables {
     }
 
     /// The sum of their estimates at each superstep so far.
+    #[inline]
     pub fn sums(&self) -> &[u128]
         ensures { result.now ≡ self.now.sums }
     {

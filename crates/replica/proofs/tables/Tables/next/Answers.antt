@@ -48,12 +48,12 @@ returns c =
     let tallies : length c.step_tallies-gain.new.tallies ≡ c.self.inside.tallies.len = omega (arith, c.step_tallies-gain.auto.tallies, c.deref_mut.ensures.len, c.self.inside.tallies.ok.0) in
     let after = tables_of (record { rows = c.begin.new.rows; marks = with_items c.self.inside.marks c.begin.new.marks; tallies = with_items c.self.inside.tallies c.step_tallies-gain.new.tallies; sums = c.push_reserved.new.self }) in
     subst (λ (a : TablesValue). Steps m c.args.t a after c.args.hearing.now c.begin.new.self c.step_tallies-gain.new.weights) c.self.view_is (record {
-      rows = c.begin.ensures.rows;
-      marks = with_items_is c.self.inside.marks c.begin.new.marks marks ∙ c.begin.ensures.marks ∙ differing_from rows own c.args.hearing.now.touched (length rows) ok.ahead.kept refl;
+      rows = c.begin.ensures.ahead;
+      marks = with_items_is c.self.inside.marks c.begin.new.marks marks ∙ c.begin.ensures.touched ∙ differing_from rows own c.args.hearing.now.touched (length rows) ok.ahead.kept refl;
       tallies = ap (map value_of) (with_items_is c.self.inside.tallies c.step_tallies-gain.new.tallies tallies) ∙ (rw (c.ahead-ahead.ensures, c.deref_mut.ensures.value) at c.step_tallies-gain.ensures.tallies) ∙ ap (λ n. next_tallies m (c.args.t + 1) own (map value_of c.self.inside.tallies.items) n) ok.ahead.rise.count;
       sums = c.push_reserved.ensures.items ∙ ap (λ n. c.self.inside.sums.items ++ n ∷ []) last.1;
       gains = omega (arith, last.0, last.1);
       room = c.push_reserved.ensures.capacity;
       quiet = c.begin.ensures.quiet;
-      weights = c.step_tallies-gain.ensures.weights ∙ ap (λ (t : Table). weights_of t.rows) (c.ahead-ahead.ensures ∙ sym c.begin.ensures.rows);
+      weights = c.step_tallies-gain.ensures.weights ∙ ap (λ (t : Table). weights_of t.rows) (c.ahead-ahead.ensures ∙ sym c.begin.ensures.ahead);
     })
