@@ -24,7 +24,7 @@ use Rattle.ball_model.specs.Join.{Holding, content_in, join_of, merge_of}
 use Rattle.ball_model.specs.Steps.{Take, Close, content_after_close}
 use Rattle.ball_model.specs.Held.{start_holding, held_take_answer, held_after, IsHeldBy, IsName}
 use Rattle.ball_model.specs.World.{Node, World, start_node, start_world, node_at, with_node, with_content, node_of, name_to, outcome_at, outcome_unless, recover_when, recover_at, deliver_at, taken_answer, answer_in, world_in, answer_of, after_event, run_of}
-use Rattle.ball_model.specs.WorldLaws.{IsNode, IsWorld, RunsStayWorlds, SentIsInTime, LossLeavesContents, OthersStay, RepeatIsNotNew, RecoverTwiceIsOnce, RecoveredIsHad, SparesKept, SparesNode, RestartGivesKept, IsNoRestart, OnlyRestartGoesBack}
+use Rattle.ball_model.specs.WorldLaws.{IsWorldNode, IsWorld, RunsStayWorlds, SentIsInTime, LossLeavesContents, OthersStay, RepeatIsNotNew, RecoverTwiceIsOnce, RecoveredIsHad, SparesKept, SparesNode, RestartGivesKept, IsNoRestart, OnlyRestartGoesBack}
 use Rattle.ball_model.proofs.HeldLemmas.{start_held, taken_held, closed_held, joined_held, held_alike, held_repeats, taken_grows, closed_grows, joined_grows, grows_through, IsHeard, taken_is_heard, heard_again, heard_grows}
 use Rattle.ball_model.proofs.JoinLemmas.{join_repeats, join_associates}
 
@@ -114,19 +114,19 @@ node_back w id n e = ap (λ (rows : List (List Node)). record w { nodes = rows }
 
 -- ---- worlds of a job
 -- a world with another node is one of the job where that node is
-pub with_node_world : (j : Job) (w : World) (id : NodeId) (n m : Node) → IsWorld j w → node_at w id ≡ Some n → IsNode j id.part m → IsWorld j (with_node w id m)
+pub with_node_world : (j : Job) (w : World) (id : NodeId) (n m : Node) → IsWorld j w → node_at w id ≡ Some n → IsWorldNode j id.part m → IsWorld j (with_node w id m)
 with_node_world j w id n m ok at fits = record {
   nodes = λ other. elim (same_or_other other id) [
-    | inl same ↦ subst (λ (x : NodeId). IfSome (node_at (with_node w id m) x) (IsNode j x.part)) (sym same) (subst (λ (o : Option Node). IfSome o (IsNode j id.part)) (sym (node_same w id n m at)) fits)
-    | inr ne ↦ subst (λ (o : Option Node). IfSome o (IsNode j other.part)) (sym (node_other w id other m ne)) (ok.nodes other)
+    | inl same ↦ subst (λ (x : NodeId). IfSome (node_at (with_node w id m) x) (IsWorldNode j x.part)) (sym same) (subst (λ (o : Option Node). IfSome o (IsWorldNode j id.part)) (sym (node_same w id n m at)) fits)
+    | inr ne ↦ subst (λ (o : Option Node). IfSome o (IsWorldNode j other.part)) (sym (node_other w id other m ne)) (ok.nodes other)
   ];
   sent = ok.sent;
   copies = ok.copies;
 }
 
 -- the node is one of its partition
-pub node_is_one : (j : Job) (w : World) (id : NodeId) (n : Node) → IsWorld j w → node_at w id ≡ Some n → IsNode j id.part n
-node_is_one j w id n ok at = subst (λ (o : Option Node). IfSome o (IsNode j id.part)) at (ok.nodes id)
+pub node_is_one : (j : Job) (w : World) (id : NodeId) (n : Node) → IsWorld j w → node_at w id ≡ Some n → IsWorldNode j id.part n
+node_is_one j w id n ok at = subst (λ (o : Option Node). IfSome o (IsWorldNode j id.part)) at (ok.nodes id)
 
 with_content_world : (j : Job) (w : World) (id : NodeId) (n : Node) (h : Holding) → IsWorld j w → node_at w id ≡ Some n → IsHeldBy j id.part h → IsWorld j (with_content w id n h)
 with_content_world j w id n h ok at fits = with_node_world j w id n (record n { content = h }) ok at (record { content = fits; kept = (node_is_one j w id n ok at).kept })
@@ -205,25 +205,25 @@ run_stays j w [] ok = ok
 run_stays j w (e ∷ es) ok = run_stays j (after_event j w e) es (stays_world j w e ok)
 
 -- ---- the start
-alike_node : (j : Job) (p count k : ℕ) → p < j.plan.parts → IfSome (slice_get (replicate count (start_node j.plan p)) k) (IsNode j p)
+alike_node : (j : Job) (p count k : ℕ) → p < j.plan.parts → IfSome (slice_get (replicate count (start_node j.plan p)) k) (IsWorldNode j p)
 alike_node j p zero k lt = tt
 alike_node j p (suc count) zero lt = record { content = start_held j p lt; kept = tt }
 alike_node j p (suc count) (suc k) lt = alike_node j p count k lt
 
-start_rows : (j : Job) (replicas a n p k : ℕ) → a + n ≤ j.plan.parts → IfSome (slice_get (get_or (map (λ q. replicate replicas (start_node j.plan q)) (range_with_len a n)) p []) k) (IsNode j (a + p))
+start_rows : (j : Job) (replicas a n p k : ℕ) → a + n ≤ j.plan.parts → IfSome (slice_get (get_or (map (λ q. replicate replicas (start_node j.plan q)) (range_with_len a n)) p []) k) (IsWorldNode j (a + p))
 start_rows j replicas a zero p k within = tt
 start_rows j replicas a (suc n) zero k within =
     let same : a + 0 ≡ a = omega arith in
-    subst (λ (q : ℕ). IfSome (slice_get (replicate replicas (start_node j.plan a)) k) (IsNode j q)) (sym same) (alike_node j a replicas k (omega (arith, within)))
+    subst (λ (q : ℕ). IfSome (slice_get (replicate replicas (start_node j.plan a)) k) (IsWorldNode j q)) (sym same) (alike_node j a replicas k (omega (arith, within)))
 start_rows j replicas a (suc n) (suc p) k within =
     let same : (a + 1) + p ≡ a + suc p = omega arith in
-    subst (λ (q : ℕ). IfSome (slice_get (get_or (map (λ r. replicate replicas (start_node j.plan r)) (range_with_len (a + 1) n)) p []) k) (IsNode j q)) same (start_rows j replicas (a + 1) n p k (omega (arith, within)))
+    subst (λ (q : ℕ). IfSome (slice_get (get_or (map (λ r. replicate replicas (start_node j.plan r)) (range_with_len (a + 1) n)) p []) k) (IsWorldNode j q)) same (start_rows j replicas (a + 1) n p k (omega (arith, within)))
 
 pub start_is_world : (j : Job) (replicas : ℕ) → IsWorld j (start_world j.plan replicas)
 unfolding start_world node_at
 start_is_world j replicas = record {
   nodes = λ id. let same : 0 + id.part ≡ id.part = omega arith in
-      subst (λ (q : ℕ). IfSome (slice_get (get_or (map (λ r. replicate replicas (start_node j.plan r)) (range_with_len 0 j.plan.parts)) id.part []) id.replica) (IsNode j q)) same (start_rows j replicas 0 j.plan.parts id.part id.replica (omega arith));
+      subst (λ (q : ℕ). IfSome (slice_get (get_or (map (λ r. replicate replicas (start_node j.plan r)) (range_with_len 0 j.plan.parts)) id.part []) id.replica) (IsWorldNode j q)) same (start_rows j replicas 0 j.plan.parts id.part id.replica (omega arith));
   sent = λ m. tt;
   copies = λ c. tt;
 }
@@ -239,7 +239,7 @@ in_time_if plan (Some name) h = h.superstep
 pub sent_is_in_time : SentIsInTime
 sent_is_in_time j replicas m es = in_time_if j.plan (slice_get (run_of j (start_world j.plan replicas) es).sent m) ((runs_stay_worlds j replicas es).sent m)
 
-held_if : (j : Job) (p : ℕ) (o : Option Node) → IfSome o (IsNode j p) → IfSome o (λ n. IsHeldBy j p n.content)
+held_if : (j : Job) (p : ℕ) (o : Option Node) → IfSome o (IsWorldNode j p) → IfSome o (λ n. IsHeldBy j p n.content)
 held_if j p None h = tt
 held_if j p (Some n) h = h.content
 

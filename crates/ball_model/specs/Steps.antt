@@ -23,10 +23,10 @@ pub data Answer : Type 0 where
   Merged : Result (Unit {0}) MergeError → Answer
 
 -- the answer to a call, as the content says
-abbrev pub answer_of : Job → ℕ → Content → Call → Answer
-answer_of j p c (Take name) = Took (take_of j.plan p c j.plan name)
-answer_of j p c Close = Closed (close_of j p c)
-answer_of j p c (Merge d) = Merged (merge_of j.plan p j.plan p)
+abbrev pub answer_due : Job → ℕ → Content → Call → Answer
+answer_due j p c (Take name) = Took (take_of j.plan p c j.plan name)
+answer_due j p c Close = Closed (close_of j p c)
+answer_due j p c (Merge d) = Merged (merge_of j.plan p j.plan p)
 
 -- the content after a batch of the job was taken
 abbrev pub content_after_take : Job → ℕ → Content → BatchName → Content
@@ -53,10 +53,10 @@ content_after_all j p c [] = c
 content_after_all j p c (call ∷ calls) = content_after_all j p (content_after j p c call) calls
 
 -- the answers to a list of calls, one after the other
-unfoldable pub answers_of : Job → ℕ → Content → List Call → List Answer
-answers_of j p c [] = []
-answers_of j p c (call ∷ calls) =
-    answer_of j p c call ∷ answers_of j p (content_after j p c call) calls
+unfoldable pub answers_due : Job → ℕ → Content → List Call → List Answer
+answers_due j p c [] = []
+answers_due j p c (call ∷ calls) =
+    answer_due j p c call ∷ answers_due j p (content_after j p c call) calls
 
 -- the start: superstep 0, and no batches
 abbrev pub start_content : Content

@@ -12,13 +12,13 @@ use Rattle.ball_model.specs.Held.{IsHeldBy, IsName}
 use Rattle.ball_model.specs.World.{World, Node, start_world, node_at, node_of, answer_of, after_event, run_of}
 
 -- a node of partition p: what it holds and what it keeps are contents of that partition
-pub record IsNode (j : Job) (p : ℕ) (n : Node) : Type 0 where
+pub record IsWorldNode (j : Job) (p : ℕ) (n : Node) : Type 0 where
   pub content : IsHeldBy j p n.content
   pub kept : IfSome n.kept (IsHeldBy j p)
 
 -- a world of the job: its nodes and copies have contents of the job, and what was sent may be told
 pub record IsWorld (j : Job) (w : World) : Type 0 where
-  pub nodes : (id : NodeId) → IfSome (node_at w id) (IsNode j id.part)
+  pub nodes : (id : NodeId) → IfSome (node_at w id) (IsWorldNode j id.part)
   pub sent : (m : ℕ) → IfSome (slice_get w.sent m) (IsName j.plan)
   pub copies : (c : ℕ) → IfSome (slice_get w.copies c) (λ h. IsHeldBy j h.partition h)
 

@@ -261,7 +261,7 @@ abbrev pub job_over : Numbers → Network → Job
 job_over n network = job_of network.graph (plan_over n network.graph)
 
 -- there is such a job over the network, and the text is what the events answer from the start of its world
-pub record IsReplayOf (n : Numbers) (replicas : ℕ) (network : Network) (events : List Event)
+pub record IsReplayTextOf (n : Numbers) (replicas : ℕ) (network : Network) (events : List Event)
     (text : List ℕ) : Type 0 where
   pub planned : plan_of (plan_over n network.graph) ≡ Ok (plan_over n network.graph)
   pub text_is : text
@@ -273,20 +273,20 @@ pub record ReplaySettings : Type 0 where
   pub replicas : ℕ
 
 -- the script says events, the input says a network, and the text is what these events answer
-pub record IsReplay (s : ReplaySettings) (edges : List ℕ) (list : Option (List ℕ))
+pub record IsReplayText (s : ReplaySettings) (edges : List ℕ) (list : Option (List ℕ))
     (script text : List ℕ) : Type 0 where
   pub replicas : AreReplicas s.replicas
   pub events : List Event
   pub commands : script_of script ≡ Ok events
   pub network : Network
   pub read : AreRead s.run edges list network
-  pub replay : IsReplayOf s.run.numbers s.replicas network events text
+  pub replay : IsReplayTextOf s.run.numbers s.replicas network events text
 
 -- the answers are appended
 pub record AppendsReplay (s : ReplaySettings) (edges : List ℕ) (list : Option (List ℕ))
     (script : List ℕ) (old new : Option (List ℕ)) : Type 0 where
   pub text : List ℕ
-  pub replay : IsReplay s edges list script text
+  pub replay : IsReplayText s edges list script text
   pub appended : Appends old new text
 
 -- the options fit, and that line of the script is the first that is no command

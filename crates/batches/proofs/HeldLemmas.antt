@@ -164,13 +164,6 @@ stays_held plan name changed w ids ids' r r' width held is_ids flat lie =
     let P : List ℕ → List ℕ → Type 0 = λ i f. IsKept (batch_of plan name changed i f) i f in
     record { kept = subst (λ (i : List ℕ). P i (flat_of (2 ^ plan.log2m) r')) (sym is_ids) (subst (P ids) (sym same) held.kept); lie = rw width at lie }
 
--- and it is seen as it was
-pub stays_seen : (plan : PlanValue) (name : BatchName) (changed w : ℕ) (ids ids' : List ℕ) (r r' : Registers) → w ≡ 2 ^ plan.log2m
-    → ids' ≡ ids → flat_of w r' ≡ flat_of w r → held_of plan name changed ids' r' ≡ held_of plan name changed ids r
-stays_seen plan name changed w ids ids' r r' width is_ids flat =
-    let same : flat_of (2 ^ plan.log2m) r' ≡ flat_of (2 ^ plan.log2m) r = rw width at flat in
-    ap (λ (i : List ℕ). batch_of plan name changed i (flat_of (2 ^ plan.log2m) r')) is_ids ∙ ap (batch_of plan name changed ids) same
-
 -- one row more is held
 pub record IsPushed (plan : PlanValue) (name : BatchName) (changed : ℕ) (ids' row : List ℕ) (id : ℕ) (r' : Registers) (b : BatchValue) : Type 0 where
   pub held : IsHeld (held_of plan name changed ids' r') ids' r'

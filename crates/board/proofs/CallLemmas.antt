@@ -5,9 +5,9 @@ use Rattle.std.proofs.lemmas.Bool.{leb-true, le-leb}
 use Rattle.ball_model.specs.declared.names.BatchName.{BatchName}
 use Rattle.ball_model.specs.Join.{Holding}
 use Rattle.ball_model.specs.History.{Event, Fetch, Recall, History, Object, board_of, is_kept_from, Begins, IsLegal, calls_by, entries_of, entry, with_entry}
-use Rattle.ball_model.proofs.HistoryLemmas.{begins_self, begins_entry, begins_trans, calls_by-other, calls_by-own, board_of-push, last_is_answer, kept_never_goes_back}
+use Rattle.ball_model.proofs.HistoryLemmas.{begins_self, begins_entry, calls_by-other, calls_by-own, board_of-push, last_is_answer, kept_never_goes_back}
 use Rattle.board.specs.View.{View}
-use Rattle.ball_model.specs.Caller.{Caller, Called, Extends}
+use Rattle.ball_model.specs.Caller.{Caller, Called}
 use Rattle.board.specs.Rule.{at_turn, after_turn}
 use Rattle.board.specs.Turn.{Next}
 use Rattle.board.specs.Noted.{IsNext, IsNoted}
@@ -33,16 +33,6 @@ fits_of limit n old new h le = next_cases limit n old new (λ l. entries_of l �
 -- the caller when it has seen that history
 abbrev pub seeing : Caller → History → Caller
 seeing v h = record { number = v.number; limit = v.limit; seen = h }
-
--- a caller that met a history, and then noted at most one entry, has seen more
-pub met_extends : (v : Caller) (met new : History) → Begins v.seen met → entries_of met ≤ v.limit → IsNext v.limit v.number met new → Extends v (seeing v new)
-met_extends v met new longer le h = record {
-  number = refl;
-  limit = refl;
-  begins = begins_trans v.seen met new longer (longer_of v.limit v.number met new h);
-  legal = h.0;
-  fits = fits_of v.limit v.number met new h le;
-}
 
 -- and where it noted one, that is the one call which it made
 pub met_called : (v : Caller) (met new : History) (e : Event) → Begins v.seen met → calls_by v.number met ≡ calls_by v.number v.seen → IsNoted v.limit v.number e met new → Called v e (seeing v new)

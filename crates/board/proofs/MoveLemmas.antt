@@ -11,7 +11,7 @@ use Rattle.atomic_table.specs.Table.{State, Me, Step, step, Act, keeps, takes, g
 use Rattle.atomic_table.proofs.Lists.{set_again, set_else, one_turn}
 use Rattle.board.specs.View.{View}
 use Rattle.ball_model.specs.History.{History, Begins, entries_of, calls_by}
-use Rattle.board.specs.Rule.{total, room_of, tickets_of, IsNotOf, Fits, IsKeptSafe, IsLocked, with_ticket, at_turn, after_turn, Drew, LookedIf, Looked, Wrote, Raised}
+use Rattle.board.specs.Rule.{total, room_of, tickets_of, IsNotOf, FitsLog, IsKeptSafe, IsLocked, with_ticket, at_turn, after_turn, Drew, LookedIf, Looked, Wrote, Raised}
 use Rattle.board.specs.Turn.{Next}
 use Rattle.ball_model.proofs.HistoryLemmas.{begins_self, begins_trans}
 use Rattle.board.proofs.ViewLemmas.{total_set, total_le, each_set, apart_set, set_at}
@@ -27,11 +27,11 @@ few s h =
     let r = h.rooms in
     omega arith
   where
-    room_for : (v : View) → Fits h.limit h.log h.next h.serving v → tickets_of v ≤ room_of v
+    room_for : (v : View) → FitsLog h.limit h.log h.next h.serving v → tickets_of v ≤ room_of v
     room_for v f = grind (arith, f.out)
 
 -- a ticket more, or the same
-fits_next : (limit : ℕ) (log : History) (next serving : ℕ) (u : View) → Fits limit log next serving u → Fits limit log (next + 1) serving u
+fits_next : (limit : ℕ) (log : History) (next serving : ℕ) (u : View) → FitsLog limit log next serving u → FitsLog limit log (next + 1) serving u
 fits_next limit log next serving u f = record {
   begins = f.begins;
   limit_is = f.limit_is;
@@ -79,7 +79,7 @@ draws slots id v idle live s h len at small =
         out = omega arith;
         rooms = omega arith;
         home = home_same h.log s ws id v w at (λ e. omega arith) (λ e. omega arith) h.home;
-        each = each_set (Fits h.limit h.log (h.next + 1) h.serving) s.views id w record {
+        each = each_set (FitsLog h.limit h.log (h.next + 1) h.serving) s.views id w record {
           begins = f.begins;
           limit_is = f.limit_is;
           own = f.own;
@@ -107,7 +107,7 @@ LookOwes s id v b = (w : View) × (a : Act (Option History)) × Valid s.homes []
 pub looks : (slots id : ℕ) (v : View) → v.stage ≡ 1 → Allows IsLocked slots id (v, []) 2 (λ n. n) (Looked still (v, []))
 looks slots id v waits s h len at small = go (slice_index s.words 2 == v.ticket % 2 ^ 64) refl
   where
-    f : Fits h.limit h.log h.next h.serving v
+    f : FitsLog h.limit h.log h.next h.serving v
     f = h.each id v at
 
     found : slice_index s.words 2 ≡ h.serving % 2 ^ 64
@@ -178,7 +178,7 @@ looks slots id v waits s h len at small = go (slice_index s.words 2 == v.ticket 
             out = omega arith;
             rooms = omega arith;
             home = inr (ap (λ (hs : List (maybe.Option (Option History))). set hs 0 none) home.0, (id, w, set_at s.views id v w at, refl));
-            each = each_set (Fits h.limit h.log h.next h.serving) s.views id w record {
+            each = each_set (FitsLog h.limit h.log h.next h.serving) s.views id w record {
               begins = λ _. begins_self h.log;
               limit_is = f.limit_is;
               own = λ _. refl;
@@ -248,7 +248,7 @@ writes slots id v book turn next s h len at small =
         out = omega arith;
         rooms = omega arith;
         home = inr (away s h id v at turn, (id, w, set_at s.views id v w at, refl));
-        each = each_set (Fits h.limit book h.next h.serving) s.views id w record {
+        each = each_set (FitsLog h.limit book h.next h.serving) s.views id w record {
           begins = λ _. begins_self book;
           limit_is = f.limit_is;
           own = λ _. refl;
@@ -310,7 +310,7 @@ raises slots id v turn s h len at small =
               let a = h.apart id j v u (λ p. ne (sym p)) at e in
               a.tickets (omega arith) (omega arith) (t.0 ∙ sym ((h.each j u e).turn q).0)),
         );
-        each = each_set (Fits h.limit h.log h.next (h.serving + 1)) s.views id w record {
+        each = each_set (FitsLog h.limit h.log h.next (h.serving + 1)) s.views id w record {
           begins = f.begins;
           limit_is = f.limit_is;
           own = f.own;

@@ -9,7 +9,7 @@ use Rattle.atomic_table.specs.Table.{State, Me, keeps, Allows, Splits, Joins, op
 use Rattle.atomic_table.proofs.Lists.{set_else, at_longer}
 use Rattle.board.specs.View.{View, EndedSeat, spent_view}
 use Rattle.ball_model.specs.History.{History, Begins, entries_of, events_by, calls_by, IsLegal}
-use Rattle.board.specs.Rule.{room_of, tickets_of, IsNotOf, Fits, Apart, IsKeptSafe, IsLocked, at_look, Counted, share, keeper, newcomer, with_news, first_view}
+use Rattle.board.specs.Rule.{room_of, tickets_of, IsNotOf, FitsLog, Apart, IsKeptSafe, IsLocked, at_look, Counted, share, keeper, newcomer, with_news, first_view}
 use Rattle.ball_model.proofs.HistoryLemmas.{begins_self, calls_by-none}
 use Rattle.board.proofs.ViewLemmas.{total_set, total_push, each_set, each_push, apart_set, apart_set_on, apart_push}
 use Rattle.board.proofs.MoveLemmas.{still, home_same}
@@ -39,7 +39,7 @@ counts slots id v idle live s h len at small =
         out = omega arith;
         rooms = omega arith;
         home = home_same h.log s ws id v w at (λ e. omega arith) (λ e. omega arith) h.home;
-        each = each_set (Fits h.limit h.log h.next h.serving) s.views id w record {
+        each = each_set (FitsLog h.limit h.log h.next h.serving) s.views id w record {
           begins = λ _. begins_self h.log;
           limit_is = f.limit_is;
           own = λ _. refl;
@@ -113,7 +113,7 @@ shares id v idle enough s h at =
       out = omega arith;
       rooms = omega arith;
       home = home_push h.log record { words = s.words; homes = s.homes; views = set s.views id k } n (λ e. omega arith) (home_same h.log s s.words id v k at (λ e. omega arith) (λ e. omega arith) h.home);
-      each = each_push (Fits h.limit h.log h.next h.serving) (set s.views id k) n record {
+      each = each_push (FitsLog h.limit h.log h.next h.serving) (set s.views id k) n record {
         begins = λ _. f.begins (omega arith);
         limit_is = λ _. f.limit_is (omega arith);
         own = λ _. f.unused n.number (omega arith) (omega arith) ∙ sym (calls_by-none n.number v.seen h.log (f.begins (omega arith)) (f.unused n.number (omega arith) (omega arith)));
@@ -121,7 +121,7 @@ shares id v idle enough s h at =
         out = λ p. absurd (omega arith);
         turn = λ e. absurd (omega arith);
         told = λ t e. absurd (none-some t e);
-      } (each_set (Fits h.limit h.log h.next h.serving) s.views id k record {
+      } (each_set (FitsLog h.limit h.log h.next h.serving) s.views id k record {
         begins = λ _. f.begins (omega arith);
         limit_is = λ _. f.limit_is (omega arith);
         own = λ _. f.own (omega arith);
@@ -180,7 +180,7 @@ tells id v other w idle idle' live live' s h at ne at' =
       out = omega arith;
       rooms = omega arith;
       home = home_same h.log record { words = s.words; homes = s.homes; views = views } s.words other w spent_view at' (λ e. omega arith) (λ e. omega arith) (home_same h.log s s.words id v u at (λ e. omega arith) (λ e. omega arith) h.home);
-      each = each_set (Fits h.limit h.log h.next h.serving) views other spent_view record {
+      each = each_set (FitsLog h.limit h.log h.next h.serving) views other spent_view record {
         begins = λ p. absurd (omega arith);
         limit_is = λ p. absurd (omega arith);
         own = λ p. absurd (omega arith);
@@ -188,7 +188,7 @@ tells id v other w idle idle' live live' s h at ne at' =
         out = λ p. absurd (omega arith);
         turn = λ e. absurd (omega arith);
         told = λ t e. absurd (none-some t e);
-      } (λ j x _ e. each_set (Fits h.limit h.log h.next h.serving) s.views id u record {
+      } (λ j x _ e. each_set (FitsLog h.limit h.log h.next h.serving) s.views id u record {
         begins = f.begins;
         limit_is = λ _. f.limit_is (omega arith);
         own = f.own;
@@ -225,7 +225,7 @@ opens log limit first legal le =
       out = refl;
       rooms = omega arith;
       home = inl (refl, λ i v e. only (λ u. u.stage ≢ 2) (λ q. omega arith) i v e);
-      each = only (Fits limit log 0 0) record {
+      each = only (FitsLog limit log 0 0) record {
         begins = λ _. begins_self log;
         limit_is = λ _. refl;
         own = λ _. refl;

@@ -35,7 +35,7 @@ abbrev pub IsNotOf : ℕ → View → Type 0
 IsNotOf k v = (k < v.number) ⊎ (v.number + v.room ≤ k)
 
 -- what a seat knows fits the history
-pub record Fits (limit : ℕ) (log : History) (next serving : ℕ) (v : View) : Type 0 where
+pub record FitsLog (limit : ℕ) (log : History) (next serving : ℕ) (v : View) : Type 0 where
   pub begins : 0 < v.room → Begins v.seen log
   pub limit_is : 0 < v.room → v.limit ≡ limit
   pub own : 0 < v.room → calls_by v.number log ≡ calls_by v.number v.seen
@@ -72,7 +72,7 @@ pub record IsLocked (s : State (Option History) View) : Type 0 where
   pub out : serving + total tickets_of s.views ≡ next
   pub rooms : total room_of s.views ≤ 2 ^ 64
   pub home : IsKeptSafe log s
-  pub each : (i : ℕ) (v : View) → get_elem? s.views i ≡ some v → Fits limit log next serving v
+  pub each : (i : ℕ) (v : View) → get_elem? s.views i ≡ some v → FitsLog limit log next serving v
   pub apart : (i j : ℕ) (v w : View) → i ≢ j → get_elem? s.views i ≡ some v →
       get_elem? s.views j ≡ some w → Apart v w
 

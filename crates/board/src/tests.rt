@@ -342,7 +342,8 @@ fn drop_below<R: Wait>(
 /// What a board is tried with.
 #[derive(Clone, Copy)]
 enum Case {
-    Refusals,
+    // so many posts before the other calls
+    Refusals(u8),
     ManyEntries,
     Full,
     // so many others beside the first, and their floor
@@ -379,7 +380,9 @@ fn does_right<R: Threads + Wait + Sync>(
     requires snapshot { Stands (job_of graph.now.graph plan.now) (arc_value stock.now.snapshot) }
 {
     match case {
-        Case::Refusals => goes_on_after_refusals(rt, board, &mut seat, graph, plan, stock),
+        Case::Refusals(posts) => {
+            goes_on_after_refusals(rt, board, &mut seat, graph, plan, stock, posts)
+        }
         Case::ManyEntries => takes_many(rt, board, &mut seat, graph, plan, stock, entries),
         Case::Full => Some(is_full(rt, board, &mut seat, graph, plan, stock, entries)),
         Case::Threads(others, _) => {

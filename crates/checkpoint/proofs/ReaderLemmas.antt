@@ -25,7 +25,7 @@ use Rattle.checkpoint.specs.declared.header.Header.{Header}
 use Rattle.checkpoint.specs.declared.sizes.TheConstants.{DIGEST_LEN, HEADER_LEN}
 use Rattle.checkpoint.specs.declared.error.KeepError.{KeepError}
 use Rattle.checkpoint.specs.declared.error.KeepError.TheVariants as errors
-use Rattle.checkpoint.specs.Reading.{◌>>=◌, Form, needs, followed, is_batch_length, greatest_batch, told_batch, batch_form, batches_form, told_batches, early_form, fixed_length, most_after, most_body, most_early, allowed, allowed_content, TakesWithin, held_form, content_form, sealed_form, told_body, body_form, check_head, head_at, seal_form, Takes, Grows, Fails, Passes, PassesSoFar, IsRead, IsOfBytes, IsOfBody, HasHead, OnOkOrMemory}
+use Rattle.checkpoint.specs.Reading.{◌>>=◌, Form, needs, followed, is_batch_length, greatest_batch, told_batch, batch_form, batches_form, told_batches, early_form, fixed_length, most_after, most_body, most_early, allowed, allowed_content, TakesWithin, held_form, content_form, sealed_form, told_body, body_form, check_head, head_at, seal_form, TakesBytes, Grows, Fails, Passes, PassesSoFar, IsRead, IsOfBytes, IsOfBody, HasHead, OnOkOrMemory}
 
 -- ---- calls that are sure
 after_then : (n m : ℕ) (a b c : Option ℕ) → AfterAtMost n a b → AfterAtMost m b c → AfterAtMost (n + m) a c
@@ -144,7 +144,7 @@ passes-batches plan (suc n) = inr (followed-err (batch_form plan) (λ _. batches
 
 -- ---- what is read
 pub takes_then : {R : Type 0} {remaining : R → Option (List ℕ)} {failed : R → ℕ} {sure : R → Option ℕ} (a b c : R) (xs ys : List ℕ)
-    → Takes remaining failed sure a b xs → Takes remaining failed sure b c ys → Takes remaining failed sure a c (xs ++ ys)
+    → TakesBytes remaining failed sure a b xs → TakesBytes remaining failed sure b c ys → TakesBytes remaining failed sure a c (xs ++ ys)
 takes_then {remaining} {failed} {sure} a b c xs ys p q = record {
   consumed = Consumes-trans (remaining a) (remaining b) (remaining c) xs ys p.consumed q.consumed;
   counted = q.counted ∙ p.counted;
@@ -174,7 +174,7 @@ few_more n m old new p le = record { bytes = p.bytes; consumed = p.consumed; few
 
 -- a piece, and then more of which no check fails
 pub so_far_then : {R : Type 0} {remaining : R → Option (List ℕ)} {failed : R → ℕ} {sure : R → Option ℕ} {a b c : R} {piece : List ℕ} {form : Form} (whole : Form)
-    → Takes remaining failed sure a b piece → ((rest : List ℕ) → Passes form rest → Passes whole (piece ++ rest))
+    → TakesBytes remaining failed sure a b piece → ((rest : List ℕ) → Passes form rest → Passes whole (piece ++ rest))
     → PassesSoFar form (remaining b) (remaining c) → PassesSoFar whole (remaining a) (remaining c)
 so_far_then {remaining} {a} {b} {c} {piece} whole p fine q = record {
   bytes = piece ++ q.bytes;
@@ -208,7 +208,7 @@ fails_first {remaining} {sure} {form} {most} {a} {b} {e} second more le next p =
 
 -- a piece is read, and then the rest is not, for whatever form of the whole has this refusal then
 pub fails_then : {R : Type 0} {remaining : R → Option (List ℕ)} {failed : R → ℕ} {sure : R → Option ℕ} {a b c : R} {piece : List ℕ} {form : Form} {most : ℕ} {e : KeepError} (whole : Form) (n more : ℕ)
-    → Takes remaining failed sure a b piece → length piece ≤ n → n + most ≤ more → ((rest : List ℕ) → form rest ≡ Err e → whole (piece ++ rest) ≡ Err e)
+    → TakesBytes remaining failed sure a b piece → length piece ≤ n → n + most ≤ more → ((rest : List ℕ) → form rest ≡ Err e → whole (piece ++ rest) ≡ Err e)
     → (e ≡ errors.Memory → (rest : List ℕ) → Passes form rest → Passes whole (piece ++ rest))
     → Fails remaining failed sure form most b c e → Fails remaining failed sure whole more a c e
 fails_then {remaining} {failed} {sure} {a} {b} {c} {piece} {form} {most} {e} whole n more p short le same fine q = record {
@@ -242,7 +242,7 @@ fails_here remaining failed sure a form most e other passes refused = record {
 
 -- a piece of so many bytes stands behind a text
 abbrev pub piece_grows : {R : Type 0} {remaining : R → Option (List ℕ)} {failed : R → ℕ} {sure : R → Option ℕ} {a b : R} {piece t u : List ℕ} (n : ℕ)
-    → Takes remaining failed sure a b piece → length piece ≡ n → u ≡ t ++ piece → Grows remaining failed sure (needs n) n a b t u
+    → TakesBytes remaining failed sure a b piece → length piece ≡ n → u ≡ t ++ piece → Grows remaining failed sure (needs n) n a b t u
 piece_grows {piece} n p len grown = record { piece = piece; grown = grown; takes = p; is_form = λ rest. needs-piece n piece rest len; few = omega (arith, len) }
 
 pub grows_then : {R : Type 0} {remaining : R → Option (List ℕ)} {failed : R → ℕ} {sure : R → Option ℕ} {a b c : R} {form : Form} {n most : ℕ} {t u v : List ℕ} (second : List ℕ → Form) (more : ℕ)
@@ -266,11 +266,11 @@ fails_full {remaining} {failed} {sure} {a} {b} {e} n m is p = subst (λ (k : ℕ
 
 -- a piece of so many bytes, and what follows it
 pub fails_after : {R : Type 0} {remaining : R → Option (List ℕ)} {failed : R → ℕ} {sure : R → Option ℕ} {a b c : R} {piece : List ℕ} {most : ℕ} {e : KeepError} (n : ℕ) (second : List ℕ → Form) (more : ℕ)
-    → Takes remaining failed sure a b piece → length piece ≡ n → n + most ≤ more → Fails remaining failed sure (second piece) most b c e → Fails remaining failed sure (followed (needs n) second) more a c e
+    → TakesBytes remaining failed sure a b piece → length piece ≡ n → n + most ≤ more → Fails remaining failed sure (second piece) most b c e → Fails remaining failed sure (followed (needs n) second) more a c e
 fails_after n second more p len le q = fails_second second more (piece_grows {t = []} n p len refl) le q
 
 pub grows_after : {R : Type 0} {remaining : R → Option (List ℕ)} {failed : R → ℕ} {sure : R → Option ℕ} {a b c : R} {piece t u v : List ℕ} {most : ℕ} (n : ℕ) (second : List ℕ → Form) (more : ℕ)
-    → Takes remaining failed sure a b piece → length piece ≡ n → u ≡ t ++ piece → n + most ≤ more → Grows remaining failed sure (second piece) most b c u v → Grows remaining failed sure (followed (needs n) second) more a c t v
+    → TakesBytes remaining failed sure a b piece → length piece ≡ n → u ≡ t ++ piece → n + most ≤ more → Grows remaining failed sure (second piece) most b c u v → Grows remaining failed sure (followed (needs n) second) more a c t v
 grows_after n second more p len grown le q = grows_then second more (piece_grows n p len grown) le q
 
 -- nothing is read
@@ -314,7 +314,7 @@ needs_fails {n} {m} {e} k le p q =
 pub record Walks {R : Type 0} (remaining : R → Option (List ℕ)) (failed : R → ℕ) (sure : R → Option ℕ) (plan : PlanValue) (count i each : ℕ) (a b : R) (t u : List ℕ) : Type 0 where
   pub piece : List ℕ
   pub grown : u ≡ t ++ piece
-  pub takes : Takes remaining failed sure a b piece
+  pub takes : TakesBytes remaining failed sure a b piece
   pub walk : (rest : List ℕ) → batches_form plan count (piece ++ rest) ≡ (batches_form plan (count - i) rest >>= λ k. Ok (length piece + k))
   pub few : length piece ≤ i * each
 
@@ -452,13 +452,13 @@ unfolding seal_form
 seal-short text bytes lt = rw (lt-ltb (length bytes) 32 lt) refl
 
 pub seal_differs : {R : Type 0} {remaining : R → Option (List ℕ)} {failed : R → ℕ} {sure : R → Option ℕ} {a b : R} {digest : List ℕ} (text : List ℕ)
-    → Takes remaining failed sure a b digest → length digest ≡ 32 → bytes_eq digest (sha256 text) ≡ false → Fails remaining failed sure (seal_form text) 33 a b errors.Digest
+    → TakesBytes remaining failed sure a b digest → length digest ≡ 32 → bytes_eq digest (sha256 text) ≡ false → Fails remaining failed sure (seal_form text) 33 a b errors.Digest
 seal_differs {remaining} {failed} {sure} {b} {digest} text p len other =
     fails_then (seal_form text) 32 33 p (omega (arith, len)) (omega arith) (λ rest _. seal-other text digest rest len other) (not_wanting errors.Digest (λ is. is))
     (fails_here remaining failed sure b (λ _. Err errors.Digest) 1 errors.Digest (λ is. is) (not_wanting errors.Digest (λ is. is)) (λ bytes _. refl))
 
 pub seal_trails : {R : Type 0} {remaining : R → Option (List ℕ)} {failed : R → ℕ} {sure : R → Option ℕ} {a b c : R} {digest more : List ℕ} (text : List ℕ)
-    → Takes remaining failed sure a b digest → length digest ≡ 32 → bytes_eq digest (sha256 text) ≡ true → Takes remaining failed sure b c more → length more ≡ 1
+    → TakesBytes remaining failed sure a b digest → length digest ≡ 32 → bytes_eq digest (sha256 text) ≡ true → TakesBytes remaining failed sure b c more → length more ≡ 1
     → Fails remaining failed sure (seal_form text) 33 a c errors.Trailing
 seal_trails {remaining} {failed} {sure} {a} {b} {c} {digest} {more} text p len same q one =
     let size = length-append digest more in
@@ -468,7 +468,7 @@ seal_trails {remaining} {failed} {sure} {a} {b} {c} {digest} {more} text p len s
     (fails_here remaining failed sure c (λ _. Err errors.Trailing) 0 errors.Trailing (λ is. is) (not_wanting errors.Trailing (λ is. is)) (λ bytes _. refl))
 
 pub seal_unread : {R : Type 0} {remaining : R → Option (List ℕ)} {failed : R → ℕ} {sure : R → Option ℕ} {a b c : R} {digest : List ℕ} (text : List ℕ)
-    → Takes remaining failed sure a b digest → length digest ≡ 32 → TakesAtMost 1 (remaining b) (remaining c) → failed b < failed c → (AreSure (sure b) 1 → ⊥)
+    → TakesBytes remaining failed sure a b digest → length digest ≡ 32 → TakesAtMost 1 (remaining b) (remaining c) → failed b < failed c → (AreSure (sure b) 1 → ⊥)
     → Fails remaining failed sure (seal_form text) 33 a c errors.Read
 seal_unread {remaining} {failed} {sure} {a} {b} {c} {digest} text p len few rises unsure =
     fails_then {form = λ _. Ok 0} (seal_form text) 32 33 p (omega (arith, len)) (omega arith) (λ rest is. absurd (subst is_ok is tt))
@@ -476,9 +476,6 @@ seal_unread {remaining} {failed} {sure} {a} {b} {c} {digest} text p len few rise
     (record { few = few; rises = λ _. rises; counted = λ is. absurd (is tt); unsure = λ is _. unsure is; wanting = not_wanting errors.Read (λ is. is); due = λ bytes known is. absurd is })
 
 -- ---- lengths that are told
-grows-long : (n : ℕ) (t u piece : List ℕ) → u ≡ t ++ piece → needs n (piece ++ []) ≡ Ok (length piece) → length u ≡ length t + n
-grows-long n t u piece grown is = omega (arith, ap length grown, length-append t piece, needs-takes n (length piece) (piece ++ []) is)
-
 pub told-refused : (plan : PlanValue) (piece bytes : List ℕ) → is_batch_length plan (from_be_bytes w64 piece) ≡ false → told_batch plan piece bytes ≡ Err errors.Shape
 unfolding told_batch
 told-refused plan piece bytes is = rw is refl
@@ -578,7 +575,7 @@ pub within-more : (part : PartValue) (old new : Option (List ℕ)) → TakesWith
 within-more part old new p = record { bytes = p.bytes; consumed = p.consumed; few = omega (arith, p.few) }
 
 -- nothing more comes
-pub takes_ended : {R : Type 0} {remaining : R → Option (List ℕ)} {failed : R → ℕ} {sure : R → Option ℕ} {a b : R} {digest : List ℕ} (c : R) (k : ℕ) (buf : List ℕ) → Takes remaining failed sure a b digest
+pub takes_ended : {R : Type 0} {remaining : R → Option (List ℕ)} {failed : R → ℕ} {sure : R → Option ℕ} {a b : R} {digest : List ℕ} (c : R) (k : ℕ) (buf : List ℕ) → TakesBytes remaining failed sure a b digest
     → EndsAfter k (remaining b) (remaining c) buf → length buf ≡ 1 → Consumes (remaining a) (remaining c) digest
 takes_ended {remaining} {a} {b} {digest} c k buf p ends one =
     let few : k ≡ 0 = omega (arith, ends.fewer, one) in
@@ -614,14 +611,14 @@ told-bad part piece rest e is = ap (λ (r : Result (Unit {0}) KeepError). r >>= 
 
 -- the fixed fields are refused
 pub head_fails : {R : Type 0} {remaining : R → Option (List ℕ)} {failed : R → ℕ} {sure : R → Option ℕ} {a b : R} {piece : List ℕ} (part : PartValue) (e : KeepError)
-    → Takes remaining failed sure a b piece → length piece ≡ 54 → Err e ≡ check_head part (head_at piece) → (IsRead e → ⊥) → (e ≡ errors.Memory → ⊥) → Fails remaining failed sure (content_form part) 54 a b e
+    → TakesBytes remaining failed sure a b piece → length piece ≡ 54 → Err e ≡ check_head part (head_at piece) → (IsRead e → ⊥) → (e ≡ errors.Memory → ⊥) → Fails remaining failed sure (content_form part) 54 a b e
 head_fails {remaining} {failed} {sure} {a} {b} {piece} part e p len is other fine =
     fails_after {most = 0} 54 (told_body part) 54 p len (omega arith)
     (fails_here remaining failed sure b (told_body part piece) 0 e other (λ is. absurd (fine is)) (λ bytes _. told-bad part piece bytes e is))
 
 -- the fixed fields were read, and pass
 pub has_head : {R : Type 0} {remaining : R → Option (List ℕ)} {failed : R → ℕ} {sure : R → Option ℕ} {a b : R} {piece : List ℕ} (part : PartValue)
-    → Takes remaining failed sure a b piece → length piece ≡ 54 → check_head part (head_at piece) ≡ Ok tt → (bytes : List ℕ) → remaining a ≡ Some bytes → HasHead part bytes
+    → TakesBytes remaining failed sure a b piece → length piece ≡ 54 → check_head part (head_at piece) ≡ Ok tt → (bytes : List ℕ) → remaining a ≡ Some bytes → HasHead part bytes
 has_head {remaining} {a} {b} {piece} part p len passes bytes known =
     let l = left (remaining a) (remaining b) piece bytes p.consumed known in
     let front : take 54 bytes ≡ piece = ap (take 54) l.split ∙ ap (λ (n : ℕ). take n (piece ++ l.rest)) (sym len) ∙ take-append_seam piece l.rest in
@@ -637,7 +634,7 @@ whatever_it_is (Err e) h = λ _. h
 
 -- memory is refused after a piece
 pub memory_fails : {R : Type 0} {remaining : R → Option (List ℕ)} {failed : R → ℕ} {sure : R → Option ℕ} {a b : R} {piece : List ℕ} (form : Form) (most : ℕ)
-    → Takes remaining failed sure a b piece → length piece ≤ most → Passes form piece → Fails remaining failed sure form most a b errors.Memory
+    → TakesBytes remaining failed sure a b piece → length piece ≤ most → Passes form piece → Fails remaining failed sure form most a b errors.Memory
 memory_fails {piece} form most p le passes = record {
   few = record { bytes = piece; consumed = p.consumed; few = le };
   rises = λ is. absurd is;

@@ -16,7 +16,7 @@ use Rattle.replica.proofs.StepLemmas.{get_or-replicate_same}
 use Rattle.checkpoint.specs.declared.header.Header.{Header}
 use Rattle.checkpoint.specs.declared.error.KeepError.{KeepError}
 use Rattle.checkpoint.specs.declared.error.KeepError.TheVariants as errors
-use Rattle.checkpoint.specs.Reading.{head_at, sealed_form, Ends, Fails, Refuses, TellNone, IsOfBytes, IsOfBody}
+use Rattle.checkpoint.specs.Reading.{head_at, sealed_form, Ends, Fails, RefusesAs, TellNone, IsOfBytes, IsOfBody}
 use Rattle.checkpoint.proofs.FormLemmas.{head_is_in, second_fine, first_fine}
 use Rattle.checkpoint.proofs.LawLemmas.{unsealed}
 use Rattle.checkpoint.proofs.LengthLemmas.{front_long}
@@ -93,7 +93,7 @@ unnamed_keepable v k =
 -- ---- refusals
 -- what was read whole tells what no replica has, or finds no memory
 pub body_refuses : {R : Type 0} {remaining : R → Option (List ℕ)} {failed : R → ℕ} {part : PartValue} {most : ℕ} {a b : R} (sure : R → Option ℕ) (e : KeepError)
-    → Ends remaining failed (sealed_form part) most a b → IsOfBody e → (e ≡ errors.Shape → (bytes : List ℕ) → remaining a ≡ Some bytes → TellNone part bytes) → Refuses remaining failed sure part most a b e
+    → Ends remaining failed (sealed_form part) most a b → IsOfBody e → (e ≡ errors.Shape → (bytes : List ℕ) → remaining a ≡ Some bytes → TellNone part bytes) → RefusesAs remaining failed sure part most a b e
 body_refuses sure e p of none = record {
   few = p.few;
   rises = λ is. absurd (body_unread e of is);
@@ -108,7 +108,7 @@ body_refuses sure e p of none = record {
 
 -- what was not read whole
 pub fails_refuse : {R : Type 0} {remaining : R → Option (List ℕ)} {failed : R → ℕ} {sure : R → Option ℕ} {part : PartValue} {most : ℕ} {a b : R} {e : KeepError}
-    → Fails remaining failed sure (sealed_form part) most a b e → Refuses remaining failed sure part most a b e
+    → Fails remaining failed sure (sealed_form part) most a b e → RefusesAs remaining failed sure part most a b e
 fails_refuse p = record { few = p.few; rises = p.rises; counted = p.counted; unsure = p.unsure; wanting = p.wanting; due = λ bytes known of. inl (p.due bytes known of) }
 
 -- what is not of the bytes
@@ -126,14 +126,14 @@ want_of errors.Digest not_so = absurd (not_so tt)
 want_of errors.Trailing not_so = absurd (not_so tt)
 
 pub second_wants : {R : Type 0} {remaining : R → Option (List ℕ)} {failed : R → ℕ} {sure : R → Option ℕ} {part : PartValue} {most : ℕ} {a b : R} {e : KeepError} (v : State) → IsKeepable v → v.part ≡ part
-    → remaining a ≡ Some (checkpoint_bytes v) → Refuses remaining failed sure part most a b e → (e ≡ errors.Memory) ⊎ (e ≡ errors.Read)
+    → remaining a ≡ Some (checkpoint_bytes v) → RefusesAs remaining failed sure part most a b e → (e ≡ errors.Memory) ⊎ (e ≡ errors.Read)
 second_wants {part} {e} v k same known p = want_of e (λ of. elim (p.due (checkpoint_bytes v) known of) [
   | inl refused ↦ second_fine v k.state e (ap (λ (q : PartValue). sealed_form q (checkpoint_bytes v)) same ∙ refused)
   | inr none ↦ none.2.second v k same refl
 ])
 
 pub first_wants : {R : Type 0} {remaining : R → Option (List ℕ)} {failed : R → ℕ} {sure : R → Option ℕ} {part : PartValue} {most : ℕ} {a b : R} {e : KeepError} (v : State) → IsKeepable v → v.part ≡ part
-    → remaining a ≡ Some (first_checkpoint_bytes v) → Refuses remaining failed sure part most a b e → (e ≡ errors.Memory) ⊎ (e ≡ errors.Read)
+    → remaining a ≡ Some (first_checkpoint_bytes v) → RefusesAs remaining failed sure part most a b e → (e ≡ errors.Memory) ⊎ (e ≡ errors.Read)
 first_wants {part} {e} v k same known p = want_of e (λ of. elim (p.due (first_checkpoint_bytes v) known of) [
   | inl refused ↦ first_fine v k.state e (ap (λ (q : PartValue). sealed_form q (first_checkpoint_bytes v)) same ∙ refused)
   | inr none ↦ none.2.first v k same refl

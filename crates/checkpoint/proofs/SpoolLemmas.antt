@@ -9,19 +9,19 @@ use Rattle.sha2.specs.Sha256.{sha256}
 use Rattle.ball_model.specs.Checkpoint.{sealed}
 use Rattle.checkpoint.specs.declared.spool.Spool.{Spool}
 use Rattle.edgelist.specs.Planning.{Hashes}
-use Rattle.checkpoint.specs.Writing.{Writes, Stops}
-use Rattle.checkpoint.specs.Spooled.{Passes, waiting}
+use Rattle.checkpoint.specs.Writing.{Writes, StopsWriting}
+use Rattle.checkpoint.specs.Spooled.{PassesOn, waiting}
 use Rattle.checkpoint.proofs.WriteLemmas.{writes_none, writes_then, stops_first, stops_then, hashes_then, hashes_none, pieces_split, pieces_more}
 
 module _ {W : Type 0} (contents : W → Option (List ℕ)) (failed : W → ℕ) (sure : W → Option ℕ) (room : W → ℕ) where
   abbrev passes : W → W → Spool → Spool → List ℕ → Type 0
-  passes a b s t bytes = Passes contents failed sure room a b s t bytes
+  passes a b s t bytes = PassesOn contents failed sure room a b s t bytes
 
   abbrev writes : W → W → List ℕ → Type 0
   writes a b bytes = Writes contents failed sure room a b bytes
 
   abbrev stops : W → W → List ℕ → Type 0
-  stops a b bytes = Stops contents failed sure room a b bytes
+  stops a b bytes = StopsWriting contents failed sure room a b bytes
 
   -- bytes that wait alone
   pub passes_waiting : (a : W) (s t : Spool) (bytes : List ℕ) → waiting t ≡ waiting s ++ bytes → t.hasher ≡ s.hasher → passes a a s t bytes

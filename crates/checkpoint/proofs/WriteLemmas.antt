@@ -11,7 +11,7 @@ use Rattle.sha2.specs.Hashers.{Holds256}
 use Rattle.ball_model.specs.Streams.{AfterAtMost, AreSure}
 use Rattle.ball_model.proofs.StreamLemmas.{after_none}
 use Rattle.edgelist.specs.Planning.{Hashes}
-use Rattle.checkpoint.specs.Writing.{Writes, Stops}
+use Rattle.checkpoint.specs.Writing.{Writes, StopsWriting}
 
 -- ---- calls that are sure
 after_then : (n m : ℕ) (a b c : Option ℕ) → AfterAtMost n a b → AfterAtMost m b c → AfterAtMost (n + m) a c
@@ -46,7 +46,7 @@ writes_then contents failed sure room a b c xs ys p q =
 
 -- where a part is not written whole, the whole is not
 pub stops_first : {W : Type 0} (contents : W → Option (List ℕ)) (failed : W → ℕ) (sure : W → Option ℕ) (room : W → ℕ) (a b : W) (xs ys : List ℕ) →
-    Stops contents failed sure room a b xs → Stops contents failed sure room a b (xs ++ ys)
+    StopsWriting contents failed sure room a b xs → StopsWriting contents failed sure room a b (xs ++ ys)
 stops_first contents failed sure room a b xs ys p =
     let long = length-append xs ys in
     let f = p.front in
@@ -63,7 +63,7 @@ stops_first contents failed sure room a b xs ys p =
     }
 
 pub stops_then : {W : Type 0} (contents : W → Option (List ℕ)) (failed : W → ℕ) (sure : W → Option ℕ) (room : W → ℕ) (a b c : W) (xs ys : List ℕ) →
-    Writes contents failed sure room a b xs → Stops contents failed sure room b c ys → Stops contents failed sure room a c (xs ++ ys)
+    Writes contents failed sure room a b xs → StopsWriting contents failed sure room b c ys → StopsWriting contents failed sure room a c (xs ++ ys)
 stops_then contents failed sure room a b c xs ys p q =
     let long = length-append xs ys in
     let f = q.front in

@@ -194,7 +194,7 @@ abbrev pub IsOfBody : KeepError → Type 0
 IsOfBody e = (e ≡ errors.Memory) ⊎ (e ≡ errors.Shape)
 
 -- a reader that tells its bytes, its failed calls, and which calls are sure gave the bytes
-pub record Takes {R : Type 0} (remaining : R → Option (List ℕ)) (failed : R → ℕ)
+pub record TakesBytes {R : Type 0} (remaining : R → Option (List ℕ)) (failed : R → ℕ)
     (sure : R → Option ℕ) (old new : R) (bytes : List ℕ) : Type 0 where
   pub consumed : Consumes (remaining old) (remaining new) bytes
   pub counted : failed new ≡ failed old
@@ -206,7 +206,7 @@ pub record Grows {R : Type 0} (remaining : R → Option (List ℕ)) (failed : R 
   where
     pub piece : List ℕ
     pub grown : after ≡ before ++ piece
-    pub takes : Takes remaining failed sure old new piece
+    pub takes : TakesBytes remaining failed sure old new piece
     pub is_form : (rest : List ℕ) → form (piece ++ rest) ≡ Ok (length piece)
     pub few : length piece ≤ most
 
@@ -242,7 +242,7 @@ pub record TellNone (part : PartValue) (bytes : List ℕ) : Type 0 where
 
 -- a call failed that was not sure, memory was refused where no check of what was read fails, the form of the part refuses
 -- the bytes, or they are of the form and tell what no replica has
-pub record Refuses {R : Type 0} (remaining : R → Option (List ℕ)) (failed : R → ℕ)
+pub record RefusesAs {R : Type 0} (remaining : R → Option (List ℕ)) (failed : R → ℕ)
     (sure : R → Option ℕ) (part : PartValue) (most : ℕ) (old new : R) (e : KeepError) : Type 0 where
   pub few : TakesAtMost most (remaining old) (remaining new)
   pub rises : IsRead e → Rises (failed old) (failed new)

@@ -9,7 +9,7 @@ abbrev pub waiting : Spool → List ℕ
 waiting spool = take spool.used spool.piece
 
 -- of what waited before, and these bytes behind it, a first part was digested and written, and the rest waits now
-pub record Passes {W : Type 0} (contents : W → Option (List ℕ)) (failed : W → ℕ)
+pub record PassesOn {W : Type 0} (contents : W → Option (List ℕ)) (failed : W → ℕ)
     (sure : W → Option ℕ) (room : W → ℕ) (old new : W) (before after : Spool)
     (bytes : List ℕ) : Type 0 where
   pub first : List ℕ

@@ -29,7 +29,7 @@ pub record AreNone (v : Vertices) : Type 0 where
   pub rows : v.rows.rows ≡ replicate (length v.rows.rows) (replicate v.rows.width 0)
 
 -- there is room for the marks and the figures of all vertices
-pub record HasRoom (v : Vertices) : Type 0 where
+pub record HasRoomForAll (v : Vertices) : Type 0 where
   pub marks : length v.rows.rows ≤ vec_capacity v.marks
   pub tallies : length v.rows.rows ≤ vec_capacity v.tallies
 

@@ -12,7 +12,7 @@ pub record Writes {W : Type 0} (contents : W → Option (List ℕ)) (failed : W 
   pub taken : room new ≡ room old - length bytes
 
 -- it failed before all of them were written: a beginning is, and a call failed that was not sure
-pub record Stops {W : Type 0} (contents : W → Option (List ℕ)) (failed : W → ℕ)
+pub record StopsWriting {W : Type 0} (contents : W → Option (List ℕ)) (failed : W → ℕ)
     (sure : W → Option ℕ) (room : W → ℕ) (old new : W) (bytes : List ℕ) : Type 0 where
   pub front : PutsFront (contents old) (contents new) bytes
   pub rises : Rises (failed old) (failed new)

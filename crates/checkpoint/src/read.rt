@@ -12,7 +12,7 @@ ghost use Rattle.replica.specs.Saved.{Fits, IsKeepable, IsRebuilt};
 ghost use Rattle.replica.specs.Seen.{IsState};
 ghost use Rattle.checkpoint.specs.Reading.{needs, head_at, check_head, content_form, sealed_form};
 ghost use Rattle.checkpoint.specs.Reading.{allowed, allowed_content, most_body, most_bytes, Ends};
-ghost use Rattle.checkpoint.specs.Reading.{Grows, Fails, Refuses, HasHead, TakesWithin, IsRead};
+ghost use Rattle.checkpoint.specs.Reading.{Grows, Fails, RefusesAs, HasHead, TakesWithin, IsRead};
 ghost use Rattle.checkpoint.specs.Reading.{IsSpelling, IfOkButWant, OnOkOrMemory};
 
 use crate::error::KeepError;
@@ -126,7 +126,7 @@ fn read_saved<R: CountedRead>(
         IsRebuilt part.now s (without_names v)) }
     ensures front { (bytes : List ℕ) → R.remaining reader.old ≡ Some bytes →
         OnOkOrMemory result (HasHead part.now bytes) }
-    ensures refused { IfErr result (λ e. Refuses R.remaining R.failed_calls R.sure_calls
+    ensures refused { IfErr result (λ e. RefusesAs R.remaining R.failed_calls R.sure_calls
         part.now (most_bytes part.now part.now.plan.limit + 1)
         reader.old reader.new e) }
 {
@@ -185,7 +185,7 @@ pub fn read_checkpoint<R: CountedRead>(
     ensures front { (bytes : List ℕ) → R.remaining reader.old ≡ Some bytes →
         OnOkOrMemory result (HasHead (arc_value part) bytes) }
     // Which refusal it is, and what was read.
-    ensures refused { IfErr result (λ e. Refuses R.remaining R.failed_calls R.sure_calls
+    ensures refused { IfErr result (λ e. RefusesAs R.remaining R.failed_calls R.sure_calls
         (arc_value part) (most_bytes (arc_value part) (arc_value part).plan.limit + 1)
         reader.old reader.new e) }
 {

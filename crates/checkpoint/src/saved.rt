@@ -20,8 +20,9 @@ ghost use Rattle.batches.specs.Kept.{field};
 ghost use Rattle.checkpoint.specs.Reading.{IsOfBody};
 ghost use Rattle.checkpoint.specs.declared.sizes.TheConstants.{HEADER_LEN};
 ghost use Rattle.checkpoint.specs.Spelling.{held_text, table_text};
-ghost use Rattle.checkpoint.specs.Told.{IsAdded, AreNone, AreTold, HasRoom, IsSmall, IfOkButMemory};
-ghost use Rattle.checkpoint.specs.Told.{AreNext, AreOf, IsOfPlan, IsHeldOf, IsUnnamed};
+ghost use Rattle.checkpoint.specs.Told.{IsAdded, AreNone, AreTold, HasRoomForAll, IsSmall};
+ghost use Rattle.checkpoint.specs.Told.{IfOkButMemory, AreNext, AreOf, IsOfPlan, IsHeldOf};
+ghost use Rattle.checkpoint.specs.Told.{IsUnnamed};
 
 use crate::error::KeepError;
 use crate::header::{Header, u16_at};
@@ -141,7 +142,7 @@ fn add_vertex<'a>(vertices: &mut Vertices, i: usize, bytes: &'a [u8]) -> Result<
     requires place { i < length vertices.old.rows.rows }
     requires marks { length vertices.old.marks.items ≡ i }
     requires tallies { length vertices.old.tallies.items ≡ i }
-    requires room { HasRoom vertices.old }
+    requires room { HasRoomForAll vertices.old }
     requires zeros { slice_index_or vertices.old.rows.rows i []
         ≡ replicate vertices.old.rows.width 0 }
     ensures added { IfOk result (λ rest.
@@ -152,7 +153,7 @@ fn add_vertex<'a>(vertices: &mut Vertices, i: usize, bytes: &'a [u8]) -> Result<
         × (r.now ≡ rest)) }
     ensures width { vertices.new.rows.width ≡ vertices.old.rows.width }
     ensures count { length vertices.new.rows.rows ≡ length vertices.old.rows.rows }
-    ensures room { HasRoom vertices.new }
+    ensures room { HasRoomForAll vertices.new }
     ensures kind { IfErr result (λ e. e ≡ KeepError.Shape) }
 {
     let ((mark, tally), after) = figures_of(bytes)?;
@@ -166,7 +167,7 @@ fn add_vertex<'a>(vertices: &mut Vertices, i: usize, bytes: &'a [u8]) -> Result<
 // Adds the vertices, ascending, where there are none yet, and answers the bytes after them.
 fn add_vertices<'a>(vertices: &mut Vertices, bytes: &'a [u8]) -> Result<&'a [u8], KeepError>
     requires none { AreNone vertices.old }
-    requires room { HasRoom vertices.old }
+    requires room { HasRoomForAll vertices.old }
     ensures told { IfOk result (λ rest.
         AreTold (length vertices.new.rows.rows) vertices.new bytes.now rest.now) }
     ensures right { (v : State) (rest : List ℕ) → IsKeepable v →
@@ -188,7 +189,7 @@ fn add_vertices<'a>(vertices: &mut Vertices, bytes: &'a [u8]) -> Result<&'a [u8]
 // No vertices yet, with the room for all of the part.
 fn no_vertices(alloc: Global, part: &Part) -> Result<Vertices, AllocError>
     ensures none { IfOk result AreNone }
-    ensures room { IfOk result HasRoom }
+    ensures room { IfOk result HasRoomForAll }
     ensures width { IfOk result (λ v. v.rows.width ≡ 2 ^ part.now.plan.log2m) }
     ensures count { IfOk result (λ v. length v.rows.rows ≡ length part.now.preds) }
 {

@@ -6,7 +6,7 @@ ghost use Rattle.sha2.specs.Hashers.{Holds256};
 ghost use Rattle.sha2.specs.Sha256.{sha256};
 ghost use Rattle.checkpoint.specs.declared.sizes.TheConstants.{PIECE};
 ghost use Rattle.edgelist.specs.Planning.{Hashes};
-ghost use Rattle.checkpoint.specs.Writing.{Writes, Stops};
+ghost use Rattle.checkpoint.specs.Writing.{Writes, StopsWriting};
 
 use crate::error::Failed;
 use crate::sizes::PIECE;
@@ -23,7 +23,7 @@ pub struct Spool {
 }
 
 impl Spool {
-    ghost use Rattle.checkpoint.specs.Spooled.{Passes, waiting};
+    ghost use Rattle.checkpoint.specs.Spooled.{PassesOn, waiting};
 
     /// No bytes.
     pub fn new() -> Spool
@@ -43,9 +43,9 @@ impl Spool {
         writer: &mut W,
         fields: &[&[u8]],
     ) -> Result<(), Failed>
-        ensures done { OnOk result (Passes W.contents W.failed_calls W.sure_calls W.room
+        ensures done { OnOk result (PassesOn W.contents W.failed_calls W.sure_calls W.room
             writer.old writer.new self.old self.new (flat_map (λ field. field.now) fields.now)) }
-        ensures stops { OnErr result (Stops W.contents W.failed_calls W.sure_calls W.room
+        ensures stops { OnErr result (StopsWriting W.contents W.failed_calls W.sure_calls W.room
             writer.old writer.new
             (waiting self.old ++ flat_map (λ field. field.now) fields.now)) }
     {
@@ -57,9 +57,9 @@ impl Spool {
 
     /// These bytes follow.
     pub fn keep<W: CountedWrite>(&mut self, writer: &mut W, bytes: &[u8]) -> Result<(), Failed>
-        ensures done { OnOk result (Passes W.contents W.failed_calls W.sure_calls W.room
+        ensures done { OnOk result (PassesOn W.contents W.failed_calls W.sure_calls W.room
             writer.old writer.new self.old self.new bytes.now) }
-        ensures stops { OnErr result (Stops W.contents W.failed_calls W.sure_calls W.room
+        ensures stops { OnErr result (StopsWriting W.contents W.failed_calls W.sure_calls W.room
             writer.old writer.new (waiting self.old ++ bytes.now)) }
     {
         if bytes.len() <= PIECE - self.used {
@@ -80,7 +80,7 @@ impl Spool {
             Writes W.contents W.failed_calls W.sure_calls W.room
             writer.old writer.new (waiting self ++ sha256 (m ++ waiting self))) }
         ensures stops { OnErr result ((m : List ℕ) → Holds256 self.hasher m →
-            Stops W.contents W.failed_calls W.sure_calls W.room
+            StopsWriting W.contents W.failed_calls W.sure_calls W.room
             writer.old writer.new (waiting self ++ sha256 (m ++ waiting self))) }
     {
         let mut spool = self;
@@ -104,7 +104,7 @@ impl Spool {
     fn put_out<W: CountedWrite>(&mut self, writer: &mut W) -> Result<(), Failed>
         ensures done { OnOk result (Writes W.contents W.failed_calls W.sure_calls W.room
             writer.old writer.new (waiting self.old)) }
-        ensures stops { OnErr result (Stops W.contents W.failed_calls W.sure_calls W.room
+        ensures stops { OnErr result (StopsWriting W.contents W.failed_calls W.sure_calls W.room
             writer.old writer.new (waiting self.old)) }
         ensures digested { Hashes self.old.hasher self.new.hasher (waiting self.old) }
         ensures empty { self.new.used ≡ 0 }
@@ -133,7 +133,7 @@ fn fill_from(piece: &mut [u8], at: usize, bytes: &[u8])
 fn put<W: CountedWrite>(writer: &mut W, hasher: &mut Sha256, bytes: &[u8]) -> Result<(), Failed>
     ensures done { OnOk result (Writes W.contents W.failed_calls W.sure_calls W.room
         writer.old writer.new bytes.now) }
-    ensures stops { OnErr result (Stops W.contents W.failed_calls W.sure_calls W.room
+    ensures stops { OnErr result (StopsWriting W.contents W.failed_calls W.sure_calls W.room
         writer.old writer.new bytes.now) }
     ensures digested { Hashes hasher.old hasher.new bytes.now }
 {
@@ -145,7 +145,7 @@ fn put<W: CountedWrite>(writer: &mut W, hasher: &mut Sha256, bytes: &[u8]) -> Re
 fn write_out<W: CountedWrite>(writer: &mut W, bytes: &[u8]) -> Result<(), Failed>
     ensures done { OnOk result (Writes W.contents W.failed_calls W.sure_calls W.room
         writer.old writer.new bytes.now) }
-    ensures stops { OnErr result (Stops W.contents W.failed_calls W.sure_calls W.room
+    ensures stops { OnErr result (StopsWriting W.contents W.failed_calls W.sure_calls W.room
         writer.old writer.new bytes.now) }
 {
     if put_all(writer, bytes) {

@@ -7,9 +7,10 @@ ghost use Rattle.std.specs.Io.KnownBytes.{Consumes, IsAtEnd};
 ghost use Rattle.sha2.specs.Sha256.{sha256};
 ghost use Rattle.ball_model.specs.PlanValue.{greatest_limit};
 ghost use Rattle.batches.specs.Kept.{field};
-ghost use Rattle.checkpoint.specs.Reading.{needs, Takes, Grows, Fails, is_batch_length, batch_form};
-ghost use Rattle.checkpoint.specs.Reading.{batches_form, greatest_batch, early_form, most_early};
-ghost use Rattle.checkpoint.specs.Reading.{body_form, most_after, fixed_length, seal_form};
+ghost use Rattle.checkpoint.specs.Reading.{needs, TakesBytes, Grows, Fails, is_batch_length};
+ghost use Rattle.checkpoint.specs.Reading.{batch_form, batches_form, greatest_batch, early_form};
+ghost use Rattle.checkpoint.specs.Reading.{most_early, body_form, most_after, fixed_length};
+ghost use Rattle.checkpoint.specs.Reading.{seal_form};
 
 use crate::error::KeepError;
 use crate::header::Header;
@@ -30,7 +31,7 @@ pub(crate) fn u64_at(bytes: &[u8], at: usize) -> u64
 
 // Fills a buffer.
 pub(crate) fn read_full<R: CountedRead>(reader: &mut R, buffer: &mut [u8]) -> Result<(), KeepError>
-    ensures done { OnOk result (Takes R.remaining R.failed_calls R.sure_calls
+    ensures done { OnOk result (TakesBytes R.remaining R.failed_calls R.sure_calls
         reader.old reader.new buffer.new) }
     ensures fails { IfErr result (λ e. Fails R.remaining R.failed_calls R.sure_calls
         (needs (length buffer.old)) (length buffer.old) reader.old reader.new e) }

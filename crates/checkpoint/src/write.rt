@@ -10,8 +10,8 @@ ghost use Rattle.ball_model.specs.Checkpoint.{front_bytes, vertex_bytes, table_b
 ghost use Rattle.ball_model.specs.Checkpoint.{early_bytes, kept_batches, checkpoint_bytes};
 ghost use Rattle.ball_model.specs.Streams.{AreSure, PutsFront};
 ghost use Rattle.replica.specs.Seen.{IsState};
-ghost use Rattle.checkpoint.specs.Writing.{Writes, Stops};
-ghost use Rattle.checkpoint.specs.Spooled.{Passes, waiting};
+ghost use Rattle.checkpoint.specs.Writing.{Writes, StopsWriting};
+ghost use Rattle.checkpoint.specs.Spooled.{PassesOn, waiting};
 ghost use Rattle.checkpoint.specs.Parts.{heard_bytes, count_bytes, nth_bytes};
 
 use crate::error::{Failed, KeepError};
@@ -47,7 +47,7 @@ pub fn write_checkpoint<W: CountedWrite>(replica: &Replica, writer: &mut W) -> R
 fn keep_sealed<W: CountedWrite>(replica: &Replica, writer: &mut W) -> Result<(), Failed>
     ensures done { OnOk result (Writes W.contents W.failed_calls W.sure_calls W.room
         writer.old writer.new (checkpoint_bytes replica.now)) }
-    ensures stops { OnErr result (Stops W.contents W.failed_calls W.sure_calls W.room
+    ensures stops { OnErr result (StopsWriting W.contents W.failed_calls W.sure_calls W.room
         writer.old writer.new (checkpoint_bytes replica.now)) }
 {
     let mut spool = Spool::new();
@@ -61,10 +61,10 @@ fn keep_replica<W: CountedWrite>(
     spool: &mut Spool,
     writer: &mut W,
 ) -> Result<(), Failed>
-    ensures done { OnOk result (Passes W.contents W.failed_calls W.sure_calls W.room
+    ensures done { OnOk result (PassesOn W.contents W.failed_calls W.sure_calls W.room
         writer.old writer.new spool.old spool.new
         (front_bytes 2 replica.now ++ table_bytes replica.now ++ held_bytes replica.now)) }
-    ensures stops { OnErr result (Stops W.contents W.failed_calls W.sure_calls W.room
+    ensures stops { OnErr result (StopsWriting W.contents W.failed_calls W.sure_calls W.room
         writer.old writer.new (waiting spool.old
         ++ (front_bytes 2 replica.now ++ table_bytes replica.now ++ held_bytes replica.now))) }
 {
@@ -79,9 +79,9 @@ fn keep_front<W: CountedWrite>(
     spool: &mut Spool,
     writer: &mut W,
 ) -> Result<(), Failed>
-    ensures done { OnOk result (Passes W.contents W.failed_calls W.sure_calls W.room
+    ensures done { OnOk result (PassesOn W.contents W.failed_calls W.sure_calls W.room
         writer.old writer.new spool.old spool.new (front_bytes 2 replica.now)) }
-    ensures stops { OnErr result (Stops W.contents W.failed_calls W.sure_calls W.room
+    ensures stops { OnErr result (StopsWriting W.contents W.failed_calls W.sure_calls W.room
         writer.old writer.new (waiting spool.old ++ front_bytes 2 replica.now)) }
 {
     let plan = replica.plan();
@@ -107,9 +107,9 @@ fn keep_table<W: CountedWrite>(
     spool: &mut Spool,
     writer: &mut W,
 ) -> Result<(), Failed>
-    ensures done { OnOk result (Passes W.contents W.failed_calls W.sure_calls W.room
+    ensures done { OnOk result (PassesOn W.contents W.failed_calls W.sure_calls W.room
         writer.old writer.new spool.old spool.new (table_bytes replica.now)) }
-    ensures stops { OnErr result (Stops W.contents W.failed_calls W.sure_calls W.room
+    ensures stops { OnErr result (StopsWriting W.contents W.failed_calls W.sure_calls W.room
         writer.old writer.new (waiting spool.old ++ table_bytes replica.now)) }
 {
     keep_vertices(replica, spool, writer)?;
@@ -122,10 +122,10 @@ fn keep_vertices<W: CountedWrite>(
     spool: &mut Spool,
     writer: &mut W,
 ) -> Result<(), Failed>
-    ensures done { OnOk result (Passes W.contents W.failed_calls W.sure_calls W.room
+    ensures done { OnOk result (PassesOn W.contents W.failed_calls W.sure_calls W.room
         writer.old writer.new spool.old spool.new
         (flat_map (vertex_bytes replica.now) (range_with_len 0 (length replica.now.part.preds)))) }
-    ensures stops { OnErr result (Stops W.contents W.failed_calls W.sure_calls W.room
+    ensures stops { OnErr result (StopsWriting W.contents W.failed_calls W.sure_calls W.room
         writer.old writer.new (waiting spool.old
         ++ flat_map (vertex_bytes replica.now) (range_with_len 0 (length replica.now.part.preds)))) }
 {
@@ -144,9 +144,9 @@ fn keep_vertex<W: CountedWrite>(
 ) -> Result<(), Failed>
     requires state { IsState replica.now }
     requires place { i < length replica.now.part.preds }
-    ensures done { OnOk result (Passes W.contents W.failed_calls W.sure_calls W.room
+    ensures done { OnOk result (PassesOn W.contents W.failed_calls W.sure_calls W.room
         writer.old writer.new spool.old spool.new (vertex_bytes replica.now i)) }
-    ensures stops { OnErr result (Stops W.contents W.failed_calls W.sure_calls W.room
+    ensures stops { OnErr result (StopsWriting W.contents W.failed_calls W.sure_calls W.room
         writer.old writer.new (waiting spool.old ++ vertex_bytes replica.now i)) }
 {
     let tally = replica.tallies()[i as usize];
@@ -190,9 +190,9 @@ fn keep_sums<W: CountedWrite>(
     spool: &mut Spool,
     writer: &mut W,
 ) -> Result<(), Failed>
-    ensures done { OnOk result (Passes W.contents W.failed_calls W.sure_calls W.room
+    ensures done { OnOk result (PassesOn W.contents W.failed_calls W.sure_calls W.room
         writer.old writer.new spool.old spool.new (flat_map (to_be_bytes w128) sums.now)) }
-    ensures stops { OnErr result (Stops W.contents W.failed_calls W.sure_calls W.room
+    ensures stops { OnErr result (StopsWriting W.contents W.failed_calls W.sure_calls W.room
         writer.old writer.new (waiting spool.old ++ flat_map (to_be_bytes w128) sums.now)) }
 {
     for sum in sums {
@@ -207,9 +207,9 @@ fn keep_held<W: CountedWrite>(
     spool: &mut Spool,
     writer: &mut W,
 ) -> Result<(), Failed>
-    ensures done { OnOk result (Passes W.contents W.failed_calls W.sure_calls W.room
+    ensures done { OnOk result (PassesOn W.contents W.failed_calls W.sure_calls W.room
         writer.old writer.new spool.old spool.new (held_bytes replica.now)) }
-    ensures stops { OnErr result (Stops W.contents W.failed_calls W.sure_calls W.room
+    ensures stops { OnErr result (StopsWriting W.contents W.failed_calls W.sure_calls W.room
         writer.old writer.new (waiting spool.old ++ held_bytes replica.now)) }
 {
     keep_heard(replica, spool, writer)?;
@@ -224,9 +224,9 @@ fn keep_heard<W: CountedWrite>(
     spool: &mut Spool,
     writer: &mut W,
 ) -> Result<(), Failed>
-    ensures done { OnOk result (Passes W.contents W.failed_calls W.sure_calls W.room
+    ensures done { OnOk result (PassesOn W.contents W.failed_calls W.sure_calls W.room
         writer.old writer.new spool.old spool.new (heard_bytes replica.now)) }
-    ensures stops { OnErr result (Stops W.contents W.failed_calls W.sure_calls W.room
+    ensures stops { OnErr result (StopsWriting W.contents W.failed_calls W.sure_calls W.room
         writer.old writer.new (waiting spool.old ++ heard_bytes replica.now)) }
 {
     let _size = size_of(replica);
@@ -241,9 +241,9 @@ fn keep_accumulated<W: CountedWrite>(
     spool: &mut Spool,
     writer: &mut W,
 ) -> Result<(), Failed>
-    ensures done { OnOk result (Passes W.contents W.failed_calls W.sure_calls W.room
+    ensures done { OnOk result (PassesOn W.contents W.failed_calls W.sure_calls W.room
         writer.old writer.new spool.old spool.new (flat_map (λ row. row) replica.now.accumulated)) }
-    ensures stops { OnErr result (Stops W.contents W.failed_calls W.sure_calls W.room
+    ensures stops { OnErr result (StopsWriting W.contents W.failed_calls W.sure_calls W.room
         writer.old writer.new
         (waiting spool.old ++ flat_map (λ row. row) replica.now.accumulated)) }
 {
@@ -259,9 +259,9 @@ fn keep_count<W: CountedWrite>(
     spool: &mut Spool,
     writer: &mut W,
 ) -> Result<(), Failed>
-    ensures done { OnOk result (Passes W.contents W.failed_calls W.sure_calls W.room
+    ensures done { OnOk result (PassesOn W.contents W.failed_calls W.sure_calls W.room
         writer.old writer.new spool.old spool.new (count_bytes replica.now)) }
-    ensures stops { OnErr result (Stops W.contents W.failed_calls W.sure_calls W.room
+    ensures stops { OnErr result (StopsWriting W.contents W.failed_calls W.sure_calls W.room
         writer.old writer.new (waiting spool.old ++ count_bytes replica.now)) }
 {
     let _size = size_of(replica);
@@ -275,10 +275,10 @@ fn keep_early<W: CountedWrite>(
     spool: &mut Spool,
     writer: &mut W,
 ) -> Result<(), Failed>
-    ensures done { OnOk result (Passes W.contents W.failed_calls W.sure_calls W.room
+    ensures done { OnOk result (PassesOn W.contents W.failed_calls W.sure_calls W.room
         writer.old writer.new spool.old spool.new
         (flat_map early_bytes (kept_batches replica.now.early))) }
-    ensures stops { OnErr result (Stops W.contents W.failed_calls W.sure_calls W.room
+    ensures stops { OnErr result (StopsWriting W.contents W.failed_calls W.sure_calls W.room
         writer.old writer.new
         (waiting spool.old ++ flat_map early_bytes (kept_batches replica.now.early))) }
 {
@@ -295,9 +295,9 @@ fn keep_nth<W: CountedWrite>(
     spool: &mut Spool,
     writer: &mut W,
 ) -> Result<(), Failed>
-    ensures done { OnOk result (Passes W.contents W.failed_calls W.sure_calls W.room
+    ensures done { OnOk result (PassesOn W.contents W.failed_calls W.sure_calls W.room
         writer.old writer.new spool.old spool.new (nth_bytes replica.now i)) }
-    ensures stops { OnErr result (Stops W.contents W.failed_calls W.sure_calls W.room
+    ensures stops { OnErr result (StopsWriting W.contents W.failed_calls W.sure_calls W.room
         writer.old writer.new (waiting spool.old ++ nth_bytes replica.now i)) }
 {
     match replica.early(i) {
@@ -312,9 +312,9 @@ fn keep_batch<W: CountedWrite>(
     spool: &mut Spool,
     writer: &mut W,
 ) -> Result<(), Failed>
-    ensures done { OnOk result (Passes W.contents W.failed_calls W.sure_calls W.room
+    ensures done { OnOk result (PassesOn W.contents W.failed_calls W.sure_calls W.room
         writer.old writer.new spool.old spool.new (early_bytes batch.now)) }
-    ensures stops { OnErr result (Stops W.contents W.failed_calls W.sure_calls W.room
+    ensures stops { OnErr result (StopsWriting W.contents W.failed_calls W.sure_calls W.room
         writer.old writer.new (waiting spool.old ++ early_bytes batch.now)) }
 {
     spool.keep_all(writer, &[&batch.length().to_be_bytes(), &batch.header()])?;
@@ -327,9 +327,9 @@ fn keep_rows<W: CountedWrite>(
     spool: &mut Spool,
     writer: &mut W,
 ) -> Result<(), Failed>
-    ensures done { OnOk result (Passes W.contents W.failed_calls W.sure_calls W.room
+    ensures done { OnOk result (PassesOn W.contents W.failed_calls W.sure_calls W.room
         writer.old writer.new spool.old spool.new (flat_map row_bytes batch.now.rows)) }
-    ensures stops { OnErr result (Stops W.contents W.failed_calls W.sure_calls W.room
+    ensures stops { OnErr result (StopsWriting W.contents W.failed_calls W.sure_calls W.room
         writer.old writer.new (waiting spool.old ++ flat_map row_bytes batch.now.rows)) }
 {
     for i in 0..batch.count() {

@@ -8,7 +8,7 @@ use Rattle.std.proofs.Math.Seq.{get_or-append_seam}
 use Rattle.ball_model.specs.Input.{Limits, Network, Refusal, TooManyEdges, Fields, TooManyVertices, has_form, labels_of, fault_at, first_of, network_from}
 use Rattle.edgelist.specs.Edges.{AllBelow, edge_of, graph_of_edges}
 use Rattle.edgelist.specs.declared.edge.Edge.{Edge}
-use Rattle.edgelist.specs.Reading.{with_label, IsReadAs, AddsEdge, Exceeds, IsClean, Adds, Stops, FaultIs, Refuses, IsRefusal}
+use Rattle.edgelist.specs.Reading.{with_label, IsReadAs, AddsEdge, Exceeds, IsClean, AddsRecord, Stops, FaultIs, Refuses, IsRefusal}
 use Rattle.edgelist.specs.declared.read.EdgeError.{EdgeError}
 use Rattle.edgelist.specs.declared.read.EdgeError.TheVariants as refused
 use Rattle.edgelist.proofs.NetworkLemmas.{labels_of-one, labels_of-two, with_label-longer, below_more, read-one, read-two, edge-below, network-is}
@@ -106,7 +106,7 @@ clean-more limits records r clean here = record {
 
 -- what adding a record of one label gives
 adds-one : (limits : Limits) (n : ℕ) (a : List ℕ) (old new : List (List ℕ)) (edges edges' : List Edge) → n < limits.edges → has_form (a ∷ []) ≡ true → new ≡ with_label old a → edges' ≡ edges → length new ≤ limits.vertices →
-    Adds limits n (a ∷ []) old edges new edges'
+    AddsRecord limits n (a ∷ []) old edges new edges'
 adds-one limits n a old new edges edges' lt form is same few = record {
   reads = λ records so. read-one records old new edges edges' a so is same;
   passes = λ records at so.
@@ -120,7 +120,7 @@ adds-one limits n a old new edges edges' lt form is same few = record {
 }
 
 adds-two : (limits : Limits) (n : ℕ) (a b : List ℕ) (old new : List (List ℕ)) (edges edges' : List Edge) → n < limits.edges → has_form (a ∷ b ∷ []) ≡ true → AddsEdge a b old edges new edges' → length new ≤ limits.vertices →
-    Adds limits n (a ∷ b ∷ []) old edges new edges'
+    AddsRecord limits n (a ∷ b ∷ []) old edges new edges'
 adds-two limits n a b old new edges edges' lt form adds few = record {
   reads = λ records so. read-two records old new edges edges' a b so adds;
   passes = λ records at so.
@@ -135,12 +135,12 @@ adds-two limits n a b old new edges edges' lt form adds few = record {
 
 -- the same, of an answer
 pub answer-one : {T : Type 0} (o : Result T EdgeError) (limits : Limits) (n : ℕ) (r : Record) (a : List ℕ) (old new : List (List ℕ)) (edges edges' : List Edge) → n < limits.edges → has_form r ≡ true → r ≡ a ∷ [] →
-    OnOk o (new ≡ with_label old a) → OnOk o (edges' ≡ edges) → OnOk o (length new ≤ limits.vertices) → OnOk o (Adds limits n r old edges new edges')
+    OnOk o (new ≡ with_label old a) → OnOk o (edges' ≡ edges) → OnOk o (length new ≤ limits.vertices) → OnOk o (AddsRecord limits n r old edges new edges')
 answer-one (Ok t) limits n r a old new edges edges' lt form row is same few = rw row (adds-one limits n a old new edges edges' lt (rw row at form) is same few)
 answer-one (Err x) limits n r a old new edges edges' lt form row is same few = tt
 
 pub answer-two : {T : Type 0} (o : Result T EdgeError) (limits : Limits) (n : ℕ) (r : Record) (a b : List ℕ) (old new : List (List ℕ)) (edges edges' : List Edge) → n < limits.edges → has_form r ≡ true → r ≡ a ∷ b ∷ [] →
-    OnOk o (AddsEdge a b old edges new edges') → OnOk o (length new ≤ limits.vertices) → OnOk o (Adds limits n r old edges new edges')
+    OnOk o (AddsEdge a b old edges new edges') → OnOk o (length new ≤ limits.vertices) → OnOk o (AddsRecord limits n r old edges new edges')
 answer-two (Ok t) limits n r a b old new edges edges' lt form row adds few = rw row (adds-two limits n a b old new edges edges' lt (rw row at form) adds few)
 answer-two (Err x) limits n r a b old new edges edges' lt form row adds few = tt
 

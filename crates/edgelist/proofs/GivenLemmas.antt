@@ -6,7 +6,7 @@ use Rattle.ball_model.specs.Graph.{Graph}
 use Rattle.ball_model.specs.Input.{IsPlain, Network, in_force, lines, network_from, records}
 use Rattle.edgelist.specs.Edges.{graph_of_edges}
 use Rattle.edgelist.specs.Given.{IsGiven}
-use Rattle.edgelist.specs.Pieces.{EndsLine, IsHeld, IsThrough}
+use Rattle.edgelist.specs.Pieces.{EndsLine, IsLeftOf, IsThrough}
 use Rattle.edgelist.specs.Reading.{Refuses, byte_of, limits_of, meaning_of, network_by}
 use Rattle.edgelist.specs.declared.edge.Edge.{Edge}
 use Rattle.edgelist.specs.declared.pieces.EdgeReader.{EdgeReader}
@@ -20,7 +20,7 @@ pub records-none : (d : ℕ) → records d [] ≡ []
 unfolding lines
 records-none d = refl
 
-held-more : (done left lines : List ℕ) (b : ℕ) → IsHeld done left lines → IsHeld done (left ++ b ∷ []) (lines ++ b ∷ [])
+held-more : (done left lines : List ℕ) (b : ℕ) → IsLeftOf done left lines → IsLeftOf done (left ++ b ∷ []) (lines ++ b ∷ [])
 held-more done left lines b (inl h) = inl (h.0, ap (λ (l : List ℕ). l ++ b ∷ []) h.1)
 held-more done left lines b (inr h) = inr (ap (λ (l : List ℕ). l ++ b ∷ []) h)
 
@@ -36,7 +36,7 @@ given-more limits delimiter text b r s failed delim within number reading held g
   left = g.left ++ b ∷ [];
   text_is = ap (λ (l : List ℕ). l ++ b ∷ []) g.text_is ∙ append_assoc g.done g.left (b ∷ []);
   ends = g.ends;
-  held = subst (λ (l : List ℕ). IsHeld g.done (g.left ++ b ∷ []) l) (sym held) (held-more g.done g.left r.lines.items b g.held);
+  held = subst (λ (l : List ℕ). IsLeftOf g.done (g.left ++ b ∷ []) l) (sym held) (held-more g.done g.left r.lines.items b g.held);
   through = λ plain. rw (within, number, reading) (g.through plain);
 }
 

@@ -7,7 +7,7 @@ use Rattle.std.proofs.lemmas.Nat.{pow-add}
 use Rattle.std.proofs.lemmas.List.Folds.{list_any_at}
 use Rattle.std.proofs.lemmas.List.{length-take, length-drop, take-append-drop, get_or_default, get_or-set_same, get_or-set_other}
 use Rattle.std.proofs.lemmas.Bool.{eqb-true, eq-eqb}
-use Rattle.edgelist.specs.Guessing.{bytes_after, word_of, IsShort, StandsAt, Tells, AreTold, told_word, blank_entry}
+use Rattle.edgelist.specs.Guessing.{bytes_after, word_of, IsShort, StandsAt, IsGuess, AreGuesses, told_word, blank_entry}
 use Rattle.edgelist.specs.declared.numbering.Entry.{Entry}
 use Rattle.edgelist.specs.declared.numbering.LabelWord.{LabelWord}
 use Rattle.edgelist.specs.Reading.{with_label}
@@ -70,18 +70,18 @@ same-numbers a b t =
     (λ f. absurd (let bad = rw f at t in cc))
 
 -- an entry of the word of a label tells its place
-pub tells-one : (labels : List (List ℕ)) (label : List ℕ) (entry : Entry) → IsShort label → StandsAt labels label entry.number → told_word entry ≡ word_of label → Tells labels entry
+pub tells-one : (labels : List (List ℕ)) (label : List ℕ) (entry : Entry) → IsShort label → StandsAt labels label entry.number → told_word entry ≡ word_of label → IsGuess labels entry
 tells-one labels label entry short stands told other shorter is =
     subst (λ (l : List ℕ). StandsAt labels l entry.number) (sym (word-same other label shorter short (is ∙ told))) stands
 
 -- a blank entry tells nothing
-tells-none : (labels : List (List ℕ)) → Tells labels blank_entry
+tells-none : (labels : List (List ℕ)) → IsGuess labels blank_entry
 tells-none labels label short is = absurd (let none : bytes_after 0 (drop 8 label) * 256 + length label + 1 ≡ 0 = ap (λ (w : LabelWord). w.high) is in omega (arith, none))
 
-pub told-blank : (labels : List (List ℕ)) (n : ℕ) → AreTold labels (replicate n blank_entry)
+pub told-blank : (labels : List (List ℕ)) (n : ℕ) → AreGuesses labels (replicate n blank_entry)
 told-blank labels n = record { each = λ i. rw (copies-at n i blank_entry) (tells-none labels) }
 
-pub told-set : (labels : List (List ℕ)) (entries : List Entry) (i : ℕ) (e : Entry) → i < length entries → AreTold labels entries → Tells labels e → AreTold labels (set entries i e)
+pub told-set : (labels : List (List ℕ)) (entries : List Entry) (i : ℕ) (e : Entry) → i < length entries → AreGuesses labels entries → IsGuess labels e → AreGuesses labels (set entries i e)
 told-set labels entries i e lt told tells = record {
   each = λ k. by_cases (k == i) _
       (λ t.
@@ -95,11 +95,11 @@ told-set labels entries i e lt told tells = record {
 }
 
 -- an entry with the word of a label tells its place
-pub told-at : (labels : List (List ℕ)) (entries : List Entry) (label : List ℕ) (word : LabelWord) (i : ℕ) (e d : Entry) → e ≡ get_or entries i d → i < length entries → AreTold labels entries → IsShort label → word ≡ word_of label
+pub told-at : (labels : List (List ℕ)) (entries : List Entry) (label : List ℕ) (word : LabelWord) (i : ℕ) (e d : Entry) → e ≡ get_or entries i d → i < length entries → AreGuesses labels entries → IsShort label → word ≡ word_of label
     → ((e.low == word.low) && (e.high == word.high)) ≡ true → StandsAt labels label e.number
 told-at labels entries label word i e d is lt told short word_is t =
     let here : e ≡ get_or entries i blank_entry = is ∙ get_or_default entries i d blank_entry lt in
-    let tells : Tells labels e = rw here (told.each i) in
+    let tells : IsGuess labels e = rw here (told.each i) in
     tells label short (sym word_is ∙ sym (same-numbers (told_word e) word t))
 
 -- the labels have the one that stands at a place

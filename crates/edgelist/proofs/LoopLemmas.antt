@@ -6,7 +6,7 @@ use Rattle.std.proofs.lemmas.List.{append_assoc, length-append}
 use Rattle.csv.specs.declared.reader.Reader.{Reader}
 use Rattle.ball_model.specs.Input.{Limits, records, network_from}
 use Rattle.edgelist.specs.Records.{config, rows, is_row, FindsNone, IsLeft, StopsAtEnd}
-use Rattle.edgelist.specs.Reading.{network_by, IsReadAs, IsClean, Adds, Stops, Refuses, EndsAt}
+use Rattle.edgelist.specs.Reading.{network_by, IsReadAs, IsClean, AddsRecord, Stops, Refuses, EndsAt}
 use Rattle.edgelist.specs.declared.edge.Edge.{Edge}
 use Rattle.edgelist.specs.declared.read.EdgeError.{EdgeError}
 use Rattle.edgelist.proofs.NetworkLemmas.{read-none}
@@ -39,7 +39,7 @@ goes-stops rem d limits n text a b labels edges goes found = record {
 
 -- a record more that was added
 pub goes-more : {R : Type 0} (rem : R → Option (List ℕ)) (d : ℕ) (limits : Limits) (n : ℕ) (text : List ℕ) (a b : Reader R) (labels labels' : List (List ℕ)) (edges edges' : List Edge) (f : List (List ℕ)) (goes : Goes rem d limits n text a labels edges) →
-    IsLeft rem d text (goes.past ++ f ∷ []) b → Adds limits n f labels edges labels' edges' → Goes rem d limits (n + 1) text b labels' edges'
+    IsLeft rem d text (goes.past ++ f ∷ []) b → AddsRecord limits n f labels edges labels' edges' → Goes rem d limits (n + 1) text b labels' edges'
 goes-more rem d limits n text a b labels labels' edges edges' f goes at adds = record {
   past = goes.past ++ f ∷ [];
   at = at;

@@ -7,9 +7,9 @@ use Rattle.std.proofs.lemmas.List.{append-nil, length-append, map-append}
 use Rattle.std.proofs.lemmas.List.Elements.{filter-append}
 use Rattle.csv.specs.declared.reader.Reader.{Reader}
 use Rattle.ball_model.specs.Input.{HasLfs, IsPlain, Limits, StartsWithLf, fields, has_mark, is_record, lines, network_from, records}
-use Rattle.edgelist.specs.Pieces.{EndsLine, IsHeld, IsThrough}
+use Rattle.edgelist.specs.Pieces.{EndsLine, IsLeftOf, IsThrough}
 use Rattle.edgelist.specs.Records.{IsLeft, config, is_row, rows}
-use Rattle.edgelist.specs.Reading.{Adds, Refuses, Stops, network_by}
+use Rattle.edgelist.specs.Reading.{AddsRecord, Refuses, Stops, network_by}
 use Rattle.edgelist.specs.declared.edge.Edge.{Edge}
 use Rattle.edgelist.specs.declared.read.EdgeError.{EdgeError}
 use Rattle.edgelist.proofs.FaultLemmas.{clean-more, clean-none, says-network, says-refusal}
@@ -26,7 +26,7 @@ through-none limits = record { count = refl; so = read-none; clean = clean-none 
 
 -- a record more that was added
 pub through-more : (limits : Limits) (n : ℕ) (rs : Records) (f : List (List ℕ)) (labels labels' : List (List ℕ)) (edges edges' : List Edge) →
-    IsThrough limits n rs labels edges → Adds limits n f labels edges labels' edges' → IsThrough limits (n + 1) (rs ++ f ∷ []) labels' edges'
+    IsThrough limits n rs labels edges → AddsRecord limits n f labels edges labels' edges' → IsThrough limits (n + 1) (rs ++ f ∷ []) labels' edges'
 through-more limits n rs f labels labels' edges edges' t adds = record {
   count = omega (arith, length-append rs (f ∷ []), t.count);
   so = adds.reads rs t.so;
@@ -48,7 +48,7 @@ runs-start rem d limits n before text rdr labels edges at t = record {
 }
 
 pub runs-more : {R : Type 0} (rem : R → Option (List ℕ)) (d : ℕ) (limits : Limits) (n : ℕ) (before : Records) (text : List ℕ) (a b : Reader R) (labels labels' : List (List ℕ)) (edges edges' : List Edge) (f : List (List ℕ)) (runs : Runs rem d limits n before text a labels edges) →
-    IsLeft rem d text (runs.past ++ f ∷ []) b → Adds limits n f labels edges labels' edges' → Runs rem d limits (n + 1) before text b labels' edges'
+    IsLeft rem d text (runs.past ++ f ∷ []) b → AddsRecord limits n f labels edges labels' edges' → Runs rem d limits (n + 1) before text b labels' edges'
 runs-more rem d limits n before text a b labels labels' edges edges' f runs at adds = record {
   past = runs.past ++ f ∷ [];
   at = at;
@@ -143,11 +143,11 @@ plain-front a b (inr (f, e)) p = record {
 }
 
 -- what is held of a plain text is plain
-pub plain-held : (done left lines : List ℕ) → IsHeld done left lines → IsPlain (done ++ left) → IsPlain lines
+pub plain-held : (done left lines : List ℕ) → IsLeftOf done left lines → IsPlain (done ++ left) → IsPlain lines
 plain-held done left lines (inl h) p = rw (h.1) (rw h.0 at p)
 plain-held done left lines (inr h) p = rw h (record { unmarked = mark-behind left; ends = ((λ e. absurd (cc)), lfs-behind done left p.ends) })
 
 -- and its records are the others
-pub records-held : (d : ℕ) (done left lines : List ℕ) → EndsLine done → IsHeld done left lines → records d (done ++ left) ≡ records d done ++ records d lines
+pub records-held : (d : ℕ) (done left lines : List ℕ) → EndsLine done → IsLeftOf done left lines → records d (done ++ left) ≡ records d done ++ records d lines
 records-held d done left lines ends (inl h) = rw h.1 (records-joined d done left ends)
 records-held d done left lines ends (inr h) = rw (h, records-behind d left) (records-joined d done left ends)

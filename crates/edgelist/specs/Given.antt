@@ -1,7 +1,7 @@
 -- What a reader of bytes was given.
 use Rattle.std.specs.Prelude.{◌≡◌, ℕ, List, ◌++◌, None, Some}
 use Rattle.ball_model.specs.Input.{IsPlain, in_force, records}
-use Rattle.edgelist.specs.Pieces.{EndsLine, IsHeld, IsThrough}
+use Rattle.edgelist.specs.Pieces.{EndsLine, IsLeftOf, IsThrough}
 use Rattle.edgelist.specs.Reading.{byte_of, limits_of}
 use Rattle.edgelist.specs.declared.pieces.EdgeReader.{EdgeReader}
 use Rattle.edgelist.specs.declared.read.Delimiter.{Delimiter}
@@ -18,7 +18,7 @@ pub record IsGiven (limits : EdgeLimits) (delimiter : Delimiter) (text : List �
   pub left : List ℕ
   pub text_is : text ≡ done ++ left
   pub ends : EndsLine done
-  pub held : IsHeld done left reader.lines.items
+  pub held : IsLeftOf done left reader.lines.items
   pub through : IsPlain done → IsThrough (limits_of reader.limits) reader.number
       (records (byte_of delimiter) done) reader.reading.labels reader.reading.edges.items
 

@@ -34,10 +34,10 @@ abbrev pub blank_entry : Entry
 blank_entry = record { low = 0; high = 0; number = 0 }
 
 -- the number of an entry is the place of the short label with its word
-abbrev pub Tells : List (List ℕ) → Entry → Type 0
-Tells labels entry = (label : List ℕ) → IsShort label → word_of label ≡ told_word entry →
+abbrev pub IsGuess : List (List ℕ) → Entry → Type 0
+IsGuess labels entry = (label : List ℕ) → IsShort label → word_of label ≡ told_word entry →
     StandsAt labels label entry.number
 
 -- each entry tells the place of a label, or none
-pub record AreTold (labels : List (List ℕ)) (entries : List Entry) : Type 0 where
-  pub each : (i : ℕ) → Tells labels (slice_index_or entries i blank_entry)
+pub record AreGuesses (labels : List (List ℕ)) (entries : List Entry) : Type 0 where
+  pub each : (i : ℕ) → IsGuess labels (slice_index_or entries i blank_entry)

@@ -16,5 +16,5 @@ abbrev pub EndsLine : List ℕ → Type 0
 EndsLine text = (text ≡ []) ⊎ ((front : List ℕ) × (text ≡ front ++ 10 ∷ []))
 
 -- what is held of a text is what follows that which was read, behind an LF where something was read
-abbrev pub IsHeld : List ℕ → List ℕ → List ℕ → Type 0
-IsHeld done left lines = ((done ≡ []) × (lines ≡ left)) ⊎ (lines ≡ 10 ∷ left)
+abbrev pub IsLeftOf : List ℕ → List ℕ → List ℕ → Type 0
+IsLeftOf done left lines = ((done ≡ []) × (lines ≡ left)) ⊎ (lines ≡ 10 ∷ left)

@@ -146,8 +146,9 @@ pub record IsClean (limits : Limits) (records : List (List (List ℕ))) : Type 0
   pub none : (i : ℕ) → i < length records → fault_at limits records i ≡ None
 
 -- one more record with these fields made these of those
-pub record Adds (limits : Limits) (number : ℕ) (fields : List (List ℕ)) (labels : List (List ℕ))
-    (edges : List Edge) (labels' : List (List ℕ)) (edges' : List Edge) : Type 0 where
+pub record AddsRecord (limits : Limits) (number : ℕ) (fields : List (List ℕ))
+    (labels : List (List ℕ)) (edges : List Edge) (labels' : List (List ℕ)) (edges' : List Edge) :
+    Type 0 where
   pub reads : (records : List (List (List ℕ))) → IsReadAs records labels edges →
       IsReadAs (records ++ fields ∷ []) labels' edges'
   pub passes : (records : List (List (List ℕ))) → length records ≡ number →

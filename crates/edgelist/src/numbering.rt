@@ -5,7 +5,7 @@ ghost use Rattle.std.specs.Prelude.{slice_index_or, [], true, false, IfOk, IfSom
 ghost use Rattle.std.specs.Prelude.{OnOk, OnErr};
 ghost use Rattle.std.specs.List.{IsDistinct};
 ghost use Rattle.std.specs.Str.{bytes_eq};
-ghost use Rattle.edgelist.specs.Guessing.{AreTold, IsShort, StandsAt, Tells, blank_entry};
+ghost use Rattle.edgelist.specs.Guessing.{AreGuesses, IsShort, StandsAt, IsGuess, blank_entry};
 ghost use Rattle.edgelist.specs.Guessing.{bytes_after, told_word, word_of};
 ghost use Rattle.edgelist.specs.Labels.{texts};
 ghost use Rattle.edgelist.specs.Reading.{has_label, with_label};
@@ -65,14 +65,14 @@ impl Model for Numbering {
     ghost use Rattle.std.specs.Prelude.{List, ℕ};
     ghost use Rattle.std.specs.List.{IsDistinct};
     ghost use Rattle.std.specs.Str.{bytes_eq};
-    ghost use Rattle.edgelist.specs.Guessing.{AreTold};
+    ghost use Rattle.edgelist.specs.Guessing.{AreGuesses};
     ghost use Rattle.edgelist.specs.Labels.{texts};
 
     ghost Value = { List (List ℕ) };
 
     ghost view = { λ n. texts n.labels };
 
-    ghost invariant = { λ n. AreTold (texts n.labels) n.entries.items };
+    ghost invariant = { λ n. AreGuesses (texts n.labels) n.entries.items };
 }
 
 // Some bytes of a label as the digits of one number.
@@ -120,7 +120,7 @@ fn group(word: LabelWord, count: usize) -> usize {
 
 // The number of the short label with this word, where an entry of its group is that label's.
 fn guess(entries: &[Entry], word: LabelWord) -> Option<usize>
-    ensures { (labels : List (List ℕ)) (label : List ℕ) → AreTold labels entries.now
+    ensures { (labels : List (List ℕ)) (label : List ℕ) → AreGuesses labels entries.now
         → IsShort label → word ≡ word_of label → IfSome result (StandsAt labels label) }
 {
     let start = group(word, entries.len());
@@ -145,8 +145,8 @@ fn entry_place(entries: &[Entry], start: usize) -> usize {
 
 // Puts an entry into its group.
 fn put(entries: &mut [Entry], entry: Entry)
-    ensures { (labels : List (List ℕ)) → AreTold labels entries.old → Tells labels entry
-        → AreTold labels entries.new }
+    ensures { (labels : List (List ℕ)) → AreGuesses labels entries.old → IsGuess labels entry
+        → AreGuesses labels entries.new }
 {
     let place = entry_place(entries, group(entry.word(), entries.len()));
     if place < entries.len() {
@@ -156,8 +156,8 @@ fn put(entries: &mut [Entry], entry: Entry)
 
 // Puts the entries of a smaller table into theirs.
 fn put_entries(entries: &mut [Entry], smaller: &[Entry])
-    ensures { (labels : List (List ℕ)) → AreTold labels smaller.now → AreTold labels entries.old
-        → AreTold labels entries.new }
+    ensures { (labels : List (List ℕ)) → AreGuesses labels smaller.now →
+        AreGuesses labels entries.old → AreGuesses labels entries.new }
 {
     for entry in smaller {
         if entry.high > 0 {
@@ -168,9 +168,9 @@ fn put_entries(entries: &mut [Entry], smaller: &[Entry])
 
 // Puts a label's word and number into an entry of its group.
 fn remember(entries: &mut [Entry], word: LabelWord, number: usize)
-    ensures { (labels : List (List ℕ)) (label : List ℕ) → AreTold labels entries.old
+    ensures { (labels : List (List ℕ)) (label : List ℕ) → AreGuesses labels entries.old
         → IsShort label → word ≡ word_of label → StandsAt labels label number
-        → AreTold labels entries.new }
+        → AreGuesses labels entries.new }
 {
     let Ok(number) = u32::try_from(number) else {
         return;

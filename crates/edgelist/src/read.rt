@@ -16,8 +16,8 @@ ghost use Rattle.edgelist.specs.declared.read.EdgeError.TheVariants.{Memory};
 ghost use Rattle.edgelist.specs.Records.{ForPlain, FromStart, ReadsNone, ReadsOne};
 ghost use Rattle.edgelist.specs.Reading.{byte_of, limits_of, meaning_of, meaning_within, CountsOne};
 ghost use Rattle.edgelist.specs.Reading.{IsReadBy, Refuses, edge_error, fields_with, with_label};
-ghost use Rattle.edgelist.specs.Reading.{AreWithin, AddsEdge, Exceeds, Adds, Stops, EndsAtEnd};
-ghost use Rattle.edgelist.specs.Reading.{EndsAtFault};
+ghost use Rattle.edgelist.specs.Reading.{AreWithin, AddsEdge, Exceeds, AddsRecord, Stops};
+ghost use Rattle.edgelist.specs.Reading.{EndsAtEnd, EndsAtFault};
 
 use crate::edge::Edge;
 use crate::graph::Graph;
@@ -215,7 +215,7 @@ impl Reading {
         number: u64,
         limits: EdgeLimits,
     ) -> Result<(), EdgeError>
-        ensures adds { OnOk result (Adds (limits_of limits) number (fields_of row.now)
+        ensures adds { OnOk result (AddsRecord (limits_of limits) number (fields_of row.now)
             self.old.labels self.old.edges.items self.new.labels self.new.edges.items) }
         ensures fewer { OnOk result (number < limits.edges) }
         ensures many { limits.edges ≤ number → result ≡ Err EdgeError.TooManyEdges }

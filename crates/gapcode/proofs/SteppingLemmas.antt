@@ -4,7 +4,7 @@ use Rattle.std.proofs.lemmas.Bool.{ltb-false, le-ltb}
 use Rattle.gapcode.specs.declared.error.CodeError.{CodeError}
 use Rattle.gapcode.specs.declared.error.CodeError.TheVariants.{Range}
 use Rattle.gapcode.specs.Bits.{gamma_at, bits_of}
-use Rattle.gapcode.specs.Lists.{◌>>=◌, elements_at, beyond, values, elements_of, read_list, list_at, ArePlaced, IsPlaced}
+use Rattle.gapcode.specs.Lists.{◌>>=◌, elements_at, beyond, values, elements_of, read_list, list_at, SpellsFrom, IsPlaced}
 use Rattle.gapcode.proofs.GammaLemmas.{gamma_takes, ok_is}
 use Rattle.std.proofs.lemmas.List.{length-drop}
 use Rattle.gapcode.proofs.WordsLemmas.{at_rest}
@@ -47,9 +47,9 @@ pub record Stepped (bytes : List ℕ) (position left least gap place : ℕ) : Ty
   pub some : 0 < gap
   pub fits : least + gap ≤ beyond
   pub next : elements_of left least (drop position (bits_of bytes)) ≡ (least + (gap - 1)) ∷ elements_of (left - 1) (least + (gap - 1) + 1) (drop place (bits_of bytes))
-  pub placed : ArePlaced bytes place (left - 1) (least + (gap - 1) + 1)
+  pub placed : SpellsFrom bytes place (left - 1) (least + (gap - 1) + 1)
 
-pub stepped : (bytes : List ℕ) (position left least gap place : ℕ) → ArePlaced bytes position left least → 0 < left → Ok (gap, drop place (bits_of bytes)) ≡ gamma_at (drop position (bits_of bytes)) → place ≤ 8 * length bytes → Stepped bytes position left least gap place
+pub stepped : (bytes : List ℕ) (position left least gap place : ℕ) → SpellsFrom bytes position left least → 0 < left → Ok (gap, drop place (bits_of bytes)) ≡ gamma_at (drop position (bits_of bytes)) → place ≤ 8 * length bytes → Stepped bytes position left least gap place
 stepped bytes position left least gap place is pos read inside =
     let t = next_of left least (drop position (bits_of bytes)) pos is.coded in
     let p : ℕ × List Bool = (gap, drop place (bits_of bytes)) in
@@ -65,7 +65,7 @@ stepped bytes position left least gap place is pos read inside =
 apart : {e : CodeError} {x : ℕ × List Bool} → Err e ≡ Ok x → ⊥
 apart h = cc
 
-pub no_error : (bytes : List ℕ) (position left least : ℕ) (e : CodeError) → ArePlaced bytes position left least → 0 < left → Err e ≡ gamma_at (drop position (bits_of bytes)) → ⊥
+pub no_error : (bytes : List ℕ) (position left least : ℕ) (e : CodeError) → SpellsFrom bytes position left least → 0 < left → Err e ≡ gamma_at (drop position (bits_of bytes)) → ⊥
 no_error bytes position left least e is pos read =
     let t = next_of left least (drop position (bits_of bytes)) pos is.coded in
     apart (read ∙ t.2)
@@ -75,7 +75,7 @@ no_error bytes position left least e is pos read =
 pub record Begun (bytes : List ℕ) (position code end : ℕ) : Type 0 where
   pub some : 0 < code
   pub first : elements_of (code - 1) 0 (drop end (bits_of bytes)) ≡ read_list (drop position (bits_of bytes))
-  pub placed : ArePlaced bytes end (code - 1) 0
+  pub placed : SpellsFrom bytes end (code - 1) 0
 
 pub begun : (bytes : List ℕ) (position code end : ℕ) → IsPlaced bytes position → Ok (code, drop end (bits_of bytes)) ≡ gamma_at (drop position (bits_of bytes)) → end ≤ 8 * length bytes → Begun bytes position code end
 unfolding list_at
@@ -104,7 +104,7 @@ no_list bytes position e is read =
 placed_inside : (bytes rest : List ℕ) (place : ℕ) → rest ≡ drop (place / 8) bytes → place ≤ 8 * length bytes → place % 8 ≤ 8 * length rest
 placed_inside bytes rest place e inside = rw e (omega (arith, length-drop (place / 8) bytes))
 
-pub moved : (bytes rest : List ℕ) (place left least : ℕ) → rest ≡ drop (place / 8) bytes → ArePlaced bytes place left least → ArePlaced rest (place % 8) left least
+pub moved : (bytes rest : List ℕ) (place left least : ℕ) → rest ≡ drop (place / 8) bytes → SpellsFrom bytes place left least → SpellsFrom rest (place % 8) left least
 moved bytes rest place left least e is = record {
   inside = placed_inside bytes rest place e is.inside;
   coded = (is.coded.0, ap (elements_at beyond left least) (sym (at_rest bytes rest place e)) ∙ is.coded.1);
@@ -116,7 +116,7 @@ list_moved bytes rest place e is = record {
   coded = (is.coded.0, ap (list_at beyond) (sym (at_rest bytes rest place e)) ∙ is.coded.1);
 }
 
-pub length-placed : (bytes : List ℕ) (place left least : ℕ) → ArePlaced bytes place left least → length (elements_of left least (drop place (bits_of bytes))) ≡ left
+pub length-placed : (bytes : List ℕ) (place left least : ℕ) → SpellsFrom bytes place left least → length (elements_of left least (drop place (bits_of bytes))) ≡ left
 length-placed bytes place left least is =
     ap (λ (r : Result (List ℕ × List Bool) CodeError). length (values r)) is.coded.1 ∙ (elements_take beyond left least (drop place (bits_of bytes)) is.coded.0 is.coded.1).1
 

@@ -138,7 +138,7 @@ abbrev pub BeginWith : List ℕ → ℕ → List (List ℕ) × List Bool → Typ
 BeginWith bytes count lists = lists_at beyond count (bits_of bytes) ≡ Ok lists
 
 -- that many elements are spelled from the place on
-pub record ArePlaced (bytes : List ℕ) (place left least : ℕ) : Type 0 where
+pub record SpellsFrom (bytes : List ℕ) (place left least : ℕ) : Type 0 where
   pub inside : place ≤ 8 * length bytes
   pub coded : (x : List ℕ × List Bool)
       × (elements_at beyond left least (drop place (bits_of bytes)) ≡ Ok x)

@@ -3,7 +3,7 @@
 ghost use Rattle.std.specs.Prelude.{◌≡◌, ◌+◌, ◌-◌, ◌*◌, ◌/◌, ◌%◌, ◌<◌, ◌≤◌, ◌∷◌, length, drop, []};
 ghost use Rattle.std.specs.Iterator.{YieldsFirst, item_count};
 ghost use Rattle.gapcode.specs.Bits.{bits_from};
-ghost use Rattle.gapcode.specs.Lists.{elements_from, read_list, ArePlaced, IsPlaced};
+ghost use Rattle.gapcode.specs.Lists.{elements_from, read_list, SpellsFrom, IsPlaced};
 
 use crate::code::code_at;
 use std::marker::Model;
@@ -22,23 +22,23 @@ pub struct Elements<'a> {
 impl<'a> Model for Elements<'a> {
     ghost use Rattle.std.specs.Prelude.{List, ℕ, ◌<◌, drop};
     ghost use Rattle.gapcode.specs.Bits.{bits_of};
-    ghost use Rattle.gapcode.specs.Lists.{elements_of, ArePlaced};
+    ghost use Rattle.gapcode.specs.Lists.{elements_of, SpellsFrom};
 
     ghost Value = { List ℕ };
 
     ghost view = { λ e. elements_of e.left e.least (drop e.position (bits_of e.bytes.now)) };
 
-    ghost invariant = { λ e. (e.position < 8) × ArePlaced e.bytes.now e.position e.left e.least };
+    ghost invariant = { λ e. (e.position < 8) × SpellsFrom e.bytes.now e.position e.left e.least };
 }
 
 // The next element, and the place after it.
 fn step(bytes: &[u8], position: u32, left: u64, least: u64) -> (u32, u32)
     requires first { position < 8 }
-    requires placed { ArePlaced bytes.now position left least }
+    requires placed { SpellsFrom bytes.now position left least }
     requires some { 0 < left }
     ensures next { elements_from bytes.now position left least
         ≡ result.0 ∷ elements_from bytes.now result.1 (left - 1) (result.0 + 1) }
-    ensures placed { ArePlaced bytes.now result.1 (left - 1) (result.0 + 1) }
+    ensures placed { SpellsFrom bytes.now result.1 (left - 1) (result.0 + 1) }
 {
     match code_at(bytes, position) {
         Ok((gap, end)) => ((least + (gap - 1)) as u32, end),
@@ -52,7 +52,7 @@ fn degree(bytes: &[u8], position: u32) -> (u64, u32)
     requires placed { IsPlaced bytes.now position }
     ensures first { elements_from bytes.now result.1 result.0 0
         ≡ read_list (bits_from bytes.now position) }
-    ensures placed { ArePlaced bytes.now result.1 result.0 0 }
+    ensures placed { SpellsFrom bytes.now result.1 result.0 0 }
 {
     match code_at(bytes, position) {
         Ok((code, end)) => (code - 1, end),

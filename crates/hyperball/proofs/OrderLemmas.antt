@@ -17,7 +17,7 @@ use Rattle.std.proofs.lemmas.List.Sums.{fails_before_first, passes_at_first, spl
 use Rattle.std.proofs.lemmas.List.{get_or-map, length-map}
 use Rattle.ball_model.specs.WorldText.{node_word}
 use Rattle.ball_model.specs.declared.names.NodeId.{NodeId}
-use Rattle.hyperball.specs.Orders.{AreOrders, IsNode, IsOrder, Reads, is_plain, order_text, orders_text}
+use Rattle.hyperball.specs.Orders.{AreOrders, IsNodeName, IsOrder, Reads, is_plain, order_text, orders_text}
 
 -- ---- numbers
 
@@ -119,13 +119,13 @@ uncut-is d text x y h k one is =
 
 -- ---- nodes
 
-part-lacks : (c : ℕ) → (digit_value c < 10 → ⊥) → (id : NodeId) → IsNode id → Lacks c (decimal id.part)
+part-lacks : (c : ℕ) → (digit_value c < 10 → ⊥) → (id : NodeId) → IsNodeName id → Lacks c (decimal id.part)
 part-lacks c out id fits = decimal-lacks c id.part out (omega (arith, fits.part))
 
-replica-lacks : (c : ℕ) → (digit_value c < 10 → ⊥) → (id : NodeId) → IsNode id → Lacks c (decimal id.replica)
+replica-lacks : (c : ℕ) → (digit_value c < 10 → ⊥) → (id : NodeId) → IsNodeName id → Lacks c (decimal id.replica)
 replica-lacks c out id fits = decimal-lacks c id.replica out (omega (arith, fits.replica))
 
-node-lacks : (c : ℕ) → (digit_value c < 10 → ⊥) → 46 ≢ c → (id : NodeId) → IsNode id → Lacks c (node_word id)
+node-lacks : (c : ℕ) → (digit_value c < 10 → ⊥) → 46 ≢ c → (id : NodeId) → IsNodeName id → Lacks c (node_word id)
 unfolding node_word
 node-lacks c out other id fits = lacks-two c 46 (decimal id.part) (decimal id.replica) other (part-lacks c out id fits) (replica-lacks c out id fits)
 
@@ -139,17 +139,17 @@ comma-out : digit_value 44 < 10 → ⊥
 comma-out h = omega (arith, h)
 
 -- a text with no point names no node
-pub node-uncut : (text : List ℕ) → slice_split (λ b. b == 46) text ≡ text ∷ [] → (id : NodeId) → IsNode id → text ≢ node_word id
+pub node-uncut : (text : List ℕ) → slice_split (λ b. b == 46) text ≡ text ∷ [] → (id : NodeId) → IsNodeName id → text ≢ node_word id
 unfolding node_word
 node-uncut text one id fits is = uncut-is 46 text (decimal id.part) (decimal id.replica) (part-lacks 46 point-out id fits) (replica-lacks 46 point-out id fits) one is
 
 -- a text with a point names a node whose numbers are the two pieces
-pub node-cut : (text a b : List ℕ) → slice_split (λ b. b == 46) text ≡ a ∷ slice_split (λ b. b == 46) b → (id : NodeId) → IsNode id → text ≡ node_word id → (a ≡ decimal id.part) × (b ≡ decimal id.replica)
+pub node-cut : (text a b : List ℕ) → slice_split (λ b. b == 46) text ≡ a ∷ slice_split (λ b. b == 46) b → (id : NodeId) → IsNodeName id → text ≡ node_word id → (a ≡ decimal id.part) × (b ≡ decimal id.replica)
 unfolding node_word
 node-cut text a b pieces id fits is = cut-is 46 text a b (decimal id.part) (decimal id.replica) (part-lacks 46 point-out id fits) (replica-lacks 46 point-out id fits) pieces is
 
 pub node-is : (text a b : List ℕ) (part replica : ℕ) → text ≡ a ++ 46 ∷ b → (part < 2 ^ 16) × (a ≡ decimal part) → (replica < 2 ^ 8) × (b ≡ decimal replica) →
-    IsNode (record { part = part; replica = replica }) × (text ≡ node_word (record { part = part; replica = replica }))
+    IsNodeName (record { part = part; replica = replica }) × (text ≡ node_word (record { part = part; replica = replica }))
 unfolding node_word
 node-is text a b part replica is p r = (record { part = p.0; replica = r.0 }, is ∙ ap (λ l. l ++ 46 ∷ b) p.1 ∙ ap (λ l. decimal part ++ 46 ∷ l) r.1)
 
@@ -168,7 +168,7 @@ pub order-cut : (text a b : List ℕ) → slice_split (λ b. b == 64) text ≡ a
 unfolding order_text
 order-cut text a b pieces o fits is = cut-is 64 text a b (node_word o.0) (decimal o.1) (node-lacks 64 at-out (λ e. omega (arith, e)) o.0 fits.node) (superstep-lacks 64 at-out o fits) pieces is
 
-pub order-is : (text a b : List ℕ) (id : NodeId) (superstep : ℕ) → text ≡ a ++ 64 ∷ b → IsNode id × (a ≡ node_word id) → (superstep < 10 ^ 9) × (b ≡ decimal superstep) →
+pub order-is : (text a b : List ℕ) (id : NodeId) (superstep : ℕ) → text ≡ a ++ 64 ∷ b → IsNodeName id × (a ≡ node_word id) → (superstep < 10 ^ 9) × (b ≡ decimal superstep) →
     IsOrder (id, superstep) × (text ≡ order_text (id, superstep))
 unfolding order_text
 order-is text a b id superstep is n s = (record { node = n.0; superstep = s.0 }, is ∙ ap (λ l. l ++ 64 ∷ b) n.1 ∙ ap (λ l. node_word id ++ 64 ∷ l) s.1)
@@ -226,7 +226,7 @@ none-is-read text piece i lt at refused os are =
     refused (get_or os i d) (fits-at os i d are.fit long) (at ∙ ap (λ l. get_or l i piece) pieces ∙ get_or-map order_text os i d piece long)
 
 -- a text is the spelling of one list of orders
-node-once : (a b : NodeId) → IsNode a → IsNode b → node_word a ≡ node_word b → a ≡ b
+node-once : (a b : NodeId) → IsNodeName a → IsNodeName b → node_word a ≡ node_word b → a ≡ b
 unfolding node_word
 node-once a b f g same =
     let cut = cut-is 46 (node_word a) (decimal a.part) (decimal a.replica) (decimal b.part) (decimal b.replica) (part-lacks 46 point-out b g) (replica-lacks 46 point-out b g)

@@ -7,14 +7,14 @@ use Rattle.workers.specs.Options.{settings_of}
 use Rattle.workers.specs.Run.{IsRunRefusal}
 use Rattle.workers.specs.declared.bytes.RunError.{RunError}
 use Rattle.workers.specs.declared.options.RunOptions.{RunOptions}
-use Rattle.hyperball.specs.Refusals.{IsFault, Refuses}
-use Rattle.hyperball.specs.Whole.{IsWhole}
+use Rattle.hyperball.specs.Refusals.{IsFault, RefusesInput}
+use Rattle.hyperball.specs.Whole.{IsWholeInput}
 use Rattle.hyperball.specs.declared.serve.RunFault.{RunFault}
 use Rattle.hyperball.specs.declared.serve.RunFault.TheVariants as fault
 
 -- the two sections of an input, of which this error is told
 pub refuses_both : (s : Settings) (input edges first list : List ℕ) (e : RunError) → Some (edges, list) ≡ sections_of input → first ≡ edges →
-    (ArePlain first (Some list) → IsRunRefusal s first (Some list) e) → Refuses s true input e
+    (ArePlain first (Some list) → IsRunRefusal s first (Some list) e) → RefusesInput s true input e
 refuses_both s input edges first list e found is refused = record {
   edges = edges;
   list = Some list;
@@ -23,16 +23,16 @@ refuses_both s input edges first list e found is refused = record {
 }
 
 -- a whole input, of which a fault is told
-pub told_whole : (o : RunOptions) (told : Option (List ℕ)) (bytes seen : List ℕ) (f : RunFault) → IsWhole told bytes → seen ≡ bytes → IsFault o true (Some seen) f → IsFault o true told f
+pub told_whole : (o : RunOptions) (told : Option (List ℕ)) (bytes seen : List ℕ) (f : RunFault) → IsWholeInput told bytes → seen ≡ bytes → IsFault o true (Some seen) f → IsFault o true told f
 told_whole o told bytes seen fault.Gate whole same says = tt
 told_whole o told bytes seen fault.Random whole same says = tt
 told_whole o told bytes seen (fault.Input e) whole same says = tt
 told_whole o None bytes seen fault.NoList whole same says = tt
 told_whole o (Some input) bytes seen fault.NoList whole same says = subst (λ l. IsFault o true (Some l) fault.NoList) (same ∙ whole) says
 told_whole o None bytes seen (fault.Run e) whole same says = (says.0, tt)
-told_whole o (Some input) bytes seen (fault.Run e) whole same says = (says.0, subst (λ l. Refuses (settings_of o) true l e) (same ∙ whole) says.1)
+told_whole o (Some input) bytes seen (fault.Run e) whole same says = (says.0, subst (λ l. RefusesInput (settings_of o) true l e) (same ∙ whole) says.1)
 
 -- an input without a list, of which this error is told
-pub refuses_edges : (s : Settings) (told : Option (List ℕ)) (e : RunError) → IfSome told (λ input. ArePlain input None → IsRunRefusal s input None e) → IfSome told (λ input. Refuses s false input e)
+pub refuses_edges : (s : Settings) (told : Option (List ℕ)) (e : RunError) → IfSome told (λ input. ArePlain input None → IsRunRefusal s input None e) → IfSome told (λ input. RefusesInput s false input e)
 refuses_edges s None e refused = tt
 refuses_edges s (Some input) e refused = record { edges = input; list = None; found = refl; refused = refused }

@@ -7,7 +7,7 @@ use Rattle.world.specs.declared.replay.ReplayError.{ReplayError}
 use Rattle.world.specs.declared.replay.ReplayError.TheVariants as fault
 use Rattle.clap.specs.Words.{Text}
 use Rattle.hyperball.specs.Nodes.{AsksGather, AsksNode}
-use Rattle.hyperball.specs.Replaying.{AsksReplay, Begins, BeginsSome, FailsIn, FailsOver, Leaves, SaysRun}
+use Rattle.hyperball.specs.Replaying.{AsksReplay, BeginsAnswers, BeginsSome, FailsIn, FailsOver, Leaves, SaysRun}
 use Rattle.hyperball.specs.Words.{SaysProgress}
 use Rattle.hyperball.specs.declared.replay_words.ReplayWords.{ReplayWords}
 use Rattle.hyperball.specs.declared.replaying.ReplayFault.{ReplayFault}
@@ -28,13 +28,13 @@ which fault.Memory = inl refl
 which fault.Write = inr (inl refl)
 
 -- a replay for which memory was refused
-pub begun : (told : Option (List ℕ)) (w : ReplayWords) (old new : Option (List ℕ)) (a b : ℕ) (e : ReplayError) → e ≡ fault.Memory → IfSome told (λ input. FailsIn w input old new a b e) → IfSome told (λ input. Begins w input old new)
+pub begun : (told : Option (List ℕ)) (w : ReplayWords) (old new : Option (List ℕ)) (a b : ℕ) (e : ReplayError) → e ≡ fault.Memory → IfSome told (λ input. FailsIn w input old new a b e) → IfSome told (λ input. BeginsAnswers w input old new)
 begun None w old new a b e is fails = tt
 begun (Some input) w old new a b e is fails = record { parts = fails.parts; found = fails.found; begun = λ plain. fails.fails.memory plain is }
 
 -- what each fault leaves
 pub stops : (told : Option (List ℕ)) (w : ReplayWords) (old new : Option (List ℕ)) (a b : ℕ) (f : ReplayFault) → IfSome told (λ input. FailsOver w input old new a b f) → Leaves old new a b f →
-    (Keeps old new ⊎ Rises a b) ⊎ IfSome told (λ input. Begins w input old new)
+    (Keeps old new ⊎ Rises a b) ⊎ IfSome told (λ input. BeginsAnswers w input old new)
 stops told w old new a b unserved.Random fails left = inl (inl left)
 stops told w old new a b (unserved.Input e) fails left = inl (inl left)
 stops told w old new a b unserved.NoList fails left = inl (inl left)
@@ -69,6 +69,6 @@ replay_tells x w b is = subst (SaysProgress b) is
 
 -- a replay that stopped, of words that ask for one
 pub some_begun : (words : List Text) (told old new : Option (List ℕ)) (a b : ℕ) (w : ReplayWords) → AsksReplay words →
-    (Keeps old new ⊎ Rises a b) ⊎ IfSome told (λ input. Begins w input old new) → (Keeps old new ⊎ Rises a b) ⊎ (BeginsSome words told old new ⊎ (AsksNode words ⊎ AsksGather words))
+    (Keeps old new ⊎ Rises a b) ⊎ IfSome told (λ input. BeginsAnswers w input old new) → (Keeps old new ⊎ Rises a b) ⊎ (BeginsSome words told old new ⊎ (AsksNode words ⊎ AsksGather words))
 some_begun words told old new a b w asks (inl left) = inl left
 some_begun words told old new a b w asks (inr begun) = inr (inl (record { asks = asks; words_of = w; begun = begun }))

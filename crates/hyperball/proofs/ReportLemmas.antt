@@ -4,7 +4,7 @@ use Rattle.std.specs.Prelude.{Option, None, Some, IfSome, option_map}
 use Rattle.ball_model.specs.RunText.{AppendsReport, ArePlain, Settings}
 use Rattle.ball_model.specs.Sections.{sections_of}
 use Rattle.hyperball.specs.Options.{settings_in}
-use Rattle.hyperball.specs.Whole.{IsWhole, sections_in}
+use Rattle.hyperball.specs.Whole.{IsWholeInput, sections_in}
 use Rattle.hyperball.specs.Words.{Reports, listed_words}
 use Rattle.hyperball.specs.declared.options.Options.{Options}
 use Rattle.hyperball.specs.declared.words.RunWords.{RunWords}
@@ -20,7 +20,7 @@ cut input edges first list options old new found is appended = record {
 }
 
 -- a whole input whose report was appended
-pub listed : (o : Option (List ℕ)) (bytes seen : List ℕ) (w : RunWords) (old new : Option (List ℕ)) → IsWhole o bytes → seen ≡ bytes → Reports w seen old new → IfSome o (λ input. Reports w input old new)
+pub listed : (o : Option (List ℕ)) (bytes seen : List ℕ) (w : RunWords) (old new : Option (List ℕ)) → IsWholeInput o bytes → seen ≡ bytes → Reports w seen old new → IfSome o (λ input. Reports w input old new)
 listed None bytes seen w old new whole same done = tt
 listed (Some input) bytes seen w old new whole same done = subst (λ l. Reports w l old new) (same ∙ whole) done
 

@@ -14,13 +14,13 @@ unfoldable pub orders_text : List (NodeId × ℕ) → List ℕ
 orders_text os = join_with_byte 44 (map order_text os)
 
 -- the numbers of a partition and of a replica are in range
-pub record IsNode (id : NodeId) : Type 0 where
+pub record IsNodeName (id : NodeId) : Type 0 where
   pub part : id.part < 2 ^ 16
   pub replica : id.replica < 2 ^ 8
 
 -- the numbers of an order are in range
 pub record IsOrder (o : NodeId × ℕ) : Type 0 where
-  pub node : IsNode o.0
+  pub node : IsNodeName o.0
   pub superstep : o.1 < 10 ^ 9
 
 -- the text is the spelling of these orders, of which there is one at least

@@ -11,7 +11,8 @@ use Rattle.workers.specs.declared.options.RunOptions.{RunOptions}
 
 -- this error is told of the edge list and the list of counted vertices in the input, where these are plain: it comes
 -- only where all checks before it passed
-pub record Refuses (s : Settings) (counted : Bool) (input : List ℕ) (e : RunError) : Type 0 where
+pub record RefusesInput (s : Settings) (counted : Bool) (input : List ℕ) (e : RunError) :
+    Type 0 where
   pub edges : List ℕ
   pub list : Option (List ℕ)
   pub found : sections_in counted input ≡ Some (edges, list)
@@ -24,7 +25,7 @@ IsFault o counted told fault.Random = ⊤
 IsFault o counted told (fault.Input e) = ⊤
 IsFault o counted told fault.NoList = IfSome told (λ input. sections_in counted input ≡ None)
 IsFault o counted told (fault.Run e) =
-    IsFaultIn o e × IfSome told (λ input. Refuses (settings_of o) counted input e)
+    IsFaultIn o e × IfSome told (λ input. RefusesInput (settings_of o) counted input e)
 
 -- the input was not read whole, or not at all
 abbrev pub IsUnreadRun : RunFault → Type 0

@@ -18,7 +18,7 @@ use Rattle.hyperball.specs.declared.replaying.ReplayFault.TheVariants as fault
 use Rattle.hyperball.specs.declared.words.RunWords.{RunWords}
 use Rattle.hyperball.specs.declared.words.Wish.{Wish}
 use Rattle.hyperball.specs.declared.words.Wish.TheVariants as wish
-use Rattle.world.specs.Replay.{BeginsReplay, Fails, replay_of}
+use Rattle.world.specs.Replay.{BeginsReplay, FailsOfReplay, replay_of}
 use Rattle.world.specs.declared.replay.ReplayError.{ReplayError}
 use Rattle.world.specs.declared.replay.ReplayError.TheVariants as unanswered
 
@@ -99,7 +99,8 @@ pub record Answers (w : ReplayWords) (input : List ℕ) (old new : Option (List 
       AppendsReplay (replay_of w.options) parts.edges parts.list parts.script old new
 
 -- nothing or a beginning of these answers is appended, where the input is plain
-pub record Begins (w : ReplayWords) (input : List ℕ) (old new : Option (List ℕ)) : Type 0 where
+pub record BeginsAnswers (w : ReplayWords) (input : List ℕ) (old new : Option (List ℕ)) :
+    Type 0 where
   pub parts : Parts
   pub found : parts_in w.counted input ≡ Ok parts
   pub begun : ArePlain parts.edges parts.list →
@@ -110,7 +111,7 @@ pub record FailsIn (w : ReplayWords) (input : List ℕ) (old new : Option (List 
     (failed_old failed_new : ℕ) (e : ReplayError) : Type 0 where
   pub parts : Parts
   pub found : parts_in w.counted input ≡ Ok parts
-  pub fails : Fails (replay_of w.options) parts.edges parts.list parts.script
+  pub fails : FailsOfReplay (replay_of w.options) parts.edges parts.list parts.script
       old new failed_old failed_new e
 
 -- what a fault says of the input, and what it leaves
@@ -170,11 +171,11 @@ abbrev pub BeginsToServe : {W : Type 0} → ReplayWords → Option (List ℕ) �
     (W → Option (List ℕ)) → (W → ℕ) → W → W → Type 0
 BeginsToServe w told contents failed old new =
     KeptOrFailed contents failed old new ⊎
-    IfSome told (λ input. Begins w input (contents old) (contents new))
+    IfSome told (λ input. BeginsAnswers w input (contents old) (contents new))
 
 -- the words ask for a replay, and under some options it has a beginning of the answers
 pub record BeginsSome
     (words : List Text) (told : Option (List ℕ)) (old new : Option (List ℕ)) : Type 0 where
   pub asks : AsksReplay words
   pub words_of : ReplayWords
-  pub begun : IfSome told (λ input. Begins words_of input old new)
+  pub begun : IfSome told (λ input. BeginsAnswers words_of input old new)

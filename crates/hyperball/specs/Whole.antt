@@ -13,8 +13,8 @@ abbrev pub ReadsFew : Option (List ℕ) → Option (List ℕ) → Type 0
 ReadsFew old new = TakesAtMost (most_bytes + 1) old new
 
 -- these are all bytes of the input
-abbrev pub IsWhole : Option (List ℕ) → List ℕ → Type 0
-IsWhole old bytes = IfSome old (λ input. bytes ≡ input)
+abbrev pub IsWholeInput : Option (List ℕ) → List ℕ → Type 0
+IsWholeInput old bytes = IfSome old (λ input. bytes ≡ input)
 
 -- the input has more bytes than that
 abbrev pub IsLong : Option (List ℕ) → Type 0

@@ -3,7 +3,8 @@
 ghost use Rattle.std.specs.Prelude.{◌≡◌, ◌<◌, ◌^◌, IfOk, List, MatchResult, decimal, ℕ};
 ghost use Rattle.ball_model.specs.WorldText.{node_word};
 ghost use Rattle.ball_model.specs.declared.names.NodeId.{NodeId as Node};
-ghost use Rattle.hyperball.specs.Orders.{AreOrders, IsNode, IsOrder, Reads, is_plain, order_text};
+ghost use Rattle.hyperball.specs.Orders.{AreOrders, IsNodeName, IsOrder, Reads, is_plain};
+ghost use Rattle.hyperball.specs.Orders.{order_text};
 
 use ball_model::NodeId;
 use std::alloc::Global;
@@ -64,7 +65,7 @@ fn superstep_in(digits: &str) -> Option<u32>
 
 // The node of a text P.K.
 fn node_in(text: &str) -> Option<NodeId>
-    ensures { Reads IsNode node_word text.now result }
+    ensures { Reads IsNodeName node_word text.now result }
 {
     let (part, replica) = text.split_once('.')?;
     let part = part_in(part)?;

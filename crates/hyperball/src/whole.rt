@@ -4,7 +4,7 @@ ghost use Rattle.std.specs.Prelude.{◌≡◌, ◌≢◌, ◌<◌, ◌≤◌, �
 ghost use Rattle.std.specs.Prelude.{IfErr, IfOk, OnOk, None, option_map};
 ghost use Rattle.ball_model.specs.Streams.{Rises, TakesAtMost};
 ghost use Rattle.ball_model.specs.Sections.{after_line, after_mark, sections_of};
-ghost use Rattle.hyperball.specs.Whole.{IsLong, IsWhole, ReadsFew, most_bytes};
+ghost use Rattle.hyperball.specs.Whole.{IsLong, IsWholeInput, ReadsFew, most_bytes};
 
 use ball_model::{CountedRead, Filled, fill};
 use std::alloc::{AllocError, Global};
@@ -73,7 +73,7 @@ fn read_all<R: CountedRead>(
 ) -> Result<(), WholeError>
     requires buffer { 0 < length buffer.old }
     requires start { bytes.old.items ≡ [] }
-    ensures ok { OnOk result (IsWhole (R.remaining reader.old) bytes.new.items) }
+    ensures ok { OnOk result (IsWholeInput (R.remaining reader.old) bytes.new.items) }
     ensures within { OnOk result (length bytes.new.items ≤ most_bytes) }
     ensures size { result ≡ Err WholeError.Size → IsLong (R.remaining reader.old) }
     ensures memory { result ≡ Err WholeError.Memory →
@@ -100,7 +100,7 @@ fn read_all<R: CountedRead>(
 /// `Read` is answered where a call of the reader failed and nowhere else, `Size` only where there are more than 2^26
 /// bytes, `Memory` only where no more than 2^26 were read.
 pub fn read_whole<R: CountedRead>(alloc: Global, reader: &mut R) -> Result<Vec<u8>, WholeError>
-    ensures ok { IfOk result (λ bytes. IsWhole (R.remaining reader.old) bytes.items) }
+    ensures ok { IfOk result (λ bytes. IsWholeInput (R.remaining reader.old) bytes.items) }
     ensures within { IfOk result (λ bytes. length bytes.items ≤ most_bytes) }
     ensures size { result ≡ Err WholeError.Size → IsLong (R.remaining reader.old) }
     ensures memory { result ≡ Err WholeError.Memory →

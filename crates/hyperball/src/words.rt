@@ -82,7 +82,8 @@ Figures:
   Harmonic centrality 0.000000 with Lin's index 1.000000: nobody else that counts gets there.
   Closeness is 1 divided by the sum of distances: 0.000000 where that sum is above a million.
   They count who reaches a vertex; for those that it reaches, swap the two columns of the edge list.
-  An undirected graph has each edge both ways: a line 'a b' and a line 'b a'.
+  An undirected graph has each edge both ways: a line 'a b' and a line 'b a'. This adds them:
+  awk -F'\\t' '{ print } !/^#/ && NF == 2 { print $2 \"\\t\" $1 }' one-way.tsv > edges.tsv
 
 Exit status:
   0  the report was written, or help was asked for
@@ -90,7 +91,7 @@ Exit status:
   2  words that are no command";
 
 const PARTS_HELP: &str =
-    "Partitions, 1 to 64. More cores: as many partitions as cores; the same report [default: 1]";
+    "Partitions, 1 to 64, a thread each. More cores: as many as cores; same report [default: 1]";
 
 const REPLICAS_HELP: &str =
     "Replicas of each partition, 1 to 4: with 2 a worker may be lost, and not the run [default: 1]";

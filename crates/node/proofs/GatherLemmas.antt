@@ -14,7 +14,7 @@ use Rattle.ball_model.specs.Job.{Job, IsJob, PartValue, part_of}
 use Rattle.ball_model.specs.PlanValue.{PlanValue}
 use Rattle.ball_model.specs.State.{State, StandsFor}
 use Rattle.report.specs.Ready.{AllStand, are_ready, job_report}
-use Rattle.node.specs.Gathering.{AreGivenBack, AreMadeOf, AreParts, Gathers, IsMadeOf, ReadsAll, ReadsOne, part_line, part_text, parts_text}
+use Rattle.node.specs.Gathering.{AreGivenBack, AreMadeOf, AreCheckpointsFrom, Gathers, IsMadeOf, ReadsAll, ReadsCheckpoint, part_line, part_text, parts_text}
 use Rattle.ball_model.specs.Streams.{PutsFront}
 use Rattle.ball_model.specs.Input.{Network}
 use Rattle.ball_model.specs.Job.{job_of}
@@ -46,7 +46,7 @@ pub reads_none : (j : Job) (left : Option (List ℕ)) → ReadsAll j 0 left left
 unfolding AreMadeOf
 reads_none j left = record { bodies = []; count = refl; consumed = Consumes-nil left; made = tt }
 
-reads_more : (j : Job) (n m : ℕ) (a b c : Option (List ℕ)) (vs : List State) (v : State) → m ≡ n + 1 → ReadsAll j n a b vs → ReadsOne j n b c v → ReadsAll j m a c (vs ++ v ∷ [])
+reads_more : (j : Job) (n m : ℕ) (a b c : Option (List ℕ)) (vs : List State) (v : State) → m ≡ n + 1 → ReadsAll j n a b vs → ReadsCheckpoint j n b c v → ReadsAll j m a c (vs ++ v ∷ [])
 reads_more j n m a b c vs v next s o = record {
   bodies = s.bodies ++ o.body ∷ [];
   count = length-append s.bodies (o.body ∷ []) ∙ ap (λ (k : ℕ). k + 1) s.count ∙ sym next;
@@ -55,7 +55,7 @@ reads_more j n m a b c vs v next s o = record {
 }
 
 -- and so is a list that is these
-pub reads_added : (j : Job) (n : ℕ) (a b c : Option (List ℕ)) (vs ws : List State) (v : State) → ws ≡ vs ++ v ∷ [] → ReadsAll j n a b vs → ReadsOne j n b c v → ReadsAll j (n + 1) a c ws
+pub reads_added : (j : Job) (n : ℕ) (a b c : Option (List ℕ)) (vs ws : List State) (v : State) → ws ≡ vs ++ v ∷ [] → ReadsAll j n a b vs → ReadsCheckpoint j n b c v → ReadsAll j (n + 1) a c ws
 reads_added j n a b c vs ws v is s o = subst (ReadsAll j (n + 1) a c) (sym is) (reads_more j n (n + 1) a b c vs v refl s o)
 
 -- nothing more was taken
@@ -68,8 +68,8 @@ reads_kept j n a b c vs s none = record {
 }
 
 -- each is a checkpoint
-parts_made : (j : Job) (p : ℕ) (bodies : List (List ℕ)) (vs : List State) → AreMadeOf j p bodies vs → AreParts j p bodies
-unfolding AreMadeOf AreParts
+parts_made : (j : Job) (p : ℕ) (bodies : List (List ℕ)) (vs : List State) → AreMadeOf j p bodies vs → AreCheckpointsFrom j p bodies
+unfolding AreMadeOf AreCheckpointsFrom
 parts_made j p [] [] made = tt
 parts_made j p [] (v ∷ vs) made = absurd made
 parts_made j p (b ∷ bodies) [] made = absurd made

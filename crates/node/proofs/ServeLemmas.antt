@@ -13,14 +13,14 @@ use Rattle.ball_model.specs.PlanValue.{PlanValue}
 use Rattle.ball_model.specs.RunText.{Settings}
 use Rattle.ball_model.specs.State.{State}
 use Rattle.node.specs.Job.{IsJobRead}
-use Rattle.node.specs.NodeText.{AllAsk, Answers, AreAnswers, Asked, Asks, IsRequest, Request, after_all, after_asked, body_length, command_in, request_bytes, requests_text}
+use Rattle.node.specs.NodeText.{AllAsk, AnswersOne, AnswersAll, Asked, Asks, IsRequest, Request, after_all, after_asked, body_length, command_in, request_bytes, requests_text}
 use Rattle.node.specs.declared.command.Command.{Command}
 use Rattle.node.specs.declared.error.ServeError.{ServeError}
 use Rattle.node.specs.declared.error.ServeError.TheVariants as fault
 use Rattle.node.specs.declared.error.NodeError.{NodeError}
 use Rattle.node.specs.declared.error.NodeError.TheVariants as node_fault
 use Rattle.node.specs.Stream.{CutsBody, HasNoEnd, most_line}
-use Rattle.node.specs.Serving.{AppendsAnswers, CutShort, IsNoRequest, IsOfMachine, NoCommand, ReadsRequest, Runs, Serves, ServesNode, ServesNone, ServesOne, ServesSome, Steps, Stops, StopsNode}
+use Rattle.node.specs.Serving.{AppendsAnswers, CutShort, IsNoRequest, IsOfMachine, NoCommand, ReadsRequest, Runs, ServesRest, ServesNode, ServesNone, ServesOne, ServesSome, Steps, StopsServing, StopsNode}
 use Rattle.node.specs.Turns.{Holds, most_body}
 use Rattle.node.proofs.SessionLemmas.{part_held}
 
@@ -48,8 +48,8 @@ after_last j h [] last = refl
 after_last j h (a ∷ front) last = after_last j (after_asked j h a) front last
 
 answers_last : (j : Job) (labels : List (List ℕ)) (h : Holding) (front : List Asked) (last : Asked) (text more : List ℕ) →
-    AreAnswers j labels h front text → Answers j labels (after_all j h front) last more → AreAnswers j labels h (front ++ last ∷ []) (text ++ more)
-unfolding AreAnswers after_all
+    AnswersAll j labels h front text → AnswersOne j labels (after_all j h front) last more → AnswersAll j labels h (front ++ last ∷ []) (text ++ more)
+unfolding AnswersAll after_all
 answers_last j labels h [] last text more told said =
     (more, [], ap (λ (l : List ℕ). l ++ more) told ∙ sym (append-nil more), said, refl)
 answers_last j labels h (a ∷ front) last text more told said =
@@ -57,7 +57,7 @@ answers_last j labels h (a ∷ front) last text more told said =
 
 -- ---- runs
 runs_none : (network : Network) (v : State) (old : Option (List ℕ)) → Runs network [] v v old old
-unfolding AllAsk AreAnswers after_all
+unfolding AllAsk AnswersAll after_all
 runs_none network v old = record {
   told = λ j p h more same k asks. none j p h more k asks;
   holds = λ j p h more same k asks. still j p h more k asks;
@@ -82,7 +82,7 @@ runs_more network rs r v w u x y z runs steps = record {
         text = one.text ++ two.text;
         appended = Appends-trans x y z one.text two.text one.appended two.appended;
         answers =
-            subst (λ (q : List Asked). AreAnswers j network.labels h q (one.text ++ two.text)) (sym l.is)
+            subst (λ (q : List Asked). AnswersAll j network.labels h q (one.text ++ two.text)) (sym l.is)
             (answers_last j network.labels h l.front l.last one.text two.text one.answers two.answers);
       };
   holds = λ j p h asked same k asks.
@@ -132,7 +132,7 @@ serves_still network n a b c v w u x y z s none kept same = record {
 }
 
 -- the end of the input
-pub serves_end : (network : Network) (n : ℕ) (a b c : Option (List ℕ)) (v w u : State) (x y z : Option (List ℕ)) → ServesSome network n a b v w x y → ServesNone b c w u y z → Serves network a c v u x z
+pub serves_end : (network : Network) (n : ℕ) (a b c : Option (List ℕ)) (v w u : State) (x y z : Option (List ℕ)) → ServesSome network n a b v w x y → ServesNone b c w u y z → ServesRest network a c v u x z
 serves_end network n a b c v w u x y z s o = record {
   number = n;
   some = serves_still network n a b c v w u x y z s o.consumed o.kept o.same;
@@ -141,7 +141,7 @@ serves_end network n a b c v w u x y z s o = record {
 
 -- a request that cannot be read
 pub stops_at : (network : Network) (part : PartValue) (e : ServeError) (n m : ℕ) (a b c : Option (List ℕ)) (v w u : State) (x y z : Option (List ℕ)) → m ≡ n + 1 →
-    ServesSome network n a b v w x y → w.part ≡ part → IsNoRequest w.part m e b c → Keeps y z → u ≡ w → Stops network part e a c v u x z
+    ServesSome network n a b v w x y → w.part ≡ part → IsNoRequest w.part m e b c → Keeps y z → u ≡ w → StopsServing network part e a c v u x z
 stops_at network part e n m a b c v w u x y z next s same_part at kept same = record {
   number = n;
   mid = b;
@@ -151,7 +151,7 @@ stops_at network part e n m a b c v w u x y z next s same_part at kept same = re
 
 -- numbers are at their end
 pub stops_counting : (network : Network) (part : PartValue) (n : ℕ) (a b : Option (List ℕ)) (v w : State) (x y : Option (List ℕ)) → 2 ^ 64 ≤ n + 1 →
-    ServesSome network n a b v w x y → Stops network part fault.TooMany a b v w x y
+    ServesSome network n a b v w x y → StopsServing network part fault.TooMany a b v w x y
 stops_counting network part n a b v w x y most s = record { number = n; mid = b; some = s; at = (most, refl) }
 
 -- ---- a request
@@ -227,7 +227,7 @@ rest_stops part n e a b c line order read none says cut (inr machine) = machine_
 -- ---- a node from its start
 pub serves_node : (s : Settings) (counted : Bool) (p : ℕ) (network : Network) (plan : PlanValue) (left mid left' old new : Option (List ℕ)) (v w : State) →
     IsJobRead s counted left mid network plan → p < plan.parts → Holds (job_of network.graph plan) p (start_holding plan p) v →
-    Serves network mid left' v w old new → ServesNode s counted p left left' old new
+    ServesRest network mid left' v w old new → ServesNode s counted p left left' old new
 serves_node s counted p network plan left mid left' old new v w read below holds serves = record {
   network = network;
   plan = plan;
@@ -244,7 +244,7 @@ serves_node s counted p network plan left mid left' old new v w read below holds
 -- a request stopped it
 pub stops_node : (s : Settings) (counted : Bool) (p : ℕ) (e : ServeError) (network : Network) (plan : PlanValue) (left mid left' old new : Option (List ℕ)) (v w : State) →
     IsJobRead s counted left mid network plan → p < plan.parts → Holds (job_of network.graph plan) p (start_holding plan p) v →
-    Stops network v.part e mid left' v w old new → StopsNode s counted p e left left' old new
+    StopsServing network v.part e mid left' v w old new → StopsNode s counted p e left left' old new
 stops_node s counted p e network plan left mid left' old new v w read below holds stops =
     let j : Job = job_of network.graph plan in
     let same : v.part ≡ part_of j p = part_held j p (start_holding plan p) v holds in
@@ -269,7 +269,7 @@ same_fault d e is = cc
 
 pub node_stops : (s : Settings) (counted : Bool) (p : ℕ) (network : Network) (plan : PlanValue) (left mid left' old new : Option (List ℕ)) (v w : State) (d : ServeError) →
     IsJobRead s counted left mid network plan → p < plan.parts → Holds (job_of network.graph plan) p (start_holding plan p) v →
-    ((IsOfMachine d → ⊥) → Stops network v.part d mid left' v w old new) →
+    ((IsOfMachine d → ⊥) → StopsServing network v.part d mid left' v w old new) →
     (e : ServeError) → ◌≡◌ {A = Result (Unit {0}) NodeError} (Err (node_fault.Serve d)) (Err (node_fault.Serve e)) → (IsOfMachine e → ⊥) → StopsNode s counted p e left left' old new
 node_stops s counted p network plan left mid left' old new v w d read below holds stops e is some =
     let same : d ≡ e = same_fault d e is in

@@ -21,7 +21,7 @@ use Rattle.ball_model.specs.PlanValue.{PlanValue}
 use Rattle.ball_model.specs.State.{State}
 use Rattle.ball_model.specs.Steps.{Take, Close}
 use Rattle.ball_model.specs.World.{Node, closed_answer, taken_answer}
-use Rattle.ball_model.specs.WorldLaws.{IsNode}
+use Rattle.ball_model.specs.WorldLaws.{IsWorldNode}
 use Rattle.ball_model.proofs.HeldLemmas.{closed_held, joined_held, start_held, taken_held}
 use Rattle.checkpoint.specs.declared.error.KeepError.{KeepError}
 use Rattle.checkpoint.specs.declared.error.KeepError.TheVariants as unkept
@@ -50,7 +50,7 @@ use Rattle.batches.proofs.TrueLemmas.{true_is_batch}
 abbrev pub lone : Holding → Node
 lone h = record { content = h; kept = None }
 
-fits : (j : Job) (p : ℕ) (h : Holding) → IsHeldBy j p h → IsNode j p (lone h)
+fits : (j : Job) (p : ℕ) (h : Holding) → IsHeldBy j p h → IsWorldNode j p (lone h)
 fits j p h held = record { content = held; kept = tt }
 
 shows : (j : Job) (h : Holding) (v : State) → Has j h v → ShowsNode j (lone h) (node v None)

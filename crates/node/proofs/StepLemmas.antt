@@ -33,7 +33,7 @@ use Rattle.world.specs.Tell.{Tells}
 use Rattle.node.specs.declared.command.Command.{Command}
 use Rattle.node.specs.declared.command.Command.TheVariants as command
 use Rattle.node.specs.declared.session.Reply.{Reply}
-use Rattle.node.specs.NodeText.{Answers, Asked, Asks, IsDelivered, IsGivenBack, Send, Deliver, Closing, Keep, Restart, Recover, IsNotFor, NoBatch, NotFor, NoCheckpoint, Show, Totals, Figures, after_asked, alone, closed_line, figures_text, send_text, sent_text, took_line, totals_text}
+use Rattle.node.specs.NodeText.{AnswersOne, Asked, Asks, IsDelivered, IsGivenBack, Send, Deliver, Closing, Keep, Restart, Recover, IsNotFor, NoBatch, NotFor, NoCheckpoint, Show, Totals, Figures, after_asked, alone, closed_line, figures_text, send_text, sent_text, took_line, totals_text}
 use Rattle.node.specs.Serving.{AppendsAnswer, Steps}
 use Rattle.node.specs.Turns.{Holds, TurnsTo, reply_text, said_text}
 use Rattle.ball_model.specs.Job.{PartValue, part_of}
@@ -52,7 +52,7 @@ use Rattle.node.proofs.SessionLemmas.{no_batch_said, no_checkpoint_said, part_he
 pub record StepsTo (network : Network) (c : Command) (body : List ℕ) (v w : State)
     (text : List ℕ) : Type 0 where
   pub answers : (j : Job) (p : ℕ) (h : Holding) (a : Asked) → j.graph ≡ network.graph →
-      Holds j p h v → Asks j p c body a → Answers j network.labels h a text
+      Holds j p h v → Asks j p c body a → AnswersOne j network.labels h a text
   pub holds : (j : Job) (p : ℕ) (h : Holding) (a : Asked) → j.graph ≡ network.graph →
       Holds j p h v → Asks j p c body a → Holds j p (after_asked j h a) w
 
@@ -65,11 +65,11 @@ steps_told network c body v w text old new appended s = record {
 -- ---- a command that asks for one thing
 lone_step : (network : Network) (c : Command) (body : List ℕ) (v w : State) (text : List ℕ) (b : Asked) →
     ((j : Job) (p : ℕ) (a : Asked) → Asks j p c body a → a ≡ b) →
-    ((j : Job) (p : ℕ) (h : Holding) → j.graph ≡ network.graph → Holds j p h v → Answers j network.labels h b text) →
+    ((j : Job) (p : ℕ) (h : Holding) → j.graph ≡ network.graph → Holds j p h v → AnswersOne j network.labels h b text) →
     ((j : Job) (p : ℕ) (h : Holding) → Holds j p h v → Holds j p (after_asked j h b) w) →
     StepsTo network c body v w text
 lone_step network c body v w text b only answers holds = record {
-  answers = λ j p h a same k asks. subst (λ (x : Asked). Answers j network.labels h x text) (sym (only j p a asks)) (answers j p h same k);
+  answers = λ j p h a same k asks. subst (λ (x : Asked). AnswersOne j network.labels h x text) (sym (only j p a asks)) (answers j p h same k);
   holds = λ j p h a same k asks. subst (λ (x : Asked). Holds j p (after_asked j h x) w) (sym (only j p a asks)) (holds j p h k);
 }
 
@@ -90,17 +90,17 @@ asks_totals j p body Totals is = refl
 asks_totals j p body a is = absurd is
 
 pub send_steps : (network : Network) (q : ℕ) (body : List ℕ) (v : State) (text : List ℕ) →
-    ((j : Job) (p : ℕ) (h : Holding) → j.graph ≡ network.graph → Holds j p h v → Answers j network.labels h (Send q) text) → StepsTo network (command.Send q) body v v text
+    ((j : Job) (p : ℕ) (h : Holding) → j.graph ≡ network.graph → Holds j p h v → AnswersOne j network.labels h (Send q) text) → StepsTo network (command.Send q) body v v text
 send_steps network q body v text answers =
     lone_step network (command.Send q) body v v text (Send q) (λ j p a is. asks_send j p q body a is) answers (λ j p h k. k)
 
 pub keep_steps : (network : Network) (body : List ℕ) (v : State) (text : List ℕ) →
-    ((j : Job) (p : ℕ) (h : Holding) → j.graph ≡ network.graph → Holds j p h v → Answers j network.labels h Keep text) → StepsTo network command.Keep body v v text
+    ((j : Job) (p : ℕ) (h : Holding) → j.graph ≡ network.graph → Holds j p h v → AnswersOne j network.labels h Keep text) → StepsTo network command.Keep body v v text
 keep_steps network body v text answers =
     lone_step network command.Keep body v v text Keep (λ j p a is. asks_keep j p body a is) answers (λ j p h k. k)
 
 pub totals_steps : (network : Network) (body : List ℕ) (v : State) (text : List ℕ) →
-    ((j : Job) (p : ℕ) (h : Holding) → j.graph ≡ network.graph → Holds j p h v → Answers j network.labels h Totals text) → StepsTo network command.Totals body v v text
+    ((j : Job) (p : ℕ) (h : Holding) → j.graph ≡ network.graph → Holds j p h v → AnswersOne j network.labels h Totals text) → StepsTo network command.Totals body v v text
 totals_steps network body v text answers =
     lone_step network command.Totals body v v text Totals (λ j p a is. asks_totals j p body a is) answers (λ j p h k. k)
 
@@ -144,7 +144,7 @@ deliver_steps network n body v w r text is turned said still answered same_new =
     none : (j : Job) (p : ℕ) (h : Holding) (e : BatchError) → Holds j p h v → Asks j p (command.Deliver n) body (NoBatch e) → r ≡ reply.NoBatch e
     none j p h e k asks = no_batch_said j.plan body e r (subst (λ (q : PlanValue). SaysOfBatch q body r) (plan_held j p h v k) said) asks
 
-    says : (j : Job) (p : ℕ) (h : Holding) (a : Asked) → Holds j p h v → Asks j p (command.Deliver n) body a → Answers j network.labels h a text
+    says : (j : Job) (p : ℕ) (h : Holding) (a : Asked) → Holds j p h v → Asks j p (command.Deliver n) body a → AnswersOne j network.labels h a text
     says j p h (Deliver name) k asks = is ∙ ap reply_text (turned j p h name k asks).says ∙ took_text (held_take_answer j h name)
     says j p h (NoBatch e) k asks = is ∙ ap reply_text (none j p h e k asks)
     says j p h (NotFor e) k asks =
@@ -173,7 +173,7 @@ restart_steps network n body v w r text is anew turned said still = record {
     none j p h e k asks =
         no_checkpoint_said (part_of j p) body e r (subst (λ (q : PartValue). SaysOfCheckpoint q body r) (part_held j p h v k) (said asks.0)) asks.1
 
-    says : (j : Job) (p : ℕ) (h : Holding) (a : Asked) → Holds j p h v → Asks j p (command.Restart n) body a → Answers j network.labels h a text
+    says : (j : Job) (p : ℕ) (h : Holding) (a : Asked) → Holds j p h v → Asks j p (command.Restart n) body a → AnswersOne j network.labels h a text
     says j p h (Restart None) k asks =
         is ∙ ap reply_text (anew j p h k asks).says
         ∙ ap (λ (q : ℕ). number_line (codes "restarted") (start_holding j.plan q).superstep) (sym k.held.partition)
@@ -200,7 +200,7 @@ recover_steps network n body v w r text is turned said still = record {
     none j p h e k asks =
         no_checkpoint_said (part_of j p) body e r (subst (λ (q : PartValue). SaysOfCheckpoint q body r) (part_held j p h v k) said) asks
 
-    says : (j : Job) (p : ℕ) (h : Holding) (a : Asked) → Holds j p h v → Asks j p (command.Recover n) body a → Answers j network.labels h a text
+    says : (j : Job) (p : ℕ) (h : Holding) (a : Asked) → Holds j p h v → Asks j p (command.Recover n) body a → AnswersOne j network.labels h a text
     says j p h (Recover c) k asks = is ∙ ap reply_text (turned j p h c k asks).says
     says j p h (NoCheckpoint e) k asks = is ∙ ap reply_text (none j p h e k asks)
     says j p h a k asks = absurd asks
@@ -250,7 +250,7 @@ sends_nothing j p h v q k (inr own) =
 
 -- a checkpoint
 pub keeps : (j : Job) (p : ℕ) (h : Holding) (v : State) (labels : List (List ℕ)) (t n : ℕ) → Holds j p h v → t ≡ v.superstep → n ≡ length (checkpoint_bytes v) →
-    Answers j labels h Keep (words_line (codes "kept" ∷ decimal t ∷ decimal n ∷ []) ++ checkpoint_bytes v)
+    AnswersOne j labels h Keep (words_line (codes "kept" ∷ decimal t ∷ decimal n ∷ []) ++ checkpoint_bytes v)
 keeps j p h v labels t n k at long = record {
   bytes = checkpoint_bytes v;
   kept = record { replica = v; has = k.has; bytes_are = refl };

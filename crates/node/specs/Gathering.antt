@@ -45,19 +45,20 @@ AreGivenBack j p (body ∷ bodies) =
     ((h : Holding) × IsGivenBack j p body h) × AreGivenBack j (p + 1) bodies
 
 -- it is a checkpoint of partition p, and no longer than any
-pub record IsPart (j : Job) (p : ℕ) (body : List ℕ) : Type 0 where
+pub record IsCheckpointOf (j : Job) (p : ℕ) (body : List ℕ) : Type 0 where
   pub few : length body ≤ most_bytes (part_of j p) (part_of j p).plan.limit
   pub checkpoint : IsCheckpoint (part_of j p) body
 
 -- so is each, of partition p and those that follow
-unfoldable pub AreParts : Job → ℕ → List (List ℕ) → Type 0
-AreParts j p [] = ⊤
-AreParts j p (body ∷ bodies) = IsPart j p body × AreParts j (p + 1) bodies
+unfoldable pub AreCheckpointsFrom : Job → ℕ → List (List ℕ) → Type 0
+AreCheckpointsFrom j p [] = ⊤
+AreCheckpointsFrom j p (body ∷ bodies) =
+    IsCheckpointOf j p body × AreCheckpointsFrom j (p + 1) bodies
 
 -- a replica of partition p was made of these bytes, which are a spelling of it
 pub record IsMadeOf (j : Job) (p : ℕ) (body : List ℕ) (v : State) : Type 0 where
   pub part_is : v.part ≡ part_of j p
-  pub is : IsPart j p body
+  pub is : IsCheckpointOf j p body
   pub keepable : IsKeepable v
   pub spells : IsSpelling v body
   pub back : (h : Holding) → IsGivenBack j p body h → Holds j p h v
@@ -81,7 +82,7 @@ pub record Gathers (j : Job) (labels : List (List ℕ)) (left left' : Option (Li
     (old new : Option (List ℕ)) : Type 0 where
   pub bodies : List (List ℕ)
   pub count : length bodies ≡ j.plan.parts
-  pub parts : AreParts j 0 bodies
+  pub parts : AreCheckpointsFrom j 0 bodies
   pub ready : AreOfAnEnd j bodies
   pub consumed : Consumes left left' (parts_text bodies)
   pub end : IsAtEnd left'
@@ -99,7 +100,8 @@ pub record GathersJob (s : Settings) (counted : Bool)
 -- ---- how checkpoints are read
 
 -- one, and the line before it
-pub record ReadsOne (j : Job) (p : ℕ) (left left' : Option (List ℕ)) (v : State) : Type 0 where
+pub record ReadsCheckpoint (j : Job) (p : ℕ) (left left' : Option (List ℕ)) (v : State) :
+    Type 0 where
   pub body : List ℕ
   pub consumed : Consumes left left' (part_text body)
   pub made : IsMadeOf j p body v

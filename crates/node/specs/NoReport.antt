@@ -16,7 +16,7 @@ use Rattle.world.specs.Script.{cut_of}
 use Rattle.node.specs.declared.error.GatherError.{GatherError}
 use Rattle.node.specs.declared.error.GatherError.TheVariants as fault
 use Rattle.node.specs.declared.error.JobError.{JobError}
-use Rattle.node.specs.Gathering.{AreGivenBack, AreOfAnEnd, AreParts, ReadsAll, part_line, part_text, parts_text}
+use Rattle.node.specs.Gathering.{AreGivenBack, AreOfAnEnd, AreCheckpointsFrom, ReadsAll, part_line, part_text, parts_text}
 use Rattle.node.specs.Job.{IsJobRead}
 use Rattle.node.specs.NoJob.{IsNoJob}
 use Rattle.node.specs.NodeText.{size_in}
@@ -155,7 +155,7 @@ pub record GathersFront (j : Job) (labels : List (List ℕ)) (left left' : Optio
     (old new : Option (List ℕ)) : Type 0 where
   pub bodies : List (List ℕ)
   pub count : length bodies ≡ j.plan.parts
-  pub parts : AreParts j 0 bodies
+  pub parts : AreCheckpointsFrom j 0 bodies
   pub ready : AreOfAnEnd j bodies
   pub consumed : Consumes left left' (parts_text bodies)
   pub end : IsAtEnd left'

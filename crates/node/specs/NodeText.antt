@@ -24,7 +24,7 @@ use Rattle.batches.specs.Reading.{batch_at}
 use Rattle.batches.specs.declared.error.BatchError.{BatchError}
 use Rattle.checkpoint.specs.Reading.{IsSpelling}
 use Rattle.checkpoint.specs.declared.error.KeepError.{KeepError}
-use Rattle.world.specs.Shows.{Has, IsKept}
+use Rattle.world.specs.Shows.{Has, KeepsContent}
 use Rattle.node.specs.declared.command.Command.{Command}
 use Rattle.node.specs.declared.command.Command.TheVariants as command
 use Rattle.node.specs.Refusals.{IsNoCheckpoint}
@@ -227,26 +227,26 @@ alone p = record { part = p; replica = 0 }
 -- a checkpoint that stands for the holding is given
 pub record IsKeepText (j : Job) (h : Holding) (text : List ℕ) : Type 0 where
   pub bytes : List ℕ
-  pub kept : IsKept j h bytes
+  pub kept : KeepsContent j h bytes
   pub text_is : text ≡ kept_text h.superstep bytes
 
 -- the text is the answer of a node of that holding
-abbrev pub Answers : Job → List (List ℕ) → Holding → Asked → List ℕ → Type 0
-Answers j labels h (Send q) text = text ≡ send_text j h q
-Answers j labels h (Deliver name) text = text ≡ took_line (held_take_answer j h name)
-Answers j labels h Closing text = text ≡ closed_line (held_close_answer j h)
-Answers j labels h Keep text = IsKeepText j h text
-Answers j labels h (Restart o) text =
+abbrev pub AnswersOne : Job → List (List ℕ) → Holding → Asked → List ℕ → Type 0
+AnswersOne j labels h (Send q) text = text ≡ send_text j h q
+AnswersOne j labels h (Deliver name) text = text ≡ took_line (held_take_answer j h name)
+AnswersOne j labels h Closing text = text ≡ closed_line (held_close_answer j h)
+AnswersOne j labels h Keep text = IsKeepText j h text
+AnswersOne j labels h (Restart o) text =
     text ≡ number_line (codes "restarted")
     (unwrap_or o (start_holding j.plan h.partition)).superstep
-Answers j labels h (Recover c) text =
+AnswersOne j labels h (Recover c) text =
     text ≡ number_line (codes "merged") (join_of h c).superstep
-Answers j labels h (NoBatch e) text = text ≡ refused_line (batch_word e)
-Answers j labels h (NotFor e) text = text ≡ untaken_line e
-Answers j labels h (NoCheckpoint e) text = text ≡ refused_line (checkpoint_word e)
-Answers j labels h Show text = text ≡ show_text j (alone h.partition) h
-Answers j labels h Totals text = text ≡ totals_text j h
-Answers j labels h Figures text = text ≡ figures_text j labels h
+AnswersOne j labels h (NoBatch e) text = text ≡ refused_line (batch_word e)
+AnswersOne j labels h (NotFor e) text = text ≡ untaken_line e
+AnswersOne j labels h (NoCheckpoint e) text = text ≡ refused_line (checkpoint_word e)
+AnswersOne j labels h Show text = text ≡ show_text j (alone h.partition) h
+AnswersOne j labels h Totals text = text ≡ totals_text j h
+AnswersOne j labels h Figures text = text ≡ figures_text j labels h
 
 -- the holding after it
 abbrev pub after_asked : Job → Holding → Asked → Holding
@@ -268,8 +268,8 @@ after_all j h [] = h
 after_all j h (a ∷ more) = after_all j (after_asked j h a) more
 
 -- the text is the answers to all that is asked, one after the other
-unfoldable pub AreAnswers : Job → List (List ℕ) → Holding → List Asked → List ℕ → Type 0
-AreAnswers j labels h [] text = text ≡ []
-AreAnswers j labels h (a ∷ more) text =
-    (front : List ℕ) × (rest : List ℕ) × (text ≡ front ++ rest) × Answers j labels h a front
-    × AreAnswers j labels (after_asked j h a) more rest
+unfoldable pub AnswersAll : Job → List (List ℕ) → Holding → List Asked → List ℕ → Type 0
+AnswersAll j labels h [] text = text ≡ []
+AnswersAll j labels h (a ∷ more) text =
+    (front : List ℕ) × (rest : List ℕ) × (text ≡ front ++ rest) × AnswersOne j labels h a front
+    × AnswersAll j labels (after_asked j h a) more rest

@@ -14,7 +14,7 @@ use Rattle.world.specs.declared.tell.TellError.TheVariants as untold
 use Rattle.node.specs.declared.command.Command.{Command}
 use Rattle.node.specs.declared.error.ServeError.{ServeError}
 use Rattle.node.specs.declared.error.ServeError.TheVariants as fault
-use Rattle.node.specs.NodeText.{Answers, AreAnswers, AllAsk, Asked, Asks, IsRequest, Request, after_all, after_asked, body_length, command_in, request_bytes, requests_text}
+use Rattle.node.specs.NodeText.{AnswersOne, AnswersAll, AllAsk, Asked, Asks, IsRequest, Request, after_all, after_asked, body_length, command_in, request_bytes, requests_text}
 use Rattle.node.specs.Job.{IsJobRead}
 use Rattle.node.specs.Stream.{HasNoEnd, most_line}
 use Rattle.node.specs.Turns.{Holds, most_body}
@@ -32,7 +32,7 @@ pub record AppendsAnswer (j : Job) (labels : List (List ℕ)) (h : Holding) (a :
     (old new : Option (List ℕ)) : Type 0 where
   pub text : List ℕ
   pub appended : Appends old new text
-  pub answers : Answers j labels h a text
+  pub answers : AnswersOne j labels h a text
 
 -- what a replica v was asked by a command and the bytes behind it was answered, and it is w now: so it is for each
 -- holding of a job that v has, and whatever these bytes ask for
@@ -130,7 +130,7 @@ pub record AppendsAnswers (j : Job) (labels : List (List ℕ)) (h : Holding) (mo
     (old new : Option (List ℕ)) : Type 0 where
   pub text : List ℕ
   pub appended : Appends old new text
-  pub answers : AreAnswers j labels h more text
+  pub answers : AnswersAll j labels h more text
 
 -- what a replica v was asked by requests was answered, one after the other, and it is w now
 pub record Runs (network : Network) (rs : List Request) (v w : State)
@@ -150,7 +150,7 @@ pub record ServesSome (network : Network) (number : ℕ) (left left' : Option (L
   pub runs : Runs network requests v w old new
 
 -- such a request stopped a node that had answered all before it
-pub record Stops (network : Network) (part : PartValue) (e : ServeError)
+pub record StopsServing (network : Network) (part : PartValue) (e : ServeError)
     (left left' : Option (List ℕ)) (v w : State) (old new : Option (List ℕ)) : Type 0 where
   pub number : ℕ
   pub mid : Option (List ℕ)
@@ -158,7 +158,7 @@ pub record Stops (network : Network) (part : PartValue) (e : ServeError)
   pub at : IsNoRequest part (number + 1) e mid left'
 
 -- all that was left of the input is requests, and they were answered
-pub record Serves (network : Network) (left left' : Option (List ℕ)) (v w : State)
+pub record ServesRest (network : Network) (left left' : Option (List ℕ)) (v w : State)
     (old new : Option (List ℕ)) : Type 0 where
   pub number : ℕ
   pub some : ServesSome network number left left' v w old new

@@ -7,7 +7,7 @@ ghost use Rattle.ball_model.specs.Job.{Job, IsJob, job_of, part_of};
 ghost use Rattle.ball_model.specs.State.{State};
 ghost use Rattle.ball_model.specs.Streams.{Rises};
 ghost use Rattle.checkpoint.specs.Reading.{most_bytes};
-ghost use Rattle.node.specs.Gathering.{Gathers, GathersJob, ReadsAll, ReadsOne, part_line};
+ghost use Rattle.node.specs.Gathering.{Gathers, GathersJob, ReadsAll, ReadsCheckpoint, part_line};
 ghost use Rattle.node.specs.Gathering.{part_text};
 ghost use Rattle.node.specs.NoReport.{HasNoReport, IsNoReplica, IsNoReport, WritesFront};
 ghost use Rattle.node.specs.NoReport.{WritesFrontOfJob, IsUnwritten, part_length, told_kept};
@@ -130,7 +130,7 @@ fn read_replica<R: CountedRead>(
 ) -> Result<Replica, GatherError>
     requires job { IsJob (job_of graph.now.graph plan.now) }
     requires below { p < plan.now.parts }
-    ensures read { IfOk result (ReadsOne (job_of graph.now.graph plan.now) p
+    ensures read { IfOk result (ReadsCheckpoint (job_of graph.now.graph plan.now) p
         (R.remaining reader.old) (R.remaining reader.new)) }
     ensures refused { IfErr result (IsNoReplica (part_of (job_of graph.now.graph plan.now) p)
         (R.remaining reader.old) (R.remaining reader.new)) }

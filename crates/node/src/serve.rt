@@ -13,8 +13,9 @@ ghost use Rattle.ball_model.specs.WorldText.{refusal_line};
 ghost use Rattle.node.specs.NodeText.{body_length, command_in, sent_text};
 ghost use Rattle.node.specs.Job.{IsJobRead, settings_in};
 ghost use Rattle.node.specs.NoJob.{HasNoNode, IsNoStart};
-ghost use Rattle.node.specs.Serving.{IsNoRequest, IsOfMachine, ReadsRequest, Serves, ServesNode};
-ghost use Rattle.node.specs.Serving.{ServesNone, ServesOne, Steps, Stops, StopsNode};
+ghost use Rattle.node.specs.Serving.{IsNoRequest, IsOfMachine, ReadsRequest, ServesRest};
+ghost use Rattle.node.specs.Serving.{ServesNode, ServesNone, ServesOne, Steps, StopsServing};
+ghost use Rattle.node.specs.Serving.{StopsNode};
 ghost use Rattle.node.specs.declared.error.JobError.{JobError as NoJob};
 ghost use Rattle.node.specs.declared.error.ServeError.{ServeError as Fault};
 ghost use Rattle.node.specs.Stream.{CutsBody, HasNoEnd, most_line};
@@ -455,12 +456,12 @@ pub fn serve_commands<R: CountedRead, W: CountedWrite, V: Watch>(
     writer: &mut W,
 ) -> Result<(), ServeError>
     requires { session.old.part.plan.vertices ≡ graph.now.graph.vertices }
-    ensures ok { OnOk result (Serves graph.now (R.remaining reader.old) (R.remaining reader.new)
+    ensures ok { OnOk result (ServesRest graph.now (R.remaining reader.old) (R.remaining reader.new)
         session.old session.new (W.contents writer.old) (W.contents writer.new)) }
     ensures part { session.new.part ≡ session.old.part }
     // What was answered before a request that cannot be read stands.
-    ensures stopped { IfErr result (λ e. (IsOfMachine e → ⊥) → Stops graph.now session.old.part e
-        (R.remaining reader.old) (R.remaining reader.new)
+    ensures stopped { IfErr result (λ e. (IsOfMachine e → ⊥) →
+        StopsServing graph.now session.old.part e (R.remaining reader.old) (R.remaining reader.new)
         session.old session.new (W.contents writer.old) (W.contents writer.new)) }
     // A call failed exactly where that is told.
     ensures read { result ≡ Err ServeError.Read →

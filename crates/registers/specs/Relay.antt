@@ -35,6 +35,6 @@ abbrev pub IsRelay : Table → Option Marked → Type 0
 IsRelay shown behind = IfSome behind (λ b. DifferWhere b.stale b.table shown)
 
 -- room for the registers of a table, and for a mark for each of its rows
-pub record HasRoom (table : Table) (registers marks : ℕ) : Type 0 where
+pub record HasRoomForTable (table : Table) (registers marks : ℕ) : Type 0 where
   pub all : room_for table ≤ registers
   pub each : length table.rows ≤ marks

@@ -54,14 +54,14 @@ impl Model for Shared {
     ghost use Rattle.std.specs.Arc.{arc_value};
     ghost use Rattle.std.specs.Vec.{vec_capacity};
     ghost use Rattle.ball_model.specs.Table.{Table};
-    ghost use Rattle.registers.specs.Relay.{HasRoom};
+    ghost use Rattle.registers.specs.Relay.{HasRoomForTable};
 
     ghost Value = { Table };
 
     ghost view = { λ s. arc_value s.table };
 
     ghost invariant = { λ s.
-        HasRoom (arc_value s.table) (vec_capacity s.room) (vec_capacity s.marks) };
+        HasRoomForTable (arc_value s.table) (vec_capacity s.room) (vec_capacity s.marks) };
 }
 
 // A table that was handed out, and a mark for each of its rows: what is shown differs from it in stale rows alone.

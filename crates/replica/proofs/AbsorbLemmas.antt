@@ -128,12 +128,12 @@ gathered r o v u plan targets shared left early next g lt same index hears kept 
     (absorbs_lesser s.part.plan.log2m s l (fields_of after) made refl)
 
 -- the other one is: then its own batches can be heard beside what that one has
-pub can_hear_beside : (r o : progress.Inside) (v u : State) (plan : PlanValue) (targets : List (List ℕ)) (shared : List (List (Option BatchValue))) (taken : HearingValue) → Merging r o v u shared → plan ≡ (arc_value r.part).plan → targets ≡ targets_of (arc_value r.part) → Fills o.tables.rows o.hearing taken → CanHear plan targets r.early taken
+pub can_hear_beside : (r o : progress.Inside) (v u : State) (plan : PlanValue) (targets : List (List ℕ)) (shared : List (List (Option BatchValue))) (taken : HearingValue) → Merging r o v u shared → plan ≡ (arc_value r.part).plan → targets ≡ targets_of v.part → Fills o.tables.rows o.hearing taken → CanHear plan targets r.early taken
 can_hear_beside r o v u plan targets shared taken g same index fills =
     let s = fields_of r in
     let m = g.meets in
     record {
-      ready = rw (same, m.plan) (ready_beside s (state_of o) targets taken m.mine m.theirs index m.size fills.heard fills.accumulated (fills.width ∙ g.others.width));
+      ready = rw (same, m.plan) (ready_beside s (state_of o) targets taken m.mine m.theirs (own_index r o v u shared targets g index) m.size fills.heard fills.accumulated (fills.width ∙ g.others.width));
       kept = rw same (of_plan s.part.plan s.part.number s.superstep s.early m.mine.early);
     }
 

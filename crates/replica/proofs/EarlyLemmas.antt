@@ -1,5 +1,5 @@
 -- Slots of batches, and the table that they are.
-use Rattle.std.proofs.Common.{◌≡◌, ℕ, zero, suc, ◌+◌, ◌-◌, ◌*◌, ◌<◌, ◌≤◌, ◌==◌, Bool, true, false, ◌&&◌, List, [], ◌∷◌, ◌++◌, length, map, get_or, set, take, drop, replicate, option_map, refl, ap, arith, sym, ◌∙◌, inl, inr, if◌then◌else◌, length-drop, min}
+use Rattle.std.proofs.Common.{◌≡◌, ℕ, zero, suc, ◌+◌, ◌-◌, ◌*◌, ◌<◌, ◌≤◌, ◌==◌, Bool, true, false, ◌&&◌, List, [], ◌∷◌, ◌++◌, length, map, get_or, set, take, drop, replicate, option_map, refl, ap, subst, arith, sym, ◌∙◌, inl, inr, if◌then◌else◌, length-drop, min}
 use Rattle.std.specs.Prelude.{Option, Some, None}
 use Rattle.std.specs.List.{range_with_len}
 use Rattle.std.proofs.lemmas.Bool.{cases_lt, eq-eqb, and_from, eqb-true}
@@ -10,7 +10,7 @@ use Rattle.std.proofs.lemmas.List.FromFn.{length-map-range_with_len, get_or-map-
 use Rattle.std.specs.Cmp.{first_so, second_so}
 use Rattle.ball_model.specs.Batches.{BatchValue}
 use Rattle.ball_model.specs.State.{early_at}
-use Rattle.replica.specs.Ahead.{table_of, IsTable, either, union_of_slots, slots_after}
+use Rattle.replica.specs.Ahead.{table_of, IsTable, StaysTable, either, union_of_slots, slots_after}
 use Rattle.replica.proofs.StepLemmas.{get_or-replicate_same}
 
 -- what stands at a place after a shift
@@ -210,3 +210,15 @@ past_gap parts early i a q is =
 
 pub shifted_told : (parts : ℕ) (early shifted : List (List (Option BatchValue))) (a gap : ℕ) → IsTable parts early → gap ≡ min a 3 → ((i k : ℕ) → early_at shifted i k ≡ early_at early (i + gap) k) → (i k : ℕ) → early_at shifted i k ≡ early_at early (i + a) k
 shifted_told parts early shifted a gap is at told i k = told i k ∙ ap (λ n. early_at early (i + n) k) at ∙ past_gap parts early i a k is
+
+-- ---- tables of as many sources
+
+-- slots of as many sources make a table as before
+pub stays_table : (a : ℕ) (mine later : List (Option BatchValue)) (early : List (List (Option BatchValue))) → table_of a mine ≡ early → StaysTable early (table_of a later)
+stays_table a mine later early is parts t =
+    subst (λ n. IsTable n (table_of a later)) (as_many parts a mine (subst (λ (e : List (List (Option BatchValue))). IsTable parts e) (sym is) t)) (table_is a later)
+
+-- where the other one is a table as this one, it is of as many
+pub same_parts : (a b : ℕ) (mine theirs : List (Option BatchValue)) (early other : List (List (Option BatchValue))) → table_of a mine ≡ early → table_of b theirs ≡ other → StaysTable early other → b ≡ a
+same_parts a b mine theirs early other is also stays =
+    as_many a b theirs (subst (λ (e : List (List (Option BatchValue))). IsTable a e) (sym also) (stays a (subst (λ (e : List (List (Option BatchValue))). IsTable a e) is (table_is a mine))))

@@ -8,13 +8,16 @@ use Rattle.std.proofs.lemmas.List.Folds.{list_any_at}
 use Rattle.std.proofs.lemmas.List.FromFn.{get_or-map-range_with_len}
 use Rattle.std.proofs.lemmas.Bool.{both_ways, false_from_ne_true}
 use Rattle.ball_model.specs.Batches.{BatchValue}
+use Rattle.ball_model.specs.PlanValue.{PlanValue}
+use Rattle.ball_model.specs.State.{early_at}
 use Rattle.ball_model.specs.Table.{Table}
 use Rattle.registers.specs.Relay.{DifferWhere}
 use Rattle.registers.specs.Laws.{max_each-repeats}
-use Rattle.replica.specs.Hearing.{Hearing, HearingValue, Hears, HearsAlso, IsQuiet, IsReady, hearing_of, KeepsAll, KeepsAllOrNone, SaysSame, accumulators_of, batch_by, batches_below, hearing_kept}
+use Rattle.replica.specs.Ahead.{ComesNearer}
+use Rattle.replica.specs.Hearing.{CanHear, Hearing, HearingValue, Hears, HearsAlso, IsQuiet, HearsByIndex, hearing_of, KeepsAll, KeepsAllOrNone, SaysSame, accumulators_of, batch_by, batches_below, hearing_kept}
 use Rattle.replica.specs.Level.{differences}
 use Rattle.replica.specs.Spread.{AreTouched, IsAbove, LeadInside}
-use Rattle.replica.proofs.HearLemmas.{hears_as, hears_next, hears_same}
+use Rattle.replica.proofs.HearLemmas.{hears_as, hears_next, hears_same, if_some_as}
 use Rattle.replica.proofs.LevelLemmas.{length-differing}
 use Rattle.replica.proofs.RiseLemmas.{rise_counters, same_registers}
 
@@ -124,7 +127,7 @@ bare_same a b rows none kept heard change accumulated touched = record {
 -- ---- hearing
 
 -- one source more of those below a number
-pub also_next : (log2m : ℕ) (targets : List (List ℕ)) (told : ℕ → Option BatchValue) (n : ℕ) (a b c : HearingValue) → IsReady log2m targets a → HearsAlso log2m targets (batches_below told n) a b → HearsAlso log2m targets (batch_by n (told n)) b c →
+pub also_next : (log2m : ℕ) (targets : List (List ℕ)) (told : ℕ → Option BatchValue) (n : ℕ) (a b c : HearingValue) → HearsByIndex log2m targets a → HearsAlso log2m targets (batches_below told n) a b → HearsAlso log2m targets (batch_by n (told n)) b c →
     HearsAlso log2m targets (batches_below told (n + 1)) a c
 also_next log2m targets told n a b c ready f g = record {
   hears = hears_next log2m targets told n (hearing_kept a) (hearing_kept b) (hearing_kept c) ready.counters f.hears g.hears;
@@ -136,8 +139,18 @@ also_next log2m targets told n a b c ready f g = record {
 pub also_same : (log2m : ℕ) (targets : List (List ℕ)) (told other : ℕ → Option BatchValue) (a b : HearingValue) → ((q : ℕ) → told q ≡ other q) → HearsAlso log2m targets told a b → HearsAlso log2m targets other a b
 also_same log2m targets told other a b same h = record { hears = hears_same log2m targets told other (hearing_kept a) (hearing_kept b) same h.hears; width = h.width; touched = h.touched }
 
+-- batches that have come nearer can be heard as before
+pub can_hear_later : (plan : PlanValue) (targets : List (List ℕ)) (n : ℕ) (early later : List (List (Option BatchValue))) (a : HearingValue) → CanHear plan targets early a → ComesNearer n early later → CanHear plan targets later a
+can_hear_later plan targets n early later a can near = record {
+  ready = can.ready;
+  kept = record {
+    table = near.table plan.parts can.kept.table;
+    from = λ i q. if_some_as _ (early_at later i q) (early_at early (i + n) q) (near.kept i q) (can.kept.from (i + n) q);
+  };
+}
+
 -- then more can be heard
-pub ready_on : (log2m : ℕ) (targets : List (List ℕ)) (told : ℕ → Option BatchValue) (a b : HearingValue) → IsReady log2m targets a → HearsAlso log2m targets told a b → IsReady log2m targets b
+pub ready_on : (log2m : ℕ) (targets : List (List ℕ)) (told : ℕ → Option BatchValue) (a b : HearingValue) → HearsByIndex log2m targets a → HearsAlso log2m targets told a b → HearsByIndex log2m targets b
 ready_on log2m targets told a b ready h = record {
   sources = h.hears.count ∙ ready.sources;
   width = h.width ∙ ready.width;

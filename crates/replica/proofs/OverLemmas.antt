@@ -47,11 +47,11 @@ hearing_index v b targets has ok new now =
       | inr gone ↦ absurd (over_later v b ok new gone.1 now)
     ]
 
-pub never_over : (v : State) (b : BatchValue) (P : Type 0) → IsBatch b → take_of v.part.plan v.part.number (content_of v) b.plan b.name ≡ Ok taken.New → b.name.superstep ≡ v.superstep → is_over v ≡ true → P
-never_over v b P ok new now over = absurd (over_later v b ok new over now)
-
 -- what is kept of later supersteps does not matter
 pub kept_over : (v : State) (early : List (List (Option BatchValue))) → is_over (record v { early = early }) ≡ is_over v
 kept_over v early =
     ap (λ o. is_finished (close_unless o (level_verdict v) v.superstep))
     (sym (missing_is v.part.plan.parts v.part.number v.superstep v.heard early) ∙ missing_is v.part.plan.parts v.part.number v.superstep v.heard v.early)
+
+pub kept_index : (v : State) (early : List (List (Option BatchValue))) (targets : List (List ℕ)) → HasIndex v targets → HasIndex (record v { early = early }) targets
+kept_index v early targets has = elim has [ inl is ↦ inl is | inr gone ↦ inr (gone.0, kept_over v early ∙ gone.1) ]

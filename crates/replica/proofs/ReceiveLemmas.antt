@@ -11,7 +11,7 @@ use Rattle.ball_model.specs.State.{State, content_of, early_at}
 use Rattle.replica.specs.declared.Progress.TheInside as progress
 use Rattle.replica.specs.Ahead.{IsTable}
 use Rattle.replica.specs.Change.{Receives}
-use Rattle.replica.specs.Hearing.{HearingValue, HearsAlso, IsReady, KeepsAll, batch_by}
+use Rattle.replica.specs.Hearing.{HearingValue, HearsAlso, HearsByIndex, KeepsAll, batch_by}
 use Rattle.replica.specs.Index.{targets_of}
 use Rattle.replica.specs.Progress.{CanGoOn, ProgressValue}
 use Rattle.replica.specs.Seen.{HasIndex, IsProgress, progress_of, state_of}
@@ -31,7 +31,7 @@ pub record Hearable (r : progress.Inside) (v : State) (b : BatchValue) (targets 
   pub now : b.name.superstep ≡ r.superstep
   pub is_fresh : IsFresh (fields_of r) b
   pub index : targets ≡ targets_of (arc_value r.part)
-  pub ready : IsReady b.plan.log2m targets r.hearing
+  pub ready : HearsByIndex b.plan.log2m targets r.hearing
 
 pub hearable : (r : progress.Inside) (l : ProgressValue) (b : BatchValue) (targets : List (List ℕ)) (name : BatchName) → IsProgress r → CanGoOn l → progress_of r ≡ l → IsBatch b →
     take_of l.state.part.plan l.state.part.number (content_of l.state) b.plan b.name ≡ Ok taken.New → HasIndex l.state targets → name ≡ b.name → name.superstep ≡ r.superstep → Hearable r l.state b targets
@@ -46,7 +46,7 @@ hearable r l b targets name ok can is batch new has named here =
       now = now;
       is_fresh = is_fresh;
       index = index;
-      ready = subst (λ (a : PlanValue). IsReady a.log2m targets r.hearing) (sym is_fresh.plan_is) (ready_at (fields_of r) targets r.hearing k.state index refl refl ok.accumulated_width);
+      ready = subst (λ (a : PlanValue). HearsByIndex a.log2m targets r.hearing) (sym is_fresh.plan_is) (ready_at (fields_of r) targets r.hearing k.state index refl refl ok.accumulated_width);
     }
 
 pub record Heard (r : progress.Inside) (v : State) (b : BatchValue) : Type 0 where

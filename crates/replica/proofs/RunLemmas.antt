@@ -22,7 +22,7 @@ use Rattle.ball_model.proofs.CounterLemmas.{counter_of-same}
 use Rattle.ball_model.proofs.ChangeLemmas.{changed_next}
 use Rattle.ball_model.proofs.QuietLemmas.{quiet_stays, none_in}
 use Rattle.ball_model.specs.Join.{union_of, merge_of}
-use Rattle.ball_model.specs.Steps.{Call, Take, Close, Merge, Answer, Took, Closed, Merged, answer_of, answers_of, content_after, content_after_all, content_after_close, start_content}
+use Rattle.ball_model.specs.Steps.{Call, Take, Close, Merge, Answer, Took, Closed, Merged, answer_due, answers_due, content_after, content_after_all, content_after_close, start_content}
 use Rattle.replica.specs.Level.{found_verdict}
 use Rattle.replica.specs.Runs.{HasContent, Takes, Did, Made, closes_in}
 use Rattle.std.specs.Cmp.{booleans_Decides}
@@ -84,7 +84,7 @@ pub same_job : (p : ℕ) (plan : PlanValue) → merge_of plan p plan p ≡ Ok tt
 same_job p plan = rw (same_plan-self plan, eq-eqb p p refl) refl
 
 -- one call: its answer, and the content after it
-did : (j : Job) (p : ℕ) (call : Call) (answer : Answer) (c : Content) (v w : State) → HasContent j p c v → Did j p call answer v w → (answer ≡ answer_of j p c call) × HasContent j p (content_after j p c call) w
+did : (j : Job) (p : ℕ) (call : Call) (answer : Answer) (c : Content) (v w : State) → HasContent j p c v → Did j p call answer v w → (answer ≡ answer_due j p c call) × HasContent j p (content_after j p c call) w
 did j p (Take name) (Took r) c v w h k = (ap Took (took_answer j p name r c v w h k), took j p name r c v w h k)
 did j p Close (Closed r) c v w h k =
     let is : r ≡ close_of j p c = k.answer c.superstep h.stands ∙ ap (close_of j p) (has_content j p c v h) in
@@ -96,8 +96,8 @@ did j p call answer c v w h k = absurd k
 
 -- a list of calls: their answers, and the content after them
 pub made : (j : Job) (p : ℕ) (calls : List Call) (answers : List Answer) (c : Content) (v w : State) → HasContent j p c v → Made j p v calls answers w →
-    (answers ≡ answers_of j p c calls) × HasContent j p (content_after_all j p c calls) w
-unfolding Made content_after_all answers_of
+    (answers ≡ answers_due j p c calls) × HasContent j p (content_after_all j p c calls) w
+unfolding Made content_after_all answers_due
 made j p [] [] c v w h m = (refl, subst (λ (u : State). HasContent j p c u) (sym m) h)
 made j p (call ∷ calls) (answer ∷ answers) c v w h m =
     let first = did j p call answer c v m.0 h m.1 in
@@ -110,7 +110,7 @@ pub run_stands : (j : Job) (p : ℕ) (calls : List Call) (answers : List Answer)
 run_stands j p calls answers v w h m = (made j p calls answers start_content v w h m).1
 
 -- and it answers as the contents say
-pub run_answers : (j : Job) (p : ℕ) (calls : List Call) (answers : List Answer) (v w : State) → HasContent j p start_content v → Made j p v calls answers w → answers ≡ answers_of j p start_content calls
+pub run_answers : (j : Job) (p : ℕ) (calls : List Call) (answers : List Answer) (v w : State) → HasContent j p start_content v → Made j p v calls answers w → answers ≡ answers_due j p start_content calls
 run_answers j p calls answers v w h m = (made j p calls answers start_content v w h m).0
 
 -- a call never goes back, and a close that went on goes a superstep further

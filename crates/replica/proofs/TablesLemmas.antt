@@ -19,8 +19,8 @@ use Rattle.replica.specs.Index.{targets_of}
 use Rattle.replica.specs.Kept.{AreEarly, AreOfPlan}
 use Rattle.replica.specs.Level.{differences, level_verdict, total_of, weights_of}
 use Rattle.replica.specs.Progress.{ProgressValue}
-use Rattle.replica.specs.Seen.{GoesOn, IsProgress, progress_of, state_of}
-use Rattle.replica.specs.Tables.{AreAhead, CanBeStepped, CanHearOwn, CanStep, HearsOwn, Steps, TablesValue}
+use Rattle.replica.specs.Seen.{HoldsTogether, IsProgress, progress_of, state_of}
+use Rattle.replica.specs.Tables.{AreAhead, CanBeStepped, CanHearOwn, CanStep, HearsOwn, NextTables, TablesValue}
 use Rattle.replica.proofs.AccumulatorLemmas.{Keeps, can_go_on, fields_are, fields_of, going_keeps, going_on, had_room, kept_progress}
 use Rattle.replica.proofs.AdvanceLemmas.{same_early}
 use Rattle.replica.proofs.CloseLemmas.{goes_below}
@@ -72,14 +72,6 @@ tables_alike n a b mine other parts is =
 pub ahead_of : (r : progress.Inside) (v : State) → IsProgress r → Keeps r v → AreAhead (arc_value r.part).plan.log2m r.tables.rows r.hearing
 ahead_of r v ok k = record { counters = k.state.rows; rise = k.state.accumulated; width = ok.width ∙ sym ok.accumulated_width; kept = k.kept }
 
-pub can_hear_own : (r : progress.Inside) (v : State) (targets : List (List ℕ)) → IsProgress r → Keeps r v → targets ≡ targets_of (arc_value r.part) → CanHearOwn (arc_value r.part) targets r.tables r.hearing
-can_hear_own r v targets ok k index = record {
-  count = k.state.count;
-  marks = k.state.marks;
-  inside = inside_of (fields_of r) targets (length r.hearing.accumulated.rows) k.state index refl;
-  ahead = ahead_of r v ok k;
-}
-
 pub can_hear : (r : progress.Inside) (v : State) (plan : PlanValue) (targets : List (List ℕ)) (early : List (List (Option BatchValue))) → IsProgress r → Keeps r v → plan ≡ (arc_value r.part).plan → targets ≡ targets_of (arc_value r.part) → AreOfPlan (arc_value r.part).plan early → CanHear plan targets early r.hearing
 can_hear r v plan targets early ok k own index kept = rw own (record {
   ready = ready_at (fields_of r) targets r.hearing k.state index refl refl ok.accumulated_width;
@@ -98,7 +90,7 @@ pub record Goes (r : progress.Inside) (v : State) (targets : List (List ℕ)) (m
   pub weights : own ≡ weights_of r.tables.rows.rows
   pub room : (arc_value r.part).plan.limit + 1 ≤ r.tables.room
 
-pub goes : (r : progress.Inside) (k : ProgressValue) (targets : List (List ℕ)) (m : Measure) (weights : List ℕ) → IsProgress r → GoesOn k targets m weights → progress_of r ≡ k → level_verdict k.state ≡ verdict.GoOn → Goes r k.state targets m weights
+pub goes : (r : progress.Inside) (k : ProgressValue) (targets : List (List ℕ)) (m : Measure) (weights : List ℕ) → IsProgress r → HoldsTogether k targets m weights → progress_of r ≡ k → level_verdict k.state ≡ verdict.GoOn → Goes r k.state targets m weights
 goes r k targets m weights ok can is going =
     let all = going_keeps r k ok can.goes_on is (going_on k.state going) in
     record {
@@ -110,6 +102,14 @@ goes r k targets m weights ok can is going =
       weights = can.weights ∙ ap (λ (v : State). weights_of v.rows) (sym all.view_is);
       room = had_room r k is can.goes_on;
     }
+
+pub can_hear_own : (r : progress.Inside) (v : State) (targets : List (List ℕ)) (m : Measure) (weights : List ℕ) → Goes r v targets m weights → CanHearOwn (arc_value r.part) targets r.tables r.hearing
+can_hear_own r v targets m weights g = record {
+  count = g.keeps.state.count;
+  marks = g.keeps.state.marks;
+  inside = inside_of (fields_of r) targets (length r.hearing.accumulated.rows) g.keeps.state g.index refl;
+  ahead = ahead_of r v g.limits g.keeps;
+}
 
 pub can_step : (r : progress.Inside) (v : State) (targets : List (List ℕ)) (m : Measure) (own : HearingValue) (weights : List ℕ) → Goes r v targets m weights → AreAhead (arc_value r.part).plan.log2m r.tables.rows own → CanStep m r.superstep r.tables own weights
 can_step r v targets m own weights g ahead =
@@ -129,11 +129,11 @@ can_step r v targets m own weights g ahead =
 pub record Advanced (r : progress.Inside) (v : State) (targets : List (List ℕ)) (m : Measure) (weights : List ℕ) : Type 0 where
   pub limits : IsProgress r
   pub advances : Advances v (state_of r)
-  pub goes_on : GoesOn (progress_of r) targets m weights
+  pub goes_on : HoldsTogether (progress_of r) targets m weights
 
 -- before the batches of the new superstep are heard
 pub can_hear_next : (r : progress.Inside) (v : State) (plan : PlanValue) (targets : List (List ℕ)) (m : Measure) (b : TablesValue) (own quiet : HearingValue) (before weights : List ℕ) → Goes r v targets m before → plan ≡ (arc_value r.part).plan →
-    HearsOwn (arc_value r.part) targets r.tables r.hearing own → Steps m r.superstep r.tables b own quiet weights → CanHear plan targets r.early quiet
+    HearsOwn (arc_value r.part) targets r.tables r.hearing own → NextTables m r.superstep r.tables b own quiet weights → CanHear plan targets r.early quiet
 can_hear_next r v plan targets m b own quiet before weights g same heard step =
     let s = fields_of r in
     rw same (record {
@@ -142,7 +142,7 @@ can_hear_next r v plan targets m b own quiet before weights g same heard step =
     })
 
 pub advanced : (r : progress.Inside) (v : State) (plan : PlanValue) (targets : List (List ℕ)) (m : Measure) (b : TablesValue) (own quiet next : HearingValue) (before weights : List ℕ) (left : List (List (Option BatchValue))) → Goes r v targets m before → plan ≡ (arc_value r.part).plan →
-    HearsOwn (arc_value r.part) targets r.tables r.hearing own → Steps m r.superstep r.tables b own quiet weights → HearsEarly plan.log2m targets 0 r.early left quiet next →
+    HearsOwn (arc_value r.part) targets r.tables r.hearing own → NextTables m r.superstep r.tables b own quiet weights → HearsEarly plan.log2m targets 0 r.early left quiet next →
     Advanced (record r { superstep = r.superstep + 1; tables = b; hearing = next; early = left }) v targets m weights
 advanced r v plan targets m b own quiet next before weights left g same heard step hears =
     let s = fields_of r in

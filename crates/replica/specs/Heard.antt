@@ -1,5 +1,5 @@
 -- What accumulators have heard once rows are spread, and what spreading keeps.
-use Rattle.std.specs.Prelude.{◌≡◌, ℕ, ◌<◌, ◌%◌, Bool, false, ◌||◌, ◌==◌, IsTrue, List, length, slice_index_or}
+use Rattle.std.specs.Prelude.{◌≡◌, ℕ, ◌<◌, ◌%◌, Bool, false, ◌||◌, ◌==◌, IsTrue, List, [], length, slice_index_or}
 use Rattle.ball_model.specs.Accumulated.{accumulated_of}
 use Rattle.ball_model.specs.Batches.{BatchValue, true_batch}
 use Rattle.ball_model.specs.Change.{changed_at}
@@ -7,8 +7,9 @@ use Rattle.ball_model.specs.Counter.{ball_counter}
 use Rattle.ball_model.specs.Job.{Job, IsJob, PartValue, part_of}
 use Rattle.ball_model.specs.PlanValue.{mixing_of}
 use Rattle.ball_model.specs.State.{rows_of, marks_of}
+use Rattle.ball_model.specs.Table.{Table}
 use Rattle.replica.specs.Index.{targets_of}
-use Rattle.replica.specs.Spread.{rows_after, touched_at, AreTouched}
+use Rattle.replica.specs.Spread.{own_rows, raised_at, raised_by, rows_after, touched_at, AreTouched}
 
 -- where the registers are the counter of a changed vertex z, what was heard becomes that and z
 abbrev pub RowIsHeard : List (List ℕ) → ℕ → List ℕ → List (List ℕ) → List (List ℕ) → Type 0
@@ -50,3 +51,31 @@ MarksBefore places registers rows marks later = (i : ℕ) → i < length rows �
 abbrev pub StayTouched : List (List ℕ) → List Bool → List (List ℕ) → List Bool → Type 0
 StayTouched old marks new later =
     (rows : List (List ℕ)) → AreTouched rows old marks → AreTouched rows new later
+
+-- rows at these places are raised, and those that this changes are marked
+pub record Raises (places registers : List ℕ) (old new : Table) (before after : List Bool) :
+    Type 0 where
+  pub rows : new ≡ raised_at places registers old
+  pub marks : MarksChanges before old.rows new.rows after
+
+-- the row of vertex z is spread
+pub record SpreadsRow (targets : List (List ℕ)) (z : ℕ) (registers : List ℕ) (old new : Table)
+    (before after : List Bool) : Type 0 where
+  pub rows : new ≡ raised_at (slice_index_or targets z []) registers old
+  pub marks : MarksChanges before old.rows new.rows after
+  pub touched : StayTouched old.rows before new.rows after
+  pub stands : RowIsHeard targets z registers old.rows new.rows
+
+-- the rows of a batch are
+pub record SpreadsBatch (targets : List (List ℕ)) (batch : BatchValue) (old new : Table)
+    (before after : List Bool) : Type 0 where
+  pub rows : new ≡ raised_by targets batch.rows old
+  pub touched : StayTouched old.rows before new.rows after
+  pub stands : BatchIsHeard targets batch old.rows new.rows
+
+-- the own rows that are marked are
+pub record SpreadsOwn (targets : List (List ℕ)) (part : PartValue) (own : List (List ℕ))
+    (marks : List Bool) (old new : Table) (before after : List Bool) : Type 0 where
+  pub rows : new ≡ raised_by targets (own_rows part own marks) old
+  pub touched : StayTouched old.rows before new.rows after
+  pub stands : OwnIsHeard targets part own marks old.rows new.rows

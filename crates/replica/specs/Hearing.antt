@@ -92,6 +92,13 @@ pub record CanJoin (own theirs : Table) (a : HearingValue) : Type 0 where
   pub count : length a.accumulated.rows ≡ length theirs.rows
   pub rows : length own.rows ≡ length a.accumulated.rows
 
+-- b has room for what a says beside these rows
+pub record CanFill (own : Table) (a b : HearingValue) : Type 0 where
+  pub width : own.width ≡ b.accumulated.width
+  pub same : a.accumulated.width ≡ b.accumulated.width
+  pub count : length own.rows ≡ length b.accumulated.rows
+  pub kept : KeepsAllOrNone own.rows a
+
 -- nothing is heard, and what is accumulated are the rows
 pub record IsQuiet (rows : Table) (a : HearingValue) : Type 0 where
   pub heard : a.heard ≡ replicate most_parts false
@@ -99,12 +106,17 @@ pub record IsQuiet (rows : Table) (a : HearingValue) : Type 0 where
   pub accumulated : a.accumulated ≡ rows
   pub kept : KeepsAll rows.rows a
 
--- b has room for what a says beside these rows
-pub record CanFill (own : Table) (a b : HearingValue) : Type 0 where
-  pub width : own.width ≡ b.accumulated.width
-  pub same : a.accumulated.width ≡ b.accumulated.width
-  pub count : length own.rows ≡ length b.accumulated.rows
-  pub kept : KeepsAllOrNone own.rows a
+-- the accumulators can become the rows, and the marks of those that differ their marks
+pub record CanBegin (rows : Table) (marks : List Bool) (a : HearingValue) : Type 0 where
+  pub width : rows.width ≡ a.accumulated.width
+  pub count : length marks ≡ length rows.rows
+  pub kept : KeepsAll rows.rows a
+
+-- they did, and nothing is heard yet
+pub record BeginsSuperstep (a b : HearingValue) (rows : Table) (marks : List Bool) : Type 0 where
+  pub quiet : IsQuiet rows b
+  pub ahead : rows ≡ a.accumulated
+  pub touched : marks ≡ a.touched
 
 -- what a says beside these rows, with an accumulator of each
 pub record Fills (rows : Table) (a b : HearingValue) : Type 0 where
@@ -123,8 +135,18 @@ pub record SaysSame (rows : List (List ℕ)) (a b : HearingValue) : Type 0 where
       ≡ accumulators_of rows a.accumulated.rows
   pub kept : KeepsAllOrNone rows b
 
+-- the accumulators of these rows can be kept again, where they were let go
+pub record CanRenew (rows : Table) (a : HearingValue) : Type 0 where
+  pub width : rows.width ≡ a.accumulated.width
+  pub kept : KeepsAllOrNone rows.rows a
+
+-- they are
+pub record Renews (rows : List (List ℕ)) (a b : HearingValue) : Type 0 where
+  pub same : SaysSame rows a b
+  pub all : KeepsAll rows b
+
 -- batches of 2^log2m registers a row can be heard by the index
-pub record IsReady (log2m : ℕ) (targets : List (List ℕ)) (a : HearingValue) : Type 0 where
+pub record HearsByIndex (log2m : ℕ) (targets : List (List ℕ)) (a : HearingValue) : Type 0 where
   pub sources : length a.heard ≡ most_parts
   pub width : a.accumulated.width ≡ 2 ^ log2m
   pub inside : LeadInside (length a.accumulated.rows) targets
@@ -140,7 +162,7 @@ pub record HearsAlso (log2m : ℕ) (targets : List (List ℕ)) (told : ℕ → O
 -- the batches that are kept can be heard
 pub record CanHear (plan : PlanValue) (targets : List (List ℕ))
     (early : List (List (Option BatchValue))) (a : HearingValue) : Type 0 where
-  pub ready : IsReady plan.log2m targets a
+  pub ready : HearsByIndex plan.log2m targets a
   pub kept : AreOfPlan plan early
 
 -- those of the superstep after the next ones that passed are heard, and only later ones are left

@@ -39,7 +39,7 @@ pub record Absorbs (v o w : State) : Type 0 where
   pub stands : (j : Job) (p t u : ℕ) → StandsFor j p t v → StandsFor j p u o →
       StandsFor j p (max t u) w
 
--- and it keeps an accumulator of each row
+-- k can take over what l knows: it keeps an accumulator of each row
 pub record CanTakeOver (k l : ProgressValue) (shared : List (List (Option BatchValue))) :
     Type 0 where
   pub two : CanAbsorb k.state l.state shared
@@ -51,7 +51,7 @@ pub record TakesIn (v o w : State) : Type 0 where
   pub mine : IsState v
   pub theirs : IsState o
 
--- k has taken over what l knows, and keeps an accumulator of each row
+-- new is k once it has taken over what l knows, and keeps an accumulator of each row
 pub record TakesOver (k l new : ProgressValue) : Type 0 where
   pub absorbs : Absorbs k.state l.state new.state
   pub whole : IsWhole new

@@ -22,3 +22,8 @@ pub record CanGoOn (k : ProgressValue) : Type 0 where
 pub record IsWhole (k : ProgressValue) : Type 0 where
   pub kept : length k.kept ≡ length k.state.rows
   pub room : k.state.part.plan.limit + 1 ≤ k.room
+
+-- what it tells is the same, and a replica can go on with it
+pub record StaysSame (k new : ProgressValue) : Type 0 where
+  pub same : new.state ≡ k.state
+  pub goes_on : CanGoOn new

@@ -16,7 +16,7 @@ use Rattle.ball_model.specs.Job.{Job}
 use Rattle.ball_model.specs.Content.{Content, IsContent, take_of, is_new, missing_of, close_of, after_close}
 use Rattle.ball_model.specs.Join.{union_of}
 use Rattle.ball_model.specs.State.{State, StandsFor, content_of}
-use Rattle.ball_model.specs.Steps.{Call, Take, Close, Merge, Answer, Took, Closed, Merged, start_content, content_after_all, answers_of}
+use Rattle.ball_model.specs.Steps.{Call, Take, Close, Merge, Answer, Took, Closed, Merged, start_content, content_after_all, answers_due}
 use Rattle.replica.specs.Change.{HoldsAfter}
 use Rattle.replica.specs.Level.{EndsRun, found_verdict}
 use Rattle.replica.specs.Seen.{IsState}
@@ -72,7 +72,7 @@ RunStands = (j : Job) (p : ℕ) (calls : List Call) (answers : List Answer) (v w
 abbrev pub RunAnswers : Type 0
 RunAnswers = (j : Job) (p : ℕ) (calls : List Call) (answers : List Answer) (v w : State) →
     HasContent j p start_content v → Made j p v calls answers w →
-    answers ≡ answers_of j p start_content calls
+    answers ≡ answers_due j p start_content calls
 
 -- how many of these answers are of a close that went on
 unfoldable pub closes_in : List Answer → ℕ

@@ -9,6 +9,7 @@ use Rattle.ball_model.specs.Figures.{TallyValue, estimate_with}
 use Rattle.ball_model.specs.Job.{PartValue}
 use Rattle.ball_model.specs.PlanValue.{PlanValue, greatest_limit, measure_of, most_parts}
 use Rattle.ball_model.specs.State.{State}
+use Rattle.ball_model.specs.Table.{Table}
 use Rattle.replica.specs.declared.saved.Saved.{Saved}
 use Rattle.replica.specs.Kept.{AreCounters, AllRise, AreSums, AreSources}
 use Rattle.replica.specs.Progress.{CanGoOn, ProgressValue}
@@ -65,6 +66,12 @@ pub record HasHeard (part : PartValue) (s : Saved) : Type 0 where
   pub heard : AreSources part.plan.parts part.number s.heard
   pub width : s.accumulated.width ≡ 2 ^ part.plan.log2m
   pub accumulated : AllRise part.plan.log2m s.rows.rows s.accumulated.rows
+
+-- as many rows as rows, all of the plan's width
+pub record AreOfWidth (plan : PlanValue) (rows accumulated : Table) : Type 0 where
+  pub count : length accumulated.rows ≡ length rows.rows
+  pub width : rows.width ≡ 2 ^ plan.log2m
+  pub same : accumulated.width ≡ 2 ^ plan.log2m
 
 -- a replica of the part can have all this
 pub record Fits (part : PartValue) (s : Saved) : Type 0 where

@@ -1,10 +1,12 @@
 -- What a replica has for each vertex, and the sums of its estimates: as plain data, and what becomes of it.
-use Rattle.std.specs.Prelude.{◌≡◌, ℕ, ◌+◌, ◌^◌, ◌<◌, ◌≤◌, Bool, List, ◌∷◌, [], ◌++◌, map, length}
+use Rattle.std.specs.Prelude.{◌≡◌, ℕ, ◌+◌, ◌^◌, ◌<◌, ◌≤◌, Bool, false, List, ◌∷◌, [], ◌++◌, map, length}
 use Rattle.std.specs.List.{sum_by}
 use Rattle.ball_model.specs.Figures.{TallyValue, Measure, estimate_with}
 use Rattle.ball_model.specs.Job.{PartValue}
+use Rattle.ball_model.specs.Laws.{IsCounterRow}
 use Rattle.ball_model.specs.PlanValue.{greatest_limit, measure_of, most_vertices}
 use Rattle.ball_model.specs.Table.{Table}
+use Rattle.figures.specs.Values.{weight_of}
 use Rattle.registers.specs.Joined.{AreSameShape}
 use Rattle.registers.specs.Relay.{DifferWhere}
 use Rattle.replica.specs.Heard.{OwnIsHeard}
@@ -62,6 +64,18 @@ pub record CanBeStepped (m : Measure) (t : ℕ) (old new : Table) (marks : List 
   pub count : length tallies ≡ length new.rows
   pub lasts : AreLasts m new.rows marks tallies
 
+-- the figures of a row can, which becomes the one ahead, or stays where it has not changed
+pub record CanStepRow (m : Measure) (t : ℕ) (old new : List ℕ) (changed : Bool) (own last : ℕ) :
+    Type 0 where
+  pub from : 0 < t
+  pub to : t ≤ greatest_limit
+  pub row : IsCounterRow m.log2m old
+  pub ahead : IsCounterRow m.log2m new
+  pub weight : own ≡ weight_of old
+  pub grown : last ≤ estimate_with m new
+  pub same : changed ≡ false → last ≡ estimate_with m new
+  pub still : changed ≡ false → old ≡ new
+
 -- the tables of superstep t can go on to the accumulators
 pub record CanStep (m : Measure) (t : ℕ) (a : TablesValue) (h : HearingValue) (own : List ℕ) :
     Type 0 where
@@ -74,7 +88,7 @@ pub record CanStep (m : Measure) (t : ℕ) (a : TablesValue) (h : HearingValue) 
   pub weights : own ≡ weights_of a.rows.rows
 
 -- they went on: the accumulators are the rows, of which nothing is heard yet
-pub record Steps (m : Measure) (t : ℕ) (a b : TablesValue) (h g : HearingValue) (own : List ℕ)
+pub record NextTables (m : Measure) (t : ℕ) (a b : TablesValue) (h g : HearingValue) (own : List ℕ)
     : Type 0 where
   pub rows : b.rows ≡ h.accumulated
   pub marks : b.marks ≡ differences a.rows.rows h.accumulated.rows (length a.rows.rows)

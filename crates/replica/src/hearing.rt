@@ -4,8 +4,9 @@ ghost use Rattle.std.specs.Prelude.{◌≡◌, ℕ, ◌^◌, ◌<◌, ◌||◌, 
 ghost use Rattle.std.specs.Prelude.{option_map, Some, IfOk, IfSome, OnOk, OnErr};
 ghost use Rattle.ball_model.specs.State.{early_at};
 ghost use Rattle.registers.specs.Joined.{maximum_of_rows, union_of_flags};
-ghost use Rattle.replica.specs.Hearing.{CanFill, CanHear, CanJoin, Fills, HearsAlso, HearsEarly};
-ghost use Rattle.replica.specs.Hearing.{IsQuiet, IsReady, KeepsAll, KeepsAllOrNone, SaysSame};
+ghost use Rattle.replica.specs.Hearing.{BeginsSuperstep, CanBegin, CanFill, CanHear, CanJoin};
+ghost use Rattle.replica.specs.Hearing.{CanRenew, Renews, Fills, HearsAlso, HearsEarly, IsQuiet};
+ghost use Rattle.replica.specs.Hearing.{HearsByIndex, KeepsAll, KeepsAllOrNone, SaysSame};
 ghost use Rattle.replica.specs.Hearing.{accumulators_of, batch_by, let_go};
 ghost use Rattle.replica.specs.Kept.{IsFrom};
 ghost use Rattle.replica.specs.Level.{differences};
@@ -131,7 +132,7 @@ impl Hearing {
 
     /// Hears a batch of the superstep: its rows are spread, and its source is heard.
     pub fn hear(&mut self, targets: &Targets, batch: &Batch)
-        requires { IsReady batch.now.plan.log2m targets.now self.old }
+        requires { HearsByIndex batch.now.plan.log2m targets.now self.old }
         ensures { HearsAlso batch.now.plan.log2m targets.now
             (batch_by batch.now.name.source (Some batch.now)) self.old self.new }
     {
@@ -142,7 +143,7 @@ impl Hearing {
 
     // Hears the batch of a source, where there is one.
     fn hear_if(&mut self, targets: &Targets, plan: &Plan, source: u16, batch: Option<&Batch>)
-        requires ready { IsReady plan.now.log2m targets.now self.old }
+        requires ready { HearsByIndex plan.now.log2m targets.now self.old }
         requires batch { IfSome batch (λ b. IsFrom plan.now source b.now) }
         ensures { HearsAlso plan.now.log2m targets.now
             (batch_by source (option_map (λ b. b.now) batch.entry)) self.old self.new }
@@ -208,12 +209,8 @@ impl Hearing {
     /// Begins the next superstep: what is accumulated becomes the rows, those are marked that this changes, and nothing
     /// is heard yet.
     pub fn begin(&mut self, rows: &mut Relay, marks: &mut [bool])
-        requires width { rows.old.width ≡ self.old.accumulated.width }
-        requires marks { length marks.old ≡ length rows.old.rows }
-        requires kept { KeepsAll rows.old.rows self.old }
-        ensures quiet { IsQuiet rows.new self.new }
-        ensures rows { rows.new ≡ self.old.accumulated }
-        ensures marks { marks.new ≡ self.old.touched }
+        requires { CanBegin rows.old marks.old self.old }
+        ensures { BeginsSuperstep self.old self.new rows.new marks.new }
     {
         rows.follow(&self.accumulated, &self.touched);
         marks.copy_from_slice(&self.touched);
@@ -303,10 +300,8 @@ impl Hearing {
 
     /// Keeps the accumulators again that were let go. An error changes nothing.
     pub fn renew(&mut self, alloc: Global, rows: &Rows) -> Result<(), AllocError>
-        requires width { rows.now.width ≡ self.old.accumulated.width }
-        requires kept { KeepsAllOrNone rows.now.rows self.old }
-        ensures same { OnOk result (SaysSame rows.now.rows self.old self.new) }
-        ensures kept { OnOk result (KeepsAll rows.now.rows self.new) }
+        requires { CanRenew rows.now self.old }
+        ensures renewed { OnOk result (Renews rows.now.rows self.old self.new) }
         ensures refused { OnErr result (self.new ≡ self.old) }
     {
         if self.accumulated.len() == 0 {

@@ -9,7 +9,7 @@ ghost use Rattle.ball_model.specs.Laws.{IsCounterRow};
 ghost use Rattle.ball_model.specs.PlanValue.{greatest_limit};
 ghost use Rattle.figures.specs.Values.{value_of, weight_of};
 ghost use Rattle.replica.specs.Level.{differences, next_tally, next_tallies, weights_of};
-ghost use Rattle.replica.specs.Tables.{CanBeStepped};
+ghost use Rattle.replica.specs.Tables.{CanBeStepped, CanStepRow};
 
 use figures::{Estimator, Tally, moved_weight};
 use registers::Rows;
@@ -75,14 +75,7 @@ fn step_tally(
     weight: &mut u64,
     tally: &mut Tally,
 ) -> u128
-    requires from { 0 < t }
-    requires to { t ≤ greatest_limit }
-    requires row { IsCounterRow estimator.now.log2m row.now }
-    requires ahead { IsCounterRow estimator.now.log2m ahead.now }
-    requires weight { weight.old ≡ weight_of row.now }
-    requires grown { tally.old.last ≤ estimate_with estimator.now ahead.now }
-    requires same { changed ≡ false → tally.old.last ≡ estimate_with estimator.now ahead.now }
-    requires still { changed ≡ false → row.now ≡ ahead.now }
+    requires { CanStepRow estimator.now t row.now ahead.now changed weight.old tally.old.last }
     ensures value { value_of tally.new ≡
         next_tally t (value_of tally.old) (estimate_with estimator.now ahead.now) }
     ensures weight { weight.new ≡ weight_of ahead.now }

@@ -29,6 +29,7 @@ struct ToldVertices {
 
 impl Progress {
     // Vertex i.
+    #[inline]
     fn vertex(&self, i: u32) -> u32
         requires { i < length self.now.state.part.preds }
         ensures { result ≡ i * self.now.state.part.plan.parts + self.now.state.part.number }
@@ -37,6 +38,7 @@ impl Progress {
     }
 
     // Whether vertex i changed.
+    #[inline]
     fn is_marked(&self, i: u32) -> bool
         requires { i < length self.now.state.part.preds }
         ensures value { result ≡ slice_index_or self.now.state.marks i false }
@@ -46,6 +48,7 @@ impl Progress {
     }
 
     // Whether vertex i has an edge into a partition.
+    #[inline]
     fn feeds_into(&self, i: u32, target: u16) -> bool
         requires place { i < length self.now.state.part.preds }
         requires target { target < self.now.state.part.plan.parts }
@@ -57,9 +60,8 @@ impl Progress {
     /// What the partition tells another one of this superstep, as it is read off what the replica has.
     pub(crate) fn sent(&self, alloc: Global, target: u16) -> Result<Batch, AllocError>
         requires target { target < self.now.state.part.plan.parts }
-        ensures sent { IfOk result (λ b. b ≡
+        ensures { IfOk result (λ b. b ≡
             sent_batch self.now.state target (length self.now.state.part.preds)) }
-        ensures state { IsState self.now.state }
     {
         let name = BatchName {
             superstep: self.superstep(),
@@ -201,6 +203,7 @@ fn nothing_told(alloc: Global, room: usize) -> Result<ToldVertices, AllocError>
 }
 
 // Whether bit `target` of a feed mask is set.
+#[inline]
 fn has_edge_into(feeds: u64, target: u16) -> bool
     requires { target < most_parts }
     ensures { result ≡ has_bit feeds target }

@@ -6,7 +6,8 @@ ghost use Rattle.std.specs.Arc.{arc_value};
 ghost use Rattle.std.specs.List.{All};
 ghost use Rattle.ball_model.specs.PlanValue.{most_parts};
 ghost use Rattle.replica.specs.Kept.{AreCounters, AllRise, AreSources, AreSums, RowRises};
-ghost use Rattle.replica.specs.Saved.{Fits, HasRows, HasFigures, HasHeard, MayKeep, MayBeKept};
+ghost use Rattle.replica.specs.Saved.{AreOfWidth, Fits, HasRows, HasFigures, HasHeard, MayKeep};
+ghost use Rattle.replica.specs.Saved.{MayBeKept};
 
 use crate::level::sum_of_lasts;
 use crate::step::is_same;
@@ -166,9 +167,7 @@ fn are_sources(parts: u16, own: u16, heard: SourceMask) -> bool
 
 // Whether each row has become a counter's row in which no register fell.
 fn all_rise(rows: &Rows, accumulated: &Rows, plan: &Plan) -> bool
-    requires count { length accumulated.now.rows ≡ length rows.now.rows }
-    requires width { rows.now.width ≡ 2 ^ plan.now.log2m }
-    requires same { accumulated.now.width ≡ 2 ^ plan.now.log2m }
+    requires { AreOfWidth plan.now rows.now accumulated.now }
     ensures { IsTrue result ↔ AllRise plan.now.log2m rows.now.rows accumulated.now.rows }
 {
     // the limits of a plan are told with its number of registers

@@ -2,9 +2,8 @@
 
 ghost use Rattle.std.specs.Prelude.{◌≡◌, ◌^◌, ◌<◌, length, slice_index_or, []};
 ghost use Rattle.std.specs.List.{All};
-ghost use Rattle.replica.specs.Spread.{CanRaise, CanSpread, raised_at, raised_by, own_rows};
-ghost use Rattle.replica.specs.Heard.{RowIsHeard, BatchIsHeard, OwnIsHeard, MarksBefore};
-ghost use Rattle.replica.specs.Heard.{MarksChanges, StayTouched};
+ghost use Rattle.replica.specs.Spread.{CanRaise, CanSpread};
+ghost use Rattle.replica.specs.Heard.{MarksBefore, Raises, SpreadsBatch, SpreadsOwn, SpreadsRow};
 
 use crate::targets::Targets;
 use batches::Batch;
@@ -25,13 +24,8 @@ pub fn spread_row(
 )
     requires width { length registers.now ≡ accumulated.old.width }
     requires room { CanSpread targets.now accumulated.old touched.old }
-    ensures rows { accumulated.new ≡
-        raised_at (slice_index_or targets.now z []) registers.now accumulated.old }
-    ensures marks { MarksChanges touched.old accumulated.old.rows accumulated.new.rows touched.new }
-    ensures touched { StayTouched accumulated.old.rows touched.old
-        accumulated.new.rows touched.new }
-    ensures stands { RowIsHeard targets.now z registers.now
-        accumulated.old.rows accumulated.new.rows }
+    ensures { SpreadsRow targets.now z registers.now accumulated.old accumulated.new
+        touched.old touched.new }
 {
     raise_places(targets.places(z), registers, accumulated, touched);
 }
@@ -43,10 +37,8 @@ pub fn spread_row(
 pub fn spread_batch(targets: &Targets, batch: &Batch, accumulated: &mut Rows, touched: &mut [bool])
     requires width { 2 ^ batch.now.plan.log2m ≡ accumulated.old.width }
     requires room { CanSpread targets.now accumulated.old touched.old }
-    ensures rows { accumulated.new ≡ raised_by targets.now batch.now.rows accumulated.old }
-    ensures touched { StayTouched accumulated.old.rows touched.old
-        accumulated.new.rows touched.new }
-    ensures stands { BatchIsHeard targets.now batch.now accumulated.old.rows accumulated.new.rows }
+    ensures { SpreadsBatch targets.now batch.now accumulated.old accumulated.new
+        touched.old touched.new }
 {
     for k in 0..batch.count() {
         spread_row(
@@ -77,12 +69,8 @@ pub fn spread_own(
     requires count { length rows.now.rows ≡ length part.now.preds }
     requires marks { length marks.now ≡ length part.now.preds }
     requires room { CanSpread targets.now accumulated.old touched.old }
-    ensures rows { accumulated.new ≡
-        raised_by targets.now (own_rows part.now rows.now.rows marks.now) accumulated.old }
-    ensures touched { StayTouched accumulated.old.rows touched.old
-        accumulated.new.rows touched.new }
-    ensures stands { OwnIsHeard targets.now part.now rows.now.rows marks.now
-        accumulated.old.rows accumulated.new.rows }
+    ensures { SpreadsOwn targets.now part.now rows.now.rows marks.now
+        accumulated.old accumulated.new touched.old touched.new }
 {
     for i in 0..part.size() {
         if marks[i as usize] {
@@ -107,8 +95,8 @@ const BLOCK: usize = 8;
 // glanced at first, so that they are fetched side by side.
 fn raise_places(places: &[u32], registers: &[u8], accumulated: &mut Rows, touched: &mut [bool])
     requires { CanRaise places.now registers.now accumulated.old touched.old }
-    ensures rows { accumulated.new ≡ raised_at places.now registers.now accumulated.old }
-    ensures marks { MarksChanges touched.old accumulated.old.rows accumulated.new.rows touched.new }
+    ensures { Raises places.now registers.now accumulated.old accumulated.new
+        touched.old touched.new }
 {
     for block in places.chunks(BLOCK) {
         mark_seen(block, registers, accumulated, touched);
@@ -136,8 +124,8 @@ fn mark_seen(places: &[u32], registers: &[u8], accumulated: &Rows, touched: &mut
 // row that this changes is marked.
 fn raise_block(places: &[u32], registers: &[u8], accumulated: &mut Rows, touched: &mut [bool])
     requires { CanRaise places.now registers.now accumulated.old touched.old }
-    ensures rows { accumulated.new ≡ raised_at places.now registers.now accumulated.old }
-    ensures marks { MarksChanges touched.old accumulated.old.rows accumulated.new.rows touched.new }
+    ensures { Raises places.now registers.now accumulated.old accumulated.new
+        touched.old touched.new }
 {
     for place in places {
         let i = *place as usize;

@@ -8,8 +8,8 @@ ghost use Rattle.ball_model.specs.Batches.{IsBatch};
 ghost use Rattle.ball_model.specs.Content.{same_plan};
 ghost use Rattle.replica.specs.Level.{found_close, is_over, level_verdict};
 ghost use Rattle.replica.specs.Change.{Advances, Receives, take_answer};
-ghost use Rattle.replica.specs.Progress.{CanGoOn};
-ghost use Rattle.replica.specs.Seen.{GoesOn, HasIndex, IsState};
+ghost use Rattle.replica.specs.Progress.{CanGoOn, StaysSame};
+ghost use Rattle.replica.specs.Seen.{GoesBy, GoesFurther, HoldsTogether, IsState};
 
 use crate::targets::Targets;
 use crate::{Progress, Shown};
@@ -50,11 +50,9 @@ impl Progress {
     pub(crate) fn receive(&mut self, targets: &Targets, batch: Arc<Batch>)
         requires new { take_answer self.old.state (arc_value batch) ≡ Ok taken.New }
         requires batch { IsBatch (arc_value batch) }
-        requires index { HasIndex self.old.state targets.now }
-        requires goes_on { CanGoOn self.old }
+        requires by { GoesBy self.old targets.now }
         ensures receives { Receives (arc_value batch) self.old.state self.new.state }
-        ensures goes_on { CanGoOn self.new }
-        ensures over { is_over self.old.state ≡ true → is_over self.new.state ≡ true }
+        ensures by { GoesBy self.new targets.now }
     {
         let name = batch.name();
         if name.superstep == self.superstep {
@@ -72,11 +70,11 @@ impl Progress {
         estimator: &Estimator,
         weights: &mut [u64],
     ) -> Result<u32, CloseError>
-        requires { GoesOn self.old targets.now estimator.now weights.old }
+        requires { HoldsTogether self.old targets.now estimator.now weights.old }
         ensures exact { result ≡ found_close self.old.state }
         ensures refused { OnErr result (self.new.state ≡ self.old.state) }
         ensures advances { OnOk result (Advances self.old.state self.new.state) }
-        ensures goes_on { GoesOn self.new targets.now estimator.now weights.new }
+        ensures goes_on { HoldsTogether self.new targets.now estimator.now weights.new }
         ensures state { IsState self.old.state }
     {
         let next = self.superstep() + 1;
@@ -96,8 +94,7 @@ impl Progress {
     pub(crate) fn let_go(&mut self)
         requires over { is_over self.old.state ≡ true }
         requires goes_on { CanGoOn self.old }
-        ensures same { self.new.state ≡ self.old.state }
-        ensures goes_on { CanGoOn self.new }
+        ensures { StaysSame self.old self.new }
     {
         self.hearing.let_go();
     }
@@ -118,10 +115,9 @@ impl Progress {
     // One superstep more: what changed in the own partition is heard too, what was accumulated becomes the rows, and
     // the batches of the new superstep are heard.
     fn advance(&mut self, targets: &Targets, estimator: &Estimator, weights: &mut [u64])
-        requires goes_on { GoesOn self.old targets.now estimator.now weights.old }
+        requires goes_on { HoldsTogether self.old targets.now estimator.now weights.old }
         requires going { level_verdict self.old.state ≡ verdict.GoOn }
-        ensures advances { Advances self.old.state self.new.state }
-        ensures goes_on { GoesOn self.new targets.now estimator.now weights.new }
+        ensures { GoesFurther self.old.state self.new targets.now estimator.now weights.new }
     {
         let plan = *self.part.plan();
         self.hearing.hear_own(targets, &self.part, &self.tables);

@@ -4,7 +4,8 @@ ghost use Rattle.std.specs.Prelude.{◌≡◌, ◌≤◌, length, map, IfOk};
 ghost use Rattle.std.specs.Vec.{vec_capacity};
 ghost use Rattle.ball_model.specs.PlanValue.{measure_of};
 ghost use Rattle.figures.specs.Values.{value_of};
-ghost use Rattle.replica.specs.Tables.{AreFirst, CanStep, HasEach, HasRoomFor, Steps, TablesValue};
+ghost use Rattle.replica.specs.Tables.{AreFirst, CanStep, HasEach, HasRoomFor, NextTables};
+ghost use Rattle.replica.specs.Tables.{TablesValue};
 
 use crate::hearing::Hearing;
 use crate::{level, start};
@@ -72,6 +73,7 @@ impl Tables {
     }
 
     /// The rows.
+    #[inline]
     pub fn rows(&self) -> &Rows
         ensures { result.now ≡ self.now.rows }
     {
@@ -79,6 +81,7 @@ impl Tables {
     }
 
     /// Which of them changed.
+    #[inline]
     pub fn marks(&self) -> &[bool]
         ensures { result.now ≡ self.now.marks }
     {
@@ -86,6 +89,7 @@ impl Tables {
     }
 
     /// Their figures.
+    #[inline]
     pub fn tallies(&self) -> &[Tally]
         ensures { map value_of result.now ≡ self.now.tallies }
     {
@@ -93,6 +97,7 @@ impl Tables {
     }
 
     /// The sum of their estimates at each superstep so far.
+    #[inline]
     pub fn sums(&self) -> &[u128]
         ensures { result.now ≡ self.now.sums }
     {
@@ -117,7 +122,7 @@ impl Tables {
         weights: &mut [u64],
     )
         requires { CanStep estimator.now t self.old hearing.old weights.old }
-        ensures { Steps estimator.now t self.old self.new hearing.old hearing.new weights.new }
+        ensures { NextTables estimator.now t self.old self.new hearing.old hearing.new weights.new }
     {
         let last = self.sums[t as usize];
         let rows = self.rows.get();

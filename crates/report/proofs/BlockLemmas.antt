@@ -9,7 +9,7 @@ use Rattle.figures.specs.declared.ends.Figures.{Figures}
 use Rattle.ball_model.specs.PlanValue.{part_size}
 use Rattle.ball_model.specs.State.{State}
 use Rattle.replica.proofs.OwnLemmas.{place_below}
-use Rattle.report.specs.Parts.{HasPlace, figures_among, figures_at, figures_in, figures_line, lines_between, nothing, vertices_text}
+use Rattle.report.specs.Parts.{AreAmong, figures_among, figures_at, figures_in, figures_line, lines_between, nothing, vertices_text}
 use Rattle.report.proofs.WholeLemmas.{HaveSizes}
 
 -- the vertices from `from` on and below `to` have their places from from / parts on and below to / parts, rounded up
@@ -39,7 +39,7 @@ own_among first last x vs d some =
 
 -- vertex x has its place among them
 pub has_place : (n first last x : ℕ) (vs : List State) (d : State) (lists : List (List Figures)) → lists ≡ map (figures_among first last) vs → HaveSizes n (map figures_in vs) → 0 < length vs → x < n →
-    first ≤ x / length vs → x / length vs < last → HasPlace first lists x
+    first ≤ x / length vs → x / length vs < last → AreAmong first lists x
 has_place n first last x vs d lists are sizes some inside low high =
     let count : length lists ≡ length vs = ap length are ∙ length-map vs (figures_among first last) in
     let whole : length (map figures_in vs) ≡ length vs = length-map vs figures_in in

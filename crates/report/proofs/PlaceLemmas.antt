@@ -3,7 +3,7 @@ use Rattle.std.proofs.Common.{◌≡◌, ℕ, ◌-◌, ◌/◌, ◌%◌, ◌<◌
 use Rattle.std.specs.Global.{Global}
 use Rattle.std.proofs.lemmas.List.{get_or-map, get_or_default, length-map}
 use Rattle.figures.specs.declared.ends.Figures.{Figures}
-use Rattle.report.specs.Parts.{HasPlace, figures_at, lists_in, nothing}
+use Rattle.report.specs.Parts.{AreAmong, figures_at, lists_in, nothing}
 
 -- the figures of a partition as a list
 own_list : (parts : List (Vec Figures Global)) (p : ℕ) (own : Vec Figures Global) → p < length parts → own ≡ get_or parts p own → get_or (lists_in parts) p [] ≡ own.items
@@ -15,7 +15,7 @@ pub record IsPlaced (first x : ℕ) (parts : List (Vec Figures Global)) : Type 0
   pub from : first ≤ x / length parts
   pub to : x / length parts - first < length (get_or (lists_in parts) (x % length parts) [])
 
-pub is_placed : (first x : ℕ) (parts : List (Vec Figures Global)) → HasPlace first (lists_in parts) x → IsPlaced first x parts
+pub is_placed : (first x : ℕ) (parts : List (Vec Figures Global)) → AreAmong first (lists_in parts) x → IsPlaced first x parts
 is_placed first x parts place =
     let count : length (lists_in parts) ≡ length parts = length-map parts (λ v. v.items) in
     record {
@@ -25,7 +25,7 @@ is_placed first x parts place =
     }
 
 -- there is something at its place
-pub place_inside : (first x : ℕ) (parts : List (Vec Figures Global)) (own : Vec Figures Global) → HasPlace first (lists_in parts) x → own ≡ get_or parts (x % length parts) own →
+pub place_inside : (first x : ℕ) (parts : List (Vec Figures Global)) (own : Vec Figures Global) → AreAmong first (lists_in parts) x → own ≡ get_or parts (x % length parts) own →
     x / length parts - first < length own.items
 place_inside first x parts own place is =
     let placed = is_placed first x parts place in
@@ -34,7 +34,7 @@ place_inside first x parts own place is =
     subst (λ (l : List Figures). x / length parts - first < length l) (own_list parts (x % length parts) own within is) placed.to
 
 -- what stands there
-pub figures_there : (first x : ℕ) (parts : List (Vec Figures Global)) (own : Vec Figures Global) (f : Figures) → HasPlace first (lists_in parts) x → own ≡ get_or parts (x % length parts) own →
+pub figures_there : (first x : ℕ) (parts : List (Vec Figures Global)) (own : Vec Figures Global) (f : Figures) → AreAmong first (lists_in parts) x → own ≡ get_or parts (x % length parts) own →
     f ≡ get_or own.items (x / length parts - first) f → f ≡ figures_at first (lists_in parts) x
 figures_there first x parts own f place is at =
     let count : length (lists_in parts) ≡ length parts = length-map parts (λ v. v.items) in

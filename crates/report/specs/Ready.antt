@@ -58,8 +58,9 @@ abbrev pub job_report : Job → List (List ℕ) → List ℕ
 job_report j labels = report_of (mixing_of j.plan) j.graph labels j.plan.limit
 
 -- a writer of these contents is given the report of each job of the network that all replicas stand for
-abbrev pub AddsReport : {W : Type 0} → (W → Option (List ℕ)) → W → W → Network → List State → Type 0
-AddsReport contents old new network replicas =
+abbrev pub AddsReportOfAll : {W : Type 0} → (W → Option (List ℕ)) → W → W → Network →
+    List State → Type 0
+AddsReportOfAll contents old new network replicas =
     (j : Job) → j.graph ≡ network.graph → AllStand j replicas →
     Appends (contents old) (contents new) (job_report j network.labels)
 

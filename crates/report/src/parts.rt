@@ -4,7 +4,7 @@ ghost use Rattle.std.specs.Prelude.{◌≡◌, ℕ, ◌≤◌, ◌<◌, ◌+◌,
 ghost use Rattle.std.specs.Prelude.{slice_index, slice_index_or, []};
 ghost use Rattle.std.specs.List.{All, flat_map, range_with_len};
 ghost use Rattle.ball_model.specs.Report.{superstep_line};
-ghost use Rattle.report.specs.Parts.{HasPlace, HasSize, figures_among, figures_at, head_text};
+ghost use Rattle.report.specs.Parts.{AreAmong, HasSize, figures_among, figures_at, head_text};
 ghost use Rattle.report.specs.Parts.{lists_in, superstep_lines, total_in, totals_in, vertices_text};
 ghost use Rattle.report.specs.Rows.{Adds, AtRow};
 
@@ -148,7 +148,7 @@ pub(crate) fn head_of(
 
 // The figures of vertex `x`, among those of each partition from place `first` on.
 fn figures_at(parts: &[Vec<Figures>], first: usize, x: u32) -> Figures
-    requires { HasPlace first (lists_in parts.now) x }
+    requires { AreAmong first (lists_in parts.now) x }
     ensures { result ≡ figures_at first (lists_in parts.now) x }
 {
     let count = parts.len();
@@ -165,7 +165,7 @@ fn put_rows(
     to: u32,
 ) -> Result<(), AllocError>
     requires row { AtRow rows.old }
-    requires places { (x : ℕ) → from ≤ x → x < to → HasPlace first (lists_in parts.now) x }
+    requires places { (x : ℕ) → from ≤ x → x < to → AreAmong first (lists_in parts.now) x }
     requires from { from ≤ to }
     requires to { to ≤ graph.now.graph.vertices }
     ensures { OnOk result (Adds rows.old rows.new
@@ -186,7 +186,7 @@ pub(crate) fn vertices(
     from: u32,
     to: u32,
 ) -> Result<Vec<u8>, AllocError>
-    requires places { (x : ℕ) → from ≤ x → x < to → HasPlace first (lists_in parts.now) x }
+    requires places { (x : ℕ) → from ≤ x → x < to → AreAmong first (lists_in parts.now) x }
     requires from { from ≤ to }
     requires to { to ≤ graph.now.graph.vertices }
     ensures { IfOk result (λ text.

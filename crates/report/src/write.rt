@@ -4,9 +4,9 @@ ghost use Rattle.std.specs.Prelude.{◌≡◌, ◌≢◌, ℕ, ◌≤◌, ◌<�
 ghost use Rattle.std.specs.List.{All};
 ghost use Rattle.std.specs.Io.KnownBytes.{Appends};
 ghost use Rattle.ball_model.specs.Streams.{PutsFront, Rises};
-ghost use Rattle.report.specs.Parts.{HasPlace, head_text, lines_between, lines_from, lines_of_all};
+ghost use Rattle.report.specs.Parts.{AreAmong, head_text, lines_between, lines_from, lines_of_all};
 ghost use Rattle.report.specs.Parts.{lists_in, totals_in};
-ghost use Rattle.report.specs.Ready.{AddsFront, AddsReport, are_ready};
+ghost use Rattle.report.specs.Ready.{AddsFront, AddsReportOfAll, are_ready};
 
 use crate::parts::{figures, head_of, vertices};
 use crate::ready::is_stable;
@@ -92,7 +92,7 @@ fn put_piece<W: CountedWrite>(
     from: u32,
     to: u32,
 ) -> Result<(), ReportError>
-    requires places { (x : ℕ) → from ≤ x → x < to → HasPlace first (lists_in parts.now) x }
+    requires places { (x : ℕ) → from ≤ x → x < to → AreAmong first (lists_in parts.now) x }
     requires from { from < to }
     requires to { to ≤ graph.now.graph.vertices }
     ensures done { OnOk result (Appends (W.contents writer.old) (W.contents writer.new)
@@ -117,7 +117,7 @@ fn put_lines<W: CountedWrite>(
     from: u32,
     to: u32,
 ) -> Result<(), ReportError>
-    requires places { (x : ℕ) → from ≤ x → x < to → HasPlace first (lists_in parts.now) x }
+    requires places { (x : ℕ) → from ≤ x → x < to → AreAmong first (lists_in parts.now) x }
     requires from { from ≤ to }
     requires to { to ≤ graph.now.graph.vertices }
     ensures done { OnOk result (Appends (W.contents writer.old) (W.contents writer.new)
@@ -210,7 +210,7 @@ pub fn write_report<T: AllocGlobal + Threads + Sync, W: CountedWrite>(
     requires ready { are_ready replicas.now ≡ true }
     requires graph { All (λ v. v.part.plan.vertices ≡ graph.now.graph.vertices) replicas.now }
     ensures ok { OnOk result (
-        AddsReport W.contents writer.old writer.new graph.now replicas.now) }
+        AddsReportOfAll W.contents writer.old writer.new graph.now replicas.now) }
     ensures front { OnErr result (
         AddsFront W.contents writer.old writer.new graph.now replicas.now) }
     ensures counted { result ≢ Err ReportError.Write →

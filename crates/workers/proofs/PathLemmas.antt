@@ -12,7 +12,7 @@ use Rattle.ball_model.specs.Batches.{BatchValue, true_batch}
 use Rattle.ball_model.specs.Content.{Content}
 use Rattle.ball_model.specs.Join.{Holding, content_in, holding_of, join_of}
 use Rattle.ball_model.specs.State.{State, StandsFor, content_of}
-use Rattle.ball_model.specs.Steps.{Call, Answer, Take, Close, Took, Closed, start_content, content_after, answers_of, content_after_all}
+use Rattle.ball_model.specs.Steps.{Call, Answer, Take, Close, Took, Closed, start_content, content_after, answers_due, content_after_all}
 use Rattle.ball_model.specs.Held.{start_holding, held_after}
 use Rattle.ball_model.specs.History.{Event, History, calls_by, holding_in}
 use Rattle.ball_model.specs.Caller.{Caller, Extends, Called, CalledNothing}
@@ -26,7 +26,7 @@ use Rattle.replica.proofs.KeptLemmas.{true_named}
 use Rattle.replica.proofs.LevelLemmas.{plan_is, number_is}
 use Rattle.replica.proofs.RunLemmas.{has_content, made}
 use Rattle.replica.proofs.SameLemmas.{content_is_one}
-use Rattle.workers.specs.Tie.{Step, Calls, Closes as ClosesUp, StartsAnew, after_call, after_step, after_steps, IsOwnName, IsOwnCall, IsOwnStep, AreOwnSteps, calls_in, HasCome, HasGone, IsPathTo, Reaches, AreOfNode, IsRun, PathsAreOfNodes, ReplicasAreOfRuns}
+use Rattle.workers.specs.Tie.{Step, Calls, Closes as ClosesUp, StartsAnew, after_call, after_step, after_steps, IsOwnName, IsOwnCall, IsOwnStep, AreOwnSteps, calls_in, HasCome, HasGone, IsPathTo, Reaches, AreOfNode, IsRunOfWorld, PathsAreOfNodes, ReplicasAreOfRuns}
 use Rattle.workers.proofs.TieLemmas.{histories_are_runs}
 use Rattle.workers.proofs.TurnLemmas.{name_of_true}
 
@@ -135,7 +135,7 @@ start_held j p v stands names =
 
 -- after a call
 held_next : (j : Job) (p : ℕ) (call : Call) (answer : Answer) (v w : State) → StandsFor j p v.superstep v → IsState v → Did j p call answer v w → holding_in w ≡ held_after j (holding_in v) call
-unfolding Made answers_of content_after_all
+unfolding Made answers_due content_after_all
 held_next j p call answer v w stands state did =
     let c : Content = content_of v in
     let h : Holding = holding_in v in
@@ -237,5 +237,5 @@ all_nodes h n p steps c own others m = elim (cases_eq m n) [
 pub replicas_are_of_runs : ReplicasAreOfRuns
 replicas_are_of_runs replicas h v w id r few below legal job none path made others =
     let own : Reaches h.job id.part (calls_by v.number h) path.steps (holding_in r) = came_in h v w id.part r below job none path made in
-    let run : IsRun replicas h = histories_are_runs replicas h (omega (arith, few)) legal (all_nodes h v.number id.part path.steps (holding_in r) own others) in
+    let run : IsRunOfWorld replicas h = histories_are_runs replicas h (omega (arith, few)) legal (all_nodes h v.number id.part path.steps (holding_in r) own others) in
     record { run = run; held = run.held v.number id path.steps (holding_in r) few own }

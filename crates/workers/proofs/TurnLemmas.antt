@@ -22,7 +22,7 @@ use Rattle.report.proofs.EndingLemmas.{is_ended}
 use Rattle.workers.specs.declared.turn.Turn.{Turn}
 use Rattle.workers.specs.declared.turn.Turn.TheVariants as turn
 use Rattle.workers.specs.Node.{HasPosted, HasToldAll, IsDone}
-use Rattle.workers.specs.Turn.{IsPartOf, IsTurn, StandsIn}
+use Rattle.workers.specs.Turn.{IsPartOf, IsNodeTurn, StandsIn}
 use Rattle.workers.proofs.SeenLemmas.{posted_by_call}
 
 -- ---- the job stays
@@ -89,10 +89,10 @@ pub is_there : {A : Type 0} (o : Option A) (a : A) (P : A → Type 0) → o ≡ 
 is_there o a P e h = subst (λ x. IfSome x P) e h
 
 -- ---- the end of a superstep, and of the run
-pub closed_turn : (v w : Caller) (p : ℕ) (old new : State) (t : Turn) → (t ≡ turn.Next) ⊎ (t ≡ turn.Over) → (t ≡ turn.Over → (new ≡ old) × EndsRun (found_verdict new)) → HasToldAll v old.superstep p w → IsTurn v p new t w
+pub closed_turn : (v w : Caller) (p : ℕ) (old new : State) (t : Turn) → (t ≡ turn.Next) ⊎ (t ≡ turn.Over) → (t ≡ turn.Over → (new ≡ old) × EndsRun (found_verdict new)) → HasToldAll v old.superstep p w → IsNodeTurn v p new t w
 closed_turn v w p old new t kind over told = ⊎_elim
-    (λ (e : t ≡ turn.Next). subst (λ (x : Turn). IsTurn v p new x w) (sym e) tt)
-    (λ (e : t ≡ turn.Over). subst (λ (x : Turn). IsTurn v p new x w) (sym e) (subst (λ (r : State). HasToldAll v r.superstep p w) (sym (over e).0) told, (over e).1))
+    (λ (e : t ≡ turn.Next). subst (λ (x : Turn). IsNodeTurn v p new x w) (sym e) tt)
+    (λ (e : t ≡ turn.Over). subst (λ (x : Turn). IsNodeTurn v p new x w) (sym e) (subst (λ (r : State). HasToldAll v r.superstep p w) (sym (over e).0) told, (over e).1))
     kind
 
 ends_says : (o : Option Verdict) → EndsRun o → says_end o ≡ true

@@ -145,7 +145,7 @@ pub record CanHold (j : Job) (w : World) (id : NodeId) (c : Holding) : Type 0 wh
 -- a run of a world with so many replicas of each partition: what was sent are the names of the history's new posts,
 -- what was copied are the contents of its new keeps, and what a caller's node holds is held by a node of the world
 -- after some further events, in which nothing more is sent or copied
-pub record IsRun (replicas : ℕ) (h : History) : Type 0 where
+pub record IsRunOfWorld (replicas : ℕ) (h : History) : Type 0 where
   pub events : List Happening
   pub sent : (run_of h.job (start_world h.job.plan replicas) events).sent ≡ sent_in h.calls
   pub copies : (run_of h.job (start_world h.job.plan replicas) events).copies ≡ copied_in h.calls
@@ -157,7 +157,7 @@ pub record IsRun (replicas : ℕ) (h : History) : Type 0 where
 -- a function of src/laws.rt
 abbrev pub HistoriesAreRuns : Type 0
 HistoriesAreRuns = (replicas : ℕ) (h : History) → 0 < replicas → IsLegal h →
-    ((n : ℕ) → AreOfNode h.job (calls_by n h)) → IsRun replicas h
+    ((n : ℕ) → AreOfNode h.job (calls_by n h)) → IsRunOfWorld replicas h
 
 -- the calls of a caller that made none before it ran a node are those of a node; and so are the first ones of them,
 -- which are what a shorter history has
@@ -169,7 +169,7 @@ PathsAreOfNodes = (v w : Caller) (p : ℕ) (made : List Event) → p < v.seen.jo
 -- there is a run of a world with the messages and the copies of the history, in which the node can hold what the
 -- replica holds
 pub record IsOfRun (replicas : ℕ) (h : History) (id : NodeId) (r : State) : Type 0 where
-  pub run : IsRun replicas h
+  pub run : IsRunOfWorld replicas h
   pub held : CanHold h.job (run_of h.job (start_world h.job.plan replicas) run.events) id
       (holding_in r)
 

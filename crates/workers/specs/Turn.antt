@@ -52,10 +52,10 @@ abbrev pub HasStarved : Caller → ℕ → ℕ → ℕ → Caller → Type 0
 HasStarved v s q p w = HasToldAll v s p w × WasWaiting v s q p w
 
 -- what a turn says of the replica, as it is then
-abbrev pub IsTurn : Caller → ℕ → State → Turn → Caller → Type 0
-IsTurn v p r turn.Next w = ⊤
-IsTurn v p r turn.Over w = HasToldAll v r.superstep p w × EndsRun (found_verdict r)
-IsTurn v p r (turn.Starved q) w = HasStarved v r.superstep q p w
+abbrev pub IsNodeTurn : Caller → ℕ → State → Turn → Caller → Type 0
+IsNodeTurn v p r turn.Next w = ⊤
+IsNodeTurn v p r turn.Over w = HasToldAll v r.superstep p w × EndsRun (found_verdict r)
+IsNodeTurn v p r (turn.Starved q) w = HasStarved v r.superstep q p w
 
 -- what a fate says of the replica, as it is then
 abbrev pub IsFate : Caller → ℕ → Option ℕ → State → Fate → Caller → Type 0

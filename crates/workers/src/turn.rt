@@ -15,7 +15,7 @@ ghost use Rattle.ball_model.specs.Job.{Job};
 ghost use Rattle.ball_model.specs.State.{StandsFor};
 ghost use Rattle.replica.specs.Level.{EndsRun, found_verdict, missing_in};
 ghost use Rattle.workers.specs.declared.turn.Turn.TheVariants as turn;
-ghost use Rattle.workers.specs.Turn.{DropsBefore, HasRecalled, IsFound, IsTurn, StandsIn};
+ghost use Rattle.workers.specs.Turn.{DropsBefore, HasRecalled, IsFound, IsNodeTurn, StandsIn};
 ghost use Rattle.replica.specs.Sent.{batch_name, changed_registers};
 ghost use Rattle.workers.specs.Tie.{HasCome, HasGone};
 
@@ -390,7 +390,7 @@ pub fn run_superstep<R: AllocGlobal + Wait, E: Exchange, G: Gate>(
     ensures seen { Extends (E.caller exchange.old) (E.caller exchange.new) }
     ensures stands { OnOk result (StandsIn (E.caller exchange.old) node.part replica.new) }
     ensures turn { IfOk result (λ turn.
-        IsTurn (E.caller exchange.old) node.part replica.new turn (E.caller exchange.new)) }
+        IsNodeTurn (E.caller exchange.old) node.part replica.new turn (E.caller exchange.new)) }
     ensures over { IfOk result (λ t. t ≡ turn.Over →
         replica.new.superstep ≡ replica.old.superstep) }
     ensures came { OnOk result (HasCome (E.caller exchange.old) node.part (holding_in replica.old)

@@ -21,7 +21,7 @@ use Rattle.ball_model.specs.Join.{Holding, merge_of}
 use Rattle.ball_model.specs.State.{State, StandsFor}
 use Rattle.ball_model.specs.Held.{IsName}
 use Rattle.ball_model.specs.World.{Node, World, node_at, node_of, with_node, outcome_of, outcome_unless, outcome_at, deliver_at, recover_at, recover_when, name_to, sent_answer, answer_in, world_in}
-use Rattle.ball_model.specs.WorldLaws.{IsNode, IsWorld}
+use Rattle.ball_model.specs.WorldLaws.{IsWorldNode, IsWorld}
 use Rattle.ball_model.proofs.WorldLemmas.{node_same, node_back, stays_world}
 use Rattle.batches.specs.declared.error.BatchError.{BatchError}
 use Rattle.batches.specs.declared.error.BatchError.TheVariants as unread
@@ -161,8 +161,8 @@ pub record TurnOf (j : Job) (e : Event) (w : World) (a : Answer) (s t : SeenNode
   pub outcome : (n : Node) → node_at w (node_of e) ≡ Some n → outcome_of j w e ≡ Ok ((turn n).answer, with_node w (node_of e) (turn n).node)
 
 -- a node of a world of the job is one of its partition
-fits_at : (j : Job) (w : World) (id : NodeId) (n : Node) → IsWorld j w → node_at w id ≡ Some n → IsNode j id.part n
-fits_at j w id n ok at = subst (λ (o : Option Node). IfSome o (IsNode j id.part)) at (ok.nodes id)
+fits_at : (j : Job) (w : World) (id : NodeId) (n : Node) → IsWorld j w → node_at w id ≡ Some n → IsWorldNode j id.part n
+fits_at j w id n ok at = subst (λ (o : Option Node). IfSome o (IsWorldNode j id.part)) at (ok.nodes id)
 
 turned_shows : (j : Job) (e : Event) (a : Answer) (w : World) (v : SeenWorld) (s t : SeenNode) → seen_at v (node_of e) ≡ Some s → Shows j w v → TurnOf j e w a s t →
     (Ok a ≡ answer_in (outcome_of j w e)) × Shows j (world_in w (outcome_of j w e)) (with_seen v (node_of e) t)
@@ -174,7 +174,7 @@ turned_shows j e a w v s t at shows o =
     let both = o.turns.turned id.part n.one (fits_at j w id n.one shows.world n.is) n.agrees in
     let after : world_in w (outcome_of j w e) ≡ with_node w id m = ap (world_in w) is in
     let next : IsWorld j (with_node w id m) = subst (λ (x : World). IsWorld j x) after (stays_world j w e shows.world) in
-    let fits : IsNode j id.part m = fits_at j (with_node w id m) id m next (node_same w id n.one m n.is) in (
+    let fits : IsWorldNode j id.part m = fits_at j (with_node w id m) id m next (node_same w id n.one m n.is) in (
       ap Ok both.0 ∙ sym (ap answer_in is),
       subst (λ (x : World). Shows j x (with_seen v id t)) (sym after) (shows_changed j w v id n.one m s t shows n.is at fits both.1),
     )

@@ -5,7 +5,7 @@ use Rattle.ball_model.specs.Job.{Job}
 use Rattle.ball_model.specs.Content.{Content}
 use Rattle.ball_model.specs.Join.{Holding, content_in, holding_of}
 use Rattle.ball_model.specs.State.{State, content_of}
-use Rattle.ball_model.specs.Steps.{Call, Answer, answer_of, answers_of, content_after, content_after_all}
+use Rattle.ball_model.specs.Steps.{Call, Answer, answer_due, answers_due, content_after, content_after_all}
 use Rattle.ball_model.specs.Held.{IsHeldBy, held_after}
 use Rattle.ball_model.proofs.JoinLemmas.{content_back}
 use Rattle.replica.specs.Seen.{IsState}
@@ -36,12 +36,12 @@ holding_here j p c v k state = record {
 
 -- a call of a replica that has a holding: its answer, and the holding after it
 pub stepped : (j : Job) (p : ℕ) (h : Holding) (call : Call) (answer : Answer) (v w : State) → IsHeldBy j p h → Has j h v → Did j h.partition call answer v w → IsState w →
-    (answer ≡ answer_of j h.partition (content_in h) call) × Has j (held_after j h call) w
-unfolding Made answers_of content_after_all
+    (answer ≡ answer_due j h.partition (content_in h) call) × Has j (held_after j h call) w
+unfolding Made answers_due content_after_all
 stepped j p h call answer v w held k did state =
     let run = made j h.partition (call ∷ []) (answer ∷ []) (content_in h) v w (content_here j h v k) (w, did, refl) in
     let after = content_after j h.partition (content_in h) call in (
-      one_answer answer (answer_of j h.partition (content_in h) call) run.0,
+      one_answer answer (answer_due j h.partition (content_in h) call) run.0,
       subst (λ (plan : PlanValue). Has j (holding_of plan h.partition after) w) (sym held.plan) (holding_here j h.partition after w run.1 state),
     )
   where

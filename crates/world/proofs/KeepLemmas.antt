@@ -12,13 +12,13 @@ use Rattle.ball_model.specs.Figures.{TallyValue}
 use Rattle.ball_model.specs.PlanValue.{mixing_of}
 use Rattle.ball_model.specs.State.{State, own_vertices, tallies_of}
 use Rattle.ball_model.specs.World.{Node, start_node}
-use Rattle.ball_model.specs.WorldLaws.{IsNode}
+use Rattle.ball_model.specs.WorldLaws.{IsWorldNode}
 use Rattle.ball_model.specs.Supersteps.{tally_at}
 use Rattle.ball_model.proofs.EndLemmas.{end_within}
 use Rattle.ball_model.proofs.TallyLemmas.{tallies_fit}
 use Rattle.replica.specs.Saved.{IsFigures, IsKeepable}
 use Rattle.replica.proofs.OwnLemmas.{all_own}
-use Rattle.world.specs.Shows.{ShowsNode, Agree, Has, IsKept}
+use Rattle.world.specs.Shows.{ShowsNode, Agree, Has, KeepsContent}
 use Rattle.world.specs.Turns.{Turns, kept_turn, restarted_turn}
 use Rattle.world.proofs.NodeLemmas.{node}
 
@@ -47,7 +47,7 @@ keepable j h v k =
 -- ---- what is kept
 -- the content that was kept, from its bytes
 
-back : (j : Job) (p : ℕ) (n : Node) (v w : State) (bytes : List ℕ) (o : Option Holding) → n.kept ≡ o → IsNode j p n → ShowsNode j n (node v (Some bytes)) → Agree (IsKept j) o (Some bytes) → IfSome o (IsHeldBy j p) →
+back : (j : Job) (p : ℕ) (n : Node) (v w : State) (bytes : List ℕ) (o : Option Holding) → n.kept ≡ o → IsWorldNode j p n → ShowsNode j n (node v (Some bytes)) → Agree (KeepsContent j) o (Some bytes) → IfSome o (IsHeldBy j p) →
     ((u : State) → IsKeepable u → u.part ≡ v.part → bytes ≡ checkpoint_bytes u → w ≡ u) → (answer.Restarted w.superstep ≡ (restarted_turn j n).answer) × ShowsNode j (restarted_turn j n).node (node w (Some bytes))
 back j p n v w bytes None at fits shows agree held read = absurd agree
 back j p n v w bytes (Some h) at fits shows agree held read =
@@ -72,7 +72,7 @@ pub if_back : {E : Type 0} (r : Result State E) (j : Job) (v : State) (bytes : L
 if_back (Ok w) j v bytes read = restart_turns j v w bytes read
 if_back (Err e) j v bytes read = tt
 
-anew : (j : Job) (p : ℕ) (n : Node) (v w : State) (o : Option Holding) → n.kept ≡ o → IsNode j p n → ShowsNode j n (node v None) → Agree (IsKept j) o None → Has j (start_holding j.plan n.content.partition) w →
+anew : (j : Job) (p : ℕ) (n : Node) (v w : State) (o : Option Holding) → n.kept ≡ o → IsWorldNode j p n → ShowsNode j n (node v None) → Agree (KeepsContent j) o None → Has j (start_holding j.plan n.content.partition) w →
     (answer.Restarted w.superstep ≡ (restarted_turn j n).answer) × ShowsNode j (restarted_turn j n).node (node w None)
 anew j p n v w (Some h) at fits shows agree has = absurd agree
 anew j p n v w None at fits shows agree has =

@@ -1,11 +1,11 @@
 -- The node of a world at its place: in which row, and where in it.
 use Rattle.std.proofs.Common.{◌≡◌, ℕ, ◌<◌, ◌≤◌, true, false, List, [], length, get_or, set, map, slice_index_or, Vec, Global, refl, ap, sym, ◌∙◌, subst, inl, inr, arith}
-use Rattle.std.specs.Prelude.{Option, None, Some, option_map, unwrap_or}
+use Rattle.std.specs.Prelude.{Option, None, Some, option_map}
 use Rattle.std.specs.List.{slice_get}
 use Rattle.std.specs.Vec.{vec_len, with_item}
 use Rattle.std.proofs.lemmas.Bool.{cases_lt}
 use Rattle.std.proofs.lemmas.List.{map-set, set-get_or}
-use Rattle.std.proofs.lemmas.Option.{slice_get-map, slice_get_past, slice_get_read, unwrap_or-slice_get, get_or_from_slice_get}
+use Rattle.std.proofs.lemmas.Option.{slice_get-map, slice_get_past, slice_get_read, get_or_from_slice_get}
 use Rattle.ball_model.specs.declared.names.NodeId.{NodeId}
 use Rattle.ball_model.proofs.WorldLemmas.{changed_back}
 use Rattle.world.specs.Shows.{SeenNode, SeenWorld, seen_at}
@@ -35,9 +35,6 @@ pub record At (rows : List Row) (id : NodeId) (p k : ℕ) (row : Row) (s : SeenN
   pub replica : k ≡ id.replica
   pub row_is : slice_get rows p ≡ Some row
   pub node_is : slice_get row.items k ≡ Some s
-
-row_gone : (rows : List Row) (p : ℕ) → slice_get rows p ≡ None → get_or (map (λ (row : Row). row.items) rows) p [] ≡ []
-row_gone rows p e = sym (unwrap_or-slice_get (map (λ (row : Row). row.items) rows) p []) ∙ ap (λ o. unwrap_or o []) (slice_get-map (λ (row : Row). row.items) rows p ∙ ap (option_map (λ (row : Row). row.items)) e)
 
 row_there : (rows : List Row) (p : ℕ) (row : Row) → slice_get rows p ≡ Some row → get_or (map (λ (r : Row). r.items) rows) p [] ≡ row.items
 row_there rows p row e = get_or_from_slice_get (map (λ (r : Row). r.items) rows) p row.items [] (slice_get-map (λ (r : Row). r.items) rows p ∙ ap (option_map (λ (r : Row). r.items)) e)

@@ -5,10 +5,10 @@ use Rattle.ball_model.specs.declared.world.Event.{Event}
 use Rattle.ball_model.specs.Job.{Job}
 use Rattle.ball_model.specs.RunText.{ArePlain, plan_over}
 use Rattle.ball_model.specs.World.{World, start_world}
-use Rattle.ball_model.specs.WorldText.{AppendsReplay, HasCommands, IsReplay, ReplaySettings, events_text, job_over}
+use Rattle.ball_model.specs.WorldText.{AppendsReplay, HasCommands, IsReplayText, ReplaySettings, events_text, job_over}
 use Rattle.world.specs.declared.tell.TellError.{TellError}
 use Rattle.world.specs.declared.tell.TellError.TheVariants as untold
-use Rattle.world.specs.Replay.{BeginsReplay, Fails, IsReady, StartsFrom, told_tell}
+use Rattle.world.specs.Replay.{BeginsReplay, FailsOfReplay, IsReady, StartsFrom, told_tell}
 use Rattle.world.specs.Shows.{SeenWorld, Shows}
 use Rattle.world.specs.Tell.{Stopped, Told}
 
@@ -19,7 +19,7 @@ text_from s edges list events world starts =
 
 -- and it is that of the replay
 pub replay-is : (s : ReplaySettings) (edges : List ℕ) (list : Option (List ℕ)) (script : List ℕ) (events : List Event) (world : SeenWorld) → IsReady s edges list script events world →
-    (starts : StartsFrom s edges list world) → IsReplay s edges list script (text_from s edges list events world starts)
+    (starts : StartsFrom s edges list world) → IsReplayText s edges list script (text_from s edges list events world starts)
 replay-is s edges list script events world ready starts = record {
   replicas = ready.commands.replicas;
   events = events;
@@ -60,7 +60,7 @@ told-begins contents failed a b s edges list script events world f ready told pl
 
 pub told-fails : {W : Type 0} (contents : W → Option (List ℕ)) (failed : W → ℕ) (a b : W) (s : ReplaySettings) (edges : List ℕ) (list : Option (List ℕ)) (script : List ℕ) (events : List Event) (world : SeenWorld) (f : TellError) →
     IsReady s edges list script events world → ((j : Job) (w : World) → Shows j w world → Stopped contents failed a b (events_text j w events) f) →
-    Fails s edges list script (contents a) (contents b) (failed a) (failed b) (told_tell f)
+    FailsOfReplay s edges list script (contents a) (contents b) (failed a) (failed b) (told_tell f)
 told-fails contents failed a b s edges list script events world untold.Memory ready told = record {
   before = ready.commands.replicas;
   refused = λ plain. ready.commands.replicas;

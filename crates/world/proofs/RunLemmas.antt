@@ -19,7 +19,7 @@ use Rattle.ball_model.specs.Job.{Job}
 use Rattle.ball_model.specs.Join.{Holding, content_in}
 use Rattle.ball_model.specs.State.{State, StandsFor}
 use Rattle.ball_model.specs.World.{World, Node, start_world, node_at, answer_of, answers_of, after_event, run_of}
-use Rattle.ball_model.specs.WorldLaws.{IsNode, SparesKept}
+use Rattle.ball_model.specs.WorldLaws.{IsWorldNode, SparesKept}
 use Rattle.ball_model.proofs.WorldLemmas.{restart_gives_kept}
 use Rattle.ball_model.proofs.PathLemmas.{in_ball-found, in_ball-finds}
 use Rattle.ball_model.proofs.CounterLemmas.{counter_of-same}
@@ -69,9 +69,9 @@ run_answers j w es rs v u shows m = (run_both j w es rs v u shows m).1
 record IsShown (j : Job) (id : NodeId) (s : SeenNode) : Type 0 where
   node : Node
   shows : ShowsNode j node s
-  fits : IsNode j id.part node
+  fits : IsWorldNode j id.part node
 
-shown_by : (j : Job) (id : NodeId) (s : SeenNode) (o : Option Node) (p : Option SeenNode) → p ≡ Some s → Agree (ShowsNode j) o p → IfSome o (IsNode j id.part) → IsShown j id s
+shown_by : (j : Job) (id : NodeId) (s : SeenNode) (o : Option Node) (p : Option SeenNode) → p ≡ Some s → Agree (ShowsNode j) o p → IfSome o (IsWorldNode j id.part) → IsShown j id s
 shown_by j id s (Some n) p at agree fits = record { node = n; shows = subst (λ (q : Option SeenNode). Agree (ShowsNode j) (Some n) q) at agree; fits = fits }
 shown_by j id s None p at agree fits = absurd (subst (λ (q : Option SeenNode). Agree (ShowsNode j) None q) at agree)
 

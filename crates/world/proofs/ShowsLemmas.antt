@@ -6,7 +6,7 @@ use Rattle.std.proofs.lemmas.Bool.{cases_eq}
 use Rattle.ball_model.specs.declared.names.NodeId.{NodeId}
 use Rattle.ball_model.specs.Job.{Job}
 use Rattle.ball_model.specs.World.{World, Node, node_at, with_node}
-use Rattle.ball_model.specs.WorldLaws.{IsNode}
+use Rattle.ball_model.specs.WorldLaws.{IsWorldNode}
 use Rattle.ball_model.proofs.WorldLemmas.{changed, changed_same, changed_row, changed_other, same_or_other, id_same, node_same, node_other, with_node_world}
 use Rattle.world.specs.Shows.{SeenNode, SeenWorld, seen_at, Agree, ShowsNode, Shows}
 
@@ -29,7 +29,7 @@ agree_as : {A B : Type 0} (R : A → B → Type 0) (a c : Option A) (b d : Optio
 agree_as R a c b d first second h = subst (λ x. Agree R x b) (sym first) (subst (λ y. Agree R c y) (sym second) h)
 
 -- both worlds have another node in one place, and the one shows the other
-pub shows_changed : (j : Job) (w : World) (v : SeenWorld) (id : NodeId) (n m : Node) (s t : SeenNode) → Shows j w v → node_at w id ≡ Some n → seen_at v id ≡ Some s → IsNode j id.part m → ShowsNode j m t →
+pub shows_changed : (j : Job) (w : World) (v : SeenWorld) (id : NodeId) (n m : Node) (s t : SeenNode) → Shows j w v → node_at w id ≡ Some n → seen_at v id ≡ Some s → IsWorldNode j id.part m → ShowsNode j m t →
     Shows j (with_node w id m) (with_seen v id t)
 shows_changed j w v id n m s t shows here there fits agree = record {
   job = shows.job;

@@ -11,7 +11,7 @@ use Rattle.ball_model.specs.Job.{Job, IsJob}
 use Rattle.ball_model.specs.State.{State}
 use Rattle.ball_model.specs.World.{Node, node_at, start_node, start_world}
 use Rattle.ball_model.proofs.WorldLemmas.{one_more, start_is_world}
-use Rattle.world.specs.Shows.{SeenMessage, SeenNode, Agree, ShowsNode, Shows, AreStart, AreStarts}
+use Rattle.world.specs.Shows.{SeenMessage, SeenNode, Agree, ShowsNode, Shows, AreStart, AreFirstNodes}
 
 pub node_more : (j : Job) (p n : ℕ) (nodes : List SeenNode) (s : SeenNode) → AreStart j p n nodes → ShowsNode j (start_node j.plan p) s → AreStart j p (n + 1) (nodes ++ s ∷ [])
 node_more j p n nodes s before shows = record {
@@ -19,7 +19,7 @@ node_more j p n nodes s before shows = record {
   each = one_more (ShowsNode j (start_node j.plan p)) nodes s before.each shows;
 }
 
-pub no_rows : (j : Job) (replicas : ℕ) → AreStarts j 0 replicas []
+pub no_rows : (j : Job) (replicas : ℕ) → AreFirstNodes j 0 replicas []
 no_rows j replicas = record { count = refl; each = λ p. tt }
 
 -- each further row is of the partition of its number
@@ -35,7 +35,7 @@ row_at_end j replicas a (r ∷ rows) row h new (suc p) =
     (λ k. let on : a + suc k ≡ (a + 1) + k = omega arith in subst (λ (q : ℕ). IfSome (slice_get rows k) (AreStart j q replicas)) on (h (suc k)))
     (subst (λ (q : ℕ). AreStart j q replicas row) last new) p)
 
-pub row_more : (j : Job) (n replicas : ℕ) (rows : List (List SeenNode)) (row : List SeenNode) → AreStarts j n replicas rows → AreStart j n replicas row → AreStarts j (n + 1) replicas (rows ++ row ∷ [])
+pub row_more : (j : Job) (n replicas : ℕ) (rows : List (List SeenNode)) (row : List SeenNode) → AreFirstNodes j n replicas rows → AreStart j n replicas row → AreFirstNodes j (n + 1) replicas (rows ++ row ∷ [])
 row_more j n replicas rows row before new = record {
   count = length-append rows (row ∷ []) ∙ ap (λ m. m + 1) before.count;
   each = λ p.
@@ -90,7 +90,7 @@ no_row_of j replicas p past =
     let long : length (rows_of j replicas) ≡ j.plan.parts = length-map (range_with_len 0 j.plan.parts) (λ q. replicate replicas (start_node j.plan q)) ∙ length-range_with_len 0 j.plan.parts in
     sym (unwrap_or-slice_get (rows_of j replicas) p []) ∙ ap (λ o. unwrap_or o []) (slice_get_past (rows_of j replicas) p (omega (arith, long, past)))
 
-start_agrees : (j : Job) (replicas : ℕ) (rows : List (List SeenNode)) (id : NodeId) → AreStarts j j.plan.parts replicas rows →
+start_agrees : (j : Job) (replicas : ℕ) (rows : List (List SeenNode)) (id : NodeId) → AreFirstNodes j j.plan.parts replicas rows →
     Agree (ShowsNode j) (slice_get (get_or (rows_of j replicas) id.part []) id.replica) (slice_get (get_or rows id.part []) id.replica)
 start_agrees j replicas rows id are = elim (cases_lt id.part j.plan.parts) [
   | inl inside ↦
@@ -106,7 +106,7 @@ start_agrees j replicas rows id are = elim (cases_lt id.part j.plan.parts) [
       (ap (λ (l : List Node). slice_get l id.replica) (no_row_of j replicas id.part (omega arith))) (ap (λ (l : List SeenNode). slice_get l id.replica) gone) tt
 ]
 
-pub start_shown : (j : Job) (replicas : ℕ) (rows : List (List SeenNode)) → IsJob j → AreStarts j j.plan.parts replicas rows →
+pub start_shown : (j : Job) (replicas : ℕ) (rows : List (List SeenNode)) → IsJob j → AreFirstNodes j j.plan.parts replicas rows →
     Shows j (start_world j.plan replicas) (record { plan = j.plan; nodes = rows; messages = []; copies = [] })
 unfolding start_world node_at
 start_shown j replicas rows job are = record {
@@ -120,7 +120,7 @@ start_shown j replicas rows job are = record {
 }
 
 -- with nothing sent and nothing copied
-pub start_with : (j : Job) (replicas : ℕ) (rows : List (List SeenNode)) (messages : List SeenMessage) (copies : List State) → messages ≡ [] → copies ≡ [] → IsJob j → AreStarts j j.plan.parts replicas rows →
+pub start_with : (j : Job) (replicas : ℕ) (rows : List (List SeenNode)) (messages : List SeenMessage) (copies : List State) → messages ≡ [] → copies ≡ [] → IsJob j → AreFirstNodes j j.plan.parts replicas rows →
     Shows j (start_world j.plan replicas) (record { plan = j.plan; nodes = rows; messages = messages; copies = copies })
 start_with j replicas rows messages copies none nil job are =
     subst (λ (cs : List State). Shows j (start_world j.plan replicas) (record { plan = j.plan; nodes = rows; messages = messages; copies = cs })) (sym nil)

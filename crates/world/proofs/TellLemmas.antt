@@ -38,10 +38,6 @@ use Rattle.world.specs.Runs.{is_want}
 use Rattle.world.specs.Shows.{Shows}
 use Rattle.world.specs.Tell.{BeginsText, Stopped, Told, Tells, is_shown}
 
--- nothing
-pub begins-none : (a : Option (List ℕ)) (text : List ℕ) → BeginsText a a text
-begins-none a text = record { front = []; rest = text; split = refl; appended = Appends-nil a }
-
 -- a beginning of a text is one of a longer text
 pub begins-more : (a b : Option (List ℕ)) (text more : List ℕ) → BeginsText a b text → BeginsText a b (text ++ more)
 begins-more a b text more part = record {

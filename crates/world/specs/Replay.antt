@@ -11,7 +11,7 @@ use Rattle.ball_model.specs.RunText.{ArePlain, AreRead, HasPlan, Numbers, Settin
 use Rattle.ball_model.specs.RunText.{counted_in, list_in, network_in, plan_over}
 use Rattle.ball_model.specs.Streams.{Rises}
 use Rattle.ball_model.specs.World.{World, start_world}
-use Rattle.ball_model.specs.WorldText.{AreReplicas, HasCommands, IsReplay, IsReplayPlanFault}
+use Rattle.ball_model.specs.WorldText.{AreReplicas, HasCommands, IsReplayText, IsReplayPlanFault}
 use Rattle.ball_model.specs.WorldText.{IsScriptFault, ReplaySettings, job_over, script_of}
 use Rattle.edgelist.specs.Planning.{is_corrected, numbers_with}
 use Rattle.edgelist.specs.Reading.{Refuses, byte_of}
@@ -80,14 +80,14 @@ IsOfInput fault.Memory = ⊤
 IsOfInput fault.Write = ⊥
 
 -- what a refusal says of the options and the script, the first of the checks
-abbrev pub RefusesScript : ReplaySettings → List ℕ → ReplayError → Type 0
-RefusesScript s script fault.Options = AreReplicas s.replicas → ⊥
-RefusesScript s script (fault.Script n) = IsScriptFault s script n
-RefusesScript s script (fault.Edges e) = ⊥
-RefusesScript s script (fault.Counted e) = ⊥
-RefusesScript s script (fault.Plan e) = ⊥
-RefusesScript s script fault.Memory = AreReplicas s.replicas
-RefusesScript s script fault.Write = ⊥
+abbrev pub RefusesCommands : ReplaySettings → List ℕ → ReplayError → Type 0
+RefusesCommands s script fault.Options = AreReplicas s.replicas → ⊥
+RefusesCommands s script (fault.Script n) = IsScriptFault s script n
+RefusesCommands s script (fault.Edges e) = ⊥
+RefusesCommands s script (fault.Counted e) = ⊥
+RefusesCommands s script (fault.Plan e) = ⊥
+RefusesCommands s script fault.Memory = AreReplicas s.replicas
+RefusesCommands s script fault.Write = ⊥
 
 -- the edge list says a network, and this error is what the list of counted vertices says of it
 pub record IsListRefusal
@@ -132,7 +132,8 @@ IsReplayRefusal s edges list script (fault.Counted e) =
     HasCommands s script × IsListRefusal s.run edges list e
 IsReplayRefusal s edges list script (fault.Plan e) = IsReplayPlanFault s edges list script e
 IsReplayRefusal s edges list script fault.Memory = AreReplicas s.replicas
-IsReplayRefusal s edges list script fault.Write = (text : List ℕ) × IsReplay s edges list script text
+IsReplayRefusal s edges list script fault.Write =
+    (text : List ℕ) × IsReplayText s edges list script text
 
 -- what it says of the options and the script alone, whatever the edge list is
 abbrev pub RefusesBefore : ReplaySettings → List ℕ → ReplayError → Type 0
@@ -148,7 +149,7 @@ RefusesBefore s script fault.Write = HasCommands s script
 pub record BeginsReplay (s : ReplaySettings) (edges : List ℕ) (list : Option (List ℕ))
     (script : List ℕ) (old new : Option (List ℕ)) : Type 0 where
   pub text : List ℕ
-  pub replay : IsReplay s edges list script text
+  pub replay : IsReplayText s edges list script text
   pub begun : BeginsText old new text
 
 -- it is the start of some world
@@ -182,8 +183,9 @@ pub record IsEarly (s : ReplaySettings) (edges : List ℕ) (list : Option (List 
 -- what a replay that failed says of the input, and what it leaves: nothing was written, but for want of memory and
 -- for a failed write, after which a beginning of the answers stands; the edge list is never unread; and a write failed
 -- where that is said, and only there
-pub record Fails (s : ReplaySettings) (edges : List ℕ) (list : Option (List ℕ)) (script : List ℕ)
-    (old new : Option (List ℕ)) (failed_old failed_new : ℕ) (e : ReplayError) : Type 0 where
+pub record FailsOfReplay (s : ReplaySettings) (edges : List ℕ) (list : Option (List ℕ))
+    (script : List ℕ) (old new : Option (List ℕ)) (failed_old failed_new : ℕ) (e : ReplayError) :
+    Type 0 where
   pub before : RefusesBefore s script e
   pub refused : ArePlain edges list → IsReplayRefusal s edges list script e
   pub no_read : e ≢ fault.Edges edge_fault.Read

@@ -57,7 +57,7 @@ pub record Has (j : Job) (h : Holding) (v : State) : Type 0 where
   pub state : IsState v
 
 -- the bytes are the checkpoint of a replica that has that content
-pub record IsKept (j : Job) (h : Holding) (bytes : List ℕ) : Type 0 where
+pub record KeepsContent (j : Job) (h : Holding) (bytes : List ℕ) : Type 0 where
   pub replica : State
   pub has : Has j h replica
   pub bytes_are : bytes ≡ checkpoint_bytes replica
@@ -77,7 +77,7 @@ pub record IsOfPart (part : PartValue) (replica : State)
 
 pub record ShowsNode (j : Job) (n : Node) (s : SeenNode) : Type 0 where
   pub content : Has j n.content s.replica
-  pub kept : Agree (IsKept j) n.kept s.kept
+  pub kept : Agree (KeepsContent j) n.kept s.kept
 
 -- it shows that world of the job: each node and each copy stands for its content, each checkpoint is that of what was
 -- kept, and each message is the spelling of the true batch of its name
@@ -96,6 +96,6 @@ pub record AreStart (j : Job) (p replicas : ℕ) (nodes : List SeenNode) : Type 
   pub each : (k : ℕ) → IfSome (slice_get nodes k) (ShowsNode j (start_node j.plan p))
 
 -- for each of the first n partitions
-pub record AreStarts (j : Job) (n replicas : ℕ) (rows : List (List SeenNode)) : Type 0 where
+pub record AreFirstNodes (j : Job) (n replicas : ℕ) (rows : List (List SeenNode)) : Type 0 where
   pub count : length rows ≡ n
   pub each : (p : ℕ) → IfSome (slice_get rows p) (AreStart j p replicas)

@@ -9,7 +9,7 @@ use Rattle.ball_model.specs.Join.{Holding, join_of, merge_of}
 use Rattle.ball_model.specs.Steps.{Take, Close}
 use Rattle.ball_model.specs.Held.{start_holding, held_take_answer, held_close_answer, held_after}
 use Rattle.ball_model.specs.World.{Node, taken_answer, closed_answer}
-use Rattle.ball_model.specs.WorldLaws.{IsNode}
+use Rattle.ball_model.specs.WorldLaws.{IsWorldNode}
 use Rattle.world.specs.Shows.{SeenNode, ShowsNode}
 
 -- an answer, and the node after it
@@ -59,5 +59,5 @@ merged_turn c n =
 -- a node became another with that answer, as each node that it shows does
 pub record Turns (j : Job) (turn : Node → Turn) (a : Answer)
     (s t : SeenNode) : Type 0 where
-  pub turned : (p : ℕ) (n : Node) → IsNode j p n → ShowsNode j n s →
+  pub turned : (p : ℕ) (n : Node) → IsWorldNode j p n → ShowsNode j n s →
       (a ≡ (turn n).answer) × ShowsNode j (turn n).node t

@@ -8,9 +8,9 @@ ghost use Rattle.ball_model.specs.RunText.{ArePlain, AreRead, list_in, plan_over
 ghost use Rattle.ball_model.specs.WorldText.{AppendsReplay, HasCommands};
 ghost use Rattle.edgelist.specs.Counting.{RefusesList};
 ghost use Rattle.edgelist.specs.Reading.{Refuses};
-ghost use Rattle.world.specs.Replay.{AreCommands, Fails, IsEarly, IsOfInput, IsReady, IsStarted};
-ghost use Rattle.world.specs.Replay.{RefusesNetwork, RefusesScript, RefusesStart, counted_by};
-ghost use Rattle.world.specs.Replay.{network_by, numbers_in, replay_of, settings_of};
+ghost use Rattle.world.specs.Replay.{AreCommands, FailsOfReplay, IsEarly, IsOfInput, IsReady};
+ghost use Rattle.world.specs.Replay.{IsStarted, RefusesNetwork, RefusesCommands, RefusesStart};
+ghost use Rattle.world.specs.Replay.{counted_by, network_by, numbers_in, replay_of, settings_of};
 
 use crate::World;
 use crate::bytes::Bytes;
@@ -152,7 +152,7 @@ fn read_events(
     options: &ReplayOptions,
 ) -> Result<Vec<Event>, ReplayError>
     ensures ok { IfOk result (λ events. AreCommands (replay_of options.now) script.now events.items) }
-    ensures refused { IfErr result (RefusesScript (replay_of options.now) script.now) }
+    ensures refused { IfErr result (RefusesCommands (replay_of options.now) script.now) }
 {
     if options.replicas < 1 || MOST_REPLICAS < options.replicas {
         return Err(ReplayError::Options);
@@ -293,8 +293,8 @@ pub fn replay<W: CountedWrite>(
         script.now (W.contents writer.old) (W.contents writer.new)) }
     ensures commands { OnOk result (HasCommands (replay_of options.now) script.now) }
     ensures counted { OnOk result (W.failed_calls writer.new ≡ W.failed_calls writer.old) }
-    ensures failed { IfErr result (Fails (replay_of options.now) edges.now (list_in counted.entry)
-        script.now (W.contents writer.old) (W.contents writer.new)
+    ensures failed { IfErr result (FailsOfReplay (replay_of options.now) edges.now
+        (list_in counted.entry) script.now (W.contents writer.old) (W.contents writer.new)
         (W.failed_calls writer.old) (W.failed_calls writer.new)) }
 {
     replay_watched(
@@ -319,8 +319,8 @@ pub fn replay_watched<W: CountedWrite, V: Watch>(
         script.now (W.contents writer.old) (W.contents writer.new)) }
     ensures commands { OnOk result (HasCommands (replay_of options.now) script.now) }
     ensures counted { OnOk result (W.failed_calls writer.new ≡ W.failed_calls writer.old) }
-    ensures failed { IfErr result (Fails (replay_of options.now) edges.now (list_in counted.entry)
-        script.now (W.contents writer.old) (W.contents writer.new)
+    ensures failed { IfErr result (FailsOfReplay (replay_of options.now) edges.now
+        (list_in counted.entry) script.now (W.contents writer.old) (W.contents writer.new)
         (W.failed_calls writer.old) (W.failed_calls writer.new)) }
 {
     let (events, mut world) = prepare(alloc, state, edges, counted, script, options, watch)?;

@@ -2,7 +2,7 @@
 
 ghost use Rattle.std.specs.Prelude.{◌<◌, IfOk, map};
 ghost use Rattle.ball_model.specs.Job.{IsJob, job_of};
-ghost use Rattle.world.specs.Shows.{AreStart, AreStarts};
+ghost use Rattle.world.specs.Shows.{AreStart, AreFirstNodes};
 
 use crate::node::Node;
 use ball_model::Plan;
@@ -42,7 +42,7 @@ pub fn start_all(
     replicas: u8,
 ) -> Result<Vec<Vec<Node>>, AllocError>
     requires { IsJob (job_of graph.now.graph plan.now) }
-    ensures { IfOk result (λ rows. AreStarts (job_of graph.now.graph plan.now) plan.now.parts
+    ensures { IfOk result (λ rows. AreFirstNodes (job_of graph.now.graph plan.now) plan.now.parts
         replicas (map (λ row. row.items) rows.items)) }
 {
     let mut rows = Vec::with_capacity(alloc, usize::from(plan.parts()))?;

@@ -21,9 +21,18 @@ enum Step {
     Drop(u32),
 }
 
-/// Calls one after the other.
-static STEPS: [Step; 10] = [
+/// Posts of the first batch: one to four of them come before the other calls.
+static POSTS: [Step; 4] = [
     Step::Post(Posted::New),
+    Step::Post(Posted::Known),
+    Step::Post(Posted::Known),
+    Step::Post(Posted::Known),
+];
+
+/// Calls one after the other. The sheet that they are noted on asks for memory at its entries 0, 4 and 8. Entry 0 is the
+/// post that is New. Behind one post entry 4 is the keep that is Behind; behind two, entries 4 and 8 are the keep that is
+/// New and the post that is Old; behind three the fetch and the drop; behind four the post that is Known and the recall.
+static STEPS: [Step; 9] = [
     Step::Post(Posted::Known),
     Step::Fetch(true),
     Step::Keep(Kept::New),
@@ -98,7 +107,7 @@ fn is_answered_again<R: Wait>(
     after == before && second == Ok(true)
 }
 
-/// Whether all steps are answered so.
+/// Whether all of these steps are answered so.
 fn are_answered<R: Wait>(
     rt: &R,
     board: &Board,
@@ -107,22 +116,24 @@ fn are_answered<R: Wait>(
     plan: &Plan,
     batch: &Arc<Batch>,
     snapshot: &Arc<Snapshot>,
+    steps: &[Step],
 ) -> bool
     requires board { IsAt board.now seat.old }
     requires job { seat.old.caller.seen.job ≡ job_of graph.now.graph plan.now }
     requires batch { IsTrueBatch (job_of graph.now.graph plan.now) (arc_value batch.now) }
     requires snapshot { Stands (job_of graph.now.graph plan.now) (arc_value snapshot.now) }
     ensures board { IsAt board.now seat.new }
+    ensures job { seat.new.caller.seen.job ≡ job_of graph.now.graph plan.now }
 {
     let mut all = true;
-    for step in &STEPS {
+    for step in steps {
         all &= is_answered_again(rt, board, seat, graph, plan, batch, snapshot, *step);
     }
     all
 }
 
-/// Whether a seat that is split off is answered so whatever memory is refused, and the first one knows once it is joined.
-/// Of ten calls two find nothing.
+/// Whether a seat that is split off is answered so behind so many posts, whatever memory is refused, and the first one
+/// knows once it is joined. Of nine calls two find nothing.
 pub(super) fn goes_on_after_refusals<R: Wait>(
     rt: &R,
     board: &Board,
@@ -130,6 +141,7 @@ pub(super) fn goes_on_after_refusals<R: Wait>(
     graph: &Graph,
     plan: &Plan,
     stock: &Stock,
+    posts: u8,
 ) -> Option<bool>
     requires board { IsAt board.now seat.old }
     requires job { seat.old.caller.seen.job ≡ job_of graph.now.graph plan.now }
@@ -139,22 +151,37 @@ pub(super) fn goes_on_after_refusals<R: Wait>(
     requires snapshot { Stands (job_of graph.now.graph plan.now) (arc_value stock.now.snapshot) }
 {
     let batch = stock.batches.first()?;
+    let first = POSTS.get(..usize::from(posts))?;
+    let snapshot = &stock.snapshot;
     let mut other = seat.split(board);
-    let right = are_answered(rt, board, &mut other, graph, plan, batch, &stock.snapshot);
+    let posted = are_answered(rt, board, &mut other, graph, plan, batch, snapshot, first);
+    let right = are_answered(rt, board, &mut other, graph, plan, batch, snapshot, &STEPS);
     board.join(seat, other);
-    Some(right && board.length(seat) == 9)
+    Some(posted && right && board.length(seat) == 8 + u64::from(posts))
 }
 
 /// Whether it is so at a new board.
-fn refusals<R: RandomSource + Threads + Wait + Sync>(rt: &R, alloc: Global) -> Option<bool> {
-    is_right(rt, alloc, 16, Case::Refusals)
+fn refusals<R: RandomSource + Threads + Wait + Sync>(
+    rt: &R,
+    alloc: Global,
+    posts: u8,
+) -> Option<bool> {
+    is_right(rt, alloc, 16, Case::Refusals(posts))
 }
 
-/// Each call is answered, at once or when it is made again: a run of this test can refuse any one growth. Where that is
-/// one before the first call, all is done again.
+/// Whether it is so behind one to four posts. Where memory is refused before the first call, all is done again.
+fn all_go_on<R: RandomSource + Threads + Wait + Sync>(rt: &R, alloc: Global) -> bool {
+    let mut all = true;
+    for posts in 1..5 {
+        all &= refusals(rt, alloc, posts).or(refusals(rt, alloc, posts)) == Some(true);
+    }
+    all
+}
+
+/// Each call is answered, at once or when it is made again: a run of this test can refuse any one growth.
 #[test]
 fn calls_where_memory_is_refused(rt: HostRuntime) {
-    assert!(rt; refusals(&rt, rt.alloc()).or(refusals(&rt, rt.alloc())) == Some(true));
+    assert!(rt; all_go_on(&rt, rt.alloc()));
 }
 
 /// How many of so many posts of one batch are answered Known.

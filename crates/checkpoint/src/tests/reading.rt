@@ -70,13 +70,41 @@ fn sipped(
     read(rt, part, &mut CountingReader::new(sips)).err()
 }
 
-/// Whether so many calls are made by so many bytes, and each that fails is told.
-fn fails(rt: &HostRuntime, part: &Arc<Part>, bytes: &[u8], most: usize, calls: u64) -> bool {
+/// Whether the first bytes are read so, as a replica that writes the second ones.
+fn is_sipped(
+    rt: &HostRuntime,
+    part: &Arc<Part>,
+    first: &[u8],
+    second: &[u8],
+    most: usize,
+    good: u64,
+) -> bool {
+    let sips = Sips {
+        bytes: first,
+        most,
+        good,
+    };
+    match read(rt, part, &mut CountingReader::new(sips)) {
+        Ok(replica) => writes(&replica, second, usize::MAX),
+        Err(_) => false,
+    }
+}
+
+/// Whether so many calls are made by so many bytes, each that fails is told, and the replica that comes writes the second
+/// bytes.
+fn fails(
+    rt: &HostRuntime,
+    part: &Arc<Part>,
+    first: &[u8],
+    second: &[u8],
+    most: usize,
+    calls: u64,
+) -> bool {
     let mut all = true;
     for good in 0..calls {
-        all &= sipped(rt, part, bytes, most, good) == Some(KeepError::Read);
+        all &= sipped(rt, part, first, most, good) == Some(KeepError::Read);
     }
-    all && sipped(rt, part, bytes, most, calls) == None
+    all && is_sipped(rt, part, first, second, most, calls)
 }
 
 /// Whether each beginning of the bytes is too short.
@@ -100,8 +128,8 @@ pub(super) fn is_written(rt: &HostRuntime, part: &Arc<Part>, first: &[u8], secon
 fn is_read(rt: &HostRuntime, part: &Arc<Part>, first: &[u8], second: &[u8], calls: u64) -> bool {
     is_written(rt, part, first, second)
         && cuts(rt, part, first)
-        && fails(rt, part, first, usize::MAX, calls)
-        && fails(rt, part, first, 1, first.len() as u64 + 1)
+        && fails(rt, part, first, second, usize::MAX, calls)
+        && fails(rt, part, first, second, 1, first.len() as u64 + 1)
 }
 
 /// Whether a byte more is told.

@@ -97,7 +97,7 @@ fn joins_where_one_is_further(rt: HostRuntime) {
 
 /// Two runs of two edges that are over once they close, by replicas 0 and 1, and 2 and 3, and one at superstep 0. A
 /// snapshot tells what partition 0 has.
-const OVER: [Step; 12] = [
+pub const OVER: [Step; 12] = [
     Add(TWO_EDGES),
     Add(TWO_EDGES),
     Add(TWO_EDGES),
@@ -113,7 +113,7 @@ const OVER: [Step; 12] = [
 ];
 
 /// They give back what they need no more, and are as they were.
-const GIVE_BACK: [Step; 8] = [
+pub const GIVE_BACK: [Step; 8] = [
     Close(0, Err(CloseError::Finished)),
     Close(2, Err(CloseError::Finished)),
     GiveBack(0),
@@ -125,8 +125,8 @@ const GIVE_BACK: [Step; 8] = [
 ];
 
 /// One merges the other, and is as it was.
-const MERGES_OTHER: [Step; 4] = [
-    Keep(2, None),
+pub const MERGES_OTHER: [Step; 4] = [
+    Keep(2, Some(0)),
     Merge(0, 1, 0, Ok(())),
     See(0, IsSettled),
     Shows(0, 0),

@@ -34,24 +34,40 @@ fn copied_rows(rt: &HostRuntime, snapshot: &Snapshot) -> Option<(Rows, Rows)> {
     Some((rows, accumulated))
 }
 
-/// All that a replica has which keeps one batch of a later superstep, and has heard one that raised a row.
-fn saved_of(rt: &HostRuntime, replica: &mut Replica) -> Option<Saved> {
-    let snapshot = replica.snapshot(rt.alloc()).ok()?;
-    let early = one_early(rt, &snapshot)?;
-    let (rows, accumulated) = copied_rows(rt, &snapshot)?;
-    let progress = &snapshot.progress;
-    let tables = &progress.tables;
+/// Copies of marks, figures and sums.
+fn copied_figures(
+    rt: &HostRuntime,
+    snapshot: &Snapshot,
+) -> Option<(Vec<bool>, Vec<Tally>, Vec<u128>)> {
+    let tables = &snapshot.progress.tables;
+    let marks = Vec::from_slice(rt.alloc(), tables.marks()).ok()?;
+    let tallies = Vec::from_slice(rt.alloc(), tables.tallies()).ok()?;
+    let sums = Vec::from_slice(rt.alloc(), tables.sums()).ok()?;
+    Some((marks, tallies, sums))
+}
+
+/// All that a snapshot tells which keeps one batch of a later superstep.
+fn told_by(rt: &HostRuntime, snapshot: &Snapshot) -> Option<Saved> {
+    let early = one_early(rt, snapshot)?;
+    let (rows, accumulated) = copied_rows(rt, snapshot)?;
+    let (marks, tallies, sums) = copied_figures(rt, snapshot)?;
     Some(Saved {
-        superstep: progress.superstep,
+        superstep: snapshot.superstep(),
         rows,
-        marks: Vec::from_slice(rt.alloc(), tables.marks()).ok()?,
-        tallies: Vec::from_slice(rt.alloc(), tables.tallies()).ok()?,
-        sums: Vec::from_slice(rt.alloc(), tables.sums()).ok()?,
-        heard: progress.hearing.heard(),
-        heard_change: progress.hearing.change(),
+        marks,
+        tallies,
+        sums,
+        heard: snapshot.heard(),
+        heard_change: snapshot.heard_change(),
         accumulated,
         early,
     })
+}
+
+/// All that a replica has which keeps one batch of a later superstep, and has heard one that raised a row.
+fn saved_of(rt: &HostRuntime, replica: &mut Replica) -> Option<Saved> {
+    let snapshot = replica.snapshot(rt.alloc()).ok()?;
+    told_by(rt, &snapshot)
 }
 
 /// A replica that is made of it, where it fits the part.

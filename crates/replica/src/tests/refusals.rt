@@ -3,7 +3,7 @@
 
 use super::facts::Fact::*;
 use super::jobs::TWO_EDGES;
-use super::joins::{APART, RECOVERED};
+use super::joins::{APART, GIVE_BACK, MERGES_OTHER, OVER, RECOVERED};
 use super::rebuilt::HEARS_AND_KEEPS;
 use super::script::Step::{self, *};
 use super::script::play;
@@ -16,13 +16,24 @@ const STARTS: [Step; 3] = [
     See(0, Row(0, ROW_A)),
 ];
 
-/// A replica is copied again, stays as it was, and is made again as it was.
+/// Partition 0 of a second run has done the same. Its snapshot tells what the other one has, which has made none yet.
+const TWIN: [Step; 7] = [
+    Add(TWO_EDGES),
+    Round(2, 4),
+    Tell(3, 2),
+    Tell(2, 3),
+    Close(3, Ok(2)),
+    Tell(3, 2),
+    Keep(2, None),
+];
+
+/// A replica is copied for the first time and again, stays as it was, and is made again as it was.
 const COPIES: [Step; 5] = [
-    Keep(0, None),
+    Keep(0, Some(0)),
     Keep(0, Some(0)),
     Shows(0, 0),
     Again(0),
-    Shows(2, 0),
+    Shows(4, 0),
 ];
 
 /// One that holds nothing merges one that holds its level.
@@ -49,12 +60,13 @@ const BEHIND: [Step; 4] = [
 /// One that is ahead merges one behind.
 const AHEAD: [Step; 3] = [Keep(0, None), Keep(2, None), Merge(0, 1, 0, Ok(()))];
 
-static CASES: [&[&[Step]]; 5] = [
+static CASES: [&[&[Step]]; 6] = [
     &[&STARTS],
-    &[&HEARS_AND_KEEPS, &COPIES],
+    &[&HEARS_AND_KEEPS, &TWIN, &COPIES],
     &[&LEVEL],
     &[&APART, &BEHIND, &RECOVERED],
     &[&APART, &AHEAD, &RECOVERED],
+    &[&OVER, &GIVE_BACK, &MERGES_OTHER],
 ];
 
 /// The first case that does not come out, with the places of the script and of the step.

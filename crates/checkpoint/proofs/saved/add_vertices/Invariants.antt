@@ -3,7 +3,7 @@ use Rattle.std.specs.List.{flat_map, range_with_len}
 use Rattle.ball_model.specs.Checkpoint.{vertex_bytes}
 use Rattle.ball_model.specs.State.{State}
 use Rattle.replica.specs.Saved.{IsKeepable}
-use Rattle.checkpoint.specs.Told.{AreTold, AreZeros, HasRoom}
+use Rattle.checkpoint.specs.Told.{AreTold, AreZeros, HasRoomForAll}
 use Rattle.checkpoint.proofs.RightLemmas.{AreFirst}
 use Rattle.checkpoint.proofs.saved.add_vertices.Given as goal
 
@@ -15,7 +15,7 @@ invariant-loop-i l = record {
   width : l.vertices.rows.width ≡ l.initial.vertices.rows.width;
   told : AreTold l.i l.vertices l.bytes l.rest;
   zeros : AreZeros l.i l.vertices.rows;
-  room : HasRoom l.vertices;
+  room : HasRoomForAll l.vertices;
   right : (v : State) (rest : List ℕ) → IsKeepable v → length v.part.preds ≡ length l.initial.vertices.rows.rows → 2 ^ v.part.plan.log2m ≡ l.initial.vertices.rows.width
       → l.bytes ≡ flat_map (vertex_bytes v) (range_with_len 0 (length v.part.preds)) ++ rest → AreFirst v l.i l.vertices l.rest rest;
 }

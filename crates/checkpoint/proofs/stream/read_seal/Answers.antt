@@ -2,7 +2,7 @@ use Rattle.std.specs.Io.KnownBytes.{Consumes}
 use Rattle.std.proofs.Common.{ℕ, List, length, refl, subst, ◌∙◌, arith}
 use Rattle.sha2.specs.Sha256.{sha256}
 use Rattle.ball_model.proofs.StreamLemmas.{after_fewer}
-use Rattle.checkpoint.specs.Reading.{seal_form, Takes}
+use Rattle.checkpoint.specs.Reading.{seal_form, TakesBytes}
 use Rattle.checkpoint.proofs.ReaderLemmas.{ended_fails, ended_good, full_good, few_more, seal-short, seal_differs, seal_trails, seal_unread, sure_fewer, takes_ended, same_bytes, digest_other, digest_same, unread_fails}
 use Rattle.checkpoint.proofs.stream.read_seal.Goals as goal
 
@@ -20,23 +20,23 @@ returns-in-Failed-clause-fails g c =
 pub returns-then-ne-clause-fails : goal.returns-then-ne-clause-fails
 returns-then-ne-clause-fails g c =
     let text = c.args.text.now in
-    let p : Takes g.R.Read.remaining g.R.CountedRead.failed_calls g.R.CountedRead.sure_calls c.args.reader.now c.fill.new.reader c.fill.new.buf =
+    let p : TakesBytes g.R.Read.remaining g.R.CountedRead.failed_calls g.R.CountedRead.sure_calls c.args.reader.now c.fill.new.reader c.fill.new.buf =
     record { consumed = c.in-Full.ensures.full refl; counted = c.in-Full.ensures.counted full_good; calls = after_fewer _ (length c.fill.new.buf) _ _ c.in-Full.ensures.sure (omega arith) } in
     seal_differs text p (omega arith) (digest_other c.fill.new.buf c.digest.result text (c.if-ne.ensures) c.digest.ensures)
 
 pub returns-in-Full-fill-clause-fails : goal.returns-in-Full-fill-clause-fails
 returns-in-Full-fill-clause-fails g c =
     let text = c.args.text.now in
-    let p : Takes g.R.Read.remaining g.R.CountedRead.failed_calls g.R.CountedRead.sure_calls c.args.reader.now c.fill.new.reader c.fill.new.buf =
+    let p : TakesBytes g.R.Read.remaining g.R.CountedRead.failed_calls g.R.CountedRead.sure_calls c.args.reader.now c.fill.new.reader c.fill.new.buf =
     record { consumed = c.in-Full.ensures.full refl; counted = c.in-Full.ensures.counted full_good; calls = after_fewer _ (length c.fill.new.buf) _ _ c.in-Full.ensures.sure (omega arith) } in
-    let q : Takes g.R.Read.remaining g.R.CountedRead.failed_calls g.R.CountedRead.sure_calls c.fill.new.reader c.fill-2.new.reader c.fill-2.new.buf =
+    let q : TakesBytes g.R.Read.remaining g.R.CountedRead.failed_calls g.R.CountedRead.sure_calls c.fill.new.reader c.fill-2.new.reader c.fill-2.new.buf =
     record { consumed = c.in-Full-fill.ensures.full refl; counted = c.in-Full-fill.ensures.counted full_good; calls = after_fewer _ (length c.fill-2.new.buf) _ _ c.in-Full-fill.ensures.sure (omega arith) } in
     seal_trails text p (omega arith) (digest_same c.fill.new.buf c.digest.result text (c.if-ne.ensures) c.digest.ensures) q (omega arith)
 
 pub returns-in-Ended-fill-clause-done : goal.returns-in-Ended-fill-clause-done
 returns-in-Ended-fill-clause-done g c =
     let text = c.args.text.now in
-    let p : Takes g.R.Read.remaining g.R.CountedRead.failed_calls g.R.CountedRead.sure_calls c.args.reader.now c.fill.new.reader c.fill.new.buf =
+    let p : TakesBytes g.R.Read.remaining g.R.CountedRead.failed_calls g.R.CountedRead.sure_calls c.args.reader.now c.fill.new.reader c.fill.new.buf =
     record { consumed = c.in-Full.ensures.full refl; counted = c.in-Full.ensures.counted full_good; calls = after_fewer _ (length c.fill.new.buf) _ _ c.in-Full.ensures.sure (omega arith) } in
     let same = same_bytes c.fill.new.buf (sha256 text) (digest_same c.fill.new.buf c.digest.result text (c.if-ne.ensures) c.digest.ensures) in
     subst (λ (l : List ℕ). Consumes (g.R.Read.remaining c.args.reader.now) (g.R.Read.remaining c.fill-2.new.reader) l) same
@@ -51,6 +51,6 @@ returns-in-Ended-fill-clause-end g c = (c.in-Ended-fill.ensures.ended c.in-Ended
 pub returns-in-Failed-fill-clause-fails : goal.returns-in-Failed-fill-clause-fails
 returns-in-Failed-fill-clause-fails g c =
     let text = c.args.text.now in
-    let p : Takes g.R.Read.remaining g.R.CountedRead.failed_calls g.R.CountedRead.sure_calls c.args.reader.now c.fill.new.reader c.fill.new.buf =
+    let p : TakesBytes g.R.Read.remaining g.R.CountedRead.failed_calls g.R.CountedRead.sure_calls c.args.reader.now c.fill.new.reader c.fill.new.buf =
     record { consumed = c.in-Full.ensures.full refl; counted = c.in-Full.ensures.counted full_good; calls = after_fewer _ (length c.fill.new.buf) _ _ c.in-Full.ensures.sure (omega arith) } in
     seal_unread text p (omega arith) (few_more _ 1 _ _ c.in-Failed-fill.ensures.few (omega arith)) (c.in-Failed-fill.ensures.failed refl) (λ is. c.in-Failed-fill.ensures.only is refl)

@@ -1,7 +1,7 @@
 use Rattle.std.proofs.Common.{take}
 use Rattle.std.specs.List.{flat_map}
-use Rattle.checkpoint.specs.Spooled.{Passes}
+use Rattle.checkpoint.specs.Spooled.{PassesOn}
 use Rattle.checkpoint.proofs.write.keep_accumulated.Given as goal
 
 abbrev pub invariant-loop-i : goal.invariant-loop-i
-invariant-loop-i g l = Passes g.W.Write.contents g.W.CountedWrite.failed_calls g.W.CountedWrite.sure_calls g.W.CountedWrite.room l.initial.writer l.writer l.initial.spool l.spool (flat_map (λ row. row) (take l.i l.replica.accumulated))
+invariant-loop-i g l = PassesOn g.W.Write.contents g.W.CountedWrite.failed_calls g.W.CountedWrite.sure_calls g.W.CountedWrite.room l.initial.writer l.writer l.initial.spool l.spool (flat_map (λ row. row) (take l.i l.replica.accumulated))

@@ -2,12 +2,12 @@ use Rattle.std.proofs.Common.{◌≡◌, arith, sym, subst}
 use Rattle.std.specs.Prelude.{Option, None, Some}
 use Rattle.ball_model.specs.WorldText.{node_word}
 use Rattle.ball_model.specs.declared.names.NodeId.{NodeId}
-use Rattle.hyperball.specs.Orders.{IsNode, Reads}
+use Rattle.hyperball.specs.Orders.{IsNodeName, Reads}
 use Rattle.hyperball.proofs.OrderLemmas.{cuts, node-cut, node-is, node-uncut}
 use Rattle.hyperball.proofs.orders.node_in.Goals as goal
 
-reads_none : (text : _) (r : Option NodeId) → r ≡ None → ((id : NodeId) → IsNode id → text ≡ node_word id → ⊥) → Reads IsNode node_word text r
-reads_none text r is none = subst (Reads IsNode node_word text) (sym is) none
+reads_none : (text : _) (r : Option NodeId) → r ≡ None → ((id : NodeId) → IsNodeName id → text ≡ node_word id → ⊥) → Reads IsNodeName node_word text r
+reads_none text r is none = subst (Reads IsNodeName node_word text) (sym is) none
 
 pub returns-in_err-part : goal.returns-in_err-part
 returns-in_err-part c = reads_none c.args.text.now _ c.from_residual.ensures (node-uncut c.args.text.now (cuts 46 c.args.text.now None c.in_err-part.ensures.cases (omega arith)))

@@ -1,7 +1,7 @@
 use Rattle.std.proofs.Common.{◌∙◌, Bool, subst, sym}
 use Rattle.std.specs.Prelude.{IfErr, IfSome, OnOk}
 use Rattle.std.proofs.lemmas.Result.{err_from_is_err_and}
-use Rattle.hyperball.specs.Refusals.{IsFault, Refuses}
+use Rattle.hyperball.specs.Refusals.{IsFault, RefusesInput}
 use Rattle.hyperball.specs.Words.{Serves}
 use Rattle.hyperball.specs.declared.words.RunWords.{RunWords}
 use Rattle.workers.specs.Options.{settings_of}
@@ -31,5 +31,5 @@ returns-in_err-run-clause-refused g c =
     let e = c.in_err-run.field-0.0 in
     rw (p.1, p.2) (
       c.in_err-run.ensures.fault,
-      subst (λ (b : Bool). IfSome told (λ input. Refuses s b input e)) (sym c.if-counted.false) (refuses_edges s told e c.in_err-run.ensures.refused),
+      subst (λ (b : Bool). IfSome told (λ input. RefusesInput s b input e)) (sym c.if-counted.false) (refuses_edges s told e c.in_err-run.ensures.refused),
     )

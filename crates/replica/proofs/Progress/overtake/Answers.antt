@@ -37,9 +37,7 @@ assign-requires-2 c = rw c.rows.ensures (fill_from_other c.self.inside c.other.i
 pub hear_early-requires : goal.hear_early-requires
 hear_early-requires c =
     let at = goal.at.hear_early-requires c in
-    let g = both at.After-other in
-    can_hear_beside c.self.inside c.other.inside c.args.self.now.state c.args.other.now.state c.plan.result.now c.args.targets.now c.args.shared.now c.assign-2.new.self g (c.plan.ensures ∙ ap (λ (a : PartValue). a.plan) c.deref.ensures)
-    (own_index c.self.inside c.other.inside c.args.self.now.state c.args.other.now.state c.args.shared.now c.args.targets.now g c.requires.index) (fills at.After-assign-2)
+    can_hear_beside c.self.inside c.other.inside c.args.self.now.state c.args.other.now.state c.plan.result.now c.args.targets.now c.args.shared.now c.assign-2.new.self (both at.After-other) (c.plan.ensures ∙ ap (λ (a : PartValue). a.plan) c.deref.ensures) c.requires.index (fills at.After-assign-2)
 
 pub fill-requires : goal.fill-requires
 fill-requires c =

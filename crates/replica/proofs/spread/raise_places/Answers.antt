@@ -65,22 +65,18 @@ loop-block-preserved c =
 all_rows : (places left src : List ℕ) (rows old : List (List ℕ)) → left ≡ [] → rows_after left src rows ≡ rows_after places src old → rows ≡ rows_after places src old
 all_rows places left src rows old none is = spread-none src rows ∙ ap (λ (ps : List ℕ). rows_after ps src rows) (sym none) ∙ is
 
-pub returns-clause-rows : goal.returns-clause-rows
-returns-clause-rows c =
-    let inv = c.loop-block.invariant in
-    let none : chunks_rest c.loop-block.block-iterator ≡ [] = nil_from_length _ c.in-None.ensures.steps.1.0 in
-    table_is c.loop-block.accumulated (record c.args.accumulated.now { rows = rows_after c.args.places.now c.args.registers.now c.args.accumulated.now.rows }) inv.width
-    (all_rows c.args.places.now (chunks_rest c.loop-block.block-iterator) c.args.registers.now c.loop-block.accumulated.rows c.args.accumulated.now.rows none inv.rows)
-
-pub returns-clause-marks : goal.returns-clause-marks
-returns-clause-marks c =
+pub returns : goal.returns
+returns c =
     let inv = c.loop-block.invariant in
     let src = c.args.registers.now in
     let acc = c.loop-block.accumulated.rows in
     let left = chunks_rest c.loop-block.block-iterator in
     let none : left ≡ [] = nil_from_length _ c.in-None.ensures.steps.1.0 in
     let all = all_rows c.args.places.now left src acc c.args.accumulated.now.rows none inv.rows in
-    λ i lt.
-    touched-none src acc c.loop-block.touched i (omega (arith, inv.count))
-    ∙ ap (λ (places : List ℕ). touched_at c.loop-block.touched acc (rows_after places src acc) i) (sym none)
-    ∙ inv.marks i lt ∙ ap (λ (rs : List (List ℕ)). touched_at c.args.touched.now c.args.accumulated.now.rows rs i) (sym all)
+    record {
+      rows = table_is c.loop-block.accumulated (record c.args.accumulated.now { rows = rows_after c.args.places.now src c.args.accumulated.now.rows }) inv.width all;
+      marks = λ i lt.
+          touched-none src acc c.loop-block.touched i (omega (arith, inv.count))
+          ∙ ap (λ (places : List ℕ). touched_at c.loop-block.touched acc (rows_after places src acc) i) (sym none)
+          ∙ inv.marks i lt ∙ ap (λ (rs : List (List ℕ)). touched_at c.args.touched.now c.args.accumulated.now.rows rs i) (sym all);
+    }

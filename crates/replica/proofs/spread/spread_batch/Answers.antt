@@ -2,6 +2,7 @@ use Rattle.std.proofs.Common.{◌≡◌, ◌+◌, ◌<◌, ℕ, List, [], length
 use Rattle.std.proofs.lemmas.List.{get_or-map, take_more, take_all}
 use Rattle.ball_model.specs.Table.{Table}
 use Rattle.ball_model.specs.Batches.{BatchValue}
+use Rattle.replica.specs.Spread.{raised_by}
 use Rattle.replica.proofs.HeardLemmas.{spread-batch, spread_each-none, spread_each-more, length-spread_each}
 use Rattle.replica.proofs.SpreadLemmas.{spread_on}
 use Rattle.replica.proofs.spread.spread_batch.Goals as goal
@@ -34,8 +35,13 @@ loop-k-preserved c =
       touched = λ own h. c.spread_row.ensures.touched own (c.loop-k.invariant.touched own h);
     }
 
-pub returns-clause-stands : goal.returns-clause-stands
-returns-clause-stands c = λ j p t q heard job index true_one stands.
+pub returns : goal.returns
+returns c =
     let all : take c.loop-k.k c.args.batch.now.rows ≡ c.args.batch.now.rows = take_all c.loop-k.k c.args.batch.now.rows (omega (arith, c.loop-k-test.false, c.count-k-end.ensures.value)) in
-    ap (λ (table : Table). table.rows) c.loop-k.invariant.rows
-    ∙ rw (all, index, stands, ap (λ (b : BatchValue). b.rows) true_one) (spread-batch j p t q heard job)
+    record {
+      rows = c.loop-k.invariant.rows ∙ ap (λ (l : List (ℕ × List ℕ)). raised_by c.args.targets.now l c.args.accumulated.now) all;
+      touched = c.loop-k.invariant.touched;
+      stands = λ j p t q heard job index true_one stands.
+          ap (λ (table : Table). table.rows) c.loop-k.invariant.rows
+          ∙ rw (all, index, stands, ap (λ (b : BatchValue). b.rows) true_one) (spread-batch j p t q heard job);
+    }

@@ -1,6 +1,6 @@
-use Rattle.std.proofs.Common.{◌+◌, ◌*◌, ℕ, List, [], length, get_or, ap, arith, ◌∙◌}
+use Rattle.std.proofs.Common.{◌≡◌, ◌+◌, ◌*◌, ℕ, List, [], length, get_or, ap, arith, ◌∙◌}
 use Rattle.ball_model.specs.Table.{Table}
-use Rattle.replica.specs.Spread.{marked_rows}
+use Rattle.replica.specs.Spread.{marked_rows, raised_by}
 use Rattle.replica.proofs.HeardLemmas.{own_stands, spread_each-none, spread_each-more, length-spread_each, marked-none, marked-yes, marked-no}
 use Rattle.replica.proofs.SpreadLemmas.{spread_on}
 use Rattle.replica.proofs.spread.spread_own.Goals as goal
@@ -44,7 +44,16 @@ loop-i-preserved c =
       }
     ]
 
-pub returns-clause-stands : goal.returns-clause-stands
-returns-clause-stands c = λ j p t heard job lt part index own marks stands.
-    ap (λ (table : Table). table.rows) c.loop-i.invariant.rows
-    ∙ own_stands j p t c.loop-i.i heard c.args.part.now c.args.targets.now c.args.rows.now.rows c.args.accumulated.now.rows c.args.marks.now job lt part index own marks stands (omega arith)
+pub returns : goal.returns
+returns c =
+    let part = c.args.part.now in
+    let own = c.args.rows.now.rows in
+    let marks = c.args.marks.now in
+    let all : c.loop-i.i ≡ length marks = omega arith in
+    record {
+      rows = c.loop-i.invariant.rows ∙ ap (λ n. raised_by c.args.targets.now (marked_rows part.plan.parts part.number own marks n) c.args.accumulated.now) all;
+      touched = c.loop-i.invariant.touched;
+      stands = λ j p t heard job lt told index are changed stands.
+          ap (λ (table : Table). table.rows) c.loop-i.invariant.rows
+          ∙ own_stands j p t c.loop-i.i heard part c.args.targets.now own c.args.accumulated.now.rows marks job lt told index are changed stands all;
+    }

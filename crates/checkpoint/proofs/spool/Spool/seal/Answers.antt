@@ -1,6 +1,6 @@
 use Rattle.std.proofs.Common.{◌≡◌, ℕ, List, ◌++◌, subst}
 use Rattle.sha2.specs.Sha256.{sha256}
-use Rattle.checkpoint.specs.Writing.{Writes, Stops}
+use Rattle.checkpoint.specs.Writing.{Writes, StopsWriting}
 use Rattle.checkpoint.specs.Spooled.{waiting}
 use Rattle.checkpoint.proofs.WriteLemmas.{on_err, ok_then, err_then, stops_first, stops_then, writes_then}
 use Rattle.checkpoint.proofs.spool.Spool.seal.Goals as goal
@@ -20,4 +20,4 @@ pub returns-clause-stops : goal.returns-clause-stops
 returns-clause-stops g c =
     err_then c.write_out.result c.write_out.ensures.stops
     (λ stops m held. let digest : c.finalize-digest.result ≡ sha256 (m ++ waiting c.args.self) = c.finalize-digest.ensures (m ++ waiting c.args.self) (c.in_ok-put_out.ensures.digested m held) in
-    stops_then g.W.Write.contents g.W.CountedWrite.failed_calls g.W.CountedWrite.sure_calls g.W.CountedWrite.room _ _ _ _ _ c.in_ok-put_out.ensures.done (subst (λ (l : List ℕ). Stops {W = g.row.W.Denot} g.W.Write.contents g.W.CountedWrite.failed_calls g.W.CountedWrite.sure_calls g.W.CountedWrite.room c.put_out.new.writer c.write_out.new.writer l) digest stops))
+    stops_then g.W.Write.contents g.W.CountedWrite.failed_calls g.W.CountedWrite.sure_calls g.W.CountedWrite.room _ _ _ _ _ c.in_ok-put_out.ensures.done (subst (λ (l : List ℕ). StopsWriting {W = g.row.W.Denot} g.W.Write.contents g.W.CountedWrite.failed_calls g.W.CountedWrite.sure_calls g.W.CountedWrite.room c.put_out.new.writer c.write_out.new.writer l) digest stops))

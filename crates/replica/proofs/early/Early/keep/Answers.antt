@@ -1,11 +1,11 @@
-use Rattle.std.proofs.Common.{◌≡◌, ◌*◌, ◌<◌, List, length, map, option_map, refl, sym, ◌∙◌, subst, arith}
+use Rattle.std.proofs.Common.{◌≡◌, ◌*◌, ◌<◌, List, length, map, option_map, refl, ◌∙◌, subst, arith}
 use Rattle.std.specs.Prelude.{Option}
 use Rattle.std.specs.Arc.{arc_value}
 use Rattle.std.specs.Vec.{with_items}
 use Rattle.std.proofs.lemmas.List.{with_items_is, length-map}
 use Rattle.ball_model.specs.Batches.{BatchValue}
-use Rattle.replica.specs.Ahead.{table_of, IsTable}
-use Rattle.replica.proofs.EarlyLemmas.{kept_at, table_is, as_many, place_fits}
+use Rattle.replica.specs.Ahead.{IsTable}
+use Rattle.replica.proofs.EarlyLemmas.{kept_at, stays_table, table_is, place_fits}
 use Rattle.replica.proofs.early.Early.keep.Goals as goal
 
 pub put-requires : goal.put-requires
@@ -24,8 +24,5 @@ returns c = record {
       rw (with_items_is c.self.inside.slots c.put.new.slots size, c.put.ensures, c.deref_mut.ensures.value, c.from.ensures)
       (kept_at c.self.inside.parts c.args.level c.args.source slots (arc_value c.args.batch) c.requires.level lt long i k
       ∙ rw c.self.view_is refl);
-  table = λ parts is.
-      let slots = map (option_map arc_value) c.self.inside.slots.items in
-      let same : c.self.inside.parts ≡ parts = as_many parts c.self.inside.parts slots (subst (λ (e : List (List (Option BatchValue))). IsTable parts e) (sym c.self.view_is) is) in
-      subst (λ n. IsTable n (table_of c.self.inside.parts (map (option_map arc_value) (with_items c.self.inside.slots c.put.new.slots).items))) same (table_is c.self.inside.parts (map (option_map arc_value) (with_items c.self.inside.slots c.put.new.slots).items));
+  table = stays_table c.self.inside.parts (map (option_map arc_value) c.self.inside.slots.items) (map (option_map arc_value) (with_items c.self.inside.slots c.put.new.slots).items) c.args.self.now c.self.view_is;
 }

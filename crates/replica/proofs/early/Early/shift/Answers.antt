@@ -1,12 +1,10 @@
-use Rattle.std.proofs.Common.{◌≡◌, ◌+◌, ◌*◌, List, length, map, option_map, ap, sym, ◌∙◌, subst, arith}
-use Rattle.std.specs.Prelude.{Option}
+use Rattle.std.proofs.Common.{◌≡◌, ◌+◌, ◌*◌, length, map, option_map, ap, ◌∙◌, arith}
 use Rattle.std.specs.Arc.{arc_value}
 use Rattle.std.specs.Vec.{with_items}
 use Rattle.std.proofs.lemmas.List.{with_items_is, length-map}
 use Rattle.ball_model.specs.Batches.{BatchValue}
 use Rattle.ball_model.specs.State.{early_at}
-use Rattle.replica.specs.Ahead.{table_of, IsTable}
-use Rattle.replica.proofs.EarlyLemmas.{shift_at, table_is, as_many}
+use Rattle.replica.proofs.EarlyLemmas.{shift_at, stays_table}
 use Rattle.replica.proofs.early.Early.shift.Goals as goal
 
 pub returns : goal.returns
@@ -18,8 +16,5 @@ returns c = record {
       let long : length slots ≡ 3 * c.self.inside.parts = length-map c.self.inside.slots.items F ∙ c.self.invariant in
       rw (with_items_is c.self.inside.slots c.shift_slots.new.slots size, c.shift_slots.ensures, c.deref_mut.ensures.value)
       (shift_at c.self.inside.parts c.args.count slots long i k ∙ ap (λ e. early_at e (i + c.args.count) k) c.self.view_is);
-  table = λ parts is.
-      let slots = map (option_map arc_value) c.self.inside.slots.items in
-      let same : c.self.inside.parts ≡ parts = as_many parts c.self.inside.parts slots (subst (λ (e : List (List (Option BatchValue))). IsTable parts e) (sym c.self.view_is) is) in
-      subst (λ n. IsTable n (table_of c.self.inside.parts (map (option_map arc_value) (with_items c.self.inside.slots c.shift_slots.new.slots).items))) same (table_is c.self.inside.parts (map (option_map arc_value) (with_items c.self.inside.slots c.shift_slots.new.slots).items));
+  table = stays_table c.self.inside.parts (map (option_map arc_value) c.self.inside.slots.items) (map (option_map arc_value) (with_items c.self.inside.slots c.shift_slots.new.slots).items) c.args.self.now c.self.view_is;
 }

@@ -1,4 +1,4 @@
-use Rattle.std.proofs.Common.{◌≡◌, Bool, List, ℕ, length, refl, ap, sym, ◌∙◌, subst}
+use Rattle.std.proofs.Common.{rules, ◌≡◌, Bool, List, ℕ, length, refl, ap, sym, ◌∙◌, subst}
 use Rattle.std.specs.Vec.{with_items}
 use Rattle.std.proofs.lemmas.List.{with_items_is}
 use Rattle.ball_model.specs.Table.{Table}
@@ -19,17 +19,21 @@ follow-requires c =
     subst (λ (l : List Bool). DifferWhere l c.args.rows.now c.self.inside.accumulated) (sym c.deref.ensures.value)
     (differ_where c.args.rows.now c.self.inside.accumulated c.self.inside.touched.items (c.requires.width ∙ sym (ap (λ (a : HearingValue). a.accumulated.width) c.self.view_is)) (marked (goal.at.follow-requires c).After-deref))
 
-pub returns-clause-quiet : goal.returns-clause-quiet
-returns-clause-quiet c =
-    let are = marked (goal.at.returns-clause-quiet c).After-deref in
+pub returns : goal.returns
+returns c =
+    let are = marked (goal.at.returns c).After-deref in
     let own = c.self.inside.accumulated.rows in
     let rows : c.follow.new.self.rows ≡ own = ap (λ (t : Table). t.rows) c.follow.ensures in
     let long : length c.clear_marks.new.marks ≡ length own = c.clear_marks.auto.marks ∙ ap (length {A = Bool}) c.deref_mut.ensures.value ∙ are.marks ∙ sym are.count in
     let touched = with_items c.self.inside.touched c.clear_marks.new.marks in
     let cleared : touched.items ≡ c.clear_marks.new.marks = with_items_is c.self.inside.touched c.clear_marks.new.marks (c.clear_marks.auto.marks ∙ c.deref_mut.ensures.len) in
     record {
-      heard = c.empty-self-inside.ensures;
-      change = refl;
-      accumulated = sym c.follow.ensures;
-      kept = subst (λ (l : List (List ℕ)). AreTouched l own touched.items) (sym rows) (subst (λ (l : List Bool). AreTouched own own l) (sym cleared) (none_touched own c.clear_marks.new.marks long c.clear_marks.ensures));
+      quiet = record {
+        heard = c.empty-self-inside.ensures;
+        change = refl;
+        accumulated = sym c.follow.ensures;
+        kept = subst (λ (l : List (List ℕ)). AreTouched l own touched.items) (sym rows) (subst (λ (l : List Bool). AreTouched own own l) (sym cleared) (none_touched own c.clear_marks.new.marks long c.clear_marks.ensures));
+      };
+      ahead = c.follow.ensures ∙ ap (λ (a : HearingValue). a.accumulated) c.self.view_is;
+      touched = search rules;
     }

@@ -3,7 +3,7 @@ use Rattle.std.specs.Vec.{with_items}
 use Rattle.std.proofs.lemmas.List.{with_items_is}
 use Rattle.ball_model.specs.declared.names.BatchName.{BatchName}
 use Rattle.ball_model.specs.Table.{Table}
-use Rattle.replica.specs.Hearing.{HearingValue, HearsAlso, IsReady, batch_by}
+use Rattle.replica.specs.Hearing.{HearingValue, HearsAlso, HearsByIndex, batch_by}
 use Rattle.replica.specs.Heard.{StayTouched}
 use Rattle.replica.specs.Kept.{AllRise}
 use Rattle.replica.proofs.HearLemmas.{hears_one}
@@ -15,8 +15,8 @@ use Rattle.replica.proofs.hearing.Hearing.hear.Goals.{After-name}
 abbrev before : After-name → HearingValue
 before c = record { heard = c.self.inside.heard; change = c.self.inside.change; accumulated = c.self.inside.accumulated; touched = c.self.inside.touched.items }
 
-ready : (c : After-name) → IsReady c.args.batch.now.plan.log2m c.args.targets.now (before c)
-ready c = subst (λ (a : HearingValue). IsReady c.args.batch.now.plan.log2m c.args.targets.now a) (sym c.self.view_is) c.requires
+ready : (c : After-name) → HearsByIndex c.args.batch.now.plan.log2m c.args.targets.now (before c)
+ready c = subst (λ (a : HearingValue). HearsByIndex c.args.batch.now.plan.log2m c.args.targets.now a) (sym c.self.view_is) c.requires
 
 rises : (c : After-name) → AllRise c.args.batch.now.plan.log2m c.self.inside.accumulated.rows c.spread_batch.new.accumulated.rows
 rises c =

@@ -1,18 +1,11 @@
 use Rattle.std.proofs.Common.{◌≡◌, ℕ, ◌+◌, ◌∙◌, arith}
 use Rattle.ball_model.specs.State.{early_at}
-use Rattle.replica.proofs.HearLemmas.{if_some_as}
-use Rattle.replica.proofs.HearingLemmas.{also_same}
+use Rattle.replica.proofs.HearingLemmas.{also_same, can_hear_later}
 use Rattle.replica.proofs.EarlyLemmas.{shifted_told}
 use Rattle.replica.proofs.hearing.Hearing.hear_early.Goals as goal
 
 pub hear_each-requires : goal.hear_each-requires
-hear_each-requires c = record {
-  ready = c.requires.ready;
-  kept = record {
-    table = c.shift.ensures.table c.args.plan.now.parts c.requires.kept.table;
-    from = λ i q. if_some_as _ _ _ (c.shift.ensures.kept i q) (c.requires.kept.from _ q);
-  };
-}
+hear_each-requires c = can_hear_later c.args.plan.now c.args.targets.now _ c.args.early.now c.shift.new.self c.args.self.now c.requires c.shift.ensures
 
 pub returns : goal.returns
 returns c =

@@ -7,7 +7,7 @@ use Rattle.ball_model.specs.Table.{Table}
 use Rattle.figures.specs.Values.{value_of}
 use Rattle.replica.specs.Level.{next_tallies, total_of, weights_of}
 use Rattle.replica.specs.Seen.{tables_of}
-use Rattle.replica.specs.Tables.{CanStep, Steps, TablesValue}
+use Rattle.replica.specs.Tables.{CanStep, NextTables, TablesValue}
 use Rattle.replica.proofs.LevelLemmas.{differing_from}
 use Rattle.replica.proofs.NextLemmas.{total_small}
 use Rattle.replica.proofs.RiseLemmas.{rise_counters}
@@ -47,13 +47,13 @@ returns c =
     let marks : length c.begin.new.marks ≡ c.self.inside.marks.len = omega (arith, c.begin.auto.marks, c.deref_mut-2.ensures.len, c.self.inside.marks.ok.0) in
     let tallies : length c.step_tallies-gain.new.tallies ≡ c.self.inside.tallies.len = omega (arith, c.step_tallies-gain.auto.tallies, c.deref_mut.ensures.len, c.self.inside.tallies.ok.0) in
     let after = tables_of (record { rows = c.begin.new.rows; marks = with_items c.self.inside.marks c.begin.new.marks; tallies = with_items c.self.inside.tallies c.step_tallies-gain.new.tallies; sums = c.push_reserved.new.self }) in
-    subst (λ (a : TablesValue). Steps m c.args.t a after c.args.hearing.now c.begin.new.self c.step_tallies-gain.new.weights) c.self.view_is (record {
-      rows = c.begin.ensures.rows;
-      marks = with_items_is c.self.inside.marks c.begin.new.marks marks ∙ c.begin.ensures.marks ∙ differing_from rows own c.args.hearing.now.touched (length rows) ok.ahead.kept refl;
+    subst (λ (a : TablesValue). NextTables m c.args.t a after c.args.hearing.now c.begin.new.self c.step_tallies-gain.new.weights) c.self.view_is (record {
+      rows = c.begin.ensures.ahead;
+      marks = with_items_is c.self.inside.marks c.begin.new.marks marks ∙ c.begin.ensures.touched ∙ differing_from rows own c.args.hearing.now.touched (length rows) ok.ahead.kept refl;
       tallies = ap (map value_of) (with_items_is c.self.inside.tallies c.step_tallies-gain.new.tallies tallies) ∙ (rw (c.ahead-ahead.ensures, c.deref_mut.ensures.value) at c.step_tallies-gain.ensures.tallies) ∙ ap (λ n. next_tallies m (c.args.t + 1) own (map value_of c.self.inside.tallies.items) n) ok.ahead.rise.count;
       sums = c.push_reserved.ensures.items ∙ ap (λ n. c.self.inside.sums.items ++ n ∷ []) last.1;
       gains = omega (arith, last.0, last.1);
       room = c.push_reserved.ensures.capacity;
       quiet = c.begin.ensures.quiet;
-      weights = c.step_tallies-gain.ensures.weights ∙ ap (λ (t : Table). weights_of t.rows) (c.ahead-ahead.ensures ∙ sym c.begin.ensures.rows);
+      weights = c.step_tallies-gain.ensures.weights ∙ ap (λ (t : Table). weights_of t.rows) (c.ahead-ahead.ensures ∙ sym c.begin.ensures.ahead);
     })
