@@ -83,7 +83,7 @@ Figures:
   Closeness is 1 divided by the sum of distances: 0.000000 where that sum is above a million.
   They count who reaches a vertex; for those that it reaches, swap the two columns of the edge list.
   An undirected graph has each edge both ways: a line 'a b' and a line 'b a'. This adds them:
-  awk -F'\\t' '{ print } !/^#/ && NF == 2 { print $2 \"\\t\" $1 }' one-way.tsv > edges.tsv
+  awk -F'\\t' '{ sub(/\\r$/, \"\") } { print } !/^#/ && NF == 2 { print $2 \"\\t\" $1 }' a.tsv > b.tsv
 
 Exit status:
   0  the report was written, or help was asked for

@@ -7,3 +7,4 @@ pub mod CommandLemmas
 pub mod GatherLemmas
 pub mod JobLemmas
 pub mod AnswerLemmas
+pub mod LawLemmas

@@ -1,10 +1,10 @@
 -- Requests, one after the other.
-use Rattle.std.proofs.Common.{◌≡◌, ◌≢◌, ◌∙◌, ◌⊎◌, inl, inr, ℕ, ◌+◌, ◌^◌, ◌<◌, ◌≤◌, Bool, List, [], ◌∷◌, ◌++◌, length, refl, ap, sym, subst, append_assoc, append-nil, length-append}
+use Rattle.std.proofs.Common.{◌≡◌, ◌≢◌, ◌∙◌, ◌⊎◌, inl, inr, ℕ, ◌+◌, ◌^◌, ◌<◌, ◌≤◌, Bool, List, [], ◌∷◌, ◌++◌, length, refl, ap, sym, subst, append_assoc, append-nil, length-append, take}
 use Rattle.std.specs.Prelude.{Option, Some, Result, Err, IfSome}
-use Rattle.std.specs.Io.KnownBytes.{Consumes, IsAtEnd, Keeps}
+use Rattle.std.specs.Io.KnownBytes.{Appends, Consumes, IsAtEnd, Keeps}
 use Rattle.std.proofs.KnownBytes.{Appends-kept, Appends-nil, Appends-trans, Consumes-nil, Consumes-trans}
 use Rattle.std.proofs.lemmas.List.Elements.{All-nil, All-push}
-use Rattle.std.specs.List.{All}
+use Rattle.std.specs.List.{All, concat}
 use Rattle.ball_model.specs.Input.{Network, fields}
 use Rattle.ball_model.specs.Held.{start_holding}
 use Rattle.ball_model.specs.Job.{Job, PartValue, job_of, part_of}
@@ -20,7 +20,7 @@ use Rattle.node.specs.declared.error.ServeError.TheVariants as fault
 use Rattle.node.specs.declared.error.NodeError.{NodeError}
 use Rattle.node.specs.declared.error.NodeError.TheVariants as node_fault
 use Rattle.node.specs.Stream.{CutsBody, HasNoEnd, most_line}
-use Rattle.node.specs.Serving.{AppendsAnswers, CutShort, IsNoRequest, IsOfMachine, NoCommand, ReadsRequest, Runs, ServesRest, ServesNode, ServesNone, ServesOne, ServesSome, Steps, StopsServing, StopsNode}
+use Rattle.node.specs.Serving.{AnswersEach, AppendsAnswers, AreNamed, AreTold, CutShort, IfRefused, IsNoRequest, IsOfMachine, NoCommand, ReadsRequest, Runs, ServesRest, ServesNode, ServesNone, ServesOne, ServesSome, Steps, StopsServing, StopsNode}
 use Rattle.node.specs.Turns.{Holds, most_body}
 use Rattle.node.proofs.SessionLemmas.{part_held}
 
@@ -47,44 +47,80 @@ unfolding after_all
 after_last j h [] last = refl
 after_last j h (a ∷ front) last = after_last j (after_asked j h a) front last
 
-answers_last : (j : Job) (labels : List (List ℕ)) (h : Holding) (front : List Asked) (last : Asked) (text more : List ℕ) →
-    AnswersAll j labels h front text → AnswersOne j labels (after_all j h front) last more → AnswersAll j labels h (front ++ last ∷ []) (text ++ more)
-unfolding AnswersAll after_all
-answers_last j labels h [] last text more told said =
-    (more, [], ap (λ (l : List ℕ). l ++ more) told ∙ sym (append-nil more), said, refl)
-answers_last j labels h (a ∷ front) last text more told said =
-    (told.0, told.1 ++ more, ap (λ (l : List ℕ). l ++ more) told.2 ∙ append_assoc told.0 told.1 more, told.3, answers_last j labels (after_asked j h a) front last told.1 more told.4 said)
+-- ---- its text
+told_last : (j : Job) (p : ℕ) (labels : List (List ℕ)) (h : Holding) (rs : List Request) (r : Request) (texts : List (List ℕ)) (text : List ℕ) → AreTold j p labels h rs texts →
+    ((more : List Asked) (a : Asked) → AllAsk j p rs more → Asks j p r.command r.body a → AnswersOne j labels (after_all j h more) a text) → AreTold j p labels h (rs ++ r ∷ []) (texts ++ text ∷ [])
+unfolding AreTold AllAsk after_all
+told_last j p labels h [] r [] text told last = λ a asks. (last [] a tt asks, tt)
+told_last j p labels h [] r (t ∷ texts) text told last = absurd told
+told_last j p labels h (q ∷ rs) r [] text told last = absurd told
+told_last j p labels h (q ∷ rs) r (t ∷ texts) text told last = λ a asks.
+    let one = told a asks in
+    (one.0, told_last j p labels (after_asked j h a) rs r texts text one.1 (λ more b all asks_last. last (a ∷ more) b (asks, all) asks_last))
+
+named_last : (part : PartValue) (rs : List Request) (r : Request) (texts : List (List ℕ)) (text : List ℕ) → AreNamed part rs texts → IfRefused part r.command r.body (λ line. text ≡ line) →
+    AreNamed part (rs ++ r ∷ []) (texts ++ text ∷ [])
+unfolding AreNamed
+named_last part [] r [] text named last = (last, tt)
+named_last part [] r (t ∷ texts) text named last = absurd named
+named_last part (q ∷ rs) r [] text named last = absurd named
+named_last part (q ∷ rs) r (t ∷ texts) text named last = (named.0, named_last part rs r texts text named.1 last)
+
+concat_last : (texts : List (List ℕ)) (text : List ℕ) → concat (texts ++ text ∷ []) ≡ concat texts ++ text
+concat_last [] text = append-nil text
+concat_last (t ∷ texts) text = ap (λ (l : List ℕ). t ++ l) (concat_last texts text) ∙ sym (append_assoc t (concat texts) text)
+
+-- the texts of requests that ask for something are the answers
+all_told : (j : Job) (p : ℕ) (labels : List (List ℕ)) (h : Holding) (rs : List Request) (texts : List (List ℕ)) (more : List Asked) → AreTold j p labels h rs texts → AllAsk j p rs more →
+    AnswersAll j labels h more (concat texts)
+unfolding AreTold AllAsk AnswersAll
+all_told j p labels h [] [] [] told asks = refl
+all_told j p labels h [] [] (a ∷ more) told asks = absurd asks
+all_told j p labels h [] (t ∷ texts) more told asks = absurd told
+all_told j p labels h (r ∷ rs) [] more told asks = absurd told
+all_told j p labels h (r ∷ rs) (t ∷ texts) [] told asks = absurd asks
+all_told j p labels h (r ∷ rs) (t ∷ texts) (a ∷ more) told asks =
+    let one = told a asks.0 in
+    (t, concat texts, refl, one.0, all_told j p labels (after_asked j h a) rs texts more one.1 asks.1)
+
+-- whatever follows them
+front_told : (j : Job) (p : ℕ) (labels : List (List ℕ)) (h : Holding) (front rest : List Request) (texts : List (List ℕ)) (more : List Asked) → AreTold j p labels h (front ++ rest) texts → AllAsk j p front more →
+    AnswersAll j labels h more (concat (take (length front) texts))
+unfolding AreTold AllAsk AnswersAll
+front_told j p labels h [] rest texts [] told asks = refl
+front_told j p labels h [] rest texts (a ∷ more) told asks = absurd asks
+front_told j p labels h (r ∷ front) rest [] more told asks = absurd told
+front_told j p labels h (r ∷ front) rest (t ∷ texts) [] told asks = absurd asks
+front_told j p labels h (r ∷ front) rest (t ∷ texts) (a ∷ more) told asks =
+    let one = told a asks.0 in
+    (t, concat (take (length front) texts), refl, one.0, front_told j p labels (after_asked j h a) front rest texts more one.1 asks.1)
 
 -- ---- runs
 runs_none : (network : Network) (v : State) (old : Option (List ℕ)) → Runs network [] v v old old
-unfolding AllAsk AnswersAll after_all
+unfolding AllAsk AreTold AreNamed after_all
 runs_none network v old = record {
-  told = λ j p h more same k asks. none j p h more k asks;
+  texts = [];
+  appended = Appends-nil old;
+  told = λ j p h same k. tt;
+  named = tt;
   holds = λ j p h more same k asks. still j p h more k asks;
 }
   where
-    none : (j : Job) (p : ℕ) (h : Holding) (more : List Asked) → Holds j p h v → AllAsk j p [] more → AppendsAnswers j network.labels h more old old
-    none j p h [] k asks = record { text = []; appended = Appends-nil old; answers = refl }
-    none j p h (a ∷ more) k asks = absurd asks
-
     still : (j : Job) (p : ℕ) (h : Holding) (more : List Asked) → Holds j p h v → AllAsk j p [] more → Holds j p (after_all j h more) v
     still j p h [] k asks = k
     still j p h (a ∷ more) k asks = absurd asks
 
-runs_more : (network : Network) (rs : List Request) (r : Request) (v w u : State) (x y z : Option (List ℕ)) → Runs network rs v w x y → Steps network r.command r.body w u y z → Runs network (rs ++ r ∷ []) v u x z
-runs_more network rs r v w u x y z runs steps = record {
-  told = λ j p h asked same k asks.
-      let l = last_ask j p rs r asked asks in
-      let then = runs.holds j p h l.front same k l.asks in
-      let one = runs.told j p h l.front same k l.asks in
-      let two = steps.told j p (after_all j h l.front) l.last same then l.asks_last in
-      record {
-        text = one.text ++ two.text;
-        appended = Appends-trans x y z one.text two.text one.appended two.appended;
-        answers =
-            subst (λ (q : List Asked). AnswersAll j network.labels h q (one.text ++ two.text)) (sym l.is)
-            (answers_last j network.labels h l.front l.last one.text two.text one.answers two.answers);
-      };
+runs_more : (network : Network) (rs : List Request) (r : Request) (v w u : State) (x y z : Option (List ℕ)) → w.part ≡ v.part → Runs network rs v w x y → Steps network r.command r.body w u y z →
+    Runs network (rs ++ r ∷ []) v u x z
+runs_more network rs r v w u x y z part runs steps = record {
+  texts = runs.texts ++ steps.text ∷ [];
+  appended = subst (Appends x z) (sym (concat_last runs.texts steps.text)) (Appends-trans x y z (concat runs.texts) steps.text runs.appended steps.appended);
+  told = λ j p h same k.
+      told_last j p network.labels h rs r runs.texts steps.text (runs.told j p h same k)
+      (λ more a all asks. steps.told j p (after_all j h more) a same (runs.holds j p h more same k all) asks);
+  named =
+      named_last v.part rs r runs.texts steps.text runs.named
+      (subst (λ (q : PartValue). IfRefused q r.command r.body (λ line. steps.text ≡ line)) part steps.named);
   holds = λ j p h asked same k asks.
       let l = last_ask j p rs r asked asks in
       let then = runs.holds j p h l.front same k l.asks in
@@ -113,7 +149,7 @@ serves_more network n m a b c v w u x y z next same s o = record {
   count = length-append s.requests (o.request ∷ []) ∙ ap (λ (k : ℕ). k + 1) s.count ∙ sym next;
   each = All-push (IsRequest v.part) s.requests o.request s.each (subst (λ (q : PartValue). IsRequest q o.request) same o.is);
   consumed = subst (Consumes a c) (sym (texts_last s.requests o.request)) (Consumes-trans a b c (requests_text s.requests) (request_bytes o.request) s.consumed o.consumed);
-  runs = runs_more network s.requests o.request v w u x y z s.runs o.steps;
+  runs = runs_more network s.requests o.request v w u x y z same s.runs o.steps;
 }
 
 -- nothing more was told, and the node is as it was
@@ -124,9 +160,10 @@ serves_still network n a b c v w u x y z s none kept same = record {
   each = s.each;
   consumed = subst (Consumes a c) (append-nil (requests_text s.requests)) (Consumes-trans a b c (requests_text s.requests) [] s.consumed none);
   runs = record {
-    told = λ j p h more same_graph k asks.
-        let one = s.runs.told j p h more same_graph k asks in
-        record { text = one.text; appended = Appends-kept x y z one.text one.appended kept; answers = one.answers };
+    texts = s.runs.texts;
+    appended = Appends-kept x y z (concat s.runs.texts) s.runs.appended kept;
+    told = s.runs.told;
+    named = s.runs.named;
     holds = λ j p h more same_graph k asks. subst (λ (q : State). Holds j p (after_all j h more) q) (sym same) (s.runs.holds j p h more same_graph k asks);
   };
 }
@@ -179,10 +216,12 @@ serves_one network a b line order body v w x y z read steps kept = record {
   is = read.is;
   consumed = read.consumed;
   steps = record {
-    told = λ j p h asked same k asks.
-        let one = steps.told j p h asked same k asks in
-        record { text = one.text; appended = Appends-kept x y z one.text one.appended kept; answers = one.answers };
+    text = steps.text;
+    appended = Appends-kept x y z steps.text steps.appended kept;
+    told = steps.told;
     holds = steps.holds;
+    named = steps.named;
+    spared = steps.spared;
   };
 }
 
@@ -225,6 +264,26 @@ rest_stops part n e a b c line order read none says cut (inl is) =
 rest_stops part n e a b c line order read none says cut (inr machine) = machine_stops part n e a c machine
 
 -- ---- a node from its start
+-- all that it was asked
+all_answered : (network : Network) (j : Job) (p : ℕ) (h : Holding) (rs : List Request) (v w : State) (old new : Option (List ℕ)) → j.graph ≡ network.graph → Holds j p h v → Runs network rs v w old new →
+    (more : List Asked) → AllAsk j p rs more → AppendsAnswers j network.labels h more old new
+all_answered network j p h rs v w old new same k runs more asks = record {
+  text = concat runs.texts;
+  appended = runs.appended;
+  answers = all_told j p network.labels h rs runs.texts more (runs.told j p h same k) asks;
+}
+
+each_answered : (network : Network) (j : Job) (p : ℕ) (h : Holding) (rs : List Request) (v w : State) (old new : Option (List ℕ)) → j.graph ≡ network.graph → Holds j p h v → Runs network rs v w old new →
+    AnswersEach j p network.labels h rs old new
+each_answered network j p h rs v w old new same k runs = record {
+  texts = runs.texts;
+  appended = runs.appended;
+  named = subst (λ (q : PartValue). AreNamed q rs runs.texts) (part_held j p h v k) runs.named;
+  begun = λ front rest more is asks.
+      front_told j p network.labels h front rest runs.texts more
+      (subst (λ (l : List Request). AreTold j p network.labels h l runs.texts) is (runs.told j p h same k)) asks;
+}
+
 pub serves_node : (s : Settings) (counted : Bool) (p : ℕ) (network : Network) (plan : PlanValue) (left mid left' old new : Option (List ℕ)) (v w : State) →
     IsJobRead s counted left mid network plan → p < plan.parts → Holds (job_of network.graph plan) p (start_holding plan p) v →
     ServesRest network mid left' v w old new → ServesNode s counted p left left' old new
@@ -238,7 +297,8 @@ serves_node s counted p network plan left mid left' old new v w read below holds
   each = subst (λ (q : PartValue). All (IsRequest q) serves.some.requests) (part_held (job_of network.graph plan) p (start_holding plan p) v holds) serves.some.each;
   consumed = serves.some.consumed;
   end = serves.end;
-  told = λ more asks. serves.some.runs.told (job_of network.graph plan) p (start_holding plan p) more refl holds asks;
+  told = all_answered network (job_of network.graph plan) p (start_holding plan p) serves.some.requests v w old new refl holds serves.some.runs;
+  answered = each_answered network (job_of network.graph plan) p (start_holding plan p) serves.some.requests v w old new refl holds serves.some.runs;
 }
 
 -- a request stopped it
@@ -258,7 +318,8 @@ stops_node s counted p e network plan left mid left' old new v w read below hold
       each = subst (λ (q : PartValue). All (IsRequest q) stops.some.requests) same stops.some.each;
       rest = stops.mid;
       consumed = stops.some.consumed;
-      told = λ more asks. stops.some.runs.told j p (start_holding plan p) more refl holds asks;
+      told = all_answered network j p (start_holding plan p) stops.some.requests v w old new refl holds stops.some.runs;
+      answered = each_answered network j p (start_holding plan p) stops.some.requests v w old new refl holds stops.some.runs;
       at =
           subst (λ (k : ℕ). IsNoRequest (part_of j p) (k + 1) e stops.mid left') (sym stops.some.count)
           (subst (λ (q : PartValue). IsNoRequest q (stops.number + 1) e stops.mid left') same stops.at);

@@ -8,5 +8,6 @@ pub mod Own
 pub mod Job
 pub mod NoJob
 pub mod Serving
+pub mod Laws
 pub mod Gathering
 pub mod NoReport

@@ -14,7 +14,7 @@ use Rattle.ball_model.specs.Held.{IsHeldBy, IsName, held_after, held_close_answe
 use Rattle.ball_model.specs.Input.{fields}
 use Rattle.ball_model.specs.Job.{Job, PartValue, part_of}
 use Rattle.ball_model.specs.Join.{Holding, join_of}
-use Rattle.ball_model.specs.PlanValue.{mixing_of}
+use Rattle.ball_model.specs.PlanValue.{PlanValue, mixing_of}
 use Rattle.ball_model.specs.Report.{superstep_line, vertex_text}
 use Rattle.ball_model.specs.State.{State, own_vertices}
 use Rattle.ball_model.specs.Steps.{Take, Close}
@@ -121,12 +121,12 @@ pub record IsDelivered (j : Job) (body : List ℕ) (name : BatchName) : Type 0 w
   pub named : IsName j.plan name
   pub spelled : body ≡ batch_bytes (true_batch j name)
 
--- the bytes spell a batch that partition p refuses so whatever it holds: one of another job, of another target, or its
--- own
-pub record IsNotFor (j : Job) (p : ℕ) (body : List ℕ) (e : TakeError) : Type 0 where
+-- the bytes spell a batch that partition p of a plan refuses so whatever it holds: one of another job, of another
+-- target, or its own
+pub record IsNotFor (plan : PlanValue) (p : ℕ) (body : List ℕ) (e : TakeError) : Type 0 where
   pub batch : BatchValue
-  pub spelled : batch_at j.plan body ≡ Ok batch
-  pub refused : (c : Content) → take_of j.plan p c batch.plan batch.name ≡ Err e
+  pub spelled : batch_at plan body ≡ Ok batch
+  pub refused : (c : Content) → take_of plan p c batch.plan batch.name ≡ Err e
 
 -- the bytes are a checkpoint of partition p that stands for that holding: the spelling, in version 1 or 2, of a replica
 -- that has it (what version 1 spells holds no batches)
@@ -151,7 +151,7 @@ abbrev pub Asks : Job → ℕ → Command → List ℕ → Asked → Type 0
 Asks j p (command.Send q) body (Send r) = q ≡ r
 Asks j p (command.Deliver n) body (Deliver name) = IsDelivered j body name
 Asks j p (command.Deliver n) body (NoBatch e) = batch_at j.plan body ≡ Err e
-Asks j p (command.Deliver n) body (NotFor e) = IsNotFor j p body e
+Asks j p (command.Deliver n) body (NotFor e) = IsNotFor j.plan p body e
 Asks j p command.Close body Closing = ⊤
 Asks j p command.Keep body Keep = ⊤
 Asks j p (command.Restart n) body (Restart o) = IsStart j p body o
@@ -179,13 +179,16 @@ abbrev pub closed_line : Result ℕ CloseError → List ℕ
 closed_line (Ok t) = number_line (codes "closed") t
 closed_line (Err e) = unclosed_line e
 
--- a batch that is sent: its name, how much it tells, its length, and its bytes
-abbrev pub sent_text : BatchValue → List ℕ
-sent_text b =
+-- the line before a batch that is sent: its name, how much it tells, and how many bytes follow
+abbrev pub sent_line : BatchValue → ℕ → List ℕ
+sent_line b n =
     words_line
     (codes "sent" ∷ decimal b.name.superstep ∷ decimal b.name.source ∷ decimal b.name.target
-    ∷ decimal b.changed ∷ decimal (length b.rows) ∷ decimal (length (batch_bytes b)) ∷ [])
-    ++ batch_bytes b
+    ∷ decimal b.changed ∷ decimal (length b.rows) ∷ decimal n ∷ [])
+
+-- a batch that is sent: its line, and its bytes
+abbrev pub sent_text : BatchValue → List ℕ
+sent_text b = sent_line b (length (batch_bytes b)) ++ batch_bytes b
 
 -- what a node tells partition q, which is another one
 abbrev pub send_text : Job → Holding → ℕ → List ℕ

@@ -1,6 +1,6 @@
 -- What becomes of commands, one after the other.
-use Rattle.std.specs.Prelude.{◌≡◌, ◌≢◌, ⊤, ◌⊎◌, ℕ, ◌+◌, ◌^◌, ◌<◌, ◌≤◌, Bool, List, [], ◌∷◌, ◌++◌, length, Option, None, Some}
-use Rattle.std.specs.List.{All}
+use Rattle.std.specs.Prelude.{◌≡◌, ◌≢◌, ⊤, ◌⊎◌, ℕ, ◌+◌, ◌^◌, ◌<◌, ◌≤◌, Bool, List, [], ◌∷◌, ◌++◌, length, take, Option, None, Some, Err}
+use Rattle.std.specs.List.{All, concat}
 use Rattle.std.specs.Io.KnownBytes.{Appends, Consumes, IsAtEnd, Keeps}
 use Rattle.ball_model.specs.Input.{Network, fields}
 use Rattle.ball_model.specs.Held.{start_holding}
@@ -9,15 +9,23 @@ use Rattle.ball_model.specs.Join.{Holding}
 use Rattle.ball_model.specs.PlanValue.{PlanValue}
 use Rattle.ball_model.specs.RunText.{Settings}
 use Rattle.ball_model.specs.State.{State}
+use Rattle.ball_model.specs.WorldText.{refusal_line, untaken_line}
+use Rattle.ball_model.specs.declared.names.TakeError.{TakeError}
+use Rattle.ball_model.specs.declared.world.WorldError.TheVariants as refusal
+use Rattle.batches.specs.Reading.{batch_at}
+use Rattle.batches.specs.declared.error.BatchError.{BatchError}
+use Rattle.checkpoint.specs.declared.error.KeepError.{KeepError}
 use Rattle.world.specs.declared.tell.TellError.{TellError}
 use Rattle.world.specs.declared.tell.TellError.TheVariants as untold
 use Rattle.node.specs.declared.command.Command.{Command}
+use Rattle.node.specs.declared.command.Command.TheVariants as order
 use Rattle.node.specs.declared.error.ServeError.{ServeError}
 use Rattle.node.specs.declared.error.ServeError.TheVariants as fault
-use Rattle.node.specs.NodeText.{AnswersOne, AnswersAll, AllAsk, Asked, Asks, IsRequest, Request, after_all, after_asked, body_length, command_in, request_bytes, requests_text}
+use Rattle.node.specs.NodeText.{AnswersOne, AnswersAll, AllAsk, Asked, Asks, IsNotFor, IsRequest, Request, after_all, after_asked, body_length, command_in, refused_line, request_bytes, requests_text}
+use Rattle.node.specs.Refusals.{IsNoCheckpoint}
 use Rattle.node.specs.Job.{IsJobRead}
 use Rattle.node.specs.Stream.{HasNoEnd, most_line}
-use Rattle.node.specs.Turns.{Holds, most_body}
+use Rattle.node.specs.Turns.{Holds, batch_word, checkpoint_word, most_body}
 
 -- ---- what errors are told as
 
@@ -27,21 +35,35 @@ told_tell untold.Write = fault.Write
 
 -- ---- one answer
 
--- a text was appended that is the answer of a node of that holding
-pub record AppendsAnswer (j : Job) (labels : List (List ℕ)) (h : Holding) (a : Asked)
+-- where a node of the part refuses a command and the bytes behind it, whatever it has, this is so of the line that says
+-- it: there is no such target, or it is the node's own partition; the bytes are no batch of the plan, or one that is not
+-- for the partition; they are no checkpoint of the part
+abbrev pub IfRefused : PartValue → Command → List ℕ → (List ℕ → Type 0) → Type 0
+IfRefused part (order.Send q) body P =
+    (part.plan.parts ≤ q) ⊎ (q ≡ part.number) → P (refusal_line refusal.NoTarget)
+IfRefused part (order.Deliver n) body P =
+    ((e : BatchError) → batch_at part.plan body ≡ Err e → P (refused_line (batch_word e)))
+    × ((e : TakeError) → IsNotFor part.plan part.number body e → P (untaken_line e))
+IfRefused part (order.Restart n) body P =
+    (e : KeepError) → body ≢ [] → IsNoCheckpoint part body e →
+    P (refused_line (checkpoint_word e))
+IfRefused part (order.Recover n) body P =
+    (e : KeepError) → IsNoCheckpoint part body e → P (refused_line (checkpoint_word e))
+IfRefused part c body P = ⊤
+
+-- what a replica v was asked by a command and the bytes behind it was answered by a text, and it is w now. For each
+-- holding of a job that v has, and whatever these bytes ask for, the text is the answer, and w has the holding after it.
+-- Where the bytes are refused whatever v has, the text is the line that says so, and w is v
+pub record Steps (network : Network) (c : Command) (body : List ℕ) (v w : State)
     (old new : Option (List ℕ)) : Type 0 where
   pub text : List ℕ
   pub appended : Appends old new text
-  pub answers : AnswersOne j labels h a text
-
--- what a replica v was asked by a command and the bytes behind it was answered, and it is w now: so it is for each
--- holding of a job that v has, and whatever these bytes ask for
-pub record Steps (network : Network) (c : Command) (body : List ℕ) (v w : State)
-    (old new : Option (List ℕ)) : Type 0 where
   pub told : (j : Job) (p : ℕ) (h : Holding) (a : Asked) → j.graph ≡ network.graph →
-      Holds j p h v → Asks j p c body a → AppendsAnswer j network.labels h a old new
+      Holds j p h v → Asks j p c body a → AnswersOne j network.labels h a text
   pub holds : (j : Job) (p : ℕ) (h : Holding) (a : Asked) → j.graph ≡ network.graph →
       Holds j p h v → Asks j p c body a → Holds j p (after_asked j h a) w
+  pub named : IfRefused v.part c body (λ line. text ≡ line)
+  pub spared : IfRefused v.part c body (λ _. w ≡ v)
 
 -- ---- a request: it is read, and answered
 
@@ -132,11 +154,32 @@ pub record AppendsAnswers (j : Job) (labels : List (List ℕ)) (h : Holding) (mo
   pub appended : Appends old new text
   pub answers : AnswersAll j labels h more text
 
--- what a replica v was asked by requests was answered, one after the other, and it is w now
+-- there is a text for each request: whatever the first one asks for, its text is the answer of a node of that holding,
+-- and so it is of the others with the holding after it. (Of a request that asks for nothing, as one that brings an untrue
+-- batch, and of all behind it this says nothing.)
+unfoldable pub AreTold : Job → ℕ → List (List ℕ) → Holding → List Request → List (List ℕ) → Type 0
+AreTold j p labels h [] [] = ⊤
+AreTold j p labels h (r ∷ rs) (text ∷ texts) =
+    (a : Asked) → Asks j p r.command r.body a →
+    AnswersOne j labels h a text × AreTold j p labels (after_asked j h a) rs texts
+AreTold j p labels h rs texts = ⊥
+
+-- there is a text for each request: where a node of the part refuses it, whatever the node has, the text is the line
+-- that says so
+unfoldable pub AreNamed : PartValue → List Request → List (List ℕ) → Type 0
+AreNamed part [] [] = ⊤
+AreNamed part (r ∷ rs) (text ∷ texts) =
+    IfRefused part r.command r.body (λ line. text ≡ line) × AreNamed part rs texts
+AreNamed part rs texts = ⊥
+
+-- what a replica v was asked by requests was answered by texts, one behind the other, and it is w now
 pub record Runs (network : Network) (rs : List Request) (v w : State)
     (old new : Option (List ℕ)) : Type 0 where
-  pub told : (j : Job) (p : ℕ) (h : Holding) (more : List Asked) → j.graph ≡ network.graph →
-      Holds j p h v → AllAsk j p rs more → AppendsAnswers j network.labels h more old new
+  pub texts : List (List ℕ)
+  pub appended : Appends old new (concat texts)
+  pub told : (j : Job) (p : ℕ) (h : Holding) → j.graph ≡ network.graph → Holds j p h v →
+      AreTold j p network.labels h rs texts
+  pub named : AreNamed v.part rs texts
   pub holds : (j : Job) (p : ℕ) (h : Holding) (more : List Asked) → j.graph ≡ network.graph →
       Holds j p h v → AllAsk j p rs more → Holds j p (after_all j h more) w
 
@@ -166,9 +209,20 @@ pub record ServesRest (network : Network) (left left' : Option (List ℕ)) (v w 
 
 -- ---- a node from its start
 
+-- a node of partition p answered each request by a text, one behind the other. Where a request is refused whatever the
+-- node has, its text is the line that says so. And as many requests, from the first on, as ask for something have the
+-- answers as their texts, whatever follows them
+pub record AnswersEach (j : Job) (p : ℕ) (labels : List (List ℕ)) (h : Holding)
+    (rs : List Request) (old new : Option (List ℕ)) : Type 0 where
+  pub texts : List (List ℕ)
+  pub appended : Appends old new (concat texts)
+  pub named : AreNamed (part_of j p) rs texts
+  pub begun : (front rest : List Request) (more : List Asked) → rs ≡ front ++ rest →
+      AllAsk j p front more → AnswersAll j labels h more (concat (take (length front) texts))
+
 -- the job of the input was read, and all that follows it is requests, which a node of partition p was asked from its
--- start on: where each delivered batch is a true one, or none for the partition, and each checkpoint stands for the
--- job, or is none of the partition, they were answered
+-- start on, and answered each: where each delivered batch is a true one, or none for the partition, and each checkpoint
+-- stands for the job, or is none of the partition, by the definition's answers
 pub record ServesNode (s : Settings) (counted : Bool) (p : ℕ)
     (left left' old new : Option (List ℕ)) : Type 0 where
   pub network : Network
@@ -182,6 +236,8 @@ pub record ServesNode (s : Settings) (counted : Bool) (p : ℕ)
   pub end : IsAtEnd left'
   pub told : (more : List Asked) → AllAsk (job_of network.graph plan) p requests more →
       AppendsAnswers (job_of network.graph plan) network.labels (start_holding plan p) more old new
+  pub answered : AnswersEach (job_of network.graph plan) p network.labels
+      (start_holding plan p) requests old new
 
 -- the job of the input was read, and such a request stopped a node of partition p that had answered all before it
 pub record StopsNode (s : Settings) (counted : Bool) (p : ℕ) (e : ServeError)
@@ -197,4 +253,6 @@ pub record StopsNode (s : Settings) (counted : Bool) (p : ℕ) (e : ServeError)
   pub consumed : Consumes mid rest (requests_text requests)
   pub told : (more : List Asked) → AllAsk (job_of network.graph plan) p requests more →
       AppendsAnswers (job_of network.graph plan) network.labels (start_holding plan p) more old new
+  pub answered : AnswersEach (job_of network.graph plan) p network.labels
+      (start_holding plan p) requests old new
   pub at : IsNoRequest (part_of (job_of network.graph plan) p) (length requests + 1) e rest left'

@@ -25,6 +25,7 @@ pub mod error;
 pub mod gather;
 pub mod input;
 pub mod job;
+pub mod laws;
 pub mod limits;
 pub mod own;
 pub mod section;

@@ -2,7 +2,6 @@
 
 ghost use Rattle.std.specs.Prelude.{◌≡◌, ◌≢◌, ℕ, ◌+◌, ◌*◌, ◌<◌, ◌≤◌, ◌%◌, ◌^◌, Err, IfOk, OnOk};
 ghost use Rattle.std.specs.Prelude.{length};
-ghost use Rattle.std.specs.Io.KnownBytes.{Appends};
 ghost use Rattle.ball_model.specs.Figures.{empty_of};
 ghost use Rattle.ball_model.specs.Held.{HasHolding};
 ghost use Rattle.ball_model.specs.Job.{Job};
@@ -12,6 +11,7 @@ ghost use Rattle.ball_model.specs.Report.{vertex_text};
 ghost use Rattle.ball_model.specs.Streams.{Rises};
 ghost use Rattle.node.specs.NodeText.{figures_text};
 ghost use Rattle.node.specs.Own.{true_figures};
+ghost use Rattle.node.specs.Turns.{AppendsOf};
 
 use ball_model::CountedWrite;
 use edgelist::Graph;
@@ -70,9 +70,9 @@ fn tell_vertex<W: CountedWrite>(
     requires vertex { x < replica.now.part.plan.vertices }
     requires own { x % replica.now.part.plan.parts ≡ replica.now.part.number }
     requires graph { replica.now.part.plan.vertices ≡ graph.now.graph.vertices }
-    ensures done { (j : Job) (h : Holding) → HasHolding j h replica.now → OnOk result (Appends
-        (W.contents writer.old) (W.contents writer.new)
-        (vertex_text (mixing_of j.plan) j.graph graph.now.labels h.superstep x)) }
+    ensures done { OnOk result (AppendsOf replica.now
+        (λ j h. vertex_text (mixing_of j.plan) j.graph graph.now.labels h.superstep x)
+        (W.contents writer.old) (W.contents writer.new)) }
     ensures write { result ≡ Err TellError.Write →
         Rises (W.failed_calls writer.old) (W.failed_calls writer.new) }
     ensures written { result ≢ Err TellError.Write →
@@ -104,8 +104,8 @@ pub fn tell_own<W: CountedWrite>(
     writer: &mut W,
 ) -> Result<(), TellError>
     requires { replica.now.part.plan.vertices ≡ graph.now.graph.vertices }
-    ensures done { (j : Job) (h : Holding) → HasHolding j h replica.now → OnOk result (Appends
-        (W.contents writer.old) (W.contents writer.new) (figures_text j graph.now.labels h)) }
+    ensures done { OnOk result (AppendsOf replica.now (λ j h. figures_text j graph.now.labels h)
+        (W.contents writer.old) (W.contents writer.new)) }
     // A call failed exactly where that is told.
     ensures write { result ≡ Err TellError.Write →
         Rises (W.failed_calls writer.old) (W.failed_calls writer.new) }

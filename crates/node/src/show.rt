@@ -2,13 +2,10 @@
 
 ghost use Rattle.std.specs.Prelude.{◌≡◌, ◌≢◌, ◌<◌, ◌%◌, Err, OnOk};
 ghost use Rattle.std.specs.List.{flat_map};
-ghost use Rattle.std.specs.Io.KnownBytes.{Appends};
-ghost use Rattle.ball_model.specs.Held.{HasHolding};
-ghost use Rattle.ball_model.specs.Job.{Job};
-ghost use Rattle.ball_model.specs.Join.{Holding};
 ghost use Rattle.ball_model.specs.State.{own_vertices};
 ghost use Rattle.ball_model.specs.Streams.{Rises};
 ghost use Rattle.ball_model.specs.WorldText.{row_text, show_text};
+ghost use Rattle.node.specs.Turns.{AppendsOf};
 
 use crate::own::own_vertex;
 use ball_model::{CountedWrite, NodeId};
@@ -25,8 +22,8 @@ fn tell_row<W: CountedWrite>(
 ) -> Result<(), TellError>
     requires vertex { x < replica.now.part.plan.vertices }
     requires own { x % replica.now.part.plan.parts ≡ replica.now.part.number }
-    ensures done { (j : Job) (h : Holding) → HasHolding j h replica.now → OnOk result (
-        Appends (W.contents writer.old) (W.contents writer.new) (row_text j h.superstep x)) }
+    ensures done { OnOk result (AppendsOf replica.now (λ j h. row_text j h.superstep x)
+        (W.contents writer.old) (W.contents writer.new)) }
     ensures write { result ≡ Err TellError.Write →
         Rises (W.failed_calls writer.old) (W.failed_calls writer.new) }
     ensures written { result ≢ Err TellError.Write →
@@ -43,9 +40,9 @@ fn tell_rows<W: CountedWrite>(
     line: &mut Vec<u8>,
     writer: &mut W,
 ) -> Result<(), TellError>
-    ensures done { (j : Job) (h : Holding) → HasHolding j h replica.now → OnOk result (
-        Appends (W.contents writer.old) (W.contents writer.new)
-        (flat_map (row_text j h.superstep) (own_vertices j h.partition))) }
+    ensures done { OnOk result (AppendsOf replica.now
+        (λ j h. flat_map (row_text j h.superstep) (own_vertices j h.partition))
+        (W.contents writer.old) (W.contents writer.new)) }
     ensures write { result ≡ Err TellError.Write →
         Rises (W.failed_calls writer.old) (W.failed_calls writer.new) }
     ensures written { result ≢ Err TellError.Write →
@@ -67,8 +64,8 @@ pub fn tell_shown<W: CountedWrite>(
     line: &mut Vec<u8>,
     writer: &mut W,
 ) -> Result<(), TellError>
-    ensures done { (j : Job) (h : Holding) → HasHolding j h replica.now → OnOk result (
-        Appends (W.contents writer.old) (W.contents writer.new) (show_text j id h)) }
+    ensures done { OnOk result (AppendsOf replica.now (λ j h. show_text j id h)
+        (W.contents writer.old) (W.contents writer.new)) }
     // A call failed exactly where that is told.
     ensures write { result ≡ Err TellError.Write →
         Rises (W.failed_calls writer.old) (W.failed_calls writer.new) }

@@ -1,4 +1,4 @@
-use Rattle.std.proofs.Common.{◌≡◌, ◌∙◌, ◌*◌, ap, refl, arith}
+use Rattle.std.proofs.Common.{◌∙◌, ◌*◌, ap, refl, arith}
 use Rattle.ball_model.specs.PlanValue.{PlanValue}
 use Rattle.world.proofs.TellLemmas.{vertex-below, vertex-fits}
 use Rattle.node.proofs.own.own_vertex.Goals as goal
