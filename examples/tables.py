@@ -11,7 +11,8 @@ wants Python's standard library alone.
 The sum of distances to a vertex is not in a report. It is the square of reachable divided by Lin's index, and keeps
 its digits where the report's closeness, which is 1 divided by it, has none left. So closeness is that quotient here, with
 six digits that count. The mean distance is the sum of distances divided by the number of other vertices that reach the
-vertex: reachable less that of a vertex alone, which is N(0) divided by the number of vertices.
+vertex: reachable less that of a vertex alone, which is N(0) divided by the number of vertices. (That is so where all
+vertices count. Of a run with --counted a report does not say which do, and then mean distances are not to be taken.)
 """
 import csv
 import os
