@@ -1,11 +1,11 @@
 -- What several calls of a stream did, call by call.
-use Rattle.std.proofs.Common.{◌≡◌, ℕ, ◌+◌, ◌-◌, ◌<◌, ◌≤◌, ◌⊎◌, List, [], ◌++◌, length, take, drop, refl, sym, ap, ◌∙◌, arith, append_assoc, length-append, take-append-drop, inl, inr, subst, None, Some}
+use Rattle.std.proofs.Common.{◌≡◌, ℕ, ◌+◌, ◌-◌, ◌<◌, ◌≤◌, ◌⊎◌, List, [], ◌++◌, length, take, drop, refl, sym, ap, ◌∙◌, arith, append_assoc, append-nil, length-append, length-take-le, take-append-drop, inl, inr, subst, None, Some}
 use Rattle.std.specs.Prelude.{IfNone, ⊤}
 use Rattle.std.specs.declared.option.Option.{Option}
-use Rattle.std.specs.Io.KnownBytes.{Appends, Keeps}
+use Rattle.std.specs.Io.KnownBytes.{Appends, Consumes, Keeps}
 use Rattle.std.proofs.lemmas.List.{take_rest}
-use Rattle.std.proofs.KnownBytes.{Appends-nil, Appends-trans, Appends-kept}
-use Rattle.ball_model.specs.Streams.{AfterAtMost, AreSure, after_call, PutsFront}
+use Rattle.std.proofs.KnownBytes.{Appends-nil, Appends-trans, Appends-kept, Consumes-trans}
+use Rattle.ball_model.specs.Streams.{AfterAtMost, AreSure, after_call, PutsFront, TakesAtMost}
 
 -- a beginning of all bytes was appended, and the rest is left
 pub record IsPut (all rest : List ℕ) (old new : Option (List ℕ)) : Type 0 where
@@ -79,3 +79,13 @@ room_less all rest n room left now is less le fits = omega arith
 pub rises_by_one : (told : Option ℕ) (old new : ℕ) → IfNone told (new ≡ old + 1) → IfNone told (old < new)
 rises_by_one None old new e = omega arith
 rises_by_one (Some n) old new e = tt
+
+-- ---- bytes that were read
+
+-- a read of no bytes changes nothing
+pub read_none : (a b c : Option (List ℕ)) (bs ys : List ℕ) (n : ℕ) → n ≡ 0 → Consumes a b bs → Consumes b c (take n ys) → Consumes a c bs
+read_none a b c bs ys n none p q = subst (Consumes a c) (append-nil bs) (Consumes-trans a b c bs [] p (rw none at q))
+
+-- the front of a buffer is no more than the buffer
+pub read_few : (at n : ℕ) (buf : List ℕ) (a b : Option (List ℕ)) → at ≤ length buf → length buf ≡ n → Consumes a b (take at buf) → TakesAtMost n a b
+read_few at n buf a b within size read = record { bytes = take at buf; consumed = read; few = let e : length (take at buf) ≡ at = length-take-le at buf within in omega arith }

@@ -29,12 +29,14 @@ ghost use Rattle.ball_model.specs.Counter.{max_each};
 
 pub mod join;
 mod lanes;
+pub mod marks;
 pub mod mask;
 pub mod relay;
 pub mod rows;
 
 pub use join::{Join, reconcile};
 use lanes::{HALF, LANES, raise_half, raise_lanes};
+pub use marks::next_marked;
 pub use mask::SourceMask;
 pub use relay::Relay;
 pub use rows::{LINE, Rows};

@@ -9,14 +9,14 @@ use Rattle.ball_model.specs.Table.{Table}
 use Rattle.registers.specs.Joined.{maximum_of_rows, union_of_flags}
 use Rattle.replica.specs.declared.Progress.TheInside as progress
 use Rattle.replica.specs.Ahead.{IsTable, either}
-use Rattle.replica.specs.Hearing.{CanFill, CanHear, CanJoin, Fills, HearingValue, HearsEarly, KeepsAll}
+use Rattle.replica.specs.Hearing.{CanFill, CanHear, CanJoin, Fills, HearingValue, HearsEarly, KeepsAll, Renews}
 use Rattle.replica.specs.Index.{targets_of}
 use Rattle.replica.specs.Level.{differences}
-use Rattle.replica.specs.Merged.{Absorbs, CanAbsorb}
-use Rattle.replica.specs.Progress.{IsWhole, ProgressValue}
+use Rattle.replica.specs.Merged.{Absorbs, CanAbsorb, TakesIn, TakesOver}
+use Rattle.replica.specs.Progress.{CanGoOn, IsWhole, ProgressValue}
 use Rattle.replica.specs.Seen.{IsProgress, IsState, progress_of, state_of}
 use Rattle.replica.specs.Tables.{HasRoomFor, TablesValue}
-use Rattle.replica.proofs.AccumulatorLemmas.{Keeps, fields_are, fields_of, kept_progress, state_is, whole_keeps, whole_room}
+use Rattle.replica.proofs.AccumulatorLemmas.{Keeps, fields_are, fields_of, kept_progress, said_same, state_is, whole_keeps, whole_room}
 use Rattle.replica.proofs.HearLemmas.{hears_as, hears_same}
 use Rattle.replica.proofs.HearingLemmas.{hears_said}
 use Rattle.replica.proofs.MergeLemmas.{Gathers, Meets, Raises, Unites, absorbs_as, absorbs_further, absorbs_lesser, absorbs_level, gathers_state, meets, raises, touched_from, unites_state}
@@ -197,3 +197,21 @@ united r o v u shared early theirs next g level are is kept table =
     (ap (λ (a : HearingValue). a.touched) is ∙ ap (λ (a : HearingValue). differences s.rows a.accumulated.rows (length s.rows)) (sym is)))
     g.room
     (absorbs_level s l (fields_of after) m.mine m.theirs made refl)
+
+-- ---- once the accumulators are kept again
+
+pub record TookIn (k l new : ProgressValue) : Type 0 where
+  pub taken : TakesIn k.state l.state new.state
+  pub goes_on : CanGoOn new
+
+pub took_in : (r o : progress.Inside) (rows : Table) (a : HearingValue) (k l new : ProgressValue) → IsProgress r → progress_of r ≡ k → IsProgress o → progress_of o ≡ l → rows ≡ r.tables.rows → Renews rows.rows r.hearing a → TakesOver (progress_of (record r { hearing = a })) l new → TookIn k l new
+took_in r o rows a k l new mine is theirs other_is same renews over =
+    let renewed : Renews r.tables.rows.rows r.hearing a = subst (λ (t : Table). Renews t.rows r.hearing a) same renews in
+    record {
+      taken = record {
+        absorbs = subst (λ (v : State). Absorbs v l.state new.state) (said_same r a renewed.same ∙ state_is is) over.absorbs;
+        mine = subst (λ (v : State). IsState v) (state_is is) mine.state;
+        theirs = subst (λ (v : State). IsState v) (state_is other_is) theirs.state;
+      };
+      goes_on = record { kept = inl over.whole.kept; room = over.whole.room };
+    }

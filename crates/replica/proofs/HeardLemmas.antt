@@ -21,6 +21,8 @@ use Rattle.ball_model.proofs.PartLemmas.{vertices_of-strided, range_more}
 use Rattle.ball_model.proofs.AccumulatedLemmas.{accumulated-step}
 use Rattle.ball_model.proofs.AccumulatedPartLemmas.{accumulated_of-same, accumulated_of-at, length-accumulated_of, own_is}
 use Rattle.replica.specs.Index.{targets_of}
+use Rattle.registers.specs.Marks.{IsNextMarked}
+use Rattle.registers.proofs.MarkLemmas.{at_next}
 use Rattle.replica.specs.Spread.{stands_in, row_after, rows_after, rows_after_all, marked_rows}
 use Rattle.replica.proofs.SpreadLemmas.{length-spread, spread-at}
 use Rattle.replica.proofs.TargetLemmas.{targets-edge}
@@ -206,6 +208,11 @@ marked-yes parts p i rows marks at = marked-next parts p i rows marks true at
 
 pub marked-no : (parts p i : ℕ) (rows : List (List ℕ)) (marks : List Bool) → get_or marks i false ≡ false → marked_rows parts p rows marks (i + 1) ≡ marked_rows parts p rows marks i
 marked-no parts p i rows marks at = marked-next parts p i rows marks false at ∙ append-nil (marked_rows parts p rows marks i)
+
+-- and up to the next marked one
+pub marked-over : (parts p from next : ℕ) (rows : List (List ℕ)) (marks : List Bool) → IsNextMarked marks from next → marked_rows parts p rows marks next ≡ marked_rows parts p rows marks from
+marked-over parts p from next rows marks is =
+    at_next (λ n. marked_rows parts p rows marks n ≡ marked_rows parts p rows marks from) marks from next is (λ k low lt off same. marked-no parts p k rows marks off ∙ same) refl
 
 -- what a partition has, its changed rows spread
 pub own_stands : (j : Job) (p t n : ℕ) (heard : ℕ → Bool) (part : PartValue) (targets rows accumulated : List (List ℕ)) (marks : List Bool) → IsJob j → p < j.plan.parts → part ≡ part_of j p → targets ≡ targets_of part → rows ≡ rows_of j p t → marks ≡ marks_of j p t → accumulated ≡ accumulated_of j p t heard → n ≡ length marks →

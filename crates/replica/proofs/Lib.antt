@@ -33,6 +33,7 @@ pub mod HoldingLemmas
 pub mod OverLemmas
 pub mod AccumulatorLemmas
 pub mod TablesLemmas
+pub mod TalliesLemmas
 pub mod AbsorbLemmas
 pub mod Crossing
 pub mod ReceiveLemmas

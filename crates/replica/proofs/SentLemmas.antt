@@ -1,6 +1,7 @@
 -- What a replica sends is the true batch, where it stands for its content.
 use Rattle.std.proofs.Common.{◌≡◌, ℕ, zero, suc, ◌+◌, ◌*◌, ◌<◌, ◌≤◌, Bool, true, false, ◌&&◌, List, [], ◌∷◌, ◌++◌, length, length-append, map, get_or, take, if◌then◌else◌, refl, ap, arith, sym, subst, ◌∙◌}
 use Rattle.std.specs.List.{range_with_len, flat_map, filter, count_by, AllByRecursion}
+use Rattle.std.proofs.lemmas.Bool.{and_left}
 use Rattle.std.proofs.lemmas.List.{append-nil, take_more, get_or_default}
 use Rattle.std.proofs.lemmas.List.Elements.{filter-append}
 use Rattle.std.proofs.lemmas.List.Concat.{flat_map-append}
@@ -15,6 +16,8 @@ use Rattle.ball_model.specs.Masks.{has_bit}
 use Rattle.ball_model.specs.State.{State, StandsFor}
 use Rattle.ball_model.proofs.MaskLemmas.{mask-bit}
 use Rattle.ball_model.proofs.PartLemmas.{range_more, vertices_of-strided}
+use Rattle.registers.specs.Marks.{IsNextMarked}
+use Rattle.registers.proofs.MarkLemmas.{at_next}
 use Rattle.replica.specs.Seen.{IsState}
 use Rattle.replica.specs.Sent.{sent_row, sent_rows, sent_batch}
 use Rattle.replica.proofs.OwnLemmas.{vertex_of, own_below, own_part, at_own}
@@ -97,6 +100,12 @@ unfolding sent_batch
 sent_no v target i b is off =
     is ∙ ap (λ (l : List (ℕ × List ℕ)). record (sent_batch v target i) { rows = l })
     (sym (sent_more v target i ∙ ap (λ (l : List (ℕ × List ℕ)). sent_rows v target i ++ l) (sent_none (get_or v.marks i false) (has_bit (get_or v.part.feeds i 0) target) (i * v.part.plan.parts + v.part.number, get_or v.rows i []) off) ∙ append-nil (sent_rows v target i)))
+
+-- or passes over vertices that did not change
+pub sent_over : (v : State) (target from next : ℕ) (b : BatchValue) → IsNextMarked v.marks from next → b ≡ sent_batch v target from → b ≡ sent_batch v target next
+sent_over v target from next b is =
+    at_next (λ n. b ≡ sent_batch v target n) v.marks from next is
+    (λ k low lt off so_far. sent_no v target k b so_far (and_left (get_or v.marks k false) (has_bit (get_or v.part.feeds k 0) target) off))
 
 -- the row of a vertex of the partition is one that the batch may have
 pub sent_fits : (v : State) (target i id : ℕ) (row : List ℕ) (b : BatchValue) → IsState v → b ≡ sent_batch v target i → i < length v.part.preds → id ≡ i * v.part.plan.parts + v.part.number → row ≡ get_or v.rows i [] → IsRow b.plan b.name.source (id, row)

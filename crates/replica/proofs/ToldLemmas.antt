@@ -14,6 +14,8 @@ use Rattle.ball_model.specs.PlanValue.{PlanValue}
 use Rattle.ball_model.specs.State.{State, StandsFor}
 use Rattle.ball_model.proofs.PartLemmas.{range_more}
 use Rattle.batches.specs.Kept.{rows_at}
+use Rattle.registers.specs.Marks.{IsNextMarked}
+use Rattle.registers.proofs.MarkLemmas.{at_next}
 use Rattle.replica.specs.Seen.{IsState}
 use Rattle.replica.specs.Sent.{IsTold, changed_registers, changed_row, changed_rows, sent_row, sent_rows, sent_batch}
 use Rattle.replica.proofs.CountingLemmas.{range_split}
@@ -29,6 +31,16 @@ unfolding changed_rows
 changed_more v n =
     let F : ℕ → List ℕ = λ i. changed_row v i in
     ap (flat_map F) (range_more n) ∙ flat_map-append F (range_with_len 0 n) (n ∷ []) ∙ ap (λ (l : List ℕ). flat_map F (range_with_len 0 n) ++ l) (append-nil (F n))
+
+-- one that did not change
+changed_same : (v : State) (n : ℕ) → get_or v.marks n false ≡ false → changed_rows v (n + 1) ≡ changed_rows v n
+changed_same v n off =
+    let none : changed_row v n ≡ [] = rw off refl in
+    changed_more v n ∙ ap (λ (l : List ℕ). changed_rows v n ++ l) none ∙ append-nil (changed_rows v n)
+
+-- up to the next one that did
+pub changed_over : (v : State) (from next : ℕ) (rows : List ℕ) → IsNextMarked v.marks from next → rows ≡ changed_rows v from → rows ≡ changed_rows v next
+changed_over v from next rows is = at_next (λ n. rows ≡ changed_rows v n) v.marks from next is (λ k low lt off so_far. so_far ∙ sym (changed_same v k off))
 
 -- no vertex
 pub changed_none : (v : State) → changed_rows v 0 ≡ []
@@ -64,7 +76,7 @@ lies_at m place table before row after is at width =
 abbrev width_of : State → ℕ
 width_of v = 2 ^ v.part.plan.log2m
 
-row_of_changed : (v : State) (n : ℕ) → get_or v.marks n false ≡ true → changed_row v n ≡ get_or v.rows n []
+pub row_of_changed : (v : State) (n : ℕ) → get_or v.marks n false ≡ true → changed_row v n ≡ get_or v.rows n []
 row_of_changed v n on = rw on refl
 
 width_of_changed : (v : State) (n : ℕ) → IsState v → n < length v.part.preds → get_or v.marks n false ≡ true → length (changed_row v n) ≡ width_of v
@@ -116,18 +128,21 @@ sent_same : (v : State) (target n : ℕ) → sent_row v target n ≡ [] → sent
 sent_same v target n none = sent_more v target n ∙ ap (λ (l : List (ℕ × List ℕ)). sent_rows v target n ++ l) none ∙ append-nil (sent_rows v target n)
 
 -- a vertex that did not change
-pub told_off : (v : State) (target n changed : ℕ) (ids places : List ℕ) → IsTold v target n ids places changed → get_or v.marks n false ≡ false → IsTold v target (n + 1) ids places changed
+told_off : (v : State) (target n changed : ℕ) (ids places : List ℕ) → IsTold v target n ids places changed → get_or v.marks n false ≡ false → IsTold v target (n + 1) ids places changed
 told_off v target n changed ids places is off =
-    let none : changed_row v n ≡ [] = rw off refl in
     let unsent : sent_row v target n ≡ [] = rw off refl in
-    let same : changed_rows v (n + 1) ≡ changed_rows v n = changed_more v n ∙ ap (λ (l : List ℕ). changed_rows v n ++ l) none ∙ append-nil (changed_rows v n) in
     record {
       rows = is.rows ∙ sym (sent_same v target n unsent);
       count = is.count;
       within = is.within;
-      before = is.before ∙ sym (ap length same);
+      before = is.before ∙ sym (ap length (changed_same v n off));
       few = omega (arith, is.few);
     }
+
+-- up to the next one that did
+pub told_over : (v : State) (target from next changed : ℕ) (ids places : List ℕ) → IsNextMarked v.marks from next → IsTold v target from ids places changed → IsTold v target next ids places changed
+told_over v target from next changed ids places is =
+    at_next (λ n. IsTold v target n ids places changed) v.marks from next is (λ k low lt off told. told_off v target k changed ids places told off)
 
 counted : (v : State) (target n changed : ℕ) (ids places : List ℕ) → IsState v → n < length v.part.preds → IsTold v target n ids places changed → get_or v.marks n false ≡ true → (changed + 1) * width_of v ≡ length (changed_rows v (n + 1))
 counted v target n changed ids places s lt is on =

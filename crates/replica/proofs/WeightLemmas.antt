@@ -1,7 +1,9 @@
 -- What the estimate of each row is made of.
-use Rattle.std.proofs.Common.{◌≡◌, ℕ, ◌<◌, List, [], length, map, get_or, ap, sym, ◌∙◌, arith}
+use Rattle.std.proofs.Common.{◌≡◌, ℕ, ◌<◌, Bool, false, List, [], length, map, get_or, ap, sym, ◌∙◌, arith}
 use Rattle.std.proofs.lemmas.List.{same_lists, get_or-map, get_or_default, length-map}
+use Rattle.ball_model.specs.Table.{Table}
 use Rattle.figures.specs.Values.{weight_of}
+use Rattle.registers.specs.Relay.{DifferWhere}
 use Rattle.replica.specs.Level.{weights_of}
 
 -- where there are as many as rows
@@ -14,3 +16,8 @@ weights_are rows weights count each =
     same_lists weights (map weight_of rows) (count ∙ sym (length-map rows weight_of))
     (λ k d lt. let inside : k < length rows = omega (arith, count) in
     get_or_default weights k d 0 lt ∙ each k inside ∙ sym (get_or-map weight_of rows k [] d inside))
+
+-- that of a row that has not changed
+pub weight_stays : (marks : List Bool) (old new : Table) (weights : List ℕ) (k : ℕ) → weights ≡ weights_of old.rows → DifferWhere marks old new → k < length old.rows → get_or marks k false ≡ false → get_or weights k 0 ≡ weight_of (get_or new.rows k [])
+weight_stays marks old new weights k are differ lt off =
+    ap (λ (l : List ℕ). get_or l k 0) are ∙ get_or-map weight_of old.rows k [] 0 lt ∙ ap weight_of (differ.same k lt off)

@@ -7,6 +7,7 @@ pub mod Hearing
 pub mod Change
 pub mod Start
 pub mod Tables
+pub mod Tallies
 pub mod Seen
 pub mod Sent
 pub mod Merged

@@ -1,5 +1,5 @@
 -- What a replica has for each vertex, and the sums of its estimates: as plain data, and what becomes of it.
-use Rattle.std.specs.Prelude.{◌≡◌, ℕ, ◌+◌, ◌^◌, ◌<◌, ◌≤◌, Bool, false, List, ◌∷◌, [], ◌++◌, map, length}
+use Rattle.std.specs.Prelude.{◌≡◌, ℕ, ◌+◌, ◌^◌, ◌<◌, ◌≤◌, Bool, List, ◌∷◌, [], ◌++◌, map, length}
 use Rattle.std.specs.List.{sum_by}
 use Rattle.ball_model.specs.Figures.{TallyValue, Measure, estimate_with}
 use Rattle.ball_model.specs.Job.{PartValue}
@@ -64,17 +64,14 @@ pub record CanBeStepped (m : Measure) (t : ℕ) (old new : Table) (marks : List 
   pub count : length tallies ≡ length new.rows
   pub lasts : AreLasts m new.rows marks tallies
 
--- the figures of a row can, which becomes the one ahead, or stays where it has not changed
-pub record CanStepRow (m : Measure) (t : ℕ) (old new : List ℕ) (changed : Bool) (own last : ℕ) :
-    Type 0 where
+-- the figures of a row can, which becomes the one ahead
+pub record CanStepRow (m : Measure) (t : ℕ) (old new : List ℕ) (own last : ℕ) : Type 0 where
   pub from : 0 < t
   pub to : t ≤ greatest_limit
   pub row : IsCounterRow m.log2m old
   pub ahead : IsCounterRow m.log2m new
   pub weight : own ≡ weight_of old
   pub grown : last ≤ estimate_with m new
-  pub same : changed ≡ false → last ≡ estimate_with m new
-  pub still : changed ≡ false → old ≡ new
 
 -- the tables of superstep t can go on to the accumulators
 pub record CanStep (m : Measure) (t : ℕ) (a : TablesValue) (h : HearingValue) (own : List ℕ) :

@@ -124,7 +124,7 @@ fn empty_slots(alloc: Global, count: usize) -> Result<Vec<Option<Arc<Batch>>>, A
 {
     let mut slots = Vec::with_capacity(alloc, count)?;
     for _ in 0..count {
-        slots.push(None)?;
+        slots.push_reserved(None);
     }
     Ok(slots)
 }
@@ -215,7 +215,7 @@ fn share_slots(
 {
     let mut shared = Vec::with_capacity(alloc, slots.len())?;
     for slot in slots {
-        shared.push(share_one(slot)?)?;
+        shared.push_reserved(share_one(slot)?);
     }
     Ok(shared)
 }

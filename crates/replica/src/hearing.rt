@@ -69,30 +69,22 @@ impl Hearing {
         })
     }
 
-    /// This is heard and accumulated beside the rows.
-    pub fn of(
-        alloc: Global,
-        rows: &Rows,
-        heard: SourceMask,
-        change: bool,
-        accumulated: Rows,
-    ) -> Result<Hearing, AllocError>
-        requires { length accumulated.rows ≡ length rows.now.rows }
-        ensures { IfOk result (λ h. h ≡ record {
+    /// This is heard and accumulated; those accumulators are marked that differ from their rows.
+    pub fn of(heard: SourceMask, change: bool, accumulated: Rows, touched: Vec<bool>) -> Hearing
+        requires { length touched.items ≡ length accumulated.rows }
+        ensures { result ≡ record {
           heard = heard;
           change = change;
           accumulated = accumulated;
-          touched = differences rows.now.rows accumulated.rows (length rows.now.rows);
-        }) }
+          touched = touched.items;
+        } }
     {
-        let mut touched = vec![in alloc; false; rows.len()]?;
-        level::mark_differences(rows, &accumulated, &mut touched);
-        Ok(Hearing {
+        Hearing {
             heard,
             change,
             accumulated,
             touched,
-        })
+        }
     }
 
     /// Which sources are heard.
@@ -315,4 +307,15 @@ impl Hearing {
         }
         Ok(())
     }
+}
+
+/// Which of the accumulators differ from their rows.
+pub fn differences(alloc: Global, rows: &Rows, accumulated: &Rows) -> Result<Vec<bool>, AllocError>
+    requires { length accumulated.now.rows ≡ length rows.now.rows }
+    ensures { IfOk result (λ touched. touched.items ≡
+        differences rows.now.rows accumulated.now.rows (length rows.now.rows)) }
+{
+    let mut touched = vec![in alloc; false; rows.len()]?;
+    level::mark_differences(rows, accumulated, &mut touched);
+    Ok(touched)
 }

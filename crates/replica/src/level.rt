@@ -12,7 +12,7 @@ ghost use Rattle.replica.specs.Level.{differences, next_tally, next_tallies, wei
 ghost use Rattle.replica.specs.Tables.{CanBeStepped, CanStepRow};
 
 use figures::{Estimator, Tally, moved_weight};
-use registers::Rows;
+use registers::{Rows, next_marked};
 
 /// Marks the rows that differ.
 pub fn mark_differences(old: &Rows, new: &Rows, marks: &mut [bool])
@@ -56,35 +56,32 @@ pub fn step_tallies(
         sum_by (λ tally. tally.last) tallies.old + result }
 {
     let mut gain = 0;
-    for i in 0..tallies.len() {
+    let mut i = next_marked(marks, 0);
+    while i < tallies.len() {
         let (row, next) = (rows.row(i), ahead.row(i));
         let (weight, tally) = (&mut weights[i], &mut tallies[i]);
-        gain += step_tally(estimator, t, row, next, marks[i], weight, tally);
+        gain += step_tally(estimator, t, row, next, weight, tally);
+        i = next_marked(marks, i + 1);
     }
     gain
 }
 
-// The figures at superstep `t` of a row that has become the one ahead; the answer is what its estimate has gained. Where
-// the row has not changed, they stay as they are.
+// The figures at superstep `t` of a row that has become the one ahead; the answer is what its estimate has gained.
 fn step_tally(
     estimator: &Estimator,
     t: u32,
     row: &[u8],
     ahead: &[u8],
-    changed: bool,
     weight: &mut u64,
     tally: &mut Tally,
 ) -> u128
-    requires { CanStepRow estimator.now t row.now ahead.now changed weight.old tally.old.last }
+    requires { CanStepRow estimator.now t row.now ahead.now weight.old tally.old.last }
     ensures value { value_of tally.new ≡
         next_tally t (value_of tally.old) (estimate_with estimator.now ahead.now) }
     ensures weight { weight.new ≡ weight_of ahead.now }
     ensures gain { tally.new.last ≡ tally.old.last + result }
     ensures small { result < 2 ^ 64 }
 {
-    if !changed {
-        return 0;
-    }
     let before = tally.last;
     *weight = moved_weight(estimator.log2m(), *weight, row, ahead);
     tally.step(t, estimator.estimate_of(*weight));
@@ -114,5 +111,5 @@ pub fn count_set(marks: &[bool]) -> usize
 pub fn any_marked(marks: &[bool]) -> bool
     ensures { result ≡ list_any (λ mark. mark) marks.now }
 {
-    marks.iter().any(|mark| *mark)
+    next_marked(marks, 0) < marks.len()
 }

@@ -52,6 +52,7 @@ mod spread;
 mod start;
 mod step;
 mod tables;
+mod tallies;
 mod targets;
 mod weights;
 
@@ -73,7 +74,6 @@ mod tests;
 ///
 /// Where a replica has it there is room to go on: for a sum of each superstep up to the limit, and for an accumulator
 /// of each row until the run is over. A snapshot has no more than it tells.
-#[derive(Drop)]
 pub struct Progress {
     part: Arc<Part>,
     superstep: u32,
@@ -94,11 +94,24 @@ impl Model for Progress {
     ghost invariant = { IsProgress };
 }
 
+// Written out, and so one call wherever one is let go: the checker reads a derived one again at each place.
+impl Drop for Progress {
+    fn drop(self) {
+        let Progress {
+            part: _,
+            superstep: _,
+            tables: _,
+            hearing: _,
+            early: _,
+        } = self;
+    }
+}
+
 /// What a replica has at a superstep, without the room that later supersteps take.
 ///
 /// Another replica of the partition, one that was lost, restarted or late, takes it over by [`Replica::merge`]. Rows,
-/// batches and the part are shared with the replica that it is of, the rest is a copy: what the replica does afterwards
-/// changes nothing here.
+/// figures, batches and the part are shared with the replica that it is of, the rest is a copy: what the replica does
+/// afterwards changes nothing here.
 #[derive(Drop)]
 pub struct Snapshot {
     progress: Progress,
@@ -115,9 +128,9 @@ impl Model for Snapshot {
 /// One partition's state at a superstep, and the batches that it holds.
 ///
 /// Its memory is taken when it is made: two rows of 2^log2m bytes, a tally and the weight that its estimate is made of
-/// for each vertex, 4 bytes for each edge into the partition, a slot for each source and each of three supersteps, and a sum
-/// for each superstep up to the limit. Where the run is over, [`Replica::give_back`] gives back that of the edges, and one of the two rows if they
-/// are equal.
+/// for each vertex, 4 bytes for each edge into the partition, a slot for each source and each of three supersteps, and a
+/// sum for each superstep up to the limit. Where the run is over, [`Replica::give_back`] gives back that of the edges, and
+/// one of the two rows if they are equal.
 #[derive(Drop)]
 pub struct Replica {
     // what it has at its superstep: what it tells, and what a snapshot copies, with room to go on

@@ -226,9 +226,9 @@ impl Replica {
 
     /// What the replica has now.
     ///
-    /// Rows, batches and the part are shared; a tally and a mark for each vertex and the sums so far are copied, and where
-    /// what is heard has raised a row, the accumulators. Room for a table of rows is taken, in which the replica goes on
-    /// while somebody holds this one. The error is that memory was refused.
+    /// Rows, figures, batches and the part are shared; a mark for each vertex and the sums so far are copied, and where
+    /// what is heard has raised a row, the accumulators. Room for a table of rows and one of figures is taken, in which
+    /// the replica goes on while somebody holds this one. The error is that memory was refused.
     pub fn snapshot(&mut self, alloc: Global) -> Result<Snapshot, AllocError>
         ensures same { IfOk result (λ s. s ≡ self.old) }
         ensures stands { IfOk result (λ s. (j : Job) (p t : ℕ) → StandsFor j p t self.old →

@@ -1,20 +1,22 @@
 //! What a replica tells the other partitions.
 
-ghost use Rattle.std.specs.Prelude.{◌≡◌, ◌≢◌, ℕ, ◌<◌, ◌+◌, ◌*◌, ◌%◌, ◌==◌, ◌++◌, [], IfOk, OnOk};
-ghost use Rattle.std.specs.Prelude.{IsOk, false, slice_index, slice_index_or, length};
+ghost use Rattle.std.specs.Prelude.{◌≡◌, ◌≢◌, ℕ, ◌<◌, ◌≤◌, ◌+◌, ◌*◌, ◌%◌, ◌==◌, ◌++◌, [], IfOk};
+ghost use Rattle.std.specs.Prelude.{IsOk, OnOk, true, false, slice_index, slice_index_or, length};
 ghost use Rattle.std.specs.Arc.{arc_value};
 ghost use Rattle.ball_model.specs.Job.{Job};
 ghost use Rattle.ball_model.specs.Batches.{true_batch};
 ghost use Rattle.ball_model.specs.PlanValue.{most_parts};
 ghost use Rattle.ball_model.specs.State.{StandsFor};
 ghost use Rattle.ball_model.specs.Masks.{has_bit};
-ghost use Rattle.replica.specs.Sent.{IsNothingTold, IsTold, changed_registers, changed_row};
+ghost use Rattle.registers.specs.Marks.{IsNextMarked};
+ghost use Rattle.replica.specs.Sent.{IsNothingTold, IsTold, changed_registers};
 ghost use Rattle.replica.specs.Sent.{changed_rows, sent_batch};
 ghost use Rattle.replica.specs.Seen.{IsState};
 
 use crate::{Progress, Shown};
 use ball_model::BatchName;
 use batches::Batch;
+use registers::next_marked;
 use std::alloc::{AllocError, Global};
 use std::sync::Arc;
 
@@ -37,14 +39,14 @@ impl Progress {
         self.part.vertex(i)
     }
 
-    // Whether vertex i changed.
+    // The first vertex from vertex i on that changed, or the number of vertices where none did.
     #[inline]
-    fn is_marked(&self, i: u32) -> bool
-        requires { i < length self.now.state.part.preds }
-        ensures value { result ≡ slice_index_or self.now.state.marks i false }
+    fn next_changed(&self, i: u32) -> u32
+        requires { i ≤ length self.now.state.part.preds }
+        ensures next { IsNextMarked self.now.state.marks i result }
         ensures state { IsState self.now.state }
     {
-        self.tables.marks()[i as usize]
+        next_marked(self.tables.marks(), i as usize) as u32
     }
 
     // Whether vertex i has an edge into a partition.
@@ -70,8 +72,10 @@ impl Progress {
         };
         let mut batch = Batch::start(alloc, self.plan(), name, self.changed_count())?;
         batch.reserve(self.count_told(target))?;
-        for i in 0..self.part.size() {
+        let mut i = self.next_changed(0);
+        while i < self.part.size() {
             self.send_row(&mut batch, i)?;
+            i = self.next_changed(i + 1);
         }
         Ok(batch)
     }
@@ -82,21 +86,12 @@ impl Progress {
     {
         let room = self.changed_count() as usize * self.plan().width();
         let mut out = Vec::with_capacity(alloc, room)?;
-        for i in 0..self.part.size() {
-            self.add_row(&mut out, i)?;
+        let mut i = self.next_changed(0);
+        while i < self.part.size() {
+            out.extend_from_slice(self.rows().row(i as usize))?;
+            i = self.next_changed(i + 1);
         }
         Ok(out)
-    }
-
-    // Appends the registers of vertex i, where it changed.
-    fn add_row(&self, out: &mut Vec<u8>, i: u32) -> Result<(), AllocError>
-        requires { i < length self.now.state.part.preds }
-        ensures { OnOk result (out.new.items ≡ out.old.items ++ changed_row self.now.state i) }
-    {
-        if self.is_marked(i) {
-            out.extend_from_slice(self.rows().row(i as usize))?;
-        }
-        Ok(())
     }
 
     /// What [`Progress::sent`] is, where the registers of the vertices that changed lie in the table.
@@ -135,31 +130,31 @@ impl Progress {
             (length self.now.state.part.preds) told.ids.items told.places.items told.changed) }
     {
         let mut told = nothing_told(alloc, self.count_told(target) as usize)?;
-        for i in 0..self.part.size() {
+        let mut i = self.next_changed(0);
+        while i < self.part.size() {
             self.tell_row(&mut told, target, i)?;
+            i = self.next_changed(i + 1);
         }
         Ok(told)
     }
 
-    // Counts vertex i, where it changed, and adds it and the place of its row, where it has an edge into the target too.
+    // Counts vertex i, which changed, and adds it and the place of its row, where it has an edge into the target.
     fn tell_row(&self, told: &mut ToldVertices, target: u16, i: u32) -> Result<(), AllocError>
         requires place { i < length self.now.state.part.preds }
+        requires state { IsState self.now.state }
+        requires changed { slice_index_or self.now.state.marks i false ≡ true }
         requires target { target < self.now.state.part.plan.parts }
         requires so_far { IsTold self.now.state target i
             told.old.ids.items told.old.places.items told.old.changed }
         ensures { OnOk result (IsTold self.now.state target (i + 1)
             told.new.ids.items told.new.places.items told.new.changed) }
     {
-        if !self.is_marked(i) {
-            return Ok(());
-        }
         let place = told.changed;
         told.changed += 1;
-        if !self.feeds_into(i, target) {
-            return Ok(());
+        if self.feeds_into(i, target) {
+            told.ids.push(self.vertex(i))?;
+            told.places.push(place)?;
         }
-        told.ids.push(self.vertex(i))?;
-        told.places.push(place)?;
         Ok(())
     }
 
@@ -168,23 +163,27 @@ impl Progress {
         requires target { target < self.now.state.part.plan.parts }
     {
         let mut count = 0u32;
-        for i in 0..self.part.size() {
-            if self.is_marked(i) && self.feeds_into(i, target) {
+        let mut i = self.next_changed(0);
+        while i < self.part.size() {
+            if self.feeds_into(i, target) {
                 count += 1;
             }
+            i = self.next_changed(i + 1);
         }
         count
     }
 
-    // Adds the row of vertex i, where it changed and has an edge into the batch's target.
+    // Adds the row of vertex i, which changed, where it has an edge into the batch's target.
     fn send_row(&self, batch: &mut Batch, i: u32) -> Result<(), AllocError>
         requires place { i < length self.now.state.part.preds }
+        requires state { IsState self.now.state }
+        requires changed { slice_index_or self.now.state.marks i false ≡ true }
         requires target { batch.old.name.target < self.now.state.part.plan.parts }
         requires so_far { batch.old ≡ sent_batch self.now.state batch.old.name.target i }
         ensures { OnOk result
             (batch.new ≡ sent_batch self.now.state batch.old.name.target (i + 1)) }
     {
-        if self.is_marked(i) && self.feeds_into(i, batch.name().target) {
+        if self.feeds_into(i, batch.name().target) {
             batch.push(self.vertex(i), self.rows().row(i as usize))?;
         }
         Ok(())

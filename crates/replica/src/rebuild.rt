@@ -4,16 +4,18 @@ ghost use Rattle.std.specs.Prelude.{◌≡◌, ℕ, ◌+◌, ◌≤◌, map, len
 ghost use Rattle.std.specs.Arc.{arc_value};
 ghost use Rattle.std.specs.Vec.{vec_capacity};
 ghost use Rattle.ball_model.specs.Checkpoint.{kept_batches};
+ghost use Rattle.ball_model.specs.Job.{IsPart};
 ghost use Rattle.ball_model.specs.State.{State};
 ghost use Rattle.replica.specs.Kept.{AreEarly};
+ghost use Rattle.replica.specs.Level.{differences};
 ghost use Rattle.replica.specs.Seen.{IsState};
 ghost use Rattle.replica.specs.Saved.{Fits, IsKeepable, IsRebuilt, IsRemade, MayBeKept};
 
 use crate::early::Early;
-use crate::hearing::Hearing;
+use crate::hearing::{self, Hearing};
 use crate::saved::Saved;
 use crate::tables::{self, Tables};
-use crate::{Progress, Replica, start};
+use crate::{Progress, Replica, Shown, start};
 use ball_model::Plan;
 use batches::Batch;
 use edgelist::Part;
@@ -33,8 +35,8 @@ impl Replica {
         ensures same { IfOk result (λ r. (v : State) → IsState v →
             IsRebuilt (arc_value part) saved v → r ≡ v) }
     {
-        let estimator = start::estimator_of(alloc, part.plan())?;
         let progress = rebuilt(alloc, part, saved)?;
+        let estimator = start::estimator_of(alloc, progress.plan())?;
         Replica::of(alloc, progress, estimator)
     }
 }
@@ -44,19 +46,53 @@ fn rebuilt(alloc: Global, part: Arc<Part>, saved: Saved) -> Result<Progress, All
     requires { Fits (arc_value part) saved }
     ensures { IfOk result (λ k. IsRemade (arc_value part) saved k) }
 {
-    let plan = part.plan();
-    // the limits of a part are told with its number
-    prove!(part.partition() < plan.parts());
-    let sums = with_room(alloc, plan, &saved.sums)?;
-    let early = kept(alloc, &part, saved.superstep, &saved.early)?;
+    let Fresh {
+        sums,
+        early,
+        touched,
+    } = made_anew(alloc, &part, &saved)?;
     let (heard, change, accumulated) = (saved.heard, saved.heard_change, saved.accumulated);
-    let hearing = Hearing::of(alloc, &saved.rows, heard, change, accumulated)?;
     Ok(Progress {
         part,
         superstep: saved.superstep,
         tables: Tables::of(saved.rows, saved.marks, saved.tallies, sums),
-        hearing,
+        hearing: Hearing::of(heard, change, accumulated, touched),
         early,
+    })
+}
+
+// What is made anew of what a checkpoint tells: the sums, with room for later ones, the batches at their places, and
+// which accumulators differ from their rows.
+#[derive(Drop)]
+struct Fresh {
+    sums: Vec<u128>,
+    early: Early,
+    touched: Vec<bool>,
+}
+
+// It is made of a part and what a checkpoint tells of it, which are both borrowed.
+fn made_anew(alloc: Global, part: &Part, saved: &Saved) -> Result<Fresh, AllocError>
+    requires { Fits part.now saved.now }
+    ensures limits { IsPart part.now }
+    ensures sums { IfOk result (λ m. m.sums.items ≡ saved.now.sums.items) }
+    ensures room { IfOk result (λ m. part.now.plan.limit + 1 ≤ vec_capacity m.sums) }
+    ensures batches { IfOk result (λ m.
+        kept_batches m.early ≡ map arc_value saved.now.early.items) }
+    ensures early { IfOk result (λ m.
+        AreEarly part.now.plan part.now.number saved.now.superstep m.early) }
+    ensures touched { IfOk result (λ m. m.touched.items ≡ differences
+        saved.now.rows.rows saved.now.accumulated.rows (length saved.now.rows.rows)) }
+{
+    let plan = part.plan();
+    // the limits of a part are told with its number
+    prove!(part.partition() < plan.parts());
+    let touched = hearing::differences(alloc, &saved.rows, &saved.accumulated)?;
+    let sums = with_room(alloc, plan, &saved.sums)?;
+    let early = kept(alloc, part, saved.superstep, &saved.early)?;
+    Ok(Fresh {
+        sums,
+        early,
+        touched,
     })
 }
 

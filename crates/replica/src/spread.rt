@@ -8,7 +8,7 @@ ghost use Rattle.replica.specs.Heard.{MarksBefore, Raises, SpreadsBatch, Spreads
 use crate::targets::Targets;
 use batches::Batch;
 use edgelist::Part;
-use registers::{LINE, Rows};
+use registers::{LINE, Rows, next_marked};
 
 /// Spreads the row of vertex `z`: the accumulator of each own vertex that `z` has an edge to becomes the maximum of
 /// itself and `registers`, register by register, and each accumulator that this changes is marked.
@@ -55,7 +55,7 @@ pub fn spread_batch(targets: &Targets, batch: &Batch, accumulated: &mut Rows, to
 ///
 /// Where the rows are the counters at t and the marks say which of them are changed there, the accumulators of what
 /// was heard become those of what was heard and the own vertices. It takes no memory, and time in proportion to the
-/// own vertices and to the edges of the marked ones into the part.
+/// edges of the marked ones into the part; marks are passed over 64 at once where none is set.
 #[inline(never)]
 pub fn spread_own(
     targets: &Targets,
@@ -72,16 +72,17 @@ pub fn spread_own(
     ensures { SpreadsOwn targets.now part.now rows.now.rows marks.now
         accumulated.old accumulated.new touched.old touched.new }
 {
-    for i in 0..part.size() {
-        if marks[i as usize] {
-            spread_row(
-                targets,
-                part.vertex(i),
-                rows.row(i as usize),
-                accumulated,
-                touched,
-            );
-        }
+    let size = part.size() as usize;
+    let mut i = next_marked(marks, 0);
+    while i < size {
+        spread_row(
+            targets,
+            part.vertex(i as u32),
+            rows.row(i),
+            accumulated,
+            touched,
+        );
+        i = next_marked(marks, i + 1);
     }
 }
 

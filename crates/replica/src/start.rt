@@ -65,7 +65,7 @@ pub fn start_marks(alloc: Global, part: &Part) -> Result<Vec<bool>, AllocError>
 {
     let mut marks = Vec::with_capacity(alloc, part.size() as usize)?;
     for i in 0..part.size() {
-        marks.push(part.counts(i))?;
+        marks.push_reserved(part.counts(i));
     }
     Ok(marks)
 }
@@ -82,7 +82,7 @@ pub fn start_tallies(
 {
     let mut tallies = Vec::with_capacity(alloc, rows.len())?;
     for i in 0..rows.len() {
-        tallies.push(Tally::start(estimator.estimate(rows.row(i))))?;
+        tallies.push_reserved(Tally::start(estimator.estimate(rows.row(i))));
     }
     Ok(tallies)
 }

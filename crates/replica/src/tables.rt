@@ -8,7 +8,8 @@ ghost use Rattle.replica.specs.Tables.{AreFirst, CanStep, HasEach, HasRoomFor, N
 ghost use Rattle.replica.specs.Tables.{TablesValue};
 
 use crate::hearing::Hearing;
-use crate::{level, start};
+use crate::start;
+use crate::tallies::Tallies;
 use edgelist::Part;
 use figures::{Estimator, Tally};
 use registers::{Relay, Rows};
@@ -21,7 +22,7 @@ use std::marker::Model;
 pub struct Tables {
     rows: Relay,
     marks: Vec<bool>,
-    tallies: Vec<Tally>,
+    tallies: Tallies,
     // where a replica has them there is room for a sum of each superstep up to the limit
     sums: Vec<u128>,
 }
@@ -67,7 +68,7 @@ impl Tables {
         Tables {
             rows: Relay::new(rows),
             marks,
-            tallies,
+            tallies: Tallies::of(tallies),
             sums,
         }
     }
@@ -93,7 +94,7 @@ impl Tables {
     pub fn tallies(&self) -> &[Tally]
         ensures { map value_of result.now ≡ self.now.tallies }
     {
-        &self.tallies
+        self.tallies.get()
     }
 
     /// The sum of their estimates at each superstep so far.
@@ -127,27 +128,21 @@ impl Tables {
         let last = self.sums[t as usize];
         let rows = self.rows.get();
         let (ahead, marks) = (hearing.ahead(), hearing.touched());
-        let gain = level::step_tallies(
-            estimator,
-            t + 1,
-            rows,
-            ahead,
-            marks,
-            weights,
-            &mut self.tallies,
-        );
+        let gain = self
+            .tallies
+            .step(estimator, t + 1, rows, ahead, marks, weights);
         self.sums.push_reserved(last + gain);
         hearing.begin(&mut self.rows, &mut self.marks);
     }
 
-    /// The same: rows are shared, the rest is copied, with no room for later sums.
+    /// The same: rows and figures are shared, the rest is copied, with no room for later sums.
     pub fn copied(&mut self, alloc: Global) -> Result<Tables, AllocError>
         ensures same { self.new ≡ self.old }
         ensures copy { IfOk result (λ t. t ≡ record self.old { room = t.room }) }
     {
         let sums = Vec::from_slice(alloc, &self.sums)?;
-        let tallies = Vec::from_slice(alloc, &self.tallies)?;
         let marks = Vec::from_slice(alloc, &self.marks)?;
+        let tallies = self.tallies.copied(alloc)?;
         let rows = self.rows.copied(alloc)?;
         Ok(Tables {
             rows,
@@ -164,7 +159,7 @@ impl Tables {
     {
         self.rows.assign(other.rows.get());
         self.marks.copy_from_slice(&other.marks);
-        self.tallies.copy_from_slice(&other.tallies);
+        self.tallies.assign(other.tallies.get());
         refill(&mut self.sums, &other.sums);
     }
 }

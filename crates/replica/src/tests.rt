@@ -14,6 +14,7 @@ mod refusals;
 mod runs;
 mod script;
 mod shown;
+mod snapshots;
 mod table;
 mod unions;
 

@@ -33,7 +33,7 @@ fn weights_of(alloc: Global, log2m: u8, rows: &Rows) -> Result<Vec<u64>, AllocEr
 {
     let mut weights = Vec::with_capacity(alloc, rows.len())?;
     for i in 0..rows.len() {
-        weights.push(weight(log2m, rows.row(i)))?;
+        weights.push_reserved(weight(log2m, rows.row(i)));
     }
     Ok(weights)
 }

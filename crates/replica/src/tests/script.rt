@@ -42,6 +42,8 @@ pub enum Step {
     /// Keeps a snapshot of a replica, which tells the same. Where memory is refused the replica is as it was, as the
     /// snapshot at another place tells.
     Keep(usize, Option<usize>),
+    /// The snapshots from a place on are let go.
+    LetGo(usize),
     /// A replica tells in each reader what the snapshot at a place does.
     Shows(usize, usize),
     /// The snapshot at a place is of superstep 0 of partition 0, and of the job of a replica.
@@ -137,6 +139,13 @@ fn merges(
     Some(answer == wanted && (answer.is_ok() || shows(world, place, before)))
 }
 
+/// Lets the snapshots from a place on go: whether there are some.
+fn lets_go(world: &mut World, from: usize) -> bool {
+    let some = from < world.kept.len();
+    world.kept.truncate(from);
+    some
+}
+
 /// Whether a snapshot is of superstep 0 of partition 0 and of a replica's job.
 fn is_first(world: &World, place: usize, kept: usize) -> bool {
     match (world.all.get(place), world.kept.get(kept)) {
@@ -217,6 +226,7 @@ fn is_shown(rt: &HostRuntime, world: &mut World, step: &Step) -> Option<bool> {
         Step::Writes(from, partition, wanted) => writes(rt, all, *from, *partition, wanted),
         Step::Shares(from, wanted, length) => shares(rt, all, *from, *wanted, *length),
         Step::Keep(place, before) => keeps(rt, world, *place, *before),
+        Step::LetGo(from) => Some(lets_go(world, *from)),
         Step::Shows(place, kept) => Some(shows(world, *place, *kept)),
         Step::IsFirst(place, kept) => Some(is_first(world, *place, *kept)),
         Step::IsSmall(kept) => Some(is_small(world, *kept)),

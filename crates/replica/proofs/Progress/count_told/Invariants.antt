@@ -1,5 +1,11 @@
-use Rattle.std.proofs.Common.{◌≤◌}
+use Rattle.std.proofs.Common.{◌-◌, ◌≤◌, length}
 use Rattle.replica.proofs.Progress.count_told.Given as goal
 
 abbrev pub invariant-loop-i : goal.invariant-loop-i
-invariant-loop-i l = l.count ≤ l.i
+invariant-loop-i l = record {
+  in_range : l.i ≤ length l.self.state.part.preds;
+  few : l.count ≤ l.i;
+}
+
+abbrev pub decreases-loop-i : goal.decreases-loop-i
+decreases-loop-i l = length l.self.state.part.preds - l.i

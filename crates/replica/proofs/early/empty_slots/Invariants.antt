@@ -1,7 +1,12 @@
-use Rattle.std.proofs.Common.{◌≡◌, map, option_map, replicate}
+use Rattle.std.proofs.Common.{◌≡◌, ◌≤◌, map, option_map, replicate}
 use Rattle.std.specs.Prelude.{None}
 use Rattle.std.specs.Arc.{arc_value}
+use Rattle.std.specs.Vec.{vec_len, vec_capacity}
 use Rattle.replica.proofs.early.empty_slots.Given as goal
 
 abbrev pub invariant-loop : goal.invariant-loop
-invariant-loop l = map (option_map arc_value) l.slots.items ≡ replicate l.counter None
+invariant-loop l = record {
+  items : map (option_map arc_value) l.slots.items ≡ replicate l.counter None;
+  len : vec_len l.slots ≡ l.counter;
+  room : l.count ≤ vec_capacity l.slots;
+}

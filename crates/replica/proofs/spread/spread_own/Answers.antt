@@ -1,16 +1,18 @@
-use Rattle.std.proofs.Common.{◌≡◌, ◌+◌, ◌*◌, ℕ, List, [], length, get_or, ap, arith, ◌∙◌}
+use Rattle.std.proofs.Common.{◌≡◌, ◌+◌, ◌*◌, ◌<◌, ℕ, List, [], length, get_or, ap, arith, ◌∙◌}
 use Rattle.ball_model.specs.Table.{Table}
 use Rattle.replica.specs.Spread.{marked_rows, raised_by}
-use Rattle.replica.proofs.HeardLemmas.{own_stands, spread_each-none, spread_each-more, length-spread_each, marked-none, marked-yes, marked-no}
+use Rattle.replica.proofs.HeardLemmas.{own_stands, spread_each-none, spread_each-more, length-spread_each, marked-none, marked-yes, marked-over}
 use Rattle.replica.proofs.SpreadLemmas.{spread_on}
 use Rattle.replica.proofs.spread.spread_own.Goals as goal
-use Rattle.replica.proofs.spread.spread_own.Goals.{then-marks-i, else-marks-i}
 
 pub loop-i-init : goal.loop-i-init
 loop-i-init c =
     let part = c.args.part.now in
-    let none = marked-none part.plan.parts part.number c.args.rows.now.rows c.args.marks.now in
+    let is = c.next_marked-i.ensures in
+    let none = marked-over part.plan.parts part.number 0 c.next_marked-i.result c.args.rows.now.rows c.args.marks.now is ∙ marked-none part.plan.parts part.number c.args.rows.now.rows c.args.marks.now in
     record {
+      in_range = is.high;
+      marked = is.marked;
       rows = rw none (ap (λ (rows : List (List ℕ)). record c.args.accumulated.now { rows = rows }) (spread_each-none c.args.targets.now c.args.accumulated.now.rows));
       touched = λ own h. h;
     }
@@ -32,17 +34,15 @@ loop-i-preserved c =
     let old = c.args.accumulated.now.rows in
     let rows = ap (λ (t : Table). t.rows) c.loop-i.invariant.rows in
     let width = ap (λ (t : Table). t.width) c.loop-i.invariant.rows in
-    elim c.if-marks-i.branch [
-      | then-marks-i w ↦ record {
-        rows = w.accumulated-is ∙ w.spread_row.ensures.rows ∙ rw (rows, width, w.vertex.ensures.value, w.row.ensures.value) (ap (λ (rs : List (List ℕ)). record c.args.accumulated.now { rows = rs })
-            (spread_each-more c.args.targets.now (marked_rows parts p own marks i) (marked_rows parts p own marks (i + 1)) (i * parts + p, get_or own i []) old (marked-yes parts p i own marks w.if-marks-i.true)));
-        touched = λ rs h. rw (w.accumulated-is, w.touched-is) (w.spread_row.ensures.touched rs (c.loop-i.invariant.touched rs h));
-      }
-      | else-marks-i w ↦ record {
-        rows = w.accumulated-is ∙ rw (marked-no parts p i own marks w.if-marks-i.false) c.loop-i.invariant.rows;
-        touched = λ rs h. rw (w.accumulated-is, w.touched-is) (c.loop-i.invariant.touched rs h);
-      }
-    ]
+    let is = c.next_marked-i-in-loop-i.ensures in
+    let inside : i < length marks = omega arith in
+    record {
+      in_range = is.high;
+      marked = is.marked;
+      rows = c.spread_row.ensures.rows ∙ rw (rows, width, c.vertex.ensures.value, c.row.ensures.value, marked-over parts p (i + 1) c.next_marked-i-in-loop-i.result own marks is) (ap (λ (rs : List (List ℕ)). record c.args.accumulated.now { rows = rs })
+          (spread_each-more c.args.targets.now (marked_rows parts p own marks i) (marked_rows parts p own marks (i + 1)) (i * parts + p, get_or own i []) old (marked-yes parts p i own marks (c.loop-i.invariant.marked inside))));
+      touched = λ rs h. c.spread_row.ensures.touched rs (c.loop-i.invariant.touched rs h);
+    }
 
 pub returns : goal.returns
 returns c =

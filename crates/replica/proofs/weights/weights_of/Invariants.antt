@@ -1,6 +1,11 @@
-use Rattle.std.proofs.Common.{◌≡◌, take, map}
+use Rattle.std.proofs.Common.{◌≡◌, ◌≤◌, take, map, length}
+use Rattle.std.specs.Vec.{vec_len, vec_capacity}
 use Rattle.figures.specs.Values.{weight_of}
 use Rattle.replica.proofs.weights.weights_of.Given as goal
 
 abbrev pub invariant-loop-i : goal.invariant-loop-i
-invariant-loop-i l = l.weights.items ≡ map weight_of (take l.i l.rows.rows)
+invariant-loop-i l = record {
+  items : l.weights.items ≡ map weight_of (take l.i l.rows.rows);
+  len : vec_len l.weights ≡ l.i;
+  room : length l.rows.rows ≤ vec_capacity l.weights;
+}

@@ -1,6 +1,5 @@
-use Rattle.std.proofs.Common.{rules, ◌≡◌, length, ◌≤◌, Some, None, sym, subst, ◌∙◌, arith}
+use Rattle.std.proofs.Common.{rules, ◌≡◌, Some, None, sym, subst, ◌∙◌}
 use Rattle.std.specs.Arc.{arc_value}
-use Rattle.std.specs.Vec.{vec_capacity}
 use Rattle.registers.specs.Relay.{DifferWhere, IsRelay, shown_of}
 use Rattle.registers.proofs.RelayLemmas.{as_many}
 use Rattle.registers.proofs.relay.Relay.follow.Goals as goal

@@ -1,0 +1,31 @@
+use Rattle.std.proofs.Common.{◌≡◌, ap, refl, sym, ◌∙◌, subst, List, length, map, arith}
+use Rattle.std.specs.Arc.{arc_value}
+use Rattle.ball_model.specs.Figures.{TallyValue}
+use Rattle.figures.specs.Values.{value_of}
+use Rattle.replica.specs.Tallies.{AreRelayed, shown_tallies}
+use Rattle.replica.proofs.tallies.go_on.Goals as goal
+use Rattle.replica.proofs.tallies.go_on.Goals.{After-as_slice}
+
+-- what was handed out is what is shown
+out_is : (c : After-as_slice) → map value_of (arc_value c.out.inside.table).items ≡ shown_tallies (map value_of c.args.own.now.items) c.args.out
+unfolding shown_tallies
+out_is c = rw c.in-Some.is c.out.view_is
+
+table_is : (c : After-as_slice) → map value_of c.as_slice.result.now ≡ shown_tallies (map value_of c.args.own.now.items) c.args.out
+table_is c = rw (c.as_slice.ensures.value, c.deref.ensures) (out_is c)
+
+pub bring_up-requires-clause-behind : goal.bring_up-requires-clause-behind
+bring_up-requires-clause-behind c = subst (λ (l : List TallyValue). AreRelayed l c.args.behind.now) (sym (table_is (goal.at.bring_up-requires-clause-behind c).After-as_slice)) c.requires.behind
+
+pub filled-requires : goal.filled-requires
+filled-requires c = omega (arith, c.requires.marks, ap (length {A = TallyValue}) (out_is (goal.at.filled-requires c).After-as_slice), c.out.invariant.each)
+
+pub returns-in-None-clause-own : goal.returns-in-None-clause-own
+unfolding shown_tallies
+returns-in-None-clause-own c = rw c.in-None.is refl
+
+pub returns-in-Some-clause-own : goal.returns-in-Some-clause-own
+returns-in-Some-clause-own c = c.bring_up.ensures ∙ table_is (goal.at.returns-in-Some-clause-own c).After-as_slice
+
+pub returns-in-Some-clause-behind : goal.returns-in-Some-clause-behind
+returns-in-Some-clause-behind c = λ ahead d. rw (c.leave_behind.ensures, c.filled.ensures, out_is (goal.at.returns-in-Some-clause-behind c).After-as_slice) d

@@ -1,0 +1,30 @@
+-- Tallies that are handed out and go on in another table.
+use Rattle.std.specs.Prelude.{◌≡◌, ◌≤◌, ◌<◌, ℕ, Bool, false, List, length, slice_index_or, Option, None, Some, IfSome}
+use Rattle.ball_model.specs.Figures.{TallyValue}
+use Rattle.replica.specs.Level.{nothing}
+
+-- the tallies that are shown: those that are handed out, or else the own ones
+unfoldable pub shown_tallies : List TallyValue → Option (List TallyValue) → List TallyValue
+shown_tallies own None = own
+shown_tallies own (Some out) = out
+
+-- as many tallies, with a mark for each, and the same at each place that is not marked
+pub record DifferAt (marks : List Bool) (a b : List TallyValue) : Type 0 where
+  pub count : length a ≡ length b
+  pub marked : length marks ≡ length a
+  pub same : (i : ℕ) → i < length a → slice_index_or marks i false ≡ false →
+      slice_index_or a i nothing ≡ slice_index_or b i nothing
+
+-- tallies, with a mark for each
+pub record MarkedTallies : Type 0 where
+  pub tallies : List TallyValue
+  pub stale : List Bool
+
+-- what is shown differs from the tallies behind it at stale places alone
+abbrev pub AreRelayed : List TallyValue → Option MarkedTallies → Type 0
+AreRelayed shown behind = IfSome behind (λ b. DifferAt b.stale b.tallies shown)
+
+-- room for tallies, and for a mark for each
+pub record HasRoomForTallies (tallies : List TallyValue) (room marks : ℕ) : Type 0 where
+  pub all : length tallies ≤ room
+  pub each : length tallies ≤ marks

@@ -1,0 +1,357 @@
+//! Tallies that are handed out while they go on.
+
+ghost use Rattle.std.specs.Prelude.{◌≡◌, ◌≤◌, ◌+◌, List, Some, false, length, map, IfOk, IfSome};
+ghost use Rattle.std.specs.Prelude.{OnErr};
+ghost use Rattle.std.specs.Arc.{arc_value};
+ghost use Rattle.std.specs.List.{sum_by};
+ghost use Rattle.std.specs.Vec.{vec_capacity};
+ghost use Rattle.ball_model.specs.Figures.{TallyValue};
+ghost use Rattle.figures.specs.Values.{value_of};
+ghost use Rattle.registers.specs.Relay.{AreEither};
+ghost use Rattle.replica.specs.Level.{next_tallies, weights_of};
+ghost use Rattle.replica.specs.Tables.{CanBeStepped};
+ghost use Rattle.replica.specs.Tallies.{AreRelayed, DifferAt, shown_tallies};
+
+use crate::level;
+use figures::{Estimator, Tally};
+use registers::{Rows, next_marked};
+use std::alloc::{AllocError, Global};
+use std::marker::Model;
+use std::mem;
+use std::sync::Arc;
+
+/// Tallies that can be handed out, as a [`registers::Relay`] hands out rows: what they become afterwards does not
+/// change what was handed out.
+///
+/// Where nothing is handed out they are stepped in place. Else they go on in a second table: in the one that was shown
+/// before, once nobody else holds it, which is brought up at those places alone that changed since, and otherwise in
+/// room that was taken when the table was handed out and was not touched until then. So [`Tallies::copied`] takes
+/// memory, and no other call does.
+#[derive(Drop)]
+pub struct Tallies {
+    // what is shown, where nothing is handed out
+    own: Vec<Tally>,
+    // what is shown, where it was handed out
+    out: Option<Shared>,
+    // what was shown before, where that was handed out
+    behind: Option<Behind>,
+    // room that is left over
+    spare: Option<Vec<Tally>>,
+}
+
+impl Model for Tallies {
+    ghost use Rattle.std.specs.Prelude.{List, map};
+    ghost use Rattle.ball_model.specs.Figures.{TallyValue};
+    ghost use Rattle.figures.specs.Values.{value_of};
+    ghost use Rattle.replica.specs.Tallies.{AreRelayed, shown_tallies};
+
+    ghost Value = { List TallyValue };
+
+    ghost view = { λ t. shown_tallies (map value_of t.own.items) t.out };
+
+    ghost invariant = { λ t. AreRelayed (shown_tallies (map value_of t.own.items) t.out) t.behind };
+}
+
+// A table that is handed out, with room for another one as long, and for a mark for each tally.
+#[derive(Drop)]
+struct Shared {
+    table: Arc<Vec<Tally>>,
+    room: Vec<Tally>,
+    marks: Vec<bool>,
+}
+
+impl Model for Shared {
+    ghost use Rattle.std.specs.Prelude.{List, map};
+    ghost use Rattle.std.specs.Arc.{arc_value};
+    ghost use Rattle.std.specs.Vec.{vec_capacity};
+    ghost use Rattle.ball_model.specs.Figures.{TallyValue};
+    ghost use Rattle.figures.specs.Values.{value_of};
+    ghost use Rattle.replica.specs.Tallies.{HasRoomForTallies};
+
+    ghost Value = { List TallyValue };
+
+    ghost view = { λ s. map value_of (arc_value s.table).items };
+
+    ghost invariant = { λ s. HasRoomForTallies (map value_of (arc_value s.table).items)
+        (vec_capacity s.room) (vec_capacity s.marks) };
+}
+
+// A table that was handed out, and a mark for each tally: what is shown differs from it at stale places alone.
+#[derive(Drop)]
+struct Behind {
+    table: Arc<Vec<Tally>>,
+    stale: Vec<bool>,
+}
+
+impl Model for Behind {
+    ghost use Rattle.std.specs.Prelude.{map};
+    ghost use Rattle.std.specs.Arc.{arc_value};
+    ghost use Rattle.figures.specs.Values.{value_of};
+    ghost use Rattle.replica.specs.Tallies.{MarkedTallies};
+
+    ghost Value = { MarkedTallies };
+
+    ghost view = { λ b. record {
+      tallies = map value_of (arc_value b.table).items;
+      stale = b.stale.items;
+    } };
+}
+
+impl Tallies {
+    /// Tallies that are not handed out.
+    pub fn of(tallies: Vec<Tally>) -> Tallies
+        ensures { result ≡ map value_of tallies.items }
+    {
+        Tallies {
+            own: tallies,
+            out: None,
+            behind: None,
+            spare: None,
+        }
+    }
+
+    /// The tallies.
+    #[inline]
+    pub fn get(&self) -> &[Tally]
+        ensures { map value_of result.now ≡ self.now }
+    {
+        match &self.out {
+            Some(out) => out.table.as_slice(),
+            None => &self.own,
+        }
+    }
+
+    /// They become the figures at superstep `t` of the rows ahead, as [`level::step_tallies`] steps them. It takes no
+    /// memory. Where a table was handed out, those that changed since the one before it are copied too, and all of them
+    /// where somebody still holds that one.
+    pub fn step(
+        &mut self,
+        estimator: &Estimator,
+        t: u32,
+        rows: &Rows,
+        ahead: &Rows,
+        marks: &[bool],
+        weights: &mut [u64],
+    ) -> u128
+        requires { CanBeStepped estimator.now t rows.now ahead.now marks.now weights.old self.old }
+        ensures tallies { self.new ≡ next_tallies estimator.now t ahead.now.rows self.old
+            (length ahead.now.rows) }
+        ensures weights { weights.new ≡ weights_of ahead.now.rows }
+        ensures gain { sum_by (λ tally. tally.last) self.new ≡
+            sum_by (λ tally. tally.last) self.old + result }
+    {
+        let out = self.out.take();
+        go_on(&mut self.own, out, &mut self.behind, &mut self.spare, marks);
+        level::step_tallies(estimator, t, rows, ahead, marks, weights, &mut self.own)
+    }
+
+    /// They become others, as many. It takes no memory.
+    pub fn assign(&mut self, others: &[Tally])
+        requires { length others.now ≡ length self.old }
+        ensures { self.new ≡ map value_of others.now }
+    {
+        self.behind = None;
+        match self.out.take() {
+            None => self.own.copy_from_slice(others),
+            Some(out) => {
+                let Shared { room, .. } = out;
+                self.own = filled(room, others);
+            }
+        }
+    }
+
+    // They are in an `Arc`. The error is that memory was refused.
+    fn hand_out(&mut self, alloc: Global) -> Result<(), AllocError>
+        ensures { self.new ≡ self.old }
+    {
+        if self.out.is_some() {
+            return Ok(());
+        }
+        let room = take_room(alloc, &mut self.spare, self.own.len())?;
+        let marks = Vec::with_capacity(alloc, self.own.len())?;
+        let table = lend(alloc, &mut self.own)?;
+        self.out = Some(Shared { table, room, marks });
+        Ok(())
+    }
+
+    // They, handed out. The error is that memory was refused. Either way they are as they were.
+    fn share(&mut self, alloc: Global) -> Result<Arc<Vec<Tally>>, AllocError>
+        ensures same { self.new ≡ self.old }
+        ensures shared { IfOk result (λ out. map value_of (arc_value out).items ≡ self.old) }
+    {
+        self.hand_out(alloc)?;
+        match &self.out {
+            Some(out) => Arc::try_clone(&out.table),
+            None => Err(AllocError),
+        }
+    }
+
+    /// The same tallies, which are shared with these. The error is that memory was refused. Either way these are as
+    /// they were.
+    ///
+    /// It takes room for as many and a mark for each, which is not touched unless the other ones go on.
+    pub fn copied(&mut self, alloc: Global) -> Result<Tallies, AllocError>
+        ensures same { self.new ≡ self.old }
+        ensures copy { IfOk result (λ copy. copy ≡ self.old) }
+    {
+        let table = self.share(alloc)?;
+        let marks = Vec::with_capacity(alloc, table.len())?;
+        let room = Vec::with_capacity(alloc, table.len())?;
+        Ok(Tallies {
+            own: Vec::new(alloc),
+            out: Some(Shared { table, room, marks }),
+            behind: None,
+            spare: None,
+        })
+    }
+}
+
+// What is shown is in the own table, to be stepped where it is marked; what was handed out is behind.
+fn go_on(
+    own: &mut Vec<Tally>,
+    out: Option<Shared>,
+    behind: &mut Option<Behind>,
+    spare: &mut Option<Vec<Tally>>,
+    marks: &[bool],
+)
+    requires behind { AreRelayed (shown_tallies (map value_of own.old.items) out) behind.old }
+    requires marks { length marks.now ≡ length (shown_tallies (map value_of own.old.items) out) }
+    ensures own { map value_of own.new.items ≡ shown_tallies (map value_of own.old.items) out }
+    ensures behind { (ahead : List TallyValue) →
+        DifferAt marks.now (shown_tallies (map value_of own.old.items) out) ahead →
+        AreRelayed ahead behind.new }
+{
+    match out {
+        None => mark_stale(behind, marks),
+        Some(out) => {
+            let Shared {
+                table,
+                room,
+                marks: stale,
+            } = out;
+            bring_up(own, behind, room, spare, table.as_slice());
+            leave_behind(behind, table, filled(stale, marks));
+        }
+    }
+}
+
+// What is marked is stale too.
+fn mark_stale(behind: &mut Option<Behind>, marks: &[bool])
+    requires { IfSome behind.old (λ b. length b.stale ≡ length marks.now) }
+    ensures { (shown ahead : List TallyValue) → AreRelayed shown behind.old →
+        DifferAt marks.now shown ahead → AreRelayed ahead behind.new }
+{
+    match behind {
+        Some(behind) => add_marks(&mut behind.stale, marks),
+        None => {}
+    }
+}
+
+// The own table becomes what is shown: the table behind does, where nobody else holds it, and otherwise a copy in the
+// room.
+fn bring_up(
+    own: &mut Vec<Tally>,
+    behind: &mut Option<Behind>,
+    room: Vec<Tally>,
+    spare: &mut Option<Vec<Tally>>,
+    shown: &[Tally],
+)
+    requires behind { AreRelayed (map value_of shown.now) behind.old }
+    requires room { length shown.now ≤ vec_capacity room }
+    ensures { map value_of own.new.items ≡ map value_of shown.now }
+{
+    match take_back(behind, shown) {
+        Some(table) => {
+            *own = table;
+            *spare = Some(room);
+        }
+        None => *own = filled(room, shown),
+    }
+}
+
+// The table behind, brought up to what is shown, where nobody else holds it.
+fn take_back(behind: &mut Option<Behind>, shown: &[Tally]) -> Option<Vec<Tally>>
+    requires { AreRelayed (map value_of shown.now) behind.old }
+    ensures { IfSome result (λ table. map value_of table.items ≡ map value_of shown.now) }
+{
+    let Behind { table, stale } = behind.take()?;
+    match Arc::try_unwrap(table) {
+        Ok(mut table) => {
+            follow(&mut table, shown, &stale);
+            Some(table)
+        }
+        Err(_) => None,
+    }
+}
+
+// The table is the one behind from now on.
+fn leave_behind(behind: &mut Option<Behind>, table: Arc<Vec<Tally>>, stale: Vec<bool>)
+    ensures { behind.new ≡ Some (record {
+      tallies = map value_of (arc_value table).items;
+      stale = stale.items;
+    }) }
+{
+    *behind = Some(Behind { table, stale });
+}
+
+// Each stale tally becomes that of `ahead`, which are as many, and from which no other one differs.
+fn follow(tallies: &mut [Tally], ahead: &[Tally], stale: &[bool])
+    requires { DifferAt stale.now (map value_of tallies.old) (map value_of ahead.now) }
+    ensures { map value_of tallies.new ≡ map value_of ahead.now }
+{
+    let mut i = next_marked(stale, 0);
+    while i < stale.len() {
+        tallies[i] = ahead[i];
+        i = next_marked(stale, i + 1);
+    }
+}
+
+// These, in room that was taken for them.
+fn filled<T: Copy>(room: Vec<T>, items: &[T]) -> Vec<T>
+    requires { length items.now ≤ vec_capacity room }
+    ensures { result.items ≡ items.now }
+{
+    let mut copy = room;
+    copy.clear();
+    let _ = copy.extend_from_slice(items);
+    copy
+}
+
+// The room that is left over, where so many tallies fit it, or new room for them.
+fn take_room(
+    alloc: Global,
+    spare: &mut Option<Vec<Tally>>,
+    count: usize,
+) -> Result<Vec<Tally>, AllocError>
+    ensures { IfOk result (λ room. count ≤ vec_capacity room) }
+{
+    match spare.take() {
+        Some(room) if count <= room.capacity() => Ok(room),
+        _ => Vec::with_capacity(alloc, count),
+    }
+}
+
+// The table goes into an `Arc`, and an empty one comes in its place. Where memory is refused the table stays.
+fn lend(alloc: Global, own: &mut Vec<Tally>) -> Result<Arc<Vec<Tally>>, AllocError>
+    ensures out { IfOk result (λ out. (arc_value out).items ≡ own.old.items) }
+    ensures refused { OnErr result (own.new.items ≡ own.old.items) }
+{
+    let table = mem::replace(own, Vec::new(alloc));
+    match Arc::new(alloc, table) {
+        Ok(out) => Ok(out),
+        Err(refused) => {
+            *own = refused.value;
+            Err(AllocError)
+        }
+    }
+}
+
+// What either marks is marked.
+fn add_marks(marks: &mut [bool], more: &[bool])
+    requires { length marks.old ≡ length more.now }
+    ensures { AreEither marks.old more.now marks.new }
+{
+    for i in 0..marks.len() {
+        marks[i] |= more[i];
+    }
+}
