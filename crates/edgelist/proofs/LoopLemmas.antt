@@ -28,6 +28,11 @@ pub goes-end : {R : Type 0} (rem : R → Option (List ℕ)) (d : ℕ) (limits : 
     records d text ≡ goes.past → network_from limits (records d text) ≡ Ok (network_by labels edges)
 goes-end rem d limits n text a labels edges goes whole = rw whole (says-network limits goes.past labels edges goes.clean goes.so)
 
+-- and so many they are
+pub goes-count : {R : Type 0} (rem : R → Option (List ℕ)) (d : ℕ) (limits : Limits) (n : ℕ) (text : List ℕ) (a : Reader R) (labels : List (List ℕ)) (edges : List Edge) (goes : Goes rem d limits n text a labels edges) →
+    records d text ≡ goes.past → n ≡ length (records d text)
+goes-count rem d limits n text a labels edges goes whole = rw whole (sym goes.count)
+
 -- and no other was asked for
 pub goes-stops : {R : Type 0} (rem : R → Option (List ℕ)) (d : ℕ) (limits : Limits) (n : ℕ) (text : List ℕ) (a b : Reader R) (labels : List (List ℕ)) (edges : List Edge) (goes : Goes rem d limits n text a labels edges) →
     FindsNone rem d text goes.past a b → StopsAtEnd rem d text b

@@ -1,8 +1,9 @@
 //! Edge lists, the graphs that they say, and the parts of a graph that partitions work on.
 //!
-//! [`read_edges`] reads a [`Graph`]: labelled vertices with their predecessors. [`Graph::count_only`] says which of
-//! them balls count, [`Graph::plan`] gives the plan of a job over it, and [`Graph::part`] the [`Part`] of one
-//! partition.
+//! [`read_edges`] reads a [`Graph`]: labelled vertices with their predecessors. [`read_edge_list`] also tells how many
+//! records there are. [`Graph::count_only`] says which of the vertices balls count, [`Graph::plan`] gives the plan of a
+//! job over a graph, and [`Graph::part`] the [`Part`] of one partition. Where all parts are made, [`Graph::part_with`]
+//! makes each by [`Graph::feeds`], so that the edges are walked over once for the masks of all.
 //!
 //! ```text
 //! let mut reader = CountingReader::new(stdin);
@@ -20,6 +21,7 @@ mod build;
 mod counting;
 mod digest;
 mod edge;
+mod feeds;
 mod graph;
 mod index;
 mod labels;
@@ -33,11 +35,14 @@ mod read;
 mod records;
 
 pub use counting::CountedError;
+pub use feeds::Feeds;
 pub use graph::Graph;
 pub use lists::Preds;
 pub use part::Part;
 pub use pieces::EdgeReader;
-pub use read::{Delimiter, EdgeError, EdgeLimits, MOST_RECORDS, read_edges};
+pub use read::{
+    Delimiter, EdgeError, EdgeLimits, EdgeList, MOST_RECORDS, read_edge_list, read_edges,
+};
 
 #[cfg(test)]
 mod tests;

@@ -1,4 +1,4 @@
-//! Feed masks of the vertices of a partition.
+//! Feed masks of vertices.
 
 ghost use Rattle.std.specs.Prelude.{◌≡◌, ◌^◌, ◌<◌, ◌≤◌, length, slice_index, slice_set, bit_or};
 ghost use Rattle.std.specs.Prelude.{replicate, IfOk};

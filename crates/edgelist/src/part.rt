@@ -1,17 +1,18 @@
 //! What a partition is told of its graph.
 
-ghost use Rattle.std.specs.Prelude.{◌≡◌, ◌+◌, ◌*◌, ◌^◌, ◌<◌, ◌≤◌, ◌++◌, ◌∷◌, [], ℕ, List, false};
+ghost use Rattle.std.specs.Prelude.{◌≡◌, ◌+◌, ◌*◌, ◌^◌, ◌<◌, ◌++◌, ◌∷◌, [], ℕ, false};
 ghost use Rattle.std.specs.Prelude.{length, map, slice_index, slice_index_or, IfOk, OnOk};
 ghost use Rattle.std.specs.Arc.{arc_value};
-ghost use Rattle.std.specs.List.{All, sum_by};
+ghost use Rattle.std.specs.List.{All, range_with_len, sum_by};
 ghost use Rattle.gapcode.specs.Lists.{AscendsFrom};
 ghost use Rattle.ball_model.specs.Graph.{preds_of, is_counted};
-ghost use Rattle.ball_model.specs.PlanValue.{most_parts, vertices_of, part_size};
+ghost use Rattle.ball_model.specs.PlanValue.{vertices_of, part_size};
 ghost use Rattle.ball_model.specs.Job.{Job, IsPart, digest_of, feed_mask, feeds_into, job_of};
 ghost use Rattle.ball_model.specs.Job.{part_of};
 ghost use Rattle.ball_model.specs.Masks.{has_bit};
-ghost use Rattle.edgelist.specs.Feeding.{AreMasks, masks_of, width_of, edges_into};
+ghost use Rattle.edgelist.specs.Feeding.{feeds_of, masks_of};
 
+use crate::feeds::{Feeds, Stride, feeds_over};
 use crate::graph::Graph;
 use crate::lists::{Lists, Preds};
 use crate::masks::Masks;
@@ -23,16 +24,16 @@ use std::sync::Arc;
 
 /// What a partition is told of its graph: the predecessors of each of its vertices, into which partitions the vertex
 /// has edges, and whether it is counted. It has no other partition's lists, and where there is one partition it shares
-/// those of the graph.
+/// those of the graph, and the masks that it is made by.
 ///
 /// Beside the lists it takes for each vertex a byte for the mask where there are at most 8 partitions, and 8 where
-/// there are more; and one or two bytes for whether it is counted.
+/// there are more; and one for whether it is counted.
 #[derive(Drop)]
 pub struct Part {
     plan: Plan,
     number: u16,
     lists: Arc<Lists>,
-    feeds: Masks,
+    feeds: Arc<Masks>,
     counted: Vec<bool>,
 }
 
@@ -47,7 +48,7 @@ impl Model for Part {
       plan = p.plan;
       number = p.number;
       preds = arc_value p.lists;
-      feeds = masks_of p.feeds;
+      feeds = masks_of (arc_value p.feeds);
       counted = p.counted.items;
     } };
 
@@ -55,7 +56,7 @@ impl Model for Part {
       plan = p.plan;
       number = p.number;
       preds = arc_value p.lists;
-      feeds = masks_of p.feeds;
+      feeds = masks_of (arc_value p.feeds);
       counted = p.counted.items;
     }) };
 }
@@ -170,122 +171,147 @@ fn push_preds(
 }
 
 // The predecessors of each vertex of partition `p`.
-fn own_lists(alloc: Global, graph: &Graph, parts: u32, p: u32) -> Result<Lists, AllocError>
-    requires { 0 < parts }
-    ensures { IfOk result (λ lists. lists ≡
-        map (λ x. preds_of graph.now.graph x) (vertices_of graph.now.graph.vertices parts p)) }
+fn own_lists(alloc: Global, graph: &Graph, plan: &Plan, p: u16) -> Result<Lists, AllocError>
+    requires part { p < plan.now.parts }
+    requires vertices { plan.now.vertices ≡ graph.now.graph.vertices }
+    ensures { IfOk result (λ lists. lists ≡ map (λ x. preds_of graph.now.graph x)
+        (vertices_of graph.now.graph.vertices plan.now.parts p)) }
 {
-    let mut builder = ListsBuilder::with_room(alloc, (graph.vertices() / parts) as usize)?;
+    prove!(graph.vertices() == plan.vertices());
+    let size = plan.part_size(p);
+    let mut builder = ListsBuilder::with_room(alloc, size as usize)?;
     let mut row = Vec::new(alloc);
     let mut total = 0;
-    for x in 0..graph.vertices() {
-        if x % parts == p {
-            builder = push_preds(builder, &mut row, graph.preds(x))?;
-            total += row.len();
-        }
+    for i in 0..size {
+        builder = push_preds(builder, &mut row, graph.preds(vertex_at(plan, p, i)))?;
+        total += row.len();
     }
     Ok(Lists::of(builder.finish(), total))
 }
 
 // The predecessors of each vertex of partition `p`, which are the graph's own lists where there is one partition.
-fn part_lists(alloc: Global, graph: &Graph, parts: u32, p: u32) -> Result<Arc<Lists>, AllocError>
-    requires { p < parts }
-    ensures { IfOk result (λ lists. arc_value lists ≡
-        map (λ x. preds_of graph.now.graph x) (vertices_of graph.now.graph.vertices parts p)) }
+fn part_lists(alloc: Global, graph: &Graph, plan: &Plan, p: u16) -> Result<Arc<Lists>, AllocError>
+    requires part { p < plan.now.parts }
+    requires vertices { plan.now.vertices ≡ graph.now.graph.vertices }
+    ensures { IfOk result (λ lists. arc_value lists ≡ map (λ x. preds_of graph.now.graph x)
+        (vertices_of graph.now.graph.vertices plan.now.parts p)) }
 {
-    if parts == 1 {
+    if plan.parts() == 1 {
         return graph.shared_lists();
     }
-    let lists = Arc::new(alloc, own_lists(alloc, graph, parts, p)?)?;
+    let lists = Arc::new(alloc, own_lists(alloc, graph, plan, p)?)?;
     Ok(lists)
 }
 
-// Marks that an edge leads from a vertex of partition `p` into the partition of its target.
-fn mark_edge(feeds: &mut Masks, plan: &Plan, p: u16, source: u32, target: u32)
+// What each vertex of partition `p` has, of what all vertices have.
+fn own_of<T: Copy>(alloc: Global, all: &[T], plan: &Plan, p: u16) -> Result<Vec<T>, AllocError>
     requires part { p < plan.now.parts }
-    requires size { length (masks_of feeds.old) ≡ part_size plan.now.vertices plan.now.parts p }
-    requires room { plan.now.parts ≤ width_of feeds.old }
-    requires source { source < plan.now.vertices }
-    ensures masks { (es : List (ℕ × ℕ)) →
-        AreMasks plan.now.parts p es (masks_of feeds.old) →
-        AreMasks plan.now.parts p (es ++ (source, target) ∷ []) (masks_of feeds.new) }
-    ensures size { length (masks_of feeds.new) ≡ length (masks_of feeds.old) }
-    ensures room { width_of feeds.new ≡ width_of feeds.old }
+    requires count { length all.now ≡ plan.now.vertices }
+    ensures { IfOk result (λ own. (f : ℕ → T) →
+        all.now ≡ map f (range_with_len 0 plan.now.vertices) →
+        own.items ≡ map f (vertices_of plan.now.vertices plan.now.parts p)) }
 {
-    let parts = u32::from(plan.parts());
-    if plan.partition_of(source) == p {
-        let place = (source / parts) as usize;
-        feeds.set_bit(place, target % parts);
+    let size = plan.part_size(p);
+    let mut own = Vec::with_capacity(alloc, size as usize)?;
+    for i in 0..size {
+        own.push(all[vertex_at(plan, p, i) as usize])?;
+    }
+    Ok(own)
+}
+
+// The masks that the vertices of partition `p` have, of those that all vertices have.
+fn own_masks(alloc: Global, all: &Masks, plan: &Plan, p: u16) -> Result<Masks, AllocError>
+    requires part { p < plan.now.parts }
+    requires count { length (masks_of all.now) ≡ plan.now.vertices }
+    ensures { IfOk result (λ own. (f : ℕ → ℕ) →
+        masks_of all.now ≡ map f (range_with_len 0 plan.now.vertices) →
+        masks_of own ≡ map f (vertices_of plan.now.vertices plan.now.parts p)) }
+{
+    match all {
+        Masks::Narrow(bytes) => Ok(Masks::Narrow(own_of(alloc, bytes, plan, p)?)),
+        Masks::Wide(words) => Ok(Masks::Wide(own_of(alloc, words, plan, p)?)),
     }
 }
 
-// Marks the edges from some sources to a target.
-fn mark_row(feeds: &mut Masks, plan: &Plan, p: u16, sources: Preds<'_>, target: u32)
+// The masks that the vertices of partition `p` have, which are all of them where there is one partition.
+fn part_feeds(alloc: Global, feeds: &Feeds, plan: &Plan, p: u16) -> Result<Arc<Masks>, AllocError>
     requires part { p < plan.now.parts }
-    requires size { length (masks_of feeds.old) ≡ part_size plan.now.vertices plan.now.parts p }
-    requires room { plan.now.parts ≤ width_of feeds.old }
-    requires sources { All (λ y. y < plan.now.vertices) sources }
-    ensures masks { (es : List (ℕ × ℕ)) →
-        AreMasks plan.now.parts p es (masks_of feeds.old) →
-        AreMasks plan.now.parts p (es ++ edges_into target sources.entry) (masks_of feeds.new) }
-    ensures size { length (masks_of feeds.new) ≡ length (masks_of feeds.old) }
-    ensures room { width_of feeds.new ≡ width_of feeds.old }
+    requires count { length feeds.now ≡ plan.now.vertices }
+    ensures { IfOk result (λ own. (f : ℕ → ℕ) →
+        feeds.now ≡ map f (range_with_len 0 plan.now.vertices) →
+        masks_of (arc_value own) ≡ map f (vertices_of plan.now.vertices plan.now.parts p)) }
 {
-    for source in sources {
-        mark_edge(feeds, plan, p, source, target);
+    if plan.parts() == 1 {
+        return feeds.shared_masks();
     }
+    let masks = Arc::new(alloc, own_masks(alloc, feeds.masks(), plan, p)?)?;
+    Ok(masks)
 }
 
-// Marks all edges of a graph.
-fn mark_edges(feeds: &mut Masks, plan: &Plan, p: u16, graph: &Graph)
+// The feed mask of each vertex of partition `p`, for which all edges are walked over.
+fn own_feeds(alloc: Global, graph: &Graph, plan: &Plan, p: u16) -> Result<Arc<Masks>, AllocError>
     requires part { p < plan.now.parts }
-    requires size { length (masks_of feeds.old) ≡ part_size plan.now.vertices plan.now.parts p }
-    requires room { plan.now.parts ≤ width_of feeds.old }
     requires vertices { plan.now.vertices ≡ graph.now.graph.vertices }
-    ensures masks { AreMasks plan.now.parts p [] (masks_of feeds.old) →
-        AreMasks plan.now.parts p graph.now.graph.edges (masks_of feeds.new) }
-    ensures size { length (masks_of feeds.new) ≡ length (masks_of feeds.old) }
-    ensures room { width_of feeds.new ≡ width_of feeds.old }
-{
-    for target in 0..graph.vertices() {
-        mark_row(feeds, plan, p, graph.preds(target), target);
-    }
-}
-
-// The feed mask of each vertex of partition `p`.
-fn own_feeds(alloc: Global, graph: &Graph, plan: &Plan, p: u16) -> Result<Masks, AllocError>
-    requires part { p < plan.now.parts }
-    requires few { plan.now.parts ≤ most_parts }
-    requires vertices { plan.now.vertices ≡ graph.now.graph.vertices }
-    ensures { IfOk result (λ feeds. masks_of feeds ≡ map
+    ensures { IfOk result (λ feeds. masks_of (arc_value feeds) ≡ map
         (λ x. feed_mask graph.now.graph plan.now.parts x)
         (vertices_of graph.now.graph.vertices plan.now.parts p)) }
 {
-    let bits = u32::from(plan.parts());
-    let mut feeds = Masks::zeros(alloc, plan.part_size(p) as usize, bits)?;
-    mark_edges(&mut feeds, plan, p, graph);
-    Ok(feeds)
+    let own = Stride {
+        step: u32::from(plan.parts()),
+        first: u32::from(p),
+    };
+    let masks = feeds_over(alloc, graph, plan, own, plan.part_size(p))?;
+    let masks = Arc::new(alloc, masks)?;
+    Ok(masks)
 }
 
 // Whether each vertex of partition `p` is counted.
-fn own_counts(alloc: Global, graph: &Graph, parts: u32, p: u32) -> Result<Vec<bool>, AllocError>
-    requires { 0 < parts }
-    ensures { IfOk result (λ counted. counted.items ≡
-        map (λ x. is_counted graph.now.graph x) (vertices_of graph.now.graph.vertices parts p)) }
+fn own_counts(alloc: Global, graph: &Graph, plan: &Plan, p: u16) -> Result<Vec<bool>, AllocError>
+    requires part { p < plan.now.parts }
+    requires vertices { plan.now.vertices ≡ graph.now.graph.vertices }
+    ensures { IfOk result (λ counted. counted.items ≡ map (λ x. is_counted graph.now.graph x)
+        (vertices_of graph.now.graph.vertices plan.now.parts p)) }
 {
-    let mut counted = Vec::new(alloc);
-    for x in 0..graph.vertices() {
-        if x % parts == p {
-            counted.push(graph.counted(x))?;
-        }
+    let size = plan.part_size(p);
+    let mut counted = Vec::with_capacity(alloc, size as usize)?;
+    for i in 0..size {
+        counted.push(graph.counted(vertex_at(plan, p, i)))?;
     }
     Ok(counted)
 }
 
+// The part with these masks.
+fn part_by(
+    alloc: Global,
+    graph: &Graph,
+    plan: &Plan,
+    p: u16,
+    feeds: Arc<Masks>,
+) -> Result<Part, AllocError>
+    requires below { p < plan.now.parts }
+    requires vertices { plan.now.vertices ≡ graph.now.graph.vertices }
+    requires feeds { masks_of (arc_value feeds) ≡ map
+        (λ x. feed_mask graph.now.graph plan.now.parts x)
+        (vertices_of graph.now.graph.vertices plan.now.parts p) }
+    ensures { IfOk result (λ part. part ≡ part_of (job_of graph.now.graph plan.now) p) }
+{
+    prove!(p < plan.parts());
+    let lists = part_lists(alloc, graph, plan, p)?;
+    let counted = own_counts(alloc, graph, plan, p)?;
+    Ok(Part {
+        plan: *plan,
+        number: p,
+        lists,
+        feeds,
+        counted,
+    })
+}
+
 impl Graph {
-    /// What partition `p` of the plan is told. It takes time in proportion to the vertices and edges, and memory in
-    /// proportion to those of the partition: beside the lists 2 or 3 bytes a vertex of it, or 9 or 10 where there are
-    /// more than 8 partitions. The lists of a sole partition are shared and take none.
+    /// What partition `p` of the plan is told. It takes time in proportion to the vertices and edges, since it walks
+    /// over all edges for the masks, and memory in proportion to those of the partition: beside the lists 2 bytes a
+    /// vertex of it, or 9 where there are more than 8 partitions. The lists of a sole partition are shared and take
+    /// none.
     pub fn part(&self, alloc: Global, plan: &Plan, p: u16) -> Result<Part, AllocError>
         requires below { p < plan.now.parts }
         requires vertices { plan.now.vertices ≡ self.now.graph.vertices }
@@ -293,15 +319,28 @@ impl Graph {
         ensures { IfOk result (λ part. part ≡
             part_of (job_of self.now.graph plan.now) p) }
     {
-        let lists = part_lists(alloc, self, u32::from(plan.parts()), u32::from(p))?;
         let feeds = own_feeds(alloc, self, plan, p)?;
-        let counted = own_counts(alloc, self, u32::from(plan.parts()), u32::from(p))?;
-        Ok(Part {
-            plan: *plan,
-            number: p,
-            lists,
-            feeds,
-            counted,
-        })
+        part_by(alloc, self, plan, p, feeds)
+    }
+
+    /// The same by the masks of all vertices ([`Graph::feeds`]), which one walk over the edges makes for all parts. It
+    /// takes time in proportion to the vertices of the partition and the edges to them, and as much memory. The masks
+    /// of a sole partition are shared too.
+    pub fn part_with(
+        &self,
+        alloc: Global,
+        plan: &Plan,
+        p: u16,
+        feeds: &Feeds,
+    ) -> Result<Part, AllocError>
+        requires below { p < plan.now.parts }
+        requires vertices { plan.now.vertices ≡ self.now.graph.vertices }
+        requires digest { plan.now.job ≡ digest_of plan.now self.now.graph }
+        requires feeds { feeds.now ≡ feeds_of self.now.graph plan.now.parts }
+        ensures { IfOk result (λ part. part ≡
+            part_of (job_of self.now.graph plan.now) p) }
+    {
+        let own = part_feeds(alloc, feeds, plan, p)?;
+        part_by(alloc, self, plan, p, own)
     }
 }

@@ -14,8 +14,7 @@ ghost use Rattle.edgelist.specs.Reading.{AreWithin, Refuses, byte_of, limits_of,
 ghost use Rattle.edgelist.specs.Records.{FromStart};
 ghost use Rattle.edgelist.specs.declared.read.EdgeError.TheVariants as refused;
 
-use crate::graph::Graph;
-use crate::read::{Delimiter, EdgeError, EdgeLimits, MOST_RECORDS, Reading, next_row};
+use crate::read::{Delimiter, EdgeError, EdgeLimits, EdgeList, MOST_RECORDS, Reading, next_row};
 use crate::records::reader_of;
 use ball_model::plan::MOST_VERTICES;
 use csv::{ByteRecord, Reader};
@@ -218,11 +217,14 @@ impl EdgeReader {
         Ok(())
     }
 
-    /// The graph of what was given, with every vertex counted.
-    pub fn finish(self, alloc: Global) -> Result<Graph, EdgeError>
+    /// The edge list that was given.
+    pub fn finish(self, alloc: Global) -> Result<EdgeList, EdgeError>
         ensures ok { (limits : EdgeLimits) (delimiter : Delimiter) (text : List ℕ) →
             IsGiven limits delimiter text self → IsPlain text →
-            IfOk result (λ g. meaning_of limits delimiter text ≡ Ok g) }
+            IfOk result (λ list. meaning_of limits delimiter text ≡ Ok list.graph) }
+        ensures count { (limits : EdgeLimits) (delimiter : Delimiter) (text : List ℕ) →
+            IsGiven limits delimiter text self → IsPlain text →
+            IfOk result (λ list. list.records ≡ length (records (byte_of delimiter) text)) }
         ensures refused { (limits : EdgeLimits) (delimiter : Delimiter) (text : List ℕ) →
             IsGiven limits delimiter text self → IsPlain text →
             IfErr result (Refuses (meaning_of limits delimiter text)) }
@@ -240,8 +242,8 @@ impl EdgeReader {
             lines,
             failed: _,
         } = self;
-        read_lines(&mut reading, alloc, &lines, delimiter, number, limits)?;
+        let records = read_lines(&mut reading, alloc, &lines, delimiter, number, limits)?;
         let graph = reading.into_graph(alloc)?;
-        Ok(graph)
+        Ok(EdgeList { graph, records })
     }
 }

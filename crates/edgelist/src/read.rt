@@ -94,6 +94,15 @@ pub struct EdgeLimits {
 /// The most records under any limits, 2^26.
 pub const MOST_RECORDS: u64 = 67_108_864;
 
+/// An edge list that was read.
+#[derive(Drop)]
+pub struct EdgeList {
+    /// The graph that it says, with every vertex counted.
+    pub graph: Graph,
+    /// How many records it has. Those of one field, and edges that were read before, count too.
+    pub records: u64,
+}
+
 // The labels so far, numbered by first appearance, and the edges.
 #[derive(Drop)]
 pub(crate) struct Reading {
@@ -240,17 +249,17 @@ impl Reading {
 }
 
 impl Reading {
-    // Adds all records that are left, one after another; at most one more than the limit is asked for. No record is
-    // asked for after the one that is refused. After the end the reader is as a read leaves it that found no record
-    // more; whether such a read was made once or twice no clause tells (csv's contract says nothing of a reader at
-    // its end).
+    // Adds all records that are left, one after another, and tells how many they were; at most one more than the limit
+    // is asked for. No record is asked for after the one that is refused. After the end the reader is as a read leaves
+    // it that found no record more; whether such a read was made once or twice no clause tells (csv's contract says
+    // nothing of a reader at its end).
     fn read_all<R: Read + Drop>(
         &mut self,
         alloc: Global,
         reader: &mut Reader<R>,
         row: &mut ByteRecord,
         limits: EdgeLimits,
-    ) -> Result<(), EdgeError>
+    ) -> Result<u64, EdgeError>
         requires few { limits.edges ≤ most_records }
         requires labels { self.old.labels ≡ [] }
         requires edges { self.old.edges.items ≡ [] }
@@ -258,6 +267,8 @@ impl Reading {
             AreWithin limits.vertices limits.edges self.new.labels self.new.edges.items) }
         ensures ok { FromStart R.remaining reader.old (λ rs.
             OnOk result (IsReadBy limits rs self.new.labels self.new.edges.items)) }
+        ensures count { FromStart R.remaining reader.old (λ rs.
+            IfOk result (λ number. number ≡ length rs)) }
         ensures refused { FromStart R.remaining reader.old (λ rs.
             IfErr result (Refuses (network_from (limits_of limits) rs))) }
         ensures last { EndsAtEnd R.remaining reader.old reader.new result }
@@ -266,7 +277,7 @@ impl Reading {
         for number in 0..limits.edges + 1 {
             let more = next_row(reader, row)?;
             if !more {
-                return Ok(());
+                return Ok(number);
             }
             self.add(alloc, row, number, limits)?;
         }
@@ -286,19 +297,21 @@ impl Reading {
     }
 }
 
-// Reads all records that are left.
+// Reads all records that are left, and tells how many they were.
 fn read_records<R: Read + Drop>(
     alloc: Global,
     state: RandomState,
     reader: &mut Reader<R>,
     row: &mut ByteRecord,
     limits: EdgeLimits,
-) -> Result<Reading, EdgeError>
+) -> Result<(Reading, u64), EdgeError>
     requires { limits.edges ≤ most_records }
-    ensures within { IfOk result (λ r.
-        AreWithin limits.vertices limits.edges r.labels r.edges.items) }
-    ensures ok { FromStart R.remaining reader.old (λ rs. IfOk result (λ r.
-        IsReadBy limits rs r.labels r.edges.items)) }
+    ensures within { IfOk result (λ both.
+        AreWithin limits.vertices limits.edges both.0.labels both.0.edges.items) }
+    ensures ok { FromStart R.remaining reader.old (λ rs. IfOk result (λ both.
+        IsReadBy limits rs both.0.labels both.0.edges.items)) }
+    ensures count { FromStart R.remaining reader.old (λ rs.
+        IfOk result (λ both. both.1 ≡ length rs)) }
     ensures refused { FromStart R.remaining reader.old (λ rs.
         IfErr result (Refuses (network_from (limits_of limits) rs))) }
     ensures last { EndsAtEnd R.remaining reader.old reader.new result }
@@ -306,22 +319,24 @@ fn read_records<R: Read + Drop>(
 {
     let mut reading = Reading::new(alloc, state)?;
     let read = reading.read_all(alloc, reader, row, limits);
-    read.map(|()| reading)
+    read.map(|number| (reading, number))
 }
 
-// Reads all records of a source.
+// Reads all records of a source, and tells how many they are.
 fn read_source<R: Read + Drop>(
     alloc: Global,
     state: RandomState,
     source: R,
     delimiter: Delimiter,
     limits: EdgeLimits,
-) -> Result<Reading, EdgeError>
+) -> Result<(Reading, u64), EdgeError>
     requires { limits.edges ≤ most_records }
-    ensures within { IfOk result (λ r.
-        AreWithin limits.vertices limits.edges r.labels r.edges.items) }
-    ensures ok { ForPlain (R.remaining source) (λ text. IfOk result (λ r.
-        IsReadBy limits (records (byte_of delimiter) text) r.labels r.edges.items)) }
+    ensures within { IfOk result (λ both.
+        AreWithin limits.vertices limits.edges both.0.labels both.0.edges.items) }
+    ensures ok { ForPlain (R.remaining source) (λ text. IfOk result (λ both.
+        IsReadBy limits (records (byte_of delimiter) text) both.0.labels both.0.edges.items)) }
+    ensures count { ForPlain (R.remaining source) (λ text. IfOk result (λ both.
+        both.1 ≡ length (records (byte_of delimiter) text))) }
     ensures refused { ForPlain (R.remaining source) (λ text.
         IfErr result (Refuses (meaning_within limits delimiter text))) }
 {
@@ -337,17 +352,19 @@ fn read_graph<R: Read + Drop>(
     reader: R,
     delimiter: Delimiter,
     limits: EdgeLimits,
-) -> Result<Graph, EdgeError>
+) -> Result<EdgeList, EdgeError>
     requires vertices { limits.vertices ≤ most_vertices }
     requires edges { limits.edges ≤ most_records }
     ensures ok { ForPlain (R.remaining reader) (λ text.
-        IfOk result (λ g. meaning_within limits delimiter text ≡ Ok g)) }
+        IfOk result (λ list. meaning_within limits delimiter text ≡ Ok list.graph)) }
+    ensures count { ForPlain (R.remaining reader) (λ text. IfOk result (λ list.
+        list.records ≡ length (records (byte_of delimiter) text))) }
     ensures refused { ForPlain (R.remaining reader) (λ text.
         IfErr result (Refuses (meaning_within limits delimiter text))) }
 {
-    let reading = read_source(alloc, state, reader, delimiter, limits)?;
+    let (reading, records) = read_source(alloc, state, reader, delimiter, limits)?;
     let graph = reading.into_graph(alloc)?;
-    Ok(graph)
+    Ok(EdgeList { graph, records })
 }
 
 // A reader as `csv` reads it, each of whose failed calls is counted.
@@ -373,9 +390,9 @@ impl<'a, R: CountedRead> Read for Counted<'a, R> {
     }
 }
 
-// What is answered of a graph that was read: `Read` where a call of the reader failed, and nowhere else.
-fn read_answer(read: Result<Graph, EdgeError>, failed: bool) -> Result<Graph, EdgeError>
-    ensures ok { IfOk result (λ g. read ≡ Ok g) }
+// What is answered of an edge list that was read: `Read` where a call of the reader failed, and nowhere else.
+fn read_answer(read: Result<EdgeList, EdgeError>, failed: bool) -> Result<EdgeList, EdgeError>
+    ensures ok { IfOk result (λ list. read ≡ Ok list) }
     ensures refused { (says : Result Network Refusal) → IfErr read (Refuses says) →
         IfErr result (Refuses says) }
     ensures read { result ≡ Err EdgeError.Read → failed ≡ true }
@@ -386,7 +403,7 @@ fn read_answer(read: Result<Graph, EdgeError>, failed: bool) -> Result<Graph, Ed
         return Err(EdgeError::Read);
     }
     match read {
-        Ok(graph) => Ok(graph),
+        Ok(list) => Ok(list),
         Err(EdgeError::Read) => Err(EdgeError::Memory),
         Err(e) => Err(e),
     }
@@ -404,15 +421,17 @@ fn read_answer(read: Result<Graph, EdgeError>, failed: bool) -> Result<Graph, Ed
 ///
 /// Its parts are made so, and no clause of this call says it: at most one record more than the limit is asked for, no
 /// memory is taken for a label that is known, and a call of the reader that failed is not made again.
-pub fn read_edges<R: CountedRead>(
+pub fn read_edge_list<R: CountedRead>(
     alloc: Global,
     state: RandomState,
     reader: &mut R,
     delimiter: Delimiter,
     limits: EdgeLimits,
-) -> Result<Graph, EdgeError>
+) -> Result<EdgeList, EdgeError>
     ensures ok { ForPlain (R.remaining reader.old) (λ text.
-        IfOk result (λ g. meaning_of limits delimiter text ≡ Ok g)) }
+        IfOk result (λ list. meaning_of limits delimiter text ≡ Ok list.graph)) }
+    ensures count { ForPlain (R.remaining reader.old) (λ text. IfOk result (λ list.
+        list.records ≡ length (records (byte_of delimiter) text))) }
     ensures refused { ForPlain (R.remaining reader.old) (λ text.
         IfErr result (Refuses (meaning_of limits delimiter text))) }
     ensures read { result ≡ Err EdgeError.Read →
@@ -436,4 +455,25 @@ pub fn read_edges<R: CountedRead>(
     );
     let failed = reader.failures() > before;
     read_answer(result, failed)
+}
+
+/// Reads an edge list as [`read_edge_list`] does, and gives its graph alone.
+pub fn read_edges<R: CountedRead>(
+    alloc: Global,
+    state: RandomState,
+    reader: &mut R,
+    delimiter: Delimiter,
+    limits: EdgeLimits,
+) -> Result<Graph, EdgeError>
+    ensures ok { ForPlain (R.remaining reader.old) (λ text.
+        IfOk result (λ g. meaning_of limits delimiter text ≡ Ok g)) }
+    ensures refused { ForPlain (R.remaining reader.old) (λ text.
+        IfErr result (Refuses (meaning_of limits delimiter text))) }
+    ensures read { result ≡ Err EdgeError.Read →
+        R.failed_calls reader.old < R.failed_calls reader.new }
+    ensures failed { CountsOne (R.failed_calls reader.old) (R.failed_calls reader.new) →
+        result ≡ Err EdgeError.Read }
+{
+    let list = read_edge_list(alloc, state, reader, delimiter, limits)?;
+    Ok(list.graph)
 }

@@ -12,7 +12,7 @@ ghost use Rattle.std.specs.Prelude.{None};
 
 use crate::{
     CountedError, Delimiter, EdgeError, EdgeLimits, EdgeReader, Graph, Part, Preds, laws,
-    read_edges,
+    read_edge_list, read_edges,
 };
 use ball_model::{CountingReader, PlanError};
 use sha2::{Digest, Sha256};

@@ -47,7 +47,7 @@ impl Superstep {
     }
 }
 
-/// Tells how a run gets on: its graph, each superstep that all partitions have come to, and the report.
+/// Tells how a run gets on: its edge list, each superstep that all partitions have come to, and the report.
 #[derive(Drop)]
 pub struct Progress<T> {
     teller: T,
@@ -73,10 +73,10 @@ impl<T: Eprint + Drop> Progress<T> {
         })
     }
 
-    // The graph is read.
-    fn note_graph(&self, vertices: u32, edges: u64) {
+    // The edge list is read.
+    fn note_edge_list(&self, records: u64, vertices: u32) {
         self.vertices.store(vertices, Ordering::SeqCst);
-        tell_graph(&self.teller, vertices, edges);
+        tell_edge_list(&self.teller, records, vertices);
     }
 
     // A node of a partition has come to a superstep, at which so many vertices of the partition changed. The first node
@@ -111,9 +111,9 @@ impl<T: Eprint + Drop> Progress<T> {
     }
 }
 
-// A graph is read.
-fn tell_graph<T: Eprint>(teller: &T, vertices: u32, edges: u64) {
-    let _ = eprintln!(teller; "hyperball: {vertices} vertices and {edges} edges are read");
+// An edge list is read.
+fn tell_edge_list<T: Eprint>(teller: &T, records: u64, vertices: u32) {
+    let _ = eprintln!(teller; "hyperball: {records} records and {vertices} vertices are read");
 }
 
 // No node has gone on from superstep 0, of so many partitions.
@@ -182,9 +182,9 @@ impl<'a, C: Clock, T: Eprint + Drop> Gate for TellingGate<'a, C, T> {
         self.sleeping.idle(node);
     }
 
-    fn after_read(&self, vertices: u32, edges: u64) {
+    fn after_read(&self, records: u64, vertices: u32) {
         if let Some(progress) = &self.progress {
-            progress.note_graph(vertices, edges);
+            progress.note_edge_list(records, vertices);
         }
     }
 
@@ -233,9 +233,9 @@ impl<'a, T: Eprint> TellingWatch<'a, T> {
 }
 
 impl<'a, T: Eprint> Watch for TellingWatch<'a, T> {
-    fn after_read(&self, vertices: u32, edges: u64) {
+    fn after_read(&self, records: u64, vertices: u32) {
         if let Some(teller) = self.teller {
-            tell_graph(teller, vertices, edges);
+            tell_edge_list(teller, records, vertices);
         }
     }
 

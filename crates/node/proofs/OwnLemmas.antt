@@ -1,5 +1,5 @@
 -- The lines of one partition's vertices, one after the other.
-use Rattle.std.proofs.Common.{◌≡◌, ◌∙◌, ℕ, ◌+◌, ◌<◌, List, [], ◌++◌, ap, refl, subst}
+use Rattle.std.proofs.Common.{◌≡◌, ◌∙◌, ℕ, ◌+◌, List, [], ◌++◌, ap, refl}
 use Rattle.std.specs.Prelude.{Option, Some, Result, Ok, Err, OnOk}
 use Rattle.std.specs.Io.KnownBytes.{Appends}
 use Rattle.std.proofs.KnownBytes.{Appends-nil, Appends-trans}
@@ -8,7 +8,7 @@ use Rattle.ball_model.specs.Counter.{ball_counter}
 use Rattle.ball_model.specs.Held.{HasHolding}
 use Rattle.ball_model.specs.Job.{Job}
 use Rattle.ball_model.specs.Join.{Holding}
-use Rattle.ball_model.specs.PlanValue.{PlanValue, mixing_of, part_size}
+use Rattle.ball_model.specs.PlanValue.{mixing_of}
 use Rattle.ball_model.specs.State.{State}
 use Rattle.ball_model.specs.Report.{vertex_line}
 use Rattle.ball_model.specs.Supersteps.{estimate_at, tally_at}
@@ -53,12 +53,6 @@ pub of_next : (v : State) (a b c : Option (List ℕ)) (g : Job → Holding → �
 of_next v a b c g f i x at one two =
     of_same v a c (λ j h. first-texts (g j h) f i ++ g j h x) (λ j h. first-texts (g j h) f (i + 1)) (λ j h has. texts_next (g j h) f i x at)
     (of_both v a b c (λ j h. first-texts (g j h) f i) (λ j h. g j h x) one two)
-
--- it is one of the partition's
-pub is_own : (v : State) (n q i : ℕ) (plan : PlanValue) → plan ≡ v.part.plan → n ≡ part_size plan.vertices plan.parts q → q ≡ v.part.number → i < n → i < part_size v.part.plan.vertices v.part.plan.parts v.part.number
-is_own v n q i plan plan_is is q_is lt =
-    subst (λ (m : ℕ). i < m)
-    (is ∙ ap (λ (l : PlanValue). part_size l.vertices l.parts q) plan_is ∙ ap (λ (k : ℕ). part_size v.part.plan.vertices v.part.plan.parts k) q_is) lt
 
 -- the line of these figures
 pub line_is : (j : Job) (label : List ℕ) (t x : ℕ) → figures_line label (true_figures j t x) ≡ vertex_line label (tally_at (mixing_of j.plan) j.graph x t) (empty_of (ball_counter (mixing_of j.plan) j.graph x t))

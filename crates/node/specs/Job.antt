@@ -1,6 +1,6 @@
 -- The job that is asked for, over what is read of an input up to the marks.
 use Rattle.std.specs.Prelude.{◌≡◌, ℕ, ◌≤◌, Bool, true, false, List, length, Option, None, Some, is_some, IfSome, Ok}
-use Rattle.ball_model.specs.Input.{IsPlain, Network}
+use Rattle.ball_model.specs.Input.{IsPlain, Network, records}
 use Rattle.ball_model.specs.PlanValue.{PlanValue, plan_of}
 use Rattle.ball_model.specs.RunText.{Numbers, Settings, counted_in, network_in, plan_over}
 use Rattle.edgelist.specs.Planning.{is_corrected, numbers_with}
@@ -50,6 +50,13 @@ pub record SaysNetwork (s : Settings) (left left' : Option (List ℕ))
   pub input : List ℕ
   pub section : ReadsSection input left left'
   pub says : IsPlain input → network_in s input ≡ Ok network
+
+-- the edge list in front of the mark has so many records
+pub record HasRecords (s : Settings) (left : Option (List ℕ)) (number : ℕ) : Type 0 where
+  pub input : List ℕ
+  pub behind : Option (List ℕ)
+  pub section : ReadsSection input left behind
+  pub says : IsPlain input → number ≡ length (records s.delimiter input)
 
 -- a list was read, where there is one
 abbrev pub ReadsList : Option (List ℕ) → Option (List ℕ) → Option (List ℕ) → Type 0

@@ -317,8 +317,8 @@ pub fn gather<T: AllocGlobal + Threads + Sync, R: CountedRead, W: CountedWrite, 
     ensures written { result ≢ Err GatherError.Write →
         W.failed_calls writer.new ≡ W.failed_calls writer.old }
 {
-    let (graph, plan) = read_job(rt.alloc(), state, options, reader)?;
-    watch.after_read(graph.vertices(), graph.edges());
+    let (graph, plan, records) = read_job(rt.alloc(), state, options, reader)?;
+    watch.after_read(records, graph.vertices());
     let gathered = gather_parts(rt, &graph, &plan, watch, reader, writer);
     drop(graph);
     gathered

@@ -9,8 +9,8 @@ ghost use Rattle.ball_model.specs.RunText.{network_in, plan_over};
 ghost use Rattle.ball_model.specs.Streams.{Rises};
 ghost use Rattle.edgelist.specs.Given.{IsGiven};
 ghost use Rattle.edgelist.specs.Reading.{meaning_of};
-ghost use Rattle.node.specs.Job.{CountsSome, GivesEdges, IsJobRead, SaysNetwork, numbers_in};
-ghost use Rattle.node.specs.Job.{settings_in};
+ghost use Rattle.node.specs.Job.{CountsSome, GivesEdges, HasRecords, IsJobRead, SaysNetwork};
+ghost use Rattle.node.specs.Job.{numbers_in, settings_in};
 ghost use Rattle.node.specs.NoJob.{IsNoJob, IsNoNetwork, IsUncounted, IsUnlisted};
 ghost use Rattle.node.specs.Section.{ReadsSection};
 
@@ -18,7 +18,7 @@ use crate::error::JobError;
 use crate::section::{Cut, Step, next_step};
 use ball_model::plan::MOST_VERTICES;
 use ball_model::{CountedRead, Estimate, Plan, PlanError};
-use edgelist::{Delimiter, EdgeLimits, EdgeReader, Graph, MOST_RECORDS, Part};
+use edgelist::{Delimiter, EdgeLimits, EdgeList, EdgeReader, Graph, MOST_RECORDS, Part};
 use std::alloc::{AllocError, Global};
 use std::hash::RandomState;
 use std::sync::Arc;
@@ -79,15 +79,17 @@ fn give_section<R: CountedRead>(
     Err(JobError::EdgesSize)
 }
 
-// The graph that a section says, which ends at a mark.
+// The graph that a section says, which ends at a mark, and how many records it has.
 fn read_edge_section<R: CountedRead>(
     alloc: Global,
     state: RandomState,
     options: &JobOptions,
     reader: &mut R,
-) -> Result<Graph, JobError>
-    ensures says { IfOk result (SaysNetwork (settings_in options.now)
-        (R.remaining reader.old) (R.remaining reader.new)) }
+) -> Result<EdgeList, JobError>
+    ensures says { IfOk result (λ read. SaysNetwork (settings_in options.now)
+        (R.remaining reader.old) (R.remaining reader.new) read.graph) }
+    ensures count { IfOk result (λ read. HasRecords (settings_in options.now)
+        (R.remaining reader.old) read.records) }
     ensures refused { IfErr result (IsNoNetwork (network_in (settings_in options.now))
         (R.remaining reader.old)) }
     ensures failed { result ≡ Err JobError.Read →
@@ -97,12 +99,12 @@ fn read_edge_section<R: CountedRead>(
 {
     let mut edges = EdgeReader::new(alloc, state, options.delimiter, LIMITS)?;
     let marked = give_section(alloc, reader, &mut edges)?;
-    let graph = edges.finish(alloc)?;
+    let read = edges.finish(alloc)?;
     if !marked {
-        drop(graph);
+        drop(read);
         return Err(JobError::NoMark);
     }
-    Ok(graph)
+    Ok(read)
 }
 
 // Reads the bytes of a section, which ends at a mark, into `list`, which is empty.
@@ -188,7 +190,7 @@ pub fn part_of(alloc: Global, graph: &Graph, plan: &Plan, p: u16) -> Result<Arc<
     Ok(part)
 }
 
-/// The graph and the plan of a job, read up to the mark behind it.
+/// The graph and the plan of a job, read up to the mark behind it, and how many records its edge list has.
 ///
 /// The edge list is refused as it comes. That no mark is behind it is told once all of it is read, and says a network;
 /// that none is behind the list of counted vertices, whatever that says. Then the list is refused, and then the plan.
@@ -198,10 +200,12 @@ pub fn read_job<R: CountedRead>(
     state: RandomState,
     options: &JobOptions,
     reader: &mut R,
-) -> Result<(Graph, Plan), JobError>
-    ensures read { IfOk result (λ both. IsJobRead (settings_in options.now) options.now.counted
-        (R.remaining reader.old) (R.remaining reader.new) both.0 both.1) }
-    ensures job { IfOk result (λ both. IsJob (job_of both.0.graph both.1)) }
+) -> Result<(Graph, Plan, u64), JobError>
+    ensures read { IfOk result (λ all. IsJobRead (settings_in options.now) options.now.counted
+        (R.remaining reader.old) (R.remaining reader.new) all.0 all.1) }
+    ensures job { IfOk result (λ all. IsJob (job_of all.0.graph all.1)) }
+    ensures count { IfOk result (λ all. HasRecords (settings_in options.now)
+        (R.remaining reader.old) all.2) }
     // Which refusal it is.
     ensures refused { IfErr result (IsNoJob (settings_in options.now) options.now.counted
         (R.remaining reader.old) (R.remaining reader.new)) }
@@ -211,8 +215,8 @@ pub fn read_job<R: CountedRead>(
     ensures counted { result ≢ Err JobError.Read →
         R.failed_calls reader.new ≡ R.failed_calls reader.old }
 {
-    let mut graph = read_edge_section(alloc, state, options, reader)?;
-    count_listed(alloc, &mut graph, options, reader)?;
-    let plan = plan_for(&graph, options)?;
-    Ok((graph, plan))
+    let mut read = read_edge_section(alloc, state, options, reader)?;
+    count_listed(alloc, &mut read.graph, options, reader)?;
+    let plan = plan_for(&read.graph, options)?;
+    Ok((read.graph, plan, read.records))
 }

@@ -1,12 +1,11 @@
 //! The lines of one partition's vertices, as a report has them.
 
-ghost use Rattle.std.specs.Prelude.{◌≡◌, ◌≢◌, ℕ, ◌+◌, ◌*◌, ◌<◌, ◌≤◌, ◌%◌, ◌^◌, Err, IfOk, OnOk};
-ghost use Rattle.std.specs.Prelude.{length};
+ghost use Rattle.std.specs.Prelude.{◌≡◌, ◌≢◌, ◌<◌, ◌≤◌, ◌%◌, ◌^◌, Err, IfOk, OnOk, length};
 ghost use Rattle.ball_model.specs.Figures.{empty_of};
 ghost use Rattle.ball_model.specs.Held.{HasHolding};
 ghost use Rattle.ball_model.specs.Job.{Job};
 ghost use Rattle.ball_model.specs.Join.{Holding};
-ghost use Rattle.ball_model.specs.PlanValue.{greatest_log2m, mixing_of, part_size};
+ghost use Rattle.ball_model.specs.PlanValue.{greatest_log2m, mixing_of};
 ghost use Rattle.ball_model.specs.Report.{vertex_text};
 ghost use Rattle.ball_model.specs.Streams.{Rises};
 ghost use Rattle.node.specs.NodeText.{figures_text};
@@ -19,7 +18,7 @@ use figures::{Figures, closeness, lin};
 use replica::{Replica, Shown};
 use report::figures_text;
 use std::alloc::{AllocError, Global};
-use world::tell::{TellError, write_lines};
+use world::tell::{TellError, own_vertex, write_lines};
 
 // How many registers of a row are 0.
 fn empty_count(row: &[u8]) -> u32
@@ -80,20 +79,6 @@ fn tell_vertex<W: CountedWrite>(
 {
     let text = line_of(alloc, graph, replica, x)?;
     write_lines(writer, &text)
-}
-
-// Vertex `i` of the replica's partition, counted from 0.
-pub(crate) fn own_vertex(replica: &Replica, i: u32) -> u32
-    requires { i < part_size replica.now.part.plan.vertices replica.now.part.plan.parts
-        replica.now.part.number }
-    ensures value { result ≡ i * replica.now.part.plan.parts + replica.now.part.number }
-    ensures vertex { result < replica.now.part.plan.vertices }
-    ensures own { result % replica.now.part.plan.parts ≡ replica.now.part.number }
-{
-    // the limits of a replica are told with its superstep
-    let _superstep = replica.superstep();
-    let parts = u32::from(replica.plan().parts());
-    i * parts + u32::from(replica.partition())
 }
 
 /// Writes the lines of a partition's vertices, ascending, of the superstep that its replica has reached.

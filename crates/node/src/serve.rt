@@ -268,20 +268,20 @@ fn answer<W: CountedWrite, V: Watch>(
     ensures written { result ≢ Err TellError.Write →
         W.failed_calls writer.new ≡ W.failed_calls writer.old }
 {
+    let replica = session.replica();
     match command {
-        Command::Send { target } => answer_send(alloc, session.replica(), target, line, writer),
+        Command::Send { target } => answer_send(alloc, replica, target, line, writer),
         Command::Deliver { .. } => answer_deliver(alloc, session, body, line, writer),
         Command::Close => answer_close(session, watch, line, writer),
-        Command::Keep => answer_keep(session.replica(), line, writer),
+        Command::Keep => answer_keep(replica, line, writer),
         Command::Restart { .. } => answer_restart(alloc, session, body, line, writer),
         Command::Recover { .. } => answer_recover(alloc, session, body, line, writer),
         Command::Show => {
-            let replica = session.replica();
             let part = replica.partition();
             tell_shown(NodeId { part, replica: 0 }, replica, line, writer)
         }
-        Command::Totals => answer_totals(alloc, session.replica(), writer),
-        Command::Figures => tell_own(alloc, graph, session.replica(), writer),
+        Command::Totals => answer_totals(alloc, replica, writer),
+        Command::Figures => tell_own(alloc, graph, replica, writer),
     }
 }
 
@@ -580,8 +580,8 @@ pub fn serve_node<R: CountedRead, W: CountedWrite, V: Watch>(
     ensures written { result ≢ Err (NodeError.Serve ServeError.Write) →
         W.failed_calls writer.new ≡ W.failed_calls writer.old }
 {
-    let (graph, plan) = read_job(alloc, state, options, reader)?;
-    watch.after_read(graph.vertices(), graph.edges());
+    let (graph, plan, records) = read_job(alloc, state, options, reader)?;
+    watch.after_read(records, graph.vertices());
     let served = serve_part(alloc, &graph, &plan, part, watch, reader, writer);
     drop(graph);
     served

@@ -7,11 +7,10 @@ ghost use Rattle.ball_model.specs.Streams.{Rises};
 ghost use Rattle.ball_model.specs.WorldText.{row_text, show_text};
 ghost use Rattle.node.specs.Turns.{AppendsOf};
 
-use crate::own::own_vertex;
 use ball_model::{CountedWrite, NodeId};
 use replica::{Replica, Shown};
 use world::answer::{put_node, put_vertex};
-use world::tell::{TellError, write_lines};
+use world::tell::{TellError, own_vertex, write_lines};
 
 // Writes the line of vertex `x`, which the replica's partition owns.
 fn tell_row<W: CountedWrite>(

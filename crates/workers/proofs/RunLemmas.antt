@@ -1,21 +1,24 @@
 -- What a run's refusals say, step by step.
 use Rattle.std.proofs.Common.{◌≡◌, ◌∙◌, ℕ, List, ap, nat_lt, refl, subst, sym}
-use Rattle.std.specs.Prelude.{Option, None, Some, Result, Ok, Err, IfOk, IfErr, OnOk, ◌||◌}
+use Rattle.std.specs.Prelude.{Option, None, Some, Result, Ok, Err, IfOk, IfErr, IfSome, OnOk, ◌||◌}
 use Rattle.std.specs.Io.KnownBytes.{Appends}
 use Rattle.std.specs.Borrow.{Bor}
-use Rattle.ball_model.specs.Input.{Network}
+use Rattle.ball_model.specs.Input.{IsPlain, Network}
 use Rattle.ball_model.specs.PlanValue.{PlanValue, mixing_of, plan_of}
 use Rattle.ball_model.specs.Report.{report_of}
-use Rattle.ball_model.specs.RunText.{AreRead, HasPlan, IsReport, IsReportOf, Numbers, Settings, list_in, plan_over}
+use Rattle.ball_model.specs.RunText.{AreRead, HasPlan, IsReport, IsReportOf, Numbers, Settings, list_in, network_in, plan_over}
 use Rattle.ball_model.specs.declared.plan.PlanError.{PlanError}
 use Rattle.ball_model.proofs.BoolLemmas.{by_cases}
+use Rattle.edgelist.specs.Counting.{RefusesList}
+use Rattle.edgelist.specs.Records.{ForPlain}
+use Rattle.edgelist.specs.declared.counting.CountedError.{CountedError}
 use Rattle.workers.specs.declared.ends.JobError.{JobError}
 use Rattle.workers.specs.declared.ends.JobError.TheVariants as job
 use Rattle.workers.specs.declared.options.RunOptions.{RunOptions}
 use Rattle.workers.specs.declared.bytes.RunError.{RunError}
 use Rattle.workers.specs.declared.bytes.RunError.TheVariants as fault
 use Rattle.workers.specs.Options.{settings_of}
-use Rattle.workers.specs.Run.{AddsReport, AnswersNetwork, IsRunRefusal, RefusesNetwork, RefusesRead, WherePlain, job_fault}
+use Rattle.workers.specs.Run.{AddsReport, AnswersNetwork, IsListRefusal, IsRunRefusal, RefusesNetwork, RefusesRead, WherePlain, counted_by, job_fault}
 
 -- what holds of plain bytes, and what follows from it
 pub where_weaker : (o : RunOptions) (told : Option (List ℕ)) (counted : Option (Bor (List ℕ))) (P Q : Settings → List ℕ → Option (List ℕ) → Type 0) → ((input : List ℕ) → P (settings_of o) input (list_in counted) → Q (settings_of o) input (list_in counted)) → WherePlain o told counted P → WherePlain o told counted Q
@@ -25,6 +28,12 @@ where_weaker o (Some input) counted P Q f h = λ plain. f input (h plain)
 pub where_always : (o : RunOptions) (told : Option (List ℕ)) (counted : Option (Bor (List ℕ))) (Q : Settings → List ℕ → Option (List ℕ) → Type 0) → ((s : Settings) (input : List ℕ) (list : Option (List ℕ)) → Q s input list) → WherePlain o told counted Q
 where_always o None counted Q f = tt
 where_always o (Some input) counted Q f = λ plain. f _ _ _
+
+-- what is refused of a list, once there is a network
+pub refuses_list : (o : RunOptions) (told : Option (List ℕ)) (counted : Option (Bor (List ℕ))) (all : Network) (e : CountedError) → ForPlain told (λ text. network_in (settings_of o) text ≡ Ok all) →
+    (IfSome (list_in counted) IsPlain → RefusesList (counted_by o all counted) e) → WherePlain o told counted (λ s input list. IsListRefusal s input list e)
+refuses_list o None counted all e read refused = tt
+refuses_list o (Some input) counted all e read refused = λ plain. record { all = all; read = read input refl plain.0; refused = refused plain.1 }
 
 -- what is refused before there is a network
 pub refuses_read : (s : Settings) (input : List ℕ) (list : Option (List ℕ)) (e : RunError) → RefusesRead s input list e → IsRunRefusal s input list e

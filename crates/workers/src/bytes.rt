@@ -1,10 +1,10 @@
 //! A run from bytes to bytes: a thread for each node, and all processors for the figures.
 
 ghost use Rattle.std.specs.Prelude.{◌≡◌, ◌≢◌, Ok, Err, true, false, OnOk, OnErr, IfOk, IfErr};
-ghost use Rattle.std.specs.Prelude.{IfSome};
+ghost use Rattle.std.specs.Prelude.{IfSome, length};
 ghost use Rattle.std.specs.Io.KnownBytes.{Appends, Keeps};
 ghost use Rattle.ball_model.specs.Job.{IsJob, job_of};
-ghost use Rattle.ball_model.specs.Input.{IsPlain};
+ghost use Rattle.ball_model.specs.Input.{IsPlain, records};
 ghost use Rattle.ball_model.specs.PlanValue.{mixing_of, plan_of};
 ghost use Rattle.ball_model.specs.Report.{report_of};
 ghost use Rattle.ball_model.specs.RunText.{AreRead, IsReport, list_in, plan_over};
@@ -23,7 +23,9 @@ use crate::options::RunOptions;
 use crate::pages::Pages;
 use ball_model::plan::MOST_VERTICES;
 use ball_model::{CountedRead, CountedWrite, CountingWriter, Estimate, NodeId, Plan, PlanError};
-use edgelist::{CountedError, EdgeError, EdgeLimits, Graph, MOST_RECORDS, read_edges};
+use edgelist::{
+    CountedError, EdgeError, EdgeLimits, EdgeList, Graph, MOST_RECORDS, read_edge_list,
+};
 use replica::Replica;
 use report::write_report;
 use std::alloc::{AllocError, AllocGlobal, Global};
@@ -158,16 +160,18 @@ fn count_listed(
     Ok(())
 }
 
-// The graph that an edge list and a list of counted vertices say.
+// The graph that an edge list and a list of counted vertices say, and how many records the edge list has.
 fn read_network<T: AllocGlobal, R: CountedRead>(
     rt: &T,
     state: RandomState,
     reader: &mut R,
     counted: Option<&[u8]>,
     options: &RunOptions,
-) -> Result<Graph, RunError>
+) -> Result<EdgeList, RunError>
     ensures ok { WherePlain options.now (R.remaining reader.old) counted.entry
-        (λ s input list. IfOk result (AreRead s input list)) }
+        (λ s input list. IfOk result (λ read. AreRead s input list read.graph)) }
+    ensures count { WherePlain options.now (R.remaining reader.old) counted.entry
+        (λ s input list. IfOk result (λ read. read.records ≡ length (records s.delimiter input))) }
     ensures refused { WherePlain options.now (R.remaining reader.old) counted.entry
         (λ s input list. IfErr result (RefusesRead s input list)) }
     ensures kind { IfErr result (λ e. e ≢ RunError.Write) }
@@ -177,9 +181,9 @@ fn read_network<T: AllocGlobal, R: CountedRead>(
         result ≡ Err (RunError.Edges EdgeError.Read) }
     ensures fault { IfErr result (IsFaultIn options.now) }
 {
-    let mut graph = read_edges(rt.alloc(), state, reader, options.delimiter, LIMITS)?;
-    count_listed(rt.alloc(), &mut graph, counted, options)?;
-    Ok(graph)
+    let mut read = read_edge_list(rt.alloc(), state, reader, options.delimiter, LIMITS)?;
+    count_listed(rt.alloc(), &mut read.graph, counted, options)?;
+    Ok(read)
 }
 
 // The plan of a run over a graph, or the first fault of the options.
@@ -279,9 +283,9 @@ fn read_text<T: AllocGlobal + Threads + Wait + Sync, R: CountedRead, G: Gate + S
     if !options.are_in_limits() {
         return Err(RunError::Options);
     }
-    let graph = read_network(rt, state, reader, counted, options)?;
-    gate.after_read(graph.vertices(), graph.edges());
-    report_text(rt, &graph, options, gate)
+    let read = read_network(rt, state, reader, counted, options)?;
+    gate.after_read(read.records, read.graph.vertices());
+    report_text(rt, &read.graph, options, gate)
 }
 
 // Writes a text.
@@ -311,9 +315,9 @@ fn write_text<W: CountedWrite>(writer: &mut W, text: &Pages) -> Result<(), RunEr
 /// `Write`. `Memory` is also answered where the growth of the report is refused. Which of the nodes' faults it is may
 /// depend on the schedule, but the report does not: it is that of the input, whatever nodes were lost or started anew.
 ///
-/// Memory is some two times 2^log2m bytes and 32 bytes of figures a vertex and replica, as much for each snapshot that is
-/// kept (or half the registers, where nothing that is heard has raised a row), 4 bytes a vertex and an edge of the index
-/// that says whom an edge leads to, the graph and its parts, and the report.
+/// Memory is some two times 2^log2m bytes and 40 bytes of figures and weights a vertex and replica; where snapshots are
+/// kept, 2^log2m and 32 bytes more, and of each snapshot the accumulators where what is heard has raised a row; 4 bytes a
+/// vertex and an edge of the index that says whom an edge leads to; the graph and its parts; and the report.
 pub fn run<T: AllocGlobal + Threads + Wait + Sync, R: CountedRead, W: CountedWrite, G: Gate + Sync>(
     rt: &T,
     state: RandomState,

@@ -8,7 +8,7 @@ use std::thread;
 use std::time::{Clock, Duration};
 
 /// What a node calls before and after each of its posts, in each idle turn, and where it has gone on; and what a run calls
-/// once it has its graph. Nothing is asked of it.
+/// once its edge list is read. Nothing is asked of it.
 pub trait Gate {
     /// The node is about to post a batch of the superstep.
     fn before_post(&self, node: NodeId, superstep: u32);
@@ -26,8 +26,8 @@ pub trait Gate {
         true
     }
 
-    /// The run has read its graph, of so many vertices and edges. As given, nothing is done.
-    fn after_read(&self, _vertices: u32, _edges: u64) {}
+    /// The run has read its edge list, of so many records and vertices. As given, nothing is done.
+    fn after_read(&self, _records: u64, _vertices: u32) {}
 
     /// The node has gone on to the superstep, at which so many vertices of its partition changed. As given, nothing is
     /// done.

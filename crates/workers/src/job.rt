@@ -4,6 +4,7 @@ ghost use Rattle.std.specs.Prelude.{◌≡◌, ◌<◌, ◌≤◌, ◌+◌, ◌*
 ghost use Rattle.std.specs.Prelude.{[]};
 ghost use Rattle.std.specs.Arc.{arc_value};
 ghost use Rattle.ball_model.specs.Job.{Job, IsJob, job_of, part_of};
+ghost use Rattle.edgelist.specs.Feeding.{feeds_of};
 ghost use Rattle.workers.specs.Job.{AreDone, AreEnds, AreParts, AreStarted, HasSplit, IsFaultOf};
 ghost use Rattle.workers.specs.Job.{IsPartEnd, IsAssigned, IsPartStarted, IsSeatOf, KeepsItsOrders};
 ghost use Rattle.workers.specs.Job.{job_in};
@@ -19,7 +20,7 @@ use crate::options::RunOptions;
 use crate::running::{RunGate, Running};
 use ball_model::{NodeId, Plan};
 use board::{Board, Seat};
-use edgelist::{Graph, Part};
+use edgelist::{Feeds, Graph, Part};
 use replica::Replica;
 use std::alloc::{AllocError, AllocGlobal, Global};
 use std::snapshot::Snapshot;
@@ -130,15 +131,17 @@ fn start_node<'s, 'a: 's, X, R: AllocGlobal + Threads + Wait + Sync, G: Gate + S
 }
 
 // A part that threads share.
-fn shared_part(alloc: Global, graph: &Graph, plan: &Plan, p: u16) -> SharedPart
+fn shared_part(alloc: Global, graph: &Graph, plan: &Plan, p: u16, feeds: &Feeds) -> SharedPart
     requires job { IsJob (job_of graph.now.graph plan.now) }
     requires part { p < plan.now.parts }
+    requires feeds { feeds.now ≡ feeds_of graph.now.graph plan.now.parts }
     ensures { IfOk result (λ part. arc_value part ≡ part_of (job_of graph.now.graph plan.now) p) }
 {
-    Ok(Arc::new(alloc, graph.part(alloc, plan, p)?)?)
+    Ok(Arc::new(alloc, graph.part_with(alloc, plan, p, feeds)?)?)
 }
 
-// The parts of all partitions, each made by a thread of its own where there could be one.
+// The parts of all partitions, each made by a thread of its own where there could be one. The edges are walked over
+// once for the masks of all.
 fn shared_parts<R: AllocGlobal + Threads + Sync>(
     rt: &R,
     graph: &Graph,
@@ -149,12 +152,15 @@ fn shared_parts<R: AllocGlobal + Threads + Sync>(
         AreParts arc_value (job_of graph.now.graph plan.now) parts.items) }
 {
     let alloc = rt.alloc();
+    let feeds = graph.feeds(alloc, plan)?;
+    let feeds = &feeds;
     let make = |p: usize| -> SharedPart
         requires job { IsJob (job_of graph.now.graph plan.now) }
         requires part { p < plan.now.parts }
+        requires feeds { feeds.now ≡ feeds_of graph.now.graph plan.now.parts }
         ensures { IfOk result (λ part. arc_value part ≡
             part_of (job_of graph.entry.now.graph plan.entry.now) p) }
-    { shared_part(alloc, graph, plan, p as u16) };
+    { shared_part(alloc, graph, plan, p as u16, feeds) };
     thread::map_indices(rt, alloc, usize::from(plan.parts()), &make)
 }
 

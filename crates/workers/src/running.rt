@@ -84,8 +84,8 @@ impl<'a, G: Gate> Gate for RunGate<'a, G> {
         self.running.may_tell(source) && self.gate.wait_for(node, source)
     }
 
-    fn after_read(&self, vertices: u32, edges: u64) {
-        self.gate.after_read(vertices, edges);
+    fn after_read(&self, records: u64, vertices: u32) {
+        self.gate.after_read(records, vertices);
     }
 
     fn after_close(&self, node: NodeId, superstep: u32, changed: u32) {

@@ -1,5 +1,6 @@
 //! What no clause says: worked runs of one node and of many.
 
+mod estimates;
 mod losses;
 mod refusals;
 mod rows;

@@ -1,5 +1,5 @@
 -- The text of answers as it is put together.
-use Rattle.std.proofs.Common.{◌≡◌, ◌∙◌, ℕ, zero, suc, ◌+◌, ◌/◌, ◌%◌, ◌<◌, ◌≤◌, Bool, true, false, if◌then◌else◌, List, [], ◌∷◌, ◌++◌, length, take, map, slice_index, get_or, refl, ap, arith, sym, subst, append_assoc, append-nil}
+use Rattle.std.proofs.Common.{◌≡◌, ◌∙◌, ℕ, zero, suc, ◌+◌, ◌/◌, ◌%◌, ◌<◌, Bool, true, false, if◌then◌else◌, List, [], ◌∷◌, ◌++◌, length, take, map, slice_index, get_or, refl, ap, arith, sym, append_assoc, append-nil}
 use Rattle.std.specs.Prelude.{Option, codes, decimal}
 use Rattle.std.specs.List.{filter, flat_map, range_with_len}
 use Rattle.std.proofs.Math.Seq.{take-suc}
@@ -11,9 +11,8 @@ use Rattle.ball_model.specs.declared.names.NodeId.{NodeId}
 use Rattle.ball_model.specs.declared.names.Verdict.{Verdict}
 use Rattle.ball_model.specs.Job.{Job}
 use Rattle.ball_model.specs.Content.{names_of, verdict_of}
-use Rattle.ball_model.specs.Join.{Holding, content_in, holding_of}
+use Rattle.ball_model.specs.Join.{Holding, content_in}
 use Rattle.ball_model.specs.Held.{HasHolding}
-use Rattle.ball_model.specs.History.{holding_in}
 use Rattle.ball_model.specs.State.{State, content_of}
 use Rattle.ball_model.specs.WorldText.{held_word, hex_digit, more_words, node_line, node_word, registers_word, verdict_word, words_line}
 use Rattle.ball_model.proofs.JoinLemmas.{content_back}

@@ -1,17 +1,20 @@
 -- What a node keeps, and goes back to: the proofs about `Node` cite these.
-use Rattle.std.proofs.Common.{◌≡◌, ℕ, ◌<◌, ◌≤◌, List, [], ◌∷◌, refl, ap, sym, ◌∙◌, subst, arith}
+use Rattle.std.proofs.Common.{◌≡◌, ◌⊎◌, inl, inr, ℕ, ◌<◌, ◌≤◌, List, [], ◌∷◌, refl, ap, sym, ◌∙◌, subst, arith}
 use Rattle.std.specs.Prelude.{Option, None, Some, IfSome, Result, Ok, Err, IfOk, unwrap_or}
 use Rattle.std.specs.List.{All, AllByRecursion}
 use Rattle.std.proofs.lemmas.List.Elements.{All-nil, All-cons, All-map}
 use Rattle.ball_model.specs.declared.world.Answer.TheVariants as answer
 use Rattle.ball_model.specs.Checkpoint.{checkpoint_bytes}
+use Rattle.checkpoint.specs.Reading.{IsRead}
+use Rattle.checkpoint.specs.declared.error.KeepError.{KeepError}
+use Rattle.checkpoint.specs.declared.error.KeepError.TheVariants as unkept
 use Rattle.ball_model.specs.Held.{IsHeldBy, start_holding}
-use Rattle.ball_model.specs.Job.{Job, IsJob, part_of}
+use Rattle.ball_model.specs.Job.{Job, part_of}
 use Rattle.ball_model.specs.Join.{Holding}
 use Rattle.ball_model.specs.Figures.{TallyValue}
 use Rattle.ball_model.specs.PlanValue.{mixing_of}
 use Rattle.ball_model.specs.State.{State, own_vertices, tallies_of}
-use Rattle.ball_model.specs.World.{Node, start_node}
+use Rattle.ball_model.specs.World.{Node}
 use Rattle.ball_model.specs.WorldLaws.{IsWorldNode}
 use Rattle.ball_model.specs.Supersteps.{tally_at}
 use Rattle.ball_model.proofs.EndLemmas.{end_within}
@@ -19,7 +22,7 @@ use Rattle.ball_model.proofs.TallyLemmas.{tallies_fit}
 use Rattle.replica.specs.Saved.{IsFigures, IsKeepable}
 use Rattle.replica.proofs.OwnLemmas.{all_own}
 use Rattle.world.specs.Shows.{ShowsNode, Agree, Has, KeepsContent}
-use Rattle.world.specs.Turns.{Turns, kept_turn, restarted_turn}
+use Rattle.world.specs.Turns.{Turns, restarted_turn}
 use Rattle.world.proofs.NodeLemmas.{node}
 
 -- ---- what may be kept
@@ -79,3 +82,9 @@ anew j p n v w None at fits shows agree has =
     let given : unwrap_or n.kept (start_holding j.plan n.content.partition) ≡ start_holding j.plan n.content.partition = ap (λ o. unwrap_or o (start_holding j.plan n.content.partition)) at in
     subst (λ (d : Holding). (answer.Restarted w.superstep ≡ answer.Restarted d.superstep) × ShowsNode j (record n { content = d }) (node w None)) (sym given)
     (ap answer.Restarted has.holding.stands.superstep, record { content = has; kept = shows.kept })
+
+-- ---- why it is not read
+-- it is want of memory, where no read fails
+pub only_want : (e : KeepError) → (e ≡ unkept.Memory) ⊎ (e ≡ unkept.Read) → (IsRead e → ⊥) → e ≡ unkept.Memory
+only_want e (inl want) sure = want
+only_want e (inr read) sure = absurd (sure (subst IsRead (sym read) tt))

@@ -1,11 +1,10 @@
 -- A replay whose input was read.
-use Rattle.std.proofs.Common.{◌≡◌, ℕ, List, Option, refl, inl, inr}
-use Rattle.std.specs.Io.KnownBytes.{Appends}
+use Rattle.std.proofs.Common.{◌≡◌, ℕ, List, Option, refl, inr}
 use Rattle.ball_model.specs.declared.world.Event.{Event}
 use Rattle.ball_model.specs.Job.{Job}
 use Rattle.ball_model.specs.RunText.{ArePlain, plan_over}
 use Rattle.ball_model.specs.World.{World, start_world}
-use Rattle.ball_model.specs.WorldText.{AppendsReplay, HasCommands, IsReplayText, ReplaySettings, events_text, job_over}
+use Rattle.ball_model.specs.WorldText.{AppendsReplay, IsReplayText, ReplaySettings, events_text, job_over}
 use Rattle.world.specs.declared.tell.TellError.{TellError}
 use Rattle.world.specs.declared.tell.TellError.TheVariants as untold
 use Rattle.world.specs.Replay.{BeginsReplay, FailsOfReplay, IsReady, StartsFrom, told_tell}

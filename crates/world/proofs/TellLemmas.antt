@@ -1,15 +1,13 @@
 -- What is written of a text, one piece after another.
-use Rattle.std.proofs.Common.{◌≡◌, ◌≢◌, ◌-◌, ◌^◌, ◌==◌, ◌&&◌, nat_lt, zero, drop, not, if◌then◌else◌, ◌∙◌, ℕ, suc, ◌+◌, ◌*◌, ◌%◌, ◌<◌, ◌≤◌, Bool, true, false, List, [], ◌∷◌, ◌++◌, map, take, get_or, length, refl, ap, arith, sym, subst, append_assoc, append-nil}
+use Rattle.std.proofs.Common.{◌≡◌, ◌≢◌, ◌-◌, ◌^◌, ◌==◌, ◌&&◌, nat_lt, zero, drop, not, if◌then◌else◌, ◌∙◌, ℕ, suc, ◌+◌, ◌*◌, ◌<◌, ◌≤◌, Bool, true, false, List, [], ◌∷◌, ◌++◌, map, take, get_or, length, refl, ap, arith, sym, subst, append_assoc, append-nil}
 use Rattle.std.specs.Prelude.{Option, None, Some, Result, Ok, Err}
-use Rattle.std.specs.Io.KnownBytes.{Appends, Keeps}
+use Rattle.std.specs.Io.KnownBytes.{Appends}
 use Rattle.std.proofs.KnownBytes.{Appends-nil, Appends-trans}
-use Rattle.ball_model.specs.Streams.{PutsFront, Rises}
 use Rattle.world.specs.declared.tell.TellError.{TellError}
-use Rattle.world.specs.declared.tell.TellError.TheVariants as fault
 use Rattle.std.specs.List.{flat_map, range_with_len}
 use Rattle.std.proofs.Math.Seq.{drop-cons, take-suc}
 use Rattle.std.proofs.lemmas.Grind.{flat_map-append}
-use Rattle.std.proofs.lemmas.List.{drop_all, map-append, take-append-drop, take_all}
+use Rattle.std.proofs.lemmas.List.{map-append, take-append-drop}
 use Rattle.ball_model.specs.declared.names.MergeError.{MergeError}
 use Rattle.ball_model.specs.declared.names.NodeId.{NodeId}
 use Rattle.ball_model.specs.declared.names.Taken.{Taken}
@@ -22,20 +20,19 @@ use Rattle.ball_model.specs.declared.world.Answer.{Answer}
 use Rattle.ball_model.specs.declared.world.Answer.TheVariants as answer
 use Rattle.ball_model.specs.declared.world.WorldError.{WorldError}
 use Rattle.ball_model.specs.declared.world.WorldError.TheVariants as refusal
-use Rattle.ball_model.specs.PlanValue.{PlanValue, most_vertices, part_size, vertices_of}
+use Rattle.ball_model.specs.PlanValue.{PlanValue, most_vertices, part_size}
 use Rattle.ball_model.specs.Job.{Job, part_of}
 use Rattle.ball_model.specs.Batches.{true_batch}
-use Rattle.ball_model.specs.Join.{Holding, merge_of, join_of}
+use Rattle.ball_model.specs.Join.{Holding, merge_of}
 use Rattle.ball_model.specs.Held.{HasHolding, held_close_answer, held_take_answer}
 use Rattle.ball_model.specs.State.{State, own_vertices}
-use Rattle.ball_model.specs.World.{Node, World, after_event, answer_in, answer_of, closed_answer, deliver_at, name_to, node_at, node_of, recover_at, sent_answer, outcome_of, outcome_unless, recover_when, run_of, taken_answer, world_in}
+use Rattle.ball_model.specs.World.{Node, World, after_event, answer_in, answer_of, closed_answer, deliver_at, name_to, node_at, node_of, recover_at, sent_answer, outcome_unless, recover_when, run_of, taken_answer, world_in}
 use Rattle.ball_model.specs.WorldText.{event_text, events_text, outcome_text, show_unless}
 use Rattle.ball_model.proofs.PartLemmas.{vertices_of-strided}
 use Rattle.edgelist.proofs.FeedLemmas.{vertex-within}
 use Rattle.replica.specs.Seen.{IsState}
 use Rattle.std.specs.List.{slice_get}
 use Rattle.world.specs.Runs.{is_want}
-use Rattle.world.specs.Shows.{Shows}
 use Rattle.world.specs.Tell.{BeginsText, Stopped, Told, Tells, is_shown}
 
 -- a beginning of a text is one of a longer text
@@ -102,6 +99,12 @@ vertex-below v parts p q n i plan state parts-is p-is plan-is is q-is lt =
 -- so its number fits
 pub vertex-fits : (v : State) (a b : ℕ) → IsState v → a + b < v.part.plan.vertices → (a < 2 ^ 32) × (a + b < 2 ^ 32)
 vertex-fits v a b state lt = let most : v.part.plan.vertices ≤ most_vertices = state.part.plan.vertices_to in (omega arith, omega arith)
+
+-- it is one of the partition's
+pub is-own : (v : State) (n q i : ℕ) (plan : PlanValue) → plan ≡ v.part.plan → n ≡ part_size plan.vertices plan.parts q → q ≡ v.part.number → i < n → i < part_size v.part.plan.vertices v.part.plan.parts v.part.number
+is-own v n q i plan plan_is is q_is lt =
+    subst (λ (m : ℕ). i < m)
+    (is ∙ ap (λ (l : PlanValue). part_size l.vertices l.parts q) plan_is ∙ ap (λ (k : ℕ). part_size v.part.plan.vertices v.part.plan.parts k) q_is) lt
 
 -- the vertices of the partition are these
 pub own-is : (j : Job) (h : Holding) (v : State) (parts p q n : ℕ) (plan : PlanValue) → HasHolding j h v → parts ≡ v.part.plan.parts → p ≡ v.part.number → plan ≡ v.part.plan →

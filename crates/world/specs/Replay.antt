@@ -16,7 +16,6 @@ use Rattle.ball_model.specs.WorldText.{IsScriptFault, ReplaySettings, job_over, 
 use Rattle.edgelist.specs.Planning.{is_corrected, numbers_with}
 use Rattle.edgelist.specs.Reading.{Refuses, byte_of}
 use Rattle.edgelist.specs.Counting.{RefusesList}
-use Rattle.edgelist.specs.declared.read.EdgeError.{EdgeError}
 use Rattle.edgelist.specs.declared.read.EdgeError.TheVariants as edge_fault
 use Rattle.edgelist.specs.declared.counting.CountedError.{CountedError}
 use Rattle.world.specs.declared.replay.ReplayOptions.{ReplayOptions}

@@ -23,6 +23,7 @@ use edgelist::Part;
 use replica::{Replica, Shown, Snapshot};
 use std::alloc::{AllocError, Global};
 use std::marker::Model;
+use std::mem;
 use std::sync::Arc;
 
 /// A node: its replica, and its checkpoint.
@@ -109,11 +110,23 @@ impl Node {
             IfOk result (λ a. Turns j (restarted_turn j) a self.old self.new) }
         ensures refused { OnErr result (self.new ≡ self.old) }
     {
-        let replica = self.restored(alloc)?;
-        self.replica = replica;
-        Ok(Answer::Restarted {
+        match self.restored(alloc) {
+            Ok(replica) => Ok(self.put(replica)),
+            Err(error) => Err(error),
+        }
+    }
+
+    // Has that replica from now on.
+    fn put(&mut self, replica: Replica) -> Answer
+        requires { replica.part ≡ self.old.replica.part }
+        ensures value { self.new ≡ record self.old { replica = replica } }
+        ensures answer { result ≡ answer.Restarted replica.superstep }
+    {
+        // one drop, at one place: the checker reads each at every exit
+        drop(mem::replace(&mut self.replica, replica));
+        Answer::Restarted {
             superstep: self.replica.superstep(),
-        })
+        }
     }
 
     // The replica of what the node kept, or of the start. The error is that memory was refused.

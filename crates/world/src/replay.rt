@@ -1,16 +1,18 @@
 //! A script over an edge list, and its answers.
 
-ghost use Rattle.std.specs.Prelude.{◌≡◌, ◌≢◌, Ok, Err, IfErr, IfOk, IfSome, OnOk};
+ghost use Rattle.std.specs.Prelude.{◌≡◌, ◌≢◌, ℕ, List, Ok, Err, IfErr, IfOk, IfSome, OnOk};
+ghost use Rattle.std.specs.Prelude.{length};
 ghost use Rattle.ball_model.specs.Job.{IsJob, job_of};
-ghost use Rattle.ball_model.specs.Input.{IsPlain};
+ghost use Rattle.ball_model.specs.Input.{IsPlain, records};
 ghost use Rattle.ball_model.specs.PlanValue.{plan_of};
 ghost use Rattle.ball_model.specs.RunText.{ArePlain, AreRead, list_in, plan_over};
 ghost use Rattle.ball_model.specs.WorldText.{AppendsReplay, HasCommands};
 ghost use Rattle.edgelist.specs.Counting.{RefusesList};
-ghost use Rattle.edgelist.specs.Reading.{Refuses};
+ghost use Rattle.edgelist.specs.Reading.{Refuses, byte_of};
 ghost use Rattle.world.specs.Replay.{AreCommands, FailsOfReplay, IsEarly, IsOfInput, IsReady};
-ghost use Rattle.world.specs.Replay.{IsStarted, RefusesNetwork, RefusesCommands, RefusesStart};
-ghost use Rattle.world.specs.Replay.{counted_by, network_by, numbers_in, replay_of, settings_of};
+ghost use Rattle.world.specs.Replay.{IsSomeStart, IsStarted, RefusesNetwork, RefusesCommands};
+ghost use Rattle.world.specs.Replay.{RefusesStart, StartsFrom, counted_by, network_by, numbers_in};
+ghost use Rattle.world.specs.Replay.{replay_of, settings_of};
 
 use crate::World;
 use crate::bytes::Bytes;
@@ -20,7 +22,9 @@ use crate::watch::{Unwatched, Watch};
 use ball_model::plan::MOST_VERTICES;
 use ball_model::world::Event;
 use ball_model::{CountedWrite, Estimate, Plan, PlanError};
-use edgelist::{CountedError, Delimiter, EdgeError, EdgeLimits, Graph, MOST_RECORDS, read_edges};
+use edgelist::{
+    CountedError, Delimiter, EdgeError, EdgeLimits, EdgeList, Graph, MOST_RECORDS, read_edge_list,
+};
 use std::alloc::{AllocError, Global};
 use std::hash::RandomState;
 use thiserror::Error;
@@ -160,18 +164,21 @@ fn read_events(
     Ok(read_script(alloc, script)?)
 }
 
-// The graph that an edge list in memory says.
+// The graph that an edge list in memory says, and how many records it has.
 fn read_all(
     alloc: Global,
     state: RandomState,
     edges: &[u8],
     options: &ReplayOptions,
-) -> Result<Graph, EdgeError>
-    ensures ok { IsPlain edges.now → IfOk result (λ all. network_by options.now edges.now ≡ Ok all) }
+) -> Result<EdgeList, EdgeError>
+    ensures ok { IsPlain edges.now →
+        IfOk result (λ all. network_by options.now edges.now ≡ Ok all.graph) }
+    ensures count { IsPlain edges.now → IfOk result (λ all.
+        all.records ≡ length (records (byte_of options.now.delimiter) edges.now)) }
     ensures refused { IsPlain edges.now → IfErr result (Refuses (network_by options.now edges.now)) }
     ensures read { result ≢ Err EdgeError.Read }
 {
-    read_edges(
+    read_edge_list(
         alloc,
         state,
         &mut Bytes::new(edges),
@@ -198,22 +205,28 @@ fn count_listed(
     Ok(graph)
 }
 
-// The graph that an edge list and a list of counted vertices say.
+// The graph that an edge list and a list of counted vertices say, and how many records the edge list has.
 fn read_network(
     alloc: Global,
     state: RandomState,
     edges: &[u8],
     counted: Option<&[u8]>,
     options: &ReplayOptions,
-) -> Result<Graph, ReplayError>
-    ensures ok { ArePlain edges.now (list_in counted.entry) →
-        IfOk result (AreRead (settings_of options.now) edges.now (list_in counted.entry)) }
+) -> Result<EdgeList, ReplayError>
+    ensures ok { ArePlain edges.now (list_in counted.entry) → IfOk result (λ read.
+        AreRead (settings_of options.now) edges.now (list_in counted.entry) read.graph) }
+    ensures count { IsPlain edges.now → IfOk result (λ read.
+        read.records ≡ length (records (byte_of options.now.delimiter) edges.now)) }
     ensures refused { ArePlain edges.now (list_in counted.entry) →
         IfErr result (RefusesNetwork (settings_of options.now) edges.now (list_in counted.entry)) }
     ensures kind { IfErr result IsOfInput }
 {
-    let graph = read_all(alloc, state, edges, options)?;
-    Ok(count_listed(alloc, graph, counted, options)?)
+    let read = read_all(alloc, state, edges, options)?;
+    let graph = count_listed(alloc, read.graph, counted, options)?;
+    Ok(EdgeList {
+        graph,
+        records: read.records,
+    })
 }
 
 // The plan of a replay over a graph, or the first fault of the options.
@@ -243,6 +256,28 @@ fn start(alloc: Global, graph: &Graph, options: &ReplayOptions) -> Result<World,
     Ok(World::new(alloc, graph, &plan, options.replicas)?)
 }
 
+// The world of an edge list at its start.
+fn read_world<V: Watch>(
+    alloc: Global,
+    state: RandomState,
+    edges: &[u8],
+    counted: Option<&[u8]>,
+    options: &ReplayOptions,
+    watch: &V,
+) -> Result<World, ReplayError>
+    ensures some { IfOk result IsSomeStart }
+    ensures starts { ArePlain edges.now (list_in counted.entry) → IfOk result
+        (StartsFrom (replay_of options.now) edges.now (list_in counted.entry)) }
+    ensures refused { (script : List ℕ) → HasCommands (replay_of options.now) script →
+        IfErr result (IsEarly (replay_of options.now) edges.now (list_in counted.entry) script) }
+{
+    let read = read_network(alloc, state, edges, counted, options)?;
+    watch.after_read(read.records, read.graph.vertices());
+    let world = start(alloc, &read.graph, options);
+    drop(read);
+    world
+}
+
 // The events of a script, and the world of an edge list at its start.
 fn prepare<V: Watch>(
     alloc: Global,
@@ -259,9 +294,7 @@ fn prepare<V: Watch>(
         (IsEarly (replay_of options.now) edges.now (list_in counted.entry) script.now) }
 {
     let events = read_events(alloc, script, options)?;
-    let graph = read_network(alloc, state, edges, counted, options)?;
-    watch.after_read(graph.vertices(), graph.edges());
-    let world = start(alloc, &graph, options)?;
+    let world = read_world(alloc, state, edges, counted, options, watch)?;
     Ok((events, world))
 }
 

@@ -1,11 +1,12 @@
 //! The answers of a list of events, written line by line.
 
-ghost use Rattle.std.specs.Prelude.{◌≡◌, ◌<◌, ◌++◌, ◌%◌, OnOk, false};
+ghost use Rattle.std.specs.Prelude.{◌≡◌, ◌+◌, ◌*◌, ◌<◌, ◌++◌, ◌%◌, OnOk, false};
 ghost use Rattle.std.specs.List.{flat_map};
 ghost use Rattle.ball_model.specs.declared.world.Event.{Event as Happening};
 ghost use Rattle.ball_model.specs.Job.{Job};
 ghost use Rattle.ball_model.specs.Join.{Holding};
 ghost use Rattle.ball_model.specs.Held.{HasHolding};
+ghost use Rattle.ball_model.specs.PlanValue.{part_size};
 ghost use Rattle.ball_model.specs.State.{own_vertices};
 ghost use Rattle.ball_model.specs.World.{World as Defined, after_event, node_at, node_of};
 ghost use Rattle.ball_model.specs.WorldText.{event_text, events_text, node_line, outcome_text};
@@ -52,6 +53,20 @@ pub fn write_lines<W: CountedWrite>(writer: &mut W, lines: &[u8]) -> Result<(), 
     }
 }
 
+/// Vertex `i` of the replica's partition, counted from 0.
+pub fn own_vertex(replica: &Replica, i: u32) -> u32
+    requires { i < part_size replica.now.part.plan.vertices replica.now.part.plan.parts
+        replica.now.part.number }
+    ensures value { result ≡ i * replica.now.part.plan.parts + replica.now.part.number }
+    ensures vertex { result < replica.now.part.plan.vertices }
+    ensures own { result % replica.now.part.plan.parts ≡ replica.now.part.number }
+{
+    // the limits of a replica are told with its superstep
+    let _superstep = replica.superstep();
+    let parts = u32::from(replica.plan().parts());
+    i * parts + u32::from(replica.partition())
+}
+
 // Tells a vertex of a node.
 fn tell_vertex<W: CountedWrite>(
     replica: &Replica,
@@ -81,10 +96,9 @@ fn tell_vertices<W: CountedWrite>(
 {
     // the limits of a replica are told with its superstep
     let _superstep = replica.superstep();
-    let parts = u32::from(replica.plan().parts());
     let partition = replica.partition();
     for i in 0..replica.plan().part_size(partition) {
-        tell_vertex(replica, i * parts + u32::from(partition), line, writer)?;
+        tell_vertex(replica, own_vertex(replica, i), line, writer)?;
     }
     Ok(())
 }

@@ -19,12 +19,30 @@ fn is_row(part: &Part, row: &Row<'_>) -> bool {
         && part.counts(i) == counted
 }
 
-// Whether a part of a graph has this row.
-fn has_row(alloc: Global, graph: &Graph, row: &Row<'_>) -> bool {
-    match part_of(alloc, graph, row.0, row.1) {
+// Whether there is a part, and it has this row.
+fn is_some_row(part: Option<Part>, row: &Row<'_>) -> bool {
+    match part {
         Some(part) => is_row(&part, row),
         None => false,
     }
+}
+
+// A part of a graph by the masks of all vertices.
+pub(super) fn part_by_feeds(alloc: Global, graph: &Graph, parts: u16, p: u16) -> Option<Part> {
+    let Ok(plan) = graph.plan(4, 0, parts, 4096) else {
+        return None;
+    };
+    if p >= plan.parts() {
+        return None;
+    }
+    let feeds = graph.feeds(alloc, &plan).ok()?;
+    graph.part_with(alloc, &plan, p, &feeds).ok()
+}
+
+// Whether a part of a graph has this row, by whichever masks it is made.
+fn has_row(alloc: Global, graph: &Graph, row: &Row<'_>) -> bool {
+    is_some_row(part_of(alloc, graph, row.0, row.1), row)
+        && is_some_row(part_by_feeds(alloc, graph, row.0, row.1), row)
 }
 
 // Whether the parts of a graph have these rows.
@@ -46,8 +64,11 @@ fn have_rows(rt: &HostRuntime, text: &[u8], list: Option<&[u8]>, rows: &[Row<'_>
     }
 }
 
-// 0 to 1 to 2 to 3 to 4, and 2 to itself: the even vertices are partition 0, the odd ones partition 1.
-static PATH: [Row<'static>; 5] = [
+// 0 to 1 to 2 to 3 to 4, and 2 to itself: of two partitions, the even vertices are partition 0, the odd ones
+// partition 1.
+static PATH: [Row<'static>; 7] = [
+    (1, 0, 2, 5, 2, &[1, 2], 0b1, true),
+    (1, 0, 4, 5, 4, &[3], 0, true),
     (2, 0, 0, 3, 0, &[], 0b10, true),
     (2, 0, 1, 3, 2, &[1, 2], 0b11, true),
     (2, 0, 2, 3, 4, &[3], 0, true),

@@ -25,7 +25,7 @@ fn give(alloc: Global, edges: &mut EdgeReader, text: &[u8]) -> Result<(), EdgeEr
 // What a reader tells at the end.
 fn finished(alloc: Global, edges: EdgeReader) -> Told {
     match edges.finish(alloc) {
-        Ok(graph) => Ok(shown(&graph)),
+        Ok(list) => Ok(shown(&list.graph)),
         Err(e) => Err(e),
     }
 }
@@ -40,6 +40,14 @@ pub(super) fn given(
     let mut edges = reader(rt, delimiter, limits)?;
     give(rt.alloc(), &mut edges, text)?;
     finished(rt.alloc(), edges)
+}
+
+// How many records a text with tabs has that is given to a reader.
+pub(super) fn records_given(rt: &HostRuntime, text: &[u8]) -> Result<u64, EdgeError> {
+    let mut edges = reader(rt, Delimiter::Tab, LIMITS)?;
+    give(rt.alloc(), &mut edges, text)?;
+    let list = edges.finish(rt.alloc())?;
+    Ok(list.records)
 }
 
 // Adds the pieces of a text.

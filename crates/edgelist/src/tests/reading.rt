@@ -1,6 +1,6 @@
 //! Records, their limits and refusals, and readers that fail.
 
-use super::pieces::given;
+use super::pieces::{given, records_given};
 use super::*;
 
 /// An edge list, what stands between its fields, the limits on vertices and records, and the lines of its graph or the
@@ -97,6 +97,25 @@ fn worked_edge_lists(rt: HostRuntime) {
     for case in &CASES {
         assert!(rt; is_told(&rt, case));
     }
+}
+
+// How many records an edge list with tabs has that is read at once.
+fn records_read(rt: &HostRuntime, text: &[u8]) -> Result<u64, EdgeError> {
+    let Ok(state) = RandomState::new(rt) else {
+        return Err(EdgeError::Memory);
+    };
+    let mut reader = CountingReader::new(at_once(text));
+    let list = read_edge_list(rt.alloc(), state, &mut reader, Tab, LIMITS)?;
+    Ok(list.records)
+}
+
+// An edge twice, one vertex and another edge; neither comments nor empty lines are records.
+const FOUR_RECORDS: &[u8] = b"# c\na\tb\n\na\tb\nd\r\n# x\nb\tc";
+
+#[test]
+fn records_are_counted(rt: HostRuntime) {
+    assert!(rt; records_read(&rt, FOUR_RECORDS) == Ok(4));
+    assert!(rt; records_given(&rt, FOUR_RECORDS) == Ok(4));
 }
 
 // An edge list, how many of its bytes come at a time, the limit on records, how many calls are made of its reader, and

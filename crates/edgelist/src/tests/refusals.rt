@@ -2,6 +2,7 @@
 //! is answered when it is made again.
 
 use super::counting::counts;
+use super::parts::part_by_feeds;
 use super::*;
 
 // Whether both of two calls read the two edges, or just one was refused for want of memory.
@@ -30,9 +31,9 @@ fn is_counted(alloc: Global, graph: &mut Graph) -> bool {
     }
 }
 
-// Whether a graph has a part: where memory is refused there is none.
+// Whether a graph has a part, by whichever masks it is made: where memory is refused there is none.
 fn has_part(alloc: Global, graph: &Graph) -> bool {
-    part_of(alloc, graph, 2, 1).is_some()
+    part_of(alloc, graph, 2, 1).is_some() && part_by_feeds(alloc, graph, 2, 1).is_some()
 }
 
 // Whether a list is answered on the two edges, and a part is made by one of two calls at least.

@@ -18,7 +18,10 @@ fn all_tell<H: Host>(rt: &H, tellings: &[Telling]) {
     }
 }
 
-const READ: &[u8] = b"hyperball: 3 vertices and 2 edges are read\n";
+const READ: &[u8] = b"hyperball: 2 records and 3 vertices are read\n";
+
+/// The two edges in four records: one of them twice, and c once more alone. Comments and empty lines are no records.
+const FOUR_RECORDS: &[u8] = b"# two edges\na\tb\nb\tc\n\na\tb\nc\n";
 
 const REPORTED: &[u8] = b"hyperball: the report is written\n";
 
@@ -45,9 +48,9 @@ const WRITTEN: &[u8] = b"hyperball: the answers are written\n";
 const ANSWERED: &[u8] = b"hyperball: the commands are answered\n";
 
 /// What commands tell.
-static TELLINGS: [Telling; 16] = [
-    // The graph, three supersteps and the report, however many workers there are, and nothing where it is not asked for. Of
-    // several workers a partition two lines may change places.
+static TELLINGS: [Telling; 17] = [
+    // The edge list, three supersteps and the report, however many workers there are, and nothing where it is not asked
+    // for. Of several workers a partition two lines may change places.
     ((RUN, &[EDGES], 0, &[REPORT], b""), &[]),
     (
         (
@@ -91,6 +94,22 @@ static TELLINGS: [Telling; 16] = [
     ),
     (
         (
+            "hyperball run --log2m 4 --progress",
+            &[FOUR_RECORDS],
+            0,
+            &[REPORT],
+            b"",
+        ),
+        &[
+            b"hyperball: 4 records and 3 vertices are read\n",
+            b"hyperball: superstep 1, 2 of 3 vertices changed\n",
+            b"hyperball: superstep 2, 1 of 3 vertices changed\n",
+            b"hyperball: superstep 3, 0 of 3 vertices changed\n",
+            REPORTED,
+        ],
+    ),
+    (
+        (
             "hyperball run --log2m 4 --limit 1 --progress",
             &[EDGES],
             0,
@@ -103,7 +122,7 @@ static TELLINGS: [Telling; 16] = [
             REPORTED,
         ],
     ),
-    // The graph, each close that went on, and the end: the partition is at its last superstep after three closes.
+    // The edge list, each close that went on, and the end: the partition is at its last superstep after three closes.
     (
         (
             "hyperball replay --log2m 4",
@@ -165,7 +184,7 @@ refused no-node
             WRITTEN,
         ],
     ),
-    // A node tells the graph, each close that went on, and the end, where it comes to that.
+    // A node tells the edge list, each close that went on, and the end, where it comes to that.
     (
         (
             "hyperball node --log2m 4",
@@ -209,7 +228,7 @@ refused no-node
         ),
         &[READ, ANSWERED],
     ),
-    // A gathering tells the graph, each checkpoint, and the end, and nothing where it is not asked for.
+    // A gathering tells the edge list, each checkpoint, and the end, and nothing where it is not asked for.
     (nodes::GATHERED, &[]),
     (
         (

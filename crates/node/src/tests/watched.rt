@@ -39,9 +39,9 @@ impl Digits {
 }
 
 impl Watch for Digits {
-    fn after_read(&self, vertices: u32, edges: u64) {
+    fn after_read(&self, records: u64, vertices: u32) {
+        self.put(records);
         self.put(u64::from(vertices));
-        self.put(edges);
     }
 
     fn after_close(&self, node: NodeId, superstep: u32, changed: u32, vertices: u32) {
@@ -52,21 +52,21 @@ impl Watch for Digits {
     }
 }
 
-/// A node that goes on, starts anew, and runs to its end. The counter of b takes over that of a at superstep 1, which has
-/// other registers; at superstep 2 nothing changes.
+/// A node that goes on, starts anew, and runs to its end. Of its three records two are one edge, and one is b alone. The
+/// counter of b takes over that of a at superstep 1, which has other registers; at superstep 2 nothing changes.
 static ANEW: Case = Case {
     parts: 1,
     counted: false,
     part: 0,
-    input: &[b"a\tb\n%%\nclose\nrestart 0\nclose\nclose\nclose\n"],
+    input: &[b"a\tb\n# c\na\tb\nb\n%%\nclose\nrestart 0\nclose\nclose\nclose\n"],
     text: &[b"closed 1\nrestarted 0\nclosed 1\nclosed 2\nfinished\n"],
     end: Ok(()),
 };
 
-/// Whether its watch is told of two vertices and one edge, and of the three closes that went on.
+/// Whether its watch is told of three records and two vertices, and of the three closes that went on.
 fn node_is_watched(rt: &HostRuntime) -> bool {
     let watch = Digits::new();
-    holds(rt, &ANEW, &watch) && watch.told() == 21_0112_0112_0202
+    holds(rt, &ANEW, &watch) && watch.told() == 32_0112_0112_0202
 }
 
 #[test]
@@ -78,6 +78,7 @@ fn a_watch_is_told_of_a_node_that_goes_on(rt: HostRuntime) {
 static BOTH_KEPT: Gathering = Gathering {
     parts: 2,
     input: &[
+        b"a\tb\n",
         TWO_EDGES,
         b"part 291\n",
         FIRST_END,
@@ -88,10 +89,10 @@ static BOTH_KEPT: Gathering = Gathering {
     end: Ok(()),
 };
 
-/// Whether its watch is told of three vertices and two edges, and of the two checkpoints.
+/// Whether its watch is told of three records, of which two are one edge, and three vertices, and of the two checkpoints.
 fn gathering_is_watched<T: AllocGlobal + RandomSource + Threads + Sync>(rt: &T) -> bool {
     let watch = Digits::new();
-    gathers(rt, &BOTH_KEPT, &watch) && watch.told() == 32_0302_1301
+    gathers(rt, &BOTH_KEPT, &watch) && watch.told() == 33_0302_1301
 }
 
 // The counter of a reaches b at superstep 1 and c at superstep 2. At superstep 3 nothing changes, and the run ends.

@@ -13,7 +13,7 @@ vertex,x,11.390942,0.000000,0.000000,1.000000,15
 ";
 
 /// Nothing at all.
-const NOTHING: &[u8] = b"superstep,0,0.000000
+pub const NOTHING: &[u8] = b"superstep,0,0.000000
 superstep,1,0.000000
 end,1,stable
 gain,0.000000
@@ -39,6 +39,14 @@ vertex,a,11.780376,0.389434,2.567829,356.356298,14
 vertex,b,11.780376,0.665022,1.503709,208.680703,14
 ";
 
+/// One vertex whose label is that of the line between an edge list and what follows it.
+const PERCENTS: &[u8] = b"superstep,0,11.390942
+superstep,1,11.390942
+end,1,stable
+gain,0.000000
+vertex,%%,11.390942,0.000000,0.000000,1.000000,15
+";
+
 /// Labels that stand in quotes.
 const QUOTED: &[u8] = b"superstep,0,22.506296
 superstep,1,23.171318
@@ -50,7 +58,7 @@ vertex,\"q\"\"\",11.780376,0.665022,1.503709,208.680703,14
 ";
 
 /// The two edges, of whose vertices only a is counted.
-const ONE_COUNTED: &[u8] = b"superstep,0,32.926942
+pub const ONE_COUNTED: &[u8] = b"superstep,0,32.926942
 superstep,1,33.549884
 superstep,2,34.172826
 superstep,3,34.172826
@@ -75,7 +83,7 @@ vertex,c,10.768000,0.000000,0.000000,1.000000,16
 const NOISY: &[u8] = b"# c\r\na\tb\r\nb\tc\r\na\tb\r\nb\tb\r\n";
 
 /// What is asked, and its report. The others have the two edges by tabs and all vertices counted.
-static ROWS: [(Asked<'static>, &[u8]); 6] = [
+static ROWS: [(Asked<'static>, &[u8]); 8] = [
     (
         Asked {
             input: b"x\n",
@@ -89,6 +97,20 @@ static ROWS: [(Asked<'static>, &[u8]); 6] = [
             ..USUAL
         },
         NOTHING,
+    ),
+    (
+        Asked {
+            input: b"# nothing\n\n",
+            ..USUAL
+        },
+        NOTHING,
+    ),
+    (
+        Asked {
+            input: b"%%\n",
+            ..USUAL
+        },
+        PERCENTS,
     ),
     (Asked { limit: 1, ..USUAL }, LIMITED),
     (
@@ -115,7 +137,7 @@ static ROWS: [(Asked<'static>, &[u8]); 6] = [
 ];
 
 /// The two edges with a list of counted vertices.
-static COUNTED: [(Asked<'static>, &[u8]); 3] = [
+static COUNTED: [(Asked<'static>, &[u8]); 5] = [
     (
         Asked {
             counted: Some(b"a\n"),
@@ -125,7 +147,21 @@ static COUNTED: [(Asked<'static>, &[u8]); 3] = [
     ),
     (
         Asked {
+            counted: Some(b"# c\r\na\r\n"),
+            ..USUAL
+        },
+        ONE_COUNTED,
+    ),
+    (
+        Asked {
             counted: Some(b""),
+            ..USUAL
+        },
+        NONE_COUNTED,
+    ),
+    (
+        Asked {
+            counted: Some(b"# nothing\n"),
             ..USUAL
         },
         NONE_COUNTED,
@@ -160,7 +196,7 @@ static DELIMITED: [(Asked<'static>, &[u8]); 2] = [
 ];
 
 /// Whether each of these has its report.
-fn all_report<R: AllocGlobal + RandomSource + Threads + Wait + Sync>(
+pub fn all_report<R: AllocGlobal + RandomSource + Threads + Wait + Sync>(
     rt: &R,
     rows: &[(Asked, &[u8])],
 ) -> bool {

@@ -23,6 +23,7 @@ vertex,c,12.417153,0.751274,0.538737,83.065637,13
 pub struct Asked<'a> {
     pub input: &'a [u8],
     pub counted: Option<&'a [u8]>,
+    pub estimate: Estimate,
     pub delimiter: Delimiter,
     pub parts: u16,
     pub replicas: u8,
@@ -37,6 +38,7 @@ pub struct Asked<'a> {
 pub const USUAL: Asked<'static> = Asked {
     input: TWO_EDGES,
     counted: None,
+    estimate: Estimate::Raw,
     delimiter: Delimiter::Tab,
     parts: 1,
     replicas: 1,
@@ -56,7 +58,7 @@ pub fn options_of(alloc: Global, asked: &Asked) -> Option<RunOptions> {
         seed: 0,
         parts: asked.parts,
         limit: asked.limit,
-        estimate: Estimate::Raw,
+        estimate: asked.estimate,
         delimiter: asked.delimiter,
         replicas: asked.replicas,
         entries: asked.entries,

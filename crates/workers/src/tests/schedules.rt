@@ -1,12 +1,21 @@
 //! Schedules: whatever turns the threads take, whoever is lost or starts anew, the bytes are the same.
 
-use super::rows::{CYCLE, LONE};
+use super::estimates::{TREE, TREE_REPORT};
+use super::rows::{CYCLE, LONE, NOTHING, ONE_COUNTED};
 use super::runs::{Asked, REPORT, USUAL, ends_so, node};
 use super::*;
+use ball_model::Estimate;
 use std::thread;
 use std::thread::Threads;
 
-/// A gate at which a node yields its thread up to seven times, by a number that goes on with each call.
+// Mixes the bits of a number (the finalizer of MurmurHash3).
+fn mixed(number: u32) -> u32 {
+    let half = (number ^ (number >> 16)).wrapping_mul(0x85eb_ca6b);
+    let whole = (half ^ (half >> 13)).wrapping_mul(0xc2b2_ae35);
+    whole ^ (whole >> 16)
+}
+
+/// A gate at which a node yields its thread up to three times at random, by a number that goes on with each call.
 #[derive(Drop)]
 struct Yielding {
     number: AtomicU32,
@@ -14,8 +23,8 @@ struct Yielding {
 
 impl Yielding {
     fn rest(&self) {
-        let number = self.number.fetch_add(0x9e3779b9, Ordering::SeqCst);
-        for _ in 0..number >> 29 {
+        let number = self.number.fetch_add(0x9e37_79b9, Ordering::SeqCst);
+        for _ in 0..mixed(number) >> 30 {
             thread::yield_now();
         }
     }
@@ -44,11 +53,50 @@ fn next(state: &mut u64) -> u64 {
     *state >> 33
 }
 
-/// Edge lists, their reports, and the supersteps at which their runs end.
-const GRAPHS: [(&[u8], &[u8], u32); 3] = [
-    (TWO_EDGES, REPORT, 3),
-    (b"a\tb\nb\ta\n", CYCLE, 2),
-    (b"x\n", LONE, 1),
+/// What is asked of graphs, their reports, and the supersteps at which their runs end.
+static GRAPHS: [(Asked<'static>, &[u8], u32); 6] = [
+    (USUAL, REPORT, 3),
+    (
+        Asked {
+            input: b"a\tb\nb\ta\n",
+            ..USUAL
+        },
+        CYCLE,
+        2,
+    ),
+    (
+        Asked {
+            input: b"x\n",
+            ..USUAL
+        },
+        LONE,
+        1,
+    ),
+    (
+        Asked {
+            input: b"",
+            ..USUAL
+        },
+        NOTHING,
+        1,
+    ),
+    (
+        Asked {
+            counted: Some(b"a\n"),
+            ..USUAL
+        },
+        ONE_COUNTED,
+        3,
+    ),
+    (
+        Asked {
+            input: TREE,
+            estimate: Estimate::Corrected,
+            ..USUAL
+        },
+        TREE_REPORT,
+        5,
+    ),
 ];
 
 // Orders of a run at random: the first so many of these.
@@ -66,7 +114,7 @@ impl Orders {
 
 // A superstep at random, which may be behind the end.
 fn any_superstep(state: &mut u64) -> u32 {
-    (next(state) % 5) as u32
+    (next(state) % 7) as u32
 }
 
 // In a third of all runs one replica of a partition is lost, and in another third all of them.
@@ -101,28 +149,45 @@ fn any_node(state: &mut u64, parts: u16, replicas: u8) -> NodeId {
     node(part as u16, replica as u8)
 }
 
-// How many partitions and replicas a run at random has, how often it keeps, and its orders.
+// A run at random: what is asked of its graph, the report and the superstep at which it ends; how many partitions and
+// replicas it has, how often it keeps, its orders, and with which number its nodes begin to yield.
 #[derive(Clone, Copy)]
 struct Drawn {
+    graph: Asked<'static>,
+    report: &'static [u8],
+    end: u32,
     parts: u16,
     replicas: u8,
     keep: u32,
     lose: Orders,
     restart: Orders,
+    yields: u32,
+}
+
+impl Drawn {
+    // How many threads it has.
+    fn threads(&self) -> u32 {
+        u32::from(self.parts).saturating_mul(u32::from(self.replicas))
+    }
 }
 
 // One to four partitions of one to three replicas: up to twelve threads, three for each of four cores.
 fn draw(state: &mut u64) -> Drawn {
+    let (graph, report, end) = GRAPHS[(next(state) % 6) as usize];
     let parts = (1 + next(state) % 4) as u16;
     let replicas = (1 + next(state) % 3) as u8;
     let lost = any_node(state, parts, replicas);
     let anew = any_node(state, parts, replicas);
     Drawn {
+        graph,
+        report,
+        end,
         parts,
         replicas,
         keep: (next(state) % 4) as u32,
         lose: losses(state, lost, replicas),
         restart: restarts(state, anew),
+        yields: (next(state) % 1_000_003) as u32,
     }
 }
 
@@ -144,23 +209,20 @@ fn lost_part(asked: &Asked, end: u32) -> Option<u16> {
 // Whether a run at random ends as its orders say.
 fn ends_as_ordered<R: AllocGlobal + RandomSource + Threads + Wait + Sync>(
     rt: &R,
-    state: &mut u64,
+    run: &Drawn,
 ) -> bool {
-    let (input, report, end) = GRAPHS[(next(state) % 3) as usize];
-    let run = draw(state);
     let asked = Asked {
-        input,
         parts: run.parts,
         replicas: run.replicas,
         keep: run.keep,
         lose: run.lose.as_slice(),
         restart: run.restart.as_slice(),
-        ..USUAL
+        ..run.graph
     };
     let gate = Yielding {
-        number: AtomicU32::new((next(state) % 1_000_003) as u32),
+        number: AtomicU32::new(run.yields),
     };
-    match lost_part(&asked, end) {
+    match lost_part(&asked, run.end) {
         Some(part) => ends_so(
             rt,
             &asked,
@@ -168,23 +230,29 @@ fn ends_as_ordered<R: AllocGlobal + RandomSource + Threads + Wait + Sync>(
             Err(RunError::PartitionLost { part }),
             b"",
         ),
-        None => ends_so(rt, &asked, &gate, Ok(()), report),
+        None => ends_so(rt, &asked, &gate, Ok(()), run.report),
     }
 }
 
-// How many of so many runs do not.
-fn different<R: AllocGlobal + RandomSource + Threads + Wait + Sync>(rt: &R, runs: u32) -> u32 {
+// How many of so many runs do not, and how many threads the widest of them has.
+fn different<R: AllocGlobal + RandomSource + Threads + Wait + Sync>(
+    rt: &R,
+    runs: u32,
+) -> (u32, u32) {
     let mut state = 28;
     let mut others = 0u32;
+    let mut widest = 0u32;
     for _ in 0..runs {
-        if !ends_as_ordered(rt, &mut state) {
+        let run = draw(&mut state);
+        widest = widest.max(run.threads());
+        if !ends_as_ordered(rt, &run) {
             others = others.saturating_add(1);
         }
     }
-    others
+    (others, widest)
 }
 
 #[test]
 fn threads_that_yield(rt: HostRuntime) {
-    assert_eq!(rt; different(&rt, 200), 0);
+    assert_eq!(rt; different(&rt, 200), (0, 12));
 }

@@ -1,7 +1,6 @@
 //! What a watch is told of a replay.
 
 use super::replays::options;
-use super::worlds::TWO_EDGES;
 use crate::replay::{ReplayError, replay_watched};
 use crate::watch::Watch;
 use ball_model::{MemWriter, NodeId, PlanError};
@@ -27,9 +26,9 @@ impl Digits {
 }
 
 impl Watch for Digits {
-    fn after_read(&self, vertices: u32, edges: u64) {
+    fn after_read(&self, records: u64, vertices: u32) {
+        self.put(records);
         self.put(u64::from(vertices));
-        self.put(edges);
     }
 
     fn after_close(&self, node: NodeId, superstep: u32, changed: u32, vertices: u32) {
@@ -55,6 +54,9 @@ deliver 2 1.0
 close 1.0
 ";
 
+// Three records of the two edges, one of them twice.
+const THREE_RECORDS: &[u8] = b"a\tb\nb\tc\na\tb\n";
+
 // What a replay of the script over two partitions tells, and the digits of what its watch is told.
 fn watched(rt: &HostRuntime, log2m: u8, script: &[u8]) -> Option<(Result<(), ReplayError>, u64)> {
     let state = RandomState::new(rt).ok()?;
@@ -67,7 +69,7 @@ fn watched(rt: &HostRuntime, log2m: u8, script: &[u8]) -> Option<(Result<(), Rep
     let told = replay_watched(
         rt.alloc(),
         state,
-        TWO_EDGES,
+        THREE_RECORDS,
         None,
         script,
         &asked,
@@ -78,14 +80,14 @@ fn watched(rt: &HostRuntime, log2m: u8, script: &[u8]) -> Option<(Result<(), Rep
 }
 
 #[test]
-fn a_watch_is_told_of_the_graph_and_of_closes(rt: HostRuntime) {
-    assert!(rt; watched(&rt, 4, SCRIPT) == Some((Ok(()), 32_1111_0112_1201)));
+fn a_watch_is_told_of_the_edge_list_and_of_closes(rt: HostRuntime) {
+    assert!(rt; watched(&rt, 4, SCRIPT) == Some((Ok(()), 33_1111_0112_1201)));
 }
 
 #[test]
-fn a_watch_is_told_of_a_graph_that_has_no_plan(rt: HostRuntime) {
+fn a_watch_is_told_of_an_edge_list_that_has_no_plan(rt: HostRuntime) {
     let told = Err(ReplayError::Plan(PlanError::Log2m));
-    assert!(rt; watched(&rt, 3, b"") == Some((told, 32)));
+    assert!(rt; watched(&rt, 3, b"") == Some((told, 33)));
     let told = Err(ReplayError::Script { line: 1 });
     assert!(rt; watched(&rt, 3, b"close\n") == Some((told, 0)));
 }

@@ -1,20 +1,17 @@
-use Rattle.std.proofs.Common.{◌∙◌, ◌∷◌, [], sym}
-use Rattle.std.proofs.lemmas.List.{map-append}
+use Rattle.std.proofs.Common.{◌≡◌, ◌∙◌, ap, arith}
 use Rattle.ball_model.specs.Graph.{is_counted}
-use Rattle.ball_model.specs.PlanValue.{vertices_of}
-use Rattle.edgelist.proofs.OwnLemmas.{own-next, other-next}
+use Rattle.edgelist.proofs.OwnLemmas.{own-more, first-all}
 use Rattle.edgelist.proofs.part.own_counts.Goals as goal
-use Rattle.edgelist.proofs.part.own_counts.Goals.{then-x-parts+in_ok-push, else-x-parts}
 
-pub loop-x-init : goal.loop-x-init
-unfolding vertices_of
-loop-x-init c = c.new-counted.ensures.items
+pub loop-i-init : goal.loop-i-init
+loop-i-init c = c.in_ok-counted.ensures.items
 
-pub loop-x-preserved : goal.loop-x-preserved
-loop-x-preserved c =
-    elim c.if-x-parts.branch [
-      | then-x-parts+in_ok-push w ↦
-          rw (w.counted-is, own-next c.loop-x.x c.args.parts c.args.p w.if-x-parts.true)
-          (w.in_ok-push.ensures.items ∙ rw (c.loop-x.invariant, w.counted.ensures) (sym (map-append (is_counted c.args.graph.now.graph) (vertices_of c.loop-x.x c.args.parts c.args.p) (c.loop-x.x ∷ []))))
-      | else-x-parts w ↦ rw (w.counted-is, other-next c.loop-x.x c.args.parts c.args.p w.if-x-parts.false) c.loop-x.invariant
-    ]
+pub loop-i-preserved : goal.loop-i-preserved
+loop-i-preserved c =
+    let counts = is_counted c.args.graph.now.graph in
+    own-more counts c.args.plan.now.parts c.args.p c.loop-i.i c.loop-i.counted.items c.push.new.self.items c.counted.result c.in_ok-push.ensures.items c.loop-i.invariant (c.counted.ensures ∙ ap counts c.vertex_at.ensures.value)
+
+pub returns : goal.returns
+returns c =
+    let at : c.loop-i.i ≡ c.part_size-size.result = omega (arith, c.loop-i-test.false, c.loop-i.auto.i-end) in
+    c.loop-i.invariant ∙ first-all (is_counted c.args.graph.now.graph) c.args.plan.now.vertices c.args.graph.now.graph.vertices c.args.plan.now.parts c.args.p c.loop-i.i c.requires.part (at ∙ c.part_size-size.ensures) c.requires.vertices

@@ -1,7 +1,7 @@
 use Rattle.std.proofs.Common.{◌≡◌, map}
 use Rattle.ball_model.specs.Graph.{is_counted}
-use Rattle.ball_model.specs.PlanValue.{vertices_of}
+use Rattle.edgelist.proofs.OwnLemmas.{own_first}
 use Rattle.edgelist.proofs.part.own_counts.Given as goal
 
-abbrev pub invariant-loop-x : goal.invariant-loop-x
-invariant-loop-x l = l.counted.items ≡ map (is_counted l.graph.graph) (vertices_of l.x l.parts l.p)
+abbrev pub invariant-loop-i : goal.invariant-loop-i
+invariant-loop-i l = l.counted.items ≡ map (is_counted l.graph.graph) (own_first l.plan.parts l.p l.i)

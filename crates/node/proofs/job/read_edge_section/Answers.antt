@@ -16,7 +16,20 @@ returns-clause-says g c =
     record {
       input = s.front;
       section = s.section;
-      says = λ plain. c.in_ok-graph.ensures.ok LIMITS c.args.options.now.delimiter s.front s.given plain;
+      says = λ plain. c.in_ok-read.ensures.ok LIMITS c.args.options.now.delimiter s.front s.given plain;
+    }
+
+pub returns-clause-count : goal.returns-clause-count
+returns-clause-count g c =
+    let marked : c.in_ok-marked.marked ≡ true = search c.if-not-marked.false in
+    let s =
+    subst (λ (b : Bool). GivesEdges LIMITS c.args.options.now.delimiter (g.R.Read.remaining c.args.reader.now) (g.R.Read.remaining c.give_section.new.reader) c.give_section.new.edges b) marked
+    (c.in_ok-marked.ensures.given c.args.options.now.delimiter c.in_ok-edges.ensures.ok) in
+    record {
+      input = s.front;
+      behind = g.R.Read.remaining c.give_section.new.reader;
+      section = s.section;
+      says = λ plain. c.in_ok-read.ensures.count LIMITS c.args.options.now.delimiter s.front s.given plain;
     }
 
 pub returns-then-not-marked-clause-refused : goal.returns-then-not-marked-clause-refused
@@ -25,13 +38,13 @@ returns-then-not-marked-clause-refused g c =
     let s =
     subst (λ (b : Bool). GivesEdges LIMITS c.args.options.now.delimiter (g.R.Read.remaining c.args.reader.now) (g.R.Read.remaining c.give_section.new.reader) c.give_section.new.edges b) unmarked
     (c.in_ok-marked.ensures.given c.args.options.now.delimiter c.in_ok-edges.ensures.ok) in
-    lacks_mark (network_in (settings_in c.args.options.now)) LIMITS c.args.options.now.delimiter (g.R.Read.remaining c.args.reader.now) c.give_section.new.edges c.in_ok-graph.graph s
-    (λ plain. c.in_ok-graph.ensures.ok LIMITS c.args.options.now.delimiter s.front s.given plain)
+    lacks_mark (network_in (settings_in c.args.options.now)) LIMITS c.args.options.now.delimiter (g.R.Read.remaining c.args.reader.now) c.give_section.new.edges c.in_ok-read.read.graph s
+    (λ plain. c.in_ok-read.ensures.ok LIMITS c.args.options.now.delimiter s.front s.given plain)
 
-pub returns-in_err-graph-clause-refused : goal.returns-in_err-graph-clause-refused
-returns-in_err-graph-clause-refused g c =
-    let p = err_from_is_err_and c.from_residual-in_err-graph.result c.from_residual-in_err-graph.ensures.1 in
+pub returns-in_err-read-clause-refused : goal.returns-in_err-read-clause-refused
+returns-in_err-read-clause-refused g c =
+    let p = err_from_is_err_and c.from_residual-in_err-read.result c.from_residual-in_err-read.ensures.1 in
     rw (p.1, p.2)
     (refused_edges (network_in (settings_in c.args.options.now)) LIMITS c.args.options.now.delimiter (g.R.Read.remaining c.args.reader.now) (g.R.Read.remaining c.give_section.new.reader) c.give_section.new.edges c.in_ok-marked.marked _
-    (λ e. c.in_err-graph.ensures.read (ap Err e)) (c.in_ok-marked.ensures.given c.args.options.now.delimiter c.in_ok-edges.ensures.ok)
-    (λ text given plain. c.in_err-graph.ensures.refused LIMITS c.args.options.now.delimiter text given plain))
+    (λ e. c.in_err-read.ensures.read (ap Err e)) (c.in_ok-marked.ensures.given c.args.options.now.delimiter c.in_ok-edges.ensures.ok)
+    (λ text given plain. c.in_err-read.ensures.refused LIMITS c.args.options.now.delimiter text given plain))

@@ -3,13 +3,13 @@ use Rattle.std.specs.List.{flat_map}
 use Rattle.ball_model.specs.PlanValue.{mixing_of}
 use Rattle.ball_model.specs.Report.{vertex_text}
 use Rattle.node.specs.NodeText.{figures_text}
-use Rattle.world.proofs.TellLemmas.{first-texts, own-is}
-use Rattle.node.proofs.OwnLemmas.{is_own, of_next, of_none, of_same}
+use Rattle.world.proofs.TellLemmas.{first-texts, is-own, own-is}
+use Rattle.node.proofs.OwnLemmas.{of_next, of_none, of_same}
 use Rattle.node.proofs.own.tell_own.Goals as goal
 
 pub own_vertex-requires : goal.own_vertex-requires
 own_vertex-requires g c =
-    is_own c.args.replica.now c.part_size-i-end.result c.partition-partition.result c.loop-i.i c.plan.result.now c.plan.ensures c.part_size-i-end.ensures c.partition-partition.ensures c.loop-i-test.true
+    is-own c.args.replica.now c.part_size-i-end.result c.partition-partition.result c.loop-i.i c.plan.result.now c.plan.ensures c.part_size-i-end.ensures c.partition-partition.ensures c.loop-i-test.true
 
 pub loop-i-init : goal.loop-i-init
 loop-i-init g c = record {

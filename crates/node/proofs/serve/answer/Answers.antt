@@ -16,5 +16,5 @@ pub returns-in-Figures-clause-step : goal.returns-in-Figures-clause-step
 returns-in-Figures-clause-step g c =
     subst (λ (k : Command). OnOk c.tell_own.result (Steps c.args.graph.now k c.args.body.now c.args.session.now c.args.session.now (g.W.Write.contents c.args.writer.now) (g.W.Write.contents c.tell_own.new.writer)))
     (sym c.in-Figures.is)
-    (figures_answered c.args.graph.now c.args.body.now c.args.session.now c.replica-in-Figures.result.now (g.W.Write.contents c.args.writer.now) (g.W.Write.contents c.tell_own.new.writer) c.tell_own.result
-    c.replica-in-Figures.ensures c.tell_own.ensures.done)
+    (figures_answered c.args.graph.now c.args.body.now c.args.session.now c.replica-replica.result.now (g.W.Write.contents c.args.writer.now) (g.W.Write.contents c.tell_own.new.writer) c.tell_own.result
+    c.replica-replica.ensures c.tell_own.ensures.done)

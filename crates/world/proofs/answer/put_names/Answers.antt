@@ -1,4 +1,4 @@
-use Rattle.std.proofs.Common.{◌∙◌, sym, append-nil, ◌≡◌, arith}
+use Rattle.std.proofs.Common.{sym, append-nil, ◌≡◌, arith}
 use Rattle.world.proofs.AnswerLemmas.{names-put, names-last}
 use Rattle.world.specs.Answer.{spaced}
 use Rattle.world.proofs.answer.put_names.Goals as goal

@@ -1,4 +1,4 @@
-use Rattle.std.proofs.Common.{◌∙◌, ap, sym}
+use Rattle.std.proofs.Common.{◌∙◌, ap}
 use Rattle.std.specs.Prelude.{decimal}
 use Rattle.world.proofs.AnswerLemmas.{node-put, pair-put, put-is, two-put}
 use Rattle.world.proofs.answer.put_node.Goals as goal

@@ -1,4 +1,4 @@
-use Rattle.std.proofs.Common.{◌∙◌, ap, [], ◌∷◌}
+use Rattle.std.proofs.Common.{◌∙◌, ap}
 use Rattle.std.specs.Prelude.{codes}
 use Rattle.ball_model.specs.Figures.{fixed6_of}
 use Rattle.ball_model.specs.WorldText.{registers_word, row_line}

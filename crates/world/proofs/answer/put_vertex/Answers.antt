@@ -1,4 +1,3 @@
-use Rattle.std.proofs.Common.{sym}
 use Rattle.ball_model.specs.WorldText.{row_text}
 use Rattle.world.proofs.answer.put_vertex.Goals as goal
 

@@ -1,6 +1,5 @@
-use Rattle.std.proofs.Common.{◌≡◌, ◌∙◌, sym, ap, ◌∷◌, length}
+use Rattle.std.proofs.Common.{◌∙◌, sym, ap, ◌∷◌}
 use Rattle.std.specs.Str.Lines.{lines}
-use Rattle.std.proofs.lemmas.List.{drop_all}
 use Rattle.world.proofs.ScriptLemmas.{cut-shorter, lines-cut, lines-uncut, none-left}
 use Rattle.world.proofs.script.next_line.Goals as goal
 

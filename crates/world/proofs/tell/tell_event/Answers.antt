@@ -1,6 +1,4 @@
-use Rattle.std.proofs.Common.{◌≡◌, ◌∙◌, sym, subst, true, false}
-use Rattle.ball_model.specs.World.{node_at}
-use Rattle.ball_model.specs.WorldText.{event_text}
+use Rattle.std.proofs.Common.{◌∙◌, sym, subst}
 use Rattle.world.specs.Shows.{Shows}
 use Rattle.world.specs.Tell.{Tells}
 use Rattle.world.proofs.TellLemmas.{not-want, other-text, shown-leaves, shown-text}

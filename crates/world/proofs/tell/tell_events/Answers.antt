@@ -1,4 +1,4 @@
-use Rattle.std.proofs.Common.{◌≡◌, ◌∙◌, sym, subst, take}
+use Rattle.std.proofs.Common.{subst, take}
 use Rattle.std.proofs.lemmas.Result.{err_from_is_err_and}
 use Rattle.ball_model.specs.World.{run_of}
 use Rattle.ball_model.specs.WorldText.{events_text}

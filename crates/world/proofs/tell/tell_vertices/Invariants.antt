@@ -12,4 +12,4 @@ abbrev pub invariant-loop-i : goal.invariant-loop-i
 invariant-loop-i g l =
     (j : Job) (h : Holding) → HasHolding j h l.replica →
     Told g.W.Write.contents g.W.CountedWrite.failed_calls l.initial.writer l.writer
-    (flat_map (row_text j h.superstep) (map (λ i. i * l.parts + l.partition) (range_with_len 0 l.i)))
+    (flat_map (row_text j h.superstep) (map (λ i. i * l.replica.part.plan.parts + l.replica.part.number) (range_with_len 0 l.i)))

@@ -5,5 +5,5 @@ use Rattle.edgelist.proofs.part.Part.feeds.Goals as goal
 
 pub returns-clause-bits : goal.returns-clause-bits
 returns-clause-bits c =
-    let value : c.get.result ≡ get_or c.args.self.now.feeds c.args.i 0 = c.get.ensures ∙ ap (λ (v : PartValue). get_or v.feeds c.args.i 0) c.self.view_is in
+    let value : c.get.result ≡ get_or c.args.self.now.feeds c.args.i 0 = (rw c.deref.ensures at c.get.ensures) ∙ ap (λ (v : PartValue). get_or v.feeds c.args.i 0) c.self.view_is in
     feeds-bits c.args.self.now c.get.result c.args.i (subst IsPart c.self.view_is c.self.invariant) c.requires value

@@ -1,16 +1,22 @@
-use Rattle.std.proofs.Common.{◌∙◌, ap, Ok}
+use Rattle.std.proofs.Common.{◌∙◌, ap, sym, Ok}
 use Rattle.std.proofs.lemmas.Result.{err_from_is_err_and}
-use Rattle.edgelist.proofs.GivenLemmas.{given-network, given-refused-all, network-same}
+use Rattle.edgelist.proofs.GivenLemmas.{given-network, given-refused-all, given-through, network-same}
 use Rattle.edgelist.proofs.pieces.EdgeReader.finish.Goals as goal
 
-pub returns-in_err-read_lines-clause-refused : goal.returns-in_err-read_lines-clause-refused
-returns-in_err-read_lines-clause-refused c = λ limits delimiter text g plain.
+pub returns-in_err-records-clause-refused : goal.returns-in_err-records-clause-refused
+returns-in_err-records-clause-refused c = λ limits delimiter text g plain.
     let p = err_from_is_err_and c.from_residual.result c.from_residual.ensures.1 in
-    rw (p.1, p.2) (given-refused-all limits delimiter text c.args.self c.in_err-read_lines.field-0.0 g (rw c.deref.ensures.value at c.in_err-read_lines.ensures.refused) plain)
+    rw (p.1, p.2) (given-refused-all limits delimiter text c.args.self c.in_err-records.field-0.0 g (rw c.deref.ensures.value at c.in_err-records.ensures.refused) plain)
 
 pub returns-clause-ok : goal.returns-clause-ok
 returns-clause-ok c = λ limits delimiter text g plain.
     let labels = c.read_lines.new.reading.labels in
     let edges = c.read_lines.new.reading.edges.items in
-    given-network limits delimiter text c.args.self c.in_ok-read_lines.field-0 labels edges g (rw c.deref.ensures.value at c.in_ok-read_lines.ensures.ok) plain
+    given-network limits delimiter text c.args.self c.in_ok-records.records labels edges g (rw c.deref.ensures.value at c.in_ok-records.ensures.ok) plain
     ∙ ap Ok (network-same c.in_ok-graph.graph labels edges c.in_ok-graph.ensures.graph c.in_ok-graph.ensures.labels)
+
+pub returns-clause-count : goal.returns-clause-count
+returns-clause-count c = λ limits delimiter text g plain.
+    let labels = c.read_lines.new.reading.labels in
+    let edges = c.read_lines.new.reading.edges.items in
+    sym (given-through limits delimiter text c.args.self c.in_ok-records.records labels edges g (rw c.deref.ensures.value at c.in_ok-records.ensures.ok) plain).count

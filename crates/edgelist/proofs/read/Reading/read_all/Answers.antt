@@ -4,7 +4,7 @@ use Rattle.csv.specs.Records.{fields_of}
 use Rattle.ball_model.specs.Input.{records, network_from}
 use Rattle.edgelist.specs.Reading.{limits_of}
 use Rattle.edgelist.proofs.FaultLemmas.{refuses-none}
-use Rattle.edgelist.proofs.LoopLemmas.{goes-start, goes-end, goes-stops, goes-more, goes-stop, goes-ends}
+use Rattle.edgelist.proofs.LoopLemmas.{goes-start, goes-end, goes-count, goes-stops, goes-more, goes-stop, goes-ends}
 use Rattle.edgelist.proofs.read.Reading.read_all.Goals as goal
 
 pub loop-number-init : goal.loop-number-init
@@ -19,6 +19,13 @@ returns-then-not-more-clause-ok g c = λ d text at.
     let goes = c.loop-number.invariant.goes d text at in
     let none : c.in_ok-more.more ≡ false = search c.if-not-more.true in
     goes-end g.R.Read.remaining d (limits_of c.args.limits) c.loop-number.number text c.loop-number.reader c.loop-number.self.labels c.loop-number.self.edges.items
+    goes (c.in_ok-more.ensures.end none d text goes.past goes.at).all
+
+pub returns-then-not-more-clause-count : goal.returns-then-not-more-clause-count
+returns-then-not-more-clause-count g c = λ d text at.
+    let goes = c.loop-number.invariant.goes d text at in
+    let none : c.in_ok-more.more ≡ false = search c.if-not-more.true in
+    goes-count g.R.Read.remaining d (limits_of c.args.limits) c.loop-number.number text c.loop-number.reader c.loop-number.self.labels c.loop-number.self.edges.items
     goes (c.in_ok-more.ensures.end none d text goes.past goes.at).all
 
 pub returns-then-not-more-clause-last : goal.returns-then-not-more-clause-last

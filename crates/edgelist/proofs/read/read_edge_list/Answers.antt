@@ -1,5 +1,5 @@
 use Rattle.edgelist.specs.Reading.{meaning_of}
-use Rattle.edgelist.proofs.read.read_edges.Goals as goal
+use Rattle.edgelist.proofs.read.read_edge_list.Goals as goal
 
 pub returns-clause-refused : goal.returns-clause-refused
 returns-clause-refused g c = λ text is plain.

@@ -1,7 +1,7 @@
 use Rattle.std.proofs.Common.{◌∙◌, ◌*◌, ap, refl, arith}
 use Rattle.ball_model.specs.PlanValue.{PlanValue}
 use Rattle.world.proofs.TellLemmas.{vertex-below, vertex-fits}
-use Rattle.node.proofs.own.own_vertex.Goals as goal
+use Rattle.world.proofs.tell.own_vertex.Goals as goal
 
 pub overflow_mul-result : goal.overflow_mul-result
 overflow_mul-result c =

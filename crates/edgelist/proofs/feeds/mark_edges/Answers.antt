@@ -1,7 +1,7 @@
 use Rattle.std.proofs.Common.{◌≡◌, ◌∙◌, arith}
 use Rattle.std.specs.List.{flat_map, range_with_len}
 use Rattle.edgelist.proofs.DigestLemmas.{edges_to, edges-next, edges-all}
-use Rattle.edgelist.proofs.part.mark_edges.Goals as goal
+use Rattle.edgelist.proofs.feeds.mark_edges.Goals as goal
 
 pub loop-target-preserved : goal.loop-target-preserved
 loop-target-preserved c = record {

@@ -2,11 +2,11 @@ use Rattle.std.proofs.Common.{◌≡◌, [], length}
 use Rattle.std.specs.List.{flat_map, range_with_len}
 use Rattle.edgelist.specs.Feeding.{AreMasks, masks_of, width_of}
 use Rattle.edgelist.proofs.DigestLemmas.{edges_to}
-use Rattle.edgelist.proofs.part.mark_edges.Given as goal
+use Rattle.edgelist.proofs.feeds.mark_edges.Given as goal
 
 abbrev pub invariant-loop-target : goal.invariant-loop-target
 invariant-loop-target l = record {
   size : length (masks_of l.feeds) ≡ length (masks_of l.initial.feeds);
   room : width_of l.feeds ≡ width_of l.initial.feeds;
-  masks : AreMasks l.plan.parts l.p [] (masks_of l.initial.feeds) → AreMasks l.plan.parts l.p (flat_map (edges_to l.graph.graph) (range_with_len 0 l.target)) (masks_of l.feeds);
+  masks : AreMasks l.stride.step l.stride.first l.plan.parts [] (masks_of l.initial.feeds) → AreMasks l.stride.step l.stride.first l.plan.parts (flat_map (edges_to l.graph.graph) (range_with_len 0 l.target)) (masks_of l.feeds);
 }
