@@ -10,6 +10,7 @@ ghost use Rattle.board.specs.Seats.{IsAt};
 
 mod calls;
 mod opened;
+mod seats;
 mod threads;
 
 use super::*;
@@ -39,12 +40,12 @@ fn graph_of<R: RandomSource>(rt: &R, alloc: Global, text: &[u8]) -> Option<Graph
     read_edges(alloc, state, &mut reader, Delimiter::Tab, limits).ok()
 }
 
-/// A graph, and a plan of five partitions.
-fn job<R: RandomSource>(rt: &R, alloc: Global, text: &[u8]) -> Option<(Graph, Plan)>
+/// The graph of the two edges, and a plan of so many partitions.
+fn job<R: RandomSource>(rt: &R, alloc: Global, parts: u16) -> Option<(Graph, Plan)>
     ensures { IfSome result (λ r. IsJob (job_of r.0.graph r.1)) }
 {
-    let graph = graph_of(rt, alloc, text)?;
-    let plan = graph.plan(4, 0, 5, 4096).ok()?;
+    let graph = graph_of(rt, alloc, TWO_EDGES)?;
+    let plan = graph.plan(4, 0, parts, 4096).ok()?;
     Some((graph, plan))
 }
 
@@ -258,6 +259,7 @@ fn fetches<R: Wait>(
     requires board { IsAt board.now seat.old }
     ensures board { IsAt board.now seat.new }
     ensures job { seat.new.caller.seen.job ≡ seat.old.caller.seen.job }
+    ensures room { seat.new.room ≡ seat.old.room }
 {
     match board.fetch(rt, seat, name) {
         Ok(Some(batch)) => Ok(batch.name() == name),
@@ -436,7 +438,7 @@ fn is_right<R: RandomSource + Threads + Wait + Sync>(
 ) -> Option<bool>
     requires { (2 ≤ entries) × (entries ≤ 2 ^ 24) }
 {
-    let (graph, plan) = job(rt, alloc, TWO_EDGES)?;
+    let (graph, plan) = job(rt, alloc, 5)?;
     is_right_at(rt, alloc, &graph, &plan, entries, case)
 }
 

@@ -15,7 +15,7 @@ fn opened(alloc: Global, graph: &Graph, plan: &Plan) -> Option<u64>
 
 /// The same of one for the job.
 fn opened_there(rt: &HostRuntime) -> Option<u64> {
-    let (graph, plan) = job(rt, rt.alloc(), TWO_EDGES)?;
+    let (graph, plan) = job(rt, rt.alloc(), 5)?;
     opened(rt.alloc(), &graph, &plan)
 }
 

@@ -1,0 +1,13 @@
+use denote.Param.Send.{sendable}
+use Rattle.std.proofs.Crossing.{crosses}
+use Rattle.ball_model.proofs.Crossing.{plan_sync}
+use Rattle.edgelist.proofs.Crossing.{graph_sync}
+use Rattle.batches.proofs.Crossing.{shared_batch_sync}
+use Rattle.board.proofs.Crossing.{seat_send, board_sync}
+use Rattle.board.proofs.tests.seats.post_both.Goals as goal
+
+pub join-a-requires-send-F : goal.join-a-requires-send-F
+join-a-requires-send-F g c κs within = search (sendable, crosses, seat_send, board_sync, graph_sync, plan_sync, shared_batch_sync) depth 20
+
+pub join-a-requires-send-A : goal.join-a-requires-send-A
+join-a-requires-send-A g c κs within = search (sendable, crosses, seat_send) depth 20
