@@ -71,7 +71,7 @@ const RUN_AFTER: &str = "Example:
 Memory and accuracy:
   With --keep 0 and one partition a run takes at most about 2 * 2^log2m + 180 bytes a vertex and
   9 bytes an edge, and while it reads 110 bytes a vertex and 11 bytes an edge. With snapshots, which
-  are the default, runs that were measured took 1.3 to 1.5 times as much. With several partitions
+  are the default, runs that were measured took 1.2 to 1.5 times as much. With several partitions
   --keep 0 takes more memory, not less: nothing that they told one another is let go. The relative
   error of a large set is about 1.04 / sqrt(2^log2m): 26 % at 4, 6.5 % at 8, 3.3 % at 10. A set of
   fewer than 2.5 * 2^log2m vertices is estimated too large, the more so the smaller it is, unless

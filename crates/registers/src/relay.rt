@@ -114,8 +114,11 @@ impl Relay {
         }
     }
 
-    /// The rows become those of `ahead`, from which they differ in marked rows alone. It takes no memory, and time in
-    /// proportion to the rows that are marked now, and to those of the last call where a table was handed out then.
+    /// The rows become those of `ahead`, from which they differ in marked rows alone. It takes no memory.
+    ///
+    /// It takes time in proportion to the rows that are marked, and where a table was handed out to those that were marked
+    /// in the call before too. Where there is no table from before that one, or somebody still holds it, all rows are
+    /// copied.
     pub fn follow(&mut self, ahead: &Rows, marks: &[bool])
         requires { DifferWhere marks.now self.old ahead.now }
         ensures { self.new ≡ ahead.now }
