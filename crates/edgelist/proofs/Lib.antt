@@ -5,7 +5,6 @@ pub mod NetworkLemmas
 pub mod FaultLemmas
 pub mod LineLemmas
 pub mod RecordLemmas
-pub mod LoopLemmas
 pub mod PieceLemmas
 pub mod GivenLemmas
 pub mod FindLemmas

@@ -8,8 +8,8 @@ use Rattle.std.proofs.lemmas.List.Elements.{filter-append}
 use Rattle.csv.specs.declared.reader.Reader.{Reader}
 use Rattle.ball_model.specs.Input.{HasLfs, IsPlain, Limits, StartsWithLf, fields, has_mark, is_record, lines, network_from, records}
 use Rattle.edgelist.specs.Pieces.{EndsLine, IsLeftOf, IsThrough}
-use Rattle.edgelist.specs.Records.{IsLeft, config, is_row, rows}
-use Rattle.edgelist.specs.Reading.{AddsRecord, Refuses, Stops, network_by}
+use Rattle.edgelist.specs.Records.{FindsNone, IsLeft, StopsAtEnd, config, is_row, rows}
+use Rattle.edgelist.specs.Reading.{AddsRecord, EndsAt, Refuses, Stops, network_by}
 use Rattle.edgelist.specs.declared.edge.Edge.{Edge}
 use Rattle.edgelist.specs.declared.read.EdgeError.{EdgeError}
 use Rattle.edgelist.proofs.FaultLemmas.{clean-more, clean-none, says-network, says-refusal}
@@ -61,6 +61,15 @@ pub runs-end : {R : Type 0} (rem : R → Option (List ℕ)) (d : ℕ) (limits : 
 runs-end rem d limits n before text a labels edges runs whole =
     subst (λ (rs : Records). IsThrough limits n (before ++ rs) labels edges) (sym whole) runs.through
 
+-- and no other was asked for
+pub runs-stops : {R : Type 0} (rem : R → Option (List ℕ)) (d : ℕ) (limits : Limits) (n : ℕ) (before : Records) (text : List ℕ) (a b : Reader R) (labels : List (List ℕ)) (edges : List Edge) (runs : Runs rem d limits n before text a labels edges) →
+    FindsNone rem d text runs.past a b → StopsAtEnd rem d text b
+runs-stops rem d limits n before text a b labels edges runs found = record {
+  before = a;
+  at = subst (λ (past : Records). IsLeft rem d text past a) (sym found.all) runs.at;
+  last = found.last;
+}
+
 -- three lists behind one another
 four : (a b c d e : Records) → a ++ (((b ++ c) ++ d) ++ e) ≡ (a ++ b) ++ (c ++ (d ++ e))
 four a b c d e = rw (append_assoc (b ++ c) d e, append_assoc b c (d ++ e), append_assoc a b (c ++ (d ++ e))) refl
@@ -74,6 +83,19 @@ runs-stop rem d limits n before more text a b labels edges f e runs at stops =
     ap (λ (rs : Records). before ++ (rs ++ more)) at.all ∙ four before runs.past (f ∷ []) left more in
     let t = runs.through in
     rw whole (says-refusal limits (before ++ runs.past) f (left ++ more) e t.clean (rw t.count (stops.at (before ++ runs.past) (left ++ more) t.count t.so)))
+
+-- and nothing was read after it
+pub runs-ends : {R : Type 0} (rem : R → Option (List ℕ)) (d : ℕ) (limits : Limits) (n : ℕ) (text : List ℕ) (a b : Reader R) (labels : List (List ℕ)) (edges : List Edge) (f : List (List ℕ)) (e : EdgeError) (runs : Runs rem d limits n [] text a labels edges) →
+    IsLeft rem d text (runs.past ++ f ∷ []) b → Stops limits n f labels edges e → EndsAt rem d text limits b e
+runs-ends rem d limits n text a b labels edges f e runs at stops =
+    let t = runs.through in
+    record {
+      before = runs.past;
+      last = f;
+      at = at;
+      clean = t.clean;
+      fault = rw t.count (stops.at runs.past [] t.count t.so);
+    }
 
 -- the network of all records
 pub through-network : (limits : Limits) (n : ℕ) (rs : Records) (labels : List (List ℕ)) (edges : List Edge) → IsThrough limits n rs labels edges → network_from limits rs ≡ Ok (network_by labels edges)

@@ -165,6 +165,26 @@ fn mark_list(
     mark_all(marks, index, &mut reader, &mut row, list.len() as u64 + 2)
 }
 
+// Marks the labels that a list names, by an index that is let go then.
+fn mark_labels(
+    alloc: Global,
+    marks: &mut [bool],
+    labels: &Labels,
+    delimiter: Delimiter,
+    list: &[u8],
+) -> Result<(), CountedError>
+    requires distinct { IsDistinct bytes_eq labels.now }
+    requires few { length labels.now < 2 ^ 32 }
+    requires marks { MarksAre labels.now [] marks.old }
+    ensures ok { IsPlain list.now →
+        OnOk result (SaysMarks labels.now (records (byte_of delimiter) list.now) marks.new) }
+    ensures refused { IsPlain list.now →
+        IfErr result (SaysRefusal labels.now (records (byte_of delimiter) list.now)) }
+{
+    let index = Index::of(alloc, labels)?;
+    mark_list(alloc, marks, &index, delimiter, list)
+}
+
 /// For each label whether some record of the list names it.
 pub(crate) fn marks_of(
     alloc: Global,
@@ -180,9 +200,8 @@ pub(crate) fn marks_of(
     ensures refused { IsPlain list.now →
         IfErr result (SaysRefusal labels.now (records (byte_of delimiter) list.now)) }
 {
-    let index = Index::of(alloc, labels)?;
     let mut marks = no_marks(alloc, labels.len())?;
-    mark_list(alloc, &mut marks, &index, delimiter, list)?;
+    mark_labels(alloc, &mut marks, labels, delimiter, list)?;
     Ok(marks)
 }
 

@@ -1,7 +1,7 @@
 //! Labels in one piece of memory.
 
 ghost use Rattle.std.specs.Prelude.{◌≡◌, ◌+◌, ◌^◌, ◌<◌, ◌≤◌, length, map, slice_index_or, IfOk};
-ghost use Rattle.std.specs.Prelude.{◌∷◌, []};
+ghost use Rattle.std.specs.Prelude.{◌∷◌, ◌++◌, []};
 ghost use Rattle.std.specs.List.{sum_by};
 ghost use Rattle.edgelist.specs.Lists.{Ascend, lists_between};
 
@@ -46,6 +46,17 @@ fn first_start(alloc: Global, count: usize) -> Result<Places, AllocError>
     Places::with_room(alloc, count.saturating_add(1))?.push(0)
 }
 
+// Puts a copy of a text behind the others, and where it ends behind the places.
+fn put_text(bytes: &mut Vec<u8>, starts: Places, text: &[u8]) -> Result<Places, AllocError>
+    requires { Ascend (length bytes.old.items) starts }
+    ensures starts { IfOk result (λ more. Ascend (length bytes.new.items) more) }
+    ensures texts { IfOk result (λ more. lists_between bytes.new.items more
+        ≡ lists_between bytes.old.items starts ++ text.now ∷ []) }
+{
+    bytes.extend_from_slice(text)?;
+    starts.push(bytes.len() as u128)
+}
+
 // Puts copies of texts behind one another, and tells where each of them begins and the last ends.
 fn put_texts(alloc: Global, bytes: &mut Vec<u8>, texts: &[Vec<u8>]) -> Result<Places, AllocError>
     requires { bytes.old.items ≡ [] }
@@ -55,8 +66,7 @@ fn put_texts(alloc: Global, bytes: &mut Vec<u8>, texts: &[Vec<u8>]) -> Result<Pl
 {
     let mut starts = first_start(alloc, texts.len())?;
     for text in texts {
-        bytes.extend_from_slice(text)?;
-        starts = starts.push(bytes.len() as u128)?;
+        starts = put_text(bytes, starts, text)?;
     }
     Ok(starts)
 }

@@ -316,7 +316,6 @@ impl Numbering {
     {
         let Numbering { labels, entries } = self;
         drop(entries);
-        let labels = Labels::of(alloc, labels.as_slice())?;
-        Ok(labels)
+        Labels::of(alloc, labels.as_slice())
     }
 }

@@ -214,7 +214,7 @@ fn own_of<T: Copy>(alloc: Global, all: &[T], plan: &Plan, p: u16) -> Result<Vec<
     let size = plan.part_size(p);
     let mut own = Vec::with_capacity(alloc, size as usize)?;
     for i in 0..size {
-        own.push(all[vertex_at(plan, p, i) as usize])?;
+        own.push_reserved(all[vertex_at(plan, p, i) as usize]);
     }
     Ok(own)
 }
@@ -275,7 +275,7 @@ fn own_counts(alloc: Global, graph: &Graph, plan: &Plan, p: u16) -> Result<Vec<b
     let size = plan.part_size(p);
     let mut counted = Vec::with_capacity(alloc, size as usize)?;
     for i in 0..size {
-        counted.push(graph.counted(vertex_at(plan, p, i)))?;
+        counted.push_reserved(graph.counted(vertex_at(plan, p, i)));
     }
     Ok(counted)
 }

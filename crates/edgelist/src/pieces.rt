@@ -11,53 +11,17 @@ ghost use Rattle.ball_model.specs.Input.{records};
 ghost use Rattle.ball_model.specs.PlanValue.{most_vertices};
 ghost use Rattle.edgelist.specs.Pieces.{IsThrough};
 ghost use Rattle.edgelist.specs.Reading.{AreWithin, Refuses, byte_of, limits_of, meaning_of};
-ghost use Rattle.edgelist.specs.Records.{FromStart};
 ghost use Rattle.edgelist.specs.declared.read.EdgeError.TheVariants as refused;
 
-use crate::read::{Delimiter, EdgeError, EdgeLimits, EdgeList, MOST_RECORDS, Reading, next_row};
+use crate::read::{Delimiter, EdgeError, EdgeLimits, EdgeList, MOST_RECORDS, Reading};
 use crate::records::reader_of;
 use ball_model::plan::MOST_VERTICES;
-use csv::{ByteRecord, Reader};
+use csv::ByteRecord;
 use std::alloc::Global;
 use std::hash::RandomState;
-use std::io::Read;
 
 // So many bytes are held before their lines are read.
 const ENOUGH: usize = 65_536;
-
-// Adds all records that are left, which follow `number` others, and tells how many there are then.
-fn read_more<R: Read + Drop>(
-    reading: &mut Reading,
-    alloc: Global,
-    reader: &mut Reader<R>,
-    row: &mut ByteRecord,
-    number: u64,
-    limits: EdgeLimits,
-) -> Result<u64, EdgeError>
-    requires few { limits.edges ≤ most_records }
-    requires number { number ≤ limits.edges }
-    requires within { AreWithin limits.vertices number
-        reading.old.labels reading.old.edges.items }
-    ensures number { IfOk result (λ n. n ≤ limits.edges) }
-    ensures within { IfOk result (λ n. AreWithin limits.vertices n
-        reading.new.labels reading.new.edges.items) }
-    ensures ok { FromStart R.remaining reader.old (λ rs. (before : List (List (List ℕ))) →
-        IsThrough (limits_of limits) number before reading.old.labels reading.old.edges.items →
-        IfOk result (λ n. IsThrough (limits_of limits) n (before ++ rs)
-        reading.new.labels reading.new.edges.items)) }
-    ensures refused { FromStart R.remaining reader.old (λ rs. (before more : List (List (List ℕ))) →
-        IsThrough (limits_of limits) number before reading.old.labels reading.old.edges.items →
-        IfErr result (Refuses (network_from (limits_of limits) (before ++ (rs ++ more))))) }
-{
-    for n in number..limits.edges + 1 {
-        let more = next_row(reader, row)?;
-        if !more {
-            return Ok(n);
-        }
-        reading.add(alloc, row, n, limits)?;
-    }
-    Err(EdgeError::TooManyEdges)
-}
 
 // What is told of lines in memory, of which no call can fail.
 fn without_read(read: Result<u64, EdgeError>) -> Result<u64, EdgeError>
@@ -102,12 +66,11 @@ fn read_lines(
 {
     let mut reader = reader_of(alloc, lines, delimiter);
     let mut row = ByteRecord::new(alloc);
-    let read = read_more(reading, alloc, &mut reader, &mut row, number, limits);
+    let read = reading.read_more(alloc, &mut reader, &mut row, number, limits);
     without_read(read)
 }
 
 /// Reads an edge list whose bytes are given one at a time.
-#[derive(Drop)]
 pub struct EdgeReader {
     delimiter: Delimiter,
     limits: EdgeLimits,
@@ -125,6 +88,20 @@ pub struct EdgeReader {
     ghost within: { failed ≡ None →
         AreWithin limits.vertices number
         reading.labels reading.edges.items } by { Prim.hlevel props },
+}
+
+// Written out, and so one call wherever one is let go: the checker reads a derived one again at each place.
+impl Drop for EdgeReader {
+    fn drop(self) {
+        let EdgeReader {
+            delimiter: _,
+            limits: _,
+            reading: _,
+            number: _,
+            lines: _,
+            failed: _,
+        } = self;
+    }
 }
 
 impl EdgeReader {
@@ -243,7 +220,6 @@ impl EdgeReader {
             failed: _,
         } = self;
         let records = read_lines(&mut reading, alloc, &lines, delimiter, number, limits)?;
-        let graph = reading.into_graph(alloc)?;
-        Ok(EdgeList { graph, records })
+        reading.into_list(alloc, records)
     }
 }

@@ -13,9 +13,11 @@ ghost use Rattle.ball_model.specs.Input.{Network, Refusal, IsPlain, most_records
 ghost use Rattle.ball_model.specs.Input.{has_form, network_from, input_of};
 ghost use Rattle.edgelist.specs.Edges.{edge_of, graph_of_edges};
 ghost use Rattle.edgelist.specs.declared.read.EdgeError.TheVariants.{Memory};
+ghost use Rattle.edgelist.specs.Pieces.{IsThrough};
 ghost use Rattle.edgelist.specs.Records.{ForPlain, FromStart, ReadsNone, ReadsOne};
 ghost use Rattle.edgelist.specs.Reading.{byte_of, limits_of, meaning_of, meaning_within, CountsOne};
-ghost use Rattle.edgelist.specs.Reading.{IsReadBy, Refuses, edge_error, fields_with, with_label};
+ghost use Rattle.edgelist.specs.Reading.{IsReadBy, Refuses, edge_error, fields_with, has_label};
+ghost use Rattle.edgelist.specs.Reading.{with_label, network_by};
 ghost use Rattle.edgelist.specs.Reading.{AreWithin, AddsEdge, Exceeds, AddsRecord, Stops};
 ghost use Rattle.edgelist.specs.Reading.{EndsAtEnd, EndsAtFault};
 
@@ -104,10 +106,19 @@ pub struct EdgeList {
 }
 
 // The labels so far, numbered by first appearance, and the edges.
-#[derive(Drop)]
 pub(crate) struct Reading {
     labels: Numbering,
     edges: Vec<Edge>,
+}
+
+// Written out, and so one call wherever one is let go: the checker reads a derived one again at each place.
+impl Drop for Reading {
+    fn drop(self) {
+        let Reading {
+            labels: _,
+            edges: _,
+        } = self;
+    }
 }
 
 // The first field of a record and its second, where it has one or two and none is empty.
@@ -134,10 +145,7 @@ fn fields_in<'a>(row: &'a ByteRecord) -> Option<(&'a [u8], Option<&'a [u8]>)>
 }
 
 // Reads one record more, and tells whether there was one.
-pub(crate) fn next_row<R: Read + Drop>(
-    reader: &mut Reader<R>,
-    row: &mut ByteRecord,
-) -> Result<bool, EdgeError>
+fn next_row<R: Read + Drop>(reader: &mut Reader<R>, row: &mut ByteRecord) -> Result<bool, EdgeError>
     ensures one { IfOk result (λ more. more ≡ true →
         ReadsOne R.remaining reader.old reader.new (fields_of row.new)) }
     ensures end { IfOk result (λ more. more ≡ false →
@@ -168,6 +176,25 @@ impl Reading {
         })
     }
 
+    // The number of a label, with which there are not more vertices than the limit.
+    fn add_label(&mut self, alloc: Global, label: &[u8], vertices: u32) -> Result<usize, EdgeError>
+        ensures labels { OnOk result (self.new.labels ≡ with_label self.old.labels label.now) }
+        ensures edges { self.new.edges.items ≡ self.old.edges.items }
+        ensures few { OnOk result (length self.new.labels ≤ vertices) }
+        ensures within { IfOk result (λ i. i < length self.new.labels) }
+        ensures place { IfOk result (λ i. slice_index_or self.new.labels i [] ≡ label.now) }
+        ensures exceeds { IfErr result (Exceeds vertices (with_label self.old.labels label.now)) }
+        ensures known { has_label self.old.labels label.now ≡ true →
+            result ≢ Err EdgeError.Memory }
+        ensures kept { result ≡ Err EdgeError.Memory → self.new.labels ≡ self.old.labels }
+    {
+        let number = self.labels.number(alloc, label)?;
+        if self.labels.len() > vertices as usize {
+            return Err(EdgeError::TooManyVertices);
+        }
+        Ok(number)
+    }
+
     // Adds the label of a record of one field.
     fn add_vertex(&mut self, alloc: Global, label: &[u8], vertices: u32) -> Result<(), EdgeError>
         ensures labels { OnOk result (self.new.labels ≡ with_label self.old.labels label.now) }
@@ -178,10 +205,7 @@ impl Reading {
         ensures memory { result ≡ Err EdgeError.Memory →
             length self.old.labels ≤ vertices → length self.new.labels ≤ vertices }
     {
-        self.labels.number(alloc, label)?;
-        if self.labels.len() > vertices as usize {
-            return Err(EdgeError::TooManyVertices);
-        }
+        self.add_label(alloc, label, vertices)?;
         Ok(())
     }
 
@@ -204,14 +228,8 @@ impl Reading {
         ensures memory { result ≡ Err EdgeError.Memory →
             length self.old.labels ≤ vertices → length self.new.labels ≤ vertices }
     {
-        let from = self.labels.number(alloc, source)?;
-        if self.labels.len() > vertices as usize {
-            return Err(EdgeError::TooManyVertices);
-        }
-        let to = self.labels.number(alloc, target)?;
-        if self.labels.len() > vertices as usize {
-            return Err(EdgeError::TooManyVertices);
-        }
+        let from = self.add_label(alloc, source, vertices)?;
+        let to = self.add_label(alloc, target, vertices)?;
         push_edge(&mut self.edges, to as u32, from as u32)?;
         Ok(())
     }
@@ -249,43 +267,51 @@ impl Reading {
 }
 
 impl Reading {
-    // Adds all records that are left, one after another, and tells how many they were; at most one more than the limit
-    // is asked for. No record is asked for after the one that is refused. After the end the reader is as a read leaves
-    // it that found no record more; whether such a read was made once or twice no clause tells (csv's contract says
-    // nothing of a reader at its end).
-    fn read_all<R: Read + Drop>(
+    // Adds all records that are left, which follow `number` others, one after another, and tells how many there are
+    // then; at most one more than the limit is asked for. No record is asked for after the one that is refused. After
+    // the end the reader is as a read leaves it that found no record more; whether such a read was made once or twice
+    // no clause tells (csv's contract says nothing of a reader at its end).
+    pub(crate) fn read_more<R: Read + Drop>(
         &mut self,
         alloc: Global,
         reader: &mut Reader<R>,
         row: &mut ByteRecord,
+        number: u64,
         limits: EdgeLimits,
     ) -> Result<u64, EdgeError>
         requires few { limits.edges ≤ most_records }
-        requires labels { self.old.labels ≡ [] }
-        requires edges { self.old.edges.items ≡ [] }
-        ensures within { OnOk result (
-            AreWithin limits.vertices limits.edges self.new.labels self.new.edges.items) }
-        ensures ok { FromStart R.remaining reader.old (λ rs.
-            OnOk result (IsReadBy limits rs self.new.labels self.new.edges.items)) }
-        ensures count { FromStart R.remaining reader.old (λ rs.
-            IfOk result (λ number. number ≡ length rs)) }
+        requires number { number ≤ limits.edges }
+        requires within { AreWithin limits.vertices number self.old.labels self.old.edges.items }
+        ensures number { IfOk result (λ n. n ≤ limits.edges) }
+        ensures within { IfOk result (λ n.
+            AreWithin limits.vertices n self.new.labels self.new.edges.items) }
+        ensures ok { FromStart R.remaining reader.old (λ rs. (before : List (List (List ℕ))) →
+            IsThrough (limits_of limits) number before self.old.labels self.old.edges.items →
+            IfOk result (λ n. IsThrough (limits_of limits) n (before ++ rs)
+            self.new.labels self.new.edges.items)) }
         ensures refused { FromStart R.remaining reader.old (λ rs.
-            IfErr result (Refuses (network_from (limits_of limits) rs))) }
-        ensures last { EndsAtEnd R.remaining reader.old reader.new result }
-        ensures ends { EndsAtFault R.remaining reader.old reader.new (limits_of limits) result }
+            (before more : List (List (List ℕ))) →
+            IsThrough (limits_of limits) number before self.old.labels self.old.edges.items →
+            IfErr result (Refuses (network_from (limits_of limits) (before ++ (rs ++ more))))) }
+        ensures last { (before : List (List (List ℕ))) →
+            IsThrough (limits_of limits) number before self.old.labels self.old.edges.items →
+            EndsAtEnd R.remaining reader.old reader.new result }
+        ensures ends { IsThrough (limits_of limits) number []
+            self.old.labels self.old.edges.items →
+            EndsAtFault R.remaining reader.old reader.new (limits_of limits) result }
     {
-        for number in 0..limits.edges + 1 {
+        for n in number..limits.edges + 1 {
             let more = next_row(reader, row)?;
             if !more {
-                return Ok(number);
+                return Ok(n);
             }
-            self.add(alloc, row, number, limits)?;
+            self.add(alloc, row, n, limits)?;
         }
         Err(EdgeError::TooManyEdges)
     }
 
     // The graph that was read. The set of labels is gone before the edges are sorted.
-    pub(crate) fn into_graph(self, alloc: Global) -> Result<Graph, AllocError>
+    fn into_graph(self, alloc: Global) -> Result<Graph, AllocError>
         requires within { AreWithin most_vertices most_records self.labels self.edges.items }
         ensures graph { IfOk result (λ g.
             g.graph ≡ graph_of_edges (length self.labels) self.edges.items) }
@@ -294,6 +320,21 @@ impl Reading {
         let Reading { labels, edges } = self;
         let labels = labels.into_labels(alloc)?;
         Graph::of_edges(alloc, labels, edges)
+    }
+
+    // The edge list that was read, of so many records.
+    pub(crate) fn into_list(self, alloc: Global, number: u64) -> Result<EdgeList, EdgeError>
+        requires within { AreWithin most_vertices most_records self.labels self.edges.items }
+        ensures graph { IfOk result (λ list.
+            list.graph ≡ network_by self.labels self.edges.items) }
+        ensures number { IfOk result (λ list. list.records ≡ number) }
+        ensures memory { IfErr result (λ e. e ≡ Memory) }
+    {
+        let graph = self.into_graph(alloc)?;
+        Ok(EdgeList {
+            graph,
+            records: number,
+        })
     }
 }
 
@@ -318,7 +359,7 @@ fn read_records<R: Read + Drop>(
     ensures ends { EndsAtFault R.remaining reader.old reader.new (limits_of limits) result }
 {
     let mut reading = Reading::new(alloc, state)?;
-    let read = reading.read_all(alloc, reader, row, limits);
+    let read = reading.read_more(alloc, reader, row, 0, limits);
     read.map(|number| (reading, number))
 }
 
@@ -362,9 +403,8 @@ fn read_graph<R: Read + Drop>(
     ensures refused { ForPlain (R.remaining reader) (λ text.
         IfErr result (Refuses (meaning_within limits delimiter text))) }
 {
-    let (reading, records) = read_source(alloc, state, reader, delimiter, limits)?;
-    let graph = reading.into_graph(alloc)?;
-    Ok(EdgeList { graph, records })
+    let (reading, number) = read_source(alloc, state, reader, delimiter, limits)?;
+    reading.into_list(alloc, number)
 }
 
 // A reader as `csv` reads it, each of whose failed calls is counted.

@@ -13,3 +13,13 @@ returns-then-len-ge-ENOUGH-clause-refused c = λ limits delimiter text more g pl
     (given-more limits delimiter text c.args.byte c.args.self.now _ refl refl refl refl refl c.in-Ok.ensures.items g)
     (inr (text, ap (λ (b : ℕ). text ++ b ∷ []) c.if-byte-eq10.true))
     (subst IsPlain (sym joined) plain))
+
+pub returns-then-len-ge-ENOUGH-clause-ok : goal.returns-then-len-ge-ENOUGH-clause-ok
+returns-then-len-ge-ENOUGH-clause-ok c = λ limits delimiter text g.
+    c.read_held.ensures.ok limits delimiter (text ++ c.args.byte ∷ [])
+    (given-more limits delimiter text c.args.byte c.args.self.now _ refl refl refl refl refl c.in-Ok.ensures.items g)
+    (inr (text, ap (λ (b : ℕ). text ++ b ∷ []) c.if-byte-eq10.true))
+
+pub returns-clause-ok : goal.returns-clause-ok
+returns-clause-ok c = λ limits delimiter text g.
+    given-more limits delimiter text c.args.byte c.args.self.now _ refl refl refl refl refl c.in-Ok.ensures.items g

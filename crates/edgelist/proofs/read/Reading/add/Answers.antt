@@ -19,3 +19,21 @@ returns-in-Some-target-clause-adds c =
 pub returns-in-Some-target-clause-stops : goal.returns-in-Some-target-clause-stops
 returns-in-Some-target-clause-stops c =
     stop-two _ _ _ _ _ _ _ _ (omega arith) c.in-Some.ensures.form (rw c.in-Some-target.is at c.in-Some.ensures.fields) c.add_edge.ensures.exceeds
+
+pub returns-in-None-clause-many : goal.returns-in-None-clause-many
+returns-in-None-clause-many c = λ many. absurd (omega arith)
+
+pub returns-in-None-clause-form : goal.returns-in-None-clause-form
+returns-in-None-clause-form c = λ few bad. let good = c.in-Some.ensures.form in cc (good, bad)
+
+pub returns-in-None-clause-memory : goal.returns-in-None-clause-memory
+returns-in-None-clause-memory c = c.add_vertex.ensures.memory
+
+pub returns-in-Some-target-clause-many : goal.returns-in-Some-target-clause-many
+returns-in-Some-target-clause-many c = λ many. absurd (omega arith)
+
+pub returns-in-Some-target-clause-form : goal.returns-in-Some-target-clause-form
+returns-in-Some-target-clause-form c = λ few bad. let good = c.in-Some.ensures.form in cc (good, bad)
+
+pub returns-in-Some-target-clause-memory : goal.returns-in-Some-target-clause-memory
+returns-in-Some-target-clause-memory c = c.add_edge.ensures.memory
