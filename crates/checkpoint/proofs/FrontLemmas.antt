@@ -1,6 +1,6 @@
 -- The fixed fields and the digest that are read, as they are spelled.
 use Rattle.std.proofs.Common.{◌≡◌, ℕ, ◌+◌, ◌<◌, ◌≤◌, List, [], ◌∷◌, ◌++◌, length, get_or, take, drop, Result, Ok, Err, refl, ap, sym, ◌∙◌, subst, arith, append_assoc, inl, inr}
-use Rattle.std.specs.Prelude.{Bool, true, false, not, ◌==◌, ◌&&◌, ◌⊎◌, if◌then◌else◌, ⊤}
+use Rattle.std.specs.Prelude.{Bool, true, false, not, ◌==◌, ◌&&◌, ◌⊎◌, if◌then◌else◌, ⊤, IfErr}
 use Rattle.std.specs.Int.{w16, w32, to_be_bytes}
 use Rattle.std.specs.Str.{bytes_eq}
 use Rattle.std.proofs.lemmas.Bool.{eqb-true}
@@ -13,8 +13,8 @@ use Rattle.batches.proofs.HeadLemmas.{field_2, field_4}
 use Rattle.checkpoint.specs.declared.header.Header.{Header}
 use Rattle.checkpoint.specs.declared.error.KeepError.{KeepError}
 use Rattle.checkpoint.specs.declared.error.KeepError.TheVariants as errors
-use Rattle.checkpoint.specs.Reading.{head_at, check_head}
-use Rattle.checkpoint.proofs.ReaderLemmas.{same_bytes}
+use Rattle.checkpoint.specs.Reading.{◌>>=◌, body_form, check_head, content_form, followed, head_at, needs, told_body}
+use Rattle.checkpoint.proofs.ReaderLemmas.{followed-err, needs-err, needs-ok, same_bytes}
 
 -- ---- checks that pass
 abbrev is_ok : {A : Type 0} → Result A KeepError → Type 0
@@ -154,3 +154,19 @@ one_or_two part h e =
       | inl one ↦ inl (eqb-true h.version 1 one)
       | inr two ↦ inr (eqb-true h.version 2 two)
     ]
+
+-- ---- fixed fields that are refused
+told_bad : (part : PartValue) (piece rest : List ℕ) (e : KeepError) → check_head part (head_at piece) ≡ Err e → told_body part piece rest ≡ Err e
+unfolding told_body
+told_bad part piece rest e is = ap (λ (r : Result (Unit {0}) KeepError). r >>= λ fine. body_form part (head_at piece) rest) is
+
+front_bad : (part : PartValue) (bytes : List ℕ) (e : KeepError) → 54 ≤ length bytes → check_head part (head_at (take 54 bytes)) ≡ Err e → content_form part bytes ≡ Err e
+unfolding followed
+front_bad part bytes e long is = rw (needs-ok 54 bytes long, told_bad part (take 54 bytes) (drop 54 bytes) e is) refl
+
+pub front_short : (part : PartValue) (bytes : List ℕ) → length bytes < 54 → content_form part bytes ≡ Err errors.Short
+front_short part bytes few = followed-err (needs 54) (told_body part) bytes errors.Short (needs-err 54 bytes few)
+
+pub front_refused : (part : PartValue) (bytes : List ℕ) (r : Result (Unit {0}) KeepError) → 54 ≤ length bytes → r ≡ check_head part (head_at (take 54 bytes)) → IfErr r (λ e. content_form part bytes ≡ Err e)
+front_refused part bytes (Ok u) long is = tt
+front_refused part bytes (Err e) long is = front_bad part bytes e long (sym is)

@@ -26,7 +26,7 @@ pub mod write;
 pub use ball_model::{CountedRead, CountedWrite};
 pub use error::KeepError;
 pub use length::checkpoint_length;
-pub use read::read_checkpoint;
+pub use read::{check_front, read_checkpoint};
 pub use write::write_checkpoint;
 
 #[cfg(test)]

@@ -1,7 +1,7 @@
 //! Reading a checkpoint.
 
-ghost use Rattle.std.specs.Prelude.{◌≡◌, ◌+◌, ◌≤◌, ℕ, List, [], Ok, Some, IfOk, OnOk, OnErr, IfErr};
-ghost use Rattle.std.specs.Prelude.{length, take, ◌⊎◌};
+ghost use Rattle.std.specs.Prelude.{◌≡◌, ◌+◌, ◌≤◌, ℕ, List, [], Ok, Err, Some, IfOk, OnOk, OnErr};
+ghost use Rattle.std.specs.Prelude.{IfErr, length, take, ◌⊎◌};
 ghost use Rattle.std.specs.Arc.{arc_value};
 ghost use Rattle.ball_model.specs.Checkpoint.{checkpoint_bytes, first_checkpoint_bytes, sealed};
 ghost use Rattle.ball_model.specs.Checkpoint.{without_names};
@@ -13,7 +13,7 @@ ghost use Rattle.replica.specs.Seen.{IsState};
 ghost use Rattle.checkpoint.specs.Reading.{needs, head_at, check_head, content_form, sealed_form};
 ghost use Rattle.checkpoint.specs.Reading.{allowed, allowed_content, most_body, most_bytes, Ends};
 ghost use Rattle.checkpoint.specs.Reading.{Grows, Fails, RefusesAs, HasHead, TakesWithin, IsRead};
-ghost use Rattle.checkpoint.specs.Reading.{IsSpelling, IfOkButWant, OnOkOrMemory};
+ghost use Rattle.checkpoint.specs.Reading.{IsOfBytes, IsSpelling, IfOkButWant, OnOkOrMemory};
 
 use crate::error::KeepError;
 use crate::header::{Header, check_header, read_header};
@@ -25,6 +25,19 @@ use edgelist::Part;
 use replica::{Replica, Saved};
 use std::alloc::Global;
 use std::sync::Arc;
+
+/// The first fault of the fixed fields of bytes that are to be a checkpoint of the part, in the order in which
+/// [`read_checkpoint`] checks them. It takes no memory.
+pub fn check_front(part: &Part, bytes: &[u8]) -> Result<(), KeepError>
+    ensures fine { OnOk result (HasHead part.now bytes.now) }
+    ensures refused { IfErr result (λ e. content_form part.now bytes.now ≡ Err e) }
+    ensures of_bytes { IfErr result IsOfBytes }
+{
+    if bytes.len() < HEADER_LEN {
+        return Err(KeepError::Short);
+    }
+    check_header(part, &read_header(&bytes[..HEADER_LEN]))
+}
 
 // Reads the fixed fields into the text, and checks them before it takes memory.
 fn read_head<R: CountedRead>(

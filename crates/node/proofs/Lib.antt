@@ -8,3 +8,4 @@ pub mod GatherLemmas
 pub mod JobLemmas
 pub mod AnswerLemmas
 pub mod LawLemmas
+pub mod StreamLemmas

@@ -19,9 +19,11 @@ use Rattle.node.specs.declared.error.ServeError.{ServeError}
 use Rattle.node.specs.declared.error.ServeError.TheVariants as fault
 use Rattle.node.specs.declared.error.NodeError.{NodeError}
 use Rattle.node.specs.declared.error.NodeError.TheVariants as node_fault
-use Rattle.node.specs.Stream.{CutsBody, HasNoEnd, most_line}
-use Rattle.node.specs.Serving.{AnswersEach, AppendsAnswers, AreNamed, AreTold, CutShort, IfRefused, IsNoRequest, IsOfMachine, NoCommand, ReadsRequest, Runs, ServesRest, ServesNode, ServesNone, ServesOne, ServesSome, Steps, StopsServing, StopsNode}
+use Rattle.node.specs.Stream.{CutsBody, HasNoEnd, ReadsBody, ReadsInLine, most_line}
+use Rattle.node.specs.Serving.{AnswersEach, AppendsAnswers, AreNamed, AreTold, CutShort, IfRefused, IsNoRequest, IsOfMachine, LacksRoom, NoCommand, ReadsRequest, Runs, ServesRest, ServesNode, ServesNone, ServesOne, ServesSome, Steps, StopsServing, StopsNode, StopsWanting, WantsNode, told_tell}
 use Rattle.node.specs.Turns.{Holds, most_body}
+use Rattle.world.specs.declared.tell.TellError.{TellError}
+use Rattle.world.specs.declared.tell.TellError.TheVariants as untold
 use Rattle.node.proofs.SessionLemmas.{part_held}
 
 -- ---- one more is asked
@@ -186,6 +188,19 @@ stops_at network part e n m a b c v w u x y z next s same_part at kept same = re
   at = subst (λ (k : ℕ). IsNoRequest part k e b c) next (subst (λ (q : PartValue). IsNoRequest q m e b c) same_part at);
 }
 
+-- memory is refused
+pub wants_at : (network : Network) (n m : ℕ) (d : ServeError) (a b c : Option (List ℕ)) (v w : State) (x y : Option (List ℕ)) → ServesSome network n a b v w x y → w.part ≡ v.part →
+    IsNoRequest w.part m d b c → ◌≡◌ {A = Result (Unit {0}) ServeError} (Err d) (Err fault.Memory) → StopsWanting v.part a c
+wants_at network n m d a b c v w x y s same at is =
+    let memory : d ≡ fault.Memory = cc in
+    record {
+      requests = s.requests;
+      each = s.each;
+      rest = b;
+      consumed = s.consumed;
+      at = subst (λ (q : PartValue). LacksRoom q b c) same (subst (λ (k : ServeError). IsNoRequest w.part m k b c) memory at);
+    }
+
 -- numbers are at their end
 pub stops_counting : (network : Network) (part : PartValue) (n : ℕ) (a b : Option (List ℕ)) (v w : State) (x y : Option (List ℕ)) → 2 ^ 64 ≤ n + 1 →
     ServesSome network n a b v w x y → StopsServing network part fault.TooMany a b v w x y
@@ -226,25 +241,43 @@ serves_one network a b line order body v w x y z read steps kept = record {
 }
 
 -- ---- what is no request
--- of other faults nothing is said
-pub machine_stops : (part : PartValue) (n : ℕ) (e : ServeError) (a b : Option (List ℕ)) → IsOfMachine e → IsNoRequest part n e a b
-machine_stops part n (fault.Command k) a b is = absurd is
-machine_stops part n (fault.Length k) a b is = absurd is
-machine_stops part n (fault.Cut k) a b is = absurd is
-machine_stops part n fault.TooMany a b is = absurd is
-machine_stops part n fault.Memory a b is = tt
-machine_stops part n fault.Read a b is = tt
-machine_stops part n fault.Write a b is = tt
+line_some : (line body : List ℕ) → (line ++ 10 ∷ body) ≡ [] → ⊥
+line_some [] body is = absurd (cc)
+line_some (c ∷ line) body is = absurd (cc)
+
+-- of failed calls nothing is said
+machine_stops : (part : PartValue) (n : ℕ) (e : ServeError) (a b : Option (List ℕ)) → IsOfMachine e → (e ≡ fault.Memory → LacksRoom part a b) → IsNoRequest part n e a b
+machine_stops part n (fault.Command k) a b is lacks = absurd is
+machine_stops part n (fault.Length k) a b is lacks = absurd is
+machine_stops part n (fault.Cut k) a b is lacks = absurd is
+machine_stops part n fault.TooMany a b is lacks = absurd is
+machine_stops part n fault.Memory a b is lacks = lacks refl
+machine_stops part n fault.Read a b is lacks = tt
+machine_stops part n fault.Write a b is lacks = tt
+
+-- memory is refused within a line
+pub line_lacks : (part : PartValue) (a b : Option (List ℕ)) → ReadsInLine a b → LacksRoom part a b
+line_lacks part a b r = record { front = r.bytes; some = r.some; within = inl r.one_line; consumed = r.consumed }
+
+-- or where a request is all there
+pub request_lacks : (part : PartValue) (a b : Option (List ℕ)) (line : List ℕ) (order : Command) (body : List ℕ) → ReadsRequest part a b line order body → LacksRoom part a b
+request_lacks part a b line order body r = record {
+  front = request_bytes (record { line = line; command = order; body = body });
+  some = line_some line body;
+  within = inr (record { request = record { line = line; command = order; body = body }; is = r.is; bytes_are = refl });
+  consumed = r.consumed;
+}
+
+-- or, as a write failed, where it was answered
+pub told_stops : (part : PartValue) (n : ℕ) (t : TellError) (a b : Option (List ℕ)) → LacksRoom part a b → IsNoRequest part n (told_tell t) a b
+told_stops part n untold.Memory a b lacks = lacks
+told_stops part n untold.Write a b lacks = tt
 
 pub long_line : (a b : Option (List ℕ)) (line : List ℕ) → Consumes a b line → HasNoEnd line → most_line ≤ length line → NoCommand a b
 long_line a b line read none great = record { line = line; one_line = none; read = inr (read, great) }
 
 pub cut_line : (a b : Option (List ℕ)) (line : List ℕ) → Consumes a b line → IsAtEnd b → line ≢ [] → HasNoEnd line → CutShort a b
 cut_line a b line read end some none = record { front = line; some = some; within = inl none; consumed = read; end = end }
-
-line_some : (line body : List ℕ) → (line ++ 10 ∷ body) ≡ [] → ⊥
-line_some [] body is = absurd (cc)
-line_some (c ∷ line) body is = absurd (cc)
 
 pub cut_body : (a b c : Option (List ℕ)) (line : List ℕ) (order : Command) → Consumes a b (line ++ 10 ∷ []) → HasNoEnd line → command_in (fields 32 line) ≡ Some order →
     CutsBody (body_length order) b c → CutShort a c
@@ -257,11 +290,15 @@ cut_body a b c line order read none says cut = record {
 }
 
 -- what follows the line was not read
-pub rest_stops : (part : PartValue) (n : ℕ) (e : ServeError) (a b c : Option (List ℕ)) (line : List ℕ) (order : Command) → Consumes a b (line ++ 10 ∷ []) → HasNoEnd line → command_in (fields 32 line) ≡ Some order →
-    (e ≡ fault.Cut n → CutsBody (body_length order) b c) → (e ≡ fault.Cut n) ⊎ IsOfMachine e → IsNoRequest part n e a c
-rest_stops part n e a b c line order read none says cut (inl is) =
+pub rest_stops : (part : PartValue) (n : ℕ) (e : ServeError) (a b c : Option (List ℕ)) (line : List ℕ) (order : Command) → Consumes a b (line ++ 10 ∷ []) → HasNoEnd line → length line < most_line → command_in (fields 32 line) ≡ Some order →
+    body_length order ≤ most_body part order → (e ≡ fault.Cut n → CutsBody (body_length order) b c) → (e ≡ fault.Memory → ReadsBody (body_length order) b c) → (e ≡ fault.Cut n) ⊎ IsOfMachine e → IsNoRequest part n e a c
+rest_stops part n e a b c line order read none short says within cut all (inl is) =
     subst (λ (k : ServeError). IsNoRequest part n k a c) (sym is) (refl, cut_body a b c line order read none says (cut is))
-rest_stops part n e a b c line order read none says cut (inr machine) = machine_stops part n e a c machine
+rest_stops part n e a b c line order read none short says within cut all (inr machine) =
+    machine_stops part n e a c machine
+    (λ is.
+    let body = all is in
+    request_lacks part a c line order body.bytes (reads_request part a b c line order body.bytes read body.consumed none short says within body.long))
 
 -- ---- a node from its start
 -- all that it was asked
@@ -336,3 +373,14 @@ node_stops s counted p network plan left mid left' old new v w d read below hold
     let same : d ≡ e = same_fault d e is in
     subst (λ (k : ServeError). StopsNode s counted p k left left' old new) same
     (stops_node s counted p d network plan left mid left' old new v w read below holds (stops (λ machine. some (subst IsOfMachine same machine))))
+
+pub node_wants : (s : Settings) (counted : Bool) (p : ℕ) (network : Network) (plan : PlanValue) (left mid left' : Option (List ℕ)) (v : State) →
+    IsJobRead s counted left mid network plan → p < plan.parts → Holds (job_of network.graph plan) p (start_holding plan p) v → StopsWanting v.part mid left' → WantsNode s counted p left left'
+node_wants s counted p network plan left mid left' v read below holds wants = record {
+  network = network;
+  plan = plan;
+  mid = mid;
+  job = read;
+  below = below;
+  wants = subst (λ (q : PartValue). StopsWanting q mid left') (part_held (job_of network.graph plan) p (start_holding plan p) v holds) wants;
+}

@@ -25,7 +25,9 @@ use Rattle.ball_model.specs.WorldLaws.{IsWorldNode}
 use Rattle.ball_model.proofs.HeldLemmas.{closed_held, joined_held, start_held, taken_held}
 use Rattle.checkpoint.specs.declared.error.KeepError.{KeepError}
 use Rattle.checkpoint.specs.declared.error.KeepError.TheVariants as unkept
-use Rattle.checkpoint.specs.Reading.{Ends, IfOkButWant, IsRead, IsSpelling, TellNone, sealed_form}
+use Rattle.checkpoint.specs.Reading.{Ends, IfOkButWant, IsOfBytes, IsRead, IsSpelling, TellNone, content_form, seal_form, sealed_form}
+use Rattle.checkpoint.proofs.FormLemmas.{first_fine, second_fine}
+use Rattle.checkpoint.proofs.ReaderLemmas.{followed-err}
 use Rattle.ball_model.specs.Job.{PartValue}
 use Rattle.replica.specs.Runs.{Takes, Closes}
 use Rattle.replica.specs.Saved.{IsKeepable}
@@ -239,6 +241,10 @@ pub spelled_not : (e : BatchError) (due : Result BatchValue BatchError) → Give
 spelled_not unread.Memory due gives some = absurd (some refl)
 spelled_not e due gives some = sym gives
 
+pub spelled_wants : (e : BatchError) (due : Result BatchValue BatchError) → GivesOrMemory (Err e) due → e ≡ unread.Memory → IsOk due
+spelled_wants unread.Memory due gives is = gives
+spelled_wants e due gives is = absurd (cc)
+
 pub says_no_batch : {E : Type 0} (plan : PlanValue) (bytes : List ℕ) (e : BatchError) (r : Result Reply E) → IfOk r (λ x. x ≡ reply.NoBatch e) → IfOk r (λ x. e ≢ unread.Memory) →
     (e ≢ unread.Memory → batch_at plan bytes ≡ Err e) → IfOk r (SaysOfBatch plan bytes)
 says_no_batch plan bytes e (Ok x) is some tells = subst (SaysOfBatch plan bytes) (sym is) (tells some)
@@ -296,3 +302,23 @@ pub no_checkpoint_said : (part : PartValue) (body : List ℕ) (e : KeepError) (r
 no_checkpoint_said part body e (reply.Answered a) says other = absurd (no_checkpoint_due part body e says other.due)
 no_checkpoint_said part body e (reply.NoBatch d) says other = absurd says
 no_checkpoint_said part body e (reply.NoCheckpoint d) says other = ap reply.NoCheckpoint (same_due part body d e says.due other.due)
+
+-- ---- the fixed fields
+pub front_refused : (part : PartValue) (bytes : List ℕ) (e : KeepError) → content_form part bytes ≡ Err e → IsOfBytes e → IsNoCheckpoint part bytes e
+front_refused part bytes e is of = record { of_bytes = of; due = inl (followed-err (content_form part) seal_form bytes e is) }
+
+-- they are not those of a checkpoint that stands for the job
+given_due : (v : State) (part : PartValue) (bytes : List ℕ) (e : KeepError) → IsKeepable v → v.part ≡ part → IsSpelling v bytes →
+    (sealed_form part bytes ≡ Err e) ⊎ ((e ≡ unkept.Shape) × IsOk (sealed_form part bytes) × TellNone part bytes) → ⊥
+given_due v part bytes e keeps own (inl second) (inl form) =
+    second_fine v keeps.state e (ap (λ (x : PartValue). sealed_form x (checkpoint_bytes v)) own ∙ ap (sealed_form part) (sym second) ∙ form)
+given_due v part bytes e keeps own (inr first) (inl form) =
+    first_fine v keeps.state e (ap (λ (x : PartValue). sealed_form x (first_checkpoint_bytes v)) own ∙ ap (sealed_form part) (sym first.0) ∙ form)
+given_due v part bytes e keeps own spells (inr other) = tells_some part bytes v keeps own spells other.2
+
+pub front_given : (j : Job) (p : ℕ) (d : Holding) (part : PartValue) (bytes : List ℕ) (e : KeepError) → part ≡ part_of j p → IsGivenBack j p bytes d → IsNoCheckpoint part bytes e → ⊥
+front_given j p d part bytes e own g other =
+    given_due g.replica part bytes e (keepable j d g.replica g.has) (g.has.holding.stands.part ∙ ap (part_of j) g.held.partition ∙ sym own) g.spells other.due
+
+pub never_wants : (part : PartValue) (bytes : List ℕ) (e : KeepError) → IsNoCheckpoint part bytes e → e ≡ unkept.Memory → ⊥
+never_wants part bytes e other is = subst IsOfBytes is other.of_bytes

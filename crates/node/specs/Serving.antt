@@ -125,13 +125,27 @@ pub record CutShort (left left' : Option (List ℕ)) : Type 0 where
   pub consumed : Consumes left left' front
   pub end : IsAtEnd left'
 
--- the request of that number cannot be read for what it says, or numbers end before it; of other faults nothing is said
+-- the bytes are those of a request
+pub record IsRequestText (part : PartValue) (bytes : List ℕ) : Type 0 where
+  pub request : Request
+  pub is : IsRequest part request
+  pub bytes_are : bytes ≡ request_bytes request
+
+-- some bytes of a line were read, or a request that is all there
+pub record LacksRoom (part : PartValue) (left left' : Option (List ℕ)) : Type 0 where
+  pub front : List ℕ
+  pub some : front ≢ []
+  pub within : HasNoEnd front ⊎ IsRequestText part front
+  pub consumed : Consumes left left' front
+
+-- the request of that number cannot be read for what it says, or numbers end before it; or memory is refused within its
+-- line, or where all of it is there; of failed calls nothing is said
 abbrev pub IsNoRequest : PartValue → ℕ → ServeError → Option (List ℕ) → Option (List ℕ) → Type 0
 IsNoRequest part n (fault.Command k) left left' = (k ≡ n) × NoCommand left left'
 IsNoRequest part n (fault.Length k) left left' = (k ≡ n) × TooLong part left left'
 IsNoRequest part n (fault.Cut k) left left' = (k ≡ n) × CutShort left left'
 IsNoRequest part n fault.TooMany left left' = (2 ^ 64 ≤ n) × (left' ≡ left)
-IsNoRequest part n fault.Memory left left' = ⊤
+IsNoRequest part n fault.Memory left left' = LacksRoom part left left'
 IsNoRequest part n fault.Read left left' = ⊤
 IsNoRequest part n fault.Write left left' = ⊤
 
@@ -200,6 +214,14 @@ pub record StopsServing (network : Network) (part : PartValue) (e : ServeError)
   pub some : ServesSome network number left mid v w old new
   pub at : IsNoRequest part (number + 1) e mid left'
 
+-- requests were read, and then memory was refused within the line of the next, or where all of it was there
+pub record StopsWanting (part : PartValue) (left left' : Option (List ℕ)) : Type 0 where
+  pub requests : List Request
+  pub each : All (IsRequest part) requests
+  pub rest : Option (List ℕ)
+  pub consumed : Consumes left rest (requests_text requests)
+  pub at : LacksRoom part rest left'
+
 -- all that was left of the input is requests, and they were answered
 pub record ServesRest (network : Network) (left left' : Option (List ℕ)) (v w : State)
     (old new : Option (List ℕ)) : Type 0 where
@@ -256,3 +278,13 @@ pub record StopsNode (s : Settings) (counted : Bool) (p : ℕ) (e : ServeError)
   pub answered : AnswersEach (job_of network.graph plan) p network.labels
       (start_holding plan p) requests old new
   pub at : IsNoRequest (part_of (job_of network.graph plan) p) (length requests + 1) e rest left'
+
+-- the job of the input was read, and then memory was refused so
+pub record WantsNode (s : Settings) (counted : Bool) (p : ℕ)
+    (left left' : Option (List ℕ)) : Type 0 where
+  pub network : Network
+  pub plan : PlanValue
+  pub mid : Option (List ℕ)
+  pub job : IsJobRead s counted left mid network plan
+  pub below : p < plan.parts
+  pub wants : StopsWanting (part_of (job_of network.graph plan) p) mid left'

@@ -4,7 +4,7 @@ ghost use Rattle.std.specs.Prelude.{◌≡◌, ◌≢◌, ◌<◌, ◌≤◌, �
 ghost use Rattle.std.specs.Io.KnownBytes.{Consumes, IsAtEnd};
 ghost use Rattle.std.specs.List.{All};
 ghost use Rattle.ball_model.specs.Streams.{Rises};
-ghost use Rattle.node.specs.Stream.{CutsBody, HasNoEnd, most_line};
+ghost use Rattle.node.specs.Stream.{CutsBody, HasNoEnd, ReadsBody, ReadsInLine, most_line};
 
 use crate::section::{Next, next_of};
 use ball_model::{CountedRead, Filled, fill};
@@ -51,6 +51,8 @@ pub fn read_line<R: CountedRead>(reader: &mut R, line: &mut Vec<u8>) -> Line
         Consumes (R.remaining reader.old) (R.remaining reader.new) line.new.items }
     ensures no_end { result ≡ Line.Long → HasNoEnd line.new.items }
     ensures great { result ≡ Line.Long → most_line ≤ length line.new.items }
+    ensures memory { result ≡ Line.Memory →
+        ReadsInLine (R.remaining reader.old) (R.remaining reader.new) }
     ensures failed { result ≡ Line.Failed →
         Rises (R.failed_calls reader.old) (R.failed_calls reader.new) }
     ensures counted { result ≢ Line.Failed →
@@ -88,12 +90,11 @@ pub enum Body {
     Failed,
 }
 
-/// Reads so many bytes into `body`, which is empty. Memory is taken as they come.
-pub fn read_body<R: CountedRead>(reader: &mut R, size: u64, body: &mut Vec<u8>) -> Body
-    requires { body.old.items ≡ [] }
-    ensures whole { result ≡ Body.Whole →
-        Consumes (R.remaining reader.old) (R.remaining reader.new) body.new.items }
-    ensures length { result ≡ Body.Whole → length body.new.items ≡ size }
+// Reads so many bytes, for which memory was refused, and lets them go.
+fn pass_over<R: CountedRead>(reader: &mut R, size: u64) -> Body
+    ensures some { result ≢ Body.Whole }
+    ensures memory { result ≡ Body.Memory →
+        ReadsBody size (R.remaining reader.old) (R.remaining reader.new) }
     ensures cut { result ≡ Body.Cut →
         CutsBody size (R.remaining reader.old) (R.remaining reader.new) }
     ensures failed { result ≡ Body.Failed →
@@ -106,9 +107,40 @@ pub fn read_body<R: CountedRead>(reader: &mut R, size: u64, body: &mut Vec<u8>) 
     while left > 0 {
         let count = left.min(PIECE as u64) as usize;
         match fill(reader, &mut piece[..count]) {
+            Filled::Full => {}
+            Filled::Ended { .. } => return Body::Cut,
+            Filled::Failed => return Body::Failed,
+        }
+        left -= count as u64;
+    }
+    Body::Memory
+}
+
+/// Reads so many bytes into `body`, which is empty. Memory is taken as they come; where it is refused, the rest is read
+/// and let go, so that a body that is cut is told as such.
+pub fn read_body<R: CountedRead>(reader: &mut R, size: u64, body: &mut Vec<u8>) -> Body
+    requires { body.old.items ≡ [] }
+    ensures whole { result ≡ Body.Whole →
+        Consumes (R.remaining reader.old) (R.remaining reader.new) body.new.items }
+    ensures length { result ≡ Body.Whole → length body.new.items ≡ size }
+    ensures cut { result ≡ Body.Cut →
+        CutsBody size (R.remaining reader.old) (R.remaining reader.new) }
+    // Memory is refused only of a body that is all there.
+    ensures memory { result ≡ Body.Memory →
+        ReadsBody size (R.remaining reader.old) (R.remaining reader.new) }
+    ensures failed { result ≡ Body.Failed →
+        Rises (R.failed_calls reader.old) (R.failed_calls reader.new) }
+    ensures counted { result ≢ Body.Failed →
+        R.failed_calls reader.new ≡ R.failed_calls reader.old }
+{
+    let mut piece = [0u8; PIECE];
+    let mut left = size;
+    while left > 0 {
+        let count = left.min(PIECE as u64) as usize;
+        match fill(reader, &mut piece[..count]) {
             Filled::Full => {
                 let Ok(()) = body.extend_from_slice(&piece[..count]) else {
-                    return Body::Memory;
+                    return pass_over(reader, left - count as u64);
                 };
             }
             Filled::Ended { .. } => return Body::Cut,

@@ -15,10 +15,10 @@ ghost use Rattle.node.specs.Job.{IsJobRead, settings_in};
 ghost use Rattle.node.specs.NoJob.{HasNoNode, IsNoStart};
 ghost use Rattle.node.specs.Serving.{IsNoRequest, IsOfMachine, ReadsRequest, ServesRest};
 ghost use Rattle.node.specs.Serving.{ServesNode, ServesNone, ServesOne, Steps, StopsServing};
-ghost use Rattle.node.specs.Serving.{StopsNode};
+ghost use Rattle.node.specs.Serving.{StopsNode, StopsWanting, WantsNode};
 ghost use Rattle.node.specs.declared.error.JobError.{JobError as NoJob};
 ghost use Rattle.node.specs.declared.error.ServeError.{ServeError as Fault};
-ghost use Rattle.node.specs.Stream.{CutsBody, HasNoEnd, most_line};
+ghost use Rattle.node.specs.Stream.{CutsBody, HasNoEnd, ReadsBody, most_line};
 ghost use Rattle.node.specs.declared.command.Command.TheVariants as order;
 ghost use Rattle.node.specs.Turns.{Holds, most_body, reply_text};
 
@@ -346,6 +346,8 @@ fn read_rest<R: CountedRead>(
     ensures unwritten { result ≢ Err ServeError.Write }
     ensures cut { result ≡ Err (ServeError.Cut number) → CutsBody (body_length command)
         (R.remaining reader.old) (R.remaining reader.new) }
+    ensures memory { result ≡ Err ServeError.Memory → ReadsBody (body_length command)
+        (R.remaining reader.old) (R.remaining reader.new) }
     ensures kind { IfErr result (λ e. (e ≡ ServeError.Cut number) ⊎ IsOfMachine e) }
 {
     match read_body(reader, length_of(command), body) {
@@ -463,6 +465,9 @@ pub fn serve_commands<R: CountedRead, W: CountedWrite, V: Watch>(
     ensures stopped { IfErr result (λ e. (IsOfMachine e → ⊥) →
         StopsServing graph.now session.old.part e (R.remaining reader.old) (R.remaining reader.new)
         session.old session.new (W.contents writer.old) (W.contents writer.new)) }
+    // Memory is refused only where what was read is requests, and the front of a line.
+    ensures wanting { result ≡ Err ServeError.Memory →
+        StopsWanting session.old.part (R.remaining reader.old) (R.remaining reader.new) }
     // A call failed exactly where that is told.
     ensures read { result ≡ Err ServeError.Read →
         Rises (R.failed_calls reader.old) (R.failed_calls reader.new) }
@@ -518,6 +523,10 @@ fn serve_part<R: CountedRead, W: CountedWrite, V: Watch>(
         (e : Fault) → result ≡ Err (NodeError.Serve e) → (IsOfMachine e → ⊥) →
         StopsNode s counted part e left (R.remaining reader.new)
         (W.contents writer.old) (W.contents writer.new) }
+    ensures wanting { (s : Settings) (counted : Bool) (left : Option (List ℕ)) →
+        IsJobRead s counted left (R.remaining reader.old) graph.now plan.now →
+        result ≡ Err (NodeError.Serve ServeError.Memory) →
+        WantsNode s counted part left (R.remaining reader.new) }
     ensures jobless { (e : NoJob) → result ≡ Err (NodeError.Job e) →
         Keeps (W.contents writer.old) (W.contents writer.new) }
     ensures same { (e : NoJob) → result ≡ Err (NodeError.Job e) →
@@ -560,6 +569,10 @@ pub fn serve_node<R: CountedRead, W: CountedWrite, V: Watch>(
         StopsNode (settings_in options.now) options.now.counted part e
         (R.remaining reader.old) (R.remaining reader.new)
         (W.contents writer.old) (W.contents writer.new) }
+    // Behind the job memory is refused only where what was read is requests, and the front of a line.
+    ensures wanting { result ≡ Err (NodeError.Serve ServeError.Memory) →
+        WantsNode (settings_in options.now) options.now.counted part
+        (R.remaining reader.old) (R.remaining reader.new) }
     // Where there is no job nothing is answered.
     ensures jobless { (e : NoJob) → result ≡ Err (NodeError.Job e) →
         Keeps (W.contents writer.old) (W.contents writer.new) }

@@ -1,7 +1,7 @@
 //! A node's replica, and what it makes of commands.
 
 ghost use Rattle.std.specs.Prelude.{◌≡◌, ◌≢◌, ℕ, ◌<◌, [], Err, IfOk, IfErr, IsErr, IsOk, OnErr};
-ghost use Rattle.std.specs.Prelude.{OnOk, Ok, false};
+ghost use Rattle.std.specs.Prelude.{OnOk, IsOk, Ok, false};
 ghost use Rattle.std.specs.Arc.{arc_value};
 ghost use Rattle.ball_model.specs.declared.names.BatchName.{BatchName as Name};
 ghost use Rattle.ball_model.specs.declared.world.Answer.TheVariants as answer;
@@ -14,7 +14,7 @@ ghost use Rattle.ball_model.specs.Steps.{Take, Close};
 ghost use Rattle.ball_model.specs.World.{closed_answer, taken_answer};
 ghost use Rattle.batches.specs.Reading.{batch_at};
 ghost use Rattle.ball_model.specs.Content.{is_new};
-ghost use Rattle.checkpoint.specs.Reading.{IsSpelling};
+ghost use Rattle.checkpoint.specs.Reading.{HasHead, IsSpelling, OnOkOrMemory};
 ghost use Rattle.replica.specs.Change.{take_answer};
 ghost use Rattle.replica.specs.Saved.{IsKeepable};
 ghost use Rattle.world.specs.Shows.{Has};
@@ -24,10 +24,11 @@ ghost use Rattle.node.specs.Refusals.{SaysOfCheckpoint};
 ghost use Rattle.node.specs.Turns.{GivesOrWants, Holds, IsBrought, SaysMerged, TurnsTo};
 ghost use Rattle.node.specs.declared.session.Reply.TheVariants as reply;
 
+use crate::front::check_front;
 use ball_model::world::Answer;
 use ball_model::{CloseError, MemReader, MergeError, Plan, TakeError, Taken};
 use batches::{Batch, BatchError};
-use checkpoint::{KeepError, read_checkpoint};
+use checkpoint::{KeepError, check_front, read_checkpoint};
 use edgelist::Part;
 use replica::{Replica, Shown, Snapshot};
 use std::alloc::{AllocError, Global};
@@ -108,6 +109,8 @@ impl Session {
             is_new (take_answer self.old b) ≡ false → self.new ≡ self.old }
         ensures brought { (b : BatchValue) → batch_at self.old.part.plan bytes.now ≡ Ok b →
             IfOk result (λ _. IsBrought b self.old self.new) }
+        // Memory is refused only where the bytes spell a batch of the plan.
+        ensures spelled { OnErr result (IsOk (batch_at self.old.part.plan bytes.now)) }
         ensures refused { OnErr result (self.new ≡ self.old) }
     {
         match read_batch(alloc, self.replica.plan(), bytes) {
@@ -168,6 +171,8 @@ impl Session {
             r ≡ reply.Answered (answer.Restarted self.new.superstep)) }
         ensures unread { (e : KeepError) → result ≡ Ok (reply.NoCheckpoint e) →
             self.new ≡ self.old }
+        // Memory is refused only after the checks of the fixed fields.
+        ensures front { bytes.now ≢ [] → OnErr result (HasHead self.old.part bytes.now) }
         ensures refused { OnErr result (self.new ≡ self.old) }
     {
         match self.restored(alloc, bytes) {
@@ -189,13 +194,31 @@ impl Session {
         ensures named { bytes.now ≢ [] → IfErr result (λ e. e ≢ KeepError.Memory →
             IsNoCheckpoint self.now.part bytes.now e) }
         ensures started { bytes.now ≡ [] → IfErr result (λ e. e ≡ KeepError.Memory) }
+        ensures front { bytes.now ≢ [] →
+            OnOkOrMemory result (HasHead self.now.part bytes.now) }
     {
-        let part = Arc::try_clone(&self.part)?;
         if bytes.is_empty() {
+            let part = Arc::try_clone(&self.part)?;
             Ok(started(alloc, part)?)
         } else {
-            read_back(alloc, part, bytes)
+            self.read(alloc, bytes)
         }
+    }
+
+    // The replica of a checkpoint. The fixed fields are checked before the part is shared, which may want memory.
+    fn read(&self, alloc: Global, bytes: &[u8]) -> Result<Replica, KeepError>
+        ensures part { IfOk result (λ r. r.part ≡ self.now.part) }
+        ensures back { (j : Job) (p : ℕ) (h d : Holding) → Holds j p h self.now →
+            IsGivenBack j p bytes.now d → GivesOrWants (Holds j p d) result }
+        ensures spells { IfOk result (λ r. IsSpelling r bytes.now) }
+        ensures whole { OnOk result (IsCheckpoint self.now.part bytes.now) }
+        ensures named { IfErr result (λ e. e ≢ KeepError.Memory →
+            IsNoCheckpoint self.now.part bytes.now e) }
+        ensures front { OnOkOrMemory result (HasHead self.now.part bytes.now) }
+    {
+        check_front(&self.part, bytes)?;
+        let part = Arc::try_clone(&self.part)?;
+        read_back(alloc, part, bytes)
     }
 
     // Has that replica from now on.
@@ -222,10 +245,11 @@ impl Session {
         ensures named { IfOk result (SaysOfCheckpoint self.old.part bytes.now) }
         ensures unread { (e : KeepError) → result ≡ Ok (reply.NoCheckpoint e) →
             self.new ≡ self.old }
+        // Memory is refused only after the checks of the fixed fields.
+        ensures front { OnErr result (HasHead self.old.part bytes.now) }
         ensures refused { OnErr result (self.new ≡ self.old) }
     {
-        let part = Arc::try_clone(&self.part)?;
-        match read_back(alloc, part, bytes) {
+        match self.read(alloc, bytes) {
             Ok(other) => self.take_over(alloc, other),
             Err(error) => no_checkpoint(error),
         }
@@ -279,6 +303,7 @@ fn no_batch(error: BatchError) -> Result<Reply, AllocError>
     ensures some { IfOk result (λ r. r ≡ reply.NoBatch error) }
     ensures other { IfOk result (λ _. error ≢ BatchError.Memory) }
     ensures memory { error ≡ BatchError.Memory → IsErr result }
+    ensures only { OnErr result (error ≡ BatchError.Memory) }
 {
     match error {
         BatchError::Memory => Err(AllocError),
@@ -291,6 +316,7 @@ fn no_checkpoint(error: KeepError) -> Result<Reply, AllocError>
     ensures some { IfOk result (λ r. r ≡ reply.NoCheckpoint error) }
     ensures other { IfOk result (λ _. error ≢ KeepError.Memory) }
     ensures memory { error ≡ KeepError.Memory → IsErr result }
+    ensures only { OnErr result (error ≡ KeepError.Memory) }
 {
     match error {
         KeepError::Memory => Err(AllocError),
@@ -331,6 +357,8 @@ fn read_batch(alloc: Global, plan: &Plan, bytes: &[u8]) -> Result<Arc<Batch>, Ba
     ensures spells { IfOk result (λ b. batch_at plan.now bytes.now ≡ Ok (arc_value b)) }
     ensures named { IfErr result (λ e. e ≢ BatchError.Memory →
         batch_at plan.now bytes.now ≡ Err e) }
+    ensures last { IfErr result (λ e. e ≡ BatchError.Memory →
+        IsOk (batch_at plan.now bytes.now)) }
 {
     match Batch::decode(alloc, plan, bytes) {
         Ok(batch) => shared(alloc, batch),
@@ -361,6 +389,8 @@ pub fn read_back(alloc: Global, part: Arc<Part>, bytes: &[u8]) -> Result<Replica
     ensures whole { OnOk result (IsCheckpoint (arc_value part) bytes.now) }
     ensures named { IfErr result (λ e. e ≢ KeepError.Memory →
         IsNoCheckpoint (arc_value part) bytes.now e) }
+    // Memory is refused only after the checks of the fixed fields.
+    ensures front { OnOkOrMemory result (HasHead (arc_value part) bytes.now) }
 {
     let mut reader = MemReader::new(bytes, None);
     read_checkpoint(alloc, part, &mut reader)

@@ -4,6 +4,7 @@ use Rattle.std.proofs.KnownBytes.{Consumes-trans}
 use Rattle.std.proofs.lemmas.List.Elements.{All-push}
 use Rattle.node.specs.Stream.{HasNoEnd}
 use Rattle.node.specs.declared.section.Next.TheVariants as next
+use Rattle.node.proofs.StreamLemmas.{byte_read}
 use Rattle.node.proofs.input.read_line.Goals as goal
 
 pub returns-in-Byte-eq10-clause-whole : goal.returns-in-Byte-eq10-clause-whole
@@ -23,3 +24,8 @@ loop-reader-preserved g c =
       one_line = subst HasNoEnd (sym line) (All-push (λ (b : ℕ). b ≢ 10) c.loop-reader.line.items c.in-Byte.byte c.loop-reader.invariant.one_line c.in-Byte.byte-test.1);
       counted = c.next_of.ensures.counted (λ (e : c.next_of.result ≡ next.Failed). absurd (cc)) ∙ c.loop-reader.invariant.counted;
     }
+
+pub returns-in_default-clause-memory : goal.returns-in_default-clause-memory
+returns-in_default-clause-memory g c = λ is.
+    byte_read (g.R.Read.remaining c.args.reader.now) (g.R.Read.remaining c.loop-reader.reader) (g.R.Read.remaining c.next_of.new.reader) c.loop-reader.line.items c.in-Byte.byte
+    c.loop-reader.invariant.consumed (c.next_of.ensures.byte c.in-Byte.byte c.in-Byte.is) c.loop-reader.invariant.one_line c.in-Byte.byte-test.1

@@ -1,7 +1,7 @@
 use Rattle.std.proofs.lemmas.Result.{err_from_is_err_and}
 use Rattle.std.proofs.Common.{◌≡◌, ◌∙◌, ◌+◌, true, false, refl, ap, arith}
 use Rattle.std.specs.Prelude.{Ok}
-use Rattle.node.proofs.ServeLemmas.{serves_end, serves_more, serves_none, stops_at, stops_counting}
+use Rattle.node.proofs.ServeLemmas.{serves_end, serves_more, serves_none, stops_at, stops_counting, wants_at}
 use Rattle.node.proofs.serve.serve_commands.Goals as goal
 
 pub loop-i-init : goal.loop-i-init
@@ -50,3 +50,11 @@ returns-clause-stopped g c = λ some.
     stops_counting c.args.graph.now c.args.session.now.part c.loop-i.i (g.R.Read.remaining c.args.reader.now) (g.R.Read.remaining c.loop-i.reader)
     c.args.session.now c.loop-i.session (g.W.Write.contents c.args.writer.now) (g.W.Write.contents c.loop-i.writer)
     (omega (arith, c.loop-i-test.false)) c.loop-i.invariant.some
+
+pub returns-in_err-more-clause-wanting : goal.returns-in_err-more-clause-wanting
+returns-in_err-more-clause-wanting g c =
+    let p = err_from_is_err_and c.from_residual.result c.from_residual.ensures.1 in
+    rw (p.1, p.2) (wants_at c.args.graph.now c.loop-i.i (c.loop-i.i + 1) _
+    (g.R.Read.remaining c.args.reader.now) (g.R.Read.remaining c.loop-i.reader) (g.R.Read.remaining c.serve_one.new.reader)
+    c.args.session.now c.loop-i.session (g.W.Write.contents c.args.writer.now) (g.W.Write.contents c.loop-i.writer)
+    c.loop-i.invariant.some c.loop-i.invariant.part c.in_err-more.ensures.stopped)

@@ -32,3 +32,7 @@ returns-clause-unread g c = λ is. absurd (c.serve_part-served.ensures.refused _
 
 pub returns-clause-counted : goal.returns-clause-counted
 returns-clause-counted g c = λ other none. c.serve_part-served.ensures.counted other ∙ c.in_ok-graph.ensures.counted (λ e. absurd (cc))
+
+pub returns-clause-wanting : goal.returns-clause-wanting
+returns-clause-wanting g c =
+    c.serve_part-served.ensures.wanting (settings_in c.args.options.now) c.args.options.now.counted (g.R.Read.remaining c.args.reader.now) c.in_ok-graph.ensures.read

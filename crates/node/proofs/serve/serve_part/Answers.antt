@@ -1,6 +1,6 @@
 use Rattle.node.specs.NoJob.{IsNoStart}
 use Rattle.node.proofs.JobLemmas.{told_job}
-use Rattle.node.proofs.ServeLemmas.{node_stops, serves_node}
+use Rattle.node.proofs.ServeLemmas.{node_stops, node_wants, serves_node}
 use Rattle.node.proofs.serve.serve_part.Goals as goal
 
 pub returns-in-Ok-clause-served : goal.returns-in-Ok-clause-served
@@ -22,3 +22,9 @@ returns-in-Err-clause-stopped g c = λ s counted left read.
 pub returns-in_err-session-clause-refused : goal.returns-in_err-session-clause-refused
 returns-in_err-session-clause-refused g c =
     told_job c.from_residual.result _ (IsNoStart c.args.plan.now c.args.part) c.from_residual.ensures.1 c.in_err-session.ensures.refused
+
+pub returns-in-Err-clause-wanting : goal.returns-in-Err-clause-wanting
+returns-in-Err-clause-wanting g c = λ s counted left read is.
+    node_wants s counted c.args.part c.args.graph.now c.args.plan.now
+    left (g.R.Read.remaining c.args.reader.now) (g.R.Read.remaining c.serve_commands-served.new.reader)
+    c.in_ok-session.session read c.in_ok-session.ensures.part c.in_ok-session.ensures.start (c.serve_commands-served.ensures.wanting (cc))

@@ -18,6 +18,9 @@ pub returns-clause-spells : goal.returns-clause-spells
 returns-clause-spells c =
     IfOk-weaker c.read_checkpoint.result _ _ (λ v spells. spells c.args.bytes.now (ap Some c.new-reader.ensures.left)) c.read_checkpoint.ensures.spelling
 
+pub returns-clause-front : goal.returns-clause-front
+returns-clause-front c = c.read_checkpoint.ensures.front c.args.bytes.now (ap Some c.new-reader.ensures.left)
+
 pub returns-clause-whole : goal.returns-clause-whole
 returns-clause-whole c =
     checkpoint_told (arc_value c.args.part) c.args.bytes.now c.read_checkpoint.result c.read_checkpoint.ensures.part c.read_checkpoint.ensures.keepable

@@ -1,10 +1,10 @@
-use Rattle.std.proofs.Common.{◌∙◌}
+use Rattle.std.proofs.Common.{◌∙◌, sym}
 use Rattle.std.specs.Prelude.{Err, Ok}
-use Rattle.std.proofs.lemmas.Result.{IfOk-weaker}
+use Rattle.std.proofs.lemmas.Result.{IfErr-weaker, IfOk-weaker}
 use Rattle.ball_model.specs.Batches.{true_batch}
 use Rattle.node.proofs.SessionLemmas.{delivered_read, read_true, read_wants}
 use Rattle.std.specs.Arc.{arc_value}
-use Rattle.node.proofs.SessionLemmas.{spelled_as, spelled_not}
+use Rattle.node.proofs.SessionLemmas.{spelled_as, spelled_not, spelled_ok, spelled_wants}
 use Rattle.batches.specs.Reading.{batch_at}
 use Rattle.node.proofs.session.read_batch.Goals as goal
 
@@ -27,3 +27,10 @@ returns-in-Err-clause-named c = spelled_not c.in-Err.error (batch_at c.args.plan
 pub returns-in-Ok-clause-spells : goal.returns-in-Ok-clause-spells
 returns-in-Ok-clause-spells c =
     IfOk-weaker c.shared.result _ _ (λ b is. spelled_as c.in-Ok.batch (arc_value b) (batch_at c.args.plan.now c.args.bytes.now) c.in-Ok.ensures.exact is) c.shared.ensures.given
+
+pub returns-in-Err-clause-last : goal.returns-in-Err-clause-last
+returns-in-Err-clause-last c = spelled_wants c.in-Err.error (batch_at c.args.plan.now c.args.bytes.now) c.in-Err.ensures.exact
+
+pub returns-in-Ok-clause-last : goal.returns-in-Ok-clause-last
+returns-in-Ok-clause-last c =
+    IfErr-weaker c.shared.result _ _ (λ e wants is. spelled_ok c.in-Ok.batch (batch_at c.args.plan.now c.args.bytes.now) (sym c.in-Ok.ensures.exact)) c.shared.ensures.memory

@@ -15,6 +15,7 @@ use Rattle.ball_model.specs.Batches.{BatchValue}
 use Rattle.ball_model.specs.Content.{is_new}
 use Rattle.replica.specs.Change.{take_answer}
 use Rattle.node.specs.declared.session.Reply.TheVariants as reply
+use Rattle.std.proofs.lemmas.Result.{on_err_weaker}
 use Rattle.node.proofs.session.Session.deliver.Goals as goal
 
 pub returns-in-Ok-clause-turned : goal.returns-in-Ok-clause-turned
@@ -71,3 +72,8 @@ returns-in-Err-clause-brought c = λ b is.
     let plan : c.plan.result.now ≡ c.args.self.now.part.plan = c.plan.ensures ∙ ap (λ (s : State). s.part.plan) c.self.view_is in
     no_other_said b c.in-Err.error (batch_at c.plan.result.now c.args.bytes.now) c.no_batch.result _ c.no_batch.ensures.other c.in-Err.ensures.named
     (ap (λ (q : PlanValue). batch_at q c.args.bytes.now) plan ∙ is)
+
+pub returns-in-Err-clause-spelled : goal.returns-in-Err-clause-spelled
+returns-in-Err-clause-spelled c =
+    let plan : c.plan.result.now ≡ c.args.self.now.part.plan = c.plan.ensures ∙ ap (λ (s : State). s.part.plan) c.self.view_is in
+    on_err_weaker c.no_batch.result (λ wants. subst (λ (q : PlanValue). IsOk (batch_at q c.args.bytes.now)) plan (c.in-Err.ensures.last wants)) c.no_batch.ensures.only

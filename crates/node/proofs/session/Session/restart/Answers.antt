@@ -7,6 +7,7 @@ use Rattle.ball_model.specs.State.{State}
 use Rattle.checkpoint.specs.Reading.{IsSpelling}
 use Rattle.node.specs.declared.session.Reply.TheVariants as reply
 use Rattle.node.proofs.SessionLemmas.{never_answered, says_no_checkpoint}
+use Rattle.std.proofs.lemmas.Result.{on_err_weaker}
 use Rattle.node.proofs.session.Session.restart.Goals as goal
 
 pub returns-in-Ok-clause-anew : goal.returns-in-Ok-clause-anew
@@ -46,3 +47,6 @@ returns-in-Err-clause-spelled c = λ some. never_answered c.in-Err.error c.no_ch
 
 pub returns-in-Err-clause-answer : goal.returns-in-Err-clause-answer
 returns-in-Err-clause-answer c = never_answered c.in-Err.error c.no_checkpoint.result _ c.no_checkpoint.ensures.some
+
+pub returns-in-Err-clause-front : goal.returns-in-Err-clause-front
+returns-in-Err-clause-front c = λ some. on_err_weaker c.no_checkpoint.result (c.in-Err.ensures.front some) c.no_checkpoint.ensures.only
