@@ -12,6 +12,7 @@ import sys
 def read(path):
     """The neighbourhood function N(0), N(1), .. and the harmonic centralities of a report, greatest first."""
     totals, harmonic = [], []
+    csv.field_size_limit(sys.maxsize)  # labels have no greatest length
     try:
         with open(path, newline="", encoding="utf-8", errors="surrogateescape") as report:
             for row in csv.reader(report):

@@ -45,6 +45,7 @@ class Vertex:
 def read(path):
     """N(0), N(1), .. and the vertices of a report. Where it is none, or cannot be read, this is told, and all ends."""
     totals, vertices = [], []
+    csv.field_size_limit(sys.maxsize)  # labels have no greatest length
     try:
         with open(path, newline="", encoding="utf-8", errors="surrogateescape") as report:
             for row in csv.reader(report):

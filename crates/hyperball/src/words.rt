@@ -78,6 +78,9 @@ Memory and accuracy:
   --estimate corrected is said: take it for figures that are to be near the true ones, and raw for
   those that HyperLogLog's formula gives.
 
+Cores:
+  A run has a thread for each partition. The figures of the report are made by all cores.
+
 Figures:
   Harmonic centrality 0.000000 with Lin's index 1.000000: nobody else that counts gets there.
   Closeness is 1 divided by the sum of distances: 0.000000 where that sum is above a million.

@@ -2,11 +2,13 @@
 
 ghost use Rattle.std.specs.Prelude.{◌≡◌, ◌≢◌, ℕ, ◌+◌, ◌<◌, ◌≤◌, length, List, ◌++◌, ◌∷◌, []};
 ghost use Rattle.std.specs.Prelude.{Option, Some, Err, IfErr, IfOk, OnErr, OnOk};
+ghost use Rattle.std.specs.Arc.{arc_value};
 ghost use Rattle.std.specs.Io.KnownBytes.{Consumes, IsAtEnd, Keeps};
 ghost use Rattle.ball_model.specs.Job.{Job, IsJob, job_of, part_of};
 ghost use Rattle.ball_model.specs.State.{State};
 ghost use Rattle.ball_model.specs.Streams.{Rises};
 ghost use Rattle.checkpoint.specs.Reading.{most_bytes};
+ghost use Rattle.edgelist.specs.Feeding.{feeds_of};
 ghost use Rattle.node.specs.Gathering.{Gathers, GathersJob, ReadsAll, ReadsCheckpoint, part_line};
 ghost use Rattle.node.specs.Gathering.{part_text};
 ghost use Rattle.node.specs.NoReport.{HasNoReport, IsNoReplica, IsNoReport, WritesFront};
@@ -17,18 +19,19 @@ ghost use Rattle.node.specs.declared.error.JobError.TheVariants as no_job;
 use crate::command::size;
 use crate::error::GatherError;
 use crate::input::{Body, Line, read_body, read_line};
-use crate::job::{JobOptions, part_of, read_job};
+use crate::job::{JobOptions, read_job};
 use crate::limits::longest_checkpoint;
 use crate::section::{Next, next_of};
 use crate::session::read_back;
 use crate::watched::show_turn;
 use ball_model::{CountedRead, CountedWrite, Plan};
 use checkpoint::KeepError;
-use edgelist::{Graph, Part};
+use edgelist::{Feeds, Graph, Part};
 use replica::Replica;
 use report::{report_ready, write_report};
 use std::alloc::{AllocError, AllocGlobal, Global};
 use std::hash::RandomState;
+use std::sync::Arc;
 use std::thread::Threads;
 use world::script::cut;
 use world::watch::Watch;
@@ -120,16 +123,36 @@ fn checkpoint_fault(p: u16, error: KeepError) -> GatherError
     }
 }
 
+// A partition's part, by the masks of all vertices.
+fn part_by(
+    alloc: Global,
+    graph: &Graph,
+    plan: &Plan,
+    p: u16,
+    feeds: &Feeds,
+) -> Result<Arc<Part>, AllocError>
+    requires job { IsJob (job_of graph.now.graph plan.now) }
+    requires below { p < plan.now.parts }
+    requires feeds { feeds.now ≡ feeds_of graph.now.graph plan.now.parts }
+    ensures { IfOk result (λ part. arc_value part ≡ part_of (job_of graph.now.graph plan.now) p) }
+{
+    let part = graph.part_with(alloc, plan, p, feeds)?;
+    let part = Arc::new(alloc, part)?;
+    Ok(part)
+}
+
 // The replica of the checkpoint of partition `p` that follows.
 fn read_replica<R: CountedRead>(
     alloc: Global,
     graph: &Graph,
     plan: &Plan,
     p: u16,
+    feeds: &Feeds,
     reader: &mut R,
 ) -> Result<Replica, GatherError>
     requires job { IsJob (job_of graph.now.graph plan.now) }
     requires below { p < plan.now.parts }
+    requires feeds { feeds.now ≡ feeds_of graph.now.graph plan.now.parts }
     ensures read { IfOk result (ReadsCheckpoint (job_of graph.now.graph plan.now) p
         (R.remaining reader.old) (R.remaining reader.new)) }
     ensures refused { IfErr result (IsNoReplica (part_of (job_of graph.now.graph plan.now) p)
@@ -139,7 +162,7 @@ fn read_replica<R: CountedRead>(
     ensures counted { result ≢ Err GatherError.Read →
         R.failed_calls reader.new ≡ R.failed_calls reader.old }
 {
-    let part = part_of(alloc, graph, plan, p)?;
+    let part = part_by(alloc, graph, plan, p, feeds)?;
     let mut bytes = Vec::new(alloc);
     read_bytes(reader, &part, &mut bytes)?;
     match read_back(alloc, part, &bytes) {
@@ -162,12 +185,14 @@ fn add_replica<R: CountedRead, V: Watch>(
     graph: &Graph,
     plan: &Plan,
     p: u16,
+    feeds: &Feeds,
     watch: &V,
     reader: &mut R,
     replicas: &mut Vec<Replica>,
 ) -> Result<(), GatherError>
     requires job { IsJob (job_of graph.now.graph plan.now) }
     requires below { p < plan.now.parts }
+    requires feeds { feeds.now ≡ feeds_of graph.now.graph plan.now.parts }
     ensures read { (left : Option (List ℕ)) → ReadsAll (job_of graph.now.graph plan.now) p
         left (R.remaining reader.old) replicas.old.items →
         OnOk result (ReadsAll (job_of graph.now.graph plan.now) (p + 1)
@@ -181,7 +206,7 @@ fn add_replica<R: CountedRead, V: Watch>(
     ensures counted { result ≢ Err GatherError.Read →
         R.failed_calls reader.new ≡ R.failed_calls reader.old }
 {
-    let replica = read_replica(alloc, graph, plan, p, reader)?;
+    let replica = read_replica(alloc, graph, plan, p, feeds, reader)?;
     show_turn(&replica, watch);
     put(replicas, replica)?;
     Ok(())
@@ -208,7 +233,7 @@ fn read_end<R: CountedRead>(reader: &mut R) -> Result<(), GatherError>
 }
 
 // Reads the replicas of the checkpoints of all partitions into `replicas`, which is empty, up to the end of the input. A
-// watch is told of each.
+// watch is told of each. The edges are walked over once for the masks of all parts.
 fn read_replicas<R: CountedRead, V: Watch>(
     alloc: Global,
     graph: &Graph,
@@ -230,8 +255,9 @@ fn read_replicas<R: CountedRead, V: Watch>(
     ensures counted { result ≢ Err GatherError.Read →
         R.failed_calls reader.new ≡ R.failed_calls reader.old }
 {
+    let feeds = graph.feeds(alloc, plan)?;
     for p in 0..plan.parts() {
-        add_replica(alloc, graph, plan, p, watch, reader, replicas)?;
+        add_replica(alloc, graph, plan, p, &feeds, watch, reader, replicas)?;
     }
     read_end(reader)
 }

@@ -24,7 +24,6 @@ ghost use Rattle.node.specs.Refusals.{SaysOfCheckpoint};
 ghost use Rattle.node.specs.Turns.{GivesOrWants, Holds, IsBrought, SaysMerged, TurnsTo};
 ghost use Rattle.node.specs.declared.session.Reply.TheVariants as reply;
 
-use crate::front::check_front;
 use ball_model::world::Answer;
 use ball_model::{CloseError, MemReader, MergeError, Plan, TakeError, Taken};
 use batches::{Batch, BatchError};

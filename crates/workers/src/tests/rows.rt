@@ -187,7 +187,7 @@ static DELIMITED: [(Asked<'static>, &[u8]); 2] = [
     ),
     (
         Asked {
-            input: b"a b\nb c\n",
+            input: b"a b\nb c",
             delimiter: Delimiter::Space,
             ..USUAL
         },

@@ -30,6 +30,7 @@ pub struct Asked<'a> {
     pub limit: u32,
     pub entries: u32,
     pub keep: u32,
+    pub patience: u32,
     pub lose: &'a [(NodeId, u32)],
     pub restart: &'a [(NodeId, u32)],
 }
@@ -45,6 +46,8 @@ pub const USUAL: Asked<'static> = Asked {
     limit: 4096,
     entries: 100000,
     keep: 1,
+    // who waits out its patience for a partition that is lost ends in no test's time
+    patience: u32::MAX,
     lose: &[],
     restart: &[],
 };
@@ -63,8 +66,7 @@ pub fn options_of(alloc: Global, asked: &Asked) -> Option<RunOptions> {
         replicas: asked.replicas,
         entries: asked.entries,
         keep: asked.keep,
-        // who waits out its patience for a partition that is lost ends in no test's time
-        patience: u32::MAX,
+        patience: asked.patience,
         lose,
         restart,
     })
@@ -337,7 +339,11 @@ impl Gate for Rendezvous {
 /// No node gives up, and the report is written.
 fn meets<R: AllocGlobal + RandomSource + Threads + Wait + Sync>(rt: &R, parts: u16) -> bool {
     let gate = Rendezvous::new(u32::from(parts));
-    let asked = Asked { parts, ..USUAL };
+    let asked = Asked {
+        parts,
+        patience: 10_000_000,
+        ..USUAL
+    };
     ends_so(rt, &asked, &gate, Ok(()), REPORT) && gate.was_met()
 }
 

@@ -28,7 +28,7 @@ add_replica-requires-clause-below g c = omega (arith, c.loop-p-test.true, c.loop
 
 pub returns-in_err-add_replica-clause-refused : goal.returns-in_err-add_replica-clause-refused
 returns-in_err-add_replica-clause-refused g c =
-    let p = err_from_is_err_and c.from_residual.result c.from_residual.ensures.1 in
+    let p = err_from_is_err_and c.from_residual-in_err-add_replica.result c.from_residual-in_err-add_replica.ensures.1 in
     rw (p.1, p.2) (c.in_err-add_replica.ensures.refused (g.R.Read.remaining c.args.reader.now) c.loop-p.invariant.read)
 
 pub returns-clause-read : goal.returns-clause-read
