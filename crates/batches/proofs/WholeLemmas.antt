@@ -10,7 +10,7 @@ use Rattle.batches.specs.declared.error.BatchError.{BatchError}
 use Rattle.batches.specs.declared.error.BatchError.TheVariants as errors
 use Rattle.batches.specs.declared.header.Header.{Header}
 use Rattle.batches.specs.Kept.{first_rows, paired_rows, IsKept}
-use Rattle.batches.specs.Reading.{◌>>=◌, magic, head_at, head_bytes, check_head, check_length, check_rows, check_at, batch_from, batch_at, GivesOrMemory, AgreesButJob}
+use Rattle.batches.specs.Reading.{◌>>=◌, magic, head_at, head_bytes, check_head, check_length, check_rows, check_at, batch_from, batch_at, GivesBatchOrMemory, AgreesButJob}
 use Rattle.batches.proofs.HeadLemmas.{IsBytes, IsBytes-drop, Fits, head_takes, head_again, head_len, head_after, same_head, job_len}
 use Rattle.batches.proofs.RowLemmas.{rows_take, rows_again, rows_len, flat_len, AreWide}
 use Rattle.batches.proofs.CheckLemmas.{bind_ok, guard_ok, ok_is, IsHead, head_checked, head_passes, length_checked, length_passes, AreRows, rows_all, rows_ascend, rows_are, rows_even, rows_checked, rows_pass, IsFault, AsksNone, err_asks-none, ok_asks-none, guard_asks-none, bind_asks-none, head_asks-none, length_asks-none, rows_ask-none}
@@ -154,7 +154,7 @@ batch_takes plan bytes b e =
     (one.0, checked_takes plan bytes one.0 one.1, ok_is _ b one.2)
 
 -- a refusal is due, which is no want of memory
-pub gives_err : (e : BatchError) (due : Result BatchValue BatchError) → IsFault e → Err e ≡ due → GivesOrMemory (Err e) due
+pub gives_err : (e : BatchError) (due : Result BatchValue BatchError) → IsFault e → Err e ≡ due → GivesBatchOrMemory (Err e) due
 gives_err errors.Memory due fault same = absurd fault
 gives_err errors.Short due fault same = same
 gives_err errors.Magic due fault same = same
@@ -178,7 +178,7 @@ checked_asks-none plan bytes =
     bind_asks-none (check_rows plan g.name.source 0 rows) _ (rows_ask-none plan g.name.source 0 rows) (λ fine. ok_asks-none g))))
 
 -- what the checks refuse is not read
-pub refused : (plan : PlanValue) (bytes : List ℕ) (e : BatchError) → Err e ≡ check_at plan bytes → GivesOrMemory (Err e) (batch_at plan bytes)
+pub refused : (plan : PlanValue) (bytes : List ℕ) (e : BatchError) → Err e ≡ check_at plan bytes → GivesBatchOrMemory (Err e) (batch_at plan bytes)
 refused plan bytes e same =
     gives_err e (batch_at plan bytes) (err_asks-none Header e (subst (λ (r : Result Header BatchError). AsksNone r) (sym same) (checked_asks-none plan bytes))) (rw (← same) refl)
 
@@ -187,8 +187,8 @@ pub read_is : (plan : PlanValue) (bytes : List ℕ) (h : Header) → check_at pl
 read_is plan bytes h same = rw same refl
 
 -- the answer that is due, at a batch with these bytes
-pub only_from : (plan : PlanValue) (bytes : List ℕ) (r : Result BatchValue BatchError) → GivesOrMemory r (batch_at plan bytes) → (b : BatchValue) → IsBatch b → AgreesButJob plan b.plan → bytes ≡ batch_bytes b → GivesOrMemory r (Ok b)
-only_from plan bytes r gives b is agrees e = subst (λ (due : Result BatchValue BatchError). GivesOrMemory r due) (ap (batch_at plan) e ∙ spelling_is_read plan b is agrees) gives
+pub only_from : (plan : PlanValue) (bytes : List ℕ) (r : Result BatchValue BatchError) → GivesBatchOrMemory r (batch_at plan bytes) → (b : BatchValue) → IsBatch b → AgreesButJob plan b.plan → bytes ≡ batch_bytes b → GivesBatchOrMemory r (Ok b)
+only_from plan bytes r gives b is agrees e = subst (λ (due : Result BatchValue BatchError). GivesBatchOrMemory r due) (ap (batch_at plan) e ∙ spelling_is_read plan b is agrees) gives
 
 -- a counter has at most 1024 registers
 pub width_small : (plan : PlanValue) → IsPlan plan → 2 ^ plan.log2m ≤ 1024
@@ -255,5 +255,5 @@ batch_length b is =
     ap length (batch_bytes-head b) ∙ length-append head body ∙ omega (arith, first, rest)
 
 -- where the checks refuse, no batch has these bytes
-pub only_refused : (plan : PlanValue) (bytes : List ℕ) (e : BatchError) → Err e ≡ check_at plan bytes → (b : BatchValue) → IsBatch b → AgreesButJob plan b.plan → bytes ≡ batch_bytes b → GivesOrMemory (Err e) (Ok b)
+pub only_refused : (plan : PlanValue) (bytes : List ℕ) (e : BatchError) → Err e ≡ check_at plan bytes → (b : BatchValue) → IsBatch b → AgreesButJob plan b.plan → bytes ≡ batch_bytes b → GivesBatchOrMemory (Err e) (Ok b)
 only_refused plan bytes e same = only_from plan bytes (Err e) (refused plan bytes e same)

@@ -10,14 +10,14 @@ use Rattle.batches.specs.declared.rows.TheConstants.{ID_LEN}
 use Rattle.batches.specs.Reading.{batch_at, AgreesButJob}
 
 -- the spelling of a batch is read as that batch, under its plan whatever the plan's digest
-abbrev pub SpellingIsRead : Type 0
-SpellingIsRead = (plan : PlanValue) (b : BatchValue) → IsBatch b → AgreesButJob plan b.plan →
+abbrev pub BatchSpellingIsRead : Type 0
+BatchSpellingIsRead = (plan : PlanValue) (b : BatchValue) → IsBatch b → AgreesButJob plan b.plan →
     batch_at plan (batch_bytes b) ≡ Ok b
 
 -- bytes that are read as a batch are its spelling: no batch has two
-abbrev pub SpellingIsOne : Type 0
-SpellingIsOne = (plan : PlanValue) (bytes : List ℕ) (b : BatchValue) → All (λ x. x < 256) bytes →
-    batch_at plan bytes ≡ Ok b → bytes ≡ batch_bytes b
+abbrev pub BatchSpellingIsOne : Type 0
+BatchSpellingIsOne = (plan : PlanValue) (bytes : List ℕ) (b : BatchValue) →
+    All (λ x. x < 256) bytes → batch_at plan bytes ≡ Ok b → bytes ≡ batch_bytes b
 
 -- no bytes spell two batches of a plan
 abbrev pub BatchIsOne : Type 0

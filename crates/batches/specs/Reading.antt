@@ -108,10 +108,10 @@ batch_at plan bytes = do
   Ok (batch_from plan head (first_rows (2 ^ plan.log2m) head.count (drop HEADER_LEN bytes)))
 
 -- the answer is the one that is due, or, where that is a batch, memory ran out
-abbrev pub GivesOrMemory : Result BatchValue BatchError → Result BatchValue BatchError → Type 0
-GivesOrMemory (Ok b) due = Ok b ≡ due
-GivesOrMemory (Err errors.Memory) due = IsOk due
-GivesOrMemory (Err e) due = Err e ≡ due
+abbrev pub GivesBatchOrMemory : Result BatchValue BatchError → Result BatchValue BatchError → Type 0
+GivesBatchOrMemory (Ok b) due = Ok b ≡ due
+GivesBatchOrMemory (Err errors.Memory) due = IsOk due
+GivesBatchOrMemory (Err e) due = Err e ≡ due
 
 -- two plans are the same but for the job digest
 abbrev pub AgreesButJob : PlanValue → PlanValue → Type 0

@@ -9,7 +9,7 @@ ghost use Rattle.ball_model.specs.PlanValue.{part_size};
 ghost use Rattle.ball_model.specs.Batches.{BatchValue, IsRow, IsBatch, ids_of, registers_of};
 ghost use Rattle.ball_model.specs.Batches.{find_row, header_bytes, batch_bytes};
 ghost use Rattle.batches.specs.Kept.{first_rows, rows_at};
-ghost use Rattle.batches.specs.Reading.{check_at, batch_from, batch_at, GivesOrMemory};
+ghost use Rattle.batches.specs.Reading.{check_at, batch_from, batch_at, GivesBatchOrMemory};
 ghost use Rattle.batches.specs.Reading.{AgreesButJob};
 
 use crate::error::BatchError;
@@ -263,9 +263,9 @@ impl Batch {
         ensures batch { IfOk result (λ b. IsBatch b) }
         // Each batch of the plan with these bytes is what is read.
         ensures only { (b : BatchValue) → IsBatch b → AgreesButJob plan.now b.plan
-            → bytes.now ≡ batch_bytes b → GivesOrMemory result (Ok b) }
+            → bytes.now ≡ batch_bytes b → GivesBatchOrMemory result (Ok b) }
         // Which refusal it is; memory is wanting only where bytes and plan give a batch.
-        ensures exact { GivesOrMemory result (batch_at plan.now bytes.now) }
+        ensures exact { GivesBatchOrMemory result (batch_at plan.now bytes.now) }
     {
         let header = check(plan, bytes)?;
         Ok(read(alloc, plan, &header, bytes)?)

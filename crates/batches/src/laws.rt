@@ -1,16 +1,17 @@
 //! Laws of batches and of their bytes: the contract of each function is the law, and its body is empty.
 
-ghost use Rattle.batches.specs.Laws.{SpellingIsRead, SpellingIsOne, BatchIsOne, SpellingHasLength};
+ghost use Rattle.batches.specs.Laws.{BatchSpellingIsRead, BatchSpellingIsOne, BatchIsOne};
+ghost use Rattle.batches.specs.Laws.{SpellingHasLength};
 ghost use Rattle.batches.specs.Laws.{TrueIsBatch};
 
 /// Reading the bytes of a batch gives that batch back.
 pub fn spelling_is_read()
-    ensures { SpellingIsRead }
+    ensures { BatchSpellingIsRead }
 {}
 
 /// No batch has two spellings: bytes that are read as a batch are its bytes.
 pub fn spelling_is_one()
-    ensures { SpellingIsOne }
+    ensures { BatchSpellingIsOne }
 {}
 
 /// No bytes spell two batches of a plan.

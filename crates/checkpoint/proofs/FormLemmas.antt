@@ -25,7 +25,7 @@ use Rattle.replica.proofs.RebuiltLemmas.{kept_are}
 use Rattle.checkpoint.specs.declared.header.Header.{Header}
 use Rattle.checkpoint.specs.declared.error.KeepError.{KeepError}
 use Rattle.checkpoint.specs.Parts.{heard_bytes, count_bytes}
-use Rattle.checkpoint.specs.Reading.{◌>>=◌, Form, needs, followed, is_batch_length, told_batch, batch_form, batches_form, told_batches, early_form, fixed_length, held_form, body_form, told_body, content_form, sealed_form, seal_form, head_at, check_head}
+use Rattle.checkpoint.specs.Reading.{◌>>=◌, Form, needs, followed, is_batch_length, told_batch, batch_form, batches_form, told_batches, early_form, fixed_length, held_form, body_form, told_body, content_form, sealed_form, seal_form, checkpoint_head_at, check_checkpoint_head}
 use Rattle.checkpoint.specs.Told.{IsOfPlan}
 use Rattle.checkpoint.proofs.LawLemmas.{early_are, few_vertices}
 use Rattle.checkpoint.proofs.LengthLemmas.{front_long, table_long, heard_long, accumulated_long, batch_few}
@@ -146,8 +146,8 @@ job_at : (version : ℕ) (v : State) → length v.part.plan.job ≡ 32 → take 
 unfolding front_bytes
 job_at version v long = take_all 32 v.part.plan.job (omega (arith, long))
 
-pub head_is_in : (version : ℕ) (v : State) → IsState v → head_at (front_bytes version v) ≡ head_in version v
-unfolding head_at front_bytes
+pub head_is_in : (version : ℕ) (v : State) → IsState v → checkpoint_head_at (front_bytes version v) ≡ head_in version v
+unfolding checkpoint_head_at front_bytes
 head_is_in version v s =
     let plan = v.part.plan in
     let few = few_vertices v s in
@@ -169,8 +169,8 @@ head_is_in version v s =
       job = job i;
     }
 
-pub head_passes : (version : ℕ) (v : State) → IsState v → ((version ≡ 1) ⊎ (version ≡ 2)) → check_head v.part (head_in version v) ≡ Ok tt
-unfolding check_head
+pub head_passes : (version : ℕ) (v : State) → IsState v → ((version ≡ 1) ⊎ (version ≡ 2)) → check_checkpoint_head v.part (head_in version v) ≡ Ok tt
+unfolding check_checkpoint_head
 head_passes version v s known =
     let plan = v.part.plan in
     rw (text_same plan.job, eq-eqb v.part.number v.part.number refl, eq-eqb plan.log2m plan.log2m refl, eq-eqb plan.parts plan.parts refl, eq-eqb plan.vertices plan.vertices refl, eq-eqb (length v.part.preds) (length v.part.preds) refl, le-ltb plan.limit v.superstep s.superstep)

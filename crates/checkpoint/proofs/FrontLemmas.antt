@@ -13,7 +13,7 @@ use Rattle.batches.proofs.HeadLemmas.{field_2, field_4}
 use Rattle.checkpoint.specs.declared.header.Header.{Header}
 use Rattle.checkpoint.specs.declared.error.KeepError.{KeepError}
 use Rattle.checkpoint.specs.declared.error.KeepError.TheVariants as errors
-use Rattle.checkpoint.specs.Reading.{◌>>=◌, body_form, check_head, content_form, followed, head_at, needs, told_body}
+use Rattle.checkpoint.specs.Reading.{◌>>=◌, body_form, check_checkpoint_head, content_form, followed, checkpoint_head_at, needs, told_body}
 use Rattle.checkpoint.proofs.ReaderLemmas.{followed-err, needs-err, needs-ok, same_bytes}
 
 -- ---- checks that pass
@@ -51,8 +51,8 @@ head_then h rest =
     ++ (to_be_bytes w32 h.size ++ (to_be_bytes w32 h.superstep ++ (h.job ++ rest)))))))
 
 -- what is read is spelled so
-pub head_is : (bytes : List ℕ) → 54 ≤ length bytes → ((i : ℕ) → get_or bytes i 0 < 256) → bytes ≡ head_then (head_at bytes) (drop 54 bytes)
-unfolding head_at
+pub head_is : (bytes : List ℕ) → 54 ≤ length bytes → ((i : ℕ) → get_or bytes i 0 < 256) → bytes ≡ head_then (checkpoint_head_at bytes) (drop 54 bytes)
+unfolding checkpoint_head_at
 head_is bytes long fits =
     let e1 = split 22 32 bytes in
     let e2 = four 18 bytes (omega arith) fits ∙ ap (λ (t : List ℕ). to_be_bytes w32 (field w32 18 bytes) ++ t) e1 in
@@ -74,8 +74,8 @@ record IsHead (part : PartValue) (h : Header) : Type 0 where
   vertices : h.vertices ≡ part.plan.vertices
   size : h.size ≡ length part.preds
 
-head_passed : (part : PartValue) (h : Header) → check_head part h ≡ Ok tt → IsHead part h
-unfolding check_head
+head_passed : (part : PartValue) (h : Header) → check_checkpoint_head part h ≡ Ok tt → IsHead part h
+unfolding check_checkpoint_head
 head_passed part h e =
     let a = goes_on _ errors.Magic _ tt e in
     let b = goes_on _ errors.Version _ tt a.1 in
@@ -132,12 +132,12 @@ front_len n v job =
     omega (arith, flat, long, length-append (front_bytes n v) [], length-append v.part.plan.job [], job)
 
 -- fixed fields that pass are those of a replica of the part
-pub front_is : (n : ℕ) (v : State) (bytes : List ℕ) → ((i : ℕ) → get_or bytes i 0 < 256) → 54 ≤ length bytes → check_head v.part (head_at bytes) ≡ Ok tt
-    → (head_at bytes).version ≡ n → (head_at bytes).superstep ≡ v.superstep → length v.part.plan.job ≡ 32 → take 54 bytes ≡ front_bytes n v
+pub front_is : (n : ℕ) (v : State) (bytes : List ℕ) → ((i : ℕ) → get_or bytes i 0 < 256) → 54 ≤ length bytes → check_checkpoint_head v.part (checkpoint_head_at bytes) ≡ Ok tt
+    → (checkpoint_head_at bytes).version ≡ n → (checkpoint_head_at bytes).superstep ≡ v.superstep → length v.part.plan.job ≡ 32 → take 54 bytes ≡ front_bytes n v
 front_is n v bytes fits long passed version superstep job =
     let rest = drop 54 bytes in
     let whole : bytes ≡ front_bytes n v ++ rest =
-    head_is bytes long fits ∙ same_head n v (head_at bytes) rest (head_passed v.part (head_at bytes) passed) version superstep ∙ sym (front_then n v rest) in
+    head_is bytes long fits ∙ same_head n v (checkpoint_head_at bytes) rest (head_passed v.part (checkpoint_head_at bytes) passed) version superstep ∙ sym (front_then n v rest) in
     ap (take 54) whole ∙ take_at (front_bytes n v) rest 54 (front_len n v job)
 
 either : (a b : Bool) → (not a && not b) ≡ false → (a ≡ true) ⊎ (b ≡ true)
@@ -145,8 +145,8 @@ either true b e = inl refl
 either false b e = inr (holds b e)
 
 -- fixed fields that pass are of one of the two versions
-pub one_or_two : (part : PartValue) (h : Header) → check_head part h ≡ Ok tt → (h.version ≡ 1) ⊎ (h.version ≡ 2)
-unfolding check_head
+pub one_or_two : (part : PartValue) (h : Header) → check_checkpoint_head part h ≡ Ok tt → (h.version ≡ 1) ⊎ (h.version ≡ 2)
+unfolding check_checkpoint_head
 one_or_two part h e =
     let a = goes_on _ errors.Magic _ tt e in
     let b = goes_on _ errors.Version _ tt a.1 in
@@ -156,17 +156,17 @@ one_or_two part h e =
     ]
 
 -- ---- fixed fields that are refused
-told_bad : (part : PartValue) (piece rest : List ℕ) (e : KeepError) → check_head part (head_at piece) ≡ Err e → told_body part piece rest ≡ Err e
+told_bad : (part : PartValue) (piece rest : List ℕ) (e : KeepError) → check_checkpoint_head part (checkpoint_head_at piece) ≡ Err e → told_body part piece rest ≡ Err e
 unfolding told_body
-told_bad part piece rest e is = ap (λ (r : Result (Unit {0}) KeepError). r >>= λ fine. body_form part (head_at piece) rest) is
+told_bad part piece rest e is = ap (λ (r : Result (Unit {0}) KeepError). r >>= λ fine. body_form part (checkpoint_head_at piece) rest) is
 
-front_bad : (part : PartValue) (bytes : List ℕ) (e : KeepError) → 54 ≤ length bytes → check_head part (head_at (take 54 bytes)) ≡ Err e → content_form part bytes ≡ Err e
+front_bad : (part : PartValue) (bytes : List ℕ) (e : KeepError) → 54 ≤ length bytes → check_checkpoint_head part (checkpoint_head_at (take 54 bytes)) ≡ Err e → content_form part bytes ≡ Err e
 unfolding followed
 front_bad part bytes e long is = rw (needs-ok 54 bytes long, told_bad part (take 54 bytes) (drop 54 bytes) e is) refl
 
 pub front_short : (part : PartValue) (bytes : List ℕ) → length bytes < 54 → content_form part bytes ≡ Err errors.Short
 front_short part bytes few = followed-err (needs 54) (told_body part) bytes errors.Short (needs-err 54 bytes few)
 
-pub front_refused : (part : PartValue) (bytes : List ℕ) (r : Result (Unit {0}) KeepError) → 54 ≤ length bytes → r ≡ check_head part (head_at (take 54 bytes)) → IfErr r (λ e. content_form part bytes ≡ Err e)
+pub front_refused : (part : PartValue) (bytes : List ℕ) (r : Result (Unit {0}) KeepError) → 54 ≤ length bytes → r ≡ check_checkpoint_head part (checkpoint_head_at (take 54 bytes)) → IfErr r (λ e. content_form part bytes ≡ Err e)
 front_refused part bytes (Ok u) long is = tt
 front_refused part bytes (Err e) long is = front_bad part bytes e long (sym is)

@@ -25,7 +25,7 @@ use Rattle.checkpoint.specs.declared.header.Header.{Header}
 use Rattle.checkpoint.specs.declared.sizes.TheConstants.{DIGEST_LEN, HEADER_LEN}
 use Rattle.checkpoint.specs.declared.error.KeepError.{KeepError}
 use Rattle.checkpoint.specs.declared.error.KeepError.TheVariants as errors
-use Rattle.checkpoint.specs.Reading.{◌>>=◌, Form, needs, followed, is_batch_length, greatest_batch, told_batch, batch_form, batches_form, told_batches, early_form, fixed_length, most_after, most_body, most_early, allowed, allowed_content, TakesWithin, held_form, content_form, sealed_form, told_body, body_form, check_head, head_at, seal_form, TakesBytes, Grows, Fails, Passes, PassesSoFar, IsRead, IsOfBytes, IsOfBody, HasHead, OnOkOrMemory}
+use Rattle.checkpoint.specs.Reading.{◌>>=◌, Form, needs, followed, is_batch_length, greatest_batch, told_batch, batch_form, batches_form, told_batches, early_form, fixed_length, most_after, most_checkpoint_body, most_early, allowed, allowed_content, TakesWithin, held_form, content_form, sealed_form, told_body, body_form, check_checkpoint_head, checkpoint_head_at, seal_form, TakesBytes, Grows, Fails, Passes, PassesSoFar, IsRead, IsOfBytes, IsOfBody, HasHead, OnOkOrMemory}
 
 -- ---- calls that are sure
 after_then : (n m : ℕ) (a b c : Option ℕ) → AfterAtMost n a b → AfterAtMost m b c → AfterAtMost (n + m) a c
@@ -536,7 +536,7 @@ pub fixed-early : (part : PartValue) (h : Header) → (h.version == 1) ≡ false
 fixed-early part h is = rw is (omega arith)
 
 -- a checkpoint of the part at a later superstep may have more
-pub after-most : (part : PartValue) (h : Header) (t : ℕ) → h.superstep ≤ t → most_after part h ≤ most_body part t
+pub after-most : (part : PartValue) (h : Header) (t : ℕ) → h.superstep ≤ t → most_after part h ≤ most_checkpoint_body part t
 after-most part h t le = elim (cases_Bool (h.version == 1)) [
   | inl is ↦ rw is (omega (arith, le))
   | inr is ↦ rw is (omega (arith, le))
@@ -547,12 +547,12 @@ pub within-head : (part : PartValue) (old new : Option (List ℕ)) → TakesAtMo
 within-head part old new p = record { bytes = p.bytes; consumed = p.consumed; few = omega (arith, p.few) }
 
 -- the fixed fields, and then no more than they allow
-pub content-few : (part : PartValue) (h : Header) (head more : List ℕ) → length head ≡ HEADER_LEN → head_at head ≡ h → length more ≤ most_after part h → length (head ++ more) ≤ allowed_content part (head ++ more)
+pub content-few : (part : PartValue) (h : Header) (head more : List ℕ) → length head ≡ HEADER_LEN → checkpoint_head_at head ≡ h → length more ≤ most_after part h → length (head ++ more) ≤ allowed_content part (head ++ more)
 content-few part h head more len is few =
     let front : take HEADER_LEN (head ++ more) ≡ head = take-append-le HEADER_LEN head more (omega (arith, len)) ∙ take_all HEADER_LEN head (omega (arith, len)) in
     rw (front, is) (omega (arith, length-append head more, len, few))
 
-pub within-content : (part : PartValue) (h : Header) (a b c : Option (List ℕ)) (head : List ℕ) → length head ≡ HEADER_LEN → head_at head ≡ h → Consumes a b head → TakesAtMost (most_after part h) b c
+pub within-content : (part : PartValue) (h : Header) (a b c : Option (List ℕ)) (head : List ℕ) → length head ≡ HEADER_LEN → checkpoint_head_at head ≡ h → Consumes a b head → TakesAtMost (most_after part h) b c
     → TakesWithin (allowed_content part) a c
 within-content part h a b c head len is first p = record {
   bytes = head ++ p.bytes;
@@ -600,31 +600,31 @@ pub digest_same : (digest told text : List ℕ) → false ≡ not (bytes_eq dige
 digest_same digest told text e is = ap (bytes_eq digest) (sym is) ∙ flip_false (bytes_eq digest told) e
 
 -- ---- the whole
-pub told-body : (part : PartValue) (piece rest : List ℕ) (h : Header) → head_at piece ≡ h → check_head part h ≡ Ok tt → told_body part piece rest ≡ body_form part h rest
+pub told-body : (part : PartValue) (piece rest : List ℕ) (h : Header) → checkpoint_head_at piece ≡ h → check_checkpoint_head part h ≡ Ok tt → told_body part piece rest ≡ body_form part h rest
 unfolding told_body
 told-body part piece rest h is fine =
-    ap (λ (x : Header). check_head part x >>= λ _. body_form part x rest) is ∙ ap (λ (r : Result (Unit {0}) KeepError). r >>= λ _. body_form part h rest) fine
+    ap (λ (x : Header). check_checkpoint_head part x >>= λ _. body_form part x rest) is ∙ ap (λ (r : Result (Unit {0}) KeepError). r >>= λ _. body_form part h rest) fine
 
-told-bad : (part : PartValue) (piece rest : List ℕ) (e : KeepError) → Err e ≡ check_head part (head_at piece) → told_body part piece rest ≡ Err e
+told-bad : (part : PartValue) (piece rest : List ℕ) (e : KeepError) → Err e ≡ check_checkpoint_head part (checkpoint_head_at piece) → told_body part piece rest ≡ Err e
 unfolding told_body
-told-bad part piece rest e is = ap (λ (r : Result (Unit {0}) KeepError). r >>= λ _. body_form part (head_at piece) rest) (sym is)
+told-bad part piece rest e is = ap (λ (r : Result (Unit {0}) KeepError). r >>= λ _. body_form part (checkpoint_head_at piece) rest) (sym is)
 
 -- the fixed fields are refused
 pub head_fails : {R : Type 0} {remaining : R → Option (List ℕ)} {failed : R → ℕ} {sure : R → Option ℕ} {a b : R} {piece : List ℕ} (part : PartValue) (e : KeepError)
-    → TakesBytes remaining failed sure a b piece → length piece ≡ 54 → Err e ≡ check_head part (head_at piece) → (IsRead e → ⊥) → (e ≡ errors.Memory → ⊥) → Fails remaining failed sure (content_form part) 54 a b e
+    → TakesBytes remaining failed sure a b piece → length piece ≡ 54 → Err e ≡ check_checkpoint_head part (checkpoint_head_at piece) → (IsRead e → ⊥) → (e ≡ errors.Memory → ⊥) → Fails remaining failed sure (content_form part) 54 a b e
 head_fails {remaining} {failed} {sure} {a} {b} {piece} part e p len is other fine =
     fails_after {most = 0} 54 (told_body part) 54 p len (omega arith)
     (fails_here remaining failed sure b (told_body part piece) 0 e other (λ is. absurd (fine is)) (λ bytes _. told-bad part piece bytes e is))
 
 -- the fixed fields were read, and pass
 pub has_head : {R : Type 0} {remaining : R → Option (List ℕ)} {failed : R → ℕ} {sure : R → Option ℕ} {a b : R} {piece : List ℕ} (part : PartValue)
-    → TakesBytes remaining failed sure a b piece → length piece ≡ 54 → check_head part (head_at piece) ≡ Ok tt → (bytes : List ℕ) → remaining a ≡ Some bytes → HasHead part bytes
+    → TakesBytes remaining failed sure a b piece → length piece ≡ 54 → check_checkpoint_head part (checkpoint_head_at piece) ≡ Ok tt → (bytes : List ℕ) → remaining a ≡ Some bytes → HasHead part bytes
 has_head {remaining} {a} {b} {piece} part p len passes bytes known =
     let l = left (remaining a) (remaining b) piece bytes p.consumed known in
     let front : take 54 bytes ≡ piece = ap (take 54) l.split ∙ ap (λ (n : ℕ). take n (piece ++ l.rest)) (sym len) ∙ take-append_seam piece l.rest in
     record {
       long = omega (arith, ap length l.split, length-append piece l.rest, len);
-      passes = ap (λ (t : List ℕ). check_head part (head_at t)) front ∙ passes;
+      passes = ap (λ (t : List ℕ). check_checkpoint_head part (checkpoint_head_at t)) front ∙ passes;
     }
 
 -- what holds anyway
@@ -671,7 +671,7 @@ passes-held plan version = elim (cases_Bool (version == 1)) [
   | inr second ↦ inr (held-some plan version [] second ∙ followed-err (needs 2) (told_batches plan) [] errors.Short (needs-err 2 [] (omega arith)))
 ]
 
-pub passes-body : (part : PartValue) (piece : List ℕ) (h : Header) → head_at piece ≡ h → check_head part h ≡ Ok tt → Passes (told_body part piece) []
+pub passes-body : (part : PartValue) (piece : List ℕ) (h : Header) → checkpoint_head_at piece ≡ h → check_checkpoint_head part h ≡ Ok tt → Passes (told_body part piece) []
 passes-body part piece h is fine = passes-as (body_form part h) (told_body part piece) [] (told-body part piece [] h is fine)
     (passes-first (needs (fixed_length part h)) (λ _. held_form part.plan h.version) [] (λ _. passes-held part.plan h.version) (passes-needs (fixed_length part h) [] (omega arith)))
 

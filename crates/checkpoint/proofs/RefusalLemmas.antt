@@ -16,7 +16,7 @@ use Rattle.replica.proofs.StepLemmas.{get_or-replicate_same}
 use Rattle.checkpoint.specs.declared.header.Header.{Header}
 use Rattle.checkpoint.specs.declared.error.KeepError.{KeepError}
 use Rattle.checkpoint.specs.declared.error.KeepError.TheVariants as errors
-use Rattle.checkpoint.specs.Reading.{head_at, sealed_form, Ends, Fails, RefusesAs, TellNone, IsOfBytes, IsOfBody}
+use Rattle.checkpoint.specs.Reading.{checkpoint_head_at, sealed_form, Ends, Fails, RefusesAs, TellNone, IsOfBytes, IsOfBody}
 use Rattle.checkpoint.proofs.FormLemmas.{head_is_in, second_fine, first_fine}
 use Rattle.checkpoint.proofs.LawLemmas.{unsealed}
 use Rattle.checkpoint.proofs.LengthLemmas.{front_long}
@@ -24,15 +24,15 @@ use Rattle.checkpoint.proofs.ReaderLemmas.{body_unread}
 
 -- ---- what the content of a spelling tells
 pub record IsWritten (version : ℕ) (v : State) (text body : List ℕ) : Type 0 where
-  pub version_is : (head_at (take 54 text)).version ≡ version
-  pub step : v.superstep ≡ (head_at (take 54 text)).superstep
+  pub version_is : (checkpoint_head_at (take 54 text)).version ≡ version
+  pub step : v.superstep ≡ (checkpoint_head_at (take 54 text)).superstep
   pub body_is : drop 54 text ≡ body
 
 told : (version : ℕ) (v : State) (text body : List ℕ) → IsState v → text ≡ front_bytes version v ++ body → IsWritten version v text body
 told version v text body s is =
     let front = front_bytes version v in
     let long = front_long version v s in
-    let head : head_at (take 54 text) ≡ head_at front = ap head_at (ap (take 54) is ∙ take_at front body 54 long) in
+    let head : checkpoint_head_at (take 54 text) ≡ checkpoint_head_at front = ap checkpoint_head_at (ap (take 54) is ∙ take_at front body 54 long) in
     let fields = head ∙ head_is_in version v s in
     record {
       version_is = ap (λ (h : Header). h.version) fields;

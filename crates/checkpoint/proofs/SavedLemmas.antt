@@ -16,7 +16,7 @@ use Rattle.figures.specs.Values.{value_of}
 use Rattle.figures.specs.declared.tally.Tally.{Tally}
 use Rattle.batches.specs.Kept.{field}
 use Rattle.checkpoint.specs.declared.saved.Vertices.{Vertices}
-use Rattle.checkpoint.specs.Told.{entry_at, IsAdded, AreNone, AreTold, AreZeros}
+use Rattle.checkpoint.specs.Told.{entry_at, IsAdded, AreNone, AreVerticesTold, AreZeros}
 
 -- ---- numbers
 above : (n k q b : ℕ) → b < 256 → n / 2 ^ k ≡ q * 256 + b → n / 2 ^ (k + 8) ≡ q
@@ -197,7 +197,7 @@ old_entry old new i bytes rest added marks tallies k lt =
     (ap (λ (l : List TallyValue). get_or l k no_figures) (more_tallies old new added.tally added.tallies) ∙ get_or_append_left (map value_of old.tallies.items) (value_of added.tally ∷ []) no_figures k (omega (arith, lt, tallies, length-map old.tallies.items value_of)))
     (ap (λ (l : List (List ℕ)). get_or l k []) added.rows ∙ get_or-set_other old.rows.rows i k added.row [] (omega (arith, lt)))
 
-pub told_more : (old new : Vertices) (i : ℕ) (bytes middle rest : List ℕ) → AreTold i old bytes middle → IsAdded old new i middle rest → i < length old.rows.rows → AreTold (i + 1) new bytes rest
+pub told_more : (old new : Vertices) (i : ℕ) (bytes middle rest : List ℕ) → AreVerticesTold i old bytes middle → IsAdded old new i middle rest → i < length old.rows.rows → AreVerticesTold (i + 1) new bytes rest
 told_more old new i bytes middle rest told added lt = record {
   marks = one_more old.marks.items new.marks.items added.mark i added.marks told.marks;
   tallies = one_more old.tallies.items new.tallies.items added.tally i added.tallies told.tallies;
@@ -208,7 +208,7 @@ told_more old new i bytes middle rest told added lt = record {
       ∙ ap (λ (l : List ℕ). l ++ rest) (sym (range_next (entry_at new) i));
 }
 
-pub told_none : (v : Vertices) (bytes : List ℕ) → AreNone v → AreTold 0 v bytes bytes
+pub told_none : (v : Vertices) (bytes : List ℕ) → AreNone v → AreVerticesTold 0 v bytes bytes
 told_none v bytes none = record {
   marks = ap (λ (l : List Bool). length l) none.marks;
   tallies = ap (λ (l : List Tally). length l) none.tallies;

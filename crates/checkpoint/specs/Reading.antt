@@ -39,8 +39,8 @@ followed first second bytes = do
   Ok (n + k)
 
 -- ---- the fixed fields
-unfoldable pub head_at : List ℕ → Header
-head_at bytes = record {
+unfoldable pub checkpoint_head_at : List ℕ → Header
+checkpoint_head_at bytes = record {
   magic = field w32 0 bytes;
   version = slice_index bytes 4;
   log2m = slice_index bytes 5;
@@ -53,13 +53,13 @@ head_at bytes = record {
 }
 
 -- HBCK
-abbrev pub magic : ℕ
-magic = 0x4842434b
+abbrev pub checkpoint_magic : ℕ
+checkpoint_magic = 0x4842434b
 
 -- the checks of the fixed fields, in their order
-unfoldable pub check_head : PartValue → Header → Result (Unit {0}) KeepError
-check_head part h =
-    if not (h.magic == magic) then Err errors.Magic
+unfoldable pub check_checkpoint_head : PartValue → Header → Result (Unit {0}) KeepError
+check_checkpoint_head part h =
+    if not (h.magic == checkpoint_magic) then Err errors.Magic
     else if not (h.version == 1) && not (h.version == 2) then Err errors.Version
     else if not (bytes_eq h.job part.plan.job) then Err errors.OtherJob
     else if not (h.partition == part.number) then Err errors.OtherPart
@@ -119,7 +119,9 @@ body_form part h = followed (needs (fixed_length part h)) (λ _. held_form part.
 
 -- the fixed fields pass, and the rest follows
 unfoldable pub told_body : PartValue → List ℕ → Form
-told_body part head rest = check_head part (head_at head) >>= λ fine. body_form part (head_at head) rest
+told_body part head rest =
+    check_checkpoint_head part (checkpoint_head_at head)
+    >>= λ fine. body_form part (checkpoint_head_at head) rest
 
 -- all that stands before the digest
 abbrev pub content_form : PartValue → Form
@@ -150,8 +152,8 @@ pub record PassesSoFar (form : Form) (old new : Option (List ℕ)) : Type 0 wher
 abbrev pub most_early : PlanValue → ℕ
 most_early plan = COUNT_LEN + 3 * (plan.parts - 1) * (LENGTH_LEN + greatest_batch plan)
 
-abbrev pub most_body : PartValue → ℕ → ℕ
-most_body part t =
+abbrev pub most_checkpoint_body : PartValue → ℕ → ℕ
+most_checkpoint_body part t =
     length part.preds * (ENTRY_LEN + 2 ^ part.plan.log2m) + SUM_LEN * (t + 1)
     + HEARD_LEN + length part.preds * 2 ^ part.plan.log2m + most_early part.plan
 
@@ -161,7 +163,8 @@ most_after part h = fixed_length part h + (if h.version == 1 then 0 else most_ea
 
 -- the most that the fixed fields at the front of the bytes allow up to the digest
 abbrev pub allowed_content : PartValue → List ℕ → ℕ
-allowed_content part bytes = HEADER_LEN + most_after part (head_at (take HEADER_LEN bytes))
+allowed_content part bytes =
+    HEADER_LEN + most_after part (checkpoint_head_at (take HEADER_LEN bytes))
 
 -- and with the digest, and one byte more
 abbrev pub allowed : PartValue → List ℕ → ℕ
@@ -174,8 +177,8 @@ pub record TakesWithin (most : List ℕ → ℕ) (old new : Option (List ℕ)) :
   pub few : length bytes ≤ most bytes
 
 -- the length of a checkpoint of the part at superstep t with the most and the greatest early batches
-abbrev pub most_bytes : PartValue → ℕ → ℕ
-most_bytes part t = HEADER_LEN + most_body part t + DIGEST_LEN
+abbrev pub most_checkpoint_bytes : PartValue → ℕ → ℕ
+most_checkpoint_bytes part t = HEADER_LEN + most_checkpoint_body part t + DIGEST_LEN
 
 -- ---- readers
 -- a read failed
@@ -231,8 +234,8 @@ pub record Ends {R : Type 0} (remaining : R → Option (List ℕ)) (failed : R �
   pub is_form : (bytes : List ℕ) → remaining old ≡ Some bytes → IsOk (form bytes)
 
 -- the bytes are a spelling of the replica: in version 2, or in version 1 of one that holds nothing
-abbrev pub IsSpelling : State → List ℕ → Type 0
-IsSpelling v bytes =
+abbrev pub IsReplicaSpelling : State → List ℕ → Type 0
+IsReplicaSpelling v bytes =
     (bytes ≡ checkpoint_bytes v) ⊎ ((bytes ≡ first_checkpoint_bytes v) × (v ≡ without_names v))
 
 -- the bytes are the spelling of no replica of the part, in neither version
@@ -257,7 +260,7 @@ pub record RefusesAs {R : Type 0} (remaining : R → Option (List ℕ)) (failed 
 -- the fixed fields stand there, and they are those of a replica of the part
 pub record HasHead (part : PartValue) (bytes : List ℕ) : Type 0 where
   pub long : HEADER_LEN ≤ length bytes
-  pub passes : check_head part (head_at (take HEADER_LEN bytes)) ≡ Ok tt
+  pub passes : check_checkpoint_head part (checkpoint_head_at (take HEADER_LEN bytes)) ≡ Ok tt
 
 -- where it is Ok, and where memory was refused, this is so
 abbrev pub OnOkOrMemory : {A : Type 0} → Result A KeepError → Type 0 → Type 0

@@ -34,7 +34,7 @@ pub record HasRoomForAll (v : Vertices) : Type 0 where
   pub tallies : length v.rows.rows ≤ vec_capacity v.tallies
 
 -- the bytes are the spelling of the first n vertices, and behind it the rest
-pub record AreTold (n : ℕ) (v : Vertices) (bytes rest : List ℕ) : Type 0 where
+pub record AreVerticesTold (n : ℕ) (v : Vertices) (bytes rest : List ℕ) : Type 0 where
   pub marks : length v.marks.items ≡ n
   pub tallies : length v.tallies.items ≡ n
   pub text : bytes ≡ flat_map (entry_at v) (range_with_len 0 n) ++ rest

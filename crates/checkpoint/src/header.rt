@@ -4,7 +4,7 @@ ghost use Rattle.std.specs.Prelude.{◌≡◌, ◌+◌, ◌≤◌, length, take,
 ghost use Rattle.std.specs.Int.{w16, w32, w64, from_be_bytes};
 ghost use Rattle.ball_model.specs.PlanValue.{greatest_limit};
 ghost use Rattle.batches.specs.Kept.{field};
-ghost use Rattle.checkpoint.specs.Reading.{check_head, head_at, IsRead};
+ghost use Rattle.checkpoint.specs.Reading.{check_checkpoint_head, checkpoint_head_at, IsRead};
 
 use crate::error::KeepError;
 use crate::sizes::HEADER_LEN;
@@ -63,10 +63,10 @@ fn job_at(bytes: &[u8]) -> [u8; 32]
 }
 
 /// The fixed fields of bytes that are long enough.
-#[tactic(auto, unfolding(crate::specs::Reading::head_at))]
+#[tactic(auto, unfolding(crate::specs::Reading::checkpoint_head_at))]
 pub(crate) fn read_header(bytes: &[u8]) -> Header
     requires { HEADER_LEN ≤ length bytes.now }
-    ensures { result ≡ head_at bytes.now }
+    ensures { result ≡ checkpoint_head_at bytes.now }
 {
     Header {
         magic: u32_at(bytes, 0),
@@ -82,9 +82,9 @@ pub(crate) fn read_header(bytes: &[u8]) -> Header
 }
 
 /// The first fault of the fixed fields.
-#[tactic(auto, unfolding(crate::specs::Reading::check_head))]
+#[tactic(auto, unfolding(crate::specs::Reading::check_checkpoint_head))]
 pub(crate) fn check_header(part: &Part, header: &Header) -> Result<(), KeepError>
-    ensures value { result ≡ check_head part.now header.now }
+    ensures value { result ≡ check_checkpoint_head part.now header.now }
     ensures in_time { OnOk result (header.now.superstep ≤ part.now.plan.limit) }
     ensures small { OnOk result (header.now.superstep ≤ greatest_limit) }
     ensures of_bytes { IfErr result (λ e. IsRead e → ⊥) }

@@ -10,10 +10,12 @@ ghost use Rattle.ball_model.specs.State.{State};
 ghost use Rattle.ball_model.specs.Streams.{AreSure, TakesAtMost};
 ghost use Rattle.replica.specs.Saved.{Fits, IsKeepable, IsRebuilt};
 ghost use Rattle.replica.specs.Seen.{IsState};
-ghost use Rattle.checkpoint.specs.Reading.{needs, head_at, check_head, content_form, sealed_form};
-ghost use Rattle.checkpoint.specs.Reading.{allowed, allowed_content, most_body, most_bytes, Ends};
+ghost use Rattle.checkpoint.specs.Reading.{needs, checkpoint_head_at, check_checkpoint_head};
+ghost use Rattle.checkpoint.specs.Reading.{content_form, sealed_form};
+ghost use Rattle.checkpoint.specs.Reading.{allowed, allowed_content, Ends};
+ghost use Rattle.checkpoint.specs.Reading.{most_checkpoint_body, most_checkpoint_bytes};
 ghost use Rattle.checkpoint.specs.Reading.{Grows, Fails, RefusesAs, HasHead, TakesWithin, IsRead};
-ghost use Rattle.checkpoint.specs.Reading.{IsOfBytes, IsSpelling, IfOkButWant, OnOkOrMemory};
+ghost use Rattle.checkpoint.specs.Reading.{IsOfBytes, IsReplicaSpelling, IfOkButWant, OnOkOrMemory};
 
 use crate::error::KeepError;
 use crate::header::{Header, check_header, read_header};
@@ -48,9 +50,9 @@ fn read_head<R: CountedRead>(
     requires { text.old.items ≡ [] }
     ensures done { OnOk result (Grows R.remaining R.failed_calls R.sure_calls (needs HEADER_LEN)
         HEADER_LEN reader.old reader.new text.old.items text.new.items) }
-    ensures head { IfOk result (λ h. h ≡ head_at text.new.items) }
+    ensures head { IfOk result (λ h. h ≡ checkpoint_head_at text.new.items) }
     ensures length { OnOk result (length text.new.items ≡ HEADER_LEN) }
-    ensures checked { IfOk result (λ h. check_head part.now h ≡ Ok tt) }
+    ensures checked { IfOk result (λ h. check_checkpoint_head part.now h ≡ Ok tt) }
     ensures in_time { IfOk result (λ h. h.superstep ≤ part.now.plan.limit) }
     ensures small { IfOk result (λ h. h.superstep ≤ greatest_limit) }
     ensures front { (bytes : List ℕ) → R.remaining reader.old ≡ Some bytes →
@@ -74,19 +76,19 @@ fn read_content<R: CountedRead>(
 ) -> Result<Header, KeepError>
     requires { text.old.items ≡ [] }
     ensures done { OnOk result (Grows R.remaining R.failed_calls R.sure_calls
-        (content_form part.now) (HEADER_LEN + most_body part.now part.now.plan.limit)
+        (content_form part.now) (HEADER_LEN + most_checkpoint_body part.now part.now.plan.limit)
         reader.old reader.new text.old.items text.new.items) }
     ensures few { OnOk result (length text.new.items ≤ allowed_content part.now text.new.items) }
     ensures within { OnErr result
         (TakesWithin (allowed_content part.now) (R.remaining reader.old) (R.remaining reader.new)) }
-    ensures head { IfOk result (λ h. h ≡ head_at (take HEADER_LEN text.new.items)) }
+    ensures head { IfOk result (λ h. h ≡ checkpoint_head_at (take HEADER_LEN text.new.items)) }
     ensures length { OnOk result (HEADER_LEN ≤ length text.new.items) }
-    ensures checked { IfOk result (λ h. check_head part.now h ≡ Ok tt) }
+    ensures checked { IfOk result (λ h. check_checkpoint_head part.now h ≡ Ok tt) }
     ensures small { IfOk result (λ h. h.superstep ≤ greatest_limit) }
     ensures front { (bytes : List ℕ) → R.remaining reader.old ≡ Some bytes →
         OnOkOrMemory result (HasHead part.now bytes) }
     ensures fails { IfErr result (λ e. Fails R.remaining R.failed_calls R.sure_calls
-        (content_form part.now) (HEADER_LEN + most_body part.now part.now.plan.limit)
+        (content_form part.now) (HEADER_LEN + most_checkpoint_body part.now part.now.plan.limit)
         reader.old reader.new e) }
 {
     let header = read_head(part, reader, text)?;
@@ -102,18 +104,18 @@ fn read_text<R: CountedRead>(
 ) -> Result<Header, KeepError>
     requires { text.old.items ≡ [] }
     ensures done { OnOk result (Ends R.remaining R.failed_calls (sealed_form part.now)
-        (most_bytes part.now part.now.plan.limit + 1) reader.old reader.new) }
+        (most_checkpoint_bytes part.now part.now.plan.limit + 1) reader.old reader.new) }
     ensures within { TakesWithin (allowed part.now) (R.remaining reader.old) (R.remaining reader.new) }
-    ensures head { IfOk result (λ h. h ≡ head_at (take HEADER_LEN text.new.items)) }
+    ensures head { IfOk result (λ h. h ≡ checkpoint_head_at (take HEADER_LEN text.new.items)) }
     ensures length { OnOk result (HEADER_LEN ≤ length text.new.items) }
-    ensures checked { IfOk result (λ h. check_head part.now h ≡ Ok tt) }
+    ensures checked { IfOk result (λ h. check_checkpoint_head part.now h ≡ Ok tt) }
     ensures sealed { OnOk result ((bytes : List ℕ) → R.remaining reader.old ≡ Some bytes →
         bytes ≡ sealed text.new.items) }
     ensures small { IfOk result (λ h. h.superstep ≤ greatest_limit) }
     ensures front { (bytes : List ℕ) → R.remaining reader.old ≡ Some bytes →
         OnOkOrMemory result (HasHead part.now bytes) }
     ensures fails { IfErr result (λ e. Fails R.remaining R.failed_calls R.sure_calls
-        (sealed_form part.now) (most_bytes part.now part.now.plan.limit + 1)
+        (sealed_form part.now) (most_checkpoint_bytes part.now part.now.plan.limit + 1)
         reader.old reader.new e) }
 {
     let header = read_content(part, reader, text)?;
@@ -129,7 +131,7 @@ fn read_saved<R: CountedRead>(
 ) -> Result<Saved, KeepError>
     ensures fits { IfOk result (λ s. Fits part.now s) }
     ensures done { OnOk result (Ends R.remaining R.failed_calls (sealed_form part.now)
-        (most_bytes part.now part.now.plan.limit + 1) reader.old reader.new) }
+        (most_checkpoint_bytes part.now part.now.plan.limit + 1) reader.old reader.new) }
     ensures within { TakesWithin (allowed part.now) (R.remaining reader.old) (R.remaining reader.new) }
     ensures spelled { IfOk result (λ s. (v : State) → IsRebuilt part.now s v → IsState v →
         (bytes : List ℕ) → R.remaining reader.old ≡ Some bytes →
@@ -140,7 +142,7 @@ fn read_saved<R: CountedRead>(
     ensures front { (bytes : List ℕ) → R.remaining reader.old ≡ Some bytes →
         OnOkOrMemory result (HasHead part.now bytes) }
     ensures refused { IfErr result (λ e. RefusesAs R.remaining R.failed_calls R.sure_calls
-        part.now (most_bytes part.now part.now.plan.limit + 1)
+        part.now (most_checkpoint_bytes part.now part.now.plan.limit + 1)
         reader.old reader.new e) }
 {
     let mut text = Vec::new(alloc);
@@ -172,10 +174,11 @@ pub fn read_checkpoint<R: CountedRead>(
     ensures part { IfOk result (λ r. r.part ≡ arc_value part) }
     // All bytes were read, their parts stand in order, and the digest is right.
     ensures whole { OnOk result (Ends R.remaining R.failed_calls (sealed_form (arc_value part))
-        (most_bytes (arc_value part) (arc_value part).plan.limit + 1) reader.old reader.new) }
+        (most_checkpoint_bytes (arc_value part) (arc_value part).plan.limit + 1)
+        reader.old reader.new) }
     // What is read is a spelling of the replica: in version 2, or in version 1 of one that holds nothing.
     ensures spelling { IfOk result (λ r. (bytes : List ℕ) → R.remaining reader.old ≡ Some bytes →
-        IsSpelling r bytes) }
+        IsReplicaSpelling r bytes) }
     // What was written of a replica of the part is read as that replica, but where memory is refused or a read fails; what
     // version 1 wrote, as the replica without what it held.
     ensures back { (v : State) → IsKeepable v → v.part ≡ arc_value part →
@@ -187,10 +190,11 @@ pub fn read_checkpoint<R: CountedRead>(
     // A read failed exactly where that is told, and none of sure calls does.
     ensures counted { OnOk result (R.failed_calls reader.new ≡ R.failed_calls reader.old) }
     ensures only { AreSure (R.sure_calls reader.old)
-        (most_bytes (arc_value part) (arc_value part).plan.limit + 1) →
+        (most_checkpoint_bytes (arc_value part) (arc_value part).plan.limit + 1) →
         IfErr result (λ e. IsRead e → ⊥) }
     // No more is read than any checkpoint of the part has, and than the fixed fields that were read allow, and one byte.
-    ensures few { TakesAtMost (most_bytes (arc_value part) (arc_value part).plan.limit + 1)
+    ensures few { TakesAtMost
+        (most_checkpoint_bytes (arc_value part) (arc_value part).plan.limit + 1)
         (R.remaining reader.old) (R.remaining reader.new) }
     ensures within { TakesWithin (allowed (arc_value part))
         (R.remaining reader.old) (R.remaining reader.new) }
@@ -199,7 +203,7 @@ pub fn read_checkpoint<R: CountedRead>(
         OnOkOrMemory result (HasHead (arc_value part) bytes) }
     // Which refusal it is, and what was read.
     ensures refused { IfErr result (λ e. RefusesAs R.remaining R.failed_calls R.sure_calls
-        (arc_value part) (most_bytes (arc_value part) (arc_value part).plan.limit + 1)
+        (arc_value part) (most_checkpoint_bytes (arc_value part) (arc_value part).plan.limit + 1)
         reader.old reader.new e) }
 {
     let saved = read_saved(alloc, &part, reader)?;

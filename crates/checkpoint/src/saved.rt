@@ -5,7 +5,7 @@ ghost use Rattle.std.specs.Prelude.{length, map, drop, replicate, slice_index_or
 ghost use Rattle.std.specs.Prelude.{OnOk, IsOk, IfErr, vec_capacity};
 ghost use Rattle.std.specs.List.{All, flat_map, range_with_len};
 ghost use Rattle.ball_model.specs.Batches.{BatchValue, batch_bytes};
-ghost use Rattle.batches.specs.Reading.{GivesOrMemory, batch_at};
+ghost use Rattle.batches.specs.Reading.{GivesBatchOrMemory, batch_at};
 ghost use Rattle.ball_model.specs.Checkpoint.{early_bytes, mark_byte, entry_bytes, vertex_bytes};
 ghost use Rattle.ball_model.specs.Checkpoint.{table_bytes, held_bytes, without_names};
 ghost use Rattle.ball_model.specs.Figures.{TallyValue};
@@ -20,7 +20,7 @@ ghost use Rattle.batches.specs.Kept.{field};
 ghost use Rattle.checkpoint.specs.Reading.{IsOfBody};
 ghost use Rattle.checkpoint.specs.declared.sizes.TheConstants.{HEADER_LEN};
 ghost use Rattle.checkpoint.specs.Spelling.{held_text, table_text};
-ghost use Rattle.checkpoint.specs.Told.{IsAdded, AreNone, AreTold, HasRoomForAll, IsSmall};
+ghost use Rattle.checkpoint.specs.Told.{IsAdded, AreNone, AreVerticesTold, HasRoomForAll, IsSmall};
 ghost use Rattle.checkpoint.specs.Told.{IfOkButMemory, AreNext, AreOf, IsOfPlan, IsHeldOf};
 ghost use Rattle.checkpoint.specs.Told.{IsUnnamed};
 
@@ -169,7 +169,7 @@ fn add_vertices<'a>(vertices: &mut Vertices, bytes: &'a [u8]) -> Result<&'a [u8]
     requires none { AreNone vertices.old }
     requires room { HasRoomForAll vertices.old }
     ensures told { IfOk result (λ rest.
-        AreTold (length vertices.new.rows.rows) vertices.new bytes.now rest.now) }
+        AreVerticesTold (length vertices.new.rows.rows) vertices.new bytes.now rest.now) }
     ensures right { (v : State) (rest : List ℕ) → IsKeepable v →
         length v.part.preds ≡ length vertices.old.rows.rows →
         2 ^ v.part.plan.log2m ≡ vertices.old.rows.width →
@@ -264,7 +264,8 @@ fn put_rows<'a>(rows: &mut Rows, bytes: &'a [u8]) -> Result<&'a [u8], KeepError>
 
 // Why a batch is refused, as a checkpoint's reader tells it.
 fn refusal(e: BatchError) -> KeepError
-    ensures memory { (b : BatchValue) → GivesOrMemory (Err e) (Ok b) → result ≡ KeepError.Memory }
+    ensures memory { (b : BatchValue) → GivesBatchOrMemory (Err e) (Ok b) →
+        result ≡ KeepError.Memory }
     ensures wanting { result ≡ KeepError.Memory → e ≡ BatchError.Memory }
     ensures kind { IsOfBody result }
 {

@@ -7,7 +7,7 @@ use Rattle.std.proofs.lemmas.List.Elements.{filter-append}
 use Rattle.ball_model.specs.Graph.{Graph, IsGraph, is_counted, preds_of, listed_edges, counted_vertices}
 use Rattle.ball_model.specs.Job.{edge_bytes}
 use Rattle.ball_model.proofs.PartLemmas.{range_more}
-use Rattle.edgelist.specs.Planning.{target_bytes, vertex_bytes}
+use Rattle.edgelist.specs.Planning.{target_bytes, vertex_number_bytes}
 
 -- the edges to x
 abbrev pub edges_to : Graph → ℕ → List (ℕ × ℕ)
@@ -39,25 +39,25 @@ bytes-all g n ok count = ap (flat_map edge_bytes) (edges-all g n ok count)
 
 -- the bytes of the counted vertices below n
 abbrev pub members_below : Graph → ℕ → List ℕ
-members_below g n = flat_map vertex_bytes (filter (λ v. is_counted g v) (range_with_len 0 n))
+members_below g n = flat_map vertex_number_bytes (filter (λ v. is_counted g v) (range_with_len 0 n))
 
-member-bytes : (b : Bool) (v : ℕ) → flat_map vertex_bytes (if b then (v ∷ []) else []) ≡ (if b then vertex_bytes v else [])
-member-bytes true v = append-nil (vertex_bytes v)
+member-bytes : (b : Bool) (v : ℕ) → flat_map vertex_number_bytes (if b then (v ∷ []) else []) ≡ (if b then vertex_number_bytes v else [])
+member-bytes true v = append-nil (vertex_number_bytes v)
 member-bytes false v = refl
 
 -- one vertex more
-pub members-next : (g : Graph) (m : List ℕ) (n : ℕ) → m ++ members_below g (n + 1) ≡ (m ++ members_below g n) ++ (if is_counted g n then vertex_bytes n else [])
+pub members-next : (g : Graph) (m : List ℕ) (n : ℕ) → m ++ members_below g (n + 1) ≡ (m ++ members_below g n) ++ (if is_counted g n then vertex_number_bytes n else [])
 members-next g m n =
     let more : filter (λ v. is_counted g v) (range_with_len 0 (n + 1)) ≡ filter (λ v. is_counted g v) (range_with_len 0 n) ++ (if is_counted g n then (n ∷ []) else []) =
     ap (filter (λ v. is_counted g v)) (range_more n) ∙ filter-append (λ v. is_counted g v) (range_with_len 0 n) (n ∷ []) in
-    ap (λ (vs : List ℕ). m ++ flat_map vertex_bytes vs) more
-    ∙ ap (λ (bs : List ℕ). m ++ bs) (flat_map-append vertex_bytes (filter (λ v. is_counted g v) (range_with_len 0 n)) (if is_counted g n then (n ∷ []) else []))
+    ap (λ (vs : List ℕ). m ++ flat_map vertex_number_bytes vs) more
+    ∙ ap (λ (bs : List ℕ). m ++ bs) (flat_map-append vertex_number_bytes (filter (λ v. is_counted g v) (range_with_len 0 n)) (if is_counted g n then (n ∷ []) else []))
     ∙ ap (λ (bs : List ℕ). m ++ (members_below g n ++ bs)) (member-bytes (is_counted g n) n)
-    ∙ sym (append_assoc m (members_below g n) (if is_counted g n then vertex_bytes n else []))
+    ∙ sym (append_assoc m (members_below g n) (if is_counted g n then vertex_number_bytes n else []))
 
-pub members-all : (g : Graph) (n : ℕ) → IsGraph g → n ≡ g.vertices → members_below g n ≡ flat_map vertex_bytes g.counted
+pub members-all : (g : Graph) (n : ℕ) → IsGraph g → n ≡ g.vertices → members_below g n ≡ flat_map vertex_number_bytes g.counted
 unfolding counted_vertices
-members-all g n ok count = ap (flat_map vertex_bytes) (rw count (sym ok.counted))
+members-all g n ok count = ap (flat_map vertex_number_bytes) (rw count (sym ok.counted))
 
 -- seven pieces behind some bytes
 pub seven-behind : (m a b c d e f g : List ℕ) → ((((((m ++ a) ++ b) ++ c) ++ d) ++ e) ++ f) ++ g ≡ m ++ ((((((a ++ b) ++ c) ++ d) ++ e) ++ f) ++ g)

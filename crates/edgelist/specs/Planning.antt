@@ -53,8 +53,8 @@ abbrev pub Hashes : Sha256 → Sha256 → List ℕ → Type 0
 Hashes old new bytes = (m : List ℕ) → Holds256 old m → Holds256 new (m ++ bytes)
 
 -- a vertex as bytes
-abbrev pub vertex_bytes : ℕ → List ℕ
-vertex_bytes v = to_be_bytes w32 v
+abbrev pub vertex_number_bytes : ℕ → List ℕ
+vertex_number_bytes v = to_be_bytes w32 v
 
 -- the edges from some sources to a target, as bytes
 abbrev pub target_bytes : List ℕ → ℕ → List ℕ

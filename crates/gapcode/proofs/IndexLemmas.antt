@@ -5,7 +5,7 @@ use Rattle.std.specs.List.{flat_map}
 use Rattle.std.proofs.lemmas.List.{append-nil, drop_at, drop_more, drop_all, length-drop, length-map, get_or-map, get_or-append-add}
 use Rattle.std.proofs.lemmas.List.Concat.{flat_map-append}
 use Rattle.gapcode.specs.Bits.{gamma, bits_of}
-use Rattle.gapcode.specs.Lists.{beyond, list_bits, list_at, lists_at, read_list, values, IsAscending, AreAscending, AscendsFrom, IsSpelling, AreSpelled, IsPlaced, ◌>>=◌, after}
+use Rattle.gapcode.specs.Lists.{beyond, list_bits, list_at, lists_at, read_list, values, IsAscending, AreAscending, AscendsFrom, IsSpelling, AreSpelled, IsPlaced, ◌>>=◌, bits_after}
 use Rattle.gapcode.specs.Index.{lists_of, starts_from, IsIndex, IsStored}
 use Rattle.gapcode.proofs.SpelledLemmas.{coded, coded-none, coded-cons, list_bits-coded, bind_ok, list_again, list_takes, lists_again}
 use Rattle.gapcode.proofs.GammaLemmas.{ok_is}
@@ -128,11 +128,11 @@ finished bits bytes places pad is short e =
 -- ---- the places of lists that are read
 
 -- a list that is there, and the place after it
-pub list_ends : (bytes : List ℕ) (place end : ℕ) (x : List ℕ × List Bool) → place ≤ 8 * length bytes → end ≤ 8 * length bytes → Ok (drop end (bits_of bytes)) ≡ after (list_at beyond (drop place (bits_of bytes)))
+pub list_ends : (bytes : List ℕ) (place end : ℕ) (x : List ℕ × List Bool) → place ≤ 8 * length bytes → end ≤ 8 * length bytes → Ok (drop end (bits_of bytes)) ≡ bits_after (list_at beyond (drop place (bits_of bytes)))
     → list_at beyond (drop place (bits_of bytes)) ≡ Ok x → end ≡ place + length (list_bits x.0)
 list_ends bytes place end x inside later passed read =
     let bits = bits_of bytes in
-    let rest : drop end bits ≡ x.1 = ok_is (drop end bits) x.1 (passed ∙ ap after read) in
+    let rest : drop end bits ≡ x.1 = ok_is (drop end bits) x.1 (passed ∙ ap bits_after read) in
     let taken = (list_takes beyond (drop place bits) x read).0 in
     omega (arith, ap length taken, length-append (list_bits x.0) x.1, length-drop place bits, length-drop end bits, ap length rest, length-bits_of bytes)
 

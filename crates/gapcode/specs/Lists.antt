@@ -102,9 +102,10 @@ GivesOrMemory (Err e) due = Err e ≡ due
 -- ---- what a loop over the bits keeps
 
 -- the bits after what was read
-abbrev pub after : {A : Type 0} → Result (A × List Bool) CodeError → Result (List Bool) CodeError
-after (Ok x) = Ok x.1
-after (Err e) = Err e
+abbrev pub bits_after : {A : Type 0} → Result (A × List Bool) CodeError →
+    Result (List Bool) CodeError
+bits_after (Ok x) = Ok x.1
+bits_after (Err e) = Err e
 
 -- the bits after a place
 abbrev pub from_place : List Bool → Result ℕ CodeError → Result (List Bool) CodeError

@@ -3,7 +3,8 @@
 ghost use Rattle.std.specs.Prelude.{◌≡◌, ◌+◌, ◌-◌, ◌*◌, ◌<◌, ◌≤◌, ◌^◌, ◌%◌, length, take, IfOk, Ok};
 ghost use Rattle.std.specs.Result.{result_and};
 ghost use Rattle.gapcode.specs.Bits.{bits_of, bits_from, number_of};
-ghost use Rattle.gapcode.specs.Lists.{elements_at, list_at, lists_at, all_of, after, from_place};
+ghost use Rattle.gapcode.specs.Lists.{elements_at, list_at, lists_at, all_of, bits_after};
+ghost use Rattle.gapcode.specs.Lists.{from_place};
 ghost use Rattle.gapcode.specs.Lists.{first_of_byte, end_at};
 
 use crate::code::code_from;
@@ -14,7 +15,7 @@ fn pass_elements(bytes: &[u8], place: u128, count: u64, bound: u64) -> Result<u1
     requires inside { place ≤ 8 * length bytes.now }
     requires bound { bound ≤ 2 ^ 32 }
     ensures exact { from_place (bits_of bytes.now) result
-        ≡ after (elements_at bound count 0 (bits_from bytes.now place)) }
+        ≡ bits_after (elements_at bound count 0 (bits_from bytes.now place)) }
     ensures inside { IfOk result (λ end. end ≤ 8 * length bytes.now) }
 {
     let mut least = 0;
@@ -36,7 +37,7 @@ pub fn pass_list(bytes: &[u8], place: u128, bound: u64) -> Result<u128, CodeErro
     requires inside { place ≤ 8 * length bytes.now }
     requires bound { bound ≤ 2 ^ 32 }
     ensures exact { from_place (bits_of bytes.now) result
-        ≡ after (list_at bound (bits_from bytes.now place)) }
+        ≡ bits_after (list_at bound (bits_from bytes.now place)) }
     ensures inside { IfOk result (λ end. end ≤ 8 * length bytes.now) }
 {
     let (code, next) = code_from(bytes, place)?;
@@ -51,7 +52,7 @@ pub fn pass_list(bytes: &[u8], place: u128, bound: u64) -> Result<u128, CodeErro
 fn pass_lists(bytes: &[u8], count: usize, bound: u64) -> Result<u128, CodeError>
     requires { bound ≤ 2 ^ 32 }
     ensures exact { from_place (bits_of bytes.now) result
-        ≡ after (lists_at bound count (bits_of bytes.now)) }
+        ≡ bits_after (lists_at bound count (bits_of bytes.now)) }
     ensures inside { IfOk result (λ end. end ≤ 8 * length bytes.now) }
 {
     let mut place = 0;

@@ -3,7 +3,7 @@ use Rattle.std.proofs.Common.{◌≡◌, ◌∙◌, ℕ, List, false, true, ap, 
 use Rattle.std.specs.Prelude.{Option, None, Some, IfSome, option_map}
 use Rattle.ball_model.specs.RunText.{ArePlain, Settings}
 use Rattle.ball_model.specs.Sections.{sections_of}
-use Rattle.workers.specs.Options.{settings_of}
+use Rattle.workers.specs.Options.{run_settings_of}
 use Rattle.workers.specs.Run.{IsRunRefusal}
 use Rattle.workers.specs.declared.bytes.RunError.{RunError}
 use Rattle.workers.specs.declared.options.RunOptions.{RunOptions}
@@ -30,7 +30,7 @@ told_whole o told bytes seen (fault.Input e) whole same says = tt
 told_whole o None bytes seen fault.NoList whole same says = tt
 told_whole o (Some input) bytes seen fault.NoList whole same says = subst (λ l. IsFault o true (Some l) fault.NoList) (same ∙ whole) says
 told_whole o None bytes seen (fault.Run e) whole same says = (says.0, tt)
-told_whole o (Some input) bytes seen (fault.Run e) whole same says = (says.0, subst (λ l. RefusesInput (settings_of o) true l e) (same ∙ whole) says.1)
+told_whole o (Some input) bytes seen (fault.Run e) whole same says = (says.0, subst (λ l. RefusesInput (run_settings_of o) true l e) (same ∙ whole) says.1)
 
 -- an input without a list, of which this error is told
 pub refuses_edges : (s : Settings) (told : Option (List ℕ)) (e : RunError) → IfSome told (λ input. ArePlain input None → IsRunRefusal s input None e) → IfSome told (λ input. RefusesInput s false input e)

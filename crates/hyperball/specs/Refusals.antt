@@ -4,7 +4,7 @@ use Rattle.ball_model.specs.RunText.{ArePlain, Settings}
 use Rattle.hyperball.specs.Whole.{most_bytes, sections_in}
 use Rattle.hyperball.specs.declared.serve.RunFault.{RunFault}
 use Rattle.hyperball.specs.declared.serve.RunFault.TheVariants as fault
-use Rattle.workers.specs.Options.{settings_of}
+use Rattle.workers.specs.Options.{run_settings_of}
 use Rattle.workers.specs.Run.{IsFaultIn, IsRunRefusal}
 use Rattle.workers.specs.declared.bytes.RunError.{RunError}
 use Rattle.workers.specs.declared.options.RunOptions.{RunOptions}
@@ -25,7 +25,7 @@ IsFault o counted told fault.Random = ⊤
 IsFault o counted told (fault.Input e) = ⊤
 IsFault o counted told fault.NoList = IfSome told (λ input. sections_in counted input ≡ None)
 IsFault o counted told (fault.Run e) =
-    IsFaultIn o e × IfSome told (λ input. RefusesInput (settings_of o) counted input e)
+    IsFaultIn o e × IfSome told (λ input. RefusesInput (run_settings_of o) counted input e)
 
 -- the input was not read whole, or not at all
 abbrev pub IsUnreadRun : RunFault → Type 0

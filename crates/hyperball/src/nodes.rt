@@ -5,7 +5,7 @@ ghost use Rattle.std.specs.Prelude.{◌≡◌, ◌≢◌, Err, OnErr, OnOk};
 ghost use Rattle.std.specs.Io.KnownBytes.{Keeps};
 ghost use Rattle.ball_model.specs.Streams.{Rises};
 ghost use Rattle.node.specs.Gathering.{GathersJob};
-ghost use Rattle.node.specs.Job.{settings_in};
+ghost use Rattle.node.specs.Job.{job_settings_of};
 ghost use Rattle.node.specs.NoJob.{HasNoNode};
 ghost use Rattle.node.specs.NoReport.{HasNoReport, IsUnwritten, WritesFrontOfJob};
 ghost use Rattle.node.specs.Serving.{IsOfMachine, ServesNode, StopsNode};
@@ -63,19 +63,19 @@ pub fn node_by<H: AllocGlobal + RandomSource, T: Eprint, R: CountedRead, W: Coun
     writer: &mut W,
 ) -> Result<(), NodeFault>
     ensures served { OnOk result (ServesNode
-        (settings_in words.now.options) words.now.options.counted words.now.part
+        (job_settings_of words.now.options) words.now.options.counted words.now.part
         (R.remaining reader.old) (R.remaining reader.new)
         (W.contents writer.old) (W.contents writer.new)) }
     ensures stopped { (e : NoAnswer) → result ≡ Err (NodeFault.Node (NodeError.Serve e)) →
         (IsOfMachine e → ⊥) → StopsNode
-        (settings_in words.now.options) words.now.options.counted words.now.part e
+        (job_settings_of words.now.options) words.now.options.counted words.now.part e
         (R.remaining reader.old) (R.remaining reader.new)
         (W.contents writer.old) (W.contents writer.new) }
     ensures jobless { (e : NoJob) → result ≡ Err (NodeFault.Node (NodeError.Job e)) →
         Keeps (W.contents writer.old) (W.contents writer.new) }
     // Which refusal it is.
     ensures refused { (e : NoJob) → result ≡ Err (NodeFault.Node (NodeError.Job e)) → HasNoNode
-        (settings_in words.now.options) words.now.options.counted words.now.part
+        (job_settings_of words.now.options) words.now.options.counted words.now.part
         (R.remaining reader.old) (R.remaining reader.new) e }
     // A call failed exactly where that is told.
     ensures read { result ≡ Err (NodeFault.Node (NodeError.Serve no_answer.Read)) →
@@ -130,12 +130,12 @@ pub fn gather_by<
     writer: &mut W,
 ) -> Result<(), GatherFault>
     ensures gathered { OnOk result (GathersJob
-        (settings_in words.now.options) words.now.options.counted
+        (job_settings_of words.now.options) words.now.options.counted
         (R.remaining reader.old) (R.remaining reader.new)
         (W.contents writer.old) (W.contents writer.new)) }
     // Which refusal it is.
     ensures refused { (e : NoReport) → result ≡ Err (GatherFault.Gather e) → HasNoReport
-        (settings_in words.now.options) words.now.options.counted
+        (job_settings_of words.now.options) words.now.options.counted
         (R.remaining reader.old) (R.remaining reader.new) e }
     // A call failed exactly where that is told.
     ensures read { result ≡ Err (GatherFault.Gather GatherError.Read) →
@@ -153,7 +153,7 @@ pub fn gather_by<
     ensures kept { (e : NoReport) → result ≡ Err (GatherFault.Gather e) → IsUnwritten e →
         Keeps (W.contents writer.old) (W.contents writer.new) }
     ensures front { OnErr result (
-        WritesFrontOfJob (settings_in words.now.options) words.now.options.counted
+        WritesFrontOfJob (job_settings_of words.now.options) words.now.options.counted
         (R.remaining reader.old) (R.remaining reader.new)
         (W.contents writer.old) (W.contents writer.new)) }
     ensures random { result ≡ Err GatherFault.Random →

@@ -2,7 +2,7 @@
 
 ghost use Rattle.std.specs.Prelude.{◌≡◌};
 ghost use Rattle.hyperball.specs.Options.{options_of, settings_in};
-ghost use Rattle.workers.specs.Options.{settings_of};
+ghost use Rattle.workers.specs.Options.{run_settings_of};
 
 use ball_model::plan::GREATEST_LIMIT;
 use ball_model::{Estimate, NodeId};
@@ -61,7 +61,7 @@ pub struct Orders {
 /// The options of a run with these orders.
 pub fn run_options(options: &Options, orders: Orders) -> RunOptions
     ensures value { result ≡ options_of options.now orders }
-    ensures settings { settings_of result ≡ settings_in options.now }
+    ensures settings { run_settings_of result ≡ settings_in options.now }
 {
     RunOptions {
         log2m: options.log2m,

@@ -24,11 +24,11 @@ ghost use Rattle.hyperball.specs.Nodes.{AsksGather, AsksNode, IsGather, IsNode};
 ghost use Rattle.hyperball.specs.declared.node_words.GatherWords.{GatherWords as Gathered};
 ghost use Rattle.hyperball.specs.declared.node_words.NodeWords.{NodeWords as Noded};
 ghost use Rattle.node.specs.Gathering.{GathersJob};
-ghost use Rattle.node.specs.Job.{settings_in as job_settings};
+ghost use Rattle.node.specs.Job.{job_settings_of};
 ghost use Rattle.node.specs.NoReport.{GathersFrontOfJob, WritesFrontOfJob};
 ghost use Rattle.node.specs.Serving.{ServesNode};
 ghost use Rattle.hyperball.specs.declared.options.Options.{Options as Asked};
-ghost use Rattle.workers.specs.Options.{settings_of};
+ghost use Rattle.workers.specs.Options.{run_settings_of};
 ghost use Rattle.hyperball.specs.declared.whole.WholeError.{WholeError as NoInput};
 ghost use Rattle.hyperball.specs.declared.words.RunWords.{RunWords as Run};
 ghost use Rattle.hyperball.specs.declared.words.Said.{Said as Asking};
@@ -226,7 +226,7 @@ fn run_sections<H: AllocGlobal + Threads + Wait + Sync, W: CountedWrite, G: Gate
     input: &[u8],
     writer: &mut W,
 ) -> Result<(), RunFault>
-    ensures done { (o : Asked) → settings_of options.now ≡ settings_in o →
+    ensures done { (o : Asked) → run_settings_of options.now ≡ settings_in o →
         OnOk result (Reports (listed_words o) input.now
         (W.contents writer.old) (W.contents writer.new)) }
     ensures unlisted { sections_of input.now ≡ None → result ≡ Err RunFault.NoList }
@@ -260,7 +260,7 @@ fn run_listed<
     reader: &mut R,
     writer: &mut W,
 ) -> Result<(), RunFault>
-    ensures done { (o : Asked) → settings_of options.now ≡ settings_in o →
+    ensures done { (o : Asked) → run_settings_of options.now ≡ settings_in o →
         OnOk result (Serves (listed_words o) (R.remaining reader.old)
         W.contents writer.old writer.new) }
     ensures refused { IfErr result (IsFault options.now true (R.remaining reader.old)) }
@@ -299,7 +299,7 @@ fn run_by<
     reader: &mut R,
     writer: &mut W,
 ) -> Result<(), RunFault>
-    ensures done { (w : Run) → settings_of options.now ≡ settings_in w.options →
+    ensures done { (w : Run) → run_settings_of options.now ≡ settings_in w.options →
         counted ≡ w.counted →
         OnOk result (Serves w (R.remaining reader.old) W.contents writer.old writer.new) }
     ensures gate { result ≢ Err RunFault.Gate }
@@ -455,7 +455,7 @@ fn serve_node<H: AllocGlobal + RandomSource, R: CountedRead, W: CountedWrite, F:
 ) -> u8
     ensures status { (result ≡ 0) ⊎ (result ≡ 1) }
     ensures done { result ≡ 0 → ServesNode
-        (job_settings words.now.options) words.now.options.counted words.now.part
+        (job_settings_of words.now.options) words.now.options.counted words.now.part
         (R.remaining reader.old) (R.remaining reader.new)
         (W.contents writer.old) (W.contents writer.new) }
     // It is done only where no call failed.
@@ -480,14 +480,14 @@ fn serve_gather<
 >(rt: &H, words: &GatherWords, reader: &mut R, writer: &mut W, faults: &mut F) -> u8
     ensures status { (result ≡ 0) ⊎ (result ≡ 1) }
     ensures done { result ≡ 0 → GathersJob
-        (job_settings words.now.options) words.now.options.counted
+        (job_settings_of words.now.options) words.now.options.counted
         (R.remaining reader.old) (R.remaining reader.new)
         (W.contents writer.old) (W.contents writer.new) }
     // It is done only where no call failed.
     ensures read { result ≡ 0 → R.failed_calls reader.new ≡ R.failed_calls reader.old }
     ensures written { result ≡ 0 → W.failed_calls writer.new ≡ W.failed_calls writer.old }
     ensures begun { result ≡ 1 → WritesFrontOfJob
-        (job_settings words.now.options) words.now.options.counted
+        (job_settings_of words.now.options) words.now.options.counted
         (R.remaining reader.old) (R.remaining reader.new)
         (W.contents writer.old) (W.contents writer.new) }
     ensures silent { result ≡ 0 → words.now.progress ≡ false →
@@ -522,7 +522,7 @@ fn serve_wish<
         BeginsToServe w (R.remaining reader.old)
         W.contents W.failed_calls writer.old writer.new }
     ensures node { (w : Noded) → wish ≡ Wish.Node w → result ≡ 0 → ServesNode
-        (job_settings w.options) w.options.counted w.part
+        (job_settings_of w.options) w.options.counted w.part
         (R.remaining reader.old) (R.remaining reader.new)
         (W.contents writer.old) (W.contents writer.new) }
     ensures node_read { (w : Noded) → wish ≡ Wish.Node w → result ≡ 0 →
@@ -530,7 +530,7 @@ fn serve_wish<
     ensures node_written { (w : Noded) → wish ≡ Wish.Node w → result ≡ 0 →
         W.failed_calls writer.new ≡ W.failed_calls writer.old }
     ensures gather { (w : Gathered) → wish ≡ Wish.Gather w → result ≡ 0 → GathersJob
-        (job_settings w.options) w.options.counted
+        (job_settings_of w.options) w.options.counted
         (R.remaining reader.old) (R.remaining reader.new)
         (W.contents writer.old) (W.contents writer.new) }
     ensures gather_read { (w : Gathered) → wish ≡ Wish.Gather w → result ≡ 0 →
@@ -538,7 +538,7 @@ fn serve_wish<
     ensures gather_written { (w : Gathered) → wish ≡ Wish.Gather w → result ≡ 0 →
         W.failed_calls writer.new ≡ W.failed_calls writer.old }
     ensures gather_begun { (w : Gathered) → wish ≡ Wish.Gather w → result ≡ 1 → WritesFrontOfJob
-        (job_settings w.options) w.options.counted
+        (job_settings_of w.options) w.options.counted
         (R.remaining reader.old) (R.remaining reader.new)
         (W.contents writer.old) (W.contents writer.new) }
     ensures silent { result ≡ 0 → SaysProgress false wish →
@@ -574,11 +574,11 @@ pub fn serve<
     ensures replay { (w : Replayed) → IsReplay (texts_of words.now) w → result ≡ 0 →
         ServesReplay w (R.remaining reader.old) W.contents writer.old writer.new }
     ensures node { (w : Noded) → IsNode (texts_of words.now) w → result ≡ 0 → ServesNode
-        (job_settings w.options) w.options.counted w.part
+        (job_settings_of w.options) w.options.counted w.part
         (R.remaining reader.old) (R.remaining reader.new)
         (W.contents writer.old) (W.contents writer.new) }
     ensures gather { (w : Gathered) → IsGather (texts_of words.now) w → result ≡ 0 → GathersJob
-        (job_settings w.options) w.options.counted
+        (job_settings_of w.options) w.options.counted
         (R.remaining reader.old) (R.remaining reader.new)
         (W.contents writer.old) (W.contents writer.new) }
     // A node and a gathering are done only where no call failed.
@@ -615,7 +615,7 @@ pub fn serve<
         W.contents W.failed_calls writer.old writer.new }
     ensures gather_begun { (w : Gathered) → IsGather (texts_of words.now) w → result ≡ 1 →
         KeptOrFailed W.contents W.failed_calls writer.old writer.new ⊎ GathersFrontOfJob
-        (job_settings w.options) w.options.counted
+        (job_settings_of w.options) w.options.counted
         (R.remaining reader.old) (R.remaining reader.new)
         (W.contents writer.old) (W.contents writer.new) }
     ensures silent { result ≡ 0 → AsksProgress (texts_of words.now) false →

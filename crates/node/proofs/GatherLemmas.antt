@@ -5,7 +5,7 @@ use Rattle.std.specs.Str.{bytes_eq}
 use Rattle.std.proofs.lemmas.Bool.{eqb-true}
 use Rattle.std.proofs.lemmas.Slice.Eq.{bytes_eq-Decides}
 use Rattle.ball_model.specs.WorldText.{value_from}
-use Rattle.world.specs.Script.{cut_of, longer}
+use Rattle.world.specs.Script.{cut_of}
 use Rattle.std.specs.List.{All}
 use Rattle.std.specs.Io.KnownBytes.{Appends, Consumes, IsAtEnd}
 use Rattle.std.proofs.KnownBytes.{Consumes-nil, Consumes-trans}
@@ -19,6 +19,7 @@ use Rattle.ball_model.specs.Streams.{PutsFront}
 use Rattle.ball_model.specs.Input.{Network}
 use Rattle.ball_model.specs.Job.{job_of}
 use Rattle.ball_model.specs.RunText.{Settings}
+use Rattle.ball_model.specs.Sections.{longer}
 use Rattle.checkpoint.specs.declared.error.KeepError.{KeepError}
 use Rattle.checkpoint.specs.declared.error.KeepError.TheVariants as unkept
 use Rattle.node.specs.declared.error.GatherError.{GatherError}

@@ -21,7 +21,7 @@ use Rattle.ball_model.specs.WorldText.{refusal_line}
 use Rattle.ball_model.proofs.PartLemmas.{part_size-is}
 use Rattle.batches.proofs.TrueLemmas.{true_is_batch}
 use Rattle.batches.proofs.WholeLemmas.{batch_length}
-use Rattle.checkpoint.specs.Reading.{greatest_batch, most_bytes}
+use Rattle.checkpoint.specs.Reading.{greatest_batch, most_checkpoint_bytes}
 use Rattle.checkpoint.specs.Told.{IsOfPlan}
 use Rattle.checkpoint.proofs.LawLemmas.{early_are}
 use Rattle.checkpoint.proofs.LengthLemmas.{whole_long}
@@ -139,7 +139,7 @@ sum_within : (whole a b sums e m t limit : ℕ) → whole ≡ 54 + a + 16 * sums
     whole ≤ 54 + (a + 16 * (limit + 1) + 9 + b + (2 + m)) + 32
 sum_within whole a b sums e m t limit is count time few = omega (arith, is, count, time, few)
 
-kept_within : (v : State) → IsState v → length (checkpoint_bytes v) ≤ most_bytes v.part v.part.plan.limit
+kept_within : (v : State) → IsState v → length (checkpoint_bytes v) ≤ most_checkpoint_bytes v.part v.part.plan.limit
 kept_within v s =
     let plan : PlanValue = v.part.plan in
     let m : ℕ = 8 + greatest_batch plan in
@@ -162,9 +162,9 @@ pub kept_taken : KeptIsTaken
 kept_taken j p h bytes held kept =
     let v : State = kept.replica in
     let part : v.part ≡ part_of j p = kept.has.holding.stands.part ∙ ap (part_of j) held.partition in
-    let few : length bytes ≤ most_bytes (part_of j p) (part_of j p).plan.limit =
-    subst (λ (q : PartValue). length bytes ≤ most_bytes q q.plan.limit) part
-    (subst (λ (l : List ℕ). length l ≤ most_bytes v.part v.part.plan.limit) (sym kept.bytes_are) (kept_within v kept.has.state)) in
+    let few : length bytes ≤ most_checkpoint_bytes (part_of j p) (part_of j p).plan.limit =
+    subst (λ (q : PartValue). length bytes ≤ most_checkpoint_bytes q q.plan.limit) part
+    (subst (λ (l : List ℕ). length l ≤ most_checkpoint_bytes v.part v.part.plan.limit) (sym kept.bytes_are) (kept_within v kept.has.state)) in
     let back : IsGivenBack j p bytes h = record { held = held; replica = v; has = kept.has; spells = inl kept.bytes_are } in
     record {
       start = (λ none. kept_some v kept.has.state (sym kept.bytes_are ∙ none), back);

@@ -13,14 +13,14 @@ use Rattle.ball_model.specs.PlanValue.{PlanValue}
 use Rattle.ball_model.specs.RunText.{Settings}
 use Rattle.ball_model.specs.State.{State}
 use Rattle.node.specs.Job.{IsJobRead}
-use Rattle.node.specs.NodeText.{AllAsk, AnswersOne, AnswersAll, Asked, Asks, IsRequest, Request, after_all, after_asked, body_length, command_in, request_bytes, requests_text}
+use Rattle.node.specs.NodeText.{AllAsk, AnswersOne, AnswersAll, Asked, Asks, IsRequest, Request, after_all_asked, after_asked, body_length, command_in, request_bytes, requests_text}
 use Rattle.node.specs.declared.command.Command.{Command}
 use Rattle.node.specs.declared.error.ServeError.{ServeError}
 use Rattle.node.specs.declared.error.ServeError.TheVariants as fault
 use Rattle.node.specs.declared.error.NodeError.{NodeError}
 use Rattle.node.specs.declared.error.NodeError.TheVariants as node_fault
 use Rattle.node.specs.Stream.{CutsBody, HasNoEnd, ReadsBody, ReadsInLine, most_line}
-use Rattle.node.specs.Serving.{AnswersEach, AppendsAnswers, AreNamed, AreTold, CutShort, IfRefused, IsNoRequest, IsOfMachine, LacksRoom, NoCommand, ReadsRequest, Runs, ServesRest, ServesNode, ServesNone, ServesOne, ServesSome, Steps, StopsServing, StopsNode, StopsWanting, WantsNode, told_tell}
+use Rattle.node.specs.Serving.{AnswersEach, AppendsAnswers, AreNamed, AreTold, CutShort, IfRefused, IsNoRequest, IsOfMachine, LacksRoom, NoCommand, ReadsRequest, Runs, ServesRest, ServesNode, ServesNone, ServesOne, ServesSome, Steps, StopsServing, StopsNode, StopsWanting, WantsNode, serve_error_of}
 use Rattle.node.specs.Turns.{Holds, most_body}
 use Rattle.world.specs.declared.tell.TellError.{TellError}
 use Rattle.world.specs.declared.tell.TellError.TheVariants as untold
@@ -44,15 +44,15 @@ last_ask j p (q ∷ rs) r (a ∷ more) asks =
     let k = last_ask j p rs r more asks.1 in
     record { front = a ∷ k.front; last = k.last; is = ap (λ (l : List Asked). a ∷ l) k.is; asks = (asks.0, k.asks); asks_last = k.asks_last }
 
-after_last : (j : Job) (h : Holding) (front : List Asked) (last : Asked) → after_all j h (front ++ last ∷ []) ≡ after_asked j (after_all j h front) last
-unfolding after_all
+after_last : (j : Job) (h : Holding) (front : List Asked) (last : Asked) → after_all_asked j h (front ++ last ∷ []) ≡ after_asked j (after_all_asked j h front) last
+unfolding after_all_asked
 after_last j h [] last = refl
 after_last j h (a ∷ front) last = after_last j (after_asked j h a) front last
 
 -- ---- its text
 told_last : (j : Job) (p : ℕ) (labels : List (List ℕ)) (h : Holding) (rs : List Request) (r : Request) (texts : List (List ℕ)) (text : List ℕ) → AreTold j p labels h rs texts →
-    ((more : List Asked) (a : Asked) → AllAsk j p rs more → Asks j p r.command r.body a → AnswersOne j labels (after_all j h more) a text) → AreTold j p labels h (rs ++ r ∷ []) (texts ++ text ∷ [])
-unfolding AreTold AllAsk after_all
+    ((more : List Asked) (a : Asked) → AllAsk j p rs more → Asks j p r.command r.body a → AnswersOne j labels (after_all_asked j h more) a text) → AreTold j p labels h (rs ++ r ∷ []) (texts ++ text ∷ [])
+unfolding AreTold AllAsk after_all_asked
 told_last j p labels h [] r [] text told last = λ a asks. (last [] a tt asks, tt)
 told_last j p labels h [] r (t ∷ texts) text told last = absurd told
 told_last j p labels h (q ∷ rs) r [] text told last = absurd told
@@ -99,7 +99,7 @@ front_told j p labels h (r ∷ front) rest (t ∷ texts) (a ∷ more) told asks 
 
 -- ---- runs
 runs_none : (network : Network) (v : State) (old : Option (List ℕ)) → Runs network [] v v old old
-unfolding AllAsk AreTold AreNamed after_all
+unfolding AllAsk AreTold AreNamed after_all_asked
 runs_none network v old = record {
   texts = [];
   appended = Appends-nil old;
@@ -108,7 +108,7 @@ runs_none network v old = record {
   holds = λ j p h more same k asks. still j p h more k asks;
 }
   where
-    still : (j : Job) (p : ℕ) (h : Holding) (more : List Asked) → Holds j p h v → AllAsk j p [] more → Holds j p (after_all j h more) v
+    still : (j : Job) (p : ℕ) (h : Holding) (more : List Asked) → Holds j p h v → AllAsk j p [] more → Holds j p (after_all_asked j h more) v
     still j p h [] k asks = k
     still j p h (a ∷ more) k asks = absurd asks
 
@@ -119,15 +119,15 @@ runs_more network rs r v w u x y z part runs steps = record {
   appended = subst (Appends x z) (sym (concat_last runs.texts steps.text)) (Appends-trans x y z (concat runs.texts) steps.text runs.appended steps.appended);
   told = λ j p h same k.
       told_last j p network.labels h rs r runs.texts steps.text (runs.told j p h same k)
-      (λ more a all asks. steps.told j p (after_all j h more) a same (runs.holds j p h more same k all) asks);
+      (λ more a all asks. steps.told j p (after_all_asked j h more) a same (runs.holds j p h more same k all) asks);
   named =
       named_last v.part rs r runs.texts steps.text runs.named
       (subst (λ (q : PartValue). IfRefused q r.command r.body (λ line. steps.text ≡ line)) part steps.named);
   holds = λ j p h asked same k asks.
       let l = last_ask j p rs r asked asks in
       let then = runs.holds j p h l.front same k l.asks in
-      subst (λ (q : List Asked). Holds j p (after_all j h q) u) (sym l.is)
-      (subst (λ (q : Holding). Holds j p q u) (sym (after_last j h l.front l.last)) (steps.holds j p (after_all j h l.front) l.last same then l.asks_last));
+      subst (λ (q : List Asked). Holds j p (after_all_asked j h q) u) (sym l.is)
+      (subst (λ (q : Holding). Holds j p q u) (sym (after_last j h l.front l.last)) (steps.holds j p (after_all_asked j h l.front) l.last same then l.asks_last));
 }
 
 -- ---- the texts of requests
@@ -166,7 +166,7 @@ serves_still network n a b c v w u x y z s none kept same = record {
     appended = Appends-kept x y z (concat s.runs.texts) s.runs.appended kept;
     told = s.runs.told;
     named = s.runs.named;
-    holds = λ j p h more same_graph k asks. subst (λ (q : State). Holds j p (after_all j h more) q) (sym same) (s.runs.holds j p h more same_graph k asks);
+    holds = λ j p h more same_graph k asks. subst (λ (q : State). Holds j p (after_all_asked j h more) q) (sym same) (s.runs.holds j p h more same_graph k asks);
   };
 }
 
@@ -269,7 +269,7 @@ request_lacks part a b line order body r = record {
 }
 
 -- or, as a write failed, where it was answered
-pub told_stops : (part : PartValue) (n : ℕ) (t : TellError) (a b : Option (List ℕ)) → LacksRoom part a b → IsNoRequest part n (told_tell t) a b
+pub told_stops : (part : PartValue) (n : ℕ) (t : TellError) (a b : Option (List ℕ)) → LacksRoom part a b → IsNoRequest part n (serve_error_of t) a b
 told_stops part n untold.Memory a b lacks = lacks
 told_stops part n untold.Write a b lacks = tt
 

@@ -25,7 +25,7 @@ use Rattle.ball_model.specs.WorldLaws.{IsWorldNode}
 use Rattle.ball_model.proofs.HeldLemmas.{closed_held, joined_held, start_held, taken_held}
 use Rattle.checkpoint.specs.declared.error.KeepError.{KeepError}
 use Rattle.checkpoint.specs.declared.error.KeepError.TheVariants as unkept
-use Rattle.checkpoint.specs.Reading.{Ends, IfOkButWant, IsOfBytes, IsRead, IsSpelling, TellNone, content_form, seal_form, sealed_form}
+use Rattle.checkpoint.specs.Reading.{Ends, IfOkButWant, IsOfBytes, IsRead, IsReplicaSpelling, TellNone, content_form, seal_form, sealed_form}
 use Rattle.checkpoint.proofs.FormLemmas.{first_fine, second_fine}
 use Rattle.checkpoint.proofs.ReaderLemmas.{followed-err}
 use Rattle.ball_model.specs.Job.{PartValue}
@@ -42,8 +42,8 @@ use Rattle.node.specs.declared.session.Reply.{Reply}
 use Rattle.node.specs.declared.session.Reply.TheVariants as reply
 use Rattle.node.specs.NodeText.{IsDelivered, IsGivenBack}
 use Rattle.node.specs.Turns.{GivesOrWants, Holds, SaysMerged, TurnsTo}
-use Rattle.node.specs.Refusals.{IsAnswered, IsCheckpoint, IsNoCheckpoint, SaysOfBatch, SaysOfCheckpoint}
-use Rattle.batches.specs.Reading.{AgreesButJob, GivesOrMemory, batch_at}
+use Rattle.node.specs.Refusals.{IsAnswered, IsNodeCheckpoint, IsNoCheckpoint, SaysOfBatch, SaysOfCheckpoint}
+use Rattle.batches.specs.Reading.{AgreesButJob, GivesBatchOrMemory, batch_at}
 use Rattle.batches.specs.declared.error.BatchError.{BatchError}
 use Rattle.batches.specs.declared.error.BatchError.TheVariants as unread
 use Rattle.batches.proofs.TrueLemmas.{true_is_batch}
@@ -98,7 +98,7 @@ wants e sure (inl memory) = memory
 wants e sure (inr read) = absurd (sure (subst IsRead (sym read) tt))
 
 -- of either version that replica is read, or something was wanting
-read_as : (v : State) (bytes : List ℕ) (r : Result State KeepError) → IsSpelling v bytes → (bytes ≡ checkpoint_bytes v → IfOkButWant r (λ w. w ≡ v)) →
+read_as : (v : State) (bytes : List ℕ) (r : Result State KeepError) → IsReplicaSpelling v bytes → (bytes ≡ checkpoint_bytes v → IfOkButWant r (λ w. w ≡ v)) →
     (bytes ≡ first_checkpoint_bytes v → IfOkButWant r (λ w. w ≡ without_names v)) → IfOkButWant r (λ w. w ≡ v)
 read_as v bytes r (inl is) second first = second is
 read_as v bytes r (inr is) second first = subst (λ (x : State). IfOkButWant r (λ w. w ≡ x)) (sym is.1) (first is.0)
@@ -176,15 +176,15 @@ over_part (Err unmerged.NotMine) t said e says is = absurd (cc)
 
 -- ---- a batch that was delivered
 pub delivered_read : (j : Job) (name : BatchName) (plan : PlanValue) (bytes : List ℕ) (r : Result BatchValue BatchError) → IsJob j → plan ≡ j.plan → IsDelivered j bytes name →
-    ((b : BatchValue) → IsBatch b → AgreesButJob plan b.plan → bytes ≡ batch_bytes b → GivesOrMemory r (Ok b)) → GivesOrMemory r (Ok (true_batch j name))
+    ((b : BatchValue) → IsBatch b → AgreesButJob plan b.plan → bytes ≡ batch_bytes b → GivesBatchOrMemory r (Ok b)) → GivesBatchOrMemory r (Ok (true_batch j name))
 unfolding true_batch
 delivered_read j name plan bytes r job same d only =
     only (true_batch j name) (true_is_batch j name job d.named.superstep d.named.source d.named.target) (subst (λ (q : PlanValue). AgreesButJob q j.plan) (sym same) refl) d.spelled
 
-pub read_true : (b x : BatchValue) → GivesOrMemory (Ok b) (Ok x) → b ≡ x
+pub read_true : (b x : BatchValue) → GivesBatchOrMemory (Ok b) (Ok x) → b ≡ x
 read_true b x gives = cc
 
-pub read_wants : (e : BatchError) (x : BatchValue) → GivesOrMemory (Err e) (Ok x) → e ≡ unread.Memory
+pub read_wants : (e : BatchError) (x : BatchValue) → GivesBatchOrMemory (Err e) (Ok x) → e ≡ unread.Memory
 read_wants unread.Memory x gives = refl
 read_wants e x gives = absurd (cc)
 
@@ -216,7 +216,7 @@ over_said (Err unmerged.Memory) t (Err y) says = tt
 over_said (Err unmerged.OtherJob) t said says = subst (λ q. IfOk q IsAnswered) (sym says) tt
 over_said (Err unmerged.NotMine) t said says = subst (λ q. IfOk q IsAnswered) (sym says) tt
 
-pub spelled_as : (b x : BatchValue) (due : Result BatchValue BatchError) → GivesOrMemory (Ok b) due → x ≡ b → due ≡ Ok x
+pub spelled_as : (b x : BatchValue) (due : Result BatchValue BatchError) → GivesBatchOrMemory (Ok b) due → x ≡ b → due ≡ Ok x
 spelled_as b x (Ok y) gives is = cc
 spelled_as b x (Err e) gives is = absurd (cc)
 
@@ -237,11 +237,11 @@ pub no_other_said : {E : Type 0} (b : BatchValue) (e : BatchError) (due : Result
 no_other_said b e due (Ok x) P some tells is = absurd (not_both due e (spelled_ok b due is) (tells some))
 no_other_said b e due (Err y) P some tells is = tt
 
-pub spelled_not : (e : BatchError) (due : Result BatchValue BatchError) → GivesOrMemory (Err e) due → e ≢ unread.Memory → due ≡ Err e
+pub spelled_not : (e : BatchError) (due : Result BatchValue BatchError) → GivesBatchOrMemory (Err e) due → e ≢ unread.Memory → due ≡ Err e
 spelled_not unread.Memory due gives some = absurd (some refl)
 spelled_not e due gives some = sym gives
 
-pub spelled_wants : (e : BatchError) (due : Result BatchValue BatchError) → GivesOrMemory (Err e) due → e ≡ unread.Memory → IsOk due
+pub spelled_wants : (e : BatchError) (due : Result BatchValue BatchError) → GivesBatchOrMemory (Err e) due → e ≡ unread.Memory → IsOk due
 spelled_wants unread.Memory due gives is = gives
 spelled_wants e due gives is = absurd (cc)
 
@@ -255,7 +255,7 @@ pub says_no_checkpoint : {E : Type 0} (part : PartValue) (bytes : List ℕ) (e :
 says_no_checkpoint part bytes e (Ok x) is some tells = subst (SaysOfCheckpoint part bytes) (sym is) (tells some)
 says_no_checkpoint part bytes e (Err y) is some tells = tt
 
-pub says_checkpoint : {E : Type 0} (part : PartValue) (bytes : List ℕ) (r : Result Reply E) → IfOk r IsAnswered → IsCheckpoint part bytes → IfOk r (SaysOfCheckpoint part bytes)
+pub says_checkpoint : {E : Type 0} (part : PartValue) (bytes : List ℕ) (r : Result Reply E) → IfOk r IsAnswered → IsNodeCheckpoint part bytes → IfOk r (SaysOfCheckpoint part bytes)
 says_checkpoint part bytes (Ok (reply.Answered a)) is whole = whole
 says_checkpoint part bytes (Ok (reply.NoBatch e)) is whole = absurd is
 says_checkpoint part bytes (Ok (reply.NoCheckpoint e)) is whole = absurd is
@@ -272,8 +272,8 @@ pub form_told : {R : Type 0} (remaining : R → Option (List ℕ)) (failed : R �
 form_told remaining failed part most old new bytes (Ok v) is ends = ends.is_form bytes is
 form_told remaining failed part most old new bytes (Err e) is ends = tt
 
-pub checkpoint_told : (part : PartValue) (bytes : List ℕ) (r : Result State KeepError) → IfOk r (λ v. v.part ≡ part) → IfOk r IsKeepable → IfOk r (λ v. IsSpelling v bytes) → OnOk r (IsOk (sealed_form part bytes)) →
-    OnOk r (IsCheckpoint part bytes)
+pub checkpoint_told : (part : PartValue) (bytes : List ℕ) (r : Result State KeepError) → IfOk r (λ v. v.part ≡ part) → IfOk r IsKeepable → IfOk r (λ v. IsReplicaSpelling v bytes) → OnOk r (IsOk (sealed_form part bytes)) →
+    OnOk r (IsNodeCheckpoint part bytes)
 checkpoint_told part bytes (Ok v) own keeps spells form = record { form = form; replica = v; keepable = keeps; part_is = own; spells = spells }
 checkpoint_told part bytes (Err e) own keeps spells form = tt
 
@@ -283,11 +283,11 @@ no_batch_said plan body e (reply.Answered a) says is = absurd (not_both (batch_a
 no_batch_said plan body e (reply.NoBatch d) says is = let same : d ≡ e = cc (says, is) in ap reply.NoBatch same
 no_batch_said plan body e (reply.NoCheckpoint d) says is = absurd says
 
-tells_some : (part : PartValue) (body : List ℕ) (v : State) → IsKeepable v → v.part ≡ part → IsSpelling v body → TellNone part body → ⊥
+tells_some : (part : PartValue) (body : List ℕ) (v : State) → IsKeepable v → v.part ≡ part → IsReplicaSpelling v body → TellNone part body → ⊥
 tells_some part body v keeps own (inl second) none = none.second v keeps own second
 tells_some part body v keeps own (inr first) none = none.first v keeps own first.0
 
-no_checkpoint_due : (part : PartValue) (body : List ℕ) (e : KeepError) → IsCheckpoint part body → (sealed_form part body ≡ Err e) ⊎ ((e ≡ unkept.Shape) × IsOk (sealed_form part body) × TellNone part body) → ⊥
+no_checkpoint_due : (part : PartValue) (body : List ℕ) (e : KeepError) → IsNodeCheckpoint part body → (sealed_form part body ≡ Err e) ⊎ ((e ≡ unkept.Shape) × IsOk (sealed_form part body) × TellNone part body) → ⊥
 no_checkpoint_due part body e k (inl form) = not_both (sealed_form part body) e k.form form
 no_checkpoint_due part body e k (inr other) = tells_some part body k.replica k.keepable k.part_is k.spells other.2
 
@@ -308,7 +308,7 @@ pub front_refused : (part : PartValue) (bytes : List ℕ) (e : KeepError) → co
 front_refused part bytes e is of = record { of_bytes = of; due = inl (followed-err (content_form part) seal_form bytes e is) }
 
 -- they are not those of a checkpoint that stands for the job
-given_due : (v : State) (part : PartValue) (bytes : List ℕ) (e : KeepError) → IsKeepable v → v.part ≡ part → IsSpelling v bytes →
+given_due : (v : State) (part : PartValue) (bytes : List ℕ) (e : KeepError) → IsKeepable v → v.part ≡ part → IsReplicaSpelling v bytes →
     (sealed_form part bytes ≡ Err e) ⊎ ((e ≡ unkept.Shape) × IsOk (sealed_form part bytes) × TellNone part bytes) → ⊥
 given_due v part bytes e keeps own (inl second) (inl form) =
     second_fine v keeps.state e (ap (λ (x : PartValue). sealed_form x (checkpoint_bytes v)) own ∙ ap (sealed_form part) (sym second) ∙ form)

@@ -33,7 +33,7 @@ use Rattle.world.specs.Tell.{Tells}
 use Rattle.node.specs.declared.command.Command.{Command}
 use Rattle.node.specs.declared.command.Command.TheVariants as command
 use Rattle.node.specs.declared.session.Reply.{Reply}
-use Rattle.node.specs.NodeText.{AnswersOne, Asked, Asks, IsDelivered, IsGivenBack, Send, Deliver, Closing, Keep, Restart, Recover, IsNotFor, NoBatch, NotFor, NoCheckpoint, Show, Totals, Figures, after_asked, alone, closed_line, figures_text, refused_line, send_text, sent_text, took_line, totals_text}
+use Rattle.node.specs.NodeText.{AnswersOne, Asked, Asks, IsDelivered, IsGivenBack, Send, Deliver, Closing, Keep, Restart, Recover, IsNotFor, NoBatch, NotFor, NoCheckpoint, Show, Totals, Figures, after_asked, the_lone_node, closed_line, figures_text, refused_line, send_text, sent_text, took_line, totals_text}
 use Rattle.node.specs.Serving.{IfRefused, Steps}
 use Rattle.node.specs.Turns.{AppendsOf, Holds, TurnsTo, batch_word, checkpoint_word, reply_text, said_text}
 use Rattle.ball_model.specs.Job.{PartValue, part_of}
@@ -296,11 +296,11 @@ keeps j p h v labels t n k at long = record {
 }
 
 -- the node as it is named alone
-shown_alone : (j : Job) (p : ℕ) (h : Holding) (v : State) (n : ℕ) → Holds j p h v → n ≡ v.part.number → show_text j (alone n) h ≡ show_text j (alone h.partition) h
-shown_alone j p h v n k is = ap (λ (x : ℕ). show_text j (alone x) h) (is ∙ number_is j h.partition h.superstep v k.has.holding.stands)
+shown_alone : (j : Job) (p : ℕ) (h : Holding) (v : State) (n : ℕ) → Holds j p h v → n ≡ v.part.number → show_text j (the_lone_node n) h ≡ show_text j (the_lone_node h.partition) h
+shown_alone j p h v n k is = ap (λ (x : ℕ). show_text j (the_lone_node x) h) (is ∙ number_is j h.partition h.superstep v k.has.holding.stands)
 
 pub show_told : (network : Network) (body : List ℕ) (v : State) (n : ℕ) (old new : Option (List ℕ)) → n ≡ v.part.number →
-    AppendsOf v (λ j h. show_text j (alone n) h) old new → Steps network command.Show body v v old new
+    AppendsOf v (λ j h. show_text j (the_lone_node n) h) old new → Steps network command.Show body v v old new
 show_told network body v n old new is shown = record {
   text = shown.text;
   appended = shown.appended;
@@ -340,7 +340,7 @@ figures_told network body v old new shown = record {
 
 -- the same, of what came of telling them to a replica w, which is v
 pub show_answered : (network : Network) (body : List ℕ) (v w : State) (n : ℕ) (old new : Option (List ℕ)) (r : Result (Unit {0}) TellError) → w ≡ v → n ≡ w.part.number →
-    OnOk r (AppendsOf w (λ j h. show_text j (alone n) h) old new) → OnOk r (Steps network command.Show body v v old new)
+    OnOk r (AppendsOf w (λ j h. show_text j (the_lone_node n) h) old new) → OnOk r (Steps network command.Show body v v old new)
 show_answered network body v w n old new (Ok u) same is shown = subst (λ (s : State). Steps network command.Show body s s old new) same (show_told network body w n old new is shown)
 show_answered network body v w n old new (Err e) same is shown = tt
 

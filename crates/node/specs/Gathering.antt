@@ -9,7 +9,7 @@ use Rattle.ball_model.specs.PlanValue.{PlanValue}
 use Rattle.ball_model.specs.RunText.{Settings}
 use Rattle.ball_model.specs.State.{State}
 use Rattle.ball_model.specs.WorldText.{words_line}
-use Rattle.checkpoint.specs.Reading.{IsSpelling, most_bytes}
+use Rattle.checkpoint.specs.Reading.{IsReplicaSpelling, most_checkpoint_bytes}
 use Rattle.replica.specs.Saved.{IsKeepable}
 use Rattle.report.specs.Ready.{are_ready, job_report}
 use Rattle.report.specs.declared.write.ReportError.{ReportError}
@@ -18,7 +18,7 @@ use Rattle.node.specs.declared.error.GatherError.{GatherError}
 use Rattle.node.specs.declared.error.GatherError.TheVariants as fault
 use Rattle.node.specs.Job.{IsJobRead}
 use Rattle.node.specs.NodeText.{IsGivenBack}
-use Rattle.node.specs.Refusals.{IsCheckpoint}
+use Rattle.node.specs.Refusals.{IsNodeCheckpoint}
 use Rattle.node.specs.Turns.{Holds}
 
 abbrev pub told_report : ReportError → GatherError
@@ -46,8 +46,8 @@ AreGivenBack j p (body ∷ bodies) =
 
 -- it is a checkpoint of partition p, and no longer than any
 pub record IsCheckpointOf (j : Job) (p : ℕ) (body : List ℕ) : Type 0 where
-  pub few : length body ≤ most_bytes (part_of j p) (part_of j p).plan.limit
-  pub checkpoint : IsCheckpoint (part_of j p) body
+  pub few : length body ≤ most_checkpoint_bytes (part_of j p) (part_of j p).plan.limit
+  pub checkpoint : IsNodeCheckpoint (part_of j p) body
 
 -- so is each, of partition p and those that follow
 unfoldable pub AreCheckpointsFrom : Job → ℕ → List (List ℕ) → Type 0
@@ -60,7 +60,7 @@ pub record IsMadeOf (j : Job) (p : ℕ) (body : List ℕ) (v : State) : Type 0 w
   pub part_is : v.part ≡ part_of j p
   pub is : IsCheckpointOf j p body
   pub keepable : IsKeepable v
-  pub spells : IsSpelling v body
+  pub spells : IsReplicaSpelling v body
   pub back : (h : Holding) → IsGivenBack j p body h → Holds j p h v
 
 -- such replicas were made of such bytes, of partition p and those that follow

@@ -15,11 +15,11 @@ use Rattle.node.specs.Section.{HasNoMark, ReadsSection}
 
 -- ---- what is asked
 
-abbrev pub numbers_in : JobOptions → Numbers
-numbers_in o = numbers_with (is_corrected o.estimate) o.log2m o.seed o.parts o.limit
+abbrev pub job_numbers_of : JobOptions → Numbers
+job_numbers_of o = numbers_with (is_corrected o.estimate) o.log2m o.seed o.parts o.limit
 
-abbrev pub settings_in : JobOptions → Settings
-settings_in o = record { numbers = numbers_in o; delimiter = byte_of o.delimiter }
+abbrev pub job_settings_of : JobOptions → Settings
+job_settings_of o = record { numbers = job_numbers_of o; delimiter = byte_of o.delimiter }
 
 -- ---- what is read
 

@@ -8,7 +8,7 @@ use Rattle.ball_model.specs.PlanValue.{PlanValue}
 use Rattle.ball_model.specs.RunText.{Settings}
 use Rattle.ball_model.specs.State.{State}
 use Rattle.ball_model.specs.Streams.{PutsFront}
-use Rattle.checkpoint.specs.Reading.{most_bytes}
+use Rattle.checkpoint.specs.Reading.{most_checkpoint_bytes}
 use Rattle.checkpoint.specs.declared.error.KeepError.{KeepError}
 use Rattle.checkpoint.specs.declared.error.KeepError.TheVariants as unkept
 use Rattle.report.specs.Ready.{are_ready, job_report}
@@ -49,7 +49,7 @@ pub record IsMissing (left left' : Option (List ℕ)) : Type 0 where
 pub record IsTooLong (part : PartValue) (left left' : Option (List ℕ)) : Type 0 where
   pub size : ℕ
   pub consumed : Consumes left left' (part_line size)
-  pub beyond : most_bytes part part.plan.limit < size
+  pub beyond : most_checkpoint_bytes part part.plan.limit < size
 
 -- a line and fewer bytes than it announces
 pub record IsCutPart (front : List ℕ) : Type 0 where

@@ -22,7 +22,7 @@ use Rattle.ball_model.specs.Supersteps.{total_over}
 use Rattle.ball_model.specs.WorldText.{number_line, part_in, refusal_line, show_text, taken_line, unclosed_line, untaken_line, value_from, words_line}
 use Rattle.batches.specs.Reading.{batch_at}
 use Rattle.batches.specs.declared.error.BatchError.{BatchError}
-use Rattle.checkpoint.specs.Reading.{IsSpelling}
+use Rattle.checkpoint.specs.Reading.{IsReplicaSpelling}
 use Rattle.checkpoint.specs.declared.error.KeepError.{KeepError}
 use Rattle.world.specs.Shows.{Has, KeepsContent}
 use Rattle.node.specs.declared.command.Command.{Command}
@@ -134,7 +134,7 @@ pub record IsGivenBack (j : Job) (p : ℕ) (body : List ℕ) (h : Holding) : Typ
   pub held : IsHeldBy j p h
   pub replica : State
   pub has : Has j h replica
-  pub spells : IsSpelling replica body
+  pub spells : IsReplicaSpelling replica body
 
 -- no bytes, or some that are such a checkpoint
 abbrev pub IsStart : Job → ℕ → List ℕ → Option Holding → Type 0
@@ -224,8 +224,8 @@ figures_text j labels h =
     (own_vertices j h.partition)
 
 -- a node as it is named where it is the only one of its partition
-abbrev pub alone : ℕ → NodeId
-alone p = record { part = p; replica = 0 }
+abbrev pub the_lone_node : ℕ → NodeId
+the_lone_node p = record { part = p; replica = 0 }
 
 -- a checkpoint that stands for the holding is given
 pub record IsKeepText (j : Job) (h : Holding) (text : List ℕ) : Type 0 where
@@ -247,7 +247,7 @@ AnswersOne j labels h (Recover c) text =
 AnswersOne j labels h (NoBatch e) text = text ≡ refused_line (batch_word e)
 AnswersOne j labels h (NotFor e) text = text ≡ untaken_line e
 AnswersOne j labels h (NoCheckpoint e) text = text ≡ refused_line (checkpoint_word e)
-AnswersOne j labels h Show text = text ≡ show_text j (alone h.partition) h
+AnswersOne j labels h Show text = text ≡ show_text j (the_lone_node h.partition) h
 AnswersOne j labels h Totals text = text ≡ totals_text j h
 AnswersOne j labels h Figures text = text ≡ figures_text j labels h
 
@@ -266,9 +266,9 @@ after_asked j h Show = h
 after_asked j h Totals = h
 after_asked j h Figures = h
 
-unfoldable pub after_all : Job → Holding → List Asked → Holding
-after_all j h [] = h
-after_all j h (a ∷ more) = after_all j (after_asked j h a) more
+unfoldable pub after_all_asked : Job → Holding → List Asked → Holding
+after_all_asked j h [] = h
+after_all_asked j h (a ∷ more) = after_all_asked j (after_asked j h a) more
 
 -- the text is the answers to all that is asked, one after the other
 unfoldable pub AnswersAll : Job → List (List ℕ) → Holding → List Asked → List ℕ → Type 0

@@ -5,7 +5,7 @@ use Rattle.ball_model.specs.State.{State}
 use Rattle.ball_model.specs.Job.{PartValue}
 use Rattle.ball_model.specs.PlanValue.{PlanValue}
 use Rattle.batches.specs.Reading.{batch_at}
-use Rattle.checkpoint.specs.Reading.{IsOfBytes, IsSpelling, TellNone, sealed_form}
+use Rattle.checkpoint.specs.Reading.{IsOfBytes, IsReplicaSpelling, TellNone, sealed_form}
 use Rattle.checkpoint.specs.declared.error.KeepError.{KeepError}
 use Rattle.checkpoint.specs.declared.error.KeepError.TheVariants as unkept
 use Rattle.node.specs.declared.session.Reply.{Reply}
@@ -30,15 +30,15 @@ pub record IsNoCheckpoint (part : PartValue) (bytes : List ℕ) (e : KeepError) 
       ⊎ ((e ≡ unkept.Shape) × IsOk (sealed_form part bytes) × TellNone part bytes)
 
 -- the bytes have the form of a checkpoint of the part, and are the spelling of a replica of it
-pub record IsCheckpoint (part : PartValue) (bytes : List ℕ) : Type 0 where
+pub record IsNodeCheckpoint (part : PartValue) (bytes : List ℕ) : Type 0 where
   pub form : IsOk (sealed_form part bytes)
   pub replica : State
   pub keepable : IsKeepable replica
   pub part_is : replica.part ≡ part
-  pub spells : IsSpelling replica bytes
+  pub spells : IsReplicaSpelling replica bytes
 
 -- the bytes are a checkpoint of the part, or what they are refused for is named
 abbrev pub SaysOfCheckpoint : PartValue → List ℕ → Reply → Type 0
-SaysOfCheckpoint part bytes (reply.Answered a) = IsCheckpoint part bytes
+SaysOfCheckpoint part bytes (reply.Answered a) = IsNodeCheckpoint part bytes
 SaysOfCheckpoint part bytes (reply.NoBatch e) = ⊥
 SaysOfCheckpoint part bytes (reply.NoCheckpoint e) = IsNoCheckpoint part bytes e

@@ -21,7 +21,7 @@ use Rattle.node.specs.declared.command.Command.{Command}
 use Rattle.node.specs.declared.command.Command.TheVariants as order
 use Rattle.node.specs.declared.error.ServeError.{ServeError}
 use Rattle.node.specs.declared.error.ServeError.TheVariants as fault
-use Rattle.node.specs.NodeText.{AnswersOne, AnswersAll, AllAsk, Asked, Asks, IsNotFor, IsRequest, Request, after_all, after_asked, body_length, command_in, refused_line, request_bytes, requests_text}
+use Rattle.node.specs.NodeText.{AnswersOne, AnswersAll, AllAsk, Asked, Asks, IsNotFor, IsRequest, Request, after_all_asked, after_asked, body_length, command_in, refused_line, request_bytes, requests_text}
 use Rattle.node.specs.Refusals.{IsNoCheckpoint}
 use Rattle.node.specs.Job.{IsJobRead}
 use Rattle.node.specs.Stream.{HasNoEnd, most_line}
@@ -29,9 +29,9 @@ use Rattle.node.specs.Turns.{Holds, batch_word, checkpoint_word, most_body}
 
 -- ---- what errors are told as
 
-abbrev pub told_tell : TellError → ServeError
-told_tell untold.Memory = fault.Memory
-told_tell untold.Write = fault.Write
+abbrev pub serve_error_of : TellError → ServeError
+serve_error_of untold.Memory = fault.Memory
+serve_error_of untold.Write = fault.Write
 
 -- ---- one answer
 
@@ -195,7 +195,7 @@ pub record Runs (network : Network) (rs : List Request) (v w : State)
       AreTold j p network.labels h rs texts
   pub named : AreNamed v.part rs texts
   pub holds : (j : Job) (p : ℕ) (h : Holding) (more : List Asked) → j.graph ≡ network.graph →
-      Holds j p h v → AllAsk j p rs more → Holds j p (after_all j h more) w
+      Holds j p h v → AllAsk j p rs more → Holds j p (after_all_asked j h more) w
 
 -- so many requests were read and answered
 pub record ServesSome (network : Network) (number : ℕ) (left left' : Option (List ℕ)) (v w : State)

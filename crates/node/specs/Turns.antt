@@ -7,7 +7,7 @@ use Rattle.batches.specs.declared.error.BatchError.{BatchError}
 use Rattle.batches.specs.declared.error.BatchError.TheVariants as no_batch
 use Rattle.checkpoint.specs.declared.error.KeepError.{KeepError}
 use Rattle.checkpoint.specs.declared.error.KeepError.TheVariants as no_checkpoint
-use Rattle.checkpoint.specs.Reading.{greatest_batch, most_bytes}
+use Rattle.checkpoint.specs.Reading.{greatest_batch, most_checkpoint_bytes}
 use Rattle.ball_model.specs.declared.world.Answer.{Answer}
 use Rattle.ball_model.specs.declared.world.Answer.TheVariants as answer
 use Rattle.ball_model.specs.Batches.{BatchValue}
@@ -30,8 +30,8 @@ most_body part (command.Send q) = 0
 most_body part (command.Deliver n) = greatest_batch part.plan
 most_body part command.Close = 0
 most_body part command.Keep = 0
-most_body part (command.Restart n) = most_bytes part part.plan.limit
-most_body part (command.Recover n) = most_bytes part part.plan.limit
+most_body part (command.Restart n) = most_checkpoint_bytes part part.plan.limit
+most_body part (command.Recover n) = most_checkpoint_bytes part part.plan.limit
 most_body part command.Show = 0
 most_body part command.Totals = 0
 most_body part command.Figures = 0

@@ -112,9 +112,9 @@ pub enum ServeError {
 }
 
 impl From<TellError> for ServeError {
-    ghost use Rattle.node.specs.Serving.{told_tell};
+    ghost use Rattle.node.specs.Serving.{serve_error_of};
 
-    ghost from_gives = { λ fault e. e ≡ told_tell fault };
+    ghost from_gives = { λ fault e. e ≡ serve_error_of fault };
 
     fn from(fault: TellError) -> ServeError {
         match fault {

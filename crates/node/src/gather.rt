@@ -7,13 +7,13 @@ ghost use Rattle.std.specs.Io.KnownBytes.{Consumes, IsAtEnd, Keeps};
 ghost use Rattle.ball_model.specs.Job.{Job, IsJob, job_of, part_of};
 ghost use Rattle.ball_model.specs.State.{State};
 ghost use Rattle.ball_model.specs.Streams.{Rises};
-ghost use Rattle.checkpoint.specs.Reading.{most_bytes};
+ghost use Rattle.checkpoint.specs.Reading.{most_checkpoint_bytes};
 ghost use Rattle.edgelist.specs.Feeding.{feeds_of};
 ghost use Rattle.node.specs.Gathering.{Gathers, GathersJob, ReadsAll, ReadsCheckpoint, part_line};
 ghost use Rattle.node.specs.Gathering.{part_text};
 ghost use Rattle.node.specs.NoReport.{HasNoReport, IsNoReplica, IsNoReport, WritesFront};
 ghost use Rattle.node.specs.NoReport.{WritesFrontOfJob, IsUnwritten, part_length, told_kept};
-ghost use Rattle.node.specs.Job.{settings_in};
+ghost use Rattle.node.specs.Job.{job_settings_of};
 ghost use Rattle.node.specs.declared.error.JobError.TheVariants as no_job;
 
 use crate::command::size;
@@ -90,7 +90,7 @@ fn read_bytes<R: CountedRead>(
     ensures read { OnOk result (
         Consumes (R.remaining reader.old) (R.remaining reader.new) (part_text bytes.new.items)) }
     ensures few { OnOk result (
-        length bytes.new.items ≤ most_bytes part.now part.now.plan.limit) }
+        length bytes.new.items ≤ most_checkpoint_bytes part.now part.now.plan.limit) }
     ensures refused { IfErr result
         (IsNoReplica part.now (R.remaining reader.old) (R.remaining reader.new)) }
     ensures failed { result ≡ Err GatherError.Read →
@@ -319,16 +319,16 @@ pub fn gather<T: AllocGlobal + Threads + Sync, R: CountedRead, W: CountedWrite, 
     reader: &mut R,
     writer: &mut W,
 ) -> Result<(), GatherError>
-    ensures ok { OnOk result (GathersJob (settings_in options.now) options.now.counted
+    ensures ok { OnOk result (GathersJob (job_settings_of options.now) options.now.counted
         (R.remaining reader.old) (R.remaining reader.new)
         (W.contents writer.old) (W.contents writer.new)) }
     // Which refusal it is.
-    ensures refused { IfErr result (HasNoReport (settings_in options.now) options.now.counted
+    ensures refused { IfErr result (HasNoReport (job_settings_of options.now) options.now.counted
         (R.remaining reader.old) (R.remaining reader.new)) }
     // Nothing was written, or a beginning of the report where memory was refused or a write failed.
     ensures kept { IfErr result (λ e. IsUnwritten e →
         Keeps (W.contents writer.old) (W.contents writer.new)) }
-    ensures front { OnErr result (WritesFrontOfJob (settings_in options.now) options.now.counted
+    ensures front { OnErr result (WritesFrontOfJob (job_settings_of options.now) options.now.counted
         (R.remaining reader.old) (R.remaining reader.new)
         (W.contents writer.old) (W.contents writer.new)) }
     // A call failed exactly where that is told.

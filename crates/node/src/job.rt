@@ -10,7 +10,7 @@ ghost use Rattle.ball_model.specs.Streams.{Rises};
 ghost use Rattle.edgelist.specs.Given.{IsGiven};
 ghost use Rattle.edgelist.specs.Reading.{meaning_of};
 ghost use Rattle.node.specs.Job.{CountsSome, GivesEdges, HasRecords, IsJobRead, SaysNetwork};
-ghost use Rattle.node.specs.Job.{numbers_in, settings_in};
+ghost use Rattle.node.specs.Job.{job_numbers_of, job_settings_of};
 ghost use Rattle.node.specs.NoJob.{IsNoJob, IsNoNetwork, IsUncounted, IsUnlisted};
 ghost use Rattle.node.specs.Section.{ReadsSection};
 
@@ -86,11 +86,11 @@ fn read_edge_section<R: CountedRead>(
     options: &JobOptions,
     reader: &mut R,
 ) -> Result<EdgeList, JobError>
-    ensures says { IfOk result (λ read. SaysNetwork (settings_in options.now)
+    ensures says { IfOk result (λ read. SaysNetwork (job_settings_of options.now)
         (R.remaining reader.old) (R.remaining reader.new) read.graph) }
-    ensures count { IfOk result (λ read. HasRecords (settings_in options.now)
+    ensures count { IfOk result (λ read. HasRecords (job_settings_of options.now)
         (R.remaining reader.old) read.records) }
-    ensures refused { IfErr result (IsNoNetwork (network_in (settings_in options.now))
+    ensures refused { IfErr result (IsNoNetwork (network_in (job_settings_of options.now))
         (R.remaining reader.old)) }
     ensures failed { result ≡ Err JobError.Read →
         Rises (R.failed_calls reader.old) (R.failed_calls reader.new) }
@@ -142,10 +142,10 @@ fn count_listed<R: CountedRead>(
     options: &JobOptions,
     reader: &mut R,
 ) -> Result<(), JobError>
-    ensures counts { OnOk result (CountsSome (settings_in options.now) options.now.counted
+    ensures counts { OnOk result (CountsSome (job_settings_of options.now) options.now.counted
         (R.remaining reader.old) (R.remaining reader.new) graph.old graph.new) }
     ensures asked { IsErr result → options.now.counted ≡ true }
-    ensures refused { IfErr result (IsUncounted (settings_in options.now)
+    ensures refused { IfErr result (IsUncounted (job_settings_of options.now)
         (R.remaining reader.old) graph.old) }
     ensures failed { result ≡ Err JobError.Read →
         Rises (R.failed_calls reader.old) (R.failed_calls reader.new) }
@@ -163,7 +163,7 @@ fn count_listed<R: CountedRead>(
 
 // The plan over a graph, or the first fault of the options.
 fn plan_for(graph: &Graph, options: &JobOptions) -> Result<Plan, PlanError>
-    ensures value { result ≡ plan_of (plan_over (numbers_in options.now) graph.now.graph) }
+    ensures value { result ≡ plan_of (plan_over (job_numbers_of options.now) graph.now.graph) }
     ensures job { IfOk result (λ plan. IsJob (job_of graph.now.graph plan)) }
 {
     let JobOptions {
@@ -201,13 +201,13 @@ pub fn read_job<R: CountedRead>(
     options: &JobOptions,
     reader: &mut R,
 ) -> Result<(Graph, Plan, u64), JobError>
-    ensures read { IfOk result (λ all. IsJobRead (settings_in options.now) options.now.counted
+    ensures read { IfOk result (λ all. IsJobRead (job_settings_of options.now) options.now.counted
         (R.remaining reader.old) (R.remaining reader.new) all.0 all.1) }
     ensures job { IfOk result (λ all. IsJob (job_of all.0.graph all.1)) }
-    ensures count { IfOk result (λ all. HasRecords (settings_in options.now)
+    ensures count { IfOk result (λ all. HasRecords (job_settings_of options.now)
         (R.remaining reader.old) all.2) }
     // Which refusal it is.
-    ensures refused { IfErr result (IsNoJob (settings_in options.now) options.now.counted
+    ensures refused { IfErr result (IsNoJob (job_settings_of options.now) options.now.counted
         (R.remaining reader.old) (R.remaining reader.new)) }
     // A call failed exactly where that is told.
     ensures failed { result ≡ Err JobError.Read →

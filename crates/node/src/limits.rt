@@ -1,7 +1,7 @@
 //! How many bytes may follow a command.
 
 ghost use Rattle.std.specs.Prelude.{◌≡◌, ◌<◌, ◌≤◌, ◌^◌, true, false};
-ghost use Rattle.checkpoint.specs.Reading.{greatest_batch, most_bytes};
+ghost use Rattle.checkpoint.specs.Reading.{greatest_batch, most_checkpoint_bytes};
 ghost use Rattle.node.specs.NodeText.{body_length};
 ghost use Rattle.node.specs.Turns.{most_body};
 
@@ -39,7 +39,7 @@ pub fn longest_batch(plan: &Plan) -> u64
 
 /// The most bytes of a checkpoint of a part: at the last superstep, with the most early batches, each the longest.
 pub fn longest_checkpoint(part: &Part) -> u64
-    ensures { result ≡ most_bytes part.now part.now.plan.limit }
+    ensures { result ≡ most_checkpoint_bytes part.now part.now.plan.limit }
 {
     let plan = part.plan();
     let size = u64::from(part.size());

@@ -11,7 +11,7 @@ ghost use Rattle.ball_model.specs.RunText.{Settings};
 ghost use Rattle.ball_model.specs.Streams.{Rises};
 ghost use Rattle.ball_model.specs.WorldText.{refusal_line};
 ghost use Rattle.node.specs.NodeText.{body_length, command_in, sent_text};
-ghost use Rattle.node.specs.Job.{IsJobRead, settings_in};
+ghost use Rattle.node.specs.Job.{IsJobRead, job_settings_of};
 ghost use Rattle.node.specs.NoJob.{HasNoNode, IsNoStart};
 ghost use Rattle.node.specs.Serving.{IsNoRequest, IsOfMachine, ReadsRequest, ServesRest};
 ghost use Rattle.node.specs.Serving.{ServesNode, ServesNone, ServesOne, Steps, StopsServing};
@@ -561,24 +561,24 @@ pub fn serve_node<R: CountedRead, W: CountedWrite, V: Watch>(
     reader: &mut R,
     writer: &mut W,
 ) -> Result<(), NodeError>
-    ensures served { OnOk result (ServesNode (settings_in options.now) options.now.counted part
+    ensures served { OnOk result (ServesNode (job_settings_of options.now) options.now.counted part
         (R.remaining reader.old) (R.remaining reader.new)
         (W.contents writer.old) (W.contents writer.new)) }
     // What was answered before a request that cannot be read stands.
     ensures stopped { (e : Fault) → result ≡ Err (NodeError.Serve e) → (IsOfMachine e → ⊥) →
-        StopsNode (settings_in options.now) options.now.counted part e
+        StopsNode (job_settings_of options.now) options.now.counted part e
         (R.remaining reader.old) (R.remaining reader.new)
         (W.contents writer.old) (W.contents writer.new) }
     // Behind the job memory is refused only where what was read is requests, and the front of a line.
     ensures wanting { result ≡ Err (NodeError.Serve ServeError.Memory) →
-        WantsNode (settings_in options.now) options.now.counted part
+        WantsNode (job_settings_of options.now) options.now.counted part
         (R.remaining reader.old) (R.remaining reader.new) }
     // Where there is no job nothing is answered.
     ensures jobless { (e : NoJob) → result ≡ Err (NodeError.Job e) →
         Keeps (W.contents writer.old) (W.contents writer.new) }
     // Which refusal it is.
     ensures refused { (e : NoJob) → result ≡ Err (NodeError.Job e) →
-        HasNoNode (settings_in options.now) options.now.counted part
+        HasNoNode (job_settings_of options.now) options.now.counted part
         (R.remaining reader.old) (R.remaining reader.new) e }
     // A call failed exactly where that is told.
     ensures read { result ≡ Err (NodeError.Serve ServeError.Read) →

@@ -14,12 +14,12 @@ ghost use Rattle.ball_model.specs.Steps.{Take, Close};
 ghost use Rattle.ball_model.specs.World.{closed_answer, taken_answer};
 ghost use Rattle.batches.specs.Reading.{batch_at};
 ghost use Rattle.ball_model.specs.Content.{is_new};
-ghost use Rattle.checkpoint.specs.Reading.{HasHead, IsSpelling, OnOkOrMemory};
+ghost use Rattle.checkpoint.specs.Reading.{HasHead, IsReplicaSpelling, OnOkOrMemory};
 ghost use Rattle.replica.specs.Change.{take_answer};
 ghost use Rattle.replica.specs.Saved.{IsKeepable};
 ghost use Rattle.world.specs.Shows.{Has};
 ghost use Rattle.node.specs.NodeText.{IsDelivered, IsGivenBack};
-ghost use Rattle.node.specs.Refusals.{IsAnswered, IsCheckpoint, IsNoCheckpoint, SaysOfBatch};
+ghost use Rattle.node.specs.Refusals.{IsAnswered, IsNodeCheckpoint, IsNoCheckpoint, SaysOfBatch};
 ghost use Rattle.node.specs.Refusals.{SaysOfCheckpoint};
 ghost use Rattle.node.specs.Turns.{GivesOrWants, Holds, IsBrought, SaysMerged, TurnsTo};
 ghost use Rattle.node.specs.declared.session.Reply.TheVariants as reply;
@@ -165,7 +165,7 @@ impl Session {
         ensures started { bytes.now ≡ [] → IfOk result IsAnswered }
         // Whichever checkpoint of the part they are: the replica is what they spell, and its superstep is told.
         ensures spelled { bytes.now ≢ [] → IfOk result (λ r. IsAnswered r →
-            IsSpelling self.new bytes.now) }
+            IsReplicaSpelling self.new bytes.now) }
         ensures answer { IfOk result (λ r. IsAnswered r →
             r ≡ reply.Answered (answer.Restarted self.new.superstep)) }
         ensures unread { (e : KeepError) → result ≡ Ok (reply.NoCheckpoint e) →
@@ -188,8 +188,8 @@ impl Session {
         ensures back { (j : Job) (p : ℕ) (h d : Holding) → Holds j p h self.now →
             bytes.now ≢ [] → IsGivenBack j p bytes.now d →
             GivesOrWants (Holds j p d) result }
-        ensures spells { bytes.now ≢ [] → IfOk result (λ r. IsSpelling r bytes.now) }
-        ensures whole { bytes.now ≢ [] → OnOk result (IsCheckpoint self.now.part bytes.now) }
+        ensures spells { bytes.now ≢ [] → IfOk result (λ r. IsReplicaSpelling r bytes.now) }
+        ensures whole { bytes.now ≢ [] → OnOk result (IsNodeCheckpoint self.now.part bytes.now) }
         ensures named { bytes.now ≢ [] → IfErr result (λ e. e ≢ KeepError.Memory →
             IsNoCheckpoint self.now.part bytes.now e) }
         ensures started { bytes.now ≡ [] → IfErr result (λ e. e ≡ KeepError.Memory) }
@@ -209,8 +209,8 @@ impl Session {
         ensures part { IfOk result (λ r. r.part ≡ self.now.part) }
         ensures back { (j : Job) (p : ℕ) (h d : Holding) → Holds j p h self.now →
             IsGivenBack j p bytes.now d → GivesOrWants (Holds j p d) result }
-        ensures spells { IfOk result (λ r. IsSpelling r bytes.now) }
-        ensures whole { OnOk result (IsCheckpoint self.now.part bytes.now) }
+        ensures spells { IfOk result (λ r. IsReplicaSpelling r bytes.now) }
+        ensures whole { OnOk result (IsNodeCheckpoint self.now.part bytes.now) }
         ensures named { IfErr result (λ e. e ≢ KeepError.Memory →
             IsNoCheckpoint self.now.part bytes.now e) }
         ensures front { OnOkOrMemory result (HasHead self.now.part bytes.now) }
@@ -383,9 +383,9 @@ pub fn read_back(alloc: Global, part: Arc<Part>, bytes: &[u8]) -> Result<Replica
         IsGivenBack j p bytes.now h → GivesOrWants (Holds j p h) result }
     // What is read is a spelling of the replica.
     ensures keepable { IfOk result IsKeepable }
-    ensures spells { IfOk result (λ r. IsSpelling r bytes.now) }
+    ensures spells { IfOk result (λ r. IsReplicaSpelling r bytes.now) }
     // Which refusal it is, and when it is none.
-    ensures whole { OnOk result (IsCheckpoint (arc_value part) bytes.now) }
+    ensures whole { OnOk result (IsNodeCheckpoint (arc_value part) bytes.now) }
     ensures named { IfErr result (λ e. e ≢ KeepError.Memory →
         IsNoCheckpoint (arc_value part) bytes.now e) }
     // Memory is refused only after the checks of the fixed fields.

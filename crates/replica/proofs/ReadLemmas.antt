@@ -13,8 +13,8 @@ use Rattle.ball_model.specs.Batches.{changed_count}
 use Rattle.ball_model.specs.Accumulated.{accumulated_of, accumulated_row}
 use Rattle.ball_model.specs.State.{State, StandsFor, content_of, heard_changes, is_heard, rows_of, marks_of, tallies_of, own_vertices}
 use Rattle.ball_model.proofs.AccumulatedPartLemmas.{accumulated_of-alike}
+use Rattle.ball_model.specs.Checkpoint.{no_figures}
 use Rattle.replica.specs.Hearing.{accumulated_by, change_by, heard_by}
-use Rattle.replica.specs.Level.{nothing}
 use Rattle.replica.specs.Seen.{IsState}
 use Rattle.replica.proofs.OwnLemmas.{vertex_of, place_below, vertex_at, part_size_le, at_own}
 use Rattle.replica.proofs.AdvanceLemmas.{holds_now}
@@ -56,12 +56,12 @@ mark_stands j p t x v h state lt own =
     ∙ mark_at j p t (x / j.plan.parts) false h.partition at.place
     ∙ ap (λ y. changed_at (mixing_of j.plan) j.graph y t) at.vertex
 
-pub tally_stands : (j : Job) (p t x : ℕ) (v : State) → StandsFor j p t v → IsState v → x < v.part.plan.vertices → x % v.part.plan.parts ≡ v.part.number → get_or v.tallies (x / v.part.plan.parts) nothing ≡ tally_at (mixing_of j.plan) j.graph x t
+pub tally_stands : (j : Job) (p t x : ℕ) (v : State) → StandsFor j p t v → IsState v → x < v.part.plan.vertices → x % v.part.plan.parts ≡ v.part.number → get_or v.tallies (x / v.part.plan.parts) no_figures ≡ tally_at (mixing_of j.plan) j.graph x t
 tally_stands j p t x v h state lt own =
     let at = is_at j p t x v h state lt own in
-    ap (λ (l : List TallyValue). get_or l (x / v.part.plan.parts) nothing) h.tallies
-    ∙ ap (λ n. get_or (tallies_of j p t) (x / n) nothing) (ap (λ (a : PlanValue). a.parts) (plan_is j p t v h))
-    ∙ tally_in j p t (x / j.plan.parts) nothing h.partition at.place
+    ap (λ (l : List TallyValue). get_or l (x / v.part.plan.parts) no_figures) h.tallies
+    ∙ ap (λ n. get_or (tallies_of j p t) (x / n) no_figures) (ap (λ (a : PlanValue). a.parts) (plan_is j p t v h))
+    ∙ tally_in j p t (x / j.plan.parts) no_figures h.partition at.place
     ∙ ap (λ y. tally_at (mixing_of j.plan) j.graph y t) at.vertex
 
 filter_if : (b : Bool) (y : ℕ) (marks : List Bool) (ys : List ℕ) → length marks ≡ length ys → length (if b then (b ∷ marks) else marks) ≡ length (if b then (y ∷ ys) else ys)

@@ -5,9 +5,10 @@ use Rattle.std.specs.List.{sum_by}
 use Rattle.std.proofs.lemmas.List.FromFn.{length-map-range_with_len, get_or-map-range_with_len}
 use Rattle.ball_model.specs.Figures.{TallyValue, Measure, estimate_with}
 use Rattle.ball_model.specs.Table.{Table}
+use Rattle.ball_model.specs.Checkpoint.{no_figures}
 use Rattle.figures.specs.declared.tally.Tally.{Tally}
 use Rattle.figures.specs.Values.{value_of}
-use Rattle.replica.specs.Level.{next_tally, next_tallies, nothing}
+use Rattle.replica.specs.Level.{next_tally, next_tallies}
 use Rattle.replica.specs.Tables.{CanBeStepped}
 use Rattle.replica.specs.Tallies.{AreRelayed, DifferAt, MarkedTallies}
 use Rattle.replica.proofs.NextLemmas.{map_lasts, sum_same}
@@ -20,7 +21,7 @@ as_many marks (Some b) shown is size = is.marked ∙ is.count ∙ sym size
 -- as many figures as rows
 pub length-next_tallies : (m : Measure) (t : ℕ) (rows : List (List ℕ)) (old : List TallyValue) (n : ℕ) → length (next_tallies m t rows old n) ≡ n
 unfolding next_tallies
-length-next_tallies m t rows old n = length-map-range_with_len (λ i. next_tally t (get_or old i nothing) (estimate_with m (get_or rows i []))) 0 n
+length-next_tallies m t rows old n = length-map-range_with_len (λ i. next_tally t (get_or old i no_figures) (estimate_with m (get_or rows i []))) 0 n
 
 -- figures whose estimate stays are as they were
 still : (t e : ℕ) (v : TallyValue) → 0 < t → v.last ≡ e → next_tally t v e ≡ v
@@ -35,13 +36,13 @@ pub stepped_differ : (m : Measure) (t : ℕ) (old new : Table) (marks : List Boo
 unfolding next_tallies
 stepped_differ m t old new marks own a b can is =
     let n = length new.rows in
-    let F : ℕ → TallyValue = λ i. next_tally t (get_or a i nothing) (estimate_with m (get_or new.rows i [])) in
+    let F : ℕ → TallyValue = λ i. next_tally t (get_or a i no_figures) (estimate_with m (get_or new.rows i [])) in
     record {
       count = can.count ∙ sym (length-next_tallies m t new.rows a n) ∙ ap length (sym is);
       marked = can.differ.marked ∙ can.differ.count ∙ sym can.count;
       same = λ i lt off.
           let inside : i < n = omega (arith, lt, can.count) in
-          sym (ap (λ (l : List TallyValue). get_or l i nothing) is ∙ get_or-map-range_with_len F 0 n i i nothing inside (omega arith) ∙ still t (estimate_with m (get_or new.rows i [])) (get_or a i nothing) can.from (can.lasts.same i inside off));
+          sym (ap (λ (l : List TallyValue). get_or l i no_figures) is ∙ get_or-map-range_with_len F 0 n i i no_figures inside (omega arith) ∙ still t (estimate_with m (get_or new.rows i [])) (get_or a i no_figures) can.from (can.lasts.same i inside off));
     }
 
 -- the sum of the last estimates

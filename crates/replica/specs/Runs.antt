@@ -69,8 +69,8 @@ RunStands = (j : Job) (p : ℕ) (calls : List Call) (answers : List Answer) (v w
     HasContent j p (content_after_all j p start_content calls) w
 
 -- and each call answers what the content says
-abbrev pub RunAnswers : Type 0
-RunAnswers = (j : Job) (p : ℕ) (calls : List Call) (answers : List Answer) (v w : State) →
+abbrev pub RunAnswersAsDue : Type 0
+RunAnswersAsDue = (j : Job) (p : ℕ) (calls : List Call) (answers : List Answer) (v w : State) →
     HasContent j p start_content v → Made j p v calls answers w →
     answers ≡ answers_due j p start_content calls
 

@@ -14,7 +14,7 @@ use Rattle.replica.specs.Hearing.{HearingValue, IsQuiet, KeepsAll}
 use Rattle.replica.specs.Kept.{AllRise, AreCounters, AreLasts, AreSums}
 use Rattle.replica.specs.Level.{differences, next_tallies, total_of, weights_of}
 use Rattle.replica.specs.Spread.{LeadInside}
-use Rattle.replica.specs.Start.{first_figures, first_rows}
+use Rattle.replica.specs.Start.{first_figures, first_rows_of_part}
 
 -- the rows, which of them changed, their figures, the sums of the estimates of all supersteps so far, and the room for
 -- sums
@@ -32,10 +32,10 @@ pub record HasEach (a : TablesValue) : Type 0 where
 
 -- what a replica of the part begins with
 pub record AreFirst (part : PartValue) (a : TablesValue) : Type 0 where
-  pub rows : a.rows ≡ record { width = 2 ^ part.plan.log2m; rows = first_rows part }
+  pub rows : a.rows ≡ record { width = 2 ^ part.plan.log2m; rows = first_rows_of_part part }
   pub marks : a.marks ≡ part.counted
-  pub tallies : a.tallies ≡ first_figures (measure_of part.plan) (first_rows part)
-  pub sums : a.sums ≡ total_of (measure_of part.plan) (first_rows part) ∷ []
+  pub tallies : a.tallies ≡ first_figures (measure_of part.plan) (first_rows_of_part part)
+  pub sums : a.sums ≡ total_of (measure_of part.plan) (first_rows_of_part part) ∷ []
   pub room : part.plan.limit + 1 ≤ a.room
 
 -- b has room for what a has

@@ -1,7 +1,7 @@
 -- Tallies that are handed out and go on in another table.
 use Rattle.std.specs.Prelude.{◌≡◌, ◌≤◌, ◌<◌, ℕ, Bool, false, List, length, slice_index_or, Option, None, Some, IfSome}
 use Rattle.ball_model.specs.Figures.{TallyValue}
-use Rattle.replica.specs.Level.{nothing}
+use Rattle.ball_model.specs.Checkpoint.{no_figures}
 
 -- the tallies that are shown: those that are handed out, or else the own ones
 unfoldable pub shown_tallies : List TallyValue → Option (List TallyValue) → List TallyValue
@@ -13,7 +13,7 @@ pub record DifferAt (marks : List Bool) (a b : List TallyValue) : Type 0 where
   pub count : length a ≡ length b
   pub marked : length marks ≡ length a
   pub same : (i : ℕ) → i < length a → slice_index_or marks i false ≡ false →
-      slice_index_or a i nothing ≡ slice_index_or b i nothing
+      slice_index_or a i no_figures ≡ slice_index_or b i no_figures
 
 -- tallies, with a mark for each
 pub record MarkedTallies : Type 0 where

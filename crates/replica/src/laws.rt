@@ -1,6 +1,6 @@
 //! What a replica promises over whole runs: the contract of each function is the law, and its body is empty.
 
-ghost use Rattle.replica.specs.Runs.{RunStands, RunAnswers, RunIsInTime, StableIsQuiet};
+ghost use Rattle.replica.specs.Runs.{RunStands, RunAnswersAsDue, RunIsInTime, StableIsQuiet};
 ghost use Rattle.replica.specs.Runs.{StableReaches, OverIsAtEnd, HoldsItsWindow, SameContentIsSame};
 ghost use Rattle.replica.specs.Runs.{SameCallsAlike};
 ghost use Rattle.replica.specs.Saved.{HadFits};
@@ -15,7 +15,7 @@ ghost use Rattle.replica.specs.Saved.{HadFits};
 /// run is over, it is at the end.
 pub fn end_to_end()
     ensures stands { RunStands }
-    ensures answers { RunAnswers }
+    ensures answers { RunAnswersAsDue }
     ensures in_time { RunIsInTime }
     ensures stable { StableIsQuiet }
     ensures reaches { StableReaches }

@@ -18,9 +18,9 @@ ghost use Rattle.ball_model.specs.Batches.{changed_count};
 ghost use Rattle.ball_model.specs.Content.{verdict_of};
 ghost use Rattle.ball_model.specs.State.{State, StandsFor, content_of, early_at, rows_of};
 ghost use Rattle.ball_model.specs.State.{tallies_of, sums_of};
+ghost use Rattle.ball_model.specs.Checkpoint.{no_figures};
 ghost use Rattle.replica.specs.Ahead.{early_batches, early_names, true_early};
 ghost use Rattle.replica.specs.Level.{is_changing, level_verdict, found_verdict, missing_in};
-ghost use Rattle.replica.specs.Level.{nothing};
 ghost use Rattle.replica.specs.Hearing.{KeepsAllOrNone, SaysSame, accumulated_by, change_by};
 ghost use Rattle.replica.specs.Hearing.{heard_by};
 ghost use Rattle.replica.specs.Saved.{IsFigures};
@@ -104,7 +104,8 @@ pub trait Shown {
         requires vertex { x < (state self.now).part.plan.vertices }
         requires own { x % (state self.now).part.plan.parts ≡ (state self.now).part.number }
         ensures value { value_of result ≡
-            slice_index_or (state self.now).tallies (x / (state self.now).part.plan.parts) nothing }
+            slice_index_or (state self.now).tallies (x / (state self.now).part.plan.parts)
+            no_figures }
         ensures stands { (j : Job) (p t : ℕ) → StandsFor j p t (state self.now) →
             value_of result ≡ tally_at (mixing_of j.plan) j.graph x t }
     {

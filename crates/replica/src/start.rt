@@ -9,7 +9,8 @@ ghost use Rattle.figures.specs.Values.{value_of};
 ghost use Rattle.replica.specs.Kept.{AreCounters};
 ghost use Rattle.replica.specs.Level.{total_of};
 ghost use Rattle.replica.specs.Progress.{CanGoOn};
-ghost use Rattle.replica.specs.Start.{IsEmptyAt, Starts, first_figures, first_row, first_rows};
+ghost use Rattle.replica.specs.Start.{IsEmptyAt, Starts, first_figures, first_row};
+ghost use Rattle.replica.specs.Start.{first_rows_of_part};
 
 use crate::early::Early;
 use crate::hearing::Hearing;
@@ -49,7 +50,7 @@ fn start_row(part: &Part, i: u32, rows: &mut Rows)
 /// The registers that the vertices of the part begin with.
 pub fn start_rows(alloc: Global, part: &Part) -> Result<Rows, AllocError>
     ensures { IfOk result (λ rows. rows ≡
-        record { width = 2 ^ part.now.plan.log2m; rows = first_rows part.now }) }
+        record { width = 2 ^ part.now.plan.log2m; rows = first_rows_of_part part.now }) }
 {
     let plan = part.plan();
     let mut rows = Rows::fixed(alloc, part.size(), plan.width() as u16)?;

@@ -9,7 +9,7 @@ use Rattle.figures.specs.declared.ends.Figures.{Figures}
 use Rattle.ball_model.specs.PlanValue.{part_size}
 use Rattle.ball_model.specs.State.{State}
 use Rattle.replica.proofs.OwnLemmas.{place_below}
-use Rattle.report.specs.Parts.{AreAmong, figures_among, figures_at, figures_in, figures_line, lines_between, nothing, vertices_text}
+use Rattle.report.specs.Parts.{AreAmong, figures_among, figures_at, figures_in, figures_line, lines_between, zero_figures, vertices_text}
 use Rattle.report.proofs.WholeLemmas.{HaveSizes}
 
 -- the vertices from `from` on and below `to` have their places from from / parts on and below to / parts, rounded up
@@ -66,12 +66,12 @@ same_figures first last x vs d some low high =
     let whole : length (map figures_in vs) ≡ length vs = length-map vs figures_in in
     let all : List Figures = get_or (map figures_in vs) (x % length vs) [] in
     let at : first + (x / length vs - first) ≡ x / length vs - 0 = omega arith in
-    ap (λ k. get_or (get_or (map (figures_among first last) vs) (x % k) []) (x / k - first) nothing) count
-    ∙ ap (λ (l : List Figures). get_or l (x / length vs - first) nothing) (own_among first last x vs d some)
-    ∙ get_or-take (last - first) (drop first all) (x / length vs - first) nothing (omega arith)
-    ∙ get_or-drop first all (x / length vs - first) nothing
-    ∙ ap (λ i. get_or all i nothing) at
-    ∙ ap (λ k. get_or (get_or (map figures_in vs) (x % k) []) (x / k - 0) nothing) (sym whole)
+    ap (λ k. get_or (get_or (map (figures_among first last) vs) (x % k) []) (x / k - first) zero_figures) count
+    ∙ ap (λ (l : List Figures). get_or l (x / length vs - first) zero_figures) (own_among first last x vs d some)
+    ∙ get_or-take (last - first) (drop first all) (x / length vs - first) zero_figures (omega arith)
+    ∙ get_or-drop first all (x / length vs - first) zero_figures
+    ∙ ap (λ i. get_or all i zero_figures) at
+    ∙ ap (λ k. get_or (get_or (map figures_in vs) (x % k) []) (x / k - 0) zero_figures) (sym whole)
 
 lines_same : (f h : ℕ → List ℕ) (from a n to : ℕ) → from ≤ a → a + n ≤ to → ((x : ℕ) → from ≤ x → x < to → f x ≡ h x) → flat_map f (range_with_len a n) ≡ flat_map h (range_with_len a n)
 lines_same f h from a zero to low high e = refl

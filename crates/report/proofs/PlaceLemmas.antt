@@ -3,7 +3,7 @@ use Rattle.std.proofs.Common.{◌≡◌, ℕ, ◌-◌, ◌/◌, ◌%◌, ◌<◌
 use Rattle.std.specs.Global.{Global}
 use Rattle.std.proofs.lemmas.List.{get_or-map, get_or_default, length-map}
 use Rattle.figures.specs.declared.ends.Figures.{Figures}
-use Rattle.report.specs.Parts.{AreAmong, figures_at, lists_in, nothing}
+use Rattle.report.specs.Parts.{AreAmong, figures_at, lists_in, zero_figures}
 
 -- the figures of a partition as a list
 own_list : (parts : List (Vec Figures Global)) (p : ℕ) (own : Vec Figures Global) → p < length parts → own ≡ get_or parts p own → get_or (lists_in parts) p [] ≡ own.items
@@ -41,6 +41,6 @@ figures_there first x parts own f place is at =
     let some : 0 < length parts = (is_placed first x parts place).some in
     let within : x % length parts < length parts = omega arith in
     at
-    ∙ get_or_default own.items (x / length parts - first) f nothing (place_inside first x parts own place is)
-    ∙ ap (λ (l : List Figures). get_or l (x / length parts - first) nothing) (sym (own_list parts (x % length parts) own within is))
-    ∙ ap (λ k. get_or (get_or (lists_in parts) (x % k) []) (x / k - first) nothing) (sym count)
+    ∙ get_or_default own.items (x / length parts - first) f zero_figures (place_inside first x parts own place is)
+    ∙ ap (λ (l : List Figures). get_or l (x / length parts - first) zero_figures) (sym (own_list parts (x % length parts) own within is))
+    ∙ ap (λ k. get_or (get_or (lists_in parts) (x % k) []) (x / k - first) zero_figures) (sym count)

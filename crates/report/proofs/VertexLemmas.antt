@@ -12,7 +12,7 @@ use Rattle.ball_model.specs.Figures.{TallyValue, empty_of}
 use Rattle.ball_model.specs.Report.{vertex_line, vertex_text}
 use Rattle.ball_model.specs.State.{State, StandsFor, own_vertices, rows_of, tallies_of}
 use Rattle.replica.proofs.OwnLemmas.{at_own, place_below, vertex_at}
-use Rattle.report.specs.Parts.{figures_at, figures_in, figures_line, nothing, vertices_text}
+use Rattle.report.specs.Parts.{figures_at, figures_in, figures_line, zero_figures, vertices_text}
 
 -- two lists made of one
 zip_made : {A B C D : Type 0} (f : B → C → D) (h : A → B) (k : A → C) (xs : List A) → map (λ p. f p.0 p.1) (zip (map h xs) (map k xs)) ≡ map (λ x. f (h x) (k x)) xs
@@ -41,11 +41,11 @@ true_figures_at j vs t x v some count lt is h =
     let within : x % parts < length vs = omega arith in
     let below : x % parts < parts = omega arith in
     let at : x / parts - 0 ≡ x / parts = omega arith in
-    ap (λ k. get_or (get_or (map figures_in vs) (x % k) []) (x / k - 0) nothing) long
-    ∙ ap (λ i. get_or (get_or (map figures_in vs) (x % parts) []) i nothing) at
-    ∙ ap (λ (l : List Figures). get_or l (x / parts) nothing)
+    ap (λ k. get_or (get_or (map figures_in vs) (x % k) []) (x / k - 0) zero_figures) long
+    ∙ ap (λ i. get_or (get_or (map figures_in vs) (x % parts) []) i zero_figures) at
+    ∙ ap (λ (l : List Figures). get_or l (x / parts) zero_figures)
     (get_or-map figures_in vs (x % parts) v [] within ∙ ap figures_in (sym is) ∙ own_figures j (x % parts) t v h)
-    ∙ at_own (true_figures j t) j.graph.vertices parts (x % parts) (x / parts) nothing below (place_below j.graph.vertices parts x some lt)
+    ∙ at_own (true_figures j t) j.graph.vertices parts (x % parts) (x / parts) zero_figures below (place_below j.graph.vertices parts x some lt)
     ∙ ap (true_figures j t) (vertex_at parts x some)
 
 -- the line of these figures

@@ -5,7 +5,7 @@ use Rattle.std.specs.List.{list_any}
 use Rattle.workers.specs.declared.ends.Faults.{Faults}
 use Rattle.workers.specs.declared.node.NodeEnd.{NodeEnd}
 use Rattle.workers.specs.declared.node.NodeError.{NodeError}
-use Rattle.workers.specs.Ends.{all_lost, faults_in, first_of, first_waiting, found_full, is_lost, lacked_memory, least_lost, least_waiting, no_faults, waited, with_end, with_part}
+use Rattle.workers.specs.Ends.{all_lost, faults_in, first_some, first_waiting, found_full, is_lost, lacked_memory, least_lost, least_waiting, no_faults, waited, with_end, with_part}
 
 -- ---- tests and options, one behind another
 or_three : (a b c : Bool) → (a || (b || c)) ≡ ((a || b) || c)
@@ -22,11 +22,11 @@ and_three true false c = refl
 and_three false true c = refl
 and_three false false c = refl
 
-first_three : {A : Type 0} (a b c : Option A) → first_of a (first_of b c) ≡ first_of (first_of a b) c
+first_three : {A : Type 0} (a b c : Option A) → first_some a (first_some b c) ≡ first_some (first_some a b) c
 first_three None b c = refl
 first_three (Some x) b c = refl
 
-first_none : {A : Type 0} (a : Option A) → first_of a None ≡ a
+first_none : {A : Type 0} (a : Option A) → first_some a None ≡ a
 first_none None = refl
 first_none (Some x) = refl
 
@@ -37,7 +37,7 @@ with_rest p k rs f = record {
   lost = f.lost;
   full = f.full || list_any found_full rs;
   memory = f.memory || list_any lacked_memory rs;
-  starved = first_of f.starved (first_waiting p k rs);
+  starved = first_some f.starved (first_waiting p k rs);
 }
 
 pub rest_none : (p k : ℕ) (f : Faults) → with_rest p k [] f ≡ f
@@ -66,10 +66,10 @@ lost_more r rs all was both h is = ap (λ (b : Bool). b && all_lost rs) is ∙ (
 -- what is noted, and then of the partitions from number p on
 abbrev pub with_parts : {V : Type 0} → (V → List (Result NodeEnd NodeError)) → ℕ → List V → Faults → Faults
 with_parts items p rest f = record {
-  lost = first_of f.lost (least_lost items p rest);
+  lost = first_some f.lost (least_lost items p rest);
   full = f.full || list_any (λ own. list_any found_full (items own)) rest;
   memory = f.memory || list_any (λ own. list_any lacked_memory (items own)) rest;
-  starved = first_of f.starved (least_waiting items p rest);
+  starved = first_some f.starved (least_waiting items p rest);
 }
 
 pub parts_none : {V : Type 0} (items : V → List (Result NodeEnd NodeError)) (p : ℕ) (f : Faults) → with_parts items p [] f ≡ f
@@ -77,7 +77,7 @@ unfolding least_lost least_waiting
 parts_none items p f = λ i. record { lost = first_none f.lost i; full = or_none f.full i; memory = or_none f.memory i; starved = first_none f.starved i }
 
 lost_first : {V : Type 0} (items : V → List (Result NodeEnd NodeError)) (p : ℕ) (rest : List V) (b : Bool) →
-    (if b then Some p else least_lost items (p + 1) rest) ≡ first_of (if b then Some p else None) (least_lost items (p + 1) rest)
+    (if b then Some p else least_lost items (p + 1) rest) ≡ first_some (if b then Some p else None) (least_lost items (p + 1) rest)
 lost_first items p rest true = refl
 lost_first items p rest false = refl
 
@@ -85,8 +85,8 @@ pub parts_more : {V : Type 0} (items : V → List (Result NodeEnd NodeError)) (p
     with_parts items p (own ∷ rest) f ≡ with_parts items (p + 1) rest (with_part p (items own) f)
 unfolding least_lost least_waiting
 parts_more items p own rest f =
-    let lost : first_of f.lost (if all_lost (items own) then Some p else least_lost items (p + 1) rest) ≡ first_of (first_of f.lost (if all_lost (items own) then Some p else None)) (least_lost items (p + 1) rest) =
-    ap (first_of f.lost) (lost_first items p rest (all_lost (items own))) ∙ first_three f.lost (if all_lost (items own) then Some p else None) (least_lost items (p + 1) rest) in
+    let lost : first_some f.lost (if all_lost (items own) then Some p else least_lost items (p + 1) rest) ≡ first_some (first_some f.lost (if all_lost (items own) then Some p else None)) (least_lost items (p + 1) rest) =
+    ap (first_some f.lost) (lost_first items p rest (all_lost (items own))) ∙ first_three f.lost (if all_lost (items own) then Some p else None) (least_lost items (p + 1) rest) in
     λ i. record {
       lost = lost i;
       full = or_three f.full (list_any found_full (items own)) (list_any (λ o. list_any found_full (items o)) rest) i;
@@ -114,17 +114,17 @@ lost_all rest own lost b none h is = sym h ∙ (ap (λ (r : List (Result NodeEnd
 -- what is noted, and then of a partition, where it is told whether all its nodes were lost
 abbrev with_lost : Bool → ℕ → List (Result NodeEnd NodeError) → Faults → Faults
 with_lost b p own f = record {
-  lost = first_of f.lost (if b then Some p else None);
+  lost = first_some f.lost (if b then Some p else None);
   full = f.full || list_any found_full own;
   memory = f.memory || list_any lacked_memory own;
-  starved = first_of f.starved (first_waiting p 0 own);
+  starved = first_some f.starved (first_waiting p 0 own);
 }
 
 pub part_lost : (p k : ℕ) (rest own : List (Result NodeEnd NodeError)) (old now next : Faults) (lost : Bool) → rest ≡ [] → with_rest p k rest now ≡ with_rest p 0 own old → (lost && all_lost rest) ≡ all_lost own → lost ≡ true →
-    next ≡ record now { lost = first_of now.lost (Some p) } → next ≡ with_part p own old
+    next ≡ record now { lost = first_some now.lost (Some p) } → next ≡ with_part p own old
 part_lost p k rest own old now next lost none h all is noted =
     noted
-    ∙ (ap (λ (f : Faults). record f { lost = first_of f.lost (Some p) }) (noted_all p k rest own old now none h)
+    ∙ (ap (λ (f : Faults). record f { lost = first_some f.lost (Some p) }) (noted_all p k rest own old now none h)
     ∙ ap (λ (b : Bool). with_lost b p own old) (sym (lost_all rest own lost true none all is)))
 
 pub part_kept : (p k : ℕ) (rest own : List (Result NodeEnd NodeError)) (old now : Faults) (lost : Bool) → rest ≡ [] → with_rest p k rest now ≡ with_rest p 0 own old → (lost && all_lost rest) ≡ all_lost own → lost ≡ false → now ≡ with_part p own old
@@ -133,6 +133,6 @@ part_kept p k rest own old now lost none h all is =
       lost = sym (first_none old.lost) i;
       full = old.full || list_any found_full own;
       memory = old.memory || list_any lacked_memory own;
-      starved = first_of old.starved (first_waiting p 0 own);
+      starved = first_some old.starved (first_waiting p 0 own);
     } in
     noted_all p k rest own old now none h ∙ (kept ∙ ap (λ (b : Bool). with_lost b p own old) (sym (lost_all rest own lost false none all is)))

@@ -26,7 +26,7 @@ use Rattle.replica.proofs.KeptLemmas.{true_named}
 use Rattle.replica.proofs.LevelLemmas.{plan_is, number_is}
 use Rattle.replica.proofs.RunLemmas.{has_content, made}
 use Rattle.replica.proofs.SameLemmas.{content_is_one}
-use Rattle.workers.specs.Tie.{Step, Calls, Closes as ClosesUp, StartsAnew, after_call, after_step, after_steps, IsOwnName, IsOwnCall, IsOwnStep, AreOwnSteps, calls_in, HasCome, HasGone, IsPathTo, Reaches, AreOfNode, IsRunOfWorld, PathsAreOfNodes, ReplicasAreOfRuns}
+use Rattle.workers.specs.Tie.{Step, Calls, Closes as ClosesUp, StartsAnew, after_board_call, after_step, after_steps, IsOwnName, IsOwnCall, IsOwnStep, AreOwnSteps, calls_among, HasCome, HasGone, IsPathTo, Reaches, AreOfNode, IsRunOfWorld, PathsAreOfNodes, ReplicasAreOfRuns}
 use Rattle.workers.proofs.TieLemmas.{histories_are_runs}
 use Rattle.workers.proofs.TurnLemmas.{name_of_true}
 
@@ -41,8 +41,8 @@ unfolding after_steps AreOwnSteps
 own-append j p h [] ys a b = b
 own-append j p h (x ∷ xs) ys a b = (a.0, own-append j p (after_step j p h x) xs ys a.1 b)
 
-calls-append : (xs ys : List Step) → calls_in (xs ++ ys) ≡ calls_in xs ++ calls_in ys
-unfolding calls_in
+calls-append : (xs ys : List Step) → calls_among (xs ++ ys) ≡ calls_among xs ++ calls_among ys
+unfolding calls_among
 calls-append [] ys = refl
 calls-append (Calls e ∷ xs) ys = ap (λ (l : List Event). e ∷ l) (calls-append xs ys)
 calls-append (ClosesUp ∷ xs) ys = calls-append xs ys
@@ -50,19 +50,19 @@ calls-append (StartsAnew ∷ xs) ys = calls-append xs ys
 
 -- ---- one step
 pub come_nowhere : (v w : Caller) (p : ℕ) (h : Holding) → CalledNothing v w → HasCome v p h h w
-unfolding after_steps AreOwnSteps calls_in
+unfolding after_steps AreOwnSteps calls_among
 come_nowhere v w p h none = record { steps = []; own = tt; calls = none ∙ sym (append-nil (calls_by v.number v.seen)); held = refl }
 
-pub come_by_call : (v w : Caller) (p : ℕ) (e : Event) (h d : Holding) → Called v e w → IsOwnCall v.seen.job h e → after_call v.seen.job h e ≡ d → HasCome v p h d w
-unfolding after_steps AreOwnSteps calls_in
+pub come_by_call : (v w : Caller) (p : ℕ) (e : Event) (h d : Holding) → Called v e w → IsOwnCall v.seen.job h e → after_board_call v.seen.job h e ≡ d → HasCome v p h d w
+unfolding after_steps AreOwnSteps calls_among
 come_by_call v w p e h d called own is = record { steps = Calls e ∷ []; own = (own, tt); calls = called.own; held = is }
 
 pub come_by_close : (v : Caller) (p : ℕ) (h d : Holding) → held_after v.seen.job h Close ≡ d → HasCome v p h d v
-unfolding after_steps AreOwnSteps calls_in
+unfolding after_steps AreOwnSteps calls_among
 come_by_close v p h d is = record { steps = ClosesUp ∷ []; own = (tt, tt); calls = sym (append-nil (calls_by v.number v.seen)); held = is }
 
 pub come_anew : (v : Caller) (p : ℕ) (h d : Holding) → start_holding v.seen.job.plan p ≡ d → HasCome v p h d v
-unfolding after_steps AreOwnSteps calls_in
+unfolding after_steps AreOwnSteps calls_among
 come_anew v p h d is = record { steps = StartsAnew ∷ []; own = (tt, tt); calls = sym (append-nil (calls_by v.number v.seen)); held = is }
 
 -- ---- what is said where a call is refused
@@ -86,18 +86,18 @@ if_none (Some x) is h = absurd (cc)
 
 -- ---- one path behind another
 come_on : (j : Job) (n : ℕ) (u v w : Caller) (p : ℕ) (a b c : Holding) (steps : List Step) → u.seen.job ≡ j → u.number ≡ n → HasCome u p a b v →
-    AreOwnSteps j p b steps → calls_by n w.seen ≡ calls_by n v.seen ++ calls_in steps → after_steps j p b steps ≡ c → HasCome u p a c w
+    AreOwnSteps j p b steps → calls_by n w.seen ≡ calls_by n v.seen ++ calls_among steps → after_steps j p b steps ≡ c → HasCome u p a c w
 come_on j n u v w p a b c steps job number h own calls held =
     let here : after_steps u.seen.job p a h.steps ≡ b = h.held in
     let own_here : AreOwnSteps u.seen.job p (after_steps u.seen.job p a h.steps) steps = subst (λ (d : Holding). AreOwnSteps u.seen.job p d steps) (sym here) (subst (λ (k : Job). AreOwnSteps k p b steps) (sym job) own) in
-    let made : calls_by u.number w.seen ≡ calls_by u.number v.seen ++ calls_in steps = subst (λ (k : ℕ). calls_by k w.seen ≡ calls_by k v.seen ++ calls_in steps) (sym number) calls in
+    let made : calls_by u.number w.seen ≡ calls_by u.number v.seen ++ calls_among steps = subst (λ (k : ℕ). calls_by k w.seen ≡ calls_by k v.seen ++ calls_among steps) (sym number) calls in
     let end : after_steps u.seen.job p b steps ≡ c = subst (λ (k : Job). after_steps k p b steps ≡ c) (sym job) held in
     record {
       steps = h.steps ++ steps;
       own = own-append u.seen.job p a h.steps steps h.own own_here;
       calls = made
-          ∙ (ap (λ (l : List Event). l ++ calls_in steps) h.calls
-          ∙ (append_assoc (calls_by u.number u.seen) (calls_in h.steps) (calls_in steps) ∙ ap (λ (l : List Event). calls_by u.number u.seen ++ l) (sym (calls-append h.steps steps))));
+          ∙ (ap (λ (l : List Event). l ++ calls_among steps) h.calls
+          ∙ (append_assoc (calls_by u.number u.seen) (calls_among h.steps) (calls_among steps) ∙ ap (λ (l : List Event). calls_by u.number u.seen ++ l) (sym (calls-append h.steps steps))));
       held = after_steps-append u.seen.job p a h.steps steps ∙ (ap (λ (d : Holding). after_steps u.seen.job p d steps) here ∙ end);
     }
 
@@ -181,26 +181,26 @@ own_post j p target b a v stands below other same is =
 record FirstSteps (j : Job) (p : ℕ) (h : Holding) (made : List Event) : Type 0 where
   steps : List Step
   own : AreOwnSteps j p h steps
-  calls : calls_in steps ≡ made
+  calls : calls_among steps ≡ made
 
 no_steps : (j : Job) (p : ℕ) (h : Holding) → FirstSteps j p h []
-unfolding AreOwnSteps calls_in
+unfolding AreOwnSteps calls_among
 no_steps j p h = record { steps = []; own = tt; calls = refl }
 
-first_more : (j : Job) (p : ℕ) (h : Holding) (step : Step) (made : List Event) → IsOwnStep j h step → FirstSteps j p (after_step j p h step) made → FirstSteps j p h (calls_in (step ∷ []) ++ made)
-unfolding AreOwnSteps calls_in
+first_more : (j : Job) (p : ℕ) (h : Holding) (step : Step) (made : List Event) → IsOwnStep j h step → FirstSteps j p (after_step j p h step) made → FirstSteps j p h (calls_among (step ∷ []) ++ made)
+unfolding AreOwnSteps calls_among
 first_more j p h (Calls e) made own f = record { steps = Calls e ∷ f.steps; own = (own, f.own); calls = ap (λ (l : List Event). e ∷ l) f.calls }
 first_more j p h ClosesUp made own f = record { steps = ClosesUp ∷ f.steps; own = (own, f.own); calls = f.calls }
 first_more j p h StartsAnew made own f = record { steps = StartsAnew ∷ f.steps; own = (own, f.own); calls = f.calls }
 
-first_steps : (j : Job) (p : ℕ) (h : Holding) (steps : List Step) (made rest : List Event) → AreOwnSteps j p h steps → made ++ rest ≡ calls_in steps → FirstSteps j p h made
-unfolding AreOwnSteps calls_in
+first_steps : (j : Job) (p : ℕ) (h : Holding) (steps : List Step) (made rest : List Event) → AreOwnSteps j p h steps → made ++ rest ≡ calls_among steps → FirstSteps j p h made
+unfolding AreOwnSteps calls_among
 first_steps j p h steps [] rest own is = no_steps j p h
 first_steps j p h [] (e ∷ made) rest own is = absurd (cc)
 first_steps j p h (Calls c ∷ steps) (e ∷ made) rest own is =
-    let both : e ∷ (made ++ rest) ≡ c ∷ calls_in steps = is in
+    let both : e ∷ (made ++ rest) ≡ c ∷ calls_among steps = is in
     let same : e ≡ c = cc both in
-    let more : made ++ rest ≡ calls_in steps = cc both in
+    let more : made ++ rest ≡ calls_among steps = cc both in
     subst (λ (x : Event). FirstSteps j p h (x ∷ made)) (sym same) (first_more j p h (Calls c) made own.0 (first_steps j p (after_step j p h (Calls c)) steps made rest own.1 more))
 first_steps j p h (ClosesUp ∷ steps) (e ∷ made) rest own is = first_more j p h ClosesUp (e ∷ made) own.0 (first_steps j p (after_step j p h ClosesUp) steps (e ∷ made) rest own.1 is)
 first_steps j p h (StartsAnew ∷ steps) (e ∷ made) rest own is = first_more j p h StartsAnew (e ∷ made) own.0 (first_steps j p (after_step j p h StartsAnew) steps (e ∷ made) rest own.1 is)
@@ -215,7 +215,7 @@ of_node j p made below f = record {
 
 pub paths_are_of_nodes : PathsAreOfNodes
 paths_are_of_nodes v w p made below none path begins =
-    let all : calls_by v.number w.seen ≡ calls_in path.come.steps = path.come.calls ∙ ap (λ (l : List Event). l ++ calls_in path.come.steps) none in
+    let all : calls_by v.number w.seen ≡ calls_among path.come.steps = path.come.calls ∙ ap (λ (l : List Event). l ++ calls_among path.come.steps) none in
     of_node v.seen.job p made below (first_steps v.seen.job p (start_holding v.seen.job.plan p) path.come.steps made begins.0 path.come.own (begins.1 ∙ all))
 
 -- the steps of a caller that came to a replica, in a history of its job with all its calls
@@ -224,7 +224,7 @@ came_in : (h : History) (v w : Caller) (p : ℕ) (r : State) → p < h.job.plan.
 came_in h v w p r below job none path made = record {
   below = below;
   own = subst (λ (j : Job). AreOwnSteps j p (start_holding j.plan p) path.steps) job path.own;
-  calls = sym (made ∙ (path.calls ∙ ap (λ (l : List Event). l ++ calls_in path.steps) none));
+  calls = sym (made ∙ (path.calls ∙ ap (λ (l : List Event). l ++ calls_among path.steps) none));
   held = subst (λ (j : Job). after_steps j p (start_holding j.plan p) path.steps ≡ holding_in r) job path.held;
 }
 

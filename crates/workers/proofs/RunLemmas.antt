@@ -17,11 +17,11 @@ use Rattle.workers.specs.declared.ends.JobError.TheVariants as job
 use Rattle.workers.specs.declared.options.RunOptions.{RunOptions}
 use Rattle.workers.specs.declared.bytes.RunError.{RunError}
 use Rattle.workers.specs.declared.bytes.RunError.TheVariants as fault
-use Rattle.workers.specs.Options.{settings_of}
-use Rattle.workers.specs.Run.{AddsReport, AnswersNetwork, IsListRefusal, IsRunRefusal, RefusesNetwork, RefusesRead, WherePlain, counted_by, job_fault}
+use Rattle.workers.specs.Options.{run_settings_of}
+use Rattle.workers.specs.Run.{AddsReport, AnswersNetwork, IsRunListRefusal, IsRunRefusal, RefusesNetwork, RefusesRead, WherePlain, run_counted_by, job_fault}
 
 -- what holds of plain bytes, and what follows from it
-pub where_weaker : (o : RunOptions) (told : Option (List ℕ)) (counted : Option (Bor (List ℕ))) (P Q : Settings → List ℕ → Option (List ℕ) → Type 0) → ((input : List ℕ) → P (settings_of o) input (list_in counted) → Q (settings_of o) input (list_in counted)) → WherePlain o told counted P → WherePlain o told counted Q
+pub where_weaker : (o : RunOptions) (told : Option (List ℕ)) (counted : Option (Bor (List ℕ))) (P Q : Settings → List ℕ → Option (List ℕ) → Type 0) → ((input : List ℕ) → P (run_settings_of o) input (list_in counted) → Q (run_settings_of o) input (list_in counted)) → WherePlain o told counted P → WherePlain o told counted Q
 where_weaker o None counted P Q f h = tt
 where_weaker o (Some input) counted P Q f h = λ plain. f input (h plain)
 
@@ -30,8 +30,8 @@ where_always o None counted Q f = tt
 where_always o (Some input) counted Q f = λ plain. f _ _ _
 
 -- what is refused of a list, once there is a network
-pub refuses_list : (o : RunOptions) (told : Option (List ℕ)) (counted : Option (Bor (List ℕ))) (all : Network) (e : CountedError) → ForPlain told (λ text. network_in (settings_of o) text ≡ Ok all) →
-    (IfSome (list_in counted) IsPlain → RefusesList (counted_by o all counted) e) → WherePlain o told counted (λ s input list. IsListRefusal s input list e)
+pub refuses_list : (o : RunOptions) (told : Option (List ℕ)) (counted : Option (Bor (List ℕ))) (all : Network) (e : CountedError) → ForPlain told (λ text. network_in (run_settings_of o) text ≡ Ok all) →
+    (IfSome (list_in counted) IsPlain → RefusesList (run_counted_by o all counted) e) → WherePlain o told counted (λ s input list. IsRunListRefusal s input list e)
 refuses_list o None counted all e read refused = tt
 refuses_list o (Some input) counted all e read refused = λ plain. record { all = all; read = read input refl plain.0; refused = refused plain.1 }
 
@@ -79,7 +79,7 @@ wrote o told counted contents old new text (Err e) report h = tt
 
 pub unwritten : {T : Type 0} (o : RunOptions) (told : Option (List ℕ)) (counted : Option (Bor (List ℕ))) (text : List ℕ) (r : Result T RunError) → WherePlain o told counted (λ s input list. IsReport s input list text) → IfErr r (λ e. e ≡ fault.Write) → WherePlain o told counted (λ s input list. IfErr r (IsRunRefusal s input list))
 unwritten o told counted text (Ok x) report h = where_always o told counted (λ s input list. IfErr {T = ℕ} (Ok 0) (IsRunRefusal s input list)) (λ s input list. tt)
-unwritten o told counted text (Err e) report h = where_weaker o told counted (λ s input list. IsReport s input list text) (λ s input list. IsRunRefusal s input list e) (λ input is. subst (λ (x : RunError). IsRunRefusal (settings_of o) input (list_in counted) x) (sym h) (record { network = is.network; read = is.read; planned = is.report.planned })) report
+unwritten o told counted text (Err e) report h = where_weaker o told counted (λ s input list. IsReport s input list text) (λ s input list. IsRunRefusal s input list e) (λ input is. subst (λ (x : RunError). IsRunRefusal (run_settings_of o) input (list_in counted) x) (sym h) (record { network = is.network; read = is.read; planned = is.report.planned })) report
 
 -- the plan that is asked for, where there is one
 plan_or_fault : (p : PlanValue) → IfOk (plan_of p) (λ q. plan_of p ≡ Ok p)

@@ -23,7 +23,7 @@ use Rattle.ball_model.specs.WorldLaws.{IsWorld}
 use Rattle.ball_model.proofs.HistoryLemmas.{same_name-true, events_by-append, after_all-append}
 use Rattle.ball_model.proofs.WorldLemmas.{node_same, node_other, same_or_other, node_is_one, run_stays, start_is_world}
 use Rattle.replica.proofs.RunLemmas.{same_plan-self}
-use Rattle.workers.specs.Tie.{Step, Calls, Closes, StartsAnew, after_call, after_steps, IsOwnName, IsOwnCall, AreOwnSteps, calls_in, Reaches, AreOfNode, sent_by, copied_by, sent_in, copied_in, ComesTo, CanHold, HistoriesAreRuns}
+use Rattle.workers.specs.Tie.{Step, Calls, Closes, StartsAnew, after_board_call, after_steps, IsOwnName, IsOwnCall, AreOwnSteps, calls_among, Reaches, AreOfNode, sent_by, copied_by, sent_in, copied_in, ComesTo, CanHold, HistoriesAreRuns}
 
 -- ---- lists
 -- an element of a list
@@ -141,7 +141,7 @@ AllFound : List BatchName → List Holding → List Event → Type 0
 AllFound sent copies [] = ⊤
 AllFound sent copies (e ∷ es) = Found sent copies e × AllFound sent copies es
 
-calls : (j : Job) (w : World) (id : NodeId) (h : Holding) (e : Event) → IsWorld j w → node_at w id ≡ Some (holds h) → IsOwnCall j h e → Found w.sent w.copies e → Does j w id (after_call j h e)
+calls : (j : Job) (w : World) (id : NodeId) (h : Holding) (e : Event) → IsWorld j w → node_at w id ≡ Some (holds h) → IsOwnCall j h e → Found w.sent w.copies e → Does j w id (after_board_call j h e)
 calls j w id h (Post name r) ok at own f = nothing_done j w id h at
 calls j w id h (Fetch name) ok at own f = takes j w id h name at f
 calls j w id h (Keep c r) ok at own f = nothing_done j w id h at
@@ -151,39 +151,39 @@ calls j w id h (Drop s) ok at own f = nothing_done j w id h at
 found_then : (j : Job) (w : World) (id : NodeId) (c : Holding) (es : List Event) (a : Does j w id c) → AllFound w.sent w.copies es → AllFound (run_of j w a.events).sent (run_of j w a.events).copies es
 found_then j w id c es a f = subst (λ (s : List BatchName). AllFound s (run_of j w a.events).copies es) (sym a.sent) (subst (λ (d : List Holding). AllFound w.sent d es) (sym a.copies) f)
 
-does : (j : Job) (w : World) (id : NodeId) (h : Holding) (steps : List Step) → IsWorld j w → node_at w id ≡ Some (holds h) → AreOwnSteps j id.part h steps → AllFound w.sent w.copies (calls_in steps) →
+does : (j : Job) (w : World) (id : NodeId) (h : Holding) (steps : List Step) → IsWorld j w → node_at w id ≡ Some (holds h) → AreOwnSteps j id.part h steps → AllFound w.sent w.copies (calls_among steps) →
     Does j w id (after_steps j id.part h steps)
-unfolding AreOwnSteps calls_in after_steps AllFound
+unfolding AreOwnSteps calls_among after_steps AllFound
 does j w id h [] ok at own f = nothing_done j w id h at
 does j w id h (Calls e ∷ steps) ok at own f =
     let a = calls j w id h e ok at own.0 f.0 in
-    then_done j w id (after_call j h e) (after_steps j id.part (after_call j h e) steps) a
-    (does j (run_of j w a.events) id (after_call j h e) steps (run_stays j w a.events ok) a.node own.1 (found_then j w id (after_call j h e) (calls_in steps) a f.1))
+    then_done j w id (after_board_call j h e) (after_steps j id.part (after_board_call j h e) steps) a
+    (does j (run_of j w a.events) id (after_board_call j h e) steps (run_stays j w a.events ok) a.node own.1 (found_then j w id (after_board_call j h e) (calls_among steps) a f.1))
 does j w id h (Closes ∷ steps) ok at own f =
     let a = closes j w id h at in
     let c : Holding = held_after j h Close in
     then_done j w id c (after_steps j id.part c steps) a
-    (does j (run_of j w a.events) id c steps (run_stays j w a.events ok) a.node own.1 (found_then j w id c (calls_in steps) a f))
+    (does j (run_of j w a.events) id c steps (run_stays j w a.events ok) a.node own.1 (found_then j w id c (calls_among steps) a f))
 does j w id h (StartsAnew ∷ steps) ok at own f =
     let a = restarts j w id h ok at in
     let c : Holding = start_holding j.plan id.part in
     then_done j w id c (after_steps j id.part c steps) a
-    (does j (run_of j w a.events) id c steps (run_stays j w a.events ok) a.node own.1 (found_then j w id c (calls_in steps) a f))
+    (does j (run_of j w a.events) id c steps (run_stays j w a.events ok) a.node own.1 (found_then j w id c (calls_among steps) a f))
 
 -- the node starts anew, and does them
 replays : (j : Job) (w : World) (id : NodeId) (h : Holding) (steps : List Step) → IsWorld j w → node_at w id ≡ Some (holds h) → AreOwnSteps j id.part (start_holding j.plan id.part) steps →
-    AllFound w.sent w.copies (calls_in steps) → Does j w id (after_steps j id.part (start_holding j.plan id.part) steps)
+    AllFound w.sent w.copies (calls_among steps) → Does j w id (after_steps j id.part (start_holding j.plan id.part) steps)
 replays j w id h steps ok at own f =
     let a = restarts j w id h ok at in
     let c : Holding = start_holding j.plan id.part in
     then_done j w id c (after_steps j id.part c steps) a
-    (does j (run_of j w a.events) id c steps (run_stays j w a.events ok) a.node own (found_then j w id c (calls_in steps) a f))
+    (does j (run_of j w a.events) id c steps (run_stays j w a.events ok) a.node own (found_then j w id c (calls_among steps) a f))
 
 -- ---- the steps before a call
 record Before (j : Job) (p : ℕ) (h : Holding) (done : List Event) (e : Event) : Type 0 where
   steps : List Step
   own : AreOwnSteps j p h steps
-  calls : calls_in steps ≡ done
+  calls : calls_among steps ≡ done
   may : IsOwnCall j (after_steps j p h steps) e
 
 head_of : Event → List Event → Event
@@ -203,24 +203,24 @@ unfolding tail_of
 tail_same x y xs ys e = ap tail_of e
 
 cut_calls : (j : Job) (p : ℕ) (h : Holding) (x : Event) (steps : List Step) (done : List Event) (e : Event) (rest : List Event) → IsOwnCall j h x →
-    ((more : List Event) → calls_in steps ≡ more ++ e ∷ rest → Before j p (after_call j h x) more e) →
-    x ∷ calls_in steps ≡ done ++ e ∷ rest → Before j p h done e
-unfolding AreOwnSteps calls_in after_steps
-cut_calls j p h x steps [] e rest own later is = record { steps = []; own = tt; calls = refl; may = subst (IsOwnCall j h) (head_same x e (calls_in steps) rest is) own }
+    ((more : List Event) → calls_among steps ≡ more ++ e ∷ rest → Before j p (after_board_call j h x) more e) →
+    x ∷ calls_among steps ≡ done ++ e ∷ rest → Before j p h done e
+unfolding AreOwnSteps calls_among after_steps
+cut_calls j p h x steps [] e rest own later is = record { steps = []; own = tt; calls = refl; may = subst (IsOwnCall j h) (head_same x e (calls_among steps) rest is) own }
 cut_calls j p h x steps (d ∷ done) e rest own later is =
-    let b = later done (tail_same x d (calls_in steps) (done ++ e ∷ rest) is) in
-    let same : x ≡ d = head_same x d (calls_in steps) (done ++ e ∷ rest) is in
+    let b = later done (tail_same x d (calls_among steps) (done ++ e ∷ rest) is) in
+    let same : x ≡ d = head_same x d (calls_among steps) (done ++ e ∷ rest) is in
     record { steps = Calls x ∷ b.steps; own = (own, b.own); calls = λ i. same i ∷ b.calls i; may = b.may }
 
 none_left : (done : List Event) (e : Event) (rest : List Event) → [] ≡ done ++ e ∷ rest → ⊥
 none_left [] e rest is = absurd (cc)
 none_left (d ∷ done) e rest is = absurd (cc)
 
-cut : (j : Job) (p : ℕ) (h : Holding) (steps : List Step) (done : List Event) (e : Event) (rest : List Event) → AreOwnSteps j p h steps → calls_in steps ≡ done ++ e ∷ rest → Before j p h done e
-unfolding AreOwnSteps calls_in after_steps
+cut : (j : Job) (p : ℕ) (h : Holding) (steps : List Step) (done : List Event) (e : Event) (rest : List Event) → AreOwnSteps j p h steps → calls_among steps ≡ done ++ e ∷ rest → Before j p h done e
+unfolding AreOwnSteps calls_among after_steps
 cut j p h [] done e rest own is = absurd (none_left done e rest is)
 cut j p h (Calls x ∷ steps) done e rest own is =
-    cut_calls j p h x steps done e rest own.0 (λ more same. cut j p (after_call j h x) steps more e rest own.1 same) is
+    cut_calls j p h x steps done e rest own.0 (λ more same. cut j p (after_board_call j h x) steps more e rest own.1 same) is
 cut j p h (Closes ∷ steps) done e rest own is =
     let b = cut j p (held_after j h Close) steps done e rest own.1 is in
     record { steps = Closes ∷ b.steps; own = (tt, b.own); calls = b.calls; may = b.may }
@@ -399,11 +399,11 @@ come_start j replicas = record {
 
 -- what the node of a caller does again
 again : (j : Job) (replicas : ℕ) (done : List Entry) (w : World) (id : NodeId) (steps : List Step) (made : List Event) → Come j replicas done w → id.part < j.plan.parts → id.replica < replicas →
-    AreOwnSteps j id.part (start_holding j.plan id.part) steps → calls_in steps ≡ made → AllFound (sent_in done) (copied_in done) made → Does j w id (after_steps j id.part (start_holding j.plan id.part) steps)
+    AreOwnSteps j id.part (start_holding j.plan id.part) steps → calls_among steps ≡ made → AllFound (sent_in done) (copied_in done) made → Does j w id (after_steps j id.part (start_holding j.plan id.part) steps)
 again j replicas done w id steps made h below few own is f =
     let one = h.nodes id below few in
     replays j w id one.held steps (come_world j replicas done w h) one.node own
-    (subst (λ (s : List BatchName). AllFound s w.copies (calls_in steps)) (sym h.sent) (subst (λ (cs : List Holding). AllFound (sent_in done) cs (calls_in steps)) (sym h.copies) (subst (AllFound (sent_in done) (copied_in done)) (sym is) f)))
+    (subst (λ (s : List BatchName). AllFound s w.copies (calls_among steps)) (sym h.sent) (subst (λ (cs : List Holding). AllFound (sent_in done) cs (calls_among steps)) (sym h.copies) (subst (AllFound (sent_in done) (copied_in done)) (sym is) f)))
 
 -- a call by which nothing is sent or copied
 silent : (j : Job) (replicas : ℕ) (done : List Entry) (w : World) (e : Entry) → Come j replicas done w → sent_by e.event ≡ [] → copied_by e.event ≡ [] → Come j replicas (done ++ e ∷ []) w

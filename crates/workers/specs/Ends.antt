@@ -39,9 +39,9 @@ waited node (Ok (ends.Starved s q)) = Some (record { node = node; superstep = s;
 waited node (Err e) = None
 
 -- the first of two, where there is one, else the second
-abbrev pub first_of : {A : Type 0} → Option A → Option A → Option A
-first_of None other = other
-first_of (Some a) other = Some a
+abbrev pub first_some : {A : Type 0} → Option A → Option A → Option A
+first_some None other = other
+first_some (Some a) other = Some a
 
 -- all nodes of a partition were lost
 abbrev pub all_lost : List (Result NodeEnd NodeError) → Bool
@@ -57,14 +57,14 @@ least_lost items p (own ∷ more) =
 unfoldable pub first_waiting : ℕ → ℕ → List (Result NodeEnd NodeError) → Option Waiting
 first_waiting p k [] = None
 first_waiting p k (r ∷ more) =
-    first_of (waited (record { part = p; replica = k }) r) (first_waiting p (k + 1) more)
+    first_some (waited (record { part = p; replica = k }) r) (first_waiting p (k + 1) more)
 
 -- the least node that waited in vain, where the first partition has number p
 unfoldable pub least_waiting : {V : Type 0} → (V → List (Result NodeEnd NodeError)) → ℕ → List V →
     Option Waiting
 least_waiting items p [] = None
 least_waiting items p (own ∷ more) =
-    first_of (first_waiting p 0 (items own)) (least_waiting items (p + 1) more)
+    first_some (first_waiting p 0 (items own)) (least_waiting items (p + 1) more)
 
 -- nothing is noted
 abbrev pub no_faults : Faults
@@ -76,16 +76,16 @@ with_end node r f = record {
   lost = f.lost;
   full = f.full || found_full r;
   memory = f.memory || lacked_memory r;
-  starved = first_of f.starved (waited node r);
+  starved = first_some f.starved (waited node r);
 }
 
 -- what is noted, and then of the nodes of partition p
 abbrev pub with_part : ℕ → List (Result NodeEnd NodeError) → Faults → Faults
 with_part p own f = record {
-  lost = first_of f.lost (if all_lost own then Some p else None);
+  lost = first_some f.lost (if all_lost own then Some p else None);
   full = f.full || list_any found_full own;
   memory = f.memory || list_any lacked_memory own;
-  starved = first_of f.starved (first_waiting p 0 own);
+  starved = first_some f.starved (first_waiting p 0 own);
 }
 
 -- what there is to note of all nodes

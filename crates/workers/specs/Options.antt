@@ -8,11 +8,11 @@ use Rattle.edgelist.specs.Reading.{byte_of}
 use Rattle.workers.specs.declared.node.NodeOrders.{NodeOrders}
 use Rattle.workers.specs.declared.options.RunOptions.{RunOptions}
 
-abbrev pub numbers_in : RunOptions → Numbers
-numbers_in o = numbers_with (is_corrected o.estimate) o.log2m o.seed o.parts o.limit
+abbrev pub run_numbers_of : RunOptions → Numbers
+run_numbers_of o = numbers_with (is_corrected o.estimate) o.log2m o.seed o.parts o.limit
 
-abbrev pub settings_of : RunOptions → Settings
-settings_of o = record { numbers = numbers_in o; delimiter = byte_of o.delimiter }
+abbrev pub run_settings_of : RunOptions → Settings
+run_settings_of o = record { numbers = run_numbers_of o; delimiter = byte_of o.delimiter }
 
 -- a run of so many partitions and replicas has the node
 abbrev pub is_named : ℕ → ℕ → NodeId → Bool

@@ -16,13 +16,13 @@ use Rattle.workers.specs.declared.options.RunOptions.{RunOptions}
 use Rattle.workers.specs.declared.bytes.RunError.{RunError}
 use Rattle.workers.specs.declared.bytes.RunError.TheVariants as fault
 use Rattle.workers.specs.Job.{IsFaultOf}
-use Rattle.workers.specs.Options.{are_in_limits, settings_of}
+use Rattle.workers.specs.Options.{are_in_limits, run_settings_of}
 
 -- where a reader tells its bytes, and these and the list are plain, this holds of what is asked
 abbrev pub WherePlain : RunOptions → Option (List ℕ) → Option (Bor (List ℕ)) →
     (Settings → List ℕ → Option (List ℕ) → Type 0) → Type 0
 WherePlain o told counted holds = IfSome told (λ input.
-    ArePlain input (list_in counted) → holds (settings_of o) input (list_in counted))
+    ArePlain input (list_in counted) → holds (run_settings_of o) input (list_in counted))
 
 -- a writer of these contents is given the report of what is asked
 abbrev pub AddsReport : {W : Type 0} → (W → Option (List ℕ)) → W → W →
@@ -30,19 +30,19 @@ abbrev pub AddsReport : {W : Type 0} → (W → Option (List ℕ)) → W → W �
 AddsReport contents old new s input list = AppendsReport s input list (contents old) (contents new)
 
 -- what a list of counted vertices says of a network, under the options
-abbrev pub counted_by : RunOptions → Network → Option (Bor (List ℕ)) →
+abbrev pub run_counted_by : RunOptions → Network → Option (Bor (List ℕ)) →
     Result Network CountedRefusal
-counted_by o network counted = counted_in (settings_of o) network (list_in counted)
+run_counted_by o network counted = counted_in (run_settings_of o) network (list_in counted)
 
 -- the edge list says a network, and this error is what the list of counted vertices says of it
-pub record IsListRefusal
+pub record IsRunListRefusal
     (s : Settings) (input : List ℕ) (list : Option (List ℕ)) (e : CountedError) : Type 0 where
   pub all : Network
   pub read : network_in s input ≡ Ok all
   pub refused : RefusesList (counted_in s all list) e
 
 -- both say a network, over which there is such a plan
-pub record IsPlanned (s : Settings) (input : List ℕ) (list : Option (List ℕ)) : Type 0 where
+pub record IsRunPlanned (s : Settings) (input : List ℕ) (list : Option (List ℕ)) : Type 0 where
   pub network : Network
   pub read : AreRead s input list network
   pub planned : HasPlan s.numbers network
@@ -70,19 +70,19 @@ IsFaultIn o fault.Write = ⊤
 abbrev pub IsRunRefusal : Settings → List ℕ → Option (List ℕ) → RunError → Type 0
 IsRunRefusal s input list fault.Options = ⊤
 IsRunRefusal s input list (fault.Edges e) = Refuses (network_in s input) e
-IsRunRefusal s input list (fault.Counted e) = IsListRefusal s input list e
+IsRunRefusal s input list (fault.Counted e) = IsRunListRefusal s input list e
 IsRunRefusal s input list (fault.Plan e) = IsPlanFault s input list e
-IsRunRefusal s input list (fault.PartitionLost p) = IsPlanned s input list
-IsRunRefusal s input list fault.BookFull = IsPlanned s input list
-IsRunRefusal s input list fault.Memory = IsPlanned s input list
-IsRunRefusal s input list (fault.Starved node r q) = IsPlanned s input list
-IsRunRefusal s input list fault.Write = IsPlanned s input list
+IsRunRefusal s input list (fault.PartitionLost p) = IsRunPlanned s input list
+IsRunRefusal s input list fault.BookFull = IsRunPlanned s input list
+IsRunRefusal s input list fault.Memory = IsRunPlanned s input list
+IsRunRefusal s input list (fault.Starved node r q) = IsRunPlanned s input list
+IsRunRefusal s input list fault.Write = IsRunPlanned s input list
 
 -- what a refusal says of the network, as far as it was read
 abbrev pub RefusesRead : Settings → List ℕ → Option (List ℕ) → RunError → Type 0
 RefusesRead s input list fault.Options = ⊥
 RefusesRead s input list (fault.Edges e) = Refuses (network_in s input) e
-RefusesRead s input list (fault.Counted e) = IsListRefusal s input list e
+RefusesRead s input list (fault.Counted e) = IsRunListRefusal s input list e
 RefusesRead s input list (fault.Plan e) = ⊥
 RefusesRead s input list (fault.PartitionLost p) = ⊥
 RefusesRead s input list fault.BookFull = ⊥

@@ -21,16 +21,16 @@ pub data Step : Type 0 where
   StartsAnew : Step
 
 -- what a node holds after a call: it takes what it fetched, and merges what it recalled
-abbrev pub after_call : Job → Holding → Event → Holding
-after_call j h (Post name r) = h
-after_call j h (Fetch name) = held_after j h (Take name)
-after_call j h (Keep c r) = h
-after_call j h (Recall p s c) = join_of h c
-after_call j h (Drop s) = h
+abbrev pub after_board_call : Job → Holding → Event → Holding
+after_board_call j h (Post name r) = h
+after_board_call j h (Fetch name) = held_after j h (Take name)
+after_board_call j h (Keep c r) = h
+after_board_call j h (Recall p s c) = join_of h c
+after_board_call j h (Drop s) = h
 
 -- what a node of partition p holds after a step
 abbrev pub after_step : Job → ℕ → Holding → Step → Holding
-after_step j p h (Calls e) = after_call j h e
+after_step j p h (Calls e) = after_board_call j h e
 after_step j p h Closes = held_after j h Close
 after_step j p h StartsAnew = start_holding j.plan p
 
@@ -65,17 +65,17 @@ AreOwnSteps j p h [] = ⊤
 AreOwnSteps j p h (step ∷ steps) = IsOwnStep j h step × AreOwnSteps j p (after_step j p h step) steps
 
 -- the calls among the steps
-unfoldable pub calls_in : List Step → List Event
-calls_in [] = []
-calls_in (Calls e ∷ steps) = e ∷ calls_in steps
-calls_in (Closes ∷ steps) = calls_in steps
-calls_in (StartsAnew ∷ steps) = calls_in steps
+unfoldable pub calls_among : List Step → List Event
+calls_among [] = []
+calls_among (Calls e ∷ steps) = e ∷ calls_among steps
+calls_among (Closes ∷ steps) = calls_among steps
+calls_among (StartsAnew ∷ steps) = calls_among steps
 
 -- since then the caller's own calls are those of a node of partition p, which came from one holding to the other
 pub record HasCome (v : Caller) (p : ℕ) (old new : Holding) (w : Caller) : Type 0 where
   pub steps : List Step
   pub own : AreOwnSteps v.seen.job p old steps
-  pub calls : calls_by v.number w.seen ≡ calls_by v.number v.seen ++ calls_in steps
+  pub calls : calls_by v.number w.seen ≡ calls_by v.number v.seen ++ calls_among steps
   pub held : after_steps v.seen.job p old steps ≡ new
 
 -- since then the caller's own calls are those of a node of partition p, which had that holding
@@ -95,7 +95,7 @@ IsPathTo v p r w = HasCome v p (start_holding v.seen.job.plan p) (holding_in r) 
 pub record Reaches (j : Job) (p : ℕ) (made : List Event) (steps : List Step) (c : Holding) : Type 0 where
   pub below : p < j.plan.parts
   pub own : AreOwnSteps j p (start_holding j.plan p) steps
-  pub calls : calls_in steps ≡ made
+  pub calls : calls_among steps ≡ made
   pub held : after_steps j p (start_holding j.plan p) steps ≡ c
 
 -- the calls are those of a node of some partition

@@ -12,9 +12,9 @@ ghost use Rattle.ball_model.specs.Streams.{Rises};
 ghost use Rattle.edgelist.specs.Counting.{RefusesList};
 ghost use Rattle.edgelist.specs.Reading.{CountsOne};
 ghost use Rattle.workers.specs.Job.{AreDone, IsFaultOf};
-ghost use Rattle.workers.specs.Options.{are_in_limits, numbers_in};
+ghost use Rattle.workers.specs.Options.{are_in_limits, run_numbers_of};
 ghost use Rattle.workers.specs.Run.{AddsReport, AnswersNetwork, IsFaultIn, IsRunRefusal};
-ghost use Rattle.workers.specs.Run.{RefusesRead, WherePlain, counted_by};
+ghost use Rattle.workers.specs.Run.{RefusesRead, WherePlain, run_counted_by};
 
 use crate::ends::JobError;
 use crate::gate::Gate;
@@ -150,9 +150,9 @@ fn count_listed(
     options: &RunOptions,
 ) -> Result<(), CountedError>
     ensures ok { IfSome (list_in counted.entry) IsPlain → OnOk result (
-        counted_by options.now graph.old counted.entry ≡ Ok graph.new) }
+        run_counted_by options.now graph.old counted.entry ≡ Ok graph.new) }
     ensures refused { IfSome (list_in counted.entry) IsPlain → IfErr result (
-        RefusesList (counted_by options.now graph.old counted.entry)) }
+        RefusesList (run_counted_by options.now graph.old counted.entry)) }
 {
     if let Some(list) = counted {
         graph.count_only(alloc, options.delimiter, list)?;
@@ -188,7 +188,7 @@ fn read_network<T: AllocGlobal, R: CountedRead>(
 
 // The plan of a run over a graph, or the first fault of the options.
 fn plan_for(graph: &Graph, options: &RunOptions) -> Result<Plan, PlanError>
-    ensures value { result ≡ plan_of (plan_over (numbers_in options.now) graph.now.graph) }
+    ensures value { result ≡ plan_of (plan_over (run_numbers_of options.now) graph.now.graph) }
     ensures job { IfOk result (λ plan. IsJob (job_of graph.now.graph plan)) }
     ensures parts { IfOk result (λ plan. plan.parts ≡ options.now.parts) }
 {
@@ -251,7 +251,7 @@ fn report_text<T: AllocGlobal + Threads + Wait + Sync, G: Gate + Sync>(
     gate: &G,
 ) -> Result<Pages, RunError>
     requires limits { are_in_limits options.now ≡ true }
-    ensures answer { AnswersNetwork (numbers_in options.now) graph.now result }
+    ensures answer { AnswersNetwork (run_numbers_of options.now) graph.now result }
     ensures fault { IfErr result (IsFaultIn options.now) }
 {
     let plan = plan_for(graph, options)?;

@@ -6,7 +6,8 @@ ghost use Rattle.ball_model.specs.Job.{Job};
 ghost use Rattle.ball_model.specs.PlanValue.{most_parts};
 ghost use Rattle.workers.specs.Job.{AreDone, AreEnds, AreNoted, EachAt, IsFaultOf, IsPartEnd};
 ghost use Rattle.workers.specs.Job.{IsPartitionLost, KeepsItsOrders};
-ghost use Rattle.workers.specs.Ends.{fault_of, first_fault, first_of, is_lost, no_faults, with_end};
+ghost use Rattle.workers.specs.Ends.{fault_of, first_fault, first_some, is_lost, no_faults};
+ghost use Rattle.workers.specs.Ends.{with_end};
 ghost use Rattle.workers.specs.Ends.{with_part};
 ghost use Rattle.workers.specs.Node.{IfDone, IsDone};
 ghost use Rattle.workers.specs.Options.{orders_for};
@@ -147,7 +148,7 @@ fn note_lost(faults: &mut Faults, p: u16)
     ensures noted { (parts : ℕ) (o : Asked) → IsPartitionLost parts o p → AreNoted parts o faults.old →
         AreNoted parts o faults.new }
     ensures exact { faults.new ≡
-        record faults.old { lost = first_of faults.old.lost (Some p) } }
+        record faults.old { lost = first_some faults.old.lost (Some p) } }
 {
     if faults.lost.is_none() {
         faults.lost = Some(p);

@@ -25,7 +25,7 @@ use Rattle.ball_model.specs.WorldLaws.{IsWorldNode, IsWorld}
 use Rattle.ball_model.proofs.WorldLemmas.{node_same, node_back, stays_world}
 use Rattle.batches.specs.declared.error.BatchError.{BatchError}
 use Rattle.batches.specs.declared.error.BatchError.TheVariants as unread
-use Rattle.batches.specs.Reading.{AgreesButJob, GivesOrMemory}
+use Rattle.batches.specs.Reading.{AgreesButJob, GivesBatchOrMemory}
 use Rattle.batches.proofs.TrueLemmas.{true_is_batch}
 use Rattle.replica.specs.Change.{IsTrueBatch}
 use Rattle.replica.proofs.LevelLemmas.{plan_is, number_is}
@@ -330,7 +330,7 @@ ok_in d (Ok b) = b
 ok_in d (Err e) = d
 
 pub read_gives : (j : Job) (name : BatchName) (m : SeenMessage) (b : BatchValue) → IsJob j → IsName j.plan name → m ≡ message_of (true_batch j name) →
-    ((x : BatchValue) → IsBatch x → AgreesButJob m.plan x.plan → m.bytes ≡ batch_bytes x → GivesOrMemory (Ok b) (Ok x)) → b ≡ true_batch j name
+    ((x : BatchValue) → IsBatch x → AgreesButJob m.plan x.plan → m.bytes ≡ batch_bytes x → GivesBatchOrMemory (Ok b) (Ok x)) → b ≡ true_batch j name
 unfolding true_batch ok_in
 read_gives j name m b job ok is only =
     let same : m.plan ≡ j.plan = ap (λ (x : SeenMessage). x.plan) is in
@@ -338,11 +338,11 @@ read_gives j name m b job ok is only =
     ap (ok_in b) (only (true_batch j name) (true_is_batch j name job ok.superstep ok.source ok.target) agrees (ap (λ (x : SeenMessage). x.bytes) is))
 
 -- what was spelled is refused for want of memory alone
-wants : (e : BatchError) (b : BatchValue) → GivesOrMemory (Err e) (Ok b) → e ≡ unread.Memory
+wants : (e : BatchError) (b : BatchValue) → GivesBatchOrMemory (Err e) (Ok b) → e ≡ unread.Memory
 wants unread.Memory b g = refl
 wants e b g = absurd (cc)
 
-pub only_wants : (m : SeenMessage) (e : BatchError) → IsMessage m → ((x : BatchValue) → IsBatch x → AgreesButJob m.plan x.plan → m.bytes ≡ batch_bytes x → GivesOrMemory (Err e) (Ok x)) → e ≡ unread.Memory
+pub only_wants : (m : SeenMessage) (e : BatchError) → IsMessage m → ((x : BatchValue) → IsBatch x → AgreesButJob m.plan x.plan → m.bytes ≡ batch_bytes x → GivesBatchOrMemory (Err e) (Ok x)) → e ≡ unread.Memory
 only_wants m e k only =
     let same : m.plan ≡ k.batch.plan = ap (λ (x : SeenMessage). x.plan) k.is in
     let agrees : AgreesButJob m.plan k.batch.plan = ap (λ (p : PlanValue). record p { job = k.batch.plan.job }) (sym same) in

@@ -27,7 +27,7 @@ use Rattle.replica.proofs.OwnLemmas.{vertex_of, place_below, vertex_at}
 use Rattle.replica.proofs.LevelLemmas.{row_at}
 use Rattle.replica.proofs.SameLemmas.{same_replica}
 use Rattle.world.specs.Shows.{SeenMessage, SeenNode, SeenWorld, message_of, seen_at, Agree, Has, ShowsNode, Shows}
-use Rattle.world.specs.Runs.{Made, is_want, done_in, answered_in, RunShows, RunAnswers, AreCountedWithin, Headline, SameContentsAreSame, MessagesAreTrue, KeptComesBack}
+use Rattle.world.specs.Runs.{EventsMade, is_want, done_in, answered_in, RunShows, RunAnswers, AreCountedWithin, Headline, SameContentsAreSame, MessagesAreTrue, KeptComesBack}
 use Rattle.world.proofs.BridgeLemmas.{content_here}
 
 is_want-is : (r : Result Answer WorldError) → is_want r ≡ true → r ≡ Err refusal.Memory
@@ -41,9 +41,9 @@ is_want-is (Err refusal.NoCopy) e = absurd (cc)
 not_want : (r : Result Answer WorldError) → is_want r ≡ false → r ≢ Err refusal.Memory
 not_want r e is = absurd (let no : true ≡ false = sym (ap is_want is) ∙ e in cc)
 
-pub run_both : (j : Job) (w : World) (es : List Event) (rs : List (Result Answer WorldError)) (v u : SeenWorld) → Shows j w v → Made j v es rs u →
+pub run_both : (j : Job) (w : World) (es : List Event) (rs : List (Result Answer WorldError)) (v u : SeenWorld) → Shows j w v → EventsMade j v es rs u →
     Shows j (run_of j w (done_in es rs)) u × (answered_in rs ≡ answers_of j w (done_in es rs))
-unfolding Made done_in answered_in run_of answers_of
+unfolding EventsMade done_in answered_in run_of answers_of
 run_both j w [] [] v u shows m = (subst (Shows j w) (sym m) shows, refl)
 run_both j w (e ∷ es) (r ∷ rs) v u shows m = by (λ x s. run_both j x es rs m.0 u s m.2) (is_want r) refl
   where

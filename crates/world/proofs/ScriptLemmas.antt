@@ -11,9 +11,10 @@ use Rattle.std.proofs.lemmas.List.{drop_all, length-drop, take_all}
 use Rattle.ball_model.specs.declared.world.Event.{Event}
 use Rattle.ball_model.specs.Input.{fields, is_record, with_first_byte}
 use Rattle.ball_model.specs.WorldText.{command_of, events_from, node_from, node_in, number_in, one_command, script_of, two_command, value_from, with_command}
+use Rattle.ball_model.specs.Sections.{longer}
 use Rattle.world.specs.declared.script.ScriptError.{ScriptError}
 use Rattle.world.specs.declared.script.ScriptError.TheVariants as fault
-use Rattle.world.specs.Script.{RefusesLine, RefusesScript, added, cut_of, longer, most}
+use Rattle.world.specs.Script.{RefusesLine, RefusesScript, added, cut_of, most}
 
 -- ---- cutting
 

@@ -30,22 +30,22 @@ use Rattle.world.specs.Tell.{BeginsText}
 
 -- ---- what is asked
 
-abbrev pub numbers_in : ReplayOptions → Numbers
-numbers_in o = numbers_with (is_corrected o.estimate) o.log2m o.seed o.parts o.limit
+abbrev pub replay_numbers_of : ReplayOptions → Numbers
+replay_numbers_of o = numbers_with (is_corrected o.estimate) o.log2m o.seed o.parts o.limit
 
-abbrev pub settings_of : ReplayOptions → Settings
-settings_of o = record { numbers = numbers_in o; delimiter = byte_of o.delimiter }
+abbrev pub replay_settings_of : ReplayOptions → Settings
+replay_settings_of o = record { numbers = replay_numbers_of o; delimiter = byte_of o.delimiter }
 
 abbrev pub replay_of : ReplayOptions → ReplaySettings
-replay_of o = record { run = settings_of o; replicas = o.replicas }
+replay_of o = record { run = replay_settings_of o; replicas = o.replicas }
 
 -- what an edge list says under the options, and a list of counted vertices of that
-abbrev pub network_by : ReplayOptions → List ℕ → Result Network Refusal
-network_by o edges = network_in (settings_of o) edges
+abbrev pub replay_network_by : ReplayOptions → List ℕ → Result Network Refusal
+replay_network_by o edges = network_in (replay_settings_of o) edges
 
-abbrev pub counted_by : ReplayOptions → Network → Option (Bor (List ℕ)) →
+abbrev pub replay_counted_by : ReplayOptions → Network → Option (Bor (List ℕ)) →
     Result Network CountedRefusal
-counted_by o network counted = counted_in (settings_of o) network (list_in counted)
+replay_counted_by o network counted = counted_in (replay_settings_of o) network (list_in counted)
 
 -- ---- what errors are told as
 
@@ -96,14 +96,14 @@ pub record IsListRefusal
   pub refused : RefusesList (counted_in s all list) e
 
 -- what a refusal says of the network, as far as it was read
-abbrev pub RefusesNetwork : Settings → List ℕ → Option (List ℕ) → ReplayError → Type 0
-RefusesNetwork s edges list fault.Options = ⊥
-RefusesNetwork s edges list (fault.Script n) = ⊥
-RefusesNetwork s edges list (fault.Edges e) = Refuses (network_in s edges) e
-RefusesNetwork s edges list (fault.Counted e) = IsListRefusal s edges list e
-RefusesNetwork s edges list (fault.Plan e) = ⊥
-RefusesNetwork s edges list fault.Memory = ⊥
-RefusesNetwork s edges list fault.Write = ⊥
+abbrev pub RefusesReplayRead : Settings → List ℕ → Option (List ℕ) → ReplayError → Type 0
+RefusesReplayRead s edges list fault.Options = ⊥
+RefusesReplayRead s edges list (fault.Script n) = ⊥
+RefusesReplayRead s edges list (fault.Edges e) = Refuses (network_in s edges) e
+RefusesReplayRead s edges list (fault.Counted e) = IsListRefusal s edges list e
+RefusesReplayRead s edges list (fault.Plan e) = ⊥
+RefusesReplayRead s edges list fault.Memory = ⊥
+RefusesReplayRead s edges list fault.Write = ⊥
 
 -- there is such a plan, and that is the start of its world
 pub record IsStarted (n : Numbers) (replicas : ℕ) (network : Network) (world : SeenWorld) : Type 0 where

@@ -42,12 +42,12 @@ pub record Applies (j : Job) (e : Event) (r : Result Answer WorldError)
   pub memory : (w : World) → Shows j w v → r ≡ Err refusal.Memory → IsOk (answer_of j w e)
 
 -- these events, one after the other, each with its answer, made the one of the other
-unfoldable pub Made : Job → SeenWorld → List Event →
+unfoldable pub EventsMade : Job → SeenWorld → List Event →
     List (Result Answer WorldError) → SeenWorld → Type 0
-Made j v [] [] u = u ≡ v
-Made j v (e ∷ es) (r ∷ rs) u =
-    (x : SeenWorld) × Applies j e r v x × Made j x es rs u
-Made j v es rs u = ⊥
+EventsMade j v [] [] u = u ≡ v
+EventsMade j v (e ∷ es) (r ∷ rs) u =
+    (x : SeenWorld) × Applies j e r v x × EventsMade j x es rs u
+EventsMade j v es rs u = ⊥
 
 -- the answer is that memory was refused
 abbrev pub is_want : Result Answer WorldError → Bool
@@ -72,7 +72,7 @@ abbrev pub RunShows : Type 0
 RunShows =
     (j : Job) (w : World) (es : List Event)
     (rs : List (Result Answer WorldError)) (v u : SeenWorld) → Shows j w v →
-    Made j v es rs u →
+    EventsMade j v es rs u →
     Shows j (run_of j w (done_in es rs)) u
 
 -- and the answers are those of the definition
@@ -80,7 +80,7 @@ abbrev pub RunAnswers : Type 0
 RunAnswers =
     (j : Job) (w : World) (es : List Event)
     (rs : List (Result Answer WorldError)) (v u : SeenWorld) → Shows j w v →
-    Made j v es rs u →
+    EventsMade j v es rs u →
     answered_in rs ≡ answers_of j w (done_in es rs)
 
 -- the members are exactly the counted vertices with a path of at most t edges to x
@@ -97,7 +97,7 @@ Headline =
     (j : Job) (replicas : ℕ) (es : List Event)
     (rs : List (Result Answer WorldError)) (v u : SeenWorld) (id : NodeId) (n : SeenNode)
     (x : ℕ) (member : ℕ → Bool) →
-    Shows j (start_world j.plan replicas) v → Made j v es rs u →
+    Shows j (start_world j.plan replicas) v → EventsMade j v es rs u →
     seen_at u id ≡ Some n → x < j.graph.vertices → x % j.plan.parts ≡ id.part →
     AreCountedWithin j x n.replica.superstep member →
     slice_index_or n.replica.rows (x / j.plan.parts) []
@@ -116,7 +116,7 @@ SameContentsAreSame =
 abbrev pub MessagesAreTrue : Type 0
 MessagesAreTrue =
     (j : Job) (replicas m : ℕ) (es : List Event) (rs : List (Result Answer WorldError))
-    (v u : SeenWorld) → Shows j (start_world j.plan replicas) v → Made j v es rs u →
+    (v u : SeenWorld) → Shows j (start_world j.plan replicas) v → EventsMade j v es rs u →
     slice_get u.messages m
     ≡ option_map (λ name. message_of (true_batch j name))
     (slice_get (run_of j (start_world j.plan replicas) (done_in es rs)).sent m)
@@ -128,7 +128,8 @@ KeptComesBack =
     (j : Job) (w : World) (id : NodeId) (kept restarted : Answer) (es : List Event)
     (rs : List (Result Answer WorldError)) (v x y u : SeenWorld) (before after : SeenNode) →
     Shows j w v → seen_at v id ≡ Some before →
-    Applies j (event.Keep id) (Ok kept) v x → Made j x es rs y → AllByRecursion (SparesKept id) es →
+    Applies j (event.Keep id) (Ok kept) v x → EventsMade j x es rs y →
+    AllByRecursion (SparesKept id) es →
     Applies j (event.Restart id) (Ok restarted) y u → seen_at u id ≡ Some after →
     after.replica ≡ before.replica
 

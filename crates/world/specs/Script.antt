@@ -5,14 +5,11 @@ use Rattle.world.specs.declared.script.ScriptError.{ScriptError}
 use Rattle.world.specs.declared.script.ScriptError.TheVariants as fault
 use Rattle.ball_model.specs.Input.{fields, is_record}
 use Rattle.ball_model.specs.WorldText.{command_of}
+use Rattle.ball_model.specs.Sections.{longer}
 
 -- the numbers of scripts are below it
 abbrev pub most : ℕ
 most = 1000000000
-
-abbrev pub longer : ℕ → Option (List ℕ × List ℕ) → Option (List ℕ × List ℕ)
-longer c None = None
-longer c (Some pair) = Some (c ∷ pair.0, pair.1)
 
 -- what stands before the first such byte, and what follows it
 unfoldable pub cut_of : ℕ → List ℕ → Option (List ℕ × List ℕ)

@@ -10,9 +10,10 @@ ghost use Rattle.ball_model.specs.WorldText.{AppendsReplay, HasCommands};
 ghost use Rattle.edgelist.specs.Counting.{RefusesList};
 ghost use Rattle.edgelist.specs.Reading.{Refuses, byte_of};
 ghost use Rattle.world.specs.Replay.{AreCommands, FailsOfReplay, IsEarly, IsOfInput, IsReady};
-ghost use Rattle.world.specs.Replay.{IsSomeStart, IsStarted, RefusesNetwork, RefusesCommands};
-ghost use Rattle.world.specs.Replay.{RefusesStart, StartsFrom, counted_by, network_by, numbers_in};
-ghost use Rattle.world.specs.Replay.{replay_of, settings_of};
+ghost use Rattle.world.specs.Replay.{IsSomeStart, IsStarted, RefusesCommands, RefusesReplayRead};
+ghost use Rattle.world.specs.Replay.{RefusesStart, StartsFrom};
+ghost use Rattle.world.specs.Replay.{replay_counted_by, replay_network_by, replay_numbers_of};
+ghost use Rattle.world.specs.Replay.{replay_of, replay_settings_of};
 
 use crate::World;
 use crate::bytes::Bytes;
@@ -172,10 +173,11 @@ fn read_all(
     options: &ReplayOptions,
 ) -> Result<EdgeList, EdgeError>
     ensures ok { IsPlain edges.now →
-        IfOk result (λ all. network_by options.now edges.now ≡ Ok all.graph) }
+        IfOk result (λ all. replay_network_by options.now edges.now ≡ Ok all.graph) }
     ensures count { IsPlain edges.now → IfOk result (λ all.
         all.records ≡ length (records (byte_of options.now.delimiter) edges.now)) }
-    ensures refused { IsPlain edges.now → IfErr result (Refuses (network_by options.now edges.now)) }
+    ensures refused { IsPlain edges.now →
+        IfErr result (Refuses (replay_network_by options.now edges.now)) }
     ensures read { result ≢ Err EdgeError.Read }
 {
     read_edge_list(
@@ -195,9 +197,9 @@ fn count_listed(
     options: &ReplayOptions,
 ) -> Result<Graph, CountedError>
     ensures ok { IfSome (list_in counted.entry) IsPlain → IfOk result (λ listed.
-        counted_by options.now graph counted.entry ≡ Ok listed) }
+        replay_counted_by options.now graph counted.entry ≡ Ok listed) }
     ensures refused { IfSome (list_in counted.entry) IsPlain → IfErr result (
-        RefusesList (counted_by options.now graph counted.entry)) }
+        RefusesList (replay_counted_by options.now graph counted.entry)) }
 {
     if let Some(list) = counted {
         graph.count_only(alloc, options.delimiter, list)?;
@@ -214,11 +216,12 @@ fn read_network(
     options: &ReplayOptions,
 ) -> Result<EdgeList, ReplayError>
     ensures ok { ArePlain edges.now (list_in counted.entry) → IfOk result (λ read.
-        AreRead (settings_of options.now) edges.now (list_in counted.entry) read.graph) }
+        AreRead (replay_settings_of options.now) edges.now (list_in counted.entry) read.graph) }
     ensures count { IsPlain edges.now → IfOk result (λ read.
         read.records ≡ length (records (byte_of options.now.delimiter) edges.now)) }
     ensures refused { ArePlain edges.now (list_in counted.entry) →
-        IfErr result (RefusesNetwork (settings_of options.now) edges.now (list_in counted.entry)) }
+        IfErr result (RefusesReplayRead (replay_settings_of options.now) edges.now
+        (list_in counted.entry)) }
     ensures kind { IfErr result IsOfInput }
 {
     let read = read_all(alloc, state, edges, options)?;
@@ -231,7 +234,7 @@ fn read_network(
 
 // The plan of a replay over a graph, or the first fault of the options.
 fn plan_for(graph: &Graph, options: &ReplayOptions) -> Result<Plan, PlanError>
-    ensures value { result ≡ plan_of (plan_over (numbers_in options.now) graph.now.graph) }
+    ensures value { result ≡ plan_of (plan_over (replay_numbers_of options.now) graph.now.graph) }
     ensures job { IfOk result (λ plan. IsJob (job_of graph.now.graph plan)) }
 {
     let ReplayOptions {
@@ -249,8 +252,9 @@ fn plan_for(graph: &Graph, options: &ReplayOptions) -> Result<Plan, PlanError>
 
 // The world of a graph at its start.
 fn start(alloc: Global, graph: &Graph, options: &ReplayOptions) -> Result<World, ReplayError>
-    ensures ok { IfOk result (IsStarted (numbers_in options.now) options.now.replicas graph.now) }
-    ensures refused { IfErr result (RefusesStart (numbers_in options.now) graph.now) }
+    ensures ok { IfOk result (IsStarted (replay_numbers_of options.now)
+        options.now.replicas graph.now) }
+    ensures refused { IfErr result (RefusesStart (replay_numbers_of options.now) graph.now) }
 {
     let plan = plan_for(graph, options)?;
     Ok(World::new(alloc, graph, &plan, options.replicas)?)

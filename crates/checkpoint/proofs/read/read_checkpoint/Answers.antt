@@ -5,7 +5,7 @@ use Rattle.ball_model.specs.Checkpoint.{checkpoint_bytes, without_names}
 use Rattle.ball_model.specs.Job.{PartValue}
 use Rattle.replica.specs.Saved.{IsRebuilt}
 use Rattle.checkpoint.specs.declared.error.KeepError.TheVariants as errors
-use Rattle.checkpoint.specs.Reading.{Ends, HasHead, RefusesAs, TakesWithin, allowed, most_bytes, sealed_form}
+use Rattle.checkpoint.specs.Reading.{Ends, HasHead, RefusesAs, TakesWithin, allowed, most_checkpoint_bytes, sealed_form}
 use Rattle.checkpoint.proofs.ReaderLemmas.{whatever_it_is}
 use Rattle.checkpoint.proofs.LawLemmas.{text_is_one, versions_differ}
 use Rattle.checkpoint.proofs.RefusalLemmas.{body_refuses, first_wants, memory_not_shape, second_wants, unnamed_keepable}
@@ -26,7 +26,7 @@ returns-clause-spelling g c = λ bytes known.
 pub returns-in_err-rebuild-clause-refused : goal.returns-in_err-rebuild-clause-refused
 returns-in_err-rebuild-clause-refused g c =
     let e = err_from_is_err_and c.from_residual-in_err-rebuild.result c.from_residual-in_err-rebuild.ensures.1 in
-    rw (e.1, e.2) (subst (λ (p : PartValue). RefusesAs g.R.Read.remaining g.R.CountedRead.failed_calls g.R.CountedRead.sure_calls p (most_bytes p p.plan.limit + 1) c.args.reader.now c.read_saved.new.reader errors.Memory)
+    rw (e.1, e.2) (subst (λ (p : PartValue). RefusesAs g.R.Read.remaining g.R.CountedRead.failed_calls g.R.CountedRead.sure_calls p (most_checkpoint_bytes p p.plan.limit + 1) c.args.reader.now c.read_saved.new.reader errors.Memory)
     c.deref.ensures (body_refuses g.R.CountedRead.sure_calls errors.Memory c.in_ok-saved.ensures.done (inl refl) (λ shape. absurd (memory_not_shape errors.Memory refl shape))))
 
 pub returns-clause-back : goal.returns-clause-back
@@ -66,7 +66,7 @@ returns-in_err-saved-clause-within g c =
 pub returns-in_err-saved-clause-refused : goal.returns-in_err-saved-clause-refused
 returns-in_err-saved-clause-refused g c =
     let e = err_from_is_err_and c.from_residual.result c.from_residual.ensures.1 in
-    rw (e.1, e.2) (subst (λ (p : PartValue). RefusesAs g.R.Read.remaining g.R.CountedRead.failed_calls g.R.CountedRead.sure_calls p (most_bytes p p.plan.limit + 1) c.args.reader.now c.read_saved.new.reader c.in_err-saved.field-0.0)
+    rw (e.1, e.2) (subst (λ (p : PartValue). RefusesAs g.R.Read.remaining g.R.CountedRead.failed_calls g.R.CountedRead.sure_calls p (most_checkpoint_bytes p p.plan.limit + 1) c.args.reader.now c.read_saved.new.reader c.in_err-saved.field-0.0)
     c.deref.ensures c.in_err-saved.ensures.refused)
 
 pub returns-in_err-rebuild-clause-within : goal.returns-in_err-rebuild-clause-within
@@ -79,7 +79,7 @@ returns-in_err-rebuild-clause-front g c = λ bytes known.
 
 pub returns-clause-whole : goal.returns-clause-whole
 returns-clause-whole g c =
-    subst (λ (p : PartValue). Ends g.R.Read.remaining g.R.CountedRead.failed_calls (sealed_form p) (most_bytes p p.plan.limit + 1) c.args.reader.now c.read_saved.new.reader) c.deref.ensures c.in_ok-saved.ensures.done
+    subst (λ (p : PartValue). Ends g.R.Read.remaining g.R.CountedRead.failed_calls (sealed_form p) (most_checkpoint_bytes p p.plan.limit + 1) c.args.reader.now c.read_saved.new.reader) c.deref.ensures c.in_ok-saved.ensures.done
 
 pub returns-clause-within : goal.returns-clause-within
 returns-clause-within g c =
@@ -88,12 +88,12 @@ returns-clause-within g c =
 pub returns-in_err-saved-clause-only : goal.returns-in_err-saved-clause-only
 returns-in_err-saved-clause-only g c = λ sure.
     let e = err_from_is_err_and c.from_residual.result c.from_residual.ensures.1 in
-    let refused = subst (λ (p : PartValue). RefusesAs g.R.Read.remaining g.R.CountedRead.failed_calls g.R.CountedRead.sure_calls p (most_bytes p p.plan.limit + 1) c.args.reader.now c.read_saved.new.reader c.in_err-saved.field-0.0) c.deref.ensures c.in_err-saved.ensures.refused in
+    let refused = subst (λ (p : PartValue). RefusesAs g.R.Read.remaining g.R.CountedRead.failed_calls g.R.CountedRead.sure_calls p (most_checkpoint_bytes p p.plan.limit + 1) c.args.reader.now c.read_saved.new.reader c.in_err-saved.field-0.0) c.deref.ensures c.in_err-saved.ensures.refused in
     rw (e.1, e.2) (refused.unsure sure)
 
 pub returns-in_err-saved-clause-few : goal.returns-in_err-saved-clause-few
 returns-in_err-saved-clause-few g c =
-    let refused = subst (λ (p : PartValue). RefusesAs g.R.Read.remaining g.R.CountedRead.failed_calls g.R.CountedRead.sure_calls p (most_bytes p p.plan.limit + 1) c.args.reader.now c.read_saved.new.reader c.in_err-saved.field-0.0) c.deref.ensures c.in_err-saved.ensures.refused in
+    let refused = subst (λ (p : PartValue). RefusesAs g.R.Read.remaining g.R.CountedRead.failed_calls g.R.CountedRead.sure_calls p (most_checkpoint_bytes p p.plan.limit + 1) c.args.reader.now c.read_saved.new.reader c.in_err-saved.field-0.0) c.deref.ensures c.in_err-saved.ensures.refused in
     refused.few
 
 pub returns-in_err-rebuild-clause-only : goal.returns-in_err-rebuild-clause-only
@@ -103,7 +103,7 @@ returns-in_err-rebuild-clause-only g c = λ sure.
 
 pub returns-in_err-rebuild-clause-few : goal.returns-in_err-rebuild-clause-few
 returns-in_err-rebuild-clause-few g c =
-    let ends = subst (λ (p : PartValue). Ends g.R.Read.remaining g.R.CountedRead.failed_calls (sealed_form p) (most_bytes p p.plan.limit + 1) c.args.reader.now c.read_saved.new.reader) c.deref.ensures c.in_ok-saved.ensures.done in
+    let ends = subst (λ (p : PartValue). Ends g.R.Read.remaining g.R.CountedRead.failed_calls (sealed_form p) (most_checkpoint_bytes p p.plan.limit + 1) c.args.reader.now c.read_saved.new.reader) c.deref.ensures c.in_ok-saved.ensures.done in
     ends.few
 
 pub returns-in_err-rebuild-clause-back : goal.returns-in_err-rebuild-clause-back
@@ -130,5 +130,5 @@ returns-clause-only g c = λ sure. tt
 
 pub returns-clause-few : goal.returns-clause-few
 returns-clause-few g c =
-    let ends = subst (λ (p : PartValue). Ends g.R.Read.remaining g.R.CountedRead.failed_calls (sealed_form p) (most_bytes p p.plan.limit + 1) c.args.reader.now c.read_saved.new.reader) c.deref.ensures c.in_ok-saved.ensures.done in
+    let ends = subst (λ (p : PartValue). Ends g.R.Read.remaining g.R.CountedRead.failed_calls (sealed_form p) (most_checkpoint_bytes p p.plan.limit + 1) c.args.reader.now c.read_saved.new.reader) c.deref.ensures c.in_ok-saved.ensures.done in
     ends.few

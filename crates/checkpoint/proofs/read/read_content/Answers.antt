@@ -2,7 +2,7 @@ use Rattle.std.proofs.Common.{◌≡◌, ◌≤◌, ◌+◌, ◌++◌, ℕ, List
 use Rattle.std.proofs.lemmas.List.{length-append}
 use Rattle.std.proofs.lemmas.Result.{err_from_is_err_and}
 use Rattle.checkpoint.specs.declared.sizes.TheConstants.{HEADER_LEN}
-use Rattle.checkpoint.specs.Reading.{allowed_content, content_form, head_at, told_body, most_body}
+use Rattle.checkpoint.specs.Reading.{allowed_content, content_form, checkpoint_head_at, told_body, most_checkpoint_body}
 use Rattle.checkpoint.proofs.ReaderLemmas.{fails_second, fails_as, grows_then, grows_as, told-body, after-most, content-few, front_kept, whatever_it_is, within-content, within-head}
 use Rattle.checkpoint.proofs.read.read_content.Goals as goal
 
@@ -10,31 +10,31 @@ pub returns-in_err-header-clause-fails : goal.returns-in_err-header-clause-fails
 returns-in_err-header-clause-fails g c =
     let part = c.args.part.now in
     let r = err_from_is_err_and c.from_residual.result c.from_residual.ensures.1 in
-    rw (r.1, r.2) (fails_as (content_form part) (54 + most_body part part.plan.limit) (λ _. refl) (omega arith) c.in_err-header.ensures.fails)
+    rw (r.1, r.2) (fails_as (content_form part) (54 + most_checkpoint_body part part.plan.limit) (λ _. refl) (omega arith) c.in_err-header.ensures.fails)
 
 pub returns-in_err-read_body-clause-fails : goal.returns-in_err-read_body-clause-fails
 returns-in_err-read_body-clause-fails g c =
     let part = c.args.part.now in
     let h = c.in_ok-header.header in
     let p = c.in_ok-header.ensures.done in
-    let is : head_at p.piece ≡ h = sym (c.in_ok-header.ensures.head ∙ ap head_at (p.grown ∙ ap (λ (l : List ℕ). l ++ p.piece) c.requires)) in
+    let is : checkpoint_head_at p.piece ≡ h = sym (c.in_ok-header.ensures.head ∙ ap checkpoint_head_at (p.grown ∙ ap (λ (l : List ℕ). l ++ p.piece) c.requires)) in
     let r = err_from_is_err_and c.from_residual-in_err-read_body.result c.from_residual-in_err-read_body.ensures.1 in
-    rw (r.1, r.2) (fails_second (told_body part) (54 + most_body part part.plan.limit) p (omega arith)
-    (fails_as (told_body part p.piece) (most_body part part.plan.limit) (λ bytes. told-body part p.piece bytes h is c.in_ok-header.ensures.checked) (after-most part h part.plan.limit c.in_ok-header.ensures.in_time) c.in_err-read_body.ensures.fails))
+    rw (r.1, r.2) (fails_second (told_body part) (54 + most_checkpoint_body part part.plan.limit) p (omega arith)
+    (fails_as (told_body part p.piece) (most_checkpoint_body part part.plan.limit) (λ bytes. told-body part p.piece bytes h is c.in_ok-header.ensures.checked) (after-most part h part.plan.limit c.in_ok-header.ensures.in_time) c.in_err-read_body.ensures.fails))
 
 pub returns-clause-done : goal.returns-clause-done
 returns-clause-done g c =
     let part = c.args.part.now in
     let h = c.in_ok-header.header in
     let p = c.in_ok-header.ensures.done in
-    let is : head_at p.piece ≡ h = sym (c.in_ok-header.ensures.head ∙ ap head_at (p.grown ∙ ap (λ (l : List ℕ). l ++ p.piece) c.requires)) in
-    grows_then (told_body part) (54 + most_body part part.plan.limit) p (omega arith)
-    (grows_as (told_body part p.piece) (most_body part part.plan.limit) (λ bytes. told-body part p.piece bytes h is c.in_ok-header.ensures.checked) (after-most part h part.plan.limit c.in_ok-header.ensures.in_time) c.in_ok-read_body.ensures.done)
+    let is : checkpoint_head_at p.piece ≡ h = sym (c.in_ok-header.ensures.head ∙ ap checkpoint_head_at (p.grown ∙ ap (λ (l : List ℕ). l ++ p.piece) c.requires)) in
+    grows_then (told_body part) (54 + most_checkpoint_body part part.plan.limit) p (omega arith)
+    (grows_as (told_body part p.piece) (most_checkpoint_body part part.plan.limit) (λ bytes. told-body part p.piece bytes h is c.in_ok-header.ensures.checked) (after-most part h part.plan.limit c.in_ok-header.ensures.in_time) c.in_ok-read_body.ensures.done)
 
 pub returns-clause-head : goal.returns-clause-head
 returns-clause-head g c =
     let kept = front_kept HEADER_LEN c.read_body.new.text.items c.read_head.new.text.items c.in_ok-read_body.ensures.done.piece c.in_ok-read_body.ensures.done.grown c.in_ok-header.ensures.length in
-    c.in_ok-header.ensures.head ∙ ap head_at (sym kept)
+    c.in_ok-header.ensures.head ∙ ap checkpoint_head_at (sym kept)
 
 pub returns-in_err-header-clause-within : goal.returns-in_err-header-clause-within
 returns-in_err-header-clause-within g c =
@@ -47,7 +47,7 @@ returns-in_err-read_body-clause-within g c =
     let h = c.in_ok-header.header in
     let p = c.in_ok-header.ensures.done in
     let grown = p.grown ∙ ap (λ (l : List ℕ). l ++ p.piece) c.requires in
-    let is : head_at p.piece ≡ h = sym (c.in_ok-header.ensures.head ∙ ap head_at grown) in
+    let is : checkpoint_head_at p.piece ≡ h = sym (c.in_ok-header.ensures.head ∙ ap checkpoint_head_at grown) in
     let r = err_from_is_err_and c.from_residual-in_err-read_body.result c.from_residual-in_err-read_body.ensures.1 in
     rw r.1 (within-content part h _ _ _ p.piece (sym (ap length grown) ∙ c.in_ok-header.ensures.length) is p.takes.consumed c.in_err-read_body.ensures.fails.few)
 
@@ -58,7 +58,7 @@ returns-clause-few g c =
     let p = c.in_ok-header.ensures.done in
     let q = c.in_ok-read_body.ensures.done in
     let grown = p.grown ∙ ap (λ (l : List ℕ). l ++ p.piece) c.requires in
-    let is : head_at p.piece ≡ h = sym (c.in_ok-header.ensures.head ∙ ap head_at grown) in
+    let is : checkpoint_head_at p.piece ≡ h = sym (c.in_ok-header.ensures.head ∙ ap checkpoint_head_at grown) in
     let whole = q.grown ∙ ap (λ (l : List ℕ). l ++ q.piece) grown in
     subst (λ (l : List ℕ). length l ≤ allowed_content part l) (sym whole) (content-few part h p.piece q.piece (sym (ap length grown) ∙ c.in_ok-header.ensures.length) is q.few)
 

@@ -6,7 +6,7 @@ use Rattle.ball_model.specs.Job.{PartValue}
 use Rattle.replica.specs.Saved.{Fits}
 use Rattle.replica.proofs.KeepableLemmas.{keepable_fits}
 use Rattle.std.specs.Prelude.{Some}
-use Rattle.checkpoint.specs.Reading.{check_head, head_at, TellNone}
+use Rattle.checkpoint.specs.Reading.{check_checkpoint_head, checkpoint_head_at, TellNone}
 use Rattle.checkpoint.proofs.FrontLemmas.{front_is, one_or_two}
 use Rattle.checkpoint.proofs.HeldLemmas.{front_fits}
 use Rattle.std.proofs.lemmas.Result.{err_from_is_err_and}
@@ -26,7 +26,7 @@ pub returns-in_err-saved-clause-refused : goal.returns-in_err-saved-clause-refus
 returns-in_err-saved-clause-refused g c =
     let text = c.deref.result.now in
     let e = c.in_err-saved.field-0.0 in
-    let head = c.in_ok-header.ensures.head ∙ ap (λ (l : List ℕ). head_at (take 54 l)) (sym c.deref.ensures.value) in
+    let head = c.in_ok-header.ensures.head ∙ ap (λ (l : List ℕ). checkpoint_head_at (take 54 l)) (sym c.deref.ensures.value) in
     let none : e ≡ errors.Shape → (bytes : List ℕ) → g.R.Read.remaining c.args.reader.now ≡ Some bytes → TellNone c.args.part.now bytes = λ shape bytes known.
     let whole = subst (λ (l : List ℕ). bytes ≡ sealed l) (sym c.deref.ensures.value) (c.in_ok-header.ensures.sealed bytes known) in
     record {
@@ -44,7 +44,7 @@ pub returns-then-not-fits-clause-refused : goal.returns-then-not-fits-clause-ref
 returns-then-not-fits-clause-refused g c =
     let text = c.deref.result.now in
     let saved = c.in_ok-saved.saved in
-    let head = c.in_ok-header.ensures.head ∙ ap (λ (l : List ℕ). head_at (take 54 l)) (sym c.deref.ensures.value) in
+    let head = c.in_ok-header.ensures.head ∙ ap (λ (l : List ℕ). checkpoint_head_at (take 54 l)) (sym c.deref.ensures.value) in
     let no_fit : Fits c.args.part.now saved → ⊥ = λ fits. never (sym c.if-not-fits.true ∙ c.fits.ensures.1 fits) in
     let none : errors.Shape ≡ errors.Shape → (bytes : List ℕ) → g.R.Read.remaining c.args.reader.now ≡ Some bytes → TellNone c.args.part.now bytes = λ shape bytes known.
     let whole = subst (λ (l : List ℕ). bytes ≡ sealed l) (sym c.deref.ensures.value) (c.in_ok-header.ensures.sealed bytes known) in
@@ -65,7 +65,7 @@ returns-then-not-fits-clause-refused g c =
 pub returns-clause-first : goal.returns-clause-first
 returns-clause-first g c = λ v k part known.
     let text = c.deref.result.now in
-    let head = c.in_ok-header.ensures.head ∙ ap (λ (l : List ℕ). head_at (take 54 l)) (sym c.deref.ensures.value) in
+    let head = c.in_ok-header.ensures.head ∙ ap (λ (l : List ℕ). checkpoint_head_at (take 54 l)) (sym c.deref.ensures.value) in
     let whole = subst (λ (l : List ℕ). first_checkpoint_bytes v ≡ sealed l) (sym c.deref.ensures.value) (c.in_ok-header.ensures.sealed (first_checkpoint_bytes v) known) in
     let told = first_told v (first_checkpoint_bytes v) text k.state whole refl in
     c.in_ok-saved.ensures.first (ap (λ (h : Header). h.version) head ∙ told.version_is) v k part (told.step ∙ sym (ap (λ (h : Header). h.superstep) head)) told.body_is
@@ -75,16 +75,16 @@ returns-clause-spelled g c = λ v r is bytes known.
     let text = c.deref.result.now in
     let whole = subst (λ (l : List ℕ). bytes ≡ sealed l) (sym c.deref.ensures.value) (c.in_ok-header.ensures.sealed bytes known) in
     let long = subst (λ (l : List ℕ). 54 ≤ length l) (sym c.deref.ensures.value) c.in_ok-header.ensures.length in
-    let head = c.in_ok-header.ensures.head ∙ ap (λ (l : List ℕ). head_at (take 54 l)) (sym c.deref.ensures.value) in
+    let head = c.in_ok-header.ensures.head ∙ ap (λ (l : List ℕ). checkpoint_head_at (take 54 l)) (sym c.deref.ensures.value) in
     let short = length-take 54 text in
-    let passed = ap (check_head c.args.part.now) (sym head) ∙ c.in_ok-header.ensures.checked in
-    let checked = subst (λ (p : PartValue). check_head p (head_at (take 54 text)) ≡ Ok tt) (sym r.part_is) passed in
+    let passed = ap (check_checkpoint_head c.args.part.now) (sym head) ∙ c.in_ok-header.ensures.checked in
+    let checked = subst (λ (p : PartValue). check_checkpoint_head p (checkpoint_head_at (take 54 text)) ≡ Ok tt) (sym r.part_is) passed in
     let step = sym (r.superstep ∙ c.in_ok-saved.ensures.superstep ∙ ap (λ (h : Header). h.superstep) head) in
     let fits : (i : ℕ) → get_or (take 54 text) i 0 < 256 =
     front_fits text (take 54 text) (drop 54 text) (sym (take-append-drop 54 text)) c.in_ok-saved.ensures.bytes in
-    let front : (n : ℕ) → (head_at (take 54 text)).version ≡ n → take 54 text ≡ front_bytes n v =
+    let front : (n : ℕ) → (checkpoint_head_at (take 54 text)).version ≡ n → take 54 text ≡ front_bytes n v =
     λ n version. sym (take-take 54 54 text (omega arith)) ∙ front_is n v (take 54 text) fits (omega (arith, short, long)) checked version step is.part.plan.digest in
-    elim (one_or_two c.args.part.now (head_at (take 54 text)) passed) [
+    elim (one_or_two c.args.part.now (checkpoint_head_at (take 54 text)) passed) [
       | inl one ↦ inr (first_sealed_is v bytes text whole (first_content_is c.args.part.now c.in_ok-saved.saved v text r is (front 1 one) (c.in_ok-saved.ensures.first_spelled (ap (λ (h : Header). h.version) head ∙ one))))
       | inr two ↦ inl (sealed_is v bytes text whole (content_is c.args.part.now c.in_ok-saved.saved v text r is (front 2 two) (c.in_ok-saved.ensures.spelled (ap (λ (h : Header). h.version) head ∙ two))))
     ]

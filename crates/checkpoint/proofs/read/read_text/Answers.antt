@@ -7,7 +7,7 @@ use Rattle.std.proofs.lemmas.Result.{err_from_is_err_and}
 use Rattle.sha2.specs.Sha256.{sha256}
 use Rattle.sha2.proofs.Facts256.{length-sha256}
 use Rattle.checkpoint.specs.declared.error.KeepError.{KeepError}
-use Rattle.checkpoint.specs.Reading.{seal_form, most_bytes}
+use Rattle.checkpoint.specs.Reading.{seal_form, most_checkpoint_bytes}
 use Rattle.checkpoint.proofs.ReaderLemmas.{fails_first, fails_second, fails_as, passes-seal, whatever_it_is, whole_fine, whole_read, whole_sealed, within-more, within-seal}
 use Rattle.checkpoint.proofs.read.read_text.Goals as goal
 
@@ -15,7 +15,7 @@ pub returns-in_err-header-clause-fails : goal.returns-in_err-header-clause-fails
 returns-in_err-header-clause-fails g c =
     let part = c.args.part.now in
     let r = err_from_is_err_and c.from_residual.result c.from_residual.ensures.1 in
-    rw (r.1, r.2) (fails_first seal_form (most_bytes part part.plan.limit + 1) (omega arith) (λ _ bytes _. passes-seal bytes) c.in_err-header.ensures.fails)
+    rw (r.1, r.2) (fails_first seal_form (most_checkpoint_bytes part part.plan.limit + 1) (omega arith) (λ _ bytes _. passes-seal bytes) c.in_err-header.ensures.fails)
 
 pub returns-in_err-read_seal-clause-fails : goal.returns-in_err-read_seal-clause-fails
 returns-in_err-read_seal-clause-fails g c =
@@ -23,7 +23,7 @@ returns-in_err-read_seal-clause-fails g c =
     let p = c.in_ok-header.ensures.done in
     let is : p.piece ≡ c.deref.result.now = sym (c.deref.ensures.value ∙ p.grown ∙ ap (λ (l : List ℕ). l ++ p.piece) c.requires) in
     let r = err_from_is_err_and c.from_residual-in_err-read_seal.result c.from_residual-in_err-read_seal.ensures.1 in
-    rw (r.1, r.2) (fails_second seal_form (most_bytes part part.plan.limit + 1) p (omega arith)
+    rw (r.1, r.2) (fails_second seal_form (most_checkpoint_bytes part part.plan.limit + 1) p (omega arith)
     (fails_as (seal_form p.piece) 33 (λ bytes. ap (λ (l : List ℕ). seal_form l bytes) is) (omega arith) c.in_err-read_seal.ensures.fails))
 
 pub returns-clause-done : goal.returns-clause-done

@@ -4,7 +4,7 @@ use Rattle.std.proofs.lemmas.Result.{err_from_is_err_and}
 use Rattle.hyperball.specs.Refusals.{IsFault, RefusesInput}
 use Rattle.hyperball.specs.Words.{Serves}
 use Rattle.hyperball.specs.declared.words.RunWords.{RunWords}
-use Rattle.workers.specs.Options.{settings_of}
+use Rattle.workers.specs.Options.{run_settings_of}
 use Rattle.hyperball.proofs.RefusalLemmas.{refuses_edges}
 use Rattle.hyperball.proofs.ReportLemmas.{unlisted, with_list}
 use Rattle.hyperball.proofs.serve.run_by.Goals as goal
@@ -16,7 +16,7 @@ returns-then-counted-clause-done g c = λ w same is.
 
 pub returns-clause-done : goal.returns-clause-done
 returns-clause-done g c = λ w same is.
-    unlisted (g.R.Read.remaining c.args.reader.now) (settings_of c.args.options.now) w (g.W.Write.contents c.args.writer.now) (g.W.Write.contents c.run.new.writer)
+    unlisted (g.R.Read.remaining c.args.reader.now) (run_settings_of c.args.options.now) w (g.W.Write.contents c.args.writer.now) (g.W.Write.contents c.run.new.writer)
     same (sym is ∙ c.if-counted.false) c.in_ok-run.ensures.ok
 
 pub returns-then-counted-clause-refused : goal.returns-then-counted-clause-refused
@@ -27,7 +27,7 @@ pub returns-in_err-run-clause-refused : goal.returns-in_err-run-clause-refused
 returns-in_err-run-clause-refused g c =
     let p = err_from_is_err_and c.from_residual.result c.from_residual.ensures.1 in
     let told = g.R.Read.remaining c.args.reader.now in
-    let s = settings_of c.args.options.now in
+    let s = run_settings_of c.args.options.now in
     let e = c.in_err-run.field-0.0 in
     rw (p.1, p.2) (
       c.in_err-run.ensures.fault,

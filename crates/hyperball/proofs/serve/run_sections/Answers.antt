@@ -3,7 +3,7 @@ use Rattle.std.specs.Prelude.{Some}
 use Rattle.std.proofs.lemmas.Result.{err_from_is_err_and}
 use Rattle.ball_model.specs.RunText.{AppendsReport, ArePlain, Settings}
 use Rattle.ball_model.specs.Streams.{Rises}
-use Rattle.workers.specs.Options.{settings_of}
+use Rattle.workers.specs.Options.{run_settings_of}
 use Rattle.hyperball.proofs.RefusalLemmas.{refuses_both}
 use Rattle.hyperball.proofs.ReportLemmas.{cut}
 use Rattle.hyperball.proofs.serve.run_sections.Goals as goal
@@ -22,7 +22,7 @@ returns-in_err-run-clause-refused g c =
     let p = err_from_is_err_and c.from_residual.result c.from_residual.ensures.1 in
     rw (p.1, p.2) (
       c.in_err-run.ensures.fault,
-      refuses_both (settings_of c.args.options.now) c.args.input.now c.in-Some.edges.now c.new-edges.result.left.now c.in-Some.list.now c.in_err-run.field-0.0
+      refuses_both (run_settings_of c.args.options.now) c.args.input.now c.in-Some.edges.now c.new-edges.result.left.now c.in-Some.list.now c.in_err-run.field-0.0
           c.in-Some.ensures c.new-edges.ensures c.in_err-run.ensures.refused,
     )
 

@@ -1,7 +1,7 @@
 use Rattle.std.proofs.Common.{◌≡◌, subst, sym, true}
 use Rattle.std.specs.Prelude.{IfSome}
 use Rattle.node.specs.Gathering.{GathersJob}
-use Rattle.node.specs.Job.{settings_in}
+use Rattle.node.specs.Job.{job_settings_of}
 use Rattle.node.specs.NoReport.{WritesFrontOfJob}
 use Rattle.node.specs.Serving.{ServesNode}
 use Rattle.hyperball.specs.Replaying.{BeginsToServe, ServesReplay}
@@ -61,7 +61,7 @@ returns-in-Node g c = record {
   replay = λ w is zero. absurd (node_no_replay _ _ w c.in-Node.is is);
   replay_few = λ w is. absurd (node_no_replay _ _ w c.in-Node.is is);
   begun = λ w is one. absurd (node_no_replay _ _ w c.in-Node.is is);
-  node = λ w is zero. subst (λ (v : NodeWords). ServesNode (settings_in v.options) v.options.counted v.part (g.R.Read.remaining c.args.reader.now) (g.R.Read.remaining c.serve_node.new.reader) (g.W.Write.contents c.args.writer.now) (g.W.Write.contents c.serve_node.new.writer)) (same_node _ _ w c.in-Node.is is) (c.serve_node.ensures.done zero);
+  node = λ w is zero. subst (λ (v : NodeWords). ServesNode (job_settings_of v.options) v.options.counted v.part (g.R.Read.remaining c.args.reader.now) (g.R.Read.remaining c.serve_node.new.reader) (g.W.Write.contents c.args.writer.now) (g.W.Write.contents c.serve_node.new.writer)) (same_node _ _ w c.in-Node.is is) (c.serve_node.ensures.done zero);
   node_read = λ w is zero. c.serve_node.ensures.read zero;
   node_written = λ w is zero. c.serve_node.ensures.written zero;
   gather = λ w is zero. absurd (node_no_gather _ _ w c.in-Node.is is);
@@ -83,9 +83,9 @@ returns-in-Gather g c = record {
   node = λ w is zero. absurd (node_no_gather _ w _ is c.in-Gather.is);
   node_read = λ w is zero. absurd (node_no_gather _ w _ is c.in-Gather.is);
   node_written = λ w is zero. absurd (node_no_gather _ w _ is c.in-Gather.is);
-  gather = λ w is zero. subst (λ (v : GatherWords). GathersJob (settings_in v.options) v.options.counted (g.R.Read.remaining c.args.reader.now) (g.R.Read.remaining c.serve_gather.new.reader) (g.W.Write.contents c.args.writer.now) (g.W.Write.contents c.serve_gather.new.writer)) (same_gather _ _ w c.in-Gather.is is) (c.serve_gather.ensures.done zero);
+  gather = λ w is zero. subst (λ (v : GatherWords). GathersJob (job_settings_of v.options) v.options.counted (g.R.Read.remaining c.args.reader.now) (g.R.Read.remaining c.serve_gather.new.reader) (g.W.Write.contents c.args.writer.now) (g.W.Write.contents c.serve_gather.new.writer)) (same_gather _ _ w c.in-Gather.is is) (c.serve_gather.ensures.done zero);
   gather_read = λ w is zero. c.serve_gather.ensures.read zero;
   gather_written = λ w is zero. c.serve_gather.ensures.written zero;
-  gather_begun = λ w is one. subst (λ (v : GatherWords). WritesFrontOfJob (settings_in v.options) v.options.counted (g.R.Read.remaining c.args.reader.now) (g.R.Read.remaining c.serve_gather.new.reader) (g.W.Write.contents c.args.writer.now) (g.W.Write.contents c.serve_gather.new.writer)) (same_gather _ _ w c.in-Gather.is is) (c.serve_gather.ensures.begun one);
+  gather_begun = λ w is one. subst (λ (v : GatherWords). WritesFrontOfJob (job_settings_of v.options) v.options.counted (g.R.Read.remaining c.args.reader.now) (g.R.Read.remaining c.serve_gather.new.reader) (g.W.Write.contents c.args.writer.now) (g.W.Write.contents c.serve_gather.new.writer)) (same_gather _ _ w c.in-Gather.is is) (c.serve_gather.ensures.begun one);
   silent = λ zero quiet. c.serve_gather.ensures.silent zero (gather_tells _ _ _ c.in-Gather.is quiet);
 }

@@ -3,9 +3,9 @@ use Rattle.ball_model.specs.Job.{Job, job_of}
 use Rattle.node.specs.NodeText.{IsGivenBack}
 use Rattle.std.proofs.Common.{refl, ◌≤◌, length}
 use Rattle.std.specs.Arc.{arc_value}
-use Rattle.checkpoint.specs.Reading.{IsSpelling, most_bytes}
+use Rattle.checkpoint.specs.Reading.{IsReplicaSpelling, most_checkpoint_bytes}
 use Rattle.ball_model.specs.Job.{PartValue, part_of}
-use Rattle.node.specs.Refusals.{IsCheckpoint, IsNoCheckpoint}
+use Rattle.node.specs.Refusals.{IsNodeCheckpoint, IsNoCheckpoint}
 use Rattle.node.proofs.GatherLemmas.{told_other}
 use Rattle.node.proofs.gather.read_replica.Goals as goal
 
@@ -18,13 +18,13 @@ returns-in-Ok-clause-read g c =
       made = record {
         part_is = c.in-Ok.ensures.part ∙ c.in_ok-part.ensures;
         is = record {
-          few = subst (λ (q : PartValue). length c.read_bytes.new.bytes.items ≤ most_bytes q q.plan.limit) (c.deref.ensures ∙ c.in_ok-part.ensures) c.in_ok-read_bytes.ensures.few;
+          few = subst (λ (q : PartValue). length c.read_bytes.new.bytes.items ≤ most_checkpoint_bytes q q.plan.limit) (c.deref.ensures ∙ c.in_ok-part.ensures) c.in_ok-read_bytes.ensures.few;
           checkpoint =
-              subst (λ (q : PartValue). IsCheckpoint q c.read_bytes.new.bytes.items) c.in_ok-part.ensures
-              (subst (λ (l : List ℕ). IsCheckpoint (arc_value c.in_ok-part.part) l) c.deref-2.ensures.value c.in-Ok.ensures.whole);
+              subst (λ (q : PartValue). IsNodeCheckpoint q c.read_bytes.new.bytes.items) c.in_ok-part.ensures
+              (subst (λ (l : List ℕ). IsNodeCheckpoint (arc_value c.in_ok-part.part) l) c.deref-2.ensures.value c.in-Ok.ensures.whole);
         };
         keepable = c.in-Ok.ensures.keepable;
-        spells = subst (λ (l : List ℕ). IsSpelling c.in-Ok.replica l) c.deref-2.ensures.value c.in-Ok.ensures.spells;
+        spells = subst (λ (l : List ℕ). IsReplicaSpelling c.in-Ok.replica l) c.deref-2.ensures.value c.in-Ok.ensures.spells;
         back = λ h given.
             c.in-Ok.ensures.back j c.args.p h c.in_ok-part.ensures
             (subst (λ (l : List ℕ). IsGivenBack j c.args.p l h) (sym c.deref-2.ensures.value) given);

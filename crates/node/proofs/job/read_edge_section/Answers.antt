@@ -3,7 +3,7 @@ use Rattle.std.proofs.Common.{◌≡◌, ap, subst, Bool, true, false}
 use Rattle.std.specs.Prelude.{Err}
 use Rattle.std.proofs.lemmas.Result.{err_from_is_err_and}
 use Rattle.ball_model.specs.RunText.{network_in}
-use Rattle.node.specs.Job.{GivesEdges, settings_in}
+use Rattle.node.specs.Job.{GivesEdges, job_settings_of}
 use Rattle.node.proofs.JobLemmas.{lacks_mark, refused_edges}
 use Rattle.node.proofs.job.read_edge_section.Goals as goal
 
@@ -38,13 +38,13 @@ returns-then-not-marked-clause-refused g c =
     let s =
     subst (λ (b : Bool). GivesEdges LIMITS c.args.options.now.delimiter (g.R.Read.remaining c.args.reader.now) (g.R.Read.remaining c.give_section.new.reader) c.give_section.new.edges b) unmarked
     (c.in_ok-marked.ensures.given c.args.options.now.delimiter c.in_ok-edges.ensures.ok) in
-    lacks_mark (network_in (settings_in c.args.options.now)) LIMITS c.args.options.now.delimiter (g.R.Read.remaining c.args.reader.now) c.give_section.new.edges c.in_ok-read.read.graph s
+    lacks_mark (network_in (job_settings_of c.args.options.now)) LIMITS c.args.options.now.delimiter (g.R.Read.remaining c.args.reader.now) c.give_section.new.edges c.in_ok-read.read.graph s
     (λ plain. c.in_ok-read.ensures.ok LIMITS c.args.options.now.delimiter s.front s.given plain)
 
 pub returns-in_err-read-clause-refused : goal.returns-in_err-read-clause-refused
 returns-in_err-read-clause-refused g c =
     let p = err_from_is_err_and c.from_residual-in_err-read.result c.from_residual-in_err-read.ensures.1 in
     rw (p.1, p.2)
-    (refused_edges (network_in (settings_in c.args.options.now)) LIMITS c.args.options.now.delimiter (g.R.Read.remaining c.args.reader.now) (g.R.Read.remaining c.give_section.new.reader) c.give_section.new.edges c.in_ok-marked.marked _
+    (refused_edges (network_in (job_settings_of c.args.options.now)) LIMITS c.args.options.now.delimiter (g.R.Read.remaining c.args.reader.now) (g.R.Read.remaining c.give_section.new.reader) c.give_section.new.edges c.in_ok-marked.marked _
     (λ e. c.in_err-read.ensures.read (ap Err e)) (c.in_ok-marked.ensures.given c.args.options.now.delimiter c.in_ok-edges.ensures.ok)
     (λ text given plain. c.in_err-read.ensures.refused LIMITS c.args.options.now.delimiter text given plain))

@@ -1,11 +1,11 @@
 use Rattle.std.proofs.Common.{◌≡◌, ℕ, ◌+◌, ◌<◌, ◌≤◌, Bool, List, length, map, get_or, refl, ap, sym, ◌∙◌, arith}
 use Rattle.std.proofs.lemmas.List.{length-map, length-set, map-set, get_or-map, get_or_default, same_lists}
 use Rattle.ball_model.specs.Figures.{TallyValue}
+use Rattle.ball_model.specs.Checkpoint.{no_figures}
 use Rattle.figures.specs.declared.tally.Tally.{Tally}
 use Rattle.figures.specs.Values.{value_of}
 use Rattle.registers.specs.Marks.{IsNextMarked}
 use Rattle.registers.proofs.MarkLemmas.{passed}
-use Rattle.replica.specs.Level.{nothing}
 use Rattle.replica.specs.Tallies.{DifferAt}
 use Rattle.replica.proofs.StepLemmas.{step_done, step_rest}
 use Rattle.replica.proofs.tallies.follow.Goals as goal
@@ -15,12 +15,12 @@ as_many : (xs ys : List Tally) → length (map value_of xs) ≡ length (map valu
 as_many xs ys same = sym (length-map xs value_of) ∙ same ∙ length-map ys value_of
 
 -- the value of a tally that is read
-read : (xs : List Tally) (i : ℕ) (found : Tally) → i < length xs → found ≡ get_or xs i found → value_of found ≡ get_or (map value_of xs) i nothing
-read xs i found lt is = ap value_of is ∙ sym (get_or-map value_of xs i found nothing lt)
+read : (xs : List Tally) (i : ℕ) (found : Tally) → i < length xs → found ≡ get_or xs i found → value_of found ≡ get_or (map value_of xs) i no_figures
+read xs i found lt is = ap value_of is ∙ sym (get_or-map value_of xs i found no_figures lt)
 
 -- up to the next stale one they are those ahead
 stay : (stale : List Bool) (a b : List TallyValue) (from next : ℕ) → DifferAt stale a b → IsNextMarked stale from next →
-    (k : ℕ) → from ≤ k → k < next → get_or a k nothing ≡ get_or b k nothing
+    (k : ℕ) → from ≤ k → k < next → get_or a k no_figures ≡ get_or b k no_figures
 stay stale a b from next differ is k low lt = differ.same k (omega (arith, is.high, differ.marked)) (is.blank k low lt)
 
 pub loop-i-init : goal.loop-i-init
@@ -31,7 +31,7 @@ loop-i-init c =
     record {
       in_range = is.high;
       long = refl;
-      done = passed (λ k. get_or b k nothing) (λ k. get_or a k nothing) a nothing 0 c.next_marked-i.result (λ k lt. absurd (omega arith)) (λ k low. refl) (stay c.args.stale.now a b 0 c.next_marked-i.result c.requires is);
+      done = passed (λ k. get_or b k no_figures) (λ k. get_or a k no_figures) a no_figures 0 c.next_marked-i.result (λ k lt. absurd (omega arith)) (λ k low. refl) (stay c.args.stale.now a b 0 c.next_marked-i.result c.requires is);
       rest = λ k low. refl;
     }
 
@@ -48,15 +48,15 @@ loop-i-preserved c =
     let lt : i < length c.args.tallies.now = omega (arith, c.loop-i-test.true, c.requires.marked, length-map c.args.tallies.now value_of) in
     let long : i < length (map value_of c.loop-i.tallies) = omega (arith, lt, c.loop-i.invariant.long, length-map c.loop-i.tallies value_of) in
     let inside : i < length c.args.ahead.now = omega (arith, lt, count) in
-    let value : value_of new ≡ get_or b i nothing = read c.args.ahead.now i new inside c.index-ahead-i.is in
+    let value : value_of new ≡ get_or b i no_figures = read c.args.ahead.now i new inside c.index-ahead-i.is in
     record {
       in_range = is.high;
       long = length-set c.loop-i.tallies i new ∙ c.loop-i.invariant.long;
-      done = rw written (passed (λ k. get_or b k nothing) (λ k. get_or a k nothing) _ nothing (i + 1) next
-          (step_done (λ k. get_or b k nothing) (map value_of c.loop-i.tallies) nothing (value_of new) i long value c.loop-i.invariant.done)
-          (step_rest (λ k. get_or a k nothing) (map value_of c.loop-i.tallies) nothing (value_of new) i c.loop-i.invariant.rest)
+      done = rw written (passed (λ k. get_or b k no_figures) (λ k. get_or a k no_figures) _ no_figures (i + 1) next
+          (step_done (λ k. get_or b k no_figures) (map value_of c.loop-i.tallies) no_figures (value_of new) i long value c.loop-i.invariant.done)
+          (step_rest (λ k. get_or a k no_figures) (map value_of c.loop-i.tallies) no_figures (value_of new) i c.loop-i.invariant.rest)
           (stay c.args.stale.now a b (i + 1) next c.requires is));
-      rest = λ k low. rw written (step_rest (λ j. get_or a j nothing) (map value_of c.loop-i.tallies) nothing (value_of new) i c.loop-i.invariant.rest k (omega (arith, is.low, low)));
+      rest = λ k low. rw written (step_rest (λ j. get_or a j no_figures) (map value_of c.loop-i.tallies) no_figures (value_of new) i c.loop-i.invariant.rest k (omega (arith, is.low, low)));
     }
 
 pub returns : goal.returns
@@ -64,6 +64,6 @@ returns c =
     let a = map value_of c.loop-i.tallies in
     let b = map value_of c.args.ahead.now in
     let count : length a ≡ length b = length-map c.loop-i.tallies value_of ∙ c.loop-i.invariant.long ∙ as_many c.args.tallies.now c.args.ahead.now c.requires.count ∙ sym (length-map c.args.ahead.now value_of) in
-    same_lists a b count (λ k d lt. get_or_default a k d nothing lt
+    same_lists a b count (λ k d lt. get_or_default a k d no_figures lt
     ∙ c.loop-i.invariant.done k (omega (arith, c.loop-i-test.false, c.requires.marked, c.requires.count, count))
-    ∙ sym (get_or_default b k d nothing (omega (arith, count))))
+    ∙ sym (get_or_default b k d no_figures (omega (arith, count))))

@@ -4,7 +4,7 @@ use Rattle.workers.specs.declared.ends.JobError.{JobError}
 use Rattle.workers.specs.declared.ends.JobError.TheVariants as job
 use Rattle.workers.specs.declared.options.RunOptions.{RunOptions}
 use Rattle.workers.specs.Job.{IsFaultOf}
-use Rattle.workers.specs.Options.{numbers_in}
+use Rattle.workers.specs.Options.{run_numbers_of}
 use Rattle.workers.specs.Run.{IsFaultIn, job_fault}
 use Rattle.ball_model.specs.RunText.{plan_over}
 use Rattle.workers.proofs.RunLemmas.{planned, refuses_job, report_planned}
@@ -23,13 +23,13 @@ returns-in_err-plan-clause-answer g c =
 
 pub returns-in_err-text-clause-answer : goal.returns-in_err-text-clause-answer
 returns-in_err-text-clause-answer g c =
-    let n = numbers_in c.args.options.now in
+    let n = run_numbers_of c.args.options.now in
     let network = c.args.graph.now in
     let p = err_from_is_err_and c.from_residual-in_err-text.result c.from_residual-in_err-text.ensures.1 in
     rw (p.1, p.2) (refuses_job n network c.in_err-text.field-0.0 (planned (plan_over n network.graph) c.in_ok-plan.plan c.in_ok-plan.ensures.value))
 
 pub returns-clause-answer : goal.returns-clause-answer
-returns-clause-answer g c = report_planned (numbers_in c.args.options.now) c.args.graph.now c.in_ok-plan.plan c.in_ok-text.text c.in_ok-plan.ensures.value c.in_ok-text.ensures.ok
+returns-clause-answer g c = report_planned (run_numbers_of c.args.options.now) c.args.graph.now c.in_ok-plan.plan c.in_ok-text.text c.in_ok-plan.ensures.value c.in_ok-text.ensures.ok
 
 pub returns-in_err-text-clause-fault : goal.returns-in_err-text-clause-fault
 returns-in_err-text-clause-fault g c =

@@ -7,7 +7,7 @@ use Rattle.ball_model.specs.State.{State}
 use Rattle.checkpoint.specs.Reading.{HasHead, OnOkOrMemory}
 use Rattle.checkpoint.specs.declared.error.KeepError.TheVariants as unkept
 use Rattle.checkpoint.proofs.ReaderLemmas.{whatever_it_is}
-use Rattle.node.specs.Refusals.{IsCheckpoint, IsNoCheckpoint}
+use Rattle.node.specs.Refusals.{IsNodeCheckpoint, IsNoCheckpoint}
 use Rattle.node.proofs.SessionLemmas.{front_given, front_refused, never_wants, part_held}
 use Rattle.node.proofs.session.Session.read.Goals as goal
 
@@ -40,7 +40,7 @@ returns-clause-back c = λ j p h d k given.
 pub returns-clause-whole : goal.returns-clause-whole
 returns-clause-whole c =
     let part : arc_value c.in_ok-part.part ≡ c.args.self.now.part = c.in_ok-part.ensures ∙ c.self.invariant ∙ ap (λ (s : State). s.part) c.self.view_is in
-    subst (λ (x : PartValue). OnOk c.read_back.result (IsCheckpoint x c.args.bytes.now)) part c.read_back.ensures.whole
+    subst (λ (x : PartValue). OnOk c.read_back.result (IsNodeCheckpoint x c.args.bytes.now)) part c.read_back.ensures.whole
 
 pub returns-clause-named : goal.returns-clause-named
 returns-clause-named c =

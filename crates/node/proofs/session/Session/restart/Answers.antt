@@ -4,7 +4,7 @@ use Rattle.node.specs.Turns.{TurnsTo}
 use Rattle.node.proofs.SessionLemmas.{refused_ok, restarted_to}
 use Rattle.std.proofs.Common.{ap, sym, subst, ◌∙◌}
 use Rattle.ball_model.specs.State.{State}
-use Rattle.checkpoint.specs.Reading.{IsSpelling}
+use Rattle.checkpoint.specs.Reading.{IsReplicaSpelling}
 use Rattle.node.specs.declared.session.Reply.TheVariants as reply
 use Rattle.node.proofs.SessionLemmas.{never_answered, says_no_checkpoint}
 use Rattle.std.proofs.lemmas.Result.{on_err_weaker}
@@ -36,7 +36,7 @@ returns-in-Err-clause-named c = λ some.
     says_no_checkpoint c.args.self.now.part c.args.bytes.now c.in-Err.error c.no_checkpoint.result c.no_checkpoint.ensures.some c.no_checkpoint.ensures.other (c.in-Err.ensures.named some)
 
 pub returns-in-Ok-clause-spelled : goal.returns-in-Ok-clause-spelled
-returns-in-Ok-clause-spelled c = λ some answered. subst (λ (v : State). IsSpelling v c.args.bytes.now) (sym c.put.ensures.value) (c.in-Ok.ensures.spells some)
+returns-in-Ok-clause-spelled c = λ some answered. subst (λ (v : State). IsReplicaSpelling v c.args.bytes.now) (sym c.put.ensures.value) (c.in-Ok.ensures.spells some)
 
 pub returns-in-Ok-clause-answer : goal.returns-in-Ok-clause-answer
 returns-in-Ok-clause-answer c = λ answered.
