@@ -8,3 +8,4 @@ pub mod Replaying
 pub mod Orders
 pub mod Refusals
 pub mod Nodes
+pub mod Progress

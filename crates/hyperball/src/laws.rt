@@ -1,4 +1,5 @@
-//! What real command lines are read as: the contract of each function is the law, and its body is empty.
+//! What real command lines are read as, and lines of progress: the contract of each function is the law, and its body
+//! is empty.
 
 ghost use Rattle.std.specs.Prelude.{◌∷◌, ◌≢◌, [], List, codes, false, true, ℕ};
 ghost use Rattle.ball_model.specs.declared.names.NodeId.{NodeId as Node};
@@ -16,11 +17,13 @@ ghost use Rattle.hyperball.specs.LawWords.{telling_node, third_node, usual_node,
 ghost use Rattle.hyperball.specs.LawWords.{one_order, two_orders};
 ghost use Rattle.hyperball.specs.Orders.{AreOrders};
 ghost use Rattle.hyperball.specs.Nodes.{AsksGather, AsksNode, IsGather, IsNode};
+ghost use Rattle.hyperball.specs.Progress.{IsLineBehind, line_of, mark_of_program};
 ghost use Rattle.hyperball.specs.Replaying.{AsksReplay, IsReplay};
 ghost use Rattle.hyperball.specs.Words.{AsksProgress, HasFaults, IsRun};
 ghost use Rattle.hyperball.specs.declared.node_words.GatherWords.{GatherWords as Gathered};
 ghost use Rattle.hyperball.specs.declared.node_words.NodeWords.{NodeWords as Noded};
 ghost use Rattle.hyperball.specs.declared.replay_words.ReplayWords.{ReplayWords as Replayed};
+ghost use Rattle.hyperball.specs.declared.told.Told.{Told as News};
 ghost use Rattle.hyperball.specs.declared.words.RunWords.{RunWords as Run};
 
 /// These words are read as those of run; an option that is not given has its default.
@@ -185,6 +188,11 @@ pub fn words_of_progress()
         AsksProgress words true → AsksProgress words false → ⊥ }
     ensures one_gather { (words : List Text) (w : Gathered) → IsGather words w →
         AsksProgress words true → AsksProgress words false → ⊥ }
+{}
+
+/// Each line of progress begins with `hyperball: `, and has one LF, at its end.
+pub fn lines_of_progress()
+    ensures { (news : News) → IsLineBehind mark_of_program (line_of news) }
 {}
 
 /// Words of a command are those of no other, and words that are read as those of a command ask for it.

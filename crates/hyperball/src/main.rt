@@ -6,7 +6,8 @@
 //! streams to [`serve::serve`], which goes from words and bytes to bytes and a status. [`words::read_words`] gives what
 //! the words ask for, a [`words::Wish`]: of a run the [`options::Options`] and the lists of orders
 //! ([`orders::orders_in`]). With `--counted` a run reads its input whole ([`whole::read_whole`]) and cuts it in two
-//! ([`whole::sections`]). The run itself is [`workers::run`].
+//! ([`whole::sections`]). The run itself is [`workers::run`]. How a command gets on is told in lines of progress
+//! ([`told::Told`]), where that is asked for ([`progress`]).
 //!
 //! ```text
 //! $ printf 'a\tb\nb\tc\n' | hyperball run --log2m 4
@@ -35,6 +36,7 @@ pub mod replaying;
 pub mod serve;
 #[cfg(test)]
 mod tests;
+pub mod told;
 pub mod whole;
 pub mod words;
 

@@ -16,14 +16,13 @@ ghost use Rattle.node.specs.declared.error.ServeError.{ServeError as NoAnswer};
 ghost use Rattle.node.specs.declared.error.ServeError.TheVariants as no_answer;
 
 use crate::node_words::{GatherWords, NodeWords};
-use crate::progress::TellingWatch;
+use crate::progress::{Teller, TellingWatch};
 use ball_model::{CountedRead, CountedWrite};
 use node::error::{GatherError, NodeError};
 use node::gather::gather;
 use node::serve::serve_node;
 use std::alloc::AllocGlobal;
 use std::hash::RandomState;
-use std::io::Eprint;
 use std::random::RandomSource;
 use std::thread::Threads;
 use thiserror::Error;
@@ -55,7 +54,7 @@ pub enum GatherFault {
 ///
 /// Without random words nothing is read, and nothing answered; where there is no job, nothing is answered; what was
 /// answered before a request that cannot be read stands.
-pub fn node_by<H: AllocGlobal + RandomSource, T: Eprint, R: CountedRead, W: CountedWrite>(
+pub fn node_by<H: AllocGlobal + RandomSource, T: Teller, R: CountedRead, W: CountedWrite>(
     rt: &H,
     words: &NodeWords,
     teller: &Option<T>,
@@ -119,7 +118,7 @@ pub fn node_by<H: AllocGlobal + RandomSource, T: Eprint, R: CountedRead, W: Coun
 /// gathering gets on. Without random words nothing is read, and nothing written.
 pub fn gather_by<
     H: AllocGlobal + RandomSource + Threads + Sync,
-    T: Eprint,
+    T: Teller,
     R: CountedRead,
     W: CountedWrite,
 >(

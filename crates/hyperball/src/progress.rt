@@ -1,9 +1,13 @@
 //! What is told of how a command gets on, where that is asked for.
 //!
-//! [`Faults`] hands out what tells it. Of a run [`Progress`] says what, and its [`TellingGate`] says when; a replay, a
-//! node and a gathering have a [`TellingWatch`]. Each line begins with `hyperball: `, as a fault does; one that cannot be
-//! written is dropped.
+//! [`Faults`] hands out a [`Teller`], which tells lines of progress ([`Told`]) and nothing else, and takes it back. Of
+//! a run [`Progress`] says what is told, and its [`TellingGate`] says when; a replay, a node and a gathering have a
+//! [`TellingWatch`].
 
+ghost use Rattle.std.specs.Prelude.{◌≡◌, List, None, Option, ℕ};
+ghost use Rattle.hyperball.specs.Progress.{TellsProgress};
+
+use crate::told::Told;
 use ball_model::NodeId;
 use ball_model::plan::GREATEST_LIMIT;
 use std::alloc::{AllocError, Global};
@@ -13,21 +17,48 @@ use std::time::Clock;
 use workers::{Gate, SleepingGate};
 use world::watch::Watch;
 
+/// What tells lines of progress.
+pub trait Teller {
+    /// Tells a line, which is dropped where it cannot be written.
+    fn tell(&self, told: Told);
+}
+
+impl Teller for Stderr {
+    fn tell(&self, told: Told) {
+        let _ = self.eprintln(told);
+    }
+}
+
 /// Where faults are told, and progress where it is asked for.
 pub trait Faults: Write {
     /// What tells progress there, from any thread.
-    type Teller: Eprint + Sync + Drop;
+    type Teller: Teller + Sync + Drop;
 
-    /// Hands out what tells progress there. From then on no contract says what stands there.
-    fn teller(&mut self) -> Self::Teller;
+    // It has handed out this teller where that stood there, and nothing was written to it since.
+    ghost has_lent: { Self → Self.Teller → Option (List ℕ) → Type 0 };
+
+    /// Hands out what tells progress there. Until that is given back, no contract says what stands there.
+    fn teller(&mut self) -> Self::Teller
+        ensures { has_lent self.new result (Self.contents self.old) };
+
+    /// Takes back what told progress there. Where nothing else was written since, there stand behind what stood there
+    /// before the lines that it told, but for those that were dropped, and nothing else.
+    fn end(&mut self, teller: Self::Teller)
+        ensures { (before : Option (List ℕ)) → has_lent self.old teller before →
+            TellsProgress before (Self.contents self.new) };
 }
 
 impl Faults for Stderr {
     type Teller = Stderr;
 
+    // No contract knows what stands there.
+    ghost has_lent = { λ _ _ before. before ≡ None };
+
     fn teller(&mut self) -> Stderr {
         *self
     }
+
+    fn end(&mut self, _teller: Stderr) {}
 }
 
 // How many partitions have come to a superstep, and how many of their vertices changed at it.
@@ -49,8 +80,8 @@ impl Superstep {
 
 /// Tells how a run gets on: its edge list, each superstep that all partitions have come to, and the report.
 #[derive(Drop)]
-pub struct Progress<T> {
-    teller: T,
+pub struct Progress<'a, T> {
+    teller: &'a T,
     // how many vertices the graph has, once it is read
     vertices: AtomicU32,
     // how many partitions the run has beside one
@@ -61,9 +92,9 @@ pub struct Progress<T> {
     supersteps: Vec<Superstep>,
 }
 
-impl<T: Eprint + Drop> Progress<T> {
+impl<'a, T: Teller> Progress<'a, T> {
     /// Nothing is told yet, of a run of so many partitions. The error is that memory was refused.
-    pub fn new(alloc: Global, teller: T, parts: u16) -> Result<Progress<T>, AllocError> {
+    pub fn new(alloc: Global, teller: &'a T, parts: u16) -> Result<Progress<'a, T>, AllocError> {
         Ok(Progress {
             teller,
             vertices: AtomicU32::new(0),
@@ -76,7 +107,7 @@ impl<T: Eprint + Drop> Progress<T> {
     // The edge list is read.
     fn note_edge_list(&self, records: u64, vertices: u32) {
         self.vertices.store(vertices, Ordering::SeqCst);
-        tell_edge_list(&self.teller, records, vertices);
+        self.teller.tell(Told::Read { records, vertices });
     }
 
     // A node of a partition has come to a superstep, at which so many vertices of the partition changed. The first node
@@ -99,21 +130,18 @@ impl<T: Eprint + Drop> Progress<T> {
 
     // All partitions have come to a superstep.
     fn tell_superstep(&self, superstep: u32, changed: u64) {
-        let all = self.vertices.load(Ordering::SeqCst);
-        let _ = eprintln!(self.teller;
-            "hyperball: superstep {superstep}, {changed} of {all} vertices changed"
-        );
+        let vertices = self.vertices.load(Ordering::SeqCst);
+        self.teller.tell(Told::Superstep {
+            superstep,
+            changed,
+            vertices,
+        });
     }
 
     // The report is written.
     fn tell_report(&self) {
-        let _ = eprintln!(self.teller; "hyperball: the report is written");
+        self.teller.tell(Told::Report);
     }
-}
-
-// An edge list is read.
-fn tell_edge_list<T: Eprint>(teller: &T, records: u64, vertices: u32) {
-    let _ = eprintln!(teller; "hyperball: {records} records and {vertices} vertices are read");
 }
 
 // No node has gone on from superstep 0, of so many partitions.
@@ -138,15 +166,15 @@ fn no_supersteps(alloc: Global) -> Result<Vec<Superstep>, AllocError> {
 #[derive(Drop)]
 pub struct TellingGate<'a, C, T> {
     sleeping: SleepingGate<'a, C>,
-    progress: Option<Progress<T>>,
+    progress: Option<Progress<'a, T>>,
 }
 
-impl<'a, C: Clock, T: Eprint + Drop> TellingGate<'a, C, T> {
+impl<'a, C: Clock, T: Teller> TellingGate<'a, C, T> {
     /// A gate that sleeps by this clock, of a run of so many partitions. The error is that memory was refused.
     pub fn new(
         alloc: Global,
         clock: &'a C,
-        teller: Option<T>,
+        teller: Option<&'a T>,
         parts: u16,
     ) -> Result<TellingGate<'a, C, T>, AllocError> {
         let progress = match teller {
@@ -169,7 +197,7 @@ impl<'a, C: Clock, T: Eprint + Drop> TellingGate<'a, C, T> {
     }
 }
 
-impl<'a, C: Clock, T: Eprint + Drop> Gate for TellingGate<'a, C, T> {
+impl<'a, C: Clock, T: Teller> Gate for TellingGate<'a, C, T> {
     fn before_post(&self, node: NodeId, superstep: u32) {
         self.sleeping.before_post(node, superstep);
     }
@@ -201,7 +229,7 @@ pub struct TellingWatch<'a, T> {
     teller: &'a Option<T>,
 }
 
-impl<'a, T: Eprint> TellingWatch<'a, T> {
+impl<'a, T: Teller> TellingWatch<'a, T> {
     /// Nothing is told yet.
     pub fn new(teller: &'a Option<T>) -> TellingWatch<'a, T> {
         TellingWatch { teller }
@@ -210,41 +238,39 @@ impl<'a, T: Eprint> TellingWatch<'a, T> {
     /// The replay has ended, and written its answers or not.
     pub fn after_replay(&self, written: bool) {
         if written {
-            self.tell_end("the answers are written");
+            self.tell(Told::Answers);
         }
     }
 
     /// The node has answered all commands.
     pub fn after_commands(&self) {
-        self.tell_end("the commands are answered");
+        self.tell(Told::Commands);
     }
 
     /// The gathering has written its report.
     pub fn after_gathering(&self) {
-        self.tell_end("the report is written");
+        self.tell(Told::Report);
     }
 
-    // All is done.
-    fn tell_end(&self, line: &str) {
+    // Tells a line where there is a teller.
+    fn tell(&self, told: Told) {
         if let Some(teller) = self.teller {
-            let _ = eprintln!(teller; "hyperball: {line}");
+            teller.tell(told);
         }
     }
 }
 
-impl<'a, T: Eprint> Watch for TellingWatch<'a, T> {
+impl<'a, T: Teller> Watch for TellingWatch<'a, T> {
     fn after_read(&self, records: u64, vertices: u32) {
-        if let Some(teller) = self.teller {
-            tell_edge_list(teller, records, vertices);
-        }
+        self.tell(Told::Read { records, vertices });
     }
 
     fn after_close(&self, node: NodeId, superstep: u32, changed: u32, vertices: u32) {
-        if let Some(teller) = self.teller {
-            let _ = eprintln!(teller;
-                "hyperball: node {}.{} at superstep {superstep}, {changed} of its {vertices} vertices changed",
-                node.part, node.replica
-            );
-        }
+        self.tell(Told::Close {
+            node,
+            superstep,
+            changed,
+            vertices,
+        });
     }
 }

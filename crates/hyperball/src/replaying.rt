@@ -11,13 +11,12 @@ ghost use Rattle.hyperball.specs.declared.replaying.ReplayFault.{ReplayFault as 
 ghost use Rattle.hyperball.specs.declared.whole.WholeError.{WholeError as NoInput};
 ghost use Rattle.world.specs.declared.replay.ReplayError.{ReplayError as NoAnswers};
 
-use crate::progress::TellingWatch;
+use crate::progress::{Teller, TellingWatch};
 use crate::replay_words::ReplayWords;
 use crate::whole::{WholeError, read_whole, sections};
 use ball_model::{CountedRead, CountedWrite};
 use std::alloc::{AllocGlobal, Global};
 use std::hash::RandomState;
-use std::io::Eprint;
 use std::random::RandomSource;
 use thiserror::Error;
 use world::replay::{ReplayError, replay_watched};
@@ -126,7 +125,7 @@ fn replay_sections<W: CountedWrite, V: Watch>(
 }
 
 // A replay over an input that is read whole, which tells how it gets on where there is a teller.
-fn replay_whole<T: Eprint, R: CountedRead, W: CountedWrite>(
+fn replay_whole<T: Teller, R: CountedRead, W: CountedWrite>(
     alloc: Global,
     state: RandomState,
     words: &ReplayWords,
@@ -168,7 +167,7 @@ fn replay_whole<T: Eprint, R: CountedRead, W: CountedWrite>(
 /// answered where a call of the reader failed and nowhere else, `Input(Size)` only where there are more than 2^26 bytes,
 /// and `NoList` and `NoScript` exactly where the input, read whole, lacks that part. After `Replay(Memory)` and
 /// `Replay(Write)` a beginning of the answers may stand; after every other fault nothing was written.
-pub fn replay_by<H: AllocGlobal + RandomSource, T: Eprint, R: CountedRead, W: CountedWrite>(
+pub fn replay_by<H: AllocGlobal + RandomSource, T: Teller, R: CountedRead, W: CountedWrite>(
     rt: &H,
     words: &ReplayWords,
     teller: &Option<T>,

@@ -1,7 +1,7 @@
 //! From words and bytes to bytes and a status.
 
 ghost use Rattle.std.specs.Prelude.{◌≡◌, ◌≢◌, ◌≤◌, ◌⊎◌, ◌∷◌, [], List, false, true, Err, IfErr};
-ghost use Rattle.std.specs.Prelude.{IfSome, None, OnErr, OnOk, Some};
+ghost use Rattle.std.specs.Prelude.{IfSome, None, OnErr, OnOk, Option, Some, ℕ};
 ghost use Rattle.std.specs.Io.KnownBytes.{Appends, Keeps};
 ghost use Rattle.clap.specs.Words.{kind_of};
 ghost use Rattle.clap.specs.declared.error.kind.ErrorKind.TheVariants as kind;
@@ -13,6 +13,7 @@ ghost use Rattle.edgelist.specs.Reading.{CountsOne};
 ghost use Rattle.edgelist.specs.declared.read.EdgeError.TheVariants as edge_fault;
 ghost use Rattle.hyperball.specs.Whole.{IsLong, ReadsFew, most_bytes};
 ghost use Rattle.hyperball.specs.Options.{options_of, settings_in};
+ghost use Rattle.hyperball.specs.Progress.{Awaits, TellsProgress};
 ghost use Rattle.hyperball.specs.Refusals.{IsFault, RefusesLongRun};
 ghost use Rattle.hyperball.specs.Replaying.{BeginsSome, BeginsToServe, IsReplay, SaysRun};
 ghost use Rattle.hyperball.specs.Replaying.{ServesReplay};
@@ -37,7 +38,7 @@ use crate::node_words::{GatherWords, NodeWords};
 use crate::nodes::{gather_by, node_by};
 use crate::options::run_options;
 use crate::orders::OrdersError;
-use crate::progress::{Faults, TellingGate};
+use crate::progress::{Faults, Teller, TellingGate};
 use crate::replay_words::ReplayWords;
 use crate::replaying::replay_by;
 use crate::whole::{WholeError, read_whole, sections};
@@ -47,7 +48,7 @@ use clap::error::ErrorKind;
 use std::alloc::{AllocGlobal, Global};
 use std::fmt::Display;
 use std::hash::RandomState;
-use std::io::{Eprint, Write};
+use std::io::Write;
 use std::random::RandomSource;
 use std::sync::Wait;
 use std::thread::Threads;
@@ -343,10 +344,10 @@ fn run_by<
 // A run of these words, which tells how it gets on where there is a teller.
 fn run<
     H: AllocGlobal + Clock + RandomSource + Threads + Wait + Sync,
-    T: Eprint + Sync + Drop,
+    T: Teller + Sync,
     R: CountedRead,
     W: CountedWrite,
->(rt: &H, said: Said, teller: Option<T>, reader: &mut R, writer: &mut W) -> Result<(), RunFault>
+>(rt: &H, said: Said, teller: &Option<T>, reader: &mut R, writer: &mut W) -> Result<(), RunFault>
     ensures done { OnOk result (
         Serves said.words (R.remaining reader.old) W.contents writer.old writer.new) }
     ensures gate { result ≡ Err RunFault.Gate →
@@ -382,7 +383,7 @@ fn run<
 {
     let Said { words, orders, .. } = said;
     let options = run_options(&words.options, orders);
-    let Ok(gate) = TellingGate::new(rt.alloc(), rt, teller, options.parts) else {
+    let Ok(gate) = TellingGate::new(rt.alloc(), rt, teller.as_ref(), options.parts) else {
         return Err(RunFault::Gate);
     };
     let answer = run_by(rt, words.counted, &options, &gate, reader, writer);
@@ -392,9 +393,22 @@ fn run<
 
 // What tells progress, where it is asked for.
 fn teller_for<F: Faults>(asked: bool, faults: &mut F) -> Option<F::Teller>
-    ensures { asked ≡ false → Keeps (F.contents faults.old) (F.contents faults.new) }
+    ensures silent { asked ≡ false → result ≡ None }
+    ensures lent { Awaits F.has_lent F.contents faults.new result (F.contents faults.old) }
 {
     if asked { Some(faults.teller()) } else { None }
+}
+
+// Takes back what told progress, where it was handed out.
+fn end_telling<F: Faults>(teller: Option<F::Teller>, faults: &mut F)
+    ensures silent { teller ≡ None → Keeps (F.contents faults.old) (F.contents faults.new) }
+    ensures told { (before : Option (List ℕ)) →
+        Awaits F.has_lent F.contents faults.old teller before →
+        TellsProgress before (F.contents faults.new) }
+{
+    if let Some(teller) = teller {
+        faults.end(teller);
+    }
 }
 
 // The status of a run, whose fault is told.
@@ -413,9 +427,13 @@ fn serve_run<
         KeptOrFailed W.contents W.failed_calls writer.old writer.new }
     ensures silent { result ≡ 0 → said.progress ≡ false →
         Keeps (F.contents faults.old) (F.contents faults.new) }
+    ensures told { result ≡ 0 →
+        TellsProgress (F.contents faults.old) (F.contents faults.new) }
 {
     let teller = teller_for(said.progress, faults);
-    match run(rt, said, teller, reader, writer) {
+    let answer = run(rt, said, &teller, reader, writer);
+    end_telling(teller, faults);
+    match answer {
         Ok(()) => DONE,
         Err(fault) => tell_fault(faults, fault),
     }
@@ -437,9 +455,13 @@ fn serve_replay<H: AllocGlobal + RandomSource, R: CountedRead, W: CountedWrite, 
         W.contents W.failed_calls writer.old writer.new }
     ensures silent { result ≡ 0 → words.now.progress ≡ false →
         Keeps (F.contents faults.old) (F.contents faults.new) }
+    ensures told { result ≡ 0 →
+        TellsProgress (F.contents faults.old) (F.contents faults.new) }
 {
     let teller = teller_for(words.progress, faults);
-    match replay_by(rt, words, &teller, reader, writer) {
+    let answer = replay_by(rt, words, &teller, reader, writer);
+    end_telling(teller, faults);
+    match answer {
         Ok(()) => DONE,
         Err(fault) => tell_fault(faults, fault),
     }
@@ -463,9 +485,13 @@ fn serve_node<H: AllocGlobal + RandomSource, R: CountedRead, W: CountedWrite, F:
     ensures written { result ≡ 0 → W.failed_calls writer.new ≡ W.failed_calls writer.old }
     ensures silent { result ≡ 0 → words.now.progress ≡ false →
         Keeps (F.contents faults.old) (F.contents faults.new) }
+    ensures told { result ≡ 0 →
+        TellsProgress (F.contents faults.old) (F.contents faults.new) }
 {
     let teller = teller_for(words.progress, faults);
-    match node_by(rt, words, &teller, reader, writer) {
+    let answer = node_by(rt, words, &teller, reader, writer);
+    end_telling(teller, faults);
+    match answer {
         Ok(()) => DONE,
         Err(fault) => tell_fault(faults, fault),
     }
@@ -492,9 +518,13 @@ fn serve_gather<
         (W.contents writer.old) (W.contents writer.new) }
     ensures silent { result ≡ 0 → words.now.progress ≡ false →
         Keeps (F.contents faults.old) (F.contents faults.new) }
+    ensures told { result ≡ 0 →
+        TellsProgress (F.contents faults.old) (F.contents faults.new) }
 {
     let teller = teller_for(words.progress, faults);
-    match gather_by(rt, words, &teller, reader, writer) {
+    let answer = gather_by(rt, words, &teller, reader, writer);
+    end_telling(teller, faults);
+    match answer {
         Ok(()) => DONE,
         Err(fault) => tell_fault(faults, fault),
     }
@@ -543,6 +573,8 @@ fn serve_wish<
         (W.contents writer.old) (W.contents writer.new) }
     ensures silent { result ≡ 0 → SaysProgress false wish →
         Keeps (F.contents faults.old) (F.contents faults.new) }
+    ensures told { result ≡ 0 →
+        TellsProgress (F.contents faults.old) (F.contents faults.new) }
 {
     match wish {
         Wish::Run(said) => serve_run(rt, said, reader, writer, faults),
@@ -555,10 +587,10 @@ fn serve_wish<
 /// Does what the words of a command line say, and gives the exit status.
 ///
 /// 0: the report or the answers were written, or help was asked for, whose text goes to the writer; nothing goes to
-/// `faults`, unless `--progress` asks that progress is told there. 1: a fault, told in one line on `faults`; nothing was
-/// written unless a write failed, or memory was refused in a replay or for the report of checkpoints, where a beginning
-/// may stand, or by a node, where what it has answered stands. 2: words that are refused, as `clap` tells it there, or a
-/// list of orders that is not of its form; nothing was written.
+/// `faults`, unless `--progress` asks that progress is told there, and then lines of progress alone. 1: a fault, told
+/// in one line on `faults`; nothing was written unless a write failed, or memory was refused in a replay or for the
+/// report of checkpoints, where a beginning may stand, or by a node, where what it has answered stands. 2: words that
+/// are refused, as `clap` tells it there, or a list of orders that is not of its form; nothing was written.
 ///
 /// The first word is the program's name. With `--counted`, and by a replay, the input is read whole, at most 67,108,865
 /// bytes of it: the edge list, a line of exactly `%%`, the list of counted vertices where there is one, and for a replay
@@ -620,6 +652,8 @@ pub fn serve<
         (W.contents writer.old) (W.contents writer.new) }
     ensures silent { result ≡ 0 → AsksProgress (texts_of words.now) false →
         Keeps (F.contents faults.old) (F.contents faults.new) }
+    ensures told { result ≡ 0 →
+        TellsProgress (F.contents faults.old) (F.contents faults.new) }
 {
     match read_words(rt.alloc(), words) {
         Ok(wish) => serve_wish(rt, wish, reader, writer, faults),

@@ -14,7 +14,7 @@ mod words;
 
 use crate::serve::serve;
 use ball_model::{CountingReader, CountingWriter};
-use fakes::{Compared, Given, Lines, Told};
+use fakes::{Compared, Given, Heard, Lines};
 use std::alloc::{AllocError, Global};
 use std::process::Abort;
 use std::random::RandomSource;
@@ -121,7 +121,7 @@ fn end_of<H: Host>(rt: &H, words: &[String], case: &Case, flow: &Flow, lines: &L
     let mut reader = CountingReader::new(Given::new(case.1, flow));
     let mut output = Compared::new(case.3, flow.step, flow.room);
     let mut writer = CountingWriter::new(&mut output);
-    let mut told = Told::new(case.4, flow.told, lines);
+    let mut told = Heard::new(case.4, flow.told, lines);
     let status = serve(rt, words, &mut reader, &mut writer, &mut told);
     End {
         served: true,

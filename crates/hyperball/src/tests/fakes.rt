@@ -1,13 +1,13 @@
 //! Streams over constant bytes, which take no memory: a reader that gives pieces, and writers that compare what comes with
 //! what is wanted.
 
-ghost use Rattle.std.specs.Prelude.{None};
+ghost use Rattle.std.specs.Prelude.{◌≡◌, None};
 
 use super::{Flow, NO_MEMORY, Pieces};
-use crate::progress::Faults;
-use std::fmt::Display;
+use crate::progress::{Faults, Teller};
+use crate::told::Told;
 use std::io;
-use std::io::{Eprint, ErrorKind, Read, Write};
+use std::io::{ErrorKind, Read, Write};
 use std::sync::atomic::{AtomicU32, Ordering};
 
 /// A place in a text that stands in pieces.
@@ -234,34 +234,28 @@ impl Lines {
     }
 }
 
-impl Eprint for Lines {
-    fn eprint<D: Display + Drop>(&self, _value: D) -> io::Result<()> {
-        self.told.fetch_add(1, Ordering::SeqCst);
-        Ok(())
-    }
-
-    fn eprintln<D: Display + Drop>(&self, value: D) -> io::Result<()> {
+impl<'a> Teller for &'a Lines {
+    fn tell(&self, told: Told) {
         let mut line = self.next();
-        writeln!(line, "{value}")?;
+        let _ = writeln!(line, "{told}");
         if line.begins() {
             self.right.fetch_add(1, Ordering::SeqCst);
         }
-        Ok(())
     }
 }
 
 /// Compares faults with what is wanted, and with what is told of refused memory, and has lines of progress told.
 #[derive(Drop)]
-pub struct Told<'a> {
+pub struct Heard<'a> {
     pub text: Compared,
     pub refused: Compared,
     lines: &'a Lines,
 }
 
-impl<'a> Told<'a> {
+impl<'a> Heard<'a> {
     /// Nothing is told yet.
-    pub fn new(wanted: &'static [u8], room: usize, lines: &'a Lines) -> Told<'a> {
-        Told {
+    pub fn new(wanted: &'static [u8], room: usize, lines: &'a Lines) -> Heard<'a> {
+        Heard {
             text: Compared::of(wanted, room),
             refused: Compared::of(NO_MEMORY, usize::MAX),
             lines,
@@ -269,7 +263,7 @@ impl<'a> Told<'a> {
     }
 }
 
-impl<'a> Write for Told<'a> {
+impl<'a> Write for Heard<'a> {
     ghost contents = { λ w. None };
 
     fn write(&mut self, buf: &[u8]) -> io::Result<usize> {
@@ -282,10 +276,14 @@ impl<'a> Write for Told<'a> {
     }
 }
 
-impl<'a> Faults for Told<'a> {
+impl<'a> Faults for Heard<'a> {
     type Teller = &'a Lines;
+
+    ghost has_lent = { λ _ _ before. before ≡ None };
 
     fn teller(&mut self) -> &'a Lines {
         self.lines
     }
+
+    fn end(&mut self, _teller: &'a Lines) {}
 }

@@ -2,8 +2,9 @@
 
 use super::*;
 use crate::laws::{
-    lists_of_orders, words_of_a_node, words_of_a_replay, words_of_a_run, words_of_no_command,
-    words_of_no_node, words_of_no_replay, words_of_no_run, words_of_one_command, words_of_progress,
+    lines_of_progress, lists_of_orders, words_of_a_node, words_of_a_replay, words_of_a_run,
+    words_of_no_command, words_of_no_node, words_of_no_replay, words_of_no_run,
+    words_of_one_command, words_of_progress,
 };
 use crate::node_words::{GatherWords, NodeWords};
 use crate::options::Options;
@@ -572,6 +573,7 @@ fn words_are_read(rt: HostRuntime) {
 
 #[test]
 fn laws_are_called() {
+    lines_of_progress();
     words_of_a_run();
     words_of_no_run();
     words_of_a_replay();

@@ -1,6 +1,7 @@
 use Rattle.std.proofs.Common.{ap, inl, inr}
 use Rattle.std.specs.Prelude.{Err, Ok}
 use Rattle.hyperball.proofs.ReplayLemmas.{some_begun}
+use Rattle.hyperball.proofs.TellingLemmas.{tells_none}
 use Rattle.hyperball.proofs.WishLemmas.{each_wish}
 use Rattle.hyperball.proofs.serve.serve.Goals as goal
 
@@ -75,6 +76,13 @@ returns-in-Ok-clause-one_kept g c = λ one. each_wish c.in-Ok.wish
 
 pub returns-in-Ok-clause-silent : goal.returns-in-Ok-clause-silent
 returns-in-Ok-clause-silent g c = λ zero quiet. c.serve_wish.ensures.silent zero (c.in-Ok.ensures.progress _ quiet)
+
+pub returns-in-Ok-clause-told : goal.returns-in-Ok-clause-told
+returns-in-Ok-clause-told g c = λ zero. c.serve_wish.ensures.told zero
+
+pub returns-in-Err-clause-told : goal.returns-in-Err-clause-told
+returns-in-Err-clause-told g c = λ zero.
+    tells_none (g.F.Write.contents c.args.faults.now) (g.F.Write.contents c.tell_words.new.faults) (c.tell_words.ensures.silent zero)
 
 pub returns-in-Err-clause-replay : goal.returns-in-Err-clause-replay
 returns-in-Err-clause-replay g c = λ w is zero. absurd (c.tell_words.ensures.refused (c.in-Err.ensures.faults _ is.accepted) zero)

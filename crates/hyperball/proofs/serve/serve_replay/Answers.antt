@@ -1,6 +1,6 @@
 use Rattle.hyperball.proofs.ReplayLemmas.{stops}
 use Rattle.hyperball.proofs.serve.serve_replay.Goals as goal
 
-pub returns-clause-begun : goal.returns-clause-begun
-returns-clause-begun g c = λ one. stops (g.R.Read.remaining c.args.reader.now) c.args.words.now (g.W.Write.contents c.args.writer.now) (g.W.Write.contents c.replay_by.new.writer)
-    (g.W.CountedWrite.failed_calls c.args.writer.now) (g.W.CountedWrite.failed_calls c.replay_by.new.writer) c.in-Err.fault c.in-Err.ensures.fault c.in-Err.ensures.left
+pub returns-in-Err-clause-begun : goal.returns-in-Err-clause-begun
+returns-in-Err-clause-begun g c = λ one. stops (g.R.Read.remaining c.args.reader.now) c.args.words.now (g.W.Write.contents c.args.writer.now) (g.W.Write.contents c.replay_by-answer.new.writer)
+    (g.W.CountedWrite.failed_calls c.args.writer.now) (g.W.CountedWrite.failed_calls c.replay_by-answer.new.writer) c.in-Err.fault c.in-Err.ensures.fault c.in-Err.ensures.left

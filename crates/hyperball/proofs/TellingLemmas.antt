@@ -1,0 +1,125 @@
+-- Lines of progress.
+use Rattle.std.proofs.Common.{◌≡◌, ◌≢◌, ◌∙◌, ℕ, zero, suc, ◌+◌, ◌/◌, ◌%◌, ◌==◌, Bool, true, false, List, [], ◌∷◌, ◌++◌, refl, arith, sym, codes, append-nil, append_assoc, rules}
+use Rattle.std.specs.Prelude.{Option, None, Some, decimal, nat_lt, if◌then◌else◌}
+use Rattle.std.specs.Fmt.{digit_glyph, digits, digits_onto}
+use Rattle.std.specs.Io.KnownBytes.{Appends, Keeps}
+use Rattle.std.proofs.lemmas.List.Elements.{All-append, All-cons, All-nil}
+use Rattle.ball_model.specs.WorldText.{node_word}
+use Rattle.node.specs.Stream.{HasNoEnd}
+use Rattle.hyperball.specs.Progress.{TellsProgress, IsLineBehind, line_of, mark_of_program, news_text, told_text}
+use Rattle.ball_model.specs.declared.names.NodeId.{NodeId}
+use Rattle.hyperball.specs.declared.told.Told.{Told}
+use Rattle.hyperball.specs.declared.told.Told.TheVariants as told
+
+-- what keeps what stood there tells no line
+appends-none : (old new : Option (List ℕ)) → Keeps old new → Appends old new []
+appends-none None new keeps = tt
+appends-none (Some x) None keeps = absurd keeps
+appends-none (Some x) (Some y) keeps = keeps ∙ sym (append-nil x)
+
+pub tells_none : (old new : Option (List ℕ)) → Keeps old new → TellsProgress old new
+tells_none old new keeps = record { lines = []; appended = appends-none old new keeps }
+
+-- ---- lines as they are written, piece by piece
+
+pub read_text : (records vertices : ℕ) →
+    told_text (told.Read records vertices) ≡
+    codes "hyperball: " ++ (decimal records ++ (codes " records and " ++ (decimal vertices ++ codes " vertices are read")))
+read_text records vertices = search (rules, append_assoc)
+
+pub superstep_text : (superstep changed vertices : ℕ) →
+    told_text (told.Superstep superstep changed vertices) ≡
+    codes "hyperball: superstep " ++ (decimal superstep ++ (codes ", " ++ (decimal changed ++ (codes " of " ++ (decimal vertices ++ codes " vertices changed")))))
+superstep_text superstep changed vertices = search (rules, append_assoc)
+
+pub close_text : (node : NodeId) (superstep changed vertices : ℕ) →
+    told_text (told.Close node superstep changed vertices) ≡
+    codes "hyperball: node "
+    ++ (decimal node.part ++ (codes "." ++ (decimal node.replica ++ (codes " at superstep " ++ (decimal superstep
+    ++ (codes ", " ++ (decimal changed ++ (codes " of its " ++ (decimal vertices ++ codes " vertices changed")))))))))
+unfolding node_word
+close_text node superstep changed vertices = search (rules, append_assoc)
+
+-- ---- no LF within a line
+
+-- a digit ends no line
+glyph-no_end : (d : ℕ) (small : Bool) → (if small then 48 + d else 87 + d) ≢ 10
+glyph-no_end d true is = omega (arith, is)
+glyph-no_end d false is = omega (arith, is)
+
+-- of two texts one
+one-no_end : (t : Bool) (a b : List ℕ) → HasNoEnd a → HasNoEnd b → HasNoEnd (if t then a else b)
+one-no_end true a b h k = h
+one-no_end false a b h k = k
+
+digits-no_end : (k n : ℕ) (acc : List ℕ) → HasNoEnd acc → HasNoEnd (digits_onto k 10 false n acc)
+digits-no_end zero n acc h = h
+digits-no_end (suc k) n acc h =
+    let digit = digit_glyph false (n % 10) in
+    let next : HasNoEnd (digit ∷ acc) = All-cons (λ b. b ≢ 10) digit acc (glyph-no_end (n % 10) (nat_lt (n % 10) 10)) h in
+    one-no_end (n / 10 == 0) (digit ∷ acc) (digits_onto k 10 false (n / 10) (digit ∷ acc)) next (digits-no_end k (n / 10) (digit ∷ acc) next)
+
+decimal-no_end : (n : ℕ) → HasNoEnd (decimal n)
+unfolding digits
+decimal-no_end n = digits-no_end 64 n [] (All-nil (λ b. b ≢ 10))
+
+node-no_end : (id : NodeId) → HasNoEnd (node_word id)
+unfolding node_word
+node-no_end id =
+    All-append (λ b. b ≢ 10) (decimal id.part) (46 ∷ decimal id.replica) (decimal-no_end id.part)
+    (All-cons (λ b. b ≢ 10) 46 (decimal id.replica) (λ e. omega (arith, e)) (decimal-no_end id.replica))
+
+-- a text that has no LF, as can be seen
+abbrev seen_no_end : List ℕ → Bool
+seen_no_end [] = true
+seen_no_end (b ∷ bs) = if b == 10 then false else seen_no_end bs
+
+seen-next : (b : ℕ) (bs : List ℕ) (lf : Bool) → (b == 10) ≡ lf → (if lf then false else seen_no_end bs) ≡ true → (seen_no_end bs ≡ true → HasNoEnd bs) → HasNoEnd (b ∷ bs)
+seen-next b bs true test is more = absurd (cc)
+seen-next b bs false test is more = All-cons (λ c. c ≢ 10) b bs (λ e. let same : (b == 10) ≡ true = rw e refl in absurd (cc)) (more is)
+
+seen : (bs : List ℕ) → seen_no_end bs ≡ true → HasNoEnd bs
+seen [] is = All-nil (λ b. b ≢ 10)
+seen (b ∷ bs) is = seen-next b bs (b == 10) refl is (seen bs)
+
+-- two texts, one behind the other
+joined : (a b : List ℕ) → HasNoEnd a → HasNoEnd b → HasNoEnd (a ++ b)
+joined a b h k = All-append (λ c. c ≢ 10) a b h k
+
+-- a text that can be seen behind another, and a number behind that
+numbered : (a b : List ℕ) (n : ℕ) → HasNoEnd a → seen_no_end b ≡ true → HasNoEnd (a ++ b ++ decimal n)
+numbered a b n h is = joined (a ++ b) (decimal n) (joined a b h (seen b is)) (decimal-no_end n)
+
+-- how many of how many vertices changed
+changed-no_end : (a of_all : List ℕ) (changed vertices : ℕ) → HasNoEnd a → seen_no_end of_all ≡ true →
+    HasNoEnd (a ++ codes ", " ++ decimal changed ++ of_all ++ decimal vertices ++ codes " vertices changed")
+changed-no_end a of_all changed vertices h is =
+    let first : List ℕ = a ++ codes ", " ++ decimal changed in
+    let second : List ℕ = first ++ of_all ++ decimal vertices in
+    joined second (codes " vertices changed")
+    (numbered first of_all vertices (numbered a (codes ", ") changed h refl) is)
+    (seen (codes " vertices changed") refl)
+
+news-no_end : (news : Told) → HasNoEnd (news_text news)
+news-no_end (told.Read records vertices) =
+    joined (decimal records ++ codes " records and " ++ decimal vertices) (codes " vertices are read")
+    (numbered (decimal records) (codes " records and ") vertices (decimal-no_end records) refl)
+    (seen (codes " vertices are read") refl)
+news-no_end (told.Superstep superstep changed vertices) =
+    changed-no_end (codes "superstep " ++ decimal superstep) (codes " of ") changed vertices
+    (numbered [] (codes "superstep ") superstep (All-nil (λ b. b ≢ 10)) refl) refl
+news-no_end (told.Close node superstep changed vertices) =
+    let name : List ℕ = codes "node " ++ node_word node in
+    changed-no_end (name ++ codes " at superstep " ++ decimal superstep) (codes " of its ") changed vertices
+    (numbered name (codes " at superstep ") superstep (joined (codes "node ") (node_word node) (seen (codes "node ") refl) (node-no_end node)) refl) refl
+news-no_end told.Report = seen (codes "the report is written") refl
+news-no_end told.Answers = seen (codes "the answers are written") refl
+news-no_end told.Commands = seen (codes "the commands are answered") refl
+
+-- each line of progress begins so, and has one LF, at its end
+pub line_is : (news : Told) → IsLineBehind mark_of_program (line_of news)
+line_is news = record {
+  rest = news_text news;
+  is = refl;
+  one_line = joined mark_of_program (news_text news) (seen mark_of_program refl) (news-no_end news);
+}

@@ -1,0 +1,77 @@
+//! The lines of progress.
+
+use ball_model::NodeId;
+use std::fmt;
+use std::fmt::Display;
+
+/// A line of progress.
+#[derive(Clone, Copy, Debug)]
+pub enum Told {
+    /// An edge list is read, of so many records and vertices.
+    Read {
+        records: u64,
+        vertices: u32,
+    },
+    /// All partitions have come to a superstep, at which so many of all vertices changed.
+    Superstep {
+        superstep: u32,
+        changed: u64,
+        vertices: u32,
+    },
+    /// A node has gone on to a superstep, at which so many of its partition's vertices changed.
+    Close {
+        node: NodeId,
+        superstep: u32,
+        changed: u32,
+        vertices: u32,
+    },
+    /// The report is written.
+    Report,
+    /// The answers are written.
+    Answers,
+    /// All commands are answered.
+    Commands,
+}
+
+impl Display for Told {
+    ghost use Rattle.std.specs.Prelude.{Some};
+    ghost use Rattle.hyperball.specs.Progress.{told_text};
+
+    ghost output = { λ told. Some (told_text told) };
+
+    fn fmt<W: fmt::Write>(&self, f: &mut fmt::Formatter<W>) -> fmt::Result {
+        match *self {
+            Told::Read { records, vertices } => {
+                write!(
+                    f,
+                    "hyperball: {records} records and {vertices} vertices are read"
+                )
+            }
+            Told::Superstep {
+                superstep,
+                changed,
+                vertices,
+            } => {
+                write!(
+                    f,
+                    "hyperball: superstep {superstep}, {changed} of {vertices} vertices changed"
+                )
+            }
+            Told::Close {
+                node,
+                superstep,
+                changed,
+                vertices,
+            } => {
+                let NodeId { part, replica } = node;
+                write!(
+                    f,
+                    "hyperball: node {part}.{replica} at superstep {superstep}, {changed} of its {vertices} vertices changed"
+                )
+            }
+            Told::Report => write!(f, "hyperball: the report is written"),
+            Told::Answers => write!(f, "hyperball: the answers are written"),
+            Told::Commands => write!(f, "hyperball: the commands are answered"),
+        }
+    }
+}
