@@ -41,8 +41,9 @@ pub trait Faults: Write {
     fn teller(&mut self) -> Self::Teller
         ensures { has_lent self.new result (Self.contents self.old) };
 
-    /// Takes back what told progress there. Where nothing else was written since, there stand behind what stood there
-    /// before the lines that it told, but for those that were dropped, and nothing else.
+    /// Takes back what told progress there. Where nothing else was written since, lines of progress stand behind what
+    /// stood there before, and nothing else. They are to be those that it told, but for those that were dropped; no
+    /// contract says so.
     fn end(&mut self, teller: Self::Teller)
         ensures { (before : Option (List ℕ)) → has_lent self.old teller before →
             TellsProgress before (Self.contents self.new) };

@@ -79,7 +79,7 @@ Memory and accuracy:
   those that HyperLogLog's formula gives.
 
 Cores:
-  A run has a thread for each partition. The figures of the report are made by all cores.
+  A run has a thread for each replica of each partition. The figures of the report are made by all cores.
 
 Figures:
   Harmonic centrality 0.000000 with Lin's index 1.000000: nobody else that counts gets there.
@@ -94,13 +94,13 @@ Exit status:
   2  words that are no command";
 
 const PARTS_HELP: &str =
-    "Partitions, 1 to 64, a thread each. More cores: as many as cores; same report [default: 1]";
+    "Partitions, 1 to 64, a thread for each replica. More cores: as many as cores; same report [default: 1]";
 
 const REPLICAS_HELP: &str =
     "Replicas of each partition, 1 to 4: with 2 a worker may be lost, and not the run [default: 1]";
 
 const ENTRIES_HELP: &str =
-    "Entries of the board, 2 to 16777216: about 2*P*P a superstep and replica [default: 1048576]";
+    "Entries of the board, 2 to 16777216: about 2*P*P a superstep and replica; more where it is full [default: 1048576]";
 
 const KEEP_HELP: &str =
     "Supersteps from one snapshot to the next, 0 to 4096; 0: none, less work if parts is 1 [default: 1]";
@@ -109,9 +109,9 @@ const PATIENCE_HELP: &str =
     "Idle turns to wait for a silent worker: 17 minutes; a lost partition ends a run at once [default: 1000000]";
 
 const LOSE_HELP: &str =
-    "Workers that are lost: P.K@S is replica K of partition P at superstep S; commas between";
+    "To try it, workers that are lost: P.K@S is replica K of partition P at superstep S; commas between";
 
-const RESTART_HELP: &str = "Workers that start anew from what is kept, in the form of --lose";
+const RESTART_HELP: &str = "To try it, workers that start anew from what is kept, in the form of --lose";
 
 /// What the words of a run say.
 #[derive(Clone, Copy, PartialEq, Eq)]

@@ -1,6 +1,7 @@
 //! What no clause says: worked runs of one node and of many.
 
 mod estimates;
+mod gates;
 mod losses;
 mod refusals;
 mod rows;
@@ -124,6 +125,15 @@ fn lone<R: AllocGlobal + RandomSource + Wait>(
     Some(alone(rt, &graph, &plan, node, entries, &orders, &OpenGate))
 }
 
+/// Whether a node that starts anew has two entries more than one that does not: what it recalls, and the snapshot that it
+/// keeps a second time. (Seven entries are the opening, four snapshots, and two calls that let batches go.)
+fn starts_anew<R: AllocGlobal + RandomSource + Wait>(rt: &R, done: Option<Outcome>) -> bool {
+    lone(rt, 6, None, None) == Some(Outcome::Full)
+        && lone(rt, 7, None, None) == done
+        && lone(rt, 8, None, Some(2)) == Some(Outcome::Full)
+        && lone(rt, 9, None, Some(2)) == done
+}
+
 #[test]
 fn lone_node(rt: HostRuntime) -> Result<(), Fail> {
     let done = Some(Outcome::Done {
@@ -137,6 +147,7 @@ fn lone_node(rt: HostRuntime) -> Result<(), Fail> {
     );
     assert_eq!(rt; lone(&rt, 64, None, Some(2)), done);
     assert_eq!(rt; lone(&rt, 2, None, None), Some(Outcome::Full));
+    assert!(rt; starts_anew(&rt, done));
     Ok(())
 }
 

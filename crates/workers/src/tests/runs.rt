@@ -334,6 +334,12 @@ impl Gate for Rendezvous {
     fn idle(&self, _node: NodeId) {
         thread::yield_now();
     }
+
+    // Where a node gave up nobody waits any more.
+    fn wait_for(&self, node: NodeId, _source: u16) -> bool {
+        self.idle(node);
+        self.gave_up.load(Ordering::SeqCst) == 0
+    }
 }
 
 /// No node gives up, and the report is written.

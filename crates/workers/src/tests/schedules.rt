@@ -217,6 +217,7 @@ fn ends_as_ordered<R: AllocGlobal + RandomSource + Threads + Wait + Sync>(
         keep: run.keep,
         lose: run.lose.as_slice(),
         restart: run.restart.as_slice(),
+        patience: 10_000_000,
         ..run.graph
     };
     let gate = Yielding {
@@ -234,7 +235,7 @@ fn ends_as_ordered<R: AllocGlobal + RandomSource + Threads + Wait + Sync>(
     }
 }
 
-// How many of so many runs do not, and how many threads the widest of them has.
+// How many of so many runs do not, up to the first that does not, and how many threads the widest of them has.
 fn different<R: AllocGlobal + RandomSource + Threads + Wait + Sync>(
     rt: &R,
     runs: u32,
@@ -247,6 +248,7 @@ fn different<R: AllocGlobal + RandomSource + Threads + Wait + Sync>(
         widest = widest.max(run.threads());
         if !ends_as_ordered(rt, &run) {
             others = others.saturating_add(1);
+            break;
         }
     }
     (others, widest)
