@@ -111,7 +111,8 @@ const PATIENCE_HELP: &str =
 const LOSE_HELP: &str =
     "To try it, workers that are lost: P.K@S is replica K of partition P at superstep S; commas between";
 
-const RESTART_HELP: &str = "To try it, workers that start anew from what is kept, in the form of --lose";
+const RESTART_HELP: &str =
+    "To try it, workers that start anew from what is kept, in the form of --lose";
 
 /// What the words of a run say.
 #[derive(Clone, Copy, PartialEq, Eq)]
