@@ -23,8 +23,8 @@ impl Clock for NotingClock {
 
     fn sleep(&self, duration: Duration) {
         self.sleeps.fetch_add(1, Ordering::SeqCst);
-        self.last
-            .store(duration.as_micros() as u64, Ordering::SeqCst);
+        let micros = u64::try_from(duration.as_micros()).unwrap_or(u64::MAX);
+        self.last.store(micros, Ordering::SeqCst);
     }
 }
 
