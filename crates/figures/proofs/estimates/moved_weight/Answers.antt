@@ -2,6 +2,9 @@ use Rattle.std.proofs.Common.{arith}
 use Rattle.figures.proofs.SumLemmas.{fours, pieces, short, weight_fits}
 use Rattle.figures.proofs.estimates.moved_weight.Goals as goal
 
+pub differ_widely-requires-clause-short : goal.differ_widely-requires-clause-short
+differ_widely-requires-clause-short c = short c.args.old.now c.args.log2m c.requires.high c.requires.old_width
+
 pub sum-requires-clause-short : goal.sum-requires-clause-short
 sum-requires-clause-short c = short c.args.new.now c.args.log2m c.requires.high c.requires.new_width
 
