@@ -1,5 +1,6 @@
 pub mod FigureLemmas
 pub mod LastLemmas
+pub mod PieceLemmas
 pub mod PlaceLemmas
 pub mod SmallLemmas
 pub mod SumLemmas

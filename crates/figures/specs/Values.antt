@@ -1,5 +1,5 @@
 -- What a tally of the program says, as the definitions say it, and the figures that are made of it.
-use Rattle.std.specs.Prelude.{◌≡◌, ℕ, ◌+◌, ◌-◌, ◌*◌, ◌/◌, ◌%◌, ◌^◌, ◌≤◌, ◌<◌, Bool, true, false, min, List, [], length, map, take, drop, slice_index_or}
+use Rattle.std.specs.Prelude.{◌≡◌, ℕ, ◌+◌, ◌-◌, ◌*◌, ◌/◌, ◌%◌, ◌^◌, ◌≤◌, ◌<◌, ◌≢◌, Bool, true, min, List, [], length, map, take, drop, slice_index, slice_index_or}
 use Rattle.std.specs.List.{range_with_len, zip}
 use Rattle.std.specs.Simd.Lanes.{chunk}
 use Rattle.ball_model.specs.Figures.{TallyValue, tally_of, closeness_of, lin_of, empty_of, estimate_of, inverse_sum, draws_of, small_bound}
@@ -29,10 +29,13 @@ pub record IsWeight (log2m weight : ℕ) : Type 0 where
   pub greatest : weight % 2 ^ 50 ≤ 2 ^ 43
   pub empty : weight / 2 ^ 50 ≤ 2 ^ log2m
 
--- the same in each piece of 32 registers of two counters that is not marked
-abbrev pub PiecesDifferWhere : List Bool → List ℕ → List ℕ → Type 0
-PiecesDifferWhere marks old new = (k : ℕ) → k < length old / 32 →
-    slice_index_or marks k false ≡ false → chunk (k * 32) 32 old ≡ chunk (k * 32) 32 new
+-- of so many pieces of 32 registers of two counters, those at the first places, which rise, may differ, and no others
+pub record PiecesDifferAt (places : List ℕ) (count pieces : ℕ) (old new : List ℕ) : Type 0 where
+  pub few : count ≤ length places
+  pub within : (j : ℕ) → j < count → slice_index places j < pieces
+  pub rising : (i j : ℕ) → i < j → j < count → slice_index places i < slice_index places j
+  pub same : (k : ℕ) → k < pieces → ((j : ℕ) → j < count → slice_index places j ≢ k) →
+      chunk (k * 32) 32 old ≡ chunk (k * 32) 32 new
 
 -- the fields of an estimator: 16 to 1024 registers, and what small sets are estimated at where they are corrected
 pub record IsEstimator (log2m : ℕ) (corrected : Bool) (small : List ℕ) : Type 0 where

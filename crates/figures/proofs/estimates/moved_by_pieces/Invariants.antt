@@ -1,6 +1,5 @@
-use Rattle.std.proofs.Common.{◌≡◌, ◌+◌, ◌*◌}
-use Rattle.figures.proofs.SumLemmas.{so_far}
+use Rattle.figures.proofs.PieceLemmas.{IsMoved}
 use Rattle.figures.proofs.estimates.moved_by_pieces.Given as goal
 
-abbrev pub invariant-loop-k : goal.invariant-loop-k
-invariant-loop-k l = l.moved + so_far l.old (l.k * 32) ≡ l.weight + so_far l.new (l.k * 32)
+abbrev pub invariant-loop-j : goal.invariant-loop-j
+invariant-loop-j l = IsMoved l.weight l.moved l.places l.count l.j l.old l.new
