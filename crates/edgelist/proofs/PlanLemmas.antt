@@ -1,13 +1,13 @@
 -- The plan that options give is of the graph.
-use Rattle.std.proofs.Common.{◌≡◌, ◌<◌, ◌^◌, nat_lt, length, refl}
-use Rattle.std.specs.Prelude.{Result, Ok, Err, IfOk, ◌||◌}
+use Rattle.std.proofs.Common.{◌≡◌, ◌<◌, ◌^◌, nat_lt, length, refl, sym}
+use Rattle.std.specs.Prelude.{Result, Ok, Err, IfOk, Bool, false, ℕ, List, ◌||◌}
 use Rattle.sha2.proofs.Facts256.{length-sha256}
 use Rattle.ball_model.specs.Graph.{Graph, IsGraph}
 use Rattle.ball_model.specs.PlanValue.{PlanValue, IsPlan, plan_of}
 use Rattle.ball_model.specs.declared.plan.PlanError.{PlanError}
 use Rattle.ball_model.specs.Job.{IsJob, digest_of, digest_bytes, job_bytes}
 use Rattle.ball_model.specs.RunText.{Numbers, plan_over}
-use Rattle.edgelist.specs.Planning.{bare_plan}
+use Rattle.edgelist.specs.Planning.{bare_plan, signed}
 use Rattle.std.proofs.lemmas.Bool.{or_parts, ltb-false}
 use Rattle.ball_model.proofs.BoolLemmas.{by_cases}
 
@@ -58,3 +58,27 @@ pub plan-job : (o : Result PlanValue PlanError) (g : Graph) (n : Numbers) → Is
     o ≡ plan_of (plan_over n g) → IfOk o (λ q. IsJob (record { graph = g; plan = q }))
 plan-job (Ok q) g n ok fits is = job-of g n q ok (rw (← is) at (plan_of-good (plan_over n g) fits (length-digest (bare_plan n g) g)))
 plan-job (Err e) g n ok fits is = tt
+
+-- where numbers are those of a plan, they are whatever the digest is and however estimates are made
+abbrev AreNumbers : PlanValue → PlanValue → Bool → List ℕ → Type 0
+AreNumbers p q c d = (q ≡ p) × (plan_of (record p { corrected = c; job = d }) ≡ Ok (record p { corrected = c; job = d }))
+
+plan_of-numbers : (p : PlanValue) (c : Bool) (d : List ℕ) → IfOk (plan_of p) (λ q. AreNumbers p q c d)
+plan_of-numbers p c d =
+    by_cases (nat_lt p.log2m 4 || nat_lt 10 p.log2m) _ (λ t. rw t tt)
+    (λ a. by_cases (nat_lt p.parts 1 || nat_lt 64 p.parts) _ (λ t. rw (a, t) tt)
+    (λ b. by_cases (nat_lt p.limit 1 || nat_lt 4096 p.limit) _ (λ t. rw (a, b, t) tt)
+    (λ e. by_cases (nat_lt 16777216 p.vertices) _ (λ t. rw (a, b, e, t) tt)
+    (λ f. rw (a, b, e, f) (refl, refl)))))
+
+-- a plan of these numbers, signed, is the one that is asked for
+pub signed-plan : (n : Numbers) (g : Graph) (d e : List ℕ) (q r : PlanValue) →
+    ◌≡◌ {A = Result PlanValue PlanError} (Ok q) (plan_of (record (bare_plan n g) { corrected = false; job = d })) →
+    (q ≡ record (bare_plan n g) { corrected = false; job = d } → r ≡ record (bare_plan n g) { job = e }) →
+    ◌≡◌ {A = Result PlanValue PlanError} (Ok (signed g r)) (plan_of (plan_over n g))
+unfolding digest_of digest_bytes job_bytes
+signed-plan n g d e q r is same =
+    let raw : PlanValue = record (bare_plan n g) { corrected = false; job = d } in
+    let both : AreNumbers raw q n.corrected (digest_of (bare_plan n g) g) =
+    rw (← is) at (plan_of-numbers raw n.corrected (digest_of (bare_plan n g) g)) in
+    rw (same both.0) (sym both.1)

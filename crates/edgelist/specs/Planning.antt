@@ -28,6 +28,10 @@ bare_plan n g = record {
   job = [];
 }
 
+-- a plan with the digest of the job over this graph
+abbrev pub signed : Graph → PlanValue → PlanValue
+signed g plan = record plan { job = digest_of plan g }
+
 -- what a digest of these four numbers over a graph has in both its forms
 abbrev pub numbered_bytes : ℕ → ℕ → ℕ → ℕ → Graph → List ℕ
 numbered_bytes log2m seed parts limit g =

@@ -124,6 +124,15 @@ impl Part {
         self.feeds.get(i as usize)
     }
 
+    /// The same of a plan with another job digest.
+    pub fn with_job(self, job: [u8; 32]) -> Part
+        ensures { result ≡ record self { plan = record self.plan { job = job } } }
+    {
+        let mut part = self;
+        part.plan = part.plan.with_job(job);
+        part
+    }
+
     /// Whether balls count the vertex with this index.
     pub fn counts(&self, i: u32) -> bool
         requires { i < length self.now.preds }
@@ -325,7 +334,7 @@ impl Graph {
 
     /// The same by the masks of all vertices ([`Graph::feeds`]), which one walk over the edges makes for all parts. It
     /// takes time in proportion to the vertices of the partition and the edges to them, and as much memory. The masks
-    /// of a sole partition are shared too.
+    /// of a sole partition are shared too. The plan's digest is not looked at: [`Part::with_job`] puts one in its place.
     pub fn part_with(
         &self,
         alloc: Global,
@@ -335,7 +344,6 @@ impl Graph {
     ) -> Result<Part, AllocError>
         requires below { p < plan.now.parts }
         requires vertices { plan.now.vertices ≡ self.now.graph.vertices }
-        requires digest { plan.now.job ≡ digest_of plan.now self.now.graph }
         requires feeds { feeds.now ≡ feeds_of self.now.graph plan.now.parts }
         ensures { IfOk result (λ part. part ≡
             part_of (job_of self.now.graph plan.now) p) }

@@ -14,7 +14,7 @@ use crate::{
     CountedError, Delimiter, EdgeError, EdgeLimits, EdgeReader, Graph, Part, Preds, laws,
     read_edge_list, read_edges,
 };
-use ball_model::{CountingReader, PlanError};
+use ball_model::{CountingReader, Estimate, PlanError};
 use sha2::{Digest, Sha256};
 use std::alloc::{AllocError, Global};
 use std::hash::RandomState;

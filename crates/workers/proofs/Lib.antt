@@ -2,6 +2,7 @@ pub mod Crossing
 pub mod EndsLemmas
 pub mod JobLemmas
 pub mod NodeLemmas
+pub mod PartsLemmas
 pub mod PathLemmas
 pub mod ReadyLemmas
 pub mod RunLemmas

@@ -31,6 +31,10 @@ pub record KeepsItsOrders (j : Job) (p : ℕ) (orders : NodeOrders)
   pub alone_fits : j.plan.parts ≡ 1 → orders.keep ≡ 0 → orders.restart ≡ None →
       r ≢ Err fault.BookFull
 
+-- the job of the plan with another digest
+abbrev pub signed_job : Job → List ℕ → Job
+signed_job j digest = record { graph = j.graph; plan = record j.plan { job = digest } }
+
 -- the part of each partition, where there was memory for it
 pub record AreParts {P E : Type 0} (value : P → PartValue) (j : Job)
     (parts : List (Result P E)) : Type 0 where

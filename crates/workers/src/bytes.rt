@@ -3,6 +3,7 @@
 ghost use Rattle.std.specs.Prelude.{◌≡◌, ◌≢◌, Ok, Err, true, false, OnOk, OnErr, IfOk, IfErr};
 ghost use Rattle.std.specs.Prelude.{IfSome, length};
 ghost use Rattle.std.specs.Io.KnownBytes.{Appends, Keeps};
+ghost use Rattle.std.specs.Arc.{arc_value};
 ghost use Rattle.ball_model.specs.Job.{IsJob, job_of};
 ghost use Rattle.ball_model.specs.Input.{IsPlain, records};
 ghost use Rattle.ball_model.specs.PlanValue.{mixing_of, plan_of};
@@ -10,8 +11,9 @@ ghost use Rattle.ball_model.specs.Report.{report_of};
 ghost use Rattle.ball_model.specs.RunText.{AreRead, IsReport, list_in, plan_over};
 ghost use Rattle.ball_model.specs.Streams.{Rises};
 ghost use Rattle.edgelist.specs.Counting.{RefusesList};
+ghost use Rattle.edgelist.specs.Planning.{signed};
 ghost use Rattle.edgelist.specs.Reading.{CountsOne};
-ghost use Rattle.workers.specs.Job.{AreDone, IsFaultOf};
+ghost use Rattle.workers.specs.Job.{AreDone, AreParts, IsFaultOf};
 ghost use Rattle.workers.specs.Options.{are_in_limits, run_numbers_of};
 ghost use Rattle.workers.specs.Run.{AddsReport, AnswersNetwork, IsFaultIn, IsRunRefusal};
 ghost use Rattle.workers.specs.Run.{RefusesRead, WherePlain, run_counted_by};
@@ -21,8 +23,9 @@ use crate::gate::Gate;
 use crate::job::run_job;
 use crate::options::RunOptions;
 use crate::pages::Pages;
+use crate::planned::{Planned, SharedPart, plan_parts};
 use ball_model::plan::MOST_VERTICES;
-use ball_model::{CountedRead, CountedWrite, CountingWriter, Estimate, NodeId, Plan, PlanError};
+use ball_model::{CountedRead, CountedWrite, CountingWriter, NodeId, Plan, PlanError};
 use edgelist::{
     CountedError, EdgeError, EdgeLimits, EdgeList, Graph, MOST_RECORDS, read_edge_list,
 };
@@ -186,11 +189,15 @@ fn read_network<T: AllocGlobal, R: CountedRead>(
     Ok(read)
 }
 
-// The plan of a run over a graph, or the first fault of the options.
-fn plan_for(graph: &Graph, options: &RunOptions) -> Result<Plan, PlanError>
-    ensures value { result ≡ plan_of (plan_over (run_numbers_of options.now) graph.now.graph) }
-    ensures job { IfOk result (λ plan. IsJob (job_of graph.now.graph plan)) }
-    ensures parts { IfOk result (λ plan. plan.parts ≡ options.now.parts) }
+// The plan of a run over a graph but for its digest, or the first fault of the options.
+fn bare_plan_for(graph: &Graph, options: &RunOptions) -> Result<Plan, PlanError>
+    ensures ok { IfOk result (λ bare. Ok (signed graph.now.graph bare) ≡
+        plan_of (plan_over (run_numbers_of options.now) graph.now.graph)) }
+    ensures refused { IfErr result (λ fault. Err fault ≡
+        plan_of (plan_over (run_numbers_of options.now) graph.now.graph)) }
+    ensures job { IfOk result (λ bare. IsJob (job_of graph.now.graph
+        (signed graph.now.graph bare))) }
+    ensures parts { IfOk result (λ bare. bare.parts ≡ options.now.parts) }
 {
     let RunOptions {
         log2m,
@@ -199,10 +206,7 @@ fn plan_for(graph: &Graph, options: &RunOptions) -> Result<Plan, PlanError>
         limit,
         ..
     } = *options;
-    match options.estimate {
-        Estimate::Raw => graph.plan(log2m, seed, parts, limit),
-        Estimate::Corrected => graph.corrected_plan(log2m, seed, parts, limit),
-    }
+    graph.bare_plan(options.estimate, log2m, seed, parts, limit)
 }
 
 // The text of the report of replicas at the end of their run. The error is that memory was refused.
@@ -229,16 +233,18 @@ fn planned_text<T: AllocGlobal + Threads + Wait + Sync, G: Gate + Sync>(
     rt: &T,
     graph: &Graph,
     plan: &Plan,
+    parts: &[SharedPart],
     options: &RunOptions,
     gate: &G,
 ) -> Result<Pages, JobError>
     requires job { IsJob (job_of graph.now.graph plan.now) }
+    requires parts { AreParts arc_value (job_of graph.now.graph plan.now) parts.now }
     requires limits { are_in_limits options.now ≡ true }
     ensures ok { IfOk result (λ text. text ≡
         report_of (mixing_of plan.now) graph.now.graph graph.now.labels plan.now.limit) }
     ensures fault { IfErr result (IsFaultOf plan.now.parts options.now) }
 {
-    let replicas = run_job(rt, graph, plan, options, gate)?;
+    let replicas = run_job(rt, graph, plan, parts, options, gate)?;
     let text = text_of(rt, graph, plan, &replicas)?;
     Ok(text)
 }
@@ -254,8 +260,9 @@ fn report_text<T: AllocGlobal + Threads + Wait + Sync, G: Gate + Sync>(
     ensures answer { AnswersNetwork (run_numbers_of options.now) graph.now result }
     ensures fault { IfErr result (IsFaultIn options.now) }
 {
-    let plan = plan_for(graph, options)?;
-    let text = planned_text(rt, graph, &plan, options, gate)?;
+    let bare = bare_plan_for(graph, options)?;
+    let Planned { plan, parts } = plan_parts(rt, graph, &bare)?;
+    let text = planned_text(rt, graph, &plan, &parts, options, gate)?;
     Ok(text)
 }
 

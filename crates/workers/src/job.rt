@@ -4,7 +4,6 @@ ghost use Rattle.std.specs.Prelude.{◌≡◌, ◌<◌, ◌≤◌, ◌+◌, ◌*
 ghost use Rattle.std.specs.Prelude.{[]};
 ghost use Rattle.std.specs.Arc.{arc_value};
 ghost use Rattle.ball_model.specs.Job.{Job, IsJob, job_of, part_of};
-ghost use Rattle.edgelist.specs.Feeding.{feeds_of};
 ghost use Rattle.workers.specs.Job.{AreDone, AreEnds, AreParts, AreStarted, HasSplit, IsFaultOf};
 ghost use Rattle.workers.specs.Job.{IsPartEnd, IsAssigned, IsPartStarted, IsSeatOf, KeepsItsOrders};
 ghost use Rattle.workers.specs.Job.{job_in};
@@ -17,10 +16,11 @@ use crate::exchange::BoardExchange;
 use crate::gate::Gate;
 use crate::node::{NodeEnd, NodeError, NodeOrders, run_node};
 use crate::options::RunOptions;
+use crate::planned::SharedPart;
 use crate::running::{RunGate, Running};
 use ball_model::{NodeId, Plan};
 use board::{Board, Seat};
-use edgelist::{Feeds, Graph, Part};
+use edgelist::{Graph, Part};
 use replica::Replica;
 use std::alloc::{AllocError, AllocGlobal, Global};
 use std::snapshot::Snapshot;
@@ -30,9 +30,6 @@ use std::thread::{PromisedHandle, Scope, Threads};
 
 // The thread of a node, where there could be one.
 type Child = Option<PromisedHandle<NodeResult, Assignment>>;
-
-// A part that threads share, where there was memory for it.
-type SharedPart = Result<Arc<Part>, AllocError>;
 
 // The first order for a node.
 fn order_for(orders: &[(NodeId, u32)], node: NodeId) -> Option<u32>
@@ -130,40 +127,6 @@ fn start_node<'s, 'a: 's, X, R: AllocGlobal + Threads + Wait + Sync, G: Gate + S
     child
 }
 
-// A part that threads share.
-fn shared_part(alloc: Global, graph: &Graph, plan: &Plan, p: u16, feeds: &Feeds) -> SharedPart
-    requires job { IsJob (job_of graph.now.graph plan.now) }
-    requires part { p < plan.now.parts }
-    requires feeds { feeds.now ≡ feeds_of graph.now.graph plan.now.parts }
-    ensures { IfOk result (λ part. arc_value part ≡ part_of (job_of graph.now.graph plan.now) p) }
-{
-    Ok(Arc::new(alloc, graph.part_with(alloc, plan, p, feeds)?)?)
-}
-
-// The parts of all partitions, each made by a thread of its own where there could be one. The edges are walked over
-// once for the masks of all.
-fn shared_parts<R: AllocGlobal + Threads + Sync>(
-    rt: &R,
-    graph: &Graph,
-    plan: &Plan,
-) -> Result<Vec<SharedPart>, AllocError>
-    requires job { IsJob (job_of graph.now.graph plan.now) }
-    ensures { IfOk result (λ parts.
-        AreParts arc_value (job_of graph.now.graph plan.now) parts.items) }
-{
-    let alloc = rt.alloc();
-    let feeds = graph.feeds(alloc, plan)?;
-    let feeds = &feeds;
-    let make = |p: usize| -> SharedPart
-        requires job { IsJob (job_of graph.now.graph plan.now) }
-        requires part { p < plan.now.parts }
-        requires feeds { feeds.now ≡ feeds_of graph.now.graph plan.now.parts }
-        ensures { IfOk result (λ part. arc_value part ≡
-            part_of (job_of graph.entry.now.graph plan.entry.now) p) }
-    { shared_part(alloc, graph, plan, p as u16, feeds) };
-    thread::map_indices(rt, alloc, usize::from(plan.parts()), &make)
-}
-
 // Starts the threads of all nodes of a partition, which share its part.
 fn start_part<'s, 'a: 's, X, R: AllocGlobal + Threads + Wait + Sync, G: Gate + Sync>(
     rt: &'a R,
@@ -250,14 +213,15 @@ fn start_all<'s, 'a: 's, X, R: AllocGlobal + Threads + Wait + Sync, G: Gate + Sy
     graph: &Graph,
     plan: &Plan,
     options: &RunOptions,
+    parts: &[SharedPart],
 ) -> Result<Vec<Vec<Child>>, AllocError>
     requires job { IsJob (job_of graph.now.graph plan.now) }
     requires few { options.now.replicas ≤ 4 }
+    requires parts { AreParts arc_value (job_of graph.now.graph plan.now) parts.now }
     requires seat { HasSplit board.now (job_of graph.now.graph plan.now) 0 first.old }
     ensures { IfOk result (λ all. AreStarted (λ child. child.promise) (λ own. own.items)
         (job_of graph.now.graph plan.now) options.now all.items) }
 {
-    let parts = shared_parts(rt, graph, plan)?;
     let mut children = Vec::with_capacity(rt.alloc(), usize::from(plan.parts()))?;
     start_each(
         rt,
@@ -269,7 +233,7 @@ fn start_all<'s, 'a: 's, X, R: AllocGlobal + Threads + Wait + Sync, G: Gate + Sy
         graph,
         plan,
         options,
-        &parts,
+        parts,
         &mut children,
     )?;
     Ok(children)
@@ -286,15 +250,17 @@ fn start_or_stop<'s, 'a: 's, X, R: AllocGlobal + Threads + Wait + Sync, G: Gate 
     graph: &Graph,
     plan: &Plan,
     options: &RunOptions,
+    parts: &[SharedPart],
 ) -> Result<Vec<Vec<Child>>, AllocError>
     requires job { IsJob (job_of graph.now.graph plan.now) }
     requires few { options.now.replicas ≤ 4 }
+    requires parts { AreParts arc_value (job_of graph.now.graph plan.now) parts.now }
     requires seat { HasSplit board.now (job_of graph.now.graph plan.now) 0 first }
     ensures { IfOk result (λ all. AreStarted (λ child. child.promise) (λ own. own.items)
         (job_of graph.now.graph plan.now) options.now all.items) }
 {
     let started = start_all(
-        rt, scope, board, &mut first, gate, running, graph, plan, options,
+        rt, scope, board, &mut first, gate, running, graph, plan, options, parts,
     );
     if started.is_err() {
         running.stop();
@@ -357,28 +323,34 @@ fn run_in<'s, 'a: 's, X, R: AllocGlobal + Threads + Wait + Sync, G: Gate + Sync>
     graph: &Graph,
     plan: &Plan,
     options: &RunOptions,
+    parts: &[SharedPart],
 ) -> Result<Vec<Replica>, JobError>
     requires job { IsJob (job_of graph.now.graph plan.now) }
     requires few { options.now.replicas ≤ 4 }
+    requires parts { AreParts arc_value (job_of graph.now.graph plan.now) parts.now }
     requires seat { HasSplit board.now (job_of graph.now.graph plan.now) 0 first }
     ensures done { IfOk result (λ rs. AreDone (job_of graph.now.graph plan.now) rs.items) }
     ensures fault { IfErr result (IsFaultOf plan.now.parts options.now) }
 {
-    let children = start_or_stop(rt, scope, board, first, gate, running, graph, plan, options)?;
+    let children = start_or_stop(
+        rt, scope, board, first, gate, running, graph, plan, options, parts,
+    )?;
     let ends = join_all(rt, children)?;
     settle(rt.alloc(), ends)
 }
 
-/// Runs all nodes of a job, a thread each, and gives the replica of each partition at the end of the run: that of the
+/// Runs all nodes of a job by the parts of its partitions, a thread each, and gives the replica of each partition at the end of the run: that of the
 /// first of its nodes that is done.
 pub fn run_job<R: AllocGlobal + Threads + Wait + Sync, G: Gate + Sync>(
     rt: &R,
     graph: &Graph,
     plan: &Plan,
+    parts: &[SharedPart],
     options: &RunOptions,
     gate: &G,
 ) -> Result<Vec<Replica>, JobError>
     requires job { IsJob (job_of graph.now.graph plan.now) }
+    requires parts { AreParts arc_value (job_of graph.now.graph plan.now) parts.now }
     requires limits { are_in_limits options.now ≡ true }
     ensures done { IfOk result (λ rs. AreDone (job_of graph.now.graph plan.now) rs.items) }
     ensures fault { IfErr result (IsFaultOf plan.now.parts options.now) }
@@ -393,10 +365,15 @@ pub fn run_job<R: AllocGlobal + Threads + Wait + Sync, G: Gate + Sync>(
         |scope| -> Result<Vec<Replica>, JobError>
             requires job { IsJob (job_of graph.now.graph plan.now) }
             requires few { options.now.replicas ≤ 4 }
+            requires parts { AreParts arc_value (job_of graph.now.graph plan.now) parts.now }
             requires seat { HasSplit board.now (job_of graph.now.graph plan.now) 0 first }
             ensures done { IfOk result (λ rs.
                 AreDone (job_of graph.entry.now.graph plan.entry.now) rs.items) }
             ensures fault { IfErr result (IsFaultOf plan.entry.now.parts options.entry.now) }
-        { run_in(rt, scope, board, first, gate, running, graph, plan, options) },
+        {
+            run_in(
+                rt, scope, board, first, gate, running, graph, plan, options, parts,
+            )
+        },
     )
 }

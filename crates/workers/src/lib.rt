@@ -35,6 +35,7 @@ mod memory;
 mod node;
 mod options;
 mod pages;
+mod planned;
 mod running;
 mod turn;
 

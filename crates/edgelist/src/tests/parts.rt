@@ -19,30 +19,32 @@ fn is_row(part: &Part, row: &Row<'_>) -> bool {
         && part.counts(i) == counted
 }
 
-// Whether there is a part, and it has this row.
-fn is_some_row(part: Option<Part>, row: &Row<'_>) -> bool {
-    match part {
-        Some(part) => is_row(&part, row),
-        None => false,
-    }
-}
-
-// A part of a graph by the masks of all vertices.
+// A part of a graph by the masks of all vertices, and whose digest is put in afterwards.
 pub(super) fn part_by_feeds(alloc: Global, graph: &Graph, parts: u16, p: u16) -> Option<Part> {
-    let Ok(plan) = graph.plan(4, 0, parts, 4096) else {
+    let Ok(bare) = graph.bare_plan(Estimate::Raw, 4, 0, parts, 4096) else {
         return None;
     };
-    if p >= plan.parts() {
+    if p >= bare.parts() {
         return None;
     }
-    let feeds = graph.feeds(alloc, &plan).ok()?;
-    graph.part_with(alloc, &plan, p, &feeds).ok()
+    let feeds = graph.feeds(alloc, &bare).ok()?;
+    let part = graph.part_with(alloc, &bare, p, &feeds).ok()?;
+    Some(part.with_job(graph.digest(&bare)))
 }
 
-// Whether a part of a graph has this row, by whichever masks it is made.
+// Whether two parts have the same plan, and this row.
+fn are_rows(one: &Part, other: &Part, row: &Row<'_>) -> bool {
+    *one.plan() == *other.plan() && is_row(one, row) && is_row(other, row)
+}
+
+// Whether a part of a graph has this row, whichever way it is made.
 fn has_row(alloc: Global, graph: &Graph, row: &Row<'_>) -> bool {
-    is_some_row(part_of(alloc, graph, row.0, row.1), row)
-        && is_some_row(part_by_feeds(alloc, graph, row.0, row.1), row)
+    let one = part_of(alloc, graph, row.0, row.1);
+    let other = part_by_feeds(alloc, graph, row.0, row.1);
+    match (one, other) {
+        (Some(one), Some(other)) => are_rows(&one, &other, row),
+        _ => false,
+    }
 }
 
 // Whether the parts of a graph have these rows.

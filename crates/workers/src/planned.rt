@@ -1,0 +1,105 @@
+//! The plan of a run and the parts of its partitions. Parts take only the plan's numbers, so its digest is made while
+//! they are.
+
+ghost use Rattle.std.specs.Prelude.{◌≡◌, ◌<◌, ◌^◌, ℕ, IfOk};
+ghost use Rattle.std.specs.Arc.{arc_value};
+ghost use Rattle.ball_model.specs.Job.{Job, digest_of, job_of, part_of};
+ghost use Rattle.edgelist.specs.Feeding.{feeds_of};
+ghost use Rattle.edgelist.specs.Planning.{signed};
+ghost use Rattle.workers.specs.Job.{AreParts, signed_job};
+
+use ball_model::Plan;
+use edgelist::{Graph, Part};
+use std::alloc::{AllocError, AllocGlobal, Global};
+use std::sync::Arc;
+use std::thread;
+use std::thread::Threads;
+
+/// A part that threads share, where there was memory for it.
+pub(crate) type SharedPart = Result<Arc<Part>, AllocError>;
+
+// A part that was made, where there was memory for it.
+type MadePart = Result<Part, AllocError>;
+
+/// The plan of a job, and the part of each of its partitions.
+#[derive(Drop)]
+pub(crate) struct Planned {
+    pub(crate) plan: Plan,
+    pub(crate) parts: Vec<SharedPart>,
+}
+
+// The parts of all partitions, each made by a thread of its own where there could be one. The edges are walked over
+// once for the masks of all.
+fn made_parts<R: AllocGlobal + Threads + Sync>(
+    rt: &R,
+    graph: &Graph,
+    plan: &Plan,
+) -> Result<Vec<MadePart>, AllocError>
+    requires { plan.now.vertices ≡ graph.now.graph.vertices }
+    ensures { IfOk result (λ parts.
+        AreParts (λ part. part) (job_of graph.now.graph plan.now) parts.items) }
+{
+    let alloc = rt.alloc();
+    let feeds = graph.feeds(alloc, plan)?;
+    let feeds = &feeds;
+    let make = |p: usize| -> MadePart
+        requires vertices { plan.now.vertices ≡ graph.now.graph.vertices }
+        requires part { p < plan.now.parts }
+        requires few { p < 2 ^ 16 }
+        requires feeds { feeds.now ≡ feeds_of graph.now.graph plan.now.parts }
+        ensures { IfOk result (λ part. part ≡
+            part_of (job_of graph.entry.now.graph plan.entry.now) p) }
+    { graph.part_with(alloc, plan, p as u16, feeds) };
+    thread::map_indices(rt, alloc, usize::from(plan.parts()), &make)
+}
+
+// A part of the plan with this digest, to be shared.
+fn shared_part(alloc: Global, part: MadePart, job: [u8; 32]) -> SharedPart
+    ensures { (j : Job) (p : ℕ) → IfOk part (λ made. made ≡ part_of j p) →
+        IfOk result (λ shared. arc_value shared ≡ part_of (signed_job j job) p) }
+{
+    Ok(Arc::new(alloc, part?.with_job(job))?)
+}
+
+// The parts of the plan with this digest, to be shared.
+fn shared_parts(
+    alloc: Global,
+    parts: Vec<MadePart>,
+    job: [u8; 32],
+) -> Result<Vec<SharedPart>, AllocError>
+    ensures { (j : Job) → AreParts (λ part. part) j parts.items →
+        IfOk result (λ shared. AreParts arc_value (signed_job j job) shared.items) }
+{
+    let mut shared = Vec::with_capacity(alloc, parts.len())?;
+    for part in parts {
+        shared.push(shared_part(alloc, part, job))?;
+    }
+    Ok(shared)
+}
+
+/// A plan with its job digest, and the part of each of its partitions.
+pub(crate) fn plan_parts<R: AllocGlobal + Threads + Sync>(
+    rt: &R,
+    graph: &Graph,
+    bare: &Plan,
+) -> Result<Planned, AllocError>
+    requires { bare.now.vertices ≡ graph.now.graph.vertices }
+    ensures plan { IfOk result (λ all. all.plan ≡ signed graph.now.graph bare.now) }
+    ensures parts { IfOk result (λ all.
+        AreParts arc_value (job_of graph.now.graph all.plan) all.parts.items) }
+{
+    let digest = || -> [u8; 32]
+        ensures { result ≡ digest_of bare.entry.now graph.entry.now.graph }
+    { graph.digest(bare) };
+    let parts = || -> Result<Vec<MadePart>, AllocError>
+        requires { bare.now.vertices ≡ graph.now.graph.vertices }
+        ensures { IfOk result (λ parts.
+            AreParts (λ part. part) (job_of graph.entry.now.graph bare.entry.now) parts.items) }
+    { made_parts(rt, graph, bare) };
+    let (job, parts) = thread::join(rt, digest, parts);
+    let parts = shared_parts(rt.alloc(), parts?, job)?;
+    Ok(Planned {
+        plan: bare.with_job(job),
+        parts,
+    })
+}
