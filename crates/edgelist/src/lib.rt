@@ -3,7 +3,9 @@
 //! [`read_edges`] reads a [`Graph`]: labelled vertices with their predecessors. [`read_edge_list`] also tells how many
 //! records there are. [`Graph::count_only`] says which of the vertices balls count, [`Graph::plan`] gives the plan of a
 //! job over a graph, and [`Graph::part`] the [`Part`] of one partition. Where all parts are made, [`Graph::part_with`]
-//! makes each by [`Graph::feeds`], so that the edges are walked over once for the masks of all.
+//! makes each by [`Graph::feeds`], so that the edges are walked over once for the masks of all. It takes a plan without
+//! its digest too ([`Graph::bare_plan`]): [`Graph::digest`] tells that while parts are made, and [`Part::with_job`] puts
+//! it in.
 //!
 //! ```text
 //! let mut reader = CountingReader::new(stdin);
