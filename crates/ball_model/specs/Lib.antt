@@ -1,3 +1,4 @@
+pub mod Checks
 pub mod Greatest
 pub mod Hash
 pub mod Graph

@@ -14,7 +14,8 @@ use Rattle.batches.specs.declared.error.BatchError.{BatchError}
 use Rattle.batches.specs.declared.error.BatchError.TheVariants as errors
 use Rattle.batches.specs.declared.header.Header.{Header}
 use Rattle.batches.specs.Kept.{first_rows}
-use Rattle.batches.specs.Reading.{◌>>=◌, magic, check_head, check_length, check_row, check_rows}
+use Rattle.ball_model.specs.Checks.{◌>>=◌}
+use Rattle.batches.specs.Reading.{magic, check_head, check_length, check_row, check_rows}
 
 -- a step that passed, and what followed it
 pub bind_ok : {A B : Type 0} (r : Result A BatchError) (f : A → Result B BatchError) (y : B) → (r >>= f) ≡ Ok y → (x : A) × (r ≡ Ok x) × (f x ≡ Ok y)

@@ -2,6 +2,7 @@
 use Rattle.std.specs.Prelude.{◌≡◌, ℕ, ◌+◌, ◌-◌, ◌*◌, ◌%◌, ◌^◌, ◌==◌, not, if◌then◌else◌, nat_lt, nat_le, List, [], ◌∷◌, ◌++◌, length, take, drop, slice_index, Result, Ok, Err, IsOk}
 use Rattle.std.specs.List.{list_any}
 use Rattle.std.specs.Int.{w16, w32, to_be_bytes}
+use Rattle.ball_model.specs.Checks.{◌>>=◌}
 use Rattle.ball_model.specs.PlanValue.{PlanValue, part_size}
 use Rattle.ball_model.specs.Batches.{BatchValue}
 use Rattle.batches.specs.declared.error.BatchError.{BatchError}
@@ -9,13 +10,6 @@ use Rattle.batches.specs.declared.error.BatchError.TheVariants as errors
 use Rattle.batches.specs.declared.header.Header.{Header}
 use Rattle.batches.specs.declared.header.TheConstants.{HEADER_LEN}
 use Rattle.batches.specs.Kept.{field, first_rows}
-
-infixl 10 ◌>>=◌
--- a step and what follows it, or the refusal of the step
-abbrev pub ◌>>=◌ : {A B : Type 0} → Result A BatchError → (A → Result B BatchError) →
-    Result B BatchError
-(Ok x) >>= f = f x
-(Err e) >>= f = Err e
 
 -- the fixed fields, at their places
 unfoldable pub head_at : List ℕ → Header

@@ -25,7 +25,8 @@ use Rattle.replica.proofs.RebuiltLemmas.{kept_are}
 use Rattle.checkpoint.specs.declared.header.Header.{Header}
 use Rattle.checkpoint.specs.declared.error.KeepError.{KeepError}
 use Rattle.checkpoint.specs.Parts.{heard_bytes, count_bytes}
-use Rattle.checkpoint.specs.Reading.{◌>>=◌, Form, needs, followed, is_batch_length, told_batch, batch_form, batches_form, told_batches, early_form, fixed_length, held_form, body_form, told_body, content_form, sealed_form, seal_form, checkpoint_head_at, check_checkpoint_head}
+use Rattle.ball_model.specs.Checks.{◌>>=◌}
+use Rattle.checkpoint.specs.Reading.{Form, needs, followed, is_batch_length, told_batch, batch_form, batches_form, told_batches, early_form, fixed_length, held_form, body_form, told_body, content_form, sealed_form, seal_form, checkpoint_head_at, check_checkpoint_head}
 use Rattle.checkpoint.specs.Told.{IsOfPlan}
 use Rattle.checkpoint.proofs.LawLemmas.{early_are, few_vertices}
 use Rattle.checkpoint.proofs.LengthLemmas.{front_long, table_long, heard_long, accumulated_long, batch_few}

@@ -13,7 +13,8 @@ use Rattle.batches.proofs.HeadLemmas.{field_2, field_4}
 use Rattle.checkpoint.specs.declared.header.Header.{Header}
 use Rattle.checkpoint.specs.declared.error.KeepError.{KeepError}
 use Rattle.checkpoint.specs.declared.error.KeepError.TheVariants as errors
-use Rattle.checkpoint.specs.Reading.{◌>>=◌, body_form, check_checkpoint_head, content_form, followed, checkpoint_head_at, needs, told_body}
+use Rattle.ball_model.specs.Checks.{◌>>=◌}
+use Rattle.checkpoint.specs.Reading.{body_form, check_checkpoint_head, content_form, followed, checkpoint_head_at, needs, told_body}
 use Rattle.checkpoint.proofs.ReaderLemmas.{followed-err, needs-err, needs-ok, same_bytes}
 
 -- ---- checks that pass

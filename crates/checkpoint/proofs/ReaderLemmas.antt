@@ -25,7 +25,8 @@ use Rattle.checkpoint.specs.declared.header.Header.{Header}
 use Rattle.checkpoint.specs.declared.sizes.TheConstants.{DIGEST_LEN, HEADER_LEN}
 use Rattle.checkpoint.specs.declared.error.KeepError.{KeepError}
 use Rattle.checkpoint.specs.declared.error.KeepError.TheVariants as errors
-use Rattle.checkpoint.specs.Reading.{◌>>=◌, Form, needs, followed, is_batch_length, greatest_batch, told_batch, batch_form, batches_form, told_batches, early_form, fixed_length, most_after, most_checkpoint_body, most_early, allowed, allowed_content, TakesWithin, held_form, content_form, sealed_form, told_body, body_form, check_checkpoint_head, checkpoint_head_at, seal_form, TakesBytes, Grows, Fails, Passes, PassesSoFar, IsRead, IsOfBytes, IsOfBody, HasHead, OnOkOrMemory}
+use Rattle.ball_model.specs.Checks.{◌>>=◌}
+use Rattle.checkpoint.specs.Reading.{Form, needs, followed, is_batch_length, greatest_batch, told_batch, batch_form, batches_form, told_batches, early_form, fixed_length, most_after, most_checkpoint_body, most_early, allowed, allowed_content, TakesWithin, held_form, content_form, sealed_form, told_body, body_form, check_checkpoint_head, checkpoint_head_at, seal_form, TakesBytes, Grows, Fails, Passes, PassesSoFar, IsRead, IsOfBytes, IsOfBody, HasHead, OnOkOrMemory}
 
 -- ---- calls that are sure
 after_then : (n m : ℕ) (a b c : Option ℕ) → AfterAtMost n a b → AfterAtMost m b c → AfterAtMost (n + m) a c

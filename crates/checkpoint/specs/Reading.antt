@@ -4,6 +4,7 @@ use Rattle.std.specs.Int.{w16, w32, w64, from_be_bytes}
 use Rattle.std.specs.Io.KnownBytes.{Consumes, IsAtEnd}
 use Rattle.std.specs.Str.{bytes_eq}
 use Rattle.sha2.specs.Sha256.{sha256}
+use Rattle.ball_model.specs.Checks.{◌>>=◌}
 use Rattle.ball_model.specs.Checkpoint.{checkpoint_bytes, first_checkpoint_bytes, without_names}
 use Rattle.ball_model.specs.Job.{PartValue}
 use Rattle.ball_model.specs.PlanValue.{PlanValue, part_size}
@@ -16,12 +17,6 @@ use Rattle.checkpoint.specs.declared.error.KeepError.{KeepError}
 use Rattle.checkpoint.specs.declared.error.KeepError.TheVariants as errors
 use Rattle.checkpoint.specs.declared.header.Header.{Header}
 use Rattle.checkpoint.specs.declared.sizes.TheConstants.{HEADER_LEN, ENTRY_LEN, SUM_LEN, HEARD_LEN, COUNT_LEN, LENGTH_LEN, DIGEST_LEN}
-
-infixl 10 ◌>>=◌
--- a step and what follows it, or the refusal of the step
-abbrev pub ◌>>=◌ : {A B : Type 0} → Result A KeepError → (A → Result B KeepError) → Result B KeepError
-(Ok x) >>= f = f x
-(Err e) >>= f = Err e
 
 -- A form says how many of the bytes at the front are its own, or why they are refused.
 abbrev pub Form : Type 0

@@ -3,6 +3,7 @@ use Rattle.std.specs.Prelude.{◌≡◌, ⊤, ℕ, ◌+◌, ◌<◌, Bool, true,
 use Rattle.std.specs.List.{list_any}
 use Rattle.ball_model.specs.Input.{Network}
 use Rattle.ball_model.specs.Counting.{CountedRefusal, NotOne, Unknown, is_name, names, counted_network_from}
+use Rattle.ball_model.specs.RunText.{Settings, counted_in, network_in}
 use Rattle.edgelist.specs.Links.{marked_vertices}
 use Rattle.edgelist.specs.declared.counting.CountedError.{CountedError}
 use Rattle.edgelist.specs.declared.counting.CountedError.TheVariants as refused
@@ -12,6 +13,13 @@ abbrev pub RefusesList : Result Network CountedRefusal → CountedError → Type
 RefusesList says (refused.Fields number) = says ≡ Err (NotOne number)
 RefusesList says (refused.Unknown number) = says ≡ Err (Unknown number)
 RefusesList says refused.Memory = ⊤
+
+-- the edge list says a network, and this error is what the list of counted vertices says of it
+pub record IsListRefusal
+    (s : Settings) (input : List ℕ) (list : Option (List ℕ)) (e : CountedError) : Type 0 where
+  pub all : Network
+  pub read : network_in s input ≡ Ok all
+  pub refused : RefusesList (counted_in s all list) e
 
 -- the same of one record, for which no memory is taken
 abbrev pub ListFaultIs : Option CountedRefusal → CountedError → Type 0

@@ -9,7 +9,7 @@ use Rattle.ball_model.specs.Report.{report_of}
 use Rattle.ball_model.specs.RunText.{AreRead, HasPlan, IsReport, IsReportOf, Numbers, Settings, list_in, network_in, plan_over}
 use Rattle.ball_model.specs.declared.plan.PlanError.{PlanError}
 use Rattle.ball_model.proofs.BoolLemmas.{by_cases}
-use Rattle.edgelist.specs.Counting.{RefusesList}
+use Rattle.edgelist.specs.Counting.{IsListRefusal, RefusesList}
 use Rattle.edgelist.specs.Records.{ForPlain}
 use Rattle.edgelist.specs.declared.counting.CountedError.{CountedError}
 use Rattle.workers.specs.declared.ends.JobError.{JobError}
@@ -18,7 +18,7 @@ use Rattle.workers.specs.declared.options.RunOptions.{RunOptions}
 use Rattle.workers.specs.declared.bytes.RunError.{RunError}
 use Rattle.workers.specs.declared.bytes.RunError.TheVariants as fault
 use Rattle.workers.specs.Options.{run_settings_of}
-use Rattle.workers.specs.Run.{AddsReport, AnswersNetwork, IsRunListRefusal, IsRunRefusal, RefusesNetwork, RefusesRead, WherePlain, run_counted_by, job_fault}
+use Rattle.workers.specs.Run.{AddsReport, AnswersNetwork, IsRunRefusal, RefusesNetwork, RefusesRead, WherePlain, run_counted_by, job_fault}
 
 -- what holds of plain bytes, and what follows from it
 pub where_weaker : (o : RunOptions) (told : Option (List ℕ)) (counted : Option (Bor (List ℕ))) (P Q : Settings → List ℕ → Option (List ℕ) → Type 0) → ((input : List ℕ) → P (run_settings_of o) input (list_in counted) → Q (run_settings_of o) input (list_in counted)) → WherePlain o told counted P → WherePlain o told counted Q
@@ -31,7 +31,7 @@ where_always o (Some input) counted Q f = λ plain. f _ _ _
 
 -- what is refused of a list, once there is a network
 pub refuses_list : (o : RunOptions) (told : Option (List ℕ)) (counted : Option (Bor (List ℕ))) (all : Network) (e : CountedError) → ForPlain told (λ text. network_in (run_settings_of o) text ≡ Ok all) →
-    (IfSome (list_in counted) IsPlain → RefusesList (run_counted_by o all counted) e) → WherePlain o told counted (λ s input list. IsRunListRefusal s input list e)
+    (IfSome (list_in counted) IsPlain → RefusesList (run_counted_by o all counted) e) → WherePlain o told counted (λ s input list. IsListRefusal s input list e)
 refuses_list o None counted all e read refused = tt
 refuses_list o (Some input) counted all e read refused = λ plain. record { all = all; read = read input refl plain.0; refused = refused plain.1 }
 

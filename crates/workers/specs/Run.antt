@@ -8,8 +8,7 @@ use Rattle.ball_model.specs.Counting.{CountedRefusal}
 use Rattle.ball_model.specs.RunText.{AppendsReport, ArePlain, AreRead, HasPlan, IsPlanFault, IsReportOf}
 use Rattle.ball_model.specs.RunText.{Numbers, Settings, counted_in, list_in, network_in, plan_over}
 use Rattle.edgelist.specs.Reading.{Refuses}
-use Rattle.edgelist.specs.Counting.{RefusesList}
-use Rattle.edgelist.specs.declared.counting.CountedError.{CountedError}
+use Rattle.edgelist.specs.Counting.{IsListRefusal}
 use Rattle.workers.specs.declared.ends.JobError.{JobError}
 use Rattle.workers.specs.declared.ends.JobError.TheVariants as job
 use Rattle.workers.specs.declared.options.RunOptions.{RunOptions}
@@ -33,13 +32,6 @@ AddsReport contents old new s input list = AppendsReport s input list (contents 
 abbrev pub run_counted_by : RunOptions → Network → Option (Bor (List ℕ)) →
     Result Network CountedRefusal
 run_counted_by o network counted = counted_in (run_settings_of o) network (list_in counted)
-
--- the edge list says a network, and this error is what the list of counted vertices says of it
-pub record IsRunListRefusal
-    (s : Settings) (input : List ℕ) (list : Option (List ℕ)) (e : CountedError) : Type 0 where
-  pub all : Network
-  pub read : network_in s input ≡ Ok all
-  pub refused : RefusesList (counted_in s all list) e
 
 -- both say a network, over which there is such a plan
 pub record IsRunPlanned (s : Settings) (input : List ℕ) (list : Option (List ℕ)) : Type 0 where
@@ -70,7 +62,7 @@ IsFaultIn o fault.Write = ⊤
 abbrev pub IsRunRefusal : Settings → List ℕ → Option (List ℕ) → RunError → Type 0
 IsRunRefusal s input list fault.Options = ⊤
 IsRunRefusal s input list (fault.Edges e) = Refuses (network_in s input) e
-IsRunRefusal s input list (fault.Counted e) = IsRunListRefusal s input list e
+IsRunRefusal s input list (fault.Counted e) = IsListRefusal s input list e
 IsRunRefusal s input list (fault.Plan e) = IsPlanFault s input list e
 IsRunRefusal s input list (fault.PartitionLost p) = IsRunPlanned s input list
 IsRunRefusal s input list fault.BookFull = IsRunPlanned s input list
@@ -82,7 +74,7 @@ IsRunRefusal s input list fault.Write = IsRunPlanned s input list
 abbrev pub RefusesRead : Settings → List ℕ → Option (List ℕ) → RunError → Type 0
 RefusesRead s input list fault.Options = ⊥
 RefusesRead s input list (fault.Edges e) = Refuses (network_in s input) e
-RefusesRead s input list (fault.Counted e) = IsRunListRefusal s input list e
+RefusesRead s input list (fault.Counted e) = IsListRefusal s input list e
 RefusesRead s input list (fault.Plan e) = ⊥
 RefusesRead s input list (fault.PartitionLost p) = ⊥
 RefusesRead s input list fault.BookFull = ⊥

@@ -15,9 +15,8 @@ use Rattle.ball_model.specs.WorldText.{AreReplicas, HasCommands, IsReplayText, I
 use Rattle.ball_model.specs.WorldText.{IsScriptFault, ReplaySettings, job_over, script_of}
 use Rattle.edgelist.specs.Planning.{is_corrected, numbers_with}
 use Rattle.edgelist.specs.Reading.{Refuses, byte_of}
-use Rattle.edgelist.specs.Counting.{RefusesList}
+use Rattle.edgelist.specs.Counting.{IsListRefusal}
 use Rattle.edgelist.specs.declared.read.EdgeError.TheVariants as edge_fault
-use Rattle.edgelist.specs.declared.counting.CountedError.{CountedError}
 use Rattle.world.specs.declared.replay.ReplayOptions.{ReplayOptions}
 use Rattle.world.specs.declared.replay.ReplayError.{ReplayError}
 use Rattle.world.specs.declared.replay.ReplayError.TheVariants as fault
@@ -87,13 +86,6 @@ RefusesCommands s script (fault.Counted e) = ⊥
 RefusesCommands s script (fault.Plan e) = ⊥
 RefusesCommands s script fault.Memory = AreReplicas s.replicas
 RefusesCommands s script fault.Write = ⊥
-
--- the edge list says a network, and this error is what the list of counted vertices says of it
-pub record IsListRefusal
-    (s : Settings) (edges : List ℕ) (list : Option (List ℕ)) (e : CountedError) : Type 0 where
-  pub all : Network
-  pub read : network_in s edges ≡ Ok all
-  pub refused : RefusesList (counted_in s all list) e
 
 -- what a refusal says of the network, as far as it was read
 abbrev pub RefusesReplayRead : Settings → List ℕ → Option (List ℕ) → ReplayError → Type 0
