@@ -7,7 +7,6 @@ mod refusals;
 
 use super::*;
 use std::alloc::{AllocError, Global};
-use std::test::Fail;
 
 /// The lists [], [0] and [1], one behind another.
 const THREE: [u8; 2] = [0xaa, 0x40];
@@ -36,22 +35,24 @@ fn one(alloc: Global, list: &[u32]) -> Result<Lists, AllocError>
     Ok(ListsBuilder::with_room(alloc, 1)?.push(list)?.finish())
 }
 
-// Whether there is one list, and it is these elements.
-fn only_is(lists: &Lists, wanted: &[u32]) -> bool {
-    lists.len() == 1 && lists.list(0).len() == wanted.len() as u64 && is(lists.list(0), wanted)
+// Whether there is one list, it is these elements, and these bytes spell it.
+fn only_is(lists: &Lists, list: &[u32], bytes: &[u8]) -> bool {
+    lists.len() == 1
+        && lists.list(0).len() == list.len() as u64
+        && is(lists.list(0), list)
+        && lists.bytes() == bytes
 }
 
 // Whether a list is written as these bytes, and walked.
 fn is_written(alloc: Global, list: &[u32], bytes: &[u8]) -> Result<bool, CodeError>
     requires { AscendsFrom 0 list.now }
 {
-    let lists = one(alloc, list)?;
-    Ok(lists.bytes() == bytes && only_is(&lists, list))
+    Ok(only_is(&one(alloc, list)?, list, bytes))
 }
 
 // Whether bytes are read as one list under this bound.
 fn is_read(alloc: Global, bytes: &[u8], bound: u32, list: &[u32]) -> Result<bool, CodeError> {
-    Ok(only_is(&Lists::read(alloc, bytes, 1, bound)?, list))
+    Ok(only_is(&Lists::read(alloc, bytes, 1, bound)?, list, bytes))
 }
 
 // Whether a list is spelled by these bytes: written as them, and read back from them.
@@ -61,29 +62,31 @@ fn is_spelled(alloc: Global, list: &[u32], bytes: &[u8]) -> Result<bool, CodeErr
     Ok(is_written(alloc, list, bytes)? && is_read(alloc, bytes, u32::MAX, list)?)
 }
 
-#[test]
-fn lists_are_spelled(rt: HostRuntime) {
-    let alloc = rt.alloc();
-    let are_spelled = [
-        is_spelled(alloc, &[], &[0x80]),
-        is_spelled(alloc, &[0], &[0x50]),
-        is_spelled(alloc, &[0, 2, 5], &[0x25, 0x30]),
-    ];
-    assert_eq!(rt; are_spelled, [Ok(true); 3]);
+/// The list of 16777215.
+const GREAT: [u8; 7] = [0x40, 0, 0, 0x10, 0, 0, 0];
+
+/// The list of the greatest element below the greatest bound.
+const FAR: [u8; 9] = [0x40, 0, 0, 0, 0x3f, 0xff, 0xff, 0xff, 0xc0];
+
+/// The list of 7 and the greatest number, which is below no bound.
+const GREATEST: [u8; 10] = [0x62, 0, 0, 0, 0, 0x7f, 0xff, 0xff, 0xfc, 0];
+
+// Whether lists are spelled, that with the greatest number is walked, and a bound itself passes.
+fn are_spelled(alloc: Global) -> Result<bool, CodeError> {
+    Ok(
+        is_spelled(alloc, &[], &[0x80])?
+            && is_spelled(alloc, &[0], &[0x50])?
+            && is_spelled(alloc, &[0, 2, 5], &[0x25, 0x30])?
+            && is_spelled(alloc, &[16_777_215], &GREAT)?
+            && is_spelled(alloc, &[4_294_967_294], &FAR)?
+            && is_written(alloc, &[7, 4_294_967_295], &GREATEST)?
+            && is_read(alloc, &[0x27], 3, &[0, 1, 2])?,
+    )
 }
 
 #[test]
-fn great_elements_are_spelled(rt: HostRuntime) {
-    let alloc = rt.alloc();
-    let are_spelled = [
-        is_spelled(alloc, &[16_777_215], &[0x40, 0, 0, 0x10, 0, 0, 0]),
-        is_spelled(
-            alloc,
-            &[4_294_967_294],
-            &[0x40, 0, 0, 0, 0x3f, 0xff, 0xff, 0xff, 0xc0],
-        ),
-    ];
-    assert_eq!(rt; are_spelled, [Ok(true); 2]);
+fn lists_are_spelled(rt: HostRuntime) {
+    assert_eq!(rt; are_spelled(rt.alloc()), Ok(true));
 }
 
 // The lists [], [0] and [1].
@@ -99,20 +102,29 @@ fn three_are_written(alloc: Global) -> Result<bool, AllocError> {
     Ok(three(alloc)?.finish().bytes() == THREE.as_slice())
 }
 
+// Whether lists are these three.
+fn are_three(lists: &Lists) -> bool {
+    lists.len() == 3 && is(lists.list(0), &[]) && is(lists.list(1), &[0]) && is(lists.list(2), &[1])
+}
+
 // Whether they are read.
 fn three_are_read(alloc: Global) -> Result<bool, CodeError> {
-    let read = Lists::read(alloc, &THREE, 3, 2)?;
-    Ok(read.len() == 3 && is(read.list(0), &[]) && is(read.list(1), &[0]) && is(read.list(2), &[1]))
+    Ok(are_three(&Lists::read(alloc, &THREE, 3, 2)?))
+}
+
+// How many lists there are of no bytes, where none are wanted.
+fn count_of_none(alloc: Global) -> Result<usize, CodeError> {
+    Ok(Lists::read(alloc, &[], 0, 0)?.len())
+}
+
+// Whether three lists, and none, stand behind one another and are read.
+fn are_behind_one_another(alloc: Global) -> Result<bool, CodeError> {
+    Ok(three_are_written(alloc)? && three_are_read(alloc)? && count_of_none(alloc)? == 0)
 }
 
 #[test]
 fn lists_stand_behind_one_another(rt: HostRuntime) {
-    assert_eq!(rt; three_are_written(rt.alloc()), Ok(true));
-}
-
-#[test]
-fn lists_behind_one_another_are_read(rt: HostRuntime) {
-    assert_eq!(rt; three_are_read(rt.alloc()), Ok(true));
+    assert_eq!(rt; are_behind_one_another(rt.alloc()), Ok(true));
 }
 
 // What refuses these bytes.
@@ -121,7 +133,7 @@ fn refusal(alloc: Global, bytes: &[u8], count: usize, bound: u32) -> Option<Code
 }
 
 // Bytes, how many lists they are read as, the bound, and what refuses them.
-static REFUSED: [(&[u8], usize, u32, CodeError); 15] = [
+static REFUSED: [(&[u8], usize, u32, CodeError); 16] = [
     (&[0x51], 1, 9, CodeError::Padding),
     (&[0x50, 0], 1, 9, CodeError::Trailing),
     (&[0x51, 0], 1, 9, CodeError::Padding),
@@ -129,6 +141,7 @@ static REFUSED: [(&[u8], usize, u32, CodeError); 15] = [
     (&[0x25, 0x30], 1, 2, CodeError::Range),
     (&[0x25, 0x30], 1, 5, CodeError::Range),
     (&PAST, 1, u32::MAX, CodeError::Range),
+    (&GREATEST, 1, u32::MAX, CodeError::Range),
     (&[0xaa], 3, 9, CodeError::Ended),
     (&[], 1, 9, CodeError::Ended),
     (&[0x40, 0, 0, 0x10, 0, 0], 1, 16_777_216, CodeError::Ended),
@@ -154,54 +167,15 @@ fn spellings_are_refused(rt: HostRuntime) {
     assert_eq!(rt; first_not_refused(rt.alloc()), None);
 }
 
-// Whether a list is read back where this is the bound.
-fn is_within(alloc: Global, list: &[u32], bound: u32) -> Result<bool, CodeError>
-    requires { AscendsFrom 0 list.now }
-{
-    is_read(alloc, one(alloc, list)?.bytes(), bound, list)
-}
-
-// Whether a list with the greatest element is walked, and what refuses it where that is the bound.
-fn is_greatest_walked(alloc: Global) -> Result<(bool, Option<CodeError>), AllocError> {
-    let lists = one(alloc, &[7, 4_294_967_295])?;
-    let refusal = refusal(alloc, lists.bytes(), 1, u32::MAX);
-    Ok((only_is(&lists, &[7, 4_294_967_295]), refusal))
-}
-
-// How many lists there are of no bytes, where none are wanted.
-fn count_of_none(alloc: Global) -> Result<usize, CodeError> {
-    Ok(Lists::read(alloc, &[], 0, 0)?.len())
-}
-
-#[test]
-fn bounds_themselves_pass(rt: HostRuntime) {
-    assert_eq!(rt; is_within(rt.alloc(), &[0, 1, 2], 3), Ok(true));
-}
-
-#[test]
-fn no_lists_are_read_of_no_bytes(rt: HostRuntime) {
-    assert_eq!(rt; count_of_none(rt.alloc()), Ok(0));
-}
-
-#[test]
-fn the_greatest_element_is_walked(rt: HostRuntime) -> Result<(), Fail> {
-    let is_walked = is_greatest_walked(rt.alloc())?;
-    assert_eq!(rt; is_walked, (true, Some(CodeError::Range)));
-    Ok(())
-}
-
 // Whether two empty vectors are built as these bytes.
 fn two_empty_are(alloc: Global, bytes: &[u8]) -> Result<bool, AllocError> {
     let empty: [Vec<u32>; 2] = [Vec::new(alloc), Vec::new(alloc)];
-    let lists = Lists::build(alloc, &empty)?;
-    Ok(lists.bytes() == bytes)
+    Ok(Lists::build(alloc, &empty)?.bytes() == bytes)
 }
 
 #[test]
-fn vectors_are_built(rt: HostRuntime) -> Result<(), Fail> {
-    let are_built = two_empty_are(rt.alloc(), &[0xc0])?;
-    assert!(rt; are_built);
-    Ok(())
+fn vectors_are_built(rt: HostRuntime) {
+    assert_eq!(rt; two_empty_are(rt.alloc(), &[0xc0]), Ok(true));
 }
 
 // Writes these numbers.
@@ -215,13 +189,13 @@ fn put_each(writer: &mut BitWriter, numbers: &[u64]) -> Result<(), AllocError> {
 }
 
 // Whether these numbers are read.
-fn are_next(reader: &mut BitReader<'_>, numbers: &[u64]) -> Result<bool, CodeError> {
+fn are_next(reader: &mut BitReader<'_>, numbers: &[u64]) -> bool {
     for x in numbers {
-        if get_gamma(reader)? != *x {
-            return Ok(false);
+        if get_gamma(reader) != Ok(*x) {
+            return false;
         }
     }
-    Ok(true)
+    true
 }
 
 // The bytes of these numbers, and how many bits the numbers take.
@@ -232,97 +206,94 @@ fn coded(alloc: Global, numbers: &[u64]) -> Result<(Vec<u8>, u128), AllocError> 
     Ok((writer.finish(), len))
 }
 
+// Whether bytes are read as these numbers, in so many bits.
+fn are_read(bytes: &[u8], numbers: &[u64], len: u128) -> bool {
+    let mut reader = BitReader::new(bytes);
+    are_next(&mut reader, numbers) && reader.position() == len
+}
+
 // Writes these numbers and reads them again, and tells whether they were the same.
 fn come_back(alloc: Global, numbers: &[u64]) -> Result<bool, CodeError> {
     let (bytes, len) = coded(alloc, numbers)?;
-    let mut reader = BitReader::new(&bytes);
-    Ok(are_next(&mut reader, numbers)? && reader.position() == len)
+    Ok(are_read(&bytes, numbers, len))
+}
+
+static NUMBERS: [u64; 14] = [
+    1,
+    2,
+    3,
+    4,
+    255,
+    256,
+    65_535,
+    65_536,
+    4_294_967_295,
+    4_294_967_296,
+    4_294_967_297,
+    1 << 62,
+    u64::MAX,
+    1,
+];
+
+#[test]
+fn numbers_come_back(rt: HostRuntime) {
+    assert_eq!(rt; come_back(rt.alloc(), &NUMBERS), Ok(true));
+}
+
+// Whether 4 is written in five bits.
+fn four_is_coded(alloc: Global) -> Result<bool, CodeError> {
+    let (bytes, len) = coded(alloc, &[4])?;
+    Ok(len == 5 && bytes.as_slice() == [0x20].as_slice())
 }
 
 #[test]
-fn numbers_come_back(rt: HostRuntime) -> Result<(), Fail> {
-    let numbers = [
-        1,
-        2,
-        3,
-        4,
-        255,
-        256,
-        65_535,
-        65_536,
-        4_294_967_295,
-        4_294_967_296,
-        4_294_967_297,
-        1 << 62,
-        u64::MAX,
-        1,
-    ];
-    assert!(rt; come_back(rt.alloc(), &numbers)?);
-    Ok(())
+fn one_code_is_written(rt: HostRuntime) {
+    assert_eq!(rt; four_is_coded(rt.alloc()), Ok(true));
 }
 
-// Whether a number is written in so many bits, as these bytes.
-fn is_coded(alloc: Global, x: u64, len: u128, bytes: &[u8]) -> Result<bool, AllocError>
-    requires { 0 < x }
-{
-    let mut writer = BitWriter::new(alloc);
-    put_gamma(&mut writer, x)?;
-    Ok(writer.len() == len && writer.finish().as_slice() == bytes)
-}
-
-#[test]
-fn one_code_is_written(rt: HostRuntime) -> Result<(), Fail> {
-    let is_coded = is_coded(rt.alloc(), 4, 5, &[0x20])?;
-    assert!(rt; is_coded);
-    Ok(())
-}
-
-// The first two bits of bytes, and where the reader is behind them.
-fn two_bits(bytes: &[u8]) -> ([Option<bool>; 2], u128) {
+// Whether these are the first two bits of bytes, and the reader is at this place behind them.
+fn bits_are(bytes: &[u8], wanted: [Option<bool>; 2], place: u128) -> bool {
     let mut reader = BitReader::new(bytes);
-    ([reader.bit(), reader.bit()], reader.position())
+    [reader.bit(), reader.bit()] == wanted && reader.position() == place
 }
 
 #[test]
 fn bits_are_read(rt: HostRuntime) {
-    assert_eq!(rt;
-        [two_bits(&[0x50]), two_bits(&[])],
-        [([Some(false), Some(true)], 2), ([None, None], 0)]
-    );
+    assert!(rt; bits_are(&[0x50], [Some(false), Some(true)], 2) && bits_are(&[], [None, None], 0));
 }
 
-// The first two numbers of bytes, and where the reader is behind them.
-fn two_numbers(bytes: &[u8]) -> ([Result<u64, CodeError>; 2], u128) {
+// Whether these are the first two numbers of bytes, and the reader is at this place behind them.
+fn numbers_are(bytes: &[u8], wanted: [Result<u64, CodeError>; 2], place: u128) -> bool {
     let mut reader = BitReader::new(bytes);
-    (
-        [get_gamma(&mut reader), get_gamma(&mut reader)],
-        reader.position(),
+    [get_gamma(&mut reader), get_gamma(&mut reader)] == wanted && reader.position() == place
+}
+
+// Whether refusals stay where they were: of a number that has ended, and twice of one that is too long.
+fn refusals_stay() -> bool {
+    numbers_are(
+        &[0x80, 0, 0, 0, 0, 0, 0, 0],
+        [Ok(1), Err(CodeError::Ended)],
+        1,
+    ) && numbers_are(
+        &[0; 9],
+        [Err(CodeError::TooLong), Err(CodeError::TooLong)],
+        0,
     )
 }
 
 #[test]
 fn a_refusal_stays_where_it_was(rt: HostRuntime) {
-    assert_eq!(rt;
-        two_numbers(&[0x80, 0, 0, 0, 0, 0, 0, 0]),
-        ([Ok(1), Err(CodeError::Ended)], 1)
-    );
-}
-
-#[test]
-fn a_number_too_long_is_refused_again(rt: HostRuntime) {
-    assert_eq!(rt;
-        two_numbers(&[0; 9]),
-        ([Err(CodeError::TooLong), Err(CodeError::TooLong)], 0)
-    );
+    assert!(rt; refusals_stay());
 }
 
 // Whether these places are kept.
 fn are_kept(places: &Places, wanted: &[u128]) -> bool {
+    for i in 0..places.len() {
+        if wanted.get(i) != Some(&places.at(i)) {
+            return false;
+        }
+    }
     places.len() == wanted.len()
-        && wanted
-            .iter()
-            .enumerate()
-            .all(|(i, place)| i < places.len() && places.at(i) == *place)
 }
 
 // Two places, in room for two.
@@ -341,32 +312,31 @@ fn far(alloc: Global) -> Result<Places, AllocError> {
         .push(12_884_901_889)
 }
 
-#[test]
-fn near_places_are_kept(rt: HostRuntime) -> Result<(), Fail> {
-    let are_kept = are_kept(&near(rt.alloc())?, &[0, 12]);
-    assert!(rt; are_kept);
-    Ok(())
+static NEAR_AND_FAR: [u128; 6] = [
+    0,
+    12,
+    4_294_967_295,
+    4_294_967_296,
+    4_294_967_296,
+    12_884_901_889,
+];
+
+// Whether the places near and far are kept.
+fn far_are_kept(alloc: Global) -> Result<bool, CodeError> {
+    Ok(are_kept(&far(alloc)?, &NEAR_AND_FAR))
 }
 
 #[test]
-fn far_places_are_kept(rt: HostRuntime) -> Result<(), Fail> {
-    let wanted = [
-        0,
-        12,
-        4_294_967_295,
-        4_294_967_296,
-        4_294_967_296,
-        12_884_901_889,
-    ];
-    let are_kept = are_kept(&far(rt.alloc())?, &wanted);
-    assert!(rt; are_kept);
-    Ok(())
+fn far_places_are_kept(rt: HostRuntime) {
+    assert_eq!(rt; far_are_kept(rt.alloc()), Ok(true));
 }
 
 // Whether an error has this text.
-fn has_text(alloc: Global, error: CodeError, wanted: &str) -> Result<bool, Fail> {
-    let text = format!(in alloc; "{error}")?;
-    Ok(text.as_str() == wanted)
+fn has_text(alloc: Global, error: CodeError, wanted: &str) -> bool {
+    match format!(in alloc; "{error}") {
+        Ok(text) => text.as_str() == wanted,
+        Err(_) => false,
+    }
 }
 
 static TEXTS: [(CodeError, &str); 6] = [
@@ -379,17 +349,16 @@ static TEXTS: [(CodeError, &str); 6] = [
 ];
 
 // The first error of that table that has another text.
-fn first_of_another_text(alloc: Global) -> Result<Option<CodeError>, Fail> {
+fn first_of_another_text(alloc: Global) -> Option<CodeError> {
     for (error, wanted) in &TEXTS {
-        if !has_text(alloc, *error, wanted)? {
-            return Ok(Some(*error));
+        if !has_text(alloc, *error, wanted) {
+            return Some(*error);
         }
     }
-    Ok(None)
+    None
 }
 
 #[test]
-fn errors_have_texts(rt: HostRuntime) -> Result<(), Fail> {
-    assert_eq!(rt; first_of_another_text(rt.alloc())?, None);
-    Ok(())
+fn errors_have_texts(rt: HostRuntime) {
+    assert_eq!(rt; first_of_another_text(rt.alloc()), None);
 }

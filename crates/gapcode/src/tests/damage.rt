@@ -2,13 +2,13 @@
 
 use super::*;
 
-/// Bytes of lists, how many lists they are, and a bound: lists [], [0] and [1]; list [0, 2, 5]; lists of one great
-/// element.
-static SPELLED: [(&[u8], usize, u32); 4] = [
-    (&THREE, 3, 9),
-    (&[0x25, 0x30], 1, 6),
-    (&[0x40, 0, 0, 0x10, 0, 0, 0], 1, 16_777_216),
-    (&[0x40, 0, 0, 0, 0x3f, 0xff, 0xff, 0xff, 0xc0], 1, u32::MAX),
+/// Bytes of lists, how many lists they are, a bound, and how often lists are read where each bit is turned in turn: lists
+/// [], [0] and [1]; list [0, 2, 5]; lists of one great element.
+static SPELLED: [(&[u8], usize, u32, u32); 4] = [
+    (&THREE, 3, 9, 2),
+    (&[0x25, 0x30], 1, 6, 2),
+    (&GREAT, 1, 16_777_216, 1),
+    (&FAR, 1, u32::MAX, 31),
 ];
 
 // The first length to which bytes are cut and not refused as ended.
@@ -21,11 +21,12 @@ fn first_not_ended(alloc: Global, bytes: &[u8], count: usize, bound: u32) -> Opt
     None
 }
 
-// The bytes and the length of the first cut that is not refused so.
-fn first_cut_not_ended(alloc: Global) -> Option<(&'static [u8], usize)> {
-    for (bytes, count, bound) in &SPELLED {
-        if let Some(len) = first_not_ended(alloc, bytes, *count, *bound) {
-            return Some((bytes, len));
+// The length of the first cut that is not refused so.
+fn first_cut_not_ended(alloc: Global) -> Option<usize> {
+    for (bytes, count, bound, _) in &SPELLED {
+        let first = first_not_ended(alloc, bytes, *count, *bound);
+        if first.is_some() {
+            return first;
         }
     }
     None
@@ -36,36 +37,18 @@ fn cut_lists_have_ended(rt: HostRuntime) {
     assert_eq!(rt; first_cut_not_ended(rt.alloc()), None);
 }
 
-/// How often bytes were read as lists, and whether the lists that were read have just these bytes.
-#[derive(Clone, Copy, Debug, PartialEq, Eq)]
-struct Seen {
-    read: u32,
-    same: bool,
-}
-
-/// Nothing seen yet.
-const NONE_SEEN: Seen = Seen {
-    read: 0,
-    same: true,
-};
-
-// So many were read, and they were the same.
-fn of(read: u32) -> Seen {
-    Seen { read, same: true }
-}
-
-// Reads bytes: a refusal for anything but memory is no fault.
-fn see(alloc: Global, bytes: &[u8], count: usize, bound: u32, seen: Seen) -> Seen {
+// Reads bytes, and tells how often they were read as lists: once, or not at all. A refusal for anything but memory is no
+// fault; for memory, or where the lists are not just these bytes, there is no answer.
+fn see(alloc: Global, bytes: &[u8], count: usize, bound: u32) -> Option<u32> {
     match Lists::read(alloc, bytes, count, bound) {
-        Ok(lists) => Seen {
-            read: seen.read.saturating_add(1),
-            same: seen.same && lists.len() == count && lists.bytes() == bytes,
-        },
-        Err(fault) => Seen {
-            read: seen.read,
-            same: seen.same && fault != CodeError::Memory,
-        },
+        Ok(lists) => are_these(&lists, bytes, count).then_some(1),
+        Err(fault) => (fault != CodeError::Memory).then_some(0),
     }
+}
+
+// Whether so many lists have just these bytes.
+fn are_these(lists: &Lists, bytes: &[u8], count: usize) -> bool {
+    lists.len() == count && lists.bytes() == bytes
 }
 
 // Turns a bit of bytes.
@@ -76,35 +59,36 @@ fn turn(bytes: &mut [u8], bit: usize) {
 }
 
 // Reads bytes with each bit turned in turn.
-fn see_turned(alloc: Global, bytes: &mut [u8], count: usize, bound: u32) -> Seen {
-    let mut seen = NONE_SEEN;
-    for place in 0..bytes.len() {
-        for bit in 0..8 {
-            turn(bytes, place.saturating_mul(8).saturating_add(bit));
-            seen = see(alloc, bytes, count, bound, seen);
-            turn(bytes, place.saturating_mul(8).saturating_add(bit));
-        }
+fn see_turned(alloc: Global, bytes: &mut [u8], count: usize, bound: u32) -> Option<u32> {
+    let mut read = 0u32;
+    for bit in 0..bytes.len().saturating_mul(8) {
+        turn(bytes, bit);
+        read = read.saturating_add(see(alloc, bytes, count, bound)?);
+        turn(bytes, bit);
     }
-    seen
+    Some(read)
 }
 
-// The same of the bytes at a place of the table.
-fn see_spelled(alloc: Global, i: usize) -> Option<Seen> {
-    let (bytes, count, bound) = *SPELLED.get(i)?;
+// The same of a copy of the bytes.
+fn see_copy(alloc: Global, bytes: &[u8], count: usize, bound: u32) -> Option<u32> {
     let mut copy = bytes.to_vec(alloc).ok()?;
-    Some(see_turned(alloc, &mut copy, count, bound))
+    see_turned(alloc, &mut copy, count, bound)
+}
+
+// The bytes of the table that are not read so often, with how often they are.
+fn first_otherwise(alloc: Global) -> Option<(&'static [u8], Option<u32>)> {
+    for (bytes, count, bound, wanted) in &SPELLED {
+        let read = see_copy(alloc, bytes, *count, *bound);
+        if read != Some(*wanted) {
+            return Some((bytes, read));
+        }
+    }
+    None
 }
 
 #[test]
 fn lists_with_a_bit_turned(rt: HostRuntime) {
-    let alloc = rt.alloc();
-    let seen = [
-        see_spelled(alloc, 0),
-        see_spelled(alloc, 1),
-        see_spelled(alloc, 2),
-        see_spelled(alloc, 3),
-    ];
-    assert_eq!(rt; seen, [Some(of(2)), Some(of(2)), Some(of(1)), Some(of(31))]);
+    assert_eq!(rt; first_otherwise(rt.alloc()), None);
 }
 
 // The next of a row of numbers: x becomes 6364136223846793005 x + 1442695040888963407 below 2^64 (Knuth).
@@ -125,9 +109,9 @@ fn scatter(bytes: &mut [u8], state: &mut u64, sparse: bool) {
 }
 
 // Reads random bytes a thousand times: 0 to 11 of them, as up to three lists below a bound up to 63.
-fn see_random(alloc: Global) -> Seen {
+fn see_random(alloc: Global) -> Option<u32> {
     let mut state = 28;
-    let mut seen = NONE_SEEN;
+    let mut read = 0u32;
     let mut bytes = [0u8; 11];
     for _ in 0..1000 {
         let len = (next(&mut state) % 12) as usize;
@@ -135,14 +119,14 @@ fn see_random(alloc: Global) -> Seen {
         let bound = (next(&mut state) % 64) as u32;
         scatter(&mut bytes, &mut state, bound % 2 == 0);
         let (front, _) = bytes.split_at(len);
-        seen = see(alloc, front, count, bound, seen);
+        read = read.saturating_add(see(alloc, front, count, bound)?);
     }
-    seen
+    Some(read)
 }
 
 #[test]
 fn random_lists(rt: HostRuntime) {
-    assert_eq!(rt; see_random(rt.alloc()), of(28));
+    assert_eq!(rt; see_random(rt.alloc()), Some(28));
 }
 
 // Turns up to four bits at random.
@@ -154,20 +138,26 @@ fn turn_some(bytes: &mut [u8], state: &mut u64) {
     }
 }
 
-// Reads lists of the table with up to four bits turned, a thousand times.
-fn see_some_turned(alloc: Global) -> Option<Seen> {
+// Reads lists of the table with up to four bits turned.
+fn see_some_turned(alloc: Global, state: &mut u64) -> Option<u32> {
+    let (bytes, count, bound, _) = SPELLED[(next(state) % 4) as usize];
+    let mut copy = bytes.to_vec(alloc).ok()?;
+    turn_some(&mut copy, state);
+    see(alloc, &copy, count, bound)
+}
+
+// Whether that has an answer a thousand times.
+fn are_seen(alloc: Global) -> bool {
     let mut state = 29;
-    let mut seen = NONE_SEEN;
     for _ in 0..1000 {
-        let (bytes, count, bound) = SPELLED[(next(&mut state) % 4) as usize];
-        let mut copy = bytes.to_vec(alloc).ok()?;
-        turn_some(&mut copy, &mut state);
-        seen = see(alloc, &copy, count, bound, seen);
+        if see_some_turned(alloc, &mut state).is_none() {
+            return false;
+        }
     }
-    Some(seen)
+    true
 }
 
 #[test]
 fn lists_with_some_bits_turned(rt: HostRuntime) {
-    assert!(rt; matches!(see_some_turned(rt.alloc()), Some(Seen { same: true, .. })));
+    assert!(rt; are_seen(rt.alloc()));
 }

@@ -35,29 +35,13 @@ fn are_read_back(alloc: Global) -> Result<bool, CodeError> {
     Ok(three_are_read(alloc)? && is_spelled(alloc, &[4_294_967_294], &FAR)?)
 }
 
-/// The list of the greatest element below the greatest bound.
-static FAR: [u8; 9] = [0x40, 0, 0, 0, 0x3f, 0xff, 0xff, 0xff, 0xc0];
-
-// Whether places are kept.
-fn are_kept_far(alloc: Global) -> Result<bool, CodeError> {
-    let wanted = [
-        0,
-        12,
-        4_294_967_295,
-        4_294_967_296,
-        4_294_967_296,
-        12_884_901_889,
-    ];
-    Ok(are_kept(&far(alloc)?, &wanted))
-}
-
 #[test]
 fn calls_where_memory_is_refused(rt: HostRuntime) {
     let alloc = rt.alloc();
     let answered = [
         are_answered(are_built(alloc), are_built(alloc)),
         are_answered(are_read_back(alloc), are_read_back(alloc)),
-        are_answered(are_kept_far(alloc), are_kept_far(alloc)),
+        are_answered(far_are_kept(alloc), far_are_kept(alloc)),
         are_answered(come_back(alloc, &[1, u64::MAX]), come_back(alloc, &[7])),
     ];
     assert_eq!(rt; answered, [true; 4]);
