@@ -1,10 +1,7 @@
-ghost use Rattle.std.specs.Prelude.{◌≡◌};
-
 use super::*;
 use std::alloc::{AllocError, Global};
 use std::io;
 use std::io::{ErrorKind, Read, Write};
-use std::test::Fail;
 
 // The hash of a vertex under seed 0, and the place of that hash among 16 registers.
 fn hash_and_place(v: u32) -> (u64, (u16, u8)) {
@@ -33,11 +30,6 @@ fn mixer_table(rt: HostRuntime) {
 }
 
 #[test]
-fn place_among_128_registers(rt: HostRuntime) {
-    assert_eq!(rt; place(7, mix(0, 0)), (113, 4));
-}
-
-#[test]
 fn least_and_greatest_seed_and_vertex(rt: HostRuntime) {
     assert_eq!(rt;
         [mix(u64::MAX, 0), mix(0, u32::MAX), mix(u64::MAX, u32::MAX)],
@@ -45,15 +37,16 @@ fn least_and_greatest_seed_and_vertex(rt: HostRuntime) {
     );
 }
 
-// Where tails of zeros lead, up to the last one. The 33rd bit behind the index is set in the first two, and does not
-// count.
-fn places_of_tails() -> [(u16, u8); 5] {
+// Where tails of zeros lead, up to the last one, and the hash of 0 among 128 registers. The 33rd bit behind the index is
+// set in the first two, and does not count.
+fn places_of_tails() -> [(u16, u8); 6] {
     [
         place(4, 0xa000_0000_0fff_ffff),
         place(10, 0xffc0_0000_003f_ffff),
         place(4, 0xa000_0000_1000_0000),
         place(4, 0xa800_0000_0000_0000),
         place(4, 0),
+        place(7, mix(0, 0)),
     ]
 }
 
@@ -61,7 +54,7 @@ fn places_of_tails() -> [(u16, u8); 5] {
 fn tail_of_zero(rt: HostRuntime) {
     assert_eq!(rt;
         places_of_tails(),
-        [(10, 33), (1023, 33), (10, 32), (10, 1), (0, 33)]
+        [(10, 33), (1023, 33), (10, 32), (10, 1), (0, 33), (113, 4)]
     );
 }
 
@@ -97,57 +90,60 @@ fn plan_checks(rt: HostRuntime) {
     assert_eq!(rt; first_of_another_refusal(), None);
 }
 
-// What a plan tells: its numbers, the width and a vertex's partition; its digest, and that of one with another.
-fn told_by(plan: &Plan) -> ((u8, u64, u16), (u32, u32, usize, u16), [[u8; 32]; 2]) {
-    (
-        (plan.log2m(), plan.seed(), plan.parts()),
-        (
-            plan.limit(),
-            plan.vertices(),
-            plan.width(),
-            plan.partition_of(7),
-        ),
-        [plan.job(), plan.with_job([8; 32]).job()],
-    )
+// Whether a plan tells its numbers, the width and a vertex's partition; its digest, and that of one with another.
+fn tells(plan: &Plan) -> bool {
+    plan.log2m() == 5
+        && plan.seed() == 42
+        && plan.parts() == 3
+        && plan.limit() == 77
+        && plan.vertices() == 8
+        && plan.width() == 32
+        && plan.partition_of(7) == 1
+        && plan.job() == [9; 32]
+        && plan.with_job([8; 32]).job() == [8; 32]
+}
+
+// The same of one plan.
+fn a_plan_tells() -> bool {
+    match Plan::new(5, 42, 3, 77, 8, [9; 32]) {
+        Ok(plan) => tells(&plan),
+        Err(_) => false,
+    }
 }
 
 #[test]
-fn plan_readers(rt: HostRuntime) -> Result<(), Fail> {
-    let plan = Plan::new(5, 42, 3, 77, 8, [9; 32])?;
+fn plan_readers(rt: HostRuntime) {
+    assert!(rt; a_plan_tells());
+}
+
+// Whether the partitions of a plan have these sizes.
+fn has_sizes(plan: &Plan, sizes: &[u32]) -> bool {
+    for part in 0..plan.parts() {
+        if sizes.get(part as usize) != Some(&plan.part_size(part)) {
+            return false;
+        }
+    }
+    sizes.len() == plan.parts() as usize
+}
+
+// Whether so many vertices among so many partitions make these sizes.
+fn are_sizes(parts: u16, vertices: u32, sizes: &[u32]) -> bool {
+    match Plan::new(4, 0, parts, 1, vertices, [0; 32]) {
+        Ok(plan) => has_sizes(&plan, sizes),
+        Err(_) => false,
+    }
+}
+
+// Eight vertices among three partitions: 0 3 6, 1 4 7 and 2 5. Three among five, of which two are empty.
+#[test]
+fn part_sizes(rt: HostRuntime) {
     assert_eq!(rt;
-        told_by(&plan),
-        ((5, 42, 3), (77, 8, 32, 1), [[9; 32], [8; 32]])
+        (
+            are_sizes(3, 8, &[3, 3, 2]),
+            are_sizes(5, 3, &[1, 1, 1, 0, 0])
+        ),
+        (true, true)
     );
-    Ok(())
-}
-
-// Eight vertices among three partitions: 0 3 6, 1 4 7 and 2 5.
-#[test]
-fn part_sizes(rt: HostRuntime) -> Result<(), Fail> {
-    let plan = Plan::new(4, 0, 3, 1, 8, [0; 32])?;
-    let sizes = [plan.part_size(0), plan.part_size(1), plan.part_size(2)];
-    assert_eq!(rt; (plan.parts(), sizes), (3, [3, 3, 2]));
-    Ok(())
-}
-
-// The sizes of the first, the third, the fourth and the last of five partitions.
-fn sizes_of_five(plan: &Plan) -> [u32; 4]
-    requires { plan.now.parts ≡ 5 }
-{
-    [
-        plan.part_size(0),
-        plan.part_size(2),
-        plan.part_size(3),
-        plan.part_size(4),
-    ]
-}
-
-#[test]
-fn more_parts_than_vertices(rt: HostRuntime) -> Result<(), Fail> {
-    let plan = Plan::new(4, 0, 5, 1, 3, [0; 32])?;
-    let sizes = sizes_of_five(&plan);
-    assert_eq!(rt; (plan.parts(), sizes), (5, [1, 1, 0, 0]));
-    Ok(())
 }
 
 static TEXTS: [(PlanError, &str); 4] = [
@@ -158,85 +154,94 @@ static TEXTS: [(PlanError, &str); 4] = [
 ];
 
 // Whether a refusal has that text.
-fn has_text(alloc: Global, error: PlanError, wanted: &str) -> Result<bool, Fail> {
-    Ok(format!(in alloc; "{error}")?.as_str() == wanted)
+fn has_text(alloc: Global, error: PlanError, wanted: &str) -> bool {
+    match format!(in alloc; "{error}") {
+        Ok(text) => text.as_str() == wanted,
+        Err(_) => false,
+    }
 }
 
 // The first refusal of that table that has another text.
-fn first_of_another_text(alloc: Global) -> Result<Option<PlanError>, Fail> {
+fn first_of_another_text(alloc: Global) -> Option<PlanError> {
     for (error, wanted) in &TEXTS {
-        if !has_text(alloc, *error, wanted)? {
-            return Ok(Some(*error));
+        if !has_text(alloc, *error, wanted) {
+            return Some(*error);
         }
     }
-    Ok(None)
+    None
 }
 
 #[test]
-fn plan_texts(rt: HostRuntime) -> Result<(), Fail> {
-    assert_eq!(rt; first_of_another_text(rt.alloc())?, None);
-    Ok(())
+fn plan_texts(rt: HostRuntime) {
+    assert_eq!(rt; first_of_another_text(rt.alloc()), None);
+}
+
+fn name(superstep: u32, source: u16, target: u16) -> BatchName {
+    BatchName {
+        superstep,
+        source,
+        target,
+    }
+}
+
+fn node(part: u16, replica: u8) -> NodeId {
+    NodeId { part, replica }
+}
+
+// Whether names ascend by superstep, then source, then target.
+fn names_ascend() -> bool {
+    name(1, 9, 9).is_before(&name(2, 0, 1)) && name(2, 0, 1).is_before(&name(2, 1, 0))
+}
+
+// Whether nodes ascend by partition, then replica.
+fn nodes_ascend() -> bool {
+    let (first, second, third) = (node(0, 3), node(1, 0), node(1, 1));
+    first.is_before(&second)
+        && second.is_before(&third)
+        && !third.is_before(&first)
+        && first < second
+        && second < third
 }
 
 #[test]
-fn names_ascend(rt: HostRuntime) {
-    let first = BatchName {
-        superstep: 1,
-        source: 9,
-        target: 9,
-    };
-    let second = BatchName {
-        superstep: 2,
-        source: 0,
-        target: 1,
-    };
-    let third = BatchName {
-        superstep: 2,
-        source: 1,
-        target: 0,
-    };
-    assert_eq!(rt;
-        (first.is_before(&second), second.is_before(&third)),
-        (true, true)
-    );
+fn names_and_nodes_ascend(rt: HostRuntime) {
+    assert_eq!(rt; (names_ascend(), nodes_ascend()), (true, true));
 }
 
-#[test]
-fn nodes_ascend_by_partition_then_replica(rt: HostRuntime) {
-    let first = NodeId {
-        part: 0,
-        replica: 3,
-    };
-    let second = NodeId {
-        part: 1,
-        replica: 0,
-    };
-    let third = NodeId {
-        part: 1,
-        replica: 1,
-    };
-    assert_eq!(rt;
-        (
-            first.is_before(&second),
-            second.is_before(&third),
-            third.is_before(&first)
-        ),
-        (true, true, false)
-    );
-    assert!(rt; first < second && second < third);
-}
-
-// A stream that moves one byte a call, whose call `fails_at` and all later ones fail.
+// A stream that moves one byte a call, and whose calls fail from one on, up to another that goes well again. A write that
+// fails tells an error, or takes nothing.
 #[derive(Drop)]
 struct Slow {
     calls: u64,
     fails_at: u64,
+    well_at: u64,
+    tells: bool,
+}
+
+// Call `fails_at` and all later ones fail, and a write takes nothing then.
+fn failing_from(fails_at: u64) -> Slow {
+    Slow {
+        calls: 0,
+        fails_at,
+        well_at: u64::MAX,
+        tells: false,
+    }
+}
+
+// The first call fails, and tells an error, and later ones go well.
+fn hiccup() -> Slow {
+    Slow {
+        calls: 0,
+        fails_at: 1,
+        well_at: 2,
+        tells: true,
+    }
 }
 
 impl Slow {
     fn is_failing(&mut self) -> bool {
         self.calls = self.calls.saturating_add(1);
-        self.calls >= self.fails_at
+        self.calls >= self.fails_at && self.calls < self.well_at
     }
 }
 
@@ -251,10 +256,13 @@ impl Read for Slow {
 
 impl Write for Slow {
     fn write(&mut self, buf: &[u8]) -> io::Result<usize> {
-        if self.is_failing() {
-            return Ok(0);
+        if !self.is_failing() {
+            return Ok(buf.len().min(1));
         }
-        Ok(buf.len().min(1))
+        if self.tells {
+            return Err(io::Error::from(ErrorKind::Other));
+        }
+        Ok(0)
     }
 
     fn flush(&mut self) -> io::Result<()> {
@@ -267,10 +275,7 @@ impl Write for Slow {
 
 // Two reads of a reader whose second call fails, the failures then, and after one more.
 fn failed_reads() -> (Option<usize>, Option<usize>, u64, bool, u64) {
-    let mut reader = CountingReader::new(Slow {
-        calls: 0,
-        fails_at: 2,
-    });
+    let mut reader = CountingReader::new(failing_from(2));
     let mut place = [0u8; 4];
     let first = reader.get(&mut place);
     let second = reader.get(&mut place);
@@ -279,48 +284,9 @@ fn failed_reads() -> (Option<usize>, Option<usize>, u64, bool, u64) {
     (first, second, then, refused, reader.failures())
 }
 
-// A stream whose first call fails, and whose later ones move a byte.
-#[derive(Drop)]
-struct Hiccup {
-    has_failed: bool,
-}
-
-impl Hiccup {
-    fn is_failing(&mut self) -> bool {
-        let fails = !self.has_failed;
-        self.has_failed = true;
-        fails
-    }
-}
-
-impl Read for Hiccup {
-    fn read(&mut self, buf: &mut [u8]) -> io::Result<usize> {
-        if self.is_failing() {
-            return Err(io::Error::from(ErrorKind::Other));
-        }
-        Ok(buf.len().min(1))
-    }
-}
-
-impl Write for Hiccup {
-    fn write(&mut self, buf: &[u8]) -> io::Result<usize> {
-        if self.is_failing() {
-            return Err(io::Error::from(ErrorKind::Other));
-        }
-        Ok(buf.len().min(1))
-    }
-
-    fn flush(&mut self) -> io::Result<()> {
-        if self.is_failing() {
-            return Err(io::Error::from(ErrorKind::Other));
-        }
-        Ok(())
-    }
-}
-
 // Two reads of a reader whose first call fails, with the failures after each.
 fn reads_after_a_failure() -> (Option<usize>, u64, Option<usize>, u64) {
-    let mut reader = CountingReader::new(Hiccup { has_failed: false });
+    let mut reader = CountingReader::new(hiccup());
     let mut place = [0u8; 4];
     let first = reader.get(&mut place);
     let then = reader.failures();
@@ -329,7 +295,7 @@ fn reads_after_a_failure() -> (Option<usize>, u64, Option<usize>, u64) {
 
 // Two writes of a writer whose first call fails, with the failures after each.
 fn writes_after_a_failure() -> (Option<usize>, u64, Option<usize>, u64) {
-    let mut writer = CountingWriter::new(Hiccup { has_failed: false });
+    let mut writer = CountingWriter::new(hiccup());
     let first = writer.put(b"a");
     let then = writer.failures();
     (first, then, writer.put(b"a"), writer.failures())
@@ -337,7 +303,7 @@ fn writes_after_a_failure() -> (Option<usize>, u64, Option<usize>, u64) {
 
 // Whether two flushes of a writer whose first call fails go well, with the failures after each.
 fn flushes_after_a_failure() -> (bool, u64, bool, u64) {
-    let mut writer = CountingWriter::new(Hiccup { has_failed: false });
+    let mut writer = CountingWriter::new(hiccup());
     let first = writer.flush().is_ok();
     let then = writer.failures();
     (first, then, writer.flush().is_ok(), writer.failures())
@@ -347,27 +313,22 @@ fn flushes_after_a_failure() -> (bool, u64, bool, u64) {
 #[test]
 fn a_failed_call_is_told(rt: HostRuntime) {
     assert_eq!(rt;
-        [reads_after_a_failure(), writes_after_a_failure()],
-        [(None, 1, Some(1), 1), (None, 1, Some(1), 1)]
+        (
+            reads_after_a_failure(),
+            writes_after_a_failure(),
+            flushes_after_a_failure()
+        ),
+        (
+            (None, 1, Some(1), 1),
+            (None, 1, Some(1), 1),
+            (false, 1, true, 1)
+        )
     );
-}
-
-#[test]
-fn a_failed_flush_is_told(rt: HostRuntime) {
-    assert_eq!(rt; flushes_after_a_failure(), (false, 1, true, 1));
-}
-
-#[test]
-fn failed_reads_are_counted(rt: HostRuntime) {
-    assert_eq!(rt; failed_reads(), (Some(1), None, 1, true, 2));
 }
 
 // A flush and two writes of a writer whose third call fails, and a flush that fails, with the failures.
 fn failed_writes() -> (bool, Option<usize>, Option<usize>, u64, bool, u64) {
-    let mut writer = CountingWriter::new(Slow {
-        calls: 0,
-        fails_at: 3,
-    });
+    let mut writer = CountingWriter::new(failing_from(3));
     let flushed = writer.flush().is_ok();
     let first = writer.put(b"ab");
     let second = writer.put(b"b");
@@ -376,39 +337,30 @@ fn failed_writes() -> (bool, Option<usize>, Option<usize>, u64, bool, u64) {
     (flushed, first, second, then, refused, writer.failures())
 }
 
-#[test]
-fn failed_writes_are_counted(rt: HostRuntime) {
-    assert_eq!(rt; failed_writes(), (true, Some(1), None, 1, true, 2));
-}
-
 // Whether two flushes go well, of a writer whose second call fails and whose later ones do too, and the failures.
 fn tries_to_flush() -> (bool, bool, u64) {
-    let mut writer = CountingWriter::new(Slow {
-        calls: 0,
-        fails_at: 2,
-    });
+    let mut writer = CountingWriter::new(failing_from(2));
     (writer.try_flush(), writer.try_flush(), writer.failures())
 }
 
 #[test]
-fn a_flush_is_tried(rt: HostRuntime) {
-    assert_eq!(rt; tries_to_flush(), (true, false, 1));
+fn failed_calls_are_counted(rt: HostRuntime) {
+    assert_eq!(rt;
+        (failed_reads(), failed_writes(), tries_to_flush()),
+        (
+            (Some(1), None, 1, true, 2),
+            (true, Some(1), None, 1, true, 2),
+            (true, false, 1)
+        )
+    );
 }
 
 // Whether four bytes are put in as many calls, and one more where the fifth call fails, and how many calls failed.
 fn puts_four() -> (bool, bool, u64) {
-    let mut writer = CountingWriter::new(Slow {
-        calls: 0,
-        fails_at: 5,
-    });
+    let mut writer = CountingWriter::new(failing_from(5));
     let four = put_all(&mut writer, b"abcd");
     let one_more = put_all(&mut writer, b"e");
     (four, one_more, writer.failures())
-}
-
-#[test]
-fn all_is_put_a_byte_at_a_time(rt: HostRuntime) {
-    assert_eq!(rt; puts_four(), (true, false, 1));
 }
 
 // Whether two bytes and one more are put, and how many calls failed.
@@ -428,7 +380,10 @@ fn put_and_held(alloc: Global) -> ((bool, bool, u64), bool) {
 
 #[test]
 fn what_is_put_is_held(rt: HostRuntime) {
-    assert_eq!(rt; put_and_held(rt.alloc()), ((true, true, 0), true));
+    assert_eq!(rt;
+        (puts_four(), put_and_held(rt.alloc())),
+        ((true, false, 1), ((true, true, 0), true))
+    );
 }
 
 // Seven bytes are read into buffers of four, three and two, from the start: what came of it, and the failures.
@@ -443,37 +398,13 @@ fn fills(fails_at: Option<u64>) -> ([Filled; 3], u64) {
     (told, reader.failures())
 }
 
-#[test]
-fn buffers_are_filled(rt: HostRuntime) {
-    let gone = Filled::Ended { count: 0 };
-    assert_eq!(rt;
-        [fills(None), fills(Some(3)), fills(Some(2))],
-        [
-            ([Filled::Full, Filled::Full, gone], 0),
-            ([Filled::Full, Filled::Full, Filled::Failed], 1),
-            ([Filled::Full, Filled::Failed, Filled::Failed], 2)
-        ]
-    );
-}
-
 // A buffer of four that is filled a byte a call where call `fails_at` fails, its two next bytes, and the failures.
 fn fills_slowly(fails_at: u64) -> (Filled, Filled, u64) {
-    let mut reader = CountingReader::new(Slow { calls: 0, fails_at });
+    let mut reader = CountingReader::new(failing_from(fails_at));
     let mut place = [0u8; 4];
     let four = fill(&mut reader, &mut place);
     let none = fill(&mut reader, &mut []);
     (four, none, reader.failures())
-}
-
-#[test]
-fn a_buffer_is_filled_a_byte_at_a_time(rt: HostRuntime) {
-    assert_eq!(rt;
-        [fills_slowly(5), fills_slowly(4)],
-        [
-            (Filled::Full, Filled::Full, 0),
-            (Filled::Failed, Filled::Full, 1)
-        ]
-    );
 }
 
 // What is left of three bytes in a buffer of four: the front, and how many.
@@ -482,6 +413,30 @@ fn ends() -> (Filled, [u8; 4]) {
     let mut place = [b'-'; 4];
     let told = fill(&mut reader, &mut place);
     (told, place)
+}
+
+// Whether seven bytes fill buffers, where no call fails, the third and the second.
+fn seven_are_filled() -> bool {
+    let wanted = [
+        ([Filled::Full, Filled::Full, Filled::Ended { count: 0 }], 0),
+        ([Filled::Full, Filled::Full, Filled::Failed], 1),
+        ([Filled::Full, Filled::Failed, Filled::Failed], 2),
+    ];
+    [fills(None), fills(Some(3)), fills(Some(2))] == wanted
+}
+
+// Whether a buffer is filled a byte at a time.
+fn one_is_filled_slowly() -> bool {
+    let wanted = [
+        (Filled::Full, Filled::Full, 0),
+        (Filled::Failed, Filled::Full, 1),
+    ];
+    [fills_slowly(5), fills_slowly(4)] == wanted
+}
+
+#[test]
+fn buffers_are_filled(rt: HostRuntime) {
+    assert_eq!(rt; (seven_are_filled(), one_is_filled_slowly()), (true, true));
 }
 
 #[test]
@@ -512,32 +467,30 @@ fn writes_by_twos(writer: &mut MemWriter) -> ([Option<usize>; 3], u64) {
     (calls, writer.failures())
 }
 
-// What a writer with room for three bytes takes of these five, and how many calls failed; and whether it holds abc.
-fn taken_and_held(alloc: Global) -> Result<(([Option<usize>; 3], u64), bool), AllocError> {
+// Whether a writer with room for three bytes takes these of the five, with one call that fails, and holds them.
+fn is_taken_and_held(alloc: Global) -> Result<bool, AllocError> {
     let mut writer = MemWriter::with_room(alloc, 3, None)?;
-    let told = writes_by_twos(&mut writer);
-    Ok((told, writer.into_bytes().as_slice() == b"abc".as_slice()))
+    let told = writes_by_twos(&mut writer) == ([Some(2), Some(1), None], 1);
+    Ok(writer.into_bytes().as_slice() == b"abc".as_slice() && told)
 }
 
-#[test]
-fn memory_is_written(rt: HostRuntime) -> Result<(), Fail> {
-    let told = taken_and_held(rt.alloc())?;
-    assert_eq!(rt; told, (([Some(2), Some(1), None], 1), true));
-    Ok(())
+// Whether five bytes are put, whether the writer is flushed then, and how many calls failed.
+fn puts_five(writer: &mut MemWriter) -> (bool, bool, u64) {
+    let two = put_all(writer, b"ab");
+    let all = two && put_all(writer, b"cde");
+    (all, writer.try_flush(), writer.failures())
 }
 
-// Whether five bytes are put into room for so many, with a failure at this call, whether it is flushed then, how many
-// calls failed, and what it holds.
+// The same of a writer with so much room, with a failure at this call; and whether it holds these bytes.
 fn put_in_room(
     alloc: Global,
     room: usize,
     fails_at: Option<u64>,
-) -> Result<((bool, bool, u64), Vec<u8>), AllocError> {
+    held: &[u8],
+) -> Result<((bool, bool, u64), bool), AllocError> {
     let mut writer = MemWriter::with_room(alloc, room, fails_at)?;
-    let two = put_all(&mut writer, b"ab");
-    let all = two && put_all(&mut writer, b"cde");
-    let told = (all, writer.try_flush(), writer.failures());
-    Ok((told, writer.into_bytes()))
+    let told = puts_five(&mut writer);
+    Ok((told, writer.into_bytes().as_slice() == held))
 }
 
 // The room, the call that fails, whether all is put, the failures, and what is held.
@@ -550,20 +503,23 @@ static IN_ROOM: [(usize, Option<u64>, bool, u64, &[u8]); 5] = [
 ];
 
 // The first room that takes otherwise.
-fn first_otherwise(alloc: Global) -> Result<Option<usize>, AllocError> {
+fn first_otherwise(alloc: Global) -> Option<usize> {
     for (room, fails_at, all, failures, held) in &IN_ROOM {
-        let (told, bytes) = put_in_room(alloc, *room, *fails_at)?;
-        if told != (*all, true, *failures) || bytes.as_slice() != *held {
-            return Ok(Some(*room));
+        let told = put_in_room(alloc, *room, *fails_at, held);
+        if told != Ok(((*all, true, *failures), true)) {
+            return Some(*room);
         }
     }
-    Ok(None)
+    None
 }
 
 #[test]
-fn what_fits_is_put(rt: HostRuntime) -> Result<(), Fail> {
-    assert_eq!(rt; first_otherwise(rt.alloc())?, None);
-    Ok(())
+fn memory_is_written(rt: HostRuntime) {
+    let alloc = rt.alloc();
+    assert_eq!(rt;
+        (is_taken_and_held(alloc), first_otherwise(alloc)),
+        (Ok(true), None)
+    );
 }
 
 #[test]
