@@ -78,97 +78,78 @@ fn one_row(alloc: Global) -> Result<Batch, Fail>
     Ok(batch)
 }
 
-/// A batch with the rows of vertices 0 and 2.
-fn two_rows(alloc: Global) -> Result<Batch, Fail>
-    ensures { IfOk result (λ b. length b.rows ≡ 2) }
-{
-    let mut batch = one_row(alloc)?;
-    batch.reserve(1)?;
-    batch.push(2, &ROW)?;
-    Ok(batch)
-}
-
-/// How many rows there are, the vertex of the second, whether its registers are the row's, and whether vertices 1
-/// and 2 have rows.
-fn told_of_two(batch: &Batch) -> (u32, u32, bool, [bool; 2])
+/// Whether there are two rows, the second is that of vertex 2, and vertex 1 has none.
+fn tells_two(batch: &Batch) -> bool
     requires { length batch.now.rows ≡ 2 }
 {
-    (
-        batch.count(),
-        batch.id(1),
-        batch.registers(1) == ROW.as_slice(),
-        [batch.find(1).is_some(), batch.find(2).is_some()],
-    )
+    batch.count() == 2
+        && batch.id(1) == 2
+        && batch.registers(1) == ROW.as_slice()
+        && batch.find(1).is_none()
+        && batch.find(2).is_some()
+        && batch.length() == 94
+}
+
+/// Whether a batch with the row of vertex 0 tells two rows once that of vertex 2 is added.
+fn is_told(batch: &mut Batch) -> bool
+    requires plan { (batch.old.plan.log2m ≡ 4) × (batch.old.plan.parts ≡ 2) × (batch.old.plan.vertices ≡ 3) }
+    requires name { (batch.old.name.source ≡ 0) × (batch.old.changed ≡ 2) }
+    requires rows { ids_of batch.old.rows ≡ 0 ∷ [] }
+{
+    let Ok(()) = batch.reserve(1) else {
+        return false;
+    };
+    match batch.push(2, &ROW) {
+        Ok(()) => tells_two(batch),
+        Err(AllocError) => false,
+    }
+}
+
+/// Whether a batch has the header of the batch, and its length.
+fn has_header(batch: &Batch) -> bool {
+    batch.length() == 74 && batch.header().as_slice() == &BYTES[..54]
+}
+
+/// Whether a batch is written as the bytes.
+fn is_spelled(alloc: Global, batch: &Batch) -> bool {
+    match batch.encode(alloc) {
+        Ok(bytes) => bytes.as_slice() == BYTES.as_slice(),
+        Err(AllocError) => false,
+    }
+}
+
+/// Whether the batch with one row is written, with its header alone too, and tells two rows once there are two.
+fn is_written_and_told(alloc: Global) -> Result<bool, Fail> {
+    let mut batch = one_row(alloc)?;
+    Ok(is_spelled(alloc, &batch) & has_header(&batch) & is_told(&mut batch))
 }
 
 #[test]
-fn rows_are_told(rt: HostRuntime) -> Result<(), Fail> {
-    let told = told_of_two(&two_rows(rt.alloc())?);
-    assert_eq!(rt; told, (2, 2, true, [false, true]));
+fn batch_is_written_and_told(rt: HostRuntime) -> Result<(), Fail> {
+    assert!(rt; is_written_and_told(rt.alloc())?);
     Ok(())
 }
 
-/// The first place at which bytes are not those of the batch.
-fn first_other(bytes: &[u8]) -> Option<usize> {
-    bytes
-        .iter()
-        .zip(&BYTES)
-        .position(|(one, other)| *one != *other)
-}
-
-/// How many bytes the batch with one row is written as, and the first that is another.
-fn written(alloc: Global) -> Result<(usize, Option<usize>), Fail> {
-    let bytes = one_row(alloc)?.encode(alloc)?;
-    Ok((bytes.len(), first_other(&bytes)))
-}
-
-#[test]
-fn batch_is_written(rt: HostRuntime) -> Result<(), Fail> {
-    assert_eq!(rt; written(rt.alloc())?, (74, None));
-    Ok(())
-}
-
-/// Where the header of a batch of one row first differs from its bytes, and how long batches of one and two rows are.
-fn header_and_lengths(alloc: Global) -> Result<(Option<usize>, u64, u64), Fail> {
-    let batch = one_row(alloc)?;
-    Ok((
-        first_other(&batch.header()),
-        batch.length(),
-        two_rows(alloc)?.length(),
-    ))
-}
-
-#[test]
-fn header_is_written_without_memory(rt: HostRuntime) -> Result<(), Fail> {
-    assert_eq!(rt; header_and_lengths(rt.alloc())?, (None, 74, 94));
-    Ok(())
-}
-
-/// The name, the number of changed vertices and of rows, whether the job digest is the batch's own, and whether
-/// vertex 0 has the row.
-fn told_of_one(batch: &Batch) -> (BatchName, u32, u32, [bool; 2]) {
-    (
-        batch.name(),
-        batch.changed(),
-        batch.count(),
-        [
-            batch.plan().job() == JOB,
-            matches!(batch.find(0), Some(row) if row == ROW.as_slice()),
-        ],
-    )
+/// Whether a batch tells its name, the numbers of changed vertices and of rows, its own job, and the row of vertex 0.
+fn tells_one(batch: &Batch) -> bool {
+    batch.name() == NAME
+        && batch.changed() == 2
+        && batch.count() == 1
+        && batch.plan().job() == JOB
+        && matches!(batch.find(0), Some(row) if row == ROW.as_slice())
 }
 
 /// The same of the bytes, under a plan of another job.
-fn told_of_bytes(alloc: Global) -> Result<(BatchName, u32, u32, [bool; 2]), Fail> {
-    let batch = Batch::decode(alloc, &plan([9; 32])?, &BYTES)?;
-    Ok(told_of_one(&batch))
+fn bytes_are_told(alloc: Global) -> Result<bool, BatchError> {
+    match plan([9; 32]) {
+        Ok(plan) => Ok(tells_one(&Batch::decode(alloc, &plan, &BYTES)?)),
+        Err(_) => Ok(false),
+    }
 }
 
 #[test]
-fn batch_is_read(rt: HostRuntime) -> Result<(), Fail> {
-    let told = told_of_bytes(rt.alloc())?;
-    assert_eq!(rt; told, (NAME, 2, 1, [true, true]));
-    Ok(())
+fn batch_is_read(rt: HostRuntime) {
+    assert_eq!(rt; bytes_are_told(rt.alloc()), Ok(true));
 }
 
 /// How many rows bytes have, or why they are no batch.
@@ -212,106 +193,102 @@ fn first_not_answered(alloc: Global, plan: &Plan) -> Option<BatchError> {
     None
 }
 
-#[test]
-fn each_check_refuses(rt: HostRuntime) -> Result<(), Fail> {
-    let plan = plan(JOB)?;
-    assert_eq!(rt; first_not_answered(rt.alloc(), &plan), None);
-    Ok(())
-}
-
 /// Bytes are read, and written again as they were.
 fn is_kept(alloc: Global, plan: &Plan, bytes: &[u8]) -> Result<bool, BatchError> {
     let again = Batch::decode(alloc, plan, bytes)?.encode(alloc)?;
     Ok(again.as_slice() == bytes)
 }
 
-/// Bytes with one changed are read and kept.
-fn one_is_kept(alloc: Global, place: usize, byte: u8) -> Result<bool, Fail> {
-    Ok(is_kept(alloc, &plan(JOB)?, &with(&[(place, byte)]))?)
-}
+/// Places and bytes there that pass: limits themselves.
+static LIMITS: [(usize, u8); 4] = [(8, 0x10), (57, 2), (72, 33), (13, 0)];
 
-#[test]
-fn limits_themselves_pass(rt: HostRuntime) -> Result<(), Fail> {
-    for (place, byte) in [(8, 0x10), (57, 2), (72, 33), (13, 0)] {
-        let is_kept = one_is_kept(rt.alloc(), place, byte)?;
-        assert!(rt; is_kept, "byte {place}");
+/// The first place of that table where the bytes with that byte are not read and kept.
+fn first_not_kept(alloc: Global, plan: &Plan) -> Option<usize> {
+    for (place, byte) in &LIMITS {
+        if is_kept(alloc, plan, &with(&[(*place, *byte)])) != Ok(true) {
+            return Some(*place);
+        }
     }
-    Ok(())
+    None
 }
 
-/// The bytes, and some more.
-fn longer(alloc: Global, bytes: &[u8], more: &[u8]) -> Result<Vec<u8>, AllocError> {
-    let mut all = bytes.to_vec(alloc)?;
-    all.extend_from_slice(more)?;
-    Ok(all)
-}
-
-#[test]
-fn fewer_bytes_are_short(rt: HostRuntime) -> Result<(), Fail> {
-    let plan = plan(JOB)?;
+/// The first length to which the bytes are cut and not refused as short.
+fn first_not_short(alloc: Global, plan: &Plan) -> Option<usize> {
     for len in 0..74 {
-        assert_eq!(rt;
-            row_count(rt.alloc(), &plan, &BYTES[..len]),
-            Err(BatchError::Short)
-        );
+        if row_count(alloc, plan, &BYTES[..len]) != Err(BatchError::Short) {
+            return Some(len);
+        }
     }
-    Ok(())
+    None
 }
 
-/// How many rows are read of bytes and some more.
-fn rows_of_longer(
-    alloc: Global,
-    bytes: &[u8],
-    more: &[u8],
-) -> Result<Result<u32, BatchError>, Fail> {
-    let plan = plan(JOB)?;
-    let all = longer(alloc, bytes, more)?;
-    Ok(row_count(alloc, &plan, &all))
-}
-
-#[test]
-fn one_byte_more_is_trailing(rt: HostRuntime) -> Result<(), Fail> {
-    let rows = rows_of_longer(rt.alloc(), &BYTES, &[0])?;
-    assert_eq!(rt; rows, Err(BatchError::Trailing));
-    Ok(())
-}
-
-/// How many rows are read of bytes with a row of each of two vertices.
-fn rows_of_two(alloc: Global, first: u8, second: u8) -> Result<Result<u32, BatchError>, Fail> {
-    let rest = longer(alloc, &[0, 0, 0, second], &ROW)?;
-    rows_of_longer(alloc, &with(&[(53, 2), (57, first)]), &rest)
-}
-
-/// How many rows are read of two that ascend, of two that descend, and of two of one vertex.
-fn rows_of_pairs(alloc: Global) -> Result<[Result<u32, BatchError>; 3], Fail> {
-    Ok([
-        rows_of_two(alloc, 0, 2)?,
-        rows_of_two(alloc, 2, 0)?,
-        rows_of_two(alloc, 2, 2)?,
-    ])
+/// What is not as it must be: an error, a length that is short, and a limit that passes.
+fn first_otherwise(alloc: Global) -> Option<(Option<BatchError>, Option<usize>, Option<usize>)> {
+    match plan(JOB) {
+        Ok(plan) => Some((
+            first_not_answered(alloc, &plan),
+            first_not_short(alloc, &plan),
+            first_not_kept(alloc, &plan),
+        )),
+        Err(_) => None,
+    }
 }
 
 #[test]
-fn rows_ascend(rt: HostRuntime) -> Result<(), Fail> {
-    let rows = rows_of_pairs(rt.alloc())?;
+fn each_check_refuses(rt: HostRuntime) {
+    assert_eq!(rt; first_otherwise(rt.alloc()), Some((None, None, None)));
+}
+
+/// The bytes, and one more.
+fn one_more() -> [u8; 75] {
+    let mut all = [0u8; 75];
+    all[..74].copy_from_slice(&BYTES);
+    all
+}
+
+/// The bytes with a row of each of two vertices.
+fn of_two(first: u8, second: u8) -> [u8; 94] {
+    let mut all = [0u8; 94];
+    all[..74].copy_from_slice(&with(&[(53, 2), (57, first)]));
+    all[77] = second;
+    all[78..].copy_from_slice(&ROW);
+    all
+}
+
+/// How many rows are read of one byte more than the batch has; of two rows that ascend, that descend, and that are of one
+/// vertex; and of a batch from partition 1 to itself that has none.
+fn row_counts(alloc: Global, plan: &Plan) -> [Result<u32, BatchError>; 5] {
+    let own = with(&[(11, 1), (49, 1), (53, 0)]);
+    let (header, _) = own.split_at(54);
+    [
+        row_count(alloc, plan, &one_more()),
+        row_count(alloc, plan, &of_two(0, 2)),
+        row_count(alloc, plan, &of_two(2, 0)),
+        row_count(alloc, plan, &of_two(2, 2)),
+        row_count(alloc, plan, header),
+    ]
+}
+
+/// The same under the plan.
+fn rows_of_plan(alloc: Global) -> Option<[Result<u32, BatchError>; 5]> {
+    match plan(JOB) {
+        Ok(plan) => Some(row_counts(alloc, &plan)),
+        Err(_) => None,
+    }
+}
+
+#[test]
+fn rows_ascend_and_end(rt: HostRuntime) {
     assert_eq!(rt;
-        rows,
-        [Ok(2), Err(BatchError::Order), Err(BatchError::Order)]
+        rows_of_plan(rt.alloc()),
+        Some([
+            Err(BatchError::Trailing),
+            Ok(2),
+            Err(BatchError::Order),
+            Err(BatchError::Order),
+            Ok(0)
+        ])
     );
-    Ok(())
-}
-
-/// How many rows are read of a batch from partition 1 to itself that has none.
-fn rows_to_its_own_source(alloc: Global) -> Result<Result<u32, BatchError>, Fail> {
-    let bytes = with(&[(11, 1), (49, 1), (53, 0)]);
-    let (header, _) = bytes.split_at(54);
-    Ok(row_count(alloc, &plan(JOB)?, header))
-}
-
-#[test]
-fn batch_to_its_own_source_is_a_batch(rt: HostRuntime) -> Result<(), Fail> {
-    assert_eq!(rt; rows_to_its_own_source(rt.alloc())?, Ok(0));
-    Ok(())
 }
 
 #[test]
@@ -321,11 +298,6 @@ fn laws_hold() {
     laws::batch_is_one();
     laws::spelling_has_length();
     laws::true_is_batch();
-}
-
-/// The text of an error.
-fn text(alloc: Global, error: BatchError) -> Result<String, Fail> {
-    Ok(format!(in alloc; "{error}")?)
 }
 
 static TEXTS: [(BatchError, &str); 11] = [
@@ -343,22 +315,24 @@ static TEXTS: [(BatchError, &str); 11] = [
 ];
 
 /// Whether an error has that text.
-fn has_text(alloc: Global, error: BatchError, wanted: &str) -> Result<bool, Fail> {
-    Ok(text(alloc, error)?.as_str() == wanted)
+fn has_text(alloc: Global, error: BatchError, wanted: &str) -> bool {
+    match format!(in alloc; "{error}") {
+        Ok(text) => text.as_str() == wanted,
+        Err(_) => false,
+    }
 }
 
 /// The first error of that table that has another text.
-fn first_of_another_text(alloc: Global) -> Result<Option<BatchError>, Fail> {
+fn first_of_another_text(alloc: Global) -> Option<BatchError> {
     for (error, wanted) in &TEXTS {
-        if !has_text(alloc, *error, wanted)? {
-            return Ok(Some(*error));
+        if !has_text(alloc, *error, wanted) {
+            return Some(*error);
         }
     }
-    Ok(None)
+    None
 }
 
 #[test]
-fn errors_have_texts(rt: HostRuntime) -> Result<(), Fail> {
-    assert_eq!(rt; first_of_another_text(rt.alloc())?, None);
-    Ok(())
+fn errors_have_texts(rt: HostRuntime) {
+    assert_eq!(rt; first_of_another_text(rt.alloc()), None);
 }

@@ -23,7 +23,7 @@ fn is_read_and_written(alloc: Global, plan: &Plan) -> Result<bool, BatchError> {
 
 // Whether a batch has just the row of vertex 0.
 fn has_one_row(batch: &Batch) -> bool {
-    batch.count() == 1 && batch.changed() == 2 && first_other(&batch.header()).is_none()
+    batch.count() == 1 && batch.changed() == 2 && has_header(batch)
 }
 
 // Whether a row is added to the batch: at once, or after a refusal that left it as it was.
