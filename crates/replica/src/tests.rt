@@ -25,10 +25,9 @@ use ball_model::{
 use batches::Batch;
 use edgelist::{Delimiter, EdgeLimits, Graph, Part, read_edges};
 use figures::Tally;
-use registers::{Join, Rows, reconcile};
+use registers::{Join, Rows, SourceMask, reconcile};
 use std::alloc::AllocError;
 use std::hash::RandomState;
-use std::mem;
 
 const ROW_A: [u8; 16] = [0, 0, 0, 0, 0, 0, 0, 0, 0, 0, 0, 0, 0, 0, 3, 0];
 

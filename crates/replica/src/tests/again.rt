@@ -72,30 +72,34 @@ static SAME: [Step; 2] = [Shows(0, 0), Shows(2, 0)];
 /// The two change places.
 static TURNED: [Step; 1] = [Swap(0, 2)];
 
-/// Joins two runs twice in one way.
-fn joined_twice(rt: &HostRuntime, case: &[&[Step]; 3], way: &[Step]) -> Option<(usize, usize)> {
+/// Whether two runs that are joined twice in one way are as they are to be.
+fn joined_twice(rt: &HostRuntime, case: &[&[Step]; 3], way: &[Step]) -> bool {
     let [begun, union, later] = *case;
-    play(
-        rt,
-        &[
-            begun, way, &KEEP, way, &SAME, union, later, &TURNED, union, later,
-        ],
-    )
+    let scripts = [
+        begun, way, &KEEP, way, &SAME, union, later, &TURNED, union, later,
+    ];
+    play(rt, &scripts).is_none()
 }
 
-/// The first case and way that do not come out, with the places of the script and of the step.
-fn joined_each_way(rt: &HostRuntime) -> Option<(usize, usize, (usize, usize))> {
-    for i in 0..CASES.len() {
-        for k in 0..WAYS.len() {
-            if let Some(failure) = joined_twice(rt, &CASES[i], WAYS[k]) {
-                return Some((i, k, failure));
-            }
-        }
+/// Whether they are in each way.
+fn joined_each_way(rt: &HostRuntime, case: &[&[Step]; 3]) -> bool {
+    let mut all = true;
+    for way in &WAYS {
+        all &= joined_twice(rt, case, way);
     }
-    None
+    all
+}
+
+/// Whether it is so in each case.
+fn all_joined(rt: &HostRuntime) -> bool {
+    let mut all = true;
+    for case in &CASES {
+        all &= joined_each_way(rt, case);
+    }
+    all
 }
 
 #[test]
 fn joins_twice(rt: HostRuntime) {
-    assert_eq!(rt; joined_each_way(&rt), None);
+    assert!(rt; all_joined(&rt));
 }

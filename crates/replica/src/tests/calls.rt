@@ -20,7 +20,10 @@ fn answer(
     batch: Option<Batch>,
 ) -> Option<Result<Taken, TakeError>> {
     let batch = Arc::new(rt.alloc(), batch?).ok()?;
-    Some(all.get_mut(to)?.take(batch))
+    match all.get_mut(to) {
+        Some(replica) => Some(replica.take(batch)),
+        None => None,
+    }
 }
 
 /// The answer of the replica at a place to what another one tells a partition.
@@ -105,11 +108,6 @@ pub fn tells(
     Some(told(&batch) == wanted)
 }
 
-/// The bytes of what the replica at a place tells a partition.
-pub fn written(rt: &HostRuntime, all: &[Replica], from: usize, partition: u16) -> Option<Vec<u8>> {
-    sent(rt, all, from, partition)?.encode(rt.alloc()).ok()
-}
-
 /// Whether these are those bytes.
 pub fn writes(
     rt: &HostRuntime,
@@ -118,8 +116,11 @@ pub fn writes(
     partition: u16,
     wanted: &[u8],
 ) -> Option<bool> {
-    let bytes = written(rt, all, from, partition)?;
-    Some(bytes.as_slice() == wanted)
+    let batch = sent(rt, all, from, partition)?;
+    match batch.encode(rt.alloc()) {
+        Ok(bytes) => Some(bytes.as_slice() == wanted),
+        Err(_) => None,
+    }
 }
 
 /// A batch with no rows, of that superstep, source and target, under the plan of the replica at a place.
@@ -150,30 +151,4 @@ pub fn answer_to_bare(
 ) -> Option<Result<Taken, TakeError>> {
     let batch = bare(rt, all, place, name);
     answer(rt, all, place, batch)
-}
-
-/// Each register of the row of a batch becomes 33, the greatest rank.
-fn raise_registers(bytes: &mut [u8]) {
-    for i in 58..bytes.len() {
-        bytes[i] = 33;
-    }
-}
-
-/// What the replica at a place tells partition 0, but with 33 in each register.
-fn untrue(rt: &HostRuntime, all: &[Replica], from: usize) -> Option<Batch> {
-    let plan = all.get(from)?.plan();
-    let mut bytes = written(rt, all, from, 0)?;
-    raise_registers(&mut bytes);
-    Batch::decode(rt.alloc(), plan, &bytes).ok()
-}
-
-/// The answer of the replica at a place to it.
-pub fn answer_to_untrue(
-    rt: &HostRuntime,
-    all: &mut [Replica],
-    from: usize,
-    to: usize,
-) -> Option<Result<Taken, TakeError>> {
-    let batch = untrue(rt, all, from);
-    answer(rt, all, to, batch)
 }

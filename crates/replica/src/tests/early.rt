@@ -1,4 +1,4 @@
-//! Batches that come early, are not true, or are not for the replica.
+//! Batches that come early, or are not for the replica.
 
 use super::facts::Fact::*;
 use super::jobs::{Job, TWO_EDGES};
@@ -32,27 +32,6 @@ const AHEAD: [Step; 22] = [
     Close(0, Ok(2)),
     Close(1, Ok(2)),
     See(0, Row(2, ROW_ABC)),
-];
-
-/// Registers of 33 are closed over: 16 of them are estimated as 0.673 * 16 * 2^33.
-const UNTRUE: [Step; 7] = [
-    Add(TWO_EDGES),
-    Untrue(1, 0, Ok(Taken::New)),
-    Close(0, Ok(1)),
-    See(0, Row(0, ROW_A)),
-    See(0, Row(2, [33; 16])),
-    See(
-        0,
-        Figures(
-            2,
-            (
-                92_496_415_686_656_000,
-                92_496_415_675_358_427,
-                92_496_415_675_358_427,
-            ),
-        ),
-    ),
-    See(0, Sums(&[22_688_515, 92_496_415_698_046_942])),
 ];
 
 /// What is kept is told by superstep, then by source, and without the batch of the replica's own superstep; a snapshot
@@ -96,7 +75,7 @@ const REFUSED: [Step; 12] = [
     Bare((3, 1, 0), 0, Ok(Taken::New)),
 ];
 
-static CASES: [&[Step]; 4] = [&AHEAD, &UNTRUE, &LATER, &REFUSED];
+static CASES: [&[Step]; 3] = [&AHEAD, &LATER, &REFUSED];
 
 #[test]
 fn batches_out_of_turn(rt: HostRuntime) {

@@ -1,6 +1,6 @@
 //! What a replica is to tell.
 
-use super::shown::figures;
+use super::shown::vertex_of;
 use super::*;
 
 /// What a replica tells.
@@ -46,8 +46,8 @@ fn owned(replica: &Replica) -> [bool; 5] {
 fn is_settled(replica: &Replica) -> bool {
     let mut same = true;
     for x in 0..4 {
-        if replica.owns(x) {
-            same &= replica.accumulated(x) == replica.row(x);
+        if let Some((row, accumulated, _, _)) = vertex_of(replica, x) {
+            same &= accumulated == row;
         }
     }
     same
@@ -78,16 +78,28 @@ fn keeps(replica: &Replica, wanted: &[(u32, u16)]) -> bool {
     same
 }
 
+/// Whether a replica tells this of a vertex, which it owns.
+fn is_told_of(replica: &Replica, x: u32, fact: &Fact) -> bool {
+    let Some((row, accumulated, figures, changed)) = vertex_of(replica, x) else {
+        return false;
+    };
+    match fact {
+        Fact::Row(_, wanted) => row == wanted.as_slice(),
+        Fact::Accumulated(_, wanted) => accumulated == wanted.as_slice(),
+        Fact::Figures(_, wanted) => figures == *wanted,
+        Fact::Changed(_, wanted) => changed == *wanted,
+        _ => false,
+    }
+}
+
 /// Whether a replica tells this.
 pub fn is_told(replica: &Replica, fact: &Fact) -> bool {
     match fact {
         Fact::Owns(wanted) => owned(replica) == *wanted,
-        Fact::Row(x, wanted) => replica.owns(*x) && replica.row(*x) == wanted.as_slice(),
-        Fact::Accumulated(x, wanted) => {
-            replica.owns(*x) && replica.accumulated(*x) == wanted.as_slice()
-        }
-        Fact::Figures(x, wanted) => replica.owns(*x) && figures(replica.tally(*x)) == *wanted,
-        Fact::Changed(x, wanted) => replica.owns(*x) && replica.changed(*x) == *wanted,
+        Fact::Row(x, _) => is_told_of(replica, *x, fact),
+        Fact::Accumulated(x, _) => is_told_of(replica, *x, fact),
+        Fact::Figures(x, _) => is_told_of(replica, *x, fact),
+        Fact::Changed(x, _) => is_told_of(replica, *x, fact),
         Fact::Sums(wanted) => replica.sums() == *wanted,
         Fact::IsSettled => is_settled(replica),
         Fact::Superstep(wanted) => replica.superstep() == *wanted,

@@ -1,6 +1,6 @@
 //! Replicas of small jobs, at 16 registers.
 
-ghost use Rattle.std.specs.Prelude.{◌≡◌};
+ghost use Rattle.std.specs.Prelude.{◌≡◌, ◌<◌};
 ghost use Rattle.ball_model.specs.Job.{digest_of};
 
 use super::*;
@@ -26,25 +26,23 @@ pub const TWO_EDGES: Job = Job {
     limit: 4096,
 };
 
-/// Counts only the vertices of a list, where there is one.
-fn count(rt: &HostRuntime, graph: &mut Graph, list: Option<&[u8]>) -> Option<()> {
-    match list {
-        Some(list) => graph.count_only(rt.alloc(), Delimiter::Tab, list).ok(),
-        None => Some(()),
-    }
-}
-
-/// The graph of a job.
-fn graph(rt: &HostRuntime, job: &Job) -> Option<Graph> {
+/// The graph of an edge list with tabs.
+fn graph(rt: &HostRuntime, text: &[u8]) -> Option<Graph> {
     let limits = EdgeLimits {
         vertices: 100,
         edges: 100,
     };
     let state = RandomState::new(rt).ok()?;
-    let mut reader = CountingReader::new(job.text);
-    let mut graph = read_edges(rt.alloc(), state, &mut reader, Delimiter::Tab, limits).ok()?;
-    count(rt, &mut graph, job.counted)?;
-    Some(graph)
+    let mut reader = CountingReader::new(text);
+    read_edges(rt.alloc(), state, &mut reader, Delimiter::Tab, limits).ok()
+}
+
+/// Counts only the vertices of a list, where there is one.
+fn count(rt: &HostRuntime, graph: &mut Graph, list: Option<&[u8]>) -> bool {
+    match list {
+        Some(list) => graph.count_only(rt.alloc(), Delimiter::Tab, list).is_ok(),
+        None => true,
+    }
 }
 
 /// Adds a replica of a part.
@@ -54,33 +52,56 @@ fn add(rt: &HostRuntime, all: &mut Vec<Replica>, part: Part) -> Option<()> {
     all.push(replica).ok()
 }
 
-/// Adds a replica of each partition of a graph, by a plan of it.
-fn add_parts(rt: &HostRuntime, all: &mut Vec<Replica>, graph: &Graph, plan: &Plan) -> Option<()>
+/// Adds a replica of a partition of a graph, by a plan of it.
+fn add_part(rt: &HostRuntime, all: &mut Vec<Replica>, graph: &Graph, plan: &Plan, p: u16) -> bool
+    requires vertices { plan.now.vertices ≡ graph.now.graph.vertices }
+    requires digest { plan.now.job ≡ digest_of plan.now graph.now.graph }
+    requires partition { p < plan.now.parts }
+{
+    match graph.part(rt.alloc(), plan, p) {
+        Ok(part) => add(rt, all, part).is_some(),
+        Err(_) => false,
+    }
+}
+
+/// Adds a replica of each of its partitions.
+fn add_parts(rt: &HostRuntime, all: &mut Vec<Replica>, graph: &Graph, plan: &Plan) -> bool
     requires vertices { plan.now.vertices ≡ graph.now.graph.vertices }
     requires digest { plan.now.job ≡ digest_of plan.now graph.now.graph }
 {
+    let mut added = true;
     for p in 0..plan.parts() {
-        let part = graph.part(rt.alloc(), plan, p).ok()?;
-        add(rt, all, part)?;
+        added = added && add_part(rt, all, graph, plan, p);
     }
-    Some(())
+    added
 }
 
-/// Adds a replica of each partition of a graph, by the plan of a job.
-fn add_planned(rt: &HostRuntime, all: &mut Vec<Replica>, graph: &Graph, job: &Job) -> Option<()> {
+/// Adds a replica of each partition of a graph, by the plan of a job, whose vertices alone are counted.
+fn add_planned(rt: &HostRuntime, all: &mut Vec<Replica>, graph: &mut Graph, job: &Job) -> bool {
+    let counted = count(rt, graph, job.counted);
     let plan = if job.is_corrected {
         graph.corrected_plan(4, job.seed, job.parts, job.limit)
     } else {
         graph.plan(4, job.seed, job.parts, job.limit)
     };
-    add_parts(rt, all, graph, &plan.ok()?)
+    match plan {
+        Ok(plan) => counted && add_parts(rt, all, graph, &plan),
+        Err(_) => false,
+    }
+}
+
+/// Adds a replica of each partition of a job, where memory for all is granted.
+fn add_all(rt: &HostRuntime, all: &mut Vec<Replica>, job: &Job) -> bool {
+    match graph(rt, job.text) {
+        Some(mut graph) => add_planned(rt, all, &mut graph, job),
+        None => false,
+    }
 }
 
 /// Adds a replica of each partition of a job, or none: None where memory was refused.
 pub fn add_job(rt: &HostRuntime, all: &mut Vec<Replica>, job: &Job) -> Option<bool> {
     let count = all.len();
-    let graph = graph(rt, job)?;
-    if add_planned(rt, all, &graph, job).is_some() {
+    if add_all(rt, all, job) {
         return Some(true);
     }
     all.truncate(count);

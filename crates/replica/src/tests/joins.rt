@@ -2,8 +2,10 @@
 
 use super::facts::Fact::*;
 use super::jobs::{Job, TWO_EDGES};
+use super::rebuilt::REBUILT;
 use super::script::Step::{self, *};
-use super::script::play;
+use super::script::play_all;
+use super::snapshots::HELD_ON;
 use super::*;
 
 /// Two runs of two edges, by replicas 0 and 1, and 2 and 3. The first has partition 0 at superstep 1, with the batch of
@@ -63,19 +65,9 @@ const BEHIND_MERGES: [Step; 4] = [
 /// The one ahead merges that of the one behind.
 const AHEAD_MERGES: [Step; 3] = [Keep(0, None), Keep(2, None), Merge(0, 1, 0, Ok(()))];
 
-static RECOVERS_BEHIND: [&[Step]; 4] = [&APART, &BEHIND_MERGES, &RECOVERED, &GOES_ON];
+const RECOVERS_BEHIND: [&[Step]; 4] = [&APART, &BEHIND_MERGES, &RECOVERED, &GOES_ON];
 
-#[test]
-fn recovers_where_self_is_behind(rt: HostRuntime) {
-    assert_eq!(rt; play(&rt, &RECOVERS_BEHIND), None);
-}
-
-static RECOVERS_AHEAD: [&[Step]; 4] = [&APART, &AHEAD_MERGES, &RECOVERED, &GOES_ON];
-
-#[test]
-fn recovers_where_the_copy_is_behind(rt: HostRuntime) {
-    assert_eq!(rt; play(&rt, &RECOVERS_AHEAD), None);
-}
+const RECOVERS_AHEAD: [&[Step]; 4] = [&APART, &AHEAD_MERGES, &RECOVERED, &GOES_ON];
 
 /// The one behind joins the one ahead and takes its place.
 const BEHIND_JOINS: [Step; 2] = [Join(2, 0), Swap(0, 2)];
@@ -83,17 +75,9 @@ const BEHIND_JOINS: [Step; 2] = [Join(2, 0), Swap(0, 2)];
 /// The one ahead joins the one behind.
 const AHEAD_JOINS: [Step; 1] = [Join(0, 2)];
 
-static JOINS_OF_BEHIND: [&[Step]; 4] = [&APART, &BEHIND_JOINS, &RECOVERED, &GOES_ON];
+const JOINS_OF_BEHIND: [&[Step]; 4] = [&APART, &BEHIND_JOINS, &RECOVERED, &GOES_ON];
 
-static JOINS_OF_AHEAD: [&[Step]; 4] = [&APART, &AHEAD_JOINS, &RECOVERED, &GOES_ON];
-
-#[test]
-fn joins_where_one_is_further(rt: HostRuntime) {
-    assert_eq!(rt;
-        [play(&rt, &JOINS_OF_BEHIND), play(&rt, &JOINS_OF_AHEAD)],
-        [None; 2]
-    );
-}
+const JOINS_OF_AHEAD: [&[Step]; 4] = [&APART, &AHEAD_JOINS, &RECOVERED, &GOES_ON];
 
 /// Two runs of two edges that are over once they close, by replicas 0 and 1, and 2 and 3, and one at superstep 0. A
 /// snapshot tells what partition 0 has.
@@ -142,12 +126,7 @@ const JOINS_BEHIND: [Step; 6] = [
     Shows(4, 0),
 ];
 
-static ENDED: [&[Step]; 5] = [&OVER, &GIVE_BACK, &MERGES_OTHER, &GIVE_BACK, &JOINS_BEHIND];
-
-#[test]
-fn merges_and_joins_where_the_run_is_over(rt: HostRuntime) {
-    assert_eq!(rt; play(&rt, &ENDED), None);
-}
+const ENDED: [&[Step]; 5] = [&OVER, &GIVE_BACK, &MERGES_OTHER, &GIVE_BACK, &JOINS_BEHIND];
 
 /// Of partition 2, which owns vertex 2 alone, one has the batch of partition 0, the other that of partition 1.
 const EITHER: [Step; 6] = [
@@ -179,12 +158,7 @@ const BOTH: [Step; 10] = [
     See(2, Row(2, ROW_BC)),
 ];
 
-static EQUAL: [&[Step]; 2] = [&EITHER, &BOTH];
-
-#[test]
-fn merges_equal_supersteps_with_different_names(rt: HostRuntime) {
-    assert_eq!(rt; play(&rt, &EQUAL), None);
-}
+const EQUAL: [&[Step]; 2] = [&EITHER, &BOTH];
 
 /// Partition 0 of two edges holds its level at superstep 0, by the batch of partition 1. A snapshot tells what it has.
 pub const HELD: [Step; 6] = [
@@ -214,22 +188,12 @@ const OTHER_JOBS: [Step; 8] = [
     Merge(0, 3, 0, Err(MergeError::OtherJob)),
 ];
 
-static REFUSES_JOBS: [&[Step]; 2] = [&HELD, &OTHER_JOBS];
-
-#[test]
-fn refuses_a_snapshot_of_another_job(rt: HostRuntime) {
-    assert_eq!(rt; play(&rt, &REFUSES_JOBS), None);
-}
+const REFUSES_JOBS: [&[Step]; 2] = [&HELD, &OTHER_JOBS];
 
 /// It refuses one of another partition.
 const OTHER_PARTITION: [Step; 2] = [Keep(1, None), Merge(0, 1, 0, Err(MergeError::NotMine))];
 
-static REFUSES_PARTITION: [&[Step]; 2] = [&HELD, &OTHER_PARTITION];
-
-#[test]
-fn refuses_a_snapshot_of_another_partition(rt: HostRuntime) {
-    assert_eq!(rt; play(&rt, &REFUSES_PARTITION), None);
-}
+const REFUSES_PARTITION: [&[Step]; 2] = [&HELD, &OTHER_PARTITION];
 
 /// The replica goes on to superstep 1; its snapshot of superstep 0 does not.
 const STAYS: [Step; 4] = [
@@ -239,9 +203,26 @@ const STAYS: [Step; 4] = [
     IsFirst(0, 0),
 ];
 
-static SNAPSHOT: [&[Step]; 2] = [&HELD, &STAYS];
+const SNAPSHOT: [&[Step]; 2] = [&HELD, &STAYS];
+
+/// Scripts, each with replicas of its own: who recovers where it is behind or ahead, by a merge and by a join; runs that
+/// are over; equal supersteps with different names; snapshots of another job and of another partition, which are refused,
+/// and one that tells its content; and those of the other files.
+static CASES: [&[&[Step]]; 11] = [
+    &RECOVERS_BEHIND,
+    &RECOVERS_AHEAD,
+    &JOINS_OF_BEHIND,
+    &JOINS_OF_AHEAD,
+    &ENDED,
+    &EQUAL,
+    &REFUSES_JOBS,
+    &REFUSES_PARTITION,
+    &SNAPSHOT,
+    &HELD_ON,
+    &REBUILT,
+];
 
 #[test]
-fn snapshot_tells_its_content(rt: HostRuntime) {
-    assert_eq!(rt; play(&rt, &SNAPSHOT), None);
+fn merges_joins_and_snapshots(rt: HostRuntime) {
+    assert_eq!(rt; play_all(&rt, &CASES), None);
 }

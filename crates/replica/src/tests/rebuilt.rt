@@ -1,73 +1,47 @@
 //! Replicas that are made of what another one has.
 
+use super::calls::sent;
 use super::facts::Fact::*;
 use super::jobs::TWO_EDGES;
 use super::script::Step::{self, *};
-use super::script::play;
+use super::script::copied;
 use super::*;
 use crate::shown::copy_rows;
-
-/// A batch that is read from the bytes of this one.
-fn copied(rt: &HostRuntime, plan: &Plan, batch: &Batch) -> Option<Batch> {
-    let bytes = batch.encode(rt.alloc()).ok()?;
-    Batch::decode(rt.alloc(), plan, &bytes).ok()
-}
-
-/// The i-th of the batches of later supersteps, read from its bytes.
-fn copied_early(rt: &HostRuntime, snapshot: &Snapshot, i: u32) -> Option<Arc<Batch>> {
-    let batch = copied(rt, snapshot.plan(), snapshot.early(i)?)?;
-    Arc::new(rt.alloc(), batch).ok()
-}
-
-/// The one batch that is kept of later supersteps.
-fn one_early(rt: &HostRuntime, snapshot: &Snapshot) -> Option<Vec<Arc<Batch>>> {
-    let batch = copied_early(rt, snapshot, 0)?;
-    let mut early = Vec::new(rt.alloc());
-    early.push(batch).ok()?;
-    Some(early)
-}
 
 /// Copies of rows and of accumulators.
 fn copied_rows(rt: &HostRuntime, snapshot: &Snapshot) -> Option<(Rows, Rows)> {
     let rows = copy_rows(rt.alloc(), snapshot.progress.tables.rows()).ok()?;
-    let accumulated = copy_rows(rt.alloc(), snapshot.progress.accumulators()).ok()?;
-    Some((rows, accumulated))
+    match copy_rows(rt.alloc(), snapshot.progress.accumulators()) {
+        Ok(accumulated) => Some((rows, accumulated)),
+        Err(AllocError) => None,
+    }
 }
 
-/// Copies of marks, figures and sums.
-fn copied_figures(
-    rt: &HostRuntime,
-    snapshot: &Snapshot,
-) -> Option<(Vec<bool>, Vec<Tally>, Vec<u128>)> {
-    let tables = &snapshot.progress.tables;
-    let marks = Vec::from_slice(rt.alloc(), tables.marks()).ok()?;
-    let tallies = Vec::from_slice(rt.alloc(), tables.tallies()).ok()?;
-    let sums = Vec::from_slice(rt.alloc(), tables.sums()).ok()?;
-    Some((marks, tallies, sums))
-}
-
-/// All that a snapshot tells which keeps one batch of a later superstep.
-fn told_by(rt: &HostRuntime, snapshot: &Snapshot) -> Option<Saved> {
-    let early = one_early(rt, snapshot)?;
+/// The superstep, the rows and what was heard of a snapshot.
+fn saved_rows(rt: &HostRuntime, snapshot: &Snapshot) -> Option<Box<Saved>> {
     let (rows, accumulated) = copied_rows(rt, snapshot)?;
-    let (marks, tallies, sums) = copied_figures(rt, snapshot)?;
-    Some(Saved {
+    let saved = Saved {
         superstep: snapshot.superstep(),
         rows,
-        marks,
-        tallies,
-        sums,
+        marks: Vec::new(rt.alloc()),
+        tallies: Vec::new(rt.alloc()),
+        sums: Vec::new(rt.alloc()),
         heard: snapshot.heard(),
         heard_change: snapshot.heard_change(),
         accumulated,
-        early,
-    })
+        early: Vec::new(rt.alloc()),
+    };
+    Box::new(rt.alloc(), saved).ok()
 }
 
-/// All that a replica has which keeps one batch of a later superstep, and has heard one that raised a row.
-fn saved_of(rt: &HostRuntime, replica: &mut Replica) -> Option<Saved> {
-    let snapshot = replica.snapshot(rt.alloc()).ok()?;
-    told_by(rt, &snapshot)
+/// Adds the marks, figures and sums, and a batch of a later superstep.
+fn fill(rt: &HostRuntime, saved: &mut Saved, from: &Snapshot, early: Option<Batch>) -> Option<()> {
+    let early = Arc::new(rt.alloc(), early?).ok()?;
+    saved.early.push(early).ok()?;
+    let tables = &from.progress.tables;
+    saved.marks.extend_from_slice(tables.marks()).ok()?;
+    saved.tallies.extend_from_slice(tables.tallies()).ok()?;
+    saved.sums.extend_from_slice(tables.sums()).ok()
 }
 
 /// A replica that is made of it, where it fits the part.
@@ -79,12 +53,19 @@ fn rebuilt(rt: &HostRuntime, part: Arc<Part>, saved: Saved) -> Option<Box<Replic
     Box::new(rt.alloc(), replica).ok()
 }
 
-/// The replica at a place, made again.
+/// A replica that is made of what a snapshot tells. It keeps one batch of a later superstep, which partition 1 tells
+/// still.
+fn again_of(rt: &HostRuntime, all: &[Replica], from: &Snapshot) -> Option<Box<Replica>> {
+    let mut saved = saved_rows(rt, from)?;
+    fill(rt, &mut saved, from, sent(rt, all, 1, 0))?;
+    let part = Arc::try_clone(&from.progress.part).ok()?;
+    rebuilt(rt, part, Box::into_inner(saved))
+}
+
+/// The replica at a place, which is of partition 0, made again.
 fn again(rt: &HostRuntime, all: &mut [Replica], place: usize) -> Option<Box<Replica>> {
-    let replica = all.get_mut(place)?;
-    let part = Arc::try_clone(&replica.progress.part).ok()?;
-    let saved = saved_of(rt, replica)?;
-    rebuilt(rt, part, saved)
+    let snapshot = copied(rt, all, place)?;
+    again_of(rt, all, &snapshot)
 }
 
 /// Whether it is added: None where memory was refused.
@@ -128,9 +109,5 @@ const RUNS_ON: [Step; 18] = [
     Shows(2, 1),
 ];
 
-static REBUILT: [&[Step]; 2] = [&HEARS_AND_KEEPS, &RUNS_ON];
-
-#[test]
-fn replica_is_rebuilt(rt: HostRuntime) {
-    assert_eq!(rt; play(&rt, &REBUILT), None);
-}
+/// A replica is rebuilt.
+pub const REBUILT: [&[Step]; 2] = [&HEARS_AND_KEEPS, &RUNS_ON];

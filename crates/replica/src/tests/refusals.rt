@@ -6,7 +6,7 @@ use super::jobs::TWO_EDGES;
 use super::joins::{APART, GIVE_BACK, MERGES_OTHER, OVER, RECOVERED};
 use super::rebuilt::HEARS_AND_KEEPS;
 use super::script::Step::{self, *};
-use super::script::play;
+use super::script::play_all;
 use super::*;
 
 /// A new replica has the first row of two edges, and waits.
@@ -69,17 +69,7 @@ static CASES: [&[&[Step]]; 6] = [
     &[&OVER, &GIVE_BACK, &MERGES_OTHER],
 ];
 
-/// The first case that does not come out, with the places of the script and of the step.
-fn refused(rt: &HostRuntime) -> Option<(usize, (usize, usize))> {
-    for i in 0..CASES.len() {
-        if let Some(failure) = play(rt, CASES[i]) {
-            return Some((i, failure));
-        }
-    }
-    None
-}
-
 #[test]
 fn calls_where_memory_is_refused(rt: HostRuntime) {
-    assert_eq!(rt; refused(&rt), None);
+    assert_eq!(rt; play_all(&rt, &CASES), None);
 }

@@ -25,8 +25,6 @@ pub enum Step {
     Answer(usize, u16, usize, Result<Taken, TakeError>),
     /// A batch with no rows and of that superstep, source and target, given to the replica at a place, is answered so.
     Bare((u32, u16, u16), usize, Result<Taken, TakeError>),
-    /// What one replica tells another one, but with 33 in each register, is answered so.
-    Untrue(usize, usize, Result<Taken, TakeError>),
     /// The replicas from a place up to another one tell each other something new.
     Exchange(usize, usize),
     /// They do so, and then close their superstep.
@@ -37,7 +35,7 @@ pub enum Step {
     Tells(usize, u16, Told),
     /// What it tells a partition has these bytes.
     Writes(usize, u16, &'static [u8]),
-    /// What it tells partitions 1 and 2 over one table of so many bytes is this, and has the bytes of what is copied.
+    /// What it tells partitions 1 and 2 over one table of so many bytes is this.
     Shares(usize, [Told; 2], usize),
     /// Keeps a snapshot of a replica, which tells the same. Where memory is refused the replica is as it was, as the
     /// snapshot at another place tells.
@@ -75,7 +73,7 @@ struct World {
 }
 
 /// A snapshot of a replica, in a box: a function that owns a snapshot is checked much slower.
-fn copied(rt: &HostRuntime, all: &mut [Replica], place: usize) -> Option<Box<Snapshot>> {
+pub fn copied(rt: &HostRuntime, all: &mut [Replica], place: usize) -> Option<Box<Snapshot>> {
     let snapshot = all.get_mut(place)?.snapshot(rt.alloc()).ok()?;
     Box::new(rt.alloc(), snapshot).ok()
 }
@@ -194,9 +192,6 @@ fn comes_out(rt: &HostRuntime, world: &mut World, step: &Step) -> Option<bool> {
             is_answer(answer_to(rt, all, *from, *partition, *to), *wanted)
         }
         Step::Bare(name, to, wanted) => is_answer(answer_to_bare(rt, all, *to, *name), *wanted),
-        Step::Untrue(from, to, wanted) => {
-            is_answer(answer_to_untrue(rt, all, *from, *to), *wanted)
-        }
         Step::Exchange(first, end) => Some(exchange(rt, all, *first, *end)),
         Step::Round(first, end) => Some(round(rt, all, *first, *end)),
         Step::Close(place, wanted) => Some(closes(all, *place, *wanted)),
@@ -280,6 +275,17 @@ pub fn play_each(rt: &HostRuntime, scripts: &[&[Step]]) -> Option<(usize, usize)
     for i in 0..scripts.len() {
         if let Some((_, step)) = play(rt, &[scripts[i]]) {
             return Some((i, step));
+        }
+    }
+    None
+}
+
+/// Plays lists of scripts, each with replicas of its own: None where all come out, else the place of the first list that
+/// does not, with that of its script and of its step.
+pub fn play_all(rt: &HostRuntime, cases: &[&[&[Step]]]) -> Option<(usize, (usize, usize))> {
+    for i in 0..cases.len() {
+        if let Some(failure) = play(rt, cases[i]) {
+            return Some((i, failure));
         }
     }
     None

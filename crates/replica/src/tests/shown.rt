@@ -1,5 +1,7 @@
-//! Whether a replica tells in each reader what a snapshot does.
+//! Whether a replica tells in its readers what a snapshot does.
 
+use super::calls::told;
+use super::script::Told;
 use super::*;
 
 /// The figures of a tally.
@@ -7,123 +9,80 @@ pub fn figures(tally: Tally) -> (u64, u64, u128) {
     (tally.last, tally.harm, tally.dist)
 }
 
-/// Whether a replica tells of a vertex what a snapshot does.
-fn shows_vertex(replica: &Replica, snapshot: &Snapshot, x: u32) -> bool {
-    if !replica.owns(x) || !snapshot.owns(x) {
-        return replica.owns(x) == snapshot.owns(x);
+/// What is told of a vertex: its registers, those accumulated, its figures, and whether it changed.
+pub type Vertex<'a> = (&'a [u8], &'a [u8], (u64, u64, u128), bool);
+
+/// What is told of a vertex, where it is one of the partition.
+pub fn vertex_of<S: Shown>(shown: &S, x: u32) -> Option<Vertex<'_>> {
+    if !shown.owns(x) {
+        return None;
     }
-    replica.row(x) == snapshot.row(x)
-        && replica.accumulated(x) == snapshot.accumulated(x)
-        && replica.changed(x) == snapshot.changed(x)
-        && figures(replica.tally(x)) == figures(snapshot.tally(x))
+    let row = shown.row(x);
+    let accumulated = shown.accumulated(x);
+    Some((row, accumulated, figures(shown.tally(x)), shown.changed(x)))
 }
 
-/// Whether a replica tells of each of the first four vertices what a snapshot does.
-fn shows_vertices(replica: &Replica, snapshot: &Snapshot) -> bool {
-    let mut same = true;
-    for x in 0..4 {
-        same &= shows_vertex(replica, snapshot, x);
+/// What is told of a level: the plan, the partition, the superstep, the number of changed vertices, and the verdict.
+type Level = (Plan, u16, u32, u32, Option<Verdict>);
+
+/// What is told of the level.
+fn level_of<S: Shown>(shown: &S) -> Level {
+    let plan = *shown.plan();
+    let changed = shown.changed_count();
+    let verdict = shown.verdict();
+    (plan, shown.partition(), shown.superstep(), changed, verdict)
+}
+
+/// Which names of two partitions and six supersteps are held, a bit each.
+fn names_of<S: Shown>(shown: &S) -> u32 {
+    let target = shown.partition();
+    let mut names = 0;
+    for place in 0..12u32 {
+        let held = shown.holds(BatchName {
+            superstep: place / 2,
+            source: (place % 2) as u16,
+            target,
+        });
+        names = 2 * (names % 4096) + u32::from(held);
     }
-    same
+    names
 }
 
-/// Whether two tables have the same rows.
-fn has_same_rows(left: &Rows, right: &Rows) -> bool {
-    let mut same = left.len() == right.len();
-    for i in 0..left.len() {
-        same &= i < right.len() && left.row(i) == right.row(i);
-    }
-    same
+/// What is told of what was heard: the least source that is missing, whether a change is, the sources, and the names.
+type Heard = (Option<u16>, bool, SourceMask, u32);
+
+/// What is told of it.
+fn heard_of<S: Shown>(shown: &S) -> Heard {
+    let change = shown.heard_change();
+    (shown.missing(), change, shown.heard(), names_of(shown))
 }
 
-/// Whether two lists have the same figures.
-fn has_same_figures(left: &[Tally], right: &[Tally]) -> bool {
-    let mut same = left.len() == right.len();
-    for i in 0..left.len() {
-        same &= left.get(i).copied().map(figures) == right.get(i).copied().map(figures);
-    }
-    same
+/// The source of the i-th batch of a later superstep, and what it tells.
+pub fn early_of<S: Shown>(shown: &S, i: u32) -> Option<(u16, Told)> {
+    let batch = shown.early(i)?;
+    Some((batch.name().source, told(batch)))
 }
 
-/// Whether a replica tells in all rows, figures and sums what a snapshot does.
-fn shows_tables(replica: &Replica, snapshot: &Snapshot) -> bool {
-    has_same_rows(replica.rows(), snapshot.rows())
-        && has_same_figures(replica.tallies(), snapshot.tallies())
-        && replica.sums() == snapshot.sums()
-}
-
-/// Whether a replica holds of two partitions and six supersteps the names that a snapshot does.
-fn holds_names(replica: &Replica, snapshot: &Snapshot) -> bool {
-    let target = replica.partition();
-    let mut same = true;
-    for superstep in 0..6 {
-        for source in 0..2 {
-            let name = BatchName {
-                superstep,
-                source,
-                target,
-            };
-            same &= replica.holds(name) == snapshot.holds(name);
-        }
-    }
-    same
-}
-
-/// Whether two batches tell the same.
-fn tells_same(left: &Batch, right: &Batch) -> bool {
-    let mut same = left.plan() == right.plan()
-        && left.name() == right.name()
-        && left.changed() == right.changed()
-        && left.count() == right.count();
-    for k in 0..left.count() {
-        same &= right.find(left.id(k)) == Some(left.registers(k));
-    }
-    same
-}
-
-/// Whether there is the same batch, or none, in both places.
-fn is_same_early(left: Option<&Batch>, right: Option<&Batch>) -> bool {
-    match (left, right) {
-        (Some(left), Some(right)) => tells_same(left, right),
-        (None, None) => true,
-        _ => false,
-    }
-}
-
-/// Whether a replica keeps the batches of later supersteps that a snapshot does: of two partitions at most three.
-fn shows_early(replica: &Replica, snapshot: &Snapshot) -> bool {
+/// Whether a replica keeps the batches of later supersteps that a snapshot does (of two partitions at most three), and
+/// tells of the first five vertices what it does.
+fn shows_lists(replica: &Replica, snapshot: &Snapshot) -> bool {
     let mut same = replica.early_count() == snapshot.early_count();
-    for i in 0..4 {
-        same &= is_same_early(replica.early(i), snapshot.early(i));
+    for i in 0..5 {
+        same &= early_of(replica, i) == early_of(snapshot, i);
+        same &= vertex_of(replica, i) == vertex_of(snapshot, i);
     }
     same
 }
 
-/// Whether a replica tells of its level what a snapshot does.
-fn shows_level(replica: &Replica, snapshot: &Snapshot) -> bool {
-    replica.plan() == snapshot.plan()
-        && replica.partition() == snapshot.partition()
-        && replica.superstep() == snapshot.superstep()
-        && replica.changed_count() == snapshot.changed_count()
-        && replica.verdict() == snapshot.verdict()
-}
-
-/// Whether a replica tells of what it has heard what a snapshot does.
-fn shows_heard(replica: &Replica, snapshot: &Snapshot) -> bool {
-    replica.missing() == snapshot.missing()
-        && replica.heard_change() == snapshot.heard_change()
-        && replica.heard() == snapshot.heard()
-        && holds_names(replica, snapshot)
-}
-
-/// Whether each reader of a replica tells what that of a snapshot does: of its level, of what it has heard, of the
-/// batches that it keeps, of all rows, figures and sums, and of each vertex.
+/// Whether a replica tells what a snapshot does: of its level, of what it has heard, of the sums, of the batches that it
+/// keeps, and of each vertex.
 pub fn shows_all(replica: &Replica, snapshot: &Snapshot) -> bool {
-    shows_level(replica, snapshot)
-        && shows_heard(replica, snapshot)
-        && shows_early(replica, snapshot)
-        && shows_tables(replica, snapshot)
-        && shows_vertices(replica, snapshot)
+    let level = level_of(replica) == level_of(snapshot);
+    let heard = heard_of(replica) == heard_of(snapshot);
+    let sums = replica.sums() == snapshot.sums();
+    let rows = replica.rows().len() == snapshot.rows().len();
+    let tallies = replica.tallies().len() == snapshot.tallies().len();
+    level & heard & sums & rows & tallies & shows_lists(replica, snapshot)
 }
 
 /// Whether a snapshot is of superstep 0 of partition 0 by this plan, and has the batch of partition 1.
@@ -133,15 +92,11 @@ pub fn is_first_of(plan: &Plan, snapshot: &Snapshot) -> bool {
         source: 1,
         target: 0,
     };
-    let early = BatchName {
+    let early = snapshot.holds(BatchName {
         superstep: 1,
         ..name
-    };
-    let elsewhere = BatchName { target: 1, ..name };
-    snapshot.plan() == plan
-        && snapshot.partition() == 0
-        && snapshot.superstep() == 0
-        && snapshot.holds(name)
-        && !snapshot.holds(early)
-        && !snapshot.holds(elsewhere)
+    });
+    let elsewhere = snapshot.holds(BatchName { target: 1, ..name });
+    let is_first = snapshot.partition() == 0 && snapshot.superstep() == 0;
+    *snapshot.plan() == *plan && is_first && snapshot.holds(name) & !early & !elsewhere
 }

@@ -9,10 +9,10 @@ fn both(all: &mut [Replica], left: usize, right: usize) -> Option<(&mut Replica,
         return None;
     }
     let (front, back) = all.split_at_mut(middle);
-    if left < right {
-        Some((front.get_mut(left)?, back.first_mut()?))
-    } else {
-        Some((back.first_mut()?, front.get_mut(right)?))
+    match (front.get_mut(left.min(right)), back.first_mut()) {
+        (Some(lower), Some(upper)) if left < right => Some((lower, upper)),
+        (Some(lower), Some(upper)) => Some((upper, lower)),
+        _ => None,
     }
 }
 
@@ -63,13 +63,11 @@ pub fn reconciles(
 
 /// Whether two replicas change places.
 pub fn swaps(all: &mut [Replica], left: usize, right: usize) -> bool {
-    match both(all, left, right) {
-        Some((left, right)) => {
-            mem::swap(left, right);
-            true
-        }
-        None => false,
+    let both = left < all.len() && right < all.len();
+    if both {
+        all.swap(left, right);
     }
+    both
 }
 
 /// Whether there is a replica, which gives back the memory that it needs no more.
