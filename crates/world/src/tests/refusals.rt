@@ -15,6 +15,9 @@ use replica::{Replica, Shown};
 use std::alloc::{AllocGlobal, Global};
 use std::hash::RandomState;
 
+// The scripts that are tried.
+static TRIED: [Worked; 3] = [COPIED, RESTARTED, THREE_PARTITIONS];
+
 // A mark with one number more.
 fn marked(mark: u64, value: u64) -> u64 {
     mark.wrapping_mul(1_099_511_628_211).wrapping_add(value)
@@ -160,10 +163,18 @@ fn goes_on_once(rt: &HostRuntime, worked: &Worked) -> bool {
     goes_on(rt, worked).or(goes_on(rt, worked)) == Some(true)
 }
 
+// Whether those of each script are.
+fn all_go_on(rt: &HostRuntime) -> bool {
+    let mut right = true;
+    for worked in &TRIED {
+        right &= goes_on_once(rt, worked);
+    }
+    right
+}
+
 #[test]
 fn events_whose_memory_is_refused(rt: HostRuntime) {
-    let right = goes_on_once(&rt, &COPIED) && goes_on_once(&rt, &THREE_PARTITIONS);
-    assert!(rt; right && goes_on_once(&rt, &RESTARTED));
+    assert!(rt; all_go_on(&rt));
 }
 
 // A replay of a beginning of a script: what it told, how much it wrote, and whether that is a beginning of the answers.
@@ -238,7 +249,7 @@ fn is_whole(rt: &HostRuntime, worked: &Worked) -> bool {
 
 #[test]
 fn replays_whose_memory_is_refused(rt: HostRuntime) {
-    assert!(rt; is_whole(&rt, &COPIED) && is_whole(&rt, &RESTARTED));
+    assert!(rt; is_whole(&rt, &TRIED[0]) && is_whole(&rt, &TRIED[1]));
 }
 
 // Whether a writer that fails at a call has what was written before: nothing at the first, and not all.
@@ -267,7 +278,7 @@ fn stops_at_each(rt: &HostRuntime, worked: &Worked, calls: u64) -> bool {
 // The answers are 24 lines.
 #[test]
 fn writers_that_fail_at_a_call(rt: HostRuntime) {
-    assert!(rt; stops_at_each(&rt, &COPIED, 24));
+    assert!(rt; stops_at_each(&rt, &TRIED[0], 24));
 }
 
 // Whether a script that is cut after so many bytes has the answers of its lines, or ends in a line that is no command:
@@ -294,5 +305,5 @@ fn is_cut_anywhere(rt: &HostRuntime, worked: &Worked) -> bool {
 
 #[test]
 fn scripts_that_are_cut(rt: HostRuntime) {
-    assert!(rt; is_cut_anywhere(&rt, &COPIED));
+    assert!(rt; is_cut_anywhere(&rt, &TRIED[0]));
 }

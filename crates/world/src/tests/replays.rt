@@ -60,7 +60,18 @@ fn is_worked(rt: &HostRuntime, worked: &Worked) -> bool {
     replayed(rt, worked, 4096) == Some((worked.told, true))
 }
 
-static EARLY_BATCH: Worked = Worked {
+// The place of the first of these that does not.
+fn first_failure(rt: &HostRuntime, all: &[Worked]) -> Option<usize> {
+    for i in 0..all.len() {
+        if !is_worked(rt, &all[i]) {
+            return Some(i);
+        }
+    }
+    None
+}
+
+// A batch of superstep 1 comes before that of superstep 0.
+const EARLY_BATCH: Worked = Worked {
     edges: TWO_EDGES,
     counted: None,
     parts: 2,
@@ -93,13 +104,8 @@ closed 2
 ",
 };
 
-// A batch of superstep 1 comes before that of superstep 0.
-#[test]
-fn early_batch(rt: HostRuntime) {
-    assert!(rt; is_worked(&rt, &EARLY_BATCH));
-}
-
-static REPEATED_BATCH: Worked = Worked {
+// A batch comes three times, and once more after its superstep; and each refusal.
+const REPEATED_BATCH: Worked = Worked {
     edges: TWO_EDGES,
     counted: None,
     parts: 2,
@@ -134,13 +140,8 @@ refused no-node
 ",
 };
 
-// A batch comes three times, and once more after its superstep; and each refusal.
-#[test]
-fn repeated_batch(rt: HostRuntime) {
-    assert!(rt; is_worked(&rt, &REPEATED_BATCH));
-}
-
-static WINDOW_EDGE: Worked = Worked {
+// A standby takes batches of three supersteps ahead, and none of four.
+const WINDOW_EDGE: Worked = Worked {
     edges: FOUR_EDGES,
     counted: None,
     parts: 2,
@@ -204,13 +205,8 @@ row 3 11.115354 0.000000 0.000000 00000000000000000000000000000001
 ",
 };
 
-// A standby takes batches of three supersteps ahead, and none of four.
-#[test]
-fn window_edge(rt: HostRuntime) {
-    assert!(rt; is_worked(&rt, &WINDOW_EDGE));
-}
-
-static CHECKPOINTED: Worked = Worked {
+// A node goes back to what it kept, and sends the same again.
+const CHECKPOINTED: Worked = Worked {
     edges: TWO_EDGES,
     counted: None,
     parts: 2,
@@ -254,13 +250,8 @@ closed 2
 ",
 };
 
-// A node goes back to what it kept, and sends the same again.
-#[test]
-fn restart_from_a_checkpoint(rt: HostRuntime) {
-    assert!(rt; is_worked(&rt, &CHECKPOINTED));
-}
-
-pub(crate) static COPIED: Worked = Worked {
+// A standby takes over copies of the other replica, the later and the earlier.
+pub(crate) const COPIED: Worked = Worked {
     edges: TWO_EDGES,
     counted: None,
     parts: 2,
@@ -316,13 +307,8 @@ closed 3
 ",
 };
 
-// A standby takes over copies of the other replica, the later and the earlier.
-#[test]
-fn recovery_from_copies(rt: HostRuntime) {
-    assert!(rt; is_worked(&rt, &COPIED));
-}
-
-pub(crate) static THREE_PARTITIONS: Worked = Worked {
+// Two replicas hold a batch each, and one takes over the other.
+pub(crate) const THREE_PARTITIONS: Worked = Worked {
     edges: TWO_EDGES,
     counted: None,
     parts: 3,
@@ -349,13 +335,8 @@ row 2 11.680542 0.382969 0.382969 02000000000001000000000000000000
 ",
 };
 
-// Two replicas hold a batch each, and one takes over the other.
-#[test]
-fn three_partitions(rt: HostRuntime) {
-    assert!(rt; is_worked(&rt, &THREE_PARTITIONS));
-}
-
-pub(crate) static RESTARTED: Worked = Worked {
+// A node keeps what it holds of later supersteps too.
+pub(crate) const RESTARTED: Worked = Worked {
     edges: FOUR_EDGES,
     counted: None,
     parts: 2,
@@ -429,13 +410,8 @@ known
 ",
 };
 
-// A node keeps what it holds of later supersteps too.
-#[test]
-fn restart_with_held_names(rt: HostRuntime) {
-    assert!(rt; is_worked(&rt, &RESTARTED));
-}
-
-static LONE_VERTEX: Worked = Worked {
+// One vertex in one partition.
+const LONE_VERTEX: Worked = Worked {
     edges: b"x\n",
     counted: None,
     parts: 1,
@@ -454,12 +430,6 @@ row 0 11.390942 0.000000 0.000000 00000000000000000000000000000300
 finished
 ",
 };
-
-// One vertex in one partition.
-#[test]
-fn lone_replay(rt: HostRuntime) {
-    assert!(rt; is_worked(&rt, &LONE_VERTEX));
-}
 
 // Scripts, each with the number of its first line that is no command.
 static NO_COMMANDS: [(&[u8], u64); 9] = [
@@ -488,15 +458,25 @@ fn names_line(rt: &HostRuntime, script: &'static [u8], line: u64) -> bool {
     is_worked(rt, &worked)
 }
 
+// The place of the first of them that is not told so.
+fn first_untold(rt: &HostRuntime) -> Option<usize> {
+    for i in 0..NO_COMMANDS.len() {
+        let (script, line) = NO_COMMANDS[i];
+        if !names_line(rt, script, line) {
+            return Some(i);
+        }
+    }
+    None
+}
+
 // A line that is no command is named, and nothing is written.
 #[test]
 fn lines_that_are_no_commands(rt: HostRuntime) {
-    for (script, line) in &NO_COMMANDS {
-        assert!(rt; names_line(&rt, *script, *line), "line {line}");
-    }
+    assert_eq!(rt; first_untold(&rt), None);
 }
 
-static SKIPPED: Worked = Worked {
+// Comments, empty lines, a CR before an LF, and a last line without its end.
+const SKIPPED: Worked = Worked {
     edges: TWO_EDGES,
     counted: None,
     parts: 2,
@@ -505,12 +485,6 @@ static SKIPPED: Worked = Worked {
     told: Ok(()),
     answers: b"refused no-node\nwaiting 0\n",
 };
-
-// Comments, empty lines, a CR before an LF, and a last line without its end.
-#[test]
-fn lines_that_are_skipped(rt: HostRuntime) {
-    assert!(rt; is_worked(&rt, &SKIPPED));
-}
 
 static FAULTS: [Worked; 5] = [
     Worked {
@@ -563,12 +537,11 @@ static FAULTS: [Worked; 5] = [
 // The first check that fails is told, and nothing is written.
 #[test]
 fn faults_in_order(rt: HostRuntime) {
-    for (i, worked) in FAULTS.iter().enumerate() {
-        assert!(rt; is_worked(&rt, worked), "fault {i}");
-    }
+    assert_eq!(rt; first_failure(&rt, &FAULTS), None);
 }
 
-static ONE_COUNTED: Worked = Worked {
+// Only the vertices of a list are counted.
+const ONE_COUNTED: Worked = Worked {
     edges: TWO_EDGES,
     counted: Some(b"a\n"),
     parts: 1,
@@ -583,25 +556,34 @@ row 2 10.768000 0.000000 0.000000 00000000000000000000000000000000
 ",
 };
 
-// Only the vertices of a list are counted.
+static SCRIPTS: [Worked; 10] = [
+    EARLY_BATCH,
+    REPEATED_BATCH,
+    WINDOW_EDGE,
+    CHECKPOINTED,
+    COPIED,
+    THREE_PARTITIONS,
+    RESTARTED,
+    LONE_VERTEX,
+    SKIPPED,
+    ONE_COUNTED,
+];
+
 #[test]
-fn one_counted_vertex(rt: HostRuntime) {
-    assert!(rt; is_worked(&rt, &ONE_COUNTED));
+fn worked_scripts(rt: HostRuntime) {
+    assert_eq!(rt; first_failure(&rt, &SCRIPTS), None);
 }
+
+static FULL: Worked = Worked {
+    told: Err(ReplayError::Write),
+    answers: b"sent 0 0 0 1 2 1\nsen",
+    ..EARLY_BATCH
+};
 
 // A writer that is full: the line before it was written, and the next one as far as there was room.
 #[test]
 fn full_writer(rt: HostRuntime) {
-    let worked = Worked {
-        told: Err(ReplayError::Write),
-        answers: b"sent 0 0 0 1 2 1\nsen",
-        edges: TWO_EDGES,
-        counted: None,
-        parts: 2,
-        replicas: 1,
-        script: EARLY_BATCH.script,
-    };
-    assert!(rt; replayed(&rt, &worked, 20) == Some((worked.told, true)));
+    assert!(rt; replayed(&rt, &FULL, 20) == Some((FULL.told, true)));
 }
 
 static TEXTS: [(ReplayError, &str); 9] = [
@@ -640,9 +622,16 @@ fn prints(rt: &HostRuntime, error: ReplayError, text: &str) -> Option<bool> {
     Some(told.as_str() == text)
 }
 
+// Whether each does.
+fn all_print(rt: &HostRuntime) -> bool {
+    let mut all = true;
+    for (error, text) in &TEXTS {
+        all &= prints(rt, *error, text) == Some(true);
+    }
+    all
+}
+
 #[test]
 fn texts_of_errors(rt: HostRuntime) {
-    for (error, text) in &TEXTS {
-        assert!(rt; prints(&rt, *error, text) == Some(true), "{text}");
-    }
+    assert!(rt; all_print(&rt));
 }

@@ -5,28 +5,16 @@
 ghost use Rattle.std.specs.Prelude.{◌≡◌, ◌<◌};
 ghost use Rattle.ball_model.specs.Job.{digest_of};
 
-use super::worlds::{B, TWO_EDGES, world_of};
+use super::worlds::{B, TWO_EDGES, graph_of, world_of};
 use super::*;
 use crate::node::Node;
-use ball_model::{CloseError, CountingReader, Plan, TakeError, Taken};
+use ball_model::{CloseError, Plan, TakeError, Taken};
 use batches::Batch;
-use edgelist::{Delimiter, EdgeLimits, Graph, read_edges};
+use edgelist::Graph;
 use replica::{Replica, Shown};
-use std::hash::RandomState;
 use std::sync::Arc;
 
 const ROW_A: [u8; 16] = [0, 0, 0, 0, 0, 0, 0, 0, 0, 0, 0, 0, 0, 0, 3, 0];
-
-/// The graph of two edges.
-fn two_edges(rt: &HostRuntime) -> Option<Graph> {
-    let limits = EdgeLimits {
-        vertices: 100,
-        edges: 100,
-    };
-    let state = RandomState::new(rt).ok()?;
-    let mut reader = CountingReader::new(TWO_EDGES);
-    read_edges(rt.alloc(), state, &mut reader, Delimiter::Tab, limits).ok()
-}
 
 /// The node of partition 0.
 fn node_of(rt: &HostRuntime, graph: &Graph, plan: &Plan) -> Option<Node>
@@ -41,7 +29,7 @@ fn node_of(rt: &HostRuntime, graph: &Graph, plan: &Plan) -> Option<Node>
 
 /// The node of partition 0 of the job.
 fn node(rt: &HostRuntime) -> Option<Node> {
-    let graph = two_edges(rt)?;
+    let graph = graph_of(rt, TWO_EDGES)?;
     let plan = graph.plan(4, 0, 2, 4096).ok()?;
     if plan.parts() == 0 {
         return None;
