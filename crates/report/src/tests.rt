@@ -69,7 +69,7 @@ vertex,g,14.981565,1.491561,0.067351,15.116905,9
 vertex,h,16.026790,1.470800,0.046512,11.947143,8
 ";
 
-const WORKED: [Worked; 4] = [
+static WORKED: [Worked; 4] = [
     (b"x\n", 1, LONE_VERTEX),
     (b"a\tb\nb\ta\n", 2, TWO_CYCLE),
     (b"x,y\tq\"\n", 2, QUOTED_LABELS),
@@ -174,6 +174,18 @@ fn run_to<H: AllocGlobal>(rt: &H, all: &mut [Replica], t: u32) -> Option<()> {
     Some(())
 }
 
+// Adds a replica of each partition by that number of parts and limit, and takes them on to superstep `t`.
+fn start_and_run<H: AllocGlobal>(
+    rt: &H,
+    graph: &Graph,
+    (parts, limit): (u16, u32),
+    t: u32,
+    all: &mut Vec<Replica>,
+) -> Option<()> {
+    add_replicas(rt, graph, parts, limit, all)?;
+    run_to(rt, all, t)
+}
+
 // A replica of each partition, at superstep `t`.
 fn replicas_at<H: AllocGlobal>(
     rt: &H,
@@ -183,9 +195,10 @@ fn replicas_at<H: AllocGlobal>(
     t: u32,
 ) -> Option<Vec<Replica>> {
     let mut all = Vec::new(rt.alloc());
-    add_replicas(rt, graph, parts, limit, &mut all)?;
-    run_to(rt, &mut all, t)?;
-    Some(all)
+    match start_and_run(rt, graph, (parts, limit), t, &mut all) {
+        Some(()) => Some(all),
+        None => None,
+    }
 }
 
 // Whether the replicas are of a plan of this graph.
@@ -238,27 +251,35 @@ fn is_report_of<H: AllocGlobal + Threads + Sync>(
     Some(reports(rt, graph, &all, wanted))
 }
 
+// Whether it is in one to five partitions.
+fn are_reports_of<H: AllocGlobal + Threads + Sync>(rt: &H, graph: &Graph, worked: &Worked) -> bool {
+    let mut all = true;
+    for parts in 1..6 {
+        all &= is_report_of(rt, graph, worked, parts) == Some(true);
+    }
+    all
+}
+
 // The same, of the graph of its edge list.
-fn is_worked<H: AllocGlobal + RandomSource + Threads + Sync>(
-    rt: &H,
-    worked: &Worked,
-    parts: u16,
-) -> Option<bool> {
-    let graph = graph_of(rt, worked.0)?;
-    is_report_of(rt, &graph, worked, parts)
+fn is_worked<H: AllocGlobal + RandomSource + Threads + Sync>(rt: &H, worked: &Worked) -> bool {
+    match graph_of(rt, worked.0) {
+        Some(graph) => are_reports_of(rt, &graph, worked),
+        None => false,
+    }
+}
+
+// Which of the worked reports come out.
+fn come_out<H: AllocGlobal + RandomSource + Threads + Sync>(rt: &H) -> [bool; 4] {
+    let mut all = [false; 4];
+    for i in 0..4 {
+        all[i] = is_worked(rt, &WORKED[i]);
+    }
+    all
 }
 
 #[test]
 fn worked_reports(rt: HostRuntime) {
-    for worked in &WORKED {
-        for parts in 1..=5 {
-            assert!(rt;
-                is_worked(&rt, worked, parts) == Some(true),
-                "to {} in {parts}",
-                worked.1
-            );
-        }
-    }
+    assert_eq!(rt; come_out(&rt), [true; 4]);
 }
 
 // Replicas of the two edges in two partitions, at superstep `t`.
@@ -296,7 +317,7 @@ fn ready_together<H: AllocGlobal + RandomSource>(
 
 // The limit and the superstep of the first and of the second replica, and whether they are ready together: of one plan
 // at the end they are; of two plans, before the end, or at two supersteps they are not.
-const TOGETHER: [((u32, u32), (u32, u32), bool); 6] = [
+static TOGETHER: [((u32, u32), (u32, u32), bool); 6] = [
     ((4096, 3), (4096, 3), true),
     ((3, 3), (3, 3), true),
     ((4096, 3), (3, 3), false),
@@ -305,11 +326,18 @@ const TOGETHER: [((u32, u32), (u32, u32), bool); 6] = [
     ((4096, 2), (4096, 3), false),
 ];
 
+// Whether each pair is as it is to be.
+fn all_together<H: AllocGlobal + RandomSource>(rt: &H) -> bool {
+    let mut all = true;
+    for (first, second, wanted) in &TOGETHER {
+        all &= ready_together(rt, *first, *second) == Some(*wanted);
+    }
+    all
+}
+
 #[test]
 fn ready_replicas(rt: HostRuntime) {
-    for (first, second, wanted) in &TOGETHER {
-        assert_eq!(rt; ready_together(&rt, *first, *second), Some(*wanted));
-    }
+    assert!(rt; all_together(&rt));
 }
 
 // Whether two replicas are ready, and the first alone, none, and both out of order.
@@ -329,7 +357,7 @@ fn two_in_order<H: AllocGlobal + RandomSource>(rt: &H) -> Option<(bool, bool, bo
 
 #[test]
 fn replicas_in_order(rt: HostRuntime) {
-    assert_eq!(rt; two_in_order(&rt), Some((true, false, false, false)));
+    assert!(rt; two_in_order(&rt) == Some((true, false, false, false)));
 }
 
 // A writer that takes all, a number of times, and then nothing.
@@ -375,17 +403,24 @@ fn two_edges_in<H: AllocGlobal + RandomSource + Threads + Sync>(
 }
 
 // The report goes out in two pieces, and a failure of either is told.
-const CALLS: [(u32, Result<(), ReportError>); 3] = [
+static CALLS: [(u32, Result<(), ReportError>); 3] = [
     (0, Err(ReportError::Write)),
     (1, Err(ReportError::Write)),
     (2, Ok(())),
 ];
 
+// Whether each is.
+fn all_told<H: AllocGlobal + RandomSource + Threads + Sync>(rt: &H) -> bool {
+    let mut all = true;
+    for (calls, wanted) in &CALLS {
+        all &= two_edges_in(rt, *calls) == Some(*wanted);
+    }
+    all
+}
+
 #[test]
 fn full_writers(rt: HostRuntime) {
-    for (calls, wanted) in &CALLS {
-        assert!(rt; two_edges_in(&rt, *calls) == Some(*wanted), "{calls} calls");
-    }
+    assert!(rt; all_told(&rt));
 }
 
 // An error prints as this text.
@@ -394,14 +429,21 @@ fn prints<H: AllocGlobal>(rt: &H, error: ReportError, text: &str) -> Option<bool
     Some(told.as_str() == text)
 }
 
-const TEXTS: [(ReportError, &str); 2] = [
+static TEXTS: [(ReportError, &str); 2] = [
     (ReportError::Memory, "out of memory"),
     (ReportError::Write, "the output cannot be written"),
 ];
 
+// Whether both print so.
+fn both_print<H: AllocGlobal>(rt: &H) -> bool {
+    let mut both = true;
+    for (error, text) in &TEXTS {
+        both &= prints(rt, *error, text) == Some(true);
+    }
+    both
+}
+
 #[test]
 fn texts_of_errors(rt: HostRuntime) {
-    for (error, text) in &TEXTS {
-        assert!(rt; prints(&rt, *error, text) == Some(true), "{text}");
-    }
+    assert!(rt; both_print(&rt));
 }

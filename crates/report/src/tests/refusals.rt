@@ -143,11 +143,11 @@ fn is_right_in<H: AllocGlobal + RandomSource + Threads + Sync>(
 
 #[test]
 fn writers_that_fail_or_are_slow(rt: HostRuntime) {
-    assert_eq!(rt; is_right_in(&rt, Trouble::Writers), Some(true));
+    assert!(rt; is_right_in(&rt, Trouble::Writers) == Some(true));
 }
 
 #[test]
 fn calls_where_memory_is_refused(rt: HostRuntime) {
     let right = is_right_in(&rt, Trouble::Memory).or(is_right_in(&rt, Trouble::Memory));
-    assert_eq!(rt; right, Some(true));
+    assert!(rt; right == Some(true));
 }
