@@ -9,13 +9,14 @@ mod runs;
 mod schedules;
 mod texts;
 
+ghost use Rattle.std.specs.Arc.{arc_value};
 ghost use Rattle.std.specs.Prelude.{◌≡◌, ◌<◌, ◌≤◌, IfSome};
-ghost use Rattle.ball_model.specs.Job.{IsJob, job_of};
+ghost use Rattle.ball_model.specs.Job.{IsJob, job_of, part_of};
 ghost use Rattle.board.specs.Seats.{least_entries, most_entries};
 
 use super::*;
 use ball_model::{CountingReader, NodeId, Plan, Verdict};
-use edgelist::{Delimiter, EdgeLimits, Graph, read_edges};
+use edgelist::{Delimiter, EdgeLimits, Graph, Part, read_edges};
 use replica::Shown;
 use std::alloc::{AllocGlobal, Global};
 use std::hash::RandomState;
@@ -26,29 +27,35 @@ use std::test::Fail;
 
 const TWO_EDGES: &[u8] = b"a\tb\nb\tc\n";
 
-/// The graph of two edges, and a plan of so many partitions.
-fn job<R: RandomSource>(rt: &R, alloc: Global, parts: u16) -> Option<(Graph, Plan)>
-    ensures { IfSome result (λ r. IsJob (job_of r.0.graph r.1)) }
-{
+/// The graph of two edges.
+fn two_edges<R: RandomSource>(rt: &R, alloc: Global) -> Option<Graph> {
     let limits = EdgeLimits {
         vertices: 100,
         edges: 100,
     };
     let state = RandomState::new(rt).ok()?;
     let mut reader = CountingReader::new(TWO_EDGES);
-    let graph = read_edges(alloc, state, &mut reader, Delimiter::Tab, limits).ok()?;
-    let plan = graph.plan(4, 0, parts, 4096).ok()?;
-    Some((graph, plan))
+    read_edges(alloc, state, &mut reader, Delimiter::Tab, limits).ok()
 }
 
 /// How a node ended, as plain data.
-#[derive(Clone, Copy, Debug, PartialEq, Eq)]
+#[derive(Clone, Copy, PartialEq, Eq)]
 enum Outcome {
     Done { superstep: u32, stable: bool },
     Lost { superstep: u32 },
     Starved { superstep: u32, source: u16 },
     Full,
     NoMemory,
+}
+
+/// A part of a graph by a plan, to be shared.
+fn shared_part(alloc: Global, graph: &Graph, plan: &Plan, p: u16) -> Option<Arc<Part>>
+    requires job { IsJob (job_of graph.now.graph plan.now) }
+    requires part { p < plan.now.parts }
+    ensures { IfSome result (λ shared. arc_value shared ≡ part_of (job_of graph.now.graph plan.now) p) }
+{
+    let part = graph.part(alloc, plan, p).ok()?;
+    Arc::new(alloc, part).ok()
 }
 
 /// How a node of the job ends that is alone at a board of so many entries.
@@ -66,37 +73,51 @@ fn alone<R: AllocGlobal + Wait, G: Gate>(
     requires entries { (least_entries ≤ entries) × (entries ≤ most_entries) }
 {
     let alloc = rt.alloc();
+    let Some(part) = shared_part(alloc, graph, plan, node.part) else {
+        return Outcome::NoMemory;
+    };
     let Ok(mut exchange) = MemoryExchange::open(alloc, graph, plan, entries) else {
         return Outcome::NoMemory;
     };
-    let Ok(part) = graph.part(alloc, plan, node.part) else {
-        return Outcome::NoMemory;
-    };
-    let Ok(part) = Arc::new(alloc, part) else {
-        return Outcome::NoMemory;
-    };
-    match run_node(rt, &mut exchange, gate, node, part, orders) {
-        Ok(end) => told(&end),
+    told(&run_node(rt, &mut exchange, gate, node, part, orders))
+}
+
+/// An end as plain data.
+fn told(end: &Result<NodeEnd, NodeError>) -> Outcome {
+    match end {
+        Ok(NodeEnd::Done(replica)) => Outcome::Done {
+            superstep: replica.superstep(),
+            stable: replica.verdict() == Some(Verdict::Stable),
+        },
+        Ok(NodeEnd::Lost { superstep }) => Outcome::Lost {
+            superstep: *superstep,
+        },
+        Ok(NodeEnd::Starved { superstep, source }) => Outcome::Starved {
+            superstep: *superstep,
+            source: *source,
+        },
         Err(NodeError::BookFull) => Outcome::Full,
         Err(NodeError::Memory) => Outcome::NoMemory,
     }
 }
 
-/// An end as plain data.
-fn told(end: &NodeEnd) -> Outcome {
-    match end {
-        NodeEnd::Done(replica) => Outcome::Done {
-            superstep: replica.superstep(),
-            stable: replica.verdict() == Some(Verdict::Stable),
-        },
-        NodeEnd::Lost { superstep } => Outcome::Lost {
-            superstep: *superstep,
-        },
-        NodeEnd::Starved { superstep, source } => Outcome::Starved {
-            superstep: *superstep,
-            source: *source,
-        },
+/// How a node of the graph in so many partitions ends that is alone.
+fn alone_in<R: AllocGlobal + Wait, G: Gate>(
+    rt: &R,
+    graph: &Graph,
+    node: NodeId,
+    parts: u16,
+    entries: u32,
+    orders: &NodeOrders,
+    gate: &G,
+) -> Option<Outcome>
+    requires entries { (least_entries ≤ entries) × (entries ≤ most_entries) }
+{
+    let plan = graph.plan(4, 0, parts, 4096).ok()?;
+    if node.part >= plan.parts() {
+        return None;
     }
+    Some(alone(rt, graph, &plan, node, entries, orders, gate))
 }
 
 /// How the one node of the two edges in one partition ends.
@@ -108,7 +129,6 @@ fn lone<R: AllocGlobal + RandomSource + Wait>(
 ) -> Option<Outcome>
     requires entries { (least_entries ≤ entries) × (entries ≤ most_entries) }
 {
-    let (graph, plan) = job(rt, rt.alloc(), 1)?;
     let node = NodeId {
         part: 0,
         replica: 0,
@@ -119,36 +139,42 @@ fn lone<R: AllocGlobal + RandomSource + Wait>(
         lose,
         restart,
     };
-    if node.part >= plan.parts() {
-        return None;
-    }
-    Some(alone(rt, &graph, &plan, node, entries, &orders, &OpenGate))
+    let graph = two_edges(rt, rt.alloc())?;
+    alone_in(rt, &graph, node, 1, entries, &orders, &OpenGate)
 }
 
-/// Whether a node that starts anew has two entries more than one that does not: what it recalls, and the snapshot that it
-/// keeps a second time. (Seven entries are the opening, four snapshots, and two calls that let batches go.)
-fn starts_anew<R: AllocGlobal + RandomSource + Wait>(rt: &R, done: Option<Outcome>) -> bool {
-    lone(rt, 6, None, None) == Some(Outcome::Full)
-        && lone(rt, 7, None, None) == done
-        && lone(rt, 8, None, Some(2)) == Some(Outcome::Full)
-        && lone(rt, 9, None, Some(2)) == done
+/// How a lone node ends that is not lost.
+const DONE: Outcome = Outcome::Done {
+    superstep: 3,
+    stable: true,
+};
+
+/// Entries, the supersteps at which the lone node is lost and starts anew, and how it ends. One that starts anew has two
+/// entries more than one that does not: what it recalls, and the snapshot that it keeps a second time. (Seven entries are
+/// the opening, four snapshots, and two calls that let batches go.)
+static LONE: [(u32, Option<u32>, Option<u32>, Outcome); 8] = [
+    (64, None, None, DONE),
+    (64, Some(2), None, Outcome::Lost { superstep: 2 }),
+    (64, None, Some(2), DONE),
+    (2, None, None, Outcome::Full),
+    (6, None, None, Outcome::Full),
+    (7, None, None, DONE),
+    (8, None, Some(2), Outcome::Full),
+    (9, None, Some(2), DONE),
+];
+
+/// Whether the lone node ends so each time.
+fn lone_ends<R: AllocGlobal + RandomSource + Wait>(rt: &R) -> bool {
+    let mut all = true;
+    for (entries, lose, restart, end) in &LONE {
+        all &= lone(rt, (*entries).clamp(2, 64), *lose, *restart) == Some(*end);
+    }
+    all
 }
 
 #[test]
-fn lone_node(rt: HostRuntime) -> Result<(), Fail> {
-    let done = Some(Outcome::Done {
-        superstep: 3,
-        stable: true,
-    });
-    assert_eq!(rt; lone(&rt, 64, None, None), done);
-    assert_eq!(rt;
-        lone(&rt, 64, Some(2), None),
-        Some(Outcome::Lost { superstep: 2 })
-    );
-    assert_eq!(rt; lone(&rt, 64, None, Some(2)), done);
-    assert_eq!(rt; lone(&rt, 2, None, None), Some(Outcome::Full));
-    assert!(rt; starts_anew(&rt, done));
-    Ok(())
+fn lone_node(rt: HostRuntime) {
+    assert!(rt; lone_ends(&rt));
 }
 
 /// A gate that counts idle turns.
@@ -169,7 +195,6 @@ impl Gate for CountingGate {
 
 /// How node 1.0 of the two edges in two partitions ends where nobody else posts.
 fn unheard<R: AllocGlobal + RandomSource + Wait>(rt: &R, gate: &CountingGate) -> Option<Outcome> {
-    let (graph, plan) = job(rt, rt.alloc(), 2)?;
     let node = NodeId {
         part: 1,
         replica: 0,
@@ -180,14 +205,12 @@ fn unheard<R: AllocGlobal + RandomSource + Wait>(rt: &R, gate: &CountingGate) ->
         lose: None,
         restart: None,
     };
-    if node.part >= plan.parts() {
-        return None;
-    }
-    Some(alone(rt, &graph, &plan, node, 64, &orders, gate))
+    let graph = two_edges(rt, rt.alloc())?;
+    alone_in(rt, &graph, node, 2, 64, &orders, gate)
 }
 
-#[test]
-fn starved_node(rt: HostRuntime) -> Result<(), Fail> {
+/// Whether it waits in vain for the other partition, for ten idle turns.
+fn starves<R: AllocGlobal + RandomSource + Wait>(rt: &R) -> bool {
     let gate = CountingGate {
         turns: AtomicU32::new(0),
     };
@@ -195,7 +218,10 @@ fn starved_node(rt: HostRuntime) -> Result<(), Fail> {
         superstep: 0,
         source: 0,
     };
-    assert_eq!(rt; unheard(&rt, &gate), Some(starved));
-    assert_eq!(rt; gate.turns.load(Ordering::SeqCst), 10);
-    Ok(())
+    unheard(rt, &gate) == Some(starved) && gate.turns.load(Ordering::SeqCst) == 10
+}
+
+#[test]
+fn starved_node(rt: HostRuntime) {
+    assert!(rt; starves(&rt));
 }

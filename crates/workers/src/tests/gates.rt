@@ -44,36 +44,63 @@ fn has_slept(
     sleeps == slept.0 && last == slept.1
 }
 
-/// Whether a node yields 64 times, and then sleeps longer each time, up to a millisecond; and begins anew after it has
-/// posted, or where it is another one.
-fn sleeps_longer(alloc: Global) -> Option<bool> {
+/// One node, and another.
+const ONE: NodeId = NodeId {
+    part: 0,
+    replica: 0,
+};
+
+const OTHER: NodeId = NodeId {
+    part: 1,
+    replica: 2,
+};
+
+/// A node, for how many turns more it idles, and how often and how long the clock has slept then.
+type Step = (NodeId, u32, (u32, u64));
+
+/// A node yields 64 times, and then sleeps longer each time, up to a millisecond; another one begins anew.
+static LONGER: [Step; 7] = [
+    (ONE, 64, (0, 0)),
+    (ONE, 1, (1, 1)),
+    (ONE, 2, (3, 3)),
+    (ONE, 996, (999, 999)),
+    (ONE, 200, (1199, 1000)),
+    (OTHER, 64, (1199, 1000)),
+    (OTHER, 1, (1200, 1)),
+];
+
+/// So does the first after it has posted.
+static ANEW: [Step; 2] = [(ONE, 64, (1200, 1)), (ONE, 2, (1202, 2))];
+
+/// Whether the clock has slept so after each of these steps.
+fn all_slept(clock: &NotingClock, gate: &SleepingGate<'_, NotingClock>, steps: &[Step]) -> bool {
+    let mut all = true;
+    for (node, turns, slept) in steps {
+        all &= has_slept(clock, gate, *node, *turns, *slept);
+    }
+    all
+}
+
+/// Whether nodes sleep as the tables say.
+fn sleep_longer(clock: &NotingClock, gate: &SleepingGate<'_, NotingClock>) -> bool {
+    let longer = all_slept(clock, gate, &LONGER);
+    gate.after_post(ONE, 3);
+    longer && all_slept(clock, gate, &ANEW)
+}
+
+/// Whether they do at a new gate.
+fn sleep_at_a_gate(alloc: Global) -> bool {
     let clock = NotingClock {
         sleeps: AtomicU32::new(0),
         last: AtomicU64::new(0),
     };
-    let gate = SleepingGate::new(alloc, &clock).ok()?;
-    let one = NodeId {
-        part: 0,
-        replica: 0,
-    };
-    let other = NodeId {
-        part: 1,
-        replica: 2,
-    };
-    let longer = has_slept(&clock, &gate, one, 64, (0, 0))
-        && has_slept(&clock, &gate, one, 1, (1, 1))
-        && has_slept(&clock, &gate, one, 2, (3, 3))
-        && has_slept(&clock, &gate, one, 996, (999, 999))
-        && has_slept(&clock, &gate, one, 200, (1199, 1000));
-    let others = has_slept(&clock, &gate, other, 64, (1199, 1000))
-        && has_slept(&clock, &gate, other, 1, (1200, 1));
-    gate.after_post(one, 3);
-    let anew = has_slept(&clock, &gate, one, 64, (1200, 1))
-        && has_slept(&clock, &gate, one, 2, (1202, 2));
-    Some(longer && others && anew)
+    match SleepingGate::new(alloc, &clock) {
+        Ok(gate) => sleep_longer(&clock, &gate),
+        Err(_) => false,
+    }
 }
 
 #[test]
 fn sleeping_gate(rt: HostRuntime) {
-    assert_eq!(rt; sleeps_longer(rt.alloc()), Some(true));
+    assert!(rt; sleep_at_a_gate(rt.alloc()));
 }

@@ -1,6 +1,6 @@
 //! Both workers of a partition are lost.
 
-use super::runs::{REPORT, fails, losing, node, reports};
+use super::runs::{REPORT, ends_so, losing, node};
 use super::*;
 use std::thread::Threads;
 
@@ -9,12 +9,18 @@ fn both(part: u16, superstep: u32) -> [(NodeId, u32); 2] {
     [(node(part, 0), superstep), (node(part, 1), superstep)]
 }
 
-/// Whether the partition is told to be lost, and nothing is written, at each superstep of the run.
+/// Whether the partition is told to be lost, and nothing is written, at each superstep of the run, and the report is
+/// written where they were to be lost after its end.
 fn is_lost<R: AllocGlobal + RandomSource + Threads + Wait + Sync>(rt: &R, part: u16) -> bool {
     let mut all = true;
-    for superstep in 0..4u32 {
+    for superstep in 0..5u32 {
         let orders = both(part, superstep);
-        all &= fails(rt, &losing(&orders), RunError::PartitionLost { part });
+        let answer = if superstep < 4 {
+            Err(RunError::PartitionLost { part })
+        } else {
+            Ok(())
+        };
+        all &= ends_so(rt, &losing(&orders), &OpenGate, answer, REPORT);
     }
     all
 }
@@ -22,10 +28,4 @@ fn is_lost<R: AllocGlobal + RandomSource + Threads + Wait + Sync>(rt: &R, part: 
 #[test]
 fn both_lost_at_any_superstep(rt: HostRuntime) {
     assert!(rt; is_lost(&rt, 0) && is_lost(&rt, 1));
-}
-
-#[test]
-fn both_lost_after_the_end(rt: HostRuntime) {
-    let (first, second) = (both(0, 4), both(1, 4));
-    assert!(rt; reports(&rt, &losing(&first), REPORT) && reports(&rt, &losing(&second), REPORT));
 }

@@ -82,8 +82,10 @@ vertex,c,10.768000,0.000000,0.000000,1.000000,16
 /// The two edges with a note, one of them twice, and an edge from a vertex to itself, in lines that end with CRLF.
 const NOISY: &[u8] = b"# c\r\na\tb\r\nb\tc\r\na\tb\r\nb\tb\r\n";
 
-/// What is asked, and its report. The others have the two edges by tabs and all vertices counted.
-static ROWS: [(Asked<'static>, &[u8]); 8] = [
+/// What is asked, and its report: the two edges, other edge lists, the two edges with a list of counted vertices, and with
+/// another delimiter.
+static ROWS: [(Asked<'static>, &[u8]); 16] = [
+    (USUAL, REPORT),
     (
         Asked {
             input: b"x\n",
@@ -134,10 +136,6 @@ static ROWS: [(Asked<'static>, &[u8]); 8] = [
         },
         REPORT,
     ),
-];
-
-/// The two edges with a list of counted vertices.
-static COUNTED: [(Asked<'static>, &[u8]); 5] = [
     (
         Asked {
             counted: Some(b"a\n"),
@@ -173,10 +171,6 @@ static COUNTED: [(Asked<'static>, &[u8]); 5] = [
         },
         REPORT,
     ),
-];
-
-/// The two edges with another delimiter.
-static DELIMITED: [(Asked<'static>, &[u8]); 2] = [
     (
         Asked {
             input: b"a,b\nb,c\n",
@@ -210,14 +204,4 @@ pub fn all_report<R: AllocGlobal + RandomSource + Threads + Wait + Sync>(
 #[test]
 fn reports_of_several_graphs(rt: HostRuntime) {
     assert!(rt; all_report(&rt, &ROWS));
-}
-
-#[test]
-fn reports_of_counted_vertices(rt: HostRuntime) {
-    assert!(rt; all_report(&rt, &COUNTED));
-}
-
-#[test]
-fn reports_of_other_delimiters(rt: HostRuntime) {
-    assert!(rt; all_report(&rt, &DELIMITED));
 }

@@ -1,7 +1,7 @@
 //! Runs from bytes to bytes, of many nodes.
 
 use super::*;
-use ball_model::{CountingWriter, Estimate};
+use ball_model::{Estimate, MemReader, MemWriter};
 use std::process::Abort;
 use std::thread;
 use std::thread::Threads;
@@ -53,7 +53,7 @@ pub const USUAL: Asked<'static> = Asked {
 };
 
 /// What is asked, as the options of a run; None where memory was refused.
-pub fn options_of(alloc: Global, asked: &Asked) -> Option<RunOptions> {
+fn options_of(alloc: Global, asked: &Asked) -> Option<RunOptions> {
     let lose = asked.lose.to_vec(alloc).ok()?;
     let restart = asked.restart.to_vec(alloc).ok()?;
     Some(RunOptions {
@@ -77,42 +77,83 @@ pub fn node(part: u16, replica: u8) -> NodeId {
     NodeId { part, replica }
 }
 
-/// A run by these options, whose report goes to the output.
+/// A run by these options, whose report goes to the writer, and where a call of the reader may fail.
 fn run_into<R: AllocGlobal + RandomSource + Threads + Wait + Sync, G: Gate + Sync>(
     rt: &R,
     asked: &Asked,
     options: &RunOptions,
     gate: &G,
-    output: &mut Vec<u8>,
-) -> Option<Result<(), RunError>> {
-    let state = RandomState::new(rt).ok()?;
-    let mut reader = CountingReader::new(asked.input);
-    let mut writer = CountingWriter::new(output);
-    Some(run(
-        rt,
-        state,
-        &mut reader,
-        asked.counted,
-        &mut writer,
-        options,
-        gate,
-    ))
+    read_fails: Option<u64>,
+    writer: &mut MemWriter,
+) -> Result<(), RunError> {
+    let Ok(state) = RandomState::new(rt) else {
+        return Err(RunError::Memory);
+    };
+    let mut reader = MemReader::new(asked.input, read_fails);
+    run(rt, state, &mut reader, asked.counted, writer, options, gate)
 }
 
-/// Whether a run answers so, and writes this and nothing else.
+/// What is written of a report.
+#[derive(Clone, Copy, PartialEq, Eq)]
+pub enum Written {
+    Nothing,
+    Beginning,
+    Whole,
+    Other,
+}
+
+/// What of it the bytes are.
+fn written_in(bytes: &[u8], report: &[u8]) -> Written {
+    if bytes.is_empty() {
+        return Written::Nothing;
+    }
+    if bytes == report {
+        return Written::Whole;
+    }
+    if report.starts_with(bytes) {
+        Written::Beginning
+    } else {
+        Written::Other
+    }
+}
+
+/// What a run answers, and what is written of the report.
+pub type Seen = (Result<(), RunError>, Written);
+
+/// What is seen of a run where a call of the reader and a call of the writer may fail: want of memory where it was
+/// refused before.
+pub fn seen<R: AllocGlobal + RandomSource + Threads + Wait + Sync, G: Gate + Sync>(
+    rt: &R,
+    asked: &Asked,
+    gate: &G,
+    report: &[u8],
+    read_fails: Option<u64>,
+    write_fails: Option<u64>,
+) -> Seen {
+    let Some(options) = options_of(rt.alloc(), asked) else {
+        return (Err(RunError::Memory), Written::Nothing);
+    };
+    let Ok(mut writer) = MemWriter::with_room(rt.alloc(), 4096, write_fails) else {
+        return (Err(RunError::Memory), Written::Nothing);
+    };
+    let answer = run_into(rt, asked, &options, gate, read_fails, &mut writer);
+    let bytes = writer.into_bytes();
+    (answer, written_in(&bytes, report))
+}
+
+/// Whether a run answers so, and writes just the report, or nothing where it fails.
 pub fn ends_so<R: AllocGlobal + RandomSource + Threads + Wait + Sync, G: Gate + Sync>(
     rt: &R,
     asked: &Asked,
     gate: &G,
     answer: Result<(), RunError>,
-    written: &[u8],
+    report: &[u8],
 ) -> bool {
-    let Some(options) = options_of(rt.alloc(), asked) else {
-        return false;
+    let written = match answer {
+        Ok(()) => Written::Whole,
+        Err(_) => Written::Nothing,
     };
-    let mut output = Vec::new(rt.alloc());
-    let told = run_into(rt, asked, &options, gate, &mut output);
-    told == Some(answer) && output.as_slice() == written
+    seen(rt, asked, gate, report, None, None) == (answer, written)
 }
 
 /// This report is written.
@@ -153,11 +194,6 @@ pub fn reports_everywhere<R: AllocGlobal + RandomSource + Threads + Wait + Sync>
     all
 }
 
-#[test]
-fn five_partitions(rt: HostRuntime) {
-    assert!(rt; reports_everywhere(&rt, &USUAL, REPORT));
-}
-
 /// What is asked of two partitions of two replicas each, with these orders to be lost.
 pub fn losing<'a>(lose: &'a [(NodeId, u32)]) -> Asked<'a> {
     Asked {
@@ -166,12 +202,6 @@ pub fn losing<'a>(lose: &'a [(NodeId, u32)]) -> Asked<'a> {
         lose,
         ..USUAL
     }
-}
-
-#[test]
-fn lost_replica(rt: HostRuntime) {
-    let orders = [(node(0, 0), 1)];
-    assert!(rt; reports(&rt, &losing(&orders), REPORT));
 }
 
 /// The report is written whichever superstep a node is lost at.
@@ -216,35 +246,90 @@ fn any_node_lost_at_any_superstep(rt: HostRuntime) {
     assert!(rt; all);
 }
 
-#[test]
-fn least_lost_partition(rt: HostRuntime) {
-    let orders = [(node(2, 0), 0), (node(1, 0), 0)];
-    let asked = Asked {
-        parts: 3,
-        replicas: 1,
-        ..losing(&orders)
-    };
-    assert!(rt; fails(&rt, &asked, RunError::PartitionLost { part: 1 }));
+/// Runs with orders, and how they end: of several partitions that are lost the least is told; an order names no node of
+/// the job; a node starts anew where snapshots are kept, and where none is.
+static ORDERED: [(Asked<'static>, Result<(), RunError>); 4] = [
+    (
+        Asked {
+            parts: 3,
+            lose: &[
+                (
+                    NodeId {
+                        part: 2,
+                        replica: 0,
+                    },
+                    0,
+                ),
+                (
+                    NodeId {
+                        part: 1,
+                        replica: 0,
+                    },
+                    0,
+                ),
+            ],
+            ..USUAL
+        },
+        Err(RunError::PartitionLost { part: 1 }),
+    ),
+    (
+        Asked {
+            parts: 2,
+            replicas: 2,
+            lose: &[(
+                NodeId {
+                    part: 2,
+                    replica: 0,
+                },
+                0,
+            )],
+            ..USUAL
+        },
+        Err(RunError::Options),
+    ),
+    (
+        Asked {
+            parts: 2,
+            restart: &[(
+                NodeId {
+                    part: 0,
+                    replica: 0,
+                },
+                2,
+            )],
+            ..USUAL
+        },
+        Ok(()),
+    ),
+    (
+        Asked {
+            parts: 2,
+            keep: 0,
+            restart: &[(
+                NodeId {
+                    part: 0,
+                    replica: 0,
+                },
+                2,
+            )],
+            ..USUAL
+        },
+        Ok(()),
+    ),
+];
+
+/// Whether they do.
+fn obey<R: AllocGlobal + RandomSource + Threads + Wait + Sync>(rt: &R) -> bool {
+    let mut all = true;
+    for (asked, answer) in &ORDERED {
+        all &= ends_so(rt, asked, &OpenGate, *answer, REPORT);
+    }
+    all
 }
 
 #[test]
-fn lost_partition(rt: HostRuntime) {
-    // lost before they wait for anybody; nobody waits out a million idle turns for them
-    let orders = [(node(0, 0), 0), (node(0, 1), 0)];
-    let asked = losing(&orders);
-    assert!(rt; fails(&rt, &asked, RunError::PartitionLost { part: 0 }));
-}
-
-#[test]
-fn restarted_node(rt: HostRuntime) {
-    let orders = [(node(0, 0), 2)];
-    let kept = Asked {
-        parts: 2,
-        restart: &orders,
-        ..USUAL
-    };
-    let unkept = Asked { keep: 0, ..kept };
-    assert!(rt; reports(&rt, &kept, REPORT) && reports(&rt, &unkept, REPORT));
+fn runs_with_orders(rt: HostRuntime) {
+    assert!(rt; obey(&rt));
 }
 
 /// The book is full, whatever number of entries below those that two nodes make: each of them keeps, posts and fetches
@@ -265,13 +350,6 @@ fn fills<R: AllocGlobal + RandomSource + Threads + Wait + Sync>(rt: &R) -> bool 
 #[test]
 fn full_book(rt: HostRuntime) {
     assert!(rt; fills(&rt));
-}
-
-#[test]
-fn option_that_does_not_fit(rt: HostRuntime) {
-    let orders = [(node(2, 0), 0)];
-    let asked = losing(&orders);
-    assert!(rt; fails(&rt, &asked, RunError::Options));
 }
 
 /// A gate that holds each node's first post until so many nodes have come to theirs. A node that has waited for too

@@ -53,8 +53,11 @@ fn next(state: &mut u64) -> u64 {
     *state >> 33
 }
 
+/// What is asked of a graph, its report, and the superstep at which its run ends.
+type Known = (Asked<'static>, &'static [u8], u32);
+
 /// What is asked of graphs, their reports, and the supersteps at which their runs end.
-static GRAPHS: [(Asked<'static>, &[u8], u32); 6] = [
+static GRAPHS: [Known; 6] = [
     (USUAL, REPORT, 3),
     (
         Asked {
@@ -153,9 +156,7 @@ fn any_node(state: &mut u64, parts: u16, replicas: u8) -> NodeId {
 // replicas it has, how often it keeps, its orders, and with which number its nodes begin to yield.
 #[derive(Clone, Copy)]
 struct Drawn {
-    graph: Asked<'static>,
-    report: &'static [u8],
-    end: u32,
+    graph: &'static Known,
     parts: u16,
     replicas: u8,
     keep: u32,
@@ -173,15 +174,13 @@ impl Drawn {
 
 // One to four partitions of one to three replicas: up to twelve threads, three for each of four cores.
 fn draw(state: &mut u64) -> Drawn {
-    let (graph, report, end) = GRAPHS[(next(state) % 6) as usize];
+    let graph = &GRAPHS[(next(state) % 6) as usize];
     let parts = (1 + next(state) % 4) as u16;
     let replicas = (1 + next(state) % 3) as u8;
     let lost = any_node(state, parts, replicas);
     let anew = any_node(state, parts, replicas);
     Drawn {
         graph,
-        report,
-        end,
         parts,
         replicas,
         keep: (next(state) % 4) as u32,
@@ -211,6 +210,7 @@ fn ends_as_ordered<R: AllocGlobal + RandomSource + Threads + Wait + Sync>(
     rt: &R,
     run: &Drawn,
 ) -> bool {
+    let (graph, report, end) = run.graph;
     let asked = Asked {
         parts: run.parts,
         replicas: run.replicas,
@@ -218,21 +218,16 @@ fn ends_as_ordered<R: AllocGlobal + RandomSource + Threads + Wait + Sync>(
         lose: run.lose.as_slice(),
         restart: run.restart.as_slice(),
         patience: 10_000_000,
-        ..run.graph
+        ..*graph
     };
     let gate = Yielding {
         number: AtomicU32::new(run.yields),
     };
-    match lost_part(&asked, run.end) {
-        Some(part) => ends_so(
-            rt,
-            &asked,
-            &gate,
-            Err(RunError::PartitionLost { part }),
-            b"",
-        ),
-        None => ends_so(rt, &asked, &gate, Ok(()), run.report),
-    }
+    let answer = match lost_part(&asked, *end) {
+        Some(part) => Err(RunError::PartitionLost { part }),
+        None => Ok(()),
+    };
+    ends_so(rt, &asked, &gate, answer, *report)
 }
 
 // How many of so many runs do not, up to the first that does not, and how many threads the widest of them has.

@@ -17,41 +17,30 @@ fn write_pages(text: &mut Pages) -> bool {
     whole && text.flush().is_ok()
 }
 
-// What a writer whose call `fails_at` fails takes of a text.
-fn taken_of<H: AllocGlobal>(
-    rt: &H,
-    text: &Pages,
-    fails_at: Option<u64>,
-) -> Result<(bool, Vec<u8>), Fail> {
-    let mut writer = MemWriter::with_room(rt.alloc(), 7, fails_at)?;
+// Whether a writer whose call `fails_at` fails takes just these bytes of a text, and all is done or not.
+fn takes(alloc: Global, text: &Pages, fails_at: Option<u64>, wanted: &[u8], whole: bool) -> bool {
+    let Ok(mut writer) = MemWriter::with_room(alloc, 7, fails_at) else {
+        return false;
+    };
     let done = text.write_to(&mut writer);
-    Ok((done, writer.into_bytes()))
+    let taken = writer.into_bytes();
+    done == whole && taken.as_slice() == wanted
 }
 
-// It takes these bytes of the pages, and all is done or not.
-fn takes<H: AllocGlobal>(
-    rt: &H,
-    text: &Pages,
-    fails_at: Option<u64>,
-    wanted: (bool, &[u8]),
-) -> Result<bool, Fail> {
-    let (done, taken) = taken_of(rt, text, fails_at)?;
-    Ok((done, taken.as_slice()) == wanted)
+// Whether the pages are written, and taken whole, and up to the second call.
+fn takes_pages(alloc: Global, text: &mut Pages) -> bool {
+    write_pages(text)
+        && takes(alloc, text, None, b"one,two", true)
+        && takes(alloc, text, Some(2), b"one,", false)
 }
 
-// So it is with pages that are written.
-fn takes_pages<H: AllocGlobal>(
-    rt: &H,
-    fails_at: Option<u64>,
-    wanted: (bool, &[u8]),
-) -> Result<bool, Fail> {
-    let mut text = Pages::new(rt.alloc());
-    Ok(write_pages(&mut text) && takes(rt, &text, fails_at, wanted)?)
+// The same of a new text.
+fn a_text_is_taken(alloc: Global) -> bool {
+    let mut text = Pages::new(alloc);
+    takes_pages(alloc, &mut text)
 }
 
 #[test]
-fn a_text_in_pages(rt: HostRuntime) -> Result<(), Fail> {
-    assert!(rt; takes_pages(&rt, None, (true, b"one,two"))?);
-    assert!(rt; takes_pages(&rt, Some(2), (false, b"one,"))?);
-    Ok(())
+fn a_text_in_pages(rt: HostRuntime) {
+    assert!(rt; a_text_is_taken(rt.alloc()));
 }

@@ -12,4 +12,4 @@ run_node-requires-clause-node g c = subst (λ (j : Job). c.args.node.part < j.pl
 pub run_node-requires-clause-part : goal.run_node-requires-clause-part
 run_node-requires-clause-part g c =
     let job = ap (λ (h : History). h.job) c.in-Ok.ensures.seen in
-    c.in-Ok-new.ensures.ok ∙ (c.in-Ok-part.ensures ∙ ap (λ (j : Job). part_of j c.args.node.part) (sym job))
+    c.in-Some.ensures ∙ ap (λ (j : Job). part_of j c.args.node.part) (sym job)
