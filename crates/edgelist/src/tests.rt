@@ -11,12 +11,13 @@ mod refusals;
 ghost use Rattle.std.specs.Prelude.{None};
 
 use crate::{
-    CountedError, Delimiter, EdgeError, EdgeLimits, EdgeReader, Graph, Part, Preds, laws,
+    CountedError, Delimiter, EdgeError, EdgeLimits, EdgeList, EdgeReader, Graph, Part, Preds, laws,
     read_edge_list, read_edges,
 };
 use ball_model::{CountingReader, Estimate, PlanError};
 use sha2::{Digest, Sha256};
-use std::alloc::{AllocError, Global};
+use std::alloc::Global;
+use std::fmt::Display;
 use std::hash::RandomState;
 use std::io;
 use std::io::{ErrorKind, Read};
@@ -168,54 +169,51 @@ fn part_of(alloc: Global, graph: &Graph, parts: u16, p: u16) -> Option<Part> {
     graph.part(alloc, &plan, p).ok()
 }
 
-/// The texts of the errors of edge lists, a line each.
-const EDGE_TEXTS: &str = "the edge list cannot be read
-too many records
-record 2 has not one or two identifiers
-too many vertices
-out of memory
-";
-
-/// Whether the errors of edge lists have these texts.
-fn has_edge_texts(alloc: Global) -> bool {
-    let text = format!(in alloc;
-        "{}\n{}\n{}\n{}\n{}\n",
-        EdgeError::Read,
-        EdgeError::TooManyEdges,
+/// The texts of the errors of edge lists.
+static EDGE_TEXTS: [(EdgeError, &str); 5] = [
+    (EdgeError::Read, "the edge list cannot be read"),
+    (EdgeError::TooManyEdges, "too many records"),
+    (
         EdgeError::Fields { number: 2 },
-        EdgeError::TooManyVertices,
-        EdgeError::Memory
-    );
-    match text {
-        Ok(text) => text.as_str() == EDGE_TEXTS,
+        "record 2 has not one or two identifiers",
+    ),
+    (EdgeError::TooManyVertices, "too many vertices"),
+    (EdgeError::Memory, "out of memory"),
+];
+
+/// The texts of the errors of lists of counted vertices.
+static LIST_TEXTS: [(CountedError, &str); 3] = [
+    (
+        CountedError::Fields { number: 2 },
+        "record 2 of the list is not one identifier",
+    ),
+    (
+        CountedError::Unknown { number: 3 },
+        "record 3 of the list names no vertex",
+    ),
+    (CountedError::Memory, "out of memory"),
+];
+
+/// Whether an error has this text.
+fn has_text<E: Display>(alloc: Global, error: &E, text: &str) -> bool {
+    match format!(in alloc; "{error}") {
+        Ok(told) => told.as_str() == text,
         Err(_) => false,
     }
 }
 
-/// The texts of the errors of lists of counted vertices.
-const LIST_TEXTS: &str = "record 2 of the list is not one identifier
-record 3 of the list names no vertex
-out of memory
-";
-
-/// Whether the errors of lists have these texts.
-fn has_list_texts(alloc: Global) -> bool {
-    let text = format!(in alloc;
-        "{}\n{}\n{}\n",
-        CountedError::Fields { number: 2 },
-        CountedError::Unknown { number: 3 },
-        CountedError::Memory
-    );
-    match text {
-        Ok(text) => text.as_str() == LIST_TEXTS,
-        Err(_) => false,
+/// Whether each of these errors has its text.
+fn have_texts<E: Display>(alloc: Global, texts: &[(E, &str)]) -> bool {
+    let mut right = true;
+    for (error, text) in texts {
+        right &= has_text(alloc, error, *text);
     }
+    right
 }
 
 #[test]
 fn error_texts(rt: HostRuntime) {
-    assert!(rt; has_edge_texts(rt.alloc()));
-    assert!(rt; has_list_texts(rt.alloc()));
+    assert!(rt; have_texts(rt.alloc(), &EDGE_TEXTS) && have_texts(rt.alloc(), &LIST_TEXTS));
 }
 
 #[test]

@@ -6,7 +6,7 @@ use super::*;
 pub(super) fn counts(graph: &Graph, wanted: &[u8]) -> bool {
     let mut right = graph.counted_count() as usize == wanted.len();
     for v in 0..graph.vertices() {
-        right = right && graph.counted(v) == wanted.contains(&digit(v));
+        right &= graph.counted(v) == wanted.contains(&digit(v));
     }
     right
 }
@@ -14,22 +14,21 @@ pub(super) fn counts(graph: &Graph, wanted: &[u8]) -> bool {
 // A list, what stands between its fields, what it is answered, and the digits of the vertices that are then counted.
 type List<'a> = (&'a [u8], Delimiter, Result<(), CountedError>, &'a [u8]);
 
-// How many of these lists are answered so one after another, up to the first that is not.
-fn count_answered(alloc: Global, graph: &mut Graph, lists: &[List<'_>]) -> usize {
-    for i in 0..lists.len() {
-        let (list, delimiter, answer, wanted) = lists[i];
-        if graph.count_only(alloc, delimiter, list) != answer || !counts(graph, wanted) {
-            return i;
-        }
+// Whether these lists are answered so, one after another.
+fn are_answered(alloc: Global, graph: &mut Graph, lists: &[List<'_>]) -> bool {
+    let mut right = true;
+    for (list, delimiter, answer, wanted) in lists {
+        right &= graph.count_only(alloc, *delimiter, *list) == *answer;
+        right &= counts(graph, *wanted);
     }
-    lists.len()
+    right
 }
 
 // The same on the graph of an edge list with tabs.
-fn answered(rt: &HostRuntime, text: &[u8], lists: &[List<'_>]) -> usize {
+fn answered(rt: &HostRuntime, text: &[u8], lists: &[List<'_>]) -> bool {
     match tabs(rt, text) {
-        Ok(mut graph) => count_answered(rt.alloc(), &mut graph, lists),
-        Err(_) => 0,
+        Ok(mut graph) => are_answered(rt.alloc(), &mut graph, lists),
+        Err(_) => false,
     }
 }
 
@@ -65,8 +64,7 @@ static ODD_LISTS: [List<'static>; 2] = [
 
 #[test]
 fn counted_lists(rt: HostRuntime) {
-    assert!(rt; answered(&rt, TWO_EDGES, &LISTS) == LISTS.len());
-    assert!(rt; answered(&rt, ODD, &ODD_LISTS) == ODD_LISTS.len());
+    assert!(rt; answered(&rt, TWO_EDGES, &LISTS) && answered(&rt, ODD, &ODD_LISTS));
 }
 
 // The job digests of a graph in two partitions, with raw estimates and with corrected ones.
@@ -138,9 +136,16 @@ static JOBS: [Jobs<'static>; 3] = [
     (TWO_EDGES, Some(b"a"), FIRST_DIGESTS),
 ];
 
+// Whether all have these job digests.
+fn have_jobs(rt: &HostRuntime) -> bool {
+    let mut right = true;
+    for case in &JOBS {
+        right &= has_jobs(rt, case);
+    }
+    right
+}
+
 #[test]
 fn job_digests(rt: HostRuntime) {
-    for case in &JOBS {
-        assert!(rt; has_jobs(&rt, case));
-    }
+    assert!(rt; have_jobs(&rt));
 }

@@ -1,6 +1,6 @@
 //! Labels: many, and such as share their guesses.
 
-use super::pieces::{Case, is_told};
+use super::pieces::{Case, are_told};
 use super::*;
 
 // Rings: an edge from each label to the next and from the last to the first, and then one from each to itself. More
@@ -99,9 +99,7 @@ static RINGS: [Case<'static>; 4] = [
 
 #[test]
 fn labels_of_one_guess(rt: HostRuntime) {
-    for case in &RINGS {
-        assert!(rt; is_told(&rt, case));
-    }
+    assert!(rt; are_told(&rt, &RINGS));
 }
 
 // A number as a label of six digits.
@@ -123,14 +121,15 @@ fn edge(v: u32) -> [u8; 14] {
     [a, b, c, d, e, f, b'\t', g, h, i, j, k, l, b'\n']
 }
 
-// The edges from each number below a count to the next, twice.
-fn push_path(text: &mut Vec<u8>, count: u32) -> Result<(), AllocError> {
+// Adds the edges from each number below a count to the next, twice, and tells whether there was room.
+fn push_path(text: &mut Vec<u8>, count: u32) -> bool {
+    let mut room = true;
     for _ in 0..2 {
         for v in 0..count {
-            text.extend_from_slice(&edge(v))?;
+            room &= text.extend_from_slice(&edge(v)).is_ok();
         }
     }
-    Ok(())
+    room
 }
 
 // Whether each vertex has its number as a label and the one before as its predecessor; vertex 0 has none.
@@ -139,19 +138,24 @@ fn is_path(graph: &Graph) -> bool {
     for v in 0..graph.vertices() {
         let before = [v.saturating_sub(1)];
         let (wanted, _) = before.split_at(v.min(1) as usize);
-        right &= graph.label(v) == six_digits(v).as_slice() && are_preds(graph.preds(v), wanted);
+        right &= graph.label(v) == six_digits(v).as_slice();
+        right &= are_preds(graph.preds(v), wanted);
     }
     right
+}
+
+// Whether an edge list with tabs is a path with so many edges.
+fn is_path_of(rt: &HostRuntime, text: &[u8], count: u32) -> bool {
+    match &tabs(rt, text) {
+        Ok(graph) => graph.edges() == u64::from(count) && is_path(graph),
+        Err(_) => false,
+    }
 }
 
 // Whether a path with so many edges is read.
 fn reads_path(rt: &HostRuntime, count: u32) -> bool {
     let mut text = Vec::new(rt.alloc());
-    let is_there = push_path(&mut text, count).is_ok();
-    match tabs(rt, &text) {
-        Ok(graph) => is_there && graph.edges() == u64::from(count) && is_path(&graph),
-        Err(_) => false,
-    }
+    push_path(&mut text, count) && is_path_of(rt, &text, count)
 }
 
 #[test]

@@ -22,12 +22,16 @@ fn give(alloc: Global, edges: &mut EdgeReader, text: &[u8]) -> Result<(), EdgeEr
     Ok(())
 }
 
-// What a reader tells at the end.
-fn finished(alloc: Global, edges: EdgeReader) -> Told {
-    match edges.finish(alloc) {
-        Ok(list) => Ok(shown(&list.graph)),
-        Err(e) => Err(e),
-    }
+// The edge list of a text that is given to a reader.
+fn list_given(
+    rt: &HostRuntime,
+    text: &[u8],
+    delimiter: Delimiter,
+    limits: EdgeLimits,
+) -> Result<EdgeList, EdgeError> {
+    let mut edges = reader(rt, delimiter, limits)?;
+    give(rt.alloc(), &mut edges, text)?;
+    edges.finish(rt.alloc())
 }
 
 // What is told of a text that is given to a reader.
@@ -37,41 +41,59 @@ pub(super) fn given(
     delimiter: Delimiter,
     limits: EdgeLimits,
 ) -> Told {
-    let mut edges = reader(rt, delimiter, limits)?;
-    give(rt.alloc(), &mut edges, text)?;
-    finished(rt.alloc(), edges)
+    match &list_given(rt, text, delimiter, limits) {
+        Ok(list) => Ok(shown(&list.graph)),
+        Err(e) => Err(*e),
+    }
+}
+
+// How many records an edge list has.
+pub(super) fn records_of(list: &Result<EdgeList, EdgeError>) -> Result<u64, EdgeError> {
+    match list {
+        Ok(list) => Ok(list.records),
+        Err(e) => Err(*e),
+    }
 }
 
 // How many records a text with tabs has that is given to a reader.
 pub(super) fn records_given(rt: &HostRuntime, text: &[u8]) -> Result<u64, EdgeError> {
-    let mut edges = reader(rt, Delimiter::Tab, LIMITS)?;
-    give(rt.alloc(), &mut edges, text)?;
-    let list = edges.finish(rt.alloc())?;
-    Ok(list.records)
+    records_of(&list_given(rt, text, Delimiter::Tab, LIMITS))
 }
 
-// Adds the pieces of a text.
-fn push_pieces(text: &mut Vec<u8>, pieces: Pieces<'_>) -> Result<(), AllocError> {
+// Adds the pieces of a text, and tells whether there was room.
+fn push_pieces(text: &mut Vec<u8>, pieces: Pieces<'_>) -> bool {
+    let mut room = true;
     for (piece, count) in pieces {
         for _ in 0..*count {
-            text.extend_from_slice(*piece)?;
+            room &= text.extend_from_slice(*piece).is_ok();
         }
     }
-    Ok(())
+    room
 }
 
 // An edge list with tabs, and the lines of its graph or the error.
 pub(super) type Case<'a> = (Pieces<'a>, Result<Pieces<'a>, EdgeError>);
 
-// Whether a long edge list is told so, at once and where its bytes are given one after the other.
-pub(super) fn is_told(rt: &HostRuntime, case: &Case<'_>) -> bool {
+// Whether a text with tabs is told so, at once and where its bytes are given one after the other.
+fn is_told_both_ways(rt: &HostRuntime, text: &[u8], wanted: &Told) -> bool {
+    given(rt, text, Delimiter::Tab, LIMITS) == *wanted
+        && told(rt, at_once(text), Delimiter::Tab, LIMITS) == *wanted
+}
+
+// So it is with a long edge list.
+fn is_told(rt: &HostRuntime, case: &Case<'_>) -> bool {
     let (pieces, wanted) = *case;
     let mut text = Vec::new(rt.alloc());
-    let is_there = push_pieces(&mut text, pieces).is_ok();
-    let wanted = told_of(wanted);
-    is_there
-        && given(rt, &text, Delimiter::Tab, LIMITS) == wanted
-        && told(rt, at_once(&text), Delimiter::Tab, LIMITS) == wanted
+    push_pieces(&mut text, pieces) && is_told_both_ways(rt, &text, &told_of(wanted))
+}
+
+// So it is with all of them.
+pub(super) fn are_told(rt: &HostRuntime, cases: &[Case<'_>]) -> bool {
+    let mut right = true;
+    for case in cases {
+        right &= is_told(rt, case);
+    }
+    right
 }
 
 // 16,384 lines of 4 bytes are read at once, 40,000 in three times. What would be a byte order mark at the front of a
@@ -109,25 +131,28 @@ static LONG: [Case<'static>; 7] = [
 
 #[test]
 fn long_edge_lists(rt: HostRuntime) {
-    for case in &LONG {
-        assert!(rt; is_told(&rt, case));
-    }
+    assert!(rt; are_told(&rt, &LONG));
 }
 
-// Gives the pieces of a text to a reader, up to the first byte that is refused.
+// Gives the pieces of a text to a reader, up to the first that is refused.
 fn give_pieces(alloc: Global, edges: &mut EdgeReader, pieces: Pieces<'_>) -> Result<(), EdgeError> {
+    let mut answer = Ok(());
     for (piece, count) in pieces {
         for _ in 0..*count {
-            give(alloc, edges, *piece)?;
+            if answer.is_ok() {
+                answer = give(alloc, edges, *piece);
+            }
         }
     }
-    Ok(())
+    answer
 }
 
 // What is answered to the bytes of an edge list with tabs before its end is told.
 fn answered(rt: &HostRuntime, pieces: Pieces<'_>) -> Result<(), EdgeError> {
-    let mut edges = reader(rt, Delimiter::Tab, LIMITS)?;
-    give_pieces(rt.alloc(), &mut edges, pieces)
+    match reader(rt, Delimiter::Tab, LIMITS) {
+        Ok(mut edges) => give_pieces(rt.alloc(), &mut edges, pieces),
+        Err(e) => Err(e),
+    }
 }
 
 #[test]

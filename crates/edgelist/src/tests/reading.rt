@@ -1,6 +1,6 @@
 //! Records, their limits and refusals, and readers that fail.
 
-use super::pieces::{given, records_given};
+use super::pieces::{given, records_given, records_of};
 use super::*;
 
 /// An edge list, what stands between its fields, the limits on vertices and records, and the lines of its graph or the
@@ -15,8 +15,17 @@ fn is_told(rt: &HostRuntime, case: &Case<'_>) -> bool {
         Ok(lines) => Ok(hash(&[(lines, 1)])),
         Err(e) => Err(e),
     };
-    told(rt, at_once(text), delimiter, limits) == wanted
-        && given(rt, text, delimiter, limits) == wanted
+    let right = told(rt, at_once(text), delimiter, limits) == wanted;
+    right & (given(rt, text, delimiter, limits) == wanted)
+}
+
+// Whether all are.
+fn are_told(rt: &HostRuntime) -> bool {
+    let mut right = true;
+    for case in &CASES {
+        right &= is_told(rt, case);
+    }
+    right
 }
 
 use Delimiter::{Comma, Space, Tab};
@@ -94,9 +103,7 @@ static CASES: [Case<'static>; 28] = [
 
 #[test]
 fn worked_edge_lists(rt: HostRuntime) {
-    for case in &CASES {
-        assert!(rt; is_told(&rt, case));
-    }
+    assert!(rt; are_told(&rt));
 }
 
 // How many records an edge list with tabs has that is read at once.
@@ -105,8 +112,7 @@ fn records_read(rt: &HostRuntime, text: &[u8]) -> Result<u64, EdgeError> {
         return Err(EdgeError::Memory);
     };
     let mut reader = CountingReader::new(at_once(text));
-    let list = read_edge_list(rt.alloc(), state, &mut reader, Tab, LIMITS)?;
-    Ok(list.records)
+    records_of(&read_edge_list(rt.alloc(), state, &mut reader, Tab, LIMITS))
 }
 
 // An edge twice, one vertex and another edge; neither comments nor empty lines are records.
@@ -114,8 +120,9 @@ const FOUR_RECORDS: &[u8] = b"# c\na\tb\n\na\tb\nd\r\n# x\nb\tc";
 
 #[test]
 fn records_are_counted(rt: HostRuntime) {
-    assert!(rt; records_read(&rt, FOUR_RECORDS) == Ok(4));
-    assert!(rt; records_given(&rt, FOUR_RECORDS) == Ok(4));
+    let read = records_read(&rt, FOUR_RECORDS);
+    let given = records_given(&rt, FOUR_RECORDS);
+    assert!(rt; read == Ok(4) && given == Ok(4));
 }
 
 // An edge list, how many of its bytes come at a time, the limit on records, how many calls are made of its reader, and
@@ -162,9 +169,16 @@ static CALLS: [Calls<'static>; 5] = [
     (b"a\tb\nc\td\ne\tf\n", 1, 1, 8, Err(EdgeError::TooManyEdges)),
 ];
 
+// Whether so it is with all of them.
+fn all_fail_at_each(rt: &HostRuntime) -> bool {
+    let mut right = true;
+    for case in &CALLS {
+        right &= fails_at_each(rt, case);
+    }
+    right
+}
+
 #[test]
 fn failing_readers(rt: HostRuntime) {
-    for case in &CALLS {
-        assert!(rt; fails_at_each(&rt, case));
-    }
+    assert!(rt; all_fail_at_each(&rt));
 }
