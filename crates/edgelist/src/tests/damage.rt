@@ -54,26 +54,39 @@ fn is_same(rt: &HostRuntime, bytes: &[u8]) -> bool {
 // An edge list with a comment, both ends of lines and a double.
 const EDGES: [u8; 27] = *b"# c\r\na\tb\nb\tc\r\nd\na\tb\n\nbc\ta\nc";
 
-// Whether a thousand of these lists with some bytes changed are, and a thousand of up to 31 random bytes.
-fn are_same(rt: &HostRuntime) -> bool {
-    let mut changes = 30;
-    let mut random = 28;
+// Whether a thousand of these lists with some bytes changed are.
+fn changed_are_same(rt: &HostRuntime) -> bool {
+    let mut state = 30;
     let mut right = true;
     for _ in 0..1000 {
-        let mut list = EDGES;
-        change(&mut list, &mut changes);
-        right &= is_same(rt, &list);
-        let mut bytes = [0u8; 31];
-        scatter(&mut bytes, &mut random);
-        let (front, _) = bytes.split_at((next(&mut random) % 32) as usize);
-        right &= is_same(rt, front);
+        let mut bytes = EDGES;
+        change(&mut bytes, &mut state);
+        right &= is_same(rt, &bytes);
     }
     right
 }
 
 #[test]
 fn edge_lists_with_some_bytes_changed(rt: HostRuntime) {
-    assert!(rt; are_same(&rt));
+    assert!(rt; changed_are_same(&rt));
+}
+
+// Whether a thousand of up to 31 random bytes are.
+fn random_are_same(rt: &HostRuntime) -> bool {
+    let mut state = 28;
+    let mut right = true;
+    for _ in 0..1000 {
+        let mut bytes = [0u8; 31];
+        scatter(&mut bytes, &mut state);
+        let (front, _) = bytes.split_at((next(&mut state) % 32) as usize);
+        right &= is_same(rt, front);
+    }
+    right
+}
+
+#[test]
+fn random_edge_lists(rt: HostRuntime) {
+    assert!(rt; random_are_same(&rt));
 }
 
 // The labels of the two edges.
