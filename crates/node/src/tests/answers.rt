@@ -3,13 +3,16 @@
 use super::vectors::*;
 use super::*;
 
-static LONE: [Case; 1] = [Case {
-    parts: 1,
-    counted: false,
-    part: 0,
-    input: &[b"x\n%%\nshow\nclose\nshow\nclose\ntotals\nfigures\n"],
-    text: &[
-        b"node 0.0 0 go-on
+/// A lone node runs to its end. Each of two nodes sends at superstep 0: who sends and what is asked, then the line and the
+/// bytes. Each of them is brought what the other tells, closes its supersteps, and gives its checkpoint at the end.
+static RUN: [Case; 5] = [
+    Case {
+        parts: 1,
+        counted: false,
+        part: 0,
+        input: &[b"x\n%%\nshow\nclose\nshow\nclose\ntotals\nfigures\n"],
+        text: &[
+            b"node 0.0 0 go-on
 row 0 11.390942 0.000000 0.000000 00000000000000000000000000000300
 closed 1
 node 0.0 1 stable
@@ -19,17 +22,9 @@ superstep,0,11.390942
 superstep,1,11.390942
 vertex,x,11.390942,0.000000,0.000000,1.000000,15
 ",
-    ],
-    end: Ok(()),
-}];
-
-#[test]
-fn a_lone_node_runs_to_its_end(rt: HostRuntime) {
-    assert!(rt; all_hold(&rt, &LONE));
-}
-
-/// What is sent at superstep 0: who sends and what is asked, then the line and the bytes.
-static SENT: [Case; 2] = [
+        ],
+        end: Ok(()),
+    },
     Case {
         parts: 2,
         counted: false,
@@ -46,15 +41,6 @@ static SENT: [Case; 2] = [
         text: &[b"sent 0 1 0 1 1 74\n", SECOND_TELLS_0],
         end: Ok(()),
     },
-];
-
-#[test]
-fn two_nodes_send_the_bytes_of_the_table(rt: HostRuntime) {
-    assert!(rt; all_hold(&rt, &SENT));
-}
-
-/// Each of two nodes is brought what the other tells, closes its supersteps, and gives its checkpoint at the end.
-static RUN: [Case; 2] = [
     Case {
         parts: 2,
         counted: false,
@@ -135,7 +121,7 @@ kept 3 226
 ];
 
 #[test]
-fn two_nodes_run_to_the_end(rt: HostRuntime) {
+fn nodes_send_and_run_to_the_end(rt: HostRuntime) {
     assert!(rt; all_hold(&rt, &RUN));
 }
 

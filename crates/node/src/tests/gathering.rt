@@ -94,7 +94,7 @@ fn all_gathered<T: AllocGlobal + RandomSource + Threads + Sync>(
 
 /// Those of the end give the report, and one of the start does not. One is wanted of each partition, and of no other job.
 /// What version 1 spells has heard nobody: it is at its end where it is the only partition.
-static KEPT: [Gathering; 8] = [
+static KEPT: [Gathering; 16] = [
     Gathering {
         parts: 2,
         input: &[
@@ -180,15 +180,7 @@ static KEPT: [Gathering; 8] = [
         text: REPORT,
         end: Ok(()),
     },
-];
-
-#[test]
-fn checkpoints_give_the_report(rt: HostRuntime) {
-    assert!(rt; all_gathered(&rt, &KEPT));
-}
-
-/// Inputs behind whose mark no checkpoint of partition 0 stands.
-static NO_CHECKPOINTS: [Gathering; 8] = [
+    // inputs behind whose mark no checkpoint of partition 0 stands
     Gathering {
         parts: 2,
         input: &[TWO_EDGES],
@@ -246,6 +238,6 @@ static NO_CHECKPOINTS: [Gathering; 8] = [
 ];
 
 #[test]
-fn what_is_no_checkpoint_is_named(rt: HostRuntime) {
-    assert!(rt; all_gathered(&rt, &NO_CHECKPOINTS));
+fn checkpoints_give_the_report(rt: HostRuntime) {
+    assert!(rt; all_gathered(&rt, &KEPT));
 }

@@ -12,71 +12,79 @@ const FRONT: &[u8] = b"deliver 74\nHBBT\x01\x04\0\0\0\0\0\0\0\x01";
 /// What stands behind the digest: two vertices changed, of which one has a row, that of vertex 0, and its registers.
 const ROW: &[u8] = b"\0\0\0\x02\0\0\0\x01\0\0\0\0\0\0\0\0\0\0\0\0\0\0\0\0\0\0\x03\0";
 
-/// A node is brought no batch, one without its last byte, damaged ones, and then the whole one again and again.
-static DAMAGED_BATCHES: [Case; 1] = [Case {
-    parts: 2,
-    counted: false,
-    part: 1,
-    input: &[
-        TWO_EDGES,
-        b"deliver 0\n",
-        b"deliver 73\nHBBT\x01\x04\0\0\0\0\0\0\0\x01",
-        JOB,
-        b"\0\0\0\x02\0\0\0\x01\0\0\0\0\0\0\0\0\0\0\0\0\0\0\0\0\0\0\x03",
-        // magic
-        b"deliver 74\nhBBT\x01\x04\0\0\0\0\0\0\0\x01",
-        JOB,
-        ROW,
-        // version
-        b"deliver 74\nHBBT\x02\x04\0\0\0\0\0\0\0\x01",
-        JOB,
-        ROW,
-        // log2m
-        b"deliver 74\nHBBT\x01\x05\0\0\0\0\0\0\0\x01",
-        JOB,
-        ROW,
-        // target: 2
-        b"deliver 74\nHBBT\x01\x04\0\0\0\0\0\0\0\x02",
-        JOB,
-        ROW,
-        // changed: 3 of 2
-        FRONT,
-        JOB,
-        b"\0\0\0\x03\0\0\0\x01\0\0\0\0\0\0\0\0\0\0\0\0\0\0\0\0\0\0\x03\0",
-        // rows: none
-        FRONT,
-        JOB,
-        b"\0\0\0\x02\0\0\0\0\0\0\0\0\0\0\0\0\0\0\0\0\0\0\0\0\0\0\x03\0",
-        // the row's vertex: 1
-        FRONT,
-        JOB,
-        b"\0\0\0\x02\0\0\0\x01\0\0\0\x01\0\0\0\0\0\0\0\0\0\0\0\0\0\0\x03\0",
-        // its first register: 34
-        FRONT,
-        JOB,
-        b"\0\0\0\x02\0\0\0\x01\0\0\0\0\x22\0\0\0\0\0\0\0\0\0\0\0\0\0\x03\0",
-        // digest
-        FRONT,
-        OTHER_JOB,
-        ROW,
-        // target: 0
-        b"deliver 74\nHBBT\x01\x04\0\0\0\0\0\0\0\0",
-        JOB,
-        ROW,
-        // superstep: 4
-        b"deliver 74\nHBBT\x01\x04\0\0\0\x04\0\0\0\x01",
-        JOB,
-        ROW,
-        // none
-        b"deliver 74\n",
-        FIRST_TELLS_0,
-        b"deliver 74\n",
-        FIRST_TELLS_0,
-        b"close\ndeliver 74\n",
-        FIRST_TELLS_0,
-    ],
-    text: &[
-        b"refused short
+/// What node 1 of two shows at its start.
+const SHOWN: &[u8] = b"node 1.0 0 open
+row 1 11.115354 0.000000 0.000000 00000000000001000000000000000000
+";
+
+/// A node is brought no batch, one without its last byte, damaged ones, and then the whole one again and again. It is
+/// brought a batch whose only row stands there twice, and its own batch, told to itself: the target is 1 in place of 0. Then
+/// it shows what it has.
+static DAMAGED_BATCHES: [Case; 3] = [
+    Case {
+        parts: 2,
+        counted: false,
+        part: 1,
+        input: &[
+            TWO_EDGES,
+            b"deliver 0\n",
+            b"deliver 73\nHBBT\x01\x04\0\0\0\0\0\0\0\x01",
+            JOB,
+            b"\0\0\0\x02\0\0\0\x01\0\0\0\0\0\0\0\0\0\0\0\0\0\0\0\0\0\0\x03",
+            // magic
+            b"deliver 74\nhBBT\x01\x04\0\0\0\0\0\0\0\x01",
+            JOB,
+            ROW,
+            // version
+            b"deliver 74\nHBBT\x02\x04\0\0\0\0\0\0\0\x01",
+            JOB,
+            ROW,
+            // log2m
+            b"deliver 74\nHBBT\x01\x05\0\0\0\0\0\0\0\x01",
+            JOB,
+            ROW,
+            // target: 2
+            b"deliver 74\nHBBT\x01\x04\0\0\0\0\0\0\0\x02",
+            JOB,
+            ROW,
+            // changed: 3 of 2
+            FRONT,
+            JOB,
+            b"\0\0\0\x03\0\0\0\x01\0\0\0\0\0\0\0\0\0\0\0\0\0\0\0\0\0\0\x03\0",
+            // rows: none
+            FRONT,
+            JOB,
+            b"\0\0\0\x02\0\0\0\0\0\0\0\0\0\0\0\0\0\0\0\0\0\0\0\0\0\0\x03\0",
+            // the row's vertex: 1
+            FRONT,
+            JOB,
+            b"\0\0\0\x02\0\0\0\x01\0\0\0\x01\0\0\0\0\0\0\0\0\0\0\0\0\0\0\x03\0",
+            // its first register: 34
+            FRONT,
+            JOB,
+            b"\0\0\0\x02\0\0\0\x01\0\0\0\0\x22\0\0\0\0\0\0\0\0\0\0\0\0\0\x03\0",
+            // digest
+            FRONT,
+            OTHER_JOB,
+            ROW,
+            // target: 0
+            b"deliver 74\nHBBT\x01\x04\0\0\0\0\0\0\0\0",
+            JOB,
+            ROW,
+            // superstep: 4
+            b"deliver 74\nHBBT\x01\x04\0\0\0\x04\0\0\0\x01",
+            JOB,
+            ROW,
+            // none
+            b"deliver 74\n",
+            FIRST_TELLS_0,
+            b"deliver 74\n",
+            FIRST_TELLS_0,
+            b"close\ndeliver 74\n",
+            FIRST_TELLS_0,
+        ],
+        text: &[
+            b"refused short
 refused short
 refused magic
 refused version
@@ -94,63 +102,45 @@ known
 closed 1
 old
 ",
-    ],
-    end: Ok(()),
-}];
+        ],
+        end: Ok(()),
+    },
+    Case {
+        parts: 2,
+        counted: false,
+        part: 1,
+        input: &[
+            TWO_EDGES,
+            b"deliver 94\nHBBT\x01\x04\0\0\0\0\0\0\0\x01",
+            JOB,
+            b"\0\0\0\x02\0\0\0\x02",
+            b"\0\0\0\0\0\0\0\0\0\0\0\0\0\0\0\0\0\0\x03\0",
+            b"\0\0\0\0\0\0\0\0\0\0\0\0\0\0\0\0\0\0\x03\0",
+            b"show\n",
+        ],
+        text: &[b"refused order\n", SHOWN],
+        end: Ok(()),
+    },
+    Case {
+        parts: 2,
+        counted: false,
+        part: 1,
+        input: &[
+            TWO_EDGES,
+            b"deliver 74\nHBBT\x01\x04\0\0\0\0\0\x01\0\x01",
+            JOB,
+            b"\0\0\0\x01\0\0\0\x01",
+            b"\0\0\0\x01\0\0\0\0\0\0\x01\0\0\0\0\0\0\0\0\0",
+            b"show\n",
+        ],
+        text: &[b"own-partition\n", SHOWN],
+        end: Ok(()),
+    },
+];
 
 #[test]
 fn damaged_batches_are_named(rt: HostRuntime) {
     assert!(rt; all_hold(&rt, &DAMAGED_BATCHES));
-}
-
-/// What node 1 of two shows at its start.
-const SHOWN: &[u8] = b"node 1.0 0 open
-row 1 11.115354 0.000000 0.000000 00000000000001000000000000000000
-";
-
-/// A node is brought a batch whose only row stands there twice, and then shows what it has.
-static REPEATED_ROW: [Case; 1] = [Case {
-    parts: 2,
-    counted: false,
-    part: 1,
-    input: &[
-        TWO_EDGES,
-        b"deliver 94\nHBBT\x01\x04\0\0\0\0\0\0\0\x01",
-        JOB,
-        b"\0\0\0\x02\0\0\0\x02",
-        b"\0\0\0\0\0\0\0\0\0\0\0\0\0\0\0\0\0\0\x03\0",
-        b"\0\0\0\0\0\0\0\0\0\0\0\0\0\0\0\0\0\0\x03\0",
-        b"show\n",
-    ],
-    text: &[b"refused order\n", SHOWN],
-    end: Ok(()),
-}];
-
-#[test]
-fn rows_out_of_order_are_named(rt: HostRuntime) {
-    assert!(rt; all_hold(&rt, &REPEATED_ROW));
-}
-
-/// A node is brought its own batch, told to itself: the target is 1 in place of 0.
-static OWN_BATCH: [Case; 1] = [Case {
-    parts: 2,
-    counted: false,
-    part: 1,
-    input: &[
-        TWO_EDGES,
-        b"deliver 74\nHBBT\x01\x04\0\0\0\0\0\x01\0\x01",
-        JOB,
-        b"\0\0\0\x01\0\0\0\x01",
-        b"\0\0\0\x01\0\0\0\0\0\0\x01\0\0\0\0\0\0\0\0\0",
-        b"show\n",
-    ],
-    text: &[b"own-partition\n", SHOWN],
-    end: Ok(()),
-}];
-
-#[test]
-fn an_own_batch_is_refused(rt: HostRuntime) {
-    assert!(rt; all_hold(&rt, &OWN_BATCH));
 }
 
 /// What stands before the digest of the job in `SECOND_START`, in which one field is damaged: magic, version (3) or log2m.
@@ -176,7 +166,7 @@ refused digest
 
 /// A node is given damaged checkpoints to go back to, and such to take over, and then shows what it has: the front of one,
 /// one of another magic, version, job, size, and mark. So is another node, which is given a whole one.
-static DAMAGED_CHECKPOINTS: [Case; 2] = [
+static DAMAGED_CHECKPOINTS: [Case; 3] = [
     Case {
         parts: 2,
         counted: false,
@@ -264,6 +254,22 @@ row 2 11.297573 0.000000 0.000000 02000000000000000000000000000000
         ],
         end: Ok(()),
     },
+    // its checkpoint and one byte more
+    Case {
+        parts: 2,
+        counted: false,
+        part: 1,
+        input: &[
+            TWO_EDGES,
+            b"restart 179\n",
+            SECOND_START,
+            b"xrecover 179\n",
+            SECOND_START,
+            b"xshow\n",
+        ],
+        text: &[b"refused trailing\nrefused trailing\n", SHOWN],
+        end: Ok(()),
+    },
 ];
 
 #[test]
@@ -271,30 +277,8 @@ fn damaged_checkpoints_are_named(rt: HostRuntime) {
     assert!(rt; all_hold(&rt, &DAMAGED_CHECKPOINTS));
 }
 
-/// A node is given its checkpoint and one byte more, and then shows what it has.
-static LONGER: [Case; 1] = [Case {
-    parts: 2,
-    counted: false,
-    part: 1,
-    input: &[
-        TWO_EDGES,
-        b"restart 179\n",
-        SECOND_START,
-        b"xrecover 179\n",
-        SECOND_START,
-        b"xshow\n",
-    ],
-    text: &[b"refused trailing\nrefused trailing\n", SHOWN],
-    end: Ok(()),
-}];
-
-#[test]
-fn bytes_behind_a_checkpoint_are_named(rt: HostRuntime) {
-    assert!(rt; all_hold(&rt, &LONGER));
-}
-
 /// Commands at which a node gives up, what it answered before, and how it ends.
-static GIVEN_UP: [Case; 9] = [
+static GIVEN_UP: [Case; 10] = [
     Case {
         parts: 2,
         counted: false,
@@ -370,6 +354,15 @@ static GIVEN_UP: [Case; 9] = [
         text: &[],
         end: Err(NodeError::Serve(ServeError::Length { number: 1 })),
     },
+    // only others are sent to
+    Case {
+        parts: 2,
+        counted: false,
+        part: 1,
+        input: &[TWO_EDGES, b"send 1\nsend 2\n"],
+        text: &[b"refused no-target\nrefused no-target\n"],
+        end: Ok(()),
+    },
 ];
 
 #[test]
@@ -377,22 +370,8 @@ fn what_is_no_command_ends_a_node(rt: HostRuntime) {
     assert!(rt; all_hold(&rt, &GIVEN_UP));
 }
 
-static NO_TARGETS: [Case; 1] = [Case {
-    parts: 2,
-    counted: false,
-    part: 1,
-    input: &[TWO_EDGES, b"send 1\nsend 2\n"],
-    text: &[b"refused no-target\nrefused no-target\n"],
-    end: Ok(()),
-}];
-
-#[test]
-fn only_others_are_sent_to(rt: HostRuntime) {
-    assert!(rt; all_hold(&rt, &NO_TARGETS));
-}
-
-/// Inputs that say no job.
-static NO_JOBS: [Case; 10] = [
+/// Inputs that say no job, or whose lines end otherwise.
+static NO_JOBS: [Case; 14] = [
     Case {
         parts: 2,
         counted: false,
@@ -473,14 +452,7 @@ static NO_JOBS: [Case; 10] = [
         text: &[],
         end: Err(NodeError::Job(JobError::Counted(CountedError::Unknown { number: 2 }))),
     },
-];
-
-#[test]
-fn an_input_that_says_no_job_is_refused(rt: HostRuntime) {
-    assert!(rt; all_hold(&rt, &NO_JOBS));
-}
-
-static OTHER_ENDS: [Case; 2] = [
+    // lines may end otherwise
     Case {
         parts: 2,
         counted: false,
@@ -497,14 +469,7 @@ static OTHER_ENDS: [Case; 2] = [
         text: &[],
         end: Ok(()),
     },
-];
-
-#[test]
-fn lines_may_end_otherwise(rt: HostRuntime) {
-    assert!(rt; all_hold(&rt, &OTHER_ENDS));
-}
-
-static NO_PLANS: [Case; 2] = [
+    // a job without a plan
     Case {
         parts: 0,
         counted: false,
@@ -524,6 +489,6 @@ static NO_PLANS: [Case; 2] = [
 ];
 
 #[test]
-fn a_job_without_a_plan_is_refused(rt: HostRuntime) {
-    assert!(rt; all_hold(&rt, &NO_PLANS));
+fn an_input_that_says_no_job_is_refused(rt: HostRuntime) {
+    assert!(rt; all_hold(&rt, &NO_JOBS));
 }
