@@ -246,90 +246,45 @@ fn any_node_lost_at_any_superstep(rt: HostRuntime) {
     assert!(rt; all);
 }
 
-/// Runs with orders, and how they end: of several partitions that are lost the least is told; an order names no node of
-/// the job; a node starts anew where snapshots are kept, and where none is.
-static ORDERED: [(Asked<'static>, Result<(), RunError>); 4] = [
-    (
-        Asked {
-            parts: 3,
-            lose: &[
-                (
-                    NodeId {
-                        part: 2,
-                        replica: 0,
-                    },
-                    0,
-                ),
-                (
-                    NodeId {
-                        part: 1,
-                        replica: 0,
-                    },
-                    0,
-                ),
-            ],
-            ..USUAL
-        },
-        Err(RunError::PartitionLost { part: 1 }),
-    ),
-    (
-        Asked {
-            parts: 2,
-            replicas: 2,
-            lose: &[(
-                NodeId {
-                    part: 2,
-                    replica: 0,
-                },
-                0,
-            )],
-            ..USUAL
-        },
-        Err(RunError::Options),
-    ),
-    (
-        Asked {
-            parts: 2,
-            restart: &[(
-                NodeId {
-                    part: 0,
-                    replica: 0,
-                },
-                2,
-            )],
-            ..USUAL
-        },
-        Ok(()),
-    ),
-    (
-        Asked {
-            parts: 2,
-            keep: 0,
-            restart: &[(
-                NodeId {
-                    part: 0,
-                    replica: 0,
-                },
-                2,
-            )],
-            ..USUAL
-        },
-        Ok(()),
-    ),
-];
-
-/// Whether they do.
-fn obey<R: AllocGlobal + RandomSource + Threads + Wait + Sync>(rt: &R) -> bool {
-    let mut all = true;
-    for (asked, answer) in &ORDERED {
-        all &= ends_so(rt, asked, &OpenGate, *answer, REPORT);
-    }
-    all
+#[test]
+fn five_partitions(rt: HostRuntime) {
+    let asked = Asked { parts: 5, ..USUAL };
+    assert!(rt; reports(&rt, &asked, REPORT));
 }
 
 #[test]
-fn runs_with_orders(rt: HostRuntime) {
-    assert!(rt; obey(&rt));
+fn lost_replica(rt: HostRuntime) {
+    let orders = [(node(0, 0), 1)];
+    assert!(rt; reports(&rt, &losing(&orders), REPORT));
+}
+
+#[test]
+fn least_lost_partition(rt: HostRuntime) {
+    let orders = [(node(2, 0), 0), (node(1, 0), 0)];
+    let asked = Asked {
+        parts: 3,
+        replicas: 1,
+        ..losing(&orders)
+    };
+    assert!(rt; fails(&rt, &asked, RunError::PartitionLost { part: 1 }));
+}
+
+#[test]
+fn option_that_does_not_fit(rt: HostRuntime) {
+    let orders = [(node(2, 0), 0)];
+    assert!(rt; fails(&rt, &losing(&orders), RunError::Options));
+}
+
+#[test]
+fn restarted_node(rt: HostRuntime) {
+    let orders = [(node(0, 0), 2)];
+    let kept = Asked {
+        parts: 2,
+        restart: &orders,
+        ..USUAL
+    };
+    let unkept = Asked { keep: 0, ..kept };
+    assert!(rt; reports(&rt, &kept, REPORT) && reports(&rt, &unkept, REPORT));
 }
 
 /// The book is full, whatever number of entries below those that two nodes make: each of them keeps, posts and fetches
