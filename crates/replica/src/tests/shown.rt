@@ -1,7 +1,5 @@
-//! Whether a replica tells in its readers what a snapshot does.
+//! Whether a replica tells in each reader what a snapshot does.
 
-use super::calls::told;
-use super::script::Told;
 use super::*;
 
 /// The figures of a tally.
@@ -20,6 +18,24 @@ pub fn vertex_of<S: Shown>(shown: &S, x: u32) -> Option<Vertex<'_>> {
     let row = shown.row(x);
     let accumulated = shown.accumulated(x);
     Some((row, accumulated, figures(shown.tally(x)), shown.changed(x)))
+}
+
+/// Whether two tables have the same rows.
+fn has_same_rows(left: &Rows, right: &Rows) -> bool {
+    let mut same = left.len() == right.len();
+    for i in 0..left.len() {
+        same &= i < right.len() && left.row(i) == right.row(i);
+    }
+    same
+}
+
+/// Whether two lists have the same figures.
+fn has_same_figures(left: &[Tally], right: &[Tally]) -> bool {
+    let mut same = left.len() == right.len();
+    for i in 0..left.len() {
+        same &= left.get(i).copied().map(figures) == right.get(i).copied().map(figures);
+    }
+    same
 }
 
 /// What is told of a level: the plan, the partition, the superstep, the number of changed vertices, and the verdict.
@@ -57,10 +73,25 @@ fn heard_of<S: Shown>(shown: &S) -> Heard {
     (shown.missing(), change, shown.heard(), names_of(shown))
 }
 
-/// The source of the i-th batch of a later superstep, and what it tells.
-pub fn early_of<S: Shown>(shown: &S, i: u32) -> Option<(u16, Told)> {
-    let batch = shown.early(i)?;
-    Some((batch.name().source, told(batch)))
+/// Whether two batches tell the same.
+fn tells_same(left: &Batch, right: &Batch) -> bool {
+    let mut same = left.plan() == right.plan()
+        && left.name() == right.name()
+        && left.changed() == right.changed()
+        && left.count() == right.count();
+    for k in 0..left.count() {
+        same &= right.find(left.id(k)) == Some(left.registers(k));
+    }
+    same
+}
+
+/// Whether there is the same batch, or none, in both places.
+fn is_same_early(left: Option<&Batch>, right: Option<&Batch>) -> bool {
+    match (left, right) {
+        (Some(left), Some(right)) => tells_same(left, right),
+        (None, None) => true,
+        _ => false,
+    }
 }
 
 /// Whether a replica keeps the batches of later supersteps that a snapshot does (of two partitions at most three), and
@@ -68,20 +99,20 @@ pub fn early_of<S: Shown>(shown: &S, i: u32) -> Option<(u16, Told)> {
 fn shows_lists(replica: &Replica, snapshot: &Snapshot) -> bool {
     let mut same = replica.early_count() == snapshot.early_count();
     for i in 0..5 {
-        same &= early_of(replica, i) == early_of(snapshot, i);
+        same &= is_same_early(replica.early(i), snapshot.early(i));
         same &= vertex_of(replica, i) == vertex_of(snapshot, i);
     }
     same
 }
 
-/// Whether a replica tells what a snapshot does: of its level, of what it has heard, of the sums, of the batches that it
-/// keeps, and of each vertex.
+/// Whether each reader of a replica tells what that of a snapshot does: of its level, of what it has heard, of the
+/// batches that it keeps, of all rows, figures and sums, and of each vertex.
 pub fn shows_all(replica: &Replica, snapshot: &Snapshot) -> bool {
     let level = level_of(replica) == level_of(snapshot);
     let heard = heard_of(replica) == heard_of(snapshot);
     let sums = replica.sums() == snapshot.sums();
-    let rows = replica.rows().len() == snapshot.rows().len();
-    let tallies = replica.tallies().len() == snapshot.tallies().len();
+    let rows = has_same_rows(replica.rows(), snapshot.rows());
+    let tallies = has_same_figures(replica.tallies(), snapshot.tallies());
     level & heard & sums & rows & tallies & shows_lists(replica, snapshot)
 }
 
