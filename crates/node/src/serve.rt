@@ -465,7 +465,7 @@ pub fn serve_commands<R: CountedRead, W: CountedWrite, V: Watch>(
     ensures stopped { IfErr result (λ e. (IsOfMachine e → ⊥) →
         StopsServing graph.now session.old.part e (R.remaining reader.old) (R.remaining reader.new)
         session.old session.new (W.contents writer.old) (W.contents writer.new)) }
-    // Memory is refused only where what was read is requests, and the front of a line.
+    // Memory is refused only where what was read is requests, and the front of a line or all of a request.
     ensures wanting { result ≡ Err ServeError.Memory →
         StopsWanting session.old.part (R.remaining reader.old) (R.remaining reader.new) }
     // A call failed exactly where that is told.
@@ -569,7 +569,8 @@ pub fn serve_node<R: CountedRead, W: CountedWrite, V: Watch>(
         StopsNode (job_settings_of options.now) options.now.counted part e
         (R.remaining reader.old) (R.remaining reader.new)
         (W.contents writer.old) (W.contents writer.new) }
-    // Behind the job memory is refused only where what was read is requests, and the front of a line.
+    // Behind the job memory is refused only where what was read is requests, and the front of a line or all of a
+    // request.
     ensures wanting { result ≡ Err (NodeError.Serve ServeError.Memory) →
         WantsNode (job_settings_of options.now) options.now.counted part
         (R.remaining reader.old) (R.remaining reader.new) }

@@ -33,8 +33,8 @@
 //! replica.close()                                    // Ok(1), the superstep that it is at now
 //! ```
 //!
-//! Only [`Replica::new`], [`Replica::rebuild`], [`Replica::out`], [`Replica::changed_rows`], [`Replica::out_of`],
-//! [`Replica::snapshot`], [`Replica::merge`] and a join take memory.
+//! Only [`Replica::new`], [`Replica::rebuild`], [`Replica::out`], [`Replica::changed_rows_into`],
+//! [`Replica::out_of`], [`Replica::snapshot`], [`Replica::merge`] and a join take memory.
 #![tactic(auto)]
 
 mod early;

@@ -1,4 +1,4 @@
-//! A replica: what it knows, and the room in which it goes on. Only its making, `out`, `changed_rows`, `out_of`,
+//! A replica: what it knows, and the room in which it goes on. Only its making, `out`, `changed_rows_into`, `out_of`,
 //! `snapshot` and `merge` take memory.
 
 ghost use Rattle.std.specs.Prelude.{◌≡◌, ◌≢◌, ℕ, ◌<◌, ◌≤◌, ◌+◌, ◌*◌, ◌/◌, ◌%◌, ◌^◌, ◌==◌, ◌&&◌};
@@ -254,13 +254,14 @@ impl Replica {
         self.progress.sent(alloc, target)
     }
 
-    /// The registers of the vertices that changed at this superstep, one row after the other.
+    /// Fills a table with the registers of the vertices that changed at this superstep, one row after the other.
     ///
-    /// As a shared table they are what [`Replica::out_of`] is asked with for each target.
-    pub fn changed_rows(&self, alloc: Global) -> Result<Vec<u8>, AllocError>
-        ensures { IfOk result (λ rows. rows.items ≡ changed_registers self.now) }
+    /// What stood in the table is gone, and its room is used again: memory is asked for only where that is too small.
+    /// As a shared table it is what [`Replica::out_of`] is asked with for each target.
+    pub fn changed_rows_into(&self, table: &mut Vec<u8>) -> Result<(), AllocError>
+        ensures { OnOk result (table.new.items ≡ changed_registers self.now) }
     {
-        self.progress.changed_rows(alloc)
+        self.progress.changed_rows_into(table)
     }
 
     /// What [`Replica::out`] tells `target`, with its registers in the table of those that changed, which all batches of

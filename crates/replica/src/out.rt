@@ -80,18 +80,18 @@ impl Progress {
         Ok(batch)
     }
 
-    /// The registers of the vertices that changed, one row after the other.
-    pub(crate) fn changed_rows(&self, alloc: Global) -> Result<Vec<u8>, AllocError>
-        ensures { IfOk result (λ out. out.items ≡ changed_registers self.now.state) }
+    /// Fills a table with the registers of the vertices that changed, one row after the other.
+    pub(crate) fn changed_rows_into(&self, table: &mut Vec<u8>) -> Result<(), AllocError>
+        ensures { OnOk result (table.new.items ≡ changed_registers self.now.state) }
     {
-        let room = self.changed_count() as usize * self.plan().width();
-        let mut out = Vec::with_capacity(alloc, room)?;
+        table.clear();
+        table.reserve_exact(self.changed_count() as usize * self.plan().width())?;
         let mut i = self.next_changed(0);
         while i < self.part.size() {
-            out.extend_from_slice(self.rows().row(i as usize))?;
+            table.extend_from_slice(self.rows().row(i as usize))?;
             i = self.next_changed(i + 1);
         }
-        Ok(out)
+        Ok(())
     }
 
     /// What [`Progress::sent`] is, where the registers of the vertices that changed lie in the table.

@@ -1,5 +1,5 @@
 -- Parts of a plan that get their job digest, one after another.
-use Rattle.std.proofs.Common.{◌≡◌, ◌<◌, ◌+◌, ℕ, zero, suc, List, [], ◌∷◌, ◌++◌, length, refl, sym, subst, arith, slice_index_or, length-append}
+use Rattle.std.proofs.Common.{◌≡◌, ◌<◌, ◌+◌, ℕ, suc, List, [], ◌∷◌, ◌++◌, length, sym, subst, arith, slice_index_or, length-append}
 use Rattle.std.specs.Prelude.{IfOk, Result}
 use Rattle.ball_model.specs.Job.{Job, PartValue, part_of}
 use Rattle.workers.specs.Job.{AreParts, EachAt, signed_job}

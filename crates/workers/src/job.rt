@@ -339,8 +339,8 @@ fn run_in<'s, 'a: 's, X, R: AllocGlobal + Threads + Wait + Sync, G: Gate + Sync>
     settle(rt.alloc(), ends)
 }
 
-/// Runs all nodes of a job by the parts of its partitions, a thread each, and gives the replica of each partition at the end of the run: that of the
-/// first of its nodes that is done.
+/// Runs all nodes of a job by the parts of its partitions, a thread each, and gives the replica of each partition at the
+/// end of the run: that of the first of its nodes that is done.
 pub fn run_job<R: AllocGlobal + Threads + Wait + Sync, G: Gate + Sync>(
     rt: &R,
     graph: &Graph,

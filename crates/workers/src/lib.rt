@@ -37,6 +37,7 @@ mod options;
 mod pages;
 mod planned;
 mod running;
+mod tables;
 mod turn;
 
 pub use bytes::{RunError, run};

@@ -16,6 +16,7 @@ ghost use Rattle.replica.specs.Sent.{batch_name};
 
 use crate::exchange::Exchange;
 use crate::gate::Gate;
+use crate::tables::Tables;
 use crate::turn::{Turn, catch_up, run_superstep};
 use ball_model::NodeId;
 use board::BoardError;
@@ -178,6 +179,7 @@ fn go_on<R: AllocGlobal + Wait, E: Exchange, G: Gate>(
         orders.now.restart ≡ None → result ≢ Err BookFull }
 {
     let mut restart = orders.restart;
+    let mut tables = Tables::none();
     for _ in rt.forever() {
         let superstep = replica.superstep();
         if falls_due(orders.lose, superstep) {
@@ -188,7 +190,7 @@ fn go_on<R: AllocGlobal + Wait, E: Exchange, G: Gate>(
             begin_anew(rt, exchange, node, part, replica)?;
             continue;
         }
-        match run_superstep(rt, exchange, gate, node, orders, replica)? {
+        match run_superstep(rt, exchange, gate, node, orders, &mut tables, replica)? {
             Turn::Next => {}
             Turn::Over => return Ok(Fate::Done),
             Turn::Starved { source } => {

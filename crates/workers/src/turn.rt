@@ -22,6 +22,7 @@ ghost use Rattle.workers.specs.Tie.{HasCome, HasGone};
 use crate::exchange::Exchange;
 use crate::gate::Gate;
 use crate::node::{NodeError, NodeOrders};
+use crate::tables::Tables;
 use ball_model::{BatchName, NodeId};
 use batches::Batch;
 use replica::{Replica, Shown, Snapshot};
@@ -118,13 +119,6 @@ fn keep_snapshot<R: AllocGlobal + Wait, E: Exchange>(
     Ok(())
 }
 
-// The registers of the vertices that changed, as the batches of the superstep share them.
-fn shared_table(alloc: Global, replica: &Replica) -> Result<Arc<Vec<u8>>, AllocError>
-    ensures { IfOk result (λ table. (arc_value table).items ≡ changed_registers replica.now) }
-{
-    Ok(Arc::new(alloc, replica.changed_rows(alloc)?)?)
-}
-
 // What another partition is told of the superstep, as threads share it.
 fn shared_batch(
     alloc: Global,
@@ -209,6 +203,7 @@ fn tell_all<R: AllocGlobal + Wait, E: Exchange, G: Gate>(
     exchange: &mut E,
     gate: &G,
     node: NodeId,
+    tables: &mut Tables,
     replica: &Replica,
 ) -> Result<(), NodeError>
     requires caller { IsCaller (E.caller exchange.old) }
@@ -226,7 +221,7 @@ fn tell_all<R: AllocGlobal + Wait, E: Exchange, G: Gate>(
     if replica.plan().parts() == 1 {
         return Ok(());
     }
-    let table = shared_table(rt.alloc(), replica)?;
+    let table = tables.next(rt.alloc(), replica)?;
     tell_each(rt, exchange, gate, node, replica, &table)
 }
 
@@ -383,6 +378,7 @@ pub fn run_superstep<R: AllocGlobal + Wait, E: Exchange, G: Gate>(
     gate: &G,
     node: NodeId,
     orders: &NodeOrders,
+    tables: &mut Tables,
     replica: &mut Replica,
 ) -> Result<Turn, NodeError>
     requires caller { IsCaller (E.caller exchange.old) }
@@ -402,7 +398,7 @@ pub fn run_superstep<R: AllocGlobal + Wait, E: Exchange, G: Gate>(
         result ≢ Err BookFull }
 {
     keep_snapshot(rt, exchange, node, orders.keep, replica)?;
-    tell_all(rt, exchange, gate, node, replica)?;
+    tell_all(rt, exchange, gate, node, tables, replica)?;
     drop_old(rt, exchange, orders.keep, replica.superstep())?;
     Ok(
         match gather(rt, exchange, gate, node, orders.patience, replica)? {

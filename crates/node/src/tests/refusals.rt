@@ -277,7 +277,7 @@ fn damaged_checkpoints_are_named(rt: HostRuntime) {
     assert!(rt; all_hold(&rt, &DAMAGED_CHECKPOINTS));
 }
 
-/// Commands at which a node gives up, what it answered before, and how it ends.
+/// Commands at which a node gives up, what it answered before, and how it ends; and, last, two that it refuses and goes on.
 static GIVEN_UP: [Case; 10] = [
     Case {
         parts: 2,

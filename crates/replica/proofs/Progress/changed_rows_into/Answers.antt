@@ -1,7 +1,7 @@
 use Rattle.std.proofs.Common.{ℕ, ◌+◌, ◌<◌, List, [], length, get_or, ◌++◌, ap, sym, ◌∙◌, arith}
 use Rattle.replica.specs.Sent.{changed_row}
 use Rattle.replica.proofs.ToldLemmas.{changed_more, changed_none, changed_over, row_of_changed}
-use Rattle.replica.proofs.Progress.changed_rows.Goals as goal
+use Rattle.replica.proofs.Progress.changed_rows_into.Goals as goal
 
 pub loop-i-init : goal.loop-i-init
 loop-i-init c =
@@ -10,7 +10,7 @@ loop-i-init c =
     record {
       in_range = omega (arith, is.next.high, is.state.marks);
       changed = λ lt. is.next.marked (omega (arith, lt, is.state.marks));
-      rows = changed_over v 0 c.next_changed-i.result _ is.next (c.in_ok-out.ensures.items ∙ sym (changed_none v));
+      rows = changed_over v 0 c.next_changed-i.result _ is.next (c.reserve_exact.ensures.items ∙ c.clear.ensures.items ∙ sym (changed_none v));
     }
 
 pub loop-i-preserved : goal.loop-i-preserved
@@ -20,7 +20,7 @@ loop-i-preserved c =
     let is = c.next_changed-i-in-loop-i.ensures in
     let inside : i < length v.part.preds = omega arith in
     let row = c.row.ensures.value ∙ ap (λ (l : List (List ℕ)). get_or l i []) c.rows.ensures.value ∙ sym (row_of_changed v i (c.loop-i.invariant.changed inside)) in
-    let more = c.in_ok-extend_from_slice.ensures.items ∙ ap (λ (l : List ℕ). c.loop-i.out.items ++ l) row ∙ ap (λ (l : List ℕ). l ++ changed_row v i) c.loop-i.invariant.rows ∙ sym (changed_more v i) in
+    let more = c.in_ok-extend_from_slice.ensures.items ∙ ap (λ (l : List ℕ). c.loop-i.table.items ++ l) row ∙ ap (λ (l : List ℕ). l ++ changed_row v i) c.loop-i.invariant.rows ∙ sym (changed_more v i) in
     record {
       in_range = omega (arith, is.next.high, is.state.marks);
       changed = λ lt. is.next.marked (omega (arith, lt, is.state.marks));
