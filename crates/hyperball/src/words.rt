@@ -72,11 +72,11 @@ Memory and accuracy:
   With --keep 0 and one partition a run takes at most about 2 * 2^log2m + 180 bytes a vertex and
   9 bytes an edge, and while it reads 110 bytes a vertex and 11 bytes an edge. With snapshots, which
   are the default, runs that were measured took 1.2 to 1.5 times as much. With several partitions
-  --keep 0 takes more memory, not less: nothing that they told one another is let go. The relative
-  error of a large set is about 1.04 / sqrt(2^log2m): 26 % at 4, 6.5 % at 8, 3.3 % at 10. A set of
-  fewer than 2.5 * 2^log2m vertices is estimated too large, the more so the smaller it is, unless
-  --estimate corrected is said: take it for figures that are to be near the true ones, and raw for
-  those that HyperLogLog's formula gives.
+  any --keep but 1 takes more memory, not less: what they told one another is let go only where each
+  superstep is kept. The relative error of a large set is about 1.04 / sqrt(2^log2m): 26 % at 4,
+  6.5 % at 8, 3.3 % at 10. A set of fewer than 2.5 * 2^log2m vertices is estimated too large, the
+  more so the smaller it is, unless --estimate corrected is said: take it for figures that are to be
+  near the true ones, and raw for those that HyperLogLog's formula gives.
 
 Cores:
   A run has a thread for each replica of each partition. The figures of the report are made by all cores.

@@ -256,12 +256,17 @@ impl Replica {
 
     /// Fills a table with the registers of the vertices that changed at this superstep, one row after the other.
     ///
-    /// What stood in the table is gone, and its room is used again: memory is asked for only where that is too small.
-    /// As a shared table it is what [`Replica::out_of`] is asked with for each target.
+    /// What stood in the table is gone, and its room is used again. As a shared table it is what [`Replica::out_of`] is
+    /// asked with for each target. Where memory is refused the table is empty.
     pub fn changed_rows_into(&self, table: &mut Vec<u8>) -> Result<(), AllocError>
-        ensures { OnOk result (table.new.items ≡ changed_registers self.now) }
+        ensures ok { OnOk result (table.new.items ≡ changed_registers self.now) }
+        ensures refused { OnErr result (table.new.items ≡ []) }
     {
-        self.progress.changed_rows_into(table)
+        let filled = self.progress.changed_rows_into(table);
+        if filled.is_err() {
+            table.clear();
+        }
+        filled
     }
 
     /// What [`Replica::out`] tells `target`, with its registers in the table of those that changed, which all batches of

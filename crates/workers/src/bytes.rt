@@ -324,7 +324,9 @@ fn write_text<W: CountedWrite>(writer: &mut W, text: &Pages) -> Result<(), RunEr
 ///
 /// Memory is some two times 2^log2m bytes and 40 bytes of figures and weights a vertex and replica; where snapshots are
 /// kept, 2^log2m and 32 bytes more, and of each snapshot the accumulators where what is heard has raised a row; 4 bytes a
-/// vertex and an edge of the index that says whom an edge leads to; the graph and its parts; and the report.
+/// vertex and an edge of the index that says whom an edge leads to; where there are several partitions, the rows that
+/// changed, in up to three tables, and in all of the run where a snapshot of each superstep is not kept; the graph and its
+/// parts; and the report.
 pub fn run<T: AllocGlobal + Threads + Wait + Sync, R: CountedRead, W: CountedWrite, G: Gate + Sync>(
     rt: &T,
     state: RandomState,

@@ -37,7 +37,7 @@ mod options;
 mod pages;
 mod planned;
 mod running;
-mod tables;
+mod shared;
 mod turn;
 
 pub use bytes::{RunError, run};

@@ -16,7 +16,7 @@ ghost use Rattle.replica.specs.Sent.{batch_name};
 
 use crate::exchange::Exchange;
 use crate::gate::Gate;
-use crate::tables::Tables;
+use crate::shared::SharedTables;
 use crate::turn::{Turn, catch_up, run_superstep};
 use ball_model::NodeId;
 use board::BoardError;
@@ -179,7 +179,7 @@ fn go_on<R: AllocGlobal + Wait, E: Exchange, G: Gate>(
         orders.now.restart ≡ None → result ≢ Err BookFull }
 {
     let mut restart = orders.restart;
-    let mut tables = Tables::none();
+    let mut tables = SharedTables::none();
     for _ in rt.forever() {
         let superstep = replica.superstep();
         if falls_due(orders.lose, superstep) {

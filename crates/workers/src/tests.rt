@@ -7,6 +7,7 @@ mod refusals;
 mod rows;
 mod runs;
 mod schedules;
+mod tables;
 mod texts;
 
 ghost use Rattle.std.specs.Arc.{arc_value};
@@ -17,7 +18,7 @@ ghost use Rattle.board.specs.Seats.{least_entries, most_entries};
 use super::*;
 use ball_model::{CountingReader, NodeId, Plan, Verdict};
 use edgelist::{Delimiter, EdgeLimits, Graph, Part, read_edges};
-use replica::Shown;
+use replica::{Replica, Shown};
 use std::alloc::{AllocGlobal, Global};
 use std::hash::RandomState;
 use std::random::RandomSource;

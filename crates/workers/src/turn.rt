@@ -22,7 +22,7 @@ ghost use Rattle.workers.specs.Tie.{HasCome, HasGone};
 use crate::exchange::Exchange;
 use crate::gate::Gate;
 use crate::node::{NodeError, NodeOrders};
-use crate::tables::Tables;
+use crate::shared::{SharedTable, SharedTables};
 use ball_model::{BatchName, NodeId};
 use batches::Batch;
 use replica::{Replica, Shown, Snapshot};
@@ -123,7 +123,7 @@ fn keep_snapshot<R: AllocGlobal + Wait, E: Exchange>(
 fn shared_batch(
     alloc: Global,
     replica: &Replica,
-    table: &Arc<Vec<u8>>,
+    table: &SharedTable,
     target: u16,
 ) -> Result<Arc<Batch>, AllocError>
     requires target { target < replica.now.part.plan.parts }
@@ -142,7 +142,7 @@ fn tell<R: AllocGlobal + Wait, E: Exchange, G: Gate>(
     gate: &G,
     node: NodeId,
     replica: &Replica,
-    table: &Arc<Vec<u8>>,
+    table: &SharedTable,
     target: u16,
 ) -> Result<(), NodeError>
     requires caller { IsCaller (E.caller exchange.old) }
@@ -173,7 +173,7 @@ fn tell_each<R: AllocGlobal + Wait, E: Exchange, G: Gate>(
     gate: &G,
     node: NodeId,
     replica: &Replica,
-    table: &Arc<Vec<u8>>,
+    table: &SharedTable,
 ) -> Result<(), NodeError>
     requires caller { IsCaller (E.caller exchange.old) }
     requires stands { StandsIn (E.caller exchange.old) node.part replica.now }
@@ -203,7 +203,7 @@ fn tell_all<R: AllocGlobal + Wait, E: Exchange, G: Gate>(
     exchange: &mut E,
     gate: &G,
     node: NodeId,
-    tables: &mut Tables,
+    tables: &mut SharedTables,
     replica: &Replica,
 ) -> Result<(), NodeError>
     requires caller { IsCaller (E.caller exchange.old) }
@@ -378,7 +378,7 @@ pub fn run_superstep<R: AllocGlobal + Wait, E: Exchange, G: Gate>(
     gate: &G,
     node: NodeId,
     orders: &NodeOrders,
-    tables: &mut Tables,
+    tables: &mut SharedTables,
     replica: &mut Replica,
 ) -> Result<Turn, NodeError>
     requires caller { IsCaller (E.caller exchange.old) }

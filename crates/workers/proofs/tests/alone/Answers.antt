@@ -1,5 +1,5 @@
-use Rattle.std.proofs.Common.{◌≡◌, ◌∙◌, ◌<◌, sym, ap, subst}
-use Rattle.ball_model.specs.Job.{IsJob, Job, job_of, part_of}
+use Rattle.std.proofs.Common.{◌∙◌, ◌<◌, sym, ap, subst}
+use Rattle.ball_model.specs.Job.{IsJob, Job, part_of}
 use Rattle.ball_model.specs.History.{History}
 use Rattle.workers.proofs.tests.alone.Goals as goal
 

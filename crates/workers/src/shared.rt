@@ -1,0 +1,86 @@
+//! The tables that a node's batches share.
+
+ghost use Rattle.std.specs.Prelude.{◌≡◌, IfOk};
+ghost use Rattle.std.specs.Arc.{arc_value};
+ghost use Rattle.replica.specs.Sent.{changed_registers};
+
+use replica::Replica;
+use std::alloc::{AllocError, Global};
+use std::sync::Arc;
+
+/// A table of rows that batches share.
+pub(crate) type SharedTable = Arc<Vec<u8>>;
+
+/// The last three tables that a node's batches shared.
+///
+/// Where each superstep is kept, batches are dropped two supersteps after they were posted. So as a rule nobody else has
+/// their table three supersteps later, and nobody ever has that of batches that another node posted first. Such a table is
+/// filled again: with a new one each superstep, runs took more memory.
+pub(crate) struct SharedTables {
+    latest: Option<SharedTable>,
+    before: Option<SharedTable>,
+    oldest: Option<SharedTable>,
+}
+
+// Written out, and so one call wherever one is let go.
+impl Drop for SharedTables {
+    fn drop(self) {
+        let SharedTables {
+            latest: _,
+            before: _,
+            oldest: _,
+        } = self;
+    }
+}
+
+impl SharedTables {
+    /// Those of no superstep.
+    pub(crate) fn none() -> SharedTables {
+        SharedTables {
+            latest: None,
+            before: None,
+            oldest: None,
+        }
+    }
+
+    /// The registers of the vertices that changed, as the batches of a superstep share them.
+    pub(crate) fn next(
+        &mut self,
+        alloc: Global,
+        replica: &Replica,
+    ) -> Result<SharedTable, AllocError>
+        ensures { IfOk result (λ table. (arc_value table).items ≡ changed_registers replica.now) }
+    {
+        let mut rows = self.free().unwrap_or(Vec::new(alloc));
+        replica.changed_rows_into(&mut rows)?;
+        let table = Arc::new(alloc, rows)?;
+        self.keep(Arc::try_clone(&table)?);
+        Ok(table)
+    }
+
+    // A table that nobody else has. Where there is more than one, the others are let go.
+    fn free(&mut self) -> Option<Vec<u8>> {
+        let latest = take_free(&mut self.latest);
+        let before = take_free(&mut self.before);
+        let oldest = take_free(&mut self.oldest);
+        latest.or(before).or(oldest)
+    }
+
+    // Keeps a table as the latest.
+    fn keep(&mut self, table: SharedTable) {
+        self.oldest = self.before.take();
+        self.before = self.latest.take();
+        self.latest = Some(table);
+    }
+}
+
+// Takes the table out, where nobody else has it.
+fn take_free(table: &mut Option<SharedTable>) -> Option<Vec<u8>> {
+    match Arc::try_unwrap(table.take()?) {
+        Ok(rows) => Some(rows),
+        Err(shared) => {
+            *table = Some(shared);
+            None
+        }
+    }
+}
