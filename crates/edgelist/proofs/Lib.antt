@@ -20,3 +20,4 @@ pub mod OwnLemmas
 pub mod InputLemmas
 pub mod PlanLemmas
 pub mod Crossing
+pub mod RowLemmas

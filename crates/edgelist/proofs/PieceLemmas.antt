@@ -1,5 +1,5 @@
 -- What of an edge list is read some lines at a time.
-use Rattle.std.proofs.Common.{◌≡◌, ◌∙◌, ◌+◌, ℕ, List, [], ◌∷◌, ◌++◌, false, ◌==◌, arith, ap, refl, sym, subst, append_assoc, inl, inr, map, Ok}
+use Rattle.std.proofs.Common.{◌≡◌, ◌∙◌, ◌+◌, ℕ, List, [], ◌∷◌, ◌++◌, false, ◌==◌, arith, ap, refl, sym, subst, append_assoc, inl, inr, length, map, Ok}
 use Rattle.std.specs.Prelude.{Option}
 use Rattle.std.specs.List.{filter}
 use Rattle.std.proofs.lemmas.Bool.{cases_Bool}
@@ -7,8 +7,8 @@ use Rattle.std.proofs.lemmas.List.{append-nil, length-append, map-append}
 use Rattle.std.proofs.lemmas.List.Elements.{filter-append}
 use Rattle.csv.specs.declared.reader.Reader.{Reader}
 use Rattle.ball_model.specs.Input.{HasLfs, IsPlain, Limits, StartsWithLf, fields, has_mark, is_record, lines, network_from, records}
-use Rattle.edgelist.specs.Pieces.{EndsLine, IsLeftOf, IsThrough}
-use Rattle.edgelist.specs.Records.{FindsNone, IsLeft, StopsAtEnd, config, is_row, rows}
+use Rattle.edgelist.specs.Pieces.{AddsRecords, EndsLine, IsLeftOf, IsThrough, Runs}
+use Rattle.edgelist.specs.Records.{FindsNone, IsLeft, ReadsAll, ReadsOne, StopsAtEnd, config, is_row, rows}
 use Rattle.edgelist.specs.Reading.{AddsRecord, EndsAt, Refuses, Stops, network_by}
 use Rattle.edgelist.specs.declared.edge.Edge.{Edge}
 use Rattle.edgelist.specs.declared.read.EdgeError.{EdgeError}
@@ -33,11 +33,7 @@ through-more limits n rs f labels labels' edges edges' t adds = record {
   clean = clean-more limits rs f t.clean (rw t.count (adds.passes rs t.count t.so));
 }
 
--- some records of a text were read after others
-pub record Runs {R : Type 0} (rem : R → Option (List ℕ)) (d : ℕ) (limits : Limits) (n : ℕ) (before : Records) (text : List ℕ) (rdr : Reader R) (labels : List (List ℕ)) (edges : List Edge) : Type 0 where
-  pub past : Records
-  pub at : IsLeft rem d text past rdr
-  pub through : IsThrough limits n (before ++ past) labels edges
+-- ---- some records of a text that were read after others
 
 pub runs-start : {R : Type 0} (rem : R → Option (List ℕ)) (d : ℕ) (limits : Limits) (n : ℕ) (before : Records) (text : List ℕ) (rdr : Reader R) (labels : List (List ℕ)) (edges : List Edge) →
     IsLeft rem d text [] rdr → IsThrough limits n before labels edges → Runs rem d limits n before text rdr labels edges
@@ -100,6 +96,43 @@ runs-ends rem d limits n text a b labels edges f e runs at stops =
 -- the network of all records
 pub through-network : (limits : Limits) (n : ℕ) (rs : Records) (labels : List (List ℕ)) (edges : List Edge) → IsThrough limits n rs labels edges → network_from limits rs ≡ Ok (network_by labels edges)
 through-network limits n rs labels edges t = says-network limits rs labels edges t.clean t.so
+
+-- ---- records that are added one after another
+
+pub adds-none : (limits : Limits) (n : ℕ) (labels : List (List ℕ)) (edges : List Edge) → AddsRecords limits n [] labels edges labels edges
+adds-none limits n labels edges =
+    let same : n + 0 ≡ n = omega arith in
+    record {
+      through = λ before t. rw same (subst (λ (rs : Records). IsThrough limits n rs labels edges) (sym (append-nil before)) t);
+      within = λ w. rw same w;
+    }
+
+pub adds-more : (limits : Limits) (n : ℕ) (rs : Records) (f : List (List ℕ)) (a b c : List (List ℕ)) (x y z : List Edge) →
+    AddsRecords limits n rs a x b y → AddsRecord limits (n + length rs) f b y c z → AddsRecords limits n (rs ++ f ∷ []) a x c z
+adds-more limits n rs f a b c x y z adds one =
+    let long : n + length (rs ++ f ∷ []) ≡ n + length rs + 1 = omega (arith, length-append rs (f ∷ [])) in
+    record {
+      through = λ before t. rw long (subst (λ (all : Records). IsThrough limits (n + length rs + 1) all c z) (append_assoc before rs (f ∷ []))
+          (through-more limits (n + length rs) (before ++ rs) f b c y z (adds.through before t) one));
+      within = λ w. rw long (one.within (adds.within w));
+    }
+
+-- records that were read and added
+pub runs-all : {R : Type 0} (rem : R → Option (List ℕ)) (d : ℕ) (limits : Limits) (n : ℕ) (before : Records) (text : List ℕ) (a b : Reader R) (labels labels' : List (List ℕ)) (edges edges' : List Edge) (rs : Records) →
+    Runs rem d limits n before text a labels edges → ReadsAll rem a b rs → AddsRecords limits n rs labels edges labels' edges' → Runs rem d limits (n + length rs) before text b labels' edges'
+runs-all rem d limits n before text a b labels labels' edges edges' rs runs reads adds = record {
+  past = runs.past ++ rs;
+  at = reads d text runs.past runs.at;
+  through = subst (λ (all : Records). IsThrough limits (n + length rs) all labels' edges') (append_assoc before runs.past rs) (adds.through (before ++ runs.past) runs.through);
+}
+
+-- one more record that was read
+pub reads-more : {R : Type 0} (rem : R → Option (List ℕ)) (a b c : Reader R) (rs : Records) (f : List (List ℕ)) → ReadsAll rem a b rs → ReadsOne rem b c f → ReadsAll rem a c (rs ++ f ∷ [])
+reads-more rem a b c rs f all one = λ d text past at.
+    subst (λ (ps : Records). IsLeft rem d text ps c) (append_assoc past rs (f ∷ [])) (one d text (past ++ rs) (all d text past at))
+
+pub reads-nothing : {R : Type 0} (rem : R → Option (List ℕ)) (a : Reader R) → ReadsAll rem a a []
+reads-nothing rem a = λ d text past at. subst (λ (ps : Records). IsLeft rem d text ps a) (sym (append-nil past)) at
 
 -- ---- lines of more than one piece
 

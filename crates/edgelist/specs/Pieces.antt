@@ -1,7 +1,9 @@
 -- Records that are read some lines at a time.
-use Rattle.std.specs.Prelude.{◌≡◌, ℕ, List, [], ◌∷◌, ◌++◌, length, ◌⊎◌}
+use Rattle.std.specs.Prelude.{◌≡◌, ℕ, ◌+◌, List, [], ◌∷◌, ◌++◌, Option, length, ◌⊎◌}
+use Rattle.csv.specs.declared.reader.Reader.{Reader}
+use Rattle.edgelist.specs.Records.{IsLeft}
 use Rattle.ball_model.specs.Input.{Limits}
-use Rattle.edgelist.specs.Reading.{IsClean, IsReadAs}
+use Rattle.edgelist.specs.Reading.{AreWithin, IsClean, IsReadAs}
 use Rattle.edgelist.specs.declared.edge.Edge.{Edge}
 
 -- so many records were read: the labels and edges are theirs, and no check fails at any of them
@@ -10,6 +12,23 @@ pub record IsThrough (limits : Limits) (number : ℕ) (records : List (List (Lis
   pub count : length records ≡ number
   pub so : IsReadAs records labels edges
   pub clean : IsClean limits records
+
+-- some records of a text were read after others
+pub record Runs {R : Type 0} (rem : R → Option (List ℕ)) (d : ℕ) (limits : Limits) (n : ℕ)
+    (before : List (List (List ℕ))) (text : List ℕ) (rdr : Reader R) (labels : List (List ℕ))
+    (edges : List Edge) : Type 0 where
+  pub past : List (List (List ℕ))
+  pub at : IsLeft rem d text past rdr
+  pub through : IsThrough limits n (before ++ past) labels edges
+
+-- these records more, none of which is refused, made these of those
+pub record AddsRecords (limits : Limits) (number : ℕ) (rs : List (List (List ℕ)))
+    (labels : List (List ℕ)) (edges : List Edge) (labels' : List (List ℕ)) (edges' : List Edge) :
+    Type 0 where
+  pub through : (before : List (List (List ℕ))) → IsThrough limits number before labels edges →
+      IsThrough limits (number + length rs) (before ++ rs) labels' edges'
+  pub within : AreWithin limits.vertices number labels edges →
+      AreWithin limits.vertices (number + length rs) labels' edges'
 
 -- no line is cut by the end of the text
 abbrev pub EndsLine : List ℕ → Type 0

@@ -8,7 +8,7 @@ use Rattle.csv.specs.declared.parser.State.{State}
 use Rattle.csv.specs.declared.parser.Terminator.TheVariants as term
 use Rattle.csv.specs.declared.reader.Reader.{Reader}
 use Rattle.csv.specs.declared.reader.Trim.TheVariants as trim
-use Rattle.ball_model.specs.Input.{IsPlain, records}
+use Rattle.ball_model.specs.Input.{IsPlain, has_form, records}
 
 -- how the reader is set up, with this byte between fields
 abbrev pub config : ℕ → Config
@@ -99,3 +99,28 @@ pub record StopsAtEnd {R : Type 0} (rem : R → Option (List ℕ)) (d : ℕ) (te
   pub before : Reader R
   pub at : IsLeft rem d text (records d text) before
   pub last : IsLastRead rem before rdr
+
+-- a record has one or two fields, and none is empty
+abbrev pub HasForm : List (List ℕ) → Type 0
+HasForm fields = has_form fields ≡ true
+
+-- some records were read, one after another
+abbrev pub ReadsAll : {R : Type 0} → (R → Option (List ℕ)) → Reader R → Reader R →
+    List (List (List ℕ)) →
+    Type 0
+ReadsAll rem old new rs = (d : ℕ) (text : List ℕ) (past : List (List (List ℕ))) →
+    IsLeft rem d text past old → IsLeft rem d text (past ++ rs) new
+
+-- some records were read, and then one with these fields
+pub record ReadsOneAfter {R : Type 0} (rem : R → Option (List ℕ)) (old new : Reader R)
+    (rs : List (List (List ℕ))) (fields : List (List ℕ)) : Type 0 where
+  pub middle : Reader R
+  pub reads : ReadsAll rem old middle rs
+  pub one : ReadsOne rem middle new fields
+
+-- some records were read, and then none was left
+pub record ReadsNoneAfter {R : Type 0} (rem : R → Option (List ℕ)) (old new : Reader R)
+    (rs : List (List (List ℕ))) : Type 0 where
+  pub middle : Reader R
+  pub reads : ReadsAll rem old middle rs
+  pub none : ReadsNone rem middle new

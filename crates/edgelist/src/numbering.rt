@@ -11,6 +11,7 @@ ghost use Rattle.edgelist.specs.Labels.{texts};
 ghost use Rattle.edgelist.specs.Reading.{has_label, with_label};
 
 use crate::labels::Labels;
+use csv::ByteRecord;
 use indexmap::IndexSet;
 use std::alloc::{AllocError, Global};
 use std::hash::RandomState;
@@ -24,6 +25,9 @@ const FIRST: usize = 8;
 
 // The number of entries at first, of 16 bytes each.
 const FIRST_ENTRIES: usize = 131_072;
+
+// A table of so many entries is in the cache most often, and there is no need to look ahead.
+const IN_CACHE: usize = 524_288;
 
 // The number of entries of a group: they stand side by side, most often in one line of the cache.
 const GROUP: usize = 4;
@@ -75,12 +79,25 @@ impl Model for Numbering {
     ghost invariant = { λ n. AreGuesses (texts n.labels) n.entries.items };
 }
 
+// Eight bytes as the digits of one number.
+fn eight(part: &[u8]) -> u64
+    requires { length part.now ≡ 8 }
+    ensures { result ≡ bytes_after 0 part.now }
+{
+    u64::from_be_bytes([
+        part[0], part[1], part[2], part[3], part[4], part[5], part[6], part[7],
+    ])
+}
+
 // Some bytes of a label as the digits of one number.
 fn digits(part: &[u8]) -> u64
     requires { length part.now ≤ 8 }
     ensures value { result ≡ bytes_after 0 part.now }
     ensures few { length part.now ≤ 3 → result < 2 ^ 24 }
 {
+    if part.len() == FIRST {
+        return eight(part);
+    }
     let mut digits = 0u64;
     for byte in part {
         digits = digits * 256 + u64::from(*byte);
@@ -130,6 +147,38 @@ fn guess(entries: &[Entry], word: LabelWord) -> Option<usize>
         }
     }
     None
+}
+
+// Whether the first entry of a label's group is blank, so that it is a new label.
+fn is_new(entries: &[Entry], label: &[u8]) -> bool {
+    if label.len() > SHORT {
+        return false;
+    }
+    let place = group(word(label), entries.len());
+    place < entries.len() && entries[place].high == 0
+}
+
+// How many of a row's first two fields are new labels.
+fn count_new_in(entries: &[Entry], row: &ByteRecord) -> usize
+    ensures { result ≤ 2 }
+{
+    let mut new = 0;
+    if let Some(source) = row.get(0) {
+        new += usize::from(is_new(entries, source));
+    }
+    if let Some(target) = row.get(1) {
+        new += usize::from(is_new(entries, target));
+    }
+    new
+}
+
+// How many labels of these rows are new.
+fn count_new(entries: &[Entry], rows: &[ByteRecord]) -> usize {
+    let mut new = 0usize;
+    for row in rows {
+        new = new.saturating_add(count_new_in(entries, row));
+    }
+    new
 }
 
 // The place in a group for one more entry: the first that is blank, or else that of its first
@@ -292,16 +341,27 @@ impl Numbering {
         ensures labels { OnOk result (self.new ≡ with_label self.old label.now) }
         ensures kept { OnErr result (self.new ≡ self.old) }
     {
-        self.make_room(alloc)?;
+        self.make_room(alloc, 1)?;
         insert(alloc, &mut self.labels, label)
     }
 
-    // Four times as many entries, where there are as many labels as entries or more.
-    fn make_room(&mut self, alloc: Global) -> Result<(), AllocError>
+    /// Looks at the first entry of each label of these rows, and makes room for as many labels as have a blank one there.
+    /// No look waits for another. Where memory is refused, whoever puts a label there later is told so.
+    pub(crate) fn look_ahead(&mut self, alloc: Global, rows: &[ByteRecord])
+        ensures { self.new ≡ self.old }
+    {
+        if self.entries.len() > IN_CACHE {
+            let new = count_new(&self.entries, rows);
+            let _room = self.make_room(alloc, new);
+        }
+    }
+
+    // Four times as many entries, where there would be more labels than entries with so many new ones.
+    fn make_room(&mut self, alloc: Global, new: usize) -> Result<(), AllocError>
         ensures { self.new ≡ self.old }
     {
         let count = self.entries.len();
-        if self.len() >= count {
+        if self.len().saturating_add(new) > count {
             let mut entries = blank(alloc, count.saturating_mul(4))?;
             put_entries(&mut entries, &self.entries);
             self.entries = entries;

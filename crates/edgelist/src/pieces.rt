@@ -14,9 +14,8 @@ ghost use Rattle.edgelist.specs.Reading.{AreWithin, Refuses, byte_of, limits_of,
 ghost use Rattle.edgelist.specs.declared.read.EdgeError.TheVariants as refused;
 
 use crate::read::{Delimiter, EdgeError, EdgeLimits, EdgeList, MOST_RECORDS, Reading};
-use crate::records::reader_of;
+use crate::records::{BATCH, reader_of, rows_for};
 use ball_model::plan::MOST_VERTICES;
-use csv::ByteRecord;
 use std::alloc::Global;
 use std::hash::RandomState;
 
@@ -65,8 +64,8 @@ fn read_lines(
     ensures read { result ≢ Err EdgeError.Read }
 {
     let mut reader = reader_of(alloc, lines, delimiter);
-    let mut row = ByteRecord::new(alloc);
-    let read = reading.read_more(alloc, &mut reader, &mut row, number, limits);
+    let mut rows = rows_for(alloc, BATCH)?;
+    let read = reading.read_more(alloc, &mut reader, &mut rows, number, limits);
     without_read(read)
 }
 

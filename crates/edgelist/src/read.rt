@@ -3,7 +3,8 @@
 ghost use Rattle.std.specs.Prelude.{◌≡◌, ◌≢◌, ◌≤◌, ◌<◌, ◌+◌, ◌-◌, ◌^◌, ℕ, List, Result, true};
 ghost use Rattle.std.specs.Prelude.{false, Some, Ok, Err, IfSome, IfNone, OnSome, IfOk, IfErr};
 ghost use Rattle.std.specs.Prelude.{OnOk, OnErr, length, option_copied, slice_index_or, [], ◌∷◌};
-ghost use Rattle.std.specs.Prelude.{◌++◌};
+ghost use Rattle.std.specs.Prelude.{◌++◌, ◌*◌, map, take};
+ghost use Rattle.std.specs.List.{All};
 ghost use Rattle.std.specs.Io.KnownBytes.{ReadConsumes};
 ghost use Rattle.std.specs.Io.{ReadsAtMost};
 ghost use Rattle.csv.specs.Records.{fields_of};
@@ -13,18 +14,19 @@ ghost use Rattle.ball_model.specs.Input.{Network, Refusal, IsPlain, most_records
 ghost use Rattle.ball_model.specs.Input.{has_form, network_from, input_of};
 ghost use Rattle.edgelist.specs.Edges.{edge_of, graph_of_edges};
 ghost use Rattle.edgelist.specs.declared.read.EdgeError.TheVariants.{Memory};
-ghost use Rattle.edgelist.specs.Pieces.{IsThrough};
-ghost use Rattle.edgelist.specs.Records.{ForPlain, FromStart, ReadsNone, ReadsOne};
+ghost use Rattle.edgelist.specs.Pieces.{AddsRecords, IsThrough, Runs};
+ghost use Rattle.edgelist.specs.Records.{ForPlain, FromStart, HasForm, ReadsNone, ReadsNoneAfter};
+ghost use Rattle.edgelist.specs.Records.{ReadsOne, ReadsOneAfter, StopsAtEnd};
 ghost use Rattle.edgelist.specs.Reading.{byte_of, limits_of, meaning_of, meaning_within, CountsOne};
 ghost use Rattle.edgelist.specs.Reading.{IsReadBy, Refuses, edge_error, fields_with, has_label};
 ghost use Rattle.edgelist.specs.Reading.{with_label, network_by};
 ghost use Rattle.edgelist.specs.Reading.{AreWithin, AddsEdge, Exceeds, AddsRecord, Stops};
-ghost use Rattle.edgelist.specs.Reading.{EndsAtEnd, EndsAtFault};
+ghost use Rattle.edgelist.specs.Reading.{EndsAt, EndsAtEnd, EndsAtFault, IsRefusal};
 
 use crate::edge::Edge;
 use crate::graph::Graph;
 use crate::numbering::Numbering;
-use crate::records::{next_record, reader_of};
+use crate::records::{BATCH, next_record, reader_of, rows_for};
 use ball_model::CountedRead;
 use ball_model::plan::MOST_VERTICES;
 use csv::{ByteRecord, Reader};
@@ -156,6 +158,35 @@ fn next_row<R: Read + Drop>(reader: &mut Reader<R>, row: &mut ByteRecord) -> Res
     Ok(more)
 }
 
+// Reads records: at most `most` that have the form of one, and then one more, whatever its form. Tells how many of them
+// have it for certain, and whether one more was read. A row without that form is the last that is read.
+fn read_rows<R: Read + Drop>(
+    reader: &mut Reader<R>,
+    rows: &mut [ByteRecord],
+    most: usize,
+) -> Result<(usize, bool), EdgeError>
+    requires { most < length rows.old }
+    ensures few { IfOk result (λ r. r.0 ≤ most) }
+    ensures form { IfOk result (λ r. All HasForm (map fields_of (take r.0 rows.new))) }
+    ensures one { IfOk result (λ r. r.1 ≡ true → ReadsOneAfter R.remaining reader.old reader.new
+        (map fields_of (take r.0 rows.new)) (slice_index_or (map fields_of rows.new) r.0 [])) }
+    ensures end { IfOk result (λ r. r.1 ≡ false → ReadsNoneAfter R.remaining reader.old reader.new
+        (map fields_of (take r.0 rows.new))) }
+    ensures failed { IfErr result (λ e. (says : Result Network Refusal) → Refuses says e) }
+{
+    for i in 0..most {
+        let more = next_row(reader, &mut rows[i])?;
+        if !more {
+            return Ok((i, false));
+        }
+        let Some(_fields) = fields_in(&rows[i]) else {
+            return Ok((i, true));
+        };
+    }
+    let more = next_row(reader, &mut rows[most])?;
+    Ok((most, more))
+}
+
 // Adds the edge from a source to a target.
 fn push_edge(edges: &mut Vec<Edge>, target: u32, source: u32) -> Result<(), AllocError>
     ensures { OnOk result (edges.new.items ≡ edges.old.items ++ edge_of target source ∷ []) }
@@ -252,6 +283,9 @@ impl Reading {
             self.old.labels self.old.edges.items) }
         ensures memory { result ≡ Err EdgeError.Memory →
             length self.old.labels ≤ limits.vertices → length self.new.labels ≤ limits.vertices }
+        ensures grows { OnOk result (length self.new.labels ≤ length self.old.labels + 2) }
+        ensures room { number < limits.edges → has_form (fields_of row.now) ≡ true →
+            length self.old.labels + 2 ≤ limits.vertices → IfErr result (λ e. e ≡ Memory) }
     {
         if number >= limits.edges {
             return Err(EdgeError::TooManyEdges);
@@ -267,7 +301,121 @@ impl Reading {
 }
 
 impl Reading {
-    // Adds all records that are left, which follow `number` others, one after another, and tells how many there are
+    // Adds records that follow `number` others, each of which has the form of one; there is room for all their labels.
+    fn add_each(
+        &mut self,
+        alloc: Global,
+        rows: &[ByteRecord],
+        number: u64,
+        limits: EdgeLimits,
+    ) -> Result<(), EdgeError>
+        requires few { limits.edges ≤ most_records }
+        requires form { All HasForm (map fields_of rows.now) }
+        requires number { number + length rows.now ≤ limits.edges }
+        requires room { length self.old.labels + 2 * length rows.now ≤ limits.vertices }
+        ensures adds { OnOk result (AddsRecords (limits_of limits) number (map fields_of rows.now)
+            self.old.labels self.old.edges.items self.new.labels self.new.edges.items) }
+        ensures memory { IfErr result (λ e. e ≡ Memory) }
+    {
+        for i in 0..rows.len() {
+            self.add(alloc, &rows[i], number + i as u64, limits)?;
+        }
+        Ok(())
+    }
+
+    // The same, once their entries were looked at.
+    fn add_rows(
+        &mut self,
+        alloc: Global,
+        rows: &[ByteRecord],
+        number: u64,
+        limits: EdgeLimits,
+    ) -> Result<(), EdgeError>
+        requires few { limits.edges ≤ most_records }
+        requires form { All HasForm (map fields_of rows.now) }
+        requires number { number + length rows.now ≤ limits.edges }
+        requires room { length self.old.labels + 2 * length rows.now ≤ limits.vertices }
+        ensures adds { OnOk result (AddsRecords (limits_of limits) number (map fields_of rows.now)
+            self.old.labels self.old.edges.items self.new.labels self.new.edges.items) }
+        ensures memory { IfErr result (λ e. e ≡ Memory) }
+    {
+        self.labels.look_ahead(alloc, rows);
+        self.add_each(alloc, rows, number, limits)
+    }
+
+    // How many records, of so many at most, can follow `number` others with no refusal but of memory, whatever their
+    // labels are.
+    fn room_for(&self, most: usize, number: u64, limits: EdgeLimits) -> usize
+        requires number { number ≤ limits.edges }
+        requires labels { length self.now.labels ≤ limits.vertices }
+        ensures most { result ≤ most }
+        ensures number { number + result ≤ limits.edges }
+        ensures room { length self.now.labels + 2 * result ≤ limits.vertices }
+    {
+        let labels = (limits.vertices as usize - self.labels.len()) / 2;
+        if most <= labels && most as u64 <= limits.edges - number {
+            most
+        } else {
+            0
+        }
+    }
+
+    // Reads and adds records that follow `number` others, as many as there are rows at most. Tells how many there are
+    // then, and whether there may be more. The entries of their labels are looked at before the first is added, so that
+    // no look waits for another. Only the last record that is read can be refused.
+    fn read_batch<R: Read + Drop>(
+        &mut self,
+        alloc: Global,
+        reader: &mut Reader<R>,
+        rows: &mut [ByteRecord],
+        number: u64,
+        limits: EdgeLimits,
+    ) -> Result<(u64, bool), EdgeError>
+        requires rows { 0 < length rows.old }
+        requires few { limits.edges ≤ most_records }
+        requires number { number ≤ limits.edges }
+        requires within { AreWithin limits.vertices number self.old.labels self.old.edges.items }
+        ensures number { IfOk result (λ r. r.0 ≤ limits.edges) }
+        ensures later { IfOk result (λ r. r.1 ≡ true → number < r.0) }
+        ensures within { IfOk result (λ r.
+            AreWithin limits.vertices r.0 self.new.labels self.new.edges.items) }
+        ensures goes { (d : ℕ) (text : List ℕ) (before : List (List (List ℕ))) →
+            Runs R.remaining d (limits_of limits) number before text reader.old
+            self.old.labels self.old.edges.items → IfOk result (λ r. r.1 ≡ true →
+            Runs R.remaining d (limits_of limits) r.0 before text reader.new
+            self.new.labels self.new.edges.items) }
+        ensures end { (d : ℕ) (text : List ℕ) (before : List (List (List ℕ))) →
+            Runs R.remaining d (limits_of limits) number before text reader.old
+            self.old.labels self.old.edges.items → IfOk result (λ r. r.1 ≡ false →
+            IsThrough (limits_of limits) r.0 (before ++ records d text)
+            self.new.labels self.new.edges.items) }
+        ensures last { (d : ℕ) (text : List ℕ) (before : List (List (List ℕ))) →
+            Runs R.remaining d (limits_of limits) number before text reader.old
+            self.old.labels self.old.edges.items → IfOk result (λ r. r.1 ≡ false →
+            StopsAtEnd R.remaining d text reader.new) }
+        ensures refused { (d : ℕ) (text : List ℕ) (before more : List (List (List ℕ))) →
+            Runs R.remaining d (limits_of limits) number before text reader.old
+            self.old.labels self.old.edges.items → IfErr result (Refuses
+            (network_from (limits_of limits) (before ++ (records d text ++ more)))) }
+        ensures ends { (d : ℕ) (text : List ℕ) →
+            Runs R.remaining d (limits_of limits) number [] text reader.old
+            self.old.labels self.old.edges.items → IfErr result (λ e. IsRefusal e →
+            EndsAt R.remaining d text (limits_of limits) reader.new e) }
+    {
+        let most = self.room_for(rows.len() - 1, number, limits);
+        let (count, more) = read_rows(reader, rows, most)?;
+        self.add_rows(alloc, &rows[..count], number, limits)?;
+        let number = number + count as u64;
+        if !more {
+            return Ok((number, false));
+        }
+        self.add(alloc, &rows[count], number, limits)?;
+        Ok((number + 1, true))
+    }
+}
+
+impl Reading {
+    // Adds all records that are left, which follow `number` others, batch after batch, and tells how many there are
     // then; at most one more than the limit is asked for. No record is asked for after the one that is refused. After
     // the end the reader is as a read leaves it that found no record more; whether such a read was made once or twice
     // no clause tells (csv's contract says nothing of a reader at its end).
@@ -275,10 +423,11 @@ impl Reading {
         &mut self,
         alloc: Global,
         reader: &mut Reader<R>,
-        row: &mut ByteRecord,
+        rows: &mut [ByteRecord],
         number: u64,
         limits: EdgeLimits,
     ) -> Result<u64, EdgeError>
+        requires rows { 0 < length rows.old }
         requires few { limits.edges ≤ most_records }
         requires number { number ≤ limits.edges }
         requires within { AreWithin limits.vertices number self.old.labels self.old.edges.items }
@@ -300,12 +449,13 @@ impl Reading {
             self.old.labels self.old.edges.items →
             EndsAtFault R.remaining reader.old reader.new (limits_of limits) result }
     {
-        for n in number..limits.edges + 1 {
-            let more = next_row(reader, row)?;
+        let mut n = number;
+        for _turn in number..limits.edges + 1 {
+            let (count, more) = self.read_batch(alloc, reader, rows, n, limits)?;
             if !more {
-                return Ok(n);
+                return Ok(count);
             }
-            self.add(alloc, row, n, limits)?;
+            n = count;
         }
         Err(EdgeError::TooManyEdges)
     }
@@ -343,10 +493,11 @@ fn read_records<R: Read + Drop>(
     alloc: Global,
     state: RandomState,
     reader: &mut Reader<R>,
-    row: &mut ByteRecord,
+    rows: &mut [ByteRecord],
     limits: EdgeLimits,
 ) -> Result<(Reading, u64), EdgeError>
-    requires { limits.edges ≤ most_records }
+    requires rows { 0 < length rows.old }
+    requires few { limits.edges ≤ most_records }
     ensures within { IfOk result (λ both.
         AreWithin limits.vertices limits.edges both.0.labels both.0.edges.items) }
     ensures ok { FromStart R.remaining reader.old (λ rs. IfOk result (λ both.
@@ -359,7 +510,7 @@ fn read_records<R: Read + Drop>(
     ensures ends { EndsAtFault R.remaining reader.old reader.new (limits_of limits) result }
 {
     let mut reading = Reading::new(alloc, state)?;
-    let read = reading.read_more(alloc, reader, row, 0, limits);
+    let read = reading.read_more(alloc, reader, rows, 0, limits);
     read.map(|number| (reading, number))
 }
 
@@ -382,8 +533,8 @@ fn read_source<R: Read + Drop>(
         IfErr result (Refuses (meaning_within limits delimiter text))) }
 {
     let mut reader = reader_of(alloc, source, delimiter);
-    let mut row = ByteRecord::new(alloc);
-    read_records(alloc, state, &mut reader, &mut row, limits)
+    let mut rows = rows_for(alloc, BATCH)?;
+    read_records(alloc, state, &mut reader, &mut rows, limits)
 }
 
 // Reads all records, and makes their graph.
@@ -459,8 +610,8 @@ fn read_answer(read: Result<EdgeList, EdgeError>, failed: bool) -> Result<EdgeLi
 /// The errors are those of the first record where a check fails, in the order `TooManyEdges`, `Fields`,
 /// `TooManyVertices`. `Read` is answered where a call of the reader failed and nowhere else.
 ///
-/// Its parts are made so, and no clause of this call says it: at most one record more than the limit is asked for, no
-/// memory is taken for a label that is known, and a call of the reader that failed is not made again.
+/// Its parts are made so, and no clause of this call says it: at most one record more than the limit is asked for, a
+/// label that is known takes no memory of its own, and a call of the reader that failed is not made again.
 pub fn read_edge_list<R: CountedRead>(
     alloc: Global,
     state: RandomState,

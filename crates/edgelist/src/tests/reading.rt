@@ -182,3 +182,44 @@ fn all_fail_at_each(rt: &HostRuntime) -> bool {
 fn failing_readers(rt: HostRuntime) {
     assert!(rt; all_fail_at_each(&rt));
 }
+
+// Forty lines of four bytes, of which the one at this place, where there is one, has an empty first field.
+fn forty_lines(fault: usize) -> [u8; 160] {
+    let mut text = [0u8; 160];
+    for i in 0..160usize {
+        text[i] = if i / 4 == fault && i % 4 < 3 {
+            b"\tbb"[i % 4]
+        } else {
+            b"a\tb\n"[i % 4]
+        };
+    }
+    text
+}
+
+// Whether these lines are told so, by a reader of which no call succeeds after that which gives the line at this place.
+fn stops_there(rt: &HostRuntime, fault: usize) -> bool {
+    let text = forty_lines(fault);
+    let reader = Stepping {
+        bytes: &text,
+        step: 4,
+        good: (fault as u64).saturating_add(2),
+    };
+    let wanted: Told = Err(EdgeError::Fields {
+        number: (fault as u64).saturating_add(1),
+    });
+    told(rt, reader, Delimiter::Tab, LIMITS) == wanted
+}
+
+#[test]
+fn refusals_at_each_place_of_a_batch(rt: HostRuntime) {
+    let mut right = tabs_are(&rt, &forty_lines(40));
+    for fault in 0..40usize {
+        right &= stops_there(&rt, fault);
+    }
+    assert!(rt; right);
+}
+
+// Whether lines are read whole.
+fn tabs_are(rt: &HostRuntime, text: &[u8]) -> bool {
+    told(rt, at_once(text), Delimiter::Tab, LIMITS) == Ok(hash(&[(b"a\nb 0\n", 1)]))
+}
