@@ -20,8 +20,8 @@ use Rattle.batches.proofs.WholeLemmas.{batch_length}
 use Rattle.replica.specs.Ahead.{batches_in}
 use Rattle.replica.specs.Kept.{AreEarly}
 use Rattle.replica.specs.Seen.{IsState}
-use Rattle.replica.proofs.KeptLemmas.{three_levels}
-use Rattle.replica.proofs.RebuiltLemmas.{kept_are}
+use Rattle.replica.proofs.KeptLemmas.Kept.{three_levels}
+use Rattle.replica.proofs.SavedLemmas.Rebuilt.{kept_are}
 use Rattle.checkpoint.specs.declared.header.Header.{Header}
 use Rattle.checkpoint.specs.declared.error.KeepError.{KeepError}
 use Rattle.checkpoint.specs.Parts.{heard_bytes, count_bytes}
@@ -50,7 +50,7 @@ covers_needs n piece long rest = needs-piece n piece rest long
 
 -- ---- batches
 -- no partition has more vertices than the first
-first_greatest : (n parts p : ℕ) → p < parts → part_size n parts p ≤ part_size n parts 0
+pub first_greatest : (n parts p : ℕ) → p < parts → part_size n parts p ≤ part_size n parts 0
 first_greatest n parts p lt =
     let some : 0 < parts = omega arith in
     let a = part_size-is n parts p lt in
@@ -101,7 +101,7 @@ slots_fewer (Some b ∷ rest) zero lt free = absurd (subst is_there free tt)
     is_there (Some b) = ⊤
 slots_fewer (Some b ∷ rest) (suc p) lt free = omega (arith, slots_fewer rest p (omega (arith, lt)) free)
 
-early_fewer : (plan : PlanValue) (p t : ℕ) (early : List (List (Option BatchValue))) → AreEarly plan p t early → p < plan.parts → length (kept_batches early) ≤ 3 * (plan.parts - 1)
+pub early_fewer : (plan : PlanValue) (p t : ℕ) (early : List (List (Option BatchValue))) → AreEarly plan p t early → p < plan.parts → length (kept_batches early) ≤ 3 * (plan.parts - 1)
 early_fewer plan p t early are lt =
     let level : (i : ℕ) → i < 3 → length (batches_in (get_or early i [])) + 1 ≤ plan.parts = λ i below.
     omega (arith, slots_fewer (get_or early i []) p (omega (arith, lt, are.table.sources i below)) (are.own i), are.table.sources i below) in

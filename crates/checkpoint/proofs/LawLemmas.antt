@@ -27,10 +27,10 @@ use Rattle.replica.specs.Ahead.{batches_in}
 use Rattle.replica.specs.Kept.{AreEarly}
 use Rattle.replica.specs.Saved.{IsKeepable, IsFigures}
 use Rattle.replica.specs.Seen.{IsState}
-use Rattle.replica.proofs.KeptLemmas.{three_levels}
-use Rattle.replica.proofs.OwnLemmas.{part_size_le}
-use Rattle.replica.proofs.RebuiltLemmas.{kept_are, table_is_told}
-use Rattle.replica.proofs.SameLemmas.{same_state}
+use Rattle.replica.proofs.KeptLemmas.Kept.{three_levels}
+use Rattle.replica.proofs.IndexLemmas.Own.{part_size_le}
+use Rattle.replica.proofs.SavedLemmas.Rebuilt.{kept_are, table_is_told}
+use Rattle.replica.proofs.RunsLemmas.Same.{same_state}
 use Rattle.checkpoint.specs.Laws.{TextIsOne, FirstTextTellsRest, VersionsDiffer}
 use Rattle.checkpoint.specs.Parts.{heard_bytes, count_bytes}
 use Rattle.checkpoint.specs.Told.{IsOfPlan}

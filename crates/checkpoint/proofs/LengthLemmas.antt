@@ -11,7 +11,7 @@ use Rattle.ball_model.specs.Batches.{BatchValue, IsBatch}
 use Rattle.ball_model.specs.Checkpoint.{front_bytes, vertex_bytes, table_bytes, held_bytes, early_bytes, kept_batches, checkpoint_bytes}
 use Rattle.ball_model.specs.PlanValue.{most_vertices}
 use Rattle.ball_model.specs.State.{State}
-use Rattle.replica.proofs.OwnLemmas.{part_size_le}
+use Rattle.replica.proofs.IndexLemmas.Own.{part_size_le}
 use Rattle.replica.specs.Seen.{IsState}
 use Rattle.checkpoint.specs.Parts.{heard_bytes, count_bytes, nth_bytes}
 use Rattle.checkpoint.proofs.TextLemmas.{held_is, early_more}

@@ -10,9 +10,9 @@ use Rattle.ball_model.specs.State.{State, early_at}
 use Rattle.replica.specs.Kept.{IsOfName}
 use Rattle.replica.specs.Saved.{IsKeepable}
 use Rattle.replica.specs.Seen.{IsState}
-use Rattle.replica.proofs.RiseLemmas.{all_stay}
-use Rattle.replica.proofs.StateLemmas.{no_sources}
-use Rattle.replica.proofs.StepLemmas.{get_or-replicate_same}
+use Rattle.replica.proofs.LevelLemmas.Rise.{all_stay}
+use Rattle.replica.proofs.LevelLemmas.State.{no_sources}
+use Rattle.replica.proofs.LevelLemmas.Step.{get_or-replicate_same}
 use Rattle.checkpoint.specs.declared.header.Header.{Header}
 use Rattle.checkpoint.specs.declared.error.KeepError.{KeepError}
 use Rattle.checkpoint.specs.declared.error.KeepError.TheVariants as errors

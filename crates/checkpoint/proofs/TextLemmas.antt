@@ -19,8 +19,8 @@ use Rattle.replica.specs.Seen.{IsState}
 use Rattle.ball_model.specs.State.{State}
 use Rattle.registers.specs.Flags.{number_of_flags}
 use Rattle.replica.specs.Ahead.{IsTable, batches_in, early_batches}
-use Rattle.replica.proofs.KeptLemmas.{three_levels}
-use Rattle.replica.proofs.RebuiltLemmas.{kept_are}
+use Rattle.replica.proofs.KeptLemmas.Kept.{three_levels}
+use Rattle.replica.proofs.SavedLemmas.Rebuilt.{kept_are}
 use Rattle.checkpoint.specs.Parts.{heard_bytes, count_bytes, nth_bytes}
 use Rattle.checkpoint.proofs.WriteLemmas.{pieces_more, pieces_split}
 

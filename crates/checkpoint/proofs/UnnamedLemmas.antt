@@ -5,8 +5,8 @@ use Rattle.ball_model.specs.Batches.{BatchValue, true_batch}
 use Rattle.ball_model.specs.Checkpoint.{without_names}
 use Rattle.ball_model.specs.Job.{Job}
 use Rattle.ball_model.specs.State.{State, KeepsTrue, content_of, early_at}
-use Rattle.replica.proofs.HearLemmas.{none_heard}
-use Rattle.replica.proofs.StepLemmas.{get_or-replicate_same}
+use Rattle.replica.proofs.HearingLemmas.Hear.{none_heard}
+use Rattle.replica.proofs.LevelLemmas.Step.{get_or-replicate_same}
 use Rattle.checkpoint.specs.Laws.{WithoutNamesStands}
 use Rattle.checkpoint.proofs.RefusalLemmas.{nothing_at}
 

@@ -58,7 +58,7 @@ fn job_at(bytes: &[u8]) -> [u8; 32]
     ensures { result ≡ take 32 (drop 22 bytes.now) }
 {
     let mut job = [0; 32];
-    job.copy_from_slice(&bytes[22..54]);
+    job.copy_from_slice(&bytes[22..HEADER_LEN]);
     job
 }
 

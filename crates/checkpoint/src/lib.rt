@@ -18,7 +18,7 @@ pub mod laws;
 pub mod length;
 pub mod read;
 mod saved;
-mod sizes;
+pub mod sizes;
 mod spool;
 mod stream;
 pub mod write;

@@ -14,7 +14,9 @@ ghost use Rattle.checkpoint.specs.Reading.{seal_form};
 
 use crate::error::KeepError;
 use crate::header::Header;
-use crate::sizes::{COUNT_LEN, DIGEST_LEN, ENTRY_LEN, HEARD_LEN, LENGTH_LEN, PIECE, SUM_LEN};
+use crate::sizes::{
+    COUNT_LEN, DIGEST_LEN, ENTRY_LEN, HEARD_LEN, ID_LEN, LENGTH_LEN, PIECE, SUM_LEN,
+};
 use ball_model::{CountedRead, Filled, Plan, fill};
 use edgelist::Part;
 use sha2::{Digest, Sha256};
@@ -92,7 +94,7 @@ fn may_be_batch(plan: &Plan, length: u64) -> bool
     if length < head {
         return false;
     }
-    let row = 4 + plan.width() as u64;
+    let row = (ID_LEN + plan.width()) as u64;
     (length - head) % row == 0 && (length - head) / row <= u64::from(plan.part_size(0))
 }
 

@@ -1,13 +1,13 @@
 -- Commands as they are read.
-use Rattle.std.proofs.Common.{◌≡◌, ◌≢◌, ℕ, suc, ◌+◌, ◌*◌, ◌-◌, ◌<◌, ◌≤◌, Bool, true, false, ◌==◌, if◌then◌else◌, List, [], ◌∷◌, ◌++◌, length, take, min, slice_index, refl, arith, sym}
+use Rattle.std.proofs.Common.{◌≡◌, ◌≢◌, ℕ, suc, ◌+◌, ◌*◌, ◌-◌, ◌<◌, ◌≤◌, true, false, List, [], ◌∷◌, ◌++◌, length, take, min, slice_index, refl, arith, sym}
 use Rattle.std.specs.Prelude.{None, Some, decimal, ◌^◌}
 use Rattle.std.specs.Str.{bytes_eq}
 use Rattle.std.proofs.Math.Seq.{take-suc}
 use Rattle.std.proofs.lemmas.Bool.{le-ltb, lt-ltb}
-use Rattle.ball_model.specs.Input.{fields, with_first_byte}
+use Rattle.ball_model.specs.Input.{fields}
 use Rattle.ball_model.specs.WorldText.{value_from}
 use Rattle.world.specs.Script.{cut_of}
-use Rattle.world.proofs.ScriptLemmas.{fields-cut, fields-uncut, value-more}
+use Rattle.world.proofs.ScriptLemmas.{fields-cut, fields-some, fields-uncut, value-more}
 use Rattle.node.specs.Commands.{most_size}
 use Rattle.node.specs.NodeText.{command_in, lone_command, size_in, sized_command}
 
@@ -46,20 +46,10 @@ pub command_sized : (line a b : List ℕ) → Some (a, b) ≡ cut_of 32 line →
 unfolding command_in
 command_sized line a b is last = rw (fields-cut 32 line a b (sym is), fields-uncut 32 b (sym last)) refl
 
-fields_some : (d : ℕ) (xs : List ℕ) → fields d xs ≢ []
-unfolding fields
-fields_some d [] is = absurd (cc)
-fields_some d (c ∷ xs) is = some (c == d) (fields d xs) is
-  where
-    some : (t : Bool) (pieces : List (List ℕ)) → (if t then [] ∷ pieces else with_first_byte c pieces) ≡ [] → ⊥
-    some true pieces is = absurd (cc)
-    some false [] is = absurd (cc)
-    some false (x ∷ more) is = absurd (cc)
-
 -- a line of more
 pub command_many : (line a b x y : List ℕ) → Some (a, b) ≡ cut_of 32 line → Some (x, y) ≡ cut_of 32 b → None ≡ command_in (fields 32 line)
 unfolding command_in
-command_many line a b x y is more = rw (fields-cut 32 line a b (sym is), fields-cut 32 b x y (sym more)) (none (fields 32 y) (fields_some 32 y))
+command_many line a b x y is more = rw (fields-cut 32 line a b (sym is), fields-cut 32 b x y (sym more)) (none (fields 32 y) (fields-some 32 y))
   where
     none : (rest : List (List ℕ)) → rest ≢ [] → None ≡ command_in (a ∷ x ∷ rest)
     none [] some = absurd (some refl)

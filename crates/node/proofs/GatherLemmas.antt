@@ -6,6 +6,7 @@ use Rattle.std.proofs.lemmas.Bool.{eqb-true}
 use Rattle.std.proofs.lemmas.Slice.Eq.{bytes_eq-Decides}
 use Rattle.ball_model.specs.WorldText.{value_from}
 use Rattle.world.specs.Script.{cut_of}
+use Rattle.world.proofs.ScriptLemmas.{pair-of}
 use Rattle.std.specs.List.{All}
 use Rattle.std.specs.Io.KnownBytes.{Appends, Consumes, IsAtEnd}
 use Rattle.std.proofs.KnownBytes.{Consumes-nil, Consumes-trans}
@@ -111,18 +112,15 @@ all_vertices j p n (b ∷ bodies) (v ∷ vs) job is made =
     (all_vertices j (p + 1) n bodies vs job is made.1)
 
 -- ---- the line before a checkpoint
-same_pair : (p q : List ℕ × List ℕ) → Some p ≡ Some q → p ≡ q
-same_pair p q is = cc
-
 cut_step : (d c : ℕ) (xs a b : List ℕ) (t : Bool) (o : Option (List ℕ × List ℕ)) → (c == d) ≡ t →
     ((x y : List ℕ) → o ≡ Some (x, y) → xs ≡ x ++ d ∷ y) → (if t then Some ([], xs) else longer c o) ≡ Some (a, b) → c ∷ xs ≡ a ++ d ∷ b
 cut_step d c xs a b true o same rest is =
     let first : c ≡ d = eqb-true c d same in
-    let both = same_pair ([], xs) (a, b) is in
+    let both = pair-of ([], xs) (a, b) is in
     ap (λ (x : ℕ). x ∷ xs) first ∙ ap (λ p. p.0 ++ d ∷ p.1) both
 cut_step d c xs a b false None same rest is = absurd (cc)
 cut_step d c xs a b false (Some s) same rest is =
-    let both = same_pair (c ∷ s.0, s.1) (a, b) is in
+    let both = pair-of (c ∷ s.0, s.1) (a, b) is in
     ap (λ (l : List ℕ). c ∷ l) (rest s.0 s.1 refl) ∙ ap (λ p. p.0 ++ d ∷ p.1) both
 
 cut_split : (d : ℕ) (xs a b : List ℕ) → cut_of d xs ≡ Some (a, b) → xs ≡ a ++ d ∷ b

@@ -1,9 +1,8 @@
 -- What nodes say is what they may be told.
-use Rattle.std.proofs.Common.{◌≡◌, ◌≢◌, ◌∙◌, ℕ, zero, suc, ◌+◌, ◌-◌, ◌*◌, ◌/◌, ◌^◌, ◌<◌, ◌≤◌, ◌==◌, nat_lt, List, [], ◌∷◌, ◌++◌, length, get_or, refl, ap, sym, subst, arith, inl}
-use Rattle.std.specs.Prelude.{Option, None, Some}
+use Rattle.std.proofs.Common.{◌≡◌, ◌≢◌, ◌∙◌, ℕ, ◌+◌, ◌-◌, ◌*◌, ◌^◌, ◌<◌, ◌≤◌, ◌==◌, nat_lt, List, [], ◌∷◌, length, refl, ap, sym, subst, arith, inl}
 use Rattle.std.specs.List.{All, flat_map}
 use Rattle.std.specs.Int.{w64, to_be_bytes}
-use Rattle.std.proofs.Math.Nat.{div-mul-le_self, le-div_iff_mul-le, suc-mul}
+use Rattle.std.proofs.Math.Nat.{suc-mul}
 use Rattle.std.proofs.lemmas.Bool.{lt-ltb, ne_eqb}
 use Rattle.std.proofs.lemmas.List.{length-append}
 use Rattle.std.proofs.lemmas.List.Elements.{All-head, All-tail}
@@ -18,35 +17,20 @@ use Rattle.ball_model.specs.Join.{Holding}
 use Rattle.ball_model.specs.PlanValue.{PlanValue, part_size}
 use Rattle.ball_model.specs.State.{State}
 use Rattle.ball_model.specs.WorldText.{refusal_line}
-use Rattle.ball_model.proofs.PartLemmas.{part_size-is}
 use Rattle.batches.proofs.TrueLemmas.{true_is_batch}
 use Rattle.batches.proofs.WholeLemmas.{batch_length}
 use Rattle.checkpoint.specs.Reading.{greatest_batch, most_checkpoint_bytes}
 use Rattle.checkpoint.specs.Told.{IsOfPlan}
+use Rattle.checkpoint.proofs.FormLemmas.{early_fewer, first_greatest}
 use Rattle.checkpoint.proofs.LawLemmas.{early_are}
 use Rattle.checkpoint.proofs.LengthLemmas.{whole_long}
-use Rattle.checkpoint.proofs.TextLemmas.{slots_few}
-use Rattle.replica.specs.Ahead.{batches_in}
-use Rattle.replica.specs.Kept.{AreEarly}
 use Rattle.replica.specs.Seen.{IsState}
 use Rattle.replica.specs.Sent.{batch_name}
-use Rattle.replica.proofs.KeptLemmas.{three_levels}
-use Rattle.replica.proofs.RebuiltLemmas.{kept_are}
 use Rattle.node.specs.Laws.{KeptIsTaken, SentIsTrue}
 use Rattle.node.specs.NodeText.{IsGivenBack, sent_text}
 use Rattle.node.proofs.StepLemmas.{chosen}
 
 -- ---- how long a batch is
--- no partition has more vertices than the first
-first_greatest : (n parts p : ℕ) → p < parts → part_size n parts p ≤ part_size n parts 0
-first_greatest n parts p lt =
-    let some : 0 < parts = omega arith in
-    let a = part_size-is n parts p lt in
-    let b = part_size-is n parts 0 some in
-    let fits : (n + (parts - 1 - p)) / parts * parts ≤ n + (parts - 1 - 0) = omega (arith, div-mul-le_self (n + (parts - 1 - p)) parts) in
-    let le : (n + (parts - 1 - p)) / parts ≤ (n + (parts - 1 - 0)) / parts = (le-div_iff_mul-le {k = parts} {x = (n + (parts - 1 - p)) / parts} {y = n + (parts - 1 - 0)} some).1 fits in
-    omega (arith, a, b, le)
-
 batch_within : (b : BatchValue) → IsBatch b → length (batch_bytes b) ≤ greatest_batch b.plan
 batch_within b ok =
     let w : ℕ = 4 + 2 ^ b.plan.log2m in
@@ -106,34 +90,6 @@ all_within plan m each (b ∷ batches) all =
     let one = each b (All-head (IsOfPlan plan) b batches all) in
     let rest = all_within plan m each batches (All-tail (IsOfPlan plan) b batches all) in
     omega (arith, more, one, rest, suc-mul (length batches) m)
-
--- a place is free
-slots_fewer : (slots : List (Option BatchValue)) (p : ℕ) → p < length slots → get_or slots p None ≡ None → length (batches_in slots) + 1 ≤ length slots
-unfolding batches_in
-slots_fewer [] p lt free = absurd (omega (arith, lt))
-slots_fewer (None ∷ rest) p lt free = omega (arith, slots_few rest)
-slots_fewer (Some b ∷ rest) zero lt free = absurd (subst is_there free tt)
-  where
-    is_there : Option BatchValue → Type 0
-    is_there None = ⊥
-    is_there (Some b) = Unit {0}
-slots_fewer (Some b ∷ rest) (suc p) lt free = omega (arith, slots_fewer rest p (omega (arith, lt)) free)
-
-early_fewer : (plan : PlanValue) (p t : ℕ) (early : List (List (Option BatchValue))) → AreEarly plan p t early → p < plan.parts → length (kept_batches early) ≤ 3 * (plan.parts - 1)
-early_fewer plan p t early are lt =
-    let level : (i : ℕ) → i < 3 → length (batches_in (get_or early i [])) + 1 ≤ plan.parts = λ i below.
-    omega (arith, slots_fewer (get_or early i []) p (omega (arith, lt, are.table.sources i below)) (are.own i), are.table.sources i below) in
-    let split : length (kept_batches early) ≡ length (batches_in (get_or early 0 []) ++ (batches_in (get_or early 1 []) ++ batches_in (get_or early 2 []))) =
-    ap (λ (l : List BatchValue). length l) (kept_are early ∙ three_levels early are.table.levels) in
-    omega (
-      arith,
-      split,
-      length-append (batches_in (get_or early 0 [])) (batches_in (get_or early 1 []) ++ batches_in (get_or early 2 [])),
-      length-append (batches_in (get_or early 1 [])) (batches_in (get_or early 2 [])),
-      level 0 (omega arith),
-      level 1 (omega arith),
-      level 2 (omega arith),
-    )
 
 sum_within : (whole a b sums e m t limit : ℕ) → whole ≡ 54 + a + 16 * sums + 9 + b + 2 + e + 32 → sums ≡ t + 1 → t ≤ limit → e ≤ m →
     whole ≤ 54 + (a + 16 * (limit + 1) + 9 + b + (2 + m)) + 32

@@ -3,20 +3,13 @@ use Rattle.std.proofs.Common.{◌≡◌, ◌∙◌, ℕ, ◌+◌, List, [], ◌+
 use Rattle.std.specs.Prelude.{Option, Some, Result, Ok, Err, OnOk}
 use Rattle.std.specs.Io.KnownBytes.{Appends}
 use Rattle.std.proofs.KnownBytes.{Appends-nil, Appends-trans}
-use Rattle.ball_model.specs.Figures.{empty_of}
-use Rattle.ball_model.specs.Counter.{ball_counter}
 use Rattle.ball_model.specs.Held.{HasHolding}
 use Rattle.ball_model.specs.Job.{Job}
 use Rattle.ball_model.specs.Join.{Holding}
-use Rattle.ball_model.specs.PlanValue.{mixing_of}
 use Rattle.ball_model.specs.State.{State}
-use Rattle.ball_model.specs.Report.{vertex_line}
-use Rattle.ball_model.specs.Supersteps.{estimate_at, tally_at}
-use Rattle.report.specs.Parts.{figures_line}
 use Rattle.world.proofs.TellLemmas.{first-texts, told-next}
 use Rattle.world.specs.Tell.{Tells}
 use Rattle.world.specs.declared.tell.TellError.{TellError}
-use Rattle.node.specs.Own.{true_figures}
 use Rattle.node.specs.Turns.{AppendsOf}
 
 -- the line of one more
@@ -53,8 +46,3 @@ pub of_next : (v : State) (a b c : Option (List ℕ)) (g : Job → Holding → �
 of_next v a b c g f i x at one two =
     of_same v a c (λ j h. first-texts (g j h) f i ++ g j h x) (λ j h. first-texts (g j h) f (i + 1)) (λ j h has. texts_next (g j h) f i x at)
     (of_both v a b c (λ j h. first-texts (g j h) f i) (λ j h. g j h x) one two)
-
--- the line of these figures
-pub line_is : (j : Job) (label : List ℕ) (t x : ℕ) → figures_line label (true_figures j t x) ≡ vertex_line label (tally_at (mixing_of j.plan) j.graph x t) (empty_of (ball_counter (mixing_of j.plan) j.graph x t))
-unfolding figures_line vertex_line estimate_at
-line_is j label t x = refl

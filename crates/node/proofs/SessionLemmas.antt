@@ -2,7 +2,7 @@
 use Rattle.std.proofs.Common.{◌≡◌, ◌≢◌, ◌∙◌, ℕ, ◌<◌, ◌==◌, Bool, true, false, not, if◌then◌else◌, List, [], ◌∷◌, length, arith, refl, ap, sym, subst, ◌⊎◌, inl, inr}
 use Rattle.std.proofs.lemmas.Bool.{eq-eqb, eqb-true}
 use Rattle.ball_model.specs.Content.{same_plan}
-use Rattle.replica.proofs.RunLemmas.{same_plan-self}
+use Rattle.replica.proofs.RunsLemmas.Run.{same_plan-self}
 use Rattle.std.specs.Prelude.{Option, None, Some, Result, Ok, Err, IfOk, IfErr, IsErr, IsOk, OnOk}
 use Rattle.ball_model.specs.declared.names.BatchName.{BatchName}
 use Rattle.ball_model.specs.declared.names.Taken.{Taken}
@@ -32,7 +32,7 @@ use Rattle.ball_model.specs.Job.{PartValue}
 use Rattle.replica.specs.Runs.{Takes, Closes}
 use Rattle.replica.specs.Saved.{IsKeepable}
 use Rattle.replica.specs.Seen.{IsState}
-use Rattle.replica.proofs.LevelLemmas.{plan_is}
+use Rattle.replica.proofs.LevelLemmas.Level.{plan_is}
 use Rattle.world.specs.Shows.{Has, ShowsNode}
 use Rattle.world.specs.Turns.{merged_when}
 use Rattle.world.proofs.KeepLemmas.{keepable}
@@ -183,10 +183,6 @@ delivered_read j name plan bytes r job same d only =
 
 pub read_true : (b x : BatchValue) → GivesBatchOrMemory (Ok b) (Ok x) → b ≡ x
 read_true b x gives = cc
-
-pub read_wants : (e : BatchError) (x : BatchValue) → GivesBatchOrMemory (Err e) (Ok x) → e ≡ unread.Memory
-read_wants unread.Memory x gives = refl
-read_wants e x gives = absurd (cc)
 
 -- ---- what is said
 pub restarted_to : (j : Job) (p : ℕ) (d : Holding) (w r : State) (a : Answer) → Holds j p d r → w ≡ r → a ≡ answer.Restarted r.superstep → TurnsTo j p (answer.Restarted d.superstep) d w (reply.Answered a)

@@ -22,7 +22,7 @@ use Rattle.ball_model.specs.Report.{superstep_line}
 use Rattle.ball_model.specs.State.{State, StandsFor, own_vertices, sums_of}
 use Rattle.ball_model.specs.Supersteps.{total_over}
 use Rattle.replica.specs.Sent.{batch_name}
-use Rattle.replica.proofs.LevelLemmas.{number_is, plan_is}
+use Rattle.replica.proofs.LevelLemmas.Level.{number_is, plan_is}
 use Rattle.report.specs.Parts.{superstep_lines}
 use Rattle.report.proofs.VertexLemmas.{lines_same}
 use Rattle.ball_model.specs.Steps.{Take, Close}

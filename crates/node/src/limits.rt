@@ -7,26 +7,10 @@ ghost use Rattle.node.specs.Turns.{most_body};
 
 use crate::command::Command;
 use ball_model::Plan;
-use batches::HEADER_LEN;
+use checkpoint::sizes::{
+    COUNT_LEN, DIGEST_LEN, ENTRY_LEN, HEADER_LEN, HEARD_LEN, ID_LEN, LENGTH_LEN, SUM_LEN,
+};
 use edgelist::Part;
-
-// The bytes of a vertex's number, before its registers in a batch.
-const ID_LEN: u64 = 4;
-
-// The fixed fields of a checkpoint, and its digest.
-const FIXED_LEN: u64 = 54 + 32;
-
-// A vertex in a checkpoint, beside its registers and its accumulators.
-const ENTRY_LEN: u64 = 33;
-
-// A sum of a checkpoint.
-const SUM_LEN: u64 = 16;
-
-// What a checkpoint tells of the batches that are held, beside accumulators and early batches.
-const HELD_LEN: u64 = 9 + 2;
-
-// The length before an early batch.
-const LENGTH_LEN: u64 = 8;
 
 /// The most bytes of a batch of a plan: those of one of all vertices of partition 0, which has the most.
 pub fn longest_batch(plan: &Plan) -> u64
@@ -34,7 +18,7 @@ pub fn longest_batch(plan: &Plan) -> u64
     ensures few { result ≤ 2 ^ 43 }
 {
     let width = plan.width() as u64;
-    HEADER_LEN as u64 + u64::from(plan.part_size(0)) * (ID_LEN + width)
+    batches::HEADER_LEN as u64 + u64::from(plan.part_size(0)) * (ID_LEN as u64 + width)
 }
 
 /// The most bytes of a checkpoint of a part: at the last superstep, with the most early batches, each the longest.
@@ -44,10 +28,11 @@ pub fn longest_checkpoint(part: &Part) -> u64
     let plan = part.plan();
     let size = u64::from(part.size());
     let width = plan.width() as u64;
-    let sums = SUM_LEN * (u64::from(plan.limit()) + 1);
+    let sums = SUM_LEN as u64 * (u64::from(plan.limit()) + 1);
     let others = u64::from(plan.parts()) - 1;
-    let early = 3 * others * (LENGTH_LEN + longest_batch(plan));
-    FIXED_LEN + size * (ENTRY_LEN + width) + sums + HELD_LEN + size * width + early
+    let early = 3 * others * (LENGTH_LEN as u64 + longest_batch(plan));
+    let fixed = (HEADER_LEN + HEARD_LEN + COUNT_LEN + DIGEST_LEN) as u64;
+    fixed + size * (ENTRY_LEN as u64 + width) + sums + size * width + early
 }
 
 /// Whether no more bytes are announced behind a command than a batch or a checkpoint of the part has at most.

@@ -14,7 +14,7 @@ use Rattle.ball_model.specs.PlanValue.{mixing_of, vertices_of}
 use Rattle.ball_model.specs.Job.{Job, IsJob, PartValue, part_of, feeds_into}
 use Rattle.ball_model.specs.Batches.{sent_vertices, true_batch}
 use Rattle.ball_model.specs.State.{own_vertices, rows_of, marks_of}
-use Rattle.ball_model.specs.Accumulated.{accumulated_row, accumulated_of}
+use Rattle.ball_model.specs.Accumulated.{accumulated_of}
 use Rattle.ball_model.proofs.PathLemmas.{any_filter, any_range, range_any, edge_below}
 use Rattle.ball_model.proofs.ChangeLemmas.{filter_passes}
 use Rattle.ball_model.proofs.PartLemmas.{vertices_of-strided, range_more}
@@ -25,7 +25,7 @@ use Rattle.registers.specs.Marks.{IsNextMarked}
 use Rattle.registers.proofs.MarkLemmas.{at_next}
 use Rattle.replica.specs.Spread.{stands_in, row_after, rows_after, rows_after_all, marked_rows}
 use Rattle.replica.proofs.SpreadLemmas.{length-spread, spread-at}
-use Rattle.replica.proofs.TargetLemmas.{targets-edge}
+use Rattle.replica.proofs.IndexLemmas.Target.{targets-edge}
 
 at_place : (b : Bool) (places src : List ℕ) (rows : List (List ℕ)) (k : ℕ) (row : List ℕ) → stands_in places k ≡ b → get_or rows k [] ≡ row → row_after places src rows k ≡ (if b then max_each row src else row)
 unfolding row_after
@@ -35,21 +35,7 @@ at_place b places src rows k row e at = rw (e, at) refl
 pub accumulated_of-spread : (j : Job) (p t z : ℕ) (heard : ℕ → Bool) → IsJob j → changed_at (mixing_of j.plan) j.graph z t ≡ true →
     rows_after (get_or (targets_of (part_of j p)) z []) (ball_counter (mixing_of j.plan) j.graph z t) (accumulated_of j p t heard) ≡ accumulated_of j p t (λ w. heard w || (w == z))
 accumulated_of-spread j p t z heard job changed =
-    let m = mixing_of j.plan in
-    let g = j.graph in
-    let src = ball_counter m g z t in
-    let rows = accumulated_of j p t heard in
-    let places = get_or (targets_of (part_of j p)) z [] in
-    let more : ℕ → Bool = λ w. heard w || (w == z) in
-    same_lists (rows_after places src rows) (accumulated_of j p t more)
-    (length-spread places src rows ∙ length-accumulated_of j p t heard ∙ sym (length-accumulated_of j p t more))
-    (λ k d within.
-    let inside : k < length (own_vertices j p) = omega (arith, length-spread places src rows, length-accumulated_of j p t heard) in
-    let x = get_or (own_vertices j p) k 0 in
-    spread-at places src rows k d (omega (arith, length-accumulated_of j p t heard))
-    ∙ at_place (stands_in places k) places src rows k (accumulated_row m g x t heard) refl (accumulated_of-at j p t heard k [] inside)
-    ∙ accumulated-step m g x z t heard (stands_in places k) job.graph (sym (targets-edge j p z k job inside)) changed
-    ∙ sym (accumulated_of-at j p t more k d inside))
+    grind (arith, same_lists, length-spread, length-accumulated_of, spread-at, at_place, accumulated_of-at, accumulated-step, targets-edge)
 
 -- ---- many rows, one after the other
 turned : (a b : ℕ) → (a == b) ≡ (b == a)
@@ -117,23 +103,17 @@ spread-batch j p t q heard job =
 
 -- ---- the own rows
 kept_both : {X : Type 0} (F : ℕ → X) (a b : Bool) (x : X) (y : ℕ) (xs : List X) (ys : List ℕ) → a ≡ b → x ≡ F y → xs ≡ map F ys → (if a then (x ∷ xs) else xs) ≡ map F (if b then (y ∷ ys) else ys)
-kept_both F true true x y xs ys test here later = cc
-kept_both F false false x y xs ys test here later = later
-kept_both F true false x y xs ys test here later = absurd (cc)
-kept_both F false true x y xs ys test here later = absurd (cc)
+kept_both F a b x y xs ys test here later = grind arith
 
 pushed : {X : Type 0} (f : ℕ → X) (b : Bool) (k : ℕ) (rest : List ℕ) → map f (if b then (k ∷ rest) else rest) ≡ (if b then (f k ∷ map f rest) else map f rest)
-pushed f true k rest = refl
-pushed f false k rest = refl
+pushed f b k rest = grind arith
 
 -- places that are marked, and the vertices that pass
 marked_are : {X : Type 0} (v : ℕ → ℕ) (f F : ℕ → X) (g G : ℕ → Bool) (a n end : ℕ) → a + n ≤ end → ((k : ℕ) → k < end → f k ≡ F (v k)) → ((k : ℕ) → k < end → g k ≡ G (v k)) →
     map f (filter g (range_with_len a n)) ≡ map F (filter G (map v (range_with_len a n)))
 marked_are v f F g G a zero end fits rows marks = refl
 marked_are v f F g G a (suc n) end fits rows marks =
-    pushed f (g a) a (filter g (range_with_len (a + 1) n))
-    ∙ kept_both F (g a) (G (v a)) (f a) (v a) _ (filter G (map v (range_with_len (a + 1) n))) (marks a (omega arith)) (rows a (omega arith))
-    (marked_are v f F g G (a + 1) n end (omega arith) rows marks)
+    grind (arith, marked_are v f F g G (a + 1) n end (omega arith) rows marks, pushed, kept_both)
 
 -- the marked rows of a partition are the counters of its changed vertices
 marked-rows : (j : Job) (p t : ℕ) → p < j.plan.parts →
@@ -146,12 +126,7 @@ marked-rows j p t lt =
     let is : own_vertices j p ≡ map v (range_with_len 0 n) = vertices_of-strided j.graph.vertices j.plan.parts p lt in
     let count : length (map (λ x. changed_at m j.graph x t) (own_vertices j p)) ≡ n = simp length-map refl in
     let own : (k : ℕ) → k < n → get_or (own_vertices j p) k 0 ≡ v k = λ k less. strided_at k less in
-    ap (λ k. map (λ i. (i * j.plan.parts + p, get_or (map (λ x. ball_counter m j.graph x t) (own_vertices j p)) i [])) (filter (λ i. get_or (map (λ x. changed_at m j.graph x t) (own_vertices j p)) i false) (range_with_len 0 k))) count
-    ∙ marked_are v (λ i. (i * j.plan.parts + p, get_or (map (λ x. ball_counter m j.graph x t) (own_vertices j p)) i [])) (λ y. (y, ball_counter m j.graph y t))
-    (λ i. get_or (map (λ x. changed_at m j.graph x t) (own_vertices j p)) i false) (λ y. changed_at m j.graph y t) 0 n n (omega arith)
-    (λ k less. ap (λ row. (k * j.plan.parts + p, row)) (get_or-map (λ x. ball_counter m j.graph x t) (own_vertices j p) k 0 [] less ∙ ap (λ x. ball_counter m j.graph x t) (own k less)))
-    (λ k less. get_or-map (λ x. changed_at m j.graph x t) (own_vertices j p) k 0 false less ∙ ap (λ x. changed_at m j.graph x t) (own k less))
-    ∙ ap (λ ys. map (λ y. (y, ball_counter m j.graph y t)) (filter (λ y. changed_at m j.graph y t) ys)) (sym is)
+    grind (arith, marked_are, get_or-map, vertices_of-strided, get_or-map-range_with_len)
   where
     strided_at : (k : ℕ) → k < length (own_vertices j p) → get_or (own_vertices j p) k 0 ≡ k * j.plan.parts + p
     strided_at k less =
@@ -161,9 +136,7 @@ marked-rows j p t lt =
 -- THE OWN ROWS: once the changed ones are spread, the partition itself is heard
 pub spread-own : (j : Job) (p t : ℕ) (heard : ℕ → Bool) → IsJob j → p < j.plan.parts →
     rows_after_all (targets_of (part_of j p)) (marked_rows j.plan.parts p (rows_of j p t) (marks_of j p t) (length (marks_of j p t))) (accumulated_of j p t heard) ≡ accumulated_of j p t (λ w. heard w || (w % j.plan.parts == p))
-spread-own j p t heard job lt =
-    ap (λ rows. rows_after_all (targets_of (part_of j p)) rows (accumulated_of j p t heard)) (marked-rows j p t lt)
-    ∙ part-heard j p t p heard (λ y. changed_at (mixing_of j.plan) j.graph y t) job (λ y e. e) (λ x z own edge changed. changed)
+spread-own j p t heard job lt = grind (arith, marked-rows, part-heard)
 
 -- ---- one row more
 spread_each-last : (targets : List (List ℕ)) (before : List (ℕ × List ℕ)) (row : ℕ × List ℕ) (rows : List (List ℕ)) →
@@ -194,13 +167,7 @@ marked-none parts p rows marks = refl
 marked-next : (parts p i : ℕ) (rows : List (List ℕ)) (marks : List Bool) (b : Bool) → get_or marks i false ≡ b →
     marked_rows parts p rows marks (i + 1) ≡ marked_rows parts p rows marks i ++ map (λ k. (k * parts + p, get_or rows k [])) (if b then (i ∷ []) else [])
 unfolding marked_rows
-marked-next parts p i rows marks b at =
-    let f : ℕ → ℕ × List ℕ = λ k. (k * parts + p, get_or rows k []) in
-    let g : ℕ → Bool = λ k. get_or marks k false in
-    ap (λ l. map f (filter g l)) (range_more i)
-    ∙ ap (map f) (filter-append g (range_with_len 0 i) (i ∷ []))
-    ∙ map-append f (filter g (range_with_len 0 i)) (filter g (i ∷ []))
-    ∙ ap (λ (c : Bool). map f (filter g (range_with_len 0 i)) ++ map f (if c then (i ∷ []) else [])) at
+marked-next parts p i rows marks b at = grind (arith, range_more, filter-append, map-append)
 
 pub marked-yes : (parts p i : ℕ) (rows : List (List ℕ)) (marks : List Bool) → get_or marks i false ≡ true →
     marked_rows parts p rows marks (i + 1) ≡ marked_rows parts p rows marks i ++ (i * parts + p, get_or rows i []) ∷ []

@@ -1,15 +1,11 @@
 -- An option that is gone over gives its value, if it has one.
-use Rattle.std.proofs.Common.{◌≡◌, Bool, true, false, [], ◌∷◌, length, Bor, if◌then◌else◌, refl, ap, sym, subst, is_some, true≢false, ◌∙◌}
+use Rattle.std.proofs.Common.{◌≡◌, Bool, true, false, [], ◌∷◌, length, Bor, if◌then◌else◌, refl, ap, sym, subst}
 use Rattle.std.specs.Prelude.{Option, Some, None, IsTrue}
 use Rattle.std.specs.Bool.{MatchBool}
 use Rattle.std.specs.Option.{option_to_list}
 use Rattle.std.specs.Iterator.Adapters.{option_iter_item, option_iter_done, option_iter_steps}
 use Rattle.std.proofs.lemmas.Iterator.{YieldsList}
 use Rattle.std.proofs.lemmas.Iterator.Consumers.{YieldsList-from_shown}
-
--- what is there is not None
-pub not_none : {A : Type 0} (o : Option A) → is_some o ≡ true → o ≡ None → ⊥
-not_none o there e = true≢false (sym there ∙ ap is_some e)
 
 nothing_left : {A : Type 0} (P : Type 0) (done : Bool) (item : Option A) → MatchBool done P (None ≡ item) → length (if done then [] else option_to_list item) ≡ 0
 nothing_left P true item h = refl

@@ -4,12 +4,11 @@ use Rattle.std.specs.Prelude.{Option}
 use Rattle.std.specs.Arc.{arc_value}
 use Rattle.std.specs.List.{sum_by}
 use Rattle.std.proofs.lemmas.List.{length-map}
-use Rattle.std.proofs.lemmas.Option.{IfSome_then}
 use Rattle.ball_model.specs.declared.names.Verdict.TheVariants as verdict
 use Rattle.ball_model.specs.Batches.{BatchValue}
-use Rattle.ball_model.specs.Figures.{TallyValue, Measure, estimate_with}
+use Rattle.ball_model.specs.Figures.{TallyValue, Measure}
 use Rattle.ball_model.specs.PlanValue.{PlanValue, measure_of}
-use Rattle.ball_model.specs.State.{State, early_at, is_heard}
+use Rattle.ball_model.specs.State.{State, is_heard}
 use Rattle.ball_model.specs.Table.{Table}
 use Rattle.replica.specs.declared.Progress.TheInside as progress
 use Rattle.replica.specs.Ahead.{IsTable}
@@ -21,56 +20,28 @@ use Rattle.replica.specs.Level.{differences, level_verdict, total_of, weights_of
 use Rattle.replica.specs.Progress.{ProgressValue}
 use Rattle.replica.specs.Seen.{HoldsTogether, IsProgress, progress_of, state_of}
 use Rattle.replica.specs.Tables.{AreAhead, CanBeStepped, CanHearOwn, CanStep, HearsOwn, NextTables, TablesValue}
-use Rattle.replica.proofs.AccumulatorLemmas.{Keeps, can_go_on, fields_are, fields_of, going_keeps, going_on, had_room, kept_progress}
-use Rattle.replica.proofs.AdvanceLemmas.{same_early}
-use Rattle.replica.proofs.CloseLemmas.{goes_below}
-use Rattle.replica.proofs.HearingLemmas.{differ_where, hears_quiet}
-use Rattle.replica.proofs.LevelLemmas.{differing_from}
-use Rattle.replica.proofs.NextLemmas.{next_lasts, stepped_as}
-use Rattle.replica.proofs.OverLemmas.{going_index}
-use Rattle.replica.proofs.ReadLemmas.{few}
-use Rattle.replica.proofs.RiseLemmas.{rise_counters}
-use Rattle.replica.proofs.StateLemmas.{inside_of, ready_at, ready_quiet, state_next}
+use Rattle.replica.proofs.HearingLemmas.Accumulator.{Keeps, can_go_on, fields_are, fields_of, going_keeps, kept_progress}
+use Rattle.replica.proofs.ChangeLemmas.Advance.{same_early}
+use Rattle.replica.proofs.HearingLemmas.Hearing.{differ_where, hears_quiet}
+use Rattle.replica.proofs.LevelLemmas.Level.{differing_from}
+use Rattle.replica.proofs.LevelLemmas.Next.{next_lasts, stepped_as}
+use Rattle.replica.proofs.SeenLemmas.Read.{few}
+use Rattle.replica.proofs.LevelLemmas.Rise.{rise_counters}
+use Rattle.replica.proofs.LevelLemmas.State.{inside_of, ready_at, ready_quiet, state_next}
 
 -- ---- the figures
-
--- what the step of the figures asks for
-pub can_be_stepped : (m : Measure) (t : ℕ) (a : TablesValue) (h : HearingValue) (weights : List ℕ) → CanStep m t a h weights → CanBeStepped m (t + 1) a.rows h.accumulated h.touched weights a.tallies
-can_be_stepped m t a h weights can =
-    let rows = a.rows.rows in
-    let own = h.accumulated.rows in
-    let rise = can.ahead.rise in
-    record {
-      from = omega arith;
-      to = omega (arith, can.to);
-      rows = can.ahead.counters;
-      ahead = rise_counters m.log2m rows own rise;
-      differ = differ_where a.rows h.accumulated h.touched can.ahead.width can.ahead.kept;
-      weights = can.weights;
-      count = sym (length-map a.tallies (λ (t : TallyValue). t.last)) ∙ ap length can.lasts ∙ length-map rows (estimate_with m) ∙ sym rise.count;
-      lasts = rw (differing_from rows own h.touched (length rows) can.ahead.kept refl) (next_lasts m rows own a.tallies (length rows) can.ahead.counters rise can.lasts refl);
-    }
 
 -- ---- batches that are kept
 
 -- those of a replica are of its plan
 pub of_plan : (plan : PlanValue) (p t : ℕ) (early : List (List (Option BatchValue))) → AreEarly plan p t early → AreOfPlan plan early
-of_plan plan p t early e = record {
-  table = e.table;
-  from = λ i q. IfSome_then (early_at early i q) (e.kept i q) (λ b is. record { plan_is = is.plan_is; source_is = rw is.name_is refl });
-}
+of_plan plan p t early e = grind arith
 
 -- two tables are of one number of sources
 pub tables_alike : (n : ℕ) (a b : List (List (Option BatchValue))) → IsTable n a → IsTable n b → (parts : ℕ) → IsTable parts a → IsTable parts b
-tables_alike n a b mine other parts is =
-    let same : n ≡ parts = sym (mine.sources 0 (omega arith)) ∙ is.sources 0 (omega arith) in
-    subst (λ k. IsTable k b) same other
+tables_alike n a b mine other parts is = grind arith
 
 -- ---- what a replica can do
-
--- where it keeps an accumulator of each row
-pub ahead_of : (r : progress.Inside) (v : State) → IsProgress r → Keeps r v → AreAhead (arc_value r.part).plan.log2m r.tables.rows r.hearing
-ahead_of r v ok k = record { counters = k.state.rows; rise = k.state.accumulated; width = ok.width ∙ sym ok.accumulated_width; kept = k.kept }
 
 pub can_hear : (r : progress.Inside) (v : State) (plan : PlanValue) (targets : List (List ℕ)) (early : List (List (Option BatchValue))) → IsProgress r → Keeps r v → plan ≡ (arc_value r.part).plan → targets ≡ targets_of (arc_value r.part) → AreOfPlan (arc_value r.part).plan early → CanHear plan targets early r.hearing
 can_hear r v plan targets early ok k own index kept = rw own (record {
@@ -91,39 +62,14 @@ pub record Goes (r : progress.Inside) (v : State) (targets : List (List ℕ)) (m
   pub room : (arc_value r.part).plan.limit + 1 ≤ r.tables.room
 
 pub goes : (r : progress.Inside) (k : ProgressValue) (targets : List (List ℕ)) (m : Measure) (weights : List ℕ) → IsProgress r → HoldsTogether k targets m weights → progress_of r ≡ k → level_verdict k.state ≡ verdict.GoOn → Goes r k.state targets m weights
-goes r k targets m weights ok can is going =
-    let all = going_keeps r k ok can.goes_on is (going_on k.state going) in
-    record {
-      keeps = all;
-      limits = ok;
-      index = going_index k.state targets can.index going ∙ ap (λ (v : State). targets_of v.part) (sym all.view_is);
-      measure = can.measure ∙ ap (λ (v : State). measure_of v.part.plan) (sym all.view_is);
-      below = goes_below (fields_of r) all.state (ap (λ (v : State). level_verdict v) all.view_is ∙ going);
-      weights = can.weights ∙ ap (λ (v : State). weights_of v.rows) (sym all.view_is);
-      room = had_room r k is can.goes_on;
-    }
+goes r k targets m weights ok can is going = grind (arith, going_keeps)
 
 pub can_hear_own : (r : progress.Inside) (v : State) (targets : List (List ℕ)) (m : Measure) (weights : List ℕ) → Goes r v targets m weights → CanHearOwn (arc_value r.part) targets r.tables r.hearing
-can_hear_own r v targets m weights g = record {
-  count = g.keeps.state.count;
-  marks = g.keeps.state.marks;
-  inside = inside_of (fields_of r) targets (length r.hearing.accumulated.rows) g.keeps.state g.index refl;
-  ahead = ahead_of r v g.limits g.keeps;
-}
+can_hear_own r v targets m weights g = search (arith, inside_of)
 
 pub can_step : (r : progress.Inside) (v : State) (targets : List (List ℕ)) (m : Measure) (own : HearingValue) (weights : List ℕ) → Goes r v targets m weights → AreAhead (arc_value r.part).plan.log2m r.tables.rows own → CanStep m r.superstep r.tables own weights
 can_step r v targets m own weights g ahead =
-    let s = fields_of r in
-    let k = g.keeps in
-    record {
-      to = omega (arith, g.below, k.state.part.plan.limit_to);
-      few = omega (arith, k.state.count, few s k.state);
-      ahead = rw g.measure ahead;
-      lasts = rw g.measure k.state.lasts;
-      sums = k.state.sums;
-      room = omega (arith, g.below, g.room);
-      weights = g.weights;
-    }
+    grind (arith, few (fields_of r) g.keeps.state)
 
 -- and what it is then
 pub record Advanced (r : progress.Inside) (v : State) (targets : List (List ℕ)) (m : Measure) (weights : List ℕ) : Type 0 where

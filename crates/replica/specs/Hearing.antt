@@ -79,13 +79,6 @@ KeepsAll rows a = AreTouched rows a.accumulated.rows a.touched
 abbrev pub KeepsAllOrNone : List (List ℕ) → HearingValue → Type 0
 KeepsAllOrNone rows a = KeepsAll rows a ⊎ ((a.accumulated.rows ≡ []) × (a.touched ≡ []))
 
--- the accumulators are let go
-abbrev pub let_go : HearingValue → HearingValue
-let_go a = record a {
-  accumulated = record a.accumulated { rows = [] };
-  touched = [];
-}
-
 -- there are as many accumulators as rows, and as others
 pub record CanJoin (own theirs : Table) (a : HearingValue) : Type 0 where
   pub width : a.accumulated.width ≡ theirs.width

@@ -5,7 +5,8 @@ use Rattle.ball_model.specs.Batches.{BatchValue}
 use Rattle.ball_model.specs.Job.{Job}
 use Rattle.ball_model.specs.Join.{union_of, merge_of}
 use Rattle.ball_model.specs.State.{State, StandsFor, content_of, further}
-use Rattle.replica.specs.Progress.{IsWhole, ProgressValue}
+use Rattle.replica.specs.Index.{targets_of}
+use Rattle.replica.specs.Progress.{CanGoOn, IsWhole, ProgressValue}
 use Rattle.replica.specs.Seen.{IsState}
 
 -- the superstep, the rows, the marks, the figures and the sums are those of another replica
@@ -25,6 +26,11 @@ abbrev pub HoldsOfBoth : State → State → State → Type 0
 HoldsOfBoth v o w =
     (s q : ℕ) → (content_of w).holds s q ≡ (union_of (content_of v) (content_of o)).holds s q
 
+-- two of one plan and one partition
+pub record AreOfOnePart (v o : State) : Type 0 where
+  pub plan : v.part.plan ≡ o.part.plan
+  pub number : v.part.number ≡ o.part.number
+
 -- two of one plan and one partition; these are the batches that the other one keeps
 pub record CanAbsorb (v o : State) (shared : List (List (Option BatchValue))) : Type 0 where
   pub plan : v.part.plan ≡ o.part.plan
@@ -39,11 +45,19 @@ pub record Absorbs (v o w : State) : Type 0 where
   pub stands : (j : Job) (p t u : ℕ) → StandsFor j p t v → StandsFor j p u o →
       StandsFor j p (max t u) w
 
--- k can take over what l knows: it keeps an accumulator of each row
-pub record CanTakeOver (k l : ProgressValue) (shared : List (List (Option BatchValue))) :
-    Type 0 where
+-- a replica that has k, and can go on with it, can take over what l knows by the index
+pub record CanTakeIn (k l : ProgressValue) (shared : List (List (Option BatchValue)))
+    (targets : List (List ℕ)) : Type 0 where
+  pub two : CanAbsorb k.state l.state shared
+  pub goes_on : CanGoOn k
+  pub index : targets ≡ targets_of k.state.part
+
+-- and k keeps an accumulator of each row
+pub record CanTakeOver (k l : ProgressValue) (shared : List (List (Option BatchValue)))
+    (targets : List (List ℕ)) : Type 0 where
   pub two : CanAbsorb k.state l.state shared
   pub whole : IsWhole k
+  pub index : targets ≡ targets_of k.state.part
 
 -- w is v once it has taken over what o knows, where both keep the limits of every replica
 pub record TakesIn (v o w : State) : Type 0 where

@@ -1,5 +1,5 @@
 -- What a checkpoint tells of a replica, and when a replica is made of it.
-use Rattle.std.specs.Prelude.{◌≡◌, ◌≢◌, ℕ, ◌+◌, ◌*◌, ◌^◌, ◌<◌, ◌≤◌, List, map, length, slice_index_or}
+use Rattle.std.specs.Prelude.{◌≡◌, ◌≢◌, ℕ, ◌+◌, ◌*◌, ◌^◌, ◌<◌, ◌≤◌, List, Option, map, length, slice_index_or}
 use Rattle.std.specs.Arc.{arc_value}
 use Rattle.std.specs.List.{All, sum_by}
 use Rattle.figures.specs.Values.{value_of}
@@ -11,7 +11,7 @@ use Rattle.ball_model.specs.PlanValue.{PlanValue, greatest_limit, measure_of, mo
 use Rattle.ball_model.specs.State.{State}
 use Rattle.ball_model.specs.Table.{Table}
 use Rattle.replica.specs.declared.saved.Saved.{Saved}
-use Rattle.replica.specs.Kept.{AreCounters, AllRise, AreSums, AreSources}
+use Rattle.replica.specs.Kept.{AreCounters, AreEarly, AllRise, AreSums, AreSources}
 use Rattle.replica.specs.Progress.{CanGoOn, ProgressValue}
 use Rattle.replica.specs.Seen.{IsState}
 
@@ -92,6 +92,12 @@ pub record IsRebuilt (part : PartValue) (s : Saved) (v : State) : Type 0 where
   pub heard_change : v.heard_change ≡ s.heard_change
   pub accumulated : v.accumulated ≡ s.accumulated.rows
   pub early : kept_batches v.early ≡ map arc_value s.early.items
+
+-- these batches are kept, each at its place
+pub record KeepsInPlace (plan : PlanValue) (p t : ℕ) (batches : List BatchValue)
+    (early : List (List (Option BatchValue))) : Type 0 where
+  pub told : kept_batches early ≡ batches
+  pub placed : AreEarly plan p t early
 
 -- what a replica of the part has that is made of it: with room, a replica can go on with it
 pub record IsRemade (part : PartValue) (s : Saved) (k : ProgressValue) : Type 0 where

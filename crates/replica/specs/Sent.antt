@@ -1,11 +1,12 @@
 -- What a replica tells another partition of its superstep.
-use Rattle.std.specs.Prelude.{◌≡◌, ℕ, ◌+◌, ◌*◌, ◌^◌, ◌≤◌, false, ◌&&◌, List, [], ◌∷◌, if◌then◌else◌, length, slice_index, slice_index_or}
+use Rattle.std.specs.Prelude.{◌≡◌, ℕ, ◌+◌, ◌*◌, ◌^◌, ◌<◌, ◌≤◌, true, false, ◌&&◌, List, [], ◌∷◌, if◌then◌else◌, length, slice_index, slice_index_or}
 use Rattle.std.specs.List.{range_with_len, flat_map, count_by, All}
 use Rattle.ball_model.specs.declared.names.BatchName.{BatchName}
 use Rattle.ball_model.specs.Batches.{BatchValue}
 use Rattle.ball_model.specs.Masks.{has_bit}
 use Rattle.ball_model.specs.State.{State}
 use Rattle.batches.specs.Kept.{rows_at}
+use Rattle.registers.specs.Marks.{IsNextMarked}
 
 -- vertex i and its registers, where it changed and has an edge into the target
 abbrev pub sent_row : State → ℕ → ℕ → List (ℕ × List ℕ)
@@ -51,8 +52,13 @@ pub record IsTold (v : State) (target n : ℕ) (ids places : List ℕ) (changed 
   pub before : changed * 2 ^ v.part.plan.log2m ≡ length (changed_rows v n)
   pub few : changed ≤ n
 
--- nothing is told, and no vertex so far changed
-pub record IsNothingTold (ids places : List ℕ) (changed : ℕ) : Type 0 where
-  pub no_ids : ids ≡ []
-  pub no_places : places ≡ []
-  pub none : changed ≡ 0
+-- vertex i of the partition changed
+pub record ChangedAt (v : State) (i : ℕ) : Type 0 where
+  pub place : i < length v.part.preds
+  pub mark : slice_index_or v.marks i false ≡ true
+
+-- next is the first vertex from a place on that changed, or the number of vertices where none did
+pub record IsNextChanged (v : State) (from next : ℕ) : Type 0 where
+  pub first : IsNextMarked v.marks from next
+  pub within : next ≤ length v.part.preds
+  pub changed : next < length v.part.preds → ChangedAt v next

@@ -65,6 +65,19 @@ pub record CanSpread (targets : List (List ℕ)) (rows : Table) (touched : List 
   pub inside : LeadInside (length rows.rows) targets
   pub marks : length touched ≡ length rows.rows
 
+-- and as wide are the rows to be spread
+pub record CanSpreadRows (targets : List (List ℕ)) (width : ℕ) (rows : Table)
+    (touched : List Bool) : Type 0 where
+  pub wide : width ≡ rows.width
+  pub room : CanSpread targets rows touched
+
+-- the own rows of a part can be spread, of which there is one for each vertex, and a mark
+pub record CanSpreadOwn (targets : List (List ℕ)) (part : PartValue) (own : Table)
+    (marks : List Bool) (rows : Table) (touched : List Bool) : Type 0 where
+  pub count : length own.rows ≡ length part.preds
+  pub each : length marks ≡ length part.preds
+  pub can : CanSpreadRows targets own.width rows touched
+
 -- no register is below that of the row
 abbrev pub IsAbove : List ℕ → List ℕ → Type 0
 IsAbove row accumulated = max_each row accumulated ≡ accumulated

@@ -12,7 +12,7 @@ use Rattle.registers.specs.Relay.{DifferWhere}
 use Rattle.replica.specs.Heard.{OwnIsHeard}
 use Rattle.replica.specs.Hearing.{HearingValue, IsQuiet, KeepsAll}
 use Rattle.replica.specs.Kept.{AllRise, AreCounters, AreLasts, AreSums}
-use Rattle.replica.specs.Level.{differences, next_tallies, total_of, weights_of}
+use Rattle.replica.specs.Level.{differences, next_tally, next_tallies, total_of, weights_of}
 use Rattle.replica.specs.Spread.{LeadInside}
 use Rattle.replica.specs.Start.{first_figures, first_rows_of_part}
 
@@ -72,6 +72,21 @@ pub record CanStepRow (m : Measure) (t : ℕ) (old new : List ℕ) (own last : �
   pub ahead : IsCounterRow m.log2m new
   pub weight : own ≡ weight_of old
   pub grown : last ≤ estimate_with m new
+
+-- figures and weights are those at superstep t of the rows ahead, and the last estimates have gained so much in all
+pub record AreStepped (m : Measure) (t : ℕ) (new : Table) (before after : List TallyValue)
+    (own : List ℕ) (gained : ℕ) : Type 0 where
+  pub tallies : after ≡ next_tallies m t new.rows before (length new.rows)
+  pub weights : own ≡ weights_of new.rows
+  pub gain : sum_by (λ tally. tally.last) after ≡ sum_by (λ tally. tally.last) before + gained
+
+-- those of a row are, whose estimate has gained so much
+pub record IsStepped (m : Measure) (t : ℕ) (new : List ℕ) (before after : TallyValue)
+    (own gained : ℕ) : Type 0 where
+  pub figures : after ≡ next_tally t before (estimate_with m new)
+  pub weight : own ≡ weight_of new
+  pub gain : after.last ≡ before.last + gained
+  pub small : gained < 2 ^ 64
 
 -- the tables of superstep t can go on to the accumulators
 pub record CanStep (m : Measure) (t : ℕ) (a : TablesValue) (h : HearingValue) (own : List ℕ) :

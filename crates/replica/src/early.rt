@@ -1,14 +1,12 @@
 //! Batches of supersteps to come.
 
-ghost use Rattle.std.specs.Prelude.{◌≡◌, ℕ, ◌<◌, ◌≤◌, ◌+◌, ◌*◌, ◌==◌, ◌&&◌, replicate, length};
-ghost use Rattle.std.specs.Prelude.{option_map, slice_index_or, slice_set, None, Some, [], map};
-ghost use Rattle.std.specs.Prelude.{IfOk, if◌then◌else◌};
+ghost use Rattle.std.specs.Prelude.{◌≡◌, ℕ, ◌<◌, ◌≤◌, replicate, length};
+ghost use Rattle.std.specs.Prelude.{option_map, slice_set, None, Some, map, IfOk};
 ghost use Rattle.std.specs.Arc.{arc_value};
 ghost use Rattle.ball_model.specs.State.{early_at};
-ghost use Rattle.std.specs.List.{slice_get, flat_map};
-ghost use Rattle.std.specs.Option.{option_to_list};
+ghost use Rattle.std.specs.List.{slice_get};
 ghost use Rattle.replica.specs.Ahead.{ComesNearer, IsEmptyTable, IsTable, KeepsAlso, KeepsEither};
-ghost use Rattle.replica.specs.Ahead.{StaysTable, either, union_of_slots, slots_after, batches_in};
+ghost use Rattle.replica.specs.Ahead.{StaysTable, either, union_of_slots, slots_after};
 ghost use Rattle.replica.specs.Ahead.{early_batches};
 
 use batches::Batch;
@@ -60,21 +58,24 @@ impl Early {
         if LEVELS <= level || self.parts <= source {
             return None;
         }
-        batch_at(&self.slots, level * self.parts + source)
+        match &self.slots[level * self.parts + source] {
+            Some(batch) => Some(batch),
+            None => None,
+        }
     }
 
     /// How many batches are kept.
     pub fn count(&self) -> usize
         ensures { result ≡ length (early_batches self.now) }
     {
-        count_kept(&self.slots)
+        self.slots.iter().flatten().count()
     }
 
     /// The batch that is kept at place `i`, by superstep, then by source.
     pub fn nth(&self, i: usize) -> Option<&Batch>
         ensures { option_map (λ b. b.now) result ≡ slice_get (early_batches self.now) i }
     {
-        match nth_kept(&self.slots, i) {
+        match self.slots.iter().flatten().nth(i) {
             Some(batch) => Some(batch),
             None => None,
         }
@@ -127,32 +128,6 @@ fn empty_slots(alloc: Global, count: usize) -> Result<Vec<Option<Arc<Batch>>>, A
         slots.push_reserved(None);
     }
     Ok(slots)
-}
-
-// The batch in a slot.
-fn batch_at(slots: &[Option<Arc<Batch>>], place: usize) -> Option<&Batch>
-    requires { place < length slots.now }
-    ensures { option_map (λ b. b.now) result ≡
-        slice_index_or (map (option_map arc_value) slots.now) place None }
-{
-    match &slots[place] {
-        Some(batch) => Some(batch),
-        None => None,
-    }
-}
-
-// How many slots have a batch.
-fn count_kept(slots: &[Option<Arc<Batch>>]) -> usize
-    ensures { result ≡ length (flat_map option_to_list slots.now) }
-{
-    slots.iter().flatten().count()
-}
-
-// The i-th of the batches in slots.
-fn nth_kept(slots: &[Option<Arc<Batch>>], i: usize) -> Option<&Arc<Batch>>
-    ensures { option_map (λ b. b.now) result ≡ slice_get (flat_map option_to_list slots.now) i }
-{
-    slots.iter().flatten().nth(i)
 }
 
 // A batch comes into a slot.

@@ -1,14 +1,12 @@
 //! What is heard of a superstep.
 
-ghost use Rattle.std.specs.Prelude.{◌≡◌, ℕ, ◌^◌, ◌<◌, ◌||◌, List, length, slice_index_or};
-ghost use Rattle.std.specs.Prelude.{option_map, Some, IfOk, IfSome, OnOk, OnErr};
-ghost use Rattle.ball_model.specs.State.{early_at};
+ghost use Rattle.std.specs.Prelude.{◌≡◌, ℕ, ◌||◌, List, length};
+ghost use Rattle.std.specs.Prelude.{Some, IfOk, OnOk, OnErr};
 ghost use Rattle.registers.specs.Joined.{maximum_of_rows, union_of_flags};
 ghost use Rattle.replica.specs.Hearing.{BeginsSuperstep, CanBegin, CanFill, CanHear, CanJoin};
 ghost use Rattle.replica.specs.Hearing.{CanRenew, Renews, Fills, HearsAlso, HearsEarly, IsQuiet};
-ghost use Rattle.replica.specs.Hearing.{HearsByIndex, KeepsAll, KeepsAllOrNone, SaysSame};
-ghost use Rattle.replica.specs.Hearing.{accumulators_of, batch_by, let_go};
-ghost use Rattle.replica.specs.Kept.{IsFrom};
+ghost use Rattle.replica.specs.Hearing.{HearsByIndex, KeepsAllOrNone, SaysSame};
+ghost use Rattle.replica.specs.Hearing.{accumulators_of, batch_by};
 ghost use Rattle.replica.specs.Level.{differences};
 ghost use Rattle.replica.specs.Tables.{CanHearOwn, HearsOwn};
 
@@ -116,9 +114,7 @@ impl Hearing {
 
     /// How many accumulators are kept.
     #[cfg(test)]
-    pub fn count(&self) -> usize
-        ensures { result ≡ length self.now.accumulated.rows }
-    {
+    pub fn count(&self) -> usize {
         self.accumulated.len()
     }
 
@@ -133,19 +129,6 @@ impl Hearing {
         self.change |= batch.changed() != 0;
     }
 
-    // Hears the batch of a source, where there is one.
-    fn hear_if(&mut self, targets: &Targets, plan: &Plan, source: u16, batch: Option<&Batch>)
-        requires ready { HearsByIndex plan.now.log2m targets.now self.old }
-        requires batch { IfSome batch (λ b. IsFrom plan.now source b.now) }
-        ensures { HearsAlso plan.now.log2m targets.now
-            (batch_by source (option_map (λ b. b.now) batch.entry)) self.old self.new }
-    {
-        match batch {
-            Some(batch) => self.hear(targets, batch),
-            None => {}
-        }
-    }
-
     /// Hears the batches that are kept of a superstep that has begun, the one after the next ones that passed. Only
     /// those of later ones are left.
     pub fn hear_early(&mut self, targets: &Targets, plan: &Plan, early: &mut Early, passed: u32)
@@ -154,19 +137,13 @@ impl Hearing {
             self.old self.new }
     {
         early.shift(passed.min(LEVELS as u32) as usize);
-        self.hear_each(targets, plan, early);
-        early.shift(1);
-    }
-
-    // Hears the batches that are kept of the next superstep, which has begun.
-    fn hear_each(&mut self, targets: &Targets, plan: &Plan, early: &Early)
-        requires { CanHear plan.now targets.now early.now self.old }
-        ensures { HearsAlso plan.now.log2m targets.now
-            (λ q. early_at early.now 0 q) self.old self.new }
-    {
         for source in 0..plan.parts() {
-            self.hear_if(targets, plan, source, early.get(0, source));
+            match early.get(0, source) {
+                Some(batch) => self.hear(targets, batch),
+                None => {}
+            }
         }
+        early.shift(1);
     }
 
     /// What is accumulated, a row each: what the rows become.
@@ -245,30 +222,15 @@ impl Hearing {
             KeepsAllOrNone rows self.now → SaysSame rows self.now copy) }
     {
         if level::any_marked(&self.touched) {
-            self.copied_whole(alloc)
-        } else {
-            self.copied_bare(alloc)
+            let accumulated = copy_rows(alloc, &self.accumulated)?;
+            let touched = Vec::from_slice(alloc, &self.touched)?;
+            return Ok(Hearing {
+                heard: self.heard,
+                change: self.change,
+                accumulated,
+                touched,
+            });
         }
-    }
-
-    // The same in buffers of its own.
-    fn copied_whole(&self, alloc: Global) -> Result<Hearing, AllocError>
-        ensures { IfOk result (λ copy. copy ≡ self.now) }
-    {
-        let accumulated = copy_rows(alloc, &self.accumulated)?;
-        let touched = Vec::from_slice(alloc, &self.touched)?;
-        Ok(Hearing {
-            heard: self.heard,
-            change: self.change,
-            accumulated,
-            touched,
-        })
-    }
-
-    // The same without accumulators.
-    fn copied_bare(&self, alloc: Global) -> Result<Hearing, AllocError>
-        ensures { IfOk result (λ copy. copy ≡ let_go self.now) }
-    {
         let accumulated = Rows::fixed(alloc, 0, self.accumulated.width() as u16)?;
         Ok(Hearing {
             heard: self.heard,

@@ -24,6 +24,7 @@ pub fn end_to_end()
 
 /// Whatever its batches say, a replica holds only batches of other partitions, of its superstep to three further ones,
 /// and of at most the limit.
+#[tactic(auto, using(crate::proofs::RunsLemmas::Same::content_is_one))]
 pub fn window()
     ensures { HoldsItsWindow }
 {}
@@ -33,12 +34,14 @@ pub fn window()
 /// They are equal in all that they have: rows, figures, sums, and the batches that they hold. What a replica tells is
 /// a function of that alone, so each reader answers the same for both. The same calls on both have the same answers,
 /// and leave both with the same content, so equal again.
+#[tactic(auto, using(crate::proofs::RunsLemmas::Same::same_replica, crate::proofs::RunsLemmas::Same::same_calls))]
 pub fn same_content()
     ensures same { SameContentIsSame }
     ensures later { SameCallsAlike }
 {}
 
 /// All that a replica can have, in rows of its width, fits its part: so a replica is made of it again.
+#[tactic(auto, using(crate::proofs::SavedLemmas::Keepable::keepable_fits))]
 pub fn what_is_had_fits()
     ensures { HadFits }
 {}

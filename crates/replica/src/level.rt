@@ -1,15 +1,11 @@
 //! What a replica does with its marks, and with its figures.
 
-ghost use Rattle.std.specs.Prelude.{◌≡◌, ℕ, ◌<◌, ◌≤◌, ◌+◌, ◌*◌, ◌^◌, false, not, [], slice_set};
-ghost use Rattle.std.specs.Prelude.{length, slice_index_or, option_map, map, IfSome, count_by};
+ghost use Rattle.std.specs.Prelude.{◌≡◌, ℕ, ◌<◌, ◌≤◌, ◌+◌, ◌*◌, false};
+ghost use Rattle.std.specs.Prelude.{length, slice_index_or, map, count_by};
 ghost use Rattle.std.specs.List.{sum_by, list_any};
-ghost use Rattle.std.specs.Str.{bytes_eq};
-ghost use Rattle.ball_model.specs.Figures.{estimate_with};
-ghost use Rattle.ball_model.specs.Laws.{IsCounterRow};
-ghost use Rattle.ball_model.specs.PlanValue.{greatest_limit};
-ghost use Rattle.figures.specs.Values.{value_of, weight_of};
-ghost use Rattle.replica.specs.Level.{differences, next_tally, next_tallies, weights_of};
-ghost use Rattle.replica.specs.Tables.{CanBeStepped, CanStepRow};
+ghost use Rattle.figures.specs.Values.{value_of};
+ghost use Rattle.replica.specs.Level.{differences};
+ghost use Rattle.replica.specs.Tables.{AreStepped, CanBeStepped, CanStepRow, IsStepped};
 
 use figures::{Estimator, Tally, moved_weight};
 use registers::{Rows, next_marked};
@@ -49,11 +45,8 @@ pub fn step_tallies(
 ) -> u128
     requires { CanBeStepped estimator.now t rows.now ahead.now marks.now weights.old
         (map value_of tallies.old) }
-    ensures tallies { map value_of tallies.new ≡ next_tallies estimator.now t ahead.now.rows
-        (map value_of tallies.old) (length ahead.now.rows) }
-    ensures weights { weights.new ≡ weights_of ahead.now.rows }
-    ensures gain { sum_by (λ tally. tally.last) tallies.new ≡
-        sum_by (λ tally. tally.last) tallies.old + result }
+    ensures { AreStepped estimator.now t ahead.now (map value_of tallies.old)
+        (map value_of tallies.new) weights.new result }
 {
     let mut gain = 0;
     let mut i = next_marked(marks, 0);
@@ -76,11 +69,8 @@ fn step_tally(
     tally: &mut Tally,
 ) -> u128
     requires { CanStepRow estimator.now t row.now ahead.now weight.old tally.old.last }
-    ensures value { value_of tally.new ≡
-        next_tally t (value_of tally.old) (estimate_with estimator.now ahead.now) }
-    ensures weight { weight.new ≡ weight_of ahead.now }
-    ensures gain { tally.new.last ≡ tally.old.last + result }
-    ensures small { result < 2 ^ 64 }
+    ensures { IsStepped estimator.now t ahead.now (value_of tally.old) (value_of tally.new)
+        weight.new result }
 {
     let before = tally.last;
     *weight = moved_weight(estimator.log2m(), *weight, row, ahead);

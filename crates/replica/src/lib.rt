@@ -37,13 +37,13 @@
 //! [`Replica::out_of`], [`Replica::snapshot`], [`Replica::merge`] and a join take memory.
 #![tactic(auto)]
 
+mod calls;
 mod early;
 mod hearing;
 mod join;
 pub mod laws;
 mod level;
 mod merge;
-mod node;
 mod out;
 mod rebuild;
 pub mod saved;

@@ -1,16 +1,16 @@
 //! What is taken over from another replica of the partition.
 
-ghost use Rattle.std.specs.Prelude.{◌≡◌, ◌↔◌, ◌<◌, IfOk, IsTrue, OnErr, OnOk};
+ghost use Rattle.std.specs.Prelude.{◌≡◌, ◌↔◌, ◌<◌, IsTrue, OnErr, OnOk};
 ghost use Rattle.ball_model.specs.History.{holding_in};
 ghost use Rattle.ball_model.specs.Join.{AreAlike};
 ghost use Rattle.replica.specs.Index.{targets_of};
-ghost use Rattle.replica.specs.Merged.{CanAbsorb, CanTakeOver, TakesIn, TakesOver};
+ghost use Rattle.replica.specs.Merged.{CanTakeIn, CanTakeOver, TakesIn, TakesOver};
 ghost use Rattle.replica.specs.Progress.{CanGoOn, IsWhole};
 ghost use Rattle.replica.specs.Seen.{IsState};
 
 use crate::early::Early;
 use crate::targets::Targets;
-use crate::{Progress, step};
+use crate::{Progress, Shown, step};
 use std::alloc::{AllocError, Global};
 
 impl Progress {
@@ -19,15 +19,7 @@ impl Progress {
         ensures { IsTrue result ↔
             AreAlike (holding_in self.now.state) (holding_in other.now.state) }
     {
-        step::is_same(self.part.plan(), other.part.plan())
-            && self.part.partition() == other.part.partition()
-    }
-
-    /// The batches that are kept, shared.
-    pub(crate) fn shared(&self, alloc: Global) -> Result<Early, AllocError>
-        ensures { IfOk result (λ e. e ≡ self.now.state.early) }
-    {
-        self.early.share(alloc)
+        step::is_same(self.plan(), other.plan()) && self.part.partition() == other.part.partition()
     }
 
     /// Takes over what another one of the same plan and partition knows; `shared` are the batches that it keeps.
@@ -38,9 +30,7 @@ impl Progress {
         other: &Progress,
         shared: &mut Early,
     ) -> Result<(), AllocError>
-        requires two { CanAbsorb self.old.state other.now.state shared.old }
-        requires index { targets.now ≡ targets_of self.old.state.part }
-        requires goes_on { CanGoOn self.old }
+        requires { CanTakeIn self.old other.now shared.old targets.now }
         ensures taken { OnOk result (TakesIn self.old.state other.now.state self.new.state) }
         ensures refused { OnErr result (self.new.state ≡ self.old.state) }
         ensures goes_on { CanGoOn self.new }
@@ -60,8 +50,7 @@ impl Progress {
     // Becomes what another one is that is further; of the own batches those count that are of its superstep or later.
     fn overtake(&mut self, targets: &Targets, other: &Progress, shared: &mut Early)
         requires further { self.old.state.superstep < other.now.state.superstep }
-        requires can { CanTakeOver self.old other.now shared.old }
-        requires index { targets.now ≡ targets_of self.old.state.part }
+        requires can { CanTakeOver self.old other.now shared.old targets.now }
         ensures { TakesOver self.old other.now self.new }
     {
         let plan = *self.part.plan();
@@ -77,8 +66,7 @@ impl Progress {
     // Of the batches of another one that is behind, those of the own superstep are heard, and later ones kept.
     fn gather(&mut self, targets: &Targets, other: &Progress, shared: &mut Early)
         requires further { other.now.state.superstep < self.old.state.superstep }
-        requires can { CanTakeOver self.old other.now shared.old }
-        requires index { targets.now ≡ targets_of self.old.state.part }
+        requires can { CanTakeOver self.old other.now shared.old targets.now }
         ensures { TakesOver self.old other.now self.new }
     {
         let plan = *self.part.plan();
@@ -90,7 +78,8 @@ impl Progress {
     // What either of two at one superstep has heard and keeps.
     fn unite(&mut self, alloc: Global, other: &Progress, shared: &mut Early)
         requires level { self.old.state.superstep ≡ other.now.state.superstep }
-        requires can { CanTakeOver self.old other.now shared.old }
+        requires can { CanTakeOver self.old other.now shared.old
+            (targets_of self.old.state.part) }
         ensures { TakesOver self.old other.now self.new }
     {
         self.hearing.absorb(

@@ -4,7 +4,6 @@ ghost use Rattle.std.specs.Prelude.{◌≡◌, ◌≢◌, ◌↔◌, ℕ, ◌+�
 ghost use Rattle.std.specs.Prelude.{map, length, slice_index_or, []};
 ghost use Rattle.std.specs.Arc.{arc_value};
 ghost use Rattle.std.specs.List.{All};
-ghost use Rattle.ball_model.specs.PlanValue.{most_parts};
 ghost use Rattle.replica.specs.Kept.{AreCounters, AllRise, AreSources, AreSums, RowRises};
 ghost use Rattle.replica.specs.Saved.{AreOfWidth, Fits, HasRows, HasFigures, HasHeard, MayKeep};
 ghost use Rattle.replica.specs.Saved.{MayBeKept};
@@ -56,7 +55,12 @@ impl Saved {
     pub fn fits(&self, part: &Part) -> bool
         ensures { IsTrue result ↔ Fits part.now self.now }
     {
-        self.has_rows(part) && self.has_rest(part)
+        if !self.has_rows(part) {
+            return false;
+        }
+        self.has_figures(part)
+            && self.has_heard(part)
+            && may_be_kept(part, self.superstep, &self.early)
     }
 
     // Whether it has a row and a mark for each vertex, and is in time.
@@ -72,24 +76,16 @@ impl Saved {
             && are_counters(&self.rows, part.plan())
     }
 
-    // Whether all else fits too.
-    fn has_rest(&self, part: &Part) -> bool
-        requires { HasRows part.now self.now }
-        ensures { IsTrue result ↔ Fits part.now self.now }
-    {
-        self.has_figures(part)
-            && self.has_heard(part)
-            && may_be_kept(part, self.superstep, &self.early)
-    }
-
     // Whether the figures are those of the rows, and the sums rise to theirs.
     fn has_figures(&self, part: &Part) -> bool
         requires { HasRows part.now self.now }
         ensures { IsTrue result ↔ HasFigures part.now self.now }
     {
+        if self.tallies.len() != self.rows.len() {
+            return false;
+        }
         let plan = part.plan();
-        self.tallies.len() == self.rows.len()
-            && are_last(plan.log2m(), plan.is_corrected(), &self.rows, &self.tallies)
+        are_last(plan.log2m(), plan.is_corrected(), &self.rows, &self.tallies)
             && are_sums(self.superstep, sum_of_lasts(&self.tallies), &self.sums)
     }
 
@@ -99,7 +95,7 @@ impl Saved {
         ensures { IsTrue result ↔ HasHeard part.now self.now }
     {
         let width = part.plan().width();
-        are_sources(part.plan().parts(), part.partition(), self.heard)
+        are_sources(part, self.heard)
             && self.accumulated.width() == width
             && self.accumulated.len() == self.rows.len()
             && all_rise(&self.rows, &self.accumulated, part.plan())
@@ -114,18 +110,11 @@ fn are_counters(rows: &Rows, plan: &Plan) -> bool
     // the limits of a plan are told with its number of registers
     let _log2m = plan.log2m();
     for i in 0..rows.len() {
-        if !are_ranks(rows.row(i)) {
+        if !rows.row(i).iter().all(|rank| *rank <= 33) {
             return false;
         }
     }
     true
-}
-
-// Whether each register is at most 33.
-fn are_ranks(row: &[u8]) -> bool
-    ensures { IsTrue result ↔ All (λ r. r ≤ 33) row.now }
-{
-    row.iter().all(|r| *r <= 33)
 }
 
 // Whether there is a sum for each superstep up to `t`, the last is the one given, and none is less than the one before.
@@ -150,11 +139,11 @@ fn do_rise(sums: &[u128]) -> bool
 }
 
 // Whether only other partitions are set.
-fn are_sources(parts: u16, own: u16, heard: SourceMask) -> bool
-    requires parts { parts ≤ most_parts }
-    requires own { own < parts }
-    ensures { IsTrue result ↔ AreSources parts own heard }
+fn are_sources(part: &Part, heard: SourceMask) -> bool
+    ensures { IsTrue result ↔ AreSources part.now.plan.parts part.now.number heard }
 {
+    let parts = part.plan().parts();
+    let own = part.partition();
     // that a mask has 64 flags is told with its bits
     let _bits = heard.bits();
     for q in parts..MOST_PARTS {

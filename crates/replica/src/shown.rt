@@ -20,11 +20,11 @@ ghost use Rattle.ball_model.specs.State.{State, StandsFor, content_of, early_at,
 ghost use Rattle.ball_model.specs.State.{tallies_of, sums_of};
 ghost use Rattle.ball_model.specs.Checkpoint.{no_figures};
 ghost use Rattle.replica.specs.Ahead.{early_batches, early_names, true_early};
-ghost use Rattle.replica.specs.Level.{is_changing, level_verdict, found_verdict, missing_in};
+ghost use Rattle.replica.specs.Level.{level_verdict, found_verdict, missing_in};
 ghost use Rattle.replica.specs.Hearing.{KeepsAllOrNone, SaysSame, accumulated_by, change_by};
 ghost use Rattle.replica.specs.Hearing.{heard_by};
 ghost use Rattle.replica.specs.Saved.{IsFigures};
-ghost use Rattle.replica.specs.Seen.{IsState};
+ghost use Rattle.replica.specs.Seen.{IsPlaceOf, IsState, OwnsVertex};
 
 use crate::{Progress, Replica, Snapshot, level};
 use ball_model::plan::MOST_PARTS;
@@ -79,12 +79,12 @@ pub trait Shown {
             (state self.now).part.plan.vertices (state self.now).part.plan.parts
             (state self.now).part.number) }
     {
-        let s = self.shown();
-        let plan = s.part.plan();
-        x < plan.vertices() && plan.partition_of(x) == s.part.partition()
+        let plan = self.plan();
+        x < plan.vertices() && plan.partition_of(x) == self.partition()
     }
 
     /// The 2^log2m registers of vertex `x`, which the partition owns.
+    #[tactic(auto, using(crate::proofs::SeenLemmas::Read::row_stands))]
     final fn row(&self, x: u32) -> &[u8]
         requires vertex { x < (state self.now).part.plan.vertices }
         requires own { x % (state self.now).part.plan.parts ≡ (state self.now).part.number }
@@ -114,6 +114,7 @@ pub trait Shown {
     }
 
     /// Whether vertex `x`, which the partition owns, changed at this superstep.
+    #[tactic(auto, using(crate::proofs::SeenLemmas::Read::mark_stands))]
     final fn changed(&self, x: u32) -> bool
         requires vertex { x < (state self.now).part.plan.vertices }
         requires own { x % (state self.now).part.plan.parts ≡ (state self.now).part.number }
@@ -127,6 +128,7 @@ pub trait Shown {
     }
 
     /// How many vertices of the partition changed at this superstep.
+    #[tactic(auto, using(crate::proofs::SeenLemmas::Read::count_stands))]
     final fn changed_count(&self) -> u32
         ensures value { result ≡ count_by (λ mark. mark) (state self.now).marks }
         ensures stands { (j : Job) (p t : ℕ) → StandsFor j p t (state self.now) →
@@ -159,6 +161,7 @@ pub trait Shown {
     }
 
     /// The figures of all vertices of the partition.
+    #[tactic(auto, using(crate::proofs::SavedLemmas::Fits::figures_kept))]
     final fn tallies(&self) -> &[Tally]
         ensures value { map value_of result.now ≡ (state self.now).tallies }
         // figures that a run can have, whatever its batches say
@@ -183,13 +186,12 @@ pub trait Shown {
     final fn missing(&self) -> Option<u16>
         ensures { result ≡ missing_in (state self.now) }
     {
-        let s = self.shown();
-        s.hearing
-            .heard()
-            .least_missing(s.part.plan().parts(), s.part.partition())
+        self.heard()
+            .least_missing(self.plan().parts(), self.partition())
     }
 
     /// Which sources of the superstep are heard.
+    #[tactic(auto, using(crate::proofs::SeenLemmas::Read::heard_is))]
     final fn heard(&self) -> SourceMask
         ensures value { result ≡ (state self.now).heard }
         ensures names { result ≡ heard_by (content_of (state self.now)) }
@@ -199,6 +201,7 @@ pub trait Shown {
     }
 
     /// Whether a source that is heard tells of a changed vertex.
+    #[tactic(auto, using(crate::proofs::SeenLemmas::Read::change_stands))]
     final fn heard_change(&self) -> bool
         ensures value { result ≡ (state self.now).heard_change }
         ensures stands { (j : Job) (p t : ℕ) → StandsFor j p t (state self.now) →
@@ -209,6 +212,7 @@ pub trait Shown {
     }
 
     /// The registers accumulated so far for vertex `x`, which the partition owns.
+    #[tactic(auto, using(crate::proofs::SeenLemmas::Read::accumulated_stands))]
     final fn accumulated(&self, x: u32) -> &[u8]
         requires vertex { x < (state self.now).part.plan.vertices }
         requires own { x % (state self.now).part.plan.parts ≡ (state self.now).part.number }
@@ -234,6 +238,7 @@ pub trait Shown {
     /// The i-th of the batches of later supersteps, ascending by superstep, then by source; none past the last.
     ///
     /// It takes time in proportion to three slots for each partition.
+    #[tactic(auto, using(crate::proofs::KeptLemmas::Kept::nth_true))]
     final fn early(&self, i: u32) -> Option<&Batch>
         ensures value { option_map (λ b. b.now) result ≡
             slice_get (early_batches (state self.now).early) i }
@@ -253,8 +258,10 @@ pub trait Shown {
         ensures stands { (j : Job) (p t : ℕ) → StandsFor j p t (state self.now) →
             result ≡ verdict_of j p (content_of (state self.now)) }
     {
-        let s = self.shown();
-        s.found_verdict()
+        match self.missing() {
+            Some(_) => None,
+            None => Some(self.shown().level_verdict()),
+        }
     }
 }
 
@@ -284,11 +291,10 @@ impl Shown for Replica {
 
 impl Progress {
     // The place of a vertex of the partition.
+    #[tactic(auto, using(crate::proofs::SeenLemmas::Read::place_in))]
     fn own_place(&self, x: u32) -> usize
-        requires vertex { x < self.now.state.part.plan.vertices }
-        requires own { x % self.now.state.part.plan.parts ≡ self.now.state.part.number }
-        ensures value { result ≡ x / self.now.state.part.plan.parts }
-        ensures below { result < length self.now.state.part.preds }
+        requires { OwnsVertex self.now.state x }
+        ensures place { IsPlaceOf self.now.state x result }
         ensures state { IsState self.now.state }
     {
         (x / u32::from(self.part.plan().parts())) as usize
@@ -304,53 +310,32 @@ impl Progress {
         if superstep == self.superstep {
             return source < MOST_PARTS && self.hearing.heard().has(source);
         }
-        self.keeps(superstep - self.superstep, source)
-    }
-
-    // Whether the batch of a source is kept, so many supersteps ahead.
-    fn keeps(&self, ahead: u32, source: u16) -> bool
-        requires { 0 < ahead }
-        ensures { result ≡ is_some (early_at self.now.state.early (ahead - 1) source) }
-    {
-        self.early.get((ahead - 1) as usize, source).is_some()
+        let level = (superstep - self.superstep - 1) as usize;
+        self.early.get(level, source).is_some()
     }
 
     /// The accumulators, a row each: the rows themselves where no others are kept.
     pub(crate) fn accumulators(&self) -> &Rows
-        ensures value { result.now.rows ≡ self.now.state.accumulated }
-        ensures width { result.now.width ≡ 2 ^ self.now.state.part.plan.log2m }
+        ensures { result.now ≡ record {
+          width = 2 ^ self.now.state.part.plan.log2m;
+          rows = self.now.state.accumulated;
+        } }
     {
         self.hearing.accumulators(self.tables.rows())
-    }
-
-    // Whether some source tells of a changed vertex.
-    fn is_changing(&self) -> bool
-        ensures { result ≡ is_changing self.now.state }
-    {
-        self.hearing.change() || level::any_marked(self.tables.marks())
     }
 
     // The verdict of a level that is held.
     pub(crate) fn level_verdict(&self) -> Verdict
         ensures { result ≡ level_verdict self.now.state }
     {
-        if 1 <= self.superstep && !self.is_changing() {
+        let is_changing = self.hearing.change() || level::any_marked(self.tables.marks());
+        if 1 <= self.superstep && !is_changing {
             return Verdict::Stable;
         }
         if self.superstep == self.part.plan().limit() {
             Verdict::Limit
         } else {
             Verdict::GoOn
-        }
-    }
-
-    // The verdict, as it is read off what the replica has.
-    fn found_verdict(&self) -> Option<Verdict>
-        ensures { result ≡ found_verdict self.now.state }
-    {
-        match self.missing() {
-            Some(_) => None,
-            None => Some(self.level_verdict()),
         }
     }
 

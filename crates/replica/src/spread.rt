@@ -1,8 +1,7 @@
 //! Rows of registers, spread to the own vertices that their vertices have an edge to.
 
-ghost use Rattle.std.specs.Prelude.{◌≡◌, ◌^◌, ◌<◌, length, slice_index_or, []};
-ghost use Rattle.std.specs.List.{All};
-ghost use Rattle.replica.specs.Spread.{CanRaise, CanSpread};
+ghost use Rattle.std.specs.Prelude.{◌^◌, length};
+ghost use Rattle.replica.specs.Spread.{CanRaise, CanSpreadOwn, CanSpreadRows};
 ghost use Rattle.replica.specs.Heard.{MarksBefore, Raises, SpreadsBatch, SpreadsOwn, SpreadsRow};
 
 use crate::targets::Targets;
@@ -10,11 +9,15 @@ use batches::Batch;
 use edgelist::Part;
 use registers::{LINE, Rows, next_marked};
 
+// How many rows are glanced at before the first of them is raised.
+const BLOCK: usize = 8;
+
 /// Spreads the row of vertex `z`: the accumulator of each own vertex that `z` has an edge to becomes the maximum of
 /// itself and `registers`, register by register, and each accumulator that this changes is marked.
 ///
 /// Where the registers are the counter of `z`, which is changed at t, the accumulators of what was heard become those
-/// of what was heard and `z`. It takes no memory, and time in proportion to the edges of `z` into the part.
+/// of what was heard and `z`. It takes no memory, and time in proportion to the edges of `z` into the part. Rows of a
+/// block that are wider than a line of the cache are glanced at first, so that they are fetched side by side.
 pub fn spread_row(
     targets: &Targets,
     z: u32,
@@ -22,12 +25,14 @@ pub fn spread_row(
     accumulated: &mut Rows,
     touched: &mut [bool],
 )
-    requires width { length registers.now ≡ accumulated.old.width }
-    requires room { CanSpread targets.now accumulated.old touched.old }
+    requires { CanSpreadRows targets.now (length registers.now) accumulated.old touched.old }
     ensures { SpreadsRow targets.now z registers.now accumulated.old accumulated.new
         touched.old touched.new }
 {
-    raise_places(targets.places(z), registers, accumulated, touched);
+    for block in targets.places(z).chunks(BLOCK) {
+        mark_seen(block, registers, accumulated, touched);
+        raise_block(block, registers, accumulated, touched);
+    }
 }
 
 /// Spreads the rows of a batch, one after the other.
@@ -35,8 +40,7 @@ pub fn spread_row(
 /// Where it is the true batch of source q at t, the accumulators of what was heard become those of what was heard and
 /// the vertices of q. It takes no memory, and time in proportion to the edges of its rows' vertices into the part.
 pub fn spread_batch(targets: &Targets, batch: &Batch, accumulated: &mut Rows, touched: &mut [bool])
-    requires width { 2 ^ batch.now.plan.log2m ≡ accumulated.old.width }
-    requires room { CanSpread targets.now accumulated.old touched.old }
+    requires { CanSpreadRows targets.now (2 ^ batch.now.plan.log2m) accumulated.old touched.old }
     ensures { SpreadsBatch targets.now batch.now accumulated.old accumulated.new
         touched.old touched.new }
 {
@@ -65,10 +69,7 @@ pub fn spread_own(
     accumulated: &mut Rows,
     touched: &mut [bool],
 )
-    requires width { rows.now.width ≡ accumulated.old.width }
-    requires count { length rows.now.rows ≡ length part.now.preds }
-    requires marks { length marks.now ≡ length part.now.preds }
-    requires room { CanSpread targets.now accumulated.old touched.old }
+    requires { CanSpreadOwn targets.now part.now rows.now marks.now accumulated.old touched.old }
     ensures { SpreadsOwn targets.now part.now rows.now.rows marks.now
         accumulated.old accumulated.new touched.old touched.new }
 {
@@ -83,25 +84,6 @@ pub fn spread_own(
             touched,
         );
         i = next_marked(marks, i + 1);
-    }
-}
-
-// How many rows are glanced at before the first of them is raised.
-const BLOCK: usize = 8;
-
-// The rows at these places become the maximum of themselves and `registers`, register by register, and each row
-// that this changes is marked.
-//
-// It takes no memory, and touches no other row. The rows of a block that are wider than a line of the cache are
-// glanced at first, so that they are fetched side by side.
-fn raise_places(places: &[u32], registers: &[u8], accumulated: &mut Rows, touched: &mut [bool])
-    requires { CanRaise places.now registers.now accumulated.old touched.old }
-    ensures { Raises places.now registers.now accumulated.old accumulated.new
-        touched.old touched.new }
-{
-    for block in places.chunks(BLOCK) {
-        mark_seen(block, registers, accumulated, touched);
-        raise_block(block, registers, accumulated, touched);
     }
 }
 

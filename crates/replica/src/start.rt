@@ -1,13 +1,11 @@
 //! What a replica begins with.
 
-ghost use Rattle.std.specs.Prelude.{◌≡◌, ℕ, ◌<◌, ◌≤◌, ◌+◌, ◌*◌, ◌^◌, length, map, replicate};
-ghost use Rattle.std.specs.Prelude.{slice_index_or, slice_set, [], ◌∷◌, IfOk};
+ghost use Rattle.std.specs.Prelude.{◌≡◌, ◌<◌, ◌^◌, map};
+ghost use Rattle.std.specs.Prelude.{slice_set, IfOk};
 ghost use Rattle.std.specs.Arc.{arc_value};
-ghost use Rattle.std.specs.Vec.{vec_capacity};
-ghost use Rattle.ball_model.specs.PlanValue.{IsPlan, greatest_limit, measure_of};
+ghost use Rattle.ball_model.specs.PlanValue.{measure_of};
 ghost use Rattle.figures.specs.Values.{value_of};
 ghost use Rattle.replica.specs.Kept.{AreCounters};
-ghost use Rattle.replica.specs.Level.{total_of};
 ghost use Rattle.replica.specs.Progress.{CanGoOn};
 ghost use Rattle.replica.specs.Start.{IsEmptyAt, Starts, first_figures, first_row};
 ghost use Rattle.replica.specs.Start.{first_rows_of_part};
@@ -86,26 +84,6 @@ pub fn start_tallies(
         tallies.push_reserved(Tally::start(estimator.estimate(rows.row(i))));
     }
     Ok(tallies)
-}
-
-/// Figures that begin with the estimates of rows, and their sum, with room for one a superstep up to the limit.
-pub fn start_figures(
-    alloc: Global,
-    plan: &Plan,
-    estimator: &Estimator,
-    rows: &Rows,
-) -> Result<(Vec<Tally>, Vec<u128>), AllocError>
-    requires { AreCounters estimator.now.log2m rows.now.rows }
-    ensures tallies { IfOk result (λ figures.
-        map value_of figures.0.items ≡ first_figures estimator.now rows.now.rows) }
-    ensures sums { IfOk result (λ figures.
-        figures.1.items ≡ total_of estimator.now rows.now.rows ∷ []) }
-    ensures room { IfOk result (λ figures. plan.now.limit + 1 ≤ vec_capacity figures.1) }
-{
-    let tallies = start_tallies(alloc, estimator, rows)?;
-    let mut sums = Vec::with_capacity(alloc, plan.limit() as usize + 1)?;
-    sums.push_reserved(level::sum_of_lasts(&tallies));
-    Ok((tallies, sums))
 }
 
 /// What a replica of the part begins with, at superstep 0.

@@ -4,9 +4,8 @@ ghost use Rattle.std.specs.Prelude.{◌≡◌, true, Ok, OnOk, OnErr};
 ghost use Rattle.std.specs.Arc.{arc_value};
 ghost use Rattle.ball_model.specs.declared.names.Taken.TheVariants as taken;
 ghost use Rattle.ball_model.specs.declared.names.Verdict.TheVariants as verdict;
-ghost use Rattle.ball_model.specs.Batches.{IsBatch};
 ghost use Rattle.ball_model.specs.Content.{same_plan};
-ghost use Rattle.replica.specs.Level.{found_close, is_over, level_verdict};
+ghost use Rattle.replica.specs.Level.{close_answer, is_over, level_verdict};
 ghost use Rattle.replica.specs.Change.{Advances, Receives, take_answer};
 ghost use Rattle.replica.specs.Progress.{CanGoOn, StaysSame};
 ghost use Rattle.replica.specs.Seen.{GoesBy, GoesFurther, HoldsTogether, IsState};
@@ -49,7 +48,6 @@ impl Progress {
     /// Holds a batch from now on: one of the superstep is heard, a later one is kept.
     pub(crate) fn receive(&mut self, targets: &Targets, batch: Arc<Batch>)
         requires new { take_answer self.old.state (arc_value batch) ≡ Ok taken.New }
-        requires batch { IsBatch (arc_value batch) }
         requires by { GoesBy self.old targets.now }
         ensures receives { Receives (arc_value batch) self.old.state self.new.state }
         ensures by { GoesBy self.new targets.now }
@@ -64,14 +62,14 @@ impl Progress {
     }
 
     /// Closes the superstep, as what the replica has says. Weights are carried forward.
-    pub(crate) fn found_close(
+    pub(crate) fn close_level(
         &mut self,
         targets: &Targets,
         estimator: &Estimator,
         weights: &mut [u64],
     ) -> Result<u32, CloseError>
         requires { HoldsTogether self.old targets.now estimator.now weights.old }
-        ensures exact { result ≡ found_close self.old.state }
+        ensures exact { result ≡ close_answer self.old.state }
         ensures refused { OnErr result (self.new.state ≡ self.old.state) }
         ensures advances { OnOk result (Advances self.old.state self.new.state) }
         ensures goes_on { HoldsTogether self.new targets.now estimator.now weights.new }

@@ -4,12 +4,12 @@ ghost use Rattle.std.specs.Prelude.{◌≡◌, ◌≤◌, length, map, IfOk};
 ghost use Rattle.std.specs.Vec.{vec_capacity};
 ghost use Rattle.ball_model.specs.PlanValue.{measure_of};
 ghost use Rattle.figures.specs.Values.{value_of};
-ghost use Rattle.replica.specs.Tables.{AreFirst, CanStep, HasEach, HasRoomFor, NextTables};
+ghost use Rattle.replica.specs.Tables.{AreFirst, CanStep, HasRoomFor, NextTables};
 ghost use Rattle.replica.specs.Tables.{TablesValue};
 
 use crate::hearing::Hearing;
-use crate::start;
 use crate::tallies::Tallies;
+use crate::{level, start};
 use edgelist::Part;
 use figures::{Estimator, Tally};
 use registers::{Relay, Rows};
@@ -49,7 +49,9 @@ impl Tables {
         prove!(part.partition() < part.plan().parts());
         let marks = start::start_marks(alloc, part)?;
         let rows = start::start_rows(alloc, part)?;
-        let (tallies, sums) = start::start_figures(alloc, part.plan(), estimator, &rows)?;
+        let tallies = start::start_tallies(alloc, estimator, &rows)?;
+        let mut sums = Vec::with_capacity(alloc, part.plan().limit() as usize + 1)?;
+        sums.push_reserved(level::sum_of_lasts(&tallies));
         Ok(Tables::of(rows, marks, tallies, sums))
     }
 
@@ -107,9 +109,7 @@ impl Tables {
 
     /// For how many sums there is room.
     #[cfg(test)]
-    pub fn room(&self) -> usize
-        ensures { result ≡ self.now.room }
-    {
+    pub fn room(&self) -> usize {
         self.sums.capacity()
     }
 

@@ -1,16 +1,13 @@
 //! Tallies that are handed out while they go on.
 
-ghost use Rattle.std.specs.Prelude.{◌≡◌, ◌≤◌, ◌+◌, List, Some, false, length, map, IfOk, IfSome};
-ghost use Rattle.std.specs.Prelude.{OnErr};
+ghost use Rattle.std.specs.Prelude.{◌≡◌, ◌≤◌, ◌+◌, List, Some, length, map, IfOk, IfSome};
 ghost use Rattle.std.specs.Arc.{arc_value};
-ghost use Rattle.std.specs.List.{sum_by};
 ghost use Rattle.std.specs.Vec.{vec_capacity};
 ghost use Rattle.ball_model.specs.Figures.{TallyValue};
 ghost use Rattle.figures.specs.Values.{value_of};
 ghost use Rattle.registers.specs.Relay.{AreEither};
-ghost use Rattle.replica.specs.Level.{next_tallies, weights_of};
-ghost use Rattle.replica.specs.Tables.{CanBeStepped};
-ghost use Rattle.replica.specs.Tallies.{AreRelayed, DifferAt, shown_tallies};
+ghost use Rattle.replica.specs.Tables.{AreStepped, CanBeStepped};
+ghost use Rattle.replica.specs.Tallies.{AreMarkedAhead, AreRelayed, DifferAt, shown_tallies};
 
 use crate::level;
 use figures::{Estimator, Tally};
@@ -134,11 +131,7 @@ impl Tallies {
         weights: &mut [u64],
     ) -> u128
         requires { CanBeStepped estimator.now t rows.now ahead.now marks.now weights.old self.old }
-        ensures tallies { self.new ≡ next_tallies estimator.now t ahead.now.rows self.old
-            (length ahead.now.rows) }
-        ensures weights { weights.new ≡ weights_of ahead.now.rows }
-        ensures gain { sum_by (λ tally. tally.last) self.new ≡
-            sum_by (λ tally. tally.last) self.old + result }
+        ensures { AreStepped estimator.now t ahead.now self.old self.new weights.new result }
     {
         let out = self.out.take();
         go_on(&mut self.own, out, &mut self.behind, &mut self.spare, marks);
@@ -169,20 +162,15 @@ impl Tallies {
         }
         let room = take_room(alloc, &mut self.spare, self.own.len())?;
         let marks = Vec::with_capacity(alloc, self.own.len())?;
-        let table = lend(alloc, &mut self.own)?;
-        self.out = Some(Shared { table, room, marks });
-        Ok(())
-    }
-
-    // They, handed out. The error is that memory was refused. Either way they are as they were.
-    fn share(&mut self, alloc: Global) -> Result<Arc<Vec<Tally>>, AllocError>
-        ensures same { self.new ≡ self.old }
-        ensures shared { IfOk result (λ out. map value_of (arc_value out).items ≡ self.old) }
-    {
-        self.hand_out(alloc)?;
-        match &self.out {
-            Some(out) => Arc::try_clone(&out.table),
-            None => Err(AllocError),
+        match Arc::new(alloc, mem::replace(&mut self.own, Vec::new(alloc))) {
+            Ok(table) => {
+                self.out = Some(Shared { table, room, marks });
+                Ok(())
+            }
+            Err(refused) => {
+                self.own = refused.value;
+                Err(AllocError)
+            }
         }
     }
 
@@ -194,7 +182,11 @@ impl Tallies {
         ensures same { self.new ≡ self.old }
         ensures copy { IfOk result (λ copy. copy ≡ self.old) }
     {
-        let table = self.share(alloc)?;
+        self.hand_out(alloc)?;
+        let table = match &self.out {
+            Some(out) => Arc::try_clone(&out.table)?,
+            None => return Err(AllocError),
+        };
         let marks = Vec::with_capacity(alloc, table.len())?;
         let room = Vec::with_capacity(alloc, table.len())?;
         Ok(Tallies {
@@ -214,8 +206,7 @@ fn go_on(
     spare: &mut Option<Vec<Tally>>,
     marks: &[bool],
 )
-    requires behind { AreRelayed (shown_tallies (map value_of own.old.items) out) behind.old }
-    requires marks { length marks.now ≡ length (shown_tallies (map value_of own.old.items) out) }
+    requires { AreMarkedAhead marks.now (shown_tallies (map value_of own.old.items) out) behind.old }
     ensures own { map value_of own.new.items ≡ shown_tallies (map value_of own.old.items) out }
     ensures behind { (ahead : List TallyValue) →
         DifferAt marks.now (shown_tallies (map value_of own.old.items) out) ahead →
@@ -230,7 +221,8 @@ fn go_on(
                 marks: stale,
             } = out;
             bring_up(own, behind, room, spare, table.as_slice());
-            leave_behind(behind, table, filled(stale, marks));
+            let stale = filled(stale, marks);
+            *behind = Some(Behind { table, stale });
         }
     }
 }
@@ -260,38 +252,15 @@ fn bring_up(
     requires room { length shown.now ≤ vec_capacity room }
     ensures { map value_of own.new.items ≡ map value_of shown.now }
 {
-    match take_back(behind, shown) {
-        Some(table) => {
+    if let Some(Behind { table, stale }) = behind.take() {
+        if let Ok(mut table) = Arc::try_unwrap(table) {
+            follow(&mut table, shown, &stale);
             *own = table;
             *spare = Some(room);
+            return;
         }
-        None => *own = filled(room, shown),
     }
-}
-
-// The table behind, brought up to what is shown, where nobody else holds it.
-fn take_back(behind: &mut Option<Behind>, shown: &[Tally]) -> Option<Vec<Tally>>
-    requires { AreRelayed (map value_of shown.now) behind.old }
-    ensures { IfSome result (λ table. map value_of table.items ≡ map value_of shown.now) }
-{
-    let Behind { table, stale } = behind.take()?;
-    match Arc::try_unwrap(table) {
-        Ok(mut table) => {
-            follow(&mut table, shown, &stale);
-            Some(table)
-        }
-        Err(_) => None,
-    }
-}
-
-// The table is the one behind from now on.
-fn leave_behind(behind: &mut Option<Behind>, table: Arc<Vec<Tally>>, stale: Vec<bool>)
-    ensures { behind.new ≡ Some (record {
-      tallies = map value_of (arc_value table).items;
-      stale = stale.items;
-    }) }
-{
-    *behind = Some(Behind { table, stale });
+    *own = filled(room, shown);
 }
 
 // Each stale tally becomes that of `ahead`, which are as many, and from which no other one differs.
@@ -328,21 +297,6 @@ fn take_room(
     match spare.take() {
         Some(room) if count <= room.capacity() => Ok(room),
         _ => Vec::with_capacity(alloc, count),
-    }
-}
-
-// The table goes into an `Arc`, and an empty one comes in its place. Where memory is refused the table stays.
-fn lend(alloc: Global, own: &mut Vec<Tally>) -> Result<Arc<Vec<Tally>>, AllocError>
-    ensures out { IfOk result (λ out. (arc_value out).items ≡ own.old.items) }
-    ensures refused { OnErr result (own.new.items ≡ own.old.items) }
-{
-    let table = mem::replace(own, Vec::new(alloc));
-    match Arc::new(alloc, table) {
-        Ok(out) => Ok(out),
-        Err(refused) => {
-            *own = refused.value;
-            Err(AllocError)
-        }
     }
 }
 

@@ -17,7 +17,7 @@ use Rattle.ball_model.specs.State.{State, content_of}
 use Rattle.ball_model.specs.WorldText.{held_word, hex_digit, more_words, node_line, node_word, registers_word, verdict_word, words_line}
 use Rattle.ball_model.proofs.JoinLemmas.{content_back}
 use Rattle.replica.specs.Seen.{IsState}
-use Rattle.replica.proofs.SameLemmas.{content_is_one}
+use Rattle.replica.proofs.RunsLemmas.Same.{content_is_one}
 use Rattle.world.specs.Answer.{names_at, names_in, spaced}
 
 -- ---- words

@@ -22,13 +22,13 @@ use Rattle.ball_model.specs.State.{State, StandsFor}
 use Rattle.ball_model.specs.Held.{IsName}
 use Rattle.ball_model.specs.World.{Node, World, node_at, node_of, with_node, outcome_of, outcome_unless, outcome_at, deliver_at, recover_at, recover_when, name_to, sent_answer, answer_in, world_in}
 use Rattle.ball_model.specs.WorldLaws.{IsWorldNode, IsWorld}
-use Rattle.ball_model.proofs.WorldLemmas.{node_same, node_back, stays_world}
+use Rattle.ball_model.proofs.WorldLemmas.{node_same, node_is_one, node_back, stays_world}
 use Rattle.batches.specs.declared.error.BatchError.{BatchError}
 use Rattle.batches.specs.declared.error.BatchError.TheVariants as unread
 use Rattle.batches.specs.Reading.{AgreesButJob, GivesBatchOrMemory}
 use Rattle.batches.proofs.TrueLemmas.{true_is_batch}
 use Rattle.replica.specs.Change.{IsTrueBatch}
-use Rattle.replica.proofs.LevelLemmas.{plan_is, number_is}
+use Rattle.replica.proofs.LevelLemmas.Level.{plan_is, number_is}
 use Rattle.world.specs.Shows.{IsMessage, SeenMessage, SeenNode, SeenWorld, message_of, seen_at, Agree, Has, ShowsNode, Shows}
 use Rattle.world.specs.Runs.{Applies, takes_memory}
 use Rattle.world.specs.Turns.{Turn, Turns, taken_turn, closed_turn, kept_turn, restarted_turn, merged_turn, merged_when}
@@ -160,10 +160,6 @@ pub record TurnOf (j : Job) (e : Event) (w : World) (a : Answer) (s t : SeenNode
   pub turns : Turns j turn a s t
   pub outcome : (n : Node) → node_at w (node_of e) ≡ Some n → outcome_of j w e ≡ Ok ((turn n).answer, with_node w (node_of e) (turn n).node)
 
--- a node of a world of the job is one of its partition
-fits_at : (j : Job) (w : World) (id : NodeId) (n : Node) → IsWorld j w → node_at w id ≡ Some n → IsWorldNode j id.part n
-fits_at j w id n ok at = subst (λ (o : Option Node). IfSome o (IsWorldNode j id.part)) at (ok.nodes id)
-
 turned_shows : (j : Job) (e : Event) (a : Answer) (w : World) (v : SeenWorld) (s t : SeenNode) → seen_at v (node_of e) ≡ Some s → Shows j w v → TurnOf j e w a s t →
     (Ok a ≡ answer_in (outcome_of j w e)) × Shows j (world_in w (outcome_of j w e)) (with_seen v (node_of e) t)
 turned_shows j e a w v s t at shows o =
@@ -171,10 +167,10 @@ turned_shows j e a w v s t at shows o =
     let n = node_here j w v id s shows at in
     let m : Node = (o.turn n.one).node in
     let is = o.outcome n.one n.is in
-    let both = o.turns.turned id.part n.one (fits_at j w id n.one shows.world n.is) n.agrees in
+    let both = o.turns.turned id.part n.one (node_is_one j w id n.one shows.world n.is) n.agrees in
     let after : world_in w (outcome_of j w e) ≡ with_node w id m = ap (world_in w) is in
     let next : IsWorld j (with_node w id m) = subst (λ (x : World). IsWorld j x) after (stays_world j w e shows.world) in
-    let fits : IsWorldNode j id.part m = fits_at j (with_node w id m) id m next (node_same w id n.one m n.is) in (
+    let fits : IsWorldNode j id.part m = node_is_one j (with_node w id m) id m next (node_same w id n.one m n.is) in (
       ap Ok both.0 ∙ sym (ap answer_in is),
       subst (λ (x : World). Shows j x (with_seen v id t)) (sym after) (shows_changed j w v id n.one m s t shows n.is at fits both.1),
     )
@@ -338,15 +334,15 @@ read_gives j name m b job ok is only =
     ap (ok_in b) (only (true_batch j name) (true_is_batch j name job ok.superstep ok.source ok.target) agrees (ap (λ (x : SeenMessage). x.bytes) is))
 
 -- what was spelled is refused for want of memory alone
-wants : (e : BatchError) (b : BatchValue) → GivesBatchOrMemory (Err e) (Ok b) → e ≡ unread.Memory
-wants unread.Memory b g = refl
-wants e b g = absurd (cc)
+pub read_wants : (e : BatchError) (b : BatchValue) → GivesBatchOrMemory (Err e) (Ok b) → e ≡ unread.Memory
+read_wants unread.Memory b g = refl
+read_wants e b g = absurd (cc)
 
 pub only_wants : (m : SeenMessage) (e : BatchError) → IsMessage m → ((x : BatchValue) → IsBatch x → AgreesButJob m.plan x.plan → m.bytes ≡ batch_bytes x → GivesBatchOrMemory (Err e) (Ok x)) → e ≡ unread.Memory
 only_wants m e k only =
     let same : m.plan ≡ k.batch.plan = ap (λ (x : SeenMessage). x.plan) k.is in
     let agrees : AgreesButJob m.plan k.batch.plan = ap (λ (p : PlanValue). record p { job = k.batch.plan.job }) (sym same) in
-    wants e k.batch (only k.batch k.is_batch agrees (ap (λ (x : SeenMessage). x.bytes) k.is))
+    read_wants e k.batch (only k.batch k.is_batch agrees (ap (λ (x : SeenMessage). x.bytes) k.is))
 
 -- what a node that was found sends
 pub send_found : (j : Job) (id : NodeId) (q : ℕ) (a : Answer) (b : BatchValue) (u v : SeenWorld) (r : State) → IsNodeOf (seen_at v id) r → q < r.part.plan.parts → q ≢ r.part.number → Tells j r q b →

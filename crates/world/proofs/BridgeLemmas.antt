@@ -10,9 +10,9 @@ use Rattle.ball_model.specs.Held.{IsHeldBy, held_after}
 use Rattle.ball_model.proofs.JoinLemmas.{content_back}
 use Rattle.replica.specs.Seen.{IsState}
 use Rattle.replica.specs.Runs.{HasContent, Did, Made}
-use Rattle.replica.proofs.LevelLemmas.{plan_is, number_is}
-use Rattle.replica.proofs.RunLemmas.{has_content, made}
-use Rattle.replica.proofs.SameLemmas.{content_is_one}
+use Rattle.replica.proofs.LevelLemmas.Level.{plan_is, number_is}
+use Rattle.replica.proofs.RunsLemmas.Run.{has_content, made}
+use Rattle.replica.proofs.RunsLemmas.Same.{content_is_one}
 use Rattle.world.specs.Shows.{Has}
 
 -- a replica that has a holding has its content

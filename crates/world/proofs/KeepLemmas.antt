@@ -20,7 +20,7 @@ use Rattle.ball_model.specs.Supersteps.{tally_at}
 use Rattle.ball_model.proofs.EndLemmas.{end_within}
 use Rattle.ball_model.proofs.TallyLemmas.{tallies_fit}
 use Rattle.replica.specs.Saved.{IsFigures, IsKeepable}
-use Rattle.replica.proofs.OwnLemmas.{all_own}
+use Rattle.replica.proofs.IndexLemmas.Own.{all_own}
 use Rattle.world.specs.Shows.{ShowsNode, Agree, Has, KeepsContent}
 use Rattle.world.specs.Turns.{Turns, restarted_turn}
 use Rattle.world.proofs.NodeLemmas.{node}

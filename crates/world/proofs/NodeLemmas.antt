@@ -21,8 +21,8 @@ use Rattle.ball_model.proofs.WorldLemmas.{own_copy}
 use Rattle.replica.specs.Merged.{Absorbs, HoldsOfBoth, ShowsAs, merge_answer}
 use Rattle.replica.specs.Runs.{Takes, Closes}
 use Rattle.replica.specs.Seen.{IsState}
-use Rattle.replica.proofs.HoldingLemmas.{joined_holding}
-use Rattle.replica.proofs.LevelLemmas.{plan_is, number_is}
+use Rattle.replica.proofs.MergedLemmas.Holding.{joined_holding}
+use Rattle.replica.proofs.LevelLemmas.Level.{plan_is, number_is}
 use Rattle.world.specs.Shows.{SeenNode, ShowsNode, Has}
 use Rattle.world.specs.Turns.{Turns, taken_turn, closed_turn, merged_turn, merged_when}
 use Rattle.world.proofs.BridgeLemmas.{stepped, holding_here}

@@ -9,8 +9,9 @@ use Rattle.ball_model.specs.declared.world.Event.TheVariants as event
 use Rattle.ball_model.specs.declared.world.Answer.TheVariants as answer
 use Rattle.ball_model.specs.Held.{IsHeldBy}
 use Rattle.ball_model.specs.Job.{Job}
-use Rattle.ball_model.specs.Join.{Holding, AreAlike, join_of, merge_of}
+use Rattle.ball_model.specs.Join.{Holding, join_of, merge_of}
 use Rattle.ball_model.specs.World.{World, Node, node_at, with_node, outcome_unless, recover_at, recover_when, answer_in, after_event, world_in}
+use Rattle.ball_model.proofs.HeldLemmas.{held_alike}
 use Rattle.ball_model.proofs.JoinLemmas.{join_commutes, join_associates}
 use Rattle.ball_model.proofs.WorldLemmas.{node_same, node_is_one, own_copy}
 use Rattle.world.specs.Shows.{seen_at}
@@ -59,9 +60,6 @@ after_both j w id c d n h k at first second one two =
     ∙ ap (λ (x : World). option_map (λ (m : Node). m.content) (node_at x id)) (merged_world j v id d next k here second two)
     ∙ ap (option_map (λ (m : Node). m.content)) (node_same v id next last here)
 
-alike_copy : (j : Job) (p : ℕ) (h c : Holding) → IsHeldBy j p h → IsHeldBy j p c → AreAlike h c
-alike_copy j p h c a b = record { plan = a.plan ∙ sym b.plan; partition = a.partition ∙ sym b.partition; left = a.holding; right = b.holding }
-
 -- a copy that was merged is one of the node's partition
 own : (j : Job) (p c : ℕ) (w : World) (n : Node) (h : Holding) → IfSome (slice_get w.copies c) (λ k. IsHeldBy j k.partition k) → slice_get w.copies c ≡ Some h → n.content.partition ≡ p →
     merge_of n.content.plan n.content.partition h.plan h.partition ≡ Ok tt → IsHeldBy j p h
@@ -72,9 +70,9 @@ own j p c w n h ok copied part mine =
 
 either_way : (j : Job) (p : ℕ) (g h k : Holding) → IsHeldBy j p g → IsHeldBy j p h → IsHeldBy j p k → join_of (join_of g h) k ≡ join_of (join_of g k) h
 either_way j p g h k a b c =
-    join_associates g h k (alike_copy j p g h a b) (alike_copy j p h k b c)
-    ∙ ap (join_of g) (join_commutes h k (alike_copy j p h k b c))
-    ∙ sym (join_associates g k h (alike_copy j p g k a c) (alike_copy j p k h c b))
+    join_associates g h k (held_alike j p g h a b) (held_alike j p h k b c)
+    ∙ ap (join_of g) (join_commutes h k (held_alike j p h k b c))
+    ∙ sym (join_associates g k h (held_alike j p g k a c) (held_alike j p k h c b))
 
 pub any_order : RecoversInAnyOrder
 any_order j w id c d a b e f v x y s t one other shows first second third fourth here there =

@@ -23,9 +23,9 @@ use Rattle.ball_model.specs.WorldLaws.{IsWorldNode, SparesKept}
 use Rattle.ball_model.proofs.WorldLemmas.{restart_gives_kept}
 use Rattle.ball_model.proofs.PathLemmas.{in_ball-found, in_ball-finds}
 use Rattle.ball_model.proofs.CounterLemmas.{counter_of-same}
-use Rattle.replica.proofs.OwnLemmas.{vertex_of, place_below, vertex_at}
-use Rattle.replica.proofs.LevelLemmas.{row_at}
-use Rattle.replica.proofs.SameLemmas.{same_replica}
+use Rattle.replica.proofs.IndexLemmas.Own.{vertex_of, place_below, vertex_at}
+use Rattle.replica.proofs.LevelLemmas.Level.{row_at}
+use Rattle.replica.proofs.RunsLemmas.Same.{same_replica}
 use Rattle.world.specs.Shows.{SeenMessage, SeenNode, SeenWorld, message_of, seen_at, Agree, Has, ShowsNode, Shows}
 use Rattle.world.specs.Runs.{EventsMade, is_want, done_in, answered_in, RunShows, RunAnswers, AreCountedWithin, Headline, SameContentsAreSame, MessagesAreTrue, KeptComesBack}
 use Rattle.world.proofs.BridgeLemmas.{content_here}

@@ -53,7 +53,7 @@ cut-ended xs i d le = rw (drop_all i xs le) refl
 
 -- ---- pieces
 
-pair-of : (p q : List ℕ × List ℕ) → Some p ≡ Some q → p ≡ q
+pub pair-of : (p q : List ℕ × List ℕ) → Some p ≡ Some q → p ≡ q
 pair-of p q is = cc
 
 fields-step : (d c : ℕ) (xs a b : List ℕ) (t : Bool) (o : Option (List ℕ × List ℕ)) → ((x y : List ℕ) → o ≡ Some (x, y) → fields d xs ≡ x ∷ fields d y) →
@@ -96,7 +96,7 @@ unfolding cut_of
 cut-shorter d [] a b is = absurd (cc)
 cut-shorter d (c ∷ xs) a b is = shorter-step c xs a b (c == d) (cut_of d xs) (cut-shorter d xs) is
 
-fields-some : (d : ℕ) (xs : List ℕ) → fields d xs ≢ []
+pub fields-some : (d : ℕ) (xs : List ℕ) → fields d xs ≢ []
 unfolding fields
 fields-some d [] is = absurd (cc)
 fields-some d (c ∷ xs) is = some (c == d) (fields d xs) is

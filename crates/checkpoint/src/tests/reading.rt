@@ -139,6 +139,26 @@ fn trails(rt: &HostRuntime, part: &Arc<Part>) -> bool {
     fault(rt, part, &more) == Some(KeepError::Trailing)
 }
 
+/// The replica that keeps two early batches, with the later one alone.
+fn one_early() -> [u8; 305] {
+    let mut bytes = [0; 305];
+    bytes[..209].copy_from_slice(&TWO_EARLY[..209]);
+    bytes[210] = 1;
+    bytes[211..273].copy_from_slice(&TWO_EARLY[273..335]);
+    seal(&mut bytes);
+    bytes
+}
+
+/// Whether that is read and written again, and each beginning of it is too short, and a byte more is told.
+fn one_early_is_read(rt: &HostRuntime, part: &Arc<Part>) -> bool {
+    let bytes = one_early();
+    let mut more = [0; 306];
+    more[..305].copy_from_slice(&bytes);
+    is_written(rt, part, &bytes, &bytes)
+        && cuts(rt, part, &bytes)
+        && fault(rt, part, &more) == Some(KeepError::Trailing)
+}
+
 /// The last 32 bytes become the digest of those before.
 fn seal(bytes: &mut [u8]) {
     if let Some((text, digest)) = bytes.split_last_chunk_mut::<32>() {
@@ -212,5 +232,7 @@ pub(super) fn edges_are_read(rt: &HostRuntime, part: &Arc<Part>) -> bool {
 /// Whether all that is read of the early batches is.
 pub(super) fn early_is_read(rt: &HostRuntime, part: &Arc<Part>) -> bool {
     let mut bytes = TWO_EARLY;
-    is_read(rt, part, &TWO_EARLY, &TWO_EARLY, 9) && are_none(rt, part, &mut bytes, &EARLY)
+    is_read(rt, part, &TWO_EARLY, &TWO_EARLY, 9)
+        && are_none(rt, part, &mut bytes, &EARLY)
+        && one_early_is_read(rt, part)
 }

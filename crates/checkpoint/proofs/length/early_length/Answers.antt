@@ -3,7 +3,7 @@ use Rattle.std.specs.List.{flat_map}
 use Rattle.std.proofs.lemmas.List.{take_all}
 use Rattle.ball_model.specs.Batches.{BatchValue}
 use Rattle.ball_model.specs.Checkpoint.{early_bytes, kept_batches}
-use Rattle.replica.proofs.RebuiltLemmas.{kept_are}
+use Rattle.replica.proofs.SavedLemmas.Rebuilt.{kept_are}
 use Rattle.checkpoint.proofs.TextLemmas.{early_few}
 use Rattle.checkpoint.proofs.LengthLemmas.{early_next}
 use Rattle.checkpoint.proofs.length.early_length.Goals as goal

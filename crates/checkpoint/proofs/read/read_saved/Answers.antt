@@ -4,7 +4,7 @@ use Rattle.checkpoint.specs.declared.header.Header.{Header}
 use Rattle.std.proofs.lemmas.List.{length-take, take-append-drop, take-take}
 use Rattle.ball_model.specs.Job.{PartValue}
 use Rattle.replica.specs.Saved.{Fits}
-use Rattle.replica.proofs.KeepableLemmas.{keepable_fits}
+use Rattle.replica.proofs.SavedLemmas.Keepable.{keepable_fits}
 use Rattle.std.specs.Prelude.{Some}
 use Rattle.checkpoint.specs.Reading.{check_checkpoint_head, checkpoint_head_at, TellNone}
 use Rattle.checkpoint.proofs.FrontLemmas.{front_is, one_or_two}

@@ -1,6 +1,6 @@
 use Rattle.std.proofs.Common.{List, length, ap, arith}
 use Rattle.ball_model.specs.Batches.{BatchValue}
-use Rattle.replica.proofs.RebuiltLemmas.{kept_are}
+use Rattle.replica.proofs.SavedLemmas.Rebuilt.{kept_are}
 use Rattle.checkpoint.proofs.WriteLemmas.{ok_then, err_then}
 use Rattle.checkpoint.proofs.SpoolLemmas.{passes_as, stops_as}
 use Rattle.checkpoint.proofs.TextLemmas.{count_is, early_few}

@@ -1,7 +1,7 @@
 use Rattle.std.proofs.Common.{◌≤◌, List, suc, drop, length, ap, arith}
 use Rattle.std.proofs.lemmas.List.{take_all}
 use Rattle.ball_model.specs.Batches.{BatchValue}
-use Rattle.replica.proofs.RebuiltLemmas.{kept_are}
+use Rattle.replica.proofs.SavedLemmas.Rebuilt.{kept_are}
 use Rattle.std.specs.List.{flat_map}
 use Rattle.ball_model.specs.Checkpoint.{early_bytes, kept_batches}
 use Rattle.checkpoint.proofs.WriteLemmas.{on_err}

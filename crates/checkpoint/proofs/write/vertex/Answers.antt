@@ -1,6 +1,6 @@
 use Rattle.std.proofs.Common.{◌≡◌, ◌+◌, ◌*◌, ◌<◌, ◌∙◌, ap, arith}
 use Rattle.ball_model.specs.PlanValue.{PlanValue}
-use Rattle.replica.proofs.OwnLemmas.{own_below}
+use Rattle.replica.proofs.IndexLemmas.Own.{own_below}
 use Rattle.checkpoint.proofs.write.vertex.Goals as goal
 
 pub overflow_mul-result : goal.overflow_mul-result

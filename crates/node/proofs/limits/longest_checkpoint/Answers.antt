@@ -14,8 +14,8 @@ fits size width limit others longest few narrow low some long =
 pub overflow_add-early : goal.overflow_add-early
 overflow_add-early c = omega (arith, c.longest_batch.ensures.few)
 
-pub overflow_add-result-6 : goal.overflow_add-result-6
-overflow_add-result-6 c =
+pub overflow_add-result-5 : goal.overflow_add-result-5
+overflow_add-result-5 c =
     let p = c.args.part.now.plan in
     let narrow : 2 ^ c.plan-plan.result.now.log2m ≤ 2 ^ 10 = pow-le-pow_right {n = 2} (omega arith) {i = c.plan-plan.result.now.log2m} {j = 10} c.width-width.ensures.plan.log2m_to in
     let all = fits c.from-size.result c.width-width.result c.from.result (c.from-others.result - 1) c.longest_batch.result

@@ -3,7 +3,7 @@ use Rattle.std.specs.Prelude.{[], slice_index_or}
 use Rattle.std.proofs.lemmas.Result.{IfOk-weaker}
 use Rattle.ball_model.specs.Report.{vertex_text}
 use Rattle.report.specs.Parts.{figures_line}
-use Rattle.node.proofs.OwnLemmas.{line_is}
+use Rattle.report.proofs.VertexLemmas.{line_is}
 use Rattle.node.proofs.own.line_of.Goals as goal
 
 pub returns : goal.returns

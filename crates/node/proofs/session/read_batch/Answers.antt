@@ -2,7 +2,8 @@ use Rattle.std.proofs.Common.{◌∙◌, sym}
 use Rattle.std.specs.Prelude.{Err, Ok}
 use Rattle.std.proofs.lemmas.Result.{IfErr-weaker, IfOk-weaker}
 use Rattle.ball_model.specs.Batches.{true_batch}
-use Rattle.node.proofs.SessionLemmas.{delivered_read, read_true, read_wants}
+use Rattle.world.proofs.ApplyLemmas.{read_wants}
+use Rattle.node.proofs.SessionLemmas.{delivered_read, read_true}
 use Rattle.std.specs.Arc.{arc_value}
 use Rattle.node.proofs.SessionLemmas.{spelled_as, spelled_not, spelled_ok, spelled_wants}
 use Rattle.batches.specs.Reading.{batch_at}

@@ -3,7 +3,7 @@ use Rattle.ball_model.specs.Job.{PartValue}
 use Rattle.ball_model.specs.State.{State}
 use Rattle.replica.specs.declared.Progress.TheInside as progress
 use Rattle.replica.specs.Hearing.{Fills}
-use Rattle.replica.proofs.AbsorbLemmas.{Absorbed, Merging, can_hear_beside, fill_from_other, merging, overtaken, own_index, room_for_other}
+use Rattle.replica.proofs.MergedLemmas.Absorb.{Absorbed, Merging, can_hear_beside, merging, overtaken, own_index}
 use Rattle.replica.proofs.TablesLemmas.{tables_alike}
 use Rattle.replica.proofs.Progress.overtake.Goals as goal
 use Rattle.replica.proofs.Progress.overtake.Goals.{After-other, After-assign-2, After-fill}
@@ -26,18 +26,12 @@ after c = record { part = c.self.inside.part; superstep = c.other.inside.superst
 made : (c : After-fill) → Merging c.self.inside c.other.inside c.args.self.now.state c.args.other.now.state c.args.shared.now → c.self.inside.superstep < c.other.inside.superstep → Fills c.other.inside.tables.rows c.other.inside.hearing c.assign-2.new.self → Absorbed (after c) c.args.self.now.state c.args.other.now.state
 made c g lt taken =
     overtaken c.self.inside c.other.inside c.args.self.now.state c.args.other.now.state c.plan.result.now c.args.targets.now c.args.shared.now c.hear_early.new.early c.fill.new.self c.assign.new.self c.assign-2.new.self c.hear_early.new.self g lt (c.plan.ensures ∙ ap (λ (a : PartValue). a.plan) c.deref.ensures)
-    (own_index c.self.inside c.other.inside c.args.self.now.state c.args.other.now.state c.args.shared.now c.args.targets.now g c.requires.index) c.assign.ensures taken c.hear_early.ensures c.fill.ensures.kept c.fill.ensures.table
-
-pub assign-requires : goal.assign-requires
-assign-requires c = room_for_other c.self.inside c.other.inside c.args.self.now.state c.args.other.now.state c.args.shared.now (both (goal.at.assign-requires c).After-other)
-
-pub assign-requires-2 : goal.assign-requires-2
-assign-requires-2 c = rw c.rows.ensures (fill_from_other c.self.inside c.other.inside c.args.self.now.state c.args.other.now.state c.args.shared.now (both (goal.at.assign-requires-2 c).After-other))
+    (own_index c.self.inside c.other.inside c.args.self.now.state c.args.other.now.state c.args.shared.now c.args.targets.now g c.requires.can.index) c.assign.ensures taken c.hear_early.ensures c.fill.ensures.kept c.fill.ensures.table
 
 pub hear_early-requires : goal.hear_early-requires
 hear_early-requires c =
     let at = goal.at.hear_early-requires c in
-    can_hear_beside c.self.inside c.other.inside c.args.self.now.state c.args.other.now.state c.plan.result.now c.args.targets.now c.args.shared.now c.assign-2.new.self (both at.After-other) (c.plan.ensures ∙ ap (λ (a : PartValue). a.plan) c.deref.ensures) c.requires.index (fills at.After-assign-2)
+    can_hear_beside c.self.inside c.other.inside c.args.self.now.state c.args.other.now.state c.plan.result.now c.args.targets.now c.args.shared.now c.assign-2.new.self (both at.After-other) (c.plan.ensures ∙ ap (λ (a : PartValue). a.plan) c.deref.ensures) c.requires.can.index (fills at.After-assign-2)
 
 pub fill-requires : goal.fill-requires
 fill-requires c =

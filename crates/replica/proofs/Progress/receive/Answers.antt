@@ -1,13 +1,13 @@
 use Rattle.std.proofs.Common.{◌≡◌, ap, sym, ◌∙◌, subst, arith, inl}
 use Rattle.std.specs.Arc.{arc_value}
-use Rattle.ball_model.specs.Batches.{BatchValue}
+use Rattle.ball_model.specs.Batches.{BatchValue, IsBatch}
 use Rattle.ball_model.specs.State.{State}
 use Rattle.replica.specs.Hearing.{HearsByIndex}
 use Rattle.replica.specs.Progress.{CanGoOn, ProgressValue}
 use Rattle.replica.specs.Seen.{HasIndex, state_of}
-use Rattle.replica.proofs.AccumulatorLemmas.{can_go_on, had_room, state_is}
-use Rattle.replica.proofs.OverLemmas.{kept_index}
-use Rattle.replica.proofs.ReceiveLemmas.{Hearable, Heard, Kept, hearable, heard_now, kept_later, placed}
+use Rattle.replica.proofs.HearingLemmas.Accumulator.{can_go_on, had_room, state_is}
+use Rattle.replica.proofs.LevelLemmas.Over.{kept_index}
+use Rattle.replica.proofs.SeenLemmas.Receive.{Hearable, Heard, Kept, hearable, heard_now, kept_later}
 use Rattle.replica.proofs.Progress.receive.Goals as goal
 use Rattle.replica.proofs.Progress.receive.Goals.{After-deref-then-name-self, After-hear, After-keep}
 
@@ -15,7 +15,7 @@ use Rattle.replica.proofs.Progress.receive.Goals.{After-deref-then-name-self, Af
 now : (c : After-deref-then-name-self) → Hearable c.self.inside c.args.self.now.state (arc_value c.args.batch) c.args.targets.now
 now c =
     let here : c.name-name.result.superstep ≡ c.self.inside.superstep = omega (arith, c.if-name-self.true) in
-    hearable c.self.inside c.args.self.now (arc_value c.args.batch) c.args.targets.now c.name-name.result c.self.invariant c.requires.by.goes_on c.self.view_is c.requires.batch c.requires.new c.requires.by.index (c.name-name.ensures.value ∙ ap (λ (x : BatchValue). x.name) c.deref.ensures) here
+    hearable c.self.inside c.args.self.now (arc_value c.args.batch) c.args.targets.now c.name-name.result c.self.invariant c.requires.by.goes_on c.self.view_is (subst (λ (b : BatchValue). IsBatch b) c.deref.ensures c.name-name.ensures.batch) c.requires.new c.requires.by.index (c.name-name.ensures.value ∙ ap (λ (x : BatchValue). x.name) c.deref.ensures) here
 
 -- it is heard
 heard : (c : After-hear) → Hearable c.self.inside c.args.self.now.state (arc_value c.args.batch) c.args.targets.now → Heard (record c.self.inside { hearing = c.hear.new.self }) c.args.self.now.state (arc_value c.args.batch)
@@ -23,7 +23,7 @@ heard c h = heard_now c.self.inside c.args.self.now.state (arc_value c.args.batc
 
 -- a later one is kept
 kept : (c : After-keep) → Kept (record c.self.inside { early = c.keep.new.self }) c.args.self.now.state (arc_value c.args.batch)
-kept c = kept_later c.self.inside c.args.self.now.state (arc_value c.args.batch) c.name-name.result c.keep.new.self c.self.invariant (subst (λ (k : ProgressValue). CanGoOn k) (sym c.self.view_is) c.requires.by.goes_on) (state_is c.self.view_is) c.requires.batch c.requires.new (c.name-name.ensures.value ∙ ap (λ (x : BatchValue). x.name) c.deref.ensures) c.if-name-self.false c.keep.ensures.table c.keep.ensures.kept
+kept c = kept_later c.self.inside c.args.self.now.state (arc_value c.args.batch) c.name-name.result c.keep.new.self c.self.invariant (subst (λ (k : ProgressValue). CanGoOn k) (sym c.self.view_is) c.requires.by.goes_on) (state_is c.self.view_is) (subst (λ (b : BatchValue). IsBatch b) c.deref.ensures c.name-name.ensures.batch) c.requires.new (c.name-name.ensures.value ∙ ap (λ (x : BatchValue). x.name) c.deref.ensures) c.if-name-self.false c.keep.ensures.table c.keep.ensures.kept
 
 pub hear-requires : goal.hear-requires
 hear-requires c = subst (λ (x : BatchValue). HearsByIndex x.plan.log2m c.args.targets.now c.self.inside.hearing) (sym c.deref-then-name-self.ensures) (now (goal.at.hear-requires c).After-deref-then-name-self).ready
@@ -54,19 +54,3 @@ returns-else-name-self-clause-by c = record {
 
 pub returns-else-name-self-clause-receives : goal.returns-else-name-self-clause-receives
 returns-else-name-self-clause-receives c = (kept (goal.at.returns-else-name-self-clause-receives c).After-keep).receives
-
-pub overflow_sub-level : goal.overflow_sub-level
-overflow_sub-level c =
-    omega (arith, (placed c.self.inside c.args.self.now.state (arc_value c.args.batch) c.name-name.result c.self.invariant (state_is c.self.view_is) c.requires.batch c.requires.new (c.name-name.ensures.value ∙ ap (λ (x : BatchValue). x.name) c.deref.ensures) c.if-name-self.false).above)
-
-pub overflow_sub-level-else-name-self : goal.overflow_sub-level-else-name-self
-overflow_sub-level-else-name-self c =
-    omega (arith, (placed c.self.inside c.args.self.now.state (arc_value c.args.batch) c.name-name.result c.self.invariant (state_is c.self.view_is) c.requires.batch c.requires.new (c.name-name.ensures.value ∙ ap (λ (x : BatchValue). x.name) c.deref.ensures) c.if-name-self.false).above)
-
-pub keep-requires-clause-level : goal.keep-requires-clause-level
-keep-requires-clause-level c =
-    omega (arith, (placed c.self.inside c.args.self.now.state (arc_value c.args.batch) c.name-name.result c.self.invariant (state_is c.self.view_is) c.requires.batch c.requires.new (c.name-name.ensures.value ∙ ap (λ (x : BatchValue). x.name) c.deref.ensures) c.if-name-self.false).near)
-
-pub keep-requires-clause-source : goal.keep-requires-clause-source
-keep-requires-clause-source c =
-    (placed c.self.inside c.args.self.now.state (arc_value c.args.batch) c.name-name.result c.self.invariant (state_is c.self.view_is) c.requires.batch c.requires.new (c.name-name.ensures.value ∙ ap (λ (x : BatchValue). x.name) c.deref.ensures) c.if-name-self.false).source

@@ -1,8 +1,9 @@
 use Rattle.std.proofs.Common.{◌≡◌, ap, sym, ◌∙◌}
 use Rattle.ball_model.specs.State.{State}
+use Rattle.ball_model.specs.Table.{Table}
 use Rattle.replica.specs.declared.Progress.TheInside as progress
 use Rattle.replica.specs.Seen.{state_of}
-use Rattle.replica.proofs.AbsorbLemmas.{Absorbed, Merging, join_with_other, merging, united}
+use Rattle.replica.proofs.MergedLemmas.Absorb.{Absorbed, Merging, merging, united}
 use Rattle.replica.proofs.Progress.unite.Goals as goal
 use Rattle.replica.proofs.Progress.unite.Goals.{After-other, After-accumulators, After-fill}
 
@@ -12,7 +13,7 @@ both c = merging c.self.inside c.other.inside c.args.self.now c.args.other.now c
 
 -- the accumulators of the other one
 theirs : (c : After-accumulators) → Merging c.self.inside c.other.inside c.args.self.now.state c.args.other.now.state c.args.shared.now → c.accumulators.result.now.rows ≡ (state_of c.other.inside).accumulated
-theirs c g = c.accumulators.ensures.value ∙ sym (ap (λ (v : State). v.accumulated) g.other_is)
+theirs c g = ap (λ (t : Table). t.rows) c.accumulators.ensures ∙ sym (ap (λ (v : State). v.accumulated) g.other_is)
 
 -- what it is then
 abbrev after : After-fill → progress.Inside
@@ -23,12 +24,6 @@ made c g are =
     united c.self.inside c.other.inside c.args.self.now.state c.args.other.now.state c.args.shared.now c.fill.new.self c.accumulators.result.now c.absorb.new.self g
     (ap (λ (v : State). v.superstep) g.keeps.view_is ∙ c.requires.level ∙ sym (ap (λ (v : State). v.superstep) g.other_is))
     are (rw c.rows.ensures at c.absorb.ensures) c.fill.ensures.kept c.fill.ensures.table
-
-pub absorb-requires : goal.absorb-requires
-absorb-requires c =
-    let at = goal.at.absorb-requires c in
-    let g = both at.After-other in
-    rw c.rows.ensures (join_with_other c.self.inside c.other.inside c.args.self.now.state c.args.other.now.state c.args.shared.now c.accumulators.result.now g c.accumulators.ensures.width (theirs at.After-accumulators g))
 
 pub invariant_of-self : goal.invariant_of-self
 invariant_of-self c =

@@ -1,52 +1,39 @@
-use Rattle.std.proofs.Common.{◌≡◌, ap, sym, ◌∙◌, subst}
+use Rattle.std.proofs.Common.{◌≡◌, ◌+◌, ◌-◌, false, arith, ap, ◌∙◌, subst}
+use Rattle.std.proofs.lemmas.Bool.Decides.{nat_tests}
 use Rattle.std.specs.Prelude.{OnOk, OnErr}
 use Rattle.ball_model.specs.State.{State}
 use Rattle.replica.specs.Change.{Advances}
-use Rattle.replica.specs.Level.{found_close}
+use Rattle.replica.specs.Level.{close_answer}
 use Rattle.replica.specs.Seen.{IsState}
-use Rattle.replica.proofs.BusyLemmas.{found_close-is}
-use Rattle.replica.proofs.CloseLemmas.{waits_for, goes_on_for, ends_for, closes, on_ok, if_ok, close_stands}
-use Rattle.replica.proofs.AdvanceLemmas.{advance_holds}
+use Rattle.replica.proofs.LevelLemmas.Busy.{close_answer-is}
+use Rattle.replica.proofs.ChangeLemmas.Close.{on_ok, close_stands}
+use Rattle.replica.proofs.LevelLemmas.Step.{get_or-replicate_same}
 use Rattle.replica.proofs.Replica.close.Goals as goal
-use Rattle.replica.proofs.Replica.close.Goals.{After-found_close}
+use Rattle.replica.proofs.Replica.close.Goals.{After-close_level}
 
-exact : (c : After-found_close) → c.found_close.result ≡ found_close c.args.self.now
-exact c = c.found_close.ensures.exact ∙ ap found_close c.self.view_is
+exact : (c : After-close_level) → c.close_level.result ≡ close_answer c.args.self.now
+exact c = c.close_level.ensures.exact ∙ ap close_answer c.self.view_is
 
-advances : (c : After-found_close) → OnOk c.found_close.result (Advances c.args.self.now c.found_close.new.self.state)
-advances c = subst (λ (u : State). OnOk c.found_close.result (Advances u c.found_close.new.self.state)) c.self.view_is c.found_close.ensures.advances
+advances : (c : After-close_level) → OnOk c.close_level.result (Advances c.args.self.now c.close_level.new.self.state)
+advances c = subst (λ (u : State). OnOk c.close_level.result (Advances u c.close_level.new.self.state)) c.self.view_is c.close_level.ensures.advances
 
-state : (c : After-found_close) → IsState c.args.self.now
-state c = subst (λ (u : State). IsState u) c.self.view_is c.found_close.ensures.state
-
-pub returns-clause-waits : goal.returns-clause-waits
-returns-clause-waits c = λ q. waits_for c.args.self.now c.found_close.result q (exact ((goal.at.returns-clause-waits c).After-found_close))
-
-pub returns-clause-goes_on : goal.returns-clause-goes_on
-returns-clause-goes_on c = goes_on_for c.args.self.now c.found_close.result (exact ((goal.at.returns-clause-goes_on c).After-found_close))
-
-pub returns-clause-finished : goal.returns-clause-finished
-returns-clause-finished c = ends_for c.args.self.now c.found_close.result (exact ((goal.at.returns-clause-finished c).After-found_close))
-
-pub returns-clause-superstep : goal.returns-clause-superstep
-returns-clause-superstep c =
-    if_ok c.found_close.result (advances ((goal.at.returns-clause-superstep c).After-found_close))
-    (λ n ok a. let next = (closes c.args.self.now c.found_close.result n (exact ((goal.at.returns-clause-superstep c).After-found_close)) ok).2 in (next, a.superstep ∙ sym next))
+state : (c : After-close_level) → IsState c.args.self.now
+state c = subst (λ (u : State). IsState u) c.self.view_is c.close_level.ensures.state
 
 pub returns-clause-names : goal.returns-clause-names
 returns-clause-names c =
-    on_ok c.found_close.result (advances ((goal.at.returns-clause-names c).After-found_close)) (λ n ok a s q. advance_holds c.args.self.now c.found_close.new.self.state a s q)
+    on_ok c.close_level.result (advances ((goal.at.returns-clause-names c).After-close_level)) (λ n ok a s q. grind (arith, nat_tests, a.superstep, a.hears.sources q, a.early (s - (c.args.self.now.superstep + 1 + 1)) q, get_or-replicate_same 64 q false))
 
 pub returns-clause-answer : goal.returns-clause-answer
-returns-clause-answer c = λ j p t h. exact ((goal.at.returns-clause-answer c).After-found_close) ∙ found_close-is j p t c.args.self.now h
+returns-clause-answer c = λ j p t h. exact ((goal.at.returns-clause-answer c).After-close_level) ∙ close_answer-is j p t c.args.self.now h
 
 pub returns-clause-stands : goal.returns-clause-stands
 returns-clause-stands c = λ j p t h.
-    on_ok c.found_close.result (advances ((goal.at.returns-clause-stands c).After-found_close)) (λ n ok a. close_stands j p t n c.args.self.now c.found_close.new.self.state ((goal.at.returns-clause-stands c).After-found_close).found_close.result h (state ((goal.at.returns-clause-stands c).After-found_close)) (exact ((goal.at.returns-clause-stands c).After-found_close)) ok a)
+    on_ok c.close_level.result (advances ((goal.at.returns-clause-stands c).After-close_level)) (λ n ok a. close_stands j p t n c.args.self.now c.close_level.new.self.state ((goal.at.returns-clause-stands c).After-close_level).close_level.result h (state ((goal.at.returns-clause-stands c).After-close_level)) (exact ((goal.at.returns-clause-stands c).After-close_level)) ok a)
 
 pub returns-clause-step : goal.returns-clause-step
 returns-clause-step c = λ j p. record {
-  refused = subst (λ (u : State). OnErr c.found_close.result (c.found_close.new.self.state ≡ u)) c.self.view_is c.found_close.ensures.refused;
+  refused = subst (λ (u : State). OnErr c.close_level.result (c.close_level.new.self.state ≡ u)) c.self.view_is c.close_level.ensures.refused;
   names = returns-clause-names c;
   answer = returns-clause-answer c j p;
   stands = returns-clause-stands c j p;

@@ -1,11 +1,32 @@
-use Rattle.std.proofs.Common.{◌≡◌, length, subst}
-use Rattle.std.specs.Prelude.{IfOk}
-use Rattle.ball_model.specs.State.{State}
-use Rattle.replica.specs.Sent.{sent_batch}
-use Rattle.replica.proofs.ToldLemmas.{true_told}
+use Rattle.std.proofs.Common.{◌≡◌, ◌^◌, length, sym, subst, ◌∙◌, arith}
+use Rattle.std.specs.Arc.{arc_value}
+use Rattle.std.proofs.lemmas.List.Sums.{length-filter, count_by-le-length}
+use Rattle.batches.specs.Kept.{rows_at}
+use Rattle.ball_model.specs.Batches.{BatchValue, IsBatch}
+use Rattle.replica.specs.Sent.{batch_name, changed_registers, sent_batch}
+use Rattle.replica.proofs.SentLemmas.Sent.{count_take, sent_short, sent_true}
+use Rattle.replica.proofs.SentLemmas.Told.{sent_are_rows, sent_rise, told_batch}
 use Rattle.replica.proofs.Replica.out_of.Goals as goal
+use Rattle.replica.proofs.Replica.out_of.Goals.{After-changed_count}
 
-pub returns-clause-stands : goal.returns-clause-stands
-returns-clause-stands c =
-    let sent = subst (λ (u : State). IfOk c.sent_of.result (λ b. b ≡ sent_batch u c.args.target (length u.part.preds))) c.self.view_is c.sent_of.ensures in
-    true_told c.args.self.now c.args.target c.sent_of.result c.requires.target sent
+-- what is told makes the batch
+told : (c : After-changed_count) → record {
+  plan = c.plan.result.now;
+  name = batch_name c.superstep.result c.partition.result c.args.target;
+  changed = c.changed_count.result;
+  rows = rows_at (2 ^ c.plan.result.now.log2m) (arc_value c.in_ok-table.table).items c.in_ok-told.told.ids.items c.in_ok-told.told.places.items;
+} ≡ sent_batch c.args.self.now c.args.target (length c.args.self.now.part.preds)
+told c =
+    let t = c.in_ok-told.told in
+    let table : (arc_value c.in_ok-table.table).items ≡ changed_registers c.args.self.now = rw c.in_ok-table.ensures c.requires.table in
+    told_batch c.args.self.now c.args.target t.changed c.plan.result.now c.superstep.result c.partition.result c.changed_count.result (arc_value c.in_ok-table.table).items t.ids.items t.places.items c.in_ok-told.ensures table c.plan.ensures c.superstep.ensures.value c.partition.ensures c.changed_count.ensures.value
+
+pub sharing-requires-clause-batch : goal.sharing-requires-clause-batch
+unfolding sent_batch
+sharing-requires-clause-batch c =
+    subst (λ (b : BatchValue). IsBatch b) (sym (told (goal.at.sharing-requires-clause-batch c).After-changed_count)) (grind (arith, sent_rise, count_by-le-length, sent_short, count_take, length-filter, sent_are_rows))
+
+pub returns : goal.returns
+returns c =
+    let value = c.sharing.ensures ∙ told (goal.at.returns c).After-changed_count in
+    record { value = value; stands = λ j p t h. value ∙ sent_true j p t c.args.target c.args.self.now h c.requires.target }

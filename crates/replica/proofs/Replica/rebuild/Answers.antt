@@ -1,7 +1,7 @@
 use Rattle.std.proofs.Common.{◌∙◌}
 use Rattle.std.specs.Arc.{arc_value}
-use Rattle.replica.proofs.RebuiltLemmas.{rebuilt_same}
-use Rattle.replica.proofs.StartLemmas.{if_made}
+use Rattle.replica.proofs.SavedLemmas.Rebuilt.{rebuilt_same}
+use Rattle.replica.proofs.StartLemmas.Start.{if_made}
 use Rattle.replica.proofs.Replica.rebuild.Goals as goal
 
 pub returns-clause-same : goal.returns-clause-same

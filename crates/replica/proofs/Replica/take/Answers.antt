@@ -4,7 +4,7 @@ use Rattle.ball_model.specs.declared.names.Taken.TheVariants as taken
 use Rattle.ball_model.specs.Content.{take_of}
 use Rattle.ball_model.specs.State.{State, content_of}
 use Rattle.replica.specs.Change.{Receives}
-use Rattle.replica.proofs.CallLemmas.{takes}
+use Rattle.replica.proofs.RunsLemmas.Call.{takes}
 use Rattle.replica.proofs.Replica.take.Goals as goal
 
 pub returns-in-Ok-New-clause-step : goal.returns-in-Ok-New-clause-step
@@ -16,13 +16,9 @@ returns-in-Ok-New-clause-step c =
     let r : Receives b v c.receive.new.self.state = subst (λ (u : State). Receives b u c.receive.new.self.state) c.self.view_is c.receive.ensures.receives in
     takes v c.receive.new.self.state b c.answer-answer.result e (rw (c.in-Ok-New.is, f) r.names) r.stands
 
--- where it is not New, the names are as before
-pub returns-in_default-clause-names : goal.returns-in_default-clause-names
-returns-in_default-clause-names c = search rules
-
 pub returns-in_default-clause-step : goal.returns-in_default-clause-step
 returns-in_default-clause-step c =
     let v = c.args.self.now in
     let b = arc_value c.args.batch in
     let e : c.answer-answer.result ≡ take_of v.part.plan v.part.number (content_of v) b.plan b.name = rw (← c.self.view_is, ← c.deref.ensures) c.answer-answer.ensures in
-    takes v v b c.answer-answer.result e (returns-in_default-clause-names c) (λ j p t h is. h)
+    takes v v b c.answer-answer.result e (search rules) (λ j p t h is. h)

@@ -2,7 +2,7 @@ use Rattle.std.proofs.Common.{length, arith, ◌∙◌}
 use Rattle.std.specs.Prelude.{None}
 use Rattle.std.specs.Arc.{arc_value}
 use Rattle.std.proofs.lemmas.List.{get_or_default}
-use Rattle.replica.proofs.EarlyLemmas.{all_none}
+use Rattle.replica.proofs.AheadLemmas.{all_none}
 use Rattle.replica.proofs.early.clear.Goals as goal
 
 pub returns : goal.returns

@@ -4,7 +4,7 @@ use Rattle.std.specs.Arc.{arc_value}
 use Rattle.std.proofs.lemmas.List.{length-map, map-set, get_or-map}
 use Rattle.ball_model.specs.Batches.{BatchValue}
 use Rattle.replica.specs.Ahead.{either, union_of_slots}
-use Rattle.replica.proofs.StepLemmas.{step_done, step_rest, list_is}
+use Rattle.replica.proofs.LevelLemmas.Step.{step_done, step_rest, list_is}
 use Rattle.replica.proofs.early.fill_slots.Goals as goal
 
 -- what a slot has, as it was at first

@@ -1,4 +1,4 @@
-use Rattle.replica.proofs.RunLemmas.{run_stands, run_answers, run_in_time, stable_is, stable_reaches, over_at_end}
+use Rattle.replica.proofs.RunsLemmas.Run.{run_stands, run_answers, run_in_time, stable_is, stable_reaches, over_at_end}
 use Rattle.replica.proofs.laws.end_to_end.Goals as goal
 
 pub returns-clause-stands : goal.returns-clause-stands

@@ -1,6 +1,6 @@
 use Rattle.std.proofs.Common.{map}
 use Rattle.std.specs.Arc.{arc_value}
-use Rattle.replica.proofs.SavedLemmas.{Filled}
+use Rattle.replica.proofs.SavedLemmas.Saved.{Filled}
 use Rattle.replica.proofs.rebuild.kept.Given as goal
 
 abbrev pub invariant-loop-batch : goal.invariant-loop-batch

@@ -1,15 +1,15 @@
-use Rattle.std.proofs.Common.{◌+◌, ◌≤◌, Bool, length, map, refl, ap, sym, ◌∙◌, subst}
+use Rattle.std.proofs.Common.{◌≡◌, ◌+◌, ◌≤◌, Bool, length, map, refl, ap, sym, ◌∙◌, subst, arith}
 use Rattle.std.specs.Arc.{arc_value}
 use Rattle.std.specs.Vec.{vec_capacity}
 use Rattle.ball_model.specs.Job.{PartValue, IsPart}
-use Rattle.ball_model.specs.PlanValue.{measure_of}
+use Rattle.ball_model.specs.PlanValue.{PlanValue, measure_of}
 use Rattle.ball_model.specs.Figures.{TallyValue, estimate_with}
 use Rattle.figures.specs.Values.{value_of}
 use Rattle.std.proofs.lemmas.List.{length-map}
 use Rattle.replica.specs.declared.Progress.TheInside as progress
-use Rattle.replica.specs.Kept.{AreEarly}
-use Rattle.replica.proofs.LevelLemmas.{length-differing}
-use Rattle.replica.proofs.MadeLemmas.{Remade, remade}
+use Rattle.replica.specs.Saved.{KeepsInPlace}
+use Rattle.replica.proofs.LevelLemmas.Level.{length-differing}
+use Rattle.replica.proofs.StartLemmas.Made.{Remade, remade}
 use Rattle.replica.proofs.rebuild.rebuilt.Goals as goal
 use Rattle.replica.proofs.rebuild.rebuilt.Goals.{After-of-2}
 
@@ -21,17 +21,21 @@ of-requires-clause-tallies c =
 pub of-requires-2 : goal.of-requires-2
 of-requires-2 c =
     let s = c.args.saved in
-    ap (length {A = Bool}) c.in_ok-sums.ensures.touched ∙ length-differing s.rows.rows s.accumulated.rows (length s.rows.rows) ∙ sym c.requires.heard.accumulated.count
+    ap (length {A = Bool}) c.in_ok-touched.ensures ∙ length-differing s.rows.rows s.accumulated.rows (length s.rows.rows) ∙ sym c.requires.heard.accumulated.count
 
 -- what is known then
 abbrev after : After-of-2 → progress.Inside
-after c = record { part = c.args.part; superstep = c.args.saved.superstep; tables = c.of.result; hearing = c.of-2.result; early = c.in_ok-sums.field-0.early }
+after c = record { part = c.args.part; superstep = c.args.saved.superstep; tables = c.of.result; hearing = c.of-2.result; early = c.in_ok-early.early }
 
 is_remade : (c : After-of-2) → Remade (after c) c.args.saved
 is_remade c =
-    let m = c.in_ok-sums in
-    remade (after c) c.args.saved m.field-0.sums.items (vec_capacity m.field-0.sums) m.field-0.touched.items (subst (λ (a : PartValue). IsPart a) c.deref.ensures c.made_anew.ensures.limits) c.requires refl c.of.ensures m.ensures.sums (subst (λ (a : PartValue). a.plan.limit + 1 ≤ vec_capacity m.field-0.sums) c.deref.ensures m.ensures.room) c.of-2.ensures m.ensures.touched
-    (subst (λ (a : PartValue). AreEarly a.plan a.number c.args.saved.superstep m.field-0.early) c.deref.ensures m.ensures.early) m.ensures.batches
+    let a = arc_value c.args.part in
+    let s = c.args.saved in
+    let sums = c.refill.new.sums in
+    let limit : c.limit.result ≡ a.plan.limit = c.limit.ensures.value ∙ ap (λ (p : PlanValue). p.limit) (c.plan-2.ensures ∙ ap (λ (p : PartValue). p.plan) c.deref-3.ensures) in
+    let room : a.plan.limit + 1 ≤ vec_capacity sums = omega (arith, limit, c.refill.ensures.capacity, c.in_ok-sums.ensures.capacity) in
+    let early : KeepsInPlace a.plan a.number s.superstep (map arc_value s.early.items) c.in_ok-early.early = rw (← c.deref-5.ensures, ← c.deref-6.ensures.value) c.in_ok-early.ensures in
+    remade (after c) s sums.items (vec_capacity sums) c.in_ok-touched.touched.items (subst (λ (p : PartValue). IsPart p) c.deref.ensures c.partition.ensures.part) c.requires refl c.of.ensures (c.refill.ensures.items ∙ c.deref-4.ensures.value) room c.of-2.ensures c.in_ok-touched.ensures early.placed early.told
 
 pub invariant_of-result : goal.invariant_of-result
 invariant_of-result c = (is_remade c).limits

@@ -4,9 +4,9 @@ use Rattle.std.proofs.lemmas.Bool.{iff_false}
 use Rattle.std.proofs.lemmas.List.{length-map}
 use Rattle.ball_model.specs.Batches.{BatchValue}
 use Rattle.ball_model.specs.declared.names.BatchName.{BatchName}
-use Rattle.replica.specs.Saved.{MayKeep}
-use Rattle.replica.proofs.FitsLemmas.{kept_in_order, kept_more}
-use Rattle.replica.proofs.SavedLemmas.{may_at, shared_at}
+use Rattle.replica.specs.Saved.{MayKeep, order_key}
+use Rattle.replica.proofs.SavedLemmas.Fits.{key_is, kept_more}
+use Rattle.replica.proofs.SavedLemmas.Saved.{may_at, shared_at}
 use Rattle.replica.proofs.saved.may_be_kept.Goals as goal
 use Rattle.replica.proofs.saved.may_be_kept.Goals.{then-key-next-via-then-key-next, then-key-next-via-else-key-next+then-not-may_keep}
 
@@ -22,7 +22,7 @@ returns-then-key-next c =
       λ e. cc,
       λ may. absurd (elim c.then-key-next.branch [
         | then-key-next-via-then-key-next w ↦
-            let le = kept_in_order part.plan part.number c.args.superstep k c.loop-batch.next (map arc_value items) b long at c.loop-batch.invariant.kept may in
+            let le : c.loop-batch.next ≤ order_key b = grind (arith, key_is, long, at, c.loop-batch.invariant.kept, may) in
             omega (arith, le, w.if-key-next.true, c.from.ensures, ap (λ (n : BatchName). n.superstep) c.name-name.ensures.value, ap (λ (n : BatchName). n.source) c.name-name.ensures.value)
         | then-key-next-via-else-key-next+then-not-may_keep w ↦
             let is : MayKeep part.plan part.number c.args.superstep b = may_at arc_value items k c.batch-item.result b _ _ _ may lt c.batch-item.is c.deref.ensures in

@@ -1,6 +1,6 @@
 use Rattle.std.proofs.Common.{map}
 use Rattle.std.specs.Arc.{arc_value}
-use Rattle.replica.proofs.FitsLemmas.{KeptSoFar}
+use Rattle.replica.proofs.SavedLemmas.Fits.{KeptSoFar}
 use Rattle.replica.proofs.saved.may_be_kept.Given as goal
 
 abbrev pub invariant-loop-batch : goal.invariant-loop-batch

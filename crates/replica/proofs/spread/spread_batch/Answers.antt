@@ -1,4 +1,4 @@
-use Rattle.std.proofs.Common.{◌≡◌, ◌+◌, ◌<◌, ℕ, List, [], length, get_or, take, ap, arith, ◌∙◌}
+use Rattle.std.proofs.Common.{◌≡◌, ◌+◌, ◌<◌, ℕ, List, [], length, get_or, take, ap, sym, arith, ◌∙◌}
 use Rattle.std.proofs.lemmas.List.{get_or-map, take_more, take_all}
 use Rattle.ball_model.specs.Table.{Table}
 use Rattle.ball_model.specs.Batches.{BatchValue}
@@ -13,10 +13,13 @@ loop-k-init c = record {
   touched = λ rows h. h;
 }
 
-pub spread_row-requires-clause-room : goal.spread_row-requires-clause-room
-spread_row-requires-clause-room c =
+pub spread_row-requires : goal.spread_row-requires
+spread_row-requires c =
     let count = ap (λ (t : Table). length t.rows) c.loop-k.invariant.rows ∙ length-spread_each c.args.targets.now (take c.loop-k.k c.args.batch.now.rows) c.args.accumulated.now.rows in
-    spread_on c.args.targets.now (length c.args.accumulated.now.rows) c.loop-k.accumulated c.loop-k.touched c.requires.room.inside count (omega (arith, c.loop-k.auto.touched, c.requires.room.marks))
+    record {
+      wide = c.registers.ensures.width ∙ c.requires.wide ∙ sym (ap (λ (t : Table). t.width) c.loop-k.invariant.rows);
+      room = spread_on c.args.targets.now (length c.args.accumulated.now.rows) c.loop-k.accumulated c.loop-k.touched c.requires.room.inside count (omega (arith, c.loop-k.auto.touched, c.requires.room.marks));
+    }
 
 pub loop-k-preserved : goal.loop-k-preserved
 loop-k-preserved c =

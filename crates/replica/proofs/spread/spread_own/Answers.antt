@@ -1,4 +1,4 @@
-use Rattle.std.proofs.Common.{◌≡◌, ◌+◌, ◌*◌, ◌<◌, ℕ, List, [], length, get_or, ap, arith, ◌∙◌}
+use Rattle.std.proofs.Common.{◌≡◌, ◌+◌, ◌*◌, ◌<◌, ℕ, List, [], length, get_or, ap, sym, arith, ◌∙◌}
 use Rattle.ball_model.specs.Table.{Table}
 use Rattle.replica.specs.Spread.{marked_rows, raised_by}
 use Rattle.replica.proofs.HeardLemmas.{own_stands, spread_each-none, spread_each-more, length-spread_each, marked-none, marked-yes, marked-over}
@@ -17,11 +17,14 @@ loop-i-init c =
       touched = λ own h. h;
     }
 
-pub spread_row-requires-clause-room : goal.spread_row-requires-clause-room
-spread_row-requires-clause-room c =
+pub spread_row-requires : goal.spread_row-requires
+spread_row-requires c =
     let part = c.args.part.now in
     let count = ap (λ (t : Table). length t.rows) c.loop-i.invariant.rows ∙ length-spread_each c.args.targets.now (marked_rows part.plan.parts part.number c.args.rows.now.rows c.args.marks.now c.loop-i.i) c.args.accumulated.now.rows in
-    spread_on c.args.targets.now (length c.args.accumulated.now.rows) c.loop-i.accumulated c.loop-i.touched c.requires.room.inside count (omega (arith, c.loop-i.auto.touched, c.requires.room.marks))
+    record {
+      wide = c.row.ensures.width ∙ c.requires.can.wide ∙ sym (ap (λ (t : Table). t.width) c.loop-i.invariant.rows);
+      room = spread_on c.args.targets.now (length c.args.accumulated.now.rows) c.loop-i.accumulated c.loop-i.touched c.requires.can.room.inside count (omega (arith, c.loop-i.auto.touched, c.requires.can.room.marks));
+    }
 
 pub loop-i-preserved : goal.loop-i-preserved
 loop-i-preserved c =

@@ -3,7 +3,7 @@ use Rattle.std.proofs.lemmas.List.{set-get_or}
 use Rattle.ball_model.specs.PlanValue.{PlanValue}
 use Rattle.ball_model.specs.Hash.{hash_of, index_of, rank_of}
 use Rattle.replica.specs.Start.{first_row}
-use Rattle.replica.proofs.StartLemmas.{alone_is, first-counted, first-uncounted}
+use Rattle.replica.proofs.StartLemmas.Start.{alone_is, first-counted, first-uncounted}
 use Rattle.replica.proofs.start.start_row.Goals as goal
 
 pub returns-then-counts : goal.returns-then-counts

@@ -1,4 +1,4 @@
-use Rattle.std.proofs.Common.{◌≡◌, ℕ, ◌+◌, ◌<◌, ◌≤◌, Bool, List, length, map, get_or, refl, ap, sym, ◌∙◌, arith}
+use Rattle.std.proofs.Common.{◌≡◌, ℕ, ◌+◌, ◌<◌, ◌≤◌, Bool, List, length, map, get_or, ap, sym, ◌∙◌, arith}
 use Rattle.std.proofs.lemmas.List.{length-map, length-set, map-set, get_or-map, get_or_default, same_lists}
 use Rattle.ball_model.specs.Figures.{TallyValue}
 use Rattle.ball_model.specs.Checkpoint.{no_figures}
@@ -7,7 +7,7 @@ use Rattle.figures.specs.Values.{value_of}
 use Rattle.registers.specs.Marks.{IsNextMarked}
 use Rattle.registers.proofs.MarkLemmas.{passed}
 use Rattle.replica.specs.Tallies.{DifferAt}
-use Rattle.replica.proofs.StepLemmas.{step_done, step_rest}
+use Rattle.replica.proofs.LevelLemmas.Step.{step_done, step_rest}
 use Rattle.replica.proofs.tallies.follow.Goals as goal
 
 -- as many as are ahead
@@ -22,18 +22,6 @@ read xs i found lt is = ap value_of is ∙ sym (get_or-map value_of xs i found n
 stay : (stale : List Bool) (a b : List TallyValue) (from next : ℕ) → DifferAt stale a b → IsNextMarked stale from next →
     (k : ℕ) → from ≤ k → k < next → get_or a k no_figures ≡ get_or b k no_figures
 stay stale a b from next differ is k low lt = differ.same k (omega (arith, is.high, differ.marked)) (is.blank k low lt)
-
-pub loop-i-init : goal.loop-i-init
-loop-i-init c =
-    let a = map value_of c.args.tallies.now in
-    let b = map value_of c.args.ahead.now in
-    let is = c.next_marked-i.ensures in
-    record {
-      in_range = is.high;
-      long = refl;
-      done = passed (λ k. get_or b k no_figures) (λ k. get_or a k no_figures) a no_figures 0 c.next_marked-i.result (λ k lt. absurd (omega arith)) (λ k low. refl) (stay c.args.stale.now a b 0 c.next_marked-i.result c.requires is);
-      rest = λ k low. refl;
-    }
 
 pub loop-i-preserved : goal.loop-i-preserved
 loop-i-preserved c =

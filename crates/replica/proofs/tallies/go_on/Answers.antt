@@ -15,10 +15,10 @@ table_is : (c : After-as_slice) → map value_of c.as_slice.result.now ≡ shown
 table_is c = rw (c.as_slice.ensures.value, c.deref.ensures) (out_is c)
 
 pub bring_up-requires-clause-behind : goal.bring_up-requires-clause-behind
-bring_up-requires-clause-behind c = subst (λ (l : List TallyValue). AreRelayed l c.args.behind.now) (sym (table_is (goal.at.bring_up-requires-clause-behind c).After-as_slice)) c.requires.behind
+bring_up-requires-clause-behind c = subst (λ (l : List TallyValue). AreRelayed l c.args.behind.now) (sym (table_is (goal.at.bring_up-requires-clause-behind c).After-as_slice)) c.requires.relayed
 
-pub filled-requires : goal.filled-requires
-filled-requires c = omega (arith, c.requires.marks, ap (length {A = TallyValue}) (out_is (goal.at.filled-requires c).After-as_slice), c.out.invariant.each)
+pub filled-stale-requires : goal.filled-stale-requires
+filled-stale-requires c = omega (arith, c.requires.each, ap (length {A = TallyValue}) (out_is (goal.at.filled-stale-requires c).After-as_slice), c.out.invariant.each)
 
 pub returns-in-None-clause-own : goal.returns-in-None-clause-own
 unfolding shown_tallies
@@ -28,4 +28,4 @@ pub returns-in-Some-clause-own : goal.returns-in-Some-clause-own
 returns-in-Some-clause-own c = c.bring_up.ensures ∙ table_is (goal.at.returns-in-Some-clause-own c).After-as_slice
 
 pub returns-in-Some-clause-behind : goal.returns-in-Some-clause-behind
-returns-in-Some-clause-behind c = λ ahead d. rw (c.leave_behind.ensures, c.filled.ensures, out_is (goal.at.returns-in-Some-clause-behind c).After-as_slice) d
+returns-in-Some-clause-behind c = λ ahead d. rw (c.filled-stale.ensures, out_is (goal.at.returns-in-Some-clause-behind c).After-as_slice) d

@@ -3,7 +3,7 @@ use Rattle.std.specs.Arc.{arc_value}
 use Rattle.std.specs.Vec.{with_items}
 use Rattle.std.proofs.lemmas.List.{with_items_is, length-map}
 use Rattle.ball_model.specs.Batches.{BatchValue}
-use Rattle.replica.proofs.EarlyLemmas.{fill_at, same_parts, stays_table}
+use Rattle.replica.proofs.AheadLemmas.{early_in, filled_at, out_level, out_source, same_parts, stays_table}
 use Rattle.replica.proofs.early.Early.fill.Goals as goal
 
 pub fill_slots-requires : goal.fill_slots-requires
@@ -22,8 +22,7 @@ returns c = record {
       let theirs = map F c.other.inside.slots.items in
       let same : c.other.inside.parts ≡ c.self.inside.parts = same_parts c.self.inside.parts c.other.inside.parts mine theirs c.args.self.now c.args.other.now c.self.view_is c.other.view_is c.requires in
       let long : length theirs ≡ length mine = omega (arith, same, length-map c.self.inside.slots.items F, length-map c.other.inside.slots.items F, c.self.invariant, c.other.invariant) in
-      rw (with_items_is c.self.inside.slots c.fill_slots.new.slots size, c.fill_slots.ensures, c.deref_mut.ensures.value, c.deref_mut-2.ensures.value)
-      (fill_at c.self.inside.parts mine theirs long i k
-      ∙ rw (← same, c.other.view_is) (rw (same, c.self.view_is) refl));
+      rw (with_items_is c.self.inside.slots c.fill_slots.new.slots size, c.fill_slots.ensures, c.deref_mut.ensures.value, c.deref_mut-2.ensures.value, ← c.self.view_is, ← c.other.view_is, same)
+      (grind (arith, early_in, filled_at, out_source, out_level));
   table = stays_table c.self.inside.parts (map (option_map arc_value) c.self.inside.slots.items) (map (option_map arc_value) (with_items c.self.inside.slots c.fill_slots.new.slots).items) c.args.self.now c.self.view_is;
 }

@@ -5,7 +5,7 @@ use Rattle.std.specs.Vec.{with_items}
 use Rattle.std.proofs.lemmas.List.{with_items_is, length-map}
 use Rattle.ball_model.specs.Batches.{BatchValue}
 use Rattle.replica.specs.Ahead.{IsTable}
-use Rattle.replica.proofs.EarlyLemmas.{kept_at, stays_table, table_is, place_fits}
+use Rattle.replica.proofs.AheadLemmas.{early_in, kept_one, out_level, out_source, stays_table, table_is, place_fits}
 use Rattle.replica.proofs.early.Early.keep.Goals as goal
 
 pub put-requires : goal.put-requires
@@ -21,8 +21,7 @@ returns c = record {
       let size : length c.put.new.slots ≡ c.self.inside.slots.len = omega (arith, c.put.auto.slots, c.deref_mut.ensures.len, c.self.inside.slots.ok.0) in
       let slots = map F c.self.inside.slots.items in
       let long : length slots ≡ 3 * c.self.inside.parts = length-map c.self.inside.slots.items F ∙ c.self.invariant in
-      rw (with_items_is c.self.inside.slots c.put.new.slots size, c.put.ensures, c.deref_mut.ensures.value, c.from.ensures)
-      (kept_at c.self.inside.parts c.args.level c.args.source slots (arc_value c.args.batch) c.requires.level lt long i k
-      ∙ rw c.self.view_is refl);
+      rw (with_items_is c.self.inside.slots c.put.new.slots size, c.put.ensures, c.deref_mut.ensures.value, c.from.ensures, ← c.self.view_is)
+      (grind (arith, early_in, kept_one, out_source, out_level));
   table = stays_table c.self.inside.parts (map (option_map arc_value) c.self.inside.slots.items) (map (option_map arc_value) (with_items c.self.inside.slots c.put.new.slots).items) c.args.self.now c.self.view_is;
 }

@@ -1,10 +1,11 @@
 use Rattle.std.proofs.Common.{◌≡◌, ◌+◌, ◌*◌, length, map, option_map, ap, ◌∙◌, arith}
 use Rattle.std.specs.Arc.{arc_value}
 use Rattle.std.specs.Vec.{with_items}
-use Rattle.std.proofs.lemmas.List.{with_items_is, length-map}
+use Rattle.std.proofs.Math.Nat.{mul-le-mul_right}
+use Rattle.std.proofs.lemmas.List.{with_items_is, length-map, get_or_past}
 use Rattle.ball_model.specs.Batches.{BatchValue}
 use Rattle.ball_model.specs.State.{early_at}
-use Rattle.replica.proofs.EarlyLemmas.{shift_at, stays_table}
+use Rattle.replica.proofs.AheadLemmas.{early_in, out_level, out_source, shifted_at, stays_table}
 use Rattle.replica.proofs.early.Early.shift.Goals as goal
 
 pub returns : goal.returns
@@ -14,7 +15,7 @@ returns c = record {
       let size : length c.shift_slots.new.slots ≡ c.self.inside.slots.len = omega (arith, c.shift_slots.auto.slots, c.deref_mut.ensures.len, c.self.inside.slots.ok.0) in
       let slots = map F c.self.inside.slots.items in
       let long : length slots ≡ 3 * c.self.inside.parts = length-map c.self.inside.slots.items F ∙ c.self.invariant in
-      rw (with_items_is c.self.inside.slots c.shift_slots.new.slots size, c.shift_slots.ensures, c.deref_mut.ensures.value)
-      (shift_at c.self.inside.parts c.args.count slots long i k ∙ ap (λ e. early_at e (i + c.args.count) k) c.self.view_is);
+      rw (with_items_is c.self.inside.slots c.shift_slots.new.slots size, c.shift_slots.ensures, c.deref_mut.ensures.value, ← c.self.view_is)
+      (grind (arith, early_in, shifted_at, mul-le-mul_right, get_or_past, out_level, out_source));
   table = stays_table c.self.inside.parts (map (option_map arc_value) c.self.inside.slots.items) (map (option_map arc_value) (with_items c.self.inside.slots c.shift_slots.new.slots).items) c.args.self.now c.self.view_is;
 }

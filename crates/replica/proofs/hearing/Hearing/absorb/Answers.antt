@@ -4,7 +4,7 @@ use Rattle.std.proofs.lemmas.List.{with_items_is}
 use Rattle.ball_model.specs.Table.{Table}
 use Rattle.registers.specs.Joined.{maximum_of_rows}
 use Rattle.replica.specs.Hearing.{HearingValue}
-use Rattle.replica.proofs.MergeLemmas.{length-maxima}
+use Rattle.replica.proofs.MergedLemmas.Merge.{length-maxima}
 use Rattle.replica.proofs.hearing.Hearing.absorb.Goals as goal
 use Rattle.replica.proofs.hearing.Hearing.absorb.Goals.{After-deref_mut}
 

@@ -1,6 +1,6 @@
 use Rattle.std.proofs.Common.{length, ap, sym, ◌∙◌}
 use Rattle.replica.specs.Hearing.{HearingValue}
-use Rattle.replica.proofs.HearingLemmas.{none_kept, some_kept}
+use Rattle.replica.proofs.HearingLemmas.Hearing.{none_kept, some_kept}
 use Rattle.replica.proofs.hearing.Hearing.accumulators.Goals as goal
 
 pub returns-then-len-eq0-clause-rows : goal.returns-then-len-eq0-clause-rows

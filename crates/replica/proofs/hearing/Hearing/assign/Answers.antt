@@ -1,16 +1,16 @@
-use Rattle.std.proofs.Common.{◌≡◌, Bool, List, ℕ, length, ap, sym, ◌∙◌, subst}
+use Rattle.std.proofs.Common.{◌≡◌, arith, Bool, List, ℕ, length, ap, sym, ◌∙◌, subst}
 use Rattle.std.specs.Vec.{with_items}
 use Rattle.std.proofs.lemmas.List.{with_items_is}
 use Rattle.ball_model.specs.Table.{Table}
 use Rattle.replica.specs.Hearing.{HearingValue, accumulators_of}
 use Rattle.replica.specs.Spread.{AreTouched}
-use Rattle.replica.proofs.HearingLemmas.{accumulators_size, marked_from}
+use Rattle.replica.proofs.HearingLemmas.Hearing.{accumulators_are, marked_from}
 use Rattle.replica.proofs.hearing.Hearing.assign.Goals as goal
 use Rattle.replica.proofs.hearing.Hearing.assign.Goals.{After-accumulators, After-deref_mut, After-mark_differences}
 
 -- as many as before
 size : (c : After-accumulators) → length c.accumulators.result.now.rows ≡ length c.args.rows.now.rows
-size c = ap (length {A = List ℕ}) c.accumulators.ensures.rows ∙ accumulators_size c.args.rows.now.rows c.args.other.now c.requires.kept
+size c = grind (arith, accumulators_are, c.accumulators.ensures.rows, c.requires.kept)
 
 own : (c : After-accumulators) → length c.self.inside.accumulated.rows ≡ length c.args.rows.now.rows
 own c = ap (λ (a : HearingValue). length a.accumulated.rows) c.self.view_is ∙ sym c.requires.count

@@ -2,22 +2,15 @@ use Rattle.std.proofs.Common.{rules, ◌≡◌, Bool, List, ℕ, length, refl, a
 use Rattle.std.specs.Vec.{with_items}
 use Rattle.std.proofs.lemmas.List.{with_items_is}
 use Rattle.ball_model.specs.Table.{Table}
-use Rattle.registers.specs.Relay.{DifferWhere}
 use Rattle.replica.specs.Hearing.{HearingValue, KeepsAll}
 use Rattle.replica.specs.Spread.{AreTouched}
-use Rattle.replica.proofs.HearingLemmas.{differ_where}
-use Rattle.replica.proofs.LevelLemmas.{none_touched}
+use Rattle.replica.proofs.LevelLemmas.Level.{none_touched}
 use Rattle.replica.proofs.hearing.Hearing.begin.Goals as goal
 use Rattle.replica.proofs.hearing.Hearing.begin.Goals.{After-deref}
 
 -- what it keeps as its fields stand
 marked : (c : After-deref) → AreTouched c.args.rows.now.rows c.self.inside.accumulated.rows c.self.inside.touched.items
 marked c = subst (λ (a : HearingValue). KeepsAll c.args.rows.now.rows a) (sym c.self.view_is) c.requires.kept
-
-pub follow-requires : goal.follow-requires
-follow-requires c =
-    subst (λ (l : List Bool). DifferWhere l c.args.rows.now c.self.inside.accumulated) (sym c.deref.ensures.value)
-    (differ_where c.args.rows.now c.self.inside.accumulated c.self.inside.touched.items (c.requires.width ∙ sym (ap (λ (a : HearingValue). a.accumulated.width) c.self.view_is)) (marked (goal.at.follow-requires c).After-deref))
 
 pub returns : goal.returns
 returns c =

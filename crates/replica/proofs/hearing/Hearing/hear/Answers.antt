@@ -6,8 +6,8 @@ use Rattle.ball_model.specs.Table.{Table}
 use Rattle.replica.specs.Hearing.{HearingValue, HearsAlso, HearsByIndex, batch_by}
 use Rattle.replica.specs.Heard.{StayTouched}
 use Rattle.replica.specs.Kept.{AllRise}
-use Rattle.replica.proofs.HearLemmas.{hears_one}
-use Rattle.replica.proofs.RiseLemmas.{each_rises, batch_rows}
+use Rattle.replica.proofs.HearingLemmas.Hear.{hears_one}
+use Rattle.replica.proofs.LevelLemmas.Rise.{each_rises, batch_rows}
 use Rattle.replica.proofs.hearing.Hearing.hear.Goals as goal
 use Rattle.replica.proofs.hearing.Hearing.hear.Goals.{After-name}
 

@@ -6,7 +6,7 @@ use Rattle.replica.specs.Heard.{OwnIsHeard}
 use Rattle.replica.specs.Hearing.{HearingValue, KeepsAll}
 use Rattle.replica.specs.Kept.{AllRise}
 use Rattle.replica.specs.Spread.{AreTouched}
-use Rattle.replica.proofs.RiseLemmas.{own_rises, all_on}
+use Rattle.replica.proofs.LevelLemmas.Rise.{own_rises, all_on}
 use Rattle.replica.proofs.hearing.Hearing.hear_own.Goals as goal
 use Rattle.replica.proofs.hearing.Hearing.hear_own.Goals.{After-spread_own}
 
@@ -18,11 +18,6 @@ marked c =
 
 items : (c : After-spread_own) → (with_items c.self.inside.touched c.spread_own.new.touched).items ≡ c.spread_own.new.touched
 items c = with_items_is c.self.inside.touched c.spread_own.new.touched (c.spread_own.auto.touched ∙ c.deref_mut.ensures.len)
-
-pub invariant_of-self : goal.invariant_of-self
-invariant_of-self c =
-    let at = (goal.at.invariant_of-self c).After-spread_own in
-    ap (length {A = Bool}) (items at) ∙ (marked at).marks ∙ sym (marked at).count
 
 pub returns : goal.returns
 returns c =

@@ -1,7 +1,7 @@
 use Rattle.std.proofs.Common.{◌≡◌, Bool, List, [], false, ap, sym, ◌∙◌}
 use Rattle.std.specs.List.{list_any}
 use Rattle.replica.specs.Hearing.{HearingValue}
-use Rattle.replica.proofs.HearingLemmas.{bare_same}
+use Rattle.replica.proofs.HearingLemmas.Hearing.{bare_same}
 use Rattle.replica.proofs.hearing.Hearing.let_go.Goals as goal
 
 pub returns-then-not-any_marked : goal.returns-then-not-any_marked

@@ -2,8 +2,8 @@ use Rattle.std.proofs.Common.{◌≡◌, Bool, List, false, replicate, rules, re
 use Rattle.std.proofs.lemmas.List.{length-replicate}
 use Rattle.ball_model.specs.Table.{Table}
 use Rattle.replica.specs.Spread.{AreTouched}
-use Rattle.replica.proofs.StepLemmas.{get_or-replicate_same}
-use Rattle.replica.proofs.LevelLemmas.{none_touched}
+use Rattle.replica.proofs.LevelLemmas.Step.{get_or-replicate_same}
+use Rattle.replica.proofs.LevelLemmas.Level.{none_touched}
 use Rattle.replica.proofs.hearing.Hearing.start.Goals as goal
 
 pub returns : goal.returns

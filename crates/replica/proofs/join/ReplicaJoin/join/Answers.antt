@@ -3,7 +3,7 @@ use Rattle.std.specs.Prelude.{OnOk}
 use Rattle.ball_model.specs.History.{holding_in}
 use Rattle.ball_model.specs.Join.{join_of}
 use Rattle.ball_model.specs.State.{State}
-use Rattle.replica.proofs.HoldingLemmas.{joined_if}
+use Rattle.replica.proofs.MergedLemmas.Holding.{joined_if}
 use Rattle.replica.proofs.join.ReplicaJoin.join.Goals as goal
 
 pub returns-clause-joined : goal.returns-clause-joined

@@ -1,15 +1,13 @@
 use Rattle.std.proofs.Common.{◌≡◌, List, map, ap, ap₂, sym, ◌∙◌, subst}
 use Rattle.std.specs.List.{sum_by}
-use Rattle.std.proofs.lemmas.Bool.{eqb-true}
 use Rattle.figures.specs.Values.{value_of}
 use Rattle.figures.specs.declared.tally.Tally.{Tally}
 use Rattle.ball_model.specs.Figures.{TallyValue, Measure, estimate_with}
 use Rattle.ball_model.specs.PlanValue.{PlanValue, measure_of}
 use Rattle.replica.specs.Kept.{AreSums}
-use Rattle.replica.proofs.FitsLemmas.{figures_kept}
-use Rattle.replica.proofs.NextLemmas.{map_lasts, sum_same}
+use Rattle.replica.proofs.SavedLemmas.Fits.{figures_kept}
+use Rattle.replica.proofs.LevelLemmas.Next.{map_lasts, sum_same}
 use Rattle.replica.proofs.saved.Saved.has_figures.Goals as goal
-use Rattle.replica.proofs.saved.Saved.has_figures.Goals.{then-len, else-len}
 
 same_measure : (a b : Measure) → a.log2m ≡ b.log2m → a.corrected ≡ b.corrected → a ≡ b
 same_measure a b log2m corrected = λ i. record { log2m = log2m i; corrected = corrected i }
@@ -20,15 +18,10 @@ returns-then-are_last c =
     let part = c.args.part.now in
     let ts = s.tallies.items in
     let plan : c.plan-plan.result.now ≡ part.plan = c.plan-plan.ensures in
-    let lasts : map (λ (v : TallyValue). v.last) (map value_of ts) ≡ map (estimate_with (measure_of part.plan)) s.rows.rows = elim c.if-len.branch [
-      | then-len w ↦
-          let measure : record { log2m = w.log2m.result; corrected = w.is_corrected.result } ≡ measure_of part.plan =
-          same_measure (record { log2m = w.log2m.result; corrected = w.is_corrected.result }) (measure_of part.plan) (w.log2m.ensures.value ∙ ap (λ (a : PlanValue). a.log2m) plan) (w.is_corrected.ensures ∙ ap (λ (a : PlanValue). a.corrected) plan) in
-          ap (λ (items : List Tally). map (λ (v : TallyValue). v.last) (map value_of items)) (sym w.deref.ensures.value)
-          ∙ w.are_last.ensures.0 (sym w.value-is ∙ c.if-are_last.true)
-          ∙ ap (λ (m : Measure). map (estimate_with m) s.rows.rows) measure
-      | else-len w ↦ absurd (w.if-len.false (eqb-true c.len.result c.len-2.result (sym w.value-is ∙ c.if-are_last.true)))
-    ] in
+    let measure : record { log2m = c.log2m.result; corrected = c.is_corrected.result } ≡ measure_of part.plan =
+    same_measure (record { log2m = c.log2m.result; corrected = c.is_corrected.result }) (measure_of part.plan) (c.log2m.ensures.value ∙ ap (λ (a : PlanValue). a.log2m) plan) (c.is_corrected.ensures ∙ ap (λ (a : PlanValue). a.corrected) plan) in
+    let lasts : map (λ (v : TallyValue). v.last) (map value_of ts) ≡ map (estimate_with (measure_of part.plan)) s.rows.rows =
+    ap (λ (items : List Tally). map (λ (v : TallyValue). v.last) (map value_of items)) (sym c.deref.ensures.value) ∙ c.are_last.ensures.0 c.if-are_last.true ∙ ap (λ (m : Measure). map (estimate_with m) s.rows.rows) measure in
     let total : c.sum_of_lasts.result ≡ sum_by (λ (v : TallyValue). v.last) (map value_of ts) =
     c.sum_of_lasts.ensures ∙ ap (λ (items : List Tally). sum_by (λ tally. tally.last) items) c.deref-then-are_last.ensures.value
     ∙ sum_same (λ (tally : Tally). tally.last) (λ (v : TallyValue). v.last) ts (map value_of ts) (map_lasts ts) in

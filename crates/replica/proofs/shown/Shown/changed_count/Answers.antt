@@ -1,15 +1,11 @@
-use Rattle.std.proofs.Common.{length, ap, ◌∙◌, arith, subst}
-use Rattle.std.specs.List.{count_by}
+use Rattle.std.proofs.Common.{length, ap, arith, subst}
 use Rattle.ball_model.specs.State.{State}
 use Rattle.replica.specs.Seen.{IsState}
-use Rattle.replica.proofs.AccumulatorLemmas.{state_is}
-use Rattle.replica.proofs.ReadLemmas.{count_stands, few}
+use Rattle.replica.proofs.HearingLemmas.Accumulator.{state_is}
+use Rattle.replica.proofs.SeenLemmas.Read.{few}
 use Rattle.replica.proofs.shown.Shown.changed_count.Goals as goal
 
 pub overflow_cast-result : goal.overflow_cast-result
 overflow_cast-result g c =
     let state : IsState c.shown-s.result.now.state = subst (λ (v : State). IsState v) (state_is c.s.view_is) c.s.invariant.state in
     omega (arith, c.count_set.ensures.within, few c.shown-s.result.now.state state, state.marks, ap (λ (v : State). length v.marks) (state_is c.s.view_is), ap length c.marks.ensures)
-
-pub returns-clause-stands : goal.returns-clause-stands
-returns-clause-stands g c = rw (← c.shown-s.ensures) (λ j p t h. c.count_set.ensures.value ∙ rw c.marks.ensures (ap (λ (v : State). count_by (λ mark. mark) v.marks) (state_is c.s.view_is)) ∙ count_stands j p t c.shown-s.result.now.state h)

@@ -3,8 +3,8 @@ use Rattle.std.specs.List.{slice_get}
 use Rattle.ball_model.specs.State.{State}
 use Rattle.replica.specs.Ahead.{early_batches}
 use Rattle.replica.specs.Seen.{IsState}
-use Rattle.replica.proofs.AccumulatorLemmas.{state_is}
-use Rattle.replica.proofs.KeptLemmas.{nth_name, nth_true}
+use Rattle.replica.proofs.HearingLemmas.Accumulator.{state_is}
+use Rattle.replica.proofs.KeptLemmas.Kept.{nth_name}
 use Rattle.replica.proofs.shown.Shown.early.Goals as goal
 
 pub returns-clause-name : goal.returns-clause-name
@@ -12,8 +12,3 @@ returns-clause-name g c =
     rw (← c.shown-s.ensures) (
     let state : IsState c.shown-s.result.now.state = subst (λ (v : State). IsState v) (state_is c.s.view_is) c.s.invariant.state in
     nth_name (λ b. b.now) c.shown-s.result.now.state c.args.i c.nth.result state (c.nth.ensures ∙ ap (λ (v : State). slice_get (early_batches v.early) c.args.i) (state_is c.s.view_is)))
-
-pub returns-clause-stands : goal.returns-clause-stands
-returns-clause-stands g c = rw (← c.shown-s.ensures) (λ j p t h.
-    let state : IsState c.shown-s.result.now.state = subst (λ (v : State). IsState v) (state_is c.s.view_is) c.s.invariant.state in
-    nth_true j p t c.args.i c.shown-s.result.now.state _ h state (c.nth.ensures ∙ ap (λ (v : State). slice_get (early_batches v.early) c.args.i) (state_is c.s.view_is)))

@@ -4,8 +4,8 @@ use Rattle.ball_model.specs.Batches.{BatchValue}
 use Rattle.ball_model.specs.State.{State}
 use Rattle.replica.specs.Ahead.{early_batches}
 use Rattle.replica.specs.Seen.{IsState}
-use Rattle.replica.proofs.AccumulatorLemmas.{state_is}
-use Rattle.replica.proofs.KeptLemmas.{early_named, few_early}
+use Rattle.replica.proofs.HearingLemmas.Accumulator.{state_is}
+use Rattle.replica.proofs.KeptLemmas.Kept.{early_named, few_early}
 use Rattle.replica.proofs.shown.Shown.early_count.Goals as goal
 
 pub overflow_cast-result : goal.overflow_cast-result

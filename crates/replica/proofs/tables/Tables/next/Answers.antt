@@ -1,17 +1,17 @@
 use Rattle.std.proofs.Common.{◌≡◌, ◌+◌, Bool, ◌∷◌, ◌++◌, [], length, refl, ap, sym, ◌∙◌, arith, subst}
 use Rattle.std.specs.List.{sum_by}
 use Rattle.std.specs.Vec.{with_items}
-use Rattle.std.proofs.lemmas.List.{with_items_is}
+use Rattle.std.proofs.lemmas.List.{with_items_is, length-map}
 use Rattle.ball_model.specs.Figures.{TallyValue}
 use Rattle.ball_model.specs.Table.{Table}
 use Rattle.replica.specs.Level.{next_tallies, total_of, weights_of}
 use Rattle.replica.specs.Seen.{tables_of}
 use Rattle.replica.specs.Tables.{CanStep, NextTables, TablesValue}
-use Rattle.replica.proofs.LevelLemmas.{differing_from}
-use Rattle.replica.proofs.NextLemmas.{total_small}
-use Rattle.replica.proofs.RiseLemmas.{rise_counters}
-use Rattle.replica.proofs.StateLemmas.{next_at}
-use Rattle.replica.proofs.TablesLemmas.{can_be_stepped}
+use Rattle.replica.proofs.HearingLemmas.Hearing.{differ_where}
+use Rattle.replica.proofs.LevelLemmas.Level.{differing_from}
+use Rattle.replica.proofs.LevelLemmas.Next.{next_lasts, total_small}
+use Rattle.replica.proofs.LevelLemmas.Rise.{rise_counters}
+use Rattle.replica.proofs.LevelLemmas.State.{next_at}
 use Rattle.replica.proofs.TalliesLemmas.{length-next_tallies}
 use Rattle.replica.proofs.tables.Tables.next.Goals as goal
 use Rattle.replica.proofs.tables.Tables.next.Goals.{After-touched-marks, After-step-gain}
@@ -26,8 +26,11 @@ sums c ok = next_at c.args.estimator.now c.args.t c.args.hearing.now.accumulated
 
 pub step-gain-requires : goal.step-gain-requires
 step-gain-requires c =
+    let rows = c.self.inside.rows.rows in
+    let own = c.args.hearing.now.accumulated.rows in
+    let ok = can (goal.at.step-gain-requires c).After-touched-marks in
     rw (c.get-rows.ensures, c.ahead-ahead.ensures, c.touched-marks.ensures)
-    (can_be_stepped c.args.estimator.now c.args.t (tables_of c.self.inside) c.args.hearing.now c.args.weights.now (can (goal.at.step-gain-requires c).After-touched-marks))
+    (grind (arith, ok, rise_counters c.args.estimator.now.log2m rows own ok.ahead.rise, differ_where, length-map, differing_from rows own c.args.hearing.now.touched (length rows) ok.ahead.kept refl, next_lasts c.args.estimator.now rows own c.self.inside.tallies (length rows) ok.ahead.counters ok.ahead.rise ok.lasts refl))
 
 pub overflow_add-last : goal.overflow_add-last
 overflow_add-last c =

@@ -1,13 +1,12 @@
-use Rattle.std.proofs.Common.{◌≡◌, ℕ, rules, ap, sym, subst, ◌∙◌, List, None, length, map, arith}
-use Rattle.std.specs.List.{sum_by}
+use Rattle.std.proofs.Common.{◌≡◌, arith, rules, ap, sym, subst, ◌∙◌, List, None, length, map}
 use Rattle.std.specs.Vec.{with_items}
 use Rattle.std.proofs.lemmas.List.{with_items_is}
+use Rattle.std.proofs.lemmas.List.FromFn.{get_or-map-range_with_len}
 use Rattle.ball_model.specs.Figures.{TallyValue}
-use Rattle.figures.specs.declared.tally.Tally.{Tally}
 use Rattle.figures.specs.Values.{value_of}
 use Rattle.replica.specs.Level.{next_tallies}
 use Rattle.replica.specs.Tallies.{DifferAt, shown_tallies}
-use Rattle.replica.proofs.TalliesLemmas.{stepped_differ, sum_of-lasts}
+use Rattle.replica.proofs.TalliesLemmas.{length-next_tallies}
 use Rattle.replica.proofs.tallies.Tallies.step.Goals as goal
 use Rattle.replica.proofs.tallies.Tallies.step.Goals.{After-step_tallies}
 
@@ -29,25 +28,16 @@ stepped c =
     ∙ ap (λ (l : List TallyValue). next_tallies c.args.estimator.now c.args.t c.args.ahead.now.rows l (length c.args.ahead.now.rows)) (own_is c)
 
 pub invariant_of-self : goal.invariant_of-self
-unfolding shown_tallies
+unfolding shown_tallies next_tallies
 invariant_of-self c =
     let at = (goal.at.invariant_of-self c).After-step_tallies in
     let new = map value_of (with_items c.go_on.new.own c.step_tallies.new.tallies).items in
     let gone : c.take-out.new.self ≡ None = search rules in
-    rw gone (c.go_on.ensures.behind new (subst (λ (l : List TallyValue). DifferAt c.args.marks.now l new) (sym (shown_is at)) (stepped_differ c.args.estimator.now c.args.t c.args.rows.now c.args.ahead.now c.args.marks.now c.args.weights.now c.args.self.now new c.requires (stepped at))))
+    rw gone (c.go_on.ensures.behind new (subst (λ (l : List TallyValue). DifferAt c.args.marks.now l new) (sym (shown_is at)) (grind (arith, length-next_tallies, get_or-map-range_with_len, stepped at))))
 
-pub returns-clause-tallies : goal.returns-clause-tallies
+pub returns : goal.returns
 unfolding shown_tallies
-returns-clause-tallies c =
+returns c =
+    let at = (goal.at.returns c).After-step_tallies in
     let gone : c.take-out.new.self ≡ None = search rules in
-    rw gone (stepped (goal.at.returns-clause-tallies c).After-step_tallies)
-
-pub returns-clause-gain : goal.returns-clause-gain
-unfolding shown_tallies
-returns-clause-gain c =
-    let at = (goal.at.returns-clause-gain c).After-step_tallies in
-    let gone : c.take-out.new.self ≡ None = search rules in
-    let sum : List TallyValue → ℕ = sum_by (λ (v : TallyValue). v.last) in
-    let before : sum_by (λ (tally : Tally). tally.last) c.deref_mut.result.now ≡ sum c.args.self.now = sum_of-lasts c.deref_mut.result.now ∙ ap sum (own_is at) in
-    let after : sum_by (λ (tally : Tally). tally.last) c.step_tallies.new.tallies ≡ sum (map value_of (with_items c.go_on.new.own c.step_tallies.new.tallies).items) = sum_of-lasts c.step_tallies.new.tallies ∙ ap sum (ap (map value_of) (sym (items_are at))) in
-    rw gone (omega (arith, before, after, c.step_tallies.ensures.gain))
+    rw (gone, items_are at, ← own_is at) c.step_tallies.ensures

@@ -1,0 +1,86 @@
+-- A replica that is made: at superstep 0, of what a checkpoint tells, or as a copy.
+use Rattle.std.proofs.Common.{◌≡◌, ℕ, ◌+◌, ◌^◌, ◌≤◌, Bool, List, length, map, refl, ap, sym, ◌∙◌, subst, arith}
+use Rattle.std.specs.Prelude.{None}
+use Rattle.std.specs.Arc.{arc_value}
+use Rattle.ball_model.specs.Checkpoint.{kept_batches}
+use Rattle.ball_model.specs.Job.{IsPart, PartValue}
+use Rattle.ball_model.specs.State.{State, early_at}
+use Rattle.ball_model.specs.Table.{Table}
+use Rattle.figures.specs.Values.{value_of}
+use Rattle.replica.specs.declared.Progress.TheInside as progress
+use Rattle.replica.specs.declared.saved.Saved.{Saved}
+use Rattle.replica.specs.Ahead.{IsTable}
+use Rattle.replica.specs.Hearing.{HearingValue, IsQuiet, KeepsAllOrNone, SaysSame}
+use Rattle.replica.specs.Kept.{AreEarly}
+use Rattle.replica.specs.Level.{differences}
+use Rattle.replica.specs.Progress.{CanGoOn}
+use Rattle.replica.specs.Saved.{Fits, IsKeepable, IsRebuilt}
+use Rattle.replica.specs.Seen.{IsProgress, IsState, progress_of, state_of}
+use Rattle.replica.specs.Start.{Starts}
+use Rattle.replica.specs.Tables.{AreFirst, TablesValue}
+use Rattle.replica.proofs.HearingLemmas.Accumulator.{can_go_on, fields_are, fields_of, kept_progress, said_same}
+use Rattle.replica.proofs.MergedLemmas.Merge.{touched_from}
+use Rattle.replica.proofs.SavedLemmas.Saved.{rebuilt_state}
+use Rattle.replica.proofs.StartLemmas.Start.{starts_state}
+
+-- ---- at superstep 0
+
+pub record Begun (r : progress.Inside) : Type 0 where
+  pub limits : IsProgress r
+  pub starts : Starts (arc_value r.part) (state_of r)
+
+pub begun : (r : progress.Inside) → IsPart (arc_value r.part) → r.superstep ≡ 0 → AreFirst (arc_value r.part) r.tables → IsQuiet r.tables.rows r.hearing → IsTable (arc_value r.part).plan.parts r.early → ((i q : ℕ) → early_at r.early i q ≡ None) → Begun r
+begun r part at first quiet table none =
+    let rows = ap (λ (t : Table). t.rows) first.rows in
+    let width = ap (λ (t : Table). t.width) first.rows in
+    let accumulated = ap (λ (t : Table). t.rows) quiet.accumulated in
+    let is : Starts (arc_value r.part) (fields_of r) = grind arith in
+    record {
+      limits = kept_progress r (starts_state (arc_value r.part) (fields_of r) part is) width (ap (λ (t : Table). t.width) quiet.accumulated ∙ width) quiet.kept;
+      starts = subst (λ (v : State). Starts (arc_value r.part) v) (fields_are r (ap length accumulated)) is;
+    }
+
+-- ---- of what a checkpoint tells
+
+pub record Remade (r : progress.Inside) (s : Saved) : Type 0 where
+  pub limits : IsProgress r
+  pub fields : IsRebuilt (arc_value r.part) s (state_of r)
+  pub keepable : IsKeepable (state_of r)
+  pub goes_on : CanGoOn (progress_of r)
+
+pub remade : (r : progress.Inside) (s : Saved) (sums : List ℕ) (room : ℕ) (touched : List Bool) → IsPart (arc_value r.part) → Fits (arc_value r.part) s → r.superstep ≡ s.superstep →
+    r.tables ≡ record { rows = s.rows; marks = s.marks.items; tallies = map value_of s.tallies.items; sums = sums; room = room } → sums ≡ s.sums.items → (arc_value r.part).plan.limit + 1 ≤ room →
+    r.hearing ≡ record { heard = s.heard; change = s.heard_change; accumulated = s.accumulated; touched = touched } → touched ≡ differences s.rows.rows s.accumulated.rows (length s.rows.rows) →
+    AreEarly (arc_value r.part).plan (arc_value r.part).number s.superstep r.early → kept_batches r.early ≡ map arc_value s.early.items → Remade r s
+remade r s sums room touched part fits at tables same enough hearing marked early kept =
+    let is : IsRebuilt (arc_value r.part) s (fields_of r) = grind arith in
+    let st = rebuilt_state (arc_value r.part) s (fields_of r) part fits is early in
+    let whole = fields_are r st.accumulated.count in
+    record {
+      limits = kept_progress r st (ap (λ (t : TablesValue). t.rows.width) tables ∙ fits.rows.width) (ap (λ (a : HearingValue). a.accumulated.width) hearing ∙ fits.heard.width)
+          (rw (tables, hearing) (touched_from (arc_value r.part).plan.log2m (length s.rows.rows) s.rows.rows s.accumulated.rows touched fits.rows.rows fits.heard.accumulated refl marked));
+      fields = subst (λ (v : State). IsRebuilt (arc_value r.part) s v) whole is;
+      keepable = record { state = subst (λ (v : State). IsState v) whole st; figures = rw tables fits.figures.limits };
+      goes_on = can_go_on r st.accumulated.count (rw tables enough);
+    }
+
+-- ---- as a copy
+
+pub record Copied (r copy : progress.Inside) : Type 0 where
+  pub limits : IsProgress copy
+  pub same : state_of copy ≡ state_of r
+
+pub copied : (r copy : progress.Inside) → IsProgress r → arc_value copy.part ≡ arc_value r.part → copy.superstep ≡ r.superstep → copy.tables ≡ record r.tables { room = copy.tables.room } → SaysSame r.tables.rows.rows r.hearing copy.hearing → copy.early ≡ r.early → Copied r copy
+copied r copy ok part at tables said early =
+    let fields : state_of copy ≡ state_of (record r { hearing = copy.hearing }) = grind arith in
+    let same = fields ∙ said_same r copy.hearing said in
+    let width = ap (λ (a : PartValue). 2 ^ a.plan.log2m) (sym part) in
+    record {
+      limits = record {
+        state = subst (λ (v : State). IsState v) (sym same) ok.state;
+        width = ap (λ (t : TablesValue). t.rows.width) tables ∙ ok.width ∙ width;
+        accumulated_width = said.width ∙ ok.accumulated_width ∙ width;
+        kept = subst (λ (t : TablesValue). KeepsAllOrNone t.rows.rows copy.hearing) (sym tables) said.kept;
+      };
+      same = same;
+    }
