@@ -1,7 +1,7 @@
 -- What a test's replicas and batches are.
 use Rattle.std.proofs.Common.{◌≡◌, ℕ, ◌+◌, sym, ap, ◌∙◌, subst}
 use Rattle.std.specs.Prelude.{Result, Ok, Err, OnErr, OnOk}
-use Rattle.replica.proofs.LevelLemmas.{part_number}
+use Rattle.replica.proofs.LevelLemmas.Level.{part_number}
 use Rattle.ball_model.specs.Job.{Job, PartValue}
 use Rattle.ball_model.specs.State.{State, StandsFor, Stands}
 

@@ -12,10 +12,10 @@ use Rattle.board.specs.Turn.{IsSameSeat, IsSized}
 use Rattle.board.specs.Seats.{BoardView, SeatView}
 
 abbrev pub board_view : board.Inside → BoardView
-board_view b = record { table = b.room.shared.table_id; limit = b.limit }
+board_view b = record { table = b.table.shared.table_id; limit = b.limit }
 
 abbrev pub IsBoard : board.Inside → Type 0
-IsBoard b = IsSized b.room.shared.table_id
+IsBoard b = IsSized b.table.shared.table_id
 
 -- who calls by what was granted
 abbrev pub caller_of : Grant → Caller

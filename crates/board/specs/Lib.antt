@@ -5,3 +5,4 @@ pub mod Rule
 pub mod Turn
 pub mod Seats
 pub mod Inside
+pub mod Scene

@@ -18,9 +18,9 @@ ghost use Rattle.board.specs.Turn.{IsSized};
 
 use crate::book::Book;
 use crate::error::BoardError;
-use crate::rule::{Pass, Room, Tells};
+use crate::rule::{BoardTable, Pass, Tells};
 use crate::seat::{Grant, Seat};
-use crate::turn::{Turn, count};
+use crate::turn::{Turn, look_at_length};
 use ball_model::{BatchName, Kept, Plan, Posted};
 use batches::Batch;
 use edgelist::Graph;
@@ -39,7 +39,7 @@ const NUMBERS: u64 = 1 << 63;
 /// has added no entry, and its seat has seen the whole history.
 #[derive(Drop)]
 pub struct Board {
-    pub(crate) room: Room,
+    pub(crate) table: BoardTable,
     limit: u32,
 }
 
@@ -77,9 +77,9 @@ impl Board {
         ensures legal { IfOk result (λ r. IsCaller r.1.caller) }
     {
         let book = Book::open(alloc, graph, plan)?;
-        let (room, pass) = start_room(alloc, book, entries)?;
+        let (table, pass) = start_table(alloc, book, entries)?;
         let board = Board {
-            room,
+            table,
             limit: entries,
         };
         let grant = Grant {
@@ -100,7 +100,7 @@ impl Board {
         ensures nothing { CalledNothing seat.old.caller seat.new.caller }
         ensures length { result ≡ entries_of seat.new.caller.seen }
     {
-        count(&self.room, &mut seat.grant.pass)
+        look_at_length(&self.table, &mut seat.grant.pass)
     }
 
     /// The first seat has then seen what both have, and the second ends: its number is never used again.
@@ -121,10 +121,10 @@ impl Board {
             number: _,
             room: _,
         } = ended.grant;
-        self.room
+        self.table
             .shared
             .join_seat::<Tells>(&mut seat.grant.pass, pass);
-        count(&self.room, &mut seat.grant.pass);
+        look_at_length(&self.table, &mut seat.grant.pass);
     }
 
     /// Finds the batch of a name: None exactly where the name does not stand, and then no entry is added.
@@ -132,6 +132,7 @@ impl Board {
     /// [`BookFull`](BoardError::BookFull) where the name stands and the history is full, then
     /// [`Memory`](BoardError::Memory) (also where the batch is shared 2^63 times). The batch is shared, not copied. It
     /// takes the logarithm of the number of batches that stand.
+    #[tactic(auto, using(crate::proofs::GivenLemmas::given))]
     pub fn fetch<R: Wait>(
         &self,
         rt: &R,
@@ -153,9 +154,9 @@ impl Board {
         ensures full { IfErr result (λ e. e ≡ BookFull → IsFull seat.new.caller) }
         ensures memory { IfErr result (λ e. e ≡ Memory → HasRoom seat.new.caller) }
     {
-        let mut turn = Turn::take(rt, &self.room, &mut seat.grant);
+        let mut turn = Turn::take(rt, &self.table, &mut seat.grant);
         let answer = turn.book.fetch(seat.grant.number, name, self.limit);
-        turn.give(&self.room, &mut seat.grant);
+        turn.give(&self.table, &mut seat.grant);
         answer
     }
 
@@ -164,6 +165,7 @@ impl Board {
     ///
     /// [`BookFull`](BoardError::BookFull) where the history is full, then [`Memory`](BoardError::Memory). It takes the
     /// logarithm of the number of batches that stand.
+    #[tactic(auto, using(crate::proofs::GivenLemmas::given))]
     pub fn post<R: Wait>(
         &self,
         rt: &R,
@@ -180,9 +182,9 @@ impl Board {
         ensures full { IfErr result (λ e. e ≡ BookFull → IsFull seat.new.caller) }
         ensures memory { IfErr result (λ e. e ≡ Memory → HasRoom seat.new.caller) }
     {
-        let mut turn = Turn::take(rt, &self.room, &mut seat.grant);
+        let mut turn = Turn::take(rt, &self.table, &mut seat.grant);
         let answer = turn.book.post(seat.grant.number, &batch, self.limit);
-        turn.give(&self.room, &mut seat.grant);
+        turn.give(&self.table, &mut seat.grant);
         answer
     }
 
@@ -191,6 +193,7 @@ impl Board {
     ///
     /// [`BookFull`](BoardError::BookFull) where the history is full, then [`Memory`](BoardError::Memory). The snapshot is
     /// moved, not copied; the one that it displaces is let go after the turn.
+    #[tactic(auto, using(crate::proofs::GivenLemmas::given))]
     pub fn keep<R: Wait>(
         &self,
         rt: &R,
@@ -208,9 +211,9 @@ impl Board {
         ensures full { IfErr result (λ e. e ≡ BookFull → IsFull seat.new.caller) }
         ensures memory { IfErr result (λ e. e ≡ Memory → HasRoom seat.new.caller) }
     {
-        let mut turn = Turn::take(rt, &self.room, &mut seat.grant);
+        let mut turn = Turn::take(rt, &self.table, &mut seat.grant);
         let answer = turn.book.keep(seat.grant.number, &snapshot, self.limit);
-        turn.give(&self.room, &mut seat.grant);
+        turn.give(&self.table, &mut seat.grant);
         let (reply, _displaced) = answer?;
         Ok(reply)
     }
@@ -220,6 +223,7 @@ impl Board {
     ///
     /// [`BookFull`](BoardError::BookFull) where there is one and the history is full, then
     /// [`Memory`](BoardError::Memory) (also where it is shared 2^63 times). The snapshot is shared, not copied.
+    #[tactic(auto, using(crate::proofs::GivenLemmas::given))]
     pub fn recall<R: Wait>(
         &self,
         rt: &R,
@@ -246,11 +250,11 @@ impl Board {
         ensures full { IfErr result (λ e. e ≡ BookFull → IsFull seat.new.caller) }
         ensures memory { IfErr result (λ e. e ≡ Memory → HasRoom seat.new.caller) }
     {
-        let mut turn = Turn::take(rt, &self.room, &mut seat.grant);
+        let mut turn = Turn::take(rt, &self.table, &mut seat.grant);
         let answer = turn
             .book
             .recall(seat.grant.number, part, at_least, self.limit);
-        turn.give(&self.room, &mut seat.grant);
+        turn.give(&self.table, &mut seat.grant);
         answer
     }
 
@@ -258,6 +262,7 @@ impl Board {
     ///
     /// [`BookFull`](BoardError::BookFull) where the history is full, then [`Memory`](BoardError::Memory). The
     /// batches are let go after the turn.
+    #[tactic(auto, using(crate::proofs::GivenLemmas::given))]
     pub fn drop_below<R: Wait>(
         &self,
         rt: &R,
@@ -272,18 +277,18 @@ impl Board {
         ensures full { IfErr result (λ e. e ≡ BookFull → IsFull seat.new.caller) }
         ensures memory { IfErr result (λ e. e ≡ Memory → HasRoom seat.new.caller) }
     {
-        let mut turn = Turn::take(rt, &self.room, &mut seat.grant);
+        let mut turn = Turn::take(rt, &self.table, &mut seat.grant);
         let answer = turn
             .book
             .drop_below(seat.grant.number, superstep, self.limit);
-        turn.give(&self.room, &mut seat.grant);
+        turn.give(&self.table, &mut seat.grant);
         let _dropped = answer?;
         Ok(())
     }
 }
 
 // The table round a book that has the opening alone, and what its first seat knows.
-fn start_room(alloc: Global, book: Book, entries: u32) -> Result<(Room, Pass), AllocError>
+fn start_table(alloc: Global, book: Book, entries: u32) -> Result<(BoardTable, Pass), AllocError>
     requires book { IsLegal book × (book.calls ≡ []) }
     requires entries { 1 ≤ entries }
     ensures { IfOk result (λ r. IsSized r.0.shared.table_id
@@ -292,5 +297,5 @@ fn start_room(alloc: Global, book: Book, entries: u32) -> Result<(Room, Pass), A
     let about = (Seen::of(&book), entries);
     let mut slots = Vec::new(alloc);
     slots.push(Some(book))?;
-    Room::new(alloc, &[1, 0, 0], slots, &about).map_err(|_| AllocError)
+    BoardTable::new(alloc, &[1, 0, 0], slots, &about).map_err(|_| AllocError)
 }

@@ -106,6 +106,6 @@ impl Join<Knowledge> for Tells {
     ghost spent = { spent_view };
 }
 
-pub type Room = Table<Option<Book>, Knowledge, (Seen<Book>, u32), Lock, Global>;
+pub type BoardTable = Table<Option<Book>, Knowledge, (Seen<Book>, u32), Lock, Global>;
 
 pub type Pass = Seat<Option<Book>, Knowledge>;

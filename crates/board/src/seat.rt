@@ -62,7 +62,10 @@ impl Seat {
         ensures unused { calls_by result.caller.number result.caller.seen ≡ [] }
     {
         let share = self.grant.room / SHARE;
-        let pass = board.room.shared.split_seat::<Shares>(&mut self.grant.pass);
+        let pass = board
+            .table
+            .shared
+            .split_seat::<Shares>(&mut self.grant.pass);
         self.grant.room -= share;
         Seat {
             grant: Grant {

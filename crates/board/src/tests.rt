@@ -1,12 +1,11 @@
 //! What no clause says: worked calls of boards, a full book, and threads at one board.
 
-ghost use Rattle.std.specs.Prelude.{◌≡◌, ◌*◌, ◌<◌, ◌≤◌, ◌^◌, IfSome, OnSome};
+ghost use Rattle.std.specs.Prelude.{◌≡◌, ◌≤◌, ◌^◌, IfSome, OnSome};
 ghost use Rattle.std.specs.List.{All};
 ghost use Rattle.std.specs.Arc.{arc_value};
-ghost use Rattle.ball_model.specs.Job.{IsJob, job_of};
 ghost use Rattle.ball_model.specs.Batches.{IsTrueBatch};
 ghost use Rattle.ball_model.specs.State.{Stands};
-ghost use Rattle.board.specs.Seats.{IsAt};
+ghost use Rattle.board.specs.Scene.{IsSeated};
 
 mod calls;
 mod opened;
@@ -16,16 +15,15 @@ mod threads;
 use super::*;
 use ball_model::{BatchName, CountingReader, Kept, Plan, Posted};
 use batches::Batch;
-use calls::{goes_on_after_refusals, is_full, takes_many};
 use edgelist::{Delimiter, EdgeLimits, Graph, read_edges};
 use replica::{Replica, Shown, Snapshot};
 use std::alloc::Global;
 use std::hash::RandomState;
+use std::marker::Model;
 use std::random::RandomSource;
 use std::sync::{Arc, Wait};
 use std::thread;
 use std::thread::Threads;
-use threads::is_right_crowd;
 
 const TWO_EDGES: &[u8] = b"a\tb\nb\tc\n";
 
@@ -40,13 +38,28 @@ fn graph_of<R: RandomSource>(rt: &R, alloc: Global, text: &[u8]) -> Option<Graph
     read_edges(alloc, state, &mut reader, Delimiter::Tab, limits).ok()
 }
 
-/// The graph of the two edges, and a plan of so many partitions.
-fn job<R: RandomSource>(rt: &R, alloc: Global, parts: u16) -> Option<(Graph, Plan)>
-    ensures { IfSome result (λ r. IsJob (job_of r.0.graph r.1)) }
-{
+/// The graph of the two edges, and a plan: a job.
+#[derive(Drop)]
+struct Setting {
+    graph: Graph,
+    plan: Plan,
+}
+
+impl Model for Setting {
+    ghost use Rattle.ball_model.specs.Job.{Job, IsJob, job_of};
+
+    ghost Value = { Job };
+
+    ghost view = { λ s. job_of s.graph.graph s.plan };
+
+    ghost invariant = { λ s. IsJob (job_of s.graph.graph s.plan) };
+}
+
+/// One of so many partitions.
+fn setting_of<R: RandomSource>(rt: &R, alloc: Global, parts: u16) -> Option<Setting> {
     let graph = graph_of(rt, alloc, TWO_EDGES)?;
     let plan = graph.plan(4, 0, parts, 4096).ok()?;
-    Some((graph, plan))
+    Some(Setting { graph, plan })
 }
 
 /// A value that may be shared.
@@ -64,14 +77,13 @@ fn boxed<T: Drop>(alloc: Global, value: T) -> Option<Box<T>>
 }
 
 /// A replica of a partition at superstep 0. (It is in a box: a function that owns one is checked much faster.)
-fn replica(alloc: Global, graph: &Graph, plan: &Plan, p: u16) -> Option<Box<Replica>>
-    requires { IsJob (job_of graph.now.graph plan.now) }
-    ensures { IfSome result (λ r. Stands (job_of graph.now.graph plan.now) r.value) }
+fn replica(alloc: Global, setting: &Setting, p: u16) -> Option<Box<Replica>>
+    ensures { IfSome result (λ r. Stands setting.now r.value) }
 {
-    if p >= plan.parts() {
+    if p >= setting.plan.parts() {
         return None;
     }
-    let Ok(part) = graph.part(alloc, plan, p) else {
+    let Ok(part) = setting.graph.part(alloc, &setting.plan, p) else {
         return None;
     };
     let shared = share(alloc, part)?;
@@ -82,15 +94,9 @@ fn replica(alloc: Global, graph: &Graph, plan: &Plan, p: u16) -> Option<Box<Repl
 }
 
 /// What a replica tells a partition.
-fn told(
-    alloc: Global,
-    graph: &Graph,
-    plan: &Plan,
-    from: &Replica,
-    target: u16,
-) -> Option<Arc<Batch>>
-    requires { Stands (job_of graph.now.graph plan.now) from.now }
-    ensures { IfSome result (λ a. IsTrueBatch (job_of graph.now.graph plan.now) (arc_value a)) }
+fn told(alloc: Global, setting: &Setting, from: &Replica, target: u16) -> Option<Arc<Batch>>
+    requires { Stands setting.now from.now }
+    ensures { IfSome result (λ a. IsTrueBatch setting.now (arc_value a)) }
 {
     if target >= from.plan().parts() || target == from.partition() {
         return None;
@@ -102,15 +108,9 @@ fn told(
 }
 
 /// What a replica has.
-fn snapshot_of(
-    alloc: Global,
-    graph: &Graph,
-    plan: &Plan,
-    from: &mut Replica,
-) -> Option<Arc<Snapshot>>
-    requires { Stands (job_of graph.now.graph plan.now) from.old }
-    ensures value { IfSome result (λ a. Stands (job_of graph.now.graph plan.now) (arc_value a)) }
-    ensures unchanged { from.new ≡ from.old }
+fn snapshot_of(alloc: Global, setting: &Setting, from: &mut Replica) -> Option<Arc<Snapshot>>
+    requires { Stands setting.now from.old }
+    ensures { IfSome result (λ a. Stands setting.now (arc_value a)) }
 {
     let Ok(snapshot) = from.snapshot(alloc) else {
         return None;
@@ -118,30 +118,19 @@ fn snapshot_of(
     share(alloc, snapshot)
 }
 
-/// What seats post and keep: what partition 0 tells the others, and what it has. And the floor that they raise.
-#[derive(Drop)]
-struct Stock {
-    batches: Vec<Arc<Batch>>,
-    snapshot: Arc<Snapshot>,
-    floor: u32,
-}
-
 /// Adds what a replica tells a partition.
 fn add_batch(
     alloc: Global,
-    graph: &Graph,
-    plan: &Plan,
+    setting: &Setting,
     from: &Replica,
     target: u16,
     batches: &mut Vec<Arc<Batch>>,
 ) -> Option<()>
-    requires from { Stands (job_of graph.now.graph plan.now) from.now }
-    requires batches { All (λ a. IsTrueBatch (job_of graph.now.graph plan.now) (arc_value a))
-        batches.old.items }
-    ensures { OnSome result
-        (All (λ a. IsTrueBatch (job_of graph.now.graph plan.now) (arc_value a)) batches.new.items) }
+    requires from { Stands setting.now from.now }
+    requires batches { All (λ a. IsTrueBatch setting.now (arc_value a)) batches.old.items }
+    ensures { OnSome result (All (λ a. IsTrueBatch setting.now (arc_value a)) batches.new.items) }
 {
-    let batch = told(alloc, graph, plan, from, target)?;
+    let batch = told(alloc, setting, from, target)?;
     let Ok(()) = batches.push(batch) else {
         return None;
     };
@@ -151,295 +140,230 @@ fn add_batch(
 /// Adds what it tells each of four partitions.
 fn add_batches(
     alloc: Global,
-    graph: &Graph,
-    plan: &Plan,
+    setting: &Setting,
     from: &Replica,
     batches: &mut Vec<Arc<Batch>>,
 ) -> Option<()>
-    requires from { Stands (job_of graph.now.graph plan.now) from.now }
-    requires batches { All (λ a. IsTrueBatch (job_of graph.now.graph plan.now) (arc_value a))
-        batches.old.items }
-    ensures { OnSome result
-        (All (λ a. IsTrueBatch (job_of graph.now.graph plan.now) (arc_value a)) batches.new.items) }
+    requires from { Stands setting.now from.now }
+    requires batches { All (λ a. IsTrueBatch setting.now (arc_value a)) batches.old.items }
+    ensures { OnSome result (All (λ a. IsTrueBatch setting.now (arc_value a)) batches.new.items) }
 {
     for target in 1..5u16 {
-        add_batch(alloc, graph, plan, from, target, batches)?;
+        add_batch(alloc, setting, from, target, batches)?;
     }
     Some(())
 }
 
-/// The four batches, and the snapshot.
-fn stock_by(
-    alloc: Global,
-    graph: &Graph,
-    plan: &Plan,
-    from: &mut Replica,
-    floor: u32,
-) -> Option<Stock>
-    requires { Stands (job_of graph.now.graph plan.now) from.old }
-    ensures batches { IfSome result
-        (λ s. All (λ a. IsTrueBatch (job_of graph.now.graph plan.now) (arc_value a))
-        s.batches.items) }
-    ensures snapshot { IfSome result
-        (λ s. Stands (job_of graph.now.graph plan.now) (arc_value s.snapshot)) }
-{
-    let mut batches = Vec::new(alloc);
-    add_batches(alloc, graph, plan, from, &mut batches)?;
-    let snapshot = snapshot_of(alloc, graph, plan, from)?;
+/// A job, and what seats post and keep: what partition 0 tells and is told, and what it has.
+#[derive(Drop)]
+struct Stock {
+    setting: Setting,
+    ours: Vec<Arc<Batch>>,
+    theirs: Vec<Arc<Batch>>,
+    snapshot: Arc<Snapshot>,
+}
+
+impl Model for Stock {
+    ghost use Rattle.std.specs.List.{All};
+    ghost use Rattle.std.specs.Arc.{arc_value};
+    ghost use Rattle.ball_model.specs.Job.{Job};
+    ghost use Rattle.ball_model.specs.Batches.{IsTrueBatch};
+    ghost use Rattle.ball_model.specs.State.{Stands};
+
+    ghost Value = { Job };
+
+    ghost view = { λ s. s.setting };
+
+    ghost invariant = { λ s. All (λ a. IsTrueBatch s.setting (arc_value a)) s.ours.items
+        × All (λ a. IsTrueBatch s.setting (arc_value a)) s.theirs.items
+        × Stands s.setting (arc_value s.snapshot) };
+}
+
+/// What partition 0 tells four others of superstep 0, and has then. It is told nothing.
+fn stock_of_five(alloc: Global, setting: Setting) -> Option<Stock> {
+    let mut first = replica(alloc, &setting, 0)?;
+    let mut ours = Vec::new(alloc);
+    add_batches(alloc, &setting, &first, &mut ours)?;
+    let snapshot = snapshot_of(alloc, &setting, &mut first)?;
     Some(Stock {
-        batches,
+        setting,
+        ours,
+        theirs: Vec::new(alloc),
         snapshot,
-        floor,
     })
 }
 
-/// Those of a new replica.
-fn stock_of(alloc: Global, graph: &Graph, plan: &Plan, floor: u32) -> Option<Stock>
-    requires { IsJob (job_of graph.now.graph plan.now) }
-    ensures batches { IfSome result
-        (λ s. All (λ a. IsTrueBatch (job_of graph.now.graph plan.now) (arc_value a))
-        s.batches.items) }
-    ensures snapshot { IfSome result
-        (λ s. Stands (job_of graph.now.graph plan.now) (arc_value s.snapshot)) }
-{
-    let mut first = replica(alloc, graph, plan, 0)?;
-    stock_by(alloc, graph, plan, &mut first, floor)
+/// A board of a job, what its seats post and keep, and the floor that they raise.
+#[derive(Drop)]
+struct Scene {
+    stock: Stock,
+    board: Board,
+    floor: u32,
 }
 
-/// A seat posts a batch, and has it still.
-fn post<R: Wait>(
-    rt: &R,
-    board: &Board,
-    seat: &mut Seat,
-    graph: &Graph,
-    plan: &Plan,
-    batch: &Arc<Batch>,
-) -> Result<Posted, BoardError>
-    requires board { IsAt board.now seat.old }
-    requires job { seat.old.caller.seen.job ≡ job_of graph.now.graph plan.now }
-    requires batch { IsTrueBatch (job_of graph.now.graph plan.now) (arc_value batch.now) }
-    ensures board { IsAt board.now seat.new }
-    ensures job { seat.new.caller.seen.job ≡ job_of graph.now.graph plan.now }
-    ensures room { seat.new.room ≡ seat.old.room }
-{
-    let Ok(copy) = Arc::try_clone(batch) else {
-        return Err(BoardError::Memory);
-    };
-    board.post(rt, seat, copy)
+impl Model for Scene {
+    ghost use Rattle.board.specs.Scene.{SceneView};
+
+    ghost Value = { SceneView };
+
+    ghost view = { λ s. record { job = s.stock; board = s.board } };
 }
 
-/// A seat keeps a snapshot, and has it still.
-fn keep<R: Wait>(
-    rt: &R,
-    board: &Board,
-    seat: &mut Seat,
-    graph: &Graph,
-    plan: &Plan,
-    snapshot: &Arc<Snapshot>,
-) -> Result<Kept, BoardError>
-    requires board { IsAt board.now seat.old }
-    requires job { seat.old.caller.seen.job ≡ job_of graph.now.graph plan.now }
-    requires snapshot { Stands (job_of graph.now.graph plan.now) (arc_value snapshot.now) }
-    ensures board { IsAt board.now seat.new }
-    ensures job { seat.new.caller.seen.job ≡ job_of graph.now.graph plan.now }
-{
-    let Ok(copy) = Arc::try_clone(snapshot) else {
-        return Err(BoardError::Memory);
-    };
-    board.keep(rt, seat, copy)
-}
-
-/// Whether a batch of this name is fetched.
-fn fetches<R: Wait>(
-    rt: &R,
-    board: &Board,
-    seat: &mut Seat,
-    name: BatchName,
-) -> Result<bool, BoardError>
-    requires board { IsAt board.now seat.old }
-    ensures board { IsAt board.now seat.new }
-    ensures job { seat.new.caller.seen.job ≡ seat.old.caller.seen.job }
-    ensures room { seat.new.room ≡ seat.old.room }
-{
-    match board.fetch(rt, seat, name) {
-        Ok(Some(batch)) => Ok(batch.name() == name),
-        Ok(None) => Ok(false),
-        Err(e) => Err(e),
+impl Scene {
+    /// One with a new board of so many entries, and its first seat.
+    fn open(alloc: Global, stock: Stock, entries: u32, floor: u32) -> Option<(Scene, Seat)>
+        requires { (2 ≤ entries) × (entries ≤ 2 ^ 24) }
+        ensures seat { IfSome result (λ r. IsSeated r.0 r.1) }
+        ensures room { IfSome result (λ r. r.1.room ≡ 2 ^ 63) }
+    {
+        let setting = &stock.setting;
+        let (board, seat) = Board::open(alloc, &setting.graph, &setting.plan, entries).ok()?;
+        let scene = Scene {
+            stock,
+            board,
+            floor,
+        };
+        Some((scene, seat))
     }
-}
 
-/// Whether a snapshot of partition 0 is recalled that is so far.
-fn recalls<R: Wait>(
-    rt: &R,
-    board: &Board,
-    seat: &mut Seat,
-    at_least: u32,
-) -> Result<bool, BoardError>
-    requires board { IsAt board.now seat.old }
-    ensures board { IsAt board.now seat.new }
-    ensures job { seat.new.caller.seen.job ≡ seat.old.caller.seen.job }
-{
-    match board.recall(rt, seat, 0, at_least) {
-        Ok(Some(snapshot)) => Ok(snapshot.superstep() >= at_least),
-        Ok(None) => Ok(false),
-        Err(e) => Err(e),
+    fn board(&self) -> &Board
+        ensures { result.now ≡ self.now.board }
+    {
+        &self.board
     }
-}
 
-/// How many of the batches are New when a seat posts them.
-fn post_all<R: Wait>(
-    rt: &R,
-    board: &Board,
-    seat: &mut Seat,
-    graph: &Graph,
-    plan: &Plan,
-    batches: &[Arc<Batch>],
-) -> usize
-    requires board { IsAt board.now seat.old }
-    requires job { seat.old.caller.seen.job ≡ job_of graph.now.graph plan.now }
-    requires batches { All (λ a. IsTrueBatch (job_of graph.now.graph plan.now) (arc_value a))
-        batches.now }
-    ensures board { IsAt board.now seat.new }
-    ensures job { seat.new.caller.seen.job ≡ job_of graph.now.graph plan.now }
-{
-    let mut news = 0usize;
-    for batch in batches {
-        if post(rt, board, seat, graph, plan, batch) == Ok(Posted::New) {
-            news = news.saturating_add(1);
+    fn ours(&self) -> &[Arc<Batch>]
+        ensures { All (λ a. IsTrueBatch self.now.job (arc_value a)) result.now }
+    {
+        &self.stock.ours
+    }
+
+    fn theirs(&self) -> &[Arc<Batch>]
+        ensures { All (λ a. IsTrueBatch self.now.job (arc_value a)) result.now }
+    {
+        &self.stock.theirs
+    }
+
+    fn snapshot(&self) -> &Arc<Snapshot>
+        ensures { Stands self.now.job (arc_value result.now) }
+    {
+        &self.stock.snapshot
+    }
+
+    /// How many entries there are.
+    fn length(&self, seat: &mut Seat) -> u64
+        requires { IsSeated self.now seat.old }
+        ensures seat { IsSeated self.now seat.new }
+        ensures room { seat.new.room ≡ seat.old.room }
+    {
+        self.board().length(seat)
+    }
+
+    /// A seat posts a batch, and has it still.
+    fn post<R: Wait>(
+        &self,
+        rt: &R,
+        seat: &mut Seat,
+        batch: &Arc<Batch>,
+    ) -> Result<Posted, BoardError>
+        requires seat { IsSeated self.now seat.old }
+        requires batch { IsTrueBatch self.now.job (arc_value batch.now) }
+        ensures { IsSeated self.now seat.new }
+    {
+        let Ok(copy) = Arc::try_clone(batch) else {
+            return Err(BoardError::Memory);
+        };
+        self.board().post(rt, seat, copy)
+    }
+
+    /// A seat keeps the snapshot, and has it still.
+    fn keep<R: Wait>(&self, rt: &R, seat: &mut Seat) -> Result<Kept, BoardError>
+        requires { IsSeated self.now seat.old }
+        ensures { IsSeated self.now seat.new }
+    {
+        let Ok(copy) = Arc::try_clone(self.snapshot()) else {
+            return Err(BoardError::Memory);
+        };
+        self.board().keep(rt, seat, copy)
+    }
+
+    /// Whether a batch of this name is fetched.
+    fn fetches<R: Wait>(&self, rt: &R, seat: &mut Seat, name: BatchName) -> Result<bool, BoardError>
+        requires { IsSeated self.now seat.old }
+        ensures seat { IsSeated self.now seat.new }
+        ensures room { seat.new.room ≡ seat.old.room }
+    {
+        match self.board().fetch(rt, seat, name) {
+            Ok(Some(batch)) => Ok(batch.name() == name),
+            Ok(None) => Ok(false),
+            Err(e) => Err(e),
         }
     }
-    news
-}
 
-/// How many of the batches a seat finds.
-fn find_all<R: Wait>(rt: &R, board: &Board, seat: &mut Seat, batches: &[Arc<Batch>]) -> usize
-    requires board { IsAt board.now seat.old }
-    ensures board { IsAt board.now seat.new }
-    ensures job { seat.new.caller.seen.job ≡ seat.old.caller.seen.job }
-{
-    let mut found = 0usize;
-    for batch in batches {
-        let name = batch.name();
-        if fetches(rt, board, seat, name) == Ok(true) {
-            found = found.saturating_add(1);
+    /// Whether a snapshot of partition 0 is recalled that is so far.
+    fn recalls<R: Wait>(&self, rt: &R, seat: &mut Seat, at_least: u32) -> Result<bool, BoardError>
+        requires { IsSeated self.now seat.old }
+        ensures { IsSeated self.now seat.new }
+    {
+        match self.board().recall(rt, seat, 0, at_least) {
+            Ok(Some(snapshot)) => Ok(snapshot.superstep() >= at_least),
+            Ok(None) => Ok(false),
+            Err(e) => Err(e),
         }
     }
-    found
-}
 
-/// A seat raises the floor.
-fn drop_below<R: Wait>(
-    rt: &R,
-    board: &Board,
-    seat: &mut Seat,
-    superstep: u32,
-) -> Result<(), BoardError>
-    requires board { IsAt board.now seat.old }
-    ensures board { IsAt board.now seat.new }
-    ensures job { seat.new.caller.seen.job ≡ seat.old.caller.seen.job }
-{
-    board.drop_below(rt, seat, superstep)
-}
+    /// A seat raises the floor.
+    fn drop_below<R: Wait>(&self, rt: &R, seat: &mut Seat, superstep: u32) -> Result<(), BoardError>
+        requires { IsSeated self.now seat.old }
+        ensures { IsSeated self.now seat.new }
+    {
+        self.board().drop_below(rt, seat, superstep)
+    }
 
-/// What a board is tried with.
-#[derive(Clone, Copy)]
-enum Case {
-    // so many posts before the other calls
-    Refusals(u8),
-    ManyEntries,
-    Full,
-    // so many others beside the first, and their floor
-    Threads(u8, u32),
-}
-
-impl Case {
-    /// The floor that is raised.
-    fn floor(self) -> u32 {
-        match self {
-            Case::Threads(_, floor) => floor,
-            _ => 0,
+    /// How many of the batches are New when a seat posts them.
+    fn post_all<R: Wait>(&self, rt: &R, seat: &mut Seat, batches: &[Arc<Batch>]) -> usize
+        requires seat { IsSeated self.now seat.old }
+        requires batches { All (λ a. IsTrueBatch self.now.job (arc_value a)) batches.now }
+        ensures { IsSeated self.now seat.new }
+    {
+        let mut news = 0usize;
+        for batch in batches {
+            if self.post(rt, seat, batch) == Ok(Posted::New) {
+                news = news.saturating_add(1);
+            }
         }
+        news
+    }
+
+    /// How many of the batches a seat finds.
+    fn find_all<R: Wait>(&self, rt: &R, seat: &mut Seat, batches: &[Arc<Batch>]) -> usize
+        requires { IsSeated self.now seat.old }
+        ensures { IsSeated self.now seat.new }
+    {
+        let mut found = 0usize;
+        for batch in batches {
+            if self.fetches(rt, seat, batch.name()) == Ok(true) {
+                found = found.saturating_add(1);
+            }
+        }
+        found
     }
 }
 
-/// Whether a new board of so many entries, and its first seat, do right.
-fn does_right<R: Threads + Wait + Sync>(
-    rt: &R,
-    board: &Board,
-    mut seat: Seat,
-    graph: &Graph,
-    plan: &Plan,
-    stock: &Stock,
-    entries: u32,
-    case: Case,
-) -> Option<bool>
-    requires board { IsAt board.now seat }
-    requires job { seat.caller.seen.job ≡ job_of graph.now.graph plan.now }
-    requires room { seat.room ≡ 2 ^ 63 }
-    requires entries { 2 ≤ entries }
-    requires batches { All (λ a. IsTrueBatch (job_of graph.now.graph plan.now) (arc_value a))
-        stock.now.batches.items }
-    requires snapshot { Stands (job_of graph.now.graph plan.now) (arc_value stock.now.snapshot) }
-{
-    match case {
-        Case::Refusals(posts) => {
-            goes_on_after_refusals(rt, board, &mut seat, graph, plan, stock, posts)
-        }
-        Case::ManyEntries => takes_many(rt, board, &mut seat, graph, plan, stock, entries),
-        Case::Full => Some(is_full(rt, board, &mut seat, graph, plan, stock, entries)),
-        Case::Threads(others, _) => {
-            Some(is_right_crowd(rt, board, seat, graph, plan, stock, others))
-        }
-    }
-}
-
-/// Whether a board of a job does right in a case, with what there is in stock.
-fn is_right_with<R: Threads + Wait + Sync>(
-    rt: &R,
-    alloc: Global,
-    graph: &Graph,
-    plan: &Plan,
-    stock: &Stock,
-    entries: u32,
-    case: Case,
-) -> Option<bool>
-    requires job { IsJob (job_of graph.now.graph plan.now) }
-    requires entries { (2 ≤ entries) × (entries ≤ 2 ^ 24) }
-    requires batches { All (λ a. IsTrueBatch (job_of graph.now.graph plan.now) (arc_value a))
-        stock.now.batches.items }
-    requires snapshot { Stands (job_of graph.now.graph plan.now) (arc_value stock.now.snapshot) }
-{
-    let (board, seat) = Board::open(alloc, graph, plan, entries).ok()?;
-    does_right(rt, &board, seat, graph, plan, stock, entries, case)
-}
-
-/// Whether one does, with a new stock.
-fn is_right_at<R: Threads + Wait + Sync>(
-    rt: &R,
-    alloc: Global,
-    graph: &Graph,
-    plan: &Plan,
-    entries: u32,
-    case: Case,
-) -> Option<bool>
-    requires job { IsJob (job_of graph.now.graph plan.now) }
-    requires entries { (2 ≤ entries) × (entries ≤ 2 ^ 24) }
-{
-    let stock = stock_of(alloc, graph, plan, case.floor())?;
-    is_right_with(rt, alloc, graph, plan, &stock, entries, case)
-}
-
-/// Whether a board of so many entries does right in a case: None where memory was refused.
-fn is_right<R: RandomSource + Threads + Wait + Sync>(
+/// A scene of five partitions with a board of so many entries: None where memory was refused.
+fn scene_of_five<R: RandomSource>(
     rt: &R,
     alloc: Global,
     entries: u32,
-    case: Case,
-) -> Option<bool>
+    floor: u32,
+) -> Option<(Scene, Seat)>
     requires { (2 ≤ entries) × (entries ≤ 2 ^ 24) }
+    ensures seat { IfSome result (λ r. IsSeated r.0 r.1) }
+    ensures room { IfSome result (λ r. r.1.room ≡ 2 ^ 63) }
 {
-    let (graph, plan) = job(rt, alloc, 5)?;
-    is_right_at(rt, alloc, &graph, &plan, entries, case)
+    let setting = setting_of(rt, alloc, 5)?;
+    let stock = stock_of_five(alloc, setting)?;
+    Scene::open(alloc, stock, entries, floor)
 }
 
 /// Whether an error has this text: None where memory was refused.

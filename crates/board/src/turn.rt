@@ -9,7 +9,9 @@ ghost use Rattle.board.specs.Turn.{HasNews, IsSameSeat, IsSized, Next};
 ghost use Rattle.board.specs.Inside.{GrantFits, IsTurn, caller_of};
 
 use crate::book::Book;
-use crate::rule::{Counts, Draws, LENGTH, Looks, Pass, Raises, Room, SERVING, TICKETS, Writes};
+use crate::rule::{
+    BoardTable, Counts, Draws, LENGTH, Looks, Pass, Raises, SERVING, TICKETS, Writes,
+};
 use crate::seat::Grant;
 use std::snapshot::Snapshot as Seen;
 use std::sync::Wait;
@@ -19,9 +21,9 @@ use std::{hint, thread};
 const LOOKS: u32 = 64;
 
 /// Looks at the length.
-pub fn count(room: &Room, pass: &mut Pass) -> u64
-    requires room { IsSized room.now.shared.table_id
-        × (pass.old.table_id ≡ room.now.shared.table_id) }
+pub fn look_at_length(table: &BoardTable, pass: &mut Pass) -> u64
+    requires table { IsSized table.now.shared.table_id
+        × (pass.old.table_id ≡ table.now.shared.table_id) }
     requires idle { (pass.old.me.0.stage ≡ 0) × (0 < pass.old.me.0.room) × (pass.old.me.1 ≡ []) }
     ensures same { (pass.new.table_id ≡ pass.old.table_id) × (pass.new.id ≡ pass.old.id) }
     ensures length { result ≡ entries_of pass.new.me.0.seen }
@@ -29,25 +31,25 @@ pub fn count(room: &Room, pass: &mut Pass) -> u64
         × (pass.new.me ≡ (at_look pass.old.me.0 pass.new.me.0.seen, [])) }
     ensures told { HasNews pass.old.me.0 pass.new.me.0.seen }
 {
-    room.shared.load::<Counts>(pass, LENGTH)
+    table.shared.load::<Counts>(pass, LENGTH)
 }
 
 // Draws a ticket.
-fn draw(room: &Room, pass: &mut Pass) -> u64
-    requires room { IsSized room.now.shared.table_id
-        × (pass.old.table_id ≡ room.now.shared.table_id) }
+fn draw(table: &BoardTable, pass: &mut Pass) -> u64
+    requires table { IsSized table.now.shared.table_id
+        × (pass.old.table_id ≡ table.now.shared.table_id) }
     requires idle { (pass.old.me.0.stage ≡ 0) × (0 < pass.old.me.0.room) × (pass.old.me.1 ≡ []) }
     ensures same { (pass.new.table_id ≡ pass.old.table_id) × (pass.new.id ≡ pass.old.id) }
     ensures drew { pass.new.me ≡ (with_ticket pass.old.me.0 pass.new.me.0.ticket, []) }
     ensures ticket { result ≡ pass.new.me.0.ticket % 2 ^ 64 }
 {
-    room.shared.fetch_add::<Draws>(pass, TICKETS, 1)
+    table.shared.fetch_add::<Draws>(pass, TICKETS, 1)
 }
 
 // Waits until it is the seat's turn.
-fn wait<R: Wait>(rt: &R, room: &Room, pass: &mut Pass, ticket: u64)
-    requires room { IsSized room.now.shared.table_id
-        × (pass.old.table_id ≡ room.now.shared.table_id) }
+fn wait<R: Wait>(rt: &R, table: &BoardTable, pass: &mut Pass, ticket: u64)
+    requires table { IsSized table.now.shared.table_id
+        × (pass.old.table_id ≡ table.now.shared.table_id) }
     requires waits { (pass.old.me.0.stage ≡ 1) × (pass.old.me.1 ≡ [])
         × (ticket ≡ pass.old.me.0.ticket % 2 ^ 64) }
     ensures same { (pass.new.table_id ≡ pass.old.table_id) × (pass.new.id ≡ pass.old.id) }
@@ -57,7 +59,7 @@ fn wait<R: Wait>(rt: &R, room: &Room, pass: &mut Pass, ticket: u64)
 {
     let mut looks = 0;
     for _ in rt.forever() {
-        if room.shared.load::<Looks>(pass, SERVING) == ticket {
+        if table.shared.load::<Looks>(pass, SERVING) == ticket {
             return;
         }
         looks = pause(looks);
@@ -76,18 +78,18 @@ fn pause(looks: u32) -> u32 {
 }
 
 // Takes the book, once it is the seat's turn.
-fn take_book<R: Wait>(rt: &R, room: &Room, pass: &mut Pass) -> Book
-    requires room { IsSized room.now.shared.table_id
-        × (pass.old.table_id ≡ room.now.shared.table_id) }
+fn take_book<R: Wait>(rt: &R, table: &BoardTable, pass: &mut Pass) -> Book
+    requires table { IsSized table.now.shared.table_id
+        × (pass.old.table_id ≡ table.now.shared.table_id) }
     requires idle { (pass.old.me.0.stage ≡ 0) × (0 < pass.old.me.0.room) × (pass.old.me.1 ≡ []) }
     ensures same { (pass.new.table_id ≡ pass.old.table_id) × (pass.new.id ≡ pass.old.id) }
     ensures kept { IsSameSeat pass.old.me.0 pass.new.me.0 }
     ensures turn { (pass.new.me.0.stage ≡ 2) × (pass.new.me.1 ≡ (0, None) ∷ []) }
     ensures book { (result ≡ pass.new.me.0.seen) × GoesOn pass.old.me.0 result }
 {
-    let ticket = draw(room, pass);
-    wait(rt, room, pass, ticket);
-    let Some(book) = room.shared.exchange(pass, 0, None) else {
+    let ticket = draw(table, pass);
+    wait(rt, table, pass, ticket);
+    let Some(book) = table.shared.exchange(pass, 0, None) else {
         unreachable!()
     };
     book
@@ -97,18 +99,18 @@ fn take_book<R: Wait>(rt: &R, room: &Room, pass: &mut Pass) -> Book
 //
 // The book is put into the slot before the length is written; no other seat can reach it there until `serving` is
 // raised, which is the last step.
-fn give_book(room: &Room, pass: &mut Pass, book: Book)
-    requires room { IsSized room.now.shared.table_id
-        × (pass.old.table_id ≡ room.now.shared.table_id) }
+fn give_book(table: &BoardTable, pass: &mut Pass, book: Book)
+    requires table { IsSized table.now.shared.table_id
+        × (pass.old.table_id ≡ table.now.shared.table_id) }
     requires turn { (pass.old.me.0.stage ≡ 2) × (pass.old.me.1 ≡ (0, None) ∷ []) }
     requires next { Next pass.old.me.0 book }
     ensures same { (pass.new.table_id ≡ pass.old.table_id) × (pass.new.id ≡ pass.old.id) }
     ensures given { pass.new.me ≡ (after_turn (at_turn pass.old.me.0 book), []) }
 {
     let length = u64::from(book.entries());
-    let _left = room.shared.exchange(pass, 0, Some(book));
-    room.shared.store::<Writes>(pass, LENGTH, length);
-    room.shared.fetch_add::<Raises>(pass, SERVING, 1);
+    let _left = table.shared.exchange(pass, 0, Some(book));
+    table.shared.store::<Writes>(pass, LENGTH, length);
+    table.shared.fetch_add::<Raises>(pass, SERVING, 1);
 }
 
 /// A call's turn: what was granted to the seat, the book as it was found, and the book.
@@ -121,24 +123,24 @@ pub struct Turn {
 
 impl Turn {
     /// Takes the book, once it is the seat's turn.
-    pub fn take<R: Wait>(rt: &R, room: &Room, grant: &mut Grant) -> Turn
-        requires room { IsSized room.now.shared.table_id
-            × (grant.old.pass.table_id ≡ room.now.shared.table_id) }
+    pub fn take<R: Wait>(rt: &R, table: &BoardTable, grant: &mut Grant) -> Turn
+        requires table { IsSized table.now.shared.table_id
+            × (grant.old.pass.table_id ≡ table.now.shared.table_id) }
         requires fits { GrantFits grant.old }
         ensures turn { IsTurn grant.old grant.new result.found.value }
         ensures was { result.was.value ≡ grant.old }
         ensures book { result.book ≡ result.found.value }
     {
         let was = Seen::of(&*grant);
-        let book = take_book(rt, room, &mut grant.pass);
+        let book = take_book(rt, table, &mut grant.pass);
         let found = Seen::of(&book);
         Turn { was, found, book }
     }
 
     /// Gives the book back, and lets the next caller in: the seat has made the calls that were noted.
-    pub fn give(self, room: &Room, grant: &mut Grant)
-        requires room { IsSized room.now.shared.table_id
-            × (grant.old.pass.table_id ≡ room.now.shared.table_id) }
+    pub fn give(self, table: &BoardTable, grant: &mut Grant)
+        requires table { IsSized table.now.shared.table_id
+            × (grant.old.pass.table_id ≡ table.now.shared.table_id) }
         requires turn { IsTurn self.was.value grant.old self.found.value }
         requires next { IsNext self.was.value.pass.me.0.limit self.was.value.number
             self.found.value self.book }
@@ -152,6 +154,6 @@ impl Turn {
             self.found.value self.book →
             Called (caller_of self.was.value) e (caller_of grant.new) }
     {
-        give_book(room, &mut grant.pass, self.book);
+        give_book(table, &mut grant.pass, self.book);
     }
 }

@@ -1,12 +1,10 @@
 //! Calls of one caller, and of seats that are split and joined.
 
-ghost use Rattle.std.specs.Prelude.{◌≡◌, ◌*◌, ◌<◌, ◌≤◌, ◌^◌};
+ghost use Rattle.std.specs.Prelude.{◌≡◌, ◌≤◌, ◌^◌};
 ghost use Rattle.std.specs.List.{All};
 ghost use Rattle.std.specs.Arc.{arc_value};
-ghost use Rattle.ball_model.specs.Job.{IsJob, job_of};
 ghost use Rattle.ball_model.specs.Batches.{IsTrueBatch};
-ghost use Rattle.ball_model.specs.State.{Stands};
-ghost use Rattle.board.specs.Seats.{IsAt};
+ghost use Rattle.board.specs.Scene.{IsSeated};
 
 use super::*;
 
@@ -55,122 +53,93 @@ fn is<T: PartialEq + Drop>(answer: Result<T, BoardError>, wanted: T) -> Result<b
 /// Whether a seat's call is answered so.
 fn is_answered<R: Wait>(
     rt: &R,
-    board: &Board,
+    scene: &Scene,
     seat: &mut Seat,
-    graph: &Graph,
-    plan: &Plan,
     batch: &Arc<Batch>,
-    snapshot: &Arc<Snapshot>,
     step: Step,
 ) -> Result<bool, BoardError>
-    requires board { IsAt board.now seat.old }
-    requires job { seat.old.caller.seen.job ≡ job_of graph.now.graph plan.now }
-    requires batch { IsTrueBatch (job_of graph.now.graph plan.now) (arc_value batch.now) }
-    requires snapshot { Stands (job_of graph.now.graph plan.now) (arc_value snapshot.now) }
-    ensures board { IsAt board.now seat.new }
-    ensures job { seat.new.caller.seen.job ≡ job_of graph.now.graph plan.now }
+    requires seat { IsSeated scene.now seat.old }
+    requires batch { IsTrueBatch scene.now.job (arc_value batch.now) }
+    ensures { IsSeated scene.now seat.new }
 {
     match step {
-        Step::Post(wanted) => is(post(rt, board, seat, graph, plan, batch), wanted),
-        Step::Fetch(wanted) => is(fetches(rt, board, seat, batch.name()), wanted),
-        Step::Keep(wanted) => is(keep(rt, board, seat, graph, plan, snapshot), wanted),
-        Step::Recall(at_least, wanted) => is(recalls(rt, board, seat, at_least), wanted),
-        Step::Drop(superstep) => is(drop_below(rt, board, seat, superstep), ()),
+        Step::Post(wanted) => is(scene.post(rt, seat, batch), wanted),
+        Step::Fetch(wanted) => is(scene.fetches(rt, seat, batch.name()), wanted),
+        Step::Keep(wanted) => is(scene.keep(rt, seat), wanted),
+        Step::Recall(at_least, wanted) => is(scene.recalls(rt, seat, at_least), wanted),
+        Step::Drop(superstep) => is(scene.drop_below(rt, seat, superstep), ()),
     }
 }
 
 /// The same; where memory is refused, no entry is added, and the call that is made again is answered.
 fn is_answered_again<R: Wait>(
     rt: &R,
-    board: &Board,
+    scene: &Scene,
     seat: &mut Seat,
-    graph: &Graph,
-    plan: &Plan,
     batch: &Arc<Batch>,
-    snapshot: &Arc<Snapshot>,
     step: Step,
 ) -> bool
-    requires board { IsAt board.now seat.old }
-    requires job { seat.old.caller.seen.job ≡ job_of graph.now.graph plan.now }
-    requires batch { IsTrueBatch (job_of graph.now.graph plan.now) (arc_value batch.now) }
-    requires snapshot { Stands (job_of graph.now.graph plan.now) (arc_value snapshot.now) }
-    ensures board { IsAt board.now seat.new }
-    ensures job { seat.new.caller.seen.job ≡ job_of graph.now.graph plan.now }
+    requires seat { IsSeated scene.now seat.old }
+    requires batch { IsTrueBatch scene.now.job (arc_value batch.now) }
+    ensures { IsSeated scene.now seat.new }
 {
-    let before = board.length(seat);
-    let first = is_answered(rt, board, seat, graph, plan, batch, snapshot, step);
+    let before = scene.length(seat);
+    let first = is_answered(rt, scene, seat, batch, step);
     if first != Err(BoardError::Memory) {
         return first == Ok(true);
     }
-    let after = board.length(seat);
-    let second = is_answered(rt, board, seat, graph, plan, batch, snapshot, step);
+    let after = scene.length(seat);
+    let second = is_answered(rt, scene, seat, batch, step);
     after == before && second == Ok(true)
 }
 
 /// Whether all of these steps are answered so.
 fn are_answered<R: Wait>(
     rt: &R,
-    board: &Board,
+    scene: &Scene,
     seat: &mut Seat,
-    graph: &Graph,
-    plan: &Plan,
     batch: &Arc<Batch>,
-    snapshot: &Arc<Snapshot>,
     steps: &[Step],
 ) -> bool
-    requires board { IsAt board.now seat.old }
-    requires job { seat.old.caller.seen.job ≡ job_of graph.now.graph plan.now }
-    requires batch { IsTrueBatch (job_of graph.now.graph plan.now) (arc_value batch.now) }
-    requires snapshot { Stands (job_of graph.now.graph plan.now) (arc_value snapshot.now) }
-    ensures board { IsAt board.now seat.new }
-    ensures job { seat.new.caller.seen.job ≡ job_of graph.now.graph plan.now }
+    requires seat { IsSeated scene.now seat.old }
+    requires batch { IsTrueBatch scene.now.job (arc_value batch.now) }
+    ensures { IsSeated scene.now seat.new }
 {
     let mut all = true;
     for step in steps {
-        all &= is_answered_again(rt, board, seat, graph, plan, batch, snapshot, *step);
+        all &= is_answered_again(rt, scene, seat, batch, *step);
     }
     all
 }
 
 /// Whether a seat that is split off is answered so behind so many posts, whatever memory is refused, and the first one
 /// knows once it is joined. Of nine calls two find nothing.
-pub(super) fn goes_on_after_refusals<R: Wait>(
+fn goes_on_after_refusals<R: Wait>(
     rt: &R,
-    board: &Board,
+    scene: &Scene,
     seat: &mut Seat,
-    graph: &Graph,
-    plan: &Plan,
-    stock: &Stock,
     posts: u8,
 ) -> Option<bool>
-    requires board { IsAt board.now seat.old }
-    requires job { seat.old.caller.seen.job ≡ job_of graph.now.graph plan.now }
+    requires seat { IsSeated scene.now seat.old }
     requires room { 1024 ≤ seat.old.room }
-    requires batches { All (λ a. IsTrueBatch (job_of graph.now.graph plan.now) (arc_value a))
-        stock.now.batches.items }
-    requires snapshot { Stands (job_of graph.now.graph plan.now) (arc_value stock.now.snapshot) }
 {
-    let batch = stock.batches.first()?;
+    let batch = scene.ours().first()?;
     let first = POSTS.get(..usize::from(posts))?;
-    let snapshot = &stock.snapshot;
-    let mut other = seat.split(board);
-    let posted = are_answered(rt, board, &mut other, graph, plan, batch, snapshot, first);
-    let right = are_answered(rt, board, &mut other, graph, plan, batch, snapshot, &STEPS);
-    board.join(seat, other);
-    Some(posted && right && board.length(seat) == 8 + u64::from(posts))
+    let mut other = seat.split(scene.board());
+    let posted = are_answered(rt, scene, &mut other, batch, first);
+    let right = are_answered(rt, scene, &mut other, batch, &STEPS);
+    scene.board().join(seat, other);
+    Some(posted && right && scene.board().length(seat) == 8 + u64::from(posts))
 }
 
 /// Whether it is so at a new board.
-fn refusals<R: RandomSource + Threads + Wait + Sync>(
-    rt: &R,
-    alloc: Global,
-    posts: u8,
-) -> Option<bool> {
-    is_right(rt, alloc, 16, Case::Refusals(posts))
+fn refusals<R: RandomSource + Wait>(rt: &R, alloc: Global, posts: u8) -> Option<bool> {
+    let (scene, mut seat) = scene_of_five(rt, alloc, 16, 0)?;
+    goes_on_after_refusals(rt, &scene, &mut seat, posts)
 }
 
 /// Whether it is so behind one to four posts. Where memory is refused before the first call, all is done again.
-fn all_go_on<R: RandomSource + Threads + Wait + Sync>(rt: &R, alloc: Global) -> bool {
+fn all_go_on<R: RandomSource + Wait>(rt: &R, alloc: Global) -> bool {
     let mut all = true;
     for posts in 1..5 {
         all &= refusals(rt, alloc, posts).or(refusals(rt, alloc, posts)) == Some(true);
@@ -184,196 +153,127 @@ fn calls_where_memory_is_refused(rt: HostRuntime) {
     assert!(rt; all_go_on(&rt, rt.alloc()));
 }
 
-/// How many of so many posts of one batch are answered Known.
-fn post_often<R: Wait>(
-    rt: &R,
-    board: &Board,
-    seat: &mut Seat,
-    graph: &Graph,
-    plan: &Plan,
-    batch: &Arc<Batch>,
-    times: u32,
-) -> u32
-    requires board { IsAt board.now seat.old }
-    requires job { seat.old.caller.seen.job ≡ job_of graph.now.graph plan.now }
-    requires batch { IsTrueBatch (job_of graph.now.graph plan.now) (arc_value batch.now) }
-    ensures board { IsAt board.now seat.new }
+/// Whether as many posts of one batch as the board may have entries fill it: the first is New, and the last is refused.
+fn takes_many<R: Wait>(rt: &R, scene: &Scene, seat: &mut Seat, entries: u32) -> Option<bool>
+    requires seat { IsSeated scene.now seat.old }
+    requires entries { 2 ≤ entries }
 {
+    let batch = scene.ours().first()?;
     let mut known = 0u32;
-    for _ in 0..times {
-        if post(rt, board, seat, graph, plan, batch) == Ok(Posted::Known) {
+    for _ in 0..entries {
+        if scene.post(rt, seat, batch) == Ok(Posted::Known) {
             known = known.saturating_add(1);
         }
     }
-    known
+    Some(known == entries - 2 && scene.length(seat) == u64::from(entries))
 }
 
-/// Whether as many posts of one batch as the board may have entries fill it: the first is New, and the last is refused.
-pub(super) fn takes_many<R: Wait>(
-    rt: &R,
-    board: &Board,
-    seat: &mut Seat,
-    graph: &Graph,
-    plan: &Plan,
-    stock: &Stock,
-    entries: u32,
-) -> Option<bool>
-    requires board { IsAt board.now seat.old }
-    requires job { seat.old.caller.seen.job ≡ job_of graph.now.graph plan.now }
-    requires entries { 2 ≤ entries }
-    requires batches { All (λ a. IsTrueBatch (job_of graph.now.graph plan.now) (arc_value a))
-        stock.now.batches.items }
+/// Whether it is so at a new board.
+fn many<R: RandomSource + Wait>(rt: &R, alloc: Global, entries: u32) -> Option<bool>
+    requires { (2 ≤ entries) × (entries ≤ 2 ^ 24) }
 {
-    let batch = stock.batches.first()?;
-    let known = post_often(rt, board, seat, graph, plan, batch, entries);
-    Some(known == entries - 2 && board.length(seat) == u64::from(entries))
+    let (scene, mut seat) = scene_of_five(rt, alloc, entries, 0)?;
+    takes_many(rt, &scene, &mut seat, entries)
 }
 
 #[test]
 fn board_of_three_thousand_entries(rt: HostRuntime) {
-    assert!(rt; is_right(&rt, rt.alloc(), 3000, Case::ManyEntries) == Some(true));
+    assert!(rt; many(&rt, rt.alloc(), 3000) == Some(true));
 }
 
-/// What a post is answered where there is room for so many entries more.
-fn wanted_post(reply: Posted, room: usize) -> Result<Posted, BoardError> {
-    if room > 0 {
+/// What a post is answered where so many entries more are free.
+fn wanted_post(reply: Posted, free: usize) -> Result<Posted, BoardError> {
+    if free > 0 {
         Ok(reply)
     } else {
         Err(BoardError::BookFull)
     }
 }
 
-/// Whether a seat's posts are answered so, where there is room for so many entries at first.
-fn posts_to<R: Wait>(
-    rt: &R,
-    board: &Board,
-    seat: &mut Seat,
-    graph: &Graph,
-    plan: &Plan,
-    batches: &[Arc<Batch>],
-    reply: Posted,
-    room: usize,
-) -> bool
-    requires board { IsAt board.now seat.old }
-    requires job { seat.old.caller.seen.job ≡ job_of graph.now.graph plan.now }
-    requires batches { All (λ a. IsTrueBatch (job_of graph.now.graph plan.now) (arc_value a))
-        batches.now }
-    ensures board { IsAt board.now seat.new }
-    ensures job { seat.new.caller.seen.job ≡ job_of graph.now.graph plan.now }
+/// Whether a seat's posts are answered so, where so many entries are free at first.
+fn posts_to<R: Wait>(rt: &R, scene: &Scene, seat: &mut Seat, reply: Posted, mut free: usize) -> bool
+    requires { IsSeated scene.now seat.old }
+    ensures { IsSeated scene.now seat.new }
 {
     let mut right = true;
-    let mut left = room;
-    for batch in batches {
-        let answer = post(rt, board, seat, graph, plan, batch);
-        right &= answer == wanted_post(reply, left);
-        left = left.saturating_sub(1);
+    for batch in scene.ours() {
+        right &= scene.post(rt, seat, batch) == wanted_post(reply, free);
+        free = free.saturating_sub(1);
     }
     right
 }
 
-/// What a fetch is answered, by whether the name stands, where there is room for so many entries more.
-fn wanted_fetch(stands: bool, room: usize) -> Result<bool, BoardError> {
-    if stands && room == 0 {
+/// What a fetch is answered, by whether the name stands, where so many entries more are free.
+fn wanted_fetch(stands: bool, free: usize) -> Result<bool, BoardError> {
+    if stands && free == 0 {
         Err(BoardError::BookFull)
     } else {
         Ok(stands)
     }
 }
 
-/// Whether a seat's fetches are answered so, where the first `posted` batches stand.
+/// Whether a seat's fetches are answered so, where the first `standing` batches stand.
 fn fetches_to<R: Wait>(
     rt: &R,
-    board: &Board,
+    scene: &Scene,
     seat: &mut Seat,
-    batches: &[Arc<Batch>],
-    posted: usize,
-    room: usize,
+    mut standing: usize,
+    mut free: usize,
 ) -> bool
-    requires board { IsAt board.now seat.old }
-    ensures board { IsAt board.now seat.new }
-    ensures job { seat.new.caller.seen.job ≡ seat.old.caller.seen.job }
+    requires { IsSeated scene.now seat.old }
+    ensures { IsSeated scene.now seat.new }
 {
     let mut right = true;
-    let mut standing = posted;
-    let mut left = room;
-    for batch in batches {
-        let answer = fetches(rt, board, seat, batch.name());
-        right &= answer == wanted_fetch(standing > 0, left);
+    for batch in scene.ours() {
+        right &= scene.fetches(rt, seat, batch.name()) == wanted_fetch(standing > 0, free);
         standing = standing.saturating_sub(1);
-        left = left.saturating_sub(1);
+        free = free.saturating_sub(1);
     }
     right
 }
 
-/// Whether a board with room for so many entries more answers two seats up to them, and then no more: each posts the four
-/// batches, then each fetches them, and the second raises a floor.
-fn both_fill<R: Wait>(
-    rt: &R,
-    board: &Board,
-    seat: &mut Seat,
-    other: &mut Seat,
-    graph: &Graph,
-    plan: &Plan,
-    batches: &[Arc<Batch>],
-    room: usize,
-) -> bool
-    requires board { IsAt board.now seat.old }
-    requires other { IsAt board.now other.old }
-    requires job { seat.old.caller.seen.job ≡ job_of graph.now.graph plan.now }
-    requires same { other.old.caller.seen.job ≡ job_of graph.now.graph plan.now }
-    requires batches { All (λ a. IsTrueBatch (job_of graph.now.graph plan.now) (arc_value a))
-        batches.now }
-    ensures board { IsAt board.now seat.new }
-    ensures other { IsAt board.now other.new }
+/// Whether a board with so many free entries answers two seats up to them, and then no more: each posts the four batches,
+/// then each fetches them, and the second raises a floor.
+fn both_fill<R: Wait>(rt: &R, scene: &Scene, seat: &mut Seat, other: &mut Seat, free: usize) -> bool
+    requires seat { IsSeated scene.now seat.old }
+    requires other { IsSeated scene.now other.old }
+    ensures seat { IsSeated scene.now seat.new }
+    ensures other { IsSeated scene.now other.new }
 {
-    let left = room.saturating_sub(4);
-    let new = posts_to(rt, board, seat, graph, plan, batches, Posted::New, room);
-    let known = posts_to(rt, board, other, graph, plan, batches, Posted::Known, left);
-    let first = fetches_to(rt, board, seat, batches, room, room.saturating_sub(8));
-    let second = fetches_to(rt, board, other, batches, room, room.saturating_sub(12));
-    let full = drop_below(rt, board, other, 0) == Err(BoardError::BookFull);
-    new && known && first && second && full == (room < 17)
+    let new = posts_to(rt, scene, seat, Posted::New, free);
+    let known = posts_to(rt, scene, other, Posted::Known, free.saturating_sub(4));
+    let first = fetches_to(rt, scene, seat, free, free.saturating_sub(8));
+    let second = fetches_to(rt, scene, other, free, free.saturating_sub(12));
+    let full = scene.drop_below(rt, other, 0) == Err(BoardError::BookFull);
+    new && known && first && second && full == (free < 17)
 }
 
 /// Whether it does, and both know of the length then.
-pub(super) fn is_full<R: Wait>(
-    rt: &R,
-    board: &Board,
-    seat: &mut Seat,
-    graph: &Graph,
-    plan: &Plan,
-    stock: &Stock,
-    entries: u32,
-) -> bool
-    requires board { IsAt board.now seat.old }
-    requires job { seat.old.caller.seen.job ≡ job_of graph.now.graph plan.now }
+fn is_full<R: Wait>(rt: &R, scene: &Scene, seat: &mut Seat, entries: u32) -> bool
+    requires seat { IsSeated scene.now seat.old }
     requires entries { 2 ≤ entries }
     requires room { 1024 ≤ seat.old.room }
-    requires batches { All (λ a. IsTrueBatch (job_of graph.now.graph plan.now) (arc_value a))
-        stock.now.batches.items }
 {
-    let mut other = seat.split(board);
-    let room = entries as usize - 1;
-    let filled = both_fill(
-        rt,
-        board,
-        seat,
-        &mut other,
-        graph,
-        plan,
-        &stock.batches,
-        room,
-    );
-    let first = board.length(seat);
-    let second = board.length(&mut other);
+    let mut other = seat.split(scene.board());
+    let filled = both_fill(rt, scene, seat, &mut other, entries as usize - 1);
+    let first = scene.length(seat);
+    let second = scene.length(&mut other);
     filled && first == second && first == u64::from(entries)
 }
 
+/// Whether it is so at a new board: None where memory was refused.
+fn full<R: RandomSource + Wait>(rt: &R, alloc: Global, entries: u32) -> Option<bool>
+    requires { (2 ≤ entries) × (entries ≤ 2 ^ 24) }
+{
+    let (scene, mut seat) = scene_of_five(rt, alloc, entries, 0)?;
+    Some(is_full(rt, &scene, &mut seat, entries))
+}
+
 /// Whether a board fills up so at each number of entries from 2 to 18.
-fn all_fill_up<R: RandomSource + Threads + Wait + Sync>(rt: &R, alloc: Global) -> bool {
+fn all_fill_up<R: RandomSource + Wait>(rt: &R, alloc: Global) -> bool {
     let mut all = true;
     for entries in 2..19 {
-        all &= is_right(rt, alloc, entries, Case::Full) == Some(true);
+        all &= full(rt, alloc, entries) == Some(true);
     }
     all
 }

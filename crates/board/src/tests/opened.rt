@@ -1,22 +1,18 @@
 //! Boards that are opened where memory is refused. A run of this test can refuse any one growth: then a board that is not
 //! opened is opened when that is done again.
 
-ghost use Rattle.ball_model.specs.Job.{IsJob, job_of};
-
 use super::*;
 
 /// The length of a new board: None where memory is refused.
-fn opened(alloc: Global, graph: &Graph, plan: &Plan) -> Option<u64>
-    requires { IsJob (job_of graph.now.graph plan.now) }
-{
-    let (board, mut seat) = Board::open(alloc, graph, plan, 8).ok()?;
+fn opened(alloc: Global, setting: &Setting) -> Option<u64> {
+    let (board, mut seat) = Board::open(alloc, &setting.graph, &setting.plan, 8).ok()?;
     Some(board.length(&mut seat))
 }
 
 /// The same of one for the job.
 fn opened_there(rt: &HostRuntime) -> Option<u64> {
-    let (graph, plan) = job(rt, rt.alloc(), 5)?;
-    opened(rt.alloc(), &graph, &plan)
+    let setting = setting_of(rt, rt.alloc(), 5)?;
+    opened(rt.alloc(), &setting)
 }
 
 #[test]

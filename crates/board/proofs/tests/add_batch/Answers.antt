@@ -8,5 +8,5 @@ use Rattle.board.proofs.tests.add_batch.Goals as goal
 
 pub returns : goal.returns
 returns c =
-    let j : Job = record { graph = c.args.graph.now.graph; plan = c.args.plan.now } in
+    let j : Job = c.args.setting.now in
     subst (All (λ a. IsTrueBatch j (arc_value a))) (sym c.in-Ok.ensures.items) (All-push (λ a. IsTrueBatch j (arc_value a)) _ _ c.requires.batches c.in_ok-batch.ensures)

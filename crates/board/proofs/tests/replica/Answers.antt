@@ -1,13 +1,14 @@
 use Rattle.std.proofs.Common.{◌∙◌, ◌<◌, sym, subst, arith}
 use Rattle.std.proofs.lemmas.Option.{IfSome_then}
 use Rattle.std.proofs.lemmas.Bool.Decides.{nat_tests}
-use Rattle.ball_model.specs.Job.{Job}
+use Rattle.ball_model.specs.Job.{Job, job_of}
 use Rattle.ball_model.specs.State.{Stands}
 use Rattle.board.proofs.TestLemmas.{stands_self}
 use Rattle.board.proofs.tests.replica.Goals as goal
 
 pub returns : goal.returns
 returns c =
-    let j : Job = record { graph = c.args.graph.now.graph; plan = c.args.plan.now } in
-    let below : c.args.p < c.args.plan.now.parts = grind (arith, nat_tests, c.if-p-parts.false, c.parts.ensures.value) in
-    IfSome_then c.boxed.result c.boxed.ensures (λ b same. subst (Stands j) (sym same) (stands_self j c.args.p 0 _ (c.in-Ok-new.ensures.stands j c.args.p c.requires below (c.in_ok-shared.ensures ∙ c.in-Ok.ensures))))
+    let i = c.setting.inside in
+    let j : Job = job_of i.graph.graph i.plan in
+    let below : c.args.p < i.plan.parts = grind (arith, nat_tests, c.if-p-parts.false, c.parts.ensures.value) in
+    IfSome_then c.boxed.result c.boxed.ensures (λ b same. subst (λ (k : Job). Stands k b.value) c.setting.view_is (subst (Stands j) (sym same) (stands_self j c.args.p 0 _ (c.in-Ok-new.ensures.stands j c.args.p c.setting.invariant below (c.in_ok-shared.ensures ∙ c.in-Ok.ensures)))))

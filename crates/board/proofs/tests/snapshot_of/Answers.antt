@@ -4,7 +4,7 @@ use Rattle.ball_model.specs.Job.{Job}
 use Rattle.ball_model.specs.State.{Stands}
 use Rattle.board.proofs.tests.snapshot_of.Goals as goal
 
-pub returns-clause-value : goal.returns-clause-value
-returns-clause-value c =
-    let j : Job = record { graph = c.args.graph.now.graph; plan = c.args.plan.now } in
+pub returns : goal.returns
+returns c =
+    let j : Job = c.args.setting.now in
     IfSome_then c.share.result c.share.ensures (λ a same. subst (Stands j) (sym (same ∙ c.in-Ok.ensures.same)) c.requires)

@@ -2,10 +2,10 @@ use Rattle.std.proofs.Common.{◌≡◌, sym, subst}
 use Rattle.std.proofs.lemmas.Option.{IfSome_then}
 use Rattle.ball_model.specs.Job.{Job}
 use Rattle.ball_model.specs.Batches.{BatchValue, true_batch}
-use Rattle.replica.proofs.KeptLemmas.{true_named}
+use Rattle.replica.proofs.KeptLemmas.Kept.{true_named}
 use Rattle.board.proofs.tests.told.Goals as goal
 
 pub returns : goal.returns
 returns c =
-    let j : Job = record { graph = c.args.graph.now.graph; plan = c.args.plan.now } in
+    let j : Job = c.args.setting.now in
     IfSome_then c.share.result c.share.ensures (λ a same. subst (λ (b : BatchValue). b ≡ true_batch j b.name) (sym same) (true_named j _ _ (c.in-Ok.ensures.stands j _ _ c.requires)))

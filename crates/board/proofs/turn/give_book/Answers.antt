@@ -10,7 +10,7 @@ pub store-requires : goal.store-requires
 store-requires c =
     let x = c.exchange-left.ensures in
     let has : c.exchange-left.new.seat.me ≡ (c.args.pass.now.me.0, (0, Some c.args.book) ∷ []) = x.3 ∙ ap (λ (xs : List (ℕ × Option History)). (c.args.pass.now.me.0, (0, Some c.args.book) ∷ rest xs)) c.requires.turn.1 in
-    (x.0 ∙ c.requires.room.1, omega (arith, c.requires.room.0.0), writes_at _ _ _ c.args.pass.now.me.0 c.args.book _ has (c.from-length.ensures ∙ c.entries.ensures.entries) c.requires.turn.0 c.requires.next)
+    (x.0 ∙ c.requires.table.1, omega (arith, c.requires.table.0.0), writes_at _ _ _ c.args.pass.now.me.0 c.args.book _ has (c.from-length.ensures ∙ c.entries.ensures.entries) c.requires.turn.0 c.requires.next)
 
 pub fetch_add-requires : goal.fetch_add-requires
 fetch_add-requires c =
@@ -19,4 +19,4 @@ fetch_add-requires c =
     let has : c.exchange-left.new.seat.me ≡ (c.args.pass.now.me.0, (0, Some c.args.book) ∷ []) = x.3 ∙ ap (λ (xs : List (ℕ × Option History)). (c.args.pass.now.me.0, (0, Some c.args.book) ∷ rest xs)) c.requires.turn.1 in
     let wrote : c.store.new.seat.me ≡ (at_turn c.args.pass.now.me.0 c.args.book, (0, Some c.args.book) ∷ []) =
     s.2 c.args.book (ap (λ (m : Me (Option History) View). m.1) has) ∙ ap (λ (m : Me (Option History) View). (at_turn m.0 c.args.book, m.1)) has in
-    (s.0 ∙ (x.0 ∙ c.requires.room.1), omega (arith, c.requires.room.0.0), raises_at _ _ _ (at_turn c.args.pass.now.me.0 c.args.book) wrote refl)
+    (s.0 ∙ (x.0 ∙ c.requires.table.1), omega (arith, c.requires.table.0.0), raises_at _ _ _ (at_turn c.args.pass.now.me.0 c.args.book) wrote refl)

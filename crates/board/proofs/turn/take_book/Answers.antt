@@ -10,4 +10,4 @@ exchange-requires g c =
     let d = c.draw-ticket.ensures in
     let book : Option History = Some c.wait.new.pass.me.0.seen in
     let has : c.wait.new.pass.me.1 ≡ (0, book) ∷ [] = ap (λ (m : Me (Option History) View). m.1) w.turn in
-    (w.same.0 ∙ (d.same.0 ∙ c.requires.room.1), (book, has ∙ ap (λ (xs : List (ℕ × Option History)). (0, book) ∷ rest xs) (sym has)))
+    (w.same.0 ∙ (d.same.0 ∙ c.requires.table.1), (book, has ∙ ap (λ (xs : List (ℕ × Option History)). (0, book) ∷ rest xs) (sym has)))

@@ -18,11 +18,11 @@ join_seat-requires c =
 
 pub returns-clause-both : goal.returns-clause-both
 returns-clause-both c =
-    let told = c.count.ensures.told (record { number = c.ended.inside.grant.pass.me.0.number; seen = c.ended.inside.grant.pass.me.0.seen }) (ap (λ (m : Me (Option History) View). m.0.told) c.join_seat.ensures.2) in
-    subst (λ (v : SeatView). Begins v.caller.seen c.count.new.pass.me.0.seen) c.ended.view_is told.0
+    let told = c.look_at_length.ensures.told (record { number = c.ended.inside.grant.pass.me.0.number; seen = c.ended.inside.grant.pass.me.0.seen }) (ap (λ (m : Me (Option History) View). m.0.told) c.join_seat.ensures.2) in
+    subst (λ (v : SeatView). Begins v.caller.seen c.look_at_length.new.pass.me.0.seen) c.ended.view_is told.0
 
 pub returns-clause-ended : goal.returns-clause-ended
 returns-clause-ended c =
-    let told = c.count.ensures.told (record { number = c.ended.inside.grant.pass.me.0.number; seen = c.ended.inside.grant.pass.me.0.seen }) (ap (λ (m : Me (Option History) View). m.0.told) c.join_seat.ensures.2) in
-    subst (λ (v : SeatView). calls_by v.caller.number c.count.new.pass.me.0.seen ≡ calls_by v.caller.number v.caller.seen) c.ended.view_is
-    (subst (λ (k : ℕ). calls_by k c.count.new.pass.me.0.seen ≡ calls_by k c.ended.inside.grant.pass.me.0.seen) (sym c.ended.invariant.number_is) told.1)
+    let told = c.look_at_length.ensures.told (record { number = c.ended.inside.grant.pass.me.0.number; seen = c.ended.inside.grant.pass.me.0.seen }) (ap (λ (m : Me (Option History) View). m.0.told) c.join_seat.ensures.2) in
+    subst (λ (v : SeatView). calls_by v.caller.number c.look_at_length.new.pass.me.0.seen ≡ calls_by v.caller.number v.caller.seen) c.ended.view_is
+    (subst (λ (k : ℕ). calls_by k c.look_at_length.new.pass.me.0.seen ≡ calls_by k c.ended.inside.grant.pass.me.0.seen) (sym c.ended.invariant.number_is) told.1)

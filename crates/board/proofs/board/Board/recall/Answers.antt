@@ -5,7 +5,6 @@ use Rattle.std.proofs.lemmas.Option.{IfSome_then}
 use Rattle.ball_model.specs.History.{History, Begins, IsLegal, holding_in, is_kept_from, board_of}
 use Rattle.board.specs.Seats.{SeatView}
 use Rattle.board.proofs.CallLemmas.{recall_far, recall_furthest, if_ok}
-use Rattle.board.proofs.GivenLemmas.{given_numbers, given_seen}
 use Rattle.board.proofs.board.Board.recall.Goals as goal
 
 pub returns-clause-far : goal.returns-clause-far
@@ -21,9 +20,3 @@ returns-clause-furthest g c =
     let longer : Begins c.seat.inside.grant.pass.me.0.seen book = subst (Begins c.seat.inside.grant.pass.me.0.seen) (sym c.take-turn.ensures.book) t.0 in
     let legal : IsLegal book = subst IsLegal (sym c.take-turn.ensures.book) t.2 in
     IfOk-weaker c.recall-answer.result _ _ (λ r h. IfSome_then r h (λ a k least kept. recall_furthest _ _ c.seat.inside.grant.pass.me.0.seen book _ c.args.part c.args.at_least least (holding_in (arc_value a)) longer legal answer.next.0 k.0 (subst (λ (v : SeatView). is_kept_from ((board_of v.caller.seen).kept c.args.part) least ≡ true) (sym c.seat.view_is) kept))) answer.found
-
-pub returns-clause-numbers : goal.returns-clause-numbers
-returns-clause-numbers g c = given_numbers _ c.seat.inside.grant c.take-turn.result.was.value c.give.new.grant c.seat.view_is c.take-turn.ensures.was c.give.ensures.kept
-
-pub returns-clause-seen : goal.returns-clause-seen
-returns-clause-seen g c = given_seen _ c.seat.inside.grant c.take-turn.result.was.value c.give.new.grant c.seat.view_is c.take-turn.ensures.was c.give.ensures.seen

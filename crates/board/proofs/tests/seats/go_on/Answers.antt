@@ -4,5 +4,5 @@ use Rattle.board.proofs.tests.seats.go_on.Goals as goal
 
 pub returns : goal.returns
 returns c =
-    let j : Job = record { graph = c.args.graph.now.graph; plan = c.args.plan.now } in
+    let j : Job = c.args.setting.now in
     stands_on j _ _ c.args.replica.now _ c.close.result c.requires (c.close.ensures.stands j _ _ c.requires) c.close.ensures.refused

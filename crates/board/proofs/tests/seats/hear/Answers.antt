@@ -4,5 +4,5 @@ use Rattle.board.proofs.tests.seats.hear.Goals as goal
 
 pub returns : goal.returns
 returns c =
-    let j : Job = record { graph = c.args.graph.now.graph; plan = c.args.plan.now } in
+    let j : Job = c.args.setting.now in
     stands_self j _ _ _ (c.take.ensures.stands j _ _ c.requires.to c.in_ok-batch.ensures)

@@ -4,10 +4,10 @@ use Rattle.ball_model.specs.History.{History, Begins, calls_by}
 use Rattle.board.specs.View.{View}
 use Rattle.std.proofs.Common.{arith}
 use Rattle.board.proofs.SeatLemmas.{counts_at}
-use Rattle.board.proofs.turn.count.Goals as goal
+use Rattle.board.proofs.turn.look_at_length.Goals as goal
 
 pub load-requires : goal.load-requires
-load-requires c = (c.requires.room.1, omega (arith, c.requires.room.0.0), counts_at _ _ _ c.requires.idle.0 c.requires.idle.1 c.requires.idle.2)
+load-requires c = (c.requires.table.1, omega (arith, c.requires.table.0.0), counts_at _ _ _ c.requires.idle.0 c.requires.idle.1 c.requires.idle.2)
 
 pub returns-clause-told : goal.returns-clause-told
 returns-clause-told c t e =

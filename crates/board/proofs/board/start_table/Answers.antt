@@ -3,7 +3,7 @@ use Rattle.atomic_table.specs.Table.{opening}
 use Rattle.ball_model.specs.History.{History}
 use Rattle.board.specs.Rule.{IsLocked, first_view}
 use Rattle.board.proofs.SeatLemmas.{opens}
-use Rattle.board.proofs.board.start_room.Goals as goal
+use Rattle.board.proofs.board.start_table.Goals as goal
 
 pub new-requires : goal.new-requires
 new-requires c =
