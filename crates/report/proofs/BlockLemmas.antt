@@ -8,7 +8,7 @@ use Rattle.std.proofs.lemmas.List.{get_or-drop, get_or-map, get_or-take, length-
 use Rattle.figures.specs.declared.ends.Figures.{Figures}
 use Rattle.ball_model.specs.PlanValue.{part_size}
 use Rattle.ball_model.specs.State.{State}
-use Rattle.replica.proofs.OwnLemmas.{place_below}
+use Rattle.replica.proofs.IndexLemmas.Own.{place_below}
 use Rattle.report.specs.Parts.{AreAmong, figures_among, figures_at, figures_in, figures_line, lines_between, zero_figures, vertices_text}
 use Rattle.report.proofs.WholeLemmas.{HaveSizes}
 

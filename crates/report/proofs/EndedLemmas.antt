@@ -9,20 +9,22 @@ use Rattle.ball_model.specs.Supersteps.{end_of}
 use Rattle.ball_model.specs.Job.{Job, IsJob}
 use Rattle.ball_model.specs.State.{State, StandsFor}
 use Rattle.replica.specs.Level.{found_verdict, EndsRun}
-use Rattle.replica.proofs.BusyLemmas.{found_verdict-is}
-use Rattle.replica.proofs.LevelLemmas.{plan_is, number_is}
-use Rattle.replica.proofs.RunLemmas.{same_plan-self}
+use Rattle.replica.proofs.LevelLemmas.Busy.{found_verdict-is}
+use Rattle.replica.proofs.LevelLemmas.Level.{plan_is, number_is}
+use Rattle.replica.proofs.RunsLemmas.Run.{same_plan-self}
 use Rattle.report.specs.Ready.{says_end, is_ready, ready_from, are_ready, AllStand}
 use Rattle.report.proofs.EndingLemmas.{is_ended}
 
-ends_said : (said : Option Verdict) → EndsRun said → says_end said ≡ true
+-- a verdict of an end says so
+pub ends_said : (said : Option Verdict) → EndsRun said → says_end said ≡ true
 ends_said said ends = elim ends [
   | inl stable ↦ rw stable refl
   | inr limit ↦ rw limit refl
 ]
 
-four : (a b c d : Bool) → a ≡ true → b ≡ true → c ≡ true → d ≡ true → (a && b && c && d) ≡ true
-four a b c d e f g h = rw (e, f, g, h) refl
+-- four tests hold together
+pub all_four : (a b c d : Bool) → a ≡ true → b ≡ true → c ≡ true → d ≡ true → (a && b && c && d) ≡ true
+all_four a b c d e f g h = rw (e, f, g, h) refl
 
 two : (a b : Bool) → a ≡ true → b ≡ true → (a && b) ≡ true
 two a b e f = rw (e, f) refl
@@ -47,7 +49,7 @@ at_end j p t v h ends =
 -- it is ready under the plan and at the superstep of any other
 ready_one : (j : Job) (plan : PlanValue) (t p : ℕ) (v : State) → plan ≡ j.plan → t ≡ end_of (mixing_of j.plan) j.graph j.plan.limit → IsAtEnd j p v → is_ready plan t p v ≡ true
 ready_one j plan t p v of_job end h =
-    four (v.part.number == p) (same_plan plan v.part.plan) (v.superstep == t) (says_end (found_verdict v))
+    all_four (v.part.number == p) (same_plan plan v.part.plan) (v.superstep == t) (says_end (found_verdict v))
     (eq-eqb v.part.number p h.number)
     (ap (λ a. same_plan a v.part.plan) (of_job ∙ sym h.plan) ∙ same_plan-self v.part.plan)
     (eq-eqb v.superstep t (h.superstep ∙ sym end))

@@ -1,6 +1,6 @@
 -- Beginnings of text.
-use Rattle.std.proofs.Common.{◌≡◌, ℕ, suc, ◌+◌, ◌-◌, ◌<◌, ◌≤◌, Bool, Option, List, [], ◌∷◌, ◌++◌, length, refl, ap, sym, ◌∙◌, subst, arith, append_assoc, slice_index_or}
-use Rattle.std.specs.Prelude.{Result, Ok, Err, OnErr, codes, decimal, if◌then◌else◌}
+use Rattle.std.proofs.Common.{◌≡◌, ℕ, suc, ◌+◌, ◌-◌, ◌<◌, ◌≤◌, Bool, Option, List, [], ◌∷◌, ◌++◌, length, refl, ap, sym, ◌∙◌, arith, append_assoc, slice_index_or}
+use Rattle.std.specs.Prelude.{codes, decimal, if◌then◌else◌}
 use Rattle.std.specs.List.{flat_map, range_with_len}
 use Rattle.std.specs.Io.KnownBytes.{Appends}
 use Rattle.std.proofs.KnownBytes.{Appends-nil, Appends-trans}
@@ -11,17 +11,7 @@ use Rattle.ball_model.specs.Figures.{fixed6_of}
 use Rattle.ball_model.specs.Streams.{PutsFront}
 use Rattle.ball_model.specs.Report.{end_line, field_text, line_text, more_text}
 use Rattle.report.specs.Parts.{figures_at, figures_line, head_text, vertices_text}
-use Rattle.replica.proofs.CountingLemmas.{range_split}
-
--- an error leaves this
-pub on_err : {T E P : Type 0} (r : Result T E) → P → OnErr r P
-on_err (Ok x) p = tt
-on_err (Err e) p = p
-
--- an error leaves this, where it left that
-pub on_err_weaker : {T E P Q : Type 0} (r : Result T E) → (P → Q) → OnErr r P → OnErr r Q
-on_err_weaker (Ok x) f p = tt
-on_err_weaker (Err e) f p = f p
+use Rattle.replica.proofs.IndexLemmas.Counting.{range_split}
 
 -- nothing of a text that is not empty
 pub front_none : (xs : List ℕ) (a : Option (List ℕ)) → 0 < length xs → PutsFront a a xs
@@ -79,7 +69,7 @@ vertices_some labels first parts from to lt =
 
 -- ---- lines of vertices
 
-split_at : (labels : List (List ℕ)) (first : ℕ) (parts : List (List Figures)) (from at to : ℕ) → from ≤ at → at ≤ to →
+pub split_at : (labels : List (List ℕ)) (first : ℕ) (parts : List (List Figures)) (from at to : ℕ) → from ≤ at → at ≤ to →
     vertices_text labels first parts from (to - from) ≡ vertices_text labels first parts from (at - from) ++ vertices_text labels first parts at (to - at)
 unfolding vertices_text
 split_at labels first parts from at to low high =
@@ -90,12 +80,3 @@ split_at labels first parts from at to low high =
     ∙ ap (flat_map f) (range_split from (at - from) (to - at))
     ∙ flat_map-append f (range_with_len from (at - from)) (range_with_len (from + (at - from)) (to - at))
     ∙ ap (λ x. flat_map f (range_with_len from (at - from)) ++ flat_map f (range_with_len x (to - at))) place
-
--- the lines before a piece, and a beginning of the piece
-pub front_piece : (labels : List (List ℕ)) (first : ℕ) (parts : List (List Figures)) (from at end to : ℕ) (a b c : Option (List ℕ)) → from ≤ at → at ≤ end → end ≤ to →
-    Appends a b (vertices_text labels first parts from (at - from)) → PutsFront b c (vertices_text labels first parts at (end - at)) → PutsFront a c (vertices_text labels first parts from (to - from))
-front_piece labels first parts from at end to a b c low up high before p =
-    let vt : ℕ → ℕ → List ℕ = λ x n. vertices_text labels first parts x n in
-    let later = front_first (vt at (end - at)) (vt end (to - end)) b c p in
-    let rest = subst (λ (text : List ℕ). PutsFront b c text) (sym (split_at labels first parts at end to up high)) later in
-    subst (λ (text : List ℕ). PutsFront a c text) (sym (split_at labels first parts from at to low (omega (arith, up, high)))) (front_then (vt from (at - from)) (vt at (to - at)) a b c before rest)

@@ -9,6 +9,6 @@ pub mod EndedLemmas
 pub mod VertexLemmas
 pub mod WholeLemmas
 pub mod BlockLemmas
-pub mod PieceLemmas
 pub mod FrontLemmas
+pub mod WrittenLemmas
 pub mod ReportLemmas

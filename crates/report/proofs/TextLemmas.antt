@@ -3,7 +3,7 @@ use Rattle.std.proofs.Common.{◌≡◌, ℕ, ◌+◌, List, [], ◌∷◌, ◌+
 use Rattle.std.specs.List.{flat_map, range_with_len}
 use Rattle.std.proofs.lemmas.List.{append-nil}
 use Rattle.std.proofs.lemmas.Grind.{flat_map-append}
-use Rattle.replica.proofs.CountingLemmas.{range_split}
+use Rattle.replica.proofs.IndexLemmas.Counting.{range_split}
 
 -- more lines
 pub lines_more : (f : ℕ → List ℕ) (a n k : ℕ) (start text lines : List ℕ) → text ≡ start ++ flat_map f (range_with_len a n) → lines ≡ flat_map f (range_with_len (a + n) k) →

@@ -11,7 +11,7 @@ use Rattle.ball_model.specs.Job.{Job}
 use Rattle.ball_model.specs.Figures.{TallyValue, empty_of}
 use Rattle.ball_model.specs.Report.{vertex_line, vertex_text}
 use Rattle.ball_model.specs.State.{State, StandsFor, own_vertices, rows_of, tallies_of}
-use Rattle.replica.proofs.OwnLemmas.{at_own, place_below, vertex_at}
+use Rattle.replica.proofs.IndexLemmas.Own.{at_own, place_below, vertex_at}
 use Rattle.report.specs.Parts.{figures_at, figures_in, figures_line, zero_figures, vertices_text}
 
 -- two lists made of one
@@ -49,7 +49,7 @@ true_figures_at j vs t x v some count lt is h =
     ∙ ap (true_figures j t) (vertex_at parts x some)
 
 -- the line of these figures
-line_is : (j : Job) (label : List ℕ) (t x : ℕ) → figures_line label (true_figures j t x) ≡ vertex_line label (tally_at (mixing_of j.plan) j.graph x t) (empty_of (ball_counter (mixing_of j.plan) j.graph x t))
+pub line_is : (j : Job) (label : List ℕ) (t x : ℕ) → figures_line label (true_figures j t x) ≡ vertex_line label (tally_at (mixing_of j.plan) j.graph x t) (empty_of (ball_counter (mixing_of j.plan) j.graph x t))
 unfolding figures_line vertex_line estimate_at
 line_is j label t x = refl
 

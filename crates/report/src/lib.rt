@@ -9,17 +9,19 @@
 //! ```
 //!
 //! [`report_ready`] says whether replicas are at the end of their run, and [`write_report`] writes their report.
-//! [`totals_text`] and [`figures_text`] give lines of it alone.
+//! [`totals_text`] and [`figures_text`] give lines of it alone. Written into [`Pages`], it goes out when it is whole.
 #![tactic(auto)]
 
 pub mod laws;
 mod lines;
 mod own;
+mod pages;
 mod parts;
 mod ready;
 mod write;
 
 pub use own::{figures_text, totals_text};
+pub use pages::Pages;
 pub use ready::report_ready;
 pub use write::{ReportError, write_report};
 

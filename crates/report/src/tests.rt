@@ -4,6 +4,7 @@ ghost use Rattle.std.specs.Prelude.{◌≡◌, None, true};
 ghost use Rattle.std.specs.List.{All};
 
 mod refusals;
+mod texts;
 
 use super::*;
 use ball_model::{CountedWrite, CountingReader, CountingWriter, Taken};

@@ -1,12 +1,12 @@
 //! The report, written piece by piece.
 
-ghost use Rattle.std.specs.Prelude.{◌≡◌, ◌≢◌, ℕ, ◌≤◌, ◌<◌, Err, IfErr, OnErr, OnOk, true};
+ghost use Rattle.std.specs.Prelude.{◌≡◌, ◌≢◌, ℕ, ◌≤◌, ◌<◌, Err, OnErr, OnOk, true};
 ghost use Rattle.std.specs.List.{All};
-ghost use Rattle.std.specs.Io.KnownBytes.{Appends};
-ghost use Rattle.ball_model.specs.Streams.{PutsFront, Rises};
+ghost use Rattle.ball_model.specs.Streams.{Rises};
 ghost use Rattle.report.specs.Parts.{AreAmong, head_text, lines_between, lines_from, lines_of_all};
 ghost use Rattle.report.specs.Parts.{lists_in, totals_in};
 ghost use Rattle.report.specs.Ready.{AddsFront, AddsReportOfAll, are_ready};
+ghost use Rattle.report.specs.Written.{WritesText};
 
 use crate::parts::{figures, head_of, vertices};
 use crate::ready::is_stable;
@@ -47,12 +47,7 @@ const BLOCK: u32 = 8 * PIECE;
 
 // Writes a piece of text.
 fn put<W: CountedWrite>(writer: &mut W, text: &[u8]) -> Result<(), ReportError>
-    ensures done { OnOk result (Appends (W.contents writer.old) (W.contents writer.new) text.now) }
-    ensures front { OnErr result
-        (PutsFront (W.contents writer.old) (W.contents writer.new) text.now) }
-    ensures counted { OnOk result (W.failed_calls writer.new ≡ W.failed_calls writer.old) }
-    ensures kind { IfErr result (λ e. e ≡ ReportError.Write) }
-    ensures failed { OnErr result (Rises (W.failed_calls writer.old) (W.failed_calls writer.new)) }
+    ensures { WritesText W.contents W.failed_calls writer.old writer.new text.now result }
 {
     if put_all(writer, text) {
         Ok(())
@@ -70,14 +65,8 @@ fn put_top<W: CountedWrite>(
     stable: bool,
 ) -> Result<(), ReportError>
     requires { All (λ v. v.superstep ≡ end) replicas.now }
-    ensures done { OnOk result (Appends (W.contents writer.old) (W.contents writer.new)
-        (head_text (totals_in replicas.now end) end stable)) }
-    ensures front { OnErr result (PutsFront (W.contents writer.old) (W.contents writer.new)
-        (head_text (totals_in replicas.now end) end stable)) }
-    ensures counted { result ≢ Err ReportError.Write →
-        W.failed_calls writer.new ≡ W.failed_calls writer.old }
-    ensures write { result ≡ Err ReportError.Write →
-        Rises (W.failed_calls writer.old) (W.failed_calls writer.new) }
+    ensures { WritesText W.contents W.failed_calls writer.old writer.new
+        (head_text (totals_in replicas.now end) end stable) result }
 {
     put(writer, &head_of(alloc, replicas, end, stable)?)
 }
@@ -95,14 +84,8 @@ fn put_piece<W: CountedWrite>(
     requires places { (x : ℕ) → from ≤ x → x < to → AreAmong first (lists_in parts.now) x }
     requires from { from < to }
     requires to { to ≤ graph.now.graph.vertices }
-    ensures done { OnOk result (Appends (W.contents writer.old) (W.contents writer.new)
-        (lines_from graph.now parts.now first from to)) }
-    ensures front { OnErr result (PutsFront (W.contents writer.old) (W.contents writer.new)
-        (lines_from graph.now parts.now first from to)) }
-    ensures counted { result ≢ Err ReportError.Write →
-        W.failed_calls writer.new ≡ W.failed_calls writer.old }
-    ensures write { result ≡ Err ReportError.Write →
-        Rises (W.failed_calls writer.old) (W.failed_calls writer.new) }
+    ensures { WritesText W.contents W.failed_calls writer.old writer.new
+        (lines_from graph.now parts.now first from to) result }
 {
     put(writer, &vertices(alloc, graph, parts, first, from, to)?)
 }
@@ -120,14 +103,8 @@ fn put_lines<W: CountedWrite>(
     requires places { (x : ℕ) → from ≤ x → x < to → AreAmong first (lists_in parts.now) x }
     requires from { from ≤ to }
     requires to { to ≤ graph.now.graph.vertices }
-    ensures done { OnOk result (Appends (W.contents writer.old) (W.contents writer.new)
-        (lines_from graph.now parts.now first from to)) }
-    ensures front { OnErr result (PutsFront (W.contents writer.old) (W.contents writer.new)
-        (lines_from graph.now parts.now first from to)) }
-    ensures counted { result ≢ Err ReportError.Write →
-        W.failed_calls writer.new ≡ W.failed_calls writer.old }
-    ensures write { result ≡ Err ReportError.Write →
-        Rises (W.failed_calls writer.old) (W.failed_calls writer.new) }
+    ensures { WritesText W.contents W.failed_calls writer.old writer.new
+        (lines_from graph.now parts.now first from to) result }
 {
     let mut at = from;
     while at < to {
@@ -151,14 +128,8 @@ fn put_block<T: AllocGlobal + Threads + Sync, W: CountedWrite>(
     requires graph { All (λ v. v.part.plan.vertices ≡ graph.now.graph.vertices) replicas.now }
     requires from { from < to }
     requires to { to ≤ graph.now.graph.vertices }
-    ensures done { OnOk result (Appends (W.contents writer.old) (W.contents writer.new)
-        (lines_between graph.now.labels replicas.now from to)) }
-    ensures front { OnErr result (PutsFront (W.contents writer.old) (W.contents writer.new)
-        (lines_between graph.now.labels replicas.now from to)) }
-    ensures counted { result ≢ Err ReportError.Write →
-        W.failed_calls writer.new ≡ W.failed_calls writer.old }
-    ensures write { result ≡ Err ReportError.Write →
-        Rises (W.failed_calls writer.old) (W.failed_calls writer.new) }
+    ensures { WritesText W.contents W.failed_calls writer.old writer.new
+        (lines_between graph.now.labels replicas.now from to) result }
 {
     let count = replicas.len();
     let first = from as usize / count;
@@ -175,14 +146,8 @@ fn put_vertices<T: AllocGlobal + Threads + Sync, W: CountedWrite>(
 ) -> Result<(), ReportError>
     requires ready { are_ready replicas.now ≡ true }
     requires graph { All (λ v. v.part.plan.vertices ≡ graph.now.graph.vertices) replicas.now }
-    ensures done { OnOk result (Appends (W.contents writer.old) (W.contents writer.new)
-        (lines_of_all graph.now replicas.now)) }
-    ensures front { OnErr result (PutsFront (W.contents writer.old) (W.contents writer.new)
-        (lines_of_all graph.now replicas.now)) }
-    ensures counted { result ≢ Err ReportError.Write →
-        W.failed_calls writer.new ≡ W.failed_calls writer.old }
-    ensures write { result ≡ Err ReportError.Write →
-        Rises (W.failed_calls writer.old) (W.failed_calls writer.new) }
+    ensures { WritesText W.contents W.failed_calls writer.old writer.new
+        (lines_of_all graph.now replicas.now) result }
 {
     let count = graph.vertices();
     let block = BLOCK.max(PIECE * u32::from(replicas[0].plan().parts()));

@@ -5,7 +5,7 @@ use Rattle.std.specs.List.{list_any}
 use Rattle.workers.specs.declared.ends.Faults.{Faults}
 use Rattle.workers.specs.declared.node.NodeEnd.{NodeEnd}
 use Rattle.workers.specs.declared.node.NodeError.{NodeError}
-use Rattle.workers.specs.Ends.{all_lost, faults_in, first_some, first_waiting, found_full, is_lost, lacked_memory, least_lost, least_waiting, no_faults, waited, with_end, with_part}
+use Rattle.workers.specs.Ends.{all_lost, each_has_done, faults_in, first_some, first_waiting, found_full, is_done, is_lost, lacked_memory, least_lost, least_waiting, no_faults, waited, with_end, with_part}
 
 -- ---- tests and options, one behind another
 or_three : (a b c : Bool) → (a || (b || c)) ≡ ((a || b) || c)
@@ -62,6 +62,13 @@ noted_more p k r rs all old now next h is = ap (with_rest p (k + 1) rs) is ∙ (
 pub lost_more : (r : Result NodeEnd NodeError) (rs all : List (Result NodeEnd NodeError)) (was both : Bool) → (was && all_lost (r ∷ rs)) ≡ all_lost all → both ≡ (is_lost r && was) → (both && all_lost rs) ≡ all_lost all
 lost_more r rs all was both h is = ap (λ (b : Bool). b && all_lost rs) is ∙ (sym (and_three was (is_lost r) (all_lost rs)) ∙ h)
 
+-- whether one has reached the end
+pub done_more : (r : Result NodeEnd NodeError) (rs all : List (Result NodeEnd NodeError)) (was now : Bool) → (was || list_any is_done (r ∷ rs)) ≡ list_any is_done all → now ≡ (was || is_done r) → (now || list_any is_done rs) ≡ list_any is_done all
+done_more r rs all was now h is = ap (λ (b : Bool). b || list_any is_done rs) is ∙ (sym (or_three was (is_done r) (list_any is_done rs)) ∙ h)
+
+pub done_all : (rest own : List (Result NodeEnd NodeError)) (now : Bool) → rest ≡ [] → (now || list_any is_done rest) ≡ list_any is_done own → now ≡ list_any is_done own
+done_all rest own now none h = sym (or_none now) ∙ (ap (λ (r : List (Result NodeEnd NodeError)). now || list_any is_done r) (sym none) ∙ h)
+
 -- ---- partitions
 -- what is noted, and then of the partitions from number p on
 abbrev pub with_parts : {V : Type 0} → (V → List (Result NodeEnd NodeError)) → ℕ → List V → Faults → Faults
@@ -103,6 +110,16 @@ parts_start items rest all f same is = ap (λ r. with_parts items 0 r f) same �
 
 pub parts_end : {V : Type 0} (items : V → List (Result NodeEnd NodeError)) (p : ℕ) (rest all : List V) (f : Faults) → rest ≡ [] → with_parts items p rest f ≡ faults_in items all → f ≡ faults_in items all
 parts_end items p rest all f none h = sym (parts_none items p f) ∙ (ap (λ r. with_parts items p r f) (sym none) ∙ h)
+
+-- whether each has a node that has reached the end
+pub complete_more : {V : Type 0} (items : V → List (Result NodeEnd NodeError)) (own : V) (rest all : List V) (was kept both : Bool) → (was && each_has_done items (own ∷ rest)) ≡ each_has_done items all →
+    kept ≡ list_any is_done (items own) → both ≡ (kept && was) → (both && each_has_done items rest) ≡ each_has_done items all
+complete_more items own rest all was kept both h has is =
+    ap (λ (b : Bool). b && each_has_done items rest) (is ∙ ap (λ (b : Bool). b && was) has)
+    ∙ (sym (and_three was (list_any is_done (items own)) (each_has_done items rest)) ∙ h)
+
+pub complete_end : {V : Type 0} (items : V → List (Result NodeEnd NodeError)) (rest all : List V) (complete : Bool) → rest ≡ [] → (complete && each_has_done items rest) ≡ each_has_done items all → complete ≡ false → each_has_done items all ≡ false
+complete_end items rest all complete none h is = sym h ∙ (ap (λ r. complete && each_has_done items r) none ∙ ap (λ (b : Bool). b && true) is)
 
 -- ---- a partition whose nodes are all noted
 noted_all : (p k : ℕ) (rest own : List (Result NodeEnd NodeError)) (old now : Faults) → rest ≡ [] → with_rest p k rest now ≡ with_rest p 0 own old → now ≡ with_rest p 0 own old

@@ -21,11 +21,11 @@ use Rattle.replica.specs.Merged.{Absorbs}
 use Rattle.replica.specs.Runs.{HasContent, Takes, Closes, Did, Made}
 use Rattle.replica.specs.Seen.{IsState}
 use Rattle.replica.specs.Sent.{batch_name}
-use Rattle.replica.proofs.HoldingLemmas.{joined_holding}
-use Rattle.replica.proofs.KeptLemmas.{true_named}
-use Rattle.replica.proofs.LevelLemmas.{plan_is, number_is}
-use Rattle.replica.proofs.RunLemmas.{has_content, made}
-use Rattle.replica.proofs.SameLemmas.{content_is_one}
+use Rattle.replica.proofs.MergedLemmas.Holding.{joined_holding}
+use Rattle.replica.proofs.KeptLemmas.Kept.{true_named}
+use Rattle.replica.proofs.LevelLemmas.Level.{plan_is, number_is}
+use Rattle.replica.proofs.RunsLemmas.Run.{has_content, made}
+use Rattle.replica.proofs.RunsLemmas.Same.{content_is_one}
 use Rattle.workers.specs.Tie.{Step, Calls, Closes as ClosesUp, StartsAnew, after_board_call, after_step, after_steps, IsOwnName, IsOwnCall, IsOwnStep, AreOwnSteps, calls_among, HasCome, HasGone, IsPathTo, Reaches, AreOfNode, IsRunOfWorld, PathsAreOfNodes, ReplicasAreOfRuns}
 use Rattle.workers.proofs.TieLemmas.{histories_are_runs}
 use Rattle.workers.proofs.TurnLemmas.{name_of_true}

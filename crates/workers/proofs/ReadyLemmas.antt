@@ -1,18 +1,17 @@
 -- Replicas of all partitions at the end of their run, of which there is a report.
-use Rattle.std.proofs.Common.{◌≡◌, ℕ, ◌+◌, ◌<◌, ◌≤◌, [], ◌∷◌, Bool, true, ◌&&◌, ◌==◌, List, length, slice_index_or, refl, ap, arith, sym, ◌∙◌, subst, inl, inr}
-use Rattle.std.specs.Prelude.{Option}
+use Rattle.std.proofs.Common.{◌≡◌, ℕ, ◌+◌, ◌<◌, ◌≤◌, [], ◌∷◌, true, ◌==◌, List, length, slice_index_or, refl, ap, arith, sym, ◌∙◌, subst}
 use Rattle.std.proofs.lemmas.Bool.Decides.{nat_tests}
 use Rattle.std.proofs.lemmas.Bool.{and_from, eq-eqb}
-use Rattle.ball_model.specs.declared.names.Verdict.{Verdict}
 use Rattle.ball_model.specs.PlanValue.{PlanValue, mixing_of}
 use Rattle.ball_model.specs.Job.{Job}
 use Rattle.ball_model.specs.Content.{same_plan}
 use Rattle.ball_model.specs.State.{State, StandsFor}
 use Rattle.ball_model.specs.Supersteps.{end_of}
-use Rattle.replica.specs.Level.{EndsRun, found_verdict}
-use Rattle.replica.proofs.LevelLemmas.{number_of_part, plan_of_part}
-use Rattle.replica.proofs.RunLemmas.{same_plan-self}
+use Rattle.replica.specs.Level.{found_verdict}
+use Rattle.replica.proofs.LevelLemmas.Level.{number_of_part, plan_of_part}
+use Rattle.replica.proofs.RunsLemmas.Run.{same_plan-self}
 use Rattle.report.specs.Ready.{AllStand, are_ready, is_ready, ready_from, says_end}
+use Rattle.report.proofs.EndedLemmas.{all_four, ends_said}
 use Rattle.workers.specs.Job.{AreDone, EachAt}
 use Rattle.workers.specs.Node.{IsDone}
 use Rattle.workers.proofs.JobLemmas.{each_is}
@@ -21,19 +20,12 @@ use Rattle.workers.proofs.JobLemmas.{each_is}
 abbrev last : Job → ℕ
 last j = end_of (mixing_of j.plan) j.graph j.plan.limit
 
-says_end_of : (said : Option Verdict) → EndsRun said → says_end said ≡ true
-says_end_of said (inl stable) = ap says_end stable
-says_end_of said (inr limit) = ap says_end limit
-
-all_true : (a b c d : Bool) → a ≡ true → b ≡ true → c ≡ true → d ≡ true → (a && b && c && d) ≡ true
-all_true a b c d e f g h = rw (e, f, g, h) refl
-
 ready_one : (j : Job) (p : ℕ) (v : State) → IsDone j p v → is_ready j.plan (last j) p v ≡ true
 ready_one j p v h =
     let number : v.part.number ≡ p = number_of_part j p v h.stands.part in
     let plan : v.part.plan ≡ j.plan = plan_of_part j p v h.stands.part in
-    all_true (v.part.number == p) (same_plan j.plan v.part.plan) (v.superstep == last j) (says_end (found_verdict v))
-    (ap (λ n. n == p) number ∙ eq-eqb p p refl) (ap (same_plan j.plan) plan ∙ same_plan-self j.plan) (ap (λ n. n == last j) h.stands.superstep ∙ eq-eqb (last j) (last j) refl) (says_end_of (found_verdict v) h.over)
+    all_four (v.part.number == p) (same_plan j.plan v.part.plan) (v.superstep == last j) (says_end (found_verdict v))
+    (ap (λ n. n == p) number ∙ eq-eqb p p refl) (ap (same_plan j.plan) plan ∙ same_plan-self j.plan) (ap (λ n. n == last j) h.stands.superstep ∙ eq-eqb (last j) (last j) refl) (ends_said (found_verdict v) h.over)
 
 ready_all : (j : Job) (p : ℕ) (rs : List State) → EachAt (IsDone j) p rs → ready_from j.plan (last j) p rs ≡ true
 unfolding ready_from

@@ -22,7 +22,7 @@ use Rattle.ball_model.specs.World.{Node, World, start_node, start_world, node_at
 use Rattle.ball_model.specs.WorldLaws.{IsWorld}
 use Rattle.ball_model.proofs.HistoryLemmas.{same_name-true, events_by-append, after_all-append}
 use Rattle.ball_model.proofs.WorldLemmas.{node_same, node_other, same_or_other, node_is_one, run_stays, start_is_world}
-use Rattle.replica.proofs.RunLemmas.{same_plan-self}
+use Rattle.replica.proofs.RunsLemmas.Run.{same_plan-self}
 use Rattle.workers.specs.Tie.{Step, Calls, Closes, StartsAnew, after_board_call, after_steps, IsOwnName, IsOwnCall, AreOwnSteps, calls_among, Reaches, AreOfNode, sent_by, copied_by, sent_in, copied_in, ComesTo, CanHold, HistoriesAreRuns}
 
 -- ---- lists

@@ -1,9 +1,7 @@
 -- A replica of the caller's job, from call to call.
-use Rattle.std.proofs.Common.{◌≡◌, ◌≢◌, ◌⊎◌, ⊎_elim, ℕ, ◌<◌, true, false, not, ◌==◌, ◌&&◌, Option, Some, IfSome, sym, ap, ◌∙◌, subst, arith}
+use Rattle.std.proofs.Common.{◌≡◌, ◌≢◌, ◌⊎◌, ⊎_elim, ℕ, ◌<◌, false, not, ◌==◌, ◌&&◌, Option, Some, IfSome, sym, ap, ◌∙◌, subst, arith}
 use Rattle.std.proofs.lemmas.Bool.{and_parts, not-true, eqb-false}
 use Rattle.ball_model.specs.declared.names.BatchName.{BatchName}
-use Rattle.ball_model.specs.declared.names.Verdict.{Verdict}
-use Rattle.ball_model.specs.declared.names.Verdict.TheVariants as verdict
 use Rattle.ball_model.specs.declared.history.Posted.{Posted}
 use Rattle.ball_model.specs.Job.{IsJob, Job, PartValue, part_of}
 use Rattle.ball_model.specs.PlanValue.{PlanValue}
@@ -14,10 +12,10 @@ use Rattle.ball_model.specs.History.{Post}
 use Rattle.ball_model.specs.Caller.{Caller, Extends, Called}
 use Rattle.ball_model.proofs.EndLemmas.{find_found}
 use Rattle.replica.specs.Level.{EndsRun, found_verdict, missing_in}
-use Rattle.replica.proofs.LevelLemmas.{plan_is, number_is}
-use Rattle.replica.proofs.KeptLemmas.{true_named}
-use Rattle.replica.proofs.BusyLemmas.{found_verdict-is}
-use Rattle.report.specs.Ready.{says_end}
+use Rattle.replica.proofs.LevelLemmas.Level.{plan_is, number_is}
+use Rattle.replica.proofs.KeptLemmas.Kept.{true_named}
+use Rattle.replica.proofs.LevelLemmas.Busy.{found_verdict-is}
+use Rattle.report.proofs.EndedLemmas.{ends_said}
 use Rattle.report.proofs.EndingLemmas.{is_ended}
 use Rattle.workers.specs.declared.turn.Turn.{Turn}
 use Rattle.workers.specs.declared.turn.Turn.TheVariants as turn
@@ -95,10 +93,7 @@ closed_turn v w p old new t kind over told = ⊎_elim
     (λ (e : t ≡ turn.Over). subst (λ (x : Turn). IsNodeTurn v p new x w) (sym e) (subst (λ (r : State). HasToldAll v r.superstep p w) (sym (over e).0) told, (over e).1))
     kind
 
-ends_says : (o : Option Verdict) → EndsRun o → says_end o ≡ true
-ends_says o h = ⊎_elim (λ (e : o ≡ Some verdict.Stable). ap says_end e) (λ (e : o ≡ Some verdict.Limit). ap says_end e) h
-
 pub done_of : (j : Job) (p : ℕ) (r : State) → StandsFor j p r.superstep r → EndsRun (found_verdict r) → IsDone j p r
 done_of j p r h over =
-    let e = is_ended j p r.superstep r (found_verdict r) h (found_verdict-is j p r.superstep r h) (ends_says (found_verdict r) over) in
+    let e = is_ended j p r.superstep r (found_verdict r) h (found_verdict-is j p r.superstep r h) (ends_said (found_verdict r) over) in
     record { stands = subst (λ (t : ℕ). StandsFor j p t r) e.at_end h; over = over }

@@ -19,6 +19,17 @@ is_lost (Ok (ends.Lost s)) = true
 is_lost (Ok (ends.Starved s q)) = false
 is_lost (Err e) = false
 
+-- it has reached the end of the run
+abbrev pub is_done : Result NodeEnd NodeError → Bool
+is_done (Ok (ends.Done r)) = true
+is_done (Ok (ends.Lost s)) = false
+is_done (Ok (ends.Starved s q)) = false
+is_done (Err e) = false
+
+-- each partition has a node that has reached the end of the run
+abbrev pub each_has_done : {V : Type 0} → (V → List (Result NodeEnd NodeError)) → List V → Bool
+each_has_done items all = list_all (λ own. list_any is_done (items own)) all
+
 -- it found the book full
 abbrev pub found_full : Result NodeEnd NodeError → Bool
 found_full (Ok end) = false

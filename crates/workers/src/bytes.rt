@@ -22,7 +22,6 @@ use crate::ends::JobError;
 use crate::gate::Gate;
 use crate::job::run_job;
 use crate::options::RunOptions;
-use crate::pages::Pages;
 use crate::planned::{Planned, SharedPart, plan_parts};
 use ball_model::plan::MOST_VERTICES;
 use ball_model::{CountedRead, CountedWrite, CountingWriter, NodeId, Plan, PlanError};
@@ -30,7 +29,7 @@ use edgelist::{
     CountedError, EdgeError, EdgeLimits, EdgeList, Graph, MOST_RECORDS, read_edge_list,
 };
 use replica::Replica;
-use report::write_report;
+use report::{Pages, write_report};
 use std::alloc::{AllocError, AllocGlobal, Global};
 use std::hash::RandomState;
 use std::sync::Wait;

@@ -1,14 +1,14 @@
 //! What the nodes of a job say at their ends, put together.
 
-ghost use Rattle.std.specs.Prelude.{◌≡◌, ◌≢◌, ◌≤◌, ◌<◌, ◌+◌, ℕ, true, All, IfErr, IfOk, IfSome};
-ghost use Rattle.std.specs.Prelude.{OnOk, Some, is_some, length};
+ghost use Rattle.std.specs.Prelude.{◌≡◌, ◌≢◌, ◌≤◌, ◌<◌, ◌+◌, ◌||◌, ℕ, true, false, All, IfErr};
+ghost use Rattle.std.specs.Prelude.{IfOk, IfSome, OnOk, Some, is_some, length};
+ghost use Rattle.std.specs.List.{list_any};
 ghost use Rattle.ball_model.specs.Job.{Job};
 ghost use Rattle.ball_model.specs.PlanValue.{most_parts};
 ghost use Rattle.workers.specs.Job.{AreDone, AreEnds, AreNoted, EachAt, IsFaultOf, IsPartEnd};
 ghost use Rattle.workers.specs.Job.{IsPartitionLost, KeepsItsOrders};
-ghost use Rattle.workers.specs.Ends.{fault_of, first_fault, first_some, is_lost, no_faults};
-ghost use Rattle.workers.specs.Ends.{with_end};
-ghost use Rattle.workers.specs.Ends.{with_part};
+ghost use Rattle.workers.specs.Ends.{each_has_done, fault_of, first_fault, first_some, is_done};
+ghost use Rattle.workers.specs.Ends.{is_lost, no_faults, with_end, with_part};
 ghost use Rattle.workers.specs.Node.{IfDone, IsDone};
 ghost use Rattle.workers.specs.Options.{orders_for};
 ghost use Rattle.workers.specs.declared.node.NodeOrders.{NodeOrders as Orders};
@@ -157,8 +157,9 @@ fn note_lost(faults: &mut Faults, p: u16)
 
 // The replica of the first node that has reached the end.
 fn first_done(done: Option<Replica>, end: NodeResult) -> Option<Replica>
-    ensures { (j : Job) (p : ℕ) → IfSome done (IsDone j p) →
+    ensures done { (j : Job) (p : ℕ) → IfSome done (IsDone j p) →
         IfOk end (λ e. IfDone e (IsDone j p)) → IfSome result (IsDone j p) }
+    ensures some { is_some result ≡ (is_some done || is_done end) }
 {
     match end {
         Ok(NodeEnd::Done(replica)) => Some(done.unwrap_or(replica)),
@@ -170,6 +171,7 @@ fn first_done(done: Option<Replica>, end: NodeResult) -> Option<Replica>
 fn settle_part(p: u16, ends: Vec<NodeResult>, faults: &mut Faults) -> Option<Replica>
     requires few { length ends.items ≤ 4 }
     ensures done { (j : Job) (o : Asked) → IsPartEnd j o p ends.items → IfSome result (IsDone j p) }
+    ensures some { is_some result ≡ list_any is_done ends.items }
     ensures noted { (j : Job) (o : Asked) → IsPartEnd j o p ends.items → p < j.plan.parts →
         AreNoted j.plan.parts o faults.old → AreNoted j.plan.parts o faults.new }
     ensures exact { faults.new ≡ with_part p ends.items faults.old }
@@ -191,6 +193,7 @@ fn settle_part(p: u16, ends: Vec<NodeResult>, faults: &mut Faults) -> Option<Rep
 
 // Adds the replica of the next partition, where there is one, and tells whether there is.
 fn keep_done(done: &mut Vec<Replica>, next: Option<Replica>) -> Result<bool, AllocError>
+    ensures kept { IfOk result (λ kept. kept ≡ is_some next) }
     ensures count { IfOk result (λ kept. kept ≡ true →
         length done.new.items ≡ length done.old.items + 1) }
     ensures each { (j : Job) → IfSome next (IsDone j (length done.old.items)) →
@@ -205,7 +208,7 @@ fn keep_done(done: &mut Vec<Replica>, next: Option<Replica>) -> Result<bool, All
 }
 
 /// The replica of each partition, by the ends of its nodes: that of the first node that is done. Where a partition has
-/// none, the error is the first fault of all nodes.
+/// none, and only there, the error is the first fault of all nodes; `Memory` also where memory is refused here.
 pub fn settle(alloc: Global, ends: Vec<Vec<NodeResult>>) -> Result<Vec<Replica>, JobError>
     requires few { All (λ own. length own.items ≤ 4) ends.items }
     requires parts { length ends.items ≤ most_parts }
@@ -215,6 +218,8 @@ pub fn settle(alloc: Global, ends: Vec<Vec<NodeResult>>) -> Result<Vec<Replica>,
         IfErr result (IsFaultOf j.plan.parts o) }
     ensures first { IfErr result (λ e. e ≢ JobError.Memory →
         e ≡ first_fault (λ own. own.items) ends.items) }
+    ensures lacking { IfErr result (λ e. e ≢ JobError.Memory →
+        each_has_done (λ own. own.items) ends.items ≡ false) }
 {
     let mut faults = Faults::none();
     let mut done = Vec::with_capacity(alloc, ends.len())?;

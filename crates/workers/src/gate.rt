@@ -1,14 +1,16 @@
 //! What is called round each of a node's posts, and while it waits.
 
+use crate::options::MOST_REPLICAS;
 use crate::running::zeros;
 use ball_model::NodeId;
+use ball_model::plan::MOST_PARTS;
 use std::alloc::{AllocError, Global};
 use std::sync::atomic::{AtomicU32, Ordering};
 use std::thread;
 use std::time::{Clock, Duration};
 
-/// What a node calls before and after each of its posts, in each idle turn, and where it has gone on; and what a run calls
-/// once its edge list is read. Nothing is asked of it.
+/// What a node calls once its replica is made, before and after each of its posts, in each idle turn, and where it has gone
+/// on; and what a run calls once its edge list is read. Nothing is asked of it.
 pub trait Gate {
     /// The node is about to post a batch of the superstep.
     fn before_post(&self, node: NodeId, superstep: u32);
@@ -28,6 +30,9 @@ pub trait Gate {
 
     /// The run has read its edge list, of so many records and vertices. As given, nothing is done.
     fn after_read(&self, _records: u64, _vertices: u32) {}
+
+    /// The node's first replica is made, and stands at superstep 0. As given, nothing is done.
+    fn after_start(&self, _node: NodeId) {}
 
     /// The node has gone on to the superstep, at which so many vertices of its partition changed. As given, nothing is
     /// done.
@@ -52,10 +57,10 @@ impl Gate for OpenGate {
 const YIELDS: u32 = 64;
 
 /// How many replicas a partition has at most.
-const REPLICAS: usize = 4;
+const REPLICAS: usize = MOST_REPLICAS as usize;
 
-/// How many nodes a run has at most: 64 partitions of 4 replicas.
-const NODES: usize = 64 * REPLICAS;
+/// How many nodes a run has at most.
+const NODES: usize = MOST_PARTS as usize * REPLICAS;
 
 /// How long a node sleeps at most, in microseconds.
 const LONGEST: u64 = 1000;

@@ -34,7 +34,6 @@ mod laws;
 mod memory;
 mod node;
 mod options;
-mod pages;
 mod planned;
 mod running;
 mod shared;

@@ -265,6 +265,7 @@ pub fn run_node<R: AllocGlobal + Wait, E: Exchange, G: Gate>(
         orders.now.restart ≡ None → result ≢ Err BookFull }
 {
     let mut replica = first_replica(rt.alloc(), &part)?;
+    gate.after_start(node);
     let fate = go_on(rt, exchange, gate, node, &part, orders, &mut replica);
     end_with(fate, replica)
 }

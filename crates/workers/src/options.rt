@@ -8,7 +8,7 @@ use ball_model::{Estimate, NodeId};
 use edgelist::Delimiter;
 
 /// The most replicas that a partition may have.
-const MOST_REPLICAS: u8 = 4;
+pub(crate) const MOST_REPLICAS: u8 = 4;
 
 /// The fewest entries that the board's history may have.
 const LEAST_ENTRIES: u32 = 2;

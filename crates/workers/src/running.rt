@@ -88,6 +88,10 @@ impl<'a, G: Gate> Gate for RunGate<'a, G> {
         self.gate.after_read(records, vertices);
     }
 
+    fn after_start(&self, node: NodeId) {
+        self.gate.after_start(node);
+    }
+
     fn after_close(&self, node: NodeId, superstep: u32, changed: u32) {
         self.gate.after_close(node, superstep, changed);
     }

@@ -11,11 +11,12 @@ use std::sync::Arc;
 /// A table of rows that batches share.
 pub(crate) type SharedTable = Arc<Vec<u8>>;
 
-/// The last three tables that a node's batches shared.
+/// Three of the tables that a node's batches shared, or fewer.
 ///
 /// Where each superstep is kept, batches are dropped two supersteps after they were posted. So as a rule nobody else has
 /// their table three supersteps later, and nobody ever has that of batches that another node posted first. Such a table is
-/// filled again: with a new one each superstep, runs took more memory.
+/// filled again, the oldest first, and a new one is made only where there is none: with a new one each superstep, runs took
+/// more memory.
 pub(crate) struct SharedTables {
     latest: Option<SharedTable>,
     before: Option<SharedTable>,
@@ -58,19 +59,25 @@ impl SharedTables {
         Ok(table)
     }
 
-    // A table that nobody else has. Where there is more than one, the others are let go.
+    // The oldest table that nobody else has. The others stay.
     fn free(&mut self) -> Option<Vec<u8>> {
-        let latest = take_free(&mut self.latest);
-        let before = take_free(&mut self.before);
-        let oldest = take_free(&mut self.oldest);
-        latest.or(before).or(oldest)
+        if let Some(rows) = take_free(&mut self.oldest) {
+            return Some(rows);
+        }
+        if let Some(rows) = take_free(&mut self.before) {
+            return Some(rows);
+        }
+        take_free(&mut self.latest)
     }
 
-    // Keeps a table as the latest.
+    // Keeps a table as the latest. The oldest is let go where there are three others.
     fn keep(&mut self, table: SharedTable) {
-        self.oldest = self.before.take();
-        self.before = self.latest.take();
-        self.latest = Some(table);
+        let Some(latest) = self.latest.replace(table) else {
+            return;
+        };
+        if let Some(before) = self.before.replace(latest) {
+            self.oldest = Some(before);
+        }
     }
 }
 

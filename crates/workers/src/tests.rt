@@ -8,7 +8,6 @@ mod rows;
 mod runs;
 mod schedules;
 mod tables;
-mod texts;
 
 ghost use Rattle.std.specs.Arc.{arc_value};
 ghost use Rattle.std.specs.Prelude.{◌≡◌, ◌<◌, ◌≤◌, IfSome};

@@ -255,7 +255,7 @@ fn has_grown<E: Exchange, G: Gate>(
     gate: &G,
     node: NodeId,
     source: u16,
-    known: u64,
+    before: u64,
     patience: u32,
 ) -> bool
     requires caller { IsCaller (E.caller exchange.old) }
@@ -264,7 +264,7 @@ fn has_grown<E: Exchange, G: Gate>(
 {
     for _ in 0..patience {
         let may_come = gate.wait_for(node, source);
-        if exchange.length() != known {
+        if exchange.length() != before {
             return true;
         }
         if !may_come {

@@ -267,6 +267,12 @@ fn least_lost_partition(rt: HostRuntime) {
         ..losing(&orders)
     };
     assert!(rt; fails(&rt, &asked, RunError::PartitionLost { part: 1 }));
+    let later = [(node(2, 0), 0), (node(1, 0), 1)];
+    let asked = Asked {
+        lose: &later,
+        ..asked
+    };
+    assert!(rt; fails(&rt, &asked, RunError::PartitionLost { part: 2 }));
 }
 
 #[test]

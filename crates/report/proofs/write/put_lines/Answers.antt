@@ -1,16 +1,15 @@
-use Rattle.std.proofs.Common.{◌≡◌, ◌∙◌, ◌+◌, ◌-◌, ℕ, refl, arith, subst}
-use Rattle.std.specs.Io.KnownBytes.{Appends}
+use Rattle.std.proofs.Common.{◌≡◌, ◌+◌, ◌-◌, ℕ, arith, subst}
+use Rattle.std.proofs.lemmas.Result.{err_from_is_err_and}
 use Rattle.report.specs.Parts.{lists_in, vertices_text}
-use Rattle.report.proofs.FrontLemmas.{front_piece, on_err}
-use Rattle.report.proofs.PieceLemmas.{no_piece, piece_more}
+use Rattle.report.specs.Written.{WrittenWhole}
+use Rattle.report.proofs.WrittenLemmas.{no_piece, piece_more, piece_part}
 use Rattle.report.proofs.write.put_lines.Goals as goal
 
 pub loop-at-init : goal.loop-at-init
 loop-at-init g c = record {
   low = omega arith;
   high = c.requires.from;
-  written = no_piece c.args.graph.now.labels c.args.first (lists_in c.args.parts.now) c.args.from _;
-  counted = refl;
+  written = no_piece g.W.Write.contents g.W.CountedWrite.failed_calls c.args.writer.now c.args.graph.now.labels c.args.first (lists_in c.args.parts.now) c.args.from;
 }
 
 -- the vertices of a piece are some of these
@@ -19,25 +18,23 @@ put_piece-requires-clause-places g c = λ x low high. c.requires.places x (omega
 
 pub loop-at-preserved : goal.loop-at-preserved
 loop-at-preserved g c =
-    let labels = c.args.graph.now.labels in
     let to : ℕ = c.loop-at.at + c.min.result in
     record {
       low = omega arith;
       high = omega arith;
-      written = piece_more labels c.args.first (lists_in c.args.parts.now) c.args.from c.loop-at.at to _ _ _ _ c.loop-at.invariant.low (omega arith)
-          c.loop-at.invariant.written c.in_ok-put_piece.ensures.done refl;
-      counted = c.in_ok-put_piece.ensures.counted (λ e. cc) ∙ c.loop-at.invariant.counted;
+      written = piece_more c.args.graph.now.labels c.args.first (lists_in c.args.parts.now) c.args.from c.loop-at.at to
+          c.loop-at.invariant.low (omega arith) c.loop-at.invariant.written c.in_ok-put_piece.ensures;
     }
 
-pub returns-clause-done : goal.returns-clause-done
-returns-clause-done g c =
+pub returns : goal.returns
+returns g c =
     let all : c.loop-at.at ≡ c.args.to = omega arith in
-    subst (λ n. Appends (g.W.Write.contents c.args.writer.now) (g.W.Write.contents c.loop-at.writer) (vertices_text c.args.graph.now.labels c.args.first (lists_in c.args.parts.now) c.args.from (n - c.args.from)))
+    subst (λ n. WrittenWhole g.W.Write.contents g.W.CountedWrite.failed_calls c.args.writer.now c.loop-at.writer (vertices_text c.args.graph.now.labels c.args.first (lists_in c.args.parts.now) c.args.from (n - c.args.from)))
     all c.loop-at.invariant.written
 
-pub returns-in_err-put_piece-clause-front : goal.returns-in_err-put_piece-clause-front
-returns-in_err-put_piece-clause-front g c =
+pub returns-in_err-put_piece : goal.returns-in_err-put_piece
+returns-in_err-put_piece g c =
     let end : ℕ = c.loop-at.at + c.min.result in
-    on_err c.from_residual.result
-    (front_piece c.args.graph.now.labels c.args.first (lists_in c.args.parts.now) c.args.from c.loop-at.at end c.args.to _ _ _ c.loop-at.invariant.low (omega arith) (omega arith)
-    c.loop-at.invariant.written c.in_err-put_piece.ensures.front)
+    let p = err_from_is_err_and c.from_residual.result c.from_residual.ensures.1 in
+    rw (p.1, p.2) (piece_part c.args.graph.now.labels c.args.first (lists_in c.args.parts.now) c.args.from c.loop-at.at end c.args.to c.in_err-put_piece.field-0.0
+    c.loop-at.invariant.low (omega arith) (omega arith) c.loop-at.invariant.written c.in_err-put_piece.ensures)

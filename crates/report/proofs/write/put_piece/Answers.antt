@@ -1,11 +1,12 @@
-use Rattle.report.specs.Parts.{lists_in, vertices_text}
 use Rattle.std.proofs.Common.{◌-◌}
-use Rattle.report.proofs.FrontLemmas.{front_none, on_err, vertices_some}
+use Rattle.std.proofs.lemmas.Result.{err_from_is_err_and}
+use Rattle.report.specs.Parts.{lists_in, vertices_text}
+use Rattle.report.proofs.FrontLemmas.{vertices_some}
+use Rattle.report.proofs.WrittenLemmas.{nothing_of}
 use Rattle.report.proofs.write.put_piece.Goals as goal
 
-pub returns-in_err-vertices-clause-front : goal.returns-in_err-vertices-clause-front
-returns-in_err-vertices-clause-front g c =
-    let labels = c.args.graph.now.labels in
-    let parts = lists_in c.args.parts.now in
-    on_err c.from_residual.result
-    (front_none (vertices_text labels c.args.first parts c.args.from (c.args.to - c.args.from)) _ (vertices_some labels c.args.first parts c.args.from c.args.to c.requires.from))
+pub returns-in_err-vertices : goal.returns-in_err-vertices
+returns-in_err-vertices g c =
+    let p = err_from_is_err_and c.from_residual.result c.from_residual.ensures.1 in
+    rw (p.1, p.2) (nothing_of g.W.Write.contents g.W.CountedWrite.failed_calls c.args.writer.now (vertices_text c.args.graph.now.labels c.args.first (lists_in c.args.parts.now) c.args.from (c.args.to - c.args.from))
+    (vertices_some c.args.graph.now.labels c.args.first (lists_in c.args.parts.now) c.args.from c.args.to c.requires.from))

@@ -2,8 +2,8 @@ use Rattle.std.proofs.Common.{◌≡◌, ◌∙◌, ◌≤◌, ◌&&◌, [], All
 use Rattle.std.proofs.lemmas.List.Elements.{All-tail}
 use Rattle.std.proofs.lemmas.List.{nil_from_length}
 use Rattle.std.specs.Vec.Iter.{into_iter_items}
-use Rattle.workers.specs.Ends.{fault_of, faults_in}
-use Rattle.workers.proofs.EndsLemmas.{all_noted_more, parts_end, parts_start, with_parts}
+use Rattle.workers.specs.Ends.{each_has_done, fault_of, faults_in}
+use Rattle.workers.proofs.EndsLemmas.{all_noted_more, complete_end, complete_more, parts_end, parts_start, with_parts}
 use Rattle.workers.proofs.JobLemmas.{SettlingAll, settling_all_more, settling_all_start}
 use Rattle.workers.proofs.ends.settle.Goals.{then-branch, else-branch}
 use Rattle.workers.proofs.ends.settle.Goals as goal
@@ -20,6 +20,7 @@ loop-own-init c =
             (settling_all_start (λ own. own.items) j o c.args.ends.items c.none-faults.result h (c.none-faults.ensures.noted j.plan.parts o))),
       ),
       parts_start (λ own. own.items) _ c.args.ends.items c.none-faults.result same c.none-faults.ensures.exact,
+      ap (each_has_done (λ own. own.items)) same,
     )
 
 pub loop-own-preserved : goal.loop-own-preserved
@@ -39,9 +40,16 @@ loop-own-preserved c =
             (c.settle_part-next.ensures.noted j o) (c.settle_part-next.ensures.done j o) c.in_ok-complete.ensures.count (c.in_ok-complete.ensures.each j) both,
       ),
       all_noted_more (λ own. own.items) c.loop-own.p c.in-Some.own (into_iter_items c.next.new.self) c.args.ends.items c.loop-own.faults c.settle_part-next.new.faults (subst (λ rest. with_parts (λ own. own.items) c.loop-own.p rest c.loop-own.faults ≡ faults_in (λ own. own.items) c.args.ends.items) next i.2) c.settle_part-next.ensures.exact,
+      complete_more (λ own. own.items) c.in-Some.own (into_iter_items c.next.new.self) c.args.ends.items c.loop-own.complete c.in_ok-complete.complete c.if-branch.complete (subst (λ rest. (c.loop-own.complete && each_has_done (λ own. own.items) rest) ≡ each_has_done (λ own. own.items) c.args.ends.items) next i.3)
+          (c.in_ok-complete.ensures.kept ∙ c.settle_part-next.ensures.some) both,
     )
 
 pub returns-else-complete-clause-first : goal.returns-else-complete-clause-first
 returns-else-complete-clause-first c =
     let none : into_iter_items c.loop-own.own-iterator ≡ [] = nil_from_length _ (omega (arith, c.in-None.ensures.steps.0, c.loop-own.own-iterator.rest.ok.0)) in
     λ _. c.first.ensures.exact ∙ ap fault_of (parts_end (λ own. own.items) c.loop-own.p _ c.args.ends.items c.loop-own.faults none c.loop-own.invariant.2)
+
+pub returns-else-complete-clause-lacking : goal.returns-else-complete-clause-lacking
+returns-else-complete-clause-lacking c =
+    let none : into_iter_items c.loop-own.own-iterator ≡ [] = nil_from_length _ (omega (arith, c.in-None.ensures.steps.0, c.loop-own.own-iterator.rest.ok.0)) in
+    λ _. complete_end (λ own. own.items) _ c.args.ends.items c.loop-own.complete none c.loop-own.invariant.3 c.if-complete.false

@@ -4,7 +4,7 @@ use Rattle.ball_model.specs.History.{holding_in}
 use Rattle.ball_model.specs.State.{State}
 use Rattle.replica.specs.Merged.{Absorbs}
 use Rattle.replica.specs.Seen.{IsState}
-use Rattle.replica.proofs.LevelLemmas.{number_is}
+use Rattle.replica.proofs.LevelLemmas.Level.{number_is}
 use Rattle.workers.proofs.TurnLemmas.{is_there}
 use Rattle.workers.proofs.PathLemmas.{come_nowhere, gone_nowhere, gone, on_err, if_none, come_by_call, held_merged}
 use Rattle.workers.proofs.turn.catch_up.Goals as goal

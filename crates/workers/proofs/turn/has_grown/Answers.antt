@@ -9,8 +9,8 @@ loop-init g c = (extends_self _ c.requires.caller, refl)
 pub loop-preserved : goal.loop-preserved
 loop-preserved g c = (extends_trans _ _ _ c.loop.invariant.0 c.length.ensures.seen, nothing_then (g.E.Exchange.caller c.args.exchange.now) (g.E.Exchange.caller c.loop.exchange) (g.E.Exchange.caller c.length.new.self) c.loop.invariant.0 c.loop.invariant.1 c.length.ensures.nothing)
 
-pub returns-then-length-known : goal.returns-then-length-known
-returns-then-length-known g c = record { seen = extends_trans _ _ _ c.loop.invariant.0 c.length.ensures.seen; nothing = nothing_then (g.E.Exchange.caller c.args.exchange.now) (g.E.Exchange.caller c.loop.exchange) (g.E.Exchange.caller c.length.new.self) c.loop.invariant.0 c.loop.invariant.1 c.length.ensures.nothing }
+pub returns-then-length-before : goal.returns-then-length-before
+returns-then-length-before g c = record { seen = extends_trans _ _ _ c.loop.invariant.0 c.length.ensures.seen; nothing = nothing_then (g.E.Exchange.caller c.args.exchange.now) (g.E.Exchange.caller c.loop.exchange) (g.E.Exchange.caller c.length.new.self) c.loop.invariant.0 c.loop.invariant.1 c.length.ensures.nothing }
 
 pub returns-then-not-may_come : goal.returns-then-not-may_come
 returns-then-not-may_come g c = record { seen = extends_trans _ _ _ c.loop.invariant.0 c.length.ensures.seen; nothing = nothing_then (g.E.Exchange.caller c.args.exchange.now) (g.E.Exchange.caller c.loop.exchange) (g.E.Exchange.caller c.length.new.self) c.loop.invariant.0 c.loop.invariant.1 c.length.ensures.nothing }

@@ -1,5 +1,5 @@
 use Rattle.std.proofs.Common.{◌∙◌, refl}
-use Rattle.replica.proofs.LevelLemmas.{number_is}
+use Rattle.replica.proofs.LevelLemmas.Level.{number_is}
 use Rattle.workers.proofs.TurnLemmas.{below_plan, true_shared, told_by_call}
 use Rattle.workers.proofs.PathLemmas.{gone_nowhere, on_err, come_by_call, own_post}
 use Rattle.workers.proofs.turn.tell.Goals as goal

@@ -1,6 +1,6 @@
 use Rattle.std.proofs.Common.{ap, arith, refl}
 use Rattle.ball_model.specs.PlanValue.{PlanValue}
-use Rattle.replica.proofs.LevelLemmas.{plan_is}
+use Rattle.replica.proofs.LevelLemmas.Level.{plan_is}
 use Rattle.workers.proofs.PathLemmas.{come_nowhere, gone_nowhere, on_err}
 use Rattle.workers.proofs.TurnLemmas.{no_other}
 use Rattle.workers.proofs.turn.tell_all.Goals as goal

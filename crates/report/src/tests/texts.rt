@@ -1,9 +1,8 @@
 //! Texts that are kept in pieces.
 
 use super::*;
-use crate::pages::Pages;
 use ball_model::MemWriter;
-use std::io::Write;
+use std::alloc::Global;
 
 // Three pages, of which the second is empty.
 static PAGES: [&[u8]; 3] = [b"one,", b"", b"two"];

@@ -1,7 +1,7 @@
 use Rattle.std.proofs.Common.{◌≡◌, take}
 use Rattle.std.specs.List.{flat_map}
 use Rattle.std.specs.Io.KnownBytes.{Appends}
-use Rattle.workers.proofs.pages.Pages.write_to.Given as goal
+use Rattle.report.proofs.pages.Pages.write_to.Given as goal
 
 -- the first pages were appended, and no call has failed
 abbrev pub invariant-loop-page : goal.invariant-loop-page

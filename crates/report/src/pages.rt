@@ -31,7 +31,7 @@ impl Model for Pages {
 }
 
 impl Pages {
-    // No page yet. It takes no memory.
+    /// No page yet. It takes no memory.
     pub fn new(alloc: Global) -> Pages
         ensures { result ≡ [] }
     {
@@ -41,7 +41,7 @@ impl Pages {
         }
     }
 
-    // Writes all pages and answers true, or answers false where a call failed; nothing is tried again.
+    /// Writes all pages and answers true, or answers false where a call failed; nothing is tried again.
     pub fn write_to<W: CountedWrite>(&self, writer: &mut W) -> bool
         ensures done { result ≡ true →
             Appends (W.contents writer.old) (W.contents writer.new) self.now }

@@ -1,0 +1,27 @@
+-- What writing a text came to.
+use Rattle.std.specs.Prelude.{◌≡◌, ◌≢◌, ℕ, List, Option, Result, MatchResult}
+use Rattle.std.specs.Io.KnownBytes.{Appends}
+use Rattle.ball_model.specs.Streams.{PutsFront, Rises}
+use Rattle.report.specs.declared.write.ReportError.{ReportError}
+use Rattle.report.specs.declared.write.ReportError.TheVariants as fault
+
+-- a writer of these contents was given the text, and no call of it failed
+pub record WrittenWhole {W : Type 0} (contents : W → Option (List ℕ)) (failed : W → ℕ) (old new : W)
+    (text : List ℕ) : Type 0 where
+  pub appended : Appends (contents old) (contents new) text
+  pub counted : failed new ≡ failed old
+
+-- it was given a beginning, and not all of it; a call failed where the error is of a write, and only there
+pub record WrittenInPart {W : Type 0} (contents : W → Option (List ℕ)) (failed : W → ℕ) (old new : W)
+    (text : List ℕ) (e : ReportError) : Type 0 where
+  pub front : PutsFront (contents old) (contents new) text
+  pub failed_one : e ≡ fault.Write → Rises (failed old) (failed new)
+  pub counted : e ≢ fault.Write → failed new ≡ failed old
+
+-- one or the other
+abbrev pub WritesText : {W : Type 0} → (W → Option (List ℕ)) → (W → ℕ) → W → W → List ℕ →
+    Result (Unit {0}) ReportError → Type 0
+WritesText contents failed old new text result =
+    MatchResult result
+    (λ _. WrittenWhole contents failed old new text)
+    (WrittenInPart contents failed old new text)
