@@ -105,6 +105,7 @@ news-no_end (told.Read records vertices) =
     joined (decimal records ++ codes " records and " ++ decimal vertices) (codes " vertices are read")
     (numbered (decimal records) (codes " records and ") vertices (decimal-no_end records) refl)
     (seen (codes " vertices are read") refl)
+news-no_end told.Start = seen (codes "the supersteps begin") refl
 news-no_end (told.Superstep superstep changed vertices) =
     changed-no_end (codes "superstep " ++ decimal superstep) (codes " of ") changed vertices
     (numbered [] (codes "superstep ") superstep (All-nil (λ b. b ≢ 10)) refl) refl

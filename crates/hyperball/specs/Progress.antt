@@ -11,6 +11,7 @@ use Rattle.hyperball.specs.declared.told.Told.TheVariants as told
 abbrev pub news_text : Told → List ℕ
 news_text (told.Read records vertices) =
     decimal records ++ codes " records and " ++ decimal vertices ++ codes " vertices are read"
+news_text told.Start = codes "the supersteps begin"
 news_text (told.Superstep superstep changed vertices) =
     codes "superstep " ++ decimal superstep ++ codes ", " ++ decimal changed ++ codes " of "
     ++ decimal vertices ++ codes " vertices changed"

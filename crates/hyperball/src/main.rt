@@ -41,13 +41,23 @@ pub mod whole;
 pub mod words;
 
 use ball_model::{CountingReader, CountingWriter};
-use std::io::{BufReader, IsTerminal, Write};
+use std::io::{BufReader, ErrorKind, IsTerminal, Write};
 use std::process::ExitCode;
 use std::{env, io};
 
 // The words of the command line. No contract of std says what these are.
 fn words_of(rt: &HostRuntime) -> io::Result<Vec<String>> {
     Ok(env::args(rt)?.collect(rt.alloc())?)
+}
+
+// Tells why there are no words, and gives the status. A word that is no UTF-8 is refused as other words are.
+fn tell_no_words(rt: &HostRuntime, error: io::Error) -> u8 {
+    let mut faults = rt.stderr();
+    if error.kind() == ErrorKind::InvalidData {
+        let _ = writeln!(faults, "error: a word is not valid UTF-8");
+        return 2;
+    }
+    serve::tell_fault(&mut faults, error)
 }
 
 // One who is to type the input is told so. Words that ask for help, or are refused, read none.
@@ -60,12 +70,12 @@ fn tell_terminal(rt: &HostRuntime, words: &[String]) {
 }
 
 fn main(rt: HostRuntime) -> ExitCode {
-    let mut faults = rt.stderr();
     let words = match words_of(&rt) {
         Ok(words) => words,
-        Err(error) => return ExitCode::from(serve::tell_fault(&mut faults, error)),
+        Err(error) => return ExitCode::from(tell_no_words(&rt, error)),
     };
     tell_terminal(&rt, &words);
+    let mut faults = rt.stderr();
     let stdin = match BufReader::new(rt.alloc(), rt.stdin()) {
         Ok(stdin) => stdin,
         Err(error) => return ExitCode::from(serve::tell_fault(&mut faults, error)),

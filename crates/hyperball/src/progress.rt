@@ -79,12 +79,15 @@ impl Superstep {
     }
 }
 
-/// Tells how a run gets on: its edge list, each superstep that all partitions have come to, and the report.
+/// Tells how a run gets on: its edge list, where its supersteps begin, each that all partitions have come to, and the
+/// report.
 #[derive(Drop)]
 pub struct Progress<'a, T> {
     teller: &'a T,
     // how many vertices the graph has, once it is read
     vertices: AtomicU32,
+    // how many nodes have started
+    started: AtomicU32,
     // how many partitions the run has beside one
     others: u32,
     // the furthest superstep that a node of each partition has come to
@@ -99,6 +102,7 @@ impl<'a, T: Teller> Progress<'a, T> {
         Ok(Progress {
             teller,
             vertices: AtomicU32::new(0),
+            started: AtomicU32::new(0),
             others: u32::from(parts.saturating_sub(1)),
             reached: at_start(alloc, parts)?,
             supersteps: no_supersteps(alloc)?,
@@ -109,6 +113,13 @@ impl<'a, T: Teller> Progress<'a, T> {
     fn note_edge_list(&self, records: u64, vertices: u32) {
         self.vertices.store(vertices, Ordering::SeqCst);
         self.teller.tell(Told::Read { records, vertices });
+    }
+
+    // A node stands at superstep 0. The first one tells it.
+    fn note_start(&self) {
+        if self.started.fetch_add(1, Ordering::SeqCst) == 0 {
+            self.teller.tell(Told::Start);
+        }
     }
 
     // A node of a partition has come to a superstep, at which so many vertices of the partition changed. The first node
@@ -214,6 +225,12 @@ impl<'a, C: Clock, T: Teller> Gate for TellingGate<'a, C, T> {
     fn after_read(&self, records: u64, vertices: u32) {
         if let Some(progress) = &self.progress {
             progress.note_edge_list(records, vertices);
+        }
+    }
+
+    fn after_start(&self, _node: NodeId) {
+        if let Some(progress) = &self.progress {
+            progress.note_start();
         }
     }
 

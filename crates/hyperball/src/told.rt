@@ -12,6 +12,8 @@ pub enum Told {
         records: u64,
         vertices: u32,
     },
+    /// A first node stands at superstep 0.
+    Start,
     /// All partitions have come to a superstep, at which so many of all vertices changed.
     Superstep {
         superstep: u32,
@@ -47,6 +49,7 @@ impl Display for Told {
                     "hyperball: {records} records and {vertices} vertices are read"
                 )
             }
+            Told::Start => write!(f, "hyperball: the supersteps begin"),
             Told::Superstep {
                 superstep,
                 changed,

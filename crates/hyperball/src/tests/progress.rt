@@ -25,9 +25,12 @@ const FOUR_RECORDS: &[u8] = b"# two edges\na\tb\nb\tc\n\na\tb\nc\n";
 
 const REPORTED: &[u8] = b"hyperball: the report is written\n";
 
+const BEGUN: &[u8] = b"hyperball: the supersteps begin\n";
+
 /// What a run of the two edges tells.
 const RUN_LINES: Pieces = &[
     READ,
+    BEGUN,
     b"hyperball: superstep 1, 2 of 3 vertices changed\n",
     b"hyperball: superstep 2, 1 of 3 vertices changed\n",
     b"hyperball: superstep 3, 0 of 3 vertices changed\n",
@@ -80,7 +83,7 @@ static TELLINGS: [Telling; 17] = [
             &[REPORT],
             b"",
         ),
-        &[LINE, LINE, LINE, LINE, LINE],
+        &[LINE, LINE, LINE, LINE, LINE, LINE],
     ),
     (
         (
@@ -102,6 +105,7 @@ static TELLINGS: [Telling; 17] = [
         ),
         &[
             b"hyperball: 4 records and 3 vertices are read\n",
+            BEGUN,
             b"hyperball: superstep 1, 2 of 3 vertices changed\n",
             b"hyperball: superstep 2, 1 of 3 vertices changed\n",
             b"hyperball: superstep 3, 0 of 3 vertices changed\n",
@@ -118,6 +122,7 @@ static TELLINGS: [Telling; 17] = [
         ),
         &[
             READ,
+            BEGUN,
             b"hyperball: superstep 1, 2 of 3 vertices changed\n",
             REPORTED,
         ],

@@ -7,6 +7,9 @@ pub returns-in-Read-clause-writes : goal.returns-in-Read-clause-writes
 returns-in-Read-clause-writes g c = λ plain ok.
     rw c.in-Read.is (has_written_of_eq _ _ _ _ _ (sym (read_text c.in-Read.records c.in-Read.vertices)) (c.write.ensures.writes plain ok))
 
+pub returns-in-Start-clause-writes : goal.returns-in-Start-clause-writes
+returns-in-Start-clause-writes g c = rw c.in-Start.is (search rules)
+
 pub returns-in-Superstep-clause-writes : goal.returns-in-Superstep-clause-writes
 returns-in-Superstep-clause-writes g c = λ plain ok.
     rw c.in-Superstep.is (has_written_of_eq _ _ _ _ _ (sym (superstep_text c.in-Superstep.superstep c.in-Superstep.changed c.in-Superstep.vertices)) (c.write-in-Superstep.ensures.writes plain ok))
