@@ -1,4 +1,4 @@
--- Words of short labels, and entries that tell their places.
+-- Words of short labels, and entries that tell their numbers.
 use Rattle.std.proofs.Common.{◌≡◌, ◌≢◌, ◌∙◌, ℕ, zero, suc, ◌+◌, ◌-◌, ◌*◌, ◌^◌, ◌<◌, ◌≤◌, true, false, ◌==◌, ◌&&◌, List, [], ◌∷◌, ◌++◌, length, get_or, set, take, drop, replicate, refl, ap, ap₂, arith, sym, subst, pow_mono}
 use Rattle.std.specs.Prelude.{min}
 use Rattle.std.specs.List.{list_any}
@@ -7,7 +7,7 @@ use Rattle.std.proofs.lemmas.Nat.{pow-add}
 use Rattle.std.proofs.lemmas.List.Folds.{list_any_at}
 use Rattle.std.proofs.lemmas.List.{length-take, length-drop, take-append-drop, get_or_default, get_or-set_same, get_or-set_other}
 use Rattle.std.proofs.lemmas.Bool.{eqb-true, eq-eqb}
-use Rattle.edgelist.specs.Guessing.{bytes_after, word_of, IsShort, StandsAt, IsGuess, AreGuesses, told_word, blank_entry}
+use Rattle.edgelist.specs.Guessing.{bytes_after, word_of, IsShort, StandsAt, IsGuess, AreGuesses, entry_word, blank_entry}
 use Rattle.edgelist.specs.declared.numbering.Entry.{Entry}
 use Rattle.edgelist.specs.declared.numbering.LabelWord.{LabelWord}
 use Rattle.edgelist.specs.Reading.{with_label}
@@ -69,8 +69,8 @@ same-numbers a b t =
     ap₂ make (eqb-true a.low b.low low) (eqb-true a.high b.high high))
     (λ f. absurd (let bad = rw f at t in cc))
 
--- an entry of the word of a label tells its place
-pub tells-one : (labels : List (List ℕ)) (label : List ℕ) (entry : Entry) → IsShort label → StandsAt labels label entry.number → told_word entry ≡ word_of label → IsGuess labels entry
+-- an entry of the word of a label tells its number
+pub tells-one : (labels : List (List ℕ)) (label : List ℕ) (entry : Entry) → IsShort label → StandsAt labels label entry.number → entry_word entry ≡ word_of label → IsGuess labels entry
 tells-one labels label entry short stands told other shorter is =
     subst (λ (l : List ℕ). StandsAt labels l entry.number) (sym (word-same other label shorter short (is ∙ told))) stands
 
@@ -94,15 +94,15 @@ told-set labels entries i e lt told tells = record {
       rw kept (told.each k));
 }
 
--- an entry with the word of a label tells its place
+-- an entry with the word of a label tells its number
 pub told-at : (labels : List (List ℕ)) (entries : List Entry) (label : List ℕ) (word : LabelWord) (i : ℕ) (e d : Entry) → e ≡ get_or entries i d → i < length entries → AreGuesses labels entries → IsShort label → word ≡ word_of label
     → ((e.low == word.low) && (e.high == word.high)) ≡ true → StandsAt labels label e.number
 told-at labels entries label word i e d is lt told short word_is t =
     let here : e ≡ get_or entries i blank_entry = is ∙ get_or_default entries i d blank_entry lt in
     let tells : IsGuess labels e = rw here (told.each i) in
-    tells label short (sym word_is ∙ sym (same-numbers (told_word e) word t))
+    tells label short (sym word_is ∙ sym (same-numbers (entry_word e) word t))
 
--- the labels have the one that stands at a place
+-- the labels have the one that stands at a number
 pub with-label-at : (labels : List (List ℕ)) (label : List ℕ) (i : ℕ) → StandsAt labels label i → labels ≡ with_label labels label
 with-label-at labels label i stands =
     let known : list_any (λ k. bytes_eq k label) labels ≡ true = list_any_at (λ k. bytes_eq k label) labels i [] stands.within (rw stands.is (text_same label)) in

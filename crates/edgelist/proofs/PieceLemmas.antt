@@ -1,18 +1,18 @@
 -- What of an edge list is read some lines at a time.
-use Rattle.std.proofs.Common.{◌≡◌, ◌∙◌, ◌+◌, ℕ, List, [], ◌∷◌, ◌++◌, false, ◌==◌, arith, ap, refl, sym, subst, append_assoc, inl, inr, length, map, Ok}
-use Rattle.std.specs.Prelude.{Option}
+use Rattle.std.proofs.Common.{◌≡◌, ◌∙◌, ◌+◌, ℕ, List, [], ◌∷◌, ◌++◌, false, ◌==◌, arith, ap, refl, sym, subst, append_assoc, inl, inr, length, map, Ok, true}
+use Rattle.std.specs.Prelude.{Option, Result, Err}
 use Rattle.std.specs.List.{filter}
 use Rattle.std.proofs.lemmas.Bool.{cases_Bool}
 use Rattle.std.proofs.lemmas.List.{append-nil, length-append, map-append}
 use Rattle.std.proofs.lemmas.List.Elements.{filter-append}
 use Rattle.csv.specs.declared.reader.Reader.{Reader}
-use Rattle.ball_model.specs.Input.{HasLfs, IsPlain, Limits, StartsWithLf, fields, has_mark, is_record, lines, network_from, records}
-use Rattle.edgelist.specs.Pieces.{AddsRecords, EndsLine, IsLeftOf, IsThrough, Runs}
-use Rattle.edgelist.specs.Records.{FindsNone, IsLeft, ReadsAll, ReadsOne, StopsAtEnd, config, is_row, rows}
+use Rattle.ball_model.specs.Input.{HasLfs, IsPlain, Limits, Network, Refusal, StartsWithLf, fields, has_mark, is_record, lines, network_from, records}
+use Rattle.edgelist.specs.Pieces.{AddsRecords, EndsLine, IsLeftOf, IsPartRead, IsThrough, ReadsOn}
+use Rattle.edgelist.specs.Records.{FindsNone, IsLeft, ReadsOne, ReadsRecords, StopsAtEnd, config, is_row, rows}
 use Rattle.edgelist.specs.Reading.{AddsRecord, EndsAt, Refuses, Stops, network_by}
 use Rattle.edgelist.specs.declared.edge.Edge.{Edge}
 use Rattle.edgelist.specs.declared.read.EdgeError.{EdgeError}
-use Rattle.edgelist.proofs.FaultLemmas.{clean-more, clean-none, says-network, says-refusal}
+use Rattle.edgelist.proofs.FaultLemmas.{clean-more, clean-none, refuses-none, says-network, says-refusal}
 use Rattle.edgelist.proofs.LineLemmas.{lines-some}
 use Rattle.edgelist.proofs.NetworkLemmas.{read-none}
 
@@ -35,34 +35,34 @@ through-more limits n rs f labels labels' edges edges' t adds = record {
 
 -- ---- some records of a text that were read after others
 
-pub runs-start : {R : Type 0} (rem : R → Option (List ℕ)) (d : ℕ) (limits : Limits) (n : ℕ) (before : Records) (text : List ℕ) (rdr : Reader R) (labels : List (List ℕ)) (edges : List Edge) →
-    IsLeft rem d text [] rdr → IsThrough limits n before labels edges → Runs rem d limits n before text rdr labels edges
-runs-start rem d limits n before text rdr labels edges at t = record {
+pub part-read-start : {R : Type 0} (rem : R → Option (List ℕ)) (d : ℕ) (limits : Limits) (n : ℕ) (before : Records) (text : List ℕ) (rdr : Reader R) (labels : List (List ℕ)) (edges : List Edge) →
+    IsLeft rem d text [] rdr → IsThrough limits n before labels edges → IsPartRead rem d limits n before text rdr labels edges
+part-read-start rem d limits n before text rdr labels edges at t = record {
   past = [];
   at = at;
   through = subst (λ (rs : Records). IsThrough limits n rs labels edges) (sym (append-nil before)) t;
 }
 
-pub runs-more : {R : Type 0} (rem : R → Option (List ℕ)) (d : ℕ) (limits : Limits) (n : ℕ) (before : Records) (text : List ℕ) (a b : Reader R) (labels labels' : List (List ℕ)) (edges edges' : List Edge) (f : List (List ℕ)) (runs : Runs rem d limits n before text a labels edges) →
-    IsLeft rem d text (runs.past ++ f ∷ []) b → AddsRecord limits n f labels edges labels' edges' → Runs rem d limits (n + 1) before text b labels' edges'
-runs-more rem d limits n before text a b labels labels' edges edges' f runs at adds = record {
-  past = runs.past ++ f ∷ [];
+pub part-read-more : {R : Type 0} (rem : R → Option (List ℕ)) (d : ℕ) (limits : Limits) (n : ℕ) (before : Records) (text : List ℕ) (a b : Reader R) (labels labels' : List (List ℕ)) (edges edges' : List Edge) (f : List (List ℕ)) (part : IsPartRead rem d limits n before text a labels edges) →
+    IsLeft rem d text (part.past ++ f ∷ []) b → AddsRecord limits n f labels edges labels' edges' → IsPartRead rem d limits (n + 1) before text b labels' edges'
+part-read-more rem d limits n before text a b labels labels' edges edges' f part at adds = record {
+  past = part.past ++ f ∷ [];
   at = at;
-  through = subst (λ (rs : Records). IsThrough limits (n + 1) rs labels' edges') (append_assoc before runs.past (f ∷ []))
-      (through-more limits n (before ++ runs.past) f labels labels' edges edges' runs.through adds);
+  through = subst (λ (rs : Records). IsThrough limits (n + 1) rs labels' edges') (append_assoc before part.past (f ∷ []))
+      (through-more limits n (before ++ part.past) f labels labels' edges edges' part.through adds);
 }
 
-pub runs-end : {R : Type 0} (rem : R → Option (List ℕ)) (d : ℕ) (limits : Limits) (n : ℕ) (before : Records) (text : List ℕ) (a : Reader R) (labels : List (List ℕ)) (edges : List Edge) (runs : Runs rem d limits n before text a labels edges) →
-    records d text ≡ runs.past → IsThrough limits n (before ++ records d text) labels edges
-runs-end rem d limits n before text a labels edges runs whole =
-    subst (λ (rs : Records). IsThrough limits n (before ++ rs) labels edges) (sym whole) runs.through
+part-read-end : {R : Type 0} (rem : R → Option (List ℕ)) (d : ℕ) (limits : Limits) (n : ℕ) (before : Records) (text : List ℕ) (a : Reader R) (labels : List (List ℕ)) (edges : List Edge) (part : IsPartRead rem d limits n before text a labels edges) →
+    records d text ≡ part.past → IsThrough limits n (before ++ records d text) labels edges
+part-read-end rem d limits n before text a labels edges part whole =
+    subst (λ (rs : Records). IsThrough limits n (before ++ rs) labels edges) (sym whole) part.through
 
 -- and no other was asked for
-pub runs-stops : {R : Type 0} (rem : R → Option (List ℕ)) (d : ℕ) (limits : Limits) (n : ℕ) (before : Records) (text : List ℕ) (a b : Reader R) (labels : List (List ℕ)) (edges : List Edge) (runs : Runs rem d limits n before text a labels edges) →
-    FindsNone rem d text runs.past a b → StopsAtEnd rem d text b
-runs-stops rem d limits n before text a b labels edges runs found = record {
+part-read-stops : {R : Type 0} (rem : R → Option (List ℕ)) (d : ℕ) (limits : Limits) (n : ℕ) (before : Records) (text : List ℕ) (a b : Reader R) (labels : List (List ℕ)) (edges : List Edge) (part : IsPartRead rem d limits n before text a labels edges) →
+    FindsNone rem d text part.past a b → StopsAtEnd rem d text b
+part-read-stops rem d limits n before text a b labels edges part found = record {
   before = a;
-  at = subst (λ (past : Records). IsLeft rem d text past a) (sym found.all) runs.at;
+  at = subst (λ (past : Records). IsLeft rem d text past a) (sym found.all) part.at;
   last = found.last;
 }
 
@@ -71,41 +71,79 @@ four : (a b c d e : Records) → a ++ (((b ++ c) ++ d) ++ e) ≡ (a ++ b) ++ (c 
 four a b c d e = rw (append_assoc (b ++ c) d e, append_assoc b c (d ++ e), append_assoc a b (c ++ (d ++ e))) refl
 
 -- a record more that was refused, whatever follows
-pub runs-stop : {R : Type 0} (rem : R → Option (List ℕ)) (d : ℕ) (limits : Limits) (n : ℕ) (before more : Records) (text : List ℕ) (a b : Reader R) (labels : List (List ℕ)) (edges : List Edge) (f : List (List ℕ)) (e : EdgeError) (runs : Runs rem d limits n before text a labels edges) →
-    IsLeft rem d text (runs.past ++ f ∷ []) b → Stops limits n f labels edges e → Refuses (network_from limits (before ++ (records d text ++ more))) e
-runs-stop rem d limits n before more text a b labels edges f e runs at stops =
+part-read-stop : {R : Type 0} (rem : R → Option (List ℕ)) (d : ℕ) (limits : Limits) (n : ℕ) (before more : Records) (text : List ℕ) (a b : Reader R) (labels : List (List ℕ)) (edges : List Edge) (f : List (List ℕ)) (e : EdgeError) (part : IsPartRead rem d limits n before text a labels edges) →
+    IsLeft rem d text (part.past ++ f ∷ []) b → Stops limits n f labels edges e → Refuses (network_from limits (before ++ (records d text ++ more))) e
+part-read-stop rem d limits n before more text a b labels edges f e part at stops =
     let left = filter is_row (rows (config d) b.state [] [] at.left) in
-    let whole : before ++ (records d text ++ more) ≡ (before ++ runs.past) ++ f ∷ (left ++ more) =
-    ap (λ (rs : Records). before ++ (rs ++ more)) at.all ∙ four before runs.past (f ∷ []) left more in
-    let t = runs.through in
-    rw whole (says-refusal limits (before ++ runs.past) f (left ++ more) e t.clean (rw t.count (stops.at (before ++ runs.past) (left ++ more) t.count t.so)))
+    let whole : before ++ (records d text ++ more) ≡ (before ++ part.past) ++ f ∷ (left ++ more) =
+    ap (λ (rs : Records). before ++ (rs ++ more)) at.all ∙ four before part.past (f ∷ []) left more in
+    let t = part.through in
+    rw whole (says-refusal limits (before ++ part.past) f (left ++ more) e t.clean (rw t.count (stops.at (before ++ part.past) (left ++ more) t.count t.so)))
 
 -- and nothing was read after it
-pub runs-ends : {R : Type 0} (rem : R → Option (List ℕ)) (d : ℕ) (limits : Limits) (n : ℕ) (text : List ℕ) (a b : Reader R) (labels : List (List ℕ)) (edges : List Edge) (f : List (List ℕ)) (e : EdgeError) (runs : Runs rem d limits n [] text a labels edges) →
-    IsLeft rem d text (runs.past ++ f ∷ []) b → Stops limits n f labels edges e → EndsAt rem d text limits b e
-runs-ends rem d limits n text a b labels edges f e runs at stops =
-    let t = runs.through in
+part-read-ends : {R : Type 0} (rem : R → Option (List ℕ)) (d : ℕ) (limits : Limits) (n : ℕ) (before : Records) (text : List ℕ) (a b : Reader R) (labels : List (List ℕ)) (edges : List Edge) (f : List (List ℕ)) (e : EdgeError) (part : IsPartRead rem d limits n before text a labels edges) →
+    before ≡ [] → IsLeft rem d text (part.past ++ f ∷ []) b → Stops limits n f labels edges e → EndsAt rem d text limits b e
+part-read-ends rem d limits n before text a b labels edges f e part none at stops =
+    let t : IsThrough limits n part.past labels edges = subst (λ (rs : Records). IsThrough limits n (rs ++ part.past) labels edges) none part.through in
     record {
-      before = runs.past;
+      before = part.past;
       last = f;
       at = at;
       clean = t.clean;
-      fault = rw t.count (stops.at runs.past [] t.count t.so);
+      fault = rw t.count (stops.at part.past [] t.count t.so);
     }
+
+-- ---- what is told of a text that is read some records at a time
+
+-- there may be others left
+pub reads-part : {R : Type 0} (rem : R → Option (List ℕ)) (d : ℕ) (limits : Limits) (n : ℕ) (before : Records) (text : List ℕ) (a : Reader R) (labels : List (List ℕ)) (edges : List Edge) →
+    IsPartRead rem d limits n before text a labels edges → ReadsOn rem d limits before text (Ok (n, true)) a labels edges
+reads-part rem d limits n before text a labels edges part = record {
+  goes = λ _. part;
+  end = λ bad. absurd (let no : true ≡ false = bad in cc);
+  last = λ bad. absurd (let no : true ≡ false = bad in cc);
+  refused = λ more. tt;
+  ends = λ none. tt;
+}
+
+-- all were read
+pub reads-whole : {R : Type 0} (rem : R → Option (List ℕ)) (d : ℕ) (limits : Limits) (n : ℕ) (before : Records) (text : List ℕ) (a b : Reader R) (labels : List (List ℕ)) (edges : List Edge) (part : IsPartRead rem d limits n before text a labels edges) →
+    FindsNone rem d text part.past a b → ReadsOn rem d limits before text (Ok (n, false)) b labels edges
+reads-whole rem d limits n before text a b labels edges part found = record {
+  goes = λ bad. absurd (let no : false ≡ true = bad in cc);
+  end = λ _. part-read-end rem d limits n before text a labels edges part found.all;
+  last = λ _. part-read-stops rem d limits n before text a b labels edges part found;
+  refused = λ more. tt;
+  ends = λ none. tt;
+}
+
+-- one was refused
+pub reads-refused : {R : Type 0} (rem : R → Option (List ℕ)) (d : ℕ) (limits : Limits) (n : ℕ) (before : Records) (text : List ℕ) (a b : Reader R) (labels labels' : List (List ℕ)) (edges edges' : List Edge) (f : List (List ℕ)) (e : EdgeError) (part : IsPartRead rem d limits n before text a labels edges) →
+    IsLeft rem d text (part.past ++ f ∷ []) b → Stops limits n f labels edges e → ReadsOn rem d limits before text (Err e) b labels' edges'
+reads-refused rem d limits n before text a b labels labels' edges edges' f e part at stops = record {
+  goes = tt;
+  end = tt;
+  last = tt;
+  refused = λ more. part-read-stop rem d limits n before more text a b labels edges f e part at stops;
+  ends = λ none is. part-read-ends rem d limits n before text a b labels edges f e part none at stops;
+}
+
+-- an error says nothing of the records
+pub reads-failed : {R : Type 0} (rem : R → Option (List ℕ)) (d : ℕ) (limits : Limits) (before : Records) (text : List ℕ) (a : Reader R) (labels : List (List ℕ)) (edges : List Edge) (e : EdgeError) →
+    ((says : Result Network Refusal) → Refuses says e) → ReadsOn rem d limits before text (Err e) a labels edges
+reads-failed rem d limits before text a labels edges e silent = record {
+  goes = tt;
+  end = tt;
+  last = tt;
+  refused = λ more. silent (network_from limits (before ++ (records d text ++ more)));
+  ends = λ none is. absurd (refuses-none e silent is);
+}
 
 -- the network of all records
 pub through-network : (limits : Limits) (n : ℕ) (rs : Records) (labels : List (List ℕ)) (edges : List Edge) → IsThrough limits n rs labels edges → network_from limits rs ≡ Ok (network_by labels edges)
 through-network limits n rs labels edges t = says-network limits rs labels edges t.clean t.so
 
 -- ---- records that are added one after another
-
-pub adds-none : (limits : Limits) (n : ℕ) (labels : List (List ℕ)) (edges : List Edge) → AddsRecords limits n [] labels edges labels edges
-adds-none limits n labels edges =
-    let same : n + 0 ≡ n = omega arith in
-    record {
-      through = λ before t. rw same (subst (λ (rs : Records). IsThrough limits n rs labels edges) (sym (append-nil before)) t);
-      within = λ w. rw same w;
-    }
 
 pub adds-more : (limits : Limits) (n : ℕ) (rs : Records) (f : List (List ℕ)) (a b c : List (List ℕ)) (x y z : List Edge) →
     AddsRecords limits n rs a x b y → AddsRecord limits (n + length rs) f b y c z → AddsRecords limits n (rs ++ f ∷ []) a x c z
@@ -118,21 +156,18 @@ adds-more limits n rs f a b c x y z adds one =
     }
 
 -- records that were read and added
-pub runs-all : {R : Type 0} (rem : R → Option (List ℕ)) (d : ℕ) (limits : Limits) (n : ℕ) (before : Records) (text : List ℕ) (a b : Reader R) (labels labels' : List (List ℕ)) (edges edges' : List Edge) (rs : Records) →
-    Runs rem d limits n before text a labels edges → ReadsAll rem a b rs → AddsRecords limits n rs labels edges labels' edges' → Runs rem d limits (n + length rs) before text b labels' edges'
-runs-all rem d limits n before text a b labels labels' edges edges' rs runs reads adds = record {
-  past = runs.past ++ rs;
-  at = reads d text runs.past runs.at;
-  through = subst (λ (all : Records). IsThrough limits (n + length rs) all labels' edges') (append_assoc before runs.past rs) (adds.through (before ++ runs.past) runs.through);
+pub part-read-all : {R : Type 0} (rem : R → Option (List ℕ)) (d : ℕ) (limits : Limits) (n : ℕ) (before : Records) (text : List ℕ) (a b : Reader R) (labels labels' : List (List ℕ)) (edges edges' : List Edge) (rs : Records) →
+    IsPartRead rem d limits n before text a labels edges → ReadsRecords rem a b rs → AddsRecords limits n rs labels edges labels' edges' → IsPartRead rem d limits (n + length rs) before text b labels' edges'
+part-read-all rem d limits n before text a b labels labels' edges edges' rs part reads adds = record {
+  past = part.past ++ rs;
+  at = reads d text part.past part.at;
+  through = subst (λ (all : Records). IsThrough limits (n + length rs) all labels' edges') (append_assoc before part.past rs) (adds.through (before ++ part.past) part.through);
 }
 
 -- one more record that was read
-pub reads-more : {R : Type 0} (rem : R → Option (List ℕ)) (a b c : Reader R) (rs : Records) (f : List (List ℕ)) → ReadsAll rem a b rs → ReadsOne rem b c f → ReadsAll rem a c (rs ++ f ∷ [])
+pub reads-more : {R : Type 0} (rem : R → Option (List ℕ)) (a b c : Reader R) (rs : Records) (f : List (List ℕ)) → ReadsRecords rem a b rs → ReadsOne rem b c f → ReadsRecords rem a c (rs ++ f ∷ [])
 reads-more rem a b c rs f all one = λ d text past at.
     subst (λ (ps : Records). IsLeft rem d text ps c) (append_assoc past rs (f ∷ [])) (one d text (past ++ rs) (all d text past at))
-
-pub reads-nothing : {R : Type 0} (rem : R → Option (List ℕ)) (a : Reader R) → ReadsAll rem a a []
-reads-nothing rem a = λ d text past at. subst (λ (ps : Records). IsLeft rem d text ps a) (sym (append-nil past)) at
 
 -- ---- lines of more than one piece
 

@@ -7,11 +7,11 @@ use Rattle.std.proofs.lemmas.List.{get_or-map, get_or-set_same, length-map, leng
 use Rattle.std.proofs.lemmas.List.Elements.{All-append, All-get_or}
 use Rattle.csv.specs.declared.reader.Reader.{Reader}
 use Rattle.ball_model.specs.Input.{Limits}
-use Rattle.edgelist.specs.Pieces.{AddsRecords, Runs}
-use Rattle.edgelist.specs.Records.{HasForm, ReadsAll, ReadsNone, ReadsNoneAfter, ReadsOne, ReadsOneAfter}
+use Rattle.edgelist.specs.Pieces.{AddsRecords, IsPartRead}
+use Rattle.edgelist.specs.Records.{HasForm, ReadsNone, ReadsNoneAfter, ReadsOne, ReadsOneAfter, ReadsRecords}
 use Rattle.edgelist.specs.Reading.{AddsRecord}
 use Rattle.edgelist.specs.declared.edge.Edge.{Edge}
-use Rattle.edgelist.proofs.PieceLemmas.{adds-more, reads-more, runs-all}
+use Rattle.edgelist.proofs.PieceLemmas.{adds-more, reads-more, part-read-all}
 
 abbrev Fields : Type 0
 Fields = List (List ℕ)
@@ -31,20 +31,20 @@ rows-next : (rs : List Fields) (i : ℕ) (d : Fields) → i < length rs → take
 rows-next rs i d lt = let e : i + 1 ≡ suc i = omega arith in rw e (take-suc rs i d lt)
 
 pub one-after : {X R : Type 0} (rem : R → Option (List ℕ)) (a b c : Reader R) (f : X → Fields) (xs : List X) (i : ℕ) (x : X) → i < length xs →
-    ReadsAll rem a b (map f (take i xs)) → ReadsOne rem b c (f x) → ReadsOneAfter rem a c (map f (take i (set xs i x))) (get_or (map f (set xs i x)) i [])
+    ReadsRecords rem a b (map f (take i xs)) → ReadsOne rem b c (f x) → ReadsOneAfter rem a c (map f (take i (set xs i x))) (get_or (map f (set xs i x)) i [])
 one-after rem a b c f xs i x lt reads one =
     subst (λ (rs : List Fields). ReadsOneAfter rem a c rs (get_or (map f (set xs i x)) i [])) (sym (rows-kept f xs i x))
     (subst (λ (r : Fields). ReadsOneAfter rem a c (map f (take i xs)) r) (sym (row-at f xs i x lt)) (record { middle = b; reads = reads; one = one }))
 
 pub none-after : {X R : Type 0} (rem : R → Option (List ℕ)) (a b c : Reader R) (f : X → Fields) (xs : List X) (i : ℕ) (x : X) →
-    ReadsAll rem a b (map f (take i xs)) → ReadsNone rem b c → ReadsNoneAfter rem a c (map f (take i (set xs i x)))
+    ReadsRecords rem a b (map f (take i xs)) → ReadsNone rem b c → ReadsNoneAfter rem a c (map f (take i (set xs i x)))
 none-after rem a b c f xs i x reads none =
     subst (λ (rs : List Fields). ReadsNoneAfter rem a c rs) (sym (rows-kept f xs i x)) (record { middle = b; reads = reads; none = none })
 
 pub all-more : {X R : Type 0} (rem : R → Option (List ℕ)) (a b c : Reader R) (f : X → Fields) (xs : List X) (i : ℕ) (x : X) → i < length xs →
-    ReadsAll rem a b (map f (take i xs)) → ReadsOne rem b c (f x) → ReadsAll rem a c (map f (take (i + 1) (set xs i x)))
+    ReadsRecords rem a b (map f (take i xs)) → ReadsOne rem b c (f x) → ReadsRecords rem a c (map f (take (i + 1) (set xs i x)))
 all-more rem a b c f xs i x lt reads one =
-    subst (λ (rs : List Fields). ReadsAll rem a c rs) (sym (rows-more f xs i x lt)) (reads-more rem a b c (map f (take i xs)) (f x) reads one)
+    subst (λ (rs : List Fields). ReadsRecords rem a c rs) (sym (rows-more f xs i x lt)) (reads-more rem a b c (map f (take i xs)) (f x) reads one)
 
 form-one : (r : Fields) → HasForm r → All HasForm (r ∷ [])
 form-one r p zero d lt = p
@@ -73,8 +73,8 @@ form-at f xs i row lt here all =
     subst (λ (r : Fields). HasForm r) is (All-get_or HasForm (map f xs) i [] (omega (arith, lt, length-map xs f)) all)
 
 -- the first of some rows were read and added
-pub runs-rows : {X R : Type 0} (rem : R → Option (List ℕ)) (d : ℕ) (limits : Limits) (n : ℕ) (before : List Fields) (text : List ℕ) (a b : Reader R) (labels labels' : List (List ℕ)) (edges edges' : List Edge) (f : X → Fields) (xs : List X) (k : ℕ) → k ≤ length xs →
-    Runs rem d limits n before text a labels edges → ReadsAll rem a b (map f (take k xs)) → AddsRecords limits n (map f (take k xs)) labels edges labels' edges' → Runs rem d limits (n + k) before text b labels' edges'
-runs-rows rem d limits n before text a b labels labels' edges edges' f xs k le runs reads adds =
+pub part-read-rows : {X R : Type 0} (rem : R → Option (List ℕ)) (d : ℕ) (limits : Limits) (n : ℕ) (before : List Fields) (text : List ℕ) (a b : Reader R) (labels labels' : List (List ℕ)) (edges edges' : List Edge) (f : X → Fields) (xs : List X) (k : ℕ) → k ≤ length xs →
+    IsPartRead rem d limits n before text a labels edges → ReadsRecords rem a b (map f (take k xs)) → AddsRecords limits n (map f (take k xs)) labels edges labels' edges' → IsPartRead rem d limits (n + k) before text b labels' edges'
+part-read-rows rem d limits n before text a b labels labels' edges edges' f xs k le part reads adds =
     let long : length (map f (take k xs)) ≡ k = length-map (take k xs) f ∙ length-take-le k xs le in
-    subst (λ (m : ℕ). Runs rem d limits (n + m) before text b labels' edges') long (runs-all rem d limits n before text a b labels labels' edges edges' (map f (take k xs)) runs reads adds)
+    subst (λ (m : ℕ). IsPartRead rem d limits (n + m) before text b labels' edges') long (part-read-all rem d limits n before text a b labels labels' edges edges' (map f (take k xs)) part reads adds)

@@ -20,24 +20,24 @@ pub record IsShort (label : List ℕ) : Type 0 where
   pub bytes : (i : ℕ) → slice_index label i < 256
   pub few : length label ≤ 11
 
--- the label stands at this place
+-- this is the number of the label: it stands there among the others
 pub record StandsAt (labels : List (List ℕ)) (label : List ℕ) (i : ℕ) : Type 0 where
   pub within : i < length labels
   pub is : slice_index_or labels i [] ≡ label
 
 -- the word of an entry
-abbrev pub told_word : Entry → LabelWord
-told_word entry = record { low = entry.low; high = entry.high }
+abbrev pub entry_word : Entry → LabelWord
+entry_word entry = record { low = entry.low; high = entry.high }
 
 -- an entry of no label: the second number of a word is never 0
 abbrev pub blank_entry : Entry
 blank_entry = record { low = 0; high = 0; number = 0 }
 
--- the number of an entry is the place of the short label with its word
+-- the number of an entry is that of the short label with its word
 abbrev pub IsGuess : List (List ℕ) → Entry → Type 0
-IsGuess labels entry = (label : List ℕ) → IsShort label → word_of label ≡ told_word entry →
+IsGuess labels entry = (label : List ℕ) → IsShort label → word_of label ≡ entry_word entry →
     StandsAt labels label entry.number
 
--- each entry tells the place of a label, or none
+-- each entry tells the number of a label, or none
 pub record AreGuesses (labels : List (List ℕ)) (entries : List Entry) : Type 0 where
   pub each : (i : ℕ) → IsGuess labels (slice_index_or entries i blank_entry)

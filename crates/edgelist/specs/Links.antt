@@ -32,8 +32,8 @@ graph_of lists marks = record {
 
 -- a list of predecessors for each label, and the number of counted vertices
 pub record AreLinks (labels lists : List (List ℕ)) (marks : List Bool) (number : ℕ) : Type 0 where
-  pub count : length lists ≡ length labels
+  pub as_many : length lists ≡ length labels
   pub ascend : AllAscend (length lists) lists
   pub few : length labels ≤ most_vertices
   pub distinct : IsDistinct bytes_eq labels
-  pub counts : number ≡ length (marked_vertices (length lists) marks)
+  pub counted : number ≡ length (marked_vertices (length lists) marks)

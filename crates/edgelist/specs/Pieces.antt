@@ -1,10 +1,11 @@
 -- Records that are read some lines at a time.
-use Rattle.std.specs.Prelude.{◌≡◌, ℕ, ◌+◌, List, [], ◌∷◌, ◌++◌, Option, length, ◌⊎◌}
+use Rattle.std.specs.Prelude.{◌≡◌, ℕ, ◌+◌, Bool, true, false, List, [], ◌∷◌, ◌++◌, Option, Result, IfOk, IfErr, length, ◌⊎◌}
 use Rattle.csv.specs.declared.reader.Reader.{Reader}
-use Rattle.edgelist.specs.Records.{IsLeft}
-use Rattle.ball_model.specs.Input.{Limits}
-use Rattle.edgelist.specs.Reading.{AreWithin, IsClean, IsReadAs}
+use Rattle.edgelist.specs.Records.{IsLeft, StopsAtEnd}
+use Rattle.ball_model.specs.Input.{Limits, network_from, records}
+use Rattle.edgelist.specs.Reading.{AreWithin, EndsAt, IsClean, IsReadAs, IsRefusal, Refuses}
 use Rattle.edgelist.specs.declared.edge.Edge.{Edge}
+use Rattle.edgelist.specs.declared.read.EdgeError.{EdgeError}
 
 -- so many records were read: the labels and edges are theirs, and no check fails at any of them
 pub record IsThrough (limits : Limits) (number : ℕ) (records : List (List (List ℕ)))
@@ -14,12 +15,27 @@ pub record IsThrough (limits : Limits) (number : ℕ) (records : List (List (Lis
   pub clean : IsClean limits records
 
 -- some records of a text were read after others
-pub record Runs {R : Type 0} (rem : R → Option (List ℕ)) (d : ℕ) (limits : Limits) (n : ℕ)
+pub record IsPartRead {R : Type 0} (rem : R → Option (List ℕ)) (d : ℕ) (limits : Limits) (n : ℕ)
     (before : List (List (List ℕ))) (text : List ℕ) (rdr : Reader R) (labels : List (List ℕ))
     (edges : List Edge) : Type 0 where
   pub past : List (List (List ℕ))
   pub at : IsLeft rem d text past rdr
   pub through : IsThrough limits n (before ++ past) labels edges
+
+-- some records more of a text were read, and others may be left; or all were read, and none was asked for after the end;
+-- or one was refused, and none was asked for after that one
+pub record ReadsOn {R : Type 0} (rem : R → Option (List ℕ)) (d : ℕ) (limits : Limits)
+    (before : List (List (List ℕ))) (text : List ℕ) (result : Result (ℕ × Bool) EdgeError)
+    (rdr : Reader R) (labels : List (List ℕ)) (edges : List Edge) : Type 0 where
+  pub goes : IfOk result (λ r. r.1 ≡ true →
+      IsPartRead rem d limits r.0 before text rdr labels edges)
+  pub end : IfOk result (λ r. r.1 ≡ false →
+      IsThrough limits r.0 (before ++ records d text) labels edges)
+  pub last : IfOk result (λ r. r.1 ≡ false → StopsAtEnd rem d text rdr)
+  pub refused : (more : List (List (List ℕ))) →
+      IfErr result (Refuses (network_from limits (before ++ (records d text ++ more))))
+  pub ends : before ≡ [] →
+      IfErr result (λ e. IsRefusal e → EndsAt rem d text limits rdr e)
 
 -- these records more, none of which is refused, made these of those
 pub record AddsRecords (limits : Limits) (number : ℕ) (rs : List (List (List ℕ)))

@@ -105,22 +105,22 @@ abbrev pub HasForm : List (List ℕ) → Type 0
 HasForm fields = has_form fields ≡ true
 
 -- some records were read, one after another
-abbrev pub ReadsAll : {R : Type 0} → (R → Option (List ℕ)) → Reader R → Reader R →
+abbrev pub ReadsRecords : {R : Type 0} → (R → Option (List ℕ)) → Reader R → Reader R →
     List (List (List ℕ)) →
     Type 0
-ReadsAll rem old new rs = (d : ℕ) (text : List ℕ) (past : List (List (List ℕ))) →
+ReadsRecords rem old new rs = (d : ℕ) (text : List ℕ) (past : List (List (List ℕ))) →
     IsLeft rem d text past old → IsLeft rem d text (past ++ rs) new
 
 -- some records were read, and then one with these fields
 pub record ReadsOneAfter {R : Type 0} (rem : R → Option (List ℕ)) (old new : Reader R)
     (rs : List (List (List ℕ))) (fields : List (List ℕ)) : Type 0 where
   pub middle : Reader R
-  pub reads : ReadsAll rem old middle rs
+  pub reads : ReadsRecords rem old middle rs
   pub one : ReadsOne rem middle new fields
 
 -- some records were read, and then none was left
 pub record ReadsNoneAfter {R : Type 0} (rem : R → Option (List ℕ)) (old new : Reader R)
     (rs : List (List (List ℕ))) : Type 0 where
   pub middle : Reader R
-  pub reads : ReadsAll rem old middle rs
+  pub reads : ReadsRecords rem old middle rs
   pub none : ReadsNone rem middle new

@@ -6,7 +6,7 @@ ghost use Rattle.std.specs.Prelude.{OnOk, OnErr};
 ghost use Rattle.std.specs.List.{IsDistinct};
 ghost use Rattle.std.specs.Str.{bytes_eq};
 ghost use Rattle.edgelist.specs.Guessing.{AreGuesses, IsShort, StandsAt, IsGuess, blank_entry};
-ghost use Rattle.edgelist.specs.Guessing.{bytes_after, told_word, word_of};
+ghost use Rattle.edgelist.specs.Guessing.{bytes_after, entry_word, word_of};
 ghost use Rattle.edgelist.specs.Labels.{texts};
 ghost use Rattle.edgelist.specs.Reading.{has_label, with_label};
 
@@ -118,7 +118,7 @@ fn word(label: &[u8]) -> LabelWord
 
 impl Entry {
     fn word(self) -> LabelWord
-        ensures { result ≡ told_word self }
+        ensures { result ≡ entry_word self }
     {
         LabelWord {
             low: self.low,
@@ -149,8 +149,10 @@ fn guess(entries: &[Entry], word: LabelWord) -> Option<usize>
     None
 }
 
-// Whether the first entry of a label's group is blank, so that it is a new label.
-fn is_new(entries: &[Entry], label: &[u8]) -> bool {
+// Whether a label may be new: it is short, and the first entry of its group is blank. This is a guess. A label that is
+// known may be told as new, where its entry was lost; a new one is not told so where it is long, or where another
+// label's entry is the first of its group.
+fn may_be_new(entries: &[Entry], label: &[u8]) -> bool {
     if label.len() > SHORT {
         return false;
     }
@@ -158,21 +160,21 @@ fn is_new(entries: &[Entry], label: &[u8]) -> bool {
     place < entries.len() && entries[place].high == 0
 }
 
-// How many of a row's first two fields are new labels.
+// How many of a row's first two fields may be new labels: a guess, as each of them is.
 fn count_new_in(entries: &[Entry], row: &ByteRecord) -> usize
     ensures { result ≤ 2 }
 {
     let mut new = 0;
     if let Some(source) = row.get(0) {
-        new += usize::from(is_new(entries, source));
+        new += usize::from(may_be_new(entries, source));
     }
     if let Some(target) = row.get(1) {
-        new += usize::from(is_new(entries, target));
+        new += usize::from(may_be_new(entries, target));
     }
     new
 }
 
-// How many labels of these rows are new.
+// How many labels of these rows may be new: a guess too, in which a label that stands there twice may count twice.
 fn count_new(entries: &[Entry], rows: &[ByteRecord]) -> usize {
     let mut new = 0usize;
     for row in rows {
@@ -257,8 +259,8 @@ fn insert(
     ensures labels { OnOk result (texts labels.new ≡ with_label (texts labels.old) label.now) }
     ensures kept { OnErr result (texts labels.new ≡ texts labels.old) }
 {
-    let (place, _) = labels.insert_full(Vec::from_slice(alloc, label)?)?;
-    Ok(place)
+    let (number, _) = labels.insert_full(Vec::from_slice(alloc, label)?)?;
+    Ok(number)
 }
 
 // The number of a label in the set, which takes the next one where it is new.
@@ -298,7 +300,7 @@ impl Numbering {
     /// The number of a label, which takes the next one where it is new. For a label that is known no memory is taken.
     pub(crate) fn number(&mut self, alloc: Global, label: &[u8]) -> Result<usize, AllocError>
         ensures within { IfOk result (λ i. i < length self.new) }
-        ensures place { IfOk result (λ i. slice_index_or self.new i [] ≡ label.now) }
+        ensures stands { IfOk result (λ i. slice_index_or self.new i [] ≡ label.now) }
         ensures labels { OnOk result (self.new ≡ with_label self.old label.now) }
         ensures known { has_label self.old label.now ≡ true → IsOk result }
         ensures kept { OnErr result (self.new ≡ self.old) }
@@ -345,7 +347,7 @@ impl Numbering {
         insert(alloc, &mut self.labels, label)
     }
 
-    /// Looks at the first entry of each label of these rows, and makes room for as many labels as have a blank one there.
+    /// Looks at the first entry for each short label of these rows, and makes room for as many as have a blank one there.
     /// No look waits for another. Where memory is refused, whoever puts a label there later is told so.
     pub(crate) fn look_ahead(&mut self, alloc: Global, rows: &[ByteRecord])
         ensures { self.new ≡ self.old }

@@ -14,8 +14,9 @@ ghost use Rattle.edgelist.specs.Reading.{AreWithin, Refuses, byte_of, limits_of,
 ghost use Rattle.edgelist.specs.declared.read.EdgeError.TheVariants as refused;
 
 use crate::read::{Delimiter, EdgeError, EdgeLimits, EdgeList, MOST_RECORDS, Reading};
-use crate::records::{BATCH, reader_of, rows_for};
+use crate::records::{AT_ONCE, reader_of, rows_for};
 use ball_model::plan::MOST_VERTICES;
+use csv::ByteRecord;
 use std::alloc::Global;
 use std::hash::RandomState;
 
@@ -40,11 +41,13 @@ fn without_read(read: Result<u64, EdgeError>) -> Result<u64, EdgeError>
 fn read_lines(
     reading: &mut Reading,
     alloc: Global,
+    rows: &mut [ByteRecord],
     lines: &[u8],
     delimiter: Delimiter,
     number: u64,
     limits: EdgeLimits,
 ) -> Result<u64, EdgeError>
+    requires rows { 0 < length rows.old }
     requires few { limits.edges ≤ most_records }
     requires number { number ≤ limits.edges }
     requires within { AreWithin limits.vertices number
@@ -64,8 +67,7 @@ fn read_lines(
     ensures read { result ≢ Err EdgeError.Read }
 {
     let mut reader = reader_of(alloc, lines, delimiter);
-    let mut rows = rows_for(alloc, BATCH)?;
-    let read = reading.read_more(alloc, &mut reader, &mut rows, number, limits);
+    let read = reading.read_more(alloc, &mut reader, rows, number, limits);
     without_read(read)
 }
 
@@ -76,12 +78,15 @@ pub struct EdgeReader {
     reading: Reading,
     // how many records were read
     number: u64,
+    // the room for those that are read at once
+    rows: Vec<ByteRecord>,
     // the bytes that were given and not read, behind an LF where others were read before
     lines: Vec<u8>,
     // what was refused before
     failed: Option<EdgeError>,
     ghost vertices: { limits.vertices ≤ most_vertices },
     ghost edges: { limits.edges ≤ most_records },
+    ghost room: { 0 < length rows.items },
     ghost read: { failed ≢ Some refused.Read },
     ghost few: { failed ≡ None → number ≤ limits.edges },
     ghost within: { failed ≡ None →
@@ -97,6 +102,7 @@ impl Drop for EdgeReader {
             limits: _,
             reading: _,
             number: _,
+            rows: _,
             lines: _,
             failed: _,
         } = self;
@@ -122,11 +128,13 @@ impl EdgeReader {
             edges: limits.edges.min(MOST_RECORDS),
         };
         let reading = Reading::new(alloc, state)?;
+        let rows = rows_for(alloc, AT_ONCE)?;
         Ok(EdgeReader {
             delimiter,
             limits,
             reading,
             number: 0,
+            rows,
             lines: Vec::new(alloc),
             failed: None,
         })
@@ -148,6 +156,7 @@ impl EdgeReader {
         match read_lines(
             &mut self.reading,
             alloc,
+            &mut self.rows,
             &self.lines,
             self.delimiter,
             self.number,
@@ -215,10 +224,19 @@ impl EdgeReader {
             limits,
             mut reading,
             number,
+            mut rows,
             lines,
             failed: _,
         } = self;
-        let records = read_lines(&mut reading, alloc, &lines, delimiter, number, limits)?;
+        let records = read_lines(
+            &mut reading,
+            alloc,
+            &mut rows,
+            &lines,
+            delimiter,
+            number,
+            limits,
+        )?;
         reading.into_list(alloc, records)
     }
 }

@@ -14,7 +14,7 @@ ghost use Rattle.ball_model.specs.Input.{Network, Refusal, IsPlain, most_records
 ghost use Rattle.ball_model.specs.Input.{has_form, network_from, input_of};
 ghost use Rattle.edgelist.specs.Edges.{edge_of, graph_of_edges};
 ghost use Rattle.edgelist.specs.declared.read.EdgeError.TheVariants.{Memory};
-ghost use Rattle.edgelist.specs.Pieces.{AddsRecords, IsThrough, Runs};
+ghost use Rattle.edgelist.specs.Pieces.{AddsRecords, IsPartRead, IsThrough, ReadsOn};
 ghost use Rattle.edgelist.specs.Records.{ForPlain, FromStart, HasForm, ReadsNone, ReadsNoneAfter};
 ghost use Rattle.edgelist.specs.Records.{ReadsOne, ReadsOneAfter, StopsAtEnd};
 ghost use Rattle.edgelist.specs.Reading.{byte_of, limits_of, meaning_of, meaning_within, CountsOne};
@@ -26,7 +26,7 @@ ghost use Rattle.edgelist.specs.Reading.{EndsAt, EndsAtEnd, EndsAtFault, IsRefus
 use crate::edge::Edge;
 use crate::graph::Graph;
 use crate::numbering::Numbering;
-use crate::records::{BATCH, next_record, reader_of, rows_for};
+use crate::records::{AT_ONCE, next_record, reader_of, rows_for};
 use ball_model::CountedRead;
 use ball_model::plan::MOST_VERTICES;
 use csv::{ByteRecord, Reader};
@@ -213,7 +213,7 @@ impl Reading {
         ensures edges { self.new.edges.items ≡ self.old.edges.items }
         ensures few { OnOk result (length self.new.labels ≤ vertices) }
         ensures within { IfOk result (λ i. i < length self.new.labels) }
-        ensures place { IfOk result (λ i. slice_index_or self.new.labels i [] ≡ label.now) }
+        ensures stands { IfOk result (λ i. slice_index_or self.new.labels i [] ≡ label.now) }
         ensures exceeds { IfErr result (Exceeds vertices (with_label self.old.labels label.now)) }
         ensures known { has_label self.old.labels label.now ≡ true →
             result ≢ Err EdgeError.Memory }
@@ -323,28 +323,9 @@ impl Reading {
         Ok(())
     }
 
-    // The same, once their entries were looked at.
-    fn add_rows(
-        &mut self,
-        alloc: Global,
-        rows: &[ByteRecord],
-        number: u64,
-        limits: EdgeLimits,
-    ) -> Result<(), EdgeError>
-        requires few { limits.edges ≤ most_records }
-        requires form { All HasForm (map fields_of rows.now) }
-        requires number { number + length rows.now ≤ limits.edges }
-        requires room { length self.old.labels + 2 * length rows.now ≤ limits.vertices }
-        ensures adds { OnOk result (AddsRecords (limits_of limits) number (map fields_of rows.now)
-            self.old.labels self.old.edges.items self.new.labels self.new.edges.items) }
-        ensures memory { IfErr result (λ e. e ≡ Memory) }
-    {
-        self.labels.look_ahead(alloc, rows);
-        self.add_each(alloc, rows, number, limits)
-    }
-
-    // How many records, of so many at most, can follow `number` others with no refusal but of memory, whatever their
-    // labels are.
+    // `most`, where so many records of the right form can be added behind `number` others without passing a limit,
+    // even if all their labels are new and differ; and else 0. Then records are read and added one at a time, so that
+    // none is asked for after the one that is refused.
     fn room_for(&self, most: usize, number: u64, limits: EdgeLimits) -> usize
         requires number { number ≤ limits.edges }
         requires labels { length self.now.labels ≤ limits.vertices }
@@ -363,7 +344,7 @@ impl Reading {
     // Reads and adds records that follow `number` others, as many as there are rows at most. Tells how many there are
     // then, and whether there may be more. The entries of their labels are looked at before the first is added, so that
     // no look waits for another. Only the last record that is read can be refused.
-    fn read_batch<R: Read + Drop>(
+    fn read_some<R: Read + Drop>(
         &mut self,
         alloc: Global,
         reader: &mut Reader<R>,
@@ -379,32 +360,16 @@ impl Reading {
         ensures later { IfOk result (λ r. r.1 ≡ true → number < r.0) }
         ensures within { IfOk result (λ r.
             AreWithin limits.vertices r.0 self.new.labels self.new.edges.items) }
-        ensures goes { (d : ℕ) (text : List ℕ) (before : List (List (List ℕ))) →
-            Runs R.remaining d (limits_of limits) number before text reader.old
-            self.old.labels self.old.edges.items → IfOk result (λ r. r.1 ≡ true →
-            Runs R.remaining d (limits_of limits) r.0 before text reader.new
-            self.new.labels self.new.edges.items) }
-        ensures end { (d : ℕ) (text : List ℕ) (before : List (List (List ℕ))) →
-            Runs R.remaining d (limits_of limits) number before text reader.old
-            self.old.labels self.old.edges.items → IfOk result (λ r. r.1 ≡ false →
-            IsThrough (limits_of limits) r.0 (before ++ records d text)
-            self.new.labels self.new.edges.items) }
-        ensures last { (d : ℕ) (text : List ℕ) (before : List (List (List ℕ))) →
-            Runs R.remaining d (limits_of limits) number before text reader.old
-            self.old.labels self.old.edges.items → IfOk result (λ r. r.1 ≡ false →
-            StopsAtEnd R.remaining d text reader.new) }
-        ensures refused { (d : ℕ) (text : List ℕ) (before more : List (List (List ℕ))) →
-            Runs R.remaining d (limits_of limits) number before text reader.old
-            self.old.labels self.old.edges.items → IfErr result (Refuses
-            (network_from (limits_of limits) (before ++ (records d text ++ more)))) }
-        ensures ends { (d : ℕ) (text : List ℕ) →
-            Runs R.remaining d (limits_of limits) number [] text reader.old
-            self.old.labels self.old.edges.items → IfErr result (λ e. IsRefusal e →
-            EndsAt R.remaining d text (limits_of limits) reader.new e) }
+        ensures reads { (d : ℕ) (text : List ℕ) (before : List (List (List ℕ))) →
+            IsPartRead R.remaining d (limits_of limits) number before text reader.old
+            self.old.labels self.old.edges.items →
+            ReadsOn R.remaining d (limits_of limits) before text result reader.new
+            self.new.labels self.new.edges.items }
     {
         let most = self.room_for(rows.len() - 1, number, limits);
         let (count, more) = read_rows(reader, rows, most)?;
-        self.add_rows(alloc, &rows[..count], number, limits)?;
+        self.labels.look_ahead(alloc, &rows[..count]);
+        self.add_each(alloc, &rows[..count], number, limits)?;
         let number = number + count as u64;
         if !more {
             return Ok((number, false));
@@ -415,7 +380,7 @@ impl Reading {
 }
 
 impl Reading {
-    // Adds all records that are left, which follow `number` others, batch after batch, and tells how many there are
+    // Adds all records that are left, which follow `number` others, some at a time, and tells how many there are
     // then; at most one more than the limit is asked for. No record is asked for after the one that is refused. After
     // the end the reader is as a read leaves it that found no record more; whether such a read was made once or twice
     // no clause tells (csv's contract says nothing of a reader at its end).
@@ -451,11 +416,11 @@ impl Reading {
     {
         let mut n = number;
         for _turn in number..limits.edges + 1 {
-            let (count, more) = self.read_batch(alloc, reader, rows, n, limits)?;
+            let (so_far, more) = self.read_some(alloc, reader, rows, n, limits)?;
             if !more {
-                return Ok(count);
+                return Ok(so_far);
             }
-            n = count;
+            n = so_far;
         }
         Err(EdgeError::TooManyEdges)
     }
@@ -533,7 +498,7 @@ fn read_source<R: Read + Drop>(
         IfErr result (Refuses (meaning_within limits delimiter text))) }
 {
     let mut reader = reader_of(alloc, source, delimiter);
-    let mut rows = rows_for(alloc, BATCH)?;
+    let mut rows = rows_for(alloc, AT_ONCE)?;
     read_records(alloc, state, &mut reader, &mut rows, limits)
 }
 

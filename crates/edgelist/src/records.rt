@@ -10,8 +10,8 @@ use csv::{ByteRecord, Reader, ReaderBuilder};
 use std::alloc::{AllocError, Global};
 use std::io::Read;
 
-/// How many records are read before the first of them is added, at most.
-pub(crate) const BATCH: usize = 16;
+/// So many records are read before the first of them is added, at most.
+pub(crate) const AT_ONCE: usize = 16;
 
 /// Rows for so many records.
 pub(crate) fn rows_for(alloc: Global, count: usize) -> Result<Vec<ByteRecord>, AllocError>

@@ -211,7 +211,7 @@ fn stops_there(rt: &HostRuntime, fault: usize) -> bool {
 }
 
 #[test]
-fn refusals_at_each_place_of_a_batch(rt: HostRuntime) {
+fn refusals_at_each_of_the_records_read_at_once(rt: HostRuntime) {
     let mut right = tabs_are(&rt, &forty_lines(40));
     for fault in 0..40usize {
         right &= stops_there(&rt, fault);

@@ -2,7 +2,7 @@ use Rattle.std.proofs.Common.{◌≡◌, ◌<◌, List, ℕ, arith, false, true,
 use Rattle.std.specs.List.{All}
 use Rattle.std.proofs.lemmas.List.{get_or-set_same}
 use Rattle.csv.specs.Records.{fields_of}
-use Rattle.edgelist.specs.Records.{HasForm, ReadsAll}
+use Rattle.edgelist.specs.Records.{HasForm, ReadsRecords}
 use Rattle.edgelist.proofs.RowLemmas.{all-more, form-more, none-after, one-after, rows-kept}
 use Rattle.edgelist.proofs.read.read_rows.Goals as goal
 
@@ -37,11 +37,11 @@ returns-clause-form g c =
 pub returns-clause-one : goal.returns-clause-one
 returns-clause-one g c = λ more.
     let at : c.loop-i.i ≡ c.args.most = omega (arith, c.loop-i-test.false, c.loop-i.auto.i-end) in
-    let reads = subst (λ (k : ℕ). ReadsAll g.R.Read.remaining c.args.reader.now c.loop-i.reader (map fields_of (take k c.loop-i.rows))) at c.loop-i.invariant.reads in
+    let reads = subst (λ (k : ℕ). ReadsRecords g.R.Read.remaining c.args.reader.now c.loop-i.reader (map fields_of (take k c.loop-i.rows))) at c.loop-i.invariant.reads in
     one-after g.R.Read.remaining c.args.reader.now c.loop-i.reader c.next_row-2.new.reader fields_of c.loop-i.rows c.args.most c.next_row-2.new.row (omega (arith, c.requires, c.loop-i.auto.rows)) reads (c.in_ok-more-2.ensures.one more)
 
 pub returns-clause-end : goal.returns-clause-end
 returns-clause-end g c = λ none.
     let at : c.loop-i.i ≡ c.args.most = omega (arith, c.loop-i-test.false, c.loop-i.auto.i-end) in
-    let reads = subst (λ (k : ℕ). ReadsAll g.R.Read.remaining c.args.reader.now c.loop-i.reader (map fields_of (take k c.loop-i.rows))) at c.loop-i.invariant.reads in
+    let reads = subst (λ (k : ℕ). ReadsRecords g.R.Read.remaining c.args.reader.now c.loop-i.reader (map fields_of (take k c.loop-i.rows))) at c.loop-i.invariant.reads in
     none-after g.R.Read.remaining c.args.reader.now c.loop-i.reader c.next_row-2.new.reader fields_of c.loop-i.rows c.args.most c.next_row-2.new.row reads (c.in_ok-more-2.ensures.end none)

@@ -3,4 +3,4 @@ use Rattle.ball_model.specs.Input.{Network}
 use Rattle.edgelist.proofs.graph.Graph.counted_count.Goals as goal
 
 pub returns : goal.returns
-returns c = c.self.invariant.counts ∙ ap (λ (net : Network). length net.graph.counted) c.self.view_is
+returns c = c.self.invariant.counted ∙ ap (λ (net : Network). length net.graph.counted) c.self.view_is

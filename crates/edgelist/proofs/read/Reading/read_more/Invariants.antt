@@ -1,5 +1,5 @@
 use Rattle.std.proofs.Common.{◌≤◌, ℕ, List, []}
-use Rattle.edgelist.specs.Pieces.{IsThrough, Runs}
+use Rattle.edgelist.specs.Pieces.{IsPartRead, IsThrough}
 use Rattle.edgelist.specs.Records.{IsLeft}
 use Rattle.edgelist.specs.Reading.{limits_of, AreWithin}
 use Rattle.edgelist.proofs.read.Reading.read_more.Given as goal
@@ -9,5 +9,5 @@ invariant-loop-turn g l = record {
   turns : l._turn ≤ l.n;
   in_range : l.n ≤ l.limits.edges;
   within : AreWithin l.limits.vertices l.n l.self.labels l.self.edges.items;
-  runs : (d : ℕ) (text : List ℕ) → IsLeft g.R.Read.remaining d text [] l.initial.reader → (before : List (List (List ℕ))) → IsThrough (limits_of l.limits) l.number before l.initial.self.labels l.initial.self.edges.items → Runs g.R.Read.remaining d (limits_of l.limits) l.n before text l.reader l.self.labels l.self.edges.items;
+  part : (d : ℕ) (text : List ℕ) → IsLeft g.R.Read.remaining d text [] l.initial.reader → (before : List (List (List ℕ))) → IsThrough (limits_of l.limits) l.number before l.initial.self.labels l.initial.self.edges.items → IsPartRead g.R.Read.remaining d (limits_of l.limits) l.n before text l.reader l.self.labels l.self.edges.items;
 }
