@@ -11,7 +11,7 @@ use Rattle.std.proofs.lemmas.List.FromFn.{length-map-range_with_len, get_or-map-
 use Rattle.std.specs.Cmp.{first_so, second_so}
 use Rattle.ball_model.specs.Batches.{BatchValue}
 use Rattle.ball_model.specs.State.{early_at}
-use Rattle.replica.specs.Ahead.{table_of, IsTable, StaysTable, either, union_of_slots, slots_after}
+use Rattle.replica.specs.Ahead.{table_of, IsTable, StaysTable, batches_in, either, union_of_slots, slots_after}
 use Rattle.replica.proofs.LevelLemmas.Step.{get_or-replicate_same}
 
 -- what stands at a place after a shift
@@ -32,6 +32,13 @@ pub filled_at : (slots others : List (Option BatchValue)) (k : ℕ) → length o
 unfolding union_of_slots
 filled_at slots others k same =
     grind (arith, get_or-map-range_with_len, get_or_past, length-map-range_with_len)
+
+-- as many batches as slots at most
+pub few_batches : (xs : List (Option BatchValue)) → length (batches_in xs) ≤ length xs
+unfolding batches_in
+few_batches [] = omega arith
+few_batches (None ∷ xs) = let e = few_batches xs in omega arith
+few_batches (Some b ∷ xs) = let e = few_batches xs in omega arith
 
 -- ---- the table
 pub level_in : (parts : ℕ) (slots : List (Option BatchValue)) (i : ℕ) → i < 3 → get_or (table_of parts slots) i [] ≡ map (λ q. get_or slots (i * parts + q) None) (range_with_len 0 parts)

@@ -52,7 +52,7 @@ pub record CanTakeIn (k l : ProgressValue) (shared : List (List (Option BatchVal
   pub goes_on : CanGoOn k
   pub index : targets ≡ targets_of k.state.part
 
--- and k keeps an accumulator of each row
+-- a replica that has k, and keeps an accumulator of each row, can take over what l knows by the index
 pub record CanTakeOver (k l : ProgressValue) (shared : List (List (Option BatchValue)))
     (targets : List (List ℕ)) : Type 0 where
   pub two : CanAbsorb k.state l.state shared

@@ -1,12 +1,11 @@
 -- What a replica tells another partition of its superstep.
 use Rattle.std.specs.Prelude.{◌≡◌, ℕ, ◌+◌, ◌*◌, ◌^◌, ◌<◌, ◌≤◌, true, false, ◌&&◌, List, [], ◌∷◌, if◌then◌else◌, length, slice_index, slice_index_or}
-use Rattle.std.specs.List.{range_with_len, flat_map, count_by, All}
+use Rattle.std.specs.List.{range_with_len, filter, flat_map, count_by, All}
 use Rattle.ball_model.specs.declared.names.BatchName.{BatchName}
 use Rattle.ball_model.specs.Batches.{BatchValue}
 use Rattle.ball_model.specs.Masks.{has_bit}
 use Rattle.ball_model.specs.State.{State}
 use Rattle.batches.specs.Kept.{rows_at}
-use Rattle.registers.specs.Marks.{IsNextMarked}
 
 -- vertex i and its registers, where it changed and has an edge into the target
 abbrev pub sent_row : State → ℕ → ℕ → List (ℕ × List ℕ)
@@ -44,6 +43,27 @@ changed_rows v n = flat_map (λ i. changed_row v i) (range_with_len 0 n)
 abbrev pub changed_registers : State → List ℕ
 changed_registers v = changed_rows v (length v.part.preds)
 
+-- vertices of a partition, by their places, and their registers, one row after the other
+pub record ChangedValue : Type 0 where
+  pub vertices : List ℕ
+  pub registers : List ℕ
+
+-- of the first n vertices of a partition those that changed, ascending
+unfoldable pub changed_first : State → ℕ → List ℕ
+changed_first v n = filter (λ i. slice_index_or v.marks i false) (range_with_len 0 n)
+
+-- these are the vertices of the partition that changed, so many as marks are set
+pub record AreChangedVertices (v : State) (vertices : List ℕ) : Type 0 where
+  pub marks : length v.marks ≡ length v.part.preds
+  pub list : vertices ≡ changed_first v (length v.part.preds)
+  pub count : length vertices ≡ count_by (λ mark. mark) v.marks
+  pub few : length vertices < 2 ^ 32
+
+-- and these their registers
+pub record AreChanged (v : State) (changed : ChangedValue) : Type 0 where
+  pub vertices : AreChangedVertices v changed.vertices
+  pub registers : changed.registers ≡ changed_registers v
+
 -- of the first n vertices so many changed, and what is sent of them are the rows of these vertices at these places
 pub record IsTold (v : State) (target n : ℕ) (ids places : List ℕ) (changed : ℕ) : Type 0 where
   pub rows : rows_at (2 ^ v.part.plan.log2m) (changed_registers v) ids places ≡ sent_rows v target n
@@ -56,9 +76,3 @@ pub record IsTold (v : State) (target n : ℕ) (ids places : List ℕ) (changed 
 pub record ChangedAt (v : State) (i : ℕ) : Type 0 where
   pub place : i < length v.part.preds
   pub mark : slice_index_or v.marks i false ≡ true
-
--- next is the first vertex from a place on that changed, or the number of vertices where none did
-pub record IsNextChanged (v : State) (from next : ℕ) : Type 0 where
-  pub first : IsNextMarked v.marks from next
-  pub within : next ≤ length v.part.preds
-  pub changed : next < length v.part.preds → ChangedAt v next

@@ -80,7 +80,7 @@ pub record AreStepped (m : Measure) (t : ℕ) (new : Table) (before after : List
   pub weights : own ≡ weights_of new.rows
   pub gain : sum_by (λ tally. tally.last) after ≡ sum_by (λ tally. tally.last) before + gained
 
--- those of a row are, whose estimate has gained so much
+-- the figures and the weight of a row are those at superstep t of the row ahead, and its estimate has gained so much
 pub record IsStepped (m : Measure) (t : ℕ) (new : List ℕ) (before after : TallyValue)
     (own gained : ℕ) : Type 0 where
   pub figures : after ≡ next_tally t before (estimate_with m new)

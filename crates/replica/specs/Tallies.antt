@@ -24,12 +24,6 @@ pub record MarkedTallies : Type 0 where
 abbrev pub AreRelayed : List TallyValue → Option MarkedTallies → Type 0
 AreRelayed shown behind = IfSome behind (λ b. DifferAt b.stale b.tallies shown)
 
--- and there is a mark for each that is shown
-pub record AreMarkedAhead (marks : List Bool) (shown : List TallyValue)
-    (behind : Option MarkedTallies) : Type 0 where
-  pub relayed : AreRelayed shown behind
-  pub each : length marks ≡ length shown
-
 -- room for tallies, and for a mark for each
 pub record HasRoomForTallies (tallies : List TallyValue) (room marks : ℕ) : Type 0 where
   pub all : length tallies ≤ room

@@ -1,4 +1,4 @@
-//! A replica: what it knows, and the room in which it goes on. Only its making, `out`, `changed_rows_into`, `out_of`,
+//! A replica: what it knows, and the room in which it goes on. Only its making, `out`, `changed_rows`, `out_of`,
 //! `snapshot` and `merge` take memory.
 
 ghost use Rattle.std.specs.Prelude.{◌≡◌, ◌≢◌, ℕ, ◌<◌, ◌≤◌, ◌+◌, ◌*◌, ◌/◌, ◌%◌, ◌^◌, ◌==◌, ◌&&◌};

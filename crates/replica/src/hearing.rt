@@ -114,7 +114,9 @@ impl Hearing {
 
     /// How many accumulators are kept.
     #[cfg(test)]
-    pub fn count(&self) -> usize {
+    pub fn count(&self) -> usize
+        ensures { result ≡ length self.now.accumulated.rows }
+    {
         self.accumulated.len()
     }
 

@@ -33,7 +33,7 @@
 //! replica.close()                                    // Ok(1), the superstep that it is at now
 //! ```
 //!
-//! Only [`Replica::new`], [`Replica::rebuild`], [`Replica::out`], [`Replica::changed_rows_into`],
+//! Only [`Replica::new`], [`Replica::rebuild`], [`Replica::out`], [`Replica::changed_rows`],
 //! [`Replica::out_of`], [`Replica::snapshot`], [`Replica::merge`] and a join take memory.
 #![tactic(auto)]
 
@@ -60,6 +60,7 @@ use early::Early;
 use edgelist::Part;
 use figures::Estimator;
 use hearing::Hearing;
+pub use out::ChangedRows;
 pub use saved::Saved;
 pub use shown::Shown;
 use std::marker::Model;

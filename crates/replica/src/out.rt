@@ -8,15 +8,17 @@ ghost use Rattle.ball_model.specs.Batches.{true_batch};
 ghost use Rattle.ball_model.specs.PlanValue.{most_parts};
 ghost use Rattle.ball_model.specs.State.{StandsFor};
 ghost use Rattle.ball_model.specs.Masks.{has_bit};
-ghost use Rattle.replica.specs.Sent.{ChangedAt, IsNextChanged, IsTold, batch_name};
-ghost use Rattle.replica.specs.Sent.{changed_registers, changed_rows, sent_batch};
+ghost use Rattle.replica.specs.Sent.{AreChanged, AreChangedVertices, ChangedAt};
+ghost use Rattle.replica.specs.Sent.{IsTold, batch_name, changed_registers, sent_batch};
 ghost use Rattle.replica.specs.Seen.{IsState};
 
+use crate::level::count_set;
 use crate::{Replica, Shown};
 use ball_model::BatchName;
 use batches::Batch;
 use registers::next_marked;
 use std::alloc::{AllocError, Global};
+use std::marker::Model;
 use std::sync::Arc;
 
 // What another partition is told, as vertices and the places of their rows among those that changed, and how many of
@@ -26,6 +28,35 @@ struct ToldVertices {
     ids: Vec<u32>,
     places: Vec<u32>,
     changed: u32,
+}
+
+/// The vertices of a partition that changed at a superstep, and a table of their registers that batches share.
+#[derive(Drop)]
+pub struct ChangedRows {
+    // their places in the partition, ascending
+    vertices: Vec<u32>,
+    registers: Arc<Vec<u8>>,
+}
+
+impl Model for ChangedRows {
+    ghost use Rattle.std.specs.Arc.{arc_value};
+    ghost use Rattle.replica.specs.Sent.{ChangedValue};
+
+    ghost Value = { ChangedValue };
+
+    ghost view = { λ c. record {
+      vertices = c.vertices.items;
+      registers = (arc_value c.registers).items;
+    } };
+}
+
+impl ChangedRows {
+    /// The table of registers, one row after the other.
+    pub fn table(&self) -> Result<Arc<Vec<u8>>, AllocError>
+        ensures { IfOk result (λ table. (arc_value table).items ≡ self.now.registers) }
+    {
+        Ok(Arc::try_clone(&self.registers)?)
+    }
 }
 
 impl Replica {
@@ -47,48 +78,43 @@ impl Replica {
             source: self.partition(),
             target,
         };
+        let vertices = self.changed_vertices(alloc)?;
         let mut batch = Batch::start(alloc, self.plan(), name, self.changed_count())?;
-        batch.reserve(self.count_told(target))?;
-        let mut i = self.next_changed(0);
-        while i < self.progress.part.size() {
-            self.send_row(&mut batch, i)?;
-            i = self.next_changed(i + 1);
-        }
+        batch.reserve(self.count_told(&vertices, target))?;
+        self.send_rows(&mut batch, &vertices, target)?;
         Ok(batch)
     }
 
-    /// Fills a table with the registers of the vertices that changed at this superstep, one row after the other.
+    /// The vertices that changed at this superstep, and a table of their registers, which all batches of the superstep
+    /// share: [`Replica::out_of`] is asked with it for each target.
     ///
-    /// What stood in the table is gone, and its room is used again. As a shared table it is what [`Replica::out_of`] is
-    /// asked with for each target. Where memory is refused the table is empty.
-    pub fn changed_rows_into(&self, table: &mut Vec<u8>) -> Result<(), AllocError>
-        ensures ok { OnOk result (table.new.items ≡ changed_registers self.now) }
-        ensures refused { OnErr result (table.new.items ≡ []) }
+    /// It passes once over the marks. The table is made in the room of another one, whose content is gone.
+    pub fn changed_rows(&self, alloc: Global, room: Vec<u8>) -> Result<ChangedRows, AllocError>
+        ensures { IfOk result (λ changed. AreChanged self.now changed) }
     {
-        table.clear();
-        table.reserve_exact(self.changed_count() as usize * self.plan().width())?;
-        let mut i = self.next_changed(0);
-        while i < self.progress.part.size() {
-            let Ok(()) = table.extend_from_slice(self.rows().row(i as usize)) else {
-                table.clear();
-                return Err(AllocError);
-            };
-            i = self.next_changed(i + 1);
-        }
-        Ok(())
+        let vertices = self.changed_vertices(alloc)?;
+        let mut registers = room;
+        registers.clear();
+        registers.reserve_exact(self.changed_count() as usize * self.plan().width())?;
+        self.put_rows(&mut registers, &vertices)?;
+        Ok(ChangedRows {
+            vertices,
+            registers: Arc::new(alloc, registers)?,
+        })
     }
 
     /// What [`Replica::out`] tells `target`, with its registers in the table of those that changed, which all batches of
-    /// the superstep share: it takes memory for a vertex and a place a row, and copies no register.
+    /// the superstep share: it takes memory for a vertex and a place a row, and copies no register. Of the vertices it
+    /// looks at those alone that changed.
     pub fn out_of(
         &self,
         alloc: Global,
-        table: &Arc<Vec<u8>>,
+        changed: &ChangedRows,
         target: u16,
     ) -> Result<Batch, AllocError>
         requires target { target < self.now.part.plan.parts }
         requires other { target ≢ self.now.part.number }
-        requires table { (arc_value table.now).items ≡ changed_registers self.now }
+        requires changed { AreChanged self.now changed.now }
         ensures value { IfOk result (λ b. b ≡
             sent_batch self.now target (length self.now.part.preds)) }
         ensures stands { (j : Job) (p t : ℕ) → StandsFor j p t self.now →
@@ -99,34 +125,66 @@ impl Replica {
             source: self.partition(),
             target,
         };
-        let told = self.told_vertices(alloc, target)?;
-        let table = Arc::try_clone(table)?;
+        let told = self.told_vertices(alloc, &changed.vertices, target)?;
+        let table = Arc::try_clone(&changed.registers)?;
         Ok(Batch::sharing(
             self.plan(),
             name,
-            self.changed_count(),
+            changed.vertices.len() as u32,
             table,
             told.ids,
             told.places,
         ))
     }
 
-    // The vertices that changed and have an edge into a partition, with the places of their rows.
-    fn told_vertices(&self, alloc: Global, target: u16) -> Result<ToldVertices, AllocError>
+    // The vertices that changed, by their places, ascending.
+    fn changed_vertices(&self, alloc: Global) -> Result<Vec<u32>, AllocError>
+        ensures { IfOk result (λ vertices. AreChangedVertices self.now vertices.items) }
+    {
+        let s = self.shown();
+        let marks = s.tables.marks();
+        let mut vertices = Vec::with_capacity(alloc, count_set(marks))?;
+        let mut i = next_marked(marks, 0);
+        while i < marks.len() {
+            vertices.push(i as u32)?;
+            i = next_marked(marks, i + 1);
+        }
+        Ok(vertices)
+    }
+
+    // Fills an empty table with the registers of the vertices that changed, one row after the other.
+    fn put_rows(&self, table: &mut Vec<u8>, vertices: &[u32]) -> Result<(), AllocError>
+        requires vertices { AreChangedVertices self.now vertices.now }
+        requires empty { table.old.items ≡ [] }
+        ensures { OnOk result (table.new.items ≡ changed_registers self.now) }
+    {
+        let s = self.shown();
+        for k in 0..vertices.len() {
+            table.extend_from_slice(s.tables.rows().row(vertices[k] as usize))?;
+        }
+        Ok(())
+    }
+
+    // Those of the vertices that changed that have an edge into a partition, with the places of their rows.
+    fn told_vertices(
+        &self,
+        alloc: Global,
+        vertices: &[u32],
+        target: u16,
+    ) -> Result<ToldVertices, AllocError>
         requires target { target < self.now.part.plan.parts }
+        requires vertices { AreChangedVertices self.now vertices.now }
         ensures { IfOk result (λ told. IsTold self.now target
             (length self.now.part.preds) told.ids.items told.places.items told.changed) }
     {
-        let room = self.count_told(target) as usize;
+        let room = self.count_told(vertices, target) as usize;
         let mut told = ToldVertices {
             ids: Vec::with_capacity(alloc, room)?,
             places: Vec::with_capacity(alloc, room)?,
             changed: 0,
         };
-        let mut i = self.next_changed(0);
-        while i < self.progress.part.size() {
-            self.tell_row(&mut told, target, i)?;
-            i = self.next_changed(i + 1);
+        for k in 0..vertices.len() {
+            self.tell_row(&mut told, target, vertices[k])?;
         }
         Ok(told)
     }
@@ -150,19 +208,31 @@ impl Replica {
         Ok(())
     }
 
-    // How many vertices changed and have an edge into a partition.
-    fn count_told(&self, target: u16) -> u32
+    // How many of these vertices have an edge into a partition.
+    fn count_told(&self, vertices: &[u32], target: u16) -> u32
         requires target { target < self.now.part.plan.parts }
+        requires vertices { AreChangedVertices self.now vertices.now }
     {
         let mut count = 0u32;
-        let mut i = self.next_changed(0);
-        while i < self.progress.part.size() {
-            if self.feeds_into(i, target) {
+        for k in 0..vertices.len() {
+            if self.feeds_into(vertices[k], target) {
                 count += 1;
             }
-            i = self.next_changed(i + 1);
         }
         count
+    }
+
+    // Adds the rows of those of the vertices that changed that have an edge into the target, to a batch with none.
+    fn send_rows(&self, batch: &mut Batch, vertices: &[u32], target: u16) -> Result<(), AllocError>
+        requires vertices { AreChangedVertices self.now vertices.now }
+        requires none { batch.old ≡ sent_batch self.now target 0 }
+        ensures { OnOk result
+            (batch.new ≡ sent_batch self.now target (length self.now.part.preds)) }
+    {
+        for k in 0..vertices.len() {
+            self.send_row(batch, vertices[k])?;
+        }
+        Ok(())
     }
 
     // Adds the row of vertex i, which changed, where it has an edge into the batch's target.
@@ -177,17 +247,6 @@ impl Replica {
             batch.push(self.progress.part.vertex(i), self.rows().row(i as usize))?;
         }
         Ok(())
-    }
-
-    // The first vertex from vertex i on that changed, or the number of vertices where none did.
-    #[inline]
-    #[tactic(auto, using(crate::proofs::SeenLemmas::Read::few))]
-    fn next_changed(&self, i: u32) -> u32
-        requires { i ≤ length self.now.part.preds }
-        ensures { IsNextChanged self.now i result }
-    {
-        let s = self.shown();
-        next_marked(s.tables.marks(), i as usize) as u32
     }
 
     // Whether vertex i has an edge into a partition.

@@ -18,6 +18,9 @@ use figures::{Tally, are_last};
 use registers::{Rows, SourceMask};
 use std::sync::Arc;
 
+// How far apart the keys of two supersteps are: there is one for each source that there may be.
+const SOURCES: u32 = MOST_PARTS as u32;
+
 /// What a replica has, beside its part: what a checkpoint tells of it.
 ///
 /// A replica is made of it by [`Replica::rebuild`](crate::Replica::rebuild), where it fits a part.
@@ -192,7 +195,7 @@ fn may_be_kept(part: &Part, superstep: u32, early: &[Arc<Batch>]) -> bool
     let mut next = 0;
     for batch in early {
         let name = batch.name();
-        let key = name.superstep * 64 + u32::from(name.source);
+        let key = name.superstep * SOURCES + u32::from(name.source);
         if key < next || !may_keep(part, superstep, batch) {
             return false;
         }

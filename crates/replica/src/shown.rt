@@ -20,7 +20,7 @@ ghost use Rattle.ball_model.specs.State.{State, StandsFor, content_of, early_at,
 ghost use Rattle.ball_model.specs.State.{tallies_of, sums_of};
 ghost use Rattle.ball_model.specs.Checkpoint.{no_figures};
 ghost use Rattle.replica.specs.Ahead.{early_batches, early_names, true_early};
-ghost use Rattle.replica.specs.Level.{level_verdict, found_verdict, missing_in};
+ghost use Rattle.replica.specs.Level.{found_verdict, is_changing, level_verdict, missing_in};
 ghost use Rattle.replica.specs.Hearing.{KeepsAllOrNone, SaysSame, accumulated_by, change_by};
 ghost use Rattle.replica.specs.Hearing.{heard_by};
 ghost use Rattle.replica.specs.Saved.{IsFigures};
@@ -324,12 +324,18 @@ impl Progress {
         self.hearing.accumulators(self.tables.rows())
     }
 
+    // Whether a vertex of the own partition or of one that is heard is changed.
+    fn is_changing(&self) -> bool
+        ensures { result ≡ is_changing self.now.state }
+    {
+        self.hearing.change() || level::any_marked(self.tables.marks())
+    }
+
     // The verdict of a level that is held.
     pub(crate) fn level_verdict(&self) -> Verdict
         ensures { result ≡ level_verdict self.now.state }
     {
-        let is_changing = self.hearing.change() || level::any_marked(self.tables.marks());
-        if 1 <= self.superstep && !is_changing {
+        if 1 <= self.superstep && !self.is_changing() {
             return Verdict::Stable;
         }
         if self.superstep == self.part.plan().limit() {

@@ -109,7 +109,9 @@ impl Tables {
 
     /// For how many sums there is room.
     #[cfg(test)]
-    pub fn room(&self) -> usize {
+    pub fn room(&self) -> usize
+        ensures { result ≡ self.now.room }
+    {
         self.sums.capacity()
     }
 

@@ -7,7 +7,7 @@ ghost use Rattle.ball_model.specs.Figures.{TallyValue};
 ghost use Rattle.figures.specs.Values.{value_of};
 ghost use Rattle.registers.specs.Relay.{AreEither};
 ghost use Rattle.replica.specs.Tables.{AreStepped, CanBeStepped};
-ghost use Rattle.replica.specs.Tallies.{AreMarkedAhead, AreRelayed, DifferAt, shown_tallies};
+ghost use Rattle.replica.specs.Tallies.{AreRelayed, DifferAt, shown_tallies};
 
 use crate::level;
 use figures::{Estimator, Tally};
@@ -206,7 +206,8 @@ fn go_on(
     spare: &mut Option<Vec<Tally>>,
     marks: &[bool],
 )
-    requires { AreMarkedAhead marks.now (shown_tallies (map value_of own.old.items) out) behind.old }
+    requires relayed { AreRelayed (shown_tallies (map value_of own.old.items) out) behind.old }
+    requires each { length marks.now ≡ length (shown_tallies (map value_of own.old.items) out) }
     ensures own { map value_of own.new.items ≡ shown_tallies (map value_of own.old.items) out }
     ensures behind { (ahead : List TallyValue) →
         DifferAt marks.now (shown_tallies (map value_of own.old.items) out) ahead →

@@ -1,34 +1,19 @@
 -- The answer to a close.
-use Rattle.std.proofs.Common.{◌≡◌, ℕ, ◌+◌, arith, sym, ◌∙◌, ◌⊎◌}
-use Rattle.std.specs.Prelude.{Option, None, Some, Result, Ok, Err, OnOk, IfOk}
+use Rattle.std.proofs.Common.{◌≡◌, ℕ, ◌+◌, arith, sym, ◌∙◌}
+use Rattle.std.specs.Prelude.{Option, None, Result, Ok, OnOk, IfOk}
 use Rattle.ball_model.specs.declared.names.Verdict.{Verdict}
 use Rattle.ball_model.specs.declared.names.Verdict.TheVariants as verdict
 use Rattle.ball_model.specs.declared.names.CloseError.{CloseError}
-use Rattle.ball_model.specs.declared.names.CloseError.TheVariants as waits
 use Rattle.ball_model.specs.Job.{Job}
 use Rattle.ball_model.specs.Content.{close_unless, missing_of}
 use Rattle.ball_model.specs.State.{State, StandsFor, content_of}
 use Rattle.replica.specs.Change.{Advances}
-use Rattle.replica.specs.Level.{level_verdict, found_verdict, close_answer}
+use Rattle.replica.specs.Level.{level_verdict, close_answer}
 use Rattle.replica.specs.Seen.{IsState}
 use Rattle.replica.proofs.LevelLemmas.Level.{Ready}
 use Rattle.replica.proofs.LevelLemmas.Busy.{level_is}
 use Rattle.replica.proofs.LevelLemmas.Verdict.{end_further}
 use Rattle.replica.proofs.ChangeLemmas.Advance.{advance_stands}
-
--- a close waits for a source exactly where it is the least that is missing
-pub waits_for : (v : State) (r : Result ℕ CloseError) (q : ℕ) → r ≡ close_answer v →
-    (r ≡ Err (waits.Waiting q) → missing_of v.part.plan.parts v.part.number (content_of v) ≡ Some q) × (missing_of v.part.plan.parts v.part.number (content_of v) ≡ Some q → r ≡ Err (waits.Waiting q))
-waits_for v r q is = grind arith
-
--- it goes on exactly where the verdict says so
-pub goes_on_for : (v : State) (r : Result ℕ CloseError) → r ≡ close_answer v → (r ≡ Ok (v.superstep + 1) → found_verdict v ≡ Some verdict.GoOn) × (found_verdict v ≡ Some verdict.GoOn → r ≡ Ok (v.superstep + 1))
-goes_on_for v r is = grind arith
-
--- and the run is over exactly where it says that
-pub ends_for : (v : State) (r : Result ℕ CloseError) → r ≡ close_answer v →
-    (r ≡ Err waits.Finished → (found_verdict v ≡ Some verdict.Stable) ⊎ (found_verdict v ≡ Some verdict.Limit)) × ((found_verdict v ≡ Some verdict.Stable) ⊎ (found_verdict v ≡ Some verdict.Limit) → r ≡ Err waits.Finished)
-ends_for v r is = grind arith
 
 ok_from : (o : Option ℕ) (v : Verdict) (t n : ℕ) → close_unless o v t ≡ Ok n → (o ≡ None) × (v ≡ verdict.GoOn) × (n ≡ t + 1)
 ok_from o v t n e = grind arith

@@ -1,5 +1,5 @@
 -- A replica's accumulators: kept beside its rows, or let go where the run is over.
-use Rattle.std.proofs.Common.{◌≡◌, ℕ, ◌+◌, ◌^◌, ◌≤◌, true, false, List, [], length, refl, ap, sym, ◌∙◌, subst, inl, inr, ◌⊎◌}
+use Rattle.std.proofs.Common.{◌≡◌, ℕ, ◌+◌, ◌^◌, ◌≤◌, true, false, List, [], length, refl, ap, sym, ◌∙◌, subst, inl, inr}
 use Rattle.std.specs.Prelude.{Option, None, Some, Ok}
 use Rattle.std.specs.Arc.{arc_value}
 use Rattle.ball_model.specs.declared.names.Taken.TheVariants as taken
@@ -10,7 +10,7 @@ use Rattle.ball_model.specs.Content.{close_unless, take_of}
 use Rattle.ball_model.specs.State.{State, content_of}
 use Rattle.replica.specs.declared.Progress.TheInside as progress
 use Rattle.replica.specs.Level.{is_finished, is_over}
-use Rattle.replica.specs.Hearing.{HearingValue, KeepsAll, KeepsAllOrNone, SaysSame}
+use Rattle.replica.specs.Hearing.{HearingValue, KeepsAll, SaysSame}
 use Rattle.replica.specs.Progress.{CanGoOn, IsWhole, ProgressValue}
 use Rattle.replica.specs.Seen.{IsState, IsProgress, progress_of, state_of}
 use Rattle.replica.proofs.HearingLemmas.Hearing.{all_kept, all_of}
@@ -99,19 +99,6 @@ had_room r k is can =
 -- the state, where something else is heard that says the same
 pub said_same : (r : progress.Inside) (a : HearingValue) → SaysSame r.tables.rows.rows r.hearing a → state_of (record r { hearing = a }) ≡ state_of r
 said_same r a same = λ i. record (state_of r) { heard = same.heard i; heard_change = same.change i; accumulated = same.accumulated i }
-
--- its limits
-pub same_progress : (r : progress.Inside) (a : HearingValue) → IsProgress r → SaysSame r.tables.rows.rows r.hearing a → IsProgress (record r { hearing = a })
-same_progress r a ok same = record {
-  state = subst (λ (u : State). IsState u) (sym (said_same r a same)) ok.state;
-  width = ok.width;
-  accumulated_width = same.width ∙ ok.accumulated_width;
-  kept = same.kept;
-}
-
--- none of them, or all, are kept
-pub said_kept : (rows : List (List ℕ)) (a : HearingValue) → KeepsAllOrNone rows a → (length a.accumulated.rows ≡ length rows) ⊎ (a.accumulated.rows ≡ [])
-said_kept rows a kept = elim kept [ inl are ↦ inl are.count | inr gone ↦ inr gone.0 ]
 
 -- ---- when the run is over
 

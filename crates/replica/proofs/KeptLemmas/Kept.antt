@@ -16,7 +16,7 @@ use Rattle.ball_model.specs.Job.{Job}
 use Rattle.ball_model.specs.State.{State, StandsFor, content_of, early_at}
 use Rattle.replica.specs.Ahead.{table_of, batches_in, early_batches, early_names}
 use Rattle.replica.specs.Seen.{IsState}
-use Rattle.replica.proofs.AheadLemmas.{level_in, levels}
+use Rattle.replica.proofs.AheadLemmas.{few_batches, level_in, levels}
 
 -- ---- slots
 
@@ -168,11 +168,5 @@ pub nth_true : (j : Job) (p t i : ℕ) (v : State) (o : Option BatchValue) → S
 nth_true j p t i v o h st is = grind (arith, early_true, slice_get-map)
 
 -- there are at most 192
-few_batches : (xs : List (Option BatchValue)) → length (batches_in xs) ≤ length xs
-unfolding batches_in
-few_batches [] = omega arith
-few_batches (None ∷ xs) = let e = few_batches xs in omega arith
-few_batches (Some b ∷ xs) = let e = few_batches xs in omega arith
-
 pub few_early : (v : State) → IsState v → length (early_batches v.early) ≤ 192
 few_early v st = grind (arith, three_levels, length-append, few_batches)

@@ -1,12 +1,11 @@
 -- Figures stepped one after the other.
-use Rattle.std.proofs.Common.{◌≡◌, ℕ, ◌+◌, ◌-◌, ◌<◌, ◌≤◌, ◌≢◌, Bool, false, List, [], length, map, get_or, set, arith, ◌∙◌, replicate}
+use Rattle.std.proofs.Common.{◌≡◌, ℕ, ◌+◌, ◌-◌, ◌<◌, ◌≤◌, ◌≢◌, List, [], length, map, get_or, set, arith, ◌∙◌, replicate}
 use Rattle.std.proofs.lemmas.Grind.{common_steps}
 use Rattle.std.specs.List.{range_with_len}
 use Rattle.std.proofs.lemmas.List.{get_or-set_same, get_or-set_other, same_lists, get_or_default}
 use Rattle.std.proofs.lemmas.List.FromFn.{get_or-map-range_with_len, length-map-range_with_len}
 use Rattle.ball_model.specs.Figures.{TallyValue, Measure, estimate_with}
 use Rattle.ball_model.specs.Checkpoint.{no_figures}
-use Rattle.replica.specs.Kept.{AreLasts}
 use Rattle.replica.specs.Level.{next_tally, next_tallies}
 
 -- a list that is written at place i: what holds below and at i
@@ -16,10 +15,6 @@ step_done F xs d y i lt is done k below = grind (arith, get_or-set_other, get_or
 -- and above it
 pub step_rest : {X : Type 0} (F : ℕ → X) (xs : List X) (d y : X) (i : ℕ) → ((k : ℕ) → i ≤ k → get_or xs k d ≡ F k) → (k : ℕ) → i + 1 ≤ k → get_or (set xs i y) k d ≡ F k
 step_rest F xs d y i rest k low = let ne : k ≢ i = omega arith in get_or-set_other xs i k y d ne ∙ rest k (omega arith)
-
--- and above it, up to a bound
-pub step_rest_to : {X : Type 0} (F : ℕ → X) (xs : List X) (d y : X) (i n : ℕ) → ((k : ℕ) → i ≤ k → k < n → get_or xs k d ≡ F k) → (k : ℕ) → i + 1 ≤ k → k < n → get_or (set xs i y) k d ≡ F k
-step_rest_to F xs d y i n rest k low lt = let ne : k ≢ i = omega arith in get_or-set_other xs i k y d ne ∙ rest k (omega arith) lt
 
 -- a list that is a function of its places
 pub list_is : {X : Type 0} (F : ℕ → X) (xs : List X) (d : X) (n : ℕ) → length xs ≡ n → ((k : ℕ) → k < n → get_or xs k d ≡ F k) → xs ≡ map F (range_with_len 0 n)

@@ -9,13 +9,13 @@ use Rattle.ball_model.specs.Table.{Table}
 use Rattle.registers.specs.Joined.{maximum_of_rows, union_of_flags}
 use Rattle.replica.specs.declared.Progress.TheInside as progress
 use Rattle.replica.specs.Ahead.{IsTable, either}
-use Rattle.replica.specs.Hearing.{CanFill, CanHear, CanJoin, Fills, HearingValue, HearsEarly, KeepsAll, Renews}
+use Rattle.replica.specs.Hearing.{CanHear, Fills, HearingValue, HearsEarly, KeepsAll, Renews}
 use Rattle.replica.specs.Index.{targets_of}
 use Rattle.replica.specs.Level.{differences}
 use Rattle.replica.specs.Merged.{Absorbs, CanAbsorb, TakesIn, TakesOver}
 use Rattle.replica.specs.Progress.{CanGoOn, IsWhole, ProgressValue}
 use Rattle.replica.specs.Seen.{IsProgress, IsState, progress_of, state_of}
-use Rattle.replica.specs.Tables.{HasRoomFor, TablesValue}
+use Rattle.replica.specs.Tables.{TablesValue}
 use Rattle.replica.proofs.HearingLemmas.Accumulator.{Keeps, fields_are, fields_of, whole_keeps}
 use Rattle.replica.proofs.HearingLemmas.Hear.{hears_as, hears_same}
 use Rattle.replica.proofs.HearingLemmas.Hearing.{hears_said}
@@ -39,18 +39,6 @@ merging r o k l shared ok also is other whole two = grind (arith, whole_keeps)
 -- the index is that of its part
 pub own_index : (r o : progress.Inside) (v u : State) (shared : List (List (Option BatchValue))) (targets : List (List ℕ)) → Merging r o v u shared → targets ≡ targets_of v.part → targets ≡ targets_of (arc_value r.part)
 own_index r o v u shared targets m index = index ∙ ap (λ (w : State). targets_of w.part) (sym m.keeps.view_is)
-
--- the tables of the other one have room in its own
-pub room_for_other : (r o : progress.Inside) (v u : State) (shared : List (List (Option BatchValue))) → Merging r o v u shared → HasRoomFor o.tables r.tables
-room_for_other r o v u shared g = grind arith
-
--- and it has room for what the other one has heard
-pub fill_from_other : (r o : progress.Inside) (v u : State) (shared : List (List (Option BatchValue))) → Merging r o v u shared → CanFill o.tables.rows o.hearing r.hearing
-fill_from_other r o v u shared g = grind arith
-
--- accumulators of the other one are as many and as wide as its own
-pub join_with_other : (r o : progress.Inside) (v u : State) (shared : List (List (Option BatchValue))) (theirs : Table) → Merging r o v u shared → theirs.width ≡ 2 ^ u.part.plan.log2m → theirs.rows ≡ (state_of o).accumulated → CanJoin r.tables.rows theirs r.hearing
-join_with_other r o v u shared theirs g width rows = grind arith
 
 -- the batches of the other one can be heard
 pub hear_from_other : (r o : progress.Inside) (v u : State) (plan : PlanValue) (targets : List (List ℕ)) (shared : List (List (Option BatchValue))) → Merging r o v u shared → plan ≡ (arc_value r.part).plan → targets ≡ targets_of v.part → CanHear plan targets shared r.hearing

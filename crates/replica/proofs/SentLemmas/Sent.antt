@@ -137,7 +137,7 @@ count_take zero marks = omega arith
 count_take (suc n) [] = omega arith
 count_take (suc n) (m ∷ marks) = count_if m marks (take n marks) (count_take n marks)
 
-count_next : (marks : List Bool) (n : ℕ) → n < length marks → set_count (take (n + 1) marks) ≡ set_count (take n marks) + set_count (get_or marks n false ∷ [])
+pub count_next : (marks : List Bool) (n : ℕ) → n < length marks → set_count (take (n + 1) marks) ≡ set_count (take n marks) + set_count (get_or marks n false ∷ [])
 count_next marks n lt = grind (arith, common_steps)
 
 pub sent_short : (v : State) (target n : ℕ) → n ≤ length v.marks → length (sent_rows v target n) ≤ set_count (take n v.marks)
@@ -158,10 +158,6 @@ sent_room v target i b is lt mark = grind (arith, common_steps, sent_short, leng
 -- a mark that was read
 pub mark_of : (items marks : List Bool) (i : ℕ) (b r : Bool) → items ≡ marks → i < length marks → b ≡ get_or items i b → b ≡ r → get_or marks i false ≡ r
 mark_of items marks i b r same lt at is = get_or_default marks i false b lt ∙ ap (λ (l : List Bool). get_or l i b) (sym same) ∙ sym at ∙ is
-
--- a bit that was read
-pub bit_of : (a v : PartValue) (i feeds r target : ℕ) (found test : Bool) → a ≡ v → feeds ≡ get_or a.feeds i 0 → r ≡ target → found ≡ has_bit feeds r → found ≡ test → has_bit (get_or v.feeds i 0) target ≡ test
-bit_of a v i feeds r target found test same at name is told = sym (is ∙ rw (at, same, name) refl) ∙ told
 
 -- the batch without rows
 pub sent_first : (v : State) (target : ℕ) (plan : PlanValue) (superstep source changed : ℕ) → plan ≡ v.part.plan → superstep ≡ v.superstep → source ≡ v.part.number → changed ≡ count_by (λ mark. mark) v.marks →

@@ -188,8 +188,3 @@ pub told_batch : (v : State) (target changed : ℕ) (plan : PlanValue) (superste
     record { plan = plan; name = record { superstep = superstep; source = source; target = target }; changed = count; rows = rows_at (2 ^ plan.log2m) table ids places } ≡ sent_batch v target (length v.part.preds)
 unfolding sent_batch
 told_batch v target changed plan superstep source count table ids places is same p t q n = rw (p, t, q, n, same, is.rows) refl
-
--- a batch of the rows that are sent is the true one
-pub true_told : {E : Type 0} (v : State) (target : ℕ) (r : Result BatchValue E) → target < v.part.plan.parts → IfOk r (λ b. b ≡ sent_batch v target (length v.part.preds)) → (j : Job) (p t : ℕ) → StandsFor j p t v →
-    IfOk r (λ b. b ≡ true_batch j (record { superstep = t; source = p; target = target }))
-true_told v target r other sent j p t h = if_made r sent (λ b is. is ∙ sent_true j p t target v h other)

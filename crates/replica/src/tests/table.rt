@@ -1,8 +1,6 @@
 //! Batches over one table of the rows that changed.
 
-ghost use Rattle.std.specs.Prelude.{◌≡◌};
-ghost use Rattle.std.specs.Arc.{arc_value};
-ghost use Rattle.replica.specs.Sent.{changed_registers};
+ghost use Rattle.replica.specs.Sent.{AreChanged};
 
 use super::calls::told;
 use super::script::Told;
@@ -12,16 +10,16 @@ use super::*;
 fn shares_one(
     rt: &HostRuntime,
     from: &Replica,
-    table: &Arc<Vec<u8>>,
+    changed: &ChangedRows,
     target: u16,
     wanted: Told,
 ) -> Option<bool>
-    requires table { (arc_value table.now).items ≡ changed_registers from.now }
+    requires changed { AreChanged from.now changed.now }
 {
     if target >= from.plan().parts() || target == from.partition() {
         return Some(false);
     }
-    let batch = from.out_of(rt.alloc(), table, target).ok()?;
+    let batch = from.out_of(rt.alloc(), changed, target).ok()?;
     Some(told(&batch) == wanted)
 }
 
@@ -29,13 +27,13 @@ fn shares_one(
 fn shares_both(
     rt: &HostRuntime,
     from: &Replica,
-    table: &Arc<Vec<u8>>,
+    changed: &ChangedRows,
     wanted: [Told; 2],
 ) -> Option<bool>
-    requires table { (arc_value table.now).items ≡ changed_registers from.now }
+    requires changed { AreChanged from.now changed.now }
 {
-    let first = shares_one(rt, from, table, 1, wanted[0])?;
-    let second = shares_one(rt, from, table, 2, wanted[1])?;
+    let first = shares_one(rt, from, changed, 1, wanted[0])?;
+    let second = shares_one(rt, from, changed, 2, wanted[1])?;
     Some(first && second)
 }
 
@@ -43,12 +41,11 @@ fn shares_both(
 fn shares_all(rt: &HostRuntime, from: &Replica, wanted: [Told; 2], length: usize) -> Option<bool> {
     let mut rows = Vec::new(rt.alloc());
     rows.extend_from_slice(&[7, 7, 7]).ok()?;
-    from.changed_rows_into(&mut rows).ok()?;
-    if rows.len() != length {
+    let changed = from.changed_rows(rt.alloc(), rows).ok()?;
+    if changed.table().ok()?.len() != length {
         return Some(false);
     }
-    let table = Arc::new(rt.alloc(), rows).ok()?;
-    shares_both(rt, from, &table, wanted)
+    shares_both(rt, from, &changed, wanted)
 }
 
 /// Whether the replica at a place does.

@@ -1,11 +1,5 @@
-use Rattle.std.proofs.Common.{◌-◌, ◌≤◌, length}
+use Rattle.std.proofs.Common.{◌≤◌}
 use Rattle.replica.proofs.Replica.count_told.Given as goal
 
-abbrev pub invariant-loop-i : goal.invariant-loop-i
-invariant-loop-i l = record {
-  in_range : l.i ≤ length l.self.part.preds;
-  few : l.count ≤ l.i;
-}
-
-abbrev pub decreases-loop-i : goal.decreases-loop-i
-decreases-loop-i l = length l.self.part.preds - l.i
+abbrev pub invariant-loop-k : goal.invariant-loop-k
+invariant-loop-k l = l.count ≤ l.k
