@@ -7,7 +7,7 @@ use ball_model::plan::GREATEST_LIMIT;
 use ball_model::{Estimate, NodeId};
 use edgelist::Delimiter;
 
-/// The most replicas that a partition may have.
+/// The most replicas that a partition may have. The world has the same limit, by the same rule of the command line.
 pub(crate) const MOST_REPLICAS: u8 = 4;
 
 /// The fewest entries that the board's history may have.

@@ -1,10 +1,9 @@
 //! The tables that a node's batches share.
 
-ghost use Rattle.std.specs.Prelude.{◌≡◌, IfOk};
-ghost use Rattle.std.specs.Arc.{arc_value};
-ghost use Rattle.replica.specs.Sent.{changed_registers};
+ghost use Rattle.std.specs.Prelude.{IfOk};
+ghost use Rattle.replica.specs.Sent.{AreChanged};
 
-use replica::Replica;
+use replica::{ChangedRows, Replica};
 use std::alloc::{AllocError, Global};
 use std::sync::Arc;
 
@@ -44,19 +43,18 @@ impl SharedTables {
         }
     }
 
-    /// The registers of the vertices that changed, as the batches of a superstep share them.
+    /// The rows of the vertices that changed, as the batches of a superstep share them.
     pub(crate) fn next(
         &mut self,
         alloc: Global,
         replica: &Replica,
-    ) -> Result<SharedTable, AllocError>
-        ensures { IfOk result (λ table. (arc_value table).items ≡ changed_registers replica.now) }
+    ) -> Result<ChangedRows, AllocError>
+        ensures { IfOk result (λ changed. AreChanged replica.now changed) }
     {
-        let mut rows = self.free().unwrap_or(Vec::new(alloc));
-        replica.changed_rows_into(&mut rows)?;
-        let table = Arc::new(alloc, rows)?;
-        self.keep(Arc::try_clone(&table)?);
-        Ok(table)
+        let room = self.free().unwrap_or(Vec::new(alloc));
+        let changed = replica.changed_rows(alloc, room)?;
+        self.keep(changed.table()?);
+        Ok(changed)
     }
 
     // The oldest table that nobody else has. The others stay.

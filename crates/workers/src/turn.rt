@@ -16,16 +16,16 @@ ghost use Rattle.ball_model.specs.State.{StandsFor};
 ghost use Rattle.replica.specs.Level.{EndsRun, found_verdict, missing_in};
 ghost use Rattle.workers.specs.declared.turn.Turn.TheVariants as turn;
 ghost use Rattle.workers.specs.Turn.{DropsBefore, HasRecalled, IsFound, IsNodeTurn, StandsIn};
-ghost use Rattle.replica.specs.Sent.{batch_name, changed_registers};
+ghost use Rattle.replica.specs.Sent.{AreChanged, batch_name};
 ghost use Rattle.workers.specs.Tie.{HasCome, HasGone};
 
 use crate::exchange::Exchange;
 use crate::gate::Gate;
 use crate::node::{NodeError, NodeOrders};
-use crate::shared::{SharedTable, SharedTables};
+use crate::shared::SharedTables;
 use ball_model::{BatchName, NodeId};
 use batches::Batch;
-use replica::{Replica, Shown, Snapshot};
+use replica::{ChangedRows, Replica, Shown, Snapshot};
 use std::alloc::{AllocError, AllocGlobal, Global};
 use std::sync::{Arc, Wait};
 
@@ -123,16 +123,16 @@ fn keep_snapshot<R: AllocGlobal + Wait, E: Exchange>(
 fn shared_batch(
     alloc: Global,
     replica: &Replica,
-    table: &SharedTable,
+    changed: &ChangedRows,
     target: u16,
 ) -> Result<Arc<Batch>, AllocError>
     requires target { target < replica.now.part.plan.parts }
     requires other { target ≢ replica.now.part.number }
-    requires table { (arc_value table.now).items ≡ changed_registers replica.now }
+    requires changed { AreChanged replica.now changed.now }
     ensures { (j : Job) (p t : ℕ) → StandsFor j p t replica.now →
         IfOk result (λ b. arc_value b ≡ true_batch j (batch_name t p target)) }
 {
-    Ok(Arc::new(alloc, replica.out_of(alloc, table, target)?)?)
+    Ok(Arc::new(alloc, replica.out_of(alloc, changed, target)?)?)
 }
 
 // Tells one other partition of the superstep.
@@ -142,14 +142,14 @@ fn tell<R: AllocGlobal + Wait, E: Exchange, G: Gate>(
     gate: &G,
     node: NodeId,
     replica: &Replica,
-    table: &SharedTable,
+    changed: &ChangedRows,
     target: u16,
 ) -> Result<(), NodeError>
     requires caller { IsCaller (E.caller exchange.old) }
     requires stands { StandsIn (E.caller exchange.old) node.part replica.now }
     requires target { target < (E.caller exchange.old).seen.job.plan.parts }
     requires other { target ≢ node.part }
-    requires table { (arc_value table.now).items ≡ changed_registers replica.now }
+    requires changed { AreChanged replica.now changed.now }
     ensures seen { Extends (E.caller exchange.old) (E.caller exchange.new) }
     ensures posted { OnOk result (HasPosted (E.caller exchange.old)
         (batch_name replica.now.superstep node.part target) (E.caller exchange.new)) }
@@ -159,25 +159,25 @@ fn tell<R: AllocGlobal + Wait, E: Exchange, G: Gate>(
         (E.caller exchange.new)) }
     ensures full { IfErr result (λ e. e ≡ BookFull → IsFull (E.caller exchange.new)) }
 {
-    let batch = shared_batch(rt.alloc(), replica, table, target)?;
+    let batch = shared_batch(rt.alloc(), replica, changed, target)?;
     gate.before_post(node, replica.superstep());
     exchange.post(rt, batch)?;
     gate.after_post(node, replica.superstep());
     Ok(())
 }
 
-// Tells every other partition of the superstep, where the registers of the vertices that changed lie in the table.
+// Tells every other partition of the superstep, where these are the rows that changed.
 fn tell_each<R: AllocGlobal + Wait, E: Exchange, G: Gate>(
     rt: &R,
     exchange: &mut E,
     gate: &G,
     node: NodeId,
     replica: &Replica,
-    table: &SharedTable,
+    changed: &ChangedRows,
 ) -> Result<(), NodeError>
     requires caller { IsCaller (E.caller exchange.old) }
     requires stands { StandsIn (E.caller exchange.old) node.part replica.now }
-    requires table { (arc_value table.now).items ≡ changed_registers replica.now }
+    requires changed { AreChanged replica.now changed.now }
     ensures seen { Extends (E.caller exchange.old) (E.caller exchange.new) }
     ensures told { OnOk result (HasToldAll (E.caller exchange.old) replica.now.superstep node.part
         (E.caller exchange.new)) }
@@ -190,7 +190,7 @@ fn tell_each<R: AllocGlobal + Wait, E: Exchange, G: Gate>(
 {
     for target in 0..replica.plan().parts() {
         if target != node.part {
-            tell(rt, exchange, gate, node, replica, table, target)?;
+            tell(rt, exchange, gate, node, replica, changed, target)?;
         }
     }
     Ok(())
@@ -221,8 +221,8 @@ fn tell_all<R: AllocGlobal + Wait, E: Exchange, G: Gate>(
     if replica.plan().parts() == 1 {
         return Ok(());
     }
-    let table = tables.next(rt.alloc(), replica)?;
-    tell_each(rt, exchange, gate, node, replica, &table)
+    let changed = tables.next(rt.alloc(), replica)?;
+    tell_each(rt, exchange, gate, node, replica, &changed)
 }
 
 // Where every superstep is kept, drops the batches that nobody needs any more.

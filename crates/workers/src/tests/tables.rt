@@ -1,13 +1,15 @@
 //! Tables of rows that are filled again.
 
 use super::*;
-use crate::shared::{SharedTable, SharedTables};
+use crate::shared::SharedTables;
+use replica::ChangedRows;
 
 /// How long a table is, and how much room it has.
 type Size = (usize, usize);
 
-fn size_of(table: &SharedTable) -> Size {
-    (table.len(), table.capacity())
+fn size_of(changed: &ChangedRows) -> Option<Size> {
+    let table = changed.table().ok()?;
+    Some((table.len(), table.capacity()))
 }
 
 /// The replica of the two edges.
@@ -30,10 +32,10 @@ fn later_tables(rt: &HostRuntime, is_held: bool) -> Option<(Size, Size)> {
         other = None;
     }
     replica.close().ok()?;
-    let second = size_of(&tables.next(alloc, &replica).ok()?);
+    let second = size_of(&tables.next(alloc, &replica).ok()?)?;
     drop(other);
     replica.close().ok()?;
-    let third = size_of(&tables.next(alloc, &replica).ok()?);
+    let third = size_of(&tables.next(alloc, &replica).ok()?)?;
     Some((second, third))
 }
 
@@ -46,11 +48,11 @@ fn last_tables(rt: &HostRuntime) -> Option<(Size, Size)> {
     replica.close().ok()?;
     let second = tables.next(alloc, &replica).ok()?;
     replica.close().ok()?;
-    let third = size_of(&tables.next(alloc, &replica).ok()?);
+    let third = size_of(&tables.next(alloc, &replica).ok()?)?;
     drop(first);
     drop(second);
     replica.close().ok()?;
-    let fourth = size_of(&tables.next(alloc, &replica).ok()?);
+    let fourth = size_of(&tables.next(alloc, &replica).ok()?)?;
     Some((third, fourth))
 }
 

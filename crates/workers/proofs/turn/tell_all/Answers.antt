@@ -14,5 +14,5 @@ returns-then-parts-eq1-clause-told g c = λ r lt other.
 pub returns-then-parts-eq1-clause-came : goal.returns-then-parts-eq1-clause-came
 returns-then-parts-eq1-clause-came g c = come_nowhere _ _ _ _ refl
 
-pub returns-in_err-table-clause-gone : goal.returns-in_err-table-clause-gone
-returns-in_err-table-clause-gone g c = on_err c.from_residual.result (gone_nowhere _ _ _ _ refl)
+pub returns-in_err-changed-clause-gone : goal.returns-in_err-changed-clause-gone
+returns-in_err-changed-clause-gone g c = on_err c.from_residual.result (gone_nowhere _ _ _ _ refl)
