@@ -22,16 +22,18 @@ use Rattle.replica.specs.Kept.{AreEarly}
 use Rattle.replica.specs.Seen.{IsState}
 use Rattle.replica.proofs.KeptLemmas.Kept.{three_levels}
 use Rattle.replica.proofs.SavedLemmas.Rebuilt.{kept_are}
+use Rattle.replica.proofs.SeenLemmas.Read.{few}
 use Rattle.checkpoint.specs.declared.header.Header.{Header}
 use Rattle.checkpoint.specs.declared.error.KeepError.{KeepError}
 use Rattle.checkpoint.specs.Parts.{heard_bytes, count_bytes}
 use Rattle.ball_model.specs.Checks.{◌>>=◌}
 use Rattle.checkpoint.specs.Reading.{Form, needs, followed, is_batch_length, told_batch, batch_form, batches_form, told_batches, early_form, fixed_length, held_form, body_form, told_body, content_form, sealed_form, seal_form, checkpoint_head_at, check_checkpoint_head}
 use Rattle.checkpoint.specs.Told.{IsOfPlan}
-use Rattle.checkpoint.proofs.LawLemmas.{early_are, few_vertices}
+use Rattle.checkpoint.proofs.LawLemmas.{early_are}
 use Rattle.checkpoint.proofs.LengthLemmas.{front_long, table_long, heard_long, accumulated_long, batch_few}
 use Rattle.checkpoint.proofs.ReaderLemmas.{needs-piece, followed-at, told-needs, number-told, held-none, held-some, told-body, seal-fine}
-use Rattle.checkpoint.proofs.TextLemmas.{held_is, slots_few}
+use Rattle.checkpoint.proofs.TextLemmas.{held_is}
+use Rattle.replica.proofs.AheadLemmas.{few_batches}
 
 -- the form takes all of the piece, whatever follows it
 abbrev pub Covers : Form → List ℕ → Type 0
@@ -93,7 +95,7 @@ covers_batches plan (b ∷ batches) all rest =
 slots_fewer : (slots : List (Option BatchValue)) (p : ℕ) → p < length slots → get_or slots p None ≡ None → length (batches_in slots) + 1 ≤ length slots
 unfolding batches_in
 slots_fewer [] p lt free = absurd (omega (arith, lt))
-slots_fewer (None ∷ rest) p lt free = omega (arith, slots_few rest)
+slots_fewer (None ∷ rest) p lt free = omega (arith, few_batches rest)
 slots_fewer (Some b ∷ rest) zero lt free = absurd (subst is_there free tt)
   where
     is_there : Option BatchValue → Type 0
@@ -151,11 +153,11 @@ pub head_is_in : (version : ℕ) (v : State) → IsState v → checkpoint_head_a
 unfolding checkpoint_head_at front_bytes
 head_is_in version v s =
     let plan = v.part.plan in
-    let few = few_vertices v s in
+    let small = few v s in
     let parts : from_be_bytes w16 (to_be_bytes w16 plan.parts) ≡ plan.parts = from_be_bytes-to_be_bytes_2 plan.parts (omega (arith, s.part.plan.parts_to)) in
     let number : from_be_bytes w16 (to_be_bytes w16 v.part.number) ≡ v.part.number = from_be_bytes-to_be_bytes_2 v.part.number (omega (arith, s.part.plan.parts_to, s.part.number)) in
     let vertices : from_be_bytes w32 (to_be_bytes w32 plan.vertices) ≡ plan.vertices = from_be_bytes-to_be_bytes_4 plan.vertices (omega (arith, s.part.plan.vertices_to)) in
-    let size : from_be_bytes w32 (to_be_bytes w32 (length v.part.preds)) ≡ length v.part.preds = from_be_bytes-to_be_bytes_4 (length v.part.preds) (omega (arith, few)) in
+    let size : from_be_bytes w32 (to_be_bytes w32 (length v.part.preds)) ≡ length v.part.preds = from_be_bytes-to_be_bytes_4 (length v.part.preds) (omega (arith, small)) in
     let step : from_be_bytes w32 (to_be_bytes w32 v.superstep) ≡ v.superstep = from_be_bytes-to_be_bytes_4 v.superstep (omega (arith, s.superstep, s.part.plan.limit_to)) in
     let job : take 32 plan.job ≡ plan.job = take_all 32 plan.job (omega (arith, s.part.plan.digest)) in
     λ i. record {

@@ -28,13 +28,13 @@ use Rattle.replica.specs.Kept.{AreEarly}
 use Rattle.replica.specs.Saved.{IsKeepable, IsFigures}
 use Rattle.replica.specs.Seen.{IsState}
 use Rattle.replica.proofs.KeptLemmas.Kept.{three_levels}
-use Rattle.replica.proofs.IndexLemmas.Own.{part_size_le}
 use Rattle.replica.proofs.SavedLemmas.Rebuilt.{kept_are, table_is_told}
+use Rattle.replica.proofs.SeenLemmas.Read.{few, length-tallies}
 use Rattle.replica.proofs.RunsLemmas.Same.{same_state}
 use Rattle.checkpoint.specs.Laws.{TextIsOne, FirstTextTellsRest, VersionsDiffer}
 use Rattle.checkpoint.specs.Parts.{heard_bytes, count_bytes}
 use Rattle.checkpoint.specs.Told.{IsOfPlan}
-use Rattle.checkpoint.proofs.TextLemmas.{mask_is, held_is, tallies_long, early_few}
+use Rattle.checkpoint.proofs.TextLemmas.{mask_is, held_is, early_few}
 use Rattle.checkpoint.proofs.LengthLemmas.{range_long, accumulated_wide, accumulated_long, heard_long, count_long, front_long, vertex_long, table_long, batch_few}
 
 -- ---- numbers
@@ -129,7 +129,7 @@ same_rows w (x ∷ xs) (y ∷ ys) long fits also e =
 -- ---- figures
 pub estimate_at : (v : State) → IsState v → (i : ℕ) → i < length v.part.preds → (get_or v.tallies i no_figures).last < 2 ^ 63
 estimate_at v s i lt =
-    let long = tallies_long v s in
+    let long = length-tallies v s in
     let row : IsCounterRow v.part.plan.log2m (get_or v.rows i []) = s.rows.row i (omega (arith, lt, s.count)) in
     let is : (get_or v.tallies i no_figures).last ≡ estimate_with (measure_of v.part.plan) (get_or v.rows i []) =
     sym (get_or-map (λ (t : TallyValue). t.last) v.tallies i no_figures 0 (omega (arith, lt, long))) ∙ ap (λ (l : List ℕ). get_or l i 0) s.lasts ∙ get_or-map (estimate_with (measure_of v.part.plan)) v.rows i [] 0 (omega (arith, lt, s.count)) in
@@ -139,16 +139,13 @@ rising : (sums : List ℕ) (t n i : ℕ) → i + n ≡ t → ((k : ℕ) → k < 
 rising sums t zero i e h = let same : i ≡ t = omega (arith, e) in subst (λ (k : ℕ). get_or sums i 0 ≤ get_or sums k 0) same (omega arith)
 rising sums t (suc n) i e h = let one = h i (omega (arith, e)) in let rest = rising sums t n (i + 1) (omega (arith, e)) h in omega (arith, one, rest)
 
-pub few_vertices : (v : State) → IsState v → length v.part.preds ≤ most_vertices
-few_vertices v s = omega (arith, s.part.preds, part_size_le v.part.plan.vertices v.part.plan.parts v.part.number, s.part.plan.vertices_to)
-
 pub sum_fits : (v : State) → IsState v → (i : ℕ) → get_or v.sums i 0 < 2 ^ 128
 sum_fits v s i =
-    let few = few_vertices v s in
-    let long = tallies_long v s in
+    let small = few v s in
+    let long = length-tallies v s in
     let each : All (λ (t : TallyValue). t.last ≤ 2 ^ 63) v.tallies = λ k d lt. rw (get_or_default v.tallies k d no_figures lt) (let below = estimate_at v s k (omega (arith, lt, long)) in omega (arith, below)) in
     let total = sum_by-le (λ (t : TallyValue). t.last) (2 ^ 63) v.tallies each in
-    let most = mul-le (length v.tallies) (2 ^ 63) most_vertices (2 ^ 63) (omega (arith, few, long)) (omega arith) in
+    let most = mul-le (length v.tallies) (2 ^ 63) most_vertices (2 ^ 63) (omega (arith, small, long)) (omega arith) in
     elim (cases_lt i (v.superstep + 1)) [
       | inl lt ↦ let up = rising v.sums v.superstep (v.superstep - i) i (omega (arith, lt)) s.sums.rise in omega (arith, up, s.sums.last_is, total, most)
       | inr le ↦ let past = get_or_past v.sums i 0 (omega (arith, le, s.sums.count)) in omega (arith, past)
@@ -172,8 +169,8 @@ same_vertex v w i k m lt also e =
     let one = halves (mark_byte (get_or v.marks i false) ∷ []) (mark_byte (get_or w.marks i false) ∷ []) (to_be_bytes w64 (get_or v.tallies i no_figures).last) (to_be_bytes w64 (get_or w.tallies i no_figures).last) refl two.0 in
     let a = estimate_at v k.state i lt in
     let b = estimate_at w m.state i also in
-    let f : IsFigures (get_or v.tallies i no_figures) = k.figures i no_figures (omega (arith, lt, tallies_long v k.state)) in
-    let h : IsFigures (get_or w.tallies i no_figures) = m.figures i no_figures (omega (arith, also, tallies_long w m.state)) in
+    let f : IsFigures (get_or v.tallies i no_figures) = k.figures i no_figures (omega (arith, lt, length-tallies v k.state)) in
+    let h : IsFigures (get_or w.tallies i no_figures) = m.figures i no_figures (omega (arith, also, length-tallies w m.state)) in
     let last = same_8 _ _ (omega (arith, a)) (omega (arith, b)) one.1 in
     let harm = same_8 _ _ (omega (arith, a, f.harm)) (omega (arith, b, h.harm)) two.1 in
     let dist = same_16 _ _ (omega (arith, a, f.dist)) (omega (arith, b, h.dist)) figures.1 in
@@ -204,7 +201,7 @@ same_table v w k m part step e =
     (same_pieces (vertex_bytes v) (vertex_bytes w) 0 (length v.part.preds) (λ j in_time. vertex_long v k.state j (omega (arith, in_time)) ∙ sym (vertex_long w m.state j (omega (arith, in_time, size)) ∙ ap (λ (n : ℕ). 33 + n) width)) pieces i (omega arith) (omega (arith, lt))) in
     record {
       marks = same_lists v.marks w.marks (omega (arith, k.state.marks, m.state.marks, size)) (λ i d lt. get_or_default v.marks i d false lt ∙ (each i (omega (arith, lt, k.state.marks))).mark ∙ get_or_default w.marks i false d (omega (arith, lt, k.state.marks, m.state.marks, size)));
-      tallies = same_lists v.tallies w.tallies (omega (arith, tallies_long v k.state, tallies_long w m.state, size)) (λ i d lt. get_or_default v.tallies i d no_figures lt ∙ (each i (omega (arith, lt, tallies_long v k.state))).tally ∙ get_or_default w.tallies i no_figures d (omega (arith, lt, tallies_long v k.state, tallies_long w m.state, size)));
+      tallies = same_lists v.tallies w.tallies (omega (arith, length-tallies v k.state, length-tallies w m.state, size)) (λ i d lt. get_or_default v.tallies i d no_figures lt ∙ (each i (omega (arith, lt, length-tallies v k.state))).tally ∙ get_or_default w.tallies i no_figures d (omega (arith, lt, length-tallies v k.state, length-tallies w m.state, size)));
       rows = same_lists v.rows w.rows (omega (arith, k.state.count, m.state.count, size)) (λ i d lt. get_or_default v.rows i d [] lt ∙ (each i (omega (arith, lt, k.state.count))).row ∙ get_or_default w.rows i [] d (omega (arith, lt, k.state.count, m.state.count, size)));
       sums = same_numbers v.sums w.sums (omega (arith, k.state.sums.count, m.state.sums.count, step)) (sum_fits v k.state) (sum_fits w m.state) parts.1;
     }

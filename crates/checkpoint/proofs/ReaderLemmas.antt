@@ -29,13 +29,13 @@ use Rattle.ball_model.specs.Checks.{◌>>=◌}
 use Rattle.checkpoint.specs.Reading.{Form, needs, followed, is_batch_length, greatest_batch, told_batch, batch_form, batches_form, told_batches, early_form, fixed_length, most_after, most_checkpoint_body, most_early, allowed, allowed_content, TakesWithin, held_form, content_form, sealed_form, told_body, body_form, check_checkpoint_head, checkpoint_head_at, seal_form, TakesBytes, Grows, Fails, Passes, PassesSoFar, IsRead, IsOfBytes, IsOfBody, HasHead, OnOkOrMemory}
 
 -- ---- calls that are sure
-after_then : (n m : ℕ) (a b c : Option ℕ) → AfterAtMost n a b → AfterAtMost m b c → AfterAtMost (n + m) a c
+pub after_then : (n m : ℕ) (a b c : Option ℕ) → AfterAtMost n a b → AfterAtMost m b c → AfterAtMost (n + m) a c
 after_then n m None b c p q = subst (λ (o : Option ℕ). AfterAtMost m o c) p q
 after_then n m (Some k) None c p q = absurd p
 after_then n m (Some k) (Some j) None p q = absurd q
 after_then n m (Some k) (Some j) (Some i) p q = omega (arith, p, q)
 
-sure_rest : (n m : ℕ) (a b : Option ℕ) → AreSure a (n + m) → AfterAtMost n a b → AreSure b m
+pub sure_rest : (n m : ℕ) (a b : Option ℕ) → AreSure a (n + m) → AfterAtMost n a b → AreSure b m
 sure_rest n m None b sure p = subst (λ (o : Option ℕ). AreSure o m) (sym p) tt
 sure_rest n m (Some k) None sure p = absurd p
 sure_rest n m (Some k) (Some j) sure p = omega (arith, sure, p)

@@ -25,6 +25,7 @@ use Rattle.figures.specs.declared.tally.Tally.{Tally}
 use Rattle.registers.specs.Flags.{flags_of, number_of_flags}
 use Rattle.replica.specs.Saved.{IsKeepable}
 use Rattle.replica.specs.Seen.{IsState}
+use Rattle.replica.proofs.SeenLemmas.Read.{length-tallies}
 use Rattle.checkpoint.specs.declared.error.KeepError.{KeepError}
 use Rattle.checkpoint.specs.declared.error.KeepError.TheVariants as errors
 use Rattle.checkpoint.specs.declared.saved.Held.{Held}
@@ -35,7 +36,7 @@ use Rattle.checkpoint.proofs.HeldLemmas.{max_zeros}
 use Rattle.checkpoint.proofs.LawLemmas.{halves, mask_fits, same_8, same_16, same_flags, estimate_at}
 use Rattle.checkpoint.proofs.LengthLemmas.{batch_few, heard_long, held_long, table_long}
 use Rattle.checkpoint.proofs.SavedLemmas.{more_tallies}
-use Rattle.checkpoint.proofs.TextLemmas.{early_few, held_is, mask_is, tallies_long}
+use Rattle.checkpoint.proofs.TextLemmas.{early_few, held_is, mask_is}
 
 -- ---- numbers
 pub right_8 : (m n : ℕ) (bytes here rest : List ℕ) → m < 2 ^ 64 → n < 2 ^ 64 → bytes ≡ to_be_bytes w64 m ++ here → bytes ≡ to_be_bytes w64 n ++ rest → (m ≡ n) × (here ≡ rest)
@@ -127,7 +128,7 @@ vertex_here v i vertices here more k lt first =
     let place : get_or range i 0 ≡ i = get_or-range_with_len 0 (length v.part.preds) i 0 lt ∙ omega arith in
     let a = estimate_at v k.state i lt in
     record {
-      small = record { last = omega (arith, a); figures = k.figures i no_figures (omega (arith, lt, tallies_long v k.state)) };
+      small = record { last = omega (arith, a); figures = k.figures i no_figures (omega (arith, lt, length-tallies v k.state)) };
       long = (k.state.rows.row i (omega (arith, lt, k.state.count))).width;
       text = here_is ∙ ap (λ (n : ℕ). vertex_bytes v n ++ (flat_map (vertex_bytes v) (drop (i + 1) range) ++ more)) place;
     }
@@ -137,7 +138,7 @@ pub first_more : (v : State) (i : ℕ) (old new : Vertices) (here after more : L
     → AreFirst v (i + 1) new after more
 first_more v i old new here after more k lt count first next rest = record {
   marks = next.marks ∙ taken_next v.marks old.marks.items false (get_or v.marks i false) i (omega (arith, lt, k.state.marks)) first.marks refl;
-  tallies = next.tallies ∙ taken_next v.tallies (map value_of old.tallies.items) no_figures (get_or v.tallies i no_figures) i (omega (arith, lt, tallies_long v k.state)) first.tallies refl;
+  tallies = next.tallies ∙ taken_next v.tallies (map value_of old.tallies.items) no_figures (get_or v.tallies i no_figures) i (omega (arith, lt, length-tallies v k.state)) first.tallies refl;
   rows = ap (λ (l : List (List ℕ)). take (i + 1) l) next.rows
       ∙ take-set_at old.rows.rows i (i + 1) (get_or v.rows i []) refl (omega (arith, lt, count))
       ∙ taken_next v.rows (take i old.rows.rows) [] (get_or v.rows i []) i (omega (arith, lt, k.state.count)) first.rows refl;
@@ -148,7 +149,7 @@ pub first_all : (v : State) (i : ℕ) (vertices : Vertices) (here more : List �
 first_all v i vertices here more k le count first = (
   record {
     marks = taken_all v.marks vertices.marks.items i (omega (arith, le, k.state.marks)) first.marks;
-    tallies = taken_all v.tallies (map value_of vertices.tallies.items) i (omega (arith, le, tallies_long v k.state)) first.tallies;
+    tallies = taken_all v.tallies (map value_of vertices.tallies.items) i (omega (arith, le, length-tallies v k.state)) first.tallies;
     rows = taken_all v.rows vertices.rows.rows i (omega (arith, le, k.state.count)) (sym (take_all i vertices.rows.rows count) ∙ first.rows);
   },
   stands_last (vertex_bytes v) (range_with_len 0 (length v.part.preds)) i here more (omega (arith, le, length-range_with_len 0 (length v.part.preds))) first.stand,

@@ -11,11 +11,9 @@ use Rattle.std.proofs.lemmas.Grind.{pow_more}
 use mir.Val.{bool_byte}
 use Rattle.ball_model.specs.Batches.{BatchValue, batch_bytes, header_bytes, row_bytes, ids_of, registers_of}
 use Rattle.ball_model.specs.Checkpoint.{mask_of, mark_byte, no_figures, front_bytes, vertex_bytes, table_bytes, held_bytes, early_bytes, kept_batches}
-use Rattle.ball_model.specs.Figures.{TallyValue, estimate_with}
-use Rattle.ball_model.specs.PlanValue.{measure_of}
+use Rattle.ball_model.specs.Figures.{TallyValue}
 use Rattle.figures.specs.Values.{value_of}
 use Rattle.figures.specs.declared.tally.Tally.{Tally}
-use Rattle.replica.specs.Seen.{IsState}
 use Rattle.ball_model.specs.State.{State}
 use Rattle.registers.specs.Flags.{number_of_flags}
 use Rattle.replica.specs.Ahead.{IsTable, batches_in, early_batches}
@@ -23,6 +21,7 @@ use Rattle.replica.proofs.KeptLemmas.Kept.{three_levels}
 use Rattle.replica.proofs.SavedLemmas.Rebuilt.{kept_are}
 use Rattle.checkpoint.specs.Parts.{heard_bytes, count_bytes, nth_bytes}
 use Rattle.checkpoint.proofs.WriteLemmas.{pieces_more, pieces_split}
+use Rattle.replica.proofs.AheadLemmas.{few_batches}
 
 -- ---- fields
 pub front_is : (v : State) (magic : List ℕ) (log2m : ℕ) (parts number vertices size step job : List ℕ) → magic ≡ to_be_bytes w32 0x4842434b → log2m ≡ v.part.plan.log2m → parts ≡ to_be_bytes w16 v.part.plan.parts → number ≡ to_be_bytes w16 v.part.number → vertices ≡ to_be_bytes w32 v.part.plan.vertices →
@@ -36,10 +35,6 @@ pub vertex_is : (v : State) (i mark : ℕ) (last harm dist row : List ℕ) (chan
     (mark ∷ []) ++ (last ++ (harm ++ (dist ++ (row ++ [])))) ≡ vertex_bytes v i
 unfolding vertex_bytes
 vertex_is v i mark last harm dist row changed tally a b c d e f g = rw (a, d, e, f, g, b, c, append-nil (get_or v.rows i [])) refl
-
-pub tallies_long : (v : State) → IsState v → length v.tallies ≡ length v.part.preds
-tallies_long v s =
-    sym (length-map v.tallies (λ (t : TallyValue). t.last)) ∙ ap length s.lasts ∙ length-map v.rows (estimate_with (measure_of v.part.plan)) ∙ s.count
 
 pub tally_is : (v : State) (tallies : List Tally) (i : ℕ) (tally : Tally) → i < length v.tallies → map value_of tallies ≡ v.tallies → tally ≡ get_or tallies i tally → value_of tally ≡ get_or v.tallies i no_figures
 tally_is v tallies i tally lt same at =
@@ -100,12 +95,6 @@ nth_none v k e =
     sym (ap (λ (o : Option BatchValue). flat_map early_bytes (option_to_list o)) (ap (λ (l : List BatchValue). slice_get l k) (kept_are v.early) ∙ sym e))
 
 -- ---- how many batches there can be
-pub slots_few : (slots : List (Option BatchValue)) → length (batches_in slots) ≤ length slots
-unfolding batches_in
-slots_few [] = omega arith
-slots_few (None ∷ rest) = omega (arith, slots_few rest)
-slots_few (Some b ∷ rest) = omega (arith, slots_few rest)
-
 pub early_few : (parts : ℕ) (early : List (List (Option BatchValue))) → IsTable parts early → length (kept_batches early) ≤ 3 * parts
 early_few parts early t =
     let split : length (kept_batches early) ≡ length (batches_in (get_or early 0 []) ++ (batches_in (get_or early 1 []) ++ batches_in (get_or early 2 []))) =
@@ -115,9 +104,9 @@ early_few parts early t =
       split,
       length-append (batches_in (get_or early 0 [])) (batches_in (get_or early 1 []) ++ batches_in (get_or early 2 [])),
       length-append (batches_in (get_or early 1 [])) (batches_in (get_or early 2 [])),
-      slots_few (get_or early 0 []),
-      slots_few (get_or early 1 []),
-      slots_few (get_or early 2 []),
+      few_batches (get_or early 0 []),
+      few_batches (get_or early 1 []),
+      few_batches (get_or early 2 []),
       t.sources 0 (omega arith),
       t.sources 1 (omega arith),
       t.sources 2 (omega arith),

@@ -12,22 +12,7 @@ use Rattle.ball_model.specs.Streams.{AfterAtMost, AreSure}
 use Rattle.ball_model.proofs.StreamLemmas.{after_none}
 use Rattle.edgelist.specs.Planning.{Hashes}
 use Rattle.checkpoint.specs.Writing.{Writes, StopsWriting}
-
--- ---- calls that are sure
-after_then : (n m : ℕ) (a b c : Option ℕ) → AfterAtMost n a b → AfterAtMost m b c → AfterAtMost (n + m) a c
-after_then n m None b c p q = subst (λ (o : Option ℕ). AfterAtMost m o c) p q
-after_then n m (Some k) None c p q = absurd p
-after_then n m (Some k) (Some j) None p q = absurd q
-after_then n m (Some k) (Some j) (Some i) p q = omega (arith, p, q)
-
-sure_rest : (n m : ℕ) (a b : Option ℕ) → AreSure a (n + m) → AfterAtMost n a b → AreSure b m
-sure_rest n m None b sure p = subst (λ (o : Option ℕ). AreSure o m) (sym p) tt
-sure_rest n m (Some k) None sure p = absurd p
-sure_rest n m (Some k) (Some j) sure p = omega (arith, sure, p)
-
-sure_fewer : (n m : ℕ) (a : Option ℕ) → AreSure a m → n ≤ m → AreSure a n
-sure_fewer n m None sure le = tt
-sure_fewer n m (Some k) sure le = omega (arith, sure, le)
+use Rattle.checkpoint.proofs.ReaderLemmas.{after_then, sure_fewer, sure_rest}
 
 -- ---- writes
 pub writes_none : {W : Type 0} (contents : W → Option (List ℕ)) (failed : W → ℕ) (sure : W → Option ℕ) (room : W → ℕ) (a : W) → Writes contents failed sure room a a []

@@ -50,7 +50,7 @@ fn words_of(rt: &HostRuntime) -> io::Result<Vec<String>> {
     Ok(env::args(rt)?.collect(rt.alloc())?)
 }
 
-// Tells why there are no words, and gives the status. A word that is no UTF-8 is refused as other words are.
+// Tells why there are no words, and gives the status. A word that is no UTF-8 is refused as other mistaken words are.
 fn tell_no_words(rt: &HostRuntime, error: io::Error) -> u8 {
     let mut faults = rt.stderr();
     if error.kind() == ErrorKind::InvalidData {

@@ -26,6 +26,7 @@ use Rattle.checkpoint.proofs.LawLemmas.{early_are}
 use Rattle.checkpoint.proofs.LengthLemmas.{whole_long}
 use Rattle.replica.specs.Seen.{IsState}
 use Rattle.replica.specs.Sent.{batch_name}
+use Rattle.replica.proofs.LevelLemmas.Level.{part_plan}
 use Rattle.node.specs.Laws.{KeptIsTaken, SentIsTrue}
 use Rattle.node.specs.NodeText.{IsGivenBack, sent_text}
 use Rattle.node.proofs.StepLemmas.{chosen}
@@ -45,10 +46,6 @@ true_plan : (j : Job) (name : BatchName) → (true_batch j name).plan ≡ j.plan
 unfolding true_batch
 true_plan j name = refl
 
-own_plan : (j : Job) (p : ℕ) → (part_of j p).plan ≡ j.plan
-unfolding part_of
-own_plan j p = refl
-
 sent_name : (j : Job) (p q : ℕ) (h : Holding) → IsHeldBy j p h → q < j.plan.parts → q ≢ p → IsName j.plan (batch_name h.superstep h.partition q)
 sent_name j p q h held below other = record {
   superstep = subst (λ (plan : PlanValue). h.superstep ≤ plan.limit) held.plan held.holding.content.superstep;
@@ -64,7 +61,7 @@ sent_true j p q h job held below other =
     let named : IsName j.plan name = sent_name j p q h held below other in
     let ok : IsBatch b = true_is_batch j name job named.superstep named.source named.target in
     let few : length (batch_bytes b) ≤ greatest_batch (part_of j q).plan =
-    subst (λ (plan : PlanValue). length (batch_bytes b) ≤ greatest_batch plan) (true_plan j name ∙ sym (own_plan j q)) (batch_within b ok) in
+    subst (λ (plan : PlanValue). length (batch_bytes b) ≤ greatest_batch plan) (true_plan j name ∙ sym (part_plan j q)) (batch_within b ok) in
     record {
       body = batch_bytes b;
       sent =

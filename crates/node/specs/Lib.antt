@@ -4,7 +4,6 @@ pub mod Section
 pub mod Stream
 pub mod Turns
 pub mod Refusals
-pub mod Own
 pub mod Job
 pub mod NoJob
 pub mod Serving

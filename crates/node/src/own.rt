@@ -9,8 +9,8 @@ ghost use Rattle.ball_model.specs.PlanValue.{greatest_log2m, mixing_of};
 ghost use Rattle.ball_model.specs.Report.{vertex_text};
 ghost use Rattle.ball_model.specs.Streams.{Rises};
 ghost use Rattle.node.specs.NodeText.{figures_text};
-ghost use Rattle.node.specs.Own.{true_figures};
 ghost use Rattle.node.specs.Turns.{AppendsOf};
+ghost use Rattle.report.specs.Parts.{true_figures};
 
 use ball_model::CountedWrite;
 use edgelist::Graph;

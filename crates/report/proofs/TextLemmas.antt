@@ -5,14 +5,6 @@ use Rattle.std.proofs.lemmas.List.{append-nil}
 use Rattle.std.proofs.lemmas.Grind.{flat_map-append}
 use Rattle.replica.proofs.IndexLemmas.Counting.{range_split}
 
--- more lines
-pub lines_more : (f : ℕ → List ℕ) (a n k : ℕ) (start text lines : List ℕ) → text ≡ start ++ flat_map f (range_with_len a n) → lines ≡ flat_map f (range_with_len (a + n) k) →
-    text ++ lines ≡ start ++ flat_map f (range_with_len a (n + k))
-lines_more f a n k start text lines before here =
-    let all : flat_map f (range_with_len a (n + k)) ≡ flat_map f (range_with_len a n) ++ flat_map f (range_with_len (a + n) k) =
-    ap (flat_map f) (range_split a n k) ∙ flat_map-append f (range_with_len a n) (range_with_len (a + n) k) in
-    rw (before, here, all) (append_assoc start (flat_map f (range_with_len a n)) (flat_map f (range_with_len (a + n) k)))
-
 -- one line more, after those of n numbers from a on
 pub line_more : (f : ℕ → List ℕ) (a n : ℕ) (start text line : List ℕ) → text ≡ start ++ flat_map f (range_with_len a n) → line ≡ f (a + n) →
     text ++ line ≡ start ++ flat_map f (range_with_len a (n + 1))

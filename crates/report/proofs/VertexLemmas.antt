@@ -12,18 +12,12 @@ use Rattle.ball_model.specs.Figures.{TallyValue, empty_of}
 use Rattle.ball_model.specs.Report.{vertex_line, vertex_text}
 use Rattle.ball_model.specs.State.{State, StandsFor, own_vertices, rows_of, tallies_of}
 use Rattle.replica.proofs.IndexLemmas.Own.{at_own, place_below, vertex_at}
-use Rattle.report.specs.Parts.{figures_at, figures_in, figures_line, zero_figures, vertices_text}
+use Rattle.report.specs.Parts.{figures_at, figures_in, figures_line, true_figures, zero_figures, vertices_text}
 
 -- two lists made of one
 zip_made : {A B C D : Type 0} (f : B → C → D) (h : A → B) (k : A → C) (xs : List A) → map (λ p. f p.0 p.1) (zip (map h xs) (map k xs)) ≡ map (λ x. f (h x) (k x)) xs
 zip_made f h k [] = refl
 zip_made f h k (x ∷ xs) = ap (λ rest. f (h x) (k x) ∷ rest) (zip_made f h k xs)
-
--- the figures that the definitions give vertex x at t
-abbrev pub true_figures : Job → ℕ → ℕ → Figures
-true_figures j t x =
-    let tally = tally_at (mixing_of j.plan) j.graph x t in
-    figures_of tally.last (ball_counter (mixing_of j.plan) j.graph x t) tally
 
 -- the figures of a replica that stands for its partition
 own_figures : (j : Job) (p t : ℕ) (v : State) → StandsFor j p t v → figures_in v ≡ map (true_figures j t) (own_vertices j p)

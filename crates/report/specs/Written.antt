@@ -18,7 +18,7 @@ pub record WrittenInPart {W : Type 0} (contents : W → Option (List ℕ)) (fail
   pub failed_one : e ≡ fault.Write → Rises (failed old) (failed new)
   pub counted : e ≢ fault.Write → failed new ≡ failed old
 
--- one or the other
+-- the result is Ok where the whole text was written, and else the error where only a beginning was
 abbrev pub WritesText : {W : Type 0} → (W → Option (List ℕ)) → (W → ℕ) → W → W → List ℕ →
     Result (Unit {0}) ReportError → Type 0
 WritesText contents failed old new text result =

@@ -8,6 +8,7 @@ use Rattle.std.specs.List.{flat_map, range_with_len}
 use Rattle.std.proofs.Math.Seq.{drop-cons, take-suc}
 use Rattle.std.proofs.lemmas.Grind.{flat_map-append}
 use Rattle.std.proofs.lemmas.List.{map-append, take-append-drop}
+use Rattle.replica.proofs.IndexLemmas.Counting.{range_split}
 use Rattle.ball_model.specs.declared.names.MergeError.{MergeError}
 use Rattle.ball_model.specs.declared.names.NodeId.{NodeId}
 use Rattle.ball_model.specs.declared.names.Taken.{Taken}
@@ -122,13 +123,6 @@ own-is j h v parts p q n plan has parts-is p-is plan-is is q-is =
     ∙ ap (λ q. part_size j.graph.vertices j.plan.parts q) (q-is ∙ same) in
     rw (number, dealt, size) (vertices_of-strided j.graph.vertices j.plan.parts h.partition has.stands.partition)
 
-range-cut : (a i k : ℕ) → range_with_len a (i + k) ≡ range_with_len a i ++ range_with_len (a + i) k
-range-cut a zero k = let same : 0 + k ≡ k = omega arith in let at : a + 0 ≡ a = omega arith in rw (same, at) refl
-range-cut a (suc i) k =
-    let next : suc i + k ≡ suc (i + k) = omega arith in
-    let at : a + suc i ≡ a + 1 + i = omega arith in
-    rw (next, at) (ap (λ l. a ∷ l) (range-cut (a + 1) i k))
-
 -- the texts of the first i of some numbers
 abbrev pub first-texts : (ℕ → List ℕ) → (ℕ → ℕ) → ℕ → List ℕ
 first-texts g f i = flat_map g (map f (range_with_len 0 i))
@@ -136,7 +130,7 @@ first-texts g f i = flat_map g (map f (range_with_len 0 i))
 texts-cut : (g : ℕ → List ℕ) (f : ℕ → ℕ) (i k : ℕ) → first-texts g f (i + suc k) ≡ first-texts g f i ++ (g (f i) ++ flat_map g (map f (range_with_len (i + 1) k)))
 texts-cut g f i k =
     let at : 0 + i ≡ i = omega arith in
-    ap (λ l. flat_map g (map f l)) (range-cut 0 i (suc k) ∙ ap (λ b. range_with_len 0 i ++ range_with_len b (suc k)) at)
+    ap (λ l. flat_map g (map f l)) (range_split 0 i (suc k) ∙ ap (λ b. range_with_len 0 i ++ range_with_len b (suc k)) at)
     ∙ ap (flat_map g) (map-append f (range_with_len 0 i) (range_with_len i (suc k)))
     ∙ flat_map-append g (map f (range_with_len 0 i)) (map f (range_with_len i (suc k)))
 

@@ -30,7 +30,7 @@ use std::alloc::{AllocError, Global};
 use std::hash::RandomState;
 use thiserror::Error;
 
-/// The most replicas of a partition.
+/// The most replicas of a partition. A run by workers has the same limit, by the same rule of the command line.
 pub const MOST_REPLICAS: u8 = 4;
 
 // What is read at most of an edge list.

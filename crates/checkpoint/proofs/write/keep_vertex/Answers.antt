@@ -1,14 +1,15 @@
 use Rattle.std.proofs.Common.{ℕ, List, [], false, ◌<◌, ◌∙◌, length, get_or, ap, arith}
 use Rattle.figures.specs.Values.{value_of}
+use Rattle.replica.proofs.SeenLemmas.Read.{length-tallies}
 use Rattle.checkpoint.proofs.WriteLemmas.{ok_then, err_then}
 use Rattle.checkpoint.proofs.SpoolLemmas.{passes_as, stops_as}
-use Rattle.checkpoint.proofs.TextLemmas.{mark_is, vertex_is, tally_is, tallies_long}
+use Rattle.checkpoint.proofs.TextLemmas.{mark_is, vertex_is, tally_is}
 use Rattle.checkpoint.proofs.write.keep_vertex.Goals as goal
 
 pub returns-clause-done : goal.returns-clause-done
 returns-clause-done g c =
     let v = c.args.replica.now in
-    let lt : c.args.i < length v.tallies = omega (arith, c.requires.place, tallies_long v c.requires.state) in
+    let lt : c.args.i < length v.tallies = omega (arith, c.requires.place, length-tallies v c.requires.state) in
     let text = (vertex_is v c.args.i c.from.result c.to_be_bytes.result c.to_be_bytes-2.result c.to_be_bytes-3.result c.row.result.now c.changed-mark.result (value_of c.index-tallies-i.result)
     (mark_is c.from.result c.changed-mark.result c.from.ensures)
     (c.changed-mark.ensures.value ∙ ap (λ (i : ℕ). get_or v.marks i false) c.vertex.ensures.place)
@@ -20,7 +21,7 @@ returns-clause-done g c =
 pub returns-clause-stops : goal.returns-clause-stops
 returns-clause-stops g c =
     let v = c.args.replica.now in
-    let lt : c.args.i < length v.tallies = omega (arith, c.requires.place, tallies_long v c.requires.state) in
+    let lt : c.args.i < length v.tallies = omega (arith, c.requires.place, length-tallies v c.requires.state) in
     let text = (vertex_is v c.args.i c.from.result c.to_be_bytes.result c.to_be_bytes-2.result c.to_be_bytes-3.result c.row.result.now c.changed-mark.result (value_of c.index-tallies-i.result)
     (mark_is c.from.result c.changed-mark.result c.from.ensures)
     (c.changed-mark.ensures.value ∙ ap (λ (i : ℕ). get_or v.marks i false) c.vertex.ensures.place)
