@@ -1,16 +1,17 @@
 -- Words of short labels, and entries that tell their numbers.
 use Rattle.std.proofs.Common.{◌≡◌, ◌≢◌, ◌∙◌, ℕ, zero, suc, ◌+◌, ◌-◌, ◌*◌, ◌^◌, ◌<◌, ◌≤◌, true, false, ◌==◌, ◌&&◌, List, [], ◌∷◌, ◌++◌, length, get_or, set, take, drop, replicate, refl, ap, ap₂, arith, sym, subst, pow_mono}
-use Rattle.std.specs.Prelude.{min}
+use Rattle.std.specs.Prelude.{min, Option, None, Some}
 use Rattle.std.specs.List.{list_any}
 use Rattle.std.specs.Str.{bytes_eq}
 use Rattle.std.proofs.lemmas.Nat.{pow-add}
 use Rattle.std.proofs.lemmas.List.Folds.{list_any_at}
 use Rattle.std.proofs.lemmas.List.{length-take, length-drop, take-append-drop, get_or_default, get_or-set_same, get_or-set_other}
 use Rattle.std.proofs.lemmas.Bool.{eqb-true, eq-eqb}
-use Rattle.edgelist.specs.Guessing.{bytes_after, word_of, IsShort, StandsAt, IsGuess, AreGuesses, entry_word, blank_entry}
+use Rattle.edgelist.specs.Guessing.{bytes_after, word_of, IsShort, IsWord, HasWord, StandsAt, IsGuess, AreGuesses, entry_word, blank_entry}
+use Rattle.csv.specs.Records.{field_at}
 use Rattle.edgelist.specs.declared.numbering.Entry.{Entry}
 use Rattle.edgelist.specs.declared.numbering.LabelWord.{LabelWord}
-use Rattle.edgelist.specs.Reading.{with_label}
+use Rattle.edgelist.specs.Reading.{fields_with, with_label}
 use Rattle.ball_model.proofs.BoolLemmas.{by_cases}
 use Rattle.edgelist.proofs.LabelLemmas.{text_same}
 use Rattle.edgelist.proofs.RangeLemmas.{copies-at}
@@ -107,3 +108,18 @@ pub with-label-at : (labels : List (List ℕ)) (label : List ℕ) (i : ℕ) → 
 with-label-at labels label i stands =
     let known : list_any (λ k. bytes_eq k label) labels ≡ true = list_any_at (λ k. bytes_eq k label) labels i [] stands.within (rw stands.is (text_same label)) in
     rw known refl
+
+-- a record of no fields has no words
+pub no-word : (fs : List (List ℕ)) (i : ℕ) (w : LabelWord) → fs ≡ [] → HasWord fs i w
+unfolding field_at
+no-word fs i w is = subst (λ (r : List (List ℕ)). HasWord r i w) (sym is) tt
+
+-- the words of a record are those of its labels
+pub source-word : (fs : List (List ℕ)) (s : List ℕ) (t : Option (List ℕ)) (w : LabelWord) → fs ≡ fields_with s t → HasWord fs 0 w → IsWord s w
+unfolding field_at
+source-word fs s None w is has = subst (λ (r : List (List ℕ)). HasWord r 0 w) is has
+source-word fs s (Some t) w is has = subst (λ (r : List (List ℕ)). HasWord r 0 w) is has
+
+pub target-word : (fs : List (List ℕ)) (s t : List ℕ) (w : LabelWord) → fs ≡ s ∷ t ∷ [] → HasWord fs 1 w → IsWord t w
+unfolding field_at
+target-word fs s t w is has = subst (λ (r : List (List ℕ)). HasWord r 1 w) is has

@@ -1,5 +1,6 @@
 -- Guesses at the numbers of short labels.
-use Rattle.std.specs.Prelude.{◌≡◌, ℕ, ◌+◌, ◌*◌, ◌<◌, ◌≤◌, List, [], ◌∷◌, length, take, drop, slice_index, slice_index_or}
+use Rattle.std.specs.Prelude.{◌≡◌, ℕ, ◌+◌, ◌*◌, ◌<◌, ◌≤◌, List, [], ◌∷◌, length, take, drop, slice_index, slice_index_or, IfSome}
+use Rattle.csv.specs.Records.{field_at}
 use Rattle.edgelist.specs.declared.numbering.Entry.{Entry}
 use Rattle.edgelist.specs.declared.numbering.LabelWord.{LabelWord}
 
@@ -19,6 +20,14 @@ word_of label = record {
 pub record IsShort (label : List ℕ) : Type 0 where
   pub bytes : (i : ℕ) → slice_index label i < 256
   pub few : length label ≤ 11
+
+-- the word of a label, if that is short
+abbrev pub IsWord : List ℕ → LabelWord → Type 0
+IsWord label word = IsShort label → word ≡ word_of label
+
+-- the word of a field, if it is there and short
+abbrev pub HasWord : List (List ℕ) → ℕ → LabelWord → Type 0
+HasWord fields i word = IfSome (field_at fields i) (λ label. IsWord label word)
 
 -- this is the number of the label: it stands there among the others
 pub record StandsAt (labels : List (List ℕ)) (label : List ℕ) (i : ℕ) : Type 0 where

@@ -35,6 +35,7 @@ mod part;
 mod pieces;
 mod read;
 mod records;
+mod row;
 
 pub use counting::CountedError;
 pub use feeds::Feeds;

@@ -5,13 +5,13 @@ ghost use Rattle.std.specs.Prelude.{slice_index_or, [], true, false, IfOk, IfSom
 ghost use Rattle.std.specs.Prelude.{OnOk, OnErr};
 ghost use Rattle.std.specs.List.{IsDistinct};
 ghost use Rattle.std.specs.Str.{bytes_eq};
-ghost use Rattle.edgelist.specs.Guessing.{AreGuesses, IsShort, StandsAt, IsGuess, blank_entry};
+ghost use Rattle.edgelist.specs.Guessing.{AreGuesses, IsShort, IsWord, StandsAt, IsGuess, blank_entry};
 ghost use Rattle.edgelist.specs.Guessing.{bytes_after, entry_word, word_of};
 ghost use Rattle.edgelist.specs.Labels.{texts};
 ghost use Rattle.edgelist.specs.Reading.{has_label, with_label};
 
 use crate::labels::Labels;
-use csv::ByteRecord;
+use crate::row::Row;
 use indexmap::IndexSet;
 use std::alloc::{AllocError, Global};
 use std::hash::RandomState;
@@ -32,9 +32,9 @@ const IN_CACHE: usize = 524_288;
 // The number of entries of a group: they stand side by side, most often in one line of the cache.
 const GROUP: usize = 4;
 
-// A short label as two numbers that no other short label has: its first 8 bytes, and the others with its length.
+/// A short label as two numbers that no other short label has: its first 8 bytes, and the others with its length.
 #[derive(Clone, Copy, PartialEq, Eq)]
-struct LabelWord {
+pub(crate) struct LabelWord {
     low: u64,
     high: u32,
 }
@@ -116,6 +116,23 @@ fn word(label: &[u8]) -> LabelWord
     LabelWord { low, high }
 }
 
+impl LabelWord {
+    /// The word of a label that is short, and else that of none.
+    pub(crate) fn of(label: &[u8]) -> LabelWord
+        ensures { IsWord label.now result }
+    {
+        if label.len() > SHORT {
+            return LabelWord::none();
+        }
+        word(label)
+    }
+
+    /// The word of no label: the second number of a word is never 0.
+    pub(crate) fn none() -> LabelWord {
+        LabelWord { low: 0, high: 0 }
+    }
+}
+
 impl Entry {
     fn word(self) -> LabelWord
         ensures { result ≡ entry_word self }
@@ -149,33 +166,25 @@ fn guess(entries: &[Entry], word: LabelWord) -> Option<usize>
     None
 }
 
-// Whether a label may be new: it is short, and the first entry of its group is blank. This is a guess. A label that is
-// known may be told as new, where its entry was lost; a new one is not told so where it is long, or where another
-// label's entry is the first of its group.
-fn may_be_new(entries: &[Entry], label: &[u8]) -> bool {
-    if label.len() > SHORT {
-        return false;
-    }
-    let place = group(word(label), entries.len());
-    place < entries.len() && entries[place].high == 0
+// Whether the label of a word may be new: it is short, and the first entry of its group is blank. This is a guess. A
+// label that is known may be told as new, where its entry was lost; a new one is not told so where it is long, or where
+// another label's entry is the first of its group.
+fn may_be_new(entries: &[Entry], word: LabelWord) -> bool {
+    let place = group(word, entries.len());
+    word.high > 0 && place < entries.len() && entries[place].high == 0
 }
 
 // How many of a row's first two fields may be new labels: a guess, as each of them is.
-fn count_new_in(entries: &[Entry], row: &ByteRecord) -> usize
+fn count_new_in(entries: &[Entry], row: &Row) -> usize
     ensures { result ≤ 2 }
 {
-    let mut new = 0;
-    if let Some(source) = row.get(0) {
-        new += usize::from(may_be_new(entries, source));
-    }
-    if let Some(target) = row.get(1) {
-        new += usize::from(may_be_new(entries, target));
-    }
-    new
+    let source = may_be_new(entries, row.source_word());
+    let target = may_be_new(entries, row.target_word());
+    usize::from(source) + usize::from(target)
 }
 
 // How many labels of these rows may be new: a guess too, in which a label that stands there twice may count twice.
-fn count_new(entries: &[Entry], rows: &[ByteRecord]) -> usize {
+fn count_new(entries: &[Entry], rows: &[Row]) -> usize {
     let mut new = 0usize;
     for row in rows {
         new = new.saturating_add(count_new_in(entries, row));
@@ -298,7 +307,13 @@ impl Numbering {
     }
 
     /// The number of a label, which takes the next one where it is new. For a label that is known no memory is taken.
-    pub(crate) fn number(&mut self, alloc: Global, label: &[u8]) -> Result<usize, AllocError>
+    pub(crate) fn number(
+        &mut self,
+        alloc: Global,
+        label: &[u8],
+        word: LabelWord,
+    ) -> Result<usize, AllocError>
+        requires { IsWord label.now word }
         ensures within { IfOk result (λ i. i < length self.new) }
         ensures stands { IfOk result (λ i. slice_index_or self.new i [] ≡ label.now) }
         ensures labels { OnOk result (self.new ≡ with_label self.old label.now) }
@@ -308,7 +323,6 @@ impl Numbering {
         if label.len() > SHORT {
             return look_up(alloc, &mut self.labels, label);
         }
-        let word = word(label);
         match guess(&self.entries, word) {
             Some(number) => Ok(number),
             None => self.look_up_short(alloc, label, word),
@@ -349,7 +363,7 @@ impl Numbering {
 
     /// Looks at the first entry for each short label of these rows, and makes room for as many as have a blank one there.
     /// No look waits for another. Where memory is refused, whoever puts a label there later is told so.
-    pub(crate) fn look_ahead(&mut self, alloc: Global, rows: &[ByteRecord])
+    pub(crate) fn look_ahead(&mut self, alloc: Global, rows: &[Row])
         ensures { self.new ≡ self.old }
     {
         if self.entries.len() > IN_CACHE {

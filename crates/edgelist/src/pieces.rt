@@ -14,9 +14,9 @@ ghost use Rattle.edgelist.specs.Reading.{AreWithin, Refuses, byte_of, limits_of,
 ghost use Rattle.edgelist.specs.declared.read.EdgeError.TheVariants as refused;
 
 use crate::read::{Delimiter, EdgeError, EdgeLimits, EdgeList, MOST_RECORDS, Reading};
-use crate::records::{AT_ONCE, reader_of, rows_for};
+use crate::records::reader_of;
+use crate::row::{AT_ONCE, Row, rows_for};
 use ball_model::plan::MOST_VERTICES;
-use csv::ByteRecord;
 use std::alloc::Global;
 use std::hash::RandomState;
 
@@ -41,7 +41,7 @@ fn without_read(read: Result<u64, EdgeError>) -> Result<u64, EdgeError>
 fn read_lines(
     reading: &mut Reading,
     alloc: Global,
-    rows: &mut [ByteRecord],
+    rows: &mut [Row],
     lines: &[u8],
     delimiter: Delimiter,
     number: u64,
@@ -79,7 +79,7 @@ pub struct EdgeReader {
     // how many records were read
     number: u64,
     // the room for those that are read at once
-    rows: Vec<ByteRecord>,
+    rows: Vec<Row>,
     // the bytes that were given and not read, behind an LF where others were read before
     lines: Vec<u8>,
     // what was refused before

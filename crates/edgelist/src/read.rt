@@ -3,17 +3,17 @@
 ghost use Rattle.std.specs.Prelude.{◌≡◌, ◌≢◌, ◌≤◌, ◌<◌, ◌+◌, ◌-◌, ◌^◌, ℕ, List, Result, true};
 ghost use Rattle.std.specs.Prelude.{false, Some, Ok, Err, IfSome, IfNone, OnSome, IfOk, IfErr};
 ghost use Rattle.std.specs.Prelude.{OnOk, OnErr, length, option_copied, slice_index_or, [], ◌∷◌};
-ghost use Rattle.std.specs.Prelude.{◌++◌, ◌*◌, map, take};
+ghost use Rattle.std.specs.Prelude.{◌++◌, ◌*◌, take};
 ghost use Rattle.std.specs.List.{All};
 ghost use Rattle.std.specs.Io.KnownBytes.{ReadConsumes};
 ghost use Rattle.std.specs.Io.{ReadsAtMost};
-ghost use Rattle.csv.specs.Records.{fields_of};
 ghost use Rattle.csv.specs.Reading.{is_io, error_kind};
 ghost use Rattle.ball_model.specs.PlanValue.{most_vertices};
 ghost use Rattle.ball_model.specs.Input.{Network, Refusal, IsPlain, most_records, records};
 ghost use Rattle.ball_model.specs.Input.{has_form, network_from, input_of};
 ghost use Rattle.edgelist.specs.Edges.{edge_of, graph_of_edges};
 ghost use Rattle.edgelist.specs.declared.read.EdgeError.TheVariants.{Memory};
+ghost use Rattle.edgelist.specs.Guessing.{IsWord};
 ghost use Rattle.edgelist.specs.Pieces.{AddsRecords, IsPartRead, IsThrough, ReadsOn};
 ghost use Rattle.edgelist.specs.Records.{ForPlain, FromStart, HasForm, ReadsNone, ReadsNoneAfter};
 ghost use Rattle.edgelist.specs.Records.{ReadsOne, ReadsOneAfter, StopsAtEnd};
@@ -25,11 +25,12 @@ ghost use Rattle.edgelist.specs.Reading.{EndsAt, EndsAtEnd, EndsAtFault, IsRefus
 
 use crate::edge::Edge;
 use crate::graph::Graph;
-use crate::numbering::Numbering;
-use crate::records::{AT_ONCE, next_record, reader_of, rows_for};
+use crate::numbering::{LabelWord, Numbering};
+use crate::records::reader_of;
+use crate::row::{AT_ONCE, Row, rows_for};
 use ball_model::CountedRead;
 use ball_model::plan::MOST_VERTICES;
-use csv::{ByteRecord, Reader};
+use csv::Reader;
 use std::alloc::{AllocError, Global};
 use std::hash::RandomState;
 use std::io;
@@ -124,19 +125,19 @@ impl Drop for Reading {
 }
 
 // The first field of a record and its second, where it has one or two and none is empty.
-fn fields_in<'a>(row: &'a ByteRecord) -> Option<(&'a [u8], Option<&'a [u8]>)>
-    ensures fields { IfSome result (λ r.
-        fields_of row.now ≡ fields_with r.0.now (option_copied r.1)) }
-    ensures form { OnSome result (has_form (fields_of row.now) ≡ true) }
-    ensures none { IfNone result (has_form (fields_of row.now) ≡ false) }
+fn fields_in<'a>(row: &'a Row) -> Option<(&'a [u8], Option<&'a [u8]>)>
+    ensures fields { IfSome result (λ r. row.now ≡ fields_with r.0.now (option_copied r.1)) }
+    ensures form { OnSome result (has_form row.now ≡ true) }
+    ensures none { IfNone result (has_form row.now ≡ false) }
 {
-    let Some(source) = row.get(0) else {
+    let fields = row.fields();
+    let Some(source) = fields.get(0) else {
         return None;
     };
-    if source.is_empty() || row.len() > 2 {
+    if source.is_empty() || fields.len() > 2 {
         return None;
     }
-    match row.get(1) {
+    match fields.get(1) {
         None => Some((source, None)),
         Some(target) => if target.is_empty() {
             None
@@ -147,14 +148,14 @@ fn fields_in<'a>(row: &'a ByteRecord) -> Option<(&'a [u8], Option<&'a [u8]>)>
 }
 
 // Reads one record more, and tells whether there was one.
-fn next_row<R: Read + Drop>(reader: &mut Reader<R>, row: &mut ByteRecord) -> Result<bool, EdgeError>
+fn next_row<R: Read + Drop>(reader: &mut Reader<R>, row: &mut Row) -> Result<bool, EdgeError>
     ensures one { IfOk result (λ more. more ≡ true →
-        ReadsOne R.remaining reader.old reader.new (fields_of row.new)) }
+        ReadsOne R.remaining reader.old reader.new row.new) }
     ensures end { IfOk result (λ more. more ≡ false →
         ReadsNone R.remaining reader.old reader.new) }
     ensures failed { IfErr result (λ e. (says : Result Network Refusal) → Refuses says e) }
 {
-    let more = next_record(reader, row)?;
+    let more = row.read(reader)?;
     Ok(more)
 }
 
@@ -162,16 +163,16 @@ fn next_row<R: Read + Drop>(reader: &mut Reader<R>, row: &mut ByteRecord) -> Res
 // have it for certain, and whether one more was read. A row without that form is the last that is read.
 fn read_rows<R: Read + Drop>(
     reader: &mut Reader<R>,
-    rows: &mut [ByteRecord],
+    rows: &mut [Row],
     most: usize,
 ) -> Result<(usize, bool), EdgeError>
     requires { most < length rows.old }
     ensures few { IfOk result (λ r. r.0 ≤ most) }
-    ensures form { IfOk result (λ r. All HasForm (map fields_of (take r.0 rows.new))) }
+    ensures form { IfOk result (λ r. All HasForm (take r.0 rows.new)) }
     ensures one { IfOk result (λ r. r.1 ≡ true → ReadsOneAfter R.remaining reader.old reader.new
-        (map fields_of (take r.0 rows.new)) (slice_index_or (map fields_of rows.new) r.0 [])) }
-    ensures end { IfOk result (λ r. r.1 ≡ false → ReadsNoneAfter R.remaining reader.old reader.new
-        (map fields_of (take r.0 rows.new))) }
+        (take r.0 rows.new) (slice_index_or rows.new r.0 [])) }
+    ensures end { IfOk result (λ r. r.1 ≡ false →
+        ReadsNoneAfter R.remaining reader.old reader.new (take r.0 rows.new)) }
     ensures failed { IfErr result (λ e. (says : Result Network Refusal) → Refuses says e) }
 {
     for i in 0..most {
@@ -208,7 +209,14 @@ impl Reading {
     }
 
     // The number of a label, with which there are not more vertices than the limit.
-    fn add_label(&mut self, alloc: Global, label: &[u8], vertices: u32) -> Result<usize, EdgeError>
+    fn add_label(
+        &mut self,
+        alloc: Global,
+        label: &[u8],
+        word: LabelWord,
+        vertices: u32,
+    ) -> Result<usize, EdgeError>
+        requires { IsWord label.now word }
         ensures labels { OnOk result (self.new.labels ≡ with_label self.old.labels label.now) }
         ensures edges { self.new.edges.items ≡ self.old.edges.items }
         ensures few { OnOk result (length self.new.labels ≤ vertices) }
@@ -219,7 +227,7 @@ impl Reading {
             result ≢ Err EdgeError.Memory }
         ensures kept { result ≡ Err EdgeError.Memory → self.new.labels ≡ self.old.labels }
     {
-        let number = self.labels.number(alloc, label)?;
+        let number = self.labels.number(alloc, label, word)?;
         if self.labels.len() > vertices as usize {
             return Err(EdgeError::TooManyVertices);
         }
@@ -227,7 +235,14 @@ impl Reading {
     }
 
     // Adds the label of a record of one field.
-    fn add_vertex(&mut self, alloc: Global, label: &[u8], vertices: u32) -> Result<(), EdgeError>
+    fn add_vertex(
+        &mut self,
+        alloc: Global,
+        label: &[u8],
+        word: LabelWord,
+        vertices: u32,
+    ) -> Result<(), EdgeError>
+        requires { IsWord label.now word }
         ensures labels { OnOk result (self.new.labels ≡ with_label self.old.labels label.now) }
         ensures edges { OnOk result (self.new.edges.items ≡ self.old.edges.items) }
         ensures few { OnOk result (length self.new.labels ≤ vertices) }
@@ -236,7 +251,7 @@ impl Reading {
         ensures memory { result ≡ Err EdgeError.Memory →
             length self.old.labels ≤ vertices → length self.new.labels ≤ vertices }
     {
-        self.add_label(alloc, label, vertices)?;
+        self.add_label(alloc, label, word, vertices)?;
         Ok(())
     }
 
@@ -245,9 +260,13 @@ impl Reading {
         &mut self,
         alloc: Global,
         source: &[u8],
+        source_word: LabelWord,
         target: &[u8],
+        target_word: LabelWord,
         vertices: u32,
     ) -> Result<(), EdgeError>
+        requires source { IsWord source.now source_word }
+        requires target { IsWord target.now target_word }
         ensures adds { OnOk result (AddsEdge source.now target.now
             self.old.labels self.old.edges.items self.new.labels self.new.edges.items) }
         ensures few { OnOk result (length self.new.labels ≤ vertices) }
@@ -259,8 +278,8 @@ impl Reading {
         ensures memory { result ≡ Err EdgeError.Memory →
             length self.old.labels ≤ vertices → length self.new.labels ≤ vertices }
     {
-        let from = self.add_label(alloc, source, vertices)?;
-        let to = self.add_label(alloc, target, vertices)?;
+        let from = self.add_label(alloc, source, source_word, vertices)?;
+        let to = self.add_label(alloc, target, target_word, vertices)?;
         push_edge(&mut self.edges, to as u32, from as u32)?;
         Ok(())
     }
@@ -269,22 +288,22 @@ impl Reading {
     pub(crate) fn add(
         &mut self,
         alloc: Global,
-        row: &ByteRecord,
+        row: &Row,
         number: u64,
         limits: EdgeLimits,
     ) -> Result<(), EdgeError>
-        ensures adds { OnOk result (AddsRecord (limits_of limits) number (fields_of row.now)
+        ensures adds { OnOk result (AddsRecord (limits_of limits) number row.now
             self.old.labels self.old.edges.items self.new.labels self.new.edges.items) }
         ensures fewer { OnOk result (number < limits.edges) }
         ensures many { limits.edges ≤ number → result ≡ Err EdgeError.TooManyEdges }
-        ensures form { number < limits.edges → has_form (fields_of row.now) ≡ false →
+        ensures form { number < limits.edges → has_form row.now ≡ false →
             result ≡ Err (EdgeError.Fields (number + 1)) }
-        ensures stops { IfErr result (Stops (limits_of limits) number (fields_of row.now)
+        ensures stops { IfErr result (Stops (limits_of limits) number row.now
             self.old.labels self.old.edges.items) }
         ensures memory { result ≡ Err EdgeError.Memory →
             length self.old.labels ≤ limits.vertices → length self.new.labels ≤ limits.vertices }
         ensures grows { OnOk result (length self.new.labels ≤ length self.old.labels + 2) }
-        ensures room { number < limits.edges → has_form (fields_of row.now) ≡ true →
+        ensures room { number < limits.edges → has_form row.now ≡ true →
             length self.old.labels + 2 ≤ limits.vertices → IfErr result (λ e. e ≡ Memory) }
     {
         if number >= limits.edges {
@@ -294,8 +313,15 @@ impl Reading {
             return Err(EdgeError::Fields { number: number + 1 });
         };
         match target {
-            None => self.add_vertex(alloc, source, limits.vertices),
-            Some(target) => self.add_edge(alloc, source, target, limits.vertices),
+            None => self.add_vertex(alloc, source, row.source_word(), limits.vertices),
+            Some(target) => self.add_edge(
+                alloc,
+                source,
+                row.source_word(),
+                target,
+                row.target_word(),
+                limits.vertices,
+            ),
         }
     }
 }
@@ -305,15 +331,15 @@ impl Reading {
     fn add_each(
         &mut self,
         alloc: Global,
-        rows: &[ByteRecord],
+        rows: &[Row],
         number: u64,
         limits: EdgeLimits,
     ) -> Result<(), EdgeError>
         requires few { limits.edges ≤ most_records }
-        requires form { All HasForm (map fields_of rows.now) }
+        requires form { All HasForm rows.now }
         requires number { number + length rows.now ≤ limits.edges }
         requires room { length self.old.labels + 2 * length rows.now ≤ limits.vertices }
-        ensures adds { OnOk result (AddsRecords (limits_of limits) number (map fields_of rows.now)
+        ensures adds { OnOk result (AddsRecords (limits_of limits) number rows.now
             self.old.labels self.old.edges.items self.new.labels self.new.edges.items) }
         ensures memory { IfErr result (λ e. e ≡ Memory) }
     {
@@ -348,7 +374,7 @@ impl Reading {
         &mut self,
         alloc: Global,
         reader: &mut Reader<R>,
-        rows: &mut [ByteRecord],
+        rows: &mut [Row],
         number: u64,
         limits: EdgeLimits,
     ) -> Result<(u64, bool), EdgeError>
@@ -388,7 +414,7 @@ impl Reading {
         &mut self,
         alloc: Global,
         reader: &mut Reader<R>,
-        rows: &mut [ByteRecord],
+        rows: &mut [Row],
         number: u64,
         limits: EdgeLimits,
     ) -> Result<u64, EdgeError>
@@ -458,7 +484,7 @@ fn read_records<R: Read + Drop>(
     alloc: Global,
     state: RandomState,
     reader: &mut Reader<R>,
-    rows: &mut [ByteRecord],
+    rows: &mut [Row],
     limits: EdgeLimits,
 ) -> Result<(Reading, u64), EdgeError>
     requires rows { 0 < length rows.old }

@@ -1,28 +1,14 @@
 //! The records of a text, as `csv` reads them.
 
-ghost use Rattle.std.specs.Prelude.{◌≡◌, [], IfOk, length, true, false};
+ghost use Rattle.std.specs.Prelude.{◌≡◌, [], IfOk, true, false};
 ghost use Rattle.csv.specs.Records.{fields_of};
 ghost use Rattle.edgelist.specs.Records.{is_blank, ForPlain, IsLeft, ReadsNone, ReadsOne};
 ghost use Rattle.edgelist.specs.Reading.{byte_of};
 
 use crate::read::Delimiter;
 use csv::{ByteRecord, Reader, ReaderBuilder};
-use std::alloc::{AllocError, Global};
+use std::alloc::Global;
 use std::io::Read;
-
-/// So many records are read before the first of them is added, at most.
-pub(crate) const AT_ONCE: usize = 16;
-
-/// Rows for so many records.
-pub(crate) fn rows_for(alloc: Global, count: usize) -> Result<Vec<ByteRecord>, AllocError>
-    ensures { IfOk result (λ rows. length rows.items ≡ count) }
-{
-    let mut rows = Vec::with_capacity(alloc, count)?;
-    for _i in 0..count {
-        rows.push(ByteRecord::new(alloc))?;
-    }
-    Ok(rows)
-}
 
 fn byte(delimiter: Delimiter) -> u8
     ensures { result ≡ byte_of delimiter }

@@ -1,7 +1,6 @@
 use Rattle.std.proofs.Common.{◌≡◌, ◌<◌, ◌+◌, ℕ, List, [], length, get_or, arith, true, false, subst}
-use Rattle.std.proofs.lemmas.List.{get_or-map}
+use Rattle.std.proofs.lemmas.List.{get_or_default}
 use Rattle.std.proofs.lemmas.Result.{err_from_is_err_and}
-use Rattle.csv.specs.Records.{fields_of}
 use Rattle.edgelist.specs.Records.{ReadsOne}
 use Rattle.edgelist.specs.Reading.{limits_of}
 use Rattle.edgelist.specs.declared.read.EdgeError.TheVariants as refused
@@ -25,7 +24,7 @@ returns-then-not-more-clause-reads g c = λ d text before part.
     let after = c.in_ok-count.ensures.end none in
     let lt : c.in_ok-count.count < length c.read_rows.new.rows = omega (arith, c.in_ok-count.ensures.few, c.room_for-most.ensures.most, c.requires.rows, c.read_rows.auto.rows) in
     let adds = rw c.look_ahead.ensures at c.in_ok-add_each.ensures.adds in
-    let here = part-read-rows g.R.Read.remaining d (limits_of c.args.limits) c.args.number before text c.args.reader.now after.middle c.args.self.now.labels c.add_each.new.self.labels c.args.self.now.edges.items c.add_each.new.self.edges.items fields_of c.read_rows.new.rows c.in_ok-count.count (omega (arith, lt)) part after.reads adds in
+    let here = part-read-rows g.R.Read.remaining d (limits_of c.args.limits) c.args.number before text c.args.reader.now after.middle c.args.self.now.labels c.add_each.new.self.labels c.args.self.now.edges.items c.add_each.new.self.edges.items c.read_rows.new.rows c.in_ok-count.count (omega (arith, lt)) part after.reads adds in
     reads-whole g.R.Read.remaining d (limits_of c.args.limits) (c.args.number + c.in_ok-count.count) before text after.middle c.read_rows.new.reader c.add_each.new.self.labels c.add_each.new.self.edges.items here (after.none d text here.past here.at)
 
 pub returns-in_err-add-clause-reads : goal.returns-in_err-add-clause-reads
@@ -34,12 +33,12 @@ returns-in_err-add-clause-reads g c = λ d text before part.
     let after = c.in_ok-count.ensures.one more_is in
     let lt : c.in_ok-count.count < length c.read_rows.new.rows = omega (arith, c.in_ok-count.ensures.few, c.room_for-most.ensures.most, c.requires.rows, c.read_rows.auto.rows) in
     let adds = rw c.look_ahead.ensures at c.in_ok-add_each.ensures.adds in
-    let here = part-read-rows g.R.Read.remaining d (limits_of c.args.limits) c.args.number before text c.args.reader.now after.middle c.args.self.now.labels c.add_each.new.self.labels c.args.self.now.edges.items c.add_each.new.self.edges.items fields_of c.read_rows.new.rows c.in_ok-count.count (omega (arith, lt)) part after.reads adds in
+    let here = part-read-rows g.R.Read.remaining d (limits_of c.args.limits) c.args.number before text c.args.reader.now after.middle c.args.self.now.labels c.add_each.new.self.labels c.args.self.now.edges.items c.add_each.new.self.edges.items c.read_rows.new.rows c.in_ok-count.count (omega (arith, lt)) part after.reads adds in
     let row = get_or c.read_rows.new.rows c.in_ok-count.count c.index-rows-count.result in
-    let one = subst (λ (r : List (List ℕ)). ReadsOne g.R.Read.remaining after.middle c.read_rows.new.reader r) (get_or-map fields_of c.read_rows.new.rows c.in_ok-count.count c.index-rows-count.result [] lt) after.one in
+    let one = subst (λ (r : List (List ℕ)). ReadsOne g.R.Read.remaining after.middle c.read_rows.new.reader r) (get_or_default c.read_rows.new.rows c.in_ok-count.count [] c.index-rows-count.result lt) after.one in
     let p = err_from_is_err_and c.from_residual-in_err-add.result c.from_residual-in_err-add.ensures.1 in
     rw (p.1, p.2) (reads-refused g.R.Read.remaining d (limits_of c.args.limits) (c.args.number + c.in_ok-count.count) before text after.middle c.read_rows.new.reader
-    c.add_each.new.self.labels _ c.add_each.new.self.edges.items _ (fields_of row) c.in_err-add.field-0.0
+    c.add_each.new.self.labels _ c.add_each.new.self.edges.items _ row c.in_err-add.field-0.0
     here (one d text here.past here.at) c.in_err-add.ensures.stops)
 
 pub returns-clause-reads : goal.returns-clause-reads
@@ -48,10 +47,10 @@ returns-clause-reads g c = λ d text before part.
     let after = c.in_ok-count.ensures.one more_is in
     let lt : c.in_ok-count.count < length c.read_rows.new.rows = omega (arith, c.in_ok-count.ensures.few, c.room_for-most.ensures.most, c.requires.rows, c.read_rows.auto.rows) in
     let adds = rw c.look_ahead.ensures at c.in_ok-add_each.ensures.adds in
-    let here = part-read-rows g.R.Read.remaining d (limits_of c.args.limits) c.args.number before text c.args.reader.now after.middle c.args.self.now.labels c.add_each.new.self.labels c.args.self.now.edges.items c.add_each.new.self.edges.items fields_of c.read_rows.new.rows c.in_ok-count.count (omega (arith, lt)) part after.reads adds in
+    let here = part-read-rows g.R.Read.remaining d (limits_of c.args.limits) c.args.number before text c.args.reader.now after.middle c.args.self.now.labels c.add_each.new.self.labels c.args.self.now.edges.items c.add_each.new.self.edges.items c.read_rows.new.rows c.in_ok-count.count (omega (arith, lt)) part after.reads adds in
     let row = get_or c.read_rows.new.rows c.in_ok-count.count c.index-rows-count.result in
-    let one = subst (λ (r : List (List ℕ)). ReadsOne g.R.Read.remaining after.middle c.read_rows.new.reader r) (get_or-map fields_of c.read_rows.new.rows c.in_ok-count.count c.index-rows-count.result [] lt) after.one in
+    let one = subst (λ (r : List (List ℕ)). ReadsOne g.R.Read.remaining after.middle c.read_rows.new.reader r) (get_or_default c.read_rows.new.rows c.in_ok-count.count [] c.index-rows-count.result lt) after.one in
     reads-part g.R.Read.remaining d (limits_of c.args.limits) (c.args.number + c.in_ok-count.count + 1) before text c.read_rows.new.reader c.add.new.self.labels c.add.new.self.edges.items
     (part-read-more g.R.Read.remaining d (limits_of c.args.limits) (c.args.number + c.in_ok-count.count) before text after.middle c.read_rows.new.reader
-    c.add_each.new.self.labels c.add.new.self.labels c.add_each.new.self.edges.items c.add.new.self.edges.items (fields_of row)
+    c.add_each.new.self.labels c.add.new.self.labels c.add_each.new.self.edges.items c.add.new.self.edges.items row
     here (one d text here.past here.at) c.in_ok-add.ensures.adds)
