@@ -153,12 +153,6 @@ pub spread_each-none : (targets : List (List ℕ)) (rows : List (List ℕ)) → 
 unfolding rows_after_all
 spread_each-none targets rows = refl
 
-pub length-spread_each : (targets : List (List ℕ)) (others : List (ℕ × List ℕ)) (rows : List (List ℕ)) → length (rows_after_all targets others rows) ≡ length rows
-unfolding rows_after_all
-length-spread_each targets [] rows = refl
-length-spread_each targets (other ∷ rest) rows =
-    length-spread_each targets rest (rows_after (get_or targets other.0 []) other.1 rows) ∙ length-spread (get_or targets other.0 []) other.1 rows
-
 -- ---- the marked rows, one place more
 pub marked-none : (parts p : ℕ) (rows : List (List ℕ)) (marks : List Bool) → marked_rows parts p rows marks 0 ≡ []
 unfolding marked_rows

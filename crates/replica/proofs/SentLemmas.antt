@@ -1,3 +1,4 @@
 pub mod Changed
 pub mod Sent
 pub mod Told
+pub mod Telling

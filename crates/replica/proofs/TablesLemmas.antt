@@ -1,9 +1,8 @@
 -- A replica's tables, and what is heard beside them, one superstep further.
-use Rattle.std.proofs.Common.{◌≡◌, ℕ, ◌+◌, ◌^◌, ◌<◌, ◌≤◌, ◌++◌, ◌∷◌, List, [], length, refl, ap, ap₂, sym, ◌∙◌, subst, arith, inl}
+use Rattle.std.proofs.Common.{◌≡◌, ℕ, ◌+◌, ◌^◌, ◌<◌, ◌≤◌, ◌++◌, ◌∷◌, List, [], refl, ap, ap₂, sym, ◌∙◌, subst, arith, inl}
 use Rattle.std.specs.Prelude.{Option}
 use Rattle.std.specs.Arc.{arc_value}
 use Rattle.std.specs.List.{sum_by}
-use Rattle.std.proofs.lemmas.List.{length-map}
 use Rattle.ball_model.specs.declared.names.Verdict.TheVariants as verdict
 use Rattle.ball_model.specs.Batches.{BatchValue}
 use Rattle.ball_model.specs.Figures.{TallyValue, Measure}
@@ -19,14 +18,12 @@ use Rattle.replica.specs.Kept.{AreEarly, AreOfPlan}
 use Rattle.replica.specs.Level.{differences, level_verdict, total_of, weights_of}
 use Rattle.replica.specs.Progress.{ProgressValue}
 use Rattle.replica.specs.Seen.{HoldsTogether, IsProgress, progress_of, state_of}
-use Rattle.replica.specs.Tables.{AreAhead, CanBeStepped, CanHearOwn, CanStep, HearsOwn, NextTables, TablesValue}
+use Rattle.replica.specs.Tables.{AreAhead, CanHearOwn, CanStep, HearsOwn, NextTables, TablesValue}
 use Rattle.replica.proofs.HearingLemmas.Accumulator.{Keeps, can_go_on, fields_are, fields_of, going_keeps, kept_progress}
 use Rattle.replica.proofs.ChangeLemmas.Advance.{same_early}
-use Rattle.replica.proofs.HearingLemmas.Hearing.{differ_where, hears_quiet}
-use Rattle.replica.proofs.LevelLemmas.Level.{differing_from}
-use Rattle.replica.proofs.LevelLemmas.Next.{next_lasts, stepped_as}
+use Rattle.replica.proofs.HearingLemmas.Hearing.{hears_quiet}
+use Rattle.replica.proofs.LevelLemmas.Next.{stepped_as}
 use Rattle.replica.proofs.SeenLemmas.Read.{few}
-use Rattle.replica.proofs.LevelLemmas.Rise.{rise_counters}
 use Rattle.replica.proofs.LevelLemmas.State.{inside_of, ready_at, ready_quiet, state_next}
 
 -- ---- the figures

@@ -1,15 +1,12 @@
 -- Tallies that are handed out and go on in another table.
-use Rattle.std.proofs.Common.{◌≡◌, ℕ, ◌-◌, ◌<◌, Bool, List, [], length, map, get_or, arith}
+use Rattle.std.proofs.Common.{◌≡◌, ℕ, ◌<◌, List, [], length, map, get_or, arith}
 use Rattle.std.specs.List.{sum_by}
-use Rattle.std.proofs.lemmas.List.FromFn.{length-map-range_with_len, get_or-map-range_with_len}
+use Rattle.std.proofs.lemmas.List.FromFn.{length-map-range_with_len}
 use Rattle.ball_model.specs.Figures.{TallyValue, Measure, estimate_with}
-use Rattle.ball_model.specs.Table.{Table}
 use Rattle.ball_model.specs.Checkpoint.{no_figures}
 use Rattle.figures.specs.declared.tally.Tally.{Tally}
 use Rattle.figures.specs.Values.{value_of}
 use Rattle.replica.specs.Level.{next_tally, next_tallies}
-use Rattle.replica.specs.Tables.{CanBeStepped}
-use Rattle.replica.specs.Tallies.{DifferAt}
 use Rattle.replica.proofs.LevelLemmas.Next.{map_lasts, sum_same}
 
 -- as many figures as rows

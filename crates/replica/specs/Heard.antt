@@ -9,7 +9,7 @@ use Rattle.ball_model.specs.PlanValue.{mixing_of}
 use Rattle.ball_model.specs.State.{rows_of, marks_of}
 use Rattle.ball_model.specs.Table.{Table}
 use Rattle.replica.specs.Index.{targets_of}
-use Rattle.replica.specs.Spread.{own_rows, raised_at, raised_by, rows_after, touched_at, AreTouched}
+use Rattle.replica.specs.Spread.{own_rows, raised_at, raised_by, rows_after, touched_at, AreTouched, CanSpreadRows}
 
 -- where the registers are the counter of a changed vertex z, what was heard becomes that and z
 abbrev pub RowIsHeard : List (List ℕ) → ℕ → List ℕ → List (List ℕ) → List (List ℕ) → Type 0
@@ -58,13 +58,14 @@ pub record Raises (places registers : List ℕ) (old new : Table) (before after 
   pub rows : new ≡ raised_at places registers old
   pub marks : MarksChanges before old.rows new.rows after
 
--- the row of vertex z is spread
+-- the row of vertex z is spread, and further ones can be
 pub record SpreadsRow (targets : List (List ℕ)) (z : ℕ) (registers : List ℕ) (old new : Table)
     (before after : List Bool) : Type 0 where
   pub rows : new ≡ raised_at (slice_index_or targets z []) registers old
   pub marks : MarksChanges before old.rows new.rows after
   pub touched : StayTouched old.rows before new.rows after
   pub stands : RowIsHeard targets z registers old.rows new.rows
+  pub can : CanSpreadRows targets (length registers) new after
 
 -- the rows of a batch are
 pub record SpreadsBatch (targets : List (List ℕ)) (batch : BatchValue) (old new : Table)

@@ -6,6 +6,7 @@ use Rattle.ball_model.specs.Batches.{BatchValue}
 use Rattle.ball_model.specs.Masks.{has_bit}
 use Rattle.ball_model.specs.State.{State}
 use Rattle.batches.specs.Kept.{rows_at}
+use Rattle.replica.specs.Seen.{IsState}
 
 -- vertex i and its registers, where it changed and has an edge into the target
 abbrev pub sent_row : State → ℕ → ℕ → List (ℕ × List ℕ)
@@ -76,3 +77,23 @@ pub record IsTold (v : State) (target n : ℕ) (ids places : List ℕ) (changed 
 pub record ChangedAt (v : State) (i : ℕ) : Type 0 where
   pub place : i < length v.part.preds
   pub mark : slice_index_or v.marks i false ≡ true
+
+-- what a partition is told of: a state, vertices by their places, and the partition
+pub record TellingValue : Type 0 where
+  pub state : State
+  pub vertices : List ℕ
+  pub target : ℕ
+
+-- the target can be told by these vertices
+pub record CanTell (v : State) (vertices : List ℕ) (target : ℕ) : Type 0 where
+  pub state : IsState v
+  pub changed : AreChangedVertices v vertices
+  pub inside : target < v.part.plan.parts
+
+-- the place of vertex k of those that changed, or the end behind the last
+abbrev pub next_place : TellingValue → ℕ → ℕ
+next_place t k = slice_index_or t.vertices k (length t.state.part.preds)
+
+-- what is told of those before it
+abbrev pub IsToldBefore : TellingValue → ℕ → List ℕ → List ℕ → ℕ → Type 0
+IsToldBefore t k ids places changed = IsTold t.state t.target (next_place t k) ids places changed

@@ -54,6 +54,7 @@ mod step;
 mod tables;
 mod tallies;
 mod targets;
+mod told;
 mod weights;
 
 use early::Early;

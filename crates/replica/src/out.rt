@@ -13,6 +13,7 @@ ghost use Rattle.replica.specs.Sent.{IsTold, batch_name, changed_registers, sent
 ghost use Rattle.replica.specs.Seen.{IsState};
 
 use crate::level::count_set;
+use crate::told::Telling;
 use crate::{Replica, Shown};
 use ball_model::BatchName;
 use batches::Batch;
@@ -20,15 +21,6 @@ use registers::next_marked;
 use std::alloc::{AllocError, Global};
 use std::marker::Model;
 use std::sync::Arc;
-
-// What another partition is told, as vertices and the places of their rows among those that changed, and how many of
-// the vertices so far changed.
-#[derive(Drop)]
-struct ToldVertices {
-    ids: Vec<u32>,
-    places: Vec<u32>,
-    changed: u32,
-}
 
 /// The vertices of a partition that changed at a superstep, and a table of their registers that batches share.
 #[derive(Drop)]
@@ -79,23 +71,29 @@ impl Replica {
             target,
         };
         let vertices = self.changed_vertices(alloc)?;
-        let mut batch = Batch::start(alloc, self.plan(), name, self.changed_count())?;
-        batch.reserve(self.count_told(&vertices, target))?;
-        self.send_rows(&mut batch, &vertices, target)?;
+        let mut batch = Batch::start(alloc, self.plan(), name, vertices.len() as u32)?;
+        let telling = Telling {
+            progress: &self.progress,
+            vertices: &vertices,
+            target,
+        };
+        batch.reserve(telling.count())?;
+        telling.send_rows(&mut batch)?;
         Ok(batch)
     }
 
     /// The vertices that changed at this superstep, and a table of their registers, which all batches of the superstep
     /// share: [`Replica::out_of`] is asked with it for each target.
     ///
-    /// It passes once over the marks. The table is made in the room of another one, whose content is gone.
+    /// It walks over the marks twice: to count those that are set, and to list them. The table is made in the room of
+    /// another one, whose content is gone.
     pub fn changed_rows(&self, alloc: Global, room: Vec<u8>) -> Result<ChangedRows, AllocError>
         ensures { IfOk result (λ changed. AreChanged self.now changed) }
     {
         let vertices = self.changed_vertices(alloc)?;
         let mut registers = room;
         registers.clear();
-        registers.reserve_exact(self.changed_count() as usize * self.plan().width())?;
+        registers.reserve_exact(vertices.len() * self.plan().width())?;
         self.put_rows(&mut registers, &vertices)?;
         Ok(ChangedRows {
             vertices,
@@ -125,7 +123,12 @@ impl Replica {
             source: self.partition(),
             target,
         };
-        let told = self.told_vertices(alloc, &changed.vertices, target)?;
+        let telling = Telling {
+            progress: &self.progress,
+            vertices: &changed.vertices,
+            target,
+        };
+        let told = telling.told(alloc)?;
         let table = Arc::try_clone(&changed.registers)?;
         Ok(Batch::sharing(
             self.plan(),
@@ -163,101 +166,5 @@ impl Replica {
             table.extend_from_slice(s.tables.rows().row(vertices[k] as usize))?;
         }
         Ok(())
-    }
-
-    // Those of the vertices that changed that have an edge into a partition, with the places of their rows.
-    fn told_vertices(
-        &self,
-        alloc: Global,
-        vertices: &[u32],
-        target: u16,
-    ) -> Result<ToldVertices, AllocError>
-        requires target { target < self.now.part.plan.parts }
-        requires vertices { AreChangedVertices self.now vertices.now }
-        ensures { IfOk result (λ told. IsTold self.now target
-            (length self.now.part.preds) told.ids.items told.places.items told.changed) }
-    {
-        let room = self.count_told(vertices, target) as usize;
-        let mut told = ToldVertices {
-            ids: Vec::with_capacity(alloc, room)?,
-            places: Vec::with_capacity(alloc, room)?,
-            changed: 0,
-        };
-        for k in 0..vertices.len() {
-            self.tell_row(&mut told, target, vertices[k])?;
-        }
-        Ok(told)
-    }
-
-    // Counts vertex i, which changed, and adds it and the place of its row, where it has an edge into the target.
-    fn tell_row(&self, told: &mut ToldVertices, target: u16, i: u32) -> Result<(), AllocError>
-        requires changed { ChangedAt self.now i }
-        requires target { target < self.now.part.plan.parts }
-        requires so_far { IsTold self.now target i
-            told.old.ids.items told.old.places.items told.old.changed }
-        ensures { OnOk result (IsTold self.now target (i + 1)
-            told.new.ids.items told.new.places.items told.new.changed) }
-    {
-        let is_fed = self.feeds_into(i, target);
-        let place = told.changed;
-        told.changed += 1;
-        if is_fed {
-            told.ids.push(self.progress.part.vertex(i))?;
-            told.places.push(place)?;
-        }
-        Ok(())
-    }
-
-    // How many of these vertices have an edge into a partition.
-    fn count_told(&self, vertices: &[u32], target: u16) -> u32
-        requires target { target < self.now.part.plan.parts }
-        requires vertices { AreChangedVertices self.now vertices.now }
-    {
-        let mut count = 0u32;
-        for k in 0..vertices.len() {
-            if self.feeds_into(vertices[k], target) {
-                count += 1;
-            }
-        }
-        count
-    }
-
-    // Adds the rows of those of the vertices that changed that have an edge into the target, to a batch with none.
-    fn send_rows(&self, batch: &mut Batch, vertices: &[u32], target: u16) -> Result<(), AllocError>
-        requires vertices { AreChangedVertices self.now vertices.now }
-        requires none { batch.old ≡ sent_batch self.now target 0 }
-        ensures { OnOk result
-            (batch.new ≡ sent_batch self.now target (length self.now.part.preds)) }
-    {
-        for k in 0..vertices.len() {
-            self.send_row(batch, vertices[k])?;
-        }
-        Ok(())
-    }
-
-    // Adds the row of vertex i, which changed, where it has an edge into the batch's target.
-    #[tactic(auto, using(crate::proofs::SentLemmas::Sent::sent_above, crate::proofs::SentLemmas::Sent::sent_no, crate::proofs::SentLemmas::Sent::sent_room, crate::proofs::SentLemmas::Sent::sent_yes))]
-    fn send_row(&self, batch: &mut Batch, i: u32) -> Result<(), AllocError>
-        requires changed { ChangedAt self.now i }
-        requires so_far { batch.old ≡ sent_batch self.now batch.old.name.target i }
-        ensures { OnOk result
-            (batch.new ≡ sent_batch self.now batch.old.name.target (i + 1)) }
-    {
-        if self.feeds_into(i, batch.name().target) {
-            batch.push(self.progress.part.vertex(i), self.rows().row(i as usize))?;
-        }
-        Ok(())
-    }
-
-    // Whether vertex i has an edge into a partition.
-    #[inline]
-    fn feeds_into(&self, i: u32, target: u16) -> bool
-        requires place { i < length self.now.part.preds }
-        requires target { target < self.now.part.plan.parts }
-        ensures edge { result ≡ has_bit (slice_index_or self.now.part.feeds i 0) target }
-        ensures state { IsState self.now }
-    {
-        let s = self.shown();
-        (s.part.feeds(i) >> target) % 2 == 1
     }
 }

@@ -3,19 +3,17 @@ use Rattle.std.proofs.Common.{◌≡◌, ℕ, ◌+◌, ◌-◌, ◌<◌, ◌≤�
 use Rattle.std.specs.Prelude.{Option}
 use Rattle.std.specs.List.{range_with_len, find}
 use Rattle.std.proofs.lemmas.Bool.{eq-eqb}
-use Rattle.std.proofs.lemmas.Bool.Decides.{nat_tests}
 use Rattle.ball_model.specs.PlanValue.{mixing_of}
 use Rattle.ball_model.specs.Job.{Job}
 use Rattle.ball_model.specs.Batches.{BatchValue, true_batch}
 use Rattle.ball_model.specs.Supersteps.{end_of}
-use Rattle.ball_model.specs.Content.{after_close, missing_of}
-use Rattle.ball_model.specs.State.{State, StandsFor, content_of, early_at, holds_in, rows_of}
+use Rattle.ball_model.specs.Content.{missing_of}
+use Rattle.ball_model.specs.State.{State, StandsFor, early_at, holds_in, rows_of}
 use Rattle.replica.specs.Change.{Advances}
 use Rattle.replica.specs.Index.{targets_of}
 use Rattle.replica.proofs.LevelLemmas.Level.{Ready, next_rows_are, differing_is, size_is}
 use Rattle.replica.proofs.LevelLemmas.Figure.{next_tallies_are, next_sums_are}
 use Rattle.replica.proofs.HearingLemmas.Hear.{none_heard, if_some_as}
-use Rattle.replica.proofs.LevelLemmas.Step.{get_or-replicate_same}
 
 -- ---- what is held
 

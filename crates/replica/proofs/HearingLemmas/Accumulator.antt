@@ -1,5 +1,5 @@
 -- A replica's accumulators: kept beside its rows, or let go where the run is over.
-use Rattle.std.proofs.Common.{◌≡◌, ℕ, ◌+◌, ◌^◌, ◌≤◌, true, false, List, [], length, refl, ap, sym, ◌∙◌, subst, inl, inr}
+use Rattle.std.proofs.Common.{◌≡◌, ℕ, ◌+◌, ◌^◌, ◌≤◌, true, false, List, length, refl, ap, sym, ◌∙◌, subst, inl, inr}
 use Rattle.std.specs.Prelude.{Option, None, Some, Ok}
 use Rattle.std.specs.Arc.{arc_value}
 use Rattle.ball_model.specs.declared.names.Taken.TheVariants as taken

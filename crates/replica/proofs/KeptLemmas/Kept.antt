@@ -1,5 +1,5 @@
 -- The batches that are kept, one after the other.
-use Rattle.std.proofs.Common.{◌≡◌, ℕ, suc, ◌+◌, ◌-◌, ◌*◌, ◌<◌, ◌≤◌, nat_lt, Bool, true, false, List, [], ◌∷◌, ◌++◌, length, map, get_or, take, drop, option_map, refl, ap, arith, sym, ◌∙◌, is_some, IfSome}
+use Rattle.std.proofs.Common.{◌≡◌, ℕ, suc, ◌+◌, ◌*◌, ◌<◌, ◌≤◌, nat_lt, Bool, true, false, List, [], ◌∷◌, ◌++◌, length, map, get_or, take, drop, option_map, refl, ap, arith, sym, ◌∙◌, is_some, IfSome}
 use Rattle.std.specs.Prelude.{Option, Some, None}
 use Rattle.std.specs.List.{range_with_len, filter, flat_map, slice_get}
 use Rattle.std.specs.Option.{option_to_list}

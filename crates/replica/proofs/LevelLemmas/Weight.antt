@@ -1,9 +1,7 @@
 -- What the estimate of each row is made of.
-use Rattle.std.proofs.Common.{◌≡◌, ℕ, ◌<◌, Bool, false, List, [], length, map, get_or, ap, sym, ◌∙◌, arith}
+use Rattle.std.proofs.Common.{◌≡◌, ℕ, ◌<◌, List, [], length, map, get_or, ap, sym, ◌∙◌, arith}
 use Rattle.std.proofs.lemmas.List.{same_lists, get_or-map, get_or_default, length-map}
-use Rattle.ball_model.specs.Table.{Table}
 use Rattle.figures.specs.Values.{weight_of}
-use Rattle.registers.specs.Relay.{DifferWhere}
 use Rattle.replica.specs.Level.{weights_of}
 
 -- where there are as many as rows

@@ -19,7 +19,7 @@ use Rattle.replica.specs.Tables.{TablesValue}
 use Rattle.replica.proofs.HearingLemmas.Accumulator.{Keeps, fields_are, fields_of, whole_keeps}
 use Rattle.replica.proofs.HearingLemmas.Hear.{hears_as, hears_same}
 use Rattle.replica.proofs.HearingLemmas.Hearing.{hears_said}
-use Rattle.replica.proofs.MergedLemmas.Merge.{Gathers, Meets, Raises, Unites, absorbs_further, absorbs_lesser, absorbs_level, gathers_state, meets, raises, touched_from, unites_state}
+use Rattle.replica.proofs.MergedLemmas.Merge.{Gathers, Meets, Raises, Unites, absorbs_further, absorbs_lesser, absorbs_level, gathers_state, raises, touched_from, unites_state}
 use Rattle.replica.proofs.LevelLemmas.Rise.{all_on}
 use Rattle.replica.proofs.LevelLemmas.State.{ready_beside}
 use Rattle.replica.proofs.TablesLemmas.{can_hear}

@@ -7,7 +7,7 @@ use Rattle.figures.specs.Values.{value_of}
 use Rattle.ball_model.specs.Batches.{BatchValue}
 use Rattle.ball_model.specs.PlanValue.{PlanValue}
 use Rattle.replica.specs.Kept.{AreSources}
-use Rattle.replica.specs.Saved.{IsFigures, MayKeep, MayBeKept, order_key}
+use Rattle.replica.specs.Saved.{IsFigures, MayKeep, order_key}
 
 -- ---- figures
 

@@ -9,7 +9,7 @@ use Rattle.std.proofs.lemmas.List.Sums.{length-filter}
 use Rattle.ball_model.specs.Counter.{ball_counter}
 use Rattle.ball_model.specs.Change.{changed_at}
 use Rattle.ball_model.specs.PlanValue.{PlanValue, mixing_of, part_size}
-use Rattle.ball_model.specs.Job.{Job, PartValue, part_of, feeds_into, feed_mask}
+use Rattle.ball_model.specs.Job.{Job, part_of, feeds_into, feed_mask}
 use Rattle.ball_model.specs.Batches.{BatchValue, IsRow, true_batch, sent_vertices, ids_of}
 use Rattle.ball_model.specs.Masks.{has_bit}
 use Rattle.ball_model.specs.State.{State, StandsFor}

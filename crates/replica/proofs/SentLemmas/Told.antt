@@ -1,17 +1,14 @@
 -- Rows that are told as places in a table of those that changed.
 use Rattle.std.proofs.Common.{◌≡◌, ℕ, zero, suc, ◌+◌, ◌-◌, ◌*◌, ◌^◌, ◌<◌, ◌≤◌, Bool, true, false, ◌&&◌, List, [], ◌∷◌, ◌++◌, length, length-append, get_or, take, drop, if◌then◌else◌, refl, ap, arith, sym, subst, ◌∙◌}
-use Rattle.std.specs.Prelude.{Result, IfOk}
 use Rattle.std.specs.List.{range_with_len, flat_map, count_by, All, AllPairs, AllByRecursion}
 use Rattle.std.proofs.lemmas.List.{append-nil, take_at, drop_at, map_push}
 use Rattle.std.proofs.lemmas.List.Concat.{flat_map-append}
 use Rattle.std.proofs.lemmas.List.Elements.{All-nil, All-push, All-append}
 use Rattle.std.proofs.lemmas.List.Quantifiers.{all_pairs_push}
-use Rattle.std.proofs.lemmas.List.Sums.{length-filter, count_by-le-length}
-use Rattle.ball_model.specs.Batches.{BatchValue, IsBatch, IsRow, ids_of, true_batch}
-use Rattle.ball_model.specs.Job.{Job}
+use Rattle.ball_model.specs.Batches.{IsRow, ids_of}
 use Rattle.ball_model.specs.Masks.{has_bit}
 use Rattle.ball_model.specs.PlanValue.{PlanValue}
-use Rattle.ball_model.specs.State.{State, StandsFor}
+use Rattle.ball_model.specs.State.{State}
 use Rattle.ball_model.proofs.PartLemmas.{range_more}
 use Rattle.batches.specs.Kept.{rows_at}
 use Rattle.registers.specs.Marks.{IsNextMarked}
@@ -20,8 +17,7 @@ use Rattle.replica.specs.Seen.{IsState}
 use Rattle.replica.specs.Sent.{IsTold, changed_registers, changed_row, changed_rows, sent_row, sent_rows, sent_batch}
 use Rattle.replica.proofs.IndexLemmas.Counting.{range_split}
 use Rattle.replica.proofs.IndexLemmas.Own.{part_size_le}
-use Rattle.replica.proofs.SentLemmas.Sent.{count_take, ids_below, sent_below, sent_fits, sent_more, sent_short, sent_true}
-use Rattle.replica.proofs.StartLemmas.Start.{if_made}
+use Rattle.replica.proofs.SentLemmas.Sent.{ids_below, sent_below, sent_fits, sent_more}
 
 -- ---- the table
 

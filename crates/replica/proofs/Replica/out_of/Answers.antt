@@ -3,7 +3,8 @@ use Rattle.std.specs.Arc.{arc_value}
 use Rattle.std.proofs.lemmas.List.Sums.{length-filter, count_by-le-length}
 use Rattle.batches.specs.Kept.{rows_at}
 use Rattle.ball_model.specs.Batches.{BatchValue, IsBatch}
-use Rattle.replica.specs.Sent.{ChangedValue, batch_name, changed_registers, sent_batch}
+use Rattle.ball_model.specs.State.{State}
+use Rattle.replica.specs.Sent.{ChangedValue, IsTold, batch_name, changed_registers, sent_batch}
 use Rattle.replica.proofs.SentLemmas.Sent.{count_take, sent_short, sent_true}
 use Rattle.replica.proofs.SentLemmas.Told.{sent_are_rows, sent_rise, told_batch}
 use Rattle.replica.proofs.Replica.out_of.Goals as goal
@@ -18,8 +19,9 @@ told : (c : After-len) → record {
 } ≡ sent_batch c.args.self.now c.args.target (length c.args.self.now.part.preds)
 told c =
     let t = c.in_ok-told.told in
+    let is = subst (λ (v : State). IsTold v c.args.target (length v.part.preds) t.ids.items t.places.items t.changed) c.self.view_is c.in_ok-told.ensures in
     let table : (arc_value c.in_ok-table.table).items ≡ changed_registers c.args.self.now = rw c.in_ok-table.ensures (ap (λ (x : ChangedValue). x.registers) c.changed.view_is ∙ c.requires.changed.registers) in
-    told_batch c.args.self.now c.args.target t.changed c.plan.result.now c.superstep.result c.partition.result c.len.result (arc_value c.in_ok-table.table).items t.ids.items t.places.items c.in_ok-told.ensures table c.plan.ensures c.superstep.ensures.value c.partition.ensures (omega (arith, c.len.ensures, ap (λ (x : ChangedValue). length x.vertices) c.changed.view_is, c.requires.changed.vertices.count))
+    told_batch c.args.self.now c.args.target t.changed c.plan.result.now c.superstep.result c.partition.result c.len.result (arc_value c.in_ok-table.table).items t.ids.items t.places.items is table c.plan.ensures c.superstep.ensures.value c.partition.ensures (omega (arith, c.len.ensures, ap (λ (x : ChangedValue). length x.vertices) c.changed.view_is, c.requires.changed.vertices.count))
 
 pub sharing-requires-clause-batch : goal.sharing-requires-clause-batch
 unfolding sent_batch

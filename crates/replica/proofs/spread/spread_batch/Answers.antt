@@ -1,25 +1,20 @@
-use Rattle.std.proofs.Common.{◌≡◌, ◌+◌, ◌<◌, ℕ, List, [], length, get_or, take, ap, sym, arith, ◌∙◌}
+use Rattle.std.proofs.Common.{◌≡◌, ◌+◌, ◌<◌, ℕ, List, [], length, get_or, take, ap, arith, ◌∙◌}
 use Rattle.std.proofs.lemmas.List.{get_or-map, take_more, take_all}
 use Rattle.ball_model.specs.Table.{Table}
 use Rattle.ball_model.specs.Batches.{BatchValue}
 use Rattle.replica.specs.Spread.{raised_by}
-use Rattle.replica.proofs.HeardLemmas.{spread-batch, spread_each-none, spread_each-more, length-spread_each}
-use Rattle.replica.proofs.SpreadLemmas.{spread_on}
+use Rattle.replica.proofs.HeardLemmas.{spread-batch, spread_each-none, spread_each-more}
 use Rattle.replica.proofs.spread.spread_batch.Goals as goal
 
 pub loop-k-init : goal.loop-k-init
 loop-k-init c = record {
   rows = ap (λ (rows : List (List ℕ)). record c.args.accumulated.now { rows = rows }) (spread_each-none c.args.targets.now c.args.accumulated.now.rows);
   touched = λ rows h. h;
+  can = c.requires;
 }
 
 pub spread_row-requires : goal.spread_row-requires
-spread_row-requires c =
-    let count = ap (λ (t : Table). length t.rows) c.loop-k.invariant.rows ∙ length-spread_each c.args.targets.now (take c.loop-k.k c.args.batch.now.rows) c.args.accumulated.now.rows in
-    record {
-      wide = c.registers.ensures.width ∙ c.requires.wide ∙ sym (ap (λ (t : Table). t.width) c.loop-k.invariant.rows);
-      room = spread_on c.args.targets.now (length c.args.accumulated.now.rows) c.loop-k.accumulated c.loop-k.touched c.requires.room.inside count (omega (arith, c.loop-k.auto.touched, c.requires.room.marks));
-    }
+spread_row-requires c = rw c.registers.ensures.width c.loop-k.invariant.can
 
 pub loop-k-preserved : goal.loop-k-preserved
 loop-k-preserved c =
@@ -36,6 +31,7 @@ loop-k-preserved c =
       rows = c.spread_row.ensures.rows ∙ rw (rows, width, vertex, registers) (ap (λ (rs : List (List ℕ)). record c.args.accumulated.now { rows = rs })
           (spread_each-more targets (take k others) (take (k + 1) others) (get_or others k (0, [])) old (take_more others k (0, []) lt)));
       touched = λ own h. c.spread_row.ensures.touched own (c.loop-k.invariant.touched own h);
+      can = rw c.registers.ensures.width at c.spread_row.ensures.can;
     }
 
 pub returns : goal.returns

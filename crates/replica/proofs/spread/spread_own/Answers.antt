@@ -1,8 +1,7 @@
-use Rattle.std.proofs.Common.{◌≡◌, ◌+◌, ◌*◌, ◌<◌, ℕ, List, [], length, get_or, ap, sym, arith, ◌∙◌}
+use Rattle.std.proofs.Common.{◌≡◌, ◌+◌, ◌*◌, ◌<◌, ℕ, List, [], length, get_or, ap, arith, ◌∙◌}
 use Rattle.ball_model.specs.Table.{Table}
 use Rattle.replica.specs.Spread.{marked_rows, raised_by}
-use Rattle.replica.proofs.HeardLemmas.{own_stands, spread_each-none, spread_each-more, length-spread_each, marked-none, marked-yes, marked-over}
-use Rattle.replica.proofs.SpreadLemmas.{spread_on}
+use Rattle.replica.proofs.HeardLemmas.{own_stands, spread_each-none, spread_each-more, marked-none, marked-yes, marked-over}
 use Rattle.replica.proofs.spread.spread_own.Goals as goal
 
 pub loop-i-init : goal.loop-i-init
@@ -15,16 +14,11 @@ loop-i-init c =
       marked = is.marked;
       rows = rw none (ap (λ (rows : List (List ℕ)). record c.args.accumulated.now { rows = rows }) (spread_each-none c.args.targets.now c.args.accumulated.now.rows));
       touched = λ own h. h;
+      can = c.requires.can;
     }
 
 pub spread_row-requires : goal.spread_row-requires
-spread_row-requires c =
-    let part = c.args.part.now in
-    let count = ap (λ (t : Table). length t.rows) c.loop-i.invariant.rows ∙ length-spread_each c.args.targets.now (marked_rows part.plan.parts part.number c.args.rows.now.rows c.args.marks.now c.loop-i.i) c.args.accumulated.now.rows in
-    record {
-      wide = c.row.ensures.width ∙ c.requires.can.wide ∙ sym (ap (λ (t : Table). t.width) c.loop-i.invariant.rows);
-      room = spread_on c.args.targets.now (length c.args.accumulated.now.rows) c.loop-i.accumulated c.loop-i.touched c.requires.can.room.inside count (omega (arith, c.loop-i.auto.touched, c.requires.can.room.marks));
-    }
+spread_row-requires c = rw c.row.ensures.width c.loop-i.invariant.can
 
 pub loop-i-preserved : goal.loop-i-preserved
 loop-i-preserved c =
@@ -45,6 +39,7 @@ loop-i-preserved c =
       rows = c.spread_row.ensures.rows ∙ rw (rows, width, c.vertex.ensures.value, c.row.ensures.value, marked-over parts p (i + 1) c.next_marked-i-in-loop-i.result own marks is) (ap (λ (rs : List (List ℕ)). record c.args.accumulated.now { rows = rs })
           (spread_each-more c.args.targets.now (marked_rows parts p own marks i) (marked_rows parts p own marks (i + 1)) (i * parts + p, get_or own i []) old (marked-yes parts p i own marks (c.loop-i.invariant.marked inside))));
       touched = λ rs h. c.spread_row.ensures.touched rs (c.loop-i.invariant.touched rs h);
+      can = rw c.row.ensures.width at c.spread_row.ensures.can;
     }
 
 pub returns : goal.returns

@@ -5,7 +5,7 @@ use Rattle.std.specs.Slice.Iter.{chunks_rest}
 use Rattle.ball_model.specs.Table.{Table}
 use Rattle.replica.specs.Heard.{MarksChanges}
 use Rattle.replica.specs.Spread.{raised_at, rows_after, touched_at}
-use Rattle.replica.proofs.SpreadLemmas.{spread-none, spread-append, length-spread, touched-none, both_marks, to_row, spread-at, raised_above, raised_marked, all_last, raise_first}
+use Rattle.replica.proofs.SpreadLemmas.{spread-none, spread-append, length-spread, touched-none, both_marks, to_row, spread-at, spread_on, raised_above, raised_marked, all_last, raise_first}
 use Rattle.replica.proofs.HeardLemmas.{accumulated_of-spread}
 use Rattle.replica.proofs.spread.spread_row.Goals as goal
 
@@ -88,4 +88,8 @@ returns c =
       marks = marks;
       touched = λ rows h. grind (arith, length-spread, spread-at, raised_above, to_row, raised_marked, all, marks);
       stands = λ j p t heard job index changed true_row stands. all ∙ rw (true_row, stands, index) (accumulated_of-spread j p t c.args.z heard job changed);
+      can = record {
+        wide = c.requires.wide ∙ sym inv.width;
+        room = spread_on c.args.targets.now (length old) c.loop-block.accumulated new c.requires.room.inside inv.count (omega (arith, c.loop-block.auto.touched, c.requires.room.marks));
+      };
     }
