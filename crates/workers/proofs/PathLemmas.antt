@@ -1,7 +1,7 @@
 -- The path of a node: what it holds, from call to call.
 use Rattle.std.proofs.Common.{◌≡◌, ◌≢◌, ℕ, ◌<◌, false, List, [], ◌∷◌, ◌++◌, refl, sym, ap, ◌∙◌, subst, inl, inr, arith, append_assoc, append-nil}
 use Rattle.std.proofs.lemmas.Bool.{cases_eq}
-use Rattle.std.specs.Prelude.{Option, None, Some, IfNone, Result, Ok, Err, OnErr}
+use Rattle.std.specs.Prelude.{Result, Ok, Err, OnErr}
 use Rattle.ball_model.specs.declared.names.BatchName.{BatchName}
 use Rattle.ball_model.specs.declared.names.Taken.{Taken}
 use Rattle.ball_model.specs.declared.names.TakeError.{TakeError}
@@ -79,10 +79,6 @@ err_as e f h = let same : e ≡ f = cc in ap Err same
 
 pub err_not_as : {T U E : Type 0} (e f : E) → (◌≡◌ {A = Result T E} (Err e) (Err f) → ⊥) → ◌≡◌ {A = Result U E} (Err e) (Err f) → ⊥
 err_not_as e f h is = h (err_as e f is)
-
-pub if_none : {A P : Type 0} (o : Option A) → o ≡ None → IfNone o P → P
-if_none None is h = h
-if_none (Some x) is h = absurd (cc)
 
 -- ---- one path behind another
 come_on : (j : Job) (n : ℕ) (u v w : Caller) (p : ℕ) (a b c : Holding) (steps : List Step) → u.seen.job ≡ j → u.number ≡ n → HasCome u p a b v →

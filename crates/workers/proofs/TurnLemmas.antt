@@ -1,5 +1,5 @@
 -- A replica of the caller's job, from call to call.
-use Rattle.std.proofs.Common.{◌≡◌, ◌≢◌, ◌⊎◌, ⊎_elim, ℕ, ◌<◌, false, not, ◌==◌, ◌&&◌, Option, Some, IfSome, sym, ap, ◌∙◌, subst, arith}
+use Rattle.std.proofs.Common.{◌≡◌, ◌≢◌, ◌⊎◌, ⊎_elim, ℕ, ◌<◌, false, not, ◌==◌, ◌&&◌, Some, sym, ap, ◌∙◌, subst, arith}
 use Rattle.std.proofs.lemmas.Bool.{and_parts, not-true, eqb-false}
 use Rattle.ball_model.specs.declared.names.BatchName.{BatchName}
 use Rattle.ball_model.specs.declared.history.Posted.{Posted}
@@ -81,10 +81,6 @@ told_by_call j v w name a b r e is h = subst (λ (n : BatchName). HasPosted v n 
 
 pub taken_stands : (j : Job) (p : ℕ) (v w : State) (b : BatchValue) (name : BatchName) → b ≡ true_batch j name → (b ≡ true_batch j b.name → StandsFor j p v.superstep w) → StandsFor j p w.superstep w
 taken_stands j p v w b name is stands = stands_at j p v.superstep w (stands (true_named j name b is))
-
--- ---- what was found
-pub is_there : {A : Type 0} (o : Option A) (a : A) (P : A → Type 0) → o ≡ Some a → IfSome o P → P a
-is_there o a P e h = subst (λ x. IfSome x P) e h
 
 -- ---- the end of a superstep, and of the run
 pub closed_turn : (v w : Caller) (p : ℕ) (old new : State) (t : Turn) → (t ≡ turn.Next) ⊎ (t ≡ turn.Over) → (t ≡ turn.Over → (new ≡ old) × EndsRun (found_verdict new)) → HasToldAll v old.superstep p w → IsNodeTurn v p new t w

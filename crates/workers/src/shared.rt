@@ -13,9 +13,9 @@ pub(crate) type SharedTable = Arc<Vec<u8>>;
 /// Three of the tables that a node's batches shared, or fewer.
 ///
 /// Where each superstep is kept, batches are dropped two supersteps after they were posted. So as a rule nobody else has
-/// their table three supersteps later, and nobody ever has that of batches that another node posted first. Such a table is
-/// filled again, the oldest first, and a new one is made only where there is none: with a new one each superstep, runs took
-/// more memory.
+/// their table three supersteps later, and nobody ever has that of batches that another node posted first. The oldest such
+/// table is filled again, and a new one is made only where there is none: with a new one each superstep, runs took more
+/// memory. Others that nobody has are let go then: with two replicas a node kept idle ones, and runs took more too.
 pub(crate) struct SharedTables {
     latest: Option<SharedTable>,
     before: Option<SharedTable>,
@@ -57,15 +57,12 @@ impl SharedTables {
         Ok(changed)
     }
 
-    // The oldest table that nobody else has. The others stay.
+    // The oldest table that nobody else has. The others that nobody else has are let go.
     fn free(&mut self) -> Option<Vec<u8>> {
-        if let Some(rows) = take_free(&mut self.oldest) {
-            return Some(rows);
-        }
-        if let Some(rows) = take_free(&mut self.before) {
-            return Some(rows);
-        }
-        take_free(&mut self.latest)
+        let oldest = take_free(&mut self.oldest);
+        let before = take_free(&mut self.before);
+        let latest = take_free(&mut self.latest);
+        oldest.or(before).or(latest)
     }
 
     // Keeps a table as the latest. The oldest is let go where there are three others.
