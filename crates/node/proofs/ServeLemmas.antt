@@ -1,6 +1,6 @@
 -- Requests, one after the other.
 use Rattle.std.proofs.Common.{◌≡◌, ◌≢◌, ◌∙◌, ◌⊎◌, inl, inr, ℕ, ◌+◌, ◌^◌, ◌<◌, ◌≤◌, Bool, List, [], ◌∷◌, ◌++◌, length, refl, ap, sym, subst, append_assoc, append-nil, length-append, take}
-use Rattle.std.specs.Prelude.{Option, Some, Result, Err, IfSome}
+use Rattle.std.specs.Prelude.{Option, Some, Result, Err}
 use Rattle.std.specs.Io.KnownBytes.{Appends, Consumes, IsAtEnd, Keeps}
 use Rattle.std.proofs.KnownBytes.{Appends-kept, Appends-nil, Appends-trans, Consumes-nil, Consumes-trans}
 use Rattle.std.proofs.lemmas.List.Elements.{All-nil, All-push}
@@ -207,9 +207,6 @@ pub stops_counting : (network : Network) (part : PartValue) (n : ℕ) (a b : Opt
 stops_counting network part n a b v w x y most s = record { number = n; mid = b; some = s; at = (most, refl) }
 
 -- ---- a request
-pub at_some : {A : Type 0} (o : Option A) (x : A) (P : A → Type 0) → o ≡ Some x → IfSome o P → P x
-at_some {A} o x P is h = subst (λ (q : Option A). IfSome q P) is h
-
 pub reads_request : (part : PartValue) (a b c : Option (List ℕ)) (line : List ℕ) (order : Command) (body : List ℕ) → Consumes a b (line ++ 10 ∷ []) → Consumes b c body →
     HasNoEnd line → length line < most_line → command_in (fields 32 line) ≡ Some order → body_length order ≤ most_body part order → length body ≡ body_length order → ReadsRequest part a c line order body
 reads_request part a b c line order body one two none short says within long = record {

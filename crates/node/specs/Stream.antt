@@ -1,7 +1,8 @@
--- Lines on a stream.
+-- Lines on a stream, and calls of it that failed.
 use Rattle.std.specs.Prelude.{◌≡◌, ◌≢◌, ℕ, ◌<◌, List, [], length, Option}
 use Rattle.std.specs.Io.KnownBytes.{Consumes, IsAtEnd}
 use Rattle.std.specs.List.{All}
+use Rattle.ball_model.specs.Streams.{Rises}
 
 -- the most bytes of a line
 abbrev pub most_line : ℕ
@@ -30,3 +31,8 @@ pub record CutsBody (size : ℕ) (old new : Option (List ℕ)) : Type 0 where
   pub consumed : Consumes old new bytes
   pub fewer : length bytes < size
   pub end : IsAtEnd new
+
+-- a call failed where this is told, and none where it is not
+pub record FailsWhere (told : Type 0) (old new : ℕ) : Type 0 where
+  pub some : told → Rises old new
+  pub none : (told → ⊥) → new ≡ old

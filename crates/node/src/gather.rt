@@ -14,6 +14,7 @@ ghost use Rattle.node.specs.Gathering.{part_text};
 ghost use Rattle.node.specs.NoReport.{HasNoReport, IsNoReplica, IsNoReport, WritesFront};
 ghost use Rattle.node.specs.NoReport.{WritesFrontOfJob, IsUnwritten, part_length, told_kept};
 ghost use Rattle.node.specs.Job.{job_settings_of};
+ghost use Rattle.node.specs.Stream.{FailsWhere};
 ghost use Rattle.node.specs.declared.error.JobError.TheVariants as no_job;
 
 use crate::command::size;
@@ -60,10 +61,8 @@ fn read_length<R: CountedRead>(
         Consumes (R.remaining reader.old) (R.remaining reader.new) (part_line n)) }
     ensures refused { IfErr result
         (IsNoReplica part.now (R.remaining reader.old) (R.remaining reader.new)) }
-    ensures failed { result ≡ Err GatherError.Read →
-        Rises (R.failed_calls reader.old) (R.failed_calls reader.new) }
-    ensures counted { result ≢ Err GatherError.Read →
-        R.failed_calls reader.new ≡ R.failed_calls reader.old }
+    ensures failed { FailsWhere (result ≡ Err GatherError.Read)
+        (R.failed_calls reader.old) (R.failed_calls reader.new) }
 {
     let p = part.partition();
     match read_line(reader, line) {
@@ -93,10 +92,8 @@ fn read_bytes<R: CountedRead>(
         length bytes.new.items ≤ most_checkpoint_bytes part.now part.now.plan.limit) }
     ensures refused { IfErr result
         (IsNoReplica part.now (R.remaining reader.old) (R.remaining reader.new)) }
-    ensures failed { result ≡ Err GatherError.Read →
-        Rises (R.failed_calls reader.old) (R.failed_calls reader.new) }
-    ensures counted { result ≢ Err GatherError.Read →
-        R.failed_calls reader.new ≡ R.failed_calls reader.old }
+    ensures failed { FailsWhere (result ≡ Err GatherError.Read)
+        (R.failed_calls reader.old) (R.failed_calls reader.new) }
 {
     let p = part.partition();
     let length = read_length(reader, part, bytes)?;
@@ -157,10 +154,8 @@ fn read_replica<R: CountedRead>(
         (R.remaining reader.old) (R.remaining reader.new)) }
     ensures refused { IfErr result (IsNoReplica (part_of (job_of graph.now.graph plan.now) p)
         (R.remaining reader.old) (R.remaining reader.new)) }
-    ensures failed { result ≡ Err GatherError.Read →
-        Rises (R.failed_calls reader.old) (R.failed_calls reader.new) }
-    ensures counted { result ≢ Err GatherError.Read →
-        R.failed_calls reader.new ≡ R.failed_calls reader.old }
+    ensures failed { FailsWhere (result ≡ Err GatherError.Read)
+        (R.failed_calls reader.old) (R.failed_calls reader.new) }
 {
     let part = part_by(alloc, graph, plan, p, feeds)?;
     let mut bytes = Vec::new(alloc);
@@ -201,10 +196,8 @@ fn add_replica<R: CountedRead, V: Watch>(
         left (R.remaining reader.old) replicas.old.items →
         IfErr result (IsNoReport (job_of graph.now.graph plan.now) left (R.remaining reader.new)) }
     ensures unwritten { result ≢ Err GatherError.Write }
-    ensures failed { result ≡ Err GatherError.Read →
-        Rises (R.failed_calls reader.old) (R.failed_calls reader.new) }
-    ensures counted { result ≢ Err GatherError.Read →
-        R.failed_calls reader.new ≡ R.failed_calls reader.old }
+    ensures failed { FailsWhere (result ≡ Err GatherError.Read)
+        (R.failed_calls reader.old) (R.failed_calls reader.new) }
 {
     let replica = read_replica(alloc, graph, plan, p, feeds, reader)?;
     show_turn(&replica, watch);
@@ -220,10 +213,8 @@ fn read_end<R: CountedRead>(reader: &mut R) -> Result<(), GatherError>
         ReadsAll j j.plan.parts left (R.remaining reader.old) replicas →
         IfErr result (IsNoReport j left (R.remaining reader.new)) }
     ensures unwritten { result ≢ Err GatherError.Write }
-    ensures failed { result ≡ Err GatherError.Read →
-        Rises (R.failed_calls reader.old) (R.failed_calls reader.new) }
-    ensures counted { result ≢ Err GatherError.Read →
-        R.failed_calls reader.new ≡ R.failed_calls reader.old }
+    ensures failed { FailsWhere (result ≡ Err GatherError.Read)
+        (R.failed_calls reader.old) (R.failed_calls reader.new) }
 {
     match next_of(reader) {
         Next::End => Ok(()),
@@ -250,10 +241,8 @@ fn read_replicas<R: CountedRead, V: Watch>(
     ensures refused { IfErr result (IsNoReport (job_of graph.now.graph plan.now)
         (R.remaining reader.old) (R.remaining reader.new)) }
     ensures unwritten { result ≢ Err GatherError.Write }
-    ensures failed { result ≡ Err GatherError.Read →
-        Rises (R.failed_calls reader.old) (R.failed_calls reader.new) }
-    ensures counted { result ≢ Err GatherError.Read →
-        R.failed_calls reader.new ≡ R.failed_calls reader.old }
+    ensures failed { FailsWhere (result ≡ Err GatherError.Read)
+        (R.failed_calls reader.old) (R.failed_calls reader.new) }
 {
     let feeds = graph.feeds(alloc, plan)?;
     for p in 0..plan.parts() {

@@ -4,7 +4,8 @@ ghost use Rattle.std.specs.Prelude.{◌≡◌, ◌≢◌, ◌<◌, ◌≤◌, �
 ghost use Rattle.std.specs.Io.KnownBytes.{Consumes, IsAtEnd};
 ghost use Rattle.std.specs.List.{All};
 ghost use Rattle.ball_model.specs.Streams.{Rises};
-ghost use Rattle.node.specs.Stream.{CutsBody, HasNoEnd, ReadsBody, ReadsInLine, most_line};
+ghost use Rattle.node.specs.Stream.{CutsBody, FailsWhere, HasNoEnd, ReadsBody, ReadsInLine};
+ghost use Rattle.node.specs.Stream.{most_line};
 
 use crate::section::{Next, next_of};
 use ball_model::{CountedRead, Filled, fill};
@@ -97,10 +98,8 @@ fn pass_over<R: CountedRead>(reader: &mut R, size: u64) -> Body
         ReadsBody size (R.remaining reader.old) (R.remaining reader.new) }
     ensures cut { result ≡ Body.Cut →
         CutsBody size (R.remaining reader.old) (R.remaining reader.new) }
-    ensures failed { result ≡ Body.Failed →
-        Rises (R.failed_calls reader.old) (R.failed_calls reader.new) }
-    ensures counted { result ≢ Body.Failed →
-        R.failed_calls reader.new ≡ R.failed_calls reader.old }
+    ensures failed { FailsWhere (result ≡ Body.Failed)
+        (R.failed_calls reader.old) (R.failed_calls reader.new) }
 {
     let mut piece = [0u8; PIECE];
     let mut left = size;

@@ -9,6 +9,7 @@ ghost use Rattle.ball_model.specs.Sections.{after_line, after_mark};
 ghost use Rattle.ball_model.specs.Streams.{Rises};
 ghost use Rattle.node.specs.Section.{EndsAtMark, Gives, IsAhead, IsByteOrEnd, IsOver, IsPast};
 ghost use Rattle.node.specs.Section.{is_front, is_tail};
+ghost use Rattle.node.specs.Stream.{FailsWhere};
 
 use arrayvec::ArrayVec;
 use ball_model::CountedRead;
@@ -179,10 +180,8 @@ fn step_at_line<R: CountedRead>(reader: &mut R, ahead: &mut ArrayVec<u8, 4>) -> 
         Keeps (prepend_known ahead.old.items (R.remaining reader.old))
         (prepend_known ahead.new.items (R.remaining reader.new)) }
     ensures front { result ≡ Step.Failed → is_front ahead.new.items ≡ true }
-    ensures failed { result ≡ Step.Failed →
-        Rises (R.failed_calls reader.old) (R.failed_calls reader.new) }
-    ensures counted { result ≢ Step.Failed →
-        R.failed_calls reader.new ≡ R.failed_calls reader.old }
+    ensures failed { FailsWhere (result ≡ Step.Failed)
+        (R.failed_calls reader.old) (R.failed_calls reader.new) }
 {
     if !look(reader, ahead) {
         return Step::Failed;
@@ -211,10 +210,8 @@ fn step_in_line<R: CountedRead>(reader: &mut R, ahead: &mut ArrayVec<u8, 4>) -> 
         Keeps (prepend_known ahead.old.items (R.remaining reader.old))
         (prepend_known ahead.new.items (R.remaining reader.new)) }
     ensures front { result ≡ Step.Failed → ahead.new.items ≡ [] }
-    ensures failed { result ≡ Step.Failed →
-        Rises (R.failed_calls reader.old) (R.failed_calls reader.new) }
-    ensures counted { result ≢ Step.Failed →
-        R.failed_calls reader.new ≡ R.failed_calls reader.old }
+    ensures failed { FailsWhere (result ≡ Step.Failed)
+        (R.failed_calls reader.old) (R.failed_calls reader.new) }
 {
     if !ahead.is_empty() {
         return first_of(ahead);
@@ -242,10 +239,8 @@ fn step_of<R: CountedRead>(reader: &mut R, begins: bool, ahead: &mut ArrayVec<u8
         Keeps (prepend_known ahead.old.items (R.remaining reader.old))
         (prepend_known ahead.new.items (R.remaining reader.new)) }
     ensures still { result ≡ Step.Failed → IsAhead begins ahead.new.items }
-    ensures failed { result ≡ Step.Failed →
-        Rises (R.failed_calls reader.old) (R.failed_calls reader.new) }
-    ensures counted { result ≢ Step.Failed →
-        R.failed_calls reader.new ≡ R.failed_calls reader.old }
+    ensures failed { FailsWhere (result ≡ Step.Failed)
+        (R.failed_calls reader.old) (R.failed_calls reader.new) }
 {
     if begins {
         step_at_line(reader, ahead)

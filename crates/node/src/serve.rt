@@ -18,7 +18,7 @@ ghost use Rattle.node.specs.Serving.{ServesNode, ServesNone, ServesOne, Steps, S
 ghost use Rattle.node.specs.Serving.{StopsNode, StopsWanting, WantsNode};
 ghost use Rattle.node.specs.declared.error.JobError.{JobError as NoJob};
 ghost use Rattle.node.specs.declared.error.ServeError.{ServeError as Fault};
-ghost use Rattle.node.specs.Stream.{CutsBody, HasNoEnd, ReadsBody, most_line};
+ghost use Rattle.node.specs.Stream.{CutsBody, FailsWhere, HasNoEnd, ReadsBody, most_line};
 ghost use Rattle.node.specs.declared.command.Command.TheVariants as order;
 ghost use Rattle.node.specs.Turns.{Holds, most_body, reply_text};
 
@@ -49,10 +49,8 @@ use world::watch::Watch;
 fn tell<W: CountedWrite>(reply: Reply, line: &mut Vec<u8>, writer: &mut W) -> Result<(), TellError>
     ensures done { OnOk result (Appends (W.contents writer.old) (W.contents writer.new)
         (reply_text reply)) }
-    ensures write { result ≡ Err TellError.Write →
-        Rises (W.failed_calls writer.old) (W.failed_calls writer.new) }
-    ensures written { result ≢ Err TellError.Write →
-        W.failed_calls writer.new ≡ W.failed_calls writer.old }
+    ensures write { FailsWhere (result ≡ Err TellError.Write)
+        (W.failed_calls writer.old) (W.failed_calls writer.new) }
 {
     line.clear();
     put_reply(line, reply)?;
@@ -68,10 +66,8 @@ fn tell_batch<W: CountedWrite>(
 ) -> Result<(), TellError>
     ensures done { OnOk result (Appends (W.contents writer.old) (W.contents writer.new)
         (sent_text batch.now)) }
-    ensures write { result ≡ Err TellError.Write →
-        Rises (W.failed_calls writer.old) (W.failed_calls writer.new) }
-    ensures written { result ≢ Err TellError.Write →
-        W.failed_calls writer.new ≡ W.failed_calls writer.old }
+    ensures write { FailsWhere (result ≡ Err TellError.Write)
+        (W.failed_calls writer.old) (W.failed_calls writer.new) }
 {
     line.clear();
     put_sent(line, batch)?;
@@ -84,10 +80,8 @@ fn tell_batch<W: CountedWrite>(
 fn tell_no_target<W: CountedWrite>(line: &mut Vec<u8>, writer: &mut W) -> Result<(), TellError>
     ensures done { OnOk result (Appends (W.contents writer.old) (W.contents writer.new)
         (refusal_line WorldError.NoTarget)) }
-    ensures write { result ≡ Err TellError.Write →
-        Rises (W.failed_calls writer.old) (W.failed_calls writer.new) }
-    ensures written { result ≢ Err TellError.Write →
-        W.failed_calls writer.new ≡ W.failed_calls writer.old }
+    ensures write { FailsWhere (result ≡ Err TellError.Write)
+        (W.failed_calls writer.old) (W.failed_calls writer.new) }
 {
     line.clear();
     put_refusal(line, WorldError::NoTarget)?;
@@ -105,10 +99,8 @@ fn answer_send<W: CountedWrite>(
     ensures done { (network : Network) (body : List ℕ) → OnOk result (Steps network
         (order.Send target) body replica.now replica.now
         (W.contents writer.old) (W.contents writer.new)) }
-    ensures write { result ≡ Err TellError.Write →
-        Rises (W.failed_calls writer.old) (W.failed_calls writer.new) }
-    ensures written { result ≢ Err TellError.Write →
-        W.failed_calls writer.new ≡ W.failed_calls writer.old }
+    ensures write { FailsWhere (result ≡ Err TellError.Write)
+        (W.failed_calls writer.old) (W.failed_calls writer.new) }
 {
     if replica.plan().parts() <= target {
         return tell_no_target(line, writer);
@@ -132,10 +124,8 @@ fn answer_deliver<W: CountedWrite>(
         (order.Deliver n) body.now session.old session.new
         (W.contents writer.old) (W.contents writer.new)) }
     ensures part { session.new.part ≡ session.old.part }
-    ensures write { result ≡ Err TellError.Write →
-        Rises (W.failed_calls writer.old) (W.failed_calls writer.new) }
-    ensures written { result ≢ Err TellError.Write →
-        W.failed_calls writer.new ≡ W.failed_calls writer.old }
+    ensures write { FailsWhere (result ≡ Err TellError.Write)
+        (W.failed_calls writer.old) (W.failed_calls writer.new) }
 {
     let reply = session.deliver(alloc, body)?;
     tell(reply, line, writer)
@@ -152,10 +142,8 @@ fn answer_close<W: CountedWrite, V: Watch>(
         order.Close body session.old session.new
         (W.contents writer.old) (W.contents writer.new)) }
     ensures part { session.new.part ≡ session.old.part }
-    ensures write { result ≡ Err TellError.Write →
-        Rises (W.failed_calls writer.old) (W.failed_calls writer.new) }
-    ensures written { result ≢ Err TellError.Write →
-        W.failed_calls writer.new ≡ W.failed_calls writer.old }
+    ensures write { FailsWhere (result ≡ Err TellError.Write)
+        (W.failed_calls writer.old) (W.failed_calls writer.new) }
 {
     let answer = session.close();
     show_close(session.replica(), answer, watch);
@@ -171,10 +159,8 @@ fn answer_keep<W: CountedWrite>(
     ensures done { (network : Network) (body : List ℕ) → OnOk result (Steps network
         order.Keep body replica.now replica.now
         (W.contents writer.old) (W.contents writer.new)) }
-    ensures write { result ≡ Err TellError.Write →
-        Rises (W.failed_calls writer.old) (W.failed_calls writer.new) }
-    ensures written { result ≢ Err TellError.Write →
-        W.failed_calls writer.new ≡ W.failed_calls writer.old }
+    ensures write { FailsWhere (result ≡ Err TellError.Write)
+        (W.failed_calls writer.old) (W.failed_calls writer.new) }
 {
     // the limits of a replica are told with its superstep, those of its figures with these
     let superstep = replica.superstep();
@@ -200,10 +186,8 @@ fn answer_restart<W: CountedWrite>(
         (order.Restart n) body.now session.old session.new
         (W.contents writer.old) (W.contents writer.new)) }
     ensures part { session.new.part ≡ session.old.part }
-    ensures write { result ≡ Err TellError.Write →
-        Rises (W.failed_calls writer.old) (W.failed_calls writer.new) }
-    ensures written { result ≢ Err TellError.Write →
-        W.failed_calls writer.new ≡ W.failed_calls writer.old }
+    ensures write { FailsWhere (result ≡ Err TellError.Write)
+        (W.failed_calls writer.old) (W.failed_calls writer.new) }
 {
     let reply = session.restart(alloc, body)?;
     tell(reply, line, writer)
@@ -221,10 +205,8 @@ fn answer_recover<W: CountedWrite>(
         (order.Recover n) body.now session.old session.new
         (W.contents writer.old) (W.contents writer.new)) }
     ensures part { session.new.part ≡ session.old.part }
-    ensures write { result ≡ Err TellError.Write →
-        Rises (W.failed_calls writer.old) (W.failed_calls writer.new) }
-    ensures written { result ≢ Err TellError.Write →
-        W.failed_calls writer.new ≡ W.failed_calls writer.old }
+    ensures write { FailsWhere (result ≡ Err TellError.Write)
+        (W.failed_calls writer.old) (W.failed_calls writer.new) }
 {
     let reply = session.recover(alloc, body)?;
     tell(reply, line, writer)
@@ -239,10 +221,8 @@ fn answer_totals<W: CountedWrite>(
     ensures done { (network : Network) (body : List ℕ) → OnOk result (Steps network
         order.Totals body replica.now replica.now
         (W.contents writer.old) (W.contents writer.new)) }
-    ensures write { result ≡ Err TellError.Write →
-        Rises (W.failed_calls writer.old) (W.failed_calls writer.new) }
-    ensures written { result ≢ Err TellError.Write →
-        W.failed_calls writer.new ≡ W.failed_calls writer.old }
+    ensures write { FailsWhere (result ≡ Err TellError.Write)
+        (W.failed_calls writer.old) (W.failed_calls writer.new) }
 {
     let text = totals_text(alloc, replica.sums())?;
     write_lines(writer, &text)
@@ -263,10 +243,8 @@ fn answer<W: CountedWrite, V: Watch>(
     ensures step { OnOk result (Steps graph.now command body.now session.old session.new
         (W.contents writer.old) (W.contents writer.new)) }
     ensures part { session.new.part ≡ session.old.part }
-    ensures write { result ≡ Err TellError.Write →
-        Rises (W.failed_calls writer.old) (W.failed_calls writer.new) }
-    ensures written { result ≢ Err TellError.Write →
-        W.failed_calls writer.new ≡ W.failed_calls writer.old }
+    ensures write { FailsWhere (result ≡ Err TellError.Write)
+        (W.failed_calls writer.old) (W.failed_calls writer.new) }
 {
     let replica = session.replica();
     match command {
@@ -303,10 +281,8 @@ fn read_command<R: CountedRead>(
     ensures none { IfOk result (λ o. IfNone o (IsAtEnd (R.remaining reader.new))) }
     ensures kept { IfOk result (λ o. IfNone o
         (Consumes (R.remaining reader.old) (R.remaining reader.new) [])) }
-    ensures read { result ≡ Err ServeError.Read →
-        Rises (R.failed_calls reader.old) (R.failed_calls reader.new) }
-    ensures counted { result ≢ Err ServeError.Read →
-        R.failed_calls reader.new ≡ R.failed_calls reader.old }
+    ensures read { FailsWhere (result ≡ Err ServeError.Read)
+        (R.failed_calls reader.old) (R.failed_calls reader.new) }
     ensures unwritten { result ≢ Err ServeError.Write }
     ensures stopped { IfErr result (λ e. IsNoRequest part.now number e
         (R.remaining reader.old) (R.remaining reader.new)) }
@@ -339,10 +315,8 @@ fn read_rest<R: CountedRead>(
     ensures consumed { OnOk result (
         Consumes (R.remaining reader.old) (R.remaining reader.new) body.new.items) }
     ensures length { OnOk result (length body.new.items ≡ body_length command) }
-    ensures read { result ≡ Err ServeError.Read →
-        Rises (R.failed_calls reader.old) (R.failed_calls reader.new) }
-    ensures counted { result ≢ Err ServeError.Read →
-        R.failed_calls reader.new ≡ R.failed_calls reader.old }
+    ensures read { FailsWhere (result ≡ Err ServeError.Read)
+        (R.failed_calls reader.old) (R.failed_calls reader.new) }
     ensures unwritten { result ≢ Err ServeError.Write }
     ensures cut { result ≡ Err (ServeError.Cut number) → CutsBody (body_length command)
         (R.remaining reader.old) (R.remaining reader.new) }
@@ -373,10 +347,8 @@ fn read_request<R: CountedRead>(
     ensures none { IfOk result (λ o. IfNone o (IsAtEnd (R.remaining reader.new))) }
     ensures kept { IfOk result (λ o. IfNone o
         (Consumes (R.remaining reader.old) (R.remaining reader.new) [])) }
-    ensures read { result ≡ Err ServeError.Read →
-        Rises (R.failed_calls reader.old) (R.failed_calls reader.new) }
-    ensures counted { result ≢ Err ServeError.Read →
-        R.failed_calls reader.new ≡ R.failed_calls reader.old }
+    ensures read { FailsWhere (result ≡ Err ServeError.Read)
+        (R.failed_calls reader.old) (R.failed_calls reader.new) }
     ensures unwritten { result ≢ Err ServeError.Write }
     ensures stopped { IfErr result (λ e. IsNoRequest part.now number e
         (R.remaining reader.old) (R.remaining reader.new)) }
@@ -391,10 +363,8 @@ fn read_request<R: CountedRead>(
 // Passes on what the writer holds back.
 fn flush<W: CountedWrite>(writer: &mut W) -> Result<(), TellError>
     ensures done { Keeps (W.contents writer.old) (W.contents writer.new) }
-    ensures write { result ≡ Err TellError.Write →
-        Rises (W.failed_calls writer.old) (W.failed_calls writer.new) }
-    ensures written { result ≢ Err TellError.Write →
-        W.failed_calls writer.new ≡ W.failed_calls writer.old }
+    ensures write { FailsWhere (result ≡ Err TellError.Write)
+        (W.failed_calls writer.old) (W.failed_calls writer.new) }
 {
     if writer.try_flush() {
         Ok(())
@@ -426,14 +396,10 @@ fn serve_one<R: CountedRead, W: CountedWrite, V: Watch>(
     ensures kept { IfErr result (λ e. (IsOfMachine e → ⊥) →
         Keeps (W.contents writer.old) (W.contents writer.new)) }
     ensures same { IfErr result (λ e. (IsOfMachine e → ⊥) → session.new ≡ session.old) }
-    ensures read { result ≡ Err ServeError.Read →
-        Rises (R.failed_calls reader.old) (R.failed_calls reader.new) }
-    ensures counted { result ≢ Err ServeError.Read →
-        R.failed_calls reader.new ≡ R.failed_calls reader.old }
-    ensures write { result ≡ Err ServeError.Write →
-        Rises (W.failed_calls writer.old) (W.failed_calls writer.new) }
-    ensures written { result ≢ Err ServeError.Write →
-        W.failed_calls writer.new ≡ W.failed_calls writer.old }
+    ensures read { FailsWhere (result ≡ Err ServeError.Read)
+        (R.failed_calls reader.old) (R.failed_calls reader.new) }
+    ensures write { FailsWhere (result ≡ Err ServeError.Write)
+        (W.failed_calls writer.old) (W.failed_calls writer.new) }
 {
     let mut line = Vec::new(alloc);
     let mut body = Vec::new(alloc);
@@ -532,14 +498,10 @@ fn serve_part<R: CountedRead, W: CountedWrite, V: Watch>(
     ensures same { (e : NoJob) → result ≡ Err (NodeError.Job e) →
         R.remaining reader.new ≡ R.remaining reader.old }
     ensures refused { (e : NoJob) → result ≡ Err (NodeError.Job e) → IsNoStart plan.now part e }
-    ensures read { result ≡ Err (NodeError.Serve ServeError.Read) →
-        Rises (R.failed_calls reader.old) (R.failed_calls reader.new) }
-    ensures counted { result ≢ Err (NodeError.Serve ServeError.Read) →
-        R.failed_calls reader.new ≡ R.failed_calls reader.old }
-    ensures write { result ≡ Err (NodeError.Serve ServeError.Write) →
-        Rises (W.failed_calls writer.old) (W.failed_calls writer.new) }
-    ensures written { result ≢ Err (NodeError.Serve ServeError.Write) →
-        W.failed_calls writer.new ≡ W.failed_calls writer.old }
+    ensures read { FailsWhere (result ≡ Err (NodeError.Serve ServeError.Read))
+        (R.failed_calls reader.old) (R.failed_calls reader.new) }
+    ensures write { FailsWhere (result ≡ Err (NodeError.Serve ServeError.Write))
+        (W.failed_calls writer.old) (W.failed_calls writer.new) }
 {
     let mut session = start(alloc, graph, plan, part)?;
     let served = serve_commands(alloc, graph, &mut session, watch, reader, writer);

@@ -20,7 +20,7 @@ loop-p-init g c =
 pub loop-p-preserved : goal.loop-p-preserved
 loop-p-preserved g c = record {
   read = c.in_ok-add_replica.ensures.read (g.R.Read.remaining c.args.reader.now) c.loop-p.invariant.read;
-  counted = c.in_ok-add_replica.ensures.counted (λ e. absurd (cc)) ∙ c.loop-p.invariant.counted;
+  counted = c.in_ok-add_replica.ensures.failed.none (λ e. absurd (cc)) ∙ c.loop-p.invariant.counted;
 }
 
 pub add_replica-requires-clause-below : goal.add_replica-requires-clause-below

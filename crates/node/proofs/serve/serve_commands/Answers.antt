@@ -23,8 +23,8 @@ loop-i-preserved g c =
           (g.W.Write.contents c.args.writer.now) (g.W.Write.contents c.loop-i.writer) (g.W.Write.contents c.serve_one.new.writer)
           refl c.loop-i.invariant.part c.loop-i.invariant.some (c.in_ok-more.ensures.served (ap Ok more));
       part = c.in_ok-more.ensures.part ∙ c.loop-i.invariant.part;
-      counted = c.in_ok-more.ensures.counted (λ e. absurd (cc)) ∙ c.loop-i.invariant.counted;
-      written = c.in_ok-more.ensures.written (λ e. absurd (cc)) ∙ c.loop-i.invariant.written;
+      counted = c.in_ok-more.ensures.read.none (λ e. absurd (cc)) ∙ c.loop-i.invariant.counted;
+      written = c.in_ok-more.ensures.write.none (λ e. absurd (cc)) ∙ c.loop-i.invariant.written;
     }
 
 pub returns-then-not-more-clause-ok : goal.returns-then-not-more-clause-ok

@@ -31,7 +31,7 @@ pub returns-clause-unread : goal.returns-clause-unread
 returns-clause-unread g c = λ is. absurd (c.serve_part-served.ensures.refused _ is)
 
 pub returns-clause-counted : goal.returns-clause-counted
-returns-clause-counted g c = λ other none. c.serve_part-served.ensures.counted other ∙ c.in_ok-graph.ensures.counted (λ e. absurd (cc))
+returns-clause-counted g c = λ other none. c.serve_part-served.ensures.read.none other ∙ c.in_ok-graph.ensures.counted (λ e. absurd (cc))
 
 pub returns-clause-wanting : goal.returns-clause-wanting
 returns-clause-wanting g c =

@@ -22,7 +22,7 @@ loop-i-preserved g c = record {
       of_next c.args.replica.now (g.W.Write.contents c.args.writer.now) (g.W.Write.contents c.loop-i.writer) (g.W.Write.contents c.tell_row.new.writer)
       (λ j h. row_text j h.superstep) (λ i. i * c.args.replica.now.part.plan.parts + c.args.replica.now.part.number) c.loop-i.i c.own_vertex.result
       c.own_vertex.ensures.value c.loop-i.invariant.done c.in_ok-tell_row.ensures.done;
-  written = c.in_ok-tell_row.ensures.written (λ e. absurd (cc)) ∙ c.loop-i.invariant.written;
+  written = c.in_ok-tell_row.ensures.write.none (λ e. absurd (cc)) ∙ c.loop-i.invariant.written;
 }
 
 pub returns-clause-done : goal.returns-clause-done
