@@ -1,11 +1,14 @@
 //! What no clause says: worked calls of boards, a full book, and threads at one board.
 
-ghost use Rattle.std.specs.Prelude.{◌≡◌, ◌≤◌, ◌^◌, IfSome, OnSome};
+ghost use Rattle.std.specs.Prelude.{◌≡◌, ◌-◌, ◌≤◌, ◌^◌, ℕ, IfSome};
 ghost use Rattle.std.specs.List.{All};
 ghost use Rattle.std.specs.Arc.{arc_value};
+ghost use Rattle.ball_model.specs.Job.{Job, IsJob, job_of};
 ghost use Rattle.ball_model.specs.Batches.{IsTrueBatch};
 ghost use Rattle.ball_model.specs.State.{Stands};
+ghost use Rattle.board.specs.Rule.{least_room, share};
 ghost use Rattle.board.specs.Scene.{IsSeated};
+ghost use Rattle.board.specs.Seats.{BoardView};
 
 mod calls;
 mod opened;
@@ -13,32 +16,20 @@ mod seats;
 mod threads;
 
 use super::*;
-use ball_model::{BatchName, CountingReader, Kept, Plan, Posted};
+use ball_model::{CountingReader, Kept, Plan, Posted};
 use batches::Batch;
 use edgelist::{Delimiter, EdgeLimits, Graph, read_edges};
 use replica::{Replica, Shown, Snapshot};
-use std::alloc::Global;
+use std::alloc::{AllocGlobal, Global};
 use std::hash::RandomState;
 use std::marker::Model;
 use std::random::RandomSource;
 use std::sync::{Arc, Wait};
+use std::test::Fail;
 use std::thread;
 use std::thread::Threads;
 
-const TWO_EDGES: &[u8] = b"a\tb\nb\tc\n";
-
-/// The graph of an edge list with tabs.
-fn graph_of<R: RandomSource>(rt: &R, alloc: Global, text: &[u8]) -> Option<Graph> {
-    let limits = EdgeLimits {
-        vertices: 100,
-        edges: 100,
-    };
-    let state = RandomState::new(rt).ok()?;
-    let mut reader = CountingReader::new(text);
-    read_edges(alloc, state, &mut reader, Delimiter::Tab, limits).ok()
-}
-
-/// The graph of the two edges, and a plan: a job.
+/// A graph, and a plan: a job.
 #[derive(Drop)]
 struct Setting {
     graph: Graph,
@@ -46,8 +37,6 @@ struct Setting {
 }
 
 impl Model for Setting {
-    ghost use Rattle.ball_model.specs.Job.{Job, IsJob, job_of};
-
     ghost Value = { Job };
 
     ghost view = { λ s. job_of s.graph.graph s.plan };
@@ -55,15 +44,22 @@ impl Model for Setting {
     ghost invariant = { λ s. IsJob (job_of s.graph.graph s.plan) };
 }
 
-/// One of so many partitions.
-fn setting_of<R: RandomSource>(rt: &R, alloc: Global, parts: u16) -> Option<Setting> {
-    let graph = graph_of(rt, alloc, TWO_EDGES)?;
+/// The two edges in so many partitions. Of two, a and c are in the first, and b in the second.
+fn two_edges<R: AllocGlobal + RandomSource>(rt: &R, parts: u16) -> Option<Setting> {
+    let limits = EdgeLimits {
+        vertices: 100,
+        edges: 100,
+    };
+    let edges: &[u8] = b"a\tb\nb\tc\n";
+    let state = RandomState::new(rt).ok()?;
+    let mut reader = CountingReader::new(edges);
+    let graph = read_edges(rt.alloc(), state, &mut reader, Delimiter::Tab, limits).ok()?;
     let plan = graph.plan(4, 0, parts, 4096).ok()?;
     Some(Setting { graph, plan })
 }
 
 /// A value that may be shared.
-fn share<T: Drop>(alloc: Global, value: T) -> Option<Arc<T>>
+fn shared<T: Drop>(alloc: Global, value: T) -> Option<Arc<T>>
     ensures { IfSome result (λ a. arc_value a ≡ value) }
 {
     Arc::new(alloc, value).ok()
@@ -86,7 +82,7 @@ fn replica(alloc: Global, setting: &Setting, p: u16) -> Option<Box<Replica>>
     let Ok(part) = setting.graph.part(alloc, &setting.plan, p) else {
         return None;
     };
-    let shared = share(alloc, part)?;
+    let shared = shared(alloc, part)?;
     let Ok(replica) = Replica::new(alloc, shared) else {
         return None;
     };
@@ -104,277 +100,231 @@ fn told(alloc: Global, setting: &Setting, from: &Replica, target: u16) -> Option
     let Ok(batch) = from.out(alloc, target) else {
         return None;
     };
-    share(alloc, batch)
+    shared(alloc, batch)
 }
 
 /// What a replica has.
 fn snapshot_of(alloc: Global, setting: &Setting, from: &mut Replica) -> Option<Arc<Snapshot>>
     requires { Stands setting.now from.old }
-    ensures { IfSome result (λ a. Stands setting.now (arc_value a)) }
+    ensures snapshot { IfSome result (λ a. Stands setting.now (arc_value a)) }
+    ensures replica { Stands setting.now from.new }
 {
     let Ok(snapshot) = from.snapshot(alloc) else {
         return None;
     };
-    share(alloc, snapshot)
+    shared(alloc, snapshot)
 }
 
-/// Adds what a replica tells a partition.
-fn add_batch(
+/// A replica holds what another one tells it, and that is added to the batches.
+fn tell(
     alloc: Global,
     setting: &Setting,
     from: &Replica,
-    target: u16,
+    to: &mut Replica,
     batches: &mut Vec<Arc<Batch>>,
 ) -> Option<()>
     requires from { Stands setting.now from.now }
+    requires to { Stands setting.now to.old }
     requires batches { All (λ a. IsTrueBatch setting.now (arc_value a)) batches.old.items }
-    ensures { OnSome result (All (λ a. IsTrueBatch setting.now (arc_value a)) batches.new.items) }
+    ensures to { Stands setting.now to.new }
+    ensures batches { All (λ a. IsTrueBatch setting.now (arc_value a)) batches.new.items }
 {
-    let batch = told(alloc, setting, from, target)?;
-    let Ok(()) = batches.push(batch) else {
+    let batch = told(alloc, setting, from, to.partition())?;
+    let Ok(copy) = Arc::try_clone(&batch) else {
         return None;
     };
-    Some(())
+    let _ = to.take(copy);
+    batches.push(batch).ok()
 }
 
-/// Adds what it tells each of four partitions.
-fn add_batches(
-    alloc: Global,
-    setting: &Setting,
-    from: &Replica,
-    batches: &mut Vec<Arc<Batch>>,
-) -> Option<()>
-    requires from { Stands setting.now from.now }
-    requires batches { All (λ a. IsTrueBatch setting.now (arc_value a)) batches.old.items }
-    ensures { OnSome result (All (λ a. IsTrueBatch setting.now (arc_value a)) batches.new.items) }
+/// A replica goes on to the next superstep, or stays where the run ends.
+fn go_on(setting: &Setting, replica: &mut Replica)
+    requires { Stands setting.now replica.old }
+    ensures { Stands setting.now replica.new }
 {
-    for target in 1..5u16 {
-        add_batch(alloc, setting, from, target, batches)?;
-    }
-    Some(())
+    let _ = replica.close();
 }
 
-/// A job, and what seats post and keep: what partition 0 tells and is told, and what it has.
+/// Two replicas, what they told each other, and what the first had before.
 #[derive(Drop)]
 struct Stock {
     setting: Setting,
-    ours: Vec<Arc<Batch>>,
-    theirs: Vec<Arc<Batch>>,
+    first: Box<Replica>,
+    second: Box<Replica>,
     snapshot: Arc<Snapshot>,
+    batches: Vec<Arc<Batch>>,
 }
 
 impl Model for Stock {
-    ghost use Rattle.std.specs.List.{All};
-    ghost use Rattle.std.specs.Arc.{arc_value};
-    ghost use Rattle.ball_model.specs.Job.{Job};
-    ghost use Rattle.ball_model.specs.Batches.{IsTrueBatch};
-    ghost use Rattle.ball_model.specs.State.{Stands};
-
     ghost Value = { Job };
 
     ghost view = { λ s. s.setting };
 
-    ghost invariant = { λ s. All (λ a. IsTrueBatch s.setting (arc_value a)) s.ours.items
-        × All (λ a. IsTrueBatch s.setting (arc_value a)) s.theirs.items
-        × Stands s.setting (arc_value s.snapshot) };
+    ghost invariant = { λ s. Stands s.setting s.first.value
+        × Stands s.setting s.second.value
+        × Stands s.setting (arc_value s.snapshot)
+        × All (λ a. IsTrueBatch s.setting (arc_value a)) s.batches.items };
 }
 
-/// What partition 0 tells four others of superstep 0, and has then. It is told nothing.
-fn stock_of_five(alloc: Global, setting: Setting) -> Option<Stock> {
-    let mut first = replica(alloc, &setting, 0)?;
-    let mut ours = Vec::new(alloc);
-    add_batches(alloc, &setting, &first, &mut ours)?;
-    let snapshot = snapshot_of(alloc, &setting, &mut first)?;
-    Some(Stock {
-        setting,
-        ours,
-        theirs: Vec::new(alloc),
-        snapshot,
-    })
+impl Stock {
+    /// Both at superstep 0, where they told each other nothing yet.
+    fn start(alloc: Global, setting: Setting) -> Option<Stock> {
+        let mut first = replica(alloc, &setting, 0)?;
+        let second = replica(alloc, &setting, 1)?;
+        let snapshot = snapshot_of(alloc, &setting, &mut first)?;
+        Some(Stock {
+            setting,
+            first,
+            second,
+            snapshot,
+            batches: Vec::new(alloc),
+        })
+    }
+
+    /// Both tell each other of their superstep, and go on.
+    fn go_on(&mut self, alloc: Global) -> Option<()> {
+        let (setting, batches) = (&self.setting, &mut self.batches);
+        tell(alloc, setting, &self.first, &mut self.second, batches)?;
+        tell(alloc, setting, &self.second, &mut self.first, batches)?;
+        go_on(setting, &mut self.first);
+        go_on(setting, &mut self.second);
+        Some(())
+    }
+
+    /// Behind four supersteps, which is where the run ends: eight batches.
+    fn new<R: AllocGlobal + RandomSource>(rt: &R) -> Option<Stock> {
+        let mut stock = Stock::start(rt.alloc(), two_edges(rt, 2)?)?;
+        for _ in 0..4u8 {
+            stock.go_on(rt.alloc())?;
+        }
+        Some(stock)
+    }
 }
 
-/// A board of a job, what its seats post and keep, and the floor that they raise.
+/// A board, and what is posted and kept there.
 #[derive(Drop)]
 struct Scene {
     stock: Stock,
     board: Board,
-    floor: u32,
-}
-
-impl Model for Scene {
-    ghost use Rattle.board.specs.Scene.{SceneView};
-
-    ghost Value = { SceneView };
-
-    ghost view = { λ s. record { job = s.stock; board = s.board } };
 }
 
 impl Scene {
-    /// One with a new board of so many entries, and its first seat.
-    fn open(alloc: Global, stock: Stock, entries: u32, floor: u32) -> Option<(Scene, Seat)>
+    /// One of a new board of so many entries, and its first seat: None where memory was refused.
+    fn open<R: AllocGlobal + RandomSource>(rt: &R, entries: u32) -> Option<(Scene, Seat)>
         requires { (2 ≤ entries) × (entries ≤ 2 ^ 24) }
-        ensures seat { IfSome result (λ r. IsSeated r.0 r.1) }
+        ensures seat { IfSome result (λ r.
+            IsSeated (record { job = r.0.stock; board = r.0.board }) r.1) }
         ensures room { IfSome result (λ r. r.1.room ≡ 2 ^ 63) }
     {
-        let setting = &stock.setting;
-        let (board, seat) = Board::open(alloc, &setting.graph, &setting.plan, entries).ok()?;
-        let scene = Scene {
-            stock,
-            board,
-            floor,
-        };
-        Some((scene, seat))
+        let stock = Stock::new(rt)?;
+        let Setting { graph, plan } = &stock.setting;
+        let (board, seat) = Board::open(rt.alloc(), graph, plan, entries).ok()?;
+        Some((Scene { stock, board }, seat))
     }
+}
 
-    fn board(&self) -> &Board
-        ensures { result.now ≡ self.now.board }
-    {
-        &self.board
-    }
+/// A call of a board about a batch or the snapshot, with what it is answered; a fetch or a recall, with whether it finds
+/// any.
+#[derive(Clone, Copy)]
+enum Step {
+    Post(Posted),
+    Fetch(bool),
+    Keep(Kept),
+    Recall(u32, bool),
+    Drop(u32),
+}
 
-    fn ours(&self) -> &[Arc<Batch>]
-        ensures { All (λ a. IsTrueBatch self.now.job (arc_value a)) result.now }
-    {
-        &self.stock.ours
-    }
+/// One who calls a board with what a scene has.
+#[derive(Drop)]
+struct User<'a> {
+    at: &'a Scene,
+    seat: Seat,
+}
 
-    fn theirs(&self) -> &[Arc<Batch>]
-        ensures { All (λ a. IsTrueBatch self.now.job (arc_value a)) result.now }
-    {
-        &self.stock.theirs
-    }
+impl<'a> Model for User<'a> {
+    ghost Value = { BoardView × ℕ };
 
-    fn snapshot(&self) -> &Arc<Snapshot>
-        ensures { Stands self.now.job (arc_value result.now) }
-    {
-        &self.stock.snapshot
-    }
+    ghost view = { λ u. (u.at.now.board, u.seat.room) };
 
+    ghost invariant = { λ u.
+        IsSeated (record { job = u.at.now.stock; board = u.at.now.board }) u.seat };
+}
+
+impl<'a> User<'a> {
     /// How many entries there are.
-    fn length(&self, seat: &mut Seat) -> u64
-        requires { IsSeated self.now seat.old }
-        ensures seat { IsSeated self.now seat.new }
-        ensures room { seat.new.room ≡ seat.old.room }
+    fn length(&mut self) -> u64
+        ensures { self.new ≡ self.old }
     {
-        self.board().length(seat)
+        self.at.board.length(&mut self.seat)
     }
 
-    /// A seat posts a batch, and has it still.
-    fn post<R: Wait>(
-        &self,
-        rt: &R,
-        seat: &mut Seat,
-        batch: &Arc<Batch>,
-    ) -> Result<Posted, BoardError>
-        requires seat { IsSeated self.now seat.old }
-        requires batch { IsTrueBatch self.now.job (arc_value batch.now) }
-        ensures { IsSeated self.now seat.new }
+    /// Another one at the board.
+    fn split(&mut self) -> User<'a>
+        requires { least_room ≤ self.old.1 }
+        ensures board { (self.new.0 ≡ self.old.0) × (result.0 ≡ self.old.0) }
+        ensures left { self.new.1 ≡ self.old.1 - share self.old.1 }
+        ensures room { result.1 ≡ share self.old.1 }
     {
-        let Ok(copy) = Arc::try_clone(batch) else {
-            return Err(BoardError::Memory);
+        let seat = self.seat.split(&self.at.board);
+        User { at: self.at, seat }
+    }
+
+    /// This one has then seen what both have, and the other one ends.
+    fn join(&mut self, ended: User<'a>)
+        requires { ended.0 ≡ self.old.0 }
+        ensures { self.new ≡ self.old }
+    {
+        self.at.board.join(&mut self.seat, ended.seat);
+    }
+
+    /// Whether a call about the batch at a place is answered so: of eight round and round, four that the first tells, then
+    /// four that the second tells.
+    fn is_answered<R: Wait>(&mut self, rt: &R, at: usize, step: Step) -> Result<bool, BoardError>
+        ensures { self.new ≡ self.old }
+    {
+        let (stock, board, seat) = (&self.at.stock, &self.at.board, &mut self.seat);
+        let Some(batch) = stock.batches.get((at << 1 & 6) | (at >> 2 & 1)) else {
+            return Ok(false);
         };
-        self.board().post(rt, seat, copy)
-    }
-
-    /// A seat keeps the snapshot, and has it still.
-    fn keep<R: Wait>(&self, rt: &R, seat: &mut Seat) -> Result<Kept, BoardError>
-        requires { IsSeated self.now seat.old }
-        ensures { IsSeated self.now seat.new }
-    {
-        let Ok(copy) = Arc::try_clone(self.snapshot()) else {
-            return Err(BoardError::Memory);
-        };
-        self.board().keep(rt, seat, copy)
-    }
-
-    /// Whether a batch of this name is fetched.
-    fn fetches<R: Wait>(&self, rt: &R, seat: &mut Seat, name: BatchName) -> Result<bool, BoardError>
-        requires { IsSeated self.now seat.old }
-        ensures seat { IsSeated self.now seat.new }
-        ensures room { seat.new.room ≡ seat.old.room }
-    {
-        match self.board().fetch(rt, seat, name) {
-            Ok(Some(batch)) => Ok(batch.name() == name),
-            Ok(None) => Ok(false),
-            Err(e) => Err(e),
+        match step {
+            Step::Post(wanted) => {
+                let copy = Arc::try_clone(batch)?;
+                Ok(board.post(rt, seat, copy)? == wanted)
+            }
+            Step::Fetch(stands) => {
+                let found = board.fetch(rt, seat, batch.name())?;
+                Ok(matches!(found, Some(found) if found.name() == batch.name()) == stands)
+            }
+            Step::Keep(wanted) => {
+                let copy = Arc::try_clone(&stock.snapshot)?;
+                Ok(board.keep(rt, seat, copy)? == wanted)
+            }
+            Step::Recall(at_least, kept) => {
+                let found = board.recall(rt, seat, 0, at_least)?;
+                Ok(matches!(found, Some(found) if found.superstep() >= at_least) == kept)
+            }
+            Step::Drop(superstep) => board.drop_below(rt, seat, superstep).and(Ok(true)),
         }
     }
 
-    /// Whether a snapshot of partition 0 is recalled that is so far.
-    fn recalls<R: Wait>(&self, rt: &R, seat: &mut Seat, at_least: u32) -> Result<bool, BoardError>
-        requires { IsSeated self.now seat.old }
-        ensures { IsSeated self.now seat.new }
+    /// About how many batches of these places the call is answered so.
+    fn count<R: Wait>(&mut self, rt: &R, step: Step, from: usize, to: usize) -> u64
+        ensures { self.new ≡ self.old }
     {
-        match self.board().recall(rt, seat, 0, at_least) {
-            Ok(Some(snapshot)) => Ok(snapshot.superstep() >= at_least),
-            Ok(None) => Ok(false),
-            Err(e) => Err(e),
-        }
-    }
-
-    /// A seat raises the floor.
-    fn drop_below<R: Wait>(&self, rt: &R, seat: &mut Seat, superstep: u32) -> Result<(), BoardError>
-        requires { IsSeated self.now seat.old }
-        ensures { IsSeated self.now seat.new }
-    {
-        self.board().drop_below(rt, seat, superstep)
-    }
-
-    /// How many of the batches are New when a seat posts them.
-    fn post_all<R: Wait>(&self, rt: &R, seat: &mut Seat, batches: &[Arc<Batch>]) -> usize
-        requires seat { IsSeated self.now seat.old }
-        requires batches { All (λ a. IsTrueBatch self.now.job (arc_value a)) batches.now }
-        ensures { IsSeated self.now seat.new }
-    {
-        let mut news = 0usize;
-        for batch in batches {
-            if self.post(rt, seat, batch) == Ok(Posted::New) {
-                news = news.saturating_add(1);
+        let mut right = 0u64;
+        for at in from..to {
+            if self.is_answered(rt, at, step) == Ok(true) {
+                right = right.saturating_add(1);
             }
         }
-        news
+        right
     }
-
-    /// How many of the batches a seat finds.
-    fn find_all<R: Wait>(&self, rt: &R, seat: &mut Seat, batches: &[Arc<Batch>]) -> usize
-        requires { IsSeated self.now seat.old }
-        ensures { IsSeated self.now seat.new }
-    {
-        let mut found = 0usize;
-        for batch in batches {
-            if self.fetches(rt, seat, batch.name()) == Ok(true) {
-                found = found.saturating_add(1);
-            }
-        }
-        found
-    }
-}
-
-/// A scene of five partitions with a board of so many entries: None where memory was refused.
-fn scene_of_five<R: RandomSource>(
-    rt: &R,
-    alloc: Global,
-    entries: u32,
-    floor: u32,
-) -> Option<(Scene, Seat)>
-    requires { (2 ≤ entries) × (entries ≤ 2 ^ 24) }
-    ensures seat { IfSome result (λ r. IsSeated r.0 r.1) }
-    ensures room { IfSome result (λ r. r.1.room ≡ 2 ^ 63) }
-{
-    let setting = setting_of(rt, alloc, 5)?;
-    let stock = stock_of_five(alloc, setting)?;
-    Scene::open(alloc, stock, entries, floor)
-}
-
-/// Whether an error has this text: None where memory was refused.
-fn has_text(alloc: Global, error: BoardError, wanted: &str) -> Option<bool> {
-    let text = format!(in alloc; "{error}").ok()?;
-    Some(text.as_str() == wanted)
 }
 
 #[test]
-fn errors_have_texts(rt: HostRuntime) {
-    let full = has_text(rt.alloc(), BoardError::BookFull, "the book is full");
-    let memory = has_text(rt.alloc(), BoardError::Memory, "out of memory");
-    assert!(rt; full == Some(true) && memory == Some(true));
+fn errors_have_texts(rt: HostRuntime) -> Result<(), Fail> {
+    let (full, memory) = (BoardError::BookFull, BoardError::Memory);
+    let texts = format!(in rt.alloc(); "{full}, {memory}")?;
+    assert_eq!(rt; texts.as_str(), "the book is full, out of memory");
+    Ok(())
 }

@@ -4,18 +4,13 @@
 use super::*;
 
 /// The length of a new board: None where memory is refused.
-fn opened(alloc: Global, setting: &Setting) -> Option<u64> {
-    let (board, mut seat) = Board::open(alloc, &setting.graph, &setting.plan, 8).ok()?;
+fn opened(rt: &HostRuntime) -> Option<u64> {
+    let Setting { graph, plan } = two_edges(rt, 5)?;
+    let (board, mut seat) = Board::open(rt.alloc(), &graph, &plan, 8).ok()?;
     Some(board.length(&mut seat))
-}
-
-/// The same of one for the job.
-fn opened_there(rt: &HostRuntime) -> Option<u64> {
-    let setting = setting_of(rt, rt.alloc(), 5)?;
-    opened(rt.alloc(), &setting)
 }
 
 #[test]
 fn boards_whose_memory_is_refused(rt: HostRuntime) {
-    assert!(rt; opened_there(&rt).or(opened_there(&rt)) == Some(1));
+    assert!(rt; opened(&rt).or(opened(&rt)) == Some(1));
 }

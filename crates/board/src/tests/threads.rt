@@ -1,7 +1,6 @@
 //! Threads at one board.
 
 ghost use Rattle.std.specs.Prelude.{◌≡◌, ◌*◌, ◌≤◌, ◌^◌};
-ghost use Rattle.board.specs.Scene.{IsSeated};
 
 use super::*;
 
@@ -27,113 +26,72 @@ impl Done {
     }
 }
 
-/// A seat posts all batches, fetches those that it finds, keeps the snapshot and recalls one.
-fn post_and_keep<R: Wait>(rt: &R, scene: &Scene, seat: &mut Seat) -> Done
-    requires { IsSeated scene.now seat.old }
-    ensures { IsSeated scene.now seat.new }
-{
-    let news = scene.post_all(rt, seat, scene.ours());
-    let found = scene.find_all(rt, seat, scene.ours());
-    let kept = scene.keep(rt, seat) == Ok(Kept::New);
-    let right = scene.recalls(rt, seat, 0) == Ok(true);
+/// One posts all batches, fetches those that it finds, keeps the snapshot, recalls one and raises the floor. Then it
+/// fetches all batches that it finds and posts all: below the floor none is found, else each is, and none is New.
+fn work<R: Wait>(rt: &R, user: &mut User<'_>, floor: u32) -> Done {
+    let before = user.length();
+    let news = user.count(rt, Step::Post(Posted::New), 0, 8);
+    let found = user.count(rt, Step::Fetch(true), 0, 8);
+    let kept = user.count(rt, Step::Keep(Kept::New), 0, 1);
+    let recalled = user.count(rt, Step::Recall(0, true), 0, 1);
+    let dropped = user.count(rt, Step::Drop(floor), 0, 1);
+    let left = user.count(rt, Step::Fetch(true), 0, 8);
+    let late = user.count(rt, Step::Post(Posted::New), 0, 8);
+    let entries = found.wrapping_add(left).wrapping_add(19);
+    let wanted = if floor > 0 { 0 } else { 8 };
+    let right = recalled == 1 && dropped == 1 && left == wanted && late == 0;
     Done {
-        news: news as u64,
-        kept: u64::from(kept),
-        entries: (found as u64).wrapping_add(6),
-        right,
+        news,
+        kept,
+        entries,
+        right: right && before.wrapping_add(entries) <= user.length(),
     }
 }
 
-/// A seat raises the floor, and then fetches all batches that it finds and posts all: above them none is found, else each
-/// is, and none is New. The number is that of the entries.
-fn leaves_none<R: Wait>(rt: &R, scene: &Scene, seat: &mut Seat) -> (bool, u64)
-    requires { IsSeated scene.now seat.old }
-    ensures { IsSeated scene.now seat.new }
-{
-    let dropped = scene.drop_below(rt, seat, scene.floor) == Ok(());
-    let found = scene.find_all(rt, seat, scene.ours());
-    let late = scene.post_all(rt, seat, scene.ours());
-    let wanted = if scene.floor > 0 { 0 } else { 4 };
-    (
-        dropped && found == wanted && late == 0,
-        (found as u64).wrapping_add(5),
-    )
-}
-
-/// A seat does both.
-fn work<R: Wait>(rt: &R, scene: &Scene, mut seat: Seat) -> Done
-    requires { IsSeated scene.now seat }
-{
-    let before = scene.length(&mut seat);
-    let mut done = post_and_keep(rt, scene, &mut seat);
-    let (right, more) = leaves_none(rt, scene, &mut seat);
-    done.entries = done.entries.wrapping_add(more);
-    done.right &= right && before.wrapping_add(done.entries) <= scene.length(&mut seat);
-    done
-}
-
-/// A thread for a seat of its own, and so for each of so many others; this seat works in the last one.
-fn crowd<R: Threads + Wait + Sync>(rt: &R, scene: &Scene, mut seat: Seat, others: u8) -> Done
-    requires seat { IsSeated scene.now seat }
-    requires room { (seat.room ≤ 2 ^ 63) × (others * 2 ^ 53 ≤ seat.room) }
+/// One does so in a thread, and so does each of so many others; this one in the last thread.
+fn crowd<R: Threads + Wait + Sync>(rt: &R, mut user: User<'_>, others: u8, floor: u32) -> Done
+    requires { (user.1 ≤ 2 ^ 63) × (others * 2 ^ 53 ≤ user.1) }
 {
     if others == 0 {
-        return work(rt, scene, seat);
+        return work(rt, &mut user, floor);
     }
-    let other = seat.split(scene.board());
+    let mut other = user.split();
     let fewer = others - 1;
     let (one, rest) = thread::join(
         rt,
+        || work(rt, &mut other, floor),
         || -> Done
-            requires { IsSeated scene.now other }
-        { work(rt, scene, other) },
-        || -> Done
-            requires seat { IsSeated scene.now seat }
-            requires room { (seat.room ≤ 2 ^ 63) × (fewer * 2 ^ 53 ≤ seat.room) }
-        { crowd(rt, scene, seat, fewer) },
+            requires { (user.1 ≤ 2 ^ 63) × (fewer * 2 ^ 53 ≤ user.1) }
+        { crowd(rt, user, fewer, floor) },
     );
     one.and(rest)
 }
 
-/// Whether a crowd at a new board did right: each name and the snapshot is New once, and each call that adds an entry is
-/// one.
-fn is_right_crowd<R: Threads + Wait + Sync>(
-    rt: &R,
-    scene: &Scene,
-    mut seat: Seat,
-    others: u8,
-) -> bool
-    requires seat { IsSeated scene.now seat }
-    requires room { seat.room ≡ 2 ^ 63 }
+/// Whether so many threads and one more at a new board do right: each name and the snapshot is New once, and each call
+/// that adds an entry is one. None where memory was refused.
+fn is_right_crowd<R>(rt: &R, others: u8, floor: u32) -> Option<bool>
+where
+    R: AllocGlobal + RandomSource + Threads + Wait + Sync,
 {
-    let mut last = seat.split(scene.board());
-    let done = crowd(rt, scene, seat, others);
-    let once = done.news == 4 && done.kept == 1;
-    done.right && once && scene.length(&mut last) == done.entries.wrapping_add(1)
-}
-
-/// Whether so many threads and one more do right: None where memory was refused.
-fn is_right_of<R: RandomSource + Threads + Wait + Sync>(
-    rt: &R,
-    alloc: Global,
-    others: u8,
-    floor: u32,
-) -> Option<bool> {
-    let (scene, seat) = scene_of_five(rt, alloc, 10_000, floor)?;
-    Some(is_right_crowd(rt, &scene, seat, others))
+    let (scene, seat) = Scene::open(rt, 10_000)?;
+    let mut user = User { at: &scene, seat };
+    let mut last = user.split();
+    let done = crowd(rt, user, others, floor);
+    let once = done.news == 8 && done.kept == 1;
+    Some(done.right && once && last.length() == done.entries.wrapping_add(1))
 }
 
 /// Nothing is dropped, so each finds all that stands.
 #[test]
 fn two_threads_post(rt: HostRuntime) {
-    assert!(rt; is_right_of(&rt, rt.alloc(), 1, 0) == Some(true));
+    assert!(rt; is_right_crowd(&rt, 1, 0) == Some(true));
 }
 
 #[test]
 fn threads_at_one_board(rt: HostRuntime) {
     let mut right = true;
     for others in [3, 7, 15u8] {
-        right &= is_right_of(&rt, rt.alloc(), others, 4) == Some(true);
+        right &= is_right_crowd(&rt, others, 4) == Some(true);
     }
     assert!(rt; right);
 }

@@ -4,7 +4,7 @@ use Rattle.ball_model.specs.Job.{Job}
 use Rattle.ball_model.specs.State.{Stands}
 use Rattle.board.proofs.tests.snapshot_of.Goals as goal
 
-pub returns : goal.returns
-returns c =
+pub returns-clause-snapshot : goal.returns-clause-snapshot
+returns-clause-snapshot c =
     let j : Job = c.args.setting.now in
-    IfSome_then c.share.result c.share.ensures (λ a same. subst (Stands j) (sym (same ∙ c.in-Ok.ensures.same)) c.requires)
+    IfSome_then c.shared.result c.shared.ensures (λ a same. subst (Stands j) (sym (same ∙ c.in-Ok.ensures.same)) c.requires)

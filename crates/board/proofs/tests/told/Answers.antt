@@ -8,4 +8,4 @@ use Rattle.board.proofs.tests.told.Goals as goal
 pub returns : goal.returns
 returns c =
     let j : Job = c.args.setting.now in
-    IfSome_then c.share.result c.share.ensures (λ a same. subst (λ (b : BatchValue). b ≡ true_batch j b.name) (sym same) (true_named j _ _ (c.in-Ok.ensures.stands j _ _ c.requires)))
+    IfSome_then c.shared.result c.shared.ensures (λ a same. subst (λ (b : BatchValue). b ≡ true_batch j b.name) (sym same) (true_named j _ _ (c.in-Ok.ensures.stands j _ _ c.requires)))

@@ -1,5 +1,5 @@
-use Rattle.board.specs.Scene.{IsSeated}
+use Rattle.std.proofs.Common.{◌≡◌}
 use Rattle.board.proofs.tests.calls.are_answered.Given as goal
 
 abbrev pub invariant-loop-step : goal.invariant-loop-step
-invariant-loop-step g l = IsSeated l.scene l.seat
+invariant-loop-step g l = l.user ≡ l.fn.user

@@ -1,6 +1,6 @@
 use Rattle.ball_model.specs.Job.{Job}
 use Rattle.board.proofs.TestLemmas.{stands_on}
-use Rattle.board.proofs.tests.seats.go_on.Goals as goal
+use Rattle.board.proofs.tests.go_on.Goals as goal
 
 pub returns : goal.returns
 returns c =

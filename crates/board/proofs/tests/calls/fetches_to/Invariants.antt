@@ -1,5 +1,0 @@
-use Rattle.board.specs.Scene.{IsSeated}
-use Rattle.board.proofs.tests.calls.fetches_to.Given as goal
-
-abbrev pub invariant-loop-batch : goal.invariant-loop-batch
-invariant-loop-batch g l = IsSeated l.scene l.seat
