@@ -56,7 +56,7 @@ none_below p a (suc n) v lt = elim (cases_Bool (p a)) [
 ]
 
 -- a number of a range is kept exactly where it passes
-is_kept : (p : ℕ → Bool) (a n v : ℕ) → a ≤ v → v < a + n → list_any (λ k. k == v) (filter p (range_with_len a n)) ≡ p v
+pub is_kept : (p : ℕ → Bool) (a n v : ℕ) → a ≤ v → v < a + n → list_any (λ k. k == v) (filter p (range_with_len a n)) ≡ p v
 is_kept p a zero v low below = absurd (omega arith)
 is_kept p a (suc n) v low below = elim (cases_eq a v) [
   | inl here ↦ elim (cases_Bool (p a)) [

@@ -8,7 +8,7 @@ use Rattle.ball_model.specs.declared.history.Posted.TheVariants as posted
 use Rattle.ball_model.specs.declared.history.Kept.{Kept}
 use Rattle.ball_model.specs.declared.history.Kept.TheVariants as kept
 use Rattle.ball_model.specs.Join.{Holding}
-use Rattle.ball_model.specs.History.{Event, Post, Fetch, Keep, Recall, Drop, Entry, History, with_entry, Begins, events_by, calls_by, same_name, Object, empty, is_further, keep_reply, is_kept_from, is_new_post, is_new_keep, after, after_all, board_of, IsAnswer, AreAnswers, IsLegal, SparesName, entry, StandingIsPosted, PostedStands, KeptNeverGoesBack, FloorNeverGoesDown, NothingBelowFloor, BeginningIsLegal, LastIsAnswer}
+use Rattle.ball_model.specs.History.{HistoryEvent, Post, Fetch, Keep, Recall, Drop, Entry, History, with_entry, Begins, events_by, calls_by, same_name, Object, empty, is_further, keep_reply, is_kept_from, is_new_post, is_new_keep, after, after_all, board_of, IsAnswer, AreAnswers, IsLegal, SparesName, entry, StandingIsPosted, PostedStands, KeptNeverGoesBack, FloorNeverGoesDown, NothingBelowFloor, BeginningIsLegal, LastIsAnswer}
 
 -- ---- names
 pub same_name-true : (a b : BatchName) → same_name a b ≡ true → a ≡ b
@@ -60,7 +60,7 @@ later_board : (h k : History) (b : Begins h k) → board_of k ≡ after_all (boa
 later_board h k b = ap (after_all empty) (sym b.calls.1) ∙ after_all-append empty h.calls b.calls.0
 
 -- ---- the floor
-floor_after : (o : Object) (e : Event) → o.floor ≤ (after o e).floor
+floor_after : (o : Object) (e : HistoryEvent) → o.floor ≤ (after o e).floor
 floor_after o (Post n r) = omega arith
 floor_after o (Fetch n) = omega arith
 floor_after o (Keep c r) = omega arith
@@ -100,7 +100,7 @@ kept_put o c r p s e k = go (is_new_keep r && (p == c.partition)) refl
         let here : p ≡ c.partition = eqb-true p c.partition both.1 in
         further_from (o.kept c.partition) c s (new_is_further (is_further (o.kept c.partition) c) r e both.0) (subst (λ (n : ℕ). is_kept_from (o.kept n) s ≡ true) here k)
 
-kept_after : (o : Object) (e : Event) (p s : ℕ) → IsAnswer o e → is_kept_from (o.kept p) s ≡ true → is_kept_from ((after o e).kept p) s ≡ true
+kept_after : (o : Object) (e : HistoryEvent) (p s : ℕ) → IsAnswer o e → is_kept_from (o.kept p) s ≡ true → is_kept_from ((after o e).kept p) s ≡ true
 kept_after o (Post n r) p s a k = k
 kept_after o (Fetch n) p s a k = k
 kept_after o (Keep c r) p s a k = kept_put o c r p s a k
@@ -118,7 +118,7 @@ kept_never_goes_back h k p s legal b kept =
 
 -- ---- names that stand
 -- a post that was answered New, of that name
-abbrev NewPost : BatchName → Event → Type 0
+abbrev NewPost : BatchName → HistoryEvent → Type 0
 NewPost name e = e ≡ Post name posted.New
 
 new_post : (r : Posted) → is_new_post r ≡ true → r ≡ posted.New
@@ -126,7 +126,7 @@ new_post posted.Old e = absurd cc
 new_post posted.Known e = absurd cc
 new_post posted.New e = refl
 
-stood : (o : Object) (e : Event) (name : BatchName) → (after o e).stands name ≡ true → ((o.stands name ≡ true) × SparesName name e) ⊎ NewPost name e
+stood : (o : Object) (e : HistoryEvent) (name : BatchName) → (after o e).stands name ≡ true → ((o.stands name ≡ true) × SparesName name e) ⊎ NewPost name e
 stood o (Post n r) name h =
     ⊎_elim
     (λ (a : (is_new_post r && same_name name n) ≡ true).
@@ -183,7 +183,7 @@ standing_is_posted h name stands =
     (λ (a : PostedAmong name h.calls). record { before = a.before; by = a.by; later = a.later; calls = a.calls; spared = a.spared })
     (posted_among empty h.calls name stands)
 
-stands_after : (o : Object) (e : Event) (name : BatchName) → SparesName name e → o.stands name ≡ true → (after o e).stands name ≡ true
+stands_after : (o : Object) (e : HistoryEvent) (name : BatchName) → SparesName name e → o.stands name ≡ true → (after o e).stands name ≡ true
 stands_after o (Post n r) name spared h = or_right (is_new_post r && same_name name n) (o.stands name) h
 stands_after o (Fetch n) name spared h = h
 stands_after o (Keep c r) name spared h = h
@@ -214,7 +214,7 @@ new_is_above true known r e n = n' n e
     n' : is_new_post r ≡ true → r ≡ posted.Old → true ≡ false
     n' n e = sym n ∙ ap is_new_post e
 
-above_after : (o : Object) (e : Event) → IsAnswer o e → Above o → Above (after o e)
+above_after : (o : Object) (e : HistoryEvent) → IsAnswer o e → Above o → Above (after o e)
 above_after o (Post n r) a above name h =
     ⊎_elim
     (λ (b : (is_new_post r && same_name name n) ≡ true).
@@ -258,7 +258,7 @@ events_by-append n (x ∷ xs) ys = go (x.by == n) (events_by-append n xs ys)
   where
     go : (b : Bool) → events_by n (xs ++ ys) ≡ events_by n xs ++ events_by n ys
         → (if b then x.event ∷ events_by n (xs ++ ys) else events_by n (xs ++ ys)) ≡ (if b then x.event ∷ events_by n xs else events_by n xs) ++ events_by n ys
-    go true rest = ap (λ (l : List Event). x.event ∷ l) rest
+    go true rest = ap (λ (l : List HistoryEvent). x.event ∷ l) rest
     go false rest = rest
 
 -- an entry of another caller
@@ -267,10 +267,10 @@ calls_by-other n h e ne =
     events_by-append n h.calls (e ∷ []) ∙ (ap (λ (b : Bool). events_by n h.calls ++ (if b then e.event ∷ [] else [])) (ne_eqb e.by n ne) ∙ append-nil (events_by n h.calls))
 
 -- an entry of that caller
-pub calls_by-own : (n : ℕ) (h : History) (v : Event) → calls_by n (with_entry h (entry n v)) ≡ calls_by n h ++ v ∷ []
+pub calls_by-own : (n : ℕ) (h : History) (v : HistoryEvent) → calls_by n (with_entry h (entry n v)) ≡ calls_by n h ++ v ∷ []
 calls_by-own n h v = events_by-append n h.calls (entry n v ∷ []) ∙ ap (λ (b : Bool). events_by n h.calls ++ (if b then v ∷ [] else [])) (eq-eqb n n refl)
 
-nothing_before : (xs ys : List Event) → xs ++ ys ≡ [] → xs ≡ []
+nothing_before : (xs ys : List HistoryEvent) → xs ++ ys ≡ [] → xs ≡ []
 nothing_before [] ys e = refl
 nothing_before (x ∷ xs) ys e = absurd cc
 

@@ -1,4 +1,5 @@
 pub mod BoolLemmas
+pub mod CheckLemmas
 pub mod GreatestLemmas
 pub mod HashLemmas
 pub mod PathLemmas

@@ -1,6 +1,6 @@
 -- What a caller of a board has seen of its history, and what a call makes of that.
 use Rattle.std.specs.Prelude.{◌≡◌, ℕ, ◌<◌, ◌≤◌, true, [], ◌∷◌, ◌++◌}
-use Rattle.ball_model.specs.History.{Event, History, Begins, IsLegal, entry, entries_of, calls_by, with_entry, board_of, is_kept_from}
+use Rattle.ball_model.specs.History.{HistoryEvent, History, Begins, IsLegal, entry, entries_of, calls_by, with_entry, board_of, is_kept_from}
 
 -- the number of a caller, how many entries the history may have, and the history that it has seen
 pub record Caller : Type 0 where
@@ -23,7 +23,7 @@ pub record Extends (v w : Caller) : Type 0 where
 
 -- the caller made this call and no other: it met a history that what it had seen begins, and the call's entry is the
 -- last one behind it
-pub record Called (v : Caller) (e : Event) (w : Caller) : Type 0 where
+pub record Called (v : Caller) (e : HistoryEvent) (w : Caller) : Type 0 where
   pub met : History
   pub begins : Begins v.seen met
   pub last : w.seen ≡ with_entry met (entry v.number e)

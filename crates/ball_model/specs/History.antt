@@ -14,19 +14,19 @@ use Rattle.ball_model.specs.State.{State, content_of}
 
 -- a call that changes or finds something, with its reply: a batch of that name is posted; it is found; a content is
 -- kept; the content kept for a partition is found, and its superstep is at least so much; names below a superstep go
-pub data Event : Type 0 where
-  Post : BatchName → Posted → Event
-  Fetch : BatchName → Event
-  Keep : Holding → Kept → Event
-  Recall : ℕ → ℕ → Holding → Event
-  Drop : ℕ → Event
+pub data HistoryEvent : Type 0 where
+  Post : BatchName → Posted → HistoryEvent
+  Fetch : BatchName → HistoryEvent
+  Keep : Holding → Kept → HistoryEvent
+  Recall : ℕ → ℕ → Holding → HistoryEvent
+  Drop : ℕ → HistoryEvent
 
 -- an event, and the number of its caller
 pub record Entry : Type 0 where
   pub by : ℕ
-  pub event : Event
+  pub event : HistoryEvent
 
-abbrev pub entry : ℕ → Event → Entry
+abbrev pub entry : ℕ → HistoryEvent → Entry
 entry n e = record { by = n; event = e }
 
 -- a history: its first entry, the opening, names the job; the others are calls, one after the other
@@ -52,12 +52,12 @@ pub record Begins (h k : History) : Type 0 where
   pub calls : IsPrefix h.calls k.calls
 
 -- the events of one caller, one after the other
-abbrev pub events_by : ℕ → List Entry → List Event
+abbrev pub events_by : ℕ → List Entry → List HistoryEvent
 events_by n [] = []
 events_by n (e ∷ es) = if e.by == n then e.event ∷ events_by n es else events_by n es
 
 -- what a caller with that number did
-abbrev pub calls_by : ℕ → History → List Event
+abbrev pub calls_by : ℕ → History → List HistoryEvent
 calls_by n h = events_by n h.calls
 
 -- two names are the same
@@ -104,7 +104,7 @@ is_new_keep kept.New = true
 is_new_keep kept.Behind = false
 
 -- the board after an event
-abbrev pub after : Object → Event → Object
+abbrev pub after : Object → HistoryEvent → Object
 after o (Post name r) = record {
   floor = o.floor;
   stands = λ n. (is_new_post r && same_name n name) || o.stands n;
@@ -133,7 +133,7 @@ abbrev pub board_of : History → Object
 board_of h = after_all empty h.calls
 
 -- the reply is the one that the board gives
-abbrev pub IsAnswer : Object → Event → Type 0
+abbrev pub IsAnswer : Object → HistoryEvent → Type 0
 IsAnswer o (Post name r) = r ≡ post_reply o name
 IsAnswer o (Fetch name) = o.stands name ≡ true
 IsAnswer o (Keep c r) = r ≡ keep_reply o c
@@ -156,7 +156,7 @@ holding_in v = holding_of v.part.plan v.part.number (content_of v)
 -- ---- laws, in the subject's own words. Each is the contract of a function of src/history.rt
 
 -- the events do not drop names of that superstep
-abbrev pub SparesName : BatchName → Event → Type 0
+abbrev pub SparesName : BatchName → HistoryEvent → Type 0
 SparesName name (Drop s) = s ≤ name.superstep
 SparesName name (Post n r) = Unit {0}
 SparesName name (Fetch n) = Unit {0}

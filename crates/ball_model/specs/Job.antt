@@ -29,18 +29,18 @@ job_bytes plan g =
 unfoldable pub counted_bytes : Graph → List ℕ
 counted_bytes g = to_be_bytes w32 (length g.counted) ++ flat_map (λ v. to_be_bytes w32 v) g.counted
 
--- a mark with the first form's number or the second's: of a job with raw estimates, and of one with corrected ones
-abbrev pub first_mark : Bool → List ℕ
-first_mark corrected = if corrected then codes "HBC1" else codes "HBJ1"
+-- a magic with the number of the first form or of the second: of a job with raw estimates, and of one with corrected ones
+abbrev pub first_magic : Bool → List ℕ
+first_magic corrected = if corrected then codes "HBC1" else codes "HBJ1"
 
-abbrev pub second_mark : Bool → List ℕ
-second_mark corrected = if corrected then codes "HBC2" else codes "HBJ2"
+abbrev pub second_magic : Bool → List ℕ
+second_magic corrected = if corrected then codes "HBC2" else codes "HBJ2"
 
 -- what the job digest is made of: the first form where every vertex is counted, else the second, with the counted ones
 unfoldable pub digest_bytes : PlanValue → Graph → List ℕ
 digest_bytes plan g =
-    if counts_all g then first_mark plan.corrected ++ job_bytes plan g
-    else second_mark plan.corrected ++ job_bytes plan g ++ counted_bytes g
+    if counts_all g then first_magic plan.corrected ++ job_bytes plan g
+    else second_magic plan.corrected ++ job_bytes plan g ++ counted_bytes g
 
 -- the job digest: the SHA-256 of these bytes
 unfoldable pub digest_of : PlanValue → Graph → List ℕ

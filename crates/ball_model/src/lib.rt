@@ -24,6 +24,7 @@
 #![tactic(auto)]
 
 ghost use Rattle.std.specs.Prelude.{◌≡◌, ◌≤◌, ◌<◌, ◌^◌};
+ghost use Rattle.ball_model.specs.declared.plan.TheConstants.{GREATEST_RANK};
 ghost use Rattle.ball_model.specs.Hash.{hash_of, index_of, rank_of};
 
 pub mod history;
@@ -66,7 +67,7 @@ pub fn place(log2m: u8, hash: u64) -> (u16, u8)
     ensures rank { result.1 ≡ rank_of log2m hash }
     ensures in_range { result.0 < 2 ^ log2m }
     ensures rank_from { 1 ≤ result.1 }
-    ensures rank_to { result.1 ≤ 33 }
+    ensures rank_to { result.1 ≤ GREATEST_RANK }
 {
     let index = (hash >> (64 - u32::from(log2m))) as u16;
     let tail = ((hash >> (32 - u32::from(log2m))) & 0xffff_ffff) as u32;

@@ -11,8 +11,17 @@ pub const LEAST_LOG2M: u8 = 4;
 /// The greatest binary logarithm of the number of registers: 1024 registers.
 pub const GREATEST_LOG2M: u8 = 10;
 
+/// The most registers of a counter: 2 to the power of [`GREATEST_LOG2M`].
+pub const MOST_REGISTERS: usize = 1024;
+
+/// The greatest rank: that of a hash whose tail, of 32 bits, is 0.
+pub const GREATEST_RANK: u8 = 33;
+
 /// The most partitions that vertices are dealt out among.
 pub const MOST_PARTS: u16 = 64;
+
+/// The most replicas of a partition that a run by workers or a replay has.
+pub const MOST_REPLICAS: u8 = 4;
 
 /// The greatest limit that a run may have, in supersteps.
 pub const GREATEST_LIMIT: u32 = 4096;

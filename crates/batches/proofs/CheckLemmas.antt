@@ -15,17 +15,8 @@ use Rattle.batches.specs.declared.error.BatchError.TheVariants as errors
 use Rattle.batches.specs.declared.header.Header.{Header}
 use Rattle.batches.specs.Kept.{first_rows}
 use Rattle.ball_model.specs.Checks.{◌>>=◌}
+use Rattle.ball_model.proofs.CheckLemmas.{bind_ok, guard_ok}
 use Rattle.batches.specs.Reading.{magic, check_head, check_length, check_row, check_rows}
-
--- a step that passed, and what followed it
-pub bind_ok : {A B : Type 0} (r : Result A BatchError) (f : A → Result B BatchError) (y : B) → (r >>= f) ≡ Ok y → (x : A) × (r ≡ Ok x) × (f x ≡ Ok y)
-bind_ok (Ok x) f y e = (x, refl, e)
-bind_ok (Err d) f y e = absurd cc
-
--- a test that passed, and what followed it
-pub guard_ok : {A : Type 0} (b : Bool) (d : BatchError) (r : Result A BatchError) (y : A) → cond b (Err d) r ≡ Ok y → (b ≡ false) × (r ≡ Ok y)
-guard_ok true d r y e = absurd cc
-guard_ok false d r y e = (refl, e)
 
 -- a fault of the bytes
 abbrev pub IsFault : BatchError → Type 0

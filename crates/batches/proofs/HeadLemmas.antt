@@ -22,7 +22,7 @@ IsBytes-take n bytes h i =
     ]
 
 -- what stands from a place on: n bytes and the rest
-split : (at n : ℕ) (bytes : List ℕ) → drop at bytes ≡ take n (drop at bytes) ++ drop (at + n) bytes
+pub split : (at n : ℕ) (bytes : List ℕ) → drop at bytes ≡ take n (drop at bytes) ++ drop (at + n) bytes
 split at n bytes = sym (take-append-drop n (drop at bytes)) ∙ ap (λ (t : List ℕ). take n (drop at bytes) ++ t) (drop-drop n at bytes)
 
 pub field_4 : (at : ℕ) (bytes : List ℕ) → at + 4 ≤ length bytes → IsBytes bytes → to_be_bytes w32 (field w32 at bytes) ≡ take 4 (drop at bytes)

@@ -14,7 +14,8 @@ use Rattle.ball_model.specs.Checks.{◌>>=◌}
 use Rattle.batches.specs.Reading.{magic, head_at, head_bytes, check_head, check_length, check_rows, check_at, batch_from, batch_at, GivesBatchOrMemory, AgreesButJob}
 use Rattle.batches.proofs.HeadLemmas.{IsBytes, IsBytes-drop, Fits, head_takes, head_again, head_len, head_after, same_head, job_len}
 use Rattle.batches.proofs.RowLemmas.{rows_take, rows_again, rows_len, flat_len, AreWide}
-use Rattle.batches.proofs.CheckLemmas.{bind_ok, guard_ok, ok_is, IsHead, head_checked, head_passes, length_checked, length_passes, AreRows, rows_all, rows_ascend, rows_are, rows_even, rows_checked, rows_pass, IsFault, AsksNone, err_asks-none, ok_asks-none, guard_asks-none, bind_asks-none, head_asks-none, length_asks-none, rows_ask-none}
+use Rattle.ball_model.proofs.CheckLemmas.{bind_ok, guard_ok}
+use Rattle.batches.proofs.CheckLemmas.{ok_is, IsHead, head_checked, head_passes, length_checked, length_passes, AreRows, rows_all, rows_ascend, rows_are, rows_even, rows_checked, rows_pass, IsFault, AsksNone, err_asks-none, ok_asks-none, guard_asks-none, bind_asks-none, head_asks-none, length_asks-none, rows_ask-none}
 use Rattle.batches.proofs.KeptLemmas.{Kept, batch-changed}
 
 -- the fixed fields of a batch

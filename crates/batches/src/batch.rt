@@ -5,6 +5,7 @@ ghost use Rattle.std.specs.Prelude.{option_map, slice_index, slice_index_or, dro
 ghost use Rattle.std.specs.Prelude.{OnOk, OnErr, Ok};
 ghost use Rattle.std.specs.Arc.{arc_value};
 ghost use Rattle.std.specs.List.{All};
+ghost use Rattle.ball_model.specs.declared.plan.TheConstants.{GREATEST_RANK};
 ghost use Rattle.ball_model.specs.PlanValue.{part_size};
 ghost use Rattle.ball_model.specs.Batches.{BatchValue, IsRow, IsBatch, ids_of, registers_of};
 ghost use Rattle.ball_model.specs.Batches.{find_row, header_bytes, batch_bytes};
@@ -184,7 +185,7 @@ impl Batch {
         requires { i < length self.now.rows }
         ensures value { result.now ≡ slice_index_or (registers_of self.now.rows) i [] }
         ensures width { length result.now ≡ 2 ^ self.now.plan.log2m }
-        ensures ranks { All (λ r. r ≤ 33) result.now }
+        ensures ranks { All (λ r. r ≤ GREATEST_RANK) result.now }
     {
         row_in(&self.registers, self.plan.width(), i as usize)
     }
@@ -193,7 +194,7 @@ impl Batch {
     pub fn find(&self, id: u32) -> Option<&[u8]>
         ensures value { option_map (λ r. r.now) result ≡ find_row self.now.rows id }
         ensures width { IfSome result (λ r. length r.now ≡ 2 ^ self.now.plan.log2m) }
-        ensures ranks { IfSome result (λ r. All (λ x. x ≤ 33) r.now) }
+        ensures ranks { IfSome result (λ r. All (λ x. x ≤ GREATEST_RANK) r.now) }
     {
         match self.ids.binary_search(&id) {
             Ok(i) => Some(self.registers(i as u32)),

@@ -5,6 +5,7 @@ ghost use Rattle.std.specs.Prelude.{drop, max, nat_lt, IfOk, OnOk, OnErr, Ok};
 ghost use Rattle.std.specs.Result.{result_and};
 ghost use Rattle.std.specs.List.{list_any, flat_map, fold};
 ghost use Rattle.std.specs.Int.{w32};
+ghost use Rattle.ball_model.specs.declared.plan.TheConstants.{GREATEST_RANK, MOST_REGISTERS};
 ghost use Rattle.ball_model.specs.Batches.{row_bytes};
 ghost use Rattle.batches.specs.Kept.{field, row_at, first_rows, paired_rows};
 ghost use Rattle.batches.specs.Reading.{check_length, check_row, check_rows};
@@ -12,13 +13,8 @@ ghost use Rattle.batches.specs.Reading.{check_length, check_row, check_rows};
 use crate::error::BatchError;
 use crate::header::u32_at;
 use ball_model::Plan;
+use ball_model::plan::GREATEST_RANK;
 use std::alloc::{AllocError, Global};
-
-/// The greatest rank.
-const MAX_RANK: u8 = 33;
-
-/// The greatest number of registers of a row.
-const MOST_REGISTERS: usize = 1024;
 
 /// How many bytes a row has before its registers.
 pub const ID_LEN: usize = 4;
@@ -34,9 +30,9 @@ fn greatest(registers: &[u8]) -> u8
 
 /// Whether a register is above the greatest rank.
 fn has_above(registers: &[u8]) -> bool
-    ensures { result ≡ list_any (nat_lt 33) registers.now }
+    ensures { result ≡ list_any (nat_lt GREATEST_RANK) registers.now }
 {
-    greatest(registers) > MAX_RANK
+    greatest(registers) > GREATEST_RANK
 }
 
 /// Whether rows have the length that is wanted.

@@ -9,7 +9,7 @@ use Rattle.std.proofs.lemmas.List.{length-take, length-drop, take-append-drop, g
 use Rattle.std.proofs.lemmas.Bool.{eqb-true, eq-eqb}
 use Rattle.edgelist.specs.Guessing.{bytes_after, word_of, IsShort, IsWord, HasWord, StandsAt, IsGuess, AreGuesses, entry_word, blank_entry}
 use Rattle.csv.specs.Records.{field_at}
-use Rattle.edgelist.specs.declared.numbering.Entry.{Entry}
+use Rattle.edgelist.specs.declared.numbering.LabelGuess.{LabelGuess}
 use Rattle.edgelist.specs.declared.numbering.LabelWord.{LabelWord}
 use Rattle.edgelist.specs.Reading.{fields_with, with_label}
 use Rattle.ball_model.proofs.BoolLemmas.{by_cases}
@@ -71,7 +71,7 @@ same-numbers a b t =
     (λ f. absurd (let bad = rw f at t in cc))
 
 -- an entry of the word of a label tells its number
-pub tells-one : (labels : List (List ℕ)) (label : List ℕ) (entry : Entry) → IsShort label → StandsAt labels label entry.number → entry_word entry ≡ word_of label → IsGuess labels entry
+pub tells-one : (labels : List (List ℕ)) (label : List ℕ) (entry : LabelGuess) → IsShort label → StandsAt labels label entry.number → entry_word entry ≡ word_of label → IsGuess labels entry
 tells-one labels label entry short stands told other shorter is =
     subst (λ (l : List ℕ). StandsAt labels l entry.number) (sym (word-same other label shorter short (is ∙ told))) stands
 
@@ -82,7 +82,7 @@ tells-none labels label short is = absurd (let none : bytes_after 0 (drop 8 labe
 pub told-blank : (labels : List (List ℕ)) (n : ℕ) → AreGuesses labels (replicate n blank_entry)
 told-blank labels n = record { each = λ i. rw (copies-at n i blank_entry) (tells-none labels) }
 
-pub told-set : (labels : List (List ℕ)) (entries : List Entry) (i : ℕ) (e : Entry) → i < length entries → AreGuesses labels entries → IsGuess labels e → AreGuesses labels (set entries i e)
+pub told-set : (labels : List (List ℕ)) (entries : List LabelGuess) (i : ℕ) (e : LabelGuess) → i < length entries → AreGuesses labels entries → IsGuess labels e → AreGuesses labels (set entries i e)
 told-set labels entries i e lt told tells = record {
   each = λ k. by_cases (k == i) _
       (λ t.
@@ -96,7 +96,7 @@ told-set labels entries i e lt told tells = record {
 }
 
 -- an entry with the word of a label tells its number
-pub told-at : (labels : List (List ℕ)) (entries : List Entry) (label : List ℕ) (word : LabelWord) (i : ℕ) (e d : Entry) → e ≡ get_or entries i d → i < length entries → AreGuesses labels entries → IsShort label → word ≡ word_of label
+pub told-at : (labels : List (List ℕ)) (entries : List LabelGuess) (label : List ℕ) (word : LabelWord) (i : ℕ) (e d : LabelGuess) → e ≡ get_or entries i d → i < length entries → AreGuesses labels entries → IsShort label → word ≡ word_of label
     → ((e.low == word.low) && (e.high == word.high)) ≡ true → StandsAt labels label e.number
 told-at labels entries label word i e d is lt told short word_is t =
     let here : e ≡ get_or entries i blank_entry = is ∙ get_or_default entries i d blank_entry lt in

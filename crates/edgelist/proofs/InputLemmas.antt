@@ -17,7 +17,8 @@ use Rattle.edgelist.proofs.LabelLemmas.{text_same, text-flip, place-within, plac
 use Rattle.edgelist.proofs.LinksLemmas.{any_edges, edges_by, graph_of-IsGraph}
 use Rattle.edgelist.proofs.NetworkLemmas.{apart-labels, apart-at}
 use Rattle.edgelist.proofs.EdgeLemmas.{all_weaker, filter-ascends}
-use Rattle.edgelist.proofs.RangeLemmas.{filter-has, filter-all}
+use Rattle.ball_model.proofs.CountedLemmas.{is_kept}
+use Rattle.edgelist.proofs.RangeLemmas.{filter-all}
 
 pub labels_are_distinct : LabelsAreDistinct
 labels_are_distinct records v w lo hi same = apart-at (labels_of records) v w (apart-labels records) lo hi same
@@ -134,7 +135,7 @@ lists-edge q n y x lo hi =
     ap (λ (g : Graph). is_edge g y x) (sym (lists-graph q n))
     ∙ found
     ∙ ap (list_any (λ p. p == y)) (get_or-map-range_with_len (λ x. filter (q x) (range_with_len 0 n)) 0 n x x [] hi at)
-    ∙ filter-has (q x) 0 n y (omega arith) (omega arith)
+    ∙ is_kept (q x) 0 n y (omega arith) (omega arith)
 
 -- whether some record leads from the label of y to that of x
 abbrev leads_to : List (List (List ℕ)) → ℕ → ℕ → Bool

@@ -8,7 +8,8 @@ use Rattle.std.proofs.lemmas.Bool.{cases_lt}
 use Rattle.ball_model.specs.Graph.{IsGraph, is_edge, is_counted, preds_of, listed_edges, counted_vertices}
 use Rattle.edgelist.specs.Links.{Ascends, AllAscend, edges_from, graph_of}
 use Rattle.std.proofs.Math.Bool.{and-true, and-false, or-false}
-use Rattle.edgelist.proofs.RangeLemmas.{filter-has, filter_range-same}
+use Rattle.ball_model.proofs.CountedLemmas.{is_kept}
+use Rattle.edgelist.proofs.RangeLemmas.{filter_range-same}
 
 -- the edges to one vertex
 any_here : (ps : List ℕ) (y x : ℕ) → list_any (λ (e : ℕ × ℕ). (e.0 == y) && (e.1 == x)) (map (λ p. (p, x)) ps) ≡ list_any (λ p. p == y) ps
@@ -113,7 +114,7 @@ edges_by (ps ∷ rest) f a h =
 
 -- a vertex is counted by its mark
 pub counted-by-mark : (lists : List (List ℕ)) (marks : List Bool) (v : ℕ) → v < length lists → is_counted (graph_of lists marks) v ≡ get_or marks v true
-counted-by-mark lists marks v lt = filter-has (λ k. get_or marks k true) 0 (length lists) v (omega arith) (omega arith)
+counted-by-mark lists marks v lt = is_kept (λ k. get_or marks k true) 0 (length lists) v (omega arith) (omega arith)
 
 -- a graph of ascending lists is one
 pub graph_of-IsGraph : (lists : List (List ℕ)) (marks : List Bool) → AllAscend (length lists) lists → IsGraph (graph_of lists marks)

@@ -1,7 +1,7 @@
 -- Guesses at the numbers of short labels.
 use Rattle.std.specs.Prelude.{◌≡◌, ℕ, ◌+◌, ◌*◌, ◌<◌, ◌≤◌, List, [], ◌∷◌, length, take, drop, slice_index, slice_index_or, IfSome}
 use Rattle.csv.specs.Records.{field_at}
-use Rattle.edgelist.specs.declared.numbering.Entry.{Entry}
+use Rattle.edgelist.specs.declared.numbering.LabelGuess.{LabelGuess}
 use Rattle.edgelist.specs.declared.numbering.LabelWord.{LabelWord}
 
 -- more bytes behind those of a number, which are its digits to the base 256
@@ -35,18 +35,18 @@ pub record StandsAt (labels : List (List ℕ)) (label : List ℕ) (i : ℕ) : Ty
   pub is : slice_index_or labels i [] ≡ label
 
 -- the word of an entry
-abbrev pub entry_word : Entry → LabelWord
+abbrev pub entry_word : LabelGuess → LabelWord
 entry_word entry = record { low = entry.low; high = entry.high }
 
 -- an entry of no label: the second number of a word is never 0
-abbrev pub blank_entry : Entry
+abbrev pub blank_entry : LabelGuess
 blank_entry = record { low = 0; high = 0; number = 0 }
 
 -- the number of an entry is that of the short label with its word
-abbrev pub IsGuess : List (List ℕ) → Entry → Type 0
+abbrev pub IsGuess : List (List ℕ) → LabelGuess → Type 0
 IsGuess labels entry = (label : List ℕ) → IsShort label → word_of label ≡ entry_word entry →
     StandsAt labels label entry.number
 
 -- each entry tells the number of a label, or none
-pub record AreGuesses (labels : List (List ℕ)) (entries : List Entry) : Type 0 where
+pub record AreGuesses (labels : List (List ℕ)) (entries : List LabelGuess) : Type 0 where
   pub each : (i : ℕ) → IsGuess labels (slice_index_or entries i blank_entry)

@@ -44,7 +44,7 @@ pub use lists::Preds;
 pub use part::Part;
 pub use pieces::EdgeReader;
 pub use read::{
-    Delimiter, EdgeError, EdgeLimits, EdgeList, MOST_RECORDS, read_edge_list, read_edges,
+    Delimiter, EdgeError, EdgeLimits, EdgeList, LIMITS, MOST_RECORDS, read_edge_list, read_edges,
 };
 
 #[cfg(test)]

@@ -44,12 +44,12 @@ impl<'a> Iterator for Preds<'a> {
 
 /// Lists of predecessors, and how many these are together.
 #[derive(Drop)]
-pub struct Lists {
+pub struct PredLists {
     codes: gapcode::Lists,
     total: usize,
 }
 
-impl Model for Lists {
+impl Model for PredLists {
     ghost use Rattle.std.specs.Prelude.{◌≡◌, ◌^◌, ◌<◌, List, ℕ, length};
     ghost use Rattle.std.specs.List.{sum_by};
 
@@ -61,14 +61,14 @@ impl Model for Lists {
         (lists.total ≡ sum_by length lists.codes) × (lists.total < 2 ^ 32) };
 }
 
-impl Lists {
+impl PredLists {
     /// These lists, which have so many elements together.
-    pub fn of(codes: gapcode::Lists, total: usize) -> Lists
+    pub fn of(codes: gapcode::Lists, total: usize) -> PredLists
         requires total { total ≡ sum_by length codes }
         requires few { total < 2 ^ 32 }
         ensures { result ≡ codes }
     {
-        Lists { codes, total }
+        PredLists { codes, total }
     }
 
     /// The number of lists.

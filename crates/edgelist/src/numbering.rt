@@ -41,14 +41,14 @@ pub(crate) struct LabelWord {
 
 // A short label's word, and the label's number.
 #[derive(Clone, Copy)]
-struct Entry {
+struct LabelGuess {
     low: u64,
     high: u32,
     number: u32,
 }
 
 // An entry of no label: the second number of a word is never 0.
-const BLANK: Entry = Entry {
+const BLANK: LabelGuess = LabelGuess {
     low: 0,
     high: 0,
     number: 0,
@@ -62,7 +62,7 @@ const BLANK: Entry = Entry {
 #[derive(Drop)]
 pub(crate) struct Numbering {
     labels: IndexSet<Vec<u8>, RandomState>,
-    entries: Vec<Entry>,
+    entries: Vec<LabelGuess>,
 }
 
 impl Model for Numbering {
@@ -133,7 +133,7 @@ impl LabelWord {
     }
 }
 
-impl Entry {
+impl LabelGuess {
     fn word(self) -> LabelWord
         ensures { result ≡ entry_word self }
     {
@@ -153,7 +153,7 @@ fn group(word: LabelWord, count: usize) -> usize {
 }
 
 // The number of the short label with this word, where an entry of its group is that label's.
-fn guess(entries: &[Entry], word: LabelWord) -> Option<usize>
+fn guess(entries: &[LabelGuess], word: LabelWord) -> Option<usize>
     ensures { (labels : List (List ℕ)) (label : List ℕ) → AreGuesses labels entries.now
         → IsShort label → word ≡ word_of label → IfSome result (StandsAt labels label) }
 {
@@ -169,13 +169,13 @@ fn guess(entries: &[Entry], word: LabelWord) -> Option<usize>
 // Whether the label of a word may be new: it is short, and the first entry of its group is blank. This is a guess. A
 // label that is known may be told as new, where its entry was lost; a new one is not told so where it is long, or where
 // another label's entry is the first of its group.
-fn may_be_new(entries: &[Entry], word: LabelWord) -> bool {
+fn may_be_new(entries: &[LabelGuess], word: LabelWord) -> bool {
     let place = group(word, entries.len());
     word.high > 0 && place < entries.len() && entries[place].high == 0
 }
 
 // How many of a row's first two fields may be new labels: a guess, as each of them is.
-fn count_new_in(entries: &[Entry], row: &Row) -> usize
+fn count_new_in(entries: &[LabelGuess], row: &Row) -> usize
     ensures { result ≤ 2 }
 {
     let source = may_be_new(entries, row.source_word());
@@ -184,7 +184,7 @@ fn count_new_in(entries: &[Entry], row: &Row) -> usize
 }
 
 // How many labels of these rows may be new: a guess too, in which a label that stands there twice may count twice.
-fn count_new(entries: &[Entry], rows: &[Row]) -> usize {
+fn count_new(entries: &[LabelGuess], rows: &[Row]) -> usize {
     let mut new = 0usize;
     for row in rows {
         new = new.saturating_add(count_new_in(entries, row));
@@ -194,7 +194,7 @@ fn count_new(entries: &[Entry], rows: &[Row]) -> usize {
 
 // The place in a group for one more entry: the first that is blank, or else that of its first
 // entry.
-fn entry_place(entries: &[Entry], start: usize) -> usize {
+fn entry_place(entries: &[LabelGuess], start: usize) -> usize {
     for i in start..entries.len().min(start.saturating_add(GROUP)) {
         if entries[i].high == 0 {
             return i;
@@ -204,7 +204,7 @@ fn entry_place(entries: &[Entry], start: usize) -> usize {
 }
 
 // Puts an entry into its group.
-fn put(entries: &mut [Entry], entry: Entry)
+fn put(entries: &mut [LabelGuess], entry: LabelGuess)
     ensures { (labels : List (List ℕ)) → AreGuesses labels entries.old → IsGuess labels entry
         → AreGuesses labels entries.new }
 {
@@ -215,7 +215,7 @@ fn put(entries: &mut [Entry], entry: Entry)
 }
 
 // Puts the entries of a smaller table into theirs.
-fn put_entries(entries: &mut [Entry], smaller: &[Entry])
+fn put_entries(entries: &mut [LabelGuess], smaller: &[LabelGuess])
     ensures { (labels : List (List ℕ)) → AreGuesses labels smaller.now →
         AreGuesses labels entries.old → AreGuesses labels entries.new }
 {
@@ -227,7 +227,7 @@ fn put_entries(entries: &mut [Entry], smaller: &[Entry])
 }
 
 // Puts a label's word and number into an entry of its group.
-fn remember(entries: &mut [Entry], word: LabelWord, number: usize)
+fn remember(entries: &mut [LabelGuess], word: LabelWord, number: usize)
     ensures { (labels : List (List ℕ)) (label : List ℕ) → AreGuesses labels entries.old
         → IsShort label → word ≡ word_of label → StandsAt labels label number
         → AreGuesses labels entries.new }
@@ -235,7 +235,7 @@ fn remember(entries: &mut [Entry], word: LabelWord, number: usize)
     let Ok(number) = u32::try_from(number) else {
         return;
     };
-    let entry = Entry {
+    let entry = LabelGuess {
         low: word.low,
         high: word.high,
         number,
@@ -244,7 +244,7 @@ fn remember(entries: &mut [Entry], word: LabelWord, number: usize)
 }
 
 // Entries that hold no label.
-fn blank(alloc: Global, count: usize) -> Result<Vec<Entry>, AllocError>
+fn blank(alloc: Global, count: usize) -> Result<Vec<LabelGuess>, AllocError>
     ensures { IfOk result (λ entries. entries.items ≡ replicate count blank_entry) }
 {
     vec![in alloc; BLANK; count]

@@ -14,7 +14,7 @@ ghost use Rattle.edgelist.specs.Feeding.{feeds_of, masks_of};
 
 use crate::feeds::{Feeds, Stride, feeds_over};
 use crate::graph::Graph;
-use crate::lists::{Lists, Preds};
+use crate::lists::{PredLists, Preds};
 use crate::masks::Masks;
 use ball_model::Plan;
 use gapcode::ListsBuilder;
@@ -32,7 +32,7 @@ use std::sync::Arc;
 pub struct Part {
     plan: Plan,
     number: u16,
-    lists: Arc<Lists>,
+    lists: Arc<PredLists>,
     feeds: Arc<Masks>,
     counted: Vec<bool>,
 }
@@ -180,7 +180,7 @@ fn push_preds(
 }
 
 // The predecessors of each vertex of partition `p`.
-fn own_lists(alloc: Global, graph: &Graph, plan: &Plan, p: u16) -> Result<Lists, AllocError>
+fn own_lists(alloc: Global, graph: &Graph, plan: &Plan, p: u16) -> Result<PredLists, AllocError>
     requires part { p < plan.now.parts }
     requires vertices { plan.now.vertices ≡ graph.now.graph.vertices }
     ensures { IfOk result (λ lists. lists ≡ map (λ x. preds_of graph.now.graph x)
@@ -195,11 +195,16 @@ fn own_lists(alloc: Global, graph: &Graph, plan: &Plan, p: u16) -> Result<Lists,
         builder = push_preds(builder, &mut row, graph.preds(vertex_at(plan, p, i)))?;
         total += row.len();
     }
-    Ok(Lists::of(builder.finish(), total))
+    Ok(PredLists::of(builder.finish(), total))
 }
 
 // The predecessors of each vertex of partition `p`, which are the graph's own lists where there is one partition.
-fn part_lists(alloc: Global, graph: &Graph, plan: &Plan, p: u16) -> Result<Arc<Lists>, AllocError>
+fn part_lists(
+    alloc: Global,
+    graph: &Graph,
+    plan: &Plan,
+    p: u16,
+) -> Result<Arc<PredLists>, AllocError>
     requires part { p < plan.now.parts }
     requires vertices { plan.now.vertices ≡ graph.now.graph.vertices }
     ensures { IfOk result (λ lists. arc_value lists ≡ map (λ x. preds_of graph.now.graph x)

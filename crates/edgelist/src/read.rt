@@ -99,6 +99,12 @@ pub struct EdgeLimits {
 /// The most records under any limits, 2^26.
 pub const MOST_RECORDS: u64 = 67_108_864;
 
+/// What a run, a replay and a node read at most of an edge list.
+pub const LIMITS: EdgeLimits = EdgeLimits {
+    vertices: MOST_VERTICES,
+    edges: MOST_RECORDS,
+};
+
 /// An edge list that was read.
 #[derive(Drop)]
 pub struct EdgeList {

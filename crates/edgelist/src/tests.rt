@@ -23,7 +23,7 @@ use std::io;
 use std::io::{ErrorKind, Read};
 
 /// No limits but those that are always in force.
-const LIMITS: EdgeLimits = EdgeLimits {
+const NO_LIMITS: EdgeLimits = EdgeLimits {
     vertices: u32::MAX,
     edges: u64::MAX,
 };
@@ -82,7 +82,7 @@ fn read(
 
 /// Reads an edge list with tabs.
 fn tabs(rt: &HostRuntime, text: &[u8]) -> Result<Graph, EdgeError> {
-    read(rt, at_once(text), Delimiter::Tab, LIMITS)
+    read(rt, at_once(text), Delimiter::Tab, NO_LIMITS)
 }
 
 /// The last digit of a number.

@@ -2,6 +2,7 @@
 
 ghost use Rattle.std.specs.Prelude.{◌≡◌, ◌≤◌, ◌<◌, ◌^◌, [], IfOk, length, map, slice_index_or};
 ghost use Rattle.std.specs.List.{All};
+ghost use Rattle.ball_model.specs.declared.plan.TheConstants.{GREATEST_RANK};
 ghost use Rattle.ball_model.specs.Figures.{estimate_of};
 ghost use Rattle.figures.specs.declared.tally.Tally.{Tally};
 ghost use Rattle.figures.specs.Values.{AreFiguresAt, figures_from, items_between, raw_figures_from};
@@ -45,7 +46,7 @@ pub fn final_figures(
     requires high { log2m ≤ 10 }
     requires count { length tallies.now ≡ length rows.now.rows }
     requires width { rows.now.width ≡ 2 ^ log2m }
-    requires ranks { All (λ row. All (λ r. r ≤ 33) row) rows.now.rows }
+    requires ranks { All (λ row. All (λ r. r ≤ GREATEST_RANK) row) rows.now.rows }
     ensures { IfOk result (λ v.
         v.items ≡ raw_figures_from log2m rows.now.rows (map value_of tallies.now)) }
 {
@@ -58,7 +59,7 @@ pub fn final_figures(
                 requires tally { i < length tallies.now }
                 requires row { i < length rows.now.rows }
                 requires width { rows.now.width ≡ 2 ^ log2m }
-                requires ranks { All (λ r. r ≤ 33) (slice_index_or rows.now.rows i []) }
+                requires ranks { All (λ r. r ≤ GREATEST_RANK) (slice_index_or rows.now.rows i []) }
                 ensures { (d : Tally) →
                     AreFiguresAt (estimate_of log2m (slice_index_or rows.entry.now.rows i []))
                     rows.entry.now.rows tallies.entry.now i d result }

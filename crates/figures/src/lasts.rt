@@ -3,11 +3,13 @@
 ghost use Rattle.std.specs.Prelude.{◌≡◌, ◌↔◌, ℕ, ◌<◌, ◌≤◌, ◌^◌, true, IsTrue, length, map, []};
 ghost use Rattle.std.specs.Prelude.{slice_index_or};
 ghost use Rattle.std.specs.List.{All};
+ghost use Rattle.ball_model.specs.declared.plan.TheConstants.{GREATEST_RANK};
 ghost use Rattle.ball_model.specs.Figures.{estimate_with};
 ghost use Rattle.figures.specs.Values.{small_table, value_of};
 
 use crate::Tally;
-use crate::estimates::{MOST_REGISTERS, by_table, fill, registers};
+use crate::estimates::{by_table, fill, registers};
+use ball_model::plan::MOST_REGISTERS;
 use registers::Rows;
 
 /// Whether the last estimate of each tally is that of the row at its place, of 2^log2m registers, raw or corrected for
@@ -20,7 +22,7 @@ pub fn are_last(log2m: u8, is_corrected: bool, rows: &Rows, tallies: &[Tally]) -
     requires count { length tallies.now ≡ length rows.now.rows }
     requires width { rows.now.width ≡ 2 ^ log2m }
     requires ranks { (i : ℕ) → i < length rows.now.rows →
-        All (λ r. r ≤ 33) (slice_index_or rows.now.rows i []) }
+        All (λ r. r ≤ GREATEST_RANK) (slice_index_or rows.now.rows i []) }
     ensures { IsTrue result ↔ (map (λ tally. tally.last) (map value_of tallies.now) ≡
         map (estimate_with (record { log2m = log2m; corrected = is_corrected })) rows.now.rows) }
 {
@@ -47,7 +49,7 @@ fn are_by_table(
     requires count { length tallies.now ≡ length rows.now.rows }
     requires width { rows.now.width ≡ 2 ^ log2m }
     requires ranks { (i : ℕ) → i < length rows.now.rows →
-        All (λ r. r ≤ 33) (slice_index_or rows.now.rows i []) }
+        All (λ r. r ≤ GREATEST_RANK) (slice_index_or rows.now.rows i []) }
     ensures { IsTrue result ↔ ((i : ℕ) → i < length rows.now.rows →
         slice_index_or (map (λ tally. tally.last) tallies.now) i 0 ≡ estimate_with
         (record { log2m = log2m; corrected = is_corrected })

@@ -8,6 +8,7 @@ ghost use Rattle.ball_model.specs.PlanValue.{plan_of};
 ghost use Rattle.ball_model.specs.RunText.{network_in, plan_over};
 ghost use Rattle.ball_model.specs.Streams.{Rises};
 ghost use Rattle.edgelist.specs.Given.{IsGiven};
+ghost use Rattle.edgelist.specs.declared.read.TheConstants.{LIMITS};
 ghost use Rattle.edgelist.specs.Reading.{meaning_of};
 ghost use Rattle.node.specs.Job.{CountsSome, GivesEdges, HasRecords, IsJobRead, SaysNetwork};
 ghost use Rattle.node.specs.Job.{job_numbers_of, job_settings_of};
@@ -17,18 +18,11 @@ ghost use Rattle.node.specs.Stream.{FailsWhere};
 
 use crate::error::JobError;
 use crate::section::{Cut, Step, next_step};
-use ball_model::plan::MOST_VERTICES;
 use ball_model::{CountedRead, Estimate, Plan, PlanError};
-use edgelist::{Delimiter, EdgeLimits, EdgeList, EdgeReader, Graph, MOST_RECORDS, Part};
+use edgelist::{Delimiter, EdgeList, EdgeReader, Graph, LIMITS, Part};
 use std::alloc::{AllocError, Global};
 use std::hash::RandomState;
 use std::sync::Arc;
-
-// What is read at most of an edge list.
-const LIMITS: EdgeLimits = EdgeLimits {
-    vertices: MOST_VERTICES,
-    edges: MOST_RECORDS,
-};
 
 // The most bytes of a list of counted vertices.
 const MOST_LIST: usize = 67_108_864;

@@ -23,11 +23,8 @@ use crate::gate::Gate;
 use crate::job::run_job;
 use crate::options::RunOptions;
 use crate::planned::{Planned, SharedPart, plan_parts};
-use ball_model::plan::MOST_VERTICES;
 use ball_model::{CountedRead, CountedWrite, CountingWriter, NodeId, Plan, PlanError};
-use edgelist::{
-    CountedError, EdgeError, EdgeLimits, EdgeList, Graph, MOST_RECORDS, read_edge_list,
-};
+use edgelist::{CountedError, EdgeError, EdgeList, Graph, LIMITS, read_edge_list};
 use replica::Replica;
 use report::{Pages, write_report};
 use std::alloc::{AllocError, AllocGlobal, Global};
@@ -35,12 +32,6 @@ use std::hash::RandomState;
 use std::sync::Wait;
 use std::thread::Threads;
 use thiserror::Error;
-
-/// What a run reads at most.
-const LIMITS: EdgeLimits = EdgeLimits {
-    vertices: MOST_VERTICES,
-    edges: MOST_RECORDS,
-};
 
 /// Why a run gives no report, in the order of the checks.
 #[derive(Clone, Copy, Debug, PartialEq, Eq, Error)]

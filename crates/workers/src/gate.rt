@@ -1,9 +1,8 @@
 //! What is called round each of a node's posts, and while it waits.
 
-use crate::options::MOST_REPLICAS;
 use crate::running::zeros;
 use ball_model::NodeId;
-use ball_model::plan::MOST_PARTS;
+use ball_model::plan::{MOST_PARTS, MOST_REPLICAS};
 use std::alloc::{AllocError, Global};
 use std::sync::atomic::{AtomicU32, Ordering};
 use std::thread;

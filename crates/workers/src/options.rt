@@ -3,12 +3,9 @@
 ghost use Rattle.std.specs.Prelude.{◌≡◌};
 ghost use Rattle.workers.specs.Options.{are_all_named, are_in_limits, is_named};
 
-use ball_model::plan::GREATEST_LIMIT;
+use ball_model::plan::{GREATEST_LIMIT, MOST_REPLICAS};
 use ball_model::{Estimate, NodeId};
 use edgelist::Delimiter;
-
-/// The most replicas that a partition may have. The world has the same limit, by the same rule of the command line.
-pub(crate) const MOST_REPLICAS: u8 = 4;
 
 /// The fewest entries that the board's history may have.
 const LEAST_ENTRIES: u32 = 2;

@@ -20,24 +20,13 @@ use crate::bytes::Bytes;
 use crate::script::{ScriptError, read_script};
 use crate::tell::{TellError, tell_events};
 use crate::watch::{Unwatched, Watch};
-use ball_model::plan::MOST_VERTICES;
+use ball_model::plan::MOST_REPLICAS;
 use ball_model::world::Event;
 use ball_model::{CountedWrite, Estimate, Plan, PlanError};
-use edgelist::{
-    CountedError, Delimiter, EdgeError, EdgeLimits, EdgeList, Graph, MOST_RECORDS, read_edge_list,
-};
+use edgelist::{CountedError, Delimiter, EdgeError, EdgeList, Graph, LIMITS, read_edge_list};
 use std::alloc::{AllocError, Global};
 use std::hash::RandomState;
 use thiserror::Error;
-
-/// The most replicas of a partition. A run by workers has the same limit, by the same rule of the command line.
-pub const MOST_REPLICAS: u8 = 4;
-
-// What is read at most of an edge list.
-const LIMITS: EdgeLimits = EdgeLimits {
-    vertices: MOST_VERTICES,
-    edges: MOST_RECORDS,
-};
 
 /// What is asked of a replay.
 #[derive(Clone, Copy, Debug, PartialEq, Eq)]

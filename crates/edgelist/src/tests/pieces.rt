@@ -57,7 +57,7 @@ pub(super) fn records_of(list: &Result<EdgeList, EdgeError>) -> Result<u64, Edge
 
 // How many records a text with tabs has that is given to a reader.
 pub(super) fn records_given(rt: &HostRuntime, text: &[u8]) -> Result<u64, EdgeError> {
-    records_of(&list_given(rt, text, Delimiter::Tab, LIMITS))
+    records_of(&list_given(rt, text, Delimiter::Tab, NO_LIMITS))
 }
 
 // Adds the pieces of a text, and tells whether there was room.
@@ -76,8 +76,8 @@ pub(super) type Case<'a> = (Pieces<'a>, Result<Pieces<'a>, EdgeError>);
 
 // Whether a text with tabs is told so, at once and where its bytes are given one after the other.
 fn is_told_both_ways(rt: &HostRuntime, text: &[u8], wanted: &Told) -> bool {
-    given(rt, text, Delimiter::Tab, LIMITS) == *wanted
-        && told(rt, at_once(text), Delimiter::Tab, LIMITS) == *wanted
+    given(rt, text, Delimiter::Tab, NO_LIMITS) == *wanted
+        && told(rt, at_once(text), Delimiter::Tab, NO_LIMITS) == *wanted
 }
 
 // So it is with a long edge list.
@@ -149,7 +149,7 @@ fn give_pieces(alloc: Global, edges: &mut EdgeReader, pieces: Pieces<'_>) -> Res
 
 // What is answered to the bytes of an edge list with tabs before its end is told.
 fn answered(rt: &HostRuntime, pieces: Pieces<'_>) -> Result<(), EdgeError> {
-    match reader(rt, Delimiter::Tab, LIMITS) {
+    match reader(rt, Delimiter::Tab, NO_LIMITS) {
         Ok(mut edges) => give_pieces(rt.alloc(), &mut edges, pieces),
         Err(e) => Err(e),
     }

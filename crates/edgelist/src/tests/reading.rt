@@ -112,7 +112,7 @@ fn records_read(rt: &HostRuntime, text: &[u8]) -> Result<u64, EdgeError> {
         return Err(EdgeError::Memory);
     };
     let mut reader = CountingReader::new(at_once(text));
-    records_of(&read_edge_list(rt.alloc(), state, &mut reader, Tab, LIMITS))
+    records_of(&read_edge_list(rt.alloc(), state, &mut reader, Tab, NO_LIMITS))
 }
 
 // An edge twice, one vertex and another edge; neither comments nor empty lines are records.
@@ -207,7 +207,7 @@ fn stops_there(rt: &HostRuntime, fault: usize) -> bool {
     let wanted: Told = Err(EdgeError::Fields {
         number: (fault as u64).saturating_add(1),
     });
-    told(rt, reader, Delimiter::Tab, LIMITS) == wanted
+    told(rt, reader, Delimiter::Tab, NO_LIMITS) == wanted
 }
 
 #[test]
@@ -221,5 +221,5 @@ fn refusals_at_each_of_the_records_read_at_once(rt: HostRuntime) {
 
 // Whether lines are read whole.
 fn tabs_are(rt: &HostRuntime, text: &[u8]) -> bool {
-    told(rt, at_once(text), Delimiter::Tab, LIMITS) == Ok(hash(&[(b"a\nb 0\n", 1)]))
+    told(rt, at_once(text), Delimiter::Tab, NO_LIMITS) == Ok(hash(&[(b"a\nb 0\n", 1)]))
 }

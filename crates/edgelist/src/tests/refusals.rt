@@ -18,7 +18,7 @@ fn are_answered(first: Told, second: Told) -> bool {
 
 // What is told of the two edges.
 fn told_there(rt: &HostRuntime) -> Told {
-    told(rt, at_once(TWO_EDGES), Delimiter::Tab, LIMITS)
+    told(rt, at_once(TWO_EDGES), Delimiter::Tab, NO_LIMITS)
 }
 
 // Whether a list of just the last vertex is answered: at once, or after a refusal that left all counted.

@@ -2,7 +2,7 @@ use Rattle.std.proofs.Common.{◌≡◌, []}
 use Rattle.std.specs.Io.KnownBytes.{prepend_known}
 use Rattle.edgelist.specs.Given.{IsGiven}
 use Rattle.edgelist.specs.declared.read.Delimiter.{Delimiter}
-use Rattle.node.specs.declared.job.TheConstants.{LIMITS}
+use Rattle.edgelist.specs.declared.read.TheConstants.{LIMITS}
 use Rattle.node.proofs.JobLemmas.{GivesSoFar}
 use Rattle.node.proofs.job.give_section.Given as goal
 

@@ -1,4 +1,4 @@
-use Rattle.node.specs.declared.job.TheConstants.{LIMITS}
+use Rattle.edgelist.specs.declared.read.TheConstants.{LIMITS}
 use Rattle.std.proofs.Common.{◌≡◌, ap, subst, Bool, true, false}
 use Rattle.std.specs.Prelude.{Err}
 use Rattle.std.proofs.lemmas.Result.{err_from_is_err_and}
