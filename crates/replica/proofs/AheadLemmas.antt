@@ -12,12 +12,12 @@ use Rattle.std.specs.Cmp.{first_so, second_so}
 use Rattle.ball_model.specs.Batches.{BatchValue}
 use Rattle.ball_model.specs.State.{early_at}
 use Rattle.replica.specs.Ahead.{table_of, IsTable, StaysTable, batches_in, either, union_of_slots, slots_after}
-use Rattle.replica.proofs.LevelLemmas.Step.{get_or-replicate_same}
+use Rattle.edgelist.proofs.RangeLemmas.{copies-at}
 
 -- what stands at a place after a shift
 pub shifted_at : (n k : ℕ) (slots : List (Option BatchValue)) → get_or (slots_after n slots) k None ≡ get_or slots (n + k) None
 shifted_at n k slots =
-    grind (arith, get_or-append, get_or-drop, get_or-append_right, get_or-replicate_same, get_or_past)
+    grind (arith, get_or-append, get_or-drop, get_or-append_right, copies-at, get_or_past)
 
 -- a list with nothing in it
 pub all_none : {X Y : Type 0} (f : X → Y) (xs : List (Option X)) (n : ℕ) → length xs ≡ n → ((k : ℕ) (d : Option X) → k < n → get_or xs k d ≡ None) → map (option_map f) xs ≡ replicate n None

@@ -16,7 +16,7 @@ use Rattle.ball_model.proofs.QuietLemmas.{none_of}
 use Rattle.replica.specs.Hearing.{Hearing, IsTrueHearing, Hears, batch_by, batches_below}
 use Rattle.replica.specs.Index.{targets_of}
 use Rattle.replica.specs.Kept.{AreCounters, AllRise}
-use Rattle.replica.proofs.LevelLemmas.Step.{get_or-replicate_same}
+use Rattle.edgelist.proofs.RangeLemmas.{copies-at}
 
 -- a flag that is set
 pub flag_set : (flags : List Bool) (k q : ℕ) → k < length flags → get_or (set flags k true) q false ≡ (get_or flags q false || (q == k))
@@ -64,7 +64,7 @@ none_heard j p t n heard change rows ok none quiet is = record {
 }
   where
     off : (q : ℕ) → get_or heard q false ≡ false
-    off q = ap (λ (l : List Bool). get_or l q false) none ∙ get_or-replicate_same n q false
+    off q = ap (λ (l : List Bool). get_or l q false) none ∙ copies-at n q false
 
 true_changed : (j : Job) (t q p : ℕ) → (true_batch j (record { superstep = t; source = q; target = p })).changed ≡ changed_count j t q
 unfolding true_batch

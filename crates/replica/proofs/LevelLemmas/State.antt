@@ -17,14 +17,14 @@ use Rattle.replica.proofs.LevelLemmas.Next.{stepped_lasts, sum_same}
 use Rattle.replica.specs.Index.{targets_of}
 use Rattle.replica.specs.Spread.{LeadInside}
 use Rattle.replica.proofs.IndexLemmas.Target.{targets-inside}
-use Rattle.replica.proofs.LevelLemmas.Step.{get_or-replicate_same}
+use Rattle.edgelist.proofs.RangeLemmas.{copies-at}
 
 -- no source
 pub no_sources : (parts p : ℕ) → AreSources parts p (replicate 64 false)
 no_sources parts p = record {
   count = length-replicate {A = Bool} 64 false;
-  below = λ q on. absurd (let off = get_or-replicate_same 64 q false in let e : true ≡ false = sym on ∙ off in cc);
-  other = get_or-replicate_same 64 p false;
+  below = λ q on. absurd (let off = copies-at 64 q false in let e : true ≡ false = sym on ∙ off in cc);
+  other = copies-at 64 p false;
 }
 
 pub lasts_total : (m : Measure) (rows : List (List ℕ)) (tallies : List TallyValue) → map (λ (tally : TallyValue). tally.last) tallies ≡ map (estimate_with m) rows → total_of m rows ≡ sum_by (λ (tally : TallyValue). tally.last) tallies

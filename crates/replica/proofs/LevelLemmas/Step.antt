@@ -1,6 +1,5 @@
 -- Figures stepped one after the other.
-use Rattle.std.proofs.Common.{◌≡◌, ℕ, ◌+◌, ◌<◌, ◌≤◌, ◌≢◌, List, [], length, map, get_or, set, arith, ◌∙◌, replicate}
-use Rattle.std.proofs.lemmas.Grind.{common_steps}
+use Rattle.std.proofs.Common.{◌≡◌, ℕ, ◌+◌, ◌<◌, ◌≤◌, ◌≢◌, List, [], length, map, get_or, set, arith, ◌∙◌}
 use Rattle.std.specs.List.{range_with_len}
 use Rattle.std.proofs.lemmas.List.{get_or-set_same, get_or-set_other, same_lists, get_or_default}
 use Rattle.std.proofs.lemmas.List.FromFn.{get_or-map-range_with_len, length-map-range_with_len}
@@ -20,10 +19,6 @@ step_rest F xs d y i rest k low = let ne : k ≢ i = omega arith in get_or-set_o
 pub list_is : {X : Type 0} (F : ℕ → X) (xs : List X) (d : X) (n : ℕ) → length xs ≡ n → ((k : ℕ) → k < n → get_or xs k d ≡ F k) → xs ≡ map F (range_with_len 0 n)
 list_is F xs d n count done =
     grind (arith, length-map-range_with_len, same_lists, get_or_default, get_or-map-range_with_len)
-
--- a list of one thing has that thing at each place, and it is what is answered past the end
-pub get_or-replicate_same : {X : Type 0} (n i : ℕ) (x : X) → get_or (replicate n x) i x ≡ x
-get_or-replicate_same n i x = grind (arith, common_steps)
 
 pub stepped_same : (t : ℕ) {a b : TallyValue} {e f : ℕ} → a ≡ b → e ≡ f → next_tally t a e ≡ next_tally t b f
 stepped_same t same estimate = cc

@@ -31,12 +31,13 @@ use Rattle.replica.proofs.LevelLemmas.Next.{total_of-lasts}
 use Rattle.replica.proofs.ChangeLemmas.Advance.{holds_now, holds_before, holds_later}
 use Rattle.replica.proofs.HearingLemmas.Hear.{none_heard}
 use Rattle.replica.proofs.LevelLemmas.State.{no_sources, lasts_total}
-use Rattle.replica.proofs.LevelLemmas.Step.{list_is, get_or-replicate_same}
+use Rattle.replica.proofs.LevelLemmas.Step.{list_is}
+use Rattle.edgelist.proofs.RangeLemmas.{copies-at}
 
 -- the row of a vertex, raised from nothing
 pub alone_is : (plan : PlanValue) (x index rank : ℕ) (row : List ℕ) → row ≡ replicate (2 ^ plan.log2m) 0 → index ≡ index_of plan.log2m (hash_of plan.seed x) → rank ≡ rank_of plan.log2m (hash_of plan.seed x) → row_after_raise row index rank ≡ alone plan x
 unfolding alone
-alone_is plan x index rank row none at is = grind (arith, get_or-replicate_same)
+alone_is plan x index rank row none at is = grind (arith, copies-at)
 
 -- what a vertex that is counted begins with, and one that is not
 pub first-counted : (part : PartValue) (i : ℕ) → get_or part.counted i false ≡ true → first_row part i ≡ alone part.plan (i * part.plan.parts + part.number)
@@ -104,7 +105,7 @@ starts_state part v ok s =
 pub starts_empty : (part : PartValue) (v : State) (r q : ℕ) → Starts part v → (content_of v).holds r q ≡ false
 starts_empty part v r q s =
     elim (cases_eq r v.superstep) [
-      | inl here ↦ ap (λ n. holds_in v.superstep v.heard v.early n q) here ∙ holds_now v.superstep v.heard v.early q ∙ ap (λ (l : List Bool). get_or l q false) s.heard ∙ get_or-replicate_same 64 q false
+      | inl here ↦ ap (λ n. holds_in v.superstep v.heard v.early n q) here ∙ holds_now v.superstep v.heard v.early q ∙ ap (λ (l : List Bool). get_or l q false) s.heard ∙ copies-at 64 q false
       | inr other ↦ elim (cases_lt r v.superstep) [
         | inl before ↦ holds_before v.superstep v.heard v.early r q before
         | inr after ↦ holds_later v.superstep v.heard v.early r q (omega arith) ∙ ap is_some (s.early (r - (v.superstep + 1)) q)

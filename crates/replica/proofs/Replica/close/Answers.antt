@@ -7,7 +7,7 @@ use Rattle.replica.specs.Level.{close_answer}
 use Rattle.replica.specs.Seen.{IsState}
 use Rattle.replica.proofs.LevelLemmas.Busy.{close_answer-is}
 use Rattle.replica.proofs.ChangeLemmas.Close.{on_ok, close_stands}
-use Rattle.replica.proofs.LevelLemmas.Step.{get_or-replicate_same}
+use Rattle.edgelist.proofs.RangeLemmas.{copies-at}
 use Rattle.replica.proofs.Replica.close.Goals as goal
 use Rattle.replica.proofs.Replica.close.Goals.{After-close_level}
 
@@ -22,7 +22,7 @@ state c = subst (λ (u : State). IsState u) c.self.view_is c.close_level.ensures
 
 pub returns-clause-names : goal.returns-clause-names
 returns-clause-names c =
-    on_ok c.close_level.result (advances ((goal.at.returns-clause-names c).After-close_level)) (λ n ok a s q. grind (arith, nat_tests, a.superstep, a.hears.sources q, a.early (s - (c.args.self.now.superstep + 1 + 1)) q, get_or-replicate_same 64 q false))
+    on_ok c.close_level.result (advances ((goal.at.returns-clause-names c).After-close_level)) (λ n ok a s q. grind (arith, nat_tests, a.superstep, a.hears.sources q, a.early (s - (c.args.self.now.superstep + 1 + 1)) q, copies-at 64 q false))
 
 pub returns-clause-answer : goal.returns-clause-answer
 returns-clause-answer c = λ j p t h. exact ((goal.at.returns-clause-answer c).After-close_level) ∙ close_answer-is j p t c.args.self.now h

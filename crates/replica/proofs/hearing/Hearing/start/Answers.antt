@@ -2,7 +2,7 @@ use Rattle.std.proofs.Common.{◌≡◌, Bool, List, false, replicate, rules, re
 use Rattle.std.proofs.lemmas.List.{length-replicate}
 use Rattle.ball_model.specs.Table.{Table}
 use Rattle.replica.specs.Spread.{AreTouched}
-use Rattle.replica.proofs.LevelLemmas.Step.{get_or-replicate_same}
+use Rattle.edgelist.proofs.RangeLemmas.{copies-at}
 use Rattle.replica.proofs.LevelLemmas.Level.{none_touched}
 use Rattle.replica.proofs.hearing.Hearing.start.Goals as goal
 
@@ -11,7 +11,7 @@ returns c =
     let rows = c.args.rows.now.rows in
     let n = c.len.result in
     let items : c.in_ok-touched.touched.items ≡ replicate n false = c.in_ok-touched.ensures.items_if_clones_equal (search rules) in
-    let quiet : AreTouched rows rows (replicate n false) = none_touched rows (replicate n false) (length-replicate {A = Bool} n false ∙ c.len.ensures.value) (λ q. get_or-replicate_same n q false) in
+    let quiet : AreTouched rows rows (replicate n false) = none_touched rows (replicate n false) (length-replicate {A = Bool} n false ∙ c.len.ensures.value) (λ q. copies-at n q false) in
     record {
       heard = c.empty.ensures;
       change = refl;
