@@ -1,7 +1,7 @@
 //! The fixed fields of a checkpoint.
 
 ghost use Rattle.std.specs.Prelude.{◌≡◌, ◌+◌, ◌≤◌, length, take, drop, OnOk, IfErr};
-ghost use Rattle.std.specs.Int.{w16, w32, w64, from_be_bytes};
+ghost use Rattle.std.specs.Int.{w16, w32};
 ghost use Rattle.ball_model.specs.PlanValue.{greatest_limit};
 ghost use Rattle.batches.specs.Kept.{field};
 ghost use Rattle.checkpoint.specs.Reading.{check_checkpoint_head, checkpoint_head_at, IsRead};

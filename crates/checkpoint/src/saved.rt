@@ -1,6 +1,6 @@
 //! What the bytes of a checkpoint tell of a replica.
 
-ghost use Rattle.std.specs.Prelude.{◌≡◌, ◌+◌, ◌*◌, ◌^◌, ◌≤◌, ◌<◌, ◌++◌, ◌∷◌, [], ℕ, Bool, List};
+ghost use Rattle.std.specs.Prelude.{◌≡◌, ◌+◌, ◌^◌, ◌≤◌, ◌<◌, ◌++◌, ◌∷◌, [], ℕ, Bool, List};
 ghost use Rattle.std.specs.Prelude.{length, map, drop, replicate, slice_index_or, Ok, Err, IfOk};
 ghost use Rattle.std.specs.Prelude.{OnOk, IsOk, IfErr, vec_capacity};
 ghost use Rattle.std.specs.List.{All, flat_map, range_with_len};

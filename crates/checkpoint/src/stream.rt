@@ -1,8 +1,7 @@
 //! The bytes of a checkpoint, as they come from a reader.
 
-ghost use Rattle.std.specs.Prelude.{◌≡◌, ◌+◌, ◌-◌, ◌*◌, ◌^◌, ◌≤◌, ◌<◌, length, take, drop, OnOk};
-ghost use Rattle.std.specs.Prelude.{IfErr, IfOk, ℕ};
-ghost use Rattle.std.specs.Int.{w16, w64, from_be_bytes};
+ghost use Rattle.std.specs.Prelude.{◌≡◌, ◌+◌, ◌*◌, ◌≤◌, length, OnOk, IfErr};
+ghost use Rattle.std.specs.Int.{w64};
 ghost use Rattle.std.specs.Io.KnownBytes.{Consumes, IsAtEnd};
 ghost use Rattle.sha2.specs.Sha256.{sha256};
 ghost use Rattle.ball_model.specs.PlanValue.{greatest_limit};

@@ -1,35 +1,20 @@
 //! A replica: what it knows, and the room in which it goes on. Only its making, `out`, `changed_rows`, `out_of`,
 //! `snapshot` and `merge` take memory.
 
-ghost use Rattle.std.specs.Prelude.{◌≡◌, ◌≢◌, ℕ, ◌<◌, ◌≤◌, ◌+◌, ◌*◌, ◌/◌, ◌%◌, ◌^◌, ◌==◌, ◌&&◌};
-ghost use Rattle.std.specs.Prelude.{◌⊎◌, true, false, length, slice_index_or, option_map, None, []};
-ghost use Rattle.std.specs.Prelude.{map, max, count_by, IsSome, IsTrue, OnOk, OnErr, IfOk, Ok, Err};
-ghost use Rattle.std.specs.Prelude.{◌↔◌};
+ghost use Rattle.std.specs.Prelude.{◌≡◌, ◌≢◌, ◌↔◌, ℕ, ◌<◌, ◌+◌, max, false, OnOk, OnErr, IfOk, Ok, Err};
 ghost use Rattle.std.specs.Arc.{arc_value};
-ghost use Rattle.std.specs.List.{list_any, slice_get};
 ghost use Rattle.ball_model.specs.declared.names.CloseError.TheVariants as waits;
 ghost use Rattle.ball_model.specs.declared.names.MergeError.TheVariants as refusal;
 ghost use Rattle.ball_model.specs.declared.names.Verdict.TheVariants as verdict;
-ghost use Rattle.ball_model.specs.Counter.{ball_counter};
-ghost use Rattle.ball_model.specs.Change.{changed_at};
-ghost use Rattle.ball_model.specs.Laws.{IsCounterRow};
-ghost use Rattle.ball_model.specs.Supersteps.{tally_at};
-ghost use Rattle.ball_model.specs.PlanValue.{measure_of, mixing_of, vertices_of};
+ghost use Rattle.ball_model.specs.PlanValue.{measure_of};
 ghost use Rattle.ball_model.specs.Job.{Job, IsJob, part_of};
-ghost use Rattle.ball_model.specs.Batches.{IsTrueBatch, changed_count, true_batch};
-ghost use Rattle.ball_model.specs.Content.{Content, is_new, verdict_of, close_of, after_close};
-ghost use Rattle.ball_model.specs.State.{SameShown, StandsFor, content_of, further, rows_of};
-ghost use Rattle.ball_model.specs.State.{tallies_of, sums_of};
-ghost use Rattle.figures.specs.Values.{value_of};
-ghost use Rattle.replica.specs.Ahead.{early_batches, early_names, true_early};
+ghost use Rattle.ball_model.specs.Batches.{IsTrueBatch};
+ghost use Rattle.ball_model.specs.Content.{Content, is_new, close_of, after_close};
+ghost use Rattle.ball_model.specs.State.{SameShown, StandsFor, content_of, further};
 ghost use Rattle.replica.specs.Change.{HoldsAfter, take_answer};
-ghost use Rattle.replica.specs.Hearing.{accumulated_by, change_by, heard_by};
 ghost use Rattle.replica.specs.Level.{EndsRun, found_verdict, missing_in};
 ghost use Rattle.replica.specs.Merged.{AreOfOnePart, TakesIn, HoldsOfBoth, ShowsAs, merge_answer};
-ghost use Rattle.replica.specs.Sent.{batch_name, changed_registers, sent_batch};
-ghost use Rattle.replica.specs.Start.{Starts};
 ghost use Rattle.replica.specs.Progress.{CanGoOn};
-ghost use Rattle.replica.specs.Seen.{HasIndex, IsState};
 ghost use Rattle.replica.specs.Runs.{HasContent, Takes, Closes, Merges};
 
 use crate::shown::Shown;

@@ -1,6 +1,6 @@
 //! What a replica does with its marks, and with its figures.
 
-ghost use Rattle.std.specs.Prelude.{◌≡◌, ℕ, ◌<◌, ◌≤◌, ◌+◌, ◌*◌, false};
+ghost use Rattle.std.specs.Prelude.{◌≡◌, ℕ, ◌≤◌, false};
 ghost use Rattle.std.specs.Prelude.{length, slice_index_or, map, count_by};
 ghost use Rattle.std.specs.List.{sum_by, list_any};
 ghost use Rattle.figures.specs.Values.{value_of};

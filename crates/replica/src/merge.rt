@@ -5,8 +5,7 @@ ghost use Rattle.ball_model.specs.History.{holding_in};
 ghost use Rattle.ball_model.specs.Join.{AreAlike};
 ghost use Rattle.replica.specs.Index.{targets_of};
 ghost use Rattle.replica.specs.Merged.{CanTakeIn, CanTakeOver, TakesIn, TakesOver};
-ghost use Rattle.replica.specs.Progress.{CanGoOn, IsWhole};
-ghost use Rattle.replica.specs.Seen.{IsState};
+ghost use Rattle.replica.specs.Progress.{CanGoOn};
 
 use crate::early::Early;
 use crate::targets::Targets;

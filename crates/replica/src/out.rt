@@ -1,16 +1,12 @@
 //! What a replica tells the other partitions.
 
-ghost use Rattle.std.specs.Prelude.{◌≡◌, ◌≢◌, ℕ, ◌<◌, ◌≤◌, ◌+◌, ◌*◌, ◌%◌, ◌==◌, ◌++◌, [], IfOk};
-ghost use Rattle.std.specs.Prelude.{OnErr, OnOk, true, false, slice_index, slice_index_or, length};
+ghost use Rattle.std.specs.Prelude.{◌≡◌, ◌≢◌, ℕ, ◌<◌, [], length, IfOk, OnOk};
 ghost use Rattle.std.specs.Arc.{arc_value};
 ghost use Rattle.ball_model.specs.Job.{Job};
 ghost use Rattle.ball_model.specs.Batches.{true_batch};
-ghost use Rattle.ball_model.specs.PlanValue.{most_parts};
 ghost use Rattle.ball_model.specs.State.{StandsFor};
-ghost use Rattle.ball_model.specs.Masks.{has_bit};
-ghost use Rattle.replica.specs.Sent.{AreChanged, AreChangedVertices, ChangedAt};
-ghost use Rattle.replica.specs.Sent.{IsTold, batch_name, changed_registers, sent_batch};
-ghost use Rattle.replica.specs.Seen.{IsState};
+ghost use Rattle.replica.specs.Sent.{AreChanged, AreChangedVertices, batch_name};
+ghost use Rattle.replica.specs.Sent.{changed_registers, sent_batch};
 
 use crate::level::count_set;
 use crate::told::Telling;

@@ -2,8 +2,6 @@
 
 ghost use Rattle.std.specs.Prelude.{◌≡◌, map, IfOk};
 ghost use Rattle.std.specs.Arc.{arc_value};
-ghost use Rattle.std.specs.Vec.{vec_capacity};
-ghost use Rattle.ball_model.specs.Job.{IsPart};
 ghost use Rattle.ball_model.specs.State.{State};
 ghost use Rattle.replica.specs.Seen.{IsState};
 ghost use Rattle.replica.specs.Saved.{Fits, IsKeepable, IsRebuilt, IsRemade};

@@ -1,10 +1,8 @@
 //! What a checkpoint tells of a replica.
 
-ghost use Rattle.std.specs.Prelude.{◌≡◌, ◌≢◌, ◌↔◌, ℕ, ◌+◌, ◌*◌, ◌^◌, ◌<◌, ◌≤◌, IsTrue, true, false};
-ghost use Rattle.std.specs.Prelude.{map, length, slice_index_or, []};
+ghost use Rattle.std.specs.Prelude.{◌≡◌, ◌↔◌, ℕ, ◌+◌, ◌^◌, ◌<◌, ◌≤◌, map, length, slice_index_or, IsTrue};
 ghost use Rattle.std.specs.Arc.{arc_value};
-ghost use Rattle.std.specs.List.{All};
-ghost use Rattle.replica.specs.Kept.{AreCounters, AllRise, AreSources, AreSums, RowRises};
+ghost use Rattle.replica.specs.Kept.{AreCounters, AllRise, AreSources, AreSums};
 ghost use Rattle.replica.specs.Saved.{AreOfWidth, Fits, HasRows, HasFigures, HasHeard, MayKeep};
 ghost use Rattle.replica.specs.Saved.{MayBeKept};
 

@@ -1,27 +1,23 @@
 //! What a replica has at a superstep.
 
-ghost use Rattle.std.specs.Prelude.{◌≡◌, ℕ, List, ◌<◌, ◌≤◌, ◌+◌, ◌-◌, ◌*◌, ◌/◌, ◌%◌, ◌^◌, ◌==◌};
-ghost use Rattle.std.specs.Prelude.{◌&&◌, ◌⊎◌, if◌then◌else◌, false, not, length, slice_index_or};
-ghost use Rattle.std.specs.Prelude.{is_some, option_map, None, [], map, count_by, IsSome, IsTrue};
-ghost use Rattle.std.specs.Prelude.{IfOk, ◌↔◌};
-ghost use Rattle.std.specs.Arc.{arc_value};
-ghost use Rattle.std.specs.Vec.{vec_capacity};
-ghost use Rattle.std.specs.List.{All, list_any, range_with_len, slice_get};
+ghost use Rattle.std.specs.Prelude.{◌≡◌, ◌↔◌, ℕ, ◌<◌, ◌+◌, ◌/◌, ◌%◌, ◌^◌, ◌==◌, ◌&&◌, false, [], map, length};
+ghost use Rattle.std.specs.Prelude.{slice_index_or, option_map, count_by, None, IsSome, IsTrue, IfOk};
+ghost use Rattle.std.specs.List.{All, list_any, slice_get};
 ghost use Rattle.figures.specs.Values.{value_of};
 ghost use Rattle.ball_model.specs.PlanValue.{mixing_of, vertices_of};
 ghost use Rattle.ball_model.specs.Counter.{ball_counter};
 ghost use Rattle.ball_model.specs.Change.{changed_at};
 ghost use Rattle.ball_model.specs.Laws.{IsCounterRow};
 ghost use Rattle.ball_model.specs.Supersteps.{tally_at};
-ghost use Rattle.ball_model.specs.Job.{Job, IsJob};
+ghost use Rattle.ball_model.specs.Job.{Job};
 ghost use Rattle.ball_model.specs.Batches.{changed_count};
 ghost use Rattle.ball_model.specs.Content.{verdict_of};
-ghost use Rattle.ball_model.specs.State.{State, StandsFor, content_of, early_at, rows_of};
+ghost use Rattle.ball_model.specs.State.{State, StandsFor, content_of, rows_of};
 ghost use Rattle.ball_model.specs.State.{tallies_of, sums_of};
 ghost use Rattle.ball_model.specs.Checkpoint.{no_figures};
 ghost use Rattle.replica.specs.Ahead.{early_batches, early_names, true_early};
 ghost use Rattle.replica.specs.Level.{found_verdict, is_changing, level_verdict, missing_in};
-ghost use Rattle.replica.specs.Hearing.{KeepsAllOrNone, SaysSame, accumulated_by, change_by};
+ghost use Rattle.replica.specs.Hearing.{accumulated_by, change_by};
 ghost use Rattle.replica.specs.Hearing.{heard_by};
 ghost use Rattle.replica.specs.Saved.{IsFigures};
 ghost use Rattle.replica.specs.Seen.{IsPlaceOf, IsState, OwnsVertex};

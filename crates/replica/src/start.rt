@@ -1,6 +1,6 @@
 //! What a replica begins with.
 
-ghost use Rattle.std.specs.Prelude.{◌≡◌, ◌<◌, ◌^◌, map};
+ghost use Rattle.std.specs.Prelude.{◌≡◌, ◌^◌, map};
 ghost use Rattle.std.specs.Prelude.{slice_set, IfOk};
 ghost use Rattle.std.specs.Arc.{arc_value};
 ghost use Rattle.ball_model.specs.PlanValue.{measure_of};

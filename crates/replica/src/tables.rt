@@ -5,7 +5,6 @@ ghost use Rattle.std.specs.Vec.{vec_capacity};
 ghost use Rattle.ball_model.specs.PlanValue.{measure_of};
 ghost use Rattle.figures.specs.Values.{value_of};
 ghost use Rattle.replica.specs.Tables.{AreFirst, CanStep, HasRoomFor, NextTables};
-ghost use Rattle.replica.specs.Tables.{TablesValue};
 
 use crate::hearing::Hearing;
 use crate::tallies::Tallies;

@@ -1,7 +1,6 @@
 //! Tallies that are handed out while they go on.
 
-ghost use Rattle.std.specs.Prelude.{◌≡◌, ◌≤◌, ◌+◌, List, Some, length, map, IfOk, IfSome};
-ghost use Rattle.std.specs.Arc.{arc_value};
+ghost use Rattle.std.specs.Prelude.{◌≡◌, ◌≤◌, List, length, map, IfOk, IfSome};
 ghost use Rattle.std.specs.Vec.{vec_capacity};
 ghost use Rattle.ball_model.specs.Figures.{TallyValue};
 ghost use Rattle.figures.specs.Values.{value_of};
