@@ -23,7 +23,7 @@ use Rattle.replica.specs.Seen.{IsState}
 use Rattle.replica.proofs.KeptLemmas.Kept.{three_levels}
 use Rattle.replica.proofs.SavedLemmas.Rebuilt.{kept_are}
 use Rattle.replica.proofs.SeenLemmas.Read.{few}
-use Rattle.checkpoint.specs.declared.header.Header.{Header}
+use Rattle.checkpoint.specs.declared.header.CheckpointHeader.{CheckpointHeader}
 use Rattle.checkpoint.specs.declared.error.KeepError.{KeepError}
 use Rattle.checkpoint.specs.Parts.{heard_bytes, count_bytes}
 use Rattle.ball_model.specs.Checks.{◌>>=◌}
@@ -132,7 +132,7 @@ covers_early v s =
 
 -- ---- the fixed fields
 -- those of a replica, in a version
-abbrev pub head_in : ℕ → State → Header
+abbrev pub head_in : ℕ → State → CheckpointHeader
 head_in version v = record {
   magic = 0x4842434b;
   version = version;

@@ -10,7 +10,7 @@ use Rattle.ball_model.specs.State.{State}
 use Rattle.ball_model.specs.Checkpoint.{front_bytes}
 use Rattle.batches.specs.Kept.{field}
 use Rattle.batches.proofs.HeadLemmas.{field_2, field_4}
-use Rattle.checkpoint.specs.declared.header.Header.{Header}
+use Rattle.checkpoint.specs.declared.header.CheckpointHeader.{CheckpointHeader}
 use Rattle.checkpoint.specs.declared.error.KeepError.{KeepError}
 use Rattle.checkpoint.specs.declared.error.KeepError.TheVariants as errors
 use Rattle.ball_model.specs.Checks.{◌>>=◌}
@@ -46,7 +46,7 @@ two : (at : ℕ) (bytes : List ℕ) → at + 2 ≤ length bytes → ((i : ℕ) �
 two at bytes long fits = split at 2 bytes ∙ ap (λ (t : List ℕ). t ++ drop (at + 2) bytes) (sym (field_2 at bytes long fits))
 
 -- the fixed fields as bytes, one field after another, and what follows them
-abbrev head_then : Header → List ℕ → List ℕ
+abbrev head_then : CheckpointHeader → List ℕ → List ℕ
 head_then h rest =
     to_be_bytes w32 h.magic ++ (h.version ∷ h.log2m ∷ (to_be_bytes w16 h.parts ++ (to_be_bytes w16 h.partition ++ (to_be_bytes w32 h.vertices
     ++ (to_be_bytes w32 h.size ++ (to_be_bytes w32 h.superstep ++ (h.job ++ rest)))))))
@@ -66,7 +66,7 @@ head_is bytes long fits =
     four 0 bytes (omega arith) fits ∙ ap (λ (t : List ℕ). to_be_bytes w32 (field w32 0 bytes) ++ t) e8
 
 -- fixed fields of a part: what the checks say of them
-record IsHead (part : PartValue) (h : Header) : Type 0 where
+record IsHead (part : PartValue) (h : CheckpointHeader) : Type 0 where
   magic : h.magic ≡ 0x4842434b
   job : h.job ≡ part.plan.job
   partition : h.partition ≡ part.number
@@ -75,7 +75,7 @@ record IsHead (part : PartValue) (h : Header) : Type 0 where
   vertices : h.vertices ≡ part.plan.vertices
   size : h.size ≡ length part.preds
 
-head_passed : (part : PartValue) (h : Header) → check_checkpoint_head part h ≡ Ok tt → IsHead part h
+head_passed : (part : PartValue) (h : CheckpointHeader) → check_checkpoint_head part h ≡ Ok tt → IsHead part h
 unfolding check_checkpoint_head
 head_passed part h e =
     let a = goes_on _ errors.Magic _ tt e in
@@ -101,7 +101,7 @@ congr : (f : ℕ → ℕ → ℕ → ℕ → ℕ → ℕ → ℕ → ℕ → Lis
 congr f a0 b0 a1 b1 a2 b2 a3 b3 a4 b4 a5 b5 a6 b6 a7 b7 a8 b8 e0 e1 e2 e3 e4 e5 e6 e7 e8 = cc
 
 -- the fixed fields of the replica in a version
-abbrev head_of : ℕ → State → Header
+abbrev head_of : ℕ → State → CheckpointHeader
 head_of version v = record {
   magic = 0x4842434b;
   version = version;
@@ -114,7 +114,7 @@ head_of version v = record {
   job = v.part.plan.job;
 }
 
-same_head : (n : ℕ) (v : State) (h : Header) (rest : List ℕ) → IsHead v.part h → h.version ≡ n → h.superstep ≡ v.superstep → head_then h rest ≡ head_then (head_of n v) rest
+same_head : (n : ℕ) (v : State) (h : CheckpointHeader) (rest : List ℕ) → IsHead v.part h → h.version ≡ n → h.superstep ≡ v.superstep → head_then h rest ≡ head_then (head_of n v) rest
 same_head n v h rest is version superstep =
     congr (λ x0 x1 x2 x3 x4 x5 x6 x7 x8. head_then (record { magic = x0; version = x1; log2m = x2; parts = x3; partition = x4; vertices = x5; size = x6; superstep = x7; job = x8 }) rest)
     h.magic 0x4842434b h.version n h.log2m v.part.plan.log2m h.parts v.part.plan.parts h.partition v.part.number h.vertices v.part.plan.vertices h.size (length v.part.preds) h.superstep v.superstep h.job v.part.plan.job
@@ -146,7 +146,7 @@ either true b e = inl refl
 either false b e = inr (holds b e)
 
 -- fixed fields that pass are of one of the two versions
-pub one_or_two : (part : PartValue) (h : Header) → check_checkpoint_head part h ≡ Ok tt → (h.version ≡ 1) ⊎ (h.version ≡ 2)
+pub one_or_two : (part : PartValue) (h : CheckpointHeader) → check_checkpoint_head part h ≡ Ok tt → (h.version ≡ 1) ⊎ (h.version ≡ 2)
 unfolding check_checkpoint_head
 one_or_two part h e =
     let a = goes_on _ errors.Magic _ tt e in

@@ -21,7 +21,7 @@ use Rattle.ball_model.specs.declared.streams.Filled.TheVariants as filled
 use Rattle.ball_model.specs.Job.{PartValue}
 use Rattle.ball_model.specs.Streams.{AfterAtMost, AreSure, EndsAfter, TakesAtMost, Rises}
 use Rattle.ball_model.proofs.StreamLemmas.{after_none}
-use Rattle.checkpoint.specs.declared.header.Header.{Header}
+use Rattle.checkpoint.specs.declared.header.CheckpointHeader.{CheckpointHeader}
 use Rattle.checkpoint.specs.declared.sizes.TheConstants.{DIGEST_LEN, HEADER_LEN}
 use Rattle.checkpoint.specs.declared.error.KeepError.{KeepError}
 use Rattle.checkpoint.specs.declared.error.KeepError.TheVariants as errors
@@ -530,14 +530,14 @@ pub held-some : (plan : PlanValue) (version : ℕ) (rest : List ℕ) → (versio
 unfolding held_form
 held-some plan version rest e = rw e refl
 
-pub fixed-most : (part : PartValue) (h : Header) → fixed_length part h ≤ most_after part h
+pub fixed-most : (part : PartValue) (h : CheckpointHeader) → fixed_length part h ≤ most_after part h
 fixed-most part h = omega arith
 
-pub fixed-early : (part : PartValue) (h : Header) → (h.version == 1) ≡ false → fixed_length part h + most_early part.plan ≤ most_after part h
+pub fixed-early : (part : PartValue) (h : CheckpointHeader) → (h.version == 1) ≡ false → fixed_length part h + most_early part.plan ≤ most_after part h
 fixed-early part h is = rw is (omega arith)
 
 -- a checkpoint of the part at a later superstep may have more
-pub after-most : (part : PartValue) (h : Header) (t : ℕ) → h.superstep ≤ t → most_after part h ≤ most_checkpoint_body part t
+pub after-most : (part : PartValue) (h : CheckpointHeader) (t : ℕ) → h.superstep ≤ t → most_after part h ≤ most_checkpoint_body part t
 after-most part h t le = elim (cases_Bool (h.version == 1)) [
   | inl is ↦ rw is (omega (arith, le))
   | inr is ↦ rw is (omega (arith, le))
@@ -548,12 +548,12 @@ pub within-head : (part : PartValue) (old new : Option (List ℕ)) → TakesAtMo
 within-head part old new p = record { bytes = p.bytes; consumed = p.consumed; few = omega (arith, p.few) }
 
 -- the fixed fields, and then no more than they allow
-pub content-few : (part : PartValue) (h : Header) (head more : List ℕ) → length head ≡ HEADER_LEN → checkpoint_head_at head ≡ h → length more ≤ most_after part h → length (head ++ more) ≤ allowed_content part (head ++ more)
+pub content-few : (part : PartValue) (h : CheckpointHeader) (head more : List ℕ) → length head ≡ HEADER_LEN → checkpoint_head_at head ≡ h → length more ≤ most_after part h → length (head ++ more) ≤ allowed_content part (head ++ more)
 content-few part h head more len is few =
     let front : take HEADER_LEN (head ++ more) ≡ head = take-append-le HEADER_LEN head more (omega (arith, len)) ∙ take_all HEADER_LEN head (omega (arith, len)) in
     rw (front, is) (omega (arith, length-append head more, len, few))
 
-pub within-content : (part : PartValue) (h : Header) (a b c : Option (List ℕ)) (head : List ℕ) → length head ≡ HEADER_LEN → checkpoint_head_at head ≡ h → Consumes a b head → TakesAtMost (most_after part h) b c
+pub within-content : (part : PartValue) (h : CheckpointHeader) (a b c : Option (List ℕ)) (head : List ℕ) → length head ≡ HEADER_LEN → checkpoint_head_at head ≡ h → Consumes a b head → TakesAtMost (most_after part h) b c
     → TakesWithin (allowed_content part) a c
 within-content part h a b c head len is first p = record {
   bytes = head ++ p.bytes;
@@ -601,10 +601,10 @@ pub digest_same : (digest told text : List ℕ) → false ≡ not (bytes_eq dige
 digest_same digest told text e is = ap (bytes_eq digest) (sym is) ∙ flip_false (bytes_eq digest told) e
 
 -- ---- the whole
-pub told-body : (part : PartValue) (piece rest : List ℕ) (h : Header) → checkpoint_head_at piece ≡ h → check_checkpoint_head part h ≡ Ok tt → told_body part piece rest ≡ body_form part h rest
+pub told-body : (part : PartValue) (piece rest : List ℕ) (h : CheckpointHeader) → checkpoint_head_at piece ≡ h → check_checkpoint_head part h ≡ Ok tt → told_body part piece rest ≡ body_form part h rest
 unfolding told_body
 told-body part piece rest h is fine =
-    ap (λ (x : Header). check_checkpoint_head part x >>= λ _. body_form part x rest) is ∙ ap (λ (r : Result (Unit {0}) KeepError). r >>= λ _. body_form part h rest) fine
+    ap (λ (x : CheckpointHeader). check_checkpoint_head part x >>= λ _. body_form part x rest) is ∙ ap (λ (r : Result (Unit {0}) KeepError). r >>= λ _. body_form part h rest) fine
 
 told-bad : (part : PartValue) (piece rest : List ℕ) (e : KeepError) → Err e ≡ check_checkpoint_head part (checkpoint_head_at piece) → told_body part piece rest ≡ Err e
 unfolding told_body
@@ -672,7 +672,7 @@ passes-held plan version = elim (cases_Bool (version == 1)) [
   | inr second ↦ inr (held-some plan version [] second ∙ followed-err (needs 2) (told_batches plan) [] errors.Short (needs-err 2 [] (omega arith)))
 ]
 
-pub passes-body : (part : PartValue) (piece : List ℕ) (h : Header) → checkpoint_head_at piece ≡ h → check_checkpoint_head part h ≡ Ok tt → Passes (told_body part piece) []
+pub passes-body : (part : PartValue) (piece : List ℕ) (h : CheckpointHeader) → checkpoint_head_at piece ≡ h → check_checkpoint_head part h ≡ Ok tt → Passes (told_body part piece) []
 passes-body part piece h is fine = passes-as (body_form part h) (told_body part piece) [] (told-body part piece [] h is fine)
     (passes-first (needs (fixed_length part h)) (λ _. held_form part.plan h.version) [] (λ _. passes-held part.plan h.version) (passes-needs (fixed_length part h) [] (omega arith)))
 

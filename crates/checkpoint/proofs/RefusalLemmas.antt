@@ -13,7 +13,7 @@ use Rattle.replica.specs.Seen.{IsState}
 use Rattle.replica.proofs.LevelLemmas.Rise.{all_stay}
 use Rattle.replica.proofs.LevelLemmas.State.{no_sources}
 use Rattle.replica.proofs.LevelLemmas.Step.{get_or-replicate_same}
-use Rattle.checkpoint.specs.declared.header.Header.{Header}
+use Rattle.checkpoint.specs.declared.header.CheckpointHeader.{CheckpointHeader}
 use Rattle.checkpoint.specs.declared.error.KeepError.{KeepError}
 use Rattle.checkpoint.specs.declared.error.KeepError.TheVariants as errors
 use Rattle.checkpoint.specs.Reading.{checkpoint_head_at, sealed_form, Ends, Fails, RefusesAs, TellNone, IsOfBytes, IsOfBody}
@@ -35,8 +35,8 @@ told version v text body s is =
     let head : checkpoint_head_at (take 54 text) ≡ checkpoint_head_at front = ap checkpoint_head_at (ap (take 54) is ∙ take_at front body 54 long) in
     let fields = head ∙ head_is_in version v s in
     record {
-      version_is = ap (λ (h : Header). h.version) fields;
-      step = sym (ap (λ (h : Header). h.superstep) fields);
+      version_is = ap (λ (h : CheckpointHeader). h.version) fields;
+      step = sym (ap (λ (h : CheckpointHeader). h.superstep) fields);
       body_is = ap (drop 54) is ∙ subst (λ (n : ℕ). drop n (front ++ body) ≡ body) long (drop-append_seam front body);
     }
 

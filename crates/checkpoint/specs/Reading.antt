@@ -15,7 +15,7 @@ use Rattle.batches.specs.declared.header.TheConstants.{HEADER_LEN as batch_head}
 use Rattle.replica.specs.Saved.{IsKeepable}
 use Rattle.checkpoint.specs.declared.error.KeepError.{KeepError}
 use Rattle.checkpoint.specs.declared.error.KeepError.TheVariants as errors
-use Rattle.checkpoint.specs.declared.header.Header.{Header}
+use Rattle.checkpoint.specs.declared.header.CheckpointHeader.{CheckpointHeader}
 use Rattle.checkpoint.specs.declared.sizes.TheConstants.{HEADER_LEN, ENTRY_LEN, SUM_LEN, HEARD_LEN, COUNT_LEN, LENGTH_LEN, DIGEST_LEN}
 
 -- A form says how many of the bytes at the front are its own, or why they are refused.
@@ -34,7 +34,7 @@ followed first second bytes = do
   Ok (n + k)
 
 -- ---- the fixed fields
-unfoldable pub checkpoint_head_at : List ℕ → Header
+unfoldable pub checkpoint_head_at : List ℕ → CheckpointHeader
 checkpoint_head_at bytes = record {
   magic = field w32 0 bytes;
   version = slice_index bytes 4;
@@ -52,7 +52,7 @@ abbrev pub checkpoint_magic : ℕ
 checkpoint_magic = 0x4842434b
 
 -- the checks of the fixed fields, in their order
-unfoldable pub check_checkpoint_head : PartValue → Header → Result (Unit {0}) KeepError
+unfoldable pub check_checkpoint_head : PartValue → CheckpointHeader → Result (Unit {0}) KeepError
 check_checkpoint_head part h =
     if not (h.magic == checkpoint_magic) then Err errors.Magic
     else if not (h.version == 1) && not (h.version == 2) then Err errors.Version
@@ -67,7 +67,7 @@ check_checkpoint_head part h =
 
 -- ---- what follows them
 -- how many bytes there are up to the early batches: vertices and sums, and in version 2 what is heard
-abbrev pub fixed_length : PartValue → Header → ℕ
+abbrev pub fixed_length : PartValue → CheckpointHeader → ℕ
 fixed_length part h =
     length part.preds * (ENTRY_LEN + 2 ^ part.plan.log2m) + SUM_LEN * (h.superstep + 1)
     + (if h.version == 1 then 0 else HEARD_LEN + length part.preds * 2 ^ part.plan.log2m)
@@ -109,7 +109,7 @@ early_form plan = followed (needs COUNT_LEN) (told_batches plan)
 unfoldable pub held_form : PlanValue → ℕ → Form
 held_form plan version rest = if version == 1 then Ok 0 else early_form plan rest
 
-abbrev pub body_form : PartValue → Header → Form
+abbrev pub body_form : PartValue → CheckpointHeader → Form
 body_form part h = followed (needs (fixed_length part h)) (λ _. held_form part.plan h.version)
 
 -- the fixed fields pass, and the rest follows
@@ -153,7 +153,7 @@ most_checkpoint_body part t =
     + HEARD_LEN + length part.preds * 2 ^ part.plan.log2m + most_early part.plan
 
 -- how much follows these fixed fields at most, up to the digest
-abbrev pub most_after : PartValue → Header → ℕ
+abbrev pub most_after : PartValue → CheckpointHeader → ℕ
 most_after part h = fixed_length part h + (if h.version == 1 then 0 else most_early part.plan)
 
 -- the most that the fixed fields at the front of the bytes allow up to the digest

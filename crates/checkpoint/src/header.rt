@@ -15,7 +15,7 @@ pub(crate) const MAGIC: u32 = 0x4842_434b;
 
 /// The fixed fields, as they stand.
 #[derive(Clone, Copy)]
-pub struct Header {
+pub struct CheckpointHeader {
     /// `HBCK` in every checkpoint.
     pub magic: u32,
     /// 1 or 2.
@@ -64,11 +64,11 @@ fn job_at(bytes: &[u8]) -> [u8; 32]
 
 /// The fixed fields of bytes that are long enough.
 #[tactic(auto, unfolding(crate::specs::Reading::checkpoint_head_at))]
-pub(crate) fn read_header(bytes: &[u8]) -> Header
+pub(crate) fn read_header(bytes: &[u8]) -> CheckpointHeader
     requires { HEADER_LEN ≤ length bytes.now }
     ensures { result ≡ checkpoint_head_at bytes.now }
 {
-    Header {
+    CheckpointHeader {
         magic: u32_at(bytes, 0),
         version: bytes[4],
         log2m: bytes[5],
@@ -83,7 +83,7 @@ pub(crate) fn read_header(bytes: &[u8]) -> Header
 
 /// The first fault of the fixed fields.
 #[tactic(auto, unfolding(crate::specs::Reading::check_checkpoint_head))]
-pub(crate) fn check_header(part: &Part, header: &Header) -> Result<(), KeepError>
+pub(crate) fn check_header(part: &Part, header: &CheckpointHeader) -> Result<(), KeepError>
     ensures value { result ≡ check_checkpoint_head part.now header.now }
     ensures in_time { OnOk result (header.now.superstep ≤ part.now.plan.limit) }
     ensures small { OnOk result (header.now.superstep ≤ greatest_limit) }

@@ -18,7 +18,7 @@ ghost use Rattle.checkpoint.specs.Reading.{Grows, Fails, RefusesAs, HasHead, Tak
 ghost use Rattle.checkpoint.specs.Reading.{IsOfBytes, IsReplicaSpelling, IfOkButWant, OnOkOrMemory};
 
 use crate::error::KeepError;
-use crate::header::{Header, check_header, read_header};
+use crate::header::{CheckpointHeader, check_header, read_header};
 use crate::saved::saved_of;
 use crate::sizes::HEADER_LEN;
 use crate::stream::{read_body, read_full, read_seal};
@@ -46,7 +46,7 @@ fn read_head<R: CountedRead>(
     part: &Part,
     reader: &mut R,
     text: &mut Vec<u8>,
-) -> Result<Header, KeepError>
+) -> Result<CheckpointHeader, KeepError>
     requires { text.old.items ≡ [] }
     ensures done { OnOk result (Grows R.remaining R.failed_calls R.sure_calls (needs HEADER_LEN)
         HEADER_LEN reader.old reader.new text.old.items text.new.items) }
@@ -73,7 +73,7 @@ fn read_content<R: CountedRead>(
     part: &Part,
     reader: &mut R,
     text: &mut Vec<u8>,
-) -> Result<Header, KeepError>
+) -> Result<CheckpointHeader, KeepError>
     requires { text.old.items ≡ [] }
     ensures done { OnOk result (Grows R.remaining R.failed_calls R.sure_calls
         (content_form part.now) (HEADER_LEN + most_checkpoint_body part.now part.now.plan.limit)
@@ -101,7 +101,7 @@ fn read_text<R: CountedRead>(
     part: &Part,
     reader: &mut R,
     text: &mut Vec<u8>,
-) -> Result<Header, KeepError>
+) -> Result<CheckpointHeader, KeepError>
     requires { text.old.items ≡ [] }
     ensures done { OnOk result (Ends R.remaining R.failed_calls (sealed_form part.now)
         (most_checkpoint_bytes part.now part.now.plan.limit + 1) reader.old reader.new) }

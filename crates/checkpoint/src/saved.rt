@@ -25,7 +25,7 @@ ghost use Rattle.checkpoint.specs.Told.{IfOkButMemory, AreNext, AreOf, IsOfPlan,
 ghost use Rattle.checkpoint.specs.Told.{IsUnnamed};
 
 use crate::error::KeepError;
-use crate::header::{Header, u16_at};
+use crate::header::{CheckpointHeader, u16_at};
 use crate::sizes::{COUNT_LEN, ENTRY_LEN, HEADER_LEN, HEARD_LEN, LENGTH_LEN};
 use crate::stream::u64_at;
 use batches::{Batch, BatchError};
@@ -457,7 +457,7 @@ fn held_of(
 pub(crate) fn saved_of(
     alloc: Global,
     part: &Part,
-    header: &Header,
+    header: &CheckpointHeader,
     text: &[u8],
 ) -> Result<Saved, KeepError>
     requires { header.now.superstep ≤ greatest_limit }

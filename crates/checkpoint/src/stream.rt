@@ -12,7 +12,7 @@ ghost use Rattle.checkpoint.specs.Reading.{most_early, body_form, most_after, fi
 ghost use Rattle.checkpoint.specs.Reading.{seal_form};
 
 use crate::error::KeepError;
-use crate::header::Header;
+use crate::header::CheckpointHeader;
 use crate::sizes::{
     COUNT_LEN, DIGEST_LEN, ENTRY_LEN, HEARD_LEN, ID_LEN, LENGTH_LEN, PIECE, SUM_LEN,
 };
@@ -160,7 +160,7 @@ fn read_early<R: CountedRead>(
 }
 
 // How many bytes follow the fixed fields, up to the number of early batches.
-pub(crate) fn fixed_len(part: &Part, header: &Header) -> usize
+pub(crate) fn fixed_len(part: &Part, header: &CheckpointHeader) -> usize
     requires { header.now.superstep ≤ greatest_limit }
     ensures { result ≡ fixed_length part.now header.now }
 {
@@ -177,7 +177,7 @@ pub(crate) fn fixed_len(part: &Part, header: &Header) -> usize
 pub(crate) fn read_body<R: CountedRead>(
     reader: &mut R,
     part: &Part,
-    header: &Header,
+    header: &CheckpointHeader,
     text: &mut Vec<u8>,
 ) -> Result<(), KeepError>
     requires { header.now.superstep ≤ greatest_limit }

@@ -1,6 +1,6 @@
 use Rattle.std.proofs.Common.{◌≡◌, ◌≤◌, ◌<◌, ◌∙◌, ℕ, List, Ok, length, get_or, take, drop, arith, ap, sym, subst, refl, inl, inr}
 use Rattle.ball_model.specs.Checkpoint.{first_checkpoint_bytes, front_bytes, sealed, without_names}
-use Rattle.checkpoint.specs.declared.header.Header.{Header}
+use Rattle.checkpoint.specs.declared.header.CheckpointHeader.{CheckpointHeader}
 use Rattle.std.proofs.lemmas.List.{length-take, take-append-drop, take-take}
 use Rattle.ball_model.specs.Job.{PartValue}
 use Rattle.replica.specs.Saved.{Fits}
@@ -32,10 +32,10 @@ returns-in_err-saved-clause-refused g c =
     record {
       second = λ v k part is.
           let told = second_told v bytes text k.state whole is in
-          memory_not_shape e (c.in_err-saved.ensures.right (ap (λ (h : Header). h.version) head ∙ told.version_is) v k part (told.step ∙ sym (ap (λ (h : Header). h.superstep) head)) told.body_is) shape;
+          memory_not_shape e (c.in_err-saved.ensures.right (ap (λ (h : CheckpointHeader). h.version) head ∙ told.version_is) v k part (told.step ∙ sym (ap (λ (h : CheckpointHeader). h.superstep) head)) told.body_is) shape;
       first = λ v k part is.
           let told = first_told v bytes text k.state whole is in
-          memory_not_shape e (c.in_err-saved.ensures.first (ap (λ (h : Header). h.version) head ∙ told.version_is) v k part (told.step ∙ sym (ap (λ (h : Header). h.superstep) head)) told.body_is) shape;
+          memory_not_shape e (c.in_err-saved.ensures.first (ap (λ (h : CheckpointHeader). h.version) head ∙ told.version_is) v k part (told.step ∙ sym (ap (λ (h : CheckpointHeader). h.superstep) head)) told.body_is) shape;
     } in
     let r = err_from_is_err_and c.from_residual-in_err-saved.result c.from_residual-in_err-saved.ensures.1 in
     rw (r.1, r.2) (body_refuses g.R.CountedRead.sure_calls e c.in_ok-header.ensures.done c.in_err-saved.ensures.kind none)
@@ -52,12 +52,12 @@ returns-then-not-fits-clause-refused g c =
       second = λ v k part is.
           let told = second_told v bytes text k.state whole is in
           no_fit (keepable_fits c.args.part.now saved v k
-          (c.in_ok-saved.ensures.right (ap (λ (h : Header). h.version) head ∙ told.version_is) v k part (told.step ∙ sym (ap (λ (h : Header). h.superstep) head)) told.body_is)
+          (c.in_ok-saved.ensures.right (ap (λ (h : CheckpointHeader). h.version) head ∙ told.version_is) v k part (told.step ∙ sym (ap (λ (h : CheckpointHeader). h.superstep) head)) told.body_is)
           c.in_ok-saved.ensures.width c.in_ok-saved.ensures.accumulated);
       first = λ v k part is.
           let told = first_told v bytes text k.state whole is in
           no_fit (keepable_fits c.args.part.now saved (without_names v) (unnamed_keepable v k)
-          (c.in_ok-saved.ensures.first (ap (λ (h : Header). h.version) head ∙ told.version_is) v k part (told.step ∙ sym (ap (λ (h : Header). h.superstep) head)) told.body_is)
+          (c.in_ok-saved.ensures.first (ap (λ (h : CheckpointHeader). h.version) head ∙ told.version_is) v k part (told.step ∙ sym (ap (λ (h : CheckpointHeader). h.superstep) head)) told.body_is)
           c.in_ok-saved.ensures.width c.in_ok-saved.ensures.accumulated);
     } in
     body_refuses g.R.CountedRead.sure_calls errors.Shape c.in_ok-header.ensures.done (inr refl) none
@@ -68,7 +68,7 @@ returns-clause-first g c = λ v k part known.
     let head = c.in_ok-header.ensures.head ∙ ap (λ (l : List ℕ). checkpoint_head_at (take 54 l)) (sym c.deref.ensures.value) in
     let whole = subst (λ (l : List ℕ). first_checkpoint_bytes v ≡ sealed l) (sym c.deref.ensures.value) (c.in_ok-header.ensures.sealed (first_checkpoint_bytes v) known) in
     let told = first_told v (first_checkpoint_bytes v) text k.state whole refl in
-    c.in_ok-saved.ensures.first (ap (λ (h : Header). h.version) head ∙ told.version_is) v k part (told.step ∙ sym (ap (λ (h : Header). h.superstep) head)) told.body_is
+    c.in_ok-saved.ensures.first (ap (λ (h : CheckpointHeader). h.version) head ∙ told.version_is) v k part (told.step ∙ sym (ap (λ (h : CheckpointHeader). h.superstep) head)) told.body_is
 
 pub returns-clause-spelled : goal.returns-clause-spelled
 returns-clause-spelled g c = λ v r is bytes known.
@@ -79,14 +79,14 @@ returns-clause-spelled g c = λ v r is bytes known.
     let short = length-take 54 text in
     let passed = ap (check_checkpoint_head c.args.part.now) (sym head) ∙ c.in_ok-header.ensures.checked in
     let checked = subst (λ (p : PartValue). check_checkpoint_head p (checkpoint_head_at (take 54 text)) ≡ Ok tt) (sym r.part_is) passed in
-    let step = sym (r.superstep ∙ c.in_ok-saved.ensures.superstep ∙ ap (λ (h : Header). h.superstep) head) in
+    let step = sym (r.superstep ∙ c.in_ok-saved.ensures.superstep ∙ ap (λ (h : CheckpointHeader). h.superstep) head) in
     let fits : (i : ℕ) → get_or (take 54 text) i 0 < 256 =
     front_fits text (take 54 text) (drop 54 text) (sym (take-append-drop 54 text)) c.in_ok-saved.ensures.bytes in
     let front : (n : ℕ) → (checkpoint_head_at (take 54 text)).version ≡ n → take 54 text ≡ front_bytes n v =
     λ n version. sym (take-take 54 54 text (omega arith)) ∙ front_is n v (take 54 text) fits (omega (arith, short, long)) checked version step is.part.plan.digest in
     elim (one_or_two c.args.part.now (checkpoint_head_at (take 54 text)) passed) [
-      | inl one ↦ inr (first_sealed_is v bytes text whole (first_content_is c.args.part.now c.in_ok-saved.saved v text r is (front 1 one) (c.in_ok-saved.ensures.first_spelled (ap (λ (h : Header). h.version) head ∙ one))))
-      | inr two ↦ inl (sealed_is v bytes text whole (content_is c.args.part.now c.in_ok-saved.saved v text r is (front 2 two) (c.in_ok-saved.ensures.spelled (ap (λ (h : Header). h.version) head ∙ two))))
+      | inl one ↦ inr (first_sealed_is v bytes text whole (first_content_is c.args.part.now c.in_ok-saved.saved v text r is (front 1 one) (c.in_ok-saved.ensures.first_spelled (ap (λ (h : CheckpointHeader). h.version) head ∙ one))))
+      | inr two ↦ inl (sealed_is v bytes text whole (content_is c.args.part.now c.in_ok-saved.saved v text r is (front 2 two) (c.in_ok-saved.ensures.spelled (ap (λ (h : CheckpointHeader). h.version) head ∙ two))))
     ]
 
 pub returns-in_err-header-clause-within : goal.returns-in_err-header-clause-within
