@@ -187,11 +187,6 @@ batch_here b bytes number after rest n ok split long is right =
     ap (from_be_bytes w64) (take_all 8 number (omega (arith, long)) ∙ both.0) ∙ from_be_bytes-to_be_bytes_8 told (omega (arith, batch_length b ok, batch_few b ok)) in
     (is ∙ number_is, both.1)
 
--- an item, where there is one at this place
-pub item_at : {X : Type 0} (items : List X) (i : ℕ) → i < length items → X
-item_at [] i lt = absurd (omega (arith, lt))
-item_at (x ∷ items) i lt = x
-
 -- ---- what is held
 abbrev pub rows_of : State → List ℕ
 rows_of v = flat_map (λ row. row) v.accumulated

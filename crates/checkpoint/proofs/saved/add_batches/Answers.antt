@@ -5,8 +5,9 @@ use Rattle.std.specs.List.{flat_map}
 use Rattle.std.proofs.lemmas.Result.{err_from_is_err_and}
 use Rattle.ball_model.specs.Batches.{BatchValue}
 use Rattle.ball_model.specs.Checkpoint.{early_bytes}
+use Rattle.figures.proofs.PlaceLemmas.{an_item}
 use Rattle.checkpoint.proofs.HeldLemmas.{batch_added}
-use Rattle.checkpoint.proofs.RightLemmas.{item_at, stands_last, stands_next, taken_all, taken_next}
+use Rattle.checkpoint.proofs.RightLemmas.{stands_last, stands_next, taken_all, taken_next}
 use Rattle.checkpoint.proofs.SavedLemmas.{one_more}
 use Rattle.checkpoint.proofs.saved.add_batches.Goals as goal
 
@@ -39,7 +40,7 @@ returns-in_err-batch-clause-right c = λ batches of_plan count is.
     let i = c.loop.counter in
     let so_far = c.loop.invariant.right batches of_plan count is in
     let lt : i < length batches = omega arith in
-    let b = item_at batches i lt in
+    let b = an_item batches i lt in
     let p = err_from_is_err_and c.from_residual.result c.from_residual.ensures.1 in
     rw (p.1, p.2) (c.in_err-batch.ensures.right (get_or batches i b) (flat_map early_bytes (drop (i + 1) batches) ++ []) (of_plan i b lt) (stands_next early_bytes batches b i c.loop.rest.now [] lt so_far.1))
 

@@ -1,7 +1,7 @@
 use Rattle.std.proofs.Common.{List, length, ap, arith}
+use Rattle.std.proofs.lemmas.Result.{on_ok_weaker, on_err_weaker}
 use Rattle.ball_model.specs.Batches.{BatchValue}
 use Rattle.replica.proofs.SavedLemmas.Rebuilt.{kept_are}
-use Rattle.checkpoint.proofs.WriteLemmas.{ok_then, err_then}
 use Rattle.checkpoint.proofs.SpoolLemmas.{passes_as, stops_as}
 use Rattle.checkpoint.proofs.TextLemmas.{count_is, early_few}
 use Rattle.checkpoint.proofs.write.keep_count.Goals as goal
@@ -14,10 +14,10 @@ overflow_cast-count g c =
 
 pub returns-clause-done : goal.returns-clause-done
 returns-clause-done g c =
-    ok_then c.keep.result c.keep.ensures.done
-    (λ p. passes_as g.W.Write.contents g.W.CountedWrite.failed_calls g.W.CountedWrite.sure_calls g.W.CountedWrite.room _ _ _ _ _ _ (count_is c.args.replica.now c.early_count-count.result c.to_be_bytes.result c.early_count-count.ensures.value c.to_be_bytes.ensures) p)
+    on_ok_weaker c.keep.result
+    (λ p. passes_as g.W.Write.contents g.W.CountedWrite.failed_calls g.W.CountedWrite.sure_calls g.W.CountedWrite.room _ _ _ _ _ _ (count_is c.args.replica.now c.early_count-count.result c.to_be_bytes.result c.early_count-count.ensures.value c.to_be_bytes.ensures) p) c.keep.ensures.done
 
 pub returns-clause-stops : goal.returns-clause-stops
 returns-clause-stops g c =
-    err_then c.keep.result c.keep.ensures.stops
-    (λ p. stops_as g.W.Write.contents g.W.CountedWrite.failed_calls g.W.CountedWrite.sure_calls g.W.CountedWrite.room _ _ _ _ _ (count_is c.args.replica.now c.early_count-count.result c.to_be_bytes.result c.early_count-count.ensures.value c.to_be_bytes.ensures) p)
+    on_err_weaker c.keep.result
+    (λ p. stops_as g.W.Write.contents g.W.CountedWrite.failed_calls g.W.CountedWrite.sure_calls g.W.CountedWrite.room _ _ _ _ _ (count_is c.args.replica.now c.early_count-count.result c.to_be_bytes.result c.early_count-count.ensures.value c.to_be_bytes.ensures) p) c.keep.ensures.stops

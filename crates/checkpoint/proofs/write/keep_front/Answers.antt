@@ -1,7 +1,7 @@
 use Rattle.std.proofs.Common.{◌∙◌, ap}
 use Rattle.std.specs.Int.{w16, w32, to_be_bytes}
+use Rattle.std.proofs.lemmas.Result.{on_ok_weaker, on_err_weaker}
 use Rattle.ball_model.specs.PlanValue.{PlanValue}
-use Rattle.checkpoint.proofs.WriteLemmas.{ok_then, err_then}
 use Rattle.checkpoint.proofs.SpoolLemmas.{passes_as, stops_as}
 use Rattle.checkpoint.proofs.TextLemmas.{front_is}
 use Rattle.checkpoint.proofs.write.keep_front.Goals as goal
@@ -19,7 +19,7 @@ returns-clause-done g c =
     (c.to_be_bytes-5.ensures ∙ ap (to_be_bytes w32) c.size_of.ensures.size)
     (c.to_be_bytes-6.ensures ∙ ap (to_be_bytes w32) c.superstep.ensures.value)
     (c.job.ensures ∙ ap (λ (p : PlanValue). p.job) plan)) in
-    ok_then c.keep_all.result c.keep_all.ensures.done (λ p. passes_as g.W.Write.contents g.W.CountedWrite.failed_calls g.W.CountedWrite.sure_calls g.W.CountedWrite.room _ _ _ _ _ _ text p)
+    on_ok_weaker c.keep_all.result (λ p. passes_as g.W.Write.contents g.W.CountedWrite.failed_calls g.W.CountedWrite.sure_calls g.W.CountedWrite.room _ _ _ _ _ _ text p) c.keep_all.ensures.done
 
 pub returns-clause-stops : goal.returns-clause-stops
 returns-clause-stops g c =
@@ -34,4 +34,4 @@ returns-clause-stops g c =
     (c.to_be_bytes-5.ensures ∙ ap (to_be_bytes w32) c.size_of.ensures.size)
     (c.to_be_bytes-6.ensures ∙ ap (to_be_bytes w32) c.superstep.ensures.value)
     (c.job.ensures ∙ ap (λ (p : PlanValue). p.job) plan)) in
-    err_then c.keep_all.result c.keep_all.ensures.stops (λ p. stops_as g.W.Write.contents g.W.CountedWrite.failed_calls g.W.CountedWrite.sure_calls g.W.CountedWrite.room _ _ _ _ _ text p)
+    on_err_weaker c.keep_all.result (λ p. stops_as g.W.Write.contents g.W.CountedWrite.failed_calls g.W.CountedWrite.sure_calls g.W.CountedWrite.room _ _ _ _ _ text p) c.keep_all.ensures.stops

@@ -1,7 +1,8 @@
 use Rattle.std.proofs.Common.{◌++◌, refl}
+use Rattle.std.proofs.lemmas.Result.{on_ok_weaker, on_err_weaker}
 use Rattle.ball_model.specs.Checkpoint.{front_bytes, table_bytes, held_bytes}
 use Rattle.checkpoint.specs.Spooled.{waiting}
-use Rattle.checkpoint.proofs.WriteLemmas.{on_err, ok_then, err_then}
+use Rattle.checkpoint.proofs.WriteLemmas.{on_err}
 use Rattle.checkpoint.proofs.SpoolLemmas.{passes_then, passes_next, stops_before, stops_after, stops_front, stops_behind}
 use Rattle.checkpoint.proofs.write.keep_replica.Goals as goal
 
@@ -18,9 +19,9 @@ returns-in_err-keep_table-clause-stops g c =
 pub returns-clause-done : goal.returns-clause-done
 returns-clause-done g c =
     let v = c.args.replica.now in
-    ok_then c.keep_held.result c.keep_held.ensures.done (λ p. passes_next g.W.Write.contents g.W.CountedWrite.failed_calls g.W.CountedWrite.sure_calls g.W.CountedWrite.room _ _ _ _ _ _ _ _ _ refl (passes_then g.W.Write.contents g.W.CountedWrite.failed_calls g.W.CountedWrite.sure_calls g.W.CountedWrite.room _ _ _ _ _ _ _ _ c.in_ok-keep_front.ensures.done c.in_ok-keep_table.ensures.done) p)
+    on_ok_weaker c.keep_held.result (λ p. passes_next g.W.Write.contents g.W.CountedWrite.failed_calls g.W.CountedWrite.sure_calls g.W.CountedWrite.room _ _ _ _ _ _ _ _ _ refl (passes_then g.W.Write.contents g.W.CountedWrite.failed_calls g.W.CountedWrite.sure_calls g.W.CountedWrite.room _ _ _ _ _ _ _ _ c.in_ok-keep_front.ensures.done c.in_ok-keep_table.ensures.done) p) c.keep_held.ensures.done
 
 pub returns-clause-stops : goal.returns-clause-stops
 returns-clause-stops g c =
     let v = c.args.replica.now in
-    err_then c.keep_held.result c.keep_held.ensures.stops (λ p. stops_behind g.W.Write.contents g.W.CountedWrite.failed_calls g.W.CountedWrite.sure_calls g.W.CountedWrite.room _ _ _ _ _ _ _ _ refl (passes_then g.W.Write.contents g.W.CountedWrite.failed_calls g.W.CountedWrite.sure_calls g.W.CountedWrite.room _ _ _ _ _ _ _ _ c.in_ok-keep_front.ensures.done c.in_ok-keep_table.ensures.done) p)
+    on_err_weaker c.keep_held.result (λ p. stops_behind g.W.Write.contents g.W.CountedWrite.failed_calls g.W.CountedWrite.sure_calls g.W.CountedWrite.room _ _ _ _ _ _ _ _ refl (passes_then g.W.Write.contents g.W.CountedWrite.failed_calls g.W.CountedWrite.sure_calls g.W.CountedWrite.room _ _ _ _ _ _ _ _ c.in_ok-keep_front.ensures.done c.in_ok-keep_table.ensures.done) p) c.keep_held.ensures.stops

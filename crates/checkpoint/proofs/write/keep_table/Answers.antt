@@ -1,6 +1,7 @@
 use Rattle.std.proofs.Common.{refl}
+use Rattle.std.proofs.lemmas.Result.{on_ok_weaker, on_err_weaker}
 use Rattle.checkpoint.proofs.TextLemmas.{table_is}
-use Rattle.checkpoint.proofs.WriteLemmas.{on_err, ok_then, err_then}
+use Rattle.checkpoint.proofs.WriteLemmas.{on_err}
 use Rattle.checkpoint.proofs.SpoolLemmas.{passes_next, stops_front, stops_behind}
 use Rattle.checkpoint.proofs.write.keep_table.Goals as goal
 
@@ -10,10 +11,10 @@ returns-in_err-keep_vertices-clause-stops g c =
 
 pub returns-clause-done : goal.returns-clause-done
 returns-clause-done g c =
-    ok_then c.keep_sums.result c.keep_sums.ensures.done
-    (λ p. passes_next g.W.Write.contents g.W.CountedWrite.failed_calls g.W.CountedWrite.sure_calls g.W.CountedWrite.room _ _ _ _ _ _ _ _ _ (table_is c.args.replica.now c.sums.result.now c.sums.ensures.value) c.in_ok-keep_vertices.ensures.done p)
+    on_ok_weaker c.keep_sums.result
+    (λ p. passes_next g.W.Write.contents g.W.CountedWrite.failed_calls g.W.CountedWrite.sure_calls g.W.CountedWrite.room _ _ _ _ _ _ _ _ _ (table_is c.args.replica.now c.sums.result.now c.sums.ensures.value) c.in_ok-keep_vertices.ensures.done p) c.keep_sums.ensures.done
 
 pub returns-clause-stops : goal.returns-clause-stops
 returns-clause-stops g c =
-    err_then c.keep_sums.result c.keep_sums.ensures.stops
-    (λ p. stops_behind g.W.Write.contents g.W.CountedWrite.failed_calls g.W.CountedWrite.sure_calls g.W.CountedWrite.room _ _ _ _ _ _ _ _ (table_is c.args.replica.now c.sums.result.now c.sums.ensures.value) c.in_ok-keep_vertices.ensures.done p)
+    on_err_weaker c.keep_sums.result
+    (λ p. stops_behind g.W.Write.contents g.W.CountedWrite.failed_calls g.W.CountedWrite.sure_calls g.W.CountedWrite.room _ _ _ _ _ _ _ _ (table_is c.args.replica.now c.sums.result.now c.sums.ensures.value) c.in_ok-keep_vertices.ensures.done p) c.keep_sums.ensures.stops

@@ -1,7 +1,7 @@
 use Rattle.std.proofs.Common.{ℕ, List, [], false, ◌<◌, ◌∙◌, length, get_or, ap, arith}
+use Rattle.std.proofs.lemmas.Result.{on_ok_weaker, on_err_weaker}
 use Rattle.figures.specs.Values.{value_of}
 use Rattle.replica.proofs.SeenLemmas.Read.{length-tallies}
-use Rattle.checkpoint.proofs.WriteLemmas.{ok_then, err_then}
 use Rattle.checkpoint.proofs.SpoolLemmas.{passes_as, stops_as}
 use Rattle.checkpoint.proofs.TextLemmas.{mark_is, vertex_is, tally_is}
 use Rattle.checkpoint.proofs.write.keep_vertex.Goals as goal
@@ -16,7 +16,7 @@ returns-clause-done g c =
     (tally_is v c.tallies.result.now c.args.i c.index-tallies-i.result lt c.tallies.ensures.value c.index-tallies-i.is)
     c.to_be_bytes.ensures c.to_be_bytes-2.ensures c.to_be_bytes-3.ensures
     (c.row.ensures.value ∙ ap (λ (rows : List (List ℕ)). get_or rows c.args.i []) c.rows.ensures.value)) in
-    ok_then c.keep_all.result c.keep_all.ensures.done (λ p. passes_as g.W.Write.contents g.W.CountedWrite.failed_calls g.W.CountedWrite.sure_calls g.W.CountedWrite.room _ _ _ _ _ _ text p)
+    on_ok_weaker c.keep_all.result (λ p. passes_as g.W.Write.contents g.W.CountedWrite.failed_calls g.W.CountedWrite.sure_calls g.W.CountedWrite.room _ _ _ _ _ _ text p) c.keep_all.ensures.done
 
 pub returns-clause-stops : goal.returns-clause-stops
 returns-clause-stops g c =
@@ -28,4 +28,4 @@ returns-clause-stops g c =
     (tally_is v c.tallies.result.now c.args.i c.index-tallies-i.result lt c.tallies.ensures.value c.index-tallies-i.is)
     c.to_be_bytes.ensures c.to_be_bytes-2.ensures c.to_be_bytes-3.ensures
     (c.row.ensures.value ∙ ap (λ (rows : List (List ℕ)). get_or rows c.args.i []) c.rows.ensures.value)) in
-    err_then c.keep_all.result c.keep_all.ensures.stops (λ p. stops_as g.W.Write.contents g.W.CountedWrite.failed_calls g.W.CountedWrite.sure_calls g.W.CountedWrite.room _ _ _ _ _ text p)
+    on_err_weaker c.keep_all.result (λ p. stops_as g.W.Write.contents g.W.CountedWrite.failed_calls g.W.CountedWrite.sure_calls g.W.CountedWrite.room _ _ _ _ _ text p) c.keep_all.ensures.stops

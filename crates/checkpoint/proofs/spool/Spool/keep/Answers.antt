@@ -1,4 +1,5 @@
-use Rattle.checkpoint.proofs.WriteLemmas.{on_err, ok_then, err_then, stops_first, stops_then}
+use Rattle.std.proofs.lemmas.Result.{on_ok_weaker, on_err_weaker}
+use Rattle.checkpoint.proofs.WriteLemmas.{on_err, stops_first, stops_then}
 use Rattle.checkpoint.proofs.SpoolLemmas.{passes_all, passes_put, passes_waiting}
 use Rattle.checkpoint.proofs.spool.Spool.keep.Goals as goal
 
@@ -9,13 +10,13 @@ returns-in_err-put_out-clause-stops g c =
 pub returns-clause-done : goal.returns-clause-done
 returns-clause-done g c =
     let first = c.in_ok-put_out.ensures in
-    ok_then c.put.result c.put.ensures.done
-    (λ written. passes_all g.W.Write.contents g.W.CountedWrite.failed_calls g.W.CountedWrite.sure_calls g.W.CountedWrite.room _ _ _ c.args.self.now c.put_out.new.self _ c.args.bytes.now first.done first.digested first.empty written c.put.ensures.digested)
+    on_ok_weaker c.put.result
+    (λ written. passes_all g.W.Write.contents g.W.CountedWrite.failed_calls g.W.CountedWrite.sure_calls g.W.CountedWrite.room _ _ _ c.args.self.now c.put_out.new.self _ c.args.bytes.now first.done first.digested first.empty written c.put.ensures.digested) c.put.ensures.done
 
 pub returns-clause-stops : goal.returns-clause-stops
 returns-clause-stops g c =
-    err_then c.put.result c.put.ensures.stops
-    (λ stops. stops_then g.W.Write.contents g.W.CountedWrite.failed_calls g.W.CountedWrite.sure_calls g.W.CountedWrite.room _ _ _ _ _ c.in_ok-put_out.ensures.done stops)
+    on_err_weaker c.put.result
+    (λ stops. stops_then g.W.Write.contents g.W.CountedWrite.failed_calls g.W.CountedWrite.sure_calls g.W.CountedWrite.room _ _ _ _ _ c.in_ok-put_out.ensures.done stops) c.put.ensures.stops
 
 pub returns-then-bytes-self-clause-done : goal.returns-then-bytes-self-clause-done
 returns-then-bytes-self-clause-done g c = passes_waiting g.W.Write.contents g.W.CountedWrite.failed_calls g.W.CountedWrite.sure_calls g.W.CountedWrite.room _ _ _ _ c.push.ensures.waiting c.push.ensures.hasher

@@ -1,8 +1,9 @@
 use Rattle.std.proofs.Common.{◌≡◌, ℕ, List, ◌++◌, subst}
+use Rattle.std.proofs.lemmas.Result.{on_ok_weaker, on_err_weaker}
 use Rattle.sha2.specs.Sha256.{sha256}
 use Rattle.checkpoint.specs.Writing.{Writes, StopsWriting}
 use Rattle.checkpoint.specs.Spooled.{waiting}
-use Rattle.checkpoint.proofs.WriteLemmas.{on_err, ok_then, err_then, stops_first, stops_then, writes_then}
+use Rattle.checkpoint.proofs.WriteLemmas.{on_err, stops_first, stops_then, writes_then}
 use Rattle.checkpoint.proofs.spool.Spool.seal.Goals as goal
 
 pub returns-in_err-put_out-clause-stops : goal.returns-in_err-put_out-clause-stops
@@ -12,12 +13,12 @@ returns-in_err-put_out-clause-stops g c =
 
 pub returns-clause-done : goal.returns-clause-done
 returns-clause-done g c =
-    ok_then c.write_out.result c.write_out.ensures.done
+    on_ok_weaker c.write_out.result
     (λ written m held. let digest : c.finalize-digest.result ≡ sha256 (m ++ waiting c.args.self) = c.finalize-digest.ensures (m ++ waiting c.args.self) (c.in_ok-put_out.ensures.digested m held) in
-    writes_then g.W.Write.contents g.W.CountedWrite.failed_calls g.W.CountedWrite.sure_calls g.W.CountedWrite.room _ _ _ _ _ c.in_ok-put_out.ensures.done (subst (λ (l : List ℕ). Writes {W = g.row.W.Denot} g.W.Write.contents g.W.CountedWrite.failed_calls g.W.CountedWrite.sure_calls g.W.CountedWrite.room c.put_out.new.writer c.write_out.new.writer l) digest written))
+    writes_then g.W.Write.contents g.W.CountedWrite.failed_calls g.W.CountedWrite.sure_calls g.W.CountedWrite.room _ _ _ _ _ c.in_ok-put_out.ensures.done (subst (λ (l : List ℕ). Writes {W = g.row.W.Denot} g.W.Write.contents g.W.CountedWrite.failed_calls g.W.CountedWrite.sure_calls g.W.CountedWrite.room c.put_out.new.writer c.write_out.new.writer l) digest written)) c.write_out.ensures.done
 
 pub returns-clause-stops : goal.returns-clause-stops
 returns-clause-stops g c =
-    err_then c.write_out.result c.write_out.ensures.stops
+    on_err_weaker c.write_out.result
     (λ stops m held. let digest : c.finalize-digest.result ≡ sha256 (m ++ waiting c.args.self) = c.finalize-digest.ensures (m ++ waiting c.args.self) (c.in_ok-put_out.ensures.digested m held) in
-    stops_then g.W.Write.contents g.W.CountedWrite.failed_calls g.W.CountedWrite.sure_calls g.W.CountedWrite.room _ _ _ _ _ c.in_ok-put_out.ensures.done (subst (λ (l : List ℕ). StopsWriting {W = g.row.W.Denot} g.W.Write.contents g.W.CountedWrite.failed_calls g.W.CountedWrite.sure_calls g.W.CountedWrite.room c.put_out.new.writer c.write_out.new.writer l) digest stops))
+    stops_then g.W.Write.contents g.W.CountedWrite.failed_calls g.W.CountedWrite.sure_calls g.W.CountedWrite.room _ _ _ _ _ c.in_ok-put_out.ensures.done (subst (λ (l : List ℕ). StopsWriting {W = g.row.W.Denot} g.W.Write.contents g.W.CountedWrite.failed_calls g.W.CountedWrite.sure_calls g.W.CountedWrite.room c.put_out.new.writer c.write_out.new.writer l) digest stops)) c.write_out.ensures.stops
