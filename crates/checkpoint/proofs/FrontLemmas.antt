@@ -3,7 +3,7 @@ use Rattle.std.proofs.Common.{◌≡◌, ℕ, ◌+◌, ◌<◌, ◌≤◌, List,
 use Rattle.std.specs.Prelude.{Bool, true, false, not, ◌==◌, ◌&&◌, ◌⊎◌, if◌then◌else◌, ⊤, IfErr}
 use Rattle.std.specs.Int.{w16, w32, to_be_bytes}
 use Rattle.std.specs.Str.{bytes_eq}
-use Rattle.std.proofs.lemmas.Bool.{eqb-true}
+use Rattle.std.proofs.lemmas.Bool.{eqb-true, not-false}
 use Rattle.std.proofs.lemmas.List.{drop_more, drop-drop, take-append-drop, take_at, length-append}
 use Rattle.ball_model.specs.Job.{PartValue}
 use Rattle.ball_model.specs.State.{State}
@@ -27,12 +27,8 @@ goes_on : {A : Type 0} (b : Bool) (d : KeepError) (r : Result A KeepError) (y : 
 goes_on true d r y e = absurd (subst is_ok (sym e) tt)
 goes_on false d r y e = (refl, e)
 
-holds : (b : Bool) → not b ≡ false → b ≡ true
-holds true e = refl
-holds false e = sym e
-
 same : (a b : ℕ) → not (a == b) ≡ false → a ≡ b
-same a b e = eqb-true a b (holds (a == b) e)
+same a b e = eqb-true a b (not-false (a == b) e)
 
 -- ---- the fixed fields
 -- what stands from a place on: a field and the rest
@@ -88,7 +84,7 @@ head_passed part h e =
     let j = goes_on _ errors.Shape _ tt i.1 in
     record {
       magic = same h.magic 0x4842434b a.0;
-      job = same_bytes h.job part.plan.job (holds (bytes_eq h.job part.plan.job) c.0);
+      job = same_bytes h.job part.plan.job (not-false (bytes_eq h.job part.plan.job) c.0);
       partition = same h.partition part.number d.0;
       log2m = same h.log2m part.plan.log2m f.0;
       parts = same h.parts part.plan.parts g.0;
@@ -143,7 +139,7 @@ front_is n v bytes fits long passed version superstep job =
 
 either : (a b : Bool) → (not a && not b) ≡ false → (a ≡ true) ⊎ (b ≡ true)
 either true b e = inl refl
-either false b e = inr (holds b e)
+either false b e = inr (not-false b e)
 
 -- fixed fields that pass are of one of the two versions
 pub one_or_two : (part : PartValue) (h : CheckpointHeader) → check_checkpoint_head part h ≡ Ok tt → (h.version ≡ 1) ⊎ (h.version ≡ 2)
