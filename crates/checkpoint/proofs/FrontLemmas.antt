@@ -4,12 +4,12 @@ use Rattle.std.specs.Prelude.{Bool, true, false, not, ◌==◌, ◌&&◌, ◌⊎
 use Rattle.std.specs.Int.{w16, w32, to_be_bytes}
 use Rattle.std.specs.Str.{bytes_eq}
 use Rattle.std.proofs.lemmas.Bool.{eqb-true, not-false}
-use Rattle.std.proofs.lemmas.List.{drop_more, drop-drop, take-append-drop, take_at, length-append}
+use Rattle.std.proofs.lemmas.List.{drop_more, take_at, length-append}
 use Rattle.ball_model.specs.Job.{PartValue}
 use Rattle.ball_model.specs.State.{State}
 use Rattle.ball_model.specs.Checkpoint.{front_bytes}
 use Rattle.batches.specs.Kept.{field}
-use Rattle.batches.proofs.HeadLemmas.{field_2, field_4}
+use Rattle.batches.proofs.HeadLemmas.{field_2, field_4, split}
 use Rattle.checkpoint.specs.declared.header.CheckpointHeader.{CheckpointHeader}
 use Rattle.checkpoint.specs.declared.error.KeepError.{KeepError}
 use Rattle.checkpoint.specs.declared.error.KeepError.TheVariants as errors
@@ -31,10 +31,6 @@ same : (a b : ℕ) → not (a == b) ≡ false → a ≡ b
 same a b e = eqb-true a b (not-false (a == b) e)
 
 -- ---- the fixed fields
--- what stands from a place on: a field and the rest
-split : (at n : ℕ) (bytes : List ℕ) → drop at bytes ≡ take n (drop at bytes) ++ drop (at + n) bytes
-split at n bytes = sym (take-append-drop n (drop at bytes)) ∙ ap (λ (t : List ℕ). take n (drop at bytes) ++ t) (drop-drop n at bytes)
-
 four : (at : ℕ) (bytes : List ℕ) → at + 4 ≤ length bytes → ((i : ℕ) → get_or bytes i 0 < 256) → drop at bytes ≡ to_be_bytes w32 (field w32 at bytes) ++ drop (at + 4) bytes
 four at bytes long fits = split at 4 bytes ∙ ap (λ (t : List ℕ). t ++ drop (at + 4) bytes) (sym (field_4 at bytes long fits))
 
