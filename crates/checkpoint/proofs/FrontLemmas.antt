@@ -9,7 +9,7 @@ use Rattle.ball_model.specs.Job.{PartValue}
 use Rattle.ball_model.specs.State.{State}
 use Rattle.ball_model.specs.Checkpoint.{front_bytes}
 use Rattle.batches.specs.Kept.{field}
-use Rattle.batches.proofs.HeadLemmas.{field_2, field_4, split}
+use Rattle.batches.proofs.HeadLemmas.{four, split, two}
 use Rattle.checkpoint.specs.declared.header.CheckpointHeader.{CheckpointHeader}
 use Rattle.checkpoint.specs.declared.error.KeepError.{KeepError}
 use Rattle.checkpoint.specs.declared.error.KeepError.TheVariants as errors
@@ -31,12 +31,6 @@ same : (a b : ℕ) → not (a == b) ≡ false → a ≡ b
 same a b e = eqb-true a b (not-false (a == b) e)
 
 -- ---- the fixed fields
-four : (at : ℕ) (bytes : List ℕ) → at + 4 ≤ length bytes → ((i : ℕ) → get_or bytes i 0 < 256) → drop at bytes ≡ to_be_bytes w32 (field w32 at bytes) ++ drop (at + 4) bytes
-four at bytes long fits = split at 4 bytes ∙ ap (λ (t : List ℕ). t ++ drop (at + 4) bytes) (sym (field_4 at bytes long fits))
-
-two : (at : ℕ) (bytes : List ℕ) → at + 2 ≤ length bytes → ((i : ℕ) → get_or bytes i 0 < 256) → drop at bytes ≡ to_be_bytes w16 (field w16 at bytes) ++ drop (at + 2) bytes
-two at bytes long fits = split at 2 bytes ∙ ap (λ (t : List ℕ). t ++ drop (at + 2) bytes) (sym (field_2 at bytes long fits))
-
 -- the fixed fields as bytes, one field after another, and what follows them
 abbrev head_then : CheckpointHeader → List ℕ → List ℕ
 head_then h rest =
