@@ -12,7 +12,7 @@ use Rattle.replica.specs.Saved.{IsKeepable}
 use Rattle.replica.specs.Seen.{IsState}
 use Rattle.replica.proofs.LevelLemmas.Rise.{all_stay}
 use Rattle.replica.proofs.LevelLemmas.State.{no_sources}
-use Rattle.replica.proofs.LevelLemmas.Step.{get_or-replicate_same}
+use Rattle.edgelist.proofs.RangeLemmas.{copies-at}
 use Rattle.checkpoint.specs.declared.header.CheckpointHeader.{CheckpointHeader}
 use Rattle.checkpoint.specs.declared.error.KeepError.{KeepError}
 use Rattle.checkpoint.specs.declared.error.KeepError.TheVariants as errors
@@ -52,9 +52,9 @@ first_told v bytes text s split is = told 1 v text (table_bytes v) s (unsealed t
 
 -- ---- a replica that has forgotten what it held
 pub nothing_at : (parts i q : ℕ) → early_at (replicate 3 (replicate parts None)) i q ≡ None
-nothing_at parts zero q = get_or-replicate_same parts q None
-nothing_at parts (suc zero) q = get_or-replicate_same parts q None
-nothing_at parts (suc (suc zero)) q = get_or-replicate_same parts q None
+nothing_at parts zero q = copies-at parts q None
+nothing_at parts (suc zero) q = copies-at parts q None
+nothing_at parts (suc (suc zero)) q = copies-at parts q None
 nothing_at parts (suc (suc (suc i))) q = refl
 
 pub unnamed_keepable : (v : State) → IsKeepable v → IsKeepable (without_names v)

@@ -6,7 +6,7 @@ use Rattle.ball_model.specs.Checkpoint.{without_names}
 use Rattle.ball_model.specs.Job.{Job}
 use Rattle.ball_model.specs.State.{State, KeepsTrue, content_of, early_at}
 use Rattle.replica.proofs.HearingLemmas.Hear.{none_heard}
-use Rattle.replica.proofs.LevelLemmas.Step.{get_or-replicate_same}
+use Rattle.edgelist.proofs.RangeLemmas.{copies-at}
 use Rattle.checkpoint.specs.Laws.{WithoutNamesStands}
 use Rattle.checkpoint.proofs.RefusalLemmas.{nothing_at}
 
@@ -22,7 +22,7 @@ holds_none v s q = by_level (s == v.superstep)
     kept = ap (λ (o : Option BatchValue). is_some o) (nothing_at v.part.plan.parts (s - (v.superstep + 1)) q)
 
     by_level : (level : Bool) → (if level then get_or (replicate 64 false) q false else (nat_lt v.superstep s && is_some (early_at (without_names v).early (s - (v.superstep + 1)) q))) ≡ false
-    by_level true = get_or-replicate_same 64 q false
+    by_level true = copies-at 64 q false
     by_level false = ap (λ b. nat_lt v.superstep s && b) kept ∙ none_too (nat_lt v.superstep s)
 
 -- and what it keeps is true, as it keeps nothing
