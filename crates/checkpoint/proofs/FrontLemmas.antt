@@ -18,13 +18,9 @@ use Rattle.checkpoint.specs.Reading.{body_form, check_checkpoint_head, content_f
 use Rattle.checkpoint.proofs.ReaderLemmas.{followed-err, needs-err, needs-ok, same_bytes}
 
 -- ---- checks that pass
-abbrev is_ok : {A : Type 0} → Result A KeepError → Type 0
-is_ok (Ok x) = ⊤
-is_ok (Err e) = ⊥
-
 -- a check that passes, and what follows it
 goes_on : {A : Type 0} (b : Bool) (d : KeepError) (r : Result A KeepError) (y : A) → (if b then Err d else r) ≡ Ok y → (b ≡ false) × (r ≡ Ok y)
-goes_on true d r y e = absurd (subst is_ok (sym e) tt)
+goes_on true d r y e = absurd cc
 goes_on false d r y e = (refl, e)
 
 same : (a b : ℕ) → not (a == b) ≡ false → a ≡ b
