@@ -10,8 +10,8 @@ use Rattle.ball_model.specs.State.{State, early_at}
 use Rattle.replica.specs.Kept.{IsOfName}
 use Rattle.replica.specs.Saved.{IsKeepable}
 use Rattle.replica.specs.Seen.{IsState}
-use Rattle.replica.proofs.LevelLemmas.Rise.{all_stay}
-use Rattle.replica.proofs.LevelLemmas.State.{no_sources}
+use Rattle.replica.proofs.KeptLemmas.Rise.{all_stay}
+use Rattle.replica.proofs.SeenLemmas.State.{no_sources}
 use Rattle.edgelist.proofs.RangeLemmas.{copies-at}
 use Rattle.checkpoint.specs.declared.header.CheckpointHeader.{CheckpointHeader}
 use Rattle.checkpoint.specs.declared.error.KeepError.{KeepError}

@@ -1,10 +1,8 @@
 pub mod Verdict
 pub mod Step
-pub mod Rise
 pub mod Level
 pub mod Weight
 pub mod Figure
 pub mod Next
 pub mod Busy
-pub mod State
 pub mod Over

@@ -24,7 +24,7 @@ use Rattle.replica.proofs.ChangeLemmas.Advance.{same_early}
 use Rattle.replica.proofs.HearingLemmas.Hearing.{hears_quiet}
 use Rattle.replica.proofs.LevelLemmas.Next.{stepped_as}
 use Rattle.replica.proofs.SeenLemmas.Read.{few}
-use Rattle.replica.proofs.LevelLemmas.State.{inside_of, ready_at, ready_quiet, state_next}
+use Rattle.replica.proofs.SeenLemmas.State.{inside_of, ready_at, ready_quiet, state_next}
 
 -- ---- the figures
 

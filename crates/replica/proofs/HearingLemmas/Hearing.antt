@@ -19,7 +19,7 @@ use Rattle.replica.specs.Level.{differences}
 use Rattle.replica.specs.Spread.{AreTouched, IsAbove}
 use Rattle.replica.proofs.HearingLemmas.Hear.{hears_as, hears_next, hears_same, if_some_as}
 use Rattle.replica.proofs.LevelLemmas.Level.{length-differing}
-use Rattle.replica.proofs.LevelLemmas.Rise.{same_registers}
+use Rattle.replica.proofs.KeptLemmas.Rise.{same_registers}
 
 -- ---- rows, and what is kept beside them
 

@@ -1,4 +1,4 @@
--- A replica one superstep later keeps its limits, whatever the batches say.
+-- Figures and sums one superstep later keep their limits, whatever the batches say.
 use Rattle.std.proofs.Common.{◌≡◌, ℕ, suc, ◌^◌, ◌≤◌, ◌*◌, ◌<◌, Bool, false, not, List, [], ◌∷◌, length, map, get_or, refl, ap, arith, sym, ◌∙◌}
 use Rattle.std.specs.List.{sum_by, range_with_len, sum}
 use Rattle.std.specs.Str.{bytes_eq}
@@ -13,7 +13,7 @@ use Rattle.figures.specs.declared.tally.Tally.{Tally}
 use Rattle.figures.specs.Values.{value_of}
 use Rattle.replica.specs.Level.{differences, next_tally, next_tallies, total_of}
 use Rattle.replica.specs.Kept.{AreLasts, AreCounters, AllRise}
-use Rattle.replica.proofs.LevelLemmas.Rise.{rise_estimate, same_registers}
+use Rattle.replica.proofs.KeptLemmas.Rise.{rise_estimate, same_registers}
 
 last_at : (m : Measure) (rows : List (List ℕ)) (tallies : List TallyValue) (i : ℕ) → map (λ t. t.last) tallies ≡ map (estimate_with m) rows → i < length rows → (get_or tallies i no_figures).last ≡ estimate_with m (get_or rows i [])
 last_at m rows tallies i same lt =

@@ -20,8 +20,8 @@ use Rattle.replica.proofs.HearingLemmas.Accumulator.{Keeps, fields_are, fields_o
 use Rattle.replica.proofs.HearingLemmas.Hear.{hears_as, hears_same}
 use Rattle.replica.proofs.HearingLemmas.Hearing.{hears_said}
 use Rattle.replica.proofs.MergedLemmas.Merge.{Gathers, Meets, Raises, Unites, absorbs_further, absorbs_lesser, absorbs_level, gathers_state, raises, touched_from, unites_state}
-use Rattle.replica.proofs.LevelLemmas.Rise.{all_on}
-use Rattle.replica.proofs.LevelLemmas.State.{ready_beside}
+use Rattle.replica.proofs.KeptLemmas.Rise.{all_on}
+use Rattle.replica.proofs.SeenLemmas.State.{ready_beside}
 use Rattle.replica.proofs.TablesLemmas.{can_hear}
 
 -- what is known of the two, and of the batches of the other one

@@ -24,7 +24,7 @@ use Rattle.replica.specs.Merged.{ShowsAs, Absorbs}
 use Rattle.replica.specs.Seen.{IsState}
 use Rattle.replica.specs.Spread.{AreTouched}
 use Rattle.replica.proofs.HearingLemmas.Hear.{any_or, any_same}
-use Rattle.replica.proofs.LevelLemmas.Rise.{max_rises, rise_counters}
+use Rattle.replica.proofs.KeptLemmas.Rise.{max_rises, rise_counters}
 
 -- ---- one or the other
 

@@ -31,7 +31,7 @@ use Rattle.replica.proofs.LevelLemmas.Busy.{found_verdict-is}
 use Rattle.replica.proofs.LevelLemmas.Verdict.{at_end}
 use Rattle.replica.proofs.IndexLemmas.Own.{vertex_of, place_below, vertex_at}
 use Rattle.replica.proofs.LevelLemmas.Level.{plan_is, number_is, row_at}
-use Rattle.replica.proofs.LevelLemmas.Rise.{same_registers}
+use Rattle.replica.proofs.KeptLemmas.Rise.{same_registers}
 
 -- contents with the same names are the same
 same_content : (v : State) (c : Content) → v.superstep ≡ c.superstep → ((s q : ℕ) → (content_of v).holds s q ≡ c.holds s q) → content_of v ≡ c

@@ -19,8 +19,8 @@ use Rattle.replica.proofs.HearingLemmas.Accumulator.{Keeps, fields_of, fields_ar
 use Rattle.replica.proofs.HearingLemmas.Hear.{hears_as}
 use Rattle.replica.proofs.LevelLemmas.Level.{number_is}
 use Rattle.replica.proofs.LevelLemmas.Over.{hearing_index, kept_over}
-use Rattle.replica.proofs.LevelLemmas.Rise.{all_on}
-use Rattle.replica.proofs.LevelLemmas.State.{ready_at}
+use Rattle.replica.proofs.KeptLemmas.Rise.{all_on}
+use Rattle.replica.proofs.SeenLemmas.State.{ready_at}
 use Rattle.replica.proofs.KeptLemmas.Take.{IsFresh, fresh, names_heard, names_kept, stands_heard, sources_heard, early_kept}
 
 -- ---- a batch of the superstep

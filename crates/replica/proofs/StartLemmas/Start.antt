@@ -30,7 +30,7 @@ use Rattle.replica.proofs.LevelLemmas.Figure.{total_is}
 use Rattle.replica.proofs.LevelLemmas.Next.{total_of-lasts}
 use Rattle.replica.proofs.ChangeLemmas.Advance.{holds_now, holds_before, holds_later}
 use Rattle.replica.proofs.HearingLemmas.Hear.{none_heard}
-use Rattle.replica.proofs.LevelLemmas.State.{no_sources, lasts_total}
+use Rattle.replica.proofs.SeenLemmas.State.{no_sources, lasts_total}
 use Rattle.replica.proofs.LevelLemmas.Step.{list_is}
 use Rattle.edgelist.proofs.RangeLemmas.{copies-at}
 

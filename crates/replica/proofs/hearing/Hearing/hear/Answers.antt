@@ -7,7 +7,7 @@ use Rattle.replica.specs.Hearing.{HearingValue, HearsAlso, HearsByIndex, batch_b
 use Rattle.replica.specs.Heard.{StayTouched}
 use Rattle.replica.specs.Kept.{AllRise}
 use Rattle.replica.proofs.HearingLemmas.Hear.{hears_one}
-use Rattle.replica.proofs.LevelLemmas.Rise.{each_rises, batch_rows}
+use Rattle.replica.proofs.KeptLemmas.Rise.{each_rises, batch_rows}
 use Rattle.replica.proofs.hearing.Hearing.hear.Goals as goal
 use Rattle.replica.proofs.hearing.Hearing.hear.Goals.{After-name}
 

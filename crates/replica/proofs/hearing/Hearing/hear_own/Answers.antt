@@ -6,7 +6,7 @@ use Rattle.replica.specs.Heard.{OwnIsHeard}
 use Rattle.replica.specs.Hearing.{HearingValue, KeepsAll}
 use Rattle.replica.specs.Kept.{AllRise}
 use Rattle.replica.specs.Spread.{AreTouched}
-use Rattle.replica.proofs.LevelLemmas.Rise.{own_rises, all_on}
+use Rattle.replica.proofs.KeptLemmas.Rise.{own_rises, all_on}
 use Rattle.replica.proofs.hearing.Hearing.hear_own.Goals as goal
 use Rattle.replica.proofs.hearing.Hearing.hear_own.Goals.{After-spread_own}
 

@@ -10,8 +10,8 @@ use Rattle.replica.specs.Tables.{CanStep, NextTables, TablesValue}
 use Rattle.replica.proofs.HearingLemmas.Hearing.{differ_where}
 use Rattle.replica.proofs.LevelLemmas.Level.{differing_from}
 use Rattle.replica.proofs.LevelLemmas.Next.{next_lasts, total_small}
-use Rattle.replica.proofs.LevelLemmas.Rise.{rise_counters}
-use Rattle.replica.proofs.LevelLemmas.State.{next_at}
+use Rattle.replica.proofs.KeptLemmas.Rise.{rise_counters}
+use Rattle.replica.proofs.SeenLemmas.State.{next_at}
 use Rattle.replica.proofs.TalliesLemmas.{length-next_tallies}
 use Rattle.replica.proofs.tables.Tables.next.Goals as goal
 use Rattle.replica.proofs.tables.Tables.next.Goals.{After-touched-marks, After-step-gain}

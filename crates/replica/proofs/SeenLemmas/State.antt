@@ -1,4 +1,4 @@
--- A replica one superstep later keeps its limits, whatever the batches say.
+-- A state keeps its limits one superstep later, whatever the batches say, and batches can be heard beside it.
 use Rattle.std.proofs.Common.{◌≡◌, ℕ, ◌+◌, ◌^◌, ◌<◌, Bool, true, false, List, length, map, get_or, replicate, ap, arith, sym, ◌∙◌}
 use Rattle.std.proofs.lemmas.Grind.{common_steps}
 use Rattle.std.specs.List.{sum_by}
