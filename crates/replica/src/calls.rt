@@ -101,8 +101,11 @@ impl Replica {
     ///
     /// [`Waiting`](CloseError::Waiting) where a batch of the level is missing, for the least such source, then
     /// [`Finished`](CloseError::Finished) where the verdict is Stable or Limit; an error changes nothing. Batches of
-    /// the superstep go, the others stay. It takes time in proportion to the registers of the vertices that change and
-    /// of the edges from own vertices that did, and a look at one mark a vertex.
+    /// the superstep go, the others stay. It takes time in proportion to the registers of the vertices that change, and
+    /// of the edges from own vertices that did and from vertices of kept batches that it hears. Marks, a byte a vertex,
+    /// are passed over 64 at once where none is set, and those of the next superstep are copied and cleared. The first
+    /// close after a snapshot copies rows and figures too: those that changed since the snapshot before it, or all of
+    /// them where there was none, or where somebody still holds that one.
     pub fn close(&mut self) -> Result<u32, CloseError>
         ensures waits { (q : ℕ) →
             (result ≡ Err (waits.Waiting q)) ↔ (missing_in self.old ≡ Some q) }
