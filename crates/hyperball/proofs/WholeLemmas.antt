@@ -1,12 +1,13 @@
 -- Inputs that are read whole, and their sections.
-use Rattle.std.proofs.Common.{◌≡◌, ◌∙◌, ℕ, suc, ◌+◌, ◌-◌, ◌<◌, ◌≤◌, Bool, true, false, ◌==◌, if◌then◌else◌, List, [], ◌∷◌, ◌++◌, length, take, drop, slice_index, refl, ap, arith, sym, append_assoc, append-nil, length-append}
-use Rattle.std.specs.Prelude.{Option, None, Some, option_map}
+use Rattle.std.proofs.Common.{◌≡◌, ◌∙◌, ℕ, suc, ◌+◌, ◌-◌, ◌<◌, ◌≤◌, Bool, true, false, ◌==◌, if◌then◌else◌, List, [], ◌∷◌, ◌++◌, length, take, drop, slice_index, refl, ap, arith, sym, append-nil, length-append}
+use Rattle.std.specs.Prelude.{Option, None, Some}
 use Rattle.std.specs.Io.KnownBytes.{Consumes}
 use Rattle.std.proofs.Math.Seq.{drop-cons, take-suc}
-use Rattle.std.proofs.lemmas.List.{drop_all, length-drop, length-take, take_all}
+use Rattle.std.proofs.lemmas.List.{drop_all, length-take}
 use Rattle.std.proofs.KnownBytes.{Consumes-trans}
-use Rattle.ball_model.specs.Sections.{after_mark, longer, sections_from}
+use Rattle.ball_model.specs.Sections.{after_mark, sections_from}
 use Rattle.ball_model.specs.Streams.{TakesAtMost}
+use Rattle.world.proofs.ScriptLemmas.{behind, behind-longer, whole_rest}
 use Rattle.hyperball.specs.Whole.{most_bytes}
 
 -- what was read so far
@@ -29,23 +30,11 @@ read_lost a b c before room most h lost fits = record {
   few = omega (arith, length-append before lost.bytes, lost.few, fits);
 }
 
--- the sections of a text behind some bytes of the first
-abbrev pub behind : List ℕ → Option (List ℕ × List ℕ) → Option (List ℕ × List ℕ)
-behind xs o = option_map (λ s. (xs ++ s.0, s.1)) o
-
 -- where the line that begins here is no mark, its first byte is one more of the first section
 pub one_more : (xs rest : List ℕ) (c : ℕ) (begins : Bool) → (begins ≡ true → after_mark (c ∷ rest) ≡ None) → behind xs (sections_from begins (c ∷ rest)) ≡ behind (xs ++ c ∷ []) (sections_from (c == 10) rest)
 unfolding sections_from
-one_more xs rest c true none = rw (none refl) (longer_is (sections_from (c == 10) rest))
-  where
-    longer_is : (o : Option (List ℕ × List ℕ)) → behind xs (longer c o) ≡ behind (xs ++ c ∷ []) o
-    longer_is None = refl
-    longer_is (Some s) = ap (λ l. Some (l, s.1)) (sym (append_assoc xs (c ∷ []) s.0))
-one_more xs rest c false none = longer_is (sections_from (c == 10) rest)
-  where
-    longer_is : (o : Option (List ℕ × List ℕ)) → behind xs (longer c o) ≡ behind (xs ++ c ∷ []) o
-    longer_is None = refl
-    longer_is (Some s) = ap (λ l. Some (l, s.1)) (sym (append_assoc xs (c ∷ []) s.0))
+one_more xs rest c true none = rw (none refl) (behind-longer xs c (sections_from (c == 10) rest))
+one_more xs rest c false none = behind-longer xs c (sections_from (c == 10) rest)
 
 -- a mark that begins here
 pub marked_here : (xs text rest : List ℕ) → after_mark text ≡ Some rest → behind xs (sections_from true text) ≡ Some (xs, rest)
@@ -56,9 +45,6 @@ marked_here xs (c ∷ text) rest is = rw is (ap (λ l. Some (l, rest)) (append-n
 pub behind_none : (xs : List ℕ) (begins : Bool) → behind xs (sections_from begins []) ≡ None
 unfolding sections_from
 behind_none xs begins = refl
-
-whole_rest : (xs : List ℕ) (i : ℕ) → i < length xs → take (length xs - i) (drop i xs) ≡ drop i xs
-whole_rest xs i lt = take_all (length xs - i) (drop i xs) (let long = length-drop i xs in omega (arith, long))
 
 no_mark : (text : List ℕ) (begins : Bool) → (if begins then after_mark text else None) ≡ None → begins ≡ true → after_mark text ≡ None
 no_mark text true none is = none
@@ -74,7 +60,7 @@ further xs i begins lt none =
     let cut : drop i xs ≡ slice_index xs i ∷ drop (suc i) xs = drop-cons xs i 0 lt in
     let more : take (suc i) xs ≡ take i xs ++ slice_index xs i ∷ [] = take-suc xs i 0 lt in
     let next : i + 1 ≡ suc i = omega arith in
-    let here : (if begins then after_mark (drop i xs) else None) ≡ None = sym (none ∙ ap (λ l. if begins then after_mark l else None) (whole_rest xs i lt)) in
+    let here : (if begins then after_mark (drop i xs) else None) ≡ None = sym (none ∙ ap (λ l. if begins then after_mark l else None) (whole_rest xs i (omega (arith, lt)))) in
     rw (next, more, cut) (one_more (take i xs) (drop (suc i) xs) (slice_index xs i) begins (λ is. ap after_mark (sym cut) ∙ no_mark (drop i xs) begins here is))
 
 found_by : (xs text rest : List ℕ) (begins : Bool) → Some rest ≡ (if begins then after_mark text else None) → behind xs (sections_from begins text) ≡ Some (xs, rest)
@@ -84,7 +70,7 @@ found_by xs text rest false is = absurd (cc)
 -- the first mark
 pub found_here : (xs rest : List ℕ) (i : ℕ) (begins : Bool) → i < length xs → Some rest ≡ (if begins then after_mark (take (length xs - i) (drop i xs)) else None) →
     behind (take i xs) (sections_from begins (drop i xs)) ≡ Some (take i xs, rest)
-found_here xs rest i begins lt is = found_by (take i xs) (drop i xs) rest begins (is ∙ ap (λ l. if begins then after_mark l else None) (whole_rest xs i lt))
+found_here xs rest i begins lt is = found_by (take i xs) (drop i xs) rest begins (is ∙ ap (λ l. if begins then after_mark l else None) (whole_rest xs i (omega (arith, lt))))
 
 -- at the end
 pub ended : (xs : List ℕ) (i : ℕ) (begins : Bool) → length xs ≤ i → behind (take i xs) (sections_from begins (drop i xs)) ≡ None

@@ -2,6 +2,7 @@
 use Rattle.std.proofs.Common.{◌≡◌, ℕ, zero, suc, ◌+◌, ◌<◌, Bool, true, ◌==◌, ◌&&◌, List, [], ◌∷◌, length, get_or, refl, arith, ap, sym, subst, ◌∙◌, inl, inr, eq-eqb}
 use Rattle.std.specs.Prelude.{Option}
 use Rattle.std.specs.List.{All}
+use Rattle.std.proofs.lemmas.Bool.{and_from}
 use Rattle.ball_model.specs.declared.names.Verdict.{Verdict}
 use Rattle.ball_model.specs.PlanValue.{PlanValue, mixing_of}
 use Rattle.ball_model.specs.Content.{same_plan}
@@ -25,9 +26,6 @@ ends_said said ends = elim ends [
 -- four tests hold together
 pub all_four : (a b c d : Bool) → a ≡ true → b ≡ true → c ≡ true → d ≡ true → (a && b && c && d) ≡ true
 all_four a b c d e f g h = rw (e, f, g, h) refl
-
-two : (a b : Bool) → a ≡ true → b ≡ true → (a && b) ≡ true
-two a b e f = rw (e, f) refl
 
 -- what a replica that has ended is: of the job's plan, and at its end
 record IsAtEnd (j : Job) (p : ℕ) (v : State) : Type 0 where
@@ -60,7 +58,7 @@ unfolding ready_from
 ready_all plan t p [] each = refl
 ready_all plan t p (v ∷ vs) each =
     let none : p + zero ≡ p = omega arith in
-    two (is_ready plan t p v) (ready_from plan t (p + 1) vs)
+    and_from (is_ready plan t p v) (ready_from plan t (p + 1) vs)
     (subst (λ n. is_ready plan t n v ≡ true) none (each zero v (omega arith)))
     (ready_all plan t (p + 1) vs (λ i d lt.
     let next : p + suc i ≡ p + 1 + i = omega arith in
@@ -73,7 +71,7 @@ ended_are_ready j (v ∷ vs) ok whole stand ended =
     let at : (i : ℕ) (d : State) → i < length (v ∷ vs) → IsAtEnd j i (get_or (v ∷ vs) i d) =
     λ i d lt. at_end j i (get_or (v ∷ vs) i d).superstep (get_or (v ∷ vs) i d) (stand.each i d lt) (ended i d lt) in
     let first : IsAtEnd j 0 v = at 0 v (omega arith) in
-    two (length (v ∷ vs) == v.part.plan.parts) (ready_from v.part.plan v.superstep 0 (v ∷ vs))
+    and_from (length (v ∷ vs) == v.part.plan.parts) (ready_from v.part.plan v.superstep 0 (v ∷ vs))
     (eq-eqb (length (v ∷ vs)) v.part.plan.parts (whole ∙ ap (λ (q : PlanValue). q.parts) (sym first.plan)))
     (ready_all v.part.plan v.superstep 0 (v ∷ vs) (λ i d lt.
     let here : 0 + i ≡ i = omega arith in

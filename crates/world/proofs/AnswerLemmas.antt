@@ -1,5 +1,5 @@
 -- The text of answers as it is put together.
-use Rattle.std.proofs.Common.{◌≡◌, ◌∙◌, ℕ, zero, suc, ◌+◌, ◌/◌, ◌%◌, ◌<◌, Bool, true, false, if◌then◌else◌, List, [], ◌∷◌, ◌++◌, length, take, map, slice_index, get_or, refl, ap, arith, sym, append_assoc, append-nil}
+use Rattle.std.proofs.Common.{◌≡◌, ◌∙◌, ℕ, suc, ◌+◌, ◌/◌, ◌%◌, ◌<◌, Bool, true, false, if◌then◌else◌, List, [], ◌∷◌, ◌++◌, length, take, map, slice_index, get_or, refl, ap, arith, sym, append_assoc, append-nil}
 use Rattle.std.specs.Prelude.{Option, codes, decimal}
 use Rattle.std.specs.List.{filter, flat_map, range_with_len}
 use Rattle.std.proofs.Math.Seq.{take-suc}
@@ -16,6 +16,7 @@ use Rattle.ball_model.specs.Held.{HasHolding}
 use Rattle.ball_model.specs.State.{State, content_of}
 use Rattle.ball_model.specs.WorldText.{held_word, hex_digit, more_words, node_line, node_word, registers_word, verdict_word, words_line}
 use Rattle.ball_model.proofs.JoinLemmas.{content_back}
+use Rattle.ball_model.proofs.PartLemmas.{range_more, range_push}
 use Rattle.replica.specs.Seen.{IsState}
 use Rattle.replica.proofs.RunsLemmas.Same.{content_is_one}
 use Rattle.world.specs.Answer.{names_at, names_in, spaced}
@@ -87,13 +88,6 @@ pair-put now after between a b x y is first second = is ∙ ap (λ a. now ++ (de
 
 -- ---- names
 
-range-more : (a n : ℕ) → range_with_len a (n + 1) ≡ range_with_len a n ++ (a + n) ∷ []
-range-more a zero = let same : a ≡ a + 0 = omega arith in ap (λ x. x ∷ []) same
-range-more a (suc n) =
-    let next : suc n + 1 ≡ suc (n + 1) = omega arith in
-    let same : a + 1 + n ≡ a + suc n = omega arith in
-    rw next (ap (λ l. a ∷ l) (range-more (a + 1) n ∙ ap (λ x. range_with_len (a + 1) n ++ x ∷ []) same))
-
 abbrev pub name_at : State → ℕ → ℕ → BatchName
 name_at v s q = record { superstep = s; source = q; target = v.part.number }
 
@@ -109,9 +103,7 @@ one-more v s n b names is = rw is (both b)
 pub names-more : (v : State) (s n : ℕ) (b : Bool) → (content_of v).holds s n ≡ b → names_at v s (n + 1) ≡ names_at v s n ++ (if b then name_at v s n ∷ [] else [])
 names-more v s n b is =
     let test : ℕ → Bool = λ q. (content_of v).holds s q in
-    let same : 0 + n ≡ n = omega arith in
-    let more : range_with_len 0 (n + 1) ≡ range_with_len 0 n ++ n ∷ [] = range-more 0 n ∙ ap (λ x. range_with_len 0 n ++ x ∷ []) same in
-    ap (λ l. map (name_at v s) (filter test l)) more
+    ap (λ l. map (name_at v s) (filter test l)) (range_more n)
     ∙ ap (map (name_at v s)) (filter-append test (range_with_len 0 n) (n ∷ []))
     ∙ map-append (name_at v s) (filter test (range_with_len 0 n)) (filter test (n ∷ []))
     ∙ ap (λ l. names_at v s n ++ l) (one-more v s n b [] is)
@@ -145,8 +137,9 @@ pub names-put : (v : State) (s n : ℕ) (old now after : List ℕ) → now ≡ o
     after ≡ now ++ spaced (map held_word (names_at v (s + n) v.part.plan.parts)) → after ≡ old ++ spaced (map held_word (names_from v s (n + 1)))
 names-put v s n old now after so_far is =
     let f : ℕ → List BatchName = λ s. names_at v s v.part.plan.parts in
+    let next : n + 1 ≡ suc n = omega arith in
     let one : names_from v s (n + 1) ≡ names_from v s n ++ f (s + n) =
-    ap (flat_map f) (range-more s n) ∙ flat_map-append f (range_with_len s n) ((s + n) ∷ []) ∙ ap (λ l. names_from v s n ++ l) (append-nil (f (s + n))) in
+    ap (flat_map f) (ap (range_with_len s) next ∙ range_push s n) ∙ flat_map-append f (range_with_len s n) ((s + n) ∷ []) ∙ ap (λ l. names_from v s n ++ l) (append-nil (f (s + n))) in
     let both : spaced (map held_word (names_from v s (n + 1))) ≡ spaced (map held_word (names_from v s n)) ++ spaced (map held_word (f (s + n))) =
     ap (λ l. spaced (map held_word l)) one
     ∙ ap spaced (map-append held_word (names_from v s n) (f (s + n)))

@@ -22,7 +22,7 @@ use Rattle.world.specs.Script.{RefusesLine, RefusesScript, added, cut_of, most}
 abbrev pub behind : List ℕ → Option (List ℕ × List ℕ) → Option (List ℕ × List ℕ)
 behind xs o = option_map (λ s. (xs ++ s.0, s.1)) o
 
-behind-longer : (xs : List ℕ) (c : ℕ) (o : Option (List ℕ × List ℕ)) → behind xs (longer c o) ≡ behind (xs ++ c ∷ []) o
+pub behind-longer : (xs : List ℕ) (c : ℕ) (o : Option (List ℕ × List ℕ)) → behind xs (longer c o) ≡ behind (xs ++ c ∷ []) o
 behind-longer xs c None = refl
 behind-longer xs c (Some s) = ap (λ l. Some (l, s.1)) (sym (append_assoc xs (c ∷ []) s.0))
 
