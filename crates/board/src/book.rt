@@ -3,7 +3,6 @@
 ghost use Rattle.std.specs.Prelude.{◌≡◌, ◌<◌, ◌≤◌, cond, nat_lt, IsTrue, IsFalse, true, false};
 ghost use Rattle.std.specs.Prelude.{None, Some, length, replicate, slice_get, slice_index_or};
 ghost use Rattle.std.specs.Prelude.{is_some, option_map, IfErr, IfOk, OnOk, OnErr, IfSome, IfNone};
-ghost use Rattle.std.specs.Prelude.{Err};
 ghost use Rattle.std.specs.Arc.{arc_value};
 ghost use Rattle.std.specs.BTreeMap.{get};
 ghost use Rattle.board.specs.declared.error.BoardError.TheVariants.{BookFull, Memory};

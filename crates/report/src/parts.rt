@@ -1,9 +1,7 @@
 //! The parts of a report: totals and figures of all partitions, and their text.
 
-ghost use Rattle.std.specs.Prelude.{◌≡◌, ℕ, ◌≤◌, ◌<◌, ◌+◌, ◌-◌, ◌++◌, ◌^◌, IfOk, OnOk, length, map};
-ghost use Rattle.std.specs.Prelude.{slice_index, slice_index_or, []};
-ghost use Rattle.std.specs.List.{All, flat_map, range_with_len};
-ghost use Rattle.ball_model.specs.Report.{superstep_line};
+ghost use Rattle.std.specs.Prelude.{◌≡◌, ℕ, ◌≤◌, ◌<◌, ◌-◌, [], IfOk, OnOk, map};
+ghost use Rattle.std.specs.List.{All};
 ghost use Rattle.report.specs.Parts.{AreAmong, HasSize, figures_among, figures_at, head_text};
 ghost use Rattle.report.specs.Parts.{lists_in, superstep_lines, total_in, totals_in, vertices_text};
 ghost use Rattle.report.specs.Rows.{Adds, AtRow};

@@ -1,10 +1,8 @@
 //! The text of what a world answers, a line at a time.
 
-ghost use Rattle.std.specs.Prelude.{◌≡◌, ◌≢◌, ◌++◌, ◌∷◌, ◌/◌, ◌%◌, ◌+◌, ◌<◌, ◌≤◌, [], ℕ, IfOk};
-ghost use Rattle.std.specs.Prelude.{OnOk, Option, codes, decimal, length, map};
-ghost use Rattle.std.specs.List.{flat_map};
+ghost use Rattle.std.specs.Prelude.{◌≡◌, ◌≢◌, ◌++◌, ◌∷◌, ◌%◌, ◌<◌, [], OnOk, codes};
+ghost use Rattle.std.specs.Prelude.{decimal, map};
 ghost use Rattle.figures.specs.Values.{value_of};
-ghost use Rattle.ball_model.specs.declared.names.BatchName.{BatchName as Name};
 ghost use Rattle.ball_model.specs.declared.world.Answer.TheVariants as told;
 ghost use Rattle.ball_model.specs.declared.world.Event.{Event as Happening};
 ghost use Rattle.ball_model.specs.Job.{Job};
@@ -12,7 +10,7 @@ ghost use Rattle.ball_model.specs.Join.{Holding};
 ghost use Rattle.ball_model.specs.Held.{HasHolding};
 ghost use Rattle.ball_model.specs.World.{World as Defined};
 ghost use Rattle.ball_model.specs.WorldText.{answer_text, held_word, hex_digit, node_line};
-ghost use Rattle.ball_model.specs.WorldText.{node_word, number_line, refusal_line, registers_word};
+ghost use Rattle.ball_model.specs.WorldText.{number_line, refusal_line, registers_word};
 ghost use Rattle.ball_model.specs.WorldText.{row_line, row_text, taken_line, unclosed_line};
 ghost use Rattle.ball_model.specs.WorldText.{unmerged_line, untaken_line, verdict_word, word_line};
 ghost use Rattle.ball_model.specs.WorldText.{words_line};

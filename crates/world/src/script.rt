@@ -1,6 +1,6 @@
 //! Scripts: events as lines of words.
 
-ghost use Rattle.std.specs.Prelude.{◌≡◌, ◌<◌, ◌∷◌, [], Ok, Some, None, IfErr, IfOk, OnOk, length};
+ghost use Rattle.std.specs.Prelude.{◌≡◌, ◌<◌, ◌∷◌, [], Ok, Some, IfErr, IfOk, OnOk, length};
 ghost use Rattle.std.specs.Prelude.{min, option_map};
 ghost use Rattle.std.specs.Str.Lines.{lines, strip_carriage_return};
 ghost use Rattle.ball_model.specs.Input.{fields, is_record};

@@ -1,6 +1,6 @@
 //! Two seats at one board, that see and find what each posts.
 
-ghost use Rattle.std.specs.Prelude.{◌≡◌, ◌≤◌, ◌^◌};
+ghost use Rattle.std.specs.Prelude.{◌≤◌, ◌^◌};
 
 use super::*;
 

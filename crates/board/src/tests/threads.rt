@@ -1,6 +1,6 @@
 //! Threads at one board.
 
-ghost use Rattle.std.specs.Prelude.{◌≡◌, ◌*◌, ◌≤◌, ◌^◌};
+ghost use Rattle.std.specs.Prelude.{◌*◌, ◌≤◌, ◌^◌};
 
 use super::*;
 
