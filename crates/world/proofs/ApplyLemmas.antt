@@ -31,7 +31,7 @@ use Rattle.replica.specs.Change.{IsTrueBatch}
 use Rattle.replica.proofs.LevelLemmas.Level.{plan_is, number_is}
 use Rattle.world.specs.Shows.{IsMessage, SeenMessage, SeenNode, SeenWorld, message_of, seen_at, Agree, Has, ShowsNode, Shows}
 use Rattle.world.specs.Runs.{Applies, takes_memory}
-use Rattle.world.specs.Turns.{Turn, Turns, taken_turn, closed_turn, kept_turn, restarted_turn, merged_turn, merged_when}
+use Rattle.world.specs.Turns.{NodeTurn, Turns, taken_turn, closed_turn, kept_turn, restarted_turn, merged_turn, merged_when}
 use Rattle.world.proofs.ShowsLemmas.{with_seen, shows_changed}
 
 -- a job, for what is said of every job and depends on none
@@ -156,7 +156,7 @@ no_copy j id c old u v s here same at none =
 -- ---- events that change their node
 -- how the node of an event turns, and that this is what the event comes to
 pub record TurnOf (j : Job) (e : Event) (w : World) (a : Answer) (s t : SeenNode) : Type 0 where
-  pub turn : Node → Turn
+  pub turn : Node → NodeTurn
   pub turns : Turns j turn a s t
   pub outcome : (n : Node) → node_at w (node_of e) ≡ Some n → outcome_of j w e ≡ Ok ((turn n).answer, with_node w (node_of e) (turn n).node)
 

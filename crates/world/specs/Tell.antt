@@ -17,7 +17,7 @@ pub record BeginsText (old new : Option (List ℕ)) (text : List ℕ) : Type 0 w
   pub appended : Appends old new front
 
 -- a writer of these contents was given the text, and no call of it failed
-pub record Told {W : Type 0} (contents : W → Option (List ℕ)) (failed : W → ℕ) (old new : W)
+pub record TextTold {W : Type 0} (contents : W → Option (List ℕ)) (failed : W → ℕ) (old new : W)
     (text : List ℕ) : Type 0 where
   pub appended : Appends (contents old) (contents new) text
   pub counted : failed new ≡ failed old
@@ -34,7 +34,7 @@ abbrev pub Tells : {W : Type 0} → (W → Option (List ℕ)) → (W → ℕ) �
     Result (Unit {0}) TellError → Type 0
 Tells contents failed old new text result =
     MatchResult result
-    (λ _. Told contents failed old new text)
+    (λ _. TextTold contents failed old new text)
     (Stopped contents failed old new text)
 
 -- a node was looked at
