@@ -12,7 +12,7 @@ use Rattle.ball_model.specs.Job.{Job}
 use Rattle.ball_model.specs.Join.{Holding}
 use Rattle.ball_model.specs.Batches.{BatchValue, true_batch}
 use Rattle.ball_model.specs.State.{State, StandsFor}
-use Rattle.ball_model.specs.History.{Event, Post, Fetch, Keep, Recall, Drop, Entry, History, entry, with_entry, same_name, Object, after, board_of, IsAnswer, holding_in, post_reply, keep_reply, is_further, is_new_post, is_new_keep}
+use Rattle.ball_model.specs.History.{HistoryEvent, Post, Fetch, Keep, Recall, Drop, Entry, History, entry, with_entry, same_name, Object, after, board_of, IsAnswer, holding_in, post_reply, keep_reply, is_further, is_new_post, is_new_keep}
 use Rattle.ball_model.proofs.HistoryLemmas.{legal-push, board_of-push, same_name-true}
 use Rattle.board.specs.Book.{Keeps, HasStanding, HasContents, HasSnapshots}
 
@@ -115,7 +115,7 @@ module _ {A C : Type 0} (value : A → BatchValue) (state : C → State) where
           (cases_eq p at)
 
   -- ---- one entry more
-  keeps-entry : (h n : History) (by : ℕ) (e : Event) (entries entries' floor floor' : ℕ) (find find' : BatchName → Option A) (kept kept' : List (Option C))
+  keeps-entry : (h n : History) (by : ℕ) (e : HistoryEvent) (entries entries' floor floor' : ℕ) (find find' : BatchName → Option A) (kept kept' : List (Option C))
       → Keeps value state h entries floor find kept → n ≡ with_entry h (entry by e) → entries' ≡ entries + 1 → IsAnswer (board_of h) e
       → floor' ≡ (after (board_of h) e).floor → HasStanding value h.job (after (board_of h) e) find' → length kept' ≡ length kept → HasContents state (after (board_of h) e) kept' → HasSnapshots state h.job kept'
       → Keeps value state n entries' floor' find' kept'

@@ -4,7 +4,7 @@ use Rattle.atomic_table.specs.Table.{Me}
 use Rattle.std.proofs.lemmas.Bool.{leb-true, le-leb}
 use Rattle.ball_model.specs.declared.names.BatchName.{BatchName}
 use Rattle.ball_model.specs.Join.{Holding}
-use Rattle.ball_model.specs.History.{Event, Fetch, Recall, History, Object, board_of, is_kept_from, Begins, IsLegal, calls_by, entries_of, entry, with_entry}
+use Rattle.ball_model.specs.History.{HistoryEvent, Fetch, Recall, History, Object, board_of, is_kept_from, Begins, IsLegal, calls_by, entries_of, entry, with_entry}
 use Rattle.ball_model.proofs.HistoryLemmas.{begins_self, begins_entry, calls_by-other, calls_by-own, board_of-push, last_is_answer, kept_never_goes_back}
 use Rattle.board.specs.View.{View}
 use Rattle.ball_model.specs.Caller.{Caller, Called}
@@ -15,10 +15,10 @@ use Rattle.board.specs.Inside.{SeatFits, GrantFits, IsTurn, caller_of}
 use Rattle.board.specs.declared.seat.Grant.{Grant}
 
 -- what follows where the history is the same, and where it has one entry more
-next_cases : (limit n : ℕ) (old new : History) (P : History → Type 0) → IsNext limit n old new → P old → ((x : Event) → entries_of old < limit → P (with_entry old (entry n x))) → P new
+next_cases : (limit n : ℕ) (old new : History) (P : History → Type 0) → IsNext limit n old new → P old → ((x : HistoryEvent) → entries_of old < limit → P (with_entry old (entry n x))) → P new
 next_cases limit n old new P h same more = ⊎_elim
     (λ (e : new ≡ old). subst P (sym e) same)
-    (λ (e : (x : Event) × IsNoted limit n x old new). subst P (sym e.1.0) (more e.0 e.1.1))
+    (λ (e : (x : HistoryEvent) × IsNoted limit n x old new). subst P (sym e.1.0) (more e.0 e.1.1))
     h.1
 
 longer_of : (limit n : ℕ) (old new : History) → IsNext limit n old new → Begins old new
@@ -35,7 +35,7 @@ abbrev pub seeing : Caller → History → Caller
 seeing v h = record { number = v.number; limit = v.limit; seen = h }
 
 -- and where it noted one, that is the one call which it made
-pub met_called : (v : Caller) (met new : History) (e : Event) → Begins v.seen met → calls_by v.number met ≡ calls_by v.number v.seen → IsNoted v.limit v.number e met new → Called v e (seeing v new)
+pub met_called : (v : Caller) (met new : History) (e : HistoryEvent) → Begins v.seen met → calls_by v.number met ≡ calls_by v.number v.seen → IsNoted v.limit v.number e met new → Called v e (seeing v new)
 met_called v met new e longer own h = record {
   met = met;
   begins = longer;
@@ -91,7 +91,7 @@ turn_caller was now end found book t number e =
       seen = ap (λ (x : Me (Option History) View). x.0.seen) e i;
     }
 
-pub turn_called : (was now : Grant) (found book : History) (e : Event) → IsTurn was now found → IsNoted was.pass.me.0.limit was.number e found book → Called (caller_of was) e (seeing (caller_of was) book)
+pub turn_called : (was now : Grant) (found book : History) (e : HistoryEvent) → IsTurn was now found → IsNoted was.pass.me.0.limit was.number e found book → Called (caller_of was) e (seeing (caller_of was) book)
 turn_called was now found book e t h = met_called (caller_of was) found book e t.goes_on.0 (own_before was now found t) h
 
 -- ---- what was found

@@ -14,16 +14,16 @@ use Rattle.ball_model.specs.Job.{Job, job_of}
 use Rattle.ball_model.specs.Join.{Holding}
 use Rattle.ball_model.specs.Batches.{BatchValue, true_batch}
 use Rattle.ball_model.specs.State.{State, StandsFor}
-use Rattle.ball_model.specs.History.{Event, Post, Fetch, Keep, Recall, Drop, Entry, History, entry, entries_of, Object, board_of, IsLegal, holding_in, is_further, is_new_keep, is_new_post, same_name}
+use Rattle.ball_model.specs.History.{HistoryEvent, Post, Fetch, Keep, Recall, Drop, Entry, History, entry, entries_of, Object, board_of, IsLegal, holding_in, is_further, is_new_keep, is_new_post, same_name}
 use Rattle.board.specs.Noted.{by_name}
-use Rattle.board.specs.declared.event.Event.{Event as Noted}
-use Rattle.board.specs.declared.event.Event.TheVariants as noted
+use Rattle.board.specs.declared.event.HistoryEvent.{HistoryEvent as Noted}
+use Rattle.board.specs.declared.event.HistoryEvent.TheVariants as noted
 use Rattle.board.specs.declared.event.Entry.{Entry as Line}
 use Rattle.board.specs.declared.calls.Calls.{Calls}
 use Rattle.board.specs.declared.book.Book.TheInside.{Inside}
 
 -- a noted event
-abbrev pub event_of : Noted → Event
+abbrev pub event_of : Noted → HistoryEvent
 event_of (noted.Post name r) = Post name r
 event_of (noted.Fetch name) = Fetch name
 event_of (noted.Keep s r) = Keep (holding_in s.value) r

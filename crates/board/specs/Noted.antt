@@ -7,14 +7,14 @@ use Rattle.ball_model.specs.declared.names.BatchName.{BatchName}
 use Rattle.ball_model.specs.Join.{Holding}
 use Rattle.ball_model.specs.Batches.{BatchValue, true_batch}
 use Rattle.ball_model.specs.State.{State, StandsFor}
-use Rattle.ball_model.specs.History.{Event, Fetch, Recall, History, entry, entries_of, with_entry, Object, board_of, IsLegal, holding_in, is_new_keep}
+use Rattle.ball_model.specs.History.{HistoryEvent, Fetch, Recall, History, entry, entries_of, with_entry, Object, board_of, IsLegal, holding_in, is_new_keep}
 
 -- the order of names: by superstep, then source, then target
 abbrev pub by_name : BatchName → BatchName → Ordering
 by_name = (name_order.ghosts).cmp
 
 -- one entry more, where there is room for it
-abbrev pub IsNoted : ℕ → ℕ → Event → History → History → Type 0
+abbrev pub IsNoted : ℕ → ℕ → HistoryEvent → History → History → Type 0
 IsNoted limit by e old new = (new ≡ with_entry old (entry by e)) × (entries_of old < limit)
 
 -- a fetch of that name was noted, and this is the true batch of it
@@ -30,7 +30,8 @@ IsRecalled limit by part least old new state =
 
 -- the history after a call of this caller: it is legal, and the same or with one entry more
 abbrev pub IsNext : ℕ → ℕ → History → History → Type 0
-IsNext limit by old new = IsLegal new × ((new ≡ old) ⊎ ((e : Event) × IsNoted limit by e old new))
+IsNext limit by old new = IsLegal new
+    × ((new ≡ old) ⊎ ((e : HistoryEvent) × IsNoted limit by e old new))
 
 -- the content that is displaced where another one is kept, and where it is not
 abbrev pub displaced_by : Kept → Option Holding → Option Holding

@@ -17,7 +17,7 @@ ghost use Rattle.board.specs.Book.{held_at, IsPut, kept_after, reply_in, reply_t
 
 use crate::calls::Calls;
 use crate::error::BoardError;
-use crate::event::Event;
+use crate::event::HistoryEvent;
 use ball_model::{BatchName, Kept, Plan, Posted};
 use batches::Batch;
 use edgelist::Graph;
@@ -104,7 +104,7 @@ impl Book {
             return Ok(None);
         };
         let copy = self.calls.share(batch, limit)?;
-        self.calls.note(by, Event::Fetch(name));
+        self.calls.note(by, HistoryEvent::Fetch(name));
         Ok(Some(copy))
     }
 
@@ -124,7 +124,7 @@ impl Book {
         let copy = self.calls.share(batch, limit)?;
         let name = copy.name();
         let reply = put_batch(&mut self.standing, self.floor, name, copy)?;
-        self.calls.note(by, Event::Post(name, reply));
+        self.calls.note(by, HistoryEvent::Post(name, reply));
         Ok(reply)
     }
 
@@ -152,7 +152,7 @@ impl Book {
         let copy = self.calls.share(snapshot, limit)?;
         let seen = Seen::of(&*copy);
         let (reply, displaced) = put_snapshot(&mut self.kept, copy);
-        self.calls.note(by, Event::Keep(seen, reply));
+        self.calls.note(by, HistoryEvent::Keep(seen, reply));
         Ok((reply, displaced))
     }
 
@@ -183,7 +183,7 @@ impl Book {
         };
         let copy = self.calls.share(snapshot, limit)?;
         self.calls
-            .note(by, Event::Recall(part, at_least, Seen::of(&*copy)));
+            .note(by, HistoryEvent::Recall(part, at_least, Seen::of(&*copy)));
         Ok(Some(copy))
     }
 
@@ -207,7 +207,7 @@ impl Book {
         self.calls.make_room(limit)?;
         let dropped = drop_batches(self.calls.alloc, &mut self.standing, superstep)?;
         self.floor = self.floor.max(superstep);
-        self.calls.note(by, Event::DropBelow(superstep));
+        self.calls.note(by, HistoryEvent::DropBelow(superstep));
         Ok(dropped)
     }
 }

@@ -7,7 +7,7 @@ ghost use Rattle.board.specs.declared.error.BoardError.TheVariants.{BookFull, Me
 ghost use Rattle.board.specs.Book.{calls_in, event_of, HasPlace};
 
 use crate::error::BoardError;
-use crate::event::{Entry, Event};
+use crate::event::{Entry, HistoryEvent};
 use std::alloc::Global;
 use std::mem;
 use std::sync::Arc;
@@ -83,7 +83,7 @@ impl Calls {
     }
 
     /// Notes a call, for which room was made.
-    pub fn note(&mut self, by: u64, event: Event)
+    pub fn note(&mut self, by: u64, event: HistoryEvent)
         requires { HasPlace self.old }
         ensures entries { self.new.entries ≡ self.old.entries + 1 }
         ensures calls { calls_in self.new ≡ calls_in self.old ++ entry by (event_of event) ∷ [] }

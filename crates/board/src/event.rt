@@ -6,7 +6,7 @@ use std::snapshot::Snapshot as Seen;
 
 /// A call that changed or found something, with its reply. What is named by a snapshot takes no bytes here.
 #[derive(Drop)]
-pub enum Event {
+pub enum HistoryEvent {
     /// A batch of this name was posted.
     Post(BatchName, Posted),
     /// The batch of this name was found.
@@ -25,5 +25,5 @@ pub struct Entry {
     /// The number of the caller's seat.
     pub by: u64,
     /// What it did.
-    pub event: Event,
+    pub event: HistoryEvent,
 }

@@ -1,7 +1,7 @@
 //! The turn of a call: a ticket is drawn, the book is taken once the ticket is served, and given back.
 
 ghost use Rattle.std.specs.Prelude.{◌≡◌, ◌%◌, ◌^◌, ◌<◌, ◌∷◌, [], None, Some};
-ghost use Rattle.ball_model.specs.History.{Event, entries_of};
+ghost use Rattle.ball_model.specs.History.{HistoryEvent, entries_of};
 ghost use Rattle.ball_model.specs.Caller.{Called, Extends};
 ghost use Rattle.board.specs.Noted.{IsNext, IsNoted};
 ghost use Rattle.board.specs.Rule.{GoesOn, at_look, with_ticket, at_turn, after_turn};
@@ -149,7 +149,7 @@ impl Turn {
             × (grant.new.room ≡ self.was.value.room) }
         ensures seen { Extends (caller_of self.was.value) (caller_of grant.new) }
         ensures book { (caller_of grant.new).seen ≡ self.book }
-        ensures called { (e : Event) →
+        ensures called { (e : HistoryEvent) →
             IsNoted self.was.value.pass.me.0.limit self.was.value.number e
             self.found.value self.book →
             Called (caller_of self.was.value) e (caller_of grant.new) }

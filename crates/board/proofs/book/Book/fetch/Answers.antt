@@ -5,7 +5,7 @@ use Rattle.std.specs.BTreeMap.{get}
 use Rattle.ball_model.specs.Batches.{BatchValue}
 use Rattle.ball_model.specs.State.{State}
 use Rattle.ball_model.specs.History.{History, Fetch, entry, entries_of, board_of}
-use Rattle.board.specs.declared.event.Event.TheVariants as noted
+use Rattle.board.specs.declared.event.HistoryEvent.TheVariants as noted
 use Rattle.board.specs.Noted.{by_name}
 use Rattle.board.specs.Book.{event_of, history_of}
 use Rattle.board.proofs.BookLemmas.{noted as line, stands-found, keeps-fetch}
