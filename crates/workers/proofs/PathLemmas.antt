@@ -14,7 +14,7 @@ use Rattle.ball_model.specs.Join.{Holding, content_in, holding_of, join_of}
 use Rattle.ball_model.specs.State.{State, StandsFor, content_of}
 use Rattle.ball_model.specs.Steps.{Call, Answer, Take, Close, Took, Closed, start_content, content_after, answers_due, content_after_all}
 use Rattle.ball_model.specs.Held.{start_holding, held_after}
-use Rattle.ball_model.specs.History.{Event, History, calls_by, holding_in}
+use Rattle.ball_model.specs.History.{HistoryEvent, History, calls_by, holding_in}
 use Rattle.ball_model.specs.Caller.{Caller, Extends, Called, CalledNothing}
 use Rattle.ball_model.proofs.JoinLemmas.{content_back}
 use Rattle.replica.specs.Merged.{Absorbs}
@@ -44,7 +44,7 @@ own-append j p h (x ∷ xs) ys a b = (a.0, own-append j p (after_step j p h x) x
 calls-append : (xs ys : List Step) → calls_among (xs ++ ys) ≡ calls_among xs ++ calls_among ys
 unfolding calls_among
 calls-append [] ys = refl
-calls-append (Calls e ∷ xs) ys = ap (λ (l : List Event). e ∷ l) (calls-append xs ys)
+calls-append (Calls e ∷ xs) ys = ap (λ (l : List HistoryEvent). e ∷ l) (calls-append xs ys)
 calls-append (ClosesUp ∷ xs) ys = calls-append xs ys
 calls-append (StartsAnew ∷ xs) ys = calls-append xs ys
 
@@ -53,7 +53,7 @@ pub come_nowhere : (v w : Caller) (p : ℕ) (h : Holding) → CalledNothing v w 
 unfolding after_steps AreOwnSteps calls_among
 come_nowhere v w p h none = record { steps = []; own = tt; calls = none ∙ sym (append-nil (calls_by v.number v.seen)); held = refl }
 
-pub come_by_call : (v w : Caller) (p : ℕ) (e : Event) (h d : Holding) → Called v e w → IsOwnCall v.seen.job h e → after_board_call v.seen.job h e ≡ d → HasCome v p h d w
+pub come_by_call : (v w : Caller) (p : ℕ) (e : HistoryEvent) (h d : Holding) → Called v e w → IsOwnCall v.seen.job h e → after_board_call v.seen.job h e ≡ d → HasCome v p h d w
 unfolding after_steps AreOwnSteps calls_among
 come_by_call v w p e h d called own is = record { steps = Calls e ∷ []; own = (own, tt); calls = called.own; held = is }
 
@@ -92,8 +92,8 @@ come_on j n u v w p a b c steps job number h own calls held =
       steps = h.steps ++ steps;
       own = own-append u.seen.job p a h.steps steps h.own own_here;
       calls = made
-          ∙ (ap (λ (l : List Event). l ++ calls_among steps) h.calls
-          ∙ (append_assoc (calls_by u.number u.seen) (calls_among h.steps) (calls_among steps) ∙ ap (λ (l : List Event). calls_by u.number u.seen ++ l) (sym (calls-append h.steps steps))));
+          ∙ (ap (λ (l : List HistoryEvent). l ++ calls_among steps) h.calls
+          ∙ (append_assoc (calls_by u.number u.seen) (calls_among h.steps) (calls_among steps) ∙ ap (λ (l : List HistoryEvent). calls_by u.number u.seen ++ l) (sym (calls-append h.steps steps))));
       held = after_steps-append u.seen.job p a h.steps steps ∙ (ap (λ (d : Holding). after_steps u.seen.job p d steps) here ∙ end);
     }
 
@@ -174,7 +174,7 @@ own_post j p target b a v stands below other same is =
 
 -- ---- the calls of a caller that ran a node
 -- the first ones of a node's calls are made by the first ones of its steps
-record FirstSteps (j : Job) (p : ℕ) (h : Holding) (made : List Event) : Type 0 where
+record FirstSteps (j : Job) (p : ℕ) (h : Holding) (made : List HistoryEvent) : Type 0 where
   steps : List Step
   own : AreOwnSteps j p h steps
   calls : calls_among steps ≡ made
@@ -183,13 +183,13 @@ no_steps : (j : Job) (p : ℕ) (h : Holding) → FirstSteps j p h []
 unfolding AreOwnSteps calls_among
 no_steps j p h = record { steps = []; own = tt; calls = refl }
 
-first_more : (j : Job) (p : ℕ) (h : Holding) (step : Step) (made : List Event) → IsOwnStep j h step → FirstSteps j p (after_step j p h step) made → FirstSteps j p h (calls_among (step ∷ []) ++ made)
+first_more : (j : Job) (p : ℕ) (h : Holding) (step : Step) (made : List HistoryEvent) → IsOwnStep j h step → FirstSteps j p (after_step j p h step) made → FirstSteps j p h (calls_among (step ∷ []) ++ made)
 unfolding AreOwnSteps calls_among
-first_more j p h (Calls e) made own f = record { steps = Calls e ∷ f.steps; own = (own, f.own); calls = ap (λ (l : List Event). e ∷ l) f.calls }
+first_more j p h (Calls e) made own f = record { steps = Calls e ∷ f.steps; own = (own, f.own); calls = ap (λ (l : List HistoryEvent). e ∷ l) f.calls }
 first_more j p h ClosesUp made own f = record { steps = ClosesUp ∷ f.steps; own = (own, f.own); calls = f.calls }
 first_more j p h StartsAnew made own f = record { steps = StartsAnew ∷ f.steps; own = (own, f.own); calls = f.calls }
 
-first_steps : (j : Job) (p : ℕ) (h : Holding) (steps : List Step) (made rest : List Event) → AreOwnSteps j p h steps → made ++ rest ≡ calls_among steps → FirstSteps j p h made
+first_steps : (j : Job) (p : ℕ) (h : Holding) (steps : List Step) (made rest : List HistoryEvent) → AreOwnSteps j p h steps → made ++ rest ≡ calls_among steps → FirstSteps j p h made
 unfolding AreOwnSteps calls_among
 first_steps j p h steps [] rest own is = no_steps j p h
 first_steps j p h [] (e ∷ made) rest own is = absurd (cc)
@@ -197,11 +197,11 @@ first_steps j p h (Calls c ∷ steps) (e ∷ made) rest own is =
     let both : e ∷ (made ++ rest) ≡ c ∷ calls_among steps = is in
     let same : e ≡ c = cc both in
     let more : made ++ rest ≡ calls_among steps = cc both in
-    subst (λ (x : Event). FirstSteps j p h (x ∷ made)) (sym same) (first_more j p h (Calls c) made own.0 (first_steps j p (after_step j p h (Calls c)) steps made rest own.1 more))
+    subst (λ (x : HistoryEvent). FirstSteps j p h (x ∷ made)) (sym same) (first_more j p h (Calls c) made own.0 (first_steps j p (after_step j p h (Calls c)) steps made rest own.1 more))
 first_steps j p h (ClosesUp ∷ steps) (e ∷ made) rest own is = first_more j p h ClosesUp (e ∷ made) own.0 (first_steps j p (after_step j p h ClosesUp) steps (e ∷ made) rest own.1 is)
 first_steps j p h (StartsAnew ∷ steps) (e ∷ made) rest own is = first_more j p h StartsAnew (e ∷ made) own.0 (first_steps j p (after_step j p h StartsAnew) steps (e ∷ made) rest own.1 is)
 
-of_node : (j : Job) (p : ℕ) (made : List Event) → p < j.plan.parts → FirstSteps j p (start_holding j.plan p) made → AreOfNode j made
+of_node : (j : Job) (p : ℕ) (made : List HistoryEvent) → p < j.plan.parts → FirstSteps j p (start_holding j.plan p) made → AreOfNode j made
 of_node j p made below f = record {
   part = p;
   steps = f.steps;
@@ -211,7 +211,7 @@ of_node j p made below f = record {
 
 pub paths_are_of_nodes : PathsAreOfNodes
 paths_are_of_nodes v w p made below none path begins =
-    let all : calls_by v.number w.seen ≡ calls_among path.come.steps = path.come.calls ∙ ap (λ (l : List Event). l ++ calls_among path.come.steps) none in
+    let all : calls_by v.number w.seen ≡ calls_among path.come.steps = path.come.calls ∙ ap (λ (l : List HistoryEvent). l ++ calls_among path.come.steps) none in
     of_node v.seen.job p made below (first_steps v.seen.job p (start_holding v.seen.job.plan p) path.come.steps made begins.0 path.come.own (begins.1 ∙ all))
 
 -- the steps of a caller that came to a replica, in a history of its job with all its calls
@@ -220,7 +220,7 @@ came_in : (h : History) (v w : Caller) (p : ℕ) (r : State) → p < h.job.plan.
 came_in h v w p r below job none path made = record {
   below = below;
   own = subst (λ (j : Job). AreOwnSteps j p (start_holding j.plan p) path.steps) job path.own;
-  calls = sym (made ∙ (path.calls ∙ ap (λ (l : List Event). l ++ calls_among path.steps) none));
+  calls = sym (made ∙ (path.calls ∙ ap (λ (l : List HistoryEvent). l ++ calls_among path.steps) none));
   held = subst (λ (j : Job). after_steps j p (start_holding j.plan p) path.steps ≡ holding_in r) job path.held;
 }
 

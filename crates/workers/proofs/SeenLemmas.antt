@@ -3,7 +3,7 @@ use Rattle.std.proofs.Common.{◌≡◌, ◌≢◌, ℕ, ◌<◌, ◌+◌, inl, 
 use Rattle.ball_model.specs.declared.names.BatchName.{BatchName}
 use Rattle.ball_model.specs.declared.history.Posted.{Posted}
 use Rattle.ball_model.specs.Job.{Job}
-use Rattle.ball_model.specs.History.{Event, Post, History, Begins, events_by, calls_by}
+use Rattle.ball_model.specs.History.{HistoryEvent, Post, History, Begins, events_by, calls_by}
 use Rattle.ball_model.specs.Caller.{Caller, IsCaller, Extends, Called}
 use Rattle.ball_model.proofs.HistoryLemmas.{begins_self, begins_trans, events_by-append}
 use Rattle.std.proofs.lemmas.Bool.{cases_eq}
@@ -36,8 +36,8 @@ posted_by_call v w name r h = record { before = []; reply = r; later = []; made 
 -- a post since a later moment
 pub posted_before : (u v w : Caller) (name : BatchName) → Extends u v → HasPosted v name w → HasPosted u name w
 posted_before u v w name e h =
-    let es : List Event = events_by u.number e.begins.calls.0 in
-    let post : List Event = Post name h.reply ∷ h.later in
+    let es : List HistoryEvent = events_by u.number e.begins.calls.0 in
+    let post : List HistoryEvent = Post name h.reply ∷ h.later in
     let made : calls_by u.number w.seen ≡ calls_by u.number v.seen ++ (h.before ++ post) =
     subst (λ (n : ℕ). calls_by n w.seen ≡ calls_by n v.seen ++ (h.before ++ post)) e.number h.made in
     record {
@@ -45,22 +45,22 @@ posted_before u v w name e h =
       reply = h.reply;
       later = h.later;
       made = made
-          ∙ (ap (λ (l : List Event). l ++ (h.before ++ post)) (own_since u.number u.seen v.seen e.begins)
-          ∙ (append_assoc (calls_by u.number u.seen) es (h.before ++ post) ∙ ap (λ (l : List Event). calls_by u.number u.seen ++ l) (sym (append_assoc es h.before post))));
+          ∙ (ap (λ (l : List HistoryEvent). l ++ (h.before ++ post)) (own_since u.number u.seen v.seen e.begins)
+          ∙ (append_assoc (calls_by u.number u.seen) es (h.before ++ post) ∙ ap (λ (l : List HistoryEvent). calls_by u.number u.seen ++ l) (sym (append_assoc es h.before post))));
     }
 
 -- a post that was seen is seen later
 pub posted_later : (u v w : Caller) (name : BatchName) → HasPosted u name v → Extends v w → HasPosted u name w
 posted_later u v w name h e =
-    let es : List Event = events_by u.number e.begins.calls.0 in
-    let post : List Event = Post name h.reply ∷ h.later in
+    let es : List HistoryEvent = events_by u.number e.begins.calls.0 in
+    let post : List HistoryEvent = Post name h.reply ∷ h.later in
     record {
       before = h.before;
       reply = h.reply;
       later = h.later ++ es;
       made = own_since u.number v.seen w.seen e.begins
-          ∙ (ap (λ (l : List Event). l ++ es) h.made
-          ∙ (append_assoc (calls_by u.number u.seen) (h.before ++ post) es ∙ ap (λ (l : List Event). calls_by u.number u.seen ++ l) (append_assoc h.before post es)));
+          ∙ (ap (λ (l : List HistoryEvent). l ++ es) h.made
+          ∙ (append_assoc (calls_by u.number u.seen) (h.before ++ post) es ∙ ap (λ (l : List HistoryEvent). calls_by u.number u.seen ++ l) (append_assoc h.before post es)));
     }
 
 pub told_later : (u v w : Caller) (s p : ℕ) → HasToldAll u s p v → Extends v w → HasToldAll u s p w

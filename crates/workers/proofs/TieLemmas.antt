@@ -17,7 +17,7 @@ use Rattle.ball_model.specs.Job.{Job}
 use Rattle.ball_model.specs.Join.{Holding, join_of, merge_of}
 use Rattle.ball_model.specs.Steps.{Take, Close}
 use Rattle.ball_model.specs.Held.{start_holding, held_after, IsHeldBy}
-use Rattle.ball_model.specs.History.{Event, Post, Fetch, Keep, Recall, Drop, Entry, History, entry, Object, empty, AreAnswers, IsAnswer, after, after_all, calls_by, events_by, is_new_post, is_new_keep, same_name}
+use Rattle.ball_model.specs.History.{HistoryEvent, Post, Fetch, Keep, Recall, Drop, Entry, History, entry, Object, empty, AreAnswers, IsAnswer, after, after_all, calls_by, events_by, is_new_post, is_new_keep, same_name}
 use Rattle.ball_model.specs.World.{Node, World, start_node, start_world, node_at, with_node, node_of, name_to, outcome_at, outcome_unless, send_at, recover_when, recover_at, deliver_at, world_in, after_event, run_of}
 use Rattle.ball_model.specs.WorldLaws.{IsWorld}
 use Rattle.ball_model.proofs.HistoryLemmas.{same_name-true, events_by-append, after_all-append}
@@ -130,25 +130,25 @@ joins j w id h c ok at there same =
 
 -- ---- what a list of steps does
 -- what a call found was sent, or copied for that partition
-abbrev Found : List BatchName → List Holding → Event → Type 0
+abbrev Found : List BatchName → List Holding → HistoryEvent → Type 0
 Found sent copies (Post name r) = ⊤
 Found sent copies (Fetch name) = IsIn sent name
 Found sent copies (Keep c r) = ⊤
 Found sent copies (Recall p s c) = IsIn copies c × (c.partition ≡ p)
 Found sent copies (Drop s) = ⊤
 
-AllFound : List BatchName → List Holding → List Event → Type 0
+AllFound : List BatchName → List Holding → List HistoryEvent → Type 0
 AllFound sent copies [] = ⊤
 AllFound sent copies (e ∷ es) = Found sent copies e × AllFound sent copies es
 
-calls : (j : Job) (w : World) (id : NodeId) (h : Holding) (e : Event) → IsWorld j w → node_at w id ≡ Some (holds h) → IsOwnCall j h e → Found w.sent w.copies e → Does j w id (after_board_call j h e)
+calls : (j : Job) (w : World) (id : NodeId) (h : Holding) (e : HistoryEvent) → IsWorld j w → node_at w id ≡ Some (holds h) → IsOwnCall j h e → Found w.sent w.copies e → Does j w id (after_board_call j h e)
 calls j w id h (Post name r) ok at own f = nothing_done j w id h at
 calls j w id h (Fetch name) ok at own f = takes j w id h name at f
 calls j w id h (Keep c r) ok at own f = nothing_done j w id h at
 calls j w id h (Recall p s c) ok at own f = joins j w id h c ok at f.0 (f.1 ∙ own)
 calls j w id h (Drop s) ok at own f = nothing_done j w id h at
 
-found_then : (j : Job) (w : World) (id : NodeId) (c : Holding) (es : List Event) (a : Does j w id c) → AllFound w.sent w.copies es → AllFound (run_of j w a.events).sent (run_of j w a.events).copies es
+found_then : (j : Job) (w : World) (id : NodeId) (c : Holding) (es : List HistoryEvent) (a : Does j w id c) → AllFound w.sent w.copies es → AllFound (run_of j w a.events).sent (run_of j w a.events).copies es
 found_then j w id c es a f = subst (λ (s : List BatchName). AllFound s (run_of j w a.events).copies es) (sym a.sent) (subst (λ (d : List Holding). AllFound w.sent d es) (sym a.copies) f)
 
 does : (j : Job) (w : World) (id : NodeId) (h : Holding) (steps : List Step) → IsWorld j w → node_at w id ≡ Some (holds h) → AreOwnSteps j id.part h steps → AllFound w.sent w.copies (calls_among steps) →
@@ -180,30 +180,30 @@ replays j w id h steps ok at own f =
     (does j (run_of j w a.events) id c steps (run_stays j w a.events ok) a.node own (found_then j w id c (calls_among steps) a f))
 
 -- ---- the steps before a call
-record Before (j : Job) (p : ℕ) (h : Holding) (done : List Event) (e : Event) : Type 0 where
+record Before (j : Job) (p : ℕ) (h : Holding) (done : List HistoryEvent) (e : HistoryEvent) : Type 0 where
   steps : List Step
   own : AreOwnSteps j p h steps
   calls : calls_among steps ≡ done
   may : IsOwnCall j (after_steps j p h steps) e
 
-head_of : Event → List Event → Event
+head_of : HistoryEvent → List HistoryEvent → HistoryEvent
 head_of e [] = e
 head_of e (x ∷ xs) = x
 
-tail_of : List Event → List Event
+tail_of : List HistoryEvent → List HistoryEvent
 tail_of [] = []
 tail_of (x ∷ xs) = xs
 
-head_same : (x y : Event) (xs ys : List Event) → x ∷ xs ≡ y ∷ ys → x ≡ y
+head_same : (x y : HistoryEvent) (xs ys : List HistoryEvent) → x ∷ xs ≡ y ∷ ys → x ≡ y
 unfolding head_of
 head_same x y xs ys e = ap (head_of x) e
 
-tail_same : (x y : Event) (xs ys : List Event) → x ∷ xs ≡ y ∷ ys → xs ≡ ys
+tail_same : (x y : HistoryEvent) (xs ys : List HistoryEvent) → x ∷ xs ≡ y ∷ ys → xs ≡ ys
 unfolding tail_of
 tail_same x y xs ys e = ap tail_of e
 
-cut_calls : (j : Job) (p : ℕ) (h : Holding) (x : Event) (steps : List Step) (done : List Event) (e : Event) (rest : List Event) → IsOwnCall j h x →
-    ((more : List Event) → calls_among steps ≡ more ++ e ∷ rest → Before j p (after_board_call j h x) more e) →
+cut_calls : (j : Job) (p : ℕ) (h : Holding) (x : HistoryEvent) (steps : List Step) (done : List HistoryEvent) (e : HistoryEvent) (rest : List HistoryEvent) → IsOwnCall j h x →
+    ((more : List HistoryEvent) → calls_among steps ≡ more ++ e ∷ rest → Before j p (after_board_call j h x) more e) →
     x ∷ calls_among steps ≡ done ++ e ∷ rest → Before j p h done e
 unfolding AreOwnSteps calls_among after_steps
 cut_calls j p h x steps [] e rest own later is = record { steps = []; own = tt; calls = refl; may = subst (IsOwnCall j h) (head_same x e (calls_among steps) rest is) own }
@@ -212,11 +212,11 @@ cut_calls j p h x steps (d ∷ done) e rest own later is =
     let same : x ≡ d = head_same x d (calls_among steps) (done ++ e ∷ rest) is in
     record { steps = Calls x ∷ b.steps; own = (own, b.own); calls = λ i. same i ∷ b.calls i; may = b.may }
 
-none_left : (done : List Event) (e : Event) (rest : List Event) → [] ≡ done ++ e ∷ rest → ⊥
+none_left : (done : List HistoryEvent) (e : HistoryEvent) (rest : List HistoryEvent) → [] ≡ done ++ e ∷ rest → ⊥
 none_left [] e rest is = absurd (cc)
 none_left (d ∷ done) e rest is = absurd (cc)
 
-cut : (j : Job) (p : ℕ) (h : Holding) (steps : List Step) (done : List Event) (e : Event) (rest : List Event) → AreOwnSteps j p h steps → calls_among steps ≡ done ++ e ∷ rest → Before j p h done e
+cut : (j : Job) (p : ℕ) (h : Holding) (steps : List Step) (done : List HistoryEvent) (e : HistoryEvent) (rest : List HistoryEvent) → AreOwnSteps j p h steps → calls_among steps ≡ done ++ e ∷ rest → Before j p h done e
 unfolding AreOwnSteps calls_among after_steps
 cut j p h [] done e rest own is = absurd (none_left done e rest is)
 cut j p h (Calls x ∷ steps) done e rest own is =
@@ -234,19 +234,19 @@ record Known (done : List Entry) : Type 0 where
   kept : (p : ℕ) → IfSome ((after_all empty done).kept p) (λ c. IsIn (copied_in done) c × (c.partition ≡ p))
   found : (n : ℕ) → AllFound (sent_in done) (copied_in done) (events_by n done)
 
-found_more : (s t : List BatchName) (c d : List Holding) (e : Event) → Found s c e → Found (s ++ t) (c ++ d) e
+found_more : (s t : List BatchName) (c d : List Holding) (e : HistoryEvent) → Found s c e → Found (s ++ t) (c ++ d) e
 found_more s t c d (Post name r) f = tt
 found_more s t c d (Fetch name) f = in_later s t name f
 found_more s t c d (Keep x r) f = tt
 found_more s t c d (Recall p a x) f = (in_later c d x f.0, f.1)
 found_more s t c d (Drop a) f = tt
 
-all_more : (s t : List BatchName) (c d : List Holding) (es : List Event) → AllFound s c es → AllFound (s ++ t) (c ++ d) es
+all_more : (s t : List BatchName) (c d : List Holding) (es : List HistoryEvent) → AllFound s c es → AllFound (s ++ t) (c ++ d) es
 unfolding AllFound
 all_more s t c d [] f = tt
 all_more s t c d (e ∷ es) f = (found_more s t c d e f.0, all_more s t c d es f.1)
 
-all_push : (s : List BatchName) (c : List Holding) (es : List Event) (e : Event) → AllFound s c es → Found s c e → AllFound s c (es ++ e ∷ [])
+all_push : (s : List BatchName) (c : List Holding) (es : List HistoryEvent) (e : HistoryEvent) → AllFound s c es → Found s c e → AllFound s c (es ++ e ∷ [])
 unfolding AllFound
 all_push s c [] e f one = (one, tt)
 all_push s c (x ∷ es) e f one = (f.0, all_push s c es e f.1 one)
@@ -262,7 +262,7 @@ copied_push [] e = append-nil (copied_by e.event)
 copied_push (x ∷ xs) e = ap (λ (l : List Holding). copied_by x.event ++ l) (copied_push xs e) ∙ sym (append_assoc (copied_by x.event) (copied_in xs) (copied_by e.event))
 
 -- what stands after an event stood before it, or was sent by it
-stands_push : (o : Object) (e : Event) (s : List BatchName) (name : BatchName) → (o.stands name ≡ true → IsIn s name) → (after o e).stands name ≡ true → IsIn (s ++ sent_by e) name
+stands_push : (o : Object) (e : HistoryEvent) (s : List BatchName) (name : BatchName) → (o.stands name ≡ true → IsIn s name) → (after o e).stands name ≡ true → IsIn (s ++ sent_by e) name
 stands_push o (Post n r) s name h is = ⊎_elim
     (λ (a : (is_new_post r && same_name name n) ≡ true).
     let both = and_parts (is_new_post r) (same_name name n) a in
@@ -290,7 +290,7 @@ kept_put cs c r p old true e h =
     let both = and_parts (is_new_keep r) (p == c.partition) e in
     rw both.0 (in_last cs c, sym (eqb-true p c.partition both.1))
 
-kept_push : (o : Object) (e : Event) (cs : List Holding) (p : ℕ) → KeptIn cs p (o.kept p) → KeptIn (cs ++ copied_by e) p ((after o e).kept p)
+kept_push : (o : Object) (e : HistoryEvent) (cs : List Holding) (p : ℕ) → KeptIn cs p (o.kept p) → KeptIn (cs ++ copied_by e) p ((after o e).kept p)
 kept_push o (Post n r) cs p h = kept_later cs [] p (o.kept p) h
 kept_push o (Fetch n) cs p h = kept_later cs [] p (o.kept p) h
 kept_push o (Keep c r) cs p h = kept_put cs c r p (o.kept p) (is_new_keep r && (p == c.partition)) refl h
@@ -298,7 +298,7 @@ kept_push o (Recall q a c) cs p h = kept_later cs [] p (o.kept p) h
 kept_push o (Drop a) cs p h = kept_later cs [] p (o.kept p) h
 
 -- what is answered was found
-found_now : (o : Object) (e : Event) (s : List BatchName) (cs : List Holding) → ((name : BatchName) → o.stands name ≡ true → IsIn s name) → ((p : ℕ) → KeptIn cs p (o.kept p)) → IsAnswer o e → Found s cs e
+found_now : (o : Object) (e : HistoryEvent) (s : List BatchName) (cs : List Holding) → ((name : BatchName) → o.stands name ≡ true → IsIn s name) → ((p : ℕ) → KeptIn cs p (o.kept p)) → IsAnswer o e → Found s cs e
 found_now o (Post n r) s cs h k a = tt
 found_now o (Fetch n) s cs h k a = h n a
 found_now o (Keep c r) s cs h k a = tt
@@ -398,7 +398,7 @@ come_start j replicas = record {
 }
 
 -- what the node of a caller does again
-again : (j : Job) (replicas : ℕ) (done : List Entry) (w : World) (id : NodeId) (steps : List Step) (made : List Event) → Come j replicas done w → id.part < j.plan.parts → id.replica < replicas →
+again : (j : Job) (replicas : ℕ) (done : List Entry) (w : World) (id : NodeId) (steps : List Step) (made : List HistoryEvent) → Come j replicas done w → id.part < j.plan.parts → id.replica < replicas →
     AreOwnSteps j id.part (start_holding j.plan id.part) steps → calls_among steps ≡ made → AllFound (sent_in done) (copied_in done) made → Does j w id (after_steps j id.part (start_holding j.plan id.part) steps)
 again j replicas done w id steps made h below few own is f =
     let one = h.nodes id below few in
@@ -475,7 +475,7 @@ keeps j replicas done w n id c d kept.New h a own =
           (a.sent ∙ sym (append-nil w.sent)) (ap (λ (l : List Holding). l ++ d ∷ []) a.copies) refl;
     }
 
-calls_one : (j : Job) (replicas : ℕ) (done : List Entry) (w : World) (n : ℕ) (id : NodeId) (c : Holding) (e : Event) → Come j replicas done w → Does j w id c → IsOwnCall j c e →
+calls_one : (j : Job) (replicas : ℕ) (done : List Entry) (w : World) (n : ℕ) (id : NodeId) (c : Holding) (e : HistoryEvent) → Come j replicas done w → Does j w id c → IsOwnCall j c e →
     Next j replicas (done ++ entry n e ∷ [])
 calls_one j replicas done w n id c (Post name r) h a own = posts j replicas done w n id c name r h a own
 calls_one j replicas done w n id c (Fetch name) h a own = record { world = w; come = silent j replicas done w (entry n (Fetch name)) h refl refl }
@@ -483,10 +483,10 @@ calls_one j replicas done w n id c (Keep d r) h a own = keeps j replicas done w 
 calls_one j replicas done w n id c (Recall p s d) h a own = record { world = w; come = silent j replicas done w (entry n (Recall p s d)) h refl refl }
 calls_one j replicas done w n id c (Drop s) h a own = record { world = w; come = silent j replicas done w (entry n (Drop s)) h refl refl }
 
-own_events : (n : ℕ) (done rest : List Entry) (e : Event) → events_by n (done ++ entry n e ∷ rest) ≡ events_by n done ++ e ∷ events_by n rest
+own_events : (n : ℕ) (done rest : List Entry) (e : HistoryEvent) → events_by n (done ++ entry n e ∷ rest) ≡ events_by n done ++ e ∷ events_by n rest
 own_events n done rest e = events_by-append n done (entry n e ∷ rest) ∙ ap (λ (b : Bool). events_by n done ++ (if b then e ∷ events_by n rest else events_by n rest)) (eq-eqb n n refl)
 
-come_push : (j : Job) (replicas : ℕ) (done rest : List Entry) (w : World) (n : ℕ) (e : Event) → 0 < replicas → Come j replicas done w → Known done → AreOfNode j (events_by n (done ++ entry n e ∷ rest)) →
+come_push : (j : Job) (replicas : ℕ) (done rest : List Entry) (w : World) (n : ℕ) (e : HistoryEvent) → 0 < replicas → Come j replicas done w → Known done → AreOfNode j (events_by n (done ++ entry n e ∷ rest)) →
     Next j replicas (done ++ entry n e ∷ [])
 come_push j replicas done rest w n e some h known node =
     let p : ℕ = node.part in

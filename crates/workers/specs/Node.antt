@@ -6,7 +6,7 @@ use Rattle.ball_model.specs.PlanValue.{mixing_of}
 use Rattle.ball_model.specs.Job.{Job}
 use Rattle.ball_model.specs.Supersteps.{end_of}
 use Rattle.ball_model.specs.State.{State, StandsFor}
-use Rattle.ball_model.specs.History.{Event, Post, History, Begins, calls_by, board_of}
+use Rattle.ball_model.specs.History.{HistoryEvent, Post, History, Begins, calls_by, board_of}
 use Rattle.ball_model.specs.Caller.{Caller}
 use Rattle.board.specs.declared.error.BoardError.{BoardError}
 use Rattle.board.specs.declared.error.BoardError.TheVariants as board
@@ -36,9 +36,9 @@ pub record WasMissing (v : Caller) (name : BatchName) (w : Caller) : Type 0 wher
 
 -- among the caller's own calls since then is a post of the name
 pub record HasPosted (v : Caller) (name : BatchName) (w : Caller) : Type 0 where
-  pub before : List Event
+  pub before : List HistoryEvent
   pub reply : Posted
-  pub later : List Event
+  pub later : List HistoryEvent
   pub made : calls_by v.number w.seen
       ≡ calls_by v.number v.seen ++ (before ++ Post name reply ∷ later)
 

@@ -9,19 +9,19 @@ use Rattle.ball_model.specs.State.{State}
 use Rattle.ball_model.specs.Join.{Holding, join_of}
 use Rattle.ball_model.specs.Steps.{Take, Close}
 use Rattle.ball_model.specs.Held.{start_holding, held_after}
-use Rattle.ball_model.specs.History.{Event, Post, Fetch, Keep, Recall, Drop, Entry, History, IsLegal, calls_by, is_new_post, is_new_keep, holding_in}
+use Rattle.ball_model.specs.History.{HistoryEvent, Post, Fetch, Keep, Recall, Drop, Entry, History, IsLegal, calls_by, is_new_post, is_new_keep, holding_in}
 use Rattle.ball_model.specs.Caller.{Caller}
 use Rattle.ball_model.specs.World.{World, start_world, node_at, run_of}
 
 -- a step of a node: a call of its board, with what it makes of the answer; a close of its superstep; a start anew,
 -- with nothing of what it held
 pub data Step : Type 0 where
-  Calls : Event → Step
+  Calls : HistoryEvent → Step
   Closes : Step
   StartsAnew : Step
 
 -- what a node holds after a call: it takes what it fetched, and merges what it recalled
-abbrev pub after_board_call : Job → Holding → Event → Holding
+abbrev pub after_board_call : Job → Holding → HistoryEvent → Holding
 after_board_call j h (Post name r) = h
 after_board_call j h (Fetch name) = held_after j h (Take name)
 after_board_call j h (Keep c r) = h
@@ -47,7 +47,7 @@ pub record IsOwnName (j : Job) (h : Holding) (name : BatchName) : Type 0 where
   pub other : name.target ≢ h.partition
 
 -- a call that a node makes: it posts what it has to tell, keeps what it holds, and recalls for its own partition
-abbrev pub IsOwnCall : Job → Holding → Event → Type 0
+abbrev pub IsOwnCall : Job → Holding → HistoryEvent → Type 0
 IsOwnCall j h (Post name r) = IsOwnName j h name
 IsOwnCall j h (Fetch name) = ⊤
 IsOwnCall j h (Keep c r) = c ≡ h
@@ -65,7 +65,7 @@ AreOwnSteps j p h [] = ⊤
 AreOwnSteps j p h (step ∷ steps) = IsOwnStep j h step × AreOwnSteps j p (after_step j p h step) steps
 
 -- the calls among the steps
-unfoldable pub calls_among : List Step → List Event
+unfoldable pub calls_among : List Step → List HistoryEvent
 calls_among [] = []
 calls_among (Calls e ∷ steps) = e ∷ calls_among steps
 calls_among (Closes ∷ steps) = calls_among steps
@@ -92,21 +92,21 @@ abbrev pub IsPathTo : Caller → ℕ → State → Caller → Type 0
 IsPathTo v p r w = HasCome v p (start_holding v.seen.job.plan p) (holding_in r) w
 
 -- from its start, by these steps with these calls, a node of partition p comes to hold c
-pub record Reaches (j : Job) (p : ℕ) (made : List Event) (steps : List Step) (c : Holding) : Type 0 where
+pub record Reaches (j : Job) (p : ℕ) (made : List HistoryEvent) (steps : List Step) (c : Holding) : Type 0 where
   pub below : p < j.plan.parts
   pub own : AreOwnSteps j p (start_holding j.plan p) steps
   pub calls : calls_among steps ≡ made
   pub held : after_steps j p (start_holding j.plan p) steps ≡ c
 
 -- the calls are those of a node of some partition
-pub record AreOfNode (j : Job) (made : List Event) : Type 0 where
+pub record AreOfNode (j : Job) (made : List HistoryEvent) : Type 0 where
   pub part : ℕ
   pub steps : List Step
   pub held : Holding
   pub path : Reaches j part made steps held
 
 -- the name of what a call posted, where it was new
-abbrev pub sent_by : Event → List BatchName
+abbrev pub sent_by : HistoryEvent → List BatchName
 sent_by (Post name r) = if is_new_post r then name ∷ [] else []
 sent_by (Fetch name) = []
 sent_by (Keep c r) = []
@@ -114,7 +114,7 @@ sent_by (Recall p s c) = []
 sent_by (Drop s) = []
 
 -- the content that a call kept, where it was further
-abbrev pub copied_by : Event → List Holding
+abbrev pub copied_by : HistoryEvent → List Holding
 copied_by (Post name r) = []
 copied_by (Fetch name) = []
 copied_by (Keep c r) = if is_new_keep r then c ∷ [] else []
@@ -162,7 +162,7 @@ HistoriesAreRuns = (replicas : ℕ) (h : History) → 0 < replicas → IsLegal h
 -- the calls of a caller that made none before it ran a node are those of a node; and so are the first ones of them,
 -- which are what a shorter history has
 abbrev pub PathsAreOfNodes : Type 0
-PathsAreOfNodes = (v w : Caller) (p : ℕ) (made : List Event) → p < v.seen.job.plan.parts →
+PathsAreOfNodes = (v w : Caller) (p : ℕ) (made : List HistoryEvent) → p < v.seen.job.plan.parts →
     calls_by v.number v.seen ≡ [] → IsPath v p w → IsPrefix made (calls_by v.number w.seen) →
     AreOfNode v.seen.job made
 
