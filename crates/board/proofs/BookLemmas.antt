@@ -1,5 +1,5 @@
 -- A book with one entry more.
-use Rattle.std.proofs.Common.{◌≡◌, ℕ, ◌+◌, ◌<◌, ◌≤◌, Bool, true, false, cond, ◌&&◌, ◌||◌, ◌==◌, not, nat_lt, if◌then◌else◌, Option, Some, None, is_some, option_map, MatchOption, IfSome, List, [], ◌∷◌, ◌++◌, length, length-append, refl, sym, ap, ◌∙◌, subst, ⊎_elim, arith}
+use Rattle.std.proofs.Common.{◌≡◌, ℕ, ◌+◌, ◌<◌, ◌≤◌, Bool, true, false, cond, ◌&&◌, ◌||◌, ◌==◌, not, nat_lt, if◌then◌else◌, Option, Some, None, is_some, option_map, MatchOption, IfSome, List, [], ◌∷◌, ◌++◌, length, length-append, refl, sym, ap, ◌∙◌, subst, ⊎_elim, inr, arith}
 use Rattle.std.specs.Prelude.{slice_index_or, slice_set}
 use Rattle.std.proofs.lemmas.Bool.{eq-eqb, ne_eqb, cases_eq}
 use Rattle.std.proofs.lemmas.List.{get_or-set_same, get_or-set_other, length-set}
@@ -12,13 +12,20 @@ use Rattle.ball_model.specs.Job.{Job}
 use Rattle.ball_model.specs.Join.{Holding}
 use Rattle.ball_model.specs.Batches.{BatchValue, true_batch}
 use Rattle.ball_model.specs.State.{State, StandsFor}
-use Rattle.ball_model.specs.History.{HistoryEvent, Post, Fetch, Keep, Recall, Drop, Entry, History, entry, with_entry, same_name, Object, after, board_of, IsAnswer, holding_in, post_reply, keep_reply, is_further, is_new_post, is_new_keep}
+use Rattle.ball_model.specs.History.{HistoryEvent, Post, Fetch, Keep, Recall, Drop, Entry, History, entry, with_entry, same_name, Object, after, board_of, entries_of, IsAnswer, IsLegal, holding_in, post_reply, keep_reply, is_further, is_new_post, is_new_keep}
 use Rattle.ball_model.proofs.HistoryLemmas.{legal-push, board_of-push, same_name-true}
+use Rattle.board.specs.Noted.{IsNext}
 use Rattle.board.specs.Book.{Keeps, HasStanding, HasContents, HasSnapshots}
 
 -- the history after room was made and a call was noted
 pub noted : (h : History) (room next : List Entry) (e : Entry) → room ≡ h.calls → next ≡ room ++ e ∷ [] → record { job = h.job; calls = next } ≡ with_entry h e
 noted h room next e same put = ap (λ (l : List Entry). record { job = h.job; calls = l }) (put ∙ ap (λ (l : List Entry). l ++ e ∷ []) same)
+
+-- and it is the next one, where there were fewer entries than the limit
+pub noted_next : (limit by entries : ℕ) (h old : History) (room next : List Entry) (e : HistoryEvent) → room ≡ h.calls → next ≡ room ++ entry by e ∷ [] →
+    IsLegal (record { job = h.job; calls = next }) → h ≡ old → entries ≡ entries_of h → entries < limit → IsNext limit by old (record { job = h.job; calls = next })
+noted_next limit by entries h old room next e same put legal view count few =
+    (legal, inr (e, rw (← view) (noted h room next (entry by e) same put, subst (λ n. n < limit) count few)))
 
 -- ---- what stands, and what is kept
 module _ {A C : Type 0} (value : A → BatchValue) (state : C → State) where

@@ -5,4 +5,3 @@ pub mod Rule
 pub mod Turn
 pub mod Seats
 pub mod Inside
-pub mod Scene

@@ -7,8 +7,7 @@ ghost use Rattle.ball_model.specs.Job.{Job, IsJob, job_of};
 ghost use Rattle.ball_model.specs.Batches.{IsTrueBatch};
 ghost use Rattle.ball_model.specs.State.{Stands};
 ghost use Rattle.board.specs.Rule.{least_room, share};
-ghost use Rattle.board.specs.Scene.{IsSeated};
-ghost use Rattle.board.specs.Seats.{BoardView};
+ghost use Rattle.board.specs.Seats.{BoardView, IsAt};
 
 mod calls;
 mod opened;
@@ -213,7 +212,7 @@ impl Scene {
     fn open<R: AllocGlobal + RandomSource>(rt: &R, entries: u32) -> Option<(Scene, Seat)>
         requires { (2 ≤ entries) × (entries ≤ 2 ^ 24) }
         ensures seat { IfSome result (λ r.
-            IsSeated (record { job = r.0.stock; board = r.0.board }) r.1) }
+            IsAt r.0.board r.1 × (r.1.caller.seen.job ≡ r.0.stock)) }
         ensures room { IfSome result (λ r. r.1.room ≡ 2 ^ 63) }
     {
         let stock = Stock::new(rt)?;
@@ -247,7 +246,7 @@ impl<'a> Model for User<'a> {
     ghost view = { λ u. (u.at.now.board, u.seat.room) };
 
     ghost invariant = { λ u.
-        IsSeated (record { job = u.at.now.stock; board = u.at.now.board }) u.seat };
+        IsAt u.at.now.board u.seat × (u.seat.caller.seen.job ≡ u.at.now.stock) };
 }
 
 impl<'a> User<'a> {

@@ -1,14 +1,14 @@
-use Rattle.std.proofs.Common.{◌≡◌, ◌+◌, ◌<◌, ◌∙◌, inr, sym, ap, subst}
+use Rattle.std.proofs.Common.{◌≡◌, ◌+◌, ◌∙◌, sym, ap}
 use Rattle.std.specs.Arc.{arc_value}
 use Rattle.std.specs.Global.{Global}
 use Rattle.std.specs.BTreeMap.{get}
 use Rattle.ball_model.specs.Batches.{BatchValue}
 use Rattle.ball_model.specs.State.{State}
-use Rattle.ball_model.specs.History.{History, Fetch, entry, entries_of, board_of}
+use Rattle.ball_model.specs.History.{History, Fetch, entry, board_of}
 use Rattle.board.specs.declared.event.HistoryEvent.TheVariants as noted
 use Rattle.board.specs.Noted.{by_name}
 use Rattle.board.specs.Book.{event_of, history_of}
-use Rattle.board.proofs.BookLemmas.{noted as line, stands-found, keeps-fetch}
+use Rattle.board.proofs.BookLemmas.{noted as line, noted_next, stands-found, keeps-fetch}
 use Rattle.board.proofs.book.Book.fetch.Goals as goal
 
 pub invariant_of-self-2 : goal.invariant_of-self-2
@@ -22,8 +22,5 @@ invariant_of-self-2 c =
 
 pub returns-clause-next : goal.returns-clause-next
 returns-clause-next c =
-    let i = c.self.inside in
-    let h : History = history_of i in
-    let same = line h _ _ (entry c.args.by (event_of (noted.Fetch c.args.name))) c.share.ensures.calls c.note.ensures.calls in
-    let room : entries_of h < c.args.limit = subst (λ n. n < c.args.limit) c.self.invariant.entries_are c.in_ok-copy.ensures.ok.1 in
-    ((invariant_of-self-2 c).legal, inr (Fetch c.args.name, rw (← c.self.view_is) (same, room)))
+    noted_next c.args.limit c.args.by _ (history_of c.self.inside) _ _ _ (Fetch c.args.name)
+    c.share.ensures.calls c.note.ensures.calls (invariant_of-self-2 c).legal c.self.view_is c.self.invariant.entries_are c.in_ok-copy.ensures.ok.1

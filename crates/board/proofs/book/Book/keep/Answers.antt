@@ -1,14 +1,14 @@
-use Rattle.std.proofs.Common.{◌≡◌, ◌+◌, ◌<◌, ◌∙◌, inr, sym, ap, subst, length}
+use Rattle.std.proofs.Common.{◌≡◌, ◌+◌, ◌<◌, ◌∙◌, sym, ap, subst, length}
 use Rattle.std.specs.Arc.{arc_value}
 use Rattle.std.specs.Global.{Global}
 use Rattle.std.specs.BTreeMap.{get}
 use Rattle.ball_model.specs.Batches.{BatchValue}
 use Rattle.ball_model.specs.State.{State, Stands}
-use Rattle.ball_model.specs.History.{History, Keep, entry, with_entry, entries_of, holding_in}
+use Rattle.ball_model.specs.History.{History, Keep, entry, with_entry, holding_in}
 use Rattle.board.specs.declared.event.HistoryEvent.TheVariants as noted
 use Rattle.board.specs.Noted.{by_name}
 use Rattle.board.specs.Book.{event_of, history_of}
-use Rattle.board.proofs.BookLemmas.{noted as line, keeps-keep}
+use Rattle.board.proofs.BookLemmas.{noted as line, noted_next, keeps-keep}
 use Rattle.board.proofs.book.Book.keep.Goals as goal
 
 pub invariant_of-self-2 : goal.invariant_of-self-2
@@ -27,9 +27,5 @@ invariant_of-self-2 c =
 
 pub returns-clause-next : goal.returns-clause-next
 returns-clause-next c =
-    let i = c.self.inside in
-    let h : History = history_of i in
-    let reply = c.put_snapshot-reply.result.0 in
-    let same = line h _ _ (entry c.args.by (event_of (noted.Keep c.of-seen.result reply))) c.share.ensures.calls c.note.ensures.calls in
-    let room : entries_of h < c.args.limit = subst (λ n. n < c.args.limit) c.self.invariant.entries_are c.in_ok-copy.ensures.ok.1 in
-    ((invariant_of-self-2 c).legal, inr (Keep (holding_in c.of-seen.result.value) reply, rw (← c.self.view_is) (same, room)))
+    noted_next c.args.limit c.args.by _ (history_of c.self.inside) _ _ _ (Keep (holding_in c.of-seen.result.value) c.put_snapshot-reply.result.0)
+    c.share.ensures.calls c.note.ensures.calls (invariant_of-self-2 c).legal c.self.view_is c.self.invariant.entries_are c.in_ok-copy.ensures.ok.1

@@ -1,15 +1,15 @@
-use Rattle.std.proofs.Common.{◌≡◌, ◌+◌, ◌<◌, ◌∙◌, inr, sym, ap, subst}
+use Rattle.std.proofs.Common.{◌≡◌, ◌+◌, ◌∙◌, sym, ap}
 use Rattle.std.specs.Prelude.{slice_index_or, Some, None}
 use Rattle.std.specs.Arc.{arc_value}
 use Rattle.std.specs.Global.{Global}
 use Rattle.std.specs.BTreeMap.{get}
 use Rattle.ball_model.specs.Batches.{BatchValue}
 use Rattle.ball_model.specs.State.{State}
-use Rattle.ball_model.specs.History.{History, Recall, entry, with_entry, entries_of, holding_in}
+use Rattle.ball_model.specs.History.{History, Recall, entry, with_entry, holding_in}
 use Rattle.board.specs.declared.event.HistoryEvent.TheVariants as noted
 use Rattle.board.specs.Noted.{by_name}
 use Rattle.board.specs.Book.{event_of, history_of}
-use Rattle.board.proofs.BookLemmas.{noted as line, keeps-recall}
+use Rattle.board.proofs.BookLemmas.{noted as line, noted_next, keeps-recall}
 use Rattle.board.proofs.book.Book.recall.Goals as goal
 
 pub invariant_of-self-2 : goal.invariant_of-self-2
@@ -25,8 +25,5 @@ invariant_of-self-2 c =
 
 pub returns-clause-next : goal.returns-clause-next
 returns-clause-next c =
-    let i = c.self.inside in
-    let h : History = history_of i in
-    let same = line h _ _ (entry c.args.by (event_of (noted.Recall c.args.part c.args.at_least c.of.result))) c.share.ensures.calls c.note.ensures.calls in
-    let room : entries_of h < c.args.limit = subst (λ n. n < c.args.limit) c.self.invariant.entries_are c.in_ok-copy.ensures.ok.1 in
-    ((invariant_of-self-2 c).legal, inr (Recall c.args.part c.args.at_least (holding_in c.of.result.value), rw (← c.self.view_is) (same, room)))
+    noted_next c.args.limit c.args.by _ (history_of c.self.inside) _ _ _ (Recall c.args.part c.args.at_least (holding_in c.of.result.value))
+    c.share.ensures.calls c.note.ensures.calls (invariant_of-self-2 c).legal c.self.view_is c.self.invariant.entries_are c.in_ok-copy.ensures.ok.1
