@@ -25,7 +25,7 @@ ghost use Rattle.node.specs.Turns.{GivesOrWants, Holds, IsBrought, SaysMerged, T
 ghost use Rattle.node.specs.declared.session.Reply.TheVariants as reply;
 
 use ball_model::world::Answer;
-use ball_model::{CloseError, MemReader, MergeError, Plan, TakeError, Taken};
+use ball_model::{MemReader, MergeError, Plan};
 use batches::{Batch, BatchError};
 use checkpoint::{KeepError, check_front, read_checkpoint};
 use edgelist::Part;
@@ -34,6 +34,7 @@ use std::alloc::{AllocError, Global};
 use std::marker::Model;
 use std::mem;
 use std::sync::Arc;
+use world::{answer_to_close, answer_to_take};
 
 /// What a node says to a command.
 #[derive(Clone, Copy, Debug, PartialEq, Eq)]
@@ -393,24 +394,4 @@ pub fn read_back(alloc: Global, part: Arc<Part>, bytes: &[u8]) -> Result<Replica
 {
     let mut reader = MemReader::new(bytes, None);
     read_checkpoint(alloc, part, &mut reader)
-}
-
-// What a world answers where a replica said this of a batch.
-fn answer_to_take(taken: Result<Taken, TakeError>) -> Answer
-    ensures { result ≡ taken_answer taken }
-{
-    match taken {
-        Ok(taken) => Answer::Took(taken),
-        Err(error) => Answer::NotTaken(error),
-    }
-}
-
-// What a world answers where a replica said this of a close.
-fn answer_to_close(closed: Result<u32, CloseError>) -> Answer
-    ensures { result ≡ closed_answer closed }
-{
-    match closed {
-        Ok(superstep) => Answer::Closed { superstep },
-        Err(error) => Answer::NotClosed(error),
-    }
 }

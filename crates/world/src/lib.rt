@@ -38,6 +38,7 @@ pub mod watch;
 mod world;
 
 pub use ball_model::world::{Answer, Event, WorldError};
+pub use node::{answer_to_close, answer_to_take};
 pub use world::World;
 
 #[cfg(test)]

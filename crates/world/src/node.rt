@@ -219,8 +219,8 @@ fn want_of(error: KeepError) -> AllocError
     }
 }
 
-// What a world answers where a replica said this of a batch.
-fn answer_to_take(taken: Result<Taken, TakeError>) -> Answer
+/// What a world answers where a replica said this of a batch.
+pub fn answer_to_take(taken: Result<Taken, TakeError>) -> Answer
     ensures { result ≡ taken_answer taken }
 {
     match taken {
@@ -229,8 +229,8 @@ fn answer_to_take(taken: Result<Taken, TakeError>) -> Answer
     }
 }
 
-// What a world answers where a replica said this of a close.
-fn answer_to_close(closed: Result<u32, CloseError>) -> Answer
+/// What a world answers where a replica said this of a close.
+pub fn answer_to_close(closed: Result<u32, CloseError>) -> Answer
     ensures { result ≡ closed_answer closed }
 {
     match closed {
