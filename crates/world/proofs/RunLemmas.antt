@@ -38,7 +38,8 @@ is_want-is (Err refusal.NoTarget) e = absurd (cc)
 is_want-is (Err refusal.NoMessage) e = absurd (cc)
 is_want-is (Err refusal.NoCopy) e = absurd (cc)
 
-not_want : (r : Result Answer WorldError) → is_want r ≡ false → r ≢ Err refusal.Memory
+-- what memory was not refused for
+pub not_want : (r : Result Answer WorldError) → is_want r ≡ false → r ≢ Err refusal.Memory
 not_want r e is = absurd (let no : true ≡ false = sym (ap is_want is) ∙ e in cc)
 
 pub run_both : (j : Job) (w : World) (es : List Event) (rs : List (Result Answer WorldError)) (v u : SeenWorld) → Shows j w v → EventsMade j v es rs u →

@@ -25,7 +25,8 @@ seen_other v id at t ne = elim (cases_eq at.part id.part) [
   | inr other ↦ ap (λ (row : List SeenNode). slice_get row at.replica) (changed_other v.nodes id.part at.part id.replica (set (get_or v.nodes id.part []) id.replica t) other)
 ]
 
-agree_as : {A B : Type 0} (R : A → B → Type 0) (a c : Option A) (b d : Option B) → a ≡ c → b ≡ d → Agree R c d → Agree R a b
+-- what agrees, said of the same in other words
+pub agree_as : {A B : Type 0} (R : A → B → Type 0) (a c : Option A) (b d : Option B) → a ≡ c → b ≡ d → Agree R c d → Agree R a b
 agree_as R a c b d first second h = subst (λ x. Agree R x b) (sym first) (subst (λ y. Agree R c y) (sym second) h)
 
 -- both worlds have another node in one place, and the one shows the other

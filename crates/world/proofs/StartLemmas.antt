@@ -12,6 +12,7 @@ use Rattle.ball_model.specs.State.{State}
 use Rattle.ball_model.specs.World.{Node, node_at, start_node, start_world}
 use Rattle.ball_model.proofs.WorldLemmas.{one_more, start_is_world}
 use Rattle.world.specs.Shows.{SeenMessage, SeenNode, Agree, ShowsNode, Shows, AreStart, AreFirstNodes}
+use Rattle.world.proofs.ShowsLemmas.{agree_as}
 
 pub node_more : (j : Job) (p n : ℕ) (nodes : List SeenNode) (s : SeenNode) → AreStart j p n nodes → ShowsNode j (start_node j.plan p) s → AreStart j p (n + 1) (nodes ++ s ∷ [])
 node_more j p n nodes s before shows = record {
@@ -57,9 +58,6 @@ none_of x zero k le = refl
 none_of x (suc n) zero le = absurd (omega (arith, le))
 none_of x (suc n) (suc k) le = none_of x n k (omega (arith, le))
 
-agrees : {A B : Type 0} (R : A → B → Type 0) (a c : Option A) (b d : Option B) → a ≡ c → b ≡ d → Agree R c d → Agree R a b
-agrees R a c b d first second h = subst (λ x. Agree R x b) (sym first) (subst (λ y. Agree R c y) (sym second) h)
-
 at_index : {X : Type 0} (P : X → Type 0) (o : Option X) (x : X) → IfSome o P → o ≡ Some x → P x
 at_index P o x h e = subst (λ (q : Option _). IfSome q P) e h
 
@@ -76,10 +74,10 @@ node_agrees j n nodes k (Some s) e lt h = h
 nodes_agree : (j : Job) (p replicas k : ℕ) (nodes : List SeenNode) → AreStart j p replicas nodes → Agree (ShowsNode j) (slice_get (replicate replicas (start_node j.plan p)) k) (slice_get nodes k)
 nodes_agree j p replicas k nodes are = elim (cases_lt k replicas) [
   | inl inside ↦
-      agrees (ShowsNode j) (slice_get (replicate replicas (start_node j.plan p)) k) (Some (start_node j.plan p)) (slice_get nodes k) (slice_get nodes k) (one_of (start_node j.plan p) replicas k inside) refl
+      agree_as (ShowsNode j) (slice_get (replicate replicas (start_node j.plan p)) k) (Some (start_node j.plan p)) (slice_get nodes k) (slice_get nodes k) (one_of (start_node j.plan p) replicas k inside) refl
       (node_agrees j (start_node j.plan p) nodes k (slice_get nodes k) refl (omega (arith, are.count, inside)) (are.each k))
   | inr past ↦
-      agrees (ShowsNode j) (slice_get (replicate replicas (start_node j.plan p)) k) None (slice_get nodes k) None (none_of (start_node j.plan p) replicas k (omega arith)) (slice_get_past nodes k (omega (arith, are.count))) tt
+      agree_as (ShowsNode j) (slice_get (replicate replicas (start_node j.plan p)) k) None (slice_get nodes k) None (none_of (start_node j.plan p) replicas k (omega arith)) (slice_get_past nodes k (omega (arith, are.count))) tt
 ]
 
 abbrev rows_of : Job → ℕ → List (List Node)
@@ -98,11 +96,11 @@ start_agrees j replicas rows id are = elim (cases_lt id.part j.plan.parts) [
       let there : slice_get rows id.part ≡ Some row = slice_get-get_or rows id.part [] (omega (arith, are.count, inside)) in
       let start : AreStart j id.part replicas row = at_index (AreStart j id.part replicas) (slice_get rows id.part) row (are.each id.part) there in
       let first : get_or (rows_of j replicas) id.part [] ≡ replicate replicas (start_node j.plan id.part) = get_or-map-range_with_len (λ q. replicate replicas (start_node j.plan q)) 0 j.plan.parts id.part id.part [] inside (omega arith) in
-      agrees (ShowsNode j) (slice_get (get_or (rows_of j replicas) id.part []) id.replica) (slice_get (replicate replicas (start_node j.plan id.part)) id.replica) (slice_get row id.replica) (slice_get row id.replica)
+      agree_as (ShowsNode j) (slice_get (get_or (rows_of j replicas) id.part []) id.replica) (slice_get (replicate replicas (start_node j.plan id.part)) id.replica) (slice_get row id.replica) (slice_get row id.replica)
       (ap (λ (l : List Node). slice_get l id.replica) first) refl (nodes_agree j id.part replicas id.replica row start)
   | inr past ↦
       let gone : get_or rows id.part [] ≡ [] = sym (unwrap_or-slice_get rows id.part []) ∙ ap (λ o. unwrap_or o []) (slice_get_past rows id.part (omega (arith, are.count))) in
-      agrees (ShowsNode j) (slice_get (get_or (rows_of j replicas) id.part []) id.replica) None (slice_get (get_or rows id.part []) id.replica) None
+      agree_as (ShowsNode j) (slice_get (get_or (rows_of j replicas) id.part []) id.replica) None (slice_get (get_or rows id.part []) id.replica) None
       (ap (λ (l : List Node). slice_get l id.replica) (no_row_of j replicas id.part (omega arith))) (ap (λ (l : List SeenNode). slice_get l id.replica) gone) tt
 ]
 

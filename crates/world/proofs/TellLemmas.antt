@@ -1,5 +1,5 @@
 -- What is written of a text, one piece after another.
-use Rattle.std.proofs.Common.{◌≡◌, ◌≢◌, ◌-◌, ◌^◌, ◌==◌, ◌&&◌, nat_lt, zero, drop, not, if◌then◌else◌, ◌∙◌, ℕ, suc, ◌+◌, ◌*◌, ◌<◌, ◌≤◌, Bool, true, false, List, [], ◌∷◌, ◌++◌, map, take, get_or, length, refl, ap, arith, sym, subst, append_assoc, append-nil}
+use Rattle.std.proofs.Common.{◌≡◌, ◌-◌, ◌^◌, ◌==◌, ◌&&◌, nat_lt, drop, not, if◌then◌else◌, ◌∙◌, ℕ, suc, ◌+◌, ◌*◌, ◌<◌, ◌≤◌, Bool, true, false, List, [], ◌∷◌, ◌++◌, map, take, get_or, length, refl, ap, arith, sym, subst, append_assoc, append-nil}
 use Rattle.std.specs.Prelude.{Option, None, Some, Result, Ok, Err}
 use Rattle.std.specs.Io.KnownBytes.{Appends}
 use Rattle.std.proofs.KnownBytes.{Appends-nil, Appends-trans}
@@ -33,7 +33,6 @@ use Rattle.ball_model.proofs.PartLemmas.{vertices_of-strided}
 use Rattle.edgelist.proofs.FeedLemmas.{vertex-within}
 use Rattle.replica.specs.Seen.{IsState}
 use Rattle.std.specs.List.{slice_get}
-use Rattle.world.specs.Runs.{is_want}
 use Rattle.world.specs.Tell.{BeginsText, Stopped, Tells, TextTold, is_shown}
 
 -- a beginning of a text is one of a longer text
@@ -153,10 +152,6 @@ stopped-next contents failed a b c g f i n x e at lt one two =
     rw same (stopped-after contents failed a b c (first-texts g f i) (g x ++ rest) e one (stopped-more contents failed b c (g x) rest e two))
 
 -- ---- events
-
--- what memory was not refused for
-pub not-want : (r : Result Answer WorldError) → is_want r ≡ false → r ≢ Err refusal.Memory
-not-want r other is = let want : is_want r ≡ true = ap is_want is in absurd (cc)
 
 pub shown-is : (r : Result Answer WorldError) → is_shown r ≡ true → r ≡ Ok answer.Shown
 shown-is (Ok answer.Shown) is = refl
