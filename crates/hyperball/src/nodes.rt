@@ -10,15 +10,15 @@ ghost use Rattle.node.specs.NoJob.{HasNoNode};
 ghost use Rattle.node.specs.NoReport.{HasNoReport, IsUnwritten, WritesFrontOfJob};
 ghost use Rattle.node.specs.Serving.{IsOfMachine, ServesNode, StopsNode};
 ghost use Rattle.node.specs.declared.error.GatherError.{GatherError as NoReport};
-ghost use Rattle.node.specs.declared.error.JobError.{JobError as NoJob};
-ghost use Rattle.node.specs.declared.error.JobError.TheVariants as no_job;
+ghost use Rattle.node.specs.declared.error.JobInputError.{JobInputError as NoJob};
+ghost use Rattle.node.specs.declared.error.JobInputError.TheVariants as no_job;
 ghost use Rattle.node.specs.declared.error.ServeError.{ServeError as NoAnswer};
 ghost use Rattle.node.specs.declared.error.ServeError.TheVariants as no_answer;
 
 use crate::node_words::{GatherWords, NodeWords};
 use crate::progress::{Teller, TellingWatch};
 use ball_model::{CountedRead, CountedWrite};
-use node::error::{GatherError, NodeError};
+use node::error::{GatherError, ServeNodeError};
 use node::gather::gather;
 use node::serve::serve_node;
 use std::alloc::AllocGlobal;
@@ -35,7 +35,7 @@ pub enum NodeFault {
     Random,
     /// The node gives up.
     #[error(transparent)]
-    Node(NodeError),
+    Node(ServeNodeError),
 }
 
 /// Why no report is gathered, or not all of it, in the order of the checks.
@@ -65,28 +65,28 @@ pub fn node_by<H: AllocGlobal + RandomSource, T: Teller, R: CountedRead, W: Coun
         (job_settings_of words.now.options) words.now.options.counted words.now.part
         (R.remaining reader.old) (R.remaining reader.new)
         (W.contents writer.old) (W.contents writer.new)) }
-    ensures stopped { (e : NoAnswer) → result ≡ Err (NodeFault.Node (NodeError.Serve e)) →
+    ensures stopped { (e : NoAnswer) → result ≡ Err (NodeFault.Node (ServeNodeError.Serve e)) →
         (IsOfMachine e → ⊥) → StopsNode
         (job_settings_of words.now.options) words.now.options.counted words.now.part e
         (R.remaining reader.old) (R.remaining reader.new)
         (W.contents writer.old) (W.contents writer.new) }
-    ensures jobless { (e : NoJob) → result ≡ Err (NodeFault.Node (NodeError.Job e)) →
+    ensures jobless { (e : NoJob) → result ≡ Err (NodeFault.Node (ServeNodeError.Job e)) →
         Keeps (W.contents writer.old) (W.contents writer.new) }
     // Which refusal it is.
-    ensures refused { (e : NoJob) → result ≡ Err (NodeFault.Node (NodeError.Job e)) → HasNoNode
+    ensures refused { (e : NoJob) → result ≡ Err (NodeFault.Node (ServeNodeError.Job e)) → HasNoNode
         (job_settings_of words.now.options) words.now.options.counted words.now.part
         (R.remaining reader.old) (R.remaining reader.new) e }
     // A call failed exactly where that is told.
-    ensures read { result ≡ Err (NodeFault.Node (NodeError.Serve no_answer.Read)) →
+    ensures read { result ≡ Err (NodeFault.Node (ServeNodeError.Serve no_answer.Read)) →
         Rises (R.failed_calls reader.old) (R.failed_calls reader.new) }
-    ensures read_job { result ≡ Err (NodeFault.Node (NodeError.Job no_job.Read)) →
+    ensures read_job { result ≡ Err (NodeFault.Node (ServeNodeError.Job no_job.Read)) →
         Rises (R.failed_calls reader.old) (R.failed_calls reader.new) }
-    ensures counted { result ≢ Err (NodeFault.Node (NodeError.Serve no_answer.Read)) →
-        result ≢ Err (NodeFault.Node (NodeError.Job no_job.Read)) →
+    ensures counted { result ≢ Err (NodeFault.Node (ServeNodeError.Serve no_answer.Read)) →
+        result ≢ Err (NodeFault.Node (ServeNodeError.Job no_job.Read)) →
         R.failed_calls reader.new ≡ R.failed_calls reader.old }
-    ensures write { result ≡ Err (NodeFault.Node (NodeError.Serve no_answer.Write)) →
+    ensures write { result ≡ Err (NodeFault.Node (ServeNodeError.Serve no_answer.Write)) →
         Rises (W.failed_calls writer.old) (W.failed_calls writer.new) }
-    ensures written { result ≢ Err (NodeFault.Node (NodeError.Serve no_answer.Write)) →
+    ensures written { result ≢ Err (NodeFault.Node (ServeNodeError.Serve no_answer.Write)) →
         W.failed_calls writer.new ≡ W.failed_calls writer.old }
     ensures random { result ≡ Err NodeFault.Random →
         Keeps (W.contents writer.old) (W.contents writer.new) }

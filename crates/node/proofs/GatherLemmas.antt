@@ -25,7 +25,7 @@ use Rattle.checkpoint.specs.declared.error.KeepError.{KeepError}
 use Rattle.checkpoint.specs.declared.error.KeepError.TheVariants as unkept
 use Rattle.node.specs.declared.error.GatherError.{GatherError}
 use Rattle.node.specs.declared.error.GatherError.TheVariants as fault
-use Rattle.node.specs.declared.error.JobError.{JobError}
+use Rattle.node.specs.declared.error.JobInputError.{JobInputError}
 use Rattle.node.specs.NoReport.{AreUnready, EndsWithin, IsNoReplica, IsNoReport, IsOther, StopsAtPart, WritesFront, WritesFrontOfJob, told_kept}
 use Rattle.node.specs.Job.{IsJobRead}
 use Rattle.node.specs.Refusals.{IsNoCheckpoint}
@@ -227,7 +227,7 @@ pub never_written : {T : Type 0} (part : PartValue) (a b : Option (List ℕ)) (r
 never_written part a b (Ok x) unread is = absurd (cc)
 never_written part a b (Err e) unread is = let same : e ≡ fault.Write = cc in absurd (subst (IsNoReplica part a b) same unread)
 
-pub never_job : {T : Type 0} (j : Job) (a b : Option (List ℕ)) (r : Result T GatherError) (x : JobError) → IfErr r (IsNoReport j a b) → r ≢ Err (fault.Job x)
+pub never_job : {T : Type 0} (j : Job) (a b : Option (List ℕ)) (r : Result T GatherError) (x : JobInputError) → IfErr r (IsNoReport j a b) → r ≢ Err (fault.Job x)
 never_job j a b (Ok y) x unread is = absurd (cc)
 never_job j a b (Err e) x unread is = let same : e ≡ fault.Job x = cc in absurd (subst (IsNoReport j a b) same unread)
 

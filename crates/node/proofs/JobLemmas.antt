@@ -4,8 +4,8 @@ use Rattle.std.specs.Prelude.{Option, None, Some, IfSome, Result, Ok, Err}
 use Rattle.std.specs.Io.KnownBytes.{IsAtEnd, prepend_known}
 use Rattle.std.specs.Prelude.{IsErrAnd, IsOk}
 use Rattle.std.proofs.Common.{inl, inr}
-use Rattle.node.specs.declared.error.NodeError.{NodeError}
-use Rattle.node.specs.declared.error.NodeError.TheVariants as nonode
+use Rattle.node.specs.declared.error.ServeNodeError.{ServeNodeError}
+use Rattle.node.specs.declared.error.ServeNodeError.TheVariants as nonode
 use Rattle.ball_model.specs.declared.plan.PlanError.TheVariants as fault
 use Rattle.ball_model.specs.Input.{IsPlain, Network, Refusal}
 use Rattle.ball_model.specs.Counting.{counted_of}
@@ -18,8 +18,8 @@ use Rattle.edgelist.specs.Given.{IsGiven}
 use Rattle.edgelist.specs.declared.pieces.EdgeReader.{EdgeReader}
 use Rattle.edgelist.specs.declared.read.Delimiter.{Delimiter}
 use Rattle.edgelist.specs.declared.read.EdgeLimits.{EdgeLimits}
-use Rattle.node.specs.declared.error.JobError.{JobError}
-use Rattle.node.specs.declared.error.JobError.TheVariants as nojob
+use Rattle.node.specs.declared.error.JobInputError.{JobInputError}
+use Rattle.node.specs.declared.error.JobInputError.TheVariants as nojob
 use Rattle.node.specs.Job.{CountsSome, GivesAll, GivesEdges, GivesSection, IsJobRead, IsPlanned}
 use Rattle.node.specs.NoJob.{HasNoNode, IsNoNetwork, IsNoStart, IsRefused, LacksListMark, LacksMark}
 use Rattle.node.specs.declared.job.TheConstants.{MOST_LIST}
@@ -163,12 +163,12 @@ lacks_list_mark list begins x y p end few = record { none = passed_over list beg
     few_read (Some text) is = subst (λ (l : List ℕ). length l ≤ MOST_LIST) (sym is) few
 
 -- ---- a node of the job
-pub no_start : (s : Settings) (counted : Bool) (p : ℕ) (x y : Option (List ℕ)) (network : Network) (plan : PlanValue) (e : JobError) → IsJobRead s counted x y network plan → IsNoStart plan p e →
+pub no_start : (s : Settings) (counted : Bool) (p : ℕ) (x y : Option (List ℕ)) (network : Network) (plan : PlanValue) (e : JobInputError) → IsJobRead s counted x y network plan → IsNoStart plan p e →
     HasNoNode s counted p x y e
 no_start s counted p x y network plan nojob.Part job no_part = inr (refl, record { network = network; plan = plan; job = job; beyond = no_part })
 no_start s counted p x y network plan nojob.Memory job no_part = inl tt
 no_start s counted p x y network plan e job no_part = absurd no_part
 
-pub told_job : {T : Type 0} (r : Result T NodeError) (x : JobError) (P : JobError → Type 0) → IsErrAnd r (λ y. y ≡ nonode.Job x) → P x → (e : JobError) → r ≡ Err (nonode.Job e) → P e
+pub told_job : {T : Type 0} (r : Result T ServeNodeError) (x : JobInputError) (P : JobInputError → Type 0) → IsErrAnd r (λ y. y ≡ nonode.Job x) → P x → (e : JobInputError) → r ≡ Err (nonode.Job e) → P e
 told_job (Ok u) x P is p e same = absurd is
 told_job (Err y) x P is p e same = let one : x ≡ e = cc in subst P one p

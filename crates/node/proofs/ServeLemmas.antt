@@ -17,8 +17,8 @@ use Rattle.node.specs.NodeText.{AllAsk, AnswersOne, AnswersAll, Asked, Asks, IsR
 use Rattle.node.specs.declared.command.Command.{Command}
 use Rattle.node.specs.declared.error.ServeError.{ServeError}
 use Rattle.node.specs.declared.error.ServeError.TheVariants as fault
-use Rattle.node.specs.declared.error.NodeError.{NodeError}
-use Rattle.node.specs.declared.error.NodeError.TheVariants as node_fault
+use Rattle.node.specs.declared.error.ServeNodeError.{ServeNodeError}
+use Rattle.node.specs.declared.error.ServeNodeError.TheVariants as node_fault
 use Rattle.node.specs.Stream.{CutsBody, HasNoEnd, ReadsBody, ReadsInLine, most_line}
 use Rattle.node.specs.Serving.{AnswersEach, AppendsAnswers, AreNamed, AreTold, CutShort, IfRefused, IsNoRequest, IsOfMachine, LacksRoom, NoCommand, ReadsRequest, Runs, ServesRest, ServesNode, ServesNone, ServesOne, ServesSome, Steps, StopsServing, StopsNode, StopsWanting, WantsNode, serve_error_of}
 use Rattle.node.specs.Turns.{Holds, most_body}
@@ -359,13 +359,13 @@ stops_node s counted p e network plan left mid left' old new v w read below hold
           (subst (λ (q : PartValue). IsNoRequest q (stops.number + 1) e stops.mid left') same stops.at);
     }
 
-same_fault : (d e : ServeError) → ◌≡◌ {A = Result (Unit {0}) NodeError} (Err (node_fault.Serve d)) (Err (node_fault.Serve e)) → d ≡ e
+same_fault : (d e : ServeError) → ◌≡◌ {A = Result (Unit {0}) ServeNodeError} (Err (node_fault.Serve d)) (Err (node_fault.Serve e)) → d ≡ e
 same_fault d e is = cc
 
 pub node_stops : (s : Settings) (counted : Bool) (p : ℕ) (network : Network) (plan : PlanValue) (left mid left' old new : Option (List ℕ)) (v w : State) (d : ServeError) →
     IsJobRead s counted left mid network plan → p < plan.parts → Holds (job_of network.graph plan) p (start_holding plan p) v →
     ((IsOfMachine d → ⊥) → StopsServing network v.part d mid left' v w old new) →
-    (e : ServeError) → ◌≡◌ {A = Result (Unit {0}) NodeError} (Err (node_fault.Serve d)) (Err (node_fault.Serve e)) → (IsOfMachine e → ⊥) → StopsNode s counted p e left left' old new
+    (e : ServeError) → ◌≡◌ {A = Result (Unit {0}) ServeNodeError} (Err (node_fault.Serve d)) (Err (node_fault.Serve e)) → (IsOfMachine e → ⊥) → StopsNode s counted p e left left' old new
 node_stops s counted p network plan left mid left' old new v w d read below holds stops e is some =
     let same : d ≡ e = same_fault d e is in
     subst (λ (k : ServeError). StopsNode s counted p k left left' old new) same

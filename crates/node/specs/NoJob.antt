@@ -10,8 +10,8 @@ use Rattle.edgelist.specs.Reading.{Refuses}
 use Rattle.edgelist.specs.declared.counting.CountedError.{CountedError}
 use Rattle.edgelist.specs.declared.read.EdgeError.{EdgeError}
 use Rattle.edgelist.specs.declared.read.EdgeError.TheVariants as unread
-use Rattle.node.specs.declared.error.JobError.{JobError}
-use Rattle.node.specs.declared.error.JobError.TheVariants as fault
+use Rattle.node.specs.declared.error.JobInputError.{JobInputError}
+use Rattle.node.specs.declared.error.JobInputError.TheVariants as fault
 use Rattle.node.specs.declared.job.TheConstants.{MOST_LIST}
 use Rattle.node.specs.Job.{CountsSome, IsJobRead, SaysNetwork}
 use Rattle.node.specs.Section.{HasNoMark, ReadsSection, before_mark}
@@ -31,7 +31,8 @@ pub record LacksMark (says : List ℕ → Result Network Refusal) (left : Option
     pub fine : IfSome left (λ text. IsPlain text → IsOk (says text))
 
 -- so it is refused, or there is no mark; of want of memory and a failed read nothing is said
-abbrev pub IsNoNetwork : (List ℕ → Result Network Refusal) → Option (List ℕ) → JobError → Type 0
+abbrev pub IsNoNetwork : (List ℕ → Result Network Refusal) → Option (List ℕ) → JobInputError →
+    Type 0
 IsNoNetwork says left (fault.Edges e) = IsRefused says left e
 IsNoNetwork says left fault.NoMark = LacksMark says left
 IsNoNetwork says left fault.EdgesSize = IfSome left (λ text. 2 ^ 64 - 1 ≤ length text)
@@ -46,7 +47,7 @@ pub record LacksListMark (left : Option (List ℕ)) : Type 0 where
   pub few : IfSome left (λ text. length text ≤ MOST_LIST)
 
 -- so it is, or more bytes than a list may have stand before a mark
-abbrev pub IsUnlisted : Option (List ℕ) → JobError → Type 0
+abbrev pub IsUnlisted : Option (List ℕ) → JobInputError → Type 0
 IsUnlisted left fault.NoListMark = LacksListMark left
 IsUnlisted left fault.ListSize = IfSome left (λ text. MOST_LIST < length (before_mark text))
 IsUnlisted left fault.Memory = ⊤
@@ -62,13 +63,13 @@ pub record IsMiscounted (s : Settings) (left : Option (List ℕ)) (all : Network
   pub few : length list ≤ MOST_LIST
   pub refuses : IsPlain list → RefusesList (counted_of s.delimiter all list) e
 
-abbrev pub IsUncounted : Settings → Option (List ℕ) → Network → JobError → Type 0
+abbrev pub IsUncounted : Settings → Option (List ℕ) → Network → JobInputError → Type 0
 IsUncounted s left all (fault.Counted e) = IsMiscounted s left all e
 IsUncounted s left all e = IsUnlisted left e
 
 -- the edge list says a network, and the list behind it is refused so
 pub record HasNoCount (s : Settings) (counted : Bool) (left : Option (List ℕ))
-    (e : JobError) : Type 0 where
+    (e : JobInputError) : Type 0 where
   pub asked : counted ≡ true
   pub all : Network
   pub mid : Option (List ℕ)
@@ -88,7 +89,7 @@ pub record HasNoPlan (s : Settings) (counted : Bool) (left left' : Option (List 
 
 -- ---- the job
 -- the input says no job, for this fault
-abbrev pub IsNoJob : Settings → Bool → Option (List ℕ) → Option (List ℕ) → JobError → Type 0
+abbrev pub IsNoJob : Settings → Bool → Option (List ℕ) → Option (List ℕ) → JobInputError → Type 0
 IsNoJob s counted left left' (fault.Edges e) = IsRefused (network_in s) left e
 IsNoJob s counted left left' fault.NoMark = LacksMark (network_in s) left
 IsNoJob s counted left left' fault.EdgesSize = IsNoNetwork (network_in s) left fault.EdgesSize
@@ -102,7 +103,7 @@ IsNoJob s counted left left' fault.Read = ⊤
 
 -- ---- a node of the job
 -- it has no partition p; of want of memory nothing is said
-abbrev pub IsNoStart : PlanValue → ℕ → JobError → Type 0
+abbrev pub IsNoStart : PlanValue → ℕ → JobInputError → Type 0
 IsNoStart plan p fault.Part = plan.parts ≤ p
 IsNoStart plan p fault.Memory = ⊤
 IsNoStart plan p e = ⊥
@@ -116,6 +117,7 @@ pub record HasNoPart (s : Settings) (counted : Bool) (p : ℕ)
   pub beyond : plan.parts ≤ p
 
 -- the input says no job, or one without that partition
-abbrev pub HasNoNode : Settings → Bool → ℕ → Option (List ℕ) → Option (List ℕ) → JobError → Type 0
+abbrev pub HasNoNode : Settings → Bool → ℕ → Option (List ℕ) → Option (List ℕ) → JobInputError →
+    Type 0
 HasNoNode s counted p left left' e =
     IsNoJob s counted left left' e ⊎ ((e ≡ fault.Part) × HasNoPart s counted p left left')

@@ -12,7 +12,7 @@ use world::tell::TellError;
 
 /// Why there is no job, in the order of the checks.
 #[derive(Clone, Copy, Debug, PartialEq, Eq, Error)]
-pub enum JobError {
+pub enum JobInputError {
     /// The edge list is refused.
     #[error("{0}")]
     Edges(EdgeError),
@@ -45,43 +45,43 @@ pub enum JobError {
     Read,
 }
 
-impl From<EdgeError> for JobError {
-    ghost use Rattle.node.specs.declared.error.JobError.TheVariants.{Edges};
+impl From<EdgeError> for JobInputError {
+    ghost use Rattle.node.specs.declared.error.JobInputError.TheVariants.{Edges};
 
     ghost from_gives = { λ fault e. e ≡ Edges fault };
 
-    fn from(fault: EdgeError) -> JobError {
-        JobError::Edges(fault)
+    fn from(fault: EdgeError) -> JobInputError {
+        JobInputError::Edges(fault)
     }
 }
 
-impl From<CountedError> for JobError {
-    ghost use Rattle.node.specs.declared.error.JobError.TheVariants.{Counted};
+impl From<CountedError> for JobInputError {
+    ghost use Rattle.node.specs.declared.error.JobInputError.TheVariants.{Counted};
 
     ghost from_gives = { λ fault e. e ≡ Counted fault };
 
-    fn from(fault: CountedError) -> JobError {
-        JobError::Counted(fault)
+    fn from(fault: CountedError) -> JobInputError {
+        JobInputError::Counted(fault)
     }
 }
 
-impl From<PlanError> for JobError {
-    ghost use Rattle.node.specs.declared.error.JobError.TheVariants.{Plan};
+impl From<PlanError> for JobInputError {
+    ghost use Rattle.node.specs.declared.error.JobInputError.TheVariants.{Plan};
 
     ghost from_gives = { λ fault e. e ≡ Plan fault };
 
-    fn from(fault: PlanError) -> JobError {
-        JobError::Plan(fault)
+    fn from(fault: PlanError) -> JobInputError {
+        JobInputError::Plan(fault)
     }
 }
 
-impl From<AllocError> for JobError {
-    ghost use Rattle.node.specs.declared.error.JobError.TheVariants.{Memory};
+impl From<AllocError> for JobInputError {
+    ghost use Rattle.node.specs.declared.error.JobInputError.TheVariants.{Memory};
 
     ghost from_gives = { λ _ e. e ≡ Memory };
 
-    fn from(_fault: AllocError) -> JobError {
-        JobError::Memory
+    fn from(_fault: AllocError) -> JobInputError {
+        JobInputError::Memory
     }
 }
 
@@ -126,32 +126,32 @@ impl From<TellError> for ServeError {
 
 /// Why a node answers no more, or not at all.
 #[derive(Clone, Copy, Debug, PartialEq, Eq, Error)]
-pub enum NodeError {
+pub enum ServeNodeError {
     /// It has no job.
     #[error("{0}")]
-    Job(JobError),
+    Job(JobInputError),
     /// It gives up its commands.
     #[error("{0}")]
     Serve(ServeError),
 }
 
-impl From<JobError> for NodeError {
-    ghost use Rattle.node.specs.declared.error.NodeError.TheVariants.{Job};
+impl From<JobInputError> for ServeNodeError {
+    ghost use Rattle.node.specs.declared.error.ServeNodeError.TheVariants.{Job};
 
     ghost from_gives = { λ fault e. e ≡ Job fault };
 
-    fn from(fault: JobError) -> NodeError {
-        NodeError::Job(fault)
+    fn from(fault: JobInputError) -> ServeNodeError {
+        ServeNodeError::Job(fault)
     }
 }
 
-impl From<ServeError> for NodeError {
-    ghost use Rattle.node.specs.declared.error.NodeError.TheVariants.{Serve};
+impl From<ServeError> for ServeNodeError {
+    ghost use Rattle.node.specs.declared.error.ServeNodeError.TheVariants.{Serve};
 
     ghost from_gives = { λ fault e. e ≡ Serve fault };
 
-    fn from(fault: ServeError) -> NodeError {
-        NodeError::Serve(fault)
+    fn from(fault: ServeError) -> ServeNodeError {
+        ServeNodeError::Serve(fault)
     }
 }
 
@@ -160,7 +160,7 @@ impl From<ServeError> for NodeError {
 pub enum GatherError {
     /// There is no job.
     #[error("{0}")]
-    Job(JobError),
+    Job(JobInputError),
     /// The input ends before the checkpoint of this partition.
     #[error("no checkpoint of partition {part}")]
     Missing { part: u16 },
@@ -193,12 +193,12 @@ pub enum GatherError {
     Write,
 }
 
-impl From<JobError> for GatherError {
+impl From<JobInputError> for GatherError {
     ghost use Rattle.node.specs.declared.error.GatherError.TheVariants.{Job};
 
     ghost from_gives = { λ fault e. e ≡ Job fault };
 
-    fn from(fault: JobError) -> GatherError {
+    fn from(fault: JobInputError) -> GatherError {
         GatherError::Job(fault)
     }
 }

@@ -15,7 +15,7 @@ ghost use Rattle.node.specs.NoReport.{HasNoReport, IsNoReplica, IsNoReport, Writ
 ghost use Rattle.node.specs.NoReport.{WritesFrontOfJob, IsUnwritten, part_length, told_kept};
 ghost use Rattle.node.specs.Job.{job_settings_of};
 ghost use Rattle.node.specs.Stream.{FailsWhere};
-ghost use Rattle.node.specs.declared.error.JobError.TheVariants as no_job;
+ghost use Rattle.node.specs.declared.error.JobInputError.TheVariants as no_job;
 
 use crate::command::size;
 use crate::error::GatherError;

@@ -16,7 +16,7 @@ ghost use Rattle.node.specs.NoJob.{IsNoJob, IsNoNetwork, IsUncounted, IsUnlisted
 ghost use Rattle.node.specs.Section.{ReadsSection};
 ghost use Rattle.node.specs.Stream.{FailsWhere};
 
-use crate::error::JobError;
+use crate::error::JobInputError;
 use crate::section::{Cut, Step, next_step};
 use ball_model::{CountedRead, Estimate, Plan, PlanError};
 use edgelist::{Delimiter, EdgeList, EdgeReader, Graph, LIMITS, Part};
@@ -51,13 +51,13 @@ fn give_section<R: CountedRead>(
     alloc: Global,
     reader: &mut R,
     edges: &mut EdgeReader,
-) -> Result<bool, JobError>
+) -> Result<bool, JobInputError>
     ensures given { (delimiter : Delimiter) → IsGiven LIMITS delimiter [] edges.old →
         IfOk result (GivesEdges LIMITS delimiter
         (R.remaining reader.old) (R.remaining reader.new) edges.new) }
     ensures refused { (delimiter : Delimiter) → IsGiven LIMITS delimiter [] edges.old →
         IfErr result (IsNoNetwork (meaning_of LIMITS delimiter) (R.remaining reader.old)) }
-    ensures failed { FailsWhere (result ≡ Err JobError.Read)
+    ensures failed { FailsWhere (result ≡ Err JobInputError.Read)
         (R.failed_calls reader.old) (R.failed_calls reader.new) }
 {
     let mut cut = Cut::start();
@@ -66,10 +66,10 @@ fn give_section<R: CountedRead>(
             Step::Byte(byte) => edges.add(alloc, byte)?,
             Step::Mark => return Ok(true),
             Step::End => return Ok(false),
-            Step::Failed => return Err(JobError::Read),
+            Step::Failed => return Err(JobInputError::Read),
         }
     }
-    Err(JobError::EdgesSize)
+    Err(JobInputError::EdgesSize)
 }
 
 // The graph that a section says, which ends at a mark, and how many records it has.
@@ -78,14 +78,14 @@ fn read_edge_section<R: CountedRead>(
     state: RandomState,
     options: &JobOptions,
     reader: &mut R,
-) -> Result<EdgeList, JobError>
+) -> Result<EdgeList, JobInputError>
     ensures says { IfOk result (λ read. SaysNetwork (job_settings_of options.now)
         (R.remaining reader.old) (R.remaining reader.new) read.graph) }
     ensures count { IfOk result (λ read. HasRecords (job_settings_of options.now)
         (R.remaining reader.old) read.records) }
     ensures refused { IfErr result (IsNoNetwork (network_in (job_settings_of options.now))
         (R.remaining reader.old)) }
-    ensures failed { FailsWhere (result ≡ Err JobError.Read)
+    ensures failed { FailsWhere (result ≡ Err JobInputError.Read)
         (R.failed_calls reader.old) (R.failed_calls reader.new) }
 {
     let mut edges = EdgeReader::new(alloc, state, options.delimiter, LIMITS)?;
@@ -93,19 +93,19 @@ fn read_edge_section<R: CountedRead>(
     let read = edges.finish(alloc)?;
     if !marked {
         drop(read);
-        return Err(JobError::NoMark);
+        return Err(JobInputError::NoMark);
     }
     Ok(read)
 }
 
 // Reads the bytes of a section, which ends at a mark, into `list`, which is empty.
-fn read_list<R: CountedRead>(reader: &mut R, list: &mut Vec<u8>) -> Result<(), JobError>
+fn read_list<R: CountedRead>(reader: &mut R, list: &mut Vec<u8>) -> Result<(), JobInputError>
     requires { list.old.items ≡ [] }
     ensures read { OnOk result (ReadsSection list.new.items
         (R.remaining reader.old) (R.remaining reader.new)) }
     ensures few { OnOk result (length list.new.items ≤ MOST_LIST) }
     ensures refused { IfErr result (IsUnlisted (R.remaining reader.old)) }
-    ensures failed { FailsWhere (result ≡ Err JobError.Read)
+    ensures failed { FailsWhere (result ≡ Err JobInputError.Read)
         (R.failed_calls reader.old) (R.failed_calls reader.new) }
 {
     let mut cut = Cut::start();
@@ -113,15 +113,15 @@ fn read_list<R: CountedRead>(reader: &mut R, list: &mut Vec<u8>) -> Result<(), J
         match next_step(reader, &mut cut) {
             Step::Byte(byte) => {
                 let Ok(()) = list.push(byte) else {
-                    return Err(JobError::Memory);
+                    return Err(JobInputError::Memory);
                 };
             }
             Step::Mark => return Ok(()),
-            Step::End => return Err(JobError::NoListMark),
-            Step::Failed => return Err(JobError::Read),
+            Step::End => return Err(JobInputError::NoListMark),
+            Step::Failed => return Err(JobInputError::Read),
         }
     }
-    Err(JobError::ListSize)
+    Err(JobInputError::ListSize)
 }
 
 // Counts only the vertices of a list, where there is one.
@@ -130,13 +130,13 @@ fn count_listed<R: CountedRead>(
     graph: &mut Graph,
     options: &JobOptions,
     reader: &mut R,
-) -> Result<(), JobError>
+) -> Result<(), JobInputError>
     ensures counts { OnOk result (CountsSome (job_settings_of options.now) options.now.counted
         (R.remaining reader.old) (R.remaining reader.new) graph.old graph.new) }
     ensures asked { IsErr result → options.now.counted ≡ true }
     ensures refused { IfErr result (IsUncounted (job_settings_of options.now)
         (R.remaining reader.old) graph.old) }
-    ensures failed { FailsWhere (result ≡ Err JobError.Read)
+    ensures failed { FailsWhere (result ≡ Err JobInputError.Read)
         (R.failed_calls reader.old) (R.failed_calls reader.new) }
 {
     if !options.counted {
@@ -187,7 +187,7 @@ pub fn read_job<R: CountedRead>(
     state: RandomState,
     options: &JobOptions,
     reader: &mut R,
-) -> Result<(Graph, Plan, u64), JobError>
+) -> Result<(Graph, Plan, u64), JobInputError>
     ensures read { IfOk result (λ all. IsJobRead (job_settings_of options.now) options.now.counted
         (R.remaining reader.old) (R.remaining reader.new) all.0 all.1) }
     ensures job { IfOk result (λ all. IsJob (job_of all.0.graph all.1)) }
@@ -197,9 +197,9 @@ pub fn read_job<R: CountedRead>(
     ensures refused { IfErr result (IsNoJob (job_settings_of options.now) options.now.counted
         (R.remaining reader.old) (R.remaining reader.new)) }
     // A call failed exactly where that is told.
-    ensures failed { result ≡ Err JobError.Read →
+    ensures failed { result ≡ Err JobInputError.Read →
         Rises (R.failed_calls reader.old) (R.failed_calls reader.new) }
-    ensures counted { result ≢ Err JobError.Read →
+    ensures counted { result ≢ Err JobInputError.Read →
         R.failed_calls reader.new ≡ R.failed_calls reader.old }
 {
     let mut read = read_edge_section(alloc, state, options, reader)?;

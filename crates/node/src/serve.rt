@@ -16,7 +16,7 @@ ghost use Rattle.node.specs.NoJob.{HasNoNode, IsNoStart};
 ghost use Rattle.node.specs.Serving.{IsNoRequest, IsOfMachine, ReadsRequest, ServesRest};
 ghost use Rattle.node.specs.Serving.{ServesNode, ServesNone, ServesOne, Steps, StopsServing};
 ghost use Rattle.node.specs.Serving.{StopsNode, StopsWanting, WantsNode};
-ghost use Rattle.node.specs.declared.error.JobError.{JobError as NoJob};
+ghost use Rattle.node.specs.declared.error.JobInputError.{JobInputError as NoJob};
 ghost use Rattle.node.specs.declared.error.ServeError.{ServeError as Fault};
 ghost use Rattle.node.specs.Stream.{CutsBody, FailsWhere, HasNoEnd, ReadsBody, most_line};
 ghost use Rattle.node.specs.declared.command.Command.TheVariants as order;
@@ -24,7 +24,7 @@ ghost use Rattle.node.specs.Turns.{Holds, most_body, reply_text};
 
 use crate::answers::{put_kept, put_reply, put_sent};
 use crate::command::{Command, command_of, length_of};
-use crate::error::{JobError, NodeError, ServeError};
+use crate::error::{JobInputError, ServeError, ServeNodeError};
 use crate::input::{Body, Line, read_body, read_line};
 use crate::job::{JobOptions, part_of, read_job};
 use crate::limits::is_within;
@@ -454,7 +454,7 @@ pub fn serve_commands<R: CountedRead, W: CountedWrite, V: Watch>(
 }
 
 // A node of a partition of a job, at its start.
-fn start(alloc: Global, graph: &Graph, plan: &Plan, part: u16) -> Result<Session, JobError>
+fn start(alloc: Global, graph: &Graph, plan: &Plan, part: u16) -> Result<Session, JobInputError>
     requires { IsJob (job_of graph.now.graph plan.now) }
     ensures part { IfOk result (λ _. part < plan.now.parts) }
     ensures start { IfOk result (Holds (job_of graph.now.graph plan.now) part
@@ -463,7 +463,7 @@ fn start(alloc: Global, graph: &Graph, plan: &Plan, part: u16) -> Result<Session
     ensures refused { IfErr result (IsNoStart plan.now part) }
 {
     if plan.parts() <= part {
-        return Err(JobError::Part);
+        return Err(JobInputError::Part);
     }
     let part = part_of(alloc, graph, plan, part)?;
     Ok(Session::start(alloc, part)?)
@@ -478,7 +478,7 @@ fn serve_part<R: CountedRead, W: CountedWrite, V: Watch>(
     watch: &V,
     reader: &mut R,
     writer: &mut W,
-) -> Result<(), NodeError>
+) -> Result<(), ServeNodeError>
     requires { IsJob (job_of graph.now.graph plan.now) }
     ensures served { (s : Settings) (counted : Bool) (left : Option (List ℕ)) →
         IsJobRead s counted left (R.remaining reader.old) graph.now plan.now →
@@ -486,21 +486,22 @@ fn serve_part<R: CountedRead, W: CountedWrite, V: Watch>(
         (W.contents writer.old) (W.contents writer.new)) }
     ensures stopped { (s : Settings) (counted : Bool) (left : Option (List ℕ)) →
         IsJobRead s counted left (R.remaining reader.old) graph.now plan.now →
-        (e : Fault) → result ≡ Err (NodeError.Serve e) → (IsOfMachine e → ⊥) →
+        (e : Fault) → result ≡ Err (ServeNodeError.Serve e) → (IsOfMachine e → ⊥) →
         StopsNode s counted part e left (R.remaining reader.new)
         (W.contents writer.old) (W.contents writer.new) }
     ensures wanting { (s : Settings) (counted : Bool) (left : Option (List ℕ)) →
         IsJobRead s counted left (R.remaining reader.old) graph.now plan.now →
-        result ≡ Err (NodeError.Serve ServeError.Memory) →
+        result ≡ Err (ServeNodeError.Serve ServeError.Memory) →
         WantsNode s counted part left (R.remaining reader.new) }
-    ensures jobless { (e : NoJob) → result ≡ Err (NodeError.Job e) →
+    ensures jobless { (e : NoJob) → result ≡ Err (ServeNodeError.Job e) →
         Keeps (W.contents writer.old) (W.contents writer.new) }
-    ensures same { (e : NoJob) → result ≡ Err (NodeError.Job e) →
+    ensures same { (e : NoJob) → result ≡ Err (ServeNodeError.Job e) →
         R.remaining reader.new ≡ R.remaining reader.old }
-    ensures refused { (e : NoJob) → result ≡ Err (NodeError.Job e) → IsNoStart plan.now part e }
-    ensures read { FailsWhere (result ≡ Err (NodeError.Serve ServeError.Read))
+    ensures refused { (e : NoJob) → result ≡ Err (ServeNodeError.Job e) →
+        IsNoStart plan.now part e }
+    ensures read { FailsWhere (result ≡ Err (ServeNodeError.Serve ServeError.Read))
         (R.failed_calls reader.old) (R.failed_calls reader.new) }
-    ensures write { FailsWhere (result ≡ Err (NodeError.Serve ServeError.Write))
+    ensures write { FailsWhere (result ≡ Err (ServeNodeError.Serve ServeError.Write))
         (W.failed_calls writer.old) (W.failed_calls writer.new) }
 {
     let mut session = start(alloc, graph, plan, part)?;
@@ -508,7 +509,7 @@ fn serve_part<R: CountedRead, W: CountedWrite, V: Watch>(
     drop(session);
     match served {
         Ok(()) => Ok(()),
-        Err(error) => Err(NodeError::Serve(error)),
+        Err(error) => Err(ServeNodeError::Serve(error)),
     }
 }
 
@@ -522,38 +523,38 @@ pub fn serve_node<R: CountedRead, W: CountedWrite, V: Watch>(
     watch: &V,
     reader: &mut R,
     writer: &mut W,
-) -> Result<(), NodeError>
+) -> Result<(), ServeNodeError>
     ensures served { OnOk result (ServesNode (job_settings_of options.now) options.now.counted part
         (R.remaining reader.old) (R.remaining reader.new)
         (W.contents writer.old) (W.contents writer.new)) }
     // What was answered before a request that cannot be read stands.
-    ensures stopped { (e : Fault) → result ≡ Err (NodeError.Serve e) → (IsOfMachine e → ⊥) →
+    ensures stopped { (e : Fault) → result ≡ Err (ServeNodeError.Serve e) → (IsOfMachine e → ⊥) →
         StopsNode (job_settings_of options.now) options.now.counted part e
         (R.remaining reader.old) (R.remaining reader.new)
         (W.contents writer.old) (W.contents writer.new) }
     // Behind the job memory is refused only where what was read is requests, and the front of a line or all of a
     // request.
-    ensures wanting { result ≡ Err (NodeError.Serve ServeError.Memory) →
+    ensures wanting { result ≡ Err (ServeNodeError.Serve ServeError.Memory) →
         WantsNode (job_settings_of options.now) options.now.counted part
         (R.remaining reader.old) (R.remaining reader.new) }
     // Where there is no job nothing is answered.
-    ensures jobless { (e : NoJob) → result ≡ Err (NodeError.Job e) →
+    ensures jobless { (e : NoJob) → result ≡ Err (ServeNodeError.Job e) →
         Keeps (W.contents writer.old) (W.contents writer.new) }
     // Which refusal it is.
-    ensures refused { (e : NoJob) → result ≡ Err (NodeError.Job e) →
+    ensures refused { (e : NoJob) → result ≡ Err (ServeNodeError.Job e) →
         HasNoNode (job_settings_of options.now) options.now.counted part
         (R.remaining reader.old) (R.remaining reader.new) e }
     // A call failed exactly where that is told.
-    ensures read { result ≡ Err (NodeError.Serve ServeError.Read) →
+    ensures read { result ≡ Err (ServeNodeError.Serve ServeError.Read) →
         Rises (R.failed_calls reader.old) (R.failed_calls reader.new) }
-    ensures unread { result ≡ Err (NodeError.Job JobError.Read) →
+    ensures unread { result ≡ Err (ServeNodeError.Job JobInputError.Read) →
         Rises (R.failed_calls reader.old) (R.failed_calls reader.new) }
-    ensures counted { result ≢ Err (NodeError.Serve ServeError.Read) →
-        result ≢ Err (NodeError.Job JobError.Read) →
+    ensures counted { result ≢ Err (ServeNodeError.Serve ServeError.Read) →
+        result ≢ Err (ServeNodeError.Job JobInputError.Read) →
         R.failed_calls reader.new ≡ R.failed_calls reader.old }
-    ensures write { result ≡ Err (NodeError.Serve ServeError.Write) →
+    ensures write { result ≡ Err (ServeNodeError.Serve ServeError.Write) →
         Rises (W.failed_calls writer.old) (W.failed_calls writer.new) }
-    ensures written { result ≢ Err (NodeError.Serve ServeError.Write) →
+    ensures written { result ≢ Err (ServeNodeError.Serve ServeError.Write) →
         W.failed_calls writer.new ≡ W.failed_calls writer.old }
 {
     let (graph, plan, records) = read_job(alloc, state, options, reader)?;

@@ -10,7 +10,7 @@ mod refusals;
 mod vectors;
 mod watched;
 
-use crate::error::NodeError;
+use crate::error::ServeNodeError;
 use crate::job::JobOptions;
 use crate::serve::serve_node;
 use ball_model::{CountedWrite, Estimate, MemReader, MemWriter};
@@ -35,7 +35,7 @@ struct Case {
     /// What it writes.
     text: &'static [&'static [u8]],
     /// How it ends.
-    end: Result<(), NodeError>,
+    end: Result<(), ServeNodeError>,
 }
 
 /// The options of a job in so many partitions.
@@ -86,7 +86,7 @@ fn end_of<W: CountedWrite, V: Watch>(
     input: &[u8],
     watch: &V,
     writer: &mut W,
-) -> Option<Result<(), NodeError>> {
+) -> Option<Result<(), ServeNodeError>> {
     let state = RandomState::new(rt).ok()?;
     let mut reader = MemReader::new(input, None);
     Some(serve_node(rt.alloc(), state, options, part, watch, &mut reader, writer))

@@ -2,7 +2,7 @@
 
 use super::vectors::*;
 use super::*;
-use crate::error::{JobError, ServeError};
+use crate::error::{JobInputError, ServeError};
 use ball_model::PlanError;
 use edgelist::{CountedError, EdgeError};
 
@@ -285,7 +285,7 @@ static GIVEN_UP: [Case; 10] = [
         part: 1,
         input: &[TWO_EDGES, b"close\nopen\n"],
         text: &[b"waiting 0\n"],
-        end: Err(NodeError::Serve(ServeError::Command { number: 2 })),
+        end: Err(ServeNodeError::Serve(ServeError::Command { number: 2 })),
     },
     Case {
         parts: 2,
@@ -293,7 +293,7 @@ static GIVEN_UP: [Case; 10] = [
         part: 1,
         input: &[TWO_EDGES, b"close now\n"],
         text: &[],
-        end: Err(NodeError::Serve(ServeError::Command { number: 1 })),
+        end: Err(ServeNodeError::Serve(ServeError::Command { number: 1 })),
     },
     Case {
         parts: 2,
@@ -301,7 +301,7 @@ static GIVEN_UP: [Case; 10] = [
         part: 1,
         input: &[TWO_EDGES, b"\n"],
         text: &[],
-        end: Err(NodeError::Serve(ServeError::Command { number: 1 })),
+        end: Err(ServeNodeError::Serve(ServeError::Command { number: 1 })),
     },
     Case {
         parts: 2,
@@ -309,7 +309,7 @@ static GIVEN_UP: [Case; 10] = [
         part: 1,
         input: &[TWO_EDGES, b"send 00\n"],
         text: &[],
-        end: Err(NodeError::Serve(ServeError::Command { number: 1 })),
+        end: Err(ServeNodeError::Serve(ServeError::Command { number: 1 })),
     },
     Case {
         parts: 2,
@@ -320,7 +320,7 @@ static GIVEN_UP: [Case; 10] = [
             b"commands of a line that is longer than any line of a command or of a checkpoint may be",
         ],
         text: &[],
-        end: Err(NodeError::Serve(ServeError::Command { number: 1 })),
+        end: Err(ServeNodeError::Serve(ServeError::Command { number: 1 })),
     },
     Case {
         parts: 2,
@@ -328,7 +328,7 @@ static GIVEN_UP: [Case; 10] = [
         part: 1,
         input: &[TWO_EDGES, b"close"],
         text: &[],
-        end: Err(NodeError::Serve(ServeError::Cut { number: 1 })),
+        end: Err(ServeNodeError::Serve(ServeError::Cut { number: 1 })),
     },
     Case {
         parts: 2,
@@ -336,7 +336,7 @@ static GIVEN_UP: [Case; 10] = [
         part: 1,
         input: &[TWO_EDGES, b"deliver 3\nab"],
         text: &[],
-        end: Err(NodeError::Serve(ServeError::Cut { number: 1 })),
+        end: Err(ServeNodeError::Serve(ServeError::Cut { number: 1 })),
     },
     Case {
         parts: 2,
@@ -344,7 +344,7 @@ static GIVEN_UP: [Case; 10] = [
         part: 1,
         input: &[TWO_EDGES, b"deliver 95\n"],
         text: &[],
-        end: Err(NodeError::Serve(ServeError::Length { number: 1 })),
+        end: Err(ServeNodeError::Serve(ServeError::Length { number: 1 })),
     },
     Case {
         parts: 2,
@@ -352,7 +352,7 @@ static GIVEN_UP: [Case; 10] = [
         part: 1,
         input: &[TWO_EDGES, b"restart 99999999\n"],
         text: &[],
-        end: Err(NodeError::Serve(ServeError::Length { number: 1 })),
+        end: Err(ServeNodeError::Serve(ServeError::Length { number: 1 })),
     },
     // only others are sent to
     Case {
@@ -378,7 +378,7 @@ static NO_JOBS: [Case; 14] = [
         part: 0,
         input: &[b"a\tb\n"],
         text: &[],
-        end: Err(NodeError::Job(JobError::NoMark)),
+        end: Err(ServeNodeError::Job(JobInputError::NoMark)),
     },
     Case {
         parts: 2,
@@ -386,7 +386,7 @@ static NO_JOBS: [Case; 14] = [
         part: 0,
         input: &[b"a\tb\n%%x\n%\n"],
         text: &[],
-        end: Err(NodeError::Job(JobError::NoMark)),
+        end: Err(ServeNodeError::Job(JobInputError::NoMark)),
     },
     Case {
         parts: 2,
@@ -394,7 +394,7 @@ static NO_JOBS: [Case; 14] = [
         part: 0,
         input: &[b"a\tb\tc\n"],
         text: &[],
-        end: Err(NodeError::Job(JobError::Edges(EdgeError::Fields { number: 1 }))),
+        end: Err(ServeNodeError::Job(JobInputError::Edges(EdgeError::Fields { number: 1 }))),
     },
     Case {
         parts: 2,
@@ -402,7 +402,7 @@ static NO_JOBS: [Case; 14] = [
         part: 0,
         input: &[b"a\tb\nb\tc\td"],
         text: &[],
-        end: Err(NodeError::Job(JobError::Edges(EdgeError::Fields { number: 2 }))),
+        end: Err(ServeNodeError::Job(JobInputError::Edges(EdgeError::Fields { number: 2 }))),
     },
     Case {
         parts: 2,
@@ -410,7 +410,7 @@ static NO_JOBS: [Case; 14] = [
         part: 0,
         input: &[b"a\tb\n%%\na\n"],
         text: &[],
-        end: Err(NodeError::Job(JobError::NoListMark)),
+        end: Err(ServeNodeError::Job(JobInputError::NoListMark)),
     },
     Case {
         parts: 2,
@@ -418,7 +418,7 @@ static NO_JOBS: [Case; 14] = [
         part: 0,
         input: &[b"a\tb\n%%\nx\nclose\n"],
         text: &[],
-        end: Err(NodeError::Job(JobError::NoListMark)),
+        end: Err(ServeNodeError::Job(JobInputError::NoListMark)),
     },
     Case {
         parts: 2,
@@ -426,7 +426,7 @@ static NO_JOBS: [Case; 14] = [
         part: 2,
         input: &[b"a\tb\n%%\n"],
         text: &[],
-        end: Err(NodeError::Job(JobError::Part)),
+        end: Err(ServeNodeError::Job(JobInputError::Part)),
     },
     Case {
         parts: 2,
@@ -434,7 +434,7 @@ static NO_JOBS: [Case; 14] = [
         part: 0,
         input: &[b"a\tb\nb\tc\td\n%%\n"],
         text: &[],
-        end: Err(NodeError::Job(JobError::Edges(EdgeError::Fields { number: 2 }))),
+        end: Err(ServeNodeError::Job(JobInputError::Edges(EdgeError::Fields { number: 2 }))),
     },
     Case {
         parts: 2,
@@ -442,7 +442,7 @@ static NO_JOBS: [Case; 14] = [
         part: 0,
         input: &[b"a\tb\n%%\na\tb\n%%\n"],
         text: &[],
-        end: Err(NodeError::Job(JobError::Counted(CountedError::Fields { number: 1 }))),
+        end: Err(ServeNodeError::Job(JobInputError::Counted(CountedError::Fields { number: 1 }))),
     },
     Case {
         parts: 2,
@@ -450,7 +450,7 @@ static NO_JOBS: [Case; 14] = [
         part: 0,
         input: &[b"a\tb\n%%\nb\nc\n%%\n"],
         text: &[],
-        end: Err(NodeError::Job(JobError::Counted(CountedError::Unknown { number: 2 }))),
+        end: Err(ServeNodeError::Job(JobInputError::Counted(CountedError::Unknown { number: 2 }))),
     },
     // lines may end otherwise
     Case {
@@ -476,7 +476,7 @@ static NO_JOBS: [Case; 14] = [
         part: 0,
         input: &[TWO_EDGES],
         text: &[],
-        end: Err(NodeError::Job(JobError::Plan(PlanError::Parts))),
+        end: Err(ServeNodeError::Job(JobInputError::Plan(PlanError::Parts))),
     },
     Case {
         parts: 65,
@@ -484,7 +484,7 @@ static NO_JOBS: [Case; 14] = [
         part: 0,
         input: &[TWO_EDGES],
         text: &[],
-        end: Err(NodeError::Job(JobError::Plan(PlanError::Parts))),
+        end: Err(ServeNodeError::Job(JobInputError::Plan(PlanError::Parts))),
     },
 ];
 

@@ -1,7 +1,7 @@
 use Rattle.std.proofs.Common.{◌∙◌, Option, List, ℕ, inl, sym, subst}
 use Rattle.node.specs.Job.{IsJobRead, job_settings_of}
 use Rattle.node.specs.NoJob.{HasNoNode}
-use Rattle.node.specs.declared.error.JobError.{JobError}
+use Rattle.node.specs.declared.error.JobInputError.{JobInputError}
 use Rattle.node.proofs.JobLemmas.{no_start, told_job}
 use Rattle.node.proofs.serve.serve_node.Goals as goal
 
@@ -16,7 +16,7 @@ returns-clause-stopped g c =
 pub returns-in_err-graph-clause-refused : goal.returns-in_err-graph-clause-refused
 returns-in_err-graph-clause-refused g c =
     told_job c.from_residual.result _
-    (λ (e : JobError). HasNoNode (job_settings_of c.args.options.now) c.args.options.now.counted c.args.part (g.R.Read.remaining c.args.reader.now) (g.R.Read.remaining c.read_job.new.reader) e)
+    (λ (e : JobInputError). HasNoNode (job_settings_of c.args.options.now) c.args.options.now.counted c.args.part (g.R.Read.remaining c.args.reader.now) (g.R.Read.remaining c.read_job.new.reader) e)
     c.from_residual.ensures.1 (inl c.in_err-graph.ensures.refused)
 
 pub returns-clause-refused : goal.returns-clause-refused
