@@ -3,10 +3,11 @@
 ghost use Rattle.std.specs.Prelude.{◌≡◌, ◌≢◌, ◌<◌, ◌≤◌, ◌+◌, ◌++◌, if◌then◌else◌, [], length, Err};
 ghost use Rattle.std.specs.Prelude.{IfErr, IfOk, OnOk, None, option_map};
 ghost use Rattle.ball_model.specs.Streams.{Rises, TakesAtMost};
-ghost use Rattle.ball_model.specs.Sections.{after_line, after_mark, sections_of};
+ghost use Rattle.ball_model.specs.Sections.{after_mark, sections_of};
 ghost use Rattle.hyperball.specs.Whole.{IsLong, IsWholeInput, ReadsFew, most_bytes};
 
 use ball_model::{CountedRead, Filled, fill};
+use node::section::after_mark;
 use std::alloc::{AllocError, Global};
 use thiserror::Error;
 
@@ -118,33 +119,7 @@ pub fn read_whole<R: CountedRead>(alloc: Global, reader: &mut R) -> Result<Vec<u
     Ok(bytes)
 }
 
-// What follows the end of a line, where one stands at the front.
-fn after_line(bytes: &[u8]) -> Option<&[u8]>
-    ensures { option_map (λ rest. rest.now) result ≡ after_line bytes.now }
-{
-    if bytes.is_empty() {
-        Some(bytes)
-    } else if bytes[0] == b'\n' {
-        Some(&bytes[1..])
-    } else if bytes.len() > 1 && bytes[0] == b'\r' && bytes[1] == b'\n' {
-        Some(&bytes[2..])
-    } else {
-        None
-    }
-}
-
-// What follows a line of exactly %%, where one stands at the front.
-fn after_mark(bytes: &[u8]) -> Option<&[u8]>
-    ensures { option_map (λ rest. rest.now) result ≡ after_mark bytes.now }
-{
-    if bytes.len() > 1 && bytes[0] == b'%' && bytes[1] == b'%' {
-        after_line(&bytes[2..])
-    } else {
-        None
-    }
-}
-
-// The same, where a line begins there.
+// What follows a line of exactly %%, where a line begins and such a one stands at the front.
 fn mark_here(begins: bool, bytes: &[u8]) -> Option<&[u8]>
     ensures { option_map (λ rest. rest.now) result ≡
         (if begins then after_mark bytes.now else None) }

@@ -85,8 +85,8 @@ fn after_line(bytes: &[u8]) -> Option<&[u8]>
     }
 }
 
-// What follows a line of exactly %%, where one stands at the front.
-fn after_mark(bytes: &[u8]) -> Option<&[u8]>
+/// What follows a line of exactly %%, where one stands at the front.
+pub fn after_mark(bytes: &[u8]) -> Option<&[u8]>
     ensures { option_map (λ rest. rest.now) result ≡ after_mark bytes.now }
 {
     if bytes.len() > 1 && bytes[0] == b'%' && bytes[1] == b'%' {
