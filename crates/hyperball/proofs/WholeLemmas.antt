@@ -8,15 +8,15 @@ use Rattle.std.proofs.KnownBytes.{Consumes-trans}
 use Rattle.ball_model.specs.Sections.{after_mark, sections_from}
 use Rattle.ball_model.specs.Streams.{TakesAtMost}
 use Rattle.world.proofs.ScriptLemmas.{behind, behind-longer, whole_rest}
-use Rattle.hyperball.specs.Whole.{most_bytes}
+use Rattle.node.specs.declared.limits.TheConstants.{MOST_BYTES}
 
 -- what was read so far
 pub record HasRead (old new : Option (List ℕ)) (bytes : List ℕ) : Type 0 where
   pub consumed : Consumes old new bytes
-  pub few : length bytes ≤ most_bytes
+  pub few : length bytes ≤ MOST_BYTES
 
 -- a piece more
-pub read_more : (a b c : Option (List ℕ)) (before piece after : List ℕ) → HasRead a b before → Consumes b c piece → after ≡ before ++ piece → length after ≤ most_bytes → HasRead a c after
+pub read_more : (a b c : Option (List ℕ)) (before piece after : List ℕ) → HasRead a b before → Consumes b c piece → after ≡ before ++ piece → length after ≤ MOST_BYTES → HasRead a c after
 read_more a b c before piece after h read is few = record {
   consumed = rw is (Consumes-trans a b c before piece h.consumed read);
   few = few;

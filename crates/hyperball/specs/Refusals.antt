@@ -1,9 +1,10 @@
 -- What a fault of a run says of its options and of the input.
 use Rattle.std.specs.Prelude.{◌≡◌, ◌<◌, ⊤, ℕ, Bool, List, length, Option, None, Some, IfSome, Result, MatchResult}
 use Rattle.ball_model.specs.RunText.{ArePlain, Settings}
-use Rattle.hyperball.specs.Whole.{most_bytes, sections_in}
+use Rattle.hyperball.specs.Whole.{sections_in}
 use Rattle.hyperball.specs.declared.serve.RunFault.{RunFault}
 use Rattle.hyperball.specs.declared.serve.RunFault.TheVariants as fault
+use Rattle.node.specs.declared.limits.TheConstants.{MOST_BYTES}
 use Rattle.workers.specs.Options.{run_settings_of}
 use Rattle.workers.specs.Run.{IsFaultIn, IsRunRefusal}
 use Rattle.workers.specs.declared.bytes.RunError.{RunError}
@@ -37,5 +38,5 @@ IsUnreadRun (fault.Run e) = ⊥
 
 -- a run over an input that is too long ends before it is read whole
 abbrev pub RefusesLongRun : Option (List ℕ) → Result (Unit {0}) RunFault → Type 0
-RefusesLongRun told result = IfSome told (λ input. most_bytes < length input →
+RefusesLongRun told result = IfSome told (λ input. MOST_BYTES < length input →
     MatchResult result (λ _. ⊥) IsUnreadRun)

@@ -9,7 +9,7 @@ use Rattle.ball_model.specs.Streams.{Rises}
 use Rattle.ball_model.specs.WorldText.{AppendsReplay, HasCommands}
 use Rattle.hyperball.specs.CommandLine.{Parsers, TakeNames, hyperball_app}
 use Rattle.hyperball.specs.Streams.{KeptOrFailed}
-use Rattle.hyperball.specs.Whole.{most_bytes}
+use Rattle.node.specs.declared.limits.TheConstants.{MOST_BYTES}
 use Rattle.hyperball.specs.Words.{HasFaults, IsFlag, IsNamedOr, IsNumberOr}
 use Rattle.hyperball.specs.Words.{delimiter_name, estimate_name, usual_options}
 use Rattle.hyperball.specs.declared.replay_words.ReplayWords.{ReplayWords}
@@ -152,7 +152,7 @@ IsUnread (fault.Replay e) = ⊥
 
 -- an input that is too long is not read whole
 abbrev pub RefusesLong : Option (List ℕ) → Result (Unit {0}) ReplayFault → Type 0
-RefusesLong told result = IfSome told (λ input. most_bytes < length input →
+RefusesLong told result = IfSome told (λ input. MOST_BYTES < length input →
     MatchResult result (λ _. ⊥) IsUnread)
 
 -- of an input that lacks a part this is said, where it is read whole

@@ -3,22 +3,19 @@ use Rattle.std.specs.Prelude.{◌≡◌, ℕ, ◌+◌, ◌<◌, Bool, true, fals
 use Rattle.std.specs.Prelude.{Option, None, Some, IfSome, option_map}
 use Rattle.ball_model.specs.Sections.{sections_of}
 use Rattle.ball_model.specs.Streams.{TakesAtMost}
+use Rattle.node.specs.declared.limits.TheConstants.{MOST_BYTES}
 
--- the most bytes of such an input
-abbrev pub most_bytes : ℕ
-most_bytes = 67108864
-
--- at most one byte more than such an input has was read
+-- at most one byte more was read than such an input may have
 abbrev pub ReadsFew : Option (List ℕ) → Option (List ℕ) → Type 0
-ReadsFew old new = TakesAtMost (most_bytes + 1) old new
+ReadsFew old new = TakesAtMost (MOST_BYTES + 1) old new
 
 -- these are all bytes of the input
 abbrev pub IsWholeInput : Option (List ℕ) → List ℕ → Type 0
 IsWholeInput old bytes = IfSome old (λ input. bytes ≡ input)
 
--- the input has more bytes than that
+-- the input has more bytes than it may have
 abbrev pub IsLong : Option (List ℕ) → Type 0
-IsLong old = IfSome old (λ input. most_bytes < length input)
+IsLong old = IfSome old (λ input. MOST_BYTES < length input)
 
 -- the edge list in an input, and the list of counted vertices: with one they are the two sections
 abbrev pub sections_in : Bool → List ℕ → Option (List ℕ × Option (List ℕ))

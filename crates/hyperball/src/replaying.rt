@@ -6,9 +6,10 @@ ghost use Rattle.ball_model.specs.RunText.{list_in};
 ghost use Rattle.ball_model.specs.Streams.{Rises, TakesAtMost};
 ghost use Rattle.hyperball.specs.Replaying.{Answers, FailsOver, FailsReplay, Leaves, RefusesLack};
 ghost use Rattle.hyperball.specs.Replaying.{RefusesLong, ServesReplay, parts_in};
-ghost use Rattle.hyperball.specs.Whole.{IsLong, ReadsFew, most_bytes};
+ghost use Rattle.hyperball.specs.Whole.{IsLong, ReadsFew};
 ghost use Rattle.hyperball.specs.declared.replaying.ReplayFault.{ReplayFault as Fault};
 ghost use Rattle.hyperball.specs.declared.whole.WholeError.{WholeError as NoInput};
+ghost use Rattle.node.specs.declared.limits.TheConstants.{MOST_BYTES};
 ghost use Rattle.world.specs.declared.replay.ReplayError.{ReplayError as NoAnswers};
 
 use crate::progress::{Teller, TellingWatch};
@@ -144,7 +145,7 @@ fn replay_whole<T: Teller, R: CountedRead, W: CountedWrite>(
         IsLong (R.remaining reader.old) }
     ensures long { RefusesLong (R.remaining reader.old) result }
     ensures memory { result ≡ Err (ReplayFault.Input WholeError.Memory) →
-        TakesAtMost most_bytes (R.remaining reader.old) (R.remaining reader.new) }
+        TakesAtMost MOST_BYTES (R.remaining reader.old) (R.remaining reader.new) }
     ensures read { result ≡ Err (ReplayFault.Input WholeError.Read) →
         Rises (R.failed_calls reader.old) (R.failed_calls reader.new) }
     ensures failed { Rises (R.failed_calls reader.old) (R.failed_calls reader.new) →
@@ -186,7 +187,7 @@ pub fn replay_by<H: AllocGlobal + RandomSource, T: Teller, R: CountedRead, W: Co
         IsLong (R.remaining reader.old) }
     ensures long { RefusesLong (R.remaining reader.old) result }
     ensures memory { result ≡ Err (ReplayFault.Input WholeError.Memory) →
-        TakesAtMost most_bytes (R.remaining reader.old) (R.remaining reader.new) }
+        TakesAtMost MOST_BYTES (R.remaining reader.old) (R.remaining reader.new) }
     ensures read { result ≡ Err (ReplayFault.Input WholeError.Read) →
         Rises (R.failed_calls reader.old) (R.failed_calls reader.new) }
     ensures failed { Rises (R.failed_calls reader.old) (R.failed_calls reader.new) →

@@ -11,7 +11,7 @@ ghost use Rattle.hyperball.specs.Streams.{AppendsSome, KeptOrFailed};
 ghost use Rattle.ball_model.specs.Streams.{Rises, TakesAtMost};
 ghost use Rattle.edgelist.specs.Reading.{CountsOne};
 ghost use Rattle.edgelist.specs.declared.read.EdgeError.TheVariants as edge_fault;
-ghost use Rattle.hyperball.specs.Whole.{IsLong, ReadsFew, most_bytes};
+ghost use Rattle.hyperball.specs.Whole.{IsLong, ReadsFew};
 ghost use Rattle.hyperball.specs.Options.{options_of, settings_in};
 ghost use Rattle.hyperball.specs.Progress.{Awaits, TellsProgress};
 ghost use Rattle.hyperball.specs.Refusals.{IsFault, RefusesLongRun};
@@ -28,6 +28,7 @@ ghost use Rattle.node.specs.Gathering.{GathersJob};
 ghost use Rattle.node.specs.Job.{job_settings_of};
 ghost use Rattle.node.specs.NoReport.{GathersFrontOfJob, WritesFrontOfJob};
 ghost use Rattle.node.specs.Serving.{ServesNode};
+ghost use Rattle.node.specs.declared.limits.TheConstants.{MOST_BYTES};
 ghost use Rattle.hyperball.specs.declared.options.Options.{Options as Asked};
 ghost use Rattle.workers.specs.Options.{run_settings_of};
 ghost use Rattle.hyperball.specs.declared.whole.WholeError.{WholeError as NoInput};
@@ -270,7 +271,7 @@ fn run_listed<
     ensures size { result ≡ Err (RunFault.Input WholeError.Size) → IsLong (R.remaining reader.old) }
     ensures long { RefusesLongRun (R.remaining reader.old) result }
     ensures memory { result ≡ Err (RunFault.Input WholeError.Memory) →
-        TakesAtMost most_bytes (R.remaining reader.old) (R.remaining reader.new) }
+        TakesAtMost MOST_BYTES (R.remaining reader.old) (R.remaining reader.new) }
     ensures read { result ≡ Err (RunFault.Input WholeError.Read) →
         Rises (R.failed_calls reader.old) (R.failed_calls reader.new) }
     ensures failed { Rises (R.failed_calls reader.old) (R.failed_calls reader.new) →
@@ -309,7 +310,7 @@ fn run_by<
     ensures size { result ≡ Err (RunFault.Input WholeError.Size) → IsLong (R.remaining reader.old) }
     ensures long { counted ≡ true → RefusesLongRun (R.remaining reader.old) result }
     ensures memory { result ≡ Err (RunFault.Input WholeError.Memory) →
-        TakesAtMost most_bytes (R.remaining reader.old) (R.remaining reader.new) }
+        TakesAtMost MOST_BYTES (R.remaining reader.old) (R.remaining reader.new) }
     ensures read { result ≡ Err (RunFault.Input WholeError.Read) →
         Rises (R.failed_calls reader.old) (R.failed_calls reader.new) }
     ensures failed { counted ≡ true →
@@ -357,7 +358,7 @@ fn run<
     ensures size { result ≡ Err (RunFault.Input WholeError.Size) → IsLong (R.remaining reader.old) }
     ensures long { said.words.counted ≡ true → RefusesLongRun (R.remaining reader.old) result }
     ensures memory { result ≡ Err (RunFault.Input WholeError.Memory) →
-        TakesAtMost most_bytes (R.remaining reader.old) (R.remaining reader.new) }
+        TakesAtMost MOST_BYTES (R.remaining reader.old) (R.remaining reader.new) }
     ensures read { result ≡ Err (RunFault.Input WholeError.Read) →
         Rises (R.failed_calls reader.old) (R.failed_calls reader.new) }
     ensures failed { said.words.counted ≡ true →

@@ -4,15 +4,13 @@ ghost use Rattle.std.specs.Prelude.{◌≡◌, ◌≢◌, ◌<◌, ◌≤◌, �
 ghost use Rattle.std.specs.Prelude.{IfErr, IfOk, OnOk, None, option_map};
 ghost use Rattle.ball_model.specs.Streams.{Rises, TakesAtMost};
 ghost use Rattle.ball_model.specs.Sections.{after_mark, sections_of};
-ghost use Rattle.hyperball.specs.Whole.{IsLong, IsWholeInput, ReadsFew, most_bytes};
+ghost use Rattle.hyperball.specs.Whole.{IsLong, IsWholeInput, ReadsFew};
 
 use ball_model::{CountedRead, Filled, fill};
+use node::limits::MOST_BYTES;
 use node::section::after_mark;
 use std::alloc::{AllocError, Global};
 use thiserror::Error;
-
-/// The most bytes of an input that is read whole.
-const MOST: usize = 67_108_864;
 
 // How many bytes are read at once.
 const PIECE: usize = 65_536;
@@ -41,18 +39,18 @@ impl From<AllocError> for WholeError {
     }
 }
 
-// Adds a piece behind the others, where they are not more than `MOST` bytes with it.
+// Adds a piece behind the others, where they are not more than `MOST_BYTES` with it.
 fn add_piece(bytes: &mut Vec<u8>, piece: &[u8]) -> Result<(), WholeError>
-    requires { length bytes.old.items ≤ most_bytes }
+    requires { length bytes.old.items ≤ MOST_BYTES }
     ensures ok { OnOk result (bytes.new.items ≡ bytes.old.items ++ piece.now) }
-    ensures within { OnOk result (length bytes.new.items ≤ most_bytes) }
+    ensures within { OnOk result (length bytes.new.items ≤ MOST_BYTES) }
     ensures size { result ≡ Err WholeError.Size →
-        most_bytes < length bytes.old.items + length piece.now }
+        MOST_BYTES < length bytes.old.items + length piece.now }
     ensures memory { result ≡ Err WholeError.Memory →
-        length bytes.old.items + length piece.now ≤ most_bytes }
+        length bytes.old.items + length piece.now ≤ MOST_BYTES }
     ensures kind { IfErr result (λ e. e ≢ WholeError.Read) }
 {
-    if piece.len() > MOST - bytes.len() {
+    if piece.len() > MOST_BYTES - bytes.len() {
         return Err(WholeError::Size);
     }
     bytes.extend_from_slice(piece)?;
@@ -75,10 +73,10 @@ fn read_all<R: CountedRead>(
     requires buffer { 0 < length buffer.old }
     requires start { bytes.old.items ≡ [] }
     ensures ok { OnOk result (IsWholeInput (R.remaining reader.old) bytes.new.items) }
-    ensures within { OnOk result (length bytes.new.items ≤ most_bytes) }
+    ensures within { OnOk result (length bytes.new.items ≤ MOST_BYTES) }
     ensures size { result ≡ Err WholeError.Size → IsLong (R.remaining reader.old) }
     ensures memory { result ≡ Err WholeError.Memory →
-        TakesAtMost most_bytes (R.remaining reader.old) (R.remaining reader.new) }
+        TakesAtMost MOST_BYTES (R.remaining reader.old) (R.remaining reader.new) }
     ensures read { result ≡ Err WholeError.Read →
         Rises (R.failed_calls reader.old) (R.failed_calls reader.new) }
     ensures failed { Rises (R.failed_calls reader.old) (R.failed_calls reader.new) →
@@ -87,7 +85,7 @@ fn read_all<R: CountedRead>(
     ensures few { ReadsFew (R.remaining reader.old) (R.remaining reader.new) }
 {
     loop {
-        let room = buffer.len().min(MOST - bytes.len() + 1);
+        let room = buffer.len().min(MOST_BYTES - bytes.len() + 1);
         match fill(reader, &mut buffer[..room]) {
             Filled::Full => add_piece(bytes, &buffer[..room])?,
             Filled::Ended { count } => return add_piece(bytes, &buffer[..count]),
@@ -102,10 +100,10 @@ fn read_all<R: CountedRead>(
 /// bytes, `Memory` only where no more than 2^26 were read.
 pub fn read_whole<R: CountedRead>(alloc: Global, reader: &mut R) -> Result<Vec<u8>, WholeError>
     ensures ok { IfOk result (λ bytes. IsWholeInput (R.remaining reader.old) bytes.items) }
-    ensures within { IfOk result (λ bytes. length bytes.items ≤ most_bytes) }
+    ensures within { IfOk result (λ bytes. length bytes.items ≤ MOST_BYTES) }
     ensures size { result ≡ Err WholeError.Size → IsLong (R.remaining reader.old) }
     ensures memory { result ≡ Err WholeError.Memory →
-        TakesAtMost most_bytes (R.remaining reader.old) (R.remaining reader.new) }
+        TakesAtMost MOST_BYTES (R.remaining reader.old) (R.remaining reader.new) }
     ensures read { result ≡ Err WholeError.Read →
         Rises (R.failed_calls reader.old) (R.failed_calls reader.new) }
     ensures failed { Rises (R.failed_calls reader.old) (R.failed_calls reader.new) →

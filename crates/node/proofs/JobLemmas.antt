@@ -22,7 +22,7 @@ use Rattle.node.specs.declared.error.JobInputError.{JobInputError}
 use Rattle.node.specs.declared.error.JobInputError.TheVariants as nojob
 use Rattle.node.specs.Job.{CountsSome, GivesAll, GivesEdges, GivesSection, IsJobRead, IsPlanned}
 use Rattle.node.specs.NoJob.{HasNoNode, IsNoNetwork, IsNoStart, IsRefused, LacksListMark, LacksMark}
-use Rattle.node.specs.declared.job.TheConstants.{MOST_LIST}
+use Rattle.node.specs.declared.limits.TheConstants.{MOST_BYTES}
 use Rattle.node.specs.Section.{EndsAtMark, Gives, Passed, ReadsSection, first_or}
 use Rattle.node.proofs.SectionLemmas.{GoesOn, passed_end, passed_more, passed_next, passed_over, passed_start, passed_whole, section_before}
 
@@ -65,7 +65,7 @@ gives_end limits delimiter n begins x y z edges so ends = record {
 pub counts_all : (s : Settings) (left : Option (List ℕ)) (network : Network) → CountsSome s false left left network network
 counts_all s left network = record { list = None; given = refl; section = refl; few = tt; says = λ plain. refl }
 
-pub counts_listed : (s : Settings) (left left' : Option (List ℕ)) (all network : Network) (list : List ℕ) → ReadsSection list left left' → length list ≤ MOST_LIST → (IsPlain list → counted_of s.delimiter all list ≡ Ok network) →
+pub counts_listed : (s : Settings) (left left' : Option (List ℕ)) (all network : Network) (list : List ℕ) → ReadsSection list left left' → length list ≤ MOST_BYTES → (IsPlain list → counted_of s.delimiter all list ≡ Ok network) →
     CountsSome s true left left' all network
 counts_listed s left left' all network list section few says = record { list = Some list; given = refl; section = section; few = few; says = says }
 
@@ -155,12 +155,12 @@ too_many limits delimiter n begins (Some text) y edges so =
     omega (arith, is, long)
 
 -- all was read, where there is no mark
-pub lacks_list_mark : (list : List ℕ) (begins : Bool) (x y : Option (List ℕ)) → Passed list begins x y → IsAtEnd y → length list ≤ MOST_LIST → LacksListMark x
+pub lacks_list_mark : (list : List ℕ) (begins : Bool) (x y : Option (List ℕ)) → Passed list begins x y → IsAtEnd y → length list ≤ MOST_BYTES → LacksListMark x
 lacks_list_mark list begins x y p end few = record { none = passed_over list begins x y p end; few = few_read x (passed_whole list begins x y p end) }
   where
-    few_read : (o : Option (List ℕ)) → IfSome o (λ text. text ≡ list) → IfSome o (λ text. length text ≤ MOST_LIST)
+    few_read : (o : Option (List ℕ)) → IfSome o (λ text. text ≡ list) → IfSome o (λ text. length text ≤ MOST_BYTES)
     few_read None is = tt
-    few_read (Some text) is = subst (λ (l : List ℕ). length l ≤ MOST_LIST) (sym is) few
+    few_read (Some text) is = subst (λ (l : List ℕ). length l ≤ MOST_BYTES) (sym is) few
 
 -- ---- a node of the job
 pub no_start : (s : Settings) (counted : Bool) (p : ℕ) (x y : Option (List ℕ)) (network : Network) (plan : PlanValue) (e : JobInputError) → IsJobRead s counted x y network plan → IsNoStart plan p e →

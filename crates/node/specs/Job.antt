@@ -10,7 +10,7 @@ use Rattle.edgelist.specs.declared.pieces.EdgeReader.{EdgeReader}
 use Rattle.edgelist.specs.declared.read.Delimiter.{Delimiter}
 use Rattle.edgelist.specs.declared.read.EdgeLimits.{EdgeLimits}
 use Rattle.node.specs.declared.job.JobOptions.{JobOptions}
-use Rattle.node.specs.declared.job.TheConstants.{MOST_LIST}
+use Rattle.node.specs.declared.limits.TheConstants.{MOST_BYTES}
 use Rattle.node.specs.Section.{HasNoMark, ReadsSection}
 
 -- ---- what is asked
@@ -70,7 +70,7 @@ pub record CountsSome (s : Settings) (counted : Bool) (left left' : Option (List
   pub list : Option (List ℕ)
   pub given : is_some list ≡ counted
   pub section : ReadsList list left left'
-  pub few : IfSome list (λ bytes. length bytes ≤ MOST_LIST)
+  pub few : IfSome list (λ bytes. length bytes ≤ MOST_BYTES)
   pub says : IfSome list IsPlain → counted_in s all list ≡ Ok network
 
 -- there is such a plan over the network

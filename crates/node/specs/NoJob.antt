@@ -12,7 +12,7 @@ use Rattle.edgelist.specs.declared.read.EdgeError.{EdgeError}
 use Rattle.edgelist.specs.declared.read.EdgeError.TheVariants as unread
 use Rattle.node.specs.declared.error.JobInputError.{JobInputError}
 use Rattle.node.specs.declared.error.JobInputError.TheVariants as fault
-use Rattle.node.specs.declared.job.TheConstants.{MOST_LIST}
+use Rattle.node.specs.declared.limits.TheConstants.{MOST_BYTES}
 use Rattle.node.specs.Job.{CountsSome, IsJobRead, SaysNetwork}
 use Rattle.node.specs.Section.{HasNoMark, ReadsSection, before_mark}
 
@@ -44,12 +44,12 @@ IsNoNetwork says left e = ⊥
 -- there is no mark, and no more bytes than a list may have: whatever they say
 pub record LacksListMark (left : Option (List ℕ)) : Type 0 where
   pub none : HasNoMark left
-  pub few : IfSome left (λ text. length text ≤ MOST_LIST)
+  pub few : IfSome left (λ text. length text ≤ MOST_BYTES)
 
 -- so it is, or more bytes than a list may have stand before a mark
 abbrev pub IsUnlisted : Option (List ℕ) → JobInputError → Type 0
 IsUnlisted left fault.NoListMark = LacksListMark left
-IsUnlisted left fault.ListSize = IfSome left (λ text. MOST_LIST < length (before_mark text))
+IsUnlisted left fault.ListSize = IfSome left (λ text. MOST_BYTES < length (before_mark text))
 IsUnlisted left fault.Memory = ⊤
 IsUnlisted left fault.Read = ⊤
 IsUnlisted left e = ⊥
@@ -60,7 +60,7 @@ pub record IsMiscounted (s : Settings) (left : Option (List ℕ)) (all : Network
   pub list : List ℕ
   pub left' : Option (List ℕ)
   pub section : ReadsSection list left left'
-  pub few : length list ≤ MOST_LIST
+  pub few : length list ≤ MOST_BYTES
   pub refuses : IsPlain list → RefusesList (counted_of s.delimiter all list) e
 
 abbrev pub IsUncounted : Settings → Option (List ℕ) → Network → JobInputError → Type 0

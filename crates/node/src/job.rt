@@ -17,15 +17,13 @@ ghost use Rattle.node.specs.Section.{ReadsSection};
 ghost use Rattle.node.specs.Stream.{FailsWhere};
 
 use crate::error::JobInputError;
+use crate::limits::MOST_BYTES;
 use crate::section::{Cut, Step, next_step};
 use ball_model::{CountedRead, Estimate, Plan, PlanError};
 use edgelist::{Delimiter, EdgeList, EdgeReader, Graph, LIMITS, Part};
 use std::alloc::{AllocError, Global};
 use std::hash::RandomState;
 use std::sync::Arc;
-
-// The most bytes of a list of counted vertices.
-const MOST_LIST: usize = 67_108_864;
 
 /// What is asked of a job.
 #[derive(Clone, Copy, Debug, PartialEq, Eq)]
@@ -103,13 +101,13 @@ fn read_list<R: CountedRead>(reader: &mut R, list: &mut Vec<u8>) -> Result<(), J
     requires { list.old.items ≡ [] }
     ensures read { OnOk result (ReadsSection list.new.items
         (R.remaining reader.old) (R.remaining reader.new)) }
-    ensures few { OnOk result (length list.new.items ≤ MOST_LIST) }
+    ensures few { OnOk result (length list.new.items ≤ MOST_BYTES) }
     ensures refused { IfErr result (IsUnlisted (R.remaining reader.old)) }
     ensures failed { FailsWhere (result ≡ Err JobInputError.Read)
         (R.failed_calls reader.old) (R.failed_calls reader.new) }
 {
     let mut cut = Cut::start();
-    while list.len() <= MOST_LIST {
+    while list.len() <= MOST_BYTES {
         match next_step(reader, &mut cut) {
             Step::Byte(byte) => {
                 let Ok(()) = list.push(byte) else {

@@ -1,5 +1,5 @@
 use Rattle.std.proofs.Common.{◌≡◌, ◌+◌, ◌-◌, length, None}
-use Rattle.hyperball.specs.Whole.{most_bytes}
+use Rattle.node.specs.declared.limits.TheConstants.{MOST_BYTES}
 use Rattle.hyperball.proofs.WholeLemmas.{HasRead}
 use Rattle.hyperball.proofs.whole.read_all.Given as goal
 
@@ -13,4 +13,4 @@ invariant-loop-bytes g l = record {
 }
 
 abbrev pub decreases-loop-bytes : goal.decreases-loop-bytes
-decreases-loop-bytes g l = most_bytes + 1 - length l.bytes.items
+decreases-loop-bytes g l = MOST_BYTES + 1 - length l.bytes.items

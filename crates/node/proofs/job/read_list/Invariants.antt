@@ -1,6 +1,6 @@
 use Rattle.std.proofs.Common.{◌≡◌, ◌+◌, ◌-◌, length}
 use Rattle.std.specs.Io.KnownBytes.{prepend_known}
-use Rattle.node.specs.declared.job.TheConstants.{MOST_LIST}
+use Rattle.node.specs.declared.limits.TheConstants.{MOST_BYTES}
 use Rattle.node.specs.Section.{Passed}
 use Rattle.node.proofs.job.read_list.Given as goal
 
@@ -11,4 +11,4 @@ invariant-loop-cut g l = record {
 }
 
 abbrev pub decreases-loop-cut : goal.decreases-loop-cut
-decreases-loop-cut g l = MOST_LIST + 1 - length l.list.items
+decreases-loop-cut g l = MOST_BYTES + 1 - length l.list.items
