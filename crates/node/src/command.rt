@@ -1,6 +1,6 @@
 //! Commands of a node: a line of one word or two.
 
-ghost use Rattle.std.specs.Prelude.{◌≡◌, min, option_map};
+ghost use Rattle.std.specs.Prelude.{◌≡◌, min};
 ghost use Rattle.ball_model.specs.Input.{fields};
 ghost use Rattle.ball_model.specs.WorldText.{value_from};
 ghost use Rattle.node.specs.NodeText.{body_length, command_in, lone_command, size_in};

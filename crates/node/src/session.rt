@@ -1,7 +1,7 @@
 //! A node's replica, and what it makes of commands.
 
 ghost use Rattle.std.specs.Prelude.{◌≡◌, ◌≢◌, ℕ, ◌<◌, [], Err, IfOk, IfErr, IsErr, IsOk, OnErr};
-ghost use Rattle.std.specs.Prelude.{OnOk, IsOk, Ok, false};
+ghost use Rattle.std.specs.Prelude.{OnOk, Ok, false};
 ghost use Rattle.std.specs.Arc.{arc_value};
 ghost use Rattle.ball_model.specs.declared.names.BatchName.{BatchName as Name};
 ghost use Rattle.ball_model.specs.declared.world.Answer.TheVariants as answer;
@@ -55,8 +55,6 @@ pub struct Session {
 }
 
 impl Model for Session {
-    ghost use Rattle.std.specs.Prelude.{◌≡◌};
-    ghost use Rattle.std.specs.Arc.{arc_value};
     ghost use Rattle.ball_model.specs.State.{State};
 
     ghost Value = { State };
