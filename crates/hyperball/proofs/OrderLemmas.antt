@@ -61,10 +61,6 @@ read-other bs other n small is =
     let plain : is_plain bs ≡ true = ap is_plain is ∙ decimal_plain n small in
     absurd (cc)
 
--- a number is spelled in one way
-pub spelled_once : (m n : ℕ) → m < 2 ^ 64 → n < 2 ^ 64 → decimal m ≡ decimal n → m ≡ n
-spelled_once = decimal_injective
-
 -- ---- pieces
 
 -- no such byte stands in a text

@@ -1,6 +1,7 @@
 use Rattle.std.proofs.Common.{arith, sym, ◌∙◌}
 use Rattle.std.specs.Prelude.{Ok, Err, ℕ}
-use Rattle.hyperball.proofs.OrderLemmas.{read-other, read-plain, spelled_once}
+use Rattle.std.proofs.lemmas.Fmt.{decimal_injective}
+use Rattle.hyperball.proofs.OrderLemmas.{read-other, read-plain}
 use Rattle.hyperball.proofs.orders.superstep_in.Goals as goal
 
 pub returns-then-not-is_plain : goal.returns-then-not-is_plain
@@ -12,7 +13,7 @@ returns-in-Ok c = (c.if-superstep-lt1000000000.true, (read-plain {E = ℕ} 32 c.
 pub returns-in_default : goal.returns-in_default
 returns-in_default c = λ n small is.
     let read = read-plain {E = ℕ} 32 c.args.digits.now (Ok c.in-Ok.superstep) (omega arith) (sym c.is_plain.ensures ∙ c.if-not-is_plain.false) c.in-Ok.ensures.value.0 in
-    let same = spelled_once c.in-Ok.superstep n (omega (arith, read.0)) (omega (arith, small)) (sym read.1 ∙ is) in
+    let same = decimal_injective c.in-Ok.superstep n (omega (arith, read.0)) (omega (arith, small)) (sym read.1 ∙ is) in
     omega (arith, c.if-superstep-lt1000000000.false, same, small)
 
 pub returns-in_default-2 : goal.returns-in_default-2
