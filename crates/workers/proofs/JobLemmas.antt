@@ -13,7 +13,7 @@ use Rattle.workers.specs.declared.options.RunOptions.{RunOptions}
 use Rattle.workers.specs.declared.assignment.Assignment.{Assignment}
 use Rattle.workers.specs.Node.{IfDone, IsDone}
 use Rattle.workers.specs.Options.{order_for, orders_for}
-use Rattle.workers.specs.Job.{AreDone, AreEnds, AreNoted, EachAt, HasSplit, IsAssigned, IsPartEnd, IsPartStarted, KeepsItsOrders}
+use Rattle.workers.specs.Job.{AreEnds, AreNoted, EachAt, HasSplit, IsAssigned, IsPartEnd, IsPartStarted, KeepsItsOrders}
 
 -- ---- lists whose elements have what their places say
 pub each_push : {A : Type 0} (has : ℕ → A → Type 0) (k : ℕ) (xs : List A) (x : A) → EachAt has k xs → has (k + length xs) x → EachAt has k (xs ++ x ∷ [])
@@ -60,7 +60,7 @@ all_more assigned items own j o v rest ends w h end =
     }
 
 -- ---- ends that are put together
-pub record Settling (j : Job) (o : RunOptions) (p k : ℕ) (rest : List (Result NodeEnd NodeError)) (old now : Faults) (done : Option State) (all_lost : Bool) : Type 0 where
+pub record PartSoFar (j : Job) (o : RunOptions) (p k : ℕ) (rest : List (Result NodeEnd NodeError)) (old now : Faults) (done : Option State) (all_lost : Bool) : Type 0 where
   pub each : EachAt (λ i. KeepsItsOrders j p (orders_for o p i)) k rest
   pub found : IfSome done (IsDone j p)
   pub noted : AreNoted j.plan.parts o old → AreNoted j.plan.parts o now
@@ -70,12 +70,12 @@ both_true : (a b : Bool) → (a && b) ≡ true → (a ≡ true) × (b ≡ true)
 both_true true b h = (refl, h)
 both_true false b h = absurd (cc)
 
-pub settling_more : (j : Job) (o : RunOptions) (p k : ℕ) (r : Result NodeEnd NodeError) (rest : List (Result NodeEnd NodeError)) (old now next : Faults) (done then : Option State) (was all_lost both : Bool) → Settling j o p k (r ∷ rest) old now done all_lost →
+pub part_so_far_more : (j : Job) (o : RunOptions) (p k : ℕ) (r : Result NodeEnd NodeError) (rest : List (Result NodeEnd NodeError)) (old now next : Faults) (done then : Option State) (was all_lost both : Bool) → PartSoFar j o p k (r ∷ rest) old now done all_lost →
     (KeepsItsOrders j p (orders_for o p k) r → AreNoted j.plan.parts o now → AreNoted j.plan.parts o next) →
     (KeepsItsOrders j p (orders_for o p k) r → was ≡ true → is_some (order_for p k o.lose.items) ≡ true) →
     (IfSome done (IsDone j p) → IfOk r (λ e. IfDone e (IsDone j p)) → IfSome then (IsDone j p)) → both ≡ (was && all_lost) →
-    Settling j o p (k + 1) rest old next then both
-settling_more j o p k r rest old now next done then was all_lost both h noted lost first is = record {
+    PartSoFar j o p (k + 1) rest old next then both
+part_so_far_more j o p k r rest old now next done then was all_lost both h noted lost first is = record {
   each = h.each.1;
   found = first h.found h.each.0.done;
   noted = λ n. noted h.each.0 (h.noted n);
@@ -87,21 +87,21 @@ settling_more j o p k r rest old now next done then was all_lost both h noted lo
       ];
 }
 
-pub record SettlingAll {V : Type 0} (items : V → List (Result NodeEnd NodeError)) (j : Job) (o : RunOptions) (p : ℕ) (rest : List V) (f : Faults) (done : List State) (complete : Bool) : Type 0 where
+pub record AllSoFar {V : Type 0} (items : V → List (Result NodeEnd NodeError)) (j : Job) (o : RunOptions) (p : ℕ) (rest : List V) (f : Faults) (done : List State) (complete : Bool) : Type 0 where
   pub count : p + length rest ≡ j.plan.parts
   pub each : EachAt (λ q own. IsPartEnd j o q (items own)) p rest
   pub noted : AreNoted j.plan.parts o f
   pub length_is : complete ≡ true → length done ≡ p
   pub have : complete ≡ true → EachAt (IsDone j) 0 done
 
-pub settling_all_start : {V : Type 0} (items : V → List (Result NodeEnd NodeError)) (j : Job) (o : RunOptions) (ends : List V) (f : Faults) → AreEnds items j o ends → AreNoted j.plan.parts o f → SettlingAll items j o 0 ends f [] true
-settling_all_start items j o ends f h n = record { count = (let e : 0 + length ends ≡ j.plan.parts = omega (arith, h.count) in e); each = h.each; noted = n; length_is = λ _. refl; have = λ _. tt }
+pub all_so_far_start : {V : Type 0} (items : V → List (Result NodeEnd NodeError)) (j : Job) (o : RunOptions) (ends : List V) (f : Faults) → AreEnds items j o ends → AreNoted j.plan.parts o f → AllSoFar items j o 0 ends f [] true
+all_so_far_start items j o ends f h n = record { count = (let e : 0 + length ends ≡ j.plan.parts = omega (arith, h.count) in e); each = h.each; noted = n; length_is = λ _. refl; have = λ _. tt }
 
-pub settling_all_more : {V : Type 0} (items : V → List (Result NodeEnd NodeError)) (j : Job) (o : RunOptions) (p : ℕ) (own : V) (rest : List V) (now next : Faults) (done then : List State) (found : Option State) (kept complete both : Bool) → SettlingAll items j o p (own ∷ rest) now done complete →
+pub all_so_far_more : {V : Type 0} (items : V → List (Result NodeEnd NodeError)) (j : Job) (o : RunOptions) (p : ℕ) (own : V) (rest : List V) (now next : Faults) (done then : List State) (found : Option State) (kept complete both : Bool) → AllSoFar items j o p (own ∷ rest) now done complete →
     (IsPartEnd j o p (items own) → p < j.plan.parts → AreNoted j.plan.parts o now → AreNoted j.plan.parts o next) → (IsPartEnd j o p (items own) → IfSome found (IsDone j p)) → (kept ≡ true → length then ≡ length done + 1) →
     (IfSome found (IsDone j (length done)) → EachAt (IsDone j) 0 done → EachAt (IsDone j) 0 then) → both ≡ (kept && complete) →
-    SettlingAll items j o (p + 1) rest next then both
-settling_all_more items j o p own rest now next done then found kept complete both h noted one count each is = record {
+    AllSoFar items j o (p + 1) rest next then both
+all_so_far_more items j o p own rest now next done then found kept complete both h noted one count each is = record {
   count = omega (arith, h.count);
   each = h.each.1;
   noted = noted h.each.0 (omega (arith, h.count)) h.noted;
@@ -112,9 +112,6 @@ settling_all_more items j o p own rest now next done then found kept complete bo
       let two = both_true kept complete (sym is ∙ b) in
       each (subst (λ (k : ℕ). IfSome found (IsDone j k)) (sym (h.length_is two.1)) (one h.each.0)) (h.have two.1);
 }
-
-pub settled : {V : Type 0} (items : V → List (Result NodeEnd NodeError)) (j : Job) (o : RunOptions) (p : ℕ) (f : Faults) (done : List State) → SettlingAll items j o p [] f done true → AreDone j done
-settled items j o p f done h = record { count = (let e : length done ≡ j.plan.parts = let n = h.length_is refl in omega (arith, n, h.count) in e); each = h.have refl }
 
 -- ---- threads that are started
 pub some_weaker : {A : Type 0} (o : Option A) (P Q : A → Type 0) → ((a : A) → P a → Q a) → IfSome o P → IfSome o Q

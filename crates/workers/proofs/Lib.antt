@@ -7,5 +7,5 @@ pub mod PathLemmas
 pub mod ReadyLemmas
 pub mod RunLemmas
 pub mod SeenLemmas
+pub mod SuperstepLemmas
 pub mod TieLemmas
-pub mod TurnLemmas

@@ -13,7 +13,7 @@ use Rattle.workers.specs.declared.node.NodeError.{NodeError}
 use Rattle.workers.specs.declared.node.NodeError.TheVariants as fault
 use Rattle.workers.specs.Node.{FallsDue, HasToldAll, IfDone, IfLost, IfStarved, IsDone, WasMissing}
 use Rattle.workers.specs.Tie.{HasCome, HasGone, IsPath, IsPathTo}
-use Rattle.workers.specs.Turn.{IsFate, end_with}
+use Rattle.workers.specs.Superstep.{IsFate, end_with}
 use Rattle.workers.proofs.PathLemmas.{gone}
 
 -- what the end of a node of partition p says, where the order to be lost is `lose`

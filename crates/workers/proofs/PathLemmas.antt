@@ -28,7 +28,7 @@ use Rattle.replica.proofs.RunsLemmas.Run.{has_content, made}
 use Rattle.replica.proofs.RunsLemmas.Same.{content_is_one}
 use Rattle.workers.specs.Tie.{Step, Calls, Closes as ClosesUp, StartsAnew, after_board_call, after_step, after_steps, IsOwnName, IsOwnCall, IsOwnStep, AreOwnSteps, calls_among, HasCome, HasGone, IsPathTo, Reaches, AreOfNode, IsRunOfWorld, PathsAreOfNodes, ReplicasAreOfRuns}
 use Rattle.workers.proofs.TieLemmas.{histories_are_runs}
-use Rattle.workers.proofs.TurnLemmas.{name_of_true}
+use Rattle.workers.proofs.SuperstepLemmas.{name_of_true}
 
 -- ---- steps, one list behind another
 after_steps-append : (j : Job) (p : ℕ) (h : Holding) (xs ys : List Step) → after_steps j p h (xs ++ ys) ≡ after_steps j p (after_steps j p h xs) ys

@@ -9,7 +9,7 @@ use Rattle.ball_model.proofs.HistoryLemmas.{begins_self, begins_trans, events_by
 use Rattle.std.proofs.lemmas.Bool.{cases_eq}
 use Rattle.replica.specs.Sent.{batch_name}
 use Rattle.workers.specs.Node.{WasMissing, HasPosted, HasToldAll}
-use Rattle.workers.specs.Turn.{WasWaiting, HasStarved}
+use Rattle.workers.specs.Superstep.{WasWaiting, HasStarved}
 
 pub extends_self : (v : Caller) → IsCaller v → Extends v v
 extends_self v h = record { number = refl; limit = refl; begins = begins_self v.seen; legal = h.legal; fits = h.fits }

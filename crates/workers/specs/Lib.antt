@@ -3,5 +3,5 @@ pub mod Job
 pub mod Node
 pub mod Options
 pub mod Run
+pub mod Superstep
 pub mod Tie
-pub mod Turn

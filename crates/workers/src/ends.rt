@@ -168,7 +168,7 @@ fn first_done(done: Option<Replica>, end: NodeResult) -> Option<Replica>
 }
 
 // The replica of the first node of a partition that has reached the end; what is wrong with the others is noted.
-fn settle_part(p: u16, ends: Vec<NodeResult>, faults: &mut Faults) -> Option<Replica>
+fn done_replica(p: u16, ends: Vec<NodeResult>, faults: &mut Faults) -> Option<Replica>
     requires few { length ends.items ≤ 4 }
     ensures done { (j : Job) (o : Asked) → IsPartEnd j o p ends.items → IfSome result (IsDone j p) }
     ensures some { is_some result ≡ list_any is_done ends.items }
@@ -209,7 +209,7 @@ fn keep_done(done: &mut Vec<Replica>, next: Option<Replica>) -> Result<bool, All
 
 /// The replica of each partition, by the ends of its nodes: that of the first node that is done. Where a partition has
 /// none, and only there, the error is the first fault of all nodes; `Memory` also where memory is refused here.
-pub fn settle(alloc: Global, ends: Vec<Vec<NodeResult>>) -> Result<Vec<Replica>, JobError>
+pub fn done_replicas(alloc: Global, ends: Vec<Vec<NodeResult>>) -> Result<Vec<Replica>, JobError>
     requires few { All (λ own. length own.items ≤ 4) ends.items }
     requires parts { length ends.items ≤ most_parts }
     ensures done { (j : Job) (o : Asked) → AreEnds (λ own. own.items) j o ends.items →
@@ -226,7 +226,7 @@ pub fn settle(alloc: Global, ends: Vec<Vec<NodeResult>>) -> Result<Vec<Replica>,
     let mut complete = true;
     let mut p = 0;
     for own in ends {
-        let next = settle_part(p, own, &mut faults);
+        let next = done_replica(p, own, &mut faults);
         complete = keep_done(&mut done, next)? && complete;
         p += 1;
     }

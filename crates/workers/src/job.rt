@@ -11,7 +11,7 @@ ghost use Rattle.workers.specs.Options.{are_in_limits, order_for, orders_for};
 ghost use Rattle.workers.specs.declared.options.RunOptions.{RunOptions as Asked};
 
 use crate::assignment::{Assignment, NodeResult};
-use crate::ends::{JobError, settle};
+use crate::ends::{JobError, done_replicas};
 use crate::exchange::BoardExchange;
 use crate::gate::Gate;
 use crate::node::{NodeEnd, NodeError, NodeOrders, run_node};
@@ -336,7 +336,7 @@ fn run_in<'s, 'a: 's, X, R: AllocGlobal + Threads + Wait + Sync, G: Gate + Sync>
         rt, scope, board, first, gate, running, graph, plan, options, parts,
     )?;
     let ends = join_all(rt, children)?;
-    settle(rt.alloc(), ends)
+    done_replicas(rt.alloc(), ends)
 }
 
 /// Runs all nodes of a job by the parts of its partitions, a thread each, and gives the replica of each partition at the

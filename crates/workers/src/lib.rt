@@ -37,7 +37,7 @@ mod options;
 mod planned;
 mod running;
 mod shared;
-mod turn;
+mod superstep;
 
 pub use bytes::{RunError, run};
 pub use exchange::{BoardExchange, Exchange};

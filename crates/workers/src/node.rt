@@ -10,14 +10,14 @@ ghost use Rattle.workers.specs.declared.node.NodeError.TheVariants.{BookFull, Me
 ghost use Rattle.workers.specs.Node.{FallsDue, HasToldAll, IfDone, IfLost, IfStarved, IsDone};
 ghost use Rattle.workers.specs.Node.{WasMissing};
 ghost use Rattle.workers.specs.Tie.{HasCome, HasGone, IsPath, IsPathTo};
-ghost use Rattle.workers.specs.Turn.{IsAnew, IsFate, IsFirst, IsPartOf, StandsIn, early_end};
-ghost use Rattle.workers.specs.Turn.{end_with};
+ghost use Rattle.workers.specs.Superstep.{IsAnew, IsFate, IsFirst, IsPartOf, StandsIn, early_end};
+ghost use Rattle.workers.specs.Superstep.{end_with};
 ghost use Rattle.replica.specs.Sent.{batch_name};
 
 use crate::exchange::Exchange;
 use crate::gate::Gate;
 use crate::shared::SharedTables;
-use crate::turn::{Turn, catch_up, run_superstep};
+use crate::superstep::{SuperstepEnd, catch_up, run_superstep};
 use ball_model::NodeId;
 use board::BoardError;
 use edgelist::Part;
@@ -191,9 +191,9 @@ fn go_on<R: AllocGlobal + Wait, E: Exchange, G: Gate>(
             continue;
         }
         match run_superstep(rt, exchange, gate, node, orders, &mut tables, replica)? {
-            Turn::Next => {}
-            Turn::Over => return Ok(Fate::Done),
-            Turn::Starved { source } => {
+            SuperstepEnd::Next => {}
+            SuperstepEnd::Over => return Ok(Fate::Done),
+            SuperstepEnd::Starved { source } => {
                 let superstep = replica.superstep();
                 return Ok(Fate::Starved { superstep, source });
             }

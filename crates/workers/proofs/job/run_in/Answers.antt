@@ -4,8 +4,8 @@ use Rattle.workers.specs.Job.{IsPartEnd}
 use Rattle.workers.proofs.JobLemmas.{each_is}
 use Rattle.workers.proofs.job.run_in.Goals as goal
 
-pub settle-requires-clause-few : goal.settle-requires-clause-few
-settle-requires-clause-few g c =
+pub done_replicas-requires-clause-few : goal.done_replicas-requires-clause-few
+done_replicas-requires-clause-few g c =
     let j : Job = job_of c.args.graph.now.graph c.args.plan.now in
     let o = c.args.options.now in
     let ends = c.in_ok-ends.ensures j o c.in_ok-children.ensures in

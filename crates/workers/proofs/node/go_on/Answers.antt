@@ -2,12 +2,12 @@ use Rattle.std.proofs.Common.{◌∙◌, ℕ, ap, refl, sym, subst}
 use Rattle.std.proofs.lemmas.Result.{err_from_is_err_and}
 use Rattle.ball_model.specs.Caller.{Caller}
 use Rattle.ball_model.specs.Job.{Job}
-use Rattle.workers.specs.declared.turn.Turn.{Turn}
+use Rattle.workers.specs.declared.superstep.SuperstepEnd.{SuperstepEnd}
 use Rattle.workers.specs.Node.{FallsDue}
-use Rattle.workers.specs.Turn.{HasStarved, IsNodeTurn}
+use Rattle.workers.specs.Superstep.{HasStarved, IsSuperstepEnd}
 use Rattle.workers.proofs.PathLemmas.{come_nowhere, come_then, err_not_as, gone_then, ok_is_no_err, on_err}
 use Rattle.workers.proofs.SeenLemmas.{caller_of, extends_self, extends_trans, starved_before, told_before}
-use Rattle.workers.proofs.TurnLemmas.{done_of, part_later, stands_back, stands_later}
+use Rattle.workers.proofs.SuperstepLemmas.{done_of, part_later, stands_back, stands_later}
 use Rattle.workers.proofs.node.go_on.Goals as goal
 
 pub returns-in-Over-clause-fate : goal.returns-in-Over-clause-fate
@@ -17,9 +17,9 @@ returns-in-Over-clause-fate g c =
     let w : Caller = caller c.run_superstep.new.exchange in
     let p : ℕ = c.args.node.part in
     let r = c.run_superstep.new.replica in
-    let turn = subst (λ (t : Turn). IsNodeTurn (caller c.loop.exchange) p r t w) c.in-Over.is c.in_ok-run_superstep.ensures.turn in
+    let end = subst (λ (t : SuperstepEnd). IsSuperstepEnd (caller c.loop.exchange) p r t w) c.in-Over.is c.in_ok-run_superstep.ensures.end in
     let stands = stands_back v (caller c.loop.exchange) p r c.loop.invariant.0 c.in_ok-run_superstep.ensures.stands in
-    (told_before v _ w _ p c.loop.invariant.0 turn.0, (done_of v.seen.job p r stands turn.1, λ due. c.falls_due.ensures.spared c.if-falls_due.false (subst (FallsDue c.args.orders.now.lose) (c.in_ok-run_superstep.ensures.over c.in-Over.is ∙ sym c.superstep-superstep.ensures.value) due)))
+    (told_before v _ w _ p c.loop.invariant.0 end.0, (done_of v.seen.job p r stands end.1, λ due. c.falls_due.ensures.spared c.if-falls_due.false (subst (FallsDue c.args.orders.now.lose) (c.in_ok-run_superstep.ensures.over c.in-Over.is ∙ sym c.superstep-superstep.ensures.value) due)))
 
 pub returns-in-Starved-clause-fate : goal.returns-in-Starved-clause-fate
 returns-in-Starved-clause-fate g c =
@@ -29,8 +29,8 @@ returns-in-Starved-clause-fate g c =
     let p : ℕ = c.args.node.part in
     let q : ℕ = c.in-Starved.source in
     let r = c.run_superstep.new.replica in
-    let turn = subst (λ (t : Turn). IsNodeTurn (caller c.loop.exchange) p r t w) c.in-Starved.is c.in_ok-run_superstep.ensures.turn in
-    subst (λ (s : ℕ). HasStarved v s q p w) (sym c.superstep-superstep-in-Starved.ensures.value) (starved_before v _ w _ q p c.loop.invariant.0 turn)
+    let end = subst (λ (t : SuperstepEnd). IsSuperstepEnd (caller c.loop.exchange) p r t w) c.in-Starved.is c.in_ok-run_superstep.ensures.end in
+    subst (λ (s : ℕ). HasStarved v s q p w) (sym c.superstep-superstep-in-Starved.ensures.value) (starved_before v _ w _ q p c.loop.invariant.0 end)
 
 pub returns-then-falls_due-clause-came : goal.returns-then-falls_due-clause-came
 returns-then-falls_due-clause-came g c = c.loop.invariant.3

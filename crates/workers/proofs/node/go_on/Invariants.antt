@@ -2,7 +2,7 @@ use Rattle.std.proofs.Common.{◌≡◌, None}
 use Rattle.ball_model.specs.Caller.{Extends}
 use Rattle.ball_model.specs.History.{holding_in}
 use Rattle.workers.specs.Tie.{HasCome}
-use Rattle.workers.specs.Turn.{StandsIn}
+use Rattle.workers.specs.Superstep.{StandsIn}
 use Rattle.workers.proofs.node.go_on.Given as goal
 
 abbrev pub invariant-loop : goal.invariant-loop

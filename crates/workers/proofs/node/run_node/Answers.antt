@@ -9,7 +9,7 @@ use Rattle.std.specs.Prelude.{OnErr, OnOk, Result}
 use Rattle.workers.specs.Tie.{HasCome, HasGone}
 use Rattle.workers.proofs.NodeLemmas.{EndsAs, end_fits, ended}
 use Rattle.workers.proofs.PathLemmas.{gone_nowhere}
-use Rattle.workers.proofs.TurnLemmas.{stands_at}
+use Rattle.workers.proofs.SuperstepLemmas.{stands_at}
 use Rattle.workers.proofs.node.run_node.Goals as goal
 
 pub returns-in_err-replica-clause-path : goal.returns-in_err-replica-clause-path

@@ -1,0 +1,181 @@
+use Rattle.std.proofs.Common.{◌∙◌, ℕ, ap, sym, subst}
+use Rattle.std.proofs.lemmas.Result.{err_from_is_err_and}
+use Rattle.ball_model.specs.Caller.{Caller}
+use Rattle.ball_model.specs.Job.{Job}
+use Rattle.ball_model.specs.State.{State}
+use Rattle.workers.specs.declared.superstep.Found.{Found}
+use Rattle.workers.specs.Node.{HasToldAll}
+use Rattle.workers.specs.Superstep.{HasStarved, IsFound, StandsIn}
+use Rattle.workers.proofs.PathLemmas.{come_by_close, come_then, err_not_as, gone, gone_then, ok_is_no_err, on_err}
+use Rattle.workers.proofs.SeenLemmas.{caller_of, extends_trans, told_between, waiting_before}
+use Rattle.ball_model.specs.History.{holding_in}
+use Rattle.workers.proofs.SuperstepLemmas.{closed_end, stands_back, stands_later}
+use Rattle.workers.proofs.superstep.run_superstep.Goals as goal
+
+pub keep_snapshot-requires : goal.keep_snapshot-requires
+keep_snapshot-requires g c = record { caller = c.requires.caller; stands = c.requires.stands }
+
+pub tell_all-requires : goal.tell_all-requires
+tell_all-requires g c =
+    let v : Caller = g.E.Exchange.caller c.args.exchange.now in
+    let stands = subst (λ (r : State). StandsIn v c.args.node.part r) (sym c.keep_snapshot.ensures.same) c.requires.stands in
+    record {
+      caller = caller_of _ _ c.keep_snapshot.ensures.seen;
+      stands = stands_later v _ c.args.node.part c.keep_snapshot.new.replica c.keep_snapshot.ensures.seen stands;
+    }
+
+pub drop_old-requires : goal.drop_old-requires
+drop_old-requires g c = record { caller = caller_of _ _ c.tell_all.ensures.seen }
+
+pub gather-requires : goal.gather-requires
+gather-requires g c =
+    let v : Caller = g.E.Exchange.caller c.args.exchange.now in
+    let stands = subst (λ (r : State). StandsIn v c.args.node.part r) (sym c.keep_snapshot.ensures.same) c.requires.stands in
+    let before = extends_trans v _ _ (extends_trans v _ _ c.keep_snapshot.ensures.seen c.tell_all.ensures.seen) c.drop_old.ensures.seen in
+    record {
+      caller = caller_of _ _ c.drop_old.ensures.seen;
+      stands = stands_later v _ c.args.node.part c.keep_snapshot.new.replica before stands;
+    }
+
+pub returns-in_err-keep_snapshot : goal.returns-in_err-keep_snapshot
+returns-in_err-keep_snapshot g c =
+    let p = err_from_is_err_and c.from_residual.result c.from_residual.ensures.1 in
+    record {
+      seen = c.keep_snapshot.ensures.seen;
+      stands = rw (p.1) tt;
+      end = rw (p.1) tt;
+      over = rw (p.1) tt;
+      came = rw (p.1) tt;
+      gone = on_err c.from_residual.result c.in_err-keep_snapshot.ensures.gone;
+      full = rw (p.1, p.2) c.in_err-keep_snapshot.ensures.full;
+      alone = λ _ none. rw (p.1, p.2) (err_not_as _ _ (c.in_err-keep_snapshot.ensures.never none));
+    }
+
+pub returns-in_err-tell_all : goal.returns-in_err-tell_all
+returns-in_err-tell_all g c =
+    let p = err_from_is_err_and c.from_residual-in_err-tell_all.result c.from_residual-in_err-tell_all.ensures.1 in
+    record {
+      seen = extends_trans _ _ _ c.keep_snapshot.ensures.seen c.tell_all.ensures.seen;
+      stands = rw (p.1) tt;
+      end = rw (p.1) tt;
+      over = rw (p.1) tt;
+      came = rw (p.1) tt;
+      gone = on_err c.from_residual-in_err-tell_all.result (gone_then _ _ _ _ _ _ c.keep_snapshot.ensures.seen c.in_ok-keep_snapshot.ensures.came c.in_err-tell_all.ensures.gone);
+      full = rw (p.1, p.2) c.in_err-tell_all.ensures.full;
+      alone = λ one _. rw (p.1, p.2) (err_not_as _ _ (c.in_err-tell_all.ensures.alone (ap (λ (j : Job). j.plan.parts) c.keep_snapshot.ensures.seen.begins.job ∙ one)));
+    }
+
+pub returns-in_err-drop_old : goal.returns-in_err-drop_old
+returns-in_err-drop_old g c =
+    let p = err_from_is_err_and c.from_residual-in_err-drop_old.result c.from_residual-in_err-drop_old.ensures.1 in
+    let part = c.args.node.part in
+    let h = holding_in c.keep_snapshot.new.replica in
+    let told = come_then _ _ _ _ _ _ _ c.keep_snapshot.ensures.seen c.in_ok-keep_snapshot.ensures.came c.in_ok-tell_all.ensures.came in
+    let seen = extends_trans _ _ _ c.keep_snapshot.ensures.seen c.tell_all.ensures.seen in
+    record {
+      seen = extends_trans _ _ _ seen c.drop_old.ensures.seen;
+      stands = rw (p.1) tt;
+      end = rw (p.1) tt;
+      over = rw (p.1) tt;
+      came = rw (p.1) tt;
+      gone = on_err c.from_residual-in_err-drop_old.result (gone_then _ _ _ _ _ _ seen told (gone _ _ part h h (c.drop_old.ensures.came part h)));
+      full = rw (p.1, p.2) c.in_err-drop_old.ensures.full;
+      alone = λ _ none. rw (p.1, p.2) (err_not_as _ _ (c.in_err-drop_old.ensures.never none));
+    }
+
+pub returns-in_err-gather : goal.returns-in_err-gather
+returns-in_err-gather g c =
+    let p = err_from_is_err_and c.from_residual-in_err-gather.result c.from_residual-in_err-gather.ensures.1 in
+    let h = holding_in c.keep_snapshot.new.replica in
+    let told = come_then _ _ _ _ _ _ _ c.keep_snapshot.ensures.seen c.in_ok-keep_snapshot.ensures.came c.in_ok-tell_all.ensures.came in
+    let seen = extends_trans _ _ _ c.keep_snapshot.ensures.seen c.tell_all.ensures.seen in
+    let dropped = come_then _ _ _ _ _ _ _ seen told (c.drop_old.ensures.came c.args.node.part h) in
+    let now = extends_trans _ _ _ seen c.drop_old.ensures.seen in
+    record {
+      seen = extends_trans _ _ _ now c.gather.ensures.seen;
+      stands = rw (p.1) tt;
+      end = rw (p.1) tt;
+      over = rw (p.1) tt;
+      came = rw (p.1) tt;
+      gone = on_err c.from_residual-in_err-gather.result (gone_then _ _ _ _ _ _ now dropped c.in_err-gather.ensures.gone);
+      full = rw (p.1, p.2) c.in_err-gather.ensures.full;
+      alone = λ one _. rw (p.1, p.2) (err_not_as _ _ (c.in_err-gather.ensures.alone (ap (λ (j : Job). j.plan.parts) now.begins.job ∙ one)));
+    }
+
+pub returns-in-Level : goal.returns-in-Level
+returns-in-Level g c =
+    let caller = g.E.Exchange.caller in
+    let v : Caller = caller c.args.exchange.now in
+    let w : Caller = caller c.gather.new.exchange in
+    let p : ℕ = c.args.node.part in
+    let r : State = c.gather.new.replica in
+    let s : ℕ = c.keep_snapshot.new.replica.superstep in
+    let h = holding_in c.keep_snapshot.new.replica in
+    let told_all : HasToldAll v s p w =
+    told_between v _ _ _ w s p c.keep_snapshot.ensures.seen c.in_ok-tell_all.ensures.told c.drop_old.ensures.seen c.gather.ensures.seen in
+    let found = subst (λ (f : Found). IsFound (caller c.drop_old.new.exchange) p s r f w) c.in-Level.is c.in_ok-gather.ensures.found in
+    let told = come_then _ _ _ _ _ _ _ c.keep_snapshot.ensures.seen c.in_ok-keep_snapshot.ensures.came c.in_ok-tell_all.ensures.came in
+    let seen = extends_trans _ _ _ c.keep_snapshot.ensures.seen c.tell_all.ensures.seen in
+    let dropped = come_then _ _ _ _ _ _ _ seen told (c.drop_old.ensures.came p h) in
+    let now = extends_trans _ _ _ seen c.drop_old.ensures.seen in
+    let level = come_then _ _ _ _ _ _ _ now dropped c.in_ok-gather.ensures.came in
+    let all = extends_trans v _ w now c.gather.ensures.seen in
+    let stands = stands_back v _ p r now c.in_ok-gather.ensures.stands in
+    record {
+      seen = all;
+      stands = c.close.ensures.stands v.seen.job p r.superstep stands;
+      end = closed_end v w p r c.close.new.replica c.close.result c.close.ensures.kind c.close.ensures.over (subst (λ (n : ℕ). HasToldAll v n p w) (sym found.1) told_all);
+      over = λ over. ap (λ (x : State). x.superstep) (c.close.ensures.over over).0 ∙ (found.1 ∙ ap (λ (x : State). x.superstep) c.keep_snapshot.ensures.same);
+      came = come_then v w w p _ _ _ all level (come_by_close w p _ _ (sym (c.close.ensures.held w.seen.job p _ (stands_later v w p r all stands))));
+      gone = tt;
+      full = tt;
+      alone = λ _ _. ok_is_no_err _ _;
+    }
+
+pub returns-in-Further : goal.returns-in-Further
+returns-in-Further g c =
+    let v : Caller = g.E.Exchange.caller c.args.exchange.now in
+    let p : ℕ = c.args.node.part in
+    let h = holding_in c.keep_snapshot.new.replica in
+    let told = come_then _ _ _ _ _ _ _ c.keep_snapshot.ensures.seen c.in_ok-keep_snapshot.ensures.came c.in_ok-tell_all.ensures.came in
+    let seen = extends_trans _ _ _ c.keep_snapshot.ensures.seen c.tell_all.ensures.seen in
+    let dropped = come_then _ _ _ _ _ _ _ seen told (c.drop_old.ensures.came p h) in
+    let now = extends_trans v _ _ seen c.drop_old.ensures.seen in
+    record {
+      seen = extends_trans _ _ _ now c.gather.ensures.seen;
+      stands = stands_back v _ p c.gather.new.replica now c.in_ok-gather.ensures.stands;
+      end = tt;
+      over = λ over. absurd (cc);
+      came = come_then _ _ _ _ _ _ _ now dropped c.in_ok-gather.ensures.came;
+      gone = tt;
+      full = tt;
+      alone = λ _ _. ok_is_no_err _ _;
+    }
+
+pub returns-in-Missed : goal.returns-in-Missed
+returns-in-Missed g c =
+    let caller = g.E.Exchange.caller in
+    let v : Caller = caller c.args.exchange.now in
+    let w : Caller = caller c.gather.new.exchange in
+    let p : ℕ = c.args.node.part in
+    let q : ℕ = c.in-Missed.source in
+    let r : State = c.gather.new.replica in
+    let s : ℕ = c.keep_snapshot.new.replica.superstep in
+    let h = holding_in c.keep_snapshot.new.replica in
+    let told_all : HasToldAll v s p w =
+    told_between v _ _ _ w s p c.keep_snapshot.ensures.seen c.in_ok-tell_all.ensures.told c.drop_old.ensures.seen c.gather.ensures.seen in
+    let found = subst (λ (f : Found). IsFound (caller c.drop_old.new.exchange) p s r f w) c.in-Missed.is c.in_ok-gather.ensures.found in
+    let told = come_then _ _ _ _ _ _ _ c.keep_snapshot.ensures.seen c.in_ok-keep_snapshot.ensures.came c.in_ok-tell_all.ensures.came in
+    let seen = extends_trans _ _ _ c.keep_snapshot.ensures.seen c.tell_all.ensures.seen in
+    let dropped = come_then _ _ _ _ _ _ _ seen told (c.drop_old.ensures.came p h) in
+    let now = extends_trans v _ _ seen c.drop_old.ensures.seen in
+    record {
+      seen = extends_trans _ _ _ now c.gather.ensures.seen;
+      stands = stands_back v _ p r now c.in_ok-gather.ensures.stands;
+      end = subst (λ (n : ℕ). HasStarved v n q p w) (sym found.1) (told_all, waiting_before v _ w s q p now found.0);
+      over = λ over. absurd (cc);
+      came = come_then _ _ _ _ _ _ _ now dropped c.in_ok-gather.ensures.came;
+      gone = tt;
+      full = tt;
+      alone = λ _ _. ok_is_no_err _ _;
+    }

@@ -1,0 +1,93 @@
+-- A superstep of a node, and how the node's replica fares.
+use Rattle.std.specs.Prelude.{◌≡◌, ◌≢◌, ⊤, ℕ, ◌<◌, ◌-◌, ◌⊎◌, max, Option, None, Some, Result, Ok, Err}
+use Rattle.ball_model.specs.Job.{IsJob, Job, PartValue, part_of}
+use Rattle.ball_model.specs.State.{State, StandsFor}
+use Rattle.ball_model.specs.Caller.{Called, CalledNothing, Caller}
+use Rattle.ball_model.specs.History.{Drop, Recall, holding_in}
+use Rattle.ball_model.specs.Held.{start_holding}
+use Rattle.ball_model.specs.Join.{Holding}
+use Rattle.replica.specs.Level.{EndsRun, found_verdict, missing_in}
+use Rattle.replica.specs.Sent.{batch_name}
+use Rattle.workers.specs.declared.node.Fate.{Fate}
+use Rattle.workers.specs.declared.node.Fate.TheVariants as fate
+use Rattle.workers.specs.declared.node.NodeEnd.{NodeEnd}
+use Rattle.workers.specs.declared.node.NodeEnd.TheVariants as ends
+use Rattle.workers.specs.declared.node.NodeError.{NodeError}
+use Rattle.workers.specs.declared.superstep.Found.{Found}
+use Rattle.workers.specs.declared.superstep.Found.TheVariants as found
+use Rattle.workers.specs.declared.superstep.SuperstepEnd.{SuperstepEnd}
+use Rattle.workers.specs.declared.superstep.SuperstepEnd.TheVariants as superstep_end
+use Rattle.workers.specs.Node.{FallsDue, HasToldAll, IsDone, WasMissing}
+
+-- the replica stands for partition p of the caller's job, at its superstep
+abbrev pub StandsIn : Caller → ℕ → State → Type 0
+StandsIn v p r = StandsFor v.seen.job p r.superstep r
+
+-- it is the part of partition p of the caller's job
+pub record IsPartOf (v : Caller) (p : ℕ) (value : PartValue) : Type 0 where
+  pub job : IsJob v.seen.job
+  pub below : p < v.seen.job.plan.parts
+  pub part : value ≡ part_of v.seen.job p
+
+-- the batch of superstep s from q, another partition, was missing
+pub record WasWaiting (v : Caller) (s q p : ℕ) (w : Caller) : Type 0 where
+  pub missing : WasMissing v (batch_name s q p) w
+  pub below : q < v.seen.job.plan.parts
+  pub other : q ≢ p
+
+-- a replica of partition p at superstep 0, which holds what a node holds at its start
+pub record IsFirst (j : Job) (p : ℕ) (r : State) : Type 0 where
+  pub stands : StandsFor j p 0 r
+  pub held : holding_in r ≡ start_holding j.plan p
+
+-- what a replica, of such a superstep before, has found: its level is held; it is at a further superstep; or a batch
+-- of the level is missing
+abbrev pub IsFound : Caller → ℕ → ℕ → State → Found → Caller → Type 0
+IsFound v p s r found.Level w = (missing_in r ≡ None) × (r.superstep ≡ s)
+IsFound v p s r found.Further w = ⊤
+IsFound v p s r (found.Missed q) w = WasWaiting v s q p w × (r.superstep ≡ s)
+
+-- the partition has told all others, and waited for the batch of q
+abbrev pub HasStarved : Caller → ℕ → ℕ → ℕ → Caller → Type 0
+HasStarved v s q p w = HasToldAll v s p w × WasWaiting v s q p w
+
+-- what the end of a superstep says of the replica, as it is then
+abbrev pub IsSuperstepEnd : Caller → ℕ → State → SuperstepEnd → Caller → Type 0
+IsSuperstepEnd v p r superstep_end.Next w = ⊤
+IsSuperstepEnd v p r superstep_end.Over w = HasToldAll v r.superstep p w × EndsRun (found_verdict r)
+IsSuperstepEnd v p r (superstep_end.Starved q) w = HasStarved v r.superstep q p w
+
+-- what a fate says of the replica, as it is then
+abbrev pub IsFate : Caller → ℕ → Option ℕ → State → Fate → Caller → Type 0
+IsFate v p lose r fate.Done w =
+    HasToldAll v r.superstep p w × (IsDone v.seen.job p r × (FallsDue lose r.superstep → ⊥))
+IsFate v p lose r (fate.Lost s) w = FallsDue lose s
+IsFate v p lose r (fate.Starved s q) w = HasStarved v s q p w
+
+-- how a node ends by a fate that is not to reach the end of the run
+abbrev pub early_end : Fate → Option NodeEnd
+early_end fate.Done = None
+early_end (fate.Lost s) = Some (ends.Lost s)
+early_end (fate.Starved s q) = Some (ends.Starved s q)
+
+-- how a node ends by the fate of its replica, or by the fault that it met
+abbrev pub end_with : Result Fate NodeError → State → Result NodeEnd NodeError
+end_with (Ok fate.Done) r = Ok (ends.Done r)
+end_with (Ok (fate.Lost s)) r = Ok (ends.Lost s)
+end_with (Ok (fate.Starved s q)) r = Ok (ends.Starved s q)
+end_with (Err e) r = Err e
+
+-- at superstep s the caller drops the batches before the last superstep, or makes no call
+abbrev pub DropsBefore : Caller → ℕ → Caller → Type 0
+DropsBefore v s w = CalledNothing v w ⊎ Called v (Drop (s - 1)) w
+
+-- the caller recalled a snapshot of partition p, from superstep `least` on, and went from one superstep to the further
+-- of that and the snapshot's
+pub record HasRecalled (v : Caller) (p least before now : ℕ) (w : Caller) : Type 0 where
+  pub content : Holding
+  pub called : Called v (Recall p least content) w
+  pub superstep : now ≡ max before content.superstep
+
+-- a replica that starts again has nothing of a superstep behind its own: it is at the start, or took over a snapshot
+abbrev pub IsAnew : Caller → ℕ → ℕ → Caller → Type 0
+IsAnew v p now w = (now ≡ 0) ⊎ HasRecalled v p 0 0 now w

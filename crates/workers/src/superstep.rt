@@ -1,0 +1,410 @@
+//! One superstep of a node.
+
+ghost use Rattle.std.specs.Prelude.{◌≡◌, ◌≢◌, ◌⊎◌, ℕ, true, false, None, ◌<◌, ◌≤◌, ◌+◌, IfOk};
+ghost use Rattle.std.specs.Prelude.{OnErr, OnOk, IfErr, Err};
+ghost use Rattle.std.specs.Arc.{arc_value};
+ghost use Rattle.ball_model.specs.Batches.{true_batch};
+ghost use Rattle.ball_model.specs.Caller.{CalledNothing, Extends, IsCaller, IsFull};
+ghost use Rattle.ball_model.specs.Held.{held_after};
+ghost use Rattle.ball_model.specs.History.{holding_in};
+ghost use Rattle.ball_model.specs.Join.{Holding};
+ghost use Rattle.ball_model.specs.Steps.{Close};
+ghost use Rattle.workers.specs.declared.node.NodeError.TheVariants.{BookFull};
+ghost use Rattle.workers.specs.Node.{HasPosted, HasToldAll, WasMissing};
+ghost use Rattle.ball_model.specs.Job.{Job};
+ghost use Rattle.ball_model.specs.State.{StandsFor};
+ghost use Rattle.replica.specs.Level.{EndsRun, found_verdict, missing_in};
+ghost use Rattle.workers.specs.declared.superstep.SuperstepEnd.TheVariants as superstep_end;
+ghost use Rattle.workers.specs.Superstep.{DropsBefore, HasRecalled, IsFound, IsSuperstepEnd, StandsIn};
+ghost use Rattle.replica.specs.Sent.{AreChanged, batch_name};
+ghost use Rattle.workers.specs.Tie.{HasCome, HasGone};
+
+use crate::exchange::Exchange;
+use crate::gate::Gate;
+use crate::node::{NodeError, NodeOrders};
+use crate::shared::SharedTables;
+use ball_model::{BatchName, NodeId};
+use batches::Batch;
+use replica::{ChangedRows, Replica, Shown, Snapshot};
+use std::alloc::{AllocError, AllocGlobal, Global};
+use std::sync::{Arc, Wait};
+
+/// How a superstep of a node ends.
+#[derive(Clone, Copy)]
+pub enum SuperstepEnd {
+    /// The replica is at another superstep.
+    Next,
+    /// The run is over.
+    Over,
+    /// It waited in vain for the batch of a source.
+    Starved { source: u16 },
+}
+
+/// What a node has found of the others.
+#[derive(Clone, Copy)]
+pub enum Found {
+    /// Every batch of its superstep.
+    Level,
+    /// A snapshot of a further superstep, which it has taken over.
+    Further,
+    /// A batch is missing.
+    Missed { source: u16 },
+}
+
+/// Takes over the snapshot that is kept for the replica's partition, where its superstep is `at_least` so much; and
+/// whether there is one.
+pub fn catch_up<R: AllocGlobal + Wait, E: Exchange>(
+    rt: &R,
+    exchange: &mut E,
+    node: NodeId,
+    at_least: u32,
+    replica: &mut Replica,
+) -> Result<bool, NodeError>
+    requires caller { IsCaller (E.caller exchange.old) }
+    requires stands { StandsIn (E.caller exchange.old) node.part replica.old }
+    ensures seen { Extends (E.caller exchange.old) (E.caller exchange.new) }
+    ensures stands { OnOk result (StandsIn (E.caller exchange.old) node.part replica.new) }
+    ensures none { IfOk result (λ found. found ≡ false → replica.new ≡ replica.old) }
+    ensures found { IfOk result (λ found. found ≡ true → HasRecalled (E.caller exchange.old) node.part
+        at_least replica.old.superstep replica.new.superstep (E.caller exchange.new)) }
+    ensures came { OnOk result (HasCome (E.caller exchange.old) node.part (holding_in replica.old)
+        (holding_in replica.new) (E.caller exchange.new)) }
+    ensures gone { OnErr result (HasGone (E.caller exchange.old) node.part (holding_in replica.old)
+        (E.caller exchange.new)) }
+    ensures full { IfErr result (λ e. e ≡ BookFull → IsFull (E.caller exchange.new)) }
+{
+    let Some(snapshot) = exchange.recall(rt, node.part, at_least)? else {
+        return Ok(false);
+    };
+    // the limits of both are told with their supersteps
+    let _supersteps = (replica.superstep(), snapshot.superstep());
+    let Ok(()) = replica.merge(rt.alloc(), &snapshot) else {
+        return Err(NodeError::Memory);
+    };
+    Ok(true)
+}
+
+// A snapshot of the replica, as threads share it.
+fn shared_snapshot(alloc: Global, replica: &mut Replica) -> Result<Arc<Snapshot>, AllocError>
+    ensures same { IfOk result (λ s. arc_value s ≡ replica.old) }
+    ensures unchanged { replica.new ≡ replica.old }
+{
+    Ok(Arc::new(alloc, replica.snapshot(alloc)?)?)
+}
+
+// Keeps a snapshot at each superstep that is a multiple of `every`, and none where that is 0.
+fn keep_snapshot<R: AllocGlobal + Wait, E: Exchange>(
+    rt: &R,
+    exchange: &mut E,
+    node: NodeId,
+    every: u32,
+    replica: &mut Replica,
+) -> Result<(), NodeError>
+    requires caller { IsCaller (E.caller exchange.old) }
+    requires stands { StandsIn (E.caller exchange.old) node.part replica.old }
+    ensures seen { Extends (E.caller exchange.old) (E.caller exchange.new) }
+    ensures same { replica.new ≡ replica.old }
+    ensures came { OnOk result (HasCome (E.caller exchange.old) node.part (holding_in replica.old)
+        (holding_in replica.new) (E.caller exchange.new)) }
+    ensures gone { OnErr result (HasGone (E.caller exchange.old) node.part (holding_in replica.old)
+        (E.caller exchange.new)) }
+    ensures full { IfErr result (λ e. e ≡ BookFull → IsFull (E.caller exchange.new)) }
+    ensures never { every ≡ 0 → result ≢ Err BookFull }
+{
+    if every == 0 || replica.superstep() % every != 0 {
+        return Ok(());
+    }
+    let snapshot = shared_snapshot(rt.alloc(), replica)?;
+    exchange.keep(rt, snapshot)?;
+    Ok(())
+}
+
+// What another partition is told of the superstep, as threads share it.
+fn shared_batch(
+    alloc: Global,
+    replica: &Replica,
+    changed: &ChangedRows,
+    target: u16,
+) -> Result<Arc<Batch>, AllocError>
+    requires target { target < replica.now.part.plan.parts }
+    requires other { target ≢ replica.now.part.number }
+    requires changed { AreChanged replica.now changed.now }
+    ensures { (j : Job) (p t : ℕ) → StandsFor j p t replica.now →
+        IfOk result (λ b. arc_value b ≡ true_batch j (batch_name t p target)) }
+{
+    Ok(Arc::new(alloc, replica.out_of(alloc, changed, target)?)?)
+}
+
+// Tells one other partition of the superstep.
+fn tell<R: AllocGlobal + Wait, E: Exchange, G: Gate>(
+    rt: &R,
+    exchange: &mut E,
+    gate: &G,
+    node: NodeId,
+    replica: &Replica,
+    changed: &ChangedRows,
+    target: u16,
+) -> Result<(), NodeError>
+    requires caller { IsCaller (E.caller exchange.old) }
+    requires stands { StandsIn (E.caller exchange.old) node.part replica.now }
+    requires target { target < (E.caller exchange.old).seen.job.plan.parts }
+    requires other { target ≢ node.part }
+    requires changed { AreChanged replica.now changed.now }
+    ensures seen { Extends (E.caller exchange.old) (E.caller exchange.new) }
+    ensures posted { OnOk result (HasPosted (E.caller exchange.old)
+        (batch_name replica.now.superstep node.part target) (E.caller exchange.new)) }
+    ensures came { OnOk result (HasCome (E.caller exchange.old) node.part (holding_in replica.now)
+        (holding_in replica.now) (E.caller exchange.new)) }
+    ensures gone { OnErr result (HasGone (E.caller exchange.old) node.part (holding_in replica.now)
+        (E.caller exchange.new)) }
+    ensures full { IfErr result (λ e. e ≡ BookFull → IsFull (E.caller exchange.new)) }
+{
+    let batch = shared_batch(rt.alloc(), replica, changed, target)?;
+    gate.before_post(node, replica.superstep());
+    exchange.post(rt, batch)?;
+    gate.after_post(node, replica.superstep());
+    Ok(())
+}
+
+// Tells every other partition of the superstep, where these are the rows that changed.
+fn tell_each<R: AllocGlobal + Wait, E: Exchange, G: Gate>(
+    rt: &R,
+    exchange: &mut E,
+    gate: &G,
+    node: NodeId,
+    replica: &Replica,
+    changed: &ChangedRows,
+) -> Result<(), NodeError>
+    requires caller { IsCaller (E.caller exchange.old) }
+    requires stands { StandsIn (E.caller exchange.old) node.part replica.now }
+    requires changed { AreChanged replica.now changed.now }
+    ensures seen { Extends (E.caller exchange.old) (E.caller exchange.new) }
+    ensures told { OnOk result (HasToldAll (E.caller exchange.old) replica.now.superstep node.part
+        (E.caller exchange.new)) }
+    ensures came { OnOk result (HasCome (E.caller exchange.old) node.part (holding_in replica.now)
+        (holding_in replica.now) (E.caller exchange.new)) }
+    ensures gone { OnErr result (HasGone (E.caller exchange.old) node.part (holding_in replica.now)
+        (E.caller exchange.new)) }
+    ensures full { IfErr result (λ e. e ≡ BookFull → IsFull (E.caller exchange.new)) }
+    ensures alone { (E.caller exchange.old).seen.job.plan.parts ≡ 1 → result ≢ Err BookFull }
+{
+    for target in 0..replica.plan().parts() {
+        if target != node.part {
+            tell(rt, exchange, gate, node, replica, changed, target)?;
+        }
+    }
+    Ok(())
+}
+
+// Tells every other partition of the superstep. The registers of the vertices that changed are copied once, into a
+// table that all batches share; a partition that is alone copies nothing.
+fn tell_all<R: AllocGlobal + Wait, E: Exchange, G: Gate>(
+    rt: &R,
+    exchange: &mut E,
+    gate: &G,
+    node: NodeId,
+    tables: &mut SharedTables,
+    replica: &Replica,
+) -> Result<(), NodeError>
+    requires caller { IsCaller (E.caller exchange.old) }
+    requires stands { StandsIn (E.caller exchange.old) node.part replica.now }
+    ensures seen { Extends (E.caller exchange.old) (E.caller exchange.new) }
+    ensures told { OnOk result (HasToldAll (E.caller exchange.old) replica.now.superstep node.part
+        (E.caller exchange.new)) }
+    ensures came { OnOk result (HasCome (E.caller exchange.old) node.part (holding_in replica.now)
+        (holding_in replica.now) (E.caller exchange.new)) }
+    ensures gone { OnErr result (HasGone (E.caller exchange.old) node.part (holding_in replica.now)
+        (E.caller exchange.new)) }
+    ensures full { IfErr result (λ e. e ≡ BookFull → IsFull (E.caller exchange.new)) }
+    ensures alone { (E.caller exchange.old).seen.job.plan.parts ≡ 1 → result ≢ Err BookFull }
+{
+    if replica.plan().parts() == 1 {
+        return Ok(());
+    }
+    let changed = tables.next(rt.alloc(), replica)?;
+    tell_each(rt, exchange, gate, node, replica, &changed)
+}
+
+// Where every superstep is kept, drops the batches that nobody needs any more.
+fn drop_old<R: Wait, E: Exchange>(
+    rt: &R,
+    exchange: &mut E,
+    every: u32,
+    superstep: u32,
+) -> Result<(), NodeError>
+    requires caller { IsCaller (E.caller exchange.old) }
+    ensures seen { Extends (E.caller exchange.old) (E.caller exchange.new) }
+    ensures came { (p : ℕ) (h : Holding) →
+        HasCome (E.caller exchange.old) p h h (E.caller exchange.new) }
+    ensures full { IfErr result (λ e. e ≡ BookFull → IsFull (E.caller exchange.new)) }
+    ensures never { every ≡ 0 → result ≢ Err BookFull }
+    ensures dropped { OnOk result (DropsBefore (E.caller exchange.old) superstep
+        (E.caller exchange.new)) }
+{
+    if every != 1 || superstep < 2 {
+        return Ok(());
+    }
+    exchange.drop_below(rt, superstep - 1)?;
+    Ok(())
+}
+
+// Idle turns, until the history is no longer of that length, or nothing can come from the source any more, or there
+// were so many of them; and whether it is. (Who ends has posted before: so the length is looked at once more.)
+fn has_grown<E: Exchange, G: Gate>(
+    exchange: &mut E,
+    gate: &G,
+    node: NodeId,
+    source: u16,
+    before: u64,
+    patience: u32,
+) -> bool
+    requires caller { IsCaller (E.caller exchange.old) }
+    ensures seen { Extends (E.caller exchange.old) (E.caller exchange.new) }
+    ensures nothing { CalledNothing (E.caller exchange.old) (E.caller exchange.new) }
+{
+    for _ in 0..patience {
+        let may_come = gate.wait_for(node, source);
+        if exchange.length() != before {
+            return true;
+        }
+        if !may_come {
+            return false;
+        }
+    }
+    false
+}
+
+// Finds the batch of a source, and takes it; and whether it is there.
+fn find<R: Wait, E: Exchange>(
+    rt: &R,
+    exchange: &mut E,
+    node: NodeId,
+    replica: &mut Replica,
+    source: u16,
+) -> Result<bool, NodeError>
+    requires caller { IsCaller (E.caller exchange.old) }
+    requires stands { StandsIn (E.caller exchange.old) node.part replica.old }
+    ensures seen { Extends (E.caller exchange.old) (E.caller exchange.new) }
+    ensures stands { OnOk result (StandsIn (E.caller exchange.old) node.part replica.new) }
+    ensures superstep { replica.new.superstep ≡ replica.old.superstep }
+    ensures missed { IfOk result (λ found. found ≡ false →
+        WasMissing (E.caller exchange.old)
+        (batch_name replica.old.superstep source node.part) (E.caller exchange.new)) }
+    ensures came { OnOk result (HasCome (E.caller exchange.old) node.part (holding_in replica.old)
+        (holding_in replica.new) (E.caller exchange.new)) }
+    ensures gone { OnErr result (HasGone (E.caller exchange.old) node.part (holding_in replica.old)
+        (E.caller exchange.new)) }
+    ensures full { IfErr result (λ e. e ≡ BookFull → IsFull (E.caller exchange.new)) }
+{
+    let name = BatchName {
+        superstep: replica.superstep(),
+        source,
+        target: node.part,
+    };
+    let Some(batch) = exchange.fetch(rt, name)? else {
+        return Ok(false);
+    };
+    let _ = replica.take(batch);
+    Ok(true)
+}
+
+// Takes what the others tell of the superstep, until the level is held, or a further snapshot is found, or it was
+// waited for a batch in vain.
+fn gather<R: AllocGlobal + Wait, E: Exchange, G: Gate>(
+    rt: &R,
+    exchange: &mut E,
+    gate: &G,
+    node: NodeId,
+    patience: u32,
+    replica: &mut Replica,
+) -> Result<Found, NodeError>
+    requires caller { IsCaller (E.caller exchange.old) }
+    requires stands { StandsIn (E.caller exchange.old) node.part replica.old }
+    ensures seen { Extends (E.caller exchange.old) (E.caller exchange.new) }
+    ensures stands { OnOk result (StandsIn (E.caller exchange.old) node.part replica.new) }
+    ensures found { IfOk result (λ found. IsFound (E.caller exchange.old) node.part
+        replica.old.superstep replica.new found (E.caller exchange.new)) }
+    ensures came { OnOk result (HasCome (E.caller exchange.old) node.part (holding_in replica.old)
+        (holding_in replica.new) (E.caller exchange.new)) }
+    ensures gone { OnErr result (HasGone (E.caller exchange.old) node.part (holding_in replica.old)
+        (E.caller exchange.new)) }
+    ensures full { IfErr result (λ e. e ≡ BookFull → IsFull (E.caller exchange.new)) }
+    ensures alone { (E.caller exchange.old).seen.job.plan.parts ≡ 1 → result ≢ Err BookFull }
+{
+    for _ in rt.forever() {
+        let Some(source) = replica.missing() else {
+            return Ok(Found::Level);
+        };
+        let length = exchange.length();
+        if find(rt, exchange, node, replica, source)? {
+            continue;
+        }
+        if catch_up(rt, exchange, node, replica.superstep() + 1, replica)? {
+            return Ok(Found::Further);
+        }
+        if !has_grown(exchange, gate, node, source, length, patience) {
+            return Ok(Found::Missed { source });
+        }
+    }
+    unreachable!()
+}
+
+// Goes on from a superstep whose level is held.
+fn close<G: Gate>(gate: &G, node: NodeId, replica: &mut Replica) -> SuperstepEnd
+    requires held { missing_in replica.old ≡ None }
+    ensures stands { (j : Job) (p t : ℕ) → StandsFor j p t replica.old →
+        StandsFor j p replica.new.superstep replica.new }
+    ensures held { (j : Job) (p t : ℕ) → StandsFor j p t replica.old →
+        holding_in replica.new ≡ held_after j (holding_in replica.old) Close }
+    ensures over { result ≡ superstep_end.Over → (replica.new ≡ replica.old)
+        × EndsRun (found_verdict replica.new) }
+    ensures kind { (result ≡ superstep_end.Next) ⊎ (result ≡ superstep_end.Over) }
+{
+    // the limits of a replica are told with its superstep
+    let _superstep = replica.superstep();
+    match replica.close() {
+        Ok(reached) => {
+            gate.after_close(node, reached, replica.changed_count());
+            SuperstepEnd::Next
+        }
+        Err(_) => SuperstepEnd::Over,
+    }
+}
+
+/// A superstep of a node: it keeps what it has, tells all others, takes what they tell, and goes on.
+pub fn run_superstep<R: AllocGlobal + Wait, E: Exchange, G: Gate>(
+    rt: &R,
+    exchange: &mut E,
+    gate: &G,
+    node: NodeId,
+    orders: &NodeOrders,
+    tables: &mut SharedTables,
+    replica: &mut Replica,
+) -> Result<SuperstepEnd, NodeError>
+    requires caller { IsCaller (E.caller exchange.old) }
+    requires stands { StandsIn (E.caller exchange.old) node.part replica.old }
+    ensures seen { Extends (E.caller exchange.old) (E.caller exchange.new) }
+    ensures stands { OnOk result (StandsIn (E.caller exchange.old) node.part replica.new) }
+    ensures end { IfOk result (λ end.
+        IsSuperstepEnd (E.caller exchange.old) node.part replica.new end (E.caller exchange.new)) }
+    ensures over { IfOk result (λ end. end ≡ superstep_end.Over →
+        replica.new.superstep ≡ replica.old.superstep) }
+    ensures came { OnOk result (HasCome (E.caller exchange.old) node.part (holding_in replica.old)
+        (holding_in replica.new) (E.caller exchange.new)) }
+    ensures gone { OnErr result (HasGone (E.caller exchange.old) node.part (holding_in replica.old)
+        (E.caller exchange.new)) }
+    ensures full { IfErr result (λ e. e ≡ BookFull → IsFull (E.caller exchange.new)) }
+    ensures alone { (E.caller exchange.old).seen.job.plan.parts ≡ 1 → orders.now.keep ≡ 0 →
+        result ≢ Err BookFull }
+{
+    keep_snapshot(rt, exchange, node, orders.keep, replica)?;
+    tell_all(rt, exchange, gate, node, tables, replica)?;
+    drop_old(rt, exchange, orders.keep, replica.superstep())?;
+    Ok(
+        match gather(rt, exchange, gate, node, orders.patience, replica)? {
+            Found::Level => close(gate, node, replica),
+            Found::Further => SuperstepEnd::Next,
+            Found::Missed { source } => SuperstepEnd::Starved { source },
+        },
+    )
+}
