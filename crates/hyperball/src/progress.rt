@@ -1,8 +1,8 @@
 //! What is told of how a command gets on, where that is asked for.
 //!
-//! [`Faults`] hands out a [`Teller`], which tells lines of progress ([`Told`]) and nothing else, and takes it back. Of
-//! a run [`Progress`] says what is told, and its [`TellingGate`] says when; a replay, a node and a gathering have a
-//! [`TellingWatch`].
+//! Where faults go, [`LendTeller`] hands out a [`Teller`], which tells lines of progress ([`Told`]) and nothing else, and
+//! takes it back. Of a run [`RunProgress`] says what is told, and its [`TellingGate`] says when; a replay, a node and a
+//! gathering have a [`TellingWatch`].
 
 ghost use Rattle.std.specs.Prelude.{◌≡◌, List, None, Option, ℕ};
 ghost use Rattle.hyperball.specs.Progress.{TellsProgress};
@@ -30,7 +30,7 @@ impl Teller for Stderr {
 }
 
 /// Where faults are told, and progress where it is asked for.
-pub trait Faults: Write {
+pub trait LendTeller: Write {
     /// What tells progress there, from any thread.
     type Teller: Teller + Sync + Drop;
 
@@ -49,7 +49,7 @@ pub trait Faults: Write {
             TellsProgress before (Self.contents self.new) };
 }
 
-impl Faults for Stderr {
+impl LendTeller for Stderr {
     type Teller = Stderr;
 
     // No contract knows what stands there.
@@ -82,7 +82,7 @@ impl Superstep {
 /// Tells how a run gets on: its edge list, where its supersteps begin, each that all partitions have come to, and the
 /// report.
 #[derive(Drop)]
-pub struct Progress<'a, T> {
+pub struct RunProgress<'a, T> {
     teller: &'a T,
     // how many vertices the graph has, once it is read
     vertices: AtomicU32,
@@ -96,10 +96,10 @@ pub struct Progress<'a, T> {
     supersteps: Vec<Superstep>,
 }
 
-impl<'a, T: Teller> Progress<'a, T> {
+impl<'a, T: Teller> RunProgress<'a, T> {
     /// Nothing is told yet, of a run of so many partitions. The error is that memory was refused.
-    pub fn new(alloc: Global, teller: &'a T, parts: u16) -> Result<Progress<'a, T>, AllocError> {
-        Ok(Progress {
+    pub fn new(alloc: Global, teller: &'a T, parts: u16) -> Result<RunProgress<'a, T>, AllocError> {
+        Ok(RunProgress {
             teller,
             vertices: AtomicU32::new(0),
             started: AtomicU32::new(0),
@@ -178,7 +178,7 @@ fn no_supersteps(alloc: Global) -> Result<Vec<Superstep>, AllocError> {
 #[derive(Drop)]
 pub struct TellingGate<'a, C, T> {
     sleeping: SleepingGate<'a, C>,
-    progress: Option<Progress<'a, T>>,
+    progress: Option<RunProgress<'a, T>>,
 }
 
 impl<'a, C: Clock, T: Teller> TellingGate<'a, C, T> {
@@ -190,7 +190,7 @@ impl<'a, C: Clock, T: Teller> TellingGate<'a, C, T> {
         parts: u16,
     ) -> Result<TellingGate<'a, C, T>, AllocError> {
         let progress = match teller {
-            Some(teller) => Some(Progress::new(alloc, teller, parts)?),
+            Some(teller) => Some(RunProgress::new(alloc, teller, parts)?),
             None => None,
         };
         Ok(TellingGate {

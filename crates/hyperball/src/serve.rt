@@ -39,7 +39,7 @@ use crate::node_words::{GatherWords, NodeWords};
 use crate::nodes::{gather_by, node_by};
 use crate::options::run_options;
 use crate::orders::OrdersError;
-use crate::progress::{Faults, Teller, TellingGate};
+use crate::progress::{LendTeller, Teller, TellingGate};
 use crate::replay_words::ReplayWords;
 use crate::replaying::replay_by;
 use crate::whole::{WholeError, read_whole, sections};
@@ -393,7 +393,7 @@ fn run<
 }
 
 // What tells progress, where it is asked for.
-fn teller_for<F: Faults>(asked: bool, faults: &mut F) -> Option<F::Teller>
+fn teller_for<F: LendTeller>(asked: bool, faults: &mut F) -> Option<F::Teller>
     ensures silent { asked ≡ false → result ≡ None }
     ensures lent { Awaits F.has_lent F.contents faults.new result (F.contents faults.old) }
 {
@@ -401,7 +401,7 @@ fn teller_for<F: Faults>(asked: bool, faults: &mut F) -> Option<F::Teller>
 }
 
 // Takes back what told progress, where it was handed out.
-fn end_telling<F: Faults>(teller: Option<F::Teller>, faults: &mut F)
+fn end_telling<F: LendTeller>(teller: Option<F::Teller>, faults: &mut F)
     ensures silent { teller ≡ None → Keeps (F.contents faults.old) (F.contents faults.new) }
     ensures told { (before : Option (List ℕ)) →
         Awaits F.has_lent F.contents faults.old teller before →
@@ -417,7 +417,7 @@ fn serve_run<
     H: AllocGlobal + Clock + RandomSource + Threads + Wait + Sync,
     R: CountedRead,
     W: CountedWrite,
-    F: Faults,
+    F: LendTeller,
 >(rt: &H, said: Said, reader: &mut R, writer: &mut W, faults: &mut F) -> u8
     ensures status { (result ≡ 0) ⊎ (result ≡ 1) }
     ensures done { result ≡ 0 →
@@ -441,7 +441,7 @@ fn serve_run<
 }
 
 // The status of a replay, whose fault is told.
-fn serve_replay<H: AllocGlobal + RandomSource, R: CountedRead, W: CountedWrite, F: Faults>(
+fn serve_replay<H: AllocGlobal + RandomSource, R: CountedRead, W: CountedWrite, F: LendTeller>(
     rt: &H,
     words: &ReplayWords,
     reader: &mut R,
@@ -469,7 +469,7 @@ fn serve_replay<H: AllocGlobal + RandomSource, R: CountedRead, W: CountedWrite, 
 }
 
 // The status of a node, whose fault is told.
-fn serve_node<H: AllocGlobal + RandomSource, R: CountedRead, W: CountedWrite, F: Faults>(
+fn serve_node<H: AllocGlobal + RandomSource, R: CountedRead, W: CountedWrite, F: LendTeller>(
     rt: &H,
     words: &NodeWords,
     reader: &mut R,
@@ -503,7 +503,7 @@ fn serve_gather<
     H: AllocGlobal + RandomSource + Threads + Sync,
     R: CountedRead,
     W: CountedWrite,
-    F: Faults,
+    F: LendTeller,
 >(rt: &H, words: &GatherWords, reader: &mut R, writer: &mut W, faults: &mut F) -> u8
     ensures status { (result ≡ 0) ⊎ (result ≡ 1) }
     ensures done { result ≡ 0 → GathersJob
@@ -536,7 +536,7 @@ fn serve_wish<
     H: AllocGlobal + Clock + RandomSource + Threads + Wait + Sync,
     R: CountedRead,
     W: CountedWrite,
-    F: Faults,
+    F: LendTeller,
 >(rt: &H, wish: Wish, reader: &mut R, writer: &mut W, faults: &mut F) -> u8
     ensures status { (result ≡ 0) ⊎ (result ≡ 1) }
     ensures run { (w : Run) → SaysRun w wish → result ≡ 0 →
@@ -600,7 +600,7 @@ pub fn serve<
     H: AllocGlobal + Clock + RandomSource + Threads + Wait + Sync,
     R: CountedRead,
     W: CountedWrite,
-    F: Faults,
+    F: LendTeller,
 >(rt: &H, words: &[String], reader: &mut R, writer: &mut W, faults: &mut F) -> u8
     ensures run { (w : Run) → IsRun (texts_of words.now) w → result ≡ 0 →
         Serves w (R.remaining reader.old) W.contents writer.old writer.new }

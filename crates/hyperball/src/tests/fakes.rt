@@ -4,7 +4,7 @@
 ghost use Rattle.std.specs.Prelude.{◌≡◌, None};
 
 use super::{Flow, NO_MEMORY, Pieces};
-use crate::progress::{Faults, Teller};
+use crate::progress::{LendTeller, Teller};
 use crate::told::Told;
 use std::io;
 use std::io::{ErrorKind, Read, Write};
@@ -276,7 +276,7 @@ impl<'a> Write for Heard<'a> {
     }
 }
 
-impl<'a> Faults for Heard<'a> {
+impl<'a> LendTeller for Heard<'a> {
     type Teller = &'a Lines;
 
     ghost has_lent = { λ _ _ before. before ≡ None };
