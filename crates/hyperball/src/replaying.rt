@@ -10,7 +10,6 @@ ghost use Rattle.hyperball.specs.Whole.{IsLong, ReadsFew};
 ghost use Rattle.hyperball.specs.declared.replaying.ReplayFault.{ReplayFault as Fault};
 ghost use Rattle.hyperball.specs.declared.whole.WholeError.{WholeError as NoInput};
 ghost use Rattle.node.specs.declared.limits.TheConstants.{MOST_BYTES};
-ghost use Rattle.world.specs.declared.replay.ReplayError.{ReplayError as NoAnswers};
 
 use crate::progress::{Teller, TellingWatch};
 use crate::replay_words::ReplayWords;

@@ -112,7 +112,6 @@ impl From<AllocError> for RunError {
 }
 
 impl From<JobError> for RunError {
-    ghost use Rattle.std.specs.Prelude.{◌≡◌};
     ghost use Rattle.workers.specs.Run.{job_fault};
 
     ghost from_gives = { λ fault e. e ≡ job_fault fault };

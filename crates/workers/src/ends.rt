@@ -40,7 +40,6 @@ pub enum JobError {
 }
 
 impl From<AllocError> for JobError {
-    ghost use Rattle.std.specs.Prelude.{◌≡◌};
     ghost use Rattle.workers.specs.declared.ends.JobError.TheVariants.{Memory};
 
     ghost from_gives = { λ _ e. e ≡ Memory };

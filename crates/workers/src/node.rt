@@ -1,6 +1,6 @@
 //! One node: a replica of a partition, from superstep 0 to its end.
 
-ghost use Rattle.std.specs.Prelude.{◌≡◌, ◌≢◌, ◌<◌, ◌≤◌, ℕ, true, false, IfOk, OnErr, OnOk, IfErr};
+ghost use Rattle.std.specs.Prelude.{◌≡◌, ◌≢◌, ◌<◌, ℕ, true, false, IfOk, OnErr, OnOk, IfErr};
 ghost use Rattle.std.specs.Prelude.{Err, None};
 ghost use Rattle.std.specs.Arc.{arc_value};
 ghost use Rattle.ball_model.specs.History.{holding_in};
@@ -62,7 +62,6 @@ pub enum NodeError {
 }
 
 impl From<BoardError> for NodeError {
-    ghost use Rattle.std.specs.Prelude.{◌≡◌};
     ghost use Rattle.workers.specs.Node.{node_error};
 
     ghost from_gives = { λ fault e. e ≡ node_error fault };
@@ -76,9 +75,6 @@ impl From<BoardError> for NodeError {
 }
 
 impl From<AllocError> for NodeError {
-    ghost use Rattle.std.specs.Prelude.{◌≡◌};
-    ghost use Rattle.workers.specs.declared.node.NodeError.TheVariants.{Memory};
-
     ghost from_gives = { λ _ e. e ≡ Memory };
 
     fn from(_fault: AllocError) -> NodeError {
