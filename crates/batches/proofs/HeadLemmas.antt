@@ -32,10 +32,10 @@ pub field_2 : (at : ℕ) (bytes : List ℕ) → at + 2 ≤ length bytes → IsBy
 field_2 at bytes long fits = be_bytes_2 (take 2 (drop at bytes)) _ (omega (arith, length-take 2 (drop at bytes), length-drop at bytes)) (IsBytes-take 2 (drop at bytes) (IsBytes-drop at bytes fits)) refl
 
 -- a field and what follows it
-four : (at : ℕ) (bytes : List ℕ) → at + 4 ≤ length bytes → IsBytes bytes → drop at bytes ≡ to_be_bytes w32 (field w32 at bytes) ++ drop (at + 4) bytes
+pub four : (at : ℕ) (bytes : List ℕ) → at + 4 ≤ length bytes → IsBytes bytes → drop at bytes ≡ to_be_bytes w32 (field w32 at bytes) ++ drop (at + 4) bytes
 four at bytes long fits = split at 4 bytes ∙ ap (λ (t : List ℕ). t ++ drop (at + 4) bytes) (sym (field_4 at bytes long fits))
 
-two : (at : ℕ) (bytes : List ℕ) → at + 2 ≤ length bytes → IsBytes bytes → drop at bytes ≡ to_be_bytes w16 (field w16 at bytes) ++ drop (at + 2) bytes
+pub two : (at : ℕ) (bytes : List ℕ) → at + 2 ≤ length bytes → IsBytes bytes → drop at bytes ≡ to_be_bytes w16 (field w16 at bytes) ++ drop (at + 2) bytes
 two at bytes long fits = split at 2 bytes ∙ ap (λ (t : List ℕ). t ++ drop (at + 2) bytes) (sym (field_2 at bytes long fits))
 
 -- the fixed fields as bytes, one field after another, and what follows them

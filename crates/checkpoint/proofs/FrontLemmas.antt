@@ -14,15 +14,11 @@ use Rattle.checkpoint.specs.declared.header.CheckpointHeader.{CheckpointHeader}
 use Rattle.checkpoint.specs.declared.error.KeepError.{KeepError}
 use Rattle.checkpoint.specs.declared.error.KeepError.TheVariants as errors
 use Rattle.ball_model.specs.Checks.{◌>>=◌}
+use Rattle.ball_model.proofs.CheckLemmas.{guard_ok}
 use Rattle.checkpoint.specs.Reading.{body_form, check_checkpoint_head, content_form, followed, checkpoint_head_at, needs, told_body}
 use Rattle.checkpoint.proofs.ReaderLemmas.{followed-err, needs-err, needs-ok, same_bytes}
 
 -- ---- checks that pass
--- a check that passes, and what follows it
-goes_on : {A : Type 0} (b : Bool) (d : KeepError) (r : Result A KeepError) (y : A) → (if b then Err d else r) ≡ Ok y → (b ≡ false) × (r ≡ Ok y)
-goes_on true d r y e = absurd cc
-goes_on false d r y e = (refl, e)
-
 same : (a b : ℕ) → not (a == b) ≡ false → a ≡ b
 same a b e = eqb-true a b (not-false (a == b) e)
 
@@ -60,14 +56,14 @@ record IsHead (part : PartValue) (h : CheckpointHeader) : Type 0 where
 head_passed : (part : PartValue) (h : CheckpointHeader) → check_checkpoint_head part h ≡ Ok tt → IsHead part h
 unfolding check_checkpoint_head
 head_passed part h e =
-    let a = goes_on _ errors.Magic _ tt e in
-    let b = goes_on _ errors.Version _ tt a.1 in
-    let c = goes_on _ errors.OtherJob _ tt b.1 in
-    let d = goes_on _ errors.OtherPart _ tt c.1 in
-    let f = goes_on _ errors.Shape _ tt d.1 in
-    let g = goes_on _ errors.Shape _ tt f.1 in
-    let i = goes_on _ errors.Shape _ tt g.1 in
-    let j = goes_on _ errors.Shape _ tt i.1 in
+    let a = guard_ok _ errors.Magic _ tt e in
+    let b = guard_ok _ errors.Version _ tt a.1 in
+    let c = guard_ok _ errors.OtherJob _ tt b.1 in
+    let d = guard_ok _ errors.OtherPart _ tt c.1 in
+    let f = guard_ok _ errors.Shape _ tt d.1 in
+    let g = guard_ok _ errors.Shape _ tt f.1 in
+    let i = guard_ok _ errors.Shape _ tt g.1 in
+    let j = guard_ok _ errors.Shape _ tt i.1 in
     record {
       magic = same h.magic 0x4842434b a.0;
       job = same_bytes h.job part.plan.job (not-false (bytes_eq h.job part.plan.job) c.0);
@@ -131,8 +127,8 @@ either false b e = inr (not-false b e)
 pub one_or_two : (part : PartValue) (h : CheckpointHeader) → check_checkpoint_head part h ≡ Ok tt → (h.version ≡ 1) ⊎ (h.version ≡ 2)
 unfolding check_checkpoint_head
 one_or_two part h e =
-    let a = goes_on _ errors.Magic _ tt e in
-    let b = goes_on _ errors.Version _ tt a.1 in
+    let a = guard_ok _ errors.Magic _ tt e in
+    let b = guard_ok _ errors.Version _ tt a.1 in
     elim (either (h.version == 1) (h.version == 2) b.0) [
       | inl one ↦ inl (eqb-true h.version 1 one)
       | inr two ↦ inr (eqb-true h.version 2 two)

@@ -85,8 +85,3 @@ hashes_then a b c xs ys p q m h = subst (λ (l : List ℕ). Holds256 c l) (appen
 
 pub hashes_none : (a : Sha256) → Hashes a a []
 hashes_none a m h = subst (λ (l : List ℕ). Holds256 a l) (sym (append-nil m)) h
-
--- ---- answers
-pub on_err : {T E P : Type 0} (r : Result T E) → P → OnErr r P
-on_err (Ok x) p = tt
-on_err (Err e) p = p

@@ -37,7 +37,7 @@ impl Model for Early {
 
     ghost view = { λ e. table_of e.parts (map (option_map arc_value) e.slots.items) };
 
-    ghost invariant = { λ e. length e.slots.items ≡ 3 * e.parts };
+    ghost invariant = { λ e. length e.slots.items ≡ LEVELS * e.parts };
 }
 
 impl Early {
@@ -83,7 +83,7 @@ impl Early {
 
     /// Keeps the batch of a source.
     pub fn keep(&mut self, level: usize, source: u16, batch: Arc<Batch>)
-        requires level { level < 3 }
+        requires level { level < LEVELS }
         requires source { (parts : ℕ) → IsTable parts self.old → source < parts }
         ensures { KeepsAlso level source (arc_value batch) self.old self.new }
     {
@@ -93,7 +93,7 @@ impl Early {
 
     /// So many supersteps go, and the others come nearer.
     pub fn shift(&mut self, count: usize)
-        requires { count ≤ 3 }
+        requires { count ≤ LEVELS }
         ensures { ComesNearer count self.old self.new }
     {
         shift_slots(&mut self.slots, count * self.parts);

@@ -2,6 +2,7 @@
 
 ghost use Rattle.std.specs.Prelude.{◌≡◌, ◌↔◌, ℕ, ◌+◌, ◌^◌, ◌<◌, ◌≤◌, map, length, slice_index_or, IsTrue};
 ghost use Rattle.std.specs.Arc.{arc_value};
+ghost use Rattle.ball_model.specs.declared.plan.TheConstants.{GREATEST_RANK};
 ghost use Rattle.replica.specs.Kept.{AreCounters, AllRise, AreSources, AreSums};
 ghost use Rattle.replica.specs.Saved.{AreOfWidth, Fits, HasRows, HasFigures, HasHeard, MayKeep};
 ghost use Rattle.replica.specs.Saved.{MayBeKept};
@@ -9,7 +10,7 @@ ghost use Rattle.replica.specs.Saved.{MayBeKept};
 use crate::level::sum_of_lasts;
 use crate::step::is_same;
 use ball_model::Plan;
-use ball_model::plan::MOST_PARTS;
+use ball_model::plan::{GREATEST_RANK, MOST_PARTS};
 use batches::Batch;
 use edgelist::Part;
 use figures::{Tally, are_last};
@@ -103,7 +104,7 @@ impl Saved {
     }
 }
 
-// Whether each row has registers of at most 33.
+// Whether each row has registers of at most the greatest rank.
 fn are_counters(rows: &Rows, plan: &Plan) -> bool
     requires { rows.now.width ≡ 2 ^ plan.now.log2m }
     ensures { IsTrue result ↔ AreCounters plan.now.log2m rows.now.rows }
@@ -111,7 +112,7 @@ fn are_counters(rows: &Rows, plan: &Plan) -> bool
     // the limits of a plan are told with its number of registers
     let _log2m = plan.log2m();
     for i in 0..rows.len() {
-        if !rows.row(i).iter().all(|rank| *rank <= 33) {
+        if !rows.row(i).iter().all(|rank| *rank <= GREATEST_RANK) {
             return false;
         }
     }
@@ -175,10 +176,10 @@ fn rises(row: &[u8], accumulated: &[u8]) -> bool
     requires { length accumulated.now ≡ length row.now }
     ensures { IsTrue result ↔ ((k : ℕ) → k < length row.now →
         (slice_index_or row.now k 0 ≤ slice_index_or accumulated.now k 0)
-        × (slice_index_or accumulated.now k 0 ≤ 33)) }
+        × (slice_index_or accumulated.now k 0 ≤ GREATEST_RANK)) }
 {
     for k in 0..row.len() {
-        if accumulated[k] < row[k] || 33 < accumulated[k] {
+        if accumulated[k] < row[k] || GREATEST_RANK < accumulated[k] {
             return false;
         }
     }

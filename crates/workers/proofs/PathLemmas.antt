@@ -66,10 +66,6 @@ unfolding after_steps AreOwnSteps calls_among
 come_anew v p h d is = record { steps = StartsAnew ∷ []; own = (tt, tt); calls = sym (append-nil (calls_by v.number v.seen)); held = is }
 
 -- ---- what is said where a call is refused
-pub on_err : {T E P : Type 0} (r : Result T E) → P → OnErr r P
-on_err (Ok x) h = tt
-on_err (Err e) h = h
-
 pub ok_is_no_err : {T E : Type 0} (x : T) (e : E) → ◌≡◌ {A = Result T E} (Ok x) (Err e) → ⊥
 ok_is_no_err x e h = absurd (cc)
 

@@ -1,6 +1,6 @@
 use Rattle.std.proofs.lemmas.Result.{on_ok_weaker, on_err_weaker}
 use Rattle.checkpoint.proofs.TextLemmas.{batch_is}
-use Rattle.checkpoint.proofs.WriteLemmas.{on_err}
+use Rattle.ball_model.proofs.CheckLemmas.{on_err}
 use Rattle.checkpoint.proofs.SpoolLemmas.{passes_next, stops_front, stops_behind}
 use Rattle.checkpoint.proofs.write.keep_batch.Goals as goal
 

@@ -4,7 +4,7 @@ use Rattle.ball_model.specs.Batches.{BatchValue}
 use Rattle.replica.proofs.SavedLemmas.Rebuilt.{kept_are}
 use Rattle.std.specs.List.{flat_map}
 use Rattle.ball_model.specs.Checkpoint.{early_bytes, kept_batches}
-use Rattle.checkpoint.proofs.WriteLemmas.{on_err}
+use Rattle.ball_model.proofs.CheckLemmas.{on_err}
 use Rattle.checkpoint.proofs.SpoolLemmas.{passes_as, passes_none, passes_next, stops_next}
 use Rattle.checkpoint.proofs.TextLemmas.{early_more, early_split}
 use Rattle.checkpoint.proofs.write.keep_early.Goals as goal

@@ -5,7 +5,7 @@ use Rattle.ball_model.specs.Checkpoint.{early_bytes, kept_batches}
 use Rattle.checkpoint.specs.Parts.{heard_bytes, count_bytes}
 use Rattle.checkpoint.specs.Spooled.{waiting}
 use Rattle.checkpoint.proofs.TextLemmas.{held_is}
-use Rattle.checkpoint.proofs.WriteLemmas.{on_err}
+use Rattle.ball_model.proofs.CheckLemmas.{on_err}
 use Rattle.checkpoint.proofs.SpoolLemmas.{passes_then, passes_next, stops_before, stops_after, stops_front, stops_behind}
 use Rattle.checkpoint.proofs.write.keep_held.Goals as goal
 

@@ -2,7 +2,7 @@ use Rattle.std.proofs.Common.{◌++◌, refl}
 use Rattle.std.proofs.lemmas.Result.{on_ok_weaker, on_err_weaker}
 use Rattle.ball_model.specs.Checkpoint.{front_bytes, table_bytes, held_bytes}
 use Rattle.checkpoint.specs.Spooled.{waiting}
-use Rattle.checkpoint.proofs.WriteLemmas.{on_err}
+use Rattle.ball_model.proofs.CheckLemmas.{on_err}
 use Rattle.checkpoint.proofs.SpoolLemmas.{passes_then, passes_next, stops_before, stops_after, stops_front, stops_behind}
 use Rattle.checkpoint.proofs.write.keep_replica.Goals as goal
 

@@ -2,7 +2,7 @@ use Rattle.std.proofs.Common.{[], ◌<◌, ◌≤◌, length, ap, arith}
 use Rattle.std.specs.List.{flat_map}
 use Rattle.std.proofs.lemmas.List.{take_all}
 use Rattle.ball_model.specs.Batches.{row_bytes}
-use Rattle.checkpoint.proofs.WriteLemmas.{on_err}
+use Rattle.ball_model.proofs.CheckLemmas.{on_err}
 use Rattle.checkpoint.proofs.SpoolLemmas.{passes_as, passes_none, stops_as, passes_piece, stops_piece}
 use Rattle.checkpoint.proofs.TextLemmas.{row_is}
 use Rattle.checkpoint.proofs.write.keep_rows.Goals as goal

@@ -1,5 +1,5 @@
 use Rattle.std.proofs.lemmas.Result.{on_ok_weaker, on_err_weaker}
-use Rattle.checkpoint.proofs.WriteLemmas.{on_err}
+use Rattle.ball_model.proofs.CheckLemmas.{on_err}
 use Rattle.checkpoint.proofs.SpoolLemmas.{writes_sealed, stops_sealed, stops_unsealed}
 use Rattle.ball_model.specs.Checkpoint.{checkpoint_bytes}
 use Rattle.checkpoint.proofs.write.keep_sealed.Goals as goal

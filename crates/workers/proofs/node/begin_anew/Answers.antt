@@ -1,5 +1,6 @@
 use Rattle.std.proofs.Common.{refl, sym}
-use Rattle.workers.proofs.PathLemmas.{come_anew, come_then, gone_nowhere, gone_then, on_err}
+use Rattle.ball_model.proofs.CheckLemmas.{on_err}
+use Rattle.workers.proofs.PathLemmas.{come_anew, come_then, gone_nowhere, gone_then}
 use Rattle.workers.proofs.SeenLemmas.{extends_self}
 use Rattle.workers.proofs.SuperstepLemmas.{stands_at}
 use Rattle.workers.proofs.node.begin_anew.Goals as goal

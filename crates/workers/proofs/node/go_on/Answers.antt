@@ -5,7 +5,8 @@ use Rattle.ball_model.specs.Job.{Job}
 use Rattle.workers.specs.declared.superstep.SuperstepEnd.{SuperstepEnd}
 use Rattle.workers.specs.Node.{FallsDue}
 use Rattle.workers.specs.Superstep.{HasStarved, IsSuperstepEnd}
-use Rattle.workers.proofs.PathLemmas.{come_nowhere, come_then, err_not_as, gone_then, ok_is_no_err, on_err}
+use Rattle.ball_model.proofs.CheckLemmas.{on_err}
+use Rattle.workers.proofs.PathLemmas.{come_nowhere, come_then, err_not_as, gone_then, ok_is_no_err}
 use Rattle.workers.proofs.SeenLemmas.{caller_of, extends_self, extends_trans, starved_before, told_before}
 use Rattle.workers.proofs.SuperstepLemmas.{done_of, part_later, stands_back, stands_later}
 use Rattle.workers.proofs.node.go_on.Goals as goal

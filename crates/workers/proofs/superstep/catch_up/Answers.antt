@@ -6,7 +6,8 @@ use Rattle.ball_model.specs.State.{State}
 use Rattle.replica.specs.Merged.{Absorbs}
 use Rattle.replica.specs.Seen.{IsState}
 use Rattle.replica.proofs.LevelLemmas.Level.{number_is}
-use Rattle.workers.proofs.PathLemmas.{come_nowhere, gone_nowhere, gone, on_err, come_by_call, held_merged}
+use Rattle.ball_model.proofs.CheckLemmas.{on_err}
+use Rattle.workers.proofs.PathLemmas.{come_nowhere, gone_nowhere, gone, come_by_call, held_merged}
 use Rattle.workers.proofs.superstep.catch_up.Goals as goal
 
 pub returns-in_err-snapshot-clause-gone : goal.returns-in_err-snapshot-clause-gone

@@ -2,7 +2,8 @@ use Rattle.std.proofs.lemmas.Option.{MatchOption-at_none, MatchOption-at_some}
 use Rattle.std.specs.Arc.{arc_value}
 use Rattle.ball_model.specs.History.{holding_in}
 use Rattle.workers.proofs.SuperstepLemmas.{taken_stands}
-use Rattle.workers.proofs.PathLemmas.{come_nowhere, gone_nowhere, on_err, come_by_call, own_take}
+use Rattle.ball_model.proofs.CheckLemmas.{on_err}
+use Rattle.workers.proofs.PathLemmas.{come_nowhere, gone_nowhere, come_by_call, own_take}
 use Rattle.workers.proofs.superstep.find.Goals as goal
 
 pub returns-clause-stands : goal.returns-clause-stands

@@ -4,7 +4,8 @@ use Rattle.ball_model.specs.Caller.{Caller}
 use Rattle.ball_model.specs.State.{State}
 use Rattle.replica.specs.Sent.{batch_name}
 use Rattle.workers.specs.Node.{WasMissing}
-use Rattle.workers.proofs.PathLemmas.{come_nowhere, come_past, come_then, gone_then, ok_is_no_err, on_err}
+use Rattle.ball_model.proofs.CheckLemmas.{on_err}
+use Rattle.workers.proofs.PathLemmas.{come_nowhere, come_past, come_then, gone_then, ok_is_no_err}
 use Rattle.workers.proofs.SeenLemmas.{caller_of, extends_self, extends_trans, missing_before, missing_later}
 use Rattle.workers.proofs.SuperstepLemmas.{missing_source, no_other, stands_back, stands_later}
 use Rattle.workers.proofs.superstep.gather.Goals as goal

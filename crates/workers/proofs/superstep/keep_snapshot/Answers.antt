@@ -1,7 +1,8 @@
 use Rattle.std.proofs.Common.{refl, ap, sym}
 use Rattle.workers.proofs.SuperstepLemmas.{same_stands}
 use Rattle.ball_model.specs.History.{holding_in}
-use Rattle.workers.proofs.PathLemmas.{come_nowhere, gone_nowhere, on_err, come_by_call}
+use Rattle.ball_model.proofs.CheckLemmas.{on_err}
+use Rattle.workers.proofs.PathLemmas.{come_nowhere, gone_nowhere, come_by_call}
 use Rattle.workers.proofs.superstep.keep_snapshot.Goals as goal
 
 pub keep-requires : goal.keep-requires

@@ -6,7 +6,8 @@ use Rattle.ball_model.specs.State.{State}
 use Rattle.workers.specs.declared.superstep.Found.{Found}
 use Rattle.workers.specs.Node.{HasToldAll}
 use Rattle.workers.specs.Superstep.{HasStarved, IsFound, StandsIn}
-use Rattle.workers.proofs.PathLemmas.{come_by_close, come_then, err_not_as, gone, gone_then, ok_is_no_err, on_err}
+use Rattle.ball_model.proofs.CheckLemmas.{on_err}
+use Rattle.workers.proofs.PathLemmas.{come_by_close, come_then, err_not_as, gone, gone_then, ok_is_no_err}
 use Rattle.workers.proofs.SeenLemmas.{caller_of, extends_trans, told_between, waiting_before}
 use Rattle.ball_model.specs.History.{holding_in}
 use Rattle.workers.proofs.SuperstepLemmas.{closed_end, stands_back, stands_later}

@@ -1,7 +1,8 @@
 use Rattle.std.proofs.Common.{◌∙◌, refl}
 use Rattle.replica.proofs.LevelLemmas.Level.{number_is}
 use Rattle.workers.proofs.SuperstepLemmas.{below_plan, true_shared, told_by_call}
-use Rattle.workers.proofs.PathLemmas.{gone_nowhere, on_err, come_by_call, own_post}
+use Rattle.ball_model.proofs.CheckLemmas.{on_err}
+use Rattle.workers.proofs.PathLemmas.{gone_nowhere, come_by_call, own_post}
 use Rattle.workers.proofs.superstep.tell.Goals as goal
 
 pub shared_batch-requires-clause-target : goal.shared_batch-requires-clause-target

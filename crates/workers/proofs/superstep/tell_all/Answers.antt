@@ -1,7 +1,8 @@
 use Rattle.std.proofs.Common.{ap, arith, refl}
 use Rattle.ball_model.specs.PlanValue.{PlanValue}
 use Rattle.replica.proofs.LevelLemmas.Level.{plan_is}
-use Rattle.workers.proofs.PathLemmas.{come_nowhere, gone_nowhere, on_err}
+use Rattle.ball_model.proofs.CheckLemmas.{on_err}
+use Rattle.workers.proofs.PathLemmas.{come_nowhere, gone_nowhere}
 use Rattle.workers.proofs.SuperstepLemmas.{no_other}
 use Rattle.workers.proofs.superstep.tell_all.Goals as goal
 

@@ -7,7 +7,8 @@ use Rattle.workers.specs.Node.{HasPosted}
 use Rattle.ball_model.specs.History.{holding_in}
 use Rattle.ball_model.specs.Join.{Holding}
 use Rattle.workers.specs.Tie.{HasCome}
-use Rattle.workers.proofs.PathLemmas.{come_nowhere, come_then, gone_then, ok_is_no_err, on_err}
+use Rattle.ball_model.proofs.CheckLemmas.{on_err}
+use Rattle.workers.proofs.PathLemmas.{come_nowhere, come_then, gone_then, ok_is_no_err}
 use Rattle.workers.proofs.SeenLemmas.{caller_of, extends_self, extends_trans, told_more}
 use Rattle.workers.proofs.SuperstepLemmas.{below_job, below_later, below_plan, no_other, stands_later}
 use Rattle.workers.proofs.superstep.tell_each.Goals as goal

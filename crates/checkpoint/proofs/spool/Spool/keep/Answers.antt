@@ -1,5 +1,6 @@
 use Rattle.std.proofs.lemmas.Result.{on_ok_weaker, on_err_weaker}
-use Rattle.checkpoint.proofs.WriteLemmas.{on_err, stops_first, stops_then}
+use Rattle.ball_model.proofs.CheckLemmas.{on_err}
+use Rattle.checkpoint.proofs.WriteLemmas.{stops_first, stops_then}
 use Rattle.checkpoint.proofs.SpoolLemmas.{passes_all, passes_put, passes_waiting}
 use Rattle.checkpoint.proofs.spool.Spool.keep.Goals as goal
 

@@ -1,7 +1,7 @@
 use Rattle.std.proofs.Common.{ap, arith}
 use Rattle.std.specs.List.{flat_map}
 use Rattle.std.proofs.lemmas.List.{take_all}
-use Rattle.checkpoint.proofs.WriteLemmas.{on_err}
+use Rattle.ball_model.proofs.CheckLemmas.{on_err}
 use Rattle.checkpoint.proofs.SpoolLemmas.{passes_as, passes_none, passes_piece, stops_piece}
 use Rattle.checkpoint.proofs.spool.Spool.keep_all.Goals as goal
 

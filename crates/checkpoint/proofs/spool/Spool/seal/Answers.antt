@@ -3,7 +3,8 @@ use Rattle.std.proofs.lemmas.Result.{on_ok_weaker, on_err_weaker}
 use Rattle.sha2.specs.Sha256.{sha256}
 use Rattle.checkpoint.specs.Writing.{Writes, StopsWriting}
 use Rattle.checkpoint.specs.Spooled.{waiting}
-use Rattle.checkpoint.proofs.WriteLemmas.{on_err, stops_first, stops_then, writes_then}
+use Rattle.ball_model.proofs.CheckLemmas.{on_err}
+use Rattle.checkpoint.proofs.WriteLemmas.{stops_first, stops_then, writes_then}
 use Rattle.checkpoint.proofs.spool.Spool.seal.Goals as goal
 
 pub returns-in_err-put_out-clause-stops : goal.returns-in_err-put_out-clause-stops
