@@ -1,6 +1,6 @@
 -- Checkpoints of partitions, one after the other.
 use Rattle.std.proofs.Common.{◌≡◌, ◌≢◌, ◌∙◌, inl, inr, ℕ, zero, suc, ◌+◌, ◌<◌, ◌==◌, ◌&&◌, Bool, true, false, if◌then◌else◌, List, [], ◌∷◌, ◌++◌, length, get_or, refl, ap, sym, subst, append_assoc, append-nil, length-append, arith}
-use Rattle.std.specs.Prelude.{Result, Err, Ok, IfErr, Option, None, Some, codes, decimal, nat_lt, ◌^◌}
+use Rattle.std.specs.Prelude.{Err, Option, None, Some, codes, decimal, nat_lt, ◌^◌}
 use Rattle.std.specs.Str.{bytes_eq}
 use Rattle.std.proofs.lemmas.Bool.{eqb-true}
 use Rattle.std.proofs.lemmas.Slice.Eq.{bytes_eq-Decides}
@@ -10,6 +10,7 @@ use Rattle.world.proofs.ScriptLemmas.{pair-of}
 use Rattle.std.specs.List.{All}
 use Rattle.std.specs.Io.KnownBytes.{Appends, Consumes, IsAtEnd}
 use Rattle.std.proofs.KnownBytes.{Consumes-nil, Consumes-trans}
+use Rattle.std.proofs.lemmas.List.{flat_map_more}
 use Rattle.std.proofs.lemmas.List.Elements.{All-nil, All-cons}
 use Rattle.ball_model.specs.Job.{Job, IsJob, PartValue, part_of}
 use Rattle.ball_model.specs.PlanValue.{PlanValue}
@@ -25,7 +26,6 @@ use Rattle.checkpoint.specs.declared.error.KeepError.{KeepError}
 use Rattle.checkpoint.specs.declared.error.KeepError.TheVariants as unkept
 use Rattle.node.specs.declared.error.GatherError.{GatherError}
 use Rattle.node.specs.declared.error.GatherError.TheVariants as fault
-use Rattle.node.specs.declared.error.JobInputError.{JobInputError}
 use Rattle.node.specs.NoReport.{AreUnready, EndsWithin, IsNoReplica, IsNoReport, IsOther, StopsAtPart, WritesFront, WritesFrontOfJob, told_kept}
 use Rattle.node.specs.Job.{IsJobRead}
 use Rattle.node.specs.Refusals.{IsNoCheckpoint}
@@ -33,10 +33,6 @@ use Rattle.node.specs.Stream.{CutsBody}
 use Rattle.node.specs.NodeText.{size_in}
 
 -- ---- one more
-parts_last : (bodies : List (List ℕ)) (body : List ℕ) → parts_text (bodies ++ body ∷ []) ≡ parts_text bodies ++ part_text body
-parts_last [] body = append-nil (part_text body)
-parts_last (b ∷ bodies) body = ap (λ (l : List ℕ). part_text b ++ l) (parts_last bodies body) ∙ sym (append_assoc (part_text b) (parts_text bodies) (part_text body))
-
 made_last : (j : Job) (p n : ℕ) (bodies : List (List ℕ)) (vs : List State) (body : List ℕ) (v : State) → n ≡ p + length bodies → AreMadeOf j p bodies vs → IsMadeOf j n body v → AreMadeOf j p (bodies ++ body ∷ []) (vs ++ v ∷ [])
 unfolding AreMadeOf
 made_last j p n [] [] body v at made one = let same : n ≡ p = omega arith in (subst (λ (k : ℕ). IsMadeOf j k body v) same one, tt)
@@ -52,7 +48,7 @@ reads_more : (j : Job) (n m : ℕ) (a b c : Option (List ℕ)) (vs : List State)
 reads_more j n m a b c vs v next s o = record {
   bodies = s.bodies ++ o.body ∷ [];
   count = length-append s.bodies (o.body ∷ []) ∙ ap (λ (k : ℕ). k + 1) s.count ∙ sym next;
-  consumed = subst (Consumes a c) (sym (parts_last s.bodies o.body)) (Consumes-trans a b c (parts_text s.bodies) (part_text o.body) s.consumed o.consumed);
+  consumed = subst (Consumes a c) (flat_map_more part_text [] s.bodies o.body) (Consumes-trans a b c (parts_text s.bodies) (part_text o.body) s.consumed o.consumed);
   made = made_last j 0 n s.bodies vs o.body v (let count = s.count in omega arith) s.made o.made;
 }
 
@@ -221,15 +217,6 @@ pub front_of_job : (s : Settings) (counted : Bool) (network : Network) (plan : P
     WritesFront (job_of network.graph plan) network.labels b c x y → WritesFrontOfJob s counted a c x y
 front_of_job s counted network plan a b c x y job (inl kept) = inl kept
 front_of_job s counted network plan a b c x y job (inr front) = inr (record { network = network; plan = plan; mid = b; job = job; gathers = front })
-
--- ---- faults that do not come
-pub never_written : {T : Type 0} (part : PartValue) (a b : Option (List ℕ)) (r : Result T GatherError) → IfErr r (IsNoReplica part a b) → r ≢ Err fault.Write
-never_written part a b (Ok x) unread is = absurd (cc)
-never_written part a b (Err e) unread is = let same : e ≡ fault.Write = cc in absurd (subst (IsNoReplica part a b) same unread)
-
-pub never_job : {T : Type 0} (j : Job) (a b : Option (List ℕ)) (r : Result T GatherError) (x : JobInputError) → IfErr r (IsNoReport j a b) → r ≢ Err (fault.Job x)
-never_job j a b (Ok y) x unread is = absurd (cc)
-never_job j a b (Err e) x unread is = let same : e ≡ fault.Job x = cc in absurd (subst (IsNoReport j a b) same unread)
 
 -- ---- what is told of bytes that are no checkpoint
 pub told_other : (p : ℕ) (part : PartValue) (a b : Option (List ℕ)) (body : List ℕ) (e : KeepError) → p ≡ part.number → Consumes a b (part_text body) → (e ≢ unkept.Memory → IsNoCheckpoint part body e) → IsNoReplica part a b (told_kept p e)

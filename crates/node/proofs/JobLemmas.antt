@@ -2,7 +2,7 @@
 use Rattle.std.proofs.Common.{◌≡◌, ◌≢◌, ◌∙◌, ℕ, ◌+◌, ◌≤◌, ◌==◌, ◌||◌, Bool, true, false, nat_lt, if◌then◌else◌, List, [], ◌∷◌, ◌++◌, length, length-append, arith, refl, ap, sym, subst}
 use Rattle.std.specs.Prelude.{Option, None, Some, IfSome, Result, Ok, Err}
 use Rattle.std.specs.Io.KnownBytes.{IsAtEnd, prepend_known}
-use Rattle.std.specs.Prelude.{IsErrAnd, IsOk}
+use Rattle.std.specs.Prelude.{IsErrAnd, IsOk, is_ok}
 use Rattle.std.proofs.Common.{inl, inr}
 use Rattle.node.specs.declared.error.ServeNodeError.{ServeNodeError}
 use Rattle.node.specs.declared.error.ServeNodeError.TheVariants as nonode
@@ -133,17 +133,13 @@ pub refused_edges : (says : List ℕ → Result Network Refusal) (limits : EdgeL
 refused_edges says limits delimiter x z edges true e some s tells = refused_whole says s.front x z e some s.section (tells s.front s.given)
 refused_edges says limits delimiter x z edges false e some s tells = refused_all says limits delimiter x edges e some s (tells s.front s.given)
 
-says_fine : (r : Result Network Refusal) (n : Network) → r ≡ Ok n → IsOk r
-says_fine (Ok m) n is = refl
-says_fine (Err e) n is = absurd (cc)
-
 -- or it says a network, and only the mark is missing
 pub lacks_mark : (says : List ℕ → Result Network Refusal) (limits : EdgeLimits) (delimiter : Delimiter) (x : Option (List ℕ)) (edges : EdgeReader) (n : Network) → (s : GivesAll limits delimiter x edges) →
     (IsPlain s.front → says s.front ≡ Ok n) → LacksMark says x
 lacks_mark says limits delimiter None edges n s tells = record { none = tt; fine = tt }
 lacks_mark says limits delimiter (Some text) edges n s tells = record {
   none = s.none;
-  fine = subst (λ (l : List ℕ). IsPlain l → IsOk (says l)) (sym s.whole) (λ plain. says_fine (says s.front) n (tells plain));
+  fine = subst (λ (l : List ℕ). IsPlain l → IsOk (says l)) (sym s.whole) (λ plain. ap is_ok (tells plain));
 }
 
 pub too_many : (limits : EdgeLimits) (delimiter : Delimiter) (n : ℕ) (begins : Bool) (x y : Option (List ℕ)) (edges : EdgeReader) → GivesSoFar limits delimiter n begins x y edges → IfSome x (λ text. n ≤ length text)

@@ -1,11 +1,12 @@
 -- What nodes say is what they may be told.
-use Rattle.std.proofs.Common.{◌≡◌, ◌≢◌, ◌∙◌, ℕ, ◌+◌, ◌-◌, ◌*◌, ◌^◌, ◌<◌, ◌≤◌, ◌==◌, nat_lt, List, [], ◌∷◌, length, refl, ap, sym, subst, arith, inl}
+use Rattle.std.proofs.Common.{◌≡◌, ◌≢◌, ◌∙◌, ℕ, ◌+◌, ◌-◌, ◌*◌, ◌^◌, ◌<◌, ◌≤◌, ◌==◌, nat_lt, List, [], length, refl, ap, sym, subst, arith, inl}
 use Rattle.std.specs.List.{All, flat_map}
 use Rattle.std.specs.Int.{w64, to_be_bytes}
-use Rattle.std.proofs.Math.Nat.{suc-mul}
 use Rattle.std.proofs.lemmas.Bool.{lt-ltb, ne_eqb}
 use Rattle.std.proofs.lemmas.List.{length-append}
-use Rattle.std.proofs.lemmas.List.Elements.{All-head, All-tail}
+use Rattle.std.proofs.lemmas.List.Concat.{length-flat_map}
+use Rattle.std.proofs.lemmas.List.Elements.{All-weaker}
+use Rattle.std.proofs.lemmas.List.Sums.{sum_by-le}
 use Rattle.std.proofs.lemmas.Nat.{mul-le}
 use Rattle.ball_model.specs.declared.names.BatchName.{BatchName}
 use Rattle.ball_model.specs.declared.world.WorldError.TheVariants as refusal
@@ -81,12 +82,10 @@ early_within plan b is =
 
 all_within : (plan : PlanValue) (m : ℕ) → ((b : BatchValue) → IsOfPlan plan b → length (early_bytes b) ≤ m) → (batches : List BatchValue) → All (IsOfPlan plan) batches →
     length (flat_map early_bytes batches) ≤ length batches * m
-all_within plan m each [] all = omega arith
-all_within plan m each (b ∷ batches) all =
-    let more = length-append (early_bytes b) (flat_map early_bytes batches) in
-    let one = each b (All-head (IsOfPlan plan) b batches all) in
-    let rest = all_within plan m each batches (All-tail (IsOfPlan plan) b batches all) in
-    omega (arith, more, one, rest, suc-mul (length batches) m)
+all_within plan m each batches all =
+    let sum = length-flat_map early_bytes batches in
+    let few = sum_by-le (λ b. length (early_bytes b)) m batches (All-weaker (IsOfPlan plan) (λ b. length (early_bytes b) ≤ m) each batches all) in
+    omega (arith, sum, few)
 
 sum_within : (whole a b sums e m t limit : ℕ) → whole ≡ 54 + a + 16 * sums + 9 + b + 2 + e + 32 → sums ≡ t + 1 → t ≤ limit → e ≤ m →
     whole ≤ 54 + (a + 16 * (limit + 1) + 9 + b + (2 + m)) + 32

@@ -3,18 +3,9 @@ use Rattle.std.proofs.Common.{◌≡◌, ◌∙◌, ℕ, ◌==◌, ◌+◌, Bool
 use Rattle.std.specs.Prelude.{Option, None, Some, IfSome, option_map, remove, slice_index_or}
 use Rattle.std.specs.Io.KnownBytes.{Consumes, IsAtEnd, Keeps, prepend_known}
 use Rattle.std.proofs.KnownBytes.{prepend_known-end}
-use Rattle.std.proofs.lemmas.Bool.{eqb-true}
+use Rattle.std.proofs.lemmas.Bool.{and_parts, eqb-true}
 use Rattle.ball_model.specs.Sections.{after_line, after_mark, longer, sections_from, sections_of, sections_or}
 use Rattle.node.specs.Section.{EndsAtMark, EndsOf, Gives, GivesOf, HasNoMark, IsAhead, IsPast, Passed, ReadsSection, before_mark, first_or, is_front, is_tail, prefixed}
-
--- ---- two tests
-both_left : (a b : Bool) → (a && b) ≡ true → a ≡ true
-both_left true b e = refl
-both_left false b e = e
-
-both_right : (a b : Bool) → (a && b) ≡ true → b ≡ true
-both_right true b e = e
-both_right false b e = absurd (cc)
 
 -- ---- one byte more than a front
 
@@ -29,15 +20,15 @@ past_front (a ∷ []) c is =
     let first : a ≡ 37 = eqb-true a 37 is in
     subst (λ (x : ℕ). IsPast (x ∷ c ∷ [])) (sym first) (record { tail = refl; nothing = mark_or_not (c == 37) })
 past_front (a ∷ b ∷ []) c is =
-    let first : a ≡ 37 = eqb-true a 37 (both_left (a == 37) (b == 37) is) in
-    let second : b ≡ 37 = eqb-true b 37 (both_right (a == 37) (b == 37) is) in
+    let first : a ≡ 37 = eqb-true a 37 (and_parts (a == 37) (b == 37) is).0 in
+    let second : b ≡ 37 = eqb-true b 37 (and_parts (a == 37) (b == 37) is).1 in
     subst (λ (x : ℕ). IsPast (x ∷ b ∷ c ∷ [])) (sym first)
     (subst (λ (x : ℕ). IsPast (37 ∷ x ∷ c ∷ [])) (sym second) (record { tail = refl; nothing = mark_or_not (c == 10) }))
 past_front (a ∷ b ∷ d ∷ []) c is =
-    let two = both_left ((a == 37) && (b == 37)) (d == 13) is in
-    let first : a ≡ 37 = eqb-true a 37 (both_left (a == 37) (b == 37) two) in
-    let second : b ≡ 37 = eqb-true b 37 (both_right (a == 37) (b == 37) two) in
-    let third : d ≡ 13 = eqb-true d 13 (both_right ((a == 37) && (b == 37)) (d == 13) is) in
+    let two = (and_parts ((a == 37) && (b == 37)) (d == 13) is).0 in
+    let first : a ≡ 37 = eqb-true a 37 (and_parts (a == 37) (b == 37) two).0 in
+    let second : b ≡ 37 = eqb-true b 37 (and_parts (a == 37) (b == 37) two).1 in
+    let third : d ≡ 13 = eqb-true d 13 (and_parts ((a == 37) && (b == 37)) (d == 13) is).1 in
     subst (λ (x : ℕ). IsPast (x ∷ b ∷ d ∷ c ∷ [])) (sym first)
     (subst (λ (x : ℕ). IsPast (37 ∷ x ∷ d ∷ c ∷ [])) (sym second)
     (subst (λ (x : ℕ). IsPast (37 ∷ 37 ∷ x ∷ c ∷ [])) (sym third) (record { tail = refl; nothing = mark_or_not (c == 10) })))
@@ -49,12 +40,12 @@ unfolding is_tail
 front_past [] is = record { tail = refl; nothing = tt }
 front_past (a ∷ []) is = record { tail = refl; nothing = tt }
 front_past (a ∷ b ∷ []) is =
-    let first : a ≡ 37 = eqb-true a 37 (both_left (a == 37) (b == 37) is) in
+    let first : a ≡ 37 = eqb-true a 37 (and_parts (a == 37) (b == 37) is).0 in
     subst (λ (x : ℕ). IsPast (x ∷ b ∷ [])) (sym first) (record { tail = refl; nothing = mark_or_not (b == 37) })
 front_past (a ∷ b ∷ d ∷ []) is =
-    let two = both_left ((a == 37) && (b == 37)) (d == 13) is in
-    let first : a ≡ 37 = eqb-true a 37 (both_left (a == 37) (b == 37) two) in
-    let second : b ≡ 37 = eqb-true b 37 (both_right (a == 37) (b == 37) two) in
+    let two = (and_parts ((a == 37) && (b == 37)) (d == 13) is).0 in
+    let first : a ≡ 37 = eqb-true a 37 (and_parts (a == 37) (b == 37) two).0 in
+    let second : b ≡ 37 = eqb-true b 37 (and_parts (a == 37) (b == 37) two).1 in
     subst (λ (x : ℕ). IsPast (x ∷ b ∷ d ∷ [])) (sym first)
     (subst (λ (x : ℕ). IsPast (37 ∷ x ∷ d ∷ [])) (sym second) (record { tail = refl; nothing = mark_or_not (d == 10) }))
 front_past (a ∷ b ∷ d ∷ e ∷ more) is = absurd (cc)
@@ -116,7 +107,7 @@ unfolding is_tail
 tail_rest b [] is = record { front = λ e. refl; tail = refl }
 tail_rest b (c ∷ xs) is = record {
   front = λ e. absurd (ends (b == 10) (is_tail (c ∷ xs)) e is);
-  tail = both_right (not (b == 10)) (is_tail (c ∷ xs)) is;
+  tail = (and_parts (not (b == 10)) (is_tail (c ∷ xs)) is).1;
 }
   where
     ends : (t u : Bool) → t ≡ true → (not t && u) ≡ true → ⊥
@@ -153,12 +144,6 @@ ends_here (b ∷ text) rest is = record {
 pub ahead_none : (t : Bool) (xs : List ℕ) → xs ≡ [] → IsAhead t xs
 unfolding is_tail
 ahead_none t xs is = subst (IsAhead t) (sym is) (record { front = λ e. refl; tail = refl })
-
-pub empty_is : (xs : List ℕ) (t : Bool) → t ≡ (length xs == 0) → t ≡ true → xs ≡ []
-empty_is [] t is e = refl
-empty_is (x ∷ xs) t is e =
-    let none : length (x ∷ xs) ≡ 0 = eqb-true (length (x ∷ xs)) 0 (sym is ∙ e) in
-    absurd (omega arith)
 
 -- the first is taken
 pub popped : (xs ys : List ℕ) (r n : ℕ) → n + 1 ≡ length xs → r ≡ slice_index_or xs 0 r → ys ≡ remove xs 0 → xs ≡ r ∷ ys

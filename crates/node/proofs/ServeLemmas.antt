@@ -3,7 +3,9 @@ use Rattle.std.proofs.Common.{◌≡◌, ◌≢◌, ◌∙◌, ◌⊎◌, inl, i
 use Rattle.std.specs.Prelude.{Option, Some, Result, Err}
 use Rattle.std.specs.Io.KnownBytes.{Appends, Consumes, IsAtEnd, Keeps}
 use Rattle.std.proofs.KnownBytes.{Appends-kept, Appends-nil, Appends-trans, Consumes-nil, Consumes-trans}
+use Rattle.std.proofs.lemmas.List.{flat_map_more}
 use Rattle.std.proofs.lemmas.List.Elements.{All-nil, All-push}
+use Rattle.std.proofs.lemmas.List.Folds.{concat-append}
 use Rattle.std.specs.List.{All, concat}
 use Rattle.ball_model.specs.Input.{Network, fields}
 use Rattle.ball_model.specs.Held.{start_holding}
@@ -25,6 +27,7 @@ use Rattle.node.specs.Turns.{Holds, most_body}
 use Rattle.world.specs.declared.tell.TellError.{TellError}
 use Rattle.world.specs.declared.tell.TellError.TheVariants as untold
 use Rattle.node.proofs.SessionLemmas.{part_held}
+use Rattle.node.proofs.StreamLemmas.{some_bytes}
 
 -- ---- one more is asked
 pub record LastAsk (j : Job) (p : ℕ) (rs : List Request) (r : Request) (more : List Asked) : Type 0 where
@@ -69,8 +72,7 @@ named_last part (q ∷ rs) r [] text named last = absurd named
 named_last part (q ∷ rs) r (t ∷ texts) text named last = (named.0, named_last part rs r texts text named.1 last)
 
 concat_last : (texts : List (List ℕ)) (text : List ℕ) → concat (texts ++ text ∷ []) ≡ concat texts ++ text
-concat_last [] text = append-nil text
-concat_last (t ∷ texts) text = ap (λ (l : List ℕ). t ++ l) (concat_last texts text) ∙ sym (append_assoc t (concat texts) text)
+concat_last texts text = concat-append texts (text ∷ []) ∙ ap (λ (l : List ℕ). concat texts ++ l) (append-nil text)
 
 -- the texts of requests that ask for something are the answers
 all_told : (j : Job) (p : ℕ) (labels : List (List ℕ)) (h : Holding) (rs : List Request) (texts : List (List ℕ)) (more : List Asked) → AreTold j p labels h rs texts → AllAsk j p rs more →
@@ -130,11 +132,7 @@ runs_more network rs r v w u x y z part runs steps = record {
       (subst (λ (q : Holding). Holds j p q u) (sym (after_last j h l.front l.last)) (steps.holds j p (after_all_asked j h l.front) l.last same then l.asks_last));
 }
 
--- ---- the texts of requests
-texts_last : (rs : List Request) (r : Request) → requests_text (rs ++ r ∷ []) ≡ requests_text rs ++ request_bytes r
-texts_last [] r = append-nil (request_bytes r)
-texts_last (q ∷ rs) r = ap (λ (l : List ℕ). request_bytes q ++ l) (texts_last rs r) ∙ sym (append_assoc (request_bytes q) (requests_text rs) (request_bytes r))
-
+-- ---- many requests
 pub serves_none : (network : Network) (left : Option (List ℕ)) (v : State) (old : Option (List ℕ)) → ServesSome network 0 left left v v old old
 serves_none network left v old = record {
   requests = [];
@@ -150,7 +148,7 @@ serves_more network n m a b c v w u x y z next same s o = record {
   requests = s.requests ++ o.request ∷ [];
   count = length-append s.requests (o.request ∷ []) ∙ ap (λ (k : ℕ). k + 1) s.count ∙ sym next;
   each = All-push (IsRequest v.part) s.requests o.request s.each (subst (λ (q : PartValue). IsRequest q o.request) same o.is);
-  consumed = subst (Consumes a c) (sym (texts_last s.requests o.request)) (Consumes-trans a b c (requests_text s.requests) (request_bytes o.request) s.consumed o.consumed);
+  consumed = subst (Consumes a c) (flat_map_more request_bytes [] s.requests o.request) (Consumes-trans a b c (requests_text s.requests) (request_bytes o.request) s.consumed o.consumed);
   runs = runs_more network s.requests o.request v w u x y z same s.runs o.steps;
 }
 
@@ -238,10 +236,6 @@ serves_one network a b line order body v w x y z read steps kept = record {
 }
 
 -- ---- what is no request
-line_some : (line body : List ℕ) → (line ++ 10 ∷ body) ≡ [] → ⊥
-line_some [] body is = absurd (cc)
-line_some (c ∷ line) body is = absurd (cc)
-
 -- of failed calls nothing is said
 machine_stops : (part : PartValue) (n : ℕ) (e : ServeError) (a b : Option (List ℕ)) → IsOfMachine e → (e ≡ fault.Memory → LacksRoom part a b) → IsNoRequest part n e a b
 machine_stops part n (fault.Command k) a b is lacks = absurd is
@@ -260,7 +254,7 @@ line_lacks part a b r = record { front = r.bytes; some = r.some; within = inl r.
 pub request_lacks : (part : PartValue) (a b : Option (List ℕ)) (line : List ℕ) (order : Command) (body : List ℕ) → ReadsRequest part a b line order body → LacksRoom part a b
 request_lacks part a b line order body r = record {
   front = request_bytes (record { line = line; command = order; body = body });
-  some = line_some line body;
+  some = some_bytes line 10 body;
   within = inr (record { request = record { line = line; command = order; body = body }; is = r.is; bytes_are = refl });
   consumed = r.consumed;
 }
@@ -280,7 +274,7 @@ pub cut_body : (a b c : Option (List ℕ)) (line : List ℕ) (order : Command) �
     CutsBody (body_length order) b c → CutShort a c
 cut_body a b c line order read none says cut = record {
   front = line ++ 10 ∷ cut.bytes;
-  some = line_some line cut.bytes;
+  some = some_bytes line 10 cut.bytes;
   within = inr (record { line = line; one_line = none; command = order; says = says; body = cut.bytes; fewer = cut.fewer; front_is = refl });
   consumed = subst (Consumes a c) (append_assoc line (10 ∷ []) cut.bytes) (Consumes-trans a b c (line ++ 10 ∷ []) cut.bytes read cut.consumed);
   end = cut.end;

@@ -1,9 +1,11 @@
 -- What a call of a replica makes of its holding.
-use Rattle.std.proofs.Common.{◌≡◌, ◌≢◌, ◌∙◌, ℕ, ◌<◌, ◌==◌, Bool, true, false, not, if◌then◌else◌, List, [], ◌∷◌, length, arith, refl, ap, sym, subst, ◌⊎◌, inl, inr}
+use Rattle.std.proofs.Common.{◌≡◌, ◌≢◌, ◌∙◌, ℕ, ◌<◌, ◌==◌, Bool, true, false, not, if◌then◌else◌, List, [], length, refl, ap, sym, subst, ◌⊎◌, inl, inr}
 use Rattle.std.proofs.lemmas.Bool.{eq-eqb, eqb-true}
+use Rattle.std.proofs.lemmas.List.{nil_from_length}
+use Rattle.std.proofs.lemmas.Result.{IfOk-from_err}
 use Rattle.ball_model.specs.Content.{same_plan}
 use Rattle.replica.proofs.RunsLemmas.Run.{same_plan-self}
-use Rattle.std.specs.Prelude.{Option, None, Some, Result, Ok, Err, IfOk, IfErr, IsErr, IsOk, OnOk}
+use Rattle.std.specs.Prelude.{Option, None, Some, Result, Ok, Err, IfOk, IfErr, IsOk, OnOk, is_ok}
 use Rattle.ball_model.specs.declared.names.BatchName.{BatchName}
 use Rattle.ball_model.specs.declared.names.Taken.{Taken}
 use Rattle.ball_model.specs.declared.names.TakeError.{TakeError}
@@ -152,18 +154,13 @@ never_unmerged j p h c v o w e m some k l =
     subst (λ r. answer.NotMerged e ≡ (merged_when c (lone h) r).answer) (alike j p h c k.held l.held) both.0 in
     absurd (cc)
 
--- memory was refused
-pub refused_ok : {T E : Type 0} (r : Result T E) (P : T → Type 0) → IsErr r → IfOk r P
-refused_ok (Ok x) P is = absurd (cc)
-refused_ok (Err e) P is = tt
-
 -- whatever is said of a merge
 pub over_turns : {E : Type 0} (j : Job) (p : ℕ) (h c : Holding) (v o w : State) (r : Result (Unit {0}) MergeError) (t : ℕ) (said : Result Reply E) →
     MergesWith o v w r → SaysMerged r t said → t ≡ w.superstep → IsState w → Holds j p h v → Holds j p c o →
     IfOk said (TurnsTo j p (answer.Merged (join_of h c).superstep) (join_of h c) w)
 over_turns j p h c v o w (Ok u) t said m says at state k l =
     subst (λ q. IfOk q (TurnsTo j p (answer.Merged (join_of h c).superstep) (join_of h c) w)) (sym says) (merged_turns j p h c v o w t m k l state at)
-over_turns j p h c v o w (Err unmerged.Memory) t said m says at state k l = refused_ok said (TurnsTo j p (answer.Merged (join_of h c).superstep) (join_of h c) w) says
+over_turns j p h c v o w (Err unmerged.Memory) t said m says at state k l = IfOk-from_err said (TurnsTo j p (answer.Merged (join_of h c).superstep) (join_of h c) w) says
 over_turns j p h c v o w (Err unmerged.OtherJob) t said m says at state k l = absurd (never_unmerged j p h c v o w unmerged.OtherJob m (λ e. absurd (cc)) k l)
 over_turns j p h c v o w (Err unmerged.NotMine) t said m says at state k l = absurd (never_unmerged j p h c v o w unmerged.NotMine m (λ e. absurd (cc)) k l)
 
@@ -201,8 +198,7 @@ pub begun : (j : Job) (p : ℕ) (v : State) → p < j.plan.parts → Has j (star
 begun j p v below has = record { held = start_held j p below; has = has }
 
 pub no_bytes : (xs : List ℕ) → (length xs == 0) ≡ true → xs ≡ []
-no_bytes [] is = refl
-no_bytes (x ∷ xs) is = let none : length (x ∷ xs) ≡ 0 = eqb-true (length (x ∷ xs)) 0 is in absurd (omega arith)
+no_bytes xs is = nil_from_length xs (eqb-true (length xs) 0 is)
 
 -- ---- what is said of other bytes
 pub over_said : {E : Type 0} (r : Result (Unit {0}) MergeError) (t : ℕ) (said : Result Reply E) → SaysMerged r t said → IfOk said IsAnswered
@@ -216,10 +212,6 @@ pub spelled_as : (b x : BatchValue) (due : Result BatchValue BatchError) → Giv
 spelled_as b x (Ok y) gives is = cc
 spelled_as b x (Err e) gives is = absurd (cc)
 
-pub spelled_ok : (b : BatchValue) (due : Result BatchValue BatchError) → due ≡ Ok b → IsOk due
-spelled_ok b (Ok x) is = refl
-spelled_ok b (Err e) is = absurd (cc)
-
 pub spelled_same : (b x : BatchValue) (due : Result BatchValue BatchError) → due ≡ Ok x → due ≡ Ok b → x ≡ b
 spelled_same b x due one two = cc
 
@@ -230,7 +222,7 @@ not_both (Err y) e ok is = absurd (cc)
 -- a batch is not told to be none
 pub no_other_said : {E : Type 0} (b : BatchValue) (e : BatchError) (due : Result BatchValue BatchError) (r : Result Reply E) (P : Reply → Type 0) → IfOk r (λ x. e ≢ unread.Memory) →
     (e ≢ unread.Memory → due ≡ Err e) → due ≡ Ok b → IfOk r P
-no_other_said b e due (Ok x) P some tells is = absurd (not_both due e (spelled_ok b due is) (tells some))
+no_other_said b e due (Ok x) P some tells is = absurd (not_both due e (ap is_ok is) (tells some))
 no_other_said b e due (Err y) P some tells is = tt
 
 pub spelled_not : (e : BatchError) (due : Result BatchValue BatchError) → GivesBatchOrMemory (Err e) due → e ≢ unread.Memory → due ≡ Err e

@@ -53,14 +53,14 @@ rest_cut size left a b c r cut = record {
 }
 
 -- ---- a line
-byte_some : (line : List ℕ) (byte : ℕ) → line ++ byte ∷ [] ≡ [] → ⊥
-byte_some [] byte is = absurd (cc)
-byte_some (c ∷ line) byte is = absurd (cc)
+pub some_bytes : (line : List ℕ) (byte : ℕ) (more : List ℕ) → line ++ byte ∷ more ≡ [] → ⊥
+some_bytes [] byte more is = absurd (cc)
+some_bytes (c ∷ line) byte more is = absurd (cc)
 
 pub byte_read : (a b c : Option (List ℕ)) (line : List ℕ) (byte : ℕ) → Consumes a b line → Consumes b c (byte ∷ []) → HasNoEnd line → byte ≢ 10 → ReadsInLine a c
 byte_read a b c line byte some next none other = record {
   bytes = line ++ byte ∷ [];
-  some = byte_some line byte;
+  some = some_bytes line byte [];
   consumed = Consumes-trans a b c line (byte ∷ []) some next;
   one_line = All-push (λ (x : ℕ). x ≢ 10) line byte none other;
 }

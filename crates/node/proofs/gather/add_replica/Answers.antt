@@ -1,6 +1,7 @@
-use Rattle.std.proofs.lemmas.Result.{err_from_is_err_and}
+use Rattle.std.proofs.lemmas.Result.{IfErr-at_err, err_from_is_err_and}
 use Rattle.ball_model.specs.Job.{Job, job_of, part_of}
-use Rattle.node.proofs.GatherLemmas.{never_written, reads_added, stops_at}
+use Rattle.node.specs.NoReport.{IsNoReplica}
+use Rattle.node.proofs.GatherLemmas.{reads_added, stops_at}
 use Rattle.node.proofs.gather.add_replica.Goals as goal
 
 pub returns-clause-read : goal.returns-clause-read
@@ -19,5 +20,5 @@ pub returns-in_err-replica-clause-unwritten : goal.returns-in_err-replica-clause
 returns-in_err-replica-clause-unwritten g c =
     let j : Job = job_of c.args.graph.now.graph c.args.plan.now in
     let p = err_from_is_err_and c.from_residual.result c.from_residual.ensures.1 in
-    never_written (part_of j c.args.p) (g.R.Read.remaining c.args.reader.now) (g.R.Read.remaining c.read_replica.new.reader) c.from_residual.result
+    λ is. IfErr-at_err (IsNoReplica (part_of j c.args.p) (g.R.Read.remaining c.args.reader.now) (g.R.Read.remaining c.read_replica.new.reader)) is
     (rw (p.1, p.2) c.in_err-replica.ensures.refused)

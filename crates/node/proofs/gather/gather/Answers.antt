@@ -2,10 +2,10 @@ use Rattle.std.proofs.lemmas.Result.{on_ok_weaker}
 use Rattle.ball_model.specs.Job.{job_of}
 use Rattle.node.specs.Gathering.{Gathers}
 use Rattle.std.proofs.Common.{refl, inl, inr}
-use Rattle.std.proofs.lemmas.Result.{IfErr-weaker, err_from_is_err_and, on_err_weaker}
+use Rattle.std.proofs.lemmas.Result.{IfErr-at_err, IfErr-weaker, err_from_is_err_and, on_err_weaker}
 use Rattle.node.specs.Job.{job_settings_of}
 use Rattle.node.specs.NoReport.{HasNoReport, IsNoReport, WritesFront}
-use Rattle.node.proofs.GatherLemmas.{front_of_job, never_job}
+use Rattle.node.proofs.GatherLemmas.{front_of_job}
 use Rattle.node.proofs.gather.gather.Goals as goal
 
 pub returns-clause-ok : goal.returns-clause-ok
@@ -52,4 +52,4 @@ returns-clause-front g c =
 
 pub returns-clause-unread : goal.returns-clause-unread
 returns-clause-unread g c = λ is.
-    absurd (never_job (job_of c.in_ok-graph.graph.graph c.in_ok-graph.plan) (g.R.Read.remaining c.read_job.new.reader) (g.R.Read.remaining c.gather_parts-gathered.new.reader) c.gather_parts-gathered.result _ c.gather_parts-gathered.ensures.refused is)
+    absurd (IfErr-at_err (IsNoReport (job_of c.in_ok-graph.graph.graph c.in_ok-graph.plan) (g.R.Read.remaining c.read_job.new.reader) (g.R.Read.remaining c.gather_parts-gathered.new.reader)) is c.gather_parts-gathered.ensures.refused)

@@ -1,11 +1,11 @@
-use Rattle.std.proofs.Common.{◌∙◌, sym}
-use Rattle.std.specs.Prelude.{Err, Ok}
+use Rattle.std.proofs.Common.{◌∙◌, ap, sym}
+use Rattle.std.specs.Prelude.{Err, Ok, is_ok}
 use Rattle.std.proofs.lemmas.Result.{IfErr-weaker, IfOk-weaker}
 use Rattle.ball_model.specs.Batches.{true_batch}
 use Rattle.world.proofs.ApplyLemmas.{read_wants}
 use Rattle.node.proofs.SessionLemmas.{delivered_read, read_true}
 use Rattle.std.specs.Arc.{arc_value}
-use Rattle.node.proofs.SessionLemmas.{spelled_as, spelled_not, spelled_ok, spelled_wants}
+use Rattle.node.proofs.SessionLemmas.{spelled_as, spelled_not, spelled_wants}
 use Rattle.batches.specs.Reading.{batch_at}
 use Rattle.node.proofs.session.read_batch.Goals as goal
 
@@ -34,4 +34,4 @@ returns-in-Err-clause-last c = spelled_wants c.in-Err.error (batch_at c.args.pla
 
 pub returns-in-Ok-clause-last : goal.returns-in-Ok-clause-last
 returns-in-Ok-clause-last c =
-    IfErr-weaker c.shared.result _ _ (λ e wants is. spelled_ok c.in-Ok.batch (batch_at c.args.plan.now c.args.bytes.now) (sym c.in-Ok.ensures.exact)) c.shared.ensures.memory
+    IfErr-weaker c.shared.result _ _ (λ e wants is. ap is_ok (sym c.in-Ok.ensures.exact)) c.shared.ensures.memory

@@ -5,17 +5,17 @@ use Rattle.ball_model.specs.World.{taken_answer}
 use Rattle.ball_model.specs.PlanValue.{PlanValue}
 use Rattle.ball_model.specs.State.{State}
 use Rattle.node.specs.Turns.{IsBrought, TurnsTo}
-use Rattle.node.proofs.SessionLemmas.{job_held, plan_held, refused_ok}
-use Rattle.std.specs.Prelude.{IfOk, IsOk}
+use Rattle.node.proofs.SessionLemmas.{job_held, plan_held}
+use Rattle.std.specs.Prelude.{IfOk, IsOk, is_ok}
 use Rattle.batches.specs.Reading.{batch_at}
 use Rattle.node.specs.Refusals.{SaysOfBatch}
-use Rattle.node.proofs.SessionLemmas.{no_other_said, says_no_batch, spelled_ok, spelled_same}
+use Rattle.node.proofs.SessionLemmas.{no_other_said, says_no_batch, spelled_same}
 use Rattle.std.specs.Arc.{arc_value}
 use Rattle.ball_model.specs.Batches.{BatchValue}
 use Rattle.ball_model.specs.Content.{is_new}
 use Rattle.replica.specs.Change.{take_answer}
 use Rattle.node.specs.declared.session.Reply.TheVariants as reply
-use Rattle.std.proofs.lemmas.Result.{on_err_weaker}
+use Rattle.std.proofs.lemmas.Result.{IfOk-from_err, on_err_weaker}
 use Rattle.node.proofs.session.Session.deliver.Goals as goal
 
 pub returns-in-Ok-clause-turned : goal.returns-in-Ok-clause-turned
@@ -26,13 +26,13 @@ returns-in-Ok-clause-turned c = λ j p h name k d.
 pub returns-in-Err-clause-turned : goal.returns-in-Err-clause-turned
 returns-in-Err-clause-turned c = λ j p h name k d.
     let plan : c.plan.result.now ≡ j.plan = c.plan.ensures ∙ ap (λ (s : State). s.part.plan) c.self.view_is ∙ plan_held j p h c.args.self.now k in
-    refused_ok c.no_batch.result (TurnsTo j p (taken_answer (held_take_answer j h name)) (held_after j h (Take name)) c.args.self.now)
+    IfOk-from_err c.no_batch.result (TurnsTo j p (taken_answer (held_take_answer j h name)) (held_after j h (Take name)) c.args.self.now)
     (c.no_batch.ensures.memory (c.in-Err.ensures.memory j name (job_held j p h c.args.self.now k) plan d))
 
 pub returns-in-Ok-clause-named : goal.returns-in-Ok-clause-named
 returns-in-Ok-clause-named c =
     let plan : c.plan.result.now ≡ c.args.self.now.part.plan = c.plan.ensures ∙ ap (λ (s : State). s.part.plan) c.self.view_is in
-    subst (λ (q : PlanValue). IsOk (batch_at q c.args.bytes.now)) plan (spelled_ok _ (batch_at c.plan.result.now c.args.bytes.now) c.in-Ok.ensures.spells)
+    subst (λ (q : PlanValue). IsOk (batch_at q c.args.bytes.now)) plan (ap is_ok c.in-Ok.ensures.spells)
 
 pub returns-in-Err-clause-named : goal.returns-in-Err-clause-named
 returns-in-Err-clause-named c =

@@ -1,8 +1,8 @@
-use Rattle.std.proofs.lemmas.Result.{on_err_weaker}
+use Rattle.std.proofs.lemmas.Result.{IfOk-from_err, on_err_weaker}
 use Rattle.ball_model.specs.declared.world.Answer.TheVariants as answer
 use Rattle.ball_model.specs.Join.{join_of}
 use Rattle.node.specs.Turns.{TurnsTo}
-use Rattle.node.proofs.SessionLemmas.{refused_ok, says_checkpoint, says_no_checkpoint}
+use Rattle.node.proofs.SessionLemmas.{says_checkpoint, says_no_checkpoint}
 use Rattle.node.proofs.session.Session.recover.Goals as goal
 
 pub returns-in-Ok-clause-turned : goal.returns-in-Ok-clause-turned
@@ -10,7 +10,7 @@ returns-in-Ok-clause-turned c = λ j p h d k given. c.take_over.ensures.turned j
 
 pub returns-in-Err-clause-turned : goal.returns-in-Err-clause-turned
 returns-in-Err-clause-turned c = λ j p h d k given.
-    refused_ok c.no_checkpoint.result (TurnsTo j p (answer.Merged (join_of h d).superstep) (join_of h d) c.args.self.now)
+    IfOk-from_err c.no_checkpoint.result (TurnsTo j p (answer.Merged (join_of h d).superstep) (join_of h d) c.args.self.now)
     (c.no_checkpoint.ensures.memory (c.in-Err.ensures.back j p h d k given))
 
 pub returns-in-Ok-clause-named : goal.returns-in-Ok-clause-named

@@ -1,13 +1,13 @@
 use Rattle.ball_model.specs.declared.world.Answer.TheVariants as answer
 use Rattle.ball_model.specs.Held.{start_holding}
 use Rattle.node.specs.Turns.{TurnsTo}
-use Rattle.node.proofs.SessionLemmas.{refused_ok, restarted_to}
+use Rattle.node.proofs.SessionLemmas.{restarted_to}
 use Rattle.std.proofs.Common.{ap, sym, subst, ◌∙◌}
 use Rattle.ball_model.specs.State.{State}
 use Rattle.checkpoint.specs.Reading.{IsReplicaSpelling}
 use Rattle.node.specs.declared.session.Reply.TheVariants as reply
 use Rattle.node.proofs.SessionLemmas.{never_answered, says_no_checkpoint}
-use Rattle.std.proofs.lemmas.Result.{on_err_weaker}
+use Rattle.std.proofs.lemmas.Result.{IfOk-from_err, on_err_weaker}
 use Rattle.node.proofs.session.Session.restart.Goals as goal
 
 pub returns-in-Ok-clause-anew : goal.returns-in-Ok-clause-anew
@@ -20,12 +20,12 @@ returns-in-Ok-clause-turned c = λ j p h d k some given.
 
 pub returns-in-Err-clause-anew : goal.returns-in-Err-clause-anew
 returns-in-Err-clause-anew c = λ j p h k none.
-    refused_ok c.no_checkpoint.result (TurnsTo j p (answer.Restarted (start_holding j.plan p).superstep) (start_holding j.plan p) c.args.self.now)
+    IfOk-from_err c.no_checkpoint.result (TurnsTo j p (answer.Restarted (start_holding j.plan p).superstep) (start_holding j.plan p) c.args.self.now)
     (c.no_checkpoint.ensures.memory (c.in-Err.ensures.anew j p h k none))
 
 pub returns-in-Err-clause-turned : goal.returns-in-Err-clause-turned
 returns-in-Err-clause-turned c = λ j p h d k some given.
-    refused_ok c.no_checkpoint.result (TurnsTo j p (answer.Restarted d.superstep) d c.args.self.now)
+    IfOk-from_err c.no_checkpoint.result (TurnsTo j p (answer.Restarted d.superstep) d c.args.self.now)
     (c.no_checkpoint.ensures.memory (c.in-Err.ensures.back j p h d k some given))
 
 pub returns-in-Ok-clause-named : goal.returns-in-Ok-clause-named
