@@ -32,6 +32,7 @@ impl Model for Early {
     ghost use Rattle.std.specs.Arc.{arc_value};
     ghost use Rattle.ball_model.specs.Batches.{BatchValue};
     ghost use Rattle.replica.specs.Ahead.{table_of};
+    ghost use Rattle.replica.specs.declared.early.TheConstants.{LEVELS};
 
     ghost Value = { List (List (Option BatchValue)) };
 
