@@ -10,7 +10,7 @@ use Rattle.std.proofs.lemmas.List.{length-append, length-take, take_all, take-ap
 use Rattle.ball_model.specs.PlanValue.{PlanValue}
 use Rattle.std.proofs.Math.Nat.{mul-le-mul_right, div-add-mod}
 use Rattle.std.proofs.Math.Dec.{leb, eqb}
-use Rattle.std.proofs.lemmas.Bool.{leb-true, eqb-true, cases_Bool}
+use Rattle.std.proofs.lemmas.Bool.{and_parts, leb-true, eqb-true, cases_Bool}
 use Rattle.ball_model.specs.PlanValue.{part_size}
 use Rattle.std.specs.Str.{bytes_eq}
 use Rattle.std.proofs.lemmas.Slice.Eq.{bytes_eq-Decides}
@@ -487,27 +487,19 @@ told-needs plan piece bytes n e is =
     let here : is_batch_length plan (from_be_bytes w64 piece) ≡ true = ap (is_batch_length plan) e ∙ is in
     rw here (ap (λ (k : ℕ). needs k bytes) e)
 
-abbrev IsYes : Bool → Type 0
-IsYes true = ⊤
-IsYes false = ⊥
-
 pub batch-small : (plan : PlanValue) (n : ℕ) → is_batch_length plan n ≡ true → n ≤ greatest_batch plan
 unfolding is_batch_length
 batch-small plan n is =
     let row = 4 + 2 ^ plan.log2m in
     let size = part_size plan.vertices plan.parts 0 in
-    let both = and-both (leb 54 n && (eqb ((n - 54) % row) 0)) (leb ((n - 54) / row) size) is in
-    let two = and-both (leb 54 n) (eqb ((n - 54) % row) 0) both.0 in
+    let both = and_parts (leb 54 n && (eqb ((n - 54) % row) 0)) (leb ((n - 54) / row) size) is in
+    let two = and_parts (leb 54 n) (eqb ((n - 54) % row) 0) both.0 in
     let le : (n - 54) / row ≤ size = leb-true _ _ both.1 in
     let zero_left : (n - 54) % row ≡ 0 = eqb-true _ _ two.1 in
     let sum = div-add-mod (n - 54) row in
     let most : (n - 54) / row * row ≤ size * row = mul-le-mul_right row le in
     let turn : row * ((n - 54) / row) ≡ (n - 54) / row * row = omega arith in
     omega (arith, sum, zero_left, most, turn)
-  where
-    and-both : (a b : Bool) → (a && b) ≡ true → (a ≡ true) × (b ≡ true)
-    and-both true b e = (refl, e)
-    and-both false b e = absurd (subst IsYes (sym e) tt)
 
 pub number-refused : (plan : PlanValue) (piece bytes : List ℕ) (n : ℕ) → from_be_bytes w16 piece ≡ n → 3 * (plan.parts - 1) < n → told_batches plan piece bytes ≡ Err errors.Shape
 unfolding told_batches

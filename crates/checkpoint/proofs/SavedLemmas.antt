@@ -16,6 +16,7 @@ use Rattle.figures.specs.Values.{value_of}
 use Rattle.figures.specs.declared.tally.Tally.{Tally}
 use Rattle.batches.specs.Kept.{field}
 use Rattle.checkpoint.specs.declared.saved.Vertices.{Vertices}
+use Rattle.checkpoint.proofs.HeldLemmas.{front_fits}
 use Rattle.checkpoint.specs.Told.{entry_at, IsAdded, AreNone, AreVerticesTold, AreZeros}
 
 -- ---- numbers
@@ -91,18 +92,9 @@ be_bytes_16 bs n long small is =
     written (b0 ∷ b1 ∷ b2 ∷ b3 ∷ b4 ∷ b5 ∷ b6 ∷ b7 ∷ b8 ∷ b9 ∷ b10 ∷ b11 ∷ b12 ∷ b13 ∷ b14 ∷ b15 ∷ []) l = refl
     written (b0 ∷ b1 ∷ b2 ∷ b3 ∷ b4 ∷ b5 ∷ b6 ∷ b7 ∷ b8 ∷ b9 ∷ b10 ∷ b11 ∷ b12 ∷ b13 ∷ b14 ∷ b15 ∷ b16 ∷ bs) l = absurd (omega (arith, l))
 
-small_front : (number rest : List ℕ) → ((i : ℕ) → get_or (number ++ rest) i 0 < 256) → (i : ℕ) → get_or number i 0 < 256
-small_front [] rest small i = omega arith
-small_front (x ∷ number) rest small zero = small 0
-small_front (x ∷ number) rest small (suc i) = small_front number rest (λ k. small (suc k)) i
-
-small_of : (bytes number rest : List ℕ) → bytes ≡ number ++ rest → ((i : ℕ) → get_or bytes i 0 < 256) → (i : ℕ) → get_or number i 0 < 256
-small_of bytes number rest split small =
-    small_front number rest (subst (λ (l : List ℕ). (i : ℕ) → get_or l i 0 < 256) split small)
-
 pub spelt_16 : (bytes number rest : List ℕ) (n : ℕ) → bytes ≡ number ++ rest → length number ≡ 16 → ((i : ℕ) → get_or bytes i 0 < 256) → n ≡ field w128 0 number → bytes ≡ to_be_bytes w128 n ++ rest
 spelt_16 bytes number rest n split long small is =
-    split ∙ ap (λ (l : List ℕ). l ++ rest) (sym (be_bytes_16 number n long (small_of bytes number rest split small) (is ∙ ap (from_be_bytes w128) (take_all 16 number (omega (arith, long))))))
+    split ∙ ap (λ (l : List ℕ). l ++ rest) (sym (be_bytes_16 number n long (front_fits bytes number rest split small) (is ∙ ap (from_be_bytes w128) (take_all 16 number (omega (arith, long))))))
 
 -- the front of small numbers, and what is behind it
 small_within : (k : ℕ) (bytes : List ℕ) → ((i : ℕ) → get_or bytes i 0 < 256) → (i : ℕ) → get_or (take k bytes) i 0 < 256
@@ -131,7 +123,7 @@ pub entry_spelt : (bytes entry rest : List ℕ) (last harm dist : ℕ) → bytes
     → bytes ≡ get_or entry 0 0 ∷ (to_be_bytes w64 last ++ (to_be_bytes w64 harm ++ (to_be_bytes w128 dist ++ rest)))
 entry_spelt bytes [] rest last harm dist split long small a b d = absurd (omega (arith, long))
 entry_spelt bytes (x ∷ entry) rest last harm dist split long small a b d =
-    split ∙ ap (λ (l : List ℕ). x ∷ (l ++ rest)) (figures_spelt entry last harm dist (omega (arith, long)) (λ i. small_of bytes (x ∷ entry) rest split small (suc i)) a b d)
+    split ∙ ap (λ (l : List ℕ). x ∷ (l ++ rest)) (figures_spelt entry last harm dist (omega (arith, long)) (λ i. front_fits bytes (x ∷ entry) rest split small (suc i)) a b d)
 
 -- ---- rows that are zeros
 pub zeros_count : (t : Table) (n w : ℕ) → t ≡ record { width = w; rows = replicate n (replicate w 0) } → length t.rows ≡ n

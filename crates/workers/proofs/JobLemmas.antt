@@ -1,7 +1,7 @@
 -- The nodes of a job: their threads, their ends, and what is put together of these.
 use Rattle.std.proofs.Common.{◌≡◌, ◌<◌, ◌+◌, ◌-◌, ◌/◌, ℕ, zero, suc, List, [], ◌∷◌, ◌++◌, length, Bool, true, false, ◌&&◌, refl, sym, ap, ◌∙◌, subst, arith, inl, inr, slice_index_or, length-append}
 use Rattle.std.specs.Prelude.{Option, None, Some, IfSome, IfOk, is_some, Result}
-use Rattle.std.proofs.lemmas.Bool.{cases_eq}
+use Rattle.std.proofs.lemmas.Bool.{and_parts, cases_eq}
 use Rattle.ball_model.specs.Caller.{Caller, IsCaller}
 use Rattle.ball_model.specs.Job.{Job}
 use Rattle.ball_model.specs.State.{State}
@@ -66,10 +66,6 @@ pub record PartSoFar (j : Job) (o : RunOptions) (p k : ℕ) (rest : List (Result
   pub noted : AreNoted j.plan.parts o old → AreNoted j.plan.parts o now
   pub ordered : all_lost ≡ true → (i : ℕ) → i < k → is_some (order_for p i o.lose.items) ≡ true
 
-both_true : (a b : Bool) → (a && b) ≡ true → (a ≡ true) × (b ≡ true)
-both_true true b h = (refl, h)
-both_true false b h = absurd (cc)
-
 pub part_so_far_more : (j : Job) (o : RunOptions) (p k : ℕ) (r : Result NodeEnd NodeError) (rest : List (Result NodeEnd NodeError)) (old now next : Faults) (done then : Option State) (was all_lost both : Bool) → PartSoFar j o p k (r ∷ rest) old now done all_lost →
     (KeepsItsOrders j p (orders_for o p k) r → AreNoted j.plan.parts o now → AreNoted j.plan.parts o next) →
     (KeepsItsOrders j p (orders_for o p k) r → was ≡ true → is_some (order_for p k o.lose.items) ≡ true) →
@@ -80,7 +76,7 @@ part_so_far_more j o p k r rest old now next done then was all_lost both h noted
   found = first h.found h.each.0.done;
   noted = λ n. noted h.each.0 (h.noted n);
   ordered = λ b i lt.
-      let two = both_true was all_lost (sym is ∙ b) in
+      let two = and_parts was all_lost (sym is ∙ b) in
       elim (cases_eq i k) [
         | inl same ↦ subst (λ (n : ℕ). is_some (order_for p n o.lose.items) ≡ true) (sym same) (lost h.each.0 two.0)
         | inr apart ↦ h.ordered two.1 i (omega (arith, lt, apart))
@@ -106,10 +102,10 @@ all_so_far_more items j o p own rest now next done then found kept complete both
   each = h.each.1;
   noted = noted h.each.0 (omega (arith, h.count)) h.noted;
   length_is = λ b.
-      let two = both_true kept complete (sym is ∙ b) in
+      let two = and_parts kept complete (sym is ∙ b) in
       count two.0 ∙ ap (λ (k : ℕ). k + 1) (h.length_is two.1);
   have = λ b.
-      let two = both_true kept complete (sym is ∙ b) in
+      let two = and_parts kept complete (sym is ∙ b) in
       each (subst (λ (k : ℕ). IfSome found (IsDone j k)) (sym (h.length_is two.1)) (one h.each.0)) (h.have two.1);
 }
 
