@@ -1,8 +1,8 @@
 //! What is told of how a command gets on, where that is asked for.
 //!
-//! Where faults go, [`LendTeller`] hands out a [`Teller`], which tells lines of progress ([`Told`]) and nothing else, and
-//! takes it back. Of a run [`RunProgress`] says what is told, and its [`TellingGate`] says when; a replay, a node and a
-//! gathering have a [`TellingWatch`].
+//! [`LendTeller`] hands out a [`Teller`], which tells lines of progress ([`Told`]) and nothing else, and takes it back.
+//! Of a run [`RunProgress`] says what is told, and its [`TellingGate`] says when; a replay, a node and a gathering have
+//! a [`TellingWatch`].
 
 ghost use Rattle.std.specs.Prelude.{◌≡◌, List, None, Option, ℕ};
 ghost use Rattle.hyperball.specs.Progress.{TellsProgress};

@@ -15,7 +15,8 @@ ghost use Rattle.ball_model.specs.Job.{Job};
 ghost use Rattle.ball_model.specs.State.{StandsFor};
 ghost use Rattle.replica.specs.Level.{EndsRun, found_verdict, missing_in};
 ghost use Rattle.workers.specs.declared.superstep.SuperstepEnd.TheVariants as superstep_end;
-ghost use Rattle.workers.specs.Superstep.{DropsBefore, HasRecalled, IsFound, IsSuperstepEnd, StandsIn};
+ghost use Rattle.workers.specs.Superstep.{DropsBefore, HasRecalled, IsFound, IsSuperstepEnd};
+ghost use Rattle.workers.specs.Superstep.{StandsIn};
 ghost use Rattle.replica.specs.Sent.{AreChanged, batch_name};
 ghost use Rattle.workers.specs.Tie.{HasCome, HasGone};
 
