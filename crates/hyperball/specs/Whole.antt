@@ -2,7 +2,9 @@
 use Rattle.std.specs.Prelude.{◌≡◌, ℕ, ◌+◌, ◌<◌, Bool, true, false, List, length}
 use Rattle.std.specs.Prelude.{Option, None, Some, IfSome, option_map}
 use Rattle.ball_model.specs.Sections.{sections_of}
-use Rattle.ball_model.specs.Streams.{TakesAtMost}
+use Rattle.ball_model.specs.Streams.{Rises, TakesAtMost}
+use Rattle.hyperball.specs.declared.whole.WholeError.{WholeError}
+use Rattle.hyperball.specs.declared.whole.WholeError.TheVariants as fault
 use Rattle.node.specs.declared.limits.TheConstants.{MOST_BYTES}
 
 -- at most one byte more was read than such an input may have
@@ -16,6 +18,17 @@ IsWholeInput old bytes = IfSome old (λ input. bytes ≡ input)
 -- the input has more bytes than it may have
 abbrev pub IsLong : Option (List ℕ) → Type 0
 IsLong old = IfSome old (λ input. MOST_BYTES < length input)
+
+-- a reader whose input was to be read whole, and which of the faults is told of it: each for its reason alone, a failed
+-- read wherever a call failed, and none of a reader all of whose calls are sure
+pub record ReadsWhole {R : Type 0} (bytes : R → Option (List ℕ)) (count : R → ℕ) (good : R → Option ℕ) (old new : R)
+    (told : WholeError → Type 0) : Type 0 where
+  pub size : told fault.Size → IsLong (bytes old)
+  pub memory : told fault.Memory → TakesAtMost MOST_BYTES (bytes old) (bytes new)
+  pub read : told fault.Read → Rises (count old) (count new)
+  pub failed : Rises (count old) (count new) → told fault.Read
+  pub sure : good old ≡ None → told fault.Read → ⊥
+  pub few : ReadsFew (bytes old) (bytes new)
 
 -- the edge list in an input, and the list of counted vertices: with one they are the two sections
 abbrev pub sections_in : Bool → List ℕ → Option (List ℕ × Option (List ℕ))

@@ -6,7 +6,7 @@ ghost use Rattle.ball_model.specs.RunText.{list_in};
 ghost use Rattle.ball_model.specs.Streams.{Rises, TakesAtMost};
 ghost use Rattle.hyperball.specs.Replaying.{Answers, FailsOver, FailsReplay, Leaves, RefusesLack};
 ghost use Rattle.hyperball.specs.Replaying.{RefusesLong, ServesReplay, parts_in};
-ghost use Rattle.hyperball.specs.Whole.{IsLong, ReadsFew};
+ghost use Rattle.hyperball.specs.Whole.{IsLong, ReadsFew, ReadsWhole};
 ghost use Rattle.hyperball.specs.declared.replaying.ReplayFault.{ReplayFault as Fault};
 ghost use Rattle.hyperball.specs.declared.whole.WholeError.{WholeError as NoInput};
 ghost use Rattle.node.specs.declared.limits.TheConstants.{MOST_BYTES};
@@ -140,19 +140,10 @@ fn replay_whole<T: Teller, R: CountedRead, W: CountedWrite>(
     ensures left { IfErr result (Leaves (W.contents writer.old) (W.contents writer.new)
         (W.failed_calls writer.old) (W.failed_calls writer.new)) }
     ensures random { result ≢ Err ReplayFault.Random }
-    ensures size { result ≡ Err (ReplayFault.Input WholeError.Size) →
-        IsLong (R.remaining reader.old) }
+    ensures whole { ReadsWhole R.remaining R.failed_calls R.sure_calls reader.old reader.new
+        (λ e. result ≡ Err (ReplayFault.Input e)) }
     ensures long { RefusesLong (R.remaining reader.old) result }
-    ensures memory { result ≡ Err (ReplayFault.Input WholeError.Memory) →
-        TakesAtMost MOST_BYTES (R.remaining reader.old) (R.remaining reader.new) }
-    ensures read { result ≡ Err (ReplayFault.Input WholeError.Read) →
-        Rises (R.failed_calls reader.old) (R.failed_calls reader.new) }
-    ensures failed { Rises (R.failed_calls reader.old) (R.failed_calls reader.new) →
-        result ≡ Err (ReplayFault.Input WholeError.Read) }
-    ensures sure { R.sure_calls reader.old ≡ None →
-        result ≢ Err (ReplayFault.Input WholeError.Read) }
     ensures lacks { RefusesLack words.now (R.remaining reader.old) result }
-    ensures few { ReadsFew (R.remaining reader.old) (R.remaining reader.new) }
 {
     let input = read_whole(alloc, reader)?;
     let watch = TellingWatch::new(teller);

@@ -8,13 +8,11 @@ ghost use Rattle.clap.specs.declared.error.kind.ErrorKind.TheVariants as kind;
 ghost use Rattle.clap.specs.declared.error.kind.ErrorKind.{ErrorKind as Kind};
 ghost use Rattle.ball_model.specs.Sections.{sections_of};
 ghost use Rattle.hyperball.specs.Streams.{AppendsSome, KeptOrFailed};
-ghost use Rattle.ball_model.specs.Streams.{Rises, TakesAtMost};
-ghost use Rattle.edgelist.specs.Reading.{CountsOne};
 ghost use Rattle.edgelist.specs.declared.read.EdgeError.TheVariants as edge_fault;
-ghost use Rattle.hyperball.specs.Whole.{IsLong, ReadsFew};
+ghost use Rattle.hyperball.specs.Whole.{ReadsFew};
 ghost use Rattle.hyperball.specs.Options.{options_of, settings_in};
 ghost use Rattle.hyperball.specs.Progress.{Awaits, TellsProgress};
-ghost use Rattle.hyperball.specs.Refusals.{IsFault, RefusesLongRun};
+ghost use Rattle.hyperball.specs.Refusals.{IsFault, ReadsEdges, ReadsListed};
 ghost use Rattle.hyperball.specs.Replaying.{BeginsSome, BeginsToServe, IsReplay, SaysRun};
 ghost use Rattle.hyperball.specs.Replaying.{ServesReplay};
 ghost use Rattle.hyperball.specs.declared.replay_words.ReplayWords.{ReplayWords as Replayed};
@@ -268,18 +266,8 @@ fn run_listed<
     ensures refused { IfErr result (IsFault options.now true (R.remaining reader.old)) }
     ensures gate { result ≢ Err RunFault.Gate }
     ensures random { result ≢ Err RunFault.Random }
-    ensures size { result ≡ Err (RunFault.Input WholeError.Size) → IsLong (R.remaining reader.old) }
-    ensures long { RefusesLongRun (R.remaining reader.old) result }
-    ensures memory { result ≡ Err (RunFault.Input WholeError.Memory) →
-        TakesAtMost MOST_BYTES (R.remaining reader.old) (R.remaining reader.new) }
-    ensures read { result ≡ Err (RunFault.Input WholeError.Read) →
-        Rises (R.failed_calls reader.old) (R.failed_calls reader.new) }
-    ensures failed { Rises (R.failed_calls reader.old) (R.failed_calls reader.new) →
-        result ≡ Err (RunFault.Input WholeError.Read) }
-    ensures sure { R.sure_calls reader.old ≡ None →
-        result ≢ Err (RunFault.Input WholeError.Read) }
-    ensures edges { result ≢ Err (RunFault.Run (RunError.Edges edge_fault.Read)) }
-    ensures few { ReadsFew (R.remaining reader.old) (R.remaining reader.new) }
+    ensures listed { ReadsListed R.remaining R.failed_calls R.sure_calls
+        reader.old reader.new result }
     ensures kept { OnErr result (
         KeptOrFailed W.contents W.failed_calls writer.old writer.new) }
 {
@@ -307,28 +295,10 @@ fn run_by<
     ensures gate { result ≢ Err RunFault.Gate }
     ensures random { result ≡ Err RunFault.Random →
         Keeps (R.remaining reader.old) (R.remaining reader.new) }
-    ensures size { result ≡ Err (RunFault.Input WholeError.Size) → IsLong (R.remaining reader.old) }
-    ensures long { counted ≡ true → RefusesLongRun (R.remaining reader.old) result }
-    ensures memory { result ≡ Err (RunFault.Input WholeError.Memory) →
-        TakesAtMost MOST_BYTES (R.remaining reader.old) (R.remaining reader.new) }
-    ensures read { result ≡ Err (RunFault.Input WholeError.Read) →
-        Rises (R.failed_calls reader.old) (R.failed_calls reader.new) }
-    ensures failed { counted ≡ true →
-        Rises (R.failed_calls reader.old) (R.failed_calls reader.new) →
-        result ≡ Err (RunFault.Input WholeError.Read) }
-    ensures sure { R.sure_calls reader.old ≡ None →
-        result ≢ Err (RunFault.Input WholeError.Read) }
     ensures refused { IfErr result (IsFault options.now counted (R.remaining reader.old)) }
-    ensures no_input { counted ≡ false → (f : NoInput) → result ≢ Err (RunFault.Input f) }
-    ensures unlisted { counted ≡ false → result ≢ Err RunFault.NoList }
-    ensures edges { counted ≡ false → result ≡ Err (RunFault.Run (RunError.Edges edge_fault.Read)) →
-        Rises (R.failed_calls reader.old) (R.failed_calls reader.new) }
-    ensures edges_failed { counted ≡ false →
-        CountsOne (R.failed_calls reader.old) (R.failed_calls reader.new) →
-        result ≡ Err (RunFault.Run (RunError.Edges edge_fault.Read)) }
-    ensures edges_whole { counted ≡ true →
-        result ≢ Err (RunFault.Run (RunError.Edges edge_fault.Read)) }
-    ensures few { counted ≡ true → ReadsFew (R.remaining reader.old) (R.remaining reader.new) }
+    ensures listed { counted ≡ true → ReadsListed R.remaining R.failed_calls R.sure_calls
+        reader.old reader.new result }
+    ensures edges { counted ≡ false → ReadsEdges R.failed_calls reader.old reader.new result }
     ensures kept { OnErr result (
         KeptOrFailed W.contents W.failed_calls writer.old writer.new) }
 {
@@ -355,30 +325,12 @@ fn run<
         Keeps (R.remaining reader.old) (R.remaining reader.new) }
     ensures random { result ≡ Err RunFault.Random →
         Keeps (R.remaining reader.old) (R.remaining reader.new) }
-    ensures size { result ≡ Err (RunFault.Input WholeError.Size) → IsLong (R.remaining reader.old) }
-    ensures long { said.words.counted ≡ true → RefusesLongRun (R.remaining reader.old) result }
-    ensures memory { result ≡ Err (RunFault.Input WholeError.Memory) →
-        TakesAtMost MOST_BYTES (R.remaining reader.old) (R.remaining reader.new) }
-    ensures read { result ≡ Err (RunFault.Input WholeError.Read) →
-        Rises (R.failed_calls reader.old) (R.failed_calls reader.new) }
-    ensures failed { said.words.counted ≡ true →
-        Rises (R.failed_calls reader.old) (R.failed_calls reader.new) →
-        result ≡ Err (RunFault.Input WholeError.Read) }
-    ensures sure { R.sure_calls reader.old ≡ None →
-        result ≢ Err (RunFault.Input WholeError.Read) }
     ensures refused { IfErr result (IsFault (options_of said.words.options said.orders)
         said.words.counted (R.remaining reader.old)) }
-    ensures no_input { said.words.counted ≡ false → (f : NoInput) → result ≢ Err (RunFault.Input f) }
-    ensures unlisted { said.words.counted ≡ false → result ≢ Err RunFault.NoList }
-    ensures edges { said.words.counted ≡ false → result ≡ Err (RunFault.Run (RunError.Edges edge_fault.Read)) →
-        Rises (R.failed_calls reader.old) (R.failed_calls reader.new) }
-    ensures edges_failed { said.words.counted ≡ false →
-        CountsOne (R.failed_calls reader.old) (R.failed_calls reader.new) →
-        result ≡ Err (RunFault.Run (RunError.Edges edge_fault.Read)) }
-    ensures edges_whole { said.words.counted ≡ true →
-        result ≢ Err (RunFault.Run (RunError.Edges edge_fault.Read)) }
-    ensures few { said.words.counted ≡ true →
-        ReadsFew (R.remaining reader.old) (R.remaining reader.new) }
+    ensures listed { said.words.counted ≡ true →
+        ReadsListed R.remaining R.failed_calls R.sure_calls reader.old reader.new result }
+    ensures edges { said.words.counted ≡ false →
+        ReadsEdges R.failed_calls reader.old reader.new result }
     ensures kept { OnErr result (
         KeptOrFailed W.contents W.failed_calls writer.old writer.new) }
 {
