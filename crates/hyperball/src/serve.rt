@@ -26,7 +26,6 @@ ghost use Rattle.node.specs.Gathering.{GathersJob};
 ghost use Rattle.node.specs.Job.{job_settings_of};
 ghost use Rattle.node.specs.NoReport.{GathersFrontOfJob, WritesFrontOfJob};
 ghost use Rattle.node.specs.Serving.{ServesNode};
-ghost use Rattle.node.specs.declared.limits.TheConstants.{MOST_BYTES};
 ghost use Rattle.hyperball.specs.declared.options.Options.{Options as Asked};
 ghost use Rattle.workers.specs.Options.{run_settings_of};
 ghost use Rattle.hyperball.specs.declared.whole.WholeError.{WholeError as NoInput};
