@@ -55,6 +55,8 @@ pub struct Session {
 }
 
 impl Model for Session {
+    ghost use Rattle.std.specs.Prelude.{◌≡◌};
+    ghost use Rattle.std.specs.Arc.{arc_value};
     ghost use Rattle.ball_model.specs.State.{State};
 
     ghost Value = { State };
