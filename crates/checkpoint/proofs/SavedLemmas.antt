@@ -1,5 +1,5 @@
 -- What is read of a checkpoint's bytes is what was spelled.
-use Rattle.std.proofs.Common.{◌≡◌, ℕ, zero, suc, ◌+◌, ◌*◌, ◌/◌, ◌%◌, ◌^◌, ◌<◌, ◌≤◌, Bool, false, List, [], ◌∷◌, ◌++◌, map, length, get_or, set, replicate, refl, ap, ap₂, sym, ◌∙◌, subst, arith, append_assoc, take, drop}
+use Rattle.std.proofs.Common.{◌≡◌, ℕ, zero, suc, ◌+◌, ◌*◌, ◌/◌, ◌%◌, ◌^◌, ◌<◌, ◌≤◌, Bool, false, List, [], ◌∷◌, ◌++◌, map, length, get_or, set, replicate, refl, ap, ap₂, sym, ◌∙◌, arith, append_assoc, take, drop}
 use Rattle.std.specs.List.{flat_map, range_with_len}
 use Rattle.std.specs.Int.{w64, w128, to_be_bytes, from_be_bytes}
 use Rattle.std.proofs.Math.Nat.{zero-max}

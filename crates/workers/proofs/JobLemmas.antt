@@ -1,5 +1,5 @@
 -- The nodes of a job: their threads, their ends, and what is put together of these.
-use Rattle.std.proofs.Common.{◌≡◌, ◌<◌, ◌+◌, ◌-◌, ◌/◌, ℕ, zero, suc, List, [], ◌∷◌, ◌++◌, length, Bool, true, false, ◌&&◌, refl, sym, ap, ◌∙◌, subst, arith, inl, inr, slice_index_or, length-append}
+use Rattle.std.proofs.Common.{◌≡◌, ◌<◌, ◌+◌, ◌-◌, ◌/◌, ℕ, zero, suc, List, [], ◌∷◌, ◌++◌, length, Bool, true, ◌&&◌, refl, sym, ap, ◌∙◌, subst, arith, inl, inr, slice_index_or, length-append}
 use Rattle.std.specs.Prelude.{Option, None, Some, IfSome, IfOk, is_some, Result}
 use Rattle.std.proofs.lemmas.Bool.{and_parts, cases_eq}
 use Rattle.ball_model.specs.Caller.{Caller, IsCaller}
