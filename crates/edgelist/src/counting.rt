@@ -1,6 +1,6 @@
 //! Lists of the vertices that alone are counted.
 
-ghost use Rattle.std.specs.Prelude.{◌≡◌, ◌+◌, ◌^◌, ◌<◌, ◌≤◌, ℕ, List, Bool, [], ◌∷◌, ◌++◌, length};
+ghost use Rattle.std.specs.Prelude.{◌≡◌, ◌+◌, ◌^◌, ◌<◌, ◌≤◌, [], ◌∷◌, length};
 ghost use Rattle.std.specs.Prelude.{replicate, slice_index_or, if◌then◌else◌, None, OnOk, IfOk};
 ghost use Rattle.std.specs.Prelude.{IfErr, IfSome, IfNone, false, true};
 ghost use Rattle.std.specs.List.{IsDistinct};

@@ -1,6 +1,6 @@
 //! Labels that are numbered by first appearance.
 
-ghost use Rattle.std.specs.Prelude.{◌≡◌, ◌+◌, ◌*◌, ◌^◌, ◌<◌, ◌≤◌, ℕ, List, length, map, replicate};
+ghost use Rattle.std.specs.Prelude.{◌≡◌, ◌^◌, ◌<◌, ◌≤◌, ℕ, List, length, replicate};
 ghost use Rattle.std.specs.Prelude.{slice_index_or, [], true, false, IfOk, IfSome, IfNone, IsOk};
 ghost use Rattle.std.specs.Prelude.{OnOk, OnErr};
 ghost use Rattle.std.specs.List.{IsDistinct};
@@ -67,8 +67,6 @@ pub(crate) struct Numbering {
 
 impl Model for Numbering {
     ghost use Rattle.std.specs.Prelude.{List, ℕ};
-    ghost use Rattle.std.specs.List.{IsDistinct};
-    ghost use Rattle.std.specs.Str.{bytes_eq};
     ghost use Rattle.edgelist.specs.Guessing.{AreGuesses};
     ghost use Rattle.edgelist.specs.Labels.{texts};
 

@@ -4,7 +4,7 @@
 //! [`EdgeReader`]. It holds some lines at a time and never the whole edge list.
 
 ghost use Rattle.std.specs.Prelude.{◌≡◌, ◌≢◌, ◌<◌, ◌≤◌, ◌++◌, ◌∷◌, [], ℕ, List, None, Some, length};
-ghost use Rattle.std.specs.Prelude.{Err, IfErr, IfOk, IfSome, Ok, OnOk, Result};
+ghost use Rattle.std.specs.Prelude.{Err, IfErr, IfOk, Ok, OnOk, Result};
 ghost use Rattle.std.proofs.Props.{props};
 ghost use Rattle.ball_model.specs.Input.{IsPlain, Network, Refusal, most_records, network_from};
 ghost use Rattle.ball_model.specs.Input.{records};

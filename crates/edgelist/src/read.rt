@@ -1,7 +1,7 @@
 //! Reading edge lists.
 
-ghost use Rattle.std.specs.Prelude.{◌≡◌, ◌≢◌, ◌≤◌, ◌<◌, ◌+◌, ◌-◌, ◌^◌, ℕ, List, Result, true};
-ghost use Rattle.std.specs.Prelude.{false, Some, Ok, Err, IfSome, IfNone, OnSome, IfOk, IfErr};
+ghost use Rattle.std.specs.Prelude.{◌≡◌, ◌≢◌, ◌≤◌, ◌<◌, ◌+◌, ℕ, List, Result, true};
+ghost use Rattle.std.specs.Prelude.{false, Ok, Err, IfSome, IfNone, OnSome, IfOk, IfErr};
 ghost use Rattle.std.specs.Prelude.{OnOk, OnErr, length, option_copied, slice_index_or, [], ◌∷◌};
 ghost use Rattle.std.specs.Prelude.{◌++◌, ◌*◌, take};
 ghost use Rattle.std.specs.List.{All};
@@ -9,19 +9,19 @@ ghost use Rattle.std.specs.Io.KnownBytes.{ReadConsumes};
 ghost use Rattle.std.specs.Io.{ReadsAtMost};
 ghost use Rattle.csv.specs.Reading.{is_io, error_kind};
 ghost use Rattle.ball_model.specs.PlanValue.{most_vertices};
-ghost use Rattle.ball_model.specs.Input.{Network, Refusal, IsPlain, most_records, records};
-ghost use Rattle.ball_model.specs.Input.{has_form, network_from, input_of};
+ghost use Rattle.ball_model.specs.Input.{Network, Refusal, most_records, records};
+ghost use Rattle.ball_model.specs.Input.{has_form, network_from};
 ghost use Rattle.edgelist.specs.Edges.{edge_of, graph_of_edges};
 ghost use Rattle.edgelist.specs.declared.read.EdgeError.TheVariants.{Memory};
 ghost use Rattle.edgelist.specs.Guessing.{IsWord};
 ghost use Rattle.edgelist.specs.Pieces.{AddsRecords, IsPartRead, IsThrough, ReadsOn};
 ghost use Rattle.edgelist.specs.Records.{ForPlain, FromStart, HasForm, ReadsNone, ReadsNoneAfter};
-ghost use Rattle.edgelist.specs.Records.{ReadsOne, ReadsOneAfter, StopsAtEnd};
+ghost use Rattle.edgelist.specs.Records.{ReadsOne, ReadsOneAfter};
 ghost use Rattle.edgelist.specs.Reading.{byte_of, limits_of, meaning_of, meaning_within, CountsOne};
 ghost use Rattle.edgelist.specs.Reading.{IsReadBy, Refuses, edge_error, fields_with, has_label};
 ghost use Rattle.edgelist.specs.Reading.{with_label, network_by};
 ghost use Rattle.edgelist.specs.Reading.{AreWithin, AddsEdge, Exceeds, AddsRecord, Stops};
-ghost use Rattle.edgelist.specs.Reading.{EndsAt, EndsAtEnd, EndsAtFault, IsRefusal};
+ghost use Rattle.edgelist.specs.Reading.{EndsAtEnd, EndsAtFault};
 
 use crate::edge::Edge;
 use crate::graph::Graph;
