@@ -5,7 +5,7 @@ use Rattle.std.specs.List.{sum_by}
 use Rattle.std.proofs.lemmas.List.{length-take, take-append-le, drop-append-le, take_all, take_more, map-append}
 use Rattle.std.proofs.Math.Seq.{drop-append_seam}
 use Rattle.std.proofs.lemmas.List.Sums.{sum_by-cons}
-use Rattle.edgelist.specs.Lists.{lists_between, Ascend, AreStarts}
+use Rattle.edgelist.specs.Lists.{lists_between, Ascend}
 
 -- there is at least one start
 pub some-start : (end : ℕ) (starts : List ℕ) → Ascend end starts → 0 < length starts
@@ -58,18 +58,14 @@ cut-at items (a ∷ b ∷ starts) end (suc i) up lt =
 length-range : (items : List ℕ) (a b : ℕ) → a ≤ b → b ≤ length items → length (slice_range items a b) ≡ b - a
 length-range items a b low high = omega (arith, length-take (b - a) (drop a items), length-drop a items)
 
-total-from : (items : List ℕ) (a : ℕ) (starts : List ℕ) → Ascend (length items) (a ∷ starts) → a + sum_by length (lists_between items (a ∷ starts)) ≡ length items
+-- the lists have all items but those before the first start
+pub total-from : (items : List ℕ) (a : ℕ) (starts : List ℕ) → Ascend (length items) (a ∷ starts) → a + sum_by length (lists_between items (a ∷ starts)) ≡ length items
 unfolding lists_between Ascend
 total-from items a [] up = omega (arith, up)
 total-from items a (b ∷ starts) up =
     let step : sum_by length (lists_between items (a ∷ b ∷ starts)) ≡ length (slice_range items a b) + sum_by length (lists_between items (b ∷ starts)) =
     sum_by-cons length (slice_range items a b) (lists_between items (b ∷ starts)) in
     omega (arith, step, up.0, total-from items b starts up.1, length-range items a b up.0 (start-within (length items) b starts up.1))
-
--- the lists have all items
-pub total-cut : (items starts : List ℕ) → AreStarts (length items) starts → length items ≡ sum_by length (lists_between items starts)
-total-cut items [] ok = absurd (omega (arith, some-start (length items) [] ok.ascend))
-total-cut items (a ∷ starts) ok = omega (arith, ok.first, total-from items a starts ok.ascend)
 
 -- more items behind the others change no list
 slice-more : (items more : List ℕ) (a b : ℕ) → a ≤ b → b ≤ length items → slice_range (items ++ more) a b ≡ slice_range items a b
@@ -104,9 +100,9 @@ lists-push items list starts end e up =
     cut-push (items ++ list) starts (length items) end up ∙ rw (cut-more items list starts up, last) refl
 
 -- no items yet
-pub starts-none : AreStarts 0 (0 ∷ [])
+pub starts-none : Ascend 0 (0 ∷ [])
 unfolding Ascend
-starts-none = record { first = refl; ascend = refl; few = omega arith }
+starts-none = refl
 
 pub cut-none : (items : List ℕ) → lists_between items (0 ∷ []) ≡ []
 unfolding lists_between

@@ -4,7 +4,7 @@ use Rattle.edgelist.proofs.labels.put_texts.Goals as goal
 
 pub loop-text-init : goal.loop-text-init
 loop-text-init c = record {
-  starts = rw (c.in_ok-starts.ensures, c.requires) starts-none.ascend;
+  starts = rw (c.in_ok-starts.ensures, c.requires) starts-none;
   labels = rw (c.in_ok-starts.ensures, c.requires) (cut-none []);
 }
 
