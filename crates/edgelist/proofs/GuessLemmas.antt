@@ -1,10 +1,11 @@
 -- Words of short labels, and entries that tell their numbers.
-use Rattle.std.proofs.Common.{◌≡◌, ◌≢◌, ◌∙◌, ℕ, zero, suc, ◌+◌, ◌-◌, ◌*◌, ◌^◌, ◌<◌, ◌≤◌, true, false, ◌==◌, ◌&&◌, List, [], ◌∷◌, ◌++◌, length, get_or, set, take, drop, replicate, refl, ap, ap₂, arith, sym, subst, pow_mono}
+use Rattle.std.proofs.Common.{◌≡◌, ◌≢◌, ◌∙◌, ℕ, ◌+◌, ◌-◌, ◌*◌, ◌^◌, ◌<◌, ◌≤◌, true, false, ◌==◌, ◌&&◌, List, [], ◌∷◌, ◌++◌, length, get_or, set, take, drop, replicate, refl, ap, ap₂, arith, sym, subst, pow_mono}
 use Rattle.std.specs.Prelude.{min, Option, None, Some}
-use Rattle.std.specs.List.{list_any}
+use Rattle.std.specs.List.{list_any, All}
 use Rattle.std.specs.Str.{bytes_eq}
 use Rattle.std.proofs.lemmas.Nat.{pow-add}
 use Rattle.std.proofs.lemmas.List.Folds.{list_any_at}
+use Rattle.std.proofs.lemmas.List.Elements.{All-head, All-tail, All-take, All-drop, All-from_get_or}
 use Rattle.std.proofs.lemmas.List.{length-take, length-drop, take-append-drop, get_or_default, get_or-set_same, get_or-set_other}
 use Rattle.std.proofs.lemmas.Bool.{eqb-true, eq-eqb}
 use Rattle.edgelist.specs.Guessing.{bytes_after, word_of, IsShort, IsWord, HasWord, StandsAt, IsGuess, AreGuesses, entry_word, blank_entry}
@@ -16,30 +17,17 @@ use Rattle.ball_model.proofs.BoolLemmas.{by_cases}
 use Rattle.edgelist.proofs.LabelLemmas.{text_same}
 use Rattle.edgelist.proofs.RangeLemmas.{copies-at}
 
-abbrev AreBytes : List ℕ → Type 0
-AreBytes xs = (i : ℕ) → get_or xs i 0 < 256
-
 -- lists that are as long give the same number only where they are the same
-same-after : (v w : ℕ) (xs ys : List ℕ) → length xs ≡ length ys → AreBytes xs → AreBytes ys → bytes_after v xs ≡ bytes_after w ys → (v ≡ w) × (xs ≡ ys)
+same-after : (v w : ℕ) (xs ys : List ℕ) → length xs ≡ length ys → All (λ b. b < 256) xs → All (λ b. b < 256) ys → bytes_after v xs ≡ bytes_after w ys → (v ≡ w) × (xs ≡ ys)
 unfolding bytes_after
 same-after v w [] [] long p q is = (is, refl)
 same-after v w [] (y ∷ ys) long p q is = absurd (omega (arith, long))
 same-after v w (x ∷ xs) [] long p q is = absurd (omega (arith, long))
 same-after v w (x ∷ xs) (y ∷ ys) long p q is =
-    let later : (v * 256 + x ≡ w * 256 + y) × (xs ≡ ys) = same-after (v * 256 + x) (w * 256 + y) xs ys (omega (arith, long)) (λ i. p (suc i)) (λ i. q (suc i)) is in
-    let same_digit : x ≡ y = omega (arith, later.0, p zero, q zero) in
-    (omega (arith, later.0, p zero, q zero), rw (same_digit, later.1) refl)
-
-bytes-take : (n : ℕ) (xs : List ℕ) → AreBytes xs → AreBytes (take n xs)
-bytes-take zero xs bytes i = omega arith
-bytes-take (suc n) [] bytes i = omega arith
-bytes-take (suc n) (x ∷ xs) bytes zero = bytes zero
-bytes-take (suc n) (x ∷ xs) bytes (suc i) = bytes-take n xs (λ j. bytes (suc j)) i
-
-bytes-drop : (n : ℕ) (xs : List ℕ) → AreBytes xs → AreBytes (drop n xs)
-bytes-drop zero xs bytes i = bytes i
-bytes-drop (suc n) [] bytes i = omega arith
-bytes-drop (suc n) (x ∷ xs) bytes i = bytes-drop n xs (λ j. bytes (suc j)) i
+    let later : (v * 256 + x ≡ w * 256 + y) × (xs ≡ ys) = same-after (v * 256 + x) (w * 256 + y) xs ys (omega (arith, long)) (All-tail (λ b. b < 256) x xs p) (All-tail (λ b. b < 256) y ys q) is in
+    let small : (x < 256) × (y < 256) = (All-head (λ b. b < 256) x xs p, All-head (λ b. b < 256) y ys q) in
+    let same_digit : x ≡ y = omega (arith, later.0, small.0, small.1) in
+    (omega (arith, later.0, small.0, small.1), rw (same_digit, later.1) refl)
 
 -- short labels with the same word are the same
 pub word-same : (a b : List ℕ) → IsShort a → IsShort b → word_of a ≡ word_of b → a ≡ b
@@ -47,8 +35,10 @@ word-same a b short_a short_b is =
     let low : bytes_after 0 (take 8 a) ≡ bytes_after 0 (take 8 b) = ap (λ (w : LabelWord). w.low) is in
     let high : bytes_after 0 (drop 8 a) * 256 + length a + 1 ≡ bytes_after 0 (drop 8 b) * 256 + length b + 1 = ap (λ (w : LabelWord). w.high) is in
     let long : length a ≡ length b = omega (arith, high, short_a.few, short_b.few) in
-    let first = same-after 0 0 (take 8 a) (take 8 b) (length-take 8 a ∙ ap (λ n. min 8 n) long ∙ sym (length-take 8 b)) (bytes-take 8 a short_a.bytes) (bytes-take 8 b short_b.bytes) low in
-    let rest = same-after 0 0 (drop 8 a) (drop 8 b) (length-drop 8 a ∙ ap (λ n. n - 8) long ∙ sym (length-drop 8 b)) (bytes-drop 8 a short_a.bytes) (bytes-drop 8 b short_b.bytes) (omega (arith, high, long)) in
+    let bytes_a : All (λ b. b < 256) a = All-from_get_or (λ b. b < 256) a 0 (λ i lt. short_a.bytes i) in
+    let bytes_b : All (λ b. b < 256) b = All-from_get_or (λ b. b < 256) b 0 (λ i lt. short_b.bytes i) in
+    let first = same-after 0 0 (take 8 a) (take 8 b) (length-take 8 a ∙ ap (λ n. min 8 n) long ∙ sym (length-take 8 b)) (All-take (λ b. b < 256) 8 a bytes_a) (All-take (λ b. b < 256) 8 b bytes_b) low in
+    let rest = same-after 0 0 (drop 8 a) (drop 8 b) (length-drop 8 a ∙ ap (λ n. n - 8) long ∙ sym (length-drop 8 b)) (All-drop (λ b. b < 256) 8 a bytes_a) (All-drop (λ b. b < 256) 8 b bytes_b) (omega (arith, high, long)) in
     sym (take-append-drop 8 a) ∙ ap₂ (λ (xs ys : List ℕ). xs ++ ys) first.1 rest.1 ∙ take-append-drop 8 b
 
 -- a byte more

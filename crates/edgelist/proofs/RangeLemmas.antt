@@ -1,8 +1,6 @@
 -- Ranges of numbers, and copies of one value.
-use Rattle.std.proofs.Common.{◌≡◌, ◌∙◌, ℕ, zero, suc, ◌+◌, ◌<◌, ◌≤◌, Bool, true, false, ◌||◌, ◌==◌, List, ◌∷◌, get_or, replicate, refl, ap, arith, sym, subst, inl, inr, tests}
-use Rattle.std.specs.List.{list_any, filter, range_with_len}
-use Rattle.std.proofs.lemmas.Bool.{cases_lt, eq-eqb}
-use Rattle.ball_model.proofs.BoolLemmas.{by_cases}
+use Rattle.std.proofs.Common.{◌≡◌, ℕ, zero, suc, ◌+◌, ◌<◌, ◌≤◌, Bool, true, List, ◌∷◌, get_or, replicate, refl, ap, arith}
+use Rattle.std.specs.List.{filter, range_with_len}
 
 -- tests that agree below a bound keep the same of a range below it
 pub filter_range-same : (p q : ℕ → Bool) (a n bound : ℕ) → a + n ≤ bound → ((k : ℕ) → k < bound → p k ≡ q k) → filter p (range_with_len a n) ≡ filter q (range_with_len a n)
