@@ -3,6 +3,7 @@ use Rattle.std.specs.Prelude.{◌≡◌, ℕ, ◌+◌, ◌*◌, ◌<◌, ◌≤�
 use Rattle.csv.specs.Records.{field_at}
 use Rattle.edgelist.specs.declared.numbering.LabelGuess.{LabelGuess}
 use Rattle.edgelist.specs.declared.numbering.LabelWord.{LabelWord}
+use Rattle.edgelist.specs.declared.numbering.TheConstants.{FIRST, SHORT}
 
 -- more bytes behind those of a number, which are its digits to the base 256
 unfoldable pub bytes_after : ℕ → List ℕ → ℕ
@@ -12,14 +13,14 @@ bytes_after w (b ∷ bs) = bytes_after (w * 256 + b) bs
 -- a short label as two numbers: its first 8 bytes, and the others with one more than how many all are
 abbrev pub word_of : List ℕ → LabelWord
 word_of label = record {
-  low = bytes_after 0 (take 8 label);
-  high = bytes_after 0 (drop 8 label) * 256 + length label + 1;
+  low = bytes_after 0 (take FIRST label);
+  high = bytes_after 0 (drop FIRST label) * 256 + length label + 1;
 }
 
 -- a label of at most 11 bytes
 pub record IsShort (label : List ℕ) : Type 0 where
   pub bytes : (i : ℕ) → slice_index label i < 256
-  pub few : length label ≤ 11
+  pub few : length label ≤ SHORT
 
 -- the word of a label, if that is short
 abbrev pub IsWord : List ℕ → LabelWord → Type 0

@@ -8,6 +8,7 @@ ghost use Rattle.std.specs.Str.{bytes_eq};
 ghost use Rattle.edgelist.specs.Guessing.{AreGuesses, IsShort, IsWord, StandsAt, IsGuess, blank_entry};
 ghost use Rattle.edgelist.specs.Guessing.{bytes_after, entry_word, word_of};
 ghost use Rattle.edgelist.specs.Labels.{texts};
+ghost use Rattle.edgelist.specs.declared.numbering.TheConstants.{FIRST, SHORT};
 ghost use Rattle.edgelist.specs.Reading.{has_label, with_label};
 
 use crate::labels::Labels;
@@ -89,7 +90,7 @@ fn eight(part: &[u8]) -> u64
 
 // Some bytes of a label as the digits of one number.
 fn digits(part: &[u8]) -> u64
-    requires { length part.now ≤ 8 }
+    requires { length part.now ≤ FIRST }
     ensures value { result ≡ bytes_after 0 part.now }
     ensures few { length part.now ≤ 3 → result < 2 ^ 24 }
 {
@@ -105,7 +106,7 @@ fn digits(part: &[u8]) -> u64
 
 // The word of a short label.
 fn word(label: &[u8]) -> LabelWord
-    requires { length label.now ≤ 11 }
+    requires { length label.now ≤ SHORT }
     ensures { result ≡ word_of label.now }
 {
     let (first, rest) = label.split_at(label.len().min(FIRST));
