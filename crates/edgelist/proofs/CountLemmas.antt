@@ -1,5 +1,5 @@
 -- What a list of counted vertices says.
-use Rattle.std.proofs.Common.{◌≡◌, ◌≢◌, ◌∙◌, ℕ, zero, suc, ◌+◌, ◌<◌, ◌≤◌, ◌==◌, Bool, true, false, ◌||◌, List, [], ◌∷◌, ◌++◌, length, map, get_or, set, replicate, refl, ap, sym, arith}
+use Rattle.std.proofs.Common.{◌≡◌, ◌≢◌, ◌∙◌, ℕ, ◌+◌, ◌<◌, ◌≤◌, ◌==◌, Bool, true, false, ◌||◌, List, [], ◌∷◌, ◌++◌, length, map, get_or, set, replicate, refl, ap, sym, arith}
 use Rattle.std.specs.Prelude.{Option, None, Some, Err, if◌then◌else◌}
 use Rattle.std.specs.List.{list_any, filter, range_with_len, AllByRecursion, IsDistinct}
 use Rattle.std.specs.Str.{bytes_eq}
@@ -7,6 +7,8 @@ use Rattle.std.specs.Cmp.Lexicographic.{same_text}
 use Rattle.std.proofs.lemmas.List.{append_assoc, length-append, length-set, length-replicate, get_or_append_left, get_or-set_same, get_or-set_other, get_or-replicate}
 use Rattle.std.proofs.lemmas.List.Folds.{list_any-append, list_any_at}
 use Rattle.std.proofs.lemmas.List.Elements.{filter-append}
+use Rattle.std.proofs.lemmas.List.FromFn.{length-range_with_len}
+use Rattle.std.proofs.lemmas.List.Sums.{length-filter, count_by-le-length}
 use Rattle.csv.specs.declared.reader.Reader.{Reader}
 use Rattle.ball_model.specs.Input.{Network, records, first_of}
 use Rattle.ball_model.specs.Counting.{CountedRefusal, NotOne, Unknown, is_name, names, list_fault_at, named_vertices, counted_network_from}
@@ -169,15 +171,10 @@ abbrev pub marked_below : List Bool → ℕ → List ℕ
 marked_below marks n = filter (λ v. get_or marks v true) (range_with_len 0 n)
 
 -- a filter of a range is not longer
-filter-few : (q : ℕ → Bool) (a n : ℕ) → length (filter q (range_with_len a n)) ≤ n
-filter-few q a zero = omega arith
-filter-few q a (suc n) =
-    by_cases (q a) _
-    (λ t. rw t (omega (arith, filter-few q (a + 1) n)))
-    (λ f. rw f (omega (arith, filter-few q (a + 1) n)))
-
 pub marked-few : (marks : List Bool) (n : ℕ) → length (marked_below marks n) ≤ n
-marked-few marks n = filter-few (λ v. get_or marks v true) 0 n
+marked-few marks n =
+    let q : ℕ → Bool = λ v. get_or marks v true in
+    omega (arith, length-filter q (range_with_len 0 n), count_by-le-length q (range_with_len 0 n), length-range_with_len 0 n)
 
 length-if : (b : Bool) (n : ℕ) → length (if b then (n ∷ []) else []) ≡ (if b then 1 else 0)
 length-if true n = refl

@@ -1,10 +1,10 @@
 -- Which check fails first.
-use Rattle.std.proofs.Common.{◌≡◌, ℕ, zero, suc, ◌+◌, ◌<◌, ◌≤◌, true, false, nat_lt, List, [], ◌∷◌, ◌++◌, length, map, take, refl, ap, arith, sym, subst, ◌∙◌, inl, inr, tests, Ok, Err, OnOk, IfErr}
+use Rattle.std.proofs.Common.{◌≡◌, ℕ, zero, suc, ◌+◌, ◌<◌, ◌≤◌, true, false, nat_lt, List, [], ◌∷◌, ◌++◌, length, map, refl, ap, arith, sym, subst, ◌∙◌, inl, inr, tests, Ok, Err, OnOk, IfErr}
 use Rattle.std.specs.Prelude.{Option, Some, None, Result, nat_le}
 use Rattle.std.specs.List.{range_with_len}
 use Rattle.std.proofs.lemmas.Bool.{cases_lt}
 use Rattle.std.proofs.lemmas.List.{get_or_append_left, length-append, take-append-le}
-use Rattle.std.proofs.Math.Seq.{get_or-append_seam}
+use Rattle.std.proofs.Math.Seq.{get_or-append_seam, take-append-add}
 use Rattle.ball_model.specs.Input.{Limits, Network, Refusal, TooManyEdges, Fields, TooManyVertices, has_form, labels_of, fault_at, first_of, network_from}
 use Rattle.edgelist.specs.Edges.{AllBelow, edge_of, graph_of_edges}
 use Rattle.edgelist.specs.declared.edge.Edge.{Edge}
@@ -22,24 +22,20 @@ fault-prefix limits records more i lt =
     let le : i + 1 ≤ length records = omega arith in
     rw (get_or_append_left records more [] i lt, take-append-le (i + 1) records more) refl
 
-up-to-next : (records : List Record) (r : Record) (more : List Record) → take (length records + 1) (records ++ r ∷ more) ≡ records ++ r ∷ []
-up-to-next [] r more = refl
-up-to-next (s ∷ records) r more = let e : suc (length records) + 1 ≡ suc (length records + 1) = omega arith in rw e (ap (λ (l : List Record). s ∷ l) (up-to-next records r more))
-
 -- the four outcomes at the record that follows some
 fault-vertices : (limits : Limits) (records : List Record) (r : Record) (more : List Record) → length records < limits.edges → has_form r ≡ true → limits.vertices < length (labels_of (records ++ r ∷ [])) →
     fault_at limits (records ++ r ∷ more) (length records) ≡ Some TooManyVertices
 fault-vertices limits records r more lt form many =
     let off : nat_le limits.edges (length records) ≡ false = search (tests, arith) in
     let over : nat_lt limits.vertices (length (labels_of (records ++ r ∷ []))) ≡ true = search (tests, arith) in
-    rw (off, get_or-append_seam records r more [], form, up-to-next records r more, over) refl
+    rw (off, get_or-append_seam records r more [], form, take-append-add records (r ∷ more) 1, over) refl
 
 fault-none : (limits : Limits) (records : List Record) (r : Record) (more : List Record) → length records < limits.edges → has_form r ≡ true → length (labels_of (records ++ r ∷ [])) ≤ limits.vertices →
     fault_at limits (records ++ r ∷ more) (length records) ≡ None
 fault-none limits records r more lt form few =
     let off : nat_le limits.edges (length records) ≡ false = search (tests, arith) in
     let within : nat_lt limits.vertices (length (labels_of (records ++ r ∷ []))) ≡ false = search (tests, arith) in
-    rw (off, get_or-append_seam records r more [], form, up-to-next records r more, within) refl
+    rw (off, get_or-append_seam records r more [], form, take-append-add records (r ∷ more) 1, within) refl
 
 pub first-none : {X : Type 0} (f : ℕ → Option X) (a n : ℕ) → ((k : ℕ) → k < a + n → f k ≡ None) → first_of (map f (range_with_len a n)) ≡ None
 first-none f a zero h = refl

@@ -17,15 +17,18 @@ use Rattle.ball_model.proofs.BoolLemmas.{by_cases}
 use Rattle.edgelist.proofs.LabelLemmas.{text_same}
 use Rattle.edgelist.proofs.RangeLemmas.{copies-at}
 
+abbrev IsByte : ℕ → Type 0
+IsByte b = b < 256
+
 -- lists that are as long give the same number only where they are the same
-same-after : (v w : ℕ) (xs ys : List ℕ) → length xs ≡ length ys → All (λ b. b < 256) xs → All (λ b. b < 256) ys → bytes_after v xs ≡ bytes_after w ys → (v ≡ w) × (xs ≡ ys)
+same-after : (v w : ℕ) (xs ys : List ℕ) → length xs ≡ length ys → All IsByte xs → All IsByte ys → bytes_after v xs ≡ bytes_after w ys → (v ≡ w) × (xs ≡ ys)
 unfolding bytes_after
 same-after v w [] [] long p q is = (is, refl)
 same-after v w [] (y ∷ ys) long p q is = absurd (omega (arith, long))
 same-after v w (x ∷ xs) [] long p q is = absurd (omega (arith, long))
 same-after v w (x ∷ xs) (y ∷ ys) long p q is =
-    let later : (v * 256 + x ≡ w * 256 + y) × (xs ≡ ys) = same-after (v * 256 + x) (w * 256 + y) xs ys (omega (arith, long)) (All-tail (λ b. b < 256) x xs p) (All-tail (λ b. b < 256) y ys q) is in
-    let small : (x < 256) × (y < 256) = (All-head (λ b. b < 256) x xs p, All-head (λ b. b < 256) y ys q) in
+    let later : (v * 256 + x ≡ w * 256 + y) × (xs ≡ ys) = same-after (v * 256 + x) (w * 256 + y) xs ys (omega (arith, long)) (All-tail IsByte x xs p) (All-tail IsByte y ys q) is in
+    let small : (x < 256) × (y < 256) = (All-head IsByte x xs p, All-head IsByte y ys q) in
     let same_digit : x ≡ y = omega (arith, later.0, small.0, small.1) in
     (omega (arith, later.0, small.0, small.1), rw (same_digit, later.1) refl)
 
@@ -35,10 +38,10 @@ word-same a b short_a short_b is =
     let low : bytes_after 0 (take 8 a) ≡ bytes_after 0 (take 8 b) = ap (λ (w : LabelWord). w.low) is in
     let high : bytes_after 0 (drop 8 a) * 256 + length a + 1 ≡ bytes_after 0 (drop 8 b) * 256 + length b + 1 = ap (λ (w : LabelWord). w.high) is in
     let long : length a ≡ length b = omega (arith, high, short_a.few, short_b.few) in
-    let bytes_a : All (λ b. b < 256) a = All-from_get_or (λ b. b < 256) a 0 (λ i lt. short_a.bytes i) in
-    let bytes_b : All (λ b. b < 256) b = All-from_get_or (λ b. b < 256) b 0 (λ i lt. short_b.bytes i) in
-    let first = same-after 0 0 (take 8 a) (take 8 b) (length-take 8 a ∙ ap (λ n. min 8 n) long ∙ sym (length-take 8 b)) (All-take (λ b. b < 256) 8 a bytes_a) (All-take (λ b. b < 256) 8 b bytes_b) low in
-    let rest = same-after 0 0 (drop 8 a) (drop 8 b) (length-drop 8 a ∙ ap (λ n. n - 8) long ∙ sym (length-drop 8 b)) (All-drop (λ b. b < 256) 8 a bytes_a) (All-drop (λ b. b < 256) 8 b bytes_b) (omega (arith, high, long)) in
+    let bytes_a : All IsByte a = All-from_get_or IsByte a 0 (λ i lt. short_a.bytes i) in
+    let bytes_b : All IsByte b = All-from_get_or IsByte b 0 (λ i lt. short_b.bytes i) in
+    let first = same-after 0 0 (take 8 a) (take 8 b) (length-take 8 a ∙ ap (λ n. min 8 n) long ∙ sym (length-take 8 b)) (All-take IsByte 8 a bytes_a) (All-take IsByte 8 b bytes_b) low in
+    let rest = same-after 0 0 (drop 8 a) (drop 8 b) (length-drop 8 a ∙ ap (λ n. n - 8) long ∙ sym (length-drop 8 b)) (All-drop IsByte 8 a bytes_a) (All-drop IsByte 8 b bytes_b) (omega (arith, high, long)) in
     sym (take-append-drop 8 a) ∙ ap₂ (λ (xs ys : List ℕ). xs ++ ys) first.1 rest.1 ∙ take-append-drop 8 b
 
 -- a byte more

@@ -1,6 +1,7 @@
 -- The predecessors that a graph of lists has are those lists.
 use Rattle.std.proofs.Common.{◌≡◌, ℕ, zero, suc, ◌+◌, ◌<◌, ◌≤◌, Bool, true, false, ◌&&◌, ◌||◌, ◌==◌, nat_eq, List, [], ◌∷◌, ◌++◌, length, map, get_or, refl, ap, arith, inl, inr, sym, subst, ◌∙◌, tests}
 use Rattle.std.specs.List.{list_any, filter, flat_map, range_with_len, sum_by, AllByRecursion}
+use Rattle.std.proofs.lemmas.List.Elements.{filter_agree}
 use Rattle.std.proofs.lemmas.List.{length-map, length-append}
 use Rattle.std.proofs.lemmas.List.Sums.{sum_by-cons}
 use Rattle.std.proofs.lemmas.List.Folds.{list_any-append}
@@ -52,7 +53,7 @@ absent lo n y (p ∷ ps) asc lt =
     let apart : nat_eq p y ≡ false = search (tests, arith, asc.0) in
     rw apart (absent (p + 1) n y ps asc.2 (omega (arith, asc.0)))
 
-pub filter-same : (p q : ℕ → Bool) (a n : ℕ) → ((k : ℕ) → a ≤ k → p k ≡ q k) → filter p (range_with_len a n) ≡ filter q (range_with_len a n)
+filter-same : (p q : ℕ → Bool) (a n : ℕ) → ((k : ℕ) → a ≤ k → p k ≡ q k) → filter p (range_with_len a n) ≡ filter q (range_with_len a n)
 filter-same p q a zero h = refl
 filter-same p q a (suc n) h = rw (h a (omega arith), filter-same p q (a + 1) n (λ k le. h k (omega arith))) refl
 
@@ -87,7 +88,7 @@ all_ascend-at n (ps ∷ rest) (suc i) asc lt = all_ascend-at n rest i asc.1 (ome
 -- the predecessors of x are its list
 pub preds_of-graph : (lists : List (List ℕ)) (marks : List Bool) (x : ℕ) → AllAscend (length lists) lists → x < length lists → preds_of (graph_of lists marks) x ≡ get_or lists x []
 preds_of-graph lists marks x asc lt =
-    filter-same (λ y. is_edge (graph_of lists marks) y x) (λ y. list_any (λ p. p == y) (get_or lists x [])) 0 (length lists) (λ y le. let at : 0 + x ≡ x = omega arith in subst (λ (k : ℕ). list_any (λ (e : ℕ × ℕ). (e.0 == y) && (e.1 == k)) (edges_from 0 lists) ≡ list_any (λ p. p == y) (get_or lists x [])) at (any_edges lists 0 y x lt))
+    filter_agree (λ y. is_edge (graph_of lists marks) y x) (λ y. list_any (λ p. p == y) (get_or lists x [])) (λ y. let at : 0 + x ≡ x = omega arith in subst (λ (k : ℕ). list_any (λ (e : ℕ × ℕ). (e.0 == y) && (e.1 == k)) (edges_from 0 lists) ≡ list_any (λ p. p == y) (get_or lists x [])) at (any_edges lists 0 y x lt)) (range_with_len 0 (length lists))
     ∙ kept 0 (length lists) (get_or lists x []) (let whole : length lists ≡ 0 + length lists = omega arith in subst (λ (m : ℕ). Ascends 0 m (get_or lists x [])) whole (all_ascend-at (length lists) lists x asc lt))
 
 -- each edge joins two vertices

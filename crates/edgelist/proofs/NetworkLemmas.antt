@@ -5,6 +5,7 @@ use Rattle.std.specs.Str.{bytes_eq}
 use Rattle.std.specs.Cmp.Lexicographic.{same_text}
 use Rattle.std.proofs.lemmas.List.{append-nil, append_assoc, get_or_append_left, length-append, map-append}
 use Rattle.std.proofs.lemmas.List.Elements.{filter-append}
+use Rattle.std.proofs.lemmas.List.Folds.{list_any_at}
 use Rattle.std.proofs.lemmas.Grind.{flat_map-append}
 use Rattle.std.proofs.lemmas.Map.Views.{any-filter_same}
 use Rattle.std.proofs.lemmas.Bool.{not_from_true, not_from_false, eqb-true, eq-eqb}
@@ -170,15 +171,10 @@ unfolding labels_of
 apart-labels records = apart-distinct (flat_map (λ s. s) records)
 
 none_at : (p : List ℕ → Bool) (xs : List (List ℕ)) (i : ℕ) → list_any p xs ≡ false → i < length xs → p (get_or xs i []) ≡ false
-none_at p [] i e lt = absurd (omega arith)
-none_at p (x ∷ xs) zero e lt =
-    by_cases (p x) _
-    (λ t. absurd (let bad = rw t at e in cc))
+none_at p xs i e lt =
+    by_cases (p (get_or xs i [])) _
+    (λ t. absurd (let bad : true ≡ false = sym (list_any_at p xs i [] lt t) ∙ e in cc))
     (λ f. f)
-none_at p (x ∷ xs) (suc i) e lt =
-    by_cases (p x) _
-    (λ t. absurd (let bad = rw t at e in cc))
-    (λ f. none_at p xs i (rw f at e) (omega arith))
 
 -- equal labels stand at one place
 pub apart-at : (xs : List (List ℕ)) (i j : ℕ) → Apart xs → i < length xs → j < length xs → get_or xs i [] ≡ get_or xs j [] → i ≡ j

@@ -1,10 +1,9 @@
 -- Rows that are read one after another, and then added.
-use Rattle.std.proofs.Common.{◌≡◌, ◌∙◌, ◌+◌, ◌<◌, ◌≤◌, ℕ, zero, suc, List, [], ◌∷◌, ◌++◌, length, take, get_or, set, arith, ap, sym, subst}
+use Rattle.std.proofs.Common.{◌≡◌, ◌∙◌, ◌+◌, ◌<◌, ◌≤◌, ℕ, List, [], ◌∷◌, ◌++◌, length, take, get_or, set, arith, ap, sym, subst}
 use Rattle.std.specs.Prelude.{Option}
 use Rattle.std.specs.List.{All}
-use Rattle.std.proofs.Math.Seq.{take-suc}
-use Rattle.std.proofs.lemmas.List.{get_or-set_same, length-take-le, take-set, take_more_set}
-use Rattle.std.proofs.lemmas.List.Elements.{All-append, All-get_or}
+use Rattle.std.proofs.lemmas.List.{get_or-set_same, length-take-le, take-set, take_more, take_more_set}
+use Rattle.std.proofs.lemmas.List.Elements.{All-get_or, All-push}
 use Rattle.csv.specs.declared.reader.Reader.{Reader}
 use Rattle.ball_model.specs.Input.{Limits}
 use Rattle.edgelist.specs.Pieces.{AddsRecords, IsPartRead}
@@ -15,9 +14,6 @@ use Rattle.edgelist.proofs.PieceLemmas.{adds-more, reads-more, part-read-all}
 
 abbrev Fields : Type 0
 Fields = List (List ℕ)
-
-rows-next : (rs : List Fields) (i : ℕ) (d : Fields) → i < length rs → take (i + 1) rs ≡ take i rs ++ get_or rs i d ∷ []
-rows-next rs i d lt = let e : i + 1 ≡ suc i = omega arith in rw e (take-suc rs i d lt)
 
 pub one-after : {R : Type 0} (rem : R → Option (List ℕ)) (a b c : Reader R) (xs : List Fields) (i : ℕ) (x : Fields) → i < length xs →
     ReadsRecords rem a b (take i xs) → ReadsOne rem b c x → ReadsOneAfter rem a c (take i (set xs i x)) (get_or (set xs i x) i [])
@@ -35,13 +31,9 @@ pub all-more : {R : Type 0} (rem : R → Option (List ℕ)) (a b c : Reader R) (
 all-more rem a b c xs i x lt reads one =
     subst (λ (rs : List Fields). ReadsRecords rem a c rs) (sym (take_more_set xs i x lt)) (reads-more rem a b c (take i xs) x reads one)
 
-form-one : (r : Fields) → HasForm r → All HasForm (r ∷ [])
-form-one r p zero d lt = p
-form-one r p (suc k) d lt = absurd (omega (arith, lt))
-
 pub form-more : (xs : List Fields) (i : ℕ) (x : Fields) → i < length xs → All HasForm (take i xs) → HasForm x → All HasForm (take (i + 1) (set xs i x))
 form-more xs i x lt all one =
-    subst (λ (rs : List Fields). All HasForm rs) (sym (take_more_set xs i x lt)) (All-append HasForm (take i xs) (x ∷ []) all (form-one x one))
+    subst (λ (rs : List Fields). All HasForm rs) (sym (take_more_set xs i x lt)) (All-push HasForm (take i xs) x all one)
 
 -- one of the rows more that was added
 pub adds-next : (limits : Limits) (n i : ℕ) (xs : List Fields) (row : Fields) (a b c : List (List ℕ)) (x y z : List Edge) → i < length xs → row ≡ get_or xs i row →
@@ -49,7 +41,7 @@ pub adds-next : (limits : Limits) (n i : ℕ) (xs : List Fields) (row : Fields) 
 adds-next limits n i xs row a b c x y z lt here adds one =
     let long : length (take i xs) ≡ i = length-take-le i xs (omega (arith, lt)) in
     let next : take (i + 1) xs ≡ take i xs ++ row ∷ [] =
-    rows-next xs i row lt ∙ ap (λ (r : Fields). take i xs ++ r ∷ []) (sym here) in
+    take_more xs i row lt ∙ ap (λ (r : Fields). take i xs ++ r ∷ []) (sym here) in
     subst (λ (rs : List Fields). AddsRecords limits n rs a x c z) (sym next)
     (adds-more limits n (take i xs) row a b c x y z adds
     (subst (λ (k : ℕ). AddsRecord limits (n + k) row b y c z) (sym long) one))
