@@ -1,3 +1,4 @@
+pub mod DividendLemmas
 pub mod FigureLemmas
 pub mod LastLemmas
 pub mod PieceLemmas
