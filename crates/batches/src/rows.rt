@@ -1,12 +1,11 @@
 //! Rows of a batch, in memory and as bytes.
 
-ghost use Rattle.std.specs.Prelude.{◌≡◌, ◌+◌, ◌-◌, ◌*◌, ◌^◌, ◌≤◌, ◌<◌, ◌++◌, ◌∷◌, [], length, take};
+ghost use Rattle.std.specs.Prelude.{◌≡◌, ◌+◌, ◌*◌, ◌^◌, ◌≤◌, ◌<◌, ◌++◌, ◌∷◌, [], length, take};
 ghost use Rattle.std.specs.Prelude.{drop, max, nat_lt, IfOk, OnOk, OnErr, Ok};
 ghost use Rattle.std.specs.Result.{result_and};
-ghost use Rattle.std.specs.List.{list_any, flat_map, fold};
+ghost use Rattle.std.specs.List.{list_any, fold};
 ghost use Rattle.std.specs.Int.{w32};
 ghost use Rattle.ball_model.specs.declared.plan.TheConstants.{GREATEST_RANK, MOST_REGISTERS};
-ghost use Rattle.ball_model.specs.Batches.{row_bytes};
 ghost use Rattle.batches.specs.Kept.{field, row_at, first_rows, paired_rows};
 ghost use Rattle.batches.specs.Reading.{check_length, check_row, check_rows};
 

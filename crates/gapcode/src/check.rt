@@ -1,6 +1,6 @@
 //! Whether bytes spell lists. It takes no memory.
 
-ghost use Rattle.std.specs.Prelude.{◌≡◌, ◌+◌, ◌-◌, ◌*◌, ◌<◌, ◌≤◌, ◌^◌, ◌%◌, length, take, IfOk, Ok};
+ghost use Rattle.std.specs.Prelude.{◌≡◌, ◌-◌, ◌*◌, ◌≤◌, ◌^◌, length, IfOk, Ok};
 ghost use Rattle.std.specs.Result.{result_and};
 ghost use Rattle.gapcode.specs.Bits.{bits_of, bits_from, number_of};
 ghost use Rattle.gapcode.specs.Lists.{elements_at, list_at, lists_at, all_of, bits_after};

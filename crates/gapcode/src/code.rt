@@ -1,6 +1,6 @@
 //! One code at a place among the bits of bytes.
 
-ghost use Rattle.std.specs.Prelude.{◌≡◌, ◌+◌, ◌-◌, ◌*◌, ◌<◌, ◌≤◌, ◌++◌, length, take, drop};
+ghost use Rattle.std.specs.Prelude.{◌≡◌, ◌-◌, ◌*◌, ◌<◌, ◌≤◌, ◌++◌, length, take, drop};
 ghost use Rattle.std.specs.Prelude.{replicate, IfOk};
 ghost use Rattle.gapcode.specs.Bits.{digits, bits_of, bits_from, window_of, with_rest_at, gamma_at};
 ghost use Rattle.gapcode.specs.Bits.{most_digits};

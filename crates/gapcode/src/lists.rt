@@ -1,9 +1,8 @@
 //! Lists of ascending numbers in one piece of memory.
 
 ghost use Rattle.std.specs.Prelude.{◌≡◌, ◌+◌, ◌*◌, ◌<◌, ◌≤◌, ◌++◌, ◌∷◌, [], ℕ, Bool, List, length};
-ghost use Rattle.std.specs.Prelude.{map, slice_index_or, IfOk, OnOk, OnErr, Ok, Err};
+ghost use Rattle.std.specs.Prelude.{map, slice_index_or, IfOk, OnOk, Ok};
 ghost use Rattle.std.specs.List.{All};
-ghost use Rattle.gapcode.specs.declared.error.CodeError.TheVariants.{Memory};
 ghost use Rattle.gapcode.specs.Bits.{bits_from};
 ghost use Rattle.gapcode.specs.Lists.{beyond, AscendsFrom, AreAscending, IsSpelling, AreSpelled};
 ghost use Rattle.gapcode.specs.Lists.{BeginsAt, BeginWith, GivesOrMemory, all_of, list_bits};

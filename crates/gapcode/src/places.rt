@@ -1,8 +1,7 @@
 //! Places in four bytes each.
 
-ghost use Rattle.std.specs.Prelude.{◌≡◌, ◌+◌, ◌-◌, ◌/◌, ◌*◌, ◌^◌, ◌<◌, ◌≤◌, ◌++◌, ◌∷◌, [], length};
-ghost use Rattle.std.specs.Prelude.{replicate, slice_index, IfOk, OnOk, nat_le};
-ghost use Rattle.std.specs.List.{count_by};
+ghost use Rattle.std.specs.Prelude.{◌≡◌, ◌-◌, ◌^◌, ◌<◌, ◌≤◌, ◌++◌, ◌∷◌, [], length};
+ghost use Rattle.std.specs.Prelude.{replicate, slice_index, IfOk, OnOk};
 ghost use Rattle.gapcode.specs.Places.{marks_up_to};
 
 use std::alloc::{AllocError, Global};

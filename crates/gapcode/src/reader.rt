@@ -1,10 +1,10 @@
 //! Bits out of bytes.
 
-ghost use Rattle.std.specs.Prelude.{◌≡◌, ◌↔◌, ℕ, Bool, List, Err, false, ◌+◌, ◌++◌, replicate, ◌*◌};
+ghost use Rattle.std.specs.Prelude.{◌≡◌, ◌↔◌, ℕ, Bool, List, Err, false, ◌+◌, ◌++◌, replicate};
 ghost use Rattle.std.specs.Prelude.{◌<◌, ◌≤◌, ◌^◌, length, take, slice_get, option_to_list, OnErr};
 ghost use Rattle.std.specs.Prelude.{IfOk, Ok};
 ghost use Rattle.gapcode.specs.declared.error.CodeError.TheVariants.{TooLong};
-ghost use Rattle.gapcode.specs.Bits.{bits_of, Place, rest, with_rest, gamma, gamma_at, most_digits};
+ghost use Rattle.gapcode.specs.Bits.{bits_of, rest, with_rest, gamma, gamma_at, most_digits};
 
 use crate::code::code_from;
 use crate::error::CodeError;

@@ -1,7 +1,7 @@
 //! Bits into bytes.
 
 ghost use Rattle.std.specs.Prelude.{◌≡◌, ◌+◌, ◌*◌, ◌/◌, ◌%◌, ◌<◌, ◌≤◌, ◌^◌, ◌++◌, [], length};
-ghost use Rattle.std.specs.Prelude.{replicate, false, OnOk, OnErr, ℕ, vec_len, vec_capacity};
+ghost use Rattle.std.specs.Prelude.{OnOk, OnErr, vec_len, vec_capacity};
 ghost use Rattle.gapcode.specs.Bits.{digits, bits_with, gamma, most_digits, AreBytesOf};
 
 use std::alloc::{AllocError, Global};

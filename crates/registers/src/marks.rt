@@ -1,6 +1,6 @@
 //! Marks, one a row, of which often few are set.
 
-ghost use Rattle.std.specs.Prelude.{◌≡◌, ◌+◌, ◌≤◌, ◌<◌, length, IsTrue};
+ghost use Rattle.std.specs.Prelude.{◌+◌, ◌≤◌, ◌<◌, length, IsTrue};
 ghost use Rattle.registers.specs.Marks.{AreBlank, IsNextMarked};
 
 // How many marks are passed over at once, and how many where one of those is set.
