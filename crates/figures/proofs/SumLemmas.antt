@@ -10,6 +10,7 @@ use Rattle.std.proofs.lemmas.Nat.{pow-add}
 use Rattle.std.proofs.Math.Dec.{eqb-suc-zero}
 use Rattle.ball_model.specs.Figures.{inverse_sum, empty_of}
 use Rattle.ball_model.proofs.EstimateLemmas.{empty_of-few, inverse_sum-low}
+use Rattle.figures.specs.declared.estimates.TheConstants.{EMPTY}
 use Rattle.figures.specs.Values.{IsWeight, weight_of}
 
 -- one term of the number of empty registers
@@ -18,7 +19,7 @@ one_where_empty r = if r == 0 then 1 else 0
 
 -- what a register adds
 abbrev pub entry : ℕ → ℕ
-entry r = 2 ^ (33 - r) + 2 ^ 50 * one_where_empty r
+entry r = 2 ^ (33 - r) + EMPTY * one_where_empty r
 
 -- what the table has for a rank
 pub entry_at : (place r : ℕ) → place ≡ r → r ≤ 33 → get_or (map entry (range_with_len 0 34)) place 0 ≡ entry r
@@ -31,7 +32,7 @@ one_few : (r : ℕ) → one_where_empty r ≤ 1
 one_few zero = omega arith
 one_few (suc r) = rw (eqb-suc-zero r) (omega arith)
 
-pub entry_few : (r : ℕ) → entry r ≤ 2 ^ 33 + 2 ^ 50
+pub entry_few : (r : ℕ) → entry r ≤ 2 ^ 33 + EMPTY
 entry_few r = omega (arith, inverse_few r, one_few r)
 
 -- at most 1024 registers have sums that do not meet
@@ -46,10 +47,10 @@ pub weight_few : (row : List ℕ) → length row ≤ 1024 → weight_of row ≤ 
 weight_few row short = let few = sums_few row short in omega (arith, few.0, few.1)
 
 -- and come apart again
-apart : (weight inverses empty : ℕ) → weight ≡ inverses + 2 ^ 50 * empty → inverses ≤ 2 ^ 43 → (weight % 2 ^ 50 ≡ inverses) × (weight / 2 ^ 50 ≡ empty)
+apart : (weight inverses empty : ℕ) → weight ≡ inverses + EMPTY * empty → inverses ≤ 2 ^ 43 → (weight % EMPTY ≡ inverses) × (weight / EMPTY ≡ empty)
 apart weight inverses empty is few = (omega arith, omega arith)
 
-pub weight_apart : (row : List ℕ) (weight : ℕ) → length row ≤ 1024 → weight ≡ weight_of row → (weight % 2 ^ 50 ≡ inverse_sum row) × (weight / 2 ^ 50 ≡ empty_of row)
+pub weight_apart : (row : List ℕ) (weight : ℕ) → length row ≤ 1024 → weight ≡ weight_of row → (weight % EMPTY ≡ inverse_sum row) × (weight / EMPTY ≡ empty_of row)
 weight_apart row weight short is = apart weight (inverse_sum row) (empty_of row) is (sums_few row short).0
 
 -- the weight of a counter

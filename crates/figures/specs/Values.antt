@@ -3,6 +3,7 @@ use Rattle.std.specs.Prelude.{◌≡◌, ℕ, ◌+◌, ◌-◌, ◌*◌, ◌/◌
 use Rattle.std.specs.List.{range_with_len, zip}
 use Rattle.std.specs.Simd.Lanes.{chunk}
 use Rattle.ball_model.specs.Figures.{TallyValue, tally_of, closeness_of, lin_of, empty_of, estimate_of, inverse_sum, draws_of, small_bound}
+use Rattle.figures.specs.declared.estimates.TheConstants.{EMPTY}
 use Rattle.figures.specs.declared.tally.Tally.{Tally}
 use Rattle.figures.specs.declared.ends.Figures.{Figures}
 
@@ -18,16 +19,16 @@ IsTallyAt e t tally = value_of tally ≡ tally_of e t
 unfoldable pub small_table : ℕ → List ℕ
 small_table m = map (λ z. min (draws_of m z) (small_bound m)) (range_with_len 0 (m + 1))
 
--- the weight of a counter, which its estimates are made of: the sum of 2^(33 - r) over its registers r, and 2^50 for each
--- that is 0
+-- the weight of a counter, which its estimates are made of: the sum of 2^(33 - r) over its registers r, and EMPTY for
+-- each that is 0
 abbrev pub weight_of : List ℕ → ℕ
-weight_of row = inverse_sum row + 2 ^ 50 * empty_of row
+weight_of row = inverse_sum row + EMPTY * empty_of row
 
 -- it may be the weight of a counter of 2^log2m registers
 pub record IsWeight (log2m weight : ℕ) : Type 0 where
-  pub least : 2 ^ log2m ≤ weight % 2 ^ 50
-  pub greatest : weight % 2 ^ 50 ≤ 2 ^ 43
-  pub empty : weight / 2 ^ 50 ≤ 2 ^ log2m
+  pub least : 2 ^ log2m ≤ weight % EMPTY
+  pub greatest : weight % EMPTY ≤ 2 ^ 43
+  pub empty : weight / EMPTY ≤ 2 ^ log2m
 
 -- of so many pieces of 32 registers of two counters, those at the first places, which rise, may differ, and no others
 pub record PiecesDifferAt (places : List ℕ) (count pieces : ℕ) (old new : List ℕ) : Type 0 where

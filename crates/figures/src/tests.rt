@@ -1,5 +1,6 @@
 ghost use Rattle.std.specs.Prelude.{◌≡◌, ◌≤◌, length};
 ghost use Rattle.std.specs.List.{All};
+ghost use Rattle.ball_model.specs.declared.plan.TheConstants.{GREATEST_RANK};
 
 use super::*;
 use registers::Rows;
@@ -249,7 +250,7 @@ fn raw_figures_are<H: AllocGlobal + Threads + Sync>(
 ) -> Result<bool, Fail>
     requires count { length tallies.now ≡ length rows.now.rows }
     requires width { rows.now.width ≡ 16 }
-    requires ranks { All (λ row. All (λ r. r ≤ 33) row) rows.now.rows }
+    requires ranks { All (λ row. All (λ r. r ≤ GREATEST_RANK) row) rows.now.rows }
 {
     let figures = final_figures(rt, rt.alloc(), 4, rows, tallies)?;
     Ok(are_told(&figures, wanted))
@@ -280,7 +281,7 @@ static RAW_THREE: [(u64, u64, u64, u128, u32); 3] = [
 fn rows_are_told<H: AllocGlobal + Threads + Sync>(rt: &H, rows: &Rows) -> Result<[bool; 3], Fail>
     requires count { length rows.now.rows ≡ 3 }
     requires width { rows.now.width ≡ 16 }
-    requires ranks { All (λ row. All (λ r. r ≤ 33) row) rows.now.rows }
+    requires ranks { All (λ row. All (λ r. r ≤ GREATEST_RANK) row) rows.now.rows }
 {
     let tallies = three_tallies();
     let raw = raw_figures_are(rt, rows, &tallies, &RAW_THREE)?;
@@ -308,7 +309,7 @@ fn figures_of_vertices(rt: HostRuntime) -> Result<(), Fail> {
 fn are_lasts(rows: &Rows, is_corrected: bool, lasts: [u64; 3]) -> bool
     requires count { length rows.now.rows ≡ 3 }
     requires width { rows.now.width ≡ 16 }
-    requires ranks { All (λ row. All (λ r. r ≤ 33) row) rows.now.rows }
+    requires ranks { All (λ row. All (λ r. r ≤ GREATEST_RANK) row) rows.now.rows }
 {
     let tallies = [
         Tally::start(lasts[0]),
@@ -380,7 +381,7 @@ fn tallies_come_in_order<H: AllocGlobal + Threads + Sync>(
     tallies: &[Tally],
 ) -> Result<bool, Fail>
     requires width { rows.now.width ≡ 16 }
-    requires ranks { All (λ row. All (λ r. r ≤ 33) row) rows.now.rows }
+    requires ranks { All (λ row. All (λ r. r ≤ GREATEST_RANK) row) rows.now.rows }
 {
     if tallies.len() != rows.len() {
         return Err(Fail::new("a tally for each row"));
@@ -392,7 +393,7 @@ fn tallies_come_in_order<H: AllocGlobal + Threads + Sync>(
 // The figures of vertices that gained 0, 1, 2, .. come in that order.
 fn come_in_order<H: AllocGlobal + Threads + Sync>(rt: &H, rows: &Rows) -> Result<bool, Fail>
     requires width { rows.now.width ≡ 16 }
-    requires ranks { All (λ row. All (λ r. r ≤ 33) row) rows.now.rows }
+    requires ranks { All (λ row. All (λ r. r ≤ GREATEST_RANK) row) rows.now.rows }
 {
     let tallies = gaining(rt, 5000)?;
     tallies_come_in_order(rt, rows, &tallies)
