@@ -55,7 +55,7 @@ zeros (false ∷ bits) = suc (zeros bits)
 -- the number whose gamma code comes next, and the bits after it
 unfoldable pub gamma_at : List Bool → Result (ℕ × List Bool) CodeError
 gamma_at bits =
-    if nat_le 64 (zeros bits) then Err TooLong
+    if nat_le most_digits (zeros bits) then Err TooLong
     else if nat_lt (length bits) (2 * zeros bits + 1) then Err Ended
     else Ok (
       number_of (take (zeros bits + 1) (drop (zeros bits) bits)),
@@ -70,9 +70,9 @@ pub record Place : Type 0 where
 abbrev pub rest : Place → List Bool
 rest p = drop p.position p.bits
 
--- the next 64 bits, with zero bits past the end
+-- the next bits, as many as a number has at most, with zero bits past the end
 abbrev pub window_of : List Bool → List Bool
-window_of bits = take 64 (bits ++ replicate 64 false)
+window_of bits = take most_digits (bits ++ replicate most_digits false)
 
 abbrev pub with_rest : Result ℕ CodeError → List Bool → Result (ℕ × List Bool) CodeError
 with_rest (Ok x) bits = Ok (x, bits)

@@ -59,8 +59,8 @@ fn any_code(bytes: &[u8], position: u32) -> Result<(u64, u32), CodeError>
     let front = window(bytes, position);
     let zeros = front.leading_zeros();
     let left = 8 * bytes.len().min(REACH) as u32 - position;
-    if zeros == 64 {
-        if left < 64 {
+    if zeros == u64::BITS {
+        if left < u64::BITS {
             return Err(CodeError::Ended);
         }
         return Err(CodeError::TooLong);

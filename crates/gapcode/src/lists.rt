@@ -17,7 +17,7 @@ use std::alloc::{AllocError, Global};
 use std::marker::Model;
 
 /// How many numbers of 32 bits there are.
-const NUMBERS: u64 = 1 << 32;
+const NUMBERS: u64 = 1 << u32::BITS;
 
 /// Lists of strictly ascending numbers, as gap codes in one piece of memory.
 ///

@@ -70,7 +70,7 @@ impl Places {
         requires { i < length self.now }
         ensures { result ≡ slice_index self.now i }
     {
-        self.lows[i] as u128 + ((passed_by(&self.marks, i) as u128) << 32)
+        self.lows[i] as u128 + ((passed_by(&self.marks, i) as u128) << u32::BITS)
     }
 
     /// One place more, not before the last. The error is that memory was refused, and the places so far are lost.
@@ -83,8 +83,8 @@ impl Places {
             mut lows,
             mut marks,
         } = self;
-        put_marks(&mut marks, lows.len(), (place >> 32) as u64)?;
-        lows.push((place % (1 << 32)) as u32)?;
+        put_marks(&mut marks, lows.len(), (place >> u32::BITS) as u64)?;
+        lows.push((place % (1 << u32::BITS)) as u32)?;
         Ok(Places { lows, marks })
     }
 }
