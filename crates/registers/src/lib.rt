@@ -38,7 +38,7 @@ pub use join::{Join, reconcile};
 use lanes::{HALF, LANES, raise_half, raise_lanes};
 pub use marks::next_marked;
 pub use mask::SourceMask;
-pub use relay::Relay;
+pub use relay::{Behind, Relay};
 pub use rows::{LINE, Rows};
 
 #[cfg(test)]

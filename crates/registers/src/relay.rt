@@ -1,13 +1,15 @@
 //! A table that is handed out while it goes on.
 
-ghost use Rattle.std.specs.Prelude.{◌≡◌, ◌≤◌, length, Some, IfOk, IfSome, OnErr};
+ghost use Rattle.std.specs.Prelude.{◌≡◌, ◌≤◌, ◌<◌, ℕ, List, None, length, slice_set};
+ghost use Rattle.std.specs.Prelude.{IfOk, IfSome, OnErr};
 ghost use Rattle.std.specs.Arc.{arc_value};
 ghost use Rattle.std.specs.Vec.{vec_capacity};
 ghost use Rattle.ball_model.specs.Table.{Table};
 ghost use Rattle.registers.specs.Joined.{AreSameShape};
-ghost use Rattle.registers.specs.Relay.{AreEither, DifferWhere, IsRelay, room_for};
+ghost use Rattle.registers.specs.Relay.{DifferWhere, DifferWhereEither, IsRelay};
+ghost use Rattle.registers.specs.Relay.{room_for, shown_of};
 
-use crate::Rows;
+use crate::{Rows, next_marked};
 use std::alloc::{AllocError, Global};
 use std::marker::Model;
 use std::mem;
@@ -19,6 +21,9 @@ use std::sync::Arc;
 /// before, once nobody else holds it, which is brought up in those rows alone that changed since, and otherwise in
 /// room that was taken when the table was handed out and was not touched until then. So [`Relay::share`] and
 /// [`Relay::copied`] take memory, and no other call does.
+///
+/// They go on to rows that are ahead by [`Relay::go_on`], then by [`Relay::put`] for each row that changes, and then by
+/// [`Relay::leave_behind`]. So whoever reads a row as it was can put the one ahead while both are at hand.
 pub struct Relay {
     // what is shown, where nothing is handed out
     own: Rows,
@@ -75,9 +80,9 @@ impl Model for Shared {
         HasRoomForTable (arc_value s.table) (vec_capacity s.room) (vec_capacity s.marks) };
 }
 
-// A table that was handed out, and a mark for each of its rows: what is shown differs from it in stale rows alone.
+/// A table that was handed out, and a mark for each of its rows: what is shown differs from it in stale rows alone.
 #[derive(Drop)]
-struct Behind {
+pub struct Behind {
     table: Arc<Rows>,
     stale: Vec<bool>,
 }
@@ -114,33 +119,55 @@ impl Relay {
         }
     }
 
-    /// The rows become those of `ahead`, from which they differ in marked rows alone. It takes no memory.
+    /// Makes ready for the rows of `ahead`, from which these differ in marked rows alone: what is shown afterwards differs
+    /// from them in marked rows alone too. Where the rows were handed out, the answer is what they were, to be left behind
+    /// once each marked row was put. Else they stay as they are. It takes no memory.
     ///
-    /// It takes time in proportion to the rows that are marked, and where a table was handed out to those that were marked
-    /// in the call before too. Where there is no table from before that one, or somebody still holds it, all rows are
+    /// It takes no time where nothing is handed out, and else time in proportion to the rows that were marked in the call
+    /// before, and to the marks. Where there is no table from before that one, or somebody still holds it, all rows are
     /// copied.
-    pub fn follow(&mut self, ahead: &Rows, marks: &[bool])
+    pub fn go_on(&mut self, ahead: &Rows, marks: &[bool]) -> Option<Behind>
         requires { DifferWhere marks.now self.old ahead.now }
-        ensures { self.new ≡ ahead.now }
+        ensures differ { DifferWhere marks.now self.new ahead.now }
+        ensures before { IfSome result (λ b. b ≡ record { table = self.old; stale = marks.now }) }
+        ensures stays { result ≡ None → self.new ≡ self.old }
     {
-        mark_stale(&mut self.behind, marks);
-        match self.out.take() {
-            None => self.own.follow(ahead, marks),
-            Some(out) => {
-                let Shared {
-                    table,
-                    room,
-                    marks: stale,
-                } = out;
-                go_on(
-                    &mut self.own,
-                    &mut self.behind,
-                    room,
-                    &mut self.spare,
-                    ahead,
-                );
-                leave_behind(&mut self.behind, table, filled(stale, marks));
-            }
+        let Shared {
+            table,
+            room,
+            marks: stale,
+        } = self.out.take()?;
+        bring_up(
+            &mut self.own,
+            self.behind.take(),
+            room,
+            &mut self.spare,
+            ahead,
+            marks,
+        );
+        let stale = filled(stale, marks);
+        Some(Behind { table, stale })
+    }
+
+    /// Row `i` becomes `row`. It takes no memory.
+    #[inline]
+    pub fn put(&mut self, i: usize, row: &[u8])
+        requires row { i < length self.old.rows }
+        requires width { length row.now ≡ self.old.width }
+        ensures { self.new ≡ record self.old { rows = slice_set self.old.rows i row.now } }
+    {
+        part(&mut self.own, &mut self.out);
+        self.own.put(i, row);
+        mark_one(&mut self.behind, i);
+    }
+
+    /// What the rows were before they went on is what is behind from now on.
+    pub fn leave_behind(&mut self, before: Option<Behind>)
+        requires { IsRelay self.old before }
+        ensures { self.new ≡ self.old }
+    {
+        if before.is_some() {
+            self.behind = before;
         }
     }
 
@@ -207,32 +234,67 @@ impl Relay {
     }
 }
 
-// What is marked is stale too.
-fn mark_stale(behind: &mut Option<Behind>, marks: &[bool])
-    requires { IfSome behind.old (λ b. length b.stale ≡ length marks.now) }
-    ensures { (shown ahead : Table) → IsRelay shown behind.old → DifferWhere marks.now shown ahead →
-        IsRelay ahead behind.new }
+impl Behind {
+    /// What the rows were.
+    #[inline]
+    pub fn rows(&self) -> &Rows
+        ensures { result.now ≡ self.now.table }
+    {
+        &self.table
+    }
+}
+
+// The rows are those that are shown, and are handed out no more.
+#[inline]
+fn part(own: &mut Rows, out: &mut Option<Shared>)
+    ensures own { own.new ≡ shown_of own.old out.old }
+    ensures out { out.new ≡ None }
+{
+    match out.take() {
+        None => {}
+        Some(out) => *own = copy_of(out),
+    }
+}
+
+// The same rows, in the room.
+#[inline(never)]
+fn copy_of(out: Shared) -> Rows
+    ensures { result ≡ out }
+{
+    let Shared { table, room, .. } = out;
+    table.copied_into(room)
+}
+
+// A row that changes is stale.
+#[inline]
+fn mark_one(behind: &mut Option<Behind>, i: usize)
+    requires { IfSome behind.old (λ b. i < length b.stale) }
+    ensures { (shown : Table) (row : List ℕ) → IsRelay shown behind.old →
+        IsRelay (record shown { rows = slice_set shown.rows i row }) behind.new }
 {
     match behind {
-        Some(behind) => add_marks(&mut behind.stale, marks),
+        Some(behind) => behind.stale[i] = true,
         None => {}
     }
 }
 
-// The table that follows the one that was handed out is made: of the one behind it, where nobody else holds that, and in
-// the room otherwise.
-fn go_on(
+// The rows become those of `ahead` but in marked rows: the table behind does, where nobody else holds that, and all rows
+// are copied into the room otherwise.
+fn bring_up(
     own: &mut Rows,
-    behind: &mut Option<Behind>,
+    behind: Option<Behind>,
     room: Vec<u8>,
     spare: &mut Option<Vec<u8>>,
     ahead: &Rows,
+    marks: &[bool],
 )
-    requires behind { IsRelay ahead.now behind.old }
+    requires behind { IfSome behind (λ b.
+        DifferWhereEither b.stale marks.now b.table ahead.now) }
     requires room { room_for ahead.now ≤ vec_capacity room }
-    ensures { own.new ≡ ahead.now }
+    requires marks { length marks.now ≡ length ahead.now.rows }
+    ensures { DifferWhere marks.now own.new ahead.now }
 {
-    match take_back(behind, ahead) {
+    match take_back(behind, ahead, marks) {
         Some(table) => {
             *own = table;
             *spare = Some(room);
@@ -241,26 +303,33 @@ fn go_on(
     }
 }
 
-// The table behind, brought up to `ahead`, where nobody else holds it.
-fn take_back(behind: &mut Option<Behind>, ahead: &Rows) -> Option<Rows>
-    requires { IsRelay ahead.now behind.old }
-    ensures { IfSome result (λ table. table ≡ ahead.now) }
+// The table behind, brought up to `ahead` but in marked rows, where nobody else holds it.
+fn take_back(behind: Option<Behind>, ahead: &Rows, marks: &[bool]) -> Option<Rows>
+    requires { IfSome behind (λ b. DifferWhereEither b.stale marks.now b.table ahead.now) }
+    ensures { IfSome result (λ table. DifferWhere marks.now table ahead.now) }
 {
-    let Behind { table, stale } = behind.take()?;
+    let Behind { table, stale } = behind?;
     match Arc::try_unwrap(table) {
         Ok(mut table) => {
-            table.follow(ahead, &stale);
+            catch_up(&mut table, ahead, &stale, marks);
             Some(table)
         }
         Err(_) => None,
     }
 }
 
-// The table is the one behind from now on.
-fn leave_behind(behind: &mut Option<Behind>, table: Arc<Rows>, stale: Vec<bool>)
-    ensures { behind.new ≡ Some (record { table = arc_value table; stale = stale.items }) }
+// Each stale row that is not marked becomes that of `ahead`: a marked one is put later, and is not read twice.
+fn catch_up(rows: &mut Rows, ahead: &Rows, stale: &[bool], marks: &[bool])
+    requires { DifferWhereEither stale.now marks.now rows.old ahead.now }
+    ensures { DifferWhere marks.now rows.new ahead.now }
 {
-    *behind = Some(Behind { table, stale });
+    let mut i = next_marked(stale, 0);
+    while i < stale.len() {
+        if !marks[i] {
+            rows.put(i, ahead.row(i));
+        }
+        i = next_marked(stale, i + 1);
+    }
 }
 
 // The marks, in room that was taken for them.
@@ -296,15 +365,5 @@ fn lend(alloc: Global, own: &mut Rows, other: Rows) -> Result<Arc<Rows>, AllocEr
             *own = refused.value;
             Err(AllocError)
         }
-    }
-}
-
-// What either marks is marked.
-fn add_marks(marks: &mut [bool], more: &[bool])
-    requires { length marks.old ≡ length more.now }
-    ensures { AreEither marks.old more.now marks.new }
-{
-    for i in 0..marks.len() {
-        marks[i] |= more[i];
     }
 }

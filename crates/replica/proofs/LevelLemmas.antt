@@ -2,6 +2,7 @@ pub mod Verdict
 pub mod Step
 pub mod Level
 pub mod Weight
+pub mod Before
 pub mod Figure
 pub mod Next
 pub mod Busy

@@ -99,18 +99,6 @@ pub record IsQuiet (rows : Table) (a : HearingValue) : Type 0 where
   pub accumulated : a.accumulated ≡ rows
   pub kept : KeepsAll rows.rows a
 
--- the accumulators can become the rows, and the marks of those that differ their marks
-pub record CanBegin (rows : Table) (marks : List Bool) (a : HearingValue) : Type 0 where
-  pub width : rows.width ≡ a.accumulated.width
-  pub count : length marks ≡ length rows.rows
-  pub kept : KeepsAll rows.rows a
-
--- they did, and nothing is heard yet
-pub record BeginsSuperstep (a b : HearingValue) (rows : Table) (marks : List Bool) : Type 0 where
-  pub quiet : IsQuiet rows b
-  pub ahead : rows ≡ a.accumulated
-  pub touched : marks ≡ a.touched
-
 -- what a says beside these rows, with an accumulator of each
 pub record Fills (rows : Table) (a b : HearingValue) : Type 0 where
   pub heard : b.heard ≡ a.heard

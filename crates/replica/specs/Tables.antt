@@ -1,5 +1,5 @@
 -- What a replica has for each vertex, and the sums of its estimates: as plain data, and what becomes of it.
-use Rattle.std.specs.Prelude.{◌≡◌, ℕ, ◌+◌, ◌^◌, ◌<◌, ◌≤◌, Bool, List, ◌∷◌, [], ◌++◌, map, length}
+use Rattle.std.specs.Prelude.{◌≡◌, ℕ, ◌+◌, ◌^◌, ◌<◌, ◌≤◌, Bool, List, ◌∷◌, [], ◌++◌, map, length, Option, None, Some}
 use Rattle.std.specs.List.{sum_by}
 use Rattle.ball_model.specs.Figures.{TallyValue, Measure, estimate_with}
 use Rattle.ball_model.specs.Job.{PartValue}
@@ -8,7 +8,7 @@ use Rattle.ball_model.specs.PlanValue.{greatest_limit, measure_of, most_vertices
 use Rattle.ball_model.specs.Table.{Table}
 use Rattle.figures.specs.Values.{weight_of}
 use Rattle.registers.specs.Joined.{AreSameShape}
-use Rattle.registers.specs.Relay.{DifferWhere}
+use Rattle.registers.specs.Relay.{DifferWhere, Marked}
 use Rattle.replica.specs.Heard.{OwnIsHeard}
 use Rattle.replica.specs.Hearing.{HearingValue, IsQuiet, KeepsAll}
 use Rattle.replica.specs.Kept.{AllRise, AreCounters, AreLasts, AreSums}
@@ -51,6 +51,11 @@ pub record AreAhead (log2m : ℕ) (rows : Table) (h : HearingValue) : Type 0 whe
   pub rise : AllRise log2m rows.rows h.accumulated.rows
   pub width : rows.width ≡ h.accumulated.width
   pub kept : KeepsAll rows.rows h
+
+-- the rows as they were before they went on: those that were handed out, or else those that are shown
+unfoldable pub rows_before : Table → Option Marked → Table
+rows_before rows None = rows
+rows_before rows (Some before) = before.table
 
 -- figures can be stepped to those of superstep t, of the rows ahead, from which the rows differ where they are marked
 pub record CanBeStepped (m : Measure) (t : ℕ) (old new : Table) (marks : List Bool)

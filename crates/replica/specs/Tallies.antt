@@ -1,5 +1,5 @@
 -- Tallies that are handed out and go on in another table.
-use Rattle.std.specs.Prelude.{◌≡◌, ◌≤◌, ◌<◌, ℕ, Bool, false, List, length, slice_index_or, Option, None, Some, IfSome}
+use Rattle.std.specs.Prelude.{◌≡◌, ◌≤◌, ◌<◌, ℕ, ◌||◌, Bool, false, List, length, slice_index_or, Option, None, Some, IfSome}
 use Rattle.ball_model.specs.Figures.{TallyValue}
 use Rattle.ball_model.specs.Checkpoint.{no_figures}
 
@@ -7,6 +7,12 @@ use Rattle.ball_model.specs.Checkpoint.{no_figures}
 unfoldable pub shown_tallies : List TallyValue → Option (List TallyValue) → List TallyValue
 shown_tallies own None = own
 shown_tallies own (Some out) = out
+
+-- as many marks, and set where either is
+pub record AreEither (ms ns both : List Bool) : Type 0 where
+  pub long : length both ≡ length ms
+  pub set : (i : ℕ) → slice_index_or both i false ≡
+      (slice_index_or ms i false || slice_index_or ns i false)
 
 -- as many tallies, with a mark for each, and the same at each place that is not marked
 pub record DifferAt (marks : List Bool) (a b : List TallyValue) : Type 0 where

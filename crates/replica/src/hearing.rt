@@ -3,7 +3,7 @@
 ghost use Rattle.std.specs.Prelude.{◌≡◌, ℕ, ◌||◌, List, length};
 ghost use Rattle.std.specs.Prelude.{Some, IfOk, OnOk, OnErr};
 ghost use Rattle.registers.specs.Joined.{maximum_of_rows, union_of_flags};
-ghost use Rattle.replica.specs.Hearing.{BeginsSuperstep, CanBegin, CanFill, CanHear, CanJoin};
+ghost use Rattle.replica.specs.Hearing.{CanFill, CanHear, CanJoin};
 ghost use Rattle.replica.specs.Hearing.{CanRenew, Renews, Fills, HearsAlso, HearsEarly, IsQuiet};
 ghost use Rattle.replica.specs.Hearing.{HearsByIndex, KeepsAllOrNone, SaysSame};
 ghost use Rattle.replica.specs.Hearing.{accumulators_of, batch_by};
@@ -19,7 +19,7 @@ use crate::targets::Targets;
 use ball_model::Plan;
 use batches::Batch;
 use edgelist::Part;
-use registers::{Join, Relay, Rows, SourceMask};
+use registers::{Join, Rows, SourceMask};
 use std::alloc::{AllocError, Global};
 use std::marker::Model;
 
@@ -177,13 +177,13 @@ impl Hearing {
         );
     }
 
-    /// Begins the next superstep: what is accumulated becomes the rows, those are marked that this changes, and nothing
-    /// is heard yet.
-    pub fn begin(&mut self, rows: &mut Relay, marks: &mut [bool])
-        requires { CanBegin rows.old marks.old self.old }
-        ensures { BeginsSuperstep self.old self.new rows.new marks.new }
+    /// Begins the next superstep, where what is accumulated has become the rows: those are marked that this has changed,
+    /// and nothing is heard yet.
+    pub fn begin(&mut self, marks: &mut [bool])
+        requires { length marks.old ≡ length self.old.accumulated.rows }
+        ensures quiet { IsQuiet self.old.accumulated self.new }
+        ensures touched { marks.new ≡ self.old.touched }
     {
-        rows.follow(&self.accumulated, &self.touched);
         marks.copy_from_slice(&self.touched);
         level::clear_marks(&mut self.touched);
         self.heard = SourceMask::empty();

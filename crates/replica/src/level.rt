@@ -1,14 +1,16 @@
 //! What a replica does with its marks, and with its figures.
 
-ghost use Rattle.std.specs.Prelude.{◌≡◌, ℕ, ◌≤◌, false};
+ghost use Rattle.std.specs.Prelude.{◌≡◌, ℕ, ◌≤◌, ◌<◌, false, []};
 ghost use Rattle.std.specs.Prelude.{length, slice_index_or, map, count_by};
 ghost use Rattle.std.specs.List.{sum_by, list_any};
 ghost use Rattle.figures.specs.Values.{value_of};
+ghost use Rattle.registers.specs.Relay.{DifferWhere};
 ghost use Rattle.replica.specs.Level.{differences};
 ghost use Rattle.replica.specs.Tables.{AreStepped, CanBeStepped, CanStepRow, IsStepped};
+ghost use Rattle.replica.specs.Tables.{rows_before};
 
 use figures::{Estimator, Tally, moved_weight};
-use registers::{Rows, next_marked};
+use registers::{Behind, Relay, Rows, next_marked};
 
 /// Marks the rows that differ.
 pub fn mark_differences(old: &Rows, new: &Rows, marks: &mut [bool])
@@ -30,33 +32,72 @@ pub fn clear_marks(marks: &mut [bool])
     }
 }
 
-/// The figures at superstep `t` of the rows ahead, from which the rows before differ where they are marked; the answer
-/// is what the sum of the last estimates has gained. Weights are carried forward, and figures of rows that did not change
-/// stay as they are.
-#[inline(never)]
-pub fn step_tallies(
+/// The figures at superstep `t` of the rows ahead, from which the rows differ where they are marked; the answer is what
+/// the sum of the last estimates has gained. Weights are carried forward, figures of rows that did not change stay as they
+/// are, and the rows become those ahead.
+pub fn step_rows(
     estimator: &Estimator,
     t: u32,
-    rows: &Rows,
+    rows: &mut Relay,
     ahead: &Rows,
     marks: &[bool],
     weights: &mut [u64],
     tallies: &mut [Tally],
 ) -> u128
-    requires { CanBeStepped estimator.now t rows.now ahead.now marks.now weights.old
+    requires { CanBeStepped estimator.now t rows.old ahead.now marks.now weights.old
         (map value_of tallies.old) }
-    ensures { AreStepped estimator.now t ahead.now (map value_of tallies.old)
+    ensures rows { rows.new ≡ ahead.now }
+    ensures figures { AreStepped estimator.now t ahead.now (map value_of tallies.old)
+        (map value_of tallies.new) weights.new result }
+{
+    let before = rows.go_on(ahead, marks);
+    let gain = step_marked(estimator, t, &before, rows, ahead, marks, weights, tallies);
+    rows.leave_behind(before);
+    gain
+}
+
+// The same, where the rows before were handed out or else are those that are shown. Each row is put behind its figures, while
+// it is at hand: a second walk would have to fetch it again.
+#[inline(never)]
+fn step_marked(
+    estimator: &Estimator,
+    t: u32,
+    before: &Option<Behind>,
+    rows: &mut Relay,
+    ahead: &Rows,
+    marks: &[bool],
+    weights: &mut [u64],
+    tallies: &mut [Tally],
+) -> u128
+    requires differ { DifferWhere marks.now rows.old ahead.now }
+    requires can { CanBeStepped estimator.now t (rows_before rows.old before.now) ahead.now
+        marks.now weights.old (map value_of tallies.old) }
+    ensures rows { rows.new ≡ ahead.now }
+    ensures figures { AreStepped estimator.now t ahead.now (map value_of tallies.old)
         (map value_of tallies.new) weights.new result }
 {
     let mut gain = 0;
     let mut i = next_marked(marks, 0);
     while i < tallies.len() {
-        let (row, next) = (rows.row(i), ahead.row(i));
+        let (row, next) = (row_before(before, rows, i), ahead.row(i));
         let (weight, tally) = (&mut weights[i], &mut tallies[i]);
         gain += step_tally(estimator, t, row, next, weight, tally);
+        rows.put(i, next);
         i = next_marked(marks, i + 1);
     }
     gain
+}
+
+// Row `i` as it was.
+#[inline]
+fn row_before<'a>(before: &'a Option<Behind>, rows: &'a Relay, i: usize) -> &'a [u8]
+    requires { i < length (rows_before rows.now before.now).rows }
+    ensures { result.now ≡ slice_index_or (rows_before rows.now before.now).rows i [] }
+{
+    match before {
+        Some(before) => before.rows().row(i),
+        None => rows.get().row(i),
+    }
 }
 
 // The figures at superstep `t` of a row that has become the one ahead; the answer is what its estimate has gained.

@@ -127,13 +127,12 @@ impl Tables {
         ensures { NextTables estimator.now t self.old self.new hearing.old hearing.new weights.new }
     {
         let last = self.sums[t as usize];
-        let rows = self.rows.get();
         let (ahead, marks) = (hearing.ahead(), hearing.touched());
         let gain = self
             .tallies
-            .step(estimator, t + 1, rows, ahead, marks, weights);
+            .step(estimator, t + 1, &mut self.rows, ahead, marks, weights);
         self.sums.push_reserved(last + gain);
-        hearing.begin(&mut self.rows, &mut self.marks);
+        hearing.begin(&mut self.marks);
     }
 
     /// The same: rows and figures are shared, the rest is copied, with no room for later sums.

@@ -4,13 +4,12 @@ ghost use Rattle.std.specs.Prelude.{◌≡◌, ◌≤◌, List, length, map, IfO
 ghost use Rattle.std.specs.Vec.{vec_capacity};
 ghost use Rattle.ball_model.specs.Figures.{TallyValue};
 ghost use Rattle.figures.specs.Values.{value_of};
-ghost use Rattle.registers.specs.Relay.{AreEither};
 ghost use Rattle.replica.specs.Tables.{AreStepped, CanBeStepped};
-ghost use Rattle.replica.specs.Tallies.{AreRelayed, DifferAt, shown_tallies};
+ghost use Rattle.replica.specs.Tallies.{AreEither, AreRelayed, DifferAt, shown_tallies};
 
 use crate::level;
 use figures::{Estimator, Tally};
-use registers::{Rows, next_marked};
+use registers::{Relay, Rows, next_marked};
 use std::alloc::{AllocError, Global};
 use std::marker::Model;
 use std::mem;
@@ -117,24 +116,25 @@ impl Tallies {
         }
     }
 
-    /// They become the figures at superstep `t` of the rows ahead, as [`level::step_tallies`] steps them. It takes no
-    /// memory. Where a table was handed out, those that changed since the one before it are copied too, and all of them
-    /// where somebody still holds that one.
+    /// They become the figures at superstep `t` of the rows ahead, and the rows become these, as [`level::step_rows`] steps
+    /// them. It takes no memory. Where a table was handed out, those that changed since the one before it are copied too,
+    /// and all of them where somebody still holds that one.
     pub fn step(
         &mut self,
         estimator: &Estimator,
         t: u32,
-        rows: &Rows,
+        rows: &mut Relay,
         ahead: &Rows,
         marks: &[bool],
         weights: &mut [u64],
     ) -> u128
-        requires { CanBeStepped estimator.now t rows.now ahead.now marks.now weights.old self.old }
-        ensures { AreStepped estimator.now t ahead.now self.old self.new weights.new result }
+        requires { CanBeStepped estimator.now t rows.old ahead.now marks.now weights.old self.old }
+        ensures rows { rows.new ≡ ahead.now }
+        ensures figures { AreStepped estimator.now t ahead.now self.old self.new weights.new result }
     {
         let out = self.out.take();
         go_on(&mut self.own, out, &mut self.behind, &mut self.spare, marks);
-        level::step_tallies(estimator, t, rows, ahead, marks, weights, &mut self.own)
+        level::step_rows(estimator, t, rows, ahead, marks, weights, &mut self.own)
     }
 
     /// They become others, as many. It takes no memory.

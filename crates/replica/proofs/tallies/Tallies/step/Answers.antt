@@ -8,36 +8,36 @@ use Rattle.replica.specs.Level.{next_tallies}
 use Rattle.replica.specs.Tallies.{DifferAt, shown_tallies}
 use Rattle.replica.proofs.TalliesLemmas.{length-next_tallies}
 use Rattle.replica.proofs.tallies.Tallies.step.Goals as goal
-use Rattle.replica.proofs.tallies.Tallies.step.Goals.{After-step_tallies}
+use Rattle.replica.proofs.tallies.Tallies.step.Goals.{After-step_rows}
 
 -- what is shown
-shown_is : (c : After-step_tallies) → shown_tallies (map value_of c.self.inside.own.items) c.take-out.result ≡ c.args.self.now
+shown_is : (c : After-step_rows) → shown_tallies (map value_of c.self.inside.own.items) c.take-out.result ≡ c.args.self.now
 shown_is c = rw c.take-out.ensures.value c.self.view_is
 
 -- it is in the own table
-own_is : (c : After-step_tallies) → map value_of c.deref_mut.result.now ≡ c.args.self.now
+own_is : (c : After-step_rows) → map value_of c.deref_mut.result.now ≡ c.args.self.now
 own_is c = rw c.deref_mut.ensures.value (c.go_on.ensures.own ∙ shown_is c)
 
 -- the own table, stepped
-items_are : (c : After-step_tallies) → (with_items c.go_on.new.own c.step_tallies.new.tallies).items ≡ c.step_tallies.new.tallies
-items_are c = with_items_is c.go_on.new.own c.step_tallies.new.tallies (c.step_tallies.auto.tallies ∙ c.deref_mut.ensures.len)
+items_are : (c : After-step_rows) → (with_items c.go_on.new.own c.step_rows.new.tallies).items ≡ c.step_rows.new.tallies
+items_are c = with_items_is c.go_on.new.own c.step_rows.new.tallies (c.step_rows.auto.tallies ∙ c.deref_mut.ensures.len)
 
-stepped : (c : After-step_tallies) → map value_of (with_items c.go_on.new.own c.step_tallies.new.tallies).items ≡ next_tallies c.args.estimator.now c.args.t c.args.ahead.now.rows c.args.self.now (length c.args.ahead.now.rows)
+stepped : (c : After-step_rows) → map value_of (with_items c.go_on.new.own c.step_rows.new.tallies).items ≡ next_tallies c.args.estimator.now c.args.t c.args.ahead.now.rows c.args.self.now (length c.args.ahead.now.rows)
 stepped c =
-    ap (map value_of) (items_are c) ∙ c.step_tallies.ensures.tallies
+    ap (map value_of) (items_are c) ∙ c.step_rows.ensures.figures.tallies
     ∙ ap (λ (l : List TallyValue). next_tallies c.args.estimator.now c.args.t c.args.ahead.now.rows l (length c.args.ahead.now.rows)) (own_is c)
 
 pub invariant_of-self : goal.invariant_of-self
 unfolding shown_tallies next_tallies
 invariant_of-self c =
-    let at = (goal.at.invariant_of-self c).After-step_tallies in
-    let new = map value_of (with_items c.go_on.new.own c.step_tallies.new.tallies).items in
+    let at = (goal.at.invariant_of-self c).After-step_rows in
+    let new = map value_of (with_items c.go_on.new.own c.step_rows.new.tallies).items in
     let gone : c.take-out.new.self ≡ None = search rules in
     rw gone (c.go_on.ensures.behind new (subst (λ (l : List TallyValue). DifferAt c.args.marks.now l new) (sym (shown_is at)) (grind (arith, length-next_tallies, get_or-map-range_with_len, stepped at))))
 
-pub returns : goal.returns
+pub returns-clause-figures : goal.returns-clause-figures
 unfolding shown_tallies
-returns c =
-    let at = (goal.at.returns c).After-step_tallies in
+returns-clause-figures c =
+    let at = (goal.at.returns-clause-figures c).After-step_rows in
     let gone : c.take-out.new.self ≡ None = search rules in
-    rw (gone, items_are at, ← own_is at) c.step_tallies.ensures
+    rw (gone, items_are at, ← own_is at) c.step_rows.ensures.figures
