@@ -13,6 +13,7 @@ use Rattle.ball_model.specs.Streams.{AfterAtMost, AreSure, Rises, TakesAtMost}
 use Rattle.batches.specs.Kept.{field}
 use Rattle.batches.specs.declared.header.TheConstants.{HEADER_LEN as batch_head}
 use Rattle.replica.specs.Saved.{IsKeepable}
+use Rattle.replica.specs.declared.early.TheConstants.{LEVELS}
 use Rattle.checkpoint.specs.declared.error.KeepError.{KeepError}
 use Rattle.checkpoint.specs.declared.error.KeepError.TheVariants as errors
 use Rattle.checkpoint.specs.declared.header.CheckpointHeader.{CheckpointHeader}
@@ -99,7 +100,7 @@ batches_form plan (suc n) bytes = followed (batch_form plan) (λ _. batches_form
 -- as many batches as the number says, which are at most three of each other partition
 unfoldable pub told_batches : PlanValue → List ℕ → Form
 told_batches plan number rest =
-    if nat_lt (3 * (plan.parts - 1)) (from_be_bytes w16 number) then Err errors.Shape
+    if nat_lt (LEVELS * (plan.parts - 1)) (from_be_bytes w16 number) then Err errors.Shape
     else batches_form plan (from_be_bytes w16 number) rest
 
 abbrev pub early_form : PlanValue → Form
@@ -145,7 +146,7 @@ pub record PassesSoFar (form : Form) (old new : Option (List ℕ)) : Type 0 wher
 
 -- ---- what is read at most
 abbrev pub most_early : PlanValue → ℕ
-most_early plan = COUNT_LEN + 3 * (plan.parts - 1) * (LENGTH_LEN + greatest_batch plan)
+most_early plan = COUNT_LEN + LEVELS * (plan.parts - 1) * (LENGTH_LEN + greatest_batch plan)
 
 abbrev pub most_checkpoint_body : PartValue → ℕ → ℕ
 most_checkpoint_body part t =

@@ -5,6 +5,7 @@ ghost use Rattle.std.specs.List.{flat_map};
 ghost use Rattle.ball_model.specs.Batches.{batch_bytes};
 ghost use Rattle.ball_model.specs.Checkpoint.{checkpoint_bytes, early_bytes, kept_batches};
 ghost use Rattle.ball_model.specs.PlanValue.{most_parts};
+ghost use Rattle.replica.specs.declared.early.TheConstants.{LEVELS};
 ghost use Rattle.checkpoint.specs.Parts.{nth_bytes, longest_batch};
 
 use crate::sizes::{COUNT_LEN, DIGEST_LEN, ENTRY_LEN, HEADER_LEN, HEARD_LEN, LENGTH_LEN, SUM_LEN};
@@ -36,7 +37,7 @@ pub fn checkpoint_length(replica: &Replica) -> u64
 // How many bytes the batches have that are kept, each with its length before it.
 fn early_length(replica: &Replica) -> u64
     ensures value { result ≡ length (flat_map early_bytes (kept_batches replica.now.early)) }
-    ensures few { result ≤ 3 * most_parts * longest_batch }
+    ensures few { result ≤ LEVELS * most_parts * longest_batch }
 {
     // the limits of a replica are told with its superstep
     let _superstep = replica.superstep();

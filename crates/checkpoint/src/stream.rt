@@ -18,6 +18,7 @@ use crate::sizes::{
 };
 use ball_model::{CountedRead, Filled, Plan, fill};
 use edgelist::Part;
+use replica::LEVELS;
 use sha2::{Digest, Sha256};
 
 // The big-endian number of eight bytes at a place.
@@ -152,7 +153,7 @@ fn read_early<R: CountedRead>(
     let mut told = [0; COUNT_LEN];
     read_full(reader, &mut told)?;
     let count = u16::from_be_bytes(told);
-    if count > 3 * (plan.parts() - 1) {
+    if count > LEVELS as u16 * (plan.parts() - 1) {
         return Err(KeepError::Shape);
     }
     text.extend_from_slice(&told)?;

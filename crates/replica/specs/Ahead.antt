@@ -7,17 +7,18 @@ use Rattle.ball_model.specs.Batches.{BatchValue, true_batch}
 use Rattle.ball_model.specs.Content.{names_of}
 use Rattle.ball_model.specs.Job.{Job}
 use Rattle.ball_model.specs.State.{State, content_of, early_at}
+use Rattle.replica.specs.declared.early.TheConstants.{LEVELS}
 
 -- slots, one for each of three supersteps and each source, as a table
 unfoldable pub table_of : ℕ → List (Option BatchValue) → List (List (Option BatchValue))
 table_of parts slots =
     map (λ i. map (λ q. slice_index_or slots (i * parts + q) None) (range_with_len 0 parts))
-    (range_with_len 0 3)
+    (range_with_len 0 LEVELS)
 
 -- of each of three supersteps a place for each source
 pub record IsTable (parts : ℕ) (early : List (List (Option BatchValue))) : Type 0 where
-  pub levels : length early ≡ 3
-  pub sources : (i : ℕ) → i < 3 → length (slice_index_or early i []) ≡ parts
+  pub levels : length early ≡ LEVELS
+  pub sources : (i : ℕ) → i < LEVELS → length (slice_index_or early i []) ≡ parts
 
 -- and none is kept
 pub record IsEmptyTable (parts : ℕ) (early : List (List (Option BatchValue))) : Type 0 where

@@ -10,6 +10,7 @@ use Rattle.ball_model.specs.Job.{PartValue}
 use Rattle.ball_model.specs.PlanValue.{PlanValue, greatest_limit, measure_of, most_parts}
 use Rattle.ball_model.specs.State.{State}
 use Rattle.ball_model.specs.Table.{Table}
+use Rattle.replica.specs.declared.early.TheConstants.{LEVELS}
 use Rattle.replica.specs.declared.saved.Saved.{Saved}
 use Rattle.replica.specs.Kept.{AreCounters, AreEarly, AllRise, AreSums, AreSources}
 use Rattle.replica.specs.Progress.{CanGoOn, ProgressValue}
@@ -32,7 +33,7 @@ pub record MayKeep (plan : PlanValue) (p t : ℕ) (b : BatchValue) : Type 0 wher
   pub target : b.name.target ≡ p
   pub source : b.name.source ≢ p
   pub from : t < b.name.superstep
-  pub to : b.name.superstep ≤ t + 3
+  pub to : b.name.superstep ≤ t + LEVELS
 
 -- where the batch stands among others: by superstep, then by source
 abbrev pub order_key : BatchValue → ℕ

@@ -17,7 +17,7 @@ use std::sync::Arc;
 /// Of how many supersteps ahead batches are kept.
 pub const LEVELS: usize = 3;
 
-/// For each of the three supersteps that follow, by source, the batch that is kept.
+/// For each of the supersteps that follow, [`LEVELS`] of them, by source, the batch that is kept.
 ///
 /// All its room is taken when it is made.
 #[derive(Drop)]

@@ -1,8 +1,8 @@
 //! One partition's state, superstep by superstep (Pregel 2010, HyperBall 2013).
 //!
 //! A [`Replica`] has the registers of each vertex of its partition at a superstep t, which of them changed there, the
-//! figures so far, and the batches that it holds, of the supersteps t to t + 3. It holds its level where it has the
-//! batch of superstep t of every other partition, those without rows too. Then [`Shown::verdict`] says whether the
+//! figures so far, and the batches that it holds, of superstep t and the [`LEVELS`] after it. It holds its level where it
+//! has the batch of superstep t of every other partition, those without rows too. Then [`Shown::verdict`] says whether the
 //! run goes on, and [`Replica::close`] makes the rows of t + 1: each is raised by those of its predecessors that
 //! changed at t, and by no other, since an unchanged row has nothing new to say. [`Replica::out`] is what the
 //! partition tells another one of t ([`Replica::out_of`] tells the same over a table of the rows that changed, which
@@ -15,7 +15,7 @@
 //! ```text
 //!            superstep t                          superstep t + 1
 //!   out  ->  batches of t to the others
-//!   take <-  batches of t, ..., t + 3      close
+//!   take <-  batches of t to t + LEVELS    close
 //!            level held: GoOn             ------>  rows raised by changed predecessors
 //!                        Stable, Limit             names of t gone, the others stay
 //! ```
@@ -58,6 +58,7 @@ mod told;
 mod weights;
 
 use early::Early;
+pub use early::LEVELS;
 use edgelist::Part;
 use figures::Estimator;
 use hearing::Hearing;

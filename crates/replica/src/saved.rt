@@ -7,6 +7,7 @@ ghost use Rattle.replica.specs.Kept.{AreCounters, AllRise, AreSources, AreSums};
 ghost use Rattle.replica.specs.Saved.{AreOfWidth, Fits, HasRows, HasFigures, HasHeard, MayKeep};
 ghost use Rattle.replica.specs.Saved.{MayBeKept};
 
+use crate::early::LEVELS;
 use crate::level::sum_of_lasts;
 use crate::step::is_same;
 use ball_model::Plan;
@@ -212,5 +213,5 @@ fn may_keep(part: &Part, superstep: u32, batch: &Batch) -> bool
         && name.target == part.partition()
         && name.source != part.partition()
         && superstep < name.superstep
-        && u64::from(name.superstep) <= u64::from(superstep) + 3
+        && u64::from(name.superstep) <= u64::from(superstep) + LEVELS as u64
 }

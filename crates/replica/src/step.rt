@@ -10,6 +10,7 @@ ghost use Rattle.replica.specs.Change.{Advances, Receives, take_answer};
 ghost use Rattle.replica.specs.Progress.{CanGoOn, StaysSame};
 ghost use Rattle.replica.specs.Seen.{GoesBy, GoesFurther, HoldsTogether, IsState};
 
+use crate::early::LEVELS;
 use crate::targets::Targets;
 use crate::{Progress, Shown};
 use ball_model::{CloseError, Plan, TakeError, Taken, Verdict};
@@ -38,7 +39,7 @@ impl Progress {
         if self.holds_from(name.superstep, name.source) {
             return Ok(Taken::Known);
         }
-        let last = self.superstep + 3;
+        let last = self.superstep + LEVELS as u32;
         if last < name.superstep {
             return Err(TakeError::TooEarly { last });
         }
