@@ -23,12 +23,12 @@ use Rattle.replica.specs.Seen.{IsState}
 use Rattle.replica.proofs.KeptLemmas.Kept.{three_levels}
 use Rattle.replica.proofs.SavedLemmas.Rebuilt.{kept_are}
 use Rattle.replica.proofs.SeenLemmas.Read.{few}
-use Rattle.checkpoint.specs.declared.header.CheckpointHeader.{CheckpointHeader}
 use Rattle.checkpoint.specs.declared.error.KeepError.{KeepError}
 use Rattle.checkpoint.specs.Parts.{heard_bytes, count_bytes}
 use Rattle.ball_model.specs.Checks.{◌>>=◌}
 use Rattle.checkpoint.specs.Reading.{Form, needs, followed, is_batch_length, told_batch, batch_form, batches_form, told_batches, early_form, fixed_length, held_form, body_form, told_body, content_form, sealed_form, seal_form, checkpoint_head_at, check_checkpoint_head}
 use Rattle.checkpoint.specs.Told.{IsOfPlan}
+use Rattle.checkpoint.proofs.FrontLemmas.{head_of}
 use Rattle.checkpoint.proofs.LawLemmas.{early_are}
 use Rattle.checkpoint.proofs.LengthLemmas.{front_long, table_long, heard_long, accumulated_long, batch_few}
 use Rattle.checkpoint.proofs.ReaderLemmas.{needs-piece, followed-at, told-needs, number-told, held-none, held-some, told-body, seal-fine}
@@ -131,25 +131,11 @@ covers_early v s =
     (covers_as (batches_form plan n) (told_batches plan (to_be_bytes w16 n)) (flat_map early_bytes batches) (λ rest. number-told plan (to_be_bytes w16 n) rest n number few) (covers_batches plan batches (early_are v s)))
 
 -- ---- the fixed fields
--- those of a replica, in a version
-abbrev pub head_in : ℕ → State → CheckpointHeader
-head_in version v = record {
-  magic = 0x4842434b;
-  version = version;
-  log2m = v.part.plan.log2m;
-  parts = v.part.plan.parts;
-  partition = v.part.number;
-  vertices = v.part.plan.vertices;
-  size = length v.part.preds;
-  superstep = v.superstep;
-  job = v.part.plan.job;
-}
-
 job_at : (version : ℕ) (v : State) → length v.part.plan.job ≡ 32 → take 32 (drop 22 (front_bytes version v)) ≡ v.part.plan.job
 unfolding front_bytes
 job_at version v long = take_all 32 v.part.plan.job (omega (arith, long))
 
-pub head_is_in : (version : ℕ) (v : State) → IsState v → checkpoint_head_at (front_bytes version v) ≡ head_in version v
+pub head_is_in : (version : ℕ) (v : State) → IsState v → checkpoint_head_at (front_bytes version v) ≡ head_of version v
 unfolding checkpoint_head_at front_bytes
 head_is_in version v s =
     let plan = v.part.plan in
@@ -172,7 +158,7 @@ head_is_in version v s =
       job = job i;
     }
 
-pub head_passes : (version : ℕ) (v : State) → IsState v → ((version ≡ 1) ⊎ (version ≡ 2)) → check_checkpoint_head v.part (head_in version v) ≡ Ok tt
+pub head_passes : (version : ℕ) (v : State) → IsState v → ((version ≡ 1) ⊎ (version ≡ 2)) → check_checkpoint_head v.part (head_of version v) ≡ Ok tt
 unfolding check_checkpoint_head
 head_passes version v s known =
     let plan = v.part.plan in
@@ -183,11 +169,11 @@ head_passes version v s known =
     ])
 
 -- ---- the whole
-covers_body : (version : ℕ) (v : State) (fixed held : List ℕ) → IsState v → ((version ≡ 1) ⊎ (version ≡ 2)) → length fixed ≡ fixed_length v.part (head_in version v) → Covers (held_form v.part.plan version) held
+covers_body : (version : ℕ) (v : State) (fixed held : List ℕ) → IsState v → ((version ≡ 1) ⊎ (version ≡ 2)) → length fixed ≡ fixed_length v.part (head_of version v) → Covers (held_form v.part.plan version) held
     → Covers (content_form v.part) (front_bytes version v ++ (fixed ++ held))
 covers_body version v fixed held s known long rest_is =
     let part = v.part in
-    let h = head_in version v in
+    let h = head_of version v in
     let front = front_bytes version v in
     covers_then (needs 54) (told_body part) front (fixed ++ held) (covers_needs 54 front (front_long version v s))
     (covers_as (body_form part h) (told_body part front) (fixed ++ held) (λ bytes. told-body part front bytes h (head_is_in version v s) (head_passes version v s known))
@@ -209,7 +195,7 @@ second_content v s =
     let whole : ((front_bytes 2 v ++ table_bytes v) ++ held_bytes v) ≡ front_bytes 2 v ++ (fixed ++ rest) =
     append_assoc (front_bytes 2 v) (table_bytes v) (held_bytes v)
     ∙ ap (λ (l : List ℕ). front_bytes 2 v ++ l) (ap (λ (l : List ℕ). table_bytes v ++ l) turned ∙ sym (append_assoc (table_bytes v) (heard_bytes v ++ acc) rest)) in
-    let long : length fixed ≡ fixed_length v.part (head_in 2 v) =
+    let long : length fixed ≡ fixed_length v.part (head_of 2 v) =
     omega (arith, length-append (table_bytes v) (heard_bytes v ++ acc), length-append (heard_bytes v) acc, table_long v s, heard_long v, accumulated_long v s, s.sums.count) in
     subst (λ (l : List ℕ). Covers (content_form v.part) l) (sym whole)
     (covers_body 2 v fixed rest s (inr refl) long (covers_as (early_form v.part.plan) (held_form v.part.plan 2) rest (λ bytes. held-some v.part.plan 2 bytes refl) (covers_early v s)))
@@ -217,18 +203,16 @@ second_content v s =
 -- and in version 1
 pub first_content : (v : State) → IsState v → Covers (content_form v.part) (front_bytes 1 v ++ table_bytes v)
 first_content v s =
-    let long : length (table_bytes v) ≡ fixed_length v.part (head_in 1 v) = omega (arith, table_long v s, s.sums.count) in
+    let long : length (table_bytes v) ≡ fixed_length v.part (head_of 1 v) = omega (arith, table_long v s, s.sums.count) in
     subst (λ (l : List ℕ). Covers (content_form v.part) (front_bytes 1 v ++ l)) (append-nil (table_bytes v))
     (covers_body 1 v (table_bytes v) [] s (inl refl) long (λ bytes. held-none v.part.plan 1 bytes refl))
 
-abbrev is_fine : Result ℕ KeepError → Type 0
-is_fine (Ok n) = ⊤
-is_fine (Err e) = ⊥
-
 pub second_fine : (v : State) → IsState v → (e : KeepError) → sealed_form v.part (checkpoint_bytes v) ≡ Err e → ⊥
 unfolding checkpoint_bytes
-second_fine v s e refused = subst is_fine (sym (sealed_fine v.part ((front_bytes 2 v ++ table_bytes v) ++ held_bytes v) (second_content v s)) ∙ refused) tt
+second_fine v s e refused =
+    let fine = sealed_fine v.part ((front_bytes 2 v ++ table_bytes v) ++ held_bytes v) (second_content v s) in absurd (cc)
 
 pub first_fine : (v : State) → IsState v → (e : KeepError) → sealed_form v.part (first_checkpoint_bytes v) ≡ Err e → ⊥
 unfolding first_checkpoint_bytes
-first_fine v s e refused = subst is_fine (sym (sealed_fine v.part (front_bytes 1 v ++ table_bytes v) (first_content v s)) ∙ refused) tt
+first_fine v s e refused =
+    let fine = sealed_fine v.part (front_bytes 1 v ++ table_bytes v) (first_content v s) in absurd (cc)

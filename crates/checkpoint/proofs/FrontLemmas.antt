@@ -1,6 +1,6 @@
 -- The fixed fields and the digest that are read, as they are spelled.
 use Rattle.std.proofs.Common.{◌≡◌, ℕ, ◌+◌, ◌<◌, ◌≤◌, List, [], ◌∷◌, ◌++◌, length, get_or, take, drop, Result, Ok, Err, refl, ap, sym, ◌∙◌, arith, append_assoc, inl, inr}
-use Rattle.std.specs.Prelude.{Bool, true, false, not, ◌==◌, ◌&&◌, ◌⊎◌, if◌then◌else◌, IfErr}
+use Rattle.std.specs.Prelude.{Bool, true, false, not, ◌==◌, ◌&&◌, ◌⊎◌, IfErr}
 use Rattle.std.specs.Int.{w16, w32, to_be_bytes}
 use Rattle.std.specs.Str.{bytes_eq}
 use Rattle.std.proofs.lemmas.Bool.{eqb-true, not-false}
@@ -79,7 +79,7 @@ congr : (f : ℕ → ℕ → ℕ → ℕ → ℕ → ℕ → ℕ → ℕ → Lis
 congr f a0 b0 a1 b1 a2 b2 a3 b3 a4 b4 a5 b5 a6 b6 a7 b7 a8 b8 e0 e1 e2 e3 e4 e5 e6 e7 e8 = cc
 
 -- the fixed fields of the replica in a version
-abbrev head_of : ℕ → State → CheckpointHeader
+abbrev pub head_of : ℕ → State → CheckpointHeader
 head_of version v = record {
   magic = 0x4842434b;
   version = version;

@@ -152,8 +152,9 @@ sum_fits v s i =
     ]
 
 -- ---- a vertex
-abbrev head_of : State → ℕ → List ℕ
-head_of v i = (((mark_byte (get_or v.marks i false) ∷ []) ++ to_be_bytes w64 (get_or v.tallies i no_figures).last) ++ to_be_bytes w64 (get_or v.tallies i no_figures).harm) ++ to_be_bytes w128 (get_or v.tallies i no_figures).dist
+-- its spelling up to its registers
+abbrev entry_head : State → ℕ → List ℕ
+entry_head v i = (((mark_byte (get_or v.marks i false) ∷ []) ++ to_be_bytes w64 (get_or v.tallies i no_figures).last) ++ to_be_bytes w64 (get_or v.tallies i no_figures).harm) ++ to_be_bytes w128 (get_or v.tallies i no_figures).dist
 
 record SameVertex (v w : State) (i : ℕ) : Type 0 where
   mark : get_or v.marks i false ≡ get_or w.marks i false
@@ -163,7 +164,7 @@ record SameVertex (v w : State) (i : ℕ) : Type 0 where
 same_vertex : (v w : State) (i : ℕ) → IsKeepable v → IsKeepable w → i < length v.part.preds → i < length w.part.preds → vertex_bytes v i ≡ vertex_bytes w i → SameVertex v w i
 unfolding vertex_bytes
 same_vertex v w i k m lt also e =
-    let parts = halves (head_of v i) (head_of w i) (get_or v.rows i []) (get_or w.rows i []) refl e in
+    let parts = halves (entry_head v i) (entry_head w i) (get_or v.rows i []) (get_or w.rows i []) refl e in
     let figures = halves ((mark_byte (get_or v.marks i false) ∷ []) ++ to_be_bytes w64 (get_or v.tallies i no_figures).last ++ to_be_bytes w64 (get_or v.tallies i no_figures).harm) ((mark_byte (get_or w.marks i false) ∷ []) ++ to_be_bytes w64 (get_or w.tallies i no_figures).last ++ to_be_bytes w64 (get_or w.tallies i no_figures).harm) (to_be_bytes w128 (get_or v.tallies i no_figures).dist) (to_be_bytes w128 (get_or w.tallies i no_figures).dist) refl parts.0 in
     let two = halves ((mark_byte (get_or v.marks i false) ∷ []) ++ to_be_bytes w64 (get_or v.tallies i no_figures).last) ((mark_byte (get_or w.marks i false) ∷ []) ++ to_be_bytes w64 (get_or w.tallies i no_figures).last) (to_be_bytes w64 (get_or v.tallies i no_figures).harm) (to_be_bytes w64 (get_or w.tallies i no_figures).harm) refl figures.0 in
     let one = halves (mark_byte (get_or v.marks i false) ∷ []) (mark_byte (get_or w.marks i false) ∷ []) (to_be_bytes w64 (get_or v.tallies i no_figures).last) (to_be_bytes w64 (get_or w.tallies i no_figures).last) refl two.0 in
@@ -187,9 +188,9 @@ record SameTable (v w : State) : Type 0 where
   rows : v.rows ≡ w.rows
   sums : v.sums ≡ w.sums
 
-same_table : (v w : State) → IsKeepable v → IsKeepable w → v.part ≡ w.part → v.superstep ≡ w.superstep → table_bytes v ≡ table_bytes w → SameTable v w
+table_tells : (v w : State) → IsKeepable v → IsKeepable w → v.part ≡ w.part → v.superstep ≡ w.superstep → table_bytes v ≡ table_bytes w → SameTable v w
 unfolding table_bytes
-same_table v w k m part step e =
+table_tells v w k m part step e =
     let size : length w.part.preds ≡ length v.part.preds = sym (ap (λ (p : PartValue). length p.preds) part) in
     let width : 2 ^ w.part.plan.log2m ≡ 2 ^ v.part.plan.log2m = sym (ap (λ (p : PartValue). 2 ^ p.plan.log2m) part) in
     let one = range_long (vertex_bytes v) (33 + 2 ^ v.part.plan.log2m) 0 (length v.part.preds) (λ i lt. vertex_long v k.state i (omega (arith, lt))) in
@@ -322,7 +323,7 @@ text_is_one v w k m part e =
     let step = same_step 2 v w s r front.0 in
     let rows : length v.part.preds * (33 + 2 ^ v.part.plan.log2m) ≡ length w.part.preds * (33 + 2 ^ w.part.plan.log2m) = rw (size, width) refl in
     let rest = halves (table_bytes v) (table_bytes w) (held_bytes v) (held_bytes w) (omega (arith, table_long v s, table_long w r, rows, s.sums.count, r.sums.count, step)) front.1 in
-    let table = same_table v w k m part step rest.0 in
+    let table = table_tells v w k m part step rest.0 in
     let held = same_held v w s r part step rest.1 in
     same_state v w part step table.rows table.marks table.tallies table.sums held.heard held.change held.accumulated held.early
 
@@ -332,7 +333,7 @@ first_text_tells_rest v w k m part e =
     let body = unsealed (front_bytes 1 v ++ table_bytes v) (front_bytes 1 w ++ table_bytes w) e in
     let front = halves (front_bytes 1 v) (front_bytes 1 w) (table_bytes v) (table_bytes w) (front_long 1 v k.state ∙ sym (front_long 1 w m.state)) body in
     let step = same_step 1 v w k.state m.state front.0 in
-    let table = same_table v w k m part step front.1 in
+    let table = table_tells v w k m part step front.1 in
     same_state (without_names v) (without_names w) part step table.rows table.marks table.tallies table.sums refl refl table.rows (ap (λ (p : PartValue). replicate 3 (replicate p.plan.parts None)) part)
 
 pub versions_differ : VersionsDiffer

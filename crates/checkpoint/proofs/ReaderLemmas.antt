@@ -56,10 +56,6 @@ needs-err n bytes lt = rw (lt-ltb (length bytes) n lt) refl
 pub needs-piece : (n : ℕ) (piece rest : List ℕ) → length piece ≡ n → needs n (piece ++ rest) ≡ Ok (length piece)
 needs-piece n piece rest e = needs-ok n (piece ++ rest) (omega (arith, e, length-append piece rest)) ∙ ap Ok (sym e)
 
-abbrev is_ok : Result ℕ KeepError → Type 0
-is_ok (Ok x) = ⊤
-is_ok (Err e) = ⊥
-
 abbrev number : Result ℕ KeepError → ℕ
 number (Ok x) = x
 number (Err e) = 0
@@ -67,7 +63,7 @@ number (Err e) = 0
 -- what is there where so many bytes are
 pub needs-takes : (n k : ℕ) (bytes : List ℕ) → needs n bytes ≡ Ok k → n ≡ k
 needs-takes n k bytes e = elim (cases_lt (length bytes) n) [
-  | inl lt ↦ absurd (subst is_ok (sym e ∙ needs-err n bytes lt) tt)
+  | inl lt ↦ let short = needs-err n bytes lt in absurd (cc)
   | inr le ↦ ap number (sym (needs-ok n bytes le) ∙ e)
 ]
 
@@ -78,7 +74,7 @@ refusal e = Err e
 pub needs-refuses : (n : ℕ) (e : KeepError) (bytes : List ℕ) → needs n bytes ≡ Err e → (length bytes < n) × (refusal errors.Short ≡ refusal e)
 needs-refuses n e bytes is = elim (cases_lt (length bytes) n) [
   | inl lt ↦ (lt, sym (needs-err n bytes lt) ∙ is)
-  | inr le ↦ absurd (subst is_ok (sym (needs-ok n bytes le) ∙ is) tt)
+  | inr le ↦ let long = needs-ok n bytes le in absurd (cc)
 ]
 
 pub followed-at : (first : Form) (second : List ℕ → Form) (piece rest : List ℕ) → first (piece ++ rest) ≡ Ok (length piece)
@@ -472,7 +468,7 @@ pub seal_unread : {R : Type 0} {remaining : R → Option (List ℕ)} {failed : R
     → TakesBytes remaining failed sure a b digest → length digest ≡ 32 → TakesAtMost 1 (remaining b) (remaining c) → failed b < failed c → (AreSure (sure b) 1 → ⊥)
     → Fails remaining failed sure (seal_form text) 33 a c errors.Read
 seal_unread {remaining} {failed} {sure} {a} {b} {c} {digest} text p len few rises unsure =
-    fails_then {form = λ _. Ok 0} (seal_form text) 32 33 p (omega (arith, len)) (omega arith) (λ rest is. absurd (subst is_ok is tt))
+    fails_then {form = λ _. Ok 0} (seal_form text) 32 33 p (omega (arith, len)) (omega arith) (λ rest is. absurd (cc))
     (not_wanting errors.Read (λ is. is))
     (record { few = few; rises = λ _. rises; counted = λ is. absurd (is tt); unsure = λ is _. unsure is; wanting = not_wanting errors.Read (λ is. is); due = λ bytes known is. absurd is })
 

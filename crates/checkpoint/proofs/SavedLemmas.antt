@@ -17,7 +17,7 @@ use Rattle.figures.specs.declared.tally.Tally.{Tally}
 use Rattle.batches.specs.Kept.{field}
 use Rattle.checkpoint.specs.declared.saved.Vertices.{Vertices}
 use Rattle.checkpoint.proofs.HeldLemmas.{front_fits}
-use Rattle.checkpoint.specs.Told.{entry_at, IsAdded, AreNone, AreVerticesTold, AreZeros}
+use Rattle.checkpoint.specs.Told.{entry_at, IsAdded, AreNone, AreVerticesTold}
 
 -- ---- numbers
 above : (n k q b : ℕ) → b < 256 → n / 2 ^ k ≡ q * 256 + b → n / 2 ^ (k + 8) ≡ q
@@ -206,6 +206,10 @@ told_none v bytes none = record {
   tallies = ap (λ (l : List Tally). length l) none.tallies;
   text = refl;
 }
+
+-- the rows from row n on are zeros
+abbrev pub AreZeros : ℕ → Table → Type 0
+AreZeros n t = (i : ℕ) → n ≤ i → i < length t.rows → get_or t.rows i [] ≡ replicate t.width 0
 
 pub zeros_first : (v : Vertices) → AreNone v → AreZeros 0 v.rows
 zeros_first v none i le lt =

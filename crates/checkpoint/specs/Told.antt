@@ -39,11 +39,6 @@ pub record AreVerticesTold (n : ℕ) (v : Vertices) (bytes rest : List ℕ) : Ty
   pub tallies : length v.tallies.items ≡ n
   pub text : bytes ≡ flat_map (entry_at v) (range_with_len 0 n) ++ rest
 
--- the rows from row n on are zeros
-abbrev pub AreZeros : ℕ → Table → Type 0
-AreZeros n t =
-    (i : ℕ) → n ≤ i → i < length t.rows → slice_index_or t.rows i [] ≡ replicate t.width 0
-
 -- the bytes are the spelling of one vertex, which is added as vertex i, and behind it the rest
 pub record IsAdded (old new : Vertices) (i : ℕ) (bytes rest : List ℕ) : Type 0 where
   pub mark : Bool

@@ -49,8 +49,8 @@ pub levels : (parts : ℕ) (slots : List (Option BatchValue)) → length (table_
 unfolding table_of
 levels parts slots = length-map-range_with_len (λ k. map (λ q. get_or slots (k * parts + q) None) (range_with_len 0 parts)) 0 3
 
-pub table_is : (parts : ℕ) (slots : List (Option BatchValue)) → IsTable parts (table_of parts slots)
-table_is parts slots = grind (arith, levels, level_in, length-map-range_with_len)
+pub is_table : (parts : ℕ) (slots : List (Option BatchValue)) → IsTable parts (table_of parts slots)
+is_table parts slots = grind (arith, levels, level_in, length-map-range_with_len)
 
 -- inside the table
 pub early_in : (parts : ℕ) (slots : List (Option BatchValue)) (i q : ℕ) → i < 3 → q < parts → early_at (table_of parts slots) i q ≡ get_or slots (i * parts + q) None
@@ -67,7 +67,7 @@ pub out_level : (parts : ℕ) (slots : List (Option BatchValue)) (i q : ℕ) →
 out_level parts slots i q out = no_level (table_of parts slots) i q (omega (arith, levels parts slots))
 
 pub out_source : (parts : ℕ) (slots : List (Option BatchValue)) (i q : ℕ) → parts ≤ q → early_at (table_of parts slots) i q ≡ None
-out_source parts slots i q out = no_source parts (table_of parts slots) i q (table_is parts slots) out
+out_source parts slots i q out = no_source parts (table_of parts slots) i q (is_table parts slots) out
 
 -- the places of slots differ
 rows_apart : (parts a b k q : ℕ) → a < b → k < parts → a * parts + k ≡ b * parts + q → ⊥
@@ -98,7 +98,7 @@ kept_one false parts level source i k slots b low lt klt long at =
 
 -- two tables of as many sources
 pub as_many : (a b : ℕ) (slots : List (Option BatchValue)) → IsTable a (table_of b slots) → b ≡ a
-as_many a b slots is = sym ((table_is b slots).sources 0 (omega arith)) ∙ is.sources 0 (omega arith)
+as_many a b slots is = sym ((is_table b slots).sources 0 (omega arith)) ∙ is.sources 0 (omega arith)
 
 -- past all that is kept it makes no difference how far
 pub past_gap : (parts : ℕ) (early : List (List (Option BatchValue))) (i a q : ℕ) → IsTable parts early → early_at early (i + min a 3) q ≡ early_at early (i + a) q
@@ -112,9 +112,9 @@ shifted_told parts early shifted a gap is at told i k = told i k ∙ ap (λ n. e
 -- slots of as many sources make a table as before
 pub stays_table : (a : ℕ) (mine later : List (Option BatchValue)) (early : List (List (Option BatchValue))) → table_of a mine ≡ early → StaysTable early (table_of a later)
 stays_table a mine later early is parts t =
-    subst (λ n. IsTable n (table_of a later)) (as_many parts a mine (subst (λ (e : List (List (Option BatchValue))). IsTable parts e) (sym is) t)) (table_is a later)
+    subst (λ n. IsTable n (table_of a later)) (as_many parts a mine (subst (λ (e : List (List (Option BatchValue))). IsTable parts e) (sym is) t)) (is_table a later)
 
 -- where the other one is a table as this one, it is of as many
 pub same_parts : (a b : ℕ) (mine theirs : List (Option BatchValue)) (early other : List (List (Option BatchValue))) → table_of a mine ≡ early → table_of b theirs ≡ other → StaysTable early other → b ≡ a
 same_parts a b mine theirs early other is also stays =
-    as_many a b theirs (subst (λ (e : List (List (Option BatchValue))). IsTable a e) (sym also) (stays a (subst (λ (e : List (List (Option BatchValue))). IsTable a e) is (table_is a mine))))
+    as_many a b theirs (subst (λ (e : List (List (Option BatchValue))). IsTable a e) (sym also) (stays a (subst (λ (e : List (List (Option BatchValue))). IsTable a e) is (is_table a mine))))

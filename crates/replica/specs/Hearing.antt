@@ -1,5 +1,5 @@
 -- What a replica has heard of its superstep, and what becomes of it as batches are heard.
-use Rattle.std.specs.Prelude.{◌≡◌, ℕ, ◌+◌, ◌%◌, ◌^◌, ◌⊎◌, Bool, false, not, ◌||◌, ◌&&◌, ◌==◌, List, [], ◌∷◌, length, map, replicate, Option, None, is_some, nat_lt, IfSome, slice_index_or, if◌then◌else◌}
+use Rattle.std.specs.Prelude.{◌≡◌, ℕ, ◌+◌, ◌%◌, ◌^◌, ◌⊎◌, Bool, false, not, ◌||◌, ◌&&◌, ◌==◌, List, [], ◌∷◌, length, map, replicate, Option, None, is_some, IfSome, slice_index_or, if◌then◌else◌}
 use Rattle.std.specs.List.{list_any, range_with_len}
 use Rattle.ball_model.specs.Accumulated.{accumulated_of, accumulated_row}
 use Rattle.ball_model.specs.Batches.{BatchValue, true_batch, changed_count}
@@ -35,10 +35,6 @@ pub record IsTrueHearing (j : Job) (p t : ℕ) (a : Hearing) : Type 0 where
 -- what one source tells
 abbrev pub batch_by : ℕ → Option BatchValue → ℕ → Option BatchValue
 batch_by source told q = if q == source then told else None
-
--- the batches that the sources below n tell of
-abbrev pub batches_below : (ℕ → Option BatchValue) → ℕ → ℕ → Option BatchValue
-batches_below told n q = if nat_lt q n then told q else None
 
 -- what the sources tell is heard too
 pub record Hears (log2m : ℕ) (targets : List (List ℕ)) (told : ℕ → Option BatchValue)

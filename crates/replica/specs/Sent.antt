@@ -1,5 +1,5 @@
 -- What a replica tells another partition of its superstep.
-use Rattle.std.specs.Prelude.{◌≡◌, ℕ, ◌+◌, ◌*◌, ◌^◌, ◌<◌, ◌≤◌, true, false, ◌&&◌, List, [], ◌∷◌, if◌then◌else◌, length, slice_index, slice_index_or}
+use Rattle.std.specs.Prelude.{◌≡◌, ℕ, ◌+◌, ◌*◌, ◌^◌, ◌<◌, ◌≤◌, false, ◌&&◌, List, [], ◌∷◌, if◌then◌else◌, length, slice_index, slice_index_or}
 use Rattle.std.specs.List.{range_with_len, filter, flat_map, count_by, All}
 use Rattle.ball_model.specs.declared.names.BatchName.{BatchName}
 use Rattle.ball_model.specs.Batches.{BatchValue}
@@ -72,11 +72,6 @@ pub record IsTold (v : State) (target n : ℕ) (ids places : List ℕ) (changed 
   pub within : All (λ p. (p + 1) * 2 ^ v.part.plan.log2m ≤ length (changed_registers v)) places
   pub before : changed * 2 ^ v.part.plan.log2m ≡ length (changed_rows v n)
   pub few : changed ≤ n
-
--- vertex i of the partition changed
-pub record ChangedAt (v : State) (i : ℕ) : Type 0 where
-  pub place : i < length v.part.preds
-  pub mark : slice_index_or v.marks i false ≡ true
 
 -- what a partition is told of: a state, vertices by their places, and the partition
 pub record TellingValue : Type 0 where

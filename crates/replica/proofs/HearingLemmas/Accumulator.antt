@@ -19,18 +19,7 @@ use Rattle.replica.proofs.LevelLemmas.Over.{over_later}
 -- ---- the fields as they stand
 
 abbrev pub fields_of : progress.Inside → State
-fields_of r = record {
-  part = arc_value r.part;
-  superstep = r.superstep;
-  rows = r.tables.rows.rows;
-  marks = r.tables.marks;
-  tallies = r.tables.tallies;
-  sums = r.tables.sums;
-  heard = r.hearing.heard;
-  heard_change = r.hearing.change;
-  accumulated = r.hearing.accumulated.rows;
-  early = r.early;
-}
+fields_of r = record (state_of r) { accumulated = r.hearing.accumulated.rows }
 
 -- where an accumulator is kept of each row they are the state
 pub fields_are : (r : progress.Inside) → length r.hearing.accumulated.rows ≡ length r.tables.rows.rows → fields_of r ≡ state_of r

@@ -13,7 +13,7 @@ use Rattle.ball_model.specs.State.{is_heard, heard_changes, rows_of}
 use Rattle.ball_model.proofs.AccumulatedPartLemmas.{accumulated_of-alike, accumulated_of-none}
 use Rattle.ball_model.proofs.AccumulatedLemmas.{or_split}
 use Rattle.ball_model.proofs.QuietLemmas.{none_of}
-use Rattle.replica.specs.Hearing.{Hearing, IsTrueHearing, Hears, batch_by, batches_below}
+use Rattle.replica.specs.Hearing.{Hearing, IsTrueHearing, Hears, batch_by}
 use Rattle.replica.specs.Index.{targets_of}
 use Rattle.replica.specs.Kept.{AreCounters, AllRise}
 use Rattle.edgelist.proofs.RangeLemmas.{copies-at}
@@ -116,6 +116,10 @@ pub hears_on : (log2m : ℕ) (targets : List (List ℕ)) (first second told : �
     ((q : ℕ) → is_some (told q) ≡ (is_some (first q) || is_some (second q))) → ((P : BatchValue → Type 0) (q : ℕ) → IfSome (told q) P → IfSome (first q) P × IfSome (second q) P) →
     Hears log2m targets first a b → Hears log2m targets second b c → Hears log2m targets told a c
 hears_on log2m targets first second told a b c are some if_some f g = grind arith
+
+-- the batches that the sources below n tell of
+abbrev pub batches_below : (ℕ → Option BatchValue) → ℕ → ℕ → Option BatchValue
+batches_below told n q = if nat_lt q n then told q else None
 
 -- one source more of those below a number
 told_one : (told : ℕ → Option BatchValue) (n q : ℕ) (a b c : Bool) → nat_lt q (n + 1) ≡ a → nat_lt q n ≡ b → (q == n) ≡ c → is_some (if a then told q else None) ≡ (is_some (if b then told q else None) || is_some (if c then told n else None))

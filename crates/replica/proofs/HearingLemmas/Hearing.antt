@@ -14,10 +14,10 @@ use Rattle.ball_model.specs.Table.{Table}
 use Rattle.registers.specs.Relay.{DifferWhere}
 use Rattle.registers.specs.Laws.{max_each-repeats}
 use Rattle.replica.specs.Ahead.{ComesNearer}
-use Rattle.replica.specs.Hearing.{CanHear, Hearing, HearingValue, Hears, HearsAlso, IsQuiet, HearsByIndex, hearing_of, KeepsAll, KeepsAllOrNone, SaysSame, accumulators_of, batch_by, batches_below, hearing_kept}
+use Rattle.replica.specs.Hearing.{CanHear, Hearing, HearingValue, Hears, HearsAlso, IsQuiet, HearsByIndex, hearing_of, KeepsAll, KeepsAllOrNone, SaysSame, accumulators_of, batch_by, hearing_kept}
 use Rattle.replica.specs.Level.{differences}
 use Rattle.replica.specs.Spread.{AreTouched, IsAbove}
-use Rattle.replica.proofs.HearingLemmas.Hear.{hears_as, hears_next, hears_same, if_some_as}
+use Rattle.replica.proofs.HearingLemmas.Hear.{batches_below, hears_as, hears_next, hears_same, if_some_as}
 use Rattle.replica.proofs.LevelLemmas.Level.{length-differing}
 use Rattle.replica.proofs.KeptLemmas.Rise.{same_registers}
 

@@ -24,7 +24,7 @@ any_here [] y x = refl
 any_here (p ∷ ps) y x = rw (eq-eqb x x refl, and-true (p == y), any_here ps y x) refl
 
 -- the edges to own vertex k
-abbrev edges_to : List (List ℕ) → ℕ → List (ℕ × ℕ)
+abbrev pub edges_to : List (List ℕ) → ℕ → List (ℕ × ℕ)
 edges_to preds k = map (λ y. (y, k)) (get_or preds k [])
 
 any_beyond : (preds : List (List ℕ)) (a n z i : ℕ) → i < a → list_any (λ (e : ℕ × ℕ). (e.0 == z) && (e.1 == i)) (flat_map (edges_to preds) (range_with_len a n)) ≡ false

@@ -10,7 +10,7 @@ use Rattle.ball_model.proofs.PartLemmas.{range_more}
 use Rattle.registers.specs.Marks.{IsNextMarked}
 use Rattle.registers.proofs.MarkLemmas.{at_next}
 use Rattle.replica.proofs.SentLemmas.Sent.{count_next}
-use Rattle.replica.specs.Sent.{AreChangedVertices, ChangedAt, changed_first}
+use Rattle.replica.specs.Sent.{AreChangedVertices, changed_first}
 
 -- ---- the marked places among n from a on
 
@@ -60,6 +60,11 @@ changed_go v vertices k are lt = rw (are.list, ← are.marks) (goes v.marks 0 (l
 
 mark_inside : (marks : List Bool) (i : ℕ) → get_or marks i false ≡ true → i < length marks
 mark_inside marks i on = grind (arith, get_or_past)
+
+-- vertex i of the partition changed
+pub record ChangedAt (v : State) (i : ℕ) : Type 0 where
+  pub place : i < length v.part.preds
+  pub mark : get_or v.marks i false ≡ true
 
 -- each of them changed
 pub changed_at : (v : State) (vertices : List ℕ) (k : ℕ) → AreChangedVertices v vertices → k < length vertices → ChangedAt v (get_or vertices k 0)

@@ -4,8 +4,8 @@ use Rattle.std.proofs.lemmas.List.{get_or_default}
 use Rattle.ball_model.specs.Batches.{BatchValue}
 use Rattle.registers.specs.Marks.{IsNextMarked}
 use Rattle.replica.specs.Seen.{IsState}
-use Rattle.replica.specs.Sent.{CanTell, ChangedAt, IsTold, IsToldBefore, TellingValue, next_place, sent_batch}
-use Rattle.replica.proofs.SentLemmas.Changed.{changed_at, changed_begin, changed_go}
+use Rattle.replica.specs.Sent.{CanTell, IsTold, IsToldBefore, TellingValue, next_place, sent_batch}
+use Rattle.replica.proofs.SentLemmas.Changed.{ChangedAt, changed_at, changed_begin, changed_go}
 use Rattle.replica.proofs.SentLemmas.Sent.{sent_over}
 use Rattle.replica.proofs.SentLemmas.Told.{told_over}
 

@@ -3,8 +3,9 @@ use Rattle.std.specs.List.{flat_map, range_with_len}
 use Rattle.ball_model.specs.Checkpoint.{vertex_bytes}
 use Rattle.ball_model.specs.State.{State}
 use Rattle.replica.specs.Saved.{IsKeepable}
-use Rattle.checkpoint.specs.Told.{AreVerticesTold, AreZeros, HasRoomForAll}
+use Rattle.checkpoint.specs.Told.{AreVerticesTold, HasRoomForAll}
 use Rattle.checkpoint.proofs.RightLemmas.{AreFirst}
+use Rattle.checkpoint.proofs.SavedLemmas.{AreZeros}
 use Rattle.checkpoint.proofs.saved.add_vertices.Given as goal
 
 -- as many rows as before, of the same width; the bytes so far told of the vertices so far, and the other rows are zeros;

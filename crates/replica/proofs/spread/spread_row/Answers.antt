@@ -3,15 +3,12 @@ use Rattle.std.proofs.lemmas.List.{nil_from_length, get_or_past}
 use Rattle.std.proofs.lemmas.List.Folds.{list_any-append}
 use Rattle.std.specs.Slice.Iter.{chunks_rest}
 use Rattle.ball_model.specs.Table.{Table}
+use Rattle.registers.proofs.TableLemmas.{same_table}
 use Rattle.replica.specs.Heard.{MarksChanges}
 use Rattle.replica.specs.Spread.{raised_at, rows_after, touched_at}
 use Rattle.replica.proofs.SpreadLemmas.{spread-none, spread-append, length-spread, touched-none, both_marks, to_row, spread-at, spread_on, raised_above, raised_marked, all_last, raise_first}
 use Rattle.replica.proofs.HeardLemmas.{accumulated_of-spread}
 use Rattle.replica.proofs.spread.spread_row.Goals as goal
-
--- a table is its width and its rows
-table_is : (a b : Table) → a.width ≡ b.width → a.rows ≡ b.rows → a ≡ b
-table_is a b width rows = λ i. record { width = width i; rows = rows i }
 
 pub loop-block-init : goal.loop-block-init
 loop-block-init c =
@@ -84,7 +81,7 @@ returns c =
     ∙ inv.marks i lt ∙ ap (λ (rs : List (List ℕ)). touched_at c.args.touched.now old rs i) (sym all) in
     let count : length new ≡ length c.args.touched.now = omega arith in
     record {
-      rows = table_is c.loop-block.accumulated (raised_at places src c.args.accumulated.now) inv.width all;
+      rows = same_table c.loop-block.accumulated (raised_at places src c.args.accumulated.now) inv.width all;
       marks = marks;
       touched = λ rows h. grind (arith, length-spread, spread-at, raised_above, to_row, raised_marked, all, marks);
       stands = λ j p t heard job index changed true_row stands. all ∙ rw (true_row, stands, index) (accumulated_of-spread j p t c.args.z heard job changed);

@@ -5,18 +5,18 @@ use Rattle.std.specs.Vec.{with_items}
 use Rattle.std.proofs.lemmas.List.{with_items_is, length-map}
 use Rattle.ball_model.specs.Batches.{BatchValue}
 use Rattle.replica.specs.Ahead.{IsTable}
-use Rattle.replica.proofs.AheadLemmas.{early_in, kept_one, out_level, out_source, stays_table, table_is, place_fits}
+use Rattle.replica.proofs.AheadLemmas.{early_in, kept_one, out_level, out_source, stays_table, is_table, place_fits}
 use Rattle.replica.proofs.early.Early.keep.Goals as goal
 
 pub put-requires : goal.put-requires
 put-requires c =
-    let lt : c.args.source < c.self.inside.parts = c.requires.source c.self.inside.parts (subst (λ (e : List (List (Option BatchValue))). IsTable c.self.inside.parts e) c.self.view_is (table_is c.self.inside.parts (map (option_map arc_value) c.self.inside.slots.items))) in
+    let lt : c.args.source < c.self.inside.parts = c.requires.source c.self.inside.parts (subst (λ (e : List (List (Option BatchValue))). IsTable c.self.inside.parts e) c.self.view_is (is_table c.self.inside.parts (map (option_map arc_value) c.self.inside.slots.items))) in
     omega (arith, place_fits c.self.inside.parts c.args.level c.args.source c.requires.level lt, c.deref_mut.ensures.len, c.self.inside.slots.ok.0, c.self.invariant, c.from.ensures)
 
 pub returns : goal.returns
 returns c = record {
   kept = λ i k.
-      let lt : c.args.source < c.self.inside.parts = c.requires.source c.self.inside.parts (subst (λ (e : List (List (Option BatchValue))). IsTable c.self.inside.parts e) c.self.view_is (table_is c.self.inside.parts (map (option_map arc_value) c.self.inside.slots.items))) in
+      let lt : c.args.source < c.self.inside.parts = c.requires.source c.self.inside.parts (subst (λ (e : List (List (Option BatchValue))). IsTable c.self.inside.parts e) c.self.view_is (is_table c.self.inside.parts (map (option_map arc_value) c.self.inside.slots.items))) in
       let F = option_map (arc_value {X = BatchValue}) in
       let size : length c.put.new.slots ≡ c.self.inside.slots.len = omega (arith, c.put.auto.slots, c.deref_mut.ensures.len, c.self.inside.slots.ok.0) in
       let slots = map F c.self.inside.slots.items in

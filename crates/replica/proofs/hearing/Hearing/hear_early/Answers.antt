@@ -4,8 +4,9 @@ use Rattle.std.proofs.lemmas.Bool.{cases_lt, le-ltb, lt-ltb}
 use Rattle.ball_model.specs.Batches.{BatchValue}
 use Rattle.ball_model.specs.PlanValue.{PlanValue}
 use Rattle.ball_model.specs.State.{early_at}
-use Rattle.replica.specs.Hearing.{HearingValue, HearsAlso, HearsByIndex, batch_by, batches_below}
+use Rattle.replica.specs.Hearing.{HearingValue, HearsAlso, HearsByIndex, batch_by}
 use Rattle.replica.specs.Kept.{IsFrom}
+use Rattle.replica.proofs.HearingLemmas.Hear.{batches_below}
 use Rattle.replica.proofs.HearingLemmas.Hearing.{also_next, also_same, can_hear_later}
 use Rattle.replica.proofs.AheadLemmas.{no_source, shifted_told}
 use Rattle.replica.proofs.hearing.Hearing.hear_early.Goals as goal

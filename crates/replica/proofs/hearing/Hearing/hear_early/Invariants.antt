@@ -1,5 +1,6 @@
 use Rattle.ball_model.specs.State.{early_at}
-use Rattle.replica.specs.Hearing.{HearsAlso, batches_below}
+use Rattle.replica.specs.Hearing.{HearsAlso}
+use Rattle.replica.proofs.HearingLemmas.Hear.{batches_below}
 use Rattle.replica.proofs.hearing.Hearing.hear_early.Given as goal
 
 abbrev pub invariant-loop-source : goal.invariant-loop-source
