@@ -142,9 +142,9 @@ batch_is b long number header a e f =
     rw (e, a, f, append-nil (header_bytes b)) (append_assoc (to_be_bytes w64 (length (header_bytes b ++ flat_map row_bytes b.rows))) (header_bytes b) (flat_map row_bytes b.rows))
 
 -- ---- the parts together
-pub table_text : (v : State) (sums : List ℕ) → sums ≡ v.sums → flat_map (vertex_bytes v) (range_with_len 0 (length v.part.preds)) ++ flat_map (to_be_bytes w128) sums ≡ table_bytes v
+pub table_whole : (v : State) (sums : List ℕ) → sums ≡ v.sums → flat_map (vertex_bytes v) (range_with_len 0 (length v.part.preds)) ++ flat_map (to_be_bytes w128) sums ≡ table_bytes v
 unfolding table_bytes
-table_text v sums e = rw e refl
+table_whole v sums e = rw e refl
 
 pub mark_is : (byte : ℕ) (mark : Bool) → byte ≡ bool_byte mark → byte ≡ mark_byte mark
 mark_is byte true e = e
