@@ -1,11 +1,10 @@
 //! The lines of one partition's vertices, as a report has them.
 
-ghost use Rattle.std.specs.Prelude.{◌≡◌, ◌≢◌, ◌<◌, ◌≤◌, ◌%◌, ◌^◌, Err, IfOk, OnOk, length};
-ghost use Rattle.ball_model.specs.Figures.{empty_of};
+ghost use Rattle.std.specs.Prelude.{◌≡◌, ◌≢◌, ◌<◌, ◌%◌, Err, IfOk, OnOk};
 ghost use Rattle.ball_model.specs.Held.{HasHolding};
 ghost use Rattle.ball_model.specs.Job.{Job};
 ghost use Rattle.ball_model.specs.Join.{Holding};
-ghost use Rattle.ball_model.specs.PlanValue.{greatest_log2m, mixing_of};
+ghost use Rattle.ball_model.specs.PlanValue.{mixing_of};
 ghost use Rattle.ball_model.specs.Report.{vertex_text};
 ghost use Rattle.ball_model.specs.Streams.{Rises};
 ghost use Rattle.node.specs.NodeText.{figures_text};
@@ -20,14 +19,6 @@ use replica::{Replica, Shown};
 use report::figures_text;
 use std::alloc::{AllocError, Global};
 use world::tell::{TellError, own_vertex, write_lines};
-
-// How many registers of a row are 0.
-fn empty_count(row: &[u8]) -> u32
-    requires { length row.now ≤ 2 ^ greatest_log2m }
-    ensures { result ≡ empty_of row.now }
-{
-    row.iter().filter(|register| **register == 0).count() as u32
-}
 
 // The figures of vertex `x`, which the replica's partition owns.
 fn figures_of(replica: &Replica, x: u32) -> Figures
@@ -44,7 +35,7 @@ fn figures_of(replica: &Replica, x: u32) -> Figures
         harmonic: tally.harm,
         closeness: closeness(tally.dist),
         lin: lin(tally.last, tally.dist),
-        empty: empty_count(replica.row(x)),
+        empty: replica.empty_count(x),
     }
 }
 

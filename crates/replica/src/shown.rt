@@ -7,6 +7,7 @@ ghost use Rattle.figures.specs.Values.{value_of};
 ghost use Rattle.ball_model.specs.PlanValue.{mixing_of, vertices_of};
 ghost use Rattle.ball_model.specs.Counter.{ball_counter};
 ghost use Rattle.ball_model.specs.Change.{changed_at};
+ghost use Rattle.ball_model.specs.Figures.{empty_of};
 ghost use Rattle.ball_model.specs.Laws.{IsCounterRow};
 ghost use Rattle.ball_model.specs.Supersteps.{tally_at};
 ghost use Rattle.ball_model.specs.Job.{Job};
@@ -93,6 +94,21 @@ pub trait Shown {
         let s = self.shown();
         let rows = s.tables.rows();
         rows.row(s.own_place(x))
+    }
+
+    /// How many of its registers are 0.
+    #[tactic(auto, using(crate::proofs::SeenLemmas::Read::row_stands))]
+    final fn empty_count(&self, x: u32) -> u32
+        requires vertex { x < (state self.now).part.plan.vertices }
+        requires own { x % (state self.now).part.plan.parts ≡ (state self.now).part.number }
+        ensures value { result ≡ empty_of
+            (slice_index_or (state self.now).rows (x / (state self.now).part.plan.parts) []) }
+        ensures stands { (j : Job) (p t : ℕ) → StandsFor j p t (state self.now) →
+            result ≡ empty_of (ball_counter (mixing_of j.plan) j.graph x t) }
+    {
+        let s = self.shown();
+        let table = s.tables.rows();
+        table.empty_count(s.own_place(x))
     }
 
     /// The figures of vertex `x`, which the partition owns.

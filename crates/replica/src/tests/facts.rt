@@ -1,6 +1,6 @@
 //! What a replica is to tell.
 
-use super::shown::vertex_of;
+use super::shown::{Counter, vertex_of};
 use super::*;
 
 /// What a replica tells.
@@ -46,7 +46,7 @@ fn owned(replica: &Replica) -> [bool; 5] {
 fn is_settled(replica: &Replica) -> bool {
     let mut same = true;
     for x in 0..4 {
-        if let Some((row, accumulated, _, _)) = vertex_of(replica, x) {
+        if let Some(((row, _), accumulated, _, _)) = vertex_of(replica, x) {
             same &= accumulated == row;
         }
     }
@@ -78,13 +78,19 @@ fn keeps(replica: &Replica, wanted: &[(u32, u16)]) -> bool {
     same
 }
 
+/// Whether these are the registers that are told, and as many of them are 0 as is told.
+fn has_row((row, empty): Counter<'_>, wanted: &[u8]) -> bool {
+    let zeros = wanted.iter().filter(|rank| **rank == 0).count();
+    row == wanted && empty as usize == zeros
+}
+
 /// Whether a replica tells this of a vertex, which it owns.
 fn is_told_of(replica: &Replica, x: u32, fact: &Fact) -> bool {
-    let Some((row, accumulated, figures, changed)) = vertex_of(replica, x) else {
+    let Some((counter, accumulated, figures, changed)) = vertex_of(replica, x) else {
         return false;
     };
     match fact {
-        Fact::Row(_, wanted) => row == wanted.as_slice(),
+        Fact::Row(_, wanted) => has_row(counter, wanted),
         Fact::Accumulated(_, wanted) => accumulated == wanted.as_slice(),
         Fact::Figures(_, wanted) => figures == *wanted,
         Fact::Changed(_, wanted) => changed == *wanted,

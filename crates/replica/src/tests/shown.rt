@@ -7,15 +7,18 @@ pub fn figures(tally: Tally) -> (u64, u64, u128) {
     (tally.last, tally.harm, tally.dist)
 }
 
+/// Registers of a vertex, and how many of them are 0.
+pub type Counter<'a> = (&'a [u8], u32);
+
 /// What is told of a vertex: its registers, those accumulated, its figures, and whether it changed.
-pub type Vertex<'a> = (&'a [u8], &'a [u8], (u64, u64, u128), bool);
+pub type Vertex<'a> = (Counter<'a>, &'a [u8], (u64, u64, u128), bool);
 
 /// What is told of a vertex, where it is one of the partition.
 pub fn vertex_of<S: Shown>(shown: &S, x: u32) -> Option<Vertex<'_>> {
     if !shown.owns(x) {
         return None;
     }
-    let row = shown.row(x);
+    let row = (shown.row(x), shown.empty_count(x));
     let accumulated = shown.accumulated(x);
     Some((row, accumulated, figures(shown.tally(x)), shown.changed(x)))
 }
