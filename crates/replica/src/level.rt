@@ -56,8 +56,8 @@ pub fn step_rows(
     gain
 }
 
-// The same, where the rows before were handed out or else are those that are shown. Each row is put behind its figures, while
-// it is at hand: a second walk would have to fetch it again.
+// The same, where the rows before were handed out, or else are those that are shown. Each row is taken over right behind
+// its figures: a second walk would have to fetch both again.
 #[inline(never)]
 fn step_marked(
     estimator: &Estimator,
