@@ -4,7 +4,7 @@ use Rattle.std.specs.Prelude.{◌==◌, ◌||◌}
 use Rattle.std.proofs.lemmas.Bool.{cases_Bool, eqb-true}
 use Rattle.csv.specs.declared.writer.WriterBuilder.{WriterBuilder}
 use Rattle.csv.specs.Writing as csv
-use Rattle.csv.specs.Writing.{default_writer, needs_byte, escaped, fields_text}
+use Rattle.csv.specs.Writing.{default_writer, escaped, fields_text}
 use Rattle.ball_model.specs.Report as row
 
 abbrev pub report_writer : WriterBuilder
