@@ -75,14 +75,6 @@ pub if_back : {E : Type 0} (r : Result State E) (j : Job) (v : State) (bytes : L
 if_back (Ok w) j v bytes read = restart_turns j v w bytes read
 if_back (Err e) j v bytes read = tt
 
-anew : (j : Job) (p : ℕ) (n : Node) (v w : State) (o : Option Holding) → n.kept ≡ o → IsWorldNode j p n → ShowsNode j n (node v None) → Agree (KeepsContent j) o None → Has j (start_holding j.plan n.content.partition) w →
-    (answer.Restarted w.superstep ≡ (restarted_turn j n).answer) × ShowsNode j (restarted_turn j n).node (node w None)
-anew j p n v w (Some h) at fits shows agree has = absurd agree
-anew j p n v w None at fits shows agree has =
-    let given : unwrap_or n.kept (start_holding j.plan n.content.partition) ≡ start_holding j.plan n.content.partition = ap (λ o. unwrap_or o (start_holding j.plan n.content.partition)) at in
-    subst (λ (d : Holding). (answer.Restarted w.superstep ≡ answer.Restarted d.superstep) × ShowsNode j (record n { content = d }) (node w None)) (sym given)
-    (ap answer.Restarted has.holding.stands.superstep, record { content = has; kept = shows.kept })
-
 -- ---- why it is not read
 -- it is want of memory, where no read fails
 pub only_want : (e : KeepError) → (e ≡ unkept.Memory) ⊎ (e ≡ unkept.Read) → (IsRead e → ⊥) → e ≡ unkept.Memory

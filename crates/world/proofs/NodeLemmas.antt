@@ -79,7 +79,7 @@ merged_by j h c v o k l =
     ap (λ (x : Holding). merge_of x.plan x.partition o.part.plan o.part.number) k.holding.content
     ∙ ap (λ (x : Holding). merge_of h.plan h.partition x.plan x.partition) l.holding.content
 
-abbrev fine : Result (Unit {0}) MergeError
+abbrev pub fine : Result (Unit {0}) MergeError
 fine = Ok tt
 
 abbrev bad : MergeError → Result (Unit {0}) MergeError

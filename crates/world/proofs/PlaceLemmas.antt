@@ -36,6 +36,16 @@ pub record At (rows : List Row) (id : NodeId) (p k : ℕ) (row : Row) (s : SeenN
   pub row_is : slice_get rows p ≡ Some row
   pub node_is : slice_get row.items k ≡ Some s
 
+-- it is there where both look-ups find it
+pub placed : {Z : Type 0} (nodes : Vec Row Z) (id : NodeId) (p k : ℕ) (row : Row) (s : SeenNode) → p ≡ id.part → k ≡ id.replica →
+    p < vec_len nodes → row ≡ slice_index_or nodes.items p row → k < vec_len row → s ≡ slice_index_or row.items k s → At nodes.items id p k row s
+placed nodes id p k row s part replica below row_is in_row node_is = record {
+  part = part;
+  replica = replica;
+  row_is = something_at nodes p row below row_is;
+  node_is = something_at row k s in_row node_is;
+}
+
 row_there : (rows : List Row) (p : ℕ) (row : Row) → slice_get rows p ≡ Some row → get_or (map (λ (r : Row). r.items) rows) p [] ≡ row.items
 row_there rows p row e = get_or_from_slice_get (map (λ (r : Row). r.items) rows) p row.items [] (slice_get-map (λ (r : Row). r.items) rows p ∙ ap (option_map (λ (r : Row). r.items)) e)
 

@@ -20,9 +20,6 @@ node_more j p n nodes s before shows = record {
   each = one_more (ShowsNode j (start_node j.plan p)) nodes s before.each shows;
 }
 
-pub no_rows : (j : Job) (replicas : ℕ) → AreFirstNodes j 0 replicas []
-no_rows j replicas = record { count = refl; each = λ p. tt }
-
 -- each further row is of the partition of its number
 row_at_end : (j : Job) (replicas a : ℕ) (rows : List (List SeenNode)) (row : List SeenNode) → ((p : ℕ) → IfSome (slice_get rows p) (AreStart j (a + p) replicas)) → AreStart j (a + length rows) replicas row → (p : ℕ) → IfSome (slice_get (rows ++ row ∷ []) p) (AreStart j (a + p) replicas)
 row_at_end j replicas a [] row h new zero = new

@@ -2,7 +2,7 @@ use Rattle.std.proofs.Common.{refl, set}
 use Rattle.std.specs.Vec.{with_item}
 use Rattle.ball_model.specs.declared.world.Event.TheVariants as event
 use Rattle.world.specs.contracts.world.World.{the_view}
-use Rattle.world.proofs.PlaceLemmas.{At, at_changed, at_seen, no_node_in, nothing_at, row_same, something_at, with_rows}
+use Rattle.world.proofs.PlaceLemmas.{at_changed, at_seen, no_node_in, nothing_at, placed, row_same, something_at, with_rows}
 use Rattle.world.proofs.ApplyLemmas.{close_of_world, no_node, turn_applies}
 use Rattle.world.proofs.world.World.close.Goals as goal
 
@@ -21,12 +21,7 @@ returns c = λ j.
     let rows = c.self.inside.nodes.items in
     let row = c.in-Some.nodes.now in
     let s = c.in-Some-get_mut.node.now in
-    let at : At rows c.args.id c.from.result c.from-2.result row s = record {
-      part = c.from.ensures;
-      replica = c.from-2.ensures;
-      row_is = something_at c.self.inside.nodes c.from.result row (c.in-Some.ensures.variant.0 refl) c.in-Some.ensures.value;
-      node_is = something_at row c.from-2.result s (c.in-Some-get_mut.ensures.variant.0 refl) c.in-Some-get_mut.ensures.value;
-    } in
+    let at = placed c.self.inside.nodes c.args.id c.from.result c.from-2.result row s c.from.ensures c.from-2.ensures (c.in-Some.ensures.variant.0 refl) c.in-Some.ensures.value (c.in-Some-get_mut.ensures.variant.0 refl) c.in-Some-get_mut.ensures.value in
     let t = c.close.new.self in
     turn_applies j (event.Close c.args.id) c.close.result c.args.self.now (with_rows v (set rows c.from.result (with_item row c.from-2.result t))) v s t c.self.view_is (at_changed v rows c.args.id c.from.result c.from-2.result row s t at) (at_seen v rows c.args.id c.from.result c.from-2.result row s at)
     (λ w shows. close_of_world j c.args.id w c.close.result s t (c.close.ensures j))

@@ -6,7 +6,7 @@ use Rattle.ball_model.specs.declared.world.Answer.TheVariants as answer
 use Rattle.ball_model.specs.State.{State}
 use Rattle.world.specs.Shows.{SeenWorld}
 use Rattle.world.specs.contracts.world.World.{the_view}
-use Rattle.world.proofs.PlaceLemmas.{At, at_seen, at_unchanged, no_node_in, nothing_at, row_same, something_at, with_rows}
+use Rattle.world.proofs.PlaceLemmas.{at_seen, at_unchanged, no_node_in, nothing_at, placed, row_same, something_at, with_rows}
 use Rattle.world.proofs.ApplyLemmas.{copy_applies, no_node, want_applies}
 use Rattle.world.proofs.world.World.copy.Goals as goal
 
@@ -25,12 +25,7 @@ returns-in_err-snapshot c = λ j.
     let rows = c.self.inside.nodes.items in
     let row = c.in-Some.nodes.now in
     let s = c.in-Some-get_mut.node.now in
-    let at : At rows c.args.id c.from.result c.from-2.result row s = record {
-      part = c.from.ensures;
-      replica = c.from-2.ensures;
-      row_is = something_at c.self.inside.nodes c.from.result row (c.in-Some.ensures.variant.0 refl) c.in-Some.ensures.value;
-      node_is = something_at row c.from-2.result s (c.in-Some-get_mut.ensures.variant.0 refl) c.in-Some-get_mut.ensures.value;
-    } in
+    let at = placed c.self.inside.nodes c.args.id c.from.result c.from-2.result row s c.from.ensures c.from-2.ensures (c.in-Some.ensures.variant.0 refl) c.in-Some.ensures.value (c.in-Some-get_mut.ensures.variant.0 refl) c.in-Some-get_mut.ensures.value in
     let seen = at_seen v rows c.args.id c.from.result c.from-2.result row s at in
     let t = c.copy.new.self in
     let p = err_from_is_err_and c.from_residual.result c.from_residual.ensures.1 in
@@ -42,12 +37,7 @@ returns-in_err-add_copy c = λ j.
     let rows = c.self.inside.nodes.items in
     let row = c.in-Some.nodes.now in
     let s = c.in-Some-get_mut.node.now in
-    let at : At rows c.args.id c.from.result c.from-2.result row s = record {
-      part = c.from.ensures;
-      replica = c.from-2.ensures;
-      row_is = something_at c.self.inside.nodes c.from.result row (c.in-Some.ensures.variant.0 refl) c.in-Some.ensures.value;
-      node_is = something_at row c.from-2.result s (c.in-Some-get_mut.ensures.variant.0 refl) c.in-Some-get_mut.ensures.value;
-    } in
+    let at = placed c.self.inside.nodes c.args.id c.from.result c.from-2.result row s c.from.ensures c.from-2.ensures (c.in-Some.ensures.variant.0 refl) c.in-Some.ensures.value (c.in-Some-get_mut.ensures.variant.0 refl) c.in-Some-get_mut.ensures.value in
     let seen = at_seen v rows c.args.id c.from.result c.from-2.result row s at in
     let same = at_unchanged v rows c.args.id c.from.result c.from-2.result row s c.copy.new.self at c.copy.ensures.unchanged in
     let p = err_from_is_err_and c.from_residual-in_err-add_copy.result c.from_residual-in_err-add_copy.ensures.1 in
@@ -59,12 +49,7 @@ returns c = λ j.
     let rows = c.self.inside.nodes.items in
     let row = c.in-Some.nodes.now in
     let s = c.in-Some-get_mut.node.now in
-    let at : At rows c.args.id c.from.result c.from-2.result row s = record {
-      part = c.from.ensures;
-      replica = c.from-2.ensures;
-      row_is = something_at c.self.inside.nodes c.from.result row (c.in-Some.ensures.variant.0 refl) c.in-Some.ensures.value;
-      node_is = something_at row c.from-2.result s (c.in-Some-get_mut.ensures.variant.0 refl) c.in-Some-get_mut.ensures.value;
-    } in
+    let at = placed c.self.inside.nodes c.args.id c.from.result c.from-2.result row s c.from.ensures c.from-2.ensures (c.in-Some.ensures.variant.0 refl) c.in-Some.ensures.value (c.in-Some-get_mut.ensures.variant.0 refl) c.in-Some-get_mut.ensures.value in
     let seen = at_seen v rows c.args.id c.from.result c.from-2.result row s at in
     let d = c.in_ok-snapshot.snapshot in
     let a = c.in_ok-add_copy.field-0 in

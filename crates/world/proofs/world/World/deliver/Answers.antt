@@ -4,7 +4,7 @@ use Rattle.std.specs.Vec.{with_item}
 use Rattle.std.proofs.lemmas.Result.{err_from_is_err_and}
 use Rattle.ball_model.specs.declared.world.Event.TheVariants as event
 use Rattle.world.specs.contracts.world.World.{the_view}
-use Rattle.world.proofs.PlaceLemmas.{At, at_changed, at_same, at_seen, lookup_none, lookup_some, no_node_in, nothing_at, row_same, something_at, with_rows}
+use Rattle.world.proofs.PlaceLemmas.{at_changed, at_same, at_seen, lookup_none, lookup_some, no_node_in, nothing_at, placed, row_same, something_at, with_rows}
 use Rattle.world.proofs.ApplyLemmas.{deliver_of_world, deliver_turns, no_message, no_node, turn_applies, want_deliver}
 use Rattle.world.proofs.world.World.deliver.Goals as goal
 
@@ -23,12 +23,7 @@ returns-in_default-get c = λ j.
     let rows = c.self.inside.nodes.items in
     let row = c.in-Some.nodes.now in
     let s = c.in-Some-get_mut.node.now in
-    let at : At rows c.args.id c.from.result c.from-2.result row s = record {
-      part = c.from.ensures;
-      replica = c.from-2.ensures;
-      row_is = something_at c.self.inside.nodes c.from.result row (c.in-Some.ensures.variant.0 refl) c.in-Some.ensures.value;
-      node_is = something_at row c.from-2.result s (c.in-Some-get_mut.ensures.variant.0 refl) c.in-Some-get_mut.ensures.value;
-    } in
+    let at = placed c.self.inside.nodes c.args.id c.from.result c.from-2.result row s c.from.ensures c.from-2.ensures (c.in-Some.ensures.variant.0 refl) c.in-Some.ensures.value (c.in-Some-get_mut.ensures.variant.0 refl) c.in-Some-get_mut.ensures.value in
     let seen = at_seen v rows c.args.id c.from.result c.from-2.result row s at in
     let gone = lookup_none c.deref.result.now v.messages c.args.message c.deref.ensures.value c.in_default-get.ensures.lookup.3 in
     no_message j c.args.id c.args.message c.args.self.now (with_rows v (set rows c.from.result (with_item row c.from-2.result s))) v s c.self.view_is (at_same v rows c.args.id c.from.result c.from-2.result row s at) seen gone
@@ -39,12 +34,7 @@ returns-in_err-batch c = λ j.
     let rows = c.self.inside.nodes.items in
     let row = c.in-Some.nodes.now in
     let s = c.in-Some-get_mut.node.now in
-    let at : At rows c.args.id c.from.result c.from-2.result row s = record {
-      part = c.from.ensures;
-      replica = c.from-2.ensures;
-      row_is = something_at c.self.inside.nodes c.from.result row (c.in-Some.ensures.variant.0 refl) c.in-Some.ensures.value;
-      node_is = something_at row c.from-2.result s (c.in-Some-get_mut.ensures.variant.0 refl) c.in-Some-get_mut.ensures.value;
-    } in
+    let at = placed c.self.inside.nodes c.args.id c.from.result c.from-2.result row s c.from.ensures c.from-2.ensures (c.in-Some.ensures.variant.0 refl) c.in-Some.ensures.value (c.in-Some-get_mut.ensures.variant.0 refl) c.in-Some-get_mut.ensures.value in
     let seen = at_seen v rows c.args.id c.from.result c.from-2.result row s at in
     let m = c.in-Some-get.message.now in
     let sent = lookup_some c.deref.result.now v.messages c.args.message m c.deref.ensures.value c.in-Some-get.ensures.lookup.3.0 c.in-Some-get.ensures.lookup.1 in
@@ -57,12 +47,7 @@ returns c = λ j.
     let rows = c.self.inside.nodes.items in
     let row = c.in-Some.nodes.now in
     let s = c.in-Some-get_mut.node.now in
-    let at : At rows c.args.id c.from.result c.from-2.result row s = record {
-      part = c.from.ensures;
-      replica = c.from-2.ensures;
-      row_is = something_at c.self.inside.nodes c.from.result row (c.in-Some.ensures.variant.0 refl) c.in-Some.ensures.value;
-      node_is = something_at row c.from-2.result s (c.in-Some-get_mut.ensures.variant.0 refl) c.in-Some-get_mut.ensures.value;
-    } in
+    let at = placed c.self.inside.nodes c.args.id c.from.result c.from-2.result row s c.from.ensures c.from-2.ensures (c.in-Some.ensures.variant.0 refl) c.in-Some.ensures.value (c.in-Some-get_mut.ensures.variant.0 refl) c.in-Some-get_mut.ensures.value in
     let seen = at_seen v rows c.args.id c.from.result c.from-2.result row s at in
     let t = c.deliver.new.self in
     let a = c.deliver.result in

@@ -3,7 +3,7 @@ use Rattle.std.specs.Vec.{with_item}
 use Rattle.std.proofs.lemmas.Result.{err_from_is_err_and}
 use Rattle.ball_model.specs.declared.world.Event.TheVariants as event
 use Rattle.world.specs.contracts.world.World.{the_view}
-use Rattle.world.proofs.PlaceLemmas.{At, at_changed, at_same, at_seen, at_unchanged, lookup_none, lookup_some, no_node_in, nothing_at, row_same, something_at, with_rows}
+use Rattle.world.proofs.PlaceLemmas.{at_changed, at_same, at_seen, at_unchanged, lookup_none, lookup_some, no_node_in, nothing_at, placed, row_same, something_at, with_rows}
 use Rattle.world.proofs.ApplyLemmas.{no_copy, no_node, recover_of_world, turn_applies, want_recover}
 use Rattle.world.proofs.world.World.recover.Goals as goal
 
@@ -22,12 +22,7 @@ returns-in_default-get c = λ j.
     let rows = c.self.inside.nodes.items in
     let row = c.in-Some.nodes.now in
     let s = c.in-Some-get_mut.node.now in
-    let at : At rows c.args.id c.from.result c.from-2.result row s = record {
-      part = c.from.ensures;
-      replica = c.from-2.ensures;
-      row_is = something_at c.self.inside.nodes c.from.result row (c.in-Some.ensures.variant.0 refl) c.in-Some.ensures.value;
-      node_is = something_at row c.from-2.result s (c.in-Some-get_mut.ensures.variant.0 refl) c.in-Some-get_mut.ensures.value;
-    } in
+    let at = placed c.self.inside.nodes c.args.id c.from.result c.from-2.result row s c.from.ensures c.from-2.ensures (c.in-Some.ensures.variant.0 refl) c.in-Some.ensures.value (c.in-Some-get_mut.ensures.variant.0 refl) c.in-Some-get_mut.ensures.value in
     let seen = at_seen v rows c.args.id c.from.result c.from-2.result row s at in
     no_copy j c.args.id c.args.copy c.args.self.now (with_rows v (set rows c.from.result (with_item row c.from-2.result s))) v s c.self.view_is (at_same v rows c.args.id c.from.result c.from-2.result row s at) seen
     (lookup_none c.deref.result.now v.copies c.args.copy c.deref.ensures.value c.in_default-get.ensures.lookup.3)
@@ -38,12 +33,7 @@ returns-in_err-recover c = λ j.
     let rows = c.self.inside.nodes.items in
     let row = c.in-Some.nodes.now in
     let s = c.in-Some-get_mut.node.now in
-    let at : At rows c.args.id c.from.result c.from-2.result row s = record {
-      part = c.from.ensures;
-      replica = c.from-2.ensures;
-      row_is = something_at c.self.inside.nodes c.from.result row (c.in-Some.ensures.variant.0 refl) c.in-Some.ensures.value;
-      node_is = something_at row c.from-2.result s (c.in-Some-get_mut.ensures.variant.0 refl) c.in-Some-get_mut.ensures.value;
-    } in
+    let at = placed c.self.inside.nodes c.args.id c.from.result c.from-2.result row s c.from.ensures c.from-2.ensures (c.in-Some.ensures.variant.0 refl) c.in-Some.ensures.value (c.in-Some-get_mut.ensures.variant.0 refl) c.in-Some-get_mut.ensures.value in
     let seen = at_seen v rows c.args.id c.from.result c.from-2.result row s at in
     let t = c.recover.new.self in
     let d = c.in-Some-get.snapshot.now in
@@ -57,12 +47,7 @@ returns c = λ j.
     let rows = c.self.inside.nodes.items in
     let row = c.in-Some.nodes.now in
     let s = c.in-Some-get_mut.node.now in
-    let at : At rows c.args.id c.from.result c.from-2.result row s = record {
-      part = c.from.ensures;
-      replica = c.from-2.ensures;
-      row_is = something_at c.self.inside.nodes c.from.result row (c.in-Some.ensures.variant.0 refl) c.in-Some.ensures.value;
-      node_is = something_at row c.from-2.result s (c.in-Some-get_mut.ensures.variant.0 refl) c.in-Some-get_mut.ensures.value;
-    } in
+    let at = placed c.self.inside.nodes c.args.id c.from.result c.from-2.result row s c.from.ensures c.from-2.ensures (c.in-Some.ensures.variant.0 refl) c.in-Some.ensures.value (c.in-Some-get_mut.ensures.variant.0 refl) c.in-Some-get_mut.ensures.value in
     let seen = at_seen v rows c.args.id c.from.result c.from-2.result row s at in
     let t = c.recover.new.self in
     let a = c.in_ok-recover.field-0 in

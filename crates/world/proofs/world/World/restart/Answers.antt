@@ -3,7 +3,7 @@ use Rattle.std.specs.Vec.{with_item}
 use Rattle.std.proofs.lemmas.Result.{err_from_is_err_and}
 use Rattle.ball_model.specs.declared.world.Event.TheVariants as event
 use Rattle.world.specs.contracts.world.World.{the_view}
-use Rattle.world.proofs.PlaceLemmas.{At, at_changed, at_seen, at_unchanged, no_node_in, nothing_at, row_same, something_at, with_rows}
+use Rattle.world.proofs.PlaceLemmas.{at_changed, at_seen, at_unchanged, no_node_in, nothing_at, placed, row_same, something_at, with_rows}
 use Rattle.world.proofs.ApplyLemmas.{restart_of_world, no_node, turn_applies, want_applies}
 use Rattle.world.proofs.world.World.restart.Goals as goal
 
@@ -22,12 +22,7 @@ returns-in_err-restart c = λ j.
     let rows = c.self.inside.nodes.items in
     let row = c.in-Some.nodes.now in
     let s = c.in-Some-get_mut.node.now in
-    let at : At rows c.args.id c.from.result c.from-2.result row s = record {
-      part = c.from.ensures;
-      replica = c.from-2.ensures;
-      row_is = something_at c.self.inside.nodes c.from.result row (c.in-Some.ensures.variant.0 refl) c.in-Some.ensures.value;
-      node_is = something_at row c.from-2.result s (c.in-Some-get_mut.ensures.variant.0 refl) c.in-Some-get_mut.ensures.value;
-    } in
+    let at = placed c.self.inside.nodes c.args.id c.from.result c.from-2.result row s c.from.ensures c.from-2.ensures (c.in-Some.ensures.variant.0 refl) c.in-Some.ensures.value (c.in-Some-get_mut.ensures.variant.0 refl) c.in-Some-get_mut.ensures.value in
     let seen = at_seen v rows c.args.id c.from.result c.from-2.result row s at in
     let t = c.restart.new.self in
     let p = err_from_is_err_and c.from_residual.result c.from_residual.ensures.1 in
@@ -39,12 +34,7 @@ returns c = λ j.
     let rows = c.self.inside.nodes.items in
     let row = c.in-Some.nodes.now in
     let s = c.in-Some-get_mut.node.now in
-    let at : At rows c.args.id c.from.result c.from-2.result row s = record {
-      part = c.from.ensures;
-      replica = c.from-2.ensures;
-      row_is = something_at c.self.inside.nodes c.from.result row (c.in-Some.ensures.variant.0 refl) c.in-Some.ensures.value;
-      node_is = something_at row c.from-2.result s (c.in-Some-get_mut.ensures.variant.0 refl) c.in-Some-get_mut.ensures.value;
-    } in
+    let at = placed c.self.inside.nodes c.args.id c.from.result c.from-2.result row s c.from.ensures c.from-2.ensures (c.in-Some.ensures.variant.0 refl) c.in-Some.ensures.value (c.in-Some-get_mut.ensures.variant.0 refl) c.in-Some-get_mut.ensures.value in
     let seen = at_seen v rows c.args.id c.from.result c.from-2.result row s at in
     let t = c.restart.new.self in
     let a = c.in_ok-restart.field-0 in
