@@ -10,6 +10,7 @@ use Rattle.atomic_table.proofs.Lists.{set_else, at_longer}
 use Rattle.board.specs.View.{View, EndedSeat, spent_view}
 use Rattle.ball_model.specs.History.{History, Begins, entries_of, events_by, calls_by, IsLegal}
 use Rattle.board.specs.Rule.{room_of, tickets_of, IsNotOf, FitsLog, Apart, IsKeptSafe, IsLocked, at_look, Counted, share, keeper, newcomer, with_news, first_view}
+use Rattle.board.specs.declared.seat.TheConstants.{SHARE}
 use Rattle.ball_model.proofs.HistoryLemmas.{begins_self, calls_by-none}
 use Rattle.board.proofs.ViewLemmas.{total_set, total_push, each_set, each_push, apart_set, apart_set_on, apart_push}
 use Rattle.board.proofs.MoveLemmas.{still, home_same}
@@ -61,7 +62,7 @@ counts slots id v idle live s h len at small =
 pub counts_at : (slots id : ℕ) (m : Me (Option History) View) → m.0.stage ≡ 0 → 0 < m.0.room → m.1 ≡ [] → Allows IsLocked slots id m 0 (λ n. n) (Counted still m)
 counts_at slots id m idle live e = subst (λ (xs : List (ℕ × Option History)). Allows IsLocked slots id (m.0, xs) 0 (λ n. n) (Counted still (m.0, xs))) (sym e) (counts slots id m.0 idle live)
 
-share_is : (room : ℕ) → 1024 ≤ room → (0 < share room) × (share room < room)
+share_is : (room : ℕ) → SHARE ≤ room → (0 < share room) × (share room < room)
 share_is room h = (omega arith, omega arith)
 
 part_of : (v w : View) → v.number ≤ w.number → w.number + w.room ≤ v.number + v.room → (k : ℕ) → IsNotOf k v → IsNotOf k w
@@ -81,7 +82,7 @@ home_push log s w nw home =
     (λ (b : (s.homes ≡ none ∷ []) × ((i : ℕ) × (u : View) × (get_elem? s.views i ≡ some u) × (u.stage ≡ 2))). inr (b.0, (b.1.0, b.1.1, at_longer s.views (w ∷ []) b.1.0 b.1.1 b.1.2, b.1.3)))
     home
 
-pub shares : (id : ℕ) (v : View) → v.stage ≡ 0 → 1024 ≤ v.room → Splits IsLocked id v (keeper v) (newcomer v)
+pub shares : (id : ℕ) (v : View) → v.stage ≡ 0 → SHARE ≤ v.room → Splits IsLocked id v (keeper v) (newcomer v)
 shares id v idle enough s h at =
     let f = h.each id v at in
     let k = keeper v in

@@ -5,6 +5,7 @@ use lib.ListN.{get_elem?}
 use Rattle.atomic_table.specs.Table.{State, Me, Step}
 use Rattle.ball_model.specs.History.{History, Begins, IsLegal, entries_of, calls_by}
 use Rattle.board.specs.View.{View, EndedSeat}
+use Rattle.board.specs.declared.seat.TheConstants.{SHARE}
 
 -- what f gives of all views together
 abbrev pub total : (View → ℕ) → List View → ℕ
@@ -163,13 +164,9 @@ Counted st m found m' =
     Begins t.seen log × (calls_by t.number log ≡ calls_by t.number t.seen))
     × (m' ≡ (at_look m.0 log, m.1))
 
--- a seat that has fewer numbers than that makes no other; a new one is given one in so many
-abbrev pub least_room : ℕ
-least_room = 1024
-
 -- how many numbers a new seat is given
 abbrev pub share : ℕ → ℕ
-share room = room / least_room
+share room = room / SHARE
 
 abbrev pub keeper : View → View
 keeper v =

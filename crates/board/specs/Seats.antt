@@ -1,14 +1,7 @@
 -- What contracts see of a board and of a seat.
-use Rattle.std.specs.Prelude.{◌≡◌, ℕ, ◌^◌}
+use Rattle.std.specs.Prelude.{◌≡◌, ℕ}
 use Rattle.atomic_table.specs.Seated.{TableId}
 use Rattle.ball_model.specs.Caller.{Caller}
-
--- the fewest and the most entries that a history may have
-abbrev pub least_entries : ℕ
-least_entries = 2
-
-abbrev pub most_entries : ℕ
-most_entries = 2 ^ 24
 
 -- which table a board has, and how many entries its history may have
 pub record BoardView : Type 0 where

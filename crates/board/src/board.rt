@@ -12,7 +12,7 @@ ghost use Rattle.ball_model.specs.History.{start_history, entries_of, calls_by, 
 ghost use Rattle.ball_model.specs.History.{holding_in, is_kept_from};
 ghost use Rattle.ball_model.specs.Caller.{IsCaller, Extends, Called, CalledNothing, IsFull};
 ghost use Rattle.ball_model.specs.Caller.{HasRoom, IsAsFar};
-ghost use Rattle.board.specs.Seats.{IsAt, KeepsItsNumbers, least_entries, most_entries};
+ghost use Rattle.board.specs.Seats.{IsAt, KeepsItsNumbers};
 ghost use Rattle.board.specs.Rule.{first_view};
 ghost use Rattle.board.specs.Turn.{IsSized};
 
@@ -29,6 +29,12 @@ use std::alloc::{AllocError, Global};
 use std::marker::Model;
 use std::snapshot::Snapshot as Seen;
 use std::sync::{Arc, Wait};
+
+/// The fewest entries that a history may be limited to.
+pub const LEAST_ENTRIES: u32 = 2;
+
+/// The most entries that a history may be limited to.
+pub const MOST_ENTRIES: u32 = 1 << 24;
 
 /// How many numbers the first seat has.
 const NUMBERS: u64 = 1 << 63;
@@ -67,7 +73,7 @@ impl Board {
         entries: u32,
     ) -> Result<(Board, Seat), AllocError>
         requires job { IsJob (job_of graph.now.graph plan.now) }
-        requires entries { (least_entries ≤ entries) × (entries ≤ most_entries) }
+        requires entries { (LEAST_ENTRIES ≤ entries) × (entries ≤ MOST_ENTRIES) }
         ensures board { IfOk result (λ r. IsAt r.0 r.1) }
         ensures limit { IfOk result (λ r. r.1.caller.limit ≡ entries) }
         ensures number { IfOk result (λ r. r.1.caller.number ≡ 0) }

@@ -41,7 +41,7 @@ mod rule;
 mod seat;
 mod turn;
 
-pub use board::Board;
+pub use board::{Board, LEAST_ENTRIES, MOST_ENTRIES};
 pub use book::Book;
 pub use error::BoardError;
 pub use seat::Seat;

@@ -3,14 +3,14 @@
 ghost use Rattle.std.specs.Prelude.{◌≡◌, ◌+◌, ◌-◌, ◌≤◌, []};
 ghost use Rattle.ball_model.specs.History.{calls_by};
 ghost use Rattle.ball_model.specs.Caller.{IsCaller};
-ghost use Rattle.board.specs.Rule.{least_room, share};
+ghost use Rattle.board.specs.Rule.{share};
 ghost use Rattle.board.specs.Seats.{IsAt, SharesNumbers};
 
 use crate::board::Board;
 use crate::rule::{Pass, Shares};
 use std::marker::Model;
 
-/// A new seat gets one number in so many of those that its maker still has.
+/// A new seat gets one number in so many of those that its maker still has; who has fewer makes none.
 const SHARE: u64 = 1024;
 
 /// What a seat was granted: a pass to the table, and numbers, the first of which is its own.
@@ -51,7 +51,7 @@ impl Seat {
     /// 1,024. It takes no memory, and waits for nobody.
     pub fn split(&mut self, board: &Board) -> Seat
         requires board { IsAt board.now self.old }
-        requires room { least_room ≤ self.old.room }
+        requires room { SHARE ≤ self.old.room }
         ensures kept { SharesNumbers self.old self.new }
         ensures left { self.new.room ≡ self.old.room - share self.old.room }
         ensures board { IsAt board.now result }

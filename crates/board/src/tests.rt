@@ -6,8 +6,10 @@ ghost use Rattle.std.specs.Arc.{arc_value};
 ghost use Rattle.ball_model.specs.Job.{Job, IsJob, job_of};
 ghost use Rattle.ball_model.specs.Batches.{IsTrueBatch};
 ghost use Rattle.ball_model.specs.State.{Stands};
-ghost use Rattle.board.specs.Rule.{least_room, share};
+ghost use Rattle.board.specs.Rule.{share};
 ghost use Rattle.board.specs.Seats.{BoardView, IsAt};
+ghost use Rattle.board.specs.declared.board.TheConstants.{LEAST_ENTRIES, MOST_ENTRIES};
+ghost use Rattle.board.specs.declared.seat.TheConstants.{SHARE};
 
 mod calls;
 mod opened;
@@ -210,7 +212,7 @@ struct Scene {
 impl Scene {
     /// One of a new board of so many entries, and its first seat: None where memory was refused.
     fn open<R: AllocGlobal + RandomSource>(rt: &R, entries: u32) -> Option<(Scene, Seat)>
-        requires { (2 ≤ entries) × (entries ≤ 2 ^ 24) }
+        requires { (LEAST_ENTRIES ≤ entries) × (entries ≤ MOST_ENTRIES) }
         ensures seat { IfSome result (λ r.
             IsAt r.0.board r.1 × (r.1.caller.seen.job ≡ r.0.stock)) }
         ensures room { IfSome result (λ r. r.1.room ≡ 2 ^ 63) }
@@ -259,7 +261,7 @@ impl<'a> User<'a> {
 
     /// Another one at the board.
     fn split(&mut self) -> User<'a>
-        requires { least_room ≤ self.old.1 }
+        requires { SHARE ≤ self.old.1 }
         ensures board { (self.new.0 ≡ self.old.0) × (result.0 ≡ self.old.0) }
         ensures left { self.new.1 ≡ self.old.1 - share self.old.1 }
         ensures room { result.1 ≡ share self.old.1 }

@@ -1,10 +1,11 @@
 -- The nodes of a job: their threads, their ends, and what is put together of these.
-use Rattle.std.proofs.Common.{◌≡◌, ◌<◌, ◌+◌, ◌-◌, ◌/◌, ℕ, zero, suc, List, [], ◌∷◌, ◌++◌, length, Bool, true, ◌&&◌, refl, sym, ap, ◌∙◌, subst, arith, inl, inr, slice_index_or, length-append}
+use Rattle.std.proofs.Common.{◌≡◌, ◌<◌, ◌+◌, ◌-◌, ℕ, zero, suc, List, [], ◌∷◌, ◌++◌, length, Bool, true, ◌&&◌, refl, sym, ap, ◌∙◌, subst, arith, inl, inr, slice_index_or, length-append}
 use Rattle.std.specs.Prelude.{Option, None, Some, IfSome, IfOk, is_some, Result}
 use Rattle.std.proofs.lemmas.Bool.{and_parts, cases_eq}
 use Rattle.ball_model.specs.Caller.{Caller, IsCaller}
 use Rattle.ball_model.specs.Job.{Job}
 use Rattle.ball_model.specs.State.{State}
+use Rattle.board.specs.Rule.{share}
 use Rattle.board.specs.Seats.{BoardView, SeatView, SharesNumbers}
 use Rattle.workers.specs.declared.ends.Faults.{Faults}
 use Rattle.workers.specs.declared.node.NodeEnd.{NodeEnd}
@@ -40,9 +41,6 @@ joining_more assigned j o p child rest ends r h end =
       left = subst (λ (n : ℕ). EachAt (λ k child. IfSome child (λ h. IsAssigned j o p k (assigned h))) n rest) (sym more) h.left.1;
       given = each_push (λ k. KeepsItsOrders j p (orders_for o p k)) 0 ends r h.given (subst (λ (k : ℕ). KeepsItsOrders j p (orders_for o p k) r) (let e : length ends ≡ 0 + length ends = omega arith in e) (end (length ends) h.left.0));
     }
-
-pub joined : {H : Type 0} (assigned : H → Assignment) (j : Job) (o : RunOptions) (p : ℕ) (ends : List (Result NodeEnd NodeError)) → Joining assigned j o p [] ends → IsPartEnd j o p ends
-joined assigned j o p ends h = record { count = (let e : length ends ≡ o.replicas = omega (arith, h.count) in e); each = h.given }
 
 pub record JoiningAll {H V W : Type 0} (assigned : H → Assignment) (items : V → List (Option H)) (own : W → List (Result NodeEnd NodeError)) (j : Job) (o : RunOptions) (rest : List V) (ends : List W) : Type 0 where
   pub count : length ends + length rest ≡ j.plan.parts
@@ -114,7 +112,7 @@ pub some_weaker : {A : Type 0} (o : Option A) (P Q : A → Type 0) → ((a : A) 
 some_weaker None P Q f h = tt
 some_weaker (Some a) P Q f h = f a h
 
-pub split_more : (b : BoardView) (j : Job) (n : ℕ) (v w : SeatView) → HasSplit b j n v → SharesNumbers v w → w.room ≡ v.room - v.room / 1024 → HasSplit b j (n + 1) w
+pub split_more : (b : BoardView) (j : Job) (n : ℕ) (v w : SeatView) → HasSplit b j n v → SharesNumbers v w → w.room ≡ v.room - share v.room → HasSplit b j (n + 1) w
 split_more b j n v w h kept left =
     let least = h.least in
     let most = h.most in

@@ -1,8 +1,10 @@
 -- What is asked of a run, and which of it fits.
-use Rattle.std.specs.Prelude.{ℕ, ◌^◌, Bool, true, ◌&&◌, ◌==◌, nat_le, nat_lt, if◌then◌else◌, List, [], ◌∷◌, Option, None, Some}
+use Rattle.std.specs.Prelude.{ℕ, Bool, true, ◌&&◌, ◌==◌, nat_le, nat_lt, if◌then◌else◌, List, [], ◌∷◌, Option, None, Some}
 use Rattle.ball_model.specs.declared.names.NodeId.{NodeId}
+use Rattle.ball_model.specs.declared.plan.TheConstants.{MOST_REPLICAS}
 use Rattle.ball_model.specs.PlanValue.{greatest_limit}
 use Rattle.ball_model.specs.RunText.{Numbers, Settings}
+use Rattle.board.specs.declared.board.TheConstants.{LEAST_ENTRIES, MOST_ENTRIES}
 use Rattle.edgelist.specs.Planning.{is_corrected, numbers_with}
 use Rattle.edgelist.specs.Reading.{byte_of}
 use Rattle.workers.specs.declared.node.NodeOrders.{NodeOrders}
@@ -31,8 +33,8 @@ is_from least most n = nat_le least n && nat_le n most
 -- the options that no plan has are within their limits, and each node that is ordered is one of the run
 abbrev pub are_in_limits : RunOptions → Bool
 are_in_limits o =
-    is_from 1 4 o.replicas && is_from 2 (2 ^ 24) o.entries && nat_le o.keep greatest_limit
-    && nat_le 1 o.patience && are_all_named o.parts o.replicas o.lose.items
+    is_from 1 MOST_REPLICAS o.replicas && is_from LEAST_ENTRIES MOST_ENTRIES o.entries
+    && nat_le o.keep greatest_limit && nat_le 1 o.patience && are_all_named o.parts o.replicas o.lose.items
     && are_all_named o.parts o.replicas o.restart.items
 
 -- the superstep of the first order for replica k of partition p

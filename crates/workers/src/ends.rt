@@ -5,6 +5,7 @@ ghost use Rattle.std.specs.Prelude.{IfOk, IfSome, OnOk, Some, is_some, length};
 ghost use Rattle.std.specs.List.{list_any};
 ghost use Rattle.ball_model.specs.Job.{Job};
 ghost use Rattle.ball_model.specs.PlanValue.{most_parts};
+ghost use Rattle.ball_model.specs.declared.plan.TheConstants.{MOST_REPLICAS};
 ghost use Rattle.workers.specs.Job.{AreDone, AreEnds, AreNoted, EachAt, IsFaultOf, IsPartEnd};
 ghost use Rattle.workers.specs.Job.{IsPartitionLost, KeepsItsOrders};
 ghost use Rattle.workers.specs.Ends.{each_has_done, fault_of, first_fault, first_some, is_done};
@@ -168,7 +169,7 @@ fn first_done(done: Option<Replica>, end: NodeResult) -> Option<Replica>
 
 // The replica of the first node of a partition that has reached the end; what is wrong with the others is noted.
 fn done_replica(p: u16, ends: Vec<NodeResult>, faults: &mut Faults) -> Option<Replica>
-    requires few { length ends.items ≤ 4 }
+    requires few { length ends.items ≤ MOST_REPLICAS }
     ensures done { (j : Job) (o : Asked) → IsPartEnd j o p ends.items → IfSome result (IsDone j p) }
     ensures some { is_some result ≡ list_any is_done ends.items }
     ensures noted { (j : Job) (o : Asked) → IsPartEnd j o p ends.items → p < j.plan.parts →
@@ -209,7 +210,7 @@ fn keep_done(done: &mut Vec<Replica>, next: Option<Replica>) -> Result<bool, All
 /// The replica of each partition, by the ends of its nodes: that of the first node that is done. Where a partition has
 /// none, and only there, the error is the first fault of all nodes; `Memory` also where memory is refused here.
 pub fn done_replicas(alloc: Global, ends: Vec<Vec<NodeResult>>) -> Result<Vec<Replica>, JobError>
-    requires few { All (λ own. length own.items ≤ 4) ends.items }
+    requires few { All (λ own. length own.items ≤ MOST_REPLICAS) ends.items }
     requires parts { length ends.items ≤ most_parts }
     ensures done { (j : Job) (o : Asked) → AreEnds (λ own. own.items) j o ends.items →
         IfOk result (λ rs. AreDone j rs.items) }

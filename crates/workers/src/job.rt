@@ -4,6 +4,7 @@ ghost use Rattle.std.specs.Prelude.{◌≡◌, ◌<◌, ◌≤◌, ◌+◌, ◌*
 ghost use Rattle.std.specs.Prelude.{[]};
 ghost use Rattle.std.specs.Arc.{arc_value};
 ghost use Rattle.ball_model.specs.Job.{Job, IsJob, job_of, part_of};
+ghost use Rattle.ball_model.specs.declared.plan.TheConstants.{MOST_REPLICAS};
 ghost use Rattle.workers.specs.Job.{AreDone, AreEnds, AreParts, AreStarted, HasSplit, IsFaultOf};
 ghost use Rattle.workers.specs.Job.{IsPartEnd, IsAssigned, IsPartStarted, IsSeatOf, KeepsItsOrders};
 ghost use Rattle.workers.specs.Job.{job_in};
@@ -145,9 +146,9 @@ fn start_part<'s, 'a: 's, X, R: AllocGlobal + Threads + Wait + Sync, G: Gate + S
     requires number { p < plan.now.parts }
     requires part { IfOk part.now (λ part.
         arc_value part ≡ part_of (job_of graph.now.graph plan.now) p) }
-    requires few { options.now.replicas ≤ 4 }
-    requires seat { HasSplit board.now (job_of graph.now.graph plan.now) (4 * p) first.old }
-    ensures seat { HasSplit board.now (job_of graph.now.graph plan.now) (4 * (p + 1)) first.new }
+    requires few { options.now.replicas ≤ MOST_REPLICAS }
+    requires seat { HasSplit board.now (job_of graph.now.graph plan.now) (MOST_REPLICAS * p) first.old }
+    ensures seat { HasSplit board.now (job_of graph.now.graph plan.now) (MOST_REPLICAS * (p + 1)) first.new }
     ensures started { IfOk result (λ own. IsPartStarted (λ child. child.promise)
         (job_of graph.now.graph plan.now) options.now p own.items) }
 {
@@ -185,7 +186,7 @@ fn start_each<'s, 'a: 's, X, R: AllocGlobal + Threads + Wait + Sync, G: Gate + S
     children: &mut Vec<Vec<Child>>,
 ) -> Result<(), AllocError>
     requires job { IsJob (job_of graph.now.graph plan.now) }
-    requires few { options.now.replicas ≤ 4 }
+    requires few { options.now.replicas ≤ MOST_REPLICAS }
     requires seat { HasSplit board.now (job_of graph.now.graph plan.now) 0 first.old }
     requires parts { AreParts arc_value (job_of graph.now.graph plan.now) parts.now }
     requires none { children.old.items ≡ [] }
@@ -216,7 +217,7 @@ fn start_all<'s, 'a: 's, X, R: AllocGlobal + Threads + Wait + Sync, G: Gate + Sy
     parts: &[SharedPart],
 ) -> Result<Vec<Vec<Child>>, AllocError>
     requires job { IsJob (job_of graph.now.graph plan.now) }
-    requires few { options.now.replicas ≤ 4 }
+    requires few { options.now.replicas ≤ MOST_REPLICAS }
     requires parts { AreParts arc_value (job_of graph.now.graph plan.now) parts.now }
     requires seat { HasSplit board.now (job_of graph.now.graph plan.now) 0 first.old }
     ensures { IfOk result (λ all. AreStarted (λ child. child.promise) (λ own. own.items)
@@ -253,7 +254,7 @@ fn start_or_stop<'s, 'a: 's, X, R: AllocGlobal + Threads + Wait + Sync, G: Gate 
     parts: &[SharedPart],
 ) -> Result<Vec<Vec<Child>>, AllocError>
     requires job { IsJob (job_of graph.now.graph plan.now) }
-    requires few { options.now.replicas ≤ 4 }
+    requires few { options.now.replicas ≤ MOST_REPLICAS }
     requires parts { AreParts arc_value (job_of graph.now.graph plan.now) parts.now }
     requires seat { HasSplit board.now (job_of graph.now.graph plan.now) 0 first }
     ensures { IfOk result (λ all. AreStarted (λ child. child.promise) (λ own. own.items)
@@ -326,7 +327,7 @@ fn run_in<'s, 'a: 's, X, R: AllocGlobal + Threads + Wait + Sync, G: Gate + Sync>
     parts: &[SharedPart],
 ) -> Result<Vec<Replica>, JobError>
     requires job { IsJob (job_of graph.now.graph plan.now) }
-    requires few { options.now.replicas ≤ 4 }
+    requires few { options.now.replicas ≤ MOST_REPLICAS }
     requires parts { AreParts arc_value (job_of graph.now.graph plan.now) parts.now }
     requires seat { HasSplit board.now (job_of graph.now.graph plan.now) 0 first }
     ensures done { IfOk result (λ rs. AreDone (job_of graph.now.graph plan.now) rs.items) }
@@ -364,7 +365,7 @@ pub fn run_job<R: AllocGlobal + Threads + Wait + Sync, G: Gate + Sync>(
         rt,
         |scope| -> Result<Vec<Replica>, JobError>
             requires job { IsJob (job_of graph.now.graph plan.now) }
-            requires few { options.now.replicas ≤ 4 }
+            requires few { options.now.replicas ≤ MOST_REPLICAS }
             requires parts { AreParts arc_value (job_of graph.now.graph plan.now) parts.now }
             requires seat { HasSplit board.now (job_of graph.now.graph plan.now) 0 first }
             ensures done { IfOk result (λ rs.

@@ -4,7 +4,8 @@ ghost use Rattle.std.specs.Prelude.{◌≡◌, ◌≤◌, IfOk};
 ghost use Rattle.ball_model.specs.Job.{IsJob, job_of};
 ghost use Rattle.ball_model.specs.History.{start_history};
 ghost use Rattle.ball_model.specs.Caller.{IsCaller};
-ghost use Rattle.board.specs.Seats.{IsAt, least_entries, most_entries};
+ghost use Rattle.board.specs.Seats.{IsAt};
+ghost use Rattle.board.specs.declared.board.TheConstants.{LEAST_ENTRIES, MOST_ENTRIES};
 
 use crate::exchange::Exchange;
 use ball_model::{BatchName, Kept, Plan, Posted};
@@ -34,7 +35,7 @@ impl MemoryExchange {
         entries: u32,
     ) -> Result<MemoryExchange, AllocError>
         requires job { IsJob (job_of graph.now.graph plan.now) }
-        requires entries { (least_entries ≤ entries) × (entries ≤ most_entries) }
+        requires entries { (LEAST_ENTRIES ≤ entries) × (entries ≤ MOST_ENTRIES) }
         ensures limit { IfOk result (λ x. x.seat.caller.limit ≡ entries) }
         ensures number { IfOk result (λ x. x.seat.caller.number ≡ 0) }
         ensures seen { IfOk result (λ x.

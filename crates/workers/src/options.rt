@@ -5,13 +5,8 @@ ghost use Rattle.workers.specs.Options.{are_all_named, are_in_limits, is_named};
 
 use ball_model::plan::{GREATEST_LIMIT, MOST_REPLICAS};
 use ball_model::{Estimate, NodeId};
+use board::{LEAST_ENTRIES, MOST_ENTRIES};
 use edgelist::Delimiter;
-
-/// The fewest entries that the board's history may have.
-const LEAST_ENTRIES: u32 = 2;
-
-/// The most entries that the board's history may have.
-const MOST_ENTRIES: u32 = 1 << 24;
 
 /// What is asked of a run.
 #[derive(Debug, PartialEq, Eq, Drop)]

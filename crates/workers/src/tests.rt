@@ -12,7 +12,7 @@ mod tables;
 ghost use Rattle.std.specs.Arc.{arc_value};
 ghost use Rattle.std.specs.Prelude.{◌≡◌, ◌<◌, ◌≤◌, IfSome};
 ghost use Rattle.ball_model.specs.Job.{IsJob, job_of, part_of};
-ghost use Rattle.board.specs.Seats.{least_entries, most_entries};
+ghost use Rattle.board.specs.declared.board.TheConstants.{LEAST_ENTRIES, MOST_ENTRIES};
 
 use super::*;
 use ball_model::{CountingReader, NodeId, Plan, Verdict};
@@ -70,7 +70,7 @@ fn alone<R: AllocGlobal + Wait, G: Gate>(
 ) -> Outcome
     requires job { IsJob (job_of graph.now.graph plan.now) }
     requires node { node.part < plan.now.parts }
-    requires entries { (least_entries ≤ entries) × (entries ≤ most_entries) }
+    requires entries { (LEAST_ENTRIES ≤ entries) × (entries ≤ MOST_ENTRIES) }
 {
     let alloc = rt.alloc();
     let Some(part) = shared_part(alloc, graph, plan, node.part) else {
@@ -111,7 +111,7 @@ fn alone_in<R: AllocGlobal + Wait, G: Gate>(
     orders: &NodeOrders,
     gate: &G,
 ) -> Option<Outcome>
-    requires entries { (least_entries ≤ entries) × (entries ≤ most_entries) }
+    requires entries { (LEAST_ENTRIES ≤ entries) × (entries ≤ MOST_ENTRIES) }
 {
     let plan = graph.plan(4, 0, parts, 4096).ok()?;
     if node.part >= plan.parts() {
@@ -127,7 +127,7 @@ fn lone<R: AllocGlobal + RandomSource + Wait>(
     lose: Option<u32>,
     restart: Option<u32>,
 ) -> Option<Outcome>
-    requires entries { (least_entries ≤ entries) × (entries ≤ most_entries) }
+    requires entries { (LEAST_ENTRIES ≤ entries) × (entries ≤ MOST_ENTRIES) }
 {
     let node = NodeId {
         part: 0,

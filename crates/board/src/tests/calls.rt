@@ -1,6 +1,6 @@
 //! Calls of one caller, and of seats that are split and joined.
 
-ghost use Rattle.std.specs.Prelude.{◌≡◌, ◌≤◌, ◌^◌};
+ghost use Rattle.std.specs.Prelude.{◌≡◌, ◌≤◌};
 
 use super::*;
 
@@ -128,7 +128,7 @@ fn both_fill<R: Wait>(rt: &R, first: &mut User<'_>, second: &mut User<'_>, free:
 
 /// Whether a new board of so many entries fills up so: None where memory was refused.
 fn fills_up<R: AllocGlobal + RandomSource + Wait>(rt: &R, entries: u32) -> Option<bool>
-    requires { (2 ≤ entries) × (entries ≤ 2 ^ 24) }
+    requires { (LEAST_ENTRIES ≤ entries) × (entries ≤ MOST_ENTRIES) }
 {
     let (scene, seat) = Scene::open(rt, entries)?;
     let mut user = User { at: &scene, seat };

@@ -2,6 +2,7 @@ use Rattle.std.proofs.Common.{◌≡◌, ◌∙◌, ◌≤◌, ◌&&◌, [], All
 use Rattle.std.proofs.lemmas.List.Elements.{All-tail}
 use Rattle.std.proofs.lemmas.List.{nil_from_length}
 use Rattle.std.specs.Vec.Iter.{into_iter_items}
+use Rattle.ball_model.specs.declared.plan.TheConstants.{MOST_REPLICAS}
 use Rattle.workers.specs.Ends.{each_has_done, fault_of, faults_in}
 use Rattle.workers.proofs.EndsLemmas.{all_noted_more, complete_end, complete_more, parts_end, parts_start, with_parts}
 use Rattle.workers.proofs.JobLemmas.{AllSoFar, all_so_far_more, all_so_far_start}
@@ -14,7 +15,7 @@ loop-own-init c =
     let count = ap length same in (
       omega (arith, count),
       (
-        subst (All (λ own. length own.items ≤ 4)) (sym same) c.requires.few,
+        subst (All (λ own. length own.items ≤ MOST_REPLICAS)) (sym same) c.requires.few,
         λ j o h. subst (λ rest. AllSoFar (λ own. own.items) j o 0 rest c.none-faults.result c.in_ok-done.done.items true) (sym same)
             (subst (λ done. AllSoFar (λ own. own.items) j o 0 c.args.ends.items c.none-faults.result done true) (sym c.in_ok-done.ensures.items)
             (all_so_far_start (λ own. own.items) j o c.args.ends.items c.none-faults.result h (c.none-faults.ensures.noted j.plan.parts o))),
@@ -34,7 +35,7 @@ loop-own-preserved c =
     ] in (
       omega (arith, i.0, fewer),
       (
-        All-tail (λ own. length own.items ≤ 4) c.in-Some.own (into_iter_items c.next.new.self) (subst (All (λ own. length own.items ≤ 4)) next i.1.0),
+        All-tail (λ own. length own.items ≤ MOST_REPLICAS) c.in-Some.own (into_iter_items c.next.new.self) (subst (All (λ own. length own.items ≤ MOST_REPLICAS)) next i.1.0),
         λ j o h. all_so_far_more (λ own. own.items) j o c.loop-own.p c.in-Some.own (into_iter_items c.next.new.self) c.loop-own.faults c.done_replica-next.new.faults c.loop-own.done.items c.keep_done.new.done.items c.done_replica-next.result c.in_ok-complete.complete c.loop-own.complete c.if-branch.complete
             (subst (λ rest. AllSoFar (λ own. own.items) j o c.loop-own.p rest c.loop-own.faults c.loop-own.done.items c.loop-own.complete) next (i.1.1 j o h))
             (c.done_replica-next.ensures.noted j o) (c.done_replica-next.ensures.done j o) c.in_ok-complete.ensures.count (c.in_ok-complete.ensures.each j) both,

@@ -1,5 +1,6 @@
 use Rattle.std.proofs.Common.{◌*◌}
 use Rattle.ball_model.specs.Job.{Job, job_of}
+use Rattle.ball_model.specs.declared.plan.TheConstants.{MOST_REPLICAS}
 use Rattle.workers.specs.Job.{HasSplit}
 use Rattle.workers.proofs.JobLemmas.{StartingAll}
 use Rattle.workers.proofs.job.start_each.Given as goal
@@ -7,5 +8,5 @@ use Rattle.workers.proofs.job.start_each.Given as goal
 abbrev pub invariant-loop-p : goal.invariant-loop-p
 invariant-loop-p g l =
     let j : Job = job_of l.graph.graph l.plan in
-    HasSplit l.board j (4 * l.p) l.first
+    HasSplit l.board j (MOST_REPLICAS * l.p) l.first
     × StartingAll (λ h. h.promise) (λ own. own.items) j l.options l.p l.children.items

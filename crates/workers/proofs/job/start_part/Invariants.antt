@@ -1,5 +1,6 @@
 use Rattle.std.proofs.Common.{◌+◌, ◌*◌}
 use Rattle.ball_model.specs.Job.{Job, job_of}
+use Rattle.ball_model.specs.declared.plan.TheConstants.{MOST_REPLICAS}
 use Rattle.workers.specs.Job.{HasSplit}
 use Rattle.workers.proofs.JobLemmas.{Starting}
 use Rattle.workers.proofs.job.start_part.Given as goal
@@ -7,5 +8,5 @@ use Rattle.workers.proofs.job.start_part.Given as goal
 abbrev pub invariant-loop-replica : goal.invariant-loop-replica
 invariant-loop-replica g l =
     let j : Job = job_of l.graph.graph l.plan in
-    HasSplit l.board j (4 * l.p + l.replica) l.first
+    HasSplit l.board j (MOST_REPLICAS * l.p + l.replica) l.first
     × Starting (λ h. h.promise) j l.options l.p l.replica l.children.items
