@@ -23,8 +23,8 @@ use Rattle.node.specs.declared.error.JobInputError.TheVariants as nojob
 use Rattle.node.specs.Job.{CountsSome, GivesAll, GivesEdges, GivesSection, IsJobRead, IsPlanned}
 use Rattle.node.specs.NoJob.{HasNoNode, IsNoNetwork, IsNoStart, IsRefused, LacksListMark, LacksMark}
 use Rattle.node.specs.declared.limits.TheConstants.{MOST_BYTES}
-use Rattle.node.specs.Section.{EndsAtMark, Gives, Passed, ReadsSection, first_or}
-use Rattle.node.proofs.SectionLemmas.{GoesOn, passed_end, passed_more, passed_next, passed_over, passed_start, passed_whole, section_before}
+use Rattle.node.specs.Section.{EndsAtMark, Gives, ReadsSection, first_or}
+use Rattle.node.proofs.SectionLemmas.{GoesOn, Passed, passed_end, passed_more, passed_next, passed_over, passed_start, passed_whole, section_before}
 
 -- ---- the edge list
 -- so many bytes were given

@@ -5,7 +5,8 @@ use Rattle.std.specs.Io.KnownBytes.{Consumes, IsAtEnd, Keeps, prepend_known}
 use Rattle.std.proofs.KnownBytes.{prepend_known-end}
 use Rattle.std.proofs.lemmas.Bool.{and_parts, eqb-true}
 use Rattle.ball_model.specs.Sections.{after_line, after_mark, longer, sections_from, sections_of, sections_or}
-use Rattle.node.specs.Section.{EndsAtMark, EndsOf, Gives, GivesOf, HasNoMark, IsAhead, IsPast, Passed, ReadsSection, before_mark, first_or, is_front, is_tail, prefixed}
+use Rattle.world.proofs.ScriptLemmas.{behind, behind-longer}
+use Rattle.node.specs.Section.{EndsAtMark, EndsOf, Gives, GivesOf, HasNoMark, IsAhead, IsPast, ReadsSection, before_mark, first_or, is_front, is_tail}
 
 -- ---- one byte more than a front
 
@@ -210,9 +211,19 @@ pub ended : (xs : List ℕ) (a b : Option (List ℕ)) → Keeps a (prepend_known
 ended xs a b k none end = prepend_known-end a b xs k none (end (subst (λ (l : List ℕ). is_front l ≡ true) (sym none) refl))
 
 -- ---- many steps
-prefixed_nil : (o : Option (List ℕ × List ℕ)) → o ≡ prefixed [] o
-prefixed_nil None = refl
-prefixed_nil (Some s) = refl
+-- some bytes of a section were passed: it goes on with what is left, where a line begins or not
+pub record PassedOf (front : List ℕ) (begins : Bool) (text : List ℕ) (new : Option (List ℕ)) : Type 0 where
+  pub rest : List ℕ
+  pub new_is : new ≡ Some rest
+  pub text_is : text ≡ front ++ rest
+  pub sections : sections_from true text ≡ behind front (sections_from begins rest)
+
+abbrev pub Passed : List ℕ → Bool → Option (List ℕ) → Option (List ℕ) → Type 0
+Passed front begins old new = IfSome old (λ text. PassedOf front begins text new)
+
+behind_nil : (o : Option (List ℕ × List ℕ)) → o ≡ behind [] o
+behind_nil None = refl
+behind_nil (Some s) = refl
 
 pub passed_start : (begins : Bool) (xs : List ℕ) (left : Option (List ℕ)) → begins ≡ true → xs ≡ [] → Passed [] begins left (prepend_known xs left)
 passed_start begins xs None line none = tt
@@ -223,12 +234,8 @@ passed_start begins xs (Some text) line none = record {
   sections =
       ap (λ (l : List ℕ). sections_from true (l ++ text)) (sym none)
       ∙ ap (λ (t : Bool). sections_from t (xs ++ text)) (sym line)
-      ∙ prefixed_nil (sections_from begins (xs ++ text));
+      ∙ behind_nil (sections_from begins (xs ++ text));
 }
-
-prefixed_longer : (front more : List ℕ) (c : ℕ) (o : Option (List ℕ × List ℕ)) → more ≡ front ++ c ∷ [] → prefixed front (longer c o) ≡ prefixed more o
-prefixed_longer front more c None is = refl
-prefixed_longer front more c (Some s) is = ap (λ (l : List ℕ). Some (l, s.1)) (sym (ap (λ (l : List ℕ). l ++ s.0) is ∙ append_assoc front (c ∷ []) s.0))
 
 pub passed_more : (front more : List ℕ) (begins next : Bool) (c : ℕ) (x y z : Option (List ℕ)) → next ≡ (c == 10) → more ≡ front ++ c ∷ [] → Passed front begins x y → Gives begins c y z → Passed more next x z
 passed_more front more begins next c None y z same is p g = tt
@@ -242,8 +249,9 @@ passed_more front more begins next c (Some text) y z same is p g =
           ∙ sym (ap (λ (l : List ℕ). l ++ one.rest) is ∙ append_assoc front (c ∷ []) one.rest);
       sections =
           p.sections
-          ∙ ap (prefixed front) (one.sections ∙ ap (λ (t : Bool). longer c (sections_from t one.rest)) (sym same))
-          ∙ prefixed_longer front more c (sections_from next one.rest) is;
+          ∙ ap (behind front) (one.sections ∙ ap (λ (t : Bool). longer c (sections_from t one.rest)) (sym same))
+          ∙ behind-longer front c (sections_from next one.rest)
+          ∙ ap (λ (l : List ℕ). behind l (sections_from next one.rest)) (sym is);
     }
 
 pub passed_end : (front : List ℕ) (begins : Bool) (x y z : Option (List ℕ)) → Passed front begins x y → EndsAtMark begins y z → ReadsSection front x z
@@ -253,7 +261,7 @@ passed_end front begins (Some text) y z p e =
     record {
       rest = last.rest;
       new_is = last.new_is;
-      sections = p.sections ∙ ap (prefixed front) last.sections ∙ ap (λ (l : List ℕ). Some (l, last.rest)) (append-nil front);
+      sections = p.sections ∙ ap (behind front) last.sections ∙ ap (λ (l : List ℕ). Some (l, last.rest)) (append-nil front);
     }
 
 -- ---- a section that does not end
@@ -263,7 +271,7 @@ unfolding sections_from
 passed_over front begins None y p end = tt
 passed_over front begins (Some text) y p end =
     let none : p.rest ≡ [] = subst IsAtEnd p.new_is end in
-    p.sections ∙ ap (λ (l : List ℕ). prefixed front (sections_from begins l)) none
+    p.sections ∙ ap (λ (l : List ℕ). behind front (sections_from begins l)) none
 
 pub passed_whole : (front : List ℕ) (begins : Bool) (x y : Option (List ℕ)) → Passed front begins x y → IsAtEnd y → IfSome x (λ text. text ≡ front)
 passed_whole front begins None y p end = tt
@@ -272,7 +280,7 @@ passed_whole front begins (Some text) y p end =
     p.text_is ∙ ap (λ (l : List ℕ). front ++ l) none ∙ append-nil front
 
 -- what was passed is the front of what stands before the mark
-before_passed : (front text rest : List ℕ) (o : Option (List ℕ × List ℕ)) → text ≡ front ++ rest → sections_of text ≡ prefixed front o → before_mark text ≡ front ++ first_or rest o
+before_passed : (front text rest : List ℕ) (o : Option (List ℕ × List ℕ)) → text ≡ front ++ rest → sections_of text ≡ behind front o → before_mark text ≡ front ++ first_or rest o
 before_passed front text rest None is sections = ap (first_or text) sections ∙ is
 before_passed front text rest (Some s) is sections = ap (first_or text) sections
 
@@ -293,7 +301,7 @@ passed_next front begins c (Some text) y z p g =
     record {
       more = first_or one.rest o;
       before_is =
-          before_passed front text (c ∷ one.rest) (longer c o) (p.text_is ∙ ap (λ (l : List ℕ). front ++ l) one.text_is) (p.sections ∙ ap (prefixed front) one.sections)
+          before_passed front text (c ∷ one.rest) (longer c o) (p.text_is ∙ ap (λ (l : List ℕ). front ++ l) one.text_is) (p.sections ∙ ap (behind front) one.sections)
           ∙ ap (λ (l : List ℕ). front ++ l) (first_longer c one.rest o);
     }
 

@@ -21,7 +21,8 @@ use Rattle.node.specs.declared.error.ServeError.{ServeError}
 use Rattle.node.specs.declared.error.ServeError.TheVariants as fault
 use Rattle.node.specs.declared.error.ServeNodeError.{ServeNodeError}
 use Rattle.node.specs.declared.error.ServeNodeError.TheVariants as node_fault
-use Rattle.node.specs.Stream.{CutsBody, HasNoEnd, ReadsBody, ReadsInLine, most_line}
+use Rattle.node.specs.Stream.{CutsBody, HasNoEnd, ReadsBody, ReadsInLine}
+use Rattle.node.specs.declared.input.TheConstants.{MOST_LINE}
 use Rattle.node.specs.Serving.{AnswersEach, AppendsAnswers, AreNamed, AreTold, CutShort, IfRefused, IsNoRequest, IsOfMachine, LacksRoom, NoCommand, ReadsRequest, Runs, ServesRest, ServesNode, ServesNone, ServesOne, ServesSome, Steps, StopsServing, StopsNode, StopsWanting, WantsNode, serve_error_of}
 use Rattle.node.specs.Turns.{Holds, most_body}
 use Rattle.world.specs.declared.tell.TellError.{TellError}
@@ -206,7 +207,7 @@ stops_counting network part n a b v w x y most s = record { number = n; mid = b;
 
 -- ---- a request
 pub reads_request : (part : PartValue) (a b c : Option (List ℕ)) (line : List ℕ) (order : Command) (body : List ℕ) → Consumes a b (line ++ 10 ∷ []) → Consumes b c body →
-    HasNoEnd line → length line < most_line → command_in (fields 32 line) ≡ Some order → body_length order ≤ most_body part order → length body ≡ body_length order → ReadsRequest part a c line order body
+    HasNoEnd line → length line < MOST_LINE → command_in (fields 32 line) ≡ Some order → body_length order ≤ most_body part order → length body ≡ body_length order → ReadsRequest part a c line order body
 reads_request part a b c line order body one two none short says within long = record {
   is = record {
     one_line = none;
@@ -264,7 +265,7 @@ pub told_stops : (part : PartValue) (n : ℕ) (t : TellError) (a b : Option (Lis
 told_stops part n untold.Memory a b lacks = lacks
 told_stops part n untold.Write a b lacks = tt
 
-pub long_line : (a b : Option (List ℕ)) (line : List ℕ) → Consumes a b line → HasNoEnd line → most_line ≤ length line → NoCommand a b
+pub long_line : (a b : Option (List ℕ)) (line : List ℕ) → Consumes a b line → HasNoEnd line → MOST_LINE ≤ length line → NoCommand a b
 long_line a b line read none great = record { line = line; one_line = none; read = inr (read, great) }
 
 pub cut_line : (a b : Option (List ℕ)) (line : List ℕ) → Consumes a b line → IsAtEnd b → line ≢ [] → HasNoEnd line → CutShort a b
@@ -281,7 +282,7 @@ cut_body a b c line order read none says cut = record {
 }
 
 -- what follows the line was not read
-pub rest_stops : (part : PartValue) (n : ℕ) (e : ServeError) (a b c : Option (List ℕ)) (line : List ℕ) (order : Command) → Consumes a b (line ++ 10 ∷ []) → HasNoEnd line → length line < most_line → command_in (fields 32 line) ≡ Some order →
+pub rest_stops : (part : PartValue) (n : ℕ) (e : ServeError) (a b c : Option (List ℕ)) (line : List ℕ) (order : Command) → Consumes a b (line ++ 10 ∷ []) → HasNoEnd line → length line < MOST_LINE → command_in (fields 32 line) ≡ Some order →
     body_length order ≤ most_body part order → (e ≡ fault.Cut n → CutsBody (body_length order) b c) → (e ≡ fault.Memory → ReadsBody (body_length order) b c) → (e ≡ fault.Cut n) ⊎ IsOfMachine e → IsNoRequest part n e a c
 rest_stops part n e a b c line order read none short says within cut all (inl is) =
     subst (λ (k : ServeError). IsNoRequest part n k a c) (sym is) (refl, cut_body a b c line order read none says (cut is))

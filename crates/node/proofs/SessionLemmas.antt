@@ -37,9 +37,9 @@ use Rattle.replica.specs.Seen.{IsState}
 use Rattle.replica.proofs.LevelLemmas.Level.{plan_is}
 use Rattle.world.specs.Shows.{Has, ShowsNode}
 use Rattle.world.specs.Turns.{merged_when}
-use Rattle.world.proofs.KeepLemmas.{keepable}
+use Rattle.world.proofs.KeepLemmas.{keepable, only_want}
 use Rattle.ball_model.specs.State.{StandsFor, content_of}
-use Rattle.world.proofs.NodeLemmas.{MergesWith, close_turns, node, recover_turns, start_shows, take_turns, unmerged_turns}
+use Rattle.world.proofs.NodeLemmas.{MergesWith, close_turns, fine, node, recover_turns, start_shows, take_turns, unmerged_turns}
 use Rattle.node.specs.declared.session.Reply.{Reply}
 use Rattle.node.specs.declared.session.Reply.TheVariants as reply
 use Rattle.node.specs.NodeText.{IsDelivered, IsGivenBack}
@@ -95,10 +95,6 @@ closed_turns j p h r a v w k step state said =
     }
 
 -- ---- a checkpoint
-wants : (e : KeepError) → (IsRead e → ⊥) → (e ≡ unkept.Memory) ⊎ (e ≡ unkept.Read) → e ≡ unkept.Memory
-wants e sure (inl memory) = memory
-wants e sure (inr read) = absurd (sure (subst IsRead (sym read) tt))
-
 -- of either version that replica is read, or something was wanting
 read_as : (v : State) (bytes : List ℕ) (r : Result State KeepError) → IsReplicaSpelling v bytes → (bytes ≡ checkpoint_bytes v → IfOkButWant r (λ w. w ≡ v)) →
     (bytes ≡ first_checkpoint_bytes v → IfOkButWant r (λ w. w ≡ without_names v)) → IfOkButWant r (λ w. w ≡ v)
@@ -108,7 +104,7 @@ read_as v bytes r (inr is) second first = subst (λ (x : State). IfOkButWant r (
 holds_read : (j : Job) (p : ℕ) (h : Holding) (v : State) (r : Result State KeepError) → IsHeldBy j p h → Has j h v → IfErr r (λ e. IsRead e → ⊥) → IfOkButWant r (λ w. w ≡ v) →
     GivesOrWants (Holds j p h) r
 holds_read j p h v (Ok w) held has sure same = record { held = held; has = subst (λ (x : State). Has j h x) (sym same) has }
-holds_read j p h v (Err e) held has sure want = wants e sure want
+holds_read j p h v (Err e) held has sure want = only_want e want sure
 
 pub given_back : (j : Job) (p : ℕ) (h : Holding) (bytes : List ℕ) (r : Result State KeepError) → IsGivenBack j p bytes h → IfErr r (λ e. IsRead e → ⊥) →
     ((v : State) → IsKeepable v → v.part ≡ part_of j p → bytes ≡ checkpoint_bytes v → IfOkButWant r (λ w. w ≡ v)) →
@@ -119,9 +115,6 @@ given_back j p h bytes r g sure second first =
     holds_read j p h g.replica r g.held g.has sure (read_as g.replica bytes r g.spells (second g.replica keeps own) (first g.replica keeps own))
 
 -- ---- a replica that is merged
-abbrev fine : Result (Unit {0}) MergeError
-fine = Ok tt
-
 two_tests : (b c : Bool) → b ≡ true → c ≡ true → (if not b then Err unmerged.OtherJob else (if not c then Err unmerged.NotMine else fine)) ≡ fine
 two_tests true true e f = refl
 two_tests true false e f = absurd (cc)

@@ -21,7 +21,8 @@ use Rattle.node.specs.Job.{IsJobRead}
 use Rattle.node.specs.NoJob.{IsNoJob}
 use Rattle.node.specs.NodeText.{size_in}
 use Rattle.node.specs.Refusals.{IsNoCheckpoint}
-use Rattle.node.specs.Stream.{HasNoEnd, most_line}
+use Rattle.node.specs.Stream.{HasNoEnd}
+use Rattle.node.specs.declared.input.TheConstants.{MOST_LINE}
 
 -- ---- the line before a checkpoint
 abbrev pub length_behind : Option (List ℕ × List ℕ) → Option ℕ
@@ -37,7 +38,7 @@ pub record NoPartLine (left left' : Option (List ℕ)) : Type 0 where
   pub line : List ℕ
   pub one_line : HasNoEnd line
   pub read : (Consumes left left' (line ++ 10 ∷ []) × (part_length line ≡ None))
-      ⊎ (Consumes left left' line × (most_line ≤ length line))
+      ⊎ (Consumes left left' line × (MOST_LINE ≤ length line))
 
 -- ---- one checkpoint
 -- nothing is left

@@ -28,7 +28,7 @@ use Rattle.world.specs.Shows.{Has, KeepsContent}
 use Rattle.node.specs.declared.command.Command.{Command}
 use Rattle.node.specs.declared.command.Command.TheVariants as command
 use Rattle.node.specs.Refusals.{IsNoCheckpoint}
-use Rattle.node.specs.Stream.{most_line}
+use Rattle.node.specs.declared.input.TheConstants.{MOST_LINE}
 use Rattle.node.specs.Turns.{batch_word, checkpoint_word, most_body}
 
 -- ---- commands as lines
@@ -88,7 +88,7 @@ pub record Request : Type 0 where
 -- tells, which are no more than a batch or a checkpoint of the part has at most
 pub record IsRequest (part : PartValue) (r : Request) : Type 0 where
   pub one_line : All (λ b. b ≢ 10) r.line
-  pub short : length r.line < most_line
+  pub short : length r.line < MOST_LINE
   pub says : command_in (fields 32 r.line) ≡ Some r.command
   pub length_is : length r.body ≡ body_length r.command
   pub within : length r.body ≤ most_body part r.command

@@ -1,5 +1,5 @@
 -- Sections on a stream: what may be the front of a mark, and what a step through a section does.
-use Rattle.std.specs.Prelude.{◌≡◌, ⊤, ℕ, Bool, true, false, not, ◌==◌, ◌&&◌, List, [], ◌∷◌, ◌++◌, Option, None, Some, IfSome}
+use Rattle.std.specs.Prelude.{◌≡◌, ⊤, ℕ, Bool, true, false, not, ◌==◌, ◌&&◌, List, [], ◌∷◌, Option, None, Some, IfSome}
 use Rattle.ball_model.specs.Sections.{after_mark, longer, sections_from, sections_of}
 use Rattle.node.specs.declared.section.Step.{Step}
 use Rattle.node.specs.declared.section.Step.TheVariants as step
@@ -59,22 +59,6 @@ IsByteOrEnd (step.Byte b) = ⊤
 IsByteOrEnd step.Mark = ⊥
 IsByteOrEnd step.End = ⊤
 IsByteOrEnd step.Failed = ⊥
-
--- bytes in front of a section
-abbrev pub prefixed : List ℕ → Option (List ℕ × List ℕ) → Option (List ℕ × List ℕ)
-prefixed front None = None
-prefixed front (Some sections) = Some (front ++ sections.0, sections.1)
-
--- some bytes of a section were passed: it goes on with what is left, where a line begins or not
-pub record PassedOf (front : List ℕ) (begins : Bool) (text : List ℕ)
-    (new : Option (List ℕ)) : Type 0 where
-  pub rest : List ℕ
-  pub new_is : new ≡ Some rest
-  pub text_is : text ≡ front ++ rest
-  pub sections : sections_from true text ≡ prefixed front (sections_from begins rest)
-
-abbrev pub Passed : List ℕ → Bool → Option (List ℕ) → Option (List ℕ) → Type 0
-Passed front begins old new = IfSome old (λ text. PassedOf front begins text new)
 
 -- a section was read, and the mark behind it: what follows it is left
 pub record SectionOf (front text : List ℕ) (new : Option (List ℕ)) : Type 0 where

@@ -24,7 +24,8 @@ use Rattle.node.specs.declared.error.ServeError.TheVariants as fault
 use Rattle.node.specs.NodeText.{AnswersOne, AnswersAll, AllAsk, Asked, Asks, IsNotFor, IsRequest, Request, after_all_asked, after_asked, body_length, command_in, refused_line, request_bytes, requests_text}
 use Rattle.node.specs.Refusals.{IsNoCheckpoint}
 use Rattle.node.specs.Job.{IsJobRead}
-use Rattle.node.specs.Stream.{HasNoEnd, most_line}
+use Rattle.node.specs.Stream.{HasNoEnd}
+use Rattle.node.specs.declared.input.TheConstants.{MOST_LINE}
 use Rattle.node.specs.Turns.{Holds, batch_word, checkpoint_word, most_body}
 
 -- ---- what errors are told as
@@ -96,7 +97,7 @@ pub record NoCommand (left left' : Option (List ℕ)) : Type 0 where
   pub line : List ℕ
   pub one_line : HasNoEnd line
   pub read : (Consumes left left' (line ++ 10 ∷ []) × (command_in (fields 32 line) ≡ None))
-      ⊎ (Consumes left left' line × (most_line ≤ length line))
+      ⊎ (Consumes left left' line × (MOST_LINE ≤ length line))
 
 -- the line of a command behind which more bytes are announced than the part allows
 pub record TooLong (part : PartValue) (left left' : Option (List ℕ)) : Type 0 where

@@ -4,10 +4,6 @@ use Rattle.std.specs.Io.KnownBytes.{Consumes, IsAtEnd}
 use Rattle.std.specs.List.{All}
 use Rattle.ball_model.specs.Streams.{Rises}
 
--- the most bytes of a line
-abbrev pub most_line : ℕ
-most_line = 64
-
 -- no byte ends a line
 abbrev pub HasNoEnd : List ℕ → Type 0
 HasNoEnd bytes = All (λ b. b ≢ 10) bytes

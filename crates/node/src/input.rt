@@ -4,7 +4,6 @@ ghost use Rattle.std.specs.Prelude.{◌≡◌, ◌≢◌, ◌<◌, ◌≤◌, �
 ghost use Rattle.std.specs.Io.KnownBytes.{Consumes, IsAtEnd};
 ghost use Rattle.ball_model.specs.Streams.{Rises};
 ghost use Rattle.node.specs.Stream.{CutsBody, FailsWhere, HasNoEnd, ReadsBody, ReadsInLine};
-ghost use Rattle.node.specs.Stream.{most_line};
 
 use crate::section::{Next, next_of};
 use ball_model::{CountedRead, Filled, fill};
@@ -38,7 +37,7 @@ pub fn read_line<R: CountedRead>(reader: &mut R, line: &mut Vec<u8>) -> Line
     ensures whole { result ≡ Line.Whole → Consumes (R.remaining reader.old)
         (R.remaining reader.new) (line.new.items ++ 10 ∷ []) }
     ensures one { result ≡ Line.Whole → HasNoEnd line.new.items }
-    ensures short { result ≡ Line.Whole → length line.new.items < most_line }
+    ensures short { result ≡ Line.Whole → length line.new.items < MOST_LINE }
     ensures none { result ≡ Line.None →
         Consumes (R.remaining reader.old) (R.remaining reader.new) [] }
     ensures end { result ≡ Line.None → IsAtEnd (R.remaining reader.new) }
@@ -50,7 +49,7 @@ pub fn read_line<R: CountedRead>(reader: &mut R, line: &mut Vec<u8>) -> Line
     ensures long { result ≡ Line.Long →
         Consumes (R.remaining reader.old) (R.remaining reader.new) line.new.items }
     ensures no_end { result ≡ Line.Long → HasNoEnd line.new.items }
-    ensures great { result ≡ Line.Long → most_line ≤ length line.new.items }
+    ensures great { result ≡ Line.Long → MOST_LINE ≤ length line.new.items }
     ensures memory { result ≡ Line.Memory →
         ReadsInLine (R.remaining reader.old) (R.remaining reader.new) }
     ensures failed { result ≡ Line.Failed →

@@ -18,7 +18,8 @@ ghost use Rattle.node.specs.Serving.{ServesNode, ServesNone, ServesOne, Steps, S
 ghost use Rattle.node.specs.Serving.{StopsNode, StopsWanting, WantsNode};
 ghost use Rattle.node.specs.declared.error.JobInputError.{JobInputError as NoJob};
 ghost use Rattle.node.specs.declared.error.ServeError.{ServeError as Fault};
-ghost use Rattle.node.specs.Stream.{CutsBody, FailsWhere, HasNoEnd, ReadsBody, most_line};
+ghost use Rattle.node.specs.Stream.{CutsBody, FailsWhere, HasNoEnd, ReadsBody};
+ghost use Rattle.node.specs.declared.input.TheConstants.{MOST_LINE};
 ghost use Rattle.node.specs.declared.command.Command.TheVariants as order;
 ghost use Rattle.node.specs.Turns.{Holds, most_body, reply_text};
 
@@ -274,7 +275,7 @@ fn read_command<R: CountedRead>(
     ensures consumed { IfOk result (λ o. IfSome o (λ _. Consumes (R.remaining reader.old)
         (R.remaining reader.new) (line.new.items ++ 10 ∷ []))) }
     ensures one_line { IfOk result (λ o. IfSome o (λ _. HasNoEnd line.new.items)) }
-    ensures short { IfOk result (λ o. IfSome o (λ _. length line.new.items < most_line)) }
+    ensures short { IfOk result (λ o. IfSome o (λ _. length line.new.items < MOST_LINE)) }
     ensures says { IfOk result (λ o. IfSome o (λ c.
         command_in (fields 32 line.new.items) ≡ Some c)) }
     ensures within { IfOk result (λ o. IfSome o (λ c. body_length c ≤ most_body part.now c)) }

@@ -1,6 +1,7 @@
 use Rattle.std.proofs.Common.{◌≡◌, ◌-◌, length}
 use Rattle.std.specs.Io.KnownBytes.{Consumes}
-use Rattle.node.specs.Stream.{HasNoEnd, most_line}
+use Rattle.node.specs.Stream.{HasNoEnd}
+use Rattle.node.specs.declared.input.TheConstants.{MOST_LINE}
 use Rattle.node.proofs.input.read_line.Given as goal
 
 abbrev pub invariant-loop-reader : goal.invariant-loop-reader
@@ -11,4 +12,4 @@ invariant-loop-reader g l = record {
 }
 
 abbrev pub decreases-loop-reader : goal.decreases-loop-reader
-decreases-loop-reader g l = most_line - length l.line.items
+decreases-loop-reader g l = MOST_LINE - length l.line.items

@@ -1,7 +1,7 @@
 use Rattle.std.proofs.Common.{◌≡◌, ◌+◌, ◌-◌, length}
 use Rattle.std.specs.Io.KnownBytes.{prepend_known}
 use Rattle.node.specs.declared.limits.TheConstants.{MOST_BYTES}
-use Rattle.node.specs.Section.{Passed}
+use Rattle.node.proofs.SectionLemmas.{Passed}
 use Rattle.node.proofs.job.read_list.Given as goal
 
 abbrev pub invariant-loop-cut : goal.invariant-loop-cut
