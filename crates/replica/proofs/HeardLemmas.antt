@@ -1,19 +1,12 @@
 -- What accumulators have heard once rows are spread.
 use Rattle.std.proofs.Common.{◌≡◌, ℕ, zero, suc, ◌+◌, ◌*◌, ◌<◌, ◌≤◌, ◌%◌, Bool, true, false, ◌&&◌, ◌||◌, ◌==◌, List, [], ◌∷◌, ◌++◌, map, length, get_or, if◌then◌else◌, refl, ap, arith, sym, ◌∙◌, inl, inr}
 use Rattle.std.specs.Cmp.{both_ways}
-use Rattle.std.specs.List.{list_any, range_with_len, filter, AllByRecursion}
-use Rattle.std.proofs.lemmas.Bool.{and_parts, and_from, or_cases, or_left, or_right, eqb-true, eq-eqb}
-use Rattle.std.proofs.lemmas.List.{length-map, get_or-map, same_lists, map-append, append-nil}
+use Rattle.replica.proofs.Names.{list_any, range_with_len, filter, AllByRecursion, and_parts, and_from, or_cases, or_left, or_right, eqb-true, eq-eqb, length-map, get_or-map, same_lists, map-append, append-nil, get_or-map-range_with_len, mixing_of, vertices_of, Job, IsJob, PartValue, part_of, feeds_into, sent_vertices, true_batch, own_vertices, rows_of, marks_of}
 use Rattle.std.proofs.lemmas.List.Elements.{filter-append}
-use Rattle.std.proofs.lemmas.List.FromFn.{get_or-map-range_with_len}
 use Rattle.std.proofs.Math.Bool.{or-false, or_assoc}
 use Rattle.ball_model.specs.Graph.{is_edge}
 use Rattle.ball_model.specs.Counter.{ball_counter, max_each}
 use Rattle.ball_model.specs.Change.{changed_at}
-use Rattle.ball_model.specs.PlanValue.{mixing_of, vertices_of}
-use Rattle.ball_model.specs.Job.{Job, IsJob, PartValue, part_of, feeds_into}
-use Rattle.ball_model.specs.Batches.{sent_vertices, true_batch}
-use Rattle.ball_model.specs.State.{own_vertices, rows_of, marks_of}
 use Rattle.ball_model.specs.Accumulated.{accumulated_of}
 use Rattle.ball_model.proofs.PathLemmas.{any_filter, any_range, range_any, edge_below}
 use Rattle.ball_model.proofs.ChangeLemmas.{filter_passes}

@@ -1,3 +1,4 @@
+pub mod Names
 pub mod IndexLemmas
 pub mod LevelLemmas
 pub mod AheadLemmas

@@ -1,6 +1,6 @@
 -- An option that is gone over gives its value, if it has one.
 use Rattle.std.proofs.Common.{◌≡◌, Bool, true, false, [], ◌∷◌, length, Bor, if◌then◌else◌, refl, ap, sym, subst}
-use Rattle.std.specs.Prelude.{Option, Some, None, IsTrue}
+use Rattle.replica.proofs.Names.{Option, Some, None, IsTrue}
 use Rattle.std.specs.Bool.{MatchBool}
 use Rattle.std.specs.Option.{option_to_list}
 use Rattle.std.specs.Iterator.Adapters.{option_iter_item, option_iter_done, option_iter_steps}

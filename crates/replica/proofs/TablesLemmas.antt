@@ -1,14 +1,7 @@
 -- A replica's tables, and what is heard beside them, one superstep further.
 use Rattle.std.proofs.Common.{◌≡◌, ℕ, ◌+◌, ◌^◌, ◌<◌, ◌≤◌, ◌++◌, ◌∷◌, List, [], refl, ap, ap₂, sym, ◌∙◌, subst, arith, inl}
-use Rattle.std.specs.Prelude.{Option}
-use Rattle.std.specs.Arc.{arc_value}
-use Rattle.std.specs.List.{sum_by}
+use Rattle.replica.proofs.Names.{Option, arc_value, sum_by, BatchValue, TallyValue, Measure, PlanValue, measure_of, State, is_heard, Table}
 use Rattle.ball_model.specs.declared.names.Verdict.TheVariants as verdict
-use Rattle.ball_model.specs.Batches.{BatchValue}
-use Rattle.ball_model.specs.Figures.{TallyValue, Measure}
-use Rattle.ball_model.specs.PlanValue.{PlanValue, measure_of}
-use Rattle.ball_model.specs.State.{State, is_heard}
-use Rattle.ball_model.specs.Table.{Table}
 use Rattle.replica.specs.declared.Progress.TheInside as progress
 use Rattle.replica.specs.Ahead.{IsTable}
 use Rattle.replica.specs.Change.{Advances}

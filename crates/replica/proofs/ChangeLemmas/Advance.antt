@@ -1,14 +1,7 @@
 -- One superstep more, over plain data.
 use Rattle.std.proofs.Common.{◌≡◌, ℕ, ◌+◌, ◌-◌, ◌<◌, ◌≤◌, ◌==◌, Bool, false, not, ◌&&◌, List, get_or, replicate, refl, ap, arith, ◌∙◌, subst, is_some, IfSome}
-use Rattle.std.specs.Prelude.{Option}
-use Rattle.std.specs.List.{range_with_len, find}
-use Rattle.std.proofs.lemmas.Bool.{eq-eqb}
-use Rattle.ball_model.specs.PlanValue.{mixing_of}
-use Rattle.ball_model.specs.Job.{Job}
-use Rattle.ball_model.specs.Batches.{BatchValue, true_batch}
+use Rattle.replica.proofs.Names.{Option, range_with_len, find, eq-eqb, mixing_of, Job, BatchValue, true_batch, missing_of, State, StandsFor, early_at, holds_in, rows_of}
 use Rattle.ball_model.specs.Supersteps.{end_of}
-use Rattle.ball_model.specs.Content.{missing_of}
-use Rattle.ball_model.specs.State.{State, StandsFor, early_at, holds_in, rows_of}
 use Rattle.replica.specs.Change.{Advances}
 use Rattle.replica.specs.Index.{targets_of}
 use Rattle.replica.proofs.LevelLemmas.Level.{Ready, next_rows_are, differing_is, size_is}

@@ -1,12 +1,9 @@
 -- The answer to a close.
 use Rattle.std.proofs.Common.{◌≡◌, ℕ, ◌+◌, arith, sym, ◌∙◌}
-use Rattle.std.specs.Prelude.{Option, None, Result, Ok, OnOk, IfOk}
+use Rattle.replica.proofs.Names.{Option, None, Result, Ok, OnOk, IfOk, Job, close_unless, missing_of, State, StandsFor, content_of}
 use Rattle.ball_model.specs.declared.names.Verdict.{Verdict}
 use Rattle.ball_model.specs.declared.names.Verdict.TheVariants as verdict
 use Rattle.ball_model.specs.declared.names.CloseError.{CloseError}
-use Rattle.ball_model.specs.Job.{Job}
-use Rattle.ball_model.specs.Content.{close_unless, missing_of}
-use Rattle.ball_model.specs.State.{State, StandsFor, content_of}
 use Rattle.replica.specs.Change.{Advances}
 use Rattle.replica.specs.Level.{level_verdict, close_answer}
 use Rattle.replica.specs.Seen.{IsState}

@@ -1,13 +1,9 @@
 -- A replica's accumulators: kept beside its rows, or let go where the run is over.
 use Rattle.std.proofs.Common.{◌≡◌, ℕ, ◌+◌, ◌^◌, ◌≤◌, true, false, List, length, refl, ap, sym, ◌∙◌, subst, inl, inr}
-use Rattle.std.specs.Prelude.{Option, None, Some, Ok}
-use Rattle.std.specs.Arc.{arc_value}
+use Rattle.replica.proofs.Names.{Option, None, Some, Ok, arc_value, BatchValue, IsBatch, close_unless, take_of, State, content_of}
 use Rattle.ball_model.specs.declared.names.Taken.TheVariants as taken
 use Rattle.ball_model.specs.declared.names.Verdict.{Verdict}
 use Rattle.ball_model.specs.declared.names.Verdict.TheVariants as verdict
-use Rattle.ball_model.specs.Batches.{BatchValue, IsBatch}
-use Rattle.ball_model.specs.Content.{close_unless, take_of}
-use Rattle.ball_model.specs.State.{State, content_of}
 use Rattle.replica.specs.declared.Progress.TheInside as progress
 use Rattle.replica.specs.Level.{is_finished, is_over}
 use Rattle.replica.specs.Hearing.{HearingValue, KeepsAll, SaysSame}

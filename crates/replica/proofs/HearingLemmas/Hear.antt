@@ -1,15 +1,8 @@
 -- Batches that are heard, one after the other.
 use Rattle.std.proofs.Common.{◌≡◌, ℕ, zero, suc, ◌+◌, ◌%◌, ◌<◌, ◌≤◌, ◌==◌, nat_lt, Bool, true, false, not, ◌&&◌, ◌||◌, List, length, get_or, set, replicate, refl, ap, arith, sym, ◌∙◌, inl, inr, if◌then◌else◌, is_some, IfSome}
-use Rattle.std.specs.Prelude.{Option, Some, None}
-use Rattle.std.specs.List.{range_with_len, list_any}
-use Rattle.std.proofs.lemmas.Bool.{cases_eq, eq-eqb, ne_eqb}
-use Rattle.std.proofs.lemmas.List.{get_or-set_same, get_or-set_other, length-set}
+use Rattle.replica.proofs.Names.{Option, Some, None, range_with_len, list_any, cases_eq, eq-eqb, ne_eqb, get_or-set_same, get_or-set_other, length-set, BatchValue, IsBatch, true_batch, changed_count, Job, IsJob, part_of, PlanValue, is_heard, heard_changes, rows_of}
 use Rattle.std.proofs.Math.Bool.{or-false, and-or_distrib_right}
 use Rattle.ball_model.specs.Accumulated.{accumulated_of}
-use Rattle.ball_model.specs.Batches.{BatchValue, IsBatch, true_batch, changed_count}
-use Rattle.ball_model.specs.Job.{Job, IsJob, part_of}
-use Rattle.ball_model.specs.PlanValue.{PlanValue}
-use Rattle.ball_model.specs.State.{is_heard, heard_changes, rows_of}
 use Rattle.ball_model.proofs.AccumulatedPartLemmas.{accumulated_of-alike, accumulated_of-none}
 use Rattle.ball_model.proofs.AccumulatedLemmas.{or_split}
 use Rattle.ball_model.proofs.QuietLemmas.{none_of}

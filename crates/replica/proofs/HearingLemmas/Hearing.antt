@@ -1,16 +1,8 @@
 -- What is heard of a superstep, and the accumulators that are kept of it, beside the rows or none.
 use Rattle.std.proofs.Common.{◌≡◌, ℕ, ◌+◌, ◌<◌, Bool, false, List, [], length, get_or, replicate, ap, sym, ◌∙◌, subst, arith, ◌⊎◌}
-use Rattle.std.proofs.lemmas.Grind.{common_steps}
-use Rattle.std.specs.Prelude.{Option}
-use Rattle.std.specs.List.{list_any}
-use Rattle.std.proofs.lemmas.List.{same_lists, get_or_default}
+use Rattle.replica.proofs.Names.{common_steps, Option, list_any, same_lists, get_or_default, get_or-map-range_with_len, false_from_ne_true, BatchValue, PlanValue, early_at, Table}
 use Rattle.std.proofs.lemmas.List.Folds.{list_any_at}
-use Rattle.std.proofs.lemmas.List.FromFn.{get_or-map-range_with_len}
-use Rattle.std.proofs.lemmas.Bool.{both_ways, false_from_ne_true}
-use Rattle.ball_model.specs.Batches.{BatchValue}
-use Rattle.ball_model.specs.PlanValue.{PlanValue}
-use Rattle.ball_model.specs.State.{early_at}
-use Rattle.ball_model.specs.Table.{Table}
+use Rattle.std.proofs.lemmas.Bool.{both_ways}
 use Rattle.registers.specs.Relay.{DifferWhere}
 use Rattle.registers.specs.Laws.{max_each-repeats}
 use Rattle.replica.specs.Ahead.{ComesNearer}

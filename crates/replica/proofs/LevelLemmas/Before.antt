@@ -1,7 +1,6 @@
 -- The rows as they were before they went on.
 use Rattle.std.proofs.Common.{◌≡◌, ℕ, Bool, List, [], length, get_or, refl, ap, sym, subst, Option, None, Some}
-use Rattle.std.specs.Prelude.{IfSome}
-use Rattle.ball_model.specs.Table.{Table}
+use Rattle.replica.proofs.Names.{IfSome, Table}
 use Rattle.registers.specs.Relay.{DifferWhere, IsRelay, Marked}
 use Rattle.replica.specs.Tables.{rows_before}
 

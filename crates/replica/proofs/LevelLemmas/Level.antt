@@ -1,24 +1,16 @@
 -- A replica that stands for its content and holds its level has what the next superstep is made of.
 use Rattle.std.proofs.Common.{◌≡◌, ℕ, ◌+◌, ◌%◌, ◌<◌, Bool, true, false, not, ◌&&◌, ◌||◌, ◌==◌, List, [], length, get_or, refl, ap, arith, ◌∙◌}
-use Rattle.std.specs.Prelude.{Option, None}
+use Rattle.replica.proofs.Names.{Option, None, length-map, same_lists, length-map-range_with_len, get_or-map-range_with_len, mixing_of, part_size, Job, PartValue, part_of, BatchValue, missing_of, State, StandsFor, content_of, rows_of, marks_of, holds_in, is_heard, eq-eqb, not-false, ne_eqb}
 use Rattle.std.specs.Str.{bytes_eq}
-use Rattle.std.proofs.lemmas.List.{length-map, same_lists}
-use Rattle.std.proofs.lemmas.List.FromFn.{length-map-range_with_len, get_or-map-range_with_len}
 use Rattle.ball_model.specs.Accumulated.{accumulated_of}
 use Rattle.ball_model.specs.Counter.{ball_counter}
 use Rattle.ball_model.specs.Change.{changed_at}
-use Rattle.ball_model.specs.PlanValue.{mixing_of, part_size}
-use Rattle.ball_model.specs.Job.{Job, PartValue, part_of}
-use Rattle.ball_model.specs.Batches.{BatchValue}
-use Rattle.ball_model.specs.Content.{missing_of}
-use Rattle.ball_model.specs.State.{State, StandsFor, content_of, rows_of, marks_of, holds_in, is_heard}
 use Rattle.ball_model.proofs.AccumulatedPartLemmas.{accumulated_of-level}
 use Rattle.ball_model.proofs.ChangeLemmas.{changed_next}
 use Rattle.ball_model.proofs.EndLemmas.{find_none}
 use Rattle.replica.specs.Level.{differences}
 use Rattle.replica.specs.Spread.{AreTouched}
 use Rattle.std.proofs.lemmas.Slice.Eq.{bytes_eq-Decides}
-use Rattle.std.proofs.lemmas.Bool.{eq-eqb, not-false, ne_eqb}
 use Rattle.registers.specs.Laws.{max_each-repeats}
 use Rattle.replica.proofs.LevelLemmas.Step.{list_is}
 use Rattle.replica.proofs.IndexLemmas.Own.{vertex_of, at_own}

@@ -1,12 +1,9 @@
 -- A replica whose run is over hears nothing any more.
 use Rattle.std.proofs.Common.{◌≡◌, ℕ, true, false, List, get_or, refl, ap, sym, ◌∙◌, subst, inl, inr}
-use Rattle.std.specs.Prelude.{Option, None, Some, Ok}
+use Rattle.replica.proofs.Names.{Option, None, Some, Ok, BatchValue, IsBatch, close_unless, missing_of, take_of, State, content_of, holds_in}
 use Rattle.ball_model.specs.declared.names.Verdict.{Verdict}
 use Rattle.ball_model.specs.declared.names.Verdict.TheVariants as verdict
 use Rattle.ball_model.specs.declared.names.Taken.TheVariants as taken
-use Rattle.ball_model.specs.Batches.{BatchValue, IsBatch}
-use Rattle.ball_model.specs.Content.{close_unless, missing_of, take_of}
-use Rattle.ball_model.specs.State.{State, content_of, holds_in}
 use Rattle.replica.specs.Index.{targets_of}
 use Rattle.replica.specs.Level.{is_finished, is_over, level_verdict}
 use Rattle.replica.specs.Seen.{HasIndex}

@@ -1,10 +1,6 @@
 -- Figures stepped one after the other.
 use Rattle.std.proofs.Common.{◌≡◌, ℕ, ◌+◌, ◌<◌, ◌≤◌, ◌≢◌, List, [], length, map, get_or, set, arith, ◌∙◌}
-use Rattle.std.specs.List.{range_with_len}
-use Rattle.std.proofs.lemmas.List.{get_or-set_same, get_or-set_other, same_lists, get_or_default}
-use Rattle.std.proofs.lemmas.List.FromFn.{get_or-map-range_with_len, length-map-range_with_len}
-use Rattle.ball_model.specs.Figures.{TallyValue, Measure, estimate_with}
-use Rattle.ball_model.specs.Checkpoint.{no_figures}
+use Rattle.replica.proofs.Names.{range_with_len, get_or-set_same, get_or-set_other, same_lists, get_or_default, get_or-map-range_with_len, length-map-range_with_len, TallyValue, Measure, estimate_with, no_figures}
 use Rattle.replica.specs.Level.{next_tally, next_tallies}
 
 -- a list that is written at place i: what holds below and at i

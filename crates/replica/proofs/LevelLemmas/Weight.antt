@@ -1,7 +1,6 @@
 -- What the estimate of each row is made of.
 use Rattle.std.proofs.Common.{◌≡◌, ℕ, ◌<◌, List, [], length, map, get_or, ap, sym, ◌∙◌, arith}
-use Rattle.std.proofs.lemmas.List.{same_lists, get_or-map, get_or_default, length-map}
-use Rattle.figures.specs.Values.{weight_of}
+use Rattle.replica.proofs.Names.{same_lists, get_or-map, get_or_default, length-map, weight_of}
 use Rattle.replica.specs.Level.{weights_of}
 
 -- where there are as many as rows

@@ -1,11 +1,6 @@
 -- A replica that takes over what another one knows: which is further, behind, or at the same superstep.
 use Rattle.std.proofs.Common.{◌≡◌, ℕ, ◌+◌, ◌-◌, ◌^◌, ◌<◌, ◌≤◌, ◌||◌, List, length, refl, ap, ap₂, sym, ◌∙◌, subst, arith, inl, inr}
-use Rattle.std.specs.Prelude.{Option}
-use Rattle.std.specs.Arc.{arc_value}
-use Rattle.ball_model.specs.Batches.{BatchValue}
-use Rattle.ball_model.specs.PlanValue.{PlanValue}
-use Rattle.ball_model.specs.State.{State, early_at}
-use Rattle.ball_model.specs.Table.{Table}
+use Rattle.replica.proofs.Names.{Option, arc_value, BatchValue, PlanValue, State, early_at, Table}
 use Rattle.registers.specs.Joined.{maximum_of_rows, union_of_flags}
 use Rattle.replica.specs.declared.Progress.TheInside as progress
 use Rattle.replica.specs.Ahead.{IsTable, either}

@@ -1,11 +1,8 @@
 -- The contents of replicas, as plain data, and their joins.
 use Rattle.std.proofs.Common.{◌≡◌, refl, ap, ◌∙◌}
-use Rattle.std.specs.Prelude.{Result, Ok, Err, OnOk}
-use Rattle.ball_model.specs.Job.{PartValue}
-use Rattle.ball_model.specs.Content.{IsContent}
+use Rattle.replica.proofs.Names.{Result, Ok, Err, OnOk, PartValue, IsContent, State, content_of}
 use Rattle.ball_model.specs.History.{holding_in}
 use Rattle.ball_model.specs.Join.{AreAlike, join_of, holding_of}
-use Rattle.ball_model.specs.State.{State, content_of}
 use Rattle.ball_model.proofs.JoinLemmas.{holding_is_one, holding_of_joined}
 use Rattle.replica.specs.Seen.{IsState}
 use Rattle.replica.specs.Merged.{Absorbs, TakesIn}

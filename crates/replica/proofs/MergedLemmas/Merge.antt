@@ -1,19 +1,10 @@
 -- What two replicas of one partition know, taken together.
 use Rattle.std.proofs.Common.{◌≡◌, ℕ, zero, suc, ◌+◌, ◌-◌, ◌^◌, ◌<◌, ◌≤◌, max, ◌==◌, nat_le, not, Bool, false, ◌&&◌, ◌||◌, List, [], ◌∷◌, length, map, get_or, refl, ap, arith, sym, ◌∙◌, subst, ◌⊎◌}
-use Rattle.std.proofs.lemmas.Grind.{common_steps}
+use Rattle.replica.proofs.Names.{common_steps, Option, zip, le-leb, get_or-map-range_with_len, length-map-range_with_len, PlanValue, Job, IsPart, BatchValue, changed_count, State, StandsFor, content_of, early_at, further, heard_changes, Table}
 use Rattle.std.proofs.lemmas.Bool.Decides.{nat_tests}
-use Rattle.std.specs.Prelude.{Option}
-use Rattle.std.specs.List.{zip}
-use Rattle.std.proofs.lemmas.Bool.{le-leb}
-use Rattle.std.proofs.lemmas.List.FromFn.{get_or-map-range_with_len, length-map-range_with_len}
 use Rattle.std.proofs.Math.Bool.{and-or_distrib_right}
 use Rattle.ball_model.specs.Counter.{max_each}
-use Rattle.ball_model.specs.PlanValue.{PlanValue}
-use Rattle.ball_model.specs.Job.{Job, IsPart}
-use Rattle.ball_model.specs.Batches.{BatchValue, changed_count}
-use Rattle.ball_model.specs.State.{State, StandsFor, content_of, early_at, further, heard_changes}
 use Rattle.ball_model.proofs.AccumulatedPartLemmas.{accumulated_of-or, accumulated_of-alike}
-use Rattle.ball_model.specs.Table.{Table}
 use Rattle.registers.specs.Joined.{maximum_of_rows, union_of_flags}
 use Rattle.replica.specs.Ahead.{IsTable, either}
 use Rattle.replica.specs.Hearing.{Hears}

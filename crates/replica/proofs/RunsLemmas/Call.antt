@@ -1,13 +1,8 @@
 -- What a call of `take` promises to whole runs, from what its contract says.
 use Rattle.std.proofs.Common.{◌≡◌, ℕ, ap, ◌∙◌}
-use Rattle.std.specs.Prelude.{Result}
+use Rattle.replica.proofs.Names.{Result, PlanValue, Job, BatchValue, true_batch, take_of, is_new, after_take, State, StandsFor, content_of}
 use Rattle.ball_model.specs.declared.names.Taken.{Taken}
 use Rattle.ball_model.specs.declared.names.TakeError.{TakeError}
-use Rattle.ball_model.specs.PlanValue.{PlanValue}
-use Rattle.ball_model.specs.Job.{Job}
-use Rattle.ball_model.specs.Batches.{BatchValue, true_batch}
-use Rattle.ball_model.specs.Content.{take_of, is_new, after_take}
-use Rattle.ball_model.specs.State.{State, StandsFor, content_of}
 use Rattle.replica.specs.Runs.{Takes}
 
 -- a true batch is of its job: its plan is the job's

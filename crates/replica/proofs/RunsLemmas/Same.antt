@@ -1,13 +1,6 @@
 -- Replicas with one content are equal.
 use Rattle.std.proofs.Common.{◌≡◌, ℕ, ◌+◌, ◌-◌, ◌<◌, ◌≤◌, true, false, List, [], get_or, ap, arith, sym, ◌∙◌, is_some, IfSome}
-use Rattle.std.specs.Prelude.{Option, None}
-use Rattle.std.proofs.lemmas.Bool.{le-leb}
-use Rattle.std.proofs.lemmas.List.{same_lists, get_or_default}
-use Rattle.ball_model.specs.PlanValue.{PlanValue}
-use Rattle.ball_model.specs.Job.{Job}
-use Rattle.ball_model.specs.Batches.{BatchValue}
-use Rattle.ball_model.specs.Content.{Content, IsContent, in_window}
-use Rattle.ball_model.specs.State.{State, content_of, early_at, holds_in}
+use Rattle.replica.proofs.Names.{Option, None, le-leb, same_lists, get_or_default, PlanValue, Job, BatchValue, Content, IsContent, in_window, State, content_of, early_at, holds_in}
 use Rattle.ball_model.specs.Steps.{Call, Answer, content_after_all}
 use Rattle.replica.specs.Seen.{IsState}
 use Rattle.replica.specs.Runs.{HasContent, Made}

@@ -1,11 +1,7 @@
 -- What fits a part, one piece after the other.
 use Rattle.std.proofs.Common.{◌≡◌, ℕ, zero, suc, ◌+◌, ◌-◌, ◌<◌, ◌≤◌, Bool, false, List, [], ◌∷◌, length, map, get_or, ap, ◌∙◌, arith}
-use Rattle.std.specs.List.{All}
-use Rattle.std.proofs.lemmas.List.{get_or_default, get_or-map, get_or_past}
+use Rattle.replica.proofs.Names.{All, get_or_default, get_or-map, get_or_past, value_of, BatchValue, PlanValue}
 use Rattle.figures.specs.declared.tally.Tally.{Tally}
-use Rattle.figures.specs.Values.{value_of}
-use Rattle.ball_model.specs.Batches.{BatchValue}
-use Rattle.ball_model.specs.PlanValue.{PlanValue}
 use Rattle.replica.specs.Kept.{AreSources}
 use Rattle.replica.specs.Saved.{IsFigures, MayKeep, order_key}
 

@@ -1,12 +1,6 @@
 -- What a replica shows fits its part.
 use Rattle.std.proofs.Common.{◌≡◌, ℕ, zero, suc, ◌+◌, ◌*◌, ◌^◌, ◌<◌, ◌≤◌, List, [], ◌∷◌, ◌++◌, length, map, get_or, sym, ◌∙◌, subst, arith, IfSome}
-use Rattle.std.specs.Prelude.{Option, Some, None}
-use Rattle.std.specs.List.{All}
-use Rattle.ball_model.specs.Batches.{BatchValue}
-use Rattle.ball_model.specs.Checkpoint.{kept_batches}
-use Rattle.ball_model.specs.Job.{PartValue}
-use Rattle.ball_model.specs.PlanValue.{PlanValue, IsPlan}
-use Rattle.ball_model.specs.State.{State, early_at}
+use Rattle.replica.proofs.Names.{Option, Some, None, All, BatchValue, kept_batches, PartValue, PlanValue, IsPlan, State, early_at}
 use Rattle.replica.specs.Ahead.{batches_in}
 use Rattle.replica.specs.declared.saved.Saved.{Saved}
 use Rattle.replica.specs.Kept.{AreEarly, IsOfName}

@@ -1,13 +1,7 @@
 -- What is kept is told by the batches in their order: a replica is made of what it shows alone.
 use Rattle.std.proofs.Common.{◌≡◌, ℕ, zero, suc, ◌+◌, ◌*◌, ◌<◌, ◌≤◌, List, [], ◌∷◌, ◌++◌, length, get_or, drop, refl, ap, sym, ◌∙◌, subst, arith, IfSome}
-use Rattle.std.specs.Prelude.{Option, Some, None}
-use Rattle.std.proofs.lemmas.List.{same_lists, get_or_default, append-nil}
+use Rattle.replica.proofs.Names.{Option, Some, None, same_lists, get_or_default, append-nil, BatchValue, PartValue, PlanValue, IsPlan, State, kept_batches}
 use Rattle.std.proofs.lemmas.Option.{IfSome_then}
-use Rattle.ball_model.specs.Batches.{BatchValue}
-use Rattle.ball_model.specs.Job.{PartValue}
-use Rattle.ball_model.specs.PlanValue.{PlanValue, IsPlan}
-use Rattle.ball_model.specs.State.{State}
-use Rattle.ball_model.specs.Checkpoint.{kept_batches}
 use Rattle.replica.specs.Ahead.{batches_in, early_batches}
 use Rattle.replica.specs.declared.saved.Saved.{Saved}
 use Rattle.replica.specs.Kept.{AreEarly}

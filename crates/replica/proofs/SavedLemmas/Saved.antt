@@ -1,17 +1,11 @@
 -- Batches put at their places, and read off them again.
 use Rattle.std.proofs.Common.{◌≡◌, ◌≢◌, ℕ, zero, suc, ◌+◌, ◌-◌, ◌*◌, ◌<◌, ◌≤◌, ◌==◌, ◌&&◌, true, List, [], ◌∷◌, ◌++◌, length, map, get_or, set, take, refl, ap, sym, ◌∙◌, subst, arith, inl, inr, ◌⊎◌, if◌then◌else◌, is_some, append_assoc}
-use Rattle.std.specs.Prelude.{Option, Some, None}
-use Rattle.std.proofs.lemmas.Bool.{cases_eq, eq-eqb}
-use Rattle.std.proofs.lemmas.List.{same_lists, get_or_default, get_or-set_same, get_or-set_other, length-set, append-nil, get_or-map, length-map, take_all, take_more}
-use Rattle.ball_model.specs.Batches.{BatchValue, IsBatch}
-use Rattle.ball_model.specs.PlanValue.{PlanValue, IsPlan, most_parts}
-use Rattle.ball_model.specs.State.{State, early_at}
+use Rattle.replica.proofs.Names.{Option, Some, None, cases_eq, eq-eqb, same_lists, get_or_default, get_or-set_same, get_or-set_other, length-set, append-nil, get_or-map, length-map, take_all, take_more, BatchValue, IsBatch, PlanValue, IsPlan, most_parts, State, early_at, PartValue, IsPart}
 use Rattle.replica.specs.Ahead.{IsTable, batches_in, early_batches}
 use Rattle.replica.specs.Kept.{AreEarly, IsOfName}
 use Rattle.replica.specs.declared.saved.Saved.{Saved}
 use Rattle.replica.specs.Saved.{Fits, IsRebuilt, MayKeep, MayBeKept, order_key}
 use Rattle.replica.specs.Seen.{IsState}
-use Rattle.ball_model.specs.Job.{PartValue, IsPart}
 use Rattle.replica.proofs.KeptLemmas.Kept.{three_levels}
 
 -- ---- slots

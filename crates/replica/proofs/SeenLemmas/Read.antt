@@ -1,18 +1,10 @@
 -- What a replica tells of a vertex, where it stands for its content.
 use Rattle.std.proofs.Common.{◌≡◌, ℕ, ◌/◌, ◌%◌, ◌<◌, ◌≤◌, false, [], length, get_or, ap, arith, sym, ◌∙◌}
-use Rattle.std.proofs.lemmas.Grind.{common_steps}
-use Rattle.std.specs.List.{count_by}
+use Rattle.replica.proofs.Names.{common_steps, count_by, length-map, TallyValue, estimate_with, mixing_of, part_size, most_vertices, measure_of, Job, changed_count, State, StandsFor, content_of, heard_changes, marks_of, no_figures}
 use Rattle.ball_model.specs.Counter.{ball_counter}
 use Rattle.ball_model.specs.Change.{changed_at}
-use Rattle.std.proofs.lemmas.List.{length-map}
-use Rattle.ball_model.specs.Figures.{TallyValue, estimate_with}
 use Rattle.ball_model.specs.Supersteps.{tally_at}
-use Rattle.ball_model.specs.PlanValue.{mixing_of, part_size, most_vertices, measure_of}
-use Rattle.ball_model.specs.Job.{Job}
-use Rattle.ball_model.specs.Batches.{changed_count}
 use Rattle.ball_model.specs.Accumulated.{accumulated_of}
-use Rattle.ball_model.specs.State.{State, StandsFor, content_of, heard_changes, marks_of}
-use Rattle.ball_model.specs.Checkpoint.{no_figures}
 use Rattle.replica.specs.Hearing.{accumulated_by, change_by, heard_by}
 use Rattle.replica.specs.Seen.{IsState}
 use Rattle.replica.proofs.IndexLemmas.Own.{vertex_of, place_below, part_size_le, at_own}

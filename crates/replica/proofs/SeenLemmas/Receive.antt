@@ -1,13 +1,8 @@
 -- A replica that receives a batch: one of its superstep is heard, a later one is kept.
 use Rattle.std.proofs.Common.{◌≡◌, ℕ, ◌+◌, ◌-◌, ◌<◌, ◌≤◌, ◌==◌, ◌&&◌, List, refl, ap, sym, ◌∙◌, subst, arith, if◌then◌else◌}
-use Rattle.std.specs.Prelude.{Option, Some, Ok}
-use Rattle.std.specs.Arc.{arc_value}
+use Rattle.replica.proofs.Names.{Option, Some, Ok, arc_value, PlanValue, BatchValue, IsBatch, take_of, State, content_of, early_at}
 use Rattle.ball_model.specs.declared.names.BatchName.{BatchName}
 use Rattle.ball_model.specs.declared.names.Taken.TheVariants as taken
-use Rattle.ball_model.specs.PlanValue.{PlanValue}
-use Rattle.ball_model.specs.Batches.{BatchValue, IsBatch}
-use Rattle.ball_model.specs.Content.{take_of}
-use Rattle.ball_model.specs.State.{State, content_of, early_at}
 use Rattle.replica.specs.declared.Progress.TheInside as progress
 use Rattle.replica.specs.Ahead.{IsTable}
 use Rattle.replica.specs.Change.{Receives}

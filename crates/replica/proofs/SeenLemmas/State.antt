@@ -1,12 +1,6 @@
 -- A state keeps its limits one superstep later, whatever the batches say, and batches can be heard beside it.
 use Rattle.std.proofs.Common.{◌≡◌, ℕ, ◌+◌, ◌^◌, ◌<◌, Bool, true, false, List, length, map, get_or, replicate, ap, arith, sym, ◌∙◌}
-use Rattle.std.proofs.lemmas.Grind.{common_steps}
-use Rattle.std.specs.List.{sum_by}
-use Rattle.std.proofs.lemmas.List.{get_or_default, length-replicate}
-use Rattle.ball_model.specs.PlanValue.{measure_of}
-use Rattle.ball_model.specs.Figures.{TallyValue, Measure, estimate_with}
-use Rattle.ball_model.specs.State.{State}
-use Rattle.ball_model.specs.Table.{Table}
+use Rattle.replica.proofs.Names.{common_steps, sum_by, get_or_default, length-replicate, measure_of, TallyValue, Measure, estimate_with, State, Table}
 use Rattle.replica.specs.Change.{Advances}
 use Rattle.replica.specs.Hearing.{HearingValue, IsQuiet, HearsByIndex}
 use Rattle.replica.specs.Kept.{AllRise, AreSources, AreSums}

@@ -1,11 +1,7 @@
 -- The list of the vertices that changed.
 use Rattle.std.proofs.Common.{◌≡◌, ℕ, zero, suc, ◌+◌, ◌<◌, ◌≤◌, Bool, true, false, List, [], ◌∷◌, ◌++◌, length, length-append, get_or, take, if◌then◌else◌, refl, ap, arith, sym, subst, ◌∙◌, inl, inr}
-use Rattle.std.proofs.lemmas.Bool.{cases_eq}
-use Rattle.std.proofs.lemmas.Grind.{common_steps}
-use Rattle.std.specs.List.{range_with_len, filter}
-use Rattle.std.proofs.lemmas.List.{append-nil, get_or_past}
+use Rattle.replica.proofs.Names.{cases_eq, common_steps, range_with_len, filter, append-nil, get_or_past, State}
 use Rattle.std.proofs.lemmas.List.Elements.{All-get_or, filter_passes}
-use Rattle.ball_model.specs.State.{State}
 use Rattle.ball_model.proofs.PartLemmas.{range_more}
 use Rattle.registers.specs.Marks.{IsNextMarked}
 use Rattle.registers.proofs.MarkLemmas.{at_next}

@@ -1,18 +1,11 @@
 -- What a replica sends is the true batch, where it stands for its content.
 use Rattle.std.proofs.Common.{◌≡◌, ℕ, zero, suc, ◌+◌, ◌*◌, ◌<◌, ◌≤◌, Bool, true, false, ◌&&◌, List, [], ◌∷◌, ◌++◌, length, length-append, map, get_or, take, if◌then◌else◌, refl, ap, arith, sym, subst, ◌∙◌}
-use Rattle.std.proofs.lemmas.Grind.{common_steps}
-use Rattle.std.specs.List.{range_with_len, flat_map, filter, count_by, AllByRecursion}
-use Rattle.std.proofs.lemmas.Bool.{and_left}
-use Rattle.std.proofs.lemmas.List.{append-nil, get_or_default}
+use Rattle.replica.proofs.Names.{common_steps, range_with_len, flat_map, filter, count_by, AllByRecursion, and_left, append-nil, get_or_default, PlanValue, mixing_of, part_size, Job, part_of, feeds_into, feed_mask, BatchValue, IsRow, true_batch, sent_vertices, ids_of, State, StandsFor}
 use Rattle.std.proofs.lemmas.List.Concat.{flat_map-append}
 use Rattle.std.proofs.lemmas.List.Sums.{length-filter}
 use Rattle.ball_model.specs.Counter.{ball_counter}
 use Rattle.ball_model.specs.Change.{changed_at}
-use Rattle.ball_model.specs.PlanValue.{PlanValue, mixing_of, part_size}
-use Rattle.ball_model.specs.Job.{Job, part_of, feeds_into, feed_mask}
-use Rattle.ball_model.specs.Batches.{BatchValue, IsRow, true_batch, sent_vertices, ids_of}
 use Rattle.ball_model.specs.Masks.{has_bit}
-use Rattle.ball_model.specs.State.{State, StandsFor}
 use Rattle.ball_model.proofs.MaskLemmas.{mask-bit}
 use Rattle.ball_model.proofs.PartLemmas.{range_more, vertices_of-strided}
 use Rattle.registers.specs.Marks.{IsNextMarked}

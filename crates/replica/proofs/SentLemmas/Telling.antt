@@ -1,7 +1,6 @@
 -- What is told, from one vertex that changed to the next.
 use Rattle.std.proofs.Common.{◌≡◌, ℕ, ◌+◌, ◌<◌, List, length, get_or, subst, ap, ◌∙◌}
-use Rattle.std.proofs.lemmas.List.{get_or_default}
-use Rattle.ball_model.specs.Batches.{BatchValue}
+use Rattle.replica.proofs.Names.{get_or_default, BatchValue}
 use Rattle.registers.specs.Marks.{IsNextMarked}
 use Rattle.replica.specs.Seen.{IsState}
 use Rattle.replica.specs.Sent.{CanTell, IsTold, IsToldBefore, TellingValue, next_place, sent_batch}

@@ -1,14 +1,10 @@
 -- Rows that are told as places in a table of those that changed.
 use Rattle.std.proofs.Common.{◌≡◌, ℕ, zero, suc, ◌+◌, ◌-◌, ◌*◌, ◌^◌, ◌<◌, ◌≤◌, Bool, true, false, ◌&&◌, List, [], ◌∷◌, ◌++◌, length, length-append, get_or, take, drop, if◌then◌else◌, refl, ap, arith, sym, subst, ◌∙◌}
-use Rattle.std.specs.List.{range_with_len, flat_map, count_by, All, AllPairs, AllByRecursion}
-use Rattle.std.proofs.lemmas.List.{append-nil, take_at, drop_at, map_push}
+use Rattle.replica.proofs.Names.{range_with_len, flat_map, count_by, All, AllPairs, AllByRecursion, append-nil, take_at, drop_at, map_push, IsRow, ids_of, PlanValue, State}
 use Rattle.std.proofs.lemmas.List.Concat.{flat_map-append}
 use Rattle.std.proofs.lemmas.List.Elements.{All-nil, All-push, All-append}
 use Rattle.std.proofs.lemmas.List.Quantifiers.{all_pairs_push}
-use Rattle.ball_model.specs.Batches.{IsRow, ids_of}
 use Rattle.ball_model.specs.Masks.{has_bit}
-use Rattle.ball_model.specs.PlanValue.{PlanValue}
-use Rattle.ball_model.specs.State.{State}
 use Rattle.ball_model.proofs.PartLemmas.{range_more}
 use Rattle.batches.specs.Kept.{rows_at}
 use Rattle.registers.specs.Marks.{IsNextMarked}

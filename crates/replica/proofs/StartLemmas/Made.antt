@@ -1,12 +1,6 @@
 -- A replica that is made: at superstep 0, of what a checkpoint tells, or as a copy.
 use Rattle.std.proofs.Common.{◌≡◌, ℕ, ◌+◌, ◌^◌, ◌≤◌, Bool, List, length, map, refl, ap, sym, ◌∙◌, subst, arith}
-use Rattle.std.specs.Prelude.{None}
-use Rattle.std.specs.Arc.{arc_value}
-use Rattle.ball_model.specs.Checkpoint.{kept_batches}
-use Rattle.ball_model.specs.Job.{IsPart, PartValue}
-use Rattle.ball_model.specs.State.{State, early_at}
-use Rattle.ball_model.specs.Table.{Table}
-use Rattle.figures.specs.Values.{value_of}
+use Rattle.replica.proofs.Names.{None, arc_value, kept_batches, IsPart, PartValue, State, early_at, Table, value_of}
 use Rattle.replica.specs.declared.Progress.TheInside as progress
 use Rattle.replica.specs.declared.saved.Saved.{Saved}
 use Rattle.replica.specs.Ahead.{IsTable}

@@ -1,25 +1,15 @@
 -- What a replica begins with.
 use Rattle.std.proofs.Common.{◌≡◌, ℕ, ◌+◌, ◌*◌, ◌^◌, ◌<◌, ◌≤◌, Bool, true, false, is_some, List, [], ◌∷◌, length, map, get_or, replicate, refl, ap, arith, sym, ◌∙◌, inl, inr, ◌-◌}
-use Rattle.std.proofs.lemmas.Grind.{common_steps}
-use Rattle.std.specs.Prelude.{Result, IfOk}
-use Rattle.std.specs.List.{sum_by}
-use Rattle.std.proofs.lemmas.Bool.{cases_eq, cases_lt}
-use Rattle.std.proofs.lemmas.List.{length-map, same_lists}
-use Rattle.std.proofs.lemmas.List.FromFn.{length-map-range_with_len, get_or-map-range_with_len}
+use Rattle.replica.proofs.Names.{common_steps, Result, IfOk, sum_by, cases_eq, cases_lt, length-map, same_lists, length-map-range_with_len, get_or-map-range_with_len, TallyValue, Measure, estimate_with, harmonic_of, distance_of, PlanValue, IsPlan, mixing_of, part_size, measure_of, Job, IsJob, PartValue, IsPart, part_of, State, StandsFor, content_of, holds_in, own_vertices, rows_of, marks_of, tallies_of, sums_of, value_of}
 use Rattle.ball_model.specs.Hash.{hash_of, index_of, rank_of}
 use Rattle.ball_model.specs.Graph.{is_counted}
 use Rattle.ball_model.specs.Counter.{ball_counter}
-use Rattle.ball_model.specs.Figures.{TallyValue, Measure, estimate_with, harmonic_of, distance_of}
 use Rattle.ball_model.specs.Supersteps.{estimate_at, tally_at}
 use Rattle.ball_model.specs.Laws.{IsCounterRow}
-use Rattle.ball_model.specs.PlanValue.{PlanValue, IsPlan, mixing_of, part_size, measure_of}
-use Rattle.ball_model.specs.Job.{Job, IsJob, PartValue, IsPart, part_of}
-use Rattle.ball_model.specs.State.{State, StandsFor, content_of, holds_in, own_vertices, rows_of, marks_of, tallies_of, sums_of}
 use Rattle.ball_model.proofs.RankLemmas.{rank_le, ball_counter-zero, ball_counter-uncounted}
 use Rattle.ball_model.proofs.StartLemmas.{index_small, changed_where_counted}
 use Rattle.registers.specs.Raised.{row_after_raise}
 use Rattle.figures.specs.declared.tally.Tally.{Tally}
-use Rattle.figures.specs.Values.{value_of}
 use Rattle.replica.specs.Level.{total_of}
 use Rattle.replica.specs.Kept.{AreCounters}
 use Rattle.replica.specs.Start.{alone, first_row, first_rows_of_part, first_tally, Starts}

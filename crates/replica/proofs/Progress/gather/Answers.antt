@@ -1,6 +1,5 @@
 use Rattle.std.proofs.Common.{◌<◌, ap, ◌∙◌, arith}
-use Rattle.ball_model.specs.Job.{PartValue}
-use Rattle.ball_model.specs.State.{State}
+use Rattle.replica.proofs.Names.{PartValue, State}
 use Rattle.replica.specs.declared.Progress.TheInside as progress
 use Rattle.replica.proofs.MergedLemmas.Absorb.{Absorbed, Merging, gathered, hear_from_other, merging, own_index}
 use Rattle.replica.proofs.TablesLemmas.{tables_alike}

@@ -1,8 +1,5 @@
 use Rattle.std.proofs.Common.{◌≡◌, refl, ap, sym, ◌∙◌, subst}
-use Rattle.std.proofs.lemmas.Bool.{eqb-true, eq-eqb}
-use Rattle.ball_model.specs.Job.{PartValue}
-use Rattle.ball_model.specs.Content.{same_plan}
-use Rattle.ball_model.specs.State.{State}
+use Rattle.replica.proofs.Names.{eqb-true, eq-eqb, PartValue, same_plan, State}
 use Rattle.replica.specs.Seen.{IsState}
 use Rattle.replica.proofs.HearingLemmas.Accumulator.{state_is}
 use Rattle.replica.proofs.KeptLemmas.Take.{same_plan_one}

@@ -1,6 +1,5 @@
 use Rattle.std.proofs.Common.{◌<◌, ap, ◌∙◌, arith}
-use Rattle.ball_model.specs.Job.{PartValue}
-use Rattle.ball_model.specs.State.{State}
+use Rattle.replica.proofs.Names.{PartValue, State}
 use Rattle.replica.specs.declared.Progress.TheInside as progress
 use Rattle.replica.specs.Hearing.{Fills}
 use Rattle.replica.proofs.MergedLemmas.Absorb.{Absorbed, Merging, can_hear_beside, merging, overtaken, own_index}

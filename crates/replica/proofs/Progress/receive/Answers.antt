@@ -1,7 +1,5 @@
 use Rattle.std.proofs.Common.{◌≡◌, ap, sym, ◌∙◌, subst, arith, inl}
-use Rattle.std.specs.Arc.{arc_value}
-use Rattle.ball_model.specs.Batches.{BatchValue, IsBatch}
-use Rattle.ball_model.specs.State.{State}
+use Rattle.replica.proofs.Names.{arc_value, BatchValue, IsBatch, State}
 use Rattle.replica.specs.Hearing.{HearsByIndex}
 use Rattle.replica.specs.Progress.{CanGoOn, ProgressValue}
 use Rattle.replica.specs.Seen.{HasIndex, state_of}

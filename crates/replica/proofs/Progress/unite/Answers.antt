@@ -1,6 +1,5 @@
 use Rattle.std.proofs.Common.{◌≡◌, ap, sym, ◌∙◌}
-use Rattle.ball_model.specs.State.{State}
-use Rattle.ball_model.specs.Table.{Table}
+use Rattle.replica.proofs.Names.{State, Table}
 use Rattle.replica.specs.declared.Progress.TheInside as progress
 use Rattle.replica.specs.Seen.{state_of}
 use Rattle.replica.proofs.MergedLemmas.Absorb.{Absorbed, Merging, merging, united}

@@ -1,6 +1,5 @@
 use Rattle.std.proofs.Common.{◌≡◌, ◌≤◌, take, map, length}
-use Rattle.std.specs.Vec.{vec_len, vec_capacity}
-use Rattle.figures.specs.Values.{weight_of}
+use Rattle.replica.proofs.Names.{vec_len, vec_capacity, weight_of}
 use Rattle.replica.proofs.Progress.weigh_again.Given as goal
 
 abbrev pub invariant-loop-i : goal.invariant-loop-i

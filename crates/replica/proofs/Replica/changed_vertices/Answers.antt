@@ -1,8 +1,6 @@
 use Rattle.std.proofs.Common.{◌≡◌, ◌+◌, ◌++◌, ◌∷◌, [], ℕ, Bool, false, true, List, length, get_or, take, ap, sym, subst, ◌∙◌, arith}
-use Rattle.std.specs.List.{count_by, filter}
-use Rattle.std.proofs.lemmas.List.{take_all}
+use Rattle.replica.proofs.Names.{count_by, filter, take_all, State}
 use Rattle.std.proofs.lemmas.List.Sums.{length-filter, count_by-le-length}
-use Rattle.ball_model.specs.State.{State}
 use Rattle.registers.specs.Marks.{IsNextMarked}
 use Rattle.replica.specs.Seen.{IsState, state_of}
 use Rattle.replica.specs.Sent.{changed_first}

@@ -1,7 +1,6 @@
 use Rattle.std.proofs.Common.{◌≡◌, ◌+◌, ◌-◌, false, arith, ap, ◌∙◌, subst}
 use Rattle.std.proofs.lemmas.Bool.Decides.{nat_tests}
-use Rattle.std.specs.Prelude.{OnOk, OnErr}
-use Rattle.ball_model.specs.State.{State}
+use Rattle.replica.proofs.Names.{OnOk, OnErr, State}
 use Rattle.replica.specs.Change.{Advances}
 use Rattle.replica.specs.Level.{close_answer}
 use Rattle.replica.specs.Seen.{IsState}

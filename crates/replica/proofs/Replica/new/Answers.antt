@@ -1,6 +1,5 @@
 use Rattle.std.proofs.Common.{sym, subst}
-use Rattle.std.specs.Arc.{arc_value}
-use Rattle.ball_model.specs.State.{State}
+use Rattle.replica.proofs.Names.{arc_value, State}
 use Rattle.replica.specs.Start.{Starts}
 use Rattle.replica.proofs.StartLemmas.Start.{if_made, starts_stands}
 use Rattle.replica.proofs.Replica.new.Goals as goal

@@ -1,5 +1,5 @@
 use Rattle.std.proofs.Common.{◌≡◌, ◌∙◌, arith}
-use Rattle.std.specs.List.{count_by}
+use Rattle.replica.proofs.Names.{count_by}
 use Rattle.replica.proofs.SentLemmas.Sent.{sent_first, sent_true}
 use Rattle.replica.proofs.Replica.out.Goals as goal
 

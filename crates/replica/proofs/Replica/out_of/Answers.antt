@@ -1,9 +1,7 @@
 use Rattle.std.proofs.Common.{◌≡◌, ◌^◌, length, ap, sym, subst, ◌∙◌, arith}
-use Rattle.std.specs.Arc.{arc_value}
+use Rattle.replica.proofs.Names.{arc_value, BatchValue, IsBatch, State}
 use Rattle.std.proofs.lemmas.List.Sums.{length-filter, count_by-le-length}
 use Rattle.batches.specs.Kept.{rows_at}
-use Rattle.ball_model.specs.Batches.{BatchValue, IsBatch}
-use Rattle.ball_model.specs.State.{State}
 use Rattle.replica.specs.Sent.{ChangedValue, IsTold, batch_name, changed_registers, sent_batch}
 use Rattle.replica.proofs.SentLemmas.Sent.{count_take, sent_short, sent_true}
 use Rattle.replica.proofs.SentLemmas.Told.{sent_are_rows, sent_rise, told_batch}

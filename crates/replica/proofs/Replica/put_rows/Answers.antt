@@ -1,7 +1,5 @@
 use Rattle.std.proofs.Common.{◌≡◌, ◌+◌, ◌<◌, ◌++◌, ℕ, [], List, get_or, length, ap, sym, subst, ◌∙◌, arith}
-use Rattle.std.proofs.lemmas.List.{get_or_default}
-use Rattle.ball_model.specs.State.{State}
-use Rattle.ball_model.specs.Table.{Table}
+use Rattle.replica.proofs.Names.{get_or_default, State, Table}
 use Rattle.replica.specs.Seen.{IsState, state_of}
 use Rattle.replica.specs.Sent.{changed_row, changed_rows}
 use Rattle.replica.proofs.HearingLemmas.Accumulator.{state_is}

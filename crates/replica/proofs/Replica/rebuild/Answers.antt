@@ -1,5 +1,5 @@
 use Rattle.std.proofs.Common.{◌∙◌}
-use Rattle.std.specs.Arc.{arc_value}
+use Rattle.replica.proofs.Names.{arc_value}
 use Rattle.replica.proofs.SavedLemmas.Rebuilt.{rebuilt_same}
 use Rattle.replica.proofs.StartLemmas.Start.{if_made}
 use Rattle.replica.proofs.Replica.rebuild.Goals as goal

@@ -1,8 +1,6 @@
 use Rattle.std.proofs.Common.{◌≡◌, subst, rules}
-use Rattle.std.specs.Arc.{arc_value}
+use Rattle.replica.proofs.Names.{arc_value, take_of, State, content_of}
 use Rattle.ball_model.specs.declared.names.Taken.TheVariants as taken
-use Rattle.ball_model.specs.Content.{take_of}
-use Rattle.ball_model.specs.State.{State, content_of}
 use Rattle.replica.specs.Change.{Receives}
 use Rattle.replica.proofs.RunsLemmas.Call.{takes}
 use Rattle.replica.proofs.Replica.take.Goals as goal

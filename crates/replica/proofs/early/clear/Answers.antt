@@ -1,7 +1,5 @@
 use Rattle.std.proofs.Common.{length, arith, ◌∙◌}
-use Rattle.std.specs.Prelude.{None}
-use Rattle.std.specs.Arc.{arc_value}
-use Rattle.std.proofs.lemmas.List.{get_or_default}
+use Rattle.replica.proofs.Names.{None, arc_value, get_or_default}
 use Rattle.replica.proofs.AheadLemmas.{all_none}
 use Rattle.replica.proofs.early.clear.Goals as goal
 

@@ -1,5 +1,5 @@
 use Rattle.std.proofs.Common.{◌≡◌, ℕ, ◌<◌, slice_index_or, length}
-use Rattle.std.specs.Prelude.{None}
+use Rattle.replica.proofs.Names.{None}
 use Rattle.replica.proofs.early.clear.Given as goal
 
 abbrev pub invariant-loop-i : goal.invariant-loop-i

@@ -1,7 +1,5 @@
 use Rattle.std.proofs.Common.{◌≡◌, ◌≤◌, map, option_map, replicate}
-use Rattle.std.specs.Prelude.{None}
-use Rattle.std.specs.Arc.{arc_value}
-use Rattle.std.specs.Vec.{vec_len, vec_capacity}
+use Rattle.replica.proofs.Names.{None, arc_value, vec_len, vec_capacity}
 use Rattle.replica.proofs.early.empty_slots.Given as goal
 
 abbrev pub invariant-loop : goal.invariant-loop

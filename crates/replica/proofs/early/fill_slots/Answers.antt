@@ -1,8 +1,5 @@
 use Rattle.std.proofs.Common.{◌≡◌, ℕ, ◌<◌, List, length, map, option_map, get_or, refl, sym, ◌∙◌, arith}
-use Rattle.std.specs.Prelude.{Option, None}
-use Rattle.std.specs.Arc.{arc_value}
-use Rattle.std.proofs.lemmas.List.{length-map, map-set, get_or-map}
-use Rattle.ball_model.specs.Batches.{BatchValue}
+use Rattle.replica.proofs.Names.{Option, None, arc_value, length-map, map-set, get_or-map, BatchValue}
 use Rattle.replica.specs.Ahead.{either, union_of_slots}
 use Rattle.replica.proofs.LevelLemmas.Step.{step_done, step_rest, list_is}
 use Rattle.replica.proofs.early.fill_slots.Goals as goal

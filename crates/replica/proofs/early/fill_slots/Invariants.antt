@@ -1,6 +1,5 @@
 use Rattle.std.proofs.Common.{◌≡◌, ℕ, ◌<◌, ◌≤◌, slice_index_or, option_map, map}
-use Rattle.std.specs.Prelude.{None}
-use Rattle.std.specs.Arc.{arc_value}
+use Rattle.replica.proofs.Names.{None, arc_value}
 use Rattle.replica.specs.Ahead.{either}
 use Rattle.replica.proofs.early.fill_slots.Given as goal
 

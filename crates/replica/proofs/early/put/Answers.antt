@@ -1,7 +1,5 @@
-use Rattle.std.proofs.lemmas.List.{map-set}
+use Rattle.replica.proofs.Names.{map-set, Some, arc_value}
 use Rattle.std.proofs.Common.{option_map}
-use Rattle.std.specs.Prelude.{Some}
-use Rattle.std.specs.Arc.{arc_value}
 use Rattle.replica.proofs.early.put.Goals as goal
 
 pub returns : goal.returns

@@ -1,6 +1,5 @@
 use Rattle.std.proofs.Common.{◌≡◌, ◌≤◌, take, map, option_map, length}
-use Rattle.std.specs.Arc.{arc_value}
-use Rattle.std.specs.Vec.{vec_len, vec_capacity}
+use Rattle.replica.proofs.Names.{arc_value, vec_len, vec_capacity}
 use Rattle.replica.proofs.early.share_slots.Given as goal
 
 abbrev pub invariant-loop-slot : goal.invariant-loop-slot

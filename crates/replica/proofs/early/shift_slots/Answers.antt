@@ -1,7 +1,5 @@
 use Rattle.std.proofs.Common.{◌≡◌, length, take, map, replicate, option_map, arith, ◌∙◌, length-take, ap}
-use Rattle.std.specs.Prelude.{None}
-use Rattle.std.specs.Arc.{arc_value}
-use Rattle.std.proofs.lemmas.List.{take_at, drop_at, map-append, drop-map}
+use Rattle.replica.proofs.Names.{None, arc_value, take_at, drop_at, map-append, drop-map}
 use Rattle.replica.proofs.early.shift_slots.Goals as goal
 
 pub returns : goal.returns

@@ -1,7 +1,5 @@
 use Rattle.std.proofs.Common.{◌≡◌, ℕ, nat_lt, Bool, false, List, length, inl, inr, sym, ◌∙◌, arith}
-use Rattle.std.specs.List.{list_any}
-use Rattle.std.proofs.lemmas.Bool.{cases_lt, le-ltb, lt-ltb}
-use Rattle.std.proofs.lemmas.List.{get_or_default}
+use Rattle.replica.proofs.Names.{list_any, cases_lt, le-ltb, lt-ltb, get_or_default}
 use Rattle.std.proofs.lemmas.List.Folds.{list_any_at, list_any_none}
 use Rattle.registers.specs.Marks.{IsNextMarked}
 use Rattle.replica.proofs.level.any_marked.Goals as goal

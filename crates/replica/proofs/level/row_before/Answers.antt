@@ -1,5 +1,5 @@
 use Rattle.std.proofs.Common.{◌≡◌, [], length, slice_index_or, refl, sym, ap, subst, ◌<◌, ◌∙◌}
-use Rattle.ball_model.specs.Table.{Table}
+use Rattle.replica.proofs.Names.{Table}
 use Rattle.replica.specs.Tables.{rows_before}
 use Rattle.replica.proofs.level.row_before.Goals as goal
 

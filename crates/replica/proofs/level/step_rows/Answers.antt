@@ -1,6 +1,5 @@
 use Rattle.std.proofs.Common.{◌≡◌, map, sym, subst}
-use Rattle.ball_model.specs.Table.{Table}
-use Rattle.figures.specs.Values.{value_of}
+use Rattle.replica.proofs.Names.{Table, value_of}
 use Rattle.registers.specs.Relay.{IsRelay}
 use Rattle.replica.specs.Tables.{CanBeStepped, rows_before}
 use Rattle.replica.proofs.LevelLemmas.Before.{before_is, may_be_left}

@@ -1,5 +1,5 @@
 use Rattle.std.proofs.Common.{◌≡◌, ◌≤◌, ◌*◌, ◌^◌, take}
-use Rattle.std.specs.List.{sum_by}
+use Rattle.replica.proofs.Names.{sum_by}
 use Rattle.replica.proofs.level.sum_of_lasts.Given as goal
 
 abbrev pub invariant-loop-tally : goal.invariant-loop-tally

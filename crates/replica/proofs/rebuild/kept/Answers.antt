@@ -1,8 +1,5 @@
 use Rattle.std.proofs.Common.{◌≡◌, ◌<◌, ◌≤◌, length, map, rules, ap, ◌∙◌, subst, arith}
-use Rattle.std.specs.Arc.{arc_value}
-use Rattle.std.proofs.lemmas.List.{length-map}
-use Rattle.ball_model.specs.Batches.{BatchValue}
-use Rattle.ball_model.specs.PlanValue.{PlanValue, IsPlan}
+use Rattle.replica.proofs.Names.{arc_value, length-map, BatchValue, PlanValue, IsPlan}
 use Rattle.ball_model.specs.declared.names.BatchName.{BatchName}
 use Rattle.replica.specs.Ahead.{IsTable}
 use Rattle.replica.specs.Saved.{MayKeep}

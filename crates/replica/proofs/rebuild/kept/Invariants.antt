@@ -1,5 +1,5 @@
 use Rattle.std.proofs.Common.{map}
-use Rattle.std.specs.Arc.{arc_value}
+use Rattle.replica.proofs.Names.{arc_value}
 use Rattle.replica.proofs.SavedLemmas.Saved.{Filled}
 use Rattle.replica.proofs.rebuild.kept.Given as goal
 

@@ -1,11 +1,5 @@
 use Rattle.std.proofs.Common.{◌≡◌, ◌+◌, ◌≤◌, Bool, length, map, refl, ap, sym, ◌∙◌, subst, arith}
-use Rattle.std.specs.Arc.{arc_value}
-use Rattle.std.specs.Vec.{vec_capacity}
-use Rattle.ball_model.specs.Job.{PartValue, IsPart}
-use Rattle.ball_model.specs.PlanValue.{PlanValue, measure_of}
-use Rattle.ball_model.specs.Figures.{TallyValue, estimate_with}
-use Rattle.figures.specs.Values.{value_of}
-use Rattle.std.proofs.lemmas.List.{length-map}
+use Rattle.replica.proofs.Names.{arc_value, vec_capacity, PartValue, IsPart, PlanValue, measure_of, TallyValue, estimate_with, value_of, length-map}
 use Rattle.replica.specs.declared.Progress.TheInside as progress
 use Rattle.replica.specs.Saved.{KeepsInPlace}
 use Rattle.replica.proofs.LevelLemmas.Level.{length-differing}

@@ -1,6 +1,5 @@
 use Rattle.std.proofs.Common.{◌≡◌, ◌∙◌, ap, sym, arith, length, not}
-use Rattle.std.proofs.lemmas.Bool.{not-true}
-use Rattle.ball_model.specs.PlanValue.{PlanValue}
+use Rattle.replica.proofs.Names.{not-true, PlanValue}
 use Rattle.registers.proofs.FlagLemmas.{length-flags_of}
 use Rattle.replica.proofs.SavedLemmas.Fits.{sources_are}
 use Rattle.replica.proofs.saved.are_sources.Goals as goal

@@ -1,8 +1,5 @@
 use Rattle.std.proofs.Common.{◌≡◌, ◌+◌, ◌*◌, ◌≤◌, ◌<◌, length, map, ap, sym, ◌∙◌, subst, arith}
-use Rattle.std.specs.Arc.{arc_value}
-use Rattle.std.proofs.lemmas.Bool.{iff_false}
-use Rattle.std.proofs.lemmas.List.{length-map}
-use Rattle.ball_model.specs.Batches.{BatchValue}
+use Rattle.replica.proofs.Names.{arc_value, iff_false, length-map, BatchValue}
 use Rattle.ball_model.specs.declared.names.BatchName.{BatchName}
 use Rattle.replica.specs.Saved.{MayKeep, order_key}
 use Rattle.replica.proofs.SavedLemmas.Fits.{key_is, kept_more}

@@ -1,5 +1,5 @@
 use Rattle.std.proofs.Common.{map}
-use Rattle.std.specs.Arc.{arc_value}
+use Rattle.replica.proofs.Names.{arc_value}
 use Rattle.replica.proofs.SavedLemmas.Fits.{KeptSoFar}
 use Rattle.replica.proofs.saved.may_be_kept.Given as goal
 

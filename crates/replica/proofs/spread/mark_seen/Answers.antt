@@ -1,5 +1,5 @@
 use Rattle.std.proofs.Common.{◌≡◌, ◌<◌, length, get_or, arith}
-use Rattle.std.proofs.lemmas.List.{get_or-set_same, get_or-set_other}
+use Rattle.replica.proofs.Names.{get_or-set_same, get_or-set_other}
 use Rattle.replica.proofs.SpreadLemmas.{seen_rises}
 use Rattle.replica.proofs.spread.mark_seen.Goals as goal
 

@@ -1,7 +1,5 @@
 use Rattle.std.proofs.Common.{◌≡◌, ◌+◌, ◌<◌, ℕ, List, [], length, get_or, take, ap, arith, ◌∙◌}
-use Rattle.std.proofs.lemmas.List.{get_or-map, take_more, take_all}
-use Rattle.ball_model.specs.Table.{Table}
-use Rattle.ball_model.specs.Batches.{BatchValue}
+use Rattle.replica.proofs.Names.{get_or-map, take_more, take_all, Table, BatchValue}
 use Rattle.replica.specs.Spread.{raised_by}
 use Rattle.replica.proofs.HeardLemmas.{spread-batch, spread_each-none, spread_each-more}
 use Rattle.replica.proofs.spread.spread_batch.Goals as goal

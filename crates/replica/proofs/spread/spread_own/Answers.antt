@@ -1,5 +1,5 @@
 use Rattle.std.proofs.Common.{◌≡◌, ◌+◌, ◌*◌, ◌<◌, ℕ, List, [], length, get_or, ap, arith, ◌∙◌}
-use Rattle.ball_model.specs.Table.{Table}
+use Rattle.replica.proofs.Names.{Table}
 use Rattle.replica.specs.Spread.{marked_rows, raised_by}
 use Rattle.replica.proofs.HeardLemmas.{own_stands, spread_each-none, spread_each-more, marked-none, marked-yes, marked-over}
 use Rattle.replica.proofs.spread.spread_own.Goals as goal

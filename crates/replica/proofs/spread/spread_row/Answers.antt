@@ -1,8 +1,7 @@
 use Rattle.std.proofs.Common.{◌≡◌, false, ◌<◌, ◌++◌, ℕ, List, [], length, get_or, refl, ap, arith, rules, sym, ◌∙◌}
-use Rattle.std.proofs.lemmas.List.{nil_from_length, get_or_past}
+use Rattle.replica.proofs.Names.{nil_from_length, get_or_past, Table}
 use Rattle.std.proofs.lemmas.List.Folds.{list_any-append}
 use Rattle.std.specs.Slice.Iter.{chunks_rest}
-use Rattle.ball_model.specs.Table.{Table}
 use Rattle.registers.proofs.TableLemmas.{same_table}
 use Rattle.replica.specs.Heard.{MarksChanges}
 use Rattle.replica.specs.Spread.{raised_at, rows_after, touched_at}

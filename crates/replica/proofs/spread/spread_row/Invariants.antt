@@ -1,5 +1,5 @@
 use Rattle.std.proofs.Common.{◌≡◌, ℕ, ◌<◌, [], length, slice_index_or}
-use Rattle.std.specs.List.{All}
+use Rattle.replica.proofs.Names.{All}
 use Rattle.std.specs.Slice.Iter.{chunks_rest}
 use Rattle.replica.specs.Spread.{rows_after, touched_at}
 use Rattle.replica.proofs.spread.spread_row.Given as goal

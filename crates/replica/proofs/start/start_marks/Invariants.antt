@@ -1,5 +1,5 @@
 use Rattle.std.proofs.Common.{◌≡◌, ◌≤◌, take, length}
-use Rattle.std.specs.Vec.{vec_len, vec_capacity}
+use Rattle.replica.proofs.Names.{vec_len, vec_capacity}
 use Rattle.replica.proofs.start.start_marks.Given as goal
 
 abbrev pub invariant-loop-i : goal.invariant-loop-i

@@ -1,6 +1,5 @@
 use Rattle.std.proofs.Common.{◌≡◌, ℕ, ◌+◌, ◌*◌, List, [], true, false, get_or, set, refl, ap, sym, ◌∙◌}
-use Rattle.std.proofs.lemmas.List.{set-get_or}
-use Rattle.ball_model.specs.PlanValue.{PlanValue}
+use Rattle.replica.proofs.Names.{set-get_or, PlanValue}
 use Rattle.ball_model.specs.Hash.{hash_of, index_of, rank_of}
 use Rattle.replica.specs.Start.{first_row}
 use Rattle.replica.proofs.StartLemmas.Start.{alone_is, first-counted, first-uncounted}

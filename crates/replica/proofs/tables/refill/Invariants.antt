@@ -1,5 +1,5 @@
 use Rattle.std.proofs.Common.{◌≡◌, take}
-use Rattle.std.specs.Vec.{vec_len, vec_capacity}
+use Rattle.replica.proofs.Names.{vec_len, vec_capacity}
 use Rattle.replica.proofs.tables.refill.Given as goal
 
 abbrev pub invariant-loop-sum : goal.invariant-loop-sum

@@ -1,5 +1,5 @@
 use Rattle.std.proofs.Common.{◌≡◌, ℕ, ◌<◌, ◌≤◌, slice_index_or, length, false}
-use Rattle.std.specs.Prelude.{◌||◌}
+use Rattle.replica.proofs.Names.{◌||◌}
 use Rattle.replica.proofs.tallies.add_marks.Given as goal
 
 abbrev pub invariant-loop-i : goal.invariant-loop-i

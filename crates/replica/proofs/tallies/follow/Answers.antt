@@ -1,9 +1,6 @@
 use Rattle.std.proofs.Common.{◌≡◌, ℕ, ◌+◌, ◌<◌, ◌≤◌, Bool, List, length, map, get_or, ap, sym, ◌∙◌, arith}
-use Rattle.std.proofs.lemmas.List.{length-map, length-set, map-set, get_or-map, get_or_default, same_lists}
-use Rattle.ball_model.specs.Figures.{TallyValue}
-use Rattle.ball_model.specs.Checkpoint.{no_figures}
+use Rattle.replica.proofs.Names.{length-map, length-set, map-set, get_or-map, get_or_default, same_lists, TallyValue, no_figures, value_of}
 use Rattle.figures.specs.declared.tally.Tally.{Tally}
-use Rattle.figures.specs.Values.{value_of}
 use Rattle.registers.specs.Marks.{IsNextMarked}
 use Rattle.registers.proofs.MarkLemmas.{passed}
 use Rattle.replica.specs.Tallies.{DifferAt}

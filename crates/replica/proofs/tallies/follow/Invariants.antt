@@ -1,6 +1,5 @@
 use Rattle.std.proofs.Common.{◌≡◌, ℕ, ◌-◌, ◌<◌, ◌≤◌, slice_index_or, length, map}
-use Rattle.ball_model.specs.Checkpoint.{no_figures}
-use Rattle.figures.specs.Values.{value_of}
+use Rattle.replica.proofs.Names.{no_figures, value_of}
 use Rattle.replica.proofs.tallies.follow.Given as goal
 
 abbrev pub invariant-loop-i : goal.invariant-loop-i

@@ -1,7 +1,5 @@
 use Rattle.std.proofs.Common.{◌≡◌, ap, refl, sym, ◌∙◌, subst, List, length, map, arith}
-use Rattle.std.specs.Arc.{arc_value}
-use Rattle.ball_model.specs.Figures.{TallyValue}
-use Rattle.figures.specs.Values.{value_of}
+use Rattle.replica.proofs.Names.{arc_value, TallyValue, value_of}
 use Rattle.replica.specs.Tallies.{AreRelayed, shown_tallies}
 use Rattle.replica.proofs.tallies.go_on.Goals as goal
 use Rattle.replica.proofs.tallies.go_on.Goals.{After-as_slice}

@@ -1,12 +1,9 @@
 use Rattle.std.proofs.Common.{length, ap, sym, ◌∙◌}
-use Rattle.std.specs.Arc.{arc_value}
-use Rattle.std.specs.List.{flat_map}
+use Rattle.replica.proofs.Names.{arc_value, flat_map, length-map, BatchValue}
 use Rattle.std.specs.Option.{option_to_list}
 use Rattle.std.proofs.lemmas.Iterator.{YieldsList-from_slice}
 use Rattle.std.proofs.lemmas.Iterator.Consumers.{count_from_yields_List, YieldsList-at}
 use Rattle.std.proofs.lemmas.Iterator.Adapters.{YieldsList-from_flatten}
-use Rattle.std.proofs.lemmas.List.{length-map}
-use Rattle.ball_model.specs.Batches.{BatchValue}
 use Rattle.replica.specs.Ahead.{early_batches}
 use Rattle.replica.proofs.KeptLemmas.Kept.{kept_one_by_one}
 use Rattle.replica.proofs.OptionLemmas.{YieldsList-from_option}

@@ -1,5 +1,5 @@
 use Rattle.std.proofs.Common.{arith, map, option_map, subst}
-use Rattle.std.specs.Arc.{arc_value}
+use Rattle.replica.proofs.Names.{arc_value}
 use Rattle.replica.specs.Ahead.{table_of, IsTable}
 use Rattle.replica.proofs.AheadLemmas.{early_in, out_level, out_source, is_table}
 use Rattle.edgelist.proofs.RangeLemmas.{copies-at}

@@ -1,8 +1,5 @@
 use Rattle.std.proofs.Common.{◌≡◌, length, map, option_map, arith}
-use Rattle.std.specs.Arc.{arc_value}
-use Rattle.std.specs.Vec.{with_items}
-use Rattle.std.proofs.lemmas.List.{with_items_is, length-map}
-use Rattle.ball_model.specs.Batches.{BatchValue}
+use Rattle.replica.proofs.Names.{arc_value, with_items, with_items_is, length-map, BatchValue}
 use Rattle.replica.proofs.AheadLemmas.{early_in, filled_at, out_level, out_source, same_parts, stays_table}
 use Rattle.replica.proofs.early.Early.fill.Goals as goal
 

@@ -1,9 +1,5 @@
 use Rattle.std.proofs.Common.{◌≡◌, ◌+◌, ◌*◌, ◌<◌, length, option_map, map, ap, sym, ◌∙◌, arith}
-use Rattle.std.specs.Prelude.{Some, None}
-use Rattle.std.specs.Arc.{arc_value}
-use Rattle.std.proofs.lemmas.List.{get_or-map}
-use Rattle.ball_model.specs.Batches.{BatchValue}
-use Rattle.ball_model.specs.State.{early_at}
+use Rattle.replica.proofs.Names.{Some, None, arc_value, get_or-map, BatchValue, early_at}
 use Rattle.replica.proofs.AheadLemmas.{early_in, out_level, out_source, place_fits}
 use Rattle.replica.proofs.early.Early.get.Goals as goal
 use Rattle.replica.proofs.early.Early.get.Goals.{After-index, then-level-ge-LEVELS-via-then-level-ge-LEVELS, then-level-ge-LEVELS-via-else-level-ge-LEVELS+then-self-source}

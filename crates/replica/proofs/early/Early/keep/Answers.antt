@@ -1,9 +1,5 @@
 use Rattle.std.proofs.Common.{◌≡◌, ◌*◌, ◌<◌, List, length, map, option_map, ◌∙◌, subst, arith}
-use Rattle.std.specs.Prelude.{Option}
-use Rattle.std.specs.Arc.{arc_value}
-use Rattle.std.specs.Vec.{with_items}
-use Rattle.std.proofs.lemmas.List.{with_items_is, length-map}
-use Rattle.ball_model.specs.Batches.{BatchValue}
+use Rattle.replica.proofs.Names.{Option, arc_value, with_items, with_items_is, length-map, BatchValue}
 use Rattle.replica.specs.Ahead.{IsTable}
 use Rattle.replica.proofs.AheadLemmas.{early_in, kept_one, out_level, out_source, stays_table, is_table, place_fits}
 use Rattle.replica.proofs.early.Early.keep.Goals as goal

@@ -1,12 +1,9 @@
 use Rattle.std.proofs.Common.{◌≡◌, option_map, ap, ◌∙◌}
-use Rattle.std.specs.Prelude.{Some}
-use Rattle.std.specs.Arc.{arc_value}
-use Rattle.std.specs.List.{slice_get, flat_map}
+use Rattle.replica.proofs.Names.{Some, arc_value, slice_get, flat_map, BatchValue}
 use Rattle.std.specs.Option.{option_to_list}
 use Rattle.std.proofs.lemmas.Iterator.{YieldsList-from_slice}
 use Rattle.std.proofs.lemmas.Iterator.Consumers.{nth_from_yields_List, YieldsList-at}
 use Rattle.std.proofs.lemmas.Iterator.Adapters.{YieldsList-from_flatten}
-use Rattle.ball_model.specs.Batches.{BatchValue}
 use Rattle.replica.specs.Ahead.{early_batches}
 use Rattle.replica.proofs.KeptLemmas.Kept.{nth_one_by_one}
 use Rattle.replica.proofs.OptionLemmas.{YieldsList-from_option}

@@ -1,9 +1,6 @@
 use Rattle.std.proofs.Common.{◌≡◌, ◌*◌, length, map, option_map, ◌∙◌, arith}
-use Rattle.std.specs.Arc.{arc_value}
-use Rattle.std.specs.Vec.{with_items}
+use Rattle.replica.proofs.Names.{arc_value, with_items, with_items_is, length-map, get_or_past, BatchValue}
 use Rattle.std.proofs.Math.Nat.{mul-le-mul_right}
-use Rattle.std.proofs.lemmas.List.{with_items_is, length-map, get_or_past}
-use Rattle.ball_model.specs.Batches.{BatchValue}
 use Rattle.replica.proofs.AheadLemmas.{early_in, out_level, out_source, shifted_at, stays_table}
 use Rattle.replica.proofs.early.Early.shift.Goals as goal
 

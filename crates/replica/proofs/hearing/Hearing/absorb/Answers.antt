@@ -1,7 +1,5 @@
 use Rattle.std.proofs.Common.{◌≡◌, Bool, length, refl, ap, sym, ◌∙◌}
-use Rattle.std.specs.Prelude.{Result, Ok, Err, IsOk, OnOk}
-use Rattle.std.proofs.lemmas.List.{with_items_is}
-use Rattle.ball_model.specs.Table.{Table}
+use Rattle.replica.proofs.Names.{Result, Ok, Err, IsOk, OnOk, with_items_is, Table}
 use Rattle.registers.specs.Joined.{maximum_of_rows}
 use Rattle.replica.specs.Hearing.{HearingValue}
 use Rattle.replica.proofs.MergedLemmas.Merge.{length-maxima}

@@ -1,7 +1,5 @@
 use Rattle.std.proofs.Common.{◌≡◌, arith, Bool, List, length, ap, sym, ◌∙◌, subst}
-use Rattle.std.specs.Vec.{with_items}
-use Rattle.std.proofs.lemmas.List.{with_items_is}
-use Rattle.ball_model.specs.Table.{Table}
+use Rattle.replica.proofs.Names.{with_items, with_items_is, Table}
 use Rattle.replica.specs.Hearing.{HearingValue, accumulators_of}
 use Rattle.replica.specs.Spread.{AreTouched}
 use Rattle.replica.proofs.HearingLemmas.Hearing.{accumulators_are, marked_from}

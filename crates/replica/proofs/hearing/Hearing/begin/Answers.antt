@@ -1,6 +1,5 @@
 use Rattle.std.proofs.Common.{◌≡◌, Bool, List, length, refl, ap, sym, ◌∙◌, subst}
-use Rattle.std.specs.Vec.{with_items}
-use Rattle.std.proofs.lemmas.List.{with_items_is}
+use Rattle.replica.proofs.Names.{with_items, with_items_is}
 use Rattle.replica.specs.Hearing.{HearingValue}
 use Rattle.replica.specs.Spread.{AreTouched}
 use Rattle.replica.proofs.LevelLemmas.Level.{none_touched}

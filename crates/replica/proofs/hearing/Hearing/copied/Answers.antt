@@ -1,6 +1,5 @@
 use Rattle.std.proofs.Common.{◌≡◌, ℕ, Bool, List, [], false, rules, ap, sym, ◌∙◌}
-use Rattle.std.specs.List.{list_any}
-use Rattle.ball_model.specs.Table.{Table}
+use Rattle.replica.proofs.Names.{list_any, Table}
 use Rattle.replica.specs.Hearing.{HearingValue}
 use Rattle.replica.proofs.HearingLemmas.Hearing.{bare_same}
 use Rattle.replica.proofs.hearing.Hearing.copied.Goals as goal

@@ -1,9 +1,5 @@
 use Rattle.std.proofs.Common.{◌≡◌, ℕ, ◌+◌, ◌≤◌, List, option_map, refl, ap, sym, ◌∙◌, arith, inl, inr, subst}
-use Rattle.std.specs.Prelude.{Option, None, Some}
-use Rattle.std.proofs.lemmas.Bool.{cases_lt, le-ltb, lt-ltb}
-use Rattle.ball_model.specs.Batches.{BatchValue}
-use Rattle.ball_model.specs.PlanValue.{PlanValue}
-use Rattle.ball_model.specs.State.{early_at}
+use Rattle.replica.proofs.Names.{Option, None, Some, cases_lt, le-ltb, lt-ltb, BatchValue, PlanValue, early_at}
 use Rattle.replica.specs.Hearing.{HearingValue, HearsAlso, HearsByIndex, batch_by}
 use Rattle.replica.specs.Kept.{IsFrom}
 use Rattle.replica.proofs.HearingLemmas.Hear.{batches_below}

@@ -1,4 +1,4 @@
-use Rattle.ball_model.specs.State.{early_at}
+use Rattle.replica.proofs.Names.{early_at}
 use Rattle.replica.specs.Hearing.{HearsAlso}
 use Rattle.replica.proofs.HearingLemmas.Hear.{batches_below}
 use Rattle.replica.proofs.hearing.Hearing.hear_early.Given as goal

@@ -1,7 +1,5 @@
 use Rattle.std.proofs.Common.{◌≡◌, ◌≤◌, Bool, List, length, ap, sym, ◌∙◌, arith, subst}
-use Rattle.std.specs.Vec.{with_items}
-use Rattle.std.proofs.lemmas.List.{with_items_is}
-use Rattle.ball_model.specs.Table.{Table}
+use Rattle.replica.proofs.Names.{with_items, with_items_is, Table}
 use Rattle.replica.specs.Heard.{OwnIsHeard}
 use Rattle.replica.specs.Hearing.{HearingValue, KeepsAll}
 use Rattle.replica.specs.Kept.{AllRise}

@@ -1,5 +1,5 @@
 use Rattle.std.proofs.Common.{◌≡◌, Bool, List, [], false, ap, sym, ◌∙◌}
-use Rattle.std.specs.List.{list_any}
+use Rattle.replica.proofs.Names.{list_any}
 use Rattle.replica.specs.Hearing.{HearingValue}
 use Rattle.replica.proofs.HearingLemmas.Hearing.{bare_same}
 use Rattle.replica.proofs.hearing.Hearing.let_go.Goals as goal

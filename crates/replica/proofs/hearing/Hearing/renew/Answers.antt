@@ -1,5 +1,5 @@
 use Rattle.std.proofs.Common.{◌≡◌, length, ap, sym, ◌∙◌, inl, subst}
-use Rattle.ball_model.specs.Table.{Table}
+use Rattle.replica.proofs.Names.{Table}
 use Rattle.replica.specs.Hearing.{HearingValue, IsQuiet}
 use Rattle.replica.proofs.HearingLemmas.Hearing.{none_kept, all_kept}
 use Rattle.replica.proofs.hearing.Hearing.renew.Goals as goal

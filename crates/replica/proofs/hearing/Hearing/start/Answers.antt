@@ -1,6 +1,5 @@
 use Rattle.std.proofs.Common.{◌≡◌, Bool, List, false, replicate, rules, refl, sym, ◌∙◌, subst}
-use Rattle.std.proofs.lemmas.List.{length-replicate}
-use Rattle.ball_model.specs.Table.{Table}
+use Rattle.replica.proofs.Names.{length-replicate, Table}
 use Rattle.replica.specs.Spread.{AreTouched}
 use Rattle.edgelist.proofs.RangeLemmas.{copies-at}
 use Rattle.replica.proofs.LevelLemmas.Level.{none_touched}

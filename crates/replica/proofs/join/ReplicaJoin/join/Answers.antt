@@ -1,8 +1,7 @@
 use Rattle.std.proofs.Common.{◌≡◌, ap, sym, ◌∙◌, subst}
-use Rattle.std.specs.Prelude.{OnOk}
+use Rattle.replica.proofs.Names.{OnOk, State}
 use Rattle.ball_model.specs.History.{holding_in}
 use Rattle.ball_model.specs.Join.{join_of}
-use Rattle.ball_model.specs.State.{State}
 use Rattle.replica.proofs.MergedLemmas.Holding.{joined_if}
 use Rattle.replica.proofs.join.ReplicaJoin.join.Goals as goal
 

@@ -1,9 +1,6 @@
 use Rattle.std.proofs.Common.{◌≡◌, List, map, ap, ap₂, sym, ◌∙◌, subst}
-use Rattle.std.specs.List.{sum_by}
-use Rattle.figures.specs.Values.{value_of}
+use Rattle.replica.proofs.Names.{sum_by, value_of, TallyValue, Measure, estimate_with, PlanValue, measure_of}
 use Rattle.figures.specs.declared.tally.Tally.{Tally}
-use Rattle.ball_model.specs.Figures.{TallyValue, Measure, estimate_with}
-use Rattle.ball_model.specs.PlanValue.{PlanValue, measure_of}
 use Rattle.replica.specs.Kept.{AreSums}
 use Rattle.replica.proofs.SavedLemmas.Fits.{figures_kept}
 use Rattle.replica.proofs.LevelLemmas.Next.{map_lasts, sum_same}

@@ -1,5 +1,5 @@
 use Rattle.std.proofs.Common.{length, ap, arith, subst}
-use Rattle.ball_model.specs.State.{State}
+use Rattle.replica.proofs.Names.{State}
 use Rattle.replica.specs.Seen.{IsState}
 use Rattle.replica.proofs.HearingLemmas.Accumulator.{state_is}
 use Rattle.replica.proofs.SeenLemmas.Read.{few}

@@ -1,6 +1,5 @@
 use Rattle.std.proofs.Common.{ap, ◌∙◌, subst}
-use Rattle.std.specs.List.{slice_get}
-use Rattle.ball_model.specs.State.{State}
+use Rattle.replica.proofs.Names.{slice_get, State}
 use Rattle.replica.specs.Ahead.{early_batches}
 use Rattle.replica.specs.Seen.{IsState}
 use Rattle.replica.proofs.HearingLemmas.Accumulator.{state_is}

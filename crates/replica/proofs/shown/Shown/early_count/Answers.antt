@@ -1,7 +1,5 @@
 use Rattle.std.proofs.Common.{length, ap, sym, ◌∙◌, arith, subst}
-use Rattle.std.proofs.lemmas.List.{length-map}
-use Rattle.ball_model.specs.Batches.{BatchValue}
-use Rattle.ball_model.specs.State.{State}
+use Rattle.replica.proofs.Names.{length-map, BatchValue, State}
 use Rattle.replica.specs.Ahead.{early_batches}
 use Rattle.replica.specs.Seen.{IsState}
 use Rattle.replica.proofs.HearingLemmas.Accumulator.{state_is}

@@ -1,6 +1,5 @@
 use Rattle.std.proofs.Common.{◌≡◌, ap, ◌∙◌}
-use Rattle.ball_model.specs.PlanValue.{PlanValue}
-use Rattle.ball_model.specs.State.{State}
+use Rattle.replica.proofs.Names.{PlanValue, State}
 use Rattle.replica.proofs.ChangeLemmas.Advance.{missing_is}
 use Rattle.replica.proofs.shown.Shown.missing.Goals as goal
 

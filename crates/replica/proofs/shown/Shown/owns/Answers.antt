@@ -1,8 +1,5 @@
 use Rattle.std.proofs.Common.{◌≡◌, ◌<◌, ◌≤◌, ◌%◌, ◌==◌, ◌&&◌, ℕ, false, ap, sym, ◌∙◌, arith}
-use Rattle.std.specs.List.{list_any}
-use Rattle.std.proofs.lemmas.Bool.{lt-ltb, le-ltb}
-use Rattle.ball_model.specs.PlanValue.{PlanValue, vertices_of}
-use Rattle.ball_model.specs.State.{State}
+use Rattle.replica.proofs.Names.{list_any, lt-ltb, le-ltb, PlanValue, vertices_of, State}
 use Rattle.replica.proofs.IndexLemmas.Own.{owns_is}
 use Rattle.replica.proofs.shown.Shown.owns.Goals as goal
 

@@ -1,8 +1,5 @@
 use Rattle.std.proofs.Common.{◌≡◌, ◌/◌, get_or, ◌∙◌, subst, arith}
-use Rattle.std.proofs.lemmas.Grind.{common_steps}
-use Rattle.ball_model.specs.State.{State}
-use Rattle.ball_model.specs.Checkpoint.{no_figures}
-use Rattle.figures.specs.Values.{value_of}
+use Rattle.replica.proofs.Names.{common_steps, State, no_figures, value_of}
 use Rattle.replica.specs.Seen.{IsState}
 use Rattle.replica.proofs.SeenLemmas.Read.{tally_stands}
 use Rattle.replica.proofs.shown.Shown.tally.Goals as goal

@@ -1,6 +1,5 @@
 use Rattle.std.proofs.Common.{◌≡◌, ◌∙◌, rules}
-use Rattle.std.specs.Prelude.{None, Some}
-use Rattle.ball_model.specs.State.{State}
+use Rattle.replica.proofs.Names.{None, Some, State}
 use Rattle.replica.specs.Level.{found_verdict}
 use Rattle.replica.proofs.LevelLemmas.Busy.{found_verdict-is}
 use Rattle.replica.proofs.shown.Shown.verdict.Goals as goal

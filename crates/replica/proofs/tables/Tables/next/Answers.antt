@@ -1,9 +1,5 @@
 use Rattle.std.proofs.Common.{◌≡◌, ◌+◌, Bool, ◌∷◌, ◌++◌, [], length, refl, ap, sym, ◌∙◌, arith, subst}
-use Rattle.std.specs.List.{sum_by}
-use Rattle.std.specs.Vec.{with_items}
-use Rattle.std.proofs.lemmas.List.{with_items_is, length-map}
-use Rattle.ball_model.specs.Figures.{TallyValue}
-use Rattle.ball_model.specs.Table.{Table}
+use Rattle.replica.proofs.Names.{sum_by, with_items, with_items_is, length-map, TallyValue, Table}
 use Rattle.replica.specs.Level.{next_tallies, total_of, weights_of}
 use Rattle.replica.specs.Seen.{tables_of}
 use Rattle.replica.specs.Tables.{CanStep, NextTables, TablesValue}

@@ -1,7 +1,5 @@
 use Rattle.std.proofs.Common.{◌≡◌, refl, ap, sym, ◌∙◌, arith}
-use Rattle.std.specs.List.{sum_by}
-use Rattle.ball_model.specs.PlanValue.{PlanValue}
-use Rattle.ball_model.specs.Table.{Table}
+use Rattle.replica.proofs.Names.{sum_by, PlanValue, Table}
 use Rattle.figures.specs.declared.tally.Tally.{Tally}
 use Rattle.replica.specs.Level.{total_of}
 use Rattle.replica.proofs.StartLemmas.Start.{first_counters, length-first_rows, started_total}

@@ -1,8 +1,5 @@
 use Rattle.std.proofs.Common.{◌≡◌, rules, ap, ◌∙◌, None, Some, length, map, arith}
-use Rattle.std.specs.Arc.{arc_value}
-use Rattle.std.proofs.lemmas.List.{length-map}
-use Rattle.ball_model.specs.Figures.{TallyValue}
-use Rattle.figures.specs.Values.{value_of}
+use Rattle.replica.proofs.Names.{arc_value, length-map, TallyValue, value_of}
 use Rattle.replica.specs.Tallies.{shown_tallies}
 use Rattle.replica.proofs.tallies.Tallies.assign.Goals as goal
 

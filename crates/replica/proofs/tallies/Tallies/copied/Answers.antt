@@ -1,6 +1,5 @@
 use Rattle.std.proofs.Common.{◌≡◌, map, ◌∙◌}
-use Rattle.std.specs.Arc.{arc_value}
-use Rattle.figures.specs.Values.{value_of}
+use Rattle.replica.proofs.Names.{arc_value, value_of}
 use Rattle.replica.specs.Tallies.{shown_tallies}
 use Rattle.replica.proofs.tallies.Tallies.copied.Goals as goal
 

@@ -1,5 +1,5 @@
 use Rattle.std.proofs.Common.{◌≡◌, map, ap, ◌∙◌}
-use Rattle.figures.specs.Values.{value_of}
+use Rattle.replica.proofs.Names.{value_of}
 use Rattle.replica.specs.Tallies.{shown_tallies}
 use Rattle.replica.proofs.tallies.Tallies.get.Goals as goal
 

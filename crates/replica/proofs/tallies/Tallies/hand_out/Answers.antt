@@ -1,6 +1,5 @@
 use Rattle.std.proofs.Common.{◌≡◌, map, ap, ◌∙◌, rules, None}
-use Rattle.std.specs.Arc.{arc_value}
-use Rattle.figures.specs.Values.{value_of}
+use Rattle.replica.proofs.Names.{arc_value, value_of}
 use Rattle.replica.specs.Tallies.{AreRelayed, shown_tallies}
 use Rattle.replica.proofs.tallies.Tallies.hand_out.Goals as goal
 

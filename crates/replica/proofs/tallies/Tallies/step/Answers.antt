@@ -1,9 +1,5 @@
 use Rattle.std.proofs.Common.{◌≡◌, arith, rules, ap, sym, subst, ◌∙◌, List, None, length, map}
-use Rattle.std.specs.Vec.{with_items}
-use Rattle.std.proofs.lemmas.List.{with_items_is}
-use Rattle.std.proofs.lemmas.List.FromFn.{get_or-map-range_with_len}
-use Rattle.ball_model.specs.Figures.{TallyValue}
-use Rattle.figures.specs.Values.{value_of}
+use Rattle.replica.proofs.Names.{with_items, with_items_is, get_or-map-range_with_len, TallyValue, value_of}
 use Rattle.replica.specs.Level.{next_tallies}
 use Rattle.replica.specs.Tallies.{DifferAt, shown_tallies}
 use Rattle.replica.proofs.TalliesLemmas.{length-next_tallies}

@@ -1,5 +1,5 @@
 use Rattle.std.proofs.Common.{◌<◌, length, ap, ◌∙◌, arith}
-use Rattle.ball_model.specs.Job.{PartValue}
+use Rattle.replica.proofs.Names.{PartValue}
 use Rattle.replica.specs.Progress.{ProgressValue}
 use Rattle.replica.specs.Sent.{TellingValue}
 use Rattle.replica.proofs.SentLemmas.Changed.{changed_at}

@@ -1,7 +1,6 @@
 use Rattle.std.proofs.Common.{◌≡◌, ◌+◌, ◌*◌, [], List, ℕ, ◌&&◌, false, get_or, ap, sym, ◌∙◌, arith}
-use Rattle.ball_model.specs.Job.{PartValue}
+use Rattle.replica.proofs.Names.{PartValue, Table}
 use Rattle.ball_model.specs.Masks.{has_bit}
-use Rattle.ball_model.specs.Table.{Table}
 use Rattle.replica.specs.Progress.{ProgressValue}
 use Rattle.replica.specs.Sent.{TellingValue}
 use Rattle.replica.proofs.SentLemmas.Sent.{sent_above, sent_fits, sent_no, sent_room, sent_yes}

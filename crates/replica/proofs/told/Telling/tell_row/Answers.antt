@@ -1,5 +1,5 @@
 use Rattle.std.proofs.Common.{◌≡◌, ◌+◌, ◌*◌, get_or, ap, sym, ◌∙◌, arith}
-use Rattle.ball_model.specs.Job.{PartValue}
+use Rattle.replica.proofs.Names.{PartValue}
 use Rattle.replica.specs.Progress.{ProgressValue}
 use Rattle.replica.specs.Sent.{TellingValue}
 use Rattle.replica.proofs.SentLemmas.Told.{counted, sent_same, told_fed, told_few}
