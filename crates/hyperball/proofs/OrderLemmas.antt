@@ -190,10 +190,6 @@ pub record ReadSoFar (pieces : List (Bor (List ℕ))) (os : List (NodeId × ℕ)
   pub spelled : map (λ piece. piece.now) pieces ≡ map order_text os
   pub fit : AllByRecursion IsOrder os
 
-fit-more : (os : List (NodeId × ℕ)) (o : NodeId × ℕ) → AllByRecursion IsOrder os → IsOrder o → AllByRecursion IsOrder (os ++ o ∷ [])
-fit-more [] o fit more = (more, tt)
-fit-more (x ∷ os) o fit more = (fit.0, fit-more os o fit.1 more)
-
 some-pieces : (text : List ℕ) (os : List (NodeId × ℕ)) → slice_split (λ b. b == 44) text ≡ map order_text os → os ≢ []
 some-pieces text os pieces none =
     let count = length-slice_split (λ b. b == 44) text in

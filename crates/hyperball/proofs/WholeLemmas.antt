@@ -15,13 +15,6 @@ pub record HasRead (old new : Option (List ℕ)) (bytes : List ℕ) : Type 0 whe
   pub consumed : Consumes old new bytes
   pub few : length bytes ≤ MOST_BYTES
 
--- a piece more
-pub read_more : (a b c : Option (List ℕ)) (before piece after : List ℕ) → HasRead a b before → Consumes b c piece → after ≡ before ++ piece → length after ≤ MOST_BYTES → HasRead a c after
-read_more a b c before piece after h read is few = record {
-  consumed = rw is (Consumes-trans a b c before piece h.consumed read);
-  few = few;
-}
-
 -- a piece that was not kept
 pub read_lost : (a b c : Option (List ℕ)) (before : List ℕ) (room most : ℕ) → HasRead a b before → TakesAtMost room b c → length before + room ≤ most → TakesAtMost most a c
 read_lost a b c before room most h lost fits = record {

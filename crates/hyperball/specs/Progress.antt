@@ -40,6 +40,11 @@ pub record TellsProgress (old new : Option (List ℕ)) : Type 0 where
   pub lines : List Told
   pub appended : Appends old new (flat_map line_of lines)
 
+-- as it was asked for: where it was not, what stood there is kept, and else lines of progress alone are appended
+pub record TellsAsAsked (unasked : Type 0) (old new : Option (List ℕ)) : Type 0 where
+  pub silent : unasked → Keeps old new
+  pub told : TellsProgress old new
+
 -- a text begins so, and has one LF, at its end
 pub record IsLineBehind (mark text : List ℕ) : Type 0 where
   pub rest : List ℕ

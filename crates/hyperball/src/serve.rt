@@ -11,7 +11,7 @@ ghost use Rattle.hyperball.specs.Streams.{AppendsSome, KeptOrFailed};
 ghost use Rattle.edgelist.specs.declared.read.EdgeError.TheVariants as edge_fault;
 ghost use Rattle.hyperball.specs.Whole.{ReadsFew};
 ghost use Rattle.hyperball.specs.Options.{options_of, settings_in};
-ghost use Rattle.hyperball.specs.Progress.{Awaits, TellsProgress};
+ghost use Rattle.hyperball.specs.Progress.{Awaits, TellsAsAsked, TellsProgress};
 ghost use Rattle.hyperball.specs.Refusals.{IsFault, ReadsEdges, ReadsListed};
 ghost use Rattle.hyperball.specs.Replaying.{BeginsSome, BeginsToServe, IsReplay, SaysRun};
 ghost use Rattle.hyperball.specs.Replaying.{ServesReplay};
@@ -377,10 +377,8 @@ fn serve_run<
         ReadsFew (R.remaining reader.old) (R.remaining reader.new) }
     ensures kept { result ≡ 1 →
         KeptOrFailed W.contents W.failed_calls writer.old writer.new }
-    ensures silent { result ≡ 0 → said.progress ≡ false →
-        Keeps (F.contents faults.old) (F.contents faults.new) }
-    ensures told { result ≡ 0 →
-        TellsProgress (F.contents faults.old) (F.contents faults.new) }
+    ensures told { result ≡ 0 → TellsAsAsked (said.progress ≡ false)
+        (F.contents faults.old) (F.contents faults.new) }
 {
     let teller = teller_for(said.progress, faults);
     let answer = run(rt, said, &teller, reader, writer);
@@ -405,10 +403,8 @@ fn serve_replay<H: AllocGlobal + RandomSource, R: CountedRead, W: CountedWrite, 
     ensures few { ReadsFew (R.remaining reader.old) (R.remaining reader.new) }
     ensures begun { result ≡ 1 → BeginsToServe words.now (R.remaining reader.old)
         W.contents W.failed_calls writer.old writer.new }
-    ensures silent { result ≡ 0 → words.now.progress ≡ false →
-        Keeps (F.contents faults.old) (F.contents faults.new) }
-    ensures told { result ≡ 0 →
-        TellsProgress (F.contents faults.old) (F.contents faults.new) }
+    ensures told { result ≡ 0 → TellsAsAsked (words.now.progress ≡ false)
+        (F.contents faults.old) (F.contents faults.new) }
 {
     let teller = teller_for(words.progress, faults);
     let answer = replay_by(rt, words, &teller, reader, writer);
@@ -435,10 +431,8 @@ fn serve_node<H: AllocGlobal + RandomSource, R: CountedRead, W: CountedWrite, F:
     // It is done only where no call failed.
     ensures read { result ≡ 0 → R.failed_calls reader.new ≡ R.failed_calls reader.old }
     ensures written { result ≡ 0 → W.failed_calls writer.new ≡ W.failed_calls writer.old }
-    ensures silent { result ≡ 0 → words.now.progress ≡ false →
-        Keeps (F.contents faults.old) (F.contents faults.new) }
-    ensures told { result ≡ 0 →
-        TellsProgress (F.contents faults.old) (F.contents faults.new) }
+    ensures told { result ≡ 0 → TellsAsAsked (words.now.progress ≡ false)
+        (F.contents faults.old) (F.contents faults.new) }
 {
     let teller = teller_for(words.progress, faults);
     let answer = node_by(rt, words, &teller, reader, writer);
@@ -468,10 +462,8 @@ fn serve_gather<
         (job_settings_of words.now.options) words.now.options.counted
         (R.remaining reader.old) (R.remaining reader.new)
         (W.contents writer.old) (W.contents writer.new) }
-    ensures silent { result ≡ 0 → words.now.progress ≡ false →
-        Keeps (F.contents faults.old) (F.contents faults.new) }
-    ensures told { result ≡ 0 →
-        TellsProgress (F.contents faults.old) (F.contents faults.new) }
+    ensures told { result ≡ 0 → TellsAsAsked (words.now.progress ≡ false)
+        (F.contents faults.old) (F.contents faults.new) }
 {
     let teller = teller_for(words.progress, faults);
     let answer = gather_by(rt, words, &teller, reader, writer);
@@ -523,10 +515,8 @@ fn serve_wish<
         (job_settings_of w.options) w.options.counted
         (R.remaining reader.old) (R.remaining reader.new)
         (W.contents writer.old) (W.contents writer.new) }
-    ensures silent { result ≡ 0 → SaysProgress false wish →
-        Keeps (F.contents faults.old) (F.contents faults.new) }
-    ensures told { result ≡ 0 →
-        TellsProgress (F.contents faults.old) (F.contents faults.new) }
+    ensures told { result ≡ 0 → TellsAsAsked (SaysProgress false wish)
+        (F.contents faults.old) (F.contents faults.new) }
 {
     match wish {
         Wish::Run(said) => serve_run(rt, said, reader, writer, faults),

@@ -75,10 +75,10 @@ returns-in-Ok-clause-one_kept g c = λ one. each_wish c.in-Ok.wish
     (λ w is. inr (inr (inr (c.in-Ok.ensures.asks_gather w (ap Ok is)))))
 
 pub returns-in-Ok-clause-silent : goal.returns-in-Ok-clause-silent
-returns-in-Ok-clause-silent g c = λ zero quiet. c.serve_wish.ensures.silent zero (c.in-Ok.ensures.progress _ quiet)
+returns-in-Ok-clause-silent g c = λ zero quiet. (c.serve_wish.ensures.told zero).silent (c.in-Ok.ensures.progress _ quiet)
 
 pub returns-in-Ok-clause-told : goal.returns-in-Ok-clause-told
-returns-in-Ok-clause-told g c = λ zero. c.serve_wish.ensures.told zero
+returns-in-Ok-clause-told g c = λ zero. (c.serve_wish.ensures.told zero).told
 
 pub returns-in-Err-clause-told : goal.returns-in-Err-clause-told
 returns-in-Err-clause-told g c = λ zero.

@@ -30,8 +30,7 @@ returns-in-Run g c = record {
   gather_read = λ w is zero. absurd (run_no_gather _ _ w c.in-Run.is is);
   gather_written = λ w is zero. absurd (run_no_gather _ _ w c.in-Run.is is);
   gather_begun = λ w is one. absurd (run_no_gather _ _ w c.in-Run.is is);
-  silent = λ zero quiet. c.serve_run.ensures.silent zero (run_tells _ _ _ c.in-Run.is quiet);
-  told = λ zero. c.serve_run.ensures.told zero;
+  told = λ zero. record { silent = λ quiet. (c.serve_run.ensures.told zero).silent (run_tells _ _ _ c.in-Run.is quiet); told = (c.serve_run.ensures.told zero).told };
 }
 
 pub returns-in-Replay : goal.returns-in-Replay
@@ -50,8 +49,7 @@ returns-in-Replay g c = record {
   gather_read = λ w is zero. absurd (replay_no_gather _ _ w c.in-Replay.is is);
   gather_written = λ w is zero. absurd (replay_no_gather _ _ w c.in-Replay.is is);
   gather_begun = λ w is one. absurd (replay_no_gather _ _ w c.in-Replay.is is);
-  silent = λ zero quiet. c.serve_replay.ensures.silent zero (replay_tells _ _ _ c.in-Replay.is quiet);
-  told = λ zero. c.serve_replay.ensures.told zero;
+  told = λ zero. record { silent = λ quiet. (c.serve_replay.ensures.told zero).silent (replay_tells _ _ _ c.in-Replay.is quiet); told = (c.serve_replay.ensures.told zero).told };
 }
 
 pub returns-in-Node : goal.returns-in-Node
@@ -70,8 +68,7 @@ returns-in-Node g c = record {
   gather_read = λ w is zero. absurd (node_no_gather _ _ w c.in-Node.is is);
   gather_written = λ w is zero. absurd (node_no_gather _ _ w c.in-Node.is is);
   gather_begun = λ w is one. absurd (node_no_gather _ _ w c.in-Node.is is);
-  silent = λ zero quiet. c.serve_node.ensures.silent zero (node_tells _ _ _ c.in-Node.is quiet);
-  told = λ zero. c.serve_node.ensures.told zero;
+  told = λ zero. record { silent = λ quiet. (c.serve_node.ensures.told zero).silent (node_tells _ _ _ c.in-Node.is quiet); told = (c.serve_node.ensures.told zero).told };
 }
 
 pub returns-in-Gather : goal.returns-in-Gather
@@ -90,6 +87,5 @@ returns-in-Gather g c = record {
   gather_read = λ w is zero. c.serve_gather.ensures.read zero;
   gather_written = λ w is zero. c.serve_gather.ensures.written zero;
   gather_begun = λ w is one. subst (λ (v : GatherWords). WritesFrontOfJob (job_settings_of v.options) v.options.counted (g.R.Read.remaining c.args.reader.now) (g.R.Read.remaining c.serve_gather.new.reader) (g.W.Write.contents c.args.writer.now) (g.W.Write.contents c.serve_gather.new.writer)) (same_gather _ _ w c.in-Gather.is is) (c.serve_gather.ensures.begun one);
-  silent = λ zero quiet. c.serve_gather.ensures.silent zero (gather_tells _ _ _ c.in-Gather.is quiet);
-  told = λ zero. c.serve_gather.ensures.told zero;
+  told = λ zero. record { silent = λ quiet. (c.serve_gather.ensures.told zero).silent (gather_tells _ _ _ c.in-Gather.is quiet); told = (c.serve_gather.ensures.told zero).told };
 }
