@@ -95,6 +95,11 @@ pub record IsQuiet (rows : Table) (a : HearingValue) : Type 0 where
   pub accumulated : a.accumulated ≡ rows
   pub kept : KeepsAll rows.rows a
 
+-- where what a has accumulated has become the rows, b begins the next superstep, with these marks of what this has changed
+pub record BeginsSuperstep (a b : HearingValue) (marks : List Bool) : Type 0 where
+  pub quiet : IsQuiet a.accumulated b
+  pub touched : marks ≡ a.touched
+
 -- what a says beside these rows, with an accumulator of each
 pub record Fills (rows : Table) (a b : HearingValue) : Type 0 where
   pub heard : b.heard ≡ a.heard

@@ -78,12 +78,20 @@ pub record CanStepRow (m : Measure) (t : ℕ) (old new : List ℕ) (own last : �
   pub weight : own ≡ weight_of old
   pub grown : last ≤ estimate_with m new
 
--- figures and weights are those at superstep t of the rows ahead, and the last estimates have gained so much in all
+-- they can be stepped, row by row, as the rows go on to those ahead, from which they differ where they are marked
+pub record CanStepMarked (m : Measure) (t : ℕ) (rows : Table) (before : Option Marked) (new : Table)
+    (marks : List Bool) (own : List ℕ) (tallies : List TallyValue) : Type 0 where
+  pub differ : DifferWhere marks rows new
+  pub can : CanBeStepped m t (rows_before rows before) new marks own tallies
+
+-- figures and weights are those at superstep t of the rows ahead, the last estimates have gained so much in all, and the
+-- rows have become those ahead
 pub record AreStepped (m : Measure) (t : ℕ) (new : Table) (before after : List TallyValue)
-    (own : List ℕ) (gained : ℕ) : Type 0 where
+    (own : List ℕ) (gained : ℕ) (shown : Table) : Type 0 where
   pub tallies : after ≡ next_tallies m t new.rows before (length new.rows)
   pub weights : own ≡ weights_of new.rows
   pub gain : sum_by (λ tally. tally.last) after ≡ sum_by (λ tally. tally.last) before + gained
+  pub rows : shown ≡ new
 
 -- the figures and the weight of a row are those at superstep t of the row ahead, and its estimate has gained so much
 pub record IsStepped (m : Measure) (t : ℕ) (new : List ℕ) (before after : TallyValue)

@@ -3,7 +3,7 @@
 ghost use Rattle.std.specs.Prelude.{◌≡◌, ℕ, ◌||◌, List, length};
 ghost use Rattle.std.specs.Prelude.{Some, IfOk, OnOk, OnErr};
 ghost use Rattle.registers.specs.Joined.{maximum_of_rows, union_of_flags};
-ghost use Rattle.replica.specs.Hearing.{CanFill, CanHear, CanJoin};
+ghost use Rattle.replica.specs.Hearing.{BeginsSuperstep, CanFill, CanHear, CanJoin};
 ghost use Rattle.replica.specs.Hearing.{CanRenew, Renews, Fills, HearsAlso, HearsEarly, IsQuiet};
 ghost use Rattle.replica.specs.Hearing.{HearsByIndex, KeepsAllOrNone, SaysSame};
 ghost use Rattle.replica.specs.Hearing.{accumulators_of, batch_by};
@@ -181,8 +181,7 @@ impl Hearing {
     /// and nothing is heard yet.
     pub fn begin(&mut self, marks: &mut [bool])
         requires { length marks.old ≡ length self.old.accumulated.rows }
-        ensures quiet { IsQuiet self.old.accumulated self.new }
-        ensures touched { marks.new ≡ self.old.touched }
+        ensures { BeginsSuperstep self.old self.new marks.new }
     {
         marks.copy_from_slice(&self.touched);
         level::clear_marks(&mut self.touched);

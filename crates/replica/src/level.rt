@@ -4,10 +4,9 @@ ghost use Rattle.std.specs.Prelude.{◌≡◌, ℕ, ◌≤◌, ◌<◌, false, [
 ghost use Rattle.std.specs.Prelude.{length, slice_index_or, map, count_by};
 ghost use Rattle.std.specs.List.{sum_by, list_any};
 ghost use Rattle.figures.specs.Values.{value_of};
-ghost use Rattle.registers.specs.Relay.{DifferWhere};
 ghost use Rattle.replica.specs.Level.{differences};
-ghost use Rattle.replica.specs.Tables.{AreStepped, CanBeStepped, CanStepRow, IsStepped};
-ghost use Rattle.replica.specs.Tables.{rows_before};
+ghost use Rattle.replica.specs.Tables.{AreStepped, CanBeStepped, CanStepMarked, CanStepRow};
+ghost use Rattle.replica.specs.Tables.{IsStepped, rows_before};
 
 use figures::{Estimator, Tally, moved_weight};
 use registers::{Behind, Relay, Rows, next_marked};
@@ -46,9 +45,8 @@ pub fn step_rows(
 ) -> u128
     requires { CanBeStepped estimator.now t rows.old ahead.now marks.now weights.old
         (map value_of tallies.old) }
-    ensures rows { rows.new ≡ ahead.now }
-    ensures figures { AreStepped estimator.now t ahead.now (map value_of tallies.old)
-        (map value_of tallies.new) weights.new result }
+    ensures { AreStepped estimator.now t ahead.now (map value_of tallies.old)
+        (map value_of tallies.new) weights.new result rows.new }
 {
     let before = rows.go_on(ahead, marks);
     let gain = step_marked(estimator, t, &before, rows, ahead, marks, weights, tallies);
@@ -69,12 +67,10 @@ fn step_marked(
     weights: &mut [u64],
     tallies: &mut [Tally],
 ) -> u128
-    requires differ { DifferWhere marks.now rows.old ahead.now }
-    requires can { CanBeStepped estimator.now t (rows_before rows.old before.now) ahead.now
-        marks.now weights.old (map value_of tallies.old) }
-    ensures rows { rows.new ≡ ahead.now }
-    ensures figures { AreStepped estimator.now t ahead.now (map value_of tallies.old)
-        (map value_of tallies.new) weights.new result }
+    requires { CanStepMarked estimator.now t rows.old before.now ahead.now marks.now
+        weights.old (map value_of tallies.old) }
+    ensures { AreStepped estimator.now t ahead.now (map value_of tallies.old)
+        (map value_of tallies.new) weights.new result rows.new }
 {
     let mut gain = 0;
     let mut i = next_marked(marks, 0);

@@ -129,8 +129,8 @@ impl Tallies {
         weights: &mut [u64],
     ) -> u128
         requires { CanBeStepped estimator.now t rows.old ahead.now marks.now weights.old self.old }
-        ensures rows { rows.new ≡ ahead.now }
-        ensures figures { AreStepped estimator.now t ahead.now self.old self.new weights.new result }
+        ensures { AreStepped estimator.now t ahead.now self.old self.new weights.new result
+            rows.new }
     {
         let out = self.out.take();
         go_on(&mut self.own, out, &mut self.behind, &mut self.spare, marks);

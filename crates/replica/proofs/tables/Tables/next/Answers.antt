@@ -18,7 +18,7 @@ can c = subst (λ (a : TablesValue). CanStep c.args.estimator.now c.args.t a c.a
 
 -- the last sum, and the next one
 sums : (c : After-step-gain) → CanStep c.args.estimator.now c.args.t (tables_of c.self.inside) c.args.hearing.now c.args.weights.now → (c.index-last.result.now ≡ sum_by (λ (v : TallyValue). v.last) c.self.inside.tallies) × (c.index-last.result.now + c.step-gain.result ≡ total_of c.args.estimator.now c.args.hearing.now.accumulated.rows)
-sums c ok = next_at c.args.estimator.now c.args.t c.args.hearing.now.accumulated.rows c.self.inside.tallies c.step-gain.new.self c.self.inside.sums.items c.index-last.result.now c.step-gain.result ok.sums c.index-last.ensures (rw c.ahead-ahead.ensures at c.step-gain.ensures.figures.tallies) c.step-gain.ensures.figures.gain
+sums c ok = next_at c.args.estimator.now c.args.t c.args.hearing.now.accumulated.rows c.self.inside.tallies c.step-gain.new.self c.self.inside.sums.items c.index-last.result.now c.step-gain.result ok.sums c.index-last.ensures (rw c.ahead-ahead.ensures at c.step-gain.ensures.tallies) c.step-gain.ensures.gain
 
 pub step-gain-requires : goal.step-gain-requires
 step-gain-requires c =
@@ -46,7 +46,7 @@ invariant_of-self c =
     let marks : length c.begin.new.marks ≡ c.self.inside.marks.len = omega (arith, c.begin.auto.marks, c.deref_mut.ensures.len, c.self.inside.marks.ok.0) in
     record {
       marks = omega (arith, ap (length {A = Bool}) (with_items_is c.self.inside.marks c.begin.new.marks marks), marks, c.self.inside.marks.ok.0, c.self.invariant.marks, ok.ahead.rise.count, rows);
-      tallies = ap (length {A = TallyValue}) c.step-gain.ensures.figures.tallies ∙ length-next_tallies m (c.args.t + 1) c.ahead-ahead.result.now.rows c.self.inside.tallies (length c.ahead-ahead.result.now.rows) ∙ ahead ∙ sym rows;
+      tallies = ap (length {A = TallyValue}) c.step-gain.ensures.tallies ∙ length-next_tallies m (c.args.t + 1) c.ahead-ahead.result.now.rows c.self.inside.tallies (length c.ahead-ahead.result.now.rows) ∙ ahead ∙ sym rows;
     }
 
 pub returns : goal.returns
@@ -63,10 +63,10 @@ returns c =
     subst (λ (a : TablesValue). NextTables m c.args.t a after c.args.hearing.now c.begin.new.self c.step-gain.new.weights) c.self.view_is (record {
       rows = is;
       marks = with_items_is c.self.inside.marks c.begin.new.marks marks ∙ c.begin.ensures.touched ∙ differing_from rows own c.args.hearing.now.touched (length rows) ok.ahead.kept refl;
-      tallies = (rw c.ahead-ahead.ensures at c.step-gain.ensures.figures.tallies) ∙ ap (λ n. next_tallies m (c.args.t + 1) own c.self.inside.tallies n) ok.ahead.rise.count;
+      tallies = (rw c.ahead-ahead.ensures at c.step-gain.ensures.tallies) ∙ ap (λ n. next_tallies m (c.args.t + 1) own c.self.inside.tallies n) ok.ahead.rise.count;
       sums = c.push_reserved.ensures.items ∙ ap (λ n. c.self.inside.sums.items ++ n ∷ []) last.1;
       gains = omega (arith, last.0, last.1);
       room = c.push_reserved.ensures.capacity;
       quiet = rw is c.begin.ensures.quiet;
-      weights = c.step-gain.ensures.figures.weights ∙ ap (λ (t : Table). weights_of t.rows) (sym c.step-gain.ensures.rows);
+      weights = c.step-gain.ensures.weights ∙ ap (λ (t : Table). weights_of t.rows) (sym c.step-gain.ensures.rows);
     })

@@ -20,7 +20,7 @@ items_are c = with_items_is c.go_on.new.own c.step_rows.new.tallies (c.step_rows
 
 stepped : (c : After-step_rows) → map value_of (with_items c.go_on.new.own c.step_rows.new.tallies).items ≡ next_tallies c.args.estimator.now c.args.t c.args.ahead.now.rows c.args.self.now (length c.args.ahead.now.rows)
 stepped c =
-    ap (map value_of) (items_are c) ∙ c.step_rows.ensures.figures.tallies
+    ap (map value_of) (items_are c) ∙ c.step_rows.ensures.tallies
     ∙ ap (λ (l : List TallyValue). next_tallies c.args.estimator.now c.args.t c.args.ahead.now.rows l (length c.args.ahead.now.rows)) (own_is c)
 
 pub invariant_of-self : goal.invariant_of-self
@@ -31,9 +31,9 @@ invariant_of-self c =
     let gone : c.take-out.new.self ≡ None = search rules in
     rw gone (c.go_on.ensures.behind new (subst (λ (l : List TallyValue). DifferAt c.args.marks.now l new) (sym (shown_is at)) (grind (arith, length-next_tallies, get_or-map-range_with_len, stepped at))))
 
-pub returns-clause-figures : goal.returns-clause-figures
+pub returns : goal.returns
 unfolding shown_tallies
-returns-clause-figures c =
-    let at = (goal.at.returns-clause-figures c).After-step_rows in
+returns c =
+    let at = (goal.at.returns c).After-step_rows in
     let gone : c.take-out.new.self ≡ None = search rules in
-    rw (gone, items_are at, ← own_is at) c.step_rows.ensures.figures
+    rw (gone, items_are at, ← own_is at) c.step_rows.ensures
