@@ -18,6 +18,11 @@ pub record CanGoOn (k : ProgressValue) : Type 0 where
   pub kept : HasAccumulators k.state k.kept
   pub room : k.state.part.plan.limit + 1 ≤ k.room
 
+-- it can, and its run is over
+pub record CanLetGo (k : ProgressValue) : Type 0 where
+  pub over : is_over k.state ≡ true
+  pub goes_on : CanGoOn k
+
 -- an accumulator is kept of each row, whether the run is over or not, and there is that room
 pub record IsWhole (k : ProgressValue) : Type 0 where
   pub kept : length k.kept ≡ length k.state.rows

@@ -43,6 +43,11 @@ pub record HasRoomFor (a b : TablesValue) : Type 0 where
   pub rows : AreSameShape b.rows a.rows
   pub sums : length a.sums ≤ b.room
 
+-- sums have become others, within the room that was taken for them
+pub record AreRefilled (others sums : List ℕ) (before after : ℕ) : Type 0 where
+  pub items : sums ≡ others
+  pub capacity : after ≡ before
+
 -- ---- one superstep more
 
 -- the accumulators are the rows, raised, and those are marked that differ from their rows

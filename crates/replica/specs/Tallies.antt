@@ -30,6 +30,17 @@ pub record MarkedTallies : Type 0 where
 abbrev pub AreRelayed : List TallyValue → Option MarkedTallies → Type 0
 AreRelayed shown behind = IfSome behind (λ b. DifferAt b.stale b.tallies shown)
 
+-- the same, with so many marks as tallies
+pub record CanBeRelayed (shown : List TallyValue) (behind : Option MarkedTallies) (marks : ℕ) : Type 0 where
+  pub relayed : AreRelayed shown behind
+  pub each : marks ≡ length shown
+
+-- what is shown is in the own table, and the tallies behind are marked for all that differ from it where it is marked
+pub record AreReady (shown : List TallyValue) (marks : List Bool) (own : List TallyValue)
+    (behind : Option MarkedTallies) : Type 0 where
+  pub own_is : own ≡ shown
+  pub behind_is : (ahead : List TallyValue) → DifferAt marks shown ahead → AreRelayed ahead behind
+
 -- room for tallies, and for a mark for each
 pub record HasRoomForTallies (tallies : List TallyValue) (room marks : ℕ) : Type 0 where
   pub all : length tallies ≤ room

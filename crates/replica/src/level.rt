@@ -4,7 +4,7 @@ ghost use Rattle.std.specs.Prelude.{◌≡◌, ℕ, ◌≤◌, ◌<◌, false, [
 ghost use Rattle.std.specs.Prelude.{length, slice_index_or, map, count_by};
 ghost use Rattle.std.specs.List.{sum_by, list_any};
 ghost use Rattle.figures.specs.Values.{value_of};
-ghost use Rattle.replica.specs.Level.{differences};
+ghost use Rattle.replica.specs.Level.{AreAsMany, differences};
 ghost use Rattle.replica.specs.Tables.{AreStepped, CanBeStepped, CanStepMarked, CanStepRow};
 ghost use Rattle.replica.specs.Tables.{IsStepped, rows_before};
 
@@ -13,8 +13,7 @@ use registers::{Behind, Relay, Rows, next_marked};
 
 /// Marks the rows that differ.
 pub fn mark_differences(old: &Rows, new: &Rows, marks: &mut [bool])
-    requires old { length old.now.rows ≡ length marks.old }
-    requires new { length new.now.rows ≡ length marks.old }
+    requires { AreAsMany old.now new.now (length marks.old) }
     ensures { marks.new ≡ differences old.now.rows new.now.rows (length marks.old) }
 {
     for i in 0..marks.len() {

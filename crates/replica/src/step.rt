@@ -7,7 +7,7 @@ ghost use Rattle.ball_model.specs.declared.names.Verdict.TheVariants as verdict;
 ghost use Rattle.ball_model.specs.Content.{same_plan};
 ghost use Rattle.replica.specs.Level.{close_answer, is_over, level_verdict};
 ghost use Rattle.replica.specs.Change.{Advances, Receives, take_answer};
-ghost use Rattle.replica.specs.Progress.{CanGoOn, StaysSame};
+ghost use Rattle.replica.specs.Progress.{CanLetGo, StaysSame};
 ghost use Rattle.replica.specs.Seen.{GoesBy, GoesFurther, HoldsTogether, IsState};
 
 use crate::early::LEVELS;
@@ -91,8 +91,7 @@ impl Progress {
 
     /// Lets the accumulators go where the run is over and each of them equals its row.
     pub(crate) fn let_go(&mut self)
-        requires over { is_over self.old.state ≡ true }
-        requires goes_on { CanGoOn self.old }
+        requires { CanLetGo self.old }
         ensures { StaysSame self.old self.new }
     {
         self.hearing.let_go();

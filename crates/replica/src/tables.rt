@@ -4,7 +4,7 @@ ghost use Rattle.std.specs.Prelude.{◌≡◌, ◌≤◌, length, map, IfOk};
 ghost use Rattle.std.specs.Vec.{vec_capacity};
 ghost use Rattle.ball_model.specs.PlanValue.{measure_of};
 ghost use Rattle.figures.specs.Values.{value_of};
-ghost use Rattle.replica.specs.Tables.{AreFirst, CanStep, HasRoomFor, NextTables};
+ghost use Rattle.replica.specs.Tables.{AreFirst, AreRefilled, CanStep, HasRoomFor, NextTables};
 
 use crate::hearing::Hearing;
 use crate::tallies::Tallies;
@@ -167,8 +167,8 @@ impl Tables {
 /// The sums become others, within the room that was taken for them.
 pub fn refill(sums: &mut Vec<u128>, others: &[u128])
     requires { length others.now ≤ vec_capacity sums.old }
-    ensures items { sums.new.items ≡ others.now }
-    ensures capacity { vec_capacity sums.new ≡ vec_capacity sums.old }
+    ensures { AreRefilled others.now sums.new.items (vec_capacity sums.old)
+        (vec_capacity sums.new) }
 {
     sums.clear();
     for sum in others {

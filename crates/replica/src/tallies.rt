@@ -5,7 +5,8 @@ ghost use Rattle.std.specs.Vec.{vec_capacity};
 ghost use Rattle.ball_model.specs.Figures.{TallyValue};
 ghost use Rattle.figures.specs.Values.{value_of};
 ghost use Rattle.replica.specs.Tables.{AreStepped, CanBeStepped};
-ghost use Rattle.replica.specs.Tallies.{AreEither, AreRelayed, DifferAt, shown_tallies};
+ghost use Rattle.replica.specs.Tallies.{AreEither, AreReady, AreRelayed, CanBeRelayed, DifferAt};
+ghost use Rattle.replica.specs.Tallies.{shown_tallies};
 
 use crate::level;
 use figures::{Estimator, Tally};
@@ -205,12 +206,10 @@ fn go_on(
     spare: &mut Option<Vec<Tally>>,
     marks: &[bool],
 )
-    requires relayed { AreRelayed (shown_tallies (map value_of own.old.items) out) behind.old }
-    requires each { length marks.now ≡ length (shown_tallies (map value_of own.old.items) out) }
-    ensures own { map value_of own.new.items ≡ shown_tallies (map value_of own.old.items) out }
-    ensures behind { (ahead : List TallyValue) →
-        DifferAt marks.now (shown_tallies (map value_of own.old.items) out) ahead →
-        AreRelayed ahead behind.new }
+    requires { CanBeRelayed (shown_tallies (map value_of own.old.items) out) behind.old
+        (length marks.now) }
+    ensures { AreReady (shown_tallies (map value_of own.old.items) out) marks.now
+        (map value_of own.new.items) behind.new }
 {
     match out {
         None => mark_stale(behind, marks),

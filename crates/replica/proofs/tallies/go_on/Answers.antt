@@ -18,12 +18,15 @@ bring_up-requires-clause-behind c = subst (λ (l : List TallyValue). AreRelayed 
 pub filled-stale-requires : goal.filled-stale-requires
 filled-stale-requires c = omega (arith, c.requires.each, ap (length {A = TallyValue}) (out_is (goal.at.filled-stale-requires c).After-as_slice), c.out.invariant.each)
 
-pub returns-in-None-clause-own : goal.returns-in-None-clause-own
+pub returns-in-None : goal.returns-in-None
 unfolding shown_tallies
-returns-in-None-clause-own c = rw c.in-None.is refl
+returns-in-None c = record {
+  own_is = rw c.in-None.is refl;
+  behind_is = λ ahead d. c.mark_stale.ensures (shown_tallies (map value_of c.args.own.now.items) c.args.out) ahead c.requires.relayed d;
+}
 
-pub returns-in-Some-clause-own : goal.returns-in-Some-clause-own
-returns-in-Some-clause-own c = c.bring_up.ensures ∙ table_is (goal.at.returns-in-Some-clause-own c).After-as_slice
-
-pub returns-in-Some-clause-behind : goal.returns-in-Some-clause-behind
-returns-in-Some-clause-behind c = λ ahead d. rw (c.filled-stale.ensures, out_is (goal.at.returns-in-Some-clause-behind c).After-as_slice) d
+pub returns-in-Some : goal.returns-in-Some
+returns-in-Some c = record {
+  own_is = c.bring_up.ensures ∙ table_is (goal.at.returns-in-Some c).After-as_slice;
+  behind_is = λ ahead d. rw (c.filled-stale.ensures, out_is (goal.at.returns-in-Some c).After-as_slice) d;
+}

@@ -17,8 +17,13 @@ size c =
     ap (λ (t : Table). length t.rows) joined
     ∙ length-maxima c.self.inside.accumulated.rows c.args.theirs.now.rows (ap (λ (a : HearingValue). length a.accumulated.rows) c.self.view_is ∙ c.requires.count)
 
-pub mark_differences-requires-clause-new : goal.mark_differences-requires-clause-new
-mark_differences-requires-clause-new c = size (goal.at.mark_differences-requires-clause-new c).After-deref_mut ∙ sym c.self.invariant ∙ sym (ap (length {A = Bool}) c.deref_mut.ensures.value)
+pub mark_differences-requires : goal.mark_differences-requires
+mark_differences-requires c =
+    let marks = sym c.self.invariant ∙ sym (ap (length {A = Bool}) c.deref_mut.ensures.value) in
+    record {
+      old = c.requires.rows ∙ sym (ap (λ (a : HearingValue). length a.accumulated.rows) c.self.view_is) ∙ marks;
+      new = size (goal.at.mark_differences-requires c).After-deref_mut ∙ marks;
+    }
 
 pub invariant_of-self : goal.invariant_of-self
 invariant_of-self c =

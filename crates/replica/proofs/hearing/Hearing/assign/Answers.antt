@@ -18,10 +18,13 @@ copy_from-requires-clause-count c =
     let at = (goal.at.copy_from-requires-clause-count c).After-accumulators in
     own at ∙ sym (size at)
 
-pub mark_differences-requires-clause-new : goal.mark_differences-requires-clause-new
-mark_differences-requires-clause-new c =
-    let at = (goal.at.mark_differences-requires-clause-new c).After-accumulators in
-    ap (λ (t : Table). length t.rows) c.copy_from.ensures ∙ size at ∙ sym (own at) ∙ sym c.self.invariant ∙ sym (ap (length {A = Bool}) c.deref_mut.ensures.value)
+pub mark_differences-requires : goal.mark_differences-requires
+mark_differences-requires c =
+    let at = (goal.at.mark_differences-requires c).After-accumulators in
+    record {
+      old = sym (own at) ∙ sym c.self.invariant ∙ sym (ap (length {A = Bool}) c.deref_mut.ensures.value);
+      new = ap (λ (t : Table). length t.rows) c.copy_from.ensures ∙ size at ∙ sym (own at) ∙ sym c.self.invariant ∙ sym (ap (length {A = Bool}) c.deref_mut.ensures.value);
+    }
 
 -- the marks
 marks : (c : After-mark_differences) → (with_items c.self.inside.touched c.mark_differences.new.marks).items ≡ c.mark_differences.new.marks

@@ -12,7 +12,7 @@ shown_is c = rw c.take-out.ensures.value c.self.view_is
 
 -- it is in the own table
 own_is : (c : After-step_rows) → map value_of c.deref_mut.result.now ≡ c.args.self.now
-own_is c = rw c.deref_mut.ensures.value (c.go_on.ensures.own ∙ shown_is c)
+own_is c = rw c.deref_mut.ensures.value (c.go_on.ensures.own_is ∙ shown_is c)
 
 -- the own table, stepped
 items_are : (c : After-step_rows) → (with_items c.go_on.new.own c.step_rows.new.tallies).items ≡ c.step_rows.new.tallies
@@ -29,7 +29,7 @@ invariant_of-self c =
     let at = (goal.at.invariant_of-self c).After-step_rows in
     let new = map value_of (with_items c.go_on.new.own c.step_rows.new.tallies).items in
     let gone : c.take-out.new.self ≡ None = search rules in
-    rw gone (c.go_on.ensures.behind new (subst (λ (l : List TallyValue). DifferAt c.args.marks.now l new) (sym (shown_is at)) (grind (arith, length-next_tallies, get_or-map-range_with_len, stepped at))))
+    rw gone (c.go_on.ensures.behind_is new (subst (λ (l : List TallyValue). DifferAt c.args.marks.now l new) (sym (shown_is at)) (grind (arith, length-next_tallies, get_or-map-range_with_len, stepped at))))
 
 pub returns : goal.returns
 unfolding shown_tallies
