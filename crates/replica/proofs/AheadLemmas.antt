@@ -1,11 +1,10 @@
 -- Slots of batches, and the table that they are.
 use Rattle.std.proofs.Common.{◌≡◌, ℕ, zero, suc, ◌+◌, ◌*◌, ◌<◌, ◌≤◌, ◌==◌, Bool, true, false, ◌&&◌, List, [], ◌∷◌, length, map, get_or, set, replicate, option_map, refl, ap, subst, arith, sym, ◌∙◌, inl, inr, if◌then◌else◌, min}
-use Rattle.replica.proofs.Names.{common_steps, Option, Some, None, range_with_len, cases_lt, eq-eqb, and_from, eqb-true, get_or-drop, get_or-append_right, get_or-set_same, get_or-set_other, get_or_past, length-map-range_with_len, get_or-map-range_with_len, BatchValue, early_at}
+use Rattle.replica.proofs.Names.{common_steps, Option, Some, None, range_with_len, cases_lt, eq-eqb, and_from, eqb-true, get_or-drop, get_or-append_right, get_or-set_same, get_or-set_other, get_or_past, length-map-range_with_len, get_or-map-range_with_len, BatchValue, early_at, copies-at}
 use Rattle.std.proofs.Math.ListN.{get_or-append}
 use Rattle.std.proofs.Math.Nat.{mul-le-mul_right}
 use Rattle.std.specs.Cmp.{first_so, second_so}
 use Rattle.replica.specs.Ahead.{table_of, IsTable, StaysTable, batches_in, either, union_of_slots, slots_after}
-use Rattle.edgelist.proofs.RangeLemmas.{copies-at}
 
 -- what stands at a place after a shift
 pub shifted_at : (n k : ℕ) (slots : List (Option BatchValue)) → get_or (slots_after n slots) k None ≡ get_or slots (n + k) None

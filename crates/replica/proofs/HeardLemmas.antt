@@ -1,11 +1,9 @@
 -- What accumulators have heard once rows are spread.
 use Rattle.std.proofs.Common.{◌≡◌, ℕ, zero, suc, ◌+◌, ◌*◌, ◌<◌, ◌≤◌, ◌%◌, Bool, true, false, ◌&&◌, ◌||◌, ◌==◌, List, [], ◌∷◌, ◌++◌, map, length, get_or, if◌then◌else◌, refl, ap, arith, sym, ◌∙◌, inl, inr}
 use Rattle.std.specs.Cmp.{both_ways}
-use Rattle.replica.proofs.Names.{list_any, range_with_len, filter, AllByRecursion, and_parts, and_from, or_cases, or_left, or_right, eqb-true, eq-eqb, length-map, get_or-map, same_lists, map-append, append-nil, get_or-map-range_with_len, mixing_of, vertices_of, Job, IsJob, PartValue, part_of, feeds_into, sent_vertices, true_batch, own_vertices, rows_of, marks_of}
-use Rattle.std.proofs.lemmas.List.Elements.{filter-append}
+use Rattle.replica.proofs.Names.{list_any, range_with_len, filter, AllByRecursion, and_parts, and_from, or_cases, or_left, or_right, eqb-true, eq-eqb, length-map, get_or-map, same_lists, map-append, append-nil, get_or-map-range_with_len, mixing_of, vertices_of, Job, IsJob, PartValue, part_of, feeds_into, sent_vertices, true_batch, own_vertices, rows_of, marks_of, filter-append, ball_counter, max_each, IsNextMarked, at_next}
 use Rattle.std.proofs.Math.Bool.{or-false, or_assoc}
 use Rattle.ball_model.specs.Graph.{is_edge}
-use Rattle.ball_model.specs.Counter.{ball_counter, max_each}
 use Rattle.ball_model.specs.Change.{changed_at}
 use Rattle.ball_model.specs.Accumulated.{accumulated_of}
 use Rattle.ball_model.proofs.PathLemmas.{any_filter, any_range, range_any, edge_below}
@@ -14,8 +12,6 @@ use Rattle.ball_model.proofs.PartLemmas.{vertices_of-strided, range_more}
 use Rattle.ball_model.proofs.AccumulatedLemmas.{accumulated-step}
 use Rattle.ball_model.proofs.AccumulatedPartLemmas.{accumulated_of-same, accumulated_of-at, length-accumulated_of, own_is}
 use Rattle.replica.specs.Index.{targets_of}
-use Rattle.registers.specs.Marks.{IsNextMarked}
-use Rattle.registers.proofs.MarkLemmas.{at_next}
 use Rattle.replica.specs.Spread.{stands_in, row_after, rows_after, rows_after_all, marked_rows}
 use Rattle.replica.proofs.SpreadLemmas.{length-spread, spread-at}
 use Rattle.replica.proofs.IndexLemmas.Target.{targets-edge}

@@ -23,3 +23,17 @@ unfoldable pub use Rattle.ball_model.specs.Content.{close_of, missing_of, names_
 pub use Rattle.std.proofs.lemmas.Grind.{common_steps}
 pub use Rattle.ball_model.specs.Checkpoint.{no_figures}
 unfoldable pub use Rattle.ball_model.specs.Checkpoint.{kept_batches}
+pub use Rattle.std.proofs.lemmas.List.Sums.{count_by-le-length, length-filter, sum-map, sum_by-cons, sum_by-set, sum_by_more}
+pub use Rattle.registers.specs.Marks.{IsNextMarked}
+pub use Rattle.ball_model.specs.Counter.{counter_of, max_each, Mixing}
+unfoldable pub use Rattle.ball_model.specs.Counter.{ball_counter}
+pub use Rattle.figures.specs.declared.tally.Tally.{Tally}
+pub use Rattle.edgelist.proofs.RangeLemmas.{copies-at}
+pub use Rattle.ball_model.specs.declared.names.BatchName.{BatchName}
+unfoldable pub use Rattle.ball_model.specs.Change.{any_changed}
+pub use Rattle.std.specs.Str.{bytes_eq}
+pub use Rattle.std.proofs.lemmas.List.Folds.{list_any-append, list_any_at, list_any_more, list_any_none}
+pub use Rattle.std.proofs.lemmas.List.Elements.{All-append, All-from_get_or, All-get_or, All-nil, All-push, filter-append}
+pub use Rattle.registers.proofs.MarkLemmas.{at_next, passed}
+pub use Rattle.ball_model.specs.Supersteps.{end_of, tally_at}
+unfoldable pub use Rattle.ball_model.specs.Supersteps.{estimate_at, total_over}

@@ -1,11 +1,8 @@
 -- A row spread place by place, and which accumulators it touches.
 use Rattle.std.proofs.Common.{◌≡◌, ℕ, zero, suc, ◌<◌, ◌≢◌, Bool, true, false, not, ◌||◌, ◌==◌, List, [], ◌∷◌, ◌++◌, if◌then◌else◌, max, length, get_or, set, drop, refl, ap, ap₂, arith, sym, ◌∙◌, subst, ◌↔◌}
 use Rattle.std.proofs.lemmas.Bool.Decides.{nat_tests}
-use Rattle.replica.proofs.Names.{All, or_right, eq-eqb, get_or-set_same, get_or-set_other, length-set, same_lists, get_or_default, get_or-map-range_with_len, length-map-range_with_len, Table}
-use Rattle.std.specs.Str.{bytes_eq}
+use Rattle.replica.proofs.Names.{All, or_right, eq-eqb, get_or-set_same, get_or-set_other, length-set, same_lists, get_or_default, get_or-map-range_with_len, length-map-range_with_len, Table, bytes_eq, list_any_at, list_any-append, max_each}
 use Rattle.std.proofs.lemmas.Slice.Eq.{bytes_eq-Decides}
-use Rattle.std.proofs.lemmas.List.Folds.{list_any_at, list_any-append}
-use Rattle.ball_model.specs.Counter.{max_each}
 use Rattle.replica.specs.Spread.{stands_in, row_after, rows_after, touched_at, CanRaise, CanSpread, LeadInside}
 
 max_twice : (xs ys : List ℕ) → max_each (max_each xs ys) ys ≡ max_each xs ys

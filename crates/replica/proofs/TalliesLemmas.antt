@@ -1,7 +1,6 @@
 -- Tallies that are handed out and go on in another table.
 use Rattle.std.proofs.Common.{◌≡◌, ℕ, ◌<◌, List, [], length, map, get_or, arith}
-use Rattle.replica.proofs.Names.{sum_by, length-map-range_with_len, TallyValue, Measure, estimate_with, no_figures, value_of}
-use Rattle.figures.specs.declared.tally.Tally.{Tally}
+use Rattle.replica.proofs.Names.{sum_by, length-map-range_with_len, TallyValue, Measure, estimate_with, no_figures, value_of, Tally}
 use Rattle.replica.specs.Level.{next_tally, next_tallies}
 use Rattle.replica.proofs.LevelLemmas.Next.{map_lasts, sum_same}
 

@@ -306,8 +306,7 @@ impl Progress {
     #[tactic(auto, using(crate::proofs::SeenLemmas::Read::place_in))]
     fn own_place(&self, x: u32) -> usize
         requires { OwnsVertex self.now.state x }
-        ensures place { IsPlaceOf self.now.state x result }
-        ensures state { IsState self.now.state }
+        ensures { IsPlaceOf self.now.state x result }
     {
         (x / u32::from(self.part.plan().parts())) as usize
     }

@@ -1,7 +1,6 @@
 -- One superstep more, over plain data.
 use Rattle.std.proofs.Common.{◌≡◌, ℕ, ◌+◌, ◌-◌, ◌<◌, ◌≤◌, ◌==◌, Bool, false, not, ◌&&◌, List, get_or, replicate, refl, ap, arith, ◌∙◌, subst, is_some, IfSome}
-use Rattle.replica.proofs.Names.{Option, range_with_len, find, eq-eqb, mixing_of, Job, BatchValue, true_batch, missing_of, State, StandsFor, early_at, holds_in, rows_of}
-use Rattle.ball_model.specs.Supersteps.{end_of}
+use Rattle.replica.proofs.Names.{Option, range_with_len, find, eq-eqb, mixing_of, Job, BatchValue, true_batch, missing_of, State, StandsFor, early_at, holds_in, rows_of, end_of}
 use Rattle.replica.specs.Change.{Advances}
 use Rattle.replica.specs.Index.{targets_of}
 use Rattle.replica.proofs.LevelLemmas.Level.{Ready, next_rows_are, differing_is, size_is}

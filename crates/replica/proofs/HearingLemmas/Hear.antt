@@ -1,6 +1,6 @@
 -- Batches that are heard, one after the other.
 use Rattle.std.proofs.Common.{◌≡◌, ℕ, zero, suc, ◌+◌, ◌%◌, ◌<◌, ◌≤◌, ◌==◌, nat_lt, Bool, true, false, not, ◌&&◌, ◌||◌, List, length, get_or, set, replicate, refl, ap, arith, sym, ◌∙◌, inl, inr, if◌then◌else◌, is_some, IfSome}
-use Rattle.replica.proofs.Names.{Option, Some, None, range_with_len, list_any, cases_eq, eq-eqb, ne_eqb, get_or-set_same, get_or-set_other, length-set, BatchValue, IsBatch, true_batch, changed_count, Job, IsJob, part_of, PlanValue, is_heard, heard_changes, rows_of}
+use Rattle.replica.proofs.Names.{Option, Some, None, range_with_len, list_any, cases_eq, eq-eqb, ne_eqb, get_or-set_same, get_or-set_other, length-set, BatchValue, IsBatch, true_batch, changed_count, Job, IsJob, part_of, PlanValue, is_heard, heard_changes, rows_of, copies-at}
 use Rattle.std.proofs.Math.Bool.{or-false, and-or_distrib_right}
 use Rattle.ball_model.specs.Accumulated.{accumulated_of}
 use Rattle.ball_model.proofs.AccumulatedPartLemmas.{accumulated_of-alike, accumulated_of-none}
@@ -9,7 +9,6 @@ use Rattle.ball_model.proofs.QuietLemmas.{none_of}
 use Rattle.replica.specs.Hearing.{Hearing, IsTrueHearing, Hears, batch_by}
 use Rattle.replica.specs.Index.{targets_of}
 use Rattle.replica.specs.Kept.{AreCounters, AllRise}
-use Rattle.edgelist.proofs.RangeLemmas.{copies-at}
 
 -- a flag that is set
 pub flag_set : (flags : List Bool) (k q : ℕ) → k < length flags → get_or (set flags k true) q false ≡ (get_or flags q false || (q == k))

@@ -1,7 +1,6 @@
 -- What is heard of a superstep, and the accumulators that are kept of it, beside the rows or none.
 use Rattle.std.proofs.Common.{◌≡◌, ℕ, ◌+◌, ◌<◌, Bool, false, List, [], length, get_or, replicate, ap, sym, ◌∙◌, subst, arith, ◌⊎◌}
-use Rattle.replica.proofs.Names.{common_steps, Option, list_any, same_lists, get_or_default, get_or-map-range_with_len, false_from_ne_true, BatchValue, PlanValue, early_at, Table}
-use Rattle.std.proofs.lemmas.List.Folds.{list_any_at}
+use Rattle.replica.proofs.Names.{common_steps, Option, list_any, same_lists, get_or_default, get_or-map-range_with_len, false_from_ne_true, BatchValue, PlanValue, early_at, Table, list_any_at}
 use Rattle.std.proofs.lemmas.Bool.{both_ways}
 use Rattle.registers.specs.Relay.{DifferWhere}
 use Rattle.registers.specs.Laws.{max_each-repeats}

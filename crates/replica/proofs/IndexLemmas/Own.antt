@@ -1,9 +1,8 @@
 -- The vertices of a partition, by their places.
 use Rattle.std.proofs.Common.{◌≡◌, ℕ, zero, suc, ◌+◌, ◌*◌, ◌/◌, ◌%◌, ◌<◌, ◌≤◌, true, ◌&&◌, ◌==◌, List, length, map, get_or, nat_lt, ap, arith, sym, ◌∙◌, subst, refl}
-use Rattle.replica.proofs.Names.{list_any, range_with_len, AllByRecursion, get_or-map, length-range_with_len, length-map-range_with_len, get_or-map-range_with_len, eq-eqb, and_from, ltb-true, lt-ltb, vertices_of, part_size}
+use Rattle.replica.proofs.Names.{list_any, range_with_len, AllByRecursion, get_or-map, length-range_with_len, length-map-range_with_len, get_or-map-range_with_len, eq-eqb, and_from, ltb-true, lt-ltb, vertices_of, part_size, length-filter, count_by-le-length}
 use Rattle.std.proofs.Math.Nat.{mul-add-mod_self_right, mod-eq_of_lt}
 use Rattle.std.proofs.lemmas.Nat.{div-add-mod'}
-use Rattle.std.proofs.lemmas.List.Sums.{length-filter, count_by-le-length}
 use Rattle.std.specs.Cmp.{both_ways, first_so, second_so}
 use Rattle.ball_model.proofs.PathLemmas.{any_range, range_any, any_filter}
 use Rattle.ball_model.proofs.PartLemmas.{vertices_of-strided, part_size-is}

@@ -1,8 +1,7 @@
 -- Where the index of a part leads.
 use Rattle.std.proofs.Common.{◌≡◌, ◌≢◌, ℕ, zero, suc, ◌+◌, ◌<◌, ◌≤◌, Bool, true, false, ◌&&◌, ◌||◌, ◌==◌, List, [], ◌∷◌, map, length, get_or, if◌then◌else◌, refl, ap, arith, sym, ◌∙◌, inl, inr}
 use Rattle.std.proofs.Math.Bool.{and-true, or-false}
-use Rattle.replica.proofs.Names.{list_any, filter, flat_map, range_with_len, cases_lt, and_right, ne_eqb, eq-eqb, get_or-map-range_with_len, length-map-range_with_len, Job, IsJob, PartValue, part_of, own_vertices, get_or-map, get_or_past}
-use Rattle.std.proofs.lemmas.List.Folds.{list_any_at, list_any-append}
+use Rattle.replica.proofs.Names.{list_any, filter, flat_map, range_with_len, cases_lt, and_right, ne_eqb, eq-eqb, get_or-map-range_with_len, length-map-range_with_len, Job, IsJob, PartValue, part_of, own_vertices, get_or-map, get_or_past, list_any_at, list_any-append}
 use Rattle.ball_model.specs.Graph.{is_edge, preds_of}
 use Rattle.ball_model.proofs.PathLemmas.{edge_below}
 use Rattle.ball_model.proofs.AccumulatedLemmas.{any_pred}

@@ -1,12 +1,10 @@
 -- The batches that are kept, one after the other.
 use Rattle.std.proofs.Common.{◌≡◌, ℕ, suc, ◌+◌, ◌*◌, ◌<◌, ◌≤◌, nat_lt, Bool, true, false, List, [], ◌∷◌, ◌++◌, length, map, get_or, take, drop, option_map, refl, ap, arith, sym, ◌∙◌, is_some, IfSome}
-use Rattle.replica.proofs.Names.{Option, Some, None, range_with_len, filter, flat_map, slice_get, common_steps, map-append, length-append, append-nil, same_lists, take_all, take-append-drop, length-take-le, length-drop, length-map, get_or-take, get_or-drop, get_or_default, drop-drop, length-map-range_with_len, get_or-map-range_with_len, BatchValue, true_batch, names_of, Job, State, StandsFor, content_of, early_at}
+use Rattle.replica.proofs.Names.{Option, Some, None, range_with_len, filter, flat_map, slice_get, common_steps, map-append, length-append, append-nil, same_lists, take_all, take-append-drop, length-take-le, length-drop, length-map, get_or-take, get_or-drop, get_or_default, drop-drop, length-map-range_with_len, get_or-map-range_with_len, BatchValue, true_batch, names_of, Job, State, StandsFor, content_of, early_at, filter-append, BatchName}
 use Rattle.std.specs.Option.{option_to_list}
 use Rattle.std.proofs.lemmas.Bool.Decides.{nat_tests}
 use Rattle.std.proofs.lemmas.Grind.{flat_map-append}
-use Rattle.std.proofs.lemmas.List.Elements.{filter-append}
 use Rattle.std.proofs.lemmas.Option.{slice_get-map, IfSome_then}
-use Rattle.ball_model.specs.declared.names.BatchName.{BatchName}
 use Rattle.replica.specs.Ahead.{table_of, batches_in, early_batches, early_names}
 use Rattle.replica.specs.Seen.{IsState}
 use Rattle.replica.proofs.AheadLemmas.{few_batches, level_in, levels}

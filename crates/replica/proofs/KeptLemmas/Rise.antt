@@ -1,11 +1,8 @@
 -- Whatever the batches say, rows keep their shape, and no register falls.
 use Rattle.std.proofs.Common.{◌≡◌, ℕ, zero, suc, ◌<◌, ◌≤◌, Bool, false, if◌then◌else◌, List, [], ◌∷◌, length, map, ◌+◌, ◌*◌, get_or, refl, arith, sym, ◌∙◌, subst, not}
-use Rattle.replica.proofs.Names.{common_steps, filter, range_with_len, length-map-range_with_len, get_or-map-range_with_len, not-false, Measure, estimate_with, BatchValue, IsBatch}
-use Rattle.std.proofs.lemmas.List.Elements.{All-from_get_or}
-use Rattle.std.specs.Str.{bytes_eq}
+use Rattle.replica.proofs.Names.{common_steps, filter, range_with_len, length-map-range_with_len, get_or-map-range_with_len, not-false, Measure, estimate_with, BatchValue, IsBatch, All-from_get_or, bytes_eq, max_each}
 use Rattle.std.proofs.lemmas.Slice.Eq.{bytes_eq-Decides}
 use Rattle.registers.proofs.MaxLemmas.{length-max_each}
-use Rattle.ball_model.specs.Counter.{max_each}
 use Rattle.ball_model.specs.Laws.{IsCounterRow}
 use Rattle.ball_model.proofs.EstimateLemmas.{estimate_by-grows_wide}
 use Rattle.replica.specs.Spread.{row_after, rows_after, rows_after_all, marked_rows}

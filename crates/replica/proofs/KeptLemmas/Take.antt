@@ -1,8 +1,7 @@
 -- A replica that receives a batch which it did not hold.
 use Rattle.std.proofs.Common.{◌≡◌, ℕ, ◌+◌, ◌-◌, ◌<◌, ◌≤◌, ◌==◌, true, false, ◌&&◌, ◌||◌, List, length, get_or, ap, arith, sym, if◌then◌else◌, is_some}
-use Rattle.replica.proofs.Names.{Option, Some, Ok, PlanValue, Job, BatchValue, IsBatch, true_batch, Content, take_of, after_take, same_plan, State, SameShown, StandsFor, content_of, early_at}
+use Rattle.replica.proofs.Names.{Option, Some, Ok, PlanValue, Job, BatchValue, IsBatch, true_batch, Content, take_of, after_take, same_plan, State, SameShown, StandsFor, content_of, early_at, BatchName}
 use Rattle.std.proofs.lemmas.Slice.Eq.{bytes_eq-Decides}
-use Rattle.ball_model.specs.declared.names.BatchName.{BatchName}
 use Rattle.ball_model.specs.declared.names.Taken.TheVariants as taken
 use Rattle.replica.specs.Ahead.{IsTable}
 use Rattle.replica.specs.Hearing.{Hears, batch_by}

@@ -1,8 +1,6 @@
 -- What a replica that holds its level says of the run.
 use Rattle.std.proofs.Common.{◌≡◌, ℕ, Bool, true, false, not, ◌&&◌, ◌||◌, ◌==◌, List, [], ◌∷◌, length, map, get_or, if◌then◌else◌, refl, ap, arith, sym, ◌∙◌}
-use Rattle.replica.proofs.Names.{list_any, range_with_len, filter, mixing_of, Job, verdict_at, verdict_of, close_of, changed_count, State, StandsFor, marks_of, heard_changes, content_of}
-use Rattle.std.proofs.lemmas.List.Sums.{length-filter}
-use Rattle.ball_model.specs.Change.{any_changed}
+use Rattle.replica.proofs.Names.{list_any, range_with_len, filter, mixing_of, Job, verdict_at, verdict_of, close_of, changed_count, State, StandsFor, marks_of, heard_changes, content_of, length-filter, any_changed}
 use Rattle.replica.specs.Level.{is_changing, level_verdict, found_verdict, close_answer}
 use Rattle.replica.proofs.LevelLemmas.Verdict.{changed_by_counts}
 use Rattle.replica.proofs.LevelLemmas.Level.{Ready, there, plan_is, number_is}

@@ -1,7 +1,6 @@
 -- Figures and sums, one superstep later.
 use Rattle.std.proofs.Common.{◌≡◌, ℕ, ◌+◌, ◌<◌, List, [], ◌∷◌, ◌++◌, length, map, get_or, refl, ap, arith}
-use Rattle.replica.proofs.Names.{common_steps, sum_by, length-map, same_lists, map-range_with_len_more, length-map-range_with_len, get_or-map-range_with_len, TallyValue, estimate_with, tally_of, part_size, mixing_of, measure_of, Job, State, StandsFor, tallies_of, sums_of, rows_of, own_vertices}
-use Rattle.ball_model.specs.Supersteps.{estimate_at, total_over, tally_at}
+use Rattle.replica.proofs.Names.{common_steps, sum_by, length-map, same_lists, map-range_with_len_more, length-map-range_with_len, get_or-map-range_with_len, TallyValue, estimate_with, tally_of, part_size, mixing_of, measure_of, Job, State, StandsFor, tallies_of, sums_of, rows_of, own_vertices, estimate_at, total_over, tally_at}
 use Rattle.ball_model.proofs.TallyLemmas.{harmonic_more, distance_more}
 use Rattle.replica.specs.Level.{next_tally, next_tallies, total_of}
 use Rattle.replica.proofs.IndexLemmas.Own.{vertex_of, at_own}

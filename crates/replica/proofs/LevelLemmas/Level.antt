@@ -1,9 +1,7 @@
 -- A replica that stands for its content and holds its level has what the next superstep is made of.
 use Rattle.std.proofs.Common.{◌≡◌, ℕ, ◌+◌, ◌%◌, ◌<◌, Bool, true, false, not, ◌&&◌, ◌||◌, ◌==◌, List, [], length, get_or, refl, ap, arith, ◌∙◌}
-use Rattle.replica.proofs.Names.{Option, None, length-map, same_lists, length-map-range_with_len, get_or-map-range_with_len, mixing_of, part_size, Job, PartValue, part_of, BatchValue, missing_of, State, StandsFor, content_of, rows_of, marks_of, holds_in, is_heard, eq-eqb, not-false, ne_eqb}
-use Rattle.std.specs.Str.{bytes_eq}
+use Rattle.replica.proofs.Names.{Option, None, length-map, same_lists, length-map-range_with_len, get_or-map-range_with_len, mixing_of, part_size, Job, PartValue, part_of, BatchValue, missing_of, State, StandsFor, content_of, rows_of, marks_of, holds_in, is_heard, eq-eqb, not-false, ne_eqb, bytes_eq, ball_counter}
 use Rattle.ball_model.specs.Accumulated.{accumulated_of}
-use Rattle.ball_model.specs.Counter.{ball_counter}
 use Rattle.ball_model.specs.Change.{changed_at}
 use Rattle.ball_model.proofs.AccumulatedPartLemmas.{accumulated_of-level}
 use Rattle.ball_model.proofs.ChangeLemmas.{changed_next}

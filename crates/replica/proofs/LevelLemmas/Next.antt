@@ -1,11 +1,8 @@
 -- Figures and sums one superstep later keep their limits, whatever the batches say.
 use Rattle.std.proofs.Common.{◌≡◌, ℕ, suc, ◌^◌, ◌≤◌, ◌*◌, ◌<◌, Bool, false, not, List, [], ◌∷◌, length, map, get_or, refl, ap, arith, sym, ◌∙◌}
-use Rattle.replica.proofs.Names.{sum_by, range_with_len, sum, length-map, same_lists, get_or-map, length-map-range_with_len, get_or-map-range_with_len, TallyValue, Measure, estimate_with, no_figures, value_of}
-use Rattle.std.specs.Str.{bytes_eq}
-use Rattle.std.proofs.lemmas.List.Sums.{sum_by-cons, sum-map}
+use Rattle.replica.proofs.Names.{sum_by, range_with_len, sum, length-map, same_lists, get_or-map, length-map-range_with_len, get_or-map-range_with_len, TallyValue, Measure, estimate_with, no_figures, value_of, bytes_eq, sum_by-cons, sum-map, Tally}
 use Rattle.ball_model.specs.Laws.{IsCounterRow}
 use Rattle.ball_model.proofs.EstimateLemmas.{estimate_fits}
-use Rattle.figures.specs.declared.tally.Tally.{Tally}
 use Rattle.replica.specs.Level.{differences, next_tally, next_tallies, total_of}
 use Rattle.replica.specs.Kept.{AreLasts, AreCounters, AllRise}
 use Rattle.replica.proofs.KeptLemmas.Rise.{rise_estimate, same_registers}

@@ -1,10 +1,8 @@
 -- Some vertex is changed exactly where some partition counts one, and then the end is further.
 use Rattle.std.proofs.Common.{◌≡◌, ℕ, ◌+◌, ◌%◌, ◌<◌, ◌≤◌, nat_le, Bool, true, false, not, ◌&&◌, ◌==◌, List, [], ◌∷◌, length, if◌then◌else◌, refl, arith, sym, ◌∙◌, inl, inr, subst, ap}
-use Rattle.replica.proofs.Names.{list_any, range_with_len, filter, AllByRecursion, Some, ◌⊎◌, cases_lt, or_cases, eqb-true, eqb-false, le-leb, not-false, vertices_of, mixing_of, Job, IsJob, changed_count, verdict_at}
-use Rattle.std.proofs.lemmas.List.Sums.{length-filter}
+use Rattle.replica.proofs.Names.{list_any, range_with_len, filter, AllByRecursion, Some, ◌⊎◌, cases_lt, or_cases, eqb-true, eqb-false, le-leb, not-false, vertices_of, mixing_of, Job, IsJob, changed_count, verdict_at, length-filter, any_changed, end_of}
 use Rattle.ball_model.specs.declared.names.Verdict.TheVariants as verdict
-use Rattle.ball_model.specs.Change.{changed_at, any_changed}
-use Rattle.ball_model.specs.Supersteps.{end_of}
+use Rattle.ball_model.specs.Change.{changed_at}
 use Rattle.ball_model.proofs.QuietLemmas.{none_in, none_of}
 use Rattle.ball_model.proofs.EndLemmas.{end_within, end_least, end_reached}
 use Rattle.replica.specs.Level.{EndsRun}

@@ -1,9 +1,8 @@
 -- What two replicas of one partition know, taken together.
 use Rattle.std.proofs.Common.{◌≡◌, ℕ, zero, suc, ◌+◌, ◌-◌, ◌^◌, ◌<◌, ◌≤◌, max, ◌==◌, nat_le, not, Bool, false, ◌&&◌, ◌||◌, List, [], ◌∷◌, length, map, get_or, refl, ap, arith, sym, ◌∙◌, subst, ◌⊎◌}
-use Rattle.replica.proofs.Names.{common_steps, Option, zip, le-leb, get_or-map-range_with_len, length-map-range_with_len, PlanValue, Job, IsPart, BatchValue, changed_count, State, StandsFor, content_of, early_at, further, heard_changes, Table}
+use Rattle.replica.proofs.Names.{common_steps, Option, zip, le-leb, get_or-map-range_with_len, length-map-range_with_len, PlanValue, Job, IsPart, BatchValue, changed_count, State, StandsFor, content_of, early_at, further, heard_changes, Table, max_each}
 use Rattle.std.proofs.lemmas.Bool.Decides.{nat_tests}
 use Rattle.std.proofs.Math.Bool.{and-or_distrib_right}
-use Rattle.ball_model.specs.Counter.{max_each}
 use Rattle.ball_model.proofs.AccumulatedPartLemmas.{accumulated_of-or, accumulated_of-alike}
 use Rattle.registers.specs.Joined.{maximum_of_rows, union_of_flags}
 use Rattle.replica.specs.Ahead.{IsTable, either}

@@ -1,7 +1,6 @@
 -- Whole runs.
 use Rattle.std.proofs.Common.{◌≡◌, ℕ, zero, suc, ◌+◌, ◌/◌, ◌%◌, ◌<◌, ◌≤◌, nat_le, max, Bool, true, false, not, ◌&&◌, ◌==◌, if◌then◌else◌, List, [], ◌∷◌, length, get_or, refl, ap, arith, sym, ◌∙◌, subst, inl, inr}
-use Rattle.replica.proofs.Names.{Option, None, Some, Result, Ok, OnOk, OnErr, IsTrue, cases_lt, eq-eqb, leb-true, le-leb, PlanValue, mixing_of, part_size, Job, Content, take_of, is_new, after_take, missing_of, verdict_unless, verdict_at, verdict_of, after_close, same_plan, State, StandsFor, content_of}
-use Rattle.ball_model.specs.declared.names.BatchName.{BatchName}
+use Rattle.replica.proofs.Names.{Option, None, Some, Result, Ok, OnOk, OnErr, IsTrue, cases_lt, eq-eqb, leb-true, le-leb, PlanValue, mixing_of, part_size, Job, Content, take_of, is_new, after_take, missing_of, verdict_unless, verdict_at, verdict_of, after_close, same_plan, State, StandsFor, content_of, BatchName, Mixing, counter_of, ball_counter, any_changed, end_of}
 use Rattle.ball_model.specs.declared.names.Taken.{Taken}
 use Rattle.ball_model.specs.declared.names.TakeError.{TakeError}
 use Rattle.ball_model.specs.declared.names.CloseError.{CloseError}
@@ -9,9 +8,7 @@ use Rattle.ball_model.specs.declared.names.MergeError.{MergeError}
 use Rattle.ball_model.specs.declared.names.Verdict.{Verdict}
 use Rattle.ball_model.specs.declared.names.Verdict.TheVariants as verdict
 use Rattle.ball_model.specs.Graph.{Graph, IsGraph, is_path, in_ball, is_counted}
-use Rattle.ball_model.specs.Counter.{Mixing, counter_of, ball_counter}
-use Rattle.ball_model.specs.Change.{changed_at, any_changed}
-use Rattle.ball_model.specs.Supersteps.{end_of}
+use Rattle.ball_model.specs.Change.{changed_at}
 use Rattle.ball_model.proofs.PathLemmas.{in_ball-found, in_ball-finds, in_ball-grows}
 use Rattle.ball_model.proofs.CounterLemmas.{counter_of-same}
 use Rattle.ball_model.proofs.ChangeLemmas.{changed_next}

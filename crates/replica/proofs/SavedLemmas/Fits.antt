@@ -1,7 +1,6 @@
 -- What fits a part, one piece after the other.
 use Rattle.std.proofs.Common.{◌≡◌, ℕ, zero, suc, ◌+◌, ◌-◌, ◌<◌, ◌≤◌, Bool, false, List, [], ◌∷◌, length, map, get_or, ap, ◌∙◌, arith}
-use Rattle.replica.proofs.Names.{All, get_or_default, get_or-map, get_or_past, value_of, BatchValue, PlanValue}
-use Rattle.figures.specs.declared.tally.Tally.{Tally}
+use Rattle.replica.proofs.Names.{All, get_or_default, get_or-map, get_or_past, value_of, BatchValue, PlanValue, Tally}
 use Rattle.replica.specs.Kept.{AreSources}
 use Rattle.replica.specs.Saved.{IsFigures, MayKeep, order_key}
 

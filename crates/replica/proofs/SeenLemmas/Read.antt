@@ -1,9 +1,7 @@
 -- What a replica tells of a vertex, where it stands for its content.
 use Rattle.std.proofs.Common.{◌≡◌, ℕ, ◌/◌, ◌%◌, ◌<◌, ◌≤◌, false, [], length, get_or, ap, arith, sym, ◌∙◌}
-use Rattle.replica.proofs.Names.{common_steps, count_by, length-map, TallyValue, estimate_with, mixing_of, part_size, most_vertices, measure_of, Job, changed_count, State, StandsFor, content_of, heard_changes, marks_of, no_figures}
-use Rattle.ball_model.specs.Counter.{ball_counter}
+use Rattle.replica.proofs.Names.{common_steps, count_by, length-map, TallyValue, estimate_with, mixing_of, part_size, most_vertices, measure_of, Job, changed_count, State, StandsFor, content_of, heard_changes, marks_of, no_figures, ball_counter, tally_at}
 use Rattle.ball_model.specs.Change.{changed_at}
-use Rattle.ball_model.specs.Supersteps.{tally_at}
 use Rattle.ball_model.specs.Accumulated.{accumulated_of}
 use Rattle.replica.specs.Hearing.{accumulated_by, change_by, heard_by}
 use Rattle.replica.specs.Seen.{IsState}

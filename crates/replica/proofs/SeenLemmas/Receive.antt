@@ -1,7 +1,6 @@
 -- A replica that receives a batch: one of its superstep is heard, a later one is kept.
 use Rattle.std.proofs.Common.{◌≡◌, ℕ, ◌+◌, ◌-◌, ◌<◌, ◌≤◌, ◌==◌, ◌&&◌, List, refl, ap, sym, ◌∙◌, subst, arith, if◌then◌else◌}
-use Rattle.replica.proofs.Names.{Option, Some, Ok, arc_value, PlanValue, BatchValue, IsBatch, take_of, State, content_of, early_at}
-use Rattle.ball_model.specs.declared.names.BatchName.{BatchName}
+use Rattle.replica.proofs.Names.{Option, Some, Ok, arc_value, PlanValue, BatchValue, IsBatch, take_of, State, content_of, early_at, BatchName}
 use Rattle.ball_model.specs.declared.names.Taken.TheVariants as taken
 use Rattle.replica.specs.declared.Progress.TheInside as progress
 use Rattle.replica.specs.Ahead.{IsTable}

@@ -1,6 +1,6 @@
 -- A state keeps its limits one superstep later, whatever the batches say, and batches can be heard beside it.
 use Rattle.std.proofs.Common.{◌≡◌, ℕ, ◌+◌, ◌^◌, ◌<◌, Bool, true, false, List, length, map, get_or, replicate, ap, arith, sym, ◌∙◌}
-use Rattle.replica.proofs.Names.{common_steps, sum_by, get_or_default, length-replicate, measure_of, TallyValue, Measure, estimate_with, State, Table}
+use Rattle.replica.proofs.Names.{common_steps, sum_by, get_or_default, length-replicate, measure_of, TallyValue, Measure, estimate_with, State, Table, copies-at}
 use Rattle.replica.specs.Change.{Advances}
 use Rattle.replica.specs.Hearing.{HearingValue, IsQuiet, HearsByIndex}
 use Rattle.replica.specs.Kept.{AllRise, AreSources, AreSums}
@@ -11,7 +11,6 @@ use Rattle.replica.proofs.LevelLemmas.Next.{stepped_lasts, sum_same}
 use Rattle.replica.specs.Index.{targets_of}
 use Rattle.replica.specs.Spread.{LeadInside}
 use Rattle.replica.proofs.IndexLemmas.Target.{targets-inside}
-use Rattle.edgelist.proofs.RangeLemmas.{copies-at}
 
 -- no source
 pub no_sources : (parts p : ℕ) → AreSources parts p (replicate 64 false)

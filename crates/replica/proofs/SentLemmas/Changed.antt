@@ -1,10 +1,8 @@
 -- The list of the vertices that changed.
 use Rattle.std.proofs.Common.{◌≡◌, ℕ, zero, suc, ◌+◌, ◌<◌, ◌≤◌, Bool, true, false, List, [], ◌∷◌, ◌++◌, length, length-append, get_or, take, if◌then◌else◌, refl, ap, arith, sym, subst, ◌∙◌, inl, inr}
-use Rattle.replica.proofs.Names.{cases_eq, common_steps, range_with_len, filter, append-nil, get_or_past, State}
-use Rattle.std.proofs.lemmas.List.Elements.{All-get_or, filter_passes}
+use Rattle.replica.proofs.Names.{cases_eq, common_steps, range_with_len, filter, append-nil, get_or_past, State, All-get_or, IsNextMarked, at_next}
+use Rattle.std.proofs.lemmas.List.Elements.{filter_passes}
 use Rattle.ball_model.proofs.PartLemmas.{range_more}
-use Rattle.registers.specs.Marks.{IsNextMarked}
-use Rattle.registers.proofs.MarkLemmas.{at_next}
 use Rattle.replica.proofs.SentLemmas.Sent.{count_next}
 use Rattle.replica.specs.Sent.{AreChangedVertices, changed_first}
 

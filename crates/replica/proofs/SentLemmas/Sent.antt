@@ -1,15 +1,11 @@
 -- What a replica sends is the true batch, where it stands for its content.
 use Rattle.std.proofs.Common.{◌≡◌, ℕ, zero, suc, ◌+◌, ◌*◌, ◌<◌, ◌≤◌, Bool, true, false, ◌&&◌, List, [], ◌∷◌, ◌++◌, length, length-append, map, get_or, take, if◌then◌else◌, refl, ap, arith, sym, subst, ◌∙◌}
-use Rattle.replica.proofs.Names.{common_steps, range_with_len, flat_map, filter, count_by, AllByRecursion, and_left, append-nil, get_or_default, PlanValue, mixing_of, part_size, Job, part_of, feeds_into, feed_mask, BatchValue, IsRow, true_batch, sent_vertices, ids_of, State, StandsFor}
+use Rattle.replica.proofs.Names.{common_steps, range_with_len, flat_map, filter, count_by, AllByRecursion, and_left, append-nil, get_or_default, PlanValue, mixing_of, part_size, Job, part_of, feeds_into, feed_mask, BatchValue, IsRow, true_batch, sent_vertices, ids_of, State, StandsFor, length-filter, ball_counter, IsNextMarked, at_next}
 use Rattle.std.proofs.lemmas.List.Concat.{flat_map-append}
-use Rattle.std.proofs.lemmas.List.Sums.{length-filter}
-use Rattle.ball_model.specs.Counter.{ball_counter}
 use Rattle.ball_model.specs.Change.{changed_at}
 use Rattle.ball_model.specs.Masks.{has_bit}
 use Rattle.ball_model.proofs.MaskLemmas.{mask-bit}
 use Rattle.ball_model.proofs.PartLemmas.{range_more, vertices_of-strided}
-use Rattle.registers.specs.Marks.{IsNextMarked}
-use Rattle.registers.proofs.MarkLemmas.{at_next}
 use Rattle.replica.specs.Seen.{IsState}
 use Rattle.replica.specs.Sent.{sent_row, sent_rows, sent_batch}
 use Rattle.replica.proofs.IndexLemmas.Own.{vertex_of, own_below, own_part, at_own}

@@ -1,7 +1,6 @@
 -- What is told, from one vertex that changed to the next.
 use Rattle.std.proofs.Common.{◌≡◌, ℕ, ◌+◌, ◌<◌, List, length, get_or, subst, ap, ◌∙◌}
-use Rattle.replica.proofs.Names.{get_or_default, BatchValue}
-use Rattle.registers.specs.Marks.{IsNextMarked}
+use Rattle.replica.proofs.Names.{get_or_default, BatchValue, IsNextMarked}
 use Rattle.replica.specs.Seen.{IsState}
 use Rattle.replica.specs.Sent.{CanTell, IsTold, IsToldBefore, TellingValue, next_place, sent_batch}
 use Rattle.replica.proofs.SentLemmas.Changed.{ChangedAt, changed_at, changed_begin, changed_go}

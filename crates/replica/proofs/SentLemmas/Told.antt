@@ -1,14 +1,11 @@
 -- Rows that are told as places in a table of those that changed.
 use Rattle.std.proofs.Common.{◌≡◌, ℕ, zero, suc, ◌+◌, ◌-◌, ◌*◌, ◌^◌, ◌<◌, ◌≤◌, Bool, true, false, ◌&&◌, List, [], ◌∷◌, ◌++◌, length, length-append, get_or, take, drop, if◌then◌else◌, refl, ap, arith, sym, subst, ◌∙◌}
-use Rattle.replica.proofs.Names.{range_with_len, flat_map, count_by, All, AllPairs, AllByRecursion, append-nil, take_at, drop_at, map_push, IsRow, ids_of, PlanValue, State}
+use Rattle.replica.proofs.Names.{range_with_len, flat_map, count_by, All, AllPairs, AllByRecursion, append-nil, take_at, drop_at, map_push, IsRow, ids_of, PlanValue, State, All-nil, All-push, All-append, IsNextMarked, at_next}
 use Rattle.std.proofs.lemmas.List.Concat.{flat_map-append}
-use Rattle.std.proofs.lemmas.List.Elements.{All-nil, All-push, All-append}
 use Rattle.std.proofs.lemmas.List.Quantifiers.{all_pairs_push}
 use Rattle.ball_model.specs.Masks.{has_bit}
 use Rattle.ball_model.proofs.PartLemmas.{range_more}
 use Rattle.batches.specs.Kept.{rows_at}
-use Rattle.registers.specs.Marks.{IsNextMarked}
-use Rattle.registers.proofs.MarkLemmas.{at_next}
 use Rattle.replica.specs.Seen.{IsState}
 use Rattle.replica.specs.Sent.{IsTold, changed_registers, changed_row, changed_rows, sent_row, sent_rows, sent_batch}
 use Rattle.replica.proofs.IndexLemmas.Counting.{range_split}

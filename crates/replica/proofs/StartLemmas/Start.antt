@@ -1,15 +1,12 @@
 -- What a replica begins with.
 use Rattle.std.proofs.Common.{◌≡◌, ℕ, ◌+◌, ◌*◌, ◌^◌, ◌<◌, ◌≤◌, Bool, true, false, is_some, List, [], ◌∷◌, length, map, get_or, replicate, refl, ap, arith, sym, ◌∙◌, inl, inr, ◌-◌}
-use Rattle.replica.proofs.Names.{common_steps, Result, IfOk, sum_by, cases_eq, cases_lt, length-map, same_lists, length-map-range_with_len, get_or-map-range_with_len, TallyValue, Measure, estimate_with, harmonic_of, distance_of, PlanValue, IsPlan, mixing_of, part_size, measure_of, Job, IsJob, PartValue, IsPart, part_of, State, StandsFor, content_of, holds_in, own_vertices, rows_of, marks_of, tallies_of, sums_of, value_of}
+use Rattle.replica.proofs.Names.{common_steps, Result, IfOk, sum_by, cases_eq, cases_lt, length-map, same_lists, length-map-range_with_len, get_or-map-range_with_len, TallyValue, Measure, estimate_with, harmonic_of, distance_of, PlanValue, IsPlan, mixing_of, part_size, measure_of, Job, IsJob, PartValue, IsPart, part_of, State, StandsFor, content_of, holds_in, own_vertices, rows_of, marks_of, tallies_of, sums_of, value_of, ball_counter, estimate_at, tally_at, Tally, copies-at}
 use Rattle.ball_model.specs.Hash.{hash_of, index_of, rank_of}
 use Rattle.ball_model.specs.Graph.{is_counted}
-use Rattle.ball_model.specs.Counter.{ball_counter}
-use Rattle.ball_model.specs.Supersteps.{estimate_at, tally_at}
 use Rattle.ball_model.specs.Laws.{IsCounterRow}
 use Rattle.ball_model.proofs.RankLemmas.{rank_le, ball_counter-zero, ball_counter-uncounted}
 use Rattle.ball_model.proofs.StartLemmas.{index_small, changed_where_counted}
 use Rattle.registers.specs.Raised.{row_after_raise}
-use Rattle.figures.specs.declared.tally.Tally.{Tally}
 use Rattle.replica.specs.Level.{total_of}
 use Rattle.replica.specs.Kept.{AreCounters}
 use Rattle.replica.specs.Start.{alone, first_row, first_rows_of_part, first_tally, Starts}
@@ -22,7 +19,6 @@ use Rattle.replica.proofs.ChangeLemmas.Advance.{holds_now, holds_before, holds_l
 use Rattle.replica.proofs.HearingLemmas.Hear.{none_heard}
 use Rattle.replica.proofs.SeenLemmas.State.{no_sources, lasts_total}
 use Rattle.replica.proofs.LevelLemmas.Step.{list_is}
-use Rattle.edgelist.proofs.RangeLemmas.{copies-at}
 
 -- the row of a vertex, raised from nothing
 pub alone_is : (plan : PlanValue) (x index rank : ℕ) (row : List ℕ) → row ≡ replicate (2 ^ plan.log2m) 0 → index ≡ index_of plan.log2m (hash_of plan.seed x) → rank ≡ rank_of plan.log2m (hash_of plan.seed x) → row_after_raise row index rank ≡ alone plan x

@@ -1,7 +1,5 @@
 use Rattle.std.proofs.Common.{◌≡◌, ◌+◌, ◌++◌, ◌∷◌, [], ℕ, Bool, false, true, List, length, get_or, take, ap, sym, subst, ◌∙◌, arith}
-use Rattle.replica.proofs.Names.{count_by, filter, take_all, State}
-use Rattle.std.proofs.lemmas.List.Sums.{length-filter, count_by-le-length}
-use Rattle.registers.specs.Marks.{IsNextMarked}
+use Rattle.replica.proofs.Names.{count_by, filter, take_all, State, length-filter, count_by-le-length, IsNextMarked}
 use Rattle.replica.specs.Seen.{IsState, state_of}
 use Rattle.replica.specs.Sent.{changed_first}
 use Rattle.replica.proofs.HearingLemmas.Accumulator.{state_is}

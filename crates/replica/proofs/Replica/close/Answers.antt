@@ -1,12 +1,11 @@
 use Rattle.std.proofs.Common.{◌≡◌, ◌+◌, ◌-◌, false, arith, ap, ◌∙◌, subst}
 use Rattle.std.proofs.lemmas.Bool.Decides.{nat_tests}
-use Rattle.replica.proofs.Names.{OnOk, OnErr, State}
+use Rattle.replica.proofs.Names.{OnOk, OnErr, State, copies-at}
 use Rattle.replica.specs.Change.{Advances}
 use Rattle.replica.specs.Level.{close_answer}
 use Rattle.replica.specs.Seen.{IsState}
 use Rattle.replica.proofs.LevelLemmas.Busy.{close_answer-is}
 use Rattle.replica.proofs.ChangeLemmas.Close.{on_ok, close_stands}
-use Rattle.edgelist.proofs.RangeLemmas.{copies-at}
 use Rattle.replica.proofs.Replica.close.Goals as goal
 use Rattle.replica.proofs.Replica.close.Goals.{After-close_level}
 

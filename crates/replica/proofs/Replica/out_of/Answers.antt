@@ -1,6 +1,5 @@
 use Rattle.std.proofs.Common.{◌≡◌, ◌^◌, length, ap, sym, subst, ◌∙◌, arith}
-use Rattle.replica.proofs.Names.{arc_value, BatchValue, IsBatch, State}
-use Rattle.std.proofs.lemmas.List.Sums.{length-filter, count_by-le-length}
+use Rattle.replica.proofs.Names.{arc_value, BatchValue, IsBatch, State, length-filter, count_by-le-length}
 use Rattle.batches.specs.Kept.{rows_at}
 use Rattle.replica.specs.Sent.{ChangedValue, IsTold, batch_name, changed_registers, sent_batch}
 use Rattle.replica.proofs.SentLemmas.Sent.{count_take, sent_short, sent_true}

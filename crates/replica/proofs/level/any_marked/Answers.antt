@@ -1,7 +1,5 @@
 use Rattle.std.proofs.Common.{◌≡◌, ℕ, nat_lt, Bool, false, List, length, inl, inr, sym, ◌∙◌, arith}
-use Rattle.replica.proofs.Names.{list_any, cases_lt, le-ltb, lt-ltb, get_or_default}
-use Rattle.std.proofs.lemmas.List.Folds.{list_any_at, list_any_none}
-use Rattle.registers.specs.Marks.{IsNextMarked}
+use Rattle.replica.proofs.Names.{list_any, cases_lt, le-ltb, lt-ltb, get_or_default, list_any_at, list_any_none, IsNextMarked}
 use Rattle.replica.proofs.level.any_marked.Goals as goal
 
 -- there is a marked place exactly where the first one is no end

@@ -1,5 +1,5 @@
 use Rattle.std.proofs.Common.{◌≡◌, ℕ, ◌<◌, not, slice_index_or, length, [], false}
-use Rattle.std.specs.Str.{bytes_eq}
+use Rattle.replica.proofs.Names.{bytes_eq}
 use Rattle.replica.proofs.level.mark_differences.Given as goal
 
 abbrev pub invariant-loop-i : goal.invariant-loop-i

@@ -1,6 +1,5 @@
 use Rattle.std.proofs.Common.{◌≡◌, ◌<◌, ◌≤◌, length, map, rules, ap, ◌∙◌, subst, arith}
-use Rattle.replica.proofs.Names.{arc_value, length-map, BatchValue, PlanValue, IsPlan}
-use Rattle.ball_model.specs.declared.names.BatchName.{BatchName}
+use Rattle.replica.proofs.Names.{arc_value, length-map, BatchValue, PlanValue, IsPlan, BatchName}
 use Rattle.replica.specs.Ahead.{IsTable}
 use Rattle.replica.specs.Saved.{MayKeep}
 use Rattle.replica.proofs.SavedLemmas.Saved.{filled_all, filled_more, filled_none, may_at, shared_at, source_of}

@@ -1,6 +1,5 @@
 use Rattle.std.proofs.Common.{◌≡◌, ◌+◌, ◌*◌, ◌≤◌, ◌<◌, length, map, ap, sym, ◌∙◌, subst, arith}
-use Rattle.replica.proofs.Names.{arc_value, iff_false, length-map, BatchValue}
-use Rattle.ball_model.specs.declared.names.BatchName.{BatchName}
+use Rattle.replica.proofs.Names.{arc_value, iff_false, length-map, BatchValue, BatchName}
 use Rattle.replica.specs.Saved.{MayKeep, order_key}
 use Rattle.replica.proofs.SavedLemmas.Fits.{key_is, kept_more}
 use Rattle.replica.proofs.SavedLemmas.Saved.{may_at, shared_at}

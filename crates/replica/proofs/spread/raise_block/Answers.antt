@@ -1,6 +1,5 @@
 use Rattle.std.proofs.Common.{◌≡◌, ◌<◌, ◌+◌, ◌||◌, ◌==◌, ℕ, List, length, get_or, take, refl, ap, arith, ◌∙◌}
-use Rattle.std.proofs.lemmas.List.Folds.{list_any_more}
-use Rattle.replica.proofs.Names.{Table}
+use Rattle.replica.proofs.Names.{Table, list_any_more}
 use Rattle.replica.specs.Spread.{stands_in}
 use Rattle.replica.proofs.SpreadLemmas.{spread-none, spread-more, length-spread, touched-none, touched-more}
 use Rattle.replica.proofs.spread.raise_block.Goals as goal

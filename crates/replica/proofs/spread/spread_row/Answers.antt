@@ -1,6 +1,5 @@
 use Rattle.std.proofs.Common.{◌≡◌, false, ◌<◌, ◌++◌, ℕ, List, [], length, get_or, refl, ap, arith, rules, sym, ◌∙◌}
-use Rattle.replica.proofs.Names.{nil_from_length, get_or_past, Table}
-use Rattle.std.proofs.lemmas.List.Folds.{list_any-append}
+use Rattle.replica.proofs.Names.{nil_from_length, get_or_past, Table, list_any-append}
 use Rattle.std.specs.Slice.Iter.{chunks_rest}
 use Rattle.registers.proofs.TableLemmas.{same_table}
 use Rattle.replica.specs.Heard.{MarksChanges}

@@ -1,8 +1,5 @@
 use Rattle.std.proofs.Common.{◌≡◌, ℕ, ◌+◌, ◌<◌, ◌≤◌, Bool, List, length, map, get_or, ap, sym, ◌∙◌, arith}
-use Rattle.replica.proofs.Names.{length-map, length-set, map-set, get_or-map, get_or_default, same_lists, TallyValue, no_figures, value_of}
-use Rattle.figures.specs.declared.tally.Tally.{Tally}
-use Rattle.registers.specs.Marks.{IsNextMarked}
-use Rattle.registers.proofs.MarkLemmas.{passed}
+use Rattle.replica.proofs.Names.{length-map, length-set, map-set, get_or-map, get_or_default, same_lists, TallyValue, no_figures, value_of, Tally, IsNextMarked, passed}
 use Rattle.replica.specs.Tallies.{DifferAt}
 use Rattle.replica.proofs.LevelLemmas.Step.{step_done, step_rest}
 use Rattle.replica.proofs.tallies.follow.Goals as goal

@@ -1,8 +1,7 @@
 use Rattle.std.proofs.Common.{arith, map, option_map, subst}
-use Rattle.replica.proofs.Names.{arc_value}
+use Rattle.replica.proofs.Names.{arc_value, copies-at}
 use Rattle.replica.specs.Ahead.{table_of, IsTable}
 use Rattle.replica.proofs.AheadLemmas.{early_in, out_level, out_source, is_table}
-use Rattle.edgelist.proofs.RangeLemmas.{copies-at}
 use Rattle.replica.proofs.early.Early.empty.Goals as goal
 
 pub returns : goal.returns

@@ -1,6 +1,5 @@
 use Rattle.std.proofs.Common.{◌≡◌, ◌||◌, ◌==◌, not, Bool, List, Some, length, ap, ◌∙◌, sym, subst, set, arith}
-use Rattle.replica.proofs.Names.{with_items, with_items_is, Table}
-use Rattle.ball_model.specs.declared.names.BatchName.{BatchName}
+use Rattle.replica.proofs.Names.{with_items, with_items_is, Table, BatchName}
 use Rattle.replica.specs.Hearing.{HearingValue, HearsAlso, HearsByIndex, batch_by}
 use Rattle.replica.specs.Heard.{StayTouched}
 use Rattle.replica.specs.Kept.{AllRise}

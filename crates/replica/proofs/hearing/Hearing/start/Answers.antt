@@ -1,7 +1,6 @@
 use Rattle.std.proofs.Common.{◌≡◌, Bool, List, false, replicate, rules, refl, sym, ◌∙◌, subst}
-use Rattle.replica.proofs.Names.{length-replicate, Table}
+use Rattle.replica.proofs.Names.{length-replicate, Table, copies-at}
 use Rattle.replica.specs.Spread.{AreTouched}
-use Rattle.edgelist.proofs.RangeLemmas.{copies-at}
 use Rattle.replica.proofs.LevelLemmas.Level.{none_touched}
 use Rattle.replica.proofs.hearing.Hearing.start.Goals as goal
 

@@ -1,6 +1,5 @@
 use Rattle.std.proofs.Common.{◌≡◌, List, map, ap, ap₂, sym, ◌∙◌, subst}
-use Rattle.replica.proofs.Names.{sum_by, value_of, TallyValue, Measure, estimate_with, PlanValue, measure_of}
-use Rattle.figures.specs.declared.tally.Tally.{Tally}
+use Rattle.replica.proofs.Names.{sum_by, value_of, TallyValue, Measure, estimate_with, PlanValue, measure_of, Tally}
 use Rattle.replica.specs.Kept.{AreSums}
 use Rattle.replica.proofs.SavedLemmas.Fits.{figures_kept}
 use Rattle.replica.proofs.LevelLemmas.Next.{map_lasts, sum_same}

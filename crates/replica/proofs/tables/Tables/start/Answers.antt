@@ -1,6 +1,5 @@
 use Rattle.std.proofs.Common.{◌≡◌, refl, ap, sym, ◌∙◌, arith}
-use Rattle.replica.proofs.Names.{sum_by, PlanValue, Table}
-use Rattle.figures.specs.declared.tally.Tally.{Tally}
+use Rattle.replica.proofs.Names.{sum_by, PlanValue, Table, Tally}
 use Rattle.replica.specs.Level.{total_of}
 use Rattle.replica.proofs.StartLemmas.Start.{first_counters, length-first_rows, started_total}
 use Rattle.replica.proofs.tables.Tables.start.Goals as goal
