@@ -205,8 +205,8 @@ pub put_first : (writer new : List Bool) (list : List ℕ) (n : ℕ) → n ≡ l
 put_first writer new list n long put =
     rw (put, long) (append_assoc writer (gamma (length list + 1)) (coded 0 list) ∙ ap (λ (t : List Bool). writer ++ t) (sym (list_bits-coded list)))
 
-pub put_all : (writer total : List Bool) (list : List ℕ) (i least : ℕ) → length list ≤ i → writer ++ coded least (drop i list) ≡ total → writer ≡ total
-put_all writer total list i least le so_far =
+pub put_whole : (writer total : List Bool) (list : List ℕ) (i least : ℕ) → length list ≤ i → writer ++ coded least (drop i list) ≡ total → writer ≡ total
+put_whole writer total list i least le so_far =
     sym (append-nil writer) ∙ ap (λ (t : List Bool). writer ++ t) (sym (ap (coded least) (drop_all i list le) ∙ coded-none least)) ∙ so_far
 
 pub ascends_at : (list : List ℕ) (i least : ℕ) → i < length list → AscendsFrom least (drop i list) → (least ≤ get_or list i 0) × AscendsFrom (get_or list i 0 + 1) (drop (i + 1) list)

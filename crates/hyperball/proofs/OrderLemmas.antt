@@ -17,12 +17,12 @@ use Rattle.std.proofs.lemmas.List.Sums.{fails_before_first, passes_at_first, spl
 use Rattle.std.proofs.lemmas.List.{get_or-map, length-map}
 use Rattle.ball_model.specs.WorldText.{node_word}
 use Rattle.ball_model.specs.declared.names.NodeId.{NodeId}
-use Rattle.hyperball.specs.Orders.{AreOrders, IsNodeName, IsOrder, Reads, is_plain, order_text, orders_text}
+use Rattle.hyperball.specs.Orders.{AreOrders, IsNodeName, IsOrder, Reads, has_plain_digits, order_text, orders_text}
 
 -- ---- numbers
 
 -- digits are plain
-decimal_plain : (n : ℕ) → n < 2 ^ 64 → is_plain (decimal n) ≡ true
+decimal_plain : (n : ℕ) → n < 2 ^ 64 → has_plain_digits (decimal n) ≡ true
 decimal_plain zero small = let e : decimal 0 ≡ 48 ∷ [] = decimal_digit 0 (omega arith) in rw e refl
 decimal_plain (suc n) small =
     let first = slice_index (decimal (suc n)) 0 in
@@ -42,7 +42,7 @@ lead_alone bs false is plain lead =
     absurd (cc)
 
 -- what is read of plain digits is the number that they spell
-pub read-plain : {E : Type 0} (k : ℕ) (bs : List ℕ) (r : Result ℕ E) → 2 ^ k ≤ 2 ^ 64 → is_plain bs ≡ true → ParsesUnsigned k 10 bs r → Reads (λ n. n < 2 ^ k) decimal bs (result_ok r)
+pub read-plain : {E : Type 0} (k : ℕ) (bs : List ℕ) (r : Result ℕ E) → 2 ^ k ≤ 2 ^ 64 → has_plain_digits bs ≡ true → ParsesUnsigned k 10 bs r → Reads (λ n. n < 2 ^ k) decimal bs (result_ok r)
 read-plain k bs (Ok n) fits plain h =
     let parts = both (slice_index bs 0 == 43) (length bs == 1 || not (slice_index bs 0 == 48)) plain in
     let whole : without_leading_plus bs ≡ bs = rw (parts.0) refl in
@@ -56,9 +56,9 @@ read-plain k bs (Err e) fits plain h = λ n small is.
     absurd (cc)
 
 -- what is not plain spells no number
-pub read-other : (bs : List ℕ) → is_plain bs ≡ false → (n : ℕ) → n < 2 ^ 64 → bs ≢ decimal n
+pub read-other : (bs : List ℕ) → has_plain_digits bs ≡ false → (n : ℕ) → n < 2 ^ 64 → bs ≢ decimal n
 read-other bs other n small is =
-    let plain : is_plain bs ≡ true = ap is_plain is ∙ decimal_plain n small in
+    let plain : has_plain_digits bs ≡ true = ap has_plain_digits is ∙ decimal_plain n small in
     absurd (cc)
 
 -- ---- pieces

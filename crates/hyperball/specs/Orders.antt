@@ -35,5 +35,5 @@ Reads {A} Fits spell text read =
     MatchOption read ((a : A) → Fits a → text ≢ spell a) (λ a. Fits a × (text ≡ spell a))
 
 -- a text does not begin with a plus, nor with a zero that is not all of it
-abbrev pub is_plain : List ℕ → Bool
-is_plain text = not (slice_index text 0 == 43) && (length text == 1 || not (slice_index text 0 == 48))
+abbrev pub has_plain_digits : List ℕ → Bool
+has_plain_digits text = not (slice_index text 0 == 43) && (length text == 1 || not (slice_index text 0 == 48))

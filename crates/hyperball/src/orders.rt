@@ -3,7 +3,7 @@
 ghost use Rattle.std.specs.Prelude.{◌≡◌, ◌<◌, ◌^◌, IfOk, List, MatchResult, decimal, ℕ};
 ghost use Rattle.ball_model.specs.WorldText.{node_word};
 ghost use Rattle.ball_model.specs.declared.names.NodeId.{NodeId as Node};
-ghost use Rattle.hyperball.specs.Orders.{AreOrders, IsNodeName, IsOrder, Reads, is_plain};
+ghost use Rattle.hyperball.specs.Orders.{AreOrders, IsNodeName, IsOrder, Reads, has_plain_digits};
 ghost use Rattle.hyperball.specs.Orders.{order_text};
 
 use ball_model::NodeId;
@@ -19,8 +19,8 @@ pub enum OrdersError {
 }
 
 // Whether a number is written without a plus and without needless zeros.
-fn is_plain(digits: &str) -> bool
-    ensures { result ≡ is_plain digits.now }
+fn has_plain_digits(digits: &str) -> bool
+    ensures { result ≡ has_plain_digits digits.now }
 {
     let bytes = digits.as_bytes();
     match bytes.first() {
@@ -34,7 +34,7 @@ fn is_plain(digits: &str) -> bool
 fn part_in(digits: &str) -> Option<u16>
     ensures { Reads (λ n. n < 2 ^ 16) decimal digits.now result }
 {
-    if !is_plain(digits) {
+    if !has_plain_digits(digits) {
         return None;
     }
     digits.parse::<u16>().ok()
@@ -44,7 +44,7 @@ fn part_in(digits: &str) -> Option<u16>
 fn replica_in(digits: &str) -> Option<u8>
     ensures { Reads (λ n. n < 2 ^ 8) decimal digits.now result }
 {
-    if !is_plain(digits) {
+    if !has_plain_digits(digits) {
         return None;
     }
     digits.parse::<u8>().ok()
@@ -54,7 +54,7 @@ fn replica_in(digits: &str) -> Option<u8>
 fn superstep_in(digits: &str) -> Option<u32>
     ensures { Reads (λ n. n < 10 ^ 9) decimal digits.now result }
 {
-    if !is_plain(digits) {
+    if !has_plain_digits(digits) {
         return None;
     }
     match digits.parse::<u32>() {

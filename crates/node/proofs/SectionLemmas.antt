@@ -82,25 +82,25 @@ mark_when : (t : Bool) (o p : Option (List ℕ)) (rest : List ℕ) → (t ≡ tr
 mark_when true o p rest e = e refl
 mark_when false o p rest e = refl
 
-pub known : (xs rest : List ℕ) → is_front xs ≡ false → after_mark (xs ++ rest) ≡ onto rest (after_mark xs)
-known [] rest is = absurd (cc)
-known (a ∷ []) [] is = refl
-known (a ∷ []) (b ∷ rest) is = other (a == 37) (b == 37) is
+pub mark_then_rest : (xs rest : List ℕ) → is_front xs ≡ false → after_mark (xs ++ rest) ≡ onto rest (after_mark xs)
+mark_then_rest [] rest is = absurd (cc)
+mark_then_rest (a ∷ []) [] is = refl
+mark_then_rest (a ∷ []) (b ∷ rest) is = other (a == 37) (b == 37) is
   where
     other : (t u : Bool) → t ≡ false → (if t && u then after_line rest else None) ≡ onto (b ∷ rest) None
     other true u e = absurd (cc)
     other false u e = refl
-known (a ∷ b ∷ []) rest is = other ((a == 37) && (b == 37)) is
+mark_then_rest (a ∷ b ∷ []) rest is = other ((a == 37) && (b == 37)) is
   where
     other : (t : Bool) → t ≡ false → (if t then after_line rest else None) ≡ onto rest (if t then after_line [] else None)
     other true e = absurd (cc)
     other false e = refl
-known (a ∷ b ∷ c ∷ []) rest is = mark_when ((a == 37) && (b == 37)) (after_line (c ∷ rest)) (after_line (c ∷ [])) rest (λ marks. line_one c (c == 13) refl (last ((a == 37) && (b == 37)) (c == 13) is marks) rest)
+mark_then_rest (a ∷ b ∷ c ∷ []) rest is = mark_when ((a == 37) && (b == 37)) (after_line (c ∷ rest)) (after_line (c ∷ [])) rest (λ marks. line_one c (c == 13) refl (last ((a == 37) && (b == 37)) (c == 13) is marks) rest)
   where
     last : (t u : Bool) → (t && u) ≡ false → t ≡ true → u ≡ false
     last true u e m = e
     last false u e m = absurd (cc)
-known (a ∷ b ∷ c ∷ d ∷ more) rest is = mark_when ((a == 37) && (b == 37)) (after_line (c ∷ d ∷ (more ++ rest))) (after_line (c ∷ d ∷ more)) rest (λ marks. line_two c d more rest)
+mark_then_rest (a ∷ b ∷ c ∷ d ∷ more) rest is = mark_when ((a == 37) && (b == 37)) (after_line (c ∷ d ∷ (more ++ rest))) (after_line (c ∷ d ∷ more)) rest (λ marks. line_two c d more rest)
 
 -- ---- the tail behind a byte
 pub tail_rest : (b : ℕ) (xs : List ℕ) → is_tail (b ∷ xs) ≡ true → IsAhead (b == 10) xs
@@ -186,7 +186,7 @@ onto_nil None = refl
 onto_nil (Some l) = ap Some (append-nil l)
 
 after_text : (xs u : List ℕ) (f : Bool) → is_front xs ≡ f → (f ≡ true → u ≡ []) → after_mark (xs ++ u) ≡ onto u (after_mark xs)
-after_text xs u false is end = known xs u is
+after_text xs u false is end = mark_then_rest xs u is
 after_text xs u true is end =
     subst (λ (l : List ℕ). after_mark (xs ++ l) ≡ onto l (after_mark xs)) (sym (end refl)) (ap after_mark (append-nil xs) ∙ sym (onto_nil (after_mark xs)))
 

@@ -12,7 +12,7 @@ use Rattle.workers.specs.declared.node.NodeEnd.{NodeEnd}
 use Rattle.workers.specs.declared.node.NodeError.{NodeError}
 use Rattle.workers.specs.declared.node.NodeError.TheVariants as fault
 use Rattle.workers.specs.Node.{FallsDue, HasToldAll, IfDone, IfLost, IfStarved, IsDone, WasMissing}
-use Rattle.workers.specs.Tie.{HasCome, HasGone, IsPath, IsPathTo}
+use Rattle.workers.specs.Tie.{HasCome, HasGone, IsNodePath, IsPathTo}
 use Rattle.workers.specs.Superstep.{IsFate, end_with}
 use Rattle.workers.proofs.PathLemmas.{gone}
 
@@ -25,7 +25,7 @@ pub record EndsAs (v : Caller) (p : ℕ) (lose : Option ℕ) (e : Result NodeEnd
   pub starved : IfOk e (λ end. IfStarved end (λ s q. WasMissing v (batch_name s q p) w))
   pub starved_told : IfOk e (λ end. IfStarved end (λ s q. HasToldAll v s p w))
   pub source : IfOk e (λ end. IfStarved end (λ s q. (q < v.seen.job.plan.parts) × (q ≢ p)))
-  pub path : IsPath v p w
+  pub path : IsNodePath v p w
   pub came : IfOk e (λ end. IfDone end (λ r. IsPathTo v p r w))
   pub full : IfErr e (λ e. e ≡ fault.BookFull → IsFull w)
   pub alone : v.seen.job.plan.parts ≡ 1 → IfOk e (λ end. IfStarved end (λ s q. ⊥))

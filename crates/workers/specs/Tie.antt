@@ -84,8 +84,8 @@ pub record HasGone (v : Caller) (p : ℕ) (old : Holding) (w : Caller) : Type 0 
   pub come : HasCome v p old new w
 
 -- since then the caller's own calls are those of a node of partition p from its start
-abbrev pub IsPath : Caller → ℕ → Caller → Type 0
-IsPath v p w = HasGone v p (start_holding v.seen.job.plan p) w
+abbrev pub IsNodePath : Caller → ℕ → Caller → Type 0
+IsNodePath v p w = HasGone v p (start_holding v.seen.job.plan p) w
 
 -- and by them the node came to hold what that replica holds
 abbrev pub IsPathTo : Caller → ℕ → State → Caller → Type 0
@@ -163,7 +163,7 @@ HistoriesAreRuns = (replicas : ℕ) (h : History) → 0 < replicas → IsLegal h
 -- which are what a shorter history has
 abbrev pub PathsAreOfNodes : Type 0
 PathsAreOfNodes = (v w : Caller) (p : ℕ) (made : List HistoryEvent) → p < v.seen.job.plan.parts →
-    calls_by v.number v.seen ≡ [] → IsPath v p w → IsPrefix made (calls_by v.number w.seen) →
+    calls_by v.number v.seen ≡ [] → IsNodePath v p w → IsPrefix made (calls_by v.number w.seen) →
     AreOfNode v.seen.job made
 
 -- there is a run of a world with the messages and the copies of the history, in which the node can hold what the

@@ -9,7 +9,7 @@ ghost use Rattle.ball_model.specs.Caller.{Extends, IsCaller, IsFull};
 ghost use Rattle.workers.specs.declared.node.NodeError.TheVariants.{BookFull, Memory};
 ghost use Rattle.workers.specs.Node.{FallsDue, HasToldAll, IfDone, IfLost, IfStarved, IsDone};
 ghost use Rattle.workers.specs.Node.{WasMissing};
-ghost use Rattle.workers.specs.Tie.{HasCome, HasGone, IsPath, IsPathTo};
+ghost use Rattle.workers.specs.Tie.{HasCome, HasGone, IsNodePath, IsPathTo};
 ghost use Rattle.workers.specs.Superstep.{IsAnew, IsFate, IsFirst, IsPartOf, StandsIn, early_end};
 ghost use Rattle.workers.specs.Superstep.{end_with};
 ghost use Rattle.replica.specs.Sent.{batch_name};
@@ -251,7 +251,7 @@ pub fn run_node<R: AllocGlobal + Wait, E: Exchange, G: Gate>(
         HasToldAll (E.caller exchange.old) s node.part (E.caller exchange.new))) }
     ensures source { IfOk result (λ end. IfStarved end (λ s q.
         (q < (E.caller exchange.old).seen.job.plan.parts) × (q ≢ node.part))) }
-    ensures path { IsPath (E.caller exchange.old) node.part (E.caller exchange.new) }
+    ensures path { IsNodePath (E.caller exchange.old) node.part (E.caller exchange.new) }
     ensures came { IfOk result (λ end. IfDone end (λ r.
         IsPathTo (E.caller exchange.old) node.part r (E.caller exchange.new))) }
     ensures full { IfErr result (λ e. e ≡ BookFull → IsFull (E.caller exchange.new)) }

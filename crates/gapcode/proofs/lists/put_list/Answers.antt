@@ -1,6 +1,6 @@
 use Rattle.std.proofs.Common.{◌++◌, ◌<◌, length, get_or, refl, arith}
 use Rattle.gapcode.specs.Lists.{list_bits}
-use Rattle.gapcode.proofs.IndexLemmas.{put_first, put_next, put_all, ascends_at}
+use Rattle.gapcode.proofs.IndexLemmas.{put_first, put_next, put_whole, ascends_at}
 use Rattle.gapcode.proofs.lists.put_list.Goals as goal
 
 pub loop-x-init : goal.loop-x-init
@@ -23,4 +23,4 @@ loop-x-preserved c =
     }
 
 pub returns : goal.returns
-returns c = put_all c.loop-x.writer (c.args.writer.now ++ list_bits c.args.list.now) c.args.list.now c.loop-x.x-index c.loop-x.least (omega (arith, c.loop-x-test.false)) c.loop-x.invariant.so_far
+returns c = put_whole c.loop-x.writer (c.args.writer.now ++ list_bits c.args.list.now) c.args.list.now c.loop-x.x-index c.loop-x.least (omega (arith, c.loop-x-test.false)) c.loop-x.invariant.so_far
