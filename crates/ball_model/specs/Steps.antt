@@ -17,13 +17,13 @@ pub data Call : Type 0 where
   Merge : Content → Call
 
 -- what a call answers
-pub data Answer : Type 0 where
-  Took : Result Taken TakeError → Answer
-  Closed : Result ℕ CloseError → Answer
-  Merged : Result (Unit {0}) MergeError → Answer
+pub data CallAnswer : Type 0 where
+  Took : Result Taken TakeError → CallAnswer
+  Closed : Result ℕ CloseError → CallAnswer
+  Merged : Result (Unit {0}) MergeError → CallAnswer
 
 -- the answer to a call, as the content says
-abbrev pub answer_due : Job → ℕ → Content → Call → Answer
+abbrev pub answer_due : Job → ℕ → Content → Call → CallAnswer
 answer_due j p c (Take name) = Took (take_of j.plan p c j.plan name)
 answer_due j p c Close = Closed (close_of j p c)
 answer_due j p c (Merge d) = Merged (merge_of j.plan p j.plan p)
@@ -53,7 +53,7 @@ content_after_all j p c [] = c
 content_after_all j p c (call ∷ calls) = content_after_all j p (content_after j p c call) calls
 
 -- the answers to a list of calls, one after the other
-unfoldable pub answers_due : Job → ℕ → Content → List Call → List Answer
+unfoldable pub answers_due : Job → ℕ → Content → List Call → List CallAnswer
 answers_due j p c [] = []
 answers_due j p c (call ∷ calls) =
     answer_due j p c call ∷ answers_due j p (content_after j p c call) calls

@@ -5,7 +5,7 @@ use Rattle.ball_model.specs.Job.{Job}
 use Rattle.ball_model.specs.Content.{Content}
 use Rattle.ball_model.specs.Join.{Holding, content_in, holding_of}
 use Rattle.ball_model.specs.State.{State, content_of}
-use Rattle.ball_model.specs.Steps.{Call, Answer, answer_due, answers_due, content_after, content_after_all}
+use Rattle.ball_model.specs.Steps.{Call, CallAnswer, answer_due, answers_due, content_after, content_after_all}
 use Rattle.ball_model.specs.Held.{IsHeldBy, held_after}
 use Rattle.ball_model.proofs.JoinLemmas.{content_back}
 use Rattle.replica.specs.Seen.{IsState}
@@ -35,7 +35,7 @@ holding_here j p c v k state = record {
 }
 
 -- a call of a replica that has a holding: its answer, and the holding after it
-pub stepped : (j : Job) (p : ℕ) (h : Holding) (call : Call) (answer : Answer) (v w : State) → IsHeldBy j p h → Has j h v → Did j h.partition call answer v w → IsState w →
+pub stepped : (j : Job) (p : ℕ) (h : Holding) (call : Call) (answer : CallAnswer) (v w : State) → IsHeldBy j p h → Has j h v → Did j h.partition call answer v w → IsState w →
     (answer ≡ answer_due j h.partition (content_in h) call) × Has j (held_after j h call) w
 unfolding Made answers_due content_after_all
 stepped j p h call answer v w held k did state =
@@ -45,9 +45,9 @@ stepped j p h call answer v w held k did state =
       subst (λ (plan : PlanValue). Has j (holding_of plan h.partition after) w) (sym held.plan) (holding_here j h.partition after w run.1 state),
     )
   where
-    one_answer : (a b : Answer) → (a ∷ []) ≡ (b ∷ []) → a ≡ b
+    one_answer : (a b : CallAnswer) → (a ∷ []) ≡ (b ∷ []) → a ≡ b
     one_answer a b e = ap (λ l. first l a) e
       where
-        first : List Answer → Answer → Answer
+        first : List CallAnswer → CallAnswer → CallAnswer
         first [] d = d
         first (x ∷ xs) d = x

@@ -8,14 +8,14 @@ use Rattle.ball_model.specs.declared.names.TakeError.{TakeError}
 use Rattle.ball_model.specs.declared.names.CloseError.{CloseError}
 use Rattle.ball_model.specs.declared.names.MergeError.{MergeError}
 use Rattle.ball_model.specs.declared.names.MergeError.TheVariants as unmerged
-use Rattle.ball_model.specs.declared.world.Answer.{Answer as Said}
+use Rattle.ball_model.specs.declared.world.Answer.{Answer}
 use Rattle.ball_model.specs.declared.world.Answer.TheVariants as answer
 use Rattle.ball_model.specs.Content.{take_of, close_of}
 use Rattle.ball_model.specs.Job.{Job}
 use Rattle.ball_model.specs.History.{holding_in}
 use Rattle.ball_model.specs.Join.{Holding, content_in, join_of, merge_of}
 use Rattle.ball_model.specs.State.{State, StandsFor, content_of, further}
-use Rattle.ball_model.specs.Steps.{Take, Close, Answer, Took, Closed, Merged, start_content}
+use Rattle.ball_model.specs.Steps.{Take, Close, CallAnswer, Took, Closed, Merged, start_content}
 use Rattle.ball_model.specs.World.{start_node, taken_answer, closed_answer}
 use Rattle.ball_model.proofs.WorldLemmas.{own_copy}
 use Rattle.replica.specs.Merged.{Absorbs, HoldsOfBoth, ShowsAs, merge_answer}
@@ -28,12 +28,12 @@ use Rattle.world.specs.Turns.{Turns, taken_turn, closed_turn, merged_turn, merge
 use Rattle.world.proofs.BridgeLemmas.{stepped, holding_here}
 
 -- what is in an answer
-took_in : Result Taken TakeError → Answer → Result Taken TakeError
+took_in : Result Taken TakeError → CallAnswer → Result Taken TakeError
 took_in d (Took r) = r
 took_in d (Closed r) = d
 took_in d (Merged r) = d
 
-closed_in : Result ℕ CloseError → Answer → Result ℕ CloseError
+closed_in : Result ℕ CloseError → CallAnswer → Result ℕ CloseError
 closed_in d (Took r) = d
 closed_in d (Closed r) = r
 closed_in d (Merged r) = d
@@ -41,7 +41,7 @@ closed_in d (Merged r) = d
 abbrev pub node : State → Option (List ℕ) → SeenNode
 node v kept = record { replica = v; kept = kept }
 
-pub close_turns : (j : Job) (r : Result ℕ CloseError) (a : Said) (v w : State) (kept : Option (List ℕ)) → ((k : Job) (p : ℕ) → Closes k p r v w) → IsState w → a ≡ closed_answer r →
+pub close_turns : (j : Job) (r : Result ℕ CloseError) (a : Answer) (v w : State) (kept : Option (List ℕ)) → ((k : Job) (p : ℕ) → Closes k p r v w) → IsState w → a ≡ closed_answer r →
     Turns j (closed_turn j) a (node v kept) (node w kept)
 unfolding closed_in
 close_turns j r a v w kept step state said = record {
@@ -52,7 +52,7 @@ close_turns j r a v w kept step state said = record {
       (said ∙ ap closed_answer same, record { content = both.1; kept = shows.kept });
 }
 
-pub take_turns : (j : Job) (name : BatchName) (r : Result Taken TakeError) (a : Said) (v w : State) (kept : Option (List ℕ)) → ((p : ℕ) → Takes j p name r v w) → IsState w → a ≡ taken_answer r →
+pub take_turns : (j : Job) (name : BatchName) (r : Result Taken TakeError) (a : Answer) (v w : State) (kept : Option (List ℕ)) → ((p : ℕ) → Takes j p name r v w) → IsState w → a ≡ taken_answer r →
     Turns j (taken_turn j name) a (node v kept) (node w kept)
 unfolding took_in
 take_turns j name r a v w kept step state said = record {
@@ -130,8 +130,8 @@ unmerged_turns j c v o w e kept m some l = record {
     error_is x k = ap error_in k
 
 -- the answer to a refusal
-pub if_unmerged : {E : Type 0} (r : Result Said E) (j : Job) (c : Holding) (e : MergeError) (s t : SeenNode) → IfOk r (λ a. (a ≡ answer.NotMerged e) × (e ≢ unmerged.Memory)) → (e ≢ unmerged.Memory → Turns j (merged_turn c) (answer.NotMerged e) s t) → IfOk r (λ a. Turns j (merged_turn c) a s t)
-if_unmerged (Ok a) j c e s t h turns = subst (λ (x : Said). Turns j (merged_turn c) x s t) (sym h.0) (turns h.1)
+pub if_unmerged : {E : Type 0} (r : Result Answer E) (j : Job) (c : Holding) (e : MergeError) (s t : SeenNode) → IfOk r (λ a. (a ≡ answer.NotMerged e) × (e ≢ unmerged.Memory)) → (e ≢ unmerged.Memory → Turns j (merged_turn c) (answer.NotMerged e) s t) → IfOk r (λ a. Turns j (merged_turn c) a s t)
+if_unmerged (Ok a) j c e s t h turns = subst (λ (x : Answer). Turns j (merged_turn c) x s t) (sym h.0) (turns h.1)
 if_unmerged (Err x) j c e s t h turns = tt
 
 -- ---- the start
