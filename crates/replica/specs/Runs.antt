@@ -16,7 +16,7 @@ use Rattle.ball_model.specs.Job.{Job}
 use Rattle.ball_model.specs.Content.{Content, IsContent, take_of, is_new, missing_of, close_of, after_close}
 use Rattle.ball_model.specs.Join.{union_of}
 use Rattle.ball_model.specs.State.{State, StandsFor, content_of}
-use Rattle.ball_model.specs.Steps.{Call, Take, Close, Merge, Answer, Took, Closed, Merged, start_content, content_after_all, answers_due}
+use Rattle.ball_model.specs.Steps.{Call, Take, Close, Merge, CallAnswer, Took, Closed, Merged, start_content, content_after_all, answers_due}
 use Rattle.replica.specs.Change.{HoldsAfter}
 use Rattle.replica.specs.Level.{EndsRun, found_verdict}
 use Rattle.replica.specs.Seen.{IsState}
@@ -49,14 +49,14 @@ pub record Merges (j : Job) (p : ℕ) (d : Content) (r : Result (Unit {0}) Merge
   pub stands : (t : ℕ) → StandsFor j p t v → OnOk r (StandsFor j p (max t d.superstep) w)
 
 -- this call, with this answer, made the one of the other; a merge that was refused memory changes nothing and is no call
-abbrev pub Did : Job → ℕ → Call → Answer → State → State → Type 0
+abbrev pub Did : Job → ℕ → Call → CallAnswer → State → State → Type 0
 Did j p (Take name) (Took r) v w = Takes j p name r v w
 Did j p Close (Closed r) v w = Closes j p r v w
 Did j p (Merge d) (Merged r) v w = (r ≢ Err refusal.Memory) × Merges j p d r v w
 Did j p call answer v w = ⊥
 
 -- these calls, one after the other, each with its answer, made the one of the other
-unfoldable pub Made : Job → ℕ → State → List Call → List Answer → State → Type 0
+unfoldable pub Made : Job → ℕ → State → List Call → List CallAnswer → State → Type 0
 Made j p v [] [] w = w ≡ v
 Made j p v (call ∷ calls) (answer ∷ answers) w =
     (u : State) × Did j p call answer v u × Made j p u calls answers w
@@ -64,25 +64,25 @@ Made j p v calls answers w = ⊥
 
 -- from the start, by any list of calls, a replica stands for what the calls make of its content
 abbrev pub RunStands : Type 0
-RunStands = (j : Job) (p : ℕ) (calls : List Call) (answers : List Answer) (v w : State) →
+RunStands = (j : Job) (p : ℕ) (calls : List Call) (answers : List CallAnswer) (v w : State) →
     HasContent j p start_content v → Made j p v calls answers w →
     HasContent j p (content_after_all j p start_content calls) w
 
 -- and each call answers what the content says
 abbrev pub RunAnswersAsDue : Type 0
-RunAnswersAsDue = (j : Job) (p : ℕ) (calls : List Call) (answers : List Answer) (v w : State) →
+RunAnswersAsDue = (j : Job) (p : ℕ) (calls : List Call) (answers : List CallAnswer) (v w : State) →
     HasContent j p start_content v → Made j p v calls answers w →
     answers ≡ answers_due j p start_content calls
 
 -- how many of these answers are of a close that went on
-unfoldable pub closes_in : List Answer → ℕ
+unfoldable pub closes_in : List CallAnswer → ℕ
 closes_in [] = 0
 closes_in (Closed (Ok t) ∷ answers) = closes_in answers + 1
 closes_in (answer ∷ answers) = closes_in answers
 
 -- its superstep is at most the end, and at most so many of the closes went on
 abbrev pub RunIsInTime : Type 0
-RunIsInTime = (j : Job) (p : ℕ) (calls : List Call) (answers : List Answer) (v w : State) →
+RunIsInTime = (j : Job) (p : ℕ) (calls : List Call) (answers : List CallAnswer) (v w : State) →
     HasContent j p start_content v → Made j p v calls answers w →
     (closes_in answers ≤ w.superstep)
     × (w.superstep ≤ end_of (mixing_of j.plan) j.graph j.plan.limit)
@@ -118,7 +118,7 @@ SameContentIsSame = (j : Job) (p : ℕ) (c : Content) (v w : State) → HasConte
 -- and the same calls on both have the same answers, and leave both with one content
 abbrev pub SameCallsAlike : Type 0
 SameCallsAlike =
-    (j : Job) (p : ℕ) (c : Content) (calls : List Call) (left right : List Answer)
+    (j : Job) (p : ℕ) (c : Content) (calls : List Call) (left right : List CallAnswer)
     (v v2 w w2 : State) → HasContent j p c v → HasContent j p c w →
     Made j p v calls left v2 → Made j p w calls right w2 →
     (left ≡ right) × ((e : Content) × HasContent j p e v2 × HasContent j p e w2)

@@ -12,7 +12,7 @@ use Rattle.ball_model.specs.Batches.{BatchValue, true_batch}
 use Rattle.ball_model.specs.Content.{Content}
 use Rattle.ball_model.specs.Join.{Holding, content_in, holding_of, join_of}
 use Rattle.ball_model.specs.State.{State, StandsFor, content_of}
-use Rattle.ball_model.specs.Steps.{Call, Answer, Take, Close, Took, Closed, start_content, content_after, answers_due, content_after_all}
+use Rattle.ball_model.specs.Steps.{Call, CallAnswer, Take, Close, Took, Closed, start_content, content_after, answers_due, content_after_all}
 use Rattle.ball_model.specs.Held.{start_holding, held_after}
 use Rattle.ball_model.specs.History.{HistoryEvent, History, calls_by, holding_in}
 use Rattle.ball_model.specs.Caller.{Caller, Extends, Called, CalledNothing}
@@ -126,7 +126,7 @@ start_held j p v stands names =
     held_as j p start_content v k
 
 -- after a call
-held_next : (j : Job) (p : ℕ) (call : Call) (answer : Answer) (v w : State) → StandsFor j p v.superstep v → IsState v → Did j p call answer v w → holding_in w ≡ held_after j (holding_in v) call
+held_next : (j : Job) (p : ℕ) (call : Call) (answer : CallAnswer) (v w : State) → StandsFor j p v.superstep v → IsState v → Did j p call answer v w → holding_in w ≡ held_after j (holding_in v) call
 unfolding Made answers_due content_after_all
 held_next j p call answer v w stands state did =
     let c : Content = content_of v in
