@@ -19,24 +19,24 @@ map_alike : {X : Type 0} (f g : ℕ → X) (xs : List ℕ) → AllByRecursion (�
 map_alike f g [] h = refl
 map_alike f g (x ∷ xs) h = rw (h.0, map_alike f g xs h.1) refl
 
--- what holds of each vertex holds of the own ones
-all_own : (P : ℕ → Type 0) (j : Job) (p : ℕ) → ((x : ℕ) → x < j.graph.vertices → P x) → AllByRecursion P (own_vertices j p)
+-- what holds of each vertex holds of those of a partition
+pub all_own : (P : ℕ → Type 0) (n parts p : ℕ) → ((x : ℕ) → x < n → P x) → AllByRecursion P (vertices_of n parts p)
 unfolding vertices_of
-all_own P j p h = range_all P (λ v. v % j.plan.parts == p) 0 j.graph.vertices j.graph.vertices (omega arith) h
+all_own P n parts p h = range_all P (λ v. v % parts == p) 0 n n (omega arith) h
 
 -- where nothing is heard, the accumulators are the rows
 pub accumulated_of-none : (j : Job) (p t : ℕ) → accumulated_of j p t (λ z. false) ≡ rows_of j p t
 unfolding accumulated_of rows_of
 accumulated_of-none j p t =
     map_alike (λ x. accumulated_row (mixing_of j.plan) j.graph x t (λ z. false)) (λ x. ball_counter (mixing_of j.plan) j.graph x t) (own_vertices j p)
-    (all_own (λ x. accumulated_row (mixing_of j.plan) j.graph x t (λ z. false) ≡ ball_counter (mixing_of j.plan) j.graph x t) j p (λ x lt. accumulated-none (mixing_of j.plan) j.graph x t))
+    (all_own (λ x. accumulated_row (mixing_of j.plan) j.graph x t (λ z. false) ≡ ball_counter (mixing_of j.plan) j.graph x t) j.graph.vertices j.plan.parts p (λ x lt. accumulated-none (mixing_of j.plan) j.graph x t))
 
 -- where all is heard, they are the rows at the next superstep
 pub accumulated_of-all : (j : Job) (p t : ℕ) → IsGraph j.graph → accumulated_of j p t (λ z. true) ≡ rows_of j p (t + 1)
 unfolding accumulated_of rows_of
 accumulated_of-all j p t ok =
     map_alike (λ x. accumulated_row (mixing_of j.plan) j.graph x t (λ z. true)) (λ x. ball_counter (mixing_of j.plan) j.graph x (t + 1)) (own_vertices j p)
-    (all_own (λ x. accumulated_row (mixing_of j.plan) j.graph x t (λ z. true) ≡ ball_counter (mixing_of j.plan) j.graph x (t + 1)) j p (λ x lt. accumulated-all (mixing_of j.plan) j.graph x t ok lt))
+    (all_own (λ x. accumulated_row (mixing_of j.plan) j.graph x t (λ z. true) ≡ ball_counter (mixing_of j.plan) j.graph x (t + 1)) j.graph.vertices j.plan.parts p (λ x lt. accumulated-all (mixing_of j.plan) j.graph x t ok lt))
 
 -- only changed vertices with an edge to an own one count
 pub accumulated_of-same : (j : Job) (p t : ℕ) (a b : ℕ → Bool) → ((x z : ℕ) → list_any (λ v. v == x) (own_vertices j p) ≡ true → is_edge j.graph z x ≡ true → changed_at (mixing_of j.plan) j.graph z t ≡ true → a z ≡ b z) →

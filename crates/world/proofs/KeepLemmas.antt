@@ -1,8 +1,8 @@
 -- What a node keeps, and goes back to: the proofs about `Node` cite these.
-use Rattle.std.proofs.Common.{◌≡◌, ◌⊎◌, inl, inr, ℕ, ◌<◌, ◌≤◌, List, [], ◌∷◌, refl, ap, sym, ◌∙◌, subst, arith}
+use Rattle.std.proofs.Common.{◌≡◌, ◌⊎◌, inl, inr, ℕ, ◌<◌, ◌≤◌, List, refl, ap, sym, ◌∙◌, subst, arith}
 use Rattle.std.specs.Prelude.{Option, None, Some, IfSome, Result, Ok, Err, IfOk, unwrap_or}
-use Rattle.std.specs.List.{All, AllByRecursion}
-use Rattle.std.proofs.lemmas.List.Elements.{All-nil, All-cons, All-map}
+use Rattle.std.specs.List.{All}
+use Rattle.std.proofs.lemmas.List.Elements.{All-from_recursion, All-map}
 use Rattle.ball_model.specs.declared.world.Answer.TheVariants as answer
 use Rattle.ball_model.specs.Checkpoint.{checkpoint_bytes}
 use Rattle.checkpoint.specs.Reading.{IsRead}
@@ -17,19 +17,15 @@ use Rattle.ball_model.specs.State.{State, own_vertices, tallies_of}
 use Rattle.ball_model.specs.World.{Node}
 use Rattle.ball_model.specs.WorldLaws.{IsWorldNode}
 use Rattle.ball_model.specs.Supersteps.{tally_at}
+use Rattle.ball_model.proofs.AccumulatedPartLemmas.{all_own}
 use Rattle.ball_model.proofs.EndLemmas.{end_within}
 use Rattle.ball_model.proofs.TallyLemmas.{tallies_fit}
 use Rattle.replica.specs.Saved.{IsFigures, IsKeepable}
-use Rattle.replica.proofs.IndexLemmas.Own.{all_own}
 use Rattle.world.specs.Shows.{ShowsNode, Agree, Has, KeepsContent}
 use Rattle.world.specs.Turns.{Turns, restarted_turn}
 use Rattle.world.proofs.NodeLemmas.{node}
 
 -- ---- what may be kept
-each : (P : ℕ → Type 0) (xs : List ℕ) → AllByRecursion P xs → All P xs
-each P [] h = All-nil P
-each P (x ∷ xs) h = All-cons P x xs h.0 (each P xs h.1)
-
 -- a replica that has a content of a job has figures that a run can have
 pub keepable : (j : Job) (h : Holding) (v : State) → Has j h v → IsKeepable v
 unfolding tallies_of
@@ -44,7 +40,7 @@ keepable j h v k =
       state = k.state;
       figures = subst (λ (l : List TallyValue). All IsFigures l) (sym s.tallies)
           (All-map IsFigures figures (own_vertices j h.partition)
-          (each (λ x. IsFigures (figures x)) (own_vertices j h.partition) (all_own (λ x. IsFigures (figures x)) j.graph.vertices j.plan.parts h.partition s.partition fit)));
+          (All-from_recursion (λ x. IsFigures (figures x)) (own_vertices j h.partition) (all_own (λ x. IsFigures (figures x)) j.graph.vertices j.plan.parts h.partition fit)));
     }
 
 -- ---- what is kept
