@@ -1,6 +1,6 @@
 -- The vertices of a partition, by their places.
-use Rattle.std.proofs.Common.{◌≡◌, ℕ, zero, suc, ◌+◌, ◌*◌, ◌/◌, ◌%◌, ◌<◌, ◌≤◌, true, ◌&&◌, ◌==◌, List, length, map, get_or, nat_lt, ap, arith, sym, ◌∙◌, subst, refl}
-use Rattle.replica.proofs.Names.{list_any, range_with_len, AllByRecursion, get_or-map, length-range_with_len, length-map-range_with_len, get_or-map-range_with_len, eq-eqb, and_from, ltb-true, lt-ltb, vertices_of, part_size, length-filter, count_by-le-length}
+use Rattle.std.proofs.Common.{◌≡◌, ℕ, ◌+◌, ◌*◌, ◌/◌, ◌%◌, ◌<◌, ◌≤◌, true, ◌&&◌, ◌==◌, List, length, map, get_or, nat_lt, ap, arith, ◌∙◌, refl}
+use Rattle.replica.proofs.Names.{list_any, range_with_len, get_or-map, length-range_with_len, length-map-range_with_len, get_or-map-range_with_len, eq-eqb, and_from, ltb-true, lt-ltb, vertices_of, part_size, length-filter, count_by-le-length}
 use Rattle.std.proofs.Math.Nat.{mul-add-mod_self_right, mod-eq_of_lt}
 use Rattle.std.proofs.lemmas.Nat.{div-add-mod'}
 use Rattle.std.specs.Cmp.{both_ways, first_so, second_so}
@@ -40,17 +40,6 @@ at_own f n parts p i d below lt =
     ap (λ (l : List ℕ). get_or (map f l) i d) (vertices_of-strided n parts p below)
     ∙ get_or-map f (map g (range_with_len 0 (part_size n parts p))) i 0 d long
     ∙ ap f (get_or-map-range_with_len g 0 (part_size n parts p) i i 0 lt (omega arith))
-
-all_mapped : (P : ℕ → Type 0) (f : ℕ → ℕ) (a n bound : ℕ) → a + n ≤ bound → ((i : ℕ) → i < bound → P (f i)) → AllByRecursion P (map f (range_with_len a n))
-all_mapped P f a zero bound le h = tt
-all_mapped P f a (suc n) bound le h = (h a (omega arith), all_mapped P f (a + 1) n bound (omega arith) h)
-
--- what holds of every vertex holds of those of a partition
-pub all_own : (P : ℕ → Type 0) (n parts p : ℕ) → p < parts → ((x : ℕ) → x < n → P x) → AllByRecursion P (vertices_of n parts p)
-all_own P n parts p below h =
-    let g : ℕ → ℕ = λ k. vertex_of parts p k in
-    subst (λ (l : List ℕ). AllByRecursion P l) (sym (vertices_of-strided n parts p below))
-    (all_mapped P g 0 (part_size n parts p) (part_size n parts p) (omega arith) (λ i lt. h (vertex_of parts p i) (own_below n parts p i below lt)))
 
 -- a partition has at most all vertices
 pub part_size_le : (n parts p : ℕ) → part_size n parts p ≤ n

@@ -3,10 +3,11 @@ use Rattle.std.proofs.Common.{◌≡◌, ℕ, ◌+◌, ◌%◌, ◌<◌, ◌≤�
 use Rattle.replica.proofs.Names.{list_any, range_with_len, filter, AllByRecursion, Some, ◌⊎◌, cases_lt, or_cases, eqb-true, eqb-false, le-leb, not-false, vertices_of, mixing_of, Job, IsJob, changed_count, verdict_at, length-filter, any_changed, end_of}
 use Rattle.ball_model.specs.declared.names.Verdict.TheVariants as verdict
 use Rattle.ball_model.specs.Change.{changed_at}
+use Rattle.ball_model.proofs.AccumulatedPartLemmas.{all_own}
 use Rattle.ball_model.proofs.QuietLemmas.{none_in, none_of}
 use Rattle.ball_model.proofs.EndLemmas.{end_within, end_least, end_reached}
 use Rattle.replica.specs.Level.{EndsRun}
-use Rattle.replica.proofs.IndexLemmas.Own.{is_vertex, all_own}
+use Rattle.replica.proofs.IndexLemmas.Own.{is_vertex}
 
 count_one : (b : Bool) (y : ℕ) (rest : List ℕ) → length (if b then (y ∷ rest) else rest) ≡ 0 → (b ≡ false) × (length rest ≡ 0)
 count_one b y rest e = grind arith
@@ -37,12 +38,12 @@ none_filtered test [] h = refl
 none_filtered test (y ∷ ys) h = none_more (test y) y (filter test ys) h.0 (none_filtered test ys h.1)
 
 -- where no vertex is changed, no partition counts one
-none_counted : (j : Job) (t q : ℕ) → q < j.plan.parts → any_changed (mixing_of j.plan) j.graph t ≡ false → changed_count j t q ≡ 0
+none_counted : (j : Job) (t q : ℕ) → any_changed (mixing_of j.plan) j.graph t ≡ false → changed_count j t q ≡ 0
 unfolding changed_count any_changed
-none_counted j t q lt quiet =
+none_counted j t q quiet =
     let test : ℕ → Bool = λ y. changed_at (mixing_of j.plan) j.graph y t in
     let ys : List ℕ = vertices_of j.graph.vertices j.plan.parts q in
-    sym (length-filter test ys) ∙ none_filtered test ys (all_own (λ k. test k ≡ false) j.graph.vertices j.plan.parts q lt (λ x below. none_in test 0 j.graph.vertices x quiet (omega arith) (omega arith)))
+    sym (length-filter test ys) ∙ none_filtered test ys (all_own (λ k. test k ≡ false) j.graph.vertices j.plan.parts q (λ x below. none_in test 0 j.graph.vertices x quiet (omega arith) (omega arith)))
 
 same_false : (a b : Bool) → (a ≡ false → b ≡ false) → (b ≡ false → a ≡ false) → a ≡ b
 same_false a b f g = grind arith
@@ -56,7 +57,7 @@ pub changed_by_counts : (j : Job) (t : ℕ) → IsJob j → any_changed (mixing_
 changed_by_counts j t ok =
     let counts : ℕ → Bool = λ q. not (changed_count j t q == 0) in
     same_false _ _
-    (λ e. none_of counts 0 j.plan.parts (λ q low lt. ap (λ n. not (n == 0)) (none_counted j t q (omega arith) e)))
+    (λ e. none_of counts 0 j.plan.parts (λ q low lt. ap (λ n. not (n == 0)) (none_counted j t q e)))
     (λ e. all_quiet j t ok (λ q lt. eqb-true (changed_count j t q) 0 (not-false (changed_count j t q == 0) (none_in counts 0 j.plan.parts q e (omega arith) (omega arith)))))
 
 -- what a verdict of GoOn says
