@@ -1,6 +1,6 @@
 -- What a replica begins with.
 use Rattle.std.proofs.Common.{◌≡◌, ℕ, ◌+◌, ◌*◌, ◌^◌, ◌<◌, ◌≤◌, Bool, true, false, is_some, List, [], ◌∷◌, length, map, get_or, replicate, refl, ap, arith, sym, ◌∙◌, inl, inr, ◌-◌}
-use Rattle.replica.proofs.Names.{common_steps, Result, IfOk, sum_by, cases_eq, cases_lt, length-map, same_lists, length-map-range_with_len, get_or-map-range_with_len, TallyValue, Measure, estimate_with, harmonic_of, distance_of, PlanValue, IsPlan, mixing_of, part_size, measure_of, Job, IsJob, PartValue, IsPart, part_of, State, StandsFor, content_of, holds_in, own_vertices, rows_of, marks_of, tallies_of, sums_of, value_of, ball_counter, estimate_at, tally_at, Tally, copies-at}
+use Rattle.replica.proofs.Names.{common_steps, sum_by, cases_eq, cases_lt, length-map, same_lists, length-map-range_with_len, get_or-map-range_with_len, TallyValue, Measure, estimate_with, harmonic_of, distance_of, PlanValue, IsPlan, mixing_of, part_size, measure_of, Job, IsJob, PartValue, IsPart, part_of, State, StandsFor, content_of, holds_in, own_vertices, rows_of, marks_of, tallies_of, sums_of, value_of, ball_counter, estimate_at, tally_at, Tally, copies-at}
 use Rattle.ball_model.specs.Hash.{hash_of, index_of, rank_of}
 use Rattle.ball_model.specs.Graph.{is_counted}
 use Rattle.ball_model.specs.Laws.{IsCounterRow}
@@ -147,7 +147,3 @@ starts_stands j p part v ok below is s =
     let measure : measure_of part.plan ≡ measure_of j.plan = ap (λ (a : PartValue). measure_of a.plan) is ∙ ap (λ (a : PlanValue). measure_of a) (part_plan j p) in
     let hearing = none_heard j p 0 64 v.heard v.heard_change v.accumulated ok s.heard s.heard_change (s.accumulated ∙ first) in
     grind (arith, counted_marked j p ok below, first_tallies j p, first_sums j p)
-
--- what is made of the outcome
-pub if_made : {A E : Type 0} {P Q : A → Type 0} (r : Result A E) → IfOk r P → ((v : A) → P v → Q v) → IfOk r Q
-if_made r p f = grind arith
