@@ -13,9 +13,9 @@ max_each-map : (f g : ℕ → ℕ) (js : List ℕ) → max_each (map f js) (map 
 max_each-map f g [] = refl
 max_each-map f g (j ∷ js) = ap (λ rest. max (f j) (g j) ∷ rest) (max_each-map f g js)
 
-map-same : (f g : ℕ → ℕ) (js : List ℕ) → ((j : ℕ) → f j ≡ g j) → map f js ≡ map g js
+pub map-same : {A B : Type 0} (f g : A → B) (xs : List A) → ((x : A) → f x ≡ g x) → map f xs ≡ map g xs
 map-same f g [] h = refl
-map-same f g (j ∷ js) h = rw (h j, map-same f g js h) refl
+map-same f g (x ∷ xs) h = rw (h x, map-same f g xs h) refl
 
 -- only which vertices below n are members counts
 pub register_of-same : (m : Mixing) (n : ℕ) (A B : ℕ → Bool) (j : ℕ) → ((v : ℕ) → v < n → A v ≡ B v) → register_of m n A j ≡ register_of m n B j
