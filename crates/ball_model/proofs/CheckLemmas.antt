@@ -1,6 +1,7 @@
 -- Checks and steps, one after the other.
-use Rattle.std.proofs.Common.{◌≡◌, Bool, true, false, cond, Result, Ok, Err, refl}
-use Rattle.std.specs.Prelude.{OnErr}
+use Rattle.std.proofs.Common.{◌≡◌, ℕ, ◌==◌, Bool, true, false, cond, Result, Ok, Err, refl}
+use Rattle.std.specs.Prelude.{not, OnErr}
+use Rattle.std.proofs.lemmas.Bool.{eqb-true, not-false}
 use Rattle.ball_model.specs.Checks.{◌>>=◌}
 
 -- a step that passed, and what followed it
@@ -12,6 +13,10 @@ bind_ok (Err d) f y e = absurd cc
 pub guard_ok : {A E : Type 0} (b : Bool) (d : E) (r : Result A E) (y : A) → cond b (Err d) r ≡ Ok y → (b ≡ false) × (r ≡ Ok y)
 guard_ok true d r y e = absurd cc
 guard_ok false d r y e = (refl, e)
+
+-- a check that fails where two numbers differ, and passed
+pub equal_checked : (a b : ℕ) → not (a == b) ≡ false → a ≡ b
+equal_checked a b e = eqb-true a b (not-false (a == b) e)
 
 -- what holds whatever the answer is holds of an error
 pub on_err : {T E P : Type 0} (r : Result T E) → P → OnErr r P

@@ -6,7 +6,7 @@ use Rattle.std.specs.List.{list_any, All, fold}
 use Rattle.std.specs.List.Sorted.{IsStrictlyIncreasing}
 use Rattle.std.proofs.Math.Bool.{or_assoc, or-false}
 use Rattle.std.proofs.Math.Nat.{suc-mul}
-use Rattle.std.proofs.lemmas.Bool.{not-false, ltb-false, leb-false, eqb-true, le-ltb, lt-leb, eq-eqb, or_parts}
+use Rattle.std.proofs.lemmas.Bool.{ltb-false, leb-false, le-ltb, lt-leb, eq-eqb, or_parts}
 use Rattle.std.proofs.lemmas.List.{length-drop, length-take}
 use Rattle.ball_model.specs.PlanValue.{PlanValue, part_size}
 use Rattle.ball_model.specs.Batches.{IsRow, ids_of}
@@ -15,7 +15,7 @@ use Rattle.batches.specs.declared.error.BatchError.TheVariants as errors
 use Rattle.batches.specs.declared.header.Header.{Header}
 use Rattle.batches.specs.Kept.{first_rows}
 use Rattle.ball_model.specs.Checks.{◌>>=◌}
-use Rattle.ball_model.proofs.CheckLemmas.{bind_ok, guard_ok}
+use Rattle.ball_model.proofs.CheckLemmas.{bind_ok, equal_checked, guard_ok}
 use Rattle.batches.specs.Reading.{magic, check_head, check_length, check_row, check_rows}
 
 -- a fault of the bytes
@@ -86,9 +86,6 @@ pub record IsHead (plan : PlanValue) (h : Header) : Type 0 where
   pub changed : h.changed ≤ part_size plan.vertices plan.parts h.name.source
   pub count : h.count ≤ h.changed
 
-same : (a b : ℕ) → not (eqb a b) ≡ false → a ≡ b
-same a b e = eqb-true a b (not-false (eqb a b) e)
-
 differs_not : (a b : ℕ) → a ≡ b → not (eqb a b) ≡ false
 differs_not a b e = ap not (eq-eqb a b e)
 
@@ -104,9 +101,9 @@ head_checked plan h u e =
     let i = guard_ok (ltb (part_size plan.vertices plan.parts h.name.source) h.changed) errors.Count _ u g.1 in
     let j = guard_ok (ltb h.changed h.count) errors.Count _ u i.1 in
     record {
-      magic = same h.magic magic a.0;
-      version = same h.version 1 b.0;
-      log2m = same h.log2m plan.log2m c.0;
+      magic = equal_checked h.magic magic a.0;
+      version = equal_checked h.version 1 b.0;
+      log2m = equal_checked h.log2m plan.log2m c.0;
       superstep = ltb-false _ _ d.0;
       source = leb-false _ _ f.0;
       target = leb-false _ _ g.0;
@@ -201,7 +198,7 @@ rows_checked plan source least (row ∷ rows) u even e =
     let b = guard_ok (not (eqb (row.0 % plan.parts) source)) errors.Vertex _ one.0 a.1 in
     let c = guard_ok (ltb row.0 least) errors.Order _ one.0 b.1 in
     let d = guard_ok (list_any (ltb 33) row.1) errors.Rank _ one.0 c.1 in
-    (record { vertex = leb-false _ _ a.0; own = same _ _ b.0; width = even.0; ranks = none_above row.1 d.0 }, ltb-false _ _ c.0, rows_checked plan source (row.0 + 1) rows u even.1 one.2)
+    (record { vertex = leb-false _ _ a.0; own = equal_checked _ _ b.0; width = even.0; ranks = none_above row.1 d.0 }, ltb-false _ _ c.0, rows_checked plan source (row.0 + 1) rows u even.1 one.2)
 
 pub rows_pass : (plan : PlanValue) (source least : ℕ) (rows : List (ℕ × List ℕ)) → AreRows plan source least rows → check_rows plan source least rows ≡ Ok tt
 unfolding check_rows check_row AreRows

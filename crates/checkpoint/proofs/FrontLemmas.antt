@@ -14,13 +14,9 @@ use Rattle.checkpoint.specs.declared.header.CheckpointHeader.{CheckpointHeader}
 use Rattle.checkpoint.specs.declared.error.KeepError.{KeepError}
 use Rattle.checkpoint.specs.declared.error.KeepError.TheVariants as errors
 use Rattle.ball_model.specs.Checks.{◌>>=◌}
-use Rattle.ball_model.proofs.CheckLemmas.{guard_ok}
+use Rattle.ball_model.proofs.CheckLemmas.{equal_checked, guard_ok}
 use Rattle.checkpoint.specs.Reading.{body_form, check_checkpoint_head, content_form, followed, checkpoint_head_at, needs, told_body}
 use Rattle.checkpoint.proofs.ReaderLemmas.{followed-err, needs-err, needs-ok, same_bytes}
-
--- ---- checks that pass
-same : (a b : ℕ) → not (a == b) ≡ false → a ≡ b
-same a b e = eqb-true a b (not-false (a == b) e)
 
 -- ---- the fixed fields
 -- the fixed fields as bytes, one field after another, and what follows them
@@ -65,13 +61,13 @@ head_passed part h e =
     let i = guard_ok _ errors.Shape _ tt g.1 in
     let j = guard_ok _ errors.Shape _ tt i.1 in
     record {
-      magic = same h.magic 0x4842434b a.0;
+      magic = equal_checked h.magic 0x4842434b a.0;
       job = same_bytes h.job part.plan.job (not-false (bytes_eq h.job part.plan.job) c.0);
-      partition = same h.partition part.number d.0;
-      log2m = same h.log2m part.plan.log2m f.0;
-      parts = same h.parts part.plan.parts g.0;
-      vertices = same h.vertices part.plan.vertices i.0;
-      size = same h.size (length part.preds) j.0;
+      partition = equal_checked h.partition part.number d.0;
+      log2m = equal_checked h.log2m part.plan.log2m f.0;
+      parts = equal_checked h.parts part.plan.parts g.0;
+      vertices = equal_checked h.vertices part.plan.vertices i.0;
+      size = equal_checked h.size (length part.preds) j.0;
     }
 
 congr : (f : ℕ → ℕ → ℕ → ℕ → ℕ → ℕ → ℕ → ℕ → List ℕ → List ℕ) (a0 b0 a1 b1 a2 b2 a3 b3 a4 b4 a5 b5 a6 b6 a7 b7 : ℕ) (a8 b8 : List ℕ)
