@@ -1,6 +1,6 @@
 -- Bytes that are read part by part.
 use Rattle.std.proofs.Common.{◌≡◌, ℕ, zero, suc, ◌+◌, ◌-◌, ◌*◌, ◌<◌, ◌≤◌, List, [], ◌++◌, length, take, Result, Ok, Err, refl, ap, sym, ◌∙◌, subst, arith, append_assoc, append-nil, inl, inr}
-use Rattle.std.specs.Prelude.{◌==◌, ◌&&◌, ◌/◌, ◌%◌, ◌^◌, Bool, true, false, not, ⊤, Option, Some, None, OnOk, IfErr}
+use Rattle.std.specs.Prelude.{◌==◌, ◌&&◌, ◌/◌, ◌%◌, ◌^◌, Bool, true, false, not, ⊤, Option, Some, None}
 use Rattle.std.specs.Int.{w16, w64, from_be_bytes}
 use Rattle.std.specs.Io.KnownBytes.{Consumes, IsAtEnd}
 use Rattle.std.proofs.KnownBytes.{Consumes-nil, Consumes-trans}
@@ -391,15 +391,6 @@ walks_done {plan} {count} {i} {each} e p = record {
   is_form = λ rest. p.walk rest ∙ ap (λ (r : Result ℕ KeepError). r >>= λ k. Ok (length p.piece + k)) (no_more plan (count - i) rest (omega (arith, e))) ∙ ap Ok (omega arith);
   few = rw (← e) p.few;
 }
-
--- ---- answers
-pub on_ok_as : {T P Q : Type 0} (r : Result T KeepError) → (P → Q) → OnOk r P → OnOk r Q
-on_ok_as (Ok x) f p = f p
-on_ok_as (Err e) f p = tt
-
-pub if_err_as : {T : Type 0} {P Q : KeepError → Type 0} (r : Result T KeepError) → ((e : KeepError) → P e → Q e) → IfErr r P → IfErr r Q
-if_err_as (Ok x) f p = tt
-if_err_as (Err e) f p = f e p
 
 -- ---- what a fill did
 abbrev IsGood : Filled → Type 0

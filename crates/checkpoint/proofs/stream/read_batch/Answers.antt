@@ -1,10 +1,10 @@
 use Rattle.std.specs.Prelude.{true, false}
 use Rattle.std.proofs.Common.{◌≡◌, ◌+◌, sym, ap, ◌∙◌, arith}
 use Rattle.std.specs.Int.{w64, from_be_bytes}
-use Rattle.std.proofs.lemmas.Result.{err_from_is_err_and}
+use Rattle.std.proofs.lemmas.Result.{err_from_is_err_and, IfErr-weaker, on_ok_weaker}
 use Rattle.checkpoint.specs.declared.error.KeepError.TheVariants as errors
 use Rattle.checkpoint.specs.Reading.{told_batch, is_batch_length, greatest_batch}
-use Rattle.checkpoint.proofs.ReaderLemmas.{batch-small, fails_after, fails_as, fails_first, fails_full, fails_here, grows_after, grows_as, if_err_as, not_wanting, on_ok_as, passes-told, told-needs, told-refused}
+use Rattle.checkpoint.proofs.ReaderLemmas.{batch-small, fails_after, fails_as, fails_first, fails_full, fails_here, grows_after, grows_as, not_wanting, passes-told, told-needs, told-refused}
 use Rattle.checkpoint.proofs.stream.read_batch.Goals as goal
 
 pub returns-in_err-read_full-clause-fails : goal.returns-in_err-read_full-clause-fails
@@ -36,7 +36,7 @@ returns-clause-done g c =
     let n = c.from_be_bytes-length.result in
     let told : from_be_bytes w64 number ≡ n = sym c.from_be_bytes-length.ensures in
     let is : is_batch_length plan n ≡ true = sym (c.if-not-may_be_batch.ensures) in
-    on_ok_as c.read_more.result (λ q. grows_after 8 (told_batch plan) (8 + greatest_batch plan) c.in_ok-read_full.ensures.done (omega arith) c.in_ok-extend_from_slice.ensures.items (omega arith)
+    on_ok_weaker c.read_more.result (λ q. grows_after 8 (told_batch plan) (8 + greatest_batch plan) c.in_ok-read_full.ensures.done (omega arith) c.in_ok-extend_from_slice.ensures.items (omega arith)
     (grows_as (told_batch plan number) (greatest_batch plan) (λ bytes. told-needs plan number bytes n told is) (batch-small plan n is) q)) c.read_more.ensures.done
 
 pub returns-clause-fails : goal.returns-clause-fails
@@ -46,5 +46,5 @@ returns-clause-fails g c =
     let n = c.from_be_bytes-length.result in
     let told : from_be_bytes w64 number ≡ n = sym c.from_be_bytes-length.ensures in
     let is : is_batch_length plan n ≡ true = sym (c.if-not-may_be_batch.ensures) in
-    if_err_as c.read_more.result (λ e q. fails_after 8 (told_batch plan) (8 + greatest_batch plan) c.in_ok-read_full.ensures.done (omega arith) (omega arith)
+    IfErr-weaker c.read_more.result _ _ (λ e q. fails_after 8 (told_batch plan) (8 + greatest_batch plan) c.in_ok-read_full.ensures.done (omega arith) (omega arith)
     (fails_as (told_batch plan number) (greatest_batch plan) (λ bytes. told-needs plan number bytes n told is) (batch-small plan n is) q)) c.read_more.ensures.fails

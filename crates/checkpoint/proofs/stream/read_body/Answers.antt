@@ -1,8 +1,8 @@
 use Rattle.std.proofs.Common.{◌≡◌, arith, ne_eqb}
-use Rattle.std.proofs.lemmas.Result.{err_from_is_err_and}
+use Rattle.std.proofs.lemmas.Result.{err_from_is_err_and, IfErr-weaker, on_ok_weaker}
 use Rattle.std.specs.Prelude.{◌==◌, false}
 use Rattle.checkpoint.specs.Reading.{most_after, most_early, held_form}
-use Rattle.checkpoint.proofs.ReaderLemmas.{fails_first, fails_second, fails_as, grows_then, grows_as, grows_none, held-none, held-some, fixed-most, fixed-early, on_ok_as, if_err_as, passes-held}
+use Rattle.checkpoint.proofs.ReaderLemmas.{fails_first, fails_second, fails_as, grows_then, grows_as, grows_none, held-none, held-some, fixed-most, fixed-early, passes-held}
 use Rattle.checkpoint.proofs.stream.read_body.Goals as goal
 
 pub returns-in_err-read_more-clause-fails : goal.returns-in_err-read_more-clause-fails
@@ -28,7 +28,7 @@ returns-clause-done g c =
     let p = rw c.fixed_len.ensures at c.in_ok-read_more.ensures.done in
     let second : (h.version == 1) ≡ false = ne_eqb h.version 1 c.if-header-eq1.false in
     let q = rw c.plan.ensures at c.read_early.ensures.done in
-    on_ok_as c.read_early.result (λ q. grows_then (λ _. held_form part.plan h.version) (most_after part h) p (fixed-early part h second)
+    on_ok_weaker c.read_early.result (λ q. grows_then (λ _. held_form part.plan h.version) (most_after part h) p (fixed-early part h second)
     (grows_as (held_form part.plan h.version) (most_early part.plan) (λ bytes. held-some part.plan h.version bytes second) (omega arith) q)) q
 
 pub returns-clause-fails : goal.returns-clause-fails
@@ -38,5 +38,5 @@ returns-clause-fails g c =
     let p = rw c.fixed_len.ensures at c.in_ok-read_more.ensures.done in
     let second : (h.version == 1) ≡ false = ne_eqb h.version 1 c.if-header-eq1.false in
     let q = rw c.plan.ensures at c.read_early.ensures.fails in
-    if_err_as c.read_early.result (λ e q. fails_second (λ _. held_form part.plan h.version) (most_after part h) p (fixed-early part h second)
+    IfErr-weaker c.read_early.result _ _ (λ e q. fails_second (λ _. held_form part.plan h.version) (most_after part h) p (fixed-early part h second)
     (fails_as (held_form part.plan h.version) (most_early part.plan) (λ bytes. held-some part.plan h.version bytes second) (omega arith) q)) q

@@ -1,9 +1,9 @@
 use Rattle.std.proofs.Common.{◌≡◌, ◌+◌, ◌-◌, ◌*◌, ◌≤◌, ◌<◌, sym, arith}
 use Rattle.std.specs.Int.{w16, from_be_bytes}
-use Rattle.std.proofs.lemmas.Result.{err_from_is_err_and}
+use Rattle.std.proofs.lemmas.Result.{err_from_is_err_and, IfErr-weaker, on_ok_weaker}
 use Rattle.checkpoint.specs.declared.error.KeepError.TheVariants as errors
 use Rattle.checkpoint.specs.Reading.{told_batches, most_early, greatest_batch}
-use Rattle.checkpoint.proofs.ReaderLemmas.{batches-most, fails_after, fails_as, fails_first, fails_full, fails_here, grows_after, grows_as, if_err_as, not_wanting, number-refused, number-told, on_ok_as, passes-number}
+use Rattle.checkpoint.proofs.ReaderLemmas.{batches-most, fails_after, fails_as, fails_first, fails_full, fails_here, grows_after, grows_as, not_wanting, number-refused, number-told, passes-number}
 use Rattle.checkpoint.proofs.stream.read_early.Goals as goal
 
 pub returns-in_err-read_full-clause-fails : goal.returns-in_err-read_full-clause-fails
@@ -38,7 +38,7 @@ returns-clause-done g c =
     let n = c.from_be_bytes-count.result in
     let told : from_be_bytes w16 number ≡ n = sym c.from_be_bytes-count.ensures in
     let le : n ≤ 3 * (plan.parts - 1) = omega (arith, c.parts.ensures.value, c.if-count-parts.false) in
-    on_ok_as c.read_batches.result (λ q. grows_after 2 (told_batches plan) (most_early plan) c.in_ok-read_full.ensures.done (omega arith) c.in_ok-extend_from_slice.ensures.items (omega arith)
+    on_ok_weaker c.read_batches.result (λ q. grows_after 2 (told_batches plan) (most_early plan) c.in_ok-read_full.ensures.done (omega arith) c.in_ok-extend_from_slice.ensures.items (omega arith)
     (grows_as (told_batches plan number) (3 * (plan.parts - 1) * (8 + greatest_batch plan)) (λ bytes. number-told plan number bytes n told le) (batches-most n (3 * (plan.parts - 1)) (8 + greatest_batch plan) le) q)) c.read_batches.ensures.done
 
 pub returns-clause-fails : goal.returns-clause-fails
@@ -48,5 +48,5 @@ returns-clause-fails g c =
     let n = c.from_be_bytes-count.result in
     let told : from_be_bytes w16 number ≡ n = sym c.from_be_bytes-count.ensures in
     let le : n ≤ 3 * (plan.parts - 1) = omega (arith, c.parts.ensures.value, c.if-count-parts.false) in
-    if_err_as c.read_batches.result (λ e q. fails_after 2 (told_batches plan) (most_early plan) c.in_ok-read_full.ensures.done (omega arith) (omega arith)
+    IfErr-weaker c.read_batches.result _ _ (λ e q. fails_after 2 (told_batches plan) (most_early plan) c.in_ok-read_full.ensures.done (omega arith) (omega arith)
     (fails_as (told_batches plan number) (3 * (plan.parts - 1) * (8 + greatest_batch plan)) (λ bytes. number-told plan number bytes n told le) (batches-most n (3 * (plan.parts - 1)) (8 + greatest_batch plan) le) q)) c.read_batches.ensures.fails
