@@ -1,5 +1,5 @@
 -- Weights of counters, some registers at a time.
-use Rattle.std.proofs.Common.{◌≡◌, ℕ, zero, suc, ◌+◌, ◌-◌, ◌*◌, ◌/◌, ◌%◌, ◌^◌, ◌<◌, ◌≤◌, ◌==◌, List, length, map, get_or, take, drop, if◌then◌else◌, ap, sym, subst, arith}
+use Rattle.std.proofs.Common.{◌≡◌, ℕ, zero, suc, ◌+◌, ◌-◌, ◌*◌, ◌/◌, ◌%◌, ◌^◌, ◌<◌, ◌≤◌, List, length, map, get_or, take, drop, ap, sym, subst, arith}
 use Rattle.std.specs.List.{range_with_len}
 use Rattle.std.specs.Simd.Lanes.{chunk}
 use Rattle.std.proofs.lemmas.List.{drop-take, take-take}
@@ -9,13 +9,9 @@ use Rattle.std.proofs.Math.Nat.{pow-le-pow_right}
 use Rattle.std.proofs.lemmas.Nat.{pow-add}
 use Rattle.std.proofs.Math.Dec.{eqb-suc-zero}
 use Rattle.ball_model.specs.Figures.{inverse_sum, empty_of}
-use Rattle.ball_model.proofs.EstimateLemmas.{empty_of-few, inverse_sum-low}
+use Rattle.ball_model.proofs.EstimateLemmas.{empty_of-few, inverse_sum-low, one_where_empty}
 use Rattle.figures.specs.declared.estimates.TheConstants.{EMPTY}
 use Rattle.figures.specs.Values.{IsWeight, weight_of}
-
--- one term of the number of empty registers
-abbrev pub one_where_empty : ℕ → ℕ
-one_where_empty r = if r == 0 then 1 else 0
 
 -- what a register adds
 abbrev pub entry : ℕ → ℕ
