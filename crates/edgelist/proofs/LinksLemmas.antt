@@ -7,6 +7,7 @@ use Rattle.std.proofs.lemmas.List.Sums.{sum_by-cons}
 use Rattle.std.proofs.lemmas.List.Folds.{list_any-append}
 use Rattle.std.proofs.lemmas.Bool.{cases_lt}
 use Rattle.ball_model.specs.Graph.{IsGraph, is_edge, is_counted, preds_of, listed_edges, counted_vertices}
+use Rattle.edgelist.specs.Feeding.{edges_into}
 use Rattle.edgelist.specs.Links.{Ascends, AllAscend, edges_from, graph_of}
 use Rattle.std.proofs.Math.Bool.{and-true, and-false, or-false}
 use Rattle.ball_model.proofs.CountedLemmas.{is_kept}
@@ -126,16 +127,13 @@ graph_of-IsGraph lists marks asc = record {
   counted = filter_range-same _ _ 0 (length lists) (length lists) (omega arith) (λ k lt. sym (counted-by-mark lists marks k lt));
 }
 
-abbrev edges_here : ℕ → List ℕ → List (ℕ × ℕ)
-edges_here a ps = map (λ y. (y, a)) ps
-
 -- the edges are as many as the elements of the lists
 pub length-edges : (lists : List (List ℕ)) (a : ℕ) → length (edges_from a lists) ≡ sum_by length lists
 unfolding edges_from
 length-edges [] a = refl
 length-edges (ps ∷ rest) a =
-    let here : length (edges_here a ps) ≡ length ps = simp length-map in
-    omega (arith, length-append (edges_here a ps) (edges_from (a + 1) rest), here, length-edges rest (a + 1), sum_by-cons length ps rest)
+    let here : length (edges_into a ps) ≡ length ps = simp length-map in
+    omega (arith, length-append (edges_into a ps) (edges_from (a + 1) rest), here, length-edges rest (a + 1), sum_by-cons length ps rest)
 
 pub ascends-below : (lo n : ℕ) (ps : List ℕ) (k d : ℕ) → Ascends lo n ps → k < length ps → get_or ps k d < n
 unfolding Ascends
