@@ -1,7 +1,7 @@
 //! Streams over memory, which tell their bytes and fail at a call that is chosen.
 
-ghost use Rattle.std.specs.Prelude.{◌≡◌, ℕ, ◌+◌, ◌-◌, ◌<◌, ◌≤◌, ◌⊎◌, min, None, Some, OnOk, OnErr};
-ghost use Rattle.std.specs.Prelude.{IfOk, IfSome, IfNone, IsOk, IsErr, length, [], take, true};
+ghost use Rattle.std.specs.Prelude.{◌≡◌, ◌+◌, ◌-◌, ◌<◌, ◌≤◌, ◌⊎◌, min, None, Some, OnOk, OnErr};
+ghost use Rattle.std.specs.Prelude.{IfOk, IfSome, IfNone, IsOk, IsErr, length, [], true};
 ghost use Rattle.std.specs.Prelude.{option_map, vec_len, vec_capacity};
 ghost use Rattle.std.specs.Io.KnownBytes.{ReadConsumes, WriteAppends, Keeps};
 ghost use Rattle.std.specs.Io.{ReadsAtMost, WritesAtMost};
