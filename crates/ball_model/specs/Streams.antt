@@ -33,6 +33,12 @@ AfterAtMost n None new = new ≡ None
 AfterAtMost n (Some k) None = ⊥
 AfterAtMost n (Some k) (Some j) = k ≤ j + n
 
+-- a writer of these contents was given the text, and no call of it failed
+pub record TextWritten {W : Type 0} (contents : W → Option (List ℕ)) (failed : W → ℕ) (old new : W)
+    (text : List ℕ) : Type 0 where
+  pub appended : Appends (contents old) (contents new) text
+  pub counted : failed new ≡ failed old
+
 -- a beginning of the bytes was appended, and not all of them
 pub record PutsFront (old new : Option (List ℕ)) (bytes : List ℕ) : Type 0 where
   pub front : List ℕ

@@ -6,13 +6,13 @@ use Rattle.figures.specs.declared.ends.Figures.{Figures}
 use Rattle.ball_model.specs.Input.{Network}
 use Rattle.ball_model.specs.Job.{Job}
 use Rattle.ball_model.specs.State.{State}
-use Rattle.ball_model.specs.Streams.{PutsFront, Rises}
+use Rattle.ball_model.specs.Streams.{PutsFront, Rises, TextWritten}
 use Rattle.std.specs.Io.KnownBytes.{Appends}
 use Rattle.report.specs.declared.write.ReportError.{ReportError}
 use Rattle.report.specs.declared.write.ReportError.TheVariants as fault
 use Rattle.report.specs.Parts.{vertices_text}
 use Rattle.report.specs.Ready.{AddsFront, AddsReportOfAll, AllStand, job_report}
-use Rattle.report.specs.Written.{WritesText, WrittenInPart, WrittenWhole}
+use Rattle.report.specs.Written.{WritesText, WrittenInPart}
 use Rattle.report.proofs.FrontLemmas.{front_first, front_none, front_then, split_at}
 
 -- nothing was written of a text that is not empty, where memory was refused
@@ -30,7 +30,7 @@ part_first xs ys e h = record { front = front_first xs ys _ _ h.front; failed_on
 
 -- the first of two texts, and a part of the other
 part_then : {W : Type 0} {contents : W → Option (List ℕ)} {failed : W → ℕ} {a b c : W} (xs ys : List ℕ) (e : ReportError) →
-    WrittenWhole contents failed a b xs → WrittenInPart contents failed b c ys e → WrittenInPart contents failed a c (xs ++ ys) e
+    TextWritten contents failed a b xs → WrittenInPart contents failed b c ys e → WrittenInPart contents failed a c (xs ++ ys) e
 part_then xs ys e one two = record {
   front = front_then xs ys _ _ _ one.appended two.front;
   failed_one = λ is. omega (arith, one.counted, two.failed_one is);
@@ -39,7 +39,7 @@ part_then xs ys e one two = record {
 
 -- both
 whole_both : {W : Type 0} {contents : W → Option (List ℕ)} {failed : W → ℕ} {a b c : W} (xs ys : List ℕ) →
-    WrittenWhole contents failed a b xs → WrittenWhole contents failed b c ys → WrittenWhole contents failed a c (xs ++ ys)
+    TextWritten contents failed a b xs → TextWritten contents failed b c ys → TextWritten contents failed a c (xs ++ ys)
 whole_both xs ys one two = record {
   appended = Appends-trans _ _ _ xs ys one.appended two.appended;
   counted = two.counted ∙ one.counted;
@@ -47,28 +47,28 @@ whole_both xs ys one two = record {
 
 -- the first of two texts, and what came of the other
 pub writes_then : {W : Type 0} (contents : W → Option (List ℕ)) (failed : W → ℕ) (a b c : W) (xs ys : List ℕ) (r : Result (Unit {0}) ReportError) →
-    WrittenWhole contents failed a b xs → WritesText contents failed b c ys r → WritesText contents failed a c (xs ++ ys) r
+    TextWritten contents failed a b xs → WritesText contents failed b c ys r → WritesText contents failed a c (xs ++ ys) r
 writes_then contents failed a b c xs ys (Ok u) one two = whole_both xs ys one two
 writes_then contents failed a b c xs ys (Err e) one two = part_then xs ys e one two
 
 -- ---- lines of vertices, piece by piece
 
 pub no_piece : {W : Type 0} (contents : W → Option (List ℕ)) (failed : W → ℕ) (a : W) (labels : List (List ℕ)) (first : ℕ) (parts : List (List Figures)) (from : ℕ) →
-    WrittenWhole contents failed a a (vertices_text labels first parts from (from - from))
+    TextWritten contents failed a a (vertices_text labels first parts from (from - from))
 unfolding vertices_text
 no_piece contents failed a labels first parts from =
     let none : from - from ≡ 0 = omega arith in
     record { appended = rw none (Appends-nil (contents a)); counted = refl }
 
 pub piece_more : {W : Type 0} {contents : W → Option (List ℕ)} {failed : W → ℕ} {a b c : W} (labels : List (List ℕ)) (first : ℕ) (parts : List (List Figures)) (from at to : ℕ) → from ≤ at → at ≤ to →
-    WrittenWhole contents failed a b (vertices_text labels first parts from (at - from)) → WrittenWhole contents failed b c (vertices_text labels first parts at (to - at)) →
-    WrittenWhole contents failed a c (vertices_text labels first parts from (to - from))
+    TextWritten contents failed a b (vertices_text labels first parts from (at - from)) → TextWritten contents failed b c (vertices_text labels first parts at (to - at)) →
+    TextWritten contents failed a c (vertices_text labels first parts from (to - from))
 piece_more labels first parts from at to low up before here =
     rw (split_at labels first parts from at to low up) (whole_both (vertices_text labels first parts from (at - from)) (vertices_text labels first parts at (to - at)) before here)
 
 -- the lines before a piece, and a part of the piece
 pub piece_part : {W : Type 0} {contents : W → Option (List ℕ)} {failed : W → ℕ} {a b c : W} (labels : List (List ℕ)) (first : ℕ) (parts : List (List Figures)) (from at end to : ℕ) (e : ReportError) → from ≤ at → at ≤ end → end ≤ to →
-    WrittenWhole contents failed a b (vertices_text labels first parts from (at - from)) → WrittenInPart contents failed b c (vertices_text labels first parts at (end - at)) e →
+    TextWritten contents failed a b (vertices_text labels first parts from (at - from)) → WrittenInPart contents failed b c (vertices_text labels first parts at (end - at)) e →
     WrittenInPart contents failed a c (vertices_text labels first parts from (to - from)) e
 piece_part labels first parts from at end to e low up high before here =
     let vt : ℕ → ℕ → List ℕ = λ x n. vertices_text labels first parts x n in

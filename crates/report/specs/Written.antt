@@ -1,17 +1,11 @@
 -- What writing a text came to.
 use Rattle.std.specs.Prelude.{◌≡◌, ◌≢◌, ℕ, List, Option, Result, MatchResult}
-use Rattle.std.specs.Io.KnownBytes.{Appends}
-use Rattle.ball_model.specs.Streams.{PutsFront, Rises}
+use Rattle.ball_model.specs.Streams.{PutsFront, Rises, TextWritten}
 use Rattle.report.specs.declared.write.ReportError.{ReportError}
 use Rattle.report.specs.declared.write.ReportError.TheVariants as fault
 
--- a writer of these contents was given the text, and no call of it failed
-pub record WrittenWhole {W : Type 0} (contents : W → Option (List ℕ)) (failed : W → ℕ) (old new : W)
-    (text : List ℕ) : Type 0 where
-  pub appended : Appends (contents old) (contents new) text
-  pub counted : failed new ≡ failed old
-
--- it was given a beginning, and not all of it; a call failed where the error is of a write, and only there
+-- a writer of these contents was given a beginning of the text, and not all of it; a call of it failed where the
+-- error is of a write, and only there
 pub record WrittenInPart {W : Type 0} (contents : W → Option (List ℕ)) (failed : W → ℕ) (old new : W)
     (text : List ℕ) (e : ReportError) : Type 0 where
   pub front : PutsFront (contents old) (contents new) text
@@ -23,5 +17,5 @@ abbrev pub WritesText : {W : Type 0} → (W → Option (List ℕ)) → (W → �
     Result (Unit {0}) ReportError → Type 0
 WritesText contents failed old new text result =
     MatchResult result
-    (λ _. WrittenWhole contents failed old new text)
+    (λ _. TextWritten contents failed old new text)
     (WrittenInPart contents failed old new text)

@@ -9,7 +9,8 @@ use Rattle.world.specs.declared.tell.TellError.{TellError}
 use Rattle.world.specs.declared.tell.TellError.TheVariants as untold
 use Rattle.world.specs.Replay.{BeginsReplay, FailsOfReplay, IsReady, StartsFrom, told_tell}
 use Rattle.world.specs.Shows.{SeenWorld, Shows}
-use Rattle.world.specs.Tell.{Stopped, TextTold}
+use Rattle.ball_model.specs.Streams.{TextWritten}
+use Rattle.world.specs.Tell.{Stopped}
 
 -- the text of the answers
 abbrev pub text_from : (s : ReplaySettings) (edges : List ℕ) (list : Option (List ℕ)) (events : List Event) (world : SeenWorld) → StartsFrom s edges list world → List ℕ
@@ -30,7 +31,7 @@ replay-is s edges list script events world ready starts = record {
 
 -- all events were told
 pub told-appends : {W : Type 0} (contents : W → Option (List ℕ)) (failed : W → ℕ) (a b : W) (s : ReplaySettings) (edges : List ℕ) (list : Option (List ℕ)) (script : List ℕ) (events : List Event) (world : SeenWorld) →
-    IsReady s edges list script events world → ((j : Job) (w : World) → Shows j w world → TextTold contents failed a b (events_text j w events)) → ArePlain edges list →
+    IsReady s edges list script events world → ((j : Job) (w : World) → Shows j w world → TextWritten contents failed a b (events_text j w events)) → ArePlain edges list →
     AppendsReplay s edges list script (contents a) (contents b)
 told-appends contents failed a b s edges list script events world ready told plain =
     let starts = ready.starts plain in
@@ -42,7 +43,7 @@ told-appends contents failed a b s edges list script events world ready told pla
 
 -- and no call of the writer failed
 pub told-counted : {W : Type 0} (contents : W → Option (List ℕ)) (failed : W → ℕ) (a b : W) (s : ReplaySettings) (edges : List ℕ) (list : Option (List ℕ)) (script : List ℕ) (events : List Event) (world : SeenWorld) →
-    IsReady s edges list script events world → ((j : Job) (w : World) → Shows j w world → TextTold contents failed a b (events_text j w events)) → failed b ≡ failed a
+    IsReady s edges list script events world → ((j : Job) (w : World) → Shows j w world → TextWritten contents failed a b (events_text j w events)) → failed b ≡ failed a
 told-counted contents failed a b s edges list script events world ready told = (told ready.some.job ready.some.defined ready.some.shows).counted
 
 -- a beginning of them was

@@ -33,7 +33,8 @@ use Rattle.ball_model.proofs.PartLemmas.{vertices_of-strided}
 use Rattle.edgelist.proofs.FeedLemmas.{vertex-within}
 use Rattle.replica.specs.Seen.{IsState}
 use Rattle.std.specs.List.{slice_get}
-use Rattle.world.specs.Tell.{BeginsText, Stopped, Tells, TextTold, is_shown}
+use Rattle.ball_model.specs.Streams.{TextWritten}
+use Rattle.world.specs.Tell.{BeginsText, Stopped, Tells, is_shown}
 
 -- a beginning of a text is one of a longer text
 pub begins-more : (a b : Option (List ℕ)) (text more : List ℕ) → BeginsText a b text → BeginsText a b (text ++ more)
@@ -54,12 +55,12 @@ begins-after a b c text more whole part = record {
 }
 
 -- nothing was told
-pub told-none : {W : Type 0} (contents : W → Option (List ℕ)) (failed : W → ℕ) (a : W) → TextTold contents failed a a []
+pub told-none : {W : Type 0} (contents : W → Option (List ℕ)) (failed : W → ℕ) (a : W) → TextWritten contents failed a a []
 told-none contents failed a = record { appended = Appends-nil (contents a); counted = refl }
 
 -- a text, and the one behind it
 pub told-both : {W : Type 0} (contents : W → Option (List ℕ)) (failed : W → ℕ) (a b c : W) (text more : List ℕ) →
-    TextTold contents failed a b text → TextTold contents failed b c more → TextTold contents failed a c (text ++ more)
+    TextWritten contents failed a b text → TextWritten contents failed b c more → TextWritten contents failed a c (text ++ more)
 told-both contents failed a b c text more one two = record {
   appended = Appends-trans (contents a) (contents b) (contents c) text more one.appended two.appended;
   counted = two.counted ∙ one.counted;
@@ -72,7 +73,7 @@ stopped-more contents failed a b text more e one = record { begun = begins-more 
 
 -- a text, and one behind it that was stopped
 pub stopped-after : {W : Type 0} (contents : W → Option (List ℕ)) (failed : W → ℕ) (a b c : W) (text more : List ℕ) (e : TellError) →
-    TextTold contents failed a b text → Stopped contents failed b c more e → Stopped contents failed a c (text ++ more) e
+    TextWritten contents failed a b text → Stopped contents failed b c more e → Stopped contents failed a c (text ++ more) e
 stopped-after contents failed a b c text more e one two = record {
   begun = begins-after (contents a) (contents b) (contents c) text more one.appended two.begun;
   failed_one = λ is. subst (λ n. n < failed c) one.counted (two.failed_one is);
@@ -81,7 +82,7 @@ stopped-after contents failed a b c text more e one two = record {
 
 -- a text, and what comes of the one behind it
 pub tells-after : {W : Type 0} (contents : W → Option (List ℕ)) (failed : W → ℕ) (a b c : W) (text more : List ℕ) (r : Result (Unit {0}) TellError) →
-    TextTold contents failed a b text → Tells contents failed b c more r → Tells contents failed a c (text ++ more) r
+    TextWritten contents failed a b text → Tells contents failed b c more r → Tells contents failed a c (text ++ more) r
 tells-after contents failed a b c text more (Ok u) one two = told-both contents failed a b c text more one two
 tells-after contents failed a b c text more (Err e) one two = stopped-after contents failed a b c text more e one two
 
@@ -135,7 +136,7 @@ texts-cut g f i k =
 
 -- one of them more was told
 pub told-next : {W : Type 0} (contents : W → Option (List ℕ)) (failed : W → ℕ) (a b c : W) (g : ℕ → List ℕ) (f : ℕ → ℕ) (i x : ℕ) → x ≡ f i →
-    TextTold contents failed a b (first-texts g f i) → TextTold contents failed b c (g x) → TextTold contents failed a c (first-texts g f (i + 1))
+    TextWritten contents failed a b (first-texts g f i) → TextWritten contents failed b c (g x) → TextWritten contents failed a c (first-texts g f (i + 1))
 told-next contents failed a b c g f i x at one two =
     let same : first-texts g f (i + suc 0) ≡ first-texts g f i ++ g x = texts-cut g f i 0 ∙ ap (λ l. first-texts g f i ++ l) (append-nil (g (f i)) ∙ ap g (sym at)) in
     let next : i + 1 ≡ i + suc 0 = omega arith in
@@ -143,7 +144,7 @@ told-next contents failed a b c g f i x at one two =
 
 -- or not to its end
 pub stopped-next : {W : Type 0} (contents : W → Option (List ℕ)) (failed : W → ℕ) (a b c : W) (g : ℕ → List ℕ) (f : ℕ → ℕ) (i n x : ℕ) (e : TellError) → x ≡ f i → i < n →
-    TextTold contents failed a b (first-texts g f i) → Stopped contents failed b c (g x) e → Stopped contents failed a c (first-texts g f n) e
+    TextWritten contents failed a b (first-texts g f i) → Stopped contents failed b c (g x) e → Stopped contents failed a c (first-texts g f n) e
 stopped-next contents failed a b c g f i n x e at lt one two =
     let k : ℕ = n - (i + 1) in
     let long : n ≡ i + suc (n - (i + 1)) = omega arith in
@@ -239,8 +240,8 @@ one-event j w e more = refl
 
 -- one event more was told
 pub event-told : {W : Type 0} (contents : W → Option (List ℕ)) (failed : W → ℕ) (a b c : W) (j : Job) (w : World) (es : List Event) (i : ℕ) (d : Event) → i < length es →
-    TextTold contents failed a b (events_text j w (take i es)) → TextTold contents failed b c (event_text j (run_of j w (take i es)) (get_or es i d)) →
-    TextTold contents failed a c (events_text j w (take (i + 1) es))
+    TextWritten contents failed a b (events_text j w (take i es)) → TextWritten contents failed b c (event_text j (run_of j w (take i es)) (get_or es i d)) →
+    TextWritten contents failed a c (events_text j w (take (i + 1) es))
 unfolding events_text
 event-told contents failed a b c j w es i d lt one two =
     let e = get_or es i d in
@@ -261,7 +262,7 @@ event-shown j w es i d lt =
 
 -- an event that was not told to its end
 pub event-stopped : {W : Type 0} (contents : W → Option (List ℕ)) (failed : W → ℕ) (a b c : W) (j : Job) (w : World) (es : List Event) (i : ℕ) (d : Event) (f : TellError) → i < length es →
-    TextTold contents failed a b (events_text j w (take i es)) → Stopped contents failed b c (event_text j (run_of j w (take i es)) (get_or es i d)) f →
+    TextWritten contents failed a b (events_text j w (take i es)) → Stopped contents failed b c (event_text j (run_of j w (take i es)) (get_or es i d)) f →
     Stopped contents failed a c (events_text j w es) f
 event-stopped contents failed a b c j w es i d f lt one two =
     let e = get_or es i d in

@@ -1,7 +1,7 @@
 -- What is written of a text, to its end or not.
 use Rattle.std.specs.Prelude.{◌≡◌, ◌≢◌, ℕ, List, ◌++◌, Option, Result, MatchResult}
 use Rattle.std.specs.Io.KnownBytes.{Appends}
-use Rattle.ball_model.specs.Streams.{Rises}
+use Rattle.ball_model.specs.Streams.{Rises, TextWritten}
 use Rattle.ball_model.specs.declared.world.Answer.{Answer}
 use Rattle.ball_model.specs.declared.world.Answer.TheVariants as answer
 use Rattle.ball_model.specs.declared.world.WorldError.{WorldError}
@@ -16,13 +16,8 @@ pub record BeginsText (old new : Option (List ℕ)) (text : List ℕ) : Type 0 w
   pub split : text ≡ front ++ rest
   pub appended : Appends old new front
 
--- a writer of these contents was given the text, and no call of it failed
-pub record TextTold {W : Type 0} (contents : W → Option (List ℕ)) (failed : W → ℕ) (old new : W)
-    (text : List ℕ) : Type 0 where
-  pub appended : Appends (contents old) (contents new) text
-  pub counted : failed new ≡ failed old
-
--- it was given a beginning of the text; a call of it failed where the fault is of a write, and only there
+-- a writer of these contents was given a beginning of the text; a call of it failed where the fault is of a write,
+-- and only there
 pub record Stopped {W : Type 0} (contents : W → Option (List ℕ)) (failed : W → ℕ) (old new : W)
     (text : List ℕ) (e : TellError) : Type 0 where
   pub begun : BeginsText (contents old) (contents new) text
@@ -34,7 +29,7 @@ abbrev pub Tells : {W : Type 0} → (W → Option (List ℕ)) → (W → ℕ) �
     Result (Unit {0}) TellError → Type 0
 Tells contents failed old new text result =
     MatchResult result
-    (λ _. TextTold contents failed old new text)
+    (λ _. TextWritten contents failed old new text)
     (Stopped contents failed old new text)
 
 -- a node was looked at

@@ -1,7 +1,7 @@
 use Rattle.std.proofs.Common.{◌≡◌, ◌+◌, ◌-◌, ℕ, arith, subst}
 use Rattle.std.proofs.lemmas.Result.{err_from_is_err_and}
 use Rattle.report.specs.Parts.{lists_in, vertices_text}
-use Rattle.report.specs.Written.{WrittenWhole}
+use Rattle.ball_model.specs.Streams.{TextWritten}
 use Rattle.report.proofs.WrittenLemmas.{no_piece, piece_more, piece_part}
 use Rattle.report.proofs.write.put_lines.Goals as goal
 
@@ -29,7 +29,7 @@ loop-at-preserved g c =
 pub returns : goal.returns
 returns g c =
     let all : c.loop-at.at ≡ c.args.to = omega arith in
-    subst (λ n. WrittenWhole g.W.Write.contents g.W.CountedWrite.failed_calls c.args.writer.now c.loop-at.writer (vertices_text c.args.graph.now.labels c.args.first (lists_in c.args.parts.now) c.args.from (n - c.args.from)))
+    subst (λ n. TextWritten g.W.Write.contents g.W.CountedWrite.failed_calls c.args.writer.now c.loop-at.writer (vertices_text c.args.graph.now.labels c.args.first (lists_in c.args.parts.now) c.args.from (n - c.args.from)))
     all c.loop-at.invariant.written
 
 pub returns-in_err-put_piece : goal.returns-in_err-put_piece

@@ -1,6 +1,6 @@
 use Rattle.std.proofs.Common.{◌≤◌, ◌-◌}
 use Rattle.report.specs.Parts.{lists_in, vertices_text}
-use Rattle.report.specs.Written.{WrittenWhole}
+use Rattle.ball_model.specs.Streams.{TextWritten}
 use Rattle.report.proofs.write.put_lines.Given as goal
 
 -- the lines of the vertices before `at` were written
@@ -8,7 +8,7 @@ abbrev pub invariant-loop-at : goal.invariant-loop-at
 invariant-loop-at g l = record {
   low : l.from ≤ l.at;
   high : l.at ≤ l.to;
-  written : WrittenWhole g.W.Write.contents g.W.CountedWrite.failed_calls l.initial.writer l.writer (vertices_text l.graph.labels l.first (lists_in l.parts) l.from (l.at - l.from));
+  written : TextWritten g.W.Write.contents g.W.CountedWrite.failed_calls l.initial.writer l.writer (vertices_text l.graph.labels l.first (lists_in l.parts) l.from (l.at - l.from));
 }
 
 abbrev pub decreases-loop-at : goal.decreases-loop-at

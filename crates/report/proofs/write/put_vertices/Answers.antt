@@ -1,7 +1,7 @@
 use Rattle.std.proofs.Common.{◌≡◌, ◌+◌, ℕ, map, arith, subst}
 use Rattle.std.proofs.lemmas.Result.{err_from_is_err_and}
 use Rattle.report.specs.Parts.{figures_in, lines_between}
-use Rattle.report.specs.Written.{WrittenWhole}
+use Rattle.ball_model.specs.Streams.{TextWritten}
 use Rattle.report.proofs.ReadyLemmas.{are_ready-facts}
 use Rattle.report.proofs.WrittenLemmas.{no_piece, piece_more, piece_part}
 use Rattle.report.proofs.write.put_vertices.Goals as goal
@@ -27,7 +27,7 @@ loop-from-preserved g c =
 pub returns : goal.returns
 returns g c =
     let all : c.loop-from.from ≡ c.args.graph.now.graph.vertices = omega arith in
-    subst (λ n. WrittenWhole g.W.Write.contents g.W.CountedWrite.failed_calls c.args.writer.now c.loop-from.writer (lines_between c.args.graph.now.labels c.args.replicas.now 0 n)) all c.loop-from.invariant.written
+    subst (λ n. TextWritten g.W.Write.contents g.W.CountedWrite.failed_calls c.args.writer.now c.loop-from.writer (lines_between c.args.graph.now.labels c.args.replicas.now 0 n)) all c.loop-from.invariant.written
 
 pub returns-in_err-put_block : goal.returns-in_err-put_block
 returns-in_err-put_block g c =

@@ -2,7 +2,8 @@ use Rattle.std.proofs.Common.{◌≡◌, ◌∙◌, ◌+◌, ◌*◌, refl, sym,
 use Rattle.std.specs.List.{flat_map}
 use Rattle.std.proofs.lemmas.Result.{err_from_is_err_and}
 use Rattle.ball_model.specs.WorldText.{row_text}
-use Rattle.world.specs.Tell.{Stopped, TextTold}
+use Rattle.ball_model.specs.Streams.{TextWritten}
+use Rattle.world.specs.Tell.{Stopped}
 use Rattle.world.proofs.TellLemmas.{is-own, own-is, stopped-next, told-next}
 use Rattle.world.proofs.tell.tell_vertices.Goals as goal
 
@@ -31,4 +32,4 @@ returns g c = λ j h has.
     let v = c.args.replica.now in
     let last : c.loop-i.i ≡ c.part_size-i-end.result = omega (arith, c.loop-i.auto.i-end, c.loop-i-test.false) in
     let own = own-is j h v v.part.plan.parts v.part.number c.partition-partition.result c.loop-i.i c.plan.result.now has refl refl c.plan.ensures (last ∙ c.part_size-i-end.ensures) c.partition-partition.ensures in
-    subst (λ l. TextTold g.W.Write.contents g.W.CountedWrite.failed_calls c.args.writer.now c.loop-i.writer (flat_map (row_text j h.superstep) l)) (sym own) (c.loop-i.invariant j h has)
+    subst (λ l. TextWritten g.W.Write.contents g.W.CountedWrite.failed_calls c.args.writer.now c.loop-i.writer (flat_map (row_text j h.superstep) l)) (sym own) (c.loop-i.invariant j h has)
