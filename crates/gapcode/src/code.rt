@@ -33,7 +33,7 @@ fn padded(tail: &[u8]) -> [u8; 9]
 }
 
 // The next 64 bits, with zero bits past the end.
-fn window(bytes: &[u8], position: u32) -> u64
+fn next_word(bytes: &[u8], position: u32) -> u64
     requires { position ≤ 8 * length bytes.now }
     ensures { digits most_digits result ≡ window_of (bits_from bytes.now position) }
 {
@@ -56,7 +56,7 @@ fn any_code(bytes: &[u8], position: u32) -> Result<(u64, u32), CodeError>
         ≡ gamma_at (bits_from bytes.now position) }
     ensures inside { IfOk result (λ found. found.1 ≤ 8 * length bytes.now) }
 {
-    let front = window(bytes, position);
+    let front = next_word(bytes, position);
     let zeros = front.leading_zeros();
     let left = 8 * bytes.len().min(REACH) as u32 - position;
     if zeros == u64::BITS {
@@ -73,7 +73,7 @@ fn any_code(bytes: &[u8], position: u32) -> Result<(u64, u32), CodeError>
         return Ok((front >> (63 - 2 * zeros), position + len));
     }
     Ok((
-        window(bytes, position + zeros) >> (63 - zeros),
+        next_word(bytes, position + zeros) >> (63 - zeros),
         position + len,
     ))
 }
@@ -89,7 +89,7 @@ pub fn code_at(bytes: &[u8], position: u32) -> Result<(u64, u32), CodeError>
     ensures inside { IfOk result (λ found. found.1 ≤ 8 * length bytes.now) }
 {
     if bytes.len() >= REACH {
-        let front = window(bytes, position);
+        let front = next_word(bytes, position);
         let zeros = front.leading_zeros();
         if zeros < 32 {
             return Ok((front >> (63 - 2 * zeros), position + 2 * zeros + 1));

@@ -10,8 +10,8 @@ use std::marker::Model;
 /// How many bytes one code and the bits before it fill at most.
 const ROOM: usize = 17;
 
-// Cuts the lowest `rest` bits off `last` and the n bits of `value` behind it.
-fn cut(last: u8, value: u64, n: u32, rest: u32) -> (u64, u8)
+// Splits the lowest `rest` bits off `last` and the n bits of `value` behind it.
+fn split_bits(last: u8, value: u64, n: u32, rest: u32) -> (u64, u8)
     requires n { n ≤ most_digits }
     requires last { last < 128 }
     requires value { value < 2 ^ n }
@@ -39,7 +39,7 @@ fn put_digits(full: &mut Vec<u8>, last: u8, used: u32, value: u64, n: u32) -> (u
     ensures room { vec_capacity full.old ≤ vec_capacity full.new }
 {
     let total = used + n;
-    let (whole, left) = cut(last, value, n, total % 8);
+    let (whole, left) = split_bits(last, value, n, total % 8);
     let bytes = whole.to_be_bytes();
     let (_, tail) = bytes.split_at(8 - (total / 8) as usize);
     let _ = full.extend_from_slice(tail);

@@ -17,26 +17,26 @@ placed x n position bits r e = ap (λ (t : List Bool). Ok (x, t)) (sym (drop-dro
 
 pub returns-then-left-lt-BITS-clause-exact : goal.returns-then-left-lt-BITS-clause-exact
 returns-then-left-lt-BITS-clause-exact c =
-    sym (next_ended c.window-front.result (drop c.args.position (bits_of c.args.bytes.now)) (record { below = omega arith; digits = c.window-front.ensures }) c.if-zeros-eq-BITS.true (omega (arith, left c.args.bytes.now c.args.position, leading_le 64 c.window-front.result)))
+    sym (next_ended c.next_word-front.result (drop c.args.position (bits_of c.args.bytes.now)) (record { below = omega arith; digits = c.next_word-front.ensures }) c.if-zeros-eq-BITS.true (omega (arith, left c.args.bytes.now c.args.position, leading_le 64 c.next_word-front.result)))
 
 pub returns-then-zeros-eq-BITS-clause-exact : goal.returns-then-zeros-eq-BITS-clause-exact
 returns-then-zeros-eq-BITS-clause-exact c =
-    sym (next_too_long c.window-front.result (drop c.args.position (bits_of c.args.bytes.now)) (record { below = omega arith; digits = c.window-front.ensures }) c.if-zeros-eq-BITS.true (omega (arith, left c.args.bytes.now c.args.position, leading_le 64 c.window-front.result)))
+    sym (next_too_long c.next_word-front.result (drop c.args.position (bits_of c.args.bytes.now)) (record { below = omega arith; digits = c.next_word-front.ensures }) c.if-zeros-eq-BITS.true (omega (arith, left c.args.bytes.now c.args.position, leading_le 64 c.next_word-front.result)))
 
 pub returns-then-left-len-clause-exact : goal.returns-then-left-len-clause-exact
 returns-then-left-len-clause-exact c =
-    sym (next_short c.window-front.result (drop c.args.position (bits_of c.args.bytes.now)) (record { below = omega arith; digits = c.window-front.ensures }) c.if-zeros-eq-BITS.false (omega (arith, left c.args.bytes.now c.args.position, leading_le 64 c.window-front.result)))
+    sym (next_short c.next_word-front.result (drop c.args.position (bits_of c.args.bytes.now)) (record { below = omega arith; digits = c.next_word-front.ensures }) c.if-zeros-eq-BITS.false (omega (arith, left c.args.bytes.now c.args.position, leading_le 64 c.next_word-front.result)))
 
 pub returns-then-zeros-lt32-clause-exact : goal.returns-then-zeros-lt32-clause-exact
 returns-then-zeros-lt32-clause-exact c =
     let bits = bits_of c.args.bytes.now in
-    let next = next_near c.window-front.result (drop c.args.position bits) (record { below = omega arith; digits = c.window-front.ensures }) c.if-zeros-eq-BITS.false (omega (arith, left c.args.bytes.now c.args.position, leading_le 64 c.window-front.result)) c.if-zeros-lt32.true in
+    let next = next_near c.next_word-front.result (drop c.args.position bits) (record { below = omega arith; digits = c.next_word-front.ensures }) c.if-zeros-eq-BITS.false (omega (arith, left c.args.bytes.now c.args.position, leading_le 64 c.next_word-front.result)) c.if-zeros-lt32.true in
     placed _ _ c.args.position bits _ next
 
 pub returns-clause-exact : goal.returns-clause-exact
 returns-clause-exact c =
     let bits = bits_of c.args.bytes.now in
-    let w = c.window-front.result in
-    let again : IsWindow c.window.result (drop (count_leading_zeros 64 w) (drop c.args.position bits)) = record { below = omega arith; digits = c.window.ensures ∙ ap window_of (sym (drop-drop (count_leading_zeros 64 w) c.args.position bits)) } in
-    let next = next_far w c.window.result (drop c.args.position bits) (record { below = omega arith; digits = c.window-front.ensures }) c.if-zeros-eq-BITS.false (omega (arith, left c.args.bytes.now c.args.position, leading_le 64 c.window-front.result)) again in
+    let w = c.next_word-front.result in
+    let again : IsWindow c.next_word.result (drop (count_leading_zeros 64 w) (drop c.args.position bits)) = record { below = omega arith; digits = c.next_word.ensures ∙ ap window_of (sym (drop-drop (count_leading_zeros 64 w) c.args.position bits)) } in
+    let next = next_far w c.next_word.result (drop c.args.position bits) (record { below = omega arith; digits = c.next_word-front.ensures }) c.if-zeros-eq-BITS.false (omega (arith, left c.args.bytes.now c.args.position, leading_le 64 c.next_word-front.result)) again in
     placed _ _ c.args.position bits _ next

@@ -3,7 +3,7 @@ use Rattle.std.specs.Prelude.{replicate}
 use Rattle.std.proofs.lemmas.List.{take_rest}
 use Rattle.gapcode.specs.Bits.{bits_of}
 use Rattle.gapcode.proofs.WordsLemmas.{window_fast, window_slow}
-use Rattle.gapcode.proofs.code.window.Goals as goal
+use Rattle.gapcode.proofs.code.next_word.Goals as goal
 
 pub returns-then-index-bytes : goal.returns-then-index-bytes
 returns-then-index-bytes c =

@@ -2,7 +2,7 @@ use Rattle.std.proofs.Common.{◌∙◌, ℕ, ◌+◌, ◌*◌, ◌/◌, ◌%◌
 use Rattle.std.specs.Prelude.{bit_or}
 use Rattle.std.proofs.lemmas.Nat.{one_shl}
 use Rattle.gapcode.proofs.AppendingLemmas.{joined_bits}
-use Rattle.gapcode.proofs.writer.cut.Goals as goal
+use Rattle.gapcode.proofs.writer.split_bits.Goals as goal
 
 pub overflow_cast-result-2 : goal.overflow_cast-result-2
 overflow_cast-result-2 c =
