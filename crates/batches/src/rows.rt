@@ -51,7 +51,7 @@ pub fn check_len(wanted: usize, len: usize) -> Result<(), BatchError>
 
 /// The vertex of the row at the front, which is to be of the source, and from `least` on.
 #[tactic(auto, unfolding(crate::specs::Reading::check_row))]
-fn check_front(plan: &Plan, source: u16, least: u32, bytes: &[u8]) -> Result<u32, BatchError>
+fn check_first_row(plan: &Plan, source: u16, least: u32, bytes: &[u8]) -> Result<u32, BatchError>
     requires { 4 + 2 ^ plan.now.log2m ≤ length bytes.now }
     ensures exact { result_and result (Ok tt)
         ≡ check_row plan.now source least (row_at (2 ^ plan.now.log2m) bytes.now) }
@@ -83,7 +83,7 @@ pub fn check_body(plan: &Plan, source: u16, count: u32, body: &[u8]) -> Result<(
     let mut least = 0;
     let mut rest = body;
     for _ in 0..count {
-        let id = check_front(plan, source, least, rest)?;
+        let id = check_first_row(plan, source, least, rest)?;
         let (_, after) = rest.split_at(size);
         least = id + 1;
         rest = after;

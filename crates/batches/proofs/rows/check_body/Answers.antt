@@ -14,8 +14,8 @@ next : (plan : PlanValue) (source m left id front : ℕ) (rest after : List ℕ)
 next plan source m left id front rest after total e f on room =
     record { so_far = rw (e, f) on; room = rw f (omega (arith, room, length-drop (4 + m) rest)) }
 
-pub check_front-requires : goal.check_front-requires
-check_front-requires c = (room_goes_on c.args.count c.loop.counter (2 ^ c.args.plan.now.log2m) (length c.loop.rest.now) c.loop-test.true c.loop.invariant.room).0
+pub check_first_row-requires : goal.check_first_row-requires
+check_first_row-requires c = (room_goes_on c.args.count c.loop.counter (2 ^ c.args.plan.now.log2m) (length c.loop.rest.now) c.loop-test.true c.loop.invariant.room).0
 
 pub returns-in_err-id : goal.returns-in_err-id
 returns-in_err-id c =
