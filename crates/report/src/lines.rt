@@ -123,7 +123,7 @@ pub(crate) fn put_vertex(
 }
 
 // The text of the rows.
-pub(crate) fn text_of(rows: Writer<Vec<u8>>) -> Result<Vec<u8>, AllocError>
+pub(crate) fn bytes_written(rows: Writer<Vec<u8>>) -> Result<Vec<u8>, AllocError>
     ensures { IfOk result (λ text. text.items ≡ text_in rows) }
 {
     let Ok(text) = rows.into_inner() else {

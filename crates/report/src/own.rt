@@ -3,7 +3,7 @@
 ghost use Rattle.std.specs.Prelude.{◌≡◌, IfOk};
 ghost use Rattle.report.specs.Parts.{figures_line, superstep_lines};
 
-use crate::lines::{put_vertex, rows_in, text_of};
+use crate::lines::{bytes_written, put_vertex, rows_in};
 use crate::parts::put_supersteps;
 use figures::Figures;
 use std::alloc::{AllocError, Global};
@@ -14,7 +14,7 @@ pub fn totals_text(alloc: Global, totals: &[u128]) -> Result<Vec<u8>, AllocError
 {
     let mut rows = rows_in(Vec::new(alloc));
     put_supersteps(&mut rows, totals)?;
-    text_of(rows)
+    bytes_written(rows)
 }
 
 /// The line of a vertex of that label. The error is that memory was refused.
@@ -23,5 +23,5 @@ pub fn figures_text(alloc: Global, label: &[u8], figures: Figures) -> Result<Vec
 {
     let mut rows = rows_in(Vec::new(alloc));
     put_vertex(&mut rows, label, figures)?;
-    text_of(rows)
+    bytes_written(rows)
 }

@@ -6,7 +6,7 @@ ghost use Rattle.report.specs.Parts.{AreAmong, HasSize, figures_among, figures_a
 ghost use Rattle.report.specs.Parts.{lists_in, superstep_lines, total_in, totals_in, vertices_text};
 ghost use Rattle.report.specs.Rows.{Adds, AtRow};
 
-use crate::lines::{put_end, put_gain, put_superstep, put_vertex, rows_in, text_of};
+use crate::lines::{bytes_written, put_end, put_gain, put_superstep, put_vertex, rows_in};
 use csv::Writer;
 use edgelist::Graph;
 use figures::{Figures, figures_within, gain};
@@ -126,7 +126,7 @@ fn head(alloc: Global, totals: &[u128], end: u32, stable: bool) -> Result<Vec<u8
 {
     let mut rows = rows_in(Vec::new(alloc));
     put_head(&mut rows, totals, end, stable)?;
-    text_of(rows)
+    bytes_written(rows)
 }
 
 // The text before the vertices, of replicas at superstep `end`.
@@ -193,5 +193,5 @@ pub(crate) fn vertices(
     let room = (to - from) as usize * USUAL_LINE;
     let mut rows = rows_in(Vec::with_capacity(alloc, room)?);
     put_rows(&mut rows, graph, parts, first, from, to)?;
-    text_of(rows)
+    bytes_written(rows)
 }
