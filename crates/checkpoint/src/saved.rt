@@ -54,7 +54,7 @@ struct Held {
 }
 
 // So many bytes, and those after them.
-fn cut(bytes: &[u8], count: usize) -> Result<(&[u8], &[u8]), KeepError>
+fn split_off(bytes: &[u8], count: usize) -> Result<(&[u8], &[u8]), KeepError>
     ensures split { IfOk result (λ r. bytes.now ≡ r.0.now ++ r.1.now) }
     ensures length { IfOk result (λ r. length r.0.now ≡ count) }
     ensures only { count ≤ length bytes.now → IsOk result }
@@ -84,7 +84,7 @@ fn read_u128(bytes: &[u8]) -> Result<(u128, &[u8]), KeepError>
         IfOkButMemory result (λ r. (r.0 ≡ n) × (r.1.now ≡ rest)) }
     ensures kind { IfErr result (λ e. e ≡ KeepError.Shape) }
 {
-    let (number, rest) = cut(bytes, 16)?;
+    let (number, rest) = split_off(bytes, 16)?;
     Ok((u128_at(number, 0), rest))
 }
 
@@ -126,7 +126,7 @@ fn figures_of(bytes: &[u8]) -> Result<((bool, Tally), &[u8]), KeepError>
         IfOkButMemory result (λ r. (r.0.0 ≡ mark) × (value_of r.0.1 ≡ tally) × (r.1.now ≡ rest)) }
     ensures kind { IfErr result (λ e. e ≡ KeepError.Shape) }
 {
-    let (entry, rest) = cut(bytes, ENTRY_LEN)?;
+    let (entry, rest) = split_off(bytes, ENTRY_LEN)?;
     let mark = mark_of(entry[0])?;
     let last = u64_at(entry, 1);
     let harm = u64_at(entry, 9);
@@ -157,7 +157,7 @@ fn add_vertex<'a>(vertices: &mut Vertices, i: usize, bytes: &'a [u8]) -> Result<
     ensures kind { IfErr result (λ e. e ≡ KeepError.Shape) }
 {
     let ((mark, tally), after) = figures_of(bytes)?;
-    let (row, rest) = cut(after, vertices.rows.width())?;
+    let (row, rest) = split_off(after, vertices.rows.width())?;
     vertices.marks.push_reserved(mark);
     vertices.tallies.push_reserved(tally);
     vertices.rows.raise(i, row);
@@ -255,7 +255,7 @@ fn put_rows<'a>(rows: &mut Rows, bytes: &'a [u8]) -> Result<&'a [u8], KeepError>
 {
     let mut rest = bytes;
     for i in 0..rows.len() {
-        let (row, after) = cut(rest, rows.width())?;
+        let (row, after) = split_off(rest, rows.width())?;
         rows.raise(i, row);
         rest = after;
     }
@@ -303,8 +303,8 @@ fn read_batch<'a>(
         IfOkButMemory result (λ r. (arc_value r.0 ≡ b) × (r.1.now ≡ rest)) }
     ensures kind { IfErr result IsOfBody }
 {
-    let (length, after) = cut(bytes, LENGTH_LEN)?;
-    let (spelling, rest) = cut(after, u64_at(length, 0) as usize)?;
+    let (length, after) = split_off(bytes, LENGTH_LEN)?;
+    let (spelling, rest) = split_off(after, u64_at(length, 0) as usize)?;
     Ok((decode(alloc, part, spelling)?, rest))
 }
 
@@ -344,7 +344,7 @@ fn read_early(alloc: Global, part: &Part, bytes: &[u8]) -> Result<Vec<Arc<Batch>
         IfOkButMemory result (λ early. map arc_value early.items ≡ batches) }
     ensures kind { IfErr result IsOfBody }
 {
-    let (number, after) = cut(bytes, COUNT_LEN)?;
+    let (number, after) = split_off(bytes, COUNT_LEN)?;
     let mut early = Vec::new(alloc);
     let rest = add_batches(alloc, part, u16_at(number, 0), after, &mut early)?;
     if !rest.is_empty() {
@@ -371,7 +371,7 @@ fn read_held(alloc: Global, part: &Part, bytes: &[u8]) -> Result<Held, KeepError
     ensures width { IfOk result (λ h. h.accumulated.width ≡ 2 ^ part.now.plan.log2m) }
     ensures kind { IfErr result IsOfBody }
 {
-    let (fields, after) = cut(bytes, HEARD_LEN)?;
+    let (fields, after) = split_off(bytes, HEARD_LEN)?;
     let heard_change = mark_of(fields[8])?;
     let mut accumulated = no_rows(alloc, part)?;
     let rest = put_rows(&mut accumulated, after)?;
@@ -479,7 +479,7 @@ pub(crate) fn saved_of(
     ensures accumulated { IfOk result (λ s. s.accumulated.width ≡ 2 ^ part.now.plan.log2m) }
     ensures kind { IfErr result IsOfBody }
 {
-    let (_front, body) = cut(text, HEADER_LEN)?;
+    let (_front, body) = split_off(text, HEADER_LEN)?;
     let (vertices, sums, rest) = read_table(alloc, part, header.superstep, body)?;
     let held = held_of(alloc, part, header.version, &vertices.rows, rest)?;
     Ok(Saved {
