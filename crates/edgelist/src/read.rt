@@ -534,7 +534,7 @@ fn read_source<R: Read + Drop>(
     read_records(alloc, state, &mut reader, &mut rows, limits)
 }
 
-// Reads all records, and makes their graph.
+// Reads all records, and makes their graph. It and what it calls are cut small for the checker.
 fn read_graph<R: Read + Drop>(
     alloc: Global,
     state: RandomState,
