@@ -5,7 +5,7 @@ use Rattle.std.specs.declared.option.Option.{Option}
 use Rattle.std.specs.Io.KnownBytes.{Appends, Consumes, Keeps}
 use Rattle.std.proofs.lemmas.List.{take_rest}
 use Rattle.std.proofs.KnownBytes.{Appends-nil, Appends-trans, Appends-kept, Consumes-trans}
-use Rattle.ball_model.specs.Streams.{AfterAtMost, AreSure, after_call, PutsFront, TakesAtMost}
+use Rattle.ball_model.specs.Streams.{AfterAtMost, AreSure, after_call, PutsFront, TakesAtMost, TextWritten}
 
 -- a beginning of all bytes was appended, and the rest is left
 pub record IsPut (all rest : List ℕ) (old new : Option (List ℕ)) : Type 0 where
@@ -33,6 +33,19 @@ put_fewer all rest a b p = let e : length all ≡ length p.gone + length rest = 
 
 pub put_front : (all rest : List ℕ) (a b c : Option (List ℕ)) → IsPut all rest a b → 0 < length rest → Keeps b c → PutsFront a c all
 put_front all rest a b c p some kept = record { front = p.gone; rest = rest; split = p.split; fewer = some; appended = Appends-kept a b c p.gone p.appended kept }
+
+-- ---- texts that were written whole
+
+pub written_none : {W : Type 0} (contents : W → Option (List ℕ)) (failed : W → ℕ) (a : W) → TextWritten contents failed a a []
+written_none contents failed a = record { appended = Appends-nil (contents a); counted = refl }
+
+-- a text, and the one behind it
+pub written_both : {W : Type 0} (contents : W → Option (List ℕ)) (failed : W → ℕ) (a b c : W) (text more : List ℕ) →
+    TextWritten contents failed a b text → TextWritten contents failed b c more → TextWritten contents failed a c (text ++ more)
+written_both contents failed a b c text more one two = record {
+  appended = Appends-trans (contents a) (contents b) (contents c) text more one.appended two.appended;
+  counted = two.counted ∙ one.counted;
+}
 
 -- ---- calls that are sure
 

@@ -1,11 +1,11 @@
 -- Texts that were written, whole or in part.
 use Rattle.std.proofs.Common.{◌≡◌, ◌≢◌, ◌-◌, ◌≤◌, ◌<◌, ◌++◌, ℕ, List, Option, length, refl, ap, arith, subst, ◌∙◌}
 use Rattle.std.specs.Prelude.{Result, Ok, Err, OnErr, OnOk}
-use Rattle.std.proofs.KnownBytes.{Appends-nil, Appends-trans}
 use Rattle.figures.specs.declared.ends.Figures.{Figures}
 use Rattle.ball_model.specs.Input.{Network}
 use Rattle.ball_model.specs.Job.{Job}
 use Rattle.ball_model.specs.State.{State}
+use Rattle.ball_model.proofs.StreamLemmas.{written_both, written_none}
 use Rattle.ball_model.specs.Streams.{PutsFront, Rises, TextWritten}
 use Rattle.std.specs.Io.KnownBytes.{Appends}
 use Rattle.report.specs.declared.write.ReportError.{ReportError}
@@ -37,18 +37,10 @@ part_then xs ys e one two = record {
   counted = λ other. two.counted other ∙ one.counted;
 }
 
--- both
-whole_both : {W : Type 0} {contents : W → Option (List ℕ)} {failed : W → ℕ} {a b c : W} (xs ys : List ℕ) →
-    TextWritten contents failed a b xs → TextWritten contents failed b c ys → TextWritten contents failed a c (xs ++ ys)
-whole_both xs ys one two = record {
-  appended = Appends-trans _ _ _ xs ys one.appended two.appended;
-  counted = two.counted ∙ one.counted;
-}
-
 -- the first of two texts, and what came of the other
 pub writes_then : {W : Type 0} (contents : W → Option (List ℕ)) (failed : W → ℕ) (a b c : W) (xs ys : List ℕ) (r : Result (Unit {0}) ReportError) →
     TextWritten contents failed a b xs → WritesText contents failed b c ys r → WritesText contents failed a c (xs ++ ys) r
-writes_then contents failed a b c xs ys (Ok u) one two = whole_both xs ys one two
+writes_then contents failed a b c xs ys (Ok u) one two = written_both contents failed a b c xs ys one two
 writes_then contents failed a b c xs ys (Err e) one two = part_then xs ys e one two
 
 -- ---- lines of vertices, piece by piece
@@ -58,13 +50,13 @@ pub no_piece : {W : Type 0} (contents : W → Option (List ℕ)) (failed : W →
 unfolding vertices_text
 no_piece contents failed a labels first parts from =
     let none : from - from ≡ 0 = omega arith in
-    record { appended = rw none (Appends-nil (contents a)); counted = refl }
+    rw none (written_none contents failed a)
 
 pub piece_more : {W : Type 0} {contents : W → Option (List ℕ)} {failed : W → ℕ} {a b c : W} (labels : List (List ℕ)) (first : ℕ) (parts : List (List Figures)) (from at to : ℕ) → from ≤ at → at ≤ to →
     TextWritten contents failed a b (vertices_text labels first parts from (at - from)) → TextWritten contents failed b c (vertices_text labels first parts at (to - at)) →
     TextWritten contents failed a c (vertices_text labels first parts from (to - from))
-piece_more labels first parts from at to low up before here =
-    rw (split_at labels first parts from at to low up) (whole_both (vertices_text labels first parts from (at - from)) (vertices_text labels first parts at (to - at)) before here)
+piece_more {contents} {failed} {a} {b} {c} labels first parts from at to low up before here =
+    rw (split_at labels first parts from at to low up) (written_both contents failed a b c (vertices_text labels first parts from (at - from)) (vertices_text labels first parts at (to - at)) before here)
 
 -- the lines before a piece, and a part of the piece
 pub piece_part : {W : Type 0} {contents : W → Option (List ℕ)} {failed : W → ℕ} {a b c : W} (labels : List (List ℕ)) (first : ℕ) (parts : List (List Figures)) (from at end to : ℕ) (e : ReportError) → from ≤ at → at ≤ end → end ≤ to →

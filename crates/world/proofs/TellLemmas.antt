@@ -2,7 +2,7 @@
 use Rattle.std.proofs.Common.{◌≡◌, ◌-◌, ◌^◌, ◌==◌, ◌&&◌, nat_lt, drop, not, if◌then◌else◌, ◌∙◌, ℕ, suc, ◌+◌, ◌*◌, ◌<◌, ◌≤◌, Bool, true, false, List, [], ◌∷◌, ◌++◌, map, take, get_or, length, refl, ap, arith, sym, subst, append_assoc, append-nil}
 use Rattle.std.specs.Prelude.{Option, None, Some, Result, Ok, Err}
 use Rattle.std.specs.Io.KnownBytes.{Appends}
-use Rattle.std.proofs.KnownBytes.{Appends-nil, Appends-trans}
+use Rattle.std.proofs.KnownBytes.{Appends-trans}
 use Rattle.world.specs.declared.tell.TellError.{TellError}
 use Rattle.std.specs.List.{flat_map, range_with_len}
 use Rattle.std.proofs.Math.Seq.{drop-cons, take-suc}
@@ -30,6 +30,7 @@ use Rattle.ball_model.specs.State.{State, own_vertices}
 use Rattle.ball_model.specs.World.{Node, World, after_event, answer_in, answer_of, closed_answer, deliver_at, name_to, node_at, node_of, recover_at, sent_answer, outcome_unless, recover_when, run_of, taken_answer, world_in}
 use Rattle.ball_model.specs.WorldText.{event_text, events_text, outcome_text, show_unless}
 use Rattle.ball_model.proofs.PartLemmas.{vertices_of-strided}
+use Rattle.ball_model.proofs.StreamLemmas.{written_both}
 use Rattle.edgelist.proofs.FeedLemmas.{vertex-within}
 use Rattle.replica.specs.Seen.{IsState}
 use Rattle.std.specs.List.{slice_get}
@@ -54,18 +55,6 @@ begins-after a b c text more whole part = record {
   appended = Appends-trans a b c text part.front whole part.appended;
 }
 
--- nothing was told
-pub told-none : {W : Type 0} (contents : W → Option (List ℕ)) (failed : W → ℕ) (a : W) → TextWritten contents failed a a []
-told-none contents failed a = record { appended = Appends-nil (contents a); counted = refl }
-
--- a text, and the one behind it
-pub told-both : {W : Type 0} (contents : W → Option (List ℕ)) (failed : W → ℕ) (a b c : W) (text more : List ℕ) →
-    TextWritten contents failed a b text → TextWritten contents failed b c more → TextWritten contents failed a c (text ++ more)
-told-both contents failed a b c text more one two = record {
-  appended = Appends-trans (contents a) (contents b) (contents c) text more one.appended two.appended;
-  counted = two.counted ∙ one.counted;
-}
-
 -- a text that was stopped, with more behind it
 pub stopped-more : {W : Type 0} (contents : W → Option (List ℕ)) (failed : W → ℕ) (a b : W) (text more : List ℕ) (e : TellError) →
     Stopped contents failed a b text e → Stopped contents failed a b (text ++ more) e
@@ -83,7 +72,7 @@ stopped-after contents failed a b c text more e one two = record {
 -- a text, and what comes of the one behind it
 pub tells-after : {W : Type 0} (contents : W → Option (List ℕ)) (failed : W → ℕ) (a b c : W) (text more : List ℕ) (r : Result (Unit {0}) TellError) →
     TextWritten contents failed a b text → Tells contents failed b c more r → Tells contents failed a c (text ++ more) r
-tells-after contents failed a b c text more (Ok u) one two = told-both contents failed a b c text more one two
+tells-after contents failed a b c text more (Ok u) one two = written_both contents failed a b c text more one two
 tells-after contents failed a b c text more (Err e) one two = stopped-after contents failed a b c text more e one two
 
 -- ---- the vertices of a node
@@ -140,7 +129,7 @@ pub told-next : {W : Type 0} (contents : W → Option (List ℕ)) (failed : W �
 told-next contents failed a b c g f i x at one two =
     let same : first-texts g f (i + suc 0) ≡ first-texts g f i ++ g x = texts-cut g f i 0 ∙ ap (λ l. first-texts g f i ++ l) (append-nil (g (f i)) ∙ ap g (sym at)) in
     let next : i + 1 ≡ i + suc 0 = omega arith in
-    rw (next, same) (told-both contents failed a b c (first-texts g f i) (g x) one two)
+    rw (next, same) (written_both contents failed a b c (first-texts g f i) (g x) one two)
 
 -- or not to its end
 pub stopped-next : {W : Type 0} (contents : W → Option (List ℕ)) (failed : W → ℕ) (a b c : W) (g : ℕ → List ℕ) (f : ℕ → ℕ) (i n x : ℕ) (e : TellError) → x ≡ f i → i < n →
@@ -252,7 +241,7 @@ event-told contents failed a b c j w es i d lt one two =
     ∙ ap (events_text j w) (take-suc es i d lt)
     ∙ events-cut j w before (e ∷ [])
     ∙ ap (λ l. events_text j w before ++ l) (append-nil (event_text j (run_of j w before) e)) in
-    rw same (told-both contents failed a b c (events_text j w before) (event_text j (run_of j w before) e) one two)
+    rw same (written_both contents failed a b c (events_text j w before) (event_text j (run_of j w before) e) one two)
 
 -- and the world is the one after it
 pub event-shown : (j : Job) (w : World) (es : List Event) (i : ℕ) (d : Event) → i < length es → after_event j (run_of j w (take i es)) (get_or es i d) ≡ run_of j w (take (i + 1) es)

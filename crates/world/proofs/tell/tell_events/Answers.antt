@@ -3,12 +3,13 @@ use Rattle.std.proofs.lemmas.Result.{err_from_is_err_and}
 use Rattle.ball_model.specs.World.{run_of}
 use Rattle.ball_model.specs.WorldText.{events_text}
 use Rattle.world.specs.Shows.{Shows}
-use Rattle.world.proofs.TellLemmas.{event-shown, event-stopped, event-told, told-none}
+use Rattle.world.proofs.TellLemmas.{event-shown, event-stopped, event-told}
+use Rattle.ball_model.proofs.StreamLemmas.{written_none}
 use Rattle.world.proofs.tell.tell_events.Goals as goal
 
 pub loop-event-init : goal.loop-event-init
 unfolding events_text run_of
-loop-event-init g c = λ j w shows. (told-none g.W.Write.contents g.W.CountedWrite.failed_calls c.args.writer.now, shows)
+loop-event-init g c = λ j w shows. (written_none g.W.Write.contents g.W.CountedWrite.failed_calls c.args.writer.now, shows)
 
 pub returns-in_err-tell_event : goal.returns-in_err-tell_event
 returns-in_err-tell_event g c = λ j w shows.
