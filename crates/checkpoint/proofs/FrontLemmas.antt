@@ -13,10 +13,9 @@ use Rattle.batches.proofs.HeadLemmas.{four, split, two}
 use Rattle.checkpoint.specs.declared.header.CheckpointHeader.{CheckpointHeader}
 use Rattle.checkpoint.specs.declared.error.KeepError.{KeepError}
 use Rattle.checkpoint.specs.declared.error.KeepError.TheVariants as errors
-use Rattle.ball_model.specs.Checks.{◌>>=◌}
 use Rattle.ball_model.proofs.CheckLemmas.{equal_checked, guard_ok}
-use Rattle.checkpoint.specs.Reading.{body_form, check_checkpoint_head, content_form, followed, checkpoint_head_at, needs, told_body}
-use Rattle.checkpoint.proofs.ReaderLemmas.{followed-err, needs-err, needs-ok, same_bytes}
+use Rattle.checkpoint.specs.Reading.{check_checkpoint_head, content_form, followed, checkpoint_head_at, needs, told_body}
+use Rattle.checkpoint.proofs.ReaderLemmas.{followed-err, needs-err, needs-ok, same_bytes, told-bad}
 
 -- ---- the fixed fields
 -- the fixed fields as bytes, one field after another, and what follows them
@@ -131,13 +130,9 @@ one_or_two part h e =
     ]
 
 -- ---- fixed fields that are refused
-told_bad : (part : PartValue) (piece rest : List ℕ) (e : KeepError) → check_checkpoint_head part (checkpoint_head_at piece) ≡ Err e → told_body part piece rest ≡ Err e
-unfolding told_body
-told_bad part piece rest e is = ap (λ (r : Result (Unit {0}) KeepError). r >>= λ fine. body_form part (checkpoint_head_at piece) rest) is
-
 front_bad : (part : PartValue) (bytes : List ℕ) (e : KeepError) → 54 ≤ length bytes → check_checkpoint_head part (checkpoint_head_at (take 54 bytes)) ≡ Err e → content_form part bytes ≡ Err e
 unfolding followed
-front_bad part bytes e long is = rw (needs-ok 54 bytes long, told_bad part (take 54 bytes) (drop 54 bytes) e is) refl
+front_bad part bytes e long is = rw (needs-ok 54 bytes long, told-bad part (take 54 bytes) (drop 54 bytes) e (sym is)) refl
 
 pub front_short : (part : PartValue) (bytes : List ℕ) → length bytes < 54 → content_form part bytes ≡ Err errors.Short
 front_short part bytes few = followed-err (needs 54) (told_body part) bytes errors.Short (needs-err 54 bytes few)

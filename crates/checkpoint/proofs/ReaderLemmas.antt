@@ -585,7 +585,7 @@ unfolding told_body
 told-body part piece rest h is fine =
     ap (λ (x : CheckpointHeader). check_checkpoint_head part x >>= λ _. body_form part x rest) is ∙ ap (λ (r : Result (Unit {0}) KeepError). r >>= λ _. body_form part h rest) fine
 
-told-bad : (part : PartValue) (piece rest : List ℕ) (e : KeepError) → Err e ≡ check_checkpoint_head part (checkpoint_head_at piece) → told_body part piece rest ≡ Err e
+pub told-bad : (part : PartValue) (piece rest : List ℕ) (e : KeepError) → Err e ≡ check_checkpoint_head part (checkpoint_head_at piece) → told_body part piece rest ≡ Err e
 unfolding told_body
 told-bad part piece rest e is = ap (λ (r : Result (Unit {0}) KeepError). r >>= λ _. body_form part (checkpoint_head_at piece) rest) (sym is)
 
