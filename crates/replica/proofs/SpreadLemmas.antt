@@ -148,8 +148,8 @@ raised_marked b row acc s new h is = grind (arith, still_marked, bytes_eq-Decide
 -- ---- what raising asks for
 
 -- the first places can be raised, where rows are as many and as wide
-pub raise_first : (block left registers : List ℕ) (count : ℕ) (rows : Table) (touched : List Bool) → All (λ i. i < count) (block ++ left) → length rows.rows ≡ count → length registers ≡ rows.width → length touched ≡ length rows.rows → CanRaise block registers rows touched
-raise_first block left registers count rows touched all size wide marks = record {
+pub raise_first : {block registers : List ℕ} {count : ℕ} {rows : Table} {touched : List Bool} (left : List ℕ) → All (λ i. i < count) (block ++ left) → length rows.rows ≡ count → length registers ≡ rows.width → length touched ≡ length rows.rows → CanRaise block registers rows touched
+raise_first {block} {registers} {count} left all size wide marks = record {
   inside = λ k d lt. let at : get_or block k d < count = all_first (λ i. i < count) block left all k d lt in omega (arith, at, size);
   width = wide;
   marks = marks;

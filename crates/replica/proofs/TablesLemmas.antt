@@ -1,5 +1,5 @@
 -- A replica's tables, and what is heard beside them, one superstep further.
-use Rattle.std.proofs.Common.{◌≡◌, ℕ, ◌+◌, ◌^◌, ◌<◌, ◌≤◌, ◌++◌, ◌∷◌, List, [], refl, ap, ap₂, sym, ◌∙◌, subst, arith, inl}
+use Rattle.std.proofs.Common.{◌≡◌, ℕ, ◌+◌, ◌^◌, ◌<◌, ◌≤◌, ◌++◌, ◌∷◌, List, [], length, refl, ap, ap₂, sym, ◌∙◌, subst, arith, inl}
 use Rattle.replica.proofs.Names.{Option, arc_value, sum_by, BatchValue, TallyValue, Measure, PlanValue, measure_of, State, is_heard, Table}
 use Rattle.ball_model.specs.declared.names.Verdict.TheVariants as verdict
 use Rattle.replica.specs.declared.Progress.TheInside as progress
@@ -11,15 +11,15 @@ use Rattle.replica.specs.Kept.{AreEarly, AreOfPlan}
 use Rattle.replica.specs.Level.{differences, level_verdict, total_of, weights_of}
 use Rattle.replica.specs.Progress.{ProgressValue}
 use Rattle.replica.specs.Seen.{HoldsTogether, IsProgress, progress_of, state_of}
-use Rattle.replica.specs.Tables.{AreAhead, CanHearOwn, CanStep, HearsOwn, NextTables, TablesValue}
+use Rattle.replica.specs.Tables.{AreAhead, CanBeStepped, CanHearOwn, CanStep, HearsOwn, NextTables, TablesValue}
 use Rattle.replica.proofs.HearingLemmas.Accumulator.{Keeps, can_go_on, fields_are, fields_of, going_keeps, kept_progress}
 use Rattle.replica.proofs.ChangeLemmas.Advance.{same_early}
-use Rattle.replica.proofs.HearingLemmas.Hearing.{hears_quiet}
-use Rattle.replica.proofs.LevelLemmas.Next.{stepped_as}
+use Rattle.replica.proofs.HearingLemmas.Hearing.{differ_where, hears_quiet}
+use Rattle.replica.proofs.KeptLemmas.Rise.{rise_counters}
+use Rattle.replica.proofs.LevelLemmas.Level.{differing_from}
+use Rattle.replica.proofs.LevelLemmas.Next.{lasts_count, next_lasts, stepped_as}
 use Rattle.replica.proofs.SeenLemmas.Read.{few}
 use Rattle.replica.proofs.SeenLemmas.State.{inside_of, ready_at, ready_quiet, state_next}
-
--- ---- the figures
 
 -- ---- batches that are kept
 
@@ -38,6 +38,23 @@ can_hear r v plan targets early ok k own index kept = rw own (record {
   ready = ready_at (fields_of r) targets r.hearing k.state index refl refl ok.accumulated_width;
   kept = kept;
 })
+
+-- figures, where the tables can go on to the accumulators
+pub can_be_stepped : {m : Measure} {t : ℕ} {a : TablesValue} {h : HearingValue} {own : List ℕ} → CanStep m t a h own → CanBeStepped m (t + 1) a.rows h.accumulated h.touched own a.tallies
+can_be_stepped {m} {t} {a} {h} {own} can =
+    let rows = a.rows.rows in
+    let new = h.accumulated.rows in
+    let lasts = next_lasts m rows new a.tallies (length rows) can.ahead.counters can.ahead.rise can.lasts refl in
+    record {
+      from = omega arith;
+      to = omega (arith, can.to);
+      rows = can.ahead.counters;
+      ahead = rise_counters m.log2m rows new can.ahead.rise;
+      differ = differ_where a.rows h.accumulated h.touched can.ahead.width can.ahead.kept;
+      weights = can.weights;
+      count = lasts_count m rows a.tallies can.lasts ∙ sym can.ahead.rise.count;
+      lasts = rw (differing_from rows new h.touched (length rows) can.ahead.kept refl) lasts;
+    }
 
 -- ---- one superstep more
 

@@ -7,10 +7,13 @@ use Rattle.replica.specs.Level.{differences, next_tally, next_tallies, total_of}
 use Rattle.replica.specs.Kept.{AreLasts, AreCounters, AllRise}
 use Rattle.replica.proofs.KeptLemmas.Rise.{rise_estimate, same_registers}
 
+-- where the last estimates are those of the rows, there are as many figures
+pub lasts_count : (m : Measure) (rows : List (List ℕ)) (tallies : List TallyValue) → map (λ t. t.last) tallies ≡ map (estimate_with m) rows → length tallies ≡ length rows
+lasts_count m rows tallies same = sym (length-map tallies (λ (t : TallyValue). t.last)) ∙ ap length same ∙ length-map rows (estimate_with m)
+
 last_at : (m : Measure) (rows : List (List ℕ)) (tallies : List TallyValue) (i : ℕ) → map (λ t. t.last) tallies ≡ map (estimate_with m) rows → i < length rows → (get_or tallies i no_figures).last ≡ estimate_with m (get_or rows i [])
 last_at m rows tallies i same lt =
-    let long : length tallies ≡ length rows = sym (length-map tallies (λ (t : TallyValue). t.last)) ∙ ap length same ∙ length-map rows (estimate_with m) in
-    sym (get_or-map (λ (t : TallyValue). t.last) tallies i no_figures 0 (omega arith)) ∙ ap (λ (l : List ℕ). get_or l i 0) same ∙ get_or-map (estimate_with m) rows i [] 0 lt
+    sym (get_or-map (λ (t : TallyValue). t.last) tallies i no_figures 0 (omega (arith, lasts_count m rows tallies same))) ∙ ap (λ (l : List ℕ). get_or l i 0) same ∙ get_or-map (estimate_with m) rows i [] 0 lt
 
 -- what the step of the figures asks for
 pub next_lasts : (m : Measure) (old new : List (List ℕ)) (tallies : List TallyValue) (n : ℕ) → AreCounters m.log2m old → AllRise m.log2m old new → map (λ t. t.last) tallies ≡ map (estimate_with m) old → n ≡ length old →

@@ -1,6 +1,6 @@
 -- What a replica sends is the true batch, where it stands for its content.
 use Rattle.std.proofs.Common.{◌≡◌, ℕ, zero, suc, ◌+◌, ◌*◌, ◌<◌, ◌≤◌, Bool, true, false, ◌&&◌, List, [], ◌∷◌, ◌++◌, length, length-append, map, get_or, take, if◌then◌else◌, refl, ap, arith, sym, subst, ◌∙◌}
-use Rattle.replica.proofs.Names.{common_steps, range_with_len, flat_map, filter, count_by, AllByRecursion, and_left, append-nil, get_or_default, PlanValue, mixing_of, part_size, Job, part_of, feeds_into, feed_mask, BatchValue, IsRow, true_batch, sent_vertices, ids_of, State, StandsFor, length-filter, ball_counter, IsNextMarked, at_next}
+use Rattle.replica.proofs.Names.{common_steps, range_with_len, flat_map, filter, count_by, AllByRecursion, and_left, append-nil, PlanValue, mixing_of, part_size, Job, part_of, feeds_into, feed_mask, BatchValue, IsRow, true_batch, sent_vertices, ids_of, State, StandsFor, length-filter, ball_counter, IsNextMarked, at_next}
 use Rattle.std.proofs.lemmas.List.Concat.{flat_map-append}
 use Rattle.ball_model.specs.Change.{changed_at}
 use Rattle.ball_model.specs.Masks.{has_bit}
@@ -144,15 +144,11 @@ pub sent_room : (v : State) (target i : ℕ) (b : BatchValue) → b ≡ sent_bat
 unfolding sent_batch
 sent_room v target i b is lt mark = grind (arith, common_steps, sent_short, length-filter)
 
--- a mark that was read
-pub mark_of : (items marks : List Bool) (i : ℕ) (b r : Bool) → items ≡ marks → i < length marks → b ≡ get_or items i b → b ≡ r → get_or marks i false ≡ r
-mark_of items marks i b r same lt at is = get_or_default marks i false b lt ∙ ap (λ (l : List Bool). get_or l i b) (sym same) ∙ sym at ∙ is
-
 -- the batch without rows
-pub sent_first : (v : State) (target : ℕ) (plan : PlanValue) (superstep source changed : ℕ) → plan ≡ v.part.plan → superstep ≡ v.superstep → source ≡ v.part.number → changed ≡ count_by (λ mark. mark) v.marks →
+pub sent_first : (v : State) (target : ℕ) {plan : PlanValue} {superstep source changed : ℕ} → plan ≡ v.part.plan → superstep ≡ v.superstep → source ≡ v.part.number → changed ≡ count_by (λ mark. mark) v.marks →
     record { plan = plan; name = record { superstep = superstep; source = source; target = target }; changed = changed; rows = [] } ≡ sent_batch v target 0
 unfolding sent_batch sent_rows
-sent_first v target plan superstep source changed p t q n = rw (p, t, q, n) refl
+sent_first v target p t q n = rw (p, t, q, n) refl
 
 -- its target
 pub sent_target : (v : State) (target n : ℕ) (b : BatchValue) → b ≡ sent_batch v target n → b.name.target ≡ target

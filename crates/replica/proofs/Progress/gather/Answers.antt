@@ -24,9 +24,7 @@ pub hear_early-requires : goal.hear_early-requires
 hear_early-requires c = hear_from_other c.self.inside c.other.inside c.args.self.now.state c.args.other.now.state c.plan.result.now c.args.targets.now c.args.shared.now (both (goal.at.hear_early-requires c).After-other) (c.plan.ensures ∙ ap (λ (a : PartValue). a.plan) c.deref.ensures) c.requires.can.index
 
 pub fill-requires : goal.fill-requires
-fill-requires c =
-    let m = (both (goal.at.fill-requires c).After-other).meets in
-    tables_alike _ c.self.inside.early c.hear_early.new.early m.mine.early.table (c.hear_early.ensures.table _ m.table)
+fill-requires c = let m = (both (goal.at.fill-requires c).After-other).meets in tables_alike _ c.self.inside.early c.hear_early.new.early m.mine.early.table (c.hear_early.ensures.table _ m.table)
 
 pub invariant_of-self : goal.invariant_of-self
 invariant_of-self c = let at = goal.at.invariant_of-self c in (made at.After-fill (both at.After-other)).limits

@@ -29,13 +29,10 @@ made c g lt taken =
 
 pub hear_early-requires : goal.hear_early-requires
 hear_early-requires c =
-    let at = goal.at.hear_early-requires c in
-    can_hear_beside c.self.inside c.other.inside c.args.self.now.state c.args.other.now.state c.plan.result.now c.args.targets.now c.args.shared.now c.assign-2.new.self (both at.After-other) (c.plan.ensures ∙ ap (λ (a : PartValue). a.plan) c.deref.ensures) c.requires.can.index (fills at.After-assign-2)
+    can_hear_beside c.self.inside c.other.inside c.args.self.now.state c.args.other.now.state c.plan.result.now c.args.targets.now c.args.shared.now c.assign-2.new.self (both (goal.at.hear_early-requires c).After-other) (c.plan.ensures ∙ ap (λ (a : PartValue). a.plan) c.deref.ensures) c.requires.can.index (fills (goal.at.hear_early-requires c).After-assign-2)
 
 pub fill-requires : goal.fill-requires
-fill-requires c =
-    let m = (both (goal.at.fill-requires c).After-other).meets in
-    tables_alike _ c.hear_early.new.early c.args.shared.now (c.hear_early.ensures.table _ m.mine.early.table) m.table
+fill-requires c = let m = (both (goal.at.fill-requires c).After-other).meets in tables_alike _ c.hear_early.new.early c.args.shared.now (c.hear_early.ensures.table _ m.mine.early.table) m.table
 
 pub invariant_of-self : goal.invariant_of-self
 invariant_of-self c =

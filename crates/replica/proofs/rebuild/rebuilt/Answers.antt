@@ -1,21 +1,18 @@
-use Rattle.std.proofs.Common.{◌≡◌, ◌+◌, ◌≤◌, Bool, length, map, refl, ap, sym, ◌∙◌, subst, arith}
-use Rattle.replica.proofs.Names.{arc_value, vec_capacity, PartValue, IsPart, PlanValue, measure_of, TallyValue, estimate_with, value_of, length-map}
+use Rattle.std.proofs.Common.{◌≡◌, ◌+◌, ◌≤◌, map, refl, ap, sym, ◌∙◌, subst, arith}
+use Rattle.replica.proofs.Names.{arc_value, vec_capacity, PartValue, IsPart, PlanValue, measure_of, value_of, length-map}
 use Rattle.replica.specs.declared.Progress.TheInside as progress
 use Rattle.replica.specs.Saved.{KeepsInPlace}
 use Rattle.replica.proofs.LevelLemmas.Level.{length-differing}
+use Rattle.replica.proofs.LevelLemmas.Next.{lasts_count}
 use Rattle.replica.proofs.StartLemmas.Made.{Remade, remade}
 use Rattle.replica.proofs.rebuild.rebuilt.Goals as goal
 use Rattle.replica.proofs.rebuild.rebuilt.Goals.{After-of-2}
 
 pub of-requires-clause-tallies : goal.of-requires-clause-tallies
-of-requires-clause-tallies c =
-    let tallies = c.args.saved.tallies.items in
-    sym (length-map tallies value_of) ∙ sym (length-map (map value_of tallies) (λ (t : TallyValue). t.last)) ∙ ap length c.requires.figures.lasts ∙ length-map c.args.saved.rows.rows (estimate_with (measure_of (arc_value c.args.part).plan))
+of-requires-clause-tallies c = sym (length-map c.args.saved.tallies.items value_of) ∙ lasts_count (measure_of (arc_value c.args.part).plan) c.args.saved.rows.rows _ c.requires.figures.lasts
 
 pub of-requires-2 : goal.of-requires-2
-of-requires-2 c =
-    let s = c.args.saved in
-    ap (length {A = Bool}) c.in_ok-touched.ensures ∙ length-differing s.rows.rows s.accumulated.rows (length s.rows.rows) ∙ sym c.requires.heard.accumulated.count
+of-requires-2 c = grind (arith, length-differing, c.in_ok-touched.ensures, c.requires.heard.accumulated.count)
 
 -- what is known then
 abbrev after : After-of-2 → progress.Inside

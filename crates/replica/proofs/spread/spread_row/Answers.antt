@@ -25,14 +25,10 @@ loop-block-init c =
     }
 
 pub mark_seen-requires : goal.mark_seen-requires
-mark_seen-requires c =
-    let inv = c.loop-block.invariant in
-    raise_first c.in-Some.block.now (chunks_rest c.next.new.self) c.args.registers.now (length c.args.accumulated.now.rows) c.loop-block.accumulated c.loop-block.touched (rw c.in-Some.ensures.steps.1.0 at inv.inside) inv.count (c.requires.wide ∙ sym inv.width) (omega (arith, c.loop-block.auto.touched, c.requires.room.marks, inv.count))
+mark_seen-requires c = let inv = c.loop-block.invariant in raise_first (chunks_rest c.next.new.self) (rw c.in-Some.ensures.steps.1.0 at inv.inside) inv.count (c.requires.wide ∙ sym inv.width) (omega (arith, c.loop-block.auto.touched, c.requires.room.marks, inv.count))
 
 pub raise_block-requires : goal.raise_block-requires
-raise_block-requires c =
-    let inv = c.loop-block.invariant in
-    raise_first c.in-Some.block.now (chunks_rest c.next.new.self) c.args.registers.now (length c.args.accumulated.now.rows) c.loop-block.accumulated c.mark_seen.new.touched (rw c.in-Some.ensures.steps.1.0 at inv.inside) inv.count (c.requires.wide ∙ sym inv.width) (omega (arith, c.loop-block.auto.touched, c.mark_seen.auto.touched, c.requires.room.marks, inv.count))
+raise_block-requires c = let inv = c.loop-block.invariant in raise_first (chunks_rest c.next.new.self) (rw c.in-Some.ensures.steps.1.0 at inv.inside) inv.count (c.requires.wide ∙ sym inv.width) (omega (arith, c.loop-block.auto.touched, c.mark_seen.auto.touched, c.requires.room.marks, inv.count))
 
 pub loop-block-preserved : goal.loop-block-preserved
 loop-block-preserved c =

@@ -17,18 +17,16 @@ size c =
     ap (λ (t : Table). length t.rows) joined
     ∙ length-maxima c.self.inside.accumulated.rows c.args.theirs.now.rows (ap (λ (a : HearingValue). length a.accumulated.rows) c.self.view_is ∙ c.requires.count)
 
+-- a mark for each accumulator
+mark_for_each : (c : After-deref_mut) → length c.deref_mut.result.now ≡ length c.self.inside.accumulated.rows
+mark_for_each c = ap (length {A = Bool}) c.deref_mut.ensures.value ∙ c.self.invariant
+
 pub mark_differences-requires : goal.mark_differences-requires
 mark_differences-requires c =
-    let marks = sym c.self.invariant ∙ sym (ap (length {A = Bool}) c.deref_mut.ensures.value) in
-    record {
-      old = c.requires.rows ∙ sym (ap (λ (a : HearingValue). length a.accumulated.rows) c.self.view_is) ∙ marks;
-      new = size (goal.at.mark_differences-requires c).After-deref_mut ∙ marks;
-    }
+    let at = (goal.at.mark_differences-requires c).After-deref_mut in
+    record { old = c.requires.rows ∙ sym (ap (λ (a : HearingValue). length a.accumulated.rows) c.self.view_is) ∙ sym (mark_for_each at); new = size at ∙ sym (mark_for_each at) }
 
 pub invariant_of-self : goal.invariant_of-self
 invariant_of-self c =
-    ap (length {A = Bool}) (with_items_is c.self.inside.touched c.mark_differences.new.marks (c.mark_differences.auto.marks ∙ c.deref_mut.ensures.len))
-    ∙ c.mark_differences.auto.marks
-    ∙ ap (length {A = Bool}) c.deref_mut.ensures.value
-    ∙ c.self.invariant
-    ∙ sym (size (goal.at.invariant_of-self c).After-deref_mut)
+    let at = (goal.at.invariant_of-self c).After-deref_mut in
+    ap (length {A = Bool}) (with_items_is c.self.inside.touched c.mark_differences.new.marks (c.mark_differences.auto.marks ∙ c.deref_mut.ensures.len)) ∙ c.mark_differences.auto.marks ∙ mark_for_each at ∙ sym (size at)

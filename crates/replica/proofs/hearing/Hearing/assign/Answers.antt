@@ -10,21 +10,18 @@ use Rattle.replica.proofs.hearing.Hearing.assign.Goals.{After-accumulators, Afte
 size : (c : After-accumulators) → length c.accumulators.result.now.rows ≡ length c.args.rows.now.rows
 size c = grind (arith, accumulators_are, c.accumulators.ensures.rows, c.requires.kept)
 
-own : (c : After-accumulators) → length c.self.inside.accumulated.rows ≡ length c.args.rows.now.rows
-own c = ap (λ (a : HearingValue). length a.accumulated.rows) c.self.view_is ∙ sym c.requires.count
+-- a mark for each row
+mark_for_each : (c : After-deref_mut) → length c.deref_mut.result.now ≡ length c.args.rows.now.rows
+mark_for_each c = ap (length {A = Bool}) c.deref_mut.ensures.value ∙ c.self.invariant ∙ ap (λ (a : HearingValue). length a.accumulated.rows) c.self.view_is ∙ sym c.requires.count
 
 pub copy_from-requires-clause-count : goal.copy_from-requires-clause-count
-copy_from-requires-clause-count c =
-    let at = (goal.at.copy_from-requires-clause-count c).After-accumulators in
-    own at ∙ sym (size at)
+copy_from-requires-clause-count c = ap (λ (a : HearingValue). length a.accumulated.rows) c.self.view_is ∙ sym c.requires.count ∙ sym (size (goal.at.copy_from-requires-clause-count c).After-accumulators)
 
 pub mark_differences-requires : goal.mark_differences-requires
 mark_differences-requires c =
-    let at = (goal.at.mark_differences-requires c).After-accumulators in
-    record {
-      old = sym (own at) ∙ sym c.self.invariant ∙ sym (ap (length {A = Bool}) c.deref_mut.ensures.value);
-      new = ap (λ (t : Table). length t.rows) c.copy_from.ensures ∙ size at ∙ sym (own at) ∙ sym c.self.invariant ∙ sym (ap (length {A = Bool}) c.deref_mut.ensures.value);
-    }
+    let at = goal.at.mark_differences-requires c in
+    let marks = sym (mark_for_each at.After-deref_mut) in
+    record { old = marks; new = ap (λ (t : Table). length t.rows) c.copy_from.ensures ∙ size at.After-accumulators ∙ marks }
 
 -- the marks
 marks : (c : After-mark_differences) → (with_items c.self.inside.touched c.mark_differences.new.marks).items ≡ c.mark_differences.new.marks
@@ -33,19 +30,18 @@ marks c = with_items_is c.self.inside.touched c.mark_differences.new.marks (c.ma
 pub invariant_of-self : goal.invariant_of-self
 invariant_of-self c =
     let at = goal.at.invariant_of-self c in
-    ap (length {A = Bool}) (marks at.After-mark_differences) ∙ c.mark_differences.auto.marks ∙ ap (length {A = Bool}) c.deref_mut.ensures.value ∙ c.self.invariant ∙ own at.After-accumulators ∙ sym (size at.After-accumulators) ∙ sym (ap (λ (t : Table). length t.rows) c.copy_from.ensures)
+    ap (length {A = Bool}) (marks at.After-mark_differences) ∙ c.mark_differences.auto.marks ∙ mark_for_each at.After-deref_mut ∙ sym (size at.After-accumulators) ∙ sym (ap (λ (t : Table). length t.rows) c.copy_from.ensures)
 
 pub returns : goal.returns
 returns c =
     let at = goal.at.returns c in
     let rows = c.args.rows.now.rows in
     let new = c.copy_from.new.self in
-    let long : length c.deref_mut.result.now ≡ length rows = ap (length {A = Bool}) c.deref_mut.ensures.value ∙ c.self.invariant ∙ own at.After-accumulators in
     let taken : new.rows ≡ accumulators_of rows c.args.other.now.accumulated.rows = ap (λ (t : Table). t.rows) c.copy_from.ensures ∙ c.accumulators.ensures.rows in
     record {
       heard = ap (λ (a : HearingValue). a.heard) c.other.view_is;
       change = ap (λ (a : HearingValue). a.change) c.other.view_is;
       width = ap (λ (t : Table). t.width) c.copy_from.ensures ∙ c.accumulators.ensures.width;
       accumulated = taken;
-      kept = subst (λ (l : List Bool). AreTouched rows new.rows l) (sym (marks at.After-mark_differences)) (marked_from rows c.args.other.now new.rows c.mark_differences.new.marks (length c.deref_mut.result.now) c.requires.kept taken long c.mark_differences.ensures);
+      kept = subst (λ (l : List Bool). AreTouched rows new.rows l) (sym (marks at.After-mark_differences)) (marked_from rows c.args.other.now new.rows c.mark_differences.new.marks (length c.deref_mut.result.now) c.requires.kept taken (mark_for_each at.After-deref_mut) c.mark_differences.ensures);
     }

@@ -1,13 +1,13 @@
 use Rattle.std.proofs.Common.{◌≡◌, ◌+◌, Bool, ◌∷◌, ◌++◌, [], length, refl, ap, sym, ◌∙◌, arith, subst}
-use Rattle.replica.proofs.Names.{sum_by, with_items, with_items_is, length-map, TallyValue, Table}
+use Rattle.replica.proofs.Names.{sum_by, with_items, with_items_is, TallyValue, Table}
 use Rattle.replica.specs.Level.{next_tallies, total_of, weights_of}
 use Rattle.replica.specs.Seen.{tables_of}
 use Rattle.replica.specs.Tables.{CanStep, NextTables, TablesValue}
-use Rattle.replica.proofs.HearingLemmas.Hearing.{differ_where}
 use Rattle.replica.proofs.LevelLemmas.Level.{differing_from}
-use Rattle.replica.proofs.LevelLemmas.Next.{next_lasts, total_small}
+use Rattle.replica.proofs.LevelLemmas.Next.{total_small}
 use Rattle.replica.proofs.KeptLemmas.Rise.{rise_counters}
 use Rattle.replica.proofs.SeenLemmas.State.{next_at}
+use Rattle.replica.proofs.TablesLemmas.{can_be_stepped}
 use Rattle.replica.proofs.TalliesLemmas.{length-next_tallies}
 use Rattle.replica.proofs.tables.Tables.next.Goals as goal
 use Rattle.replica.proofs.tables.Tables.next.Goals.{After-touched-marks, After-step-gain}
@@ -21,12 +21,7 @@ sums : (c : After-step-gain) → CanStep c.args.estimator.now c.args.t (tables_o
 sums c ok = next_at c.args.estimator.now c.args.t c.args.hearing.now.accumulated.rows c.self.inside.tallies c.step-gain.new.self c.self.inside.sums.items c.index-last.result.now c.step-gain.result ok.sums c.index-last.ensures (rw c.ahead-ahead.ensures at c.step-gain.ensures.tallies) c.step-gain.ensures.gain
 
 pub step-gain-requires : goal.step-gain-requires
-step-gain-requires c =
-    let rows = c.self.inside.rows.rows in
-    let own = c.args.hearing.now.accumulated.rows in
-    let ok = can (goal.at.step-gain-requires c).After-touched-marks in
-    rw (c.ahead-ahead.ensures, c.touched-marks.ensures)
-    (grind (arith, ok, rise_counters c.args.estimator.now.log2m rows own ok.ahead.rise, differ_where, length-map, differing_from rows own c.args.hearing.now.touched (length rows) ok.ahead.kept refl, next_lasts c.args.estimator.now rows own c.self.inside.tallies (length rows) ok.ahead.counters ok.ahead.rise ok.lasts refl))
+step-gain-requires c = rw (c.ahead-ahead.ensures, c.touched-marks.ensures) (can_be_stepped (can (goal.at.step-gain-requires c).After-touched-marks))
 
 pub overflow_add-last : goal.overflow_add-last
 overflow_add-last c =

@@ -8,9 +8,7 @@ pub start_tallies-requires : goal.start_tallies-requires
 start_tallies-requires c = rw (c.requires, ap (λ (t : Table). t.rows) c.in_ok-rows.ensures) (first_counters c.args.part.now c.partition.ensures.part.plan)
 
 pub of-requires-clause-marks : goal.of-requires-clause-marks
-of-requires-clause-marks c =
-    let part = c.partition.ensures.part in
-    rw (c.in_ok-marks.ensures, ap (λ (t : Table). t.rows) c.in_ok-rows.ensures) (part.counted ∙ sym part.preds ∙ sym (length-first_rows c.args.part.now))
+of-requires-clause-marks c = rw (c.in_ok-marks.ensures, c.in_ok-rows.ensures) (c.partition.ensures.part.counted ∙ sym c.partition.ensures.part.preds ∙ sym (length-first_rows c.args.part.now))
 
 pub returns : goal.returns
 returns c =

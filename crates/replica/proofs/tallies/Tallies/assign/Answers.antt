@@ -1,6 +1,7 @@
 use Rattle.std.proofs.Common.{◌≡◌, rules, ap, ◌∙◌, None, Some, length, map, arith}
-use Rattle.replica.proofs.Names.{arc_value, length-map, TallyValue, value_of}
+use Rattle.replica.proofs.Names.{length-map, TallyValue, value_of}
 use Rattle.replica.specs.Tallies.{shown_tallies}
+use Rattle.replica.proofs.TalliesLemmas.{handed_out_is}
 use Rattle.replica.proofs.tallies.Tallies.assign.Goals as goal
 
 pub copy_from_slice-requires : goal.copy_from_slice-requires
@@ -12,12 +13,9 @@ copy_from_slice-requires c =
     omega (arith, length-map c.self.inside.own.items value_of, ap (length {A = TallyValue}) own, c.requires, c.self.inside.own.ok.0)
 
 pub filled-requires : goal.filled-requires
-unfolding shown_tallies
 filled-requires c =
-    let shown : shown_tallies (map value_of c.self.inside.own.items) c.self.inside.out ≡ c.args.self.now = c.self.view_is in
     let some : c.self.inside.out ≡ Some c.in-Some.out = search rules in
-    let out : map value_of (arc_value c.out.inside.table).items ≡ c.args.self.now = c.out.view_is ∙ (rw some at shown) in
-    rw (c.requires, ← out) c.out.invariant.all
+    rw (c.requires, ← (c.out.view_is ∙ handed_out_is (map value_of c.self.inside.own.items) c.self.view_is some)) c.out.invariant.all
 
 pub returns-in-Some : goal.returns-in-Some
 unfolding shown_tallies
