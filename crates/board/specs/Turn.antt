@@ -19,7 +19,7 @@ IsSameSeat v w =
     (w.number ≡ v.number) × (w.room ≡ v.room) × (w.told ≡ v.told) × (w.limit ≡ v.limit)
 
 -- the history goes on from what was seen, by calls of this seat alone
-pub record Next (v : View) (book : History) : Type 0 where
+pub record GoesOnBySeat (v : View) (book : History) : Type 0 where
   pub legal : IsLegal book
   pub longer : Begins v.seen book
   pub fits : entries_of book ≤ v.limit

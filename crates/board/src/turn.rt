@@ -5,12 +5,13 @@ ghost use Rattle.ball_model.specs.History.{HistoryEvent, entries_of};
 ghost use Rattle.ball_model.specs.Caller.{Called, Extends};
 ghost use Rattle.board.specs.Noted.{IsNext, IsNoted};
 ghost use Rattle.board.specs.Rule.{GoesOn, at_look, with_ticket, at_turn, after_turn};
-ghost use Rattle.board.specs.Turn.{HasNews, IsSameSeat, IsSized, Next};
+ghost use Rattle.board.specs.Turn.{GoesOnBySeat, HasNews, IsSameSeat, IsSized};
 ghost use Rattle.board.specs.Inside.{GrantFits, IsTurn, caller_of};
 
 use crate::book::Book;
 use crate::rule::{
-    BoardTable, Counts, Draws, LENGTH, Looks, Pass, Raises, SERVING, TICKETS, Writes,
+    BoardTable, DrawsTicket, LENGTH, LooksAtLength, LooksAtServing, Pass, RaisesServing, SERVING,
+    TICKETS, WritesLength,
 };
 use crate::seat::Grant;
 use std::snapshot::Snapshot as Seen;
@@ -31,7 +32,7 @@ pub fn look_at_length(table: &BoardTable, pass: &mut Pass) -> u64
         × (pass.new.me ≡ (at_look pass.old.me.0 pass.new.me.0.seen, [])) }
     ensures told { HasNews pass.old.me.0 pass.new.me.0.seen }
 {
-    table.shared.load::<Counts>(pass, LENGTH)
+    table.shared.load::<LooksAtLength>(pass, LENGTH)
 }
 
 // Draws a ticket.
@@ -43,7 +44,7 @@ fn draw(table: &BoardTable, pass: &mut Pass) -> u64
     ensures drew { pass.new.me ≡ (with_ticket pass.old.me.0 pass.new.me.0.ticket, []) }
     ensures ticket { result ≡ pass.new.me.0.ticket % 2 ^ 64 }
 {
-    table.shared.fetch_add::<Draws>(pass, TICKETS, 1)
+    table.shared.fetch_add::<DrawsTicket>(pass, TICKETS, 1)
 }
 
 // Waits until it is the seat's turn.
@@ -59,7 +60,7 @@ fn wait<R: Wait>(rt: &R, table: &BoardTable, pass: &mut Pass, ticket: u64)
 {
     let mut looks = 0;
     for _ in rt.forever() {
-        if table.shared.load::<Looks>(pass, SERVING) == ticket {
+        if table.shared.load::<LooksAtServing>(pass, SERVING) == ticket {
             return;
         }
         looks = pause(looks);
@@ -103,14 +104,14 @@ fn give_book(table: &BoardTable, pass: &mut Pass, book: Book)
     requires table { IsSized table.now.shared.table_id
         × (pass.old.table_id ≡ table.now.shared.table_id) }
     requires turn { (pass.old.me.0.stage ≡ 2) × (pass.old.me.1 ≡ (0, None) ∷ []) }
-    requires next { Next pass.old.me.0 book }
+    requires next { GoesOnBySeat pass.old.me.0 book }
     ensures same { (pass.new.table_id ≡ pass.old.table_id) × (pass.new.id ≡ pass.old.id) }
     ensures given { pass.new.me ≡ (after_turn (at_turn pass.old.me.0 book), []) }
 {
     let length = u64::from(book.entries());
     let _left = table.shared.exchange(pass, 0, Some(book));
-    table.shared.store::<Writes>(pass, LENGTH, length);
-    table.shared.fetch_add::<Raises>(pass, SERVING, 1);
+    table.shared.store::<WritesLength>(pass, LENGTH, length);
+    table.shared.fetch_add::<RaisesServing>(pass, SERVING, 1);
 }
 
 /// A call's turn: what was granted to the seat, the book as it was found, and the book.
