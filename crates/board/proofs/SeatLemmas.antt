@@ -1,6 +1,7 @@
 -- A look at the length, a new seat, and a seat that ends.
 use Rattle.std.proofs.Common.{◌≡◌, ◌≢◌, ◌⊎◌, ℕ, zero, suc, ◌+◌, ◌-◌, ◌<◌, ◌≤◌, min, List, [], ◌∷◌, ◌++◌, length, set, Option, Some, refl, sym, ap, ◌∙◌, subst, inl, inr, ⊎_elim, arith}
 use Rattle.std.specs.Prelude.{slice_index}
+use Rattle.std.proofs.Math.Logic.{⊎_swap}
 use Rattle.std.proofs.lemmas.Option.{none-some}
 use mathlib.Core.Option.{some, none, some-injective, some-ne-none}
 use lib.ListN.{get_elem?}
@@ -72,9 +73,6 @@ part_of v w lo hi k n = ⊎_elim (λ (a : k < v.number). inl (omega arith)) (λ 
 apart_part : (v w u : View) → v.number ≤ w.number → w.number + w.room ≤ v.number + v.room → (v.number + v.room ≤ u.number) ⊎ (u.number + u.room ≤ v.number) → (w.number + w.room ≤ u.number) ⊎ (u.number + u.room ≤ w.number)
 apart_part v w u lo hi n = ⊎_elim (λ (a : v.number + v.room ≤ u.number). inl (omega arith)) (λ (a : u.number + u.room ≤ v.number). inr (omega arith)) n
 
-turned : {A B : Type 0} → A ⊎ B → B ⊎ A
-turned x = ⊎_elim (λ a. inr a) (λ b. inl b) x
-
 home_push : (log : History) (s : State (Option History) View) (w : View) → w.stage ≢ 2 → IsKeptSafe log s → IsKeptSafe log record { words = s.words; homes = s.homes; views = s.views ++ w ∷ [] }
 home_push log s w nw home =
     ⊎_elim
@@ -135,7 +133,7 @@ shares id v idle enough s h at =
           let a = h.apart id j v u (λ q. ne (sym q)) at e in
           let b = h.apart j id u v ne e at in (
             record { numbers = apart_part v k u (omega arith) (omega arith) a.numbers; tickets = a.tickets; told = a.told },
-            record { numbers = turned (apart_part v k u (omega arith) (omega arith) a.numbers); tickets = b.tickets; told = λ t q. part_of v k (omega arith) (omega arith) t.number (b.told t q) },
+            record { numbers = ⊎_swap (apart_part v k u (omega arith) (omega arith) a.numbers); tickets = b.tickets; told = λ t q. part_of v k (omega arith) (omega arith) t.number (b.told t q) },
           )))
           (each_set (λ u. AreApart n u × AreApart u n) s.views id k (
             record { numbers = inr (omega arith); tickets = λ p. absurd (omega arith); told = λ t q. absurd (none-some t q) },
@@ -144,7 +142,7 @@ shares id v idle enough s h at =
           let a = h.apart id j v u (λ q. ne (sym q)) at e in
           let b = h.apart j id u v ne e at in (
             record { numbers = apart_part v n u (omega arith) (omega arith) a.numbers; tickets = λ p. absurd (omega arith); told = λ t q. absurd (none-some t q) },
-            record { numbers = turned (apart_part v n u (omega arith) (omega arith) a.numbers); tickets = λ _ p. absurd (omega arith); told = λ t q. part_of v n (omega arith) (omega arith) t.number (b.told t q) },
+            record { numbers = ⊎_swap (apart_part v n u (omega arith) (omega arith) a.numbers); tickets = λ _ p. absurd (omega arith); told = λ t q. part_of v n (omega arith) (omega arith) t.number (b.told t q) },
           )));
     }
 
