@@ -311,7 +311,7 @@ fn find<R: Wait, E: Exchange>(
 
 // Takes what the others tell of the superstep, until the level is held, or a further snapshot is found, or it was
 // waited for a batch in vain.
-fn gather<R: AllocGlobal + Wait, E: Exchange, G: Gate>(
+fn hear_all<R: AllocGlobal + Wait, E: Exchange, G: Gate>(
     rt: &R,
     exchange: &mut E,
     gate: &G,
@@ -402,7 +402,7 @@ pub fn run_superstep<R: AllocGlobal + Wait, E: Exchange, G: Gate>(
     tell_all(rt, exchange, gate, node, tables, replica)?;
     drop_old(rt, exchange, orders.keep, replica.superstep())?;
     Ok(
-        match gather(rt, exchange, gate, node, orders.patience, replica)? {
+        match hear_all(rt, exchange, gate, node, orders.patience, replica)? {
             Found::Level => close(gate, node, replica),
             Found::Further => SuperstepEnd::Next,
             Found::Missed { source } => SuperstepEnd::Starved { source },
