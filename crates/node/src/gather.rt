@@ -22,7 +22,7 @@ use crate::error::GatherError;
 use crate::input::{Body, Line, read_body, read_line};
 use crate::job::{JobOptions, read_job};
 use crate::limits::longest_checkpoint;
-use crate::section::{Next, next_of};
+use crate::section::{NextByte, next_of};
 use crate::session::read_back;
 use crate::watched::show_turn;
 use ball_model::{CountedRead, CountedWrite, Plan};
@@ -217,9 +217,9 @@ fn read_end<R: CountedRead>(reader: &mut R) -> Result<(), GatherError>
         (R.failed_calls reader.old) (R.failed_calls reader.new) }
 {
     match next_of(reader) {
-        Next::End => Ok(()),
-        Next::Byte(_) => Err(GatherError::Trailing),
-        Next::Failed => Err(GatherError::Read),
+        NextByte::End => Ok(()),
+        NextByte::Byte(_) => Err(GatherError::Trailing),
+        NextByte::Failed => Err(GatherError::Read),
     }
 }
 

@@ -18,7 +18,7 @@ ghost use Rattle.node.specs.Stream.{FailsWhere};
 
 use crate::error::JobInputError;
 use crate::limits::MOST_BYTES;
-use crate::section::{Cut, Step, next_step};
+use crate::section::{Cut, SectionStep, next_step};
 use ball_model::{CountedRead, Estimate, Plan, PlanError};
 use edgelist::{Delimiter, EdgeList, EdgeReader, Graph, LIMITS, Part};
 use std::alloc::{AllocError, Global};
@@ -61,10 +61,10 @@ fn give_section<R: CountedRead>(
     let mut cut = Cut::start();
     for _count in 0..u64::MAX {
         match next_step(reader, &mut cut) {
-            Step::Byte(byte) => edges.add(alloc, byte)?,
-            Step::Mark => return Ok(true),
-            Step::End => return Ok(false),
-            Step::Failed => return Err(JobInputError::Read),
+            SectionStep::Byte(byte) => edges.add(alloc, byte)?,
+            SectionStep::Mark => return Ok(true),
+            SectionStep::End => return Ok(false),
+            SectionStep::Failed => return Err(JobInputError::Read),
         }
     }
     Err(JobInputError::EdgesSize)
@@ -109,14 +109,14 @@ fn read_list<R: CountedRead>(reader: &mut R, list: &mut Vec<u8>) -> Result<(), J
     let mut cut = Cut::start();
     while list.len() <= MOST_BYTES {
         match next_step(reader, &mut cut) {
-            Step::Byte(byte) => {
+            SectionStep::Byte(byte) => {
                 let Ok(()) = list.push(byte) else {
                     return Err(JobInputError::Memory);
                 };
             }
-            Step::Mark => return Ok(()),
-            Step::End => return Err(JobInputError::NoListMark),
-            Step::Failed => return Err(JobInputError::Read),
+            SectionStep::Mark => return Ok(()),
+            SectionStep::End => return Err(JobInputError::NoListMark),
+            SectionStep::Failed => return Err(JobInputError::Read),
         }
     }
     Err(JobInputError::ListSize)
