@@ -3,7 +3,7 @@
 ghost use Rattle.std.specs.Prelude.{◌≡◌, ◌≢◌, ◌<◌, ◌≤◌, ◌++◌, ◌∷◌, [], length};
 ghost use Rattle.std.specs.Io.KnownBytes.{Consumes, IsAtEnd};
 ghost use Rattle.ball_model.specs.Streams.{Rises};
-ghost use Rattle.node.specs.Stream.{CutsBody, FailsWhere, HasNoEnd, ReadsBody, ReadsInLine};
+ghost use Rattle.node.specs.Stream.{CutsBody, FailsAs, HasNoEnd, ReadsBody, ReadsInLine};
 
 use crate::section::{NextByte, next_of};
 use ball_model::{CountedRead, Filled, fill};
@@ -96,8 +96,7 @@ fn pass_over<R: CountedRead>(reader: &mut R, size: u64) -> Body
         ReadsBody size (R.remaining reader.old) (R.remaining reader.new) }
     ensures cut { result ≡ Body.Cut →
         CutsBody size (R.remaining reader.old) (R.remaining reader.new) }
-    ensures failed { FailsWhere (result ≡ Body.Failed)
-        (R.failed_calls reader.old) (R.failed_calls reader.new) }
+    ensures failed { FailsAs R.failed_calls reader.old reader.new result Body.Failed }
 {
     let mut piece = [0u8; PIECE];
     let mut left = size;

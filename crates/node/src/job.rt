@@ -14,7 +14,7 @@ ghost use Rattle.node.specs.Job.{CountsSome, GivesEdges, HasRecords, IsJobRead, 
 ghost use Rattle.node.specs.Job.{job_numbers_of, job_settings_of};
 ghost use Rattle.node.specs.NoJob.{IsNoJob, IsNoNetwork, IsUncounted, IsUnlisted};
 ghost use Rattle.node.specs.Section.{ReadsSection};
-ghost use Rattle.node.specs.Stream.{FailsWhere};
+ghost use Rattle.node.specs.Stream.{FailsAs};
 
 use crate::error::JobInputError;
 use crate::limits::MOST_BYTES;
@@ -55,8 +55,7 @@ fn give_section<R: CountedRead>(
         (R.remaining reader.old) (R.remaining reader.new) edges.new) }
     ensures refused { (delimiter : Delimiter) → IsGiven LIMITS delimiter [] edges.old →
         IfErr result (IsNoNetwork (meaning_of LIMITS delimiter) (R.remaining reader.old)) }
-    ensures failed { FailsWhere (result ≡ Err JobInputError.Read)
-        (R.failed_calls reader.old) (R.failed_calls reader.new) }
+    ensures failed { FailsAs R.failed_calls reader.old reader.new result (Err JobInputError.Read) }
 {
     let mut cut = Cut::start();
     for _count in 0..u64::MAX {
@@ -83,8 +82,7 @@ fn read_edge_section<R: CountedRead>(
         (R.remaining reader.old) read.records) }
     ensures refused { IfErr result (IsNoNetwork (network_in (job_settings_of options.now))
         (R.remaining reader.old)) }
-    ensures failed { FailsWhere (result ≡ Err JobInputError.Read)
-        (R.failed_calls reader.old) (R.failed_calls reader.new) }
+    ensures failed { FailsAs R.failed_calls reader.old reader.new result (Err JobInputError.Read) }
 {
     let mut edges = EdgeReader::new(alloc, state, options.delimiter, LIMITS)?;
     let marked = give_section(alloc, reader, &mut edges)?;
@@ -103,8 +101,7 @@ fn read_list<R: CountedRead>(reader: &mut R, list: &mut Vec<u8>) -> Result<(), J
         (R.remaining reader.old) (R.remaining reader.new)) }
     ensures few { OnOk result (length list.new.items ≤ MOST_BYTES) }
     ensures refused { IfErr result (IsUnlisted (R.remaining reader.old)) }
-    ensures failed { FailsWhere (result ≡ Err JobInputError.Read)
-        (R.failed_calls reader.old) (R.failed_calls reader.new) }
+    ensures failed { FailsAs R.failed_calls reader.old reader.new result (Err JobInputError.Read) }
 {
     let mut cut = Cut::start();
     while list.len() <= MOST_BYTES {
@@ -134,8 +131,7 @@ fn count_listed<R: CountedRead>(
     ensures asked { IsErr result → options.now.counted ≡ true }
     ensures refused { IfErr result (IsUncounted (job_settings_of options.now)
         (R.remaining reader.old) graph.old) }
-    ensures failed { FailsWhere (result ≡ Err JobInputError.Read)
-        (R.failed_calls reader.old) (R.failed_calls reader.new) }
+    ensures failed { FailsAs R.failed_calls reader.old reader.new result (Err JobInputError.Read) }
 {
     if !options.counted {
         return Ok(());

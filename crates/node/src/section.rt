@@ -9,7 +9,7 @@ ghost use Rattle.ball_model.specs.Sections.{after_line, after_mark};
 ghost use Rattle.ball_model.specs.Streams.{Rises};
 ghost use Rattle.node.specs.Section.{EndsAtMark, Gives, IsAhead, IsByteOrEnd, IsOver, IsPast};
 ghost use Rattle.node.specs.Section.{is_front, is_tail};
-ghost use Rattle.node.specs.Stream.{FailsWhere};
+ghost use Rattle.node.specs.Stream.{FailsAs};
 
 use arrayvec::ArrayVec;
 use ball_model::CountedRead;
@@ -180,8 +180,7 @@ fn step_at_line<R: CountedRead>(reader: &mut R, ahead: &mut ArrayVec<u8, 4>) -> 
         Keeps (prepend_known ahead.old.items (R.remaining reader.old))
         (prepend_known ahead.new.items (R.remaining reader.new)) }
     ensures front { result ≡ SectionStep.Failed → is_front ahead.new.items ≡ true }
-    ensures failed { FailsWhere (result ≡ SectionStep.Failed)
-        (R.failed_calls reader.old) (R.failed_calls reader.new) }
+    ensures failed { FailsAs R.failed_calls reader.old reader.new result SectionStep.Failed }
 {
     if !look(reader, ahead) {
         return SectionStep::Failed;
@@ -210,8 +209,7 @@ fn step_in_line<R: CountedRead>(reader: &mut R, ahead: &mut ArrayVec<u8, 4>) -> 
         Keeps (prepend_known ahead.old.items (R.remaining reader.old))
         (prepend_known ahead.new.items (R.remaining reader.new)) }
     ensures front { result ≡ SectionStep.Failed → ahead.new.items ≡ [] }
-    ensures failed { FailsWhere (result ≡ SectionStep.Failed)
-        (R.failed_calls reader.old) (R.failed_calls reader.new) }
+    ensures failed { FailsAs R.failed_calls reader.old reader.new result SectionStep.Failed }
 {
     if !ahead.is_empty() {
         return first_of(ahead);
@@ -239,8 +237,7 @@ fn step_of<R: CountedRead>(reader: &mut R, begins: bool, ahead: &mut ArrayVec<u8
         Keeps (prepend_known ahead.old.items (R.remaining reader.old))
         (prepend_known ahead.new.items (R.remaining reader.new)) }
     ensures still { result ≡ SectionStep.Failed → IsAhead begins ahead.new.items }
-    ensures failed { FailsWhere (result ≡ SectionStep.Failed)
-        (R.failed_calls reader.old) (R.failed_calls reader.new) }
+    ensures failed { FailsAs R.failed_calls reader.old reader.new result SectionStep.Failed }
 {
     if begins {
         step_at_line(reader, ahead)
