@@ -85,7 +85,8 @@ IsNoReplica part left left' (fault.Missing q) = (q ≡ part.number) × IsMissing
 IsNoReplica part left left' (fault.Line q) = (q ≡ part.number) × NoPartLine left left'
 IsNoReplica part left left' (fault.Length q) = (q ≡ part.number) × IsTooLong part left left'
 IsNoReplica part left left' (fault.Cut q) = (q ≡ part.number) × EndsWithin left left'
-IsNoReplica part left left' (fault.Checkpoint q e) = (q ≡ part.number) × ReadsNoCheckpoint part left left' e
+IsNoReplica part left left' (fault.Checkpoint q e) =
+    (q ≡ part.number) × ReadsNoCheckpoint part left left' e
 IsNoReplica part left left' fault.Memory = ⊤
 IsNoReplica part left left' fault.Read = ⊤
 IsNoReplica part left left' e = ⊥
