@@ -131,7 +131,8 @@ GoesOn v log =
 
 -- it is the seat's turn, and it has the slot with the book; or it waits on
 abbrev pub LookedIfServed : Bool → View → SeatHas → Type 0
-LookedIfServed true v m' = (log : History) × GoesOn v log × (m' ≡ (at_turn v log, (0, Some log) ∷ []))
+LookedIfServed true v m' =
+    (log : History) × GoesOn v log × (m' ≡ (at_turn v log, (0, Some log) ∷ []))
 LookedIfServed false v m' = m' ≡ (v, [])
 
 abbrev pub LookedAtServing : TableStep → SeatHas → ℕ → SeatHas → Type 0

@@ -66,8 +66,9 @@ pub fn catch_up<R: AllocGlobal + Wait, E: Exchange>(
     ensures seen { Extends (E.caller exchange.old) (E.caller exchange.new) }
     ensures stands { OnOk result (StandsIn (E.caller exchange.old) node.part replica.new) }
     ensures none { IfOk result (λ found. found ≡ false → replica.new ≡ replica.old) }
-    ensures found { IfOk result (λ found. found ≡ true → HasRecalled (E.caller exchange.old) node.part
-        at_least replica.old.superstep replica.new.superstep (E.caller exchange.new)) }
+    ensures found { IfOk result (λ found. found ≡ true →
+        HasRecalled (E.caller exchange.old) node.part at_least replica.old.superstep
+        replica.new.superstep (E.caller exchange.new)) }
     ensures came { OnOk result (HasCome (E.caller exchange.old) node.part (holding_in replica.old)
         (holding_in replica.new) (E.caller exchange.new)) }
     ensures gone { OnErr result (HasGone (E.caller exchange.old) node.part (holding_in replica.old)
