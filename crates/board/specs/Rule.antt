@@ -158,12 +158,15 @@ at_look v log =
       limit = v.limit;
     }
 
+-- what the seat was told of another begins the history, where the other has made no call since
+abbrev pub HasNews : View → History → Type 0
+HasNews v log = (t : EndedSeat) → v.told ≡ Some t →
+    Begins t.seen log × (calls_by t.number log ≡ calls_by t.number t.seen)
+
 abbrev pub LookedAtLength : TableStep → SeatHas → ℕ → SeatHas → Type 0
 LookedAtLength st m found m' =
     (log : History) × GoesOn m.0 log × (entries_of log ≡ found)
-    × ((t : EndedSeat) → m.0.told ≡ Some t →
-    Begins t.seen log × (calls_by t.number log ≡ calls_by t.number t.seen))
-    × (m' ≡ (at_look m.0 log, m.1))
+    × HasNews m.0 log × (m' ≡ (at_look m.0 log, m.1))
 
 -- how many numbers a new seat is given
 abbrev pub share : ℕ → ℕ
