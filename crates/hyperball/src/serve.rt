@@ -312,7 +312,7 @@ fn run_by<
 }
 
 // A run of these words, which tells how it gets on where there is a teller.
-fn run<
+fn run_told<
     H: AllocGlobal + Clock + RandomSource + Threads + Wait + Sync,
     T: Teller + Sync,
     R: CountedRead,
@@ -381,7 +381,7 @@ fn run_status<
         (F.contents faults.old) (F.contents faults.new) }
 {
     let teller = teller_for(said.progress, faults);
-    let answer = run(rt, said, &teller, reader, writer);
+    let answer = run_told(rt, said, &teller, reader, writer);
     end_telling(teller, faults);
     match answer {
         Ok(()) => DONE,
