@@ -15,7 +15,7 @@ use Rattle.ball_model.specs.State.{State, StandsFor}
 use Rattle.ball_model.specs.History.{HistoryEvent, Post, Fetch, Keep, Recall, Drop, Entry, History, entry, with_entry, same_name, Object, after, board_of, entries_of, IsAnswer, IsLegal, holding_in, post_reply, keep_reply, is_further, is_new_post, is_new_keep}
 use Rattle.ball_model.proofs.HistoryLemmas.{legal-push, board_of-push, same_name-true}
 use Rattle.board.specs.Noted.{IsNext}
-use Rattle.board.specs.Book.{Keeps, HasStanding, HasContents, HasSnapshots}
+use Rattle.board.specs.Book.{BookHas, HasStanding, HasContents, HasSnapshots}
 
 -- the history after room was made and a call was noted
 pub noted : (h : History) (room next : List Entry) (e : Entry) → room ≡ h.calls → next ≡ room ++ e ∷ [] → record { job = h.job; calls = next } ≡ with_entry h e
@@ -123,14 +123,14 @@ module _ {A C : Type 0} (value : A → BatchValue) (state : C → State) where
 
   -- ---- one entry more
   keeps-entry : (h n : History) (by : ℕ) (e : HistoryEvent) (entries entries' floor floor' : ℕ) (find find' : BatchName → Option A) (kept kept' : List (Option C))
-      → Keeps value state h entries floor find kept → n ≡ with_entry h (entry by e) → entries' ≡ entries + 1 → IsAnswer (board_of h) e
+      → BookHas value state h entries floor find kept → n ≡ with_entry h (entry by e) → entries' ≡ entries + 1 → IsAnswer (board_of h) e
       → floor' ≡ (after (board_of h) e).floor → HasStanding value h.job (after (board_of h) e) find' → length kept' ≡ length kept → HasContents state (after (board_of h) e) kept' → HasSnapshots state h.job kept'
-      → Keeps value state n entries' floor' find' kept'
+      → BookHas value state n entries' floor' find' kept'
   keeps-entry h n by e entries entries' floor floor' find find' kept kept' k same more may f st len c sn =
       let p = board_of-push h (entry by e) in
       let count = k.entries_are in
       let longer = length-append h.calls (entry by e ∷ []) in
-      subst (λ (x : History). Keeps value state x entries' floor' find' kept') (sym same) record {
+      subst (λ (x : History). BookHas value state x entries' floor' find' kept') (sym same) record {
         legal = legal-push h (entry by e) k.legal may;
         entries_are = omega arith;
         floor_is = f ∙ sym (ap (λ (o : Object). o.floor) p);
@@ -141,28 +141,28 @@ module _ {A C : Type 0} (value : A → BatchValue) (state : C → State) where
       }
 
   pub keeps-fetch : (h n : History) (by : ℕ) (name : BatchName) (entries entries' floor : ℕ) (find : BatchName → Option A) (kept : List (Option C))
-      → Keeps value state h entries floor find kept → n ≡ with_entry h (entry by (Fetch name)) → entries' ≡ entries + 1 → (board_of h).stands name ≡ true → Keeps value state n entries' floor find kept
+      → BookHas value state h entries floor find kept → n ≡ with_entry h (entry by (Fetch name)) → entries' ≡ entries + 1 → (board_of h).stands name ≡ true → BookHas value state n entries' floor find kept
   keeps-fetch h n by name entries entries' floor find kept k same more stands = keeps-entry h n by (Fetch name) entries entries' floor floor find find kept kept k same more stands k.floor_is k.standing refl k.contents k.snapshots
 
   pub keeps-recall : (h n : History) (by p least : ℕ) (c : C) (entries entries' floor : ℕ) (find : BatchName → Option A) (kept : List (Option C))
-      → Keeps value state h entries floor find kept → n ≡ with_entry h (entry by (Recall p least (holding_in (state c)))) → entries' ≡ entries + 1 → slice_index_or kept p None ≡ Some c → least ≤ (state c).superstep
-      → Keeps value state n entries' floor find kept
+      → BookHas value state h entries floor find kept → n ≡ with_entry h (entry by (Recall p least (holding_in (state c)))) → entries' ≡ entries + 1 → slice_index_or kept p None ≡ Some c → least ≤ (state c).superstep
+      → BookHas value state n entries' floor find kept
   keeps-recall h n by p least c entries entries' floor find kept k same more found far =
       keeps-entry h n by (Recall p least (holding_in (state c))) entries entries' floor floor find find kept kept k same more (kept-found (board_of h) kept p c k.contents found, far) k.floor_is k.standing refl k.contents k.snapshots
 
   pub keeps-post : (h n : History) (by : ℕ) (name : BatchName) (r : Posted) (a : A) (entries entries' floor : ℕ) (find find' : BatchName → Option A) (kept : List (Option C))
-      → Keeps value state h entries floor find kept → n ≡ with_entry h (entry by (Post name r)) → entries' ≡ entries + 1 → value a ≡ true_batch h.job name
+      → BookHas value state h entries floor find kept → n ≡ with_entry h (entry by (Post name r)) → entries' ≡ entries + 1 → value a ≡ true_batch h.job name
       → r ≡ (if nat_lt name.superstep floor then posted.Old else (if is_some (find name) then posted.Known else posted.New))
       → ((n : BatchName) → find' n ≡ cond (is_new_post r && same_name n name) (Some a) (find n))
-      → Keeps value state n entries' floor find' kept
+      → BookHas value state n entries' floor find' kept
   keeps-post h n by name r a entries entries' floor find find' kept k same more t reply put =
       keeps-entry h n by (Post name r) entries entries' floor floor find find' kept kept k same more (post_reply-is h.job (board_of h) find floor name r k.standing k.floor_is reply) k.floor_is
       (stands-put h.job (board_of h) find find' name a r k.standing t put) refl k.contents k.snapshots
 
   pub keeps-drop : (h n : History) (by s : ℕ) (entries entries' floor floor' : ℕ) (find find' : BatchName → Option A) (kept : List (Option C))
-      → Keeps value state h entries floor find kept → n ≡ with_entry h (entry by (Drop s)) → entries' ≡ entries + 1 → floor' ≡ (after (board_of h) (Drop s)).floor
+      → BookHas value state h entries floor find kept → n ≡ with_entry h (entry by (Drop s)) → entries' ≡ entries + 1 → floor' ≡ (after (board_of h) (Drop s)).floor
       → ((n : BatchName) → find' n ≡ cond (nat_lt n.superstep s) None (find n))
-      → Keeps value state n entries' floor' find' kept
+      → BookHas value state n entries' floor' find' kept
   keeps-drop h n by s entries entries' floor floor' find find' kept k same more f put =
       keeps-entry h n by (Drop s) entries entries' floor floor' find find' kept kept k same more tt f (stands-dropped h.job (board_of h) find find' s k.standing put) refl k.contents k.snapshots
 
@@ -171,11 +171,11 @@ module _ {A C : Type 0} (value : A → BatchValue) (state : C → State) where
   length-put false kept c = refl
 
   pub keeps-keep : (h n : History) (by : ℕ) (r : Kept) (c : C) (entries entries' floor : ℕ) (find : BatchName → Option A) (kept kept' : List (Option C))
-      → Keeps value state h entries floor find kept → n ≡ with_entry h (entry by (Keep (holding_in (state c)) r)) → entries' ≡ entries + 1 → (state c).part.number < length kept
+      → BookHas value state h entries floor find kept → n ≡ with_entry h (entry by (Keep (holding_in (state c)) r)) → entries' ≡ entries + 1 → (state c).part.number < length kept
       → StandsFor h.job (state c).part.number (state c).superstep (state c)
       → r ≡ (if is_further (option_map (λ c. holding_in (state c)) (slice_index_or kept (state c).part.number None)) (holding_in (state c)) then replies.New else replies.Behind)
       → kept' ≡ Put (is_new_keep r) kept c
-      → Keeps value state n entries' floor find kept'
+      → BookHas value state n entries' floor find kept'
   keeps-keep h n by r c entries entries' floor find kept kept' k same more fits stands reply put =
       keeps-entry h n by (Keep (holding_in (state c)) r) entries entries' floor floor find find kept kept' k same more (keep_reply-is (board_of h) kept c r k.contents reply) k.floor_is k.standing
       (ap length put ∙ length-put (is_new_keep r) kept c) (contents-put (board_of h) kept kept' c r k.contents fits put) (snapshots-put h.job kept kept' c (is_new_keep r) k.snapshots fits stands put)

@@ -9,7 +9,7 @@ use Rattle.ball_model.proofs.HistoryLemmas.{begins_self, begins_entry, calls_by-
 use Rattle.board.specs.View.{View}
 use Rattle.ball_model.specs.Caller.{Caller, Called}
 use Rattle.board.specs.Rule.{at_turn, after_turn}
-use Rattle.board.specs.Turn.{Next}
+use Rattle.board.specs.Turn.{GoesOnBySeat}
 use Rattle.board.specs.Noted.{IsNext, IsNoted}
 use Rattle.board.specs.Inside.{SeatFits, GrantFits, IsTurn, caller_of}
 use Rattle.board.specs.declared.seat.Grant.{Grant}
@@ -48,7 +48,7 @@ met_called v met new e longer own h = record {
 own_before : (was now : Grant) (found : History) → IsTurn was now found → calls_by was.number found ≡ calls_by was.number was.pass.me.0.seen
 own_before was now found t = subst (λ (k : ℕ). calls_by k found ≡ calls_by k was.pass.me.0.seen) (sym t.fits.number_is) t.goes_on.1
 
-pub turn_next : (was now : Grant) (found book : History) → IsTurn was now found → IsNext was.pass.me.0.limit was.number found book → Next now.pass.me.0 book
+pub turn_next : (was now : Grant) (found book : History) → IsTurn was now found → IsNext was.pass.me.0.limit was.number found book → GoesOnBySeat now.pass.me.0 book
 turn_next was now found book t h =
     let limit = was.pass.me.0.limit in
     let n : was.number ≡ now.pass.me.0.number = t.fits.number_is ∙ sym t.view.0 in

@@ -11,8 +11,8 @@ use Rattle.atomic_table.specs.Table.{State, Me, Step, step, Act, keeps, takes, g
 use Rattle.atomic_table.proofs.Lists.{set_again, set_else, one_turn}
 use Rattle.board.specs.View.{View}
 use Rattle.ball_model.specs.History.{History, Begins, entries_of, calls_by}
-use Rattle.board.specs.Rule.{total, room_of, tickets_of, IsNotOf, FitsLog, IsKeptSafe, IsLocked, with_ticket, at_turn, after_turn, Drew, LookedIf, Looked, Wrote, Raised}
-use Rattle.board.specs.Turn.{Next}
+use Rattle.board.specs.Rule.{total, room_of, tickets_of, IsNotOf, FitsLog, IsKeptSafe, IsLocked, with_ticket, at_turn, after_turn, DrewTicket, LookedIfServed, LookedAtServing, WroteLength, RaisedServing}
+use Rattle.board.specs.Turn.{GoesOnBySeat}
 use Rattle.ball_model.proofs.HistoryLemmas.{begins_self, begins_trans}
 use Rattle.board.proofs.ViewLemmas.{total_set, total_le, each_set, apart_set, set_at}
 
@@ -53,7 +53,7 @@ home_same log s ws id v w at nv nw home =
     inr (b.0, (b.1.0, b.1.1, set_else s.views id b.1.0 w apart ∙ b.1.2, b.1.3)))
     home
 
-pub draws : (slots id : ℕ) (v : View) → v.stage ≡ 0 → 0 < v.room → Allows IsLocked slots id (v, []) 1 (λ n. (n + 1) % 2 ^ 64) (Drew still (v, []))
+pub draws : (slots id : ℕ) (v : View) → v.stage ≡ 0 → 0 < v.room → Allows IsLocked slots id (v, []) 1 (λ n. (n + 1) % 2 ^ 64) (DrewTicket still (v, []))
 draws slots id v idle live s h len at small =
     let f = h.each id v at in
     let w = with_ticket v h.next in
@@ -102,9 +102,9 @@ draws slots id v idle live s h len at small =
 -- what a look at the ticket served owes, where it is this seat's or not
 abbrev LookOwes : (s : State (Option History) View) (id : ℕ) (v : View) → Bool → Type 0
 LookOwes s id v b = (w : View) × (a : Act (Option History)) × Valid s.homes [] a × IsLocked (stepped s 2 (slice_index s.words 2) id [] w a)
-    × LookedIf b v (w, carried_after [] a)
+    × LookedIfServed b v (w, carried_after [] a)
 
-pub looks : (slots id : ℕ) (v : View) → v.stage ≡ 1 → Allows IsLocked slots id (v, []) 2 (λ n. n) (Looked still (v, []))
+pub looks : (slots id : ℕ) (v : View) → v.stage ≡ 1 → Allows IsLocked slots id (v, []) 2 (λ n. n) (LookedAtServing still (v, []))
 looks slots id v waits s h len at small = go (slice_index s.words 2 == v.ticket % 2 ^ 64) refl
   where
     f : FitsLog h.limit h.log h.next h.serving v
@@ -219,8 +219,8 @@ book_in other ((k, Some log) ∷ xs) = log
 carried_book : {a b : History} → ◌≡◌ {A = List (ℕ × Option History)} ((0, Some a) ∷ []) ((0, Some b) ∷ []) → a ≡ b
 carried_book {a} {b} e = ap (book_in a) e
 
-pub writes : (slots id : ℕ) (v : View) (book : History) → v.stage ≡ 2 → Next v book
-    → Allows IsLocked slots id (v, (0, Some book) ∷ []) 0 (λ _. entries_of book) (λ _. Wrote still (v, (0, Some book) ∷ []) (entries_of book))
+pub writes : (slots id : ℕ) (v : View) (book : History) → v.stage ≡ 2 → GoesOnBySeat v book
+    → Allows IsLocked slots id (v, (0, Some book) ∷ []) 0 (λ _. entries_of book) (λ _. WroteLength still (v, (0, Some book) ∷ []) (entries_of book))
 writes slots id v book turn next s h len at small =
     let f = h.each id v at in
     let w = at_turn v book in
@@ -279,7 +279,7 @@ writes slots id v book turn next s h len at small =
       λ log e. ap (λ (l : History). (at_turn v l, (0, Some book) ∷ [])) (carried_book e),
     )
 
-pub raises : (slots id : ℕ) (v : View) → v.stage ≡ 2 → Allows IsLocked slots id (v, (0, Some v.seen) ∷ []) 2 (λ n. (n + 1) % 2 ^ 64) (Raised still (v, (0, Some v.seen) ∷ []))
+pub raises : (slots id : ℕ) (v : View) → v.stage ≡ 2 → Allows IsLocked slots id (v, (0, Some v.seen) ∷ []) 2 (λ n. (n + 1) % 2 ^ 64) (RaisedServing still (v, (0, Some v.seen) ∷ []))
 raises slots id v turn s h len at small =
     let f = h.each id v at in
     let w = after_turn v in
@@ -344,15 +344,15 @@ raises slots id v turn s h len at small =
     suc_le a b le ne = grind (arith, le, ne)
 
 -- the moves, at what a seat is known to be
-pub draws_at : (slots id : ℕ) (m : Me (Option History) View) → m.0.stage ≡ 0 → 0 < m.0.room → m.1 ≡ [] → Allows IsLocked slots id m 1 (λ n. (n + 1) % 2 ^ 64) (Drew still m)
-draws_at slots id m idle live e = subst (λ (xs : List (ℕ × Option History)). Allows IsLocked slots id (m.0, xs) 1 (λ n. (n + 1) % 2 ^ 64) (Drew still (m.0, xs))) (sym e) (draws slots id m.0 idle live)
+pub draws_at : (slots id : ℕ) (m : Me (Option History) View) → m.0.stage ≡ 0 → 0 < m.0.room → m.1 ≡ [] → Allows IsLocked slots id m 1 (λ n. (n + 1) % 2 ^ 64) (DrewTicket still m)
+draws_at slots id m idle live e = subst (λ (xs : List (ℕ × Option History)). Allows IsLocked slots id (m.0, xs) 1 (λ n. (n + 1) % 2 ^ 64) (DrewTicket still (m.0, xs))) (sym e) (draws slots id m.0 idle live)
 
-pub looks_at : (slots id : ℕ) (m : Me (Option History) View) → m.0.stage ≡ 1 → m.1 ≡ [] → Allows IsLocked slots id m 2 (λ n. n) (Looked still m)
-looks_at slots id m waits e = subst (λ (xs : List (ℕ × Option History)). Allows IsLocked slots id (m.0, xs) 2 (λ n. n) (Looked still (m.0, xs))) (sym e) (looks slots id m.0 waits)
+pub looks_at : (slots id : ℕ) (m : Me (Option History) View) → m.0.stage ≡ 1 → m.1 ≡ [] → Allows IsLocked slots id m 2 (λ n. n) (LookedAtServing still m)
+looks_at slots id m waits e = subst (λ (xs : List (ℕ × Option History)). Allows IsLocked slots id (m.0, xs) 2 (λ n. n) (LookedAtServing still (m.0, xs))) (sym e) (looks slots id m.0 waits)
 
-pub writes_at : (slots id : ℕ) (m : Me (Option History) View) (v : View) (book : History) (n : ℕ) → m ≡ (v, (0, Some book) ∷ []) → n ≡ entries_of book → v.stage ≡ 2 → Next v book
-    → Allows IsLocked slots id m 0 (λ _. n) (λ _. Wrote still m n)
-writes_at slots id m v book n e f turn next = subst (λ (x : Me (Option History) View × ℕ). Allows IsLocked slots id x.0 0 (λ _. x.1) (λ _. Wrote still x.0 x.1)) (λ i. (sym e i, sym f i)) (writes slots id v book turn next)
+pub writes_at : (slots id : ℕ) (m : Me (Option History) View) (v : View) (book : History) (n : ℕ) → m ≡ (v, (0, Some book) ∷ []) → n ≡ entries_of book → v.stage ≡ 2 → GoesOnBySeat v book
+    → Allows IsLocked slots id m 0 (λ _. n) (λ _. WroteLength still m n)
+writes_at slots id m v book n e f turn next = subst (λ (x : Me (Option History) View × ℕ). Allows IsLocked slots id x.0 0 (λ _. x.1) (λ _. WroteLength still x.0 x.1)) (λ i. (sym e i, sym f i)) (writes slots id v book turn next)
 
-pub raises_at : (slots id : ℕ) (m : Me (Option History) View) (v : View) → m ≡ (v, (0, Some v.seen) ∷ []) → v.stage ≡ 2 → Allows IsLocked slots id m 2 (λ n. (n + 1) % 2 ^ 64) (Raised still m)
-raises_at slots id m v e turn = subst (λ (x : Me (Option History) View). Allows IsLocked slots id x 2 (λ n. (n + 1) % 2 ^ 64) (Raised still x)) (sym e) (raises slots id v turn)
+pub raises_at : (slots id : ℕ) (m : Me (Option History) View) (v : View) → m ≡ (v, (0, Some v.seen) ∷ []) → v.stage ≡ 2 → Allows IsLocked slots id m 2 (λ n. (n + 1) % 2 ^ 64) (RaisedServing still m)
+raises_at slots id m v e turn = subst (λ (x : Me (Option History) View). Allows IsLocked slots id x 2 (λ n. (n + 1) % 2 ^ 64) (RaisedServing still x)) (sym e) (raises slots id v turn)

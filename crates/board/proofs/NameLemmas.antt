@@ -50,9 +50,9 @@ least_name s = record { superstep = s; source = 0; target = 0 }
 above_least : (s : ℕ) (n : BatchName) → is_gt (by_name (least_name s) n) ≡ nat_lt n.superstep s
 above_least s n = above_is s n.superstep (ordering_then (nat_cmp 0 n.source) (nat_cmp 0 n.target)) (then_not_above (nat_cmp 0 n.source) (nat_cmp 0 n.target) (zero_not_above n.source) (zero_not_above n.target))
 
-turned : {A : Type 0} (b : Bool) (x y : A) → cond (not b) x y ≡ cond b y x
-turned true x y = refl
-turned false x y = refl
+cond_turned : {A : Type 0} (b : Bool) (x y : A) → cond (not b) x y ≡ cond b y x
+cond_turned true x y = refl
+cond_turned false x y = refl
 
 -- what is below the cut, and what is left
 pub below_cut : {X : Type 0} (m n : BTreeMap BatchName X Global) (s : ℕ) (q : BatchName) → n.entries ≡ entries_below (by_name (least_name s)) m.entries → get by_name n q ≡ cond (nat_lt q.superstep s) (get by_name m q) None
@@ -61,4 +61,4 @@ below_cut m n s q e = get-entries_below names_total m n (least_name s) q e ∙ a
 pub from_cut : {X : Type 0} (m n : BTreeMap BatchName X Global) (s : ℕ) (q : BatchName) → n.entries ≡ entries_from (by_name (least_name s)) m.entries → get by_name n q ≡ cond (nat_lt q.superstep s) None (get by_name m q)
 from_cut m n s q e =
     let le : is_le (by_name (least_name s) q) ≡ not (nat_lt q.superstep s) = le_not_above (by_name (least_name s) q) ∙ ap not (above_least s q) in
-    get-entries_from names_total m n (least_name s) q e ∙ (ap (λ (b : Bool). cond b (get by_name m q) None) le ∙ turned (nat_lt q.superstep s) (get by_name m q) None)
+    get-entries_from names_total m n (least_name s) q e ∙ (ap (λ (b : Bool). cond b (get by_name m q) None) le ∙ cond_turned (nat_lt q.superstep s) (get by_name m q) None)

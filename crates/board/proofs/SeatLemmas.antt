@@ -1,6 +1,7 @@
 -- A look at the length, a new seat, and a seat that ends.
 use Rattle.std.proofs.Common.{◌≡◌, ◌≢◌, ◌⊎◌, ℕ, zero, suc, ◌+◌, ◌-◌, ◌<◌, ◌≤◌, min, List, [], ◌∷◌, ◌++◌, length, set, Option, Some, refl, sym, ap, ◌∙◌, subst, inl, inr, ⊎_elim, arith}
 use Rattle.std.specs.Prelude.{slice_index}
+use Rattle.std.proofs.Math.Logic.{⊎_swap}
 use Rattle.std.proofs.lemmas.Option.{none-some}
 use mathlib.Core.Option.{some, none, some-injective, some-ne-none}
 use lib.ListN.{get_elem?}
@@ -9,13 +10,13 @@ use Rattle.atomic_table.specs.Table.{State, Me, keeps, Allows, Splits, Joins, op
 use Rattle.atomic_table.proofs.Lists.{set_else, at_longer}
 use Rattle.board.specs.View.{View, EndedSeat, spent_view}
 use Rattle.ball_model.specs.History.{History, Begins, entries_of, events_by, calls_by, IsLegal}
-use Rattle.board.specs.Rule.{room_of, tickets_of, IsNotOf, FitsLog, Apart, IsKeptSafe, IsLocked, at_look, Counted, share, keeper, newcomer, with_news, first_view}
+use Rattle.board.specs.Rule.{room_of, tickets_of, IsNotOf, FitsLog, AreApart, IsKeptSafe, IsLocked, at_look, LookedAtLength, share, keeper, newcomer, with_news, first_view}
 use Rattle.board.specs.declared.seat.TheConstants.{SHARE}
 use Rattle.ball_model.proofs.HistoryLemmas.{begins_self, calls_by-none}
 use Rattle.board.proofs.ViewLemmas.{total_set, total_push, each_set, each_push, apart_set, apart_set_on, apart_push}
 use Rattle.board.proofs.MoveLemmas.{still, home_same}
 
-pub counts : (slots id : ℕ) (v : View) → v.stage ≡ 0 → 0 < v.room → Allows IsLocked slots id (v, []) 0 (λ n. n) (Counted still (v, []))
+pub counts : (slots id : ℕ) (v : View) → v.stage ≡ 0 → 0 < v.room → Allows IsLocked slots id (v, []) 0 (λ n. n) (LookedAtLength still (v, []))
 counts slots id v idle live s h len at small =
     let f = h.each id v at in
     let w = at_look v h.log in
@@ -59,8 +60,8 @@ counts slots id v idle live s h len at small =
       (h.log, (f.begins live, f.own live, h.legal, f.unused, (let l = f.limit_is live in let m = h.fits in omega arith)), sym (ap (λ (ws : List ℕ). slice_index ws 0) h.words), (λ t e. let g = f.told t e in (g.0, g.1)), refl),
     )
 
-pub counts_at : (slots id : ℕ) (m : Me (Option History) View) → m.0.stage ≡ 0 → 0 < m.0.room → m.1 ≡ [] → Allows IsLocked slots id m 0 (λ n. n) (Counted still m)
-counts_at slots id m idle live e = subst (λ (xs : List (ℕ × Option History)). Allows IsLocked slots id (m.0, xs) 0 (λ n. n) (Counted still (m.0, xs))) (sym e) (counts slots id m.0 idle live)
+pub counts_at : (slots id : ℕ) (m : Me (Option History) View) → m.0.stage ≡ 0 → 0 < m.0.room → m.1 ≡ [] → Allows IsLocked slots id m 0 (λ n. n) (LookedAtLength still m)
+counts_at slots id m idle live e = subst (λ (xs : List (ℕ × Option History)). Allows IsLocked slots id (m.0, xs) 0 (λ n. n) (LookedAtLength still (m.0, xs))) (sym e) (counts slots id m.0 idle live)
 
 share_is : (room : ℕ) → SHARE ≤ room → (0 < share room) × (share room < room)
 share_is room h = (omega arith, omega arith)
@@ -71,9 +72,6 @@ part_of v w lo hi k n = ⊎_elim (λ (a : k < v.number). inl (omega arith)) (λ 
 -- what is apart from a seat is apart from a part of it
 apart_part : (v w u : View) → v.number ≤ w.number → w.number + w.room ≤ v.number + v.room → (v.number + v.room ≤ u.number) ⊎ (u.number + u.room ≤ v.number) → (w.number + w.room ≤ u.number) ⊎ (u.number + u.room ≤ w.number)
 apart_part v w u lo hi n = ⊎_elim (λ (a : v.number + v.room ≤ u.number). inl (omega arith)) (λ (a : u.number + u.room ≤ v.number). inr (omega arith)) n
-
-turned : {A B : Type 0} → A ⊎ B → B ⊎ A
-turned x = ⊎_elim (λ a. inr a) (λ b. inl b) x
 
 home_push : (log : History) (s : State (Option History) View) (w : View) → w.stage ≢ 2 → IsKeptSafe log s → IsKeptSafe log record { words = s.words; homes = s.homes; views = s.views ++ w ∷ [] }
 home_push log s w nw home =
@@ -135,16 +133,16 @@ shares id v idle enough s h at =
           let a = h.apart id j v u (λ q. ne (sym q)) at e in
           let b = h.apart j id u v ne e at in (
             record { numbers = apart_part v k u (omega arith) (omega arith) a.numbers; tickets = a.tickets; told = a.told },
-            record { numbers = turned (apart_part v k u (omega arith) (omega arith) a.numbers); tickets = b.tickets; told = λ t q. part_of v k (omega arith) (omega arith) t.number (b.told t q) },
+            record { numbers = ⊎_swap (apart_part v k u (omega arith) (omega arith) a.numbers); tickets = b.tickets; told = λ t q. part_of v k (omega arith) (omega arith) t.number (b.told t q) },
           )))
-          (each_set (λ u. Apart n u × Apart u n) s.views id k (
+          (each_set (λ u. AreApart n u × AreApart u n) s.views id k (
             record { numbers = inr (omega arith); tickets = λ p. absurd (omega arith); told = λ t q. absurd (none-some t q) },
             record { numbers = inl (omega arith); tickets = λ _ p. absurd (omega arith); told = λ t q. part_of v n (omega arith) (omega arith) t.number (f.told t q).2 },
           ) (λ j u ne e.
           let a = h.apart id j v u (λ q. ne (sym q)) at e in
           let b = h.apart j id u v ne e at in (
             record { numbers = apart_part v n u (omega arith) (omega arith) a.numbers; tickets = λ p. absurd (omega arith); told = λ t q. absurd (none-some t q) },
-            record { numbers = turned (apart_part v n u (omega arith) (omega arith) a.numbers); tickets = λ _ p. absurd (omega arith); told = λ t q. part_of v n (omega arith) (omega arith) t.number (b.told t q) },
+            record { numbers = ⊎_swap (apart_part v n u (omega arith) (omega arith) a.numbers); tickets = λ _ p. absurd (omega arith); told = λ t q. part_of v n (omega arith) (omega arith) t.number (b.told t q) },
           )));
     }
 

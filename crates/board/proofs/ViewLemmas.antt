@@ -4,7 +4,7 @@ use mathlib.Core.Option.{some, some-injective, some-ne-none}
 use lib.ListN.{get_elem?}
 use Rattle.atomic_table.proofs.Lists.{at_set}
 use Rattle.board.specs.View.{View}
-use Rattle.board.specs.Rule.{total, Apart}
+use Rattle.board.specs.Rule.{total, AreApart}
 
 pub total_set : (f : View → ℕ) (views : List View) (i : ℕ) (v w : View) → get_elem? views i ≡ some v → total f (set views i w) + f v ≡ total f views + f w
 total_set f [] i v w e = absurd (some-ne-none v (sym e))
@@ -25,25 +25,25 @@ each_set K views i w mine others j u e =
 
 -- each two of those that Q names are apart, where the changed one is apart from the others
 pub apart_set_on : (Q : ℕ → Type 0) (views : List View) (i : ℕ) (w : View)
-    → ((j k : ℕ) (u x : View) → Q j → Q k → j ≢ i → k ≢ i → j ≢ k → get_elem? views j ≡ some u → get_elem? views k ≡ some x → Apart u x)
-    → ((j : ℕ) (u : View) → Q j → j ≢ i → get_elem? views j ≡ some u → Apart w u × Apart u w)
-    → (j k : ℕ) (u x : View) → Q j → Q k → j ≢ k → get_elem? (set views i w) j ≡ some u → get_elem? (set views i w) k ≡ some x → Apart u x
+    → ((j k : ℕ) (u x : View) → Q j → Q k → j ≢ i → k ≢ i → j ≢ k → get_elem? views j ≡ some u → get_elem? views k ≡ some x → AreApart u x)
+    → ((j : ℕ) (u : View) → Q j → j ≢ i → get_elem? views j ≡ some u → AreApart w u × AreApart u w)
+    → (j k : ℕ) (u x : View) → Q j → Q k → j ≢ k → get_elem? (set views i w) j ≡ some u → get_elem? (set views i w) k ≡ some x → AreApart u x
 apart_set_on Q views i w old new j k u x qj qk ne e f =
     ⊎_elim
     (λ (a : (j ≡ i) × (w ≡ u)). ⊎_elim
     (λ (b : (k ≡ i) × (w ≡ x)). absurd (ne (a.0 ∙ sym b.0)))
-    (λ (b : (k ≢ i) × (get_elem? views k ≡ some x)). subst (λ (z : View). Apart z x) a.1 (new k x qk b.0 b.1).0)
+    (λ (b : (k ≢ i) × (get_elem? views k ≡ some x)). subst (λ (z : View). AreApart z x) a.1 (new k x qk b.0 b.1).0)
     (at_set views i k w x f))
     (λ (a : (j ≢ i) × (get_elem? views j ≡ some u)). ⊎_elim
-    (λ (b : (k ≡ i) × (w ≡ x)). subst (λ (z : View). Apart u z) b.1 (new j u qj a.0 a.1).1)
+    (λ (b : (k ≡ i) × (w ≡ x)). subst (λ (z : View). AreApart u z) b.1 (new j u qj a.0 a.1).1)
     (λ (b : (k ≢ i) × (get_elem? views k ≡ some x)). old j k u x qj qk a.0 b.0 ne a.1 b.1)
     (at_set views i k w x f))
     (at_set views i j w u e)
 
 pub apart_set : (views : List View) (i : ℕ) (w : View)
-    → ((j k : ℕ) (u x : View) → j ≢ k → get_elem? views j ≡ some u → get_elem? views k ≡ some x → Apart u x)
-    → ((j : ℕ) (u : View) → j ≢ i → get_elem? views j ≡ some u → Apart w u × Apart u w)
-    → (j k : ℕ) (u x : View) → j ≢ k → get_elem? (set views i w) j ≡ some u → get_elem? (set views i w) k ≡ some x → Apart u x
+    → ((j k : ℕ) (u x : View) → j ≢ k → get_elem? views j ≡ some u → get_elem? views k ≡ some x → AreApart u x)
+    → ((j : ℕ) (u : View) → j ≢ i → get_elem? views j ≡ some u → AreApart w u × AreApart u w)
+    → (j k : ℕ) (u x : View) → j ≢ k → get_elem? (set views i w) j ≡ some u → get_elem? (set views i w) k ≡ some x → AreApart u x
 apart_set views i w old new j k u x ne e f = apart_set_on (λ _. Unit {0}) views i w (λ j k u x _ _ _ _ ne e f. old j k u x ne e f) (λ j u _ ne e. new j u ne e) j k u x tt tt ne e f
 
 pub set_at : {A : Type 0} (l : List A) (i : ℕ) (v w : A) → get_elem? l i ≡ some v → get_elem? (set l i w) i ≡ some w
@@ -62,17 +62,17 @@ each_push K views w mine others j u e =
     ⊎_elim (λ (x : (get_elem? views j ≡ some u) × (j < length views)). others j u x.0) (λ (x : (w ≡ u) × (j ≡ length views)). subst K x.0 mine) (at_push views w u j e)
 
 pub apart_push : (views : List View) (w : View)
-    → ((j k : ℕ) (u x : View) → j ≢ k → get_elem? views j ≡ some u → get_elem? views k ≡ some x → Apart u x)
-    → ((j : ℕ) (u : View) → get_elem? views j ≡ some u → Apart w u × Apart u w)
-    → (j k : ℕ) (u x : View) → j ≢ k → get_elem? (views ++ w ∷ []) j ≡ some u → get_elem? (views ++ w ∷ []) k ≡ some x → Apart u x
+    → ((j k : ℕ) (u x : View) → j ≢ k → get_elem? views j ≡ some u → get_elem? views k ≡ some x → AreApart u x)
+    → ((j : ℕ) (u : View) → get_elem? views j ≡ some u → AreApart w u × AreApart u w)
+    → (j k : ℕ) (u x : View) → j ≢ k → get_elem? (views ++ w ∷ []) j ≡ some u → get_elem? (views ++ w ∷ []) k ≡ some x → AreApart u x
 apart_push views w old new j k u x ne e f =
     ⊎_elim
     (λ (a : (get_elem? views j ≡ some u) × (j < length views)). ⊎_elim
     (λ (b : (get_elem? views k ≡ some x) × (k < length views)). old j k u x ne a.0 b.0)
-    (λ (b : (w ≡ x) × (k ≡ length views)). subst (λ (z : View). Apart u z) b.0 (new j u a.0).1)
+    (λ (b : (w ≡ x) × (k ≡ length views)). subst (λ (z : View). AreApart u z) b.0 (new j u a.0).1)
     (at_push views w x k f))
     (λ (a : (w ≡ u) × (j ≡ length views)). ⊎_elim
-    (λ (b : (get_elem? views k ≡ some x) × (k < length views)). subst (λ (z : View). Apart z x) a.0 (new k x b.0).0)
+    (λ (b : (get_elem? views k ≡ some x) × (k < length views)). subst (λ (z : View). AreApart z x) a.0 (new k x b.0).0)
     (λ (b : (w ≡ x) × (k ≡ length views)). absurd (ne (a.1 ∙ sym b.1)))
     (at_push views w x k f))
     (at_push views w u j e)

@@ -69,7 +69,7 @@ HasSnapshots state j kept =
     (p : ℕ) → IfSome (slice_index_or kept p None) (λ c. StandsFor j p (state c).superstep (state c))
 
 -- what a book of this history has
-pub record Keeps {A C : Type 0} (value : A → BatchValue) (state : C → State) (h : History)
+pub record BookHas {A C : Type 0} (value : A → BatchValue) (state : C → State) (h : History)
     (entries floor : ℕ) (find : BatchName → Option A) (kept : List (Option C)) : Type 0 where
   pub legal : IsLegal h
   pub entries_are : entries ≡ entries_of h
@@ -81,7 +81,7 @@ pub record Keeps {A C : Type 0} (value : A → BatchValue) (state : C → State)
 
 abbrev pub IsBook : Inside → Type 0
 IsBook b =
-    Keeps arc_value arc_value (history_of b) b.calls.entries b.floor (get by_name b.standing)
+    BookHas arc_value arc_value (history_of b) b.calls.entries b.floor (get by_name b.standing)
     b.kept.items
 
 -- the reply to a post: whether its name is below the floor, and whether it stands

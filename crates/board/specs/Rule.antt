@@ -47,7 +47,7 @@ pub record FitsLog (limit : ℕ) (log : History) (next serving : ℕ) (v : View)
       Begins t.seen log × (calls_by t.number log ≡ calls_by t.number t.seen) × IsNotOf t.number v
 
 -- two seats have no number in common, and no ticket; the number that one was told of is none of the other's
-pub record Apart (v w : View) : Type 0 where
+pub record AreApart (v w : View) : Type 0 where
   pub numbers : (v.number + v.room ≤ w.number) ⊎ (w.number + w.room ≤ v.number)
   pub tickets : 0 < v.stage → 0 < w.stage → v.ticket ≢ w.ticket
   pub told : (t : EndedSeat) → v.told ≡ Some t → IsNotOf t.number w
@@ -75,13 +75,13 @@ pub record IsLocked (s : State (Option History) View) : Type 0 where
   pub home : IsKeptSafe log s
   pub each : (i : ℕ) (v : View) → get_elem? s.views i ≡ some v → FitsLog limit log next serving v
   pub apart : (i j : ℕ) (v w : View) → i ≢ j → get_elem? s.views i ≡ some v →
-      get_elem? s.views j ≡ some w → Apart v w
+      get_elem? s.views j ≡ some w → AreApart v w
 
-abbrev pub Sat : Type 0
-Sat = Me (Option History) View
+abbrev pub SeatHas : Type 0
+SeatHas = Me (Option History) View
 
-abbrev pub At : Type 0
-At = Step (Option History)
+abbrev pub TableStep : Type 0
+TableStep = Step (Option History)
 
 abbrev pub with_ticket : View → ℕ → View
 with_ticket v t =
@@ -119,8 +119,8 @@ after_turn v = record {
 }
 
 -- the ticket drawn is the number found, but for turns round 2^64
-abbrev pub Drew : At → Sat → ℕ → Sat → Type 0
-Drew st m found m' = (t : ℕ) × (t % 2 ^ 64 ≡ found) × (m' ≡ (with_ticket m.0 t, m.1))
+abbrev pub DrewTicket : TableStep → SeatHas → ℕ → SeatHas → Type 0
+DrewTicket st m found m' = (t : ℕ) × (t % 2 ^ 64 ≡ found) × (m' ≡ (with_ticket m.0 t, m.1))
 
 -- the whole history goes on from what was seen, and has no other calls of this seat, nor of one that it may make
 abbrev pub GoesOn : View → History → Type 0
@@ -130,19 +130,20 @@ GoesOn v log =
     × (entries_of log ≤ v.limit)
 
 -- it is the seat's turn, and it has the slot with the book; or it waits on
-abbrev pub LookedIf : Bool → View → Sat → Type 0
-LookedIf true v m' = (log : History) × GoesOn v log × (m' ≡ (at_turn v log, (0, Some log) ∷ []))
-LookedIf false v m' = m' ≡ (v, [])
+abbrev pub LookedIfServed : Bool → View → SeatHas → Type 0
+LookedIfServed true v m' =
+    (log : History) × GoesOn v log × (m' ≡ (at_turn v log, (0, Some log) ∷ []))
+LookedIfServed false v m' = m' ≡ (v, [])
 
-abbrev pub Looked : At → Sat → ℕ → Sat → Type 0
-Looked st m found m' = LookedIf (found == m.0.ticket % 2 ^ 64) m.0 m'
+abbrev pub LookedAtServing : TableStep → SeatHas → ℕ → SeatHas → Type 0
+LookedAtServing st m found m' = LookedIfServed (found == m.0.ticket % 2 ^ 64) m.0 m'
 
 -- the seat has seen the book that it has
-abbrev pub Wrote : At → Sat → ℕ → Sat → Type 0
-Wrote st m n m' = (log : History) → m.1 ≡ (0, Some log) ∷ [] → m' ≡ (at_turn m.0 log, m.1)
+abbrev pub WroteLength : TableStep → SeatHas → ℕ → SeatHas → Type 0
+WroteLength st m n m' = (log : History) → m.1 ≡ (0, Some log) ∷ [] → m' ≡ (at_turn m.0 log, m.1)
 
-abbrev pub Raised : At → Sat → ℕ → Sat → Type 0
-Raised st m n m' = m' ≡ (after_turn m.0, [])
+abbrev pub RaisedServing : TableStep → SeatHas → ℕ → SeatHas → Type 0
+RaisedServing st m n m' = m' ≡ (after_turn m.0, [])
 
 -- a look at the length shows the whole history, with what was told
 abbrev pub at_look : View → History → View
@@ -157,12 +158,15 @@ at_look v log =
       limit = v.limit;
     }
 
-abbrev pub Counted : At → Sat → ℕ → Sat → Type 0
-Counted st m found m' =
+-- what the seat was told of another begins the history, where the other has made no call since
+abbrev pub HasNews : View → History → Type 0
+HasNews v log = (t : EndedSeat) → v.told ≡ Some t →
+    Begins t.seen log × (calls_by t.number log ≡ calls_by t.number t.seen)
+
+abbrev pub LookedAtLength : TableStep → SeatHas → ℕ → SeatHas → Type 0
+LookedAtLength st m found m' =
     (log : History) × GoesOn m.0 log × (entries_of log ≡ found)
-    × ((t : EndedSeat) → m.0.told ≡ Some t →
-    Begins t.seen log × (calls_by t.number log ≡ calls_by t.number t.seen))
-    × (m' ≡ (at_look m.0 log, m.1))
+    × HasNews m.0 log × (m' ≡ (at_look m.0 log, m.1))
 
 -- how many numbers a new seat is given
 abbrev pub share : ℕ → ℕ

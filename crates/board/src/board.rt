@@ -18,7 +18,7 @@ ghost use Rattle.board.specs.Turn.{IsSized};
 
 use crate::book::Book;
 use crate::error::BoardError;
-use crate::rule::{BoardTable, Pass, Tells};
+use crate::rule::{BoardTable, Pass, TellsOfEnded};
 use crate::seat::{Grant, Seat};
 use crate::turn::{Turn, look_at_length};
 use ball_model::{BatchName, Kept, Plan, Posted};
@@ -129,7 +129,7 @@ impl Board {
         } = ended.grant;
         self.table
             .shared
-            .join_seat::<Tells>(&mut seat.grant.pass, pass);
+            .join_seat::<TellsOfEnded>(&mut seat.grant.pass, pass);
         look_at_length(&self.table, &mut seat.grant.pass);
     }
 

@@ -39,54 +39,54 @@ impl TableRule<Option<Book>, Knowledge, (Seen<Book>, u32)> for Lock {
 }
 
 /// A ticket is drawn.
-pub struct Draws;
+pub struct DrawsTicket;
 
-impl Play<Option<Book>, Knowledge> for Draws {
-    ghost use Rattle.board.specs.Rule.{Drew};
+impl Play<Option<Book>, Knowledge> for DrawsTicket {
+    ghost use Rattle.board.specs.Rule.{DrewTicket};
 
-    ghost then = { Drew };
+    ghost then = { DrewTicket };
 }
 
 /// The ticket that is served is looked at.
-pub struct Looks;
+pub struct LooksAtServing;
 
-impl Play<Option<Book>, Knowledge> for Looks {
-    ghost use Rattle.board.specs.Rule.{Looked};
+impl Play<Option<Book>, Knowledge> for LooksAtServing {
+    ghost use Rattle.board.specs.Rule.{LookedAtServing};
 
-    ghost then = { Looked };
+    ghost then = { LookedAtServing };
 }
 
 /// The length is written.
-pub struct Writes;
+pub struct WritesLength;
 
-impl Play<Option<Book>, Knowledge> for Writes {
-    ghost use Rattle.board.specs.Rule.{Wrote};
+impl Play<Option<Book>, Knowledge> for WritesLength {
+    ghost use Rattle.board.specs.Rule.{WroteLength};
 
-    ghost then = { Wrote };
+    ghost then = { WroteLength };
 }
 
 /// The next ticket is served.
-pub struct Raises;
+pub struct RaisesServing;
 
-impl Play<Option<Book>, Knowledge> for Raises {
-    ghost use Rattle.board.specs.Rule.{Raised};
+impl Play<Option<Book>, Knowledge> for RaisesServing {
+    ghost use Rattle.board.specs.Rule.{RaisedServing};
 
-    ghost then = { Raised };
+    ghost then = { RaisedServing };
 }
 
 /// The length is looked at.
-pub struct Counts;
+pub struct LooksAtLength;
 
-impl Play<Option<Book>, Knowledge> for Counts {
-    ghost use Rattle.board.specs.Rule.{Counted};
+impl Play<Option<Book>, Knowledge> for LooksAtLength {
+    ghost use Rattle.board.specs.Rule.{LookedAtLength};
 
-    ghost then = { Counted };
+    ghost then = { LookedAtLength };
 }
 
 /// A seat gives some of its numbers to a new one.
-pub struct Shares;
+pub struct GivesNumbers;
 
-impl Split<Knowledge> for Shares {
+impl Split<Knowledge> for GivesNumbers {
     ghost use Rattle.board.specs.Rule.{keeper, newcomer};
 
     ghost left = { keeper };
@@ -95,9 +95,9 @@ impl Split<Knowledge> for Shares {
 }
 
 /// A seat is told what another has seen, which ends.
-pub struct Tells;
+pub struct TellsOfEnded;
 
-impl Join<Knowledge> for Tells {
+impl Join<Knowledge> for TellsOfEnded {
     ghost use Rattle.board.specs.Rule.{with_news};
     ghost use Rattle.board.specs.View.{spent_view};
 

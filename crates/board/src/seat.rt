@@ -7,7 +7,7 @@ ghost use Rattle.board.specs.Rule.{share};
 ghost use Rattle.board.specs.Seats.{IsAt, SharesNumbers};
 
 use crate::board::Board;
-use crate::rule::{Pass, Shares};
+use crate::rule::{GivesNumbers, Pass};
 use std::marker::Model;
 
 /// A new seat gets one number in so many of those that its maker still has; who has fewer makes none.
@@ -65,7 +65,7 @@ impl Seat {
         let pass = board
             .table
             .shared
-            .split_seat::<Shares>(&mut self.grant.pass);
+            .split_seat::<GivesNumbers>(&mut self.grant.pass);
         self.grant.room -= share;
         Seat {
             grant: Grant {

@@ -14,7 +14,7 @@ abbrev names_in : ℕ × ℕ → List (Bor Text) → ValueParser
 names_in list names = vp.Names (record { ref_ptr = list; now = names })
 
 -- where the names stand, and their lists
-pub record Places : Type 0 where
+pub record ParserPlaces : Type 0 where
   pub estimates : ℕ × ℕ
   pub raw : ℕ × ℕ
   pub corrected : ℕ × ℕ
@@ -24,7 +24,7 @@ pub record Places : Type 0 where
   pub space : ℕ × ℕ
 
 -- the parsers of the names at these places
-abbrev pub parsers_at : Places → Parsers
+abbrev pub parsers_at : ParserPlaces → Parsers
 parsers_at p = record {
   estimates = names_in p.estimates (at p.raw (codes "raw") ∷ at p.corrected (codes "corrected") ∷ []);
   delimiters = names_in p.delimiters (at p.tab (codes "tab") ∷ at p.comma (codes "comma") ∷ at p.space (codes "space") ∷ []);
@@ -76,7 +76,7 @@ named P names h vp.Char takes = absurd takes
 named P names h (vp.Values given) takes = absurd takes
 
 -- what holds of the names at any places holds of all parsers that take them
-pub of_names : (P : Parsers → Type 0) → ((p : Places) → P (parsers_at p)) → (p : Parsers) → TakeNames p → P p
+pub of_names : (P : Parsers → Type 0) → ((p : ParserPlaces) → P (parsers_at p)) → (p : Parsers) → TakeNames p → P p
 of_names P h p take =
     named (λ (e : ValueParser). P (record { estimates = e; delimiters = p.delimiters })) estimate_names
     (two (λ (e : ValueParser). P (record { estimates = e; delimiters = p.delimiters })) (λ list a b.

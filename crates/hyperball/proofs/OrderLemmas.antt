@@ -186,7 +186,7 @@ fits-at : (os : List (NodeId × ℕ)) (i : ℕ) (d : NodeId × ℕ) → AllByRec
 fits-at os i d fit lt = All-from_recursion IsOrder os fit i d lt
 
 -- the orders of the pieces so far
-pub record ReadSoFar (pieces : List (Bor (List ℕ))) (os : List (NodeId × ℕ)) : Type 0 where
+pub record OrdersSoFar (pieces : List (Bor (List ℕ))) (os : List (NodeId × ℕ)) : Type 0 where
   pub spelled : map (λ piece. piece.now) pieces ≡ map order_text os
   pub fit : AllByRecursion IsOrder os
 
@@ -198,7 +198,7 @@ some-pieces text os pieces none =
     omega (arith, count, short)
 
 -- all were read
-pub all-read : (text : List ℕ) (pieces : List (Bor (List ℕ))) (os : List (NodeId × ℕ)) → ReadSoFar pieces os → map (λ piece. piece.now) pieces ≡ slice_split (λ b. b == 44) text → AreOrders text os
+pub all-read : (text : List ℕ) (pieces : List (Bor (List ℕ))) (os : List (NodeId × ℕ)) → OrdersSoFar pieces os → map (λ piece. piece.now) pieces ≡ slice_split (λ b. b == 44) text → AreOrders text os
 unfolding orders_text
 all-read text pieces os far ended =
     let same : slice_split (λ b. b == 44) text ≡ map order_text os = sym ended ∙ far.spelled in

@@ -312,7 +312,7 @@ fn run_by<
 }
 
 // A run of these words, which tells how it gets on where there is a teller.
-fn run<
+fn run_told<
     H: AllocGlobal + Clock + RandomSource + Threads + Wait + Sync,
     T: Teller + Sync,
     R: CountedRead,
@@ -364,7 +364,7 @@ fn end_telling<F: LendTeller>(teller: Option<F::Teller>, faults: &mut F)
 }
 
 // The status of a run, whose fault is told.
-fn serve_run<
+fn run_status<
     H: AllocGlobal + Clock + RandomSource + Threads + Wait + Sync,
     R: CountedRead,
     W: CountedWrite,
@@ -381,7 +381,7 @@ fn serve_run<
         (F.contents faults.old) (F.contents faults.new) }
 {
     let teller = teller_for(said.progress, faults);
-    let answer = run(rt, said, &teller, reader, writer);
+    let answer = run_told(rt, said, &teller, reader, writer);
     end_telling(teller, faults);
     match answer {
         Ok(()) => DONE,
@@ -390,7 +390,7 @@ fn serve_run<
 }
 
 // The status of a replay, whose fault is told.
-fn serve_replay<H: AllocGlobal + RandomSource, R: CountedRead, W: CountedWrite, F: LendTeller>(
+fn replay_status<H: AllocGlobal + RandomSource, R: CountedRead, W: CountedWrite, F: LendTeller>(
     rt: &H,
     words: &ReplayWords,
     reader: &mut R,
@@ -416,7 +416,7 @@ fn serve_replay<H: AllocGlobal + RandomSource, R: CountedRead, W: CountedWrite, 
 }
 
 // The status of a node, whose fault is told.
-fn serve_node<H: AllocGlobal + RandomSource, R: CountedRead, W: CountedWrite, F: LendTeller>(
+fn node_status<H: AllocGlobal + RandomSource, R: CountedRead, W: CountedWrite, F: LendTeller>(
     rt: &H,
     words: &NodeWords,
     reader: &mut R,
@@ -444,7 +444,7 @@ fn serve_node<H: AllocGlobal + RandomSource, R: CountedRead, W: CountedWrite, F:
 }
 
 // The status of a gathering, whose fault is told.
-fn serve_gather<
+fn gather_status<
     H: AllocGlobal + RandomSource + Threads + Sync,
     R: CountedRead,
     W: CountedWrite,
@@ -519,10 +519,10 @@ fn serve_wish<
         (F.contents faults.old) (F.contents faults.new) }
 {
     match wish {
-        Wish::Run(said) => serve_run(rt, said, reader, writer, faults),
-        Wish::Replay(words) => serve_replay(rt, &words, reader, writer, faults),
-        Wish::Node(words) => serve_node(rt, &words, reader, writer, faults),
-        Wish::Gather(words) => serve_gather(rt, &words, reader, writer, faults),
+        Wish::Run(said) => run_status(rt, said, reader, writer, faults),
+        Wish::Replay(words) => replay_status(rt, &words, reader, writer, faults),
+        Wish::Node(words) => node_status(rt, &words, reader, writer, faults),
+        Wish::Gather(words) => gather_status(rt, &words, reader, writer, faults),
     }
 }
 

@@ -26,7 +26,7 @@ use Rattle.checkpoint.specs.declared.error.KeepError.{KeepError}
 use Rattle.checkpoint.specs.declared.error.KeepError.TheVariants as unkept
 use Rattle.node.specs.declared.error.GatherError.{GatherError}
 use Rattle.node.specs.declared.error.GatherError.TheVariants as fault
-use Rattle.node.specs.NoReport.{AreUnready, EndsWithin, IsNoReplica, IsNoReport, IsOther, StopsAtPart, WritesFront, WritesFrontOfJob, told_kept}
+use Rattle.node.specs.NoReport.{AreUnready, EndsWithin, IsNoReplica, IsNoReport, ReadsNoCheckpoint, StopsAtPart, WritesFront, WritesFrontOfJob, told_kept}
 use Rattle.node.specs.Job.{IsJobRead}
 use Rattle.node.specs.Refusals.{IsNoCheckpoint}
 use Rattle.node.specs.Stream.{CutsBody}
@@ -177,7 +177,7 @@ cut_part_body n m size a b c same line cut = (
   },
 )
 
-pub other_part : (n : ℕ) (part : PartValue) (a b : Option (List ℕ)) (body : List ℕ) (e : KeepError) → n ≡ part.number → Consumes a b (part_text body) → IsNoCheckpoint part body e → (n ≡ part.number) × IsOther part a b e
+pub other_part : (n : ℕ) (part : PartValue) (a b : Option (List ℕ)) (body : List ℕ) (e : KeepError) → n ≡ part.number → Consumes a b (part_text body) → IsNoCheckpoint part body e → (n ≡ part.number) × ReadsNoCheckpoint part a b e
 other_part n part a b body e same read other = (same, record { body = body; consumed = read; no_checkpoint = other })
 
 -- ---- why there is no report

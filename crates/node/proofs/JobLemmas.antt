@@ -24,7 +24,7 @@ use Rattle.node.specs.Job.{CountsSome, GivesAll, GivesEdges, GivesSection, IsJob
 use Rattle.node.specs.NoJob.{HasNoNode, IsNoNetwork, IsNoStart, IsRefused, LacksListMark, LacksMark}
 use Rattle.node.specs.declared.limits.TheConstants.{MOST_BYTES}
 use Rattle.node.specs.Section.{EndsAtMark, Gives, ReadsSection, first_or}
-use Rattle.node.proofs.SectionLemmas.{GoesOn, Passed, passed_end, passed_more, passed_next, passed_over, passed_start, passed_whole, section_before}
+use Rattle.node.proofs.SectionLemmas.{FrontGoesOn, Passed, passed_end, passed_more, passed_next, passed_over, passed_start, passed_whole, section_before}
 
 -- ---- the edge list
 -- so many bytes were given
@@ -87,7 +87,7 @@ planned n network plan is = record { plan_is = plan_same (plan_over n network.gr
 
 -- ---- why there is no job
 -- what stands before the mark begins so, and is refused whatever follows
-refused_front : (says : List ℕ → Result Network Refusal) (front : List ℕ) (c : ℕ) (x : Option (List ℕ)) (e : EdgeError) → e ≢ unread.Read → IfSome x (GoesOn front c) →
+refused_front : (says : List ℕ → Result Network Refusal) (front : List ℕ) (c : ℕ) (x : Option (List ℕ)) (e : EdgeError) → e ≢ unread.Read → IfSome x (FrontGoesOn front c) →
     ((more : List ℕ) → IsPlain (front ++ c ∷ more) → Refuses (says (front ++ c ∷ more)) e) → IsRefused says x e
 refused_front says front c None e some goes tells = record { read = some; refuses = tt }
 refused_front says front c (Some text) e some goes tells = record {

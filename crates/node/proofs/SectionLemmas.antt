@@ -289,11 +289,11 @@ first_longer c rest None = refl
 first_longer c rest (Some s) = refl
 
 -- and the next byte
-pub record GoesOn (front : List ℕ) (c : ℕ) (text : List ℕ) : Type 0 where
+pub record FrontGoesOn (front : List ℕ) (c : ℕ) (text : List ℕ) : Type 0 where
   pub more : List ℕ
   pub before_is : before_mark text ≡ front ++ c ∷ more
 
-pub passed_next : (front : List ℕ) (begins : Bool) (c : ℕ) (x y z : Option (List ℕ)) → Passed front begins x y → Gives begins c y z → IfSome x (GoesOn front c)
+pub passed_next : (front : List ℕ) (begins : Bool) (c : ℕ) (x y z : Option (List ℕ)) → Passed front begins x y → Gives begins c y z → IfSome x (FrontGoesOn front c)
 passed_next front begins c None y z p g = tt
 passed_next front begins c (Some text) y z p g =
     let one : GivesOf begins c p.rest z = subst (λ (o : Option (List ℕ)). Gives begins c o z) p.new_is g in

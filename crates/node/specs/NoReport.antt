@@ -68,7 +68,8 @@ pub record EndsWithin (left left' : Option (List ℕ)) : Type 0 where
   pub end : IsAtEnd left'
 
 -- what was announced was read, and is no checkpoint of the part
-pub record IsOther (part : PartValue) (left left' : Option (List ℕ)) (e : KeepError) : Type 0 where
+pub record ReadsNoCheckpoint (part : PartValue) (left left' : Option (List ℕ))
+    (e : KeepError) : Type 0 where
   pub body : List ℕ
   pub consumed : Consumes left left' (part_text body)
   pub no_checkpoint : IsNoCheckpoint part body e
@@ -84,7 +85,8 @@ IsNoReplica part left left' (fault.Missing q) = (q ≡ part.number) × IsMissing
 IsNoReplica part left left' (fault.Line q) = (q ≡ part.number) × NoPartLine left left'
 IsNoReplica part left left' (fault.Length q) = (q ≡ part.number) × IsTooLong part left left'
 IsNoReplica part left left' (fault.Cut q) = (q ≡ part.number) × EndsWithin left left'
-IsNoReplica part left left' (fault.Checkpoint q e) = (q ≡ part.number) × IsOther part left left' e
+IsNoReplica part left left' (fault.Checkpoint q e) =
+    (q ≡ part.number) × ReadsNoCheckpoint part left left' e
 IsNoReplica part left left' fault.Memory = ⊤
 IsNoReplica part left left' fault.Read = ⊤
 IsNoReplica part left left' e = ⊥

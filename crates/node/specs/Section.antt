@@ -1,8 +1,8 @@
 -- Sections on a stream: what may be the front of a mark, and what a step through a section does.
 use Rattle.std.specs.Prelude.{◌≡◌, ⊤, ℕ, Bool, true, false, not, ◌==◌, ◌&&◌, List, [], ◌∷◌, Option, None, Some, IfSome}
 use Rattle.ball_model.specs.Sections.{after_mark, longer, sections_from, sections_of}
-use Rattle.node.specs.declared.section.Step.{Step}
-use Rattle.node.specs.declared.section.Step.TheVariants as step
+use Rattle.node.specs.declared.section.SectionStep.{SectionStep}
+use Rattle.node.specs.declared.section.SectionStep.TheVariants as step
 
 -- the bytes may be the front of a line of %%, and are not all of it
 abbrev pub is_front : List ℕ → Bool
@@ -48,13 +48,13 @@ abbrev pub EndsAtMark : Bool → Option (List ℕ) → Option (List ℕ) → Typ
 EndsAtMark begins old new = IfSome old (λ text. EndsOf begins text new)
 
 -- the section has ended
-abbrev pub IsOver : Step → Type 0
+abbrev pub IsOver : SectionStep → Type 0
 IsOver (step.Byte b) = ⊥
 IsOver step.Mark = ⊤
 IsOver step.End = ⊤
 IsOver step.Failed = ⊥
 
-abbrev pub IsByteOrEnd : Step → Type 0
+abbrev pub IsByteOrEnd : SectionStep → Type 0
 IsByteOrEnd (step.Byte b) = ⊤
 IsByteOrEnd step.Mark = ⊥
 IsByteOrEnd step.End = ⊤

@@ -28,7 +28,7 @@ pub record CutsBody (size : ℕ) (old new : Option (List ℕ)) : Type 0 where
   pub fewer : length bytes < size
   pub end : IsAtEnd new
 
--- a call failed where this is told, and none where it is not
-pub record FailsWhere (told : Type 0) (old new : ℕ) : Type 0 where
-  pub some : told → Rises old new
-  pub none : (told → ⊥) → new ≡ old
+-- a call of the stream failed where the result is this fault, and none where it is another
+pub record FailsAs {S A : Type 0} (failed : S → ℕ) (old new : S) (result fault : A) : Type 0 where
+  pub some : result ≡ fault → Rises (failed old) (failed new)
+  pub none : result ≢ fault → failed new ≡ failed old

@@ -14,7 +14,7 @@ ghost use Rattle.node.specs.Gathering.{part_text};
 ghost use Rattle.node.specs.NoReport.{HasNoReport, IsNoReplica, IsNoReport, WritesFront};
 ghost use Rattle.node.specs.NoReport.{WritesFrontOfJob, IsUnwritten, part_length, told_kept};
 ghost use Rattle.node.specs.Job.{job_settings_of};
-ghost use Rattle.node.specs.Stream.{FailsWhere};
+ghost use Rattle.node.specs.Stream.{FailsAs};
 ghost use Rattle.node.specs.declared.error.JobInputError.TheVariants as no_job;
 
 use crate::command::size;
@@ -22,7 +22,7 @@ use crate::error::GatherError;
 use crate::input::{Body, Line, read_body, read_line};
 use crate::job::{JobOptions, read_job};
 use crate::limits::longest_checkpoint;
-use crate::section::{Next, next_of};
+use crate::section::{NextByte, next_of};
 use crate::session::read_back;
 use crate::watched::show_turn;
 use ball_model::{CountedRead, CountedWrite, Plan};
@@ -61,8 +61,7 @@ fn read_length<R: CountedRead>(
         Consumes (R.remaining reader.old) (R.remaining reader.new) (part_line n)) }
     ensures refused { IfErr result
         (IsNoReplica part.now (R.remaining reader.old) (R.remaining reader.new)) }
-    ensures failed { FailsWhere (result ≡ Err GatherError.Read)
-        (R.failed_calls reader.old) (R.failed_calls reader.new) }
+    ensures failed { FailsAs R.failed_calls reader.old reader.new result (Err GatherError.Read) }
 {
     let p = part.partition();
     match read_line(reader, line) {
@@ -92,8 +91,7 @@ fn read_bytes<R: CountedRead>(
         length bytes.new.items ≤ most_checkpoint_bytes part.now part.now.plan.limit) }
     ensures refused { IfErr result
         (IsNoReplica part.now (R.remaining reader.old) (R.remaining reader.new)) }
-    ensures failed { FailsWhere (result ≡ Err GatherError.Read)
-        (R.failed_calls reader.old) (R.failed_calls reader.new) }
+    ensures failed { FailsAs R.failed_calls reader.old reader.new result (Err GatherError.Read) }
 {
     let p = part.partition();
     let length = read_length(reader, part, bytes)?;
@@ -154,8 +152,7 @@ fn read_replica<R: CountedRead>(
         (R.remaining reader.old) (R.remaining reader.new)) }
     ensures refused { IfErr result (IsNoReplica (part_of (job_of graph.now.graph plan.now) p)
         (R.remaining reader.old) (R.remaining reader.new)) }
-    ensures failed { FailsWhere (result ≡ Err GatherError.Read)
-        (R.failed_calls reader.old) (R.failed_calls reader.new) }
+    ensures failed { FailsAs R.failed_calls reader.old reader.new result (Err GatherError.Read) }
 {
     let part = part_by(alloc, graph, plan, p, feeds)?;
     let mut bytes = Vec::new(alloc);
@@ -196,8 +193,7 @@ fn add_replica<R: CountedRead, V: Watch>(
         left (R.remaining reader.old) replicas.old.items →
         IfErr result (IsNoReport (job_of graph.now.graph plan.now) left (R.remaining reader.new)) }
     ensures unwritten { result ≢ Err GatherError.Write }
-    ensures failed { FailsWhere (result ≡ Err GatherError.Read)
-        (R.failed_calls reader.old) (R.failed_calls reader.new) }
+    ensures failed { FailsAs R.failed_calls reader.old reader.new result (Err GatherError.Read) }
 {
     let replica = read_replica(alloc, graph, plan, p, feeds, reader)?;
     show_turn(&replica, watch);
@@ -213,13 +209,12 @@ fn read_end<R: CountedRead>(reader: &mut R) -> Result<(), GatherError>
         ReadsAll j j.plan.parts left (R.remaining reader.old) replicas →
         IfErr result (IsNoReport j left (R.remaining reader.new)) }
     ensures unwritten { result ≢ Err GatherError.Write }
-    ensures failed { FailsWhere (result ≡ Err GatherError.Read)
-        (R.failed_calls reader.old) (R.failed_calls reader.new) }
+    ensures failed { FailsAs R.failed_calls reader.old reader.new result (Err GatherError.Read) }
 {
     match next_of(reader) {
-        Next::End => Ok(()),
-        Next::Byte(_) => Err(GatherError::Trailing),
-        Next::Failed => Err(GatherError::Read),
+        NextByte::End => Ok(()),
+        NextByte::Byte(_) => Err(GatherError::Trailing),
+        NextByte::Failed => Err(GatherError::Read),
     }
 }
 
@@ -241,8 +236,7 @@ fn read_replicas<R: CountedRead, V: Watch>(
     ensures refused { IfErr result (IsNoReport (job_of graph.now.graph plan.now)
         (R.remaining reader.old) (R.remaining reader.new)) }
     ensures unwritten { result ≢ Err GatherError.Write }
-    ensures failed { FailsWhere (result ≡ Err GatherError.Read)
-        (R.failed_calls reader.old) (R.failed_calls reader.new) }
+    ensures failed { FailsAs R.failed_calls reader.old reader.new result (Err GatherError.Read) }
 {
     let feeds = graph.feeds(alloc, plan)?;
     for p in 0..plan.parts() {

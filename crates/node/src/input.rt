@@ -3,9 +3,9 @@
 ghost use Rattle.std.specs.Prelude.{◌≡◌, ◌≢◌, ◌<◌, ◌≤◌, ◌++◌, ◌∷◌, [], length};
 ghost use Rattle.std.specs.Io.KnownBytes.{Consumes, IsAtEnd};
 ghost use Rattle.ball_model.specs.Streams.{Rises};
-ghost use Rattle.node.specs.Stream.{CutsBody, FailsWhere, HasNoEnd, ReadsBody, ReadsInLine};
+ghost use Rattle.node.specs.Stream.{CutsBody, FailsAs, HasNoEnd, ReadsBody, ReadsInLine};
 
-use crate::section::{Next, next_of};
+use crate::section::{NextByte, next_of};
 use ball_model::{CountedRead, Filled, fill};
 
 // The most bytes of a line: no command is as long.
@@ -59,18 +59,18 @@ pub fn read_line<R: CountedRead>(reader: &mut R, line: &mut Vec<u8>) -> Line
 {
     while line.len() < MOST_LINE {
         match next_of(reader) {
-            Next::Byte(b'\n') => return Line::Whole,
-            Next::Byte(byte) => {
+            NextByte::Byte(b'\n') => return Line::Whole,
+            NextByte::Byte(byte) => {
                 let Ok(()) = line.push(byte) else {
                     return Line::Memory;
                 };
             }
-            Next::End => return if line.is_empty() {
+            NextByte::End => return if line.is_empty() {
                 Line::None
             } else {
                 Line::Cut
             },
-            Next::Failed => return Line::Failed,
+            NextByte::Failed => return Line::Failed,
         }
     }
     Line::Long
@@ -96,8 +96,7 @@ fn pass_over<R: CountedRead>(reader: &mut R, size: u64) -> Body
         ReadsBody size (R.remaining reader.old) (R.remaining reader.new) }
     ensures cut { result ≡ Body.Cut →
         CutsBody size (R.remaining reader.old) (R.remaining reader.new) }
-    ensures failed { FailsWhere (result ≡ Body.Failed)
-        (R.failed_calls reader.old) (R.failed_calls reader.new) }
+    ensures failed { FailsAs R.failed_calls reader.old reader.new result Body.Failed }
 {
     let mut piece = [0u8; PIECE];
     let mut left = size;

@@ -14,11 +14,11 @@ ghost use Rattle.node.specs.Job.{CountsSome, GivesEdges, HasRecords, IsJobRead, 
 ghost use Rattle.node.specs.Job.{job_numbers_of, job_settings_of};
 ghost use Rattle.node.specs.NoJob.{IsNoJob, IsNoNetwork, IsUncounted, IsUnlisted};
 ghost use Rattle.node.specs.Section.{ReadsSection};
-ghost use Rattle.node.specs.Stream.{FailsWhere};
+ghost use Rattle.node.specs.Stream.{FailsAs};
 
 use crate::error::JobInputError;
 use crate::limits::MOST_BYTES;
-use crate::section::{Cut, Step, next_step};
+use crate::section::{Cut, SectionStep, next_step};
 use ball_model::{CountedRead, Estimate, Plan, PlanError};
 use edgelist::{Delimiter, EdgeList, EdgeReader, Graph, LIMITS, Part};
 use std::alloc::{AllocError, Global};
@@ -55,16 +55,15 @@ fn give_section<R: CountedRead>(
         (R.remaining reader.old) (R.remaining reader.new) edges.new) }
     ensures refused { (delimiter : Delimiter) → IsGiven LIMITS delimiter [] edges.old →
         IfErr result (IsNoNetwork (meaning_of LIMITS delimiter) (R.remaining reader.old)) }
-    ensures failed { FailsWhere (result ≡ Err JobInputError.Read)
-        (R.failed_calls reader.old) (R.failed_calls reader.new) }
+    ensures failed { FailsAs R.failed_calls reader.old reader.new result (Err JobInputError.Read) }
 {
     let mut cut = Cut::start();
     for _count in 0..u64::MAX {
         match next_step(reader, &mut cut) {
-            Step::Byte(byte) => edges.add(alloc, byte)?,
-            Step::Mark => return Ok(true),
-            Step::End => return Ok(false),
-            Step::Failed => return Err(JobInputError::Read),
+            SectionStep::Byte(byte) => edges.add(alloc, byte)?,
+            SectionStep::Mark => return Ok(true),
+            SectionStep::End => return Ok(false),
+            SectionStep::Failed => return Err(JobInputError::Read),
         }
     }
     Err(JobInputError::EdgesSize)
@@ -83,8 +82,7 @@ fn read_edge_section<R: CountedRead>(
         (R.remaining reader.old) read.records) }
     ensures refused { IfErr result (IsNoNetwork (network_in (job_settings_of options.now))
         (R.remaining reader.old)) }
-    ensures failed { FailsWhere (result ≡ Err JobInputError.Read)
-        (R.failed_calls reader.old) (R.failed_calls reader.new) }
+    ensures failed { FailsAs R.failed_calls reader.old reader.new result (Err JobInputError.Read) }
 {
     let mut edges = EdgeReader::new(alloc, state, options.delimiter, LIMITS)?;
     let marked = give_section(alloc, reader, &mut edges)?;
@@ -103,20 +101,19 @@ fn read_list<R: CountedRead>(reader: &mut R, list: &mut Vec<u8>) -> Result<(), J
         (R.remaining reader.old) (R.remaining reader.new)) }
     ensures few { OnOk result (length list.new.items ≤ MOST_BYTES) }
     ensures refused { IfErr result (IsUnlisted (R.remaining reader.old)) }
-    ensures failed { FailsWhere (result ≡ Err JobInputError.Read)
-        (R.failed_calls reader.old) (R.failed_calls reader.new) }
+    ensures failed { FailsAs R.failed_calls reader.old reader.new result (Err JobInputError.Read) }
 {
     let mut cut = Cut::start();
     while list.len() <= MOST_BYTES {
         match next_step(reader, &mut cut) {
-            Step::Byte(byte) => {
+            SectionStep::Byte(byte) => {
                 let Ok(()) = list.push(byte) else {
                     return Err(JobInputError::Memory);
                 };
             }
-            Step::Mark => return Ok(()),
-            Step::End => return Err(JobInputError::NoListMark),
-            Step::Failed => return Err(JobInputError::Read),
+            SectionStep::Mark => return Ok(()),
+            SectionStep::End => return Err(JobInputError::NoListMark),
+            SectionStep::Failed => return Err(JobInputError::Read),
         }
     }
     Err(JobInputError::ListSize)
@@ -134,8 +131,7 @@ fn count_listed<R: CountedRead>(
     ensures asked { IsErr result → options.now.counted ≡ true }
     ensures refused { IfErr result (IsUncounted (job_settings_of options.now)
         (R.remaining reader.old) graph.old) }
-    ensures failed { FailsWhere (result ≡ Err JobInputError.Read)
-        (R.failed_calls reader.old) (R.failed_calls reader.new) }
+    ensures failed { FailsAs R.failed_calls reader.old reader.new result (Err JobInputError.Read) }
 {
     if !options.counted {
         return Ok(());

@@ -8,7 +8,7 @@ ghost use Rattle.ball_model.specs.PlanValue.{mixing_of};
 ghost use Rattle.ball_model.specs.Report.{vertex_text};
 ghost use Rattle.ball_model.specs.Streams.{Rises};
 ghost use Rattle.node.specs.NodeText.{figures_text};
-ghost use Rattle.node.specs.Stream.{FailsWhere};
+ghost use Rattle.node.specs.Stream.{FailsAs};
 ghost use Rattle.node.specs.Turns.{AppendsOf};
 ghost use Rattle.report.specs.Parts.{true_figures};
 
@@ -64,8 +64,7 @@ fn tell_vertex<W: CountedWrite>(
     ensures done { OnOk result (AppendsOf replica.now
         (λ j h. vertex_text (mixing_of j.plan) j.graph graph.now.labels h.superstep x)
         (W.contents writer.old) (W.contents writer.new)) }
-    ensures write { FailsWhere (result ≡ Err TellError.Write)
-        (W.failed_calls writer.old) (W.failed_calls writer.new) }
+    ensures write { FailsAs W.failed_calls writer.old writer.new result (Err TellError.Write) }
 {
     let text = line_of(alloc, graph, replica, x)?;
     write_lines(writer, &text)

@@ -9,14 +9,14 @@ ghost use Rattle.ball_model.specs.Sections.{after_line, after_mark};
 ghost use Rattle.ball_model.specs.Streams.{Rises};
 ghost use Rattle.node.specs.Section.{EndsAtMark, Gives, IsAhead, IsByteOrEnd, IsOver, IsPast};
 ghost use Rattle.node.specs.Section.{is_front, is_tail};
-ghost use Rattle.node.specs.Stream.{FailsWhere};
+ghost use Rattle.node.specs.Stream.{FailsAs};
 
 use arrayvec::ArrayVec;
 use ball_model::CountedRead;
 
 /// What came of reading one byte.
 #[derive(Clone, Copy, Debug, PartialEq, Eq)]
-pub enum Next {
+pub enum NextByte {
     /// The byte.
     Byte(u8),
     /// There is none more.
@@ -26,24 +26,24 @@ pub enum Next {
 }
 
 /// The next byte of a reader.
-pub fn next_of<R: CountedRead>(reader: &mut R) -> Next
-    ensures byte { (b : ℕ) → result ≡ Next.Byte b →
+pub fn next_of<R: CountedRead>(reader: &mut R) -> NextByte
+    ensures byte { (b : ℕ) → result ≡ NextByte.Byte b →
         Consumes (R.remaining reader.old) (R.remaining reader.new) (b ∷ []) }
-    ensures end { result ≡ Next.End → IsAtEnd (R.remaining reader.new) }
-    ensures kept { result ≡ Next.End →
+    ensures end { result ≡ NextByte.End → IsAtEnd (R.remaining reader.new) }
+    ensures kept { result ≡ NextByte.End →
         Keeps (R.remaining reader.old) (R.remaining reader.new) }
-    ensures same { result ≡ Next.Failed →
+    ensures same { result ≡ NextByte.Failed →
         Keeps (R.remaining reader.old) (R.remaining reader.new) }
-    ensures failed { result ≡ Next.Failed →
+    ensures failed { result ≡ NextByte.Failed →
         Rises (R.failed_calls reader.old) (R.failed_calls reader.new) }
-    ensures counted { result ≢ Next.Failed →
+    ensures counted { result ≢ NextByte.Failed →
         R.failed_calls reader.new ≡ R.failed_calls reader.old }
 {
     let mut byte = [0u8; 1];
     match reader.get(&mut byte) {
-        Some(0) => Next::End,
-        Some(_) => Next::Byte(byte[0]),
-        None => Next::Failed,
+        Some(0) => NextByte::End,
+        Some(_) => NextByte::Byte(byte[0]),
+        None => NextByte::Failed,
     }
 }
 
@@ -126,9 +126,9 @@ fn look<R: CountedRead>(reader: &mut R, ahead: &mut ArrayVec<u8, 4>) -> bool
 {
     while is_front(ahead) {
         match next_of(reader) {
-            Next::Byte(byte) => ahead.push(byte),
-            Next::End => return true,
-            Next::Failed => return false,
+            NextByte::Byte(byte) => ahead.push(byte),
+            NextByte::End => return true,
+            NextByte::Failed => return false,
         }
     }
     true
@@ -136,7 +136,7 @@ fn look<R: CountedRead>(reader: &mut R, ahead: &mut ArrayVec<u8, 4>) -> bool
 
 /// What came of a step through a section.
 #[derive(Clone, Copy, Debug, PartialEq, Eq)]
-pub enum Step {
+pub enum SectionStep {
     /// The next byte.
     Byte(u8),
     /// A mark stood here, and is passed.
@@ -148,99 +148,96 @@ pub enum Step {
 }
 
 // The first byte that was read ahead, where there is one.
-fn first_of(ahead: &mut ArrayVec<u8, 4>) -> Step
+fn first_of(ahead: &mut ArrayVec<u8, 4>) -> SectionStep
     requires { is_tail ahead.old.items ≡ true }
-    ensures byte { (b : ℕ) → result ≡ Step.Byte b → ahead.old.items ≡ b ∷ ahead.new.items }
-    ensures ahead { (b : ℕ) → result ≡ Step.Byte b → IsAhead (b == 10) ahead.new.items }
-    ensures end { result ≡ Step.End → ahead.old.items ≡ [] }
-    ensures kept { result ≡ Step.End → ahead.new.items ≡ [] }
+    ensures byte { (b : ℕ) → result ≡ SectionStep.Byte b → ahead.old.items ≡ b ∷ ahead.new.items }
+    ensures ahead { (b : ℕ) → result ≡ SectionStep.Byte b → IsAhead (b == 10) ahead.new.items }
+    ensures end { result ≡ SectionStep.End → ahead.old.items ≡ [] }
+    ensures kept { result ≡ SectionStep.End → ahead.new.items ≡ [] }
     ensures kind { IsByteOrEnd result }
 {
     if ahead.is_empty() {
-        Step::End
+        SectionStep::End
     } else {
-        Step::Byte(ahead.remove(0))
+        SectionStep::Byte(ahead.remove(0))
     }
 }
 
 // A step where a line begins.
-fn step_at_line<R: CountedRead>(reader: &mut R, ahead: &mut ArrayVec<u8, 4>) -> Step
+fn step_at_line<R: CountedRead>(reader: &mut R, ahead: &mut ArrayVec<u8, 4>) -> SectionStep
     requires { is_front ahead.old.items ≡ true }
-    ensures byte { (b : ℕ) → result ≡ Step.Byte b → Gives true b
+    ensures byte { (b : ℕ) → result ≡ SectionStep.Byte b → Gives true b
         (prepend_known ahead.old.items (R.remaining reader.old))
         (prepend_known ahead.new.items (R.remaining reader.new)) }
-    ensures ahead { (b : ℕ) → result ≡ Step.Byte b → IsAhead (b == 10) ahead.new.items }
-    ensures mark { result ≡ Step.Mark → EndsAtMark true
+    ensures ahead { (b : ℕ) → result ≡ SectionStep.Byte b → IsAhead (b == 10) ahead.new.items }
+    ensures mark { result ≡ SectionStep.Mark → EndsAtMark true
         (prepend_known ahead.old.items (R.remaining reader.old)) (R.remaining reader.new) }
-    ensures marked { result ≡ Step.Mark → ahead.new.items ≡ [] }
-    ensures end { result ≡ Step.End →
+    ensures marked { result ≡ SectionStep.Mark → ahead.new.items ≡ [] }
+    ensures end { result ≡ SectionStep.End →
         IsAtEnd (prepend_known ahead.old.items (R.remaining reader.old)) }
-    ensures ended { result ≡ Step.End → ahead.new.items ≡ [] }
-    ensures kept { result ≡ Step.Failed →
+    ensures ended { result ≡ SectionStep.End → ahead.new.items ≡ [] }
+    ensures kept { result ≡ SectionStep.Failed →
         Keeps (prepend_known ahead.old.items (R.remaining reader.old))
         (prepend_known ahead.new.items (R.remaining reader.new)) }
-    ensures front { result ≡ Step.Failed → is_front ahead.new.items ≡ true }
-    ensures failed { FailsWhere (result ≡ Step.Failed)
-        (R.failed_calls reader.old) (R.failed_calls reader.new) }
+    ensures front { result ≡ SectionStep.Failed → is_front ahead.new.items ≡ true }
+    ensures failed { FailsAs R.failed_calls reader.old reader.new result SectionStep.Failed }
 {
     if !look(reader, ahead) {
-        return Step::Failed;
+        return SectionStep::Failed;
     }
     match after_mark(ahead) {
         Some(_) => {
             ahead.clear();
-            Step::Mark
+            SectionStep::Mark
         }
         None => first_of(ahead),
     }
 }
 
 // A step within a line.
-fn step_in_line<R: CountedRead>(reader: &mut R, ahead: &mut ArrayVec<u8, 4>) -> Step
+fn step_in_line<R: CountedRead>(reader: &mut R, ahead: &mut ArrayVec<u8, 4>) -> SectionStep
     requires { is_tail ahead.old.items ≡ true }
-    ensures byte { (b : ℕ) → result ≡ Step.Byte b → Gives false b
+    ensures byte { (b : ℕ) → result ≡ SectionStep.Byte b → Gives false b
         (prepend_known ahead.old.items (R.remaining reader.old))
         (prepend_known ahead.new.items (R.remaining reader.new)) }
-    ensures ahead { (b : ℕ) → result ≡ Step.Byte b → IsAhead (b == 10) ahead.new.items }
-    ensures mark { result ≢ Step.Mark }
-    ensures end { result ≡ Step.End →
+    ensures ahead { (b : ℕ) → result ≡ SectionStep.Byte b → IsAhead (b == 10) ahead.new.items }
+    ensures mark { result ≢ SectionStep.Mark }
+    ensures end { result ≡ SectionStep.End →
         IsAtEnd (prepend_known ahead.old.items (R.remaining reader.old)) }
-    ensures ended { result ≡ Step.End → ahead.new.items ≡ [] }
-    ensures kept { result ≡ Step.Failed →
+    ensures ended { result ≡ SectionStep.End → ahead.new.items ≡ [] }
+    ensures kept { result ≡ SectionStep.Failed →
         Keeps (prepend_known ahead.old.items (R.remaining reader.old))
         (prepend_known ahead.new.items (R.remaining reader.new)) }
-    ensures front { result ≡ Step.Failed → ahead.new.items ≡ [] }
-    ensures failed { FailsWhere (result ≡ Step.Failed)
-        (R.failed_calls reader.old) (R.failed_calls reader.new) }
+    ensures front { result ≡ SectionStep.Failed → ahead.new.items ≡ [] }
+    ensures failed { FailsAs R.failed_calls reader.old reader.new result SectionStep.Failed }
 {
     if !ahead.is_empty() {
         return first_of(ahead);
     }
     match next_of(reader) {
-        Next::Byte(byte) => Step::Byte(byte),
-        Next::End => Step::End,
-        Next::Failed => Step::Failed,
+        NextByte::Byte(byte) => SectionStep::Byte(byte),
+        NextByte::End => SectionStep::End,
+        NextByte::Failed => SectionStep::Failed,
     }
 }
 
 // A step where a line begins, or within one.
-fn step_of<R: CountedRead>(reader: &mut R, begins: bool, ahead: &mut ArrayVec<u8, 4>) -> Step
+fn step_of<R: CountedRead>(reader: &mut R, begins: bool, ahead: &mut ArrayVec<u8, 4>) -> SectionStep
     requires { IsAhead begins ahead.old.items }
-    ensures byte { (b : ℕ) → result ≡ Step.Byte b → Gives begins b
+    ensures byte { (b : ℕ) → result ≡ SectionStep.Byte b → Gives begins b
         (prepend_known ahead.old.items (R.remaining reader.old))
         (prepend_known ahead.new.items (R.remaining reader.new)) }
-    ensures ahead { (b : ℕ) → result ≡ Step.Byte b → IsAhead (b == 10) ahead.new.items }
-    ensures mark { result ≡ Step.Mark → EndsAtMark begins
+    ensures ahead { (b : ℕ) → result ≡ SectionStep.Byte b → IsAhead (b == 10) ahead.new.items }
+    ensures mark { result ≡ SectionStep.Mark → EndsAtMark begins
         (prepend_known ahead.old.items (R.remaining reader.old)) (R.remaining reader.new) }
     ensures over { IsOver result → ahead.new.items ≡ [] }
-    ensures end { result ≡ Step.End →
+    ensures end { result ≡ SectionStep.End →
         IsAtEnd (prepend_known ahead.old.items (R.remaining reader.old)) }
-    ensures kept { result ≡ Step.Failed →
+    ensures kept { result ≡ SectionStep.Failed →
         Keeps (prepend_known ahead.old.items (R.remaining reader.old))
         (prepend_known ahead.new.items (R.remaining reader.new)) }
-    ensures still { result ≡ Step.Failed → IsAhead begins ahead.new.items }
-    ensures failed { FailsWhere (result ≡ Step.Failed)
-        (R.failed_calls reader.old) (R.failed_calls reader.new) }
+    ensures still { result ≡ SectionStep.Failed → IsAhead begins ahead.new.items }
+    ensures failed { FailsAs R.failed_calls reader.old reader.new result SectionStep.Failed }
 {
     if begins {
         step_at_line(reader, ahead)
@@ -250,30 +247,30 @@ fn step_of<R: CountedRead>(reader: &mut R, begins: bool, ahead: &mut ArrayVec<u8
 }
 
 /// The next byte of a section, or its end. Nothing is read behind the end.
-pub fn next_step<R: CountedRead>(reader: &mut R, cut: &mut Cut) -> Step
-    ensures byte { (b : ℕ) → result ≡ Step.Byte b → Gives cut.old.begins b
+pub fn next_step<R: CountedRead>(reader: &mut R, cut: &mut Cut) -> SectionStep
+    ensures byte { (b : ℕ) → result ≡ SectionStep.Byte b → Gives cut.old.begins b
         (prepend_known cut.old.ahead.items (R.remaining reader.old))
         (prepend_known cut.new.ahead.items (R.remaining reader.new)) }
-    ensures next { (b : ℕ) → result ≡ Step.Byte b → cut.new.begins ≡ (b == 10) }
-    ensures mark { result ≡ Step.Mark → EndsAtMark cut.old.begins
+    ensures next { (b : ℕ) → result ≡ SectionStep.Byte b → cut.new.begins ≡ (b == 10) }
+    ensures mark { result ≡ SectionStep.Mark → EndsAtMark cut.old.begins
         (prepend_known cut.old.ahead.items (R.remaining reader.old)) (R.remaining reader.new) }
-    ensures end { result ≡ Step.End →
+    ensures end { result ≡ SectionStep.End →
         IsAtEnd (prepend_known cut.old.ahead.items (R.remaining reader.old)) }
-    ensures kept { result ≡ Step.Failed →
+    ensures kept { result ≡ SectionStep.Failed →
         Keeps (prepend_known cut.old.ahead.items (R.remaining reader.old))
         (prepend_known cut.new.ahead.items (R.remaining reader.new)) }
-    ensures still { result ≡ Step.Failed → cut.new.begins ≡ cut.old.begins }
-    ensures failed { result ≡ Step.Failed →
+    ensures still { result ≡ SectionStep.Failed → cut.new.begins ≡ cut.old.begins }
+    ensures failed { result ≡ SectionStep.Failed →
         Rises (R.failed_calls reader.old) (R.failed_calls reader.new) }
-    ensures counted { result ≢ Step.Failed →
+    ensures counted { result ≢ SectionStep.Failed →
         R.failed_calls reader.new ≡ R.failed_calls reader.old }
 {
     let step = step_of(reader, cut.begins, &mut cut.ahead);
     match step {
-        Step::Byte(byte) => cut.begins = byte == b'\n',
-        Step::Mark => {}
-        Step::End => {}
-        Step::Failed => {}
+        SectionStep::Byte(byte) => cut.begins = byte == b'\n',
+        SectionStep::Mark => {}
+        SectionStep::End => {}
+        SectionStep::Failed => {}
     }
     step
 }

@@ -18,7 +18,7 @@ ghost use Rattle.node.specs.Serving.{ServesNode, ServesNone, ServesOne, Steps, S
 ghost use Rattle.node.specs.Serving.{StopsNode, StopsWanting, WantsNode};
 ghost use Rattle.node.specs.declared.error.JobInputError.{JobInputError as NoJob};
 ghost use Rattle.node.specs.declared.error.ServeError.{ServeError as Fault};
-ghost use Rattle.node.specs.Stream.{CutsBody, FailsWhere, HasNoEnd, ReadsBody};
+ghost use Rattle.node.specs.Stream.{CutsBody, FailsAs, HasNoEnd, ReadsBody};
 ghost use Rattle.node.specs.declared.input.TheConstants.{MOST_LINE};
 ghost use Rattle.node.specs.declared.command.Command.TheVariants as order;
 ghost use Rattle.node.specs.Turns.{Holds, most_body, reply_text};
@@ -50,8 +50,7 @@ use world::watch::Watch;
 fn tell<W: CountedWrite>(reply: Reply, line: &mut Vec<u8>, writer: &mut W) -> Result<(), TellError>
     ensures done { OnOk result (Appends (W.contents writer.old) (W.contents writer.new)
         (reply_text reply)) }
-    ensures write { FailsWhere (result ≡ Err TellError.Write)
-        (W.failed_calls writer.old) (W.failed_calls writer.new) }
+    ensures write { FailsAs W.failed_calls writer.old writer.new result (Err TellError.Write) }
 {
     line.clear();
     put_reply(line, reply)?;
@@ -67,8 +66,7 @@ fn tell_batch<W: CountedWrite>(
 ) -> Result<(), TellError>
     ensures done { OnOk result (Appends (W.contents writer.old) (W.contents writer.new)
         (sent_text batch.now)) }
-    ensures write { FailsWhere (result ≡ Err TellError.Write)
-        (W.failed_calls writer.old) (W.failed_calls writer.new) }
+    ensures write { FailsAs W.failed_calls writer.old writer.new result (Err TellError.Write) }
 {
     line.clear();
     put_sent(line, batch)?;
@@ -81,8 +79,7 @@ fn tell_batch<W: CountedWrite>(
 fn tell_no_target<W: CountedWrite>(line: &mut Vec<u8>, writer: &mut W) -> Result<(), TellError>
     ensures done { OnOk result (Appends (W.contents writer.old) (W.contents writer.new)
         (refusal_line WorldError.NoTarget)) }
-    ensures write { FailsWhere (result ≡ Err TellError.Write)
-        (W.failed_calls writer.old) (W.failed_calls writer.new) }
+    ensures write { FailsAs W.failed_calls writer.old writer.new result (Err TellError.Write) }
 {
     line.clear();
     put_refusal(line, WorldError::NoTarget)?;
@@ -100,8 +97,7 @@ fn answer_send<W: CountedWrite>(
     ensures done { (network : Network) (body : List ℕ) → OnOk result (Steps network
         (order.Send target) body replica.now replica.now
         (W.contents writer.old) (W.contents writer.new)) }
-    ensures write { FailsWhere (result ≡ Err TellError.Write)
-        (W.failed_calls writer.old) (W.failed_calls writer.new) }
+    ensures write { FailsAs W.failed_calls writer.old writer.new result (Err TellError.Write) }
 {
     if replica.plan().parts() <= target {
         return tell_no_target(line, writer);
@@ -125,8 +121,7 @@ fn answer_deliver<W: CountedWrite>(
         (order.Deliver n) body.now session.old session.new
         (W.contents writer.old) (W.contents writer.new)) }
     ensures part { session.new.part ≡ session.old.part }
-    ensures write { FailsWhere (result ≡ Err TellError.Write)
-        (W.failed_calls writer.old) (W.failed_calls writer.new) }
+    ensures write { FailsAs W.failed_calls writer.old writer.new result (Err TellError.Write) }
 {
     let reply = session.deliver(alloc, body)?;
     tell(reply, line, writer)
@@ -143,8 +138,7 @@ fn answer_close<W: CountedWrite, V: Watch>(
         order.Close body session.old session.new
         (W.contents writer.old) (W.contents writer.new)) }
     ensures part { session.new.part ≡ session.old.part }
-    ensures write { FailsWhere (result ≡ Err TellError.Write)
-        (W.failed_calls writer.old) (W.failed_calls writer.new) }
+    ensures write { FailsAs W.failed_calls writer.old writer.new result (Err TellError.Write) }
 {
     let answer = session.close();
     show_close(session.replica(), answer, watch);
@@ -160,8 +154,7 @@ fn answer_keep<W: CountedWrite>(
     ensures done { (network : Network) (body : List ℕ) → OnOk result (Steps network
         order.Keep body replica.now replica.now
         (W.contents writer.old) (W.contents writer.new)) }
-    ensures write { FailsWhere (result ≡ Err TellError.Write)
-        (W.failed_calls writer.old) (W.failed_calls writer.new) }
+    ensures write { FailsAs W.failed_calls writer.old writer.new result (Err TellError.Write) }
 {
     // the limits of a replica are told with its superstep, those of its figures with these
     let superstep = replica.superstep();
@@ -187,8 +180,7 @@ fn answer_restart<W: CountedWrite>(
         (order.Restart n) body.now session.old session.new
         (W.contents writer.old) (W.contents writer.new)) }
     ensures part { session.new.part ≡ session.old.part }
-    ensures write { FailsWhere (result ≡ Err TellError.Write)
-        (W.failed_calls writer.old) (W.failed_calls writer.new) }
+    ensures write { FailsAs W.failed_calls writer.old writer.new result (Err TellError.Write) }
 {
     let reply = session.restart(alloc, body)?;
     tell(reply, line, writer)
@@ -206,8 +198,7 @@ fn answer_recover<W: CountedWrite>(
         (order.Recover n) body.now session.old session.new
         (W.contents writer.old) (W.contents writer.new)) }
     ensures part { session.new.part ≡ session.old.part }
-    ensures write { FailsWhere (result ≡ Err TellError.Write)
-        (W.failed_calls writer.old) (W.failed_calls writer.new) }
+    ensures write { FailsAs W.failed_calls writer.old writer.new result (Err TellError.Write) }
 {
     let reply = session.recover(alloc, body)?;
     tell(reply, line, writer)
@@ -222,8 +213,7 @@ fn answer_totals<W: CountedWrite>(
     ensures done { (network : Network) (body : List ℕ) → OnOk result (Steps network
         order.Totals body replica.now replica.now
         (W.contents writer.old) (W.contents writer.new)) }
-    ensures write { FailsWhere (result ≡ Err TellError.Write)
-        (W.failed_calls writer.old) (W.failed_calls writer.new) }
+    ensures write { FailsAs W.failed_calls writer.old writer.new result (Err TellError.Write) }
 {
     let text = totals_text(alloc, replica.sums())?;
     write_lines(writer, &text)
@@ -244,8 +234,7 @@ fn answer<W: CountedWrite, V: Watch>(
     ensures step { OnOk result (Steps graph.now command body.now session.old session.new
         (W.contents writer.old) (W.contents writer.new)) }
     ensures part { session.new.part ≡ session.old.part }
-    ensures write { FailsWhere (result ≡ Err TellError.Write)
-        (W.failed_calls writer.old) (W.failed_calls writer.new) }
+    ensures write { FailsAs W.failed_calls writer.old writer.new result (Err TellError.Write) }
 {
     let replica = session.replica();
     match command {
@@ -282,8 +271,7 @@ fn read_command<R: CountedRead>(
     ensures none { IfOk result (λ o. IfNone o (IsAtEnd (R.remaining reader.new))) }
     ensures kept { IfOk result (λ o. IfNone o
         (Consumes (R.remaining reader.old) (R.remaining reader.new) [])) }
-    ensures read { FailsWhere (result ≡ Err ServeError.Read)
-        (R.failed_calls reader.old) (R.failed_calls reader.new) }
+    ensures read { FailsAs R.failed_calls reader.old reader.new result (Err ServeError.Read) }
     ensures unwritten { result ≢ Err ServeError.Write }
     ensures stopped { IfErr result (λ e. IsNoRequest part.now number e
         (R.remaining reader.old) (R.remaining reader.new)) }
@@ -316,8 +304,7 @@ fn read_rest<R: CountedRead>(
     ensures consumed { OnOk result (
         Consumes (R.remaining reader.old) (R.remaining reader.new) body.new.items) }
     ensures length { OnOk result (length body.new.items ≡ body_length command) }
-    ensures read { FailsWhere (result ≡ Err ServeError.Read)
-        (R.failed_calls reader.old) (R.failed_calls reader.new) }
+    ensures read { FailsAs R.failed_calls reader.old reader.new result (Err ServeError.Read) }
     ensures unwritten { result ≢ Err ServeError.Write }
     ensures cut { result ≡ Err (ServeError.Cut number) → CutsBody (body_length command)
         (R.remaining reader.old) (R.remaining reader.new) }
@@ -348,8 +335,7 @@ fn read_request<R: CountedRead>(
     ensures none { IfOk result (λ o. IfNone o (IsAtEnd (R.remaining reader.new))) }
     ensures kept { IfOk result (λ o. IfNone o
         (Consumes (R.remaining reader.old) (R.remaining reader.new) [])) }
-    ensures read { FailsWhere (result ≡ Err ServeError.Read)
-        (R.failed_calls reader.old) (R.failed_calls reader.new) }
+    ensures read { FailsAs R.failed_calls reader.old reader.new result (Err ServeError.Read) }
     ensures unwritten { result ≢ Err ServeError.Write }
     ensures stopped { IfErr result (λ e. IsNoRequest part.now number e
         (R.remaining reader.old) (R.remaining reader.new)) }
@@ -364,8 +350,7 @@ fn read_request<R: CountedRead>(
 // Passes on what the writer holds back.
 fn flush<W: CountedWrite>(writer: &mut W) -> Result<(), TellError>
     ensures done { Keeps (W.contents writer.old) (W.contents writer.new) }
-    ensures write { FailsWhere (result ≡ Err TellError.Write)
-        (W.failed_calls writer.old) (W.failed_calls writer.new) }
+    ensures write { FailsAs W.failed_calls writer.old writer.new result (Err TellError.Write) }
 {
     if writer.try_flush() {
         Ok(())
@@ -397,10 +382,8 @@ fn serve_one<R: CountedRead, W: CountedWrite, V: Watch>(
     ensures kept { IfErr result (λ e. (IsOfMachine e → ⊥) →
         Keeps (W.contents writer.old) (W.contents writer.new)) }
     ensures same { IfErr result (λ e. (IsOfMachine e → ⊥) → session.new ≡ session.old) }
-    ensures read { FailsWhere (result ≡ Err ServeError.Read)
-        (R.failed_calls reader.old) (R.failed_calls reader.new) }
-    ensures write { FailsWhere (result ≡ Err ServeError.Write)
-        (W.failed_calls writer.old) (W.failed_calls writer.new) }
+    ensures read { FailsAs R.failed_calls reader.old reader.new result (Err ServeError.Read) }
+    ensures write { FailsAs W.failed_calls writer.old writer.new result (Err ServeError.Write) }
 {
     let mut line = Vec::new(alloc);
     let mut body = Vec::new(alloc);
@@ -500,10 +483,10 @@ fn serve_part<R: CountedRead, W: CountedWrite, V: Watch>(
         R.remaining reader.new ≡ R.remaining reader.old }
     ensures refused { (e : NoJob) → result ≡ Err (ServeNodeError.Job e) →
         IsNoStart plan.now part e }
-    ensures read { FailsWhere (result ≡ Err (ServeNodeError.Serve ServeError.Read))
-        (R.failed_calls reader.old) (R.failed_calls reader.new) }
-    ensures write { FailsWhere (result ≡ Err (ServeNodeError.Serve ServeError.Write))
-        (W.failed_calls writer.old) (W.failed_calls writer.new) }
+    ensures read { FailsAs R.failed_calls reader.old reader.new result
+        (Err (ServeNodeError.Serve ServeError.Read)) }
+    ensures write { FailsAs W.failed_calls writer.old writer.new result
+        (Err (ServeNodeError.Serve ServeError.Write)) }
 {
     let mut session = start(alloc, graph, plan, part)?;
     let served = serve_commands(alloc, graph, &mut session, watch, reader, writer);

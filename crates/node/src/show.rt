@@ -5,7 +5,7 @@ ghost use Rattle.std.specs.List.{flat_map};
 ghost use Rattle.ball_model.specs.State.{own_vertices};
 ghost use Rattle.ball_model.specs.Streams.{Rises};
 ghost use Rattle.ball_model.specs.WorldText.{row_text, show_text};
-ghost use Rattle.node.specs.Stream.{FailsWhere};
+ghost use Rattle.node.specs.Stream.{FailsAs};
 ghost use Rattle.node.specs.Turns.{AppendsOf};
 
 use ball_model::{CountedWrite, NodeId};
@@ -24,8 +24,7 @@ fn tell_row<W: CountedWrite>(
     requires own { x % replica.now.part.plan.parts ≡ replica.now.part.number }
     ensures done { OnOk result (AppendsOf replica.now (λ j h. row_text j h.superstep x)
         (W.contents writer.old) (W.contents writer.new)) }
-    ensures write { FailsWhere (result ≡ Err TellError.Write)
-        (W.failed_calls writer.old) (W.failed_calls writer.new) }
+    ensures write { FailsAs W.failed_calls writer.old writer.new result (Err TellError.Write) }
 {
     line.clear();
     put_vertex(line, replica, x)?;
@@ -41,8 +40,7 @@ fn tell_rows<W: CountedWrite>(
     ensures done { OnOk result (AppendsOf replica.now
         (λ j h. flat_map (row_text j h.superstep) (own_vertices j h.partition))
         (W.contents writer.old) (W.contents writer.new)) }
-    ensures write { FailsWhere (result ≡ Err TellError.Write)
-        (W.failed_calls writer.old) (W.failed_calls writer.new) }
+    ensures write { FailsAs W.failed_calls writer.old writer.new result (Err TellError.Write) }
 {
     // the limits of a replica are told with its superstep
     let _superstep = replica.superstep();

@@ -130,18 +130,18 @@ joins j w id h c ok at there same =
 
 -- ---- what a list of steps does
 -- what a call found was sent, or copied for that partition
-abbrev Found : List BatchName → List Holding → HistoryEvent → Type 0
-Found sent copies (Post name r) = ⊤
-Found sent copies (Fetch name) = IsIn sent name
-Found sent copies (Keep c r) = ⊤
-Found sent copies (Recall p s c) = IsIn copies c × (c.partition ≡ p)
-Found sent copies (Drop s) = ⊤
+abbrev FoundIn : List BatchName → List Holding → HistoryEvent → Type 0
+FoundIn sent copies (Post name r) = ⊤
+FoundIn sent copies (Fetch name) = IsIn sent name
+FoundIn sent copies (Keep c r) = ⊤
+FoundIn sent copies (Recall p s c) = IsIn copies c × (c.partition ≡ p)
+FoundIn sent copies (Drop s) = ⊤
 
 AllFound : List BatchName → List Holding → List HistoryEvent → Type 0
 AllFound sent copies [] = ⊤
-AllFound sent copies (e ∷ es) = Found sent copies e × AllFound sent copies es
+AllFound sent copies (e ∷ es) = FoundIn sent copies e × AllFound sent copies es
 
-calls : (j : Job) (w : World) (id : NodeId) (h : Holding) (e : HistoryEvent) → IsWorld j w → node_at w id ≡ Some (holds h) → IsOwnCall j h e → Found w.sent w.copies e → Does j w id (after_board_call j h e)
+calls : (j : Job) (w : World) (id : NodeId) (h : Holding) (e : HistoryEvent) → IsWorld j w → node_at w id ≡ Some (holds h) → IsOwnCall j h e → FoundIn w.sent w.copies e → Does j w id (after_board_call j h e)
 calls j w id h (Post name r) ok at own f = nothing_done j w id h at
 calls j w id h (Fetch name) ok at own f = takes j w id h name at f
 calls j w id h (Keep c r) ok at own f = nothing_done j w id h at
@@ -180,7 +180,7 @@ replays j w id h steps ok at own f =
     (does j (run_of j w a.events) id c steps (run_stays j w a.events ok) a.node own (found_then j w id c (calls_among steps) a f))
 
 -- ---- the steps before a call
-record Before (j : Job) (p : ℕ) (h : Holding) (done : List HistoryEvent) (e : HistoryEvent) : Type 0 where
+record BeforeCall (j : Job) (p : ℕ) (h : Holding) (done : List HistoryEvent) (e : HistoryEvent) : Type 0 where
   steps : List Step
   own : AreOwnSteps j p h steps
   calls : calls_among steps ≡ done
@@ -203,8 +203,8 @@ unfolding tail_of
 tail_same x y xs ys e = ap tail_of e
 
 cut_calls : (j : Job) (p : ℕ) (h : Holding) (x : HistoryEvent) (steps : List Step) (done : List HistoryEvent) (e : HistoryEvent) (rest : List HistoryEvent) → IsOwnCall j h x →
-    ((more : List HistoryEvent) → calls_among steps ≡ more ++ e ∷ rest → Before j p (after_board_call j h x) more e) →
-    x ∷ calls_among steps ≡ done ++ e ∷ rest → Before j p h done e
+    ((more : List HistoryEvent) → calls_among steps ≡ more ++ e ∷ rest → BeforeCall j p (after_board_call j h x) more e) →
+    x ∷ calls_among steps ≡ done ++ e ∷ rest → BeforeCall j p h done e
 unfolding AreOwnSteps calls_among after_steps
 cut_calls j p h x steps [] e rest own later is = record { steps = []; own = tt; calls = refl; may = subst (IsOwnCall j h) (head_same x e (calls_among steps) rest is) own }
 cut_calls j p h x steps (d ∷ done) e rest own later is =
@@ -216,7 +216,7 @@ none_left : (done : List HistoryEvent) (e : HistoryEvent) (rest : List HistoryEv
 none_left [] e rest is = absurd (cc)
 none_left (d ∷ done) e rest is = absurd (cc)
 
-cut : (j : Job) (p : ℕ) (h : Holding) (steps : List Step) (done : List HistoryEvent) (e : HistoryEvent) (rest : List HistoryEvent) → AreOwnSteps j p h steps → calls_among steps ≡ done ++ e ∷ rest → Before j p h done e
+cut : (j : Job) (p : ℕ) (h : Holding) (steps : List Step) (done : List HistoryEvent) (e : HistoryEvent) (rest : List HistoryEvent) → AreOwnSteps j p h steps → calls_among steps ≡ done ++ e ∷ rest → BeforeCall j p h done e
 unfolding AreOwnSteps calls_among after_steps
 cut j p h [] done e rest own is = absurd (none_left done e rest is)
 cut j p h (Calls x ∷ steps) done e rest own is =
@@ -234,19 +234,19 @@ record Known (done : List Entry) : Type 0 where
   kept : (p : ℕ) → IfSome ((after_all empty done).kept p) (λ c. IsIn (copied_in done) c × (c.partition ≡ p))
   found : (n : ℕ) → AllFound (sent_in done) (copied_in done) (events_by n done)
 
-found_more : (s t : List BatchName) (c d : List Holding) (e : HistoryEvent) → Found s c e → Found (s ++ t) (c ++ d) e
+found_more : (s t : List BatchName) (c d : List Holding) (e : HistoryEvent) → FoundIn s c e → FoundIn (s ++ t) (c ++ d) e
 found_more s t c d (Post name r) f = tt
 found_more s t c d (Fetch name) f = in_later s t name f
 found_more s t c d (Keep x r) f = tt
 found_more s t c d (Recall p a x) f = (in_later c d x f.0, f.1)
 found_more s t c d (Drop a) f = tt
 
-all_more : (s t : List BatchName) (c d : List Holding) (es : List HistoryEvent) → AllFound s c es → AllFound (s ++ t) (c ++ d) es
+all_found_more : (s t : List BatchName) (c d : List Holding) (es : List HistoryEvent) → AllFound s c es → AllFound (s ++ t) (c ++ d) es
 unfolding AllFound
-all_more s t c d [] f = tt
-all_more s t c d (e ∷ es) f = (found_more s t c d e f.0, all_more s t c d es f.1)
+all_found_more s t c d [] f = tt
+all_found_more s t c d (e ∷ es) f = (found_more s t c d e f.0, all_found_more s t c d es f.1)
 
-all_push : (s : List BatchName) (c : List Holding) (es : List HistoryEvent) (e : HistoryEvent) → AllFound s c es → Found s c e → AllFound s c (es ++ e ∷ [])
+all_push : (s : List BatchName) (c : List Holding) (es : List HistoryEvent) (e : HistoryEvent) → AllFound s c es → FoundIn s c e → AllFound s c (es ++ e ∷ [])
 unfolding AllFound
 all_push s c [] e f one = (one, tt)
 all_push s c (x ∷ es) e f one = (f.0, all_push s c es e f.1 one)
@@ -298,14 +298,14 @@ kept_push o (Recall q a c) cs p h = kept_later cs [] p (o.kept p) h
 kept_push o (Drop a) cs p h = kept_later cs [] p (o.kept p) h
 
 -- what is answered was found
-found_now : (o : Object) (e : HistoryEvent) (s : List BatchName) (cs : List Holding) → ((name : BatchName) → o.stands name ≡ true → IsIn s name) → ((p : ℕ) → KeptIn cs p (o.kept p)) → IsAnswer o e → Found s cs e
+found_now : (o : Object) (e : HistoryEvent) (s : List BatchName) (cs : List Holding) → ((name : BatchName) → o.stands name ≡ true → IsIn s name) → ((p : ℕ) → KeptIn cs p (o.kept p)) → IsAnswer o e → FoundIn s cs e
 found_now o (Post n r) s cs h k a = tt
 found_now o (Fetch n) s cs h k a = h n a
 found_now o (Keep c r) s cs h k a = tt
 found_now o (Recall p t c) s cs h k a = subst (λ (x : Option Holding). KeptIn cs p x) a.0 (k p)
 found_now o (Drop t) s cs h k a = tt
 
-events_push : (n : ℕ) (s : List BatchName) (cs : List Holding) (done : List Entry) (e : Entry) (b : Bool) → (e.by == n) ≡ b → AllFound s cs (events_by n done) → Found s cs e.event → AllFound s cs (events_by n (done ++ e ∷ []))
+events_push : (n : ℕ) (s : List BatchName) (cs : List Holding) (done : List Entry) (e : Entry) (b : Bool) → (e.by == n) ≡ b → AllFound s cs (events_by n done) → FoundIn s cs e.event → AllFound s cs (events_by n (done ++ e ∷ []))
 events_push n s cs done e b is f one = subst (AllFound s cs) (sym (events_by-append n done (e ∷ []))) (go b is)
   where
     go : (b : Bool) → (e.by == n) ≡ b → AllFound s cs (events_by n done ++ (if e.by == n then e.event ∷ [] else []))
@@ -325,7 +325,7 @@ known_push done e h a =
       found = λ n. subst (λ (s : List BatchName). AllFound s (copied_in (done ++ e ∷ [])) (events_by n (done ++ e ∷ []))) (sym (sent_push done e))
           (subst (λ (cs : List Holding). AllFound (sent_in done ++ sent_by e.event) cs (events_by n (done ++ e ∷ []))) (sym (copied_push done e))
           (events_push n (sent_in done ++ sent_by e.event) (copied_in done ++ copied_by e.event) done e (e.by == n) refl
-          (all_more (sent_in done) (sent_by e.event) (copied_in done) (copied_by e.event) (events_by n done) (h.found n)) one));
+          (all_found_more (sent_in done) (sent_by e.event) (copied_in done) (copied_by e.event) (events_by n done) (h.found n)) one));
     }
 
 known_start : Known []
@@ -445,12 +445,12 @@ copies_one : (j : Job) (w : World) (id : NodeId) (c : Holding) → node_at w id 
 copies_one j w id c at = run_of-one j w (event.Copy id) ∙ found j w (holds c) (event.Copy id) at
 
 -- one call more
-record Next (j : Job) (replicas : ℕ) (done : List Entry) : Type 0 where
+record ComeNext (j : Job) (replicas : ℕ) (done : List Entry) : Type 0 where
   world : World
   come : Come j replicas done world
 
 posts : (j : Job) (replicas : ℕ) (done : List Entry) (w : World) (n : ℕ) (id : NodeId) (c : Holding) (name : BatchName) (r : Posted) → Come j replicas done w → Does j w id c → IsOwnName j c name →
-    Next j replicas (done ++ entry n (Post name r) ∷ [])
+    ComeNext j replicas (done ++ entry n (Post name r) ∷ [])
 posts j replicas done w n id c name posted.Old h a own = record { world = w; come = silent j replicas done w (entry n (Post name posted.Old)) h refl refl }
 posts j replicas done w n id c name posted.Known h a own = record { world = w; come = silent j replicas done w (entry n (Post name posted.Known)) h refl refl }
 posts j replicas done w n id c name posted.New h a own =
@@ -463,7 +463,7 @@ posts j replicas done w n id c name posted.New h a own =
     }
 
 keeps : (j : Job) (replicas : ℕ) (done : List Entry) (w : World) (n : ℕ) (id : NodeId) (c d : Holding) (r : Kept) → Come j replicas done w → Does j w id c → d ≡ c →
-    Next j replicas (done ++ entry n (Keep d r) ∷ [])
+    ComeNext j replicas (done ++ entry n (Keep d r) ∷ [])
 keeps j replicas done w n id c d kept.Behind h a own = record { world = w; come = silent j replicas done w (entry n (Keep d kept.Behind)) h refl refl }
 keeps j replicas done w n id c d kept.New h a own =
     let v : World = run_of j w a.events in
@@ -476,7 +476,7 @@ keeps j replicas done w n id c d kept.New h a own =
     }
 
 calls_one : (j : Job) (replicas : ℕ) (done : List Entry) (w : World) (n : ℕ) (id : NodeId) (c : Holding) (e : HistoryEvent) → Come j replicas done w → Does j w id c → IsOwnCall j c e →
-    Next j replicas (done ++ entry n e ∷ [])
+    ComeNext j replicas (done ++ entry n e ∷ [])
 calls_one j replicas done w n id c (Post name r) h a own = posts j replicas done w n id c name r h a own
 calls_one j replicas done w n id c (Fetch name) h a own = record { world = w; come = silent j replicas done w (entry n (Fetch name)) h refl refl }
 calls_one j replicas done w n id c (Keep d r) h a own = keeps j replicas done w n id c d r h a own
@@ -487,7 +487,7 @@ own_events : (n : ℕ) (done rest : List Entry) (e : HistoryEvent) → events_by
 own_events n done rest e = events_by-append n done (entry n e ∷ rest) ∙ ap (λ (b : Bool). events_by n done ++ (if b then e ∷ events_by n rest else events_by n rest)) (eq-eqb n n refl)
 
 come_push : (j : Job) (replicas : ℕ) (done rest : List Entry) (w : World) (n : ℕ) (e : HistoryEvent) → 0 < replicas → Come j replicas done w → Known done → AreOfNode j (events_by n (done ++ entry n e ∷ rest)) →
-    Next j replicas (done ++ entry n e ∷ [])
+    ComeNext j replicas (done ++ entry n e ∷ [])
 come_push j replicas done rest w n e some h known node =
     let p : ℕ = node.part in
     let id : NodeId = record { part = p; replica = 0 } in

@@ -199,7 +199,7 @@ fn bare_plan_for(graph: &Graph, options: &RunOptions) -> Result<Plan, PlanError>
 }
 
 // The text of the report of replicas at the end of their run. The error is that memory was refused.
-fn text_of<T: AllocGlobal + Threads + Sync>(
+fn replicas_text<T: AllocGlobal + Threads + Sync>(
     rt: &T,
     graph: &Graph,
     plan: &Plan,
@@ -234,7 +234,7 @@ fn planned_text<T: AllocGlobal + Threads + Wait + Sync, G: Gate + Sync>(
     ensures fault { IfErr result (IsFaultOf plan.now.parts options.now) }
 {
     let replicas = run_job(rt, graph, plan, parts, options, gate)?;
-    let text = text_of(rt, graph, plan, &replicas)?;
+    let text = replicas_text(rt, graph, plan, &replicas)?;
     Ok(text)
 }
 

@@ -114,8 +114,9 @@ impl Faults {
 fn note(faults: &mut Faults, node: NodeId, end: &NodeResult) -> bool
     ensures lost { (j : Job) (p : ℕ) (orders : Orders) → KeepsItsOrders j p orders end.now →
         result ≡ true → is_some orders.lose ≡ true }
-    ensures noted { (j : Job) (o : Asked) (p k : ℕ) → KeepsItsOrders j p (orders_for o p k) end.now →
-        AreNoted j.plan.parts o faults.old → AreNoted j.plan.parts o faults.new }
+    ensures noted { (j : Job) (o : Asked) (p k : ℕ) →
+        KeepsItsOrders j p (orders_for o p k) end.now → AreNoted j.plan.parts o faults.old →
+        AreNoted j.plan.parts o faults.new }
     ensures exact { faults.new ≡ with_end node end.now faults.old }
     ensures told { result ≡ is_lost end.now }
 {
@@ -145,8 +146,8 @@ fn note(faults: &mut Faults, node: NodeId, end: &NodeResult) -> bool
 
 // Notes a partition all of whose nodes were lost.
 fn note_lost(faults: &mut Faults, p: u16)
-    ensures noted { (parts : ℕ) (o : Asked) → IsPartitionLost parts o p → AreNoted parts o faults.old →
-        AreNoted parts o faults.new }
+    ensures noted { (parts : ℕ) (o : Asked) → IsPartitionLost parts o p →
+        AreNoted parts o faults.old → AreNoted parts o faults.new }
     ensures exact { faults.new ≡
         record faults.old { lost = first_some faults.old.lost (Some p) } }
 {

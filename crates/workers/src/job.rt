@@ -147,8 +147,10 @@ fn start_part<'s, 'a: 's, X, R: AllocGlobal + Threads + Wait + Sync, G: Gate + S
     requires part { IfOk part.now (λ part.
         arc_value part ≡ part_of (job_of graph.now.graph plan.now) p) }
     requires few { options.now.replicas ≤ MOST_REPLICAS }
-    requires seat { HasSplit board.now (job_of graph.now.graph plan.now) (MOST_REPLICAS * p) first.old }
-    ensures seat { HasSplit board.now (job_of graph.now.graph plan.now) (MOST_REPLICAS * (p + 1)) first.new }
+    requires seat { HasSplit board.now (job_of graph.now.graph plan.now) (MOST_REPLICAS * p)
+        first.old }
+    ensures seat { HasSplit board.now (job_of graph.now.graph plan.now) (MOST_REPLICAS * (p + 1))
+        first.new }
     ensures started { IfOk result (λ own. IsPartStarted (λ child. child.promise)
         (job_of graph.now.graph plan.now) options.now p own.items) }
 {

@@ -107,8 +107,8 @@ fn falls_due(order: Option<u32>, superstep: u32) -> bool
 
 // A new replica of a part.
 fn first_replica(alloc: Global, part: &Arc<Part>) -> Result<Replica, NodeError>
-    ensures first { (j : Job) (p : ℕ) → IsJob j → p < j.plan.parts → arc_value part.now ≡ part_of j p →
-        IfOk result (IsFirst j p) }
+    ensures first { (j : Job) (p : ℕ) → IsJob j → p < j.plan.parts →
+        arc_value part.now ≡ part_of j p → IfOk result (IsFirst j p) }
     ensures memory { IfErr result (λ e. e ≡ Memory) }
 {
     Ok(Replica::new(alloc, Arc::try_clone(part)?)?)
@@ -116,8 +116,8 @@ fn first_replica(alloc: Global, part: &Arc<Part>) -> Result<Replica, NodeError>
 
 // A new replica of a part takes the place of the old one.
 fn replace_replica(alloc: Global, part: &Arc<Part>, replica: &mut Replica) -> Result<(), NodeError>
-    ensures first { (j : Job) (p : ℕ) → IsJob j → p < j.plan.parts → arc_value part.now ≡ part_of j p →
-        OnOk result (IsFirst j p replica.new) }
+    ensures first { (j : Job) (p : ℕ) → IsJob j → p < j.plan.parts →
+        arc_value part.now ≡ part_of j p → OnOk result (IsFirst j p replica.new) }
     ensures memory { IfErr result (λ e. e ≡ Memory) }
 {
     *replica = first_replica(alloc, part)?;

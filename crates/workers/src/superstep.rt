@@ -66,8 +66,9 @@ pub fn catch_up<R: AllocGlobal + Wait, E: Exchange>(
     ensures seen { Extends (E.caller exchange.old) (E.caller exchange.new) }
     ensures stands { OnOk result (StandsIn (E.caller exchange.old) node.part replica.new) }
     ensures none { IfOk result (λ found. found ≡ false → replica.new ≡ replica.old) }
-    ensures found { IfOk result (λ found. found ≡ true → HasRecalled (E.caller exchange.old) node.part
-        at_least replica.old.superstep replica.new.superstep (E.caller exchange.new)) }
+    ensures found { IfOk result (λ found. found ≡ true →
+        HasRecalled (E.caller exchange.old) node.part at_least replica.old.superstep
+        replica.new.superstep (E.caller exchange.new)) }
     ensures came { OnOk result (HasCome (E.caller exchange.old) node.part (holding_in replica.old)
         (holding_in replica.new) (E.caller exchange.new)) }
     ensures gone { OnErr result (HasGone (E.caller exchange.old) node.part (holding_in replica.old)
@@ -311,7 +312,7 @@ fn find<R: Wait, E: Exchange>(
 
 // Takes what the others tell of the superstep, until the level is held, or a further snapshot is found, or it was
 // waited for a batch in vain.
-fn gather<R: AllocGlobal + Wait, E: Exchange, G: Gate>(
+fn hear_all<R: AllocGlobal + Wait, E: Exchange, G: Gate>(
     rt: &R,
     exchange: &mut E,
     gate: &G,
@@ -402,7 +403,7 @@ pub fn run_superstep<R: AllocGlobal + Wait, E: Exchange, G: Gate>(
     tell_all(rt, exchange, gate, node, tables, replica)?;
     drop_old(rt, exchange, orders.keep, replica.superstep())?;
     Ok(
-        match gather(rt, exchange, gate, node, orders.patience, replica)? {
+        match hear_all(rt, exchange, gate, node, orders.patience, replica)? {
             Found::Level => close(gate, node, replica),
             Found::Further => SuperstepEnd::Next,
             Found::Missed { source } => SuperstepEnd::Starved { source },

@@ -52,7 +52,8 @@ enum Outcome {
 fn shared_part(alloc: Global, graph: &Graph, plan: &Plan, p: u16) -> Option<Arc<Part>>
     requires job { IsJob (job_of graph.now.graph plan.now) }
     requires part { p < plan.now.parts }
-    ensures { IfSome result (λ shared. arc_value shared ≡ part_of (job_of graph.now.graph plan.now) p) }
+    ensures { IfSome result (λ shared.
+        arc_value shared ≡ part_of (job_of graph.now.graph plan.now) p) }
 {
     let part = graph.part(alloc, plan, p).ok()?;
     Arc::new(alloc, part).ok()

@@ -16,10 +16,10 @@ use Rattle.hyperball.proofs.serve.serve_wish.Goals as goal
 
 pub returns-in-Run : goal.returns-in-Run
 returns-in-Run g c = record {
-  status = c.serve_run.ensures.status;
-  run = λ w says zero. subst (λ (v : RunWords). IfSome (g.R.Read.remaining c.args.reader.now) (λ input. Reports v input (g.W.Write.contents c.args.writer.now) (g.W.Write.contents c.serve_run.new.writer))) (is_run _ _ w c.in-Run.is says) (c.serve_run.ensures.done zero);
-  few = λ w says counted. c.serve_run.ensures.few (subst (λ (v : RunWords). v.counted ≡ true) (sym (is_run _ _ w c.in-Run.is says)) counted);
-  kept = λ said is one. c.serve_run.ensures.kept one;
+  status = c.run_status.ensures.status;
+  run = λ w says zero. subst (λ (v : RunWords). IfSome (g.R.Read.remaining c.args.reader.now) (λ input. Reports v input (g.W.Write.contents c.args.writer.now) (g.W.Write.contents c.run_status.new.writer))) (is_run _ _ w c.in-Run.is says) (c.run_status.ensures.done zero);
+  few = λ w says counted. c.run_status.ensures.few (subst (λ (v : RunWords). v.counted ≡ true) (sym (is_run _ _ w c.in-Run.is says)) counted);
+  kept = λ said is one. c.run_status.ensures.kept one;
   replay = λ w is zero. absurd (not_replay _ _ w c.in-Run.is is);
   replay_few = λ w is. absurd (not_replay _ _ w c.in-Run.is is);
   begun = λ w is one. absurd (not_replay _ _ w c.in-Run.is is);
@@ -30,18 +30,18 @@ returns-in-Run g c = record {
   gather_read = λ w is zero. absurd (run_no_gather _ _ w c.in-Run.is is);
   gather_written = λ w is zero. absurd (run_no_gather _ _ w c.in-Run.is is);
   gather_begun = λ w is one. absurd (run_no_gather _ _ w c.in-Run.is is);
-  told = λ zero. record { silent = λ quiet. (c.serve_run.ensures.told zero).silent (run_tells _ _ _ c.in-Run.is quiet); told = (c.serve_run.ensures.told zero).told };
+  told = λ zero. record { silent = λ quiet. (c.run_status.ensures.told zero).silent (run_tells _ _ _ c.in-Run.is quiet); told = (c.run_status.ensures.told zero).told };
 }
 
 pub returns-in-Replay : goal.returns-in-Replay
 returns-in-Replay g c = record {
-  status = c.serve_replay.ensures.status;
+  status = c.replay_status.ensures.status;
   run = λ w says zero. absurd (not_run _ _ w c.in-Replay.is says);
   few = λ w says counted. absurd (not_run _ _ w c.in-Replay.is says);
   kept = λ said is one. absurd (not_replay _ said _ is c.in-Replay.is);
-  replay = λ w is zero. subst (λ (v : ReplayWords). ServesReplay v (g.R.Read.remaining c.args.reader.now) g.W.Write.contents c.args.writer.now c.serve_replay.new.writer) (is_replay _ _ w c.in-Replay.is is) (c.serve_replay.ensures.done zero);
-  replay_few = λ w is. c.serve_replay.ensures.few;
-  begun = λ w is one. subst (λ (v : ReplayWords). BeginsToServe v (g.R.Read.remaining c.args.reader.now) g.W.Write.contents g.W.CountedWrite.failed_calls c.args.writer.now c.serve_replay.new.writer) (is_replay _ _ w c.in-Replay.is is) (c.serve_replay.ensures.begun one);
+  replay = λ w is zero. subst (λ (v : ReplayWords). ServesReplay v (g.R.Read.remaining c.args.reader.now) g.W.Write.contents c.args.writer.now c.replay_status.new.writer) (is_replay _ _ w c.in-Replay.is is) (c.replay_status.ensures.done zero);
+  replay_few = λ w is. c.replay_status.ensures.few;
+  begun = λ w is one. subst (λ (v : ReplayWords). BeginsToServe v (g.R.Read.remaining c.args.reader.now) g.W.Write.contents g.W.CountedWrite.failed_calls c.args.writer.now c.replay_status.new.writer) (is_replay _ _ w c.in-Replay.is is) (c.replay_status.ensures.begun one);
   node = λ w is zero. absurd (replay_no_node _ _ w c.in-Replay.is is);
   node_read = λ w is zero. absurd (replay_no_node _ _ w c.in-Replay.is is);
   node_written = λ w is zero. absurd (replay_no_node _ _ w c.in-Replay.is is);
@@ -49,31 +49,31 @@ returns-in-Replay g c = record {
   gather_read = λ w is zero. absurd (replay_no_gather _ _ w c.in-Replay.is is);
   gather_written = λ w is zero. absurd (replay_no_gather _ _ w c.in-Replay.is is);
   gather_begun = λ w is one. absurd (replay_no_gather _ _ w c.in-Replay.is is);
-  told = λ zero. record { silent = λ quiet. (c.serve_replay.ensures.told zero).silent (replay_tells _ _ _ c.in-Replay.is quiet); told = (c.serve_replay.ensures.told zero).told };
+  told = λ zero. record { silent = λ quiet. (c.replay_status.ensures.told zero).silent (replay_tells _ _ _ c.in-Replay.is quiet); told = (c.replay_status.ensures.told zero).told };
 }
 
 pub returns-in-Node : goal.returns-in-Node
 returns-in-Node g c = record {
-  status = c.serve_node.ensures.status;
+  status = c.node_status.ensures.status;
   run = λ w says zero. absurd (node_no_run _ _ w c.in-Node.is says);
   few = λ w says counted. absurd (node_no_run _ _ w c.in-Node.is says);
   kept = λ said is one. absurd (run_no_node _ said _ is c.in-Node.is);
   replay = λ w is zero. absurd (node_no_replay _ _ w c.in-Node.is is);
   replay_few = λ w is. absurd (node_no_replay _ _ w c.in-Node.is is);
   begun = λ w is one. absurd (node_no_replay _ _ w c.in-Node.is is);
-  node = λ w is zero. subst (λ (v : NodeWords). ServesNode (job_settings_of v.options) v.options.counted v.part (g.R.Read.remaining c.args.reader.now) (g.R.Read.remaining c.serve_node.new.reader) (g.W.Write.contents c.args.writer.now) (g.W.Write.contents c.serve_node.new.writer)) (same_node _ _ w c.in-Node.is is) (c.serve_node.ensures.done zero);
-  node_read = λ w is zero. c.serve_node.ensures.read zero;
-  node_written = λ w is zero. c.serve_node.ensures.written zero;
+  node = λ w is zero. subst (λ (v : NodeWords). ServesNode (job_settings_of v.options) v.options.counted v.part (g.R.Read.remaining c.args.reader.now) (g.R.Read.remaining c.node_status.new.reader) (g.W.Write.contents c.args.writer.now) (g.W.Write.contents c.node_status.new.writer)) (same_node _ _ w c.in-Node.is is) (c.node_status.ensures.done zero);
+  node_read = λ w is zero. c.node_status.ensures.read zero;
+  node_written = λ w is zero. c.node_status.ensures.written zero;
   gather = λ w is zero. absurd (node_no_gather _ _ w c.in-Node.is is);
   gather_read = λ w is zero. absurd (node_no_gather _ _ w c.in-Node.is is);
   gather_written = λ w is zero. absurd (node_no_gather _ _ w c.in-Node.is is);
   gather_begun = λ w is one. absurd (node_no_gather _ _ w c.in-Node.is is);
-  told = λ zero. record { silent = λ quiet. (c.serve_node.ensures.told zero).silent (node_tells _ _ _ c.in-Node.is quiet); told = (c.serve_node.ensures.told zero).told };
+  told = λ zero. record { silent = λ quiet. (c.node_status.ensures.told zero).silent (node_tells _ _ _ c.in-Node.is quiet); told = (c.node_status.ensures.told zero).told };
 }
 
 pub returns-in-Gather : goal.returns-in-Gather
 returns-in-Gather g c = record {
-  status = c.serve_gather.ensures.status;
+  status = c.gather_status.ensures.status;
   run = λ w says zero. absurd (gather_no_run _ _ w c.in-Gather.is says);
   few = λ w says counted. absurd (gather_no_run _ _ w c.in-Gather.is says);
   kept = λ said is one. absurd (run_no_gather _ said _ is c.in-Gather.is);
@@ -83,9 +83,9 @@ returns-in-Gather g c = record {
   node = λ w is zero. absurd (node_no_gather _ w _ is c.in-Gather.is);
   node_read = λ w is zero. absurd (node_no_gather _ w _ is c.in-Gather.is);
   node_written = λ w is zero. absurd (node_no_gather _ w _ is c.in-Gather.is);
-  gather = λ w is zero. subst (λ (v : GatherWords). GathersJob (job_settings_of v.options) v.options.counted (g.R.Read.remaining c.args.reader.now) (g.R.Read.remaining c.serve_gather.new.reader) (g.W.Write.contents c.args.writer.now) (g.W.Write.contents c.serve_gather.new.writer)) (same_gather _ _ w c.in-Gather.is is) (c.serve_gather.ensures.done zero);
-  gather_read = λ w is zero. c.serve_gather.ensures.read zero;
-  gather_written = λ w is zero. c.serve_gather.ensures.written zero;
-  gather_begun = λ w is one. subst (λ (v : GatherWords). WritesFrontOfJob (job_settings_of v.options) v.options.counted (g.R.Read.remaining c.args.reader.now) (g.R.Read.remaining c.serve_gather.new.reader) (g.W.Write.contents c.args.writer.now) (g.W.Write.contents c.serve_gather.new.writer)) (same_gather _ _ w c.in-Gather.is is) (c.serve_gather.ensures.begun one);
-  told = λ zero. record { silent = λ quiet. (c.serve_gather.ensures.told zero).silent (gather_tells _ _ _ c.in-Gather.is quiet); told = (c.serve_gather.ensures.told zero).told };
+  gather = λ w is zero. subst (λ (v : GatherWords). GathersJob (job_settings_of v.options) v.options.counted (g.R.Read.remaining c.args.reader.now) (g.R.Read.remaining c.gather_status.new.reader) (g.W.Write.contents c.args.writer.now) (g.W.Write.contents c.gather_status.new.writer)) (same_gather _ _ w c.in-Gather.is is) (c.gather_status.ensures.done zero);
+  gather_read = λ w is zero. c.gather_status.ensures.read zero;
+  gather_written = λ w is zero. c.gather_status.ensures.written zero;
+  gather_begun = λ w is one. subst (λ (v : GatherWords). WritesFrontOfJob (job_settings_of v.options) v.options.counted (g.R.Read.remaining c.args.reader.now) (g.R.Read.remaining c.gather_status.new.reader) (g.W.Write.contents c.args.writer.now) (g.W.Write.contents c.gather_status.new.writer)) (same_gather _ _ w c.in-Gather.is is) (c.gather_status.ensures.begun one);
+  told = λ zero. record { silent = λ quiet. (c.gather_status.ensures.told zero).silent (gather_tells _ _ _ c.in-Gather.is quiet); told = (c.gather_status.ensures.told zero).told };
 }

@@ -4,7 +4,7 @@ use Rattle.std.specs.Io.KnownBytes.{prepend_known}
 use Rattle.std.proofs.lemmas.Result.{err_from_is_err_and}
 use Rattle.edgelist.specs.Reading.{meaning_of}
 use Rattle.edgelist.specs.declared.read.TheConstants.{LIMITS}
-use Rattle.node.specs.declared.section.Step.TheVariants as step
+use Rattle.node.specs.declared.section.SectionStep.TheVariants as step
 use Rattle.node.proofs.JobLemmas.{gives_all, gives_end, gives_more, gives_start, refused_in, too_many}
 use Rattle.node.proofs.job.give_section.Goals as goal
 

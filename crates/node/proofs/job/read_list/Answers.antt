@@ -1,6 +1,6 @@
 use Rattle.std.proofs.Common.{◌≡◌, ◌∙◌, ℕ, List, arith, sym, subst, refl}
 use Rattle.std.specs.Io.KnownBytes.{prepend_known}
-use Rattle.node.specs.declared.section.Step.TheVariants as step
+use Rattle.node.specs.declared.section.SectionStep.TheVariants as step
 use Rattle.node.proofs.JobLemmas.{lacks_list_mark}
 use Rattle.node.proofs.SectionLemmas.{Passed, passed_end, passed_more, passed_start}
 use Rattle.node.proofs.job.read_list.Goals as goal

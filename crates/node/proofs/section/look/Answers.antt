@@ -2,7 +2,7 @@ use Rattle.std.proofs.Common.{◌≡◌, ◌∙◌, true, refl}
 use Rattle.std.specs.Io.KnownBytes.{prepend_known}
 use Rattle.std.proofs.KnownBytes.{Keeps-refl}
 use Rattle.node.specs.Section.{is_front}
-use Rattle.node.specs.declared.section.Next.TheVariants as next
+use Rattle.node.specs.declared.section.NextByte.TheVariants as next
 use Rattle.node.proofs.SectionLemmas.{front_past, pushed, pushed_past}
 use Rattle.node.proofs.section.look.Goals as goal
 

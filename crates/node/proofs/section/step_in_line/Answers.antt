@@ -1,7 +1,7 @@
 use Rattle.std.proofs.Common.{◌≡◌, ◌∙◌, true, ap, sym}
 use Rattle.node.proofs.SectionLemmas.{gives_ahead, gives_next}
 use Rattle.node.proofs.SessionLemmas.{no_bytes}
-use Rattle.node.specs.declared.section.Next.TheVariants as next
+use Rattle.node.specs.declared.section.NextByte.TheVariants as next
 use Rattle.node.proofs.section.step_in_line.Goals as goal
 
 pub returns-then-not-is_empty-clause-byte : goal.returns-then-not-is_empty-clause-byte

@@ -28,8 +28,8 @@ tell_all-requires g c =
 pub drop_old-requires : goal.drop_old-requires
 drop_old-requires g c = record { caller = caller_of _ _ c.tell_all.ensures.seen }
 
-pub gather-requires : goal.gather-requires
-gather-requires g c =
+pub hear_all-requires : goal.hear_all-requires
+hear_all-requires g c =
     let v : Caller = g.E.Exchange.caller c.args.exchange.now in
     let stands = subst (λ (r : State). StandsIn v c.args.node.part r) (sym c.keep_snapshot.ensures.same) c.requires.stands in
     let before = extends_trans v _ _ (extends_trans v _ _ c.keep_snapshot.ensures.seen c.tell_all.ensures.seen) c.drop_old.ensures.seen in
@@ -84,44 +84,44 @@ returns-in_err-drop_old g c =
       alone = λ _ none. rw (p.1, p.2) (err_not_as _ _ (c.in_err-drop_old.ensures.never none));
     }
 
-pub returns-in_err-gather : goal.returns-in_err-gather
-returns-in_err-gather g c =
-    let p = err_from_is_err_and c.from_residual-in_err-gather.result c.from_residual-in_err-gather.ensures.1 in
+pub returns-in_err-hear_all : goal.returns-in_err-hear_all
+returns-in_err-hear_all g c =
+    let p = err_from_is_err_and c.from_residual-in_err-hear_all.result c.from_residual-in_err-hear_all.ensures.1 in
     let h = holding_in c.keep_snapshot.new.replica in
     let told = come_then _ _ _ _ _ _ _ c.keep_snapshot.ensures.seen c.in_ok-keep_snapshot.ensures.came c.in_ok-tell_all.ensures.came in
     let seen = extends_trans _ _ _ c.keep_snapshot.ensures.seen c.tell_all.ensures.seen in
     let dropped = come_then _ _ _ _ _ _ _ seen told (c.drop_old.ensures.came c.args.node.part h) in
     let now = extends_trans _ _ _ seen c.drop_old.ensures.seen in
     record {
-      seen = extends_trans _ _ _ now c.gather.ensures.seen;
+      seen = extends_trans _ _ _ now c.hear_all.ensures.seen;
       stands = rw (p.1) tt;
       end = rw (p.1) tt;
       over = rw (p.1) tt;
       came = rw (p.1) tt;
-      gone = on_err c.from_residual-in_err-gather.result (gone_then _ _ _ _ _ _ now dropped c.in_err-gather.ensures.gone);
-      full = rw (p.1, p.2) c.in_err-gather.ensures.full;
-      alone = λ one _. rw (p.1, p.2) (err_not_as _ _ (c.in_err-gather.ensures.alone (ap (λ (j : Job). j.plan.parts) now.begins.job ∙ one)));
+      gone = on_err c.from_residual-in_err-hear_all.result (gone_then _ _ _ _ _ _ now dropped c.in_err-hear_all.ensures.gone);
+      full = rw (p.1, p.2) c.in_err-hear_all.ensures.full;
+      alone = λ one _. rw (p.1, p.2) (err_not_as _ _ (c.in_err-hear_all.ensures.alone (ap (λ (j : Job). j.plan.parts) now.begins.job ∙ one)));
     }
 
 pub returns-in-Level : goal.returns-in-Level
 returns-in-Level g c =
     let caller = g.E.Exchange.caller in
     let v : Caller = caller c.args.exchange.now in
-    let w : Caller = caller c.gather.new.exchange in
+    let w : Caller = caller c.hear_all.new.exchange in
     let p : ℕ = c.args.node.part in
-    let r : State = c.gather.new.replica in
+    let r : State = c.hear_all.new.replica in
     let s : ℕ = c.keep_snapshot.new.replica.superstep in
     let h = holding_in c.keep_snapshot.new.replica in
     let told_all : HasToldAll v s p w =
-    told_between v _ _ _ w s p c.keep_snapshot.ensures.seen c.in_ok-tell_all.ensures.told c.drop_old.ensures.seen c.gather.ensures.seen in
-    let found = subst (λ (f : Found). IsFound (caller c.drop_old.new.exchange) p s r f w) c.in-Level.is c.in_ok-gather.ensures.found in
+    told_between v _ _ _ w s p c.keep_snapshot.ensures.seen c.in_ok-tell_all.ensures.told c.drop_old.ensures.seen c.hear_all.ensures.seen in
+    let found = subst (λ (f : Found). IsFound (caller c.drop_old.new.exchange) p s r f w) c.in-Level.is c.in_ok-hear_all.ensures.found in
     let told = come_then _ _ _ _ _ _ _ c.keep_snapshot.ensures.seen c.in_ok-keep_snapshot.ensures.came c.in_ok-tell_all.ensures.came in
     let seen = extends_trans _ _ _ c.keep_snapshot.ensures.seen c.tell_all.ensures.seen in
     let dropped = come_then _ _ _ _ _ _ _ seen told (c.drop_old.ensures.came p h) in
     let now = extends_trans _ _ _ seen c.drop_old.ensures.seen in
-    let level = come_then _ _ _ _ _ _ _ now dropped c.in_ok-gather.ensures.came in
-    let all = extends_trans v _ w now c.gather.ensures.seen in
-    let stands = stands_back v _ p r now c.in_ok-gather.ensures.stands in
+    let level = come_then _ _ _ _ _ _ _ now dropped c.in_ok-hear_all.ensures.came in
+    let all = extends_trans v _ w now c.hear_all.ensures.seen in
+    let stands = stands_back v _ p r now c.in_ok-hear_all.ensures.stands in
     record {
       seen = all;
       stands = c.close.ensures.stands v.seen.job p r.superstep stands;
@@ -143,11 +143,11 @@ returns-in-Further g c =
     let dropped = come_then _ _ _ _ _ _ _ seen told (c.drop_old.ensures.came p h) in
     let now = extends_trans v _ _ seen c.drop_old.ensures.seen in
     record {
-      seen = extends_trans _ _ _ now c.gather.ensures.seen;
-      stands = stands_back v _ p c.gather.new.replica now c.in_ok-gather.ensures.stands;
+      seen = extends_trans _ _ _ now c.hear_all.ensures.seen;
+      stands = stands_back v _ p c.hear_all.new.replica now c.in_ok-hear_all.ensures.stands;
       end = tt;
       over = λ over. absurd (cc);
-      came = come_then _ _ _ _ _ _ _ now dropped c.in_ok-gather.ensures.came;
+      came = come_then _ _ _ _ _ _ _ now dropped c.in_ok-hear_all.ensures.came;
       gone = tt;
       full = tt;
       alone = λ _ _. ok_is_no_err _ _;
@@ -157,25 +157,25 @@ pub returns-in-Missed : goal.returns-in-Missed
 returns-in-Missed g c =
     let caller = g.E.Exchange.caller in
     let v : Caller = caller c.args.exchange.now in
-    let w : Caller = caller c.gather.new.exchange in
+    let w : Caller = caller c.hear_all.new.exchange in
     let p : ℕ = c.args.node.part in
     let q : ℕ = c.in-Missed.source in
-    let r : State = c.gather.new.replica in
+    let r : State = c.hear_all.new.replica in
     let s : ℕ = c.keep_snapshot.new.replica.superstep in
     let h = holding_in c.keep_snapshot.new.replica in
     let told_all : HasToldAll v s p w =
-    told_between v _ _ _ w s p c.keep_snapshot.ensures.seen c.in_ok-tell_all.ensures.told c.drop_old.ensures.seen c.gather.ensures.seen in
-    let found = subst (λ (f : Found). IsFound (caller c.drop_old.new.exchange) p s r f w) c.in-Missed.is c.in_ok-gather.ensures.found in
+    told_between v _ _ _ w s p c.keep_snapshot.ensures.seen c.in_ok-tell_all.ensures.told c.drop_old.ensures.seen c.hear_all.ensures.seen in
+    let found = subst (λ (f : Found). IsFound (caller c.drop_old.new.exchange) p s r f w) c.in-Missed.is c.in_ok-hear_all.ensures.found in
     let told = come_then _ _ _ _ _ _ _ c.keep_snapshot.ensures.seen c.in_ok-keep_snapshot.ensures.came c.in_ok-tell_all.ensures.came in
     let seen = extends_trans _ _ _ c.keep_snapshot.ensures.seen c.tell_all.ensures.seen in
     let dropped = come_then _ _ _ _ _ _ _ seen told (c.drop_old.ensures.came p h) in
     let now = extends_trans v _ _ seen c.drop_old.ensures.seen in
     record {
-      seen = extends_trans _ _ _ now c.gather.ensures.seen;
-      stands = stands_back v _ p r now c.in_ok-gather.ensures.stands;
+      seen = extends_trans _ _ _ now c.hear_all.ensures.seen;
+      stands = stands_back v _ p r now c.in_ok-hear_all.ensures.stands;
       end = subst (λ (n : ℕ). HasStarved v n q p w) (sym found.1) (told_all, waiting_before v _ w s q p now found.0);
       over = λ over. absurd (cc);
-      came = come_then _ _ _ _ _ _ _ now dropped c.in_ok-gather.ensures.came;
+      came = come_then _ _ _ _ _ _ _ now dropped c.in_ok-hear_all.ensures.came;
       gone = tt;
       full = tt;
       alone = λ _ _. ok_is_no_err _ _;

@@ -1,5 +1,5 @@
 use Rattle.hyperball.proofs.ReplayLemmas.{stops}
-use Rattle.hyperball.proofs.serve.serve_replay.Goals as goal
+use Rattle.hyperball.proofs.serve.replay_status.Goals as goal
 
 pub returns-in-Err-clause-begun : goal.returns-in-Err-clause-begun
 returns-in-Err-clause-begun g c = λ one. stops (g.R.Read.remaining c.args.reader.now) c.args.words.now (g.W.Write.contents c.args.writer.now) (g.W.Write.contents c.replay_by-answer.new.writer)

@@ -3,7 +3,7 @@ use Rattle.ball_model.specs.Caller.{Extends}
 use Rattle.ball_model.specs.History.{holding_in}
 use Rattle.workers.specs.Tie.{HasCome}
 use Rattle.workers.specs.Superstep.{StandsIn}
-use Rattle.workers.proofs.superstep.gather.Given as goal
+use Rattle.workers.proofs.superstep.hear_all.Given as goal
 
 abbrev pub invariant-loop : goal.invariant-loop
 invariant-loop g l =

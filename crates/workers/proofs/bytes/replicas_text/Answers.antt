@@ -3,7 +3,7 @@ use Rattle.ball_model.specs.Job.{Job, job_of}
 use Rattle.ball_model.specs.PlanValue.{mixing_of}
 use Rattle.ball_model.specs.Report.{report_of}
 use Rattle.workers.proofs.ReadyLemmas.{all_planned, all_stand, ready}
-use Rattle.workers.proofs.bytes.text_of.Goals as goal
+use Rattle.workers.proofs.bytes.replicas_text.Goals as goal
 
 pub write_report-requires-clause-ready : goal.write_report-requires-clause-ready
 write_report-requires-clause-ready g c κs within =

@@ -8,7 +8,7 @@ use Rattle.ball_model.proofs.CheckLemmas.{on_err}
 use Rattle.workers.proofs.PathLemmas.{come_nowhere, come_past, come_then, gone_then, ok_is_no_err}
 use Rattle.workers.proofs.SeenLemmas.{caller_of, extends_self, extends_trans, missing_before, missing_later}
 use Rattle.workers.proofs.SuperstepLemmas.{missing_source, no_other, stands_back, stands_later}
-use Rattle.workers.proofs.superstep.gather.Goals as goal
+use Rattle.workers.proofs.superstep.hear_all.Goals as goal
 
 pub returns-in_err-find-clause-alone : goal.returns-in_err-find-clause-alone
 returns-in_err-find-clause-alone g c = λ one _.
