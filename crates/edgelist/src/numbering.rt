@@ -143,12 +143,32 @@ impl LabelGuess {
     }
 }
 
-// Where the group of a word begins among 2^k entries: any place will do, and this one spreads them.
-fn group(word: LabelWord, count: usize) -> usize {
+// The number that at most eight decimal digits say, whose bytes are those of `text`. Each two digits become one number,
+// then each four, and then all.
+fn decimal(text: u64) -> u64 {
+    let tens = (text >> 8) & 0x000f_000f_000f_000f;
+    let twos = tens * 10 + (text & 0x000f_000f_000f_000f);
+    let hundreds = (twos >> 16) & 0x0000_00ff_0000_00ff;
+    let fours = hundreds * 100 + (twos & 0x0000_00ff_0000_00ff);
+    (fours >> 32) * 10_000 + (fours & 0xffff_ffff)
+}
+
+// A number by which a word's group is chosen: any will do. For labels that are numbers of at most 8 digits it is that
+// number, so that numbers near one another stand near one another, as edges often lead to labels near by. The others
+// are spread.
+fn spot(word: LabelWord) -> u64 {
+    if word.high < 0x100 && word.low & 0x4040_4040_4040_4040 == 0 {
+        return decimal(word.low);
+    }
     let mixed = (word.low ^ u64::from(word.high).wrapping_mul(0xd6e8_feb8_6659_fd93)).wrapping_mul(
         0x9e37_79b9_7f4a_7c15,
     );
-    ((mixed >> 32) as usize & count.wrapping_sub(1)) / GROUP * GROUP
+    mixed >> 32
+}
+
+// Where the group of a word begins among 2^k entries.
+fn group(word: LabelWord, count: usize) -> usize {
+    (spot(word) as usize & count.wrapping_sub(1)) / GROUP * GROUP
 }
 
 // The number of the short label with this word, where an entry of its group is that label's.
