@@ -78,14 +78,25 @@ impl Model for Numbering {
     ghost invariant = { λ n. AreGuesses (texts n.labels) n.entries.items };
 }
 
-// Eight bytes as the digits of one number.
-fn eight(part: &[u8]) -> u64
-    requires { length part.now ≡ 8 }
+// Four bytes as the digits of one number.
+fn four(part: &[u8]) -> u64
+    requires { length part.now ≡ 4 }
     ensures { result ≡ bytes_after 0 part.now }
 {
-    u64::from_be_bytes([
-        part[0], part[1], part[2], part[3], part[4], part[5], part[6], part[7],
-    ])
+    u64::from(u32::from_be_bytes([part[0], part[1], part[2], part[3]]))
+}
+
+// Four to eight bytes as the digits of one number: the first four and the last four. Bytes that are among both have the
+// same place by either.
+fn four_and_more(part: &[u8]) -> u64
+    requires least { 4 ≤ length part.now }
+    requires most { length part.now ≤ FIRST }
+    ensures { result ≡ bytes_after 0 part.now }
+{
+    let more = part.len() - 4;
+    let first = four(&part[..4]);
+    let last = four(&part[more..]);
+    first << (8 * more) | last
 }
 
 // Some bytes of a label as the digits of one number.
@@ -94,8 +105,8 @@ fn digits(part: &[u8]) -> u64
     ensures value { result ≡ bytes_after 0 part.now }
     ensures few { length part.now ≤ 3 → result < 2 ^ 24 }
 {
-    if part.len() == FIRST {
-        return eight(part);
+    if part.len() >= 4 {
+        return four_and_more(part);
     }
     let mut digits = 0u64;
     for byte in part {
