@@ -113,6 +113,20 @@ unfolding field_at
 source-word fs s None w is has = subst (λ (r : List (List ℕ)). HasWord r 0 w) is has
 source-word fs s (Some t) w is has = subst (λ (r : List (List ℕ)). HasWord r 0 w) is has
 
+-- and the other way round
+pub has-source : (fs : List (List ℕ)) (s : List ℕ) (t : Option (List ℕ)) (w : LabelWord) → fs ≡ fields_with s t → IsWord s w → HasWord fs 0 w
+unfolding field_at
+has-source fs s None w is word = subst (λ (r : List (List ℕ)). HasWord r 0 w) (sym is) word
+has-source fs s (Some t) w is word = subst (λ (r : List (List ℕ)). HasWord r 0 w) (sym is) word
+
+pub has-no-target : (fs : List (List ℕ)) (s : List ℕ) (w : LabelWord) → fs ≡ s ∷ [] → HasWord fs 1 w
+unfolding field_at
+has-no-target fs s w is = subst (λ (r : List (List ℕ)). HasWord r 1 w) (sym is) tt
+
+pub has-target : (fs : List (List ℕ)) (s t : List ℕ) (w : LabelWord) → fs ≡ s ∷ t ∷ [] → IsWord t w → HasWord fs 1 w
+unfolding field_at
+has-target fs s t w is word = subst (λ (r : List (List ℕ)). HasWord r 1 w) (sym is) word
+
 pub target-word : (fs : List (List ℕ)) (s t : List ℕ) (w : LabelWord) → fs ≡ s ∷ t ∷ [] → HasWord fs 1 w → IsWord t w
 unfolding field_at
 target-word fs s t w is has = subst (λ (r : List (List ℕ)). HasWord r 1 w) is has

@@ -130,29 +130,6 @@ impl Drop for Reading {
     }
 }
 
-// The first field of a record and its second, where it has one or two and none is empty.
-fn fields_in<'a>(row: &'a Row) -> Option<(&'a [u8], Option<&'a [u8]>)>
-    ensures fields { IfSome result (λ r. row.now ≡ fields_with r.0.now (option_copied r.1)) }
-    ensures form { OnSome result (has_form row.now ≡ true) }
-    ensures none { IfNone result (has_form row.now ≡ false) }
-{
-    let fields = row.fields();
-    let Some(source) = fields.get(0) else {
-        return None;
-    };
-    if source.is_empty() || fields.len() > 2 {
-        return None;
-    }
-    match fields.get(1) {
-        None => Some((source, None)),
-        Some(target) => if target.is_empty() {
-            None
-        } else {
-            Some((source, Some(target)))
-        },
-    }
-}
-
 // Reads one record more, and tells whether there was one.
 fn next_row<R: Read + Drop>(reader: &mut Reader<R>, row: &mut Row) -> Result<bool, EdgeError>
     ensures one { IfOk result (λ more. more ≡ true →
@@ -186,9 +163,9 @@ fn read_rows<R: Read + Drop>(
         if !more {
             return Ok((i, false));
         }
-        let Some(_fields) = fields_in(&rows[i]) else {
+        if !rows[i].has_form() {
             return Ok((i, true));
-        };
+        }
     }
     let more = next_row(reader, &mut rows[most])?;
     Ok((most, more))
@@ -315,7 +292,7 @@ impl Reading {
         if number >= limits.edges {
             return Err(EdgeError::TooManyEdges);
         }
-        let Some((source, target)) = fields_in(row) else {
+        let Some((source, target)) = row.labels() else {
             return Err(EdgeError::Fields { number: number + 1 });
         };
         match target {

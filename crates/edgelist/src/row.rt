@@ -1,8 +1,11 @@
 //! Records that are read, each with the words of its labels.
 
-ghost use Rattle.std.specs.Prelude.{◌≡◌, [], IfOk, length, true, false};
+ghost use Rattle.std.specs.Prelude.{◌≡◌, [], IfOk, IfNone, IfSome, OnSome, length, option_copied};
+ghost use Rattle.std.specs.Prelude.{true, false};
 ghost use Rattle.csv.specs.Records.{fields_of};
+ghost use Rattle.ball_model.specs.Input.{has_form};
 ghost use Rattle.edgelist.specs.Guessing.{HasWord};
+ghost use Rattle.edgelist.specs.Reading.{fields_with};
 ghost use Rattle.edgelist.specs.Records.{ReadsNone, ReadsOne};
 
 use crate::numbering::LabelWord;
@@ -15,17 +18,20 @@ use std::marker::Model;
 /// So many records are read before the first of them is added, at most.
 pub(crate) const AT_ONCE: usize = 16;
 
-/// A record, and the words of its first two fields. A field that is long or not there has that of no label.
+/// A record, the words of its first two fields, and whether it has the form of one. A field that is long or not there has
+/// the word of no label.
 #[derive(Drop)]
 pub(crate) struct Row {
     fields: ByteRecord,
     source: LabelWord,
     target: LabelWord,
+    formed: bool,
 }
 
 impl Model for Row {
-    ghost use Rattle.std.specs.Prelude.{List, ℕ};
+    ghost use Rattle.std.specs.Prelude.{◌≡◌, List, ℕ};
     ghost use Rattle.csv.specs.Records.{fields_of};
+    ghost use Rattle.ball_model.specs.Input.{has_form};
     ghost use Rattle.edgelist.specs.Guessing.{HasWord};
 
     ghost Value = { List (List ℕ) };
@@ -33,7 +39,31 @@ impl Model for Row {
     ghost view = { λ row. fields_of row.fields };
 
     ghost invariant = { λ row.
-        HasWord (fields_of row.fields) 0 row.source × HasWord (fields_of row.fields) 1 row.target };
+        HasWord (fields_of row.fields) 0 row.source × HasWord (fields_of row.fields) 1 row.target
+        × row.formed ≡ has_form (fields_of row.fields) };
+}
+
+// The first field of a record and its second, where it has one or two and none is empty.
+fn fields_in<'a>(row: &'a ByteRecord) -> Option<(&'a [u8], Option<&'a [u8]>)>
+    ensures fields { IfSome result (λ r.
+        fields_of row.now ≡ fields_with r.0.now (option_copied r.1)) }
+    ensures form { OnSome result (has_form (fields_of row.now) ≡ true) }
+    ensures none { IfNone result (has_form (fields_of row.now) ≡ false) }
+{
+    let Some(source) = row.get(0) else {
+        return None;
+    };
+    if source.is_empty() || row.len() > 2 {
+        return None;
+    }
+    match row.get(1) {
+        None => Some((source, None)),
+        Some(target) => if target.is_empty() {
+            None
+        } else {
+            Some((source, Some(target)))
+        },
+    }
 }
 
 // The word of a field.
@@ -46,6 +76,21 @@ fn word_at(row: &ByteRecord, i: usize) -> LabelWord
     }
 }
 
+// The words of a record's first two fields, and whether it has the form of one.
+fn words_in(row: &ByteRecord) -> (LabelWord, LabelWord, bool)
+    ensures source { HasWord (fields_of row.now) 0 result.0 }
+    ensures target { HasWord (fields_of row.now) 1 result.1 }
+    ensures form { result.2 ≡ has_form (fields_of row.now) }
+{
+    let Some((source, target)) = fields_in(row) else {
+        return (word_at(row, 0), word_at(row, 1), false);
+    };
+    match target {
+        None => (LabelWord::of(source), LabelWord::none(), true),
+        Some(target) => (LabelWord::of(source), LabelWord::of(target), true),
+    }
+}
+
 impl Row {
     /// A record of no fields.
     pub(crate) fn new(alloc: Global) -> Row
@@ -55,6 +100,7 @@ impl Row {
             fields: ByteRecord::new(alloc),
             source: LabelWord::none(),
             target: LabelWord::none(),
+            formed: false,
         }
     }
 
@@ -69,16 +115,27 @@ impl Row {
             ReadsNone R.remaining reader.old reader.new) }
     {
         let read = next_record(reader, &mut self.fields);
-        self.source = word_at(&self.fields, 0);
-        self.target = word_at(&self.fields, 1);
+        let (source, target, formed) = words_in(&self.fields);
+        self.source = source;
+        self.target = target;
+        self.formed = formed;
         read
     }
 
-    /// The fields alone.
-    pub(crate) fn fields(&self) -> &ByteRecord
-        ensures { fields_of result.now ≡ self.now }
+    /// The first field and the second, where it has the form of a record.
+    pub(crate) fn labels<'a>(&'a self) -> Option<(&'a [u8], Option<&'a [u8]>)>
+        ensures fields { IfSome result (λ r. self.now ≡ fields_with r.0.now (option_copied r.1)) }
+        ensures form { OnSome result (has_form self.now ≡ true) }
+        ensures none { IfNone result (has_form self.now ≡ false) }
     {
-        &self.fields
+        fields_in(&self.fields)
+    }
+
+    /// Whether it has the form of a record: one or two fields, of which none is empty.
+    pub(crate) fn has_form(&self) -> bool
+        ensures { result ≡ has_form self.now }
+    {
+        self.formed
     }
 
     /// The word of its first field.

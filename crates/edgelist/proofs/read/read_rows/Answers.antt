@@ -1,4 +1,4 @@
-use Rattle.std.proofs.Common.{◌≡◌, ◌<◌, List, ℕ, arith, false, true, length, take, sym, subst}
+use Rattle.std.proofs.Common.{◌≡◌, ◌∙◌, ◌<◌, List, ℕ, arith, false, true, length, take, sym, subst}
 use Rattle.std.specs.List.{All}
 use Rattle.std.proofs.lemmas.List.{get_or-set_same, take-set}
 use Rattle.edgelist.specs.Records.{HasForm, ReadsRecords}
@@ -10,8 +10,8 @@ returns-then-not-more-clause-end g c = λ _.
     let none : c.in_ok-more.more ≡ false = search c.if-not-more.true in
     none-after g.R.Read.remaining c.args.reader.now c.loop-i.reader c.next_row.new.reader c.loop-i.rows c.loop-i.i c.next_row.new.row c.loop-i.invariant.reads (c.in_ok-more.ensures.end none)
 
-pub returns-in_default-clause-one : goal.returns-in_default-clause-one
-returns-in_default-clause-one g c = λ _.
+pub returns-then-not-has_form-clause-one : goal.returns-then-not-has_form-clause-one
+returns-then-not-has_form-clause-one g c = λ _.
     let more : c.in_ok-more.more ≡ true = search c.if-not-more.false in
     let lt : c.loop-i.i < length c.loop-i.rows = omega (arith, c.loop-i-test.true, c.requires, c.loop-i.auto.rows) in
     one-after g.R.Read.remaining c.args.reader.now c.loop-i.reader c.next_row.new.reader c.loop-i.rows c.loop-i.i c.next_row.new.row lt c.loop-i.invariant.reads (c.in_ok-more.ensures.one more)
@@ -21,7 +21,7 @@ loop-i-preserved g c =
     let more : c.in_ok-more.more ≡ true = search c.if-not-more.false in
     let lt : c.loop-i.i < length c.loop-i.rows = omega (arith, c.loop-i-test.true, c.requires, c.loop-i.auto.rows) in
     let formed : HasForm c.next_row.new.row =
-    subst (λ (r : List (List ℕ)). HasForm r) (get_or-set_same c.loop-i.rows c.loop-i.i c.next_row.new.row c.index-rows-i-in-loop-i.result lt) c.in-Some.ensures.form in
+    subst (λ (r : List (List ℕ)). HasForm r) (get_or-set_same c.loop-i.rows c.loop-i.i c.next_row.new.row c.index-rows-i-in-loop-i.result lt) (sym c.has_form.ensures ∙ search c.if-not-has_form.false) in
     record {
       reads = all-more g.R.Read.remaining c.args.reader.now c.loop-i.reader c.next_row.new.reader c.loop-i.rows c.loop-i.i c.next_row.new.row lt c.loop-i.invariant.reads (c.in_ok-more.ensures.one more);
       form = form-more c.loop-i.rows c.loop-i.i c.next_row.new.row lt c.loop-i.invariant.form formed;
