@@ -164,12 +164,13 @@ fn decimal(text: u64) -> u64 {
     (fours >> 32) * 10_000 + (fours & 0xffff_ffff)
 }
 
-// A number by which a word's group is chosen: any will do. For labels that are numbers of at most 8 digits it is that
-// number, so that numbers near one another stand near one another, as edges often lead to labels near by. The others
-// are spread.
+// A number by which a word's group is chosen: any will do. Labels that are numbers of at most 8 digits stand near one
+// another where these do, as edges often lead to labels near by; multiples of a power of 2 do not all stand in one
+// group. The others are spread.
 fn spot(word: LabelWord) -> u64 {
     if word.high < 0x100 && word.low & 0x4040_4040_4040_4040 == 0 {
-        return decimal(word.low);
+        let number = decimal(word.low);
+        return number.wrapping_add(number >> 12);
     }
     let mixed = (word.low ^ u64::from(word.high).wrapping_mul(0xd6e8_feb8_6659_fd93)).wrapping_mul(
         0x9e37_79b9_7f4a_7c15,
