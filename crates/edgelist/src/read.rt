@@ -1,8 +1,8 @@
 //! Reading edge lists.
 
 ghost use Rattle.std.specs.Prelude.{◌≡◌, ◌≢◌, ◌≤◌, ◌<◌, ◌+◌, ℕ, List, Result, true};
-ghost use Rattle.std.specs.Prelude.{false, Ok, Err, IfSome, IfNone, OnSome, IfOk, IfErr};
-ghost use Rattle.std.specs.Prelude.{OnOk, OnErr, length, option_copied, slice_index_or, [], ◌∷◌};
+ghost use Rattle.std.specs.Prelude.{false, Ok, Err, IfOk, IfErr};
+ghost use Rattle.std.specs.Prelude.{OnOk, OnErr, length, slice_index_or, [], ◌∷◌};
 ghost use Rattle.std.specs.Prelude.{◌++◌, ◌*◌, take};
 ghost use Rattle.std.specs.List.{All};
 ghost use Rattle.std.specs.Io.KnownBytes.{ReadConsumes};
@@ -18,7 +18,7 @@ ghost use Rattle.edgelist.specs.Pieces.{AddsRecords, IsPartRead, IsThrough, Read
 ghost use Rattle.edgelist.specs.Records.{ForPlain, FromStart, HasForm, ReadsNone, ReadsNoneAfter};
 ghost use Rattle.edgelist.specs.Records.{ReadsOne, ReadsOneAfter};
 ghost use Rattle.edgelist.specs.Reading.{byte_of, limits_of, meaning_of, meaning_within, CountsOne};
-ghost use Rattle.edgelist.specs.Reading.{IsReadBy, Refuses, edge_error, fields_with, has_label};
+ghost use Rattle.edgelist.specs.Reading.{IsReadBy, Refuses, edge_error, has_label};
 ghost use Rattle.edgelist.specs.Reading.{with_label, network_by};
 ghost use Rattle.edgelist.specs.Reading.{AreWithin, AddsEdge, Exceeds, AddsRecord, Stops};
 ghost use Rattle.edgelist.specs.Reading.{EndsAtEnd, EndsAtFault};
