@@ -7,7 +7,7 @@ use Rattle.std.specs.contracts.sync.Arc as arc
 use Rattle.registers.proofs.Crossing.{rows_send, rows_sync}
 use Rattle.batches.proofs.Crossing.{batch_send, batch_sync}
 use Rattle.edgelist.proofs.Crossing.{part_send, part_sync}
-use Rattle.figures.proofs.Crossing.{estimator_sync, tally_send, tally_sync}
+use Rattle.figures.proofs.Crossing.{estimator_send, estimator_sync, tally_send, tally_sync}
 use Rattle.replica.specs.contracts.Progress as progress
 use Rattle.replica.specs.contracts.Replica as replica
 use Rattle.replica.specs.contracts.Snapshot as snapshot
@@ -37,6 +37,9 @@ snapshot_send = search (progress_send, sendable, crosses) depth 30 fits 20000
 
 pub snapshot_sync : IsSync snapshot.the_row
 snapshot_sync = search (progress_sync, sendable, crosses) depth 30 fits 20000
+
+pub replica_send : IsSend replica.the_row
+replica_send = search (progress_send, estimator_send, sendable, crosses) depth 30 fits 20000
 
 pub replica_sync : IsSync replica.the_row
 replica_sync = search (progress_sync, estimator_sync, sendable, crosses) depth 30 fits 20000

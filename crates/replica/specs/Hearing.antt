@@ -15,20 +15,20 @@ use Rattle.replica.specs.Kept.{AllRise, AreCounters, AreOfPlan}
 use Rattle.replica.specs.Spread.{AreTouched, LeadInside}
 
 -- which sources are heard, whether one of them tells of a changed vertex, and what is accumulated for each vertex
-pub record Hearing : Type 0 where
+pub record HeardState : Type 0 where
   pub heard : List Bool
   pub change : Bool
   pub accumulated : List (List ℕ)
 
-abbrev pub hearing_of : List Bool → Bool → List (List ℕ) → Hearing
+abbrev pub hearing_of : List Bool → Bool → List (List ℕ) → HeardState
 hearing_of heard change rows = record { heard = heard; change = change; accumulated = rows }
 
 -- that of a replica
-abbrev pub hearing_in : State → Hearing
+abbrev pub hearing_in : State → HeardState
 hearing_in v = hearing_of v.heard v.heard_change v.accumulated
 
 -- it is what the definitions say of superstep t
-pub record IsTrueHearing (j : Job) (p t : ℕ) (a : Hearing) : Type 0 where
+pub record IsTrueHearing (j : Job) (p t : ℕ) (a : HeardState) : Type 0 where
   pub change : a.change ≡ heard_changes j t a.heard
   pub accumulated : a.accumulated ≡ accumulated_of j p t (λ z. is_heard j.plan.parts a.heard z)
 
@@ -38,7 +38,7 @@ batch_by source told q = if q == source then told else None
 
 -- what the sources tell is heard too
 pub record Hears (log2m : ℕ) (targets : List (List ℕ)) (told : ℕ → Option BatchValue)
-    (a b : Hearing) : Type 0 where
+    (a b : HeardState) : Type 0 where
   pub count : length b.heard ≡ length a.heard
   pub sources : (q : ℕ) →
       slice_index_or b.heard q false ≡ (slice_index_or a.heard q false || is_some (told q))
@@ -59,7 +59,7 @@ pub record HearingValue : Type 0 where
   pub touched : List Bool
 
 -- what was heard, where an accumulator is kept of each row
-abbrev pub hearing_kept : HearingValue → Hearing
+abbrev pub hearing_kept : HearingValue → HeardState
 hearing_kept a = hearing_of a.heard a.change a.accumulated.rows
 
 -- the accumulators: where none are kept beside the rows, they are the rows

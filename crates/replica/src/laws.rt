@@ -34,7 +34,7 @@ pub fn window()
 /// They are equal in all that they have: rows, figures, sums, and the batches that they hold. What a replica tells is
 /// a function of that alone, so each reader answers the same for both. The same calls on both have the same answers,
 /// and leave both with the same content, so equal again.
-#[tactic(auto, using(crate::proofs::RunsLemmas::Same::same_replica, crate::proofs::RunsLemmas::Same::same_calls))]
+#[tactic(auto, using(crate::proofs::RunsLemmas::Same::content_decides))]
 pub fn same_content()
     ensures same { SameContentIsSame }
     ensures later { SameCallsAlike }

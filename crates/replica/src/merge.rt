@@ -39,7 +39,7 @@ impl Progress {
         if self.superstep < theirs {
             self.overtake(targets, other, shared);
         } else if theirs < self.superstep {
-            self.gather(targets, other, shared);
+            self.take_lesser(targets, other, shared);
         } else {
             self.unite(alloc, other, shared);
         }
@@ -63,7 +63,7 @@ impl Progress {
     }
 
     // Of the batches of another one that is behind, those of the own superstep are heard, and later ones kept.
-    fn gather(&mut self, targets: &Targets, other: &Progress, shared: &mut Early)
+    fn take_lesser(&mut self, targets: &Targets, other: &Progress, shared: &mut Early)
         requires further { other.now.state.superstep < self.old.state.superstep }
         requires can { CanTakeOver self.old other.now shared.old targets.now }
         ensures { TakesOver self.old other.now self.new }

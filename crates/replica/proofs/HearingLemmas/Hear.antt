@@ -6,7 +6,7 @@ use Rattle.ball_model.specs.Accumulated.{accumulated_of}
 use Rattle.ball_model.proofs.AccumulatedPartLemmas.{accumulated_of-alike, accumulated_of-none}
 use Rattle.ball_model.proofs.AccumulatedLemmas.{or_split}
 use Rattle.ball_model.proofs.QuietLemmas.{none_of}
-use Rattle.replica.specs.Hearing.{Hearing, IsTrueHearing, Hears, batch_by}
+use Rattle.replica.specs.Hearing.{HeardState, IsTrueHearing, Hears, batch_by}
 use Rattle.replica.specs.Index.{targets_of}
 use Rattle.replica.specs.Kept.{AreCounters, AllRise}
 
@@ -67,7 +67,7 @@ unfolding true_batch
 true_job j t q p = refl
 
 -- one batch
-pub hears_one : (log2m : ℕ) (targets : List (List ℕ)) (b : BatchValue) (a c : Hearing) → IsBatch b → b.name.source < length a.heard →
+pub hears_one : (log2m : ℕ) (targets : List (List ℕ)) (b : BatchValue) (a c : HeardState) → IsBatch b → b.name.source < length a.heard →
     c.heard ≡ set a.heard b.name.source true → c.change ≡ (a.change || not (b.changed == 0)) → AllRise log2m a.accumulated c.accumulated →
     ((j : Job) (p t q : ℕ) (heard : ℕ → Bool) → IsJob j → targets ≡ targets_of (part_of j p) → b ≡ true_batch j (record { superstep = t; source = q; target = p }) →
     a.accumulated ≡ accumulated_of j p t heard → c.accumulated ≡ accumulated_of j p t (λ w. heard w || (w % j.plan.parts == q))) →
@@ -100,11 +100,11 @@ pub if_some_as : (P : BatchValue → Type 0) (a b : Option BatchValue) → a ≡
 if_some_as P a b e h = rw e h
 
 -- the same that is told
-pub hears_same : (log2m : ℕ) (targets : List (List ℕ)) (told other : ℕ → Option BatchValue) (a b : Hearing) → ((q : ℕ) → told q ≡ other q) → Hears log2m targets told a b → Hears log2m targets other a b
+pub hears_same : (log2m : ℕ) (targets : List (List ℕ)) (told other : ℕ → Option BatchValue) (a b : HeardState) → ((q : ℕ) → told q ≡ other q) → Hears log2m targets told a b → Hears log2m targets other a b
 hears_same log2m targets told other a b same h = grind arith
 
 -- one after the other
-pub hears_on : (log2m : ℕ) (targets : List (List ℕ)) (first second told : ℕ → Option BatchValue) (a b c : Hearing) → AreCounters log2m a.accumulated →
+pub hears_on : (log2m : ℕ) (targets : List (List ℕ)) (first second told : ℕ → Option BatchValue) (a b c : HeardState) → AreCounters log2m a.accumulated →
     ((q : ℕ) → is_some (told q) ≡ (is_some (first q) || is_some (second q))) → ((P : BatchValue → Type 0) (q : ℕ) → IfSome (told q) P → IfSome (first q) P × IfSome (second q) P) →
     Hears log2m targets first a b → Hears log2m targets second b c → Hears log2m targets told a c
 hears_on log2m targets first second told a b c are some if_some f g = grind arith
@@ -120,7 +120,7 @@ told_one told n q a b c at lt eq = grind arith
 told_if : (P : BatchValue → Type 0) (told : ℕ → Option BatchValue) (n q : ℕ) (a b c : Bool) → nat_lt q (n + 1) ≡ a → nat_lt q n ≡ b → (q == n) ≡ c → IfSome (if a then told q else None) P → IfSome (if b then told q else None) P × IfSome (if c then told n else None) P
 told_if P told n q a b c at lt eq h = grind arith
 
-pub hears_next : (log2m : ℕ) (targets : List (List ℕ)) (told : ℕ → Option BatchValue) (n : ℕ) (a b c : Hearing) → AreCounters log2m a.accumulated →
+pub hears_next : (log2m : ℕ) (targets : List (List ℕ)) (told : ℕ → Option BatchValue) (n : ℕ) (a b c : HeardState) → AreCounters log2m a.accumulated →
     Hears log2m targets (batches_below told n) a b → Hears log2m targets (batch_by n (told n)) b c → Hears log2m targets (batches_below told (n + 1)) a c
 hears_next log2m targets told n a b c are f g =
     hears_on log2m targets (batches_below told n) (batch_by n (told n)) (batches_below told (n + 1)) a b c are
@@ -128,7 +128,7 @@ hears_next log2m targets told n a b c are f g =
     (λ P q. told_if P told n q (nat_lt q (n + 1)) (nat_lt q n) (q == n) refl refl refl) f g
 
 -- the same from the same
-pub hears_as : {m m' : ℕ} {targets targets' : List (List ℕ)} {told : ℕ → Option BatchValue} {heard heard' : List Bool} {change : Bool} {rows rows' : List (List ℕ)} {b : Hearing} → m ≡ m' → targets ≡ targets' → heard ≡ heard' → rows ≡ rows' →
+pub hears_as : {m m' : ℕ} {targets targets' : List (List ℕ)} {told : ℕ → Option BatchValue} {heard heard' : List Bool} {change : Bool} {rows rows' : List (List ℕ)} {b : HeardState} → m ≡ m' → targets ≡ targets' → heard ≡ heard' → rows ≡ rows' →
     Hears m targets told (record { heard = heard; change = change; accumulated = rows }) b → Hears m' targets' told (record { heard = heard'; change = change; accumulated = rows' }) b
 hears_as {m} {m'} {targets} {targets'} {told} {heard} {heard'} {change} {rows} {rows'} {b} p q r s h =
     grind arith

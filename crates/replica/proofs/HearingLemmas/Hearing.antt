@@ -5,7 +5,7 @@ use Rattle.std.proofs.lemmas.Bool.{both_ways}
 use Rattle.registers.specs.Relay.{DifferWhere}
 use Rattle.registers.specs.Laws.{max_each-repeats}
 use Rattle.replica.specs.Ahead.{ComesNearer}
-use Rattle.replica.specs.Hearing.{CanHear, Hearing, HearingValue, Hears, HearsAlso, IsQuiet, HearsByIndex, hearing_of, KeepsAll, KeepsAllOrNone, SaysSame, accumulators_of, batch_by, hearing_kept}
+use Rattle.replica.specs.Hearing.{CanHear, HeardState, HearingValue, Hears, HearsAlso, IsQuiet, HearsByIndex, hearing_of, KeepsAll, KeepsAllOrNone, SaysSame, accumulators_of, batch_by, hearing_kept}
 use Rattle.replica.specs.Level.{differences}
 use Rattle.replica.specs.Spread.{AreTouched, IsAbove}
 use Rattle.replica.proofs.HearingLemmas.Hear.{batches_below, hears_as, hears_next, hears_same, if_some_as}
@@ -99,7 +99,7 @@ can_hear_later plan targets n early later a can near = record {
 }
 
 -- the same, heard of the same
-pub hears_said : {m m' : ℕ} {targets targets' : List (List ℕ)} {told : ℕ → Option BatchValue} {heard heard' : List Bool} {change change' : Bool} {rows rows' : List (List ℕ)} {b : Hearing} → m ≡ m' → targets ≡ targets' → heard ≡ heard' → change ≡ change' → rows ≡ rows' →
+pub hears_said : {m m' : ℕ} {targets targets' : List (List ℕ)} {told : ℕ → Option BatchValue} {heard heard' : List Bool} {change change' : Bool} {rows rows' : List (List ℕ)} {b : HeardState} → m ≡ m' → targets ≡ targets' → heard ≡ heard' → change ≡ change' → rows ≡ rows' →
     Hears m targets told (hearing_of heard change rows) b → Hears m' targets' told (hearing_of heard' change' rows') b
 hears_said {m} {m'} {targets} {targets'} {told} {heard} {heard'} {change} {change'} {rows} {rows'} {b} p q r e s h =
     hears_as p q r s (subst (λ (f : Bool). Hears m targets told (hearing_of heard f rows) b) e h)

@@ -50,10 +50,10 @@ absorbed : (r : progress.Inside) (s o v u : State) → s ≡ v → o ≡ u → I
 absorbed r s o v u is other st width accumulated kept room made = grind (arith, fields_are)
 
 -- it is further
-pub gathered : (r o : progress.Inside) (v u : State) (plan : PlanValue) (targets : List (List ℕ)) (shared left early : List (List (Option BatchValue))) (next : HearingValue) → Merging r o v u shared → o.superstep < r.superstep → plan ≡ (arc_value r.part).plan → targets ≡ targets_of (arc_value r.part) →
+pub lesser_taken : (r o : progress.Inside) (v u : State) (plan : PlanValue) (targets : List (List ℕ)) (shared left early : List (List (Option BatchValue))) (next : HearingValue) → Merging r o v u shared → o.superstep < r.superstep → plan ≡ (arc_value r.part).plan → targets ≡ targets_of (arc_value r.part) →
     HearsEarly plan.log2m targets (r.superstep - o.superstep - 1) shared left r.hearing next →
     ((i q : ℕ) → early_at early i q ≡ either (early_at r.early i q) (early_at left i q)) → ((parts : ℕ) → IsTable parts r.early → IsTable parts early) → Absorbed (record r { hearing = next; early = early }) v u
-gathered r o v u plan targets shared left early next g lt same index hears kept table =
+lesser_taken r o v u plan targets shared left early next g lt same index hears kept table =
     let s = fields_of r in
     let l = state_of o in
     let m = g.meets in

@@ -80,3 +80,6 @@ same_calls j p c calls left right v v2 w w2 h k m n =
     let a = made j p calls left c v v2 h m in
     let b = made j p calls right c w w2 k n in
     (a.0 ∙ sym b.0, (content_after_all j p c calls, a.1, b.1))
+
+-- both lemmas
+pub ruleset content_decides = (same_replica, same_calls)

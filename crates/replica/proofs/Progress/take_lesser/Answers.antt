@@ -1,10 +1,10 @@
 use Rattle.std.proofs.Common.{◌<◌, ap, ◌∙◌, arith}
 use Rattle.replica.proofs.Names.{PartValue, State}
 use Rattle.replica.specs.declared.Progress.TheInside as progress
-use Rattle.replica.proofs.MergedLemmas.Absorb.{Absorbed, Merging, gathered, hear_from_other, merging, own_index}
+use Rattle.replica.proofs.MergedLemmas.Absorb.{Absorbed, Merging, hear_from_other, lesser_taken, merging, own_index}
 use Rattle.replica.proofs.TablesLemmas.{tables_alike}
-use Rattle.replica.proofs.Progress.gather.Goals as goal
-use Rattle.replica.proofs.Progress.gather.Goals.{After-other, After-fill}
+use Rattle.replica.proofs.Progress.take_lesser.Goals as goal
+use Rattle.replica.proofs.Progress.take_lesser.Goals.{After-other, After-fill}
 
 -- the two
 both : (c : After-other) → Merging c.self.inside c.other.inside c.args.self.now.state c.args.other.now.state c.args.shared.now
@@ -17,7 +17,7 @@ after c = record c.self.inside { hearing = c.hear_early.new.self; early = c.fill
 made : (c : After-fill) → Merging c.self.inside c.other.inside c.args.self.now.state c.args.other.now.state c.args.shared.now → Absorbed (after c) c.args.self.now.state c.args.other.now.state
 made c g =
     let lt : c.other.inside.superstep < c.self.inside.superstep = omega (arith, c.requires.further, ap (λ (v : State). v.superstep) g.keeps.view_is, ap (λ (v : State). v.superstep) g.other_is) in
-    gathered c.self.inside c.other.inside c.args.self.now.state c.args.other.now.state c.plan.result.now c.args.targets.now c.args.shared.now c.hear_early.new.early c.fill.new.self c.hear_early.new.self g lt (c.plan.ensures ∙ ap (λ (a : PartValue). a.plan) c.deref.ensures)
+    lesser_taken c.self.inside c.other.inside c.args.self.now.state c.args.other.now.state c.plan.result.now c.args.targets.now c.args.shared.now c.hear_early.new.early c.fill.new.self c.hear_early.new.self g lt (c.plan.ensures ∙ ap (λ (a : PartValue). a.plan) c.deref.ensures)
     (own_index c.self.inside c.other.inside c.args.self.now.state c.args.other.now.state c.args.shared.now c.args.targets.now g c.requires.can.index) c.hear_early.ensures c.fill.ensures.kept c.fill.ensures.table
 
 pub hear_early-requires : goal.hear_early-requires
