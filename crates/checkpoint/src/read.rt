@@ -105,7 +105,8 @@ fn read_text<R: CountedRead>(
     requires { text.old.items ≡ [] }
     ensures done { OnOk result (Ends R.remaining R.failed_calls (sealed_form part.now)
         (most_checkpoint_bytes part.now part.now.plan.limit + 1) reader.old reader.new) }
-    ensures within { TakesWithin (allowed part.now) (R.remaining reader.old) (R.remaining reader.new) }
+    ensures within { TakesWithin (allowed part.now)
+        (R.remaining reader.old) (R.remaining reader.new) }
     ensures head { IfOk result (λ h. h ≡ checkpoint_head_at (take HEADER_LEN text.new.items)) }
     ensures length { OnOk result (HEADER_LEN ≤ length text.new.items) }
     ensures checked { IfOk result (λ h. check_checkpoint_head part.now h ≡ Ok tt) }
@@ -132,7 +133,8 @@ fn read_saved<R: CountedRead>(
     ensures fits { IfOk result (λ s. Fits part.now s) }
     ensures done { OnOk result (Ends R.remaining R.failed_calls (sealed_form part.now)
         (most_checkpoint_bytes part.now part.now.plan.limit + 1) reader.old reader.new) }
-    ensures within { TakesWithin (allowed part.now) (R.remaining reader.old) (R.remaining reader.new) }
+    ensures within { TakesWithin (allowed part.now)
+        (R.remaining reader.old) (R.remaining reader.new) }
     ensures spelled { IfOk result (λ s. (v : State) → IsRebuilt part.now s v → IsState v →
         (bytes : List ℕ) → R.remaining reader.old ≡ Some bytes →
         (bytes ≡ checkpoint_bytes v) ⊎ (bytes ≡ first_checkpoint_bytes v)) }

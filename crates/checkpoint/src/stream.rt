@@ -105,7 +105,8 @@ fn read_batch<R: CountedRead>(
     text: &mut Vec<u8>,
 ) -> Result<(), KeepError>
     ensures done { OnOk result (Grows R.remaining R.failed_calls R.sure_calls (batch_form plan.now)
-        (LENGTH_LEN + greatest_batch plan.now) reader.old reader.new text.old.items text.new.items) }
+        (LENGTH_LEN + greatest_batch plan.now)
+        reader.old reader.new text.old.items text.new.items) }
     ensures fails { IfErr result (λ e. Fails R.remaining R.failed_calls R.sure_calls
         (batch_form plan.now) (LENGTH_LEN + greatest_batch plan.now) reader.old reader.new e) }
 {
@@ -127,11 +128,11 @@ fn read_batches<R: CountedRead>(
     count: u16,
 ) -> Result<(), KeepError>
     ensures done { OnOk result (Grows R.remaining R.failed_calls R.sure_calls
-        (batches_form plan.now count) (count * (LENGTH_LEN + greatest_batch plan.now)) reader.old reader.new
-        text.old.items text.new.items) }
+        (batches_form plan.now count) (count * (LENGTH_LEN + greatest_batch plan.now))
+        reader.old reader.new text.old.items text.new.items) }
     ensures fails { IfErr result (λ e. Fails R.remaining R.failed_calls R.sure_calls
-        (batches_form plan.now count) (count * (LENGTH_LEN + greatest_batch plan.now)) reader.old reader.new
-        e) }
+        (batches_form plan.now count) (count * (LENGTH_LEN + greatest_batch plan.now))
+        reader.old reader.new e) }
 {
     for _ in 0..count {
         read_batch(reader, plan, text)?;

@@ -126,8 +126,8 @@ fn keep_vertices<W: CountedWrite>(
         writer.old writer.new spool.old spool.new
         (flat_map (vertex_bytes replica.now) (range_with_len 0 (length replica.now.part.preds)))) }
     ensures stops { OnErr result (StopsWriting W.contents W.failed_calls W.sure_calls W.room
-        writer.old writer.new (waiting spool.old
-        ++ flat_map (vertex_bytes replica.now) (range_with_len 0 (length replica.now.part.preds)))) }
+        writer.old writer.new (waiting spool.old ++ flat_map (vertex_bytes replica.now)
+        (range_with_len 0 (length replica.now.part.preds)))) }
 {
     for i in 0..size_of(replica) {
         keep_vertex(replica, i, spool, writer)?;

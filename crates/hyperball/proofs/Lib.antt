@@ -1,4 +1,3 @@
-pub mod Crossing
 pub mod NameLemmas
 pub mod OptionLemmas
 pub mod WishLemmas

@@ -117,7 +117,8 @@ run_app p = with_progress (with_orders (with_nodes (with_job p (new_app (codes "
 -- the subcommand `replay`
 unfoldable pub replay_app : Parsers → App
 replay_app p =
-    with_progress (with_rule (with_job p (new_app (codes "replay"))) (option_rule (codes "replicas") number8))
+    with_progress
+    (with_rule (with_job p (new_app (codes "replay"))) (option_rule (codes "replicas") number8))
 
 -- the subcommand `node`
 unfoldable pub node_app : Parsers → App

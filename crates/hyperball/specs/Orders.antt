@@ -36,4 +36,5 @@ Reads {A} Fits spell text read =
 
 -- a text does not begin with a plus, nor with a zero that is not all of it
 abbrev pub has_plain_digits : List ℕ → Bool
-has_plain_digits text = not (slice_index text 0 == 43) && (length text == 1 || not (slice_index text 0 == 48))
+has_plain_digits text = not (slice_index text 0 == 43)
+    && (length text == 1 || not (slice_index text 0 == 48))

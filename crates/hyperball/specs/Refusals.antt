@@ -48,17 +48,18 @@ RefusesLongRun told result = IfSome told (λ input. MOST_BYTES < length input �
     MatchResult result (λ _. ⊥) IsUnreadRun)
 
 -- what a run with a list does with its reader, and which faults it tells of that: it reads the input whole
-pub record ReadsListed {R : Type 0} (bytes : R → Option (List ℕ)) (count : R → ℕ) (good : R → Option ℕ) (old new : R)
-    (result : Result (Unit {0}) RunFault) : Type 0 where
+pub record ReadsListed {R : Type 0} (bytes : R → Option (List ℕ)) (count : R → ℕ)
+    (good : R → Option ℕ) (old new : R) (result : Result (Unit {0}) RunFault) : Type 0 where
   pub whole : ReadsWhole bytes count good old new (λ e. result ≡ Err (fault.Input e))
   pub long : RefusesLongRun (bytes old) result
   pub edges : result ≢ Err (fault.Run (run_fault.Edges edge_fault.Read))
 
 -- the same of a run without one: it reads an edge list
-pub record ReadsEdges {R : Type 0} (count : R → ℕ) (old new : R) (result : Result (Unit {0}) RunFault) :
-    Type 0 where
+pub record ReadsEdges {R : Type 0} (count : R → ℕ) (old new : R)
+    (result : Result (Unit {0}) RunFault) : Type 0 where
   pub no_input : (e : WholeError) → result ≢ Err (fault.Input e)
   pub unlisted : result ≢ Err fault.NoList
-  pub read : result ≡ Err (fault.Run (run_fault.Edges edge_fault.Read)) → Rises (count old) (count new)
+  pub read : result ≡ Err (fault.Run (run_fault.Edges edge_fault.Read)) →
+      Rises (count old) (count new)
   pub failed : CountsOne (count old) (count new) →
       result ≡ Err (fault.Run (run_fault.Edges edge_fault.Read))

@@ -21,8 +21,8 @@ IsLong old = IfSome old (λ input. MOST_BYTES < length input)
 
 -- a reader whose input was to be read whole, and which of the faults is told of it: each for its reason alone, a failed
 -- read wherever a call failed, and none of a reader all of whose calls are sure
-pub record ReadsWhole {R : Type 0} (bytes : R → Option (List ℕ)) (count : R → ℕ) (good : R → Option ℕ) (old new : R)
-    (told : WholeError → Type 0) : Type 0 where
+pub record ReadsWhole {R : Type 0} (bytes : R → Option (List ℕ)) (count : R → ℕ)
+    (good : R → Option ℕ) (old new : R) (told : WholeError → Type 0) : Type 0 where
   pub size : told fault.Size → IsLong (bytes old)
   pub memory : told fault.Memory → TakesAtMost MOST_BYTES (bytes old) (bytes new)
   pub read : told fault.Read → Rises (count old) (count new)

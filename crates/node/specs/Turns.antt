@@ -42,7 +42,8 @@ pub record Holds (j : Job) (p : ℕ) (h : Holding) (v : State) : Type 0 where
   pub has : Has j h v
 
 -- that is said, and the replica has that holding
-pub record TurnsTo (j : Job) (p : ℕ) (a : Answer) (h : Holding) (v : State) (r : Reply) : Type 0 where
+pub record TurnsTo (j : Job) (p : ℕ) (a : Answer) (h : Holding) (v : State)
+    (r : Reply) : Type 0 where
   pub says : r ≡ reply.Answered a
   pub holds : Holds j p h v
 

@@ -6,8 +6,8 @@ use Rattle.report.specs.declared.write.ReportError.TheVariants as fault
 
 -- a writer of these contents was given a beginning of the text, and not all of it; a call of it failed where the
 -- error is of a write, and only there
-pub record WrittenInPart {W : Type 0} (contents : W → Option (List ℕ)) (failed : W → ℕ) (old new : W)
-    (text : List ℕ) (e : ReportError) : Type 0 where
+pub record WrittenInPart {W : Type 0} (contents : W → Option (List ℕ)) (failed : W → ℕ)
+    (old new : W) (text : List ℕ) (e : ReportError) : Type 0 where
   pub front : PutsFront (contents old) (contents new) text
   pub failed_one : e ≡ fault.Write → Rises (failed old) (failed new)
   pub counted : e ≢ fault.Write → failed new ≡ failed old

@@ -59,7 +59,8 @@ abbrev pub all_lost : List (Result NodeEnd NodeError) → Bool
 all_lost own = list_all is_lost own
 
 -- the least partition all of whose nodes were lost, where the first one has number p
-unfoldable pub least_lost : {V : Type 0} → (V → List (Result NodeEnd NodeError)) → ℕ → List V → Option ℕ
+unfoldable pub least_lost : {V : Type 0} → (V → List (Result NodeEnd NodeError)) → ℕ → List V →
+    Option ℕ
 least_lost items p [] = None
 least_lost items p (own ∷ more) =
     if all_lost (items own) then Some p else least_lost items (p + 1) more

@@ -87,8 +87,8 @@ pub record IsPartStarted {H : Type 0} (assigned : H → Assignment) (j : Job) (o
   pub each : EachAt (λ k child. IfSome child (λ h. IsAssigned j o p k (assigned h))) 0 children
 
 -- the threads of all nodes, by partition
-pub record AreStarted {H V : Type 0} (assigned : H → Assignment) (items : V → List (Option H)) (j : Job)
-    (o : RunOptions) (children : List V) : Type 0 where
+pub record AreStarted {H V : Type 0} (assigned : H → Assignment) (items : V → List (Option H))
+    (j : Job) (o : RunOptions) (children : List V) : Type 0 where
   pub count : length children ≡ j.plan.parts
   pub each : EachAt (λ p own. IsPartStarted assigned j o p (items own)) 0 children
 

@@ -34,7 +34,8 @@ is_from least most n = nat_le least n && nat_le n most
 abbrev pub are_in_limits : RunOptions → Bool
 are_in_limits o =
     is_from 1 MOST_REPLICAS o.replicas && is_from LEAST_ENTRIES MOST_ENTRIES o.entries
-    && nat_le o.keep greatest_limit && nat_le 1 o.patience && are_all_named o.parts o.replicas o.lose.items
+    && nat_le o.keep greatest_limit && nat_le 1 o.patience
+    && are_all_named o.parts o.replicas o.lose.items
     && are_all_named o.parts o.replicas o.restart.items
 
 -- the superstep of the first order for replica k of partition p

@@ -62,7 +62,8 @@ IsOwnStep j h StartsAnew = ⊤
 -- each step is one that a node of partition p makes, from what it holds then
 unfoldable pub AreOwnSteps : Job → ℕ → Holding → List Step → Type 0
 AreOwnSteps j p h [] = ⊤
-AreOwnSteps j p h (step ∷ steps) = IsOwnStep j h step × AreOwnSteps j p (after_step j p h step) steps
+AreOwnSteps j p h (step ∷ steps) =
+    IsOwnStep j h step × AreOwnSteps j p (after_step j p h step) steps
 
 -- the calls among the steps
 unfoldable pub calls_among : List Step → List HistoryEvent
@@ -92,7 +93,8 @@ abbrev pub IsPathTo : Caller → ℕ → State → Caller → Type 0
 IsPathTo v p r w = HasCome v p (start_holding v.seen.job.plan p) (holding_in r) w
 
 -- from its start, by these steps with these calls, a node of partition p comes to hold c
-pub record Reaches (j : Job) (p : ℕ) (made : List HistoryEvent) (steps : List Step) (c : Holding) : Type 0 where
+pub record Reaches (j : Job) (p : ℕ) (made : List HistoryEvent) (steps : List Step)
+    (c : Holding) : Type 0 where
   pub below : p < j.plan.parts
   pub own : AreOwnSteps j p (start_holding j.plan p) steps
   pub calls : calls_among steps ≡ made
@@ -132,7 +134,8 @@ copied_in [] = []
 copied_in (e ∷ es) = copied_by e.event ++ copied_in es
 
 -- after these events, from that world, the node holds c, and nothing more was sent or copied
-pub record ComesTo (j : Job) (w : World) (id : NodeId) (es : List Happening) (c : Holding) : Type 0 where
+pub record ComesTo (j : Job) (w : World) (id : NodeId) (es : List Happening)
+    (c : Holding) : Type 0 where
   pub sent : (run_of j w es).sent ≡ w.sent
   pub copies : (run_of j w es).copies ≡ w.copies
   pub content : option_map (λ n. n.content) (node_at (run_of j w es) id) ≡ Some c

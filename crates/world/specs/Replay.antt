@@ -98,7 +98,8 @@ RefusesReplayRead s edges list fault.Memory = ⊥
 RefusesReplayRead s edges list fault.Write = ⊥
 
 -- there is such a plan, and that is the start of its world
-pub record IsStarted (n : Numbers) (replicas : ℕ) (network : Network) (world : SeenWorld) : Type 0 where
+pub record IsStarted (n : Numbers) (replicas : ℕ) (network : Network)
+    (world : SeenWorld) : Type 0 where
   pub planned : HasPlan n network
   pub shows : Shows (job_over n network) (start_world (plan_over n network.graph) replicas) world
 
@@ -114,7 +115,8 @@ RefusesStart n network fault.Write = ⊥
 
 -- what a refusal says of the whole input: each comes only where all checks before it passed, and a failed write only
 -- of a replay that has a text
-abbrev pub IsReplayRefusal : ReplaySettings → List ℕ → Option (List ℕ) → List ℕ → ReplayError → Type 0
+abbrev pub IsReplayRefusal : ReplaySettings → List ℕ → Option (List ℕ) → List ℕ →
+    ReplayError → Type 0
 IsReplayRefusal s edges list script fault.Options = AreReplicas s.replicas → ⊥
 IsReplayRefusal s edges list script (fault.Script n) = IsScriptFault s script n
 IsReplayRefusal s edges list script (fault.Edges e) =

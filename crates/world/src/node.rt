@@ -71,7 +71,8 @@ impl Node {
 
     /// Takes a batch.
     pub fn deliver(&mut self, batch: Arc<Batch>) -> Answer
-        ensures { (j : Job) → IsTrueBatch j (arc_value batch) → IsName j.plan (arc_value batch).name →
+        ensures { (j : Job) → IsTrueBatch j (arc_value batch) →
+            IsName j.plan (arc_value batch).name →
             Turns j (taken_turn j (arc_value batch).name) result self.old self.new }
     {
         let taken = self.replica.take(batch);

@@ -145,7 +145,8 @@ fn read_events(
     script: &[u8],
     options: &ReplayOptions,
 ) -> Result<Vec<Event>, ReplayError>
-    ensures ok { IfOk result (λ events. AreCommands (replay_of options.now) script.now events.items) }
+    ensures ok { IfOk result (λ events.
+        AreCommands (replay_of options.now) script.now events.items) }
     ensures refused { IfErr result (RefusesCommands (replay_of options.now) script.now) }
 {
     if options.replicas < 1 || MOST_REPLICAS < options.replicas {
