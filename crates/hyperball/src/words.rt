@@ -71,7 +71,7 @@ const RUN_AFTER: &str = "Example:
 Memory and accuracy:
   With --keep 0 and one partition a run takes at most about 2 * 2^log2m + 180 bytes a vertex and
   9 bytes an edge, and while it reads 110 bytes a vertex and 11 bytes an edge. With snapshots, which
-  are the default, runs that were measured took 1.2 to 1.5 times as much. With several partitions
+  are the default, runs that were measured took 1.3 to 2 times as much. With several partitions
   any --keep but 1 takes more memory, not less: what they told one another is let go only where each
   superstep is kept. The relative error of a large set is about 1.04 / sqrt(2^log2m): 26 % at 4,
   6.5 % at 8, 3.3 % at 10. A set of fewer than 2.5 * 2^log2m vertices is estimated too large, the

@@ -12,11 +12,13 @@ ghost use Rattle.ball_model.specs.Batches.{IsTrueBatch};
 ghost use Rattle.ball_model.specs.Content.{Content, is_new, close_of, after_close};
 ghost use Rattle.ball_model.specs.State.{SameShown, StandsFor, content_of, further};
 ghost use Rattle.replica.specs.Change.{HoldsAfter, take_answer};
+ghost use Rattle.replica.specs.Index.{targets_of};
 ghost use Rattle.replica.specs.Level.{EndsRun, found_verdict, missing_in};
 ghost use Rattle.replica.specs.Merged.{AreOfOnePart, TakesIn, HoldsOfBoth, ShowsAs, merge_answer};
 ghost use Rattle.replica.specs.Progress.{CanGoOn};
 ghost use Rattle.replica.specs.Runs.{HasContent, Takes, Closes, Merges};
 
+use crate::indexed::ReadyPart;
 use crate::shown::Shown;
 use crate::targets::Targets;
 use crate::{Progress, Replica, Snapshot, start, step};
@@ -33,7 +35,6 @@ impl Replica {
     ///
     /// All room of later supersteps is taken here. The error is that memory was refused. It takes time in proportion
     /// to the registers of the partition and the edges into it.
-    #[tactic(auto, using(crate::proofs::StartLemmas::Start::starts_empty))]
     pub fn new(alloc: Global, part: Arc<Part>) -> Result<Replica, AllocError>
         ensures part { IfOk result (λ r. r.part ≡ arc_value part) }
         ensures superstep { IfOk result (λ r. r.superstep ≡ 0) }
@@ -41,9 +42,23 @@ impl Replica {
         ensures stands { IfOk result (λ r. (j : Job) (p : ℕ) → IsJob j → p < j.plan.parts →
             arc_value part ≡ part_of j p → StandsFor j p 0 r) }
     {
-        let estimator = start::estimator_of(alloc, part.plan())?;
-        let progress = start::first(alloc, part, &estimator)?;
-        Replica::of(alloc, progress, estimator)
+        Replica::of_ready(alloc, ReadyPart::of(part))
+    }
+
+    /// That of a part that is ready for it: the index that was made already is not made again.
+    #[tactic(auto, using(crate::proofs::StartLemmas::Start::starts_empty))]
+    pub fn of_ready(alloc: Global, part: ReadyPart) -> Result<Replica, AllocError>
+        ensures part { IfOk result (λ r. r.part ≡ part) }
+        ensures superstep { IfOk result (λ r. r.superstep ≡ 0) }
+        ensures names { IfOk result (λ r. (s q : ℕ) → (content_of r).holds s q ≡ false) }
+        ensures stands { IfOk result (λ r. (j : Job) (p : ℕ) → IsJob j → p < j.plan.parts →
+            part ≡ part_of j p → StandsFor j p 0 r) }
+    {
+        let shared = Arc::try_clone(part.part())?;
+        let estimator = start::estimator_of(alloc, shared.plan())?;
+        let progress = start::first(alloc, shared, &estimator)?;
+        let targets = part.into_targets(alloc)?;
+        Replica::with_targets(alloc, progress, targets, estimator)
     }
 
     /// A replica that has this; estimates are made as its plan says.
@@ -57,6 +72,21 @@ impl Replica {
         ensures { IfOk result (λ r. r ≡ progress.state) }
     {
         let targets = Targets::of(alloc, &progress.part)?;
+        Replica::with_targets(alloc, progress, targets, estimator)
+    }
+
+    // A replica that has this, by the index of its part.
+    fn with_targets(
+        alloc: Global,
+        progress: Progress,
+        targets: Targets,
+        estimator: Estimator,
+    ) -> Result<Replica, AllocError>
+        requires goes_on { CanGoOn progress }
+        requires index { targets ≡ targets_of progress.state.part }
+        requires measure { estimator ≡ measure_of progress.state.part.plan }
+        ensures { IfOk result (λ r. r ≡ progress.state) }
+    {
         let weights = progress.weights(alloc)?;
         Ok(Replica {
             progress,

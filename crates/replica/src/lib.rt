@@ -40,6 +40,7 @@
 mod calls;
 mod early;
 mod hearing;
+pub mod indexed;
 mod join;
 pub mod laws;
 mod level;
@@ -62,6 +63,7 @@ pub use early::LEVELS;
 use edgelist::Part;
 use figures::Estimator;
 use hearing::Hearing;
+pub use indexed::{IndexedPart, ReadyPart};
 pub use out::ChangedRows;
 pub use saved::Saved;
 pub use shown::Shown;

@@ -5,30 +5,14 @@ use Rattle.ball_model.specs.Caller.{Caller, IsFull}
 use Rattle.ball_model.specs.Held.{start_holding}
 use Rattle.ball_model.specs.History.{holding_in}
 use Rattle.ball_model.specs.State.{State}
-use Rattle.replica.specs.Sent.{batch_name}
 use Rattle.workers.specs.declared.node.Fate.{Fate}
 use Rattle.workers.specs.declared.node.Fate.TheVariants as fate
 use Rattle.workers.specs.declared.node.NodeEnd.{NodeEnd}
 use Rattle.workers.specs.declared.node.NodeError.{NodeError}
 use Rattle.workers.specs.declared.node.NodeError.TheVariants as fault
-use Rattle.workers.specs.Node.{FallsDue, HasToldAll, IfDone, IfLost, IfStarved, IsDone, WasMissing}
-use Rattle.workers.specs.Tie.{HasCome, HasGone, IsNodePath, IsPathTo}
-use Rattle.workers.specs.Superstep.{IsFate, end_with}
+use Rattle.workers.specs.Tie.{HasCome, HasGone}
+use Rattle.workers.specs.Superstep.{EndsAs, IsFate, end_with}
 use Rattle.workers.proofs.PathLemmas.{gone}
-
--- what the end of a node of partition p says, where the order to be lost is `lose`
-pub record EndsAs (v : Caller) (p : ℕ) (lose : Option ℕ) (e : Result NodeEnd NodeError) (w : Caller) : Type 0 where
-  pub done : IfOk e (λ end. IfDone end (IsDone v.seen.job p))
-  pub told : IfOk e (λ end. IfDone end (λ r. HasToldAll v r.superstep p w))
-  pub lost : IfOk e (λ end. IfLost end (FallsDue lose))
-  pub spared : IfOk e (λ end. IfDone end (λ r. FallsDue lose r.superstep → ⊥))
-  pub starved : IfOk e (λ end. IfStarved end (λ s q. WasMissing v (batch_name s q p) w))
-  pub starved_told : IfOk e (λ end. IfStarved end (λ s q. HasToldAll v s p w))
-  pub source : IfOk e (λ end. IfStarved end (λ s q. (q < v.seen.job.plan.parts) × (q ≢ p)))
-  pub path : IsNodePath v p w
-  pub came : IfOk e (λ end. IfDone end (λ r. IsPathTo v p r w))
-  pub full : IfErr e (λ e. e ≡ fault.BookFull → IsFull w)
-  pub alone : v.seen.job.plan.parts ≡ 1 → IfOk e (λ end. IfStarved end (λ s q. ⊥))
 
 pub ended : (v : Caller) (p : ℕ) (lose : Option ℕ) (r : State) (f : Result Fate NodeError) (w : Caller) → p < v.seen.job.plan.parts →
     IfOk f (λ x. IsFate v p lose r x w) →

@@ -1,8 +1,8 @@
 -- A superstep of a node, and how the node's replica fares.
-use Rattle.std.specs.Prelude.{◌≡◌, ◌≢◌, ⊤, ℕ, ◌<◌, ◌-◌, ◌⊎◌, max, Option, None, Some, Result, Ok, Err}
+use Rattle.std.specs.Prelude.{◌≡◌, ◌≢◌, ⊤, ℕ, ◌<◌, ◌-◌, ◌⊎◌, max, Option, None, Some, Result, Ok, Err, IfErr, IfOk}
 use Rattle.ball_model.specs.Job.{IsJob, Job, PartValue, part_of}
 use Rattle.ball_model.specs.State.{State, StandsFor}
-use Rattle.ball_model.specs.Caller.{Called, CalledNothing, Caller}
+use Rattle.ball_model.specs.Caller.{Called, CalledNothing, Caller, IsFull}
 use Rattle.ball_model.specs.History.{Drop, Recall, holding_in}
 use Rattle.ball_model.specs.Held.{start_holding}
 use Rattle.ball_model.specs.Join.{Holding}
@@ -13,11 +13,13 @@ use Rattle.workers.specs.declared.node.Fate.TheVariants as fate
 use Rattle.workers.specs.declared.node.NodeEnd.{NodeEnd}
 use Rattle.workers.specs.declared.node.NodeEnd.TheVariants as ends
 use Rattle.workers.specs.declared.node.NodeError.{NodeError}
+use Rattle.workers.specs.declared.node.NodeError.TheVariants as fault
 use Rattle.workers.specs.declared.superstep.Found.{Found}
 use Rattle.workers.specs.declared.superstep.Found.TheVariants as found
 use Rattle.workers.specs.declared.superstep.SuperstepEnd.{SuperstepEnd}
 use Rattle.workers.specs.declared.superstep.SuperstepEnd.TheVariants as superstep_end
-use Rattle.workers.specs.Node.{FallsDue, HasToldAll, IsDone, WasMissing}
+use Rattle.workers.specs.Node.{FallsDue, HasToldAll, IfDone, IfLost, IfStarved, IsDone, WasMissing}
+use Rattle.workers.specs.Tie.{IsNodePath, IsPathTo}
 
 -- the replica stands for partition p of the caller's job, at its superstep
 abbrev pub StandsIn : Caller → ℕ → State → Type 0
@@ -91,3 +93,18 @@ pub record HasRecalled (v : Caller) (p least before now : ℕ) (w : Caller) : Ty
 -- a replica that starts again has nothing of a superstep behind its own: it is at the start, or took over a snapshot
 abbrev pub IsAnew : Caller → ℕ → ℕ → Caller → Type 0
 IsAnew v p now w = (now ≡ 0) ⊎ HasRecalled v p 0 0 now w
+
+-- what the end of a node of partition p says, where the order to be lost is `lose`
+pub record EndsAs (v : Caller) (p : ℕ) (lose : Option ℕ) (e : Result NodeEnd NodeError)
+    (w : Caller) : Type 0 where
+  pub done : IfOk e (λ end. IfDone end (IsDone v.seen.job p))
+  pub told : IfOk e (λ end. IfDone end (λ r. HasToldAll v r.superstep p w))
+  pub lost : IfOk e (λ end. IfLost end (FallsDue lose))
+  pub spared : IfOk e (λ end. IfDone end (λ r. FallsDue lose r.superstep → ⊥))
+  pub starved : IfOk e (λ end. IfStarved end (λ s q. WasMissing v (batch_name s q p) w))
+  pub starved_told : IfOk e (λ end. IfStarved end (λ s q. HasToldAll v s p w))
+  pub source : IfOk e (λ end. IfStarved end (λ s q. (q < v.seen.job.plan.parts) × (q ≢ p)))
+  pub path : IsNodePath v p w
+  pub came : IfOk e (λ end. IfDone end (λ r. IsPathTo v p r w))
+  pub full : IfErr e (λ e. e ≡ fault.BookFull → IsFull w)
+  pub alone : v.seen.job.plan.parts ≡ 1 → IfOk e (λ end. IfStarved end (λ s q. ⊥))

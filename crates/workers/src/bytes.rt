@@ -3,7 +3,6 @@
 ghost use Rattle.std.specs.Prelude.{◌≡◌, ◌≢◌, Ok, Err, true, false, OnOk, OnErr, IfOk, IfErr};
 ghost use Rattle.std.specs.Prelude.{IfSome, length};
 ghost use Rattle.std.specs.Io.KnownBytes.{Appends, Keeps};
-ghost use Rattle.std.specs.Arc.{arc_value};
 ghost use Rattle.ball_model.specs.Job.{IsJob, job_of};
 ghost use Rattle.ball_model.specs.Input.{IsPlain, records};
 ghost use Rattle.ball_model.specs.PlanValue.{mixing_of, plan_of};
@@ -222,12 +221,12 @@ fn planned_text<T: AllocGlobal + Threads + Wait + Sync, G: Gate + Sync>(
     rt: &T,
     graph: &Graph,
     plan: &Plan,
-    parts: &[SharedPart],
+    parts: &mut [SharedPart],
     options: &RunOptions,
     gate: &G,
 ) -> Result<Pages, JobError>
     requires job { IsJob (job_of graph.now.graph plan.now) }
-    requires parts { AreParts arc_value (job_of graph.now.graph plan.now) parts.now }
+    requires parts { AreParts (λ part. part) (job_of graph.now.graph plan.now) parts.old }
     requires limits { are_in_limits options.now ≡ true }
     ensures ok { IfOk result (λ text. text ≡
         report_of (mixing_of plan.now) graph.now.graph graph.now.labels plan.now.limit) }
@@ -250,8 +249,8 @@ fn report_text<T: AllocGlobal + Threads + Wait + Sync, G: Gate + Sync>(
     ensures fault { IfErr result (IsFaultIn options.now) }
 {
     let bare = bare_plan_for(graph, options)?;
-    let Planned { plan, parts } = plan_parts(rt, graph, &bare)?;
-    let text = planned_text(rt, graph, &plan, &parts, options, gate)?;
+    let Planned { plan, mut parts } = plan_parts(rt, graph, &bare)?;
+    let text = planned_text(rt, graph, &plan, &mut parts, options, gate)?;
     Ok(text)
 }
 

@@ -2,7 +2,6 @@
 
 ghost use Rattle.std.specs.Prelude.{◌≡◌, ◌<◌, ◌≤◌, ◌+◌, ◌*◌, ℕ, true, IfOk, IfErr, IfSome, OnOk};
 ghost use Rattle.std.specs.Prelude.{[]};
-ghost use Rattle.std.specs.Arc.{arc_value};
 ghost use Rattle.ball_model.specs.Job.{Job, IsJob, job_of, part_of};
 ghost use Rattle.ball_model.specs.declared.plan.TheConstants.{MOST_REPLICAS};
 ghost use Rattle.workers.specs.Job.{AreDone, AreEnds, AreParts, AreStarted, HasSplit, IsFaultOf};
@@ -15,17 +14,17 @@ use crate::assignment::{Assignment, NodeResult};
 use crate::ends::{JobError, done_replicas};
 use crate::exchange::BoardExchange;
 use crate::gate::Gate;
-use crate::node::{NodeEnd, NodeError, NodeOrders, run_node};
+use crate::node::{NodeEnd, NodeError, NodeOrders, run_ready};
 use crate::options::RunOptions;
 use crate::planned::SharedPart;
 use crate::running::{RunGate, Running};
 use ball_model::{NodeId, Plan};
 use board::{Board, Seat};
-use edgelist::{Graph, Part};
-use replica::Replica;
+use edgelist::Graph;
+use replica::{ReadyPart, Replica};
 use std::alloc::{AllocError, AllocGlobal, Global};
 use std::snapshot::Snapshot;
-use std::sync::{Arc, Wait};
+use std::sync::Wait;
 use std::thread;
 use std::thread::{PromisedHandle, Scope, Threads};
 
@@ -75,18 +74,18 @@ fn run_at<R: AllocGlobal + Wait, G: Gate>(
     seat: Seat,
     gate: &G,
     running: &Running,
-    part: Arc<Part>,
+    part: ReadyPart,
     duty: Duty,
 ) -> NodeResult
     requires seat { IsSeatOf board.now seat.caller.seen.job seat }
     requires job { IsJob seat.caller.seen.job }
     requires node { duty.node.part < seat.caller.seen.job.plan.parts }
-    requires part { arc_value part ≡ part_of seat.caller.seen.job duty.node.part }
+    requires part { part ≡ part_of seat.caller.seen.job duty.node.part }
     ensures { KeepsItsOrders seat.caller.seen.job duty.node.part duty.orders result }
 {
     let mut exchange = BoardExchange::new(board, seat);
     let gate = RunGate::new(gate, running);
-    let end = run_node(rt, &mut exchange, &gate, duty.node, part, &duty.orders);
+    let end = run_ready(rt, &mut exchange, &gate, duty.node, part, &duty.orders);
     if !is_done(&end) {
         running.end(duty.node.part);
     }
@@ -101,13 +100,13 @@ fn start_node<'s, 'a: 's, X, R: AllocGlobal + Threads + Wait + Sync, G: Gate + S
     seat: Seat,
     gate: &'a G,
     running: &'a Running,
-    part: Arc<Part>,
+    part: ReadyPart,
     assigned: Assignment,
 ) -> Child
     requires seat { IsSeatOf board.now (job_in assigned) seat }
     requires job { IsJob (job_in assigned) }
     requires node { assigned.node.part < (job_in assigned).plan.parts }
-    requires part { arc_value part ≡ part_of (job_in assigned) assigned.node.part }
+    requires part { part ≡ part_of (job_in assigned) assigned.node.part }
     ensures { IfSome result (λ child. child.promise ≡ assigned) }
 {
     let duty = Duty {
@@ -118,7 +117,7 @@ fn start_node<'s, 'a: 's, X, R: AllocGlobal + Threads + Wait + Sync, G: Gate + S
         requires seat { IsSeatOf board.now seat.caller.seen.job seat }
         requires job { IsJob seat.caller.seen.job }
         requires node { duty.node.part < seat.caller.seen.job.plan.parts }
-        requires part { arc_value part ≡ part_of seat.caller.seen.job duty.node.part }
+        requires part { part ≡ part_of seat.caller.seen.job duty.node.part }
         ensures { KeepsItsOrders seat.caller.seen.job duty.node.part duty.orders result }
     { run_at(rt, board, seat, gate, running, part, duty) };
     let child = scope.spawn_with(assigned, work).ok();
@@ -140,12 +139,12 @@ fn start_part<'s, 'a: 's, X, R: AllocGlobal + Threads + Wait + Sync, G: Gate + S
     plan: &Plan,
     options: &RunOptions,
     p: u16,
-    part: &SharedPart,
+    part: &mut SharedPart,
 ) -> Result<Vec<Child>, AllocError>
     requires job { IsJob (job_of graph.now.graph plan.now) }
     requires number { p < plan.now.parts }
-    requires part { IfOk part.now (λ part.
-        arc_value part ≡ part_of (job_of graph.now.graph plan.now) p) }
+    requires part { IfOk part.old (λ part.
+        part ≡ part_of (job_of graph.now.graph plan.now) p) }
     requires few { options.now.replicas ≤ MOST_REPLICAS }
     requires seat { HasSplit board.now (job_of graph.now.graph plan.now) (MOST_REPLICAS * p)
         first.old }
@@ -153,6 +152,7 @@ fn start_part<'s, 'a: 's, X, R: AllocGlobal + Threads + Wait + Sync, G: Gate + S
         first.new }
     ensures started { IfOk result (λ own. IsPartStarted (λ child. child.promise)
         (job_of graph.now.graph plan.now) options.now p own.items) }
+    ensures part { part.new ≡ part.old }
 {
     let Ok(part) = part else {
         return Err(AllocError);
@@ -166,7 +166,7 @@ fn start_part<'s, 'a: 's, X, R: AllocGlobal + Threads + Wait + Sync, G: Gate + S
             node,
             orders: orders_for(options, node),
         };
-        let part = Arc::try_clone(part)?;
+        let part = part.hand_out(rt.alloc())?;
         let seat = first.split(board);
         children.push(start_node(rt, scope, board, seat, gate, running, part, assigned))?;
     }
@@ -184,19 +184,19 @@ fn start_each<'s, 'a: 's, X, R: AllocGlobal + Threads + Wait + Sync, G: Gate + S
     graph: &Graph,
     plan: &Plan,
     options: &RunOptions,
-    parts: &[SharedPart],
+    parts: &mut [SharedPart],
     children: &mut Vec<Vec<Child>>,
 ) -> Result<(), AllocError>
     requires job { IsJob (job_of graph.now.graph plan.now) }
     requires few { options.now.replicas ≤ MOST_REPLICAS }
     requires seat { HasSplit board.now (job_of graph.now.graph plan.now) 0 first.old }
-    requires parts { AreParts arc_value (job_of graph.now.graph plan.now) parts.now }
+    requires parts { AreParts (λ part. part) (job_of graph.now.graph plan.now) parts.old }
     requires none { children.old.items ≡ [] }
     ensures { OnOk result (AreStarted (λ child. child.promise) (λ own. own.items)
         (job_of graph.now.graph plan.now) options.now children.new.items) }
 {
     for p in 0..plan.parts() {
-        let part = &parts[usize::from(p)];
+        let part = &mut parts[usize::from(p)];
         let own = start_part(
             rt, scope, board, first, gate, running, graph, plan, options, p, part,
         )?;
@@ -216,11 +216,11 @@ fn start_all<'s, 'a: 's, X, R: AllocGlobal + Threads + Wait + Sync, G: Gate + Sy
     graph: &Graph,
     plan: &Plan,
     options: &RunOptions,
-    parts: &[SharedPart],
+    parts: &mut [SharedPart],
 ) -> Result<Vec<Vec<Child>>, AllocError>
     requires job { IsJob (job_of graph.now.graph plan.now) }
     requires few { options.now.replicas ≤ MOST_REPLICAS }
-    requires parts { AreParts arc_value (job_of graph.now.graph plan.now) parts.now }
+    requires parts { AreParts (λ part. part) (job_of graph.now.graph plan.now) parts.old }
     requires seat { HasSplit board.now (job_of graph.now.graph plan.now) 0 first.old }
     ensures { IfOk result (λ all. AreStarted (λ child. child.promise) (λ own. own.items)
         (job_of graph.now.graph plan.now) options.now all.items) }
@@ -253,11 +253,11 @@ fn start_or_stop<'s, 'a: 's, X, R: AllocGlobal + Threads + Wait + Sync, G: Gate 
     graph: &Graph,
     plan: &Plan,
     options: &RunOptions,
-    parts: &[SharedPart],
+    parts: &mut [SharedPart],
 ) -> Result<Vec<Vec<Child>>, AllocError>
     requires job { IsJob (job_of graph.now.graph plan.now) }
     requires few { options.now.replicas ≤ MOST_REPLICAS }
-    requires parts { AreParts arc_value (job_of graph.now.graph plan.now) parts.now }
+    requires parts { AreParts (λ part. part) (job_of graph.now.graph plan.now) parts.old }
     requires seat { HasSplit board.now (job_of graph.now.graph plan.now) 0 first }
     ensures { IfOk result (λ all. AreStarted (λ child. child.promise) (λ own. own.items)
         (job_of graph.now.graph plan.now) options.now all.items) }
@@ -326,11 +326,11 @@ fn run_in<'s, 'a: 's, X, R: AllocGlobal + Threads + Wait + Sync, G: Gate + Sync>
     graph: &Graph,
     plan: &Plan,
     options: &RunOptions,
-    parts: &[SharedPart],
+    parts: &mut [SharedPart],
 ) -> Result<Vec<Replica>, JobError>
     requires job { IsJob (job_of graph.now.graph plan.now) }
     requires few { options.now.replicas ≤ MOST_REPLICAS }
-    requires parts { AreParts arc_value (job_of graph.now.graph plan.now) parts.now }
+    requires parts { AreParts (λ part. part) (job_of graph.now.graph plan.now) parts.old }
     requires seat { HasSplit board.now (job_of graph.now.graph plan.now) 0 first }
     ensures done { IfOk result (λ rs. AreDone (job_of graph.now.graph plan.now) rs.items) }
     ensures fault { IfErr result (IsFaultOf plan.now.parts options.now) }
@@ -348,12 +348,12 @@ pub fn run_job<R: AllocGlobal + Threads + Wait + Sync, G: Gate + Sync>(
     rt: &R,
     graph: &Graph,
     plan: &Plan,
-    parts: &[SharedPart],
+    parts: &mut [SharedPart],
     options: &RunOptions,
     gate: &G,
 ) -> Result<Vec<Replica>, JobError>
     requires job { IsJob (job_of graph.now.graph plan.now) }
-    requires parts { AreParts arc_value (job_of graph.now.graph plan.now) parts.now }
+    requires parts { AreParts (λ part. part) (job_of graph.now.graph plan.now) parts.old }
     requires limits { are_in_limits options.now ≡ true }
     ensures done { IfOk result (λ rs. AreDone (job_of graph.now.graph plan.now) rs.items) }
     ensures fault { IfErr result (IsFaultOf plan.now.parts options.now) }
@@ -368,7 +368,7 @@ pub fn run_job<R: AllocGlobal + Threads + Wait + Sync, G: Gate + Sync>(
         |scope| -> Result<Vec<Replica>, JobError>
             requires job { IsJob (job_of graph.now.graph plan.now) }
             requires few { options.now.replicas ≤ MOST_REPLICAS }
-            requires parts { AreParts arc_value (job_of graph.now.graph plan.now) parts.now }
+            requires parts { AreParts (λ part. part) (job_of graph.now.graph plan.now) parts.now }
             requires seat { HasSplit board.now (job_of graph.now.graph plan.now) 0 first }
             ensures done { IfOk result (λ rs.
                 AreDone (job_of graph.entry.now.graph plan.entry.now) rs.items) }

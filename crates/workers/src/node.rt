@@ -10,8 +10,9 @@ ghost use Rattle.workers.specs.declared.node.NodeError.TheVariants.{BookFull, Me
 ghost use Rattle.workers.specs.Node.{FallsDue, HasToldAll, IfDone, IfLost, IfStarved, IsDone};
 ghost use Rattle.workers.specs.Node.{WasMissing};
 ghost use Rattle.workers.specs.Tie.{HasCome, HasGone, IsNodePath, IsPathTo};
-ghost use Rattle.workers.specs.Superstep.{IsAnew, IsFate, IsFirst, IsPartOf, StandsIn, early_end};
-ghost use Rattle.workers.specs.Superstep.{end_with};
+ghost use Rattle.workers.specs.Job.{KeepsItsOrders};
+ghost use Rattle.workers.specs.Superstep.{EndsAs, IsAnew, IsFate, IsFirst, IsPartOf, StandsIn};
+ghost use Rattle.workers.specs.Superstep.{early_end, end_with};
 ghost use Rattle.replica.specs.Sent.{batch_name};
 
 use crate::exchange::Exchange;
@@ -21,7 +22,7 @@ use crate::superstep::{SuperstepEnd, catch_up, run_superstep};
 use ball_model::NodeId;
 use board::BoardError;
 use edgelist::Part;
-use replica::{Replica, Shown};
+use replica::{ReadyPart, Replica, Shown};
 use std::alloc::{AllocError, AllocGlobal, Global};
 use std::sync::{Arc, Wait};
 use thiserror::Error;
@@ -260,8 +261,51 @@ pub fn run_node<R: AllocGlobal + Wait, E: Exchange, G: Gate>(
     ensures alone_fits { (E.caller exchange.old).seen.job.plan.parts ≡ 1 → orders.now.keep ≡ 0 →
         orders.now.restart ≡ None → result ≢ Err BookFull }
 {
-    let mut replica = first_replica(rt.alloc(), &part)?;
+    let replica = first_replica(rt.alloc(), &part)?;
+    run_from(rt, exchange, gate, node, &part, orders, replica)
+}
+
+/// Runs a node of a partition as [`run_node`] does, by a part that is ready for it.
+pub(crate) fn run_ready<R: AllocGlobal + Wait, E: Exchange, G: Gate>(
+    rt: &R,
+    exchange: &mut E,
+    gate: &G,
+    node: NodeId,
+    part: ReadyPart,
+    orders: &NodeOrders,
+) -> Result<NodeEnd, NodeError>
+    requires caller { IsCaller (E.caller exchange.old) }
+    requires job { IsJob (E.caller exchange.old).seen.job }
+    requires node { node.part < (E.caller exchange.old).seen.job.plan.parts }
+    requires part { part ≡ part_of (E.caller exchange.old).seen.job node.part }
+    ensures { KeepsItsOrders (E.caller exchange.old).seen.job node.part orders.now result }
+{
+    let shared = Arc::try_clone(part.part())?;
+    let replica = Replica::of_ready(rt.alloc(), part)?;
+    run_from(rt, exchange, gate, node, &shared, orders, replica)
+}
+
+// Runs a node of a partition to its end, by a new replica.
+fn run_from<R: AllocGlobal + Wait, E: Exchange, G: Gate>(
+    rt: &R,
+    exchange: &mut E,
+    gate: &G,
+    node: NodeId,
+    part: &Arc<Part>,
+    orders: &NodeOrders,
+    replica: Replica,
+) -> Result<NodeEnd, NodeError>
+    requires caller { IsCaller (E.caller exchange.old) }
+    requires part { IsPartOf (E.caller exchange.old) node.part (arc_value part.now) }
+    requires first { IsFirst (E.caller exchange.old).seen.job node.part replica }
+    ensures seen { Extends (E.caller exchange.old) (E.caller exchange.new) }
+    ensures ends { EndsAs (E.caller exchange.old) node.part orders.now.lose result
+        (E.caller exchange.new) }
+    ensures fits { (E.caller exchange.old).seen.job.plan.parts ≡ 1 → orders.now.keep ≡ 0 →
+        orders.now.restart ≡ None → result ≢ Err BookFull }
+{
+    let mut replica = replica;
     gate.after_start(node);
-    let fate = go_on(rt, exchange, gate, node, &part, orders, &mut replica);
+    let fate = go_on(rt, exchange, gate, node, part, orders, &mut replica);
     end_with(fate, replica)
 }

@@ -1,31 +1,40 @@
-//! The plan of a run and the parts of its partitions. Parts take only the plan's numbers, so its digest is made while
-//! they are.
+//! The plan of a run and the parts of its partitions. Parts and their indexes take only the plan's numbers, so its digest
+//! is made while they are.
 
 ghost use Rattle.std.specs.Prelude.{◌≡◌, ◌<◌, ◌^◌, ℕ, IfOk};
-ghost use Rattle.std.specs.Arc.{arc_value};
 ghost use Rattle.ball_model.specs.Job.{Job, digest_of, job_of, part_of};
 ghost use Rattle.edgelist.specs.Feeding.{feeds_of};
 ghost use Rattle.edgelist.specs.Planning.{signed};
 ghost use Rattle.workers.specs.Job.{AreParts, signed_job};
 
 use ball_model::Plan;
-use edgelist::{Graph, Part};
+use edgelist::{Feeds, Graph};
+use replica::{IndexedPart, ReadyPart};
 use std::alloc::{AllocError, AllocGlobal, Global};
-use std::sync::Arc;
 use std::thread;
 use std::thread::Threads;
 
-/// A part that threads share, where there was memory for it.
-pub(crate) type SharedPart = Result<Arc<Part>, AllocError>;
+/// A part that the nodes of its partition share, where there was memory for it.
+pub(crate) type SharedPart = Result<ReadyPart, AllocError>;
 
-// A part that was made, where there was memory for it.
-type MadePart = Result<Part, AllocError>;
+// A part that was made with its index, where there was memory for it.
+type MadePart = Result<IndexedPart, AllocError>;
 
 /// The plan of a job, and the part of each of its partitions.
 #[derive(Drop)]
 pub(crate) struct Planned {
     pub(crate) plan: Plan,
     pub(crate) parts: Vec<SharedPart>,
+}
+
+// The part of a partition, with its index.
+fn made_part(alloc: Global, graph: &Graph, plan: &Plan, p: u16, feeds: &Feeds) -> MadePart
+    requires vertices { plan.now.vertices ≡ graph.now.graph.vertices }
+    requires part { p < plan.now.parts }
+    requires feeds { feeds.now ≡ feeds_of graph.now.graph plan.now.parts }
+    ensures { IfOk result (λ part. part ≡ part_of (job_of graph.now.graph plan.now) p) }
+{
+    IndexedPart::of(alloc, graph.part_with(alloc, plan, p, feeds)?)
 }
 
 // The parts of all partitions, each made by a thread of its own where there could be one. The edges are walked over
@@ -49,16 +58,16 @@ fn made_parts<R: AllocGlobal + Threads + Sync>(
         requires feeds { feeds.now ≡ feeds_of graph.now.graph plan.now.parts }
         ensures { IfOk result (λ part. part ≡
             part_of (job_of graph.entry.now.graph plan.entry.now) p) }
-    { graph.part_with(alloc, plan, p as u16, feeds) };
+    { made_part(alloc, graph, plan, p as u16, feeds) };
     thread::map_indices(rt, alloc, usize::from(plan.parts()), &make)
 }
 
 // A part of the plan with this digest, to be shared.
 fn shared_part(alloc: Global, part: MadePart, job: [u8; 32]) -> SharedPart
     ensures { (j : Job) (p : ℕ) → IfOk part (λ made. made ≡ part_of j p) →
-        IfOk result (λ shared. arc_value shared ≡ part_of (signed_job j job) p) }
+        IfOk result (λ shared. shared ≡ part_of (signed_job j job) p) }
 {
-    Ok(Arc::new(alloc, part?.with_job(job))?)
+    part?.with_job(job).shared(alloc)
 }
 
 // The parts of the plan with this digest, to be shared.
@@ -68,7 +77,7 @@ fn shared_parts(
     job: [u8; 32],
 ) -> Result<Vec<SharedPart>, AllocError>
     ensures { (j : Job) → AreParts (λ part. part) j parts.items →
-        IfOk result (λ shared. AreParts arc_value (signed_job j job) shared.items) }
+        IfOk result (λ shared. AreParts (λ part. part) (signed_job j job) shared.items) }
 {
     let mut shared = Vec::with_capacity(alloc, parts.len())?;
     for part in parts {
@@ -86,7 +95,7 @@ pub(crate) fn plan_parts<R: AllocGlobal + Threads + Sync>(
     requires { bare.now.vertices ≡ graph.now.graph.vertices }
     ensures plan { IfOk result (λ all. all.plan ≡ signed graph.now.graph bare.now) }
     ensures parts { IfOk result (λ all.
-        AreParts arc_value (job_of graph.now.graph all.plan) all.parts.items) }
+        AreParts (λ part. part) (job_of graph.now.graph all.plan) all.parts.items) }
 {
     let digest = || -> [u8; 32]
         ensures { result ≡ digest_of bare.entry.now graph.entry.now.graph }

@@ -45,10 +45,28 @@ fn count(rt: &HostRuntime, graph: &mut Graph, list: Option<&[u8]>) -> bool {
     }
 }
 
-/// Adds a replica of a part.
-fn add(rt: &HostRuntime, all: &mut Vec<Replica>, part: Part) -> Option<()> {
+/// A replica of a part that was indexed before it was shared.
+fn ready_replica(rt: &HostRuntime, part: Part) -> Option<Replica> {
+    let job = part.plan().job();
+    let indexed = IndexedPart::of(rt.alloc(), part).ok()?;
+    let mut ready = indexed.with_job(job).shared(rt.alloc()).ok()?;
+    let part = ready.hand_out(rt.alloc()).ok()?;
+    Replica::of_ready(rt.alloc(), part).ok()
+}
+
+/// A replica of a part.
+fn new_replica(rt: &HostRuntime, part: Part) -> Option<Replica> {
     let part = Arc::new(rt.alloc(), part).ok()?;
-    let replica = Replica::new(rt.alloc(), part).ok()?;
+    Replica::new(rt.alloc(), part).ok()
+}
+
+/// Adds a replica of a part: of every other partition it is indexed first.
+fn add(rt: &HostRuntime, all: &mut Vec<Replica>, part: Part) -> Option<()> {
+    let replica = if part.partition() % 2 == 0 {
+        new_replica(rt, part)?
+    } else {
+        ready_replica(rt, part)?
+    };
     all.push(replica).ok()
 }
 

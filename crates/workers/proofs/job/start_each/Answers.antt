@@ -1,4 +1,5 @@
-use Rattle.std.proofs.Common.{◌+◌, ℕ, refl, subst, sym}
+use Rattle.std.proofs.Common.{◌≡◌, ◌∙◌, ◌+◌, ◌<◌, ℕ, ap, arith, refl, set, subst, sym}
+use Rattle.std.proofs.lemmas.List.{set-get_or}
 use Rattle.ball_model.specs.Job.{Job, job_of}
 use Rattle.workers.proofs.JobLemmas.{StartingAll, starting_all_more}
 use Rattle.workers.proofs.job.start_each.Goals as goal
@@ -10,9 +11,16 @@ loop-p-preserved g c =
     let p : ℕ = c.loop-p.p in (
       c.start_part.ensures.seat,
       subst (StartingAll (λ h. h.promise) (λ own. own.items) j o (p + 1)) (sym c.in_ok-push.ensures.items) (starting_all_more (λ h. h.promise) (λ own. own.items) j o p c.loop-p.children.items c.in_ok-own.own c.loop-p.invariant.1 c.in_ok-own.ensures.started),
+      ap (set c.loop-p.parts c.from.result) c.start_part.ensures.part ∙ set-get_or c.loop-p.parts c.from.result c.index-parts-from.result ∙ c.loop-p.invariant.2,
     )
 
 pub loop-p-init : goal.loop-p-init
 loop-p-init g c =
     let j : Job = job_of c.args.graph.now.graph c.args.plan.now in
-    (c.requires.seat, subst (StartingAll (λ h. h.promise) (λ own. own.items) j c.args.options.now 0) (sym c.requires.none) (record { count = refl; each = tt }))
+    (c.requires.seat, subst (StartingAll (λ h. h.promise) (λ own. own.items) j c.args.options.now 0) (sym c.requires.none) (record { count = refl; each = tt }), refl)
+
+pub start_part-requires-clause-part : goal.start_part-requires-clause-part
+start_part-requires-clause-part g c κs within =
+    let j : Job = job_of c.args.graph.now.graph c.args.plan.now in
+    let below : c.loop-p.p < j.plan.parts = omega (arith, c.loop-p-test.true, c.loop-p.auto.p-end, c.parts-p-end.ensures.value) in
+    rw (c.loop-p.invariant.2, c.from.ensures) (c.requires.parts.each c.loop-p.p c.index-parts-from.result below)

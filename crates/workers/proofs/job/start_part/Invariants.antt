@@ -1,4 +1,4 @@
-use Rattle.std.proofs.Common.{◌+◌, ◌*◌}
+use Rattle.std.proofs.Common.{◌≡◌, ◌+◌, ◌*◌}
 use Rattle.ball_model.specs.Job.{Job, job_of}
 use Rattle.ball_model.specs.declared.plan.TheConstants.{MOST_REPLICAS}
 use Rattle.workers.specs.Job.{HasSplit}
@@ -10,3 +10,4 @@ invariant-loop-replica g l =
     let j : Job = job_of l.graph.graph l.plan in
     HasSplit l.board j (MOST_REPLICAS * l.p + l.replica) l.first
     × Starting (λ h. h.promise) j l.options l.p l.replica l.children.items
+    × (l.part ≡ l.initial.part)

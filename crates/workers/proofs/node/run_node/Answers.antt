@@ -1,43 +1,24 @@
-use Rattle.std.proofs.Common.{refl, sym, subst}
+use Rattle.std.proofs.Common.{refl}
 use Rattle.ball_model.specs.Caller.{Caller}
-use Rattle.ball_model.specs.Join.{Holding}
-use Rattle.ball_model.specs.History.{holding_in}
-use Rattle.ball_model.specs.State.{State}
-use Rattle.workers.specs.declared.node.NodeEnd.{NodeEnd}
-use Rattle.workers.specs.declared.node.NodeError.{NodeError}
-use Rattle.std.specs.Prelude.{OnErr, OnOk, Result}
-use Rattle.workers.specs.Tie.{HasCome, HasGone}
-use Rattle.workers.proofs.NodeLemmas.{EndsAs, end_fits, ended}
 use Rattle.workers.proofs.PathLemmas.{gone_nowhere}
-use Rattle.workers.proofs.SuperstepLemmas.{stands_at}
 use Rattle.workers.proofs.node.run_node.Goals as goal
 
 pub returns-in_err-replica-clause-path : goal.returns-in_err-replica-clause-path
 returns-in_err-replica-clause-path g c = gone_nowhere _ _ _ _ refl
 
-pub go_on-fate-requires-clause-part : goal.go_on-fate-requires-clause-part
-go_on-fate-requires-clause-part g c = record { job = c.requires.job; below = c.requires.node; part = c.requires.part }
+pub run_from-requires-clause-part : goal.run_from-requires-clause-part
+run_from-requires-clause-part g c = record { job = c.requires.job; below = c.requires.node; part = c.requires.part }
 
-pub go_on-fate-requires-clause-stands : goal.go_on-fate-requires-clause-stands
-go_on-fate-requires-clause-stands g c =
+pub run_from-requires-clause-first : goal.run_from-requires-clause-first
+run_from-requires-clause-first g c =
     let v : Caller = g.E.Exchange.caller c.args.exchange.now in
-    let first = c.in_ok-replica.ensures.first v.seen.job c.args.node.part c.requires.job c.requires.node c.requires.part in
-    stands_at v.seen.job c.args.node.part _ _ first.stands
+    c.in_ok-replica.ensures.first v.seen.job c.args.node.part c.requires.job c.requires.node c.requires.part
 
 pub returns : goal.returns
 returns g c =
-    let v : Caller = g.E.Exchange.caller c.args.exchange.now in
-    let w : Caller = g.E.Exchange.caller c.go_on-fate.new.exchange in
-    let p = c.args.node.part in
-    let r : State = c.go_on-fate.new.replica in
-    let lose = c.args.orders.now.lose in
-    let first = c.in_ok-replica.ensures.first v.seen.job p c.requires.job c.requires.node c.requires.part in
-    let came = subst (λ (h : Holding). OnOk c.go_on-fate.result (HasCome v p h (holding_in r) w)) first.held c.go_on-fate.ensures.came in
-    let gone = subst (λ (h : Holding). OnErr c.go_on-fate.result (HasGone v p h w)) first.held c.go_on-fate.ensures.gone in
-    let end : EndsAs v p lose c.end_with.result w =
-    subst (λ (e : Result NodeEnd NodeError). EndsAs v p lose e w) (sym c.end_with.ensures) (ended v p lose r c.go_on-fate.result w c.requires.node c.go_on-fate.ensures.fate came gone c.go_on-fate.ensures.full) in
+    let end = c.run_from.ensures.ends in
     record {
-      seen = c.go_on-fate.ensures.seen;
+      seen = c.run_from.ensures.seen;
       done = end.done;
       told = end.told;
       lost = end.lost;
@@ -49,5 +30,5 @@ returns g c =
       came = end.came;
       full = end.full;
       alone = end.alone;
-      alone_fits = λ one keep anew. end_fits c.go_on-fate.result r c.end_with.result c.end_with.ensures (c.go_on-fate.ensures.alone one keep anew);
+      alone_fits = c.run_from.ensures.fits;
     }

@@ -1,4 +1,5 @@
-use Rattle.std.proofs.Common.{refl}
+use Rattle.std.proofs.Common.{◌∙◌, refl}
+use Rattle.std.proofs.lemmas.Result.{IfOk-weaker}
 use Rattle.ball_model.specs.Job.{part_of}
 use Rattle.workers.proofs.planned.shared_part.Goals as goal
 
@@ -6,4 +7,4 @@ pub returns : goal.returns
 unfolding part_of
 returns c = λ j p h.
     let made = rw c.in_ok-part.was at h in
-    rw (c.in_ok-new.ensures.ok, c.with_job.ensures, made) refl
+    IfOk-weaker c.shared.result _ _ (λ ready is. is ∙ rw (c.with_job.ensures, made) refl) c.shared.ensures

@@ -1,4 +1,3 @@
-use Rattle.std.specs.Arc.{arc_value}
 use Rattle.std.specs.Vec.Iter.{into_iter_items}
 use Rattle.ball_model.specs.Job.{Job}
 use Rattle.workers.specs.Job.{AreParts}
@@ -7,4 +6,4 @@ use Rattle.workers.proofs.planned.shared_parts.Given as goal
 
 abbrev pub invariant-loop-part : goal.invariant-loop-part
 invariant-loop-part l = (j : Job) → AreParts (λ part. part) j l.fn.parts.items →
-    Signing arc_value j l.fn.job (into_iter_items l.part-iterator) l.shared.items
+    Signing (λ part. part) j l.fn.job (into_iter_items l.part-iterator) l.shared.items
