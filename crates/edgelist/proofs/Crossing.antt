@@ -1,4 +1,4 @@
--- Graphs and parts may cross threads, and the masks that parts are made by may be shared.
+-- Parts may cross threads; graphs, and the masks that parts are made by, may be shared.
 use denote.Param.Send.{IsSend, IsSync, sendable}
 use Rattle.std.proofs.Crossing.{crosses, Arc-send, Arc-sync}
 use Rattle.std.specs.contracts.alloc.Global as Heap
@@ -13,9 +13,6 @@ part_send = search (sendable, crosses) depth 30
 
 pub part_sync : IsSync part.the_row
 part_sync = search (sendable, crosses) depth 30
-
-pub graph_send : IsSend graph.the_row
-graph_send = search (sendable, crosses) depth 30
 
 pub graph_sync : IsSync graph.the_row
 graph_sync = search (sendable, crosses) depth 30

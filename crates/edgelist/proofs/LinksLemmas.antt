@@ -1,5 +1,5 @@
 -- The predecessors that a graph of lists has are those lists.
-use Rattle.std.proofs.Common.{◌≡◌, ℕ, zero, suc, ◌+◌, ◌<◌, ◌≤◌, Bool, true, false, ◌&&◌, ◌||◌, ◌==◌, nat_eq, List, [], ◌∷◌, ◌++◌, length, map, get_or, refl, ap, arith, inl, inr, sym, subst, ◌∙◌, tests}
+use Rattle.std.proofs.Common.{◌≡◌, ◌≢◌, ℕ, zero, suc, ◌+◌, ◌<◌, ◌≤◌, Bool, true, false, ◌&&◌, ◌||◌, ◌==◌, nat_eq, List, [], ◌∷◌, ◌++◌, length, map, get_or, refl, ap, arith, inl, inr, sym, subst, ◌∙◌, tests}
 use Rattle.std.specs.List.{list_any, filter, flat_map, range_with_len, sum_by, AllByRecursion}
 use Rattle.std.proofs.lemmas.List.Elements.{filter_agree}
 use Rattle.std.proofs.lemmas.List.{length-map, length-append}
@@ -14,22 +14,24 @@ use Rattle.ball_model.proofs.CountedLemmas.{is_kept}
 use Rattle.edgelist.proofs.RangeLemmas.{filter_range-same}
 
 -- the edges to one vertex
-any_here : (ps : List ℕ) (y x : ℕ) → list_any (λ (e : ℕ × ℕ). (e.0 == y) && (e.1 == x)) (map (λ p. (p, x)) ps) ≡ list_any (λ p. p == y) ps
+pub any_here : (ps : List ℕ) (y x : ℕ) → list_any (λ (e : ℕ × ℕ). (e.0 == y) && (e.1 == x)) (map (λ p. (p, x)) ps) ≡ list_any (λ p. p == y) ps
 any_here [] y x = refl
 any_here (p ∷ ps) y x =
     let same : nat_eq x x ≡ true = search (tests, arith) in
     rw (same, and-true (p == y), any_here ps y x) refl
 
-any_elsewhere : (ps : List ℕ) (y a x : ℕ) → nat_eq a x ≡ false → list_any (λ (e : ℕ × ℕ). (e.0 == y) && (e.1 == x)) (map (λ p. (p, a)) ps) ≡ false
-any_elsewhere [] y a x e = refl
-any_elsewhere (p ∷ ps) y a x e = rw (e, and-false (p == y), any_elsewhere ps y a x e) refl
+pub any_elsewhere : (ps : List ℕ) (y a x : ℕ) → a ≢ x → list_any (λ (e : ℕ × ℕ). (e.0 == y) && (e.1 == x)) (map (λ p. (p, a)) ps) ≡ false
+any_elsewhere [] y a x apart = refl
+any_elsewhere (p ∷ ps) y a x apart =
+    let other : nat_eq a x ≡ false = search (tests, arith) in
+    rw (other, and-false (p == y), any_elsewhere ps y a x apart) refl
 
 -- no edge leads below the first vertex
 any_before : (lists : List (List ℕ)) (a y x : ℕ) → x < a → list_any (λ (e : ℕ × ℕ). (e.0 == y) && (e.1 == x)) (edges_from a lists) ≡ false
 unfolding edges_from
 any_before [] a y x lt = refl
 any_before (ps ∷ rest) a y x lt =
-    let apart : nat_eq a x ≡ false = search (tests, arith) in
+    let apart : a ≢ x = omega arith in
     list_any-append (λ (e : ℕ × ℕ). (e.0 == y) && (e.1 == x)) (map (λ p. (p, a)) ps) (edges_from (a + 1) rest)
     ∙ rw (any_elsewhere ps y a x apart) (any_before rest (a + 1) y x (omega arith))
 
@@ -41,7 +43,7 @@ any_edges (ps ∷ rest) a y zero lt =
     rw here (list_any-append (λ (e : ℕ × ℕ). (e.0 == y) && (e.1 == a)) (map (λ p. (p, a)) ps) (edges_from (a + 1) rest)
     ∙ rw (any_here ps y a, any_before rest (a + 1) y a (omega arith)) (or-false (list_any (λ p. p == y) ps)))
 any_edges (ps ∷ rest) a y (suc i) lt =
-    let apart : nat_eq a (a + suc i) ≡ false = search (tests, arith) in
+    let apart : a ≢ a + suc i = omega arith in
     let moved : a + suc i ≡ (a + 1) + i = omega arith in
     list_any-append (λ (e : ℕ × ℕ). (e.0 == y) && (e.1 == a + suc i)) (map (λ p. (p, a)) ps) (edges_from (a + 1) rest)
     ∙ rw (any_elsewhere ps y a (a + suc i) apart, moved) (any_edges rest (a + 1) y i (omega arith))

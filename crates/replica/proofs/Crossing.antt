@@ -1,4 +1,4 @@
--- Snapshots, replicas and parts that are ready for them may cross threads.
+-- Snapshots, replicas and indexes of parts may cross threads.
 use denote.Param.Send.{IsSend, IsSync, sendable}
 use Rattle.std.proofs.Crossing.{crosses, Arc-send, Arc-sync}
 use Rattle.std.specs.contracts.alloc.Global as Heap
@@ -6,15 +6,14 @@ use Rattle.std.specs.contracts.impls.GlobalAllocator.TheImpl.{ghosts}
 use Rattle.std.specs.contracts.sync.Arc as arc
 use Rattle.registers.proofs.Crossing.{rows_send, rows_sync}
 use Rattle.batches.proofs.Crossing.{batch_send, batch_sync}
-use Rattle.edgelist.proofs.Crossing.{part_send, part_sync, shared_part_send}
+use Rattle.edgelist.proofs.Crossing.{part_send, part_sync}
 use Rattle.figures.proofs.Crossing.{estimator_send, estimator_sync, tally_send, tally_sync}
 use Rattle.replica.specs.contracts.Progress as progress
 use Rattle.replica.specs.contracts.Replica as replica
 use Rattle.replica.specs.contracts.Snapshot as snapshot
-use Rattle.replica.specs.contracts.indexed.IndexedPart as indexed
-use Rattle.replica.specs.contracts.indexed.ReadyPart as ready
 use Rattle.replica.specs.contracts.tables.Tables as tables
 use Rattle.replica.specs.contracts.tallies.Tallies as tallies
+use Rattle.replica.specs.contracts.targets.Targets as targets
 
 tallies_send : IsSend tallies.the_row
 tallies_send = search (tally_send, tally_sync, sendable, crosses) depth 30 fits 20000
@@ -53,9 +52,5 @@ shared_snapshot_send = Arc-send _ snapshot_send snapshot_sync
 pub shared_snapshot_sync : IsSync (arc.the_row snapshot.the_row Heap.the_row ghosts)
 shared_snapshot_sync = Arc-sync _ snapshot_send snapshot_sync
 
--- a part that is made with its index, and one that is ready for a replica
-pub indexed_part_send : IsSend indexed.the_row
-indexed_part_send = search (part_send, sendable, crosses) depth 30 fits 20000
-
-pub ready_part_send : IsSend ready.the_row
-ready_part_send = search (shared_part_send, sendable, crosses) depth 30 fits 20000
+pub targets_send : IsSend targets.the_row
+targets_send = search (sendable, crosses) depth 30 fits 20000

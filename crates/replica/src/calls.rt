@@ -17,16 +17,18 @@ ghost use Rattle.replica.specs.Level.{EndsRun, found_verdict, missing_in};
 ghost use Rattle.replica.specs.Merged.{AreOfOnePart, TakesIn, HoldsOfBoth, ShowsAs, merge_answer};
 ghost use Rattle.replica.specs.Progress.{CanGoOn};
 ghost use Rattle.replica.specs.Runs.{HasContent, Takes, Closes, Merges};
+ghost use Rattle.replica.specs.Start.{Starts};
 
-use crate::indexed::ReadyPart;
+use crate::early::Early;
+use crate::hearing::Hearing;
 use crate::shown::Shown;
+use crate::tables::Tables;
 use crate::targets::Targets;
 use crate::{Progress, Replica, Snapshot, start, step};
-use ball_model::{BatchName, CloseError, MergeError, Plan, TakeError, Taken, Verdict};
+use ball_model::{CloseError, MergeError, TakeError, Taken};
 use batches::Batch;
 use edgelist::Part;
-use figures::{Estimator, Tally};
-use registers::{Rows, SourceMask};
+use figures::Estimator;
 use std::alloc::{AllocError, Global};
 use std::sync::Arc;
 
@@ -42,41 +44,40 @@ impl Replica {
         ensures stands { IfOk result (λ r. (j : Job) (p : ℕ) → IsJob j → p < j.plan.parts →
             arc_value part ≡ part_of j p → StandsFor j p 0 r) }
     {
-        Replica::of_ready(alloc, ReadyPart::of(part))
+        let targets = Targets::of(alloc, &part)?;
+        Replica::with_targets(alloc, part, targets)
     }
 
-    /// That of a part that is ready for it: the index that was made already is not made again.
-    #[tactic(auto, using(crate::proofs::StartLemmas::Start::starts_empty))]
-    pub fn of_ready(alloc: Global, part: ReadyPart) -> Result<Replica, AllocError>
-        ensures part { IfOk result (λ r. r.part ≡ part) }
-        ensures superstep { IfOk result (λ r. r.superstep ≡ 0) }
-        ensures names { IfOk result (λ r. (s q : ℕ) → (content_of r).holds s q ≡ false) }
-        ensures stands { IfOk result (λ r. (j : Job) (p : ℕ) → IsJob j → p < j.plan.parts →
-            part ≡ part_of j p → StandsFor j p 0 r) }
-    {
-        let shared = Arc::try_clone(part.part())?;
-        let estimator = start::estimator_of(alloc, shared.plan())?;
-        let progress = start::first(alloc, shared, &estimator)?;
-        let targets = part.into_targets(alloc)?;
-        Replica::with_targets(alloc, progress, targets, estimator)
-    }
-
-    /// A replica that has this; estimates are made as its plan says.
-    pub(crate) fn of(
+    /// The same, by the index of the part, which was made before: so it takes time in proportion to the registers alone.
+    ///
+    /// The error is that memory was refused; the part and the index are dropped then.
+    pub fn with_targets(
         alloc: Global,
-        progress: Progress,
-        estimator: Estimator,
+        part: Arc<Part>,
+        targets: Targets,
     ) -> Result<Replica, AllocError>
-        requires goes_on { CanGoOn progress }
-        requires measure { estimator ≡ measure_of progress.state.part.plan }
-        ensures { IfOk result (λ r. r ≡ progress.state) }
+        requires { targets ≡ targets_of (arc_value part) }
+        ensures { IfOk result (λ r. Starts (arc_value part) r) }
     {
-        let targets = Targets::of(alloc, &progress.part)?;
-        Replica::with_targets(alloc, progress, targets, estimator)
+        let plan = *part.plan();
+        // the limits of a part are told with its number
+        prove!(part.partition() < plan.parts());
+        let estimator = start::estimator_of(alloc, &plan)?;
+        let tables = Tables::start(alloc, &part, &estimator)?;
+        let hearing = Hearing::start(alloc, tables.rows())?;
+        let early = Early::empty(alloc, plan.parts())?;
+        let progress = Progress {
+            part,
+            superstep: 0,
+            tables,
+            hearing,
+            early,
+        };
+        Replica::of(alloc, progress, targets, estimator)
     }
 
-    // A replica that has this, by the index of its part.
-    fn with_targets(
+    /// A replica that has this, by the index of its part. Estimates are made as its plan says.
+    pub(crate) fn of(
         alloc: Global,
         progress: Progress,
         targets: Targets,
@@ -87,7 +88,8 @@ impl Replica {
         requires measure { estimator ≡ measure_of progress.state.part.plan }
         ensures { IfOk result (λ r. r ≡ progress.state) }
     {
-        let weights = progress.weights(alloc)?;
+        let mut weights = Vec::with_capacity(alloc, progress.tables.rows().len())?;
+        progress.weigh_again(&mut weights);
         Ok(Replica {
             progress,
             targets,

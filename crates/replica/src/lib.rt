@@ -33,14 +33,13 @@
 //! replica.close()                                    // Ok(1), the superstep that it is at now
 //! ```
 //!
-//! Only [`Replica::new`], [`Replica::rebuild`], [`Replica::out`], [`Replica::changed_rows`],
-//! [`Replica::out_of`], [`Replica::snapshot`], [`Replica::merge`] and a join take memory.
+//! Only [`Targets::of`], [`Replica::new`], [`Replica::with_targets`], [`Replica::rebuild`], [`Replica::out`],
+//! [`Replica::changed_rows`], [`Replica::out_of`], [`Replica::snapshot`], [`Replica::merge`] and a join take memory.
 #![tactic(auto)]
 
 mod calls;
 mod early;
 mod hearing;
-pub mod indexed;
 mod join;
 pub mod laws;
 mod level;
@@ -63,14 +62,13 @@ pub use early::LEVELS;
 use edgelist::Part;
 use figures::Estimator;
 use hearing::Hearing;
-pub use indexed::{IndexedPart, ReadyPart};
 pub use out::ChangedRows;
 pub use saved::Saved;
 pub use shown::Shown;
 use std::marker::Model;
 use std::sync::Arc;
 use tables::Tables;
-use targets::Targets;
+pub use targets::Targets;
 
 #[cfg(test)]
 mod tests;

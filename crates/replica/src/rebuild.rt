@@ -11,6 +11,7 @@ use crate::early::Early;
 use crate::hearing::{self, Hearing};
 use crate::saved::Saved;
 use crate::tables::{self, Tables};
+use crate::targets::Targets;
 use crate::{Progress, Replica, Shown, start};
 use batches::Batch;
 use edgelist::Part;
@@ -32,7 +33,8 @@ impl Replica {
     {
         let progress = rebuilt(alloc, part, saved)?;
         let estimator = start::estimator_of(alloc, progress.plan())?;
-        Replica::of(alloc, progress, estimator)
+        let targets = Targets::of(alloc, &progress.part)?;
+        Replica::of(alloc, progress, targets, estimator)
     }
 }
 

@@ -2,24 +2,17 @@
 
 ghost use Rattle.std.specs.Prelude.{◌≡◌, ◌^◌, map};
 ghost use Rattle.std.specs.Prelude.{slice_set, IfOk};
-ghost use Rattle.std.specs.Arc.{arc_value};
 ghost use Rattle.ball_model.specs.PlanValue.{measure_of};
 ghost use Rattle.figures.specs.Values.{value_of};
 ghost use Rattle.replica.specs.Kept.{AreCounters};
-ghost use Rattle.replica.specs.Progress.{CanGoOn};
-ghost use Rattle.replica.specs.Start.{IsEmptyAt, Starts, first_figures, first_row};
+ghost use Rattle.replica.specs.Start.{IsEmptyAt, first_figures, first_row};
 ghost use Rattle.replica.specs.Start.{first_rows_of_part};
 
-use crate::early::Early;
-use crate::hearing::Hearing;
-use crate::tables::Tables;
-use crate::{Progress, level};
 use ball_model::{Plan, mix, place};
 use edgelist::Part;
 use figures::{Estimator, Tally};
 use registers::Rows;
 use std::alloc::{AllocError, Global};
-use std::sync::Arc;
 
 /// How the estimates of the plan are made.
 pub fn estimator_of(alloc: Global, plan: &Plan) -> Result<Estimator, AllocError>
@@ -84,25 +77,4 @@ pub fn start_tallies(
         tallies.push_reserved(Tally::start(estimator.estimate(rows.row(i))));
     }
     Ok(tallies)
-}
-
-/// What a replica of the part begins with, at superstep 0.
-pub fn first(alloc: Global, part: Arc<Part>, estimator: &Estimator) -> Result<Progress, AllocError>
-    requires { estimator.now ≡ measure_of (arc_value part).plan }
-    ensures starts { IfOk result (λ r. Starts (arc_value part) r.state) }
-    ensures goes_on { IfOk result (λ r. CanGoOn r) }
-{
-    let plan = part.plan();
-    // the limits of a part are told with its number
-    prove!(part.partition() < plan.parts());
-    let early = Early::empty(alloc, plan.parts())?;
-    let tables = Tables::start(alloc, &part, estimator)?;
-    let hearing = Hearing::start(alloc, tables.rows())?;
-    Ok(Progress {
-        part,
-        superstep: 0,
-        tables,
-        hearing,
-        early,
-    })
 }

@@ -29,6 +29,7 @@ mod bytes;
 mod ends;
 mod exchange;
 mod gate;
+mod indexed;
 mod job;
 mod laws;
 mod memory;

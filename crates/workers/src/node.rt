@@ -17,12 +17,13 @@ ghost use Rattle.replica.specs.Sent.{batch_name};
 
 use crate::exchange::Exchange;
 use crate::gate::Gate;
+use crate::indexed::ReadyPart;
 use crate::shared::SharedTables;
 use crate::superstep::{SuperstepEnd, catch_up, run_superstep};
 use ball_model::NodeId;
 use board::BoardError;
 use edgelist::Part;
-use replica::{ReadyPart, Replica, Shown};
+use replica::{Replica, Shown};
 use std::alloc::{AllocError, AllocGlobal, Global};
 use std::sync::{Arc, Wait};
 use thiserror::Error;
@@ -281,7 +282,7 @@ pub(crate) fn run_ready<R: AllocGlobal + Wait, E: Exchange, G: Gate>(
     ensures { KeepsItsOrders (E.caller exchange.old).seen.job node.part orders.now result }
 {
     let shared = Arc::try_clone(part.part())?;
-    let replica = Replica::of_ready(rt.alloc(), part)?;
+    let replica = part.into_replica(rt.alloc())?;
     run_from(rt, exchange, gate, node, &shared, orders, replica)
 }
 

@@ -7,9 +7,9 @@ ghost use Rattle.edgelist.specs.Feeding.{feeds_of};
 ghost use Rattle.edgelist.specs.Planning.{signed};
 ghost use Rattle.workers.specs.Job.{AreParts, signed_job};
 
+use crate::indexed::{IndexedPart, ReadyPart};
 use ball_model::Plan;
 use edgelist::{Feeds, Graph};
-use replica::{IndexedPart, ReadyPart};
 use std::alloc::{AllocError, AllocGlobal, Global};
 use std::thread;
 use std::thread::Threads;

@@ -1,22 +1,15 @@
 -- Where the index of a part leads.
 use Rattle.std.proofs.Common.{◌≡◌, ◌≢◌, ℕ, zero, suc, ◌+◌, ◌<◌, ◌≤◌, Bool, true, false, ◌&&◌, ◌||◌, ◌==◌, List, [], ◌∷◌, map, length, get_or, if◌then◌else◌, refl, ap, arith, sym, ◌∙◌, inl, inr}
-use Rattle.std.proofs.Math.Bool.{and-true, or-false}
-use Rattle.replica.proofs.Names.{list_any, filter, flat_map, range_with_len, cases_lt, and_right, ne_eqb, eq-eqb, get_or-map-range_with_len, length-map-range_with_len, Job, IsJob, PartValue, part_of, own_vertices, get_or-map, get_or_past, list_any_at, list_any-append}
+use Rattle.std.proofs.Math.Bool.{or-false}
+use Rattle.replica.proofs.Names.{list_any, filter, flat_map, range_with_len, cases_lt, eq-eqb, get_or-map-range_with_len, length-map-range_with_len, Job, IsJob, PartValue, part_of, own_vertices, get_or-map, get_or_past, list_any_at, list_any-append}
 use Rattle.ball_model.specs.Graph.{is_edge, preds_of}
 use Rattle.ball_model.proofs.PathLemmas.{edge_below}
 use Rattle.ball_model.proofs.AccumulatedLemmas.{any_pred}
+use Rattle.edgelist.proofs.LinksLemmas.{any_elsewhere, any_here}
 use Rattle.replica.specs.Spread.{stands_in, LeadInside}
 use Rattle.replica.specs.Index.{first_edges, all_edges, targets_from, targets_of}
 
 -- ---- the edges to own vertices
-any_elsewhere : (ps : List ℕ) (y a x : ℕ) → a ≢ x → list_any (λ (e : ℕ × ℕ). (e.0 == y) && (e.1 == x)) (map (λ p. (p, a)) ps) ≡ false
-any_elsewhere [] y a x ne = refl
-any_elsewhere (p ∷ ps) y a x ne = rw (and_right (p == y) (a == x) (ne_eqb a x ne)) (any_elsewhere ps y a x ne)
-
-any_here : (ps : List ℕ) (y x : ℕ) → list_any (λ (e : ℕ × ℕ). (e.0 == y) && (e.1 == x)) (map (λ p. (p, x)) ps) ≡ stands_in ps y
-any_here [] y x = refl
-any_here (p ∷ ps) y x = rw (eq-eqb x x refl, and-true (p == y), any_here ps y x) refl
-
 -- the edges to own vertex k
 abbrev pub edges_to : List (List ℕ) → ℕ → List (ℕ × ℕ)
 edges_to preds k = map (λ y. (y, k)) (get_or preds k [])

@@ -46,12 +46,10 @@ fn count(rt: &HostRuntime, graph: &mut Graph, list: Option<&[u8]>) -> bool {
 }
 
 /// A replica of a part that was indexed before it was shared.
-fn ready_replica(rt: &HostRuntime, part: Part) -> Option<Replica> {
-    let job = part.plan().job();
-    let indexed = IndexedPart::of(rt.alloc(), part).ok()?;
-    let mut ready = indexed.with_job(job).shared(rt.alloc()).ok()?;
-    let part = ready.hand_out(rt.alloc()).ok()?;
-    Replica::of_ready(rt.alloc(), part).ok()
+fn indexed_replica(rt: &HostRuntime, part: Part) -> Option<Replica> {
+    let targets = Targets::of(rt.alloc(), &part).ok()?;
+    let part = Arc::new(rt.alloc(), part).ok()?;
+    Replica::with_targets(rt.alloc(), part, targets).ok()
 }
 
 /// A replica of a part.
@@ -65,7 +63,7 @@ fn add(rt: &HostRuntime, all: &mut Vec<Replica>, part: Part) -> Option<()> {
     let replica = if part.partition() % 2 == 0 {
         new_replica(rt, part)?
     } else {
-        ready_replica(rt, part)?
+        indexed_replica(rt, part)?
     };
     all.push(replica).ok()
 }

@@ -1,7 +1,6 @@
 use denote.Param.Send.{sendable}
 use Rattle.board.proofs.Crossing.{board_sync, seat_send}
-use Rattle.replica.proofs.Crossing.{ready_part_send}
-use Rattle.workers.proofs.Crossing.{duty_send, running_sync}
+use Rattle.workers.proofs.Crossing.{duty_send, ready_part_send, running_sync}
 use Rattle.workers.proofs.job.start_node.Goals as goal
 
 pub spawn_with-requires-send-F : goal.spawn_with-requires-send-F

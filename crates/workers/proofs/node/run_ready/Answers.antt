@@ -1,6 +1,5 @@
 use Rattle.std.proofs.Common.{◌∙◌}
 use Rattle.ball_model.specs.Caller.{Caller}
-use Rattle.workers.proofs.PathLemmas.{start_held}
 use Rattle.workers.proofs.node.run_ready.Goals as goal
 
 pub run_from-requires-clause-part : goal.run_from-requires-clause-part
@@ -9,8 +8,7 @@ run_from-requires-clause-part g c = record { job = c.requires.job; below = c.req
 pub run_from-requires-clause-first : goal.run_from-requires-clause-first
 run_from-requires-clause-first g c =
     let v : Caller = g.E.Exchange.caller c.args.exchange.now in
-    let stands = c.in_ok-replica.ensures.stands v.seen.job c.args.node.part c.requires.job c.requires.node c.requires.part in
-    record { stands = stands; held = start_held v.seen.job c.args.node.part _ stands c.in_ok-replica.ensures.names }
+    c.in_ok-replica.ensures v.seen.job c.args.node.part c.requires.job c.requires.node c.requires.part
 
 pub returns : goal.returns
 returns g c =

@@ -1,6 +1,6 @@
 use Rattle.std.proofs.Common.{◌∙◌, refl}
 use Rattle.replica.specs.Index.{targets_of}
-use Rattle.replica.proofs.indexed.IndexedPart.with_job.Goals as goal
+use Rattle.workers.proofs.indexed.IndexedPart.with_job.Goals as goal
 
 pub invariant_of-result : goal.invariant_of-result
 unfolding targets_of

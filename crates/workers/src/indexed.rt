@@ -1,21 +1,19 @@
 //! Parts with the index that a replica of them needs.
 
-ghost use Rattle.std.specs.Prelude.{◌≡◌, IfOk, IfSome};
+ghost use Rattle.std.specs.Prelude.{◌≡◌, ◌<◌, ℕ, IfOk};
 ghost use Rattle.std.specs.Arc.{arc_value};
-ghost use Rattle.replica.specs.Index.{targets_of};
+ghost use Rattle.ball_model.specs.Job.{IsJob, Job, part_of};
+ghost use Rattle.workers.specs.Superstep.{IsFirst};
 
-use crate::targets::Targets;
 use edgelist::Part;
+use replica::{Replica, Targets};
 use std::alloc::{AllocError, Global};
 use std::marker::Model;
 use std::sync::Arc;
 
-/// A part, and from each vertex of the graph the own vertices that it has an edge to.
-///
-/// That index takes longer to make than the rest of a new replica, and it does not ask for the job's digest. So it can
-/// be made while that is.
+/// A part and its index, which can be made while the job's digest is.
 #[derive(Drop)]
-pub struct IndexedPart {
+pub(crate) struct IndexedPart {
     part: Part,
     targets: Targets,
 }
@@ -34,7 +32,7 @@ impl Model for IndexedPart {
 
 impl IndexedPart {
     /// The part, indexed. It takes time in proportion to the vertices of the graph and the edges into the part.
-    pub fn of(alloc: Global, part: Part) -> Result<IndexedPart, AllocError>
+    pub(crate) fn of(alloc: Global, part: Part) -> Result<IndexedPart, AllocError>
         ensures { IfOk result (λ indexed. indexed ≡ part) }
     {
         let targets = Targets::of(alloc, &part)?;
@@ -42,7 +40,7 @@ impl IndexedPart {
     }
 
     /// The same of a plan with another job digest.
-    pub fn with_job(self, job: [u8; 32]) -> IndexedPart
+    pub(crate) fn with_job(self, job: [u8; 32]) -> IndexedPart
         ensures { result ≡ record self { plan = record self.plan { job = job } } }
     {
         let IndexedPart { part, targets } = self;
@@ -53,7 +51,7 @@ impl IndexedPart {
     }
 
     /// The same, to be shared by the replicas of the partition.
-    pub fn shared(self, alloc: Global) -> Result<ReadyPart, AllocError>
+    pub(crate) fn shared(self, alloc: Global) -> Result<ReadyPart, AllocError>
         ensures { IfOk result (λ ready. ready ≡ self) }
     {
         let IndexedPart { part, targets } = self;
@@ -67,7 +65,7 @@ impl IndexedPart {
 
 /// A part that is shared, for one replica, with its index where that was made already.
 #[derive(Drop)]
-pub struct ReadyPart {
+pub(crate) struct ReadyPart {
     part: Arc<Part>,
     // none where the replica makes it
     targets: Option<Targets>,
@@ -87,25 +85,15 @@ impl Model for ReadyPart {
 }
 
 impl ReadyPart {
-    /// A part that is shared, without its index.
-    pub fn of(part: Arc<Part>) -> ReadyPart
-        ensures { result ≡ arc_value part }
-    {
-        ReadyPart {
-            part,
-            targets: None,
-        }
-    }
-
     /// The part.
-    pub fn part(&self) -> &Arc<Part>
+    pub(crate) fn part(&self) -> &Arc<Part>
         ensures { arc_value result.now ≡ self.now }
     {
         &self.part
     }
 
     /// The same for another replica. The index goes with the first that is handed out; the others make theirs.
-    pub fn hand_out(&mut self, alloc: Global) -> Result<ReadyPart, AllocError>
+    pub(crate) fn hand_out(&mut self, alloc: Global) -> Result<ReadyPart, AllocError>
         ensures same { self.new ≡ self.old }
         ensures other { IfOk result (λ ready. ready ≡ self.old) }
     {
@@ -114,14 +102,16 @@ impl ReadyPart {
         Ok(ReadyPart { part, targets })
     }
 
-    // The index, made where there is none.
-    pub(crate) fn into_targets(self, alloc: Global) -> Result<Targets, AllocError>
-        ensures { IfOk result (λ targets. targets ≡ targets_of self) }
+    /// A new replica of the part. The index that was made already is not made again.
+    pub(crate) fn into_replica(self, alloc: Global) -> Result<Replica, AllocError>
+        ensures { (j : Job) (p : ℕ) → IsJob j → p < j.plan.parts → self ≡ part_of j p →
+            IfOk result (IsFirst j p) }
     {
         let ReadyPart { part, targets } = self;
-        match targets {
-            Some(targets) => Ok(targets),
-            None => Targets::of(alloc, &part),
-        }
+        let targets = match targets {
+            Some(targets) => targets,
+            None => Targets::of(alloc, &part)?,
+        };
+        Replica::with_targets(alloc, part, targets)
     }
 }
