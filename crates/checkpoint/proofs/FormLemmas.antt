@@ -17,11 +17,9 @@ use Rattle.ball_model.specs.PlanValue.{PlanValue, part_size}
 use Rattle.ball_model.specs.State.{State}
 use Rattle.ball_model.proofs.PartLemmas.{part_size-is}
 use Rattle.batches.proofs.WholeLemmas.{batch_length}
-use Rattle.replica.specs.Ahead.{batches_in}
 use Rattle.replica.specs.Kept.{AreEarly}
 use Rattle.replica.specs.Seen.{IsState}
 use Rattle.replica.proofs.KeptLemmas.Kept.{three_levels}
-use Rattle.replica.proofs.SavedLemmas.Rebuilt.{kept_are}
 use Rattle.replica.proofs.SeenLemmas.Read.{few}
 use Rattle.checkpoint.specs.declared.error.KeepError.{KeepError}
 use Rattle.checkpoint.specs.Parts.{heard_bytes, count_bytes}
@@ -33,7 +31,7 @@ use Rattle.checkpoint.proofs.LawLemmas.{early_are}
 use Rattle.checkpoint.proofs.LengthLemmas.{front_long, table_long, heard_long, accumulated_long, batch_few}
 use Rattle.checkpoint.proofs.ReaderLemmas.{needs-piece, followed-at, told-needs, number-told, held-none, held-some, told-body, seal-fine}
 use Rattle.checkpoint.proofs.TextLemmas.{held_is}
-use Rattle.replica.proofs.AheadLemmas.{few_batches}
+use Rattle.replica.proofs.AheadLemmas.{batches_in, few_batches}
 
 -- the form takes all of the piece, whatever follows it
 abbrev pub Covers : Form → List ℕ → Type 0
@@ -108,7 +106,7 @@ early_fewer plan p t early are lt =
     let level : (i : ℕ) → i < 3 → length (batches_in (get_or early i [])) + 1 ≤ plan.parts = λ i below.
     omega (arith, slots_fewer (get_or early i []) p (omega (arith, lt, are.table.sources i below)) (are.own i), are.table.sources i below) in
     let split : length (kept_batches early) ≡ length (batches_in (get_or early 0 []) ++ (batches_in (get_or early 1 []) ++ batches_in (get_or early 2 []))) =
-    ap (λ (l : List BatchValue). length l) (kept_are early ∙ three_levels early are.table.levels) in
+    ap (λ (l : List BatchValue). length l) (three_levels early are.table.levels) in
     omega (
       arith,
       split,

@@ -23,12 +23,12 @@ use Rattle.ball_model.proofs.EstimateLemmas.{estimate_fits}
 use Rattle.batches.specs.Reading.{AgreesButJob}
 use Rattle.batches.proofs.WholeLemmas.{batch_is_one, batch_length}
 use Rattle.registers.specs.Flags.{number_of_flags}
-use Rattle.replica.specs.Ahead.{batches_in}
+use Rattle.replica.proofs.AheadLemmas.{batches_in}
 use Rattle.replica.specs.Kept.{AreEarly}
 use Rattle.replica.specs.Saved.{IsKeepable, IsFigures}
 use Rattle.replica.specs.Seen.{IsState}
 use Rattle.replica.proofs.KeptLemmas.Kept.{three_levels}
-use Rattle.replica.proofs.SavedLemmas.Rebuilt.{kept_are, table_is_told}
+use Rattle.replica.proofs.SavedLemmas.Rebuilt.{table_is_told}
 use Rattle.replica.proofs.SeenLemmas.Read.{few, length-tallies}
 use Rattle.replica.proofs.RunsLemmas.Same.{same_state}
 use Rattle.checkpoint.specs.Laws.{TextIsOne, FirstTextTellsRest, VersionsDiffer}
@@ -227,7 +227,7 @@ slots_are P (Some b ∷ rest) h = all_cons P b (batches_in rest) (h 0) (slots_ar
 pub early_are : (v : State) → IsState v → All (IsOfPlan v.part.plan) (kept_batches v.early)
 early_are v s =
     let level : (i : ℕ) → All (IsOfPlan v.part.plan) (batches_in (get_or v.early i [])) = λ i. slots_are (IsOfPlan v.part.plan) (get_or v.early i []) (λ q. IfSome_then (get_or (get_or v.early i []) q None) (s.early.kept i q) (λ b is. record { batch = is.batch; plan_is = is.plan_is })) in
-    subst (λ (l : List BatchValue). All (IsOfPlan v.part.plan) l) (sym (kept_are v.early ∙ three_levels v.early s.early.table.levels))
+    subst (λ (l : List BatchValue). All (IsOfPlan v.part.plan) l) (sym (three_levels v.early s.early.table.levels))
     (All-append (IsOfPlan v.part.plan) (batches_in (get_or v.early 0 [])) _ (level 0) (All-append (IsOfPlan v.part.plan) (batches_in (get_or v.early 1 [])) _ (level 1) (level 2)))
 
 pub agree : (p q : PlanValue) → q ≡ p → AgreesButJob p q
@@ -303,7 +303,7 @@ same_held v w s r part step e =
       heard = heard.0;
       change = heard.1;
       accumulated = same_rows (2 ^ v.part.plan.log2m) v.accumulated w.accumulated (omega (arith, s.accumulated.count, r.accumulated.count, s.count, r.count, size)) (accumulated_wide v s) (λ i lt. accumulated_wide w r i lt ∙ width) first.1;
-      early = table_is_told v.part.plan v.part.number v.superstep v.early w.early s.part.plan s.early theirs (sym (kept_are v.early) ∙ batches ∙ kept_are w.early);
+      early = table_is_told v.part.plan v.part.number v.superstep v.early w.early s.part.plan s.early theirs batches;
     }
 
 -- ---- THE LAWS

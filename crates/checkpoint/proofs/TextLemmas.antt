@@ -16,12 +16,11 @@ use Rattle.figures.specs.Values.{value_of}
 use Rattle.figures.specs.declared.tally.Tally.{Tally}
 use Rattle.ball_model.specs.State.{State}
 use Rattle.registers.specs.Flags.{number_of_flags}
-use Rattle.replica.specs.Ahead.{IsTable, batches_in, early_batches}
+use Rattle.replica.specs.Ahead.{IsTable}
 use Rattle.replica.proofs.KeptLemmas.Kept.{three_levels}
-use Rattle.replica.proofs.SavedLemmas.Rebuilt.{kept_are}
 use Rattle.checkpoint.specs.Parts.{heard_bytes, count_bytes, nth_bytes}
 use Rattle.checkpoint.proofs.WriteLemmas.{pieces_more, pieces_split}
-use Rattle.replica.proofs.AheadLemmas.{few_batches}
+use Rattle.replica.proofs.AheadLemmas.{batches_in, few_batches}
 
 -- ---- fields
 pub front_is : (v : State) (magic : List ℕ) (log2m : ℕ) (parts number vertices size step job : List ℕ) → magic ≡ to_be_bytes w32 0x4842434b → log2m ≡ v.part.plan.log2m → parts ≡ to_be_bytes w16 v.part.plan.parts → number ≡ to_be_bytes w16 v.part.number → vertices ≡ to_be_bytes w32 v.part.plan.vertices →
@@ -84,21 +83,21 @@ early_split v k =
     ap (λ (l : List ℕ). l ++ flat_map early_bytes (drop (suc k) (kept_batches v.early))) (nth_first early_bytes (kept_batches v.early) k)
     ∙ nth_whole early_bytes (kept_batches v.early) (suc k)
 
-pub nth_some : (v : State) (k : ℕ) (b : BatchValue) → Some b ≡ slice_get (early_batches v.early) k → early_bytes b ≡ nth_bytes v k
+pub nth_some : (v : State) (k : ℕ) (b : BatchValue) → Some b ≡ slice_get (kept_batches v.early) k → early_bytes b ≡ nth_bytes v k
 unfolding nth_bytes
 nth_some v k b e =
-    sym (ap (λ (o : Option BatchValue). flat_map early_bytes (option_to_list o)) (ap (λ (l : List BatchValue). slice_get l k) (kept_are v.early) ∙ sym e) ∙ append-nil (early_bytes b))
+    sym (ap (λ (o : Option BatchValue). flat_map early_bytes (option_to_list o)) (sym e) ∙ append-nil (early_bytes b))
 
-pub nth_none : (v : State) (k : ℕ) → None ≡ slice_get (early_batches v.early) k → [] ≡ nth_bytes v k
+pub nth_none : (v : State) (k : ℕ) → None ≡ slice_get (kept_batches v.early) k → [] ≡ nth_bytes v k
 unfolding nth_bytes
 nth_none v k e =
-    sym (ap (λ (o : Option BatchValue). flat_map early_bytes (option_to_list o)) (ap (λ (l : List BatchValue). slice_get l k) (kept_are v.early) ∙ sym e))
+    sym (ap (λ (o : Option BatchValue). flat_map early_bytes (option_to_list o)) (sym e))
 
 -- ---- how many batches there can be
 pub early_few : (parts : ℕ) (early : List (List (Option BatchValue))) → IsTable parts early → length (kept_batches early) ≤ 3 * parts
 early_few parts early t =
     let split : length (kept_batches early) ≡ length (batches_in (get_or early 0 []) ++ (batches_in (get_or early 1 []) ++ batches_in (get_or early 2 []))) =
-    ap (λ (l : List BatchValue). length l) (kept_are early ∙ three_levels early t.levels) in
+    ap (λ (l : List BatchValue). length l) (three_levels early t.levels) in
     omega (
       arith,
       split,
@@ -156,9 +155,9 @@ heard_is v number change mask heard is long a b c d e =
     let whole : number ≡ mask_of v.heard = b ∙ ap number_of_flags a ∙ mask_is v.heard long in
     rw (c, e, d, whole) refl
 
-pub count_is : (v : State) (count : ℕ) (bytes : List ℕ) → count ≡ length (early_batches v.early) → bytes ≡ to_be_bytes w16 count → bytes ≡ count_bytes v
+pub count_is : (v : State) (count : ℕ) (bytes : List ℕ) → count ≡ length (kept_batches v.early) → bytes ≡ to_be_bytes w16 count → bytes ≡ count_bytes v
 unfolding count_bytes
-count_is v count bytes a b = b ∙ ap (to_be_bytes w16) (a ∙ sym (ap (λ (l : List BatchValue). length l) (kept_are v.early)))
+count_is v count bytes a b = b ∙ ap (to_be_bytes w16) a
 
 pub held_is : (v : State) → ((heard_bytes v ++ flat_map (λ row. row) v.accumulated) ++ count_bytes v) ++ flat_map early_bytes (kept_batches v.early) ≡ held_bytes v
 unfolding held_bytes heard_bytes count_bytes

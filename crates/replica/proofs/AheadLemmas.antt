@@ -1,10 +1,15 @@
 -- Slots of batches, and the table that they are.
 use Rattle.std.proofs.Common.{◌≡◌, ℕ, zero, suc, ◌+◌, ◌*◌, ◌<◌, ◌≤◌, ◌==◌, Bool, true, false, ◌&&◌, List, [], ◌∷◌, length, map, get_or, set, replicate, option_map, refl, ap, subst, arith, sym, ◌∙◌, inl, inr, if◌then◌else◌, min}
-use Rattle.replica.proofs.Names.{common_steps, Option, Some, None, range_with_len, cases_lt, eq-eqb, and_from, eqb-true, get_or-drop, get_or-append_right, get_or-set_same, get_or-set_other, get_or_past, length-map-range_with_len, get_or-map-range_with_len, BatchValue, early_at, copies-at}
+use Rattle.replica.proofs.Names.{common_steps, Option, Some, None, range_with_len, flat_map, cases_lt, eq-eqb, and_from, eqb-true, get_or-drop, get_or-append_right, get_or-set_same, get_or-set_other, get_or_past, length-map-range_with_len, get_or-map-range_with_len, BatchValue, early_at, copies-at}
 use Rattle.std.proofs.Math.ListN.{get_or-append}
 use Rattle.std.proofs.Math.Nat.{mul-le-mul_right}
 use Rattle.std.specs.Cmp.{first_so, second_so}
-use Rattle.replica.specs.Ahead.{table_of, IsTable, StaysTable, batches_in, either, union_of_slots, slots_after}
+use Rattle.std.specs.Option.{option_to_list}
+use Rattle.replica.specs.Ahead.{table_of, IsTable, StaysTable, either, union_of_slots, slots_after}
+
+-- the batches that stand in slots, in their order
+unfoldable pub batches_in : List (Option BatchValue) → List BatchValue
+batches_in slots = flat_map option_to_list slots
 
 -- what stands at a place after a shift
 pub shifted_at : (n k : ℕ) (slots : List (Option BatchValue)) → get_or (slots_after n slots) k None ≡ get_or slots (n + k) None

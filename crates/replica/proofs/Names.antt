@@ -12,7 +12,7 @@ pub use Rattle.std.specs.Arc.{arc_value}
 pub use Rattle.ball_model.specs.Job.{feed_mask, IsJob, IsPart, Job, PartValue}
 unfoldable pub use Rattle.ball_model.specs.Job.{feeds_into, part_of}
 pub use Rattle.ball_model.specs.Table.{Table}
-pub use Rattle.std.proofs.lemmas.Bool.{and_from, and_left, and_parts, and_right, cases_eq, cases_lt, eq-eqb, eqb-false, eqb-true, false_from_ne_true, iff_false, le-leb, le-ltb, leb-true, lt-ltb, ltb-true, ne_eqb, not-false, not-true, or_cases, or_left, or_right}
+pub use Rattle.std.proofs.lemmas.Bool.{and_from, and_left, and_parts, cases_eq, cases_lt, eq-eqb, eqb-false, eqb-true, false_from_ne_true, iff_false, le-leb, le-ltb, leb-true, lt-ltb, ltb-true, ne_eqb, not-false, not-true, or_cases, or_left, or_right}
 pub use Rattle.figures.specs.Values.{value_of, weight_of}
 pub use Rattle.ball_model.specs.Figures.{estimate_with, Measure, tally_of, TallyValue}
 unfoldable pub use Rattle.ball_model.specs.Figures.{distance_of, harmonic_of}

@@ -1,7 +1,6 @@
 -- Batches of supersteps to come, by how far they are ahead and by source.
 use Rattle.std.specs.Prelude.{◌≡◌, ℕ, ◌+◌, ◌*◌, ◌<◌, ◌==◌, ◌&&◌, if◌then◌else◌, List, [], map, length, Option, None, Some, option_map, slice_index_or, drop, ◌++◌, replicate, nat_lt}
-use Rattle.std.specs.List.{range_with_len, filter, flat_map, slice_get}
-use Rattle.std.specs.Option.{option_to_list}
+use Rattle.std.specs.List.{range_with_len, filter, slice_get}
 use Rattle.ball_model.specs.declared.names.BatchName.{BatchName}
 use Rattle.ball_model.specs.Batches.{BatchValue, true_batch}
 use Rattle.ball_model.specs.Content.{names_of}
@@ -61,14 +60,6 @@ unfoldable pub union_of_slots : List (Option BatchValue) → List (Option BatchV
 union_of_slots slots others =
     map (λ i. either (slice_index_or slots i None) (slice_index_or others i None))
     (range_with_len 0 (length slots))
-
--- the batches that stand in slots, in their order
-unfoldable pub batches_in : List (Option BatchValue) → List BatchValue
-batches_in slots = flat_map option_to_list slots
-
--- the batches that are kept, ascending by superstep, then by source
-unfoldable pub early_batches : List (List (Option BatchValue)) → List BatchValue
-early_batches early = flat_map batches_in early
 
 -- the names that are held of later supersteps, ascending by superstep, then by source
 unfoldable pub early_names : State → List BatchName

@@ -7,7 +7,7 @@ ghost use Rattle.ball_model.specs.State.{early_at};
 ghost use Rattle.std.specs.List.{slice_get};
 ghost use Rattle.replica.specs.Ahead.{ComesNearer, IsEmptyTable, IsTable, KeepsAlso, KeepsEither};
 ghost use Rattle.replica.specs.Ahead.{StaysTable, either, union_of_slots, slots_after};
-ghost use Rattle.replica.specs.Ahead.{early_batches};
+ghost use Rattle.ball_model.specs.Checkpoint.{kept_batches};
 
 use batches::Batch;
 use std::alloc::{AllocError, Global};
@@ -67,14 +67,14 @@ impl Early {
 
     /// How many batches are kept.
     pub fn count(&self) -> usize
-        ensures { result ≡ length (early_batches self.now) }
+        ensures { result ≡ length (kept_batches self.now) }
     {
         self.slots.iter().flatten().count()
     }
 
     /// The batch that is kept at place `i`, by superstep, then by source.
     pub fn nth(&self, i: usize) -> Option<&Batch>
-        ensures { option_map (λ b. b.now) result ≡ slice_get (early_batches self.now) i }
+        ensures { option_map (λ b. b.now) result ≡ slice_get (kept_batches self.now) i }
     {
         match self.slots.iter().flatten().nth(i) {
             Some(batch) => Some(batch),

@@ -1,7 +1,6 @@
 //! What is heard of a superstep.
 
-ghost use Rattle.std.specs.Prelude.{◌≡◌, ℕ, ◌||◌, List, length};
-ghost use Rattle.std.specs.Prelude.{Some, IfOk, OnOk, OnErr};
+ghost use Rattle.std.specs.Prelude.{◌≡◌, ℕ, ◌||◌, List, length, Some, IfOk, OnOk, OnErr};
 ghost use Rattle.registers.specs.Joined.{maximum_of_rows, union_of_flags};
 ghost use Rattle.replica.specs.Hearing.{BeginsSuperstep, CanFill, CanHear, CanJoin};
 ghost use Rattle.replica.specs.Hearing.{CanRenew, Renews, Fills, HearsAlso, HearsEarly, IsQuiet};

@@ -131,9 +131,9 @@ impl Model for Snapshot {
 /// One partition's state at a superstep, and the batches that it holds.
 ///
 /// Its memory is taken when it is made: two rows of 2^log2m bytes, a tally and the weight that its estimate is made of
-/// for each vertex, 4 bytes for each edge into the partition, a slot for each source and each of three supersteps, and a
-/// sum for each superstep up to the limit. Where the run is over, [`Replica::give_back`] gives back that of the edges, and
-/// one of the two rows if they are equal.
+/// for each vertex, a slot for each source and each of three supersteps, and a sum for each superstep up to the limit;
+/// and that of [`Targets`], where the index was not made before. Where the run is over, [`Replica::give_back`] gives back
+/// that of the index, and one of the two rows if they are equal.
 #[derive(Drop)]
 pub struct Replica {
     // what it has at its superstep: what it tells, and what a snapshot copies, with room to go on

@@ -15,11 +15,10 @@ ghost use Rattle.ball_model.specs.Batches.{changed_count};
 ghost use Rattle.ball_model.specs.Content.{verdict_of};
 ghost use Rattle.ball_model.specs.State.{State, StandsFor, content_of, rows_of};
 ghost use Rattle.ball_model.specs.State.{tallies_of, sums_of};
-ghost use Rattle.ball_model.specs.Checkpoint.{no_figures};
-ghost use Rattle.replica.specs.Ahead.{early_batches, early_names, true_early};
+ghost use Rattle.ball_model.specs.Checkpoint.{no_figures, kept_batches};
+ghost use Rattle.replica.specs.Ahead.{early_names, true_early};
 ghost use Rattle.replica.specs.Level.{found_verdict, is_changing, level_verdict, missing_in};
-ghost use Rattle.replica.specs.Hearing.{accumulated_by, change_by};
-ghost use Rattle.replica.specs.Hearing.{heard_by};
+ghost use Rattle.replica.specs.Hearing.{accumulated_by, change_by, heard_by};
 ghost use Rattle.replica.specs.Saved.{IsFigures};
 ghost use Rattle.replica.specs.Seen.{IsPlaceOf, IsState, OwnsVertex};
 
@@ -240,7 +239,7 @@ pub trait Shown {
 
     /// How many batches of later supersteps are kept. It takes time in proportion to three slots for each partition.
     final fn early_count(&self) -> u32
-        ensures value { result ≡ length (early_batches (state self.now).early) }
+        ensures value { result ≡ length (kept_batches (state self.now).early) }
         ensures names { result ≡ length (early_names (state self.now)) }
     {
         let s = self.shown();
@@ -253,7 +252,7 @@ pub trait Shown {
     #[tactic(auto, using(crate::proofs::KeptLemmas::Kept::nth_true))]
     final fn early(&self, i: u32) -> Option<&Batch>
         ensures value { option_map (λ b. b.now) result ≡
-            slice_get (early_batches (state self.now).early) i }
+            slice_get (kept_batches (state self.now).early) i }
         ensures name { option_map (λ b. b.now.name) result ≡
             slice_get (early_names (state self.now)) i }
         ensures stands { (j : Job) (p t : ℕ) → StandsFor j p t (state self.now) →

@@ -1,12 +1,10 @@
 //! What a replica begins with.
 
-ghost use Rattle.std.specs.Prelude.{◌≡◌, ◌^◌, map};
-ghost use Rattle.std.specs.Prelude.{slice_set, IfOk};
+ghost use Rattle.std.specs.Prelude.{◌≡◌, ◌^◌, map, slice_set, IfOk};
 ghost use Rattle.ball_model.specs.PlanValue.{measure_of};
 ghost use Rattle.figures.specs.Values.{value_of};
 ghost use Rattle.replica.specs.Kept.{AreCounters};
-ghost use Rattle.replica.specs.Start.{IsEmptyAt, first_figures, first_row};
-ghost use Rattle.replica.specs.Start.{first_rows_of_part};
+ghost use Rattle.replica.specs.Start.{IsEmptyAt, first_figures, first_row, first_rows_of_part};
 
 use ball_model::{Plan, mix, place};
 use edgelist::Part;

@@ -1,7 +1,6 @@
 //! Lines of comma-separated values, built in memory.
 
-ghost use Rattle.std.specs.Prelude.{◌≡◌, ◌≤◌, OnOk, IfOk, length, map, [], codes};
-ghost use Rattle.std.specs.Prelude.{if◌then◌else◌};
+ghost use Rattle.std.specs.Prelude.{◌≡◌, ◌≤◌, OnOk, IfOk, length, map, [], codes, if◌then◌else◌};
 ghost use Rattle.ball_model.specs.Report.{end_line, gain_line, line_text, superstep_line};
 ghost use Rattle.report.specs.Parts.{figures_line};
 ghost use Rattle.report.specs.Rows.{Adds, AtRow, text_in};

@@ -36,11 +36,10 @@ abbrev pub signed_job : Job → List ℕ → Job
 signed_job j digest = record { graph = j.graph; plan = record j.plan { job = digest } }
 
 -- the part of each partition, where there was memory for it
-pub record AreParts {P E : Type 0} (value : P → PartValue) (j : Job)
-    (parts : List (Result P E)) : Type 0 where
+pub record AreParts {E : Type 0} (j : Job) (parts : List (Result PartValue E)) : Type 0 where
   pub count : length parts ≡ j.plan.parts
-  pub each : (p : ℕ) (d : Result P E) → p < j.plan.parts →
-      IfOk (slice_index_or parts p d) (λ part. value part ≡ part_of j p)
+  pub each : (p : ℕ) (d : Result PartValue E) → p < j.plan.parts →
+      IfOk (slice_index_or parts p d) (λ part. part ≡ part_of j p)
 
 -- a seat of the board, which has seen a history of the job
 pub record IsSeatOf (b : BoardView) (j : Job) (s : SeatView) : Type 0 where

@@ -226,7 +226,7 @@ fn planned_text<T: AllocGlobal + Threads + Wait + Sync, G: Gate + Sync>(
     gate: &G,
 ) -> Result<Pages, JobError>
     requires job { IsJob (job_of graph.now.graph plan.now) }
-    requires parts { AreParts (λ part. part) (job_of graph.now.graph plan.now) parts.old }
+    requires parts { AreParts (job_of graph.now.graph plan.now) parts.old }
     requires limits { are_in_limits options.now ≡ true }
     ensures ok { IfOk result (λ text. text ≡
         report_of (mixing_of plan.now) graph.now.graph graph.now.labels plan.now.limit) }

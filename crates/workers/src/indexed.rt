@@ -81,7 +81,8 @@ impl Model for ReadyPart {
 
     ghost view = { λ p. arc_value p.part };
 
-    ghost invariant = { λ p. IfSome p.targets (λ targets. targets ≡ targets_of (arc_value p.part)) };
+    ghost invariant = { λ p.
+        IfSome p.targets (λ targets. targets ≡ targets_of (arc_value p.part)) };
 }
 
 impl ReadyPart {

@@ -191,7 +191,7 @@ fn start_each<'s, 'a: 's, X, R: AllocGlobal + Threads + Wait + Sync, G: Gate + S
     requires job { IsJob (job_of graph.now.graph plan.now) }
     requires few { options.now.replicas ≤ MOST_REPLICAS }
     requires seat { HasSplit board.now (job_of graph.now.graph plan.now) 0 first.old }
-    requires parts { AreParts (λ part. part) (job_of graph.now.graph plan.now) parts.old }
+    requires parts { AreParts (job_of graph.now.graph plan.now) parts.old }
     requires none { children.old.items ≡ [] }
     ensures { OnOk result (AreStarted (λ child. child.promise) (λ own. own.items)
         (job_of graph.now.graph plan.now) options.now children.new.items) }
@@ -221,7 +221,7 @@ fn start_all<'s, 'a: 's, X, R: AllocGlobal + Threads + Wait + Sync, G: Gate + Sy
 ) -> Result<Vec<Vec<Child>>, AllocError>
     requires job { IsJob (job_of graph.now.graph plan.now) }
     requires few { options.now.replicas ≤ MOST_REPLICAS }
-    requires parts { AreParts (λ part. part) (job_of graph.now.graph plan.now) parts.old }
+    requires parts { AreParts (job_of graph.now.graph plan.now) parts.old }
     requires seat { HasSplit board.now (job_of graph.now.graph plan.now) 0 first.old }
     ensures { IfOk result (λ all. AreStarted (λ child. child.promise) (λ own. own.items)
         (job_of graph.now.graph plan.now) options.now all.items) }
@@ -258,7 +258,7 @@ fn start_or_stop<'s, 'a: 's, X, R: AllocGlobal + Threads + Wait + Sync, G: Gate 
 ) -> Result<Vec<Vec<Child>>, AllocError>
     requires job { IsJob (job_of graph.now.graph plan.now) }
     requires few { options.now.replicas ≤ MOST_REPLICAS }
-    requires parts { AreParts (λ part. part) (job_of graph.now.graph plan.now) parts.old }
+    requires parts { AreParts (job_of graph.now.graph plan.now) parts.old }
     requires seat { HasSplit board.now (job_of graph.now.graph plan.now) 0 first }
     ensures { IfOk result (λ all. AreStarted (λ child. child.promise) (λ own. own.items)
         (job_of graph.now.graph plan.now) options.now all.items) }
@@ -331,7 +331,7 @@ fn run_in<'s, 'a: 's, X, R: AllocGlobal + Threads + Wait + Sync, G: Gate + Sync>
 ) -> Result<Vec<Replica>, JobError>
     requires job { IsJob (job_of graph.now.graph plan.now) }
     requires few { options.now.replicas ≤ MOST_REPLICAS }
-    requires parts { AreParts (λ part. part) (job_of graph.now.graph plan.now) parts.old }
+    requires parts { AreParts (job_of graph.now.graph plan.now) parts.old }
     requires seat { HasSplit board.now (job_of graph.now.graph plan.now) 0 first }
     ensures done { IfOk result (λ rs. AreDone (job_of graph.now.graph plan.now) rs.items) }
     ensures fault { IfErr result (IsFaultOf plan.now.parts options.now) }
@@ -354,7 +354,7 @@ pub fn run_job<R: AllocGlobal + Threads + Wait + Sync, G: Gate + Sync>(
     gate: &G,
 ) -> Result<Vec<Replica>, JobError>
     requires job { IsJob (job_of graph.now.graph plan.now) }
-    requires parts { AreParts (λ part. part) (job_of graph.now.graph plan.now) parts.old }
+    requires parts { AreParts (job_of graph.now.graph plan.now) parts.old }
     requires limits { are_in_limits options.now ≡ true }
     ensures done { IfOk result (λ rs. AreDone (job_of graph.now.graph plan.now) rs.items) }
     ensures fault { IfErr result (IsFaultOf plan.now.parts options.now) }
@@ -369,7 +369,7 @@ pub fn run_job<R: AllocGlobal + Threads + Wait + Sync, G: Gate + Sync>(
         |scope| -> Result<Vec<Replica>, JobError>
             requires job { IsJob (job_of graph.now.graph plan.now) }
             requires few { options.now.replicas ≤ MOST_REPLICAS }
-            requires parts { AreParts (λ part. part) (job_of graph.now.graph plan.now) parts.now }
+            requires parts { AreParts (job_of graph.now.graph plan.now) parts.now }
             requires seat { HasSplit board.now (job_of graph.now.graph plan.now) 0 first }
             ensures done { IfOk result (λ rs.
                 AreDone (job_of graph.entry.now.graph plan.entry.now) rs.items) }

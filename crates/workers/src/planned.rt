@@ -46,7 +46,7 @@ fn made_parts<R: AllocGlobal + Threads + Sync>(
 ) -> Result<Vec<MadePart>, AllocError>
     requires { plan.now.vertices ≡ graph.now.graph.vertices }
     ensures { IfOk result (λ parts.
-        AreParts (λ part. part) (job_of graph.now.graph plan.now) parts.items) }
+        AreParts (job_of graph.now.graph plan.now) parts.items) }
 {
     let alloc = rt.alloc();
     let feeds = graph.feeds(alloc, plan)?;
@@ -76,8 +76,8 @@ fn shared_parts(
     parts: Vec<MadePart>,
     job: [u8; 32],
 ) -> Result<Vec<SharedPart>, AllocError>
-    ensures { (j : Job) → AreParts (λ part. part) j parts.items →
-        IfOk result (λ shared. AreParts (λ part. part) (signed_job j job) shared.items) }
+    ensures { (j : Job) → AreParts j parts.items →
+        IfOk result (λ shared. AreParts (signed_job j job) shared.items) }
 {
     let mut shared = Vec::with_capacity(alloc, parts.len())?;
     for part in parts {
@@ -95,7 +95,7 @@ pub(crate) fn plan_parts<R: AllocGlobal + Threads + Sync>(
     requires { bare.now.vertices ≡ graph.now.graph.vertices }
     ensures plan { IfOk result (λ all. all.plan ≡ signed graph.now.graph bare.now) }
     ensures parts { IfOk result (λ all.
-        AreParts (λ part. part) (job_of graph.now.graph all.plan) all.parts.items) }
+        AreParts (job_of graph.now.graph all.plan) all.parts.items) }
 {
     let digest = || -> [u8; 32]
         ensures { result ≡ digest_of bare.entry.now graph.entry.now.graph }
@@ -103,7 +103,7 @@ pub(crate) fn plan_parts<R: AllocGlobal + Threads + Sync>(
     let parts = || -> Result<Vec<MadePart>, AllocError>
         requires { bare.now.vertices ≡ graph.now.graph.vertices }
         ensures { IfOk result (λ parts.
-            AreParts (λ part. part) (job_of graph.entry.now.graph bare.entry.now) parts.items) }
+            AreParts (job_of graph.entry.now.graph bare.entry.now) parts.items) }
     { made_parts(rt, graph, bare) };
     let (job, parts) = thread::join(rt, digest, parts);
     let parts = shared_parts(rt.alloc(), parts?, job)?;

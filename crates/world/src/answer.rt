@@ -1,7 +1,6 @@
 //! The text of what a world answers, a line at a time.
 
-ghost use Rattle.std.specs.Prelude.{◌≡◌, ◌≢◌, ◌++◌, ◌∷◌, ◌%◌, ◌<◌, [], OnOk, codes};
-ghost use Rattle.std.specs.Prelude.{decimal, map};
+ghost use Rattle.std.specs.Prelude.{◌≡◌, ◌≢◌, ◌++◌, ◌∷◌, ◌%◌, ◌<◌, [], OnOk, codes, decimal, map};
 ghost use Rattle.figures.specs.Values.{value_of};
 ghost use Rattle.ball_model.specs.declared.world.Answer.TheVariants as told;
 ghost use Rattle.ball_model.specs.declared.world.Event.{Event as Happening};

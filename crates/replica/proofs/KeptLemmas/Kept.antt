@@ -5,9 +5,10 @@ use Rattle.std.specs.Option.{option_to_list}
 use Rattle.std.proofs.lemmas.Bool.Decides.{nat_tests}
 use Rattle.std.proofs.lemmas.Grind.{flat_map-append}
 use Rattle.std.proofs.lemmas.Option.{slice_get-map, IfSome_then}
-use Rattle.replica.specs.Ahead.{table_of, batches_in, early_batches, early_names}
+use Rattle.replica.specs.Ahead.{table_of, early_names}
+use Rattle.ball_model.specs.Checkpoint.{kept_batches}
 use Rattle.replica.specs.Seen.{IsState}
-use Rattle.replica.proofs.AheadLemmas.{few_batches, level_in, levels}
+use Rattle.replica.proofs.AheadLemmas.{batches_in, few_batches, level_in, levels}
 
 -- ---- slots
 
@@ -24,8 +25,8 @@ unfolding batches_in
 batches_in-append xs ys = flat_map-append option_to_list xs ys
 
 -- those of a table, level by level
-pub three_levels : (early : List (List (Option BatchValue))) → length early ≡ 3 → early_batches early ≡ batches_in (get_or early 0 []) ++ (batches_in (get_or early 1 []) ++ batches_in (get_or early 2 []))
-unfolding early_batches
+pub three_levels : (early : List (List (Option BatchValue))) → length early ≡ 3 → kept_batches early ≡ batches_in (get_or early 0 []) ++ (batches_in (get_or early 1 []) ++ batches_in (get_or early 2 []))
+unfolding kept_batches batches_in
 three_levels early long = grind (arith, common_steps)
 
 -- a level of a table is a stretch of its slots
@@ -45,7 +46,7 @@ drop_none : {X : Type 0} (xs : List X) → drop 0 xs ≡ xs
 drop_none xs = grind arith
 
 -- THE TABLE: its batches are those of its slots
-table_batches : (parts : ℕ) (slots : List (Option BatchValue)) → length slots ≡ 3 * parts → early_batches (table_of parts slots) ≡ batches_in slots
+table_batches : (parts : ℕ) (slots : List (Option BatchValue)) → length slots ≡ 3 * parts → kept_batches (table_of parts slots) ≡ batches_in slots
 table_batches parts slots long =
     let one : get_or (table_of parts slots) 0 [] ≡ take parts slots = level_taken parts slots 0 0 (omega arith) (omega arith) (omega arith) ∙ ap (take parts) (drop_none slots) in
     let two : get_or (table_of parts slots) 1 [] ≡ take parts (drop parts slots) = level_taken parts slots 1 parts (omega arith) (omega arith) (omega arith) in
@@ -56,11 +57,11 @@ table_batches parts slots long =
     grind (arith, three_levels, levels, parted)
 
 -- THE SLOTS: what stands in them, one by one, is what a table of them keeps
-pub kept_one_by_one : {X : Type 0} (f : X → BatchValue) (parts : ℕ) (slots : List (Option X)) → length slots ≡ 3 * parts → early_batches (table_of parts (map (option_map f) slots)) ≡ map f (flat_map option_to_list slots)
+pub kept_one_by_one : {X : Type 0} (f : X → BatchValue) (parts : ℕ) (slots : List (Option X)) → length slots ≡ 3 * parts → kept_batches (table_of parts (map (option_map f) slots)) ≡ map f (flat_map option_to_list slots)
 kept_one_by_one f parts slots long = search (arith, table_batches, length-map, batches_in-map)
 
 -- and one of them
-pub nth_one_by_one : {X : Type 0} (f : X → BatchValue) (parts : ℕ) (slots : List (Option X)) (i : ℕ) → length slots ≡ 3 * parts → option_map f (slice_get (flat_map option_to_list slots) i) ≡ slice_get (early_batches (table_of parts (map (option_map f) slots))) i
+pub nth_one_by_one : {X : Type 0} (f : X → BatchValue) (parts : ℕ) (slots : List (Option X)) (i : ℕ) → length slots ≡ 3 * parts → option_map f (slice_get (flat_map option_to_list slots) i) ≡ slice_get (kept_batches (table_of parts (map (option_map f) slots))) i
 nth_one_by_one f parts slots i long = search (arith, kept_one_by_one, slice_get-map)
 
 -- ---- names
@@ -111,7 +112,7 @@ later_names v =
     (ap (filter test) (append-nil (names_at v (t + 1 + 1 + 1))) ∙ all_later t (t + 1 + 1 + 1) p (at (t + 1 + 1 + 1)) (omega arith))))
 
 -- THE NAMES: what is kept has the names that are held of later supersteps, in their order
-pub early_named : (v : State) → IsState v → map (λ b. b.name) (early_batches v.early) ≡ early_names v
+pub early_named : (v : State) → IsState v → map (λ b. b.name) (kept_batches v.early) ≡ early_names v
 early_named v st = grind (arith, three_levels, map-append, level_names, later_names)
 
 -- ---- true batches
@@ -122,8 +123,8 @@ row_true j [] h = refl
 row_true j (None ∷ xs) h = row_true j xs (λ q. h (suc q))
 row_true j (Some b ∷ xs) h = let first : b ≡ true_batch j b.name = h 0 in ap (λ (a : BatchValue). a ∷ flat_map option_to_list xs) first ∙ ap (λ (l : List BatchValue). true_batch j b.name ∷ l) (row_true j xs (λ q. h (suc q)))
 
-rows_true : (j : Job) (early : List (List (Option BatchValue))) → ((i q : ℕ) → IfSome (early_at early i q) (λ b. b ≡ true_batch j b.name)) → early_batches early ≡ map (true_batch j) (map (λ b. b.name) (early_batches early))
-unfolding early_batches
+rows_true : (j : Job) (early : List (List (Option BatchValue))) → ((i q : ℕ) → IfSome (early_at early i q) (λ b. b ≡ true_batch j b.name)) → kept_batches early ≡ map (true_batch j) (map (λ b. b.name) (kept_batches early))
+unfolding kept_batches batches_in
 rows_true j [] h = refl
 rows_true j (row ∷ rest) h =
     let name : BatchValue → BatchName = λ b. b.name in
@@ -138,7 +139,7 @@ unfolding true_batch
 true_named j n b is = let same : b.name ≡ n = ap (λ (a : BatchValue). a.name) is in is ∙ ap (true_batch j) (sym same)
 
 -- THE BATCHES: where the replica stands for a job they are the true ones of these names
-pub early_true : (j : Job) (p t : ℕ) (v : State) → StandsFor j p t v → IsState v → early_batches v.early ≡ map (true_batch j) (early_names v)
+pub early_true : (j : Job) (p t : ℕ) (v : State) → StandsFor j p t v → IsState v → kept_batches v.early ≡ map (true_batch j) (early_names v)
 early_true j p t v h st =
     rows_true j v.early (λ i q. IfSome_then (early_at v.early i q) (h.early.true_of i q) (λ b is. true_named j _ b is))
     ∙ ap (map (true_batch j)) (early_named v st)
@@ -149,15 +150,15 @@ option_map-twice : {X Y Z : Type 0} (g : Y → Z) (f : X → Y) (o : Option X) �
 option_map-twice g f o = grind arith
 
 -- its name
-pub nth_name : {X : Type 0} (f : X → BatchValue) (v : State) (i : ℕ) (o : Option X) → IsState v → option_map f o ≡ slice_get (early_batches v.early) i → option_map (λ x. (f x).name) o ≡ slice_get (early_names v) i
+pub nth_name : {X : Type 0} (f : X → BatchValue) (v : State) (i : ℕ) (o : Option X) → IsState v → option_map f o ≡ slice_get (kept_batches v.early) i → option_map (λ x. (f x).name) o ≡ slice_get (early_names v) i
 nth_name f v i o st is =
     option_map-twice (λ b. b.name) f o
-    ∙ ap (option_map (λ b. b.name)) is ∙ sym (slice_get-map (λ b. b.name) (early_batches v.early) i) ∙ ap (λ (l : List BatchName). slice_get l i) (early_named v st)
+    ∙ ap (option_map (λ b. b.name)) is ∙ sym (slice_get-map (λ b. b.name) (kept_batches v.early) i) ∙ ap (λ (l : List BatchName). slice_get l i) (early_named v st)
 
 -- and the true batch of it
-pub nth_true : (j : Job) (p t i : ℕ) (v : State) (o : Option BatchValue) → StandsFor j p t v → IsState v → o ≡ slice_get (early_batches v.early) i → o ≡ option_map (true_batch j) (slice_get (early_names v) i)
+pub nth_true : (j : Job) (p t i : ℕ) (v : State) (o : Option BatchValue) → StandsFor j p t v → IsState v → o ≡ slice_get (kept_batches v.early) i → o ≡ option_map (true_batch j) (slice_get (early_names v) i)
 nth_true j p t i v o h st is = grind (arith, early_true, slice_get-map)
 
 -- there are at most 192
-pub few_early : (v : State) → IsState v → length (early_batches v.early) ≤ 192
+pub few_early : (v : State) → IsState v → length (kept_batches v.early) ≤ 192
 few_early v st = grind (arith, three_levels, length-append, few_batches)

@@ -1,12 +1,11 @@
 -- What a replica shows fits its part.
 use Rattle.std.proofs.Common.{◌≡◌, ℕ, zero, suc, ◌+◌, ◌*◌, ◌^◌, ◌<◌, ◌≤◌, List, [], ◌∷◌, ◌++◌, length, map, get_or, sym, ◌∙◌, subst, arith, IfSome}
 use Rattle.replica.proofs.Names.{Option, Some, None, All, BatchValue, kept_batches, PartValue, PlanValue, IsPlan, State, early_at}
-use Rattle.replica.specs.Ahead.{batches_in}
+use Rattle.replica.proofs.AheadLemmas.{batches_in}
 use Rattle.replica.specs.declared.saved.Saved.{Saved}
 use Rattle.replica.specs.Kept.{AreEarly, IsOfName}
 use Rattle.replica.specs.Saved.{Fits, IsKeepable, IsRebuilt, MayKeep, MayBeKept, order_key}
 use Rattle.replica.proofs.KeptLemmas.Kept.{three_levels}
-use Rattle.replica.proofs.SavedLemmas.Rebuilt.{kept_are}
 
 -- ---- batches in their order
 
@@ -91,7 +90,7 @@ early_kept plan p t early ok e =
     let one = batches_in (get_or early 0 []) in
     let two = batches_in (get_or early 1 []) in
     let three = batches_in (get_or early 2 []) in
-    let told : kept_batches early ≡ one ++ (two ++ three) = kept_are early ∙ three_levels early e.table.levels in
+    let told : kept_batches early ≡ one ++ (two ++ three) = three_levels early e.table.levels in
     let last : Within plan p t ((t + 1 + 1 + 1) * 64) ((t + 1 + 2 + 1) * 64) three = within_earlier plan p t ((t + 1 + 2) * 64) ((t + 1 + 1 + 1) * 64) _ three (omega arith) (level_within plan p t 2 early ok e (omega arith)) in
     let later : Within plan p t ((t + 1 + 0 + 1) * 64) ((t + 1 + 2 + 1) * 64) (two ++ three) =
     within_earlier plan p t ((t + 1 + 1) * 64) ((t + 1 + 0 + 1) * 64) _ (two ++ three) (omega arith)

@@ -2,18 +2,13 @@
 use Rattle.std.proofs.Common.{◌≡◌, ℕ, zero, suc, ◌+◌, ◌*◌, ◌<◌, ◌≤◌, List, [], ◌∷◌, ◌++◌, length, get_or, drop, refl, ap, sym, ◌∙◌, subst, arith, IfSome}
 use Rattle.replica.proofs.Names.{Option, Some, None, same_lists, get_or_default, append-nil, BatchValue, PartValue, PlanValue, IsPlan, State, kept_batches}
 use Rattle.std.proofs.lemmas.Option.{IfSome_then}
-use Rattle.replica.specs.Ahead.{batches_in, early_batches}
 use Rattle.replica.specs.declared.saved.Saved.{Saved}
 use Rattle.replica.specs.Kept.{AreEarly}
 use Rattle.replica.specs.Saved.{IsRebuilt, order_key}
 use Rattle.replica.specs.Seen.{IsState}
+use Rattle.replica.proofs.AheadLemmas.{batches_in}
 use Rattle.replica.proofs.KeptLemmas.Kept.{three_levels}
 use Rattle.replica.proofs.RunsLemmas.Same.{same_state}
-
--- the batches that are kept, by either word
-pub kept_are : (early : List (List (Option BatchValue))) → kept_batches early ≡ early_batches early
-unfolding kept_batches early_batches batches_in
-kept_are early = refl
 
 -- the first of the batches is behind that place
 abbrev Heads : ℕ → List BatchValue → Type 0
@@ -67,7 +62,7 @@ row_named : (plan : PlanValue) (p t i : ℕ) (early : List (List (Option BatchVa
 row_named plan p t i early e q = grind arith
 
 -- THE TABLE: it is told by its batches in their order
-pub table_is_told : (plan : PlanValue) (p t : ℕ) (early other : List (List (Option BatchValue))) → IsPlan plan → AreEarly plan p t early → AreEarly plan p t other → early_batches early ≡ early_batches other → early ≡ other
+pub table_is_told : (plan : PlanValue) (p t : ℕ) (early other : List (List (Option BatchValue))) → IsPlan plan → AreEarly plan p t early → AreEarly plan p t other → kept_batches early ≡ kept_batches other → early ≡ other
 table_is_told plan p t early other ok e o same =
     same_lists early other (e.table.levels ∙ sym o.table.levels)
     (λ i d lt. get_or_default early i d [] lt ∙ at_level i (omega (arith, lt, e.table.levels)) ∙ sym (get_or_default other i d [] (omega (arith, lt, e.table.levels, o.table.levels))))
@@ -120,4 +115,4 @@ rebuilt_same part s v w ok also a b =
     let step : v.superstep ≡ w.superstep = a.superstep ∙ sym b.superstep in
     let theirs : AreEarly v.part.plan v.part.number v.superstep w.early = rw (parts, step) also.early in
     same_state v w parts step (a.rows ∙ sym b.rows) (a.marks ∙ sym b.marks) (a.tallies ∙ sym b.tallies) (a.sums ∙ sym b.sums) (a.heard ∙ sym b.heard) (a.heard_change ∙ sym b.heard_change) (a.accumulated ∙ sym b.accumulated)
-    (table_is_told v.part.plan v.part.number v.superstep v.early w.early ok.part.plan ok.early theirs (sym (kept_are v.early) ∙ a.early ∙ sym b.early ∙ kept_are w.early))
+    (table_is_told v.part.plan v.part.number v.superstep v.early w.early ok.part.plan ok.early theirs (a.early ∙ sym b.early))

@@ -1,11 +1,13 @@
 -- Batches put at their places, and read off them again.
 use Rattle.std.proofs.Common.{◌≡◌, ◌≢◌, ℕ, zero, suc, ◌+◌, ◌-◌, ◌*◌, ◌<◌, ◌≤◌, ◌==◌, ◌&&◌, true, List, [], ◌∷◌, ◌++◌, length, map, get_or, set, take, refl, ap, sym, ◌∙◌, subst, arith, inl, inr, ◌⊎◌, if◌then◌else◌, is_some, append_assoc}
 use Rattle.replica.proofs.Names.{Option, Some, None, cases_eq, eq-eqb, same_lists, get_or_default, get_or-set_same, get_or-set_other, length-set, append-nil, get_or-map, length-map, take_all, take_more, BatchValue, IsBatch, PlanValue, IsPlan, most_parts, State, early_at, PartValue, IsPart}
-use Rattle.replica.specs.Ahead.{IsTable, batches_in, early_batches}
+use Rattle.replica.specs.Ahead.{IsTable}
+use Rattle.ball_model.specs.Checkpoint.{kept_batches}
 use Rattle.replica.specs.Kept.{AreEarly, IsOfName}
 use Rattle.replica.specs.declared.saved.Saved.{Saved}
 use Rattle.replica.specs.Saved.{Fits, IsRebuilt, MayKeep, MayBeKept, order_key}
 use Rattle.replica.specs.Seen.{IsState}
+use Rattle.replica.proofs.AheadLemmas.{batches_in}
 use Rattle.replica.proofs.KeptLemmas.Kept.{three_levels}
 
 -- ---- slots
@@ -79,7 +81,7 @@ gained parts level source b early after e a more lt below none =
 
 -- THE TABLE: a batch behind all that stand is the last of them
 last_of_all : (parts level source : ℕ) (b : BatchValue) (early after : List (List (Option BatchValue))) → IsTable parts early → IsTable parts after → IsMore level source b early after → level < 3 → source < parts → NoneFrom level source early →
-    early_batches after ≡ early_batches early ++ b ∷ []
+    kept_batches after ≡ kept_batches early ++ b ∷ []
 last_of_all parts level source b early after e a more lt below none =
     let stay : (i : ℕ) → i < 3 → i ≢ level → batches_in (get_or after i []) ≡ batches_in (get_or early i []) =
     λ i inside other. ap (λ l. batches_in l) (row_stays parts level source i b early after e a more inside other) in
@@ -102,7 +104,7 @@ rebuilt_state part s v ok fits is early = grind arith
 -- the first k batches stand at their places, before all that follow
 pub record Filled (plan : PlanValue) (p t k : ℕ) (batches : List BatchValue) (early : List (List (Option BatchValue))) : Type 0 where
   pub kept : AreEarly plan p t early
-  pub first : early_batches early ≡ take k batches
+  pub first : kept_batches early ≡ take k batches
   pub before : (i q m : ℕ) → is_some (early_at early i q) ≡ true → k ≤ m → m < length batches → (t + 1 + i) * most_parts + q < get_or (map order_key batches) m 0
 
 -- what stands where nothing stood
@@ -145,7 +147,7 @@ filled_more plan p t k batches b early after ok may lt at batch f table more =
     }
 
 -- all of them
-pub filled_all : (plan : PlanValue) (p t k : ℕ) (batches : List BatchValue) (early : List (List (Option BatchValue))) → length batches ≤ k → Filled plan p t k batches early → early_batches early ≡ batches
+pub filled_all : (plan : PlanValue) (p t k : ℕ) (batches : List BatchValue) (early : List (List (Option BatchValue))) → length batches ≤ k → Filled plan p t k batches early → kept_batches early ≡ batches
 filled_all plan p t k batches early all f = f.first ∙ take_all k batches all
 
 -- a batch among those that are shared

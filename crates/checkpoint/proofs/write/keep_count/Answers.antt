@@ -1,7 +1,6 @@
 use Rattle.std.proofs.Common.{List, length, ap, arith}
 use Rattle.std.proofs.lemmas.Result.{on_ok_weaker, on_err_weaker}
 use Rattle.ball_model.specs.Batches.{BatchValue}
-use Rattle.replica.proofs.SavedLemmas.Rebuilt.{kept_are}
 use Rattle.checkpoint.proofs.SpoolLemmas.{passes_as, stops_as}
 use Rattle.checkpoint.proofs.TextLemmas.{count_is, early_few}
 use Rattle.checkpoint.proofs.write.keep_count.Goals as goal
@@ -10,7 +9,7 @@ pub overflow_cast-count : goal.overflow_cast-count
 overflow_cast-count g c =
     let v = c.args.replica.now in
     let s = c.size_of-size.ensures.state in
-    omega (arith, c.early_count-count.ensures.value, ap (λ (l : List BatchValue). length l) (kept_are v.early), early_few v.part.plan.parts v.early s.early.table, s.part.plan.parts_to)
+    omega (arith, c.early_count-count.ensures.value, early_few v.part.plan.parts v.early s.early.table, s.part.plan.parts_to)
 
 pub returns-clause-done : goal.returns-clause-done
 returns-clause-done g c =

@@ -1,7 +1,6 @@
 use Rattle.std.proofs.Common.{◌≤◌, List, suc, drop, length, ap, arith}
 use Rattle.std.proofs.lemmas.List.{take_all}
 use Rattle.ball_model.specs.Batches.{BatchValue}
-use Rattle.replica.proofs.SavedLemmas.Rebuilt.{kept_are}
 use Rattle.std.specs.List.{flat_map}
 use Rattle.ball_model.specs.Checkpoint.{early_bytes, kept_batches}
 use Rattle.ball_model.proofs.CheckLemmas.{on_err}
@@ -23,7 +22,7 @@ loop-i-preserved g c =
 pub returns-clause-done : goal.returns-clause-done
 returns-clause-done g c =
     let v = c.args.replica.now in
-    let all : length (kept_batches v.early) ≤ c.loop-i.i = omega (arith, c.early_count-i-end.ensures.value, ap (λ (l : List BatchValue). length l) (kept_are v.early)) in
+    let all : length (kept_batches v.early) ≤ c.loop-i.i = omega (arith, c.early_count-i-end.ensures.value) in
     passes_as g.W.Write.contents g.W.CountedWrite.failed_calls g.W.CountedWrite.sure_calls g.W.CountedWrite.room _ _ _ _ _ _ (ap (flat_map early_bytes) (take_all c.loop-i.i (kept_batches v.early) all)) c.loop-i.invariant
 
 pub loop-i-init : goal.loop-i-init

@@ -3,7 +3,6 @@ use Rattle.replica.proofs.Names.{arc_value, length-map, BatchValue, PlanValue, I
 use Rattle.replica.specs.Ahead.{IsTable}
 use Rattle.replica.specs.Saved.{MayKeep}
 use Rattle.replica.proofs.SavedLemmas.Saved.{filled_all, filled_more, filled_none, may_at, shared_at, source_of}
-use Rattle.replica.proofs.SavedLemmas.Rebuilt.{kept_are}
 use Rattle.replica.proofs.rebuild.kept.Goals as goal
 use Rattle.replica.proofs.rebuild.kept.Goals.{After-name-name}
 
@@ -56,6 +55,6 @@ returns c =
     let items = c.args.batches.now in
     let all : length (map arc_value items) ≤ c.loop-batch.batch-index = omega (arith, c.loop-batch-test.false, length-map items (arc_value {X = BatchValue})) in
     record {
-      told = kept_are c.loop-batch.early ∙ filled_all c.args.part.now.plan c.args.part.now.number c.args.superstep c.loop-batch.batch-index (map arc_value items) c.loop-batch.early all c.loop-batch.invariant.filled;
+      told = filled_all c.args.part.now.plan c.args.part.now.number c.args.superstep c.loop-batch.batch-index (map arc_value items) c.loop-batch.early all c.loop-batch.invariant.filled;
       placed = c.loop-batch.invariant.filled.kept;
     }

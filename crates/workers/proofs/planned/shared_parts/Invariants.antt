@@ -5,5 +5,5 @@ use Rattle.workers.proofs.PartsLemmas.{Signing}
 use Rattle.workers.proofs.planned.shared_parts.Given as goal
 
 abbrev pub invariant-loop-part : goal.invariant-loop-part
-invariant-loop-part l = (j : Job) → AreParts (λ part. part) j l.fn.parts.items →
-    Signing (λ part. part) j l.fn.job (into_iter_items l.part-iterator) l.shared.items
+invariant-loop-part l = (j : Job) → AreParts j l.fn.parts.items →
+    Signing j l.fn.job (into_iter_items l.part-iterator) l.shared.items
