@@ -7,9 +7,8 @@ LAUNCHER = os.path.join(os.path.dirname(os.path.abspath(__file__)), "..", "hyper
 
 
 def environment():
-    """The environment, with what the launcher exports where it is not set already. One heap for all threads, and what
-    that keeps, are not in it: the launcher asks for them only where the words name no partitions, and those of bench/
-    do."""
+    """The environment, with what the launcher exports where it is not set already. One heap for all threads is not in it:
+    the launcher asks for that only where the words name no partitions, and those of bench/ do."""
     with open(LAUNCHER, encoding="utf-8") as launcher:
         text = launcher.read()
     values = dict(re.findall(r"^(\w+)=(\S+)$", text, re.MULTILINE))
